@@ -1,0 +1,89 @@
+//! Names of stations.
+
+ghost use Rattle.std.specs.Prelude.{◌≡◌, ◌↔◌, IsSome, IfSome};
+ghost use Rattle.std.specs.List.{list_all};
+ghost use Rattle.std.specs.Char.{is_ascii_alphanumeric};
+ghost use Rattle.lan_base.specs.Name.{IsName, is_name};
+
+use std::fmt;
+use std::marker::Model;
+
+const LONGEST: usize = 16;
+
+/// A station's name: a letter, and then at most 15 letters and digits, all ASCII. Contracts see its
+/// octets.
+#[derive(Clone, Copy, PartialEq, Eq, Hash, PartialOrd, Ord)]
+pub struct Name {
+    octets: [u8; LONGEST],
+    len: u8,
+}
+
+impl Model for Name {
+    ghost use Rattle.std.specs.Prelude.{ℕ, List, take};
+
+    ghost Value = { List ℕ };
+
+    ghost use Rattle.lan_base.specs.Name.{IsPadded};
+    ghost use Rattle.lan_base.specs.NameFields.{fields_of, fields_of-take};
+
+    ghost view = { λ n. take n.len n.octets };
+
+    ghost invariant = { λ n. IsPadded n.octets n.len };
+
+    ghost inverse = { fields_of };
+
+    ghost inverse_ok = { fields_of-take };
+}
+
+impl Name {
+    /// The name that a word spells, if it spells one.
+    pub fn of(word: &[u8]) -> Option<Self>
+        ensures named { IsSome result ↔ IsName word.now }
+        ensures value { IfSome result (λ name. name ≡ word.now) }
+    {
+        if !is_name(word) {
+            return None;
+        }
+        let mut octets = [0; LONGEST];
+        octets[..word.len()].copy_from_slice(word);
+        Some(Name {
+            octets,
+            len: word.len() as u8,
+        })
+    }
+
+    /// The octets of the name, without what it is filled up with.
+    pub fn octets(&self) -> &[u8]
+        ensures value { result.now ≡ self.now }
+        ensures name { IsName self.now }
+    {
+        &self.octets[..self.len as usize]
+    }
+}
+
+impl fmt::Debug for Name {
+    fn fmt<W: fmt::Write>(&self, f: &mut fmt::Formatter<W>) -> fmt::Result {
+        for octet in self.octets() {
+            f.write_char(char::from(*octet))?;
+        }
+        Ok(())
+    }
+}
+
+/// Whether a word is a letter, and then at most 15 letters and digits, all ASCII.
+fn is_name(word: &[u8]) -> bool
+    ensures { result ≡ is_name word.now }
+{
+    match word {
+        [first, others @ ..] => {
+            first.is_ascii_alphabetic() && are_alphanumeric(others) && others.len() < LONGEST
+        }
+        [] => false,
+    }
+}
+
+fn are_alphanumeric(octets: &[u8]) -> bool
+    ensures { result ≡ list_all is_ascii_alphanumeric octets.now }
+{
+    octets.iter().all(|octet| octet.is_ascii_alphanumeric())
+}
