@@ -1,0 +1,14 @@
+pub mod EachOctet
+pub mod Octets
+pub mod Inverses
+pub mod SBox
+pub mod Doubled
+pub mod Words
+pub mod Mixing
+pub mod MixedWords
+pub mod Steps
+pub mod Rounds
+pub mod Schedule
+pub mod KeyBlocks
+pub mod Cipher
+pub mod Vectors

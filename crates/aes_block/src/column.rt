@@ -1,0 +1,79 @@
+//! Columns of the state, and words of the key, as numbers: the octet of row 0 is the highest
+//! (FIPS 197, sections 3.5 and 5.1.3).
+
+ghost use Rattle.std.specs.Prelude.{◌≡◌, ◌+◌, ◌≤◌, drop, length, map, take};
+ghost use Rattle.aes_block.specs.Octet.{sub_octet, times};
+ghost use Rattle.aes_block.specs.State.{mixed_column};
+ghost use Rattle.aes_block.specs.Column.{diagonal, octets_of};
+
+use crate::s_box::{sub_octet, unsub_octet};
+
+/// The four octets from a place on, as a column or a word (3.4 and 3.5).
+pub fn word_at(octets: &[u8], at: usize) -> u32
+    requires { at + 4 ≤ length octets.now }
+    ensures { octets_of result ≡ take 4 (drop at octets.now) }
+{
+    u32::from_be_bytes([octets[at], octets[at + 1], octets[at + 2], octets[at + 3]])
+}
+
+/// Each octet times x, in all four rows at once (4.2.1).
+fn doubled(column: u32) -> u32
+    ensures { octets_of result ≡ map (times 2) (octets_of column) }
+{
+    ((column & 0x7f7f_7f7f) << 1) ^ (((column & 0x8080_8080) >> 7) * 0x1b)
+}
+
+/// The column mixed (5.1.3).
+fn mixed(column: u32) -> u32
+    ensures { octets_of result ≡ mixed_column (octets_of column) }
+{
+    let twice = doubled(column);
+    twice ^ (column ^ twice).rotate_left(8) ^ column.rotate_left(16) ^ column.rotate_left(24)
+}
+
+/// The column that is mixed to this one (5.3.3). The polynomial by which a column is mixed has the
+/// square 4 x ^ 2 + 5 and the fourth power 1, so that the product with the square, mixed, is the inverse.
+pub fn unmixed(column: u32) -> u32
+    ensures { mixed_column (octets_of result) ≡ octets_of column }
+{
+    mixed(column ^ doubled(doubled(column ^ column.rotate_left(16))))
+}
+
+/// The S-box on a diagonal: on row 0 of the first column, on row 1 of the second, and so on.
+pub fn sub_diagonal(a: u32, b: u32, c: u32, d: u32) -> u32
+    ensures { octets_of result ≡ map sub_octet (diagonal a b c d) }
+{
+    let [first, _, _, _] = a.to_be_bytes();
+    let [_, second, _, _] = b.to_be_bytes();
+    let [_, _, third, _] = c.to_be_bytes();
+    let [_, _, _, fourth] = d.to_be_bytes();
+    u32::from_be_bytes([
+        sub_octet(first),
+        sub_octet(second),
+        sub_octet(third),
+        sub_octet(fourth),
+    ])
+}
+
+/// A column after SubBytes, ShiftRows and MixColumns, from the diagonal before.
+pub fn mixed_diagonal(a: u32, b: u32, c: u32, d: u32) -> u32
+    ensures { octets_of result ≡ mixed_column (map sub_octet (diagonal a b c d)) }
+{
+    mixed(sub_diagonal(a, b, c, d))
+}
+
+/// The octets whose S-boxes are a diagonal.
+pub fn unsub_diagonal(a: u32, b: u32, c: u32, d: u32) -> u32
+    ensures { map sub_octet (octets_of result) ≡ diagonal a b c d }
+{
+    let [first, _, _, _] = a.to_be_bytes();
+    let [_, second, _, _] = b.to_be_bytes();
+    let [_, _, third, _] = c.to_be_bytes();
+    let [_, _, _, fourth] = d.to_be_bytes();
+    u32::from_be_bytes([
+        unsub_octet(first),
+        unsub_octet(second),
+        unsub_octet(third),
+        unsub_octet(fourth),
+    ])
+}
