@@ -1,0 +1,4 @@
+pub mod Blocks
+pub mod Pieces
+pub mod Sums
+mod Examples

@@ -1,0 +1,9 @@
+//! Message authentication by CMAC over AES (NIST SP 800-38B).
+#![tactic(auto)]
+
+mod block;
+mod running;
+#[cfg(test)]
+mod tests;
+
+pub use running::{Running, cmac};
