@@ -1,0 +1,11 @@
+//! The wrapping of keys by AES (RFC 3394).
+#![tactic(auto)]
+
+mod laws;
+mod state;
+#[cfg(test)]
+mod tests;
+mod wrapping;
+
+pub use laws::law_one_key_for_one_wrap;
+pub use wrapping::{unwrap, wrap};
