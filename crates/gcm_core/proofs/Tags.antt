@@ -1,0 +1,49 @@
+-- The tag by numbers, and what is sealed and unsealed.
+use Rattle.std.proofs.Common.{◌≡◌, ℕ, ◌^◌, ◌<◌, List, Bool, length, replicate, sym, ap, ◌∙◌}
+use Rattle.std.specs.List.{All}
+use Rattle.std.specs.Int.{w128, from_be_bytes}
+use Rattle.aes_block.specs.Aes.{aes}
+use Rattle.aes_block.specs.Bits.{bits}
+use Rattle.gcm_core.specs.Blocks.{block_bits, block_octets, octets_of}
+use Rattle.gcm_core.specs.Gcm.{gcm, gcm_text, gcm_tag, gctr, increment, first_counter, hashed, hash_key}
+use Rattle.gcm_core.proofs.KeyStream.{gctr-gctr}
+use Rattle.gcm_core.proofs.Octets.{IsOctet, block_octets-read, octets_of-block_bits}
+
+hash_key-is : (key cipher : List ℕ) (h : ℕ) → cipher ≡ aes key (replicate 16 0) → block_octets h ≡ cipher → hash_key key ≡ block_bits h
+unfolding hash_key block_bits
+hash_key-is key cipher h ec eh = ap bits (sym ec ∙ sym eh)
+
+pub gcm_tag-is : (key iv extra text cipher first tag : List ℕ) (h s : ℕ) → cipher ≡ aes key (replicate 16 0) → block_octets h ≡ cipher
+    → block_bits s ≡ hashed (block_bits h) extra text → s < 2 ^ 128 → first ≡ first_counter iv → tag ≡ gctr key first (block_octets s)
+    → tag ≡ gcm_tag key iv extra text
+unfolding gcm_tag
+gcm_tag-is key iv extra text cipher first tag h s ec eh es fits ef et =
+    let hash : octets_of (hashed (hash_key key) extra text) ≡ block_octets s =
+    ap (λ (k : List Bool). octets_of (hashed k extra text)) (hash_key-is key cipher h ec eh) ∙ ap octets_of (sym es) ∙ octets_of-block_bits s fits in
+    rw (hash, ← ef) et
+
+pub gcm_text-is : (key iv text first second result : List ℕ) → first ≡ first_counter iv → second ≡ increment first → result ≡ gctr key second text
+    → result ≡ gcm_text key iv text
+unfolding gcm_text
+gcm_text-is key iv text first second result e e' er = er ∙ ap (λ (c : List ℕ). gctr key c text) (e' ∙ ap increment e)
+
+-- enciphering twice gives the text back
+gcm_text-gcm_text : (key iv text : List ℕ) → gcm_text key iv (gcm_text key iv text) ≡ text
+unfolding gcm_text
+gcm_text-gcm_text key iv text = gctr-gctr key (increment (first_counter iv)) text
+
+-- two blocks of octets that are read as one number are one block
+pub same_from_numbers : (xs ys : List ℕ) → length xs ≡ 16 → length ys ≡ 16 → All IsOctet xs → All IsOctet ys
+    → from_be_bytes w128 xs ≡ from_be_bytes w128 ys → xs ≡ ys
+same_from_numbers xs ys lx ly ax ay e = sym (block_octets-read xs lx ax) ∙ ap block_octets e ∙ block_octets-read ys ly ay
+
+pub unsealed_is : (key iv extra text plain tag : List ℕ) → plain ≡ gcm_text key iv text → tag ≡ gcm_tag key iv extra text
+    → gcm key iv extra plain ≡ (text, tag)
+unsealed_is key iv extra text plain tag ep et =
+    let back : gcm_text key iv plain ≡ text = ap (gcm_text key iv) ep ∙ gcm_text-gcm_text key iv text in
+    rw back (λ i. (text, sym et i))
+
+pub unsealed_only : (key iv extra text plain tag other : List ℕ) → plain ≡ gcm_text key iv text
+    → gcm key iv extra other ≡ (text, tag) → other ≡ plain
+unsealed_only key iv extra text plain tag other ep e =
+    sym (gcm_text-gcm_text key iv other) ∙ ap (gcm_text key iv) (ap (λ (p : List ℕ × List ℕ). p.0) e) ∙ sym ep

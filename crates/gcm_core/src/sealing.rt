@@ -1,0 +1,62 @@
+//! Sealing and unsealing (SP 800-38D, sections 7.1 and 7.2).
+
+ghost use Rattle.std.specs.Prelude.{◌≡◌, ◌≤◌, List, ℕ, length};
+ghost use Rattle.std.specs.Bool.{OnTrue, OnFalse};
+ghost use Rattle.gcm_core.specs.Gcm.{gcm, gcm_tag, gcm_text};
+
+use crate::counter::{encipher, first_counter, increment};
+use crate::hash::hash_of;
+use aes_block::Key;
+
+/// Enciphers `text` in place, and answers the tag of the additional data and of what `text` has
+/// become. `extra` and `text` have at most 65,536 octets each. Under one key each IV is for one call
+/// only: that is the caller's part.
+pub fn seal(key: &Key, iv: [u8; 12], extra: &[u8], text: &mut [u8]) -> [u8; 16]
+    requires extra { length extra.now ≤ 65536 }
+    requires text { length text.old ≤ 65536 }
+    ensures { gcm key.now iv extra.now text.old ≡ (text.new, result) }
+{
+    encipher_text(key, iv, text);
+    tag_of(key, iv, extra, text)
+}
+
+/// Whether some text is sealed to these octets and this tag. If so, that text, the only one, stands
+/// in `text` afterwards; if not, `text` is as it was. `extra` and `text` have at most 65,536 octets
+/// each.
+pub fn unseal(key: &Key, iv: [u8; 12], extra: &[u8], text: &mut [u8], tag: [u8; 16]) -> bool
+    requires extra { length extra.now ≤ 65536 }
+    requires text { length text.old ≤ 65536 }
+    ensures opened { OnTrue result (gcm key.now iv extra.now text.new ≡ (text.old, tag)) }
+    ensures only { OnTrue result ((plain : List ℕ)
+        → gcm key.now iv extra.now plain ≡ (text.old, tag) → plain ≡ text.new) }
+    ensures refused { OnFalse result ((plain : List ℕ)
+        → gcm key.now iv extra.now plain ≡ (text.old, tag) → ⊥) }
+    ensures unchanged { OnFalse result (text.new ≡ text.old) }
+{
+    let found = tag_of(key, iv, extra, text);
+    // As numbers, so that the first octet that differs ends nothing early.
+    if u128::from_be_bytes(found) != u128::from_be_bytes(tag) {
+        return false;
+    }
+    encipher_text(key, iv, text);
+    true
+}
+
+// Enciphers text in place; the same call deciphers it.
+fn encipher_text(key: &Key, iv: [u8; 12], text: &mut [u8])
+    ensures { text.new ≡ gcm_text key.now iv text.old }
+{
+    encipher(key, increment(first_counter(iv)), text);
+}
+
+// The tag of additional data and enciphered text.
+fn tag_of(key: &Key, iv: [u8; 12], extra: &[u8], enciphered: &[u8]) -> [u8; 16]
+    requires extra { length extra.now ≤ 65536 }
+    requires enciphered { length enciphered.now ≤ 65536 }
+    ensures { result ≡ gcm_tag key.now iv extra.now enciphered.now }
+{
+    let hash_key = u128::from_be_bytes(key.encrypt([0; 16]));
+    let mut tag = hash_of(hash_key, extra, enciphered).to_be_bytes();
+    encipher(key, first_counter(iv), &mut tag);
+    tag
+}
