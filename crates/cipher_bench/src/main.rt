@@ -1,0 +1,29 @@
+//! Does a test of the ciphers as many times as it is asked to, and prints the last result in hexadecimal digits, so
+//! that anybody can time it, or count its instructions, beside another implementation.
+#![tactic(auto)]
+
+mod bench;
+mod named;
+
+use anyhow::{Context, bail};
+use named::Test;
+use std::env;
+
+const USAGE: &str =
+    "usage: cipher_bench TEST COUNT, where TEST is aes128_block, cmac_150, gcm_64, gcm_512 or gcm_1500";
+
+fn main(rt: HostRuntime) -> anyhow::Result<()> {
+    let mut words = env::args(&rt)?.skip(1);
+    let (Some(test), Some(count), None) = (words.next(), words.next(), words.next()) else {
+        bail!("{USAGE}");
+    };
+    let test: Test = test.parse().context(USAGE)?;
+    let count: u32 = count
+        .parse()
+        .context("COUNT is a number from 0 to 4294967295")?;
+    println!(rt;
+        "{}",
+        hex::encode(rt.alloc(), bench::last_result(test, count))?
+    )?;
+    Ok(())
+}

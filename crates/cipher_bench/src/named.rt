@@ -1,0 +1,38 @@
+//! The tests and their names.
+
+use anyhow::bail;
+use std::str::FromStr;
+
+/// What is done again and again.
+#[derive(Clone, Copy, Debug, PartialEq, Eq)]
+pub enum Test {
+    /// A block becomes its cipher.
+    Block,
+    /// The CMAC of a message, whose first octet the last value changes.
+    Cmac,
+    /// The tag of a text that is sealed under the next IV.
+    Gcm(Frame),
+}
+
+/// A frame whose text, all but its two addresses, is sealed. It is named for its octets.
+#[derive(Clone, Copy, Debug, PartialEq, Eq)]
+pub enum Frame {
+    Octets64,
+    Octets512,
+    Octets1500,
+}
+
+impl FromStr for Test {
+    type Err = anyhow::Error;
+
+    fn from_str(word: &str) -> anyhow::Result<Test> {
+        Ok(match word {
+            "aes128_block" => Test::Block,
+            "cmac_150" => Test::Cmac,
+            "gcm_64" => Test::Gcm(Frame::Octets64),
+            "gcm_512" => Test::Gcm(Frame::Octets512),
+            "gcm_1500" => Test::Gcm(Frame::Octets1500),
+            _ => bail!("there is no test {word:?}"),
+        })
+    }
+}
