@@ -1,0 +1,244 @@
+-- What the fields spell is read again.
+use Rattle.std.specs.List.{AllByRecursion}
+use Rattle.std.proofs.Common.{◌≡◌, ℕ, zero, suc, ◌+◌, ◌*◌, ◌/◌, ◌%◌, ◌^◌, ◌<◌, ◌≤◌, Bool, true, false, cond, leb, eqb, List, [], ◌∷◌, ◌++◌, length, Option, Some, None, refl, sym, ap, subst, ◌∙◌, arith, lit<, length-append, append_assoc, eq-eqb}
+use Rattle.std.proofs.lemmas.Bool.{le-leb, eqb-true}
+use Rattle.std.proofs.lemmas.List.{append-nil}
+use Rattle.std.proofs.lemmas.List.Elements.{recursion_from_All}
+use Rattle.byteorder.specs.Endian.{big_bytes}
+use Rattle.byteorder.specs.Numbers.{big_number-reads_back}
+use Rattle.lan_base.specs.declared.address.Mi.{Mi}
+use Rattle.lan_base.specs.declared.address.Sci.{Sci}
+use Rattle.mkpdu_codec.specs.declared.announcement.Announcement.{Announcement}
+use Rattle.mkpdu_codec.specs.declared.given.Given.{Given}
+use Rattle.mkpdu_codec.specs.declared.given.Given.TheVariants.{Aes128, Other}
+use Rattle.mkpdu_codec.specs.declared.key_use.KeyUse.{KeyUse}
+use Rattle.mkpdu_codec.specs.declared.key_use.Uses.{Uses}
+use Rattle.mkpdu_codec.specs.declared.peer.Peer.{Peer}
+use Rattle.mkpdu_codec.specs.Sets.{bit, agility, peer, peers_body, use_body, use_flags}
+use Rattle.mkpdu_codec.specs.Frames.{Set, the, IsPeer, IsKeyUse, SpellsPeers, SpellsUses, SpellsGiven, SpellsBasic}
+use Rattle.mkpdu_codec.specs.Fields.{number_at, mi_at, sci_at, entry_at, entries_at, peers_in, key_at, uses_in, given_in, Basics, basic_in}
+use Rattle.mkpdu_codec.proofs.Lengths.{length-basic_body}
+use Rattle.mkpdu_codec.proofs.Taking.{octets_at-append, octets_at-short}
+
+pub number_again : (n : ℕ) (rest : List ℕ) → n < 2 ^ 32 → number_at (big_bytes 4 n ++ rest) ≡ Some (n, rest)
+unfolding number_at
+number_again n rest lt = rw (octets_at-append 4 (big_bytes 4 n) rest refl, big_number-reads_back 4 n [] lt) refl
+
+pub mi_again : (mi : Mi) (rest : List ℕ) → length mi.0 ≡ 12 → mi_at (mi.0 ++ rest) ≡ Some (mi, rest)
+unfolding mi_at
+mi_again mi rest len = rw (octets_at-append 12 mi.0 rest len) refl
+
+pub sci_again : (sci : Sci) (rest : List ℕ) → length sci.0 ≡ 8 → sci_at (sci.0 ++ rest) ≡ Some (sci, rest)
+unfolding sci_at
+sci_again sci rest len = rw (octets_at-append 8 sci.0 rest len) refl
+
+-- ---- peers
+
+pub entry_again : (p : Peer) (rest : List ℕ) → IsPeer p → entry_at (peer p ++ rest) ≡ Some (p, rest)
+unfolding entry_at
+entry_again p rest is =
+    rw (append_assoc p.mi.0 (big_bytes 4 p.mn) rest, mi_again p.mi (big_bytes 4 p.mn ++ rest) is.mi, number_again p.mn rest is.mn) refl
+
+length-peer : (p : Peer) → IsPeer p → length (peer p) ≡ 16
+length-peer p is = length-append p.mi.0 (big_bytes 4 p.mn) ∙ rw is.mi refl
+
+pub entries_again : (n : ℕ) (ps : List Peer) → AllByRecursion IsPeer ps → length (peers_body ps) ≤ n → entries_at n (peers_body ps) ≡ ps
+unfolding entries_at entry_at mi_at
+entries_again zero [] are le = refl
+entries_again zero (p ∷ ps) are le = absurd (let len = length-peer p are.0 in omega (arith, len, le, length-append (peer p) (peers_body ps)))
+entries_again (suc n) [] are le = refl
+entries_again (suc n) (p ∷ ps) are le =
+    let len = length-peer p are.0 in
+    rw (entry_again p (peers_body ps) are.0) (ap (λ (xs : List Peer). p ∷ xs) (entries_again n ps are.1 (omega (arith, len, le, length-append (peer p) (peers_body ps)))))
+
+pub length-peers_body : (ps : List Peer) → AllByRecursion IsPeer ps → length (peers_body ps) ≡ 16 * length ps
+length-peers_body [] are = refl
+length-peers_body (p ∷ ps) are =
+    let len = length-peer p are.0 in
+    let others = length-peers_body ps are.1 in
+    omega (arith, len, others, length-append (peer p) (peers_body ps))
+
+-- the first set of a type
+abbrev pub first : ℕ → List Set → Option Set
+first k [] = None
+first k (s ∷ ss) = cond (eqb s.kind k) (Some s) (first k ss)
+
+abbrev pub or_empty : ℕ → Option Set → Set
+or_empty k None = record { kind = k; second = 0; flags = 0; body = [] }
+or_empty k (Some s) = s
+
+pub the-first : (k : ℕ) (ss : List Set) → the k ss ≡ or_empty k (first k ss)
+the-first k [] = refl
+the-first k (s ∷ ss) =
+    elim (eqb s.kind k) as (λ t. cond t s (the k ss) ≡ or_empty k (cond t (Some s) (first k ss))) [
+      | true ↦ refl
+      | false ↦ the-first k ss
+    ]
+
+pub peers_in-or_empty : (k : ℕ) (o : Option Set) → peers_in o ≡ entries_at (length (or_empty k o).body) (or_empty k o).body
+unfolding peers_in entries_at
+peers_in-or_empty k None = refl
+peers_in-or_empty k (Some s) = refl
+
+pub peers_again : (k : ℕ) (ss : List Set) (ps : List Peer) → SpellsPeers (the k ss) ps → peers_in (first k ss) ≡ ps
+peers_again k ss ps spells =
+    let body : (or_empty k (first k ss)).body ≡ peers_body ps = ap (λ (s : Set). s.body) (sym (the-first k ss)) ∙ spells.body in
+    peers_in-or_empty k (first k ss) ∙ ap (λ (b : List ℕ). entries_at (length b) b) body ∙ entries_again (length (peers_body ps)) ps (recursion_from_All IsPeer ps spells.are_peers) (omega arith)
+
+-- ---- SAK Use
+
+bit_small : (b : Bool) → bit b < 2
+bit_small true = lit< tt
+bit_small false = lit< tt
+
+bit_again : (b : Bool) → eqb (bit b) 1 ≡ b
+bit_again true = refl
+bit_again false = refl
+
+flags_small : (an tx rx : ℕ) → an < 4 → tx < 2 → rx < 2 → an * 4 + tx * 2 + rx < 16
+flags_small an tx rx a t r = omega arith
+
+an_again : (an tx rx : ℕ) → an < 4 → tx < 2 → rx < 2 → (an * 4 + tx * 2 + rx) / 4 ≡ an
+an_again an tx rx a t r = omega arith
+
+tx_again : (an tx rx : ℕ) → an < 4 → tx < 2 → rx < 2 → (an * 4 + tx * 2 + rx) / 2 % 2 ≡ tx
+tx_again an tx rx a t r = omega arith
+
+rx_again : (an tx rx : ℕ) → an < 4 → tx < 2 → rx < 2 → (an * 4 + tx * 2 + rx) % 2 ≡ rx
+rx_again an tx rx a t r = omega arith
+
+key_again : (u : KeyUse) (rest : List ℕ) → IsKeyUse u → key_at (use_flags u) (use_body u ++ rest) ≡ Some (u, rest)
+unfolding key_at
+key_again u rest is =
+    let regrouped : use_body u ++ rest ≡ u.server.0 ++ (big_bytes 4 u.number ++ (big_bytes 4 u.lowest ++ rest)) =
+    append_assoc u.server.0 (big_bytes 4 u.number ++ big_bytes 4 u.lowest) rest ∙ ap (λ (x : List ℕ). u.server.0 ++ x) (append_assoc (big_bytes 4 u.number) (big_bytes 4 u.lowest) rest) in
+    let t = bit_small u.tx in
+    let r = bit_small u.rx in
+    ap (key_at (use_flags u)) regrouped
+    ∙ rw (
+      mi_again u.server (big_bytes 4 u.number ++ (big_bytes 4 u.lowest ++ rest)) is.server,
+      number_again u.number (big_bytes 4 u.lowest ++ rest) is.number,
+      number_again u.lowest rest is.lowest,
+      an_again u.an (bit u.tx) (bit u.rx) is.an t r,
+      tx_again u.an (bit u.tx) (bit u.rx) is.an t r,
+      rx_again u.an (bit u.tx) (bit u.rx) is.an t r,
+      bit_again u.tx,
+      bit_again u.rx,
+    ) refl
+
+high_half : (a b : ℕ) → b < 16 → (a * 16 + b) / 16 ≡ a
+high_half a b lt = omega arith
+
+low_half : (a b : ℕ) → b < 16 → (a * 16 + b) % 16 ≡ b
+low_half a b lt = omega arith
+
+pub uses_in-or_empty : (k : ℕ) (o : Option Set) → uses_in o ≡ uses_in (Some (or_empty k o))
+unfolding uses_in key_at mi_at
+uses_in-or_empty k None = refl
+uses_in-or_empty k (Some s) = refl
+
+uses_of_set : (s : Set) (u : Option Uses) → SpellsUses s u → uses_in (Some s) ≡ u
+unfolding uses_in key_at mi_at
+uses_of_set s None spells = rw spells refl
+uses_of_set s (Some u) spells = go where
+  t : bit u.old.tx < 2
+  t = bit_small u.old.tx
+
+  r : bit u.old.rx < 2
+  r = bit_small u.old.rx
+
+  small : use_flags u.old < 16
+  small = flags_small u.old.an (bit u.old.tx) (bit u.old.rx) spells.3.an t r
+
+  latest : s.second / 16 ≡ use_flags u.latest
+  latest = ap (λ (n : ℕ). n / 16) spells.0 ∙ high_half (use_flags u.latest) (use_flags u.old) small
+
+  old : s.second % 16 ≡ use_flags u.old
+  old = ap (λ (n : ℕ). n % 16) spells.0 ∙ low_half (use_flags u.latest) (use_flags u.old) small
+
+  whole : use_body u.old ≡ use_body u.old ++ []
+  whole = sym (append-nil (use_body u.old))
+
+  first_key : key_at (s.second / 16) s.body ≡ Some (u.latest, use_body u.old)
+  first_key = rw (latest, spells.1) (key_again u.latest (use_body u.old) spells.2)
+
+  second_key : key_at (s.second % 16) (use_body u.old) ≡ Some (u.old, [])
+  second_key = ap (λ (b : List ℕ). key_at (s.second % 16) b) whole ∙ ap (λ (n : ℕ). key_at n (use_body u.old ++ [])) old ∙ key_again u.old [] spells.3
+
+  go : uses_in (Some s) ≡ Some u
+  go = uses_by s first_key second_key where
+    uses_by : (s : Set) → key_at (s.second / 16) s.body ≡ Some (u.latest, use_body u.old) → key_at (s.second % 16) (use_body u.old) ≡ Some (u.old, []) → uses_in (Some s) ≡ Some u
+    uses_by s a b = rw (a, b) refl
+
+pub uses_again : (k : ℕ) (ss : List Set) (u : Option Uses) → SpellsUses (the k ss) u → uses_in (first k ss) ≡ u
+uses_again k ss u spells = uses_in-or_empty k (first k ss) ∙ uses_of_set (or_empty k (first k ss)) u (subst (λ (s : Set). SpellsUses s u) (the-first k ss) spells)
+
+-- ---- Distributed SAK
+
+pub short_number : (octets : List ℕ) → length octets < 4 → number_at octets ≡ None
+unfolding number_at
+short_number octets lt = rw (octets_at-short 4 octets lt) refl
+
+an_of_given : (second an offset : ℕ) → second / 16 ≡ an * 4 + offset → an < 4 → offset < 4 → second / 64 ≡ an
+an_of_given second an offset e a o = omega arith
+
+offset_of_given : (second an offset : ℕ) → second / 16 ≡ an * 4 + offset → an < 4 → offset < 4 → second / 16 % 4 ≡ offset
+offset_of_given second an offset e a o = omega arith
+
+pub given_in-or_empty : (k : ℕ) (o : Option Set) → given_in o ≡ given_in (Some (or_empty k o))
+unfolding given_in
+given_in-or_empty k None = sym (rw (short_number [] (omega arith)) refl)
+given_in-or_empty k (Some s) = refl
+
+ne-eqb : (a b : ℕ) → (a ≡ b → ⊥) → eqb a b ≡ false
+ne-eqb a b ne =
+    elim (eqb a b) as (λ t. eqb a b ≡ t → eqb a b ≡ false) [
+      | true ↦ λ e. absurd (ne (eqb-true a b e))
+      | false ↦ λ e. e
+    ] refl
+
+given_of_set : (s : Set) (g : Option Given) → SpellsGiven s g → given_in (Some s) ≡ g
+unfolding given_in
+given_of_set s None spells = rw (spells, short_number [] (omega arith)) refl
+given_of_set s (Some (Aes128 an offset number wrapped)) spells =
+    let a = an_of_given s.second an offset spells.0 spells.1 spells.2 in
+    let o = offset_of_given s.second an offset spells.0 spells.1 spells.2 in
+    let whole : eqb (length wrapped) 24 ≡ true = eq-eqb (length wrapped) 24 spells.4 in
+    rw (spells.5, number_again number wrapped spells.3, whole, a, o) refl
+given_of_set s (Some (Other an offset number)) spells =
+    let a = an_of_given s.second an offset spells.0 spells.1 spells.2 in
+    let o = offset_of_given s.second an offset spells.0 spells.1 spells.2 in
+    let body = spells.5.1 in
+    let len : length s.body ≡ 4 + length spells.5.0 = omega (arith, ap length body) in
+    let other : eqb (length spells.5.0) 24 ≡ false = ne-eqb (length spells.5.0) 24 (λ e. spells.4 (omega (arith, len, e))) in
+    rw (body, number_again number spells.5.0 spells.3, other, a, o) refl
+
+pub given_again : (k : ℕ) (ss : List Set) (g : Option Given) → SpellsGiven (the k ss) g → given_in (first k ss) ≡ g
+given_again k ss g spells = given_in-or_empty k (first k ss) ∙ given_of_set (or_empty k (first k ss)) g (subst (λ (s : Set). SpellsGiven s g) (the-first k ss) spells)
+
+-- ---- the Basic Parameter Set
+
+abbrev pub basics_of_announcement : Announcement → Basics
+basics_of_announcement a = record { priority = a.priority; server = a.server; sci = a.sci; mi = a.mi; mn = a.mn; agility = agility; ckn = a.ckn }
+
+pub length-basic : (s : Set) (a : Announcement) → SpellsBasic s a → length s.body ≡ 28 + length a.ckn
+length-basic s a spells = ap length spells.body ∙ length-basic_body a.sci.0 a.mi.0 a.mn a.ckn spells.sci spells.mi
+
+pub basic_again : (s : Set) (a : Announcement) → SpellsBasic s a → basic_in s ≡ Some (basics_of_announcement a)
+unfolding basic_in
+basic_again s a spells =
+    let len = length-basic s a spells in
+    let low : leb 29 (length s.body) ≡ true = le-leb 29 (length s.body) (omega (arith, len, spells.named)) in
+    let high : leb (length s.body) 60 ≡ true = le-leb (length s.body) 60 (omega (arith, len, spells.short_name)) in
+    let server : eqb (s.flags / 8) 1 ≡ a.server = ap (λ (n : ℕ). eqb n 1) spells.server ∙ bit_again a.server in
+    rw (
+      low,
+      high,
+      spells.body,
+      sci_again a.sci (a.mi.0 ++ (big_bytes 4 a.mn ++ (agility ++ a.ckn))) spells.sci,
+      mi_again a.mi (big_bytes 4 a.mn ++ (agility ++ a.ckn)) spells.mi,
+      number_again a.mn (agility ++ a.ckn) spells.mn,
+      octets_at-append 4 agility a.ckn refl,
+      spells.priority,
+      server,
+    ) refl

@@ -1,0 +1,17 @@
+pub mod Lengths
+pub mod Rooms
+pub mod Taking
+pub mod Loops
+pub mod Header
+pub mod SetOctets
+pub mod Places
+pub mod Order
+pub mod Again
+pub mod Walking
+pub mod FrameAgain
+pub mod Unique
+pub mod Gathering
+pub mod Sound
+pub mod WhatIsRead
+pub mod Answer
+pub mod WrittenSpelled

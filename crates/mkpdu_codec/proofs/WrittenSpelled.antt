@@ -1,0 +1,285 @@
+-- What is written, followed by a check value, spells what was written.
+use Rattle.std.specs.Prelude.{All, IfSome, replicate}
+use Rattle.std.specs.List.{AllByRecursion}
+use Rattle.std.proofs.Common.{◌≡◌, ◌≢◌, ℕ, zero, suc, ◌+◌, ◌*◌, ◌/◌, ◌^◌, ◌<◌, ◌≤◌, inl, Bool, true, false, cond, eqb, List, [], ◌∷◌, ◌++◌, length, Option, Some, None, refl, sym, ap, subst, ◌∙◌, arith, lit<, lit≤, length-append, length-take, append_assoc}
+use Rattle.std.proofs.lemmas.List.{append-nil, length-replicate}
+use Rattle.std.proofs.lemmas.List.Elements.{All-from_recursion, recursion_from_All}
+use Rattle.byteorder.specs.Endian.{big_bytes}
+use Rattle.mkpdu_codec.specs.declared.announcement.Announcement.{Announcement}
+use Rattle.mkpdu_codec.specs.declared.given.Given.{Given}
+use Rattle.mkpdu_codec.specs.declared.given.Given.TheVariants.{Aes128, Other}
+use Rattle.mkpdu_codec.specs.declared.key_use.Uses.{Uses}
+use Rattle.mkpdu_codec.specs.declared.peer.Peer.{Peer}
+use Rattle.mkpdu_codec.specs.Sets.{bit, missing, set, basic_body, peers_body, uses_body, uses_flags, given_body, given_flags}
+use Rattle.mkpdu_codec.specs.Written.{group_address, frame_header, basic_set, peers_set, uses_set, given_set, sets, written, IsWritable, IsWritableGiven}
+use Rattle.mkpdu_codec.specs.Frames.{Set, IsSet, AreSets, the, IsPeer, IsKeyUse, SpellsPeers, SpellsUses, SpellsGiven, Spells, IsGiven, IsOfItsTypes}
+use Rattle.mkpdu_codec.proofs.Lengths.{length-set, length-basic_body}
+use Rattle.mkpdu_codec.proofs.Again.{length-peers_body}
+use Rattle.mkpdu_codec.proofs.FrameAgain.{length-uses_body, eqb-off}
+use Rattle.mkpdu_codec.proofs.Walking.{count, count-cons}
+
+-- ---- the sets that are written
+
+is_set : (kind second flags : ℕ) (body : List ℕ) → flags < 16 → length body < 4096 → IsSet (set kind second flags body) (record { kind = kind; second = second; flags = flags; body = body })
+is_set kind second flags body f l = record { padding = replicate (missing (length body)) 0; whole = refl; flags = f; short = l; padded = length-replicate (missing (length body)) 0 }
+
+abbrev peers_written : ℕ → List Peer → List Set
+peers_written kind [] = []
+peers_written kind (p ∷ ps) = record { kind = kind; second = 0; flags = 0; body = peers_body (p ∷ ps) } ∷ []
+
+abbrev uses_written : Option Uses → List Set
+uses_written None = []
+uses_written (Some u) = record { kind = 3; second = uses_flags u; flags = 0; body = uses_body u } ∷ []
+
+abbrev given_written : Option Given → List Set
+given_written None = []
+given_written (Some (Aes128 an offset number wrapped)) = record { kind = 4; second = given_flags an offset * 16; flags = 0; body = given_body number wrapped } ∷ []
+given_written (Some (Other an offset number)) = []
+
+abbrev all_written : List Peer → List Peer → Option Uses → Option Given → List Set
+all_written live potential uses given = peers_written 1 live ++ (peers_written 2 potential ++ (uses_written uses ++ given_written given))
+
+one_set : (front : List ℕ) (s : Set) → IsSet front s → AreSets front (s ∷ [])
+one_set front s is = (front, ([], (sym (append-nil front), is, refl)))
+
+are_both : (ss ts : List Set) (a b : List ℕ) → AreSets a ss → AreSets b ts → AreSets (a ++ b) (ss ++ ts)
+are_both [] ts a b x y = subst (λ (z : List ℕ). AreSets (z ++ b) ts) (sym x) y
+are_both (s ∷ ss) ts a b x y =
+    (x.0, (x.1.0 ++ b, (ap (λ (z : List ℕ). z ++ b) x.1.1.0 ∙ append_assoc x.0 x.1.0 b, x.1.1.1, are_both ss ts x.1.0 b x.1.1.2 y)))
+
+are_peers : (kind : ℕ) (ps : List Peer) → AllByRecursion IsPeer ps → length ps ≤ 80 → AreSets (peers_set kind ps) (peers_written kind ps)
+are_peers kind [] are few = refl
+are_peers kind (p ∷ ps) are few =
+    let len = length-peers_body (p ∷ ps) are in
+    one_set (peers_set kind (p ∷ ps)) (record { kind = kind; second = 0; flags = 0; body = peers_body (p ∷ ps) }) (is_set kind 0 0 (peers_body (p ∷ ps)) (omega arith) (omega (arith, len, few)))
+
+are_uses : (u : Option Uses) → IfSome u (λ v. IsKeyUse v.latest × IsKeyUse v.old) → AreSets (uses_set u) (uses_written u)
+are_uses None is = refl
+are_uses (Some u) is =
+    let len = length-uses_body u is.0 is.1 in
+    one_set (uses_set (Some u)) (record { kind = 3; second = uses_flags u; flags = 0; body = uses_body u }) (is_set 3 (uses_flags u) 0 (uses_body u) (omega arith) (omega (arith, len)))
+
+are_given : (g : Option Given) → IfSome g IsGiven → IfSome g IsWritableGiven → AreSets (given_set g) (given_written g)
+are_given None is may = refl
+are_given (Some (Aes128 an offset number wrapped)) is may =
+    let len : length (given_body number wrapped) ≡ 28 = rw is.1 refl in
+    one_set (given_set (Some (Aes128 an offset number wrapped))) (record { kind = 4; second = given_flags an offset * 16; flags = 0; body = given_body number wrapped }) (is_set 4 (given_flags an offset * 16) 0 (given_body number wrapped) (omega arith) (omega (arith, len)))
+are_given (Some (Other an offset number)) is may = absurd may
+
+-- ---- what they say
+
+spells_live : (live potential : List Peer) (u : Option Uses) (g : Option Given) → All IsPeer live → SpellsPeers (the 1 (all_written live potential u g)) live
+spells_live [] [] None None are = record { body = refl; are_peers = are }
+spells_live [] [] None (Some (Aes128 an offset number wrapped)) are = record { body = refl; are_peers = are }
+spells_live [] [] None (Some (Other an offset number)) are = record { body = refl; are_peers = are }
+spells_live [] [] (Some u) None are = record { body = refl; are_peers = are }
+spells_live [] [] (Some u) (Some (Aes128 an offset number wrapped)) are = record { body = refl; are_peers = are }
+spells_live [] [] (Some u) (Some (Other an offset number)) are = record { body = refl; are_peers = are }
+spells_live [] (q ∷ qs) None None are = record { body = refl; are_peers = are }
+spells_live [] (q ∷ qs) None (Some (Aes128 an offset number wrapped)) are = record { body = refl; are_peers = are }
+spells_live [] (q ∷ qs) None (Some (Other an offset number)) are = record { body = refl; are_peers = are }
+spells_live [] (q ∷ qs) (Some u) None are = record { body = refl; are_peers = are }
+spells_live [] (q ∷ qs) (Some u) (Some (Aes128 an offset number wrapped)) are = record { body = refl; are_peers = are }
+spells_live [] (q ∷ qs) (Some u) (Some (Other an offset number)) are = record { body = refl; are_peers = are }
+spells_live (p ∷ ps) potential u g are = record { body = refl; are_peers = are }
+
+-- no list of live peers stands before these
+skips_live : (k : ℕ) (live : List Peer) (rest : List Set) → eqb 1 k ≡ false → the k (peers_written 1 live ++ rest) ≡ the k rest
+skips_live k [] rest e = refl
+skips_live k (p ∷ ps) rest e = rw e refl
+
+skips_potential : (k : ℕ) (potential : List Peer) (rest : List Set) → eqb 2 k ≡ false → the k (peers_written 2 potential ++ rest) ≡ the k rest
+skips_potential k [] rest e = refl
+skips_potential k (p ∷ ps) rest e = rw e refl
+
+spells_potential : (live potential : List Peer) (u : Option Uses) (g : Option Given) → All IsPeer potential → SpellsPeers (the 2 (all_written live potential u g)) potential
+spells_potential live potential u g are = subst (λ (s : Set). SpellsPeers s potential) (sym (skips_live 2 live (peers_written 2 potential ++ (uses_written u ++ given_written g)) refl)) (go potential u g are) where
+  go : (potential : List Peer) (u : Option Uses) (g : Option Given) → All IsPeer potential → SpellsPeers (the 2 (peers_written 2 potential ++ (uses_written u ++ given_written g))) potential
+  go (p ∷ ps) u g are = record { body = refl; are_peers = are }
+  go [] None None are = record { body = refl; are_peers = are }
+  go [] None (Some (Aes128 an offset number wrapped)) are = record { body = refl; are_peers = are }
+  go [] None (Some (Other an offset number)) are = record { body = refl; are_peers = are }
+  go [] (Some u) None are = record { body = refl; are_peers = are }
+  go [] (Some u) (Some (Aes128 an offset number wrapped)) are = record { body = refl; are_peers = are }
+  go [] (Some u) (Some (Other an offset number)) are = record { body = refl; are_peers = are }
+
+spells_uses : (live potential : List Peer) (u : Option Uses) (g : Option Given) → IfSome u (λ v. IsKeyUse v.latest × IsKeyUse v.old) → SpellsUses (the 3 (all_written live potential u g)) u
+spells_uses live potential u g is =
+    subst (λ (s : Set). SpellsUses s u) (sym (skips_live 3 live (peers_written 2 potential ++ (uses_written u ++ given_written g)) refl ∙ skips_potential 3 potential (uses_written u ++ given_written g) refl)) (go u g is) where
+      go : (u : Option Uses) (g : Option Given) → IfSome u (λ v. IsKeyUse v.latest × IsKeyUse v.old) → SpellsUses (the 3 (uses_written u ++ given_written g)) u
+      go (Some u) g is = (refl, refl, is.0, is.1)
+      go None None is = refl
+      go None (Some (Aes128 an offset number wrapped)) is = refl
+      go None (Some (Other an offset number)) is = refl
+
+sixteenth : (n : ℕ) → n * 16 / 16 ≡ n
+sixteenth n = omega arith
+
+spells_given : (live potential : List Peer) (u : Option Uses) (g : Option Given) → IfSome g IsGiven → IfSome g IsWritableGiven → SpellsGiven (the 4 (all_written live potential u g)) g
+spells_given live potential u g is may =
+    subst (λ (s : Set). SpellsGiven s g) (sym (skips_live 4 live (peers_written 2 potential ++ (uses_written u ++ given_written g)) refl ∙ skips_potential 4 potential (uses_written u ++ given_written g) refl)) (go u g is may) where
+      one : (g : Option Given) → IfSome g IsGiven → IfSome g IsWritableGiven → SpellsGiven (the 4 (given_written g)) g
+      one None is may = refl
+      one (Some (Aes128 an offset number wrapped)) is may = (sixteenth (given_flags an offset), may.0, may.1, is.0, is.1, refl)
+      one (Some (Other an offset number)) is may = absurd may
+
+      go : (u : Option Uses) (g : Option Given) → IfSome g IsGiven → IfSome g IsWritableGiven → SpellsGiven (the 4 (uses_written u ++ given_written g)) g
+      go None g is may = one g is may
+      go (Some u) g is may = one g is may
+
+-- ---- none of them comes twice
+
+count-most : (k kind : ℕ) (s : Set) → s.kind ≡ kind → count k (s ∷ []) ≤ cond (eqb kind k) 1 0
+count-most k kind s e = rw (count-cons k s [], e) (omega arith)
+
+count-peers : (k kind : ℕ) (ps : List Peer) → count k (peers_written kind ps) ≤ cond (eqb kind k) 1 0
+count-peers k kind [] = omega arith
+count-peers k kind (p ∷ ps) = count-most k kind (record { kind = kind; second = 0; flags = 0; body = peers_body (p ∷ ps) }) refl
+
+count-uses : (k : ℕ) (u : Option Uses) → count k (uses_written u) ≤ cond (eqb 3 k) 1 0
+count-uses k None = omega arith
+count-uses k (Some u) = count-most k 3 (record { kind = 3; second = uses_flags u; flags = 0; body = uses_body u }) refl
+
+count-given : (k : ℕ) (g : Option Given) → count k (given_written g) ≤ cond (eqb 4 k) 1 0
+count-given k None = omega arith
+count-given k (Some (Aes128 an offset number wrapped)) = count-most k 4 (record { kind = 4; second = given_flags an offset * 16; flags = 0; body = given_body number wrapped }) refl
+count-given k (Some (Other an offset number)) = omega arith
+
+count-append : (k : ℕ) (ss ts : List Set) → count k (ss ++ ts) ≡ count k ss + count k ts
+count-append k [] ts = omega arith
+count-append k (s ∷ ss) ts = let a = count-cons k s (ss ++ ts) in let b = count-cons k s ss in let c = count-append k ss ts in omega (arith, a, b, c)
+
+one_each : (k : ℕ) → cond (eqb 1 k) 1 0 + (cond (eqb 2 k) 1 0 + (cond (eqb 3 k) 1 0 + cond (eqb 4 k) 1 0)) ≤ 1
+one_each zero = lit≤ tt
+one_each (suc zero) = lit≤ tt
+one_each (suc (suc zero)) = lit≤ tt
+one_each (suc (suc (suc zero))) = lit≤ tt
+one_each (suc (suc (suc (suc zero)))) = lit≤ tt
+one_each (suc (suc (suc (suc (suc k))))) =
+    let a = eqb-off 1 (suc (suc (suc (suc (suc k))))) (λ e. omega (arith, e)) in
+    let b = eqb-off 2 (suc (suc (suc (suc (suc k))))) (λ e. omega (arith, e)) in
+    let c = eqb-off 3 (suc (suc (suc (suc (suc k))))) (λ e. omega (arith, e)) in
+    let d = eqb-off 4 (suc (suc (suc (suc (suc k))))) (λ e. omega (arith, e)) in
+    rw (a, b, c, d) (lit≤ tt)
+
+written_once : (live potential : List Peer) (u : Option Uses) (g : Option Given) (k : ℕ) → count k (all_written live potential u g) ≤ 1
+written_once live potential u g k =
+    omega (arith, one_each k, count-peers k 1 live, count-peers k 2 potential, count-uses k u, count-given k g, count-append k (peers_written 1 live) (peers_written 2 potential ++ (uses_written u ++ given_written g)), count-append k (peers_written 2 potential) (uses_written u ++ given_written g), count-append k (uses_written u) (given_written g))
+
+-- ---- none of them is an ICV Indicator
+
+abbrev NoIndicator : List Set → Type 0
+NoIndicator ss = AllByRecursion (λ s. s.kind ≢ 255) ss
+
+none_in_both : (ss ts : List Set) → NoIndicator ss → NoIndicator ts → NoIndicator (ss ++ ts)
+none_in_both [] ts x y = y
+none_in_both (s ∷ ss) ts x y = (x.0, none_in_both ss ts x.1 y)
+
+none_in_peers : (kind : ℕ) (ps : List Peer) → kind ≢ 255 → NoIndicator (peers_written kind ps)
+none_in_peers kind [] other = tt
+none_in_peers kind (p ∷ ps) other = (other, tt)
+
+none_in_uses : (u : Option Uses) → NoIndicator (uses_written u)
+none_in_uses None = tt
+none_in_uses (Some u) = ((λ e. omega (arith, e)), tt)
+
+none_in_given : (g : Option Given) → NoIndicator (given_written g)
+none_in_given None = tt
+none_in_given (Some (Aes128 an offset number wrapped)) = ((λ e. omega (arith, e)), tt)
+none_in_given (Some (Other an offset number)) = tt
+
+none_written : (live potential : List Peer) (u : Option Uses) (g : Option Given) → NoIndicator (all_written live potential u g)
+none_written live potential u g =
+    none_in_both (peers_written 1 live) (peers_written 2 potential ++ (uses_written u ++ given_written g)) (none_in_peers 1 live (λ e. omega (arith, e)))
+    (none_in_both (peers_written 2 potential) (uses_written u ++ given_written g) (none_in_peers 2 potential (λ e. omega (arith, e)))
+    (none_in_both (uses_written u) (given_written g) (none_in_uses u) (none_in_given g)))
+
+-- ---- how long they are
+
+missing_few : (n : ℕ) → missing n < 4
+missing_few n = omega arith
+
+set_most : (kind second flags most : ℕ) (body : List ℕ) → length body ≤ most → length (set kind second flags body) ≤ most + 7
+set_most kind second flags most body le = let len = length-set kind second flags body in let few = missing_few (length body) in omega (arith, len, few, le)
+
+peers_most : (kind : ℕ) (ps : List Peer) → AllByRecursion IsPeer ps → length ps ≤ 80 → length (peers_set kind ps) ≤ 1287
+peers_most kind [] are few = omega arith
+peers_most kind (p ∷ ps) are few = set_most kind 0 0 1280 (peers_body (p ∷ ps)) (let len = length-peers_body (p ∷ ps) are in omega (arith, len, few))
+
+uses_most : (u : Option Uses) → IfSome u (λ v. IsKeyUse v.latest × IsKeyUse v.old) → length (uses_set u) ≤ 47
+uses_most None is = omega arith
+uses_most (Some u) is = set_most 3 (uses_flags u) 0 40 (uses_body u) (let len = length-uses_body u is.0 is.1 in omega (arith, len))
+
+given_most : (g : Option Given) → IfSome g IsGiven → length (given_set g) ≤ 35
+given_most None is = omega arith
+given_most (Some (Aes128 an offset number wrapped)) is = set_most 4 (given_flags an offset * 16) 0 28 (given_body number wrapped) (let len : length (given_body number wrapped) ≡ 28 = rw is.1 refl in omega (arith, len))
+given_most (Some (Other an offset number)) is = omega arith
+
+-- ---- the whole frame
+
+laid_out : (source body : List ℕ) → frame_header source (length body + 16) ++ body ≡ group_address ++ (source ++ (0x88 ∷ 0x8e ∷ 3 ∷ 5 ∷ (big_bytes 2 (length body + 16) ++ body)))
+laid_out source body = ap (λ (x : List ℕ). group_address ++ x) (append_assoc source (0x88 ∷ 0x8e ∷ 3 ∷ 5 ∷ big_bytes 2 (length body + 16)) body)
+
+keys_are : (u : Option Uses) → IfSome u (λ v. (v.latest.an < 4) × (v.old.an < 4))
+    → IfSome u (λ v. (length v.latest.server.0 ≡ 12) × (v.latest.number < 2 ^ 32) × (v.latest.lowest < 2 ^ 32) × (length v.old.server.0 ≡ 12) × (v.old.number < 2 ^ 32) × (v.old.lowest < 2 ^ 32))
+    → IfSome u (λ v. IsKeyUse v.latest × IsKeyUse v.old)
+keys_are None may is = tt
+keys_are (Some u) may is = (record { server = is.0; number = is.1; an = may.0; lowest = is.2 }, record { server = is.3; number = is.4; an = may.1; lowest = is.5 })
+
+server_flag : (b : ℕ) → (b * 8 + 6) / 8 ≡ b
+server_flag b = omega arith
+
+flags_fit : (b : Bool) → bit b * 8 + 6 < 16
+flags_fit true = lit< tt
+flags_fit false = lit< tt
+
+pub written_spells : (a : Announcement) (check : List ℕ) → IsWritable a → IsOfItsTypes a → length check ≡ 16 → Spells (written a ++ check) a (length (written a)) check
+written_spells a check may is sixteen =
+    let live = recursion_from_All IsPeer a.live is.live in
+    let potential = recursion_from_All IsPeer a.potential is.potential in
+    let keys = keys_are a.uses may.uses is.uses in
+    let body : List ℕ = basic_body a.sci.0 a.mi.0 a.mn a.ckn in
+    let len = length-basic_body a.sci.0 a.mi.0 a.mn a.ckn is.sci is.mi in
+    let others : List Set = all_written a.live a.potential a.uses a.given in
+    let middle : List ℕ = peers_set 1 a.live ++ (peers_set 2 a.potential ++ (uses_set a.uses ++ given_set a.given)) in
+    let six : length a.source.0 ≡ 6 = omega (arith, ap length may.source, length-take 6 a.sci.0, is.sci) in
+    let most : length (sets a) + 16 < 2 ^ 16 = omega (
+      arith,
+      set_most 1 a.priority (bit a.server * 8 + 6) 60 (basic_body a.sci.0 a.mi.0 a.mn a.ckn) (omega (arith, len, may.short_name)),
+      peers_most 1 a.live live may.live,
+      peers_most 2 a.potential potential may.potential,
+      uses_most a.uses keys,
+      given_most a.given is.given,
+      length-append (basic_set a) (peers_set 1 a.live ++ (peers_set 2 a.potential ++ (uses_set a.uses ++ given_set a.given))),
+      length-append (peers_set 1 a.live) (peers_set 2 a.potential ++ (uses_set a.uses ++ given_set a.given)),
+      length-append (peers_set 2 a.potential) (uses_set a.uses ++ given_set a.given),
+      length-append (uses_set a.uses) (given_set a.given),
+    ) in
+    record {
+      parts = record { destination = group_address; source = a.source.0; version = 3; body = sets a; check = check; behind = [] };
+      basic = record { kind = 1; second = a.priority; flags = bit a.server * 8 + 6; body = basic_body a.sci.0 a.mi.0 a.mn a.ckn };
+      others = all_written a.live a.potential a.uses a.given;
+      whole = ap (λ (x : List ℕ). x ++ check) (laid_out a.source.0 (sets a)) ∙ ap (λ (x : List ℕ). (group_address ++ (a.source.0 ++ (0x88 ∷ 0x8e ∷ 3 ∷ 5 ∷ (big_bytes 2 (length (sets a) + 16) ++ sets a)))) ++ x) (sym (append-nil check));
+      is_frame = record { destination = refl; group = refl; source = six; body = most; check = sixteen };
+      is_body = record {
+        front = basic_set a;
+        middle = peers_set 1 a.live ++ (peers_set 2 a.potential ++ (uses_set a.uses ++ given_set a.given));
+        indicator = [];
+        whole = ap (λ (x : List ℕ). basic_set a ++ x) (sym (append-nil (peers_set 1 a.live ++ (peers_set 2 a.potential ++ (uses_set a.uses ++ given_set a.given)))));
+        is_basic = is_set 1 a.priority (bit a.server * 8 + 6) (basic_body a.sci.0 a.mi.0 a.mn a.ckn) (flags_fit a.server) (omega (arith, len, may.short_name));
+        are_others = are_both (peers_written 1 a.live) (peers_written 2 a.potential ++ (uses_written a.uses ++ given_written a.given)) (peers_set 1 a.live) (peers_set 2 a.potential ++ (uses_set a.uses ++ given_set a.given)) (are_peers 1 a.live live may.live)
+            (are_both (peers_written 2 a.potential) (uses_written a.uses ++ given_written a.given) (peers_set 2 a.potential) (uses_set a.uses ++ given_set a.given) (are_peers 2 a.potential potential may.potential)
+            (are_both (uses_written a.uses) (given_written a.given) (uses_set a.uses) (given_set a.given) (are_uses a.uses keys) (are_given a.given is.given may.given)));
+        is_indicator = inl refl;
+        no_indicator = All-from_recursion (λ s. s.kind ≢ 255) (all_written a.live a.potential a.uses a.given) (none_written a.live a.potential a.uses a.given);
+        once = λ k low high. written_once a.live a.potential a.uses a.given k;
+      };
+      covers = ap length (laid_out a.source.0 (sets a));
+      checked = refl;
+      source = refl;
+      says = record { priority = refl; server = server_flag (bit a.server); body = refl; sci = is.sci; mi = is.mi; mn = is.mn; named = may.named; short_name = may.short_name };
+      live = spells_live a.live a.potential a.uses a.given is.live;
+      potential = spells_potential a.live a.potential a.uses a.given is.potential;
+      uses = spells_uses a.live a.potential a.uses a.given keys;
+      given = spells_given a.live a.potential a.uses a.given is.given may.given;
+    }

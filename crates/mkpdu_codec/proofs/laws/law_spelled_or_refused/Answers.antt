@@ -1,0 +1,5 @@
+use Rattle.mkpdu_codec.proofs.WhatIsRead.{spelled_or_refused}
+use Rattle.mkpdu_codec.proofs.laws.law_spelled_or_refused.Goals as goal
+
+pub returns : goal.returns
+returns c = spelled_or_refused

@@ -1,0 +1,161 @@
+-- Which frames spell which announcement (IEEE Std 802.1X, clause 11): a grammar of whole frames.
+use Rattle.std.specs.Prelude.{◌≡◌, ◌≢◌, ◌≤◌, ◌<◌, ℕ, ◌+◌, ◌/◌, ◌%◌, ◌^◌, ◌==◌, if◌then◌else◌, ◌⊎◌, List, [], ◌∷◌, ◌++◌, length, slice_index, Option, Some, None, IfSome, All, count_by}
+use Rattle.byteorder.specs.Endian.{big_bytes}
+use Rattle.mkpdu_codec.specs.declared.announcement.Announcement.{Announcement}
+use Rattle.mkpdu_codec.specs.declared.given.Given.{Given}
+use Rattle.mkpdu_codec.specs.declared.given.Given.TheVariants.{Aes128, Other}
+use Rattle.mkpdu_codec.specs.declared.key_use.KeyUse.{KeyUse}
+use Rattle.mkpdu_codec.specs.declared.key_use.Uses.{Uses}
+use Rattle.mkpdu_codec.specs.declared.peer.Peer.{Peer}
+use Rattle.mkpdu_codec.specs.Sets.{bit, missing, header, basic_body, peers_body, uses_body, uses_flags, given_flags}
+
+-- ---- a parameter set
+
+-- what a set says: its type, its second octet, the four flags of its third, and its body
+pub record Set : Type 0 where
+  pub kind : ℕ
+  pub second : ℕ
+  pub flags : ℕ
+  pub body : List ℕ
+
+-- the octets are a set: its header, its body, and some padding up to the next multiple of four
+pub record IsSet (octets : List ℕ) (s : Set) : Type 0 where
+  pub padding : List ℕ
+  pub whole : octets ≡ header s.kind s.second s.flags (length s.body) ++ (s.body ++ padding)
+  pub flags : s.flags < 16
+  pub short : length s.body < 4096
+  pub padded : length padding ≡ missing (length s.body)
+
+-- the octets are these sets, one after the other
+abbrev pub AreSets : List ℕ → List Set → Type 0
+AreSets octets [] = octets ≡ []
+AreSets octets (s ∷ ss) =
+    (front : List ℕ) × ((rest : List ℕ) × ((octets ≡ front ++ rest) × IsSet front s × AreSets rest ss))
+
+-- the header of an ICV Indicator, whose body of 16 octets is the check value
+pub record IsIndicator (octets : List ℕ) : Type 0 where
+  pub second : ℕ
+  pub flags : ℕ
+  pub whole : octets ≡ header 255 second flags 16
+
+-- ---- a frame
+
+-- the parts of a frame: the body ends before the check value, and behind it anything may stand
+pub record Frame : Type 0 where
+  pub destination : List ℕ
+  pub source : List ℕ
+  pub version : ℕ
+  pub body : List ℕ
+  pub check : List ℕ
+  pub behind : List ℕ
+
+-- what the check value covers: addresses, EtherType, version, packet type 5, length, and the body
+abbrev pub covered_octets : Frame → List ℕ
+covered_octets f = f.destination ++ (f.source ++ (0x88 ∷ 0x8e ∷ f.version ∷ 5 ∷ (big_bytes 2 (length f.body + 16) ++ f.body)))
+
+abbrev pub octets_of : Frame → List ℕ
+octets_of f = covered_octets f ++ (f.check ++ f.behind)
+
+-- a frame goes to a group address, and its length fits two octets
+pub record IsFrame (f : Frame) : Type 0 where
+  pub destination : length f.destination ≡ 6
+  pub group : slice_index f.destination 0 % 2 ≡ 1
+  pub source : length f.source ≡ 6
+  pub body : length f.body + 16 < 2 ^ 16
+  pub check : length f.check ≡ 16
+
+-- a body is a Basic Parameter Set, further sets, and the header of an ICV Indicator or nothing; none of
+-- the further sets is an ICV Indicator, and none of the types 1 to 4 comes twice
+pub record IsBody (body : List ℕ) (basic : Set) (others : List Set) : Type 0 where
+  pub front : List ℕ
+  pub middle : List ℕ
+  pub indicator : List ℕ
+  pub whole : body ≡ front ++ (middle ++ indicator)
+  pub is_basic : IsSet front basic
+  pub are_others : AreSets middle others
+  pub is_indicator : (indicator ≡ []) ⊎ IsIndicator indicator
+  pub no_indicator : All (λ s. s.kind ≢ 255) others
+  pub once : (k : ℕ) → 1 ≤ k → k ≤ 4 → count_by (λ s. s.kind == k) others ≤ 1
+
+-- ---- what the sets say
+
+-- the one set of a type, or an empty one where there is none
+abbrev pub the : ℕ → List Set → Set
+the k [] = record { kind = k; second = 0; flags = 0; body = [] }
+the k (s ∷ ss) = if s.kind == k then s else the k ss
+
+-- an entry of a peer list
+pub record IsPeer (p : Peer) : Type 0 where
+  pub mi : length p.mi.0 ≡ 12
+  pub mn : p.mn < 2 ^ 32
+
+-- one key of a SAK Use
+pub record IsKeyUse (u : KeyUse) : Type 0 where
+  pub server : length u.server.0 ≡ 12
+  pub number : u.number < 2 ^ 32
+  pub an : u.an < 4
+  pub lowest : u.lowest < 2 ^ 32
+
+-- a Live or Potential Peer List
+pub record SpellsPeers (s : Set) (ps : List Peer) : Type 0 where
+  pub body : s.body ≡ peers_body ps
+  pub are_peers : All IsPeer ps
+
+-- MACsec SAK Use: an empty one says nothing
+abbrev pub SpellsUses : Set → Option Uses → Type 0
+SpellsUses s None = s.body ≡ []
+SpellsUses s (Some u) = (s.second ≡ uses_flags u) × (s.body ≡ uses_body u) × IsKeyUse u.latest × IsKeyUse u.old
+
+-- Distributed SAK: an empty one says nothing; 28 octets are a key number and a wrapped key for GCM-AES-128;
+-- of any other body the first four octets are the key number
+abbrev pub SpellsGiven : Set → Option Given → Type 0
+SpellsGiven s None = s.body ≡ []
+SpellsGiven s (Some (Aes128 an offset number wrapped)) =
+    (s.second / 16 ≡ given_flags an offset) × (an < 4) × (offset < 4) × (number < 2 ^ 32)
+    × (length wrapped ≡ 24) × (s.body ≡ big_bytes 4 number ++ wrapped)
+SpellsGiven s (Some (Other an offset number)) =
+    (s.second / 16 ≡ given_flags an offset) × (an < 4) × (offset < 4) × (number < 2 ^ 32)
+    × (length s.body ≢ 28) × ((rest : List ℕ) × (s.body ≡ big_bytes 4 number ++ rest))
+
+-- the Basic Parameter Set: its second octet is the priority, and its highest flag is that of the key server
+pub record SpellsBasic (s : Set) (a : Announcement) : Type 0 where
+  pub priority : s.second ≡ a.priority
+  pub server : s.flags / 8 ≡ bit a.server
+  pub body : s.body ≡ basic_body a.sci.0 a.mi.0 a.mn a.ckn
+  pub sci : length a.sci.0 ≡ 8
+  pub mi : length a.mi.0 ≡ 12
+  pub mn : a.mn < 2 ^ 32
+  pub named : 1 ≤ length a.ckn
+  pub short_name : length a.ckn ≤ 32
+
+-- a frame spells an announcement, with this many octets covered by this check value
+pub record Spells (frame : List ℕ) (a : Announcement) (covered : ℕ) (check : List ℕ) : Type 0 where
+  pub parts : Frame
+  pub basic : Set
+  pub others : List Set
+  pub whole : frame ≡ octets_of parts
+  pub is_frame : IsFrame parts
+  pub is_body : IsBody parts.body basic others
+  pub covers : covered ≡ length (covered_octets parts)
+  pub checked : check ≡ parts.check
+  pub source : a.source.0 ≡ parts.source
+  pub says : SpellsBasic basic a
+  pub live : SpellsPeers (the 1 others) a.live
+  pub potential : SpellsPeers (the 2 others) a.potential
+  pub uses : SpellsUses (the 3 others) a.uses
+  pub given : SpellsGiven (the 4 others) a.given
+
+-- a number of 32 bits, and 24 octets of wrapped key
+abbrev pub IsGiven : Given → Type 0
+IsGiven (Aes128 an offset number wrapped) = (number < 2 ^ 32) × (length wrapped ≡ 24)
+IsGiven (Other an offset number) = number < 2 ^ 32
+
+-- the values of an announcement are in the ranges of their types
+pub record IsOfItsTypes (a : Announcement) : Type 0 where
+  pub sci : length a.sci.0 ≡ 8
+  pub mi : length a.mi.0 ≡ 12
+  pub mn : a.mn < 2 ^ 32
+  pub live : All IsPeer a.live
+  pub potential : All IsPeer a.potential
+  pub uses : IfSome a.uses (λ u. (length u.latest.server.0 ≡ 12) × (u.latest.number < 2 ^ 32) × (u.latest.lowest < 2 ^ 32) × (length u.old.server.0 ≡ 12) × (u.old.number < 2 ^ 32) × (u.old.lowest < 2 ^ 32))
+  pub given : IfSome a.given IsGiven

@@ -1,0 +1,99 @@
+-- The first refusal of a frame that spells no announcement.
+use Rattle.std.specs.Prelude.{ℕ, zero, suc, ◌+◌, ◌-◌, ◌*◌, ◌%◌, Bool, not, ◌&&◌, ◌||◌, ◌==◌, nat_le, if◌then◌else◌, List, [], ◌∷◌, length, take, drop, slice_index, Option, Some, None}
+use Rattle.std.specs.List.{list_any}
+use Rattle.byteorder.specs.Endian.{big_number}
+use Rattle.mkpdu_codec.specs.declared.refusal.Refusal.{Refusal}
+use Rattle.mkpdu_codec.specs.declared.refusal.Refusal.TheVariants.{NotMka, Short, Shape, Repeated, Agility}
+use Rattle.mkpdu_codec.specs.Sets.{missing}
+
+-- 18 octets of header, a group address as destination, the EtherType of EAPOL, and the packet type of MKA
+abbrev pub is_mka : List ℕ → Bool
+is_mka frame =
+    nat_le 18 (length frame) && (slice_index frame 12 == 0x88) && (slice_index frame 13 == 0x8e)
+    && (slice_index frame 15 == 5) && (slice_index frame 0 % 2 == 1)
+
+-- the length of the EAPOL body
+abbrev pub body_length : List ℕ → ℕ
+body_length frame = big_number 2 (drop 16 frame)
+
+-- the body has 32 octets, a multiple of four, and no more than stand behind the header
+abbrev pub is_long_enough : List ℕ → Bool
+is_long_enough frame =
+    nat_le 32 (body_length frame) && (body_length frame % 4 == 0) && nat_le (18 + body_length frame) (length frame)
+
+-- where the check value begins
+abbrev pub check_place : List ℕ → ℕ
+check_place frame = 2 + body_length frame
+
+-- the octets of the sets, up to the check value
+abbrev pub sets_of : List ℕ → List ℕ
+sets_of frame = take (body_length frame - 16) (drop 18 frame)
+
+-- the type of the set that stands in front
+abbrev pub front_kind : List ℕ → ℕ
+front_kind octets = slice_index octets 0
+
+-- the length of its body
+abbrev pub front_length : List ℕ → ℕ
+front_length octets = slice_index octets 2 % 16 * 256 + slice_index octets 3
+
+-- how many octets it has, with its header and its padding
+abbrev pub front_size : List ℕ → ℕ
+front_size octets = 4 + front_length octets + missing (front_length octets)
+
+-- it ends at or before the check value
+abbrev pub is_whole : List ℕ → Bool
+is_whole octets = nat_le (front_size octets) (length octets)
+
+-- the header of an ICV Indicator stands directly before the check value
+abbrev pub is_indicator : List ℕ → Bool
+is_indicator octets = (length octets == 4) && (front_kind octets == 255) && (front_length octets == 16)
+
+-- the lengths that a type allows; a set of the ICV Indicator's type allows none here
+abbrev pub is_length_of : ℕ → ℕ → Bool
+is_length_of kind n =
+    if (kind == 1) || (kind == 2) then n % 16 == 0 else
+    if kind == 3 then (n == 0) || (n == 40) else
+    if kind == 4 then (n == 0) || nat_le 4 n else
+    not (kind == 255)
+
+-- the types of which there is at most one set
+abbrev pub is_single : ℕ → Bool
+is_single kind = nat_le 1 kind && nat_le kind 4
+
+-- the first refusal of the sets that are left, where the check value begins at `end` and sets of the
+-- types `met` went before: of one set first its shape, and then that it is a second one. The count bounds
+-- how many sets there can be.
+unfoldable pub refused_sets : ℕ → ℕ → List ℕ → List ℕ → Option Refusal
+refused_sets zero end met octets = None
+refused_sets (suc n) end met octets =
+    if (length octets == 0) || is_indicator octets then None else
+    if not (is_whole octets && is_length_of (front_kind octets) (front_length octets)) then Some (Shape (end - length octets)) else
+    if is_single (front_kind octets) && list_any (λ kind. kind == front_kind octets) met then Some (Repeated (front_kind octets)) else
+    refused_sets n end (front_kind octets ∷ met) (drop (front_size octets) octets)
+
+-- the Basic Parameter Set ends before the check value, and has a name of 1 to 32 octets
+abbrev pub is_basic : List ℕ → Bool
+is_basic octets = is_whole octets && (nat_le 29 (front_length octets) && nat_le (front_length octets) 60)
+
+-- the agility that the Basic Parameter Set states
+abbrev pub is_agile : List ℕ → Bool
+is_agile octets =
+    (slice_index octets 28 == 0x00) && (slice_index octets 29 == 0x80) && (slice_index octets 30 == 0xc2) && (slice_index octets 31 == 0x01)
+
+-- the octets of the sets behind it
+abbrev pub others_of : List ℕ → List ℕ
+others_of frame = drop (front_size (sets_of frame)) (sets_of frame)
+
+abbrev pub or_else : Option Refusal → Option Refusal → Option Refusal
+or_else None next = next
+or_else (Some e) next = Some e
+
+-- the first refusal of a frame, in the order in which they are tried
+unfoldable pub refused : List ℕ → Option Refusal
+refused frame =
+    if not (is_mka frame) then Some NotMka else
+    if not (is_long_enough frame) then Some Short else
+    if not (is_basic (sets_of frame)) then Some (Shape 18) else
+    or_else (refused_sets (length (others_of frame)) (check_place frame) [] (others_of frame))
+    (if is_agile (sets_of frame) then None else Some Agility)

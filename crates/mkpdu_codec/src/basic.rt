@@ -1,0 +1,112 @@
+//! The Basic Parameter Set (IEEE Std 802.1X, clause 11): who announces.
+
+ghost use Rattle.std.specs.Prelude.{◌≡◌, ◌≤◌, ◌+◌, length, IfSome};
+ghost use Rattle.mkpdu_codec.specs.Fields.{Finds, set_of, basics_of, basic_in, basic_at};
+ghost use Rattle.mkpdu_codec.specs.Room.{HasRoom, Puts};
+ghost use Rattle.mkpdu_codec.specs.Sets.{basic_body};
+ghost use Rattle.mkpdu_codec.specs.Written.{basic_set};
+
+use crate::announcement::Announcement;
+use crate::fields::{read_mi, read_number, read_sci};
+use crate::room::put;
+use crate::set::{ParameterSet, put_header, put_padding, read_set, set_len};
+use lan_base::{Mi, Sci};
+
+/// What the set says.
+#[derive(Clone, Copy, Debug)]
+pub struct Basic<'a> {
+    pub priority: u8,
+    pub server: bool,
+    pub sci: Sci,
+    pub mi: Mi,
+    pub mn: u32,
+    pub agility: [u8; 4],
+    pub ckn: &'a [u8],
+}
+
+/// The algorithm agility of the one set of algorithms that there is.
+const AGILITY: [u8; 4] = [0x00, 0x80, 0xc2, 0x01];
+
+/// How many octets stand in the body before the name of the connectivity association key.
+fn fixed_len(sci: Sci, mi: Mi) -> usize
+    ensures value { result ≡ length sci.0 + length mi.0 + 8 }
+    ensures fixed { result ≡ 28 }
+{
+    sci.0.len() + mi.0.len() + 8
+}
+
+/// How many octets the body has.
+fn body_len(announcement: &Announcement) -> usize
+    requires { length announcement.now.ckn ≤ 32 }
+    ensures value { result ≡ length (basic_body announcement.now.sci.0 announcement.now.mi.0 announcement.now.mn announcement.now.ckn) }
+    ensures most { result ≤ 60 }
+{
+    fixed_len(announcement.sci, announcement.mi) + announcement.ckn.len()
+}
+
+/// How many octets the set has.
+pub fn basic_len(announcement: &Announcement) -> usize
+    requires { length announcement.now.ckn ≤ 32 }
+    ensures value { result ≡ length (basic_set announcement.now) }
+    ensures most { result ≤ 67 }
+{
+    set_len(body_len(announcement))
+}
+
+#[tactic(auto, using(crate::proofs::Rooms::room_in_front, crate::proofs::Rooms::room_behind, crate::proofs::Rooms::put_then))]
+fn put_body(announcement: &Announcement, into: &mut Vec<u8>)
+    requires { HasRoom into.old (basic_body announcement.now.sci.0 announcement.now.mi.0 announcement.now.mn announcement.now.ckn) }
+    ensures { Puts into.old into.new (basic_body announcement.now.sci.0 announcement.now.mi.0 announcement.now.mn announcement.now.ckn) }
+{
+    put(into, &announcement.sci.0);
+    put(into, &announcement.mi.0);
+    put(into, &announcement.mn.to_be_bytes());
+    put(into, &AGILITY);
+    put(into, announcement.ckn.as_slice());
+}
+
+/// Writes the set: of version 1, MACsec desired, with MACsec capability 2.
+#[tactic(auto, using(crate::proofs::Rooms::room_in_front, crate::proofs::Rooms::room_behind, crate::proofs::Rooms::put_then))]
+pub fn put_basic(announcement: &Announcement, into: &mut Vec<u8>)
+    requires name { length announcement.now.ckn ≤ 32 }
+    requires room { HasRoom into.old (basic_set announcement.now) }
+    ensures { Puts into.old into.new (basic_set announcement.now) }
+{
+    let len = body_len(announcement);
+    let flags = u8::from(announcement.server) * 8 + 6;
+    put_header(1, announcement.priority, flags, len, into);
+    put_body(announcement, into);
+    put_padding(len, into);
+}
+
+#[tactic(auto, unfolding(crate::specs::Fields::basic_in))]
+fn basic_of<'a>(set: ParameterSet<'a>) -> Option<Basic<'a>>
+    ensures { Finds basics_of result (basic_in (set_of set.entry)) }
+{
+    if set.body.len() < 29 || set.body.len() > 60 {
+        return None;
+    }
+    let (sci, rest) = read_sci(set.body)?;
+    let (mi, rest) = read_mi(rest)?;
+    let (mn, rest) = read_number(rest)?;
+    let (agility, ckn) = rest.split_first_chunk::<4>()?;
+    Some(Basic {
+        priority: set.second,
+        server: set.flags / 8 == 1,
+        sci,
+        mi,
+        mn,
+        agility: *agility,
+        ckn,
+    })
+}
+
+/// Reads the set in front, which has a name of 1 to 32 octets, and answers it with the octets behind it.
+#[tactic(auto, unfolding(crate::specs::Fields::basic_at))]
+pub fn read_basic(octets: &[u8]) -> Option<(Basic<'_>, &[u8])>
+    ensures value { Finds (λ x. (basics_of x.0, x.1.now)) result (basic_at octets.now) }
+    ensures within { IfSome result (λ x. length x.1.now ≤ length octets.now) }
+{
+    let (set, rest) = read_set(octets)?;
+    Some((basic_of(set)?, rest))
+}

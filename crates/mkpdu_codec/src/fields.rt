@@ -1,0 +1,33 @@
+//! The fields of parameter sets: a value, and the octets behind it.
+
+ghost use Rattle.mkpdu_codec.specs.Fields.{Finds, number_at, mi_at, sci_at};
+
+use byteorder::{BigEndian, ByteOrder};
+use lan_base::{Mi, Sci};
+
+/// Reads a number of four octets, the highest first.
+#[tactic(auto, unfolding(crate::specs::Fields::number_at))]
+pub fn read_number(octets: &[u8]) -> Option<(u32, &[u8])>
+    ensures { Finds (λ x. (x.0, x.1.now)) result (number_at octets.now) }
+{
+    let (number, rest) = octets.split_at_checked(4)?;
+    Some((BigEndian::read_u32(number), rest))
+}
+
+/// Reads a member identifier.
+#[tactic(auto, unfolding(crate::specs::Fields::mi_at))]
+pub fn read_mi(octets: &[u8]) -> Option<(Mi, &[u8])>
+    ensures { Finds (λ x. (x.0, x.1.now)) result (mi_at octets.now) }
+{
+    let (mi, rest) = octets.split_first_chunk::<12>()?;
+    Some((Mi(*mi), rest))
+}
+
+/// Reads a secure channel identifier.
+#[tactic(auto, unfolding(crate::specs::Fields::sci_at))]
+pub fn read_sci(octets: &[u8]) -> Option<(Sci, &[u8])>
+    ensures { Finds (λ x. (x.0, x.1.now)) result (sci_at octets.now) }
+{
+    let (sci, rest) = octets.split_first_chunk::<8>()?;
+    Some((Sci(*sci), rest))
+}

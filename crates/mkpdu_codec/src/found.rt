@@ -1,0 +1,103 @@
+//! The parameter sets behind the Basic Parameter Set.
+
+ghost use Rattle.std.specs.Prelude.{◌≡◌, ◌≤◌, length, IsTrue};
+ghost use Rattle.mkpdu_codec.specs.Fields.{set_of};
+ghost use Rattle.mkpdu_codec.specs.Refusals.{is_indicator, is_length_of};
+ghost use Rattle.mkpdu_codec.specs.Reading.{Gives, Gathered, gathered_of, nothing, placed, shaped_at, gathered};
+
+use crate::refusal::Refusal;
+use crate::set::{ParameterSet, read_set};
+
+/// The sets that are read, at most one of each type.
+#[derive(Clone, Copy, Debug)]
+pub struct Found<'a> {
+    pub live: Option<ParameterSet<'a>>,
+    pub potential: Option<ParameterSet<'a>>,
+    pub uses: Option<ParameterSet<'a>>,
+    pub given: Option<ParameterSet<'a>>,
+}
+
+/// Gives a set the place of its type, or refuses a second set of the type.
+#[tactic(auto, unfolding(crate::specs::Reading::placed))]
+fn place<'a>(found: Found<'a>, set: ParameterSet<'a>) -> Result<Found<'a>, Refusal>
+    ensures { Gives gathered_of result (placed (gathered_of found.entry) (set_of set.entry)) }
+{
+    let set_of_kind = Some(set);
+    match set.kind {
+        1 if found.live.is_none() => Ok(Found {
+            live: set_of_kind,
+            ..found
+        }),
+        2 if found.potential.is_none() => Ok(Found {
+            potential: set_of_kind,
+            ..found
+        }),
+        3 if found.uses.is_none() => Ok(Found {
+            uses: set_of_kind,
+            ..found
+        }),
+        4 if found.given.is_none() => Ok(Found {
+            given: set_of_kind,
+            ..found
+        }),
+        1..=4 => Err(Refusal::Repeated { kind: set.kind }),
+        _ => Ok(found),
+    }
+}
+
+/// The lengths that a type allows. A set of the ICV Indicator's type is not one of those.
+fn is_length_of_kind(kind: u8, len: usize) -> bool
+    ensures { result ≡ is_length_of kind len }
+{
+    match kind {
+        1 | 2 => len % 16 == 0,
+        3 => len == 0 || len == 40,
+        4 => len == 0 || len >= 4,
+        255 => false,
+        _ => true,
+    }
+}
+
+/// Reads the set in front, which has a length of its type. The check value begins at `end`.
+#[tactic(auto, unfolding(crate::specs::Reading::shaped_at))]
+fn read_shaped(end: usize, octets: &[u8]) -> Result<(ParameterSet<'_>, &[u8]), Refusal>
+    requires { length octets.now ≤ end }
+    ensures { Gives (λ x. (set_of x.0, x.1.now)) result (shaped_at end octets.now) }
+{
+    match read_set(octets) {
+        Some((set, rest)) if is_length_of_kind(set.kind, set.body.len()) => Ok((set, rest)),
+        _ => Err(Refusal::Shape {
+            at: end - octets.len(),
+        }),
+    }
+}
+
+/// The octets are the header of an ICV Indicator, directly before the check value.
+fn is_icv_indicator(octets: &[u8]) -> bool
+    ensures { result ≡ is_indicator octets.now }
+{
+    match octets {
+        [255, _, third, 16] => third % 16 == 0,
+        _ => false,
+    }
+}
+
+/// Reads the sets that are left. The check value begins at `end`.
+pub fn read_found(end: usize, octets: &[u8]) -> Result<Found<'_>, Refusal>
+    requires { length octets.now ≤ end }
+    ensures { Gives gathered_of result (gathered (length octets.now) end nothing octets.now) }
+{
+    let mut found = Found {
+        live: None,
+        potential: None,
+        uses: None,
+        given: None,
+    };
+    let mut rest = octets;
+    while !rest.is_empty() && !is_icv_indicator(rest) {
+        let (set, behind) = read_shaped(end, rest)?;
+        found = place(found, set)?;
+        rest = behind;
+    }
+    Ok(found)
+}

@@ -1,0 +1,23 @@
+//! What an announcement says of the keys in use.
+
+use lan_base::Mi;
+
+/// The use of one key: its identifier and association number, whether its announcer transmits and
+/// receives with it, and the lowest packet number that the announcer accepts under it. All fields of a
+/// key that is not held are zero.
+#[derive(Clone, Copy, Debug, PartialEq, Eq)]
+pub struct KeyUse {
+    pub server: Mi,
+    pub number: u32,
+    pub an: u8,
+    pub tx: bool,
+    pub rx: bool,
+    pub lowest: u32,
+}
+
+/// The MACsec SAK Use parameter set (IEEE Std 802.1X, clause 11): the latest key and the old one.
+#[derive(Clone, Copy, Debug, PartialEq, Eq)]
+pub struct Uses {
+    pub latest: KeyUse,
+    pub old: KeyUse,
+}

@@ -1,0 +1,36 @@
+//! MKA frames (IEEE Std 802.1X, clause 11): what an announcement of key agreement says, and its octets.
+#![tactic(auto)]
+
+mod announcement;
+mod basic;
+mod distributed_sak;
+mod fields;
+mod found;
+mod given;
+mod key_use;
+mod laws;
+mod peer;
+mod peer_list;
+mod reading;
+mod refusal;
+mod room;
+mod sak_use;
+mod set;
+mod spelled;
+mod writing;
+
+pub use announcement::Announcement;
+pub use given::Given;
+pub use key_use::{KeyUse, Uses};
+pub use laws::{
+    law_covered_octets_decide, law_never_both, law_one_spelling, law_read_is_spelled,
+    law_reading_refuses, law_spelled_is_read, law_spelled_or_refused, law_written_is_spelled,
+};
+pub use peer::{Peer, Peers};
+pub use reading::read;
+pub use refusal::Refusal;
+pub use spelled::Spelled;
+pub use writing::write;
+
+#[cfg(test)]
+mod tests;

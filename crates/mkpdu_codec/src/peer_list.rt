@@ -1,0 +1,113 @@
+//! The Live Peer List and the Potential Peer List (IEEE Std 802.1X, clause 11): whom the announcer hears.
+
+ghost use Rattle.std.specs.Prelude.{◌≡◌, ◌≤◌, ◌<◌, ◌*◌, length};
+ghost use Rattle.std.specs.Prelude.{IfOk};
+ghost use Rattle.mkpdu_codec.specs.Fields.{Finds, set_of, entry_at, entries_at, peers_in};
+ghost use Rattle.mkpdu_codec.specs.Reading.{seen};
+ghost use Rattle.mkpdu_codec.specs.Room.{HasRoom, Puts};
+ghost use Rattle.mkpdu_codec.specs.Sets.{peer, peers_body};
+ghost use Rattle.mkpdu_codec.specs.Written.{peers_set};
+
+use crate::fields::{read_mi, read_number};
+use crate::peer::{Peer, Peers};
+use crate::room::put;
+use crate::set::{ParameterSet, put_header, set_len};
+use std::alloc::{AllocError, Global};
+
+/// How many octets an entry has.
+fn entry_len(entry: Peer) -> usize
+    ensures value { result ≡ length (peer entry) }
+    ensures fixed { result ≡ 16 }
+{
+    entry.mi.0.len() + 4
+}
+
+/// How many octets the body has.
+fn body_len(peers: &[Peer]) -> usize
+    requires { length peers.now ≤ 80 }
+    ensures value { result ≡ length (peers_body peers.now) }
+    ensures entries { result ≡ 16 * length peers.now }
+{
+    let mut len = 0;
+    for entry in peers {
+        len += entry_len(*entry);
+    }
+    len
+}
+
+/// How many octets the set has: none where there are no peers.
+pub fn peers_len(kind: u8, peers: &Peers) -> usize
+    requires { length peers.now ≤ 80 }
+    ensures value { result ≡ length (peers_set kind peers.now) }
+    ensures most { result ≤ 1284 }
+{
+    if peers.is_empty() {
+        return 0;
+    }
+    set_len(body_len(peers.as_slice()))
+}
+
+#[tactic(auto, using(crate::proofs::Rooms::room_in_front, crate::proofs::Rooms::room_behind, crate::proofs::Rooms::put_then))]
+fn put_entry(entry: Peer, into: &mut Vec<u8>)
+    requires { HasRoom into.old (peer entry) }
+    ensures { Puts into.old into.new (peer entry) }
+{
+    put(into, &entry.mi.0);
+    put(into, &entry.mn.to_be_bytes());
+}
+
+fn put_body(peers: &[Peer], into: &mut Vec<u8>)
+    requires { HasRoom into.old (peers_body peers.now) }
+    ensures { Puts into.old into.new (peers_body peers.now) }
+{
+    for entry in peers {
+        put_entry(*entry, into);
+    }
+}
+
+/// Writes the set of one of the two types, where there are peers.
+#[tactic(auto, using(crate::proofs::Rooms::room_in_front, crate::proofs::Rooms::room_behind, crate::proofs::Rooms::put_then))]
+pub fn put_peers(kind: u8, peers: &Peers, into: &mut Vec<u8>)
+    requires few { length peers.now ≤ 80 }
+    requires room { HasRoom into.old (peers_set kind peers.now) }
+    ensures { Puts into.old into.new (peers_set kind peers.now) }
+{
+    if !peers.is_empty() {
+        let len = body_len(peers.as_slice());
+        put_header(kind, 0, 0, len, into);
+        put_body(peers.as_slice(), into);
+    }
+}
+
+/// Reads the entry in front, and answers it with the octets behind it.
+#[tactic(auto, unfolding(crate::specs::Fields::entry_at))]
+fn read_entry(octets: &[u8]) -> Option<(Peer, &[u8])>
+    ensures { Finds (λ x. (x.0, x.1.now)) result (entry_at octets.now) }
+{
+    let (mi, rest) = read_mi(octets)?;
+    let (mn, rest) = read_number(rest)?;
+    Some((Peer { mi, mn }, rest))
+}
+
+fn read_entries(alloc: Global, octets: &[u8]) -> Result<Peers, AllocError>
+    ensures { IfOk result (λ ps. ps ≡ entries_at (length octets.now) octets.now) }
+{
+    let mut peers = Peers::new(alloc);
+    let mut rest = octets;
+    while let Some((peer, behind)) = read_entry(rest) {
+        peers.push(peer)?;
+        rest = behind;
+    }
+    Ok(peers)
+}
+
+/// The peers of a set: none where there is no set.
+#[tactic(auto, unfolding(crate::specs::Fields::peers_in))]
+pub fn peers_of(alloc: Global, set: Option<ParameterSet<'_>>) -> Result<Peers, AllocError>
+    ensures { IfOk result (λ ps. ps ≡ peers_in (seen set.entry)) }
+{
+    match set {
+        None => Ok(Peers::new(alloc)),
+        Some(set) => read_entries(alloc, set.body),
+    }
+}
