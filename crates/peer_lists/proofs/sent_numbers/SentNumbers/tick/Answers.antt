@@ -1,0 +1,7 @@
+use Rattle.std.proofs.Common.{◌-◌, arith}
+use Rattle.std.proofs.lemmas.Grind.{common_steps}
+use Rattle.std.proofs.lemmas.List.Edits.{map_over_more}
+use Rattle.peer_lists.proofs.sent_numbers.SentNumbers.tick.Goals as goal
+
+pub loop-left-preserved : goal.loop-left-preserved
+loop-left-preserved c = grind (arith, common_steps, map_over_more (λ n. n - 1))

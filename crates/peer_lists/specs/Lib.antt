@@ -1,0 +1,7 @@
+pub mod Identifiers
+pub mod Histories
+pub mod Acceptance
+pub mod Peers
+pub mod Listings
+pub mod Table
+pub mod Steps

@@ -1,0 +1,134 @@
+//! What the table keeps of a peer: its last accepted and its last vouched announcement, each with the
+//! ticks that it has left and with whether a later announcement displaced it.
+
+ghost use Rattle.std.specs.Prelude.{◌≡◌};
+ghost use Rattle.peer_lists.specs.Steps.{aged, crossed, fresh, aged_peer, crossed_peer, has_sci, renewed, introduced, shown};
+
+use crate::LIFE_TIME;
+use crate::heard::{Heard, Row};
+use lan_base::{Mi, Sci};
+
+/// An accepted announcement that is younger than the life time.
+#[derive(Clone, Copy, Debug)]
+pub struct Words {
+    pub told: Heard,
+    /// In how many ticks it is as old as the life time.
+    pub left: u8,
+    /// Whether a later vouched announcement of another member has its SCI.
+    pub displaced: bool,
+}
+
+impl Words {
+    fn fresh(told: &Heard) -> Words
+        ensures { result ≡ fresh told.now }
+    {
+        Words {
+            told: *told,
+            left: LIFE_TIME,
+            displaced: false,
+        }
+    }
+
+    fn tick(&mut self)
+        ensures { self.new ≡ aged self.old }
+    {
+        self.left = self.left.saturating_sub(1);
+    }
+
+    /// Another member's vouched announcement has this SCI.
+    fn cross(&mut self, sci: &Sci)
+        ensures { self.new ≡ crossed sci.now self.old }
+    {
+        if *sci == self.told.sci {
+            self.displaced = true;
+        }
+    }
+}
+
+/// A peer with a young accepted announcement.
+#[derive(Clone, Copy, Debug)]
+pub struct Remembered {
+    pub last: Words,
+    pub vouched: Option<Words>,
+}
+
+impl Remembered {
+    pub fn introduced(heard: &Heard, vouched: bool) -> Remembered
+        ensures { result ≡ introduced vouched heard.now }
+    {
+        let words = Words::fresh(heard);
+        Remembered {
+            last: words,
+            vouched: if vouched { Some(words) } else { None },
+        }
+    }
+
+    /// The peer itself is heard again.
+    pub fn renew(&mut self, heard: &Heard, vouched: bool)
+        ensures { self.new ≡ renewed vouched heard.now self.old }
+    {
+        let words = Words::fresh(heard);
+        self.last = words;
+        if vouched {
+            self.vouched = Some(words);
+        }
+    }
+
+    pub fn tick(&mut self)
+        ensures { self.new ≡ aged_peer self.old }
+    {
+        self.last.tick();
+        if let Some(words) = &mut self.vouched {
+            words.tick();
+            if words.left == 0 {
+                self.vouched = None;
+            }
+        }
+    }
+
+    /// Whether its last words or its vouched ones have this SCI.
+    fn has_sci(&self, sci: &Sci) -> bool
+        ensures { result ≡ has_sci sci.now self.now }
+    {
+        match &self.vouched {
+            Some(words) => *sci == self.last.told.sci || *sci == words.told.sci,
+            None => *sci == self.last.told.sci,
+        }
+    }
+
+    /// A vouched announcement is heard, of this member or of another.
+    pub fn cross(&mut self, heard: &Heard)
+        ensures { self.new ≡ crossed_peer heard.now self.old }
+    {
+        if !self.has_sci(&heard.sci) || self.last.told.mi == heard.mi {
+            return;
+        }
+        self.last.cross(&heard.sci);
+        if let Some(words) = &mut self.vouched {
+            words.cross(&heard.sci);
+        }
+    }
+
+    /// What is shown of it.
+    pub fn row(&self) -> Row
+        ensures { result ≡ shown self.now }
+    {
+        let says = match self.vouched {
+            Some(words) if !words.displaced => Some(words),
+            _ => None,
+        };
+        let words = match says {
+            Some(words) => words.told,
+            None => self.last.told,
+        };
+        Row {
+            mi: self.last.told.mi,
+            mn: self.last.told.mn,
+            sci: words.sci,
+            priority: words.priority,
+            live: says.is_some(),
+            potential: says.is_none() && !self.last.displaced,
+            uses: words.uses,
+        }
+    }
+}

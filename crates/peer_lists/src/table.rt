@@ -1,0 +1,161 @@
+//! The peer lists of one life of a station.
+
+ghost use Rattle.std.specs.Prelude.{◌≡◌, ◌<◌, ◌≤◌, ◌+◌, ◌&&◌, ◌↔◌, ◌∷◌, [], List, ℕ, cond, length, slice_get, IfOk, IsNone, IsTrue, OnErr};
+ghost use Rattle.std.specs.Option.{option_map, option_or};
+ghost use Rattle.std.specs.List.Sorted.{IsBinarySearchResult, IsSearchInRange};
+ghost use Rattle.peer_lists.specs.Identifiers.{order};
+ghost use Rattle.peer_lists.specs.Histories.{Peering, ticked, sent, heard as heard_entry, recent as recent_after};
+ghost use Rattle.peer_lists.specs.Acceptance.{Own, IsDropped, echo, outcome};
+ghost use Rattle.peer_lists.specs.Peers.{known, row_at};
+ghost use Rattle.peer_lists.specs.Table.{StandsFor, member};
+ghost use Rattle.peer_lists.specs.Steps.{reason_at, rows_heard, is_number_recent, shown};
+
+use crate::PEERS;
+use crate::heard::{DropReason, Heard, Outcome, Row};
+use crate::places::{age, cross, place_of, remember, shown_at};
+use crate::remembered::Remembered;
+use crate::sent_numbers::SentNumbers;
+use lan_base::{Mi, Sci};
+use std::alloc::{AllocError, Global};
+use std::marker::Model;
+
+/// Who was heard in one life of a station, and what it sent, as far as either is younger than the life time.
+#[derive(Drop)]
+pub struct PeerTable {
+    mi: Mi,
+    sci: Sci,
+    rows: Vec<Remembered>,
+    sent: SentNumbers,
+}
+
+impl Model for PeerTable {
+    ghost use Rattle.std.specs.Prelude.{◌≤◌, vec_capacity};
+    ghost use Rattle.peer_lists.specs.Acceptance.{Own};
+    ghost use Rattle.peer_lists.specs.Table.{Table};
+
+    ghost Value = { Table };
+
+    ghost view = { λ t. record { own = record { mi = t.mi; sci = t.sci }; rows = t.rows.items; sent = t.sent } };
+
+    ghost invariant = { λ t. 64 ≤ vec_capacity t.rows };
+}
+
+impl PeerTable {
+    /// The table of a life that begins. It takes all the memory that the table ever needs, and answers an
+    /// error only where there is none.
+    pub fn new(alloc: Global, own: Mi, sci: Sci) -> Result<PeerTable, AllocError>
+        ensures stands { IfOk result (λ t. StandsFor (record { mi = own; sci = sci }) t []) }
+        ensures last { IfOk result (λ t. t.sent.last ≡ 0) }
+        ensures may_send { IfOk result (λ t. IsTrue t.sent.may_send) }
+    {
+        Ok(PeerTable {
+            mi: own,
+            sci,
+            rows: Vec::with_capacity(alloc, PEERS)?,
+            sent: SentNumbers::none(),
+        })
+    }
+
+    /// A tick passes.
+    pub fn tick(&mut self)
+        ensures stands { (own : Own) (h : List Peering) → StandsFor own self.old h →
+            StandsFor own self.new (ticked ∷ h) }
+        ensures last { self.new.sent.last ≡ self.old.sent.last }
+        ensures may_send { IsTrue self.new.sent.may_send }
+    {
+        self.sent.tick();
+        age(&mut self.rows);
+    }
+
+    /// The life sends its next announcement: its number is one greater than the last one's, or 1 for the
+    /// first, and none was sent since the last tick.
+    pub fn sent(&mut self, mn: u32)
+        requires next { mn ≡ self.old.sent.last + 1 }
+        requires once { IsTrue self.old.sent.may_send }
+        ensures stands { (own : Own) (h : List Peering) → StandsFor own self.old h →
+            StandsFor own self.new (sent mn ∷ h) }
+        ensures last { self.new.sent.last ≡ mn }
+    {
+        self.sent.send(mn);
+    }
+
+    /// Whether the life sent this number less than the life time ago.
+    pub fn recent(&self, mn: u32) -> bool
+        ensures { (own : Own) (h : List Peering) → StandsFor own self.now h →
+            result ≡ recent_after h mn }
+    {
+        self.sent.is_recent(mn)
+    }
+
+    /// A frame with a right check value is heard, and tells this. A dropped one changes nothing.
+    pub fn hear(&mut self, heard: &Heard) -> Outcome
+        ensures answer { (own : Own) (h : List Peering) → StandsFor own self.old h →
+            result ≡ outcome own h heard.now }
+        ensures stands { (own : Own) (h : List Peering) → StandsFor own self.old h →
+            StandsFor own self.new (heard_entry heard.now ∷ h) }
+        ensures unchanged { IsDropped result → self.new ≡ self.old }
+        ensures sent { self.new.sent ≡ self.old.sent }
+    {
+        let place = place_of(self.rows.as_slice(), &heard.mi);
+        match self.refusal(heard, place) {
+            Some(reason) => Outcome::Dropped(reason),
+            None => {
+                if self.accept(heard, place) {
+                    Outcome::Vouched
+                } else {
+                    Outcome::Unvouched
+                }
+            }
+        }
+    }
+
+    /// The reason to drop what is heard, given the place of its member's row.
+    fn refusal(&self, heard: &Heard, place: Result<usize, usize>) -> Option<DropReason>
+        requires { IsSearchInRange place (length self.now.rows) }
+        ensures { result ≡ option_or (echo self.now.own heard.now) (reason_at place self.now.rows heard.now) }
+    {
+        if heard.mi == self.mi || heard.sci == self.sci {
+            return Some(DropReason::Echo);
+        }
+        match place {
+            Ok(at) => {
+                let kept = self.rows[at].last.told.mn;
+                (heard.mn <= kept).then_some(DropReason::OldNumber { kept })
+            }
+            Err(_) => (self.rows.len() >= PEERS).then_some(DropReason::PeersFull),
+        }
+    }
+
+    /// What is heard is accepted. Answers whether it is vouched.
+    fn accept(&mut self, heard: &Heard, place: Result<usize, usize>) -> bool
+        requires bound { IsSearchInRange place (length self.old.rows) }
+        requires room { OnErr place (length self.old.rows < PEERS) }
+        ensures vouched { result ≡ (heard.now.lists && is_number_recent self.old.sent heard.now.listed) }
+        ensures table { self.new ≡ record self.old { rows = rows_heard place result heard.now self.old.rows } }
+    {
+        let vouched = heard.lists && self.sent.is_recent(heard.listed);
+        remember(&mut self.rows, place, heard, vouched);
+        if vouched {
+            cross(&mut self.rows, heard);
+        }
+        vouched
+    }
+
+    /// How many members have an accepted announcement younger than the life time.
+    pub fn len(&self) -> usize
+        ensures { (own : Own) (h : List Peering) → StandsFor own self.now h →
+            result ≡ length (known own h) }
+    {
+        self.rows.len()
+    }
+
+    /// The row at a place among them, in ascending order of member identifier, or `None` past the last.
+    pub fn row(&self, at: usize) -> Option<Row>
+        ensures row { (own : Own) (h : List Peering) → StandsFor own self.now h →
+            result ≡ row_at own h at }
+        ensures past { (own : Own) (h : List Peering) → StandsFor own self.now h →
+            (IsNone result ↔ (length (known own h) ≤ at)) }
+    {
+        shown_at(self.rows.as_slice(), at)
+    }
+}

@@ -1,0 +1,228 @@
+ghost use Rattle.std.specs.Prelude.{◌≡◌};
+
+use crate::{DropReason, Heard, Outcome, PeerTable};
+use DropReason::{Echo, OldNumber, PeersFull};
+use Outcome::{Dropped, Unvouched, Vouched};
+use Step::{Lists, Plain, Recent, Rows, Sends, Ticks};
+use lan_base::{Mi, Sci};
+use std::alloc::Global;
+use std::process::Abort;
+use std::test::Fail;
+
+/// What happens in a life, and what is to be seen of it.
+#[derive(Clone, Copy)]
+enum Step {
+    /// Ticks pass.
+    Ticks(u8),
+    /// A tick passes, and the life sends its next number.
+    Sends,
+    /// A member is heard under an SCI and a number, and lists nobody.
+    Plain(u8, u8, u32, Outcome),
+    /// The same, and it lists the station under a number.
+    Lists(u8, u8, u32, u32, Outcome),
+    /// The rows: member, number, SCI, and whether it is live and potential.
+    Rows(&'static [(u8, u32, u8, bool, bool)]),
+    /// Whether a number is recent.
+    Recent(u32, bool),
+}
+
+fn mi(last: u8) -> Mi {
+    Mi([0, 0, 0, 0, 0, 0, 0, 0, 0, 0, 0, last])
+}
+
+fn sci(first: u8) -> Sci {
+    Sci([first, 0, 0, 0, 0, 0, 0, 1])
+}
+
+fn heard(member: u8, channel: u8, mn: u32, listed: Option<u32>) -> Heard {
+    Heard {
+        mi: mi(member),
+        sci: sci(channel),
+        priority: channel,
+        mn,
+        lists: listed.is_some(),
+        listed: listed.unwrap_or(0),
+        uses: None,
+    }
+}
+
+/// The station has the member identifier 9 and the SCI 90.
+fn plays(rt: &impl Abort, alloc: Global, steps: &[Step]) -> Result<(), Fail> {
+    let mut table = PeerTable::new(alloc, mi(9), sci(90))?;
+    let mut last = 0;
+    for step in steps {
+        last = play(rt, &mut table, last, step);
+    }
+    Ok(())
+}
+
+/// Answers the number that was sent last.
+fn play(rt: &impl Abort, table: &mut PeerTable, last: u32, step: &Step) -> u32
+    requires { last ≡ table.old.sent.last }
+    ensures { result ≡ table.new.sent.last }
+{
+    match *step {
+        Ticks(count) => pass(table, count),
+        Sends => {
+            table.tick();
+            if last < u32::MAX {
+                table.sent(last + 1);
+                return last + 1;
+            }
+        }
+        Plain(member, channel, mn, outcome) => {
+            assert_eq!(rt; table.hear(&heard(member, channel, mn, None)), outcome);
+        }
+        Lists(member, channel, mn, listed, outcome) => {
+            assert_eq!(rt;
+                table.hear(&heard(member, channel, mn, Some(listed))),
+                outcome
+            );
+        }
+        Rows(rows) => shows(rt, table, rows),
+        Recent(mn, recent) => assert_eq!(rt; table.recent(mn), recent),
+    }
+    last
+}
+
+fn pass(table: &mut PeerTable, count: u8)
+    ensures { table.new.sent.last ≡ table.old.sent.last }
+{
+    for _ in 0..count {
+        table.tick();
+    }
+}
+
+fn shows(rt: &impl Abort, table: &PeerTable, rows: &[(u8, u32, u8, bool, bool)]) {
+    assert_eq!(rt; table.len(), rows.len());
+    assert!(rt; table.row(rows.len()).is_none());
+    for (at, (member, mn, channel, live, potential)) in rows.iter().enumerate() {
+        let row = table.row(at).expect(rt, "a row at each place");
+        assert_eq!(rt; row.mi, mi(*member));
+        assert_eq!(rt; row.mn, *mn);
+        assert_eq!(rt; row.sci, sci(*channel));
+        assert_eq!(rt; row.priority, *channel);
+        assert_eq!(rt; row.live, *live);
+        assert_eq!(rt; row.potential, *potential);
+    }
+}
+
+#[test]
+fn forgets_after_the_life_time(rt: HostRuntime) -> Result<(), Fail> {
+    plays(
+        &rt,
+        rt.alloc(),
+        &[
+            Plain(1, 10, 5, Unvouched),
+            Ticks(59),
+            Rows(&[(1, 5, 10, false, true)]),
+            Plain(1, 10, 5, Dropped(OldNumber { kept: 5 })),
+            Ticks(1),
+            Rows(&[]),
+            Plain(1, 10, 5, Unvouched),
+        ],
+    )
+}
+
+#[test]
+fn an_old_own_number_vouches_no_more(rt: HostRuntime) -> Result<(), Fail> {
+    plays(
+        &rt,
+        rt.alloc(),
+        &[
+            Recent(1, false),
+            Sends,
+            Recent(1, true),
+            Lists(1, 10, 1, 1, Vouched),
+            Lists(2, 20, 1, 2, Unvouched),
+            Rows(&[(1, 1, 10, true, false), (2, 1, 20, false, true)]),
+            Ticks(59),
+            Recent(1, true),
+            Lists(3, 30, 1, 1, Vouched),
+            Ticks(1),
+            Recent(1, false),
+            Lists(4, 40, 1, 1, Unvouched),
+            Rows(&[(3, 1, 30, true, false), (4, 1, 40, false, true)]),
+        ],
+    )
+}
+
+#[test]
+fn two_members_of_one_sci_alternate(rt: HostRuntime) -> Result<(), Fail> {
+    plays(
+        &rt,
+        rt.alloc(),
+        &[
+            Sends,
+            Lists(2, 10, 1, 1, Vouched),
+            Plain(1, 10, 1, Unvouched),
+            Rows(&[(1, 1, 10, false, true), (2, 1, 10, true, false)]),
+            Lists(1, 10, 2, 1, Vouched),
+            Rows(&[(1, 2, 10, true, false), (2, 1, 10, false, false)]),
+            Plain(2, 10, 2, Unvouched),
+            Rows(&[(1, 2, 10, true, false), (2, 2, 10, false, true)]),
+            Lists(2, 10, 3, 1, Vouched),
+            Rows(&[(1, 2, 10, false, false), (2, 3, 10, true, false)]),
+            Lists(2, 20, 4, 1, Vouched),
+            Rows(&[(1, 2, 10, false, false), (2, 4, 20, true, false)]),
+        ],
+    )
+}
+
+#[test]
+fn a_live_peer_says_its_last_vouched_words(rt: HostRuntime) -> Result<(), Fail> {
+    plays(
+        &rt,
+        rt.alloc(),
+        &[
+            Sends,
+            Lists(1, 10, 1, 1, Vouched),
+            Ticks(30),
+            Plain(1, 20, 2, Unvouched),
+            Ticks(29),
+            Rows(&[(1, 2, 10, true, false)]),
+            Ticks(1),
+            Rows(&[(1, 2, 20, false, true)]),
+        ],
+    )
+}
+
+#[test]
+fn an_echo_has_the_own_identifier_or_sci(rt: HostRuntime) -> Result<(), Fail> {
+    plays(
+        &rt,
+        rt.alloc(),
+        &[
+            Plain(9, 10, 1, Dropped(Echo)),
+            Plain(1, 90, 1, Dropped(Echo)),
+            Rows(&[]),
+        ],
+    )
+}
+
+#[test]
+fn remembers_sixty_four_others(rt: HostRuntime) -> Result<(), Fail> {
+    let mut table = PeerTable::new(rt.alloc(), mi(9), sci(90))?;
+    for member in 101..165 {
+        assert_eq!(rt; table.hear(&heard(member, member, 1, None)), Unvouched);
+    }
+    assert_eq!(rt; table.len(), 64);
+    assert_eq!(rt; table.hear(&heard(1, 1, 1, None)), Dropped(PeersFull));
+    assert_eq!(rt; table.hear(&heard(164, 164, 2, None)), Unvouched);
+    pass(&mut table, 60);
+    assert_eq!(rt; table.hear(&heard(1, 1, 1, None)), Unvouched);
+    assert_eq!(rt; table.len(), 1);
+    Ok(())
+}
+
+#[test]
+fn sixty_numbers_are_recent(rt: HostRuntime) -> Result<(), Fail> {
+    let mut steps = [Sends; 67];
+    steps[61] = Recent(0, false);
+    steps[62] = Recent(1, false);
+    steps[63] = Recent(2, true);
+    steps[64] = Recent(61, true);
+    steps[65] = Recent(62, false);
+    steps[66] = Recent(121, false);
+    plays(&rt, rt.alloc(), &steps)
+}
