@@ -1,0 +1,6 @@
+pub mod Elected
+pub mod Eligible
+pub mod Least
+pub mod Order
+pub mod Pairs
+mod Rows
