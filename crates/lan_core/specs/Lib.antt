@@ -1,0 +1,4 @@
+pub mod Run
+pub mod Life
+pub mod Announcing
+pub mod Legal

@@ -1,0 +1,11 @@
+use lan_base::{Name, Sci};
+
+/// One atomic action of one actor. A station is named by its place in the order of the starts, from 0.
+#[derive(Clone, Copy, Debug, PartialEq, Eq)]
+pub enum Event {
+    /// A station begins its first life.
+    Start { name: Name, sci: Sci, priority: u8 },
+    /// 0.1 s passes at one station. `next` is the packet number that its transmitting association
+    /// shows, 0 where it has none.
+    Tick { station: u8, next: u64 },
+}
