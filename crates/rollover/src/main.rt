@@ -1,0 +1,41 @@
+//! The program `rollover`: standard input, standard output and the command words, for `rollover_program`.
+#![tactic(auto)]
+
+use lan_base::{StdSink, StdSource};
+use rollover_program::{Halt, Status, rollover};
+use std::alloc::AllocError;
+use std::process::ExitCode;
+use std::{env, io};
+
+// the words after the program's name
+fn words(rt: &HostRuntime) -> Result<Vec<String>, AllocError> {
+    let mut words = Vec::new(rt.alloc());
+    let Ok(args) = env::args(rt) else {
+        return Err(AllocError);
+    };
+    for word in args.skip(1) {
+        words.push(word)?;
+    }
+    Ok(words)
+}
+
+fn status(rt: &HostRuntime) -> Status {
+    match words(rt) {
+        Ok(words) => rollover(
+            rt.alloc(),
+            &words,
+            &mut StdSource::new(rt.reader()),
+            &mut StdSink::new(io::writer(rt)),
+        ),
+        Err(_) => Status::Halted(Halt::Memory),
+    }
+}
+
+fn main(rt: HostRuntime) -> ExitCode {
+    let status = status(&rt);
+    if status != Status::Done {
+        // Where standard error fails too, the number is all that is left to tell.
+        let _ = eprintln!(rt; "rollover: {status}");
+    }
+    ExitCode::from(status.number())
+}
