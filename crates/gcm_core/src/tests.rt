@@ -1,5 +1,7 @@
+// Published sealings and refusals, and values of another implementation at other lengths.
 use crate::{seal, unseal};
 use aes_block::Key;
+use hex::FromHex;
 use std::alloc::{AllocError, Global};
 use std::process::Abort;
 use std::test::Fail;
@@ -15,9 +17,8 @@ struct Case {
     tag: &'static str,
 }
 
-// The test cases of McGrew and Viega's submission of GCM with a key of 128 bits and an IV of 96 bits, and then
-// octets drawn at random and sealed by OpenSSL (AESGCM of Python's cryptography 48.0.0).
-const CASES: [Case; 16] = [
+// The test cases of McGrew and Viega's submission of GCM.
+const SUBMISSION: [Case; 4] = [
     Case {
         name: "McGrew and Viega, test case 1",
         key: "00000000000000000000000000000000",
@@ -54,35 +55,209 @@ const CASES: [Case; 16] = [
         sealed: "42831ec2217774244b7221b784d0d49ce3aa212f2c02a4e035c17e2329aca12e21d514b25466931c7d8f6a5aac84aa051ba30b396a0aac973d58e091",
         tag: "5bc94fbc3221a5db94fae95ae7121a47",
     },
+];
+
+// Cases of NIST's validation suite with IVs of 96 bits and whole tags.
+const SUITE: [Case; 13] = [
     Case {
-        name: "0 octets of text, 0 of additional data",
-        key: "12859a4b5591c979892c52ed11536814",
-        iv: "fa4d0e1be48cf21110f37b56",
+        name: "validation suite, 0 octets of text, 0 of additional data",
+        key: "11754cd72aec309bf52f7687212e8957",
+        iv: "3c819d9a9bed087615030b65",
         extra: "",
         text: "",
         sealed: "",
-        tag: "42d67cc7ff35d7dfae3242e4205ebdb3",
+        tag: "250327c674aaf477aef2675748cf6971",
     },
     Case {
-        name: "0 octets of text, 20 of additional data",
-        key: "c4814f8cd146ea789036883146a028f9",
-        iv: "562a240c1497708ea9e3817d",
-        extra: "062fa039f9f09758da74833332a6149215275c1c",
+        name: "validation suite, 0 octets of text, 16 of additional data",
+        key: "77be63708971c4e240d1cb79e8d77feb",
+        iv: "e0e00f19fed7ba0136a797f3",
+        extra: "7a43ec1d9c0a5a78a0b16533a6213cab",
         text: "",
         sealed: "",
-        tag: "5a0c2d6dacea0f120c5a48d545282e3d",
+        tag: "209fcc8d3675ed938e9c7166709dd946",
     },
     Case {
-        name: "0 octets of text, 16 of additional data",
-        key: "712789cd961af21d8c894ac6c8992198",
-        iv: "ef10d53254a155ba4defe1f6",
-        extra: "e4e09cc0440ffc5e927f75ed2f2d4c22",
+        name: "validation suite, 0 octets of text, 20 of additional data",
+        key: "2fb45e5b8f993a2bfebc4b15b533e0b4",
+        iv: "5b05755f984d2b90f94b8027",
+        extra: "e85491b2202caf1d7dce03b97e09331c32473941",
         text: "",
         sealed: "",
-        tag: "6c06b06ce154dd923c4358de3cccda63",
+        tag: "c75b7832b2a2d9bd827412b6ef5769db",
     },
     Case {
-        name: "1 octets of text, 0 of additional data",
+        name: "validation suite, 0 octets of text, 48 of additional data",
+        key: "99e3e8793e686e571d8285c564f75e2b",
+        iv: "c2dd0ab868da6aa8ad9c0d23",
+        extra: "b668e42d4e444ca8b23cfdd95a9fedd5178aa521144890b093733cf5cf22526c5917ee476541809ac6867a8c399309fc",
+        text: "",
+        sealed: "",
+        tag: "3f4fba100eaf1f34b0baadaae9995d85",
+    },
+    Case {
+        name: "validation suite, 0 octets of text, 90 of additional data",
+        key: "20b5b6b854e187b058a84d57bc1538b6",
+        iv: "94c1935afc061cbf254b936f",
+        extra: "ca418e71dbf810038174eaa3719b3fcb80531c7110ad9192d105eeaafa15b819ac005668752b344ed1b22faf77048baf03dbddb3b47d6b00e95c4f005e0cc9b7627ccafd3f21b3312aa8d91d3fa0893fe5bff7d44ca46f23afe0",
+        text: "",
+        sealed: "",
+        tag: "b37286ebaf4a54e0ffc2a1deafc9f6db",
+    },
+    Case {
+        name: "validation suite, 13 octets of text, 0 of additional data",
+        key: "fe9bb47deb3a61e423c2231841cfd1fb",
+        iv: "4d328eb776f500a2f7fb47aa",
+        extra: "",
+        text: "f1cc3818e421876bb6b8bbd6c9",
+        sealed: "b88c5c1977b35b517b0aeae967",
+        tag: "43fd4727fe5cdb4b5b42818dea7ef8c9",
+    },
+    Case {
+        name: "validation suite, 13 octets of text, 20 of additional data",
+        key: "fe0121f42e599f88ff02a985403e19bb",
+        iv: "3bb9eb7724cbe1943d43de21",
+        extra: "2662d895035b6519f3510eae0faa3900ad23cfdf",
+        text: "fd331ca8646091c29f21e5f0a1",
+        sealed: "59fe29b07b0de8d869efbbd9b4",
+        tag: "d24c3e9c1c73c0af1097e26061c857de",
+    },
+    Case {
+        name: "validation suite, 16 octets of text, 16 of additional data",
+        key: "c939cc13397c1d37de6ae0e1cb7c423c",
+        iv: "b3d8cc017cbb89b39e0f67e2",
+        extra: "24825602bd12a984e0092d3e448eda5f",
+        text: "c3b3c41f113a31b73d9a5cd432103069",
+        sealed: "93fe7d9e9bfd10348a5606e5cafa7354",
+        tag: "0032a1dc85f1c9786925a2e71d8272dd",
+    },
+    Case {
+        name: "validation suite, 16 octets of text, 48 of additional data",
+        key: "89850dd398e1f1e28443a33d40162664",
+        iv: "e462c58482fe8264aeeb7231",
+        extra: "d74e99d1bdaa712864eec422ac507bddbe2b0d4633cd3dff29ce5059b49fe868526c59a2a3a604457bc2afea866e7606",
+        text: "2805cdefb3ef6cc35cd1f169f98da81a",
+        sealed: "ba80e244b7fc9025cd031d0f63677e06",
+        tag: "d84a8c3eac57d1bb0e890a8f461d1065",
+    },
+    Case {
+        name: "validation suite, 32 octets of text, 0 of additional data",
+        key: "9971071059abc009e4f2bd69869db338",
+        iv: "07a9a95ea3821e9c13c63251",
+        extra: "",
+        text: "f54bc3501fed4f6f6dfb5ea80106df0bd836e6826225b75c0222f6e859b35983",
+        sealed: "0556c159f84ef36cb1602b4526b12009c775611bffb64dc0d9ca9297cd2c6a01",
+        tag: "7870d9117f54811a346970f1de090c41",
+    },
+    Case {
+        name: "validation suite, 32 octets of text, 90 of additional data",
+        key: "8fbf7ca12fd525dde91e625873fe51c2",
+        iv: "200bea517b9790a1cfadaf5e",
+        extra: "a414c07fe2e60bec9ccc409e9e899c6fe60580bb2607c861f7f08523e69cda1b9c3a711d1d9c35091771e4c950b9996d0ad04f2e00d1b3105853542a96e09ffffc2ec80f8cf88728f594f0aeb14f98a688234e8bfbf70327b364",
+        text: "39d3e6277c4b4963840d1642e6faae0a5be2da97f61c4e55bb57ce021903d4c4",
+        sealed: "fe678ef76f69ac95db553b6dadd5a07a9dc8e151fe6a9fa3a1cd621636b87868",
+        tag: "7c860774f88332b9a7ce6bbd0272a727",
+    },
+    Case {
+        name: "validation suite, 51 octets of text, 20 of additional data",
+        key: "fe47fcce5fc32665d2ae399e4eec72ba",
+        iv: "5adb9609dbaeb58cbd6e7275",
+        extra: "88319d6e1d3ffa5f987199166c8a9b56c2aeba5a",
+        text: "7c0e88c88899a779228465074797cd4c2e1498d259b54390b85e3eef1c02df60e743f1b840382c4bccaf3bafb4ca8429bea063",
+        sealed: "98f4826f05a265e6dd2be82db241c0fbbbf9ffb1c173aa83964b7cf5393043736365253ddbc5db8778371495da76d269e5db3e",
+        tag: "291ef1982e4defedaa2249f898556b47",
+    },
+    Case {
+        name: "validation suite, 51 octets of text, 90 of additional data",
+        key: "2c1f21cf0f6fb3661943155c3e3d8492",
+        iv: "23cb5ff362e22426984d1907",
+        extra: "5d3624879d35e46849953e45a32a624d6a6c536ed9857c613b572b0333e701557a713e3f010ecdf9a6bd6c9e3e44b065208645aff4aabee611b391528514170084ccf587177f4488f33cfb5e979e42b6e1cfc0a60238982a7aec",
+        text: "42f758836986954db44bf37c6ef5e4ac0adaf38f27252a1b82d02ea949c8a1a2dbc0d68b5615ba7c1220ff6510e259f06655d8",
+        sealed: "81824f0e0d523db30d3da369fdc0d60894c7a0a20646dd015073ad2732bd989b14a222b6ad57af43e1895df9dca2a5344a62cc",
+        tag: "57a3ee28136e94c74838997ae9823f3a",
+    },
+];
+
+// The frames of IEEE Std 802.1AE, annex C, under GCM-AES-128.
+const ANNEX_C: [Case; 8] = [
+    Case {
+        name: "IEEE Std 802.1AE, annex C, 54-octet frame, integrity",
+        key: "ad7a2bd03eac835a6f620fdcb506b345",
+        iv: "12153524c0895e81b2c28465",
+        extra: "d609b1f056637a0d46df998d88e5222ab2c2846512153524c0895e8108000f101112131415161718191a1b1c1d1e1f202122232425262728292a2b2c2d2e2f30313233340001",
+        text: "",
+        sealed: "",
+        tag: "f09478a9b09007d06f46e9b6a1da25dd",
+    },
+    Case {
+        name: "IEEE Std 802.1AE, annex C, 60-octet frame, confidentiality",
+        key: "ad7a2bd03eac835a6f620fdcb506b345",
+        iv: "12153524c0895e81b2c28465",
+        extra: "d609b1f056637a0d46df998d88e52e00b2c2846512153524c0895e81",
+        text: "08000f101112131415161718191a1b1c1d1e1f202122232425262728292a2b2c2d2e2f303132333435363738393a0002",
+        sealed: "701afa1cc039c0d765128a665dab69243899bf7318ccdc81c9931da17fbe8edd7d17cb8b4c26fc81e3284f2b7fba713d",
+        tag: "4f8d55e7d3f06fd5a13c0c29b9d5b880",
+    },
+    Case {
+        name: "IEEE Std 802.1AE, annex C, 60-octet frame, integrity",
+        key: "071b113b0ca743fecccf3d051f737382",
+        iv: "f0761e8dcd3d000176d457ed",
+        extra: "e20106d7cd0df0761e8dcd3d88e5400076d457ed08000f101112131415161718191a1b1c1d1e1f202122232425262728292a2b2c2d2e2f303132333435363738393a0003",
+        text: "",
+        sealed: "",
+        tag: "0c017bc73b227dfcc9bafa1c41acc353",
+    },
+    Case {
+        name: "IEEE Std 802.1AE, annex C, 54-octet frame, confidentiality",
+        key: "071b113b0ca743fecccf3d051f737382",
+        iv: "f0761e8dcd3d000176d457ed",
+        extra: "e20106d7cd0df0761e8dcd3d88e54c2a76d457ed",
+        text: "08000f101112131415161718191a1b1c1d1e1f202122232425262728292a2b2c2d2e2f30313233340004",
+        sealed: "13b4c72b389dc5018e72a171dd85a5d3752274d3a019fbcaed09a425cd9b2e1c9b72eee7c9de7d52b3f3",
+        tag: "d6a5284f4a6d3fe22a5d6c2b960494c3",
+    },
+    Case {
+        name: "IEEE Std 802.1AE, annex C, 65-octet frame, integrity",
+        key: "013fe00b5f11be7f866d0cbbc55a7a90",
+        iv: "7cfde9f9e33724c68932d612",
+        extra: "84c5d513d2aaf6e5bbd2727788e523008932d6127cfde9f9e33724c608000f101112131415161718191a1b1c1d1e1f202122232425262728292a2b2c2d2e2f303132333435363738393a3b3c3d3e3f0005",
+        text: "",
+        sealed: "",
+        tag: "217867e50c2dad74c28c3b50abdf695a",
+    },
+    Case {
+        name: "IEEE Std 802.1AE, annex C, 61-octet frame, confidentiality",
+        key: "013fe00b5f11be7f866d0cbbc55a7a90",
+        iv: "7cfde9f9e33724c68932d612",
+        extra: "84c5d513d2aaf6e5bbd2727788e52f008932d6127cfde9f9e33724c6",
+        text: "08000f101112131415161718191a1b1c1d1e1f202122232425262728292a2b2c2d2e2f303132333435363738393a3b0006",
+        sealed: "3a4de6fa32191014dbb303d92ee3a9e8a1b599c14d22fb080096e13811816a3c9c9bcf7c1b9b96da809204e29d0e2a7642",
+        tag: "bfd310a4837c816ccfa5ac23ab003988",
+    },
+    Case {
+        name: "IEEE Std 802.1AE, annex C, 79-octet frame, integrity",
+        key: "88ee087fd95da9fbf6725aa9d757b0cd",
+        iv: "7ae8e2ca4ec500012e58495c",
+        extra: "68f2e77696ce7ae8e2ca4ec588e541002e58495c08000f101112131415161718191a1b1c1d1e1f202122232425262728292a2b2c2d2e2f303132333435363738393a3b3c3d3e3f404142434445464748494a4b4c4d0007",
+        text: "",
+        sealed: "",
+        tag: "07922b8ebcf10bb2297588ca4c614523",
+    },
+    Case {
+        name: "IEEE Std 802.1AE, annex C, 75-octet frame, confidentiality",
+        key: "88ee087fd95da9fbf6725aa9d757b0cd",
+        iv: "7ae8e2ca4ec500012e58495c",
+        extra: "68f2e77696ce7ae8e2ca4ec588e54d002e58495c",
+        text: "08000f101112131415161718191a1b1c1d1e1f202122232425262728292a2b2c2d2e2f303132333435363738393a3b3c3d3e3f404142434445464748490008",
+        sealed: "c31f53d99e5687f7365119b832d2aae70741d593f1f9e2ab3455779b078eb8feacdfec1f8e3e5277f8180b43361f6512adb16d2e38548a2c719dba7228d840",
+        tag: "88f8757adb8aa788d8f65ad668be70e7",
+    },
+];
+
+// Octets drawn at random and sealed by OpenSSL, at lengths that the published cases leave out.
+const OPENSSL: [Case; 4] = [
+    Case {
+        name: "OpenSSL, 1 octet of text, 0 of additional data",
         key: "f1498a8e3774b8e69ea4dc0b5e326c74",
         iv: "45174c434b2822ebec55a891",
         extra: "",
@@ -91,7 +266,7 @@ const CASES: [Case; 16] = [
         tag: "d5391d652e11812a0c5eb7da5b106f1e",
     },
     Case {
-        name: "15 octets of text, 1 of additional data",
+        name: "OpenSSL, 15 octets of text, 1 of additional data",
         key: "5202491c12e00bd88edbddf5728d21ce",
         iv: "f515ee00687bcfbc9e093f1d",
         extra: "2c",
@@ -100,25 +275,7 @@ const CASES: [Case; 16] = [
         tag: "dee866836ef281b9778e06cdbe789a48",
     },
     Case {
-        name: "16 octets of text, 0 of additional data",
-        key: "f34173ce83fd072f647886275c66155c",
-        iv: "897ac361f0367bcd65cdc94a",
-        extra: "",
-        text: "b28e3a26f179daeffdf0590c8331ca0c",
-        sealed: "281ce5a4181cd9bf059843a59009fd29",
-        tag: "2c5c98234b77981a676e35a772b1e6c7",
-    },
-    Case {
-        name: "16 octets of text, 16 of additional data",
-        key: "217ac52c29e311d8199463ad13378be6",
-        iv: "d27d40d8573da471aa97525f",
-        extra: "11fcd69c77569437a53c679a25b51e58",
-        text: "4840583d93a323e44135382461af9665",
-        sealed: "12c7ed28750a925b138d7e2f385a54b5",
-        tag: "b28c3f64d1d40c81bf4df5d96b228f8f",
-    },
-    Case {
-        name: "17 octets of text, 15 of additional data",
+        name: "OpenSSL, 17 octets of text, 15 of additional data",
         key: "f4a9dd438bd7f2769004ab556a237c26",
         iv: "7b8ab5dc0ab9f5a231c35e6a",
         extra: "72044b244ca8202827ed4bdc410073",
@@ -127,7 +284,7 @@ const CASES: [Case; 16] = [
         tag: "76a874bed16bc3cb7c95ae797cb6bc8d",
     },
     Case {
-        name: "31 octets of text, 33 of additional data",
+        name: "OpenSSL, 31 octets of text, 33 of additional data",
         key: "f8923c05cf37144b5219fb3640fe88e9",
         iv: "bbf77c61101c31bf422ef60e",
         extra: "b55b1ea74a2cc423ed5395e9bbe6abfbf3434713e9b710bb9d272dc37e665f6924",
@@ -135,32 +292,63 @@ const CASES: [Case; 16] = [
         sealed: "f4e51a451014f0d5557396e6003ec3d3fbbf53e0300fed28ed92b6990e5b1c",
         tag: "9b0c3e05b3e2a38998fee23427c9f1f3",
     },
+];
+
+// What the validation suite says is refused; no text is known.
+const REFUSED: [Case; 6] = [
     Case {
-        name: "32 octets of text, 0 of additional data",
-        key: "2d413c837918497169a01ca21df30083",
-        iv: "1730e65c789f90b6c7711999",
+        name: "validation suite, 0 octets of text, 0 of additional data, refused",
+        key: "a49a5e26a2f8cb63d05546c2a62f5343",
+        iv: "907763b19b9b4ab6bd4f0281",
         extra: "",
-        text: "18eedb5490a825836ddb28244bdecff6716faaaaf6c0818f0077428b5a080bcf",
-        sealed: "9619606e3d7616a77f45074c9314a7948b3c29c81c622d926009e14dfccafb0c",
-        tag: "fa5319cf2e5d45f6159c465241bb061e",
+        text: "",
+        sealed: "",
+        tag: "a2be08210d8c470a8df6e8fbd79ec5cf",
     },
     Case {
-        name: "52 octets of text, 28 of additional data",
-        key: "6dd46964b292a3b4d71d7aad3964e4e2",
-        iv: "74391d092e49fea8a1f428a7",
-        extra: "95346c15d7e599800386c3eba332610e3ead56b1372306d26b7f4210",
-        text: "be17b69a304c88df9588f202d466ec39785ab01c06b6ca829a91988fab9d7a6092703dd8ed3ff0b39da1b2e2d86a864d093f984e",
-        sealed: "c7b5d84467d51bb69fea22926acfb3c12a80d7ed40d7682117524e5da09637f130adbbd7e57afbe9de1faf170ddd3686f782f8cb",
-        tag: "f59f5b1e49018f09d6ab7bc3c03682e9",
+        name: "validation suite, 13 octets of text, 16 of additional data, refused",
+        key: "2aa3dfcef68c333d0f03cbbb60a2dac8",
+        iv: "667a61d732780f5694128daf",
+        extra: "227f0dddc71aa2cc20c901fcb8db0e15",
+        text: "",
+        sealed: "9fade7c433cb44d5ebec14095d",
+        tag: "85f30c02962900f8891a9b6987172256",
     },
     Case {
-        name: "48 octets of text, 48 of additional data",
-        key: "115a1245341a60349e62e6d9dd9219f9",
-        iv: "d92a1ad2c034fb5a4760292a",
-        extra: "e73d485663897f934d5e8b198bae917be111e7a557d4b78971440da7522b73c31a43d4e24dbb31b4fe0c347b3c145e88",
-        text: "9e51773cd14db688bb29302b52ad1aa35085889e281817c3ddba1a92c9bc0d27c38bf5a28649f6d592dcff74987b2705",
-        sealed: "34466d2898195c145c73517b559d2decbaf0af12344bac188ea96ccfa21d14cebb55285bffc6843898004b45bb1a45be",
-        tag: "cf736e73df9f6fa0e62fdbe255ee93c4",
+        name: "validation suite, 16 octets of text, 20 of additional data, refused",
+        key: "4cf56dd7eb109452d7445e79bcad4f86",
+        iv: "5f3724b27c345ed5d1757e9e",
+        extra: "20fe2aa2641db7318aa5e339b1e303f952b05dc8",
+        text: "",
+        sealed: "2d0581c040f4e2bb74423682113b818c",
+        tag: "f090c0cba2151af2e78ef407720233db",
+    },
+    Case {
+        name: "validation suite, 32 octets of text, 48 of additional data, refused",
+        key: "ab124c19896f9a725cd84bc65c0b769d",
+        iv: "8be6b8884adb0acb19776719",
+        extra: "f3f8c4d2edf80986c33940a9dfce5c64ac314d9969bad730bb719a4a39551eda6b771b6941ba301a4bcf2c7e69c8a000",
+        text: "",
+        sealed: "a77bc17b558e829efdf4508c62761520a44920840c4d8e8cad0564931ffb6f0f",
+        tag: "890106f841f36315a7fed2ffb57f2dbb",
+    },
+    Case {
+        name: "validation suite, 51 octets of text, 90 of additional data, refused",
+        key: "1986310c725ac94ecfe6422e75fc3ee7",
+        iv: "93ec4214fa8e6dc4e3afc775",
+        extra: "e80b88e62c49c958b5e0b8b54f532d9ff6aa84c8a40132e93e55b59fc24e8decf28463139f155d1e8ce4ee76aaeefcd245baa0fc519f83a5fb9ad9aa40c4b21126013f576c4272c2cb136c8fd091cc4539877a5d1e72d607f960",
+        text: "",
+        sealed: "b178ec72f85a311ac4168f42a4b2c23113fbea4b85f4b9dabb74e143eb1b8b0a361e0243edfd365b90d5b325950df0ada058f9",
+        tag: "8b347853f11d75e81e8a95010be81f17",
+    },
+    Case {
+        name: "validation suite, 0 octets of text, 90 of additional data, refused",
+        key: "c1e007d318d0e5c87d28fd890dfb04ba",
+        iv: "d7bc58d494491ff57639b60b",
+        extra: "10c68681c6d700ffc72ea9a790cdc9ddc1904c7e886e23ca166dbfa364a4c5f95205bdd1f22eeebefbbb9375f1a416ec7faed6cfdf706085f8fd2632c7a261a78875811f17fba19baf905f0aa623e67175f2158cda313a5047e3",
+        text: "",
+        sealed: "",
+        tag: "2f1ede16f025bc8c5421854b5f0109d1",
     },
 ];
 
@@ -181,34 +369,6 @@ const LONG: [(usize, usize, &str, &str); 3] = [
     ),
     (0, 65536, "", "d73f29114e559e2596a41b2a52632de9"),
 ];
-
-fn digit(c: u8) -> u8 {
-    match c {
-        b'0'..=b'9' => c - b'0',
-        b'a'..=b'f' => c - b'a' + 10,
-        _ => 0,
-    }
-}
-
-fn octets(alloc: Global, digits: &str) -> Result<Vec<u8>, AllocError> {
-    let mut octets = Vec::new(alloc);
-    for pair in digits.as_bytes().chunks(2) {
-        if let [high, low] = pair {
-            octets.push(digit(*high) << 4 | digit(*low))?;
-        }
-    }
-    Ok(octets)
-}
-
-fn array<const N: usize>(digits: &str) -> [u8; N] {
-    let mut array = [0; N];
-    for (octet, pair) in array.iter_mut().zip(digits.as_bytes().chunks(2)) {
-        if let [high, low] = pair {
-            *octet = digit(*high) << 4 | digit(*low);
-        }
-    }
-    array
-}
 
 // Octet i is step * i + first, modulo 256.
 fn counted(alloc: Global, len: usize, step: u8, first: u8) -> Result<Vec<u8>, AllocError> {
@@ -270,12 +430,12 @@ fn is_refused_when_changed(
 }
 
 fn is_sealed(rt: &impl Abort, alloc: Global, case: &Case) -> Result<(), Fail> {
-    let key = Key::k128(&array(case.key));
-    let iv = array(case.iv);
-    let tag = array(case.tag);
-    let extra = octets(alloc, case.extra)?;
-    let plain = octets(alloc, case.text)?;
-    let sealed = octets(alloc, case.sealed)?;
+    let key = Key::k128(&<[u8; 16]>::from_hex(case.key)?);
+    let iv = <[u8; 12]>::from_hex(case.iv)?;
+    let tag = <[u8; 16]>::from_hex(case.tag)?;
+    let extra = hex::decode(alloc, case.extra)?;
+    let plain = hex::decode(alloc, case.text)?;
+    let sealed = hex::decode(alloc, case.sealed)?;
     let mut text = plain.clone()?;
     assert!(rt; extra.len() <= 65536);
     assert!(rt; text.len() <= 65536);
@@ -298,8 +458,24 @@ fn is_sealed(rt: &impl Abort, alloc: Global, case: &Case) -> Result<(), Fail> {
 
 #[test]
 fn seals_and_unseals(rt: HostRuntime) -> Result<(), Fail> {
-    for case in &CASES {
-        is_sealed(&rt, rt.alloc(), case)?;
+    let tables: [&[Case]; 4] = [&SUBMISSION, &SUITE, &ANNEX_C, &OPENSSL];
+    for table in tables {
+        for case in table {
+            is_sealed(&rt, rt.alloc(), case)?;
+        }
+    }
+    Ok(())
+}
+
+#[test]
+fn refuses_what_was_not_sealed(rt: HostRuntime) -> Result<(), Fail> {
+    for case in &REFUSED {
+        let key = Key::k128(&<[u8; 16]>::from_hex(case.key)?);
+        let iv = <[u8; 12]>::from_hex(case.iv)?;
+        let tag = <[u8; 16]>::from_hex(case.tag)?;
+        let extra = hex::decode(rt.alloc(), case.extra)?;
+        let sealed = hex::decode(rt.alloc(), case.sealed)?;
+        is_refused(&rt, &key, iv, extra.as_slice(), &sealed, tag)?;
     }
     Ok(())
 }
@@ -313,7 +489,7 @@ fn seals_up_to_the_greatest_length(rt: HostRuntime) -> Result<(), Fail> {
         let mut text = counted(rt.alloc(), len, 7, 3)?;
         assert!(rt; extra.len() <= 65536);
         assert!(rt; text.len() <= 65536);
-        let tag = array(tag);
+        let tag = <[u8; 16]>::from_hex(tag)?;
         assert_eq!(rt;
             seal(&key, iv, extra.as_slice(), text.as_mut_slice()),
             tag,
@@ -321,7 +497,7 @@ fn seals_up_to_the_greatest_length(rt: HostRuntime) -> Result<(), Fail> {
         );
         assert!(rt;
             text.as_slice()
-                .ends_with(octets(rt.alloc(), end)?.as_slice())
+                .ends_with(hex::decode(rt.alloc(), end)?.as_slice())
         );
         is_refused_when_changed(&rt, &key, iv, &extra, &text, tag)?;
     }

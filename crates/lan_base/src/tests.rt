@@ -8,6 +8,18 @@ use std::test::Fail;
 
 const WORD: &[u8] = b"octets";
 
+#[test]
+fn grows_and_is_copied(rt: HostRuntime) -> Result<(), Fail> {
+    let mut octets = Octets::from_slice(rt.alloc(), WORD)?;
+    octets.extend(b" of")?;
+    let copy = octets.copied(rt.alloc())?;
+    octets.extend(b" a LAN")?;
+    let wants: [&[u8]; 2] = [b"octets of a LAN", b"octets of"];
+    assert_eq!(rt; octets.as_slice(), wants[0]);
+    assert_eq!(rt; copy.as_slice(), wants[1]);
+    Ok(())
+}
+
 // Counts from one, big-endian, as the trace format says.
 #[test]
 fn counts_from_one(rt: HostRuntime) {

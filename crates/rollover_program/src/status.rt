@@ -1,4 +1,6 @@
-use crate::halt::Halt;
+ghost use Rattle.std.specs.Prelude.{◌≡◌, ℕ};
+
+use crate::halt::{Halt, Kind, Which};
 use thiserror::Error;
 
 /// How the program ended. The text of a status other than `Done` is the program's line on standard
@@ -17,7 +19,15 @@ pub enum Status {
 
 impl Status {
     /// The number that the program ends with.
-    pub fn number(self) -> u8 {
+    pub fn number(self) -> u8
+        ensures done { self ≡ Status.Done → result ≡ 0 }
+        ensures usage { self ≡ Status.Usage → result ≡ 1 }
+        ensures trace { (line : ℕ) (kind : Kind) → self ≡ Status.Halted (Halt.Trace line kind) → result ≡ 2 }
+        ensures read_fault { self ≡ Status.Halted Halt.ReadFault → result ≡ 3 }
+        ensures write_fault { self ≡ Status.Halted Halt.WriteFault → result ≡ 4 }
+        ensures memory { self ≡ Status.Halted Halt.Memory → result ≡ 5 }
+        ensures limit { (which : Which) → self ≡ Status.Halted (Halt.Limit which) → result ≡ 6 }
+    {
         match self {
             Status::Done => 0,
             Status::Usage => 1,
