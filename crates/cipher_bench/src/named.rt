@@ -1,5 +1,8 @@
 //! The tests and their names.
 
+ghost use Rattle.std.specs.Prelude.{◌≡◌, ◌≢◌, MatchResult};
+ghost use Rattle.cipher_bench.specs.Names.{name};
+
 use anyhow::bail;
 use std::str::FromStr;
 
@@ -23,8 +26,14 @@ pub enum Frame {
 }
 
 impl FromStr for Test {
+    ghost use Rattle.cipher_bench.specs.declared.named.Test.{Test};
+
     type Err = anyhow::Error;
 
+    ghost from_str_gives = { λ word r.
+        MatchResult r (λ test. word ≡ name test) (λ _. (test : Test) → word ≢ name test) };
+
+    /// Reads the name of a test. Any other word is an error.
     fn from_str(word: &str) -> anyhow::Result<Test> {
         Ok(match word {
             "aes128_block" => Test::Block,

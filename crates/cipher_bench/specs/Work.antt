@@ -1,0 +1,62 @@
+-- What the work of each test comes to after n times, on lists of octets.
+use Rattle.std.specs.Prelude.{ℕ, zero, suc, ◌+◌, ◌-◌, ◌*◌, ◌%◌, List, [], ◌∷◌, map, replicate, slice_index, slice_set, bit_xor}
+use Rattle.std.specs.List.{range_with_len}
+use Rattle.aes_block.specs.Aes.{aes}
+use Rattle.aes_cmac.specs.Cmac.{cmac}
+use Rattle.gcm_core.specs.Gcm.{gcm}
+use Rattle.cipher_bench.specs.declared.named.Frame.{Frame}
+use Rattle.cipher_bench.specs.declared.named.Frame.TheVariants.{Octets64, Octets512, Octets1500}
+use Rattle.cipher_bench.specs.declared.named.Test.{Test}
+use Rattle.cipher_bench.specs.declared.named.Test.TheVariants.{Block, Cmac, Gcm}
+
+-- so many octets, which begin from zero and rise by a step, modulo 256
+unfoldable pub octets : ℕ → ℕ → List ℕ
+octets step count = map (λ i. step * i % 256) (range_with_len 0 count)
+
+-- the key of every test: 0, 1 and so on to 15
+abbrev pub key : List ℕ
+key = octets 1 16
+
+-- the block: zero at first, and then the cipher of the block before
+abbrev pub block_after : ℕ → List ℕ
+block_after zero = replicate 16 0
+block_after (suc n) = aes key (block_after n)
+
+-- a message with the first octet of a value added to its own, bit by bit
+abbrev pub changed : List ℕ → List ℕ → List ℕ
+changed message value = slice_set message 0 (bit_xor (slice_index message 0) (slice_index value 0))
+
+-- the message: 150 octets at first, and then the message before, changed by its CMAC
+abbrev pub message_after : ℕ → List ℕ
+message_after zero = octets 7 150
+message_after (suc n) = changed (message_after n) (cmac key (message_after n))
+
+-- the value: zero at first, and then the CMAC of the message before
+abbrev pub value_after : ℕ → List ℕ
+value_after zero = replicate 16 0
+value_after (suc n) = cmac key (message_after n)
+
+-- the IV, whose last octet counts on from 1, modulo 256
+abbrev pub iv_after : ℕ → List ℕ
+iv_after n = 2 ∷ 0 ∷ 0 ∷ 0 ∷ 0 ∷ 10 ∷ 0 ∷ 1 ∷ 0 ∷ 0 ∷ 0 ∷ ((1 + n) % 256) ∷ []
+
+-- the tag: zero at first, and then that of a text of so many octets, with 28 octets of additional data, under the IV
+abbrev pub tag_after : ℕ → ℕ → List ℕ
+tag_after length zero = replicate 16 0
+tag_after length (suc n) = (gcm key (iv_after (suc n)) (octets 1 28) (octets 7 length)).1
+
+-- how many octets a frame has
+abbrev pub frame_length : Frame → ℕ
+frame_length Octets64 = 64
+frame_length Octets512 = 512
+frame_length Octets1500 = 1500
+
+-- how many of them are sealed: all but two addresses of 6 octets
+abbrev pub text_length : Frame → ℕ
+text_length frame = frame_length frame - 12
+
+-- the last result of a test that was done n times
+abbrev pub last_result : Test → ℕ → List ℕ
+last_result Block n = block_after n
+last_result Cmac n = value_after n
+last_result (Gcm frame) n = tag_after (text_length frame) n
