@@ -3,7 +3,7 @@ use Rattle.std.specs.Prelude.{◌≡◌, ℕ, ◌-◌, ◌≤◌, List, [], ◌�
 use Rattle.std.specs.List.{list_all}
 use Rattle.std.specs.Char.{is_ascii_alphabetic, is_ascii_alphanumeric}
 
--- a letter, and then at most 15 letters and digits, all ASCII
+-- an ASCII letter and up to 15 further ASCII letters or digits
 abbrev pub is_name : List ℕ → Bool
 is_name [] = false
 is_name (first ∷ others) =

@@ -8,7 +8,7 @@ pub trait Draws {
     /// of a listed supply on there are none.
     ghost nth: { Self → ℕ → Option (List ℕ) };
 
-    /// Takes the next value; `None` where a listed supply is used up.
+    /// Takes the next value; `None` where a supply has no more.
     fn draw(&mut self) -> Option<[u8; 16]>
         ensures next { result ≡ nth self.old 0 }
         ensures taken { OnSome result ((k : ℕ) → nth self.new k ≡ nth self.old (k + 1)) }

@@ -10,7 +10,7 @@ use std::marker::Model;
 
 const LONGEST: usize = 16;
 
-/// A station's name: a letter, and then at most 15 letters and digits, all ASCII. Contracts see its
+/// A station's name: an ASCII letter and up to 15 further ASCII letters or digits. Contracts see its
 /// octets.
 #[derive(Clone, Copy, PartialEq, Eq, Hash, PartialOrd, Ord)]
 pub struct Name {
@@ -70,7 +70,7 @@ impl fmt::Debug for Name {
     }
 }
 
-/// Whether a word is a letter, and then at most 15 letters and digits, all ASCII.
+/// Whether a word is an ASCII letter and up to 15 further ASCII letters or digits.
 fn is_name(word: &[u8]) -> bool
     ensures { result ≡ is_name word.now }
 {

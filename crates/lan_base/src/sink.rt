@@ -27,7 +27,7 @@ impl From<AllocError> for Unwritten {
     }
 }
 
-/// Where octets go. A count of faults that stands at 2^64 - 1 counts as risen.
+/// Where octets go. A count of faults has risen, too, where it cannot rise: at 2^64 - 1.
 pub trait Sink {
     /// The octets that the sink holds, where it tells them.
     ghost held: { Self → Option (List ℕ) };

@@ -13,7 +13,7 @@ use thiserror::Error;
 #[error("the outside failed")]
 pub struct Failed;
 
-/// Where octets come from. A count of faults that stands at 2^64 - 1 counts as risen.
+/// Where octets come from. A count of faults has risen, too, where it cannot rise: at 2^64 - 1.
 pub trait Source {
     /// The octets that are left, where the source tells them.
     ghost left: { Self → Option (List ℕ) };

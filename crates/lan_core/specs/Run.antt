@@ -38,7 +38,7 @@ framed (Life station mi) = []
 framed (Ticked station at next) = []
 framed (Framed number station sec octets) = octets ∷ []
 
--- the air: every frame that was put on it, newest first; frame n is the n-th from the end
+-- the air: every frame that was put on it, newest first, so that the frames are numbered from the back
 abbrev pub air : Run → List (List ℕ)
 air [] = []
 air (x ∷ r) = flat_map framed x.facts ++ air r

@@ -5,7 +5,7 @@ use lan_base::{Name, Sci};
 pub enum Event {
     /// A station begins its first life.
     Start { name: Name, sci: Sci, priority: u8 },
-    /// 0.1 s passes at one station. `next` is the packet number that its transmitting association
-    /// shows, 0 where it has none.
+    /// A tick of 0.1 s at one station. `next` is the packet number that its next protected frame would
+    /// have, or 0 while no association transmits.
     Tick { station: u8, next: u64 },
 }

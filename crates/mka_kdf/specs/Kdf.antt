@@ -18,7 +18,7 @@ blocks key label context bits (suc n) =
 unfoldable pub derived : List ℕ → List ℕ → List ℕ → ℕ → List ℕ
 derived key label context len = take len (blocks key label context (8 * len) ((len + 15) / 16))
 
--- the first 16 octets of the CKN, padded with zero octets
+-- 16 octets of the CKN from its start, and zeros where it is shorter
 abbrev pub context_of : List ℕ → List ℕ
 context_of ckn = take 16 (ckn ++ replicate 16 0)
 

@@ -63,7 +63,7 @@ impl Group {
     }
 }
 
-/// The first 16 octets of a CKN, padded with zero octets.
+/// 16 octets of a CKN from its start, and zeros where it is shorter.
 fn context_of(ckn: &[u8]) -> [u8; 16]
     ensures { result ≡ context_of ckn.now }
 {

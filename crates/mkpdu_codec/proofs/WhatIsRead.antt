@@ -242,7 +242,7 @@ read_is_spelled frame s bytes e =
           let same : made ≡ s = cc in
           subst (λ (x : Spelled). Spells frame x.announcement x.covered x.check) same (spelled_from frame bytes m l b h gathers known)
 
--- every frame has a spelling or a refusal
+-- a frame without a refusal has a spelling
 pub spelled_or_refused : (frame : List ℕ) → IsBytes frame → ((a : Announcement) × ((m : ℕ) × ((c : List ℕ) × Spells frame a m c))) ⊎ ((e : Refusal) × (refused frame ≡ Some e))
 spelled_or_refused frame bytes = go (reading frame) refl where
   go : (r : Result Spelled Refusal) → reading frame ≡ r → ((a : Announcement) × ((m : ℕ) × ((c : List ℕ) × Spells frame a m c))) ⊎ ((e : Refusal) × (refused frame ≡ Some e))

@@ -101,7 +101,7 @@ fn basic_of<'a>(set: ParameterSet<'a>) -> Option<Basic<'a>>
     })
 }
 
-/// Reads the set in front, which has a name of 1 to 32 octets, and answers it with the octets behind it.
+/// Reads the set in front, which has a name of 1 to 32 octets. The octets that follow it are left.
 #[tactic(auto, unfolding(crate::specs::Fields::basic_at))]
 pub fn read_basic(octets: &[u8]) -> Option<(Basic<'_>, &[u8])>
     ensures value { Finds (λ x. (basics_of x.0, x.1.now)) result (basic_at octets.now) }

@@ -4,8 +4,8 @@ use lan_base::Mi;
 use std::alloc::{AllocError, Global};
 use std::marker::Model;
 
-/// One entry of a peer list (IEEE Std 802.1X, clause 11): a member identifier, and the number of the
-/// last message that was accepted from it.
+/// What a peer list says of one member (IEEE Std 802.1X, clause 11): its identifier, and the number of
+/// the last message that was accepted from it.
 #[derive(Clone, Copy, Debug, PartialEq, Eq)]
 pub struct Peer {
     pub mi: Mi,

@@ -79,7 +79,7 @@ pub fn put_peers(kind: u8, peers: &Peers, into: &mut Vec<u8>)
     }
 }
 
-/// Reads the entry in front, and answers it with the octets behind it.
+/// Reads the entry in front. The octets that follow it are left.
 #[tactic(auto, unfolding(crate::specs::Fields::entry_at))]
 fn read_entry(octets: &[u8]) -> Option<(Peer, &[u8])>
     ensures { Finds (λ x. (x.0, x.1.now)) result (entry_at octets.now) }

@@ -63,7 +63,7 @@ pub fn put_padding(len: usize, into: &mut Vec<u8>)
     put(into, &[0; 3][..missing_after(len)]);
 }
 
-/// Reads the set in front, with its padding, and answers it with the octets behind it.
+/// Reads the set in front, with its padding. The octets that follow it are left.
 #[tactic(auto, unfolding(crate::specs::Fields::set_at))]
 pub fn read_set(octets: &[u8]) -> Option<(ParameterSet<'_>, &[u8])>
     ensures { Finds (λ x. (set_of x.0, x.1.now)) result (set_at octets.now) }

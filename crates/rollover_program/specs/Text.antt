@@ -24,7 +24,7 @@ without_last_empty pieces = if ends_empty pieces then take (length pieces - 1) p
 abbrev pub lines_of : List ℕ → List (List ℕ)
 lines_of text = without_last_empty (slice_split (λ octet. octet == 10) text)
 
--- the words of a line: the longest runs of octets other than space and tab
+-- the words of a line: what stands between spaces and tabs, without the empty pieces
 abbrev pub words_of : List ℕ → List (List ℕ)
 words_of line = filter (λ word. nat_lt 0 (length word)) (slice_split (λ octet. octet == 32 || octet == 9) line)
 

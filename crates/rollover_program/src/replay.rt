@@ -1,4 +1,4 @@
-//! A trace is performed line by line, and the facts of each event are written before the next event.
+//! A trace is performed line by line, and what an event shows is written before the next one begins.
 
 ghost use Rattle.std.specs.Prelude.{[], Some, Err, ◌⊎◌, ◌≡◌, ◌<◌, ◌≤◌, ◌+◌, ◌-◌, ◌^◌, ◌++◌, ℕ, List, Option, Result, IfOk, IfErr, OnOk, length};
 ghost use Rattle.lan_base.specs.Counted.{counted};

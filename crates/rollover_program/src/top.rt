@@ -13,11 +13,11 @@ use crate::status::Status;
 use lan_base::{Sink, Source};
 use std::alloc::Global;
 
-/// Performs a command: `words` are the words after the program's name.
+/// Performs a command, whose words come without the program's name.
 ///
 /// `run` reads a trace from the source to its end, performs its lines, and writes the transcript to the
-/// sink; the facts of an event are written before the next event is performed. Clauses that name a text
-/// speak of a source that tells its octets.
+/// sink, that of each event before the next event begins. Clauses that name a text speak of a source
+/// that tells its octets.
 pub fn rollover<S: Source, K: Sink>(
     alloc: Global,
     words: &[String],

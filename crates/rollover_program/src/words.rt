@@ -10,7 +10,7 @@ ghost use Rattle.rollover_program.specs.Text.{ends_empty, is_number};
 use hex::FromHex;
 use std::alloc::{AllocError, Global};
 
-/// The words of a line: the longest runs of octets other than space and tab.
+/// The words of a line: what stands between spaces and tabs, without the empty pieces.
 pub fn words(alloc: Global, line: &[u8]) -> Result<Vec<&[u8]>, AllocError>
     ensures { IfOk result (λ words. map (λ word. word.now) words.items ≡ words_of line.now) }
 {
