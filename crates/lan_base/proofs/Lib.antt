@@ -1,4 +1,5 @@
 pub mod Calls
+pub mod KeyStream
 pub mod Moves
 pub mod Padding
-mod Rows
+mod Examples

@@ -20,7 +20,7 @@ after-after : (told : Option (List ℕ)) (xs ys : List ℕ) → after (after tol
 after-after None xs ys = refl
 after-after (Some held) xs ys = ap Some (append_assoc held xs ys)
 
--- a front of octets, and then a front of the rest
+-- a prefix of octets, and then a prefix of the rest
 pub after-fronts : (told : Option (List ℕ)) (n m : ℕ) (octets : List ℕ) → after (after told (take n octets)) (take m (drop n octets)) ≡ after told (take (n + m) octets)
 after-fronts told n m octets =
     after-after told (take n octets) (take m (drop n octets)) ∙ ap (after told) (sym (take-add n m octets))

@@ -1,4 +1,4 @@
--- The draws of a supply that counts.
+-- The draws of a supply that counts, which is this profile's own rule.
 use Rattle.std.specs.Prelude.{ℕ, ◌+◌, ◌%◌, ◌^◌, List, Option, Some}
 use Rattle.std.specs.Int.{w128, to_be_bytes}
 

@@ -1,4 +1,5 @@
--- Counts of faults. Nothing can raise a count that stands at its type's end, so it counts as risen there.
+-- Counts of faults (this profile's own rule). Nothing can raise a count that stands at its type's
+-- end, so it counts as risen there.
 use Rattle.std.specs.Prelude.{ℕ, ◌<◌, ◌≤◌, ◌+◌, ◌-◌, ◌^◌, ◌⊎◌, min}
 
 -- the count rose from before to now, or stands at its end

@@ -1,15 +1,18 @@
--- A source and a sink in memory, whose failing calls are listed by their numbers, from 1.
+-- A source and a sink in memory (of this profile's own), whose failing calls are listed by their
+-- numbers, from 1.
 use Rattle.std.specs.Prelude.{ℕ, zero, suc, ◌+◌, ◌==◌, List, Bool, if◌then◌else◌}
 use Rattle.std.specs.List.{list_any}
 
--- what a source in memory has left, how much it gives a call at most, which calls fail, and how many calls there were
+-- what a source in memory has left, how much it gives a call at most, which calls fail, and how
+-- many calls there were
 pub record SourceInMemory : Type 0 where
   pub left : List ℕ
   pub piece : ℕ
   pub fails : List ℕ
   pub calls : ℕ
 
--- what a sink in memory holds, how much it takes a call at most, which calls fail, and how many calls there were
+-- what a sink in memory holds, how much it takes a call at most, which calls fail, and how many
+-- calls there were
 pub record SinkInMemory : Type 0 where
   pub held : List ℕ
   pub piece : ℕ

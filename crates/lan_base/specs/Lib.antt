@@ -1,7 +1,13 @@
+pub mod Timers
+pub mod Ranges
+pub mod Identifiers
+pub mod Falling
+pub mod Name
 pub mod Counted
+pub mod ChaChaDrawn
+pub mod Listed
+pub mod Told
 pub mod Faults
 pub mod InMemory
-pub mod Name
-pub mod NameFields
 pub mod Stream
-pub mod Told
+pub mod inside

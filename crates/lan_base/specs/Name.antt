@@ -1,4 +1,4 @@
--- Names of stations.
+-- Names of stations, which are this profile's own rule.
 use Rattle.std.specs.Prelude.{◌≡◌, ℕ, ◌-◌, ◌≤◌, List, [], ◌∷◌, ◌++◌, Bool, false, ◌&&◌, IsTrue, nat_le, length, take, replicate}
 use Rattle.std.specs.List.{list_all}
 use Rattle.std.specs.Char.{is_ascii_alphabetic, is_ascii_alphanumeric}

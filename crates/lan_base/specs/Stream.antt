@@ -1,4 +1,4 @@
--- What is behind a source or a sink of std.
+-- What is behind a source or a sink over std's reader or writer (this profile's own).
 use Rattle.lan_base.specs.declared.stream.StdSource.{StdSource}
 use Rattle.lan_base.specs.declared.stream.StdSink.{StdSink}
 

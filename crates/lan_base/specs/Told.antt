@@ -1,4 +1,5 @@
--- Octets that the outside may tell: what a source has left, what a sink holds. `None` tells nothing.
+-- Octets that the outside may tell (this profile's own rule): what a source has left, what a sink
+-- holds. `None` tells nothing.
 use Rattle.std.specs.Prelude.{◌≡◌, ℕ, ◌++◌, [], List, length, Option, IfSome}
 use Rattle.std.specs.Option.{option_map}
 

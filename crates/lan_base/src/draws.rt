@@ -4,8 +4,8 @@ ghost use Rattle.std.specs.Prelude.{◌≡◌, ◌+◌, List, ℕ, Option, None,
 
 /// A supply of drawn values.
 pub trait Draws {
-    /// The values still to come, by their place from 0: what stands at 0 is drawn next. From the end
-    /// of a listed supply on there are none.
+    /// The values still to come, by their place from 0: what stands at 0 is drawn next. From the
+    /// end of a listed supply on there are none.
     ghost nth: { Self → ℕ → Option (List ℕ) };
 
     /// Takes the next value; `None` where a supply has no more.

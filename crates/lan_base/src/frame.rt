@@ -1,3 +1,5 @@
+//! Frames of users, before and after they are protected.
+
 use crate::address::Mac;
 use crate::octets::Octets;
 

@@ -1,6 +1,9 @@
+//! Identifiers of keys.
+
 use crate::address::Mi;
 
-/// A key identifier (IEEE Std 802.1X, clause 9): the key server's member identifier and its key number.
+/// A key identifier (IEEE Std 802.1X, clause 9): the key server's member identifier and its key
+/// number.
 #[derive(Clone, Copy, Debug, PartialEq, Eq, Hash, PartialOrd, Ord)]
 pub struct KeyId {
     pub server: Mi,

@@ -1,28 +1,43 @@
-//! What every crate of the group speaks of: addresses, identifiers, lists of octets, frames, and the
-//! traits of the outside: where octets come from, where they go, and where drawn values come from.
+//! What every crate of the group speaks of: addresses, identifiers, lists of octets, frames, the
+//! timers and the ranges of the profile, and the traits of the outside: where octets come from,
+//! where they go, and where drawn values come from.
 #![tactic(auto)]
 
 mod address;
+mod blocks;
+mod chacha_draws;
 mod draws;
 mod frame;
 mod key_id;
+mod list_draws;
 mod memory;
 mod name;
 mod octets;
+mod ranges;
 mod sink;
 mod source;
+mod steady;
 mod stream;
+mod timers;
 
 pub use address::{Mac, Mi, Sci};
+pub use blocks::Blocks;
+pub use chacha_draws::ChaChaDraws;
 pub use draws::{CountDraws, Draws};
 pub use frame::{Protected, UserFrame};
 pub use key_id::KeyId;
+pub use list_draws::ListDraws;
 pub use memory::{MemorySink, MemorySource};
 pub use name::Name;
 pub use octets::Octets;
+pub use ranges::{CKN_MAX, USER_DATA_MAX, USER_DATA_MIN, is_ckn, is_user_data, law_ranges};
 pub use sink::{Sink, Unwritten, write_all};
 pub use source::{Failed, ReadEnd, Source, read_all};
+pub use steady::{DropSink, SteadySink, SteadySource};
 pub use stream::{StdSink, StdSource};
+pub use timers::{HELLO_TIME, LIFE_TIME, RETIRE_TIME, law_timers};
 
+#[cfg(test)]
+mod supply_tests;
 #[cfg(test)]
 mod tests;

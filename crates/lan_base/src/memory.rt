@@ -10,8 +10,8 @@ use crate::source::{Failed, Source};
 use std::alloc::Global;
 use std::marker::Model;
 
-/// A source that gives its octets, at most `piece` a call, and fails the calls whose numbers, from 1,
-/// are listed. Contracts see what is left, the piece, the failing calls and the count of calls.
+/// A source that gives its octets, at most `piece` a call, and fails the calls whose numbers, from
+/// 1, are listed. Contracts see what is left, the piece, the failing calls and the count of calls.
 #[derive(Debug, Drop)]
 pub struct MemorySource {
     octets: Octets,
@@ -71,7 +71,8 @@ impl Source for MemorySource {
         ensures moved { IfOk result (λ n. take n into.new ≡ take n self.old.left) }
         ensures after { IfOk result (λ n. self.new
             ≡ record self.old { left = drop n self.old.left; calls = one_more self.old.calls }) }
-        ensures err { OnErr result (self.new ≡ record self.old { calls = one_more self.old.calls }) }
+        ensures err { OnErr result
+            (self.new ≡ record self.old { calls = one_more self.old.calls }) }
     {
         if is_failing(&mut self.calls, &self.fails) {
             return Err(Failed);
@@ -143,13 +144,18 @@ impl Sink for MemorySink {
         requires { 0 < length piece.now }
         ensures failing { (result ≡ Err Unwritten.Failed)
             ↔ IsTrue (is_listed self.old.fails (self.old.calls + 1)) }
-        ensures faults { failures self.new.fails self.new.calls ≡ failures self.old.fails self.old.calls
+        ensures faults { failures self.new.fails self.new.calls
+            ≡ failures self.old.fails self.old.calls
             + (if is_listed self.old.fails (self.old.calls + 1) then 1 else 0) }
         ensures count { IfOk result (λ n. n ≡ min (length piece.now) self.old.piece) }
         ensures some { IfOk result (λ n. 0 < n) }
         ensures after { IfOk result (λ n. self.new
-            ≡ record self.old { held = self.old.held ++ take n piece.now; calls = one_more self.old.calls }) }
-        ensures err { OnErr result (self.new ≡ record self.old { calls = one_more self.old.calls }) }
+            ≡ record self.old {
+              held = self.old.held ++ take n piece.now;
+              calls = one_more self.old.calls;
+            }) }
+        ensures err { OnErr result
+            (self.new ≡ record self.old { calls = one_more self.old.calls }) }
     {
         if is_failing(&mut self.calls, &self.fails) {
             return Err(Unwritten::Failed);

@@ -8,10 +8,11 @@ ghost use Rattle.lan_base.specs.Name.{IsName, is_name};
 use std::fmt;
 use std::marker::Model;
 
+/// The most octets of a name.
 const LONGEST: usize = 16;
 
-/// A station's name: an ASCII letter and up to 15 further ASCII letters or digits. Contracts see its
-/// octets.
+/// A station's name: an ASCII letter and up to 15 further ASCII letters or digits. Contracts see
+/// its octets.
 #[derive(Clone, Copy, PartialEq, Eq, Hash, PartialOrd, Ord)]
 pub struct Name {
     octets: [u8; LONGEST],
@@ -24,7 +25,7 @@ impl Model for Name {
     ghost Value = { List ℕ };
 
     ghost use Rattle.lan_base.specs.Name.{IsPadded};
-    ghost use Rattle.lan_base.specs.NameFields.{fields_of, fields_of-take};
+    ghost use Rattle.lan_base.specs.inside.NameFields.{fields_of, fields_of-take};
 
     ghost view = { λ n. take n.len n.octets };
 
@@ -82,6 +83,7 @@ fn is_name(word: &[u8]) -> bool
     }
 }
 
+/// Whether each of the octets is an ASCII letter or digit.
 fn are_alphanumeric(octets: &[u8]) -> bool
     ensures { result ≡ list_all is_ascii_alphanumeric octets.now }
 {

@@ -1,4 +1,9 @@
-ghost use Rattle.std.specs.Prelude.{◌≡◌, ◌↔◌, ◌++◌, List, ℕ, [], ◌∷◌, length, IsTrue, IfOk, OnOk, OnErr};
+//! Lists of octets.
+
+ghost use Rattle.std.specs.Prelude.{◌≡◌, ◌↔◌, ◌++◌, ◌<◌, List, ℕ, [], ◌∷◌, length, nat_eq, IsTrue, IfOk, OnOk, OnErr, All};
+ghost use Rattle.std.specs.Cmp as Cmp;
+ghost use Rattle.std.specs.Cmp.Lexicographic.{pointwise};
+ghost use Rattle.std.proofs.lemmas.Cmp.{nat_list_eq_equiv};
 
 use std::alloc::{AllocError, Global};
 use std::marker::Model;
@@ -40,22 +45,28 @@ impl Octets {
         Ok(Octets { octets })
     }
 
+    /// How many octets there are.
     pub fn len(&self) -> usize
         ensures { result ≡ length self.now }
     {
         self.octets.len()
     }
 
+    /// Whether there are none.
     pub fn is_empty(&self) -> bool
         ensures { IsTrue result ↔ (self.now ≡ []) }
     {
         self.octets.is_empty()
     }
 
+    /// The octets.
     pub fn as_slice(&self) -> &[u8]
-        ensures { result.now ≡ self.now }
+        ensures value { result.now ≡ self.now }
+        ensures octets { All (λ o. o < 256) self.now }
     {
-        self.octets.as_slice()
+        let octets = self.octets.as_slice();
+        are_octets(octets);
+        octets
     }
 
     /// Appends octets. An `Err` leaves the list as it was.
@@ -72,4 +83,23 @@ impl Octets {
     {
         Octets::from_slice(alloc, self.as_slice())
     }
+}
+
+/// Each member of a slice of octets is below 256. Nothing runs.
+fn are_octets(octets: &[u8])
+    ensures { All (λ o. o < 256) octets.now }
+{}
+
+impl PartialEq for Octets {
+    ghost eq = { pointwise nat_eq };
+
+    ghost laws = { Cmp.partial_equiv_from_equiv nat_list_eq_equiv };
+
+    fn eq(&self, other: &Octets) -> bool {
+        self.as_slice() == other.as_slice()
+    }
+}
+
+impl Eq for Octets {
+    ghost laws = { nat_list_eq_equiv };
 }

@@ -40,7 +40,8 @@ pub trait Sink {
         requires { 0 < length piece.now }
         ensures some { IfOk result (λ n. 0 < n) }
         ensures fits { IfOk result (λ n. n ≤ length piece.now) }
-        ensures appended { IfOk result (λ n. held self.new ≡ after (held self.old) (take n piece.now)) }
+        ensures appended { IfOk result
+            (λ n. held self.new ≡ after (held self.old) (take n piece.now)) }
 
         // A fault shows in the count; an error takes nothing.
         ensures failed { result ≡ Err Unwritten.Failed → Rose (faults self.old) (faults self.new) }
@@ -48,10 +49,10 @@ pub trait Sink {
         ensures counts { faults self.old ≤ faults self.new };
 }
 
-/// Writes a whole piece, by as many calls as it takes. An error leaves a front of it written.
+/// Writes a whole piece, by as many calls as it takes. An error leaves a prefix of it written.
 pub fn write_all<K: Sink>(sink: &mut K, octets: &[u8]) -> Result<(), Unwritten>
     ensures all { OnOk result (K.held sink.new ≡ after (K.held sink.old) octets.now) }
-    ensures front { OnErr result ((n : ℕ) × (n < length octets.now)
+    ensures prefix { OnErr result ((n : ℕ) × (n < length octets.now)
         × (K.held sink.new ≡ after (K.held sink.old) (take n octets.now))) }
     ensures failed { result ≡ Err Unwritten.Failed → Rose (K.faults sink.old) (K.faults sink.new) }
     ensures counts { K.faults sink.old ≤ K.faults sink.new }

@@ -27,7 +27,8 @@ pub trait Source {
         ensures fits { IfOk result (λ n. n ≤ length into.new) }
 
         // What was left is what was moved and then what is left now.
-        ensures moved { IfOk result (λ n. left self.old ≡ before (take n into.new) (left self.new)) }
+        ensures moved { IfOk result
+            (λ n. left self.old ≡ before (take n into.new) (left self.new)) }
         ensures end { IfOk result (λ n. n ≡ 0 → IsUsedUp (left self.old)) }
 
         // A fault shows in the count, and takes nothing.
@@ -78,12 +79,14 @@ pub fn read_all<S: Source>(alloc: Global, source: &mut S, limit: usize) -> Resul
     ensures end { OnOk result (IsUsedUp (S.left source.new)) }
     ensures within { IfOk result (λ octets. length octets ≤ limit) }
 
-    // `Limit` comes exactly where an octet past the limit was taken, and a fault shows in the count.
+    // `Limit` comes exactly where an octet past the limit was taken, and a fault shows in the
+    // count.
     ensures past { result ≡ Err ReadEnd.Limit
         → Took (λ n. limit < n) (S.left source.old) (S.left source.new) }
     ensures not_past { IfErr result (λ e. e ≢ ReadEnd.Limit
         → Took (λ n. n ≤ limit) (S.left source.old) (S.left source.new)) }
-    ensures failed { result ≡ Err ReadEnd.Failed → Rose (S.faults source.old) (S.faults source.new) }
+    ensures failed { result ≡ Err ReadEnd.Failed
+        → Rose (S.faults source.old) (S.faults source.new) }
     ensures counts { S.faults source.old ≤ S.faults source.new }
 {
     let mut octets = Octets::new(alloc);

@@ -46,7 +46,8 @@ impl<R: Read + Drop> Source for StdSource<R> {
         ensures passed { ReadConsumes (R.remaining (reader_of self.old))
             (R.remaining (reader_of self.new)) result into.new }
         ensures counted { let faults = ⟦<StdSource<R> as Source>⟧.faults in
-            faults self.new ≡ (if is_err result then one_more (faults self.old) else faults self.old) }
+            faults self.new
+            ≡ (if is_err result then one_more (faults self.old) else faults self.old) }
         ensures counts { let faults = ⟦<StdSource<R> as Source>⟧.faults in
             faults self.old ≤ faults self.new }
     {
@@ -61,7 +62,8 @@ impl<R: Read + Drop> Source for StdSource<R> {
 /// Reads once, and again where that is interrupted.
 fn read_through<R: Read>(reader: &mut R, into: &mut [u8]) -> Result<usize, Failed>
     ensures fits { IfOk result (λ n. n ≤ length into.new) }
-    ensures passed { ReadConsumes (R.remaining reader.old) (R.remaining reader.new) result into.new }
+    ensures passed { ReadConsumes (R.remaining reader.old) (R.remaining reader.new)
+        result into.new }
 {
     for _ in 0..TRIES {
         match reader.read(into) {
@@ -109,7 +111,8 @@ impl<W: Write + Drop> Sink for StdSink<W> {
         ensures passed { WriteAppends (W.contents (writer_of self.old))
             (W.contents (writer_of self.new)) result piece.now }
         ensures counted { let faults = ⟦<StdSink<W> as Sink>⟧.faults in
-            faults self.new ≡ (if is_err result then one_more (faults self.old) else faults self.old) }
+            faults self.new
+            ≡ (if is_err result then one_more (faults self.old) else faults self.old) }
         ensures counts { let faults = ⟦<StdSink<W> as Sink>⟧.faults in
             faults self.old ≤ faults self.new }
     {
@@ -125,7 +128,8 @@ impl<W: Write + Drop> Sink for StdSink<W> {
 fn write_through<W: Write>(writer: &mut W, piece: &[u8]) -> Result<usize, Unwritten>
     ensures some { IfOk result (λ n. 0 < n) }
     ensures fits { IfOk result (λ n. n ≤ length piece.now) }
-    ensures passed { WriteAppends (W.contents writer.old) (W.contents writer.new) result piece.now }
+    ensures passed { WriteAppends (W.contents writer.old) (W.contents writer.new)
+        result piece.now }
 {
     for _ in 0..TRIES {
         match writer.write(piece) {

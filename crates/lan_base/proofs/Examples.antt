@@ -1,9 +1,13 @@
 -- Definitions at worked values.
-use Rattle.std.proofs.Common.{◌≡◌, ◌-◌, ◌^◌, [], ◌∷◌, ◌++◌, None, Some, true, false, replicate, refl}
+use Rattle.std.proofs.Common.{◌≡◌, ℕ, arith, ◌*◌, ◌-◌, ◌^◌, [], ◌∷◌, ◌++◌, None, Some, true, false, replicate, refl}
+use Rattle.lan_base.specs.declared.address.Mi.{Mi}
+use Rattle.lan_base.specs.Identifiers.{IsAscending, has}
+use Rattle.lan_base.specs.Falling.{IsFalling}
 use Rattle.lan_base.specs.Counted.{counted, count_from}
 use Rattle.lan_base.specs.Faults.{one_more}
 use Rattle.lan_base.specs.InMemory.{failures}
 use Rattle.lan_base.specs.Name.{is_name}
+use Rattle.lan_base.specs.Timers.{hello_time, life_time, retire_time}
 use Rattle.lan_base.specs.Told.{before, after}
 
 -- the first draw is 1, and the one after the greatest is 0
@@ -48,3 +52,23 @@ told = refl
 
 untold : before (1 ∷ []) None ≡ None
 untold = refl
+
+-- three hello times are a life time, and half of that is the retire time
+three_hellos : life_time ≡ 3 * hello_time
+three_hellos = refl
+
+half_a_life : 2 * retire_time ≡ life_time
+half_a_life = refl
+
+-- identifiers ascend octet by octet, and numbers fall
+abbrev mi : ℕ → ℕ → Mi
+mi m n = record { 0 = m ∷ n ∷ [] }
+
+ascending : IsAscending (mi 1 9 ∷ mi 2 0 ∷ mi 2 1 ∷ [])
+ascending = ((refl, (refl, tt)), ((refl, tt), (tt, tt)))
+
+one_of_two : has (mi 2 0) (mi 1 9 ∷ mi 2 0 ∷ []) ≡ true
+one_of_two = refl
+
+falling : IsFalling (7 ∷ 4 ∷ 1 ∷ [])
+falling = ((omega arith, (omega arith, tt)), ((omega arith, tt), (tt, tt)))
