@@ -3,9 +3,9 @@ use Rattle.std.proofs.Common.{◌≡◌, Bool, true, false, ◌||◌, List, [], 
 use Rattle.std.specs.Ordering.{ordering_reverse}
 use Rattle.std.specs.declared.cmp.Ordering.TheVariants.{Less, Equal, Greater}
 use Rattle.lan_base.specs.declared.address.Mi.{Mi}
-use Rattle.peer_lists.specs.Identifiers.{same_mi, order, has}
+use Rattle.lan_base.specs.Identifiers.{same_mi, order, has}
 use Rattle.peer_lists.specs.Acceptance.{put_in, ascending}
-use Rattle.peer_lists.specs.Table.{IsBefore, IsAscending}
+use Rattle.lan_base.specs.Identifiers.{IsBefore, IsAscending}
 use Rattle.peer_lists.proofs.Identifiers.{by_test, by_order, same_mi-equal, same_mi-itself, order-equal, order-itself, order-reverse, order-trans}
 
 pub same_mi-apart : (m n : Mi) → order m n ≡ Less → same_mi m n ≡ false

@@ -6,10 +6,10 @@ use Rattle.std.specs.Option.{option_or}
 use Rattle.lan_base.specs.declared.address.Mi.{Mi}
 use Rattle.peer_lists.specs.declared.heard.Heard.{Heard}
 use Rattle.peer_lists.specs.declared.heard.DropReason.TheVariants.{PeersFull}
-use Rattle.peer_lists.specs.Identifiers.{same_mi, order, has}
+use Rattle.lan_base.specs.Identifiers.{same_mi, order, has}
 use Rattle.peer_lists.specs.Histories.{Peering, ticked, sent, heard, clock, is_young}
 use Rattle.peer_lists.specs.Acceptance.{Own, Accepted, accepted, refusal, echo, old_number, peers_full, is_young_of, members, most_peers, put_in}
-use Rattle.peer_lists.specs.Table.{IsBefore, IsAscending}
+use Rattle.lan_base.specs.Identifiers.{IsBefore, IsAscending}
 use Rattle.peer_lists.proofs.Identifiers.{by_test, by_order, same_mi-equal, order-equal}
 use Rattle.peer_lists.proofs.Ascending.{order-less, before-lacks, before-trans, before-head, has-head, put_in-less, put_in-equal, put_in-greater, put_in-ascending, ascending-is, has-put_in}
 use Rattle.peer_lists.proofs.Pasts.{by_option, reason_after, entered, accepted-new, accepted-dropped, young-now, younger, or-none}

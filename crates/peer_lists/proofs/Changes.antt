@@ -8,13 +8,13 @@ use Rattle.peer_lists.specs.declared.heard.Heard.{Heard}
 use Rattle.peer_lists.specs.declared.heard.DropReason.{DropReason}
 use Rattle.peer_lists.specs.declared.remembered.Words.{Words}
 use Rattle.peer_lists.specs.declared.remembered.Remembered.{Remembered}
-use Rattle.peer_lists.specs.Histories.{life_time}
-use Rattle.peer_lists.specs.Identifiers.{same_mi, same_sci}
+use Rattle.lan_base.specs.Timers.{life_time}
+use Rattle.lan_base.specs.Identifiers.{same_mi, same_sci}
 use Rattle.peer_lists.specs.Histories.{Peering, ticked, sent, heard, clock, is_young}
 use Rattle.peer_lists.specs.Acceptance.{Own, Accepted, accepted, vouches, is_young_of}
 use Rattle.peer_lists.specs.Peers.{is_of, is_vouched_of, newer, is_displaced}
 use Rattle.peer_lists.specs.Table.{words_of, remembered}
-use Rattle.peer_lists.specs.Steps.{aged, kept_words, aged_peer, fresh, crossed, crossed_peer}
+use Rattle.peer_lists.specs.inside.RowChanges.{aged, kept_words, aged_peer, fresh, displaced_under, displaced_peer}
 use Rattle.peer_lists.proofs.Identifiers.{by_test, same_mi-equal, same_mi-itself}
 use Rattle.peer_lists.proofs.Ascending.{same_mi-sym}
 use Rattle.peer_lists.proofs.TableRows.{passing, row_heard}
@@ -79,10 +79,10 @@ words-here q a past e =
     rw (find-here q a past e, young-now a.at, newer-here q a past e, n) refl
 
 -- words after a later announcement
-abbrev crossed_by : Accepted → Words → Words
-crossed_by a w = record w { displaced = (a.vouched && (not (same_mi a.told.mi w.told.mi) && same_sci a.told.sci w.told.sci)) || w.displaced }
+abbrev displaced_by : Accepted → Words → Words
+displaced_by a w = record w { displaced = (a.vouched && (not (same_mi a.told.mi w.told.mi) && same_sci a.told.sci w.told.sci)) || w.displaced }
 
-words-over : (q : Accepted → Bool) (now : ℕ) (a : Accepted) (past : List Accepted) → q a ≡ false → words_of now q (a ∷ past) ≡ option_map (crossed_by a) (words_of now q past)
+words-over : (q : Accepted → Bool) (now : ℕ) (a : Accepted) (past : List Accepted) → q a ≡ false → words_of now q (a ∷ past) ≡ option_map (displaced_by a) (words_of now q past)
 words-over q now a past e =
     rw (find-on q a past e, newer-over q a past e)
     (by_option (find q past) (λ f. rw f refl) (λ b f. rw f (by_test (is_young now b.at) (λ g. rw g refl) (λ g. rw g refl))))
@@ -102,22 +102,22 @@ words-of-member m now past w e = words-found (λ x. x.mi ≡ m) (is_of m) now pa
 pub vouched-of-member : (m : Mi) (now : ℕ) (past : List Accepted) (w : Words) → words_of now (is_vouched_of m) past ≡ Some w → w.told.mi ≡ m
 vouched-of-member m now past w e = words-found (λ x. x.mi ≡ m) (is_vouched_of m) now past w (λ a f. same_mi-equal a.told.mi m (and_parts (is_of m a) a.vouched f).0) e
 
--- another member's words after an accepted announcement: crossed, if that is vouched
-crossed-other : (m : Mi) (a : Accepted) (w : Words) → w.told.mi ≡ m → same_mi a.told.mi m ≡ false → crossed_by a w ≡ cond a.vouched (crossed a.told.sci w) w
-crossed-other m a w e f =
+-- another member's words after an accepted announcement: displaced, if that is vouched
+displaced-other : (m : Mi) (a : Accepted) (w : Words) → w.told.mi ≡ m → same_mi a.told.mi m ≡ false → displaced_by a w ≡ cond a.vouched (displaced_under a.told.sci w) w
+displaced-other m a w e f =
     let apart : same_mi a.told.mi w.told.mi ≡ false = rw e f in
     by_test a.vouched (λ g. rw (g, apart) refl) (λ g. rw g refl)
 
 peer-other : (m : Mi) (a : Accepted) (w : Words) (v : Option Words) → w.told.mi ≡ m → ((u : Words) → v ≡ Some u → u.told.mi ≡ m) → same_mi a.told.mi m ≡ false
-    → Some (record { last = crossed_by a w; vouched = option_map (crossed_by a) v }) ≡ Some (cond a.vouched (crossed_peer a.told (record { last = w; vouched = v })) (record { last = w; vouched = v }))
+    → Some (record { last = displaced_by a w; vouched = option_map (displaced_by a) v }) ≡ Some (cond a.vouched (displaced_peer a.told (record { last = w; vouched = v })) (record { last = w; vouched = v }))
 peer-other m a w v e i f =
     let apart : same_mi w.told.mi a.told.mi ≡ false = same_mi-sym w.told.mi a.told.mi ∙ ap (λ n. same_mi a.told.mi n) e ∙ f in
-    rw (crossed-other m a w e f)
+    rw (displaced-other m a w e f)
     (by_option v
     (λ g. rw g (by_test a.vouched (λ k. rw (k, apart) refl) (λ k. rw k refl)))
-    (λ u g. rw (g, crossed-other m a u (i u g) f) (by_test a.vouched (λ k. rw (k, apart) refl) (λ k. rw k refl))))
+    (λ u g. rw (g, displaced-other m a u (i u g) f) (by_test a.vouched (λ k. rw (k, apart) refl) (λ k. rw k refl))))
 
-pub remembered-other : (own : Own) (x : Heard) (h : List Peering) → reason_after own h x ≡ None → (m : Mi) → same_mi x.mi m ≡ false → remembered own (heard x ∷ h) m ≡ option_map (λ p. cond (vouches h x) (crossed_peer x p) p) (remembered own h m)
+pub remembered-other : (own : Own) (x : Heard) (h : List Peering) → reason_after own h x ≡ None → (m : Mi) → same_mi x.mi m ≡ false → remembered own (heard x ∷ h) m ≡ option_map (λ p. cond (vouches h x) (displaced_peer x p) p) (remembered own h m)
 remembered-other own x h e m f =
     let a = entered h x in
     let past = accepted own h in
@@ -142,9 +142,9 @@ row-here : (v : Bool) (x : Heard) (o w : Option Words) → (o ≡ None → w ≡
 row-here v x None w i = rw (i refl) refl
 row-here v x (Some l) w i = refl
 
-uncrossed : (a : Accepted) (o : Option Words) → a.vouched ≡ false → option_map (crossed_by a) o ≡ o
-uncrossed a None e = refl
-uncrossed a (Some w) e = rw e refl
+displaced-none : (a : Accepted) (o : Option Words) → a.vouched ≡ false → option_map (displaced_by a) o ≡ o
+displaced-none a None e = refl
+displaced-none a (Some w) e = rw e refl
 
 pub remembered-here : (own : Own) (x : Heard) (h : List Peering) → reason_after own h x ≡ None → remembered own (heard x ∷ h) x.mi ≡ Some (row_heard (vouches h x) x (remembered own h x.mi))
 remembered-here own x h e =
@@ -159,4 +159,4 @@ remembered-here own x h e =
     (ap Some
     (by_test (vouches h x)
     (λ f. rw (words-here (is_vouched_of x.mi) a past (and_from (is_of x.mi a) (vouches h x) here f), f) (row-here true x last vouched young))
-    (λ f. rw (words-over (is_vouched_of x.mi) now a past (and_right (is_of x.mi a) (vouches h x) f), uncrossed a vouched f, f) (row-here false x last vouched young))))
+    (λ f. rw (words-over (is_vouched_of x.mi) now a past (and_right (is_of x.mi a) (vouches h x) f), displaced-none a vouched f, f) (row-here false x last vouched young))))

@@ -6,9 +6,9 @@ use Rattle.std.specs.Option.{option_and_then, option_or}
 use Rattle.lan_base.specs.declared.address.Mi.{Mi}
 use Rattle.mkpdu_codec.specs.declared.peer.Peer.{Peer}
 use Rattle.peer_lists.specs.declared.heard.Heard.{Heard}
-use Rattle.peer_lists.specs.Identifiers.{same_mi, same_sci, has}
+use Rattle.lan_base.specs.Identifiers.{same_mi, same_sci, has}
 use Rattle.peer_lists.specs.Histories.{Peering, ticked, sent, heard, clock, is_tick, is_young}
-use Rattle.peer_lists.specs.Acceptance.{Own, Accepted, accepted, refusal, echo, old_number, peers_full, is_young_of, first_of}
+use Rattle.peer_lists.specs.Acceptance.{Own, Accepted, accepted, refusal, echo, old_number, peers_full, is_young_of, first_number}
 use Rattle.peer_lists.specs.Peers.{newer, displaces, is_displaced, standing, is_of, is_vouched_of, says, hopes, known, lives, potentials, is_last_displaced}
 use Rattle.peer_lists.specs.Listings.{listing, numbers_of}
 use Rattle.peer_lists.proofs.Identifiers.{by_test, same_mi-equal, same_mi-itself, same_sci-itself}
@@ -197,7 +197,7 @@ says-other own h m a e =
 
 -- the picked number is recent exactly where one of the numbers is
 
-picked-is : (recent : ℕ → Bool) (ns : List ℕ) → (is_some (first_of ns) && recent (unwrap_or (option_or (find recent ns) (first_of ns)) 0)) ≡ list_any recent ns
+picked-is : (recent : ℕ → Bool) (ns : List ℕ) → (is_some (first_number ns) && recent (unwrap_or (option_or (find recent ns) (first_number ns)) 0)) ≡ list_any recent ns
 picked-is recent [] = refl
 picked-is recent (n ∷ ns) =
     by_option (find recent (n ∷ ns))

@@ -3,7 +3,8 @@ use Rattle.std.proofs.Common.{◌≡◌, ℕ, ◌<◌, ◌≤◌, Bool, true, fa
 use Rattle.std.proofs.lemmas.Bool.{leb-false, lt-leb}
 use Rattle.std.specs.List.{list_any, filter, find}
 use Rattle.std.specs.Option.{option_map, option_and_then}
-use Rattle.peer_lists.specs.Acceptance.{greatest, first_of, IsAbove, IsFalling}
+use Rattle.peer_lists.specs.Acceptance.{greatest, first_number}
+use Rattle.lan_base.specs.Falling.{IsAbove, IsFalling}
 use Rattle.peer_lists.proofs.Identifiers.{by_test}
 
 pub find-here : {A : Type 0} (q : A → Bool) (x : A) (xs : List A) → q x ≡ true → find q (x ∷ xs) ≡ Some x
@@ -30,7 +31,7 @@ find-is_some q [] = refl
 find-is_some q (x ∷ xs) = by_test (q x) (λ f. rw f refl) (λ f. rw f (find-is_some q xs))
 
 -- the first of what a filter keeps
-pub first-filter : {A : Type 0} (f : A → ℕ) (q : A → Bool) (xs : List A) → first_of (map f (filter q xs)) ≡ option_map f (find q xs)
+pub first-filter : {A : Type 0} (f : A → ℕ) (q : A → Bool) (xs : List A) → first_number (map f (filter q xs)) ≡ option_map f (find q xs)
 first-filter f q [] = refl
 first-filter f q (x ∷ xs) = by_test (q x) (λ e. rw e refl) (λ e. rw e (first-filter f q xs))
 
@@ -43,7 +44,7 @@ greatest-below n [] h = omega arith
 greatest-below n (k ∷ ks) h = let r = greatest-below n ks h.1 in let l = h.0 in omega arith
 
 -- the greatest of falling numbers is the first
-pub greatest-first : (ns : List ℕ) → IsFalling ns → greatest ns ≡ first_of ns
+pub greatest-first : (ns : List ℕ) → IsFalling ns → greatest ns ≡ first_number ns
 greatest-first [] h = refl
 greatest-first (n ∷ ns) h = let r = greatest-below n ns h.0 in let e : max n (unwrap_or (greatest ns) 0) ≡ n = omega arith in ap Some e
 
@@ -52,7 +53,7 @@ none-from k n [] h l = refl
 none-from k n (j ∷ js) h l = let b = h.0 in let e : nat_le k j ≡ false = lt-leb k j (omega arith) in rw e (none-from k n js h.1 l)
 
 -- the greatest of falling numbers that are not less than another: the first, if it is not
-pub greatest-from : (k : ℕ) (ns : List ℕ) → IsFalling ns → greatest (filter (nat_le k) ns) ≡ option_and_then (λ n. cond (nat_le k n) (Some n) None) (first_of ns)
+pub greatest-from : (k : ℕ) (ns : List ℕ) → IsFalling ns → greatest (filter (nat_le k) ns) ≡ option_and_then (λ n. cond (nat_le k n) (Some n) None) (first_number ns)
 greatest-from k [] h = refl
 greatest-from k (n ∷ ns) h =
     by_test (nat_le k n)

@@ -8,7 +8,7 @@ use Rattle.std.specs.declared.cmp.Ordering.{Ordering}
 use Rattle.std.specs.declared.cmp.Ordering.TheVariants.{Less, Equal, Greater}
 use Rattle.lan_base.specs.declared.address.Mi.{Mi}
 use Rattle.lan_base.specs.declared.address.Sci.{Sci}
-use Rattle.peer_lists.specs.Identifiers.{same_mi, same_sci, order}
+use Rattle.lan_base.specs.Identifiers.{same_mi, same_sci, order}
 use lib.Pointwise.{bytes_decides}
 
 -- a test is true or false

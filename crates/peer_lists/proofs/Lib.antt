@@ -1,4 +1,4 @@
-mod Rows
+mod Examples
 pub mod Identifiers
 pub mod Ascending
 pub mod TableRows

@@ -5,10 +5,10 @@ use Rattle.std.proofs.lemmas.List.{get_or-set_same, get_or-set_other}
 use Rattle.std.specs.List.{list_any, find}
 use Rattle.peer_lists.specs.declared.heard.Heard.{Heard}
 use Rattle.peer_lists.specs.declared.sent_numbers.SentNumbers.{SentNumbers}
-use Rattle.peer_lists.specs.Histories.{life_time}
+use Rattle.lan_base.specs.Timers.{life_time}
 use Rattle.peer_lists.specs.Histories.{Peering, ticked, sent, heard, clock, is_young, Sent, announced, is_number, is_recent, recent, last_sent, may_send, IsCounted}
 use Rattle.peer_lists.specs.Table.{left_of, ticks_left}
-use Rattle.peer_lists.specs.Steps.{is_number_recent}
+use Rattle.peer_lists.specs.inside.Countdowns.{is_number_recent}
 use Rattle.peer_lists.proofs.Identifiers.{by_test}
 
 -- A number that was sent is not above the last, and was sent as much earlier as it is less, or more.
@@ -22,6 +22,13 @@ sent-early (sent n ∷ h) c k s e =
     (omega arith, omega arith, λ m. absurd (cc (m))))
     (λ f. let g = rw f at e in let r = sent-early h c.2 k s g in let a = r.0 in let b = r.2 c.1 in let number = c.0 in
     (omega arith, omega arith, λ m. absurd (cc (m))))
+
+-- the last number is at most the clock and one, and at most the clock where one may be sent
+pub sent-at-most : (h : List Peering) → IsCounted h → (last_sent h ≤ clock h + 1) × (may_send h ≡ true → last_sent h ≤ clock h)
+sent-at-most [] c = (omega arith, λ e. omega arith)
+sent-at-most (ticked ∷ h) c = let r = sent-at-most h c in let a = r.0 in (omega arith, λ e. omega arith)
+sent-at-most (heard x ∷ h) c = sent-at-most h c
+sent-at-most (sent n ∷ h) c = let r = sent-at-most h c.2 in let a = r.1 c.1 in let b = c.0 in (omega arith, λ e. absurd (cc (e)))
 
 -- whether a number that was found is recent
 abbrev is_young_sent : ℕ → Option Sent → Bool

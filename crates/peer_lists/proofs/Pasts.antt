@@ -8,10 +8,11 @@ use Rattle.peer_lists.specs.declared.heard.Heard.{Heard}
 use Rattle.peer_lists.specs.declared.heard.DropReason.{DropReason}
 use Rattle.peer_lists.specs.declared.heard.DropReason.TheVariants.{OldNumber}
 use Rattle.peer_lists.specs.declared.remembered.Words.{Words}
-use Rattle.peer_lists.specs.Histories.{life_time}
-use Rattle.peer_lists.specs.Identifiers.{same_mi}
+use Rattle.lan_base.specs.Timers.{life_time}
+use Rattle.lan_base.specs.Identifiers.{same_mi}
 use Rattle.peer_lists.specs.Histories.{Peering, ticked, sent, heard, clock, is_young}
-use Rattle.peer_lists.specs.Acceptance.{Own, Accepted, refusal, accepted, echo, old_number, peers_full, greatest, first_of, IsAbove, IsFalling, young_numbers, is_young_of, vouches}
+use Rattle.peer_lists.specs.Acceptance.{Own, Accepted, refusal, accepted, echo, old_number, peers_full, greatest, first_number, young_numbers, is_young_of, vouches}
+use Rattle.lan_base.specs.Falling.{IsAbove, IsFalling}
 use Rattle.peer_lists.specs.Peers.{is_of, is_displaced}
 use Rattle.peer_lists.specs.Table.{words_of}
 use Rattle.peer_lists.proofs.Identifiers.{by_test, same_mi-equal}
@@ -104,7 +105,7 @@ words-some now test past None = refl
 words-some now test past (Some a) = by_test (is_young now a.at) (λ e. rw e refl) (λ e. rw e refl)
 
 -- the number that is kept of a member is the first of its young ones
-pub kept-first : (now : ℕ) (m : Mi) (past : List Accepted) (t : ℕ) → IsUpTo t past → option_map (λ w. w.told.mn) (words_of now (is_of m) past) ≡ first_of (young_numbers now m past)
+pub kept-first : (now : ℕ) (m : Mi) (past : List Accepted) (t : ℕ) → IsUpTo t past → option_map (λ w. w.told.mn) (words_of now (is_of m) past) ≡ first_number (young_numbers now m past)
 kept-first now m past t h =
     words-number now (is_of m) past (find (is_of m) past) ∙ ap (option_map (λ a. a.told.mn)) (sym (find-young now m t past h))
     ∙ sym (first-filter (λ a. a.told.mn) (is_young_of now m) past)

@@ -9,11 +9,13 @@ use Rattle.peer_lists.specs.declared.heard.DropReason.{DropReason}
 use Rattle.peer_lists.specs.declared.heard.DropReason.TheVariants.{OldNumber, PeersFull}
 use Rattle.peer_lists.specs.declared.remembered.Remembered.{Remembered}
 use Rattle.peer_lists.specs.Acceptance.{most_peers}
-use Rattle.peer_lists.specs.Identifiers.{same_mi, has}
+use Rattle.lan_base.specs.Identifiers.{same_mi, has}
 use Rattle.peer_lists.specs.Histories.{Peering, clock, is_young}
-use Rattle.peer_lists.specs.Acceptance.{Own, Accepted, accepted, old_number, peers_full, first_of, IsFalling, young_numbers, is_young_of, members}
+use Rattle.peer_lists.specs.Acceptance.{Own, Accepted, accepted, old_number, peers_full, first_number, young_numbers, is_young_of, members}
+use Rattle.lan_base.specs.Falling.{IsFalling}
 use Rattle.peer_lists.specs.Peers.{is_of, is_vouched_of, known}
-use Rattle.peer_lists.specs.Table.{words_of, remembered, look_up, member, IsAscending}
+use Rattle.peer_lists.specs.Table.{words_of, remembered, look_up, member}
+use Rattle.lan_base.specs.Identifiers.{IsAscending}
 use Rattle.peer_lists.proofs.Identifiers.{by_test}
 use Rattle.peer_lists.proofs.Ascending.{has-ascending, ascending-is, ascending-same}
 use Rattle.peer_lists.proofs.TableRows.{look_up-has, reason_by}
@@ -30,7 +32,7 @@ against-kept k (Some n) = by_test (nat_le k n) (λ e. rw e refl) (λ e. rw e ref
 
 old_number-is : (now t : ℕ) (past : List Accepted) (x : Heard) → IsUpTo t past → IsFalling (young_numbers now x.mi past) → old_number now past x ≡ option_and_then (number_against x.mn) (option_map (λ w. w.told.mn) (words_of now (is_of x.mi) past))
 old_number-is now t past x h falls =
-    ap (option_map OldNumber) (greatest-from x.mn (young_numbers now x.mi past) falls) ∙ against-kept x.mn (first_of (young_numbers now x.mi past))
+    ap (option_map OldNumber) (greatest-from x.mn (young_numbers now x.mi past) falls) ∙ against-kept x.mn (first_number (young_numbers now x.mi past))
     ∙ ap (option_and_then (number_against x.mn)) (sym (kept-first now x.mi past t h))
 
 has-young : (now : ℕ) (k : Mi) (past : List Accepted) → has k (map (λ a. a.told.mi) (filter (λ a. is_young now a.at) past)) ≡ list_any (is_young_of now k) past

@@ -1,6 +1,7 @@
 -- What the table stands for, call by call.
 use Rattle.std.proofs.Common.{◌≡◌, ◌↔◌, IsNone, ℕ, suc, zero, ◌+◌, ◌-◌, ◌%◌, ◌≤◌, Bool, true, false, cond, ◌&&◌, List, [], ◌∷◌, Option, Some, None, Result, map, length, refl, ap, sym, ◌∙◌, subst, arith, slice_get}
 use Rattle.std.proofs.lemmas.List.{length-map, length-set, get_or-replicate}
+use Rattle.std.proofs.lemmas.Option.{slice_get-map}
 use Rattle.std.specs.List.Sorted.{IsBinarySearchResult, IsSearchInRange}
 use Rattle.std.specs.Option.{option_map, option_and_then, option_or}
 use Rattle.lan_base.specs.declared.address.Mi.{Mi}
@@ -9,13 +10,15 @@ use Rattle.peer_lists.specs.declared.heard.Outcome.TheVariants.{Vouched, Unvouch
 use Rattle.peer_lists.specs.declared.heard.DropReason.{DropReason}
 use Rattle.peer_lists.specs.declared.heard.Row.{Row}
 use Rattle.peer_lists.specs.declared.remembered.Remembered.{Remembered}
-use Rattle.peer_lists.specs.Histories.{life_time}
-use Rattle.peer_lists.specs.Identifiers.{same_mi, order}
-use Rattle.peer_lists.specs.Histories.{Peering, ticked, sent, heard, clock, recent}
+use Rattle.lan_base.specs.Timers.{life_time}
+use Rattle.lan_base.specs.Identifiers.{same_mi, order}
+use Rattle.peer_lists.specs.Histories.{Peering, ticked, sent, heard, clock, recent, last_sent, may_send}
 use Rattle.peer_lists.specs.Acceptance.{Own, accepted, refusal, echo, old_number, peers_full, outcome, vouches}
 use Rattle.peer_lists.specs.Peers.{known, row_at}
-use Rattle.peer_lists.specs.Table.{Table, StandsFor, IsAscending, member, look_up, remembered}
-use Rattle.peer_lists.specs.Steps.{put, aged_peer, aged_rows, crossed_peer, crossed_rows, rows_heard, reason_at, no_numbers, numbers_after_tick, numbers_after_sent, is_number_recent, shown}
+use Rattle.peer_lists.specs.Table.{Table, StandsFor, member, look_up, remembered}
+use Rattle.lan_base.specs.Identifiers.{IsAscending}
+use Rattle.peer_lists.specs.inside.RowChanges.{put, aged_peer, aged_rows, displaced_peer, displaced_rows, rows_heard, reason_at, shown}
+use Rattle.peer_lists.specs.inside.Countdowns.{no_numbers, numbers_after_tick, numbers_after_sent, is_number_recent}
 use Rattle.peer_lists.proofs.Identifiers.{by_test, same_mi-equal, same_mi-itself}
 use Rattle.peer_lists.proofs.TableRows.{look_up-put, look_up-put_other, put-ascending, map-change, look_up-change, filter-ascending, look_up-filter, passing, row_heard, heard_at-is, reason_at-is}
 use Rattle.peer_lists.proofs.Pasts.{reason_after}
@@ -54,14 +57,14 @@ stands-tick own t h s =
       left = λ n low near. left-ticked t.sent.left h (n % life_time) n (s.left n low near);
     }
 
-pub stands-sent : (own : Own) (t : Table) (h : List Peering) (n : ℕ) → n ≡ t.sent.last + 1 → t.sent.may_send ≡ true → StandsFor own t h → StandsFor own (record { own = t.own; rows = t.rows; sent = numbers_after_sent n t.sent }) (sent n ∷ h)
+pub stands-sent : (own : Own) (t : Table) (h : List Peering) (n : ℕ) → n ≡ last_sent h + 1 → may_send h ≡ true → StandsFor own t h → StandsFor own (record { own = t.own; rows = t.rows; sent = numbers_after_sent n t.sent }) (sent n ∷ h)
 stands-sent own t h n next now s =
     let last = s.last in
     record {
       owner = s.owner;
       ascending = s.ascending;
       rows = λ m. s.rows m ∙ sym (remembered-sent own n h m);
-      counted = (next ∙ ap (λ k. k + 1) s.last, sym s.may_send ∙ now, s.counted);
+      counted = (next, now, s.counted);
       last = refl;
       may_send = refl;
       long = length-set t.sent.left (n % life_time) life_time ∙ s.long;
@@ -94,8 +97,8 @@ stands-dropped own t h x r e s = record {
   left = s.left;
 }
 
-crossed-keeps : (x : Heard) (p : Remembered) → member (crossed_peer x p) ≡ member p
-crossed-keeps x p = by_test (same_mi (member p) x.mi) (λ e. rw e refl) (λ e. rw e refl)
+displaced-keeps : (x : Heard) (p : Remembered) → member (displaced_peer x p) ≡ member p
+displaced-keeps x p = by_test (same_mi (member p) x.mi) (λ e. rw e refl) (λ e. rw e refl)
 
 heard-keeps : (v : Bool) (x : Heard) (o : Option Remembered) → member (row_heard v x o) ≡ x.mi
 heard-keeps v x None = refl
@@ -105,20 +108,20 @@ map-itself : {A : Type 0} (o : Option A) → option_map (λ p. p) o ≡ o
 map-itself None = refl
 map-itself (Some p) = refl
 
-after-ascending : (v : Bool) (x : Heard) (ps : List Remembered) → IsAscending (map member ps) → IsAscending (map member (cond v (crossed_rows x ps) ps))
+after-ascending : (v : Bool) (x : Heard) (ps : List Remembered) → IsAscending (map member ps) → IsAscending (map member (cond v (displaced_rows x ps) ps))
 after-ascending false x ps h = h
-after-ascending true x ps h = rw (map-change (crossed_peer x) (crossed-keeps x) ps) h
+after-ascending true x ps h = rw (map-change (displaced_peer x) (displaced-keeps x) ps) h
 
-after-other : (v : Bool) (x : Heard) (m : Mi) (ps : List Remembered) → look_up m (cond v (crossed_rows x ps) ps) ≡ option_map (λ p. cond v (crossed_peer x p) p) (look_up m ps)
+after-other : (v : Bool) (x : Heard) (m : Mi) (ps : List Remembered) → look_up m (cond v (displaced_rows x ps) ps) ≡ option_map (λ p. cond v (displaced_peer x p) p) (look_up m ps)
 after-other false x m ps = sym (map-itself (look_up m ps))
-after-other true x m ps = look_up-change (crossed_peer x) (crossed-keeps x) m ps
+after-other true x m ps = look_up-change (displaced_peer x) (displaced-keeps x) m ps
 
-after-here : (v : Bool) (x : Heard) (r : Remembered) → member r ≡ x.mi → cond v (crossed_peer x r) r ≡ r
+after-here : (v : Bool) (x : Heard) (r : Remembered) → member r ≡ x.mi → cond v (displaced_peer x r) r ≡ r
 after-here false x r e = refl
 after-here true x r e = let same : same_mi (member r) x.mi ≡ true = rw e (same_mi-itself x.mi) in rw same refl
 
 rows-heard : (own : Own) (h : List Peering) (x : Heard) (ps : List Remembered) → reason_after own h x ≡ None → ((m : Mi) → look_up m ps ≡ remembered own h m) → (m : Mi)
-    → let v = vouches h x in let after = put (row_heard v x (look_up x.mi ps)) ps in look_up m (cond v (crossed_rows x after) after) ≡ remembered own (heard x ∷ h) m
+    → let v = vouches h x in let after = put (row_heard v x (look_up x.mi ps)) ps in look_up m (cond v (displaced_rows x after) after) ≡ remembered own (heard x ∷ h) m
 rows-heard own h x ps e rows m =
     let v = vouches h x in
     let row = row_heard v x (look_up x.mi ps) in
@@ -128,11 +131,11 @@ rows-heard own h x ps e rows m =
     (λ f.
     let same : x.mi ≡ m = same_mi-equal x.mi m f in
     let found : look_up m (put row ps) ≡ Some row = subst (λ (n : Mi). look_up n (put row ps) ≡ Some row) (of ∙ same) (look_up-put row ps) in
-    ap (option_map (λ p. cond v (crossed_peer x p) p)) found ∙ ap Some (after-here v x row of)
+    ap (option_map (λ p. cond v (displaced_peer x p) p)) found ∙ ap Some (after-here v x row of)
     ∙ ap (λ o. Some (row_heard v x o)) (rows x.mi) ∙ sym (remembered-here own x h e) ∙ ap (remembered own (heard x ∷ h)) same)
     (λ f.
     let apart : same_mi (member row) m ≡ false = subst (λ (n : Mi). same_mi n m ≡ false) (sym of) f in
-    ap (option_map (λ p. cond v (crossed_peer x p) p)) (look_up-put_other m row ps apart ∙ rows m) ∙ sym (remembered-other own x h e m f))
+    ap (option_map (λ p. cond v (displaced_peer x p) p)) (look_up-put_other m row ps apart ∙ rows m) ∙ sym (remembered-other own x h e m f))
 
 pub stands-heard : (own : Own) (t : Table) (h : List Peering) (x : Heard) (place : Result ℕ ℕ) → StandsFor own t h → IsSearchInRange place (length t.rows) → IsBinarySearchResult (λ p. order (member p) x.mi) t.rows place → reason_after own h x ≡ None → StandsFor own (record { own = t.own; rows = rows_heard place (vouches h x) x t.rows; sent = t.sent }) (heard x ∷ h)
 stands-heard own t h x place s range found e =
@@ -160,6 +163,12 @@ outcome-dropped own h x r e = rw (e, outcome) refl
 
 pub row-stands : (own : Own) (t : Table) (h : List Peering) → StandsFor own t h → (at : ℕ) → option_map shown (slice_get t.rows at) ≡ row_at own h at
 row-stands own t h s at = rows-shown own h t.rows s.ascending s.rows at
+
+-- the rows a tick later, as they are shown
+pub later-stands : (own : Own) (t : Table) (h : List Peering) → StandsFor own t h → (at : ℕ) → slice_get (map shown (aged_rows t.rows)) at ≡ row_at own (ticked ∷ h) at
+later-stands own t h s at =
+    slice_get-map shown (aged_rows t.rows) at
+    ∙ row-stands own (record { own = t.own; rows = aged_rows t.rows; sent = numbers_after_tick t.sent }) (ticked ∷ h) (stands-tick own t h s) at
 
 pub len-stands : (own : Own) (t : Table) (h : List Peering) → StandsFor own t h → length t.rows ≡ length (known own h)
 len-stands own t h s = sym (length-map t.rows member) ∙ ap length (rows-known own h t.rows s.ascending s.rows)

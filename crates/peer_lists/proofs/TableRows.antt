@@ -8,10 +8,11 @@ use Rattle.std.specs.declared.cmp.Ordering.{Ordering}
 use Rattle.std.specs.declared.cmp.Ordering.TheVariants.{Less, Equal, Greater}
 use Rattle.lan_base.specs.declared.address.Mi.{Mi}
 use Rattle.peer_lists.specs.declared.remembered.Remembered.{Remembered}
-use Rattle.peer_lists.specs.Identifiers.{same_mi, order, has}
+use Rattle.lan_base.specs.Identifiers.{same_mi, order, has}
 use Rattle.peer_lists.specs.Acceptance.{put_in}
-use Rattle.peer_lists.specs.Table.{IsBefore, IsAscending, member, look_up}
-use Rattle.peer_lists.specs.Steps.{put, introduced, renewed, heard_at, reason_at}
+use Rattle.peer_lists.specs.Table.{member, look_up}
+use Rattle.lan_base.specs.Identifiers.{IsBefore, IsAscending}
+use Rattle.peer_lists.specs.inside.RowChanges.{put, introduced, renewed, heard_at, reason_at}
 use Rattle.peer_lists.specs.declared.heard.Heard.{Heard}
 use Rattle.peer_lists.specs.declared.heard.DropReason.{DropReason}
 use Rattle.peer_lists.specs.declared.heard.DropReason.TheVariants.{OldNumber, PeersFull}
@@ -92,6 +93,13 @@ pub filter-ascending : (t : Remembered → Bool) (ps : List Remembered) → IsAs
 filter-ascending t [] h = tt
 filter-ascending t (p ∷ ps) h =
     by_test (t p) (λ e. rw e (filter-before t (member p) ps h.0, filter-ascending t ps h.1)) (λ e. rw e (filter-ascending t ps h.1))
+
+-- a filter of rows that changed in place keeps no more
+pub filter-fewer : (t : Remembered → Bool) (f : Remembered → Remembered) (ps : List Remembered) → length (filter t (map f ps)) ≤ length ps
+filter-fewer t f [] = omega arith
+filter-fewer t f (p ∷ ps) =
+    let rest : length (filter t (map f ps)) ≤ length ps = filter-fewer t f ps in
+    by_test (t (f p)) (λ e. rw e (omega arith)) (λ e. rw e (omega arith))
 
 -- the row, if it passes the test
 abbrev pub passing : (Remembered → Bool) → Remembered → Option Remembered

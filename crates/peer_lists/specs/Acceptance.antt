@@ -1,5 +1,5 @@
 -- Which heard announcements are accepted, and which of them are vouched (IEEE Std 802.1X, 9.4.2).
-use Rattle.std.specs.Prelude.{ℕ, ◌<◌, Bool, cond, not, ◌&&◌, ◌||◌, List, [], ◌∷◌, map, length, nat_le, max, Option, Some, None, unwrap_or, option_map}
+use Rattle.std.specs.Prelude.{ℕ, Bool, cond, not, ◌&&◌, ◌||◌, List, [], ◌∷◌, map, length, nat_le, max, Option, Some, None, unwrap_or, option_map}
 use Rattle.std.specs.List.{list_any, filter}
 use Rattle.std.specs.Option.{option_or}
 use Rattle.std.specs.declared.cmp.Ordering.TheVariants.{Less, Equal, Greater}
@@ -10,7 +10,7 @@ use Rattle.peer_lists.specs.declared.heard.DropReason.{DropReason}
 use Rattle.peer_lists.specs.declared.heard.DropReason.TheVariants.{Echo, OldNumber, PeersFull}
 use Rattle.peer_lists.specs.declared.heard.Outcome.{Outcome}
 use Rattle.peer_lists.specs.declared.heard.Outcome.TheVariants.{Vouched, Unvouched, Dropped}
-use Rattle.peer_lists.specs.Identifiers.{same_mi, same_sci, order}
+use Rattle.lan_base.specs.Identifiers.{same_mi, same_sci, order}
 use Rattle.peer_lists.specs.Histories.{Peering, ticked, sent, heard, clock, is_young, recent}
 
 -- the identifiers of the station itself
@@ -18,7 +18,8 @@ pub record Own : Type 0 where
   pub mi : Mi
   pub sci : Sci
 
--- an accepted announcement: at which tick count it came, what it told, and whether it was vouched then
+-- an accepted announcement: at which tick count it came, what it told, and whether it was vouched
+-- then
 pub record Accepted : Type 0 where
   pub at : ℕ
   pub told : Heard
@@ -31,7 +32,8 @@ is_young_of now m a = same_mi a.told.mi m && is_young now a.at
 -- the identifier in its place among ascending ones, where each stands once
 abbrev pub put_in : Mi → List Mi → List Mi
 put_in m [] = m ∷ []
-put_in m (n ∷ ns) = elim (order m n) [ Less ↦ m ∷ n ∷ ns | Equal ↦ n ∷ ns | Greater ↦ n ∷ put_in m ns ]
+put_in m (n ∷ ns) =
+    elim (order m n) [ Less ↦ m ∷ n ∷ ns | Equal ↦ n ∷ ns | Greater ↦ n ∷ put_in m ns ]
 
 -- the identifiers of a list in ascending order, each once
 abbrev pub ascending : List Mi → List Mi
@@ -48,19 +50,9 @@ greatest [] = None
 greatest (n ∷ ns) = Some (max n (unwrap_or (greatest ns) 0))
 
 -- the first of a list
-abbrev pub first_of : List ℕ → Option ℕ
-first_of [] = None
-first_of (n ∷ ns) = Some n
-
--- a number is greater than each of the others
-abbrev pub IsAbove : ℕ → List ℕ → Type 0
-IsAbove n [] = Unit {0}
-IsAbove n (k ∷ ks) = (k < n) × IsAbove n ks
-
--- each number is greater than all that come after it
-abbrev pub IsFalling : List ℕ → Type 0
-IsFalling [] = Unit {0}
-IsFalling (n ∷ ns) = IsAbove n ns × IsFalling ns
+abbrev pub first_number : List ℕ → Option ℕ
+first_number [] = None
+first_number (n ∷ ns) = Some n
 
 -- Echo: the announcement has the station's own member identifier or its own SCI.
 abbrev pub echo : Own → Heard → Option DropReason
@@ -70,24 +62,31 @@ echo own x = cond (same_mi x.mi own.mi || same_sci x.sci own.sci) (Some Echo) No
 abbrev pub young_numbers : ℕ → Mi → List Accepted → List ℕ
 young_numbers now m past = map (λ a. a.told.mn) (filter (is_young_of now m) past)
 
--- Old number: some young accepted announcements of the same member have a message number that is not less. The greatest such number is told.
+-- Old number: some young accepted announcements of the same member have a message number that is
+-- not less. The greatest such number is told.
 abbrev pub old_number : ℕ → List Accepted → Heard → Option DropReason
-old_number now past x = option_map OldNumber (greatest (filter (nat_le x.mn) (young_numbers now x.mi past)))
+old_number now past x =
+    option_map OldNumber (greatest (filter (nat_le x.mn) (young_numbers now x.mi past)))
 
 -- how many members are remembered at once
 abbrev pub most_peers : ℕ
 most_peers = 64
 
--- Peers full: as many other members as there is room for have a young accepted announcement, and this one has none.
+-- Peers full: as many other members as there is room for have a young accepted announcement, and
+-- this one has none.
 abbrev pub peers_full : ℕ → List Accepted → Heard → Option DropReason
 peers_full now past x =
-    cond (nat_le most_peers (length (filter (λ m. not (same_mi m x.mi)) (members now past))) && not (list_any (is_young_of now x.mi) past)) (Some PeersFull) None
+    let others = filter (λ m. not (same_mi m x.mi)) (members now past) in
+    cond (nat_le most_peers (length others) && not (list_any (is_young_of now x.mi) past))
+    (Some PeersFull) None
 
 -- the first reason that there is to drop the announcement
 unfoldable pub refusal : Own → ℕ → List Accepted → Heard → Option DropReason
-refusal own now past x = option_or (echo own x) (option_or (old_number now past x) (peers_full now past x))
+refusal own now past x =
+    option_or (echo own x) (option_or (old_number now past x) (peers_full now past x))
 
--- whether an announcement lists the station under a message number that this life sent less than the life time ago
+-- whether an announcement lists the station under a message number that this life sent less than
+-- the life time ago
 abbrev pub vouches : List Peering → Heard → Bool
 vouches h x = x.lists && recent h x.listed
 
@@ -97,12 +96,18 @@ accepted own [] = []
 accepted own (ticked ∷ h) = accepted own h
 accepted own (sent n ∷ h) = accepted own h
 accepted own (heard x ∷ h) =
-    elim (refusal own (clock h) (accepted own h) x) [ None ↦ record { at = clock h; told = x; vouched = vouches h x } ∷ accepted own h | Some reason ↦ accepted own h ]
+    elim (refusal own (clock h) (accepted own h) x) [
+      | None ↦ record { at = clock h; told = x; vouched = vouches h x } ∷ accepted own h
+      | Some reason ↦ accepted own h
+    ]
 
 -- what hearing an announcement after this history comes to
 unfoldable pub outcome : Own → List Peering → Heard → Outcome
 outcome own h x =
-    elim (refusal own (clock h) (accepted own h) x) [ None ↦ cond (vouches h x) Vouched Unvouched | Some reason ↦ Dropped reason ]
+    elim (refusal own (clock h) (accepted own h) x) [
+      | None ↦ cond (vouches h x) Vouched Unvouched
+      | Some reason ↦ Dropped reason
+    ]
 
 -- the answer is a drop
 abbrev pub IsDropped : Outcome → Type 0

@@ -1,7 +1,8 @@
--- The history of one life of a station, as far as its peer lists go: ticks, announcements sent and announcements heard
--- (IEEE Std 802.1X, 9.4).
+-- The history of one life of a station, as far as its peer lists go: ticks, announcements sent and
+-- announcements heard (IEEE Std 802.1X, 9.4).
 use Rattle.std.specs.Prelude.{◌≡◌, ◌==◌, ℕ, ◌+◌, Bool, true, false, ◌&&◌, List, [], ◌∷◌, nat_lt}
 use Rattle.std.specs.List.{list_any}
+use Rattle.lan_base.specs.Timers.{life_time}
 use Rattle.peer_lists.specs.declared.heard.Heard.{Heard}
 
 -- a tick of 0.1 s, an announcement that was sent under its message number, or one that was heard
@@ -22,10 +23,6 @@ abbrev pub is_tick : Peering → Bool
 is_tick ticked = true
 is_tick (sent n) = false
 is_tick (heard x) = false
-
--- the life time: 6.0 s in ticks of 0.1 s
-abbrev pub life_time : ℕ
-life_time = 60
 
 -- whether what came at one tick count is less than the life time ago at another
 abbrev pub is_young : ℕ → ℕ → Bool
@@ -69,7 +66,8 @@ may_send (ticked ∷ h) = true
 may_send (sent n ∷ h) = false
 may_send (heard x ∷ h) = may_send h
 
--- Each number that was sent is one greater than the one before it, from 1 on, and at most one was sent in a tick.
+-- Each number that was sent is one greater than the one before it, from 1 on, and at most one was
+-- sent in a tick.
 abbrev pub IsCounted : List Peering → Type 0
 IsCounted [] = Unit {0}
 IsCounted (ticked ∷ h) = IsCounted h

@@ -1,7 +1,6 @@
-pub mod Identifiers
 pub mod Histories
 pub mod Acceptance
 pub mod Peers
 pub mod Listings
 pub mod Table
-pub mod Steps
+pub mod inside

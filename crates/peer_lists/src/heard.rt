@@ -12,8 +12,8 @@ pub struct Heard {
     pub mn: u32,
     /// Whether one of its two lists names the hearer.
     pub lists: bool,
-    /// The message number under which they name the hearer: where they do so more than once, the first one
-    /// that is recent, else the first.
+    /// The message number under which they name the hearer: where they do so more than once, the
+    /// first one that is recent, else the first.
     pub listed: u32,
     pub uses: Option<Uses>,
 }
@@ -23,18 +23,19 @@ pub struct Heard {
 pub enum DropReason {
     /// Its member identifier or its SCI is the hearer's own.
     Echo,
-    /// The last accepted announcement of its member is younger than the life time and has the number
-    /// `kept`, which is not less than its own.
+    /// The last accepted announcement of its member is younger than the life time and has the
+    /// number `kept`, which is not less than its own.
     OldNumber { kept: u32 },
-    /// As many other members as are remembered have an accepted announcement younger than the life time,
-    /// and its own has none.
+    /// As many other members as are remembered have an accepted announcement younger than the life
+    /// time, and its own has none.
     PeersFull,
 }
 
 /// What hearing an announcement comes to.
 #[derive(Clone, Copy, Debug, PartialEq, Eq)]
 pub enum Outcome {
-    /// Accepted, and it lists the hearer under a number that the hearer sent less than the life time ago.
+    /// Accepted, and it lists the hearer under a number that the hearer sent less than the life
+    /// time ago.
     Vouched,
     /// Accepted only.
     Unvouched,
@@ -48,7 +49,8 @@ pub struct Row {
     pub mi: Mi,
     /// The number of its last accepted announcement.
     pub mn: u32,
-    /// From here on: of its last vouched announcement where it is live, else of its last accepted one.
+    /// From here on: of its last vouched announcement where it is live, else of its last accepted
+    /// one.
     pub sci: Sci,
     pub priority: u8,
     pub live: bool,

@@ -1,5 +1,5 @@
-//! Who is live, who is potential and whose message is old (IEEE Std 802.1X, clause 9): the peer lists of
-//! one life of a station, proved against the history of what it sent and heard.
+//! Who is live, who is potential and whose message is old (IEEE Std 802.1X, clause 9): the peer
+//! lists of one life of a station, proved against the history of what it sent and heard.
 #![tactic(auto)]
 
 mod heard;
@@ -11,16 +11,14 @@ mod table;
 
 pub use heard::{DropReason, Heard, Outcome, Row};
 pub use laws::{
-    law_age_is_ticks, law_kept_is_last, law_known_are_at_most_64,
+    law_age_is_ticks, law_kept_is_last, law_known_are_at_most_64, law_known_is_ascending,
     law_known_is_live_potential_or_displaced, law_live_exactly_where_it_says, law_live_is_not_own,
-    law_newer_came_later, law_no_two_live_share_an_sci, law_vouched_is,
+    law_newer_came_later, law_no_two_live_share_an_sci, law_sent_is_at_most_the_clock_and_one,
+    law_vouched_is,
 };
 pub use table::PeerTable;
 
-/// The life time of what a peer said: 6.0 s, in ticks of 0.1 s.
-pub const LIFE_TIME: u8 = 60;
-
-/// The most peers that are remembered at once.
+/// The most other members that are remembered at once.
 pub const PEERS: usize = 64;
 
 #[cfg(test)]

@@ -2,9 +2,9 @@
 
 ghost use Rattle.std.specs.Prelude.{◌≡◌, ◌<◌, ◌≤◌, OnErr, length, map, slice_get, option_map, vec_capacity};
 ghost use Rattle.std.specs.List.Sorted.{IsBinarySearchResult, IsSearchInRange};
-ghost use Rattle.peer_lists.specs.Identifiers.{order};
+ghost use Rattle.lan_base.specs.Identifiers.{order};
 ghost use Rattle.peer_lists.specs.Table.{member};
-ghost use Rattle.peer_lists.specs.Steps.{aged_peer, aged_rows, crossed_rows, heard_at, shown};
+ghost use Rattle.peer_lists.specs.inside.RowChanges.{aged_peer, aged_rows, displaced_rows, heard_at, shown};
 
 use crate::heard::{Heard, Row};
 use crate::remembered::Remembered;
@@ -21,12 +21,14 @@ pub fn place_of(rows: &[Remembered], mi: &Mi) -> Result<usize, usize>
 /// A tick passes: rows whose last words are now old go.
 pub fn age(rows: &mut Vec<Remembered>)
     ensures rows { rows.new.items ≡ aged_rows rows.old.items }
+    ensures fewer { length rows.new.items ≤ length rows.old.items }
     ensures capacity { vec_capacity rows.new ≡ vec_capacity rows.old }
 {
     age_each(rows);
     rows.retain(|row| row.last.left > 0);
 }
 
+/// A tick passes for each row.
 fn age_each(rows: &mut Vec<Remembered>)
     ensures rows { rows.new.items ≡ map aged_peer rows.old.items }
     ensures capacity { vec_capacity rows.new ≡ vec_capacity rows.old }
@@ -37,17 +39,17 @@ fn age_each(rows: &mut Vec<Remembered>)
 }
 
 /// A vouched announcement displaces what other members said under its SCI.
-pub fn cross(rows: &mut Vec<Remembered>, heard: &Heard)
-    ensures rows { rows.new.items ≡ crossed_rows heard.now rows.old.items }
+pub fn displace(rows: &mut Vec<Remembered>, heard: &Heard)
+    ensures rows { rows.new.items ≡ displaced_rows heard.now rows.old.items }
     ensures capacity { vec_capacity rows.new ≡ vec_capacity rows.old }
 {
     for row in rows.iter_mut() {
-        row.cross(heard);
+        row.displace(heard);
     }
 }
 
-/// An accepted announcement goes into its member's row, or into a new one at the place where that belongs.
-/// There is room for it, so no memory is taken.
+/// An accepted announcement goes into its member's row, or into a new one at the place where that
+/// belongs. There is room for it, so no memory is taken.
 pub fn remember(
     rows: &mut Vec<Remembered>,
     place: Result<usize, usize>,
@@ -74,5 +76,21 @@ pub fn shown_at(rows: &[Remembered], at: usize) -> Option<Row>
     match rows.get(at) {
         Some(row) => Some(row.row()),
         None => None,
+    }
+}
+
+/// What is shown of the rows after a tick, in place of what the vector has. There is room for it.
+pub fn show_after_tick(rows: &[Remembered], into: &mut Vec<Row>)
+    requires { length rows.now ≤ vec_capacity into.old }
+    ensures rows { into.new.items ≡ map shown (aged_rows rows.now) }
+    ensures capacity { vec_capacity into.new ≡ vec_capacity into.old }
+{
+    into.clear();
+    for row in rows {
+        let mut aged = *row;
+        aged.tick();
+        if aged.last.left > 0 {
+            into.push_reserved(aged.row());
+        }
     }
 }

@@ -1,12 +1,14 @@
-//! What the table keeps of a peer: its last accepted and its last vouched announcement, each with the
-//! ticks that it has left and with whether a later announcement displaced it.
+//! What the table keeps of a peer: its last accepted and its last vouched announcement, each with
+//! the ticks that it has left and with whether a later announcement displaced it.
 
 ghost use Rattle.std.specs.Prelude.{◌≡◌};
-ghost use Rattle.peer_lists.specs.Steps.{aged, crossed, fresh, aged_peer, crossed_peer, has_sci, renewed, introduced, shown};
+ghost use Rattle.peer_lists.specs.inside.RowChanges.{aged, displaced_under, fresh, aged_peer, displaced_peer, has_sci, renewed, introduced, shown};
 
-use crate::LIFE_TIME;
 use crate::heard::{Heard, Row};
-use lan_base::{Mi, Sci};
+use lan_base::{LIFE_TIME, Mi, Sci};
+
+/// The life time, where a countdown begins.
+const WHOLE_LIFE: u8 = LIFE_TIME as u8;
 
 /// An accepted announcement that is younger than the life time.
 #[derive(Clone, Copy, Debug)]
@@ -19,16 +21,18 @@ pub struct Words {
 }
 
 impl Words {
+    /// Of an announcement that has just come.
     fn fresh(told: &Heard) -> Words
         ensures { result ≡ fresh told.now }
     {
         Words {
             told: *told,
-            left: LIFE_TIME,
+            left: WHOLE_LIFE,
             displaced: false,
         }
     }
 
+    /// A tick passes.
     fn tick(&mut self)
         ensures { self.new ≡ aged self.old }
     {
@@ -36,8 +40,8 @@ impl Words {
     }
 
     /// Another member's vouched announcement has this SCI.
-    fn cross(&mut self, sci: &Sci)
-        ensures { self.new ≡ crossed sci.now self.old }
+    fn displace(&mut self, sci: &Sci)
+        ensures { self.new ≡ displaced_under sci.now self.old }
     {
         if *sci == self.told.sci {
             self.displaced = true;
@@ -53,6 +57,7 @@ pub struct Remembered {
 }
 
 impl Remembered {
+    /// A peer that is heard for the first time.
     pub fn introduced(heard: &Heard, vouched: bool) -> Remembered
         ensures { result ≡ introduced vouched heard.now }
     {
@@ -74,6 +79,7 @@ impl Remembered {
         }
     }
 
+    /// A tick passes: vouched words that are now old go.
     pub fn tick(&mut self)
         ensures { self.new ≡ aged_peer self.old }
     {
@@ -97,15 +103,15 @@ impl Remembered {
     }
 
     /// A vouched announcement is heard, of this member or of another.
-    pub fn cross(&mut self, heard: &Heard)
-        ensures { self.new ≡ crossed_peer heard.now self.old }
+    pub fn displace(&mut self, heard: &Heard)
+        ensures { self.new ≡ displaced_peer heard.now self.old }
     {
         if !self.has_sci(&heard.sci) || self.last.told.mi == heard.mi {
             return;
         }
-        self.last.cross(&heard.sci);
+        self.last.displace(&heard.sci);
         if let Some(words) = &mut self.vouched {
-            words.cross(&heard.sci);
+            words.displace(&heard.sci);
         }
     }
 

@@ -1,12 +1,15 @@
 //! The message numbers that were sent less than the life time ago.
 
 ghost use Rattle.std.specs.Prelude.{◌≡◌, ◌≤◌};
-ghost use Rattle.peer_lists.specs.Steps.{no_numbers, numbers_after_tick, numbers_after_sent, is_number_recent};
+ghost use Rattle.peer_lists.specs.inside.Countdowns.{no_numbers, numbers_after_tick, numbers_after_sent, is_number_recent};
 
-use crate::LIFE_TIME;
+use lan_base::LIFE_TIME;
 
 /// How many numbers can have been sent less than the life time ago: one in each tick.
 const SENT: usize = LIFE_TIME as usize;
+
+/// The life time, where a countdown begins.
+const WHOLE_LIFE: u8 = LIFE_TIME as u8;
 
 /// The message numbers of a life, which rise by one and of which at most one is sent in a tick.
 #[derive(Clone, Copy, Debug)]
@@ -15,12 +18,13 @@ pub struct SentNumbers {
     pub last: u32,
     /// Whether none was sent since the last tick.
     pub may_send: bool,
-    /// At the rest of a number by the life time: in how many ticks that number, if it is the last one with
-    /// this rest, is as old as the life time.
+    /// At the rest of a number by the life time: in how many ticks that number, if it is the last
+    /// one with this rest, is as old as the life time.
     pub left: [u8; SENT],
 }
 
 impl SentNumbers {
+    /// Before any number is sent.
     pub fn none() -> SentNumbers
         ensures { result ≡ no_numbers }
     {
@@ -31,6 +35,7 @@ impl SentNumbers {
         }
     }
 
+    /// A tick passes.
     pub fn tick(&mut self)
         ensures { self.new ≡ numbers_after_tick self.old }
     {
@@ -40,19 +45,19 @@ impl SentNumbers {
         }
     }
 
+    /// A number is sent.
     pub fn send(&mut self, mn: u32)
         ensures { self.new ≡ numbers_after_sent mn self.old }
     {
         self.last = mn;
         self.may_send = false;
-        self.left[mn as usize % SENT] = LIFE_TIME;
+        self.left[mn as usize % SENT] = WHOLE_LIFE;
     }
 
+    /// Whether a number is one of the last ones and was sent less than the life time ago.
     pub fn is_recent(&self, mn: u32) -> bool
         ensures { result ≡ is_number_recent self.now mn }
     {
-        mn <= self.last
-            && self.last - mn < u32::from(LIFE_TIME)
-            && self.left[mn as usize % SENT] > 0
+        mn <= self.last && self.last - mn < LIFE_TIME && self.left[mn as usize % SENT] > 0
     }
 }

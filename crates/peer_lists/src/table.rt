@@ -1,25 +1,27 @@
 //! The peer lists of one life of a station.
 
-ghost use Rattle.std.specs.Prelude.{◌≡◌, ◌<◌, ◌≤◌, ◌+◌, ◌&&◌, ◌↔◌, ◌∷◌, [], List, ℕ, cond, length, slice_get, IfOk, IsNone, IsTrue, OnErr};
+ghost use Rattle.std.specs.Prelude.{◌≡◌, ◌<◌, ◌≤◌, ◌+◌, ◌&&◌, ◌↔◌, ◌∷◌, [], List, ℕ, cond, length, slice_get, vec_capacity, IfOk, IsNone, IsTrue, OnErr};
 ghost use Rattle.std.specs.Option.{option_map, option_or};
 ghost use Rattle.std.specs.List.Sorted.{IsBinarySearchResult, IsSearchInRange};
-ghost use Rattle.peer_lists.specs.Identifiers.{order};
-ghost use Rattle.peer_lists.specs.Histories.{Peering, ticked, sent, heard as heard_entry, recent as recent_after};
-ghost use Rattle.peer_lists.specs.Acceptance.{Own, IsDropped, echo, outcome};
+ghost use Rattle.lan_base.specs.Identifiers.{order};
+ghost use Rattle.peer_lists.specs.Histories.{Peering, ticked, sent, heard as heard_entry, recent as recent_after, last_sent as last_sent_in, may_send as may_send_after};
+ghost use Rattle.peer_lists.specs.Acceptance.{Own, IsDropped, echo, outcome, most_peers};
 ghost use Rattle.peer_lists.specs.Peers.{known, row_at};
 ghost use Rattle.peer_lists.specs.Table.{StandsFor, member};
-ghost use Rattle.peer_lists.specs.Steps.{reason_at, rows_heard, is_number_recent, shown};
+ghost use Rattle.peer_lists.specs.inside.RowChanges.{reason_at, rows_heard, shown};
+ghost use Rattle.peer_lists.specs.inside.Countdowns.{is_number_recent};
 
 use crate::PEERS;
 use crate::heard::{DropReason, Heard, Outcome, Row};
-use crate::places::{age, cross, place_of, remember, shown_at};
+use crate::places::{age, displace, place_of, remember, show_after_tick, shown_at};
 use crate::remembered::Remembered;
 use crate::sent_numbers::SentNumbers;
 use lan_base::{Mi, Sci};
 use std::alloc::{AllocError, Global};
 use std::marker::Model;
 
-/// Who was heard in one life of a station, and what it sent, as far as either is younger than the life time.
+/// Who was heard in one life of a station, and what it sent, as far as either is younger than the
+/// life time.
 #[derive(Drop)]
 pub struct PeerTable {
     mi: Mi,
@@ -29,24 +31,26 @@ pub struct PeerTable {
 }
 
 impl Model for PeerTable {
-    ghost use Rattle.std.specs.Prelude.{◌≤◌, vec_capacity};
+    ghost use Rattle.std.specs.Prelude.{◌≤◌, length, vec_capacity};
     ghost use Rattle.peer_lists.specs.Acceptance.{Own};
     ghost use Rattle.peer_lists.specs.Table.{Table};
 
     ghost Value = { Table };
 
-    ghost view = { λ t. record { own = record { mi = t.mi; sci = t.sci }; rows = t.rows.items; sent = t.sent } };
+    ghost view = { λ t. record {
+      own = record { mi = t.mi; sci = t.sci };
+      rows = t.rows.items;
+      sent = t.sent;
+    } };
 
-    ghost invariant = { λ t. 64 ≤ vec_capacity t.rows };
+    ghost invariant = { λ t. (length t.rows.items ≤ 64) × (64 ≤ vec_capacity t.rows) };
 }
 
 impl PeerTable {
-    /// The table of a life that begins. It takes all the memory that the table ever needs, and answers an
-    /// error only where there is none.
+    /// The table of a life that begins. It takes all the memory that the table ever needs, and
+    /// answers an error only where there is none.
     pub fn new(alloc: Global, own: Mi, sci: Sci) -> Result<PeerTable, AllocError>
-        ensures stands { IfOk result (λ t. StandsFor (record { mi = own; sci = sci }) t []) }
-        ensures last { IfOk result (λ t. t.sent.last ≡ 0) }
-        ensures may_send { IfOk result (λ t. IsTrue t.sent.may_send) }
+        ensures { IfOk result (λ t. StandsFor (record { mi = own; sci = sci }) t []) }
     {
         Ok(PeerTable {
             mi: own,
@@ -56,25 +60,55 @@ impl PeerTable {
         })
     }
 
+    /// A copy of the table, with all the memory that it ever needs. It answers an error only where
+    /// there is none.
+    pub fn copied(&self, alloc: Global) -> Result<PeerTable, AllocError>
+        ensures { IfOk result (λ t. t ≡ self.now) }
+    {
+        let mut rows = Vec::with_capacity(alloc, PEERS)?;
+        rows.extend_from_slice(&self.rows)?;
+        Ok(PeerTable {
+            mi: self.mi,
+            sci: self.sci,
+            rows,
+            sent: self.sent,
+        })
+    }
+
     /// A tick passes.
     pub fn tick(&mut self)
-        ensures stands { (own : Own) (h : List Peering) → StandsFor own self.old h →
+        ensures { (own : Own) (h : List Peering) → StandsFor own self.old h →
             StandsFor own self.new (ticked ∷ h) }
-        ensures last { self.new.sent.last ≡ self.old.sent.last }
-        ensures may_send { IsTrue self.new.sent.may_send }
     {
         self.sent.tick();
         age(&mut self.rows);
     }
 
-    /// The life sends its next announcement: its number is one greater than the last one's, or 1 for the
-    /// first, and none was sent since the last tick.
+    /// The number that the life sent last, 0 before the first.
+    pub fn last_sent(&self) -> u32
+        ensures { (own : Own) (h : List Peering) → StandsFor own self.now h →
+            result ≡ last_sent_in h }
+    {
+        self.sent.last
+    }
+
+    /// Whether the life sent nothing since the last tick.
+    pub fn may_send(&self) -> bool
+        ensures { (own : Own) (h : List Peering) → StandsFor own self.now h →
+            result ≡ may_send_after h }
+    {
+        self.sent.may_send
+    }
+
+    /// The life sends its next announcement: its number is one greater than the last one's, or 1
+    /// for the first, and none was sent since the last tick.
     pub fn sent(&mut self, mn: u32)
-        requires next { mn ≡ self.old.sent.last + 1 }
-        requires once { IsTrue self.old.sent.may_send }
-        ensures stands { (own : Own) (h : List Peering) → StandsFor own self.old h →
+        requires next { (own : Own) (h : List Peering) → StandsFor own self.old h →
+            mn ≡ last_sent_in h + 1 }
+        requires once { (own : Own) (h : List Peering) → StandsFor own self.old h →
+            IsTrue (may_send_after h) }
+        ensures { (own : Own) (h : List Peering) → StandsFor own self.old h →
             StandsFor own self.new (sent mn ∷ h) }
-        ensures last { self.new.sent.last ≡ mn }
     {
         self.sent.send(mn);
     }
@@ -94,7 +128,6 @@ impl PeerTable {
         ensures stands { (own : Own) (h : List Peering) → StandsFor own self.old h →
             StandsFor own self.new (heard_entry heard.now ∷ h) }
         ensures unchanged { IsDropped result → self.new ≡ self.old }
-        ensures sent { self.new.sent ≡ self.old.sent }
     {
         let place = place_of(self.rows.as_slice(), &heard.mi);
         match self.refusal(heard, place) {
@@ -112,7 +145,8 @@ impl PeerTable {
     /// The reason to drop what is heard, given the place of its member's row.
     fn refusal(&self, heard: &Heard, place: Result<usize, usize>) -> Option<DropReason>
         requires { IsSearchInRange place (length self.now.rows) }
-        ensures { result ≡ option_or (echo self.now.own heard.now) (reason_at place self.now.rows heard.now) }
+        ensures { result ≡ option_or (echo self.now.own heard.now)
+            (reason_at place self.now.rows heard.now) }
     {
         if heard.mi == self.mi || heard.sci == self.sci {
             return Some(DropReason::Echo);
@@ -130,13 +164,15 @@ impl PeerTable {
     fn accept(&mut self, heard: &Heard, place: Result<usize, usize>) -> bool
         requires bound { IsSearchInRange place (length self.old.rows) }
         requires room { OnErr place (length self.old.rows < PEERS) }
-        ensures vouched { result ≡ (heard.now.lists && is_number_recent self.old.sent heard.now.listed) }
-        ensures table { self.new ≡ record self.old { rows = rows_heard place result heard.now self.old.rows } }
+        ensures vouched { result ≡
+            (heard.now.lists && is_number_recent self.old.sent heard.now.listed) }
+        ensures table { self.new ≡
+            record self.old { rows = rows_heard place result heard.now self.old.rows } }
     {
         let vouched = heard.lists && self.sent.is_recent(heard.listed);
         remember(&mut self.rows, place, heard, vouched);
         if vouched {
-            cross(&mut self.rows, heard);
+            displace(&mut self.rows, heard);
         }
         vouched
     }
@@ -149,7 +185,8 @@ impl PeerTable {
         self.rows.len()
     }
 
-    /// The row at a place among them, in ascending order of member identifier, or `None` past the last.
+    /// The row at a place among them, in ascending order of member identifier, or `None` past the
+    /// last.
     pub fn row(&self, at: usize) -> Option<Row>
         ensures row { (own : Own) (h : List Peering) → StandsFor own self.now h →
             result ≡ row_at own h at }
@@ -157,5 +194,15 @@ impl PeerTable {
             (IsNone result ↔ (length (known own h) ≤ at)) }
     {
         shown_at(self.rows.as_slice(), at)
+    }
+    /// The rows as they will be after the next tick, in the same order. They take the place of what
+    /// the vector has, and there is room for them, so no memory is taken.
+    pub fn rows_after_tick(&self, into: &mut Vec<Row>)
+        requires { most_peers ≤ vec_capacity into.old }
+        ensures rows { (own : Own) (h : List Peering) → StandsFor own self.now h → (at : ℕ) →
+            slice_get into.new.items at ≡ row_at own (ticked ∷ h) at }
+        ensures capacity { vec_capacity into.new ≡ vec_capacity into.old }
+    {
+        show_after_tick(self.rows.as_slice(), into);
     }
 }

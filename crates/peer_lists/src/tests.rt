@@ -1,5 +1,3 @@
-ghost use Rattle.std.specs.Prelude.{◌≡◌};
-
 use crate::{DropReason, Heard, Outcome, PeerTable};
 use DropReason::{Echo, OldNumber, PeersFull};
 use Outcome::{Dropped, Unvouched, Vouched};
@@ -49,27 +47,16 @@ fn heard(member: u8, channel: u8, mn: u32, listed: Option<u32>) -> Heard {
 /// The station has the member identifier 9 and the SCI 90.
 fn plays(rt: &impl Abort, alloc: Global, steps: &[Step]) -> Result<(), Fail> {
     let mut table = PeerTable::new(alloc, mi(9), sci(90))?;
-    let mut last = 0;
     for step in steps {
-        last = play(rt, &mut table, last, step);
+        play(rt, &mut table, step);
     }
     Ok(())
 }
 
-/// Answers the number that was sent last.
-fn play(rt: &impl Abort, table: &mut PeerTable, last: u32, step: &Step) -> u32
-    requires { last ≡ table.old.sent.last }
-    ensures { result ≡ table.new.sent.last }
-{
+fn play(rt: &impl Abort, table: &mut PeerTable, step: &Step) {
     match *step {
         Ticks(count) => pass(table, count),
-        Sends => {
-            table.tick();
-            if last < u32::MAX {
-                table.sent(last + 1);
-                return last + 1;
-            }
-        }
+        Sends => send(table),
         Plain(member, channel, mn, outcome) => {
             assert_eq!(rt; table.hear(&heard(member, channel, mn, None)), outcome);
         }
@@ -82,14 +69,20 @@ fn play(rt: &impl Abort, table: &mut PeerTable, last: u32, step: &Step) -> u32
         Rows(rows) => shows(rt, table, rows),
         Recent(mn, recent) => assert_eq!(rt; table.recent(mn), recent),
     }
-    last
 }
 
-fn pass(table: &mut PeerTable, count: u8)
-    ensures { table.new.sent.last ≡ table.old.sent.last }
-{
+fn pass(table: &mut PeerTable, count: u8) {
     for _ in 0..count {
         table.tick();
+    }
+}
+
+/// A tick passes, and the next number is sent.
+fn send(table: &mut PeerTable) {
+    table.tick();
+    let last = table.last_sent();
+    if table.may_send() && last < u32::MAX {
+        table.sent(last + 1);
     }
 }
 
@@ -225,4 +218,22 @@ fn sixty_numbers_are_recent(rt: HostRuntime) -> Result<(), Fail> {
     steps[65] = Recent(62, false);
     steps[66] = Recent(121, false);
     plays(&rt, rt.alloc(), &steps)
+}
+
+#[test]
+fn shows_the_rows_after_a_tick(rt: HostRuntime) -> Result<(), Fail> {
+    let mut table = PeerTable::new(rt.alloc(), mi(9), sci(90))?;
+    let mut rows = Vec::with_capacity(rt.alloc(), 64)?;
+    assert_eq!(rt; table.hear(&heard(2, 20, 1, None)), Unvouched);
+    pass(&mut table, 59);
+    assert_eq!(rt; table.hear(&heard(1, 10, 1, None)), Unvouched);
+    table.rows_after_tick(&mut rows);
+    let mut copy = table.copied(rt.alloc())?;
+    copy.tick();
+    assert_eq!(rt; copy.len(), 1);
+    assert_eq!(rt; table.len(), 2);
+    assert_eq!(rt; rows.len(), 1);
+    assert_eq!(rt; rows[0].mi, mi(1));
+    assert!(rt; rows[0].potential);
+    Ok(())
 }

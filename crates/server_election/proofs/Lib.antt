@@ -3,4 +3,4 @@ pub mod Eligible
 pub mod Least
 pub mod Order
 pub mod Pairs
-mod Rows
+mod Examples

@@ -1,3 +1,5 @@
+//! A station that may be elected.
+
 use lan_base::{Mi, Sci};
 
 /// The priority that never serves.
@@ -15,6 +17,7 @@ impl Candidate {
     ghost use Rattle.std.specs.Prelude.{◌≡◌};
     ghost use Rattle.server_election.specs.Election.{may_serve, precedes};
 
+    /// Whether its priority lets it serve.
     pub(crate) fn may_serve(&self) -> bool
         ensures { result ≡ may_serve self.now }
     {

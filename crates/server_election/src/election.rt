@@ -1,3 +1,5 @@
+//! Who is elected.
+
 ghost use Rattle.std.specs.Prelude.{◌≡◌, List, [], ◌∷◌, ◌++◌, filter, option_to_list, Some};
 ghost use Rattle.server_election.specs.declared.candidate.Candidate.{Candidate};
 ghost use Rattle.server_election.specs.Election.{elected, first_of, least, may_serve};
@@ -5,9 +7,9 @@ ghost use Rattle.server_election.specs.Election.{elected, first_of, least, may_s
 use crate::Candidate;
 use lan_base::Mi;
 
-/// The server that a station elects: the least pair of priority and SCI among itself and its live peers,
-/// without those of priority 255. Of equal pairs its own comes first, and then the peers' in their order.
-/// `None` where no peer is live or nobody may serve.
+/// The server that a station elects: the least pair of priority and SCI among itself and its live
+/// peers, without those of priority 255. Of equal pairs its own comes first, and then the peers' in
+/// their order. `None` where no peer is live or nobody may serve.
 pub fn elect(own: &Candidate, live: &[Candidate]) -> Option<Mi>
     ensures { result ≡ elected own.now live.now }
 {
@@ -36,6 +38,7 @@ fn better(best: Option<Candidate>, next: &Candidate) -> Option<Candidate>
     }
 }
 
+/// The first, unless the next one has a smaller pair.
 fn first_of(best: Candidate, next: &Candidate) -> Candidate
     ensures { result ≡ first_of best (Some next.now) }
 {

@@ -1,5 +1,5 @@
 use Rattle.std.proofs.lemmas.Fn.{always_returns_same}
-use Rattle.peer_lists.specs.Identifiers.{order}
+use Rattle.lan_base.specs.Identifiers.{order}
 use Rattle.peer_lists.specs.Table.{member}
 use Rattle.peer_lists.proofs.places.place_of.Goals as goal
 use Rattle.std.proofs.Common.{rules}

@@ -1,7 +1,7 @@
 -- The table's test of a number is that of the history.
 use Rattle.std.proofs.Common.{◌∙◌, ap}
 use Rattle.peer_lists.specs.Table.{Table}
-use Rattle.peer_lists.specs.Steps.{is_number_recent}
+use Rattle.peer_lists.specs.inside.Countdowns.{is_number_recent}
 use Rattle.peer_lists.proofs.Stands.{recent-stands}
 use Rattle.peer_lists.proofs.table.PeerTable.recent.Goals as goal
 

@@ -1,14 +1,12 @@
 -- The table stands for the history with the announcement that was sent in front.
-use Rattle.std.proofs.Common.{◌∙◌, ◌+◌, ap, sym, subst}
+use Rattle.std.proofs.Common.{sym, subst}
 use Rattle.peer_lists.specs.Table.{Table, StandsFor}
 use Rattle.peer_lists.proofs.Stands.{stands-sent}
 use Rattle.peer_lists.proofs.table.PeerTable.sent.Goals as goal
 
-pub returns-clause-stands : goal.returns-clause-stands
-returns-clause-stands c =
+pub returns : goal.returns
+returns c =
     λ own h s.
     let view : Table = record { own = record { mi = c.self.inside.mi; sci = c.self.inside.sci }; rows = c.self.inside.rows.items; sent = c.self.inside.sent } in
     let stood : StandsFor own view h = subst (λ (t : Table). StandsFor own t h) (sym c.self.view_is) s in
-    let next = c.requires.next ∙ ap (λ (t : Table). t.sent.last + 1) (sym c.self.view_is) in
-    let once = ap (λ (t : Table). t.sent.may_send) c.self.view_is ∙ c.requires.once in
-    rw c.send.ensures (stands-sent own view h c.args.mn next once stood)
+    rw c.send.ensures (stands-sent own view h c.args.mn (c.requires.next own h s) (c.requires.once own h s) stood)

@@ -4,8 +4,8 @@ use Rattle.peer_lists.specs.Table.{Table, StandsFor}
 use Rattle.peer_lists.proofs.Stands.{stands-tick}
 use Rattle.peer_lists.proofs.table.PeerTable.tick.Goals as goal
 
-pub returns-clause-stands : goal.returns-clause-stands
-returns-clause-stands c =
+pub returns : goal.returns
+returns c =
     λ own h s.
     let view : Table = record { own = record { mi = c.self.inside.mi; sci = c.self.inside.sci }; rows = c.self.inside.rows.items; sent = c.self.inside.sent } in
     let stood : StandsFor own view h = subst (λ (t : Table). StandsFor own t h) (sym c.self.view_is) s in

@@ -7,9 +7,9 @@ use Rattle.mkpdu_codec.specs.declared.peer.Peer.{Peer}
 use Rattle.peer_lists.specs.declared.heard.Heard.{Heard}
 use Rattle.peer_lists.specs.declared.heard.DropReason.TheVariants.{Echo, OldNumber, PeersFull}
 use Rattle.peer_lists.specs.declared.heard.Outcome.TheVariants.{Vouched, Unvouched, Dropped}
-use Rattle.peer_lists.specs.Histories.{Peering, ticked, sent, heard, recent}
+use Rattle.peer_lists.specs.Histories.{Peering, ticked, sent, heard, recent, last_sent, may_send, IsCounted}
 use Rattle.peer_lists.specs.Acceptance.{Own, refusal, accepted, outcome}
-use Rattle.peer_lists.specs.Peers.{says, hopes, known, lives, potentials, row_at}
+use Rattle.peer_lists.specs.Peers.{last_accepted, says, hopes, known, lives, potentials, row_at}
 use Rattle.peer_lists.specs.Listings.{listing}
 
 abbrev mi : ℕ → Mi
@@ -129,6 +129,31 @@ vouched_at_60 = refl
 vouched_by_none : outcome own (sent 1 ∷ ticked ∷ []) (hello 1 10 1 2) ≡ Unvouched
 unfolding accepted refusal outcome
 vouched_by_none = refl
+
+-- Numbers: one may be sent in each tick, and one before the first, so that two are sent at clock 1.
+abbrev two_sent : List Peering
+two_sent = sent 2 ∷ ticked ∷ sent 1 ∷ []
+
+two_are_counted : IsCounted two_sent
+two_are_counted = (refl, refl, (refl, refl, tt))
+
+last_of_two : last_sent two_sent ≡ 2
+last_of_two = refl
+
+none_till_a_tick : may_send two_sent ≡ false
+none_till_a_tick = refl
+
+after_a_tick : may_send (ticked ∷ two_sent) ≡ true
+after_a_tick = refl
+
+-- the last accepted announcement of a member is kept in the history for ever, and a dropped one is none
+last_of_once : option_map (λ a. a.told.mn) (last_accepted own (ticks 60 once) (mi 1)) ≡ Some 5
+unfolding accepted refusal
+last_of_once = refl
+
+dropped_is_not_last : option_map (λ a. a.told.mn) (last_accepted own (plain 1 10 4 ∷ once) (mi 1)) ≡ Some 5
+unfolding accepted refusal
+dropped_is_not_last = refl
 
 -- what vouched at its moment stays vouched when the number grows old
 vouched_then : said (ticks 59 (listed 1 10 1 1 ∷ ticks 59 (sent 1 ∷ ticked ∷ []))) 1 ≡ Some 1

@@ -1,15 +1,14 @@
--- What the functions inside the crate do to rows and numbers. No public clause names these.
-use Rattle.std.specs.Prelude.{ℕ, ◌-◌, ◌%◌, Bool, true, false, cond, not, ◌&&◌, ◌||◌, List, [], ◌∷◌, Option, Some, None, is_some, is_none, option_map, option_and_then, unwrap_or, map, nat_lt, nat_le, slice_index, slice_index_or, slice_set, length, Result, Ok, Err, replicate}
+-- How the rows of the table change with each call (this profile's own rule).
+use Rattle.std.specs.Prelude.{ℕ, ◌-◌, Bool, false, cond, not, ◌&&◌, ◌||◌, List, [], ◌∷◌, Option, Some, None, is_some, is_none, option_map, option_and_then, unwrap_or, map, nat_lt, nat_le, slice_index_or, slice_set, length, Result, Ok, Err}
 use Rattle.std.specs.List.{filter, insert}
 use Rattle.std.specs.declared.cmp.Ordering.TheVariants.{Less, Equal, Greater}
 use Rattle.lan_base.specs.declared.address.Sci.{Sci}
 use Rattle.peer_lists.specs.declared.heard.Heard.{Heard}
 use Rattle.peer_lists.specs.declared.heard.Row.{Row}
-use Rattle.peer_lists.specs.declared.sent_numbers.SentNumbers.{SentNumbers}
 use Rattle.peer_lists.specs.declared.remembered.Words.{Words}
 use Rattle.peer_lists.specs.declared.remembered.Remembered.{Remembered}
-use Rattle.peer_lists.specs.Identifiers.{same_mi, same_sci, order}
-use Rattle.peer_lists.specs.Histories.{life_time}
+use Rattle.lan_base.specs.Identifiers.{same_mi, same_sci, order}
+use Rattle.lan_base.specs.Timers.{life_time}
 use Rattle.peer_lists.specs.Acceptance.{most_peers}
 use Rattle.peer_lists.specs.declared.heard.DropReason.{DropReason}
 use Rattle.peer_lists.specs.declared.heard.DropReason.TheVariants.{OldNumber, PeersFull}
@@ -24,8 +23,8 @@ abbrev pub aged : Words → Words
 aged w = record w { left = w.left - 1 }
 
 -- the same words after a vouched announcement of another member under an SCI
-abbrev pub crossed : Sci → Words → Words
-crossed s w = record w { displaced = same_sci s w.told.sci || w.displaced }
+abbrev pub displaced_under : Sci → Words → Words
+displaced_under s w = record w { displaced = same_sci s w.told.sci || w.displaced }
 
 -- the words, if they have ticks left
 abbrev pub kept_words : Words → Option Words
@@ -33,17 +32,24 @@ kept_words w = cond (nat_lt 0 w.left) (Some w) None
 
 -- a peer a tick later
 abbrev pub aged_peer : Remembered → Remembered
-aged_peer p = record { last = aged p.last; vouched = option_and_then (λ w. kept_words (aged w)) p.vouched }
+aged_peer p =
+    record { last = aged p.last; vouched = option_and_then (λ w. kept_words (aged w)) p.vouched }
 
 -- a peer after a vouched announcement
-abbrev pub crossed_peer : Heard → Remembered → Remembered
-crossed_peer x p =
-    cond (same_mi p.last.told.mi x.mi) p (record { last = crossed x.sci p.last; vouched = option_map (crossed x.sci) p.vouched })
+abbrev pub displaced_peer : Heard → Remembered → Remembered
+displaced_peer x p =
+    cond (same_mi p.last.told.mi x.mi) p (record {
+      last = displaced_under x.sci p.last;
+      vouched = option_map (displaced_under x.sci) p.vouched;
+    })
 
 -- whether the last words or the vouched ones of a peer have an SCI
 abbrev pub has_sci : Sci → Remembered → Bool
 has_sci s p =
-    elim p.vouched [ Some w ↦ same_sci s p.last.told.sci || same_sci s w.told.sci | None ↦ same_sci s p.last.told.sci ]
+    elim p.vouched [
+      | Some w ↦ same_sci s p.last.told.sci || same_sci s w.told.sci
+      | None ↦ same_sci s p.last.told.sci
+    ]
 
 -- a peer that was heard for the first time
 abbrev pub introduced : Bool → Heard → Remembered
@@ -61,48 +67,50 @@ live_words p = option_and_then (λ w. cond w.displaced None (Some w)) p.vouched
 abbrev pub shown : Remembered → Row
 shown p =
     let words = (unwrap_or (live_words p) p.last).told in
-    record { mi = p.last.told.mi; mn = p.last.told.mn; sci = words.sci; priority = words.priority; live = is_some (live_words p); potential = is_none (live_words p) && not p.last.displaced; uses = words.uses }
+    record {
+      mi = p.last.told.mi;
+      mn = p.last.told.mn;
+      sci = words.sci;
+      priority = words.priority;
+      live = is_some (live_words p);
+      potential = is_none (live_words p) && not p.last.displaced;
+      uses = words.uses;
+    }
 
 -- the rows with this one in its place, which that of its member gives up
 abbrev pub put : Remembered → List Remembered → List Remembered
 put r [] = r ∷ []
-put r (p ∷ ps) = elim (order (member r) (member p)) [ Less ↦ r ∷ p ∷ ps | Equal ↦ r ∷ ps | Greater ↦ p ∷ put r ps ]
+put r (p ∷ ps) =
+    elim (order (member r) (member p)) [
+      | Less ↦ r ∷ p ∷ ps
+      | Equal ↦ r ∷ ps
+      | Greater ↦ p ∷ put r ps
+    ]
 
 -- the rows a tick later: those whose last words are still young
 abbrev pub aged_rows : List Remembered → List Remembered
 aged_rows ps = filter (λ p. nat_lt 0 p.last.left) (map aged_peer ps)
 
 -- the rows after a vouched announcement
-abbrev pub crossed_rows : Heard → List Remembered → List Remembered
-crossed_rows x ps = map (crossed_peer x) ps
+abbrev pub displaced_rows : Heard → List Remembered → List Remembered
+displaced_rows x ps = map (displaced_peer x) ps
 
--- before any number is sent
-abbrev pub no_numbers : SentNumbers
-no_numbers = record { last = 0; may_send = true; left = replicate life_time 0 }
-
--- the numbers a tick later
-abbrev pub numbers_after_tick : SentNumbers → SentNumbers
-numbers_after_tick s = record { last = s.last; may_send = true; left = map (λ n. n - 1) s.left }
-
--- the numbers after one more was sent
-abbrev pub numbers_after_sent : ℕ → SentNumbers → SentNumbers
-numbers_after_sent n s = record { last = n; may_send = false; left = slice_set s.left (n % life_time) life_time }
-
--- whether a number is one of the last ones and has ticks left
-abbrev pub is_number_recent : SentNumbers → ℕ → Bool
-is_number_recent s n = nat_le n s.last && (nat_lt (s.last - n) life_time && nat_lt 0 (slice_index s.left (n % life_time)))
-
--- the rows after an accepted announcement, given where its member's row stands, or else where it belongs
+-- the rows after an accepted announcement, given where its member's row stands, or else where it
+-- belongs
 abbrev pub heard_at : Result ℕ ℕ → Bool → Heard → List Remembered → List Remembered
-heard_at (Ok at) vouched x ps = slice_set ps at (renewed vouched x (slice_index_or ps at (introduced vouched x)))
+heard_at (Ok at) vouched x ps =
+    slice_set ps at (renewed vouched x (slice_index_or ps at (introduced vouched x)))
 heard_at (Err at) vouched x ps = insert ps at (introduced vouched x)
 
 -- the reason to drop an announcement of another station, given the same place
 abbrev pub reason_at : Result ℕ ℕ → List Remembered → Heard → Option DropReason
 reason_at (Ok at) ps x =
-    let kept = (slice_index_or ps at (introduced false x)).last.told.mn in cond (nat_le x.mn kept) (Some (OldNumber kept)) None
+    let kept = (slice_index_or ps at (introduced false x)).last.told.mn in
+    cond (nat_le x.mn kept) (Some (OldNumber kept)) None
 reason_at (Err at) ps x = cond (nat_le most_peers (length ps)) (Some PeersFull) None
 
 -- the rows after an accepted announcement, which displaces others if it is vouched
 abbrev pub rows_heard : Result ℕ ℕ → Bool → Heard → List Remembered → List Remembered
-rows_heard place vouched x ps = let rows = heard_at place vouched x ps in cond vouched (crossed_rows x rows) rows
+rows_heard place vouched x ps =
+    let rows = heard_at place vouched x ps in
+    cond vouched (displaced_rows x rows) rows

@@ -1,0 +1,3 @@
+-- Definitions that serve private functions alone. No public clause cites one.
+pub mod RowChanges
+pub mod Countdowns
