@@ -1,15 +1,12 @@
 -- The cipher a round at a time.
-use Rattle.std.proofs.Common.{◌≡◌, ℕ, zero, suc, ◌+◌, ◌-◌, ◌≤◌, List, [], ◌∷◌, length, take, refl, sym, ap, ◌∙◌, arith, inl}
+use Rattle.std.proofs.Common.{◌≡◌, ℕ, zero, suc, ◌+◌, ◌-◌, ◌≤◌, List, refl, sym, ap, ◌∙◌, arith}
 use Rattle.aes_block.specs.Octet.{octets_sum}
 use Rattle.aes_block.specs.State.{add_round_key, round, last_round}
-use Rattle.aes_block.specs.Column.{octets_of, octets_of_words}
+use Rattle.aes_block.specs.Column.{octets_of}
 use Rattle.aes_block.specs.Columns.{octets_of_state}
 use Rattle.aes_block.specs.declared.state.State.{State}
 use Rattle.aes_block.specs.Expansion.{expanded_key, round_count, round_key}
-use Rattle.aes_block.specs.Aes.{IsBlock, IsKey, aes, after_rounds, cipher}
-use Rattle.aes_block.proofs.Octets.{AreOctets, All-from_AreOctets, AreOctets-append}
-use Rattle.aes_block.proofs.Schedule.{length-four_words}
-use Rattle.aes_block.proofs.Words.{octets_of-AreOctets}
+use Rattle.aes_block.specs.Aes.{IsBlock, aes, after_rounds, cipher}
 use Rattle.aes_block.proofs.MixedWords.{IsFour-octets_of}
 use Rattle.aes_block.proofs.Steps.{columns-IsBlock, octets_sum-twice}
 
@@ -39,17 +36,6 @@ unfolding aes cipher
 last_round-after key block i n i_is n_is =
     let words = expanded_key key in
     λ j. last_round (after_rounds words block (i_is j - 1)) (round_key words (n_is j))
-
-AreOctets-words : (words : List ℕ) → AreOctets (octets_of_words words)
-AreOctets-words [] = tt
-AreOctets-words (w ∷ ws) = AreOctets-append (octets_of w) (octets_of_words ws) (octets_of-AreOctets w) (AreOctets-words ws)
-
--- the octets of four words are a key
-pub IsKey-four_words : (words : List ℕ) → 4 ≤ length words → IsKey (octets_of_words (take 4 words))
-IsKey-four_words words le = record {
-  count = inl (length-four_words words le);
-  octets = All-from_AreOctets _ (AreOctets-words (take 4 words));
-}
 
 -- the octets of a state are a block
 pub IsBlock-octets_of_state : (s : State) → IsBlock (octets_of_state s)

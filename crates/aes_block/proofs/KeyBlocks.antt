@@ -13,7 +13,7 @@ use Rattle.aes_block.proofs.SBox.{sub_octet-lt}
 use Rattle.aes_block.proofs.Mixing.{IsFour, four, IsFour-from, IsFour-sum}
 use Rattle.aes_block.proofs.Steps.{AreInverse, columns-IsBlock}
 use Rattle.aes_block.proofs.Schedule.{length-expansion}
-use Rattle.aes_block.proofs.Rounds.{HasKeys, before_cipher, cipher-inverse}
+use Rattle.aes_block.proofs.Rounds.{HasKeys, inv_cipher, cipher-inverse}
 
 power_of_x-lt : (n : ℕ) → power_of_x n < 256
 unfolding power_of_x
@@ -75,11 +75,11 @@ some_octets : (key : List ℕ) → IsKey key → 4 ≤ length key
 some_octets key h = elim h.count [ inl e ↦ omega arith | inr e ↦ elim e [ inl e' ↦ omega arith | inr e' ↦ omega arith ] ]
 
 -- the cipher under a key, undone
-pub before_aes : List ℕ → List ℕ → List ℕ
-before_aes key t = before_cipher (expanded_key key) (round_count key) t
+pub inv_aes : List ℕ → List ℕ → List ℕ
+inv_aes key t = inv_cipher (expanded_key key) (round_count key) t
 
-pub aes-inverse : (key : List ℕ) → IsKey key → AreInverse (aes key) (before_aes key)
-unfolding aes before_aes HasKeys
+pub aes-inverse : (key : List ℕ) → IsKey key → AreInverse (aes key) (inv_aes key)
+unfolding aes inv_aes HasKeys
 aes-inverse key h =
     cipher-inverse (expanded_key key) (round_count key)
     (λ i le. IsBlock-round_key key (AreOctets-from_All key h.octets) (some_octets key h) (4 * (round_count key + 1)) i (omega arith))

@@ -1,3 +1,4 @@
+pub mod Sums
 pub mod EachOctet
 pub mod Octets
 pub mod Inverses
@@ -6,9 +7,11 @@ pub mod Doubled
 pub mod Words
 pub mod Mixing
 pub mod MixedWords
+pub mod MixedTable
 pub mod Steps
 pub mod Rounds
 pub mod Schedule
+pub mod Held
 pub mod KeyBlocks
 pub mod Cipher
 pub mod Vectors

@@ -6,7 +6,7 @@ use Rattle.aes_block.specs.Octet.{octets_sum, times}
 use Rattle.aes_block.specs.State.{mixed_column}
 use Rattle.aes_block.specs.Column.{octets_of}
 use Rattle.aes_block.proofs.Doubled.{times_3}
-use Rattle.aes_block.proofs.Mixing.{IsFour, four, turned, unmixed_column, mixed_column-unmixed_column}
+use Rattle.aes_block.proofs.Mixing.{IsFour, four, turned, inv_mixed_column, mixed_column-inv_mixed_column}
 use Rattle.aes_block.proofs.Words.{octets_of-rotate_8, octets_of-rotate_16, octets_of-rotate_24, octets_of-xor}
 
 -- a word has four octets
@@ -41,13 +41,13 @@ octets_of-mixed n t fits twice_fits twice =
 module _ (n t once twice m : ℕ) (fits : n < 2 ^ 32) (is_turned : t ≡ rotate_left w32 n 16)
     (is_once : octets_of once ≡ map (times 2) (octets_of (bit_xor n t))) (is_twice : octets_of twice ≡ map (times 2) (octets_of once))
     (is_mixed : octets_of m ≡ mixed_column (octets_of (bit_xor n twice))) where
-  octets_of-unmixed : octets_of m ≡ unmixed_column (octets_of n)
-  octets_of-unmixed =
+  octets_of-inv_mixed : octets_of m ≡ inv_mixed_column (octets_of n)
+  octets_of-inv_mixed =
       let turn : octets_of t ≡ turned (octets_of n) = ap octets_of is_turned ∙ octets_of-rotate_16 n fits in
       let across : octets_of (bit_xor n t) ≡ octets_sum (octets_of n) (turned (octets_of n)) = octets_of-xor n t ∙ ap (octets_sum (octets_of n)) turn in
       let doubled_twice : octets_of twice ≡ map (times 2) (map (times 2) (octets_sum (octets_of n) (turned (octets_of n)))) =
       is_twice ∙ ap (map (times 2)) (is_once ∙ ap (map (times 2)) across) in
       is_mixed ∙ ap mixed_column (octets_of-xor n twice ∙ ap (octets_sum (octets_of n)) doubled_twice)
 
-  pub unmixed_undone : mixed_column (octets_of m) ≡ octets_of n
-  unmixed_undone = ap mixed_column octets_of-unmixed ∙ mixed_column-unmixed_column (octets_of n) (IsFour-octets_of n)
+  pub inv_mixed_undone : mixed_column (octets_of m) ≡ octets_of n
+  inv_mixed_undone = ap mixed_column octets_of-inv_mixed ∙ mixed_column-inv_mixed_column (octets_of n) (IsFour-octets_of n)

@@ -127,11 +127,11 @@ linear-mixed_column = record { keeps = keeps; adds = adds }
 -- ---- the inverse
 
 -- a column before it is mixed: the product with 4 x ^ 2 + 5, and then with the polynomial of a mixed column (5.3.3)
-abbrev pub unmixed_column : List ℕ → List ℕ
-unmixed_column u = mixed_column (octets_sum u (map (times 2) (map (times 2) (octets_sum u (turned u)))))
+abbrev pub inv_mixed_column : List ℕ → List ℕ
+inv_mixed_column u = mixed_column (octets_sum u (map (times 2) (map (times 2) (octets_sum u (turned u)))))
 
-pub linear-unmixed_column : IsLinear unmixed_column
-linear-unmixed_column =
+pub linear-inv_mixed_column : IsLinear inv_mixed_column
+linear-inv_mixed_column =
     let across = linear-after (map (times 2)) _ linear-doubled (linear-after (map (times 2)) _ linear-doubled (linear-sum _ _ linear-itself linear-turned)) in
     linear-after mixed_column _ linear-mixed_column (linear-sum _ _ linear-itself across)
 
@@ -189,12 +189,12 @@ identity f linear tests_0 tests_1 tests_2 tests_3 u (four {a} {b} {c} {d} fa fb 
     (octets_sum (given_back f in_row_2 tests_2 c fc i) (given_back f in_row_3 tests_3 d fd i)))
     ∙ apart a b c d
 
-pub mixed_column-unmixed_column : (u : List ℕ) → IsFour u → mixed_column (unmixed_column u) ≡ u
+pub mixed_column-inv_mixed_column : (u : List ℕ) → IsFour u → mixed_column (inv_mixed_column u) ≡ u
 unfolding mixed_column times
-mixed_column-unmixed_column =
-    identity (λ u. mixed_column (unmixed_column u)) (linear-after mixed_column unmixed_column linear-mixed_column linear-unmixed_column) refl refl refl refl
+mixed_column-inv_mixed_column =
+    identity (λ u. mixed_column (inv_mixed_column u)) (linear-after mixed_column inv_mixed_column linear-mixed_column linear-inv_mixed_column) refl refl refl refl
 
-pub unmixed_column-mixed_column : (u : List ℕ) → IsFour u → unmixed_column (mixed_column u) ≡ u
+pub inv_mixed_column-mixed_column : (u : List ℕ) → IsFour u → inv_mixed_column (mixed_column u) ≡ u
 unfolding mixed_column times
-unmixed_column-mixed_column =
-    identity (λ u. unmixed_column (mixed_column u)) (linear-after unmixed_column mixed_column linear-unmixed_column linear-mixed_column) refl refl refl refl
+inv_mixed_column-mixed_column =
+    identity (λ u. inv_mixed_column (mixed_column u)) (linear-after inv_mixed_column mixed_column linear-inv_mixed_column linear-mixed_column) refl refl refl refl

@@ -14,6 +14,12 @@ AreOctets-at [] h k d lt = absurd (omega arith)
 AreOctets-at (x ∷ xs) h zero d lt = h.0
 AreOctets-at (x ∷ xs) h (suc k) d lt = AreOctets-at xs h.1 k d (omega arith)
 
+-- and past the end there is none
+pub AreOctets-anywhere : (xs : List ℕ) → AreOctets xs → (k : ℕ) → get_or xs k 0 < 256
+AreOctets-anywhere [] h k = omega arith
+AreOctets-anywhere (x ∷ xs) h zero = h.0
+AreOctets-anywhere (x ∷ xs) h (suc k) = AreOctets-anywhere xs h.1 k
+
 pub All-from_AreOctets : (xs : List ℕ) → AreOctets xs → All (λ x. x < 256) xs
 All-from_AreOctets xs h = λ k d lt. AreOctets-at xs h k d lt
 

@@ -3,14 +3,15 @@ use Rattle.std.proofs.Common.{◌≡◌, ℕ, zero, suc, ◌+◌, ◌-◌, ◌*�
 use Rattle.std.specs.Prelude.{if◌then◌else◌, nat_lt, ◌==◌, slice_index, slice_index_or}
 use Rattle.std.specs.Int.{w32, from_be_bytes, rotate_left}
 use Rattle.std.specs.List.{concat}
-use Rattle.std.proofs.lemmas.Bool.{cases_lt, eq-eqb, le-ltb}
-use Rattle.std.proofs.lemmas.List.{get_or-map, get_or-take, length-take-le, map-append, take_all, take_more_set, take-append-le, take-map}
+use Rattle.std.proofs.Math.Seq.{take-add}
+use Rattle.std.proofs.lemmas.Bool.{cases_lt, eq-eqb, le-ltb, lt-ltb}
+use Rattle.std.proofs.lemmas.List.Folds.{concat-append}
+use Rattle.std.proofs.lemmas.List.{append-nil, get_or-map, get_or-take, length-take-le, map-append, take_all, take_more_set, take-append-le, take-map, take-take}
 use Rattle.aes_block.specs.Octet.{octets_sum, times}
 use Rattle.aes_block.specs.Column.{octets_of, octets_of_words}
-use Rattle.aes_block.specs.Expansion.{addend, expansion, key_words, next_word, power_of_x, rot_word, round_constant, round_count, round_key, sub_word, word_at}
+use Rattle.aes_block.specs.Expansion.{addend, expansion, key_words, next_word, power_of_x, rot_word, round_constant, round_key, sub_word, word_at}
 use Rattle.aes_block.specs.declared.expansion.TheConstants.{POWERS_OF_X}
 use Rattle.aes_block.proofs.EachOctet.{equal_below, below_number}
-use Rattle.aes_block.proofs.Steps.{written_out}
 use Rattle.aes_block.proofs.Words.{octets_of-from_bytes, octets_of-rotate_8, octets_of-xor}
 
 -- the table of powers of x
@@ -84,37 +85,41 @@ next_word-after key ws i added some room after same is_added =
     ∙ sym (ap (λ b. if b then take 4 (drop (4 * i) key)
     else octets_sum (word_at (expansion key i) (i - key_words key)) (addend (key_words key) i (word_at (expansion key i) (i - 1)))) (le-ltb i (key_words key) after))
 
--- the first four words of an expanded key of 16 octets are the key
-pub first_words : (key : List ℕ) → length key ≡ 16 → concat (expansion key 4) ≡ key
+-- a word of the key's own
+own_word : (key : List ℕ) (words : List (List ℕ)) (i : ℕ) → i < key_words key → next_word key words i ≡ take 4 (drop (4 * i) key)
+own_word key words i lt =
+    ap (λ b. if b then take 4 (drop (4 * i) key)
+    else octets_sum (word_at words (i - key_words key)) (addend (key_words key) i (word_at words (i - 1)))) (lt-ltb i (key_words key) lt)
+
+-- the octets of the first words of an expanded key are the key's own
+concat-expansion : (key : List ℕ) (n : ℕ) → n ≤ key_words key → concat (expansion key n) ≡ take (4 * n) key
 unfolding expansion
-first_words key count = sym (ap (λ k. concat (expansion k 4)) (written_out key count)) ∙ written_out key count
+concat-expansion key zero le = refl
+concat-expansion key (suc n) le =
+    let words = expansion key n in
+    let count = length-expansion key n in
+    let more : 4 * suc n ≡ 4 * n + 4 = omega arith in
+    let next = append-nil (next_word key words (length words)) ∙ own_word key words (length words) (omega (arith, count))
+    ∙ ap (λ k. take 4 (drop (4 * k) key)) count in
+    concat-append words (next_word key words (length words) ∷ [])
+    ∙ (λ j. concat-expansion key n (omega arith) j ++ next j)
+    ∙ sym (take-add (4 * n) 4 key) ∙ ap (λ k. take k key) (sym more)
 
 -- words whose octets are those of an expanded key begin with the key
-pub key_of_words : (key ws : List ℕ) → length key ≡ 16 → map octets_of ws ≡ expansion key 44 → octets_of_words (take 4 ws) ≡ key
-key_of_words key ws count same =
-    ap concat (sym (take-map octets_of 4 ws) ∙ ap (take 4) same ∙ take-expansion key 4 44 (omega arith)) ∙ first_words key count
-
--- four words have sixteen octets
-pub length-four_words : (ws : List ℕ) → 4 ≤ length ws → length (octets_of_words (take 4 ws)) ≡ 16
-unfolding octets_of
-length-four_words [] le = absurd (omega arith)
-length-four_words (a ∷ []) le = absurd (omega arith)
-length-four_words (a ∷ b ∷ []) le = absurd (omega arith)
-length-four_words (a ∷ b ∷ c ∷ []) le = absurd (omega arith)
-length-four_words (a ∷ b ∷ c ∷ d ∷ ws) le = refl
-
--- a key of sixteen octets has ten rounds
-pub round_count-128 : (key : List ℕ) → length key ≡ 16 → round_count key ≡ 10
-round_count-128 key count = ap (λ n. n / 4 + 6) count
+pub key_of_words : (key ws : List ℕ) (n m : ℕ) → length key ≡ 4 * n → n ≤ m → map octets_of (take m ws) ≡ expansion key m
+    → octets_of_words (take n ws) ≡ key
+key_of_words key ws n m count le same =
+    ap (λ l. concat (map octets_of l)) (sym (take-take n m ws le)) ∙ ap concat (sym (take-map octets_of n (take m ws)))
+    ∙ ap (λ l. concat (take n l)) same ∙ ap concat (take-expansion key n m le)
+    ∙ concat-expansion key n (omega (arith, count)) ∙ take_all (4 * n) key (omega (arith, count))
 
 -- four words in a row, from the code's words
-pub round_key-words : (ws : List ℕ) (key : List ℕ) (i : ℕ) → length ws ≡ 44 → map octets_of ws ≡ expansion key 44 → i ≤ 10
+pub round_key-words : (ws : List ℕ) (key : List ℕ) (i n : ℕ) → n ≤ length ws → map octets_of (take n ws) ≡ expansion key n → 4 * i + 4 ≤ n
     → octets_of (get_or ws (4 * i) 0) ++ octets_of (get_or ws (4 * i + 1) 0) ++ octets_of (get_or ws (4 * i + 2) 0) ++ octets_of (get_or ws (4 * i + 3) 0)
-    ≡ round_key (expansion key 44) i
+    ≡ round_key (expansion key n) i
 unfolding round_key
-round_key-words ws key i count same le =
-    let all : map octets_of (take 44 ws) ≡ expansion key 44 = ap (map octets_of) (take_all 44 ws (omega arith)) ∙ same in
-    let word = λ (j : ℕ) (lt : j < 44). word_at-words ws (expansion key 44) 44 j all lt (omega arith) in
+round_key-words ws key i n room same le =
+    let word = λ (j : ℕ) (lt : j < n). word_at-words ws (expansion key n) n j same lt room in
     λ j. word (4 * i) (omega arith) j ++ word (4 * i + 1) (omega arith) j ++ word (4 * i + 2) (omega arith) j ++ word (4 * i + 3) (omega arith) j
 
 -- one word more of the code's words
@@ -123,10 +128,3 @@ pub words-more : (key ws : List ℕ) (i word : ℕ) → i < length ws → map oc
 words-more key ws i word lt before is =
     ap (map octets_of) (take_more_set ws i word lt) ∙ map-append octets_of (take i ws) (word ∷ [])
     ∙ (λ j. before j ++ is j ∷ []) ∙ expansion-more key i
-
--- all of the code's words
-pub words-all : (key ws : List ℕ) (i : ℕ) → length ws ≡ 44 → i ≤ 44 → 44 ≤ i → map octets_of (take i ws) ≡ expansion key i
-    → map octets_of ws ≡ expansion key 44
-words-all key ws i count le ge same =
-    let last : i ≡ 44 = omega arith in
-    ap (map octets_of) (sym (take_all i ws (omega arith))) ∙ same ∙ ap (expansion key) last

@@ -11,7 +11,7 @@ use Rattle.aes_block.specs.Aes.{IsBlock}
 use Rattle.aes_block.specs.declared.s_box.TheConstants.{INVERSE_S_BOX}
 use Rattle.aes_block.proofs.Octets.{AreOctets, All-from_AreOctets, AreOctets-from_All, AreOctets-map, AreOctets-octets_sum}
 use Rattle.aes_block.proofs.SBox.{sub_octet-lt, inverse_entry-lt, sub_octet-inverse_entry, inverse_entry-sub_octet}
-use Rattle.aes_block.proofs.Mixing.{IsFour, four, linear-mixed_column, linear-unmixed_column, unmixed_column, mixed_column-unmixed_column, unmixed_column-mixed_column}
+use Rattle.aes_block.proofs.Mixing.{IsFour, four, linear-mixed_column, linear-inv_mixed_column, inv_mixed_column, mixed_column-inv_mixed_column, inv_mixed_column-mixed_column}
 
 -- f and g keep blocks, and each undoes the other on them
 pub record AreInverse (f g : List ℕ → List ℕ) : Type 0 where
@@ -64,11 +64,11 @@ map-IsBlock : (f : ℕ → ℕ) → ((n : ℕ) → n < 256 → f n < 256) → (s
 map-IsBlock f fits s h =
     IsBlock-from (map f s) (length-map s f ∙ h.count) (AreOctets-map f fits s (AreOctets-from_All s h.octets))
 
-pub unsub_bytes : List ℕ → List ℕ
-unsub_bytes s = map (slice_index INVERSE_S_BOX) s
+pub inv_sub_bytes : List ℕ → List ℕ
+inv_sub_bytes s = map (slice_index INVERSE_S_BOX) s
 
-pub sub_bytes-inverse : AreInverse sub_bytes unsub_bytes
-unfolding sub_bytes unsub_bytes
+pub sub_bytes-inverse : AreInverse sub_bytes inv_sub_bytes
+unfolding sub_bytes inv_sub_bytes
 sub_bytes-inverse = record {
   keeps = map-IsBlock sub_octet sub_octet-lt;
   keeps_back = map-IsBlock (slice_index INVERSE_S_BOX) inverse_entry-lt;
@@ -78,8 +78,8 @@ sub_bytes-inverse = record {
 
 -- ---- ShiftRows
 
-pub unshift_rows : List ℕ → List ℕ
-unshift_rows s = state_of (λ column. column_of (λ row. octet_at s row ((column + 4 - row) % 4)))
+pub inv_shift_rows : List ℕ → List ℕ
+inv_shift_rows s = state_of (λ column. column_of (λ row. octet_at s row ((column + 4 - row) % 4)))
 
 shift_rows-IsBlock : (s : List ℕ) → IsBlock s → IsBlock (shift_rows s)
 unfolding shift_rows
@@ -91,9 +91,9 @@ shift_rows-IsBlock s h =
     (four (fits 8 (omega arith)) (fits 13 (omega arith)) (fits 2 (omega arith)) (fits 7 (omega arith)))
     (four (fits 12 (omega arith)) (fits 1 (omega arith)) (fits 6 (omega arith)) (fits 11 (omega arith)))
 
-unshift_rows-IsBlock : (s : List ℕ) → IsBlock s → IsBlock (unshift_rows s)
-unfolding unshift_rows
-unshift_rows-IsBlock s h =
+inv_shift_rows-IsBlock : (s : List ℕ) → IsBlock s → IsBlock (inv_shift_rows s)
+unfolding inv_shift_rows
+inv_shift_rows-IsBlock s h =
     let fits = octet_fits s h in
     columns-IsBlock
     (four (fits 0 (omega arith)) (fits 13 (omega arith)) (fits 10 (omega arith)) (fits 7 (omega arith)))
@@ -101,19 +101,19 @@ unshift_rows-IsBlock s h =
     (four (fits 8 (omega arith)) (fits 5 (omega arith)) (fits 2 (omega arith)) (fits 15 (omega arith)))
     (four (fits 12 (omega arith)) (fits 9 (omega arith)) (fits 6 (omega arith)) (fits 3 (omega arith)))
 
-pub shift_rows-inverse : AreInverse shift_rows unshift_rows
-unfolding shift_rows unshift_rows
+pub shift_rows-inverse : AreInverse shift_rows inv_shift_rows
+unfolding shift_rows inv_shift_rows
 shift_rows-inverse = record {
   keeps = shift_rows-IsBlock;
-  keeps_back = unshift_rows-IsBlock;
+  keeps_back = inv_shift_rows-IsBlock;
   undone = λ s h. written_out s h.count;
   made = λ s h. written_out s h.count;
 }
 
 -- ---- MixColumns
 
-pub unmix_columns : List ℕ → List ℕ
-unmix_columns s = state_of (λ column. unmixed_column (column_of (λ row. octet_at s row column)))
+pub inv_mix_columns : List ℕ → List ℕ
+inv_mix_columns s = state_of (λ column. inv_mixed_column (column_of (λ row. octet_at s row column)))
 
 -- a block's columns
 module _ (s : List ℕ) (h : IsBlock s) where
@@ -129,8 +129,8 @@ module _ (s : List ℕ) (h : IsBlock s) where
   column_3-IsFour : IsFour (slice_index s 12 ∷ slice_index s 13 ∷ slice_index s 14 ∷ slice_index s 15 ∷ [])
   column_3-IsFour = four (octet_fits s h 12 (omega arith)) (octet_fits s h 13 (omega arith)) (octet_fits s h 14 (omega arith)) (octet_fits s h 15 (omega arith))
 
-pub mix_columns-inverse : AreInverse mix_columns unmix_columns
-unfolding mixed_column mix_columns unmix_columns
+pub mix_columns-inverse : AreInverse mix_columns inv_mix_columns
+unfolding mixed_column mix_columns inv_mix_columns
 mix_columns-inverse = record {
   keeps = λ s h. columns-IsBlock
       (linear-mixed_column.keeps _ (column_0-IsFour s h))
@@ -138,21 +138,21 @@ mix_columns-inverse = record {
       (linear-mixed_column.keeps _ (column_2-IsFour s h))
       (linear-mixed_column.keeps _ (column_3-IsFour s h));
   keeps_back = λ s h. columns-IsBlock
-      (linear-unmixed_column.keeps _ (column_0-IsFour s h))
-      (linear-unmixed_column.keeps _ (column_1-IsFour s h))
-      (linear-unmixed_column.keeps _ (column_2-IsFour s h))
-      (linear-unmixed_column.keeps _ (column_3-IsFour s h));
+      (linear-inv_mixed_column.keeps _ (column_0-IsFour s h))
+      (linear-inv_mixed_column.keeps _ (column_1-IsFour s h))
+      (linear-inv_mixed_column.keeps _ (column_2-IsFour s h))
+      (linear-inv_mixed_column.keeps _ (column_3-IsFour s h));
   undone = λ s h. (λ i.
-      unmixed_column-mixed_column _ (column_0-IsFour s h) i
-      ++ unmixed_column-mixed_column _ (column_1-IsFour s h) i
-      ++ unmixed_column-mixed_column _ (column_2-IsFour s h) i
-      ++ unmixed_column-mixed_column _ (column_3-IsFour s h) i)
+      inv_mixed_column-mixed_column _ (column_0-IsFour s h) i
+      ++ inv_mixed_column-mixed_column _ (column_1-IsFour s h) i
+      ++ inv_mixed_column-mixed_column _ (column_2-IsFour s h) i
+      ++ inv_mixed_column-mixed_column _ (column_3-IsFour s h) i)
       ∙ written_out s h.count;
   made = λ s h. (λ i.
-      mixed_column-unmixed_column _ (column_0-IsFour s h) i
-      ++ mixed_column-unmixed_column _ (column_1-IsFour s h) i
-      ++ mixed_column-unmixed_column _ (column_2-IsFour s h) i
-      ++ mixed_column-unmixed_column _ (column_3-IsFour s h) i)
+      mixed_column-inv_mixed_column _ (column_0-IsFour s h) i
+      ++ mixed_column-inv_mixed_column _ (column_1-IsFour s h) i
+      ++ mixed_column-inv_mixed_column _ (column_2-IsFour s h) i
+      ++ mixed_column-inv_mixed_column _ (column_3-IsFour s h) i)
       ∙ written_out s h.count;
 }
 

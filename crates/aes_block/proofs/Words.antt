@@ -1,11 +1,11 @@
 -- The octets of words, of their sums and of their rotations.
 use Rattle.std.proofs.Common.{◌≡◌, ℕ, zero, suc, ◌+◌, ◌*◌, ◌/◌, ◌%◌, ◌^◌, ◌<◌, ◌≤◌, length, length-drop, get_or-drop, add-zero, List, [], ◌∷◌, ◌++◌, take, drop, get_or, map, refl, sym, ap, ◌∙◌, arith, bit_and, bit_or, bit_xor}
-use Rattle.std.specs.Int.{w32, from_be_bytes, rotate_left}
-use Rattle.std.proofs.lemmas.Nat.{and_block, and_le_r, be_bytes_4, or_shifted, xor_block, xor_mod, xor_shr, xor_of_8}
+use Rattle.std.specs.Int.{w32, w64, from_be_bytes, rotate_left, to_be_bytes}
+use Rattle.std.proofs.lemmas.Nat.{and_block, and_le_r, be_bytes_4, be_bytes_8, or_shifted, xor_block, xor_mod, xor_shr, xor_of_8}
 use Rattle.aes_block.specs.Octet.{octets_sum, times}
 use Rattle.aes_block.specs.Column.{octets_of}
 use Rattle.aes_block.proofs.Doubled.{shifted, times_2, high_bit}
-use Rattle.aes_block.proofs.Octets.{AreOctets}
+use Rattle.aes_block.proofs.Octets.{AreOctets, AreOctets-anywhere}
 
 -- the word with these octets
 abbrev pub word : ℕ → ℕ → ℕ → ℕ → ℕ
@@ -177,3 +177,21 @@ pub four_at : (xs : List ℕ) (k : ℕ) → k + 4 ≤ length xs
 four_at xs k le =
     let shorter : 4 ≤ length (drop k xs) = omega (arith, length-drop k xs) in
     sym (λ i. (get_or-drop k xs 0 0 ∙ ap (λ j. get_or xs j 0) (add-zero k)) i ∷ get_or-drop k xs 1 0 i ∷ get_or-drop k xs 2 0 i ∷ get_or-drop k xs 3 0 i ∷ []) ∙ take_4 (drop k xs) shorter
+
+-- the octets of eight octets' halves
+pub octets_of-halves : (n : ℕ) → octets_of (n / 2 ^ 32) ++ octets_of (n % 2 ^ 32) ≡ to_be_bytes w64 n
+unfolding octets_of
+octets_of-halves n =
+    let p : n / 4294967296 / 16777216 % 256 ≡ n / 72057594037927936 % 256 = omega arith in
+    let q : n / 4294967296 / 65536 % 256 ≡ n / 281474976710656 % 256 = omega arith in
+    let r : n / 4294967296 / 256 % 256 ≡ n / 1099511627776 % 256 = omega arith in
+    let s : n % 4294967296 / 16777216 % 256 ≡ n / 16777216 % 256 = omega arith in
+    let t : n % 4294967296 / 65536 % 256 ≡ n / 65536 % 256 = omega arith in
+    let u : n % 4294967296 / 256 % 256 ≡ n / 256 % 256 = omega arith in
+    let v : n % 4294967296 % 256 ≡ n % 256 = omega arith in
+    λ i. p i ∷ q i ∷ r i ∷ n / 4294967296 % 256 ∷ s i ∷ t i ∷ u i ∷ v i ∷ []
+
+-- eight octets, read as one number and cut into two words
+pub octets_of-read : (n : ℕ) (bs : List ℕ) → length bs ≡ 8 → AreOctets bs → n ≡ from_be_bytes w64 bs
+    → octets_of (n / 2 ^ 32) ++ octets_of (n % 2 ^ 32) ≡ bs
+octets_of-read n bs count fits is = octets_of-halves n ∙ be_bytes_8 bs n count (AreOctets-anywhere bs fits) is

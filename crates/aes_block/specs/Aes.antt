@@ -22,6 +22,6 @@ after_rounds words block (suc n) = round (after_rounds words block n) (round_key
 unfoldable pub cipher : List (List ℕ) → List ℕ → ℕ → List ℕ
 cipher words block rounds = last_round (after_rounds words block (rounds - 1)) (round_key words rounds)
 
--- the cipher of a block under a key (5.1)
+-- the encryption of a block under a key (5.1)
 unfoldable pub aes : List ℕ → List ℕ → List ℕ
 aes key block = cipher (expanded_key key) block (round_count key)

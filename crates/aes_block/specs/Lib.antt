@@ -6,3 +6,5 @@ pub mod Expansion
 pub mod Column
 pub mod Columns
 pub mod Aes
+pub mod Secrets
+pub mod inside

@@ -48,8 +48,8 @@ pub fn sub_octet(octet: u8) -> u8
     S_BOX[octet as usize]
 }
 
-/// The octet in whose place the S-box puts this one.
-pub fn unsub_octet(octet: u8) -> u8
+/// InvSubBytes on an octet: the one in whose place the S-box puts this one (5.3.2).
+pub fn inv_sub_octet(octet: u8) -> u8
     ensures { sub_octet result ≡ octet }
 {
     INVERSE_S_BOX[octet as usize]

@@ -1,6 +1,6 @@
 //! The state as four columns, and the rounds of the cipher on it (FIPS 197, sections 3.4 and 5.1).
 
-use crate::column::{mixed_diagonal, sub_diagonal, unmixed, unsub_diagonal, word_at};
+use crate::column::{inv_mixed, inv_sub_diagonal, mixed_diagonal, sub_diagonal};
 
 /// The columns of a state, or of a round key.
 #[derive(Clone, Copy)]
@@ -16,11 +16,31 @@ impl State {
     pub fn of(block: [u8; 16]) -> State
         ensures { octets_of_state result ≡ block }
     {
+        let [
+            a0,
+            a1,
+            a2,
+            a3,
+            b0,
+            b1,
+            b2,
+            b3,
+            c0,
+            c1,
+            c2,
+            c3,
+            d0,
+            d1,
+            d2,
+            d3,
+        ] = block;
+        let left = u64::from_be_bytes([a0, a1, a2, a3, b0, b1, b2, b3]);
+        let right = u64::from_be_bytes([c0, c1, c2, c3, d0, d1, d2, d3]);
         State(
-            word_at(&block, 0),
-            word_at(&block, 4),
-            word_at(&block, 8),
-            word_at(&block, 12),
+            (left >> 32) as u32,
+            (left % 0x1_0000_0000) as u32,
+            (right >> 32) as u32,
+            (right % 0x1_0000_0000) as u32,
         )
     }
 
@@ -89,32 +109,32 @@ impl State {
         shifted.with_key(key)
     }
 
-    /// The state before a round with this key.
-    pub fn before_round(self, key: State) -> State
+    /// A round undone: the state before one with this key (5.3).
+    pub fn inv_round(self, key: State) -> State
         ensures { round (octets_of_state result) (octets_of_state key) ≡ octets_of_state self }
     {
         let State(a, b, c, d) = self.with_key(key);
-        State(unmixed(a), unmixed(b), unmixed(c), unmixed(d)).before_shift()
+        State(inv_mixed(a), inv_mixed(b), inv_mixed(c), inv_mixed(d)).inv_shift_rows()
     }
 
-    /// The state before a last round with this key.
-    pub fn before_last_round(self, key: State) -> State
+    /// A last round undone: the state before one with this key (5.3).
+    pub fn inv_last_round(self, key: State) -> State
         ensures { last_round (octets_of_state result) (octets_of_state key)
             ≡ octets_of_state self }
     {
-        self.with_key(key).before_shift()
+        self.with_key(key).inv_shift_rows()
     }
 
-    /// The state before SubBytes and ShiftRows (5.1.1 and 5.1.2).
-    fn before_shift(self) -> State
+    /// InvShiftRows and InvSubBytes in one step: the state before SubBytes and ShiftRows (5.3.1 and 5.3.2).
+    fn inv_shift_rows(self) -> State
         ensures { shift_rows (sub_bytes (octets_of_state result)) ≡ octets_of_state self }
     {
         let State(a, b, c, d) = self;
         State(
-            unsub_diagonal(a, d, c, b),
-            unsub_diagonal(b, a, d, c),
-            unsub_diagonal(c, b, a, d),
-            unsub_diagonal(d, c, b, a),
+            inv_sub_diagonal(a, d, c, b),
+            inv_sub_diagonal(b, a, d, c),
+            inv_sub_diagonal(c, b, a, d),
+            inv_sub_diagonal(d, c, b, a),
         )
     }
 }

@@ -1,4 +1,5 @@
 pub mod Blocks
 pub mod Pieces
-pub mod Sums
+pub mod Doubling
+pub mod Chain
 mod Examples

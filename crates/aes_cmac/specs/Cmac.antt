@@ -5,14 +5,14 @@ use Rattle.aes_block.specs.Octet.{octets_sum}
 use Rattle.aes_block.specs.Aes.{aes}
 
 -- 128 bits moved left by one, and where a bit 1 falls out, with 1000 0111 added (6.1)
-abbrev pub moved : ℕ → ℕ
-moved bits = if nat_lt bits (2 ^ 127) then 2 * bits else bit_xor (2 * bits % 2 ^ 128) 0x87
+abbrev pub doubled_bits : ℕ → ℕ
+doubled_bits bits = if nat_lt bits (2 ^ 127) then 2 * bits else bit_xor (2 * bits % 2 ^ 128) 0x87
 
--- a block, its first bit the highest, moved so (6.1)
+-- a block, its first bit the highest, doubled so (6.1)
 unfoldable pub doubled : List ℕ → List ℕ
-doubled block = to_be_bytes w128 (moved (from_be_bytes w128 block))
+doubled block = to_be_bytes w128 (doubled_bits (from_be_bytes w128 block))
 
--- the first subkey: the cipher of the zero block, doubled (6.1)
+-- the first subkey: the ciphertext of the zero block, doubled (6.1)
 abbrev pub first_subkey : List ℕ → List ℕ
 first_subkey key = doubled (aes key (replicate 16 0))
 
@@ -29,15 +29,15 @@ abbrev pub before_last : List ℕ → ℕ
 before_last message = (length message - 1) / 16
 
 -- a part of a block, and then a bit 1 and bits 0 (6.2, step 4)
-abbrev pub padded : List ℕ → List ℕ
-padded part = part ++ 0x80 ∷ replicate (15 - length part) 0
+abbrev pub padded_part : List ℕ → List ℕ
+padded_part part = part ++ 0x80 ∷ replicate (15 - length part) 0
 
 -- the last block: whole, with the first subkey added, or padded, with the second one added (6.2, step 4)
 abbrev pub last_block : List ℕ → List ℕ → List ℕ
 last_block key part =
-    if length part == 16 then octets_sum part (first_subkey key) else octets_sum (padded part) (second_subkey key)
+    if length part == 16 then octets_sum part (first_subkey key) else octets_sum (padded_part part) (second_subkey key)
 
--- the chain after so many blocks: from zero, each time the cipher of the chain with the next block added
+-- the chain after so many blocks: from zero, each time the ciphertext of the chain with the next block added
 -- (6.2, steps 5 and 6)
 unfoldable pub chain_after : List ℕ → List ℕ → ℕ → List ℕ
 chain_after key message zero = replicate 16 0

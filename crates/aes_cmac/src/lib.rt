@@ -5,5 +5,7 @@ mod block;
 mod running;
 #[cfg(test)]
 mod tests;
+mod whole;
 
-pub use running::{Running, cmac};
+pub use running::Running;
+pub use whole::cmac;

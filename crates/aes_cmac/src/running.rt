@@ -1,8 +1,8 @@
 ghost use Rattle.std.specs.Prelude.{◌≡◌, ◌++◌, List, ℕ, [], ◌∷◌};
 ghost use Rattle.aes_cmac.specs.Cmac.{cmac};
 
-use crate::block::{last_block, xored};
-use aes_block::Key;
+use crate::block::last_block;
+use aes_block::{Key, xored};
 use std::marker::Model;
 
 /// A CMAC in the making, of a message that comes in pieces.
@@ -74,13 +74,4 @@ impl<'a> Running<'a> {
         self.next[self.filled] = octet;
         self.filled += 1;
     }
-}
-
-/// The CMAC of a message under a key (NIST SP 800-38B, 6.2).
-pub fn cmac(key: &Key, message: &[u8]) -> [u8; 16]
-    ensures { result ≡ cmac key.now message.now }
-{
-    let mut running = Running::new(key);
-    running.update(message);
-    running.finish()
 }

@@ -138,18 +138,11 @@ const PUBLISHED: [Row; 20] = [
     },
 ];
 
-fn whole_and_in_pieces(
-    rt: &impl Abort,
-    key: &[u8; 16],
-    message: &[u8],
-    expected: [u8; 16],
-    name: &str,
-) {
-    let key = Key::k128(key);
+fn whole_and_in_pieces(rt: &impl Abort, key: &Key, message: &[u8], expected: [u8; 16], name: &str) {
     let len = message.len();
-    assert_eq!(rt; cmac(&key, message), expected, "{name}, {len} octets");
+    assert_eq!(rt; cmac(key, message), expected, "{name}, {len} octets");
     for size in 1..20 {
-        let mut running = Running::new(&key);
+        let mut running = Running::new(key);
         for piece in message.chunks(size) {
             running.update(piece);
         }
@@ -164,10 +157,42 @@ fn whole_and_in_pieces(
 #[test]
 fn gives_the_published_values(rt: HostRuntime) -> Result<(), Fail> {
     for row in &PUBLISHED {
-        let key = <[u8; 16]>::from_hex(row.key)?;
+        let key = Key::k128(&<[u8; 16]>::from_hex(row.key)?);
         let message = hex::decode(rt.alloc(), row.message)?;
         let value = <[u8; 16]>::from_hex(row.value)?;
         whole_and_in_pieces(&rt, &key, message.as_slice(), value, row.name);
+    }
+    Ok(())
+}
+
+// The examples of SP 800-38B for a key of 256 bits, and one of 40 octets from its first edition.
+#[test]
+fn gives_the_published_values_under_a_long_key(rt: HostRuntime) -> Result<(), Fail> {
+    let octets = "603deb1015ca71be2b73aef0857d77811f352c073b6108d72d9810a30914dff4";
+    let key = Key::k256(&<[u8; 32]>::from_hex(octets)?);
+    let rows = [
+        ("", "028962f61b7bf89efc6b551f4667d983"),
+        (
+            "6bc1bee22e409f96e93d7e117393172a",
+            "28a7023f452e8f82bd4bf28d8c37c35c",
+        ),
+        (
+            "6bc1bee22e409f96e93d7e117393172aae2d8a57",
+            "156727dc0878944a023c1fe03bad6d93",
+        ),
+        (
+            "6bc1bee22e409f96e93d7e117393172aae2d8a571e03ac9c9eb76fac45af8e5130c81c46a35ce411",
+            "aaf3d8f1de5640c232f5b169b9c911e6",
+        ),
+        (
+            "6bc1bee22e409f96e93d7e117393172aae2d8a571e03ac9c9eb76fac45af8e5130c81c46a35ce411e5fbc1191a0a52eff69f2445df4f9b17ad2b417be66c3710",
+            "e1992190549f6ed5696a2c056c315410",
+        ),
+    ];
+    for (message, value) in rows {
+        let message = hex::decode(rt.alloc(), message)?;
+        let value = <[u8; 16]>::from_hex(value)?;
+        whole_and_in_pieces(&rt, &key, message.as_slice(), value, "SP 800-38B, 256 bits");
     }
     Ok(())
 }
@@ -185,7 +210,7 @@ fn gives_the_published_values_under_a_key_that_is_a_value(rt: HostRuntime) -> Re
     ];
     for (key, value) in rows {
         let octets = hex::decode(rt.alloc(), key)?;
-        let short = cmac(&Key::k128(&[0; 16]), octets.as_slice());
+        let short = Key::k128(&cmac(&Key::k128(&[0; 16]), octets.as_slice()));
         let value = <[u8; 16]>::from_hex(value)?;
         whole_and_in_pieces(&rt, &short, message.as_slice(), value, key);
     }
@@ -216,7 +241,7 @@ fn gives_the_values_of_another_implementation(rt: HostRuntime) {
         (100, 0xaf486c061224d168dfa6891b434aee40),
         (150, 0x1c9cf83d0b274ba6ae702e2d39836f5d),
     ];
-    let key = [0, 1, 2, 3, 4, 5, 6, 7, 8, 9, 10, 11, 12, 13, 14, 15];
+    let key = Key::k128(&[0, 1, 2, 3, 4, 5, 6, 7, 8, 9, 10, 11, 12, 13, 14, 15]);
     for (len, expected) in rows {
         let message = message.get(..len).expect(&rt, "a message as long as that");
         whole_and_in_pieces(&rt, &key, message, expected.to_be_bytes(), "OpenSSL");

@@ -3,7 +3,7 @@ use Rattle.aes_block.specs.State.{round, last_round}
 use Rattle.aes_block.specs.Expansion.{expanded_key}
 use Rattle.aes_block.specs.Aes.{IsBlock, aes, after_rounds}
 use Rattle.aes_block.proofs.Steps.{same_source}
-use Rattle.aes_block.proofs.KeyBlocks.{aes-inverse, before_aes}
+use Rattle.aes_block.proofs.KeyBlocks.{aes-inverse, inv_aes}
 use Rattle.aes_block.proofs.Cipher.{after_rounds-more, after_rounds-none, last_round-after, IsBlock-octets_of_state, key_added_twice}
 use Rattle.aes_block.proofs.key.Key.decrypt.Goals as goal
 
@@ -12,7 +12,7 @@ loop-i-init c = λ text is.
     let rounds = c.round_count-rounds.ensures.count in
     let key = sym c.round_key.ensures in
     sym (last_round-after c.args.self.now text c.round_count-rounds.result c.round_count-rounds.result rounds rounds)
-    ∙ (λ i. last_round (is i) (key i)) ∙ c.before_last_round-state.ensures ∙ c.of.ensures
+    ∙ (λ i. last_round (is i) (key i)) ∙ c.inv_last_round-state.ensures ∙ c.of.ensures
 
 pub loop-i-preserved : goal.loop-i-preserved
 loop-i-preserved c = λ text is.
@@ -21,7 +21,7 @@ loop-i-preserved c = λ text is.
     let here : c.loop-i.i - 1 ≡ c.loop-i.i - 1 + 1 - 1 = omega arith in
     c.loop-i.invariant text
     (ap (after_rounds words text) here ∙ sym (after_rounds-more words text (c.loop-i.i - 1) (omega arith))
-    ∙ (λ i. round (is i) (key i)) ∙ c.before_round-state.ensures)
+    ∙ (λ i. round (is i) (key i)) ∙ c.inv_round-state.ensures)
 
 pub returns-clause-undone : goal.returns-clause-undone
 returns-clause-undone c =
@@ -34,5 +34,5 @@ pub returns-clause-only : goal.returns-clause-only
 returns-clause-only c = λ text h is.
     let key = c.args.self.now in
     let block : IsBlock c.octets.result = subst IsBlock (sym c.octets.ensures) (IsBlock-octets_of_state c.with_key.result) in
-    same_source (aes key) (before_aes key) (aes-inverse key c.round_count-rounds.ensures.key) c.octets.result text block h
+    same_source (aes key) (inv_aes key) (aes-inverse key c.round_count-rounds.ensures.key) c.octets.result text block h
     (returns-clause-undone c ∙ sym is)

@@ -1,25 +1,32 @@
-use Rattle.std.proofs.Common.{◌≡◌, sym, ◌∙◌, arith}
-use Rattle.aes_block.specs.Octet.{octets_sum}
-use Rattle.aes_block.specs.State.{round, last_round}
-use Rattle.aes_block.specs.Expansion.{expanded_key, round_count}
-use Rattle.aes_block.proofs.Cipher.{after_rounds-more, after_rounds-none, last_round-after}
+use Rattle.std.proofs.Common.{◌+◌, length, sym, ap, subst, ◌∙◌, arith}
+use Rattle.aes_block.specs.Aes.{IsKey}
+use Rattle.aes_block.specs.Expansion.{round_count}
+use Rattle.aes_block.specs.inside.Held.{words_of}
+use Rattle.aes_block.proofs.Held.{IsKey-key_octets, length-key_octets, round_count-key_octets, two_lengths}
 use Rattle.aes_block.proofs.key.Key.encrypt.Goals as goal
 
-pub loop-i-init : goal.loop-i-init
-loop-i-init c =
-    let words = expanded_key c.args.self.now in
-    c.with_key-state.ensures ∙ (λ i. octets_sum (c.of.ensures i) (c.round_key.ensures i))
-    ∙ sym (after_rounds-none words c.args.block 1 (omega arith))
+pub encrypt_in-requires : goal.encrypt_in-requires
+encrypt_in-requires c =
+    sym (sym (ap round_count c.self.view_is) ∙ round_count-key_octets c.self.inside.len c.self.inside.words (omega (arith, c.self.told))
+    ∙ ap (λ l. words_of l + 6) c.in-Bits128.is)
 
-pub loop-i-preserved : goal.loop-i-preserved
-loop-i-preserved c =
-    let words = expanded_key c.args.self.now in
-    c.round-state.ensures ∙ (λ i. round (c.loop-i.invariant i) (c.round_key-in-loop-i.ensures i))
-    ∙ after_rounds-more words c.args.block c.loop-i.i (omega arith)
+pub encrypt_in-requires-in-Bits256 : goal.encrypt_in-requires-in-Bits256
+encrypt_in-requires-in-Bits256 c =
+    sym (sym (ap round_count c.self.view_is) ∙ round_count-key_octets c.self.inside.len c.self.inside.words (omega (arith, c.self.told))
+    ∙ ap (λ l. words_of l + 6) c.in-Bits256.is)
 
-pub returns : goal.returns
-returns c =
-    let rounds = c.round_count-rounds.ensures.count in
-    let last : c.loop-i.i ≡ round_count c.args.self.now = omega (arith, rounds) in
-    c.octets.ensures ∙ c.last_round.ensures ∙ (λ i. last_round (c.loop-i.invariant i) (c.round_key-2.ensures i))
-    ∙ last_round-after c.args.self.now c.args.block c.loop-i.i c.round_count-rounds.result last rounds
+pub returns-in-Bits128-clause-key : goal.returns-in-Bits128-clause-key
+returns-in-Bits128-clause-key c =
+    subst IsKey c.self.view_is (IsKey-key_octets c.self.inside.len c.self.inside.words (omega (arith, c.self.told)))
+
+pub returns-in-Bits128-clause-length : goal.returns-in-Bits128-clause-length
+returns-in-Bits128-clause-length c =
+    two_lengths c.self.inside.len _ (ap length (sym c.self.view_is) ∙ length-key_octets c.self.inside.len c.self.inside.words (omega (arith, c.self.told)))
+
+pub returns-in-Bits256-clause-key : goal.returns-in-Bits256-clause-key
+returns-in-Bits256-clause-key c =
+    subst IsKey c.self.view_is (IsKey-key_octets c.self.inside.len c.self.inside.words (omega (arith, c.self.told)))
+
+pub returns-in-Bits256-clause-length : goal.returns-in-Bits256-clause-length
+returns-in-Bits256-clause-length c =
+    two_lengths c.self.inside.len _ (ap length (sym c.self.view_is) ∙ length-key_octets c.self.inside.len c.self.inside.words (omega (arith, c.self.told)))

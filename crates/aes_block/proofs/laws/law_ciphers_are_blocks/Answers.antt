@@ -1,5 +1,0 @@
-use Rattle.aes_block.proofs.KeyBlocks.{aes-inverse}
-use Rattle.aes_block.proofs.laws.law_ciphers_are_blocks.Goals as goal
-
-pub returns : goal.returns
-returns c = λ key block k h. (aes-inverse key k).keeps block h
