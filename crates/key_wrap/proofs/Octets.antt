@@ -39,10 +39,10 @@ unfolding step
 IsOctets-step kek state n number room blocks h =
     let count = h.count in
     let ahead : IsBlock (take 16 state) = record { count = length-take-le 16 state (omega arith); octets = All-take IsOctet 16 state h.below } in
-    let cipher = blocks (take 16 state) ahead in
+    let ciphertext = blocks (take 16 state) ahead in
     let block = numbered (aes kek (take 16 state)) number in
-    let e : length block ≡ 16 = length-numbered (aes kek (take 16 state)) number cipher.count in
-    let p : All IsOctet block = Octets-numbered (aes kek (take 16 state)) number cipher.octets in
+    let e : length block ≡ 16 = length-numbered (aes kek (take 16 state)) number ciphertext.count in
+    let p : All IsOctet block = Octets-numbered (aes kek (take 16 state)) number ciphertext.octets in
     record {
       count =
           let l : length (take 8 block) ≡ 8 = length-take-le 8 block (omega arith) in

@@ -1,5 +1,5 @@
--- equal wraps are of equal keys, under a key whose cipher gives a block for each block, and one block for
--- one cipher
+-- equal wraps are of equal keys, under a key that encrypts each block to a block, and one block to
+-- one ciphertext
 use Rattle.std.proofs.Common.{◌≡◌, ℕ, zero, suc, ◌+◌, ◌*◌, ◌/◌, ◌<◌, ◌≤◌, List, ◌++◌, length, take, drop, refl, ap, sym, ◌∙◌, arith}
 use Rattle.std.proofs.lemmas.List.{length-append, length-take-le, length-drop, take-append-drop}
 use Rattle.std.proofs.lemmas.List.Elements.{All-append, All-replicate, All-take}
@@ -9,7 +9,7 @@ use Rattle.key_wrap.proofs.Numbered.{length-numbered, numbered-numbered}
 use Rattle.key_wrap.proofs.Octets.{IsOctets-steps}
 use Rattle.key_wrap.proofs.Steps.{parts_of}
 
--- what is known of the cipher under a key
+-- what is known of encryption under a key
 pub record Permutes (kek : List ℕ) : Type 0 where
   pub blocks : (text : List ℕ) → IsBlock text → IsBlock (aes kek text)
   pub one : (x y : List ℕ) → IsBlock x → IsBlock y → aes kek x ≡ aes kek y → x ≡ y
@@ -38,8 +38,8 @@ step-injective kek s t n number room p h k e =
     let outer = parts_of (take 8 b ++ drop 16 s) (drop 8 b) (take 8 v ++ drop 16 t) (drop 8 v) front e in
     let inner = parts_of (take 8 b) (drop 16 s) (take 8 v) (drop 16 t) (tb ∙ sym tv) outer.0 in
     let same : b ≡ v = sym (take-append-drop 8 b) ∙ ap (λ x. x ++ drop 8 b) inner.0 ∙ ap (λ x. take 8 v ++ x) outer.1 ∙ take-append-drop 8 v in
-    let cipher : c ≡ d = sym (numbered-numbered c number f) ∙ ap (λ x. numbered x number) same ∙ numbered-numbered d number g in
-    let text : take 16 s ≡ take 16 t = p.one (take 16 s) (take 16 t) (first_block s n room h) (first_block t n room k) cipher in
+    let ciphertext : c ≡ d = sym (numbered-numbered c number f) ∙ ap (λ x. numbered x number) same ∙ numbered-numbered d number g in
+    let text : take 16 s ≡ take 16 t = p.one (take 16 s) (take 16 t) (first_block s n room h) (first_block t n room k) ciphertext in
     sym (take-append-drop 16 s) ∙ ap (λ x. x ++ drop 16 s) text ∙ ap (λ x. take 16 t ++ x) inner.1 ∙ take-append-drop 16 t
 
 steps-injective : (kek s t : List ℕ) (n count : ℕ) → 16 ≤ n → Permutes kek → IsOctets n s → IsOctets n t

@@ -39,14 +39,14 @@ pub before-step : (kek a m r before : List ℕ) (number : ℕ) → length a ≡ 
     → (aes kek (take 16 before) ≡ numbered (a ++ r) number) × (drop 16 before ≡ m)
 unfolding step
 before-step kek a m r before number e f g h k =
-    let cipher = aes kek (take 16 before) in
-    let block = numbered cipher number in
-    let whole : length block ≡ 16 = length-numbered cipher number g in
+    let ciphertext = aes kek (take 16 before) in
+    let block = numbered ciphertext number in
+    let whole : length block ≡ 16 = length-numbered ciphertext number g in
     let l : length (take 8 block) ≡ 8 = length-take-le 8 block (omega arith) in
     let first = parts_of (take 8 block ++ drop 16 before) (drop 8 block) (a ++ m) r (simp (length-append, length-drop) (omega arith)) h in
     let second = parts_of (take 8 block) (drop 16 before) a m (omega arith) first.0 in
     let is : a ++ r ≡ block = rw (← second.0, ← first.1) (take-append-drop 8 block) in
-    (rw is (sym (numbered-numbered cipher number g)), second.1)
+    (rw is (sym (numbered-numbered ciphertext number g)), second.1)
 
 -- a list is its first eight, its last eight and what is between
 pub three_parts : (s : List ℕ) → 16 ≤ length s → take 8 s ++ take (length s - 16) (drop 8 s) ++ drop (length s - 8) s ≡ s
@@ -80,10 +80,10 @@ unfolding step
 same_step kek s block put new number e f g h = h ∙ rw (g, turned block (drop 16 s) e, f) refl
 
 -- what undoing a step puts together
-pub record Undoes (kek s back cipher x new : List ℕ) (number : ℕ) : Type 0 where
+pub record Undoes (kek s back ciphertext x new : List ℕ) (number : ℕ) : Type 0 where
   pub room : 16 ≤ length s
   pub turns : back ≡ take 8 s ++ drop (length s - 8) s ++ take (length s - 16) (drop 8 s)
-  pub numbers : cipher ≡ numbered (take 16 back) number
+  pub numbers : ciphertext ≡ numbered (take 16 back) number
   pub whole : length x ≡ 16
   pub puts : new ≡ x ++ drop 16 back
 
@@ -113,18 +113,18 @@ parts_of_state s back room turns =
       behind = ap (drop 16) turns ∙ drop_at (a ++ r) m 16 both;
     }
 
-pub undone : (kek s back cipher x new : List ℕ) (number : ℕ) → Undoes kek s back cipher x new number → aes kek x ≡ cipher → step kek new number ≡ s
-undone kek s back cipher x new number u h =
+pub undone : (kek s back ciphertext x new : List ℕ) (number : ℕ) → Undoes kek s back ciphertext x new number → aes kek x ≡ ciphertext → step kek new number ≡ s
+undone kek s back ciphertext x new number u h =
     let p = parts_of_state s back u.room u.turns in
     let a = take 8 s in let r = drop (length s - 8) s in let m = take (length s - 16) (drop 8 s) in
     let before : new ≡ x ++ m = u.puts ∙ ap (λ y. x ++ y) p.behind in
     let is : aes kek x ≡ numbered (a ++ r) number = h ∙ u.numbers ∙ ap (λ y. numbered y number) p.front in
     ap (λ y. step kek y number) before ∙ step-undone kek a m r x number p.first p.last u.whole is ∙ p.whole
 
-pub only_before : (kek s back cipher x new before : List ℕ) (number : ℕ) → Undoes kek s back cipher x new number
+pub only_before : (kek s back ciphertext x new before : List ℕ) (number : ℕ) → Undoes kek s back ciphertext x new number
     → length before ≡ length s → length (aes kek (take 16 before)) ≡ 16 → step kek before number ≡ s
-    → (aes kek (take 16 before) ≡ cipher → x ≡ take 16 before) → new ≡ before
-only_before kek s back cipher x new before number u e f h only =
+    → (aes kek (take 16 before) ≡ ciphertext → x ≡ take 16 before) → new ≡ before
+only_before kek s back ciphertext x new before number u e f h only =
     let p = parts_of_state s back u.room u.turns in
     let a = take 8 s in let r = drop (length s - 8) s in let m = take (length s - 16) (drop 8 s) in
     let q = before-step kek a m r before number p.first p.last f (h ∙ sym p.whole) (omega (arith, p.middle)) in

@@ -13,7 +13,7 @@ pub record IsOctets (n : ℕ) (octets : List ℕ) : Type 0 where
 abbrev pub numbered : List ℕ → ℕ → List ℕ
 numbered block number = octets_sum (take 8 block) (to_be_bytes w64 number) ++ drop 8 block
 
--- A and the registers after a step: of the cipher of A and the first register, the first half, with the
+-- A and the registers after a step: A and the first register are encrypted; the first half, with the
 -- step's number added, is the next A, and the second half comes behind the other registers (2.2.1)
 unfoldable pub step : List ℕ → List ℕ → ℕ → List ℕ
 step kek state number = take 8 block ++ drop 16 state ++ drop 8 block where

@@ -8,4 +8,4 @@ mod tests;
 mod wrapping;
 
 pub use laws::law_one_key_for_one_wrap;
-pub use wrapping::{unwrap, wrap};
+pub use wrapping::{unwrap, unwrap256, wrap, wrap256};

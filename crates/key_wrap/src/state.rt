@@ -5,7 +5,7 @@ ghost use Rattle.std.specs.Prelude.{◌≡◌, ◌≤◌, ◌-◌, ◌++◌, Lis
 ghost use Rattle.aes_block.specs.Aes.{aes, IsBlock};
 ghost use Rattle.key_wrap.specs.Wrap.{IsOctets, numbered, step};
 
-use aes_block::{Key, law_ciphers_are_blocks};
+use aes_block::{Key, law_ciphertexts_are_blocks};
 
 /// A step, which is numbered from 1 (RFC 3394, 2.2.1).
 pub fn step(kek: &Key, state: &mut [u8], number: u64)
@@ -26,7 +26,7 @@ pub fn undo_step(kek: &Key, state: &mut [u8], number: u64)
     ensures only { (before : List ℕ) → IsOctets (length state.old) before
         → step kek.now before number ≡ state.old → state.new ≡ before }
 {
-    law_ciphers_are_blocks();
+    law_ciphertexts_are_blocks();
     turn_back(state);
     let block = kek.decrypt(numbered(first_block(state), number));
     put_first_block(state, &block);

@@ -1,5 +1,5 @@
 -- one block, and a context of 16 octets
-use Rattle.std.proofs.Common.{◌≡◌, ℕ, ◌+◌, ◌-◌, ◌≤◌, List, ◌++◌, length, take, drop, replicate, ap, sym, ◌∙◌, arith, min, inl, inr}
+use Rattle.std.proofs.Common.{◌≡◌, ℕ, ◌+◌, ◌-◌, ◌≤◌, List, ◌++◌, length, take, drop, replicate, ap, sym, ◌∙◌, arith, min, inl, inr, length-append}
 use Rattle.std.proofs.Math.Seq.{take-append-add}
 use Rattle.std.proofs.lemmas.List.{take_all, take-append-le, take-replicate, drop-replicate, append-nil}
 use Rattle.std.proofs.lemmas.Bool.{cases_lt}
@@ -11,6 +11,16 @@ pub derived-16 : (key label context : List ℕ) → length (cmac key (input 1 la
     → derived key label context 16 ≡ cmac key (input 1 label context 128)
 unfolding derived blocks
 derived-16 key label context h = take_all 16 (cmac key (input 1 label context 128)) (omega arith)
+
+-- 32 octets are two blocks
+pub derived-32 : (key label context : List ℕ) → length (cmac key (input 1 label context 256)) ≡ 16
+    → length (cmac key (input 2 label context 256)) ≡ 16
+    → cmac key (input 1 label context 256) ++ cmac key (input 2 label context 256) ≡ derived key label context 32
+unfolding derived blocks
+derived-32 key label context one two =
+    let first = cmac key (input 1 label context 256) in
+    let second = cmac key (input 2 label context 256) in
+    sym (take_all 32 (first ++ second) (omega (arith, one, two, length-append first second)))
 
 -- a name of at most 16 octets, and zeros behind it
 context_of-short : (ckn : List ℕ) → length ckn ≤ 16 → context_of ckn ≡ ckn ++ drop (length ckn) (replicate 16 0)

@@ -12,6 +12,17 @@ pub fn derive(key: &Key, label: &[u8; 12], context: &[u8; 16]) -> [u8; 16]
     block(key, 1, label, context, 128)
 }
 
+/// Derives 32 octets, likewise: two blocks.
+pub fn derive256(key: &Key, label: &[u8; 12], context: &[u8; 16]) -> [u8; 32]
+    ensures { result ≡ derived key.now label.now context.now 32 }
+{
+    let mut octets = [0; 32];
+    let (first, second) = octets.split_at_mut(16);
+    first.copy_from_slice(&block(key, 1, label, context, 256));
+    second.copy_from_slice(&block(key, 2, label, context, 256));
+    octets
+}
+
 /// A block of the output, whose length is given in bits.
 fn block(key: &Key, number: u8, label: &[u8; 12], context: &[u8; 16], bits: u16) -> [u8; 16]
     ensures { result ≡ cmac key.now (input number label.now context.now bits) }

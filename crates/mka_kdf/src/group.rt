@@ -1,9 +1,10 @@
 ghost use Rattle.std.specs.Prelude.{◌≡◌, ◌↔◌, ◌≤◌, length, take, IfOk};
 ghost use Rattle.mka_kdf.specs.declared.group.GroupFault.TheVariants.{Memory};
-ghost use Rattle.mka_kdf.specs.Kdf.{HasWrongLength, context_of, ick_of, kek_of};
+ghost use Rattle.mka_kdf.specs.Kdf.{HasWrongLength, context_of, derived, ick_of, kek_of};
+ghost use Rattle.aes_block.specs.Secrets.{secret_octets};
 
-use crate::derivation::derive;
-use aes_block::Key;
+use crate::derivation::{derive, derive256};
+use aes_block::{Key, Secret};
 use lan_base::Octets;
 use std::alloc::{AllocError, Global};
 use thiserror::Error;
@@ -40,27 +41,53 @@ pub struct Group {
     pub ckn: Octets,
     pub kek: Key,
     pub ick: Key,
+    /// The name has 1 to 32 octets.
+    pub ghost name_length: { (1 ≤ length ckn) × (length ckn ≤ 32) },
 }
 
 impl Group {
     /// The group of a CAK under its name.
-    pub fn of(alloc: Global, cak: [u8; 16], ckn: &[u8]) -> Result<Self, GroupFault>
+    pub fn of(alloc: Global, cak: Secret, ckn: &[u8]) -> Result<Self, GroupFault>
         ensures name { IfOk result (λ group. group.ckn ≡ ckn.now) }
-        ensures kek { IfOk result (λ group. group.kek ≡ kek_of cak ckn.now) }
-        ensures ick { IfOk result (λ group. group.ick ≡ ick_of cak ckn.now) }
+        ensures kek { IfOk result (λ group. group.kek ≡ kek_of (secret_octets cak) ckn.now) }
+        ensures ick { IfOk result (λ group. group.ick ≡ ick_of (secret_octets cak) ckn.now) }
         ensures length { (result ≡ Err GroupFault.CknLength) ↔ HasWrongLength ckn.now }
     {
         if ckn.is_empty() || ckn.len() > CKN_MAX {
             return Err(GroupFault::CknLength);
         }
-        let key = Key::k128(&cak);
         let context = context_of(ckn);
         Ok(Group {
             ckn: Octets::from_slice(alloc, ckn)?,
-            kek: Key::k128(&derive(&key, &KEK_LABEL, &context)),
-            ick: Key::k128(&derive(&key, &ICK_LABEL, &context)),
+            kek: derived_key(&cak, &KEK_LABEL, &context),
+            ick: derived_key(&cak, &ICK_LABEL, &context),
         })
     }
+}
+
+/// The key of a group that a label names, of the length of its CAK.
+fn derived_key(cak: &Secret, label: &[u8; 12], context: &[u8; 16]) -> Key
+    ensures { let octets = secret_octets cak.now in
+        result ≡ derived octets label.now context.now (length octets) }
+{
+    match cak {
+        Secret::S128(octets) => derived_128(octets, label, context),
+        Secret::S256(octets) => derived_256(octets, label, context),
+    }
+}
+
+/// The same, of a CAK of 128 bits.
+fn derived_128(cak: &[u8; 16], label: &[u8; 12], context: &[u8; 16]) -> Key
+    ensures { result ≡ derived cak.now label.now context.now (length cak.now) }
+{
+    Key::k128(&derive(&Key::k128(cak), label, context))
+}
+
+/// The same, of a CAK of 256 bits.
+fn derived_256(cak: &[u8; 32], label: &[u8; 12], context: &[u8; 16]) -> Key
+    ensures { result ≡ derived cak.now label.now context.now (length cak.now) }
+{
+    Key::k256(&derive256(&Key::k256(cak), label, context))
 }
 
 /// 16 octets of a CKN from its start, and zeros where it is shorter.

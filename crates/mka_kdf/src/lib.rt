@@ -7,5 +7,5 @@ mod group;
 #[cfg(test)]
 mod tests;
 
-pub use derivation::derive;
+pub use derivation::{derive, derive256};
 pub use group::{Group, GroupFault};

@@ -1,5 +1,6 @@
-use crate::{Group, GroupFault, derive};
-use aes_block::Key;
+use crate::{Group, GroupFault, derive, derive256};
+use aes_block::{Key, Secret};
+use hex::FromHex;
 use std::test::Fail;
 
 /// Octet i is 31 i + 5 modulo 256.
@@ -54,7 +55,7 @@ fn derives_both_keys_of_a_group(rt: HostRuntime) -> Result<(), Fail> {
         ),
     ];
     for (cak, ckn, kek, ick) in rows.iter() {
-        let group = Group::of(rt.alloc(), cak.to_be_bytes(), ckn)?;
+        let group = Group::of(rt.alloc(), Secret::S128(cak.to_be_bytes()), ckn)?;
         let len = ckn.len();
         let kek = Key::k128(&kek.to_be_bytes());
         let ick = Key::k128(&ick.to_be_bytes());
@@ -73,6 +74,55 @@ fn derives_both_keys_of_a_group(rt: HostRuntime) -> Result<(), Fail> {
     Ok(())
 }
 
+/// The same for CAKs of 32 octets, from the same implementation.
+#[test]
+fn derives_both_keys_of_a_group_with_a_long_key(rt: HostRuntime) -> Result<(), Fail> {
+    let rows: [(&str, &[u8], &str, &str); 3] = [
+        (
+            "000102030405060708090a0b0c0d0e0f101112131415161718191a1b1c1d1e1f",
+            &[1, 2, 3, 4],
+            "7c0e9a7b058a73e8b18600a28fc6cf166e049a0015a46ac14422ae8a8a427217",
+            "0c98814eabc60a3193461e257c37263ca7df642b30bc6e551509e179e96a946f",
+        ),
+        (
+            "e5fc06badb0c7b784297fbd81d8d00fe0123456789abcdeffedcba9876543210",
+            &NAME[..16],
+            "ef856322286dad35b52c3bae12fa68599950ab4cb645d5bc648a0cfc42120163",
+            "f7be0aa5b66ed1f43137e92f15e6db91f09939428b888306d9f0d40ab32c86f0",
+        ),
+        (
+            "e5fc06badb0c7b784297fbd81d8d00fe0123456789abcdeffedcba9876543210",
+            &NAME[..32],
+            "ef856322286dad35b52c3bae12fa68599950ab4cb645d5bc648a0cfc42120163",
+            "f7be0aa5b66ed1f43137e92f15e6db91f09939428b888306d9f0d40ab32c86f0",
+        ),
+    ];
+    for (cak, ckn, kek, ick) in rows.iter() {
+        let cak = Secret::S256(<[u8; 32]>::from_hex(cak)?);
+        let group = Group::of(rt.alloc(), cak, ckn)?;
+        let kek = Key::k256(&<[u8; 32]>::from_hex(kek)?);
+        let ick = Key::k256(&<[u8; 32]>::from_hex(ick)?);
+        assert_eq!(rt; group.kek.encrypt([7; 16]), kek.encrypt([7; 16]), "KEK");
+        assert_eq!(rt; group.ick.encrypt([7; 16]), ick.encrypt([7; 16]), "ICK");
+    }
+    Ok(())
+}
+
+#[test]
+fn derives_a_long_key(rt: HostRuntime) -> Result<(), Fail> {
+    let octets = "e5fc06badb0c7b784297fbd81d8d00fe0123456789abcdeffedcba9876543210";
+    let key = Key::k256(&<[u8; 32]>::from_hex(octets)?);
+    let context = [
+        5, 0x24, 0x43, 0x62, 0x81, 0xa0, 0xbf, 0xde, 0xfd, 0x1c, 0x3b, 0x5a, 0x79, 0x98, 0xb7, 0xd6,
+    ];
+    let expected = "f7be0aa5b66ed1f43137e92f15e6db91f09939428b888306d9f0d40ab32c86f0";
+    assert_eq!(rt;
+        derive256(&key, b"IEEE8021 ICK", &context),
+        <[u8; 32]>::from_hex(expected)?
+    );
+    Ok(())
+}
+
 #[test]
 fn derives_a_key(rt: HostRuntime) {
     let key = Key::k128(&CAK.to_be_bytes());
@@ -88,7 +138,7 @@ fn derives_a_key(rt: HostRuntime) {
 
 #[test]
 fn refuses_names_of_other_lengths(rt: HostRuntime) {
-    let cak = CAK.to_be_bytes();
+    let cak = Secret::S128(CAK.to_be_bytes());
     let none = Group::of(rt.alloc(), cak, &[]).map(|_| ());
     assert_eq!(rt; none, Err(GroupFault::CknLength));
     let long = Group::of(rt.alloc(), cak, &NAME).map(|_| ());

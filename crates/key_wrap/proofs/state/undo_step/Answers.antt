@@ -16,7 +16,7 @@ undoes c = record {
 }
 
 cipher_of : (c : goal.After-slice_known-3-1) → (text : List ℕ) → IsBlock text → IsBlock (aes c.args.kek.now text)
-cipher_of c text h = c.law_ciphers_are_blocks.ensures c.args.kek.now text c.decrypt-block.ensures.key h
+cipher_of c text h = c.law_ciphertexts_are_blocks.ensures c.args.kek.now text c.decrypt-block.ensures.key h
 
 pub returns-clause-blocks : goal.returns-clause-blocks
 returns-clause-blocks c = cipher_of c
