@@ -1,7 +1,7 @@
 -- the definitions on worked values, by computing
 use Rattle.std.proofs.Common.{◌≡◌, [], ◌∷◌, get_or, refl}
 use Rattle.cipher_bench.specs.declared.named.Frame.TheVariants.{Octets64, Octets512, Octets1500}
-use Rattle.cipher_bench.specs.Work.{octets, key, changed, iv_after, text_length}
+use Rattle.cipher_bench.specs.Work.{octets, key, long_key, changed, iv_after, text_length}
 
 three : octets 7 3 ≡ 0 ∷ 7 ∷ 14 ∷ []
 unfolding octets
@@ -36,3 +36,7 @@ text_512 = refl
 
 text_1500 : text_length Octets1500 ≡ 1488
 text_1500 = refl
+
+last_of_long_key : get_or long_key 31 0 ≡ 31
+unfolding octets
+last_of_long_key = refl

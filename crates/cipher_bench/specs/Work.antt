@@ -7,20 +7,24 @@ use Rattle.gcm_core.specs.Gcm.{gcm}
 use Rattle.cipher_bench.specs.declared.named.Frame.{Frame}
 use Rattle.cipher_bench.specs.declared.named.Frame.TheVariants.{Octets64, Octets512, Octets1500}
 use Rattle.cipher_bench.specs.declared.named.Test.{Test}
-use Rattle.cipher_bench.specs.declared.named.Test.TheVariants.{Block, Cmac, Gcm}
+use Rattle.cipher_bench.specs.declared.named.Test.TheVariants.{Block, Cmac, Gcm, LongKeyBlock, LongKeyGcm}
 
 -- so many octets, which begin from zero and rise by a step, modulo 256
 unfoldable pub octets : ℕ → ℕ → List ℕ
 octets step count = map (λ i. step * i % 256) (range_with_len 0 count)
 
--- the key of every test: 0, 1 and so on to 15
+-- the key of 128 bits: 0, 1 and so on to 15
 abbrev pub key : List ℕ
 key = octets 1 16
 
--- the block: zero at first, and then the cipher of the block before
-abbrev pub block_after : ℕ → List ℕ
-block_after zero = replicate 16 0
-block_after (suc n) = aes key (block_after n)
+-- the key of 256 bits: 0, 1 and so on to 31
+abbrev pub long_key : List ℕ
+long_key = octets 1 32
+
+-- the block: zero at first, and then the ciphertext of the block before
+abbrev pub block_after : List ℕ → ℕ → List ℕ
+block_after k zero = replicate 16 0
+block_after k (suc n) = aes k (block_after k n)
 
 -- a message with the first octet of a value added to its own, bit by bit
 abbrev pub changed : List ℕ → List ℕ → List ℕ
@@ -40,10 +44,19 @@ value_after (suc n) = cmac key (message_after n)
 abbrev pub iv_after : ℕ → List ℕ
 iv_after n = 2 ∷ 0 ∷ 0 ∷ 0 ∷ 0 ∷ 10 ∷ 0 ∷ 1 ∷ 0 ∷ 0 ∷ 0 ∷ ((1 + n) % 256) ∷ []
 
--- the tag: zero at first, and then that of a text of so many octets, with 28 octets of additional data, under the IV
-abbrev pub tag_after : ℕ → ℕ → List ℕ
-tag_after length zero = replicate 16 0
-tag_after length (suc n) = (gcm key (iv_after (suc n)) (octets 1 28) (octets 7 length)).1
+-- the tag of a text of so many octets under the n-th IV, with this additional data
+abbrev pub tag_of : List ℕ → ℕ → ℕ → List ℕ → List ℕ
+tag_of k length n extra = (gcm k (iv_after n) extra (octets 7 length)).1
+
+-- the additional data: 28 octets at first, and then the data before, changed by the tag with them
+abbrev pub extra_after : List ℕ → ℕ → ℕ → List ℕ
+extra_after k length zero = octets 1 28
+extra_after k length (suc n) = changed (extra_after k length n) (tag_of k length (suc n) (extra_after k length n))
+
+-- the tag: zero at first, and then that with the additional data before
+abbrev pub tag_after : List ℕ → ℕ → ℕ → List ℕ
+tag_after k length zero = replicate 16 0
+tag_after k length (suc n) = tag_of k length (suc n) (extra_after k length n)
 
 -- how many octets a frame has
 abbrev pub frame_length : Frame → ℕ
@@ -57,6 +70,8 @@ text_length frame = frame_length frame - 12
 
 -- the last result of a test that was done n times
 abbrev pub last_result : Test → ℕ → List ℕ
-last_result Block n = block_after n
+last_result Block n = block_after key n
+last_result LongKeyBlock n = block_after long_key n
 last_result Cmac n = value_after n
-last_result (Gcm frame) n = tag_after (text_length frame) n
+last_result (Gcm frame) n = tag_after key (text_length frame) n
+last_result LongKeyGcm n = tag_after long_key (text_length Octets1500) n

@@ -1,7 +1,7 @@
 //! The work of each test. The result is 16 octets, all zero before the work is done once.
 
 ghost use Rattle.std.specs.Prelude.{◌≡◌, ◌≤◌};
-ghost use Rattle.cipher_bench.specs.Work.{block_after, key, last_result, octets, tag_after, value_after};
+ghost use Rattle.cipher_bench.specs.Work.{block_after, key, last_result, long_key, octets, tag_after, value_after};
 
 use crate::named::{Frame, Test};
 use aes_block::Key;
@@ -16,19 +16,28 @@ pub fn last_result(test: Test, count: u32) -> [u8; 16]
     ensures { result ≡ last_result test count }
 {
     match test {
-        Test::Block => last_block(count),
+        Test::Block => last_block(&test_key(), count),
+        Test::LongKeyBlock => last_block(&long_test_key(), count),
         Test::Cmac => last_value(count),
-        Test::Gcm(Frame::Octets64) => last_tag::<52>(count),
-        Test::Gcm(Frame::Octets512) => last_tag::<500>(count),
-        Test::Gcm(Frame::Octets1500) => last_tag::<1488>(count),
+        Test::Gcm(Frame::Octets64) => last_tag::<52>(&test_key(), count),
+        Test::Gcm(Frame::Octets512) => last_tag::<500>(&test_key(), count),
+        Test::Gcm(Frame::Octets1500) => last_tag::<1488>(&test_key(), count),
+        Test::LongKeyGcm => last_tag::<1488>(&long_test_key(), count),
     }
 }
 
-/// The key of every test.
+/// The key of 128 bits.
 fn test_key() -> Key
     ensures { result ≡ key }
 {
     Key::k128(&stepped::<16>(1))
+}
+
+/// The key of 256 bits.
+fn long_test_key() -> Key
+    ensures { result ≡ long_key }
+{
+    Key::k256(&stepped::<32>(1))
 }
 
 /// Octets that begin from zero and rise by a step, modulo 256.
@@ -44,11 +53,10 @@ fn stepped<const N: usize>(step: u8) -> [u8; N]
     octets
 }
 
-/// The block, which becomes its cipher each time.
-fn last_block(count: u32) -> [u8; 16]
-    ensures { result ≡ block_after count }
+/// The block, which becomes its ciphertext each time.
+fn last_block(key: &Key, count: u32) -> [u8; 16]
+    ensures { result ≡ block_after key.now count }
 {
-    let key = test_key();
     let mut block = [0; 16];
     for _done in 0..count {
         let next = key.encrypt(block);
@@ -71,20 +79,21 @@ fn last_value(count: u32) -> [u8; 16]
     value
 }
 
-/// The tag of a text with 28 octets of additional data, sealed under the next IV each time.
-fn last_tag<const N: usize>(count: u32) -> [u8; 16]
+/// The tag of a text with 28 octets of additional data, of which the first is changed by each tag, sealed
+/// under the next IV each time.
+fn last_tag<const N: usize>(key: &Key, count: u32) -> [u8; 16]
     requires { N ≤ 65536 }
-    ensures { result ≡ tag_after N count }
+    ensures { result ≡ tag_after key.now N count }
 {
-    let key = test_key();
     let text = stepped::<N>(7);
-    let extra = stepped::<28>(1);
+    let mut extra = stepped::<28>(1);
     let mut iv = FIRST_IV;
     let mut tag = [0; 16];
     for _done in 0..count {
         iv[11] = iv[11].wrapping_add(1);
         let mut sealed = text;
-        tag = seal(&key, iv, &extra, &mut sealed);
+        tag = seal(key, iv, &extra, &mut sealed);
+        extra[0] ^= tag[0];
     }
     tag
 }

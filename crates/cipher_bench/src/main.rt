@@ -10,7 +10,8 @@ use named::Test;
 use std::env;
 
 const USAGE: &str =
-    "usage: cipher_bench TEST COUNT, where TEST is aes128_block, cmac_150, gcm_64, gcm_512 or gcm_1500";
+    "usage: cipher_bench TEST COUNT, where TEST is aes128_block, aes256_block, cmac_150, \
+    gcm_64, gcm_512, gcm_1500 or gcm256_1500";
 
 fn main(rt: HostRuntime) -> anyhow::Result<()> {
     let mut words = env::args(&rt)?.skip(1);

@@ -9,12 +9,16 @@ use std::str::FromStr;
 /// What is done again and again.
 #[derive(Clone, Copy, Debug, PartialEq, Eq)]
 pub enum Test {
-    /// A block becomes its cipher.
+    /// A block becomes its ciphertext.
     Block,
+    /// The same under a key of 256 bits.
+    LongKeyBlock,
     /// The CMAC of a message, whose first octet the last value changes.
     Cmac,
-    /// The tag of a text that is sealed under the next IV.
+    /// The tag of a text that is sealed under the next IV, with data whose first octet the last tag changes.
     Gcm(Frame),
+    /// The same of the greatest frame, under a key of 256 bits.
+    LongKeyGcm,
 }
 
 /// A frame whose text, all but its two addresses, is sealed. It is named for its octets.
@@ -37,10 +41,12 @@ impl FromStr for Test {
     fn from_str(word: &str) -> anyhow::Result<Test> {
         Ok(match word {
             "aes128_block" => Test::Block,
+            "aes256_block" => Test::LongKeyBlock,
             "cmac_150" => Test::Cmac,
             "gcm_64" => Test::Gcm(Frame::Octets64),
             "gcm_512" => Test::Gcm(Frame::Octets512),
             "gcm_1500" => Test::Gcm(Frame::Octets1500),
+            "gcm256_1500" => Test::LongKeyGcm,
             _ => bail!("there is no test {word:?}"),
         })
     }

@@ -1,5 +1,5 @@
 -- The bits of numbers, the highest first, at any width: what `^`, `>>` and the lowest bit are on them.
-use Rattle.std.proofs.Common.{◌≡◌, ℕ, zero, suc, ◌+◌, ◌*◌, ◌/◌, ◌%◌, ◌^◌, ◌<◌, Bool, true, false, cond, eqb, List, [], ◌∷◌, ◌++◌, length, refl, sym, ap, ◌∙◌, arith, bit_xor}
+use Rattle.std.proofs.Common.{◌≡◌, ℕ, zero, suc, ◌+◌, ◌*◌, ◌/◌, ◌%◌, ◌^◌, ◌<◌, ◌≤◌, zero-add, Bool, true, false, cond, eqb, List, [], ◌∷◌, ◌++◌, length, refl, sym, ap, ◌∙◌, arith, bit_xor}
 use Rattle.std.proofs.lemmas.Nat.{shr-shr, shr_split, pow-add, mod-pow-add}
 use Rattle.std.proofs.Math.Nat.{pow-suc, two-pow-succ}
 use Rattle.std.proofs.lemmas.Nat.Bits.{bit_at_xor, bit_at-lt, bit_at_cat_low, bit_at_above, bit_at-suc}
@@ -68,28 +68,36 @@ pub byte_at-is : (k n : ℕ) → byte_at k n ≡ n / 2 ^ (8 * k) % 2 ^ 8
 byte_at-is zero n = omega arith
 byte_at-is (suc k) n = ap (λ (p : ℕ). n / p % 256) (pow-octets (suc k))
 
--- bit j of that byte
-has_bit-byte : (n a j p : ℕ) → j < 8 → p ≡ a + j → has_bit (n / 2 ^ a % 2 ^ 8) j ≡ has_bit n p
-has_bit-byte n a j p h e =
+-- bit j of the w bits above the lowest a
+has_bit-part : (n a w j p : ℕ) → j < w → p ≡ a + j → has_bit (n / 2 ^ a % 2 ^ w) j ≡ has_bit n p
+has_bit-part n a w j p h e =
     let m : ℕ = n / 2 ^ a in
-    let split : m / 2 ^ 8 * 2 ^ 8 + m % 2 ^ 8 ≡ m = shr_split m 8 in
-    let low : bit_at (m / 2 ^ 8 * 2 ^ 8 + m % 2 ^ 8) j ≡ bit_at (m % 2 ^ 8) j = bit_at_cat_low (m / 2 ^ 8) 8 (m % 2 ^ 8) j h in
-    let whole : bit_at m j ≡ bit_at (m % 2 ^ 8) j = rw split at low in
+    let split : m / 2 ^ w * 2 ^ w + m % 2 ^ w ≡ m = shr_split m w in
+    let low : bit_at (m / 2 ^ w * 2 ^ w + m % 2 ^ w) j ≡ bit_at (m % 2 ^ w) j = bit_at_cat_low (m / 2 ^ w) w (m % 2 ^ w) j h in
+    let whole : bit_at m j ≡ bit_at (m % 2 ^ w) j = rw split at low in
     let deep : n / 2 ^ a / 2 ^ j ≡ n / 2 ^ p = shr-shr n a j ∙ ap (λ (k : ℕ). n / 2 ^ k) (sym e) in
     ap (λ (v : ℕ). eqb v 1) (sym whole ∙ ap (λ (v : ℕ). v % 2) deep)
+
+-- the lowest bits, and k of the w bits above them
+pub bits-split : (k a w n : ℕ) → k ≤ w → bits_high_first (k + a) n ≡ bits_high_first k (n / 2 ^ a % 2 ^ w) ++ bits_high_first a n
+unfolding bits_high_first
+bits-split zero a w n h = rw zero-add refl
+bits-split (suc k) a w n h =
+    let e : suc k + a ≡ suc (k + a) = omega arith in
+    rw e (λ i. sym (has_bit-part n a w k (k + a) (omega arith) (omega arith)) i ∷ bits-split k a w n (omega arith) i)
 
 octet_bits-byte : (n a : ℕ) → octet_bits (n / 2 ^ a % 2 ^ 8) ++ bits_high_first a n
     ≡ bits_high_first (suc (suc (suc (suc (suc (suc (suc (suc a)))))))) n
 unfolding bits_high_first
 octet_bits-byte n a = λ i.
-    has_bit-byte n a 7 (suc (suc (suc (suc (suc (suc (suc a))))))) (omega arith) (omega arith) i
-    ∷ has_bit-byte n a 6 (suc (suc (suc (suc (suc (suc a)))))) (omega arith) (omega arith) i
-    ∷ has_bit-byte n a 5 (suc (suc (suc (suc (suc a))))) (omega arith) (omega arith) i
-    ∷ has_bit-byte n a 4 (suc (suc (suc (suc a)))) (omega arith) (omega arith) i
-    ∷ has_bit-byte n a 3 (suc (suc (suc a))) (omega arith) (omega arith) i
-    ∷ has_bit-byte n a 2 (suc (suc a)) (omega arith) (omega arith) i
-    ∷ has_bit-byte n a 1 (suc a) (omega arith) (omega arith) i
-    ∷ has_bit-byte n a 0 a (omega arith) (omega arith) i
+    has_bit-part n a 8 7 (suc (suc (suc (suc (suc (suc (suc a))))))) (omega arith) (omega arith) i
+    ∷ has_bit-part n a 8 6 (suc (suc (suc (suc (suc (suc a)))))) (omega arith) (omega arith) i
+    ∷ has_bit-part n a 8 5 (suc (suc (suc (suc (suc a))))) (omega arith) (omega arith) i
+    ∷ has_bit-part n a 8 4 (suc (suc (suc (suc a)))) (omega arith) (omega arith) i
+    ∷ has_bit-part n a 8 3 (suc (suc (suc a))) (omega arith) (omega arith) i
+    ∷ has_bit-part n a 8 2 (suc (suc a)) (omega arith) (omega arith) i
+    ∷ has_bit-part n a 8 1 (suc a) (omega arith) (omega arith) i
+    ∷ has_bit-part n a 8 0 a (omega arith) (omega arith) i
     ∷ bits_high_first a n
 
 -- the bits of the octets of a number are its bits

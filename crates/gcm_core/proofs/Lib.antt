@@ -1,7 +1,10 @@
 pub mod BlockBits
 pub mod KeyStream
 pub mod Octets
+pub mod Powers
 pub mod Products
+pub mod Tables
 pub mod Tags
+pub mod Times
 pub mod Vectors
 pub mod WholeBlocks

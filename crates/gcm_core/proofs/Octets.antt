@@ -45,7 +45,7 @@ bytes-number_of (b ∷ bs) above h =
     rw split (λ i. head i ∷ tail i)
 
 -- and the other way round
-length-bytes : (k n : ℕ) → length (bytes_high_first k n) ≡ k
+pub length-bytes : (k n : ℕ) → length (bytes_high_first k n) ≡ k
 length-bytes zero n = refl
 length-bytes (suc k) n = ap suc (length-bytes k n)
 
@@ -57,7 +57,7 @@ number_of-bytes (suc k) n =
     let split : n % 2 ^ (8 + 8 * k) ≡ (n / 2 ^ (8 * k) % 2 ^ 8) * 2 ^ (8 * k) + n % 2 ^ (8 * k) = mod-pow-add n 8 (8 * k) in
     rw (e, split, length-bytes k n, pow-octets k, byte_at-is k n, number_of-bytes k n) refl
 
-All-bytes : (k n : ℕ) → All IsOctet (bytes_high_first k n)
+pub All-bytes : (k n : ℕ) → All IsOctet (bytes_high_first k n)
 All-bytes zero n = All-nil IsOctet
 All-bytes (suc k) n =
     All-cons IsOctet (byte_at k n) (bytes_high_first k n) (rw byte_at-div (mod_below (n / 256 ^ k) 256 (omega arith))) (All-bytes k n)

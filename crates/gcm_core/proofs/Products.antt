@@ -1,13 +1,12 @@
 -- The product of strings of bits, and the steps by which numbers compute it.
-use Rattle.std.proofs.Common.{◌≡◌, ℕ, zero, suc, ◌*◌, ◌/◌, ◌%◌, ◌^◌, ◌<◌, Bool, true, false, cond, eqb, List, [], ◌∷◌, length, map, refl, sym, ap, ◌∙◌, arith, bit_xor}
+use Rattle.std.proofs.Common.{◌≡◌, ℕ, zero, suc, ◌*◌, ◌/◌, ◌%◌, ◌^◌, ◌<◌, Bool, true, false, cond, eqb, List, [], ◌∷◌, length, map, refl, ap, ◌∙◌, arith, bit_xor}
 use Rattle.std.proofs.lemmas.Nat.{xor_comm}
-use Rattle.std.proofs.lemmas.Nat.Bits.{bit_at_lowest, bit_at-lt, bit_at-zero}
+use Rattle.std.proofs.lemmas.Nat.Bits.{bit_at_lowest, bit_at-zero}
 use Rattle.std.specs.Int.Bits.{xor_zero_r}
-use Rattle.std.specs.Int.{bit_at}
-use Rattle.aes_block.specs.Bits.{has_bit}
+use Rattle.aes_block.specs.Bits.{bits, has_bit}
 use Rattle.aes_block.specs.Product.{bit_sum, sum_of, moved, last_bit, times_x, product}
 use Rattle.gcm_core.specs.Blocks.{block_octets, block_bits}
-use Rattle.gcm_core.specs.Ghash.{reduction}
+use Rattle.gcm_core.specs.Ghash.{next_hash, reduction}
 use Rattle.gcm_core.proofs.BlockBits.{bits_high_first, bits-xor, bits-half, last_bit-bits, length-bits, bits-bytes}
 
 pub block_bits-are : (n : ℕ) → block_bits n ≡ bits_high_first 128 n
@@ -59,16 +58,16 @@ sum_of-from_zeros (a ∷ us) (b ∷ vs) h = λ i. b ∷ sum_of-from_zeros us vs 
 
 -- ---- lengths
 
-length-sum_of : (us vs : List Bool) → length us ≡ length vs → length (sum_of us vs) ≡ length us
+pub length-sum_of : (us vs : List Bool) → length us ≡ length vs → length (sum_of us vs) ≡ length us
 length-sum_of [] vs h = refl
 length-sum_of (a ∷ us) [] h = absurd (omega arith)
 length-sum_of (a ∷ us) (b ∷ vs) h = ap suc (length-sum_of us vs (omega arith))
 
-length-moved : (b : Bool) (vs : List Bool) → length (moved b vs) ≡ length vs
+pub length-moved : (b : Bool) (vs : List Bool) → length (moved b vs) ≡ length vs
 length-moved b [] = refl
 length-moved b (c ∷ vs) = ap suc (length-moved c vs)
 
-length-zeros : (vs : List Bool) → length (map (λ (b : Bool). false) vs) ≡ length vs
+pub length-zeros : (vs : List Bool) → length (map (λ (b : Bool). false) vs) ≡ length vs
 length-zeros [] = refl
 length-zeros (b ∷ vs) = ap suc (length-zeros vs)
 
@@ -76,7 +75,7 @@ length_cond : (b : Bool) (us vs : List Bool) (n : ℕ) → length us ≡ n → l
 length_cond true us vs n p q = p
 length_cond false us vs n p q = q
 
-length-times_x : (r v : List Bool) → length r ≡ length v → length (times_x r v) ≡ length v
+pub length-times_x : (r v : List Bool) → length r ≡ length v → length (times_x r v) ≡ length v
 length-times_x r v h =
     let plain : length (moved false v) ≡ length v = length-moved false v in
     length_cond (last_bit false v) (sum_of r (moved false v)) (moved false v) (length v)
@@ -116,24 +115,12 @@ times_x-number v k fits e =
     rw (e, block_bits-are (bit_xor (v / 2) (v % 2 * reduction_number)), block_bits-are v, reduction-is)
     (times_x-at 127 reduction_number v (v % 2) fits refl (omega arith))
 
--- one bit of the first string: its multiple of v goes into the sum
-product_at : (r us : List Bool) (w s v p : ℕ) → p < 2
-    → sum_of (bits_high_first w (bit_xor s (p * v))) (product r us (times_x r (bits_high_first w v)))
-    ≡ sum_of (bits_high_first w s) (product r (eqb p 1 ∷ us) (bits_high_first w v))
-product_at r us w s v zero h =
-    ap (λ (n : ℕ). sum_of (bits_high_first w n) (product r us (times_x r (bits_high_first w v))))
-    (ap (λ (n : ℕ). bit_xor s n) (omega arith) ∙ xor_zero_r s)
-product_at r us w s v (suc zero) h =
-    ap (λ (bs : List Bool). sum_of bs (product r us (times_x r (bits_high_first w v))))
-    (ap (λ (n : ℕ). bits_high_first w (bit_xor s n)) (omega arith) ∙ bits-xor w s v)
-    ∙ sum_of-assoc (bits_high_first w s) (bits_high_first w v) (product r us (times_x r (bits_high_first w v)))
-product_at r us w s v (suc (suc p)) h = absurd (omega arith)
+pub length-block_bits : (n : ℕ) → length (block_bits n) ≡ 128
+length-block_bits n = ap length (block_bits-are n) ∙ length-bits 128 n
 
-product_step : (r : List Bool) (w k s v x : ℕ)
-    → sum_of (bits_high_first w (bit_xor s (bit_at x k * v))) (product r (bits_high_first k x) (times_x r (bits_high_first w v)))
-    ≡ sum_of (bits_high_first w s) (product r (bits_high_first (suc k) x) (bits_high_first w v))
-unfolding bits_high_first
-product_step r w k s v x = product_at r (bits_high_first k x) w s v (bit_at x k) (bit_at-lt x k)
+pub length-reduction : length reduction ≡ 128
+unfolding reduction
+length-reduction = refl
 
 has_bit-zero : (k : ℕ) → has_bit 0 k ≡ false
 has_bit-zero k = ap (λ (n : ℕ). eqb n 1) (bit_at-zero k)
@@ -145,39 +132,13 @@ bits-zero zero (b ∷ us) h = absurd (omega arith)
 bits-zero (suc w) [] h = absurd (omega arith)
 bits-zero (suc w) (b ∷ us) h = λ i. has_bit-zero w i ∷ bits-zero w us (omega arith) i
 
--- before the bit of weight 2 ^ k, that much of the product is still to be added
-unfoldable pub IsProductFrom : ℕ → ℕ → ℕ → ℕ → ℕ → Type 0
-IsProductFrom k h x sum power =
-    sum_of (block_bits sum) (product reduction (bits_high_first k x) (block_bits power))
-    ≡ product reduction (block_bits x) (block_bits h)
+-- the block of zeros
+pub block_bits-zero : (us : List Bool) → length us ≡ 128 → block_bits 0 ≡ map (λ _. false) us
+block_bits-zero us h = block_bits-are 0 ∙ bits-zero 128 us h
 
-length-block_bits : (n : ℕ) → length (block_bits n) ≡ 128
-length-block_bits n = ap length (block_bits-are n) ∙ length-bits 128 n
-
-length-reduction : length reduction ≡ 128
-unfolding reduction
-length-reduction = refl
-
-pub product_none : (h x : ℕ) → IsProductFrom 128 h x 0 h
-unfolding IsProductFrom
-product_none h x =
-    let p : List Bool = product reduction (bits_high_first 128 x) (block_bits h) in
-    let hs : length (block_bits h) ≡ 128 = length-block_bits h in
-    let ps : length p ≡ length (block_bits h) = length-product reduction (bits_high_first 128 x) (block_bits h) (length-reduction ∙ sym hs) in
-    let zeros : block_bits 0 ≡ map (λ _. false) (block_bits h) = block_bits-are 0 ∙ bits-zero 128 (block_bits h) hs in
-    rw (zeros, block_bits-are x) (sum_of-from_zeros (block_bits h) p (sym ps))
-
-pub product_more : (k k' h x sum power sum' power' : ℕ) → k ≡ suc k' → sum' ≡ bit_xor sum (bit_at x k' * power)
-    → block_bits power' ≡ times_x reduction (block_bits power) → IsProductFrom k h x sum power → IsProductFrom k' h x sum' power'
-unfolding IsProductFrom
-product_more k k' h x sum power sum' power' e es ep was =
-    let next : sum_of (block_bits sum') (product reduction (bits_high_first k' x) (times_x reduction (block_bits power)))
-    ≡ sum_of (block_bits sum) (product reduction (bits_high_first (suc k') x) (block_bits power)) =
-    rw (es, block_bits-are (bit_xor sum (bit_at x k' * power)), block_bits-are sum, block_bits-are power)
-    (product_step reduction 128 k' sum power x) in
-    rw ep (next ∙ rw e at was)
-
-pub product_all : (h x sum power : ℕ) → IsProductFrom 0 h x sum power → block_bits sum ≡ product reduction (block_bits x) (block_bits h)
-unfolding IsProductFrom bits_high_first
-product_all h x sum power was =
-    sym (sum_of-zeros (block_bits sum) (block_bits power) (length-block_bits sum ∙ sym (length-block_bits power))) ∙ was
+-- one block more: its number is added, and the sum multiplied
+pub next_hash-is : (h v n r : ℕ) (block : List ℕ) → block_bits r ≡ product reduction (block_bits (bit_xor v n)) (block_bits h)
+    → block_octets n ≡ block → block_bits r ≡ next_hash (block_bits h) (block_bits v) block
+unfolding block_bits
+next_hash-is h v n r block e b =
+    e ∙ ap (λ us. product reduction us (block_bits h)) (block_bits-xor v n ∙ ap (λ os. sum_of (block_bits v) (bits os)) b)

@@ -1,7 +1,7 @@
 -- Strings in blocks: padded strings joined, and the hash of blocks one after the other.
-use Rattle.std.proofs.Common.{◌≡◌, ℕ, zero, suc, ◌+◌, ◌-◌, ◌*◌, ◌<◌, ◌≤◌, min, Bool, false, List, [], ◌∷◌, ◌++◌, length, take, drop, replicate, refl, sym, ap, ◌∙◌, arith, zero-add, inl, inr}
-use Rattle.std.proofs.lemmas.List.{length-append, length-drop, length-replicate, append_assoc, append-nil, take-append-le, drop-append-le, take_all, nil_from_length}
-use Rattle.std.proofs.lemmas.Bool.{cases_eq}
+use Rattle.std.proofs.Common.{get_or, add-one, ◌/◌, ◌≡◌, ℕ, zero, suc, ◌+◌, ◌-◌, ◌*◌, ◌<◌, ◌≤◌, Bool, false, List, [], ◌∷◌, ◌++◌, length, take, drop, replicate, refl, sym, ap, ◌∙◌, arith, zero-add}
+use Rattle.std.proofs.Math.Seq.{drop-cons}
+use Rattle.std.proofs.lemmas.List.{drop_all, length-take-le, take-append-drop, drop-drop, length-append, length-drop, length-replicate, append_assoc, append-nil, take-append-le, drop-append-le, take_all, nil_from_length}
 use Rattle.std.specs.Simd.{first_chunks}
 use Rattle.gcm_core.specs.Blocks.{block_count, blocks_of, padded}
 use Rattle.gcm_core.specs.Ghash.{ghash, next_hash}
@@ -46,16 +46,6 @@ pub blocks_of-nil : (octets : List ℕ) → length octets ≡ 0 → blocks_of (p
 unfolding blocks_of padded
 blocks_of-nil octets h = rw (nil_from_length octets h) refl
 
--- a whole block, and the rest
-piece_full : (piece rest : List ℕ) → length piece ≡ 16
-    → blocks_of (padded (piece ++ rest)) ≡ (piece ++ replicate (16 - length piece) 0) ∷ blocks_of (padded rest)
-unfolding padded
-piece_full piece rest h =
-    let count : 16 * block_count (length (piece ++ rest)) - length (piece ++ rest) ≡ 16 * block_count (length rest) - length rest =
-    omega (arith, length-append piece rest) in
-    let joined : padded (piece ++ rest) ≡ piece ++ padded rest = rw (count, append_assoc) refl in
-    rw (joined, blocks_of-append 1 piece (padded rest) h, blocks_of-single piece h, h, append-nil) refl
-
 -- a block that may be short, and nothing behind it
 piece_last : (piece : List ℕ) → 0 < length piece → length piece ≤ 16
     → blocks_of (padded piece) ≡ (piece ++ replicate (16 - length piece) 0) ∷ []
@@ -65,33 +55,66 @@ piece_last piece h short =
     let whole : length (piece ++ replicate (16 - length piece) 0) ≡ 16 = simp (length-append, length-replicate) (omega arith) in
     rw count (blocks_of-single (piece ++ replicate (16 - length piece) 0) whole)
 
--- the first piece of a string, padded, is the first block
-pub blocks_of-piece : (piece rest : List ℕ) → length piece ≡ min 16 (length (piece ++ rest)) → 0 < length (piece ++ rest)
-    → blocks_of (padded (piece ++ rest)) ≡ (piece ++ replicate (16 - length piece) 0) ∷ blocks_of (padded rest)
-blocks_of-piece piece rest h some =
-    let len : length (piece ++ rest) ≡ length piece + length rest = length-append piece rest in
-    elim (cases_eq (length piece) 16) [
-      | inl full ↦ piece_full piece rest full
-      | inr short ↦
-          let none : length rest ≡ 0 = omega arith in
-          rw (nil_from_length rest none, append-nil, blocks_of-nil [] refl)
-          (piece_last piece (omega arith) (omega arith))
-    ]
+-- whole blocks, and the rest
+pub blocks_of-whole : (octets : List ℕ) (k : ℕ) → k ≡ length octets / 16
+    → blocks_of (padded octets) ≡ first_chunks 16 k octets ++ blocks_of (padded (drop (k * 16) octets))
+unfolding padded blocks_of
+blocks_of-whole octets k e =
+    let front = take (k * 16) octets in
+    let rest = drop (k * 16) octets in
+    let m = block_count (length rest) in
+    let lf : length front ≡ 16 * k = length-take-le (k * 16) octets (omega arith) ∙ omega arith in
+    let lr : length rest ≡ length octets - k * 16 = length-drop (k * 16) octets in
+    let zeros : List ℕ = replicate (16 * m - length rest) 0 in
+    let parts : octets ≡ front ++ rest = sym (take-append-drop (k * 16) octets) in
+    let same : 16 * block_count (length octets) - length octets ≡ 16 * m - length rest = omega arith in
+    let joined : octets ++ replicate (16 * block_count (length octets) - length octets) 0 ≡ front ++ (rest ++ zeros) =
+    ap (λ n. octets ++ replicate n 0) same ∙ ap (λ os. os ++ zeros) parts ∙ append_assoc front rest zeros in
+    let padded_count : block_count (length (octets ++ replicate (16 * block_count (length octets) - length octets) 0)) ≡ k + m =
+    simp (length-append, length-replicate) (omega arith) in
+    let rest_count : block_count (length (rest ++ zeros)) ≡ m = simp (length-append, length-replicate) (omega arith) in
+    let none : k + 0 ≡ k = omega arith in
+    let whole : first_chunks 16 k octets ≡ first_chunks 16 k front =
+    ap (λ n. first_chunks 16 n octets) (sym none) ∙ ap (first_chunks 16 (k + 0)) parts ∙ chunks-append k 0 front rest lf
+    ∙ append-nil (first_chunks 16 k front) in
+    (λ i. first_chunks 16 (padded_count i) (joined i)) ∙ chunks-append k m front (rest ++ zeros) lf
+    ∙ (λ i. sym whole i ++ first_chunks 16 (sym rest_count i) (rest ++ zeros))
 
--- ---- the hash, piece by piece
+pub chunk_at : (n j : ℕ) (octets : List ℕ) → j < n → get_or (first_chunks 16 n octets) j [] ≡ take 16 (drop (16 * j) octets)
+chunk_at zero j octets h = absurd (omega arith)
+chunk_at (suc n) zero octets h = refl
+chunk_at (suc n) (suc j) octets h =
+    let e : 16 + 16 * j ≡ 16 * suc j = omega arith in
+    chunk_at n j (drop 16 octets) (omega arith) ∙ ap (take 16) (drop-drop (16 * j) 16 octets ∙ ap (λ k. drop k octets) e)
 
-pub ghash_more : (h y y' whole : List Bool) (piece rest rest' block : List ℕ) → rest ≡ piece ++ rest'
-    → length piece ≡ min 16 (length rest) → 0 < length rest → block ≡ piece ++ replicate (16 - length piece) 0
-    → y' ≡ next_hash h y block → ghash h y (blocks_of (padded rest)) ≡ whole → ghash h y' (blocks_of (padded rest')) ≡ whole
-ghash_more h y y' whole piece rest rest' block er size some eb ey was =
-    let first : blocks_of (padded rest) ≡ block ∷ blocks_of (padded rest') =
-    ap (λ (os : List ℕ). blocks_of (padded os)) er
-    ∙ blocks_of-piece piece rest' (size ∙ ap (λ (os : List ℕ). min 16 (length os)) er) (rw er at some)
-    ∙ ap (λ (b : List ℕ). b ∷ blocks_of (padded rest')) (sym eb) in
-    rw ey (rw first at was)
+-- ---- the hash, block by block
 
-pub ghash_all : (h y whole : List Bool) (rest : List ℕ) → length rest ≡ 0 → ghash h y (blocks_of (padded rest)) ≡ whole → y ≡ whole
-ghash_all h y whole rest none was = rw (blocks_of-nil rest none) at was
+pub ghash_step : (h y y' : List Bool) (blocks : List (List ℕ)) (j : ℕ) → j < length blocks → y' ≡ next_hash h y (get_or blocks j [])
+    → ghash h y' (drop (j + 1) blocks) ≡ ghash h y (drop j blocks)
+ghash_step h y y' blocks j some e =
+    let parts : drop j blocks ≡ get_or blocks j [] ∷ drop (j + 1) blocks = drop-cons blocks j [] some ∙ (rw add-one refl) in
+    rw (parts, e) refl
+
+-- the hash after the whole blocks, and after the rest
+pub ghash_whole : (h y z : List Bool) (octets rest : List ℕ) (blocks : List (List ℕ)) (j : ℕ)
+    → blocks ≡ first_chunks 16 (length octets / 16) octets → rest ≡ drop (length octets / 16 * 16) octets
+    → length blocks ≤ j → ghash h z (drop j blocks) ≡ ghash h y blocks
+    → ghash h y (blocks_of (padded octets)) ≡ ghash h z (blocks_of (padded rest))
+ghash_whole h y z octets rest blocks j eb er end was =
+    let k = length octets / 16 in
+    let done : drop j blocks ≡ [] = drop_all j blocks end in
+    let all : ghash h y (first_chunks 16 k octets) ≡ z = ap (ghash h y) (sym eb) ∙ sym was ∙ ap (ghash h z) done in
+    ap (ghash h y) (blocks_of-whole octets k refl)
+    ∙ ghash-append h y (first_chunks 16 k octets) (blocks_of (padded (drop (k * 16) octets)))
+    ∙ ap (λ w. ghash h w (blocks_of (padded (drop (k * 16) octets)))) all
+    ∙ ap (λ os. ghash h z (blocks_of (padded os))) (sym er)
+
+pub ghash_none : (h y : List Bool) (rest : List ℕ) → length rest ≡ 0 → ghash h y (blocks_of (padded rest)) ≡ y
+ghash_none h y rest none = ap (ghash h y) (blocks_of-nil rest none)
+
+pub ghash_last : (h y y' : List Bool) (rest : List ℕ) → 0 < length rest → length rest ≤ 16
+    → y' ≡ next_hash h y (rest ++ replicate (16 - length rest) 0) → ghash h y (blocks_of (padded rest)) ≡ y'
+ghash_last h y y' rest some short e = ap (ghash h y) (piece_last rest some short) ∙ sym e
 
 -- the additional data, then the text, then the lengths
 length-lengths : (extra text : List ℕ) → length (lengths extra text) ≡ 16

@@ -1,5 +1,5 @@
 -- Strings of octets and of bits as GCM cuts, joins and counts them (SP 800-38D, section 6.1).
-use Rattle.std.specs.Prelude.{ℕ, ◌+◌, ◌-◌, ◌*◌, ◌/◌, Bool, true, false, List, [], ◌∷◌, ◌++◌, length, replicate, bit_xor}
+use Rattle.std.specs.Prelude.{ℕ, ◌+◌, ◌-◌, ◌*◌, ◌/◌, Bool, true, false, List, [], ◌∷◌, ◌++◌, length, replicate}
 use Rattle.std.specs.Int.{w128, to_be_bytes}
 use Rattle.std.specs.Simd.{first_chunks}
 use Rattle.aes_block.specs.Bits.{bits}
@@ -15,12 +15,6 @@ blocks_of octets = first_chunks 16 (block_count (length octets)) octets
 -- octets, and zeros up to a whole block
 unfoldable pub padded : List ℕ → List ℕ
 padded octets = octets ++ replicate (16 * block_count (length octets) - length octets) 0
-
--- octets, each exclusive or the octet at its place in a mask that is no shorter
-abbrev pub masked : List ℕ → List ℕ → List ℕ
-masked [] mask = []
-masked (octet ∷ octets) [] = octet ∷ octets
-masked (octet ∷ octets) (m ∷ mask) = bit_xor octet m ∷ masked octets mask
 
 -- the number that is written by the bits of a number and then these, the highest first
 abbrev pub number_from : ℕ → List Bool → ℕ

@@ -1,3 +1,4 @@
 pub mod Blocks
 pub mod Ghash
 pub mod Gcm
+pub mod inside

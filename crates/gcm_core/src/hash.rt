@@ -2,63 +2,40 @@
 
 ghost use Rattle.std.specs.Prelude.{◌≡◌, ℕ, ◌+◌, ◌-◌, ◌≤◌, ◌++◌, length, replicate};
 ghost use Rattle.gcm_core.specs.Blocks.{block_bits, block_octets, blocks_of, padded};
-ghost use Rattle.gcm_core.specs.Ghash.{ghash, next_hash};
+ghost use Rattle.gcm_core.specs.Ghash.{ghash};
 ghost use Rattle.gcm_core.specs.Gcm.{hashed, lengths};
 
-use crate::product::times;
+use crate::hash_table::HashTable;
 
-/// The hash of the additional data and the enciphered text under a hash key.
-pub(crate) fn hash_of(key: u128, extra: &[u8], enciphered: &[u8]) -> u128
+/// The hash of the additional data and the ciphertext under a hash key.
+pub(crate) fn hash_of(key: u128, extra: &[u8], ciphertext: &[u8]) -> u128
     requires extra { length extra.now ≤ 65536 }
-    requires enciphered { length enciphered.now ≤ 65536 }
-    ensures { block_bits result ≡ hashed (block_bits key) extra.now enciphered.now }
+    requires ciphertext { length ciphertext.now ≤ 65536 }
+    ensures { block_bits result ≡ hashed (block_bits key) extra.now ciphertext.now }
 {
-    let mut hash = Ghash::new(key);
-    hash.absorb_padded(extra);
-    hash.absorb_padded(enciphered);
-    hash.absorb(lengths(extra, enciphered));
-    hash.value
+    let table = HashTable::of(key);
+    let after_extra = absorbed(&table, 0, extra);
+    let after_text = absorbed(&table, after_extra, ciphertext);
+    table.times(after_text ^ lengths(extra, ciphertext))
 }
 
-// The hash of the blocks that were absorbed so far.
-#[derive(Drop)]
-struct Ghash {
-    key: u128,
-    value: u128,
+/// The hash after the blocks of octets, the last one padded with zeros, from one before them.
+fn absorbed(table: &HashTable, before: u128, octets: &[u8]) -> u128
+    ensures { block_bits result
+        ≡ ghash (block_bits table.now) (block_bits before) (blocks_of (padded octets.now)) }
+{
+    let (blocks, rest) = octets.as_chunks::<16>();
+    let mut value = before;
+    for block in blocks {
+        value = table.times(value ^ u128::from_be_bytes(*block));
+    }
+    if !rest.is_empty() {
+        value = table.times(value ^ padded_block(rest));
+    }
+    value
 }
 
-impl Ghash {
-    // The hash of no blocks.
-    fn new(key: u128) -> Ghash
-        ensures key { result.key ≡ key }
-        ensures value { result.value ≡ 0 }
-    {
-        Ghash { key, value: 0 }
-    }
-
-    // Absorbs a block.
-    fn absorb(&mut self, block: u128)
-        ensures key { self.new.key ≡ self.old.key }
-        ensures value { block_bits self.new.value
-            ≡ next_hash (block_bits self.old.key) (block_bits self.old.value) (block_octets block) }
-    {
-        self.value = times(self.key, self.value ^ block);
-    }
-
-    // Absorbs the blocks of octets, the last one padded with zeros.
-    fn absorb_padded(&mut self, octets: &[u8])
-        ensures key { self.new.key ≡ self.old.key }
-        ensures value { block_bits self.new.value
-            ≡ ghash (block_bits self.old.key) (block_bits self.old.value)
-            (blocks_of (padded octets.now)) }
-    {
-        for piece in octets.chunks(16) {
-            self.absorb(padded_block(piece));
-        }
-    }
-}
-
-// At most 16 octets as a block, padded with zeros.
+/// At most 16 octets as a block, padded with zeros.
 fn padded_block(octets: &[u8]) -> u128
     requires { length octets.now ≤ 16 }
     ensures { block_octets result ≡ octets.now ++ replicate (16 - length octets.now) 0 }
@@ -68,11 +45,11 @@ fn padded_block(octets: &[u8]) -> u128
     u128::from_be_bytes(block)
 }
 
-// The block of the lengths in bits.
-fn lengths(extra: &[u8], enciphered: &[u8]) -> u128
+/// The block of the lengths in bits.
+fn lengths(extra: &[u8], ciphertext: &[u8]) -> u128
     requires extra { length extra.now ≤ 65536 }
-    requires enciphered { length enciphered.now ≤ 65536 }
-    ensures { block_octets result ≡ lengths extra.now enciphered.now }
+    requires ciphertext { length ciphertext.now ≤ 65536 }
+    ensures { block_octets result ≡ lengths extra.now ciphertext.now }
 {
-    (8 * extra.len() as u128) << 64 | 8 * enciphered.len() as u128
+    (8 * extra.len() as u128) << 64 | 8 * ciphertext.len() as u128
 }

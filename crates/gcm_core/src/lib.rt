@@ -4,9 +4,10 @@
 
 mod counter;
 mod hash;
-mod product;
+mod hash_table;
 mod sealing;
 #[cfg(test)]
 mod tests;
 
+pub use hash_table::HashTable;
 pub use sealing::{seal, unseal};

@@ -1,14 +1,15 @@
 //! Sealing and unsealing (SP 800-38D, sections 7.1 and 7.2).
 
-ghost use Rattle.std.specs.Prelude.{◌≡◌, ◌≤◌, List, ℕ, length};
+ghost use Rattle.std.specs.Prelude.{◌≡◌, ◌↔◌, IsTrue, ◌≤◌, List, ℕ, length};
 ghost use Rattle.std.specs.Bool.{OnTrue, OnFalse};
-ghost use Rattle.gcm_core.specs.Gcm.{gcm, gcm_tag, gcm_text};
+ghost use Rattle.aes_block.specs.Aes.{aes, IsBlock};
+ghost use Rattle.gcm_core.specs.Gcm.{first_counter, gcm, gcm_tag, gcm_text};
 
-use crate::counter::{encipher, first_counter, increment};
+use crate::counter::encrypt;
 use crate::hash::hash_of;
-use aes_block::Key;
+use aes_block::{Key, law_ciphertexts_are_blocks};
 
-/// Enciphers `text` in place, and answers the tag of the additional data and of what `text` has
+/// Encrypts `text` in place, and answers the tag of the additional data and of what `text` has
 /// become. Neither `extra` nor `text` is longer than 65,536 octets. Under one key each IV is for one
 /// call only: that is the caller's part.
 pub fn seal(key: &Key, iv: [u8; 12], extra: &[u8], text: &mut [u8]) -> [u8; 16]
@@ -16,8 +17,8 @@ pub fn seal(key: &Key, iv: [u8; 12], extra: &[u8], text: &mut [u8]) -> [u8; 16]
     requires text { length text.old ≤ 65536 }
     ensures { gcm key.now iv extra.now text.old ≡ (text.new, result) }
 {
-    encipher_text(key, iv, text);
-    tag_of(key, iv, extra, text)
+    encrypt_text(key, &iv, text);
+    tag_of(key, &iv, extra, text)
 }
 
 /// Whether some text is sealed to these octets and this tag. If so, that text, the only one, stands
@@ -33,30 +34,40 @@ pub fn unseal(key: &Key, iv: [u8; 12], extra: &[u8], text: &mut [u8], tag: [u8; 
         → gcm key.now iv extra.now plain ≡ (text.old, tag) → ⊥) }
     ensures unchanged { OnFalse result (text.new ≡ text.old) }
 {
-    let found = tag_of(key, iv, extra, text);
-    // As numbers, so that the first octet that differs ends nothing early.
-    if u128::from_be_bytes(found) != u128::from_be_bytes(tag) {
+    let found = tag_of(key, &iv, extra, text);
+    if !is_same(&found, &tag) {
         return false;
     }
-    encipher_text(key, iv, text);
+    encrypt_text(key, &iv, text);
     true
 }
 
-// Enciphers text in place; the same call deciphers it.
-fn encipher_text(key: &Key, iv: [u8; 12], text: &mut [u8])
-    ensures { text.new ≡ gcm_text key.now iv text.old }
+/// Encrypts text in place; the same call decrypts it.
+fn encrypt_text(key: &Key, iv: &[u8; 12], text: &mut [u8])
+    ensures text { text.new ≡ gcm_text key.now iv.now text.old }
+    ensures counter { IsBlock (first_counter iv.now) }
 {
-    encipher(key, increment(first_counter(iv)), text);
+    encrypt(key, iv, 2, text);
 }
 
-// The tag of additional data and enciphered text.
-fn tag_of(key: &Key, iv: [u8; 12], extra: &[u8], enciphered: &[u8]) -> [u8; 16]
+/// The tag of additional data and ciphertext.
+fn tag_of(key: &Key, iv: &[u8; 12], extra: &[u8], ciphertext: &[u8]) -> [u8; 16]
     requires extra { length extra.now ≤ 65536 }
-    requires enciphered { length enciphered.now ≤ 65536 }
-    ensures { result ≡ gcm_tag key.now iv extra.now enciphered.now }
+    requires ciphertext { length ciphertext.now ≤ 65536 }
+    ensures tag { result ≡ gcm_tag key.now iv.now extra.now ciphertext.now }
+    ensures blocks { (text : List ℕ) → IsBlock text → IsBlock (aes key.now text) }
 {
+    law_ciphertexts_are_blocks();
     let hash_key = u128::from_be_bytes(key.encrypt([0; 16]));
-    let mut tag = hash_of(hash_key, extra, enciphered).to_be_bytes();
-    encipher(key, first_counter(iv), &mut tag);
+    let mut tag = hash_of(hash_key, extra, ciphertext).to_be_bytes();
+    encrypt(key, iv, 1, &mut tag);
     tag
+}
+
+/// Whether two tags are one. They are compared as numbers, so that the first octet that differs ends
+/// nothing early.
+fn is_same(found: &[u8; 16], tag: &[u8; 16]) -> bool
+    ensures { IsTrue result ↔ (found.now ≡ tag.now) }
+{
+    u128::from_be_bytes(*found) == u128::from_be_bytes(*tag)
 }

@@ -1,5 +1,5 @@
 // Published sealings and refusals, and values of another implementation at other lengths.
-use crate::{seal, unseal};
+use crate::{HashTable, seal, unseal};
 use aes_block::Key;
 use hex::FromHex;
 use std::alloc::{AllocError, Global};
@@ -254,6 +254,113 @@ const ANNEX_C: [Case; 8] = [
     },
 ];
 
+// Cases of the suite with keys of 256 bits.
+const SUITE_256: [Case; 7] = [
+    Case {
+        name: "validation suite, 256 bits, 0 octets of text, 0 of additional data",
+        key: "b52c505a37d78eda5dd34f20c22540ea1b58963cf8e5bf8ffa85f9f2492505b4",
+        iv: "516c33929df5a3284ff463d7",
+        extra: "",
+        text: "",
+        sealed: "",
+        tag: "bdc1ac884d332457a1d2664f168c76f0",
+    },
+    Case {
+        name: "validation suite, 256 bits, 0 octets of text, 90 of additional data",
+        key: "03ccb7dbc7b8425465c2c3fc39ed0593929ffd02a45ff583bd89b79c6f646fe9",
+        iv: "fd119985533bd5520b301d12",
+        extra: "98e68c10bf4b5ae62d434928fc6405147c6301417303ef3a703dcfd2c0c339a4d0a89bd29fe61fecf1066ab06d7a5c31a48ffbfed22f749b17e9bd0dc1c6f8fbd6fd4587184db964d5456132106d782338c3f117ec05229b0899",
+        text: "",
+        sealed: "",
+        tag: "cf54e7141349b66f248154427810c87a",
+    },
+    Case {
+        name: "validation suite, 256 bits, 13 octets of text, 20 of additional data",
+        key: "69b458f2644af9020463b40ee503cdf083d693815e2659051ae0d039e606a970",
+        iv: "8d1da8ab5f91ccd09205944b",
+        extra: "036ad5e5494ef817a8af2f5828784a4bfedd1653",
+        text: "f3e0e09224256bf21a83a5de8d",
+        sealed: "c0a62d77e6031bfdc6b13ae217",
+        tag: "a794a9aaee48cd92e47761bf1baff0af",
+    },
+    Case {
+        name: "validation suite, 256 bits, 16 octets of text, 16 of additional data",
+        key: "92e11dcdaa866f5ce790fd24501f92509aacf4cb8b1339d50c9c1240935dd08b",
+        iv: "ac93a1a6145299bde902f21a",
+        extra: "1e0889016f67601c8ebea4943bc23ad6",
+        text: "2d71bcfa914e4ac045b2aa60955fad24",
+        sealed: "8995ae2e6df3dbf96fac7b7137bae67f",
+        tag: "eca5aa77d51d4a0a14d9c51e1da474ab",
+    },
+    Case {
+        name: "validation suite, 256 bits, 32 octets of text, 90 of additional data",
+        key: "26bf255bee60ef0f653769e7034db95b8c791752754e575c761059e9ee8dcf78",
+        iv: "cecd97ab07ce57c1612744f5",
+        extra: "afebbe9f260f8c118e52b84d8880a34622675faef334cdb41be9385b7d059b79c0f8a432d25f8b71e781b177fce4d4c57ac5734543e85d7513f96382ff4b2d4b95b2f1fdbaf9e78bbd1db13a7dd26e8a4ac83a3e8ab42d1d545f",
+        text: "96983917a036650763aca2b4e927d95ffc74339519ed40c4336dba91edfbf9ad",
+        sealed: "e34b1540a769f7913331d66796e00bdc3ee0f258cf244eb7663375cc5ad6c658",
+        tag: "3841f02beb7a7fca7e578922d0a2f80c",
+    },
+    Case {
+        name: "validation suite, 256 bits, 51 octets of text, 20 of additional data",
+        key: "24501ad384e473963d476edcfe08205237acfd49b5b8f33857f8114e863fec7f",
+        iv: "9ff18563b978ec281b3f2794",
+        extra: "adb5ec720ccf9898500028bf34afccbcaca126ef",
+        text: "27f348f9cdc0c5bd5e66b1ccb63ad920ff2219d14e8d631b3872265cf117ee86757accb158bd9abb3868fdc0d0b074b5f01b2c",
+        sealed: "eb7cb754c824e8d96f7c6d9b76c7d26fb874ffbf1d65c6f64a698d839b0b06145dae82057ad55994cf59ad7f67c0fa5e85fab8",
+        tag: "bc95c532fecc594c36d1550286a7a3f0",
+    },
+    Case {
+        name: "validation suite, 256 bits, 51 octets of text, 90 of additional data",
+        key: "148579a3cbca86d5520d66c0ec71ca5f7e41ba78e56dc6eebd566fed547fe691",
+        iv: "b08a5ea1927499c6ecbfd4e0",
+        extra: "e4f963f015ffbb99ee3349bbaf7e8e8e6c2a71c230a48f9d59860a29091d2747e01a5ca572347e247d25f56ba7ae8e05cde2be3c97931292c02370208ecd097ef692687fecf2f419d3200162a6480a57dad408a0dfeb492e2c5d",
+        text: "9d0b15fdf1bd595f91f8b3abc0f7dec927dfd4799935a1795d9ce00c9b879434420fe42c275a7cd7b39d638fb81ca52b49dc41",
+        sealed: "2097e372950a5e9383c675e89eea1c314f999159f5611344b298cda45e62843716f215f82ee663919c64002a5c198d7878fd3f",
+        tag: "adbecdb0d5c2224d804d2886ff9a5760",
+    },
+];
+
+// The frames of IEEE Std 802.1AE, annex C, that GCM-AES-256 gives integrity alone.
+const ANNEX_C_256: [Case; 4] = [
+    Case {
+        name: "IEEE Std 802.1AE, annex C, GCM-AES-256, 70 octets of additional data, integrity",
+        key: "e3c08a8f06c6e3ad95a70557b23f75483ce33021a9c72b7025666204c69c0b72",
+        iv: "12153524c0895e81b2c28465",
+        extra: "d609b1f056637a0d46df998d88e5222ab2c2846512153524c0895e8108000f101112131415161718191a1b1c1d1e1f202122232425262728292a2b2c2d2e2f30313233340001",
+        text: "",
+        sealed: "",
+        tag: "2f0bc5af409e06d609ea8b7d0fa5ea50",
+    },
+    Case {
+        name: "IEEE Std 802.1AE, annex C, GCM-AES-256, 68 octets of additional data, integrity",
+        key: "691d3ee909d7f54167fd1ca0b5d769081f2bde1aee655fdbab80bd5295ae6be7",
+        iv: "f0761e8dcd3d000176d457ed",
+        extra: "e20106d7cd0df0761e8dcd3d88e5400076d457ed08000f101112131415161718191a1b1c1d1e1f202122232425262728292a2b2c2d2e2f303132333435363738393a0003",
+        text: "",
+        sealed: "",
+        tag: "35217c774bbc31b63166bcf9d4abed07",
+    },
+    Case {
+        name: "IEEE Std 802.1AE, annex C, GCM-AES-256, 81 octets of additional data, integrity",
+        key: "83c093b58de7ffe1c0da926ac43fb3609ac1c80fee1b624497ef942e2f79a823",
+        iv: "7cfde9f9e33724c68932d612",
+        extra: "84c5d513d2aaf6e5bbd2727788e523008932d6127cfde9f9e33724c608000f101112131415161718191a1b1c1d1e1f202122232425262728292a2b2c2d2e2f303132333435363738393a3b3c3d3e3f0005",
+        text: "",
+        sealed: "",
+        tag: "6ee160e8faeca4b36c86b234920ca975",
+    },
+    Case {
+        name: "IEEE Std 802.1AE, annex C, GCM-AES-256, 87 octets of additional data, integrity",
+        key: "4c973dbc7364621674f8b5b89e5c15511fced9216490fb1c1a2caa0ffe0407e5",
+        iv: "7ae8e2ca4ec500012e58495c",
+        extra: "68f2e77696ce7ae8e2ca4ec588e541002e58495c08000f101112131415161718191a1b1c1d1e1f202122232425262728292a2b2c2d2e2f303132333435363738393a3b3c3d3e3f404142434445464748494a4b4c4d0007",
+        text: "",
+        sealed: "",
+        tag: "00bda1b7e87608bcbf470f12157f4c07",
+    },
+];
+
 // Octets drawn at random and sealed by OpenSSL, at lengths that the published cases leave out.
 const OPENSSL: [Case; 4] = [
     Case {
@@ -295,7 +402,7 @@ const OPENSSL: [Case; 4] = [
 ];
 
 // What the validation suite says is refused; no text is known.
-const REFUSED: [Case; 6] = [
+const REFUSED: [Case; 8] = [
     Case {
         name: "validation suite, 0 octets of text, 0 of additional data, refused",
         key: "a49a5e26a2f8cb63d05546c2a62f5343",
@@ -350,9 +457,27 @@ const REFUSED: [Case; 6] = [
         sealed: "",
         tag: "2f1ede16f025bc8c5421854b5f0109d1",
     },
+    Case {
+        name: "validation suite, 256 bits, 13 octets of text, 16 of additional data, refused",
+        key: "81e196b20b71adb6a239b580e51474137c8dc8d17764745fd02ceb456b6b5624",
+        iv: "65cc53fa7eac34c557e72e87",
+        extra: "f1c22cb0a2c33e7743ef355b6795830b",
+        text: "",
+        sealed: "5c70d88ac4e9404539e85623ab",
+        tag: "3ba8bf8228e4b2aca5adc8f3273a1b41",
+    },
+    Case {
+        name: "validation suite, 256 bits, 51 octets of text, 90 of additional data, refused",
+        key: "e36aca93414b13f5313e76a7244588ee116551d1f34c32859166f2eb0ac1a9b7",
+        iv: "e9e701b1ccef6bddd03391d8",
+        extra: "6a08fe6e55a08f283cec4c4b37676e770f402af6102f548ad473ec6236da764f7076ffd41bbd9611b439362d899682b7b0f839fc5a68d9df54afd1e2b3c4e7d072454ee27111d52193d28b9c4f925d2a8b451675af39191a2cba",
+        text: "",
+        sealed: "5b059ac6733b6de0e8cf5b88b7301c02c993426f71bb12abf692e9deeacfac1ff1644c87d4df130028f515f0feda636309a24d",
+        tag: "43c7c9c93cc265fc8e192000e0417b5b",
+    },
 ];
 
-// How many octets of text and of additional data, the last 16 enciphered octets, and the tag, by OpenSSL. Octet i of
+// How many octets of text and of additional data, the last 16 octets of ciphertext, and the tag, by OpenSSL. Octet i of
 // the text is 7 * i + 3, and of the additional data 5 * i + 1, modulo 256.
 const LONG: [(usize, usize, &str, &str); 3] = [
     (
@@ -369,6 +494,15 @@ const LONG: [(usize, usize, &str, &str); 3] = [
     ),
     (0, 65536, "", "d73f29114e559e2596a41b2a52632de9"),
 ];
+
+// The key of 128 or 256 bits with these digits.
+fn key_of(digits: &str) -> Result<Key, Fail> {
+    if digits.len() == 32 {
+        Ok(Key::k128(&<[u8; 16]>::from_hex(digits)?))
+    } else {
+        Ok(Key::k256(&<[u8; 32]>::from_hex(digits)?))
+    }
+}
 
 // Octet i is step * i + first, modulo 256.
 fn counted(alloc: Global, len: usize, step: u8, first: u8) -> Result<Vec<u8>, AllocError> {
@@ -430,7 +564,7 @@ fn is_refused_when_changed(
 }
 
 fn is_sealed(rt: &impl Abort, alloc: Global, case: &Case) -> Result<(), Fail> {
-    let key = Key::k128(&<[u8; 16]>::from_hex(case.key)?);
+    let key = key_of(case.key)?;
     let iv = <[u8; 12]>::from_hex(case.iv)?;
     let tag = <[u8; 16]>::from_hex(case.tag)?;
     let extra = hex::decode(alloc, case.extra)?;
@@ -458,7 +592,14 @@ fn is_sealed(rt: &impl Abort, alloc: Global, case: &Case) -> Result<(), Fail> {
 
 #[test]
 fn seals_and_unseals(rt: HostRuntime) -> Result<(), Fail> {
-    let tables: [&[Case]; 4] = [&SUBMISSION, &SUITE, &ANNEX_C, &OPENSSL];
+    let tables: [&[Case]; 6] = [
+        &SUBMISSION,
+        &SUITE,
+        &SUITE_256,
+        &ANNEX_C,
+        &ANNEX_C_256,
+        &OPENSSL,
+    ];
     for table in tables {
         for case in table {
             is_sealed(&rt, rt.alloc(), case)?;
@@ -470,7 +611,7 @@ fn seals_and_unseals(rt: HostRuntime) -> Result<(), Fail> {
 #[test]
 fn refuses_what_was_not_sealed(rt: HostRuntime) -> Result<(), Fail> {
     for case in &REFUSED {
-        let key = Key::k128(&<[u8; 16]>::from_hex(case.key)?);
+        let key = key_of(case.key)?;
         let iv = <[u8; 12]>::from_hex(case.iv)?;
         let tag = <[u8; 16]>::from_hex(case.tag)?;
         let extra = hex::decode(rt.alloc(), case.extra)?;
@@ -502,4 +643,15 @@ fn seals_up_to_the_greatest_length(rt: HostRuntime) -> Result<(), Fail> {
         is_refused_when_changed(&rt, &key, iv, &extra, &text, tag)?;
     }
     Ok(())
+}
+
+// H, the first block and the first product of test case 2 of the submission.
+#[test]
+fn multiplies_by_the_table(rt: HostRuntime) {
+    let table = HashTable::of(0x66e94bd4ef8a2c3b884cfa59ca342b2e);
+    assert_eq!(rt; table.row(8), 0x66e94bd4ef8a2c3b884cfa59ca342b2e);
+    assert_eq!(rt;
+        table.times(0x0388dace60b6a392f328c2b971b2fe78),
+        0x5e2ec746917062882c85b0685353deb7
+    );
 }

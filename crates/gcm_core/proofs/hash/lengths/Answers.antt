@@ -9,7 +9,7 @@ pub returns : goal.returns
 unfolding lengths
 returns c =
     let m : ℕ = length c.args.extra.now in
-    let n : ℕ = length c.args.enciphered.now in
+    let n : ℕ = length c.args.ciphertext.now in
     let high : 8 * m * 2 ^ 64 % 2 ^ 128 ≡ 8 * m * 2 ^ 64 = omega arith in
     ap block_octets (rw high (or_shifted (8 * m) 64 (8 * n) (omega arith)))
     ∙ block_octets-halves (8 * m) (8 * n) (omega arith) (omega arith)
