@@ -1,7 +1,11 @@
 -- What the fields spell is read again.
 use Rattle.std.specs.List.{AllByRecursion}
-use Rattle.std.proofs.Common.{◌≡◌, ℕ, zero, suc, ◌+◌, ◌*◌, ◌/◌, ◌%◌, ◌^◌, ◌<◌, ◌≤◌, Bool, true, false, cond, leb, eqb, List, [], ◌∷◌, ◌++◌, length, Option, Some, None, refl, sym, ap, subst, ◌∙◌, arith, lit<, length-append, append_assoc, eq-eqb}
+use Rattle.std.specs.Prelude.{◌&&◌}
+use Rattle.std.specs.List.{starts_with}
+use Rattle.std.proofs.Common.{◌≡◌, ℕ, zero, suc, ◌+◌, ◌*◌, ◌/◌, ◌%◌, ◌^◌, ◌<◌, ◌≤◌, Bool, true, false, cond, leb, eqb, List, [], ◌∷◌, ◌++◌, length, drop, Option, Some, None, refl, sym, ap, subst, ◌∙◌, arith, lit<, length-append, length-drop, append_assoc, eq-eqb}
 use Rattle.std.proofs.lemmas.Bool.{le-leb, eqb-true}
+use Rattle.std.proofs.lemmas.Bool.Decides.{Decides-eqb}
+use Rattle.std.proofs.lemmas.Slice.Eq.{starts_is}
 use Rattle.std.proofs.lemmas.List.{append-nil}
 use Rattle.std.proofs.lemmas.List.Elements.{recursion_from_All}
 use Rattle.byteorder.specs.Endian.{big_bytes}
@@ -10,13 +14,13 @@ use Rattle.lan_base.specs.declared.address.Mi.{Mi}
 use Rattle.lan_base.specs.declared.address.Sci.{Sci}
 use Rattle.mkpdu_codec.specs.declared.announcement.Announcement.{Announcement}
 use Rattle.mkpdu_codec.specs.declared.given.Given.{Given}
-use Rattle.mkpdu_codec.specs.declared.given.Given.TheVariants.{Aes128, Other}
+use Rattle.mkpdu_codec.specs.declared.given.Given.TheVariants.{Aes128, Aes256, Other}
 use Rattle.mkpdu_codec.specs.declared.key_use.KeyUse.{KeyUse}
 use Rattle.mkpdu_codec.specs.declared.key_use.Uses.{Uses}
 use Rattle.mkpdu_codec.specs.declared.peer.Peer.{Peer}
-use Rattle.mkpdu_codec.specs.Sets.{bit, agility, peer, peers_body, use_body, use_flags}
-use Rattle.mkpdu_codec.specs.Frames.{Set, the, IsPeer, IsKeyUse, SpellsPeers, SpellsUses, SpellsGiven, SpellsBasic}
-use Rattle.mkpdu_codec.specs.Fields.{number_at, mi_at, sci_at, entry_at, entries_at, peers_in, key_at, uses_in, given_in, Basics, basic_in}
+use Rattle.mkpdu_codec.specs.Sets.{bit, agility, peer, peers_body, use_body, use_flags, gcm_aes_256, IsPeer}
+use Rattle.mkpdu_codec.specs.Frames.{Set, the, SpellsPeers, SpellsUses, IsGiving, IsWide, SpellsGiven, SpellsBasic, IsKeyUse}
+use Rattle.mkpdu_codec.specs.Fields.{number_at, mi_at, sci_at, entry_at, entries_at, peers_in, key_at, uses_in, wide_in, key_in, given_in, Basics, basic_in}
 use Rattle.mkpdu_codec.proofs.Lengths.{length-basic_body}
 use Rattle.mkpdu_codec.proofs.Taking.{octets_at-append, octets_at-short}
 
@@ -116,12 +120,12 @@ key_again u rest is =
     let r = bit_small u.rx in
     ap (key_at (use_flags u)) regrouped
     ∙ rw (
-      mi_again u.server (big_bytes 4 u.number ++ (big_bytes 4 u.lowest ++ rest)) is.server,
-      number_again u.number (big_bytes 4 u.lowest ++ rest) is.number,
-      number_again u.lowest rest is.lowest,
-      an_again u.an (bit u.tx) (bit u.rx) is.an t r,
-      tx_again u.an (bit u.tx) (bit u.rx) is.an t r,
-      rx_again u.an (bit u.tx) (bit u.rx) is.an t r,
+      mi_again u.server (big_bytes 4 u.number ++ (big_bytes 4 u.lowest ++ rest)) is.0.server,
+      number_again u.number (big_bytes 4 u.lowest ++ rest) is.0.number,
+      number_again u.lowest rest is.0.lowest,
+      an_again u.an (bit u.tx) (bit u.rx) is.1 t r,
+      tx_again u.an (bit u.tx) (bit u.rx) is.1 t r,
+      rx_again u.an (bit u.tx) (bit u.rx) is.1 t r,
       bit_again u.tx,
       bit_again u.rx,
     ) refl
@@ -148,7 +152,7 @@ uses_of_set s (Some u) spells = go where
   r = bit_small u.old.rx
 
   small : use_flags u.old < 16
-  small = flags_small u.old.an (bit u.old.tx) (bit u.old.rx) spells.3.an t r
+  small = flags_small u.old.an (bit u.old.tx) (bit u.old.rx) spells.3.1 t r
 
   latest : s.second / 16 ≡ use_flags u.latest
   latest = ap (λ (n : ℕ). n / 16) spells.0 ∙ high_half (use_flags u.latest) (use_flags u.old) small
@@ -197,21 +201,46 @@ ne-eqb a b ne =
       | false ↦ λ e. e
     ] refl
 
+pub wide_again : (key wrapped : List ℕ) → IsWide key wrapped → wide_in key ≡ Some wrapped
+wide_again key wrapped is =
+    let len : length key ≡ 48 = ap length is.1 ∙ rw is.0 refl in
+    let starts : starts_with eqb key gcm_aes_256 ≡ true = (starts_is Decides-eqb key gcm_aes_256 (starts_with eqb key gcm_aes_256) refl).1 wrapped is.1 in
+    rw (starts, eq-eqb (length key) 48 len, ap (drop 8) is.1) refl
+
+-- what is taken as a wrapped key for GCM-AES-256 is one
+pub wide_is : (key wrapped : List ℕ) → wide_in key ≡ Some wrapped → IsWide key wrapped
+wide_is key wrapped e = go (starts_with eqb key gcm_aes_256) (eqb (length key) 48) refl refl e where
+  go : (t l : Bool) → starts_with eqb key gcm_aes_256 ≡ t → eqb (length key) 48 ≡ l → cond (t && l) (Some (drop 8 key)) None ≡ Some wrapped → IsWide key wrapped
+  go true true t l f =
+      let suite : key ≡ gcm_aes_256 ++ drop 8 key = (starts_is Decides-eqb key gcm_aes_256 true (sym t)).0 refl in
+      let same : drop 8 key ≡ wrapped = cc in
+      (omega (arith, eqb-true (length key) 48 l, ap length same, length-drop 8 key), suite ∙ ap (λ (x : List ℕ). gcm_aes_256 ++ x) same)
+  go true false t l f = absurd cc
+  go false l t d f = absurd cc
+
+not_wide : (key : List ℕ) → ((wrapped : List ℕ) → IsWide key wrapped → ⊥) → wide_in key ≡ None
+not_wide key other = go (wide_in key) refl where
+  go : (o : Option (List ℕ)) → wide_in key ≡ o → o ≡ None
+  go None e = refl
+  go (Some wrapped) e = absurd (other wrapped (wide_is key wrapped e))
+
+key_given : (s : Set) (an offset number : ℕ) (key : List ℕ) → IsGiving s an offset number key → given_in (Some s) ≡ Some (key_in an offset number key)
+unfolding given_in
+key_given s an offset number key is =
+    let a = an_of_given s.second an offset is.second is.two_bits is.two_more in
+    let o = offset_of_given s.second an offset is.second is.two_bits is.two_more in
+    rw (is.body, number_again number key is.four_octets, a, o) refl
+
 given_of_set : (s : Set) (g : Option Given) → SpellsGiven s g → given_in (Some s) ≡ g
 unfolding given_in
 given_of_set s None spells = rw (spells, short_number [] (omega arith)) refl
 given_of_set s (Some (Aes128 an offset number wrapped)) spells =
-    let a = an_of_given s.second an offset spells.0 spells.1 spells.2 in
-    let o = offset_of_given s.second an offset spells.0 spells.1 spells.2 in
-    let whole : eqb (length wrapped) 24 ≡ true = eq-eqb (length wrapped) 24 spells.4 in
-    rw (spells.5, number_again number wrapped spells.3, whole, a, o) refl
+    key_given s an offset number wrapped spells.0 ∙ rw (eq-eqb (length wrapped) 24 spells.1) refl
+given_of_set s (Some (Aes256 an offset number wrapped)) spells =
+    let long : eqb (length spells.0) 24 ≡ false = ne-eqb (length spells.0) 24 (λ e. omega (arith, e, ap length spells.1.1.1, spells.1.1.0)) in
+    key_given s an offset number spells.0 spells.1.0 ∙ rw (long, wide_again spells.0 wrapped spells.1.1) refl
 given_of_set s (Some (Other an offset number)) spells =
-    let a = an_of_given s.second an offset spells.0 spells.1 spells.2 in
-    let o = offset_of_given s.second an offset spells.0 spells.1 spells.2 in
-    let body = spells.5.1 in
-    let len : length s.body ≡ 4 + length spells.5.0 = omega (arith, ap length body) in
-    let other : eqb (length spells.5.0) 24 ≡ false = ne-eqb (length spells.5.0) 24 (λ e. spells.4 (omega (arith, len, e))) in
-    rw (body, number_again number spells.5.0 spells.3, other, a, o) refl
+    key_given s an offset number spells.0 spells.1.0 ∙ rw (ne-eqb (length spells.0) 24 spells.1.1, not_wide spells.0 spells.1.2) refl
 
 pub given_again : (k : ℕ) (ss : List Set) (g : Option Given) → SpellsGiven (the k ss) g → given_in (first k ss) ≡ g
 given_again k ss g spells = given_in-or_empty k (first k ss) ∙ given_of_set (or_empty k (first k ss)) g (subst (λ (s : Set). SpellsGiven s g) (the-first k ss) spells)
@@ -228,8 +257,8 @@ pub basic_again : (s : Set) (a : Announcement) → SpellsBasic s a → basic_in 
 unfolding basic_in
 basic_again s a spells =
     let len = length-basic s a spells in
-    let low : leb 29 (length s.body) ≡ true = le-leb 29 (length s.body) (omega (arith, len, spells.named)) in
-    let high : leb (length s.body) 60 ≡ true = le-leb (length s.body) 60 (omega (arith, len, spells.short_name)) in
+    let low : leb 29 (length s.body) ≡ true = le-leb 29 (length s.body) (omega (arith, len, spells.named.0)) in
+    let high : leb (length s.body) 60 ≡ true = le-leb (length s.body) 60 (omega (arith, len, spells.named.1)) in
     let server : eqb (s.flags / 8) 1 ≡ a.server = ap (λ (n : ℕ). eqb n 1) spells.server ∙ bit_again a.server in
     rw (
       low,

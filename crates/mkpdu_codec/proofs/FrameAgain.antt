@@ -9,11 +9,11 @@ use Rattle.byteorder.specs.Endian.{big_bytes}
 use Rattle.lan_base.specs.declared.address.Mac.{Mac}
 use Rattle.mkpdu_codec.specs.declared.announcement.Announcement.{Announcement}
 use Rattle.mkpdu_codec.specs.declared.given.Given.{Given}
-use Rattle.mkpdu_codec.specs.declared.given.Given.TheVariants.{Aes128, Other}
+use Rattle.mkpdu_codec.specs.declared.given.Given.TheVariants.{Aes128, Aes256, Other}
 use Rattle.mkpdu_codec.specs.declared.key_use.Uses.{Uses}
 use Rattle.mkpdu_codec.specs.declared.peer.Peer.{Peer}
-use Rattle.mkpdu_codec.specs.Sets.{missing, uses_body}
-use Rattle.mkpdu_codec.specs.Frames.{Set, IsSet, AreSets, IsIndicator, Frame, IsFrame, IsBody, covered_octets, octets_of, the, IsPeer, IsKeyUse, SpellsPeers, SpellsUses, SpellsGiven, Spells}
+use Rattle.mkpdu_codec.specs.Sets.{missing, uses_body, IsPeer}
+use Rattle.mkpdu_codec.specs.Frames.{Set, IsSet, AreSets, IsIndicator, Frame, IsFrame, IsBody, covered_octets, octets_of, the, SpellsPeers, SpellsUses, IsGiving, SpellsGiven, Spells, IsKeyUse}
 use Rattle.mkpdu_codec.specs.Refusals.{is_mka, is_long_enough, body_length}
 use Rattle.mkpdu_codec.specs.Fields.{set_at, basic_at, peers_in, uses_in, given_in}
 use Rattle.mkpdu_codec.specs.Reading.{Inner, Gathered, nothing, parts_at, announcement_of, reading}
@@ -122,22 +122,26 @@ shape_of_peers s ps spells =
     eq-eqb (length s.body % 16) 0 (omega (arith, len, ap length spells.body))
 
 pub length-uses_body : (u : Uses) → IsKeyUse u.latest → IsKeyUse u.old → length (uses_body u) ≡ 40
-length-uses_body u x y = simp length-append (omega (arith, x.server, y.server))
+length-uses_body u x y = simp length-append (omega (arith, x.0.server, y.0.server))
 
 shape_of_uses : (s : Set) (u : Option Uses) → SpellsUses s u → (eqb (length s.body) 0 || eqb (length s.body) 40) ≡ true
 shape_of_uses s None spells = rw spells refl
 shape_of_uses s (Some u) spells = let len : length s.body ≡ 40 = ap length spells.1 ∙ length-uses_body u spells.2 spells.3 in rw len refl
 
+long_enough : (n : ℕ) → 4 ≤ n → (eqb n 0 || leb 4 n) ≡ true
+long_enough n le = or_true (eqb n 0) (leb 4 n) (le-leb 4 n le) where
+  or_true : (a b : Bool) → b ≡ true → (a || b) ≡ true
+  or_true true b e = refl
+  or_true false b e = e
+
+giving_long : (s : Set) (an offset number : ℕ) (key : List ℕ) → IsGiving s an offset number key → (eqb (length s.body) 0 || leb 4 (length s.body)) ≡ true
+giving_long s an offset number key is = long_enough (length s.body) (omega (arith, ap length is.body))
+
 shape_of_given : (s : Set) (g : Option Given) → SpellsGiven s g → (eqb (length s.body) 0 || leb 4 (length s.body)) ≡ true
 shape_of_given s None spells = rw spells refl
-shape_of_given s (Some (Aes128 an offset number wrapped)) spells = let len : length s.body ≡ 28 = ap length spells.5 ∙ rw spells.4 refl in rw len refl
-shape_of_given s (Some (Other an offset number)) spells =
-    let len : 4 ≤ length s.body = omega (arith, ap length spells.5.1) in
-    let four : leb 4 (length s.body) ≡ true = le-leb 4 (length s.body) len in
-    or_true (eqb (length s.body) 0) (leb 4 (length s.body)) four where
-      or_true : (a b : Bool) → b ≡ true → (a || b) ≡ true
-      or_true true b e = refl
-      or_true false b e = e
+shape_of_given s (Some (Aes128 an offset number wrapped)) spells = giving_long s an offset number wrapped spells.0
+shape_of_given s (Some (Aes256 an offset number wrapped)) spells = giving_long s an offset number spells.0 spells.1.0
+shape_of_given s (Some (Other an offset number)) spells = giving_long s an offset number spells.0 spells.1.0
 
 pub eqb-off : (a b : ℕ) → a ≢ b → eqb a b ≡ false
 eqb-off a b other =
@@ -181,7 +185,7 @@ read_again frame a covered check s =
     let body = s.is_body in
     let rest : List ℕ = body.middle ++ body.indicator in
     let len = length-basic s.basic a s.says in
-    let some : 16 ≤ length s.parts.body = omega (arith, len, s.says.named, ap length body.whole, length-append body.front rest, length-IsSet body.front s.basic body.is_basic) in
+    let some : 16 ≤ length s.parts.body = omega (arith, len, s.says.named.0, ap length body.whole, length-append body.front rest, length-IsSet body.front s.basic body.is_basic) in
     let parts = parts_again s.parts s.is_frame some (fours_of_body s.parts.body s.basic s.others body) in
     let basic : set_at s.parts.body ≡ Some (s.basic, rest) = ap set_at body.whole ∙ set_at-is body.front rest s.basic body.is_basic in
     let placed_h = all_placed s.others nothing (once_from_nothing s.others body.once) in

@@ -14,9 +14,6 @@ pub long_enough-32 : (frame : List ℕ) → is_long_enough frame ≡ true → 32
 long_enough-32 frame e =
     leb-true 32 (body_length frame) (and_left (leb 32 (body_length frame)) (eqb (body_length frame % 4) 0) (and_left (leb 32 (body_length frame) && eqb (body_length frame % 4) 0) (leb (18 + body_length frame) (length frame)) e))
 
-place : (n : ℕ) → 32 ≤ n → 18 + (n - 16) ≡ 2 + n
-place n le = omega arith
-
 abbrev inner : List ℕ → List ℕ → ℕ → List ℕ → Inner
 inner source sets covered check = record { source = record { 0 = source }; sets = sets; covered = covered; check = check }
 
@@ -34,7 +31,7 @@ length-sets_of frame e =
     let long = long_enough-32 frame e in
     let whole = long_enough-whole frame e in
     lengths (body_length frame) long whole where
-      lengths : (n : ℕ) → 32 ≤ n → 18 + n ≤ length frame → 18 + length (take (n - 16) (drop 18 frame)) ≡ 2 + n
+      lengths : (n : ℕ) → 32 ≤ n → 18 + n ≤ length frame → 18 + length (take (n - 16) (drop 18 frame)) ≡ 18 + (n - 16)
       lengths n le within = omega (arith, length-take (n - 16) (drop 18 frame), length-drop 18 frame)
 
 pub parts_are : (frame source sets check : List ℕ) → is_mka frame ≡ true → is_long_enough frame ≡ true
@@ -42,7 +39,6 @@ pub parts_are : (frame source sets check : List ℕ) → is_mka frame ≡ true �
     → parts_at frame ≡ Ok (inner source sets (18 + length sets) check)
 unfolding parts_at
 parts_are frame source sets check m w source-is sets-is check-is =
-    let long = long_enough-32 frame w in
-    let check-at : check ≡ take 16 (drop (check_place frame) frame) = check-is ∙ ap (take 16) (drop-drop (body_length frame - 16) 18 frame ∙ ap (λ (n : ℕ). drop n frame) (place (body_length frame) long)) in
+    let check-at : check ≡ take 16 (drop (check_place frame) frame) = check-is ∙ ap (take 16) (drop-drop (body_length frame - 16) 18 frame) in
     let covered : 18 + length sets ≡ check_place frame = ap (λ (x : List ℕ). 18 + length x) sets-is ∙ length-sets_of frame w in
     rw (m, w, source-is, covered, sets-is, check-at) refl

@@ -15,3 +15,4 @@ pub mod Sound
 pub mod WhatIsRead
 pub mod Answer
 pub mod WrittenSpelled
+mod Examples

@@ -3,10 +3,10 @@ use Rattle.std.proofs.Common.{◌≡◌, ℕ, zero, suc, ◌+◌, ◌-◌, ◌�
 use Rattle.std.proofs.lemmas.List.{append-nil}
 use Rattle.mkpdu_codec.specs.declared.peer.Peer.{Peer}
 use Rattle.mkpdu_codec.specs.declared.refusal.Refusal.{Refusal}
-use Rattle.mkpdu_codec.specs.declared.refusal.Refusal.TheVariants.{NotMka, Short, Shape, Repeated, Agility, Memory}
+use Rattle.mkpdu_codec.specs.declared.refusal.Refusal.TheVariants.{Shape}
 use Rattle.mkpdu_codec.specs.Frames.{Set}
 use Rattle.mkpdu_codec.specs.Refusals.{is_indicator, is_length_of}
-use Rattle.mkpdu_codec.specs.Reading.{◌>>=◌, Fails, Gathered, nothing, placed, with_length, shaped_at, gathered}
+use Rattle.mkpdu_codec.specs.Reading.{◌>>=◌, Gathered, nothing, placed, with_length, shaped_at, gathered}
 use Rattle.mkpdu_codec.specs.Fields.{entry_at, entries_at, set_at}
 use Rattle.mkpdu_codec.proofs.Taking.{entry_at-shorter, set_at-shorter}
 
@@ -87,15 +87,6 @@ gathered_go_on end g rest octets s behind more goes shaped takes so_far = go so_
       let step : gathered (suc n) end g rest ≡ gathered n end more behind = gathered_step n end g rest goes ∙ rw (shaped, takes) refl in
       (n, (omega (arith, shorter), sym step ∙ same))
 
--- an error that is handed on
-pub Fails-on : {X Y : Type 0} (e : Refusal) (a : Result X Refusal) (b : Result Y Refusal) → ((d : Refusal) → a ≡ Err d → b ≡ Err d) → Fails e a → Fails e b
-Fails-on NotMka a b same h = same NotMka h
-Fails-on Short a b same h = same Short h
-Fails-on (Shape at) a b same h = same (Shape at) h
-Fails-on (Repeated kind) a b same h = same (Repeated kind) h
-Fails-on Agility a b same h = same Agility h
-Fails-on Memory a b same h = tt
-
 -- an error of one more set is that of the whole
 pub gathered_fails : (d : Refusal) (end : ℕ) (g : Gathered) (rest octets : List ℕ) → Goes rest → (shaped_at end rest >>= λ s. placed g s.0) ≡ Err d → GatheredSoFar end g rest octets → gathered (length octets) end nothing octets ≡ Err d
 gathered_fails d end g rest octets goes fails so_far = go so_far.0 so_far.1.0 so_far.1.1 where
@@ -110,13 +101,11 @@ gathered_fails d end g rest octets goes fails so_far = go so_far.0 so_far.1.0 so
       absurd (let no : true ≡ false = sym empty ∙ goes.0 in cc)
   go (suc n) le same = sym same ∙ gathered_step n end g rest goes ∙ step (shaped_at end rest) n fails
 
-pub gathered_fails_shape : (e : Refusal) (end : ℕ) (g : Gathered) (rest octets : List ℕ) → Goes rest → Fails e (shaped_at end rest) → GatheredSoFar end g rest octets → Fails e (gathered (length octets) end nothing octets)
-gathered_fails_shape e end g rest octets goes fails so_far =
-    Fails-on e (shaped_at end rest) (gathered (length octets) end nothing octets) (λ d h. gathered_fails d end g rest octets goes (rw h refl) so_far) fails
+pub gathered_fails_shape : (e : Refusal) (end : ℕ) (g : Gathered) (rest octets : List ℕ) → Goes rest → shaped_at end rest ≡ Err e → GatheredSoFar end g rest octets → gathered (length octets) end nothing octets ≡ Err e
+gathered_fails_shape e end g rest octets goes fails so_far = gathered_fails e end g rest octets goes (rw fails refl) so_far
 
-pub gathered_fails_place : (e : Refusal) (end : ℕ) (g : Gathered) (rest octets : List ℕ) (s : Set) (behind : List ℕ) → Goes rest → shaped_at end rest ≡ Ok (s, behind) → Fails e (placed g s) → GatheredSoFar end g rest octets → Fails e (gathered (length octets) end nothing octets)
-gathered_fails_place e end g rest octets s behind goes shaped fails so_far =
-    Fails-on e (placed g s) (gathered (length octets) end nothing octets) (λ d h. gathered_fails d end g rest octets goes (rw shaped h) so_far) fails
+pub gathered_fails_place : (e : Refusal) (end : ℕ) (g : Gathered) (rest octets : List ℕ) (s : Set) (behind : List ℕ) → Goes rest → shaped_at end rest ≡ Ok (s, behind) → placed g s ≡ Err e → GatheredSoFar end g rest octets → gathered (length octets) end nothing octets ≡ Err e
+gathered_fails_place e end g rest octets s behind goes shaped fails so_far = gathered_fails e end g rest octets goes (rw shaped fails) so_far
 
 pub gathered_end : (end : ℕ) (g : Gathered) (rest octets : List ℕ) → eqb (length rest) 0 ≡ true → GatheredSoFar end g rest octets → gathered (length octets) end nothing octets ≡ Ok g
 gathered_end end g rest octets stops so_far = sym so_far.1.1 ∙ gathered_stop so_far.0 end g rest stops

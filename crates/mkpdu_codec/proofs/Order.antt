@@ -1,17 +1,19 @@
 -- Reading refuses in the order of the refusals.
-use Rattle.std.specs.Prelude.{◌&&◌, not, is_some}
+use Rattle.std.specs.Prelude.{◌&&◌, ◌||◌, not, is_some}
 use Rattle.std.specs.List.{list_any}
+use Rattle.std.specs.Cmp.Lexicographic.{pointwise}
 use Rattle.byteorder.specs.Endian.{big_number}
-use Rattle.std.proofs.Common.{◌≡◌, ℕ, zero, suc, ◌+◌, ◌-◌, ◌/◌, ◌<◌, ◌≤◌, Bool, true, false, cond, leb, eqb, List, [], ◌∷◌, length, get_or, take, drop, Option, Some, None, Result, Ok, Err, refl, sym, ap, ◌∙◌, arith, inl, inr, length-drop}
+use Rattle.std.proofs.Common.{◌≡◌, ℕ, zero, suc, ◌-◌, ◌/◌, ◌≤◌, Bool, true, false, cond, leb, eqb, List, [], ◌∷◌, length, take, drop, Option, Some, None, Result, Ok, Err, refl, sym, ap, ◌∙◌, arith, inl, inr, length-drop}
 use Rattle.std.proofs.lemmas.Bool.{leb-true}
-use Rattle.std.proofs.lemmas.List.{get_or-drop, get_or-take}
+use Rattle.std.proofs.lemmas.List.{drop-drop, drop-take, take-take}
 use Rattle.mkpdu_codec.specs.declared.refusal.Refusal.{Refusal}
-use Rattle.mkpdu_codec.specs.declared.refusal.Refusal.TheVariants.{Shape, Repeated, Agility}
+use Rattle.mkpdu_codec.specs.declared.refusal.Refusal.TheVariants.{NotMka, Short, Shape, Repeated, Agility, Memory}
 use Rattle.mkpdu_codec.specs.declared.spelled.Spelled.{Spelled}
+use Rattle.mkpdu_codec.specs.Sets.{agility}
 use Rattle.mkpdu_codec.specs.Frames.{Set}
-use Rattle.mkpdu_codec.specs.Refusals.{is_mka, is_long_enough, check_place, sets_of, others_of, front_kind, front_length, front_size, is_whole, is_indicator, is_length_of, is_single, is_basic, is_agile, refused_sets, refused, or_else}
+use Rattle.mkpdu_codec.specs.Refusals.{is_mka, is_long_enough, check_place, sets_of, others_of, front_kind, front_length, front_size, is_whole, is_indicator, is_length_of, is_single, is_basic, is_known, refused_sets, refused, or_else}
 use Rattle.mkpdu_codec.specs.Fields.{number_at, mi_at, sci_at, Basics, basic_in, basic_at}
-use Rattle.mkpdu_codec.specs.Reading.{◌>>=◌, Gathered, nothing, placed, with_length, shaped_at, gathered, parts_at, is_known, reading}
+use Rattle.mkpdu_codec.specs.Reading.{◌>>=◌, Gathered, nothing, placed, with_length, shaped_at, gathered, parts_at, reading}
 use Rattle.mkpdu_codec.proofs.Taking.{octets_at-long}
 use Rattle.mkpdu_codec.proofs.SetOctets.{front_set, set_at-whole, set_at-not, length-front_set}
 use Rattle.mkpdu_codec.proofs.Places.{slot, put, Kinds, kinds, placing, placed-is, HasMet, HasMet-put, HasMet-other}
@@ -167,26 +169,18 @@ module _ (octets : List ℕ) where
   basic_at-not true w e = rw (set_at-whole octets w, basic_in-not (front_set octets) (fits_in_front w false e)) refl
   basic_at-not false w e = rw (set_at-not octets w) refl
 
-  -- the octet of the agility
-  agility_at : (i : ℕ) → i < 4 → 28 ≤ len → get_or (take 4 (drop 4 (drop 12 (drop 8 (take len (drop 4 octets)))))) i 0 ≡ get_or octets (28 + i) 0
-  agility_at i lt le = go len le where
-    go : (n : ℕ) → 28 ≤ n → get_or (take 4 (drop 4 (drop 12 (drop 8 (take n (drop 4 octets)))))) i 0 ≡ get_or octets (28 + i) 0
+  -- the agility stands at octets 28 to 31
+  agility_at : 28 ≤ len → take 4 (take 4 (drop 4 (drop 12 (drop 8 (take len (drop 4 octets)))))) ≡ take 4 (drop 28 octets)
+  agility_at le = go len le where
+    go : (n : ℕ) → 28 ≤ n → take 4 (take 4 (drop 4 (drop 12 (drop 8 (take n (drop 4 octets)))))) ≡ take 4 (drop 28 octets)
     go n le =
-        get_or-take 4 (drop 4 (drop 12 (drop 8 (take n (drop 4 octets))))) i 0 lt
-        ∙ get_or-drop 4 (drop 12 (drop 8 (take n (drop 4 octets)))) i 0
-        ∙ get_or-drop 12 (drop 8 (take n (drop 4 octets))) (4 + i) 0
-        ∙ get_or-drop 8 (take n (drop 4 octets)) (12 + (4 + i)) 0
-        ∙ get_or-take n (drop 4 octets) (8 + (12 + (4 + i))) 0 (omega (arith, lt, le))
-        ∙ get_or-drop 4 octets (8 + (12 + (4 + i))) 0
-        ∙ ap (λ (k : ℕ). get_or octets k 0) (omega arith)
+        let behind : drop 4 (drop 12 (drop 8 (take n (drop 4 octets)))) ≡ drop 24 (take n (drop 4 octets)) = ap (drop 4) (drop-drop 12 8 (take n (drop 4 octets))) ∙ drop-drop 4 20 (take n (drop 4 octets)) in
+        let parts : drop 24 (take n (drop 4 octets)) ≡ take (n - 24) (drop 24 (drop 4 octets)) = ap (λ (k : ℕ). drop 24 (take k (drop 4 octets))) (omega (arith, le)) ∙ drop-take 24 (n - 24) (drop 4 octets) in
+        ap (λ (x : List ℕ). take 4 (take 4 x)) (behind ∙ parts) ∙ take-take 4 4 (take (n - 24) (drop 24 (drop 4 octets))) (omega arith)
+        ∙ take-take 4 (n - 24) (drop 24 (drop 4 octets)) (omega (arith, le)) ∙ ap (take 4) (drop-drop 24 4 octets)
 
-  pub known-is : 28 ≤ len → is_known (basics_in (front_set octets)).agility ≡ is_agile octets
-  known-is le =
-      let a = agility_at 0 (omega arith) le in
-      let b = agility_at 1 (omega arith) le in
-      let c = agility_at 2 (omega arith) le in
-      let d = agility_at 3 (omega arith) le in
-      rw (a, b, c, d) refl
+  pub known-is : 28 ≤ len → is_known (basics_in (front_set octets)).agility ≡ is_known (drop 28 octets)
+  known-is le = ap (pointwise eqb agility) (agility_at le)
 
 pub and_both : (a b : Bool) → (a && b) ≡ true → (a ≡ true) × (b ≡ true)
 and_both true b e = (refl, e)
@@ -230,7 +224,7 @@ refused-is frame =
               let basic = basic_at-is (sets_of frame) b in
               let tie = refused_sets-is (length (others_of frame)) (check_place frame) (others_of frame) nothing [] none_met in
               let known = known-is (sets_of frame) (omega (arith, basic.1)) in
-              rw (m, l, b, basic.0, tie) (agility_last Gathered (gathered (length (others_of frame)) (check_place frame) nothing (others_of frame)) (is_agile (sets_of frame)) (is_known (basics_in (front_set (sets_of frame))).agility) _ known)
+              rw (m, l, b, basic.0, tie) (agility_last Gathered (gathered (length (others_of frame)) (check_place frame) nothing (others_of frame)) (is_known (drop 28 (sets_of frame))) (is_known (basics_in (front_set (sets_of frame))).agility) _ known)
         ] refl
       ] refl
     ] refl
@@ -240,3 +234,30 @@ refused-exactly frame e = (λ r. back (reading frame) (sym (refused-is frame) �
   back : (r : Result Spelled Refusal) → error_of r ≡ Some e → r ≡ Err e
   back (Ok s) d = absurd cc
   back (Err f) d = let same : f ≡ e = cc in ap Err same
+
+-- ---- want of memory is no refusal of a frame
+
+sets_never : (n end : ℕ) (met octets : List ℕ) → refused_sets n end met octets ≡ Some Memory → ⊥
+unfolding refused_sets
+sets_never zero end met octets e = cc
+sets_never (suc n) end met octets e =
+    go ((eqb (length octets) 0) || is_indicator octets) (not (is_whole octets && is_length_of (front_kind octets) (front_length octets))) (is_single (front_kind octets) && list_any (λ j. eqb j (front_kind octets)) met)
+    (refused_sets n end (front_kind octets ∷ met) (drop (front_size octets) octets)) (sets_never n end (front_kind octets ∷ met) (drop (front_size octets) octets)) e where
+      go : (a b c : Bool) (o : Option Refusal) → (o ≡ Some Memory → ⊥) → cond a None (cond b (Some (Shape (end - length octets))) (cond c (Some (Repeated (front_kind octets))) o)) ≡ Some Memory → ⊥
+      go true b c o never e = cc
+      go false true c o never e = cc
+      go false false true o never e = cc
+      go false false false o never e = never e
+
+pub never_memory : (frame : List ℕ) → refused frame ≡ Some Memory → ⊥
+unfolding refused
+never_memory frame e =
+    go (not (is_mka frame)) (not (is_long_enough frame)) (not (is_basic (sets_of frame))) (is_known (drop 28 (sets_of frame)))
+    (refused_sets (length (others_of frame)) (check_place frame) [] (others_of frame)) (sets_never (length (others_of frame)) (check_place frame) [] (others_of frame)) e where
+      go : (a b c d : Bool) (o : Option Refusal) → (o ≡ Some Memory → ⊥) → cond a (Some NotMka) (cond b (Some Short) (cond c (Some (Shape 18)) (or_else o (cond d None (Some Agility))))) ≡ Some Memory → ⊥
+      go true b c d o never e = cc
+      go false true c d o never e = cc
+      go false false true d o never e = cc
+      go false false false d (Some r) never e = never e
+      go false false false true None never e = cc
+      go false false false false None never e = cc

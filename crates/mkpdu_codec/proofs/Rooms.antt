@@ -5,7 +5,7 @@ use Rattle.std.proofs.lemmas.List.{take-append-drop}
 use Rattle.std.proofs.lemmas.List.Concat.{flat_map-append}
 use Rattle.mkpdu_codec.specs.declared.peer.Peer.{Peer}
 use Rattle.mkpdu_codec.specs.Sets.{peer, peers_body}
-use Rattle.mkpdu_codec.specs.Room.{HasRoom, Puts}
+use Rattle.mkpdu_codec.specs.inside.Room.{HasRoom, Puts}
 
 pub room_in_front : (v : Vec ℕ) (a b : List ℕ) → HasRoom v (a ++ b) → HasRoom v a
 room_in_front v a b r = record { enough = omega (arith, length-append a b, r.enough) }

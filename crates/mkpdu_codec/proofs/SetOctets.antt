@@ -1,7 +1,8 @@
 -- A set is read from the octets that are that set, and from no others.
-use Rattle.std.proofs.Common.{◌≡◌, ℕ, suc, ◌+◌, ◌*◌, ◌/◌, ◌%◌, ◌<◌, ◌≤◌, true, false, List, [], ◌∷◌, ◌++◌, length, get_or, take, drop, Some, None, refl, sym, ap, subst, ◌∙◌, arith, length-append, length-drop, length-take, append_assoc}
-use Rattle.std.proofs.lemmas.Bool.{leb-true, leb-false}
-use Rattle.std.proofs.lemmas.List.{take-append-drop, take-take, take_at, drop_at, drop-take, drop-drop, get_or-drop}
+use Rattle.std.specs.Prelude.{All}
+use Rattle.std.proofs.Common.{◌≡◌, ℕ, suc, ◌+◌, ◌*◌, ◌/◌, ◌%◌, ◌<◌, ◌≤◌, inl, inr, true, false, List, [], ◌∷◌, ◌++◌, length, get_or, take, drop, Some, None, refl, sym, ap, subst, ◌∙◌, arith, length-append, length-drop, length-take, append_assoc}
+use Rattle.std.proofs.lemmas.Bool.{leb-true, leb-false, cases_lt}
+use Rattle.std.proofs.lemmas.List.{take-append-drop, take-take, take_at, drop_at, drop-take, drop-drop, get_or-drop, get_or_past}
 use Rattle.mkpdu_codec.specs.Sets.{missing, header}
 use Rattle.mkpdu_codec.specs.Frames.{Set, IsSet}
 use Rattle.mkpdu_codec.specs.Fields.{set_at}
@@ -68,6 +69,13 @@ length-front_set octets w =
 
 abbrev pub IsBytes : List ℕ → Type 0
 IsBytes octets = (i : ℕ) → get_or octets i 0 < 256
+
+pub IsBytes-all : (octets : List ℕ) → All (λ o. o < 256) octets → IsBytes octets
+IsBytes-all octets all i =
+    elim (cases_lt i (length octets)) [
+      | inl lt ↦ all i 0 lt
+      | inr le ↦ rw (get_or_past octets i 0 le) (omega arith)
+    ]
 
 pub IsBytes-drop : (n : ℕ) (octets : List ℕ) → IsBytes octets → IsBytes (drop n octets)
 IsBytes-drop n octets h i = rw get_or-drop (h (n + i))

@@ -1,7 +1,7 @@
 -- What is read of a frame is what the frame spells.
 use Rattle.std.specs.Prelude.{◌||◌}
 use Rattle.std.specs.List.{AllByRecursion}
-use Rattle.std.proofs.Common.{◌≡◌, ℕ, zero, suc, ◌+◌, ◌*◌, ◌/◌, ◌%◌, ◌^◌, ◌<◌, ◌≤◌, ◌⊎◌, inl, inr, Bool, true, false, cond, leb, eqb, List, [], ◌∷◌, ◌++◌, length, take, drop, Option, Some, refl, sym, ap, subst, ◌∙◌, arith, length-drop, length-take, append_assoc}
+use Rattle.std.proofs.Common.{◌≡◌, ℕ, zero, suc, ◌+◌, ◌*◌, ◌/◌, ◌%◌, ◌^◌, ◌<◌, ◌≤◌, ◌⊎◌, inl, inr, Bool, true, false, cond, leb, eqb, List, [], ◌∷◌, ◌++◌, length, take, drop, Option, Some, None, refl, sym, ap, subst, ◌∙◌, arith, length-drop, length-take, append_assoc}
 use Rattle.std.proofs.lemmas.Bool.{eqb-true, eqb-false, leb-true}
 use Rattle.std.proofs.lemmas.List.{append-nil, nil_from_length, take-append-drop}
 use Rattle.std.proofs.lemmas.List.Elements.{All-from_recursion}
@@ -10,16 +10,17 @@ use Rattle.byteorder.specs.Endian.{big_number, big_bytes}
 use Rattle.byteorder.specs.Numbers.{big_from-lt}
 use Rattle.lan_base.specs.declared.address.Mi.{Mi}
 use Rattle.mkpdu_codec.specs.declared.given.Given.{Given}
+use Rattle.mkpdu_codec.specs.declared.given.Given.TheVariants.{Aes128}
 use Rattle.mkpdu_codec.specs.declared.key_use.KeyUse.{KeyUse}
 use Rattle.mkpdu_codec.specs.declared.key_use.Uses.{Uses}
 use Rattle.mkpdu_codec.specs.declared.peer.Peer.{Peer}
-use Rattle.mkpdu_codec.specs.Sets.{bit, peer, peers_body, use_body, use_flags}
-use Rattle.mkpdu_codec.specs.Frames.{Set, the, IsPeer, IsKeyUse, SpellsPeers, SpellsUses, SpellsGiven}
+use Rattle.mkpdu_codec.specs.Sets.{bit, peer, peers_body, use_body, use_flags, IsPeer}
+use Rattle.mkpdu_codec.specs.Frames.{Set, the, SpellsPeers, SpellsUses, IsGiving, SpellsGiven, IsKeyUse}
 use Rattle.mkpdu_codec.specs.Refusals.{is_length_of}
-use Rattle.mkpdu_codec.specs.Fields.{number_at, mi_at, entry_at, entries_at, entries_from, peers_in, key_at, uses_in, given_in}
+use Rattle.mkpdu_codec.specs.Fields.{number_at, mi_at, entry_at, entries_at, entries_from, peers_in, key_at, uses_in, wide_in, wide_or_other, key_in, given_in}
 use Rattle.mkpdu_codec.proofs.Taking.{octets_at-long}
 use Rattle.mkpdu_codec.proofs.SetOctets.{IsBytes, IsBytes-drop}
-use Rattle.mkpdu_codec.proofs.Again.{first, the-first, peers_in-or_empty, uses_in-or_empty, given_in-or_empty, short_number}
+use Rattle.mkpdu_codec.proofs.Again.{first, the-first, peers_in-or_empty, uses_in-or_empty, given_in-or_empty, short_number, wide_again, wide_is}
 use Rattle.mkpdu_codec.proofs.Gathering.{IsBytes-take, IsRead}
 use Rattle.mkpdu_codec.proofs.Walking.{IsShaped}
 
@@ -129,7 +130,7 @@ key_is bits octets lt bytes le =
     let pieces : octets ≡ server ++ (number ++ (lowest ++ rest)) =
     sym (take-append-drop 12 octets) ∙ ap (λ (x : List ℕ). server ++ x) (number_front (drop 12 octets) b1 l1 ∙ ap (λ (x : List ℕ). number ++ x) (number_front (drop 4 (drop 12 octets)) b2 l2)) in (
       pieces ∙ ap (λ (x : List ℕ). server ++ x) (sym (append_assoc number lowest rest)) ∙ sym (append_assoc server (number ++ lowest) rest),
-      record { server = omega (arith, le, length-take 12 octets); number = number_below (drop 12 octets) b1; an = omega arith; lowest = number_below (drop 4 (drop 12 octets)) b2 },
+      (record { server = omega (arith, le, length-take 12 octets); number = number_below (drop 12 octets) b1; lowest = number_below (drop 4 (drop 12 octets)) b2 }, omega arith),
     )
 
 or_cases : (a b : Bool) → (a || b) ≡ true → (a ≡ true) ⊎ (b ≡ true)
@@ -172,6 +173,13 @@ uses_are ss all =
 given_flag : (second : ℕ) → second < 256 → second / 16 ≡ second / 64 * 4 + second / 16 % 4
 given_flag second lt = omega arith
 
+key_is_given : (s : Set) (an offset number : ℕ) (key : List ℕ) → IsGiving s an offset number key → SpellsGiven s (Some (key_in an offset number key))
+key_is_given s an offset number key giving = go (eqb (length key) 24) refl (wide_in key) refl where
+  go : (t : Bool) → eqb (length key) 24 ≡ t → (w : Option (List ℕ)) → wide_in key ≡ w → SpellsGiven s (Some (cond t (Aes128 an offset number key) (wide_or_other an offset number w)))
+  go true t w e = (giving, eqb-true (length key) 24 t)
+  go false t None e = (key, (giving, eqb-false (length key) 24 t, λ wrapped is. absurd (let d = sym e ∙ wide_again key wrapped is in cc)))
+  go false t (Some wrapped) e = (key, (giving, wide_is key wrapped e))
+
 given_are_of : (s : Set) → IsBytes s.body → s.second < 256 → is_length_of 4 (length s.body) ≡ true → SpellsGiven s (given_in (Some s))
 unfolding given_in
 given_are_of s bytes byte shaped = go (or_cases (eqb (length s.body) 0) (leb 4 (length s.body)) shaped) where
@@ -188,11 +196,8 @@ given_are_of s bytes byte shaped = go (or_cases (eqb (length s.body) 0) (leb 4 (
   go (inr e) = some (leb-true 4 (length s.body) e) where
     some : 4 ≤ length s.body → SpellsGiven s (given_in (Some s))
     some le =
-        let front = number_front s.body bytes le in
-        elim (eqb (length (drop 4 s.body)) 24) as (λ t. eqb (length (drop 4 s.body)) 24 ≡ t → SpellsGiven s (given_in (Some s))) [
-          | true ↦ λ d. rw (number_long s.body le, d) (given_flag s.second byte, an, offset, number_below s.body bytes, eqb-true (length (drop 4 s.body)) 24 d, front)
-          | false ↦ λ d. rw (number_long s.body le, d) (given_flag s.second byte, an, offset, number_below s.body bytes, (λ l. eqb-false (length (drop 4 s.body)) 24 d (omega (arith, l, length-drop 4 s.body))), (drop 4 s.body, front))
-        ] refl
+        let giving : IsGiving s (s.second / 64) (s.second / 16 % 4) (big_number 4 (take 4 s.body)) (drop 4 s.body) = record { second = given_flag s.second byte; two_bits = an; two_more = offset; four_octets = number_below s.body bytes; body = number_front s.body bytes le } in
+        rw (number_long s.body le) (key_is_given s (s.second / 64) (s.second / 16 % 4) (big_number 4 (take 4 s.body)) (drop 4 s.body) giving)
 
 pub given_are : (ss : List Set) → AllByRecursion IsRead ss → SpellsGiven (the 4 ss) (given_in (first 4 ss))
 given_are ss all =

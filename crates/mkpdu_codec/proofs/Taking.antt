@@ -8,7 +8,8 @@ use Rattle.byteorder.specs.Endian.{big_number}
 use Rattle.mkpdu_codec.specs.declared.peer.Peer.{Peer}
 use Rattle.mkpdu_codec.specs.Sets.{missing}
 use Rattle.mkpdu_codec.specs.Frames.{Set}
-use Rattle.mkpdu_codec.specs.Fields.{◌>>=◌, octets_at, number_at, mi_at, sci_at, entry_at, set_at, len_in}
+use Rattle.mkpdu_codec.specs.Refusals.{front_length}
+use Rattle.mkpdu_codec.specs.Fields.{◌>>=◌, octets_at, number_at, mi_at, sci_at, entry_at, set_at}
 
 -- the value of a step that found something
 pub bind_some : {A B : Type 0} (o : Option A) (f : A → Option B) (y : B) → (o >>= f) ≡ Some y → (x : A) × (o ≡ Some x) × (f x ≡ Some y)
@@ -79,14 +80,14 @@ entry_at-shorter octets x e =
 pub set_at-shorter : (octets : List ℕ) (x : Set × List ℕ) → set_at octets ≡ Some x → length x.1 + 4 ≤ length octets
 unfolding set_at
 set_at-shorter octets x e =
-    let made : List ℕ → List ℕ → Set = λ h w. record { kind = get_or h 0 0; second = get_or h 1 0; flags = get_or h 2 0 / 16; body = take (len_in h) w } in
-    let a = bind_some (octets_at 4 octets) (λ h. octets_at (len_in h.0 + missing (len_in h.0)) h.1 >>= λ w. Some (made h.0 w.0, w.1)) x e in
-    let b = bind_some (octets_at (len_in a.0.0 + missing (len_in a.0.0)) a.0.1) (λ w. Some (made a.0.0 w.0, w.1)) x a.2 in
+    let made : List ℕ → List ℕ → Set = λ h w. record { kind = get_or h 0 0; second = get_or h 1 0; flags = get_or h 2 0 / 16; body = take (front_length h) w } in
+    let a = bind_some (octets_at 4 octets) (λ h. octets_at (front_length h.0 + missing (front_length h.0)) h.1 >>= λ w. Some (made h.0 w.0, w.1)) x e in
+    let b = bind_some (octets_at (front_length a.0.0 + missing (front_length a.0.0)) a.0.1) (λ w. Some (made a.0.0 w.0, w.1)) x a.2 in
     let t = octets_at-took 4 octets a.0 a.1 in
-    let u = octets_at-took (len_in a.0.0 + missing (len_in a.0.0)) a.0.1 b.0 b.1 in
+    let u = octets_at-took (front_length a.0.0 + missing (front_length a.0.0)) a.0.1 b.0 b.1 in
     let p : (made a.0.0 b.0.0, b.0.1) ≡ x = cc in
     let rest : x.1 ≡ b.0.1 = sym (ap (λ (y : Set × List ℕ). y.1) p) in
-    omega (arith, ap length rest, ap length t.rest_is, ap length u.rest_is, t.enough, length-drop 4 octets, length-drop (len_in a.0.0 + missing (len_in a.0.0)) a.0.1)
+    omega (arith, ap length rest, ap length t.rest_is, ap length u.rest_is, t.enough, length-drop 4 octets, length-drop (front_length a.0.0 + missing (front_length a.0.0)) a.0.1)
 
 pub octets_at-short : (n : ℕ) (octets : List ℕ) → length octets < n → octets_at n octets ≡ None
 octets_at-short n octets lt =

@@ -1,10 +1,10 @@
--- A frame has one spelling at most, and it lies in the covered octets and the check value.
-use Rattle.std.proofs.Common.{◌≡◌, ℕ, List, [], ◌++◌, take, None, Result, Ok, sym, ap, subst, ◌∙◌}
-use Rattle.std.proofs.lemmas.List.{take_at, append-nil}
+-- A frame has one spelling at most, and the covered octets alone decide it.
+use Rattle.std.proofs.Common.{◌≡◌, ℕ, ◌+◌, List, [], ◌++◌, length, take, None, Result, Ok, refl, sym, ap, subst, ◌∙◌, arith, length-append, append_assoc}
+use Rattle.std.proofs.lemmas.List.{take_at}
 use Rattle.mkpdu_codec.specs.declared.announcement.Announcement.{Announcement}
 use Rattle.mkpdu_codec.specs.declared.refusal.Refusal.{Refusal}
 use Rattle.mkpdu_codec.specs.declared.spelled.Spelled.{Spelled}
-use Rattle.mkpdu_codec.specs.Frames.{Frame, covered_octets, Spells}
+use Rattle.mkpdu_codec.specs.Frames.{covered_octets, Spells}
 use Rattle.mkpdu_codec.specs.Refusals.{refused}
 use Rattle.mkpdu_codec.specs.Reading.{reading}
 use Rattle.mkpdu_codec.proofs.Order.{error_of, refused-is}
@@ -21,22 +21,19 @@ one_spelling frame a b m n c d s t =
 pub not_refused : (frame : List ℕ) (a : Announcement) (m : ℕ) (c : List ℕ) → Spells frame a m c → refused frame ≡ None
 not_refused frame a m c s = refused-is frame ∙ ap error_of (read_again frame a m c s)
 
--- nothing behind the check value is read
-without_behind : (frame : List ℕ) (a : Announcement) (m : ℕ) (c : List ℕ) → Spells frame a m c → Spells (take m frame ++ c) a m c
-without_behind frame a m c s =
+-- the check value and what stands behind it may be others
+with_check : (frame : List ℕ) (a : Announcement) (m : ℕ) (c check behind : List ℕ) → Spells frame a m c → length check ≡ 16 → Spells (take m frame ++ (check ++ behind)) a m check
+with_check frame a m c check behind s sixteen =
     let p = s.parts in
-    let q : Frame = record { destination = p.destination; source = p.source; version = p.version; body = p.body; check = p.check; behind = [] } in
-    let front : take m frame ≡ covered_octets p = ap (take m) s.whole ∙ take_at (covered_octets p) (p.check ++ p.behind) m (sym s.covers) in
-    let check : c ≡ p.check ++ [] = s.checked ∙ sym (append-nil p.check) in
     record {
-      parts = q;
+      parts = record { destination = p.destination; source = p.source; version = p.version; body = p.body; check = check; behind = behind };
       basic = s.basic;
       others = s.others;
-      whole = ap (λ (x : List ℕ). x ++ c) front ∙ ap (λ (x : List ℕ). covered_octets p ++ x) check;
-      is_frame = record { destination = s.is_frame.destination; group = s.is_frame.group; source = s.is_frame.source; body = s.is_frame.body; check = s.is_frame.check };
+      whole = ap (λ (x : List ℕ). x ++ (check ++ behind)) (ap (take m) s.whole ∙ take_at (covered_octets p) (p.check ++ p.behind) m (sym s.covers));
+      is_frame = record { destination = s.is_frame.destination; group = s.is_frame.group; source = s.is_frame.source; body = s.is_frame.body; check = sixteen };
       is_body = s.is_body;
       covers = s.covers;
-      checked = s.checked;
+      checked = refl;
       source = s.source;
       says = s.says;
       live = s.live;
@@ -45,7 +42,22 @@ without_behind frame a m c s =
       given = s.given;
     }
 
-pub same_covered : (frame other : List ℕ) (a b : Announcement) (m n : ℕ) (c d : List ℕ) → Spells frame a m c → Spells other b n d → take m frame ≡ take n other → c ≡ d → a ≡ b
-same_covered frame other a b m n c d s t covered check =
-    let same : take n other ++ d ≡ take m frame ++ c = ap (λ (x : List ℕ). x ++ d) (sym covered) ∙ ap (λ (x : List ℕ). take m frame ++ x) (sym check) in
-    (one_spelling (take m frame ++ c) a b m n c d (without_behind frame a m c s) (subst (λ (x : List ℕ). Spells x b n d) same (without_behind other b n d t))).0
+length-check : (frame : List ℕ) (a : Announcement) (m : ℕ) (c : List ℕ) → Spells frame a m c → length c ≡ 16
+length-check frame a m c s = ap length s.checked ∙ s.is_frame.check
+
+pub same_covered : (frame other : List ℕ) (a b : Announcement) (m n : ℕ) (c d : List ℕ) → Spells frame a m c → Spells other b n d → take m frame ≡ take n other → (a ≡ b) × (m ≡ n)
+same_covered frame other a b m n c d s t covered =
+    let sixteen = length-check frame a m c s in
+    let one = one_spelling (take m frame ++ (c ++ [])) a b m n c c (with_check frame a m c c [] s sixteen) (subst (λ (x : List ℕ). Spells (x ++ (c ++ [])) b n c) (sym covered) (with_check other b n d c [] t sixteen)) in
+    (one.0, one.1)
+
+pub behind_ignored : (frame behind check : List ℕ) (a : Announcement) (m : ℕ) → Spells frame a m check → Spells (take (m + 16) frame ++ behind) a m check
+behind_ignored frame behind check a m s =
+    let p = s.parts in
+    let sixteen = length-check frame a m check s in
+    let front : take m frame ≡ covered_octets p = ap (take m) s.whole ∙ take_at (covered_octets p) (p.check ++ p.behind) m (sym s.covers) in
+    let both : take (m + 16) frame ≡ covered_octets p ++ p.check =
+    ap (take (m + 16)) (s.whole ∙ sym (append_assoc (covered_octets p) p.check p.behind)) ∙ take_at (covered_octets p ++ p.check) p.behind (m + 16) (omega (arith, s.covers, s.is_frame.check, length-append (covered_octets p) p.check)) in
+    let same : take m frame ++ (check ++ behind) ≡ take (m + 16) frame ++ behind =
+    ap (λ (x : List ℕ). x ++ (check ++ behind)) front ∙ ap (λ (x : List ℕ). covered_octets p ++ (x ++ behind)) s.checked ∙ sym (append_assoc (covered_octets p) p.check behind) ∙ ap (λ (x : List ℕ). x ++ behind) (sym both) in
+    subst (λ (x : List ℕ). Spells x a m check) same (with_check frame a m check check behind s sixteen)

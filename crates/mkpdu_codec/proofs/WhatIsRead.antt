@@ -3,7 +3,9 @@ use Rattle.std.specs.Prelude.{◌&&◌, not}
 use Rattle.std.specs.List.{AllByRecursion}
 use Rattle.std.proofs.Common.{◌≡◌, ◌≢◌, ℕ, ◌+◌, ◌-◌, ◌*◌, ◌/◌, ◌%◌, ◌<◌, ◌≤◌, ◌⊎◌, inl, inr, Bool, true, false, cond, leb, eqb, List, [], ◌∷◌, ◌++◌, length, get_or, take, drop, Option, Some, Result, Ok, Err, refl, sym, ap, subst, ◌∙◌, arith, length-append, length-drop, length-take, append_assoc}
 use Rattle.std.proofs.lemmas.Bool.{eqb-true, leb-true, le-leb}
-use Rattle.std.proofs.lemmas.List.{take-append-drop, drop-drop, get_or-take, get_or-drop}
+use Rattle.std.proofs.lemmas.List.{nil_from_length, take-append-drop, drop-drop, get_or-take, get_or-drop}
+use Rattle.std.proofs.lemmas.Bool.Decides.{Decides-eqb}
+use Rattle.std.proofs.lemmas.Slice.Eq.{starts_is}
 use Rattle.std.proofs.lemmas.List.Elements.{All-from_recursion}
 use Rattle.byteorder.specs.Endian.{big_bytes, big_number}
 use Rattle.lan_base.specs.declared.address.Mac.{Mac}
@@ -13,9 +15,9 @@ use Rattle.mkpdu_codec.specs.declared.refusal.Refusal.TheVariants.{Agility}
 use Rattle.mkpdu_codec.specs.declared.spelled.Spelled.{Spelled}
 use Rattle.mkpdu_codec.specs.Sets.{agility}
 use Rattle.mkpdu_codec.specs.Frames.{Set, Frame, IsFrame, covered_octets, octets_of, the, SpellsPeers, SpellsUses, SpellsGiven, SpellsBasic, Spells}
-use Rattle.mkpdu_codec.specs.Refusals.{is_mka, is_long_enough, body_length, check_place, sets_of, others_of, is_basic, is_whole, is_single, front_length, front_size, refused}
+use Rattle.mkpdu_codec.specs.Refusals.{is_mka, is_long_enough, body_length, check_place, sets_of, others_of, is_basic, is_whole, is_single, is_known, front_length, front_size, refused}
 use Rattle.mkpdu_codec.specs.Fields.{peers_in, uses_in, given_in}
-use Rattle.mkpdu_codec.specs.Reading.{◌>>=◌, Gathered, nothing, gathered, parts_at, is_known, announcement_of, reading}
+use Rattle.mkpdu_codec.specs.Reading.{◌>>=◌, Gathered, nothing, gathered, parts_at, announcement_of, reading}
 use Rattle.mkpdu_codec.proofs.Header.{long_enough-32, long_enough-whole, length-sets_of}
 use Rattle.mkpdu_codec.proofs.SetOctets.{IsBytes, IsBytes-drop, front_set, set_at-is_set, length-front_set}
 use Rattle.mkpdu_codec.proofs.Order.{and_both, error_of, refused-is, basics_in, basic_at-is, basic_at-not}
@@ -27,14 +29,6 @@ use Rattle.mkpdu_codec.proofs.Sound.{number_front, number_below, bit_of, peers_a
 -- a list of six is its six octets
 six : (xs : List ℕ) → length xs ≡ 6 → xs ≡ get_or xs 0 0 ∷ get_or xs 1 0 ∷ get_or xs 2 0 ∷ get_or xs 3 0 ∷ get_or xs 4 0 ∷ get_or xs 5 0 ∷ []
 six xs len = by_six (λ ys. ys ≡ get_or ys 0 0 ∷ get_or ys 1 0 ∷ get_or ys 2 0 ∷ get_or ys 3 0 ∷ get_or ys 4 0 ∷ get_or ys 5 0 ∷ []) (λ a b c d e f. refl) xs len
-
-four : (xs : List ℕ) → length xs ≡ 4 → xs ≡ get_or xs 0 0 ∷ get_or xs 1 0 ∷ get_or xs 2 0 ∷ get_or xs 3 0 ∷ []
-four [] len = absurd (omega arith)
-four (a ∷ []) len = absurd (omega arith)
-four (a ∷ b ∷ []) len = absurd (omega arith)
-four (a ∷ b ∷ c ∷ []) len = absurd (omega arith)
-four (a ∷ b ∷ c ∷ d ∷ []) len = refl
-four (a ∷ b ∷ c ∷ d ∷ e ∷ xs) len = absurd (omega arith)
 
 -- what the header says
 record Says (frame : List ℕ) : Type 0 where
@@ -66,7 +60,7 @@ module _ (frame : List ℕ) (bytes : IsBytes frame) (m : is_mka frame ≡ true) 
   stated = let a = get_or-drop 16 frame 0 0 in let b = get_or-drop 16 frame 1 0 in omega (arith, a, b)
 
   body_states : length body + 16 ≡ get_or frame 16 0 * 256 + get_or frame 17 0
-  body_states = let a = length-sets_of frame l in omega (arith, a, stated)
+  body_states = let a = length-sets_of frame l in let some = long_enough-32 frame l in omega (arith, a, some, stated)
 
   length_octets : big_bytes 2 (length body + 16) ≡ get_or frame 16 0 ∷ get_or frame 17 0 ∷ []
   length_octets = rw body_states (two (get_or frame 16 0) (get_or frame 17 0) (bytes 16) (bytes 17)) where
@@ -84,9 +78,7 @@ module _ (frame : List ℕ) (bytes : IsBytes frame) (m : is_mka frame ≡ true) 
         at i lt = get_or-take 6 (drop 12 frame) i 0 lt ∙ get_or-drop 12 frame i 0
 
   rest_is : drop (body_length frame - 16) (drop 18 frame) ≡ take 16 (drop (check_place frame) frame) ++ drop 16 (drop (check_place frame) frame)
-  rest_is = drop-drop (body_length frame - 16) 18 frame ∙ ap (λ (n : ℕ). drop n frame) (place (body_length frame) (long_enough-32 frame l)) ∙ sym (take-append-drop 16 (drop (check_place frame) frame)) where
-    place : (n : ℕ) → 32 ≤ n → 18 + (n - 16) ≡ 2 + n
-    place n le = omega arith
+  rest_is = drop-drop (body_length frame - 16) 18 frame ∙ sym (take-append-drop 16 (drop (check_place frame) frame))
 
   behind_header : drop 18 frame ≡ body ++ (take 16 (drop (check_place frame) frame) ++ drop 16 (drop (check_place frame) frame))
   behind_header = sym (take-append-drop (body_length frame - 16) (drop 18 frame)) ∙ ap (λ (x : List ℕ). body ++ x) rest_is
@@ -110,10 +102,10 @@ module _ (frame : List ℕ) (bytes : IsBytes frame) (m : is_mka frame ≡ true) 
         group = rw (get_or-take 6 frame 0 0 (omega arith)) says.group;
         source = omega (arith, says.long, length-take 6 (drop 6 frame), length-drop 6 frame);
         body = omega (arith, body_states, bytes 16, bytes 17);
-        check = go (body_length frame) ends;
+        check = go (body_length frame) (long_enough-32 frame l) ends;
       } where
-        go : (n : ℕ) → 18 + n ≤ length frame → length (take 16 (drop (2 + n) frame)) ≡ 16
-        go n le = omega (arith, le, length-take 16 (drop (2 + n) frame), length-drop (2 + n) frame)
+        go : (n : ℕ) → 32 ≤ n → 18 + n ≤ length frame → length (take 16 (drop (18 + (n - 16)) frame)) ≡ 16
+        go n some le = omega (arith, some, le, length-take 16 (drop (18 + (n - 16)) frame), length-drop (18 + (n - 16)) frame)
 
   covers : check_place frame ≡ length (covered_octets parts)
   covers =
@@ -127,10 +119,8 @@ module _ (frame : List ℕ) (bytes : IsBytes frame) (m : is_mka frame ≡ true) 
 
 agility_is : (xs : List ℕ) → length xs ≡ 4 → is_known xs ≡ true → xs ≡ agility
 agility_is xs len e =
-    let a = and_both (eqb (get_or xs 0 0) 0x00 && eqb (get_or xs 1 0) 0x80 && eqb (get_or xs 2 0) 0xc2) (eqb (get_or xs 3 0) 0x01) e in
-    let b = and_both (eqb (get_or xs 0 0) 0x00 && eqb (get_or xs 1 0) 0x80) (eqb (get_or xs 2 0) 0xc2) a.0 in
-    let c = and_both (eqb (get_or xs 0 0) 0x00) (eqb (get_or xs 1 0) 0x80) b.0 in
-    four xs len ∙ rw (eqb-true (get_or xs 0 0) 0x00 c.0, eqb-true (get_or xs 1 0) 0x80 c.1, eqb-true (get_or xs 2 0) 0xc2 b.1, eqb-true (get_or xs 3 0) 0x01 a.1) refl
+    let front = (starts_is Decides-eqb xs agility (is_known xs) refl).0 e in
+    front ∙ ap (λ (x : List ℕ). agility ++ x) (nil_from_length (drop 4 xs) (omega (arith, len, length-drop 4 xs))) ∙ refl
 
 says_basic : (s : Set) (source : Mac) (h : Gathered) → IsBytes s.body → 29 ≤ length s.body → length s.body ≤ 60 → s.flags < 16 → is_known (basics_in s).agility ≡ true
     → SpellsBasic s (announcement_of source (basics_in s) h)
@@ -156,8 +146,7 @@ says_basic s source h bytes least most flags known =
       sci = omega (arith, least, length-take 8 s.body);
       mi = omega (arith, least, l1, length-take 12 (drop 8 s.body));
       mn = number_below (drop 12 (drop 8 s.body)) y2;
-      named = omega (arith, least, l1, l2, l3, l4);
-      short_name = omega (arith, most, l1, l2, l3, l4);
+      named = (omega (arith, least, l1, l2, l3, l4), omega (arith, most, l1, l2, l3, l4));
     }
 
 -- ---- the whole frame

@@ -7,12 +7,12 @@ use Rattle.std.proofs.lemmas.List.Elements.{All-from_recursion, recursion_from_A
 use Rattle.byteorder.specs.Endian.{big_bytes}
 use Rattle.mkpdu_codec.specs.declared.announcement.Announcement.{Announcement}
 use Rattle.mkpdu_codec.specs.declared.given.Given.{Given}
-use Rattle.mkpdu_codec.specs.declared.given.Given.TheVariants.{Aes128, Other}
+use Rattle.mkpdu_codec.specs.declared.given.Given.TheVariants.{Aes128, Aes256, Other}
 use Rattle.mkpdu_codec.specs.declared.key_use.Uses.{Uses}
 use Rattle.mkpdu_codec.specs.declared.peer.Peer.{Peer}
-use Rattle.mkpdu_codec.specs.Sets.{bit, missing, set, basic_body, peers_body, uses_body, uses_flags, given_body, given_flags}
+use Rattle.mkpdu_codec.specs.Sets.{bit, missing, set, basic_body, peers_body, uses_body, uses_flags, given_body, given_flags, gcm_aes_256, IsPeer, IsKey}
 use Rattle.mkpdu_codec.specs.Written.{group_address, frame_header, basic_set, peers_set, uses_set, given_set, sets, written, IsWritable, IsWritableGiven}
-use Rattle.mkpdu_codec.specs.Frames.{Set, IsSet, AreSets, the, IsPeer, IsKeyUse, SpellsPeers, SpellsUses, SpellsGiven, Spells, IsGiven, IsOfItsTypes}
+use Rattle.mkpdu_codec.specs.Frames.{Set, IsSet, AreSets, the, SpellsPeers, SpellsUses, IsGiving, SpellsGiven, Spells, IsGiven, IsOfItsTypes, IsKeyUse}
 use Rattle.mkpdu_codec.proofs.Lengths.{length-set, length-basic_body}
 use Rattle.mkpdu_codec.proofs.Again.{length-peers_body}
 use Rattle.mkpdu_codec.proofs.FrameAgain.{length-uses_body, eqb-off}
@@ -34,6 +34,7 @@ uses_written (Some u) = record { kind = 3; second = uses_flags u; flags = 0; bod
 abbrev given_written : Option Given → List Set
 given_written None = []
 given_written (Some (Aes128 an offset number wrapped)) = record { kind = 4; second = given_flags an offset * 16; flags = 0; body = given_body number wrapped } ∷ []
+given_written (Some (Aes256 an offset number wrapped)) = record { kind = 4; second = given_flags an offset * 16; flags = 0; body = given_body number (gcm_aes_256 ++ wrapped) } ∷ []
 given_written (Some (Other an offset number)) = []
 
 abbrev all_written : List Peer → List Peer → Option Uses → Option Given → List Set
@@ -64,68 +65,64 @@ are_given None is may = refl
 are_given (Some (Aes128 an offset number wrapped)) is may =
     let len : length (given_body number wrapped) ≡ 28 = rw is.1 refl in
     one_set (given_set (Some (Aes128 an offset number wrapped))) (record { kind = 4; second = given_flags an offset * 16; flags = 0; body = given_body number wrapped }) (is_set 4 (given_flags an offset * 16) 0 (given_body number wrapped) (omega arith) (omega (arith, len)))
+are_given (Some (Aes256 an offset number wrapped)) is may =
+    let len : length (given_body number (gcm_aes_256 ++ wrapped)) ≡ 52 = rw is.1 refl in
+    one_set (given_set (Some (Aes256 an offset number wrapped))) (record { kind = 4; second = given_flags an offset * 16; flags = 0; body = given_body number (gcm_aes_256 ++ wrapped) }) (is_set 4 (given_flags an offset * 16) 0 (given_body number (gcm_aes_256 ++ wrapped)) (omega arith) (omega (arith, len)))
 are_given (Some (Other an offset number)) is may = absurd may
 
 -- ---- what they say
 
+-- no set of another type is the one of a type
+skips_peers : (k kind : ℕ) (ps : List Peer) (rest : List Set) → eqb kind k ≡ false → the k (peers_written kind ps ++ rest) ≡ the k rest
+skips_peers k kind [] rest e = refl
+skips_peers k kind (p ∷ ps) rest e = rw e refl
+
+skips_uses : (k : ℕ) (u : Option Uses) (rest : List Set) → eqb 3 k ≡ false → the k (uses_written u ++ rest) ≡ the k rest
+skips_uses k None rest e = refl
+skips_uses k (Some u) rest e = rw e refl
+
+skips_given : (k : ℕ) (g : Option Given) → eqb 4 k ≡ false → the k (given_written g) ≡ the k []
+skips_given k None e = refl
+skips_given k (Some (Aes128 an offset number wrapped)) e = rw e refl
+skips_given k (Some (Aes256 an offset number wrapped)) e = rw e refl
+skips_given k (Some (Other an offset number)) e = refl
+
+peers_spelled : (kind : ℕ) (ps : List Peer) (rest : List Set) → All IsPeer ps → the kind rest ≡ the kind [] → eqb kind kind ≡ true → SpellsPeers (the kind (peers_written kind ps ++ rest)) ps
+peers_spelled kind [] rest are others e = subst (λ (s : Set). SpellsPeers s []) (sym others) (record { body = refl; are_peers = are })
+peers_spelled kind (p ∷ ps) rest are others e = rw e (record { body = refl; are_peers = are })
+
 spells_live : (live potential : List Peer) (u : Option Uses) (g : Option Given) → All IsPeer live → SpellsPeers (the 1 (all_written live potential u g)) live
-spells_live [] [] None None are = record { body = refl; are_peers = are }
-spells_live [] [] None (Some (Aes128 an offset number wrapped)) are = record { body = refl; are_peers = are }
-spells_live [] [] None (Some (Other an offset number)) are = record { body = refl; are_peers = are }
-spells_live [] [] (Some u) None are = record { body = refl; are_peers = are }
-spells_live [] [] (Some u) (Some (Aes128 an offset number wrapped)) are = record { body = refl; are_peers = are }
-spells_live [] [] (Some u) (Some (Other an offset number)) are = record { body = refl; are_peers = are }
-spells_live [] (q ∷ qs) None None are = record { body = refl; are_peers = are }
-spells_live [] (q ∷ qs) None (Some (Aes128 an offset number wrapped)) are = record { body = refl; are_peers = are }
-spells_live [] (q ∷ qs) None (Some (Other an offset number)) are = record { body = refl; are_peers = are }
-spells_live [] (q ∷ qs) (Some u) None are = record { body = refl; are_peers = are }
-spells_live [] (q ∷ qs) (Some u) (Some (Aes128 an offset number wrapped)) are = record { body = refl; are_peers = are }
-spells_live [] (q ∷ qs) (Some u) (Some (Other an offset number)) are = record { body = refl; are_peers = are }
-spells_live (p ∷ ps) potential u g are = record { body = refl; are_peers = are }
-
--- no list of live peers stands before these
-skips_live : (k : ℕ) (live : List Peer) (rest : List Set) → eqb 1 k ≡ false → the k (peers_written 1 live ++ rest) ≡ the k rest
-skips_live k [] rest e = refl
-skips_live k (p ∷ ps) rest e = rw e refl
-
-skips_potential : (k : ℕ) (potential : List Peer) (rest : List Set) → eqb 2 k ≡ false → the k (peers_written 2 potential ++ rest) ≡ the k rest
-skips_potential k [] rest e = refl
-skips_potential k (p ∷ ps) rest e = rw e refl
+spells_live live potential u g are =
+    peers_spelled 1 live (peers_written 2 potential ++ (uses_written u ++ given_written g)) are (skips_peers 1 2 potential (uses_written u ++ given_written g) refl ∙ skips_uses 1 u (given_written g) refl ∙ skips_given 1 g refl) refl
 
 spells_potential : (live potential : List Peer) (u : Option Uses) (g : Option Given) → All IsPeer potential → SpellsPeers (the 2 (all_written live potential u g)) potential
-spells_potential live potential u g are = subst (λ (s : Set). SpellsPeers s potential) (sym (skips_live 2 live (peers_written 2 potential ++ (uses_written u ++ given_written g)) refl)) (go potential u g are) where
-  go : (potential : List Peer) (u : Option Uses) (g : Option Given) → All IsPeer potential → SpellsPeers (the 2 (peers_written 2 potential ++ (uses_written u ++ given_written g))) potential
-  go (p ∷ ps) u g are = record { body = refl; are_peers = are }
-  go [] None None are = record { body = refl; are_peers = are }
-  go [] None (Some (Aes128 an offset number wrapped)) are = record { body = refl; are_peers = are }
-  go [] None (Some (Other an offset number)) are = record { body = refl; are_peers = are }
-  go [] (Some u) None are = record { body = refl; are_peers = are }
-  go [] (Some u) (Some (Aes128 an offset number wrapped)) are = record { body = refl; are_peers = are }
-  go [] (Some u) (Some (Other an offset number)) are = record { body = refl; are_peers = are }
+spells_potential live potential u g are =
+    subst (λ (s : Set). SpellsPeers s potential) (sym (skips_peers 2 1 live (peers_written 2 potential ++ (uses_written u ++ given_written g)) refl))
+    (peers_spelled 2 potential (uses_written u ++ given_written g) are (skips_uses 2 u (given_written g) refl ∙ skips_given 2 g refl) refl)
+
+skips_lists : (k : ℕ) (live potential : List Peer) (rest : List Set) → eqb 1 k ≡ false → eqb 2 k ≡ false → the k (peers_written 1 live ++ (peers_written 2 potential ++ rest)) ≡ the k rest
+skips_lists k live potential rest e d = skips_peers k 1 live (peers_written 2 potential ++ rest) e ∙ skips_peers k 2 potential rest d
 
 spells_uses : (live potential : List Peer) (u : Option Uses) (g : Option Given) → IfSome u (λ v. IsKeyUse v.latest × IsKeyUse v.old) → SpellsUses (the 3 (all_written live potential u g)) u
-spells_uses live potential u g is =
-    subst (λ (s : Set). SpellsUses s u) (sym (skips_live 3 live (peers_written 2 potential ++ (uses_written u ++ given_written g)) refl ∙ skips_potential 3 potential (uses_written u ++ given_written g) refl)) (go u g is) where
-      go : (u : Option Uses) (g : Option Given) → IfSome u (λ v. IsKeyUse v.latest × IsKeyUse v.old) → SpellsUses (the 3 (uses_written u ++ given_written g)) u
-      go (Some u) g is = (refl, refl, is.0, is.1)
-      go None None is = refl
-      go None (Some (Aes128 an offset number wrapped)) is = refl
-      go None (Some (Other an offset number)) is = refl
+spells_uses live potential u g is = subst (λ (s : Set). SpellsUses s u) (sym (skips_lists 3 live potential (uses_written u ++ given_written g) refl refl)) (go u is) where
+  go : (u : Option Uses) → IfSome u (λ v. IsKeyUse v.latest × IsKeyUse v.old) → SpellsUses (the 3 (uses_written u ++ given_written g)) u
+  go (Some u) is = (refl, refl, is.0, is.1)
+  go None is = subst (λ (s : Set). SpellsUses s None) (sym (skips_given 3 g refl)) refl
 
 sixteenth : (n : ℕ) → n * 16 / 16 ≡ n
 sixteenth n = omega arith
 
+giving : (an offset number : ℕ) (key : List ℕ) → an < 4 → offset < 4 → number < 2 ^ 32 → IsGiving (record { kind = 4; second = given_flags an offset * 16; flags = 0; body = given_body number key }) an offset number key
+giving an offset number key a o n = record { second = sixteenth (given_flags an offset); two_bits = a; two_more = o; four_octets = n; body = refl }
+
 spells_given : (live potential : List Peer) (u : Option Uses) (g : Option Given) → IfSome g IsGiven → IfSome g IsWritableGiven → SpellsGiven (the 4 (all_written live potential u g)) g
 spells_given live potential u g is may =
-    subst (λ (s : Set). SpellsGiven s g) (sym (skips_live 4 live (peers_written 2 potential ++ (uses_written u ++ given_written g)) refl ∙ skips_potential 4 potential (uses_written u ++ given_written g) refl)) (go u g is may) where
-      one : (g : Option Given) → IfSome g IsGiven → IfSome g IsWritableGiven → SpellsGiven (the 4 (given_written g)) g
-      one None is may = refl
-      one (Some (Aes128 an offset number wrapped)) is may = (sixteenth (given_flags an offset), may.0, may.1, is.0, is.1, refl)
-      one (Some (Other an offset number)) is may = absurd may
-
-      go : (u : Option Uses) (g : Option Given) → IfSome g IsGiven → IfSome g IsWritableGiven → SpellsGiven (the 4 (uses_written u ++ given_written g)) g
-      go None g is may = one g is may
-      go (Some u) g is may = one g is may
+    subst (λ (s : Set). SpellsGiven s g) (sym (skips_lists 4 live potential (uses_written u ++ given_written g) refl refl ∙ skips_uses 4 u (given_written g) refl)) (go g is may) where
+      go : (g : Option Given) → IfSome g IsGiven → IfSome g IsWritableGiven → SpellsGiven (the 4 (given_written g)) g
+      go None is may = refl
+      go (Some (Aes128 an offset number wrapped)) is may = (giving an offset number wrapped may.0 may.1 is.0, is.1)
+      go (Some (Aes256 an offset number wrapped)) is may = (gcm_aes_256 ++ wrapped, (giving an offset number (gcm_aes_256 ++ wrapped) may.0 may.1 is.0, (is.1, refl)))
+      go (Some (Other an offset number)) is may = absurd may
 
 -- ---- none of them comes twice
 
@@ -143,6 +140,7 @@ count-uses k (Some u) = count-most k 3 (record { kind = 3; second = uses_flags u
 count-given : (k : ℕ) (g : Option Given) → count k (given_written g) ≤ cond (eqb 4 k) 1 0
 count-given k None = omega arith
 count-given k (Some (Aes128 an offset number wrapped)) = count-most k 4 (record { kind = 4; second = given_flags an offset * 16; flags = 0; body = given_body number wrapped }) refl
+count-given k (Some (Aes256 an offset number wrapped)) = count-most k 4 (record { kind = 4; second = given_flags an offset * 16; flags = 0; body = given_body number (gcm_aes_256 ++ wrapped) }) refl
 count-given k (Some (Other an offset number)) = omega arith
 
 count-append : (k : ℕ) (ss ts : List Set) → count k (ss ++ ts) ≡ count k ss + count k ts
@@ -186,6 +184,7 @@ none_in_uses (Some u) = ((λ e. omega (arith, e)), tt)
 none_in_given : (g : Option Given) → NoIndicator (given_written g)
 none_in_given None = tt
 none_in_given (Some (Aes128 an offset number wrapped)) = ((λ e. omega (arith, e)), tt)
+none_in_given (Some (Aes256 an offset number wrapped)) = ((λ e. omega (arith, e)), tt)
 none_in_given (Some (Other an offset number)) = tt
 
 none_written : (live potential : List Peer) (u : Option Uses) (g : Option Given) → NoIndicator (all_written live potential u g)
@@ -210,9 +209,10 @@ uses_most : (u : Option Uses) → IfSome u (λ v. IsKeyUse v.latest × IsKeyUse 
 uses_most None is = omega arith
 uses_most (Some u) is = set_most 3 (uses_flags u) 0 40 (uses_body u) (let len = length-uses_body u is.0 is.1 in omega (arith, len))
 
-given_most : (g : Option Given) → IfSome g IsGiven → length (given_set g) ≤ 35
+given_most : (g : Option Given) → IfSome g IsGiven → length (given_set g) ≤ 59
 given_most None is = omega arith
-given_most (Some (Aes128 an offset number wrapped)) is = set_most 4 (given_flags an offset * 16) 0 28 (given_body number wrapped) (let len : length (given_body number wrapped) ≡ 28 = rw is.1 refl in omega (arith, len))
+given_most (Some (Aes128 an offset number wrapped)) is = set_most 4 (given_flags an offset * 16) 0 52 (given_body number wrapped) (let len : length (given_body number wrapped) ≡ 28 = rw is.1 refl in omega (arith, len))
+given_most (Some (Aes256 an offset number wrapped)) is = set_most 4 (given_flags an offset * 16) 0 52 (given_body number (gcm_aes_256 ++ wrapped)) (let len : length (given_body number (gcm_aes_256 ++ wrapped)) ≡ 52 = rw is.1 refl in omega (arith, len))
 given_most (Some (Other an offset number)) is = omega arith
 
 -- ---- the whole frame
@@ -220,11 +220,9 @@ given_most (Some (Other an offset number)) is = omega arith
 laid_out : (source body : List ℕ) → frame_header source (length body + 16) ++ body ≡ group_address ++ (source ++ (0x88 ∷ 0x8e ∷ 3 ∷ 5 ∷ (big_bytes 2 (length body + 16) ++ body)))
 laid_out source body = ap (λ (x : List ℕ). group_address ++ x) (append_assoc source (0x88 ∷ 0x8e ∷ 3 ∷ 5 ∷ big_bytes 2 (length body + 16)) body)
 
-keys_are : (u : Option Uses) → IfSome u (λ v. (v.latest.an < 4) × (v.old.an < 4))
-    → IfSome u (λ v. (length v.latest.server.0 ≡ 12) × (v.latest.number < 2 ^ 32) × (v.latest.lowest < 2 ^ 32) × (length v.old.server.0 ≡ 12) × (v.old.number < 2 ^ 32) × (v.old.lowest < 2 ^ 32))
-    → IfSome u (λ v. IsKeyUse v.latest × IsKeyUse v.old)
+keys_are : (u : Option Uses) → IfSome u (λ v. (v.latest.an < 4) × (v.old.an < 4)) → IfSome u (λ v. IsKey v.latest × IsKey v.old) → IfSome u (λ v. IsKeyUse v.latest × IsKeyUse v.old)
 keys_are None may is = tt
-keys_are (Some u) may is = (record { server = is.0; number = is.1; an = may.0; lowest = is.2 }, record { server = is.3; number = is.4; an = may.1; lowest = is.5 })
+keys_are (Some u) may is = ((is.0, may.0), (is.1, may.1))
 
 server_flag : (b : ℕ) → (b * 8 + 6) / 8 ≡ b
 server_flag b = omega arith
@@ -245,7 +243,7 @@ written_spells a check may is sixteen =
     let six : length a.source.0 ≡ 6 = omega (arith, ap length may.source, length-take 6 a.sci.0, is.sci) in
     let most : length (sets a) + 16 < 2 ^ 16 = omega (
       arith,
-      set_most 1 a.priority (bit a.server * 8 + 6) 60 (basic_body a.sci.0 a.mi.0 a.mn a.ckn) (omega (arith, len, may.short_name)),
+      set_most 1 a.priority (bit a.server * 8 + 6) 60 (basic_body a.sci.0 a.mi.0 a.mn a.ckn) (omega (arith, len, may.named.1)),
       peers_most 1 a.live live may.live,
       peers_most 2 a.potential potential may.potential,
       uses_most a.uses keys,
@@ -266,7 +264,7 @@ written_spells a check may is sixteen =
         middle = peers_set 1 a.live ++ (peers_set 2 a.potential ++ (uses_set a.uses ++ given_set a.given));
         indicator = [];
         whole = ap (λ (x : List ℕ). basic_set a ++ x) (sym (append-nil (peers_set 1 a.live ++ (peers_set 2 a.potential ++ (uses_set a.uses ++ given_set a.given)))));
-        is_basic = is_set 1 a.priority (bit a.server * 8 + 6) (basic_body a.sci.0 a.mi.0 a.mn a.ckn) (flags_fit a.server) (omega (arith, len, may.short_name));
+        is_basic = is_set 1 a.priority (bit a.server * 8 + 6) (basic_body a.sci.0 a.mi.0 a.mn a.ckn) (flags_fit a.server) (omega (arith, len, may.named.1));
         are_others = are_both (peers_written 1 a.live) (peers_written 2 a.potential ++ (uses_written a.uses ++ given_written a.given)) (peers_set 1 a.live) (peers_set 2 a.potential ++ (uses_set a.uses ++ given_set a.given)) (are_peers 1 a.live live may.live)
             (are_both (peers_written 2 a.potential) (uses_written a.uses ++ given_written a.given) (peers_set 2 a.potential) (uses_set a.uses ++ given_set a.given) (are_peers 2 a.potential potential may.potential)
             (are_both (uses_written a.uses) (given_written a.given) (uses_set a.uses) (given_set a.given) (are_uses a.uses keys) (are_given a.given is.given may.given)));
@@ -277,7 +275,7 @@ written_spells a check may is sixteen =
       covers = ap length (laid_out a.source.0 (sets a));
       checked = refl;
       source = refl;
-      says = record { priority = refl; server = server_flag (bit a.server); body = refl; sci = is.sci; mi = is.mi; mn = is.mn; named = may.named; short_name = may.short_name };
+      says = record { priority = refl; server = server_flag (bit a.server); body = refl; sci = is.sci; mi = is.mi; mn = is.mn; named = may.named };
       live = spells_live a.live a.potential a.uses a.given is.live;
       potential = spells_potential a.live a.potential a.uses a.given is.potential;
       uses = spells_uses a.live a.potential a.uses a.given keys;

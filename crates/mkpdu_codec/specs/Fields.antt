@@ -1,22 +1,18 @@
--- Reading the fields of parameter sets from front to back: a value and the octets behind it, or nothing.
-use Rattle.std.specs.Prelude.{◌≡◌, Bool, not, ℕ, zero, suc, ◌+◌, ◌*◌, ◌/◌, ◌%◌, ◌&&◌, ◌==◌, nat_le, nat_lt, if◌then◌else◌, List, [], ◌∷◌, length, take, drop, slice_index, Option, Some, None}
+-- Reading the fields of parameter sets from front to back: a value and the octets behind it, or
+-- nothing.
+use Rattle.std.specs.Prelude.{Bool, not, ℕ, zero, suc, ◌+◌, ◌/◌, ◌%◌, ◌&&◌, ◌==◌, nat_lt, if◌then◌else◌, List, [], ◌∷◌, length, take, drop, slice_index, Option, Some, None}
+use Rattle.std.specs.List.{starts_with}
 use Rattle.byteorder.specs.Endian.{big_number}
 use Rattle.lan_base.specs.declared.address.Mi.{Mi}
 use Rattle.lan_base.specs.declared.address.Sci.{Sci}
-use Rattle.mkpdu_codec.specs.declared.basic.Basic.{Basic}
 use Rattle.mkpdu_codec.specs.declared.given.Given.{Given}
-use Rattle.mkpdu_codec.specs.declared.given.Given.TheVariants.{Aes128, Other}
+use Rattle.mkpdu_codec.specs.declared.given.Given.TheVariants.{Aes128, Aes256, Other}
 use Rattle.mkpdu_codec.specs.declared.key_use.KeyUse.{KeyUse}
 use Rattle.mkpdu_codec.specs.declared.key_use.Uses.{Uses}
 use Rattle.mkpdu_codec.specs.declared.peer.Peer.{Peer}
-use Rattle.mkpdu_codec.specs.declared.set.ParameterSet.{ParameterSet}
 use Rattle.mkpdu_codec.specs.Frames.{Set}
-use Rattle.mkpdu_codec.specs.Sets.{missing}
-
--- what a function of the code found, seen by view, is what reading finds
-abbrev pub Finds : {X Y : Type 0} → (X → Y) → Option X → Option Y → Type 0
-Finds view None read = read ≡ None
-Finds view (Some x) read = read ≡ Some (view x)
+use Rattle.mkpdu_codec.specs.Refusals.{front_length, is_basic_length}
+use Rattle.mkpdu_codec.specs.Sets.{missing, gcm_aes_256}
 
 infixl 10 ◌>>=◌
 abbrev pub ◌>>=◌ : {A B : Type 0} → Option A → (A → Option B) → Option B
@@ -44,20 +40,12 @@ sci_at octets = do
 
 -- ---- a parameter set
 
--- a set without where its body lies in memory
-abbrev pub set_of : ParameterSet → Set
-set_of s = record { kind = s.kind; second = s.second; flags = s.flags; body = s.body.now }
-
--- the length of the body, by a header
-abbrev pub len_in : List ℕ → ℕ
-len_in header = slice_index header 2 % 16 * 256 + slice_index header 3
-
 -- a set with its padding
 unfoldable pub set_at : List ℕ → Option (Set × List ℕ)
 set_at octets = do
   header ← octets_at 4 octets
-  whole ← octets_at (len_in header.0 + missing (len_in header.0)) header.1
-  Some (record { kind = slice_index header.0 0; second = slice_index header.0 1; flags = slice_index header.0 2 / 16; body = take (len_in header.0) whole.0 }, whole.1)
+  whole ← octets_at (front_length header.0 + missing (front_length header.0)) header.1
+  Some (record { kind = slice_index header.0 0; second = slice_index header.0 1; flags = slice_index header.0 2 / 16; body = take (front_length header.0) whole.0 }, whole.1)
 
 -- ---- peer lists
 
@@ -100,11 +88,22 @@ uses_in found = do
 
 -- ---- Distributed SAK
 
+-- the wrapped key of a key for GCM-AES-256
+abbrev pub wide_in : List ℕ → Option (List ℕ)
+wide_in key = if starts_with (λ a b. a == b) key gcm_aes_256 && (length key == 48) then Some (drop 8 key) else None
+
+abbrev pub wide_or_other : ℕ → ℕ → ℕ → Option (List ℕ) → Given
+wide_or_other an offset number None = Other an offset number
+wide_or_other an offset number (Some wrapped) = Aes256 an offset number wrapped
+
+abbrev pub key_in : ℕ → ℕ → ℕ → List ℕ → Given
+key_in an offset number key = if length key == 24 then Aes128 an offset number key else wide_or_other an offset number (wide_in key)
+
 unfoldable pub given_in : Option Set → Option Given
 given_in found = do
   s ← found
   number ← number_at s.body
-  if length number.1 == 24 then Some (Aes128 (s.second / 64) (s.second / 16 % 4) number.0 number.1) else Some (Other (s.second / 64) (s.second / 16 % 4) number.0)
+  Some (key_in (s.second / 64) (s.second / 16 % 4) number.0 number.1)
 
 -- ---- the Basic Parameter Set
 
@@ -118,12 +117,8 @@ pub record Basics : Type 0 where
   pub agility : List ℕ
   pub ckn : List ℕ
 
-abbrev pub basics_of : Basic → Basics
-basics_of b = record { priority = b.priority; server = b.server; sci = b.sci; mi = b.mi; mn = b.mn; agility = b.agility; ckn = b.ckn.now }
-
--- the body has 29 to 60 octets
 unfoldable pub basic_in : Set → Option Basics
-basic_in s = if not (nat_le 29 (length s.body) && nat_le (length s.body) 60) then None else do
+basic_in s = if not (is_basic_length (length s.body)) then None else do
   sci ← sci_at s.body
   mi ← mi_at sci.1
   mn ← number_at mi.1

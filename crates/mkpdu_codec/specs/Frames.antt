@@ -1,13 +1,14 @@
 -- Which frames spell which announcement (IEEE Std 802.1X, clause 11): a grammar of whole frames.
 use Rattle.std.specs.Prelude.{◌≡◌, ◌≢◌, ◌≤◌, ◌<◌, ℕ, ◌+◌, ◌/◌, ◌%◌, ◌^◌, ◌==◌, if◌then◌else◌, ◌⊎◌, List, [], ◌∷◌, ◌++◌, length, slice_index, Option, Some, None, IfSome, All, count_by}
 use Rattle.byteorder.specs.Endian.{big_bytes}
+use Rattle.lan_base.specs.Ranges.{IsCkn}
 use Rattle.mkpdu_codec.specs.declared.announcement.Announcement.{Announcement}
 use Rattle.mkpdu_codec.specs.declared.given.Given.{Given}
-use Rattle.mkpdu_codec.specs.declared.given.Given.TheVariants.{Aes128, Other}
+use Rattle.mkpdu_codec.specs.declared.given.Given.TheVariants.{Aes128, Aes256, Other}
 use Rattle.mkpdu_codec.specs.declared.key_use.KeyUse.{KeyUse}
 use Rattle.mkpdu_codec.specs.declared.key_use.Uses.{Uses}
 use Rattle.mkpdu_codec.specs.declared.peer.Peer.{Peer}
-use Rattle.mkpdu_codec.specs.Sets.{bit, missing, header, basic_body, peers_body, uses_body, uses_flags, given_flags}
+use Rattle.mkpdu_codec.specs.Sets.{live_peers, potential_peers, sak_use, distributed_sak, icv_indicator, check_length, bit, missing, header, basic_body, peers_body, uses_body, uses_flags, given_flags, given_body, gcm_aes_256, IsPeer, IsKey}
 
 -- ---- a parameter set
 
@@ -32,11 +33,11 @@ AreSets octets [] = octets ≡ []
 AreSets octets (s ∷ ss) =
     (front : List ℕ) × ((rest : List ℕ) × ((octets ≡ front ++ rest) × IsSet front s × AreSets rest ss))
 
--- the header of an ICV Indicator, whose body of 16 octets is the check value
+-- the header of an ICV Indicator, whose body is the check value
 pub record IsIndicator (octets : List ℕ) : Type 0 where
   pub second : ℕ
   pub flags : ℕ
-  pub whole : octets ≡ header 255 second flags 16
+  pub whole : octets ≡ header icv_indicator second flags check_length
 
 -- ---- a frame
 
@@ -51,7 +52,7 @@ pub record Frame : Type 0 where
 
 -- what the check value covers: addresses, EtherType, version, packet type 5, length, and the body
 abbrev pub covered_octets : Frame → List ℕ
-covered_octets f = f.destination ++ (f.source ++ (0x88 ∷ 0x8e ∷ f.version ∷ 5 ∷ (big_bytes 2 (length f.body + 16) ++ f.body)))
+covered_octets f = f.destination ++ (f.source ++ (0x88 ∷ 0x8e ∷ f.version ∷ 5 ∷ (big_bytes 2 (length f.body + check_length) ++ f.body)))
 
 abbrev pub octets_of : Frame → List ℕ
 octets_of f = covered_octets f ++ (f.check ++ f.behind)
@@ -61,11 +62,11 @@ pub record IsFrame (f : Frame) : Type 0 where
   pub destination : length f.destination ≡ 6
   pub group : slice_index f.destination 0 % 2 ≡ 1
   pub source : length f.source ≡ 6
-  pub body : length f.body + 16 < 2 ^ 16
-  pub check : length f.check ≡ 16
+  pub body : length f.body + check_length < 2 ^ 16
+  pub check : length f.check ≡ check_length
 
--- a body is a Basic Parameter Set, further sets, and the header of an ICV Indicator or nothing; none of
--- the further sets is an ICV Indicator, and none of the types 1 to 4 comes twice
+-- a body is a Basic Parameter Set, further sets, and the header of an ICV Indicator or nothing;
+-- none of the further sets is an ICV Indicator, and none of the four types before that comes twice
 pub record IsBody (body : List ℕ) (basic : Set) (others : List Set) : Type 0 where
   pub front : List ℕ
   pub middle : List ℕ
@@ -74,8 +75,8 @@ pub record IsBody (body : List ℕ) (basic : Set) (others : List Set) : Type 0 w
   pub is_basic : IsSet front basic
   pub are_others : AreSets middle others
   pub is_indicator : (indicator ≡ []) ⊎ IsIndicator indicator
-  pub no_indicator : All (λ s. s.kind ≢ 255) others
-  pub once : (k : ℕ) → 1 ≤ k → k ≤ 4 → count_by (λ s. s.kind == k) others ≤ 1
+  pub no_indicator : All (λ s. s.kind ≢ icv_indicator) others
+  pub once : (k : ℕ) → live_peers ≤ k → k ≤ distributed_sak → count_by (λ s. s.kind == k) others ≤ 1
 
 -- ---- what the sets say
 
@@ -84,17 +85,9 @@ abbrev pub the : ℕ → List Set → Set
 the k [] = record { kind = k; second = 0; flags = 0; body = [] }
 the k (s ∷ ss) = if s.kind == k then s else the k ss
 
--- an entry of a peer list
-pub record IsPeer (p : Peer) : Type 0 where
-  pub mi : length p.mi.0 ≡ 12
-  pub mn : p.mn < 2 ^ 32
-
 -- one key of a SAK Use
-pub record IsKeyUse (u : KeyUse) : Type 0 where
-  pub server : length u.server.0 ≡ 12
-  pub number : u.number < 2 ^ 32
-  pub an : u.an < 4
-  pub lowest : u.lowest < 2 ^ 32
+abbrev pub IsKeyUse : KeyUse → Type 0
+IsKeyUse u = IsKey u × (u.an < 4)
 
 -- a Live or Potential Peer List
 pub record SpellsPeers (s : Set) (ps : List Peer) : Type 0 where
@@ -106,18 +99,28 @@ abbrev pub SpellsUses : Set → Option Uses → Type 0
 SpellsUses s None = s.body ≡ []
 SpellsUses s (Some u) = (s.second ≡ uses_flags u) × (s.body ≡ uses_body u) × IsKeyUse u.latest × IsKeyUse u.old
 
--- Distributed SAK: an empty one says nothing; 28 octets are a key number and a wrapped key for GCM-AES-128;
--- of any other body the first four octets are the key number
+-- a Distributed SAK with its association number, offset and key number, and the key of its suite
+pub record IsGiving (s : Set) (an offset number : ℕ) (key : List ℕ) : Type 0 where
+  pub second : s.second / 16 ≡ given_flags an offset
+  pub two_bits : an < 4
+  pub two_more : offset < 4
+  pub four_octets : number < 2 ^ 32
+  pub body : s.body ≡ given_body number key
+
+-- a wrapped key for GCM-AES-256
+abbrev pub IsWide : List ℕ → List ℕ → Type 0
+IsWide key wrapped = (length wrapped ≡ 40) × (key ≡ gcm_aes_256 ++ wrapped)
+
+-- Distributed SAK: an empty one says nothing. A key of 24 octets is one for GCM-AES-128; any other
+-- key that isn't one for GCM-AES-256 is that of another suite
 abbrev pub SpellsGiven : Set → Option Given → Type 0
 SpellsGiven s None = s.body ≡ []
-SpellsGiven s (Some (Aes128 an offset number wrapped)) =
-    (s.second / 16 ≡ given_flags an offset) × (an < 4) × (offset < 4) × (number < 2 ^ 32)
-    × (length wrapped ≡ 24) × (s.body ≡ big_bytes 4 number ++ wrapped)
-SpellsGiven s (Some (Other an offset number)) =
-    (s.second / 16 ≡ given_flags an offset) × (an < 4) × (offset < 4) × (number < 2 ^ 32)
-    × (length s.body ≢ 28) × ((rest : List ℕ) × (s.body ≡ big_bytes 4 number ++ rest))
+SpellsGiven s (Some (Aes128 an offset number wrapped)) = IsGiving s an offset number wrapped × (length wrapped ≡ 24)
+SpellsGiven s (Some (Aes256 an offset number wrapped)) = (key : List ℕ) × (IsGiving s an offset number key × IsWide key wrapped)
+SpellsGiven s (Some (Other an offset number)) = (key : List ℕ) × (IsGiving s an offset number key × (length key ≢ 24) × ((wrapped : List ℕ) → IsWide key wrapped → ⊥))
 
--- the Basic Parameter Set: its second octet is the priority, and its highest flag is that of the key server
+-- the Basic Parameter Set: its second octet is the priority, and its highest flag is that of the
+-- key server
 pub record SpellsBasic (s : Set) (a : Announcement) : Type 0 where
   pub priority : s.second ≡ a.priority
   pub server : s.flags / 8 ≡ bit a.server
@@ -125,8 +128,7 @@ pub record SpellsBasic (s : Set) (a : Announcement) : Type 0 where
   pub sci : length a.sci.0 ≡ 8
   pub mi : length a.mi.0 ≡ 12
   pub mn : a.mn < 2 ^ 32
-  pub named : 1 ≤ length a.ckn
-  pub short_name : length a.ckn ≤ 32
+  pub named : IsCkn a.ckn
 
 -- a frame spells an announcement, with this many octets covered by this check value
 pub record Spells (frame : List ℕ) (a : Announcement) (covered : ℕ) (check : List ℕ) : Type 0 where
@@ -140,14 +142,15 @@ pub record Spells (frame : List ℕ) (a : Announcement) (covered : ℕ) (check :
   pub checked : check ≡ parts.check
   pub source : a.source.0 ≡ parts.source
   pub says : SpellsBasic basic a
-  pub live : SpellsPeers (the 1 others) a.live
-  pub potential : SpellsPeers (the 2 others) a.potential
-  pub uses : SpellsUses (the 3 others) a.uses
-  pub given : SpellsGiven (the 4 others) a.given
+  pub live : SpellsPeers (the live_peers others) a.live
+  pub potential : SpellsPeers (the potential_peers others) a.potential
+  pub uses : SpellsUses (the sak_use others) a.uses
+  pub given : SpellsGiven (the distributed_sak others) a.given
 
--- a number of 32 bits, and 24 octets of wrapped key
+-- a number of 32 bits, and the octets of the wrapped key
 abbrev pub IsGiven : Given → Type 0
 IsGiven (Aes128 an offset number wrapped) = (number < 2 ^ 32) × (length wrapped ≡ 24)
+IsGiven (Aes256 an offset number wrapped) = (number < 2 ^ 32) × (length wrapped ≡ 40)
 IsGiven (Other an offset number) = number < 2 ^ 32
 
 -- the values of an announcement are in the ranges of their types
@@ -157,5 +160,5 @@ pub record IsOfItsTypes (a : Announcement) : Type 0 where
   pub mn : a.mn < 2 ^ 32
   pub live : All IsPeer a.live
   pub potential : All IsPeer a.potential
-  pub uses : IfSome a.uses (λ u. (length u.latest.server.0 ≡ 12) × (u.latest.number < 2 ^ 32) × (u.latest.lowest < 2 ^ 32) × (length u.old.server.0 ≡ 12) × (u.old.number < 2 ^ 32) × (u.old.lowest < 2 ^ 32))
+  pub uses : IfSome a.uses (λ u. IsKey u.latest × IsKey u.old)
   pub given : IfSome a.given IsGiven

@@ -1,7 +1,7 @@
 pub mod Sets
-pub mod Written
-pub mod Room
 pub mod Frames
 pub mod Refusals
 pub mod Fields
 pub mod Reading
+pub mod Written
+pub mod inside

@@ -1,30 +1,14 @@
 -- Reading a frame from front to back: what it spells, or the first refusal.
-use Rattle.std.specs.Prelude.{◌≡◌, ℕ, zero, suc, ◌-◌, Bool, not, ◌||◌, ◌==◌, is_some, ◌&&◌, if◌then◌else◌, List, length, take, drop, slice_index, Option, Some, None, Result, Ok, Err}
+use Rattle.std.specs.Prelude.{ℕ, zero, suc, ◌-◌, not, ◌||◌, ◌==◌, is_some, if◌then◌else◌, List, length, take, drop, Option, Some, None, Result, Ok, Err}
 use Rattle.lan_base.specs.declared.address.Mac.{Mac}
 use Rattle.mkpdu_codec.specs.declared.announcement.Announcement.{Announcement}
-use Rattle.mkpdu_codec.specs.declared.found.Found.{Found}
-use Rattle.mkpdu_codec.specs.declared.reading.Parts.{Parts}
 use Rattle.mkpdu_codec.specs.declared.refusal.Refusal.{Refusal}
-use Rattle.mkpdu_codec.specs.declared.refusal.Refusal.TheVariants.{NotMka, Short, Shape, Repeated, Agility, Memory}
-use Rattle.mkpdu_codec.specs.declared.set.ParameterSet.{ParameterSet}
+use Rattle.mkpdu_codec.specs.declared.refusal.Refusal.TheVariants.{NotMka, Short, Shape, Repeated, Agility}
 use Rattle.mkpdu_codec.specs.declared.spelled.Spelled.{Spelled}
 use Rattle.mkpdu_codec.specs.Frames.{Set}
-use Rattle.mkpdu_codec.specs.Refusals.{is_mka, is_long_enough, check_place, sets_of, is_indicator, is_length_of}
-use Rattle.mkpdu_codec.specs.Fields.{set_of, set_at, Basics, basic_at, peers_in, uses_in, given_in}
-
--- an error is the one that reading gives, unless memory ran out
-abbrev pub Fails : {Y : Type 0} → Refusal → Result Y Refusal → Type 0
-Fails NotMka read = read ≡ Err NotMka
-Fails Short read = read ≡ Err Short
-Fails (Shape at) read = read ≡ Err (Shape at)
-Fails (Repeated kind) read = read ≡ Err (Repeated kind)
-Fails Agility read = read ≡ Err Agility
-Fails Memory read = Unit {0}
-
--- what a function of the code answered, seen by view, is what reading gives, unless memory ran out
-abbrev pub Gives : {X Y : Type 0} → (X → Y) → Result X Refusal → Result Y Refusal → Type 0
-Gives view (Ok x) read = read ≡ Ok (view x)
-Gives view (Err e) read = Fails e read
+use Rattle.mkpdu_codec.specs.Sets.{check_length}
+use Rattle.mkpdu_codec.specs.Refusals.{is_mka, is_long_enough, check_place, sets_of, is_indicator, is_length_of, is_known}
+use Rattle.mkpdu_codec.specs.Fields.{set_at, Basics, basic_at, peers_in, uses_in, given_in}
 
 infixl 10 ◌>>=◌
 abbrev pub ◌>>=◌ : {A B : Type 0} → Result A Refusal → (A → Result B Refusal) → Result B Refusal
@@ -33,22 +17,19 @@ abbrev pub ◌>>=◌ : {A B : Type 0} → Result A Refusal → (A → Result B R
 
 -- ---- the frame's header
 
--- the parts of a frame that are read: source, the octets of the sets, how many octets stand before the
--- check value, and the check value
+-- the parts of a frame that are read: source, the octets of the sets, how many octets stand before
+-- the check value, and the check value
 pub record Inner : Type 0 where
   pub source : Mac
   pub sets : List ℕ
   pub covered : ℕ
   pub check : List ℕ
 
-abbrev pub inner_of : Parts → Inner
-inner_of p = record { source = p.source; sets = p.sets.now; covered = p.covered; check = p.check }
-
 unfoldable pub parts_at : List ℕ → Result Inner Refusal
 parts_at frame =
     if not (is_mka frame) then Err NotMka else
     if not (is_long_enough frame) then Err Short else
-    Ok (record { source = record { 0 = take 6 (drop 6 frame) }; sets = sets_of frame; covered = check_place frame; check = take 16 (drop (check_place frame) frame) })
+    Ok (record { source = record { 0 = take 6 (drop 6 frame) }; sets = sets_of frame; covered = check_place frame; check = take check_length (drop (check_place frame) frame) })
 
 -- ---- the sets behind the Basic Parameter Set
 
@@ -58,13 +39,6 @@ pub record Gathered : Type 0 where
   pub potential : Option Set
   pub uses : Option Set
   pub given : Option Set
-
-abbrev pub seen : Option ParameterSet → Option Set
-seen None = None
-seen (Some s) = Some (set_of s)
-
-abbrev pub gathered_of : Found → Gathered
-gathered_of f = record { live = seen f.live; potential = seen f.potential; uses = seen f.uses; given = seen f.given }
 
 abbrev pub nothing : Gathered
 nothing = record { live = None; potential = None; uses = None; given = None }
@@ -86,7 +60,8 @@ with_length at (Some x) = if is_length_of x.0.kind (length x.0.body) then Ok x e
 unfoldable pub shaped_at : ℕ → List ℕ → Result (Set × List ℕ) Refusal
 shaped_at end octets = with_length (end - length octets) (set_at octets)
 
--- the sets of the octets that are left, of which there are at most so many; the check value begins at `end`
+-- the sets of the octets that are left, of which there are at most so many; the check value begins
+-- at `end`
 unfoldable pub gathered : ℕ → ℕ → Gathered → List ℕ → Result Gathered Refusal
 gathered zero end g octets = Ok g
 gathered (suc n) end g octets = if (length octets == 0) || is_indicator octets then Ok g else do
@@ -115,10 +90,6 @@ announcement_of source b g = record {
   uses = uses_in g.uses;
   given = given_in g.given;
 }
-
--- the agility is the one that there is
-abbrev pub is_known : List ℕ → Bool
-is_known agility = (slice_index agility 0 == 0x00) && (slice_index agility 1 == 0x80) && (slice_index agility 2 == 0xc2) && (slice_index agility 3 == 0x01)
 
 unfoldable pub reading : List ℕ → Result Spelled Refusal
 reading frame = do

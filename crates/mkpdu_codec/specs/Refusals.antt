@@ -1,12 +1,13 @@
 -- The first refusal of a frame that spells no announcement.
 use Rattle.std.specs.Prelude.{ℕ, zero, suc, ◌+◌, ◌-◌, ◌*◌, ◌%◌, Bool, not, ◌&&◌, ◌||◌, ◌==◌, nat_le, if◌then◌else◌, List, [], ◌∷◌, length, take, drop, slice_index, Option, Some, None}
-use Rattle.std.specs.List.{list_any}
+use Rattle.std.specs.List.{list_any, starts_with}
 use Rattle.byteorder.specs.Endian.{big_number}
 use Rattle.mkpdu_codec.specs.declared.refusal.Refusal.{Refusal}
 use Rattle.mkpdu_codec.specs.declared.refusal.Refusal.TheVariants.{NotMka, Short, Shape, Repeated, Agility}
-use Rattle.mkpdu_codec.specs.Sets.{missing}
+use Rattle.mkpdu_codec.specs.Sets.{set_length, agility, check_length, live_peers, potential_peers, sak_use, distributed_sak, icv_indicator}
 
--- 18 octets of header, a group address as destination, the EtherType of EAPOL, and the packet type of MKA
+-- 18 octets of header, a group address as destination, the EtherType of EAPOL, and the packet type
+-- of MKA
 abbrev pub is_mka : List ℕ → Bool
 is_mka frame =
     nat_le 18 (length frame) && (slice_index frame 12 == 0x88) && (slice_index frame 13 == 0x8e)
@@ -23,11 +24,11 @@ is_long_enough frame =
 
 -- where the check value begins
 abbrev pub check_place : List ℕ → ℕ
-check_place frame = 2 + body_length frame
+check_place frame = 18 + (body_length frame - check_length)
 
 -- the octets of the sets, up to the check value
 abbrev pub sets_of : List ℕ → List ℕ
-sets_of frame = take (body_length frame - 16) (drop 18 frame)
+sets_of frame = take (body_length frame - check_length) (drop 18 frame)
 
 -- the type of the set that stands in front
 abbrev pub front_kind : List ℕ → ℕ
@@ -39,7 +40,7 @@ front_length octets = slice_index octets 2 % 16 * 256 + slice_index octets 3
 
 -- how many octets it has, with its header and its padding
 abbrev pub front_size : List ℕ → ℕ
-front_size octets = 4 + front_length octets + missing (front_length octets)
+front_size octets = set_length (front_length octets)
 
 -- it ends at or before the check value
 abbrev pub is_whole : List ℕ → Bool
@@ -47,23 +48,23 @@ is_whole octets = nat_le (front_size octets) (length octets)
 
 -- the header of an ICV Indicator stands directly before the check value
 abbrev pub is_indicator : List ℕ → Bool
-is_indicator octets = (length octets == 4) && (front_kind octets == 255) && (front_length octets == 16)
+is_indicator octets = (length octets == 4) && (front_kind octets == icv_indicator) && (front_length octets == check_length)
 
 -- the lengths that a type allows; a set of the ICV Indicator's type allows none here
 abbrev pub is_length_of : ℕ → ℕ → Bool
 is_length_of kind n =
-    if (kind == 1) || (kind == 2) then n % 16 == 0 else
-    if kind == 3 then (n == 0) || (n == 40) else
-    if kind == 4 then (n == 0) || nat_le 4 n else
-    not (kind == 255)
+    if (kind == live_peers) || (kind == potential_peers) then n % 16 == 0 else
+    if kind == sak_use then (n == 0) || (n == 40) else
+    if kind == distributed_sak then (n == 0) || nat_le 4 n else
+    not (kind == icv_indicator)
 
 -- the types of which there is at most one set
 abbrev pub is_single : ℕ → Bool
-is_single kind = nat_le 1 kind && nat_le kind 4
+is_single kind = nat_le live_peers kind && nat_le kind distributed_sak
 
--- the first refusal of the sets that are left, where the check value begins at `end` and sets of the
--- types `met` went before: of one set first its shape, and then that it is a second one. The count bounds
--- how many sets there can be.
+-- the first refusal of the sets that are left, where the check value begins at `end` and sets of
+-- the types `met` went before: of one set first its shape, and then that it is a second one. The
+-- count bounds how many sets there can be.
 unfoldable pub refused_sets : ℕ → ℕ → List ℕ → List ℕ → Option Refusal
 refused_sets zero end met octets = None
 refused_sets (suc n) end met octets =
@@ -72,14 +73,17 @@ refused_sets (suc n) end met octets =
     if is_single (front_kind octets) && list_any (λ kind. kind == front_kind octets) met then Some (Repeated (front_kind octets)) else
     refused_sets n end (front_kind octets ∷ met) (drop (front_size octets) octets)
 
+-- the length of a Basic Parameter Set: its fixed fields, and a name of 1 to 32 octets
+abbrev pub is_basic_length : ℕ → Bool
+is_basic_length n = nat_le 29 n && nat_le n 60
+
 -- the Basic Parameter Set ends before the check value, and has a name of 1 to 32 octets
 abbrev pub is_basic : List ℕ → Bool
-is_basic octets = is_whole octets && (nat_le 29 (front_length octets) && nat_le (front_length octets) 60)
+is_basic octets = is_whole octets && is_basic_length (front_length octets)
 
--- the agility that the Basic Parameter Set states
-abbrev pub is_agile : List ℕ → Bool
-is_agile octets =
-    (slice_index octets 28 == 0x00) && (slice_index octets 29 == 0x80) && (slice_index octets 30 == 0xc2) && (slice_index octets 31 == 0x01)
+-- the octets begin with the one algorithm agility that there is
+abbrev pub is_known : List ℕ → Bool
+is_known octets = starts_with (λ a b. a == b) octets agility
 
 -- the octets of the sets behind it
 abbrev pub others_of : List ℕ → List ℕ
@@ -96,4 +100,4 @@ refused frame =
     if not (is_long_enough frame) then Some Short else
     if not (is_basic (sets_of frame)) then Some (Shape 18) else
     or_else (refused_sets (length (others_of frame)) (check_place frame) [] (others_of frame))
-    (if is_agile (sets_of frame) then None else Some Agility)
+    (if is_known (drop 28 (sets_of frame)) then None else Some Agility)

@@ -1,10 +1,30 @@
 -- The parameter sets of an MKA frame (IEEE Std 802.1X, clause 11), as octets.
-use Rattle.std.specs.Prelude.{ℕ, ◌+◌, ◌-◌, ◌*◌, ◌/◌, ◌%◌, Bool, true, false, List, [], ◌∷◌, ◌++◌, length, replicate}
+use Rattle.std.specs.Prelude.{◌≡◌, ◌<◌, ◌^◌, ℕ, ◌+◌, ◌-◌, ◌*◌, ◌/◌, ◌%◌, Bool, true, false, List, [], ◌∷◌, ◌++◌, length, replicate}
 use Rattle.std.specs.List.{flat_map}
 use Rattle.byteorder.specs.Endian.{big_bytes}
 use Rattle.mkpdu_codec.specs.declared.peer.Peer.{Peer}
 use Rattle.mkpdu_codec.specs.declared.key_use.KeyUse.{KeyUse}
 use Rattle.mkpdu_codec.specs.declared.key_use.Uses.{Uses}
+
+-- the types of the sets behind the Basic Parameter Set
+abbrev pub live_peers : ℕ
+live_peers = 1
+
+abbrev pub potential_peers : ℕ
+potential_peers = 2
+
+abbrev pub sak_use : ℕ
+sak_use = 3
+
+abbrev pub distributed_sak : ℕ
+distributed_sak = 4
+
+abbrev pub icv_indicator : ℕ
+icv_indicator = 255
+
+-- how many octets the check value (ICV) has
+abbrev pub check_length : ℕ
+check_length = 16
 
 -- a flag as a bit
 abbrev pub bit : Bool → ℕ
@@ -15,8 +35,12 @@ bit true = 1
 abbrev pub missing : ℕ → ℕ
 missing n = (4 - n % 4) % 4
 
--- a set's header: its first two octets, four flags with the high four bits of the length, and the rest
--- of the length
+-- how many octets a set has whose body has n
+abbrev pub set_length : ℕ → ℕ
+set_length n = 4 + n + missing n
+
+-- a set's header: its first two octets, four flags with the high four bits of the length, and the
+-- rest of the length
 abbrev pub header : ℕ → ℕ → ℕ → ℕ → List ℕ
 header kind second flags n = kind ∷ second ∷ (flags * 16 + n / 256) ∷ (n % 256) ∷ []
 
@@ -40,7 +64,8 @@ peer p = p.mi.0 ++ big_bytes 4 p.mn
 abbrev pub peers_body : List Peer → List ℕ
 peers_body ps = flat_map peer ps
 
--- one key in the body of a SAK Use: the server, the key number and the lowest acceptable packet number
+-- one key in the body of a SAK Use: the server, the key number and the lowest acceptable packet
+-- number
 abbrev pub use_body : KeyUse → List ℕ
 use_body u = u.server.0 ++ (big_bytes 4 u.number ++ big_bytes 4 u.lowest)
 
@@ -48,18 +73,39 @@ use_body u = u.server.0 ++ (big_bytes 4 u.number ++ big_bytes 4 u.lowest)
 abbrev pub uses_body : Uses → List ℕ
 uses_body u = use_body u.latest ++ use_body u.old
 
--- one key in the second octet of a SAK Use: its association number, and whether it transmits and receives
+-- one key in the second octet of a SAK Use: its association number, and whether it transmits and
+-- receives
 abbrev pub use_flags : KeyUse → ℕ
 use_flags u = u.an * 4 + bit u.tx * 2 + bit u.rx
 
--- the second octet of a SAK Use: the latest key in the high four bits, and the old one in the low four
+-- the second octet of a SAK Use: the latest key in the high four bits, and the old one in the low
+-- four
 abbrev pub uses_flags : Uses → ℕ
 uses_flags u = use_flags u.latest * 16 + use_flags u.old
 
--- the high four bits of the second octet of a Distributed SAK: association number and confidentiality offset
+-- the high four bits of the second octet of a Distributed SAK: association number and
+-- confidentiality offset
 abbrev pub given_flags : ℕ → ℕ → ℕ
 given_flags an offset = an * 4 + offset
 
--- the body of a Distributed SAK for GCM-AES-128: key number and wrapped key
+-- the identifier of the cipher suite GCM-AES-256
+abbrev pub gcm_aes_256 : List ℕ
+gcm_aes_256 = 0x00 ∷ 0x80 ∷ 0xc2 ∷ 0x00 ∷ 0x01 ∷ 0x00 ∷ 0x00 ∷ 0x02 ∷ []
+
+-- the body of a Distributed SAK: key number, and the key of its suite. That of GCM-AES-128 is the
+-- wrapped key alone; that of another suite is the suite's identifier and the wrapped key
 abbrev pub given_body : ℕ → List ℕ → List ℕ
-given_body number wrapped = big_bytes 4 number ++ wrapped
+given_body number key = big_bytes 4 number ++ key
+
+-- ---- the ranges of their fields
+
+-- an entry of a peer list
+pub record IsPeer (p : Peer) : Type 0 where
+  pub mi : length p.mi.0 ≡ 12
+  pub mn : p.mn < 2 ^ 32
+
+-- one key of a SAK Use
+pub record IsKey (u : KeyUse) : Type 0 where
+  pub server : length u.server.0 ≡ 12
+  pub number : u.number < 2 ^ 32
+  pub lowest : u.lowest < 2 ^ 32

@@ -1,12 +1,13 @@
 -- The octets of an announcement as they are written: a whole MKA frame without its check value.
 use Rattle.std.specs.Prelude.{◌≡◌, ◌≤◌, ◌<◌, ℕ, ◌+◌, ◌*◌, List, [], ◌∷◌, ◌++◌, length, take, Option, Some, None, IfSome}
 use Rattle.byteorder.specs.Endian.{big_bytes}
+use Rattle.lan_base.specs.Ranges.{IsCkn}
 use Rattle.mkpdu_codec.specs.declared.announcement.Announcement.{Announcement}
 use Rattle.mkpdu_codec.specs.declared.given.Given.{Given}
-use Rattle.mkpdu_codec.specs.declared.given.Given.TheVariants.{Aes128, Other}
+use Rattle.mkpdu_codec.specs.declared.given.Given.TheVariants.{Aes128, Aes256, Other}
 use Rattle.mkpdu_codec.specs.declared.key_use.Uses.{Uses}
 use Rattle.mkpdu_codec.specs.declared.peer.Peer.{Peer}
-use Rattle.mkpdu_codec.specs.Sets.{bit, set, basic_body, peers_body, uses_body, uses_flags, given_body, given_flags}
+use Rattle.mkpdu_codec.specs.Sets.{sak_use, distributed_sak, live_peers, potential_peers, check_length, bit, set, basic_body, peers_body, uses_body, uses_flags, given_body, given_flags, gcm_aes_256}
 
 -- the group address that MKA frames are sent to
 abbrev pub group_address : List ℕ
@@ -28,32 +29,37 @@ peers_set kind (p ∷ ps) = set kind 0 0 (peers_body (p ∷ ps))
 -- MACsec SAK Use
 abbrev pub uses_set : Option Uses → List ℕ
 uses_set None = []
-uses_set (Some u) = set 3 (uses_flags u) 0 (uses_body u)
+uses_set (Some u) = set sak_use (uses_flags u) 0 (uses_body u)
 
--- Distributed SAK, of which only that for GCM-AES-128 is written
+-- Distributed SAK, of which those for GCM-AES-128 and GCM-AES-256 are written
 abbrev pub given_set : Option Given → List ℕ
 given_set None = []
-given_set (Some (Aes128 an offset number wrapped)) = set 4 (given_flags an offset * 16) 0 (given_body number wrapped)
+given_set (Some (Aes128 an offset number wrapped)) = set distributed_sak (given_flags an offset * 16) 0 (given_body number wrapped)
+given_set (Some (Aes256 an offset number wrapped)) = set distributed_sak (given_flags an offset * 16) 0 (given_body number (gcm_aes_256 ++ wrapped))
 given_set (Some (Other an offset number)) = []
 
 -- the sets of an announcement, in their order
 abbrev pub sets : Announcement → List ℕ
-sets a = basic_set a ++ (peers_set 1 a.live ++ (peers_set 2 a.potential ++ (uses_set a.uses ++ given_set a.given)))
+sets a = basic_set a ++ (peers_set live_peers a.live ++ (peers_set potential_peers a.potential ++ (uses_set a.uses ++ given_set a.given)))
 
--- the whole frame up to its check value, whose 16 octets the length counts
+-- the whole frame up to its check value, whose octets the length counts
 abbrev pub written : Announcement → List ℕ
-written a = frame_header a.source.0 (length (sets a) + 16) ++ sets a
+written a = frame_header a.source.0 (length (sets a) + check_length) ++ sets a
+
+-- how many octets are written at most, with so many peers in the two lists
+abbrev pub most_written : ℕ → ℕ
+most_written peers = 190 + 16 * peers
 
 -- association numbers and offsets have two bits, and a key for another cipher isn't written
 abbrev pub IsWritableGiven : Given → Type 0
 IsWritableGiven (Aes128 an offset number wrapped) = (an < 4) × (offset < 4)
+IsWritableGiven (Aes256 an offset number wrapped) = (an < 4) × (offset < 4)
 IsWritableGiven (Other an offset number) = ⊥
 
 -- what may be written
 pub record IsWritable (a : Announcement) : Type 0 where
   pub source : a.source.0 ≡ take 6 a.sci.0
-  pub named : 1 ≤ length a.ckn
-  pub short_name : length a.ckn ≤ 32
+  pub named : IsCkn a.ckn
   pub live : length a.live ≤ 80
   pub potential : length a.potential ≤ 80
   pub uses : IfSome a.uses (λ u. (u.latest.an < 4) × (u.old.an < 4))

@@ -1,11 +1,13 @@
+//! What an MKA frame says.
+
 use crate::given::Given;
 use crate::key_use::Uses;
 use crate::peer::Peers;
 use lan_base::{Mac, Mi, Octets, Sci};
 
-/// What one MKA frame says (IEEE Std 802.1X, clause 11): who announces, with which message number, whom
-/// it hears, which keys it uses, and the key that it gives if it is the key server.
-#[derive(Debug, Drop)]
+/// What one MKA frame says (IEEE Std 802.1X, clause 11): who announces, with which message number,
+/// whom it hears, which keys it uses, and the key that it gives if it is the key server.
+#[derive(Debug, Drop, PartialEq)]
 pub struct Announcement {
     /// The source address of the frame.
     pub source: Mac,

@@ -1,13 +1,16 @@
 //! The Basic Parameter Set (IEEE Std 802.1X, clause 11): who announces.
 
 ghost use Rattle.std.specs.Prelude.{◌≡◌, ◌≤◌, ◌+◌, length, IfSome};
-ghost use Rattle.mkpdu_codec.specs.Fields.{Finds, set_of, basics_of, basic_in, basic_at};
-ghost use Rattle.mkpdu_codec.specs.Room.{HasRoom, Puts};
+ghost use Rattle.mkpdu_codec.specs.Fields.{basic_in, basic_at};
+ghost use Rattle.mkpdu_codec.specs.Refusals.{is_basic_length};
+ghost use Rattle.mkpdu_codec.specs.inside.Room.{HasRoom, Puts};
 ghost use Rattle.mkpdu_codec.specs.Sets.{basic_body};
 ghost use Rattle.mkpdu_codec.specs.Written.{basic_set};
+ghost use Rattle.mkpdu_codec.specs.inside.Views.{Finds, set_of, basics_of};
 
 use crate::announcement::Announcement;
 use crate::fields::{read_mi, read_number, read_sci};
+use crate::layout::AGILITY;
 use crate::room::put;
 use crate::set::{ParameterSet, put_header, put_padding, read_set, set_len};
 use lan_base::{Mi, Sci};
@@ -23,9 +26,6 @@ pub struct Basic<'a> {
     pub agility: [u8; 4],
     pub ckn: &'a [u8],
 }
-
-/// The algorithm agility of the one set of algorithms that there is.
-const AGILITY: [u8; 4] = [0x00, 0x80, 0xc2, 0x01];
 
 /// How many octets stand in the body before the name of the connectivity association key.
 fn fixed_len(sci: Sci, mi: Mi) -> usize
@@ -48,11 +48,12 @@ fn body_len(announcement: &Announcement) -> usize
 pub fn basic_len(announcement: &Announcement) -> usize
     requires { length announcement.now.ckn ≤ 32 }
     ensures value { result ≡ length (basic_set announcement.now) }
-    ensures most { result ≤ 67 }
+    ensures most { result ≤ 64 }
 {
     set_len(body_len(announcement))
 }
 
+/// Writes the body: SCI, member identifier, message number, agility, and the name of the key.
 #[tactic(auto, using(crate::proofs::Rooms::room_in_front, crate::proofs::Rooms::room_behind, crate::proofs::Rooms::put_then))]
 fn put_body(announcement: &Announcement, into: &mut Vec<u8>)
     requires { HasRoom into.old (basic_body announcement.now.sci.0 announcement.now.mi.0 announcement.now.mn announcement.now.ckn) }
@@ -79,11 +80,19 @@ pub fn put_basic(announcement: &Announcement, into: &mut Vec<u8>)
     put_padding(len, into);
 }
 
+/// The length of a body: its fixed fields, and a name of 1 to 32 octets.
+fn is_basic_len(len: usize) -> bool
+    ensures { result ≡ is_basic_length len }
+{
+    (29..=60).contains(&len)
+}
+
+/// What the body of a set says, if its length allows.
 #[tactic(auto, unfolding(crate::specs::Fields::basic_in))]
 fn basic_of<'a>(set: ParameterSet<'a>) -> Option<Basic<'a>>
     ensures { Finds basics_of result (basic_in (set_of set.entry)) }
 {
-    if set.body.len() < 29 || set.body.len() > 60 {
+    if !is_basic_len(set.body.len()) {
         return None;
     }
     let (sci, rest) = read_sci(set.body)?;

@@ -1,76 +1,133 @@
 //! Distributed SAK (IEEE Std 802.1X, clause 11): the key that the key server gives.
 
-ghost use Rattle.std.specs.Prelude.{◌≡◌, ◌≤◌, ◌<◌, ℕ, IfSome, length};
-ghost use Rattle.mkpdu_codec.specs.Fields.{given_in};
-ghost use Rattle.mkpdu_codec.specs.Reading.{seen};
-ghost use Rattle.mkpdu_codec.specs.Room.{HasRoom, Puts};
-ghost use Rattle.mkpdu_codec.specs.Sets.{given_body};
+ghost use Rattle.std.specs.Prelude.{◌≡◌, ◌≤◌, ◌<◌, ◌+◌, ◌++◌, ◌*◌, ℕ, IfSome, length};
+ghost use Rattle.mkpdu_codec.specs.Fields.{given_in, key_in, wide_in};
+ghost use Rattle.mkpdu_codec.specs.inside.Room.{HasRoom, Puts};
+ghost use Rattle.mkpdu_codec.specs.Sets.{given_body, given_flags, gcm_aes_256, set, set_length};
 ghost use Rattle.mkpdu_codec.specs.Written.{given_set, IsWritableGiven};
+ghost use Rattle.mkpdu_codec.specs.inside.Views.{Finds, seen};
 
 use crate::fields::read_number;
 use crate::given::Given;
+use crate::layout::DISTRIBUTED_SAK;
 use crate::room::put;
-use crate::set::{ParameterSet, put_header, set_len};
+use crate::set::{ParameterSet, put_header, put_padding, set_len};
 
-/// How many octets the body has.
-fn body_len(wrapped: [u8; 24]) -> usize
-    ensures value { (number : ℕ) → result ≡ length (given_body number wrapped) }
-    ensures fixed { result ≡ 28 }
+/// The identifier of the cipher suite GCM-AES-256.
+const GCM_AES_256: [u8; 8] = [0x00, 0x80, 0xc2, 0x00, 0x01, 0x00, 0x00, 0x02];
+
+/// How many octets the set has, by those of the suite's identifier and of the wrapped key.
+fn len_of(suite: &[u8], wrapped: &[u8]) -> usize
+    requires { length suite.now + length wrapped.now < 64 }
+    ensures most { result ≤ set_length (4 + length suite.now + length wrapped.now) }
+    ensures value { (number second : ℕ) → result ≡ length (set 4 second 0 (given_body number (suite.now ++ wrapped.now))) }
 {
-    4 + wrapped.len()
+    set_len(4 + suite.len() + wrapped.len())
 }
 
-/// How many octets the set has: a key for another cipher isn't written.
+/// How many octets the set has: a key for another suite isn't written.
 pub fn given_len(given: Option<Given>) -> usize
     ensures value { result ≡ length (given_set given) }
-    ensures most { result ≤ 32 }
+    ensures most { result ≤ 56 }
 {
     match given {
-        Some(Given::Aes128 { wrapped, .. }) => set_len(body_len(wrapped)),
+        Some(Given::Aes128 { wrapped, .. }) => len_of(&[], &wrapped),
+        Some(Given::Aes256 { wrapped, .. }) => len_of(&GCM_AES_256, &wrapped),
         _ => 0,
     }
 }
 
-/// Writes the set, where there is one.
+/// Writes a set: its second octet, key number, the suite's identifier, and the wrapped key.
 #[tactic(auto, using(crate::proofs::Rooms::room_in_front, crate::proofs::Rooms::room_behind, crate::proofs::Rooms::put_then))]
+fn put_key(second: u8, number: u32, suite: &[u8], wrapped: &[u8], into: &mut Vec<u8>)
+    requires short { length suite.now + length wrapped.now < 64 }
+    requires room { HasRoom into.old (set 4 second 0 (given_body number (suite.now ++ wrapped.now))) }
+    ensures { Puts into.old into.new (set 4 second 0 (given_body number (suite.now ++ wrapped.now))) }
+{
+    let len = 4 + suite.len() + wrapped.len();
+    put_header(DISTRIBUTED_SAK, second, 0, len, into);
+    put(into, &number.to_be_bytes());
+    put(into, suite);
+    put(into, wrapped);
+    put_padding(len, into);
+}
+
+/// Writes the set, where there is one.
 pub fn put_given(given: &Option<Given>, into: &mut Vec<u8>)
     requires writable { IfSome given.now IsWritableGiven }
     requires room { HasRoom into.old (given_set given.now) }
     ensures { Puts into.old into.new (given_set given.now) }
 {
-    if let Some(
-        Given::Aes128 {
+    match given {
+        Some(
+            Given::Aes128 {
+                an,
+                offset,
+                number,
+                wrapped,
+            },
+        ) => {
+            put_key((*an * 4 + *offset) * 16, *number, &[], wrapped, into);
+        }
+        Some(
+            Given::Aes256 {
+                an,
+                offset,
+                number,
+                wrapped,
+            },
+        ) => {
+            put_key(
+                (*an * 4 + *offset) * 16,
+                *number,
+                &GCM_AES_256,
+                wrapped,
+                into,
+            );
+        }
+        _ => {}
+    }
+}
+
+/// The wrapped key of a key for GCM-AES-256.
+fn wide_of(key: &[u8]) -> Option<[u8; 40]>
+    ensures { Finds (λ x. x) result (wide_in key.now) }
+{
+    if !key.starts_with(&GCM_AES_256) {
+        return None;
+    }
+    <[u8; 40]>::try_from(&key[8..]).ok()
+}
+
+/// The key behind the key number.
+fn key_of(an: u8, offset: u8, number: u32, key: &[u8]) -> Given
+    ensures { result ≡ key_in an offset number key.now }
+{
+    if let Ok(wrapped) = <[u8; 24]>::try_from(key) {
+        return Given::Aes128 {
+            an,
+            offset,
+            number,
+            wrapped,
+        };
+    }
+    match wide_of(key) {
+        Some(wrapped) => Given::Aes256 {
             an,
             offset,
             number,
             wrapped,
         },
-    ) = given
-    {
-        put_header(4, (*an * 4 + *offset) * 16, 0, body_len(*wrapped), into);
-        put(into, &number.to_be_bytes());
-        put(into, wrapped);
+        None => Given::Other { an, offset, number },
     }
 }
 
-/// The key of a set: none where there is no set, or an empty one. Of a body that isn't that of a key for
-/// GCM-AES-128 only the key number is read.
+/// The key of a set: none where there is no set, or an empty one.
 #[tactic(auto, unfolding(crate::specs::Fields::given_in))]
 pub fn given_of(set: Option<ParameterSet<'_>>) -> Option<Given>
     ensures { result ≡ given_in (seen set.entry) }
 {
     let set = set?;
-    let (number, wrapped) = read_number(set.body)?;
-    let an = set.second / 64;
-    let offset = set.second / 16 % 4;
-    let given = match <[u8; 24]>::try_from(wrapped) {
-        Ok(wrapped) => Given::Aes128 {
-            an,
-            offset,
-            number,
-            wrapped,
-        },
-        Err(_) => Given::Other { an, offset, number },
-    };
-    Some(given)
+    let (number, key) = read_number(set.body)?;
+    Some(key_of(set.second / 64, set.second / 16 % 4, number, key))
 }

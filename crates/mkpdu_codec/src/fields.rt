@@ -1,6 +1,7 @@
 //! The fields of parameter sets: a value, and the octets behind it.
 
-ghost use Rattle.mkpdu_codec.specs.Fields.{Finds, number_at, mi_at, sci_at};
+ghost use Rattle.mkpdu_codec.specs.Fields.{number_at, mi_at, sci_at};
+ghost use Rattle.mkpdu_codec.specs.inside.Views.{Finds};
 
 use byteorder::{BigEndian, ByteOrder};
 use lan_base::{Mi, Sci};

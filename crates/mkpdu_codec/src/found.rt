@@ -1,10 +1,11 @@
 //! The parameter sets behind the Basic Parameter Set.
 
 ghost use Rattle.std.specs.Prelude.{◌≡◌, ◌≤◌, length, IsTrue};
-ghost use Rattle.mkpdu_codec.specs.Fields.{set_of};
 ghost use Rattle.mkpdu_codec.specs.Refusals.{is_indicator, is_length_of};
-ghost use Rattle.mkpdu_codec.specs.Reading.{Gives, Gathered, gathered_of, nothing, placed, shaped_at, gathered};
+ghost use Rattle.mkpdu_codec.specs.Reading.{Gathered, nothing, placed, shaped_at, gathered};
+ghost use Rattle.mkpdu_codec.specs.inside.Views.{set_of, Gives, gathered_of};
 
+use crate::layout::{DISTRIBUTED_SAK, ICV_INDICATOR, LIVE_PEERS, POTENTIAL_PEERS, SAK_USE};
 use crate::refusal::Refusal;
 use crate::set::{ParameterSet, read_set};
 
@@ -24,23 +25,23 @@ fn place<'a>(found: Found<'a>, set: ParameterSet<'a>) -> Result<Found<'a>, Refus
 {
     let set_of_kind = Some(set);
     match set.kind {
-        1 if found.live.is_none() => Ok(Found {
+        LIVE_PEERS if found.live.is_none() => Ok(Found {
             live: set_of_kind,
             ..found
         }),
-        2 if found.potential.is_none() => Ok(Found {
+        POTENTIAL_PEERS if found.potential.is_none() => Ok(Found {
             potential: set_of_kind,
             ..found
         }),
-        3 if found.uses.is_none() => Ok(Found {
+        SAK_USE if found.uses.is_none() => Ok(Found {
             uses: set_of_kind,
             ..found
         }),
-        4 if found.given.is_none() => Ok(Found {
+        DISTRIBUTED_SAK if found.given.is_none() => Ok(Found {
             given: set_of_kind,
             ..found
         }),
-        1..=4 => Err(Refusal::Repeated { kind: set.kind }),
+        LIVE_PEERS..=DISTRIBUTED_SAK => Err(Refusal::Repeated { kind: set.kind }),
         _ => Ok(found),
     }
 }
@@ -50,10 +51,10 @@ fn is_length_of_kind(kind: u8, len: usize) -> bool
     ensures { result ≡ is_length_of kind len }
 {
     match kind {
-        1 | 2 => len % 16 == 0,
-        3 => len == 0 || len == 40,
-        4 => len == 0 || len >= 4,
-        255 => false,
+        LIVE_PEERS | POTENTIAL_PEERS => len % 16 == 0,
+        SAK_USE => len == 0 || len == 40,
+        DISTRIBUTED_SAK => len == 0 || len >= 4,
+        ICV_INDICATOR => false,
         _ => true,
     }
 }
@@ -77,7 +78,7 @@ fn is_icv_indicator(octets: &[u8]) -> bool
     ensures { result ≡ is_indicator octets.now }
 {
     match octets {
-        [255, _, third, 16] => third % 16 == 0,
+        [ICV_INDICATOR, _, third, 16] => third % 16 == 0,
         _ => false,
     }
 }

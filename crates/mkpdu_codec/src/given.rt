@@ -1,6 +1,8 @@
-/// The Distributed SAK parameter set (IEEE Std 802.1X, clause 11): a key that the key server gives, under
-/// its association number, with its confidentiality offset (0 none, 1 for 0 octets, 2 for 30, 3 for 50)
-/// and its key number.
+//! The key that a key server gives.
+
+/// The Distributed SAK parameter set (IEEE Std 802.1X, clause 11): a key that the key server gives,
+/// under its association number, with its confidentiality offset (0 none, 1 for 0 octets, 2 for 30,
+/// 3 for 50) and its key number.
 #[derive(Clone, Copy, Debug, PartialEq, Eq)]
 pub enum Given {
     /// A key for GCM-AES-128, wrapped under the key encrypting key.
@@ -10,7 +12,14 @@ pub enum Given {
         number: u32,
         wrapped: [u8; 24],
     },
-    /// A set of another length, of which only the key number is read.
+    /// A key for GCM-AES-256, wrapped under the key encrypting key.
+    Aes256 {
+        an: u8,
+        offset: u8,
+        number: u32,
+        wrapped: [u8; 40],
+    },
+    /// A key for another cipher suite, of which only the key number is read.
     Other {
         an: u8,
         offset: u8,

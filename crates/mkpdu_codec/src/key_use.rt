@@ -3,8 +3,8 @@
 use lan_base::Mi;
 
 /// The use of one key: its identifier and association number, whether its announcer transmits and
-/// receives with it, and the lowest packet number that the announcer accepts under it. All fields of a
-/// key that is not held are zero.
+/// receives with it, and the lowest packet number that the announcer accepts under it. All fields
+/// of a key that is not held are zero.
 #[derive(Clone, Copy, Debug, PartialEq, Eq)]
 pub struct KeyUse {
     pub server: Mi,

@@ -1,6 +1,6 @@
 //! Laws of the spelling of frames.
 
-ghost use Rattle.std.specs.Prelude.{◌≡◌, ◌↔◌, ◌<◌, ◌++◌, ◌⊎◌, ℕ, List, length, slice_index, take, Some, None, Ok, Err};
+ghost use Rattle.std.specs.Prelude.{◌≡◌, ◌↔◌, ◌<◌, ◌++◌, ◌⊎◌, ◌+◌, ℕ, List, length, take, Some, None, Ok, Err, All};
 ghost use Rattle.mkpdu_codec.specs.declared.announcement.Announcement.{Announcement};
 ghost use Rattle.mkpdu_codec.specs.declared.refusal.Refusal.{Refusal};
 ghost use Rattle.mkpdu_codec.specs.declared.spelled.Spelled.{Spelled};
@@ -32,15 +32,21 @@ pub fn law_never_both()
         → Spells frame a covered check → refused frame ≡ None }
 {}
 
-/// What a frame spells lies in the covered octets and the check value.
+/// The covered octets alone decide what a frame spells, and how many they are.
 pub fn law_covered_octets_decide()
     ensures { (frame other : List ℕ) (a b : Announcement) (m n : ℕ) (c d : List ℕ)
-        → Spells frame a m c → Spells other b n d → take m frame ≡ take n other → c ≡ d → a ≡ b }
+        → Spells frame a m c → Spells other b n d → take m frame ≡ take n other → (a ≡ b) × (m ≡ n) }
+{}
+
+/// What stands behind the check value is ignored.
+pub fn law_octets_behind_are_ignored()
+    ensures { (frame behind check : List ℕ) (a : Announcement) (covered : ℕ)
+        → Spells frame a covered check → Spells (take (covered + 16) frame ++ behind) a covered check }
 {}
 
 /// Each frame spells an announcement, or has a first refusal.
 pub fn law_spelled_or_refused()
-    ensures { (frame : List ℕ) → ((i : ℕ) → slice_index frame i < 256)
+    ensures { (frame : List ℕ) → All (λ o. o < 256) frame
         → ((a : Announcement) × ((covered : ℕ) × ((check : List ℕ) × Spells frame a covered check)))
         ⊎ ((e : Refusal) × (refused frame ≡ Some e)) }
 {}
@@ -53,6 +59,6 @@ pub fn law_written_is_spelled()
 
 /// What reading a frame gives, the frame spells.
 pub fn law_read_is_spelled()
-    ensures { (frame : List ℕ) (s : Spelled) → ((i : ℕ) → slice_index frame i < 256)
+    ensures { (frame : List ℕ) (s : Spelled) → All (λ o. o < 256) frame
         → reading frame ≡ Ok s → Spells frame s.announcement s.covered s.check }
 {}

@@ -1,4 +1,5 @@
-//! MKA frames (IEEE Std 802.1X, clause 11): what an announcement of key agreement says, and its octets.
+//! MKA frames (IEEE Std 802.1X, clause 11): what an announcement of key agreement says, and its
+//! octets.
 #![tactic(auto)]
 
 mod announcement;
@@ -9,6 +10,7 @@ mod found;
 mod given;
 mod key_use;
 mod laws;
+mod layout;
 mod peer;
 mod peer_list;
 mod reading;
@@ -23,14 +25,15 @@ pub use announcement::Announcement;
 pub use given::Given;
 pub use key_use::{KeyUse, Uses};
 pub use laws::{
-    law_covered_octets_decide, law_never_both, law_one_spelling, law_read_is_spelled,
-    law_reading_refuses, law_spelled_is_read, law_spelled_or_refused, law_written_is_spelled,
+    law_covered_octets_decide, law_never_both, law_octets_behind_are_ignored, law_one_spelling,
+    law_read_is_spelled, law_reading_refuses, law_spelled_is_read, law_spelled_or_refused,
+    law_written_is_spelled,
 };
 pub use peer::{Peer, Peers};
 pub use reading::read;
 pub use refusal::Refusal;
 pub use spelled::Spelled;
-pub use writing::write;
+pub use writing::{write, written_len};
 
 #[cfg(test)]
 mod tests;

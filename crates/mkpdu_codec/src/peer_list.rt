@@ -1,12 +1,13 @@
-//! The Live Peer List and the Potential Peer List (IEEE Std 802.1X, clause 11): whom the announcer hears.
+//! The Live Peer List and the Potential Peer List (IEEE Std 802.1X, clause 11): whom the announcer
+//! hears.
 
-ghost use Rattle.std.specs.Prelude.{◌≡◌, ◌≤◌, ◌<◌, ◌*◌, length};
+ghost use Rattle.std.specs.Prelude.{◌≡◌, ◌≤◌, ◌<◌, ◌+◌, ◌*◌, length};
 ghost use Rattle.std.specs.Prelude.{IfOk};
-ghost use Rattle.mkpdu_codec.specs.Fields.{Finds, set_of, entry_at, entries_at, peers_in};
-ghost use Rattle.mkpdu_codec.specs.Reading.{seen};
-ghost use Rattle.mkpdu_codec.specs.Room.{HasRoom, Puts};
+ghost use Rattle.mkpdu_codec.specs.Fields.{entry_at, entries_at, peers_in};
+ghost use Rattle.mkpdu_codec.specs.inside.Room.{HasRoom, Puts};
 ghost use Rattle.mkpdu_codec.specs.Sets.{peer, peers_body};
 ghost use Rattle.mkpdu_codec.specs.Written.{peers_set};
+ghost use Rattle.mkpdu_codec.specs.inside.Views.{Finds, set_of, seen};
 
 use crate::fields::{read_mi, read_number};
 use crate::peer::{Peer, Peers};
@@ -39,7 +40,7 @@ fn body_len(peers: &[Peer]) -> usize
 pub fn peers_len(kind: u8, peers: &Peers) -> usize
     requires { length peers.now ≤ 80 }
     ensures value { result ≡ length (peers_set kind peers.now) }
-    ensures most { result ≤ 1284 }
+    ensures most { result ≤ 4 + 16 * length peers.now }
 {
     if peers.is_empty() {
         return 0;
@@ -47,6 +48,7 @@ pub fn peers_len(kind: u8, peers: &Peers) -> usize
     set_len(body_len(peers.as_slice()))
 }
 
+/// Writes an entry: a member identifier and a message number.
 #[tactic(auto, using(crate::proofs::Rooms::room_in_front, crate::proofs::Rooms::room_behind, crate::proofs::Rooms::put_then))]
 fn put_entry(entry: Peer, into: &mut Vec<u8>)
     requires { HasRoom into.old (peer entry) }
@@ -56,6 +58,7 @@ fn put_entry(entry: Peer, into: &mut Vec<u8>)
     put(into, &entry.mn.to_be_bytes());
 }
 
+/// Writes the entries, one after the other.
 fn put_body(peers: &[Peer], into: &mut Vec<u8>)
     requires { HasRoom into.old (peers_body peers.now) }
     ensures { Puts into.old into.new (peers_body peers.now) }
@@ -89,6 +92,7 @@ fn read_entry(octets: &[u8]) -> Option<(Peer, &[u8])>
     Some((Peer { mi, mn }, rest))
 }
 
+/// Reads the entries, into memory of their own.
 fn read_entries(alloc: Global, octets: &[u8]) -> Result<Peers, AllocError>
     ensures { IfOk result (λ ps. ps ≡ entries_at (length octets.now) octets.now) }
 {

@@ -1,31 +1,28 @@
 //! Octets of a frame as an announcement.
 
-ghost use Rattle.std.specs.Prelude.{◌≡◌, ◌≤◌, ◌<◌, ◌^◌, ◌+◌, ◌⊎◌, ℕ, List, length, IfOk, Some, Ok, Err};
+ghost use Rattle.std.specs.Prelude.{◌≡◌, ◌≢◌, ◌↔◌, ◌≤◌, ◌<◌, ◌^◌, ◌+◌, ◌⊎◌, ℕ, List, length, IfOk, Some, None, Ok, Err};
 ghost use Rattle.mkpdu_codec.specs.declared.announcement.Announcement.{Announcement};
 ghost use Rattle.mkpdu_codec.specs.declared.refusal.Refusal.{Refusal};
 ghost use Rattle.mkpdu_codec.specs.Frames.{Spells};
-ghost use Rattle.mkpdu_codec.specs.Reading.{Gives, inner_of, parts_at, is_known, reading};
-ghost use Rattle.mkpdu_codec.specs.Refusals.{is_mka, is_long_enough, body_length, refused};
+ghost use Rattle.mkpdu_codec.specs.Reading.{parts_at, reading};
+ghost use Rattle.mkpdu_codec.specs.Refusals.{is_mka, is_long_enough, is_known, body_length, refused};
+ghost use Rattle.mkpdu_codec.specs.inside.Views.{Gives, Answers, inner_of, spelled_of};
 
 use crate::announcement::Announcement;
-use crate::basic::read_basic;
+use crate::basic::{Basic, read_basic};
 use crate::distributed_sak::given_of;
-use crate::found::read_found;
+use crate::found::{Found, read_found};
+use crate::layout::{AGILITY, CHECK_LEN, HEADER_LEN};
 use crate::peer_list::peers_of;
 use crate::refusal::Refusal;
 use crate::sak_use::uses_of;
 use crate::spelled::Spelled;
 use byteorder::{BigEndian, ByteOrder};
 use lan_base::{Mac, Octets};
-use std::alloc::Global;
+use std::alloc::{AllocError, Global};
 
-/// The octets before the parameter sets: addresses, EtherType and EAPOL header.
-const HEADER_LEN: usize = 18;
-
-/// The octets of a check value.
-const CHECK_LEN: usize = 16;
-
-/// The parts of a frame that are read: source address, the octets of the parameter sets, and check value.
+/// The parts of a frame that are read: source address, the octets of the parameter sets, and check
+/// value.
 #[derive(Clone, Copy, Debug)]
 pub struct Parts<'a> {
     pub source: Mac,
@@ -88,16 +85,25 @@ fn read_parts(frame: &[u8]) -> Result<Parts<'_>, Refusal>
     })
 }
 
+/// What a frame says, in the frame's own memory.
+#[derive(Clone, Copy, Debug)]
+pub struct Borrowed<'a> {
+    pub parts: Parts<'a>,
+    pub basic: Basic<'a>,
+    pub found: Found<'a>,
+}
+
 /// The agility is that of the one set of algorithms that there is.
 fn is_known_agility(agility: [u8; 4]) -> bool
     ensures { result ≡ is_known agility }
 {
-    matches!(agility, [0x00, 0x80, 0xc2, 0x01])
+    agility.starts_with(&AGILITY)
 }
 
+/// Reads a frame without taking memory.
 #[tactic(auto, unfolding(crate::specs::Reading::reading))]
-fn spelled(alloc: Global, frame: &[u8]) -> Result<Spelled, Refusal>
-    ensures { Gives (λ s. s) result (reading frame.now) }
+fn read_in_place(frame: &[u8]) -> Result<Borrowed<'_>, Refusal>
+    ensures { Gives spelled_of result (reading frame.now) }
 {
     let parts = read_parts(frame)?;
     let (basic, rest) = read_basic(parts.sets).ok_or(Refusal::Shape { at: HEADER_LEN })?;
@@ -105,9 +111,22 @@ fn spelled(alloc: Global, frame: &[u8]) -> Result<Spelled, Refusal>
     if !is_known_agility(basic.agility) {
         return Err(Refusal::Agility);
     }
-    let ckn = Octets::from_slice(alloc, basic.ckn)?;
-    let live = peers_of(alloc, found.live)?;
-    let potential = peers_of(alloc, found.potential)?;
+    Ok(Borrowed {
+        parts,
+        basic,
+        found,
+    })
+}
+
+/// What a frame says, in memory of its own.
+fn owned(alloc: Global, borrowed: Borrowed<'_>) -> Result<Spelled, AllocError>
+    ensures { IfOk result (λ s. s ≡ spelled_of borrowed.entry) }
+{
+    let Borrowed {
+        parts,
+        basic,
+        found,
+    } = borrowed;
     let announcement = Announcement {
         source: parts.source,
         priority: basic.priority,
@@ -115,9 +134,9 @@ fn spelled(alloc: Global, frame: &[u8]) -> Result<Spelled, Refusal>
         sci: basic.sci,
         mi: basic.mi,
         mn: basic.mn,
-        ckn,
-        live,
-        potential,
+        ckn: Octets::from_slice(alloc, basic.ckn)?,
+        live: peers_of(alloc, found.live)?,
+        potential: peers_of(alloc, found.potential)?,
         uses: uses_of(found.uses),
         given: given_of(found.given),
     };
@@ -128,22 +147,25 @@ fn spelled(alloc: Global, frame: &[u8]) -> Result<Spelled, Refusal>
     })
 }
 
-/// Reads a frame: what it spells, or the first refusal. Want of memory says nothing of the frame.
+/// Reads a frame. Memory is taken only for one without a refusal.
+fn spelled(alloc: Global, frame: &[u8]) -> Result<Spelled, Refusal>
+    ensures { Answers result (reading frame.now) }
+{
+    Ok(owned(alloc, read_in_place(frame)?)?)
+}
+
+/// Reads a frame: what it spells, or its first refusal.
 pub fn read(alloc: Global, frame: &[u8]) -> Result<Spelled, Refusal>
-    // What is read is spelled so, and what is spelled so is read.
+    // What is read is spelled so, and what is spelled so is read, unless memory ran out.
     ensures found { IfOk result (λ s. Spells frame.now s.announcement s.covered s.check) }
     ensures only { (a : Announcement) (covered : ℕ) (check : List ℕ) → Spells frame.now a covered check
         → (result ≡ Ok (record { announcement = a; covered = covered; check = check }))
         ⊎ (result ≡ Err Refusal.Memory) }
 
-    // A refusal is the first one of the frame.
-    ensures refusal { (e : Refusal) → result ≡ Err e
-        → (e ≡ Refusal.Memory) ⊎ (refused frame.now ≡ Some e) }
-    ensures refuses { (e : Refusal) → refused frame.now ≡ Some e
-        → (result ≡ Err e) ⊎ (result ≡ Err Refusal.Memory) }
-
-    // The same, by the definition that computes.
-    ensures exact { Gives (λ s. s) result (reading frame.now) }
+    // A refusal is answered exactly where it is the frame's first one, and memory is wanted only
+    // where there is none.
+    ensures refused { (e : Refusal) → e ≢ Refusal.Memory → (result ≡ Err e) ↔ (refused frame.now ≡ Some e) }
+    ensures memory { result ≡ Err Refusal.Memory → refused frame.now ≡ None }
 {
     spelled(alloc, frame)
 }

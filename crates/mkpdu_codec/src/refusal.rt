@@ -9,8 +9,8 @@ use thiserror::Error;
 /// Why a frame spells no announcement: the first of these that applies, from the front.
 #[derive(Clone, Copy, Debug, PartialEq, Eq, Error)]
 pub enum Refusal {
-    /// Not a frame of key agreement: too short for a header, another EtherType or packet type, or no
-    /// group address as destination.
+    /// Not a frame of key agreement: too short for a header, another EtherType or packet type, or
+    /// no group address as destination.
     #[error("not a frame of MACsec Key Agreement")]
     NotMka,
     /// The length of the body is below 32, no multiple of four, or more than the frame has.

@@ -1,6 +1,6 @@
 //! Appending to a vector that has room.
 
-ghost use Rattle.mkpdu_codec.specs.Room.{HasRoom, Puts};
+ghost use Rattle.mkpdu_codec.specs.inside.Room.{HasRoom, Puts};
 
 /// Appends octets that there is room for.
 pub fn put(into: &mut Vec<u8>, octets: &[u8])

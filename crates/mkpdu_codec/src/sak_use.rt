@@ -1,14 +1,15 @@
 //! MACsec SAK Use (IEEE Std 802.1X, clause 11): which keys the announcer uses.
 
 ghost use Rattle.std.specs.Prelude.{◌≡◌, ◌≤◌, ◌<◌, IfSome, length};
-ghost use Rattle.mkpdu_codec.specs.Fields.{Finds, set_of, key_at, uses_in};
-ghost use Rattle.mkpdu_codec.specs.Reading.{seen};
-ghost use Rattle.mkpdu_codec.specs.Room.{HasRoom, Puts};
+ghost use Rattle.mkpdu_codec.specs.Fields.{key_at, uses_in};
+ghost use Rattle.mkpdu_codec.specs.inside.Room.{HasRoom, Puts};
 ghost use Rattle.mkpdu_codec.specs.Sets.{use_body, use_flags, uses_body, uses_flags};
 ghost use Rattle.mkpdu_codec.specs.Written.{uses_set};
+ghost use Rattle.mkpdu_codec.specs.inside.Views.{Finds, set_of, seen};
 
 use crate::fields::{read_mi, read_number};
 use crate::key_use::{KeyUse, Uses};
+use crate::layout::SAK_USE;
 use crate::room::put;
 use crate::set::{ParameterSet, put_header, set_len};
 
@@ -40,6 +41,7 @@ fn flags_of(key: &KeyUse) -> u8
     key.an * 4 + u8::from(key.tx) * 2 + u8::from(key.rx)
 }
 
+/// Writes one key: the server, the key number, and the lowest acceptable packet number.
 #[tactic(auto, using(crate::proofs::Rooms::room_in_front, crate::proofs::Rooms::room_behind, crate::proofs::Rooms::put_then))]
 fn put_key(key: &KeyUse, into: &mut Vec<u8>)
     requires { HasRoom into.old (use_body key.now) }
@@ -50,6 +52,7 @@ fn put_key(key: &KeyUse, into: &mut Vec<u8>)
     put(into, &key.lowest.to_be_bytes());
 }
 
+/// Writes the latest key, and then the old one.
 #[tactic(auto, using(crate::proofs::Rooms::room_in_front, crate::proofs::Rooms::room_behind, crate::proofs::Rooms::put_then))]
 fn put_body(uses: &Uses, into: &mut Vec<u8>)
     requires { HasRoom into.old (uses_body uses.now) }
@@ -68,7 +71,7 @@ pub fn put_uses(uses: &Option<Uses>, into: &mut Vec<u8>)
 {
     if let Some(uses) = uses {
         let flags = flags_of(&uses.latest) * 16 + flags_of(&uses.old);
-        put_header(3, flags, 0, body_len(*uses), into);
+        put_header(SAK_USE, flags, 0, body_len(*uses), into);
         put_body(uses, into);
     }
 }

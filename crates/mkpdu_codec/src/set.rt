@@ -1,15 +1,15 @@
 //! What every parameter set has: a header of four octets, a body, and padding.
 
 ghost use Rattle.std.specs.Prelude.{◌≡◌, ◌<◌, ◌+◌, ◌*◌, ◌^◌, length, replicate};
-ghost use Rattle.mkpdu_codec.specs.Room.{HasRoom, Puts};
-ghost use Rattle.mkpdu_codec.specs.Sets.{header, missing};
-ghost use Rattle.mkpdu_codec.specs.Fields.{Finds, set_of, set_at};
-ghost use Rattle.mkpdu_codec.specs.Refusals.{is_indicator, is_length_of};
+ghost use Rattle.mkpdu_codec.specs.inside.Room.{HasRoom, Puts};
+ghost use Rattle.mkpdu_codec.specs.Sets.{header, missing, set_length};
+ghost use Rattle.mkpdu_codec.specs.Fields.{set_at};
+ghost use Rattle.mkpdu_codec.specs.inside.Views.{Finds, set_of};
 
 use crate::room::put;
 
-/// A parameter set as it stands in a frame: its type, its second octet, the four flags of its third, and
-/// its body.
+/// A parameter set as it stands in a frame: its type, its second octet, the four flags of its
+/// third, and its body.
 #[derive(Clone, Copy, Debug)]
 pub struct ParameterSet<'a> {
     pub kind: u8,
@@ -32,7 +32,7 @@ pub fn missing_after(len: usize) -> usize
 /// How many octets a set has whose body has `len`.
 pub fn set_len(len: usize) -> usize
     requires { len < 4096 }
-    ensures { result ≡ 4 + len + missing len }
+    ensures { result ≡ set_length len }
 {
     HEADER_LEN + len + missing_after(len)
 }

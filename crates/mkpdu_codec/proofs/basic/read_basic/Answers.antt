@@ -1,5 +1,5 @@
 use Rattle.std.proofs.Common.{arith}
-use Rattle.mkpdu_codec.specs.Fields.{set_of}
+use Rattle.mkpdu_codec.specs.inside.Views.{set_of}
 use Rattle.mkpdu_codec.proofs.Taking.{set_at-shorter}
 use Rattle.mkpdu_codec.proofs.basic.read_basic.Goals as goal
 

@@ -1,7 +1,6 @@
 use Rattle.std.proofs.Common.{◌∙◌, sym, arith}
+use Rattle.mkpdu_codec.specs.inside.Views.{set_of, gathered_of}
 use Rattle.std.proofs.lemmas.Result.{err_from_is_err_and}
-use Rattle.mkpdu_codec.specs.Fields.{set_of}
-use Rattle.mkpdu_codec.specs.Reading.{gathered_of}
 use Rattle.mkpdu_codec.proofs.Loops.{Goes, shaped_at-shorter, gathered_go_on, gathered_fails_shape, gathered_fails_place, gathered_end, gathered_end_at}
 use Rattle.mkpdu_codec.proofs.found.read_found.Goals as goal
 use Rattle.mkpdu_codec.proofs.found.read_found.Goals.{then-loop-rest-test+else-not-is_icv_indicator, else-loop-rest-test}

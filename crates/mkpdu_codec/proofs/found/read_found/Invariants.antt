@@ -1,5 +1,5 @@
 use Rattle.std.proofs.Common.{length, ◌≤◌}
-use Rattle.mkpdu_codec.specs.Reading.{gathered_of}
+use Rattle.mkpdu_codec.specs.inside.Views.{gathered_of}
 use Rattle.mkpdu_codec.proofs.Loops.{GatheredSoFar}
 use Rattle.mkpdu_codec.proofs.found.read_found.Given as goal
 

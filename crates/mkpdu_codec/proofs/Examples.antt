@@ -1,0 +1,46 @@
+-- The definitions, computed on a hello: an announcement that lists nobody and says nothing of keys.
+use Rattle.std.specs.Prelude.{◌≡◌, false, [], ◌∷◌, ◌++◌, replicate, Some, None, Ok}
+use Rattle.std.proofs.Common.{refl}
+use Rattle.mkpdu_codec.specs.declared.announcement.Announcement.{Announcement}
+use Rattle.mkpdu_codec.specs.declared.given.Given.TheVariants.{Aes256}
+use Rattle.mkpdu_codec.specs.Refusals.{refused, refused_sets}
+use Rattle.mkpdu_codec.specs.Fields.{number_at, mi_at, sci_at, set_at, entries_at, peers_in, uses_in, given_in, basic_in, basic_at}
+use Rattle.mkpdu_codec.specs.Reading.{parts_at, shaped_at, placed, gathered, reading}
+use Rattle.mkpdu_codec.specs.Written.{written, most_written}
+
+abbrev hello : Announcement
+hello = record {
+  source = record { 0 = 2 ∷ 0 ∷ 0 ∷ 0 ∷ 0 ∷ 0x0a ∷ [] };
+  priority = 0x10;
+  server = false;
+  sci = record { 0 = 2 ∷ 0 ∷ 0 ∷ 0 ∷ 0 ∷ 0x0a ∷ 0 ∷ 1 ∷ [] };
+  mi = record { 0 = 0 ∷ 0 ∷ 0 ∷ 0 ∷ 0 ∷ 0 ∷ 0 ∷ 0 ∷ 0 ∷ 0 ∷ 0 ∷ 1 ∷ [] };
+  mn = 1;
+  ckn = 1 ∷ 2 ∷ 3 ∷ 4 ∷ [];
+  live = [];
+  potential = [];
+  uses = None;
+  given = None;
+}
+
+hello_written : written hello ≡ 0x01 ∷ 0x80 ∷ 0xc2 ∷ 0x00 ∷ 0x00 ∷ 0x03 ∷ 0x02 ∷ 0x00 ∷ 0x00 ∷ 0x00 ∷ 0x00 ∷ 0x0a ∷ 0x88 ∷ 0x8e ∷ 0x03 ∷ 0x05 ∷ 0x00 ∷ 0x34 ∷ 0x01 ∷ 0x10 ∷ 0x60 ∷ 0x20 ∷ 0x02 ∷ 0x00 ∷ 0x00 ∷ 0x00 ∷ 0x00 ∷ 0x0a ∷ 0x00 ∷ 0x01 ∷ 0x00 ∷ 0x00 ∷ 0x00 ∷ 0x00 ∷ 0x00 ∷ 0x00 ∷ 0x00 ∷ 0x00 ∷ 0x00 ∷ 0x00 ∷ 0x00 ∷ 0x01 ∷ 0x00 ∷ 0x00 ∷ 0x00 ∷ 0x01 ∷ 0x00 ∷ 0x80 ∷ 0xc2 ∷ 0x01 ∷ 0x01 ∷ 0x02 ∷ 0x03 ∷ 0x04 ∷ []
+hello_written = refl
+
+at_most : most_written 160 ≡ 2750
+at_most = refl
+
+hello_read : reading (written hello ++ replicate 16 7) ≡ Ok (record { announcement = hello; covered = 54; check = replicate 16 7 })
+unfolding reading parts_at basic_at basic_in set_at sci_at mi_at number_at gathered peers_in entries_at uses_in given_in
+hello_read = refl
+
+hello_not_refused : refused (written hello ++ replicate 16 7) ≡ None
+unfolding refused refused_sets
+hello_not_refused = refl
+
+-- and that gives a key for GCM-AES-256
+abbrev giving : Announcement
+giving = record hello { given = Some (Aes256 2 3 5 (replicate 40 9)) }
+
+giving_read : reading (written giving ++ replicate 16 7) ≡ Ok (record { announcement = giving; covered = 110; check = replicate 16 7 })
+unfolding reading parts_at basic_at basic_in set_at sci_at mi_at number_at gathered shaped_at placed peers_in entries_at uses_in given_in
+giving_read = refl
