@@ -1,4 +1,4 @@
--- Which facts an event has to show, and which runs are legal.
+-- Which facts an event has to show, and which runs are legal (this profile's own rule).
 use Rattle.std.specs.Prelude.{◌≡◌, ◌≢◌, ◌<◌, ℕ, ◌+◌, false, if◌then◌else◌, List, [], ◌∷◌, length, slice_get, All, Option, Some, None}
 use Rattle.lan_base.specs.declared.address.Mi.{Mi}
 use Rattle.lan_core.specs.declared.event.Event.{Event}
@@ -20,7 +20,9 @@ drawn (facts.Framed number station sec octets ∷ others) = drawn others
 -- the frame that a station sends with this history, if it is time; number is the frame's
 abbrev pub announced : Settings → ℕ → Profile → Mi → List Entry → ℕ → List Fact
 announced settings s p mi past number =
-    if announces past then facts.Framed number s false (mka_frame settings (announcement settings p mi past)) ∷ [] else []
+    if announces past
+    then facts.Framed number s false (mka_frame settings (announcement settings p mi past)) ∷ []
+    else []
 
 -- what a tick shows at a station with this life; count is how many frames are on the air
 abbrev pub tick_facts : Settings → ℕ → ℕ → Option Profile → Option Life → ℕ → Option (List Fact)
@@ -41,7 +43,8 @@ expected settings r (Start name sci priority) draw = start_facts (length (statio
 expected settings r (Tick s next) draw =
     tick_facts settings s next (slice_get (stations r) s) (life s r) (length (air r))
 
--- an event may come after a run: a station that starts has a name and an SCI of its own, and no key transmits at a tick
+-- an event may come after a run: a station that starts has a name and an SCI of its own, and no key
+-- transmits at a tick
 abbrev pub IsInOrder : Run → Event → Type 0
 IsInOrder r (Start name sci priority) = All (λ p. (p.name ≢ name) × (p.sci ≢ sci)) (stations r)
 IsInOrder r (Tick s next) = (s < length (stations r)) × (next ≡ 0)
@@ -50,7 +53,8 @@ IsInOrder r (Tick s next) = (s < length (stations r)) × (next ≡ 0)
 abbrev pub IsStepped : Settings → Run → Type 0
 IsStepped settings [] = Unit {0}
 IsStepped settings (x ∷ r) =
-    IsStepped settings r × IsInOrder r x.event × (expected settings r x.event (drawn x.facts) ≡ Some x.facts)
+    IsStepped settings r × IsInOrder r x.event
+    × (expected settings r x.event (drawn x.facts) ≡ Some x.facts)
 
 -- a legal run of the group
 abbrev pub IsLegal : Settings → Run → Type 0

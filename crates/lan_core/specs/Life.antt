@@ -1,5 +1,6 @@
--- A life of a station: from its start on, and what happened in it, newest first. Its clock is the count of its
--- ticks, and what has to be remembered carries the clock of its moment.
+-- A life of a station (this profile's own rule): from its start on, and what happened in it, newest
+-- first. Its clock is the count of its ticks, and what has to be remembered carries the clock of
+-- its moment.
 use Rattle.std.specs.Prelude.{ℕ, ◌+◌, true, false, ◌==◌, if◌then◌else◌, List, [], ◌∷◌, ◌++◌, length, Option, Some, None}
 use Rattle.lan_base.specs.declared.address.Mi.{Mi}
 use Rattle.lan_core.specs.declared.event.Event.{Event}
@@ -30,10 +31,10 @@ messages (ticked ∷ h) = messages h
 messages (sent ∷ h) = messages h + 1
 
 -- the clock at which the last announcement was sent
-abbrev pub last_sent : List Entry → Option ℕ
-last_sent [] = None
-last_sent (ticked ∷ h) = last_sent h
-last_sent (sent ∷ h) = Some (clock h)
+abbrev pub last_sent_at : List Entry → Option ℕ
+last_sent_at [] = None
+last_sent_at (ticked ∷ h) = last_sent_at h
+last_sent_at (sent ∷ h) = Some (clock h)
 
 -- what a fact adds to the history
 abbrev pub entry_of : Fact → List Entry
@@ -61,8 +62,10 @@ lived facts (Some life) = Some (record { mi = life.mi; past = entries facts ++ l
 
 -- the life of station s after one more event; count is how many stations there were before it
 abbrev pub life_after : ℕ → ℕ → Event → List Fact → Option Life → Option Life
-life_after s count (Start name sci priority) facts before = if s == count then begun facts else before
-life_after s count (Tick station next) facts before = if s == station then lived facts before else before
+life_after s count (Start name sci priority) facts before =
+    if s == count then begun facts else before
+life_after s count (Tick station next) facts before =
+    if s == station then lived facts before else before
 
 -- the life of station s
 abbrev pub life : ℕ → Run → Option Life

@@ -1,4 +1,5 @@
--- A run of the group: the events, newest first, each with the facts that it showed.
+-- A run of the group (this profile's own rule): the events, newest first, each with the facts that
+-- it showed.
 use Rattle.std.specs.Prelude.{ℕ, List, [], ◌∷◌, ◌++◌}
 use Rattle.std.specs.List.{flat_map}
 use Rattle.lan_base.specs.declared.name.Name.{Name}
@@ -38,7 +39,8 @@ framed (Life station mi) = []
 framed (Ticked station at next) = []
 framed (Framed number station sec octets) = octets ∷ []
 
--- the air: every frame that was put on it, newest first, so that the frames are numbered from the back
+-- the air: every frame that was put on it, newest first, so that the frames are numbered from the
+-- back
 abbrev pub air : Run → List (List ℕ)
 air [] = []
 air (x ∷ r) = flat_map framed x.facts ++ air r

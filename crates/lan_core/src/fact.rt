@@ -54,6 +54,7 @@ impl Facts {
         }
     }
 
+    /// The facts.
     pub fn as_slice(&self) -> &[Fact]
         ensures { result.now ≡ self.now }
     {

@@ -1,12 +1,11 @@
-//! The group as a whole: its events, the facts that each event gives, and what a legal run of them is.
+//! The group as a whole: its events, the facts that each event gives, and what a legal run of them
+//! is.
 #![tactic(auto)]
 
 mod event;
 mod fact;
 mod settings;
-mod timers;
 
 pub use event::Event;
 pub use fact::{Fact, Facts};
 pub use settings::Settings;
-pub use timers::HELLO_TIME;

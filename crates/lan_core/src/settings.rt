@@ -1,3 +1,5 @@
+//! What holds for the whole group.
+
 use lan_base::Octets;
 
 /// What holds for the whole group: the connectivity association key and its name.

@@ -1,4 +1,4 @@
--- What is left in a sink when a trace ends, and why it ended.
+-- What is left in a sink when a trace ends, and why it ended (this profile's own rule).
 use Rattle.std.specs.Prelude.{◌≡◌, ℕ, ◌<◌, ◌≤◌, length, List, ◌++◌, Option, Some, None, Result, Ok, Err}
 use Rattle.lan_base.specs.Faults.{Rose}
 use Rattle.lan_base.specs.Told.{after}
@@ -11,7 +11,10 @@ use Rattle.rollover_program.specs.declared.halt.Halt.{Halt}
 use Rattle.rollover_program.specs.declared.halt.Halt.TheVariants.{Trace, ReadFault, WriteFault, Memory, Limit}
 use Rattle.rollover_program.specs.Judging.{Refused, judged}
 use Rattle.rollover_program.specs.Performing.{run_of, transcript}
-use Rattle.rollover_program.specs.declared.replay.TheConstants.{MAX_INPUT}
+
+-- an input has at most so many octets
+abbrev pub most_input_octets : ℕ
+most_input_octets = 4194304
 
 -- what is held is what was held, and then a front of the text
 pub record HoldsFront (old new : Option (List ℕ)) (text : List ℕ) : Type 0 where
@@ -51,14 +54,14 @@ halt_of_reading reading.Memory = Memory
 
 -- how a trace ends that a source told: the causes of its own, and else as it is performed
 abbrev pub IsReplayed : List ℕ → ℕ → ℕ → ℕ → ℕ → Option (List ℕ) → Option (List ℕ) → Result (Unit {0}) Halt → Type 0
-IsReplayed text read read_now before now old new (Ok done) = (length text ≤ MAX_INPUT) × IsPerformed before now old new (judged text).refused (transcript (run_of text)) (Ok done)
+IsReplayed text read read_now before now old new (Ok done) = (length text ≤ most_input_octets) × IsPerformed before now old new (judged text).refused (transcript (run_of text)) (Ok done)
 IsReplayed text read read_now before now old new (Err (Trace line kind)) =
-    (length text ≤ MAX_INPUT) × IsPerformed before now old new (judged text).refused (transcript (run_of text)) (Err (Trace line kind))
+    (length text ≤ most_input_octets) × IsPerformed before now old new (judged text).refused (transcript (run_of text)) (Err (Trace line kind))
 IsReplayed text read read_now before now old new (Err ReadFault) = new ≡ old
 IsReplayed text read read_now before now old new (Err WriteFault) =
-    (length text ≤ MAX_INPUT) × HoldsFront old new (transcript (run_of text))
+    (length text ≤ most_input_octets) × HoldsFront old new (transcript (run_of text))
 IsReplayed text read read_now before now old new (Err Memory) = HoldsFront old new (transcript (run_of text))
-IsReplayed text read read_now before now old new (Err (Limit which)) = (MAX_INPUT < length text) × (new ≡ old)
+IsReplayed text read read_now before now old new (Err (Limit which)) = (most_input_octets < length text) × (new ≡ old)
 
 -- the faults have their causes, and a limit is only that of the input
 abbrev pub HasCause : ℕ → ℕ → ℕ → ℕ → Halt → Type 0

@@ -5,7 +5,7 @@ use Rattle.mka_kdf.specs.Kdf.{ick_of}
 use Rattle.mkpdu_codec.specs.Written.{IsWritable}
 use Rattle.lan_core.specs.declared.settings.Settings.{Settings}
 use Rattle.lan_core.specs.Run.{Profile}
-use Rattle.lan_core.specs.Life.{Entry, ticked, sent, clock, last_sent}
+use Rattle.lan_core.specs.Life.{Entry, ticked, sent, clock, last_sent_at}
 use Rattle.lan_core.specs.Announcing.{announces, announcement, mka_frame}
 use Rattle.rollover_program.specs.declared.station.Station.{Station}
 
@@ -13,7 +13,7 @@ use Rattle.rollover_program.specs.declared.station.Station.{Station}
 pub record Lives (settings : Settings) (p : Profile) (mi : Mi) (past : List Entry) (station : Station) : Type 0 where
   pub ick : station.ick ≡ ick_of settings.cak settings.ckn
   pub clock : station.clock ≡ clock past
-  pub last_sent : station.last_sent ≡ last_sent past
+  pub last_sent : station.last_sent ≡ last_sent_at past
   pub announcement : station.announcement ≡ announcement settings p mi past
 
 -- the station can announce, and its numbers stay small for as long as its clock does

@@ -6,7 +6,7 @@ ghost use Rattle.rollover_program.specs.Lines.{IsFit};
 
 use crate::words::{number, octets_8, octets_16, words};
 use hex::FromHexError;
-use lan_base::{Name, Octets, Sci};
+use lan_base::{CKN_MAX, Name, Octets, Sci};
 use std::alloc::{AllocError, Global};
 
 /// One line of a trace. Its fields are the words of its form, in order.
@@ -20,11 +20,11 @@ pub enum Line {
     Tick { count: u32 },
 }
 
+/// The most octets of a line, its line feed left out.
 const MAX_LINE: usize = 4096;
 
+/// The most rounds of one tick line.
 const MAX_TICKS: u32 = 1_000_000;
-
-const MAX_CKN: usize = 32;
 
 /// The line that a text without its line feed spells, if it is one of the forms.
 #[tactic(auto, unfolding(crate::specs::Text::line_of))]
@@ -67,7 +67,7 @@ fn group(alloc: Global, word: &[u8], cak: &[u8], ckn: &[u8]) -> Result<Option<Li
         Err(FromHexError::OutOfMemory) => return Err(AllocError),
         Err(_) => return Ok(None),
     };
-    if ckn.is_empty() || ckn.len() > MAX_CKN {
+    if ckn.is_empty() || ckn.len() > CKN_MAX {
         return Ok(None);
     }
     Ok(Some(Line::Group {

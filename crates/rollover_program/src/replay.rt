@@ -21,6 +21,7 @@ use crate::line::{Line, read_line};
 use crate::station::start as start_life;
 use crate::transcript::render;
 use crate::words::lines;
+use aes_block::Secret;
 use lan_base::{
     CountDraws, Draws, Mi, Name, Octets, ReadEnd, Sci, Sink, Source, Unwritten, read_all, write_all,
 };
@@ -29,7 +30,7 @@ use mka_kdf::{Group, GroupFault};
 use std::alloc::{AllocError, Global};
 
 /// The greatest count of octets of an input.
-pub const MAX_INPUT: usize = 4_194_304;
+const MAX_INPUT: usize = 4_194_304;
 
 /// Reads a whole trace and performs it.
 pub fn replay<S: Source, K: Sink>(alloc: Global, source: &mut S, sink: &mut K) -> Result<(), Halt>
@@ -201,7 +202,7 @@ fn grouped(alloc: Global, cak: [u8; 16], ckn: &Octets) -> Result<Group, Halt>
     ensures ick { IfOk result (λ group. group.ick ≡ ick_of cak ckn.now) }
     ensures memory { IfErr result (λ e. e ≡ Halt.Memory) }
 {
-    match Group::of(alloc, cak, ckn.as_slice()) {
+    match Group::of(alloc, Secret::S128(cak), ckn.as_slice()) {
         Ok(group) => Ok(group),
         Err(GroupFault::Memory) => Err(Halt::Memory),
         Err(GroupFault::CknLength) => unreachable!(),

@@ -12,8 +12,7 @@ ghost use Rattle.rollover_program.specs.Station.{Lives, CanGoOn, Ticks};
 
 use aes_block::Key;
 use aes_cmac::cmac;
-use lan_base::{Mi, Octets, Sci};
-use lan_core::HELLO_TIME;
+use lan_base::{HELLO_TIME, Mi, Octets, Sci};
 use mka_kdf::Group;
 use mkpdu_codec::{Announcement, Peers, write};
 use std::alloc::{AllocError, Global};

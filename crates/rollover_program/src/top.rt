@@ -3,12 +3,12 @@ ghost use Rattle.lan_base.specs.Faults.{Rose};
 ghost use Rattle.lan_base.specs.Told.{after};
 ghost use Rattle.rollover_program.specs.Judging.{judged, Refused};
 ghost use Rattle.rollover_program.specs.Performing.{made_by, run_of, transcript};
-ghost use Rattle.rollover_program.specs.Outcome.{HoldsFront};
+ghost use Rattle.rollover_program.specs.Outcome.{HoldsFront, most_input_octets};
 ghost use Rattle.rollover_program.specs.Legality.{IsLegalStage};
 ghost use Rattle.rollover_program.specs.Ending.{status_of};
 
 use crate::halt::{Halt, Kind, Which};
-use crate::replay::{MAX_INPUT, replay};
+use crate::replay::replay;
 use crate::status::Status;
 use lan_base::{Sink, Source};
 use std::alloc::Global;
@@ -44,7 +44,7 @@ pub fn rollover<S: Source, K: Sink>(
     ensures read_fault { result ≡ Status.Halted Halt.ReadFault → Rose (S.faults source.old) (S.faults source.new) }
     ensures write_fault { result ≡ Status.Halted Halt.WriteFault → Rose (K.faults sink.old) (K.faults sink.new) }
     ensures limit { (text : List ℕ) → S.left source.old ≡ Some text → result ≡ Status.Halted (Halt.Limit Which.Input)
-        → MAX_INPUT < length text }
+        → most_input_octets < length text }
     ensures nothing_written { (result ≡ Status.Halted Halt.ReadFault) ⊎ (result ≡ Status.Halted (Halt.Limit Which.Input))
         → K.held sink.new ≡ K.held sink.old }
 
@@ -55,11 +55,11 @@ pub fn rollover<S: Source, K: Sink>(
 
     // Within the limit and without a fault the trace is performed, unless memory runs out.
     ensures complete { (text : List ℕ) → map string_bytes words.now ≡ codes "run" ∷ [] → S.left source.old ≡ Some text
-        → length text ≤ MAX_INPUT → (Rose (S.faults source.old) (S.faults source.new) → ⊥)
+        → length text ≤ most_input_octets → (Rose (S.faults source.old) (S.faults source.new) → ⊥)
         → (Rose (K.faults sink.old) (K.faults sink.new) → ⊥)
         → (result ≡ status_of (judged text).refused) ⊎ (result ≡ Status.Halted Halt.Memory) }
     ensures past_limit { (text : List ℕ) → map string_bytes words.now ≡ codes "run" ∷ [] → S.left source.old ≡ Some text
-        → MAX_INPUT < length text → (Rose (S.faults source.old) (S.faults source.new) → ⊥)
+        → most_input_octets < length text → (Rose (S.faults source.old) (S.faults source.new) → ⊥)
         → (result ≡ Status.Halted (Halt.Limit Which.Input)) ⊎ (result ≡ Status.Halted Halt.Memory) }
 {
     if !is_run(words) {
