@@ -1,0 +1,11 @@
+pub mod Histories
+pub mod Held
+pub mod Reports
+pub mod Beginning
+pub mod Making
+pub mod Unwrapping
+pub mod Taking
+pub mod Outcomes
+pub mod Lives
+pub mod Standing
+pub mod inside

@@ -1,0 +1,82 @@
+-- When a key is taken that a key server gives, and which (IEEE Std 802.1X, clause 9; the order of the reasons not to is this profile's own).
+use Rattle.std.specs.Prelude.{ℕ, ◌==◌, nat_lt, max, Bool, true, false, cond, List, [], ◌∷◌, Option, Some, None, unwrap_or, Result, Ok, Err}
+use Rattle.lan_base.specs.declared.address.Mi.{Mi}
+use Rattle.lan_base.specs.declared.key_id.KeyId.{KeyId}
+use Rattle.aes_block.specs.declared.secret.Secret.{Secret}
+use Rattle.mkpdu_codec.specs.declared.given.Given.{Given}
+use Rattle.mkpdu_codec.specs.declared.given.Given.TheVariants.{Aes128, Aes256, Other}
+use Rattle.sak_exchange.specs.declared.offer.Offer.{Offer}
+use Rattle.sak_exchange.specs.declared.change.Why.{Why}
+use Rattle.sak_exchange.specs.declared.change.Why.TheVariants.{NotListed, NotServer, Seen, Retiring, Suite, Offset, Wrap}
+use Rattle.lan_base.specs.Identifiers.{same_mi}
+use Rattle.sak_exchange.specs.Histories.{Key, Keying, ticked, installed, began}
+use Rattle.sak_exchange.specs.Held.{allows}
+use Rattle.sak_exchange.specs.Making.{next_epoch}
+
+-- the fields of what is given: the association number, the confidentiality offset (1 for none left out, 2 and 3 for 30 and 50 octets) and the key number
+abbrev pub an_of : Given → ℕ
+an_of (Aes128 an offset number octets) = an
+an_of (Aes256 an offset number octets) = an
+an_of (Other an offset number) = an
+
+abbrev pub offset_of : Given → ℕ
+offset_of (Aes128 an offset number octets) = offset
+offset_of (Aes256 an offset number octets) = offset
+offset_of (Other an offset number) = offset
+
+abbrev pub number_of : Given → ℕ
+number_of (Aes128 an offset number octets) = number
+number_of (Aes256 an offset number octets) = number
+number_of (Other an offset number) = number
+
+-- whether the key is for a cipher suite that the station has
+abbrev pub is_supported : Given → Bool
+is_supported (Aes128 an offset number octets) = true
+is_supported (Aes256 an offset number octets) = true
+is_supported (Other an offset number) = false
+
+-- the identifier of the key that is offered
+abbrev pub offered_id : Offer → KeyId
+offered_id o = record { server = o.server; number = number_of o.given }
+
+-- the greatest key number of a key server under which this life installed a key
+abbrev pub greatest_of : Mi → List Keying → Option ℕ
+greatest_of s [] = None
+greatest_of s (ticked b ∷ h) = greatest_of s h
+greatest_of s (installed r k ∷ h) =
+    cond (same_mi k.id.server s) (Some (max k.id.number (unwrap_or (greatest_of s h) 0))) (greatest_of s h)
+greatest_of s (began e ∷ h) = greatest_of s h
+
+-- what follows, where a condition holds, and else the reason
+abbrev pub provided : Bool → Why → Result Key Why → Result Key Why
+provided true why rest = rest
+provided false why rest = Err why
+
+-- what follows, where a key number is greater than the greatest one installed, if there is one
+abbrev pub provided_new : Option ℕ → ℕ → Result Key Why → Result Key Why
+provided_new None number rest = rest
+provided_new (Some kept) number rest = provided (nat_lt kept number) (Seen kept) rest
+
+-- the key that an offer installs under an epoch
+abbrev pub offered_key : ℕ → Offer → Secret → Key
+offered_key epoch o sak =
+    record { id = offered_id o; an = an_of o.given; sak = sak; conf = offset_of o.given == 1; epoch = epoch }
+
+-- the same, or the reason that there is no SAK
+abbrev pub unwrapped_key : ℕ → Offer → Option Secret → Result Key Why
+unwrapped_key epoch o None = Err Wrap
+unwrapped_key epoch o (Some sak) = Ok (offered_key epoch o sak)
+
+-- The key that an offer installs under an epoch, given the SAK that it hides, if it hides one; else the first reason why it installs none, given the greatest number of a key of its server that was installed, and whether a key may be installed.
+abbrev pub judged : Option ℕ → Bool → ℕ → Offer → Option Secret → Result Key Why
+judged kept allowed epoch o sak =
+    provided o.listed NotListed (
+    provided o.elected NotServer (
+    provided_new kept (number_of o.given) (
+    provided allowed Retiring (
+    provided (is_supported o.given) Suite (
+    provided (nat_lt (offset_of o.given) 2) Offset (unwrapped_key epoch o sak))))))
+
+-- the same after a history
+abbrev pub taken : ℕ → List Keying → Offer → Option Secret → Result Key Why
+taken base h o sak = judged (greatest_of o.server h) (allows h) (next_epoch base h) o sak

@@ -1,0 +1,28 @@
+//! What a tick shows of the packet numbers, and what decides whether a key is made.
+
+use crate::report::Report;
+
+/// What a tick shows of the packet numbers.
+#[derive(Clone, Copy, Debug, PartialEq, Eq)]
+pub struct Seen {
+    /// The next packet number of the association that transmits, 0 where none does.
+    pub next: u64,
+    /// The lowest acceptable packet number under the latest key.
+    pub latest: u32,
+    /// The same under the old key.
+    pub old: u32,
+}
+
+/// What decides at a tick whether a station that is its own elected server makes a key.
+#[derive(Clone, Copy, Debug)]
+pub struct Due<'a> {
+    /// What the live members say.
+    pub live: &'a [Report],
+    /// Whether a member is potential.
+    pub potential: bool,
+    pub seen: Seen,
+    /// The packet number from which on a key is spent.
+    pub rekey: u32,
+    /// Whether keys that are made give confidentiality.
+    pub conf: bool,
+}

@@ -1,0 +1,43 @@
+//! What is kept of the latest key.
+
+ghost use Rattle.std.specs.Prelude.{◌≡◌};
+ghost use Rattle.sak_exchange.specs.inside.States.{aged, begun_now};
+
+use crate::held_key::HeldKey;
+
+/// The latest key.
+#[derive(Clone, Copy, Debug)]
+pub struct Latest {
+    pub key: HeldKey,
+    /// How many ticks ago it began, as far as they can be counted; 0 where it hasn't begun.
+    pub since_begun: u32,
+}
+
+impl Latest {
+    /// The same a tick later.
+    pub(crate) fn aged(&self) -> Latest
+        ensures { result ≡ aged self.now }
+    {
+        Latest {
+            key: self.key,
+            since_begun: if self.key.begun {
+                self.since_begun.saturating_add(1)
+            } else {
+                0
+            },
+        }
+    }
+
+    /// The same, as it begins.
+    pub(crate) fn begun_now(&self) -> Latest
+        ensures { result ≡ begun_now self.now }
+    {
+        Latest {
+            key: HeldKey {
+                begun: true,
+                ..self.key
+            },
+            since_begun: 0,
+        }
+    }
+}
