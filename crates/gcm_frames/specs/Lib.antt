@@ -1,0 +1,5 @@
+pub mod Protected
+pub mod Tags
+pub mod Written
+pub mod Sealed
+pub mod inside

@@ -1,0 +1,21 @@
+//! Protected frames of MACsec (IEEE Std 802.1AE, clauses 9 and 14): their octets under one key of
+//! GCM-AES, written and opened without taking memory.
+#![tactic(auto)]
+
+mod laws;
+mod protecting;
+mod room;
+mod tag;
+mod tagging;
+mod validating;
+
+pub use laws::{
+    law_no_frame_is_both, law_opened_is_sealed, law_protected_is_opened, law_protected_is_read,
+};
+pub use protecting::protect;
+pub use tag::{Tag, TagRefusal};
+pub use tagging::tag_of;
+pub use validating::validate;
+
+#[cfg(test)]
+mod tests;

@@ -1,0 +1,133 @@
+//! Writing a protected frame (IEEE Std 802.1AE, clauses 9 and 14).
+
+ghost use Rattle.std.specs.Prelude.{◌≡◌, ◌+◌, ◌<◌, ◌≤◌, ◌++◌, Bool, List, ℕ, length, take, drop, vec_len, vec_capacity};
+ghost use Rattle.gcm_frames.specs.Protected.{control_octet, short_length, sec_tag, head_octets, iv, protected, sealed_octets};
+ghost use Rattle.gcm_frames.specs.inside.Room.{HasRoom, Puts};
+
+use crate::room::put;
+use aes_block::Key;
+use gcm_core::seal;
+use lan_base::{Mac, Sci, UserFrame};
+
+/// The EtherType of MACsec.
+const ETHER_TYPE: [u8; 2] = [0x88, 0xe5];
+
+/// The flag of an explicit SCI.
+const SC: u8 = 0x20;
+
+/// The flags of enciphered and changed user data.
+const E_AND_C: u8 = 0x0c;
+
+/// How many octets stand before the secure data: addresses, and a SecTAG with an SCI.
+const HEAD: usize = 28;
+
+/// From this count on the short length is 0.
+const LONG: usize = 48;
+
+/// The octet of control information.
+fn control_octet(conf: bool, an: u8) -> u8
+    requires { an < 4 }
+    ensures { result ≡ control_octet conf an }
+{
+    SC + if conf { E_AND_C } else { 0 } + an
+}
+
+/// The short length of so many octets.
+fn short_length(count: usize) -> u8
+    ensures { result ≡ short_length count }
+{
+    if count < LONG { count as u8 } else { 0 }
+}
+
+/// The IV of a packet: the SCI, and then the packet number.
+pub(crate) fn iv_of(sci: Sci, pn: u32) -> [u8; 12]
+    ensures { result ≡ iv sci pn }
+{
+    let [a, b, c, d, e, f, g, h] = sci.0;
+    let [i, j, k, l] = pn.to_be_bytes();
+    [a, b, c, d, e, f, g, h, i, j, k, l]
+}
+
+/// Appends the SecTAG before so many octets of secure data.
+#[tactic(auto, using(crate::proofs::Rooms::room_in_front, crate::proofs::Rooms::room_behind, crate::proofs::Rooms::put_then))]
+fn put_sec_tag(sci: Sci, an: u8, pn: u32, conf: bool, count: usize, into: &mut Vec<u8>)
+    requires an { an < 4 }
+    requires room { HasRoom into.old (sec_tag sci an pn conf count) }
+    ensures { Puts into.old into.new (sec_tag sci an pn conf count) }
+{
+    let [first, second] = ETHER_TYPE;
+    put(
+        into,
+        &[first, second, control_octet(conf, an), short_length(count)],
+    );
+    put(into, &pn.to_be_bytes());
+    put(into, &sci.0);
+}
+
+/// Appends what stands before the secure data: addresses and SecTAG.
+#[tactic(auto, using(crate::proofs::Rooms::room_in_front, crate::proofs::Rooms::room_behind, crate::proofs::Rooms::put_then))]
+fn put_head(sci: Sci, an: u8, pn: u32, conf: bool, user: &UserFrame, into: &mut Vec<u8>)
+    requires an { an < 4 }
+    requires room { HasRoom into.old (head_octets sci an pn conf user.now) }
+    ensures { Puts into.old into.new (head_octets sci an pn conf user.now) }
+{
+    put(into, &user.destination.0);
+    put(into, &sci.source().0);
+    put_sec_tag(sci, an, pn, conf, user.body.len(), into);
+}
+
+/// How many octets stand before the secure data.
+fn head_len(sci: Sci, destination: Mac) -> usize
+    ensures value { (an pn : ℕ) (conf : Bool) (body : List ℕ) → result
+        ≡ length (head_octets sci an pn conf (record { destination = destination; body = body })) }
+    ensures fixed { result ≡ 28 }
+{
+    destination.0.len() + 6 + 8 + sci.0.len()
+}
+
+/// The tag of a frame whose head of 28 octets and user data these are. With confidentiality the user
+/// data is enciphered in place.
+fn seal_in_place(key: &Key, iv: [u8; 12], conf: bool, frame: &mut [u8]) -> [u8; 16]
+    requires head { 28 ≤ length frame.old }
+    requires most { length frame.old ≤ 65536 }
+    ensures { sealed_octets key.now iv conf (take 28 frame.old) (drop 28 frame.old)
+        ≡ frame.new ++ result }
+{
+    if conf {
+        let (head, text) = frame.split_at_mut(HEAD);
+        seal(key, iv, head, text)
+    } else {
+        seal(key, iv, frame, &mut [])
+    }
+}
+
+/// Appends the protected frame of user data: that of the sender `sci`, under the key that stands under
+/// the association number `an`, with the packet number `pn`, and enciphered where `conf` is set. There is
+/// room for it, so no memory is taken. Under one key a sender uses each packet number once: that is the
+/// caller's part.
+pub fn protect(
+    key: &Key,
+    sci: Sci,
+    an: u8,
+    pn: u32,
+    conf: bool,
+    user: &UserFrame,
+    into: &mut Vec<u8>,
+)
+    requires an { an < 4 }
+    requires pn { 1 ≤ pn }
+    requires some { 2 ≤ length user.now.body }
+    requires most { length user.now.body ≤ 1500 }
+    requires room { vec_len into.old + length user.now.body + 44 ≤ vec_capacity into.old }
+    ensures appended { into.new.items ≡ into.old.items ++ protected key.now sci an pn conf user.now }
+    ensures len { vec_len into.new ≡ vec_len into.old + length user.now.body + 44 }
+    ensures capacity { vec_capacity into.old ≤ vec_capacity into.new }
+{
+    let start = into.len();
+    let _head = head_len(sci, user.destination);
+    put_head(sci, an, pn, conf, user, into);
+    put(into, user.body.as_slice());
+    let (_, frame) = into.split_at_mut(start);
+    let check = seal_in_place(key, iv_of(sci, pn), conf, frame);
+    put(into, &check);
+}

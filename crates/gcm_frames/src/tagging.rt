@@ -1,0 +1,122 @@
+//! Reading the SecTAG of a frame (IEEE Std 802.1AE, clause 9).
+
+ghost use Rattle.std.specs.Prelude.{◌≡◌, ◌<◌, ◌≤◌, ◌+◌, ◌↔◌, length, Some, Ok, Err, IfOk};
+ghost use Rattle.gcm_frames.specs.declared.tag.TagRefusal.{TagRefusal};
+ghost use Rattle.gcm_frames.specs.Tags.{has_flag, is_mode, is_sec, is_short, is_length_wrong, start_of, sci_of, data_length, refused, tag_in, tag_fields};
+
+use crate::tag::{Tag, TagRefusal};
+use byteorder::{BigEndian, ByteOrder};
+use lan_base::Sci;
+
+/// Whether the octet of control information has a flag.
+fn has_flag(flag: u8, frame: &[u8]) -> bool
+    requires flag { 0 < flag }
+    requires control { 14 < length frame.now }
+    ensures { result ≡ has_flag flag frame.now }
+{
+    frame[14] / flag % 2 == 1
+}
+
+const VERSION: u8 = 0x80;
+
+const END_STATION: u8 = 0x40;
+
+const EXPLICIT_SCI: u8 = 0x20;
+
+const BROADCAST: u8 = 0x10;
+
+const ENCIPHERED: u8 = 0x08;
+
+const CHANGED: u8 = 0x04;
+
+/// Whether the frame has the EtherType of MACsec behind its addresses.
+fn is_sec(frame: &[u8]) -> bool
+    ensures { result ≡ is_sec frame.now }
+{
+    frame.len() >= 14 && frame[12] == 0x88 && frame[13] == 0xe5
+}
+
+/// Whether the flags are those of a mode that is read.
+fn is_mode(frame: &[u8]) -> bool
+    requires { 14 < length frame.now }
+    ensures { result ≡ is_mode frame.now }
+{
+    !has_flag(BROADCAST, frame)
+        && has_flag(END_STATION, frame) != has_flag(EXPLICIT_SCI, frame)
+        && has_flag(ENCIPHERED, frame) == has_flag(CHANGED, frame)
+}
+
+/// The octet at which the secure data starts.
+fn start_of(frame: &[u8]) -> usize
+    requires { 14 < length frame.now }
+    ensures { result ≡ start_of frame.now }
+{
+    if has_flag(EXPLICIT_SCI, frame) {
+        28
+    } else {
+        20
+    }
+}
+
+/// The sender's SCI: that of the SecTAG, or the source address with port 1.
+fn sci_of(frame: &[u8]) -> Sci
+    requires { 28 ≤ length frame.now }
+    ensures { result ≡ sci_of frame.now }
+{
+    if has_flag(EXPLICIT_SCI, frame) {
+        let (_, behind) = frame.split_at(20);
+        let (sci, _) = behind.split_first_chunk::<8>().unwrap();
+        return Sci(*sci);
+    }
+    let (_, behind) = frame.split_at(6);
+    let (source, _) = behind.split_first_chunk::<6>().unwrap();
+    let [a, b, c, d, e, f] = *source;
+    Sci([a, b, c, d, e, f, 0, 1])
+}
+
+/// The fields of a frame, or the first refusal.
+#[tactic(auto, unfolding(crate::specs::Tags::tag_fields))]
+pub fn tag_of(frame: &[u8]) -> Result<Tag, TagRefusal>
+    ensures refused { (e : TagRefusal) → (result ≡ Err e) ↔ (refused frame.now ≡ Some e) }
+    ensures tag { IfOk result (λ tag. tag ≡ tag_in frame.now) }
+    ensures exact { result ≡ tag_fields frame.now }
+
+    // The secure data and the tag lie in the frame.
+    ensures within { IfOk result (λ tag. tag.start + tag.len + 16 ≤ length frame.now) }
+{
+    if !is_sec(frame) {
+        return Err(TagRefusal::NotSec);
+    }
+    if frame.len() < 15 {
+        return Err(TagRefusal::Short);
+    }
+    if has_flag(VERSION, frame) {
+        return Err(TagRefusal::Version);
+    }
+    if !is_mode(frame) {
+        return Err(TagRefusal::Mode);
+    }
+    let start = start_of(frame);
+    if frame.len() < start + 16 {
+        return Err(TagRefusal::Short);
+    }
+    let short = frame[15] as usize;
+    if frame.len() < start + short + 16 {
+        return Err(TagRefusal::Short);
+    }
+    if short >= 48 || short == 0 && frame.len() < start + 64 {
+        return Err(TagRefusal::SlWrong);
+    }
+    Ok(Tag {
+        sci: sci_of(frame),
+        an: frame[14] % 4,
+        pn: BigEndian::read_u32(&frame[16..]),
+        conf: has_flag(ENCIPHERED, frame),
+        start,
+        len: if short == 0 {
+            frame.len() - (start + 16)
+        } else {
+            short
+        },
+    })
+}

@@ -1,0 +1,7 @@
+pub mod Examples
+pub mod Greatest
+pub mod Identifiers
+pub mod Lists
+pub mod Lowest
+pub mod Replays
+pub mod Steps
