@@ -1,0 +1,12 @@
+pub mod Answering
+pub mod Decoding
+pub mod Digits
+pub mod Faults
+pub mod Hexing
+pub mod InForm
+pub mod Listing
+pub mod RoundTrip
+pub mod Spacing
+pub mod Spelling
+pub mod Taking
+mod Examples

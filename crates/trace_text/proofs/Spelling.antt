@@ -1,0 +1,150 @@
+-- A spelled word is a word, and says the same again.
+use Rattle.std.proofs.Common.{◌≡◌, ℕ, ◌+◌, ◌*◌, ◌<◌, ◌≤◌, ◌^◌, ◌/◌, ◌%◌, Bool, true, false, List, [], ◌∷◌, ◌++◌, length, refl, sym, ap, ◌∙◌, subst, inl, inr, arith}
+use Rattle.std.specs.Prelude.{Result, Ok, Err, if◌then◌else◌, ◌&&◌, ◌||◌, ◌==◌, ◌⊎◌, nat_lt, nat_le, decimal}
+use Rattle.std.specs.List.{All, AllPass, list_all}
+use Rattle.std.specs.Char.{is_ascii_digit, is_ascii_alphabetic, is_ascii_alphanumeric}
+use Rattle.std.specs.Str.Parse.{digits_value}
+use Rattle.std.proofs.lemmas.Bool.Decides.{nat_tests}
+use Rattle.std.proofs.lemmas.Fmt.{decimal_is_IsNumeral, decimal_by_steps, length-decimal-le, decimal_nonempty}
+use Rattle.std.proofs.lemmas.List.Folds.{list_all-append}
+use Rattle.std.proofs.lemmas.List.Elements.{All-weaker, All-cons}
+use Rattle.std.proofs.lemmas.List.Sums.{AllPass-from_list_all}
+use Rattle.hex.specs.Hex.{decode_of, decode_sized, encode_lower, lower_digits, is_hex_digit, IsBytes}
+use Rattle.hex.proofs.HexLemmas.{decode_of-ok, decode_of-encode_lower, decode_sized-encode_lower, length-encode_with}
+use Rattle.lan_base.specs.Name.{is_name}
+use Rattle.trace_text.specs.declared.fault.TextFault.{TextFault}
+use Rattle.trace_text.specs.declared.fault.TextFault.TheVariants.{Range}
+use Rattle.trace_text.specs.Words.{is_blank}
+use Rattle.trace_text.specs.Kinds.{Kind, name, number, one_of, exactly, octets, secret, Said, said, spelled, IsFit, is_number, number_of, is_within, is_either, octets_of, exactly_of}
+use Rattle.trace_text.proofs.Spacing.{IsWord}
+
+-- the words of a kind are not empty, and its numbers have at most ten digits
+abbrev pub IsPlain : Kind → Type 0
+IsPlain name = Unit {0}
+IsPlain (number low high) = high < 10000000000
+IsPlain (one_of this that) = (this < 10000000000) × (that < 10000000000)
+IsPlain (exactly count) = 0 < count
+IsPlain (octets low high) = 0 < low
+IsPlain secret = Unit {0}
+
+space_or_tab : (octet : ℕ) → is_blank octet ≡ true → (octet ≡ 32) ⊎ (octet ≡ 9)
+space_or_tab octet e = grind (arith, nat_tests)
+
+differ : (p : ℕ → Bool) (octet : ℕ) (b : Bool) → is_blank octet ≡ b → p 32 ≡ false → p 9 ≡ false → p octet ≡ true → b ≡ false
+differ p octet true e space tab passes =
+    elim (space_or_tab octet e) [
+      | inl s ↦ sym passes ∙ ap p s ∙ space
+      | inr t ↦ sym passes ∙ ap p t ∙ tab
+    ]
+differ p octet false e space tab passes = refl
+
+-- octets that all pass a test which no blank passes
+whole_by : (p : ℕ → Bool) (word : List ℕ) → p 32 ≡ false → p 9 ≡ false → AllPass p word → All (λ octet. is_blank octet ≡ false) word
+whole_by p word space tab all =
+    All-weaker (λ octet. p octet ≡ true) (λ octet. is_blank octet ≡ false) (λ octet passes. differ p octet (is_blank octet) refl space tab passes) word all
+
+both : (a b : Bool) → a && b ≡ true → (a ≡ true) × (b ≡ true)
+both true true e = (refl, refl)
+both true false e = absurd cc
+both false b e = absurd cc
+
+letter : (octet : ℕ) → is_ascii_alphabetic octet ≡ true → is_ascii_alphanumeric octet ≡ true
+letter octet e = grind (arith, nat_tests)
+
+name_word : (n : List ℕ) → is_name n ≡ true → IsWord n
+name_word [] e = absurd cc
+name_word (first ∷ others) e =
+    let p = both (is_ascii_alphabetic first && list_all is_ascii_alphanumeric others) (nat_le (length others) 15) e in
+    let q = both (is_ascii_alphabetic first) (list_all is_ascii_alphanumeric others) p.0 in
+    record {
+      some = omega arith;
+      whole = whole_by is_ascii_alphanumeric (first ∷ others) refl refl
+          (AllPass-from_list_all is_ascii_alphanumeric (first ∷ others) (rw (letter first q.0, q.1) refl));
+    }
+
+digit : (n : ℕ) → n < 10 → is_ascii_digit (48 + n) ≡ true
+digit n small = grind (arith, nat_tests)
+
+one_digit : (n : ℕ) → n < 10 → list_all is_ascii_digit ((48 + n) ∷ []) ≡ true
+one_digit n small = rw (digit n small) refl
+
+more_digits : (n : ℕ) (ds : List ℕ) → 10 ≤ n → list_all is_ascii_digit ds ≡ true → list_all is_ascii_digit (ds ++ ((48 + n % 10) ∷ [])) ≡ true
+more_digits n ds large all =
+    list_all-append is_ascii_digit ds ((48 + n % 10) ∷ []) ∙ rw (all, one_digit (n % 10) (omega arith)) refl
+
+decimal_digits : (n : ℕ) → n < 2 ^ 64 → list_all is_ascii_digit (decimal n) ≡ true
+decimal_digits n small = decimal_by_steps (λ m ds. list_all is_ascii_digit ds ≡ true) one_digit more_digits n small
+
+number_word : (n : ℕ) → n < 10000000000 → IsWord (decimal n)
+number_word n small =
+    let fits : n < 2 ^ 64 = omega arith in
+    record {
+      some = decimal_nonempty n fits;
+      whole = whole_by is_ascii_digit (decimal n) refl refl (AllPass-from_list_all is_ascii_digit (decimal n) (decimal_digits n fits));
+    }
+
+three : (a b c : Bool) → a ≡ true → b ≡ true → c ≡ true → a && b && c ≡ true
+three a b c ea eb ec = rw (ea, eb, ec) refl
+
+decimal_number : (n : ℕ) → n < 10000000000 → is_number (decimal n) ≡ true
+decimal_number n small =
+    let fits : n < 2 ^ 64 = omega arith in
+    let power : n < 10 ^ 10 = omega arith in
+    let some : 0 < length (decimal n) = decimal_nonempty n fits in
+    let few : length (decimal n) ≤ 10 = length-decimal-le 10 n (omega arith) power fits in
+    let a : nat_lt 0 (length (decimal n)) ≡ true = grind (arith, nat_tests) in
+    let b : nat_le (length (decimal n)) 10 ≡ true = grind (arith, nat_tests) in
+    three (nat_lt 0 (length (decimal n))) (nat_le (length (decimal n)) 10) (list_all is_ascii_digit (decimal n)) a b (decimal_digits n fits)
+
+chosen : (b : Bool) (v n : ℕ) (allowed : ℕ → Bool) → b ≡ true → v ≡ n → allowed n ≡ true → (if b && allowed v then Ok v else Err Range) ≡ Ok n
+chosen b v n allowed eb ev ea = rw (eb, ev, ea) refl
+
+number_said : (allowed : ℕ → Bool) (n : ℕ) → n < 10000000000 → allowed n ≡ true → number_of allowed (decimal n) ≡ Ok n
+number_said allowed n small ok =
+    let fits : n < 2 ^ 64 = omega arith in
+    chosen (is_number (decimal n)) (digits_value 10 (decimal n)) n allowed (decimal_number n small) (decimal_is_IsNumeral n fits).1 ok
+
+within : (low high n : ℕ) → low ≤ n → n ≤ high → is_within low high n ≡ true
+within low high n l h = grind (arith, nat_tests)
+
+either : (this that n : ℕ) → (n ≡ this) ⊎ (n ≡ that) → is_either this that n ≡ true
+either this that n (inl e) = grind (arith, nat_tests)
+either this that n (inr e) = grind (arith, nat_tests)
+
+either_small : (this that n : ℕ) → (this < 10000000000) × (that < 10000000000) → (n ≡ this) ⊎ (n ≡ that) → n < 10000000000
+either_small this that n small (inl e) = omega (arith, small.0)
+either_small this that n small (inr e) = omega (arith, small.1)
+
+hex_word : (xs : List ℕ) → 0 < length xs → IsBytes xs → IsWord (encode_lower xs)
+hex_word xs some bytes = record {
+  some = omega (arith, length-encode_with lower_digits xs);
+  whole = whole_by is_hex_digit (encode_lower xs) refl refl (decode_of-ok (encode_lower xs) xs (decode_of-encode_lower xs bytes)).1;
+}
+
+key_some : (xs : List ℕ) → (length xs ≡ 16) ⊎ (length xs ≡ 32) → 0 < length xs
+key_some xs (inl e) = omega (arith, e)
+key_some xs (inr e) = omega (arith, e)
+
+octets_said : (allowed : ℕ → Bool) (xs : List ℕ) → IsBytes xs → allowed (length xs) ≡ true → octets_of allowed (encode_lower xs) ≡ Ok xs
+octets_said allowed xs bytes ok = rw (decode_of-encode_lower xs bytes, ok) refl
+
+array_said : (count : ℕ) (xs : List ℕ) → length xs ≡ count → IsBytes xs → exactly_of count (encode_lower xs) ≡ Ok xs
+array_said count xs size bytes = rw (decode_sized-encode_lower xs count size bytes) refl
+
+pub spelled_word : (k : Kind) (x : Said k) → IsPlain k → IsFit k x → IsWord (spelled k x)
+spelled_word name x plain fit = name_word x fit
+spelled_word (number low high) x plain fit = number_word x (omega (arith, plain, fit.1))
+spelled_word (one_of this that) x plain fit = number_word x (either_small this that x plain fit)
+spelled_word (exactly count) x plain fit = hex_word x (omega (arith, plain, fit.0)) fit.1
+spelled_word (octets low high) x plain fit = hex_word x (omega (arith, plain, fit.0)) fit.2
+spelled_word secret x plain fit = hex_word x (key_some x fit.0) fit.1
+
+pub said_spelled : (k : Kind) (x : Said k) → IsPlain k → IsFit k x → said k (spelled k x) ≡ Ok x
+said_spelled name x plain fit = rw fit refl
+said_spelled (number low high) x plain fit =
+    number_said (is_within low high) x (omega (arith, plain, fit.1)) (within low high x fit.0 fit.1)
+said_spelled (one_of this that) x plain fit =
+    number_said (is_either this that) x (either_small this that x plain fit) (either this that x fit)
+said_spelled (exactly count) x plain fit = array_said count x fit.0 fit.1
+said_spelled (octets low high) x plain fit = octets_said (is_within low high) x fit.2 (within low high (length x) fit.0 fit.1)
+said_spelled secret x plain fit = octets_said (is_either 16 32) x fit.1 (either 16 32 (length x) fit.0)

@@ -1,0 +1,6 @@
+pub mod Words
+pub mod Kinds
+pub mod Forms
+pub mod Reading
+pub mod Writing
+pub mod inside

@@ -1,0 +1,4 @@
+-- What serves private functions alone.
+pub mod Answering
+pub mod Appending
+pub mod Keywords

@@ -1,0 +1,308 @@
+//! The forms of a line: what the words behind a keyword say. Whether they say a line is decided
+//! before memory is taken.
+
+ghost use Rattle.std.specs.Prelude.{◌≡◌, [], ◌∷◌, codes};
+ghost use Rattle.trace_text.specs.Words.{words_of};
+ghost use Rattle.trace_text.specs.Reading.{line_of, draws_of};
+ghost use Rattle.trace_text.specs.inside.Answering.{Answers};
+
+use crate::blocks::{expect_blocks, read_blocks};
+use crate::fault::TextFault;
+use crate::keyword::Keyword;
+use crate::kinds::{
+    decoded, expect_key, expect_octets, read_array, read_name, read_number, read_octets, read_suite,
+};
+use crate::line::Line;
+use crate::words::{next_word, no_word, one_word, three_words, two_words};
+use lan_base::{Mac, Sci};
+use std::alloc::Global;
+
+/// The most ticks or rounds of one line.
+const MAX_TICKS: u32 = 1_000_000;
+
+/// The greatest number of a frame.
+const MAX_FRAME: u32 = 200_000;
+
+/// The line that a first word and the words behind it say.
+pub fn read_form(alloc: Global, first: &[u8], rest: &[u8]) -> Result<Line, TextFault>
+    ensures { Answers result (line_of first.now (words_of rest.now)) }
+{
+    let keyword = Keyword::of(first).ok_or(TextFault::Word)?;
+    match keyword {
+        Keyword::Draws => draws(alloc, rest),
+        Keyword::Conf => conf(rest),
+        Keyword::Window => window(rest),
+        Keyword::Rekey => rekey(rest),
+        Keyword::Lag => lag(rest),
+        Keyword::Suite => suite(rest),
+        Keyword::Group => group(alloc, rest),
+        Keyword::Station => station(rest),
+        Keyword::Tick => tick(rest),
+        Keyword::Flow => flow(rest),
+        Keyword::Deliver => deliver(rest),
+        Keyword::Spread => spread(rest),
+        Keyword::Lose => lose(rest),
+        Keyword::Cut => cut(rest),
+        Keyword::Mend => mend(rest),
+        Keyword::Restart => restart(rest),
+        Keyword::Send => send(alloc, rest),
+        Keyword::Race => race(rest),
+        Keyword::Burst => burst(alloc, rest),
+        Keyword::While => race_control(rest),
+        Keyword::End => race_end(rest),
+        Keyword::Inject => inject(alloc, rest),
+        Keyword::Feed => feed(rest),
+    }
+}
+
+fn draws(alloc: Global, rest: &[u8]) -> Result<Line, TextFault>
+    ensures { Answers result (line_of (codes "draws") (words_of rest.now)) }
+{
+    let (kind, rest) = next_word(rest).ok_or(TextFault::Count)?;
+    if kind == b"count".as_slice() {
+        return draws_count(rest);
+    }
+    if kind == b"chacha".as_slice() {
+        return draws_chacha(rest);
+    }
+    if kind == b"list".as_slice() {
+        return draws_list(alloc, rest);
+    }
+    Err(TextFault::Word)
+}
+
+fn draws_count(rest: &[u8]) -> Result<Line, TextFault>
+    ensures { result ≡ draws_of (codes "count" ∷ words_of rest.now) }
+{
+    no_word(rest)?;
+    Ok(Line::DrawsCount)
+}
+
+fn draws_chacha(rest: &[u8]) -> Result<Line, TextFault>
+    ensures { result ≡ draws_of (codes "chacha" ∷ words_of rest.now) }
+{
+    let key = one_word(rest)?;
+    Ok(Line::DrawsChaCha {
+        key: read_array(key)?,
+    })
+}
+
+fn draws_list(alloc: Global, rest: &[u8]) -> Result<Line, TextFault>
+    ensures { Answers result (draws_of (codes "list" ∷ words_of rest.now)) }
+{
+    if next_word(rest).is_none() {
+        return Err(TextFault::Count);
+    }
+    expect_blocks(rest)?;
+    let values = read_blocks(alloc, rest)?;
+    Ok(Line::DrawsList { values })
+}
+
+fn conf(rest: &[u8]) -> Result<Line, TextFault>
+    ensures { result ≡ line_of (codes "conf") (words_of rest.now) }
+{
+    let conf = read_number(one_word(rest)?, 0, 1)?;
+    Ok(Line::Conf { conf })
+}
+
+fn window(rest: &[u8]) -> Result<Line, TextFault>
+    ensures { result ≡ line_of (codes "window") (words_of rest.now) }
+{
+    let window = read_number(one_word(rest)?, 0, u32::MAX)?;
+    Ok(Line::Window { window })
+}
+
+fn rekey(rest: &[u8]) -> Result<Line, TextFault>
+    ensures { result ≡ line_of (codes "rekey") (words_of rest.now) }
+{
+    let rekey = read_number(one_word(rest)?, 2, u32::MAX)?;
+    Ok(Line::Rekey { rekey })
+}
+
+fn lag(rest: &[u8]) -> Result<Line, TextFault>
+    ensures { result ≡ line_of (codes "lag") (words_of rest.now) }
+{
+    let lag = read_number(one_word(rest)?, 0, 1000)?;
+    Ok(Line::Lag { lag })
+}
+
+fn suite(rest: &[u8]) -> Result<Line, TextFault>
+    ensures { result ≡ line_of (codes "suite") (words_of rest.now) }
+{
+    let suite = read_suite(one_word(rest)?)?;
+    Ok(Line::Suite { suite })
+}
+
+fn group(alloc: Global, rest: &[u8]) -> Result<Line, TextFault>
+    ensures { Answers result (line_of (codes "group") (words_of rest.now)) }
+{
+    let (cak, ckn) = two_words(rest)?;
+    expect_key(cak)?;
+    expect_octets(ckn, 1, 32)?;
+    let cak = decoded(alloc, cak)?;
+    let ckn = decoded(alloc, ckn)?;
+    Ok(Line::Group { cak, ckn })
+}
+
+fn station(rest: &[u8]) -> Result<Line, TextFault>
+    ensures { result ≡ line_of (codes "station") (words_of rest.now) }
+{
+    let (name, sci, priority) = three_words(rest)?;
+    let name = read_name(name)?;
+    let sci = Sci(read_array(sci)?);
+    let priority = read_number(priority, 0, 255)?;
+    Ok(Line::Station {
+        name,
+        sci,
+        priority,
+    })
+}
+
+fn tick(rest: &[u8]) -> Result<Line, TextFault>
+    ensures { result ≡ line_of (codes "tick") (words_of rest.now) }
+{
+    let (first, rest) = next_word(rest).ok_or(TextFault::Count)?;
+    let Some((second, rest)) = next_word(rest) else {
+        return rounds(first);
+    };
+    no_word(rest)?;
+    let name = read_name(first)?;
+    let ticks = read_number(second, 1, MAX_TICKS)?;
+    Ok(Line::TickOne { name, ticks })
+}
+
+fn rounds(word: &[u8]) -> Result<Line, TextFault>
+    ensures { result ≡ line_of (codes "tick") (word.now ∷ []) }
+{
+    let rounds = read_number(word, 1, MAX_TICKS)?;
+    Ok(Line::Tick { rounds })
+}
+
+fn flow(rest: &[u8]) -> Result<Line, TextFault>
+    ensures { result ≡ line_of (codes "flow") (words_of rest.now) }
+{
+    let rounds = read_number(one_word(rest)?, 1, MAX_TICKS)?;
+    Ok(Line::Flow { rounds })
+}
+
+fn deliver(rest: &[u8]) -> Result<Line, TextFault>
+    ensures { result ≡ line_of (codes "deliver") (words_of rest.now) }
+{
+    let (frame, name) = two_words(rest)?;
+    let frame = read_number(frame, 1, MAX_FRAME)?;
+    let name = read_name(name)?;
+    Ok(Line::Deliver { frame, name })
+}
+
+fn spread(rest: &[u8]) -> Result<Line, TextFault>
+    ensures { result ≡ line_of (codes "spread") (words_of rest.now) }
+{
+    let frame = read_number(one_word(rest)?, 1, MAX_FRAME)?;
+    Ok(Line::Spread { frame })
+}
+
+fn lose(rest: &[u8]) -> Result<Line, TextFault>
+    ensures { result ≡ line_of (codes "lose") (words_of rest.now) }
+{
+    let frame = read_number(one_word(rest)?, 1, MAX_FRAME)?;
+    Ok(Line::Lose { frame })
+}
+
+fn cut(rest: &[u8]) -> Result<Line, TextFault>
+    ensures { result ≡ line_of (codes "cut") (words_of rest.now) }
+{
+    let (from, to) = two_words(rest)?;
+    let from = read_name(from)?;
+    let to = read_name(to)?;
+    Ok(Line::Cut { from, to })
+}
+
+fn mend(rest: &[u8]) -> Result<Line, TextFault>
+    ensures { result ≡ line_of (codes "mend") (words_of rest.now) }
+{
+    let (from, to) = two_words(rest)?;
+    let from = read_name(from)?;
+    let to = read_name(to)?;
+    Ok(Line::Mend { from, to })
+}
+
+fn restart(rest: &[u8]) -> Result<Line, TextFault>
+    ensures { result ≡ line_of (codes "restart") (words_of rest.now) }
+{
+    let name = read_name(one_word(rest)?)?;
+    Ok(Line::Restart { name })
+}
+
+fn send(alloc: Global, rest: &[u8]) -> Result<Line, TextFault>
+    ensures { Answers result (line_of (codes "send") (words_of rest.now)) }
+{
+    let (name, destination, body) = three_words(rest)?;
+    let name = read_name(name)?;
+    let destination = Mac(read_array(destination)?);
+    let body = read_octets(alloc, body, 2, 1500)?;
+    Ok(Line::Send {
+        name,
+        destination,
+        body,
+    })
+}
+
+fn race(rest: &[u8]) -> Result<Line, TextFault>
+    ensures { result ≡ line_of (codes "race") (words_of rest.now) }
+{
+    no_word(rest)?;
+    Ok(Line::Race)
+}
+
+fn burst(alloc: Global, rest: &[u8]) -> Result<Line, TextFault>
+    ensures { Answers result (line_of (codes "burst") (words_of rest.now)) }
+{
+    let (name, rest) = next_word(rest).ok_or(TextFault::Count)?;
+    let (workers, rest) = next_word(rest).ok_or(TextFault::Count)?;
+    let (frames, destination, body) = three_words(rest)?;
+    let name = read_name(name)?;
+    let workers = read_number(workers, 1, 8)?;
+    let frames = read_number(frames, 1, 100_000)?;
+    let destination = Mac(read_array(destination)?);
+    let body = read_octets(alloc, body, 2, 1500)?;
+    Ok(Line::Burst {
+        name,
+        workers,
+        frames,
+        destination,
+        body,
+    })
+}
+
+fn race_control(rest: &[u8]) -> Result<Line, TextFault>
+    ensures { result ≡ line_of (codes "while") (words_of rest.now) }
+{
+    no_word(rest)?;
+    Ok(Line::While)
+}
+
+fn race_end(rest: &[u8]) -> Result<Line, TextFault>
+    ensures { result ≡ line_of (codes "end") (words_of rest.now) }
+{
+    no_word(rest)?;
+    Ok(Line::End)
+}
+
+fn inject(alloc: Global, rest: &[u8]) -> Result<Line, TextFault>
+    ensures { Answers result (line_of (codes "inject") (words_of rest.now)) }
+{
+    let (name, octets) = two_words(rest)?;
+    let name = read_name(name)?;
+    let octets = read_octets(alloc, octets, 1, 1600)?;
+    Ok(Line::Inject { name, octets })
+}
+
+fn feed(rest: &[u8]) -> Result<Line, TextFault>
+    ensures { result ≡ line_of (codes "feed") (words_of rest.now) }
+{
+    let (first, last, name) = three_words(rest)?;
+    let first = read_number(first, 1, MAX_FRAME)?;
+    let last = read_number(last, first, MAX_FRAME)?;
+    let name = read_name(name)?;
+    Ok(Line::Feed { first, last, name })
+}

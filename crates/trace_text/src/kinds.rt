@@ -1,0 +1,150 @@
+//! What one word says.
+
+ghost use Rattle.std.specs.Prelude.{◌≡◌, ◌≤◌, Ok, Some, None, IsOk, IfOk, IsTrue, length, if◌then◌else◌};
+ghost use Rattle.std.specs.List.{list_all};
+ghost use Rattle.std.specs.Option.{option_map};
+ghost use Rattle.std.specs.Result.{result_ok};
+ghost use Rattle.std.specs.Char.{is_ascii_digit};
+ghost use Rattle.std.specs.Str.Parse.{digits_value};
+ghost use Rattle.hex.specs.Hex.{decode_of, is_hex_digit};
+ghost use Rattle.trace_text.specs.Kinds.{said, name, is_number, number_of, octets_of, exactly_of, is_within, is_either};
+ghost use Rattle.trace_text.specs.inside.Answering.{Answers, checked};
+
+use crate::fault::TextFault;
+use hex::FromHex;
+use lan_base::{Name, Octets};
+use std::alloc::{AllocError, Global};
+
+/// The station's name that a word is.
+pub fn read_name(word: &[u8]) -> Result<Name, TextFault>
+    ensures { result ≡ said name word.now }
+{
+    Name::of(word).ok_or(TextFault::Range)
+}
+
+/// How many digits a number may have.
+const MAX_DIGITS: usize = 10;
+
+/// The number within bounds that a word spells.
+pub fn read_number(word: &[u8], low: u32, high: u32) -> Result<u32, TextFault>
+    ensures { result ≡ number_of (is_within low high) word.now }
+{
+    match decimal(word) {
+        Some(value) if u64::from(low) <= value && value <= u64::from(high) => Ok(value as u32),
+        _ => Err(TextFault::Range),
+    }
+}
+
+/// The bits of the data keys that a word spells, 128 or 256.
+pub fn read_suite(word: &[u8]) -> Result<u32, TextFault>
+    ensures { result ≡ number_of (is_either 128 256) word.now }
+{
+    match decimal(word) {
+        Some(128) => Ok(128),
+        Some(256) => Ok(256),
+        _ => Err(TextFault::Range),
+    }
+}
+
+/// The number that a word of 1 to 10 decimal digits spells.
+fn decimal(word: &[u8]) -> Option<u64>
+    ensures { result ≡ (if is_number word.now then Some (digits_value 10 word.now) else None) }
+{
+    if !is_number(word) {
+        return None;
+    }
+    Some(decimal_value(word))
+}
+
+/// Whether a word is 1 to 10 decimal digits.
+fn is_number(word: &[u8]) -> bool
+    ensures { result ≡ is_number word.now }
+{
+    !word.is_empty() && word.len() <= MAX_DIGITS && are_digits(word)
+}
+
+fn are_digits(word: &[u8]) -> bool
+    ensures { result ≡ list_all is_ascii_digit word.now }
+{
+    word.iter().all(|octet| octet.is_ascii_digit())
+}
+
+/// The number that such a word spells.
+#[tactic(auto, using(crate::proofs::Digits::one_more, crate::proofs::Digits::is_digit_at))]
+fn decimal_value(word: &[u8]) -> u64
+    requires { IsTrue (is_number word.now) }
+    ensures { result ≡ digits_value 10 word.now }
+{
+    let mut value = 0u64;
+    for octet in word {
+        value = value * 10 + u64::from(*octet - b'0');
+    }
+    value
+}
+
+/// The octets that a word spells, as many as the array has.
+pub fn read_array<const N: usize>(word: &[u8]) -> Result<[u8; N], TextFault>
+    ensures { result ≡ exactly_of N word.now }
+{
+    <[u8; N] as FromHex>::from_hex(word)
+        .ok()
+        .ok_or(TextFault::Hex)
+}
+
+/// The octets that a word spells, whose count lies within bounds. Memory is taken for a word that
+/// spells such octets alone.
+pub fn read_octets(alloc: Global, word: &[u8], low: usize, high: usize) -> Result<Octets, TextFault>
+    ensures { Answers result (octets_of (is_within low high) word.now) }
+{
+    expect_octets(word, low, high)?;
+    Ok(decoded(alloc, word)?)
+}
+
+/// Whether a word spells octets whose count lies within bounds.
+pub fn expect_octets(word: &[u8], low: usize, high: usize) -> Result<(), TextFault>
+    ensures { result ≡ checked (octets_of (is_within low high) word.now) }
+{
+    match octet_count(word) {
+        Some(count) if low <= count && count <= high => Ok(()),
+        _ => Err(TextFault::Hex),
+    }
+}
+
+/// Whether a word spells a key of 16 or 32 octets.
+pub fn expect_key(word: &[u8]) -> Result<(), TextFault>
+    ensures { result ≡ checked (octets_of (is_either 16 32) word.now) }
+{
+    match octet_count(word) {
+        Some(16 | 32) => Ok(()),
+        _ => Err(TextFault::Hex),
+    }
+}
+
+/// How many octets a word spells, if it spells octets.
+fn octet_count(word: &[u8]) -> Option<usize>
+    ensures { result ≡ option_map length (result_ok (decode_of word.now)) }
+{
+    if word.len() % 2 == 0 && are_hex_digits(word) {
+        Some(word.len() / 2)
+    } else {
+        None
+    }
+}
+
+/// Whether there are only hexadecimal digits, of either case.
+fn are_hex_digits(word: &[u8]) -> bool
+    ensures { result ≡ list_all is_hex_digit word.now }
+{
+    word.iter().all(|octet| octet.is_ascii_hexdigit())
+}
+
+/// The octets that a word spells, where it spells octets.
+pub fn decoded(alloc: Global, word: &[u8]) -> Result<Octets, AllocError>
+    requires { IsOk (decode_of word.now) }
+    ensures { IfOk result (λ octets. decode_of word.now ≡ Ok octets) }
+{
+    match hex::decode(alloc, word) {
+        Ok(octets) => Ok(Octets::of(octets)),
+        Err(_) => Err(AllocError),
+    }
+}

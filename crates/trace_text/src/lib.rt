@@ -1,0 +1,23 @@
+//! The text of a trace, line by line: what each form of a line says, read from its words and
+//! written as words.
+#![tactic(auto)]
+
+mod blocks;
+mod fault;
+mod forms;
+mod keyword;
+mod kinds;
+mod laws;
+mod line;
+mod reading;
+mod words;
+mod writing;
+
+pub use fault::TextFault;
+pub use laws::{law_read_or_refused, law_written_is_read};
+pub use line::Line;
+pub use reading::read_line;
+pub use writing::write_line;
+
+#[cfg(test)]
+mod tests;
