@@ -1,0 +1,66 @@
+-- What the fields of a `Control` keep, over its calls.
+use Rattle.std.proofs.Common.{◌≡◌, ◌≢◌, ℕ, zero, suc, ◌+◌, ◌-◌, ◌<◌, ◌≤◌, max, Bool, true, false, eqb, List, [], ◌∷◌, ◌++◌, length, get_or, set, drop, refl, sym, ap, ◌∙◌, subst, inl, inr, ⊎_elim, arith, eq-eqb, ne_eqb, get_or-set_other, get_or-set_same}
+use mathlib.Core.Logic.{dite}
+use native.Mathlib.Decide.{ℕ_discrete}
+use Rattle.std.proofs.lemmas.Bool.{false≢true}
+use Rattle.association_slots.specs.Views.{In, cons_if, blank_slot, free, greatest, of_seat}
+use Rattle.association_slots.specs.declared.view.SlotView.{SlotView}
+use Rattle.association_slots.specs.declared.view.Mark.{Mark}
+
+-- no slot shows an epoch above n, after one changed to x
+pub low_set : (n : ℕ) (ss : List SlotView) (k : ℕ) (x : SlotView) → x.epoch ≤ n → ((j : ℕ) → (get_or ss j blank_slot).epoch ≤ n) → (j : ℕ) → (get_or (set ss k x) j blank_slot).epoch ≤ n
+low_set n [] k x low each j = each j
+low_set n (s ∷ ss) zero x low each zero = low
+low_set n (s ∷ ss) zero x low each (suc j) = each (suc j)
+low_set n (s ∷ ss) (suc k) x low each zero = each zero
+low_set n (s ∷ ss) (suc k) x low each (suc j) = low_set n ss k x low (λ i. each (suc i)) j
+
+-- The first free place, place by place
+
+pub free_next : (out : List Bool) (place : ℕ) → get_or out place false ≡ true → free (drop place out) ≡ suc (free (drop (suc place) out))
+free_next [] place is = absurd (false≢true is)
+free_next (true ∷ out) zero is = refl
+free_next (false ∷ out) zero is = absurd (false≢true is)
+free_next (x ∷ out) (suc place) is = free_next out place is
+
+pub free_here : (out : List Bool) (place : ℕ) → get_or out place false ≡ false → free (drop place out) ≡ 0
+free_here [] zero is = refl
+free_here [] (suc place) is = refl
+free_here (true ∷ out) zero is = absurd (false≢true (sym is))
+free_here (false ∷ out) zero is = refl
+free_here (x ∷ out) (suc place) is = free_here out place is
+
+pub free_past : (out : List Bool) (place : ℕ) → length out ≤ place → free (drop place out) ≡ 0
+free_past [] zero l = refl
+free_past [] (suc place) l = refl
+free_past (x ∷ out) zero l = absurd (omega arith)
+free_past (x ∷ out) (suc place) l = free_past out place (omega arith)
+
+pub free_low : (out : List Bool) → free out ≤ length out
+free_low [] = omega arith
+free_low (true ∷ out) = let r = free_low out in omega arith
+free_low (false ∷ out) = omega arith
+
+if_same : (b : Bool) (m : Mark) (ms : List Mark) → b ≡ true → greatest (cons_if b m ms) ≡ max m.epoch (greatest ms)
+if_same b m ms is = ap (λ (x : Bool). greatest (cons_if x m ms)) is
+
+if_other : (b : Bool) (m : Mark) (ms : List Mark) → b ≡ false → greatest (cons_if b m ms) ≡ greatest ms
+if_other b m ms is = ap (λ (x : Bool). greatest (cons_if x m ms)) is
+
+-- the marks of a seat stand before those that were told
+pub greatest_own : (n : ℕ) (xs ys : List Mark) → ((m : Mark) → In m xs → m.seat ≡ n) → greatest (of_seat n (xs ++ ys)) ≡ max (greatest (of_seat n ys)) (greatest xs)
+greatest_own n [] ys own = omega arith
+greatest_own n (x ∷ xs) ys own = let r = greatest_own n xs ys (λ m i. own m (inr i)) in let s = if_same (eqb x.seat n) x (of_seat n (xs ++ ys)) (eq-eqb x.seat n (own x (inl refl))) in s ∙ omega (arith, r)
+
+pub greatest_other : (n q : ℕ) (xs ys : List Mark) → q ≢ n → ((m : Mark) → In m xs → m.seat ≡ n) → greatest (of_seat q (xs ++ ys)) ≡ greatest (of_seat q ys)
+greatest_other n q [] ys ne own = refl
+greatest_other n q (x ∷ xs) ys ne own = if_other (eqb x.seat q) x (of_seat q (xs ++ ys)) (ne_eqb x.seat q (λ e. ne (sym e ∙ own x (inl refl)))) ∙ greatest_other n q xs ys ne (λ m i. own m (inr i))
+
+-- the greatest told epoch of each number, when a seat has come back
+pub overshot_told : (overshot : List ℕ) (n high : ℕ) (xs ys : List Mark) → length overshot ≡ 8 → 0 < n → n < 9 → ((m : Mark) → In m xs → m.seat ≡ n) → high ≡ greatest xs
+    → ((i : ℕ) → i < 8 → get_or overshot i 0 ≡ greatest (of_seat (i + 1) ys)) → (i : ℕ) → i < 8 → get_or (set overshot (n - 1) (max (get_or overshot (n - 1) 0) high)) i 0 ≡ greatest (of_seat (i + 1) (xs ++ ys))
+overshot_told overshot n high xs ys eight some few own is before i l = dite (ℕ_discrete i (n - 1))
+    (λ same. let num : i + 1 ≡ n = omega arith in
+    ap (λ (k : ℕ). get_or (set overshot (n - 1) (max (get_or overshot (n - 1) 0) high)) k 0) same ∙ (get_or-set_same overshot (n - 1) (max (get_or overshot (n - 1) 0) high) 0 (omega arith)
+    ∙ (ap (λ (k : ℕ). max (get_or overshot k 0) high) (sym same) ∙ (let b = before i l in omega (arith, subst (λ (k : ℕ). greatest (of_seat (i + 1) (xs ++ ys)) ≡ max (greatest (of_seat k ys)) (greatest xs)) (sym num) (subst (λ (k : ℕ). greatest (of_seat k (xs ++ ys)) ≡ max (greatest (of_seat n ys)) (greatest xs)) (sym num) (greatest_own n xs ys own)))))))
+    (λ ne. get_or-set_other overshot (n - 1) i (max (get_or overshot (n - 1) 0) high) 0 ne ∙ (before i l ∙ sym (greatest_other n (i + 1) xs ys (λ e. ne (omega arith)) own)))

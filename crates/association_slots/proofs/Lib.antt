@@ -1,0 +1,15 @@
+pub mod WordParts
+pub mod Lists
+pub mod StaysSettled
+pub mod Grows
+pub mod Learning
+pub mod ControlKeeps
+pub mod Sixteen
+pub mod AddKeeps
+pub mod SeatsKeep
+pub mod CardsKeep
+pub mod Keeping
+pub mod CardWords
+pub mod KnownCards
+pub mod SeatKeeping
+pub mod Examples

@@ -1,0 +1,28 @@
+use Rattle.std.proofs.Common.{rules, arith, ℕ, ◌≡◌, ◌≢◌, ◌<◌, ◌≤◌, ◌*◌, true, false, length, ap, ◌∙◌, sym, subst}
+use Rattle.atomic_table.specs.Seated.{TableId}
+use Rattle.association_slots.specs.Views.{ControlAt, SeatAt, control_of, seat_of, slot, current, top, IsOpen}
+use Rattle.association_slots.specs.declared.view.ControlView.{ControlView}
+use Rattle.atomic_table.specs.Table.{Me}
+use Rattle.association_slots.specs.declared.view.View.{View}
+use Rattle.association_slots.proofs.Keeping.{low_set}
+use Rattle.association_slots.proofs.ControlKeeps.{looks}
+use Rattle.association_slots.proofs.control.Control.next_of.Goals as goal
+
+pub load-word-requires : goal.load-word-requires
+load-word-requires c = let is = ap (λ (v : ControlAt). v.view) c.self.view_is in let here = ap (λ (v : ControlAt). v.table) c.self.view_is ∙ (c.requires.here ∙ sym c.table.view_is) in (
+  here,
+  omega (arith, c.requires.open.0, c.self.invariant.limit_is.2, ap (λ (t : TableId). t.words) here),
+  looks _ _ _ _ (ap (λ m. m.0) c.self.invariant.is) (search rules) (subst (λ (i : ℕ). (slot (control_of c.self.inside.place.me.0) i).shut ≡ false) (search rules) (subst (λ (d : ControlView). (slot d c.args.an).shut ≡ false) (sym is) c.requires.open.1)),
+)
+
+pub invariant_of-self : goal.invariant_of-self
+invariant_of-self c = record {
+  is = search rules;
+  first_is = search rules;
+  limit_is = search rules;
+  given_is = search rules;
+  slots_low = λ an. subst (λ (m : Me ℕ View). (slot (control_of m.0) an).epoch ≤ c.self.inside.given) (sym c.load-word.ensures.2.0) (low_set c.self.inside.given (control_of c.self.inside.place.me.0).slots c.from.result _ (c.self.invariant.slots_low c.from.result) c.self.invariant.slots_low an);
+  last_is = search rules;
+  out_is = search rules;
+  over_is = search rules;
+}

@@ -1,0 +1,133 @@
+//! What the rule of a table says: each of these holds between any two steps of any number of
+//! threads.
+ghost use Rattle.std.specs.Prelude.{◌≡◌, ◌≢◌, ◌⊎◌, ℕ, ◌+◌, ◌-◌, ◌*◌, ◌^◌, ◌<◌, ◌≤◌, List, true, false, slice_index};
+ghost use mathlib.Core.Option.{some};
+ghost use lib.ListN.{get_elem?};
+ghost use Rattle.association_slots.specs.Cards.{Knows, card_at, card_words, card_in};
+ghost use Rattle.association_slots.specs.Rule.{Around, AtLeast, ClaimsRise, HoldsCards, IsAsLeft, Rise};
+ghost use Rattle.association_slots.specs.Views.{In, Among, adds, overs, gones, slot, current, present_at, IsOpen, WasShut, WasAbsent, met, lost, claimed, count_all};
+ghost use Rattle.association_slots.specs.Words.{epoch_of, flag_of, next_of, an_of};
+ghost use Rattle.association_slots.specs.declared.card.Card.{Card};
+ghost use Rattle.association_slots.specs.declared.view.Addition.{Addition};
+ghost use Rattle.association_slots.specs.declared.view.ControlView.{ControlView};
+ghost use Rattle.association_slots.specs.declared.view.Mark.{Mark};
+ghost use Rattle.association_slots.specs.declared.view.NextSeen.{NextSeen};
+ghost use Rattle.association_slots.specs.declared.view.SeatView.{SeatView};
+ghost use Rattle.association_slots.specs.declared.view.View.{View};
+ghost use Rattle.association_slots.specs.declared.view.View.TheVariants.{Seat};
+
+/// The words are as control left them, and the words of each card hold it.
+pub fn law_words()
+    ensures { (c : ControlView) (words : List ℕ) (views : List View) → Around c words views
+        → IsAsLeft c words × HoldsCards c words }
+{}
+
+/// A present current word names an open slot with its epoch.
+pub fn law_names_an_open_slot()
+    ensures { (c : ControlView) (words : List ℕ) (views : List View) → Around c words views
+        → flag_of (slice_index words 4) ≡ true → (an_of (slice_index words 4) < 4)
+        × (flag_of (slice_index words (an_of (slice_index words 4))) ≡ false)
+        × (epoch_of (slice_index words (an_of (slice_index words 4)))
+        ≡ epoch_of (slice_index words 4)) }
+{}
+
+/// Raised epochs rise, and one that was shut is open in no slot again.
+pub fn law_raised_epochs_rise()
+    ensures { (c : ControlView) (words : List ℕ) (views : List View) → Around c words views
+        → Rise c.raises × ((an e k : ℕ) → IsOpen c an e → WasShut c k e → ⊥) }
+{}
+
+/// What a seat was shown as present was pointed at, and is above neither what the current word
+/// shows nor what the slot does.
+pub fn law_loaded()
+    ensures { (c : ControlView) (words : List ℕ) (views : List View) → Around c words views
+        → (i : ℕ) (v : SeatView) → get_elem? views i ≡ some (Seat v) → v.shown.present ≡ true
+        → In v.shown c.points × (v.shown.epoch ≤ epoch_of (slice_index words 4))
+        × (v.shown.epoch ≤ epoch_of (slice_index words v.shown.an)) }
+{}
+
+/// What a seat loaded as present was pointed at by control, and is not above what the current word
+/// shows.
+pub fn law_loaded_was_pointed_at()
+    ensures { (c : ControlView) (words : List ℕ) (views : List View) → Around c words views
+        → (i : ℕ) (v : SeatView) → get_elem? views i ≡ some (Seat v) → (e : ℕ) → In e v.loaded
+        → ((an : ℕ) × (an < 4) × In (present_at an e) c.points)
+        × (e ≤ epoch_of (slice_index words 4)) }
+{}
+
+/// Claims of all seats, those that came back too, differ in epoch or number.
+pub fn law_claims_differ()
+    ensures { (c : ControlView) (words : List ℕ) (views : List View) → Around c words views
+        → (epoch pn : ℕ) → count_all (claimed epoch pn) views ≤ 1 }
+{}
+
+/// A claimed number is a packet number, from the first one on; its epoch was pointed at under its
+/// AN, and it is below what the slot shows, or showed when it was shut.
+pub fn law_claims_are_numbers()
+    ensures { (c : ControlView) (words : List ℕ) (views : List View) → Around c words views
+        → (a : Addition) → Among adds a views → a.claimed ≡ true
+        → (c.first ≤ a.pn) × (a.pn < 2 ^ 32) × In (present_at a.an a.met) c.points
+        × AtLeast c words a.an a.met (a.pn + 1) }
+{}
+
+/// Under one epoch the claims of a seat rise, and are not below what it was given.
+pub fn law_claims_rise()
+    ensures { (c : ControlView) (words : List ℕ) (views : List View) → Around c words views
+        → (i : ℕ) (v : SeatView) → get_elem? views i ≡ some (Seat v) → ClaimsRise v.additions
+        × ((f : NextSeen) (a : Addition) → In f v.start.given → In a v.additions → a.claimed ≡ true
+        → a.an ≡ f.an → a.met ≡ f.epoch → f.next ≤ a.pn) }
+{}
+
+/// A slot's next number is the first one, and one more for each addition that met its epoch. What
+/// was found when it was shut is no more than that.
+pub fn law_sums()
+    ensures { (c : ControlView) (words : List ℕ) (views : List View) → Around c words views
+        → ((an : ℕ) → an < 4 → 0 < (slot c an).epoch
+        → next_of (slice_index words an) ≡ c.first + count_all (met an (slot c an).epoch) views)
+        × ((f : NextSeen) → In f c.found → f.next ≤ c.first + count_all (met f.an f.epoch) views) }
+{}
+
+/// At most sixteen additions that met an epoch got nothing, and a slot's next number is above
+/// 2 ^ 32 by no more than these: it never reaches the bit above.
+pub fn law_next_is_low()
+    ensures { (c : ControlView) (words : List ℕ) (views : List View) → Around c words views
+        → ((an epoch : ℕ) → count_all (lost an epoch) views ≤ 16)
+        × ((an : ℕ) → an < 4 → 0 < (slot c an).epoch
+        → next_of (slice_index words an) ≤ 2 ^ 32 + 16) }
+{}
+
+/// A seat marks an epoch as over only where the slot's next number is above 2 ^ 32, or was when it
+/// was shut.
+pub fn law_over()
+    ensures { (c : ControlView) (words : List ℕ) (views : List View) → Around c words views
+        → (m : Mark) → Among overs m views → AtLeast c words m.an m.epoch (2 ^ 32 + 1) }
+{}
+
+/// A seat finds an epoch gone only where it was shut.
+pub fn law_gone()
+    ensures { (c : ControlView) (words : List ℕ) (views : List View) → Around c words views
+        → (m : Mark) → Among gones m views → WasShut c m.an m.epoch }
+{}
+
+/// A card that a seat knows is the card of its epoch.
+pub fn law_cards()
+    ensures { (c : ControlView) (words : List ℕ) (views : List View) → Around c words views
+        → (i : ℕ) (v : SeatView) → get_elem? views i ≡ some (Seat v)
+        → (epoch : ℕ) (card : Card) → 0 < epoch → Knows v.reads epoch card
+        → card_at c epoch ≡ card }
+{}
+
+/// A note of nothing present was made while nothing was present, and its epoch was the last one
+/// then.
+pub fn law_notes()
+    ensures { (c : ControlView) (words : List ℕ) (views : List View) → Around c words views
+        → (i : ℕ) (v : SeatView) → get_elem? views i ≡ some (Seat v)
+        → (e : ℕ) → In e v.notes → WasAbsent c.points e }
+{}
+
+/// The seats that are out have different numbers.
+pub fn law_numbers_differ()
+    ensures { (c : ControlView) (words : List ℕ) (views : List View) → Around c words views
+        → (i j : ℕ) (u v : SeatView) → get_elem? views i ≡ some (Seat u)
+        → get_elem? views j ≡ some (Seat v) → u.number ≡ v.number → i ≡ j }
+{}

@@ -1,0 +1,97 @@
+-- What a call of `claim` did to the view v of its seat, which is w after it.
+use Rattle.std.specs.Prelude.{◌≡◌, ◌⊎◌, ℕ, ◌^◌, ◌<◌, ◌≤◌, Bool, true, false, List, [], ◌∷◌, ◌++◌, map, Result, Ok, Err}
+use Rattle.association_slots.specs.Cards.{Knows}
+use Rattle.association_slots.specs.Views.{In}
+use Rattle.association_slots.specs.declared.card.Card.{Card}
+use Rattle.association_slots.specs.declared.view.Addition.{Addition}
+use Rattle.association_slots.specs.declared.view.Mark.{Mark}
+use Rattle.association_slots.specs.declared.view.NextSeen.{NextSeen}
+use Rattle.association_slots.specs.declared.view.SeatView.{SeatView}
+use Rattle.packet_claims.specs.declared.answers.Claim.{Claim}
+use Rattle.packet_claims.specs.declared.answers.NoClaim.{NoClaim}
+use Rattle.packet_claims.specs.declared.answers.NoClaim.TheVariants.{NoKey, Exhausted}
+
+-- the mark of an epoch that was gone when its slot was reached
+abbrev pub gone_mark : Addition → Mark
+gone_mark a = record { seat = a.seat; an = a.an; epoch = a.loaded }
+
+-- What stays of the view, and the additions that got nothing on the way, newest first: each found
+-- its epoch gone
+pub record Stays (v w : SeatView) (lost : List Addition) : Type 0 where
+  pub number : w.number ≡ v.number
+  pub limit : w.limit ≡ v.limit
+  pub start : w.start ≡ v.start
+  pub lost_nothing : (a : Addition) → In a lost → (a.claimed ≡ false) × (v.start.last ≤ a.loaded)
+  pub gone : w.gone ≡ map gone_mark lost ++ v.gone
+  pub loaded : (e : ℕ) → In e v.loaded → In e w.loaded
+  pub reads : (more : List (ℕ × ℕ)) × (w.reads ≡ more ++ v.reads)
+
+-- The epoch of an answer is below none that the seat loaded, noted, marked or was given, nor below
+-- the one that was pointed at last when the seat was made
+pub record NotBelow (v : SeatView) (epoch : ℕ) : Type 0 where
+  pub loaded : (e : ℕ) → In e v.loaded → e ≤ epoch
+  pub notes : (e : ℕ) → In e v.notes → e ≤ epoch
+  pub start : v.start.last ≤ epoch
+  pub given : (f : NextSeen) → In f v.start.given → f.epoch ≤ epoch
+
+-- That of an epoch that was present is above each after which nothing was
+pub record Above (v : SeatView) (epoch : ℕ) : Type 0 where
+  pub notes : (e : ℕ) → In e v.notes → e < epoch
+  pub start : v.start.present ≡ false → v.start.last < epoch
+
+-- exactly one claim more and no note: a packet number, with the card of its epoch by the words that
+-- the seat read
+pub record IsClaim (v w : SeatView) (an epoch pn : ℕ) (card : Card) : Type 0 where
+  pub lost : List Addition
+  pub stays : Stays v w lost
+  pub additions : w.additions ≡ record {
+    seat = v.number;
+    an = an;
+    met = epoch;
+    loaded = epoch;
+    claimed = true;
+    pn = pn;
+  } ∷ lost ++ v.additions
+  pub notes : w.notes ≡ v.notes
+  pub over : w.over ≡ v.over
+  pub not_below : NotBelow v epoch
+  pub above : Above v epoch
+  pub loaded : In epoch w.loaded
+  pub number : (0 < epoch) × (pn < 2 ^ 32)
+  pub given : (f : NextSeen) → In f v.start.given → f.an ≡ an → f.epoch ≡ epoch → f.next ≤ pn
+  pub knows : Knows w.reads epoch card
+
+-- exactly one note more and no claim: the last load found nothing present after that epoch
+pub record IsNoKey (v w : SeatView) (after : ℕ) : Type 0 where
+  pub lost : List Addition
+  pub stays : Stays v w lost
+  pub additions : w.additions ≡ lost ++ v.additions
+  pub notes : w.notes ≡ after ∷ v.notes
+  pub over : w.over ≡ v.over
+  pub absent : (w.shown.present ≡ false) × (w.shown.epoch ≡ after)
+  pub not_below : NotBelow v after
+
+-- no claim and no note: a seat of this number found no packet number left in the epoch, before, or
+-- now by one addition more
+pub record IsExhausted (v w : SeatView) (epoch : ℕ) : Type 0 where
+  pub lost : List Addition
+  pub stays : Stays v w lost
+  pub additions : (w.additions ≡ lost ++ v.additions) ⊎ (w.additions ≡ record {
+    seat = v.number;
+    an = w.shown.an;
+    met = epoch;
+    loaded = epoch;
+    claimed = false;
+    pn = 0;
+  } ∷ lost ++ v.additions)
+  pub notes : w.notes ≡ v.notes
+  pub over : (m : Mark) × In m w.over × (m.seat ≡ v.number) × (m.epoch ≡ epoch)
+  pub not_below : NotBelow v epoch
+  pub above : Above v epoch
+  pub loaded : In epoch w.loaded
+
+-- what the call did, by its answer
+abbrev pub Did : SeatView → SeatView → Result Claim NoClaim → Type 0
+Did v w (Ok k) = IsClaim v w k.an k.epoch k.pn k.card
+Did v w (Err (NoKey after)) = IsNoKey v w after
+Did v w (Err (Exhausted epoch)) = IsExhausted v w epoch
