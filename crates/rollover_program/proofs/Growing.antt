@@ -5,11 +5,11 @@ use Rattle.std.proofs.lemmas.List.Concat.{flat_map-append}
 use Rattle.lan_base.specs.declared.name.Name.{Name}
 use Rattle.lan_base.specs.Faults.{Rose}
 use Rattle.lan_base.specs.Told.{after}
-use Rattle.lan_core.specs.declared.settings.Settings.{Settings}
-use Rattle.lan_core.specs.declared.event.Event.TheVariants.{Tick}
-use Rattle.lan_core.specs.declared.fact.Fact.{Fact}
-use Rattle.lan_core.specs.Run.{Run, stations, facts_of}
-use Rattle.lan_core.specs.Legal.{expected}
+use Rattle.rollover_program.specs.declared.settings.Settings.{Settings}
+use Rattle.rollover_program.specs.declared.event.Event.TheVariants.{Tick}
+use Rattle.rollover_program.specs.declared.fact.Fact.{Fact}
+use Rattle.rollover_program.specs.one.Run.{Run, stations, facts_of}
+use Rattle.rollover_program.specs.one.Legal.{expected}
 use Rattle.rollover_program.specs.declared.halt.Halt.{Halt}
 use Rattle.rollover_program.specs.declared.halt.Halt.TheVariants.{Trace, ReadFault, WriteFault, Memory, Limit}
 use Rattle.rollover_program.specs.Rendering.{line_of_fact, rendered}

@@ -8,8 +8,8 @@ use Rattle.std.proofs.lemmas.List.Splits.{length-slice_split}
 use Rattle.std.proofs.lemmas.Bool.Decides.{eqb_tells}
 use Rattle.lan_base.specs.Faults.{Rose}
 use Rattle.lan_base.specs.Told.{after}
-use Rattle.lan_core.specs.declared.settings.Settings.{Settings}
-use Rattle.lan_core.specs.Run.{Run}
+use Rattle.rollover_program.specs.declared.settings.Settings.{Settings}
+use Rattle.rollover_program.specs.one.Run.{Run}
 use Rattle.rollover_program.specs.declared.halt.Halt.{Halt}
 use Rattle.rollover_program.specs.declared.halt.Halt.TheVariants.{Trace, ReadFault, WriteFault, Memory, Limit}
 use Rattle.rollover_program.specs.declared.halt.Kind.{Kind}

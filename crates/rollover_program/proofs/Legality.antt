@@ -4,13 +4,13 @@ use Rattle.lan_base.specs.declared.address.Mi.{Mi}
 use Rattle.lan_base.specs.declared.address.Sci.{Sci}
 use Rattle.lan_base.specs.declared.name.Name.{Name}
 use Rattle.lan_base.specs.Counted.{counted}
-use Rattle.lan_core.specs.declared.settings.Settings.{Settings}
-use Rattle.lan_core.specs.declared.event.Event.TheVariants as events
-use Rattle.lan_core.specs.declared.fact.Fact.{Fact}
-use Rattle.lan_core.specs.declared.fact.Fact.TheVariants.{Ticked}
-use Rattle.lan_core.specs.Run.{Run, Profile, stations, air}
-use Rattle.lan_core.specs.Life.{Entry, ticked, clock, entries, life}
-use Rattle.lan_core.specs.Legal.{announced, expected, IsStepped}
+use Rattle.rollover_program.specs.declared.settings.Settings.{Settings}
+use Rattle.rollover_program.specs.declared.event.Event.TheVariants as events
+use Rattle.rollover_program.specs.declared.fact.Fact.{Fact}
+use Rattle.rollover_program.specs.declared.fact.Fact.TheVariants.{Ticked}
+use Rattle.rollover_program.specs.one.Run.{Run, Profile, stations, air}
+use Rattle.rollover_program.specs.one.Life.{Entry, ticked, clock, entries, life}
+use Rattle.rollover_program.specs.one.Legal.{announced, expected, IsStepped}
 use Rattle.rollover_program.specs.declared.line.Line.{Line}
 use Rattle.rollover_program.specs.declared.line.Line.TheVariants.{Group, Station, Tick}
 use Rattle.rollover_program.specs.Text.{lines_of}

@@ -1,3 +1,4 @@
+mod Examples
 pub mod Digits
 pub mod Pieces
 pub mod Ticking

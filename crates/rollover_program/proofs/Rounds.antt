@@ -2,12 +2,12 @@
 use Rattle.std.proofs.Common.{◌≡◌, ℕ, ◌+◌, Bool, true, false, cond, List, ◌∷◌, Option, Some, None, refl, arith}
 use Rattle.std.specs.Prelude.{Result, Ok, Err, IfOk, is_some}
 use Rattle.std.specs.declared.alloc.AllocError.{AllocError}
-use Rattle.lan_core.specs.declared.fact.Fact.{Fact}
-use Rattle.lan_core.specs.declared.settings.Settings.{Settings}
-use Rattle.lan_core.specs.declared.event.Event.TheVariants.{Tick}
-use Rattle.lan_core.specs.Run.{Run}
-use Rattle.lan_core.specs.Life.{ticked, sent}
-use Rattle.lan_core.specs.Announcing.{announces}
+use Rattle.rollover_program.specs.declared.fact.Fact.{Fact}
+use Rattle.rollover_program.specs.declared.settings.Settings.{Settings}
+use Rattle.rollover_program.specs.declared.event.Event.TheVariants.{Tick}
+use Rattle.rollover_program.specs.one.Run.{Run}
+use Rattle.rollover_program.specs.one.Life.{ticked, sent}
+use Rattle.rollover_program.specs.one.Announcing.{announces}
 use Rattle.rollover_program.specs.declared.station.Station.{Station}
 use Rattle.rollover_program.specs.declared.lan.Lan.{Lan}
 use Rattle.rollover_program.specs.Station.{Ticks}

@@ -5,11 +5,11 @@ use Rattle.lan_base.specs.declared.address.Sci.{Sci}
 use Rattle.lan_base.specs.declared.name.Name.{Name}
 use Rattle.lan_base.specs.Counted.{counted}
 use Rattle.lan_base.specs.Told.{after}
-use Rattle.lan_core.specs.declared.settings.Settings.{Settings}
-use Rattle.lan_core.specs.declared.event.Event.TheVariants.{Start}
-use Rattle.lan_core.specs.declared.fact.Fact.{Fact}
-use Rattle.lan_core.specs.declared.fact.Fact.TheVariants.{Life}
-use Rattle.lan_core.specs.Run.{Run}
+use Rattle.rollover_program.specs.declared.settings.Settings.{Settings}
+use Rattle.rollover_program.specs.declared.event.Event.TheVariants.{Start}
+use Rattle.rollover_program.specs.declared.fact.Fact.{Fact}
+use Rattle.rollover_program.specs.declared.fact.Fact.TheVariants.{Life}
+use Rattle.rollover_program.specs.one.Run.{Run}
 use Rattle.rollover_program.specs.declared.halt.Halt.{Halt}
 use Rattle.rollover_program.specs.declared.halt.Halt.TheVariants.{Trace, ReadFault, WriteFault, Memory, Limit}
 use Rattle.rollover_program.specs.declared.line.Line.{Line}

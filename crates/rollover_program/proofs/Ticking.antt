@@ -4,10 +4,10 @@ use Rattle.lan_base.specs.declared.address.Mi.{Mi}
 use Rattle.aes_cmac.specs.Cmac.{cmac}
 use Rattle.mkpdu_codec.specs.declared.announcement.Announcement.{Announcement}
 use Rattle.mkpdu_codec.specs.Written.{written}
-use Rattle.lan_core.specs.declared.settings.Settings.{Settings}
-use Rattle.lan_core.specs.Run.{Profile}
-use Rattle.lan_core.specs.Life.{Entry, ticked}
-use Rattle.lan_core.specs.Announcing.{is_hello_due, announces}
+use Rattle.rollover_program.specs.declared.settings.Settings.{Settings}
+use Rattle.rollover_program.specs.one.Run.{Profile}
+use Rattle.rollover_program.specs.one.Life.{Entry, ticked}
+use Rattle.rollover_program.specs.one.Announcing.{is_hello_due, announces}
 use Rattle.rollover_program.specs.declared.station.Station.{Station}
 use Rattle.rollover_program.specs.Station.{Lives, Ticks}
 

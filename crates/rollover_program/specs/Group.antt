@@ -1,11 +1,11 @@
 -- What a group of one station stands for: a run.
 use Rattle.std.specs.Prelude.{◌≡◌, ◌≤◌, ℕ, false, List, [], ◌∷◌, length, Option, Some, None}
 use Rattle.lan_base.specs.declared.address.Mi.{Mi}
-use Rattle.lan_core.specs.declared.settings.Settings.{Settings}
-use Rattle.lan_core.specs.declared.fact.Fact.{Fact}
-use Rattle.lan_core.specs.declared.fact.Fact.TheVariants.{Ticked, Framed}
-use Rattle.lan_core.specs.Run.{Run, Profile, stations, air}
-use Rattle.lan_core.specs.Life.{Entry, life}
+use Rattle.rollover_program.specs.declared.settings.Settings.{Settings}
+use Rattle.rollover_program.specs.declared.fact.Fact.{Fact}
+use Rattle.rollover_program.specs.declared.fact.Fact.TheVariants.{Ticked, Framed}
+use Rattle.rollover_program.specs.one.Run.{Run, Profile, stations, air}
+use Rattle.rollover_program.specs.one.Life.{Entry, life}
 use Rattle.rollover_program.specs.declared.lan.Lan.{Lan}
 use Rattle.rollover_program.specs.Station.{Lives, CanGoOn}
 

@@ -1,6 +1,6 @@
 -- What the lines of a trace make is a legal run.
 use Rattle.std.specs.Prelude.{◌≡◌, [], MatchOption}
-use Rattle.lan_core.specs.Legal.{IsLegal}
+use Rattle.rollover_program.specs.one.Legal.{IsLegal}
 use Rattle.rollover_program.specs.Performing.{Stage}
 
 -- nothing happens before a group line; after it the run is legal under its settings

@@ -1,3 +1,4 @@
+pub mod one
 pub mod Text
 pub mod Rendering
 pub mod Station

@@ -3,11 +3,11 @@ use Rattle.std.specs.Prelude.{ℕ, zero, suc, ◌+◌, List, [], ◌∷◌, leng
 use Rattle.lan_base.specs.declared.name.Name.{Name}
 use Rattle.lan_base.specs.declared.address.Mi.{Mi}
 use Rattle.lan_base.specs.Counted.{counted}
-use Rattle.lan_core.specs.declared.event.Event.{Event}
-use Rattle.lan_core.specs.declared.event.Event.TheVariants as events
-use Rattle.lan_core.specs.declared.settings.Settings.{Settings}
-use Rattle.lan_core.specs.Run.{Run, Profile, stations, facts_of}
-use Rattle.lan_core.specs.Legal.{expected}
+use Rattle.rollover_program.specs.declared.event.Event.{Event}
+use Rattle.rollover_program.specs.declared.event.Event.TheVariants as events
+use Rattle.rollover_program.specs.declared.settings.Settings.{Settings}
+use Rattle.rollover_program.specs.one.Run.{Run, Profile, stations, facts_of}
+use Rattle.rollover_program.specs.one.Legal.{expected}
 use Rattle.rollover_program.specs.declared.line.Line.{Line}
 use Rattle.rollover_program.specs.declared.line.Line.TheVariants.{Group, Station, Tick}
 use Rattle.rollover_program.specs.Judging.{judged}

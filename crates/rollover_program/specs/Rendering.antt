@@ -3,8 +3,8 @@ use Rattle.std.specs.Prelude.{ℕ, slice_get, unwrap_or, Bool, true, false, List
 use Rattle.std.specs.List.{flat_map}
 use Rattle.hex.specs.Hex.{encode_lower}
 use Rattle.lan_base.specs.declared.name.Name.{Name}
-use Rattle.lan_core.specs.declared.fact.Fact.{Fact}
-use Rattle.lan_core.specs.declared.fact.Fact.TheVariants.{Life, Ticked, Framed}
+use Rattle.rollover_program.specs.declared.fact.Fact.{Fact}
+use Rattle.rollover_program.specs.declared.fact.Fact.TheVariants.{Life, Ticked, Framed}
 
 -- the name of a station, and nothing where there is no such station
 abbrev pub name_at : List Name → ℕ → List ℕ

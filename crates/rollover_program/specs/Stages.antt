@@ -3,7 +3,7 @@ use Rattle.std.specs.Prelude.{◌≡◌, ◌≢◌, ◌≤◌, ◌+◌, ◌++◌
 use Rattle.lan_base.specs.Faults.{Rose}
 use Rattle.lan_base.specs.Told.{after}
 use Rattle.mka_kdf.specs.Kdf.{ick_of}
-use Rattle.lan_core.specs.declared.settings.Settings.{Settings}
+use Rattle.rollover_program.specs.declared.settings.Settings.{Settings}
 use Rattle.rollover_program.specs.declared.line.Line.{Line}
 use Rattle.rollover_program.specs.declared.line.Line.TheVariants as lines
 use Rattle.rollover_program.specs.declared.replay.Stage.{Stage}

@@ -3,10 +3,10 @@ use Rattle.std.specs.Prelude.{◌≡◌, ◌≤◌, ℕ, ◌+◌, List, ◌∷�
 use Rattle.lan_base.specs.declared.address.Mi.{Mi}
 use Rattle.mka_kdf.specs.Kdf.{ick_of}
 use Rattle.mkpdu_codec.specs.Written.{IsWritable}
-use Rattle.lan_core.specs.declared.settings.Settings.{Settings}
-use Rattle.lan_core.specs.Run.{Profile}
-use Rattle.lan_core.specs.Life.{Entry, ticked, sent, clock, last_sent_at}
-use Rattle.lan_core.specs.Announcing.{announces, announcement, mka_frame}
+use Rattle.rollover_program.specs.declared.settings.Settings.{Settings}
+use Rattle.rollover_program.specs.one.Run.{Profile}
+use Rattle.rollover_program.specs.one.Life.{Entry, ticked, sent, clock, last_sent_at}
+use Rattle.rollover_program.specs.one.Announcing.{announces, announcement, mka_frame}
 use Rattle.rollover_program.specs.declared.station.Station.{Station}
 
 -- the station is in the life that has this identifier and this history

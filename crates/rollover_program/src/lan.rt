@@ -1,16 +1,16 @@
 //! The group so far: one station, and how many frames are on the air.
 
 ghost use Rattle.std.specs.Prelude.{◌≡◌, ◌<◌, ◌≤◌, ◌+◌, ◌^◌, ◌∷◌, [], ℕ, IfOk, OnOk, Some, None};
-ghost use Rattle.lan_core.specs.declared.settings.Settings.{Settings};
-ghost use Rattle.lan_core.specs.declared.event.Event.TheVariants.{Tick};
-ghost use Rattle.lan_core.specs.Run.{Run, Happening};
-ghost use Rattle.lan_core.specs.Legal.{expected};
+ghost use Rattle.rollover_program.specs.declared.settings.Settings.{Settings};
+ghost use Rattle.rollover_program.specs.declared.event.Event.TheVariants.{Tick};
+ghost use Rattle.rollover_program.specs.one.Run.{Run, Happening};
+ghost use Rattle.rollover_program.specs.one.Legal.{expected};
 ghost use Rattle.rollover_program.specs.Station.{CanGoOn};
 ghost use Rattle.rollover_program.specs.Group.{StandsFor, IsYoung, shown_at};
 
+use crate::fact::{Fact, Facts};
 use crate::station::{Station, tick};
 use lan_base::Octets;
-use lan_core::{Fact, Facts};
 use std::alloc::{AllocError, Global};
 
 /// A group of one station.

@@ -4,8 +4,8 @@ ghost use Rattle.std.specs.Prelude.{[], Some, Err, ◌⊎◌, ◌≡◌, ◌<◌
 ghost use Rattle.lan_base.specs.Counted.{counted};
 ghost use Rattle.lan_base.specs.Told.{after};
 ghost use Rattle.mka_kdf.specs.Kdf.{ick_of};
-ghost use Rattle.lan_core.specs.declared.settings.Settings.{Settings};
-ghost use Rattle.lan_core.specs.Run.{Run};
+ghost use Rattle.rollover_program.specs.declared.settings.Settings.{Settings};
+ghost use Rattle.rollover_program.specs.one.Run.{Run};
 ghost use Rattle.rollover_program.specs.declared.line.Line.TheVariants as lines;
 ghost use Rattle.rollover_program.specs.Rendering.{rendered};
 ghost use Rattle.rollover_program.specs.Judging.{judged};
@@ -15,6 +15,7 @@ ghost use Rattle.rollover_program.specs.Outcome.{IsCutShort, IsPerformed, IsRepl
 ghost use Rattle.rollover_program.specs.Lines.{IsFit};
 ghost use Rattle.rollover_program.specs.Stages.{IsSound, IsAfter, IsStep};
 
+use crate::fact::{Fact, Facts};
 use crate::halt::{Halt, Kind, Which};
 use crate::lan::Lan;
 use crate::line::{Line, read_line};
@@ -25,7 +26,6 @@ use aes_block::Secret;
 use lan_base::{
     CountDraws, Draws, Mi, Name, Octets, ReadEnd, Sci, Sink, Source, Unwritten, read_all, write_all,
 };
-use lan_core::{Fact, Facts};
 use mka_kdf::{Group, GroupFault};
 use std::alloc::{AllocError, Global};
 

@@ -4,10 +4,10 @@ ghost use Rattle.std.specs.Prelude.{◌≡◌, ◌<◌, ◌≤◌, length, ◌+�
 ghost use Rattle.aes_cmac.specs.Cmac.{cmac};
 ghost use Rattle.mkpdu_codec.specs.Written.{written, IsWritable};
 ghost use Rattle.mka_kdf.specs.Kdf.{ick_of};
-ghost use Rattle.lan_core.specs.declared.settings.Settings.{Settings};
-ghost use Rattle.lan_core.specs.Run.{Profile};
-ghost use Rattle.lan_core.specs.Life.{Entry, ticked, sent};
-ghost use Rattle.lan_core.specs.Announcing.{is_hello_due, announces, announcement, mka_frame};
+ghost use Rattle.rollover_program.specs.declared.settings.Settings.{Settings};
+ghost use Rattle.rollover_program.specs.one.Run.{Profile};
+ghost use Rattle.rollover_program.specs.one.Life.{Entry, ticked, sent};
+ghost use Rattle.rollover_program.specs.one.Announcing.{is_hello_due, announces, announcement, mka_frame};
 ghost use Rattle.rollover_program.specs.Station.{Lives, CanGoOn, Ticks};
 
 use aes_block::Key;

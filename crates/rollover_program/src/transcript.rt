@@ -2,12 +2,12 @@
 
 ghost use Rattle.std.specs.Prelude.{◌≡◌, ◌<◌, ◌++◌, length, decimal, OnOk};
 ghost use Rattle.hex.specs.Hex.{encode_lower};
-ghost use Rattle.lan_core.specs.declared.fact.Fact.TheVariants.{Life, Ticked, Framed};
+ghost use Rattle.rollover_program.specs.declared.fact.Fact.TheVariants.{Life, Ticked, Framed};
 ghost use Rattle.rollover_program.specs.Rendering.{line_of_fact, name_at};
 
+use crate::fact::Fact;
 use itoa::Buffer;
 use lan_base::{Mi, Name, Octets};
-use lan_core::Fact;
 use std::alloc::{AllocError, Global};
 
 /// Appends the line of a fact. `names` are those of the stations, in the order of their starts.

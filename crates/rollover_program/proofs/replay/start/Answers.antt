@@ -2,8 +2,8 @@ use Rattle.std.proofs.Common.{◌≡◌, ◌++◌, ◌∷◌, [], List, refl, ap
 use Rattle.std.proofs.lemmas.Result.{err_from_is_err_and}
 use Rattle.lan_base.specs.declared.address.Mi.{Mi}
 use Rattle.lan_base.specs.declared.name.Name.{Name}
-use Rattle.lan_core.specs.declared.fact.Fact.{Fact}
-use Rattle.lan_core.specs.declared.fact.Fact.TheVariants.{Life}
+use Rattle.rollover_program.specs.declared.fact.Fact.{Fact}
+use Rattle.rollover_program.specs.declared.fact.Fact.TheVariants.{Life}
 use Rattle.rollover_program.proofs.Starting.{first_facts, no_memory_to_start, is_started}
 use Rattle.rollover_program.proofs.replay.start.Goals as goal
 

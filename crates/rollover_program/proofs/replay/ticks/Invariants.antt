@@ -1,7 +1,7 @@
 use Rattle.std.proofs.Common.{◌≡◌, ◌≤◌, List, ℕ, Option}
 use Rattle.lan_base.specs.Told.{after}
-use Rattle.lan_core.specs.declared.settings.Settings.{Settings}
-use Rattle.lan_core.specs.Run.{Run}
+use Rattle.rollover_program.specs.declared.settings.Settings.{Settings}
+use Rattle.rollover_program.specs.one.Run.{Run}
 use Rattle.rollover_program.specs.Performing.{names_of, transcript, ticks}
 use Rattle.rollover_program.specs.Group.{StandsFor, IsYoung}
 use Rattle.rollover_program.proofs.replay.ticks.Given as goal

@@ -1,5 +1,5 @@
 use Rattle.std.proofs.Common.{◌≡◌, ◌+◌, true, false, arith}
-use Rattle.lan_core.specs.Announcing.{is_hello_due}
+use Rattle.rollover_program.specs.one.Announcing.{is_hello_due}
 use Rattle.rollover_program.proofs.Ticking.{quiet, loud}
 use Rattle.rollover_program.proofs.station.tick.Goals as goal
 
