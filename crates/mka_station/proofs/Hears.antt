@@ -1,0 +1,247 @@
+-- A hearing, put together.
+use Rattle.std.proofs.Common.{◌≡◌, ◌∙◌, ℕ, ◌+◌, ◌<◌, Bool, true, false, cond, ◌||◌, nat_lt, List, [], ◌∷◌, ◌++◌, map, slice_get, Option, Some, None, is_some, option_map, refl, ap, sym, subst, arith}
+use Rattle.std.specs.Prelude.{Result, Ok, Err, IfSome}
+use Rattle.std.specs.List.{filter, list_any}
+use Rattle.lan_base.specs.declared.address.Mi.{Mi}
+use Rattle.lan_base.specs.Identifiers.{same_mi}
+use Rattle.aes_block.specs.declared.secret.Secret.{Secret}
+use Rattle.mkpdu_codec.specs.declared.announcement.Announcement.{Announcement}
+use Rattle.peer_lists.specs.declared.heard.Outcome.{Outcome}
+use Rattle.peer_lists.specs.declared.heard.Row.{Row}
+use Rattle.peer_lists.specs.Histories.{Peering, clock}
+use Rattle.peer_lists.specs.Peers.{row_at}
+use Rattle.peer_lists.specs.Table.{StandsFor as PeersStandFor}
+use Rattle.server_election.specs.Election.{elected as elected_among}
+use Rattle.sak_exchange.specs.declared.change.Change.{Change}
+use Rattle.sak_exchange.specs.declared.change.Change.TheVariants.{Dropped}
+use Rattle.sak_exchange.specs.declared.change.Why.{Why}
+use Rattle.sak_exchange.specs.declared.offer.Offer.{Offer}
+use Rattle.sak_exchange.specs.Histories.{Key, Keying, install_count, installs, installed}
+use Rattle.sak_exchange.specs.Held.{received, held, ends, allows}
+use Rattle.sak_exchange.specs.Making.{next_epoch}
+use Rattle.sak_exchange.specs.Beginning.{Beginning}
+use Rattle.sak_exchange.specs.Outcomes.{beginning, judging}
+use Rattle.sak_exchange.specs.Standing.{StandsFor as KeysStandFor, ticks_since}
+use Rattle.sak_exchange.specs.Taking.{taken, an_of, offset_of, number_of, is_supported, greatest_of, provided, provided_new, unwrapped_key, offered_key}
+use Rattle.sak_exchange.specs.Unwrapping.{given_sak}
+use Rattle.sak_exchange.proofs.Cases.{by_test, by_option}
+use Rattle.mka_station.specs.declared.reaction.Reaction.{Reaction}
+use Rattle.mka_station.specs.Lives.{Member, Entry, heard, own, candidate, peers_of, keys_of, last_spoken}
+use Rattle.mka_station.specs.Views.{View, view, is_server}
+use Rattle.mka_station.specs.Announcing.{same_option, shown}
+use Rattle.mka_station.specs.Tick.{new_server}
+use Rattle.mka_station.specs.Hearing.{hear_turn, outcome_of, offered, taken_of, key_taken, take_changes, is_accepted, verdict_of, is_listed}
+use Rattle.mka_station.specs.Standing.{State, Comes, StandsFor, HaveTwoBits, spoken_at}
+use Rattle.mka_station.specs.inside.Rows.{live_rows, candidate_in, IsShown}
+use Rattle.mka_station.specs.inside.Turns.{is_install, offered_by, answered, keys_with, followed_by}
+use Rattle.mka_station.specs.inside.Stages.{offer_at, answer_at, taken_past, follow_at, heard_past}
+use Rattle.mka_station.proofs.RowsShown.{rows-show}
+use Rattle.mka_station.proofs.Pasts.{peers-heard, peers-begun, peers-installed, keys-heard, keys-begun, keys-taken, spoken-begun, spoken-installed, view-peers, view-keys, view-server, view-elected, view-same, elected-same}
+
+abbrev pub hears_to : Member → Announcement → List Entry → Reaction
+hears_to m a p =
+    let v = view m (heard a ∷ p) in
+    record {
+      heard = Some (verdict_of (outcome_of m p a));
+      server = new_server (view m p) v;
+      changes = take_changes v.keys (offer_at m a p) (answer_at m a p) ++ (beginning (view m (taken_past m a p)).keys (follow_at m a p)).changes;
+      sent = None;
+    }
+
+pub hear-reaction : (m : Member) (a : Announcement) (p : List Entry) → hears_to m a p ≡ (hear_turn m a p).reaction
+unfolding hear_turn
+hear-reaction m a p = refl
+
+pub hear-past : (m : Member) (a : Announcement) (p : List Entry) → heard_past m a p ≡ (hear_turn m a p).past
+unfolding hear_turn
+hear-past m a p = refl
+
+-- ---- its projections
+
+pub taken-peers : (m : Member) (a : Announcement) (p : List Entry) → peers_of m (taken_past m a p) ≡ peers_of m (heard a ∷ p)
+taken-peers m a p = peers-installed m None (key_taken (answer_at m a p)) (heard a ∷ p)
+
+pub heard-peers : (m : Member) (a : Announcement) (p : List Entry) → peers_of m (heard_past m a p) ≡ peers_of m (heard a ∷ p)
+heard-peers m a p = peers-begun m (follow_at m a p) (taken_past m a p) ∙ taken-peers m a p
+
+pub heard-spoken : (m : Member) (a : Announcement) (p : List Entry) → last_spoken (heard_past m a p) ≡ last_spoken p
+heard-spoken m a p = spoken-begun (follow_at m a p) (taken_past m a p) ∙ spoken-installed None (key_taken (answer_at m a p)) (heard a ∷ p)
+
+heard-keys : (m : Member) (a : Announcement) (p : List Entry) → (view m (heard a ∷ p)).keys ≡ keys_of m p
+heard-keys m a p = view-keys m (heard a ∷ p) ∙ keys-heard m a p
+
+-- ---- what is elected, offered, taken and followed
+
+-- the server by the rows then
+pub heard-server : (m : Member) (a : Announcement) (p : List Entry) (rows : List Row) (h : List Peering) (server : Option Mi) → h ≡ peers_of m (heard a ∷ p) → ((at : ℕ) → slice_get rows at ≡ row_at (own m) h at)
+    → server ≡ elected_among (candidate m) (map candidate_in (live_rows rows)) → server ≡ (view m (heard a ∷ p)).server
+heard-server m a p rows h server same each is =
+    let shows : IsShown m (view m (heard a ∷ p)) rows = rows-show m (heard a ∷ p) h rows (sym same) each in
+    is ∙ ap (elected_among (candidate m)) shows.live_candidates ∙ sym (view-elected m (heard a ∷ p))
+
+pub offer-is : (m : Member) (a : Announcement) (p : List Entry) (h : List Peering) (server : Option Mi) (o : Outcome) → h ≡ peers_of m (heard a ∷ p) → server ≡ (view m (heard a ∷ p)).server → o ≡ outcome_of m p a
+    → offered_by o h m.mi server a ≡ offer_at m a p
+offer-is m a p h server o same is out =
+    rw (out, is, same ∙ sym (view-peers m (heard a ∷ p))) refl
+
+pub answer-is : (m : Member) (a : Announcement) (p : List Entry) (offer : Option Offer) → offer ≡ offer_at m a p → answered m.base m.setup.kek (keys_of m p) offer ≡ answer_at m a p
+answer-is m a p offer is =
+    ap (answered m.base m.setup.kek (keys_of m p)) is ∙ ap (λ (h : List Keying). answered m.base m.setup.kek h (offer_at m a p)) (sym (heard-keys m a p))
+
+pub taken-keys : (m : Member) (a : Announcement) (p : List Entry) → keys_with (key_taken (answer_at m a p)) (keys_of m p) ≡ keys_of m (taken_past m a p)
+taken-keys m a p =
+    ap (keys_with (key_taken (answer_at m a p))) (sym (keys-heard m a p)) ∙ keys-taken m (key_taken (answer_at m a p)) (heard a ∷ p)
+
+taken-view : (m : Member) (a : Announcement) (p : List Entry) → view m (taken_past m a p) ≡ record (view m (heard a ∷ p)) { keys = keys_of m (taken_past m a p) }
+taken-view m a p = view-same m (heard a ∷ p) (taken_past m a p) (taken-peers m a p)
+
+pub follow-is : (m : Member) (a : Announcement) (p : List Entry) (server : Option Mi) (o : Outcome) → server ≡ (view m (heard a ∷ p)).server → o ≡ outcome_of m p a
+    → followed_by o server a (keys_of m (taken_past m a p)) ≡ follow_at m a p
+follow-is m a p server o is out =
+    let s : server ≡ (view m (taken_past m a p)).server = is ∙ ap (λ (v : View). v.server) (sym (taken-view m a p)) in
+    rw (out, s, sym (view-keys m (taken_past m a p))) refl
+
+pub heard-all : (m : Member) (a : Announcement) (p : List Entry) → (beginning (keys_of m (taken_past m a p)) (follow_at m a p)).past ≡ keys_of m (heard_past m a p)
+heard-all m a p = keys-begun m (follow_at m a p) (taken_past m a p)
+
+-- ---- the reaction
+
+pub heard-reacts : (m : Member) (s : State) (a : Announcement) (p : List Entry) (o : Outcome) (server : Option Mi) (offer : Option Offer) (news : Option (Option Mi)) (first second changes : List Change)
+    → StandsFor m s p → o ≡ outcome_of m p a → server ≡ (view m (heard a ∷ p)).server → offer ≡ offer_at m a p
+    → news ≡ cond (same_option same_mi s.server server) None (Some server)
+    → first ≡ take_changes (keys_of m p) offer (answered m.base m.setup.kek (keys_of m p) offer)
+    → second ≡ (beginning (keys_of m (taken_past m a p)) (followed_by o server a (keys_of m (taken_past m a p)))).changes
+    → changes ≡ first ++ second
+    → record { heard = Some (verdict_of o); server = news; changes = changes; sent = None } ≡ (hear_turn m a p).reaction
+heard-reacts m s a p o server offer news first second changes stands out is off news_is first_is second_is changes_is =
+    let v = view m (heard a ∷ p) in
+    let n : news ≡ new_server (view m p) v = news_is ∙ ap (λ (x : Option Mi). cond (same_option same_mi x server) None (Some server)) (stands.server ∙ sym (view-server m p)) ∙ ap (λ (x : Option Mi). cond (same_option same_mi (view m p).server x) None (Some x)) is in
+    let f : first ≡ take_changes v.keys (offer_at m a p) (answer_at m a p) =
+    first_is ∙ ap (take_changes (keys_of m p) offer) (answer-is m a p offer off) ∙ ap (λ (x : Option Offer). take_changes (keys_of m p) x (answer_at m a p)) off ∙ ap (λ (h : List Keying). take_changes h (offer_at m a p) (answer_at m a p)) (sym (heard-keys m a p)) in
+    let g : second ≡ (beginning (view m (taken_past m a p)).keys (follow_at m a p)).changes =
+    second_is ∙ ap (λ (b : Option Beginning). (beginning (keys_of m (taken_past m a p)) b).changes) (follow-is m a p server o is out) ∙ ap (λ (h : List Keying). (beginning h (follow_at m a p)).changes) (sym (view-keys m (taken_past m a p))) in
+    rw (n, changes_is, f, g, out) (hear-reaction m a p)
+
+-- ---- installs
+
+any-append : (test : Change → Bool) (xs ys : List Change) → list_any test (xs ++ ys) ≡ (list_any test xs || list_any test ys)
+any-append test [] ys = refl
+any-append test (x ∷ xs) ys = by_test (test x) (λ e. rw e refl) (λ e. rw e (any-append test xs ys))
+
+none-installs : (h : List Keying) (ks : List Key) → list_any is_install (map (λ j. Dropped (held h j)) ks) ≡ false
+none-installs h [] = refl
+none-installs h (k ∷ ks) = none-installs h ks
+
+one-installs : (h : List Keying) (offer : Option Offer) (f : Offer → Result Key Why) → list_any is_install (take_changes h offer (option_map f offer)) ≡ is_some (key_taken (option_map f offer))
+one-installs h None f = refl
+one-installs h (Some o) f = judged-installs (f o)
+  where
+    judged-installs : (r : Result Key Why) → list_any is_install (judging h o r).changes ≡ is_some (key_taken (Some r))
+    judged-installs (Ok k) = any-append is_install (map (λ j. Dropped (held h j)) (filter (ends (installed None k) h) (received h))) _ ∙ rw (none-installs h (filter (ends (installed None k) h) (received h))) refl
+    judged-installs (Err why) = refl
+
+pub taken-installs : (m : Member) (a : Announcement) (p : List Entry) (offer : Option Offer) (first : List Change) → offer ≡ offer_at m a p
+    → first ≡ take_changes (keys_of m p) offer (answered m.base m.setup.kek (keys_of m p) offer) → list_any is_install first ≡ is_some (key_taken (answer_at m a p))
+taken-installs m a p offer first off is =
+    ap (list_any is_install) is ∙ one-installs (keys_of m p) offer (λ o. taken m.base (keys_of m p) o (given_sak m.setup.kek o.given)) ∙ ap (λ r. is_some (key_taken r)) (answer-is m a p offer off)
+
+with-count : (o : Option Key) (h : List Keying) → install_count (keys_with o h) ≡ install_count h + cond (is_some o) 1 0
+with-count None h = omega arith
+with-count (Some k) h = refl
+
+begun-count : (h : List Keying) (b : Option Beginning) → install_count (beginning h b).past ≡ install_count h
+begun-count h None = refl
+begun-count h (Some b) = refl
+
+begun-installs : (h : List Keying) (b : Option Beginning) → installs (beginning h b).past ≡ installs h
+begun-installs h None = refl
+begun-installs h (Some b) = refl
+
+-- ---- the association number of a taken key has two bits
+
+provided-rest : (b : Bool) (why : Why) (rest : Result Key Why) (k : Key) → provided b why rest ≡ Ok k → rest ≡ Ok k
+provided-rest true why rest k is = is
+provided-rest false why rest k is = absurd (cc (is))
+
+new-rest : (kept : Option ℕ) (number : ℕ) (rest : Result Key Why) (k : Key) → provided_new kept number rest ≡ Ok k → rest ≡ Ok k
+new-rest None number rest k is = is
+new-rest (Some n) number rest k is = provided-rest (nat_lt n number) _ rest k is
+
+unwrapped-an : (epoch : ℕ) (o : Offer) (sak : Option Secret) (k : Key) → unwrapped_key epoch o sak ≡ Ok k → an_of o.given ≡ k.an
+unwrapped-an epoch o None k is = absurd (cc (is))
+unwrapped-an epoch o (Some x) k is = let same : Ok (offered_key epoch o x) ≡ Ok k = is in let key : offered_key epoch o x ≡ k = cc (same) in ap (λ (j : Key). j.an) key
+
+taken-an : (base : ℕ) (h : List Keying) (o : Offer) (sak : Option Secret) (k : Key) → taken base h o sak ≡ Ok k → an_of o.given ≡ k.an
+taken-an base h o sak k is =
+    let a = provided-rest o.listed _ _ k is in
+    let b = provided-rest o.elected _ _ k a in
+    let c = new-rest (greatest_of o.server h) (number_of o.given) _ k b in
+    let d = provided-rest (allows h) _ _ k c in
+    let e = provided-rest (is_supported o.given) _ _ k d in
+    let f = provided-rest (nat_lt (offset_of o.given) 2) _ _ k e in
+    unwrapped-an (next_epoch base h) o sak k f
+
+taken-bits : (m : Member) (v : View) (o : Outcome) (a : Announcement) (k : Key) → IfSome a.given (λ g. an_of g < 4) → key_taken (taken_of m v (offered m v o a)) ≡ Some k → k.an < 4
+taken-bits m v o a k small is =
+    by_test (is_accepted o)
+    (λ e. by_option a.given
+    (λ f. absurd (cc (rw (e, f) at is)))
+    (λ g f. let offer : Offer = record { given = g; server = a.mi; listed = is_listed m v.peers a; elected = is_server v.server a.mi } in
+    let t : key_taken (Some (taken m.base v.keys offer (given_sak m.setup.kek g))) ≡ Some k = rw (e, f) at is in
+    subst (λ (n : ℕ). n < 4) (taken-an m.base v.keys offer (given_sak m.setup.kek g) k (key-of (taken m.base v.keys offer (given_sak m.setup.kek g)) k t)) (rw f at small)))
+    (λ e. absurd (cc (rw e at is)))
+  where
+    key-of : (r : Result Key Why) (j : Key) → key_taken (Some r) ≡ Some j → r ≡ Ok j
+    key-of (Ok x) j is = cc (is)
+    key-of (Err why) j is = absurd (cc (is))
+
+with-bits : (o : Option Key) (h : List Keying) → ((k : Key) → o ≡ Some k → k.an < 4) → HaveTwoBits (installs h) → HaveTwoBits (installs (keys_with o h))
+with-bits None h small bits = bits
+with-bits (Some k) h small bits = (small k refl, bits)
+
+pub heard-bits : (m : Member) (a : Announcement) (p : List Entry) → IfSome a.given (λ g. an_of g < 4) → HaveTwoBits (installs (keys_of m p)) → HaveTwoBits (installs (keys_of m (heard_past m a p)))
+heard-bits m a p small bits =
+    let q = taken_past m a p in
+    let t : HaveTwoBits (installs (keys_of m q)) = subst (λ (h : List Keying). HaveTwoBits (installs h)) (taken-keys m a p)
+    (with-bits (key_taken (answer_at m a p)) (keys_of m p) (λ k e. taken-bits m (view m (heard a ∷ p)) (outcome_of m p a) a k small e) bits) in
+    subst (λ (h : List Keying). HaveTwoBits (installs h)) (heard-all m a p) (subst (λ (ks : List Key). HaveTwoBits ks) (sym (begun-installs (keys_of m q) (follow_at m a p))) t)
+
+-- ---- what stands then
+
+spoken-kept : (m : Member) (p q : List Entry) (last : Option (List Entry)) → clock (peers_of m q) ≡ clock (peers_of m p) → option_map (spoken_at m p) last ≡ option_map (spoken_at m q) last
+spoken-kept m p q None now = refl
+spoken-kept m p q (Some then) now = ap (λ (n : ℕ). Some (record { shown = shown (view m then); since = ticks_since n (clock (peers_of m then)) })) (sym now)
+
+heard-clock : (m : Member) (a : Announcement) (p : List Entry) → clock (peers_of m (heard_past m a p)) ≡ clock (peers_of m p)
+heard-clock m a p = ap clock (heard-peers m a p ∙ peers-heard m a p)
+
+pub heard-count : (m : Member) (a : Announcement) (p : List Entry) → install_count (keys_of m (heard_past m a p)) ≡ install_count (keys_of m p) + cond (is_some (key_taken (answer_at m a p))) 1 0
+heard-count m a p =
+    ap install_count (sym (heard-all m a p)) ∙ begun-count (keys_of m (taken_past m a p)) (follow_at m a p) ∙ ap install_count (sym (taken-keys m a p)) ∙ with-count (key_taken (answer_at m a p)) (keys_of m p)
+
+pub stands-heard : (m : Member) (s t : State) (a : Announcement) (p : List Entry) (server : Option Mi) → StandsFor m s p → IfSome a.given (λ g. an_of g < 4)
+    → server ≡ (view m (heard a ∷ p)).server
+    → t.setup ≡ s.setup → t.mi ≡ s.mi → t.epochs ≡ s.epochs + cond (is_some (key_taken (answer_at m a p))) 1 0
+    → PeersStandFor (own m) t.peers (peers_of m (heard a ∷ p))
+    → KeysStandFor m.base m.mi false t.keys (keys_of m (heard_past m a p))
+    → t.server ≡ server → t.spoken ≡ s.spoken
+    → Comes m (heard_past m a p) t.coming
+    → StandsFor m t (hear_turn m a p).past
+stands-heard m s t a p server stands small server_is setup mi epochs peers keys elects spoken coming =
+    let q = taken_past m a p in
+    let r = heard_past m a p in
+    let key = key_taken (answer_at m a p) in
+    let count : install_count (keys_of m r) ≡ install_count (keys_of m p) + cond (is_some key) 1 0 =
+    ap install_count (sym (heard-all m a p)) ∙ begun-count (keys_of m q) (follow_at m a p) ∙ ap install_count (sym (taken-keys m a p)) ∙ with-count key (keys_of m p) in
+    let whole : StandsFor m t r = record {
+      setup = setup ∙ stands.setup;
+      mi = mi ∙ stands.mi;
+      epochs = epochs ∙ omega (arith, count, stands.epochs);
+      peers = subst (λ (h : List Peering). PeersStandFor (own m) t.peers h) (sym (heard-peers m a p)) peers;
+      keys = keys;
+      server = elects ∙ server_is ∙ view-server m (heard a ∷ p) ∙ sym (elected-same m (heard a ∷ p) r (heard-peers m a p));
+      spoken = spoken ∙ stands.spoken ∙ spoken-kept m p r (last_spoken p) (heard-clock m a p) ∙ ap (option_map (spoken_at m r)) (sym (heard-spoken m a p));
+      coming = coming;
+      numbered = heard-bits m a p small stands.numbered;
+    } in
+    subst (λ (x : List Entry). StandsFor m t x) (hear-past m a p) whole

@@ -1,0 +1,41 @@
+-- What is elected after a turn, what is said of keys, and what a history leaves room for.
+use Rattle.std.proofs.Common.{◌≡◌, ◌∙◌, ◌<◌, ◌+◌, ◌||◌, ℕ, List, ◌∷◌, Option, Some, None, is_some, ap, sym, refl, arith}
+use Rattle.aes_block.specs.declared.secret.Secret.{Secret}
+use Rattle.mkpdu_codec.specs.declared.announcement.Announcement.{Announcement}
+use Rattle.peer_lists.specs.Histories.{last_sent}
+use Rattle.sak_exchange.specs.declared.due.Seen.{Seen}
+use Rattle.sak_exchange.specs.Histories.{Key, Keying, install_count}
+use Rattle.sak_exchange.specs.Held.{latest, old}
+use Rattle.sak_exchange.proofs.Cases.{by_test}
+use Rattle.mka_station.specs.Lives.{Member, Entry, ticked, heard, elected, keys_of, peers_of}
+use Rattle.mka_station.specs.Announcing.{use_of, uses_of}
+use Rattle.mka_station.specs.Tick.{tick_turn}
+use Rattle.mka_station.specs.Hearing.{hear_turn}
+use Rattle.mka_station.specs.Standing.{State, StandsFor, HasRoom}
+use Rattle.mka_station.specs.inside.Stages.{ticked_past, says_at, heard_past}
+use Rattle.mka_station.proofs.Pasts.{elected-same, elected-said, peers-ticked}
+use Rattle.mka_station.proofs.Ticks.{turn-past, past-peers, begun-count}
+use Rattle.mka_station.proofs.Hears.{hear-past, heard-peers}
+
+pub elected-ticked : (m : Member) (seen : Seen) (any : Secret) (p : List Entry) → elected m (tick_turn m seen any p).past ≡ elected m (ticked ∷ p)
+elected-ticked m seen any p =
+    ap (elected m) (sym (turn-past m seen any p)) ∙ elected-said m (says_at m seen any p) (ticked_past m seen any p)
+    ∙ elected-same m (ticked ∷ p) (ticked_past m seen any p) (past-peers m seen any p ∙ sym (peers-ticked m p))
+
+pub elected-heard : (m : Member) (a : Announcement) (p : List Entry) → elected m (hear_turn m a p).past ≡ elected m (heard a ∷ p)
+elected-heard m a p = ap (elected m) (sym (hear-past m a p)) ∙ elected-same m (heard a ∷ p) (heard_past m a p) (heard-peers m a p)
+
+pub uses-there : (lowest : Key → ℕ) (h : List Keying) → is_some (uses_of lowest h) ≡ (is_some (latest h) || is_some (old h))
+uses-there lowest h = by_test (is_some (latest h) || is_some (old h)) (λ e. rw e refl) (λ e. rw e refl)
+
+pub use-received : (sending k : Option Key) (lowest : Key → ℕ) → (use_of sending lowest k).rx ≡ is_some k
+use-received sending None lowest = refl
+use-received sending (Some k) lowest = refl
+
+pub has-room : (m : Member) (s : State) (p : List Entry) → StandsFor m s p → (m.base + install_count (keys_of m p)) + 1 < 4294967296 → last_sent (peers_of m p) + 1 < 4294967296 → HasRoom s
+has-room m s p stands few sent =
+    let count = begun-count m p in
+    let coming = stands.coming.keys.epochs in
+    let keys = stands.keys.epochs in
+    let last = stands.peers.last in
+    record { installs = omega (arith, stands.epochs); keys = omega arith; coming = omega arith; sent = omega arith }

@@ -1,0 +1,122 @@
+-- Whether the next tick makes a key, and which, by what is prepared for it.
+use Rattle.std.proofs.Common.{◌≡◌, ◌∙◌, ℕ, zero, suc, ◌<◌, Bool, true, false, cond, not, ◌&&◌, nat_lt, length, List, [], ◌∷◌, Option, Some, None, is_some, is_none, refl, ap, sym, subst, arith}
+use Rattle.std.specs.List.{filter, list_any}
+use Rattle.std.proofs.lemmas.List.{length-map}
+use Rattle.std.proofs.lemmas.Bool.Decides.{nat_tests}
+use Rattle.lan_base.specs.declared.address.Mi.{Mi}
+use Rattle.aes_block.specs.declared.secret.Secret.{Secret}
+use Rattle.peer_lists.specs.Histories.{ticked as peers_ticked}
+use Rattle.sak_exchange.specs.declared.due.Seen.{Seen}
+use Rattle.sak_exchange.specs.Histories.{Key, Keying, last_key}
+use Rattle.sak_exchange.specs.Making.{makes, made_key, next_an, free_from, after, is_used}
+use Rattle.sak_exchange.proofs.Cases.{by_test, by_option}
+use Rattle.mka_station.specs.Lives.{Member, Entry, ticked, peers_of, keys_of}
+use Rattle.mka_station.specs.Views.{View, view, reports, is_server, serves}
+use Rattle.mka_station.specs.Tick.{led, makes_now, made, with_beginning, install_changes}
+use Rattle.mka_station.specs.Drawing.{makes_next}
+use Rattle.mka_station.specs.Standing.{Coming, Comes}
+use Rattle.mka_station.specs.inside.Rows.{potential_rows, IsShown}
+use Rattle.mka_station.specs.inside.Turns.{made_by, IsDue}
+use Rattle.mka_station.proofs.RowsShown.{rows-show}
+use Rattle.mka_station.proofs.Pasts.{peers-ticked, view-keys}
+
+positive : (n : ℕ) → nat_lt 0 (suc n) ≡ true
+positive n = grind (arith, nat_tests)
+
+-- whether a member is potential
+any-passing : {A : Type 0} (test : A → Bool) (xs : List A) → list_any test xs ≡ nat_lt 0 (length (filter test xs))
+any-passing test [] = refl
+any-passing test (x ∷ xs) = by_test (test x) (λ e. rw e (sym (positive (length (filter test xs))))) (λ e. rw e (any-passing test xs))
+
+pub potential-is : (m : Member) (p : List Entry) (c : Coming) → Comes m p c → list_any (λ r. r.potential) c.rows ≡ nat_lt 0 (length (view m (ticked ∷ p)).potential)
+potential-is m p c comes =
+    let v = view m (ticked ∷ p) in
+    let shows : IsShown m v c.rows = rows-show m (ticked ∷ p) (peers_ticked ∷ peers_of m p) c.rows (peers-ticked m p) comes.rows in
+    let same : length (potential_rows c.rows) ≡ length v.potential =
+    sym (length-map (potential_rows c.rows) (λ r. r.mi)) ∙ ap (length {A = Mi}) shows.potential_members ∙ length-map v.potential (λ a. a.told.mi) in
+    any-passing (λ r. r.potential) c.rows ∙ ap (nat_lt 0) same
+
+-- the keys after what begins, where none does
+quiet-keys : (m : Member) (p : List Entry) → led m (view m (ticked ∷ p)) ≡ None → keys_of m (with_beginning (led m (view m (ticked ∷ p))) (ticked ∷ p)) ≡ (view m (ticked ∷ p)).keys
+quiet-keys m p none = ap (λ b. keys_of m (with_beginning b (ticked ∷ p))) none ∙ sym (view-keys m (ticked ∷ p))
+
+-- whether the key state would make a key
+abbrev pub makes_by : Member → List Entry → Coming → Seen → Bool
+makes_by m p c seen = makes (keys_of m (with_beginning (led m (view m (ticked ∷ p))) (ticked ∷ p))) c.reports (list_any (λ r. r.potential) c.rows) seen m.setup.rekey
+
+makes-same : (m : Member) (p : List Entry) (c : Coming) (seen : Seen) → Comes m p c → led m (view m (ticked ∷ p)) ≡ None
+    → makes_by m p c seen ≡ makes (view m (ticked ∷ p)).keys (reports (view m (ticked ∷ p)).live) (nat_lt 0 (length (view m (ticked ∷ p)).potential)) seen m.setup.rekey
+makes-same m p c seen comes none = rw (quiet-keys m p none, comes.told, potential-is m p c comes) refl
+
+pub makes-is : (m : Member) (p : List Entry) (c : Coming) (seen : Seen) → Comes m p c
+    → (is_server c.server m.mi && (not c.leads && makes_by m p c seen)) ≡ makes_next m p seen
+makes-is m p c seen comes =
+    let v = view m (ticked ∷ p) in
+    by_option (led m v)
+    (λ e. let leads : not c.leads ≡ is_none (led m v) = rw (comes.leads, e) refl in
+    rw (comes.server, leads, makes-same m p c seen comes e) refl)
+    (λ b e. let leads : not c.leads ≡ is_none (led m v) = rw (comes.leads, e) refl in
+    rw (comes.server, leads, e) refl)
+
+both-true : (a b c : Bool) → (a && (b && c)) ≡ true → (b ≡ true) × (c ≡ true)
+both-true true true true is = (refl, refl)
+both-true true true false is = absurd (cc (is))
+both-true true false c is = absurd (cc (is))
+both-true false b c is = absurd (cc (is))
+
+none-is : {A : Type 0} (o : Option A) → is_none o ≡ true → o ≡ None
+none-is None is = refl
+none-is (Some a) is = absurd (cc (is))
+
+-- a tick that makes a key begins none
+pub none-led : (m : Member) (p : List Entry) (seen : Seen) → makes_next m p seen ≡ true → led m (view m (ticked ∷ p)) ≡ None
+none-led m p seen is =
+    let v = view m (ticked ∷ p) in
+    none-is (led m v) (both-true (serves m v) (is_none (led m v)) (makes v.keys (reports v.live) (nat_lt 0 (length v.potential)) seen m.setup.rekey) is).0
+
+pub is-due : (m : Member) (p : List Entry) (c : Coming) (seen : Seen) (any : Secret) (sak : Option Secret) → Comes m p c → sak ≡ cond (makes_next m p seen) (Some any) None → IsDue sak (makes_by m p c seen)
+is-due m p c seen any sak comes is =
+    let v = view m (ticked ∷ p) in
+    by_test (makes_next m p seen)
+    (λ e. let here : sak ≡ Some any = is ∙ rw e refl in
+    let due : makes_by m p c seen ≡ true = makes-same m p c seen comes (none-led m p seen e) ∙ (both-true (serves m v) (is_none (led m v)) (makes v.keys (reports v.live) (nat_lt 0 (length v.potential)) seen m.setup.rekey) e).1 in
+    subst (λ o. IsDue o (makes_by m p c seen)) (sym here) due)
+    (λ e. let here : sak ≡ None = is ∙ rw e refl in subst (λ o. IsDue o (makes_by m p c seen)) (sym here) tt)
+
+-- the key that is made
+pub key-is : (m : Member) (p : List Entry) (seen : Seen) (any : Secret) (sak : Option Secret) → sak ≡ cond (makes_next m p seen) (Some any) None
+    → made_by m.base m.mi (keys_of m (with_beginning (led m (view m (ticked ∷ p))) (ticked ∷ p))) m.setup.conf sak ≡ made m (view m (ticked ∷ p)) seen any
+key-is m p seen any sak is =
+    let v = view m (ticked ∷ p) in
+    by_test (makes_next m p seen)
+    (λ e. let here : sak ≡ Some any = is ∙ rw e refl in rw (here, e) (ap (λ h. Some (made_key m.base m.mi h m.setup.conf any)) (quiet-keys m p (none-led m p seen e))))
+    (λ e. let here : sak ≡ None = is ∙ rw e refl in rw (here, e) refl)
+
+pub install-same : (m : Member) (p : List Entry) (seen : Seen) (any : Secret) (roster : Option (List Mi))
+    → install_changes (keys_of m (with_beginning (led m (view m (ticked ∷ p))) (ticked ∷ p))) roster (made m (view m (ticked ∷ p)) seen any) ≡ install_changes (view m (ticked ∷ p)).keys roster (made m (view m (ticked ∷ p)) seen any)
+install-same m p seen any roster =
+    by_test (makes_next m p seen)
+    (λ e. ap (λ h. install_changes h roster (made m (view m (ticked ∷ p)) seen any)) (quiet-keys m p (none-led m p seen e)))
+    (λ e. rw e refl)
+
+pub some-made : (m : Member) (p : List Entry) (seen : Seen) (any : Secret) (sak : Option Secret) → sak ≡ cond (makes_next m p seen) (Some any) None → is_some sak ≡ is_some (made m (view m (ticked ∷ p)) seen any)
+some-made m p seen any sak is = by_test (makes_next m p seen) (λ e. rw (is, e) refl) (λ e. rw (is, e) refl)
+
+-- ---- the association number of a made key has two bits
+
+after-bits : (a : ℕ) → after a < 4
+after-bits a = omega arith
+
+free-bits : (n : ℕ) (h : List Keying) (a : ℕ) → a < 4 → free_from n h a < 4
+free-bits zero h a l = l
+free-bits (suc n) h a l = by_test (is_used h a) (λ e. rw e (free-bits n h (after a) (after-bits a))) (λ e. rw e l)
+
+next-bits : (h : List Keying) → next_an h < 4
+next-bits h = by_option (last_key h) (λ e. rw (e, next_an) (omega arith)) (λ k e. rw (e, next_an) (free-bits 2 h (after k.an) (after-bits k.an)))
+
+pub made-bits : (m : Member) (v : View) (seen : Seen) (any : Secret) (k : Key) → made m v seen any ≡ Some k → k.an < 4
+made-bits m v seen any k is =
+    by_test (makes_now m v seen)
+    (λ e. let f : Some (made_key m.base m.mi v.keys m.setup.conf any) ≡ Some k = rw e at is in
+    let g : made_key m.base m.mi v.keys m.setup.conf any ≡ k = cc (f) in subst (λ (x : Key). x.an < 4) g (next-bits v.keys))
+    (λ e. absurd (cc (rw e at is)))

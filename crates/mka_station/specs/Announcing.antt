@@ -1,0 +1,146 @@
+-- When a station announces itself, and what it says (IEEE Std 802.1X, clauses 9 and 11). What is compared with the last announcement is this profile's own rule.
+use Rattle.std.specs.Prelude.{ℕ, ◌+◌, nat_le, ◌==◌, Bool, true, false, cond, not, ◌&&◌, ◌||◌, List, ◌++◌, take, map, replicate, Option, Some, None, is_some, option_map, option_and_then, unwrap_or}
+use Rattle.std.specs.List.{list_all, list_any}
+use lib.Pointwise.{pointwise}
+use Rattle.lan_base.specs.declared.address.Mi.{Mi}
+use Rattle.lan_base.specs.declared.key_id.KeyId.{KeyId}
+use Rattle.lan_base.specs.Identifiers.{same_mi}
+use Rattle.lan_base.specs.Timers.{hello_time}
+use Rattle.aes_block.specs.declared.secret.Secret.{Secret}
+use Rattle.aes_block.specs.declared.secret.Secret.TheVariants.{S128, S256}
+use Rattle.aes_cmac.specs.Cmac.{cmac}
+use Rattle.key_wrap.specs.Wrap.{wrapped}
+use Rattle.mkpdu_codec.specs.declared.announcement.Announcement.{Announcement}
+use Rattle.mkpdu_codec.specs.declared.given.Given.{Given}
+use Rattle.mkpdu_codec.specs.declared.given.Given.TheVariants.{Aes128, Aes256}
+use Rattle.mkpdu_codec.specs.declared.key_use.KeyUse.{KeyUse}
+use Rattle.mkpdu_codec.specs.declared.key_use.Uses.{Uses}
+use Rattle.mkpdu_codec.specs.declared.peer.Peer.{Peer}
+use Rattle.mkpdu_codec.specs.Written.{written}
+use Rattle.peer_lists.specs.Histories.{clock, last_sent}
+use Rattle.peer_lists.specs.Acceptance.{Accepted}
+use Rattle.peer_lists.specs.Peers.{last_accepted}
+use Rattle.sak_exchange.specs.Histories.{Key, Keying}
+use Rattle.sak_exchange.specs.Held.{latest, old, transmitting}
+use Rattle.sak_exchange.specs.Reports.{reports as is_reported}
+use Rattle.sak_exchange.specs.Making.{is_in_roster}
+use Rattle.sak_exchange.specs.Beginning.{is_latest_made}
+use Rattle.sak_exchange.specs.declared.due.Seen.{Seen}
+use Rattle.mka_station.specs.Lives.{Setup, Member, Entry, own, last_spoken}
+use Rattle.mka_station.specs.Views.{View, view, speakers, serves}
+
+-- ---- when
+
+-- What a change of calls for an announcement: who is live and who potential, the elected server, and which keys are held and transmit.
+pub record Shown : Type 0 where
+  pub live : List Mi
+  pub potential : List Mi
+  pub server : Option Mi
+  pub latest : Option KeyId
+  pub old : Option KeyId
+  pub transmitting : Option KeyId
+
+abbrev pub id_of : Option Key → Option KeyId
+id_of k = option_map (λ k. k.id) k
+
+abbrev pub shown : View → Shown
+shown v =
+    record { live = speakers v.live; potential = speakers v.potential; server = v.server; latest = id_of (latest v.keys); old = id_of (old v.keys); transmitting = id_of (transmitting v.keys) }
+
+-- whether both are there and the same, or neither is
+abbrev pub same_option : {A : Type 0} → (A → A → Bool) → Option A → Option A → Bool
+same_option same None None = true
+same_option same None (Some b) = false
+same_option same (Some a) None = false
+same_option same (Some a) (Some b) = same a b
+
+-- whether two key identifiers are of one key server and one key number
+abbrev pub same_key : KeyId → KeyId → Bool
+same_key i j = same_mi i.server j.server && i.number == j.number
+
+abbrev pub same_shown : Shown → Shown → Bool
+same_shown s t =
+    pointwise same_mi s.live t.live && (pointwise same_mi s.potential t.potential && (same_option same_mi s.server t.server
+    && (same_option same_key s.latest t.latest && (same_option same_key s.old t.old && same_option same_key s.transmitting t.transmitting))))
+
+-- whether a station announces itself now: it never did, the hello time has passed since, or what is shown has changed since
+abbrev pub is_due_since : Member → View → Option (List Entry) → Bool
+is_due_since m v None = true
+is_due_since m v (Some then) =
+    let before = view m then in
+    nat_le (clock before.peers + hello_time) (clock v.peers) || not (same_shown (shown v) (shown before))
+
+abbrev pub announces : Member → View → List Entry → Bool
+announces m v p = is_due_since m v (last_spoken p)
+
+-- ---- what
+
+-- a member with the number of its last accepted announcement
+abbrev pub peer_of : Member → View → Accepted → Peer
+peer_of m v a =
+    let last = unwrap_or (last_accepted (own m) v.peers a.told.mi) a in
+    record { mi = a.told.mi; mn = last.told.mn }
+
+-- what is said of a key that is not held
+abbrev pub no_use : KeyUse
+no_use = record { server = record { 0 = replicate 12 0 }; number = 0; an = 0; tx = false; rx = false; lowest = 0 }
+
+-- what is said of a key, given which transmits and its lowest acceptable packet number
+abbrev pub use_of : Option Key → (Key → ℕ) → Option Key → KeyUse
+use_of sending lowest None = no_use
+use_of sending lowest (Some k) =
+    record { server = k.id.server; number = k.id.number; an = k.an; tx = same_option same_key (id_of sending) (Some k.id); rx = true; lowest = lowest k }
+
+-- the SAK Use, where a key is held
+abbrev pub uses_of : (Key → ℕ) → List Keying → Option Uses
+uses_of lowest h =
+    cond (is_some (latest h) || is_some (old h)) (Some (record { latest = use_of (transmitting h) lowest (latest h); old = use_of (transmitting h) lowest (old h) })) None
+
+-- whether the station gives its latest key: it serves and made the key in this life, each live member is in the key's roster, and one of them does not report it
+abbrev pub gives : Member → View → Key → Bool
+gives m v k =
+    serves m v && (is_latest_made v.keys && (list_all (is_in_roster v.keys) (speakers v.live) && list_any (λ a. not (is_reported k.id a.told.uses)) v.live))
+
+-- the confidentiality offset: none, or that of 0 octets
+abbrev pub offset : Key → ℕ
+offset k = cond k.conf 1 0
+
+-- a key as it is given, wrapped under the key encrypting key
+abbrev pub given_as : List ℕ → Key → Secret → Given
+given_as kek k (S128 octets) = Aes128 k.an (offset k) k.id.number (wrapped kek octets)
+given_as kek k (S256 octets) = Aes256 k.an (offset k) k.id.number (wrapped kek octets)
+
+-- the Distributed SAK
+abbrev pub given : Member → View → Option Given
+given m v = option_and_then (λ k. cond (gives m v k) (Some (given_as m.setup.kek k k.sak)) None) (latest v.keys)
+
+-- the announcement, given the lowest acceptable packet number under each key
+abbrev pub announcement : Member → (Key → ℕ) → View → Announcement
+announcement m lowest v =
+    record {
+      source = record { 0 = take 6 m.setup.sci.0 };
+      priority = m.setup.priority;
+      server = serves m v;
+      sci = m.setup.sci;
+      mi = m.mi;
+      mn = last_sent v.peers + 1;
+      ckn = m.setup.ckn;
+      live = map (peer_of m v) v.live;
+      potential = map (peer_of m v) v.potential;
+      uses = uses_of lowest v.keys;
+      given = given m v;
+    }
+
+-- what a station says now, if it announces itself
+abbrev pub says_now : Member → (Key → ℕ) → List Entry → View → Option Announcement
+says_now m lowest p v = cond (announces m v p) (Some (announcement m lowest v)) None
+
+-- the lowest acceptable packet number under a key: what a tick was shown for it, which then was the latest key or the old one, and 1 for a key that is new
+abbrev pub lowest_in : Seen → List Keying → Key → ℕ
+lowest_in seen before k =
+    cond (same_option same_key (id_of (latest before)) (Some k.id)) seen.latest
+    (cond (same_option same_key (id_of (old before)) (Some k.id)) seen.old 1)
+
+-- the frame of an announcement, with its check value
+abbrev pub frame_of : Setup → Announcement → List ℕ
+frame_of setup a = written a ++ cmac setup.ick (written a)

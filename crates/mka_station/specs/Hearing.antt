@@ -1,0 +1,146 @@
+-- What a station does when it hears a frame of key agreement (IEEE Std 802.1X, clause 9; the order of the reasons to drop one is this profile's own).
+use Rattle.std.specs.Prelude.{ℕ, nat_eq, Bool, true, false, not, ◌&&◌, cond, List, [], ◌∷◌, ◌++◌, take, Option, Some, None, option_map, option_and_then, Result, Ok, Err}
+use Rattle.std.specs.List.{list_any}
+use lib.Pointwise.{pointwise}
+use Rattle.lan_base.specs.Identifiers.{same_mi}
+use Rattle.aes_cmac.specs.Cmac.{cmac}
+use Rattle.mkpdu_codec.specs.declared.announcement.Announcement.{Announcement}
+use Rattle.mkpdu_codec.specs.declared.spelled.Spelled.{Spelled}
+use Rattle.mkpdu_codec.specs.declared.refusal.Refusal.{Refusal}
+use Rattle.mkpdu_codec.specs.declared.refusal.Refusal.TheVariants as refusals
+use Rattle.mkpdu_codec.specs.Reading.{reading}
+use Rattle.peer_lists.specs.Histories.{Peering, recent}
+use Rattle.peer_lists.specs.Acceptance.{outcome}
+use Rattle.peer_lists.specs.declared.heard.Outcome.{Outcome}
+use Rattle.peer_lists.specs.declared.heard.Outcome.TheVariants as outcomes
+use Rattle.peer_lists.specs.declared.heard.DropReason.{DropReason}
+use Rattle.peer_lists.specs.declared.heard.DropReason.TheVariants as reasons
+use Rattle.sak_exchange.specs.Histories.{Key, Keying}
+use Rattle.sak_exchange.specs.declared.change.Change.{Change}
+use Rattle.sak_exchange.specs.declared.change.Why.{Why}
+use Rattle.sak_exchange.specs.declared.offer.Offer.{Offer}
+use Rattle.sak_exchange.specs.Beginning.{Beginning, follows}
+use Rattle.sak_exchange.specs.Taking.{taken}
+use Rattle.sak_exchange.specs.Outcomes.{judging, beginning}
+use Rattle.sak_exchange.specs.Unwrapping.{given_sak}
+use Rattle.mka_station.specs.declared.verdict.Verdict.{Verdict}
+use Rattle.mka_station.specs.declared.verdict.Verdict.TheVariants as verdicts
+use Rattle.mka_station.specs.Lives.{Setup, Member, Entry, heard, own, told, peers_of}
+use Rattle.mka_station.specs.Views.{View, view, is_server}
+use Rattle.mka_station.specs.Tick.{Turn, new_server, with_beginning, with_install}
+
+-- ---- whether the frame counts
+
+-- a frame is of the group: it has the group's CKN and a right check value
+abbrev pub of_group : Setup → List ℕ → Spelled → Result Announcement Verdict
+of_group setup frame s =
+    cond (not (pointwise nat_eq s.announcement.ckn setup.ckn)) (Err verdicts.CkName)
+    (cond (not (pointwise nat_eq s.check (cmac setup.ick (take s.covered frame)))) (Err verdicts.Check) (Ok s.announcement))
+
+abbrev pub verdict_of_refusal : Refusal → Verdict
+verdict_of_refusal refusals.NotMka = verdicts.NotMka
+verdict_of_refusal refusals.Short = verdicts.Short
+verdict_of_refusal (refusals.Shape at) = verdicts.Shape at
+verdict_of_refusal (refusals.Repeated kind) = verdicts.Repeated kind
+verdict_of_refusal refusals.Agility = verdicts.Agility
+verdict_of_refusal refusals.Memory = verdicts.NotMka
+
+abbrev pub read_as : Setup → List ℕ → Result Spelled Refusal → Result Announcement Verdict
+read_as setup frame (Ok s) = of_group setup frame s
+read_as setup frame (Err refusal) = Err (verdict_of_refusal refusal)
+
+-- the announcement of a frame of the group, or why the frame is dropped before anything is known of its member
+unfoldable pub judged : Setup → List ℕ → Result Announcement Verdict
+judged setup frame = read_as setup frame (reading frame)
+
+-- the announcement of a frame that is right
+abbrev pub right : Setup → List ℕ → Option Announcement
+right setup frame = elim (judged setup frame) [ Ok a ↦ Some a | Err v ↦ None ]
+
+-- ---- what an announcement comes to
+
+abbrev pub verdict_of_reason : DropReason → Verdict
+verdict_of_reason reasons.Echo = verdicts.Echo
+verdict_of_reason (reasons.OldNumber kept) = verdicts.OldNumber kept
+verdict_of_reason reasons.PeersFull = verdicts.PeersFull
+
+abbrev pub verdict_of : Outcome → Verdict
+verdict_of outcomes.Vouched = verdicts.Vouched
+verdict_of outcomes.Unvouched = verdicts.Unvouched
+verdict_of (outcomes.Dropped reason) = verdict_of_reason reason
+
+abbrev pub is_accepted : Outcome → Bool
+is_accepted outcomes.Vouched = true
+is_accepted outcomes.Unvouched = true
+is_accepted (outcomes.Dropped reason) = false
+
+abbrev pub is_vouched : Outcome → Bool
+is_vouched outcomes.Vouched = true
+is_vouched outcomes.Unvouched = false
+is_vouched (outcomes.Dropped reason) = false
+
+-- what the peer lists make of it
+abbrev pub outcome_of : Member → List Entry → Announcement → Outcome
+outcome_of m p a = let h = peers_of m p in outcome (own m) h (told m.mi (recent h) a)
+
+-- whether its Live Peer List has the station under a number that was sent less than the life time ago
+abbrev pub is_listed : Member → List Peering → Announcement → Bool
+is_listed m h a = list_any (λ peer. same_mi peer.mi m.mi && recent h peer.mn) a.live
+
+-- the key that it offers, where it was accepted and gives one
+abbrev pub offered : Member → View → Outcome → Announcement → Option Offer
+offered m v o a =
+    cond (is_accepted o) (option_map (λ g. record { given = g; server = a.mi; listed = is_listed m v.peers a; elected = is_server v.server a.mi }) a.given) None
+
+-- the key that is taken, or why it is not, if one is offered
+abbrev pub taken_of : Member → View → Option Offer → Option (Result Key Why)
+taken_of m v offer = option_map (λ o. taken m.base v.keys o (given_sak m.setup.kek o.given)) offer
+
+abbrev pub key_taken : Option (Result Key Why) → Option Key
+key_taken None = None
+key_taken (Some (Ok k)) = Some k
+key_taken (Some (Err why)) = None
+
+-- what an offer changes
+abbrev pub take_changes : List Keying → Option Offer → Option (Result Key Why) → List Change
+take_changes h (Some o) (Some answer) = (judging h o answer).changes
+take_changes h (Some o) None = []
+take_changes h None answer = []
+
+-- the latest key, where it begins because the elected server, in an announcement that is vouched, says that it transmits under it
+abbrev pub followed : View → Outcome → Announcement → Option Beginning
+followed v o a = cond (is_vouched o && is_server v.server a.mi) (option_and_then (follows v.keys) a.uses) None
+
+-- Hearing an announcement: the peer lists, and the server is elected; a key is taken; the latest key begins.
+unfoldable pub hear_turn : Member → Announcement → List Entry → Turn
+hear_turn m a p =
+    let before = view m p in
+    let o = outcome_of m p a in
+    let p1 = heard a ∷ p in
+    let v1 = view m p1 in
+    let offer = offered m v1 o a in
+    let answer = taken_of m v1 offer in
+    let p2 = with_install None (key_taken answer) p1 in
+    let v2 = view m p2 in
+    let follow = followed v2 o a in
+    record {
+      reaction = record {
+        heard = Some (verdict_of o);
+        server = new_server before v1;
+        changes = take_changes v1.keys offer answer ++ (beginning v2.keys follow).changes;
+        sent = None;
+      };
+      past = with_beginning follow p2;
+    }
+
+-- a frame that is dropped before anything is known of its member
+abbrev pub drop_turn : Verdict → List Entry → Turn
+drop_turn v p = record { reaction = record { heard = Some v; server = None; changes = []; sent = None }; past = p }
+
+abbrev pub heard_turn : Member → Result Announcement Verdict → List Entry → Turn
+heard_turn m (Ok a) p = hear_turn m a p
+heard_turn m (Err v) p = drop_turn v p
+
+-- hearing a frame
+abbrev pub frame_turn : Member → List ℕ → List Entry → Turn
+frame_turn m frame p = heard_turn m (judged m.setup frame) p

@@ -1,0 +1,9 @@
+pub mod Lives
+pub mod Views
+pub mod Announcing
+pub mod Tick
+pub mod Hearing
+pub mod Restart
+pub mod Drawing
+pub mod Standing
+pub mod inside

@@ -1,0 +1,85 @@
+-- What a station does at a tick, stage by stage (IEEE Std 802.1X, clause 9; the order is this profile's own).
+use Rattle.std.specs.Prelude.{nat_lt, length, Bool, ◌&&◌, cond, List, [], ◌∷◌, ◌++◌, Option, Some, None, is_none, option_map}
+use Rattle.lan_base.specs.declared.address.Mi.{Mi}
+use Rattle.lan_base.specs.Identifiers.{same_mi}
+use Rattle.aes_block.specs.declared.secret.Secret.{Secret}
+use Rattle.mkpdu_codec.specs.declared.announcement.Announcement.{Announcement}
+use Rattle.sak_exchange.specs.declared.change.Change.{Change}
+use Rattle.sak_exchange.specs.declared.due.Seen.{Seen}
+use Rattle.sak_exchange.specs.Histories.{Key, Keying}
+use Rattle.sak_exchange.specs.Beginning.{Beginning, leads}
+use Rattle.sak_exchange.specs.Making.{makes, made_key, made_roster}
+use Rattle.sak_exchange.specs.Outcomes.{dropping, retiring, beginning, installing}
+use Rattle.mka_station.specs.declared.reaction.Reaction.{Reaction}
+use Rattle.mka_station.specs.Lives.{Member, Entry, ticked, sent, installed, began}
+use Rattle.mka_station.specs.Views.{View, view, reports, serves}
+use Rattle.mka_station.specs.Announcing.{says_now, lowest_in, frame_of, same_option}
+
+-- what a station does, and its history then
+pub record Turn : Type 0 where
+  pub reaction : Reaction
+  pub past : List Entry
+
+-- the elected server, where it is another than before
+abbrev pub new_server : View → View → Option (Option Mi)
+new_server before now = cond (same_option same_mi before.server now.server) None (Some now.server)
+
+-- what a tick ends: every key where no server is elected, or an old key whose time is over
+abbrev pub ended : List Keying → Option Mi → List Change
+ended h None = (dropping h).changes
+ended h (Some server) = (retiring h).changes
+
+-- the history with a beginning
+abbrev pub with_beginning : Option Beginning → List Entry → List Entry
+with_beginning None p = p
+with_beginning (Some b) p = began b.key.epoch ∷ p
+
+-- the latest key, where a station that serves begins it
+abbrev pub led : Member → View → Option Beginning
+led m v = cond (serves m v) (leads v.keys (reports v.live)) None
+
+-- whether a station that serves, and begins no key, makes one
+abbrev pub makes_now : Member → View → Seen → Bool
+makes_now m v seen =
+    serves m v && (is_none (led m v) && makes v.keys (reports v.live) (nat_lt 0 (length v.potential)) seen m.setup.rekey)
+
+-- the key that it makes of these octets
+abbrev pub made : Member → View → Seen → Secret → Option Key
+made m v seen sak = cond (makes_now m v seen) (Some (made_key m.base m.mi v.keys m.setup.conf sak)) None
+
+-- the history with an install
+abbrev pub with_install : Option (List Mi) → Option Key → List Entry → List Entry
+with_install roster None p = p
+with_install roster (Some k) p = installed roster k ∷ p
+
+-- what an install changes
+abbrev pub install_changes : List Keying → Option (List Mi) → Option Key → List Change
+install_changes h roster None = []
+install_changes h roster (Some k) = (installing h roster k).changes
+
+-- the history with an announcement
+abbrev pub with_sent : Option Announcement → List Entry → List Entry
+with_sent None p = p
+with_sent (Some a) p = sent a ∷ p
+
+-- A tick: it counts, and the server is elected; keys are dropped or retired; the station leads, or makes a key; it announces itself.
+unfoldable pub tick_turn : Member → Seen → Secret → List Entry → Turn
+tick_turn m seen sak p =
+    let before = view m p in
+    let p1 = ticked ∷ p in
+    let v1 = view m p1 in
+    let lead = led m v1 in
+    let p2 = with_beginning lead p1 in
+    let key = made m v1 seen sak in
+    let roster = Some (made_roster m.mi (reports v1.live)) in
+    let p3 = with_install roster key p2 in
+    let said = says_now m (lowest_in seen before.keys) p3 (view m p3) in
+    record {
+      reaction = record {
+        heard = None;
+        server = new_server before v1;
+        changes = ended before.keys v1.server ++ ((beginning v1.keys lead).changes ++ install_changes v1.keys roster key);
+        sent = option_map (frame_of m.setup) said;
+      };
+      past = with_sent said p3;
+    }

@@ -1,0 +1,5 @@
+pub mod Rows
+pub mod Due
+pub mod Saying
+pub mod Turns
+pub mod Stages

@@ -1,0 +1,38 @@
+//! What a station is set up with.
+
+use lan_base::Sci;
+use mka_kdf::Group;
+use std::marker::Model;
+
+/// What a station is set up with, for all its lives. Contracts see it as a `Setup`.
+#[derive(Debug, Drop)]
+pub struct Config {
+    pub sci: Sci,
+    /// The key server priority: the least one serves, 255 never does.
+    pub priority: u8,
+    /// The packet number from which on a key is spent.
+    pub rekey: u32,
+    /// Whether keys that the station makes give confidentiality.
+    pub conf: bool,
+    /// The keys that the group's connectivity association key gives.
+    pub group: Group,
+    /// How many bits the keys that the station makes have: 128 or 256.
+    pub suite: u16,
+}
+
+impl Model for Config {
+    ghost use Rattle.mka_station.specs.Lives.{Setup};
+
+    ghost Value = { Setup };
+
+    ghost view = { λ c. record {
+      sci = c.sci;
+      priority = c.priority;
+      rekey = c.rekey;
+      conf = c.conf;
+      suite = c.suite;
+      ckn = c.group.ckn;
+      kek = c.group.kek;
+      ick = c.group.ick;
+    } };
+}

@@ -1,0 +1,27 @@
+//! One station of a group (IEEE Std 802.1X, clause 9): it hears frames of key agreement, elects a key
+//! server, takes and makes keys, and announces itself. Its reactions are functions of the history of its life.
+#![tactic(auto)]
+
+mod changes;
+mod coming;
+mod config;
+mod fault;
+mod laws;
+mod next;
+mod reaction;
+mod rows;
+mod saying;
+mod shown;
+mod station;
+mod telling;
+mod verdict;
+
+pub use config::Config;
+pub use fault::StationFault;
+pub use laws::{
+    law_dropped_changes_no_view, law_elected_stays, law_room, law_turns_count,
+    law_uses_show_the_keys,
+};
+pub use reaction::Reaction;
+pub use station::Station;
+pub use verdict::Verdict;

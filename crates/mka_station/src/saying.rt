@@ -1,0 +1,217 @@
+//! What a station says of its keys, and the frame of an announcement.
+
+ghost use Rattle.std.specs.Prelude.{◌≡◌, ◌≢◌, ◌<◌, ◌++◌, ◌&&◌, ℕ, List, All, false, not, length, cond, option_map, IfOk, IfSome, OnOk};
+ghost use Rattle.std.specs.List.{list_all, list_any};
+ghost use Rattle.lan_base.specs.declared.address.Mi.{Mi};
+ghost use Rattle.aes_cmac.specs.Cmac.{cmac};
+ghost use Rattle.mkpdu_codec.specs.Written.{written, IsWritable, IsWritableGiven};
+ghost use Rattle.sak_exchange.specs.Histories.{Key as AKey, Keying, installs};
+ghost use Rattle.sak_exchange.specs.Held.{latest, old, transmitting, held};
+ghost use Rattle.sak_exchange.specs.Making.{is_in_roster};
+ghost use Rattle.sak_exchange.specs.Reports.{names, reports as is_reported};
+ghost use Rattle.sak_exchange.specs.Standing.{StandsFor};
+ghost use Rattle.mka_station.specs.Announcing.{lowest_in, id_of};
+ghost use Rattle.mka_station.specs.Standing.{HaveTwoBits};
+ghost use Rattle.mka_station.specs.inside.Saying.{given_after, lowest_by, use_by, uses_by, given_by, offset_by, is_given_to};
+
+use crate::shown::{id_of, is_same_key};
+use aes_block::{Key, Secret};
+use aes_cmac::cmac;
+use key_wrap::{wrap, wrap256};
+use lan_base::{KeyId, Mi, Octets};
+use mkpdu_codec::{Announcement, Given, KeyUse, Uses, write};
+use sak_exchange::{HeldKey, KeyState, Report, Seen};
+use std::alloc::{AllocError, Global};
+
+/// The lowest acceptable packet numbers that a tick is shown, and the keys that they are of.
+#[derive(Clone, Copy, Debug)]
+pub struct Lowest {
+    pub latest: Option<KeyId>,
+    pub old: Option<KeyId>,
+    pub seen: Seen,
+}
+
+impl Lowest {
+    /// What a tick is shown while these keys are held.
+    pub fn of(keys: &KeyState, seen: &Seen) -> Lowest
+        ensures { (base : ℕ) (own : Mi) (h : List Keying) → StandsFor base own false keys.now h →
+            result ≡ record { latest = id_of (latest h); old = id_of (old h); seen = seen.now } }
+    {
+        Lowest {
+            latest: id_of(keys.latest()),
+            old: id_of(keys.old()),
+            seen: *seen,
+        }
+    }
+
+    /// The number under a key: 1 for one that is new.
+    fn under(&self, id: KeyId) -> u32
+        ensures { result ≡ lowest_by self.now id }
+    {
+        if is_same_key(self.latest, Some(id)) {
+            self.seen.latest
+        } else if is_same_key(self.old, Some(id)) {
+            self.seen.old
+        } else {
+            1
+        }
+    }
+}
+
+/// What is said of the keys that are held, if one is.
+pub fn uses(keys: &KeyState, lowest: &Lowest) -> Option<Uses>
+    ensures value { (base : ℕ) (own : Mi) (h : List Keying) → StandsFor base own false keys.now h →
+        result ≡ uses_by (id_of (transmitting h)) lowest.now (option_map (held h) (latest h))
+        (option_map (held h) (old h)) }
+    ensures bits { IfSome result (λ u. (u.latest.an < 4) × (u.old.an < 4)) }
+{
+    uses_of(
+        id_of(keys.transmitting()),
+        lowest,
+        keys.latest(),
+        keys.old(),
+    )
+}
+
+/// The same of these keys, of which one transmits.
+fn uses_of(
+    transmitting: Option<KeyId>,
+    lowest: &Lowest,
+    latest: Option<HeldKey>,
+    old: Option<HeldKey>,
+) -> Option<Uses>
+    ensures value { result ≡ uses_by transmitting lowest.now latest old }
+    ensures bits { IfSome result (λ u. (u.latest.an < 4) × (u.old.an < 4)) }
+{
+    if latest.is_none() && old.is_none() {
+        return None;
+    }
+    Some(Uses {
+        latest: use_of(transmitting, lowest, latest),
+        old: use_of(transmitting, lowest, old),
+    })
+}
+
+/// What is said of a key, or that there is none. An association number has two bits.
+fn use_of(transmitting: Option<KeyId>, lowest: &Lowest, key: Option<HeldKey>) -> KeyUse
+    ensures value { result ≡ use_by transmitting lowest.now key }
+    ensures bits { result.an < 4 }
+{
+    match key {
+        Some(key) => KeyUse {
+            server: key.id.server,
+            number: key.id.number,
+            an: key.an % 4,
+            tx: is_same_key(transmitting, Some(key.id)),
+            rx: true,
+            lowest: lowest.under(key.id),
+        },
+        None => KeyUse {
+            server: Mi([0; 12]),
+            number: 0,
+            an: 0,
+            tx: false,
+            rx: false,
+            lowest: 0,
+        },
+    }
+}
+
+/// The latest key of a station, if it serves and gives the key to these live members.
+pub fn given(kek: &Key, serves: bool, live: &[Report], keys: &KeyState) -> Option<Given>
+    ensures value { (base : ℕ) (own : Mi) (h : List Keying) → StandsFor base own false keys.now h →
+        HaveTwoBits (installs h) → result ≡ given_after kek.now serves live.now h }
+    ensures writable { IfSome result IsWritableGiven }
+{
+    if !serves {
+        return None;
+    }
+    let Some(key) = keys.latest() else {
+        return None;
+    };
+    if !is_given(keys, live, &key.id) {
+        return None;
+    }
+    Some(given_as(kek, &key))
+}
+
+/// A key as it is given, wrapped under the key encrypting key.
+fn given_as(kek: &Key, key: &HeldKey) -> Given
+    ensures value { result ≡ given_by kek.now key.now key.now.sak }
+    ensures writable { IsWritableGiven result }
+{
+    let an = key.an % 4;
+    let offset = u8::from(key.conf);
+    let number = key.id.number;
+    match &key.sak {
+        Secret::S128(sak) => Given::Aes128 {
+            an,
+            offset,
+            number,
+            wrapped: wrap(kek, sak),
+        },
+        Secret::S256(sak) => Given::Aes256 {
+            an,
+            offset,
+            number,
+            wrapped: wrap256(kek, sak),
+        },
+    }
+}
+
+/// Whether all live members are in the latest key's roster, and one of them does not report it.
+fn is_given(keys: &KeyState, live: &[Report], id: &KeyId) -> bool
+    ensures { (base : ℕ) (own : Mi) (h : List Keying) → StandsFor base own false keys.now h →
+        result ≡ is_given_to h live.now id.now }
+{
+    are_in_roster(keys, live) && is_one_silent(live, id)
+}
+
+/// Whether one of these members does not say that it receives under the key.
+fn is_one_silent(live: &[Report], id: &KeyId) -> bool
+    ensures { result ≡ list_any (λ r. not (is_reported id.now r.uses)) live.now }
+{
+    live.iter().any(|report| !is_reported(report, id))
+}
+
+/// Whether all live members are in the latest key's roster.
+fn are_in_roster(keys: &KeyState, live: &[Report]) -> bool
+    ensures { (base : ℕ) (own : Mi) (h : List Keying) → StandsFor base own false keys.now h →
+        result ≡ list_all (λ r. is_in_roster h r.mi) live.now }
+{
+    for report in live {
+        if !keys.in_roster(&report.mi) {
+            return false;
+        }
+    }
+    true
+}
+
+/// Whether a live member says that it receives under the key.
+fn is_reported(report: &Report, id: &KeyId) -> bool
+    ensures { result ≡ is_reported id.now report.now.uses }
+{
+    match &report.uses {
+        Some(uses) => is_received(&uses.latest, id) || is_received(&uses.old, id),
+        None => false,
+    }
+}
+
+/// Whether a use says that its announcer receives under the key.
+fn is_received(used: &KeyUse, id: &KeyId) -> bool
+    ensures { result ≡ (names id.now used.now && used.now.rx) }
+{
+    used.server == id.server && used.number == id.number && used.rx
+}
+
+/// The frame of an announcement, with its check value.
+pub fn frame(alloc: Global, announcement: &Announcement, ick: &Key) -> Result<Octets, AllocError>
+    requires { IsWritable announcement.now }
+    ensures { IfOk result (λ o. o ≡ written announcement.now ++ cmac ick.now (written announcement.now)) }
+{
+    let mut octets = Vec::new(alloc);
+    write(announcement, &mut octets)?;
+    let check = cmac(ick, &octets);
+    octets.extend_from_slice(&check)?;
+    Ok(Octets::of(octets))
+}

@@ -1,0 +1,138 @@
+//! What a change of calls for an announcement.
+
+ghost use Rattle.std.specs.Prelude.{◌≡◌, ◌↔◌, ℕ, List, Bool, true, false, map, option_map, nat_le, ◌||◌, not, ◌+◌, IfOk};
+ghost use Rattle.lan_base.specs.declared.address.Mi.{Mi};
+ghost use Rattle.lan_base.specs.Identifiers.{same_mi};
+ghost use Rattle.sak_exchange.specs.Histories.{Keying};
+ghost use Rattle.sak_exchange.specs.Held.{latest, old, transmitting};
+ghost use Rattle.sak_exchange.specs.Standing.{StandsFor};
+ghost use Rattle.mka_station.specs.Announcing.{Shown, id_of, same_option, same_key, same_shown};
+ghost use Rattle.mka_station.specs.inside.Rows.{live_rows, potential_rows};
+ghost use Rattle.mka_station.specs.inside.Due.{shown_by, same_members, same_keys, is_due_now};
+
+use crate::rows::{live_members, potential_members};
+use lan_base::{HELLO_TIME, KeyId, Mi};
+use peer_lists::Row;
+use sak_exchange::{HeldKey, KeyState};
+use std::alloc::{AllocError, Global};
+use std::marker::Model;
+
+/// What a change of calls for an announcement: who is live and who potential, the elected server, and
+/// which keys are held and transmit.
+#[derive(Drop)]
+pub struct Shown {
+    live: Vec<Mi>,
+    potential: Vec<Mi>,
+    server: Option<Mi>,
+    latest: Option<KeyId>,
+    old: Option<KeyId>,
+    transmitting: Option<KeyId>,
+}
+
+impl Model for Shown {
+    ghost use Rattle.mka_station.specs.Announcing.{Shown as Shows};
+
+    ghost Value = { Shows };
+
+    ghost view = { λ s. record {
+      live = s.live.items;
+      potential = s.potential.items;
+      server = s.server;
+      latest = s.latest;
+      old = s.old;
+      transmitting = s.transmitting;
+    } };
+}
+
+impl Shown {
+    /// What rows, a server and keys show.
+    pub fn of(
+        alloc: Global,
+        rows: &[Row],
+        server: Option<Mi>,
+        keys: &KeyState,
+    ) -> Result<Shown, AllocError>
+        ensures { (base : ℕ) (own : Mi) (h : List Keying) → StandsFor base own false keys.now h →
+            IfOk result (λ s. s ≡ shown_by rows.now server h) }
+    {
+        Ok(Shown {
+            live: live_members(alloc, rows)?,
+            potential: potential_members(alloc, rows)?,
+            server,
+            latest: id_of(keys.latest()),
+            old: id_of(keys.old()),
+            transmitting: id_of(keys.transmitting()),
+        })
+    }
+
+    /// Whether both show the same.
+    pub fn is_same(&self, other: &Shown) -> bool
+        ensures { result ≡ same_shown self.now other.now }
+    {
+        self.has_same_members(other) && self.has_same_keys(other)
+    }
+
+    /// Whether the lists of members and the server are the same.
+    fn has_same_members(&self, other: &Shown) -> bool
+        ensures { result ≡ same_members self.now other.now }
+    {
+        self.live.as_slice() == other.live.as_slice()
+            && self.potential.as_slice() == other.potential.as_slice()
+            && is_same_server(self.server, other.server)
+    }
+
+    /// Whether the keys are the same.
+    fn has_same_keys(&self, other: &Shown) -> bool
+        ensures { result ≡ same_keys self.now other.now }
+    {
+        is_same_key(self.latest, other.latest)
+            && is_same_key(self.old, other.old)
+            && is_same_key(self.transmitting, other.transmitting)
+    }
+}
+
+/// What was shown at the last announcement.
+#[derive(Drop)]
+pub struct Spoken {
+    pub shown: Shown,
+    /// How many ticks ago it was sent, as far as they can be counted.
+    pub since: u32,
+}
+
+impl Spoken {
+    /// Whether a station that shows this a tick later announces itself.
+    pub fn is_due(&self, shown: &Shown) -> bool
+        ensures { result ≡ is_due_now self.now shown.now }
+    {
+        self.since.saturating_add(1) >= HELLO_TIME || !shown.is_same(&self.shown)
+    }
+}
+
+/// The identifier of a key.
+pub fn id_of(key: Option<HeldKey>) -> Option<KeyId>
+    ensures { result ≡ option_map (λ k. k.id) key }
+{
+    key.map(|key| key.id)
+}
+
+/// Whether two servers are the same, or there is none.
+pub fn is_same_server(one: Option<Mi>, other: Option<Mi>) -> bool
+    ensures { result ≡ same_option same_mi one other }
+{
+    match (one, other) {
+        (Some(one), Some(other)) => one == other,
+        (None, None) => true,
+        _ => false,
+    }
+}
+
+/// Whether two keys have the same identifier, or there is none.
+pub fn is_same_key(one: Option<KeyId>, other: Option<KeyId>) -> bool
+    ensures { result ≡ same_option same_key one other }
+{
+    match (one, other) {
+        (Some(one), Some(other)) => one.server == other.server && one.number == other.number,
+        (None, None) => true,
+        _ => false,
+    }
+}
