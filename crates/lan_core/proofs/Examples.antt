@@ -1,59 +1,241 @@
--- The definitions at small lives and runs that were worked out by hand.
-use Rattle.std.proofs.Common.{◌≡◌, ℕ, zero, suc, true, false, List, [], ◌∷◌, Some, None, refl}
+-- The definitions at small runs, worked by hand. Ciphers stay closed: a frame is shown by its kind.
+use Rattle.std.proofs.Common.{◌≡◌, ℕ, true, false, List, [], ◌∷◌, ◌++◌, None, Some, refl}
+use Rattle.std.specs.Prelude.{◌+◌, replicate, unwrap_or, map}
 use Rattle.lan_base.specs.declared.address.Mi.{Mi}
-use Rattle.lan_core.specs.declared.event.Event.TheVariants.{Start, Tick}
-use Rattle.lan_core.specs.declared.fact.Fact.TheVariants.{Life, Ticked, Framed}
-use Rattle.lan_core.specs.Run.{Run, stations, air, facts_of}
-use Rattle.lan_core.specs.Life.{Entry, ticked, sent, clock, messages, last_sent_at, life}
-use Rattle.lan_core.specs.Announcing.{announces}
+use Rattle.lan_base.specs.declared.address.Sci.{Sci}
+use Rattle.lan_base.specs.declared.key_id.KeyId.{KeyId}
+use Rattle.aes_block.specs.declared.secret.Secret.{Secret}
+use Rattle.aes_block.specs.declared.secret.Secret.TheVariants.{S128}
+use Rattle.peer_lists.specs.Acceptance.{refusal, accepted, outcome}
+use Rattle.peer_lists.specs.Peers.{says, hopes, known}
+use Rattle.sak_exchange.specs.Histories.{Key}
+use Rattle.sak_exchange.specs.Held.{received, latest, old, transmitting}
+use Rattle.sak_exchange.specs.declared.change.Cause.TheVariants.{Flag}
+use Rattle.gcm_frames.specs.declared.tag.TagRefusal.TheVariants as refusals
+use Rattle.gcm_frames.specs.Tags.{tag_fields}
+use Rattle.mkpdu_codec.specs.Reading.{reading, parts_at}
+use Rattle.rx_slots.specs.declared.arrival.Arrival.TheVariants.{Malformed}
+use Rattle.mka_station.specs.declared.verdict.Verdict.TheVariants.{NotMka, Vouched}
+use Rattle.mka_station.specs.Lives.{peers_of, keys_of, elected}
+use Rattle.mka_station.specs.Views.{view}
+use Rattle.mka_station.specs.Hearing.{judged, hear_turn}
+use Rattle.mka_station.specs.Tick.{tick_turn}
+use Rattle.mka_station.specs.Restart.{ending}
+use Rattle.lan_core.specs.declared.event.Event.{Event}
+use Rattle.lan_core.specs.declared.event.Event.TheVariants as events
+use Rattle.lan_core.specs.declared.fact.Fact.{Fact}
+use Rattle.lan_core.specs.declared.fact.Fact.TheVariants as facts
+use Rattle.lan_core.specs.declared.fact.Lack.TheVariants.{NoKey, Exhausted}
+use Rattle.lan_core.specs.declared.settings.Settings.{Settings}
+use Rattle.lan_core.specs.Run.{Run, Happening, happened, stations, facts_of}
+use Rattle.lan_core.specs.Ledgers.{air, births, installs, claims}
+use Rattle.lan_core.specs.Lives.{life, receiving}
+use Rattle.lan_core.specs.Claims.{next, a_claim, claimed, waiting_under}
+use Rattle.lan_core.specs.Expected.{expected, claim_fact}
+use Rattle.lan_core.specs.Order.{settled}
+use Rattle.lan_core.specs.Legal.{is_excuse, unused}
+use Rattle.lan_core.specs.Fresh.{drawn_mis, drawn_saks}
 
-abbrev ticks : ℕ → List Entry → List Entry
-ticks zero past = past
-ticks (suc n) past = ticked ∷ ticks n past
+opens : ℕ
+unfolding refusal accepted outcome says hopes known received latest old transmitting peers_of keys_of elected view judged hear_turn tick_turn ending stations air births installs claims life receiving next claimed expected drawn_saks reading parts_at tag_fields
+opens = 0
 
--- a life that announced in its first tick
-abbrev begun : List Entry
-begun = sent ∷ ticked ∷ []
+abbrev pub mi : ℕ → Mi
+mi n = record { 0 = replicate 11 0 ++ n ∷ [] }
 
-clock_of_20 : clock (ticks 19 begun) ≡ 20
-clock_of_20 = refl
+abbrev pub sci : ℕ → Sci
+sci n = record { 0 = 2 ∷ 0 ∷ 0 ∷ 0 ∷ 0 ∷ n ∷ 0 ∷ 1 ∷ [] }
 
-sent_at_the_first : last_sent_at (ticks 19 begun) ≡ Some 1
-sent_at_the_first = refl
+abbrev pub settings : Settings
+settings = record {
+  cak = S128 (replicate 16 0);
+  ckn = 1 ∷ 2 ∷ 3 ∷ 4 ∷ [];
+  conf = true;
+  window = 0;
+  rekey = 3221225472;
+  suite = 128;
+}
 
-one_message : messages (ticks 19 begun) ≡ 1
-one_message = refl
+-- ---- runs that the rules make of events
 
--- it announces at once, and then again 20 ticks later, not 19
-at_once : announces (ticked ∷ []) ≡ true
-at_once = refl
+-- an event, and facts that show what it draws
+pub record Move : Type 0 where
+  pub event : Event
+  pub draws : List Fact
 
-not_at_19 : announces (ticks 19 begun) ≡ false
-not_at_19 = refl
+-- newest first
+unfoldable pub play : List Move → Run
+play [] = []
+play (m ∷ ms) =
+    let r = play ms in
+    happened m.event (unwrap_or (expected settings [] r m.event m.draws) []) ∷ r
 
-at_20 : announces (ticks 20 begun) ≡ true
-at_20 = refl
+abbrev pub starts : ℕ → ℕ → ℕ → Move
+starts s name n = record {
+  event = events.Start (name ∷ []) (sci n) 16;
+  draws = facts.Life s (mi (s + 1)) ∷ [];
+}
 
-abbrev mi : Mi
-mi = record { 0 = 1 ∷ [] }
+abbrev pub moves : Event → Move
+moves event = record { event = event; draws = [] }
 
--- one station, named by the octet 65, starts, and sends a frame of one octet in its first tick
-abbrev run : Run
-run =
-    record { event = Tick 0 0; facts = Ticked 0 1 0 ∷ Framed 1 0 false (7 ∷ []) ∷ [] }
-    ∷ record { event = Start (65 ∷ []) (record { 0 = 2 ∷ [] }) 16; facts = Life 0 mi ∷ [] } ∷ []
+-- a frame cut to nothing
+abbrev cut : Fact → Fact
+cut (facts.Framed number station sec octets) = facts.Framed number station sec []
+cut fact = fact
 
-one_station : stations run ≡ record { name = 65 ∷ []; sci = record { 0 = 2 ∷ [] }; priority = 16 } ∷ []
-one_station = refl
+-- ---- two stations start, and tick once
 
-one_frame : air run ≡ (7 ∷ []) ∷ []
-one_frame = refl
+abbrev two : List Move
+two = starts 1 66 11 ∷ starts 0 65 10 ∷ []
 
-three_facts : facts_of run ≡ Life 0 mi ∷ Ticked 0 1 0 ∷ Framed 1 0 false (7 ∷ []) ∷ []
-three_facts = refl
+abbrev round : List Move
+round = moves (events.Tick 1 0) ∷ moves (events.Tick 0 0) ∷ two
 
-its_life : life 0 run ≡ Some (record { mi = mi; past = begun })
-its_life = refl
+first_round : map cut (facts_of (play round)) ≡
+    facts.Life 0 (mi 1) ∷ facts.Life 1 (mi 2)
+    ∷ facts.Ticked 0 1 0 ∷ facts.Framed 1 0 false []
+    ∷ facts.Ticked 1 1 0 ∷ facts.Framed 2 1 false [] ∷ []
+unfolding opens play
+first_round = refl
 
-no_other : life 1 run ≡ None
-no_other = refl
+-- a start that draws nothing shows nothing that is right
+start_needs_a_draw : expected settings [] [] (events.Start (65 ∷ []) (sci 10) 16) [] ≡ None
+unfolding opens
+start_needs_a_draw = refl
+
+-- nothing waits, and no frame has this number
+nothing_waits : expected settings [] (play two) events.Emit [] ≡ None
+unfolding opens play
+nothing_waits = refl
+
+no_frame : expected settings [] (play two) (events.Deliver 1 1) [] ≡ None
+unfolding opens play
+no_frame = refl
+
+-- ---- foreign octets, a refused claim, and a new life
+
+-- the head of a protected frame, and the octet behind it
+abbrev pub headed : ℕ → List ℕ
+headed control =
+    0x01 ∷ 0x80 ∷ 0xc2 ∷ 0 ∷ 0 ∷ 3 ∷ 2 ∷ 0 ∷ 0 ∷ 0 ∷ 0 ∷ 0x0b ∷ 0x88 ∷ 0xe5 ∷ control ∷ []
+
+abbrev foreign : List Move
+foreign =
+    moves (events.Inject 0 (headed 0x80)) ∷ moves (events.Inject 0 (headed 0x2c))
+    ∷ moves (events.Inject 0 (headed 0)) ∷ moves (events.Inject 0 (0 ∷ []))
+    ∷ starts 0 65 10 ∷ []
+
+four_answers : facts_of (play foreign) ≡
+    facts.Life 0 (mi 1) ∷ facts.HeardMka 0 0 NotMka
+    ∷ facts.Arrived 0 0 (Malformed refusals.Mode) ∷ facts.Arrived 0 0 (Malformed refusals.Short)
+    ∷ facts.Arrived 0 0 (Malformed refusals.Version) ∷ []
+unfolding opens play
+four_answers = refl
+
+abbrev again : List Move
+again =
+    moves (events.Tick 1 0)
+    ∷ record { event = events.Restart 1; draws = facts.Life 1 (mi 3) ∷ [] }
+    ∷ moves (events.Claim 0 0 0) ∷ round
+
+-- the clock of a new life begins again, the numbers of frames go on
+new_life : map cut (facts_of (play again)) ≡
+    map cut (facts_of (play round)) ++ facts.Unclaimed 0 NoKey
+    ∷ facts.Life 1 (mi 3) ∷ facts.Ticked 1 1 0 ∷ facts.Framed 3 1 false [] ∷ []
+unfolding opens play
+new_life = refl
+
+three_drawn : drawn_mis (play again) ≡ mi 3 ∷ mi 2 ∷ mi 1 ∷ []
+unfolding opens play
+three_drawn = refl
+
+-- ---- packet numbers
+
+abbrev seven : Run
+seven = a_claim 0 1 0 1 7 ∷ []
+
+after_seven : next settings 0 1 seven ≡ 8
+unfolding opens
+after_seven = refl
+
+-- by station and by epoch
+of_another : next settings 1 1 seven ≡ 1
+unfolding opens
+of_another = refl
+
+under_another : next settings 0 2 seven ≡ 1
+unfolding opens
+under_another = refl
+
+-- a lower number that is claimed late leaves it
+late_three : next settings 0 1 (a_claim 0 1 0 1 3 ∷ seven) ≡ 8
+unfolding opens
+late_three = refl
+
+-- 1 to 6
+six_unused : unused settings 0 1 seven ≡ 6
+unfolding opens
+six_unused = refl
+
+five_unused : unused settings 0 1 (a_claim 0 1 0 1 3 ∷ seven) ≡ 5
+unfolding opens
+five_unused = refl
+
+-- the station's claims since its last tick are left out
+up_to_the_tick : settled 0 (seven ++ happened (events.Tick 0 1) [] ∷ []) ≡
+    happened (events.Tick 0 1) [] ∷ []
+up_to_the_tick = refl
+
+-- ---- claims under a key
+
+abbrev id : ℕ → KeyId
+id n = record { server = mi 1; number = n }
+
+abbrev sak : Secret
+sak = S128 (replicate 15 0 ++ 3 ∷ [])
+
+abbrev key : Key
+key = record { id = id 1; an = 2; sak = sak; conf = true; epoch = 1 }
+
+a_number : claim_fact settings 0 [] 7 (Some key) ≡ facts.Claimed 0 2 1 7
+a_number = refl
+
+no_number : claim_fact settings 0 [] 0 (Some key) ≡ facts.Unclaimed 0 NoKey
+unfolding opens
+no_number = refl
+
+no_number_left :
+    claim_fact settings 0 (a_claim 0 1 2 1 4294967295 ∷ []) 0 (Some key)
+    ≡ facts.Unclaimed 0 (Exhausted 1)
+unfolding opens
+no_number_left = refl
+
+it_waits : waiting_under 0 1 7 (Some key) ≡
+    record { station = 0; key = key; pn = 7; user = 1 } ∷ []
+it_waits = refl
+
+-- ---- excuses
+
+-- an announcement that drops the key of this number, and begins one at a station
+abbrev follows : ℕ → ℕ → Happening
+follows dropped s = happened (events.Deliver 3 0) (
+    facts.HeardMka 3 0 Vouched ∷ facts.Dropped 0 (id dropped) 2
+    ∷ facts.Installed 0 (id 3) 2 3 sak ∷ facts.Began s (id 3) 2 3 Flag ∷ [])
+
+excused : is_excuse 0 (Some key) (Some (follows 1 0)) ≡ true
+excused = refl
+
+-- another key is dropped, another station begins one, nothing came since
+not_dropped : is_excuse 0 (Some key) (Some (follows 2 0)) ≡ false
+not_dropped = refl
+
+not_begun : is_excuse 0 (Some key) (Some (follows 1 1)) ≡ false
+not_begun = refl
+
+nothing_yet : is_excuse 0 (Some key) None ≡ false
+nothing_yet = refl
+
+-- where nothing transmits none is needed
+no_key : is_excuse 0 None None ≡ true
+no_key = refl

@@ -1,61 +1,102 @@
--- Which facts an event has to show, and which runs are legal (this profile's own rule).
-use Rattle.std.specs.Prelude.{◌≡◌, ◌≢◌, ◌<◌, ℕ, ◌+◌, false, if◌then◌else◌, List, [], ◌∷◌, length, slice_get, All, Option, Some, None}
-use Rattle.lan_base.specs.declared.address.Mi.{Mi}
-use Rattle.lan_core.specs.declared.event.Event.{Event}
-use Rattle.lan_core.specs.declared.event.Event.TheVariants.{Start, Tick}
+-- Legal runs of a group.
+use Rattle.std.specs.Prelude.{◌≡◌, ◌≤◌, ℕ, ◌-◌, ◌==◌, Bool, true, false, cond, not, ◌&&◌}
+use Rattle.std.specs.Prelude.{List, [], ◌∷◌, length, Option, Some, None}
+use Rattle.std.specs.List.{list_any, filter, range_with_len}
+use Rattle.lan_base.specs.declared.frame.UserFrame.{UserFrame}
+use Rattle.sak_exchange.specs.Histories.{Key}
+use Rattle.mka_station.specs.Announcing.{same_key}
 use Rattle.lan_core.specs.declared.fact.Fact.{Fact}
 use Rattle.lan_core.specs.declared.fact.Fact.TheVariants as facts
+use Rattle.lan_core.specs.declared.fact.Lack.TheVariants.{NoKey}
 use Rattle.lan_core.specs.declared.settings.Settings.{Settings}
-use Rattle.lan_core.specs.Run.{Run, Profile, stations, air}
-use Rattle.lan_core.specs.Life.{Entry, ticked, Life, clock, life}
-use Rattle.lan_core.specs.Announcing.{announces, announcement, mka_frame}
+use Rattle.lan_core.specs.Run.{Run, Happening}
+use Rattle.lan_core.specs.Ledgers.{Claim, claims}
+use Rattle.lan_core.specs.Lives.{transmitting_at}
+use Rattle.lan_core.specs.Claims.{next}
+use Rattle.lan_core.specs.Expected.{expected}
+use Rattle.lan_core.specs.Order.{IsWithin, IsInOrder, is_event_of}
 
--- the identifier that an event drew, as its facts tell
-abbrev pub drawn : List Fact → Option Mi
-drawn [] = None
-drawn (facts.Life station mi ∷ others) = Some mi
-drawn (facts.Ticked station at next ∷ others) = drawn others
-drawn (facts.Framed number station sec octets ∷ others) = drawn others
+-- one event more: it is in order, it shows exactly what it has to, and the run stays within the
+-- limits
+pub record IsStep (settings : Settings) (users : List UserFrame) (x : Happening) (r : Run) :
+    Type 0 where
+  pub in_order : IsInOrder settings users r x
+  pub shows : expected settings users r x.event x.facts ≡ Some x.facts
+  pub within : IsWithin (x ∷ r)
 
--- the frame that a station sends with this history, if it is time; number is the frame's
-abbrev pub announced : Settings → ℕ → Profile → Mi → List Entry → ℕ → List Fact
-announced settings s p mi past number =
-    if announces past
-    then facts.Framed number s false (mka_frame settings (announcement settings p mi past)) ∷ []
-    else []
+-- a stepped run: each of its events is such a step after those before it
+abbrev pub IsStepped : Settings → List UserFrame → Run → Type 0
+IsStepped settings users [] = Unit {0}
+IsStepped settings users (x ∷ r) = IsStep settings users x r × IsStepped settings users r
 
--- what a tick shows at a station with this life; count is how many frames are on the air
-abbrev pub tick_facts : Settings → ℕ → ℕ → Option Profile → Option Life → ℕ → Option (List Fact)
-tick_facts settings s next None _ count = None
-tick_facts settings s next (Some p) None count = None
-tick_facts settings s next (Some p) (Some l) count =
-    let past = ticked ∷ l.past in
-    Some (facts.Ticked s (clock past) next ∷ announced settings s p l.mi past (count + 1))
+-- ---- refused claims
 
--- what a start shows with this draw; count is how many stations there are
-abbrev pub start_facts : ℕ → Option Mi → Option (List Fact)
-start_facts count None = None
-start_facts count (Some mi) = Some (facts.Life count mi ∷ [])
+-- The next event of each station that is no claim. It came later, so the way back through a run
+-- meets it first.
+abbrev pub Ahead : Type 0
+Ahead = ℕ → Option Happening
 
--- what an event has to show after a run, with what it draws
-abbrev pub expected : Settings → Run → Event → Option Mi → Option (List Fact)
-expected settings r (Start name sci priority) draw = start_facts (length (stations r)) draw
-expected settings r (Tick s next) draw =
-    tick_facts settings s next (slice_get (stations r) s) (life s r) (length (air r))
+abbrev pub none_ahead : Ahead
+none_ahead s = None
 
--- an event may come after a run: a station that starts has a name and an SCI of its own, and no key
--- transmits at a tick
-abbrev pub IsInOrder : Run → Event → Type 0
-IsInOrder r (Start name sci priority) = All (λ p. (p.name ≢ name) × (p.sci ≢ sci)) (stations r)
-IsInOrder r (Tick s next) = (s < length (stations r)) × (next ≡ 0)
+abbrev pub with_ahead : Happening → Ahead → Ahead
+with_ahead x ahead s = cond (is_event_of s x.event) (Some x) (ahead s)
 
--- each event in order, and with just the facts that it has to show
-abbrev pub IsStepped : Settings → Run → Type 0
-IsStepped settings [] = Unit {0}
-IsStepped settings (x ∷ r) =
-    IsStepped settings r × IsInOrder r x.event
-    × (expected settings r x.event (drawn x.facts) ≡ Some x.facts)
+abbrev pub is_drop_of : ℕ → Key → Fact → Bool
+is_drop_of s k (facts.Dropped station id an) = (station == s) && same_key id k.id
+is_drop_of s k _ = false
 
--- a legal run of the group
-abbrev pub IsLegal : Settings → Run → Type 0
-IsLegal settings r = IsStepped settings r
+abbrev pub is_beginning : ℕ → Fact → Bool
+is_beginning s (facts.Began station id an epoch cause) = station == s
+is_beginning s _ = false
+
+-- a key is dropped, and another begins, in these facts
+abbrev pub is_replaced : ℕ → Key → List Fact → Bool
+is_replaced s k facts = list_any (is_drop_of s k) facts && list_any (is_beginning s) facts
+
+-- nothing transmits, or the station's next event replaces the key that transmits
+abbrev pub is_excuse : ℕ → Option Key → Option Happening → Bool
+is_excuse s None y = true
+is_excuse s (Some k) None = false
+is_excuse s (Some k) (Some y) = is_replaced s k y.facts
+
+-- whether an event is excused: it is, unless it refused a claim since no key was there
+abbrev pub is_excused_by : Settings → Run → Ahead → List Fact → Bool
+is_excused_by settings r ahead (facts.Unclaimed s NoKey ∷ []) =
+    is_excuse s (transmitting_at settings s r) (ahead s)
+is_excused_by settings r ahead _ = true
+
+-- each event is excused, given what comes ahead of the run
+abbrev pub IsExcusedBefore : Settings → Ahead → Run → Type 0
+IsExcusedBefore settings ahead [] = Unit {0}
+IsExcusedBefore settings ahead (x ∷ r) =
+    (is_excused_by settings r ahead x.facts ≡ true)
+    × IsExcusedBefore settings (with_ahead x ahead) r
+
+abbrev pub IsExcused : Settings → Run → Type 0
+IsExcused settings r = IsExcusedBefore settings none_ahead r
+
+-- a legal run
+pub record IsLegal (settings : Settings) (users : List UserFrame) (r : Run) : Type 0 where
+  pub stepped : IsStepped settings users r
+  pub excused : IsExcused settings r
+
+-- ---- thrift
+
+abbrev pub is_claim_of : ℕ → ℕ → ℕ → Claim → Bool
+is_claim_of s epoch pn c = (c.station == s) && ((c.epoch == epoch) && (c.pn == pn))
+
+-- whether nobody has claimed a number
+abbrev pub is_unused : ℕ → ℕ → Run → ℕ → Bool
+is_unused s epoch r pn = not (list_any (is_claim_of s epoch pn) (claims r))
+
+-- how many numbers below the next one nobody has claimed
+abbrev pub unused : Settings → ℕ → ℕ → Run → ℕ
+unused settings s epoch r =
+    length (filter (is_unused s epoch r) (range_with_len 1 (next settings s epoch r - 1)))
+
+-- at each moment at most 16 numbers of a key at a station are claimed by nobody
+abbrev pub IsThrifty : Settings → Run → Type 0
+IsThrifty settings [] = Unit {0}
+IsThrifty settings (x ∷ r) =
+    ((s epoch : ℕ) → unused settings s epoch (x ∷ r) ≤ 16) × IsThrifty settings r

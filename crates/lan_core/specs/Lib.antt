@@ -1,4 +1,11 @@
+-- What a reader reads, in this order: runs, what they tell, the life of a station, packet numbers,
+-- what an event shows, when it may come, and which runs are legal; then premises on runs.
 pub mod Run
-pub mod Life
-pub mod Announcing
+pub mod Ledgers
+pub mod Lives
+pub mod Claims
+pub mod Expected
+pub mod Types
+pub mod Order
 pub mod Legal
+pub mod Fresh

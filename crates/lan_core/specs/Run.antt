@@ -1,18 +1,19 @@
--- A run of the group (this profile's own rule): the events, newest first, each with the facts that
--- it showed.
+-- A run of the group: events, newest first, each with the facts that it showed, oldest first.
 use Rattle.std.specs.Prelude.{ℕ, List, [], ◌∷◌, ◌++◌}
-use Rattle.std.specs.List.{flat_map}
 use Rattle.lan_base.specs.declared.name.Name.{Name}
 use Rattle.lan_base.specs.declared.address.Sci.{Sci}
 use Rattle.lan_core.specs.declared.event.Event.{Event}
-use Rattle.lan_core.specs.declared.event.Event.TheVariants.{Start, Tick}
+use Rattle.lan_core.specs.declared.event.Event.TheVariants.{Start}
 use Rattle.lan_core.specs.declared.fact.Fact.{Fact}
-use Rattle.lan_core.specs.declared.fact.Fact.TheVariants.{Life, Ticked, Framed}
 
--- one event, and its facts in their order
+-- one event and its facts
 pub record Happening : Type 0 where
   pub event : Event
   pub facts : List Fact
+
+-- an event that showed these facts
+abbrev pub happened : Event → List Fact → Happening
+happened event facts = record { event = event; facts = facts }
 
 abbrev pub Run : Type 0
 Run = List Happening
@@ -26,26 +27,14 @@ pub record Profile : Type 0 where
 -- the station that an event starts
 abbrev pub started : Event → List Profile
 started (Start name sci priority) = record { name = name; sci = sci; priority = priority } ∷ []
-started (Tick station next) = []
+started _ = []
 
--- the stations, in the order of their starts: station s is the one at place s
-abbrev pub stations : Run → List Profile
+-- the stations in the order of their starts: station s stands at place s
+unfoldable pub stations : Run → List Profile
 stations [] = []
 stations (x ∷ r) = stations r ++ started x.event
 
--- the frame that a fact puts on the air
-abbrev pub framed : Fact → List (List ℕ)
-framed (Life station mi) = []
-framed (Ticked station at next) = []
-framed (Framed number station sec octets) = octets ∷ []
-
--- the air: every frame that was put on it, newest first, so that the frames are numbered from the
--- back
-abbrev pub air : Run → List (List ℕ)
-air [] = []
-air (x ∷ r) = flat_map framed x.facts ++ air r
-
--- all facts, the oldest first
+-- all facts, oldest first
 abbrev pub facts_of : Run → List Fact
 facts_of [] = []
 facts_of (x ∷ r) = facts_of r ++ x.facts

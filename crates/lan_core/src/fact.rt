@@ -1,10 +1,23 @@
 //! What an event shows.
 
-use lan_base::{Mi, Octets};
+use aes_block::Secret;
+use lan_base::{KeyId, Mi, Octets};
+use mka_station::Verdict;
+use rx_slots::Arrival;
+use sak_exchange::{Cause, Why};
 use std::alloc::{AllocError, Global};
 use std::marker::Model;
 
-/// One line of the transcript.
+/// Why a station got no packet number.
+#[derive(Clone, Copy, Debug, PartialEq, Eq)]
+pub enum Lack {
+    /// No key transmits.
+    NoKey,
+    /// The transmitting key, of this epoch, has no packet number left.
+    Exhausted { epoch: u32 },
+}
+
+/// One line of the transcript. `station` is the station's place.
 #[derive(Debug, Drop)]
 pub enum Fact {
     /// A life of the station begins, with this member identifier.
@@ -18,6 +31,45 @@ pub enum Fact {
         at: u32,
         next: u64,
     },
+    /// The key server that the station elects from now on.
+    Server {
+        station: u8,
+        mi: Option<Mi>,
+    },
+    /// A key is held no more: no server is elected, the life ended, or another key was installed.
+    Dropped {
+        station: u8,
+        id: KeyId,
+        an: u8,
+    },
+    /// The old key is held no more, the retire time after the latest one began.
+    Retired {
+        station: u8,
+        id: KeyId,
+        an: u8,
+    },
+    /// The latest key begins to transmit.
+    Began {
+        station: u8,
+        id: KeyId,
+        an: u8,
+        epoch: u32,
+        cause: Cause,
+    },
+    /// A key is the latest one from now on.
+    Installed {
+        station: u8,
+        id: KeyId,
+        an: u8,
+        epoch: u32,
+        sak: Secret,
+    },
+    /// A key that was given is not taken.
+    Untaken {
+        station: u8,
+        id: KeyId,
+        why: Why,
+    },
     /// Frame `number`, from 1, was put on the air: an MKA frame, or a protected one where `sec`.
     Framed {
         number: u32,
@@ -25,8 +77,31 @@ pub enum Fact {
         sec: bool,
         octets: Octets,
     },
+    /// What became of a frame that is no protected one; `frame` is 0 for foreign octets.
+    HeardMka {
+        frame: u32,
+        station: u8,
+        verdict: Verdict,
+    },
+    /// The station claimed a packet number under a key.
+    Claimed {
+        station: u8,
+        an: u8,
+        epoch: u32,
+        pn: u32,
+    },
+    /// The station got none.
+    Unclaimed {
+        station: u8,
+        why: Lack,
+    },
+    /// The answer to a protected frame; `frame` is 0 for foreign octets.
+    Arrived {
+        frame: u32,
+        station: u8,
+        arrival: Arrival,
+    },
 }
-
 /// The facts of one event, in their order. Contracts see it as the list.
 #[derive(Debug, Drop)]
 pub struct Facts {

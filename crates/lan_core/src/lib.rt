@@ -1,11 +1,20 @@
-//! The group as a whole: its events, the facts that each event gives, and what a legal run of them
+//! The group as a whole: its events, the facts that each event shows, and what a legal run of them
 //! is.
 #![tactic(auto)]
 
 mod event;
 mod fact;
+mod laws;
 mod settings;
 
 pub use event::Event;
-pub use fact::{Fact, Facts};
+pub use fact::{Fact, Facts, Lack};
+pub use laws::{
+    law_a_claimed_number_is_passed, law_a_shown_number_is_kept, law_a_step_keeps_a_run_legal,
+    law_an_excused_run_stays_excused, law_claims_and_emissions_change_no_life,
+    law_each_number_has_its_frame, law_each_station_is_in_a_life,
+    law_events_of_others_change_no_life, law_frames_are_numbered_in_order,
+    law_fronts_of_fresh_runs_are_fresh, law_fronts_of_stepped_runs_are_stepped,
+    law_fronts_of_unforged_runs_are_unforged, law_the_next_number_never_falls,
+};
 pub use settings::Settings;

@@ -1,0 +1,5 @@
+use Rattle.lan_core.proofs.Excuses.{step-legal}
+use Rattle.lan_core.proofs.laws.law_a_step_keeps_a_run_legal.Goals as goal
+
+pub returns : goal.returns
+returns c = step-legal

@@ -1,0 +1,5 @@
+use Rattle.lan_core.proofs.Excuses.{stays-excused}
+use Rattle.lan_core.proofs.laws.law_an_excused_run_stays_excused.Goals as goal
+
+pub returns : goal.returns
+returns c = stays-excused

@@ -1,0 +1,5 @@
+use Rattle.lan_core.proofs.Numbered.{number-frame}
+use Rattle.lan_core.proofs.laws.law_each_number_has_its_frame.Goals as goal
+
+pub returns : goal.returns
+returns c = number-frame

@@ -1,0 +1,5 @@
+use Rattle.lan_core.proofs.There.{in-a-life}
+use Rattle.lan_core.proofs.laws.law_each_station_is_in_a_life.Goals as goal
+
+pub returns : goal.returns
+returns c = in-a-life
