@@ -1,0 +1,68 @@
+-- The definitions, computed on worked lines.
+use Rattle.std.proofs.Common.{◌≡◌, ℕ, List, [], ◌∷◌, ◌++◌, get_or, refl, ap, arith}
+use Rattle.std.specs.Prelude.{◌≢◌, false, codes, None}
+use Rattle.std.proofs.lemmas.List.Elements.{All-cons, All-nil}
+use Rattle.std.specs.Fmt.{digits}
+use Rattle.hex.specs.Hex.{encode_with}
+use Rattle.mka_station.specs.declared.verdict.Verdict.TheVariants as Verdict
+use Rattle.rx_slots.specs.declared.arrival.Arrival.TheVariants as Arrival
+use Rattle.lan_core.specs.declared.fact.Fact.{Fact}
+use Rattle.lan_core.specs.declared.fact.Fact.TheVariants.{Ticked, Server, Framed, HeardMka, Claimed, Arrived}
+use Rattle.transcript.specs.Rendering.{line, rendered, IsFact, Differ}
+use Rattle.transcript.specs.Cut.{cut}
+
+abbrev names : List (List ℕ)
+names = codes "A" ∷ codes "B" ∷ []
+
+abbrev ticked : Fact
+ticked = Ticked 0 9 4294967296
+
+abbrev heard : Fact
+heard = HeardMka 5 1 (Verdict.OldNumber 4)
+
+abbrev server : Fact
+server = Server 1 None
+
+abbrev frame : Fact
+frame = Framed 13 1 false []
+
+abbrev late : Fact
+late = Arrived 10 1 (Arrival.Late 2)
+
+pub ticked_line : rendered names ticked ≡ codes "tick A 9 next 4294967296" ++ 10 ∷ []
+unfolding line digits
+ticked_line = refl
+
+pub heard_line : line names heard ≡ codes "heard 5 B drop oldnumber 4"
+unfolding line digits
+heard_line = refl
+
+pub server_line : line names server ≡ codes "server B none"
+unfolding line digits
+server_line = refl
+
+-- a frame without octets ends in an empty word
+pub frame_line : line names frame ≡ codes "frame 13 B mka "
+unfolding line digits encode_with
+frame_line = refl
+
+pub claim_line : line names (Claimed 0 1 2 3) ≡ codes "claim A an 1 epoch 2 pn 3"
+unfolding line digits
+claim_line = refl
+
+-- a tick with its frame, a hearing with its server, and a late frame are three events
+pub three_events : cut (ticked ∷ frame ∷ heard ∷ server ∷ late ∷ []) ≡ (ticked ∷ frame ∷ []) ∷ (heard ∷ server ∷ []) ∷ (late ∷ []) ∷ []
+three_events = refl
+
+different : codes "B" ≢ codes "A"
+different e =
+    let letter : 66 ≡ 65 = ap (λ octets. get_or octets 0 0) e in
+    absurd (omega (arith, letter))
+
+-- the names differ, and the facts are facts under them
+pub names_differ : Differ names
+names_differ =
+    (All-cons (λ other. other ≢ codes "A") (codes "B") [] different (All-nil (λ other. other ≢ codes "A")), (All-nil (λ other. other ≢ codes "B"), tt))
+
+pub is_fact : IsFact names ticked
+is_fact = (refl, ((omega arith, omega arith), (omega arith, (refl, (omega arith, tt)))))

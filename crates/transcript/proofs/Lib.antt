@@ -1,0 +1,9 @@
+mod Hexing
+mod Answering
+mod Joining
+mod Reading
+mod Told
+mod Plain
+mod Texts
+mod Cutting
+mod Examples

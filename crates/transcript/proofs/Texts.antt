@@ -1,0 +1,188 @@
+-- A text of facts says the facts.
+use Rattle.std.proofs.Common.{◌≡◌, ℕ, Bool, false, List, [], ◌∷◌, ◌++◌, refl, sym, ap, ◌∙◌, arith, append_assoc}
+use Rattle.std.specs.Prelude.{◌==◌, Option, Some, None, map}
+use Rattle.std.specs.List.{All, slice_split}
+use Rattle.std.proofs.lemmas.List.{append-nil}
+use Rattle.std.proofs.lemmas.List.Elements.{All-cons, All-append, All-nil, All-head, All-tail}
+use Rattle.std.proofs.lemmas.List.Splits.{slice_split_none, slice_split_at}
+use Rattle.lan_base.specs.Name.{IsName}
+use Rattle.std.specs.Char.{is_ascii_digit, is_ascii_alphanumeric, is_ascii_lowercase}
+use Rattle.hex.specs.Hex.{is_hex_digit}
+use Rattle.aes_block.specs.declared.secret.Secret.{Secret}
+use Rattle.aes_block.specs.declared.secret.Secret.TheVariants.{S128, S256}
+use Rattle.lan_base.specs.declared.address.Mi.{Mi}
+use Rattle.sak_exchange.specs.declared.change.Why.TheVariants as Why
+use Rattle.mka_station.specs.declared.verdict.Verdict.TheVariants as Verdict
+use Rattle.rx_slots.specs.declared.arrival.Arrival.TheVariants as Arrival
+use Rattle.lan_core.specs.declared.fact.Lack.TheVariants as Lack
+use Rattle.lan_core.specs.declared.fact.Fact.{Fact}
+use Rattle.lan_core.specs.declared.fact.Fact.TheVariants.{Life, Ticked, Server, Dropped, Retired, Began, Installed, Untaken, Framed, HeardMka, Claimed, Unclaimed, Arrived}
+use Rattle.trace_text.specs.Words.{spaced}
+use Rattle.transcript.specs.Words.{Word, text, words, spelled, server_word, secret_word}
+use Rattle.transcript.specs.Rendering.{joined, line, transcript, AllFit, IsFact, Differ}
+use Rattle.transcript.proofs.Reading.{fact_in, along, fact_tree}
+use Rattle.transcript.proofs.Plain.{Lacks, IsSmall, spelled_lacks}
+use Rattle.transcript.proofs.Told.{fact_told}
+
+abbrev is_space : ℕ → Bool
+is_space octet = octet == 32
+
+abbrev is_feed : ℕ → Bool
+is_feed octet = octet == 10
+
+abbrev AllLack : ℕ → List (List ℕ) → Type 0
+AllLack c [] = Unit {0}
+AllLack c (word ∷ others) = Lacks c word × AllLack c others
+
+abbrev AllSmall : List Word → Type 0
+AllSmall [] = Unit {0}
+AllSmall (word ∷ others) = IsSmall word × AllSmall others
+
+all_lack : (c : ℕ) (names : List (List ℕ)) (ws : List Word)
+    → ((word : Word) → AllFit names (word ∷ []) → IsSmall word → Lacks c (spelled names word))
+    → AllFit names ws → AllSmall ws → AllLack c (map (spelled names) ws)
+all_lack c names [] lacks fit small = tt
+all_lack c names (word ∷ ws) lacks fit small = (lacks word (fit.0, tt) small.0, all_lack c names ws lacks fit.1 small.1)
+
+-- words between single spaces are the words again
+pub split_words : (first : List ℕ) (others : List (List ℕ)) → Lacks 32 first → AllLack 32 others
+    → slice_split is_space (first ++ spaced others) ≡ first ∷ others
+split_words first [] f o = ap (slice_split is_space) (append-nil first) ∙ slice_split_none is_space first f
+split_words first (word ∷ others) f o =
+    slice_split_at is_space first 32 (word ++ spaced others) f refl ∙ ap (λ ws. first ∷ ws) (split_words word others o.0 o.1)
+
+no_feed : (others : List (List ℕ)) → AllLack 10 others → Lacks 10 (spaced others)
+no_feed [] o = All-nil (λ octet. is_feed octet ≡ false)
+no_feed (word ∷ others) o =
+    All-cons (λ octet. is_feed octet ≡ false) 32 (word ++ spaced others) refl
+    (All-append (λ octet. is_feed octet ≡ false) word (spaced others) o.0 (no_feed others o.1))
+
+pub joined_lacks : (ws : List (List ℕ)) → AllLack 10 ws → Lacks 10 (joined ws)
+joined_lacks [] o = All-nil (λ octet. is_feed octet ≡ false)
+joined_lacks (word ∷ others) o =
+    All-append (λ octet. is_feed octet ≡ false) word (spaced others) o.0 (no_feed others o.1)
+
+pub joined_splits : (word : List ℕ) (ws : List (List ℕ)) → AllLack 32 (word ∷ ws) → slice_split is_space (joined (word ∷ ws)) ≡ word ∷ ws
+joined_splits word ws o = split_words word ws o.0 o.1
+
+small_server : (mi : Option Mi) → IsSmall (server_word mi)
+small_server None = tt
+small_server (Some mi) = tt
+
+small_secret : (sak : Secret) → IsSmall (secret_word sak)
+small_secret (S128 xs) = tt
+small_secret (S256 xs) = tt
+
+fact_small : (names : List (List ℕ)) (fact : Fact) → IsFact names fact → AllSmall (words fact)
+fact_small names (Life s mi) fit = (tt, (tt, (tt, tt)))
+fact_small names (Ticked s at next) fit = (tt, (tt, (omega (arith, fit.1.1.0), (tt, (omega (arith, fit.1.1.1.1.0), tt)))))
+fact_small names (Server s mi) fit = (tt, (tt, (small_server mi, tt)))
+fact_small names (Dropped s id an) fit = (tt, (tt, (tt, (omega (arith, fit.1.1.1.0), (tt, (omega (arith, fit.1.1.1.1.1.0), tt))))))
+fact_small names (Retired s id an) fit = (tt, (tt, (tt, (omega (arith, fit.1.1.1.0), (tt, (omega (arith, fit.1.1.1.1.1.0), tt))))))
+fact_small names (Began s id an epoch cause) fit = (tt, (tt, (tt, (omega (arith, fit.1.1.1.0), (tt, (omega (arith, fit.1.1.1.1.1.0), (tt, (omega (arith, fit.1.1.1.1.1.1.1.0), (tt, tt)))))))))
+fact_small names (Installed s id an epoch sak) fit = (tt, (tt, (tt, (omega (arith, fit.1.1.1.0), (tt, (omega (arith, fit.1.1.1.1.1.0), (tt, (omega (arith, fit.1.1.1.1.1.1.1.0), (tt, (small_secret sak, tt))))))))))
+fact_small names (Untaken s id Why.NotListed) fit = (tt, (tt, (tt, (omega (arith, fit.1.1.1.0), (tt, tt)))))
+fact_small names (Untaken s id Why.NotServer) fit = (tt, (tt, (tt, (omega (arith, fit.1.1.1.0), (tt, tt)))))
+fact_small names (Untaken s id Why.Retiring) fit = (tt, (tt, (tt, (omega (arith, fit.1.1.1.0), (tt, tt)))))
+fact_small names (Untaken s id Why.Suite) fit = (tt, (tt, (tt, (omega (arith, fit.1.1.1.0), (tt, tt)))))
+fact_small names (Untaken s id Why.Offset) fit = (tt, (tt, (tt, (omega (arith, fit.1.1.1.0), (tt, tt)))))
+fact_small names (Untaken s id Why.Wrap) fit = (tt, (tt, (tt, (omega (arith, fit.1.1.1.0), (tt, tt)))))
+fact_small names (Untaken s id (Why.Seen kept)) fit = (tt, (tt, (tt, (omega (arith, fit.1.1.1.0), (tt, (omega (arith, fit.1.1.1.1.1.0), tt))))))
+fact_small names (Framed k s sec xs) fit = (tt, (omega (arith, fit.1.0), (tt, (tt, (tt, tt)))))
+fact_small names (HeardMka k s Verdict.Vouched) fit = (tt, (omega (arith, fit.1.0), (tt, (tt, tt))))
+fact_small names (HeardMka k s Verdict.Unvouched) fit = (tt, (omega (arith, fit.1.0), (tt, (tt, tt))))
+fact_small names (HeardMka k s Verdict.NotMka) fit = (tt, (omega (arith, fit.1.0), (tt, (tt, (tt, tt)))))
+fact_small names (HeardMka k s Verdict.Short) fit = (tt, (omega (arith, fit.1.0), (tt, (tt, (tt, tt)))))
+fact_small names (HeardMka k s Verdict.Agility) fit = (tt, (omega (arith, fit.1.0), (tt, (tt, (tt, tt)))))
+fact_small names (HeardMka k s Verdict.CkName) fit = (tt, (omega (arith, fit.1.0), (tt, (tt, (tt, tt)))))
+fact_small names (HeardMka k s Verdict.Check) fit = (tt, (omega (arith, fit.1.0), (tt, (tt, (tt, tt)))))
+fact_small names (HeardMka k s Verdict.Echo) fit = (tt, (omega (arith, fit.1.0), (tt, (tt, (tt, tt)))))
+fact_small names (HeardMka k s Verdict.PeersFull) fit = (tt, (omega (arith, fit.1.0), (tt, (tt, (tt, tt)))))
+fact_small names (HeardMka k s (Verdict.Shape at)) fit = (tt, (omega (arith, fit.1.0), (tt, (tt, (tt, (omega (arith, fit.1.1.1.1.1.0), tt))))))
+fact_small names (HeardMka k s (Verdict.Repeated kind)) fit = (tt, (omega (arith, fit.1.0), (tt, (tt, (tt, (omega (arith, fit.1.1.1.1.1.0), tt))))))
+fact_small names (HeardMka k s (Verdict.OldNumber kept)) fit = (tt, (omega (arith, fit.1.0), (tt, (tt, (tt, (omega (arith, fit.1.1.1.1.1.0), tt))))))
+fact_small names (Claimed s an epoch pn) fit = (tt, (tt, (tt, (omega (arith, fit.1.1.1.0), (tt, (omega (arith, fit.1.1.1.1.1.0), (tt, (omega (arith, fit.1.1.1.1.1.1.1.0), tt))))))))
+fact_small names (Unclaimed s Lack.NoKey) fit = (tt, (tt, (tt, tt)))
+fact_small names (Unclaimed s (Lack.Exhausted epoch)) fit = (tt, (tt, (tt, (omega (arith, fit.1.1.1.0), tt))))
+fact_small names (Arrived k s (Arrival.Accepted pn body)) fit = (tt, (omega (arith, fit.1.0), (tt, (tt, (omega (arith, fit.1.1.1.1.0), (tt, tt))))))
+fact_small names (Arrived k s (Arrival.Malformed refusal)) fit = (tt, (omega (arith, fit.1.0), (tt, (tt, (tt, tt)))))
+fact_small names (Arrived k s Arrival.Own) fit = (tt, (omega (arith, fit.1.0), (tt, (tt, tt))))
+fact_small names (Arrived k s (Arrival.Missed an)) fit = (tt, (omega (arith, fit.1.0), (tt, (tt, (omega (arith, fit.1.1.1.1.0), tt)))))
+fact_small names (Arrived k s Arrival.BadCheck) fit = (tt, (omega (arith, fit.1.0), (tt, (tt, tt))))
+fact_small names (Arrived k s (Arrival.Late next)) fit = (tt, (omega (arith, fit.1.0), (tt, (tt, (omega (arith, fit.1.1.1.1.0), tt)))))
+
+-- the first word of a fact, and the others
+abbrev first : List Word → Word
+first [] = text []
+first (word ∷ others) = word
+
+abbrev others : List Word → List Word
+others [] = []
+others (word ∷ words) = words
+
+abbrev IsSome : List Word → Type 0
+IsSome ws = ws ≡ first ws ∷ others ws
+
+some_words : (fact : Fact) → IsSome (words fact)
+some_words (Life s mi) = refl
+some_words (Ticked s at next) = refl
+some_words (Server s mi) = refl
+some_words (Dropped s id an) = refl
+some_words (Retired s id an) = refl
+some_words (Began s id an epoch cause) = refl
+some_words (Installed s id an epoch sak) = refl
+some_words (Untaken s id why) = refl
+some_words (Framed k s sec xs) = refl
+some_words (HeardMka k s verdict) = refl
+some_words (Claimed s an epoch pn) = refl
+some_words (Unclaimed s why) = refl
+some_words (Arrived k s arrival) = refl
+
+all_plain : (c : ℕ) (names : List (List ℕ)) (fact : Fact) → is_ascii_alphanumeric c ≡ false → is_ascii_lowercase c ≡ false
+    → is_ascii_digit c ≡ false → is_hex_digit c ≡ false → All IsName names → IsFact names fact → AllLack c (map (spelled names) (words fact))
+all_plain c names fact a l d h named fit =
+    all_lack c names (words fact) (λ word f small. spelled_lacks c names word a l d h named f.0 small) fit (fact_small names fact fit)
+
+split_some : (names : List (List ℕ)) (ws : List Word) → IsSome ws → AllLack 32 (map (spelled names) ws)
+    → slice_split is_space (joined (map (spelled names) ws)) ≡ map (spelled names) ws
+split_some names [] some lack = absurd cc
+split_some names (word ∷ ws) some lack = split_words (spelled names word) (map (spelled names) ws) lack.0 lack.1
+
+-- a line says its fact
+pub line_told : (names : List (List ℕ)) (fact : Fact) → All IsName names → Differ names → IsFact names fact → fact_in names (line names fact) ≡ Some fact
+unfolding line
+line_told names fact named d fit =
+    ap (along names fact_tree) (split_some names (words fact) (some_words fact) (all_plain 32 names fact refl refl refl refl named fit))
+    ∙ fact_told names fact d fit
+
+line_lacks : (names : List (List ℕ)) (fact : Fact) → All IsName names → IsFact names fact → Lacks 10 (line names fact)
+unfolding line
+line_lacks names fact named fit = joined_lacks (map (spelled names) (words fact)) (all_plain 10 names fact refl refl refl refl named fit)
+
+abbrev onto : Option Fact → List Fact → List Fact
+onto None facts = facts
+onto (Some fact) facts = fact ∷ facts
+
+abbrev facts_of : List (List ℕ) → List (List ℕ) → List Fact
+facts_of names [] = []
+facts_of names (one ∷ others) = onto (fact_in names one) (facts_of names others)
+
+-- the facts that a text says, line by line
+abbrev facts_in : List (List ℕ) → List ℕ → List Fact
+facts_in names octets = facts_of names (slice_split is_feed octets)
+
+text_told : (names : List (List ℕ)) (facts : List Fact) → All IsName names → Differ names → All (IsFact names) facts
+    → facts_in names (transcript names facts) ≡ facts
+text_told names [] named d fit = refl
+text_told names (fact ∷ facts) named d fit =
+    let head = All-head (IsFact names) fact facts fit in
+    ap (facts_in names) (append_assoc (line names fact) (10 ∷ []) (transcript names facts))
+    ∙ ap (facts_of names) (slice_split_at is_feed (line names fact) 10 (transcript names facts) (line_lacks names fact named head) refl)
+    ∙ ap (λ o. onto o (facts_in names (transcript names facts))) (line_told names fact named d head)
+    ∙ ap (λ fs. fact ∷ fs) (text_told names facts named d (All-tail (IsFact names) fact facts fit))
+
+-- different facts have different texts
+pub texts_differ : (names : List (List ℕ)) (these those : List Fact) → All IsName names → Differ names → All (IsFact names) these → All (IsFact names) those
+    → transcript names these ≡ transcript names those → these ≡ those
+texts_differ names these those named d fit fit2 e =
+    sym (text_told names these named d fit) ∙ ap (facts_in names) e ∙ text_told names those named d fit2

@@ -1,0 +1,132 @@
+-- The words of a fact say the fact.
+use Rattle.std.proofs.Common.{◌≡◌, ℕ, zero, suc, ◌+◌, ◌<◌, ◌^◌, Bool, true, false, List, [], ◌∷◌, length, get_or, refl, ap, ◌∙◌, arith}
+use Rattle.std.specs.Prelude.{◌≢◌, ◌==◌, nat_lt, Option, Some, None, decimal, map, codes}
+use Rattle.std.proofs.lemmas.Bool.Decides.{nat_tests}
+use Rattle.std.proofs.lemmas.Fmt.{decimal_is_IsNumeral}
+use Rattle.std.proofs.lemmas.List.Elements.{All-get_or}
+use Rattle.std.proofs.lemmas.Slice.Eq.{bytes_eq-Decides}
+use Rattle.hex.specs.Hex.{encode_lower, lower_digits, IsBytes}
+use Rattle.hex.proofs.HexLemmas.{decode_of-encode_lower, length-encode_with}
+use Rattle.aes_block.specs.declared.secret.Secret.{Secret}
+use Rattle.aes_block.specs.declared.secret.Secret.TheVariants.{S128, S256}
+use Rattle.lan_base.specs.declared.address.Mi.{Mi}
+use Rattle.sak_exchange.specs.declared.change.Cause.TheVariants as Cause
+use Rattle.sak_exchange.specs.declared.change.Why.TheVariants as Why
+use Rattle.gcm_frames.specs.declared.tag.TagRefusal.TheVariants as Tag
+use Rattle.mka_station.specs.declared.verdict.Verdict.TheVariants as Verdict
+use Rattle.rx_slots.specs.declared.arrival.Arrival.TheVariants as Arrival
+use Rattle.lan_core.specs.declared.fact.Fact.{Fact}
+use Rattle.lan_core.specs.declared.fact.Fact.TheVariants.{Life, Ticked, Server, Dropped, Retired, Began, Installed, Untaken, Framed, HeardMka, Claimed, Unclaimed, Arrived}
+use Rattle.lan_core.specs.declared.fact.Lack.TheVariants as Lack
+use Rattle.trace_text.specs.Words.{is_word}
+use Rattle.transcript.specs.Words.{spelled, Fits, words, server_word, secret_word}
+use Rattle.transcript.specs.Rendering.{Differ, IsFact}
+use Rattle.transcript.proofs.Reading.{place_from, kept_if, and_then, station_of, number_of, octets_of, array_of, server_of, secret_of, along, fact_tree}
+
+pub same_word : (word : List ℕ) → is_word word word ≡ true
+same_word word = (bytes_eq-Decides word word).1 refl
+
+never : (word other : List ℕ) (b : Bool) → is_word word other ≡ b → word ≢ other → b ≡ false
+never word other true e differ = absurd (differ ((bytes_eq-Decides word other).0 e))
+never word other false e differ = refl
+
+pub other_word : (word other : List ℕ) → word ≢ other → is_word word other ≡ false
+other_word word other differ = never word other (is_word word other) refl differ
+
+place_found : (names : List (List ℕ)) (s p : ℕ) → Differ names → s < length names → place_from p names (get_or names s []) ≡ Some (p + s)
+place_found [] s p d l = absurd (omega (arith, l))
+place_found (name ∷ names) zero p d l =
+    let sum : p ≡ p + 0 = omega arith in
+    rw (same_word name) (ap (λ n. Some n) sum)
+place_found (name ∷ names) (suc s) p d l =
+    let inside : s < length names = omega (arith, l) in
+    let sum : p + 1 + s ≡ p + suc s = omega arith in
+    rw (other_word (get_or names s []) name (All-get_or (λ other. other ≢ name) names s [] inside d.0))
+    (place_found names s (p + 1) d.1 inside ∙ ap (λ n. Some n) sum)
+
+pub station_said : (names : List (List ℕ)) (s : ℕ) → Differ names → (s < length names) × (s < 256) → station_of names (get_or names s []) ≡ Some s
+station_said names s d fit =
+    let small : nat_lt s 256 ≡ true = grind (arith, nat_tests, fit.1) in
+    let start : 0 + s ≡ s = omega arith in
+    ap (λ o. and_then o (λ place. kept_if (nat_lt place 256) place)) (place_found names s 0 d fit.0 ∙ ap (λ n. Some n) start)
+    ∙ ap (λ b. kept_if b s) small
+
+pub number_said : (bits n : ℕ) → n < 2 ^ 64 → n < 2 ^ bits → number_of bits (decimal n) ≡ Some n
+number_said bits n small fit =
+    let test : nat_lt n (2 ^ bits) ≡ true = grind (arith, nat_tests, fit) in
+    rw ((decimal_is_IsNumeral n small).1, same_word (decimal n), test) refl
+
+pub octets_said : (xs : List ℕ) → IsBytes xs → octets_of (encode_lower xs) ≡ Some xs
+octets_said xs bytes = rw (decode_of-encode_lower xs bytes, same_word (encode_lower xs)) refl
+
+pub array_said : (count : ℕ) (xs : List ℕ) → (length xs ≡ count) × IsBytes xs → array_of count (encode_lower xs) ≡ Some xs
+array_said count xs fit =
+    let test : (length xs == count) ≡ true = grind (arith, nat_tests, fit.0) in
+    rw (octets_said xs fit.1, test) refl
+
+long : (xs : List ℕ) → length xs ≡ 12 → encode_lower xs ≢ codes "none"
+long xs size e =
+    let digits : length (encode_lower xs) ≡ 4 = ap length e in
+    omega (arith, digits, length-encode_with lower_digits xs, size)
+
+pub server_said : (names : List (List ℕ)) (mi : Option Mi) → Fits names (server_word mi) → server_of (spelled names (server_word mi)) ≡ Some mi
+server_said names None fit = refl
+server_said names (Some mi) fit = rw (other_word (encode_lower mi.0) (codes "none") (long mi.0 fit.0), array_said 12 mi.0 fit) refl
+
+pub secret_said : (names : List (List ℕ)) (sak : Secret) → Fits names (secret_word sak) → secret_of (spelled names (secret_word sak)) ≡ Some sak
+secret_said names (S128 xs) fit =
+    let test : (length xs == 16) ≡ true = grind (arith, nat_tests, fit.0) in
+    rw (octets_said xs fit.1, test) refl
+secret_said names (S256 xs) fit =
+    let none : (length xs == 16) ≡ false = grind (arith, nat_tests, fit.0) in
+    let test : (length xs == 32) ≡ true = grind (arith, nat_tests, fit.0) in
+    rw (octets_said xs fit.1, none, test) refl
+
+abbrev pub told : List (List ℕ) → Fact → Option Fact
+told names fact = along names fact_tree (map (spelled names) (words fact))
+
+-- a fact is told by its words
+pub fact_told : (names : List (List ℕ)) (fact : Fact) → Differ names → IsFact names fact → told names fact ≡ Some fact
+fact_told names (Life s mi) d fit = rw (station_said names s d fit.1.0, array_said 12 mi.0 fit.1.1.0) refl
+fact_told names (Ticked s at next) d fit = rw (station_said names s d fit.1.0, number_said 32 at (omega (arith, fit.1.1.0)) fit.1.1.0, number_said 64 next (omega (arith, fit.1.1.1.1.0)) fit.1.1.1.1.0) refl
+fact_told names (Server s mi) d fit = rw (station_said names s d fit.1.0, server_said names mi fit.1.1.0) refl
+fact_told names (Dropped s id an) d fit = rw (station_said names s d fit.1.0, array_said 12 id.server.0 fit.1.1.0, number_said 32 id.number (omega (arith, fit.1.1.1.0)) fit.1.1.1.0, number_said 8 an (omega (arith, fit.1.1.1.1.1.0)) fit.1.1.1.1.1.0) refl
+fact_told names (Retired s id an) d fit = rw (station_said names s d fit.1.0, array_said 12 id.server.0 fit.1.1.0, number_said 32 id.number (omega (arith, fit.1.1.1.0)) fit.1.1.1.0, number_said 8 an (omega (arith, fit.1.1.1.1.1.0)) fit.1.1.1.1.1.0) refl
+fact_told names (Began s id an epoch Cause.All) d fit = rw (station_said names s d fit.1.0, array_said 12 id.server.0 fit.1.1.0, number_said 32 id.number (omega (arith, fit.1.1.1.0)) fit.1.1.1.0, number_said 8 an (omega (arith, fit.1.1.1.1.1.0)) fit.1.1.1.1.1.0, number_said 32 epoch (omega (arith, fit.1.1.1.1.1.1.1.0)) fit.1.1.1.1.1.1.1.0) refl
+fact_told names (Began s id an epoch Cause.Timeout) d fit = rw (station_said names s d fit.1.0, array_said 12 id.server.0 fit.1.1.0, number_said 32 id.number (omega (arith, fit.1.1.1.0)) fit.1.1.1.0, number_said 8 an (omega (arith, fit.1.1.1.1.1.0)) fit.1.1.1.1.1.0, number_said 32 epoch (omega (arith, fit.1.1.1.1.1.1.1.0)) fit.1.1.1.1.1.1.1.0) refl
+fact_told names (Began s id an epoch Cause.Flag) d fit = rw (station_said names s d fit.1.0, array_said 12 id.server.0 fit.1.1.0, number_said 32 id.number (omega (arith, fit.1.1.1.0)) fit.1.1.1.0, number_said 8 an (omega (arith, fit.1.1.1.1.1.0)) fit.1.1.1.1.1.0, number_said 32 epoch (omega (arith, fit.1.1.1.1.1.1.1.0)) fit.1.1.1.1.1.1.1.0) refl
+fact_told names (Installed s id an epoch sak) d fit = rw (station_said names s d fit.1.0, array_said 12 id.server.0 fit.1.1.0, number_said 32 id.number (omega (arith, fit.1.1.1.0)) fit.1.1.1.0, number_said 8 an (omega (arith, fit.1.1.1.1.1.0)) fit.1.1.1.1.1.0, number_said 32 epoch (omega (arith, fit.1.1.1.1.1.1.1.0)) fit.1.1.1.1.1.1.1.0, secret_said names sak fit.1.1.1.1.1.1.1.1.1.0) refl
+fact_told names (Untaken s id Why.NotListed) d fit = rw (station_said names s d fit.1.0, array_said 12 id.server.0 fit.1.1.0, number_said 32 id.number (omega (arith, fit.1.1.1.0)) fit.1.1.1.0) refl
+fact_told names (Untaken s id Why.NotServer) d fit = rw (station_said names s d fit.1.0, array_said 12 id.server.0 fit.1.1.0, number_said 32 id.number (omega (arith, fit.1.1.1.0)) fit.1.1.1.0) refl
+fact_told names (Untaken s id Why.Retiring) d fit = rw (station_said names s d fit.1.0, array_said 12 id.server.0 fit.1.1.0, number_said 32 id.number (omega (arith, fit.1.1.1.0)) fit.1.1.1.0) refl
+fact_told names (Untaken s id Why.Suite) d fit = rw (station_said names s d fit.1.0, array_said 12 id.server.0 fit.1.1.0, number_said 32 id.number (omega (arith, fit.1.1.1.0)) fit.1.1.1.0) refl
+fact_told names (Untaken s id Why.Offset) d fit = rw (station_said names s d fit.1.0, array_said 12 id.server.0 fit.1.1.0, number_said 32 id.number (omega (arith, fit.1.1.1.0)) fit.1.1.1.0) refl
+fact_told names (Untaken s id Why.Wrap) d fit = rw (station_said names s d fit.1.0, array_said 12 id.server.0 fit.1.1.0, number_said 32 id.number (omega (arith, fit.1.1.1.0)) fit.1.1.1.0) refl
+fact_told names (Untaken s id (Why.Seen kept)) d fit = rw (station_said names s d fit.1.0, array_said 12 id.server.0 fit.1.1.0, number_said 32 id.number (omega (arith, fit.1.1.1.0)) fit.1.1.1.0, number_said 32 kept (omega (arith, fit.1.1.1.1.1.0)) fit.1.1.1.1.1.0) refl
+fact_told names (Framed k s true xs) d fit = rw (number_said 32 k (omega (arith, fit.1.0)) fit.1.0, station_said names s d fit.1.1.0, octets_said xs fit.1.1.1.1.0) refl
+fact_told names (Framed k s false xs) d fit = rw (number_said 32 k (omega (arith, fit.1.0)) fit.1.0, station_said names s d fit.1.1.0, octets_said xs fit.1.1.1.1.0) refl
+fact_told names (HeardMka k s Verdict.Vouched) d fit = rw (number_said 32 k (omega (arith, fit.1.0)) fit.1.0, station_said names s d fit.1.1.0) refl
+fact_told names (HeardMka k s Verdict.Unvouched) d fit = rw (number_said 32 k (omega (arith, fit.1.0)) fit.1.0, station_said names s d fit.1.1.0) refl
+fact_told names (HeardMka k s Verdict.NotMka) d fit = rw (number_said 32 k (omega (arith, fit.1.0)) fit.1.0, station_said names s d fit.1.1.0) refl
+fact_told names (HeardMka k s Verdict.Short) d fit = rw (number_said 32 k (omega (arith, fit.1.0)) fit.1.0, station_said names s d fit.1.1.0) refl
+fact_told names (HeardMka k s Verdict.Agility) d fit = rw (number_said 32 k (omega (arith, fit.1.0)) fit.1.0, station_said names s d fit.1.1.0) refl
+fact_told names (HeardMka k s Verdict.CkName) d fit = rw (number_said 32 k (omega (arith, fit.1.0)) fit.1.0, station_said names s d fit.1.1.0) refl
+fact_told names (HeardMka k s Verdict.Check) d fit = rw (number_said 32 k (omega (arith, fit.1.0)) fit.1.0, station_said names s d fit.1.1.0) refl
+fact_told names (HeardMka k s Verdict.Echo) d fit = rw (number_said 32 k (omega (arith, fit.1.0)) fit.1.0, station_said names s d fit.1.1.0) refl
+fact_told names (HeardMka k s Verdict.PeersFull) d fit = rw (number_said 32 k (omega (arith, fit.1.0)) fit.1.0, station_said names s d fit.1.1.0) refl
+fact_told names (HeardMka k s (Verdict.Shape at)) d fit = rw (number_said 32 k (omega (arith, fit.1.0)) fit.1.0, station_said names s d fit.1.1.0, number_said 64 at (omega (arith, fit.1.1.1.1.1.0)) fit.1.1.1.1.1.0) refl
+fact_told names (HeardMka k s (Verdict.Repeated kind)) d fit = rw (number_said 32 k (omega (arith, fit.1.0)) fit.1.0, station_said names s d fit.1.1.0, number_said 8 kind (omega (arith, fit.1.1.1.1.1.0)) fit.1.1.1.1.1.0) refl
+fact_told names (HeardMka k s (Verdict.OldNumber kept)) d fit = rw (number_said 32 k (omega (arith, fit.1.0)) fit.1.0, station_said names s d fit.1.1.0, number_said 32 kept (omega (arith, fit.1.1.1.1.1.0)) fit.1.1.1.1.1.0) refl
+fact_told names (Claimed s an epoch pn) d fit = rw (station_said names s d fit.1.0, number_said 8 an (omega (arith, fit.1.1.1.0)) fit.1.1.1.0, number_said 32 epoch (omega (arith, fit.1.1.1.1.1.0)) fit.1.1.1.1.1.0, number_said 32 pn (omega (arith, fit.1.1.1.1.1.1.1.0)) fit.1.1.1.1.1.1.1.0) refl
+fact_told names (Unclaimed s Lack.NoKey) d fit = rw (station_said names s d fit.1.0) refl
+fact_told names (Unclaimed s (Lack.Exhausted epoch)) d fit = rw (station_said names s d fit.1.0, number_said 32 epoch (omega (arith, fit.1.1.1.0)) fit.1.1.1.0) refl
+fact_told names (Arrived k s (Arrival.Accepted pn body)) d fit = rw (number_said 32 k (omega (arith, fit.1.0)) fit.1.0, station_said names s d fit.1.1.0, number_said 32 pn (omega (arith, fit.1.1.1.1.0)) fit.1.1.1.1.0, octets_said body fit.1.1.1.1.1.0) refl
+fact_told names (Arrived k s (Arrival.Malformed Tag.NotSec)) d fit = rw (number_said 32 k (omega (arith, fit.1.0)) fit.1.0, station_said names s d fit.1.1.0) refl
+fact_told names (Arrived k s (Arrival.Malformed Tag.Version)) d fit = rw (number_said 32 k (omega (arith, fit.1.0)) fit.1.0, station_said names s d fit.1.1.0) refl
+fact_told names (Arrived k s (Arrival.Malformed Tag.Mode)) d fit = rw (number_said 32 k (omega (arith, fit.1.0)) fit.1.0, station_said names s d fit.1.1.0) refl
+fact_told names (Arrived k s (Arrival.Malformed Tag.Short)) d fit = rw (number_said 32 k (omega (arith, fit.1.0)) fit.1.0, station_said names s d fit.1.1.0) refl
+fact_told names (Arrived k s (Arrival.Malformed Tag.SlWrong)) d fit = rw (number_said 32 k (omega (arith, fit.1.0)) fit.1.0, station_said names s d fit.1.1.0) refl
+fact_told names (Arrived k s Arrival.Own) d fit = rw (number_said 32 k (omega (arith, fit.1.0)) fit.1.0, station_said names s d fit.1.1.0) refl
+fact_told names (Arrived k s (Arrival.Missed an)) d fit = rw (number_said 32 k (omega (arith, fit.1.0)) fit.1.0, station_said names s d fit.1.1.0, number_said 8 an (omega (arith, fit.1.1.1.1.0)) fit.1.1.1.1.0) refl
+fact_told names (Arrived k s Arrival.BadCheck) d fit = rw (number_said 32 k (omega (arith, fit.1.0)) fit.1.0, station_said names s d fit.1.1.0) refl
+fact_told names (Arrived k s (Arrival.Late next)) d fit = rw (number_said 32 k (omega (arith, fit.1.0)) fit.1.0, station_said names s d fit.1.1.0, number_said 64 next (omega (arith, fit.1.1.1.1.0)) fit.1.1.1.1.0) refl

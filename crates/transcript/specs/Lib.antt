@@ -1,0 +1,4 @@
+pub mod Words
+pub mod Rendering
+pub mod Cut
+pub mod inside

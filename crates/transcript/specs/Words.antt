@@ -1,0 +1,167 @@
+-- The words of a fact's line, which are this profile's own form, and how each is spelled.
+use Rattle.std.specs.Prelude.{ℕ, ◌<◌, ◌^◌, ◌≡◌, List, [], ◌∷◌, length, get_or, codes, decimal, Option, Some, None, Bool, true, false, IsTrue}
+use Rattle.std.specs.List.{list_all}
+use Rattle.std.specs.Char.{is_ascii_lowercase}
+use Rattle.hex.specs.Hex.{encode_lower, IsBytes}
+use Rattle.aes_block.specs.declared.secret.Secret.{Secret}
+use Rattle.aes_block.specs.declared.secret.Secret.TheVariants.{S128, S256}
+use Rattle.lan_base.specs.declared.address.Mi.{Mi}
+use Rattle.lan_base.specs.declared.key_id.KeyId.{KeyId}
+use Rattle.sak_exchange.specs.declared.change.Cause.{Cause}
+use Rattle.sak_exchange.specs.declared.change.Cause.TheVariants.{All, Timeout, Flag}
+use Rattle.sak_exchange.specs.declared.change.Why.{Why}
+use Rattle.sak_exchange.specs.declared.change.Why.TheVariants.{NotListed, NotServer, Seen, Retiring, Suite, Offset, Wrap}
+use Rattle.gcm_frames.specs.declared.tag.TagRefusal.{TagRefusal}
+use Rattle.gcm_frames.specs.declared.tag.TagRefusal.TheVariants as Tag
+use Rattle.mka_station.specs.declared.verdict.Verdict.{Verdict}
+use Rattle.mka_station.specs.declared.verdict.Verdict.TheVariants.{Vouched, Unvouched, NotMka, Short, Shape, Repeated, Agility, CkName, Check, Echo, OldNumber, PeersFull}
+use Rattle.rx_slots.specs.declared.arrival.Arrival.{Arrival}
+use Rattle.rx_slots.specs.declared.arrival.Arrival.TheVariants.{Accepted, Malformed, Own, Missed, BadCheck, Late}
+use Rattle.lan_core.specs.declared.fact.Fact.{Fact}
+use Rattle.lan_core.specs.declared.fact.Fact.TheVariants.{Life, Ticked, Server, Dropped, Retired, Began, Installed, Untaken, Framed, HeardMka, Claimed, Unclaimed, Arrived}
+use Rattle.lan_core.specs.declared.fact.Lack.{Lack}
+use Rattle.lan_core.specs.declared.fact.Lack.TheVariants.{NoKey, Exhausted}
+
+-- these letters; the name of the station at a place; a number of so many bits, in decimal; so many
+-- octets, or any count of them, in lower-case hexadecimal
+pub data Word : Type 0 where
+  text : List ℕ → Word
+  station : ℕ → Word
+  number : ℕ → ℕ → Word
+  array : ℕ → List ℕ → Word
+  octets : List ℕ → Word
+
+-- how a word is spelled, under the names of the stations: a number without leading zeros
+abbrev pub spelled : List (List ℕ) → Word → List ℕ
+spelled names (text letters) = letters
+spelled names (station place) = get_or names place []
+spelled names (number bits n) = decimal n
+spelled names (array count xs) = encode_lower xs
+spelled names (octets xs) = encode_lower xs
+
+-- what a word says is there, or is inside its type; letters are small ones
+abbrev pub Fits : List (List ℕ) → Word → Type 0
+Fits names (text letters) = IsTrue (list_all is_ascii_lowercase letters)
+Fits names (station place) = (place < length names) × (place < 256)
+Fits names (number bits n) = n < 2 ^ bits
+Fits names (array count xs) = (length xs ≡ count) × IsBytes xs
+Fits names (octets xs) = IsBytes xs
+
+-- a key's identifier: its server, and its number
+abbrev pub key_words : KeyId → List Word → List Word
+key_words id others = array 12 id.server.0 ∷ number 32 id.number ∷ others
+
+-- an elected server
+abbrev pub server_word : Option Mi → Word
+server_word None = text (codes "none")
+server_word (Some mi) = array 12 mi.0
+
+-- why a key begins
+abbrev pub cause_text : Cause → List ℕ
+cause_text All = codes "all"
+cause_text Timeout = codes "timeout"
+cause_text Flag = codes "flag"
+
+-- a key, of 128 or 256 bits
+abbrev pub secret_word : Secret → Word
+secret_word (S128 xs) = array 16 xs
+secret_word (S256 xs) = array 32 xs
+
+-- why a key is not taken
+abbrev pub why_words : Why → List Word
+why_words NotListed = text (codes "notlisted") ∷ []
+why_words NotServer = text (codes "notserver") ∷ []
+why_words (Seen kept) = text (codes "seen") ∷ number 32 kept ∷ []
+why_words Retiring = text (codes "retiring") ∷ []
+why_words Suite = text (codes "suite") ∷ []
+why_words Offset = text (codes "offset") ∷ []
+why_words Wrap = text (codes "wrap") ∷ []
+
+-- whether a frame is a protected one
+abbrev pub frame_text : Bool → List ℕ
+frame_text true = codes "sec"
+frame_text false = codes "mka"
+
+-- what hearing a frame comes to
+abbrev pub verdict_words : Verdict → List Word
+verdict_words Vouched = text (codes "vouched") ∷ []
+verdict_words Unvouched = text (codes "unvouched") ∷ []
+verdict_words NotMka = text (codes "drop") ∷ text (codes "notmka") ∷ []
+verdict_words Short = text (codes "drop") ∷ text (codes "short") ∷ []
+verdict_words (Shape at) = text (codes "drop") ∷ text (codes "shape") ∷ number 64 at ∷ []
+verdict_words (Repeated kind) = text (codes "drop") ∷ text (codes "repeated") ∷ number 8 kind ∷ []
+verdict_words Agility = text (codes "drop") ∷ text (codes "agility") ∷ []
+verdict_words CkName = text (codes "drop") ∷ text (codes "ckname") ∷ []
+verdict_words Check = text (codes "drop") ∷ text (codes "check") ∷ []
+verdict_words Echo = text (codes "drop") ∷ text (codes "echo") ∷ []
+verdict_words (OldNumber kept) =
+    text (codes "drop") ∷ text (codes "oldnumber") ∷ number 32 kept ∷ []
+verdict_words PeersFull = text (codes "drop") ∷ text (codes "peersfull") ∷ []
+
+-- why a station got no packet number
+abbrev pub lack_words : Lack → List Word
+lack_words NoKey = text (codes "nokey") ∷ []
+lack_words (Exhausted epoch) = text (codes "exhausted") ∷ number 32 epoch ∷ []
+
+-- why a frame is no protected frame
+abbrev pub tag_text : TagRefusal → List ℕ
+tag_text Tag.NotSec = codes "notsec"
+tag_text Tag.Version = codes "version"
+tag_text Tag.Mode = codes "mode"
+tag_text Tag.Short = codes "short"
+tag_text Tag.SlWrong = codes "slwrong"
+
+-- the answer to a protected frame
+abbrev pub arrival_words : Arrival → List Word
+arrival_words (Accepted pn body) = text (codes "accepted") ∷ number 32 pn ∷ octets body ∷ []
+arrival_words (Malformed refusal) = text (codes "malformed") ∷ text (tag_text refusal) ∷ []
+arrival_words Own = text (codes "own") ∷ []
+arrival_words (Missed an) = text (codes "missed") ∷ number 8 an ∷ []
+arrival_words BadCheck = text (codes "badcheck") ∷ []
+arrival_words (Late next) = text (codes "late") ∷ number 64 next ∷ []
+
+-- the words of a fact's line
+abbrev pub words : Fact → List Word
+words (Life s mi) = text (codes "life") ∷ station s ∷ array 12 mi.0 ∷ []
+words (Ticked s at next) =
+    text (codes "tick") ∷ station s ∷ number 32 at ∷ text (codes "next") ∷ number 64 next ∷ []
+words (Server s mi) = text (codes "server") ∷ station s ∷ server_word mi ∷ []
+words (Dropped s id an) =
+    text (codes "drop") ∷ station s ∷ key_words id (text (codes "an") ∷ number 8 an ∷ [])
+words (Retired s id an) =
+    text (codes "retire") ∷ station s ∷ key_words id (text (codes "an") ∷ number 8 an ∷ [])
+words (Began s id an epoch cause) =
+    text (codes "begin") ∷ station s
+    ∷ key_words id (text (codes "an") ∷ number 8 an ∷ text (codes "epoch") ∷ number 32 epoch
+    ∷ text (cause_text cause) ∷ [])
+words (Installed s id an epoch sak) =
+    text (codes "install") ∷ station s
+    ∷ key_words id (text (codes "an") ∷ number 8 an ∷ text (codes "epoch") ∷ number 32 epoch
+    ∷ text (codes "sak") ∷ secret_word sak ∷ [])
+words (Untaken s id why) = text (codes "untaken") ∷ station s ∷ key_words id (why_words why)
+words (Framed k s sec xs) =
+    text (codes "frame") ∷ number 32 k ∷ station s ∷ text (frame_text sec) ∷ octets xs ∷ []
+words (HeardMka k s verdict) =
+    text (codes "heard") ∷ number 32 k ∷ station s ∷ verdict_words verdict
+words (Claimed s an epoch pn) =
+    text (codes "claim") ∷ station s ∷ text (codes "an") ∷ number 8 an ∷ text (codes "epoch")
+    ∷ number 32 epoch ∷ text (codes "pn") ∷ number 32 pn ∷ []
+words (Unclaimed s why) = text (codes "noclaim") ∷ station s ∷ lack_words why
+words (Arrived k s arrival) =
+    text (codes "data") ∷ number 32 k ∷ station s ∷ arrival_words arrival
+
+-- the place of the station that a fact speaks of
+abbrev pub place : Fact → ℕ
+place (Life s mi) = s
+place (Ticked s at next) = s
+place (Server s mi) = s
+place (Dropped s id an) = s
+place (Retired s id an) = s
+place (Began s id an epoch cause) = s
+place (Installed s id an epoch sak) = s
+place (Untaken s id why) = s
+place (Framed k s sec xs) = s
+place (HeardMka k s verdict) = s
+place (Claimed s an epoch pn) = s
+place (Unclaimed s why) = s
+place (Arrived k s arrival) = s

@@ -1,0 +1,24 @@
+//! Laws of the text.
+
+ghost use Rattle.std.specs.Prelude.{◌≡◌, ℕ, List, ◌∷◌, IsTrue};
+ghost use Rattle.std.specs.List.{All, flat_map};
+ghost use Rattle.lan_base.specs.Name.{IsName};
+ghost use Rattle.lan_core.specs.declared.fact.Fact.{Fact};
+ghost use Rattle.transcript.specs.Rendering.{IsFact, Differ, transcript};
+ghost use Rattle.transcript.specs.Cut.{cut, is_first, IsEvent};
+
+/// Different lists of facts have different texts, under names that differ.
+pub fn law_texts_differ()
+    ensures { (names : List (List ℕ)) (these those : List Fact) → All IsName names → Differ names
+        → All (IsFact names) these → All (IsFact names) those
+        → transcript names these ≡ transcript names those → these ≡ those }
+{}
+
+/// The facts of events tell where each event ends.
+pub fn law_cut()
+    ensures whole { (facts : List Fact) → flat_map (λ event. event) (cut facts) ≡ facts }
+    ensures events { (fact : Fact) (facts : List Fact) → IsTrue (is_first fact)
+        → All IsEvent (cut (fact ∷ facts)) }
+    ensures again { (events : List (List Fact)) → All IsEvent events
+        → cut (flat_map (λ event. event) events) ≡ events }
+{}
