@@ -1,10 +1,10 @@
 //! What the rule of a table says: each of these holds between any two steps of any number of
 //! threads.
-ghost use Rattle.std.specs.Prelude.{◌≡◌, ◌≢◌, ◌⊎◌, ℕ, ◌+◌, ◌-◌, ◌*◌, ◌^◌, ◌<◌, ◌≤◌, List, true, false, slice_index};
+ghost use Rattle.std.specs.Prelude.{◌≡◌, ◌≢◌, ◌⊎◌, ℕ, ◌+◌, ◌-◌, ◌*◌, ◌^◌, ◌<◌, ◌≤◌, Bool, List, true, false, slice_index};
 ghost use mathlib.Core.Option.{some};
 ghost use lib.ListN.{get_elem?};
 ghost use Rattle.association_slots.specs.Cards.{Knows, card_at, card_words, card_in};
-ghost use Rattle.association_slots.specs.Rule.{Around, AtLeast, ClaimsRise, HoldsCards, IsAsLeft, Rise};
+ghost use Rattle.association_slots.specs.Rule.{Around, AtLeast, ClaimsRise, HoldsCards, IsAsLeft, Rise, tagged};
 ghost use Rattle.association_slots.specs.Views.{In, Among, adds, overs, gones, slot, current, present_at, IsOpen, WasShut, WasAbsent, met, lost, claimed, count_all};
 ghost use Rattle.association_slots.specs.Words.{epoch_of, flag_of, next_of, an_of};
 ghost use Rattle.association_slots.specs.declared.card.Card.{Card};
@@ -61,12 +61,12 @@ pub fn law_claims_differ()
         → (epoch pn : ℕ) → count_all (claimed epoch pn) views ≤ 1 }
 {}
 
-/// A claimed number is a packet number, from the first one on; its epoch was pointed at under its
-/// AN, and it is below what the slot shows, or showed when it was shut.
+/// A claimed number is a packet number, from 1 and from the first one on; its epoch was pointed at
+/// under its AN, and it is below what the slot shows, or showed when it was shut.
 pub fn law_claims_are_numbers()
     ensures { (c : ControlView) (words : List ℕ) (views : List View) → Around c words views
         → (a : Addition) → Among adds a views → a.claimed ≡ true
-        → (c.first ≤ a.pn) × (a.pn < 2 ^ 32) × In (present_at a.an a.met) c.points
+        → (0 < a.pn) × (c.first ≤ a.pn) × (a.pn < 2 ^ 32) × In (present_at a.an a.met) c.points
         × AtLeast c words a.an a.met (a.pn + 1) }
 {}
 
@@ -96,6 +96,65 @@ pub fn law_next_is_low()
         → next_of (slice_index words an) ≤ 2 ^ 32 + 16) }
 {}
 
+/// An addition, also one that got nothing, met an epoch that was raised on its slot and is not above
+/// what the slot shows, after a load of one that was pointed at there and is not above it.
+pub fn law_additions()
+    ensures { (c : ControlView) (words : List ℕ) (views : List View) → Around c words views
+        → (a : Addition) → Among adds a views → (0 < a.loaded) × (a.loaded ≤ a.met) × (a.an < 4)
+        × (a.met ≤ epoch_of (slice_index words a.an)) × In (a.an, a.met) c.raises
+        × In (present_at a.an a.loaded) c.points }
+{}
+
+/// An addition that got nothing is marked: the epoch loaded was gone, or it was met and is over. The
+/// seats of one number get nothing from an epoch at most twice: once after a load of it, and once
+/// after a load of an earlier one.
+pub fn law_lost_additions()
+    ensures { (c : ControlView) (words : List ℕ) (views : List View) → Around c words views
+        → ((a : Addition) → Among adds a views → a.claimed ≡ false
+        → Among gones (record { seat = a.seat; an = a.an; epoch = a.loaded }) views
+        ⊎ ((a.loaded ≡ a.met)
+        × Among overs (record { seat = a.seat; an = a.an; epoch = a.met }) views))
+        × ((number epoch : ℕ) (of_it : Bool) → count_all (tagged number epoch of_it) views ≤ 1) }
+{}
+
+/// While a seat that was shown an epoch as present has not added yet, no seat of its number met a
+/// later epoch on that slot; and one that got nothing there after a load of the epoch, meeting it,
+/// has it marked as over.
+pub fn law_before_an_addition()
+    ensures { (c : ControlView) (words : List ℕ) (views : List View) → Around c words views
+        → (i : ℕ) (v : SeatView) → get_elem? views i ≡ some (Seat v) → v.shown.present ≡ true
+        → v.added ≡ false → (a : Addition) → Among adds a views → a.seat ≡ v.number
+        → a.an ≡ v.shown.an → (a.met ≤ v.shown.epoch)
+        × (a.claimed ≡ false → a.loaded ≡ v.shown.epoch → a.met ≡ v.shown.epoch
+        → In (record { seat = v.number; an = v.shown.an; epoch = v.shown.epoch }) v.over) }
+{}
+
+/// A seat has the marks of an epoch as over that seats of its number made before it.
+pub fn law_marks_stay()
+    ensures { (c : ControlView) (words : List ℕ) (views : List View) → Around c words views
+        → (i : ℕ) (v : SeatView) → get_elem? views i ≡ some (Seat v)
+        → (m : Mark) → Among overs m views → m.seat ≡ v.number → In m v.over }
+{}
+
+/// The epoch that was the last one when a seat was made is not above that of the current word, and
+/// is below it where nothing was present then and an epoch is now.
+pub fn law_start()
+    ensures { (c : ControlView) (words : List ℕ) (views : List View) → Around c words views
+        → (i : ℕ) (v : SeatView) → get_elem? views i ≡ some (Seat v)
+        → (v.start.last ≤ epoch_of (slice_index words 4))
+        × (v.start.present ≡ false → flag_of (slice_index words 4) ≡ true
+        → v.start.last < epoch_of (slice_index words 4)) }
+{}
+
+/// A next number that a seat was given when it was made is of an epoch that was raised on its slot
+/// and is not above the last one then; the slot shows no less, or showed no less when it was shut.
+pub fn law_given()
+    ensures { (c : ControlView) (words : List ℕ) (views : List View) → Around c words views
+        → (i : ℕ) (v : SeatView) → get_elem? views i ≡ some (Seat v)
+        → (f : NextSeen) → In f v.start.given → In (f.an, f.epoch) c.raises
+        × (f.epoch ≤ v.start.last) × AtLeast c words f.an f.epoch f.next }
+{}
+
 /// A seat marks an epoch as over only where the slot's next number is above 2 ^ 32, or was when it
 /// was shut.
 pub fn law_over()
@@ -123,6 +182,14 @@ pub fn law_notes()
     ensures { (c : ControlView) (words : List ℕ) (views : List View) → Around c words views
         → (i : ℕ) (v : SeatView) → get_elem? views i ≡ some (Seat v)
         → (e : ℕ) → In e v.notes → WasAbsent c.points e }
+{}
+
+/// The same holds of the notes and of the cards that seats told as they came back.
+pub fn law_told()
+    ensures { (c : ControlView) (words : List ℕ) (views : List View) → Around c words views
+        → ((e : ℕ) → In e c.told_notes → WasAbsent c.points e)
+        × ((epoch : ℕ) (card : Card) → 0 < epoch → Knows c.told_reads epoch card
+        → card_at c epoch ≡ card) }
 {}
 
 /// The seats that are out have different numbers.

@@ -1,7 +1,8 @@
 -- the definitions on worked values, by computing
 use Rattle.std.proofs.Common.{◌≡◌, [], ◌∷◌, get_or, refl}
 use Rattle.cipher_bench.specs.declared.named.Frame.TheVariants.{Octets64, Octets512, Octets1500}
-use Rattle.cipher_bench.specs.Work.{octets, key, long_key, changed, iv_after, text_length}
+use Rattle.cipher_bench.specs.Work.{octets, key, long_key, changed, iv_after}
+use Rattle.cipher_bench.specs.Results.{text_length}
 
 three : octets 7 3 ≡ 0 ∷ 7 ∷ 14 ∷ []
 unfolding octets

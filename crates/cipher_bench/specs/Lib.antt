@@ -1,2 +1,4 @@
 pub mod Names
 pub mod Work
+pub mod Frames
+pub mod Results

@@ -1,13 +1,9 @@
--- What the work of each test comes to after n times, on lists of octets.
-use Rattle.std.specs.Prelude.{ℕ, zero, suc, ◌+◌, ◌-◌, ◌*◌, ◌%◌, List, [], ◌∷◌, map, replicate, slice_index, slice_set, bit_xor}
+-- What the work of each test of a cipher comes to after n times, on lists of octets.
+use Rattle.std.specs.Prelude.{ℕ, zero, suc, ◌+◌, ◌*◌, ◌%◌, List, [], ◌∷◌, map, replicate, slice_index, slice_set, bit_xor}
 use Rattle.std.specs.List.{range_with_len}
 use Rattle.aes_block.specs.Aes.{aes}
 use Rattle.aes_cmac.specs.Cmac.{cmac}
 use Rattle.gcm_core.specs.Gcm.{gcm}
-use Rattle.cipher_bench.specs.declared.named.Frame.{Frame}
-use Rattle.cipher_bench.specs.declared.named.Frame.TheVariants.{Octets64, Octets512, Octets1500}
-use Rattle.cipher_bench.specs.declared.named.Test.{Test}
-use Rattle.cipher_bench.specs.declared.named.Test.TheVariants.{Block, Cmac, Gcm, LongKeyBlock, LongKeyGcm}
 
 -- so many octets, which begin from zero and rise by a step, modulo 256
 unfoldable pub octets : ℕ → ℕ → List ℕ
@@ -57,21 +53,3 @@ extra_after k length (suc n) = changed (extra_after k length n) (tag_of k length
 abbrev pub tag_after : List ℕ → ℕ → ℕ → List ℕ
 tag_after k length zero = replicate 16 0
 tag_after k length (suc n) = tag_of k length (suc n) (extra_after k length n)
-
--- how many octets a frame has
-abbrev pub frame_length : Frame → ℕ
-frame_length Octets64 = 64
-frame_length Octets512 = 512
-frame_length Octets1500 = 1500
-
--- how many of them are sealed: all but two addresses of 6 octets
-abbrev pub text_length : Frame → ℕ
-text_length frame = frame_length frame - 12
-
--- the last result of a test that was done n times
-abbrev pub last_result : Test → ℕ → List ℕ
-last_result Block n = block_after key n
-last_result LongKeyBlock n = block_after long_key n
-last_result Cmac n = value_after n
-last_result (Gcm frame) n = tag_after key (text_length frame) n
-last_result LongKeyGcm n = tag_after long_key (text_length Octets1500) n

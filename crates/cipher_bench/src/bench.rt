@@ -1,33 +1,39 @@
 //! The work of each test. The result is 16 octets, all zero before the work is done once.
 
-ghost use Rattle.std.specs.Prelude.{◌≡◌, ◌≤◌};
-ghost use Rattle.cipher_bench.specs.Work.{block_after, key, last_result, long_key, octets, tag_after, value_after};
+ghost use Rattle.std.specs.Prelude.{◌≡◌, ◌≤◌, IfOk, IsOk};
+ghost use Rattle.cipher_bench.specs.Work.{block_after, key, long_key, octets, tag_after, value_after};
+ghost use Rattle.cipher_bench.specs.Results.{IsOfCipher, last_result};
 
+use crate::frames::{last_end, last_frame_tag};
 use crate::named::{Frame, Test};
 use aes_block::Key;
 use aes_cmac::cmac;
 use gcm_core::seal;
+use std::alloc::{AllocError, Global};
 
 /// The IV before the first tag.
 const FIRST_IV: [u8; 12] = [2, 0, 0, 0, 0, 10, 0, 1, 0, 0, 0, 1];
 
-/// The result after the work of a test was done so many times.
-pub fn last_result(test: Test, count: u32) -> [u8; 16]
-    ensures { result ≡ last_result test count }
+/// The result after the work of a test was done so many times. Protected frames alone take memory.
+pub fn last_result(alloc: Global, test: Test, count: u32) -> Result<[u8; 16], AllocError>
+    ensures value { IfOk result (λ value. value ≡ last_result test count) }
+    ensures prompt { IsOfCipher test → IsOk result }
 {
     match test {
-        Test::Block => last_block(&test_key(), count),
-        Test::LongKeyBlock => last_block(&long_test_key(), count),
-        Test::Cmac => last_value(count),
-        Test::Gcm(Frame::Octets64) => last_tag::<52>(&test_key(), count),
-        Test::Gcm(Frame::Octets512) => last_tag::<500>(&test_key(), count),
-        Test::Gcm(Frame::Octets1500) => last_tag::<1488>(&test_key(), count),
-        Test::LongKeyGcm => last_tag::<1488>(&long_test_key(), count),
+        Test::Block => Ok(last_block(&test_key(), count)),
+        Test::LongKeyBlock => Ok(last_block(&long_test_key(), count)),
+        Test::Cmac => Ok(last_value(count)),
+        Test::Gcm(Frame::Octets64) => Ok(last_tag::<52>(&test_key(), count)),
+        Test::Gcm(Frame::Octets512) => Ok(last_tag::<500>(&test_key(), count)),
+        Test::Gcm(Frame::Octets1500) => Ok(last_tag::<1488>(&test_key(), count)),
+        Test::LongKeyGcm => Ok(last_tag::<1488>(&long_test_key(), count)),
+        Test::Protect => last_frame_tag(alloc, count),
+        Test::Receive => last_end(alloc, count),
     }
 }
 
 /// The key of 128 bits.
-fn test_key() -> Key
+pub(crate) fn test_key() -> Key
     ensures { result ≡ key }
 {
     Key::k128(&stepped::<16>(1))
@@ -41,7 +47,7 @@ fn long_test_key() -> Key
 }
 
 /// Octets that begin from zero and rise by a step, modulo 256.
-fn stepped<const N: usize>(step: u8) -> [u8; N]
+pub(crate) fn stepped<const N: usize>(step: u8) -> [u8; N]
     ensures { result ≡ octets step N }
 {
     let mut octets = [0; N];

@@ -3,6 +3,7 @@
 #![tactic(auto)]
 
 mod bench;
+mod frames;
 mod named;
 
 use anyhow::{Context, bail};
@@ -11,7 +12,7 @@ use std::env;
 
 const USAGE: &str =
     "usage: cipher_bench TEST COUNT, where TEST is aes128_block, aes256_block, cmac_150, \
-    gcm_64, gcm_512, gcm_1500 or gcm256_1500";
+    gcm_64, gcm_512, gcm_1500, gcm256_1500, protect_1500 or receive_1500";
 
 fn main(rt: HostRuntime) -> anyhow::Result<()> {
     let mut words = env::args(&rt)?.skip(1);
@@ -24,7 +25,10 @@ fn main(rt: HostRuntime) -> anyhow::Result<()> {
         .context("COUNT is a number from 0 to 4294967295")?;
     println!(rt;
         "{}",
-        hex::encode(rt.alloc(), bench::last_result(test, count))?
+        hex::encode(rt.alloc(), bench::last_result(rt.alloc(), test, count)?)?
     )?;
     Ok(())
 }
+
+#[cfg(test)]
+mod tests;

@@ -19,6 +19,11 @@ pub enum Test {
     Gcm(Frame),
     /// The same of the greatest frame, under a key of 256 bits.
     LongKeyGcm,
+    /// A frame of 1,500 octets is protected under the next packet number, to a destination whose first octet the
+    /// last tag changes.
+    Protect,
+    /// One of two such frames is received, by the packet number that was accepted last.
+    Receive,
 }
 
 /// A frame whose text, all but its two addresses, is sealed. It is named for its octets.
@@ -47,6 +52,8 @@ impl FromStr for Test {
             "gcm_512" => Test::Gcm(Frame::Octets512),
             "gcm_1500" => Test::Gcm(Frame::Octets1500),
             "gcm256_1500" => Test::LongKeyGcm,
+            "protect_1500" => Test::Protect,
+            "receive_1500" => Test::Receive,
             _ => bail!("there is no test {word:?}"),
         })
     }

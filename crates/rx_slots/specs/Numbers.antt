@@ -65,6 +65,15 @@ admitted window past (checked_is.Sealed sci an pn body) =
 abbrev pub answer : Sci → ℕ → List Receiving → List ℕ → Arrival
 answer own window h frame = admitted window (accepted own window h) (checked own (standing_key h) frame)
 
+-- the frame is accepted
+abbrev pub IsAccepted : Arrival → Type 0
+IsAccepted (Accepted pn body) = Unit {0}
+IsAccepted (Malformed refusal) = ⊥
+IsAccepted Own = ⊥
+IsAccepted (Missed an) = ⊥
+IsAccepted BadCheck = ⊥
+IsAccepted (Late next) = ⊥
+
 -- The lowest acceptable packet number under an association number: the greatest of 1 and of one more than each accepted
 -- number less the window, and no more than the last number
 abbrev pub lowest : ℕ → List Taken → ℕ → ℕ

@@ -8,7 +8,7 @@ ghost use Rattle.rx_slots.specs.Histories.{Receiving, installed, removed, heard,
 ghost use Rattle.rx_slots.specs.Answers.{IsPrompt, checked as checked_answer, checked_data};
 ghost use Rattle.gcm_frames.specs.Tags.{tag_fields};
 ghost use Rattle.gcm_frames.specs.Sealed.{opened as opened_data};
-ghost use Rattle.rx_slots.specs.Numbers.{accepted, answer, is_late as is_late_number, lowest as lowest_number};
+ghost use Rattle.rx_slots.specs.Numbers.{IsAccepted, accepted, answer, is_late as is_late_number, lowest as lowest_number};
 ghost use Rattle.rx_slots.specs.Slots.{Slots, greatest_of, number_in, slot_at};
 ghost use Rattle.rx_slots.specs.Standing.{StandsFor};
 ghost use Rattle.rx_slots.specs.inside.Admitting.{After, Takes, arrival_at};
@@ -118,8 +118,8 @@ impl RxSlots {
         }
     }
 
-    /// Answers a frame that `check` answered under the keys that stand now. An error leaves the slots as
-    /// they were.
+    /// Answers a frame that `check` answered under the keys that stand now. Only a frame that is accepted
+    /// takes memory. An error leaves the slots as they were.
     pub fn admit(&mut self, checked: Checked) -> Result<Arrival, AllocError>
         ensures answer { (own : Sci) (window : ℕ) (h : List Receiving) (frame : List ℕ)
             → StandsFor own window self.old h → checked ≡ checked_answer own (standing_key h) frame
@@ -128,6 +128,9 @@ impl RxSlots {
             → StandsFor own window self.old h → checked ≡ checked_answer own (standing_key h) frame
             → OnOk result (StandsFor own window self.new (heard frame ∷ h)) }
         ensures prompt { IsPrompt checked → IsOk result }
+        ensures memory { (own : Sci) (window : ℕ) (h : List Receiving) (frame : List ℕ)
+            → StandsFor own window self.old h → checked ≡ checked_answer own (standing_key h) frame
+            → OnErr result (IsAccepted (answer own window h frame)) }
         ensures unchanged { OnErr result (self.new ≡ self.old) }
     {
         match checked {
@@ -149,6 +152,7 @@ impl RxSlots {
     ) -> Result<Arrival, AllocError>
         ensures answer { IfOk result (λ arrival. arrival ≡ arrival_at self.old sci an pn body) }
         ensures after { IfOk result (λ arrival. After arrival self.old self.new sci an) }
+        ensures memory { OnErr result (IsAccepted (arrival_at self.old sci an pn body)) }
         ensures unchanged { OnErr result (self.new ≡ self.old) }
     {
         let Some(next) = self.next(an, &sci) else {
