@@ -182,6 +182,11 @@ leaves_out_a_held_number : (numbers_in (received abandoned) ≡ 4 ∷ 1 ∷ []) 
 unfolding received
 leaves_out_a_held_number = (refl, refl)
 
+-- a key that was dropped counts: the next one has the next number, and the association number behind that of the last install
+counts_a_dropped_key : (next_an (ticked true ∷ ticked false ∷ second) ≡ 2) × (made_key 0 (mi 1) (ticked true ∷ ticked false ∷ second) true (S128 (replicate 16 3)) ≡ key 1 3 2 3)
+unfolding received
+counts_a_dropped_key = (refl, refl)
+
 -- ---- a key is due
 
 -- no key is held, or the latest one was taken
@@ -225,6 +230,11 @@ first_reasons : (taken 0 taken_first (offer (given 1 2) false false) None ≡ Er
     × (taken 0 taken_first (offer (Other 1 2 2) true true) None ≡ Err Suite) × (taken 0 taken_first (offer (given 2 2) true true) None ≡ Err Offset) × (taken 0 taken_first (offer (given 2 1) true true) None ≡ Err Wrap)
 unfolding received latest old
 first_reasons = (refl, refl, refl, refl, refl, refl, refl)
+
+-- nor is a key taken that was dropped
+takes_no_dropped_key : taken 0 (ticked true ∷ ticked false ∷ taken_first) (offer (given 1 1) true true) (Some (S128 (replicate 16 1))) ≡ Err (Seen 1)
+unfolding received latest old
+takes_no_dropped_key = refl
 
 takes_a_key : taken 7 taken_first (offer (given 2 1) true true) (Some (S128 (replicate 16 2))) ≡ Ok (key 1 2 1 9)
 unfolding received latest old

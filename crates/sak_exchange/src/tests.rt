@@ -224,7 +224,8 @@ fn a_server_makes_and_leads(rt: HostRuntime) -> Result<(), Fail> {
             Makes(&[(7, 0)], false, &[]),
             Ticks(29, &[]),
             Ticks(1, &[Retired(1)]),
-            Drops(&[Dropped(5)]),
+            Makes(&[(7, 0)], false, &[Installed(6, 2, 13)]),
+            Drops(&[Dropped(6), Dropped(5)]),
         ],
     )
 }

@@ -1,5 +1,5 @@
 -- Definitions at worked lines.
-use Rattle.std.proofs.Common.{◌≡◌, [], ◌∷◌, ◌++◌, replicate, refl}
+use Rattle.std.proofs.Common.{◌≡◌, ◌≤◌, [], ◌∷◌, ◌++◌, length, replicate, refl, sym, subst, arith}
 use Rattle.std.specs.Prelude.{codes, Ok, Err, Some, None}
 use Rattle.std.specs.Fmt.{digits}
 use Rattle.hex.proofs.OnLiterals.{hex_on_literals}
@@ -7,7 +7,8 @@ use Rattle.trace_text.specs.declared.fault.TextFault.TheVariants.{TooLong, Word,
 use Rattle.trace_text.specs.declared.line.Line.TheVariants.{DrawsCount, DrawsList, Suite, Group, Station, Tick, TickOne, Restart, Feed}
 use Rattle.trace_text.specs.Words.{words_of}
 use Rattle.trace_text.specs.Reading.{line_in}
-use Rattle.trace_text.specs.Writing.{written}
+use Rattle.trace_text.specs.Writing.{written, IsInForm}
+use Rattle.trace_text.proofs.InForm.{read_fits}
 
 words : words_of (codes "\t tick  A\t5 ") ≡ codes "tick" ∷ codes "A" ∷ codes "5" ∷ []
 words = refl
@@ -104,3 +105,10 @@ written_station = refl
 written_draws : written (DrawsList (replicate 16 1 ∷ replicate 16 254 ∷ [])) ≡ codes "draws list 01010101010101010101010101010101 fefefefefefefefefefefefefefefefe"
 unfolding written hex_on_literals digits
 written_draws = refl
+
+-- lines that the law of what is written speaks of: each word is inside its form, and the text is short enough
+station_fits : IsInForm (Station (codes "A") (record { 0 = 2 ∷ 0 ∷ 0 ∷ 0 ∷ 0 ∷ 10 ∷ 0 ∷ 177 ∷ [] }) 255)
+station_fits = read_fits (codes "station A 02000000000a00B1 255") (Station (codes "A") (record { 0 = 2 ∷ 0 ∷ 0 ∷ 0 ∷ 0 ∷ 10 ∷ 0 ∷ 177 ∷ [] }) 255) station
+
+station_is_short : length (written (Station (codes "A") (record { 0 = 2 ∷ 0 ∷ 0 ∷ 0 ∷ 0 ∷ 10 ∷ 0 ∷ 177 ∷ [] }) 255)) ≤ 4096
+station_is_short = subst (λ text. length text ≤ 4096) (sym written_station) (omega arith)
