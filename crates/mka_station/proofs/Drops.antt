@@ -39,32 +39,32 @@ hopes-same o g h now past k =
 known-same : (o : Own) (g h : List Peering) → clock g ≡ clock h → accepted o g ≡ accepted o h → known o g ≡ known o h
 known-same o g h now past = known-is o g ∙ ap (λ (n : ℕ). members n (accepted o g)) now ∙ ap (members (clock h)) past ∙ sym (known-is o h)
 
-live-same : (m : Member) (g h : List Peering) → clock g ≡ clock h → accepted (own m) g ≡ accepted (own m) h → live_words m g ≡ live_words m h
+pub live-same : (m : Member) (g h : List Peering) → clock g ≡ clock h → accepted (own m) g ≡ accepted (own m) h → live_words m g ≡ live_words m h
 live-same m g h now past = filter-same (says (own m) g) (says (own m) h) (says-same (own m) g h now past) (known (own m) g) ∙ ap (filter_map (says (own m) h)) (known-same (own m) g h now past)
 
-potential-same : (m : Member) (g h : List Peering) → clock g ≡ clock h → accepted (own m) g ≡ accepted (own m) h → potential_words m g ≡ potential_words m h
+pub potential-same : (m : Member) (g h : List Peering) → clock g ≡ clock h → accepted (own m) g ≡ accepted (own m) h → potential_words m g ≡ potential_words m h
 potential-same m g h now past = filter-same (hopes (own m) g) (hopes (own m) h) (hopes-same (own m) g h now past) (known (own m) g) ∙ ap (filter_map (hopes (own m) h)) (known-same (own m) g h now past)
 
-outcome-kept : (o : Own) (h : List Peering) (x : Heard) → refusal o (clock h) (accepted o h) x ≡ None → outcome o h x ≡ cond (vouches h x) Vouched Unvouched
+pub outcome-kept : (o : Own) (h : List Peering) (x : Heard) → refusal o (clock h) (accepted o h) x ≡ None → outcome o h x ≡ cond (vouches h x) Vouched Unvouched
 unfolding outcome
 outcome-kept o h x e = rw (e, outcome) refl
 
-kept-accepted : (b : Bool) → is_accepted (cond b Vouched Unvouched) ≡ true
+pub kept-accepted : (b : Bool) → is_accepted (cond b Vouched Unvouched) ≡ true
 kept-accepted true = refl
 kept-accepted false = refl
 
-dropped-past : (o : Own) (h : List Peering) (x : Heard) → is_accepted (outcome o h x) ≡ false → accepted o (peers_heard x ∷ h) ≡ accepted o h
+pub dropped-past : (o : Own) (h : List Peering) (x : Heard) → is_accepted (outcome o h x) ≡ false → accepted o (peers_heard x ∷ h) ≡ accepted o h
 dropped-past o h x is =
     by_option (refusal o (clock h) (accepted o h) x)
     (λ e. let f : true ≡ false = sym (ap is_accepted (outcome-kept o h x e) ∙ kept-accepted (vouches h x)) ∙ is in absurd (cc (f)))
     (λ r e. accepted-dropped o x h r e)
 
-view-parts : (m : Member) (p q : List Entry) (live potential : List Accepted) → live_words m (peers_of m q) ≡ live → potential_words m (peers_of m q) ≡ potential → keys_of m q ≡ keys_of m p
+pub view-parts : (m : Member) (p q : List Entry) (live potential : List Accepted) → live_words m (peers_of m q) ≡ live → potential_words m (peers_of m q) ≡ potential → keys_of m q ≡ keys_of m p
     → view m q ≡ record { live = live; potential = potential; server = elected_by m live; peers = peers_of m q; keys = keys_of m p }
 unfolding view
 view-parts m p q live potential a b c = rw (a, b, c) refl
 
-view-is : (m : Member) (p : List Entry) → view m p ≡ record { live = live_words m (peers_of m p); potential = potential_words m (peers_of m p); server = elected_by m (live_words m (peers_of m p)); peers = peers_of m p; keys = keys_of m p }
+pub view-is : (m : Member) (p : List Entry) → view m p ≡ record { live = live_words m (peers_of m p); potential = potential_words m (peers_of m p); server = elected_by m (live_words m (peers_of m p)); peers = peers_of m p; keys = keys_of m p }
 unfolding view
 view-is m p = refl
 

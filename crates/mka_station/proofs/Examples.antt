@@ -13,13 +13,15 @@ use Rattle.sak_exchange.specs.Histories.{Key}
 use Rattle.sak_exchange.specs.declared.change.Change.TheVariants.{Installed}
 use Rattle.sak_exchange.specs.declared.due.Seen.{Seen}
 use Rattle.mka_station.specs.declared.verdict.Verdict.TheVariants.{Vouched, Unvouched, Echo, OldNumber}
-use Rattle.mka_station.specs.Lives.{Setup, Member, Entry, ticked, sent, installed, peers_of, keys_of, elected}
+use Rattle.mka_station.specs.Lives.{Setup, Member, Entry, ticked, sent, heard, installed, peers_of, keys_of, elected}
 use Rattle.mka_station.specs.Views.{view}
 use Rattle.mka_station.specs.Tick.{tick_turn}
 use Rattle.mka_station.specs.Hearing.{hear_turn}
+use Rattle.mka_station.specs.Announcing.{use_of}
+use Rattle.mka_station.specs.Dropped.{without_dropped}
 
 opens : ℕ
-unfolding tick_turn hear_turn view peers_of keys_of elected refusal accepted outcome says hopes known received latest old transmitting
+unfolding tick_turn hear_turn view peers_of keys_of elected refusal accepted outcome says hopes known received latest old transmitting without_dropped
 opens = 0
 
 abbrev mi : ℕ → Mi
@@ -127,3 +129,24 @@ again = refl
 own_words : (hear_turn alice (said a3) a4).reaction.heard ≡ Some Echo
 unfolding opens
 own_words = refl
+
+-- the server lists its member as live, under the number that it heard last
+lists_its_member : (said (tick alice a4)).live ≡ record { mi = mi 2; mn = 2 } ∷ []
+unfolding opens
+lists_its_member = refl
+
+-- its own words are not in its history without what was dropped, and another's are
+without_its_own_words : without_dropped alice (heard (said a1) ∷ []) ≡ []
+unfolding opens
+without_its_own_words = refl
+
+with_the_words_of_another : without_dropped alice (heard (said b1) ∷ []) ≡ heard (said b1) ∷ []
+unfolding opens
+with_the_words_of_another = refl
+
+-- a key is marked as transmitting while it transmits, and not before
+marked : (use_of (Some key) (λ k. 1) (Some key)).tx ≡ true
+marked = refl
+
+unmarked : (use_of None (λ k. 1) (Some key)).tx ≡ false
+unmarked = refl

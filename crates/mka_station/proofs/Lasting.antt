@@ -1,5 +1,10 @@
 -- What is elected after a turn, what is said of keys, and what a history leaves room for.
-use Rattle.std.proofs.Common.{◌≡◌, ◌∙◌, ◌<◌, ◌+◌, ◌||◌, ℕ, List, ◌∷◌, Option, Some, None, is_some, ap, sym, refl, arith}
+use Rattle.std.proofs.Common.{◌≡◌, ◌∙◌, ◌<◌, ◌+◌, ◌||◌, ◌↔◌, ◌==◌, ℕ, true, false, List, ◌∷◌, Option, Some, None, is_some, ap, sym, refl, arith}
+use Rattle.std.proofs.lemmas.Bool.{and_parts, eqb-true, eq-eqb}
+use Rattle.lan_base.specs.declared.address.Mi.{Mi}
+use Rattle.lan_base.specs.declared.key_id.KeyId.{KeyId}
+use Rattle.lan_base.specs.Identifiers.{same_mi}
+use Rattle.peer_lists.proofs.Identifiers.{same_mi-equal, same_mi-itself}
 use Rattle.aes_block.specs.declared.secret.Secret.{Secret}
 use Rattle.mkpdu_codec.specs.declared.announcement.Announcement.{Announcement}
 use Rattle.peer_lists.specs.Histories.{last_sent}
@@ -8,7 +13,7 @@ use Rattle.sak_exchange.specs.Histories.{Key, Keying, install_count}
 use Rattle.sak_exchange.specs.Held.{latest, old}
 use Rattle.sak_exchange.proofs.Cases.{by_test}
 use Rattle.mka_station.specs.Lives.{Member, Entry, ticked, heard, elected, keys_of, peers_of}
-use Rattle.mka_station.specs.Announcing.{use_of, uses_of}
+use Rattle.mka_station.specs.Announcing.{id_of, same_key, use_of, uses_of}
 use Rattle.mka_station.specs.Tick.{tick_turn}
 use Rattle.mka_station.specs.Hearing.{hear_turn}
 use Rattle.mka_station.specs.Standing.{State, StandsFor, HasRoom}
@@ -31,6 +36,25 @@ uses-there lowest h = by_test (is_some (latest h) || is_some (old h)) (λ e. rw 
 pub use-received : (sending k : Option Key) (lowest : Key → ℕ) → (use_of sending lowest k).rx ≡ is_some k
 use-received sending None lowest = refl
 use-received sending (Some k) lowest = refl
+
+same_key-equal : (i j : KeyId) → same_key i j ≡ true → i ≡ j
+same_key-equal i j is =
+    let both = and_parts (same_mi i.server j.server) (i.number == j.number) is in
+    let of : Mi → ℕ → KeyId = λ server number. record { server = server; number = number } in
+    ap (λ (s : Mi). of s i.number) (same_mi-equal i.server j.server both.0) ∙ ap (of j.server) (eqb-true i.number j.number both.1)
+
+same_key-itself : (i : KeyId) → same_key i i ≡ true
+same_key-itself i = rw (same_mi-itself i.server, eq-eqb i.number i.number refl) refl
+
+pub tx-held : (sending : Option Key) (lowest : Key → ℕ) (k : Key) → (use_of sending lowest (Some k)).tx ≡ true ↔ (id_of sending ≡ Some k.id)
+tx-held None lowest k = (λ t. absurd (cc (t)), λ e. absurd (cc (e)))
+tx-held (Some s) lowest k = (
+  λ t. ap Some (same_key-equal s.id k.id t),
+  λ e. let i : s.id ≡ k.id = cc (e) in ap (λ (x : KeyId). same_key x k.id) i ∙ same_key-itself k.id,
+)
+
+pub tx-none : (sending : Option Key) (lowest : Key → ℕ) → (use_of sending lowest None).tx ≡ false
+tx-none sending lowest = refl
 
 pub has-room : (m : Member) (s : State) (p : List Entry) → StandsFor m s p → (m.base + install_count (keys_of m p)) + 1 < 4294967296 → last_sent (peers_of m p) + 1 < 4294967296 → HasRoom s
 has-room m s p stands few sent =

@@ -17,3 +17,5 @@ mod Starts
 mod Counts
 mod Lasting
 mod Drops
+mod Listed
+mod Alike

@@ -44,7 +44,7 @@ abbrev pub AreHeard : Own → List Peering → List Mi → Type 0
 AreHeard o h [] = Unit {0}
 AreHeard o h (m ∷ ms) = (is_some (last_accepted o h m) ≡ true) × AreHeard o h ms
 
-some-is : {A : Type 0} (o : Option A) → is_some o ≡ true → (a : A) × (o ≡ Some a)
+pub some-is : {A : Type 0} (o : Option A) → is_some o ≡ true → (a : A) × (o ≡ Some a)
 some-is None is = absurd (cc (is))
 some-is (Some a) is = (a, refl)
 
@@ -98,7 +98,7 @@ picked : (b : Bool) (x a : Accepted) → cond b (Some x) None ≡ Some a → Som
 picked true x a is = is
 picked false x a is = absurd (cc (is))
 
-standing-found : (now : ℕ) (test : Accepted → Bool) (past : List Accepted) (a : Accepted) → standing now test past ≡ Some a → find test past ≡ Some a
+pub standing-found : (now : ℕ) (test : Accepted → Bool) (past : List Accepted) (a : Accepted) → standing now test past ≡ Some a → find test past ≡ Some a
 standing-found now test past a is =
     by_option (find test past) (λ e. absurd (cc (rw e at is))) (λ b e. e ∙ picked (is_young now b.at && not (is_displaced test past b)) b a (rw e at is))
 
@@ -116,7 +116,7 @@ unpicked : (b : Bool) (o : Option Accepted) (a : Accepted) → cond b None o ≡
 unpicked true o a is = absurd (cc (is))
 unpicked false o a is = is
 
-hopes-of : (o : Own) (h : List Peering) (m : Mi) (a : Accepted) → hopes o h m ≡ Some a → last_accepted o h m ≡ Some a
+pub hopes-of : (o : Own) (h : List Peering) (m : Mi) (a : Accepted) → hopes o h m ≡ Some a → last_accepted o h m ≡ Some a
 hopes-of o h m a is =
     standing-found (clock h) (is_of m) (accepted o h) a
     (unpicked (is_some (says o h m)) (standing (clock h) (is_of m) (accepted o h)) a (sym (hopes-is o h m) ∙ is))
@@ -199,11 +199,11 @@ view-peers : (m : Member) (p : List Entry) → (view m p).peers ≡ peers_of m p
 unfolding view
 view-peers m p = refl
 
-view-live : (m : Member) (p : List Entry) → (view m p).live ≡ filter_map (says (own m) (view m p).peers) (known (own m) (view m p).peers)
+pub view-live : (m : Member) (p : List Entry) → (view m p).live ≡ filter_map (says (own m) (view m p).peers) (known (own m) (view m p).peers)
 unfolding view
 view-live m p = refl
 
-view-potential : (m : Member) (p : List Entry) → (view m p).potential ≡ filter_map (hopes (own m) (view m p).peers) (known (own m) (view m p).peers)
+pub view-potential : (m : Member) (p : List Entry) → (view m p).potential ≡ filter_map (hopes (own m) (view m p).peers) (known (own m) (view m p).peers)
 unfolding view
 view-potential m p = refl
 

@@ -1,5 +1,8 @@
--- When a station announces itself, and what it says (IEEE Std 802.1X, clauses 9 and 11). What is compared with the last announcement is this profile's own rule.
-use Rattle.std.specs.Prelude.{ℕ, ◌+◌, nat_le, ◌==◌, Bool, true, false, cond, not, ◌&&◌, ◌||◌, List, ◌++◌, take, map, replicate, Option, Some, None, is_some, option_map, option_and_then, unwrap_or}
+-- When a station announces itself, and what it says (IEEE Std 802.1X, clauses 9 and 11). What is
+-- compared with the last announcement is this profile's own rule.
+use Rattle.std.specs.Prelude.{ℕ, ◌+◌, nat_le, ◌==◌, Bool, true, false, cond, not, ◌&&◌, ◌||◌, List}
+use Rattle.std.specs.Prelude.{◌++◌, take, map, replicate, Option, Some, None, is_some, option_map}
+use Rattle.std.specs.Prelude.{option_and_then, unwrap_or}
 use Rattle.std.specs.List.{list_all, list_any}
 use lib.Pointwise.{pointwise}
 use Rattle.lan_base.specs.declared.address.Mi.{Mi}
@@ -31,7 +34,8 @@ use Rattle.mka_station.specs.Views.{View, view, speakers, serves}
 
 -- ---- when
 
--- What a change of calls for an announcement: who is live and who potential, the elected server, and which keys are held and transmit.
+-- What a change of calls for an announcement: who is live and who potential, the elected server,
+-- and which keys are held and transmit.
 pub record Shown : Type 0 where
   pub live : List Mi
   pub potential : List Mi
@@ -45,7 +49,14 @@ id_of k = option_map (λ k. k.id) k
 
 abbrev pub shown : View → Shown
 shown v =
-    record { live = speakers v.live; potential = speakers v.potential; server = v.server; latest = id_of (latest v.keys); old = id_of (old v.keys); transmitting = id_of (transmitting v.keys) }
+    record {
+      live = speakers v.live;
+      potential = speakers v.potential;
+      server = v.server;
+      latest = id_of (latest v.keys);
+      old = id_of (old v.keys);
+      transmitting = id_of (transmitting v.keys);
+    }
 
 -- whether both are there and the same, or neither is
 abbrev pub same_option : {A : Type 0} → (A → A → Bool) → Option A → Option A → Bool
@@ -60,15 +71,19 @@ same_key i j = same_mi i.server j.server && i.number == j.number
 
 abbrev pub same_shown : Shown → Shown → Bool
 same_shown s t =
-    pointwise same_mi s.live t.live && (pointwise same_mi s.potential t.potential && (same_option same_mi s.server t.server
-    && (same_option same_key s.latest t.latest && (same_option same_key s.old t.old && same_option same_key s.transmitting t.transmitting))))
+    pointwise same_mi s.live t.live && (pointwise same_mi s.potential t.potential
+    && (same_option same_mi s.server t.server && (same_option same_key s.latest t.latest
+    && (same_option same_key s.old t.old
+    && same_option same_key s.transmitting t.transmitting))))
 
--- whether a station announces itself now: it never did, the hello time has passed since, or what is shown has changed since
+-- whether a station announces itself now: it never did, the hello time has passed since, or what is
+-- shown has changed since
 abbrev pub is_due_since : Member → View → Option (List Entry) → Bool
 is_due_since m v None = true
 is_due_since m v (Some then) =
     let before = view m then in
-    nat_le (clock before.peers + hello_time) (clock v.peers) || not (same_shown (shown v) (shown before))
+    nat_le (clock before.peers + hello_time) (clock v.peers)
+    || not (same_shown (shown v) (shown before))
 
 abbrev pub announces : Member → View → List Entry → Bool
 announces m v p = is_due_since m v (last_spoken p)
@@ -83,23 +98,43 @@ peer_of m v a =
 
 -- what is said of a key that is not held
 abbrev pub no_use : KeyUse
-no_use = record { server = record { 0 = replicate 12 0 }; number = 0; an = 0; tx = false; rx = false; lowest = 0 }
+no_use =
+    record {
+      server = record { 0 = replicate 12 0 };
+      number = 0;
+      an = 0;
+      tx = false;
+      rx = false;
+      lowest = 0;
+    }
 
 -- what is said of a key, given which transmits and its lowest acceptable packet number
 abbrev pub use_of : Option Key → (Key → ℕ) → Option Key → KeyUse
 use_of sending lowest None = no_use
 use_of sending lowest (Some k) =
-    record { server = k.id.server; number = k.id.number; an = k.an; tx = same_option same_key (id_of sending) (Some k.id); rx = true; lowest = lowest k }
+    record {
+      server = k.id.server;
+      number = k.id.number;
+      an = k.an;
+      tx = same_option same_key (id_of sending) (Some k.id);
+      rx = true;
+      lowest = lowest k;
+    }
 
 -- the SAK Use, where a key is held
 abbrev pub uses_of : (Key → ℕ) → List Keying → Option Uses
 uses_of lowest h =
-    cond (is_some (latest h) || is_some (old h)) (Some (record { latest = use_of (transmitting h) lowest (latest h); old = use_of (transmitting h) lowest (old h) })) None
+    cond (is_some (latest h) || is_some (old h)) (Some (record {
+      latest = use_of (transmitting h) lowest (latest h);
+      old = use_of (transmitting h) lowest (old h);
+    })) None
 
--- whether the station gives its latest key: it serves and made the key in this life, each live member is in the key's roster, and one of them does not report it
+-- whether the station gives its latest key: it serves and made the key in this life, each live
+-- member is in the key's roster, and one of them does not report it
 abbrev pub gives : Member → View → Key → Bool
 gives m v k =
-    serves m v && (is_latest_made v.keys && (list_all (is_in_roster v.keys) (speakers v.live) && list_any (λ a. not (is_reported k.id a.told.uses)) v.live))
+    serves m v && (is_latest_made v.keys && (list_all (is_in_roster v.keys) (speakers v.live)
+    && list_any (λ a. not (is_reported k.id a.told.uses)) v.live))
 
 -- the confidentiality offset: none, or that of 0 octets
 abbrev pub offset : Key → ℕ
@@ -112,7 +147,9 @@ given_as kek k (S256 octets) = Aes256 k.an (offset k) k.id.number (wrapped kek o
 
 -- the Distributed SAK
 abbrev pub given : Member → View → Option Given
-given m v = option_and_then (λ k. cond (gives m v k) (Some (given_as m.setup.kek k k.sak)) None) (latest v.keys)
+given m v =
+    option_and_then (λ k. cond (gives m v k) (Some (given_as m.setup.kek k k.sak)) None)
+    (latest v.keys)
 
 -- the announcement, given the lowest acceptable packet number under each key
 abbrev pub announcement : Member → (Key → ℕ) → View → Announcement
@@ -135,7 +172,8 @@ announcement m lowest v =
 abbrev pub says_now : Member → (Key → ℕ) → List Entry → View → Option Announcement
 says_now m lowest p v = cond (announces m v p) (Some (announcement m lowest v)) None
 
--- the lowest acceptable packet number under a key: what a tick was shown for it, which then was the latest key or the old one, and 1 for a key that is new
+-- the lowest acceptable packet number under a key: what a tick was shown for it, which then was the
+-- latest key or the old one, and 1 for a key that is new
 abbrev pub lowest_in : Seen → List Keying → Key → ℕ
 lowest_in seen before k =
     cond (same_option same_key (id_of (latest before)) (Some k.id)) seen.latest

@@ -1,6 +1,7 @@
--- Which draws a key takes (this profile's own rule): one for a key of 128 bits, two, in their order, for one
--- of 256.
-use Rattle.std.specs.Prelude.{ℕ, ◌==◌, Bool, ◌&&◌, cond, List, [], ◌∷◌, ◌++◌, Option, is_none, option_map, option_and_then, unwrap_or}
+-- Which draws a key takes (this profile's own rule): one for a key of 128 bits, two, in their
+-- order, for one of 256.
+use Rattle.std.specs.Prelude.{ℕ, ◌==◌, Bool, ◌&&◌, cond, List, [], ◌∷◌, ◌++◌, Option, is_none}
+use Rattle.std.specs.Prelude.{option_map, option_and_then, unwrap_or}
 use Rattle.aes_block.specs.declared.secret.Secret.{Secret}
 use Rattle.aes_block.specs.declared.secret.Secret.TheVariants.{S128, S256}
 use Rattle.sak_exchange.specs.declared.due.Seen.{Seen}
@@ -12,10 +13,13 @@ use Rattle.mka_station.specs.Tick.{makes_now}
 abbrev pub is_wide : ℕ → Bool
 is_wide suite = suite == 256
 
--- the secure association key that the draws of a supply give, by their place from 0, if it has enough
+-- the secure association key that the draws of a supply give, by their place from 0, if it has
+-- enough
 abbrev pub next_sak : ℕ → (ℕ → Option (List ℕ)) → Option Secret
 next_sak suite nth =
-    cond (is_wide suite) (option_and_then (λ first. option_map (λ second. S256 (first ++ second)) (nth 1)) (nth 0)) (option_map S128 (nth 0))
+    cond (is_wide suite)
+    (option_and_then (λ first. option_map (λ second. S256 (first ++ second)) (nth 1)) (nth 0))
+    (option_map S128 (nth 0))
 
 -- the same, and any key where there are too few draws
 abbrev pub sak_of : ℕ → (ℕ → Option (List ℕ)) → Secret

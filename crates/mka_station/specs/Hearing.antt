@@ -1,5 +1,8 @@
--- What a station does when it hears a frame of key agreement (IEEE Std 802.1X, clause 9; the order of the reasons to drop one is this profile's own).
-use Rattle.std.specs.Prelude.{ℕ, nat_eq, Bool, true, false, not, ◌&&◌, cond, List, [], ◌∷◌, ◌++◌, take, Option, Some, None, option_map, option_and_then, Result, Ok, Err}
+-- What a station does when it hears a frame of key agreement (IEEE Std 802.1X, clause 9; the order
+-- of the reasons to drop one is this profile's own).
+use Rattle.std.specs.Prelude.{ℕ, nat_eq, Bool, true, false, not, ◌&&◌, cond, List, [], ◌∷◌, ◌++◌}
+use Rattle.std.specs.Prelude.{take, Option, Some, None, option_map, option_and_then, Result, Ok}
+use Rattle.std.specs.Prelude.{Err}
 use Rattle.std.specs.List.{list_any}
 use lib.Pointwise.{pointwise}
 use Rattle.lan_base.specs.Identifiers.{same_mi}
@@ -35,7 +38,8 @@ use Rattle.mka_station.specs.Tick.{Turn, new_server, with_beginning, with_instal
 abbrev pub of_group : Setup → List ℕ → Spelled → Result Announcement Verdict
 of_group setup frame s =
     cond (not (pointwise nat_eq s.announcement.ckn setup.ckn)) (Err verdicts.CkName)
-    (cond (not (pointwise nat_eq s.check (cmac setup.ick (take s.covered frame)))) (Err verdicts.Check) (Ok s.announcement))
+    (cond (not (pointwise nat_eq s.check (cmac setup.ick (take s.covered frame))))
+    (Err verdicts.Check) (Ok s.announcement))
 
 abbrev pub verdict_of_refusal : Refusal → Verdict
 verdict_of_refusal refusals.NotMka = verdicts.NotMka
@@ -49,7 +53,8 @@ abbrev pub read_as : Setup → List ℕ → Result Spelled Refusal → Result An
 read_as setup frame (Ok s) = of_group setup frame s
 read_as setup frame (Err refusal) = Err (verdict_of_refusal refusal)
 
--- the announcement of a frame of the group, or why the frame is dropped before anything is known of its member
+-- the announcement of a frame of the group, or why the frame is dropped before anything is known of
+-- its member
 unfoldable pub judged : Setup → List ℕ → Result Announcement Verdict
 judged setup frame = read_as setup frame (reading frame)
 
@@ -83,14 +88,20 @@ is_vouched (outcomes.Dropped reason) = false
 abbrev pub outcome_of : Member → List Entry → Announcement → Outcome
 outcome_of m p a = let h = peers_of m p in outcome (own m) h (told m.mi (recent h) a)
 
--- whether its Live Peer List has the station under a number that was sent less than the life time ago
+-- whether its Live Peer List has the station under a number that was sent less than the life time
+-- ago
 abbrev pub is_listed : Member → List Peering → Announcement → Bool
 is_listed m h a = list_any (λ peer. same_mi peer.mi m.mi && recent h peer.mn) a.live
 
 -- the key that it offers, where it was accepted and gives one
 abbrev pub offered : Member → View → Outcome → Announcement → Option Offer
 offered m v o a =
-    cond (is_accepted o) (option_map (λ g. record { given = g; server = a.mi; listed = is_listed m v.peers a; elected = is_server v.server a.mi }) a.given) None
+    cond (is_accepted o) (option_map (λ g. record {
+      given = g;
+      server = a.mi;
+      listed = is_listed m v.peers a;
+      elected = is_server v.server a.mi;
+    }) a.given) None
 
 -- the key that is taken, or why it is not, if one is offered
 abbrev pub taken_of : Member → View → Option Offer → Option (Result Key Why)
@@ -107,11 +118,14 @@ take_changes h (Some o) (Some answer) = (judging h o answer).changes
 take_changes h (Some o) None = []
 take_changes h None answer = []
 
--- the latest key, where it begins because the elected server, in an announcement that is vouched, says that it transmits under it
+-- the latest key, where it begins because the elected server, in an announcement that is vouched,
+-- says that it transmits under it
 abbrev pub followed : View → Outcome → Announcement → Option Beginning
-followed v o a = cond (is_vouched o && is_server v.server a.mi) (option_and_then (follows v.keys) a.uses) None
+followed v o a =
+    cond (is_vouched o && is_server v.server a.mi) (option_and_then (follows v.keys) a.uses) None
 
--- Hearing an announcement: the peer lists, and the server is elected; a key is taken; the latest key begins.
+-- Hearing an announcement: the peer lists, and the server is elected; a key is taken; the latest
+-- key begins.
 unfoldable pub hear_turn : Member → Announcement → List Entry → Turn
 hear_turn m a p =
     let before = view m p in
@@ -135,7 +149,11 @@ hear_turn m a p =
 
 -- a frame that is dropped before anything is known of its member
 abbrev pub drop_turn : Verdict → List Entry → Turn
-drop_turn v p = record { reaction = record { heard = Some v; server = None; changes = []; sent = None }; past = p }
+drop_turn v p =
+    record {
+      reaction = record { heard = Some v; server = None; changes = []; sent = None };
+      past = p;
+    }
 
 abbrev pub heard_turn : Member → Result Announcement Verdict → List Entry → Turn
 heard_turn m (Ok a) p = hear_turn m a p

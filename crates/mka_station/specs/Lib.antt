@@ -4,6 +4,8 @@ pub mod Announcing
 pub mod Tick
 pub mod Hearing
 pub mod Restart
+pub mod Listed
+pub mod Dropped
 pub mod Drawing
 pub mod Standing
 pub mod inside

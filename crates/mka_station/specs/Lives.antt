@@ -1,22 +1,26 @@
--- The history of one life of a station (IEEE Std 802.1X, clause 9), newest first, and what of it its peer lists and its keys see.
+-- The history of one life of a station (IEEE Std 802.1X, clause 9), newest first, and what of it
+-- its peer lists and its keys see.
 use Rattle.std.specs.Prelude.{ℕ, Bool, List, [], ◌∷◌, ◌++◌, Option, Some, None, is_some}
 use Rattle.lan_base.specs.declared.address.Mi.{Mi}
 use Rattle.mkpdu_codec.specs.declared.announcement.Announcement.{Announcement}
 use Rattle.server_election.specs.declared.candidate.Candidate.{Candidate}
 use Rattle.server_election.specs.Election.{elected as elected_among}
 use Rattle.peer_lists.specs.declared.heard.Heard.{Heard}
-use Rattle.peer_lists.specs.Histories.{Peering, recent, ticked as peers_ticked, sent as peers_sent, heard as peers_heard}
+use Rattle.peer_lists.specs.Histories.{Peering, recent, ticked as peers_ticked, sent as peers_sent}
+use Rattle.peer_lists.specs.Histories.{heard as peers_heard}
 use Rattle.peer_lists.specs.Acceptance.{Own, Accepted}
 use Rattle.peer_lists.specs.Listings.{listing}
 use Rattle.peer_lists.specs.Peers.{says, hopes, known}
-use Rattle.sak_exchange.specs.Histories.{Key, Keying, ticked as keys_ticked, installed as keys_installed, began as keys_began}
+use Rattle.sak_exchange.specs.Histories.{Key, Keying, ticked as keys_ticked}
+use Rattle.sak_exchange.specs.Histories.{installed as keys_installed, began as keys_began}
 use Rattle.std.specs.Prelude.{map}
 use Rattle.std.specs.Prelude.{filter_map}
 use Rattle.lan_base.specs.declared.address.Sci.{Sci}
 
--- What a station is set up with: its SCI and key server priority, the packet number from which on a key
--- is spent, whether keys that it makes give confidentiality and how many bits they have, and what the
--- group's connectivity association key gives: its name, the key encrypting key and the integrity check key.
+-- What a station is set up with: its SCI and key server priority, the packet number from which on a
+-- key is spent, whether keys that it makes give confidentiality and how many bits they have, and
+-- what the group's connectivity association key gives: its name, the key encrypting key and the
+-- integrity check key.
 pub record Setup : Type 0 where
   pub sci : Sci
   pub priority : ℕ
@@ -27,14 +31,15 @@ pub record Setup : Type 0 where
   pub kek : List ℕ
   pub ick : List ℕ
 
--- A station in one of its lives: what it is set up with, the member identifier of the life, and how many
--- keys it installed in earlier lives.
+-- A station in one of its lives: what it is set up with, the member identifier of the life, and how
+-- many keys it installed in earlier lives.
 pub record Member : Type 0 where
   pub setup : Setup
   pub mi : Mi
   pub base : ℕ
 
--- A tick; an announcement that was sent; one that was heard in a frame with a right check value; a key that was installed, with its roster where this life made it; a key that began, by its epoch.
+-- A tick; an announcement that was sent; one that was heard in a frame with a right check value; a
+-- key that was installed, with its roster where this life made it; a key that began, by its epoch.
 pub data Entry : Type 0 where
   ticked : Entry
   sent : Announcement → Entry
@@ -54,7 +59,15 @@ own m = record { mi = m.mi; sci = m.setup.sci }
 abbrev pub told : Mi → (ℕ → Bool) → Announcement → Heard
 told mi is_recent a =
     let l = listing mi is_recent (a.live ++ a.potential) in
-    record { mi = a.mi; sci = a.sci; priority = a.priority; mn = a.mn; lists = l.lists; listed = l.listed; uses = a.uses }
+    record {
+      mi = a.mi;
+      sci = a.sci;
+      priority = a.priority;
+      mn = a.mn;
+      lists = l.lists;
+      listed = l.listed;
+      uses = a.uses;
+    }
 
 -- the history of the peer lists
 unfoldable pub peers_of : Member → List Entry → List Peering

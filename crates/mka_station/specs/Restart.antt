@@ -1,4 +1,5 @@
--- What a station does when it starts again: a new life, with nothing of the one before (this profile's own rule).
+-- What a station does when it starts again: a new life, with nothing of the one before (this
+-- profile's own rule).
 use Rattle.std.specs.Prelude.{List, map, Option, Some, None}
 use Rattle.lan_base.specs.declared.address.Mi.{Mi}
 use Rattle.sak_exchange.specs.declared.change.Change.TheVariants.{Dropped}
@@ -16,4 +17,9 @@ lost_server (Some server) = Some None
 unfoldable pub ending : Member → List Entry → Reaction
 ending m p =
     let v = view m p in
-    record { heard = None; server = lost_server v.server; changes = map (λ k. Dropped (held v.keys k)) (received v.keys); sent = None }
+    record {
+      heard = None;
+      server = lost_server v.server;
+      changes = map (λ k. Dropped (held v.keys k)) (received v.keys);
+      sent = None;
+    }

@@ -1,5 +1,7 @@
--- What a station does at a tick, stage by stage (IEEE Std 802.1X, clause 9; the order is this profile's own).
-use Rattle.std.specs.Prelude.{nat_lt, length, Bool, ◌&&◌, cond, List, [], ◌∷◌, ◌++◌, Option, Some, None, is_none, option_map}
+-- What a station does at a tick, stage by stage (IEEE Std 802.1X, clause 9; the order is this
+-- profile's own).
+use Rattle.std.specs.Prelude.{nat_lt, length, Bool, ◌&&◌, cond, List, [], ◌∷◌, ◌++◌, Option, Some}
+use Rattle.std.specs.Prelude.{None, is_none, option_map}
 use Rattle.lan_base.specs.declared.address.Mi.{Mi}
 use Rattle.lan_base.specs.Identifiers.{same_mi}
 use Rattle.aes_block.specs.declared.secret.Secret.{Secret}
@@ -41,11 +43,13 @@ led m v = cond (serves m v) (leads v.keys (reports v.live)) None
 -- whether a station that serves, and begins no key, makes one
 abbrev pub makes_now : Member → View → Seen → Bool
 makes_now m v seen =
-    serves m v && (is_none (led m v) && makes v.keys (reports v.live) (nat_lt 0 (length v.potential)) seen m.setup.rekey)
+    serves m v && (is_none (led m v)
+    && makes v.keys (reports v.live) (nat_lt 0 (length v.potential)) seen m.setup.rekey)
 
 -- the key that it makes of these octets
 abbrev pub made : Member → View → Seen → Secret → Option Key
-made m v seen sak = cond (makes_now m v seen) (Some (made_key m.base m.mi v.keys m.setup.conf sak)) None
+made m v seen sak =
+    cond (makes_now m v seen) (Some (made_key m.base m.mi v.keys m.setup.conf sak)) None
 
 -- the history with an install
 abbrev pub with_install : Option (List Mi) → Option Key → List Entry → List Entry
@@ -62,7 +66,8 @@ abbrev pub with_sent : Option Announcement → List Entry → List Entry
 with_sent None p = p
 with_sent (Some a) p = sent a ∷ p
 
--- A tick: it counts, and the server is elected; keys are dropped or retired; the station leads, or makes a key; it announces itself.
+-- A tick: it counts, and the server is elected; keys are dropped or retired; the station leads, or
+-- makes a key; it announces itself.
 unfoldable pub tick_turn : Member → Seen → Secret → List Entry → Turn
 tick_turn m seen sak p =
     let before = view m p in
@@ -78,7 +83,8 @@ tick_turn m seen sak p =
       reaction = record {
         heard = None;
         server = new_server before v1;
-        changes = ended before.keys v1.server ++ ((beginning v1.keys lead).changes ++ install_changes v1.keys roster key);
+        changes = ended before.keys v1.server
+            ++ ((beginning v1.keys lead).changes ++ install_changes v1.keys roster key);
         sent = option_map (frame_of m.setup) said;
       };
       past = with_sent said p3;

@@ -6,9 +6,11 @@ use Rattle.peer_lists.specs.Histories.{Peering}
 use Rattle.peer_lists.specs.Acceptance.{Accepted}
 use Rattle.sak_exchange.specs.Histories.{Keying}
 use Rattle.sak_exchange.specs.declared.report.Report.{Report}
-use Rattle.mka_station.specs.Lives.{Member, Entry, peers_of, keys_of, live_words, potential_words, elected_by}
+use Rattle.mka_station.specs.Lives.{Member, Entry, peers_of, keys_of, live_words, potential_words}
+use Rattle.mka_station.specs.Lives.{elected_by}
 
--- the words of the live and of the potential members, the elected server, and the histories of peers and keys
+-- the words of the live and of the potential members, the elected server, and the histories of
+-- peers and keys
 pub record View : Type 0 where
   pub live : List Accepted
   pub potential : List Accepted
@@ -20,7 +22,13 @@ unfoldable pub view : Member → List Entry → View
 view m p =
     let h = peers_of m p in
     let words = live_words m h in
-    record { live = words; potential = potential_words m h; server = elected_by m words; peers = h; keys = keys_of m p }
+    record {
+      live = words;
+      potential = potential_words m h;
+      server = elected_by m words;
+      peers = h;
+      keys = keys_of m p;
+    }
 
 -- the members that say this
 abbrev pub speakers : List Accepted → List Mi

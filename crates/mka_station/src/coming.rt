@@ -21,9 +21,9 @@ use server_election::Candidate;
 use std::alloc::{AllocError, Global};
 use std::marker::Model;
 
-/// What the next tick of a station finds, whatever it is shown: the rows of its peer lists and what the
-/// live members say of their keys, the server that is elected, and the keys after what ends and begins.
-/// So a tick can decide whether it makes a key before it takes memory.
+/// What the next tick of a station finds, whatever it is shown: the rows of its peer lists and what
+/// the live members say of their keys, the server that is elected, and the keys after what ends and
+/// begins. So a tick can decide whether it makes a key before it takes memory.
 #[derive(Drop)]
 pub struct Coming {
     pub rows: Vec<Row>,
@@ -97,12 +97,14 @@ pub fn candidate(config: &Config, mi: Mi) -> Candidate
     }
 }
 
-/// After a tick every key is dropped where no server is elected, and else an old key is retired whose time
-/// is over.
+/// After a tick every key is dropped where no server is elected, and else an old key is retired
+/// whose time is over.
 fn end_keys(keys: &mut KeyState, server: Option<Mi>) -> Result<Changes, AllocError>
-    ensures changes { (base : ℕ) (own : Mi) (h : List Keying) → KeysStandFor base own true keys.old h →
+    ensures changes { (base : ℕ) (own : Mi) (h : List Keying) →
+        KeysStandFor base own true keys.old h →
         IfOk result (λ c. c ≡ ended h server) }
-    ensures stands { (base : ℕ) (own : Mi) (h : List Keying) → KeysStandFor base own true keys.old h →
+    ensures stands { (base : ℕ) (own : Mi) (h : List Keying) →
+        KeysStandFor base own true keys.old h →
         OnOk result (KeysStandFor base own false keys.new (ticked (is_some server) ∷ h)) }
 {
     match server {
@@ -118,9 +120,11 @@ fn lead(
     serves: bool,
     reports: &[Report],
 ) -> Result<Changes, AllocError>
-    ensures changes { (base : ℕ) (own : Mi) (h : List Keying) → KeysStandFor base own false keys.old h →
+    ensures changes { (base : ℕ) (own : Mi) (h : List Keying) →
+        KeysStandFor base own false keys.old h →
         IfOk result (λ c. c ≡ (beginning h (cond serves (leads h reports.now) None)).changes) }
-    ensures stands { (base : ℕ) (own : Mi) (h : List Keying) → KeysStandFor base own false keys.old h →
+    ensures stands { (base : ℕ) (own : Mi) (h : List Keying) →
+        KeysStandFor base own false keys.old h →
         OnOk result (KeysStandFor base own false keys.new
         (beginning h (cond serves (leads h reports.now) None)).past) }
 {

@@ -1,5 +1,6 @@
-//! One station of a group (IEEE Std 802.1X, clause 9): it hears frames of key agreement, elects a key
-//! server, takes and makes keys, and announces itself. Its reactions are functions of the history of its life.
+//! One station of a group (IEEE Std 802.1X, clause 9): it hears frames of key agreement, elects a
+//! key server, takes and makes keys, and announces itself. Its reactions are functions of the
+//! history of its life.
 #![tactic(auto)]
 
 mod changes;
@@ -19,9 +20,15 @@ mod verdict;
 pub use config::Config;
 pub use fault::StationFault;
 pub use laws::{
-    law_dropped_changes_no_view, law_elected_stays, law_room, law_turns_count,
+    law_dropped_changes_no_answer, law_dropped_changes_no_view, law_elected_stays,
+    law_listed_was_heard, law_marks_what_transmits, law_room, law_turns_count,
     law_uses_show_the_keys,
 };
 pub use reaction::Reaction;
 pub use station::Station;
 pub use verdict::Verdict;
+
+#[cfg(test)]
+mod test_frames;
+#[cfg(test)]
+mod tests;

@@ -145,7 +145,8 @@ pub fn potential_peers(alloc: Global, rows: &[Row]) -> Result<Peers, AllocError>
 
 /// The server that a station elects among itself and the live members.
 pub fn elected(alloc: Global, own: &Candidate, rows: &[Row]) -> Result<Option<Mi>, AllocError>
-    ensures { IfOk result (λ server. server ≡ elected own.now (map candidate_in (live_rows rows.now))) }
+    ensures { IfOk result (λ server. server
+        ≡ elected own.now (map candidate_in (live_rows rows.now))) }
 {
     let candidates = live_candidates(alloc, rows)?;
     Ok(elect(own, &candidates))

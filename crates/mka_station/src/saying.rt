@@ -207,7 +207,8 @@ fn is_received(used: &KeyUse, id: &KeyId) -> bool
 /// The frame of an announcement, with its check value.
 pub fn frame(alloc: Global, announcement: &Announcement, ick: &Key) -> Result<Octets, AllocError>
     requires { IsWritable announcement.now }
-    ensures { IfOk result (λ o. o ≡ written announcement.now ++ cmac ick.now (written announcement.now)) }
+    ensures { IfOk result (λ o. o
+        ≡ written announcement.now ++ cmac ick.now (written announcement.now)) }
 {
     let mut octets = Vec::new(alloc);
     write(announcement, &mut octets)?;

@@ -17,8 +17,8 @@ use sak_exchange::{HeldKey, KeyState};
 use std::alloc::{AllocError, Global};
 use std::marker::Model;
 
-/// What a change of calls for an announcement: who is live and who potential, the elected server, and
-/// which keys are held and transmit.
+/// What a change of calls for an announcement: who is live and who potential, the elected server,
+/// and which keys are held and transmit.
 #[derive(Drop)]
 pub struct Shown {
     live: Vec<Mi>,

@@ -94,8 +94,8 @@ impl Model for Station {
 }
 
 impl Station {
-    /// A station's first life, or a life after others in which it installed so many keys. Its member
-    /// identifier is the last 12 octets of the draw.
+    /// A station's first life, or a life after others in which it installed so many keys. Its
+    /// member identifier is the last 12 octets of the draw.
     pub fn start(
         alloc: Global,
         config: Config,
@@ -121,20 +121,23 @@ impl Station {
         })
     }
 
-    /// A tick: the server is elected, keys end, begin or are made, and the station announces itself.
+    /// A tick: the server is elected, keys end, begin or are made, and the station announces
+    /// itself.
     pub fn tick<D: Draws>(&mut self, seen: &Seen, draws: &mut D) -> Result<Reaction, StationFault>
         requires room { HasRoom self.old }
 
         // What happens is the turn of the life's history.
         ensures reaction { (m : Member) (p : List Entry) → StandsFor m self.old p →
-            IfOk result (λ r. r ≡ (tick_turn m seen.now (sak_of m.setup.suite (D.nth draws.old)) p).reaction) }
+            IfOk result (λ r. r
+            ≡ (tick_turn m seen.now (sak_of m.setup.suite (D.nth draws.old)) p).reaction) }
         ensures stands { (m : Member) (p : List Entry) → StandsFor m self.old p →
             OnOk result (StandsFor m self.new
             (tick_turn m seen.now (sak_of m.setup.suite (D.nth draws.old)) p).past) }
 
         // It takes the draws that a key needs which it makes, and else none.
         ensures drawn { (m : Member) (p : List Entry) → StandsFor m self.old p →
-            OnOk result ((k : ℕ) → D.nth draws.new k ≡ D.nth draws.old (k + draws_at m p seen.now)) }
+            OnOk result ((k : ℕ) →
+            D.nth draws.new k ≡ D.nth draws.old (k + draws_at m p seen.now)) }
 
         // It is refused exactly where a key is made for which there are too few draws.
         ensures spent { (m : Member) (p : List Entry) → StandsFor m self.old p →
@@ -150,8 +153,8 @@ impl Station {
         Ok(self.advance(seen, sak)?)
     }
 
-    /// A frame is heard. One that is dropped by its form, its group's name or its check value changes
-    /// nothing.
+    /// A frame is heard. One that is dropped by its form, its group's name or its check value
+    /// changes nothing.
     pub fn hear(&mut self, frame: &[u8]) -> Result<Reaction, AllocError>
         requires room { HasRoom self.old }
         ensures reaction { (m : Member) (p : List Entry) → StandsFor m self.old p →
@@ -173,8 +176,8 @@ impl Station {
         }
     }
 
-    /// The station starts again, with a member identifier from another draw and nothing of this life but
-    /// the count of its installs.
+    /// The station starts again, with a member identifier from another draw and nothing of this
+    /// life but the count of its installs.
     pub fn restart(&mut self, draw: [u8; 16]) -> Result<Reaction, AllocError>
         ensures reaction { (m : Member) (p : List Entry) → StandsFor m self.old p →
             IfOk result (λ r. r ≡ ending m p) }
@@ -284,7 +287,8 @@ impl Station {
 
     /// What changes where every key is dropped.
     fn dropped(&self) -> Result<Changes, AllocError>
-        ensures { (base : ℕ) (own : Mi) (h : List Keying) → KeysStandFor base own false self.now.keys h →
+        ensures { (base : ℕ) (own : Mi) (h : List Keying) →
+            KeysStandFor base own false self.now.keys h →
             IfOk result (λ c. c ≡ (dropping h).changes) }
     {
         let mut keys = self.keys().copied(self.alloc)?;
@@ -487,8 +491,8 @@ impl Station {
         }
     }
 
-    /// The frame that the station sends at a tick that is counted in these peer lists, if it announces
-    /// itself. They then know of it.
+    /// The frame that the station sends at a tick that is counted in these peer lists, if it
+    /// announces itself. They then know of it.
     fn say(
         &self,
         peers: &mut PeerTable,
@@ -558,8 +562,8 @@ impl Station {
         })
     }
 
-    /// The announcement of a frame of the group, or why the frame is dropped before anything is known of
-    /// its member.
+    /// The announcement of a frame of the group, or why the frame is dropped before anything is
+    /// known of its member.
     fn judged(&self, frame: &[u8]) -> Result<Result<Announcement, Verdict>, AllocError>
         ensures value { IfOk result (λ j. j ≡ judged self.now.setup frame.now) }
         ensures bits { IfOk result (λ j. IfOk j (λ a. IfSome a.given (λ g. an_of g < 4))) }
@@ -579,8 +583,8 @@ impl Station {
         }
     }
 
-    /// Why an announcement is dropped that a frame spells, with this check value over so many of its
-    /// octets: it is not of the group.
+    /// Why an announcement is dropped that a frame spells, with this check value over so many of
+    /// its octets: it is not of the group.
     fn fault(
         &self,
         announcement: &Announcement,
@@ -589,7 +593,8 @@ impl Station {
         check: &[u8; 16],
     ) -> Option<Verdict>
         requires { covered ≤ length frame.now }
-        ensures { result ≡ fault_of self.now.setup announcement.now (take covered frame.now) check.now }
+        ensures { result
+            ≡ fault_of self.now.setup announcement.now (take covered frame.now) check.now }
     {
         if announcement.ckn != self.config.group.ckn {
             return Some(Verdict::CkName);
@@ -655,6 +660,15 @@ impl Station {
         })
     }
 
+    /// Whether one more install and one more announcement can be counted, which a tick and a
+    /// hearing ask for.
+    pub fn has_room(&self) -> bool
+        ensures { IsTrue result ↔ HasRoom self.now }
+    {
+        let few = self.epochs() < u32::MAX && self.peers().last_sent() < u32::MAX;
+        few && self.keys().epochs() < u32::MAX && self.coming_keys().epochs() < u32::MAX
+    }
+
     /// The member identifier of the life.
     pub fn mi(&self) -> &Mi
         ensures { result.now ≡ self.now.mi }
@@ -675,7 +689,8 @@ fn mi_of(draw: [u8; 16]) -> Mi
 /// The SAK that the next draws give: one for a key of 128 bits, two for one of 256.
 fn drawn_sak<D: Draws>(suite: u16, draws: &mut D) -> Option<Secret>
     ensures value { result ≡ next_sak suite (D.nth draws.old) }
-    ensures taken { OnSome result ((k : ℕ) → D.nth draws.new k ≡ D.nth draws.old (k + draws_for suite)) }
+    ensures taken { OnSome result ((k : ℕ) →
+        D.nth draws.new k ≡ D.nth draws.old (k + draws_for suite)) }
 {
     if suite == WIDE {
         let first = draws.draw()?;
@@ -705,11 +720,13 @@ fn make(
     sak: Option<Secret>,
 ) -> Result<Changes, AllocError>
     requires few { keys.old.epochs + 1 < 2 ^ 32 }
-    ensures changes { (base : ℕ) (own : Mi) (h : List Keying) → KeysStandFor base own false keys.old h →
+    ensures changes { (base : ℕ) (own : Mi) (h : List Keying) →
+        KeysStandFor base own false keys.old h →
         IsDue sak (makes h due.now.live.now due.now.potential due.now.seen due.now.rekey) →
         IfOk result (λ c. c ≡ install_changes h (Some (made_roster own due.now.live.now))
         (made_by base own h due.now.conf sak)) }
-    ensures stands { (base : ℕ) (own : Mi) (h : List Keying) → KeysStandFor base own false keys.old h →
+    ensures stands { (base : ℕ) (own : Mi) (h : List Keying) →
+        KeysStandFor base own false keys.old h →
         IsDue sak (makes h due.now.live.now due.now.potential due.now.seen due.now.rekey) →
         OnOk result (KeysStandFor base own false keys.new (keys_made
         (Some (made_roster own due.now.live.now)) (made_by base own h due.now.conf sak) h)) }
@@ -720,10 +737,12 @@ fn make(
     }
 }
 
-/// The number of the next announcement, where it can be counted and none was sent since the last tick.
+/// The number of the next announcement, where it can be counted and none was sent since the last
+/// tick.
 fn next_number(peers: &PeerTable) -> Option<u32>
     ensures { (own : Own) (h : List Peering) → PeersStandFor own peers.now h →
-        result ≡ cond (may_send h && nat_lt (last_sent h + 1) (2 ^ 32)) (Some (last_sent h + 1)) None }
+        result
+        ≡ cond (may_send h && nat_lt (last_sent h + 1) (2 ^ 32)) (Some (last_sent h + 1)) None }
 {
     if peers.may_send() {
         peers.last_sent().checked_add(1)
@@ -848,9 +867,11 @@ fn take(
     offer: Option<Offer>,
 ) -> Result<Changes, AllocError>
     requires few { keys.old.epochs + 1 < 2 ^ 32 }
-    ensures changes { (base : ℕ) (own : Mi) (h : List Keying) → KeysStandFor base own false keys.old h →
+    ensures changes { (base : ℕ) (own : Mi) (h : List Keying) →
+        KeysStandFor base own false keys.old h →
         IfOk result (λ c. c ≡ take_changes h offer (answered base kek.now h offer)) }
-    ensures stands { (base : ℕ) (own : Mi) (h : List Keying) → KeysStandFor base own false keys.old h →
+    ensures stands { (base : ℕ) (own : Mi) (h : List Keying) →
+        KeysStandFor base own false keys.old h →
         OnOk result (KeysStandFor base own false keys.new
         (keys_with (key_taken (answered base kek.now h offer)) h)) }
 {
@@ -860,8 +881,8 @@ fn take(
     }
 }
 
-/// The latest key begins, where the elected server says in a vouched announcement that it transmits under
-/// it.
+/// The latest key begins, where the elected server says in a vouched announcement that it transmits
+/// under it.
 fn follow(
     alloc: Global,
     keys: &mut KeyState,
@@ -869,9 +890,12 @@ fn follow(
     server: Option<Mi>,
     announcement: &Announcement,
 ) -> Result<Changes, AllocError>
-    ensures changes { (base : ℕ) (own : Mi) (h : List Keying) → KeysStandFor base own false keys.old h →
-        IfOk result (λ c. c ≡ (beginning h (followed_by outcome server announcement.now h)).changes) }
-    ensures stands { (base : ℕ) (own : Mi) (h : List Keying) → KeysStandFor base own false keys.old h →
+    ensures changes { (base : ℕ) (own : Mi) (h : List Keying) →
+        KeysStandFor base own false keys.old h →
+        IfOk result (λ c. c
+        ≡ (beginning h (followed_by outcome server announcement.now h)).changes) }
+    ensures stands { (base : ℕ) (own : Mi) (h : List Keying) →
+        KeysStandFor base own false keys.old h →
         OnOk result (KeysStandFor base own false keys.new
         (beginning h (followed_by outcome server announcement.now h)).past) }
 {

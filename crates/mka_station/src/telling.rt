@@ -100,7 +100,8 @@ fn first_recent(peers: &PeerTable, numbers: &[u32]) -> Option<u32>
     None
 }
 
-/// Whether one of these pairs names a member under a number that was sent less than the life time ago.
+/// Whether one of these pairs names a member under a number that was sent less than the life time
+/// ago.
 pub fn is_listed(mi: &Mi, peers: &PeerTable, pairs: &[Peer]) -> bool
     ensures { (own : Own) (h : List Peering) → StandsFor own peers.now h →
         result ≡ list_any (λ peer. same_mi peer.mi mi.now && recent h peer.mn) pairs.now }

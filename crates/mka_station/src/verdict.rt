@@ -3,10 +3,12 @@
 use mkpdu_codec::Refusal;
 use peer_lists::{DropReason, Outcome};
 
-/// What hearing a frame comes to: it is accepted, or dropped for the first of the reasons that hold.
+/// What hearing a frame comes to: it is accepted, or dropped for the first of the reasons that
+/// hold.
 #[derive(Clone, Copy, Debug, PartialEq, Eq)]
 pub enum Verdict {
-    /// Accepted, and it lists the station under a message number that it sent less than the life time ago.
+    /// Accepted, and it lists the station under a message number that it sent less than the life
+    /// time ago.
     Vouched,
     /// Accepted only.
     Unvouched,
@@ -26,8 +28,8 @@ pub enum Verdict {
     Check,
     /// Its member identifier or its SCI is the station's own.
     Echo,
-    /// The last accepted announcement of its member is younger than the life time and has the number
-    /// `kept`, which is not less than its own.
+    /// The last accepted announcement of its member is younger than the life time and has the
+    /// number `kept`, which is not less than its own.
     OldNumber { kept: u32 },
     /// As many other members as are remembered are known, and its own is not.
     PeersFull,

@@ -86,7 +86,8 @@ impl PeerTable {
 
     /// The number that the life sent last, 0 before the first.
     pub fn last_sent(&self) -> u32
-        ensures { (own : Own) (h : List Peering) → StandsFor own self.now h →
+        ensures value { result ≡ self.now.sent.last }
+        ensures counted { (own : Own) (h : List Peering) → StandsFor own self.now h →
             result ≡ last_sent_in h }
     {
         self.sent.last

@@ -31,10 +31,13 @@ abbrev pub begun_past : Member → List Entry → List Entry
 begun_past m p = with_beginning (led m (view m (ticked ∷ p))) (ticked ∷ p)
 
 abbrev pub ticked_past : Member → Seen → Secret → List Entry → List Entry
-ticked_past m seen any p = with_install (roster_at m p) (made m (view m (ticked ∷ p)) seen any) (begun_past m p)
+ticked_past m seen any p =
+    with_install (roster_at m p) (made m (view m (ticked ∷ p)) seen any) (begun_past m p)
 
 abbrev pub says_at : Member → Seen → Secret → List Entry → Option Announcement
-says_at m seen any p = says_now m (lowest_in seen (view m p).keys) (ticked_past m seen any p) (view m (ticked_past m seen any p))
+says_at m seen any p =
+    says_now m (lowest_in seen (view m p).keys) (ticked_past m seen any p)
+    (view m (ticked_past m seen any p))
 
 -- the stages of a hearing
 abbrev pub offer_at : Member → Announcement → List Entry → Option Offer
@@ -53,12 +56,15 @@ abbrev pub heard_past : Member → Announcement → List Entry → List Entry
 heard_past m a p = with_beginning (follow_at m a p) (taken_past m a p)
 
 -- what the code has after a tick is what the turn leaves
-pub record IsTicked (m : Member) (p : List Entry) (seen : Seen) (any : Secret) (s : State) (t : Ticked) : Type 0 where
+pub record IsTicked (m : Member) (p : List Entry) (seen : Seen) (any : Secret) (s : State)
+    (t : Ticked) : Type 0 where
   pub reaction : t.reaction ≡ (tick_turn m seen any p).reaction
-  pub shown : t.shown ≡ shown_by s.coming.rows s.coming.server (keys_of m (ticked_past m seen any p))
+  pub shown : t.shown ≡ shown_by s.coming.rows s.coming.server
+      (keys_of m (ticked_past m seen any p))
   pub announced : is_some t.reaction.sent ≡ is_some (says_at m seen any p)
   pub server : t.next.server ≡ s.coming.server
-  pub peers : PeersStandFor (own m) t.next.peers (peers_with (says_at m seen any p) (peers_ticked ∷ peers_of m p))
+  pub peers : PeersStandFor (own m) t.next.peers
+      (peers_with (says_at m seen any p) (peers_ticked ∷ peers_of m p))
   pub keys : KeysStandFor m.base m.mi false t.next.keys (keys_of m (ticked_past m seen any p))
   pub coming : Comes m (with_sent (says_at m seen any p) (ticked_past m seen any p)) t.next.coming
 

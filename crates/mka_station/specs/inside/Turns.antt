@@ -6,7 +6,8 @@ use Rattle.mkpdu_codec.specs.Reading.{reading}
 use Rattle.mka_station.specs.declared.verdict.Verdict.{Verdict}
 use Rattle.mka_station.specs.declared.verdict.Verdict.TheVariants.{CkName, Check}
 use Rattle.mka_station.specs.Lives.{Setup}
-use Rattle.std.specs.Prelude.{◌≡◌, nat_eq, not, Err, ℕ, Bool, true, false, cond, ◌&&◌, List, ◌∷◌, Option, Some, None, option_map, option_and_then, Result, IsTrue}
+use Rattle.std.specs.Prelude.{◌≡◌, nat_eq, not, Err, ℕ, Bool, true, false, cond, ◌&&◌, List, ◌∷◌}
+use Rattle.std.specs.Prelude.{Option, Some, None, option_map, option_and_then, Result, IsTrue}
 use Rattle.std.specs.List.{list_any}
 use Rattle.lan_base.specs.declared.address.Mi.{Mi}
 use Rattle.lan_base.specs.Identifiers.{same_mi}
@@ -30,7 +31,8 @@ use Rattle.mka_station.specs.Standing.{State}
 use Rattle.mka_station.specs.inside.Due.{is_due_after, one_later}
 use Rattle.mka_station.specs.inside.Saying.{lowest_by, given_after, announced_by}
 use Rattle.sak_exchange.specs.declared.change.Change.{Change}
-use Rattle.sak_exchange.specs.declared.change.Change.TheVariants.{Dropped, Retired, Began, Installed, Untaken}
+use Rattle.sak_exchange.specs.declared.change.Change.TheVariants.{Dropped, Retired, Began}
+use Rattle.sak_exchange.specs.declared.change.Change.TheVariants.{Installed, Untaken}
 
 -- whether a change is an install
 abbrev pub is_install : Change → Bool
@@ -40,11 +42,13 @@ is_install (Began k cause) = false
 is_install (Installed k) = true
 is_install (Untaken id why) = false
 
--- what a station says that shows this, given the lowest acceptable packet numbers and the history of its keys
+-- what a station says that shows this, given the lowest acceptable packet numbers and the history
+-- of its keys
 abbrev pub said_by : State → Shown → ℕ → Lowest → List Keying → Option Announcement
 said_by s shown mn lowest h =
     cond (is_due_after s.spoken shown)
-    (Some (announced_by s mn (uses_of (λ k. lowest_by lowest k.id) h) (given_after s.setup.kek (is_server s.coming.server s.mi) s.coming.reports h))) None
+    (Some (announced_by s mn (uses_of (λ k. lowest_by lowest k.id) h)
+    (given_after s.setup.kek (is_server s.coming.server s.mi) s.coming.reports h))) None
 
 -- the history of the peer lists, with an announcement where one is sent
 abbrev pub peers_with : Option Announcement → List Peering → List Peering
@@ -54,7 +58,12 @@ peers_with (Some a) h = sent a.mn ∷ h
 -- what is offered by an announcement that came to this
 abbrev pub offered_by : Outcome → List Peering → Mi → Option Mi → Announcement → Option Offer
 offered_by o h mi server a =
-    cond (is_accepted o) (option_map (λ g. record { given = g; server = a.mi; listed = list_any (λ peer. same_mi peer.mi mi && recent h peer.mn) a.live; elected = is_server server a.mi }) a.given) None
+    cond (is_accepted o) (option_map (λ g. record {
+      given = g;
+      server = a.mi;
+      listed = list_any (λ peer. same_mi peer.mi mi && recent h peer.mn) a.live;
+      elected = is_server server a.mi;
+    }) a.given) None
 
 -- what an offer comes to
 abbrev pub answered : ℕ → List ℕ → List Keying → Option Offer → Option (Result Key Why)
@@ -67,7 +76,8 @@ keys_with (Some k) h = installed None k ∷ h
 
 -- the key that begins as a station follows its server
 abbrev pub followed_by : Outcome → Option Mi → Announcement → List Keying → Option Beginning
-followed_by o server a h = cond (is_vouched o && is_server server a.mi) (option_and_then (follows h) a.uses) None
+followed_by o server a h =
+    cond (is_vouched o && is_server server a.mi) (option_and_then (follows h) a.uses) None
 
 -- a key that was made, where one was
 abbrev pub made_by : ℕ → Mi → List Keying → Bool → Option Secret → Option Key
@@ -97,7 +107,8 @@ IsDue (Some sak) due = IsTrue due
 -- why an announcement that octets spell is not of the group, if it is not
 abbrev pub fault_of : Setup → Announcement → List ℕ → List ℕ → Option Verdict
 fault_of setup a covered check =
-    cond (not (pointwise nat_eq a.ckn setup.ckn)) (Some CkName) (cond (not (pointwise nat_eq check (cmac setup.ick covered))) (Some Check) None)
+    cond (not (pointwise nat_eq a.ckn setup.ckn)) (Some CkName)
+    (cond (not (pointwise nat_eq check (cmac setup.ick covered))) (Some Check) None)
 
 -- a frame is refused in reading, and this is why
 abbrev pub IsRefused : List ℕ → Verdict → Type 0
