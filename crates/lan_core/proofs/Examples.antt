@@ -31,7 +31,7 @@ use Rattle.lan_core.specs.Run.{Run, Happening, happened, stations, facts_of}
 use Rattle.lan_core.specs.Ledgers.{air, births, installs, claims}
 use Rattle.lan_core.specs.Lives.{life, receiving}
 use Rattle.lan_core.specs.Claims.{next, a_claim, claimed, waiting_under}
-use Rattle.lan_core.specs.Expected.{expected, claim_fact}
+use Rattle.lan_core.specs.Expected.{expected, drawn_in, claim_fact}
 use Rattle.lan_core.specs.Order.{settled}
 use Rattle.lan_core.specs.Legal.{is_excuse, unused}
 use Rattle.lan_core.specs.Fresh.{drawn_mis, drawn_saks}
@@ -68,7 +68,7 @@ unfoldable pub play : List Move → Run
 play [] = []
 play (m ∷ ms) =
     let r = play ms in
-    happened m.event (unwrap_or (expected settings [] r m.event m.draws) []) ∷ r
+    happened m.event (unwrap_or (expected settings [] r m.event (drawn_in m.draws)) []) ∷ r
 
 abbrev pub starts : ℕ → ℕ → ℕ → Move
 starts s name n = record {
@@ -100,16 +100,16 @@ unfolding opens play
 first_round = refl
 
 -- a start that draws nothing shows nothing that is right
-start_needs_a_draw : expected settings [] [] (events.Start (65 ∷ []) (sci 10) 16) [] ≡ None
+start_needs_a_draw : expected settings [] [] (events.Start (65 ∷ []) (sci 10) 16) (drawn_in []) ≡ None
 unfolding opens
 start_needs_a_draw = refl
 
 -- nothing waits, and no frame has this number
-nothing_waits : expected settings [] (play two) events.Emit [] ≡ None
+nothing_waits : expected settings [] (play two) events.Emit (drawn_in []) ≡ None
 unfolding opens play
 nothing_waits = refl
 
-no_frame : expected settings [] (play two) (events.Deliver 1 1) [] ≡ None
+no_frame : expected settings [] (play two) (events.Deliver 1 1) (drawn_in []) ≡ None
 unfolding opens play
 no_frame = refl
 

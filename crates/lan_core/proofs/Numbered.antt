@@ -24,29 +24,29 @@ use Rattle.lan_core.specs.declared.fact.Fact.TheVariants as facts
 use Rattle.lan_core.specs.declared.settings.Settings.{Settings}
 use Rattle.lan_core.specs.Run.{Run, stations}
 use Rattle.lan_core.specs.Ledgers.{Frame, framed, gather, air, next_frame, frame_at, AreNumbered}
-use Rattle.lan_core.specs.Lives.{Life, life, receiving, turn_at_tick, transmitting_at, drawn_mi, sak_in}
+use Rattle.lan_core.specs.Lives.{Life, life, receiving, turn_at_tick, transmitting_at}
 use Rattle.lan_core.specs.Claims.{waiting, frame_of_claim}
 use Rattle.lan_core.specs.Expected.{change_fact, reaction_facts, tick_facts, reached_facts, restart_facts}
-use Rattle.lan_core.specs.Expected.{claim_fact, number_fact, lack, emit_facts, expected}
+use Rattle.lan_core.specs.Expected.{claim_fact, number_fact, lack, emit_facts, expected, drawn_in, Drawn}
 use Rattle.lan_core.specs.Legal.{IsStepped}
 use Rattle.sak_exchange.specs.Histories.{Key}
 use Rattle.std.specs.Prelude.{◌==◌}
 
 -- ---- options
 
-mapped : {A B : Type 0} (f : A → B) (o : Option A) (b : B) → option_map f o ≡ Some b
+pub mapped : {A B : Type 0} (f : A → B) (o : Option A) (b : B) → option_map f o ≡ Some b
     → (a : A) × (o ≡ Some a) × (f a ≡ b)
 mapped f None b is = absurd (cc is)
 mapped f (Some a) b is = (a, refl, cc is)
 
-chained : {A B : Type 0} (f : A → Option B) (o : Option A) (b : B) → option_and_then f o ≡ Some b
+pub chained : {A B : Type 0} (f : A → Option B) (o : Option A) (b : B) → option_and_then f o ≡ Some b
     → (a : A) × (o ≡ Some a) × (f a ≡ Some b)
 chained f None b is = absurd (cc is)
 chained f (Some a) b is = (a, refl, is)
 
 -- ---- facts that put nothing on the air
 
-appended : (before later : List Fact) (fs : List Frame)
+pub appended : (before later : List Fact) (fs : List Frame)
     → gather framed (before ++ later) fs ≡ gather framed later (gather framed before fs)
 appended [] later fs = refl
 appended (facts.Framed number station sec octets ∷ before) later fs =
@@ -54,17 +54,17 @@ appended (facts.Framed number station sec octets ∷ before) later fs =
     appended before later (frame ∷ fs)
 appended (fact ∷ before) later fs = appended before later fs
 
-by_verdict : (s heard : ℕ) (v : Option Verdict) (fs : List Frame)
+pub by_verdict : (s heard : ℕ) (v : Option Verdict) (fs : List Frame)
     → gather framed (option_to_list (option_map (λ v. facts.HeardMka heard s v) v)) fs ≡ fs
 by_verdict s heard None fs = refl
 by_verdict s heard (Some v) fs = refl
 
-by_server : (s : ℕ) (server : Option (Option Mi)) (fs : List Frame)
+pub by_server : (s : ℕ) (server : Option (Option Mi)) (fs : List Frame)
     → gather framed (option_to_list (option_map (λ m. facts.Server s m) server)) fs ≡ fs
 by_server s None fs = refl
 by_server s (Some server) fs = refl
 
-by_changes : (s : ℕ) (cs : List Change) (fs : List Frame)
+pub by_changes : (s : ℕ) (cs : List Change) (fs : List Frame)
     → gather framed (map (change_fact s) cs) fs ≡ fs
 by_changes s [] fs = refl
 by_changes s (changes.Dropped k ∷ cs) fs = by_changes s cs fs
@@ -142,18 +142,18 @@ by_claim settings s r pn k fs are = go (pn == 0)
     go true = are
     go false = by_number s pn k fs are
 
-by_event : (settings : Settings) (users : List UserFrame) (r : Run) (e : Event) (shown : List Fact)
-    → expected settings users r e shown ≡ Some shown → Numbers (air r) shown
+pub by_event : (settings : Settings) (users : List UserFrame) (r : Run) (e : Event) (drawn : Drawn)
+    (shown : List Fact) → expected settings users r e drawn ≡ Some shown → Numbers (air r) shown
 unfolding expected
-by_event settings users r (events.Start name sci priority) shown is are =
-    let found = mapped (λ mi. facts.Life (length (stations r)) mi ∷ []) (drawn_mi shown) shown is in
+by_event settings users r (events.Start name sci priority) drawn shown is are =
+    let found = mapped (λ mi. facts.Life (length (stations r)) mi ∷ []) drawn.mi shown is in
     subst (λ shown. AreNumbered (gather framed shown (air r))) found.2 are
-by_event settings users r (events.Tick s next) shown is are =
-    let found = mapped (tick_facts settings s r next (sak_in shown)) (life settings s r) shown is in
-    let turn = turn_at_tick settings s r found.0 next (sak_in shown) in
+by_event settings users r (events.Tick s next) drawn shown is are =
+    let found = mapped (tick_facts settings s r next drawn.sak) (life settings s r) shown is in
+    let turn = turn_at_tick settings s r found.0 next drawn.sak in
     subst (λ shown. AreNumbered (gather framed shown (air r))) found.2
     (by_reaction s 0 (next_frame r) turn.reaction (air r) (λ octets sent. refl) are)
-by_event settings users r (events.Deliver frame s) shown is are =
+by_event settings users r (events.Deliver frame s) drawn shown is are =
     let at = chained
     (λ f. option_map (reached_facts settings s r frame f.octets) (life settings s r))
     (frame_at r frame) shown is in
@@ -161,27 +161,27 @@ by_event settings users r (events.Deliver frame s) shown is are =
     mapped (reached_facts settings s r frame at.0.octets) (life settings s r) shown at.2 in
     subst (λ shown. AreNumbered (gather framed shown (air r))) found.2
     (by_reached settings s r frame at.0.octets found.0 (air r) are)
-by_event settings users r (events.Restart s) shown is are =
-    let drawn =
-    chained (λ mi. option_map (restart_facts s mi) (life settings s r)) (drawn_mi shown) shown is in
-    let found = mapped (restart_facts s drawn.0) (life settings s r) shown drawn.2 in
+by_event settings users r (events.Restart s) drawn shown is are =
+    let mi =
+    chained (λ mi. option_map (restart_facts s mi) (life settings s r)) drawn.mi shown is in
+    let found = mapped (restart_facts s mi.0) (life settings s r) shown mi.2 in
     let l = found.0 in
     subst (λ shown. AreNumbered (gather framed shown (air r))) found.2
     (by_reaction s 0 0 (ending l.member l.past) (air r)
     (λ octets sent. absurd (ends_silently l.member l.past octets sent)) are)
-by_event settings users r (events.Claim s user pn) shown is are =
+by_event settings users r (events.Claim s user pn) drawn shown is are =
     let found =
     mapped (λ l. claim_fact settings s r pn (transmitting_at settings s r) ∷ [])
     (life settings s r) shown is in
     subst (λ shown. AreNumbered (gather framed shown (air r))) found.2
     (by_claim settings s r pn (transmitting_at settings s r) (air r) are)
-by_event settings users r events.Emit shown is are =
+by_event settings users r events.Emit drawn shown is are =
     let w = chained (emit_facts users r) (waiting settings r) shown is in
     let found =
     mapped (λ octets. facts.Framed (next_frame r) w.0.station true octets ∷ [])
     (frame_of_claim users r w.0) shown w.2 in
     subst (λ shown. AreNumbered (gather framed shown (air r))) found.2 (refl, are)
-by_event settings users r (events.Inject s octets) shown is are =
+by_event settings users r (events.Inject s octets) drawn shown is are =
     let found = mapped (reached_facts settings s r 0 octets) (life settings s r) shown is in
     subst (λ shown. AreNumbered (gather framed shown (air r))) found.2
     (by_reached settings s r 0 octets found.0 (air r) are)
@@ -191,7 +191,7 @@ pub air-numbered : (settings : Settings) (users : List UserFrame) (r : Run)
 unfolding air
 air-numbered settings users [] stepped = tt
 air-numbered settings users (x ∷ r) (step, before) =
-    by_event settings users r x.event x.facts step.shows (air-numbered settings users r before)
+    by_event settings users r x.event (drawn_in x.facts) x.facts step.shows (air-numbered settings users r before)
 
 -- ---- frames by their numbers
 

@@ -4,7 +4,7 @@ use Rattle.std.proofs.Common.{◌≡◌, ◌≢◌, ◌<◌, ◌≤◌, ℕ, tru
 use Rattle.std.proofs.Common.{inl, ap, refl, arith}
 use Rattle.std.proofs.lemmas.List.Elements.{All-nil, All-cons}
 use Rattle.std.proofs.lemmas.Bool.{and_parts, ltb-true}
-use Rattle.std.specs.Prelude.{nat_lt, slice_index}
+use Rattle.std.specs.Prelude.{nat_lt, slice_index, replicate}
 use Rattle.std.specs.List.{list_all}
 use Rattle.lan_base.specs.declared.address.Sci.{Sci}
 use Rattle.peer_lists.specs.Acceptance.{refusal, accepted, outcome}
@@ -28,7 +28,7 @@ use Rattle.lan_core.specs.Lives.{life, receiving}
 use Rattle.lan_core.specs.Claims.{next, claimed}
 use Rattle.lan_core.specs.Expected.{expected}
 use Rattle.lan_core.specs.Order.{IsWithin, ticks, most_ticks, most_stations}
-use Rattle.lan_core.specs.Types.{IsMi}
+use Rattle.lan_core.specs.Types.{IsMi, IsSetting}
 use Rattle.lan_core.specs.Legal.{IsStep, IsLegal}
 use Rattle.lan_core.specs.Fresh.{IsFresh, IsUnforged, drawn_saks}
 use Rattle.lan_core.proofs.Examples.{headed, mi, sci, settings}
@@ -48,7 +48,7 @@ silent r quiet keyless few some = record {
   stations = some;
 }
 
-octets_of : (octets : List ℕ) → list_all (λ octet. nat_lt octet 256) octets ≡ true
+pub octets_of : (octets : List ℕ) → list_all (λ octet. nat_lt octet 256) octets ≡ true
     → All (λ octet. octet < 256) octets
 octets_of [] are = All-nil (λ octet. octet < 256)
 octets_of (octet ∷ others) are =
@@ -75,7 +75,7 @@ restarted = happened (events.Restart 1) (facts.Life 1 (mi 3) ∷ [])
 abbrev pub run : Run
 run = restarted ∷ injected ∷ refused ∷ second ∷ first ∷ []
 
-sci_is : (n : ℕ) → nat_lt n 256 ≡ true → IsSci (sci n)
+pub sci_is : (n : ℕ) → nat_lt n 256 ≡ true → IsSci (sci n)
 sci_is n small = record { count = refl; octets = octets_of (sci n).0 (rw small refl) }
 
 mi_is : (n : ℕ) → nat_lt n 256 ≡ true → IsMi (mi n)
@@ -90,6 +90,16 @@ mis_differ m n differ same = differ (ap (λ mi. slice_index mi.0 11) same)
 scis_differ : (m n : ℕ) → m ≢ n → sci m ≢ sci n
 scis_differ m n differ same = differ (ap (λ sci. slice_index sci.0 5) same)
 
+pub setting : IsSetting settings
+setting = record {
+  cak = (refl, octets_of (replicate 16 0) refl);
+  ckn = (omega arith, omega arith);
+  name_octets = octets_of settings.ckn refl;
+  window = omega arith;
+  rekey = omega arith;
+  suite = inl refl;
+}
+
 -- a station of another name and SCI
 abbrev IsOther : List ℕ → Sci → Profile → Type 0
 IsOther name sci p = (p.name ≢ name) × (p.sci ≢ sci)
@@ -103,6 +113,7 @@ alice_is_other = (names_differ 65 66 (λ same. omega arith), scis_differ 10 11 (
 first_steps : IsStep settings [] first []
 unfolding opens
 first_steps = record {
+  setting = setting;
   in_order = (
     (search, sci_is 10 refl, omega arith),
     (All-nil (IsOther (65 ∷ []) (sci 10)), mi_is 1 refl),
@@ -114,6 +125,7 @@ first_steps = record {
 second_steps : IsStep settings [] second (first ∷ [])
 unfolding opens
 second_steps = record {
+  setting = setting;
   in_order = (
     (search, sci_is 11 refl, omega arith),
     (
@@ -129,6 +141,7 @@ second_steps = record {
 refused_steps : IsStep settings [] refused (second ∷ first ∷ [])
 unfolding opens
 refused_steps = record {
+  setting = setting;
   in_order = ((omega arith, omega arith, omega arith), (omega arith, inl refl));
   shows = refl;
   within = silent (refused ∷ second ∷ first ∷ []) refl refl (omega arith) (omega arith);
@@ -137,6 +150,7 @@ refused_steps = record {
 injected_steps : IsStep settings [] injected (refused ∷ second ∷ first ∷ [])
 unfolding opens
 injected_steps = record {
+  setting = setting;
   in_order = ((omega arith, octets_of (headed 0) refl), (omega arith, omega arith));
   shows = refl;
   within = silent (injected ∷ refused ∷ second ∷ first ∷ []) refl refl (omega arith) (omega arith);
@@ -145,6 +159,7 @@ injected_steps = record {
 restarted_steps : IsStep settings [] restarted (injected ∷ refused ∷ second ∷ first ∷ [])
 unfolding opens
 restarted_steps = record {
+  setting = setting;
   in_order = (omega arith, (omega arith, mi_is 3 refl));
   shows = refl;
   within = silent run refl refl (omega arith) (omega arith);

@@ -13,7 +13,7 @@ use Rattle.lan_core.specs.declared.settings.Settings.{Settings}
 use Rattle.lan_core.specs.Run.{Run, Profile, started, stations}
 use Rattle.lan_core.specs.Lives.{Life, life, life_after, lived_reached, lived_hearing, lived_ticking}
 use Rattle.lan_core.specs.Lives.{begun, reaches, drawn_mi, sak_in}
-use Rattle.lan_core.specs.Expected.{expected, restart_facts}
+use Rattle.lan_core.specs.Expected.{expected, drawn_in, restart_facts}
 use Rattle.lan_core.specs.Order.{Exists}
 use Rattle.lan_core.specs.Legal.{IsStepped}
 
@@ -66,7 +66,7 @@ no_more : (s : ℕ) (ps : List Profile) → s < length (ps ++ []) → s < length
 no_more s ps less = let count = length-append ps [] in omega arith
 
 after : (settings : Settings) (users : List UserFrame) (s : ℕ) (r : Run) (shown : List Fact)
-    (e : Event) (l : Option Life) → expected settings users r e shown ≡ Some shown
+    (e : Event) (l : Option Life) → expected settings users r e (drawn_in shown) ≡ Some shown
     → s < length (stations r ++ started e) → (s < length (stations r) → is_some l ≡ true)
     → is_some (life_after settings s r shown e l) ≡ true
 unfolding expected

@@ -26,7 +26,24 @@ use Rattle.lan_core.specs.Run.{Run, stations}
 use Rattle.lan_core.specs.Ledgers.{next_frame, frame_at}
 use Rattle.lan_core.specs.Lives.{Life, life, receiving, turn_at_tick, transmitting_at}
 use Rattle.lan_core.specs.Lives.{drawn_mi, sak_in}
+use Rattle.mka_station.specs.Standing.{drawn_mi as mi_of_draw}
+use Rattle.mka_station.specs.Drawing.{sak_of}
 use Rattle.lan_core.specs.Claims.{next, waiting, Waiting, frame_of_claim}
+
+-- ---- what an event drew
+
+-- a member identifier, and a SAK where a key is made
+pub record Drawn : Type 0 where
+  pub mi : Option Mi
+  pub sak : Secret
+
+-- by the facts that it showed
+abbrev pub drawn_in : List Fact → Drawn
+drawn_in facts = record { mi = drawn_mi facts; sak = sak_in facts }
+
+-- by what a supply gives next, from its place 0 on
+abbrev pub drawn_from : ℕ → (ℕ → Option (List ℕ)) → Drawn
+drawn_from suite nth = record { mi = option_map mi_of_draw (nth 0); sak = sak_of suite nth }
 
 -- ---- a station's reaction as facts
 
@@ -94,22 +111,22 @@ emit_facts users r w =
     option_map (λ octets. facts.Framed (next_frame r) w.station true octets ∷ [])
     (frame_of_claim users r w)
 
--- What an event has to show after a run. What it drew is read from the facts that it showed.
-unfoldable pub expected : Settings → List UserFrame → Run → Event → List Fact → Option (List Fact)
-expected settings users r (events.Start name sci priority) shown =
-    option_map (λ mi. facts.Life (length (stations r)) mi ∷ []) (drawn_mi shown)
-expected settings users r (events.Tick s next) shown =
-    option_map (tick_facts settings s r next (sak_in shown)) (life settings s r)
-expected settings users r (events.Deliver frame s) shown =
+-- What an event has to show after a run, given what it drew.
+unfoldable pub expected : Settings → List UserFrame → Run → Event → Drawn → Option (List Fact)
+expected settings users r (events.Start name sci priority) drawn =
+    option_map (λ mi. facts.Life (length (stations r)) mi ∷ []) drawn.mi
+expected settings users r (events.Tick s next) drawn =
+    option_map (tick_facts settings s r next drawn.sak) (life settings s r)
+expected settings users r (events.Deliver frame s) drawn =
     option_and_then
     (λ f. option_map (reached_facts settings s r frame f.octets) (life settings s r))
     (frame_at r frame)
-expected settings users r (events.Restart s) shown =
-    option_and_then (λ mi. option_map (restart_facts s mi) (life settings s r)) (drawn_mi shown)
-expected settings users r (events.Claim s user pn) shown =
+expected settings users r (events.Restart s) drawn =
+    option_and_then (λ mi. option_map (restart_facts s mi) (life settings s r)) drawn.mi
+expected settings users r (events.Claim s user pn) drawn =
     option_map (λ l. claim_fact settings s r pn (transmitting_at settings s r) ∷ [])
     (life settings s r)
-expected settings users r events.Emit shown =
+expected settings users r events.Emit drawn =
     option_and_then (emit_facts users r) (waiting settings r)
-expected settings users r (events.Inject s octets) shown =
+expected settings users r (events.Inject s octets) drawn =
     option_map (reached_facts settings s r 0 octets) (life settings s r)

@@ -13,15 +13,17 @@ use Rattle.lan_core.specs.Run.{Run, Happening}
 use Rattle.lan_core.specs.Ledgers.{Claim, claims}
 use Rattle.lan_core.specs.Lives.{transmitting_at}
 use Rattle.lan_core.specs.Claims.{next}
-use Rattle.lan_core.specs.Expected.{expected}
+use Rattle.lan_core.specs.Expected.{expected, drawn_in}
+use Rattle.lan_core.specs.Types.{IsSetting}
 use Rattle.lan_core.specs.Order.{IsWithin, IsInOrder, is_event_of}
 
--- one event more: it is in order, it shows exactly what it has to, and the run stays within the
--- limits
+-- one event more, in a group that may be set up so: it is in order, it shows exactly what it has to,
+-- and the run stays within the limits
 pub record IsStep (settings : Settings) (users : List UserFrame) (x : Happening) (r : Run) :
     Type 0 where
+  pub setting : IsSetting settings
   pub in_order : IsInOrder settings users r x
-  pub shows : expected settings users r x.event x.facts ≡ Some x.facts
+  pub shows : expected settings users r x.event (drawn_in x.facts) ≡ Some x.facts
   pub within : IsWithin (x ∷ r)
 
 -- a stepped run: each of its events is such a step after those before it

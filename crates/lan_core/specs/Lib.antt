@@ -9,3 +9,8 @@ pub mod Types
 pub mod Order
 pub mod Legal
 pub mod Fresh
+pub mod Keys
+pub mod Stops
+pub mod Unstopped
+pub mod Standing
+pub mod inside

@@ -1,8 +1,10 @@
 //! Laws of runs.
 
-ghost use Rattle.std.specs.Prelude.{◌≡◌, ◌↔◌, ◌<◌, ◌≤◌, ◌++◌, ◌∷◌, ℕ, List, length, IsTrue, true, false, Some, is_some};
+ghost use Rattle.std.specs.Prelude.{◌≡◌, ◌↔◌, ◌<◌, ◌≤◌, ◌++◌, ◌∷◌, ℕ, List, length, IsTrue};
+ghost use Rattle.std.specs.Prelude.{true, false, Option, Some, is_some};
 ghost use Rattle.lan_base.specs.declared.frame.UserFrame.{UserFrame};
 ghost use Rattle.sak_exchange.specs.Histories.{Key};
+ghost use Rattle.lan_core.specs.declared.event.Event.{Event};
 ghost use Rattle.lan_core.specs.declared.event.Event.TheVariants as events;
 ghost use Rattle.lan_core.specs.declared.fact.Fact.{Fact};
 ghost use Rattle.lan_core.specs.declared.settings.Settings.{Settings};
@@ -12,8 +14,10 @@ ghost use Rattle.lan_core.specs.Lives.{life, transmitting_at};
 ghost use Rattle.lan_core.specs.Claims.{next, a_claim};
 ghost use Rattle.lan_core.specs.Order.{Exists, is_event_of};
 ghost use Rattle.lan_core.specs.Legal.{IsStep, IsStepped, IsLegal, Ahead, none_ahead};
-ghost use Rattle.lan_core.specs.Legal.{is_excused_by, IsExcused, IsExcusedBefore};
+ghost use Rattle.lan_core.specs.Legal.{is_excused_by, IsExcused, IsExcusedBefore, IsThrifty};
 ghost use Rattle.lan_core.specs.Fresh.{IsFresh, IsUnforged};
+ghost use Rattle.lan_core.specs.Unstopped.{IsUnstopped, LeavesNoneOut};
+ghost use Rattle.lan_core.specs.Standing.{State, StandsFor};
 
 /// A claim changes the life of no station, and neither does an emission.
 pub fn law_claims_and_emissions_change_no_life()
@@ -66,6 +70,48 @@ pub fn law_a_step_keeps_a_run_legal()
     ensures { (settings : Settings) (users : List UserFrame) (x : Happening) (r : Run)
         → IsLegal settings users r → IsStep settings users x r
         → is_excused_by settings r none_ahead x.facts ≡ true → IsLegal settings users (x ∷ r) }
+{}
+
+/// An unstopped event is a step.
+pub fn law_an_unstopped_event_is_a_step()
+    ensures { (settings : Settings) (users : List UserFrame) (r : Run) (given : Option UserFrame)
+        (event : Event) (nth : ℕ → Option (List ℕ)) (shown : List Fact)
+        → IsUnstopped settings users r given event nth shown
+        → IsStep settings users (happened event shown) r }
+{}
+
+/// A run that is legal, fresh or unforged stays so with an unstopped event.
+pub fn law_an_unstopped_event_keeps_a_run_sound()
+    ensures legal { (settings : Settings) (users : List UserFrame) (r : Run)
+        (given : Option UserFrame) (event : Event) (nth : ℕ → Option (List ℕ)) (shown : List Fact)
+        → IsUnstopped settings users r given event nth shown → IsLegal settings users r
+        → IsLegal settings users (happened event shown ∷ r) }
+    ensures fresh { (settings : Settings) (users : List UserFrame) (r : Run)
+        (given : Option UserFrame) (event : Event) (nth : ℕ → Option (List ℕ)) (shown : List Fact)
+        → IsUnstopped settings users r given event nth shown → IsStepped settings users r → IsFresh r
+        → IsFresh (happened event shown ∷ r) }
+    ensures unforged { (settings : Settings) (users : List UserFrame) (r : Run)
+        (given : Option UserFrame) (event : Event) (nth : ℕ → Option (List ℕ)) (shown : List Fact)
+        → IsUnstopped settings users r given event nth shown → IsUnforged settings r
+        → IsUnforged settings (happened event shown ∷ r) }
+{}
+
+/// A thrifty run stays so with a step that leaves no packet number out.
+pub fn law_next_numbers_keep_a_run_thrifty()
+    ensures { (settings : Settings) (users : List UserFrame) (x : Happening) (r : Run)
+        → IsStep settings users x r → LeavesNoneOut settings r x.event → IsThrifty settings r
+        → IsThrifty settings (x ∷ r) }
+{}
+
+/// More user frames behind those that are there change nothing of what was: a run stays stepped and
+/// legal, and a group stands for it as before.
+pub fn law_more_users_change_no_run()
+    ensures stepped { (settings : Settings) (users more : List UserFrame) (r : Run)
+        → IsStepped settings users r → IsStepped settings (users ++ more) r }
+    ensures legal { (settings : Settings) (users more : List UserFrame) (r : Run)
+        → IsLegal settings users r → IsLegal settings (users ++ more) r }
+    ensures stands { (settings : Settings) (users more : List UserFrame) (lan : State) (r : Run)
+        → StandsFor settings users lan r → StandsFor settings (users ++ more) lan r }
 {}
 
 /// The next packet number never falls.

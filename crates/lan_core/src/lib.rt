@@ -2,19 +2,39 @@
 //! is.
 #![tactic(auto)]
 
+mod air;
+mod came;
+mod drawn;
 mod event;
 mod fact;
+mod following;
+mod judging;
+mod lan;
 mod laws;
+mod limits;
+mod member;
+mod members;
 mod settings;
+mod spellings;
+mod stop;
+mod telling;
+mod waiting;
 
 pub use event::Event;
 pub use fact::{Fact, Facts, Lack};
+pub use lan::Lan;
 pub use laws::{
     law_a_claimed_number_is_passed, law_a_shown_number_is_kept, law_a_step_keeps_a_run_legal,
-    law_an_excused_run_stays_excused, law_claims_and_emissions_change_no_life,
+    law_an_excused_run_stays_excused, law_an_unstopped_event_is_a_step,
+    law_an_unstopped_event_keeps_a_run_sound, law_claims_and_emissions_change_no_life,
     law_each_number_has_its_frame, law_each_station_is_in_a_life,
     law_events_of_others_change_no_life, law_frames_are_numbered_in_order,
     law_fronts_of_fresh_runs_are_fresh, law_fronts_of_stepped_runs_are_stepped,
-    law_fronts_of_unforged_runs_are_unforged, law_the_next_number_never_falls,
+    law_fronts_of_unforged_runs_are_unforged, law_more_users_change_no_run,
+    law_next_numbers_keep_a_run_thrifty, law_the_next_number_never_falls,
 };
 pub use settings::Settings;
+pub use stop::{Stop, Which};
+
+#[cfg(test)]
+mod tests;

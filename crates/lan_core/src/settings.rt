@@ -1,5 +1,9 @@
 //! What holds for the whole group.
 
+ghost use Rattle.std.specs.Prelude.{◌≡◌, ◌<◌, ◌⊎◌, All};
+ghost use Rattle.lan_base.specs.Ranges.{IsCkn};
+ghost use Rattle.lan_core.specs.Types.{IsSecret, IsSetting};
+
 use aes_block::Secret;
 use lan_base::Octets;
 
@@ -19,3 +23,30 @@ pub struct Settings {
     /// How many bits the keys that are made have: 128 or 256.
     pub suite: u16,
 }
+
+/// What is set up lies in its types, where the name and the suite are what they may be. Nothing runs.
+pub(crate) fn law_types_are_kept(settings: &Settings)
+    requires ckn { IsCkn settings.now.ckn }
+    requires suite { (settings.now.suite ≡ 128) ⊎ (settings.now.suite ≡ 256) }
+    ensures { IsSetting settings.now }
+{
+    law_a_key_has_its_length(&settings.cak);
+    let _name = settings.ckn.as_slice();
+    let _window = settings.window;
+    let _rekey = settings.rekey;
+}
+
+/// A key has as many octets as its kind says. Nothing runs.
+fn law_a_key_has_its_length(secret: &Secret)
+    ensures { IsSecret secret.now }
+{
+    match secret {
+        Secret::S128(octets) => law_octets_are_small(octets),
+        Secret::S256(octets) => law_octets_are_small(octets),
+    }
+}
+
+/// Each octet is below 256. Nothing runs.
+fn law_octets_are_small(octets: &[u8])
+    ensures { All (λ octet. octet < 256) octets.now }
+{}

@@ -1,0 +1,131 @@
+-- Whether foreign octets are forged.
+use Rattle.std.proofs.Common.{◌≡◌, ◌<◌, ℕ, Bool, true, false, cond, List, [], ◌∷◌, ◌++◌, length}
+use Rattle.std.proofs.Common.{Option, Some, None, Result, Ok, Err, IfOk, refl, ap, sym, arith}
+use Rattle.std.specs.Prelude.{◌&&◌, ◌||◌, not, nat_eq, is_some, take}
+use Rattle.std.specs.List.{list_any}
+use Rattle.std.proofs.lemmas.List.Folds.{list_any-append}
+use lib.Pointwise.{pointwise}
+use Rattle.aes_cmac.specs.Cmac.{cmac}
+use Rattle.mkpdu_codec.specs.declared.announcement.Announcement.{Announcement}
+use Rattle.mkpdu_codec.specs.declared.refusal.Refusal.{Refusal}
+use Rattle.mkpdu_codec.specs.declared.spelled.Spelled.{Spelled}
+use Rattle.mkpdu_codec.specs.Reading.{reading}
+use Rattle.mka_station.specs.declared.verdict.Verdict.{Verdict}
+use Rattle.mka_station.specs.declared.verdict.Verdict.TheVariants as verdicts
+use Rattle.mka_station.specs.Lives.{Setup}
+use Rattle.mka_station.specs.Hearing.{judged, read_as, right}
+use Rattle.mka_kdf.specs.Kdf.{ick_of}
+use Rattle.aes_block.specs.Secrets.{secret_octets}
+use Rattle.lan_core.specs.declared.event.Event.TheVariants as events
+use Rattle.lan_core.specs.declared.settings.Settings.{Settings}
+use Rattle.lan_core.specs.declared.stop.Stop.{Stop}
+use Rattle.lan_core.specs.declared.stop.Stop.TheVariants.{Forged}
+use Rattle.lan_core.specs.Run.{Run, stations}
+use Rattle.lan_core.specs.Ledgers.{Frame, air}
+use Rattle.lan_core.specs.Lives.{setup_of}
+use Rattle.lan_core.specs.Order.{Exists}
+use Rattle.lan_core.specs.Fresh.{is_forged, is_right, repeats}
+use Rattle.lan_core.specs.Stops.{stop_of_forgery}
+use Rattle.lan_core.specs.Standing.{in_order}
+use Rattle.lan_core.specs.inside.Judging.{is_of_group}
+use Rattle.lan_core.specs.inside.Spellings.{repeats_octets}
+
+-- ---- right
+
+both : (a b : Bool) (an : Announcement)
+    → is_some (elim (cond (not a) (Err verdicts.CkName) (cond (not b) (Err verdicts.Check) (Ok an)))
+    [ Ok a ↦ Some a | Err v ↦ None ]) ≡ (a && b)
+both true true an = refl
+both true false an = refl
+both false b an = refl
+
+pub right-where : (setup : Setup) (octets : List ℕ) (s : Spelled) → reading octets ≡ Ok s
+    → is_some (right setup octets) ≡ is_of_group setup.ckn setup.ick octets s
+unfolding judged
+right-where setup octets s is =
+    cc (
+      ap (λ j. is_some (elim (read_as setup octets j) [ Ok a ↦ Some a | Err v ↦ None ])) is,
+      both (pointwise nat_eq s.announcement.ckn setup.ckn)
+          (pointwise nat_eq s.check (cmac setup.ick (take s.covered octets))) s.announcement,
+    )
+
+pub wrong-where : (setup : Setup) (octets : List ℕ) (e : Refusal) → reading octets ≡ Err e
+    → is_some (right setup octets) ≡ false
+unfolding judged
+wrong-where setup octets e is =
+    ap (λ j. is_some (elim (read_as setup octets j) [ Ok a ↦ Some a | Err v ↦ None ])) is
+
+pub refused-right : {E Q : Type 0} (setup : Setup) (octets : List ℕ) (refusal : Refusal) (result : Result Bool E)
+    → IfOk result (λ b. (b ≡ false) × Q) → (Q → reading octets ≡ Err refusal)
+    → IfOk result (λ b. b ≡ is_some (right setup octets))
+refused-right setup octets refusal (Ok b) is reads =
+    cc (is.0, wrong-where setup octets refusal (reads is.1))
+refused-right setup octets refusal (Err e) is reads = tt
+
+-- ---- forged
+
+or_false : (b : Bool) → (b || false) ≡ b
+or_false true = refl
+or_false false = refl
+
+or_self : (b : Bool) → (b || b) ≡ b
+or_self true = refl
+or_self false = refl
+
+any_same : {A : Type 0} (f : A → Bool) (b : Bool) → ((a : A) → f a ≡ b) → (xs : List A) → 0 < length xs
+    → list_any f xs ≡ b
+any_same f b each [] some = absurd (omega (arith, some))
+any_same f b each (x ∷ []) some = rw (each x) (or_false b)
+any_same f b each (x ∷ y ∷ ys) some = rw (each x, any_same f b each (y ∷ ys) (omega arith)) (or_self b)
+
+or_swap : (a b : Bool) → (a || (b || false)) ≡ (b || a)
+or_swap true true = refl
+or_swap true false = refl
+or_swap false true = refl
+or_swap false false = refl
+
+any_in_order : (f : List ℕ → Bool) (fs : List Frame)
+    → list_any f (in_order fs) ≡ list_any (λ frame. f frame.octets) fs
+any_in_order f [] = refl
+any_in_order f (frame ∷ fs) =
+    rw (list_any-append f (in_order fs) (frame.octets ∷ []), any_in_order f fs)
+    (or_swap (list_any (λ frame. f frame.octets) fs) (f frame.octets))
+
+pub forged-is : (settings : Settings) (r : Run) (s : ℕ) (octets : List ℕ) (lan : List (List ℕ)) (own : Bool)
+    → lan ≡ in_order (air r) → Exists s r
+    → ((setup : Setup) → setup.ckn ≡ settings.ckn → setup.ick ≡ ick_of (secret_octets settings.cak) settings.ckn
+    → own ≡ is_some (right setup octets))
+    → is_forged settings r octets ≡ (own && not (list_any (repeats_octets octets) lan))
+forged-is settings r s octets lan own put exists right_is =
+    let each = any_same (λ p. is_some (right (setup_of settings p) octets)) own
+    (λ p. sym (right_is (setup_of settings p) refl refl)) (stations r) (omega (arith, exists)) in
+    rw (put, any_in_order (repeats_octets octets) (air r), each) refl
+
+pub forgery-stops : (settings : Settings) (r : Run) (s : ℕ) (octets : List ℕ) (forged : Bool)
+    → is_forged settings r octets ≡ forged
+    → stop_of_forgery settings r (events.Inject s octets) ≡ cond forged (Some (Forged s)) None
+forgery-stops settings r s octets forged is = rw is refl
+
+pub are-forged : (forged own known : Bool) → forged ≡ (own && not known) → own ≡ true → known ≡ false
+    → forged ≡ true
+are-forged forged own known is right new = cc (is, go own known right new)
+  where
+    go : (own known : Bool) → own ≡ true → known ≡ false → (own && not known) ≡ true
+    go true true right new = absurd (cc new)
+    go true false right new = refl
+    go false known right new = absurd (cc right)
+
+pub not-right : (forged own known : Bool) → forged ≡ (own && not known) → own ≡ false → forged ≡ false
+not-right forged own known is wrong = cc (is, go own wrong)
+  where
+    go : (own : Bool) → own ≡ false → (own && not known) ≡ false
+    go true wrong = absurd (cc wrong)
+    go false wrong = refl
+
+pub not-new : (forged own known : Bool) → forged ≡ (own && not known) → known ≡ true → forged ≡ false
+not-new forged own known is old = cc (is, go own known old)
+  where
+    go : (own known : Bool) → known ≡ true → (own && not known) ≡ false
+    go true true old = refl
+    go true false old = absurd (cc old)
+    go false known old = refl

@@ -1,0 +1,18 @@
+-- The place of a name.
+use Rattle.std.proofs.Common.{◌≡◌, ◌<◌, ◌≤◌, ℕ, Bool, true, false, cond, List, length, get_or, Option, Some, None, refl, arith}
+use Rattle.std.specs.Prelude.{nat_eq, nat_lt}
+use Rattle.std.specs.List.{position, position_or_len}
+use Rattle.std.proofs.lemmas.Bool.{lt-ltb, le-ltb}
+use Rattle.std.proofs.lemmas.List.Sums.{position_or_len_is}
+
+pub placed : {A : Type 0} (p : A → Bool) (xs : List A) (i : ℕ) (d : A) → i < length xs
+    → ((k : ℕ) → k < i → p (get_or xs k d) ≡ false) → p (get_or xs i d) ≡ true → position p xs ≡ Some i
+placed p xs i d less none here =
+    let at = position_or_len_is p xs i d (omega (arith, less)) none (λ _. here) in
+    rw (at, lt-ltb i (length xs) less) refl
+
+pub nowhere : {A : Type 0} (p : A → Bool) (xs : List A) (d : A)
+    → ((k : ℕ) → k < length xs → p (get_or xs k d) ≡ false) → position p xs ≡ None
+nowhere p xs d none =
+    let at = position_or_len_is p xs (length xs) d (omega arith) none (λ less. absurd (omega (arith, less))) in
+    rw (at, le-ltb (length xs) (length xs) (omega arith)) refl

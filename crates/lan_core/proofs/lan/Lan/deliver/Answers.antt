@@ -1,0 +1,61 @@
+use Rattle.std.proofs.Common.{◌≡◌, ◌⊎◌, Some, None, refl, ap, sym, subst}
+use Rattle.std.specs.Option.{option_copied}
+use Rattle.lan_core.specs.declared.event.Event.TheVariants as events
+use Rattle.lan_core.specs.Standing.{StandsFor, octets_at}
+use Rattle.lan_core.specs.inside.Seats.{Reaches}
+use Rattle.lan_core.proofs.Reached.{reach-goes-on, reach-stops, or-none, delivered, place-of, no-frame, came-so, came-not}
+use Rattle.lan_core.proofs.Refused.{refused, by-part}
+use Rattle.lan_core.proofs.lan.Lan.deliver.Goals as goal
+
+pub returns-clause-answers : goal.returns-clause-answers
+returns-clause-answers c settings users r nth stands comes =
+    let s = c.args.station in
+    let n = c.args.frame in
+    let now = c.self.inside in
+    let new = c.reach.new.self in
+    let octets = c.in-Some.octets.now in
+    let st = subst (λ lan. StandsFor settings users lan r) (sym c.self.view_is) stands in
+    let at : octets_at now.air n ≡ Some octets =
+    cc (c.frame.ensures.frame, ap (λ o. option_copied o) c.in-Some.is) in
+    let place = place-of settings users r _ st s comes.0 in
+    let there = place.1.1 in
+    let reaches = came-so (Reaches settings r s there.seat there.alive n octets now.members new) c.in_ok-came.field-0
+    c.in-Some-2.came c.in-Some-2.is (c.in_ok-came.ensures settings r there.seat there.alive there.there there.seated.0) in
+    reach-goes-on settings users r _ st (events.Deliver n s) s n octets
+    (delivered settings users r _ st n s octets at) place.0 place.1.0 there new c.in-Some-2.came reaches nth
+    c.in_ok-judge_installs.ensures refl
+
+pub returns-in_default-clause-answers : goal.returns-in_default-clause-answers
+returns-in_default-clause-answers c settings users r nth stands comes =
+    let st = subst (λ lan. StandsFor settings users lan r) (sym c.self.view_is) stands in
+    absurd (no-frame settings users r _ st c.args.frame (sym c.in_default.ensures.frame) comes.1)
+
+pub returns-in_default-2-clause-answers : goal.returns-in_default-2-clause-answers
+returns-in_default-2-clause-answers c settings users r nth stands comes =
+    let s = c.args.station in
+    let n = c.args.frame in
+    let now = c.self.inside in
+    let st = subst (λ lan. StandsFor settings users lan r) (sym c.self.view_is) stands in
+    let there = (place-of settings users r _ st s comes.0).1.1 in
+    absurd (came-not (Reaches settings r s there.seat there.alive n c.in-Some.octets.now now.members c.reach.new.self)
+    c.in_ok-came.field-0 c.in_default-2.is
+    (c.in_ok-came.ensures settings r there.seat there.alive there.there there.seated.0))
+
+pub returns-in_err-judge_installs-clause-answers : goal.returns-in_err-judge_installs-clause-answers
+returns-in_err-judge_installs-clause-answers c settings users r nth stands comes =
+    let s = c.args.station in
+    let n = c.args.frame in
+    let now = c.self.inside in
+    let new = c.reach.new.self in
+    let octets = c.in-Some.octets.now in
+    let st = subst (λ lan. StandsFor settings users lan r) (sym c.self.view_is) stands in
+    let at : octets_at now.air n ≡ Some octets =
+    cc (c.frame.ensures.frame, ap (λ o. option_copied o) c.in-Some.is) in
+    let place = place-of settings users r _ st s comes.0 in
+    let there = place.1.1 in
+    let reaches = came-so (Reaches settings r s there.seat there.alive n octets now.members new) c.in_ok-came.field-0
+    c.in-Some-2.came c.in-Some-2.is (c.in_ok-came.ensures settings r there.seat there.alive there.there there.seated.0) in
+    let first = reach-stops settings users r _ st (events.Deliver n s) s n octets
+    (delivered settings users r _ st n s octets at) place.0 there new c.in-Some-2.came reaches nth in
+    refused settings users r (events.Deliver n s) nth nth _ _ _ c.from_residual-in_err-judge_installs.ensures.1
+    (by-part _ _ _ (or-none _ _ first) c.in_err-judge_installs.ensures)

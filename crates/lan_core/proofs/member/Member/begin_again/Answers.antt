@@ -1,0 +1,46 @@
+use Rattle.std.proofs.Common.{◌≡◌, ◌∙◌, [], List, ap, subst, sym, refl}
+use Rattle.rx_slots.specs.Standing.{StandsFor as SlotsStandFor}
+use Rattle.sak_exchange.specs.declared.change.Change.{Change}
+use Rattle.mka_station.specs.declared.reaction.Reaction.{Reaction}
+use Rattle.mka_station.specs.Standing.{reborn}
+use Rattle.lan_core.specs.Standing.{Seat, Sits}
+use Rattle.lan_core.specs.inside.Following.{HaveSlots, count_installed, followed}
+use Rattle.lan_core.proofs.Followed.{ending-count, ending-slots}
+use Rattle.lan_core.proofs.Seated.{sits-new}
+use Rattle.lan_core.proofs.member.Member.begin_again.Goals as goal
+
+pub follow-requires : goal.follow-requires
+follow-requires c =
+    let l = c.self.invariant.1.0 in
+    let s = c.self.invariant.1.1.1.station in
+    let is = c.as_slice.ensures ∙ ap (λ (r : Reaction). r.changes) (c.in_ok-reaction.ensures.reaction l.member l.past s) in
+    subst HaveSlots (sym is) (ending-slots l.member l.past s.numbered)
+
+pub invariant_of-self-2 : goal.invariant_of-self-2
+invariant_of-self-2 c =
+    let window = c.self.invariant.0 in
+    let l = c.self.invariant.1.0 in
+    let h = c.self.invariant.1.1.0 in
+    let s = c.self.invariant.1.1.1 in (
+      window,
+      (
+        record { member = reborn l.member l.past c.args.draw; past = [] },
+        (
+          followed c.as_slice.result.now h,
+          sits-new window (reborn l.member l.past c.args.draw) (followed c.as_slice.result.now h) _ (c.in_ok-reaction.ensures.stands l.member l.past s.station)
+              (c.follow.ensures l.member.setup.sci window h s.slots) refl s.installs,
+        ),
+      ),
+    )
+
+pub returns-clause-stands : goal.returns-clause-stands
+returns-clause-stands c = λ window l h sits.
+    let s = subst (λ (seat : Seat). Sits window l h seat) (sym c.self.view_is) sits in
+    sits-new window (reborn l.member l.past c.args.draw) (followed c.in_ok-reaction.reaction.changes h) _ (c.in_ok-reaction.ensures.stands l.member l.past s.station)
+    (subst (λ (ds : List Change). SlotsStandFor l.member.setup.sci window c.follow.new.slots (followed ds h)) c.as_slice.ensures (c.follow.ensures l.member.setup.sci window h s.slots))
+    refl s.installs
+
+pub returns-clause-none : goal.returns-clause-none
+returns-clause-none c =
+    let l = c.self.invariant.1.0 in
+    ap count_installed (ap (λ (r : Reaction). r.changes) (c.in_ok-reaction.ensures.reaction l.member l.past c.self.invariant.1.1.1.station)) ∙ ending-count l.member l.past

@@ -1,0 +1,46 @@
+//! What an event comes to at its station.
+
+ghost use Rattle.std.specs.Prelude.{◌≡◌, option_map};
+ghost use Rattle.std.specs.Option.{option_copied};
+ghost use Rattle.lan_core.specs.Lives.{drawn_sak};
+ghost use Rattle.lan_core.specs.inside.Steps.{sent_in};
+
+use crate::fact::{Fact, Facts};
+use aes_block::Secret;
+use lan_base::Octets;
+
+/// What an event comes to at its station: its facts, and how many keys the station then installed, over all
+/// its lives.
+#[derive(Debug, Drop)]
+pub struct Came {
+    pub facts: Facts,
+    pub installs: u32,
+}
+
+impl Came {
+    /// The frame that was put on the air, if one was.
+    pub fn sent(&self) -> Option<&Octets>
+        ensures { option_copied result ≡ sent_in self.now.facts }
+    {
+        let facts = self.facts.as_slice();
+        for fact in facts {
+            if let Fact::Framed { octets, .. } = fact {
+                return Some(octets);
+            }
+        }
+        None
+    }
+
+    /// The key that was installed, if one was.
+    pub fn installed(&self) -> Option<Secret>
+        ensures { result ≡ drawn_sak self.now.facts }
+    {
+        let facts = self.facts.as_slice();
+        for fact in facts {
+            if let Fact::Installed { sak, .. } = fact {
+                return Some(*sak);
+            }
+        }
+        None
+    }
+}

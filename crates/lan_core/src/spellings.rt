@@ -1,0 +1,99 @@
+//! What frames spell, as it is looked up.
+
+ghost use Rattle.std.specs.Prelude.{◌≡◌, ◌≢◌, [], option_map, IfOk, OnOk, OnErr};
+ghost use Rattle.mkpdu_codec.specs.declared.refusal.Refusal.TheVariants.{Memory};
+ghost use Rattle.lan_core.specs.inside.Spellings.{spelling, has_octets, Gains};
+
+use mkpdu_codec::{Refusal, law_reading_refuses, law_spelled_is_read, read};
+use std::alloc::{AllocError, Global};
+use std::collections::BTreeSet;
+use std::marker::Model;
+
+/// How many octets a check value has.
+const CHECK: usize = 16;
+
+/// The spellings of frames: their octets up to the end of their check values. Contracts see them as a
+/// list.
+#[derive(Drop)]
+pub struct Spellings {
+    spellings: BTreeSet<Vec<u8>>,
+}
+
+impl Model for Spellings {
+    ghost use Rattle.std.specs.Prelude.{ℕ, List, map};
+
+    ghost Value = { List (List ℕ) };
+
+    ghost view = { λ s. map (λ v. v.items) s.spellings.keys };
+}
+
+impl Spellings {
+    /// No spellings. No memory is taken.
+    pub fn new(alloc: Global) -> Spellings
+        ensures { result ≡ [] }
+    {
+        Spellings {
+            spellings: BTreeSet::new(alloc),
+        }
+    }
+
+    /// Whether this spelling is there.
+    pub fn has(&self, spelling: &[u8]) -> bool
+        ensures { result ≡ has_octets self.now spelling.now }
+    {
+        self.spellings.contains(spelling)
+    }
+
+    /// One more spelling, if there is one. An error changes nothing.
+    pub fn add(&mut self, spelling: Option<Vec<u8>>) -> Result<(), AllocError>
+        ensures ok { OnOk result (Gains (option_map (λ v. v.items) spelling) self.old self.new) }
+        ensures err { OnErr result (self.new ≡ self.old) }
+    {
+        if let Some(spelling) = spelling {
+            self.spellings.insert(spelling)?;
+        }
+        Ok(())
+    }
+}
+
+/// The octets of a frame up to the end of its check value, if it spells something.
+pub fn spelling(alloc: Global, frame: &[u8]) -> Result<Option<&[u8]>, AllocError>
+    ensures { IfOk result (λ found. option_map (λ o. o.now) found ≡ spelling frame.now) }
+{
+    law_spelled_is_read();
+    law_reading_refuses();
+    match read(alloc, frame) {
+        Ok(spelled) => {
+            let (spelling, _) = frame.split_at(spelled.covered + CHECK);
+            Ok(Some(spelling))
+        }
+        Err(refusal) => {
+            unless_memory(refusal)?;
+            Ok(None)
+        }
+    }
+}
+
+/// A copy of it.
+pub fn copied_spelling(alloc: Global, frame: &[u8]) -> Result<Option<Vec<u8>>, AllocError>
+    ensures { IfOk result (λ found. option_map (λ v. v.items) found ≡ spelling frame.now) }
+{
+    match spelling(alloc, frame)? {
+        Some(spelling) => Ok(Some(Vec::from_slice(alloc, spelling)?)),
+        None => Ok(None),
+    }
+}
+
+/// A refusal that isn't want of memory.
+fn unless_memory(refusal: Refusal) -> Result<(), AllocError>
+    ensures { OnOk result (refusal ≢ Memory) }
+{
+    match refusal {
+        Refusal::Memory => Err(AllocError),
+        Refusal::NotMka
+        | Refusal::Short
+        | Refusal::Shape { .. }
+        | Refusal::Repeated { .. }
+        | Refusal::Agility => Ok(()),
+    }
+}

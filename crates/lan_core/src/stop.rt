@@ -1,0 +1,66 @@
+//! Why a group goes no further.
+
+ghost use Rattle.std.specs.Prelude.{◌≡◌};
+ghost use Rattle.lan_core.specs.declared.stop.Stop.TheVariants.{Memory};
+ghost use Rattle.lan_core.specs.inside.Faults.{stop_of_fault};
+
+use mka_station::StationFault;
+use std::alloc::AllocError;
+use thiserror::Error;
+
+/// A limit of the profile, in the order in which they are judged.
+#[derive(Clone, Copy, Debug, PartialEq, Eq)]
+pub enum Which {
+    /// Octets of a trace, which the group itself doesn't meet.
+    Input,
+    /// Frames on the air.
+    Frames,
+    /// Octets on the air.
+    Octets,
+    /// Ticks.
+    Ticks,
+    /// Installs at one station.
+    Keys,
+    /// Stations.
+    Stations,
+}
+
+/// Why a group goes no further: the first of these that holds, of want of memory alone anywhere.
+#[derive(Clone, Copy, Debug, PartialEq, Eq, Error)]
+pub enum Stop {
+    /// An event needs more draws than the supply has left.
+    #[error("no draws are left")]
+    DrawsSpent,
+    /// An event would pass a limit.
+    #[error("a limit is reached")]
+    Limit(Which),
+    /// Two member identifiers that were drawn are equal, or two keys. Draws are numbered from 1, and
+    /// a key of two draws has the number of its first.
+    #[error("draws {first} and {second} repeat")]
+    RepeatedDraw { first: u64, second: u64 },
+    /// Foreign octets that reached the station have the group's name and a right check value, and
+    /// repeat no frame on the air.
+    #[error("forged")]
+    Forged { station: u8 },
+    #[error("out of memory")]
+    Memory,
+}
+
+impl From<AllocError> for Stop {
+    ghost from_gives = { λ _ stop. stop ≡ Memory };
+
+    fn from(_: AllocError) -> Self {
+        Stop::Memory
+    }
+}
+
+impl From<StationFault> for Stop {
+    ghost from_gives = { λ fault stop. stop ≡ stop_of_fault fault };
+
+    fn from(fault: StationFault) -> Self {
+        match fault {
+            StationFault::DrawsSpent => Stop::DrawsSpent,
+            StationFault::Memory => Stop::Memory,
+        }
+    }
+}
