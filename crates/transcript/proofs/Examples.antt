@@ -4,11 +4,14 @@ use Rattle.std.specs.Prelude.{◌≢◌, false, codes, None}
 use Rattle.std.proofs.lemmas.List.Elements.{All-cons, All-nil}
 use Rattle.std.specs.Fmt.{digits}
 use Rattle.hex.specs.Hex.{encode_with}
+use Rattle.lan_base.specs.Name.{IsName}
 use Rattle.mka_station.specs.declared.verdict.Verdict.TheVariants as Verdict
 use Rattle.rx_slots.specs.declared.arrival.Arrival.TheVariants as Arrival
 use Rattle.lan_core.specs.declared.fact.Fact.{Fact}
 use Rattle.lan_core.specs.declared.fact.Fact.TheVariants.{Ticked, Server, Framed, HeardMka, Claimed, Arrived}
-use Rattle.transcript.specs.Rendering.{line, rendered, IsFact, Differ}
+use Rattle.transcript.specs.Rendering.{line, rendered, IsFact, Says, Differ, AreNames}
+use Rattle.transcript.specs.inside.Reading.{fact_in}
+use Rattle.transcript.proofs.ReadBack.{told}
 use Rattle.transcript.specs.Cut.{cut}
 
 abbrev names : List (List ℕ)
@@ -66,3 +69,19 @@ names_differ =
 
 pub is_fact : IsFact names ticked
 is_fact = (refl, ((omega arith, omega arith), (omega arith, (refl, (omega arith, tt)))))
+
+-- a line of one of these facts, and one of none
+pub ticked_says : Says names (codes "tick A 9 next 4294967296") ticked
+unfolding line digits
+ticked_says = (is_fact, refl)
+
+pub are_names : AreNames names
+are_names =
+    (All-cons IsName (codes "A") (codes "B" ∷ []) refl (All-cons IsName (codes "B") [] refl (All-nil IsName)), names_differ)
+
+nothing_read : fact_in names (codes "tick A 1") ≡ None
+unfolding digits
+nothing_read = refl
+
+pub short_says_nothing : (fact : Fact) → Says names (codes "tick A 1") fact → ⊥
+short_says_nothing fact says = cc (nothing_read, told names (codes "tick A 1") fact are_names says)

@@ -1,9 +1,15 @@
 mod Hexing
 mod Answering
 mod Joining
-mod Reading
+mod Pairs
+mod Said
+mod Splitting
+mod Sound
 mod Told
 mod Plain
 mod Texts
 mod Cutting
+mod Branches
+mod Numbers
+mod ReadBack
 mod Examples

@@ -20,7 +20,7 @@ use Rattle.lan_core.specs.declared.fact.Fact.TheVariants.{Life, Ticked, Server, 
 use Rattle.trace_text.specs.Words.{spaced}
 use Rattle.transcript.specs.Words.{Word, text, words, spelled, server_word, secret_word}
 use Rattle.transcript.specs.Rendering.{joined, line, transcript, AllFit, IsFact, Differ}
-use Rattle.transcript.proofs.Reading.{fact_in, along, fact_tree}
+use Rattle.transcript.specs.inside.Reading.{fact_in, along, fact_tree}
 use Rattle.transcript.proofs.Plain.{Lacks, IsSmall, spelled_lacks}
 use Rattle.transcript.proofs.Told.{fact_told}
 

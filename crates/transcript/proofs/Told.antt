@@ -1,5 +1,6 @@
 -- The words of a fact say the fact.
-use Rattle.std.proofs.Common.{◌≡◌, ℕ, zero, suc, ◌+◌, ◌<◌, ◌^◌, Bool, true, false, List, [], ◌∷◌, length, get_or, refl, ap, ◌∙◌, arith}
+use Rattle.std.proofs.Common.{◌≡◌, ℕ, zero, suc, ◌+◌, ◌<◌, ◌^◌, Bool, true, false, List, [], ◌∷◌, length, get_or, refl, sym, ap, ◌∙◌, arith}
+use Rattle.std.specs.Option.{option_map}
 use Rattle.std.specs.Prelude.{◌≢◌, ◌==◌, nat_lt, Option, Some, None, decimal, map, codes}
 use Rattle.std.proofs.lemmas.Bool.Decides.{nat_tests}
 use Rattle.std.proofs.lemmas.Fmt.{decimal_is_IsNumeral}
@@ -21,7 +22,8 @@ use Rattle.lan_core.specs.declared.fact.Lack.TheVariants as Lack
 use Rattle.trace_text.specs.Words.{is_word}
 use Rattle.transcript.specs.Words.{spelled, Fits, words, server_word, secret_word}
 use Rattle.transcript.specs.Rendering.{Differ, IsFact}
-use Rattle.transcript.proofs.Reading.{place_from, kept_if, and_then, station_of, number_of, octets_of, array_of, server_of, secret_of, along, fact_tree}
+use Rattle.transcript.specs.inside.Reading.{place_of, station_of, whole_of, number_of, octets_of, array_of, member_of, server_of, secret_of, along, fact_tree}
+use Rattle.transcript.proofs.Pairs.{pairs_written}
 
 pub same_word : (word : List ℕ) → is_word word word ≡ true
 same_word word = (bytes_eq-Decides word word).1 refl
@@ -33,36 +35,43 @@ never word other false e differ = refl
 pub other_word : (word other : List ℕ) → word ≢ other → is_word word other ≡ false
 other_word word other differ = never word other (is_word word other) refl differ
 
-place_found : (names : List (List ℕ)) (s p : ℕ) → Differ names → s < length names → place_from p names (get_or names s []) ≡ Some (p + s)
-place_found [] s p d l = absurd (omega (arith, l))
-place_found (name ∷ names) zero p d l =
-    let sum : p ≡ p + 0 = omega arith in
-    rw (same_word name) (ap (λ n. Some n) sum)
-place_found (name ∷ names) (suc s) p d l =
+one_more : (n : ℕ) → 1 + n ≡ suc n
+one_more n = omega arith
+
+place_found : (names : List (List ℕ)) (s : ℕ) → Differ names → s < length names → place_of names (get_or names s []) ≡ s
+place_found [] s d l = absurd (omega (arith, l))
+place_found (name ∷ names) zero d l = rw (same_word name) refl
+place_found (name ∷ names) (suc s) d l =
     let inside : s < length names = omega (arith, l) in
-    let sum : p + 1 + s ≡ p + suc s = omega arith in
-    rw (other_word (get_or names s []) name (All-get_or (λ other. other ≢ name) names s [] inside d.0))
-    (place_found names s (p + 1) d.1 inside ∙ ap (λ n. Some n) sum)
+    rw (other_word name (get_or names s []) (λ e. All-get_or (λ other. other ≢ name) names s [] inside d.0 (sym e)))
+    (one_more (place_of names (get_or names s [])) ∙ ap (λ n. suc n) (place_found names s d.1 inside))
 
 pub station_said : (names : List (List ℕ)) (s : ℕ) → Differ names → (s < length names) × (s < 256) → station_of names (get_or names s []) ≡ Some s
 station_said names s d fit =
+    let named : nat_lt s (length names) ≡ true = grind (arith, nat_tests, fit.0) in
     let small : nat_lt s 256 ≡ true = grind (arith, nat_tests, fit.1) in
-    let start : 0 + s ≡ s = omega arith in
-    ap (λ o. and_then o (λ place. kept_if (nat_lt place 256) place)) (place_found names s 0 d fit.0 ∙ ap (λ n. Some n) start)
-    ∙ ap (λ b. kept_if b s) small
+    rw (place_found names s d fit.0, named, small) refl
+
+pub whole_said : (n : ℕ) → n < 2 ^ 64 → whole_of (decimal n) ≡ Some n
+whole_said n small =
+    let test : nat_lt n (2 ^ 64) ≡ true = grind (arith, nat_tests, small) in
+    rw ((decimal_is_IsNumeral n small).1, same_word (decimal n), test) refl
 
 pub number_said : (bits n : ℕ) → n < 2 ^ 64 → n < 2 ^ bits → number_of bits (decimal n) ≡ Some n
 number_said bits n small fit =
     let test : nat_lt n (2 ^ bits) ≡ true = grind (arith, nat_tests, fit) in
-    rw ((decimal_is_IsNumeral n small).1, same_word (decimal n), test) refl
+    rw (whole_said n small, test) refl
 
 pub octets_said : (xs : List ℕ) → IsBytes xs → octets_of (encode_lower xs) ≡ Some xs
-octets_said xs bytes = rw (decode_of-encode_lower xs bytes, same_word (encode_lower xs)) refl
+octets_said xs bytes = rw (pairs_written xs bytes, decode_of-encode_lower xs bytes) refl
 
 pub array_said : (count : ℕ) (xs : List ℕ) → (length xs ≡ count) × IsBytes xs → array_of count (encode_lower xs) ≡ Some xs
 array_said count xs fit =
     let test : (length xs == count) ≡ true = grind (arith, nat_tests, fit.0) in
     rw (octets_said xs fit.1, test) refl
+
+member_said : (mi : Mi) → (length mi.0 ≡ 12) × IsBytes mi.0 → member_of (encode_lower mi.0) ≡ Some mi
+member_said mi fit = ap (option_map (λ xs. record { 0 = xs })) (array_said 12 mi.0 fit)
 
 long : (xs : List ℕ) → length xs ≡ 12 → encode_lower xs ≢ codes "none"
 long xs size e =
@@ -71,38 +80,36 @@ long xs size e =
 
 pub server_said : (names : List (List ℕ)) (mi : Option Mi) → Fits names (server_word mi) → server_of (spelled names (server_word mi)) ≡ Some mi
 server_said names None fit = refl
-server_said names (Some mi) fit = rw (other_word (encode_lower mi.0) (codes "none") (long mi.0 fit.0), array_said 12 mi.0 fit) refl
+server_said names (Some mi) fit = rw (other_word (encode_lower mi.0) (codes "none") (long mi.0 fit.0), member_said mi fit) refl
 
 pub secret_said : (names : List (List ℕ)) (sak : Secret) → Fits names (secret_word sak) → secret_of (spelled names (secret_word sak)) ≡ Some sak
-secret_said names (S128 xs) fit =
-    let test : (length xs == 16) ≡ true = grind (arith, nat_tests, fit.0) in
-    rw (octets_said xs fit.1, test) refl
+secret_said names (S128 xs) fit = rw (array_said 16 xs fit) refl
 secret_said names (S256 xs) fit =
     let none : (length xs == 16) ≡ false = grind (arith, nat_tests, fit.0) in
-    let test : (length xs == 32) ≡ true = grind (arith, nat_tests, fit.0) in
-    rw (octets_said xs fit.1, none, test) refl
+    let other : array_of 16 (encode_lower xs) ≡ None = rw (octets_said xs fit.1, none) refl in
+    rw (other, array_said 32 xs fit) refl
 
 abbrev pub told : List (List ℕ) → Fact → Option Fact
 told names fact = along names fact_tree (map (spelled names) (words fact))
 
 -- a fact is told by its words
 pub fact_told : (names : List (List ℕ)) (fact : Fact) → Differ names → IsFact names fact → told names fact ≡ Some fact
-fact_told names (Life s mi) d fit = rw (station_said names s d fit.1.0, array_said 12 mi.0 fit.1.1.0) refl
+fact_told names (Life s mi) d fit = rw (station_said names s d fit.1.0, member_said mi fit.1.1.0) refl
 fact_told names (Ticked s at next) d fit = rw (station_said names s d fit.1.0, number_said 32 at (omega (arith, fit.1.1.0)) fit.1.1.0, number_said 64 next (omega (arith, fit.1.1.1.1.0)) fit.1.1.1.1.0) refl
 fact_told names (Server s mi) d fit = rw (station_said names s d fit.1.0, server_said names mi fit.1.1.0) refl
-fact_told names (Dropped s id an) d fit = rw (station_said names s d fit.1.0, array_said 12 id.server.0 fit.1.1.0, number_said 32 id.number (omega (arith, fit.1.1.1.0)) fit.1.1.1.0, number_said 8 an (omega (arith, fit.1.1.1.1.1.0)) fit.1.1.1.1.1.0) refl
-fact_told names (Retired s id an) d fit = rw (station_said names s d fit.1.0, array_said 12 id.server.0 fit.1.1.0, number_said 32 id.number (omega (arith, fit.1.1.1.0)) fit.1.1.1.0, number_said 8 an (omega (arith, fit.1.1.1.1.1.0)) fit.1.1.1.1.1.0) refl
-fact_told names (Began s id an epoch Cause.All) d fit = rw (station_said names s d fit.1.0, array_said 12 id.server.0 fit.1.1.0, number_said 32 id.number (omega (arith, fit.1.1.1.0)) fit.1.1.1.0, number_said 8 an (omega (arith, fit.1.1.1.1.1.0)) fit.1.1.1.1.1.0, number_said 32 epoch (omega (arith, fit.1.1.1.1.1.1.1.0)) fit.1.1.1.1.1.1.1.0) refl
-fact_told names (Began s id an epoch Cause.Timeout) d fit = rw (station_said names s d fit.1.0, array_said 12 id.server.0 fit.1.1.0, number_said 32 id.number (omega (arith, fit.1.1.1.0)) fit.1.1.1.0, number_said 8 an (omega (arith, fit.1.1.1.1.1.0)) fit.1.1.1.1.1.0, number_said 32 epoch (omega (arith, fit.1.1.1.1.1.1.1.0)) fit.1.1.1.1.1.1.1.0) refl
-fact_told names (Began s id an epoch Cause.Flag) d fit = rw (station_said names s d fit.1.0, array_said 12 id.server.0 fit.1.1.0, number_said 32 id.number (omega (arith, fit.1.1.1.0)) fit.1.1.1.0, number_said 8 an (omega (arith, fit.1.1.1.1.1.0)) fit.1.1.1.1.1.0, number_said 32 epoch (omega (arith, fit.1.1.1.1.1.1.1.0)) fit.1.1.1.1.1.1.1.0) refl
-fact_told names (Installed s id an epoch sak) d fit = rw (station_said names s d fit.1.0, array_said 12 id.server.0 fit.1.1.0, number_said 32 id.number (omega (arith, fit.1.1.1.0)) fit.1.1.1.0, number_said 8 an (omega (arith, fit.1.1.1.1.1.0)) fit.1.1.1.1.1.0, number_said 32 epoch (omega (arith, fit.1.1.1.1.1.1.1.0)) fit.1.1.1.1.1.1.1.0, secret_said names sak fit.1.1.1.1.1.1.1.1.1.0) refl
-fact_told names (Untaken s id Why.NotListed) d fit = rw (station_said names s d fit.1.0, array_said 12 id.server.0 fit.1.1.0, number_said 32 id.number (omega (arith, fit.1.1.1.0)) fit.1.1.1.0) refl
-fact_told names (Untaken s id Why.NotServer) d fit = rw (station_said names s d fit.1.0, array_said 12 id.server.0 fit.1.1.0, number_said 32 id.number (omega (arith, fit.1.1.1.0)) fit.1.1.1.0) refl
-fact_told names (Untaken s id Why.Retiring) d fit = rw (station_said names s d fit.1.0, array_said 12 id.server.0 fit.1.1.0, number_said 32 id.number (omega (arith, fit.1.1.1.0)) fit.1.1.1.0) refl
-fact_told names (Untaken s id Why.Suite) d fit = rw (station_said names s d fit.1.0, array_said 12 id.server.0 fit.1.1.0, number_said 32 id.number (omega (arith, fit.1.1.1.0)) fit.1.1.1.0) refl
-fact_told names (Untaken s id Why.Offset) d fit = rw (station_said names s d fit.1.0, array_said 12 id.server.0 fit.1.1.0, number_said 32 id.number (omega (arith, fit.1.1.1.0)) fit.1.1.1.0) refl
-fact_told names (Untaken s id Why.Wrap) d fit = rw (station_said names s d fit.1.0, array_said 12 id.server.0 fit.1.1.0, number_said 32 id.number (omega (arith, fit.1.1.1.0)) fit.1.1.1.0) refl
-fact_told names (Untaken s id (Why.Seen kept)) d fit = rw (station_said names s d fit.1.0, array_said 12 id.server.0 fit.1.1.0, number_said 32 id.number (omega (arith, fit.1.1.1.0)) fit.1.1.1.0, number_said 32 kept (omega (arith, fit.1.1.1.1.1.0)) fit.1.1.1.1.1.0) refl
+fact_told names (Dropped s id an) d fit = rw (station_said names s d fit.1.0, member_said id.server fit.1.1.0, number_said 32 id.number (omega (arith, fit.1.1.1.0)) fit.1.1.1.0, number_said 8 an (omega (arith, fit.1.1.1.1.1.0)) fit.1.1.1.1.1.0) refl
+fact_told names (Retired s id an) d fit = rw (station_said names s d fit.1.0, member_said id.server fit.1.1.0, number_said 32 id.number (omega (arith, fit.1.1.1.0)) fit.1.1.1.0, number_said 8 an (omega (arith, fit.1.1.1.1.1.0)) fit.1.1.1.1.1.0) refl
+fact_told names (Began s id an epoch Cause.All) d fit = rw (station_said names s d fit.1.0, member_said id.server fit.1.1.0, number_said 32 id.number (omega (arith, fit.1.1.1.0)) fit.1.1.1.0, number_said 8 an (omega (arith, fit.1.1.1.1.1.0)) fit.1.1.1.1.1.0, number_said 32 epoch (omega (arith, fit.1.1.1.1.1.1.1.0)) fit.1.1.1.1.1.1.1.0) refl
+fact_told names (Began s id an epoch Cause.Timeout) d fit = rw (station_said names s d fit.1.0, member_said id.server fit.1.1.0, number_said 32 id.number (omega (arith, fit.1.1.1.0)) fit.1.1.1.0, number_said 8 an (omega (arith, fit.1.1.1.1.1.0)) fit.1.1.1.1.1.0, number_said 32 epoch (omega (arith, fit.1.1.1.1.1.1.1.0)) fit.1.1.1.1.1.1.1.0) refl
+fact_told names (Began s id an epoch Cause.Flag) d fit = rw (station_said names s d fit.1.0, member_said id.server fit.1.1.0, number_said 32 id.number (omega (arith, fit.1.1.1.0)) fit.1.1.1.0, number_said 8 an (omega (arith, fit.1.1.1.1.1.0)) fit.1.1.1.1.1.0, number_said 32 epoch (omega (arith, fit.1.1.1.1.1.1.1.0)) fit.1.1.1.1.1.1.1.0) refl
+fact_told names (Installed s id an epoch sak) d fit = rw (station_said names s d fit.1.0, member_said id.server fit.1.1.0, number_said 32 id.number (omega (arith, fit.1.1.1.0)) fit.1.1.1.0, number_said 8 an (omega (arith, fit.1.1.1.1.1.0)) fit.1.1.1.1.1.0, number_said 32 epoch (omega (arith, fit.1.1.1.1.1.1.1.0)) fit.1.1.1.1.1.1.1.0, secret_said names sak fit.1.1.1.1.1.1.1.1.1.0) refl
+fact_told names (Untaken s id Why.NotListed) d fit = rw (station_said names s d fit.1.0, member_said id.server fit.1.1.0, number_said 32 id.number (omega (arith, fit.1.1.1.0)) fit.1.1.1.0) refl
+fact_told names (Untaken s id Why.NotServer) d fit = rw (station_said names s d fit.1.0, member_said id.server fit.1.1.0, number_said 32 id.number (omega (arith, fit.1.1.1.0)) fit.1.1.1.0) refl
+fact_told names (Untaken s id Why.Retiring) d fit = rw (station_said names s d fit.1.0, member_said id.server fit.1.1.0, number_said 32 id.number (omega (arith, fit.1.1.1.0)) fit.1.1.1.0) refl
+fact_told names (Untaken s id Why.Suite) d fit = rw (station_said names s d fit.1.0, member_said id.server fit.1.1.0, number_said 32 id.number (omega (arith, fit.1.1.1.0)) fit.1.1.1.0) refl
+fact_told names (Untaken s id Why.Offset) d fit = rw (station_said names s d fit.1.0, member_said id.server fit.1.1.0, number_said 32 id.number (omega (arith, fit.1.1.1.0)) fit.1.1.1.0) refl
+fact_told names (Untaken s id Why.Wrap) d fit = rw (station_said names s d fit.1.0, member_said id.server fit.1.1.0, number_said 32 id.number (omega (arith, fit.1.1.1.0)) fit.1.1.1.0) refl
+fact_told names (Untaken s id (Why.Seen kept)) d fit = rw (station_said names s d fit.1.0, member_said id.server fit.1.1.0, number_said 32 id.number (omega (arith, fit.1.1.1.0)) fit.1.1.1.0, number_said 32 kept (omega (arith, fit.1.1.1.1.1.0)) fit.1.1.1.1.1.0) refl
 fact_told names (Framed k s true xs) d fit = rw (number_said 32 k (omega (arith, fit.1.0)) fit.1.0, station_said names s d fit.1.1.0, octets_said xs fit.1.1.1.1.0) refl
 fact_told names (Framed k s false xs) d fit = rw (number_said 32 k (omega (arith, fit.1.0)) fit.1.0, station_said names s d fit.1.1.0, octets_said xs fit.1.1.1.1.0) refl
 fact_told names (HeardMka k s Verdict.Vouched) d fit = rw (number_said 32 k (omega (arith, fit.1.0)) fit.1.0, station_said names s d fit.1.1.0) refl

@@ -1,2 +1,4 @@
 -- What serves private functions alone.
 pub mod Appending
+pub mod Reading
+pub mod Taking

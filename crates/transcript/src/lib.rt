@@ -1,10 +1,18 @@
-//! The text of a transcript, line by line: a fact is rendered as its line.
+//! The text of a transcript, line by line: a fact is rendered as its line, and a line is read back
+//! as its fact.
 #![tactic(auto)]
 
+mod facts;
+mod fault;
 mod laws;
+mod reading;
 mod rendering;
+mod spelling;
+mod words;
 
+pub use fault::FactFault;
 pub use laws::{law_cut, law_texts_differ};
+pub use reading::read_fact;
 pub use rendering::render;
 
 #[cfg(test)]

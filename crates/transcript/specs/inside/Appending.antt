@@ -1,5 +1,5 @@
 -- Words that are appended.
-use Rattle.std.specs.Prelude.{ℕ, ◌≡◌, List, [], ◌∷◌, ◌++◌, decimal, map}
+use Rattle.std.specs.Prelude.{ℕ, ◌≡◌, List, [], ◌∷◌, ◌++◌, decimal}
 use Rattle.hex.specs.Hex.{encode_lower}
 use Rattle.trace_text.specs.Words.{spaced}
 use Rattle.transcript.specs.declared.rendering.Word.{Word}

@@ -1,5 +1,3 @@
-use Rattle.std.proofs.Common.{rules, ◌≡◌, ap, sym, ◌∙◌, refl}
-use Rattle.std.proofs.lemmas.Result.{on_ok_weaker}
 use Rattle.transcript.proofs.Joining.{by_parts}
 use Rattle.transcript.proofs.rendering.put.Goals as goal
 

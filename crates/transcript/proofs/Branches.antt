@@ -1,0 +1,113 @@
+-- What words say where the first of them is known.
+use Rattle.std.proofs.Common.{◌≡◌, ℕ, true, false, List, refl, sym, ap, ◌∙◌, subst, inl, Bool}
+use Rattle.std.specs.Prelude.{Option, Some, None, Result, Err, codes}
+use Rattle.std.specs.Option.{ok_or}
+use Rattle.lan_base.specs.declared.key_id.KeyId.{KeyId}
+use Rattle.sak_exchange.specs.declared.change.Why.{Why}
+use Rattle.mka_station.specs.declared.verdict.Verdict.{Verdict}
+use Rattle.rx_slots.specs.declared.arrival.Arrival.{Arrival}
+use Rattle.lan_core.specs.declared.fact.Fact.{Fact}
+use Rattle.lan_core.specs.declared.fact.Fact.TheVariants.{Untaken, HeardMka, Unclaimed, Arrived}
+use Rattle.trace_text.specs.Words.{is_word}
+use Rattle.transcript.specs.declared.fault.FactFault.{FactFault}
+use Rattle.transcript.specs.declared.fault.FactFault.TheVariants.{Unread}
+use Rattle.transcript.specs.inside.Reading.{parted, taken, station_of, number_of, key_of, along, why_tree, seen_tree, verdict_tree, drop_tree, shape_tree, repeated_tree, old_number_tree, lack_tree, arrival_tree, accepted_tree, refused_tree, malformed_tree, missed_tree, late_tree, untaken_tree, heard_tree, noclaim_tree, data_tree}
+use Rattle.transcript.specs.inside.Taking.{Takes, Answers}
+
+-- a word was compared with letters
+pub tested : (word text letters : List ℕ) (r b : Bool) → r ≡ is_word word text → text ≡ letters → r ≡ b → is_word word letters ≡ b
+tested word text letters r b e t h = ap (is_word word) (sym t) ∙ sym e ∙ h
+
+-- the first word, and the words behind it
+abbrev Parts : List (List ℕ) → List ℕ → List (List ℕ) → Type 0
+Parts words word left = parted words ≡ Some (word, left)
+
+pub seen : (names : List (List ℕ)) (f : Why → Fact) (words left : List (List ℕ)) (word : List ℕ) (o : Option Why) → Parts words word left
+    → is_word word (codes "seen") ≡ true → Takes f o (along names (seen_tree f) left) → Takes f o (along names (why_tree f) words)
+seen names f words left word o p t h = rw (p, t) h
+
+pub dropped : (names : List (List ℕ)) (f : Verdict → Fact) (words left : List (List ℕ)) (word : List ℕ) (o : Option Verdict) → Parts words word left
+    → is_word word (codes "drop") ≡ true → Takes f o (along names (drop_tree f) left) → Takes f o (along names (verdict_tree f) words)
+dropped names f words left word o p t h = rw (p, t) h
+
+pub shape : (names : List (List ℕ)) (f : Verdict → Fact) (words left : List (List ℕ)) (word : List ℕ) (o : Option Verdict) → Parts words word left
+    → is_word word (codes "shape") ≡ true → Takes f o (along names (shape_tree f) left) → Takes f o (along names (drop_tree f) words)
+shape names f words left word o p t h = rw (p, t) h
+
+pub repeated : (names : List (List ℕ)) (f : Verdict → Fact) (words left : List (List ℕ)) (word : List ℕ) (o : Option Verdict) → Parts words word left
+    → is_word word (codes "shape") ≡ false → is_word word (codes "repeated") ≡ true → Takes f o (along names (repeated_tree f) left)
+    → Takes f o (along names (drop_tree f) words)
+repeated names f words left word o p t0 t1 h = rw (p, t0, t1) h
+
+pub old_number : (names : List (List ℕ)) (f : Verdict → Fact) (words left : List (List ℕ)) (word : List ℕ) (o : Option Verdict) → Parts words word left
+    → is_word word (codes "shape") ≡ false → is_word word (codes "repeated") ≡ false → is_word word (codes "oldnumber") ≡ true
+    → Takes f o (along names (old_number_tree f) left) → Takes f o (along names (drop_tree f) words)
+old_number names f words left word o p t0 t1 t2 h = rw (p, t0, t1, t2) h
+
+pub malformed : (names : List (List ℕ)) (f : Arrival → Fact) (words left : List (List ℕ)) (word : List ℕ) (o : Option Arrival) → Parts words word left
+    → is_word word (codes "malformed") ≡ true → Takes f o (along names (malformed_tree f) left) → Takes f o (along names (refused_tree f) words)
+malformed names f words left word o p t h = rw (p, t) h
+
+pub missed : (names : List (List ℕ)) (f : Arrival → Fact) (words left : List (List ℕ)) (word : List ℕ) (o : Option Arrival) → Parts words word left
+    → is_word word (codes "malformed") ≡ false → is_word word (codes "own") ≡ false → is_word word (codes "missed") ≡ true
+    → Takes f o (along names (missed_tree f) left) → Takes f o (along names (refused_tree f) words)
+missed names f words left word o p t0 t1 t2 h = rw (p, t0, t1, t2) h
+
+pub late : (names : List (List ℕ)) (f : Arrival → Fact) (words left : List (List ℕ)) (word : List ℕ) (o : Option Arrival) → Parts words word left
+    → is_word word (codes "malformed") ≡ false → is_word word (codes "own") ≡ false → is_word word (codes "missed") ≡ false
+    → is_word word (codes "badcheck") ≡ false → is_word word (codes "late") ≡ true → Takes f o (along names (late_tree f) left)
+    → Takes f o (along names (refused_tree f) words)
+late names f words left word o p t0 t1 t2 t3 t4 h = rw (p, t0, t1, t2, t3, t4) h
+
+-- the words behind the first decide what those say that a fact's first words stand before
+pub untaken : (names words w1 w2 : List (List ℕ)) (s : ℕ) (id : KeyId) (o : Option Fact) → taken (station_of names) words ≡ Some (s, w1) → key_of w1 ≡ Some (id, w2)
+    → along names (why_tree (λ why. Untaken s id why)) w2 ≡ o → along names untaken_tree words ≡ o
+untaken names words w1 w2 s id o e1 e2 h = rw (e1, e2) h
+
+pub heard : (names words w1 w2 : List (List ℕ)) (k s : ℕ) (o : Option Fact) → taken (number_of 32) words ≡ Some (k, w1) → taken (station_of names) w1 ≡ Some (s, w2)
+    → along names (verdict_tree (λ verdict. HeardMka k s verdict)) w2 ≡ o → along names heard_tree words ≡ o
+heard names words w1 w2 k s o e1 e2 h = rw (e1, e2) h
+
+pub unclaimed : (names words w1 : List (List ℕ)) (s : ℕ) (o : Option Fact) → taken (station_of names) words ≡ Some (s, w1)
+    → along names (lack_tree (λ why. Unclaimed s why)) w1 ≡ o → along names noclaim_tree words ≡ o
+unclaimed names words w1 s o e1 h = rw e1 h
+
+-- a value that was there
+pub got : {X Y : Type 0} (view : X → Y) (o : Option X) (given : Option Y) (x : X) → Takes view o given → o ≡ Some x → given ≡ Some (view x)
+got view o given x takes e = subst (λ p. Takes view p given) e takes
+
+pub accepted : (names : List (List ℕ)) (f : Arrival → Fact) (words left : List (List ℕ)) (word : List ℕ) (r : Result Arrival FactFault) → Parts words word left
+    → is_word word (codes "accepted") ≡ true → Answers f r (along names (accepted_tree f) left) → Answers f r (along names (arrival_tree f) words)
+accepted names f words left word r p t h = rw (p, t) h
+
+or_unread : {X Y : Type 0} (f : X → Y) (o : Option X) (given : Option Y) → Takes f o given → Answers f (ok_or o Unread) given
+or_unread f (Some x) given takes = takes
+or_unread f None given takes = inl (refl, takes)
+
+not_accepted : (names : List (List ℕ)) (f : Arrival → Fact) (words left : List (List ℕ)) (word : List ℕ) → Parts words word left
+    → is_word word (codes "accepted") ≡ false → along names (arrival_tree f) words ≡ along names (refused_tree f) words
+not_accepted names f words left word p t = rw (p, t) refl
+
+pub refused : (names : List (List ℕ)) (f : Arrival → Fact) (words left : List (List ℕ)) (word : List ℕ) (o : Option Arrival) (r : Result Arrival FactFault)
+    → Parts words word left → is_word word (codes "accepted") ≡ false → Takes f o (along names (refused_tree f) words) → r ≡ ok_or o Unread
+    → Answers f r (along names (arrival_tree f) words)
+refused names f words left word o r p t h e =
+    subst (λ (q : Result Arrival FactFault). Answers f q (along names (arrival_tree f) words)) (sym e)
+    (subst (λ (given : Option Fact). Answers f (ok_or o Unread) given) (sym (not_accepted names f words left word p t))
+    (or_unread f o (along names (refused_tree f) words) h))
+
+arrived : (names words w1 w2 : List (List ℕ)) (k s : ℕ) → taken (number_of 32) words ≡ Some (k, w1) → taken (station_of names) w1 ≡ Some (s, w2)
+    → along names data_tree words ≡ along names (arrival_tree (λ arrival. Arrived k s arrival)) w2
+arrived names words w1 w2 k s e1 e2 = rw (e1, e2) refl
+
+pub arrived_err : (names words w1 w2 : List (List ℕ)) (k s : ℕ) (fault : FactFault) → taken (number_of 32) words ≡ Some (k, w1)
+    → taken (station_of names) w1 ≡ Some (s, w2)
+    → Answers {X = Arrival} (λ arrival. Arrived k s arrival) (Err fault) (along names (arrival_tree (λ arrival. Arrived k s arrival)) w2)
+    → Answers {X = Fact} (λ x. x) (Err fault) (along names data_tree words)
+arrived_err names words w1 w2 k s fault e1 e2 h =
+    subst (λ (given : Option Fact). Answers {X = Fact} (λ x. x) (Err fault) given) (sym (arrived names words w1 w2 k s e1 e2)) h
+
+pub arrived_ok : (names words w1 w2 : List (List ℕ)) (k s : ℕ) (arrival : Arrival) → taken (number_of 32) words ≡ Some (k, w1)
+    → taken (station_of names) w1 ≡ Some (s, w2)
+    → along names (arrival_tree (λ a. Arrived k s a)) w2 ≡ Some (Arrived k s arrival) → along names data_tree words ≡ Some (Arrived k s arrival)
+arrived_ok names words w1 w2 k s arrival e1 e2 h = arrived names words w1 w2 k s e1 e2 ∙ h

@@ -1,0 +1,78 @@
+-- What a line that is read back says.
+use Rattle.std.proofs.Common.{◌≡◌, ℕ, ◌<◌, List, length, refl, sym, ap, ◌∙◌, inl, inr}
+use Rattle.std.specs.Prelude.{◌↔◌, Option, Some, None, IsSome, Result, Ok, Err, IfOk}
+use Rattle.lan_core.specs.declared.fact.Fact.{Fact}
+use Rattle.lan_core.specs.declared.fact.Fact.TheVariants.{Life, Ticked, Server, Dropped, Retired, Began, Installed, Untaken, Framed, HeardMka, Claimed, Unclaimed, Arrived}
+use Rattle.transcript.specs.Words.{place}
+use Rattle.transcript.specs.Rendering.{IsFact, Says, AreNames}
+use Rattle.transcript.specs.declared.fault.FactFault.{FactFault}
+use Rattle.transcript.specs.declared.fault.FactFault.TheVariants.{Unread, Memory}
+use Rattle.transcript.specs.inside.Reading.{fact_in}
+use Rattle.transcript.specs.inside.Taking.{Answers}
+use Rattle.transcript.proofs.Said.{same_some}
+use Rattle.transcript.proofs.Sound.{line_said}
+use Rattle.transcript.proofs.Texts.{line_told}
+
+abbrev same : Fact → Fact
+same fact = fact
+
+pub told : (names : List (List ℕ)) (line : List ℕ) (fact : Fact) → AreNames names → Says names line fact → fact_in names line ≡ Some fact
+told names line fact are says = ap (fact_in names) (sym says.1) ∙ line_told names fact are.0 are.1 says.0
+
+some_fact : (o : Option Fact) → IsSome o → (fact : Fact) × (o ≡ Some fact)
+some_fact (Some fact) some = (fact, refl)
+some_fact None some = absurd cc
+
+pub read : (names : List (List ℕ)) (line : List ℕ) (r : Result Fact FactFault) → Answers same r (fact_in names line) → IfOk r (λ fact. Says names line fact)
+read names line (Ok fact) answers = line_said names line fact answers
+read names line (Err fault) answers = tt
+
+placed : (names : List (List ℕ)) (fact : Fact) → IsFact names fact → place fact < length names
+placed names (Life s mi) fit = fit.1.0.0
+placed names (Ticked s at next) fit = fit.1.0.0
+placed names (Server s mi) fit = fit.1.0.0
+placed names (Dropped s id an) fit = fit.1.0.0
+placed names (Retired s id an) fit = fit.1.0.0
+placed names (Began s id an epoch cause) fit = fit.1.0.0
+placed names (Installed s id an epoch sak) fit = fit.1.0.0
+placed names (Untaken s id why) fit = fit.1.0.0
+placed names (Framed k s sec xs) fit = fit.1.1.0.0
+placed names (HeardMka k s verdict) fit = fit.1.1.0.0
+placed names (Claimed s an epoch pn) fit = fit.1.0.0
+placed names (Unclaimed s why) fit = fit.1.0.0
+placed names (Arrived k s arrival) fit = fit.1.1.0.0
+
+pub among : (names : List (List ℕ)) (line : List ℕ) (r : Result Fact FactFault) → Answers same r (fact_in names line) → IfOk r (λ fact. place fact < length names)
+among names line (Ok fact) answers = placed names fact (line_said names line fact answers).0
+among names line (Err fault) answers = tt
+
+pub found : (names : List (List ℕ)) (line : List ℕ) (r : Result Fact FactFault) → Answers same r (fact_in names line) → AreNames names → (fact : Fact)
+    → Says names line fact → IfOk r (λ answer. answer ≡ fact)
+found names line (Ok answer) answers are fact says = same_some answer fact (sym answers ∙ told names line fact are says)
+found names line (Err fault) answers are fact says = tt
+
+none_says : (names : List (List ℕ)) (line : List ℕ) (r : Result Fact FactFault) → Answers same r (fact_in names line) → AreNames names → r ≡ Err Unread
+    → (fact : Fact) → Says names line fact → ⊥
+none_says names line (Ok answer) answers are e fact says = absurd cc
+none_says names line (Err fault) (inl none) are e fact says = cc (none.1, told names line fact are says)
+none_says names line (Err fault) (inr some) are e fact says = cc (some.0, e)
+
+unsaid : (names : List (List ℕ)) (line : List ℕ) (r : Result Fact FactFault) → Answers same r (fact_in names line)
+    → ((fact : Fact) → Says names line fact → ⊥) → r ≡ Err Unread
+unsaid names line (Ok answer) answers none = absurd (none answer (line_said names line answer answers))
+unsaid names line (Err fault) (inl here) none = ap (λ f. Err f) here.0
+unsaid names line (Err fault) (inr some) none =
+    let p = some_fact (fact_in names line) some.1 in
+    absurd (none p.0 (line_said names line p.0 p.1))
+
+pub unread : (names : List (List ℕ)) (line : List ℕ) (r : Result Fact FactFault) → Answers same r (fact_in names line) → AreNames names
+    → (r ≡ Err Unread) ↔ ((fact : Fact) → Says names line fact → ⊥)
+unread names line r answers are = (none_says names line r answers are, unsaid names line r answers)
+
+pub memory : (names : List (List ℕ)) (line : List ℕ) (r : Result Fact FactFault) → Answers same r (fact_in names line) → r ≡ Err Memory
+    → (fact : Fact) × Says names line fact
+memory names line (Ok answer) answers e = absurd cc
+memory names line (Err fault) (inl none) e = absurd (cc (none.0, e))
+memory names line (Err fault) (inr some) e =
+    let p = some_fact (fact_in names line) some.1 in
+    (p.0, line_said names line p.0 p.1)

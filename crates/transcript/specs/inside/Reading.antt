@@ -1,0 +1,348 @@
+-- The fact that words say: each word decides how those behind it are read.
+use Rattle.std.specs.Prelude.{ℕ, ◌^◌, ◌%◌, ◌==◌, ◌&&◌, ◌||◌, nat_lt, nat_le, Bool, true, false, if◌then◌else◌, List, [], ◌∷◌, length, codes, decimal, Option, Some, None}
+use Rattle.std.specs.List.{slice_split, list_all, position_or_len}
+use Rattle.std.specs.Option.{option_map}
+use Rattle.std.specs.Str.Parse.{digits_value}
+use Rattle.std.specs.Result.{result_ok}
+use Rattle.hex.specs.Hex.{decode_of}
+use Rattle.aes_block.specs.declared.secret.Secret.{Secret}
+use Rattle.aes_block.specs.declared.secret.Secret.TheVariants.{S128, S256}
+use Rattle.lan_base.specs.declared.address.Mi.{Mi}
+use Rattle.lan_base.specs.declared.key_id.KeyId.{KeyId}
+use Rattle.sak_exchange.specs.declared.change.Cause.{Cause}
+use Rattle.sak_exchange.specs.declared.change.Cause.TheVariants.{All, Timeout, Flag}
+use Rattle.sak_exchange.specs.declared.change.Why.{Why}
+use Rattle.sak_exchange.specs.declared.change.Why.TheVariants.{NotListed, NotServer, Seen, Retiring, Suite, Offset, Wrap}
+use Rattle.gcm_frames.specs.declared.tag.TagRefusal.{TagRefusal}
+use Rattle.gcm_frames.specs.declared.tag.TagRefusal.TheVariants as Tag
+use Rattle.mka_station.specs.declared.verdict.Verdict.{Verdict}
+use Rattle.mka_station.specs.declared.verdict.Verdict.TheVariants.{Vouched, Unvouched, NotMka, Short, Shape, Repeated, Agility, CkName, Check, Echo, OldNumber, PeersFull}
+use Rattle.rx_slots.specs.declared.arrival.Arrival.{Arrival}
+use Rattle.rx_slots.specs.declared.arrival.Arrival.TheVariants.{Accepted, Malformed, Own, Missed, BadCheck, Late}
+use Rattle.lan_core.specs.declared.fact.Fact.{Fact}
+use Rattle.lan_core.specs.declared.fact.Fact.TheVariants.{Life, Ticked, Server, Dropped, Retired, Began, Installed, Untaken, Framed, HeardMka, Claimed, Unclaimed, Arrived}
+use Rattle.lan_core.specs.declared.fact.Lack.{Lack}
+use Rattle.lan_core.specs.declared.fact.Lack.TheVariants.{NoKey, Exhausted}
+use Rattle.trace_text.specs.Words.{is_word}
+
+-- what the words left may be: none, and the fact that was said; a word that is these letters, or
+-- else something; a word that is these letters; the name of a station, a number of so many bits, a
+-- member identifier, a key's identifier, an elected server, a key, a word of a table, and what is
+-- left behind each; a last word of any count of octets; or nothing
+pub data Tree : Type 0 where
+  says : Fact → Tree
+  text : List ℕ → Tree → Tree → Tree
+  only : List ℕ → Tree → Tree
+  station : (ℕ → Tree) → Tree
+  number : ℕ → (ℕ → Tree) → Tree
+  member : (Mi → Tree) → Tree
+  key : (KeyId → Tree) → Tree
+  server : (Option Mi → Tree) → Tree
+  secret : (Secret → Tree) → Tree
+  cause : (Cause → Tree) → Tree
+  sec : (Bool → Tree) → Tree
+  tag : (TagRefusal → Tree) → Tree
+  why : (Why → Tree) → Tree
+  vouch : (Verdict → Tree) → Tree
+  reason : (Verdict → Tree) → Tree
+  octets : (List ℕ → Fact) → Tree
+  nothing : Tree
+
+-- the value, if a test lets it through
+abbrev pub kept_if : {A : Type 0} → Bool → A → Option A
+kept_if true x = Some x
+kept_if false x = None
+
+-- what follows a value, if there is one
+abbrev pub and_then : {A B : Type 0} → Option A → (A → Option B) → Option B
+and_then None f = None
+and_then (Some x) f = f x
+
+-- the place of the first name that a word is, or the count of the names
+abbrev pub place_of : List (List ℕ) → List ℕ → ℕ
+place_of names word = position_or_len (λ name. is_word name word) names
+
+abbrev pub position_of : List (List ℕ) → List ℕ → Option ℕ
+position_of names word =
+    kept_if (nat_lt (place_of names word) (length names)) (place_of names word)
+
+-- the place of the station that a word names
+abbrev pub station_of : List (List ℕ) → List ℕ → Option ℕ
+station_of names word = and_then (position_of names word) (λ p. kept_if (nat_lt p 256) p)
+
+-- the number below 2^64 that a word spells, without leading zeros
+abbrev pub whole_of : List ℕ → Option ℕ
+whole_of word =
+    kept_if (is_word word (decimal (digits_value 10 word)) && nat_lt (digits_value 10 word) (2 ^ 64))
+    (digits_value 10 word)
+
+-- the number of so many bits that a word spells
+abbrev pub number_of : ℕ → List ℕ → Option ℕ
+number_of bits word = and_then (whole_of word) (λ n. kept_if (nat_lt n (2 ^ bits)) n)
+
+-- a hexadecimal digit, in lower case
+abbrev pub is_small_digit : ℕ → Bool
+is_small_digit octet = nat_le 48 octet && nat_le octet 57 || nat_le 97 octet && nat_le octet 102
+
+-- pairs of such digits
+abbrev pub is_pairs : List ℕ → Bool
+is_pairs word = length word % 2 == 0 && list_all is_small_digit word
+
+-- the octets that a word spells
+abbrev pub octets_of : List ℕ → Option (List ℕ)
+octets_of word = if is_pairs word then result_ok (decode_of word) else None
+
+-- so many octets, which a word spells
+abbrev pub array_of : ℕ → List ℕ → Option (List ℕ)
+array_of count word = and_then (octets_of word) (λ xs. kept_if (length xs == count) xs)
+
+-- the member identifier that a word spells
+abbrev pub member_of : List ℕ → Option Mi
+member_of word = option_map (λ xs. record { 0 = xs }) (array_of 12 word)
+
+-- the elected server that a word tells
+abbrev pub server_of : List ℕ → Option (Option Mi)
+server_of word =
+    if is_word word (codes "none") then Some None else option_map (λ mi. Some mi) (member_of word)
+
+-- a key of 16 or else of 32 octets
+abbrev pub secret_from : Option (List ℕ) → Option (List ℕ) → Option Secret
+secret_from (Some xs) other = Some (S128 xs)
+secret_from None other = option_map (λ xs. S256 xs) other
+
+-- the key that a word spells
+abbrev pub secret_of : List ℕ → Option Secret
+secret_of word = secret_from (array_of 16 word) (array_of 32 word)
+
+-- what a table says of a word
+abbrev pub said_by : {A : Type 0} → List (List ℕ × A) → List ℕ → Option A
+said_by [] word = None
+said_by (row ∷ rows) word = if is_word word row.0 then Some row.1 else said_by rows word
+
+-- why a key begins
+abbrev pub causes : List (List ℕ × Cause)
+causes = (codes "all", All) ∷ (codes "timeout", Timeout) ∷ (codes "flag", Flag) ∷ []
+
+-- whether a frame is a protected one
+abbrev pub secs : List (List ℕ × Bool)
+secs = (codes "sec", true) ∷ (codes "mka", false) ∷ []
+
+-- why a frame is no protected frame
+abbrev pub tags : List (List ℕ × TagRefusal)
+tags =
+    (codes "notsec", Tag.NotSec) ∷ (codes "version", Tag.Version) ∷ (codes "mode", Tag.Mode)
+    ∷ (codes "short", Tag.Short) ∷ (codes "slwrong", Tag.SlWrong) ∷ []
+
+-- why a key is not taken, where no number tells more
+abbrev pub whys : List (List ℕ × Why)
+whys =
+    (codes "notlisted", NotListed) ∷ (codes "notserver", NotServer) ∷ (codes "retiring", Retiring)
+    ∷ (codes "suite", Suite) ∷ (codes "offset", Offset) ∷ (codes "wrap", Wrap) ∷ []
+
+-- whether an accepted frame vouches for the station
+abbrev pub vouches : List (List ℕ × Verdict)
+vouches = (codes "vouched", Vouched) ∷ (codes "unvouched", Unvouched) ∷ []
+
+-- why a frame is dropped, where no number tells more
+abbrev pub reasons : List (List ℕ × Verdict)
+reasons =
+    (codes "notmka", NotMka) ∷ (codes "short", Short) ∷ (codes "agility", Agility)
+    ∷ (codes "ckname", CkName) ∷ (codes "check", Check) ∷ (codes "echo", Echo)
+    ∷ (codes "peersfull", PeersFull) ∷ []
+
+-- the first of these words, and the others
+abbrev pub parted : List (List ℕ) → Option (List ℕ × List (List ℕ))
+parted [] = None
+parted (word ∷ words) = Some (word, words)
+
+-- what the first of these words says, and the words behind it
+abbrev pub taken : {A : Type 0}
+    → (List ℕ → Option A) → List (List ℕ) → Option (A × List (List ℕ))
+taken read words = and_then (parted words) (λ x. and_then (read x.0) (λ y. Some (y, x.1)))
+
+-- the words behind the first, if that is these letters
+abbrev pub after : List ℕ → List (List ℕ) → Option (List (List ℕ))
+after letters words = and_then (parted words) (λ x. kept_if (is_word x.0 letters) x.1)
+
+-- a key's identifier, and the words behind it
+abbrev pub key_of : List (List ℕ) → Option (KeyId × List (List ℕ))
+key_of words =
+    and_then (taken member_of words) (λ x. and_then (taken (number_of 32) x.1)
+    (λ y. Some (record { server = x.0; number = y.0 }, y.1)))
+
+-- the value, if no words are left
+abbrev pub unless : {A B : Type 0} → Option A → B → Option B
+unless None x = Some x
+unless (Some y) x = None
+
+abbrev pub ended : {A : Type 0} → A → List (List ℕ) → Option A
+ended x words = unless (parted words) x
+
+-- the one word that is left
+abbrev pub last_of : List (List ℕ) → Option (List ℕ)
+last_of words = and_then (parted words) (λ x. ended x.0 x.1)
+
+-- the octets that the one word left spells
+abbrev pub last_octets : List (List ℕ) → Option (List ℕ)
+last_octets words = and_then (last_of words) octets_of
+
+-- what words say along a tree
+abbrev pub along : List (List ℕ) → Tree → List (List ℕ) → Option Fact
+along names (says fact) words = ended fact words
+along names (text letters next other) words =
+    and_then (parted words)
+    (λ x. if is_word x.0 letters then along names next x.1 else along names other words)
+along names (only letters next) words =
+    and_then (after letters words) (λ others. along names next others)
+along names (station next) words =
+    and_then (taken (station_of names) words) (λ x. along names (next x.0) x.1)
+along names (number bits next) words =
+    and_then (taken (number_of bits) words) (λ x. along names (next x.0) x.1)
+along names (member next) words =
+    and_then (taken member_of words) (λ x. along names (next x.0) x.1)
+along names (key next) words = and_then (key_of words) (λ x. along names (next x.0) x.1)
+along names (server next) words =
+    and_then (taken server_of words) (λ x. along names (next x.0) x.1)
+along names (secret next) words =
+    and_then (taken secret_of words) (λ x. along names (next x.0) x.1)
+along names (cause next) words =
+    and_then (taken (said_by causes) words) (λ x. along names (next x.0) x.1)
+along names (sec next) words =
+    and_then (taken (said_by secs) words) (λ x. along names (next x.0) x.1)
+along names (tag next) words =
+    and_then (taken (said_by tags) words) (λ x. along names (next x.0) x.1)
+along names (why next) words =
+    and_then (taken (said_by whys) words) (λ x. along names (next x.0) x.1)
+along names (vouch next) words =
+    and_then (taken (said_by vouches) words) (λ x. along names (next x.0) x.1)
+along names (reason next) words =
+    and_then (taken (said_by reasons) words) (λ x. along names (next x.0) x.1)
+along names (octets f) words = option_map f (last_octets words)
+along names nothing words = None
+
+abbrev pub an_tree : (ℕ → Tree) → Tree
+an_tree next = only (codes "an") (number 8 next)
+
+abbrev pub epoch_tree : (ℕ → Tree) → Tree
+epoch_tree next = only (codes "epoch") (number 32 next)
+
+abbrev pub seen_tree : (Why → Fact) → Tree
+seen_tree f = number 32 (λ kept. says (f (Seen kept)))
+
+abbrev pub why_tree : (Why → Fact) → Tree
+why_tree f = text (codes "seen") (seen_tree f) (why (λ w. says (f w)))
+
+abbrev pub shape_tree : (Verdict → Fact) → Tree
+shape_tree f = number 64 (λ at. says (f (Shape at)))
+
+abbrev pub repeated_tree : (Verdict → Fact) → Tree
+repeated_tree f = number 8 (λ kind. says (f (Repeated kind)))
+
+abbrev pub old_number_tree : (Verdict → Fact) → Tree
+old_number_tree f = number 32 (λ kept. says (f (OldNumber kept)))
+
+abbrev pub drop_tree : (Verdict → Fact) → Tree
+drop_tree f =
+    text (codes "shape") (shape_tree f) (text (codes "repeated") (repeated_tree f)
+    (text (codes "oldnumber") (old_number_tree f) (reason (λ verdict. says (f verdict)))))
+
+abbrev pub verdict_tree : (Verdict → Fact) → Tree
+verdict_tree f = text (codes "drop") (drop_tree f) (vouch (λ verdict. says (f verdict)))
+
+abbrev pub lack_tree : (Lack → Fact) → Tree
+lack_tree f =
+    text (codes "nokey") (says (f NoKey))
+    (text (codes "exhausted") (number 32 (λ epoch. says (f (Exhausted epoch)))) nothing)
+
+abbrev pub accepted_tree : (Arrival → Fact) → Tree
+accepted_tree f = number 32 (λ pn. octets (λ body. f (Accepted pn body)))
+
+abbrev pub malformed_tree : (Arrival → Fact) → Tree
+malformed_tree f = tag (λ refusal. says (f (Malformed refusal)))
+
+abbrev pub missed_tree : (Arrival → Fact) → Tree
+missed_tree f = number 8 (λ an. says (f (Missed an)))
+
+abbrev pub late_tree : (Arrival → Fact) → Tree
+late_tree f = number 64 (λ next. says (f (Late next)))
+
+-- the answers to a protected frame that hold no list of octets
+abbrev pub refused_tree : (Arrival → Fact) → Tree
+refused_tree f =
+    text (codes "malformed") (malformed_tree f)
+    (text (codes "own") (says (f Own))
+    (text (codes "missed") (missed_tree f)
+    (text (codes "badcheck") (says (f BadCheck))
+    (text (codes "late") (late_tree f) nothing))))
+
+abbrev pub arrival_tree : (Arrival → Fact) → Tree
+arrival_tree f = text (codes "accepted") (accepted_tree f) (refused_tree f)
+
+-- the words of each kind of fact behind the first
+abbrev pub life_tree : Tree
+life_tree = station (λ s. member (λ mi. says (Life s mi)))
+
+abbrev pub tick_tree : Tree
+tick_tree =
+    station (λ s. number 32 (λ at. only (codes "next") (number 64 (λ next. says (Ticked s at next)))))
+
+abbrev pub server_tree : Tree
+server_tree = station (λ s. server (λ mi. says (Server s mi)))
+
+abbrev pub drop_key_tree : Tree
+drop_key_tree = station (λ s. key (λ id. an_tree (λ an. says (Dropped s id an))))
+
+abbrev pub retire_tree : Tree
+retire_tree = station (λ s. key (λ id. an_tree (λ an. says (Retired s id an))))
+
+abbrev pub begin_tree : Tree
+begin_tree =
+    station (λ s. key (λ id. an_tree (λ an. epoch_tree (λ epoch.
+    cause (λ c. says (Began s id an epoch c))))))
+
+abbrev pub install_tree : Tree
+install_tree =
+    station (λ s. key (λ id. an_tree (λ an. epoch_tree (λ epoch.
+    only (codes "sak") (secret (λ sak. says (Installed s id an epoch sak)))))))
+
+abbrev pub untaken_tree : Tree
+untaken_tree = station (λ s. key (λ id. why_tree (λ why. Untaken s id why)))
+
+abbrev pub frame_tree : Tree
+frame_tree =
+    number 32 (λ k. station (λ s. sec (λ protected. octets (λ xs. Framed k s protected xs))))
+
+abbrev pub heard_tree : Tree
+heard_tree = number 32 (λ k. station (λ s. verdict_tree (λ verdict. HeardMka k s verdict)))
+
+abbrev pub claim_tree : Tree
+claim_tree =
+    station (λ s. an_tree (λ an. epoch_tree (λ epoch.
+    only (codes "pn") (number 32 (λ pn. says (Claimed s an epoch pn))))))
+
+abbrev pub noclaim_tree : Tree
+noclaim_tree = station (λ s. lack_tree (λ why. Unclaimed s why))
+
+abbrev pub data_tree : Tree
+data_tree = number 32 (λ k. station (λ s. arrival_tree (λ arrival. Arrived k s arrival)))
+
+-- the words of the facts that hold no list of octets
+abbrev pub plain_tree : Tree
+plain_tree =
+    text (codes "life") life_tree (text (codes "tick") tick_tree
+    (text (codes "server") server_tree (text (codes "drop") drop_key_tree
+    (text (codes "retire") retire_tree (text (codes "begin") begin_tree
+    (text (codes "install") install_tree (text (codes "untaken") untaken_tree
+    (text (codes "heard") heard_tree (text (codes "claim") claim_tree
+    (text (codes "noclaim") noclaim_tree nothing))))))))))
+
+-- the words of every fact
+abbrev pub fact_tree : Tree
+fact_tree = text (codes "frame") frame_tree (text (codes "data") data_tree plain_tree)
+
+abbrev pub is_space : ℕ → Bool
+is_space octet = octet == 32
+
+-- the fact that a line says, if it says one: words stand between single spaces
+abbrev pub fact_in : List (List ℕ) → List ℕ → Option Fact
+fact_in names line = along names fact_tree (slice_split is_space line)

@@ -1,0 +1,193 @@
+//! What one word says.
+
+ghost use Rattle.std.specs.Prelude.{ℕ, ◌≡◌, ◌≤◌, ◌<◌, ◌+◌, ◌^◌, Ok, Some, None, IsTrue, IfSome, decimal, length, nat_lt, nat_le};
+ghost use Rattle.std.specs.List.{list_all};
+ghost use Rattle.trace_text.specs.Words.{is_word};
+ghost use Rattle.transcript.specs.inside.Reading.{and_then, kept_if, position_of, station_of, whole_of, is_small_digit, is_pairs, octets_of, array_of, member_of, server_of, secret_of, said_by, causes, secs, tags};
+ghost use Rattle.transcript.specs.inside.Taking.{Answers};
+
+use crate::fault::FactFault;
+use aes_block::Secret;
+use gcm_frames::TagRefusal;
+use hex::FromHex;
+use itoa::Buffer;
+use lan_base::{Mi, Name, Octets};
+use sak_exchange::Cause;
+use std::alloc::Global;
+use std::str;
+
+/// The place of the station that a word names.
+pub fn place_of(word: &[u8], names: &[Name]) -> Option<u8>
+    ensures { result ≡ station_of names.now word.now }
+{
+    let place = position_of(word, names)?;
+    if place < 256 { Some(place as u8) } else { None }
+}
+
+/// The place of the first name that a word is.
+fn position_of(word: &[u8], names: &[Name]) -> Option<usize>
+    ensures { result ≡ position_of names.now word.now }
+{
+    names.iter().position(|name| name.octets() == word)
+}
+
+/// The number up to `most` that a word spells, without leading zeros.
+pub fn number_of(word: &[u8], most: u64) -> Option<u64>
+    ensures { result ≡ and_then (whole_of word.now) (λ n. kept_if (nat_le n most) n) }
+{
+    let number = whole_of(word)?;
+    if number <= most { Some(number) } else { None }
+}
+
+/// The number that a word spells, without leading zeros.
+fn whole_of(word: &[u8]) -> Option<u64>
+    ensures { result ≡ whole_of word.now }
+{
+    let number = parsed(word)?;
+    if is_written(number, word) {
+        Some(number)
+    } else {
+        None
+    }
+}
+
+/// Whether a number is written as a word.
+fn is_written(number: u64, word: &[u8]) -> bool
+    ensures { result ≡ is_word (decimal number) word.now }
+{
+    let mut buffer = Buffer::new();
+    buffer.format(number).as_bytes() == word
+}
+
+/// The number that a word spells, with leading zeros perhaps, or with a sign.
+fn parsed(word: &[u8]) -> Option<u64>
+    ensures { (n : ℕ) → n < 2 ^ 64 → word.now ≡ decimal n → result ≡ Some n }
+{
+    match str::from_utf8(word) {
+        Ok(text) => text.parse::<u64>().ok(),
+        Err(_) => None,
+    }
+}
+
+/// The member identifier that a word spells.
+pub fn member_of(word: &[u8]) -> Option<Mi>
+    ensures { result ≡ member_of word.now }
+{
+    Some(Mi(array_of(word)?))
+}
+
+/// The elected server that a word tells, or that there is none.
+pub fn server_of(word: &[u8]) -> Option<Option<Mi>>
+    ensures { result ≡ server_of word.now }
+{
+    if word == b"none".as_slice() {
+        return Some(None);
+    }
+    Some(Some(member_of(word)?))
+}
+
+/// The key that a word spells, of 16 or 32 octets.
+pub fn secret_of(word: &[u8]) -> Option<Secret>
+    ensures { result ≡ secret_of word.now }
+{
+    if let Some(octets) = array_of(word) {
+        return Some(Secret::S128(octets));
+    }
+    Some(Secret::S256(array_of(word)?))
+}
+
+/// Why a key begins.
+pub fn cause_of(word: &[u8]) -> Option<Cause>
+    ensures { result ≡ said_by causes word.now }
+{
+    if word == b"all".as_slice() {
+        return Some(Cause::All);
+    }
+    if word == b"timeout".as_slice() {
+        return Some(Cause::Timeout);
+    }
+    if word == b"flag".as_slice() {
+        return Some(Cause::Flag);
+    }
+    None
+}
+
+/// Whether a frame is a protected one.
+pub fn sec_of(word: &[u8]) -> Option<bool>
+    ensures { result ≡ said_by secs word.now }
+{
+    if word == b"sec".as_slice() {
+        return Some(true);
+    }
+    if word == b"mka".as_slice() {
+        return Some(false);
+    }
+    None
+}
+
+/// Why a frame is no protected frame.
+pub fn tag_of(word: &[u8]) -> Option<TagRefusal>
+    ensures { result ≡ said_by tags word.now }
+{
+    if word == b"notsec".as_slice() {
+        return Some(TagRefusal::NotSec);
+    }
+    if word == b"version".as_slice() {
+        return Some(TagRefusal::Version);
+    }
+    if word == b"mode".as_slice() {
+        return Some(TagRefusal::Mode);
+    }
+    if word == b"short".as_slice() {
+        return Some(TagRefusal::Short);
+    }
+    if word == b"slwrong".as_slice() {
+        return Some(TagRefusal::SlWrong);
+    }
+    None
+}
+
+/// The octets that a word spells, as many as the array has.
+fn array_of<const N: usize>(word: &[u8]) -> Option<[u8; N]>
+    ensures { result ≡ array_of N word.now }
+{
+    if is_pairs(word) {
+        <[u8; N] as FromHex>::from_hex(word).ok()
+    } else {
+        None
+    }
+}
+
+/// The octets that a word spells. Memory is taken for a word that spells octets alone.
+pub fn octets_of(alloc: Global, word: &[u8]) -> Result<Octets, FactFault>
+    ensures { Answers (λ x. x) result (octets_of word.now) }
+{
+    if !is_pairs(word) {
+        return Err(FactFault::Unread);
+    }
+    match hex::decode(alloc, word) {
+        Ok(octets) => Ok(Octets::of(octets)),
+        Err(_) => Err(FactFault::Memory),
+    }
+}
+
+/// Whether a word is pairs of hexadecimal digits, in lower case.
+fn is_pairs(word: &[u8]) -> bool
+    ensures { result ≡ is_pairs word.now }
+{
+    word.len() % 2 == 0 && are_small_digits(word)
+}
+
+/// Whether each octet is such a digit.
+fn are_small_digits(word: &[u8]) -> bool
+    ensures { result ≡ list_all is_small_digit word.now }
+{
+    word.iter().all(|octet| is_small_digit(*octet))
+}
+
+/// Whether an octet is a hexadecimal digit, in lower case.
+fn is_small_digit(octet: u8) -> bool
+    ensures { result ≡ is_small_digit octet }
+{
+    (b'0' <= octet && octet <= b'9') || (b'a' <= octet && octet <= b'f')
+}

@@ -1,0 +1,187 @@
+//! The words of a line, one after another: what one says, and what stands behind it.
+
+ghost use Rattle.std.specs.Prelude.{◌≡◌, ◌≤◌, ◌∷◌, length};
+ghost use Rattle.std.specs.List.{slice_split, position_or_len};
+ghost use Rattle.transcript.specs.inside.Reading.{is_space, parted, after, taken, ended, key_of, station_of, number_of, member_of, server_of, secret_of, said_by, causes, secs, tags, last_of, last_octets};
+ghost use Rattle.transcript.specs.inside.Taking.{words_behind, Takes, Answers};
+
+use crate::fault::FactFault;
+use crate::spelling::{
+    cause_of, member_of, number_of, octets_of, place_of, sec_of, secret_of, server_of, tag_of,
+};
+use aes_block::Secret;
+use gcm_frames::TagRefusal;
+use lan_base::{KeyId, Mi, Name, Octets};
+use sak_exchange::Cause;
+use std::alloc::Global;
+
+/// The first word of a text, and what stands behind it, which begins with the space.
+pub fn split_word(text: &[u8]) -> (&[u8], &[u8])
+    ensures { slice_split is_space text.now ≡ result.0.now ∷ words_behind result.1.now }
+{
+    text.split_at(word_length(text))
+}
+
+/// How many octets stand before a text's first space, or its end.
+fn word_length(text: &[u8]) -> usize
+    ensures count { result ≡ position_or_len is_space text.now }
+    ensures within { result ≤ length text.now }
+{
+    text.iter()
+        .position(|octet| *octet == b' ')
+        .unwrap_or(text.len())
+}
+
+/// The next word, and what stands behind it, if there is one.
+pub fn next_word(rest: &[u8]) -> Option<(&[u8], &[u8])>
+    ensures { Takes (λ x. (x.0.now, words_behind x.1.now)) result (parted (words_behind rest.now)) }
+{
+    match rest {
+        [_, text @ ..] => Some(split_word(text)),
+        [] => None,
+    }
+}
+
+/// A line that has no word left.
+pub fn no_word(rest: &[u8]) -> Option<()>
+    ensures { Takes (λ x. x) result (ended tt (words_behind rest.now)) }
+{
+    match next_word(rest) {
+        None => Some(()),
+        Some(_) => None,
+    }
+}
+
+/// What stands behind these letters, if they are the next word.
+pub fn label<'a>(rest: &'a [u8], letters: &[u8]) -> Option<&'a [u8]>
+    ensures { Takes (λ x. words_behind x.now) result (after letters.now (words_behind rest.now)) }
+{
+    let (word, rest) = next_word(rest)?;
+    if word == letters { Some(rest) } else { None }
+}
+
+/// The place of the station that the next word names.
+pub fn station<'a>(rest: &'a [u8], names: &[Name]) -> Option<(u8, &'a [u8])>
+    ensures { Takes (λ x. (x.0, words_behind x.1.now)) result
+        (taken (station_of names.now) (words_behind rest.now)) }
+{
+    let (word, rest) = next_word(rest)?;
+    let place = place_of(word, names)?;
+    Some((place, rest))
+}
+
+/// A number of 8 bits.
+pub fn number_8(rest: &[u8]) -> Option<(u8, &[u8])>
+    ensures { Takes (λ x. (x.0, words_behind x.1.now)) result
+        (taken (number_of 8) (words_behind rest.now)) }
+{
+    let (word, rest) = next_word(rest)?;
+    let number = number_of(word, u64::from(u8::MAX))?;
+    Some((number as u8, rest))
+}
+
+/// A number of 32 bits.
+pub fn number_32(rest: &[u8]) -> Option<(u32, &[u8])>
+    ensures { Takes (λ x. (x.0, words_behind x.1.now)) result
+        (taken (number_of 32) (words_behind rest.now)) }
+{
+    let (word, rest) = next_word(rest)?;
+    let number = number_of(word, u64::from(u32::MAX))?;
+    Some((number as u32, rest))
+}
+
+/// A number of 64 bits.
+pub fn number_64(rest: &[u8]) -> Option<(u64, &[u8])>
+    ensures { Takes (λ x. (x.0, words_behind x.1.now)) result
+        (taken (number_of 64) (words_behind rest.now)) }
+{
+    let (word, rest) = next_word(rest)?;
+    let number = number_of(word, u64::MAX)?;
+    Some((number, rest))
+}
+
+/// A member identifier.
+pub fn member(rest: &[u8]) -> Option<(Mi, &[u8])>
+    ensures { Takes (λ x. (x.0, words_behind x.1.now)) result
+        (taken member_of (words_behind rest.now)) }
+{
+    let (word, rest) = next_word(rest)?;
+    let mi = member_of(word)?;
+    Some((mi, rest))
+}
+
+/// A key's identifier: its server, and its number.
+pub fn key(rest: &[u8]) -> Option<(KeyId, &[u8])>
+    ensures { Takes (λ x. (x.0, words_behind x.1.now)) result (key_of (words_behind rest.now)) }
+{
+    let (server, rest) = member(rest)?;
+    let (number, rest) = number_32(rest)?;
+    Some((KeyId { server, number }, rest))
+}
+
+/// An elected server, or none.
+pub fn server(rest: &[u8]) -> Option<(Option<Mi>, &[u8])>
+    ensures { Takes (λ x. (x.0, words_behind x.1.now)) result
+        (taken server_of (words_behind rest.now)) }
+{
+    let (word, rest) = next_word(rest)?;
+    let server = server_of(word)?;
+    Some((server, rest))
+}
+
+/// A key of 128 or 256 bits.
+pub fn secret(rest: &[u8]) -> Option<(Secret, &[u8])>
+    ensures { Takes (λ x. (x.0, words_behind x.1.now)) result
+        (taken secret_of (words_behind rest.now)) }
+{
+    let (word, rest) = next_word(rest)?;
+    let secret = secret_of(word)?;
+    Some((secret, rest))
+}
+
+/// Why a key begins.
+pub fn cause(rest: &[u8]) -> Option<(Cause, &[u8])>
+    ensures { Takes (λ x. (x.0, words_behind x.1.now)) result
+        (taken (said_by causes) (words_behind rest.now)) }
+{
+    let (word, rest) = next_word(rest)?;
+    let cause = cause_of(word)?;
+    Some((cause, rest))
+}
+
+/// Whether a frame is a protected one.
+pub fn sec(rest: &[u8]) -> Option<(bool, &[u8])>
+    ensures { Takes (λ x. (x.0, words_behind x.1.now)) result
+        (taken (said_by secs) (words_behind rest.now)) }
+{
+    let (word, rest) = next_word(rest)?;
+    let sec = sec_of(word)?;
+    Some((sec, rest))
+}
+
+/// Why a frame is no protected frame.
+pub fn tag(rest: &[u8]) -> Option<(TagRefusal, &[u8])>
+    ensures { Takes (λ x. (x.0, words_behind x.1.now)) result
+        (taken (said_by tags) (words_behind rest.now)) }
+{
+    let (word, rest) = next_word(rest)?;
+    let refusal = tag_of(word)?;
+    Some((refusal, rest))
+}
+
+/// The octets that the last word spells. Memory is taken for such a word alone.
+pub fn octets(alloc: Global, rest: &[u8]) -> Result<Octets, FactFault>
+    ensures { Answers (λ x. x) result (last_octets (words_behind rest.now)) }
+{
+    let word = last_word(rest).ok_or(FactFault::Unread)?;
+    octets_of(alloc, word)
+}
+
+/// The next word, if no other stands behind it.
+fn last_word(rest: &[u8]) -> Option<&[u8]>
+    ensures { Takes (λ x. x.now) result (last_of (words_behind rest.now)) }
+{
+    let (word, rest) = next_word(rest)?;
+    no_word(rest)?;
+    Some(word)
+}
