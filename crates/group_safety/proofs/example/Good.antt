@@ -1,0 +1,264 @@
+-- The announcements of the run may be written, and their values are in their ranges.
+use Rattle.std.proofs.Common.{◌≡◌, ◌<◌, ◌^◌, refl, ℕ, [], ◌∷◌, length, true}
+use Rattle.std.proofs.Common.{arith}
+use Rattle.std.specs.Prelude.{All, nat_lt}
+use Rattle.std.proofs.lemmas.List.Elements.{All-nil, All-cons}
+use Rattle.gcm_frames.specs.Protected.{IsSci}
+use Rattle.key_wrap.specs.Wrap.{wrapped}
+use Rattle.mkpdu_codec.specs.Sets.{IsPeer}
+use Rattle.lan_core.specs.Types.{IsMi, IsSecret}
+use Rattle.group_safety.proofs.once.Ciphers.{wrapped-length}
+use Rattle.group_safety.proofs.once.Living.{group_kek, kek-key}
+use Rattle.group_safety.proofs.example.Scene.{settings, octets_of, set_up, IsGood}
+use Rattle.group_safety.proofs.example.Run.{mi, sci, octets_of_sak, sak, a1, b1, a2, b2, a3, c1, a4}
+use Rattle.group_safety.proofs.example.Run.{c2, a5}
+
+pub mi_is : (n : ℕ) → nat_lt n 256 ≡ true → IsMi (mi n)
+mi_is n small = (refl, octets_of (mi n).0 (rw small refl))
+
+pub sci_is : (n : ℕ) → nat_lt n 256 ≡ true → IsSci (sci n)
+sci_is n small = record { count = refl; octets = octets_of (sci n).0 (rw small refl) }
+
+pub sak_is : (n : ℕ) → nat_lt n 256 ≡ true → IsSecret (sak n)
+sak_is n small = (refl, octets_of (octets_of_sak n) (rw small refl))
+
+pub one : (m n : ℕ) → n < 2 ^ 32 → All IsPeer (record { mi = mi m; mn = n } ∷ [])
+one m n small = All-cons IsPeer (record { mi = mi m; mn = n }) [] (record { mi = refl; mn = small })
+    (All-nil IsPeer)
+
+pub wraps : (n : ℕ) → nat_lt n 256 ≡ true
+    → length (wrapped (group_kek settings) (octets_of_sak n)) ≡ 24
+wraps n small =
+    wrapped-length (group_kek settings) (octets_of_sak n) 16 (kek-key settings set_up) (omega arith)
+    refl (sak_is n small).1
+
+pub good_a1 : IsGood a1
+good_a1 = record {
+  writable =
+      record {
+        source = refl;
+        named = (omega arith, omega arith);
+        live = omega arith;
+        potential =
+            omega arith;
+        uses = tt;
+        given = tt;
+      };
+  typed = record {
+    sci = refl;
+    mi = refl;
+    mn = omega arith;
+    live = All-nil IsPeer;
+    potential =
+        All-nil IsPeer;
+    uses = tt;
+    given = tt;
+  };
+  named = refl;
+}
+
+pub good_b1 : IsGood b1
+good_b1 = record {
+  writable =
+      record {
+        source = refl;
+        named = (omega arith, omega arith);
+        live = omega arith;
+        potential =
+            omega arith;
+        uses = tt;
+        given = tt;
+      };
+  typed = record {
+    sci = refl;
+    mi = refl;
+    mn = omega arith;
+    live = All-nil IsPeer;
+    potential =
+        one 1 1 (omega arith);
+    uses = tt;
+    given = tt;
+  };
+  named = refl;
+}
+
+pub good_a2 : IsGood a2
+good_a2 = record {
+  writable = record {
+    source = refl;
+    named = (omega arith, omega arith);
+    live = omega arith;
+    potential = omega arith;
+    uses = (omega arith, omega arith);
+    given = (omega arith, omega arith);
+  };
+  typed = record {
+    sci = refl;
+    mi = refl;
+    mn = omega arith;
+    live = one 2 1 (omega arith);
+    potential =
+        All-nil IsPeer;
+    uses = (
+      record { server = refl; number = omega arith; lowest = omega arith },
+      record { server = refl; number = omega arith; lowest = omega arith },
+    );
+    given = (omega arith, wraps 1 refl);
+  };
+  named = refl;
+}
+
+pub good_b2 : IsGood b2
+good_b2 = record {
+  writable = record {
+    source = refl;
+    named = (omega arith, omega arith);
+    live = omega arith;
+    potential = omega arith;
+    uses = (omega arith, omega arith);
+    given = tt;
+  };
+  typed = record {
+    sci = refl;
+    mi = refl;
+    mn = omega arith;
+    live = one 1 2 (omega arith);
+    potential =
+        All-nil IsPeer;
+    uses = (
+      record { server = refl; number = omega arith; lowest = omega arith },
+      record { server = refl; number = omega arith; lowest = omega arith },
+    );
+    given = tt;
+  };
+  named = refl;
+}
+
+pub good_a3 : IsGood a3
+good_a3 = record {
+  writable = record {
+    source = refl;
+    named = (omega arith, omega arith);
+    live = omega arith;
+    potential = omega arith;
+    uses = (omega arith, omega arith);
+    given = tt;
+  };
+  typed = record {
+    sci = refl;
+    mi = refl;
+    mn = omega arith;
+    live = one 2 2 (omega arith);
+    potential =
+        All-nil IsPeer;
+    uses = (
+      record { server = refl; number = omega arith; lowest = omega arith },
+      record { server = refl; number = omega arith; lowest = omega arith },
+    );
+    given = tt;
+  };
+  named = refl;
+}
+
+pub good_c1 : IsGood c1
+good_c1 = record {
+  writable =
+      record {
+        source = refl;
+        named = (omega arith, omega arith);
+        live = omega arith;
+        potential =
+            omega arith;
+        uses = tt;
+        given = tt;
+      };
+  typed = record {
+    sci = refl;
+    mi = refl;
+    mn = omega arith;
+    live = All-nil IsPeer;
+    potential =
+        one 1 3 (omega arith);
+    uses = tt;
+    given = tt;
+  };
+  named = refl;
+}
+
+pub good_a4 : IsGood a4
+good_a4 = record {
+  writable = record {
+    source = refl;
+    named = (omega arith, omega arith);
+    live = omega arith;
+    potential = omega arith;
+    uses = (omega arith, omega arith);
+    given = (omega arith, omega arith);
+  };
+  typed = record {
+    sci = refl;
+    mi = refl;
+    mn = omega arith;
+    live = one 3 1 (omega arith);
+    potential =
+        All-nil IsPeer;
+    uses = (
+      record { server = refl; number = omega arith; lowest = omega arith },
+      record { server = refl; number = omega arith; lowest = omega arith },
+    );
+    given = (omega arith, wraps 2 refl);
+  };
+  named = refl;
+}
+
+pub good_c2 : IsGood c2
+good_c2 = record {
+  writable = record {
+    source = refl;
+    named = (omega arith, omega arith);
+    live = omega arith;
+    potential = omega arith;
+    uses = (omega arith, omega arith);
+    given = tt;
+  };
+  typed = record {
+    sci = refl;
+    mi = refl;
+    mn = omega arith;
+    live = one 1 4 (omega arith);
+    potential =
+        All-nil IsPeer;
+    uses = (
+      record { server = refl; number = omega arith; lowest = omega arith },
+      record { server = refl; number = omega arith; lowest = omega arith },
+    );
+    given = tt;
+  };
+  named = refl;
+}
+
+pub good_a5 : IsGood a5
+good_a5 = record {
+  writable = record {
+    source = refl;
+    named = (omega arith, omega arith);
+    live = omega arith;
+    potential = omega arith;
+    uses = (omega arith, omega arith);
+    given = tt;
+  };
+  typed = record {
+    sci = refl;
+    mi = refl;
+    mn = omega arith;
+    live = one 3 2 (omega arith);
+    potential =
+        All-nil IsPeer;
+    uses = (
+      record { server = refl; number = omega arith; lowest = omega arith },
+      record { server = refl; number = omega arith; lowest = omega arith },
+    );
+    given = tt;
+  };
+  named = refl;
+}

@@ -1,0 +1,208 @@
+-- The hitless rollover over stepped runs.
+use Rattle.std.proofs.Common.{◌≡◌, inr, ℕ, suc, ◌+◌, ◌≤◌, ◌<◌, List, [], ◌∷◌, length, refl, ap, sym}
+use Rattle.std.proofs.Common.{◌∙◌, subst, arith}
+use Rattle.std.proofs.Common.{Option, Some, None, option_map}
+use Rattle.lan_base.specs.declared.key_id.KeyId.{KeyId}
+use Rattle.lan_base.specs.declared.frame.UserFrame.{UserFrame}
+use Rattle.lan_base.specs.Timers.{retire_time}
+use Rattle.rx_slots.specs.Numbers.{answer}
+use Rattle.rx_slots.specs.Histories.{standing_key}
+use Rattle.sak_exchange.specs.Histories.{Key, installs}
+use Rattle.sak_exchange.specs.Held.{received, transmitting}
+use Rattle.sak_exchange.specs.Lives.{Has}
+use Rattle.lan_core.specs.declared.fact.Fact.{Fact}
+use Rattle.lan_core.specs.declared.settings.Settings.{Settings}
+use Rattle.lan_core.specs.Run.{Run, Happening}
+use Rattle.lan_core.specs.Ledgers.{Install, install_of, gather, with_one}
+use Rattle.lan_core.specs.Ledgers as ledgers
+use Rattle.lan_core.specs.Lives.{Life, life, receiving, transmitting_at, keys_in}
+use Rattle.lan_core.specs.Types.{IsSetting}
+use Rattle.lan_core.specs.Legal.{IsStepped}
+use Rattle.lan_core.specs.Fresh.{IsFresh, IsUnforged}
+use Rattle.group_safety.specs.Moments.{upto}
+use Rattle.group_safety.specs.Rounds.{rounds}
+use Rattle.group_safety.specs.Stations.{keys_at}
+use Rattle.group_safety.specs.Steady.{IsKeeper, IsSteady}
+use Rattle.group_safety.specs.Time.{IsFlight, IsFound, Answers, HasSaid, IsInTime}
+use Rattle.group_safety.specs.inside.Course.{Holds}
+use Rattle.group_safety.proofs.once.Living.{IsLiving, install_by}
+use Rattle.group_safety.proofs.once.RunLaws.{known, run-one_key}
+use Rattle.group_safety.proofs.rollover.Members.{In, by_sum}
+use Rattle.group_safety.proofs.rollover.Spans.{from_to}
+use Rattle.group_safety.proofs.rollover.Moments.{event-at, upto-all}
+use Rattle.group_safety.proofs.rollover.KeyFacts.{received-installed, transmitting-received}
+use Rattle.group_safety.proofs.rollover.OneLife.{step-at}
+use Rattle.group_safety.proofs.rollover.Said.{known-at}
+use Rattle.group_safety.proofs.rollover.Lived.{kept-at}
+use Rattle.group_safety.proofs.rollover.Makers.{keys-of-life}
+use Rattle.group_safety.proofs.rollover.Timely.{held-old, held-new, soon-for-old}
+use Rattle.group_safety.proofs.rollover.Slots.{sak_under, ans-differ, under-is}
+use Rattle.group_safety.proofs.rollover.Flights.{FrameLaws, answers-it, slots-at, has-in, flight}
+
+-- facts only add installs
+gather-more : (f : List Fact) (is : List Install) (i : Install) → In i is
+    → In i (gather install_of f is)
+gather-more [] is i h = h
+gather-more (fact ∷ later) is i h =
+    gather-more later (with_one (install_of fact) is) i (one (install_of fact) h)
+  where
+    one : (o : Option Install) → In i is → In i (with_one o is)
+    one None h = h
+    one (Some j) h = inr h
+
+installs-step : (x : Happening) (r : Run) (i : Install) → In i (ledgers.installs r)
+    → In i (ledgers.installs (x ∷ r))
+unfolding ledgers.installs
+installs-step x r i h = gather-more x.facts (ledgers.installs r) i h
+
+module _ (laws : FrameLaws) (settings : Settings) (users : List UserFrame) (run : Run)
+    (is : IsSetting settings) (stepped : IsStepped settings users run)
+    (unforged : IsUnforged settings run) (fresh : IsFresh run) where
+  installs-more : (n : ℕ) → n ≤ length run → (i : Install) → In i (ledgers.installs (upto n run))
+      → In i (ledgers.installs run)
+  installs-more n high i h =
+      subst (λ r. In i (ledgers.installs r)) (upto-all (length run) run (omega arith))
+      (from_to (λ m. In i (ledgers.installs (upto m run))) n (length run) high h
+      (λ m p q j. let s = event-at m run q in
+      subst (λ r. In i (ledgers.installs r)) (sym s.1) (installs-step s.0 (upto m run) i j)))
+
+  -- a key of a life is among the run's installs
+  of-run : (n u : ℕ) (l : Life) (k : Key) → n ≤ length run → life settings u (upto n run) ≡ Some l
+      → Has k (installs (keys_in l)) → In (install_by u k) (ledgers.installs run)
+  of-run n u l k high living has =
+      let v : IsLiving settings (upto n run) u l =
+      (known-at settings users run is stepped unforged fresh.mis n).living u l living in
+      installs-more n high (install_by u k) (v.backed k (has-in k (installs (keys_in l)) has))
+
+  sending-of : (n s : ℕ) (key : Key) → n ≤ length run
+      → transmitting_at settings s (upto n run) ≡ Some key
+      → In (install_by s key) (ledgers.installs run)
+  sending-of n s key high sends = go (life settings s (upto n run)) refl sends
+    where
+      go : (o : Option Life) → life settings s (upto n run) ≡ o
+          → transmitting_at settings s (upto n run) ≡ Some key
+          → In (install_by s key) (ledgers.installs run)
+      go None e f = let g = rw e at f in absurd (cc (g))
+      go (Some l) e f =
+          let g : transmitting (keys_in l) ≡ Some key = rw e at f in
+          of-run n s l key high e (received-installed (keys_in l) key
+          (transmitting-received (keys_in l) key g))
+
+  -- where a key of the frame's identifier is received, the frame is found
+  found : (c d sender t : ℕ) (key : Key) (frame : ℕ)
+      (F : IsFlight settings run c d sender t key frame)
+      → Holds key.id (keys_at settings t (upto d run)) → IsFound settings run d t frame key
+  found c d sender t key frame F H =
+      let K = flight settings users run is stepped unforged fresh.mis c d sender t key frame F in
+      let l = K.life_then in
+      let high = F.within in
+      let here = keys-of-life settings t (upto d run) l K.living in
+      let has = received-installed (keys_at settings t (upto d run)) H.key H.received_here in
+      let mine = of-run d t l H.key (omega arith) K.living
+      (subst (λ w. Has H.key (installs w)) here has) in
+      let C = F.claims in
+      let within = C.within in
+      let theirs = sending-of c sender key (omega arith) C.sends in
+      let one = run-one_key settings users run (known settings users run stepped unforged) fresh
+      (install_by t H.key) (install_by sender key) mine theirs H.named in
+      let kept = kept-at settings users run is stepped unforged fresh.mis t d (omega arith) in
+      let under = under-is (received (keys_at settings t (upto d run))) H.key
+      (ans-differ kept.0 (keys_at settings t (upto d run)) kept.1) H.received_here in
+      let stands : standing_key (receiving t (upto d run)) key.an ≡ Some key.sak =
+      slots-at settings users run is stepped unforged fresh.mis d (omega arith) t key.an
+      ∙ ap (λ an. sak_under an (received (keys_at settings t (upto d run)))) (sym one.1)
+      ∙ ap (option_map (λ (w : Key). w.sak)) under ∙ ap Some one.0 in
+      let answered = answers-it laws l.member.setup.sci settings.window
+      (receiving t (upto d run)) key.sak K.sci key.an K.pn key.conf K.user K.key_is K.sent
+      stands in
+      record {
+        event = K.event;
+        at = K.at;
+        arrival = answer l.member.setup.sci settings.window (receiving t (upto d run)) K.octets;
+        fact = K.fact;
+        answers = subst (λ o. Answers (answer l.member.setup.sci settings.window
+            (receiving t (upto d run)) o)) (sym K.protected_so) answered;
+        receives = record {
+          key = H.key;
+          received_here =
+              has-in H.key (received (keys_at settings t (upto d run))) H.received_here;
+          number =
+              one.1;
+          secret = one.0;
+        };
+      }
+
+  module _ (from q i server : ℕ) (old_id new_id : KeyId) (lag : ℕ)
+      (S : IsSteady settings run from q i server old_id new_id lag) where
+    -- any frame under the old key that comes so soon is found
+    old-found : (c d sender t : ℕ) (key : Key) (frame : ℕ)
+        → IsFlight settings run c d sender t key frame → key.id ≡ old_id → q < d
+        → HasSaid server t d (IsKeeper settings run i server old_id)
+        → rounds from (upto d run) < rounds from (upto (suc i) run) + retire_time
+        → IsFound settings run d t frame key
+    old-found c d sender t key frame F named after who soon =
+        found c d sender t key frame F
+        (subst (λ v. Holds v (keys_at settings t (upto d run))) (sym named)
+        (held-old settings users run is stepped unforged fresh.mis from S.whole_rounds q i server
+        old_id new_id lag S d frame t F.event F.within F.at F.delivered after soon who))
+
+    -- a frame in time is found
+    in-time-found : (c d sender t : ℕ) (key : Key) (frame : ℕ)
+        → IsFlight settings run c d sender t key frame
+        → IsInTime settings run from q i server old_id new_id lag c d sender t key
+        → IsFound settings run d t frame key
+    in-time-found c d sender t key frame F T =
+        by_sum T
+        (λ o. let K = flight settings users run is stepped unforged fresh.mis c d sender t key frame
+        F in
+        let order = K.order in let after = o.after in let high = F.within in
+        old-found c d sender t key frame F o.named (omega arith) o.reaches
+        (soon-for-old settings users run is stepped unforged fresh.mis from S.whole_rounds q i
+        server old_id new_id lag S c d sender t F.pn key (omega arith) F.claims o))
+        (λ n. let K = flight settings users run is stepped unforged fresh.mis c d sender t key frame
+        F in
+        let order = K.order in let after = n.after in
+        found c d sender t key frame F
+        (subst (λ v. Holds v (keys_at settings t (upto d run))) (sym n.named)
+        (held-new settings users run is stepped unforged fresh.mis from S.whole_rounds q i server
+        old_id new_id lag S d t F.within (omega arith) n.last n.reaches)))
+
+-- ---- with no other premise
+
+-- a run with a rollover is of a group that may be set up so
+setting-of : (settings : Settings) (users : List UserFrame) (run : Run) (from q i server : ℕ)
+    (old_id new_id : KeyId) (lag : ℕ) → IsStepped settings users run → IsFresh run
+    → IsSteady settings run from q i server old_id new_id lag → IsSetting settings
+setting-of settings users run from q i server old_id new_id lag stepped fresh S =
+    (step-at settings users run stepped fresh.mis i S.begins.event S.begins.within
+    S.begins.at).setting
+
+pub any-old-found : FrameLaws → (settings : Settings) (users : List UserFrame) (run : Run)
+    → IsStepped settings users run → IsUnforged settings run → IsFresh run
+    → (from q i server : ℕ) (old_id new_id : KeyId) (lag : ℕ)
+    → IsSteady settings run from q i server old_id new_id lag
+    → (c d sender t : ℕ) (key : Key) (frame : ℕ) → IsFlight settings run c d sender t key frame
+    → key.id ≡ old_id → q < d
+    → HasSaid server t d (IsKeeper settings run i server old_id)
+    → rounds from (upto d run) < rounds from (upto (suc i) run) + retire_time
+    → IsFound settings run d t frame key
+any-old-found laws settings users run stepped unforged fresh from q i server old_id new_id lag S c d
+    sender t key frame F named after who soon =
+    old-found laws settings users run
+    (setting-of settings users run from q i server old_id new_id lag stepped fresh S) stepped
+    unforged fresh
+    from q i server old_id new_id lag S c d sender t key frame F named after who soon
+
+pub hitless : FrameLaws → (settings : Settings) (users : List UserFrame) (run : Run)
+    → IsStepped settings users run → IsUnforged settings run → IsFresh run
+    → (from q i server : ℕ) (old_id new_id : KeyId) (lag : ℕ)
+    → IsSteady settings run from q i server old_id new_id lag
+    → (c d sender t : ℕ) (key : Key) (frame : ℕ) → IsFlight settings run c d sender t key frame
+    → IsInTime settings run from q i server old_id new_id lag c d sender t key
+    → IsFound settings run d t frame key
+hitless laws settings users run stepped unforged fresh from q i server old_id new_id lag S c d
+    sender t key frame F T =
+    in-time-found laws settings users run
+    (setting-of settings users run from q i server old_id new_id lag stepped fresh S) stepped
+    unforged fresh
+    from q i server old_id new_id lag S c d sender t key frame F T

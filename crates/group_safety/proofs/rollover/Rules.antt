@@ -1,0 +1,274 @@
+-- What the rules of a station say where a key begins, is made or is taken.
+use Rattle.std.proofs.Common.{◌≡◌, ℕ, Bool, true, false, not, ◌&&◌, List, refl, ap, sym, ◌∙◌, subst}
+use Rattle.std.proofs.Common.{Option, Some, None, is_some, Result, Ok, Err, nat_lt, length}
+use Rattle.std.proofs.lemmas.Bool.{and_parts}
+use Rattle.std.specs.Prelude.{is_none}
+use Rattle.std.specs.List.{list_all}
+use Rattle.aes_block.specs.declared.secret.Secret.{Secret}
+use Rattle.mkpdu_codec.specs.declared.announcement.Announcement.{Announcement}
+use Rattle.mkpdu_codec.specs.declared.given.Given.{Given}
+use Rattle.mkpdu_codec.specs.declared.key_use.Uses.{Uses}
+use Rattle.peer_lists.specs.declared.heard.Outcome.{Outcome}
+use Rattle.sak_exchange.specs.declared.change.Cause.TheVariants.{All, Flag}
+use Rattle.sak_exchange.specs.declared.change.Why.{Why}
+use Rattle.sak_exchange.specs.declared.due.Seen.{Seen}
+use Rattle.sak_exchange.specs.declared.offer.Offer.{Offer}
+use Rattle.sak_exchange.specs.declared.report.Report.{Report}
+use Rattle.sak_exchange.specs.Histories.{Key, Keying, has_begun, clock, last_made_at, last_roster}
+use Rattle.sak_exchange.specs.Held.{latest, allows, may_begin}
+use Rattle.sak_exchange.specs.Reports.{reports_latest, transmits}
+use Rattle.sak_exchange.specs.Beginning.{Beginning, leads, follows, lead_cause, is_latest_made}
+use Rattle.sak_exchange.specs.Beginning.{is_long_ago}
+use Rattle.sak_exchange.specs.Making.{makes, made_key, next_epoch}
+use Rattle.sak_exchange.specs.Taking.{judged, provided, provided_new, unwrapped_key, offered_key}
+use Rattle.sak_exchange.specs.Taking.{greatest_of, number_of, is_supported, offset_of}
+use Rattle.sak_exchange.specs.Unwrapping.{given_sak}
+use Rattle.sak_exchange.specs.Lives.{IsOver}
+use Rattle.sak_exchange.proofs.Cases.{by_test, by_option, not-true}
+use Rattle.mka_station.specs.Lives.{Member}
+use Rattle.mka_station.specs.Views.{View, reports, serves, is_server}
+use Rattle.mka_station.specs.Tick.{led, made, makes_now}
+use Rattle.mka_station.specs.Hearing.{is_accepted, is_vouched, is_listed, offered, taken_of}
+use Rattle.mka_station.specs.Hearing.{key_taken, followed}
+
+-- ---- the server leads
+
+-- a key that its own server begins
+pub record IsLed (m : Member) (v : View) (b : Beginning) : Type 0 where
+  pub serves_here : serves m v ≡ true
+  pub latest_key : latest v.keys ≡ Some b.key
+  pub made_here : is_latest_made v.keys ≡ true
+  pub unbegun : has_begun v.keys b.key.epoch ≡ false
+  pub caused : lead_cause v.keys (reports v.live) b.key ≡ Some b.cause
+
+led-by : (h : List Keying) (live : List Report) (b : Beginning) → leads h live ≡ Some b
+    → (latest h ≡ Some b.key) × (is_latest_made h ≡ true) × (has_begun h b.key.epoch ≡ false) ×
+    (lead_cause h live b.key ≡ Some b.cause)
+led-by h live b is =
+    by_option (latest h)
+    (λ none. let never = rw none at is in absurd (cc (never)))
+    (λ k newest. let found = rw newest at is in
+    by_test (is_some (last_roster h) && not (has_begun h k.epoch))
+    (λ t. let both = and_parts (is_some (last_roster h)) (not (has_begun h k.epoch)) t in
+    let here : is_latest_made h ≡ true = rw newest both.0 in
+    by_option (lead_cause h live k)
+    (λ none. let never = rw (t, none) at found in absurd (cc (never)))
+    (λ c caused. let now = rw (t, caused) at found in
+    let key : k ≡ b.key = let e : record { key = k; cause = c } ≡ b = cc (now) in
+    ap (λ (w : Beginning). w.key) e in
+    let cause : c ≡ b.cause = let e : record { key = k; cause = c } ≡ b = cc (now) in
+    ap (λ (w : Beginning). w.cause) e in (
+      newest ∙ ap Some key,
+      here,
+      subst (λ (j : Key). has_begun h j.epoch ≡ false) key (not-true (has_begun h k.epoch) both.1),
+      subst (λ (j : Key). lead_cause h live j ≡ Some b.cause) key (caused ∙ ap Some cause),
+    )))
+    (λ f. let never = rw f at found in absurd (cc (never))))
+
+pub led-is : (m : Member) (v : View) (b : Beginning) → led m v ≡ Some b → IsLed m v b
+led-is m v b is =
+    by_test (serves m v)
+    (λ t. let r = led-by v.keys (reports v.live) b (rw t at is) in
+    record { serves_here = t; latest_key = r.0; made_here = r.1; unbegun = r.2; caused = r.3 })
+    (λ t. let never = rw t at is in absurd (cc (never)))
+
+pub may : (h : List Keying) (k : Key) → latest h ≡ Some k → has_begun h k.epoch ≡ false
+    → may_begin h k.epoch ≡ true
+may h k is unbegun = rw (is, unbegun)
+    (rw (Rattle.std.proofs.lemmas.Bool.eq-eqb k.epoch k.epoch refl) refl)
+
+-- where all report it, all do
+pub all-report : (h : List Keying) (live : List Report) (k : Key) → lead_cause h live k ≡ Some All
+    → list_all (λ r. reports_latest k.id r.uses) live ≡ true
+all-report h live k is =
+    by_test (list_all (λ r. reports_latest k.id r.uses) live) (λ t. t)
+    (λ t. by_test (is_long_ago (clock h) (last_made_at h))
+    (λ u. let never = rw (t, u) at is in absurd (cc (never)))
+    (λ u. let never = rw (t, u) at is in absurd (cc (never))))
+
+-- nobody leads because of a flag
+pub no-flag : (h : List Keying) (live : List Report) (k : Key) → lead_cause h live k ≡ Some Flag → ⊥
+no-flag h live k is =
+    by_test (list_all (λ r. reports_latest k.id r.uses) live)
+    (λ t. let never = rw t at is in cc (never))
+    (λ t. by_test (is_long_ago (clock h) (last_made_at h))
+    (λ u. let never = rw (t, u) at is in cc (never))
+    (λ u. let never = rw (t, u) at is in cc (never)))
+
+-- ---- the server makes
+
+pub record IsMaking (m : Member) (v : View) (seen : Seen) (sak : Secret) (k : Key) : Type 0 where
+  pub serves_here : serves m v ≡ true
+  pub none_led : led m v ≡ None
+  pub allowed : allows v.keys ≡ true
+  pub key : k ≡ made_key m.base m.mi v.keys m.setup.conf sak
+
+none-is : {A : Type 0} (o : Option A) → is_none o ≡ true → o ≡ None
+none-is None is = refl
+none-is (Some a) is = absurd (cc (is))
+
+pub made-is : (m : Member) (v : View) (seen : Seen) (sak : Secret) (k : Key)
+    → made m v seen sak ≡ Some k
+    → IsMaking m v seen sak k
+made-is m v seen sak k is =
+    by_test (makes_now m v seen)
+    (λ t. let found = rw t at is in
+    let first = and_parts (serves m v)
+    (is_none (led m v) && makes v.keys (reports v.live)
+    (nat_lt 0 (length v.potential)) seen m.setup.rekey) t in
+    let second = and_parts (is_none (led m v))
+    (makes v.keys (reports v.live) (nat_lt 0 (length v.potential)) seen m.setup.rekey) first.1
+    in
+    let third = and_parts (allows v.keys) _ second.1 in
+    record {
+      serves_here = first.0;
+      none_led = none-is (led m v) second.0;
+      allowed = third.0;
+      key =
+          let e : made_key m.base m.mi v.keys m.setup.conf sak ≡ k = cc (found) in sym e;
+    })
+    (λ t. let never = rw t at is in absurd (cc (never)))
+
+-- ---- a member takes
+
+pub record IsTaking (m : Member) (v : View) (o : Outcome) (a : Announcement)
+    (k : Key) : Type 0 where
+  pub gift : Given
+  pub gives : a.given ≡ Some gift
+  pub accepted : is_accepted o ≡ true
+  pub elected : is_server v.server a.mi ≡ true
+  pub server : k.id.server ≡ a.mi
+  pub number : k.id.number ≡ number_of gift
+  pub over : IsOver (greatest_of a.mi v.keys) k.id.number
+  pub allowed : allows v.keys ≡ true
+  pub epoch : k.epoch ≡ next_epoch m.base v.keys
+
+given-ok : (b : Bool) (why : Why) (rest : Result Key Why) (k : Key) → provided b why rest ≡ Ok k
+    → (b ≡ true) × (rest ≡ Ok k)
+given-ok true why rest k is = (refl, is)
+given-ok false why rest k is = absurd (cc (is))
+
+over-ok : (kept : Option ℕ) (number : ℕ) (rest : Result Key Why) (k : Key)
+    → provided_new kept number rest ≡ Ok k
+    → IsOver kept number × (rest ≡ Ok k)
+over-ok None number rest k is = (tt, is)
+over-ok (Some n) number rest k is =
+    let r = given-ok (nat_lt n number)
+    (Rattle.sak_exchange.specs.declared.change.Why.TheVariants.Seen n) rest k is in
+    (Rattle.std.proofs.lemmas.Bool.ltb-true n number r.0, r.1)
+
+hidden-ok : (epoch : ℕ) (o : Offer) (sak : Option Secret) (k : Key)
+    → unwrapped_key epoch o sak ≡ Ok k
+    → (s : Secret) × (k ≡ offered_key epoch o s)
+hidden-ok epoch o None k is = absurd (cc (is))
+hidden-ok epoch o (Some s) k is = (s, let e : offered_key epoch o s ≡ k = cc (is) in sym e)
+
+pub record IsJudged (kept : Option ℕ) (allowed : Bool) (epoch : ℕ) (o : Offer)
+    (k : Key) : Type 0 where
+  pub elected : o.elected ≡ true
+  pub over : IsOver kept (number_of o.given)
+  pub may_take : allowed ≡ true
+  pub hidden : (s : Secret) × (k ≡ offered_key epoch o s)
+
+judged-ok : (kept : Option ℕ) (allowed : Bool) (epoch : ℕ) (o : Offer) (sak : Option Secret)
+    (k : Key)
+    → judged kept allowed epoch o sak ≡ Ok k → IsJudged kept allowed epoch o k
+judged-ok kept allowed epoch o sak k is =
+    let a = given-ok o.listed _ _ k is in
+    let b = given-ok o.elected _ _ k a.1 in
+    let c = over-ok kept (number_of o.given) _ k b.1 in
+    let d = given-ok allowed _ _ k c.1 in
+    let e = given-ok (is_supported o.given) _ _ k d.1 in
+    let f = given-ok (nat_lt (offset_of o.given) 2) _ _ k e.1 in
+    record { elected = b.0; over = c.0; may_take = d.0; hidden = hidden-ok epoch o sak k f.1 }
+
+taken-ok : (r : Result Key Why) (k : Key) → key_taken (Some r) ≡ Some k → r ≡ Ok k
+taken-ok (Ok j) k is = let e : j ≡ k = cc (is) in ap Ok e
+taken-ok (Err why) k is = absurd (cc (is))
+
+pub taking-is : (m : Member) (v : View) (o : Outcome) (a : Announcement) (k : Key)
+    → key_taken (taken_of m v (offered m v o a)) ≡ Some k → IsTaking m v o a k
+taking-is m v o a k is =
+    by_test (is_accepted o)
+    (λ t. let first = rw t at is in
+    by_option a.given
+    (λ none. let never = rw none at first in absurd (cc (never)))
+    (λ g gives. let second = rw gives at first in
+    let r = taken-ok _ k second in
+    let offer : Offer = record {
+      given = g;
+      server = a.mi;
+      listed = is_listed m v.peers a;
+      elected =
+          is_server v.server a.mi;
+    } in
+    let j = judged-ok (greatest_of a.mi v.keys) (allows v.keys) (next_epoch m.base v.keys) offer
+    (given_sak m.setup.kek g) k r in
+    let key = j.hidden.1 in
+    record {
+      gift = g;
+      gives = gives;
+      accepted = t;
+      elected = j.elected;
+      server = ap (λ (w : Key). w.id.server) key;
+      number = ap (λ (w : Key). w.id.number) key;
+      over = subst (λ n. IsOver (greatest_of a.mi v.keys) n)
+          (sym (ap (λ (w : Key). w.id.number) key)) j.over;
+      allowed = j.may_take;
+      epoch = ap (λ (w : Key). w.epoch) key;
+    }))
+    (λ t. let never = rw t at is in absurd (cc (never)))
+
+-- ---- a member follows
+
+pub record IsFollowing (v : View) (o : Outcome) (a : Announcement) (b : Beginning) : Type 0 where
+  pub vouched : is_vouched o ≡ true
+  pub elected : is_server v.server a.mi ≡ true
+  pub uses : Uses
+  pub said : a.uses ≡ Some uses
+  pub latest_key : latest v.keys ≡ Some b.key
+  pub unbegun : has_begun v.keys b.key.epoch ≡ false
+  pub sends : transmits b.key.id uses ≡ true
+  pub cause : b.cause ≡ Flag
+
+following-by : (h : List Keying) (u : Uses) (b : Beginning) → follows h u ≡ Some b
+    → (latest h ≡ Some b.key) × (has_begun h b.key.epoch ≡ false) × (transmits b.key.id u ≡ true) ×
+    (b.cause ≡ Flag)
+following-by h u b is =
+    by_option (latest h)
+    (λ none. let never = rw none at is in absurd (cc (never)))
+    (λ k newest. let found = rw newest at is in
+    by_test (not (has_begun h k.epoch) && transmits k.id u)
+    (λ t. let both = and_parts (not (has_begun h k.epoch)) (transmits k.id u) t in
+    let now = rw t at found in
+    let e : record { key = k; cause = Flag } ≡ b = cc (now) in
+    let key : k ≡ b.key = ap (λ (w : Beginning). w.key) e in (
+      newest ∙ ap Some key,
+      subst (λ (j : Key). has_begun h j.epoch ≡ false) key (not-true (has_begun h k.epoch) both.0),
+      subst (λ (j : Key). transmits j.id u ≡ true) key both.1,
+      sym (ap (λ (w : Beginning). w.cause) e),
+    ))
+    (λ f. let never = rw f at found in absurd (cc (never))))
+
+pub following-is : (v : View) (o : Outcome) (a : Announcement) (b : Beginning)
+    → followed v o a ≡ Some b
+    → IsFollowing v o a b
+following-is v o a b is =
+    by_test (is_vouched o && is_server v.server a.mi)
+    (λ t. let both = and_parts (is_vouched o) (is_server v.server a.mi) t in
+    let found = rw t at is in
+    by_option a.uses
+    (λ none. let never = rw none at found in absurd (cc (never)))
+    (λ u said. let r = following-by v.keys u b (rw said at found) in
+    record {
+      vouched = both.0;
+      elected = both.1;
+      uses = u;
+      said = said;
+      latest_key = r.0;
+      unbegun =
+          r.1;
+      sends = r.2;
+      cause = r.3;
+    }))
+    (λ t. let never = rw t at is in absurd (cc (never)))

@@ -1,0 +1,11 @@
+-- What a reader reads: one use of each packet number and one key under each identifier; then moments
+-- and rounds of a run, what a station is then, steady rollovers, and frames in time for them; and
+-- the summary of a run.
+pub mod Once
+pub mod Moments
+pub mod Rounds
+pub mod Stations
+pub mod Steady
+pub mod Time
+pub mod Summary
+pub mod inside

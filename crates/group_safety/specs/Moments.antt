@@ -1,0 +1,11 @@
+-- Moments: a run stands newest first, and a moment is how many of its events have come.
+use Rattle.std.specs.Prelude.{◌≡◌, suc, ℕ, List, [], ◌∷◌, length, nat_lt, cond}
+
+-- the run at a moment: its oldest events
+unfoldable pub upto : {A : Type 0} → ℕ → List A → List A
+upto n [] = []
+upto n (x ∷ r) = cond (nat_lt (length r) n) (x ∷ r) (upto n r)
+
+-- the event that comes at a moment
+abbrev pub At : {A : Type 0} → List A → ℕ → A → Type 0
+At run n x = upto (suc n) run ≡ x ∷ upto n run

@@ -1,0 +1,121 @@
+-- A steady rollover: a key server begins a key that all live members said they receive, and the
+-- members follow while nobody restarts, the server stays elected and ticks come in whole rounds.
+use Rattle.std.specs.Prelude.{◌≡◌, ◌<◌, ◌≤◌, ◌+◌, ℕ, suc, false, true, List, length}
+use Rattle.std.specs.Prelude.{Some, is_some, option_map}
+use Rattle.lan_base.specs.declared.key_id.KeyId.{KeyId}
+use Rattle.lan_base.specs.Timers.{retire_time}
+use Rattle.mkpdu_codec.specs.declared.announcement.Announcement.{Announcement}
+use Rattle.peer_lists.specs.Acceptance.{Accepted}
+use Rattle.sak_exchange.specs.declared.change.Cause.{Cause}
+use Rattle.sak_exchange.specs.declared.change.Cause.TheVariants.{All, Flag}
+use Rattle.sak_exchange.specs.Held.{old}
+use Rattle.sak_exchange.specs.Reports.{reports_old}
+use Rattle.aes_block.specs.declared.secret.Secret.{Secret}
+use Rattle.mka_station.specs.Lives.{live_words, peers_of}
+use Rattle.mka_station.specs.Hearing.{right}
+use Rattle.lan_core.specs.declared.event.Event.TheVariants as events
+use Rattle.lan_core.specs.declared.fact.Fact.TheVariants as facts
+use Rattle.lan_core.specs.declared.settings.Settings.{Settings}
+use Rattle.lan_core.specs.Run.{Run, Happening, Profile, stations}
+use Rattle.lan_core.specs.Lives.{Life, life, setup_of}
+use Rattle.group_safety.specs.Once.{In}
+use Rattle.group_safety.specs.Moments.{upto, At}
+use Rattle.group_safety.specs.Rounds.{pace, rounds}
+use Rattle.group_safety.specs.Stations.{mi_at, keys_at, server_at}
+
+-- in the event at a moment a station begins the key of an identifier
+pub record Begins (run : Run) (n s : ℕ) (id : KeyId) (cause : Cause) : Type 0 where
+  pub event : Happening
+  pub at : At run n event
+  pub within : n < length run
+  pub an : ℕ
+  pub epoch : ℕ
+  pub fact : In (facts.Began s id an epoch cause) event.facts
+
+-- it makes one: it installs the key at a tick
+pub record Makes (run : Run) (n s : ℕ) (id : KeyId) : Type 0 where
+  pub event : Happening
+  pub at : At run n event
+  pub within : n < length run
+  pub next : ℕ
+  pub tick : event.event ≡ events.Tick s next
+  pub an : ℕ
+  pub epoch : ℕ
+  pub sak : Secret
+  pub fact : In (facts.Installed s id an epoch sak) event.facts
+
+-- it puts a frame of key agreement on the air that spells an announcement
+pub record Sends (settings : Settings) (run : Run) (n s : ℕ) (a : Announcement) : Type 0 where
+  pub event : Happening
+  pub at : At run n event
+  pub within : n < length run
+  pub number : ℕ
+  pub octets : List ℕ
+  pub fact : In (facts.Framed number s false octets) event.facts
+  pub profile : Profile
+  pub here : In profile (stations run)
+  pub spelled : right (setup_of settings profile) octets ≡ Some a
+
+-- a station isn't restarted from a moment on
+pub record IsUnbroken (run : Run) (s a : ℕ) : Type 0 where
+  pub on : (n : ℕ) (x : Happening) → a ≤ n → At run n x → n < length run
+      → x.event ≡ events.Restart s → ⊥
+
+-- its elected server is that of the other station's life, from a moment on
+pub record Trusts (settings : Settings) (run : Run) (t server a : ℕ) : Type 0 where
+  pub on : (n : ℕ) → a ≤ n → n ≤ length run
+      → server_at settings t (upto n run) ≡ mi_at settings server (upto n run)
+
+-- A listener: a station that said what a live member says to the server after the event at a
+-- moment, and the moment at which it sent that.
+pub record IsListener (settings : Settings) (run : Run) (i server t sent : ℕ) (says : Accepted) :
+    Type 0 where
+  pub server_life : Life
+  pub living : life settings server (upto (suc i) run) ≡ Some server_life
+  pub live :
+      In says (live_words server_life.member (peers_of server_life.member server_life.past))
+  pub announcement : Announcement
+  pub sends : Sends settings run sent t announcement
+  pub mi : announcement.mi ≡ says.told.mi
+  pub mn : announcement.mn ≡ says.told.mn
+
+-- a keeper: one that said, too, that it receives the old key as its old one
+pub record IsKeeper (settings : Settings) (run : Run) (i server : ℕ) (old_id : KeyId) (t sent : ℕ)
+    (says : Accepted) : Type 0 where
+  pub listener : IsListener settings run i server t sent says
+  pub keeps : reports_old old_id says.told.uses ≡ true
+
+-- A steady rollover of a run, whose rounds count from a moment on: in event q the server makes the
+-- new key, and in event i it begins it; the members begin it no later than so many rounds after.
+pub record IsSteady (settings : Settings) (run : Run) (from q i server : ℕ)
+    (old_id new_id : KeyId) (lag : ℕ) : Type 0 where
+  -- the server begins the new key since all reported it, and the old one is then its old key
+  pub begins : Begins run i server new_id All
+  pub old_held : option_map (λ k. k.id) (old (keys_at settings server (upto (suc i) run)))
+      ≡ Some old_id
+  -- it made the new key before, and since then isn't restarted and is its own elected server
+  pub makes : Makes run q server new_id
+  pub order : q ≤ i
+  pub unbroken : IsUnbroken run server q
+  pub served : Trusts settings run server server (suc q)
+  -- from the round of the make on, ticks come in whole rounds only
+  pub whole_rounds : is_some (pace from run) ≡ true
+  pub early : from ≤ q
+  pub first_round : rounds from (upto (suc q) run) ≡ 1
+  -- since it sent what it says, no listener was restarted, and its elected server is the server
+  pub listeners_stay : (t sent : ℕ) (says : Accepted)
+      → IsListener settings run i server t sent says → IsUnbroken run t sent
+  pub listeners_trust : (t sent : ℕ) (says : Accepted)
+      → IsListener settings run i server t sent says → Trusts settings run t server (suc sent)
+  -- the keepers that begin the new key do so since they follow, and in time; and each has begun it
+  -- where the run has come to a later round
+  pub lag_short : lag < retire_time
+  pub follow : (t sent : ℕ) (says : Accepted)
+      → IsKeeper settings run i server old_id t sent says → (x : ℕ) (cause : Cause)
+      → Begins run x t new_id cause
+      → (cause ≡ Flag)
+      × (rounds from (upto (suc x) run) ≤ rounds from (upto (suc i) run) + lag)
+  pub begun : (t sent : ℕ) (says : Accepted)
+      → IsKeeper settings run i server old_id t sent says
+      → rounds from (upto (suc i) run) + lag < rounds from run
+      → (x : ℕ) × (cause : Cause) × Begins run x t new_id cause

@@ -1,0 +1,57 @@
+//! Hitless rollover: each frame that is delivered in time meets an association that holds its key.
+
+ghost use Rattle.std.specs.Prelude.{◌≡◌, ◌<◌, ◌++◌, ◌+◌, ℕ, suc, List};
+ghost use Rattle.lan_base.specs.declared.frame.UserFrame.{UserFrame};
+ghost use Rattle.lan_base.specs.declared.key_id.KeyId.{KeyId};
+ghost use Rattle.lan_base.specs.Timers.{retire_time};
+ghost use Rattle.sak_exchange.specs.Histories.{Key};
+ghost use Rattle.lan_core.specs.declared.settings.Settings.{Settings};
+ghost use Rattle.lan_core.specs.Run.{Run};
+ghost use Rattle.lan_core.specs.Legal.{IsStepped, IsLegal};
+ghost use Rattle.lan_core.specs.Fresh.{IsFresh, IsUnforged};
+ghost use Rattle.group_safety.specs.Moments.{upto};
+ghost use Rattle.group_safety.specs.Rounds.{rounds};
+ghost use Rattle.group_safety.specs.Steady.{IsKeeper, IsSteady};
+ghost use Rattle.group_safety.specs.Time.{IsFlight, IsFound, HasSaid, IsInTime};
+
+use gcm_frames::{law_protected_is_opened, law_protected_is_read};
+
+/// In every steady rollover, a frame that is delivered in time is found: it is answered, by a key that
+/// has its association number and its SAK. The run may go on.
+pub fn law_hitless()
+    ensures legal { (settings : Settings) (users : List UserFrame) (later run : Run)
+        (from q i server : ℕ) (old_id new_id : KeyId) (lag c d sender t : ℕ) (key : Key) (frame : ℕ)
+        → IsLegal settings users (later ++ run) → IsFresh (later ++ run)
+        → IsUnforged settings (later ++ run)
+        → IsSteady settings run from q i server old_id new_id lag
+        → IsFlight settings run c d sender t key frame
+        → IsInTime settings run from q i server old_id new_id lag c d sender t key
+        → IsFound settings run d t frame key }
+    ensures stepped { (settings : Settings) (users : List UserFrame) (run : Run)
+        (from q i server : ℕ) (old_id new_id : KeyId) (lag c d sender t : ℕ) (key : Key) (frame : ℕ)
+        → IsStepped settings users run → IsFresh run → IsUnforged settings run
+        → IsSteady settings run from q i server old_id new_id lag
+        → IsFlight settings run c d sender t key frame
+        → IsInTime settings run from q i server old_id new_id lag c d sender t key
+        → IsFound settings run d t frame key }
+{
+    law_protected_is_read();
+    law_protected_is_opened();
+}
+
+/// In every steady rollover, any frame under the old key, whoever sent it and whenever it was claimed, is
+/// found where it reaches the server after the make, or a keeper after it reported the new key, less than
+/// the retire time after the beginning, in rounds.
+pub fn law_old_key_is_received()
+    ensures { (settings : Settings) (users : List UserFrame) (run : Run) (from q i server : ℕ)
+        (old_id new_id : KeyId) (lag c d sender t : ℕ) (key : Key) (frame : ℕ)
+        → IsStepped settings users run → IsFresh run → IsUnforged settings run
+        → IsSteady settings run from q i server old_id new_id lag
+        → IsFlight settings run c d sender t key frame → key.id ≡ old_id → q < d
+        → HasSaid server t d (IsKeeper settings run i server old_id)
+        → rounds from (upto d run) < rounds from (upto (suc i) run) + retire_time
+        → IsFound settings run d t frame key }
+{
+    law_protected_is_read();
+    law_protected_is_opened();
+}
