@@ -1,0 +1,23 @@
+mod Doing
+mod Flowing
+mod Counting
+mod Placing
+mod Looking
+mod Coming
+mod Drawing
+mod Users
+mod Awaiting
+mod LinesCome
+mod Happening
+mod Tidying
+mod Sending
+mod Refusing
+mod Performing
+mod Commanding
+mod Staging
+mod Feeding
+mod Opening
+mod Limits
+mod Reading
+mod Texting
+pub mod Returning

@@ -1,0 +1,84 @@
+-- Worlds stay tidy.
+use Rattle.std.proofs.Common.{◌≡◌, ℕ, Bool, true, false, ◌⊎◌, inl, inr, subst, List, [], ◌∷◌, ◌++◌, Option, Some, None, refl, sym, ap, ◌∙◌, append_assoc, append-nil}
+use Rattle.std.specs.Prelude.{map, cond, nat_lt}
+use Rattle.std.proofs.lemmas.List.{map-append}
+use Rattle.lan_core.specs.declared.event.Event.{Event}
+use Rattle.lan_core.specs.declared.event.Event.TheVariants as events
+use Rattle.lan_core.specs.declared.fact.Fact.{Fact}
+use Rattle.lan_core.specs.declared.fact.Fact.TheVariants as facts
+use Rattle.lan_core.specs.Run.{happened}
+use Rattle.lan_core.specs.Ledgers.{Frame, air, framed, gather}
+use Rattle.lan_core.specs.Expected.{expected, drawn_from, last_number}
+use Rattle.lan_core.specs.Types.{IsTyped, IsSetting}
+use Rattle.lan_core.specs.Unstopped.{IsUnstopped, LeavesNoneOut}
+use Rattle.lan_core.proofs.Unstopped.{is-step, legal, fresh, unforged}
+use Rattle.lan_core.proofs.Thrifty.{stays-thrifty}
+use Rattle.lan_core.specs.Stops.{first_stop}
+use Rattle.lan_core.specs.Standing.{State, StandsFor}
+use Rattle.lan_schedule.specs.declared.frames.Put.{Put}
+use Rattle.lan_schedule.specs.World.{World, settings, puts}
+use Rattle.lan_schedule.specs.Answers.{supply}
+use Rattle.lan_schedule.specs.Acts.{happen, world_after}
+use Rattle.lan_schedule.specs.Sound.{IsTidy, IsSound, numbers_of}
+use Rattle.lan_schedule.specs.inside.Comes.{Comes, IsExact, named}
+use Rattle.lan_schedule.specs.Numbers.{shown_next}
+use Rattle.lan_schedule.proofs.Drawing.{supply-draws}
+
+-- what facts put on the air has the numbers of its frames
+numbers-gather : (rounds : ℕ) (shown : List Fact) (xs : List Frame)
+    → numbers_of (gather framed shown xs) ≡ numbers_of xs ++ map (λ (put : Put). put.number) (puts rounds shown)
+numbers-gather rounds [] xs = sym (append-nil (numbers_of xs))
+numbers-gather rounds (facts.Framed number station sec octets ∷ others) xs =
+    numbers-gather rounds others (record { number = number; station = station; sec = sec; octets = octets } ∷ xs)
+    ∙ append_assoc (numbers_of xs) (number ∷ []) (map (λ (put : Put). put.number) (puts rounds others))
+numbers-gather rounds (_ ∷ others) xs = numbers-gather rounds others xs
+
+leaves-claim : (n : ℕ) (b : Bool) → (cond b 0 n ≡ 0) ⊎ (cond b 0 n ≡ n)
+leaves-claim n true = inl refl
+leaves-claim n false = inr refl
+
+-- an exact event leaves no number out
+leaves-none : (w : World) (event : Event) → IsExact w event → LeavesNoneOut (settings w) w.run event
+leaves-none w (events.Start name sci priority) exact = tt
+leaves-none w (events.Tick s shown) exact = exact
+leaves-none w (events.Deliver frame s) exact = tt
+leaves-none w (events.Restart s) exact = tt
+leaves-none w (events.Claim s user pn) exact =
+    let n = shown_next (settings w) s w.run in
+    subst (λ (m : ℕ). (m ≡ 0) ⊎ (m ≡ n)) (sym exact) (leaves-claim n (nat_lt last_number n))
+leaves-none w events.Emit exact = tt
+leaves-none w (events.Inject s octets) exact = tt
+
+-- what an event shows leaves the run sound
+sound-after : (w : World) (event : Event) (facts : List Fact) → IsTidy w → Comes (happen event) w → IsTyped event → IsSetting (settings w)
+    → first_stop (settings w) w.kept.users w.run event (supply w) ≡ None
+    → expected (settings w) w.kept.users w.run event (drawn_from (settings w).suite (supply w)) ≡ Some facts
+    → IsSound (settings w) w.kept.users (happened event facts ∷ w.run)
+sound-after w event facts tidy comes typed setting goes shows =
+    let on : IsUnstopped (settings w) w.kept.users w.run (named w event) event (supply w) facts =
+    record { setting = setting; typed = typed; draws = supply-draws w tidy; may_come = comes.0; shows = shows; goes = goes } in
+    record {
+      legal = legal (settings w) w.kept.users w.run (named w event) event (supply w) facts on tidy.sound.legal;
+      fresh = fresh (settings w) w.kept.users w.run (named w event) event (supply w) facts on tidy.sound.legal.stepped tidy.sound.fresh;
+      unforged = unforged (settings w) w.kept.users w.run (named w event) event (supply w) facts on tidy.sound.unforged;
+      thrifty = stays-thrifty (settings w) w.kept.users (happened event facts) w.run (is-step (settings w) w.kept.users w.run (named w event) event (supply w) facts on)
+          (leaves-none w event comes.1) tidy.sound.thrifty;
+    }
+
+pub tidy-after : (w : World) (event : Event) (facts : List Fact) {lan : State} → IsTidy w → Comes (happen event) w → IsTyped event
+    → first_stop (settings w) w.kept.users w.run event (supply w) ≡ None
+    → expected (settings w) w.kept.users w.run event (drawn_from (settings w).suite (supply w)) ≡ Some facts
+    → StandsFor (settings w) w.kept.users lan (happened event facts ∷ w.run) → w.kept.begun ≡ true
+    → IsTidy (world_after w event facts)
+unfolding air
+tidy-after w event facts tidy comes typed goes shows stands begun = record {
+  sound = sound-after w event facts tidy comes typed stands.setting goes shows;
+  within = stands.within;
+  frames = map-append (λ (put : Put). put.number) w.kept.frames (puts w.kept.rounds facts)
+      ∙ ap (λ (l : List ℕ). l ++ map (λ (put : Put). put.number) (puts w.kept.rounds facts)) tidy.frames
+      ∙ sym (numbers-gather w.kept.rounds facts (air w.run));
+  numbered = stands.numbered;
+  in_turn = stands.in_turn;
+  waits = λ e. absurd (let bad : true ≡ false = sym begun ∙ e in cc);
+  draws = tidy.draws;
+}

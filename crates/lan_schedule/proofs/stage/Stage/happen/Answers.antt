@@ -1,0 +1,29 @@
+use Rattle.std.proofs.Common.{◌≡◌, refl, sym, ap, ◌∙◌}
+use Rattle.lan_schedule.proofs.Happening.{event-did, event-stopped}
+use Rattle.lan_schedule.proofs.stage.Stage.happen.Goals as goal
+
+pub returns-in-Err : goal.returns-in-Err
+returns-in-Err g c =
+    rw (c.halt_of.ensures) (event-stopped _ c.args.event.now c.in-Err.stop c.args.self.now.line _ _
+    (λ settings users r stands may. c.in-Err.ensures.refused settings users r stands may) refl refl)
+
+pub returns : goal.returns
+returns g c =
+    event-did _ c.args.event.now c.in-Ok.facts _ _ c.show.result c.requires
+    (λ settings users r stands may. record {
+      goes = c.in-Ok.ensures.goes settings users r stands may;
+      shows = c.in-Ok.ensures.facts settings users r stands may;
+      stands = c.in-Ok.ensures.stands settings users r stands may;
+      drawn = c.in-Ok.ensures.drawn settings users r stands may;
+    })
+    (record {
+      line = refl;
+      lag = refl;
+      users = refl;
+      cuts = refl;
+      names = c.in_ok-admit.ensures.names;
+      scis = c.in_ok-admit.ensures.scis;
+      frames = rw c.as_slice.ensures at c.in_ok-put.ensures;
+      numbers = λ settings r tell shows. (rw c.as_slice-2.ensures at c.in_ok-follow.ensures) settings r tell shows;
+    })
+    (rw (c.deref.ensures.value, c.as_slice-3.ensures) at c.show.ensures)

@@ -1,0 +1,5 @@
+use Rattle.std.proofs.Common.{◌≡◌, arith}
+use Rattle.lan_schedule.proofs.stage.Stage.start.Goals as goal
+
+pub happen-requires : goal.happen-requires
+happen-requires g c = (c.octets.ensures.name, c.requires, c.few.type_inv)

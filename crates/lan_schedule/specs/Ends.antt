@@ -1,0 +1,79 @@
+-- What a call did of an act: what it wrote, what it left, and how it ended (this profile's own
+-- rule).
+use Rattle.std.specs.Prelude.{◌≡◌, ℕ, ◌≤◌, List, [], ◌∷◌, ◌++◌, Option, Some, None, Result, Ok, Err}
+use Rattle.lan_base.specs.Faults.{Rose}
+use Rattle.lan_base.specs.Told.{after}
+use Rattle.lan_core.specs.Run.{Run}
+use Rattle.transcript.specs.Rendering.{transcript}
+use Rattle.lan_schedule.specs.declared.halt.Halt.{Halt}
+use Rattle.lan_schedule.specs.declared.halt.Halt.TheVariants as halts
+use Rattle.lan_schedule.specs.Sound.{IsTidy}
+use Rattle.lan_schedule.specs.World.{World, names_of}
+use Rattle.lan_schedule.specs.Acts.{Outcome, Goes, Stops, world_of}
+
+-- the facts of a run as text, those of each event under the names that the stations have by then
+abbrev pub written : Run → List ℕ
+written [] = []
+written (x ∷ r) = written r ++ transcript (names_of (x ∷ r)) x.facts
+
+-- the text of all that was shown, also before an act
+abbrev pub text_of : Outcome → List ℕ
+text_of out = written (world_of out).run
+
+-- what is held is what was held, and then a front of the text
+pub record HoldsFront (old new : Option (List ℕ)) (text : List ℕ) : Type 0 where
+  pub front : List ℕ
+  pub rest : List ℕ
+  pub parts : front ++ rest ≡ text
+  pub held : new ≡ after old front
+
+-- a sink at a moment: what it holds, and its count of faults
+pub record Sunk : Type 0 where
+  pub held : Option (List ℕ)
+  pub faults : ℕ
+
+abbrev pub sunk : Option (List ℕ) → ℕ → Sunk
+sunk held faults = record { held = held; faults = faults }
+
+-- a tidy world was shown since the sink stood at the base: its run's text was written
+pub record IsShown (base : Sunk) (w : World) (now : Sunk) : Type 0 where
+  pub tidy : IsTidy w
+  pub written : now.held ≡ after base.held (written w.run)
+  pub counts : base.faults ≤ now.faults
+
+-- A value that performs acts, and its sink, at a moment of a call; what the value stands for is
+-- given by each kind of value.
+pub record Moment (R : Type 0) : Type 0 where
+  pub value : R
+  pub sink : Sunk
+
+abbrev pub moment : {R : Type 0} → R → Option (List ℕ) → ℕ → Moment R
+moment value held faults = record { value = value; sink = sunk held faults }
+
+-- a world is reached at a moment: the value stands for it, and it was shown
+pub record IsReached {R : Type 0} (Stands : World → R → Type 0) (base : Sunk) (w : World)
+    (now : Moment R) : Type 0 where
+  pub stands : Stands w now.value
+  pub shown : IsShown base w now.sink
+
+-- the act stopped in a world, all of which was shown
+abbrev pub IsStopped : Sunk → Outcome → Sunk → Halt → Type 0
+IsStopped base out now halt = (w : World) × (out ≡ Stops w halt) × IsShown base w now
+
+-- how a call ends early whose outcome would be this one
+abbrev pub EndsEarly : Sunk → Outcome → Sunk → Halt → Type 0
+EndsEarly base out now (halts.Trace line kind) = IsStopped base out now (halts.Trace line kind)
+EndsEarly base out now halts.ReadFault = ⊥
+EndsEarly base out now halts.WriteFault =
+    Rose base.faults now.faults × HoldsFront base.held now.held (text_of out)
+EndsEarly base out now halts.Memory = HoldsFront base.held now.held (text_of out)
+EndsEarly base out now (halts.Limit which) = IsStopped base out now (halts.Limit which)
+EndsEarly base out now (halts.RepeatedDraw first second) =
+    IsStopped base out now (halts.RepeatedDraw first second)
+EndsEarly base out now (halts.Forged line) = IsStopped base out now (halts.Forged line)
+
+-- how a call ends whose outcome would be this one
+abbrev pub Ends : {R : Type 0} → (World → R → Type 0)
+    → Sunk → Outcome → Moment R → Result (Unit {0}) Halt → Type 0
+Ends Stands base out now (Ok done) = (w : World) × (out ≡ Goes w) × IsReached Stands base w now
+Ends Stands base out now (Err halt) = EndsEarly base out now.sink halt

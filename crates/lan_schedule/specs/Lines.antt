@@ -1,0 +1,176 @@
+-- What each line of a trace performs (this profile's own rule).
+use Rattle.std.specs.Prelude.{ℕ, ◌+◌, ◌==◌, ◌||◌, ◌&&◌, nat_le, not, Bool, true, false, cond, List}
+use Rattle.std.specs.Prelude.{[], ◌∷◌, ◌++◌, length, map}
+use Rattle.std.specs.List.{filter}
+use Rattle.std.specs.Prelude.{Option, Some, None, Result, Ok, Err}
+use Rattle.lan_base.specs.declared.address.Mac.{Mac}
+use Rattle.lan_base.specs.declared.frame.UserFrame.{UserFrame}
+use Rattle.lan_core.specs.declared.event.Event.TheVariants.{Start, Tick, Deliver, Restart, Claim}
+use Rattle.lan_core.specs.declared.event.Event.TheVariants.{Emit, Inject}
+use Rattle.trace_text.specs.declared.fault.TextFault.{TextFault}
+use Rattle.trace_text.specs.declared.line.Line.{Line}
+use Rattle.trace_text.specs.declared.line.Line.TheVariants as lines
+use Rattle.trace_text.specs.Reading.{line_in}
+use Rattle.lan_schedule.specs.declared.halt.Kind.{Kind}
+use Rattle.lan_schedule.specs.declared.choices.Rule.{Rule}
+use Rattle.lan_schedule.specs.declared.choices.Rule.TheVariants.{Counted, Streamed, Listed}
+use Rattle.lan_schedule.specs.declared.choices.Choices.{Choices}
+use Rattle.lan_schedule.specs.declared.frames.Put.{Put}
+use Rattle.lan_schedule.specs.Settings.{secret_of, lag_of}
+use Rattle.lan_schedule.specs.World.{World, Kept, settings, count, place, sender, mark, is_cut}
+use Rattle.lan_schedule.specs.World.{with_link, without_link}
+use Rattle.lan_schedule.specs.Numbers.{shown_next, claimed_number}
+use Rattle.lan_schedule.specs.Acts.{Act, nothing, refuse, happen, change, seq, look, each, span}
+use Rattle.lan_schedule.specs.Acts.{times, unless}
+use Rattle.lan_schedule.specs.Kinds.{kind_of_fault, refusal}
+
+-- ---- settings
+
+abbrev pub choose : (Choices → Choices) → Act
+choose f = change (λ kept. record kept { chosen = f kept.chosen })
+
+-- listed draws, behind those that were listed before
+abbrev pub listed_after : Option Rule → List (List ℕ) → Rule
+listed_after (Some (Listed before)) values = Listed (before ++ values)
+listed_after _ values = Listed values
+
+-- a station came
+abbrev pub begin : Act
+begin = change (λ kept. record kept { begun = true })
+
+-- ---- ticks
+
+-- a tick of one station, which shows the next packet number
+abbrev pub tick : ℕ → Act
+tick s = look (λ w. happen (Tick s (shown_next (settings w) s w.run)))
+
+-- a tick of each station
+abbrev pub round : Act
+round = look (λ w. span tick 0 (count w))
+
+-- ---- frames
+
+-- whether a frame that is spread passes a station by: it sent the frame, or is cut off
+abbrev pub is_passed_by : World → ℕ → ℕ → Bool
+is_passed_by w from s = (s == from) || is_cut from s w.kept.cuts
+
+-- a frame goes from one station to another, unless it passes that by
+abbrev pub pass : ℕ → ℕ → ℕ → Act
+pass number from s = look (λ w. unless (is_passed_by w from s) (happen (Deliver number s)))
+
+-- a frame goes from one station to all others along the links that are whole
+abbrev pub to_others : ℕ → ℕ → Act
+to_others number from = look (λ w. span (pass number from) 0 (count w))
+
+-- a frame goes to all others, and is marked
+abbrev pub spread : ℕ → Act
+spread number = look (λ w. seq (to_others number (sender w number)) (change (mark number)))
+
+-- whether a frame's round has come: it isn't marked, and the rounds since it came are the lag at
+-- least
+abbrev pub is_due : ℕ → ℕ → Put → Bool
+is_due lag rounds put = not put.marked && nat_le (put.at + lag) rounds
+
+-- the numbers of the frames whose round has come
+abbrev pub due_of : ℕ → ℕ → List Put → List ℕ
+due_of lag rounds frames = map (λ put. put.number) (filter (is_due lag rounds) frames)
+
+abbrev pub due : World → List ℕ
+due w = due_of (lag_of w.kept.chosen) w.kept.rounds w.kept.frames
+
+abbrev pub begin_round : Act
+begin_round = change (λ kept. record kept { rounds = kept.rounds + 1 })
+
+-- a round of ticks, and then each frame whose round has come is spread, in the order of the numbers
+abbrev pub flow_round : Act
+flow_round = seq begin_round (seq round (look (λ w. each spread (due w))))
+
+-- ---- links
+
+abbrev pub link_cut : ℕ → ℕ → Act
+link_cut from to = change (λ kept. record kept { cuts = with_link from to kept.cuts })
+
+abbrev pub link_mended : ℕ → ℕ → Act
+link_mended from to = change (λ kept. record kept { cuts = without_link from to kept.cuts })
+
+-- ---- user data
+
+-- a claim that got a number is emitted
+abbrev pub claim : ℕ → ℕ → ℕ → Act
+claim s user pn = seq (happen (Claim s user pn)) (unless (pn == 0) (happen Emit))
+
+-- a station sends the user frame that was added last
+abbrev pub send : ℕ → Act
+send s = look (λ w. claim s (length w.kept.users) (claimed_number (settings w) s w.run))
+
+abbrev pub add_user : UserFrame → Act
+add_user frame = change (λ kept. record kept { users = kept.users ++ frame ∷ [] })
+
+-- ---- lines
+
+-- what a line before the first station chooses
+abbrev pub chosen_by : Line → Choices → Choices
+chosen_by lines.DrawsCount chosen = record chosen { draws = Some Counted }
+chosen_by (lines.DrawsChaCha key) chosen = record chosen { draws = Some (Streamed key) }
+chosen_by (lines.DrawsList values) chosen =
+    record chosen { draws = Some (listed_after chosen.draws values) }
+chosen_by (lines.Conf conf) chosen = record chosen { conf = Some conf }
+chosen_by (lines.Window window) chosen = record chosen { window = Some window }
+chosen_by (lines.Rekey rekey) chosen = record chosen { rekey = Some rekey }
+chosen_by (lines.Lag lag) chosen = record chosen { lag = Some lag }
+chosen_by (lines.Suite suite) chosen = record chosen { wide = Some (suite == 256) }
+chosen_by (lines.Group cak ckn) chosen =
+    record chosen { group = Some (record { cak = secret_of cak; ckn = ckn }) }
+chosen_by _ chosen = chosen
+
+-- what a line performs that isn't refused
+abbrev pub deed : Line → World → Act
+deed (lines.Station name sci priority) w =
+    seq begin (happen (Start name sci priority))
+deed (lines.Tick rounds) w = times rounds round
+deed (lines.TickOne name ticks) w = times ticks (tick (place w name))
+deed (lines.Flow rounds) w = times rounds flow_round
+deed (lines.Deliver frame name) w = happen (Deliver frame (place w name))
+deed (lines.Spread frame) w = spread frame
+deed (lines.Lose frame) w = change (mark frame)
+deed (lines.Cut from to) w = link_cut (place w from) (place w to)
+deed (lines.Mend from to) w = link_mended (place w from) (place w to)
+deed (lines.Restart name) w = happen (Restart (place w name))
+deed (lines.Send name destination body) w =
+    seq (add_user (record { destination = destination; body = body })) (send (place w name))
+deed (lines.Inject name octets) w = happen (Inject (place w name) octets)
+deed line w = choose (chosen_by line)
+
+-- a refused line performs nothing
+abbrev pub unless_refused : Option Kind → Act → Act
+unless_refused None act = act
+unless_refused (Some kind) act = refuse kind
+
+-- what a line performs
+abbrev pub act_of : Line → Act
+act_of line = look (λ w. unless_refused (refusal line w) (deed line w))
+
+-- the line of this number begins
+abbrev pub begin_line : ℕ → Act
+begin_line number = change (λ kept. record kept { line = number })
+
+-- what the line of a number performs
+abbrev pub numbered : ℕ → Line → Act
+numbered number line = seq (begin_line number) (act_of line)
+
+-- ---- texts
+
+-- what a text says is performed: nothing, where it has no word or is a comment
+abbrev pub act_read : Result (Option Line) TextFault → Act
+act_read (Err fault) = refuse (kind_of_fault fault)
+act_read (Ok None) = nothing
+act_read (Ok (Some line)) = act_of line
+
+-- what a text without its line ending performs, as the next line
+abbrev pub performed : List ℕ → Act
+performed text =
+    seq (change (λ kept. record kept { line = kept.line + 1 })) (act_read (line_in text))
+
+-- what lines perform
+abbrev pub performed_all : List (List ℕ) → Act
+performed_all texts = each performed texts

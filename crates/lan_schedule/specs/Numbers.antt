@@ -1,0 +1,19 @@
+-- The packet numbers that a trace without a race shows and claims: each is the next one.
+use Rattle.std.specs.Prelude.{ℕ, cond, nat_lt}
+use Rattle.lan_core.specs.declared.settings.Settings.{Settings}
+use Rattle.lan_core.specs.Run.{Run}
+use Rattle.lan_core.specs.Lives.{transmitting_at}
+use Rattle.lan_core.specs.Unstopped.{next_under}
+use Rattle.lan_core.specs.Expected.{last_number}
+
+-- what a tick of a station shows: the next number under the key that transmits
+abbrev pub shown_next : Settings → ℕ → Run → ℕ
+shown_next settings s r = next_under settings s r (transmitting_at settings s r)
+
+-- a packet number, and 0 for what lies behind the last one
+abbrev pub in_range : ℕ → ℕ
+in_range n = cond (nat_lt last_number n) 0 n
+
+-- what a station claims: that number, or 0 where it can claim none
+abbrev pub claimed_number : Settings → ℕ → Run → ℕ
+claimed_number settings s r = in_range (shown_next settings s r)

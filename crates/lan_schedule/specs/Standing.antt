@@ -1,0 +1,26 @@
+-- For which world a replay stands.
+use Rattle.std.specs.Prelude.{◌≡◌, [], Option, Some, None, Result}
+use Rattle.lan_schedule.specs.declared.halt.Halt.{Halt}
+use Rattle.lan_schedule.specs.declared.stage.Stage.{Stage}
+use Rattle.lan_schedule.specs.declared.commands.Replay.{Replay}
+use Rattle.lan_schedule.specs.World.{World, nothing_kept}
+use Rattle.lan_schedule.specs.Acts.{Act, perform}
+use Rattle.lan_schedule.specs.Ends.{Sunk, Moment, IsReached, Ends}
+use Rattle.lan_schedule.specs.inside.Staged.{StandsFor as StageStandsFor}
+
+-- before the first station nothing happened; from then on the group at work stands for the world
+abbrev pub IsStaged : World → Replay → Option Stage → Type 0
+IsStaged w replay None =
+    (w.run ≡ []) × (w.kept ≡ record nothing_kept { line = replay.line; chosen = replay.chosen })
+IsStaged w replay (Some stage) = StageStandsFor w stage
+
+-- a replay that is not halted stands for a world
+pub record StandsFor (w : World) (replay : Replay) : Type 0 where
+  pub goes : replay.halted ≡ None
+  pub stage : IsStaged w replay replay.stage
+
+-- a call does an act, in each world that its replay may stand for
+pub record Does (act : Act) (old new : Moment Replay) (result : Result (Unit {0}) Halt) :
+    Type 0 where
+  pub ends : (base : Sunk) (w : World) → IsReached StandsFor base w old
+      → Ends StandsFor base (perform act w) new result

@@ -1,0 +1,69 @@
+-- A whole trace, whose lines are performed as soon as they have ended (this profile's own rule).
+use Rattle.std.specs.Prelude.{◌≡◌, ℕ, ◌<◌, ◌≤◌, nat_le, cond, List, [], length, take, Option, Some}
+use Rattle.std.specs.Prelude.{Result, Ok, Err}
+use Rattle.lan_base.specs.Faults.{Rose}
+use Rattle.lan_base.specs.Told.{after, before}
+use Rattle.lan_core.specs.declared.stop.Which.TheVariants.{Input}
+use Rattle.lan_core.specs.Run.{Run}
+use Rattle.lan_schedule.specs.declared.halt.Halt.{Halt}
+use Rattle.lan_schedule.specs.declared.halt.Halt.TheVariants as halts
+use Rattle.lan_schedule.specs.Texts.{whole_lines, lines_of}
+use Rattle.lan_schedule.specs.World.{World, beginning}
+use Rattle.lan_schedule.specs.Acts.{perform, Outcome, Goes, Stops}
+use Rattle.lan_schedule.specs.Lines.{performed_all}
+use Rattle.lan_schedule.specs.Ends.{Sunk, IsShown, IsStopped, HoldsFront, text_of}
+
+-- an input has at most so many octets
+abbrev pub most_input : ℕ
+most_input = 4194304
+
+-- the lines of a text, of which those count that end within the limit
+abbrev pub lines_within : List ℕ → List (List ℕ)
+lines_within text =
+    cond (nat_le (length text) most_input) (lines_of text) (whole_lines (take most_input text))
+
+-- what performing lines leaves, from the beginning on
+abbrev pub outcome : List (List ℕ) → Outcome
+outcome lines = perform (performed_all lines) beginning
+
+-- all of a text is performed, and its run is this one
+abbrev pub Performs : List ℕ → Run → Type 0
+Performs text r = (w : World) × (outcome (lines_of text) ≡ Goes w) × (r ≡ w.run)
+
+-- lines were performed to the end of the last, and what they showed was written
+abbrev pub WerePerformed : List (List ℕ) → Sunk → Sunk → Type 0
+WerePerformed lines old new =
+    (w : World) × (outcome lines ≡ Goes w) × IsShown old w new
+
+-- A source at a moment: what is left in it, and its count of faults. The source tells its octets.
+pub record Sourced : Type 0 where
+  pub left : Option (List ℕ)
+  pub faults : ℕ
+
+abbrev pub sourced : Option (List ℕ) → ℕ → Sourced
+sourced left faults = record { left = left; faults = faults }
+
+-- How a trace ends whose octets are this text. At the end, all of it was performed, and all that it
+-- showed was written. At a fault of the source, and where an octet past the limit was taken, the
+-- lines were performed that end in what was taken, or within the limit.
+abbrev pub IsReplayed : List ℕ → Sourced → Sourced → Sunk → Sunk → Result (Unit {0}) Halt → Type 0
+IsReplayed text left now old new (Ok done) =
+    (length text ≤ most_input) × (now.left ≡ Some []) × WerePerformed (lines_of text) old new
+IsReplayed text left now old new (Err (halts.Trace line kind)) =
+    IsStopped old (outcome (lines_within text)) new (halts.Trace line kind)
+IsReplayed text left now old new (Err halts.ReadFault) =
+    Rose left.faults now.faults × ((taken : List ℕ) × (left.left ≡ before taken now.left)
+    × WerePerformed (whole_lines taken) old new)
+IsReplayed text left now old new (Err halts.WriteFault) =
+    Rose old.faults new.faults
+    × HoldsFront old.held new.held (text_of (outcome (lines_within text)))
+IsReplayed text left now old new (Err halts.Memory) =
+    HoldsFront old.held new.held (text_of (outcome (lines_within text)))
+IsReplayed text left now old new (Err (halts.Limit Input)) =
+    (most_input < length text) × WerePerformed (whole_lines (take most_input text)) old new
+IsReplayed text left now old new (Err (halts.Limit which)) =
+    IsStopped old (outcome (lines_within text)) new (halts.Limit which)
+IsReplayed text left now old new (Err (halts.RepeatedDraw first second)) =
+    IsStopped old (outcome (lines_within text)) new (halts.RepeatedDraw first second)
+IsReplayed text left now old new (Err (halts.Forged line)) =
+    IsStopped old (outcome (lines_within text)) new (halts.Forged line)

@@ -1,0 +1,123 @@
+-- What the lines so far have made: a run, and what is kept beside it.
+use Rattle.std.specs.Prelude.{ℕ, ◌==◌, ◌&&◌, ◌-◌, Bool, true, false, cond, nat_eq, zero, suc}
+use Rattle.std.specs.Prelude.{List, [], ◌∷◌, ◌++◌, map, length, not, slice_get, option_map}
+use Rattle.std.specs.Prelude.{unwrap_or}
+use Rattle.std.specs.List.{list_any, filter, flat_map, position_or_len}
+use Rattle.std.specs.Cmp.Lexicographic.{pointwise}
+use Rattle.lan_base.specs.declared.frame.UserFrame.{UserFrame}
+use Rattle.lan_core.specs.declared.fact.Fact.{Fact}
+use Rattle.lan_core.specs.declared.fact.Fact.TheVariants as facts
+use Rattle.lan_core.specs.declared.settings.Settings.{Settings}
+use Rattle.lan_core.specs.Run.{Run, stations}
+use Rattle.lan_schedule.specs.declared.choices.Choices.{Choices}
+use Rattle.lan_schedule.specs.declared.frames.Put.{Put}
+use Rattle.lan_schedule.specs.declared.links.Link.{Link}
+use Rattle.lan_schedule.specs.Settings.{no_choice, settings_of}
+
+-- what is kept beside the run: the number of the line that is performed; what the lines before the
+-- first station chose, and whether that station came; the user frame of each line that sends; the
+-- frames of the air, by number; the links that are cut; the count of flow rounds; and how many
+-- draws were taken
+pub record Kept : Type 0 where
+  pub line : ℕ
+  pub chosen : Choices
+  pub begun : Bool
+  pub users : List UserFrame
+  pub frames : List Put
+  pub cuts : List Link
+  pub rounds : ℕ
+  pub taken : ℕ
+
+pub record World : Type 0 where
+  pub run : Run
+  pub kept : Kept
+
+-- no line was performed
+abbrev pub nothing_kept : Kept
+nothing_kept = record {
+  line = 0;
+  chosen = no_choice;
+  begun = false;
+  users = [];
+  frames = [];
+  cuts = [];
+  rounds = 0;
+  taken = 0;
+}
+
+abbrev pub beginning : World
+beginning = record { run = []; kept = nothing_kept }
+
+-- ---- stations
+
+-- how many stations there are
+abbrev pub count : World → ℕ
+count w = length (stations w.run)
+
+abbrev pub names_of : Run → List (List ℕ)
+names_of r = map (λ p. p.name) (stations r)
+
+abbrev pub scis_of : Run → List (List ℕ)
+scis_of r = map (λ p. p.sci.0) (stations r)
+
+-- whether this is one of the names, or of the SCIs
+abbrev pub is_in : List ℕ → List (List ℕ) → Bool
+is_in octets others = list_any (pointwise nat_eq octets) others
+
+-- the place of the station of this name; where there is none, the count of stations
+abbrev pub place : World → List ℕ → ℕ
+place w name = position_or_len (pointwise nat_eq name) (names_of w.run)
+
+-- what holds for the whole group
+abbrev pub settings : World → Settings
+settings w = settings_of w.kept.chosen
+
+-- ---- frames
+
+-- what facts put on the air
+abbrev pub put_by : ℕ → Fact → List Put
+put_by rounds (facts.Framed number station sec octets) =
+    record { number = number; sender = station; at = rounds; marked = false } ∷ []
+put_by rounds _ = []
+
+abbrev pub puts : ℕ → List Fact → List Put
+puts rounds shown = flat_map (put_by rounds) shown
+
+abbrev pub with_mark : Put → Put
+with_mark put = record put { marked = true }
+
+-- the frame at a place, from 0, is marked
+abbrev pub marked_at : ℕ → List Put → List Put
+marked_at n [] = []
+marked_at zero (put ∷ others) = with_mark put ∷ others
+marked_at (suc n) (put ∷ others) = put ∷ marked_at n others
+
+-- the frame of a number, from 1, waits for no round any more
+abbrev pub mark : ℕ → Kept → Kept
+mark number kept = record kept { frames = marked_at (number - 1) kept.frames }
+
+-- the sender of the frame at a place, from 0
+abbrev pub sender_at : ℕ → List Put → ℕ
+sender_at n frames = unwrap_or (option_map (λ put. put.sender) (slice_get frames n)) 0
+
+-- the sender of the frame of a number, from 1
+abbrev pub sender : World → ℕ → ℕ
+sender w number = sender_at (number - 1) w.kept.frames
+
+-- ---- links
+
+abbrev pub is_link : ℕ → ℕ → Link → Bool
+is_link from to link = (link.from == from) && (link.to == to)
+
+-- whether a link is cut
+abbrev pub is_cut : ℕ → ℕ → List Link → Bool
+is_cut from to cuts = list_any (is_link from to) cuts
+
+-- a link is cut; one that is cut already stays so
+abbrev pub with_link : ℕ → ℕ → List Link → List Link
+with_link from to cuts =
+    cond (is_cut from to cuts) cuts (cuts ++ record { from = from; to = to } ∷ [])
+
+-- a link is whole again
+abbrev pub without_link : ℕ → ℕ → List Link → List Link
+without_link from to cuts = filter (λ link. not (is_link from to link)) cuts

@@ -1,0 +1,59 @@
+-- What a group at work stands for, and what a call on it did of an act.
+use Rattle.std.specs.Prelude.{◌≡◌, ℕ, true, List, [], length, map, Option, is_some, Result, Ok, Err}
+use Rattle.std.specs.Prelude.{◌≤◌}
+use Rattle.lan_base.specs.declared.frame.UserFrame.{UserFrame}
+use Rattle.lan_base.specs.Faults.{Rose}
+use Rattle.lan_base.specs.Told.{after}
+use Rattle.lan_core.specs.declared.event.Event.{Event}
+use Rattle.lan_core.specs.Run.{stations}
+use Rattle.lan_core.specs.Standing.{StandsFor as GroupStandsFor}
+use Rattle.lan_schedule.specs.declared.choices.Choices.{Choices}
+use Rattle.lan_schedule.specs.declared.halt.Halt.{Halt}
+use Rattle.lan_schedule.specs.declared.halt.Halt.TheVariants as halts
+use Rattle.lan_schedule.specs.declared.stage.Stage.{Stage}
+use Rattle.lan_schedule.specs.Settings.{lag_of}
+use Rattle.lan_schedule.specs.World.{World, nothing_kept, settings, names_of}
+use Rattle.lan_schedule.specs.Answers.{supply}
+use Rattle.lan_schedule.specs.Acts.{happen, perform}
+use Rattle.lan_schedule.specs.Ends.{Sunk, Moment, HoldsFront, IsReached, Ends}
+use Rattle.lan_schedule.specs.inside.Frames.{Flow}
+use Rattle.lan_schedule.specs.inside.Supplies.{supply_nth}
+use Rattle.lan_schedule.specs.inside.Counters.{TellNext}
+use Rattle.lan_schedule.specs.inside.Comes.{Comes, named}
+
+abbrev pub flow_of : World → Flow
+flow_of w = record { frames = w.kept.frames; rounds = w.kept.rounds }
+
+-- a group at work stands for a world
+pub record StandsFor (w : World) (stage : Stage) : Type 0 where
+  pub begun : w.kept.begun ≡ true
+  pub keyed : is_some w.kept.chosen.group ≡ true
+  pub line : stage.line ≡ w.kept.line
+  pub lag : stage.lag ≡ lag_of w.kept.chosen
+  pub lan : GroupStandsFor (settings w) w.kept.users stage.lan w.run
+  pub draws : (k : ℕ) → supply_nth stage.draws k ≡ supply w k
+  pub names : stage.names.items ≡ names_of w.run
+  pub scis : stage.scis.items ≡ map (λ p. p.sci) (stations w.run)
+  pub users : stage.users ≡ length w.kept.users
+  pub flow : stage.frames ≡ flow_of w
+  pub cuts : stage.cuts ≡ w.kept.cuts
+  pub numbers : TellNext (settings w) w.run stage.numbers
+
+-- an event happened, where this user frame is the one that it names
+pub record Happened (given : Option UserFrame) (event : Event) (old new : Moment Stage)
+    (result : Result (Unit {0}) Halt) : Type 0 where
+  pub ends : (base : Sunk) (w : World) → IsReached StandsFor base w old → given ≡ named w event
+      → Comes (happen event) w → Ends StandsFor base (perform (happen event) w) new result
+
+-- before the first station: a world that a group opens by these choices, with its first line
+pub record IsOpening (w : World) (chosen : Choices) (line : ℕ) : Type 0 where
+  pub empty : w.run ≡ []
+  pub kept : w.kept ≡ record nothing_kept { line = line; chosen = chosen; begun = true }
+
+-- a call wrote a text, or a front of it and why not more
+abbrev pub Writes : List ℕ → Sunk → Sunk → Result (Unit {0}) Halt → Type 0
+Writes text old new (Ok done) = (new.held ≡ after old.held text) × (old.faults ≤ new.faults)
+Writes text old new (Err halts.WriteFault) =
+    Rose old.faults new.faults × HoldsFront old.held new.held text
+Writes text old new (Err halts.Memory) = HoldsFront old.held new.held text
+Writes text old new (Err _) = ⊥

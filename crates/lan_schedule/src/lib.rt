@@ -1,0 +1,17 @@
+//! A trace is performed line by line: each line is read, judged and performed, and what its events
+//! show is written.
+#![tactic(auto)]
+
+mod choices;
+mod commands;
+mod frames;
+mod halt;
+mod links;
+mod numbers;
+mod stage;
+mod supply;
+mod trace;
+
+pub use commands::Replay;
+pub use halt::{Halt, Kind};
+pub use trace::replay;
