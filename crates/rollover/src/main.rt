@@ -7,7 +7,7 @@ use std::alloc::AllocError;
 use std::process::ExitCode;
 use std::{env, io};
 
-// the words after the program's name
+/// The words after the program's name.
 fn words(rt: &HostRuntime) -> Result<Vec<String>, AllocError> {
     let mut words = Vec::new(rt.alloc());
     let Ok(args) = env::args(rt) else {
@@ -19,6 +19,7 @@ fn words(rt: &HostRuntime) -> Result<Vec<String>, AllocError> {
     Ok(words)
 }
 
+/// How the program ends.
 fn status(rt: &HostRuntime) -> Status {
     match words(rt) {
         Ok(words) => rollover(

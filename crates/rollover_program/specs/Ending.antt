@@ -1,11 +1,25 @@
--- How the program ends, by the text that its source told.
-use Rattle.std.specs.Prelude.{Option, Some, None}
-use Rattle.rollover_program.specs.declared.halt.Halt.TheVariants.{Trace}
+-- How the program ends.
+use Rattle.std.specs.Prelude.{ℕ, nat_le, Bool, true, false, List, length, Result, Ok, Err}
+use Rattle.lan_core.specs.declared.stop.Which.TheVariants.{Input}
+use Rattle.lan_schedule.specs.declared.halt.Halt.{Halt}
+use Rattle.lan_schedule.specs.declared.halt.Halt.TheVariants.{Limit}
+use Rattle.lan_schedule.specs.Acts.{Outcome, Goes, Stops}
+use Rattle.lan_schedule.specs.Trace.{outcome, lines_within, most_input}
 use Rattle.rollover_program.specs.declared.status.Status.{Status}
 use Rattle.rollover_program.specs.declared.status.Status.TheVariants.{Done, Halted}
-use Rattle.rollover_program.specs.Judging.{Refused}
 
--- the status of a trace that is performed without a fault
-abbrev pub status_of : Option Refused → Status
-status_of None = Done
-status_of (Some refused) = Halted (Trace refused.line refused.kind)
+-- the status of a replay's answer
+abbrev pub status_of : Result (Unit {0}) Halt → Status
+status_of (Ok done) = Done
+status_of (Err halt) = Halted halt
+
+-- the status of what performing lines leaves, and whether the text is within the limit
+abbrev pub status_after : Bool → Outcome → Status
+status_after within (Stops w halt) = Halted halt
+status_after true (Goes w) = Done
+status_after false (Goes w) = Halted (Limit Input)
+
+-- the status of a text that is performed without a fault from outside
+abbrev pub status_within : List ℕ → Status
+status_within text =
+    status_after (nat_le (length text) most_input) (outcome (lines_within text))

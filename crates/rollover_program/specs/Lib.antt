@@ -1,12 +1,2 @@
-pub mod one
-pub mod Text
-pub mod Rendering
-pub mod Station
-pub mod Judging
-pub mod Performing
-pub mod Group
-pub mod Outcome
-pub mod Stages
-pub mod Lines
-pub mod Legality
+pub mod Headline
 pub mod Ending

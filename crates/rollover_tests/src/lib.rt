@@ -2,4 +2,12 @@
 #![tactic(auto)]
 
 #[cfg(test)]
-mod tests;
+mod agreement;
+#[cfg(test)]
+mod outside;
+#[cfg(test)]
+mod performing;
+#[cfg(test)]
+mod small;
+#[cfg(test)]
+mod worked;

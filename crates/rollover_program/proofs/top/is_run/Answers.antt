@@ -2,7 +2,7 @@ use Rattle.std.proofs.Common.{◌≡◌, ◌∷◌, [], List, ℕ, sym, ap, ◌�
 use Rattle.std.specs.Prelude.{string_bytes, codes}
 use Rattle.std.proofs.lemmas.Slice.Eq.{slice_eq-Decides}
 use Rattle.std.proofs.lemmas.Bool.Decides.{Decides-eqb}
-use Rattle.rollover_program.proofs.Forms.{map_of_one}
+use Rattle.rollover_program.proofs.Words.{map_of_one}
 use Rattle.rollover_program.proofs.top.is_run.Goals as goal
 
 pub returns-in-len1 : goal.returns-in-len1

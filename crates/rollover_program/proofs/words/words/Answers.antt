@@ -1,9 +1,0 @@
-use Rattle.std.proofs.Common.{rules, arith}
-use Rattle.std.specs.Prelude.{nat_lt, ◌==◌, ◌||◌, length}
-use Rattle.std.proofs.lemmas.Iterator.Consumers.{map_from_collect, YieldsList-from_filter, YieldsList-at}
-use Rattle.std.proofs.lemmas.Iterator.Splits.{YieldsList-from_slice_split}
-use Rattle.std.proofs.lemmas.Grind.{common_steps}
-use Rattle.rollover_program.proofs.words.words.Goals as goal
-
-pub returns : goal.returns
-returns c = map_from_collect _ c.collect.ensures.ran (YieldsList-from_filter _ (λ word. nat_lt 0 (length word)) (YieldsList-at c.filter.ensures.source (YieldsList-from_slice_split _ (λ octet. octet == 32 || octet == 9) c.args.line.now c.split.ensures.rest c.split.ensures.done c.split.ensures.closure (λ x r q k. search rules))) c.filter.ensures.closure (λ x r q k. (search rules, grind (arith, common_steps))))

@@ -1,0 +1,28 @@
+-- What is promised of a run, and of what a sink took of it.
+use Rattle.std.specs.Prelude.{◌≡◌, ℕ, List, Option}
+use Rattle.lan_base.specs.Told.{after}
+use Rattle.group_safety.specs.Once.{Once, OneKey}
+use Rattle.lan_schedule.specs.declared.halt.Halt.{Halt}
+use Rattle.lan_schedule.specs.World.{World, settings}
+use Rattle.lan_schedule.specs.Sound.{IsSound}
+use Rattle.lan_schedule.specs.Acts.{Goes, Stops}
+use Rattle.lan_schedule.specs.Ends.{written}
+use Rattle.lan_schedule.specs.Trace.{outcome}
+
+-- The run of a world is legal, what was drawn in it differs, nothing in it was forged, and few
+-- packet numbers are left out. No packet number is used twice under a key, and no key identifier
+-- names two keys. The sink took the run's whole transcript.
+pub record IsTranscribed (w : World) (old new : Option (List ℕ)) : Type 0 where
+  pub sound : IsSound (settings w) w.kept.users w.run
+  pub once : Once w.run
+  pub one_key : OneKey w.run
+  pub rendered : new ≡ after old (written w.run)
+
+-- these lines are performed to the end of the last
+abbrev pub IsPerformed : List (List ℕ) → Option (List ℕ) → Option (List ℕ) → Type 0
+IsPerformed lines old new = (w : World) × (outcome lines ≡ Goes w) × IsTranscribed w old new
+
+-- performing these lines stops for this reason
+abbrev pub IsStoppedBy : Halt → List (List ℕ) → Option (List ℕ) → Option (List ℕ) → Type 0
+IsStoppedBy halt lines old new =
+    (w : World) × (outcome lines ≡ Stops w halt) × IsTranscribed w old new

@@ -1,0 +1,173 @@
+//! A trace is performed through the top call, and its transcript is looked at.
+
+use lan_base::{MemorySink, MemorySource, Octets};
+use rollover_program::{Halt, Kind, Status, rollover};
+use std::alloc::{AllocError, Global};
+
+/// What a call left: its status, and what the sink holds.
+#[derive(Drop)]
+pub struct Left {
+    pub status: Status,
+    pub held: Octets,
+}
+
+/// How a source and a sink are: how many octets they take a call, and which call of theirs fails, 0
+/// for none.
+#[derive(Clone, Copy)]
+pub struct Outside {
+    pub read: usize,
+    pub failing_read: u64,
+    pub write: usize,
+    pub failing_write: u64,
+}
+
+/// No call fails.
+pub const STEADY: Outside = Outside {
+    read: 4096,
+    failing_read: 0,
+    write: 4096,
+    failing_write: 0,
+};
+
+/// The top call with one word.
+pub fn perform(
+    alloc: Global,
+    word: &str,
+    text: &[u8],
+    outside: Outside,
+) -> Result<Left, AllocError> {
+    let mut words = Vec::new(alloc);
+    words.push(String::from_str(alloc, word)?)?;
+    let reads = Vec::from_slice(alloc, &[outside.failing_read])?;
+    let writes = Vec::from_slice(alloc, &[outside.failing_write])?;
+    let mut source = MemorySource::new(
+        Octets::from_slice(alloc, text)?,
+        outside.read.max(1),
+        reads,
+    );
+    let mut sink = MemorySink::new(alloc, outside.write.max(1), writes);
+    let status = rollover(alloc, &words, &mut source, &mut sink);
+    Ok(Left {
+        status,
+        held: Octets::from_slice(alloc, sink.held())?,
+    })
+}
+
+/// A trace, whose parts are these texts.
+pub fn run(alloc: Global, parts: &[&str]) -> Result<Left, AllocError> {
+    perform(alloc, "run", &joined(alloc, parts)?, STEADY)
+}
+
+/// Texts, one after the other.
+pub fn joined(alloc: Global, parts: &[&str]) -> Result<Vec<u8>, AllocError> {
+    let mut all = Vec::new(alloc);
+    for part in parts {
+        all.extend_from_slice(part.as_bytes())?;
+    }
+    Ok(all)
+}
+
+/// The status of a refused line.
+pub fn refused(line: u32, kind: Kind) -> Status {
+    Status::Halted(Halt::Trace { line, kind })
+}
+
+/// A transcript, each `frame` line cut behind its kind.
+pub fn cut(alloc: Global, transcript: &[u8]) -> Result<Vec<u8>, AllocError> {
+    let mut all = Vec::new(alloc);
+    let mut begins = true;
+    let mut is_frame = false;
+    let mut spaces = 0u32;
+    for octet in transcript {
+        if begins {
+            is_frame = *octet == b'f';
+            spaces = 0;
+        }
+        begins = *octet == b'\n';
+        if *octet == b' ' {
+            spaces = spaces.saturating_add(1);
+        }
+        if begins || !is_frame || spaces < 4 {
+            all.push(*octet)?;
+        }
+    }
+    Ok(all)
+}
+
+/// Whether lines stand together in a text, where `*` stands for one word; the last of them lacks its
+/// line feed.
+pub fn has(text: &[u8], lines: &str) -> bool {
+    let mut left = text;
+    for _ in text {
+        if let Some([b'\n', ..]) = behind_front(left, lines) {
+            return true;
+        }
+        left = behind_line(left);
+    }
+    false
+}
+
+/// The first of these groups of lines, with an empty line between each two, that does not stand
+/// together in a text; nothing where each does.
+pub fn lacks<'a>(text: &[u8], groups: &'a str) -> &'a str {
+    for group in groups.split("\n\n") {
+        if !has(text, group) {
+            return group;
+        }
+    }
+    ""
+}
+
+/// How many lines of a text begin so.
+pub fn count(text: &[u8], begin: &str) -> usize {
+    let mut found = 0usize;
+    let mut left = text;
+    for _ in text {
+        if behind_front(left, begin).is_some() {
+            found = found.saturating_add(1);
+        }
+        left = behind_line(left);
+    }
+    found
+}
+
+/// What stands behind this, if a text begins with it, where `*` stands for one word.
+fn behind_front<'a>(text: &'a [u8], lines: &str) -> Option<&'a [u8]> {
+    let mut left = text;
+    for octet in lines.as_bytes() {
+        if *octet == b'*' {
+            left = behind_word(left);
+        } else {
+            match left {
+                [first, others @ ..] if first == octet => left = others,
+                _ => return None,
+            }
+        }
+    }
+    Some(left)
+}
+
+/// What stands behind the first word of a text.
+fn behind_word(text: &[u8]) -> &[u8] {
+    let mut left = text;
+    for _ in text {
+        match left {
+            [octet, others @ ..] if *octet != b' ' && *octet != b'\n' => left = others,
+            _ => return left,
+        }
+    }
+    left
+}
+
+/// What stands behind the first line of a text.
+fn behind_line(text: &[u8]) -> &[u8] {
+    let mut left = text;
+    for _ in text {
+        match left {
+            [b'\n', others @ ..] => return others,
+            [_, others @ ..] => left = others,
+            [] => return left,
+        }
+    }
+    left
+}
