@@ -3,10 +3,14 @@ use Rattle.std.specs.Prelude.{◌≡◌, ◌<◌, ◌⊎◌, ℕ, zero, suc, ◌
 use Rattle.aes_block.specs.State.{add_round_key, round, last_round}
 use Rattle.aes_block.specs.Expansion.{expanded_key, round_count, round_key}
 
--- 16 octets
-pub record IsBlock (block : List ℕ) : Type 0 where
-  pub count : length block ≡ 16
-  pub octets : All (λ octet. octet < 256) block
+-- so many octets
+pub record IsOctets (n : ℕ) (word : List ℕ) : Type 0 where
+  pub count : length word ≡ n
+  pub octets : All (λ octet. octet < 256) word
+
+-- a block: 16 octets
+abbrev pub IsBlock : List ℕ → Type 0
+IsBlock block = IsOctets 16 block
 
 -- 16, 24 or 32 octets (5.2)
 pub record IsKey (key : List ℕ) : Type 0 where

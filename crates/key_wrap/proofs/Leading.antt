@@ -1,7 +1,7 @@
 -- steps undone one after another
 use Rattle.std.proofs.Common.{◌≡◌, ℕ, ◌+◌, ◌≤◌, List, length, ap, sym, subst, ◌∙◌}
-use Rattle.aes_block.specs.Aes.{aes, IsBlock}
-use Rattle.key_wrap.specs.Wrap.{IsOctets, step, steps}
+use Rattle.aes_block.specs.Aes.{aes, IsBlock, IsOctets}
+use Rattle.key_wrap.specs.Wrap.{step, steps}
 use Rattle.key_wrap.proofs.Octets.{IsOctets-steps}
 use Rattle.key_wrap.proofs.Steps.{steps-more}
 

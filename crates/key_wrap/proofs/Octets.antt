@@ -5,8 +5,8 @@ use Rattle.std.proofs.lemmas.Nat.{xor_of_8}
 use Rattle.std.proofs.lemmas.List.{length-append, length-take-le, length-drop}
 use Rattle.std.proofs.lemmas.List.Elements.{All-nil, All-cons, All-head, All-tail, All-append, All-take, All-drop}
 use Rattle.aes_block.specs.Octet.{octets_sum}
-use Rattle.aes_block.specs.Aes.{aes, IsBlock}
-use Rattle.key_wrap.specs.Wrap.{IsOctets, numbered, step, steps}
+use Rattle.aes_block.specs.Aes.{aes, IsBlock, IsOctets}
+use Rattle.key_wrap.specs.Wrap.{numbered, step, steps}
 use Rattle.key_wrap.proofs.Numbered.{length-numbered}
 
 abbrev IsOctet : ℕ → Type 0
@@ -38,7 +38,7 @@ pub IsOctets-step : (kek state : List ℕ) (n number : ℕ) → 16 ≤ n → ((t
 unfolding step
 IsOctets-step kek state n number room blocks h =
     let count = h.count in
-    let ahead : IsBlock (take 16 state) = record { count = length-take-le 16 state (omega arith); octets = All-take IsOctet 16 state h.below } in
+    let ahead : IsBlock (take 16 state) = record { count = length-take-le 16 state (omega arith); octets = All-take IsOctet 16 state h.octets } in
     let ciphertext = blocks (take 16 state) ahead in
     let block = numbered (aes kek (take 16 state)) number in
     let e : length block ≡ 16 = length-numbered (aes kek (take 16 state)) number ciphertext.count in
@@ -48,8 +48,8 @@ IsOctets-step kek state n number room blocks h =
           let l : length (take 8 block) ≡ 8 = length-take-le 8 block (omega arith) in
           let m : length (drop 8 block) ≡ 8 = length-drop 8 block ∙ (omega arith) in
           length-append (take 8 block ++ drop 16 state) (drop 8 block) ∙ (omega (arith, length-append (take 8 block) (drop 16 state), length-drop 16 state));
-      below = All-append IsOctet (take 8 block ++ drop 16 state) (drop 8 block)
-          (All-append IsOctet (take 8 block) (drop 16 state) (All-take IsOctet 8 block p) (All-drop IsOctet 16 state h.below))
+      octets = All-append IsOctet (take 8 block ++ drop 16 state) (drop 8 block)
+          (All-append IsOctet (take 8 block) (drop 16 state) (All-take IsOctet 8 block p) (All-drop IsOctet 16 state h.octets))
           (All-drop IsOctet 8 block p);
     }
 

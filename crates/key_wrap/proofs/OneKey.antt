@@ -3,8 +3,8 @@
 use Rattle.std.proofs.Common.{◌≡◌, ℕ, zero, suc, ◌+◌, ◌*◌, ◌/◌, ◌<◌, ◌≤◌, List, ◌++◌, length, take, drop, refl, ap, sym, ◌∙◌, arith}
 use Rattle.std.proofs.lemmas.List.{length-append, length-take-le, length-drop, take-append-drop}
 use Rattle.std.proofs.lemmas.List.Elements.{All-append, All-replicate, All-take}
-use Rattle.aes_block.specs.Aes.{aes, IsBlock}
-use Rattle.key_wrap.specs.Wrap.{IsOctets, numbered, initial_value, step, steps, wrapped}
+use Rattle.aes_block.specs.Aes.{aes, IsBlock, IsOctets}
+use Rattle.key_wrap.specs.Wrap.{numbered, initial_value, step, steps, wrapped}
 use Rattle.key_wrap.proofs.Numbered.{length-numbered, numbered-numbered}
 use Rattle.key_wrap.proofs.Octets.{IsOctets-steps}
 use Rattle.key_wrap.proofs.Steps.{parts_of}
@@ -17,7 +17,7 @@ pub record Permutes (kek : List ℕ) : Type 0 where
 first_block : (state : List ℕ) (n : ℕ) → 16 ≤ n → IsOctets n state → IsBlock (take 16 state)
 first_block state n room h =
     let count = h.count in
-    record { count = length-take-le 16 state (omega arith); octets = All-take (λ octet. octet < 256) 16 state h.below }
+    record { count = length-take-le 16 state (omega arith); octets = All-take (λ octet. octet < 256) 16 state h.octets }
 
 step-injective : (kek s t : List ℕ) (n number : ℕ) → 16 ≤ n → Permutes kek → IsOctets n s → IsOctets n t
     → step kek s number ≡ step kek t number → s ≡ t
@@ -54,7 +54,7 @@ steps-injective kek s t n (suc count) room p h k e =
 start : (key : List ℕ) (n : ℕ) → IsOctets n key → IsOctets (8 + n) (initial_value ++ key)
 start key n h = record {
   count = length-append initial_value key ∙ omega (arith, h.count);
-  below = All-append (λ octet. octet < 256) initial_value key (All-replicate (λ octet. octet < 256) 8 0xa6 (omega arith)) h.below;
+  octets = All-append (λ octet. octet < 256) initial_value key (All-replicate (λ octet. octet < 256) 8 0xa6 (omega arith)) h.octets;
 }
 
 pub one_key : (kek a b : List ℕ) (n : ℕ) → 8 ≤ n → Permutes kek → IsOctets n a → IsOctets n b

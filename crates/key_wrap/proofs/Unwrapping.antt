@@ -2,7 +2,8 @@
 use Rattle.std.proofs.Common.{◌≡◌, ℕ, ◌+◌, ◌-◌, ◌*◌, ◌/◌, ◌<◌, List, [], ◌++◌, length, take, drop, refl, ap, sym, ◌∙◌, arith}
 use Rattle.std.proofs.lemmas.List.{length-append, length-drop, take-append-drop, take_at, drop_at, drop_all, append-nil}
 use Rattle.std.proofs.lemmas.List.Elements.{All-append, All-replicate}
-use Rattle.key_wrap.specs.Wrap.{IsOctets, steps, wrapped, initial_value}
+use Rattle.aes_block.specs.Aes.{IsOctets}
+use Rattle.key_wrap.specs.Wrap.{steps, wrapped, initial_value}
 
 -- the steps of a wrap, counted
 pub wrapped-steps : (kek key : List ℕ) (count : ℕ) → count ≡ 6 * (length key / 8) → wrapped kek key ≡ steps kek (initial_value ++ key) count
@@ -26,7 +27,7 @@ start_is kek octets state n count h counted only key k e =
     only (initial_value ++ key)
     (record {
       count = length-append initial_value key ∙ omega (arith, k.count);
-      below = All-append (λ octet. octet < 256) initial_value key (All-replicate (λ octet. octet < 256) 8 0xa6 (omega arith)) k.below;
+      octets = All-append (λ octet. octet < 256) initial_value key (All-replicate (λ octet. octet < 256) 8 0xa6 (omega arith)) k.octets;
     })
     (sym (wrapped-steps kek key count (counted ∙ ap (λ m. 6 * (m / 8)) (sym k.count))) ∙ e)
 

@@ -1,13 +1,8 @@
 -- Key wrap (RFC 3394), on lists of octets. Section numbers are the RFC's.
-use Rattle.std.specs.Prelude.{◌≡◌, ◌<◌, ℕ, zero, suc, ◌*◌, ◌/◌, List, ◌++◌, length, take, drop, replicate, All}
+use Rattle.std.specs.Prelude.{ℕ, zero, suc, ◌*◌, ◌/◌, List, ◌++◌, length, take, drop, replicate}
 use Rattle.std.specs.Int.{w64, to_be_bytes}
 use Rattle.aes_block.specs.Octet.{octets_sum}
 use Rattle.aes_block.specs.Aes.{aes}
-
--- so many octets
-pub record IsOctets (n : ℕ) (octets : List ℕ) : Type 0 where
-  pub count : length octets ≡ n
-  pub below : All (λ octet. octet < 256) octets
 
 -- a block with a number of 64 bits added, bit by bit, to its first half
 abbrev pub numbered : List ℕ → ℕ → List ℕ

@@ -1,8 +1,8 @@
 //! What holds of the wraps under every key encrypting key.
 
 ghost use Rattle.std.specs.Prelude.{◌≡◌, ◌≤◌, List, ℕ};
-ghost use Rattle.aes_block.specs.Aes.{IsKey};
-ghost use Rattle.key_wrap.specs.Wrap.{IsOctets, wrapped};
+ghost use Rattle.aes_block.specs.Aes.{IsKey, IsOctets};
+ghost use Rattle.key_wrap.specs.Wrap.{wrapped};
 
 use aes_block::{law_ciphertexts_are_blocks, law_one_block_for_one_ciphertext};
 

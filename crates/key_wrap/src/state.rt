@@ -2,8 +2,8 @@
 //! octets each.
 
 ghost use Rattle.std.specs.Prelude.{◌≡◌, ◌≤◌, ◌-◌, ◌++◌, List, ℕ, length, take, drop};
-ghost use Rattle.aes_block.specs.Aes.{aes, IsBlock};
-ghost use Rattle.key_wrap.specs.Wrap.{IsOctets, numbered, step};
+ghost use Rattle.aes_block.specs.Aes.{aes, IsBlock, IsOctets};
+ghost use Rattle.key_wrap.specs.Wrap.{numbered, step};
 
 use aes_block::{Key, law_ciphertexts_are_blocks};
 

@@ -1,7 +1,8 @@
 //! Wrapping and unwrapping (RFC 3394, 2.2.1 and 2.2.2).
 
 ghost use Rattle.std.specs.Prelude.{◌≡◌, ◌≢◌, ◌↔◌, ◌≤◌, ◌+◌, ◌-◌, ◌*◌, ◌/◌, List, ℕ, length, drop, IfSome, IsNone, IsTrue};
-ghost use Rattle.key_wrap.specs.Wrap.{IsOctets, initial_value, steps, wrapped};
+ghost use Rattle.aes_block.specs.Aes.{IsOctets};
+ghost use Rattle.key_wrap.specs.Wrap.{initial_value, steps, wrapped};
 
 use crate::state::{step, undo_step};
 use aes_block::Key;

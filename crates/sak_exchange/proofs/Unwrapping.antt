@@ -4,7 +4,8 @@ use Rattle.std.specs.Prelude.{nat_eq, IsNone, ◌↔◌, slice_index_or}
 use Rattle.std.specs.List.{find, flat_map}
 use Rattle.std.proofs.lemmas.Bool.{eqb-true, eqb-false}
 use lib.Pointwise.{pointwise, bytes_decides}
-use Rattle.key_wrap.specs.Wrap.{IsOctets, wrapped}
+use Rattle.aes_block.specs.Aes.{IsOctets}
+use Rattle.key_wrap.specs.Wrap.{wrapped}
 use Rattle.sak_exchange.specs.Unwrapping.{below, octet_lists, unwrapped}
 use Rattle.sak_exchange.proofs.Cases.{by_test, by_option}
 
@@ -61,10 +62,10 @@ among-all octets x rest (r ∷ rests) first (inr is) =
     among-second (x ∷ rest) (with-octets octets r) (flat_map (with-octets octets) rests) (among-all octets x rest rests first is)
 
 head-octet : (n x : ℕ) (xs : List ℕ) → IsOctets n (x ∷ xs) → x < 256
-head-octet n x xs o = o.below 0 0 (omega arith)
+head-octet n x xs o = o.octets 0 0 (omega arith)
 
 tail-octets : (n x : ℕ) (xs : List ℕ) → IsOctets (suc n) (x ∷ xs) → IsOctets n xs
-tail-octets n x xs o = record { count = let c : suc (length xs) ≡ suc n = o.count in omega arith; below = λ k d less. o.below (suc k) d (omega arith) }
+tail-octets n x xs o = record { count = let c : suc (length xs) ≡ suc n = o.count in omega arith; octets = λ k d less. o.octets (suc k) d (omega arith) }
 
 pub all-there : (n : ℕ) (xs : List ℕ) → IsOctets n xs → Among xs (octet_lists n)
 unfolding Among octet_lists with-octets
@@ -78,7 +79,7 @@ octet-at x xs less below zero d there = less
 octet-at x xs less below (suc k) d there = below k d (omega arith)
 
 more-octets : (n x : ℕ) (xs : List ℕ) → x < 256 → IsOctets n xs → IsOctets (suc n) (x ∷ xs)
-more-octets n x xs less o = record { count = let c = o.count in omega arith; below = octet-at x xs less o.below }
+more-octets n x xs less o = record { count = let c = o.count in omega arith; octets = octet-at x xs less o.octets }
 
 with-are : (octets : List ℕ) (rest : List ℕ) (n : ℕ) (xs : List ℕ) → ((x : ℕ) → Among x octets → x < 256) → IsOctets n rest → Among xs (with-octets octets rest) → IsOctets (suc n) xs
 unfolding Among with-octets
@@ -96,7 +97,7 @@ all-are octets (r ∷ rests) n xs less are is =
     ]
 
 none-octets : IsOctets 0 []
-none-octets = record { count = refl; below = λ k d less. absurd (omega arith) }
+none-octets = record { count = refl; octets = λ k d less. absurd (omega arith) }
 
 pub there-are : (n : ℕ) (xs : List ℕ) → Among xs (octet_lists n) → IsOctets n xs
 unfolding Among octet_lists with-octets

@@ -1,8 +1,8 @@
 //! What holds of the keys after every history.
 
 ghost use Rattle.std.specs.Prelude.{◌≡◌, ◌≢◌, ◌≤◌, ◌<◌, ◌+◌, ◌++◌, ◌∷◌, ◌↔◌, not, ℕ, List, Option, Some, None, true, false, IsTrue, IsFalse, is_some, length};
-ghost use Rattle.aes_block.specs.Aes.{IsKey};
-ghost use Rattle.key_wrap.specs.Wrap.{IsOctets, wrapped};
+ghost use Rattle.aes_block.specs.Aes.{IsKey, IsOctets};
+ghost use Rattle.key_wrap.specs.Wrap.{wrapped};
 ghost use Rattle.lan_base.specs.declared.address.Mi.{Mi};
 ghost use Rattle.lan_base.specs.Falling.{IsFalling};
 ghost use Rattle.lan_base.specs.Timers.{retire_time};

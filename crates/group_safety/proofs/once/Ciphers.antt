@@ -16,7 +16,7 @@ use Rattle.aes_block.specs.declared.secret.Secret.TheVariants.{S128, S256}
 use Rattle.aes_block.specs.Octet.{octets_sum}
 use Rattle.aes_block.specs.Secrets.{secret_octets}
 use Rattle.aes_block.specs.State.{last_round, shift_rows, sub_bytes}
-use Rattle.aes_block.specs.Aes.{aes, cipher, IsBlock, IsKey}
+use Rattle.aes_block.specs.Aes.{aes, cipher, IsBlock, IsKey, IsOctets}
 use Rattle.aes_block.proofs.Octets.{AreOctets, All-from_AreOctets, AreOctets-from_All}
 use Rattle.aes_block.proofs.Octets.{AreOctets-append, AreOctets-octets_sum, AreOctets-take}
 use Rattle.aes_block.proofs.Octets.{AreOctets-drop}
@@ -26,7 +26,7 @@ use Rattle.aes_cmac.specs.Cmac.{cmac, chain_after, block, before_last, last_bloc
 use Rattle.aes_cmac.specs.Cmac.{first_subkey, second_subkey, doubled, doubled_bits}
 use Rattle.mka_kdf.specs.Kdf.{kek_of, ick_of, derived, input, context_of}
 use Rattle.mka_kdf.proofs.Lengths.{derived-16, derived-32}
-use Rattle.key_wrap.specs.Wrap.{IsOctets, wrapped, initial_value}
+use Rattle.key_wrap.specs.Wrap.{wrapped, initial_value}
 use Rattle.key_wrap.proofs.Octets.{IsOctets-steps}
 use Rattle.key_wrap.proofs.OneKey.{Permutes, one_key}
 use Rattle.mkpdu_codec.specs.declared.given.Given.{Given}
@@ -254,7 +254,7 @@ unfolding wrapped
 wrapped-length kek octets n is_key room count small =
     let start : IsOctets (8 + n) (initial_value ++ octets) = record {
       count = length-append initial_value octets ∙ omega (arith, count);
-      below = All-append (λ octet. octet < 256) initial_value octets
+      octets = All-append (λ octet. octet < 256) initial_value octets
           (All-replicate (λ octet. octet < 256) 8 0xa6 (omega arith)) small;
     } in
     (IsOctets-steps kek (initial_value ++ octets) (8 + n) (6 * (length octets / 8))
@@ -270,7 +270,7 @@ permutes kek is_key = record {
 pub hidden : (n : ℕ) (kek octets : List ℕ) → IsKey kek → 8 ≤ n → AreSome n octets
     → unwrapped n kek (wrapped kek octets) ≡ Some octets
 hidden n kek octets is_key room is =
-    let whole : IsOctets n octets = record { count = is.0; below = is.1 } in
+    let whole : IsOctets n octets = record { count = is.0; octets = is.1 } in
     key-unwrapped n kek (wrapped kek octets) octets
     (λ other both. one_key kek other octets n room (permutes kek is_key) both.0 whole both.1) whole
     refl
@@ -304,9 +304,9 @@ pub unwrapped-secret : (kek : List ℕ) (g : Given) (s : Secret) → given_sak k
 unwrapped-secret kek (Aes128 an off number octets) s e =
     let r = from_map S128 (unwrapped 16 kek octets) s e in
     let whole = (unwrapped-key 16 kek octets r.0 r.1).0 in
-    subst IsSecret r.2 (whole.count, whole.below)
+    subst IsSecret r.2 (whole.count, whole.octets)
 unwrapped-secret kek (Aes256 an off number octets) s e =
     let r = from_map S256 (unwrapped 32 kek octets) s e in
     let whole = (unwrapped-key 32 kek octets r.0 r.1).0 in
-    subst IsSecret r.2 (whole.count, whole.below)
+    subst IsSecret r.2 (whole.count, whole.octets)
 unwrapped-secret kek (Other an off number) s e = absurd (none-some e)

@@ -29,7 +29,7 @@ returns-clause-only c = λ before octets e.
     let state = c.args.state.now in
     let text : IsBlock (take 16 before) = record {
       count = length-take-le 16 before (omega (arith, octets.count));
-      octets = All-take (λ octet. octet < 256) 16 before octets.below;
+      octets = All-take (λ octet. octet < 256) 16 before octets.octets;
     } in
     let cipher = cipher_of c (take 16 before) text in
     only_before _ _ _ _ _ _ before _ (undoes c) octets.count cipher.count e (λ h. c.decrypt-block.ensures.only (take 16 before) text h)

@@ -8,6 +8,6 @@ returns-clause-octets g c =
     let IsOctet : ℕ → Type 0 = λ octet. octet < 256 in
     record {
       count = c.copy_from_slice.ensures.len ∙ length-replicate g.row.N 0;
-      below = All-same IsOctet c.copy_from_slice.new.self c.args.registers.now c.copy_from_slice.ensures.after
+      octets = All-same IsOctet c.copy_from_slice.new.self c.args.registers.now c.copy_from_slice.ensures.after
           (All-from_get_or IsOctet c.args.registers.now 0 (λ i h. omega (arith, c.type_inv.registers i)));
     }

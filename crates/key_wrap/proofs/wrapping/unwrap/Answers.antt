@@ -1,6 +1,7 @@
 use Rattle.std.proofs.Common.{◌≡◌, List, ℕ, drop, ap, ◌∙◌, arith, rules, Some, true, refl}
 use Rattle.std.proofs.lemmas.List.{length-drop, take_all}
-use Rattle.key_wrap.specs.Wrap.{IsOctets, wrapped}
+use Rattle.aes_block.specs.Aes.{IsOctets}
+use Rattle.key_wrap.specs.Wrap.{wrapped}
 use Rattle.key_wrap.proofs.wrapping.unwrap.Goals as goal
 
 is_rest : (c : goal.After-key_of) → c.key_of.result ≡ drop 8 c.is_undone.new.state
