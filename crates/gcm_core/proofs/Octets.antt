@@ -6,7 +6,7 @@ use Rattle.std.proofs.lemmas.List.{length-append, length-replicate}
 use Rattle.std.proofs.lemmas.List.Elements.{All-nil, All-cons, All-head, All-tail, All-append, All-same, All-from_get_or, All-replicate}
 use Rattle.std.specs.List.{All}
 use Rattle.std.specs.Int.{w64, w128, byte_at, bytes_high_first, to_be_bytes, from_be_bytes}
-use Rattle.gcm_core.specs.Blocks.{number_from, block_octets, block_bits, octets_of}
+use Rattle.gcm_core.specs.Blocks.{number_from, block_octets, block_bits, octets_of_bits}
 use Rattle.gcm_core.proofs.BlockBits.{number_from-bits, byte_at-is, pow-octets}
 use Rattle.gcm_core.proofs.Products.{block_bits-are}
 
@@ -113,8 +113,8 @@ block_octets-halves a b ha hb =
     number_of-append xs ys ∙ halves (number_of xs) (number_of ys) a b ha hb (number_of-bytes 8 a) (number_of-bytes 8 b) in
     ap block_octets (sym n) ∙ block_octets-number_of (xs ++ ys) refl (All-append IsOctet xs ys (All-bytes 8 a) (All-bytes 8 b))
 
-pub octets_of-block_bits : (n : ℕ) → n < 2 ^ 128 → octets_of (block_bits n) ≡ block_octets n
-octets_of-block_bits n h =
+pub octets_of_bits-block_bits : (n : ℕ) → n < 2 ^ 128 → octets_of_bits (block_bits n) ≡ block_octets n
+octets_of_bits-block_bits n h =
     ap block_octets (ap (number_from 0) (block_bits-are n) ∙ number_from-bits 128 n 0 ∙ omega arith)
 
 -- octets and zeros up to 16, read as a number

@@ -4,10 +4,10 @@ use Rattle.std.specs.List.{All}
 use Rattle.std.specs.Int.{w128, from_be_bytes}
 use Rattle.aes_block.specs.Aes.{aes, IsBlock}
 use Rattle.aes_block.specs.Bits.{bits}
-use Rattle.gcm_core.specs.Blocks.{block_bits, block_octets, octets_of}
+use Rattle.gcm_core.specs.Blocks.{block_bits, block_octets, octets_of_bits}
 use Rattle.gcm_core.specs.Gcm.{gcm, gcm_text, gcm_tag, gctr, increment, first_counter, counter_block, hashed, hash_key}
 use Rattle.gcm_core.proofs.KeyStream.{gctr-gctr, gctr-increment, IsBlock-increment}
-use Rattle.gcm_core.proofs.Octets.{IsOctet, block_octets-read, octets_of-block_bits}
+use Rattle.gcm_core.proofs.Octets.{IsOctet, block_octets-read, octets_of_bits-block_bits}
 
 hash_key-is : (key cipher : List ℕ) (h : ℕ) → cipher ≡ aes key (replicate 16 0) → block_octets h ≡ cipher → hash_key key ≡ block_bits h
 unfolding hash_key block_bits
@@ -18,8 +18,8 @@ pub gcm_tag-is : (key iv extra text cipher first tag : List ℕ) (h s : ℕ) →
     → tag ≡ gcm_tag key iv extra text
 unfolding gcm_tag
 gcm_tag-is key iv extra text cipher first tag h s ec eh es fits ef et =
-    let hash : octets_of (hashed (hash_key key) extra text) ≡ block_octets s =
-    ap (λ (k : List Bool). octets_of (hashed k extra text)) (hash_key-is key cipher h ec eh) ∙ ap octets_of (sym es) ∙ octets_of-block_bits s fits in
+    let hash : octets_of_bits (hashed (hash_key key) extra text) ≡ block_octets s =
+    ap (λ (k : List Bool). octets_of_bits (hashed k extra text)) (hash_key-is key cipher h ec eh) ∙ ap octets_of_bits (sym es) ∙ octets_of_bits-block_bits s fits in
     rw (hash, ← ef) et
 
 pub gcm_text-is : (key iv text result : List ℕ) → length iv ≡ 12 → result ≡ gctr key (counter_block iv 2) text → result ≡ gcm_text key iv text

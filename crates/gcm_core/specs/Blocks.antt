@@ -31,5 +31,5 @@ unfoldable pub block_bits : ℕ → List Bool
 block_bits n = bits (block_octets n)
 
 -- the 16 octets of a string of 128 bits
-abbrev pub octets_of : List Bool → List ℕ
-octets_of bs = block_octets (number_from 0 bs)
+abbrev pub octets_of_bits : List Bool → List ℕ
+octets_of_bits bs = block_octets (number_from 0 bs)

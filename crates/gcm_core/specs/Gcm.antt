@@ -5,7 +5,7 @@ use Rattle.std.specs.Int.{w32, w64, to_be_bytes, from_be_bytes}
 use Rattle.aes_block.specs.Aes.{aes}
 use Rattle.aes_block.specs.Bits.{bits}
 use Rattle.aes_block.specs.Octet.{octets_sum}
-use Rattle.gcm_core.specs.Blocks.{block_count, blocks_of, padded, octets_of}
+use Rattle.gcm_core.specs.Blocks.{block_count, blocks_of, padded, octets_of_bits}
 use Rattle.gcm_core.specs.Ghash.{ghash}
 
 -- inc 32: a counter block with one more in its last 32 bits, modulo 2 ^ 32 (6.2)
@@ -48,7 +48,7 @@ gcm_text key iv text = gctr key (increment (first_counter iv)) text
 
 -- the tag of additional data and ciphertext (7.1, step 6)
 unfoldable pub gcm_tag : List ℕ → List ℕ → List ℕ → List ℕ → List ℕ
-gcm_tag key iv extra ciphertext = gctr key (first_counter iv) (octets_of (hashed (hash_key key) extra ciphertext))
+gcm_tag key iv extra ciphertext = gctr key (first_counter iv) (octets_of_bits (hashed (hash_key key) extra ciphertext))
 
 -- the ciphertext and its tag (7.1)
 abbrev pub gcm : List ℕ → List ℕ → List ℕ → List ℕ → List ℕ × List ℕ

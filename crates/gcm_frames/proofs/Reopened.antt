@@ -5,7 +5,7 @@ use Rattle.byteorder.specs.Numbers.{length-bytes_high_first}
 use Rattle.byteorder.specs.Endian.{big_bytes}
 use Rattle.lan_base.specs.declared.address.Sci.{Sci}
 use Rattle.lan_base.specs.declared.frame.UserFrame.{UserFrame}
-use Rattle.gcm_core.specs.Blocks.{octets_of, block_octets}
+use Rattle.gcm_core.specs.Blocks.{octets_of_bits, block_octets}
 use Rattle.gcm_core.specs.Gcm.{gcm, gcm_text, gcm_tag, gctr, hash_key, hashed, first_counter}
 use Rattle.aes_block.specs.Aes.{aes, IsBlock, IsKey}
 use Rattle.gcm_frames.specs.declared.tag.Tag.{Tag}
@@ -22,7 +22,7 @@ length-block n = refl
 pub length-gcm_tag : (key v extra enciphered : List ℕ) → Encrypts key v → length (gcm_tag key v extra enciphered) ≡ 16
 unfolding gcm_tag
 length-gcm_tag key v extra enciphered h =
-    length-gctr key (first_counter v) (octets_of (hashed (hash_key key) extra enciphered)) h.blocks h.counter ∙ length-block _
+    length-gctr key (first_counter v) (octets_of_bits (hashed (hash_key key) extra enciphered)) h.blocks h.counter ∙ length-block _
 
 -- nothing is enciphered to nothing
 text_none : (key v : List ℕ) → gcm_text key v [] ≡ []
