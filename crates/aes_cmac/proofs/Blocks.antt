@@ -1,6 +1,6 @@
--- the blocks of a message, one octet later
-use Rattle.std.proofs.Common.{◌≡◌, ℕ, zero, suc, ◌+◌, ◌*◌, ◌<◌, ◌≤◌, List, [], ◌∷◌, ◌++◌, length, drop, refl, ap, arith}
-use Rattle.std.proofs.lemmas.List.{length-drop, take-append-le, drop-append-le, drop_at, take_all, length_push}
+-- the blocks of a message, some octets later
+use Rattle.std.proofs.Common.{◌≡◌, ℕ, zero, suc, ◌+◌, ◌*◌, ◌<◌, ◌≤◌, List, ◌++◌, length, drop, refl, ap, arith}
+use Rattle.std.proofs.lemmas.List.{length-drop, take-append-le, drop-append-le, drop_at, take_all, length-append}
 use Rattle.aes_cmac.specs.Cmac.{block, before_last, chain_after}
 
 -- a whole block stays as it is when more octets come
@@ -29,21 +29,23 @@ pub length-last : (m : List ℕ) → length (block m (before_last m)) + 16 * bef
 length-last m = rw (block-last m) (simp length-drop (omega arith))
 
 -- behind a whole last block a new one begins
-pub before_last-whole : (m : List ℕ) (x : ℕ) → length (block m (before_last m)) ≡ 16 → before_last (m ++ x ∷ []) ≡ before_last m + 1
-before_last-whole m x h = omega (arith, length-last m, length_push m x)
+pub before_last-whole : (m xs : List ℕ) → length (block m (before_last m)) ≡ 16 → 0 < length xs → length xs ≤ 16
+    → before_last (m ++ xs) ≡ before_last m + 1
+before_last-whole m xs h some few = omega (arith, length-last m, length-append m xs)
 
-pub block-next : (m : List ℕ) (x : ℕ) → length (block m (before_last m)) ≡ 16 → block (m ++ x ∷ []) (before_last m + 1) ≡ x ∷ []
-block-next m x h =
-    rw (drop_at m (x ∷ []) (16 * (before_last m + 1)) (omega (arith, length-last m))) refl
+pub block-next : (m xs : List ℕ) → length (block m (before_last m)) ≡ 16 → length xs ≤ 16 → block (m ++ xs) (before_last m + 1) ≡ xs
+block-next m xs h few =
+    rw (drop_at m xs (16 * (before_last m + 1)) (omega (arith, length-last m))) (take_all 16 xs few)
 
 -- and else the last block grows
-pub before_last-part : (m : List ℕ) (x : ℕ) → length (block m (before_last m)) < 16 → before_last (m ++ x ∷ []) ≡ before_last m
-before_last-part m x h = omega (arith, length-last m, length_push m x)
+pub before_last-part : (m xs : List ℕ) → length (block m (before_last m)) + length xs ≤ 16 → before_last (m ++ xs) ≡ before_last m
+before_last-part m xs h = omega (arith, length-last m, length-append m xs)
 
-pub block-more : (m : List ℕ) (x : ℕ) → length (block m (before_last m)) < 16 → block (m ++ x ∷ []) (before_last m) ≡ block m (before_last m) ++ x ∷ []
-block-more m x h =
+pub block-more : (m xs : List ℕ) → length (block m (before_last m)) + length xs ≤ 16
+    → block (m ++ xs) (before_last m) ≡ block m (before_last m) ++ xs
+block-more m xs h =
     let n = before_last m in
     let within : 16 * n ≤ length m = omega (arith, length-last m) in
     let rest : block m n ≡ drop (16 * n) m = block-last m in
-    let more : drop (16 * n) (m ++ x ∷ []) ≡ drop (16 * n) m ++ x ∷ [] = drop-append-le _ _ _ within in
-    rw (more, rest) (take_all 16 (drop (16 * n) m ++ x ∷ []) (rw length_push (omega (arith, ap length rest))))
+    let more : drop (16 * n) (m ++ xs) ≡ drop (16 * n) m ++ xs = drop-append-le _ _ _ within in
+    rw (more, rest) (take_all 16 (drop (16 * n) m ++ xs) (omega (arith, length-append (drop (16 * n) m) xs, ap length rest)))

@@ -8,7 +8,7 @@ use Rattle.aes_cmac.specs.Cmac.{before_last, block, chain_after, cmac, last_bloc
 use Rattle.aes_cmac.proofs.Blocks.{block-append, block-last}
 
 -- a block of a whole number of them
-get_or-first_chunks : (k : ℕ) (xs : List ℕ) (i : ℕ) → i < k → get_or (first_chunks 16 k xs) i [] ≡ block xs i
+pub get_or-first_chunks : (k : ℕ) (xs : List ℕ) (i : ℕ) → i < k → get_or (first_chunks 16 k xs) i [] ≡ block xs i
 get_or-first_chunks zero xs i lt = absurd (omega arith)
 get_or-first_chunks (suc k) xs zero lt = refl
 get_or-first_chunks (suc k) xs (suc i) lt =

@@ -1,5 +1,4 @@
-ghost use Rattle.std.specs.Prelude.{◌≡◌, ◌++◌, List, ℕ, [], ◌∷◌};
-ghost use Rattle.aes_cmac.specs.Cmac.{cmac};
+//! A message that comes in pieces.
 
 use crate::block::last_block;
 use aes_block::{Key, xored};
@@ -29,7 +28,7 @@ impl<'a> Model for Running<'a> {
 }
 
 impl<'a> Running<'a> {
-    ghost use Rattle.std.specs.Prelude.{◌≡◌, ◌++◌, List, ℕ, [], ◌∷◌};
+    ghost use Rattle.std.specs.Prelude.{◌≡◌, ◌<◌, ◌≤◌, ◌+◌, ◌++◌, List, ℕ, [], length};
     ghost use Rattle.aes_cmac.specs.Cmac.{cmac};
     ghost use Rattle.aes_cmac.specs.Progress.{Holds};
 
@@ -50,9 +49,11 @@ impl<'a> Running<'a> {
         ensures { (key message : List ℕ) → Holds self.old key message
             → Holds self.new key (message ++ piece.now) }
     {
-        for octet in piece {
-            self.push(*octet);
+        let (blocks, rest) = piece.as_chunks::<16>();
+        for block in blocks {
+            self.push(block);
         }
+        self.push(rest);
     }
 
     /// The value of the whole message.
@@ -63,15 +64,42 @@ impl<'a> Running<'a> {
         self.key.encrypt(xored(&self.chain, &last))
     }
 
-    fn push(&mut self, octet: u8)
+    /// Takes at most a block of the message: what the waiting block has room for, and the rest behind it.
+    fn push(&mut self, part: &[u8])
+        requires { length part.now ≤ 16 }
         ensures { (key message : List ℕ) → Holds self.old key message
-            → Holds self.new key (message ++ octet ∷ []) }
+            → Holds self.new key (message ++ part.now) }
     {
-        if self.filled == 16 {
-            self.chain = self.key.encrypt(xored(&self.chain, &self.next));
-            self.filled = 0;
+        let room = 16 - self.filled;
+        let (front, back) = part.split_at(part.len().min(room));
+        self.fill(front);
+        if !back.is_empty() {
+            self.begin(back);
         }
-        self.next[self.filled] = octet;
-        self.filled += 1;
+    }
+
+    /// Puts octets that have room there into the waiting block.
+    fn fill(&mut self, part: &[u8])
+        requires { length self.old.rest + length part.now ≤ 16 }
+        ensures len { length self.new.rest ≡ length self.old.rest + length part.now }
+        ensures holds { (key message : List ℕ) → Holds self.old key message
+            → Holds self.new key (message ++ part.now) }
+    {
+        let end = self.filled + part.len();
+        self.next[self.filled..end].copy_from_slice(part);
+        self.filled = end;
+    }
+
+    /// Enciphers the waiting block, which is whole, and begins the next one.
+    fn begin(&mut self, part: &[u8])
+        requires whole { length self.old.rest ≡ 16 }
+        requires some { 0 < length part.now }
+        requires room { length part.now ≤ 16 }
+        ensures { (key message : List ℕ) → Holds self.old key message
+            → Holds self.new key (message ++ part.now) }
+    {
+        self.chain = self.key.encrypt(xored(&self.chain, &self.next));
+        self.next[..part.len()].copy_from_slice(part);
+        self.filled = part.len();
     }
 }
