@@ -5,7 +5,7 @@ ghost use Rattle.std.specs.Prelude.{◌≡◌, ◌≤◌, ◌-◌, ◌++◌, Lis
 ghost use Rattle.aes_block.specs.Aes.{aes, IsBlock, IsOctets};
 ghost use Rattle.key_wrap.specs.Wrap.{numbered, step};
 
-use aes_block::{Key, law_ciphertexts_are_blocks};
+use aes_block::{Key, law_ciphertexts_are_blocks, xored};
 
 /// A step, which is numbered from 1 (RFC 3394, 2.2.1).
 pub fn step(kek: &Key, state: &mut [u8], number: u64)
@@ -48,14 +48,13 @@ fn put_first_block(state: &mut [u8], block: &[u8; 16])
     state[..16].copy_from_slice(block);
 }
 
-fn numbered(mut block: [u8; 16], number: u64) -> [u8; 16]
+/// The number added to the first half of a block (RFC 3394, 2.2.1).
+fn numbered(block: [u8; 16], number: u64) -> [u8; 16]
     ensures { result ≡ numbered block number }
 {
-    let octets = number.to_be_bytes();
-    for i in 0..8 {
-        block[i] ^= octets[i];
-    }
-    block
+    let mut added = [0; 16];
+    added[..8].copy_from_slice(&number.to_be_bytes());
+    xored(&block, &added)
 }
 
 /// Moves the first register behind the others.

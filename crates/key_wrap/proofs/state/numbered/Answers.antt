@@ -1,11 +1,13 @@
-use Rattle.std.proofs.Common.{◌++◌, take, drop, length, ap, ◌∙◌, arith}
+use Rattle.std.proofs.Common.{◌++◌, replicate, ap, ◌∙◌, arith}
 use Rattle.aes_block.specs.Octet.{octets_sum}
-use Rattle.key_wrap.proofs.Numbered.{same_sum}
+use Rattle.std.specs.Int.{w64, to_be_bytes}
+use Rattle.key_wrap.proofs.Numbered.{front_added}
 use Rattle.key_wrap.proofs.state.numbered.Goals as goal
 
 pub returns : goal.returns
 returns c =
     let block = c.args.block in
-    same_sum c.loop-i.block block c.to_be_bytes-octets.result (omega arith) (omega arith) (ap length c.to_be_bytes-octets.ensures)
-    (λ k h. c.loop-i.invariant.1 k (omega arith)) (λ k h. c.loop-i.invariant.2 k (omega arith))
-    ∙ ap (λ octets. octets_sum (take 8 block) octets ++ drop 8 block) c.to_be_bytes-octets.ensures
+    let octets = to_be_bytes w64 c.args.number in
+    c.xored.ensures
+    ∙ ap (λ front. octets_sum block (front ++ replicate 8 0)) (c.copy_from_slice.ensures.after ∙ c.to_be_bytes.ensures)
+    ∙ front_added block octets 8 (omega arith)
