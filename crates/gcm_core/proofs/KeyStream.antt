@@ -33,6 +33,12 @@ sum-append octets [] stream = refl
 sum-append [] (m ∷ ms) stream = refl
 sum-append (x ∷ xs) (m ∷ ms) stream = λ i. bit_xor x m ∷ sum-append xs ms stream i
 
+-- the front of a sum
+pub sum-front : (octets rest mask : List ℕ) → take (length octets) (octets_sum (octets ++ rest) mask) ≡ octets_sum octets mask
+sum-front [] rest mask = refl
+sum-front (x ∷ xs) rest [] = refl
+sum-front (x ∷ xs) rest (m ∷ ms) = ap (λ sum. bit_xor x m ∷ sum) (sum-front xs rest ms)
+
 -- ---- counter blocks
 
 -- four octets put behind the first twelve

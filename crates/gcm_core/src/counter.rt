@@ -49,7 +49,7 @@ fn mask(octets: &mut [u8], block: &[u8; 16])
     requires { length octets.old ≤ 16 }
     ensures { octets.new ≡ octets_sum octets.old block.now }
 {
-    for (i, octet) in octets.iter_mut().enumerate() {
-        *octet ^= block[i];
-    }
+    let mut whole = [0; 16];
+    whole[..octets.len()].copy_from_slice(octets);
+    octets.copy_from_slice(&xored(&whole, block)[..octets.len()]);
 }
