@@ -1,17 +1,21 @@
 -- The expansion of a key, word by word.
-use Rattle.std.proofs.Common.{◌≡◌, ℕ, zero, suc, ◌+◌, ◌-◌, ◌*◌, ◌/◌, ◌%◌, ◌^◌, ◌<◌, ◌≤◌, ◌&&◌, List, [], ◌∷◌, ◌++◌, length, take, drop, set, get_or, map, refl, sym, ap, subst, ◌∙◌, arith, bit_xor, length-append, add-one, inl, inr}
+use Rattle.std.proofs.Common.{◌≡◌, ℕ, zero, suc, ◌+◌, ◌-◌, ◌*◌, ◌/◌, ◌%◌, ◌^◌, ◌<◌, ◌≤◌, ◌&&◌, List, [], ◌∷◌, ◌++◌, length, take, drop, set, get_or, map, refl, sym, ap, subst, ◌∙◌, arith, bit_xor, length-append, length-drop, add-one, inl, inr}
 use Rattle.std.specs.Prelude.{if◌then◌else◌, nat_lt, ◌==◌, slice_index, slice_index_or}
 use Rattle.std.specs.Int.{w32, from_be_bytes, rotate_left}
 use Rattle.std.specs.List.{concat}
+use Rattle.std.specs.Simd.{first_chunks}
 use Rattle.std.proofs.Math.Seq.{take-add}
+use Rattle.std.proofs.lemmas.Nat.{be_bytes_4}
+use Rattle.std.proofs.lemmas.List.Elements.{All-from_get_or}
 use Rattle.std.proofs.lemmas.Bool.{cases_lt, eq-eqb, le-ltb, lt-ltb}
 use Rattle.std.proofs.lemmas.List.Folds.{concat-append}
-use Rattle.std.proofs.lemmas.List.{append-nil, get_or-map, get_or-take, length-take-le, map-append, take_all, take_more_set, take-append-le, take-map, take-take}
+use Rattle.std.proofs.lemmas.List.{append-nil, drop-drop, get_or-map, get_or-take, length-take-le, map-append, take_all, take_more_set, take-append-le, take-map, take-take}
 use Rattle.aes_block.specs.Octet.{octets_sum, times}
 use Rattle.aes_block.specs.Column.{octets_of, octets_of_words}
 use Rattle.aes_block.specs.Expansion.{addend, expansion, key_words, next_word, power_of_x, rot_word, round_constant, round_key, sub_word, word_at}
 use Rattle.aes_block.specs.declared.expansion.TheConstants.{POWERS_OF_X}
 use Rattle.aes_block.proofs.EachOctet.{equal_below, below_number}
+use Rattle.aes_block.proofs.Octets.{AreOctets, AreOctets-anywhere, AreOctets-drop, AreOctets-from_All, AreOctets-take}
 use Rattle.aes_block.proofs.Words.{octets_of-from_bytes, octets_of-rotate_8, octets_of-xor}
 
 -- the table of powers of x
@@ -90,6 +94,27 @@ own_word : (key : List ℕ) (words : List (List ℕ)) (i : ℕ) → i < key_word
 own_word key words i lt =
     ap (λ b. if b then take 4 (drop (4 * i) key)
     else octets_sum (word_at words (i - key_words key)) (addend (key_words key) i (word_at words (i - 1)))) (lt-ltb i (key_words key) lt)
+
+-- four octets of a whole number of fours
+get_or-fours : (k : ℕ) (xs : List ℕ) (i : ℕ) → i < k → get_or (first_chunks 4 k xs) i [] ≡ take 4 (drop (4 * i) xs)
+get_or-fours zero xs i lt = absurd (omega arith)
+get_or-fours (suc k) xs zero lt = refl
+get_or-fours (suc k) xs (suc i) lt =
+    let further : 4 + 4 * i ≡ 4 * suc i = omega arith in
+    get_or-fours k (drop 4 xs) i (omega arith) ∙ ap (take 4) (drop-drop (4 * i) 4 xs ∙ ap (λ n. drop n xs) further)
+
+-- a word of the key's own, read from its octets
+pub next_word-own : (key : List ℕ) (words own : List (List ℕ)) (i n : ℕ) → ((j : ℕ) → get_or key j 0 < 256) → i < key_words key
+    → own ≡ first_chunks 4 (length key / 4) key → n ≡ from_be_bytes w32 (get_or own i []) → octets_of n ≡ next_word key words i
+unfolding octets_of
+next_word-own key words own i n fits lt is_own is =
+    let four : List ℕ = take 4 (drop (4 * i) key) in
+    let same : get_or own i [] ≡ four = ap (λ l. get_or l i []) is_own ∙ get_or-fours (length key / 4) key i lt in
+    let octets : AreOctets key = AreOctets-from_All key (All-from_get_or (λ x. x < 256) key 0 (λ j l. fits j)) in
+    be_bytes_4 four n (length-take-le 4 (drop (4 * i) key) (omega (arith, length-drop (4 * i) key)))
+    (AreOctets-anywhere four (AreOctets-take 4 (drop (4 * i) key) (AreOctets-drop (4 * i) key octets)))
+    (is ∙ ap (from_be_bytes w32) same)
+    ∙ sym (own_word key words i lt)
 
 -- the octets of the first words of an expanded key are the key's own
 concat-expansion : (key : List ℕ) (n : ℕ) → n ≤ key_words key → concat (expansion key n) ≡ take (4 * n) key

@@ -1,5 +1,5 @@
 -- The octets of words, of their sums and of their rotations.
-use Rattle.std.proofs.Common.{◌≡◌, ℕ, zero, suc, ◌+◌, ◌*◌, ◌/◌, ◌%◌, ◌^◌, ◌<◌, ◌≤◌, length, length-drop, get_or-drop, add-zero, List, [], ◌∷◌, ◌++◌, take, drop, get_or, map, refl, sym, ap, ◌∙◌, arith, bit_and, bit_or, bit_xor}
+use Rattle.std.proofs.Common.{◌≡◌, ℕ, zero, suc, ◌+◌, ◌*◌, ◌/◌, ◌%◌, ◌^◌, ◌<◌, length, List, [], ◌∷◌, ◌++◌, take, drop, get_or, map, refl, sym, ap, ◌∙◌, arith, bit_and, bit_or, bit_xor}
 use Rattle.std.specs.Int.{w32, w64, from_be_bytes, rotate_left, to_be_bytes}
 use Rattle.std.proofs.lemmas.Nat.{and_block, and_le_r, be_bytes_4, be_bytes_8, or_shifted, xor_block, xor_mod, xor_shr, xor_of_8}
 use Rattle.aes_block.specs.Octet.{octets_sum, times}
@@ -163,20 +163,6 @@ octets_of-doubled n fits =
     ∙ octets_of-word _ _ _ _ (shift_lt _) (shift_lt _) (shift_lt _) (shift_lt _)
     ∙ sym (λ i. times_2 _ r.a_fits i ∷ times_2 _ r.b_fits i ∷ times_2 _ r.c_fits i ∷ times_2 _ r.d_fits i ∷ [])
     ∙ sym (ap (map (times 2)) r.octets)
-
-take_4 : (xs : List ℕ) → 4 ≤ length xs → get_or xs 0 0 ∷ get_or xs 1 0 ∷ get_or xs 2 0 ∷ get_or xs 3 0 ∷ [] ≡ take 4 xs
-take_4 [] le = absurd (omega arith)
-take_4 (a ∷ []) le = absurd (omega arith)
-take_4 (a ∷ b ∷ []) le = absurd (omega arith)
-take_4 (a ∷ b ∷ c ∷ []) le = absurd (omega arith)
-take_4 (a ∷ b ∷ c ∷ d ∷ xs) le = refl
-
--- four octets of a list
-pub four_at : (xs : List ℕ) (k : ℕ) → k + 4 ≤ length xs
-    → get_or xs k 0 ∷ get_or xs (k + 1) 0 ∷ get_or xs (k + 2) 0 ∷ get_or xs (k + 3) 0 ∷ [] ≡ take 4 (drop k xs)
-four_at xs k le =
-    let shorter : 4 ≤ length (drop k xs) = omega (arith, length-drop k xs) in
-    sym (λ i. (get_or-drop k xs 0 0 ∙ ap (λ j. get_or xs j 0) (add-zero k)) i ∷ get_or-drop k xs 1 0 i ∷ get_or-drop k xs 2 0 i ∷ get_or-drop k xs 3 0 i ∷ []) ∙ take_4 (drop k xs) shorter
 
 -- the octets of eight octets' halves
 pub octets_of-halves : (n : ℕ) → octets_of (n / 2 ^ 32) ++ octets_of (n % 2 ^ 32) ≡ to_be_bytes w64 n

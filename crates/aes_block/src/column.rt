@@ -1,21 +1,13 @@
 //! Columns of the state, and words of the key, as numbers: the octet of row 0 is the highest
 //! (FIPS 197, sections 3.5 and 5.1.3).
 
-ghost use Rattle.std.specs.Prelude.{◌≡◌, ◌+◌, ◌≤◌, drop, length, map, take};
+ghost use Rattle.std.specs.Prelude.{◌≡◌, map};
 ghost use Rattle.aes_block.specs.Octet.{sub_octet, times};
 ghost use Rattle.aes_block.specs.State.{mixed_column};
 ghost use Rattle.aes_block.specs.Column.{diagonal, octets_of};
 
 use crate::mixed_table::MIXED;
 use crate::s_box::{inv_sub_octet, sub_octet};
-
-/// The four octets from a place on, as a column or a word (3.4 and 3.5).
-pub fn word_at(octets: &[u8], at: usize) -> u32
-    requires { at + 4 ≤ length octets.now }
-    ensures { octets_of result ≡ take 4 (drop at octets.now) }
-{
-    u32::from_be_bytes([octets[at], octets[at + 1], octets[at + 2], octets[at + 3]])
-}
 
 /// Each octet times x, in all four rows at once (4.2.1).
 fn doubled_octets(column: u32) -> u32

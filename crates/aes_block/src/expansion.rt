@@ -4,7 +4,7 @@ ghost use Rattle.std.specs.Prelude.{ℕ, ◌≡◌, ◌+◌, ◌*◌, ◌/◌, �
 ghost use Rattle.aes_block.specs.Column.{octets_of};
 ghost use Rattle.aes_block.specs.Expansion.{addend, expansion, key_words, next_word, sub_word};
 
-use crate::column::{sub_diagonal, word_at};
+use crate::column::sub_diagonal;
 
 /// The powers of x from 1 on, in the first octet of a round constant.
 const POWERS_OF_X: [u8; 10] = [0x01, 0x02, 0x04, 0x08, 0x10, 0x20, 0x40, 0x80, 0x1b, 0x36];
@@ -43,7 +43,8 @@ pub fn next_word(octets: &[u8], words: &[u32], i: usize) -> u32
 {
     let key_words = octets.len() / 4;
     if i < key_words {
-        word_at(octets, 4 * i)
+        let (own, _) = octets.as_chunks::<4>();
+        u32::from_be_bytes(own[i])
     } else {
         words[i - key_words] ^ addend(key_words, i, words[i - 1])
     }
