@@ -1,20 +1,20 @@
 -- the definitions on worked values, by computing
 use Rattle.std.proofs.Common.{◌≡◌, [], ◌∷◌, get_or, refl}
 use Rattle.cipher_bench.specs.declared.named.Frame.TheVariants.{Octets64, Octets512, Octets1500}
-use Rattle.cipher_bench.specs.Work.{octets, key, long_key, changed, iv_after}
+use Rattle.cipher_bench.specs.Work.{stepped, key, long_key, changed, iv_after}
 use Rattle.cipher_bench.specs.Results.{text_length}
 
-three : octets 7 3 ≡ 0 ∷ 7 ∷ 14 ∷ []
-unfolding octets
+three : stepped 7 3 ≡ 0 ∷ 7 ∷ 14 ∷ []
+unfolding stepped
 three = refl
 
 -- 7 * 36 is 252, and 7 * 37 is 259
-wraps : get_or (octets 7 38) 37 0 ≡ 3
-unfolding octets
+wraps : get_or (stepped 7 38) 37 0 ≡ 3
+unfolding stepped
 wraps = refl
 
 key_octets : key ≡ 0 ∷ 1 ∷ 2 ∷ 3 ∷ 4 ∷ 5 ∷ 6 ∷ 7 ∷ 8 ∷ 9 ∷ 10 ∷ 11 ∷ 12 ∷ 13 ∷ 14 ∷ 15 ∷ []
-unfolding octets
+unfolding stepped
 key_octets = refl
 
 -- 0x51 and 0xff differ in 0xae
@@ -39,5 +39,5 @@ text_1500 : text_length Octets1500 ≡ 1488
 text_1500 = refl
 
 last_of_long_key : get_or long_key 31 0 ≡ 31
-unfolding octets
+unfolding stepped
 last_of_long_key = refl

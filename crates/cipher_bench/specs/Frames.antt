@@ -8,7 +8,7 @@ use Rattle.rx_slots.specs.declared.arrival.Arrival.{Arrival}
 use Rattle.rx_slots.specs.declared.arrival.Arrival.TheVariants.{Accepted, Malformed, Own, Missed, BadCheck, Late}
 use Rattle.rx_slots.specs.Histories.{Receiving, installed, heard}
 use Rattle.rx_slots.specs.Numbers.{answer}
-use Rattle.cipher_bench.specs.Work.{changed, key, octets}
+use Rattle.cipher_bench.specs.Work.{changed, key, stepped}
 
 -- the stations that send and receive
 abbrev pub sender : Sci
@@ -20,7 +20,7 @@ receiver = record { 0 = 2 ∷ 0 ∷ 0 ∷ 0 ∷ 0 ∷ 11 ∷ 0 ∷ 1 ∷ [] }
 -- the frame to a destination, enciphered under a packet number, whose user data rises by a step
 abbrev pub frame_to : List ℕ → ℕ → ℕ → List ℕ
 frame_to destination number step =
-    protected key sender 0 number true (record { destination = record { 0 = destination }; body = octets step 1488 })
+    protected key sender 0 number true (record { destination = record { 0 = destination }; body = stepped step 1488 })
 
 -- its tag: the last 16 octets
 abbrev pub tag_in : List ℕ → List ℕ
@@ -37,8 +37,8 @@ frame_tag_after zero = replicate 16 0
 frame_tag_after (suc n) = tag_in (frame_to (destination_after n) (suc n) 7)
 
 -- the two frames that are received: each has its packet number as the step of its user data
-abbrev pub numbered : ℕ → List ℕ
-numbered number = frame_to (replicate 6 255) number number
+abbrev pub frame_numbered : ℕ → List ℕ
+frame_numbered number = frame_to (replicate 6 255) number number
 
 -- the frame that is received after an answer: number 2 where number 1 was accepted, else number 1
 abbrev pub next_number : Arrival → ℕ
@@ -61,7 +61,7 @@ hears r frame = record { history = heard frame ∷ r.history; last = answer rece
 -- the receiver: the key was installed at first, and then it hears the frame that is received after its last answer
 abbrev pub receiver_after : ℕ → Receiver
 receiver_after zero = record { history = installed 0 (S128 key) ∷ []; last = Own }
-receiver_after (suc n) = hears (receiver_after n) (numbered (next_number (receiver_after n).last))
+receiver_after (suc n) = hears (receiver_after n) (frame_numbered (next_number (receiver_after n).last))
 
 -- the last 16 octets of accepted user data, zero where there are none
 abbrev pub end_of : Arrival → List ℕ

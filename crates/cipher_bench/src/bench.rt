@@ -1,7 +1,7 @@
 //! The work of each test. The result is 16 octets, all zero before the work is done once.
 
 ghost use Rattle.std.specs.Prelude.{◌≡◌, ◌≤◌, IfOk, IsOk};
-ghost use Rattle.cipher_bench.specs.Work.{block_after, key, long_key, octets, tag_after, value_after};
+ghost use Rattle.cipher_bench.specs.Work.{block_after, key, long_key, stepped, tag_after, value_after};
 ghost use Rattle.cipher_bench.specs.Results.{IsOfCipher, last_result};
 
 use crate::frames::{last_end, last_frame_tag};
@@ -48,7 +48,7 @@ fn long_test_key() -> Key
 
 /// Octets that begin from zero and rise by a step, modulo 256.
 pub(crate) fn stepped<const N: usize>(step: u8) -> [u8; N]
-    ensures { result ≡ octets step N }
+    ensures { result ≡ stepped step N }
 {
     let mut octets = [0; N];
     let mut next = 0u8;

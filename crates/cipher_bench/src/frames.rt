@@ -1,8 +1,8 @@
 //! The work of the tests of protected frames.
 
 ghost use Rattle.std.specs.Prelude.{◌≡◌, ◌≤◌, length, replicate, IfOk};
-ghost use Rattle.cipher_bench.specs.Frames.{end_of, frame_tag_after, frame_to, next_number, numbered, receiver, receiver_after, sender, tag_in};
-ghost use Rattle.cipher_bench.specs.Work.{octets};
+ghost use Rattle.cipher_bench.specs.Frames.{end_of, frame_tag_after, frame_to, next_number, frame_numbered, receiver, receiver_after, sender, tag_in};
+ghost use Rattle.cipher_bench.specs.Work.{stepped};
 ghost use Rattle.rx_slots.specs.Standing.{StandsFor};
 
 use crate::bench::{stepped, test_key};
@@ -35,7 +35,7 @@ const ALL: Mac = Mac([255; 6]);
 /// User data that rises by a step, for all stations.
 fn user_data(alloc: Global, step: u8) -> Result<UserFrame, AllocError>
     ensures destination { IfOk result (λ user. user.destination.0 ≡ replicate 6 255) }
-    ensures body { IfOk result (λ user. user.body ≡ octets step 1488) }
+    ensures body { IfOk result (λ user. user.body ≡ stepped step 1488) }
     ensures count { IfOk result (λ user. length user.body ≡ 1488) }
 {
     let body = Octets::from_slice(alloc, &stepped::<USER_DATA>(step))?;
@@ -78,8 +78,8 @@ fn tag_in(frame: &[u8]) -> [u8; 16]
 pub fn last_end(alloc: Global, count: u32) -> Result<[u8; 16], AllocError>
     ensures { IfOk result (λ end. end ≡ end_of (receiver_after count).last) }
 {
-    let first = numbered(alloc, 1)?;
-    let second = numbered(alloc, 2)?;
+    let first = frame_numbered(alloc, 1)?;
+    let second = frame_numbered(alloc, 2)?;
     let mut slots = ready(alloc);
     let mut last = Arrival::Own;
     for _done in 0..count {
@@ -98,9 +98,9 @@ fn ready(alloc: Global) -> RxSlots
 }
 
 /// A frame that is received, with its packet number as the step of its user data.
-fn numbered(alloc: Global, number: u8) -> Result<Vec<u8>, AllocError>
+fn frame_numbered(alloc: Global, number: u8) -> Result<Vec<u8>, AllocError>
     requires { 1 ≤ number }
-    ensures value { IfOk result (λ frame. frame.items ≡ numbered number) }
+    ensures value { IfOk result (λ frame. frame.items ≡ frame_numbered number) }
     ensures count { IfOk result (λ frame. length frame.items ≡ 1532) }
 {
     let user = user_data(alloc, number)?;
@@ -119,9 +119,9 @@ fn numbered(alloc: Global, number: u8) -> Result<Vec<u8>, AllocError>
 
 /// The frame that is received after an answer, of the two with packet numbers 1 and 2.
 fn next_frame<'a>(first: &'a [u8], second: &'a [u8], last: &Arrival) -> &'a [u8]
-    requires first { (first.now ≡ numbered 1) × (length first.now ≡ 1532) }
-    requires second { (second.now ≡ numbered 2) × (length second.now ≡ 1532) }
-    ensures value { result.now ≡ numbered (next_number last.now) }
+    requires first { (first.now ≡ frame_numbered 1) × (length first.now ≡ 1532) }
+    requires second { (second.now ≡ frame_numbered 2) × (length second.now ≡ 1532) }
+    ensures value { result.now ≡ frame_numbered (next_number last.now) }
     ensures count { length result.now ≡ 1532 }
 {
     match last {

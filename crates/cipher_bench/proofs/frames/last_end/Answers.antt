@@ -2,7 +2,7 @@ use Rattle.std.proofs.Common.{◌≡◌, ℕ, List, ◌∷◌, sym, ap, ◌∙�
 use Rattle.rx_slots.specs.Histories.{heard}
 use Rattle.rx_slots.specs.Numbers.{answer}
 use Rattle.rx_slots.specs.Standing.{StandsFor}
-use Rattle.cipher_bench.specs.Frames.{next_number, numbered, receiver, receiver_after}
+use Rattle.cipher_bench.specs.Frames.{next_number, frame_numbered, receiver, receiver_after}
 use Rattle.cipher_bench.proofs.frames.last_end.Goals as goal
 
 pub loop-done-preserved : goal.loop-done-preserved
@@ -10,8 +10,8 @@ loop-done-preserved c =
     let n = c.loop-done._done in
     let was = c.loop-done.invariant in
     let h = (receiver_after n).history in
-    let frame : c.next_frame.result.now ≡ numbered (next_number (receiver_after n).last) =
-    c.next_frame.ensures.value ∙ ap (λ last. numbered (next_number last)) was.last in
+    let frame : c.next_frame.result.now ≡ frame_numbered (next_number (receiver_after n).last) =
+    c.next_frame.ensures.value ∙ ap (λ last. frame_numbered (next_number last)) was.last in
     record {
       stands = subst (λ (m : ℕ). StandsFor receiver 2 c.receive.new.self (receiver_after m).history) (sym (add-one n))
           (subst (λ (octets : List ℕ). StandsFor receiver 2 c.receive.new.self (heard octets ∷ h)) frame
