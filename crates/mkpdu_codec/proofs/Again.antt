@@ -3,7 +3,7 @@ use Rattle.std.specs.List.{AllByRecursion}
 use Rattle.std.specs.Prelude.{◌&&◌}
 use Rattle.std.specs.List.{starts_with}
 use Rattle.std.proofs.Common.{◌≡◌, ℕ, zero, suc, ◌+◌, ◌*◌, ◌/◌, ◌%◌, ◌^◌, ◌<◌, ◌≤◌, Bool, true, false, cond, leb, eqb, List, [], ◌∷◌, ◌++◌, length, drop, Option, Some, None, refl, sym, ap, subst, ◌∙◌, arith, lit<, length-append, length-drop, append_assoc, eq-eqb}
-use Rattle.std.proofs.lemmas.Bool.{le-leb, eqb-true}
+use Rattle.std.proofs.lemmas.Bool.{le-leb, eqb-true, ne_eqb}
 use Rattle.std.proofs.lemmas.Bool.Decides.{Decides-eqb}
 use Rattle.std.proofs.lemmas.Slice.Eq.{starts_is}
 use Rattle.std.proofs.lemmas.List.{append-nil}
@@ -194,13 +194,6 @@ unfolding given_in
 given_in-or_empty k None = sym (rw (short_number [] (omega arith)) refl)
 given_in-or_empty k (Some s) = refl
 
-ne-eqb : (a b : ℕ) → (a ≡ b → ⊥) → eqb a b ≡ false
-ne-eqb a b ne =
-    elim (eqb a b) as (λ t. eqb a b ≡ t → eqb a b ≡ false) [
-      | true ↦ λ e. absurd (ne (eqb-true a b e))
-      | false ↦ λ e. e
-    ] refl
-
 pub wide_again : (key wrapped : List ℕ) → IsWide key wrapped → wide_in key ≡ Some wrapped
 wide_again key wrapped is =
     let len : length key ≡ 48 = ap length is.1 ∙ rw is.0 refl in
@@ -237,10 +230,10 @@ given_of_set s None spells = rw (spells, short_number [] (omega arith)) refl
 given_of_set s (Some (Aes128 an offset number wrapped)) spells =
     key_given s an offset number wrapped spells.0 ∙ rw (eq-eqb (length wrapped) 24 spells.1) refl
 given_of_set s (Some (Aes256 an offset number wrapped)) spells =
-    let long : eqb (length spells.0) 24 ≡ false = ne-eqb (length spells.0) 24 (λ e. omega (arith, e, ap length spells.1.1.1, spells.1.1.0)) in
+    let long : eqb (length spells.0) 24 ≡ false = ne_eqb (length spells.0) 24 (λ e. omega (arith, e, ap length spells.1.1.1, spells.1.1.0)) in
     key_given s an offset number spells.0 spells.1.0 ∙ rw (long, wide_again spells.0 wrapped spells.1.1) refl
 given_of_set s (Some (Other an offset number)) spells =
-    key_given s an offset number spells.0 spells.1.0 ∙ rw (ne-eqb (length spells.0) 24 spells.1.1, not_wide spells.0 spells.1.2) refl
+    key_given s an offset number spells.0 spells.1.0 ∙ rw (ne_eqb (length spells.0) 24 spells.1.1, not_wide spells.0 spells.1.2) refl
 
 pub given_again : (k : ℕ) (ss : List Set) (g : Option Given) → SpellsGiven (the k ss) g → given_in (first k ss) ≡ g
 given_again k ss g spells = given_in-or_empty k (first k ss) ∙ given_of_set (or_empty k (first k ss)) g (subst (λ (s : Set). SpellsGiven s g) (the-first k ss) spells)

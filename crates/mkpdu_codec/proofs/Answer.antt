@@ -10,7 +10,7 @@ use Rattle.mkpdu_codec.specs.Refusals.{refused}
 use Rattle.mkpdu_codec.specs.Reading.{reading}
 use Rattle.mkpdu_codec.specs.inside.Views.{Answers}
 use Rattle.mkpdu_codec.proofs.SetOctets.{IsBytes}
-use Rattle.mkpdu_codec.proofs.Order.{error_of, refused-is, refused-exactly, never_memory}
+use Rattle.mkpdu_codec.proofs.Order.{error_of, refused-is, refused_exactly, never_memory}
 use Rattle.mkpdu_codec.proofs.FrameAgain.{read_again}
 use Rattle.mkpdu_codec.proofs.WhatIsRead.{read_is_spelled}
 
@@ -28,17 +28,17 @@ pub answer_refused : (frame : List ℕ) (r : Result Spelled Refusal) (e : Refusa
 answer_refused frame r e answers other = (there r answers, back r answers) where
   there : (r : Result Spelled Refusal) → Answers r (reading frame) → r ≡ Err e → refused frame ≡ Some e
   there (Ok s) answers was = absurd cc
-  there (Err d) (inl gave) was = (refused-exactly frame e).1 (gave ∙ was)
+  there (Err d) (inl gave) was = (refused_exactly frame e).1 (gave ∙ was)
   there (Err d) (inr want) was = absurd (other (let same : d ≡ e = cc in sym same ∙ want.0))
 
   back : (r : Result Spelled Refusal) → Answers r (reading frame) → refused frame ≡ Some e → r ≡ Err e
-  back (Ok s) answers was = absurd (let both = sym answers ∙ (refused-exactly frame e).0 was in cc)
-  back (Err d) (inl gave) was = sym gave ∙ (refused-exactly frame e).0 was
-  back (Err d) (inr want) was = absurd (let got : IsOk (reading frame) = want.1 in let gone = rw ((refused-exactly frame e).0 was) at got in cc)
+  back (Ok s) answers was = absurd (let both = sym answers ∙ (refused_exactly frame e).0 was in cc)
+  back (Err d) (inl gave) was = sym gave ∙ (refused_exactly frame e).0 was
+  back (Err d) (inr want) was = absurd (let got : IsOk (reading frame) = want.1 in let gone = rw ((refused_exactly frame e).0 was) at got in cc)
 
 pub answer_memory : (frame : List ℕ) (r : Result Spelled Refusal) → Answers r (reading frame) → r ≡ Err Memory → refused frame ≡ None
 answer_memory frame (Ok s) answers was = absurd cc
-answer_memory frame (Err d) (inl gave) was = absurd (never_memory frame ((refused-exactly frame Memory).1 (gave ∙ was)))
+answer_memory frame (Err d) (inl gave) was = absurd (never_memory frame ((refused_exactly frame Memory).1 (gave ∙ was)))
 answer_memory frame (Err d) (inr want) was = refused-is frame ∙ go (reading frame) want.1 where
   go : (r : Result Spelled Refusal) → IsOk r → error_of r ≡ None
   go (Ok s) got = refl

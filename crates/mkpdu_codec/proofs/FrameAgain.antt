@@ -2,7 +2,8 @@
 use Rattle.std.specs.Prelude.{◌&&◌, ◌||◌}
 use Rattle.std.specs.List.{AllByRecursion}
 use Rattle.std.proofs.Common.{◌≡◌, ◌≢◌, ℕ, ◌+◌, ◌-◌, ◌*◌, ◌/◌, ◌%◌, ◌^◌, ◌<◌, ◌≤◌, ◌⊎◌, inl, inr, Bool, true, false, leb, eqb, List, [], ◌∷◌, ◌++◌, length, get_or, take, drop, Option, Some, None, Ok, refl, sym, ap, subst, ◌∙◌, arith, length-append, eq-eqb}
-use Rattle.std.proofs.lemmas.Bool.{eqb-true, le-leb}
+use Rattle.std.proofs.Math.Bool.{or-true}
+use Rattle.std.proofs.lemmas.Bool.{eqb-true, le-leb, ne_eqb}
 use Rattle.std.proofs.lemmas.List.{take_at, drop_at}
 use Rattle.std.proofs.lemmas.List.Elements.{recursion_from_All}
 use Rattle.byteorder.specs.Endian.{big_bytes}
@@ -129,10 +130,7 @@ shape_of_uses s None spells = rw spells refl
 shape_of_uses s (Some u) spells = let len : length s.body ≡ 40 = ap length spells.1 ∙ length-uses_body u spells.2 spells.3 in rw len refl
 
 long_enough : (n : ℕ) → 4 ≤ n → (eqb n 0 || leb 4 n) ≡ true
-long_enough n le = or_true (eqb n 0) (leb 4 n) (le-leb 4 n le) where
-  or_true : (a b : Bool) → b ≡ true → (a || b) ≡ true
-  or_true true b e = refl
-  or_true false b e = e
+long_enough n le = rw (le-leb 4 n le) (or-true (eqb n 0))
 
 giving_long : (s : Set) (an offset number : ℕ) (key : List ℕ) → IsGiving s an offset number key → (eqb (length s.body) 0 || leb 4 (length s.body)) ≡ true
 giving_long s an offset number key is = long_enough (length s.body) (omega (arith, ap length is.body))
@@ -142,13 +140,6 @@ shape_of_given s None spells = rw spells refl
 shape_of_given s (Some (Aes128 an offset number wrapped)) spells = giving_long s an offset number wrapped spells.0
 shape_of_given s (Some (Aes256 an offset number wrapped)) spells = giving_long s an offset number spells.0 spells.1.0
 shape_of_given s (Some (Other an offset number)) spells = giving_long s an offset number spells.0 spells.1.0
-
-pub eqb-off : (a b : ℕ) → a ≢ b → eqb a b ≡ false
-eqb-off a b other =
-    elim (eqb a b) as (λ t. eqb a b ≡ t → eqb a b ≡ false) [
-      | true ↦ λ e. absurd (other (eqb-true a b e))
-      | false ↦ λ e. e
-    ] refl
 
 module _ (all : List Set) (a : Announcement) (live : SpellsPeers (the 1 all) a.live) (potential : SpellsPeers (the 2 all) a.potential) (uses : SpellsUses (the 3 all) a.uses) (given : SpellsGiven (the 4 all) a.given) where
   shape_of : (s : Set) → (s.kind ≡ 1 → the 1 all ≡ s) → (s.kind ≡ 2 → the 2 all ≡ s) → (s.kind ≡ 3 → the 3 all ≡ s) → (s.kind ≡ 4 → the 4 all ≡ s) → s.kind ≢ 255 → IsShaped s
@@ -161,7 +152,7 @@ module _ (all : List Set) (a : Announcement) (live : SpellsPeers (the 1 all) a.l
             | true ↦ λ e. let here = subst (λ (x : Set). (eqb (length x.body) 0 || eqb (length x.body) 40) ≡ true) (three (eqb-true s.kind 3 e)) (shape_of_uses (the 3 all) a.uses uses) in rw (e1, e2, e, here) refl
             | false ↦ λ e3. elim (eqb s.kind 4) as (λ t. eqb s.kind 4 ≡ t → IsShaped s) [
               | true ↦ λ e. let here = subst (λ (x : Set). (eqb (length x.body) 0 || leb 4 (length x.body)) ≡ true) (four (eqb-true s.kind 4 e)) (shape_of_given (the 4 all) a.given given) in rw (e1, e2, e3, e, here) refl
-              | false ↦ λ e4. let off = eqb-off s.kind 255 other in rw (e1, e2, e3, e4, off) refl
+              | false ↦ λ e4. let off = ne_eqb s.kind 255 other in rw (e1, e2, e3, e4, off) refl
             ] refl
           ] refl
         ] refl

@@ -2,7 +2,7 @@
 use Rattle.std.specs.Prelude.{◌&&◌, is_some}
 use Rattle.std.specs.List.{AllByRecursion}
 use Rattle.std.proofs.Common.{◌≡◌, ℕ, zero, suc, ◌+◌, ◌*◌, ◌/◌, ◌<◌, ◌≤◌, ◌⊎◌, inl, inr, Bool, true, false, cond, eqb, List, [], ◌∷◌, ◌++◌, length, take, drop, Option, Some, None, Result, Ok, Err, refl, sym, ap, subst, ◌∙◌, arith, length-drop, length-take, append_assoc}
-use Rattle.std.proofs.lemmas.Bool.{eqb-true, leb-true, cases_lt}
+use Rattle.std.proofs.lemmas.Bool.{eqb-true, leb-true, cases_lt, and_parts}
 use Rattle.std.proofs.lemmas.List.{nil_from_length, take-append-drop, get_or-take, get_or_past}
 use Rattle.mkpdu_codec.specs.declared.refusal.Refusal.{Refusal}
 use Rattle.mkpdu_codec.specs.Frames.{Set, AreSets, IsIndicator}
@@ -93,14 +93,10 @@ pub record Walked (g h : Gathered) (octets : List ℕ) : Type 0 where
   pub read : AllByRecursion IsRead others
   pub places : placed_all g others ≡ Ok h
 
-and_two : (a b : Bool) → (a && b) ≡ true → (a ≡ true) × (b ≡ true)
-and_two true b e = (refl, e)
-and_two false b e = absurd cc
-
 indicator_from : (octets : List ℕ) → IsBytes octets → is_indicator octets ≡ true → IsIndicator octets
 indicator_from octets bytes e =
-    let p = and_two (eqb (length octets) 4 && eqb (front_kind octets) 255) (eqb (front_length octets) 16) e in
-    let q = and_two (eqb (length octets) 4) (eqb (front_kind octets) 255) p.0 in
+    let p = and_parts (eqb (length octets) 4 && eqb (front_kind octets) 255) (eqb (front_length octets) 16) e in
+    let q = and_parts (eqb (length octets) 4) (eqb (front_kind octets) 255) p.0 in
     go octets bytes (eqb-true (length octets) 4 q.0) (eqb-true (front_kind octets) 255 q.1) (eqb-true (front_length octets) 16 p.1) where
       go : (octets : List ℕ) → IsBytes octets → length octets ≡ 4 → front_kind octets ≡ 255 → front_length octets ≡ 16 → IsIndicator octets
       go [] b len kind l = absurd (omega arith)

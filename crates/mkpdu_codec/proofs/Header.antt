@@ -1,29 +1,21 @@
 -- The parts of a frame by its header.
 use Rattle.std.specs.Prelude.{◌&&◌}
 use Rattle.std.proofs.Common.{◌≡◌, ℕ, ◌+◌, ◌-◌, ◌%◌, ◌≤◌, Bool, true, false, leb, eqb, List, length, length-take, length-drop, take, drop, Ok, refl, ap, ◌∙◌, arith}
-use Rattle.std.proofs.lemmas.Bool.{leb-true}
+use Rattle.std.proofs.lemmas.Bool.{leb-true, and_parts}
 use Rattle.std.proofs.lemmas.List.{drop-drop}
 use Rattle.mkpdu_codec.specs.Refusals.{is_mka, is_long_enough, body_length, check_place, sets_of}
 use Rattle.mkpdu_codec.specs.Reading.{Inner, parts_at}
 
-and_left : (a b : Bool) → (a && b) ≡ true → a ≡ true
-and_left true b e = refl
-and_left false b e = absurd cc
-
 pub long_enough-32 : (frame : List ℕ) → is_long_enough frame ≡ true → 32 ≤ body_length frame
 long_enough-32 frame e =
-    leb-true 32 (body_length frame) (and_left (leb 32 (body_length frame)) (eqb (body_length frame % 4) 0) (and_left (leb 32 (body_length frame) && eqb (body_length frame % 4) 0) (leb (18 + body_length frame) (length frame)) e))
+    leb-true 32 (body_length frame) (and_parts (leb 32 (body_length frame)) (eqb (body_length frame % 4) 0) (and_parts (leb 32 (body_length frame) && eqb (body_length frame % 4) 0) (leb (18 + body_length frame) (length frame)) e).0).0
 
 abbrev inner : List ℕ → List ℕ → ℕ → List ℕ → Inner
 inner source sets covered check = record { source = record { 0 = source }; sets = sets; covered = covered; check = check }
 
-and_right : (a b : Bool) → (a && b) ≡ true → b ≡ true
-and_right true b e = e
-and_right false b e = absurd cc
-
 pub long_enough-whole : (frame : List ℕ) → is_long_enough frame ≡ true → 18 + body_length frame ≤ length frame
 long_enough-whole frame e =
-    leb-true (18 + body_length frame) (length frame) (and_right (leb 32 (body_length frame) && eqb (body_length frame % 4) 0) (leb (18 + body_length frame) (length frame)) e)
+    leb-true (18 + body_length frame) (length frame) (and_parts (leb 32 (body_length frame) && eqb (body_length frame % 4) 0) (leb (18 + body_length frame) (length frame)) e).1
 
 -- the sets end where the check value begins
 pub length-sets_of : (frame : List ℕ) → is_long_enough frame ≡ true → 18 + length (sets_of frame) ≡ check_place frame

@@ -101,12 +101,6 @@ gathered_fails d end g rest octets goes fails so_far = go so_far.0 so_far.1.0 so
       absurd (let no : true ≡ false = sym empty ∙ goes.0 in cc)
   go (suc n) le same = sym same ∙ gathered_step n end g rest goes ∙ step (shaped_at end rest) n fails
 
-pub gathered_fails_shape : (e : Refusal) (end : ℕ) (g : Gathered) (rest octets : List ℕ) → Goes rest → shaped_at end rest ≡ Err e → GatheredSoFar end g rest octets → gathered (length octets) end nothing octets ≡ Err e
-gathered_fails_shape e end g rest octets goes fails so_far = gathered_fails e end g rest octets goes (rw fails refl) so_far
-
-pub gathered_fails_place : (e : Refusal) (end : ℕ) (g : Gathered) (rest octets : List ℕ) (s : Set) (behind : List ℕ) → Goes rest → shaped_at end rest ≡ Ok (s, behind) → placed g s ≡ Err e → GatheredSoFar end g rest octets → gathered (length octets) end nothing octets ≡ Err e
-gathered_fails_place e end g rest octets s behind goes shaped fails so_far = gathered_fails e end g rest octets goes (rw shaped fails) so_far
-
 pub gathered_end : (end : ℕ) (g : Gathered) (rest octets : List ℕ) → eqb (length rest) 0 ≡ true → GatheredSoFar end g rest octets → gathered (length octets) end nothing octets ≡ Ok g
 gathered_end end g rest octets stops so_far = sym so_far.1.1 ∙ gathered_stop so_far.0 end g rest stops
 

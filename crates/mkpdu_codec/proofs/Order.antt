@@ -4,7 +4,7 @@ use Rattle.std.specs.List.{list_any}
 use Rattle.std.specs.Cmp.Lexicographic.{pointwise}
 use Rattle.byteorder.specs.Endian.{big_number}
 use Rattle.std.proofs.Common.{◌≡◌, ℕ, zero, suc, ◌-◌, ◌/◌, ◌≤◌, Bool, true, false, cond, leb, eqb, List, [], ◌∷◌, length, take, drop, Option, Some, None, Result, Ok, Err, refl, sym, ap, ◌∙◌, arith, inl, inr, length-drop}
-use Rattle.std.proofs.lemmas.Bool.{leb-true}
+use Rattle.std.proofs.lemmas.Bool.{leb-true, and_parts}
 use Rattle.std.proofs.lemmas.List.{drop-drop, drop-take, take-take}
 use Rattle.mkpdu_codec.specs.declared.refusal.Refusal.{Refusal}
 use Rattle.mkpdu_codec.specs.declared.refusal.Refusal.TheVariants.{NotMka, Short, Shape, Repeated, Agility, Memory}
@@ -182,15 +182,11 @@ module _ (octets : List ℕ) where
   pub known-is : 28 ≤ len → is_known (basics_in (front_set octets)).agility ≡ is_known (drop 28 octets)
   known-is le = ap (pointwise eqb agility) (agility_at le)
 
-pub and_both : (a b : Bool) → (a && b) ≡ true → (a ≡ true) × (b ≡ true)
-and_both true b e = (refl, e)
-and_both false b e = absurd cc
-
 -- what a Basic Parameter Set that is read gives
 pub basic_at-is : (octets : List ℕ) → is_basic octets ≡ true → (basic_at octets ≡ Some (basics_in (front_set octets), drop (front_size octets) octets)) × (29 ≤ front_length octets) × (is_whole octets ≡ true)
 basic_at-is octets e =
-    let p = and_both (is_whole octets) (leb 29 (front_length octets) && leb (front_length octets) 60) e in
-    let q = and_both (leb 29 (front_length octets)) (leb (front_length octets) 60) p.1 in
+    let p = and_parts (is_whole octets) (leb 29 (front_length octets) && leb (front_length octets) 60) e in
+    let q = and_parts (leb 29 (front_length octets)) (leb (front_length octets) 60) p.1 in
     (basic_at-fits octets p.0 p.1, leb-true 29 (front_length octets) q.0, p.0)
 
 -- ---- the whole frame
@@ -229,8 +225,8 @@ refused-is frame =
       ] refl
     ] refl
 
-pub refused-exactly : (frame : List ℕ) (e : Refusal) → ((refused frame ≡ Some e) → (reading frame ≡ Err e)) × ((reading frame ≡ Err e) → (refused frame ≡ Some e))
-refused-exactly frame e = (λ r. back (reading frame) (sym (refused-is frame) ∙ r), λ r. refused-is frame ∙ ap error_of r) where
+pub refused_exactly : (frame : List ℕ) (e : Refusal) → ((refused frame ≡ Some e) → (reading frame ≡ Err e)) × ((reading frame ≡ Err e) → (refused frame ≡ Some e))
+refused_exactly frame e = (λ r. back (reading frame) (sym (refused-is frame) ∙ r), λ r. refused-is frame ∙ ap error_of r) where
   back : (r : Result Spelled Refusal) → error_of r ≡ Some e → r ≡ Err e
   back (Ok s) d = absurd cc
   back (Err f) d = let same : f ≡ e = cc in ap Err same

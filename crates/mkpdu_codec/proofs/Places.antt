@@ -2,7 +2,7 @@
 use Rattle.std.specs.Prelude.{◌&&◌, is_some}
 use Rattle.std.specs.List.{list_any}
 use Rattle.std.proofs.Common.{◌≡◌, ◌≢◌, ℕ, ◌≤◌, ◌⊎◌, inl, inr, Bool, true, false, cond, leb, eqb, List, ◌∷◌, Option, Some, None, Result, Ok, Err, refl, sym, ap, ◌∙◌, arith}
-use Rattle.std.proofs.lemmas.Bool.{leb-true, eqb-true, eqb-false}
+use Rattle.std.proofs.lemmas.Bool.{leb-true, eqb-true, eqb-false, and_parts}
 use Rattle.mkpdu_codec.specs.declared.refusal.Refusal.{Refusal}
 use Rattle.mkpdu_codec.specs.declared.refusal.Refusal.TheVariants.{Repeated}
 use Rattle.mkpdu_codec.specs.Frames.{Set}
@@ -32,10 +32,6 @@ pub record IsOther (k : ℕ) : Type 0 where
 
 abbrev pub Kinds : ℕ → Type 0
 Kinds k = (k ≡ 1) ⊎ ((k ≡ 2) ⊎ ((k ≡ 3) ⊎ ((k ≡ 4) ⊎ IsOther k)))
-
-and_parts : (a b : Bool) → (a && b) ≡ true → (a ≡ true) × (b ≡ true)
-and_parts true b e = (refl, e)
-and_parts false b e = absurd cc
 
 pub single_range : (k : ℕ) → is_single k ≡ true → (1 ≤ k) × (k ≤ 4)
 single_range k e = let p = and_parts (leb 1 k) (leb k 4) e in (leb-true 1 k p.0, leb-true k 4 p.1)

@@ -54,15 +54,6 @@ mi_at-took octets x e =
     let p : (made a.0.0, a.0.1) ≡ x = cc in
     (sym (ap (λ (y : Mi × List ℕ). y.0) p) ∙ ap made t.front_is, sym (ap (λ (y : Mi × List ℕ). y.1) p) ∙ t.rest_is, t.enough)
 
-pub sci_at-took : (octets : List ℕ) (x : Sci × List ℕ) → sci_at octets ≡ Some x → (x.0 ≡ record { 0 = take 8 octets }) × (x.1 ≡ drop 8 octets) × (8 ≤ length octets)
-unfolding sci_at
-sci_at-took octets x e =
-    let made : List ℕ → Sci = λ sci. record { 0 = sci } in
-    let a = bind_some (octets_at 8 octets) (λ sci. Some (made sci.0, sci.1)) x e in
-    let t = octets_at-took 8 octets a.0 a.1 in
-    let p : (made a.0.0, a.0.1) ≡ x = cc in
-    (sym (ap (λ (y : Sci × List ℕ). y.0) p) ∙ ap made t.front_is, sym (ap (λ (y : Sci × List ℕ). y.1) p) ∙ t.rest_is, t.enough)
-
 -- what an entry takes
 pub entry_at-shorter : (octets : List ℕ) (x : Peer × List ℕ) → entry_at octets ≡ Some x → length x.1 + 16 ≡ length octets
 unfolding entry_at

@@ -26,7 +26,7 @@ with_check : (frame : List ℕ) (a : Announcement) (m : ℕ) (c check behind : L
 with_check frame a m c check behind s sixteen =
     let p = s.parts in
     record {
-      parts = record { destination = p.destination; source = p.source; version = p.version; body = p.body; check = check; behind = behind };
+      parts = record p { check = check; behind = behind };
       basic = s.basic;
       others = s.others;
       whole = ap (λ (x : List ℕ). x ++ (check ++ behind)) (ap (take m) s.whole ∙ take_at (covered_octets p) (p.check ++ p.behind) m (sym s.covers));

@@ -2,7 +2,7 @@
 use Rattle.std.specs.Prelude.{count_by}
 use Rattle.std.specs.List.{AllByRecursion}
 use Rattle.std.proofs.Common.{◌≡◌, ◌≢◌, ℕ, zero, suc, ◌+◌, ◌*◌, ◌/◌, ◌%◌, ◌≤◌, ◌⊎◌, inl, inr, Bool, true, false, cond, eqb, List, [], ◌∷◌, ◌++◌, length, Option, Some, None, Result, Ok, Err, refl, sym, ap, subst, ◌∙◌, arith, length-append, append_assoc, eq-eqb}
-use Rattle.std.proofs.lemmas.Bool.{eqb-true, eqb-false}
+use Rattle.std.proofs.lemmas.Bool.{eqb-true, eqb-false, ne_eqb}
 use Rattle.std.proofs.lemmas.List.Sums.{sum_by-cons}
 use Rattle.mkpdu_codec.specs.declared.refusal.Refusal.{Refusal}
 use Rattle.mkpdu_codec.specs.Frames.{Set, IsSet, AreSets, IsIndicator, the}
@@ -60,11 +60,7 @@ abbrev pub HoldsAll : Gathered → List Set → Gathered → Type 0
 HoldsAll g ss h = (k : ℕ) → is_single k ≡ true → slot k h ≡ join (slot k g) (first k ss)
 
 pub not_kind : (k : ℕ) (s : Set) → is_single s.kind ≡ false → is_single k ≡ true → eqb s.kind k ≡ false
-not_kind k s other single =
-    elim (eqb s.kind k) as (λ t. eqb s.kind k ≡ t → eqb s.kind k ≡ false) [
-      | true ↦ λ e. absurd (let same : s.kind ≡ k = eqb-true s.kind k e in let clash : true ≡ false = sym single ∙ ap is_single (sym same) ∙ other in cc)
-      | false ↦ λ e. e
-    ] refl
+not_kind k s other single = ne_eqb s.kind k (λ same. absurd (let clash : true ≡ false = sym single ∙ ap is_single (sym same) ∙ other in cc))
 
 same-eqb : (k : ℕ) → eqb k k ≡ true
 same-eqb k = eq-eqb k k refl
@@ -164,11 +160,7 @@ length_of : (front : List ℕ) (s : Set) → IsSet front s → 4 ≤ length fron
 length_of front s is = omega (arith, ap length is.whole)
 
 some_left : (front rest : List ℕ) → 4 ≤ length front → eqb (length (front ++ rest)) 0 ≡ false
-some_left front rest le =
-    elim (eqb (length (front ++ rest)) 0) as (λ t. eqb (length (front ++ rest)) 0 ≡ t → eqb (length (front ++ rest)) 0 ≡ false) [
-      | true ↦ λ e. absurd (let none : length (front ++ rest) ≡ 0 = eqb-true _ 0 e in omega (arith, none, length-append front rest))
-      | false ↦ λ e. e
-    ] refl
+some_left front rest le = ne_eqb (length (front ++ rest)) 0 (λ none. omega (arith, le, none, length-append front rest))
 
 shaped_at-is : (end : ℕ) (front rest : List ℕ) (s : Set) → IsSet front s → IsShaped s → shaped_at end (front ++ rest) ≡ Ok (s, rest)
 unfolding shaped_at

@@ -2,7 +2,7 @@
 use Rattle.std.specs.Prelude.{◌&&◌, not}
 use Rattle.std.specs.List.{AllByRecursion}
 use Rattle.std.proofs.Common.{◌≡◌, ◌≢◌, ℕ, ◌+◌, ◌-◌, ◌*◌, ◌/◌, ◌%◌, ◌<◌, ◌≤◌, ◌⊎◌, inl, inr, Bool, true, false, cond, leb, eqb, List, [], ◌∷◌, ◌++◌, length, get_or, take, drop, Option, Some, Result, Ok, Err, refl, sym, ap, subst, ◌∙◌, arith, length-append, length-drop, length-take, append_assoc}
-use Rattle.std.proofs.lemmas.Bool.{eqb-true, leb-true, le-leb}
+use Rattle.std.proofs.lemmas.Bool.{eqb-true, leb-true, le-leb, and_parts}
 use Rattle.std.proofs.lemmas.List.{nil_from_length, take-append-drop, drop-drop, get_or-take, get_or-drop}
 use Rattle.std.proofs.lemmas.Bool.Decides.{Decides-eqb}
 use Rattle.std.proofs.lemmas.Slice.Eq.{starts_is}
@@ -20,7 +20,7 @@ use Rattle.mkpdu_codec.specs.Fields.{peers_in, uses_in, given_in}
 use Rattle.mkpdu_codec.specs.Reading.{◌>>=◌, Gathered, nothing, gathered, parts_at, announcement_of, reading}
 use Rattle.mkpdu_codec.proofs.Header.{long_enough-32, long_enough-whole, length-sets_of}
 use Rattle.mkpdu_codec.proofs.SetOctets.{IsBytes, IsBytes-drop, front_set, set_at-is_set, length-front_set}
-use Rattle.mkpdu_codec.proofs.Order.{and_both, error_of, refused-is, basics_in, basic_at-is, basic_at-not}
+use Rattle.mkpdu_codec.proofs.Order.{error_of, refused-is, basics_in, basic_at-is, basic_at-not}
 use Rattle.mkpdu_codec.proofs.Walking.{shaped_kind}
 use Rattle.mkpdu_codec.proofs.FrameAgain.{by_six}
 use Rattle.mkpdu_codec.proofs.Gathering.{IsBytes-take, IsRead, walked, all_held}
@@ -40,10 +40,10 @@ record Says (frame : List ℕ) : Type 0 where
 
 says_of : (frame : List ℕ) → is_mka frame ≡ true → Says frame
 says_of frame m =
-    let a = and_both (leb 18 (length frame) && eqb (get_or frame 12 0) 0x88 && eqb (get_or frame 13 0) 0x8e && eqb (get_or frame 15 0) 5) (eqb (get_or frame 0 0 % 2) 1) m in
-    let b = and_both (leb 18 (length frame) && eqb (get_or frame 12 0) 0x88 && eqb (get_or frame 13 0) 0x8e) (eqb (get_or frame 15 0) 5) a.0 in
-    let c = and_both (leb 18 (length frame) && eqb (get_or frame 12 0) 0x88) (eqb (get_or frame 13 0) 0x8e) b.0 in
-    let d = and_both (leb 18 (length frame)) (eqb (get_or frame 12 0) 0x88) c.0 in
+    let a = and_parts (leb 18 (length frame) && eqb (get_or frame 12 0) 0x88 && eqb (get_or frame 13 0) 0x8e && eqb (get_or frame 15 0) 5) (eqb (get_or frame 0 0 % 2) 1) m in
+    let b = and_parts (leb 18 (length frame) && eqb (get_or frame 12 0) 0x88 && eqb (get_or frame 13 0) 0x8e) (eqb (get_or frame 15 0) 5) a.0 in
+    let c = and_parts (leb 18 (length frame) && eqb (get_or frame 12 0) 0x88) (eqb (get_or frame 13 0) 0x8e) b.0 in
+    let d = and_parts (leb 18 (length frame)) (eqb (get_or frame 12 0) 0x88) c.0 in
     record { long = leb-true 18 (length frame) d.0; first_type = eqb-true _ _ d.1; second_type = eqb-true _ _ c.1; packet = eqb-true _ _ b.1; group = eqb-true _ _ a.1 }
 
 module _ (frame : List ℕ) (bytes : IsBytes frame) (m : is_mka frame ≡ true) (l : is_long_enough frame ≡ true) where
@@ -165,8 +165,8 @@ spelled_from frame bytes m l b h gathers known =
     let sets : List ℕ = sets_of frame in
     let sets_bytes = body_bytes frame bytes m l in
     let basic = basic_at-is (sets_of frame) b in
-    let w = and_both (is_whole (sets_of frame)) (leb 29 (front_length (sets_of frame)) && leb (front_length (sets_of frame)) 60) b in
-    let most = leb-true (front_length (sets_of frame)) 60 (and_both (leb 29 (front_length (sets_of frame))) (leb (front_length (sets_of frame)) 60) w.1).1 in
+    let w = and_parts (is_whole (sets_of frame)) (leb 29 (front_length (sets_of frame)) && leb (front_length (sets_of frame)) 60) b in
+    let most = leb-true (front_length (sets_of frame)) 60 (and_parts (leb 29 (front_length (sets_of frame))) (leb (front_length (sets_of frame)) 60) w.1).1 in
     let set = set_at-is_set (sets_of frame) sets_bytes w.0 in
     let len = length-front_set (sets_of frame) w.0 in
     let walk = walked (length (others_of frame)) (check_place frame) (others_of frame) nothing h (IsBytes-drop (front_size (sets_of frame)) (sets_of frame) sets_bytes) (omega arith) gathers in

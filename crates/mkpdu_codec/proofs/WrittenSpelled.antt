@@ -2,6 +2,7 @@
 use Rattle.std.specs.Prelude.{All, IfSome, replicate}
 use Rattle.std.specs.List.{AllByRecursion}
 use Rattle.std.proofs.Common.{◌≡◌, ◌≢◌, ℕ, zero, suc, ◌+◌, ◌*◌, ◌/◌, ◌^◌, ◌<◌, ◌≤◌, inl, Bool, true, false, cond, eqb, List, [], ◌∷◌, ◌++◌, length, Option, Some, None, refl, sym, ap, subst, ◌∙◌, arith, lit<, lit≤, length-append, length-take, append_assoc}
+use Rattle.std.proofs.lemmas.Bool.{ne_eqb}
 use Rattle.std.proofs.lemmas.List.{append-nil, length-replicate}
 use Rattle.std.proofs.lemmas.List.Elements.{All-from_recursion, recursion_from_All}
 use Rattle.byteorder.specs.Endian.{big_bytes}
@@ -15,7 +16,7 @@ use Rattle.mkpdu_codec.specs.Written.{group_address, frame_header, basic_set, pe
 use Rattle.mkpdu_codec.specs.Frames.{Set, IsSet, AreSets, the, SpellsPeers, SpellsUses, IsGiving, SpellsGiven, Spells, IsGiven, IsOfItsTypes, IsKeyUse}
 use Rattle.mkpdu_codec.proofs.Lengths.{length-set, length-basic_body}
 use Rattle.mkpdu_codec.proofs.Again.{length-peers_body}
-use Rattle.mkpdu_codec.proofs.FrameAgain.{length-uses_body, eqb-off}
+use Rattle.mkpdu_codec.proofs.FrameAgain.{length-uses_body}
 use Rattle.mkpdu_codec.proofs.Walking.{count, count-cons}
 
 -- ---- the sets that are written
@@ -154,10 +155,10 @@ one_each (suc (suc zero)) = lit≤ tt
 one_each (suc (suc (suc zero))) = lit≤ tt
 one_each (suc (suc (suc (suc zero)))) = lit≤ tt
 one_each (suc (suc (suc (suc (suc k))))) =
-    let a = eqb-off 1 (suc (suc (suc (suc (suc k))))) (λ e. omega (arith, e)) in
-    let b = eqb-off 2 (suc (suc (suc (suc (suc k))))) (λ e. omega (arith, e)) in
-    let c = eqb-off 3 (suc (suc (suc (suc (suc k))))) (λ e. omega (arith, e)) in
-    let d = eqb-off 4 (suc (suc (suc (suc (suc k))))) (λ e. omega (arith, e)) in
+    let a = ne_eqb 1 (suc (suc (suc (suc (suc k))))) (λ e. omega (arith, e)) in
+    let b = ne_eqb 2 (suc (suc (suc (suc (suc k))))) (λ e. omega (arith, e)) in
+    let c = ne_eqb 3 (suc (suc (suc (suc (suc k))))) (λ e. omega (arith, e)) in
+    let d = ne_eqb 4 (suc (suc (suc (suc (suc k))))) (λ e. omega (arith, e)) in
     rw (a, b, c, d) (lit≤ tt)
 
 written_once : (live potential : List Peer) (u : Option Uses) (g : Option Given) (k : ℕ) → count k (all_written live potential u g) ≤ 1

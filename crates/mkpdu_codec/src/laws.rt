@@ -39,6 +39,7 @@ pub fn law_covered_octets_decide()
 {}
 
 /// What stands behind the check value is ignored.
+#[tactic(auto, using(crate::proofs::Unique::behind_ignored))]
 pub fn law_octets_behind_are_ignored()
     ensures { (frame behind check : List ℕ) (a : Announcement) (covered : ℕ)
         → Spells frame a covered check → Spells (take (covered + 16) frame ++ behind) a covered check }
@@ -52,6 +53,7 @@ pub fn law_spelled_or_refused()
 {}
 
 /// What is written of an announcement, followed by a check value, spells that announcement.
+#[tactic(auto, using(crate::proofs::WrittenSpelled::written_spells))]
 pub fn law_written_is_spelled()
     ensures { (a : Announcement) (check : List ℕ) → IsWritable a → IsOfItsTypes a → length check ≡ 16
         → Spells (written a ++ check) a (length (written a)) check }

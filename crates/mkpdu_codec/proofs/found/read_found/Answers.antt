@@ -1,7 +1,7 @@
-use Rattle.std.proofs.Common.{◌∙◌, sym, arith}
+use Rattle.std.proofs.Common.{◌∙◌, refl, sym, arith}
 use Rattle.mkpdu_codec.specs.inside.Views.{set_of, gathered_of}
 use Rattle.std.proofs.lemmas.Result.{err_from_is_err_and}
-use Rattle.mkpdu_codec.proofs.Loops.{Goes, shaped_at-shorter, gathered_go_on, gathered_fails_shape, gathered_fails_place, gathered_end, gathered_end_at}
+use Rattle.mkpdu_codec.proofs.Loops.{Goes, shaped_at-shorter, gathered_go_on, gathered_fails, gathered_end, gathered_end_at}
 use Rattle.mkpdu_codec.proofs.found.read_found.Goals as goal
 use Rattle.mkpdu_codec.proofs.found.read_found.Goals.{then-loop-rest-test+else-not-is_icv_indicator, else-loop-rest-test}
 
@@ -9,13 +9,13 @@ pub returns-in_err-set : goal.returns-in_err-set
 returns-in_err-set c =
     let goes : Goes c.loop-rest.rest.now = (sym c.is_empty.ensures ∙ c.loop-rest-test.true, sym c.is_icv_indicator.ensures ∙ c.if-not-is_icv_indicator.true) in
     let p = err_from_is_err_and c.from_residual.result c.from_residual.ensures.1 in
-    rw (p.1, p.2) (gathered_fails_shape c.in_err-set.field-0.0 c.args.end (gathered_of c.loop-rest.found) c.loop-rest.rest.now c.args.octets.now goes c.in_err-set.ensures c.loop-rest.invariant.1)
+    rw (p.1, p.2) (gathered_fails c.in_err-set.field-0.0 c.args.end (gathered_of c.loop-rest.found) c.loop-rest.rest.now c.args.octets.now goes (rw c.in_err-set.ensures refl) c.loop-rest.invariant.1)
 
 pub returns-in_err-found : goal.returns-in_err-found
 returns-in_err-found c =
     let goes : Goes c.loop-rest.rest.now = (sym c.is_empty.ensures ∙ c.loop-rest-test.true, sym c.is_icv_indicator.ensures ∙ c.if-not-is_icv_indicator.true) in
     let p = err_from_is_err_and c.from_residual-in_err-found.result c.from_residual-in_err-found.ensures.1 in
-    rw (p.1, p.2) (gathered_fails_place c.in_err-found.field-0.0 c.args.end (gathered_of c.loop-rest.found) c.loop-rest.rest.now c.args.octets.now (set_of c.in_ok-set.set) c.in_ok-set.behind.now goes c.in_ok-set.ensures c.in_err-found.ensures c.loop-rest.invariant.1)
+    rw (p.1, p.2) (gathered_fails c.in_err-found.field-0.0 c.args.end (gathered_of c.loop-rest.found) c.loop-rest.rest.now c.args.octets.now goes (rw c.in_ok-set.ensures c.in_err-found.ensures) c.loop-rest.invariant.1)
 
 pub loop-rest-smaller : goal.loop-rest-smaller
 loop-rest-smaller c =
