@@ -21,7 +21,7 @@ use Rattle.mkpdu_codec.specs.declared.peer.Peer.{Peer}
 use Rattle.mkpdu_codec.specs.Sets.{bit, agility, peer, peers_body, use_body, use_flags, gcm_aes_256, IsPeer}
 use Rattle.mkpdu_codec.specs.Frames.{Set, the, SpellsPeers, SpellsUses, IsGiving, IsWide, SpellsGiven, SpellsBasic, IsKeyUse}
 use Rattle.mkpdu_codec.specs.Fields.{number_at, mi_at, sci_at, entry_at, entries_at, peers_in, key_at, uses_in, wide_in, key_in, given_in, Basics, basic_in}
-use Rattle.mkpdu_codec.proofs.Lengths.{length-basic_body}
+use Rattle.mkpdu_codec.proofs.SetOctets.{length-basic_body}
 use Rattle.mkpdu_codec.proofs.Taking.{octets_at-append, octets_at-short}
 
 pub number_again : (n : ℕ) (rest : List ℕ) → n < 2 ^ 32 → number_at (big_bytes 4 n ++ rest) ≡ Some (n, rest)
@@ -99,18 +99,6 @@ bit_again : (b : Bool) → eqb (bit b) 1 ≡ b
 bit_again true = refl
 bit_again false = refl
 
-flags_small : (an tx rx : ℕ) → an < 4 → tx < 2 → rx < 2 → an * 4 + tx * 2 + rx < 16
-flags_small an tx rx a t r = omega arith
-
-an_again : (an tx rx : ℕ) → an < 4 → tx < 2 → rx < 2 → (an * 4 + tx * 2 + rx) / 4 ≡ an
-an_again an tx rx a t r = omega arith
-
-tx_again : (an tx rx : ℕ) → an < 4 → tx < 2 → rx < 2 → (an * 4 + tx * 2 + rx) / 2 % 2 ≡ tx
-tx_again an tx rx a t r = omega arith
-
-rx_again : (an tx rx : ℕ) → an < 4 → tx < 2 → rx < 2 → (an * 4 + tx * 2 + rx) % 2 ≡ rx
-rx_again an tx rx a t r = omega arith
-
 key_again : (u : KeyUse) (rest : List ℕ) → IsKeyUse u → key_at (use_flags u) (use_body u ++ rest) ≡ Some (u, rest)
 unfolding key_at
 key_again u rest is =
@@ -118,23 +106,20 @@ key_again u rest is =
     append_assoc u.server.0 (big_bytes 4 u.number ++ big_bytes 4 u.lowest) rest ∙ ap (λ (x : List ℕ). u.server.0 ++ x) (append_assoc (big_bytes 4 u.number) (big_bytes 4 u.lowest) rest) in
     let t = bit_small u.tx in
     let r = bit_small u.rx in
+    let an : use_flags u / 4 ≡ u.an = omega (arith, is.1, t, r) in
+    let tx : use_flags u / 2 % 2 ≡ bit u.tx = omega (arith, is.1, t, r) in
+    let rx : use_flags u % 2 ≡ bit u.rx = omega (arith, is.1, t, r) in
     ap (key_at (use_flags u)) regrouped
     ∙ rw (
       mi_again u.server (big_bytes 4 u.number ++ (big_bytes 4 u.lowest ++ rest)) is.0.server,
       number_again u.number (big_bytes 4 u.lowest ++ rest) is.0.number,
       number_again u.lowest rest is.0.lowest,
-      an_again u.an (bit u.tx) (bit u.rx) is.1 t r,
-      tx_again u.an (bit u.tx) (bit u.rx) is.1 t r,
-      rx_again u.an (bit u.tx) (bit u.rx) is.1 t r,
+      an,
+      tx,
+      rx,
       bit_again u.tx,
       bit_again u.rx,
     ) refl
-
-high_half : (a b : ℕ) → b < 16 → (a * 16 + b) / 16 ≡ a
-high_half a b lt = omega arith
-
-low_half : (a b : ℕ) → b < 16 → (a * 16 + b) % 16 ≡ b
-low_half a b lt = omega arith
 
 pub uses_in-or_empty : (k : ℕ) (o : Option Set) → uses_in o ≡ uses_in (Some (or_empty k o))
 unfolding uses_in key_at mi_at
@@ -152,13 +137,13 @@ uses_of_set s (Some u) spells = go where
   r = bit_small u.old.rx
 
   small : use_flags u.old < 16
-  small = flags_small u.old.an (bit u.old.tx) (bit u.old.rx) spells.3.1 t r
+  small = omega (arith, spells.3.1, t, r)
 
   latest : s.second / 16 ≡ use_flags u.latest
-  latest = ap (λ (n : ℕ). n / 16) spells.0 ∙ high_half (use_flags u.latest) (use_flags u.old) small
+  latest = omega (arith, spells.0, small)
 
   old : s.second % 16 ≡ use_flags u.old
-  old = ap (λ (n : ℕ). n % 16) spells.0 ∙ low_half (use_flags u.latest) (use_flags u.old) small
+  old = omega (arith, spells.0, small)
 
   whole : use_body u.old ≡ use_body u.old ++ []
   whole = sym (append-nil (use_body u.old))
@@ -182,12 +167,6 @@ uses_again k ss u spells = uses_in-or_empty k (first k ss) ∙ uses_of_set (or_e
 pub short_number : (octets : List ℕ) → length octets < 4 → number_at octets ≡ None
 unfolding number_at
 short_number octets lt = rw (octets_at-short 4 octets lt) refl
-
-an_of_given : (second an offset : ℕ) → second / 16 ≡ an * 4 + offset → an < 4 → offset < 4 → second / 64 ≡ an
-an_of_given second an offset e a o = omega arith
-
-offset_of_given : (second an offset : ℕ) → second / 16 ≡ an * 4 + offset → an < 4 → offset < 4 → second / 16 % 4 ≡ offset
-offset_of_given second an offset e a o = omega arith
 
 pub given_in-or_empty : (k : ℕ) (o : Option Set) → given_in o ≡ given_in (Some (or_empty k o))
 unfolding given_in
@@ -220,8 +199,8 @@ not_wide key other = go (wide_in key) refl where
 key_given : (s : Set) (an offset number : ℕ) (key : List ℕ) → IsGiving s an offset number key → given_in (Some s) ≡ Some (key_in an offset number key)
 unfolding given_in
 key_given s an offset number key is =
-    let a = an_of_given s.second an offset is.second is.two_bits is.two_more in
-    let o = offset_of_given s.second an offset is.second is.two_bits is.two_more in
+    let a : s.second / 64 ≡ an = omega (arith, is.second, is.two_bits, is.two_more) in
+    let o : s.second / 16 % 4 ≡ offset = omega (arith, is.second, is.two_bits, is.two_more) in
     rw (is.body, number_again number key is.four_octets, a, o) refl
 
 given_of_set : (s : Set) (g : Option Given) → SpellsGiven s g → given_in (Some s) ≡ g

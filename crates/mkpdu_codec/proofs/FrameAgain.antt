@@ -72,14 +72,11 @@ module _ (a b c d e f g h i j k l v hi lo : ℕ) (body check behind : List ℕ) 
       let checked : check ≡ take 16 (drop (body_length frame - 16) (drop 18 frame)) = sym (ap (take 16) rest ∙ take_at check behind 16 sixteen) in
       parts_are frame (g ∷ h ∷ i ∷ j ∷ k ∷ l ∷ []) body check (laid_mka group) (laid_long states some fours sixteen) refl sets checked
 
-stated_two : (n : ℕ) → n < 2 ^ 16 → n / 256 % 256 * 256 + n % 256 ≡ n
-stated_two n lt = omega arith
-
 pub parts_again : (p : Frame) → IsFrame p → 16 ≤ length p.body → length p.body % 4 ≡ 0 → parts_at (octets_of p) ≡ Ok (inner p.source p.body p.check)
 parts_again p is some fours =
     by_six (λ dest. get_or dest 0 0 % 2 ≡ 1 → parts_at (at dest p.source) ≡ Ok (inner p.source p.body p.check)) (λ a b c d e f. λ group.
     by_six (λ source. parts_at (at (a ∷ b ∷ c ∷ d ∷ e ∷ f ∷ []) source) ≡ Ok (inner source p.body p.check)) (λ g h i j k l.
-    laid_parts a b c d e f g h i j k l p.version ((length p.body + 16) / 256 % 256) ((length p.body + 16) % 256) p.body p.check p.behind group (stated_two (length p.body + 16) is.body) some fours is.check
+    laid_parts a b c d e f g h i j k l p.version ((length p.body + 16) / 256 % 256) ((length p.body + 16) % 256) p.body p.check p.behind group (omega (arith, is.body)) some fours is.check
     ) p.source is.source
     ) p.destination is.destination is.group where
       at : List ℕ → List ℕ → List ℕ

@@ -1,4 +1,3 @@
-pub mod Lengths
 pub mod Rooms
 pub mod Taking
 pub mod Loops
@@ -9,10 +8,9 @@ pub mod Order
 pub mod Again
 pub mod Walking
 pub mod FrameAgain
-pub mod Unique
 pub mod Gathering
 pub mod Sound
 pub mod WhatIsRead
-pub mod Answer
+pub mod Unique
 pub mod WrittenSpelled
 mod Examples

@@ -2,12 +2,18 @@
 use Rattle.std.specs.Prelude.{All}
 use Rattle.std.proofs.Common.{◌≡◌, ℕ, suc, ◌+◌, ◌*◌, ◌/◌, ◌%◌, ◌<◌, ◌≤◌, inl, inr, true, false, List, [], ◌∷◌, ◌++◌, length, get_or, take, drop, Some, None, refl, sym, ap, subst, ◌∙◌, arith, length-append, length-drop, length-take, append_assoc}
 use Rattle.std.proofs.lemmas.Bool.{leb-true, leb-false, cases_lt}
-use Rattle.std.proofs.lemmas.List.{take-append-drop, take-take, take_at, drop_at, drop-take, drop-drop, get_or-drop, get_or_past}
-use Rattle.mkpdu_codec.specs.Sets.{missing, header}
+use Rattle.std.proofs.lemmas.List.{length-replicate, take-append-drop, take-take, take_at, drop_at, drop-take, drop-drop, get_or-drop, get_or_past}
+use Rattle.mkpdu_codec.specs.Sets.{missing, header, set, basic_body}
 use Rattle.mkpdu_codec.specs.Frames.{Set, IsSet}
 use Rattle.mkpdu_codec.specs.Fields.{set_at}
 use Rattle.mkpdu_codec.specs.Refusals.{front_kind, front_length, front_size, is_whole}
 use Rattle.mkpdu_codec.proofs.Taking.{octets_at-long, octets_at-short}
+
+pub length-set : (kind second flags : ℕ) (body : List ℕ) → length (set kind second flags body) ≡ 4 + length body + missing (length body)
+length-set kind second flags body = simp (length-append, length-replicate) (omega arith)
+
+pub length-basic_body : (sci mi : List ℕ) (mn : ℕ) (ckn : List ℕ) → length sci ≡ 8 → length mi ≡ 12 → length (basic_body sci mi mn ckn) ≡ 28 + length ckn
+length-basic_body sci mi mn ckn s m = simp length-append (omega arith)
 
 -- the length that two octets of a header state
 abbrev pub stated : ℕ → ℕ → ℕ
@@ -105,18 +111,12 @@ set_at-is front rest s is =
     ap set_at regrouped ∙ set_at-stated s.kind s.second (s.flags * 16 + n / 256) (n % 256) n ((s.body ++ is.padding) ++ rest) says fits
     ∙ rw (body, behind, flags) refl
 
-third_says : (c d : ℕ) → c < 256 → d < 256 → c / 16 * 16 + stated c d / 256 ≡ c
-third_says c d fits less = omega arith
-
-fourth_says : (c d : ℕ) → c < 256 → d < 256 → stated c d % 256 ≡ d
-fourth_says c d fits less = omega arith
-
 is_set-cons : (a b c d n : ℕ) (tail : List ℕ) → stated c d ≡ n → c < 256 → d < 256 → n + missing n ≤ length tail
     → IsSet (a ∷ b ∷ c ∷ d ∷ take (n + missing n) tail) (record { kind = a; second = b; flags = c / 16; body = take n tail })
 is_set-cons a b c d n tail says fits less le =
     let len : length (take n tail) ≡ n = omega (arith, length-take n tail) in
-    let third : c / 16 * 16 + n / 256 ≡ c = rw (← says) (third_says c d fits less) in
-    let fourth : n % 256 ≡ d = rw (← says) (fourth_says c d fits less) in
+    let third : c / 16 * 16 + n / 256 ≡ c = omega (arith, says, fits, less) in
+    let fourth : n % 256 ≡ d = omega (arith, says, fits, less) in
     let pieces : take n tail ++ take (missing n) (drop n tail) ≡ take (n + missing n) tail =
     rw (← take-take n (n + missing n) tail (omega arith), ← drop-take n (missing n) tail) (take-append-drop n (take (n + missing n) tail)) in
     record {

@@ -111,11 +111,8 @@ bit_of zero lt = refl
 bit_of (suc zero) lt = refl
 bit_of (suc (suc n)) lt = absurd (omega (arith, lt))
 
-flags_back : (bits : ℕ) → bits < 16 → bits / 4 * 4 + bits / 2 % 2 * 2 + bits % 2 ≡ bits
-flags_back bits lt = omega arith
-
 key_flags : (bits : ℕ) (octets : List ℕ) → bits < 16 → use_flags (key_of bits octets) ≡ bits
-key_flags bits octets lt = rw (bit_of (bits / 2 % 2) (omega arith), bit_of (bits % 2) (omega arith)) (flags_back bits lt)
+key_flags bits octets lt = rw (bit_of (bits / 2 % 2) (omega arith), bit_of (bits % 2) (omega arith)) (omega (arith, lt))
 
 key_is : (bits : ℕ) (octets : List ℕ) → bits < 16 → IsBytes octets → 20 ≤ length octets → (octets ≡ use_body (key_of bits octets) ++ drop 4 (drop 4 (drop 12 octets))) × IsKeyUse (key_of bits octets)
 key_is bits octets lt bytes le =
@@ -170,9 +167,6 @@ uses_are ss all =
 
 -- ---- Distributed SAK
 
-given_flag : (second : ℕ) → second < 256 → second / 16 ≡ second / 64 * 4 + second / 16 % 4
-given_flag second lt = omega arith
-
 key_is_given : (s : Set) (an offset number : ℕ) (key : List ℕ) → IsGiving s an offset number key → SpellsGiven s (Some (key_in an offset number key))
 key_is_given s an offset number key giving = go (eqb (length key) 24) refl (wide_in key) refl where
   go : (t : Bool) → eqb (length key) 24 ≡ t → (w : Option (List ℕ)) → wide_in key ≡ w → SpellsGiven s (Some (cond t (Aes128 an offset number key) (wide_or_other an offset number w)))
@@ -196,7 +190,7 @@ given_are_of s bytes byte shaped = go (or_cases (eqb (length s.body) 0) (leb 4 (
   go (inr e) = some (leb-true 4 (length s.body) e) where
     some : 4 ≤ length s.body → SpellsGiven s (given_in (Some s))
     some le =
-        let giving : IsGiving s (s.second / 64) (s.second / 16 % 4) (big_number 4 (take 4 s.body)) (drop 4 s.body) = record { second = given_flag s.second byte; two_bits = an; two_more = offset; four_octets = number_below s.body bytes; body = number_front s.body bytes le } in
+        let giving : IsGiving s (s.second / 64) (s.second / 16 % 4) (big_number 4 (take 4 s.body)) (drop 4 s.body) = record { second = omega (arith, byte); two_bits = an; two_more = offset; four_octets = number_below s.body bytes; body = number_front s.body bytes le } in
         rw (number_long s.body le) (key_is_given s (s.second / 64) (s.second / 16 % 4) (big_number 4 (take 4 s.body)) (drop 4 s.body) giving)
 
 pub given_are : (ss : List Set) → AllByRecursion IsRead ss → SpellsGiven (the 4 ss) (given_in (first 4 ss))

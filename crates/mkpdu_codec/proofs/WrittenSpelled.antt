@@ -14,7 +14,7 @@ use Rattle.mkpdu_codec.specs.declared.peer.Peer.{Peer}
 use Rattle.mkpdu_codec.specs.Sets.{bit, missing, set, basic_body, peers_body, uses_body, uses_flags, given_body, given_flags, gcm_aes_256, IsPeer, IsKey}
 use Rattle.mkpdu_codec.specs.Written.{group_address, frame_header, basic_set, peers_set, uses_set, given_set, sets, written, IsWritable, IsWritableGiven}
 use Rattle.mkpdu_codec.specs.Frames.{Set, IsSet, AreSets, the, SpellsPeers, SpellsUses, IsGiving, SpellsGiven, Spells, IsGiven, IsOfItsTypes, IsKeyUse}
-use Rattle.mkpdu_codec.proofs.Lengths.{length-set, length-basic_body}
+use Rattle.mkpdu_codec.proofs.SetOctets.{length-set, length-basic_body}
 use Rattle.mkpdu_codec.proofs.Again.{length-peers_body}
 use Rattle.mkpdu_codec.proofs.FrameAgain.{length-uses_body}
 use Rattle.mkpdu_codec.proofs.Walking.{count, count-cons}
@@ -110,11 +110,8 @@ spells_uses live potential u g is = subst (λ (s : Set). SpellsUses s u) (sym (s
   go (Some u) is = (refl, refl, is.0, is.1)
   go None is = subst (λ (s : Set). SpellsUses s None) (sym (skips_given 3 g refl)) refl
 
-sixteenth : (n : ℕ) → n * 16 / 16 ≡ n
-sixteenth n = omega arith
-
 giving : (an offset number : ℕ) (key : List ℕ) → an < 4 → offset < 4 → number < 2 ^ 32 → IsGiving (record { kind = 4; second = given_flags an offset * 16; flags = 0; body = given_body number key }) an offset number key
-giving an offset number key a o n = record { second = sixteenth (given_flags an offset); two_bits = a; two_more = o; four_octets = n; body = refl }
+giving an offset number key a o n = record { second = omega arith; two_bits = a; two_more = o; four_octets = n; body = refl }
 
 spells_given : (live potential : List Peer) (u : Option Uses) (g : Option Given) → IfSome g IsGiven → IfSome g IsWritableGiven → SpellsGiven (the 4 (all_written live potential u g)) g
 spells_given live potential u g is may =
@@ -196,11 +193,8 @@ none_written live potential u g =
 
 -- ---- how long they are
 
-missing_few : (n : ℕ) → missing n < 4
-missing_few n = omega arith
-
 set_most : (kind second flags most : ℕ) (body : List ℕ) → length body ≤ most → length (set kind second flags body) ≤ most + 7
-set_most kind second flags most body le = let len = length-set kind second flags body in let few = missing_few (length body) in omega (arith, len, few, le)
+set_most kind second flags most body le = let len = length-set kind second flags body in let few : missing (length body) < 4 = omega arith in omega (arith, len, few, le)
 
 peers_most : (kind : ℕ) (ps : List Peer) → AllByRecursion IsPeer ps → length ps ≤ 80 → length (peers_set kind ps) ≤ 1287
 peers_most kind [] are few = omega arith
@@ -224,9 +218,6 @@ laid_out source body = ap (λ (x : List ℕ). group_address ++ x) (append_assoc 
 keys_are : (u : Option Uses) → IfSome u (λ v. (v.latest.an < 4) × (v.old.an < 4)) → IfSome u (λ v. IsKey v.latest × IsKey v.old) → IfSome u (λ v. IsKeyUse v.latest × IsKeyUse v.old)
 keys_are None may is = tt
 keys_are (Some u) may is = ((is.0, may.0), (is.1, may.1))
-
-server_flag : (b : ℕ) → (b * 8 + 6) / 8 ≡ b
-server_flag b = omega arith
 
 flags_fit : (b : Bool) → bit b * 8 + 6 < 16
 flags_fit true = lit< tt
@@ -276,7 +267,7 @@ written_spells a check may is sixteen =
       covers = ap length (laid_out a.source.0 (sets a));
       checked = refl;
       source = refl;
-      says = record { priority = refl; server = server_flag (bit a.server); body = refl; sci = is.sci; mi = is.mi; mn = is.mn; named = may.named };
+      says = record { priority = refl; server = omega arith; body = refl; sci = is.sci; mi = is.mi; mn = is.mn; named = may.named };
       live = spells_live a.live a.potential a.uses a.given is.live;
       potential = spells_potential a.live a.potential a.uses a.given is.potential;
       uses = spells_uses a.live a.potential a.uses a.given keys;

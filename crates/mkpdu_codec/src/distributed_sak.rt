@@ -1,9 +1,9 @@
 //! Distributed SAK (IEEE Std 802.1X, clause 11): the key that the key server gives.
 
-ghost use Rattle.std.specs.Prelude.{◌≡◌, ◌≤◌, ◌<◌, ◌+◌, ◌++◌, ◌*◌, ℕ, IfSome, length};
+ghost use Rattle.std.specs.Prelude.{◌≡◌, ◌≤◌, ◌<◌, ◌+◌, ◌++◌, IfSome, length};
 ghost use Rattle.mkpdu_codec.specs.Fields.{given_in, key_in, wide_in};
 ghost use Rattle.mkpdu_codec.specs.inside.Room.{HasRoom, Puts};
-ghost use Rattle.mkpdu_codec.specs.Sets.{given_body, given_flags, gcm_aes_256, set, set_length};
+ghost use Rattle.mkpdu_codec.specs.Sets.{given_body, given_flags, set};
 ghost use Rattle.mkpdu_codec.specs.Written.{given_set, IsWritableGiven};
 ghost use Rattle.mkpdu_codec.specs.inside.Views.{Finds, seen};
 
@@ -16,23 +16,14 @@ use crate::set::{ParameterSet, put_header, put_padding, set_len};
 /// The identifier of the cipher suite GCM-AES-256.
 const GCM_AES_256: [u8; 8] = [0x00, 0x80, 0xc2, 0x00, 0x01, 0x00, 0x00, 0x02];
 
-/// How many octets the set has, by those of the suite's identifier and of the wrapped key.
-fn len_of(suite: &[u8], wrapped: &[u8]) -> usize
-    requires { length suite.now + length wrapped.now < 64 }
-    ensures most { result ≤ set_length (4 + length suite.now + length wrapped.now) }
-    ensures value { (number second : ℕ) → result ≡ length (set 4 second 0 (given_body number (suite.now ++ wrapped.now))) }
-{
-    set_len(4 + suite.len() + wrapped.len())
-}
-
 /// How many octets the set has: a key for another suite isn't written.
 pub fn given_len(given: Option<Given>) -> usize
     ensures value { result ≡ length (given_set given) }
     ensures most { result ≤ 56 }
 {
     match given {
-        Some(Given::Aes128 { wrapped, .. }) => len_of(&[], &wrapped),
-        Some(Given::Aes256 { wrapped, .. }) => len_of(&GCM_AES_256, &wrapped),
+        Some(Given::Aes128 { wrapped, .. }) => set_len(4 + wrapped.len()),
+        Some(Given::Aes256 { wrapped, .. }) => set_len(4 + GCM_AES_256.len() + wrapped.len()),
         _ => 0,
     }
 }

@@ -21,15 +21,13 @@ pub struct Peers {
 }
 
 impl Model for Peers {
-    ghost use Rattle.std.specs.Prelude.{List};
+    ghost use Rattle.std.specs.Prelude.{List, All};
     ghost use Rattle.mkpdu_codec.specs.declared.peer.Peer.{Peer};
+    ghost use Rattle.mkpdu_codec.specs.Sets.{IsPeer};
 
     ghost Value = { List Peer };
 
     ghost view = { λ p. p.peers.items };
-
-    ghost use Rattle.std.specs.Prelude.{All};
-    ghost use Rattle.mkpdu_codec.specs.Sets.{IsPeer};
 
     ghost invariant = { λ p. All IsPeer p.peers.items };
 }

@@ -1,8 +1,7 @@
 //! The Live Peer List and the Potential Peer List (IEEE Std 802.1X, clause 11): whom the announcer
 //! hears.
 
-ghost use Rattle.std.specs.Prelude.{◌≡◌, ◌≤◌, ◌<◌, ◌+◌, ◌*◌, length};
-ghost use Rattle.std.specs.Prelude.{IfOk};
+ghost use Rattle.std.specs.Prelude.{◌≡◌, ◌≤◌, ◌<◌, ◌+◌, ◌*◌, length, IfOk};
 ghost use Rattle.mkpdu_codec.specs.Fields.{entry_at, entries_at, peers_in};
 ghost use Rattle.mkpdu_codec.specs.inside.Room.{HasRoom, Puts};
 ghost use Rattle.mkpdu_codec.specs.Sets.{peer, peers_body};

@@ -1,5 +1,5 @@
 use Rattle.std.proofs.Common.{arith}
-use Rattle.mkpdu_codec.proofs.Answer.{answer_found, answer_only, answer_refused, answer_memory}
+use Rattle.mkpdu_codec.proofs.Unique.{answer_found, answer_only, answer_refused, answer_memory}
 use Rattle.mkpdu_codec.proofs.reading.read.Goals as goal
 
 pub returns-clause-found : goal.returns-clause-found
