@@ -145,33 +145,80 @@ const HELLO: Told = Told {
     given: None,
 };
 
+/// A row's name, the sets of its frame, and what the frame spells or why it is refused.
 #[derive(Clone, Copy)]
-struct Row {
-    name: &'static str,
-    /// The length that the frame states.
-    length: u16,
-    sets: &'static [&'static str],
-    wanted: Result<Told, Refusal>,
-}
+struct Row(&'static str, &'static [&'static str], Result<Told, Refusal>);
+
+/// The set at this octet doesn't have its form.
+const AT_18: Result<Told, Refusal> = Err(Refusal::Shape { at: 18 });
+
+const AT_54: Result<Told, Refusal> = Err(Refusal::Shape { at: 54 });
+
+const AT_58: Result<Told, Refusal> = Err(Refusal::Shape { at: 58 });
+
+/// There is a second live list.
+const TWICE: Result<Told, Refusal> = Err(Refusal::Repeated { kind: 1 });
+
+/// A hello that gives a key of a suite that is not known.
+const GIVING: Result<Told, Refusal> = Ok(Told {
+    given: Some(UNKNOWN),
+    ..HELLO
+});
+
+const GIVING_OTHER: Result<Told, Refusal> = Ok(Told {
+    given: Some(OTHER_SUITE),
+    ..HELLO
+});
+
+// Sets: live lists, of which some have no right length, potential lists, and those of keys.
+const EMPTY: &str = "01000000";
+
+const LIVE: &str = "0100001000000000000000000000000200000002";
+
+const LIVE_IGNORED: &str = "01fff01000000000000000000000000200000002";
+
+const LIVE_15: &str = "0100000f00000000000000000000000000000000";
+
+const LIVE_17: &str = "010000110000000000000000000000000000000000000000";
+
+const LIVE_CUT: &str = "0100002000000000000000000000000200000002";
+
+const TWO_LIVE: &str = "010000200000000000000000000000020000000200000000000000000000000300000007";
+
+const POTENTIAL: &str = "0200001000000000000000000000000300000007";
+
+const USE: &str =
+    "0310002800000000000000000000000100000001000000010000000000000000000000000000000000000000";
+
+const USE_TWO: &str =
+    "039e002800000000000000000000000201020304050607080000000000000000000000011112131415161718";
+
+const USE_39: &str =
+    "0310002700000000000000000000000000000000000000000000000000000000000000000000000000000000";
+
+const USE_41: &str =
+    "031000290000000000000000000000000000000000000000000000000000000000000000000000000000000000000000";
+
+const SAK: &str = "0410001c00000001000102030405060708090a0b0c0d0e0f1011121314151617";
+
+const SAK_27: &str = "0410001b00000000000000000000000000000000000000000000000000000000";
+
+const SAK_29: &str = "0410001d0000000000000000000000000000000000000000000000000000000000000000";
+
+const AGILE: &str = "0110602002000000000a0001000000000000000000000001000000010080c20201020304";
 
 /// Frames as they are written, up to their check value.
 const WRITTEN: [Row; 3] = [
-    Row {
-        name: "a hello",
-        length: 52,
-        sets: &[BASIC],
-        wanted: Ok(HELLO),
-    },
-    Row {
-        name: "a key server that gives a key to one live peer",
-        length: 148,
-        sets: &[
+    Row("a hello", &[BASIC], Ok(HELLO)),
+    Row(
+        "a key server that gives a key to one live peer",
+        &[
             "0110e02002000000000a0001000000000000000000000001000000030080c20101020304",
-            "0100001000000000000000000000000200000002",
-            "0310002800000000000000000000000100000001000000010000000000000000000000000000000000000000",
-            "0410001c00000001000102030405060708090a0b0c0d0e0f1011121314151617",
+            LIVE,
+            USE,
+            SAK,
         ],
-        wanted: Ok(Told {
+        Ok(Told {
             server: true,
             mn: 3,
             live: &[HEARD],
@@ -179,50 +226,34 @@ const WRITTEN: [Row; 3] = [
             given: Some(GIVEN),
             ..HELLO
         }),
-    },
-    Row {
-        name: "both lists, two keys, and a key for GCM-AES-256",
-        length: 208,
-        sets: &[
+    ),
+    Row(
+        "both lists, two keys, and a key for GCM-AES-256",
+        &[
             BASIC,
-            "010000200000000000000000000000020000000200000000000000000000000300000007",
-            "0200001000000000000000000000000300000007",
-            "039e002800000000000000000000000201020304050607080000000000000000000000011112131415161718",
+            TWO_LIVE,
+            POTENTIAL,
+            USE_TWO,
             "04b00034010203040080c20001000002000102030405060708090a0b0c0d0e0f101112131415161718191a1b1c1d1e1f2021222324252627",
         ],
-        wanted: Ok(Told {
+        Ok(Told {
             live: &[HEARD, OTHER],
             potential: &[OTHER],
             uses: Some(TWO_KEYS),
             given: Some(WIDE),
             ..HELLO
         }),
-    },
+    ),
 ];
 
+/// ICV Indicators and unknown sets, which say nothing.
 const SETS: [Row; 7] = [
-    Row {
-        name: "an ICV Indicator whose ignored bits are set",
-        length: 56,
-        sets: &[BASIC, "ffa5f010"],
-        wanted: Ok(HELLO),
-    },
-    Row {
-        name: "an unknown set of 5 octets",
-        length: 64,
-        sets: &[BASIC, "070000050102030405000000"],
-        wanted: Ok(HELLO),
-    },
-    Row {
-        name: "padding that is not zero",
-        length: 64,
-        sets: &[BASIC, "070000050102030405ffffff"],
-        wanted: Ok(HELLO),
-    },
-    Row {
-        name: "unknown sets of length 0 to 4 between known ones",
-        length: 108,
-        sets: &[
+    Row("an Indicator's bits", &[BASIC, "ffa5f010"], Ok(HELLO)),
+    Row("5 octets", &[BASIC, "070000050102030405000000"], Ok(HELLO)),
+    Row("padding", &[BASIC, "070000050102030405ffffff"], Ok(HELLO)),
+    Row(
+        "unknown sets of length 0 to 4 between known ones",
+        &[
             BASIC,
             "07000000",
             "01000000",
@@ -235,451 +266,201 @@ const SETS: [Row; 7] = [
             "00000000",
             "04000000",
         ],
-        wanted: Ok(HELLO),
-    },
-    Row {
-        name: "an unknown set twice",
-        length: 60,
-        sets: &[BASIC, "07000000", "07000000"],
-        wanted: Ok(HELLO),
-    },
-    Row {
-        name: "an unknown set of 256 octets",
-        length: 312,
-        sets: &[
+        Ok(HELLO),
+    ),
+    Row("twice", &[BASIC, "07000000", "07000000"], Ok(HELLO)),
+    Row(
+        "256 octets",
+        &[
             BASIC,
             "0700010000000000000000000000000000000000000000000000000000000000000000000000000000000000000000000000000000000000000000000000000000000000000000000000000000000000000000000000000000000000000000000000000000000000000000000000000000000000000000000000000000000000000000000000000000000000000000000000000000000000000000000000000000000000000000000000000000000000000000000000000000000000000000000000000000000000000000000000000000000000000000000000000000000000000000000000000000000000000000000000000000000000000000000000000000000000",
         ],
-        wanted: Ok(HELLO),
-    },
-    Row {
-        name: "an unknown set with flags",
-        length: 56,
-        sets: &[BASIC, "07fff000"],
-        wanted: Ok(HELLO),
-    },
+        Ok(HELLO),
+    ),
+    Row("flags", &[BASIC, "07fff000"], Ok(HELLO)),
 ];
 
 const PEER_LISTS: [Row; 8] = [
-    Row {
-        name: "an empty live list",
-        length: 56,
-        sets: &[BASIC, "01000000"],
-        wanted: Ok(HELLO),
-    },
-    Row {
-        name: "a potential list before a live list",
-        length: 92,
-        sets: &[
-            BASIC,
-            "0200001000000000000000000000000300000007",
-            "0100001000000000000000000000000200000002",
-        ],
-        wanted: Ok(Told {
+    Row("an empty live list", &[BASIC, EMPTY], Ok(HELLO)),
+    Row(
+        "a potential list before a live list",
+        &[BASIC, POTENTIAL, LIVE],
+        Ok(Told {
             live: &[HEARD],
             potential: &[OTHER],
             ..HELLO
         }),
-    },
-    Row {
-        name: "a peer list with ignored bits",
-        length: 72,
-        sets: &[BASIC, "01fff01000000000000000000000000200000002"],
-        wanted: Ok(Told {
+    ),
+    Row(
+        "a peer list with ignored bits",
+        &[BASIC, LIVE_IGNORED],
+        Ok(Told {
             live: &[HEARD],
             ..HELLO
         }),
-    },
-    Row {
-        name: "a live list of 15 octets",
-        length: 72,
-        sets: &[BASIC, "0100000f00000000000000000000000000000000"],
-        wanted: Err(Refusal::Shape { at: 54 }),
-    },
-    Row {
-        name: "a live list of 17 octets",
-        length: 76,
-        sets: &[BASIC, "010000110000000000000000000000000000000000000000"],
-        wanted: Err(Refusal::Shape { at: 54 }),
-    },
-    Row {
-        name: "two live lists",
-        length: 92,
-        sets: &[
-            BASIC,
-            "0100001000000000000000000000000200000002",
-            "0100001000000000000000000000000200000002",
-        ],
-        wanted: Err(Refusal::Repeated { kind: 1 }),
-    },
-    Row {
-        name: "a second live list after an empty one",
-        length: 76,
-        sets: &[
-            BASIC,
-            "01000000",
-            "0100001000000000000000000000000200000002",
-        ],
-        wanted: Err(Refusal::Repeated { kind: 1 }),
-    },
-    Row {
-        name: "a second potential list with sets between",
-        length: 84,
-        sets: &[
-            BASIC,
-            "02000000",
-            "01000000",
-            "07000000",
-            "0200001000000000000000000000000300000007",
-        ],
-        wanted: Err(Refusal::Repeated { kind: 2 }),
-    },
+    ),
+    Row("a live list of 15 octets", &[BASIC, LIVE_15], AT_54),
+    Row("a live list of 17 octets", &[BASIC, LIVE_17], AT_54),
+    Row("two live lists", &[BASIC, LIVE, LIVE], TWICE),
+    Row(
+        "a live list after an empty one",
+        &[BASIC, EMPTY, LIVE],
+        TWICE,
+    ),
+    Row(
+        "a second potential list with sets between",
+        &[BASIC, "02000000", EMPTY, "07000000", POTENTIAL],
+        Err(Refusal::Repeated { kind: 2 }),
+    ),
 ];
 
 const SAK_USES: [Row; 5] = [
-    Row {
-        name: "an empty SAK Use",
-        length: 56,
-        sets: &[BASIC, "03000000"],
-        wanted: Ok(HELLO),
-    },
-    Row {
-        name: "a SAK Use of 39 octets",
-        length: 96,
-        sets: &[
-            BASIC,
-            "0310002700000000000000000000000000000000000000000000000000000000000000000000000000000000",
-        ],
-        wanted: Err(Refusal::Shape { at: 54 }),
-    },
-    Row {
-        name: "a SAK Use of 41 octets",
-        length: 100,
-        sets: &[
-            BASIC,
-            "031000290000000000000000000000000000000000000000000000000000000000000000000000000000000000000000",
-        ],
-        wanted: Err(Refusal::Shape { at: 54 }),
-    },
-    Row {
-        name: "a second SAK Use after an empty one",
-        length: 100,
-        sets: &[
-            BASIC,
-            "03000000",
-            "0310002800000000000000000000000100000001000000010000000000000000000000000000000000000000",
-        ],
-        wanted: Err(Refusal::Repeated { kind: 3 }),
-    },
-    Row {
-        name: "a SAK Use of two keys",
-        length: 96,
-        sets: &[
-            BASIC,
-            "039e002800000000000000000000000201020304050607080000000000000000000000011112131415161718",
-        ],
-        wanted: Ok(Told {
+    Row("an empty SAK Use", &[BASIC, "03000000"], Ok(HELLO)),
+    Row("a SAK Use of 39 octets", &[BASIC, USE_39], AT_54),
+    Row("a SAK Use of 41 octets", &[BASIC, USE_41], AT_54),
+    Row(
+        "a second SAK Use after an empty one",
+        &[BASIC, "03000000", USE],
+        Err(Refusal::Repeated { kind: 3 }),
+    ),
+    Row(
+        "a SAK Use of two keys",
+        &[BASIC, USE_TWO],
+        Ok(Told {
             uses: Some(TWO_KEYS),
             ..HELLO
         }),
-    },
+    ),
 ];
 
 const DISTRIBUTED_SAKS: [Row; 11] = [
-    Row {
-        name: "an empty Distributed SAK",
-        length: 56,
-        sets: &[BASIC, "04000000"],
-        wanted: Ok(HELLO),
-    },
-    Row {
-        name: "a Distributed SAK of 1 octet",
-        length: 60,
-        sets: &[BASIC, "0410000100000000"],
-        wanted: Err(Refusal::Shape { at: 54 }),
-    },
-    Row {
-        name: "a Distributed SAK of 3 octets",
-        length: 60,
-        sets: &[BASIC, "0410000300000000"],
-        wanted: Err(Refusal::Shape { at: 54 }),
-    },
-    Row {
-        name: "a Distributed SAK of 4 octets",
-        length: 60,
-        sets: &[BASIC, "0410000400000000"],
-        wanted: Ok(Told {
-            given: Some(UNKNOWN),
-            ..HELLO
-        }),
-    },
-    Row {
-        name: "a Distributed SAK of 27 octets",
-        length: 84,
-        sets: &[
+    Row("an empty one", &[BASIC, "04000000"], Ok(HELLO)),
+    Row("1 octet", &[BASIC, "0410000100000000"], AT_54),
+    Row("3 octets", &[BASIC, "0410000300000000"], AT_54),
+    Row("4 octets", &[BASIC, "0410000400000000"], GIVING),
+    Row("27 octets", &[BASIC, SAK_27], GIVING),
+    Row("29 octets", &[BASIC, SAK_29], GIVING),
+    Row(
+        "a second one after an empty one",
+        &[BASIC, "04000000", SAK],
+        Err(Refusal::Repeated { kind: 4 }),
+    ),
+    Row(
+        "all sets in another order, and an ICV Indicator",
+        &[
             BASIC,
-            "0410001b00000000000000000000000000000000000000000000000000000000",
-        ],
-        wanted: Ok(Told {
-            given: Some(UNKNOWN),
-            ..HELLO
-        }),
-    },
-    Row {
-        name: "a Distributed SAK of 29 octets",
-        length: 88,
-        sets: &[
-            BASIC,
-            "0410001d0000000000000000000000000000000000000000000000000000000000000000",
-        ],
-        wanted: Ok(Told {
-            given: Some(UNKNOWN),
-            ..HELLO
-        }),
-    },
-    Row {
-        name: "a second Distributed SAK after an empty one",
-        length: 88,
-        sets: &[
-            BASIC,
-            "04000000",
-            "0410001c00000001000102030405060708090a0b0c0d0e0f1011121314151617",
-        ],
-        wanted: Err(Refusal::Repeated { kind: 4 }),
-    },
-    Row {
-        name: "all sets in another order, and an ICV Indicator",
-        length: 188,
-        sets: &[
-            BASIC,
-            "0410001c00000001000102030405060708090a0b0c0d0e0f1011121314151617",
+            SAK,
             "0330002800000000000000000000000100000001000000010000000000000000000000000000000000000000",
-            "0200001000000000000000000000000300000007",
-            "010000200000000000000000000000020000000200000000000000000000000300000007",
+            POTENTIAL,
+            TWO_LIVE,
             "ff000010",
         ],
-        wanted: Ok(Told {
+        Ok(Told {
             live: &[HEARD, OTHER],
             potential: &[OTHER],
             uses: Some(USING),
             given: Some(GIVEN),
             ..HELLO
         }),
-    },
-    Row {
-        name: "a Distributed SAK of 52 octets for another suite",
-        length: 108,
-        sets: &[
+    ),
+    Row(
+        "52 octets for another suite",
+        &[
             BASIC,
             "04b00034010203040080c20001000001000102030405060708090a0b0c0d0e0f101112131415161718191a1b1c1d1e1f2021222324252627",
         ],
-        wanted: Ok(Told {
-            given: Some(OTHER_SUITE),
-            ..HELLO
-        }),
-    },
-    Row {
-        name: "a Distributed SAK of 51 octets for GCM-AES-256",
-        length: 108,
-        sets: &[
+        GIVING_OTHER,
+    ),
+    Row(
+        "51 octets for GCM-AES-256",
+        &[
             BASIC,
             "04b00033010203040080c20001000002000102030405060708090a0b0c0d0e0f101112131415161718191a1b1c1d1e1f2021222324252600",
         ],
-        wanted: Ok(Told {
-            given: Some(OTHER_SUITE),
-            ..HELLO
-        }),
-    },
-    Row {
-        name: "a Distributed SAK of 56 octets for GCM-AES-256",
-        length: 112,
-        sets: &[
+        GIVING_OTHER,
+    ),
+    Row(
+        "56 octets for GCM-AES-256",
+        &[
             BASIC,
             "04b00038010203040080c20001000002000102030405060708090a0b0c0d0e0f101112131415161718191a1b1c1d1e1f202122232425262728292a2b",
         ],
-        wanted: Ok(Told {
-            given: Some(OTHER_SUITE),
-            ..HELLO
-        }),
-    },
+        GIVING_OTHER,
+    ),
 ];
 
+/// ICV Indicators that are none, and sets over the check value.
 const ENDS: [Row; 7] = [
-    Row {
-        name: "an ICV Indicator of length 0",
-        length: 56,
-        sets: &[BASIC, "ff000000"],
-        wanted: Err(Refusal::Shape { at: 54 }),
-    },
-    Row {
-        name: "an ICV Indicator with a body of its own",
-        length: 72,
-        sets: &[BASIC, "ff00001000000000000000000000000000000000"],
-        wanted: Err(Refusal::Shape { at: 54 }),
-    },
-    Row {
-        name: "a set after an ICV Indicator",
-        length: 60,
-        sets: &[BASIC, "ff000010", "01000000"],
-        wanted: Err(Refusal::Shape { at: 54 }),
-    },
-    Row {
-        name: "an ICV Indicator whose length has high bits",
-        length: 56,
-        sets: &[BASIC, "ff000110"],
-        wanted: Err(Refusal::Shape { at: 54 }),
-    },
-    Row {
-        name: "a live list over the check value",
-        length: 72,
-        sets: &[BASIC, "0100002000000000000000000000000200000002"],
-        wanted: Err(Refusal::Shape { at: 54 }),
-    },
-    Row {
-        name: "an unknown set over the check value",
-        length: 56,
-        sets: &[BASIC, "07000001"],
-        wanted: Err(Refusal::Shape { at: 54 }),
-    },
-    Row {
-        name: "the last set over the check value",
-        length: 76,
-        sets: &[
-            BASIC,
-            "0100001000000000000000000000000200000002",
-            "07000004",
-        ],
-        wanted: Err(Refusal::Shape { at: 74 }),
-    },
+    Row("an Indicator of length 0", &[BASIC, "ff000000"], AT_54),
+    Row(
+        "an Indicator with a body of its own",
+        &[BASIC, "ff00001000000000000000000000000000000000"],
+        AT_54,
+    ),
+    Row("a set behind one", &[BASIC, "ff000010", EMPTY], AT_54),
+    Row("a length with high bits", &[BASIC, "ff000110"], AT_54),
+    Row("a live list", &[BASIC, LIVE_CUT], AT_54),
+    Row("an unknown set", &[BASIC, "07000001"], AT_54),
+    Row(
+        "the last set",
+        &[BASIC, LIVE, "07000004"],
+        Err(Refusal::Shape { at: 74 }),
+    ),
 ];
 
 const NAMES: [Row; 6] = [
-    Row {
-        name: "no name",
-        length: 48,
-        sets: &["0110601c02000000000a0001000000000000000000000001000000010080c201"],
-        wanted: Err(Refusal::Shape { at: 18 }),
-    },
-    Row {
-        name: "a name of one octet",
-        length: 52,
-        sets: &["0110601d02000000000a0001000000000000000000000001000000010080c2016d000000"],
-        wanted: Ok(Told {
+    Row(
+        "no name",
+        &["0110601c02000000000a0001000000000000000000000001000000010080c201"],
+        AT_18,
+    ),
+    Row(
+        "a name of one octet",
+        &["0110601d02000000000a0001000000000000000000000001000000010080c2016d000000"],
+        Ok(Told {
             ckn: &[0x6d],
             ..HELLO
         }),
-    },
-    Row {
-        name: "a name of 32 octets",
-        length: 80,
-        sets: &[
+    ),
+    Row(
+        "a name of 32 octets",
+        &[
             "0110603c02000000000a0001000000000000000000000001000000010080c2016d00000000000000000000000000000000000000000000000000000000000000",
         ],
-        wanted: Ok(Told {
+        Ok(Told {
             ckn: &LONG_NAME,
             ..HELLO
         }),
-    },
-    Row {
-        name: "a name of 33 octets",
-        length: 84,
-        sets: &[
+    ),
+    Row(
+        "a name of 33 octets",
+        &[
             "0110603d02000000000a0001000000000000000000000001000000010080c2016d0000000000000000000000000000000000000000000000000000000000000000000000",
         ],
-        wanted: Err(Refusal::Shape { at: 18 }),
-    },
-    Row {
-        name: "a Basic set over the check value",
-        length: 32,
-        sets: &["0110601d000000000000000000000000"],
-        wanted: Err(Refusal::Shape { at: 18 }),
-    },
-    Row {
-        name: "any version, as 255",
-        length: 52,
-        sets: &["ff10602002000000000a0001000000000000000000000001000000010080c20101020304"],
-        wanted: Ok(HELLO),
-    },
+        AT_18,
+    ),
+    Row(
+        "a Basic set over the check value",
+        &["0110601d000000000000000000000000"],
+        AT_18,
+    ),
+    Row(
+        "any version, as 255",
+        &["ff10602002000000000a0001000000000000000000000001000000010080c20101020304"],
+        Ok(HELLO),
+    ),
 ];
 
 const FIRST_FAULTS: [Row; 5] = [
-    Row {
-        name: "another agility",
-        length: 52,
-        sets: &["0110602002000000000a0001000000000000000000000001000000010080c20201020304"],
-        wanted: Err(Refusal::Agility),
-    },
-    Row {
-        name: "another agility and a shape",
-        length: 56,
-        sets: &[
-            "0110602002000000000a0001000000000000000000000001000000010080c20201020304",
-            "04000001",
-        ],
-        wanted: Err(Refusal::Shape { at: 54 }),
-    },
-    Row {
-        name: "a repeated set, then a shape",
-        length: 104,
-        sets: &[
-            BASIC,
-            "01000000",
-            "01000000",
-            "0310002700000000000000000000000000000000000000000000000000000000000000000000000000000000",
-        ],
-        wanted: Err(Refusal::Repeated { kind: 1 }),
-    },
-    Row {
-        name: "a shape, then a repeated set",
-        length: 108,
-        sets: &[
-            BASIC,
-            "01000000",
-            "0310002700000000000000000000000000000000000000000000000000000000000000000000000000000000",
-            "01000000",
-            "01000000",
-        ],
-        wanted: Err(Refusal::Shape { at: 58 }),
-    },
-    Row {
-        name: "a repeated set without its shape",
-        length: 64,
-        sets: &[BASIC, "01000000", "0100000400000000"],
-        wanted: Err(Refusal::Shape { at: 58 }),
-    },
-];
-
-const LENGTHS: [Row; 5] = [
-    Row {
-        name: "a length of 28",
-        length: 28,
-        sets: &[BASIC],
-        wanted: Err(Refusal::Short),
-    },
-    Row {
-        name: "a length of 31",
-        length: 31,
-        sets: &[BASIC],
-        wanted: Err(Refusal::Short),
-    },
-    Row {
-        name: "a length that is no multiple of four",
-        length: 50,
-        sets: &[BASIC],
-        wanted: Err(Refusal::Short),
-    },
-    Row {
-        name: "a length beyond the frame",
-        length: 56,
-        sets: &[BASIC],
-        wanted: Err(Refusal::Short),
-    },
-    Row {
-        name: "a length of 256 more",
-        length: 308,
-        sets: &[BASIC],
-        wanted: Err(Refusal::Short),
-    },
+    Row("another agility", &[AGILE], Err(Refusal::Agility)),
+    Row("and a shape", &[AGILE, "04000001"], AT_54),
+    Row("repeated, a shape", &[BASIC, EMPTY, EMPTY, USE_39], TWICE),
+    Row(
+        "a shape, then a repeated set",
+        &[BASIC, EMPTY, USE_39, EMPTY, EMPTY],
+        AT_58,
+    ),
+    Row("both in one", &[BASIC, EMPTY, "0100000400000000"], AT_58),
 ];
 
 fn peers_of(alloc: Global, peers: &[Peer]) -> Result<Peers, Fail> {
@@ -706,21 +487,40 @@ fn announcement_of(alloc: Global, told: Told) -> Result<Announcement, Fail> {
     })
 }
 
-/// A frame without its check value.
-fn frame_of(alloc: Global, head: &str, length: u16, sets: &[&str]) -> Result<Vec<u8>, Fail> {
+/// The octets of sets.
+fn octets_of(alloc: Global, sets: &[&str]) -> Result<Vec<u8>, Fail> {
+    let mut octets = Vec::new(alloc);
+    for set in sets {
+        octets.extend_from_slice(&hex::decode(alloc, set)?)?;
+    }
+    Ok(octets)
+}
+
+/// The length of a body with these sets.
+fn length_of(sets: &[u8]) -> u16 {
+    u16::try_from(sets.len() + CHECK_LEN).unwrap_or(u16::MAX)
+}
+
+/// A frame with its check value, by its first octets, the length that it states, and its sets.
+fn frame_of(alloc: Global, head: &str, length: u16, sets: &[u8]) -> Result<Vec<u8>, Fail> {
     let mut frame = hex::decode(alloc, head)?;
     frame.extend_from_slice(&length.to_be_bytes())?;
-    for set in sets {
-        frame.extend_from_slice(&hex::decode(alloc, set)?)?;
-    }
+    frame.extend_from_slice(sets)?;
+    frame.extend_from_slice(&CHECK)?;
     Ok(frame)
 }
 
-fn wanted_of(alloc: Global, row: &Row) -> Result<Result<Spelled, Refusal>, Fail> {
-    match row.wanted {
+/// The frame of a hello.
+fn hello(alloc: Global, head: &str, length: u16) -> Result<Vec<u8>, Fail> {
+    frame_of(alloc, head, length, &octets_of(alloc, &[BASIC])?)
+}
+
+/// What a row wants of a frame that states this length.
+fn wanted_of(alloc: Global, row: &Row, length: u16) -> Result<Result<Spelled, Refusal>, Fail> {
+    match row.2 {
         Ok(told) => Ok(Ok(Spelled {
             announcement: announcement_of(alloc, told)?,
-            covered: HEADER_LEN + usize::from(row.length) - CHECK_LEN,
+            covered: HEADER_LEN + usize::from(length) - CHECK_LEN,
             check: CHECK,
         })),
         Err(refusal) => Ok(Err(refusal)),
@@ -729,9 +529,15 @@ fn wanted_of(alloc: Global, row: &Row) -> Result<Result<Spelled, Refusal>, Fail>
 
 fn check_rows(rt: &impl Abort, alloc: Global, rows: &[Row]) -> Result<(), Fail> {
     for row in rows {
-        let mut frame = frame_of(alloc, HEAD, row.length, row.sets)?;
-        frame.extend_from_slice(&CHECK)?;
-        assert_eq!(rt; read(alloc, &frame), wanted_of(alloc, row)?, "{}", row.name);
+        let sets = octets_of(alloc, row.1)?;
+        let length = length_of(&sets);
+        let frame = frame_of(alloc, HEAD, length, &sets)?;
+        assert_eq!(rt;
+            read(alloc, &frame),
+            wanted_of(alloc, row, length)?,
+            "{}",
+            row.0
+        );
     }
     Ok(())
 }
@@ -744,10 +550,9 @@ fn reads_what_is_written(rt: HostRuntime) -> Result<(), Fail> {
 #[test]
 fn ignores_octets_behind(rt: HostRuntime) -> Result<(), Fail> {
     let alloc = rt.alloc();
-    let mut frame = frame_of(alloc, HEAD, 52, &[BASIC])?;
-    frame.extend_from_slice(&CHECK)?;
+    let mut frame = hello(alloc, HEAD, 52)?;
     frame.extend_from_slice(&[1, 0, 0, 0])?;
-    assert_eq!(rt; read(alloc, &frame), wanted_of(alloc, &WRITTEN[0])?);
+    assert_eq!(rt; read(alloc, &frame), wanted_of(alloc, &WRITTEN[0], 52)?);
     Ok(())
 }
 
@@ -760,12 +565,14 @@ fn check_written(
 ) -> Result<(), Fail>
     requires { IsWritable announcement.now }
 {
-    let wanted = frame_of(alloc, HEAD, row.length, row.sets)?;
+    let sets = octets_of(alloc, row.1)?;
+    let wanted = frame_of(alloc, HEAD, length_of(&sets), &sets)?;
     let mut frame = Vec::from_slice(alloc, &[7])?;
     write(announcement, &mut frame)?;
+    assert_eq!(rt; written_len(announcement), HEADER_LEN + sets.len());
+    frame.extend_from_slice(&CHECK)?;
     assert_eq!(rt; frame[0], 7);
     assert_eq!(rt; &frame[1..], wanted.as_slice());
-    assert_eq!(rt; written_len(announcement), wanted.len());
     Ok(())
 }
 
@@ -849,9 +656,21 @@ fn refuses_the_first_fault(rt: HostRuntime) -> Result<(), Fail> {
     check_rows(&rt, rt.alloc(), &FIRST_FAULTS)
 }
 
+/// Lengths below 32, no multiple of four, beyond the frame, and 256 more than the hello's.
+const LENGTHS: [u16; 5] = [28, 31, 50, 56, 308];
+
 #[test]
 fn reads_lengths(rt: HostRuntime) -> Result<(), Fail> {
-    check_rows(&rt, rt.alloc(), &LENGTHS)
+    for length in LENGTHS {
+        let frame = hello(rt.alloc(), HEAD, length)?;
+        assert_eq!(rt;
+            read(rt.alloc(), &frame).err(),
+            Some(Refusal::Short),
+            "{}",
+            length
+        );
+    }
+    Ok(())
 }
 
 /// Another group bit, EtherType or packet type.
@@ -865,8 +684,7 @@ const OTHER_HEADS: [&str; 4] = [
 #[test]
 fn refuses_other_headers(rt: HostRuntime) -> Result<(), Fail> {
     for head in OTHER_HEADS {
-        let mut frame = frame_of(rt.alloc(), head, 52, &[BASIC])?;
-        frame.extend_from_slice(&CHECK)?;
+        let frame = hello(rt.alloc(), head, 52)?;
         assert_eq!(rt; read(rt.alloc(), &frame).err(), Some(Refusal::NotMka));
     }
     Ok(())
@@ -874,8 +692,7 @@ fn refuses_other_headers(rt: HostRuntime) -> Result<(), Fail> {
 
 #[test]
 fn refuses_a_cut_hello(rt: HostRuntime) -> Result<(), Fail> {
-    let mut frame = frame_of(rt.alloc(), HEAD, 52, &[BASIC])?;
-    frame.extend_from_slice(&CHECK)?;
+    let frame = hello(rt.alloc(), HEAD, 52)?;
     assert_eq!(rt; frame.len(), 70);
     for len in 0..70 {
         let wanted = if len < 18 {
@@ -891,13 +708,13 @@ fn refuses_a_cut_hello(rt: HostRuntime) -> Result<(), Fail> {
 /// A frame of 65,536 octets: its header, 65,516 octets of sets with a check value, and two octets
 /// behind them. Sets without a body fill what the Basic Parameter Set and the last set leave.
 fn full_frame(alloc: Global, first: [u8; 4], last: [u8; 4]) -> Result<Vec<u8>, Fail> {
-    let mut frame = frame_of(alloc, HEAD, 65_516, &[BASIC])?;
-    frame.extend_from_slice(&first)?;
+    let mut sets = octets_of(alloc, &[BASIC])?;
+    sets.extend_from_slice(&first)?;
     for _ in 0..16_364 {
-        frame.extend_from_slice(&[7, 0, 0, 0])?;
+        sets.extend_from_slice(&[7, 0, 0, 0])?;
     }
-    frame.extend_from_slice(&last)?;
-    frame.extend_from_slice(&CHECK)?;
+    sets.extend_from_slice(&last)?;
+    let mut frame = frame_of(alloc, HEAD, 65_516, &sets)?;
     frame.extend_from_slice(&[0, 0])?;
     Ok(frame)
 }
