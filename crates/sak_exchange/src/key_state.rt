@@ -2,6 +2,7 @@
 
 ghost use Rattle.std.specs.Prelude.{◌≡◌, ◌+◌, ◌<◌, ◌^◌, ◌∷◌, ◌&&◌, ◌==◌, ◌||◌, not, [], List, ℕ, Bool, Option, Some, None, true, false, cond, is_some, option_map, IsTrue, IfOk, OnOk, OnErr, IsOk, IsNone};
 ghost use Rattle.std.specs.List.{list_all, list_any};
+ghost use Rattle.std.specs.Option.{option_map_or};
 ghost use Rattle.lan_base.specs.declared.address.Mi.{Mi};
 ghost use Rattle.lan_base.specs.Identifiers.{has};
 ghost use Rattle.sak_exchange.specs.Histories.{Keying, install_count};
@@ -25,6 +26,7 @@ use mkpdu_codec::Uses;
 use std::alloc::{AllocError, Global};
 use std::collections::BTreeMap;
 use std::marker::Model;
+use std::rc::Rc;
 
 /// The keys that a station holds in one life, and what their rules ask of its past. Each call answers
 /// what changes. A call that answers an error, which it does for want of memory alone, changes nothing.
@@ -37,12 +39,13 @@ pub struct KeyState {
     own: Mi,
     latest: Option<Latest>,
     former: Option<HeldKey>,
-    /// The roster of the key installed last, where this life made it.
-    roster: Option<Vec<Mi>>,
+    /// The roster of the key installed last, where this life made it. Copies share it.
+    roster: Option<Rc<Vec<Mi>>>,
     /// How many keys this station installed, over all its lives.
     epochs: u32,
-    /// The greatest key number installed of each key server.
-    numbers: BTreeMap<Mi, u32>,
+    /// The greatest key number installed of each key server, once one is. Copies share the map, and an
+    /// install puts another in its place.
+    numbers: Option<Rc<BTreeMap<Mi, u32>>>,
     /// How many keys this life made.
     made: u32,
     /// How many ticks ago it made the last one, as far as they can be counted.
@@ -52,7 +55,8 @@ pub struct KeyState {
 }
 
 impl Model for KeyState {
-    ghost use Rattle.std.specs.Prelude.{◌≤◌, option_map};
+    ghost use Rattle.std.specs.Prelude.{◌≤◌, [], option_map};
+    ghost use Rattle.std.specs.Option.{option_map_or};
     ghost use Rattle.sak_exchange.specs.Standing.{State};
 
     ghost Value = { State };
@@ -61,9 +65,9 @@ impl Model for KeyState {
       own = s.own;
       latest = s.latest;
       former = s.former;
-      roster = option_map (λ v. v.items) s.roster;
+      roster = option_map (λ v. v.value.items) s.roster;
       epochs = s.epochs;
-      numbers = s.numbers.entries;
+      numbers = option_map_or (λ m. m.value.entries) s.numbers [];
       made = s.made;
       since_made = s.since_made;
       last_an = s.last_an;
@@ -86,14 +90,14 @@ impl KeyState {
             former: None,
             roster: None,
             epochs,
-            numbers: BTreeMap::new(alloc),
+            numbers: None,
             made: 0,
             since_made: None,
             last_an: None,
         })
     }
 
-    /// A copy of the keys.
+    /// A copy of the keys, which shares with them what grows.
     pub fn copied(&self, alloc: Global) -> Result<KeyState, AllocError>
         ensures { IfOk result (λ copy. copy ≡ self.now) }
     {
@@ -102,21 +106,32 @@ impl KeyState {
             own: self.own,
             latest: self.latest,
             former: self.former,
-            roster: self.copied_roster(alloc)?,
+            roster: self.shared_roster()?,
             epochs: self.epochs,
-            numbers: self.numbers.clone()?,
+            numbers: self.shared_numbers()?,
             made: self.made,
             since_made: self.since_made,
             last_an: self.last_an,
         })
     }
 
-    /// A copy of the roster.
-    fn copied_roster(&self, alloc: Global) -> Result<Option<Vec<Mi>>, AllocError>
-        ensures { IfOk result (λ roster. option_map (λ v. v.items) roster ≡ self.now.roster) }
+    /// The roster, with one more owner.
+    fn shared_roster(&self) -> Result<Option<Rc<Vec<Mi>>>, AllocError>
+        ensures { IfOk result (λ roster. option_map (λ v. v.value.items) roster ≡ self.now.roster) }
     {
         match &self.roster {
-            Some(roster) => Ok(Some(Vec::from_slice(alloc, roster.as_slice())?)),
+            Some(roster) => Ok(Some(roster.clone()?)),
+            None => Ok(None),
+        }
+    }
+
+    /// The key numbers, with one more owner.
+    fn shared_numbers(&self) -> Result<Option<Rc<BTreeMap<Mi, u32>>>, AllocError>
+        ensures { IfOk result (λ numbers.
+            option_map_or (λ m. m.value.entries) numbers [] ≡ self.now.numbers) }
+    {
+        match &self.numbers {
+            Some(numbers) => Ok(Some(numbers.clone()?)),
             None => Ok(None),
         }
     }
@@ -438,11 +453,11 @@ impl KeyState {
     }
 
     /// A key is installed, with its roster where this life made it, and what changes is told.
-    fn install(&mut self, key: HeldKey, roster: Option<Vec<Mi>>) -> Result<Changes, AllocError>
+    fn install(&mut self, key: HeldKey, roster: Option<Rc<Vec<Mi>>>) -> Result<Changes, AllocError>
         requires few { self.old.epochs + 1 < 2 ^ 32 }
         ensures changes { IfOk result (λ c. c ≡ install_changes_now self.old key) }
         ensures installed { OnOk result
-            (IsInstalled self.old key (option_map (λ v. v.items) roster) self.new) }
+            (IsInstalled self.old key (option_map (λ v. v.value.items) roster) self.new) }
         ensures unchanged { OnErr result (self.new ≡ self.old) }
     {
         let changes = self.install_changes(&key)?;
@@ -495,7 +510,10 @@ impl KeyState {
     fn number_of(&self, server: &Mi) -> Option<u32>
         ensures { result ≡ number_in self.now.numbers server.now }
     {
-        match self.numbers.get(server) {
+        let Some(numbers) = &self.numbers else {
+            return None;
+        };
+        match numbers.get(server) {
             Some(number) => Some(*number),
             None => None,
         }
@@ -509,8 +527,20 @@ impl KeyState {
         ensures unchanged { OnErr result (self.new ≡ self.old) }
     {
         let kept = self.number_of(&id.server).unwrap_or(0);
-        self.numbers.insert(id.server, id.number.max(kept))?;
+        let mut numbers = self.copied_numbers()?;
+        numbers.insert(id.server, id.number.max(kept))?;
+        self.numbers = Some(Rc::new(self.alloc, numbers)?);
         Ok(())
+    }
+
+    /// A copy of the key numbers that no other state has.
+    fn copied_numbers(&self) -> Result<BTreeMap<Mi, u32>, AllocError>
+        ensures { IfOk result (λ copy. copy.entries ≡ self.now.numbers) }
+    {
+        match &self.numbers {
+            Some(numbers) => numbers.as_ref().clone(),
+            None => Ok(BTreeMap::new(self.alloc)),
+        }
     }
 
     /// Whether a station that is its own elected server makes a key now.
@@ -584,7 +614,7 @@ impl KeyState {
         ensures { result ≡ is_in_roster_now self.now mi.now }
     {
         match &self.roster {
-            Some(roster) => self.latest.is_some() && has(roster, mi),
+            Some(roster) => self.latest.is_some() && has(roster.as_slice(), mi),
             None => false,
         }
     }
@@ -608,15 +638,15 @@ impl KeyState {
     }
 
     /// The roster of a key that is made: the station itself and the live members.
-    fn made_roster(&self, live: &[Report]) -> Result<Vec<Mi>, AllocError>
-        ensures { IfOk result (λ v. v.items ≡ made_roster self.now.own live.now) }
+    fn made_roster(&self, live: &[Report]) -> Result<Rc<Vec<Mi>>, AllocError>
+        ensures { IfOk result (λ v. v.value.items ≡ made_roster self.now.own live.now) }
     {
         let mut roster = Vec::new(self.alloc);
         roster.push(self.own)?;
         for report in live {
             roster.push(report.mi)?;
         }
-        Ok(roster)
+        Ok(Rc::new(self.alloc, roster)?)
     }
 
     /// The association number of the next key that is made.
