@@ -47,7 +47,7 @@ pub fn rows_after_tick(alloc: Global, peers: &PeerTable) -> Result<Vec<Row>, All
 pub fn live_reports(alloc: Global, rows: &[Row]) -> Result<Vec<Report>, AllocError>
     ensures { IfOk result (λ reports. reports.items ≡ map report_of (live_rows rows.now)) }
 {
-    let mut reports = Vec::new(alloc);
+    let mut reports = Vec::with_capacity(alloc, rows.len())?;
     for row in rows {
         if row.live {
             reports.push(Report {
@@ -63,7 +63,7 @@ pub fn live_reports(alloc: Global, rows: &[Row]) -> Result<Vec<Report>, AllocErr
 pub fn live_candidates(alloc: Global, rows: &[Row]) -> Result<Vec<Candidate>, AllocError>
     ensures { IfOk result (λ candidates. candidates.items ≡ map candidate_in (live_rows rows.now)) }
 {
-    let mut candidates = Vec::new(alloc);
+    let mut candidates = Vec::with_capacity(alloc, rows.len())?;
     for row in rows {
         if row.live {
             candidates.push(Candidate {
@@ -80,7 +80,7 @@ pub fn live_candidates(alloc: Global, rows: &[Row]) -> Result<Vec<Candidate>, Al
 pub fn live_members(alloc: Global, rows: &[Row]) -> Result<Vec<Mi>, AllocError>
     ensures { IfOk result (λ members. members.items ≡ map (λ r. r.mi) (live_rows rows.now)) }
 {
-    let mut members = Vec::new(alloc);
+    let mut members = Vec::with_capacity(alloc, rows.len())?;
     for row in rows {
         if row.live {
             members.push(row.mi)?;
