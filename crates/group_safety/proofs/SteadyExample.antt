@@ -28,8 +28,7 @@ use Rattle.group_safety.specs.Stations.{mi_at, mi_of, keys_at, keys_of_life, ser
 use Rattle.group_safety.specs.Steady.{Begins, IsUnbroken, Trusts, IsListener}
 use Rattle.group_safety.specs.Steady.{IsKeeper, IsSteady}
 use Rattle.group_safety.specs.Time.{IsFlight, IsInTime, IsFound}
-use Rattle.group_safety.proofs.rollover.Flights.{FrameLaws}
-use Rattle.group_safety.proofs.rollover.Found.{hitless}
+use Rattle.group_safety.proofs.rollover.Found.{run-hitless}
 use Rattle.group_safety.proofs.once.Currents.{some-same}
 use Rattle.group_safety.proofs.rollover.Members.{by_sum}
 use Rattle.group_safety.proofs.example.Scene.{settings, IsGood, Lives, Scene}
@@ -615,10 +614,10 @@ in_time = inl (record {
 })
 
 -- the law on it
-pub found : FrameLaws → IsFound settings run 26 0 10 first_key
-found laws =
-    hitless laws settings users run legal.stepped unforged fresh 12 12 19 0 (id 1) (id 2) 0 steady
-    21 26 1 0 first_key 10 flight in_time
+pub found : IsFound settings run 26 0 10 first_key
+found =
+    run-hitless settings users run legal.stepped unforged fresh [] run 12 12 19 0 (id 1) (id 2) 0
+    21 26 1 0 first_key 10 refl steady flight in_time
 
 -- ---- what is refused
 

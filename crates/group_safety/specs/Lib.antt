@@ -1,11 +1,12 @@
 -- What a reader reads: one use of each packet number and one key under each identifier; then moments
--- and rounds of a run, what a station is then, steady rollovers, and frames in time for them; and
--- the summary of a run.
+-- and rounds of a run, what a station is then, steady rollovers, frames in time for them, and hitless
+-- rollover; and the summary of a run.
 pub mod Once
 pub mod Moments
 pub mod Rounds
 pub mod Stations
 pub mod Steady
 pub mod Time
+pub mod Hitless
 pub mod Summary
 pub mod inside

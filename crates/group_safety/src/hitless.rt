@@ -1,6 +1,6 @@
 //! Hitless rollover: each frame that is delivered in time meets an association that holds its key.
 
-ghost use Rattle.std.specs.Prelude.{◌≡◌, ◌<◌, ◌++◌, ◌+◌, ℕ, suc, List};
+ghost use Rattle.std.specs.Prelude.{◌≡◌, ◌<◌, ◌+◌, ℕ, suc, List};
 ghost use Rattle.lan_base.specs.declared.frame.UserFrame.{UserFrame};
 ghost use Rattle.lan_base.specs.declared.key_id.KeyId.{KeyId};
 ghost use Rattle.lan_base.specs.Timers.{retire_time};
@@ -12,32 +12,17 @@ ghost use Rattle.lan_core.specs.Fresh.{IsFresh, IsUnforged};
 ghost use Rattle.group_safety.specs.Moments.{upto};
 ghost use Rattle.group_safety.specs.Rounds.{rounds};
 ghost use Rattle.group_safety.specs.Steady.{IsKeeper, IsSteady};
-ghost use Rattle.group_safety.specs.Time.{IsFlight, IsFound, HasSaid, IsInTime};
+ghost use Rattle.group_safety.specs.Time.{IsFlight, IsFound, HasSaid};
+ghost use Rattle.group_safety.specs.Hitless.{Hitless};
 
-use gcm_frames::{law_protected_is_opened, law_protected_is_read};
-
-/// In every steady rollover, a frame that is delivered in time is found: it is answered, by a key that
-/// has its association number and its SAK. The run may go on.
+/// In every steady rollover, at each moment of a run, a frame that is delivered in time is found: it
+/// is answered, by a key that has its association number and its SAK.
 pub fn law_hitless()
-    ensures legal { (settings : Settings) (users : List UserFrame) (later run : Run)
-        (from q i server : ℕ) (old_id new_id : KeyId) (lag c d sender t : ℕ) (key : Key) (frame : ℕ)
-        → IsLegal settings users (later ++ run) → IsFresh (later ++ run)
-        → IsUnforged settings (later ++ run)
-        → IsSteady settings run from q i server old_id new_id lag
-        → IsFlight settings run c d sender t key frame
-        → IsInTime settings run from q i server old_id new_id lag c d sender t key
-        → IsFound settings run d t frame key }
-    ensures stepped { (settings : Settings) (users : List UserFrame) (run : Run)
-        (from q i server : ℕ) (old_id new_id : KeyId) (lag c d sender t : ℕ) (key : Key) (frame : ℕ)
-        → IsStepped settings users run → IsFresh run → IsUnforged settings run
-        → IsSteady settings run from q i server old_id new_id lag
-        → IsFlight settings run c d sender t key frame
-        → IsInTime settings run from q i server old_id new_id lag c d sender t key
-        → IsFound settings run d t frame key }
-{
-    law_protected_is_read();
-    law_protected_is_opened();
-}
+    ensures legal { (settings : Settings) (users : List UserFrame) (r : Run)
+        → IsLegal settings users r → IsFresh r → IsUnforged settings r → Hitless settings r }
+    ensures stepped { (settings : Settings) (users : List UserFrame) (r : Run)
+        → IsStepped settings users r → IsFresh r → IsUnforged settings r → Hitless settings r }
+{}
 
 /// In every steady rollover, any frame under the old key, whoever sent it and whenever it was claimed, is
 /// found where it reaches the server after the make, or a keeper after it reported the new key, less than
@@ -51,7 +36,4 @@ pub fn law_old_key_is_received()
         → HasSaid server t d (IsKeeper settings run i server old_id)
         → rounds from (upto d run) < rounds from (upto (suc i) run) + retire_time
         → IsFound settings run d t frame key }
-{
-    law_protected_is_read();
-    law_protected_is_opened();
-}
+{}

@@ -15,9 +15,10 @@ use Rattle.group_safety.proofs.rollover.KeyFacts.{received-installed, transmitti
 use Rattle.aes_block.specs.Secrets.{secret_octets}
 use Rattle.aes_block.specs.Aes.{IsKey as IsCipherKey}
 use Rattle.gcm_frames.specs.Protected.{IsSent, protected}
-use Rattle.gcm_frames.specs.Tags.{is_sec, tag_fields}
+use Rattle.gcm_frames.specs.Tags.{is_sec}
 use Rattle.gcm_frames.specs.Written.{tag_written}
-use Rattle.gcm_frames.specs.Sealed.{opened}
+use Rattle.gcm_frames.proofs.Reread.{reread}
+use Rattle.gcm_frames.proofs.Reopened.{reopened}
 use Rattle.rx_slots.specs.Histories.{Receiving, standing_key}
 use Rattle.rx_slots.specs.Numbers.{answer, accepted, admitted, is_late, next_number}
 use Rattle.rx_slots.specs.Answers.{checked}
@@ -44,6 +45,7 @@ use Rattle.lan_core.proofs.Numbered.{air-numbered}
 use Rattle.group_safety.specs.Moments.{upto, At}
 use Rattle.group_safety.specs.Stations.{keys_at}
 use Rattle.group_safety.specs.Time.{Claims, IsFlight, Answers}
+use Rattle.group_safety.proofs.once.Ciphers.{encrypts}
 use Rattle.group_safety.proofs.once.Living.{IsLiving}
 use Rattle.group_safety.proofs.once.Nexts.{in-get, get-less}
 use Rattle.group_safety.proofs.once.LiveHeard.{in-find}
@@ -134,24 +136,14 @@ answered-data : (window : ℕ) (past : List _) (sci : Sci) (an pn : ℕ) (body :
 answered-data window past sci an pn body =
     by_test (is_late window (next_number past an sci) pn) (λ t. rw t tt) (λ t. rw t tt)
 
--- the laws of protected frames that are asked for
-pub record FrameLaws : Type 0 where
-  pub is_read : (key : List ℕ) (sci : Sci) (an pn : ℕ) (conf : Bool) (user : UserFrame)
-      → IsCipherKey key → IsSent sci an pn user
-      → tag_fields (protected key sci an pn conf user) ≡ Ok (tag_written sci an pn conf user)
-  pub is_opened : (key : List ℕ) (sci : Sci) (an pn : ℕ) (conf : Bool) (user : UserFrame)
-      → IsCipherKey key → IsSent sci an pn user
-      → opened key (tag_written sci an pn conf user) (protected key sci an pn conf user)
-      ≡ Some user.body
-
-pub answers-it : FrameLaws → (own : Sci) (window : ℕ) (s : List Receiving) (sak : Secret)
+pub answers-it : (own : Sci) (window : ℕ) (s : List Receiving) (sak : Secret)
     (sci : Sci) (an pn : ℕ) (conf : Bool) (user : UserFrame)
     → IsCipherKey (secret_octets sak) → IsSent sci an pn user → standing_key s an ≡ Some sak
     → Answers (answer own window s (protected (secret_octets sak) sci an pn conf user))
-answers-it laws own window s sak sci an pn conf user key sent stands =
+answers-it own window s sak sci an pn conf user key sent stands =
     let octets = protected (secret_octets sak) sci an pn conf user in
-    let read = laws.is_read (secret_octets sak) sci an pn conf user key sent in
-    let open_it = laws.is_opened (secret_octets sak) sci an pn conf user key sent in
+    let read = reread (secret_octets sak) sci an pn conf user encrypts key sent in
+    let open_it = reopened (secret_octets sak) sci an pn conf user encrypts key sent in
     by_test (same_sci sci own)
     (λ t. let c : checked own (standing_key s) octets
     ≡ Rattle.rx_slots.specs.declared.arrival.Checked.TheVariants.Own = rw read (rw t refl) in

@@ -19,11 +19,13 @@ use Rattle.lan_core.specs.Lives.{Life, life, receiving, transmitting_at, keys_in
 use Rattle.lan_core.specs.Types.{IsSetting}
 use Rattle.lan_core.specs.Legal.{IsStepped}
 use Rattle.lan_core.specs.Fresh.{IsFresh, IsUnforged}
+use Rattle.lan_core.proofs.Fronts.{front-stepped, front-fresh, front-unforged}
 use Rattle.group_safety.specs.Moments.{upto}
 use Rattle.group_safety.specs.Rounds.{rounds}
 use Rattle.group_safety.specs.Stations.{keys_at}
 use Rattle.group_safety.specs.Steady.{IsKeeper, IsSteady}
 use Rattle.group_safety.specs.Time.{IsFlight, IsFound, Answers, HasSaid, IsInTime}
+use Rattle.group_safety.specs.Hitless.{Hitless}
 use Rattle.group_safety.specs.inside.Course.{Holds}
 use Rattle.group_safety.proofs.once.Living.{IsLiving, install_by}
 use Rattle.group_safety.proofs.once.RunLaws.{known, run-one_key}
@@ -37,7 +39,7 @@ use Rattle.group_safety.proofs.rollover.Lived.{kept-at}
 use Rattle.group_safety.proofs.rollover.Makers.{keys-of-life}
 use Rattle.group_safety.proofs.rollover.Timely.{held-old, held-new, soon-for-old}
 use Rattle.group_safety.proofs.rollover.Slots.{sak_under, ans-differ, under-is}
-use Rattle.group_safety.proofs.rollover.Flights.{FrameLaws, answers-it, slots-at, has-in, flight}
+use Rattle.group_safety.proofs.rollover.Flights.{answers-it, slots-at, has-in, flight}
 
 -- facts only add installs
 gather-more : (f : List Fact) (is : List Install) (i : Install) → In i is
@@ -55,7 +57,7 @@ installs-step : (x : Happening) (r : Run) (i : Install) → In i (ledgers.instal
 unfolding ledgers.installs
 installs-step x r i h = gather-more x.facts (ledgers.installs r) i h
 
-module _ (laws : FrameLaws) (settings : Settings) (users : List UserFrame) (run : Run)
+module _ (settings : Settings) (users : List UserFrame) (run : Run)
     (is : IsSetting settings) (stepped : IsStepped settings users run)
     (unforged : IsUnforged settings run) (fresh : IsFresh run) where
   installs-more : (n : ℕ) → n ≤ length run → (i : Install) → In i (ledgers.installs (upto n run))
@@ -112,7 +114,7 @@ module _ (laws : FrameLaws) (settings : Settings) (users : List UserFrame) (run 
       slots-at settings users run is stepped unforged fresh.mis d (omega arith) t key.an
       ∙ ap (λ an. sak_under an (received (keys_at settings t (upto d run)))) (sym one.1)
       ∙ ap (option_map (λ (w : Key). w.sak)) under ∙ ap Some one.0 in
-      let answered = answers-it laws l.member.setup.sci settings.window
+      let answered = answers-it l.member.setup.sci settings.window
       (receiving t (upto d run)) key.sak K.sci key.an K.pn key.conf K.user K.key_is K.sent
       stands in
       record {
@@ -177,7 +179,7 @@ setting-of settings users run from q i server old_id new_id lag stepped fresh S 
     (step-at settings users run stepped fresh.mis i S.begins.event S.begins.within
     S.begins.at).setting
 
-pub any-old-found : FrameLaws → (settings : Settings) (users : List UserFrame) (run : Run)
+pub any-old-found : (settings : Settings) (users : List UserFrame) (run : Run)
     → IsStepped settings users run → IsUnforged settings run → IsFresh run
     → (from q i server : ℕ) (old_id new_id : KeyId) (lag : ℕ)
     → IsSteady settings run from q i server old_id new_id lag
@@ -186,23 +188,24 @@ pub any-old-found : FrameLaws → (settings : Settings) (users : List UserFrame)
     → HasSaid server t d (IsKeeper settings run i server old_id)
     → rounds from (upto d run) < rounds from (upto (suc i) run) + retire_time
     → IsFound settings run d t frame key
-any-old-found laws settings users run stepped unforged fresh from q i server old_id new_id lag S c d
+any-old-found settings users run stepped unforged fresh from q i server old_id new_id lag S c d
     sender t key frame F named after who soon =
-    old-found laws settings users run
+    old-found settings users run
     (setting-of settings users run from q i server old_id new_id lag stepped fresh S) stepped
     unforged fresh
     from q i server old_id new_id lag S c d sender t key frame F named after who soon
 
-pub hitless : FrameLaws → (settings : Settings) (users : List UserFrame) (run : Run)
-    → IsStepped settings users run → IsUnforged settings run → IsFresh run
-    → (from q i server : ℕ) (old_id new_id : KeyId) (lag : ℕ)
-    → IsSteady settings run from q i server old_id new_id lag
-    → (c d sender t : ℕ) (key : Key) (frame : ℕ) → IsFlight settings run c d sender t key frame
-    → IsInTime settings run from q i server old_id new_id lag c d sender t key
-    → IsFound settings run d t frame key
-hitless laws settings users run stepped unforged fresh from q i server old_id new_id lag S c d
-    sender t key frame F T =
-    in-time-found laws settings users run
-    (setting-of settings users run from q i server old_id new_id lag stepped fresh S) stepped
-    unforged fresh
+-- over the run up to each of its moments
+pub run-hitless : (settings : Settings) (users : List UserFrame) (run : Run)
+    → IsStepped settings users run → IsUnforged settings run → IsFresh run → Hitless settings run
+run-hitless settings users run stepped unforged fresh later front from q i server old_id new_id lag
+    c d sender t key frame same S F T =
+    let stepped_then = front-stepped settings users later front
+    (subst (IsStepped settings users) same stepped) in
+    let unforged_then = front-unforged settings later front
+    (subst (IsUnforged settings) same unforged) in
+    let fresh_then = front-fresh later front (subst IsFresh same fresh) in
+    in-time-found settings users front
+    (setting-of settings users front from q i server old_id new_id lag stepped_then fresh_then S)
+    stepped_then unforged_then fresh_then
     from q i server old_id new_id lag S c d sender t key frame F T

@@ -1,14 +1,8 @@
-use Rattle.group_safety.proofs.rollover.Flights.{FrameLaws}
 use Rattle.group_safety.proofs.rollover.Found.{any-old-found}
 use Rattle.group_safety.proofs.hitless.law_old_key_is_received.Goals as goal
 
 pub returns : goal.returns
 returns c = λ settings users run from q i server old_id new_id lag n d sender t key frame stepped
     fresh unforged steady flight named after who soon.
-    let laws : FrameLaws = record {
-      is_read = c.law_protected_is_read.ensures;
-      is_opened =
-          c.law_protected_is_opened.ensures;
-    } in
-    any-old-found laws settings users run stepped unforged fresh from q i server old_id new_id lag
+    any-old-found settings users run stepped unforged fresh from q i server old_id new_id lag
     steady n d sender t key frame flight named after who soon
