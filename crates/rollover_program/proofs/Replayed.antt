@@ -7,6 +7,7 @@ use Rattle.lan_base.specs.Told.{before}
 use Rattle.lan_core.specs.declared.stop.Which.{Which}
 use Rattle.lan_core.specs.declared.stop.Which.TheVariants.{Input, Frames, Octets, Ticks, Keys, Stations}
 use Rattle.group_safety.proofs.once.RunLaws.{known, run-once, run-one_key}
+use Rattle.group_safety.proofs.rollover.Found.{run-hitless}
 use Rattle.lan_schedule.specs.declared.halt.Halt.{Halt}
 use Rattle.lan_schedule.specs.declared.halt.Halt.TheVariants as halts
 use Rattle.lan_schedule.specs.declared.halt.Kind.{Kind}
@@ -41,6 +42,7 @@ transcribed base now w shown =
       sound = s;
       once = run-once (settings w) w.kept.users w.run k s.fresh;
       one_key = run-one_key (settings w) w.kept.users w.run k s.fresh;
+      hitless = run-hitless (settings w) w.kept.users w.run s.legal.stepped s.unforged s.fresh;
       rendered = shown.written;
     }
 

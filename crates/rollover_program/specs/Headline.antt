@@ -2,6 +2,7 @@
 use Rattle.std.specs.Prelude.{◌≡◌, ℕ, List, Option}
 use Rattle.lan_base.specs.Told.{after}
 use Rattle.group_safety.specs.Once.{Once, OneKey}
+use Rattle.group_safety.specs.Hitless.{Hitless}
 use Rattle.lan_schedule.specs.declared.halt.Halt.{Halt}
 use Rattle.lan_schedule.specs.World.{World, settings}
 use Rattle.lan_schedule.specs.Sound.{IsSound}
@@ -11,11 +12,13 @@ use Rattle.lan_schedule.specs.Trace.{outcome}
 
 -- The run of a world is legal, what was drawn in it differs, nothing in it was forged, and few
 -- packet numbers are left out. No packet number is used twice under a key, and no key identifier
--- names two keys. The sink took the run's whole transcript.
+-- names two keys. In every steady rollover each frame that is delivered in time is found. The sink
+-- took the run's whole transcript.
 pub record IsTranscribed (w : World) (old new : Option (List ℕ)) : Type 0 where
   pub sound : IsSound (settings w) w.kept.users w.run
   pub once : Once w.run
   pub one_key : OneKey w.run
+  pub hitless : Hitless (settings w) w.run
   pub rendered : new ≡ after old (written w.run)
 
 -- these lines are performed to the end of the last
