@@ -1,15 +1,17 @@
 //! A fact is rendered.
 
-ghost use Rattle.std.specs.Prelude.{◌≡◌, ◌<◌, ℕ, List, [], ◌∷◌, ◌++◌, length, get_or, map, codes, OnOk, OnErr, slice_index};
+ghost use Rattle.std.specs.Prelude.{◌≡◌, ◌<◌, ℕ, List, [], ◌∷◌, ◌++◌, length, get_or, map, codes, decimal, OnOk, OnErr, slice_index};
 ghost use Rattle.std.specs.List.{flat_map};
 ghost use Rattle.hex.specs.Hex.{encode_lower, lower_digits};
-ghost use Rattle.transcript.specs.Words.{place, spelled, why_words, verdict_words, arrival_words, lack_words, cause_text, tag_text, frame_text};
+ghost use Rattle.aes_block.specs.Secrets.{secret_octets};
+ghost use Rattle.transcript.specs.Words.{place, spelled, server_word, why_words, verdict_words, arrival_words, lack_words, cause_text, tag_text, frame_text};
 ghost use Rattle.transcript.specs.Rendering.{rendered};
 ghost use Rattle.transcript.specs.inside.Appending.{Grew, word_text, line_of};
 
+use aes_block::Secret;
 use gcm_frames::TagRefusal;
 use itoa::Buffer;
-use lan_base::Name;
+use lan_base::{KeyId, Mi, Name, Octets};
 use lan_core::{Fact, Lack};
 use mka_station::Verdict;
 use rx_slots::Arrival;
@@ -48,173 +50,208 @@ fn put_fact<'a>(fact: &'a Fact, into: &mut Vec<u8>, names: &'a [Name]) -> Result
     ensures ok { OnOk result (into.new.items ≡ into.old.items ++ rendered names.now fact.now) }
     ensures err { OnErr result (Grew into.old.items into.new.items) }
 {
+    let name = name_at(names, place(fact));
     match fact {
-        Fact::Life { station, mi } => {
-            let name = name_at(names, *station);
-            put(into, b"life", &[name, Word::Octets(&mi.0)], &[])
-        }
-        Fact::Ticked { station, at, next } => put(
-            into,
-            b"tick",
-            &[
-                name_at(names, *station),
-                Word::Number(u64::from(*at)),
-                Word::Text(b"next"),
-                Word::Number(*next),
-            ],
-            &[],
-        ),
-        Fact::Server {
-            station,
-            mi: Some(mi),
-        } => {
-            let name = name_at(names, *station);
-            put(into, b"server", &[name, Word::Octets(&mi.0)], &[])
-        }
-        Fact::Server { station, mi: None } => {
-            let name = name_at(names, *station);
-            put(into, b"server", &[name, Word::Text(b"none")], &[])
-        }
-        Fact::Dropped { station, id, an } => put(
-            into,
-            b"drop",
-            &[
-                name_at(names, *station),
-                Word::Octets(&id.server.0),
-                Word::Number(u64::from(id.number)),
-                Word::Text(b"an"),
-                Word::Number(u64::from(*an)),
-            ],
-            &[],
-        ),
-        Fact::Retired { station, id, an } => put(
-            into,
-            b"retire",
-            &[
-                name_at(names, *station),
-                Word::Octets(&id.server.0),
-                Word::Number(u64::from(id.number)),
-                Word::Text(b"an"),
-                Word::Number(u64::from(*an)),
-            ],
-            &[],
-        ),
+        Fact::Life { mi, .. } => put(into, b"life", &[Word::Name(name), Word::Octets(&mi.0)], &[]),
+        Fact::Ticked { at, next, .. } => put_ticked(into, name, *at, *next),
+        Fact::Server { mi, .. } => put(into, b"server", &[Word::Name(name), server_word(mi)], &[]),
+        Fact::Dropped { id, an, .. } => put_key(into, b"drop", name, id, *an, &[]),
+        Fact::Retired { id, an, .. } => put_key(into, b"retire", name, id, *an, &[]),
         Fact::Began {
-            station,
             id,
             an,
             epoch,
             cause,
-        } => put(
-            into,
-            b"begin",
-            &[
-                name_at(names, *station),
-                Word::Octets(&id.server.0),
-                Word::Number(u64::from(id.number)),
-                Word::Text(b"an"),
-                Word::Number(u64::from(*an)),
-                Word::Text(b"epoch"),
-                Word::Number(u64::from(*epoch)),
-                Word::Text(cause_text(*cause)),
-            ],
-            &[],
-        ),
+            ..
+        } => put_began(into, name, id, *an, *epoch, *cause),
         Fact::Installed {
-            station,
             id,
             an,
             epoch,
             sak,
-        } => put(
-            into,
-            b"install",
-            &[
-                name_at(names, *station),
-                Word::Octets(&id.server.0),
-                Word::Number(u64::from(id.number)),
-                Word::Text(b"an"),
-                Word::Number(u64::from(*an)),
-                Word::Text(b"epoch"),
-                Word::Number(u64::from(*epoch)),
-                Word::Text(b"sak"),
-                Word::Octets(sak.octets()),
-            ],
-            &[],
-        ),
-        Fact::Untaken { station, id, why } => {
-            let head = [
-                name_at(names, *station),
-                Word::Octets(&id.server.0),
-                Word::Number(u64::from(id.number)),
-            ];
-            put_untaken(into, &head, *why)
-        }
+            ..
+        } => put_installed(into, name, id, *an, *epoch, sak),
+        Fact::Untaken { id, why, .. } => put_untaken(into, name, id, *why),
         Fact::Framed {
             number,
-            station,
             sec,
             octets,
-        } => put(
-            into,
-            b"frame",
-            &[
-                Word::Number(u64::from(*number)),
-                name_at(names, *station),
-                Word::Text(frame_text(*sec)),
-                Word::Octets(octets.as_slice()),
-            ],
-            &[],
-        ),
-        Fact::HeardMka {
-            frame,
-            station,
-            verdict,
-        } => {
-            let head = [Word::Number(u64::from(*frame)), name_at(names, *station)];
-            put_heard(into, &head, *verdict)
-        }
-        Fact::Claimed {
-            station,
-            an,
-            epoch,
-            pn,
-        } => put(
-            into,
-            b"claim",
-            &[
-                name_at(names, *station),
-                Word::Text(b"an"),
-                Word::Number(u64::from(*an)),
-                Word::Text(b"epoch"),
-                Word::Number(u64::from(*epoch)),
-                Word::Text(b"pn"),
-                Word::Number(u64::from(*pn)),
-            ],
-            &[],
-        ),
-        Fact::Unclaimed { station, why } => {
-            let head = [name_at(names, *station)];
-            put_unclaimed(into, &head, *why)
-        }
-        Fact::Arrived {
-            frame,
-            station,
-            arrival,
-        } => {
-            let head = [Word::Number(u64::from(*frame)), name_at(names, *station)];
-            put_arrived(into, &head, arrival)
-        }
+            ..
+        } => put_framed(into, *number, name, *sec, octets),
+        Fact::HeardMka { frame, verdict, .. } => put_heard(into, *frame, name, *verdict),
+        Fact::Claimed { an, epoch, pn, .. } => put_claimed(into, name, *an, *epoch, *pn),
+        Fact::Unclaimed { why, .. } => put_unclaimed(into, name, *why),
+        Fact::Arrived { frame, arrival, .. } => put_arrived(into, *frame, name, arrival),
     }
 }
 
-/// Appends the line of a key that is not taken, whose first words after `untaken` are given.
-fn put_untaken(into: &mut Vec<u8>, head: &[Word], why: Why) -> Result<(), AllocError>
+/// The place of the station that a fact speaks of.
+fn place(fact: &Fact) -> u8
+    ensures { result ≡ place fact.now }
+{
+    match fact {
+        Fact::Life { station, .. }
+        | Fact::Ticked { station, .. }
+        | Fact::Server { station, .. }
+        | Fact::Dropped { station, .. }
+        | Fact::Retired { station, .. }
+        | Fact::Began { station, .. }
+        | Fact::Installed { station, .. }
+        | Fact::Untaken { station, .. }
+        | Fact::Framed { station, .. }
+        | Fact::HeardMka { station, .. }
+        | Fact::Claimed { station, .. }
+        | Fact::Unclaimed { station, .. }
+        | Fact::Arrived { station, .. } => *station,
+    }
+}
+
+/// Appends the line of a tick of the station that is named.
+fn put_ticked(into: &mut Vec<u8>, name: &Name, at: u32, next: u64) -> Result<(), AllocError>
+    ensures ok { OnOk result (into.new.items ≡ into.old.items ++ line_of (codes "tick")
+        (name.now ∷ decimal at ∷ codes "next" ∷ decimal next ∷ [])) }
+    ensures err { OnErr result (Grew into.old.items into.new.items) }
+{
+    let at = Word::Number(u64::from(at));
+    let next = Word::Number(next);
+    put(
+        into,
+        b"tick",
+        &[Word::Name(name), at, Word::Text(b"next"), next],
+        &[],
+    )
+}
+
+/// Appends a line of a key: its first word, the station, the identifier, the AN, and further words.
+fn put_key<'a>(
+    into: &mut Vec<u8>,
+    first: &[u8],
+    name: &'a Name,
+    id: &'a KeyId,
+    an: u8,
+    tail: &[Word<'a>],
+) -> Result<(), AllocError>
+    ensures ok { OnOk result (into.new.items ≡ into.old.items ++ line_of first.now
+        (name.now ∷ encode_lower id.now.server.0 ∷ decimal id.now.number ∷ codes "an"
+        ∷ decimal an ∷ map word_text tail.now)) }
+    ensures err { OnErr result (Grew into.old.items into.new.items) }
+{
+    let server = Word::Octets(&id.server.0);
+    let number = Word::Number(u64::from(id.number));
+    let an = Word::Number(u64::from(an));
+    put(
+        into,
+        first,
+        &[Word::Name(name), server, number, Word::Text(b"an"), an],
+        tail,
+    )
+}
+
+/// Appends the line of a key that begins to transmit.
+fn put_began<'a>(
+    into: &mut Vec<u8>,
+    name: &'a Name,
+    id: &'a KeyId,
+    an: u8,
+    epoch: u32,
+    cause: Cause,
+) -> Result<(), AllocError>
+    ensures ok { OnOk result (into.new.items ≡ into.old.items ++ line_of (codes "begin")
+        (name.now ∷ encode_lower id.now.server.0 ∷ decimal id.now.number ∷ codes "an"
+        ∷ decimal an ∷ codes "epoch" ∷ decimal epoch ∷ cause_text cause ∷ [])) }
+    ensures err { OnErr result (Grew into.old.items into.new.items) }
+{
+    let epoch = Word::Number(u64::from(epoch));
+    let cause = Word::Text(cause_text(cause));
+    let tail = [Word::Text(b"epoch"), epoch, cause];
+    put_key(into, b"begin", name, id, an, &tail)
+}
+
+/// Appends the line of a key that is the latest one from now on.
+fn put_installed<'a>(
+    into: &mut Vec<u8>,
+    name: &'a Name,
+    id: &'a KeyId,
+    an: u8,
+    epoch: u32,
+    sak: &'a Secret,
+) -> Result<(), AllocError>
+    ensures ok { OnOk result (into.new.items ≡ into.old.items ++ line_of (codes "install")
+        (name.now ∷ encode_lower id.now.server.0 ∷ decimal id.now.number ∷ codes "an"
+        ∷ decimal an ∷ codes "epoch" ∷ decimal epoch ∷ codes "sak"
+        ∷ encode_lower (secret_octets sak.now) ∷ [])) }
+    ensures err { OnErr result (Grew into.old.items into.new.items) }
+{
+    let epoch = Word::Number(u64::from(epoch));
+    let sak = Word::Octets(sak.octets());
+    let tail = [Word::Text(b"epoch"), epoch, Word::Text(b"sak"), sak];
+    put_key(into, b"install", name, id, an, &tail)
+}
+
+/// Appends the line of a frame that is put on the air.
+fn put_framed<'a>(
+    into: &mut Vec<u8>,
+    number: u32,
+    name: &'a Name,
+    sec: bool,
+    octets: &'a Octets,
+) -> Result<(), AllocError>
+    ensures ok { OnOk result (into.new.items ≡ into.old.items ++ line_of (codes "frame")
+        (decimal number ∷ name.now ∷ frame_text sec ∷ encode_lower octets.now ∷ [])) }
+    ensures err { OnErr result (Grew into.old.items into.new.items) }
+{
+    let number = Word::Number(u64::from(number));
+    let kind = Word::Text(frame_text(sec));
+    let octets = Word::Octets(octets.as_slice());
+    put(
+        into,
+        b"frame",
+        &[number, Word::Name(name), kind, octets],
+        &[],
+    )
+}
+
+/// Appends the line of a packet number that the station claimed.
+fn put_claimed(
+    into: &mut Vec<u8>,
+    name: &Name,
+    an: u8,
+    epoch: u32,
+    pn: u32,
+) -> Result<(), AllocError>
+    ensures ok { OnOk result (into.new.items ≡ into.old.items ++ line_of (codes "claim")
+        (name.now ∷ codes "an" ∷ decimal an ∷ codes "epoch" ∷ decimal epoch ∷ codes "pn"
+        ∷ decimal pn ∷ [])) }
+    ensures err { OnErr result (Grew into.old.items into.new.items) }
+{
+    let an = Word::Number(u64::from(an));
+    let epoch = Word::Number(u64::from(epoch));
+    let pn = Word::Number(u64::from(pn));
+    let head = [
+        Word::Name(name),
+        Word::Text(b"an"),
+        an,
+        Word::Text(b"epoch"),
+        epoch,
+    ];
+    put(into, b"claim", &head, &[Word::Text(b"pn"), pn])
+}
+
+/// Appends the line of a key that is not taken.
+fn put_untaken<'a>(
+    into: &mut Vec<u8>,
+    name: &'a Name,
+    id: &'a KeyId,
+    why: Why,
+) -> Result<(), AllocError>
     ensures ok { OnOk result ((names : List (List ℕ)) → into.new.items ≡ into.old.items
-        ++ line_of (codes "untaken") (map word_text head.now ++ map (spelled names) (why_words why))) }
+        ++ line_of (codes "untaken") (name.now ∷ encode_lower id.now.server.0
+        ∷ decimal id.now.number ∷ map (spelled names) (why_words why))) }
     ensures err { OnErr result (Grew into.old.items into.new.items) }
 {
     let first = b"untaken";
+    let server = Word::Octets(&id.server.0);
+    let head = &[Word::Name(name), server, Word::Number(u64::from(id.number))];
     match why {
         Why::NotListed => put(into, first, head, &[Word::Text(b"notlisted")]),
         Why::NotServer => put(into, first, head, &[Word::Text(b"notserver")]),
@@ -229,13 +266,20 @@ fn put_untaken(into: &mut Vec<u8>, head: &[Word], why: Why) -> Result<(), AllocE
     }
 }
 
-/// Appends the line of a frame that was heard, whose first words after `heard` are given.
-fn put_heard(into: &mut Vec<u8>, head: &[Word], verdict: Verdict) -> Result<(), AllocError>
+/// Appends the line of a frame that was heard.
+fn put_heard(
+    into: &mut Vec<u8>,
+    frame: u32,
+    name: &Name,
+    verdict: Verdict,
+) -> Result<(), AllocError>
     ensures ok { OnOk result ((names : List (List ℕ)) → into.new.items ≡ into.old.items
-        ++ line_of (codes "heard") (map word_text head.now ++ map (spelled names) (verdict_words verdict))) }
+        ++ line_of (codes "heard") (decimal frame ∷ name.now
+        ∷ map (spelled names) (verdict_words verdict))) }
     ensures err { OnErr result (Grew into.old.items into.new.items) }
 {
     let first = b"heard";
+    let head = &[Word::Number(u64::from(frame)), Word::Name(name)];
     let dropped = Word::Text(b"drop");
     match verdict {
         Verdict::Vouched => put(into, first, head, &[Word::Text(b"vouched")]),
@@ -267,13 +311,14 @@ fn put_heard(into: &mut Vec<u8>, head: &[Word], verdict: Verdict) -> Result<(), 
     }
 }
 
-/// Appends the line of a packet number that is wanting, whose first words after `noclaim` are given.
-fn put_unclaimed(into: &mut Vec<u8>, head: &[Word], why: Lack) -> Result<(), AllocError>
+/// Appends the line of a packet number that is wanting.
+fn put_unclaimed(into: &mut Vec<u8>, name: &Name, why: Lack) -> Result<(), AllocError>
     ensures ok { OnOk result ((names : List (List ℕ)) → into.new.items ≡ into.old.items
-        ++ line_of (codes "noclaim") (map word_text head.now ++ map (spelled names) (lack_words why))) }
+        ++ line_of (codes "noclaim") (name.now ∷ map (spelled names) (lack_words why))) }
     ensures err { OnErr result (Grew into.old.items into.new.items) }
 {
     let first = b"noclaim";
+    let head = &[Word::Name(name)];
     match why {
         Lack::NoKey => put(into, first, head, &[Word::Text(b"nokey")]),
         Lack::Exhausted { epoch } => {
@@ -283,13 +328,20 @@ fn put_unclaimed(into: &mut Vec<u8>, head: &[Word], why: Lack) -> Result<(), All
     }
 }
 
-/// Appends the line of a protected frame that arrived, whose first words after `data` are given.
-fn put_arrived(into: &mut Vec<u8>, head: &[Word], arrival: &Arrival) -> Result<(), AllocError>
+/// Appends the line of a protected frame that arrived.
+fn put_arrived<'a>(
+    into: &mut Vec<u8>,
+    frame: u32,
+    name: &'a Name,
+    arrival: &'a Arrival,
+) -> Result<(), AllocError>
     ensures ok { OnOk result ((names : List (List ℕ)) → into.new.items ≡ into.old.items
-        ++ line_of (codes "data") (map word_text head.now ++ map (spelled names) (arrival_words arrival.now))) }
+        ++ line_of (codes "data") (decimal frame ∷ name.now
+        ∷ map (spelled names) (arrival_words arrival.now))) }
     ensures err { OnErr result (Grew into.old.items into.new.items) }
 {
     let first = b"data";
+    let head = &[Word::Number(u64::from(frame)), Word::Name(name)];
     match arrival {
         Arrival::Accepted { pn, body } => {
             let pn = Word::Number(u64::from(*pn));
@@ -310,6 +362,16 @@ fn put_arrived(into: &mut Vec<u8>, head: &[Word], arrival: &Arrival) -> Result<(
             let tail = [Word::Text(b"late"), Word::Number(*next)];
             put(into, first, head, &tail)
         }
+    }
+}
+
+/// The word that tells an elected server, or that there is none.
+fn server_word(mi: &Option<Mi>) -> Word<'_>
+    ensures { (names : List (List ℕ)) → word_text result ≡ spelled names (server_word mi.now) }
+{
+    match mi {
+        Some(mi) => Word::Octets(&mi.0),
+        None => Word::Text(b"none"),
     }
 }
 
@@ -345,11 +407,11 @@ fn frame_text(sec: bool) -> &'static [u8]
 }
 
 /// The name of the station at a place.
-fn name_at<'a>(names: &'a [Name], station: u8) -> Word<'a>
+fn name_at(names: &[Name], station: u8) -> &Name
     requires { station < length names.now }
-    ensures { word_text result ≡ get_or names.now station [] }
+    ensures { result.now ≡ get_or names.now station [] }
 {
-    Word::Name(&names[usize::from(station)])
+    &names[usize::from(station)]
 }
 
 /// Appends a line: its first word, and each further word behind a space.
