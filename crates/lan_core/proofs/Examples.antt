@@ -86,7 +86,7 @@ cut fact = fact
 
 -- ---- two stations start, and tick once
 
-abbrev two : List Move
+abbrev pub two : List Move
 two = starts 1 66 11 ∷ starts 0 65 10 ∷ []
 
 abbrev round : List Move
@@ -189,10 +189,10 @@ up_to_the_tick = refl
 
 -- ---- claims under a key
 
-abbrev id : ℕ → KeyId
+abbrev pub id : ℕ → KeyId
 id n = record { server = mi 1; number = n }
 
-abbrev sak : Secret
+abbrev pub sak : Secret
 sak = S128 (replicate 15 0 ++ 3 ∷ [])
 
 abbrev key : Key

@@ -1,5 +1,6 @@
 mod Examples
 mod Small
+mod Stopping
 mod First
 pub mod Quiet
 pub mod Fronts

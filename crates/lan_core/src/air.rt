@@ -1,12 +1,14 @@
 //! The air: every frame that was ever put there.
 
-ghost use Rattle.std.specs.Prelude.{◌≡◌, ◌≤◌, ◌+◌, ◌++◌, ◌∷◌, [], map, sum, length, option_map, IfOk, OnOk, OnErr, IfSome};
+ghost use Rattle.std.specs.Prelude.{◌≡◌, ◌≤◌, ◌+◌, ◌++◌, ◌∷◌, [], map, sum, length, option_map, option_to_list, IfOk, IfErr, OnOk, OnErr, IfSome};
 ghost use Rattle.std.specs.Option.{option_copied};
 ghost use Rattle.std.specs.List.{list_any};
+ghost use Rattle.lan_core.specs.declared.stop.Stop.TheVariants.{Memory};
 ghost use Rattle.lan_core.specs.Standing.{octets_at};
 ghost use Rattle.lan_core.specs.inside.Spellings.{repeats_octets};
 
 use crate::spellings::{Spellings, copied_spelling, spelling};
+use crate::stop::Stop;
 use lan_base::Octets;
 use std::alloc::{AllocError, Global};
 use std::marker::Model;
@@ -74,6 +76,19 @@ impl Air {
         Some(frame.as_slice())
     }
 
+    /// The number of the frame that is next put on the air.
+    pub fn next_number(&self) -> Result<u32, Stop>
+        ensures number { IfOk result (λ number. number ≡ length self.now + 1) }
+        ensures memory { IfErr result (λ stop. stop ≡ Memory) }
+    {
+        let frames = self.frames.len();
+        if frames < u32::MAX as usize {
+            Ok(frames as u32 + 1)
+        } else {
+            Err(Stop::Memory)
+        }
+    }
+
     /// Whether octets repeat a frame of the air, but for what stands after its body.
     pub fn repeats(&self, octets: &[u8]) -> Result<bool, AllocError>
         ensures { IfOk result (λ repeats. repeats ≡ list_any (repeats_octets octets.now) self.now) }
@@ -96,6 +111,19 @@ impl Air {
         self.spelled.add(spelling)?;
         self.frames.push(octets)?;
         self.octets = total;
+        Ok(())
+    }
+
+    /// Puts a copy of a frame on the air, if there is one. An error leaves the air as it was.
+    pub fn put(&mut self, sent: Option<&Octets>) -> Result<(), Stop>
+        ensures ok { OnOk result (self.new ≡ self.old ++ option_to_list (option_copied sent.entry)) }
+        ensures err { OnErr result (self.new ≡ self.old) }
+        ensures memory { IfErr result (λ stop. stop ≡ Memory) }
+    {
+        if let Some(octets) = sent {
+            let octets = octets.copied(self.alloc)?;
+            self.push(octets)?;
+        }
         Ok(())
     }
 

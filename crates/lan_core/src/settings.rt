@@ -1,11 +1,17 @@
 //! What holds for the whole group.
 
-ghost use Rattle.std.specs.Prelude.{◌≡◌, ◌<◌, ◌⊎◌, All};
+ghost use Rattle.std.specs.Prelude.{◌≡◌, ◌<◌, ◌⊎◌, All, IfOk, IfErr};
 ghost use Rattle.lan_base.specs.Ranges.{IsCkn};
+ghost use Rattle.aes_block.specs.Secrets.{secret_octets};
+ghost use Rattle.mka_kdf.specs.Kdf.{kek_of, ick_of};
+ghost use Rattle.lan_core.specs.declared.stop.Stop.TheVariants.{Memory};
 ghost use Rattle.lan_core.specs.Types.{IsSecret, IsSetting};
 
+use crate::stop::Stop;
 use aes_block::Secret;
 use lan_base::Octets;
+use mka_kdf::Group;
+use std::alloc::Global;
 
 /// What holds for the whole group.
 #[derive(Debug, Drop)]
@@ -50,3 +56,16 @@ fn law_a_key_has_its_length(secret: &Secret)
 fn law_octets_are_small(octets: &[u8])
     ensures { All (λ octet. octet < 256) octets.now }
 {}
+
+/// The keys that the connectivity association key gives.
+pub fn group_of(alloc: Global, settings: &Settings) -> Result<Group, Stop>
+    ensures ckn { IfOk result (λ group. group.ckn ≡ settings.now.ckn) }
+    ensures kek { IfOk result (λ group. group.kek ≡ kek_of (secret_octets settings.now.cak) settings.now.ckn) }
+    ensures ick { IfOk result (λ group. group.ick ≡ ick_of (secret_octets settings.now.cak) settings.now.ckn) }
+    ensures memory { IfErr result (λ stop. stop ≡ Memory) }
+{
+    match Group::of(alloc, settings.cak, settings.ckn.as_slice()) {
+        Ok(group) => Ok(group),
+        Err(_) => Err(Stop::Memory),
+    }
+}

@@ -5,7 +5,7 @@ use Rattle.aes_block.specs.Secrets.{secret_octets}
 use Rattle.gcm_frames.specs.Protected.{protected}
 use Rattle.sak_exchange.specs.Held.{transmitting}
 use Rattle.lan_core.specs.Lives.{keys_in}
-use Rattle.lan_core.proofs.lan.sealed.Goals as goal
+use Rattle.lan_core.proofs.lan.traffic.sealed.Goals as goal
 
 pub returns-in-Some-clause-octets : goal.returns-in-Some-clause-octets
 returns-in-Some-clause-octets c window l h given sits least is body =

@@ -2,7 +2,7 @@ use Rattle.std.proofs.Common.{◌≡◌, true, false, inr, refl, sym}
 use Rattle.std.specs.List.{list_any}
 use Rattle.lan_core.specs.inside.Spellings.{repeats_octets}
 use Rattle.lan_core.proofs.Forgery.{forged-is, are-forged, not-right, not-new}
-use Rattle.lan_core.proofs.lan.judge_forgery.Goals as goal
+use Rattle.lan_core.proofs.lan.stopping.judge_forgery.Goals as goal
 
 pub returns : goal.returns
 returns c r put exists =

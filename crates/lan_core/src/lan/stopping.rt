@@ -1,0 +1,126 @@
+//! What stops a group: a limit, a draw that repeats, foreign octets that are forged.
+
+ghost use Rattle.std.specs.Prelude.{◌≡◌, ◌+◌, ◌++◌, ◌⊎◌, map, sum, length, option_and_then, option_to_list, IfOk, OnOk, IfErr};
+ghost use Rattle.std.specs.Option.{option_copied};
+ghost use Rattle.mka_station.specs.Drawing.{draws_for};
+ghost use Rattle.lan_core.specs.declared.event.Event.TheVariants as events;
+ghost use Rattle.lan_core.specs.declared.stop.Stop.{Stop};
+ghost use Rattle.lan_core.specs.declared.stop.Stop.TheVariants.{RepeatedDraw};
+ghost use Rattle.lan_core.specs.Run.{Run};
+ghost use Rattle.lan_core.specs.Ledgers.{air as air_after};
+ghost use Rattle.lan_core.specs.Order.{Exists};
+ghost use Rattle.lan_core.specs.Stops.{stop_of_forgery};
+ghost use Rattle.lan_core.specs.Standing.{in_order, number_of_mi, number_of_sak};
+ghost use Rattle.lan_core.specs.inside.Steps.{Judges, MiIsNoted, IfNoted, stop_of};
+
+use super::Lan;
+use crate::air::Air;
+use crate::drawn::Drawn;
+use crate::judging::is_right;
+use crate::limits::Extent;
+use crate::settings::{Settings, group_of};
+use crate::stop::Stop;
+use aes_block::Secret;
+use lan_base::{Mi, Octets};
+use std::alloc::Global;
+
+/// How many bits a key has that takes two draws.
+const WIDE: u16 = 256;
+
+impl Lan {
+    /// How far the group comes with a frame more, if there is one, with so many ticks, and with so many
+    /// installs at a station.
+    pub(super) fn extent(
+        &self,
+        sent: Option<&Octets>,
+        ticks: u32,
+        installs: u32,
+    ) -> Result<Extent, Stop>
+        ensures extent { let frames = self.now.air ++ option_to_list (option_copied sent.entry) in
+            IfOk result (λ e. e ≡ record {
+              frames = length frames;
+              octets = sum (map length frames);
+              ticks = ticks;
+              installs = installs;
+              stations = length self.now.names;
+            }) }
+        ensures memory { IfErr result (λ stop. stop ≡ Stop.Memory) }
+    {
+        let (frames, octets) = match sent {
+            Some(octets) => (1, octets.len() as u64),
+            None => (0, 0),
+        };
+        Ok(Extent {
+            frames: self.air.len().checked_add(frames).ok_or(Stop::Memory)?,
+            octets: self.air.octets().checked_add(octets).ok_or(Stop::Memory)?,
+            ticks,
+            installs,
+            stations: self.names.len(),
+        })
+    }
+}
+
+/// Foreign octets that are forged stop the group, where there is a station that they reached.
+pub fn judge_forgery(
+    alloc: Global,
+    settings: &Settings,
+    air: &Air,
+    station: u8,
+    octets: &[u8],
+) -> Result<(), Stop>
+    ensures { (r : Run) → air.now ≡ in_order (air_after r) → Exists station r
+        → Judges (stop_of_forgery settings.now r (events.Inject station octets.now)) result }
+{
+    let group = group_of(alloc, settings)?;
+    if !is_right(alloc, &group, octets)? {
+        return Ok(());
+    }
+    if air.repeats(octets)? {
+        return Ok(());
+    }
+    Err(Stop::Forged { station })
+}
+
+/// A member identifier is drawn. One that was drawn before stops the group.
+pub fn note_mi(drawn: &mut Drawn, mi: Mi) -> Result<(), Stop>
+    ensures judges { Judges (stop_of drawn.old (number_of_mi drawn.old mi)) result }
+    ensures noted { OnOk result (MiIsNoted drawn.old drawn.new mi) }
+{
+    if let Some(first) = drawn.number_of_mi(&mi) {
+        return Err(repeated(first, drawn.count()));
+    }
+    drawn.note_mi(mi)?;
+    Ok(())
+}
+
+/// A key is drawn, if one was made. One that was drawn before stops the group.
+pub fn note_sak(drawn: &mut Drawn, suite: u16, sak: Option<Secret>) -> Result<(), Stop>
+    ensures judges { Judges (stop_of drawn.old (option_and_then (number_of_sak drawn.old) sak)) result }
+    ensures noted { OnOk result (IfNoted (draws_for suite) drawn.old drawn.new sak) }
+{
+    let Some(sak) = sak else {
+        return Ok(());
+    };
+    if let Some(first) = drawn.number_of_sak(&sak) {
+        return Err(repeated(first, drawn.count()));
+    }
+    drawn.note_sak(&sak, draws_for(suite))?;
+    Ok(())
+}
+
+/// How many draws a key takes.
+fn draws_for(suite: u16) -> u64
+    ensures { result ≡ draws_for suite }
+{
+    if suite == WIDE { 2 } else { 1 }
+}
+
+/// The draw after so many repeats this one.
+fn repeated(first: u64, count: u64) -> Stop
+    ensures { (result ≡ Stop.Memory) ⊎ (result ≡ RepeatedDraw first (count + 1)) }
+{
+    match count.checked_add(1) {
+        Some(second) => Stop::RepeatedDraw { first, second },
+        None => Stop::Memory,
+    }
+}

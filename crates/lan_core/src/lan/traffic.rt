@@ -1,0 +1,166 @@
+//! What comes over the air, and what is sent: deliveries, foreign octets, claims, emissions.
+
+ghost use Rattle.std.specs.Prelude.{◌≡◌, ◌≤◌, ◌++◌, List, ℕ, Some, None, Option, option_map, option_to_list, IfOk, OnOk, OnErr};
+ghost use Rattle.std.specs.Option.{option_copied};
+ghost use Rattle.lan_base.specs.declared.frame.UserFrame.{UserFrame};
+ghost use Rattle.lan_base.specs.Ranges.{IsUserData};
+ghost use Rattle.aes_block.specs.Secrets.{secret_octets};
+ghost use Rattle.gcm_frames.specs.Protected.{protected};
+ghost use Rattle.sak_exchange.specs.Held.{transmitting};
+ghost use Rattle.rx_slots.specs.Histories.{Receiving};
+ghost use Rattle.lan_core.specs.declared.event.Event.TheVariants as events;
+ghost use Rattle.lan_core.specs.declared.settings.Settings.{Settings};
+ghost use Rattle.lan_core.specs.Run.{Run};
+ghost use Rattle.lan_core.specs.Lives.{Life, keys_in};
+ghost use Rattle.lan_core.specs.Stops.{MayCome};
+ghost use Rattle.lan_core.specs.Standing.{StandsFor, Sits};
+ghost use Rattle.lan_core.specs.inside.Steps.{Answers, claim_shown};
+
+use super::Lan;
+use super::stopping::judge_forgery;
+use crate::fact::{Fact, Facts, Lack};
+use crate::limits::{MOST_INJECTED, judge_installs};
+use crate::member::Member;
+use crate::stop::Stop;
+use crate::telling::one;
+use crate::waiting::{Queue, Sealed};
+use lan_base::{Octets, UserFrame, is_user_data};
+use sak_exchange::HeldKey;
+use std::alloc::AllocError;
+
+impl Lan {
+    /// A frame of the air reaches a station.
+    pub(super) fn deliver(&mut self, frame: u32, station: u8) -> Result<Facts, Stop>
+        ensures answers { (settings : Settings) (users : List UserFrame) (r : Run) (nth : ℕ → Option (List ℕ))
+            → StandsFor settings users self.old r
+            → MayCome settings users r None (events.Deliver frame station)
+            → Answers settings users r (events.Deliver frame station) nth nth self.new result }
+        ensures shown { OnErr result ((self.new.air ≡ self.old.air) × (self.new.names ≡ self.old.names)) }
+    {
+        let Some(octets) = self.air.frame(frame) else {
+            return Ok(Facts::new(self.alloc));
+        };
+        let Some(came) = self.members.reach(station, frame, octets)? else {
+            return Ok(Facts::new(self.alloc));
+        };
+        judge_installs(came.installs)?;
+        Ok(came.facts)
+    }
+
+    /// A station protects a user frame, or gets no packet number.
+    pub(super) fn claim(
+        &mut self,
+        station: u8,
+        pn: u32,
+        user: Option<&UserFrame>,
+    ) -> Result<Facts, Stop>
+        ensures answers { (settings : Settings) (users : List UserFrame) (r : Run) (nth : ℕ → Option (List ℕ)) (number : ℕ)
+            → StandsFor settings users self.old r
+            → MayCome settings users r (option_copied user.entry) (events.Claim station number pn)
+            → Answers settings users r (events.Claim station number pn) nth nth self.new result }
+        ensures shown { OnErr result ((self.new.air ≡ self.old.air) × (self.new.names ≡ self.old.names)) }
+    {
+        let Some(member) = self.members.get(station) else {
+            return Ok(Facts::new(self.alloc));
+        };
+        let key = member.transmitting();
+        let octets = sealed(member, pn, user)?;
+        let facts = one(self.alloc, claim_fact(station, pn, key))?;
+        wait(&mut self.waiting, station, octets)?;
+        Ok(facts)
+    }
+
+    /// The oldest frame that waits is put on the air.
+    pub(super) fn emit(&mut self) -> Result<Facts, Stop>
+        ensures answers { (settings : Settings) (users : List UserFrame) (r : Run) (nth : ℕ → Option (List ℕ))
+            → StandsFor settings users self.old r → MayCome settings users r None events.Emit
+            → Answers settings users r events.Emit nth nth self.new result }
+        ensures shown { OnErr result ((self.new.air ≡ self.old.air) × (self.new.names ≡ self.old.names)) }
+    {
+        let number = self.air.next_number()?;
+        let Some(frame) = self.waiting.pop() else {
+            return Ok(Facts::new(self.alloc));
+        };
+        self.extent(Some(&frame.octets), self.ticks, 0)?.judge()?;
+        let octets = frame.octets.copied(self.alloc)?;
+        let facts = one(
+            self.alloc,
+            Fact::Framed {
+                number,
+                station: frame.station,
+                sec: true,
+                octets,
+            },
+        )?;
+        self.air.push(frame.octets)?;
+        Ok(facts)
+    }
+
+    /// Foreign octets reach a station.
+    pub(super) fn inject(&mut self, station: u8, octets: &[u8]) -> Result<Facts, Stop>
+        ensures answers { (settings : Settings) (users : List UserFrame) (r : Run) (nth : ℕ → Option (List ℕ))
+            → StandsFor settings users self.old r
+            → MayCome settings users r None (events.Inject station octets.now)
+            → Answers settings users r (events.Inject station octets.now) nth nth self.new result }
+        ensures shown { OnErr result ((self.new.air ≡ self.old.air) × (self.new.names ≡ self.old.names)) }
+    {
+        if octets.len() > MOST_INJECTED {
+            return Ok(Facts::new(self.alloc));
+        }
+        let Some(came) = self.members.reach(station, 0, octets)? else {
+            return Ok(Facts::new(self.alloc));
+        };
+        judge_installs(came.installs)?;
+        judge_forgery(self.alloc, &self.settings, &self.air, station, octets)?;
+        Ok(came.facts)
+    }
+}
+
+/// What a claim shows at a station that transmits under this key.
+fn claim_fact(station: u8, pn: u32, key: Option<HeldKey>) -> Fact
+    ensures { result ≡ claim_shown station pn key }
+{
+    let Some(key) = key else {
+        return Fact::Unclaimed {
+            station,
+            why: Lack::NoKey,
+        };
+    };
+    if pn == 0 {
+        return Fact::Unclaimed {
+            station,
+            why: Lack::Exhausted { epoch: key.epoch },
+        };
+    }
+    Fact::Claimed {
+        station,
+        an: key.an,
+        epoch: key.epoch,
+        pn,
+    }
+}
+
+/// The frame of a claim that got a packet number, protected under the key that transmits.
+fn sealed(member: &Member, pn: u32, user: Option<&UserFrame>) -> Result<Option<Octets>, AllocError>
+    ensures none { pn ≡ 0 → IfOk result (λ octets. octets ≡ None) }
+    ensures octets { (window : ℕ) (l : Life) (h : List Receiving) (given : UserFrame) → Sits window l h member.now
+        → 1 ≤ pn → option_copied user.entry ≡ Some given → IsUserData given.body
+        → IfOk result (λ octets. octets ≡ option_map (λ k. protected (secret_octets k.sak)
+        l.member.setup.sci k.an pn k.conf given) (transmitting (keys_in l))) }
+{
+    match user {
+        Some(user) if pn > 0 && is_user_data(user.body.as_slice()) => member.protected(pn, user),
+        _ => Ok(None),
+    }
+}
+
+/// A station's frame waits to be put on the air, if there is one.
+fn wait(waiting: &mut Queue, station: u8, octets: Option<Octets>) -> Result<(), AllocError>
+    ensures { OnOk result (waiting.new ≡ waiting.old ++ option_to_list
+        (option_map (λ octets. record { station = station; octets = octets }) octets)) }
+{
+    if let Some(octets) = octets {
+        waiting.push(Sealed { station, octets })?;
+    }
+    Ok(())
+}
