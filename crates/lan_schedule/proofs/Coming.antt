@@ -1,5 +1,7 @@
 -- What can be performed in a tidy world.
-use Rattle.std.proofs.Common.{◌≡◌, ◌<◌, ◌≤◌, ◌≢◌, ℕ, zero, suc, ◌+◌, ◌-◌, ◌==◌, Bool, true, false, List, [], ◌∷◌, ◌++◌, length, Option, Some, None, inl, inr, refl, sym, ap, ◌∙◌, subst, length-append, arith}
+use Rattle.std.proofs.Common.{◌≡◌, ◌<◌, ◌≤◌, ◌≢◌, ℕ, zero, suc, ◌+◌, ◌-◌, ◌==◌, Bool, true, false}
+use Rattle.std.proofs.Common.{List, [], ◌∷◌, ◌++◌, length, Option, Some, None, inl, inr, refl, sym}
+use Rattle.std.proofs.Common.{ap, ◌∙◌, subst, length-append, arith}
 use Rattle.std.specs.Prelude.{Result, Ok, Err, cond, map, max, is_some, nat_lt, nat_le}
 use Rattle.std.specs.List.{find, filter}
 use Rattle.lan_base.specs.declared.frame.UserFrame.{UserFrame}
@@ -17,13 +19,17 @@ use Rattle.lan_core.specs.Lives.{transmitting_at}
 use Rattle.lan_schedule.specs.declared.frames.Put.{Put}
 use Rattle.lan_schedule.specs.declared.halt.Halt.{Halt}
 use Rattle.lan_schedule.specs.declared.halt.Kind.{Kind}
-use Rattle.lan_schedule.specs.World.{World, Kept, count, settings, sender, mark, marked_at, with_mark}
+use Rattle.lan_schedule.specs.World.{World, Kept, count, settings, sender, mark, marked_at}
+use Rattle.lan_schedule.specs.World.{with_mark}
 use Rattle.lan_schedule.specs.Settings.{lag_of}
 use Rattle.lan_schedule.specs.Numbers.{shown_next}
 use Rattle.lan_core.specs.Unstopped.{next_under}
 use Rattle.lan_schedule.specs.Answers.{answer}
-use Rattle.lan_schedule.specs.Acts.{Act, nothing, refuse, happen, change, seq, look, perform, Outcome, Goes, Stops, shown, and_then, each, span, times, unless, world_after}
-use Rattle.lan_schedule.specs.Lines.{tick, round, pass, to_others, spread, is_passed_by, is_due, due_of, due, begin_round, flow_round}
+use Rattle.lan_schedule.specs.Acts.{Act, nothing, refuse, happen, change, seq, look, perform}
+use Rattle.lan_schedule.specs.Acts.{Outcome, Goes, Stops, shown, and_then, each, span, times}
+use Rattle.lan_schedule.specs.Acts.{unless, world_after}
+use Rattle.lan_schedule.specs.Lines.{tick, round, pass, to_others, spread, is_passed_by, is_due}
+use Rattle.lan_schedule.specs.Lines.{due_of, due, begin_round, flow_round}
 use Rattle.lan_schedule.specs.Sound.{IsTidy, numbers_of}
 use Rattle.lan_schedule.specs.inside.Comes.{Comes, IsGoing}
 
@@ -42,23 +48,32 @@ pub later-self : (w : World) → IsLater w w
 later-self w = record { count = omega arith; frames = λ number there. there }
 
 pub later-later : (w v u : World) → IsLater w v → IsLater v u → IsLater w u
-later-later w v u f g = record { count = omega (arith, f.count, g.count); frames = λ number there. g.frames number (f.frames number there) }
+later-later w v u f g = record {
+  count = omega (arith, f.count, g.count);
+  frames =
+      λ number there. g.frames number (f.frames number there);
+}
 
-pub find-more : {A : Type 0} (p : A → Bool) (x : A) (xs : List A) → is_some (find p xs) ≡ true → is_some (find p (x ∷ xs)) ≡ true
+pub find-more : {A : Type 0} (p : A → Bool) (x : A) (xs : List A) → is_some (find p xs) ≡ true
+    → is_some (find p (x ∷ xs)) ≡ true
 find-more p x xs there = by (p x) where
   by : (b : Bool) → is_some (cond b (Some x) (find p xs)) ≡ true
   by true = refl
   by false = there
 
-find-one : {A : Type 0} (p : A → Bool) (o : Option A) (xs : List A) → is_some (find p xs) ≡ true → is_some (find p (with_one o xs)) ≡ true
+find-one : {A : Type 0} (p : A → Bool) (o : Option A) (xs : List A) → is_some (find p xs) ≡ true
+    → is_some (find p (with_one o xs)) ≡ true
 find-one p None xs there = there
 find-one p (Some x) xs there = find-more p x xs there
 
-find-gather : {A : Type 0} (p : A → Bool) (read : Fact → Option A) (facts : List Fact) (xs : List A) → is_some (find p xs) ≡ true → is_some (find p (gather read facts xs)) ≡ true
+find-gather : {A : Type 0} (p : A → Bool) (read : Fact → Option A) (facts : List Fact) (xs : List A)
+    → is_some (find p xs) ≡ true → is_some (find p (gather read facts xs)) ≡ true
 find-gather p read [] xs there = there
-find-gather p read (fact ∷ others) xs there = find-gather p read others (with_one (read fact) xs) (find-one p (read fact) xs there)
+find-gather p read (fact ∷ others) xs there =
+    find-gather p read others (with_one (read fact) xs) (find-one p (read fact) xs there)
 
-later-event : (w : World) (event : Event) (facts : List Fact) → IsLater w (world_after w event facts)
+later-event : (w : World) (event : Event) (facts : List Fact)
+    → IsLater w (world_after w event facts)
 unfolding stations air
 later-event w event facts = record {
   count = let e = length-append (stations w.run) (started event) in omega arith;
@@ -68,12 +83,15 @@ later-event w event facts = record {
 goes-world : (w v : World) → Goes w ≡ Goes v → IsLater w v
 goes-world w v e = let same : w ≡ v = cc in subst (λ (u : World). IsLater w u) same (later-self w)
 
-later-shown : (w v : World) (event : Event) (r : Result (List Fact) Halt) → shown w event r ≡ Goes v → IsLater w v
+later-shown : (w v : World) (event : Event) (r : Result (List Fact) Halt) → shown w event r ≡ Goes v
+    → IsLater w v
 later-shown w v event (Ok facts) e =
-    let same : world_after w event facts ≡ v = cc in subst (λ (u : World). IsLater w u) same (later-event w event facts)
+    let same : world_after w event facts
+    ≡ v = cc in subst (λ (u : World). IsLater w u) same (later-event w event facts)
 later-shown w v event (Err halt) e = absurd (let bad : Stops w halt ≡ Goes v = e in cc)
 
-later-both : (w v : World) (out : Outcome) (g : World → Outcome) → ((u : World) → out ≡ Goes u → IsLater w u)
+later-both : (w v : World) (out : Outcome) (g : World → Outcome)
+    → ((u : World) → out ≡ Goes u → IsLater w u)
     → ((u : World) → g u ≡ Goes v → IsLater u v) → and_then out g ≡ Goes v → IsLater w v
 later-both w v (Goes u) g first second e = later-later w u v (first u refl) (second u e)
 later-both w v (Stops u halt) g first second e = absurd (cc e)
@@ -84,23 +102,29 @@ later (refuse kind) w v e = absurd (cc e)
 later (happen event) w v e = later-shown w v event (answer w event) e
 later (change f) w v e =
     let same : record w { kept = f w.kept } ≡ v = cc in
-    subst (λ (u : World). IsLater w u) same (record { count = omega arith; frames = λ number there. there })
-later (seq f g) w v e = later-both w v (perform f w) (λ u. perform g u) (λ u first. later f w u first) (λ u second. later g u v second) e
+    subst (λ (u : World). IsLater w u) same
+    (record { count = omega arith; frames = λ number there. there })
+later (seq f g) w v e = later-both w v (perform f w) (λ u. perform g u)
+    (λ u first. later f w u first) (λ u second. later g u v second) e
 later (look f) w v e = later (f w) w v e
 
 -- ---- many acts
 
-pub is-going : (out : Outcome) (P : World → Type 0) → ((v : World) → out ≡ Goes v → P v) → IsGoing out P
+pub is-going : (out : Outcome) (P : World → Type 0) → ((v : World) → out ≡ Goes v → P v)
+    → IsGoing out P
 is-going (Goes v) P h = h v refl
 is-going (Stops v halt) P h = tt
 
 pub comes-span : (act : ℕ → Act) (i n : ℕ) (w : World) → IsTidy w
-    → ((k : ℕ) (v : World) → k < i + n → IsLater w v → IsTidy v → Comes (act k) v) → Comes (span act i n) w
+    → ((k : ℕ) (v : World) → k < i + n → IsLater w v → IsTidy v → Comes (act k) v)
+    → Comes (span act i n) w
 comes-span act i zero w tidy h = tt
 comes-span act i (suc n) w tidy h = (
   h i w (omega arith) (later-self w) tidy,
   is-going (perform (act i) w) (λ v. IsTidy v → Comes (span act (suc i) n) v) (λ v e tidy_v.
-      comes-span act (suc i) n v tidy_v (λ k u lt l tidy_u. h k u (omega arith) (later-later w v u (later (act i) w v e) l) tidy_u)),
+      comes-span act (suc i) n v tidy_v
+      (λ k u lt l tidy_u. h k u (omega arith) (later-later w v u (later (act i) w v e) l)
+      tidy_u)),
 )
 
 -- each has a property
@@ -108,13 +132,15 @@ abbrev pub AllHave : {A : Type 0} → (A → Type 0) → List A → Type 0
 AllHave P [] = Unit {0}
 AllHave P (x ∷ xs) = P x × AllHave P xs
 
-pub comes-each : {A : Type 0} (P : A → Type 0) (act : A → Act) (xs : List A) (w : World) → IsTidy w → AllHave P xs
+pub comes-each : {A : Type 0} (P : A → Type 0) (act : A → Act) (xs : List A) (w : World) → IsTidy w
+    → AllHave P xs
     → ((x : A) (v : World) → P x → IsLater w v → IsTidy v → Comes (act x) v) → Comes (each act xs) w
 comes-each P act [] w tidy all h = tt
 comes-each P act (x ∷ xs) w tidy all h = (
   h x w all.0 (later-self w) tidy,
   is-going (perform (act x) w) (λ v. IsTidy v → Comes (each act xs) v) (λ v e tidy_v.
-      comes-each P act xs v tidy_v all.1 (λ y u py l tidy_u. h y u py (later-later w v u (later (act x) w v e) l) tidy_u)),
+      comes-each P act xs v tidy_v all.1
+      (λ y u py l tidy_u. h y u py (later-later w v u (later (act x) w v e) l) tidy_u)),
 )
 
 -- ---- ticks
@@ -124,21 +150,28 @@ unfolding next
 one-at-least settings s epoch [] = omega arith
 one-at-least settings s epoch (x ∷ r) = let h = one-at-least settings s epoch r in omega arith
 
-next-shown : (settings : Settings) (s : ℕ) (r : Run) (k : Option Key) → IsNextShown settings s r (next_under settings s r k) k
+next-shown : (settings : Settings) (s : ℕ) (r : Run) (k : Option Key)
+    → IsNextShown settings s r (next_under settings s r k) k
 next-shown settings s r None = refl
 next-shown settings s r (Some k) = (one-at-least settings s k.epoch r, omega arith)
 
 pub comes-tick : (s : ℕ) (w : World) → s < count w → Comes (tick s) w
-comes-tick s w lt = ((lt, next-shown (settings w) s w.run (transmitting_at (settings w) s w.run)), refl)
+comes-tick s w lt = (
+  (lt, next-shown (settings w) s w.run (transmitting_at (settings w) s w.run)),
+  refl,
+)
 
 pub comes-ticks : (s n : ℕ) (w : World) → IsTidy w → s < count w → Comes (times n (tick s)) w
-comes-ticks s n w tidy lt = comes-span (λ _. tick s) 0 n w tidy (λ k v below l tidy_v. comes-tick s v (omega (arith, l.count)))
+comes-ticks s n w tidy lt = comes-span (λ _. tick s) 0 n w tidy
+    (λ k v below l tidy_v. comes-tick s v (omega (arith, l.count)))
 
 pub comes-round : (w : World) → IsTidy w → Comes round w
-comes-round w tidy = comes-span tick 0 (count w) w tidy (λ k v below l tidy_v. comes-tick k v (omega (arith, l.count)))
+comes-round w tidy = comes-span tick 0 (count w) w tidy
+    (λ k v below l tidy_v. comes-tick k v (omega (arith, l.count)))
 
 pub comes-rounds : (n : ℕ) (w : World) → IsTidy w → Comes (times n round) w
-comes-rounds n w tidy = comes-span (λ _. round) 0 n w tidy (λ k v below l tidy_v. comes-round v tidy_v)
+comes-rounds n w tidy = comes-span (λ _. round) 0 n w tidy
+    (λ k v below l tidy_v. comes-round v tidy_v)
 
 -- ---- frames
 
@@ -146,22 +179,28 @@ comes-unless : (b : Bool) (act : Act) (w : World) → Comes act w → Comes (unl
 comes-unless true act w h = tt
 comes-unless false act w h = h
 
-pub comes-pass : (number from s : ℕ) (w : World) → s < count w → IsOnAir w.run number → Comes (pass number from s) w
+pub comes-pass : (number from s : ℕ) (w : World) → s < count w → IsOnAir w.run number
+    → Comes (pass number from s) w
 comes-pass number from s w lt there =
     comes-unless (is_passed_by w from s) (happen (events.Deliver number s)) w ((lt, there), tt)
 
-pub comes-to_others : (number from : ℕ) (w : World) → IsTidy w → IsOnAir w.run number → Comes (to_others number from) w
+pub comes-to_others : (number from : ℕ) (w : World) → IsTidy w → IsOnAir w.run number
+    → Comes (to_others number from) w
 comes-to_others number from w tidy there =
     comes-span (pass number from) 0 (count w) w tidy
-    (λ k v below l tidy_v. comes-pass number from k v (omega (arith, l.count)) (l.frames number there))
+    (λ k v below l tidy_v. comes-pass number from k v (omega (arith, l.count))
+    (l.frames number there))
 
-numbers-marked : (n : ℕ) (frames : List Put) → map (λ (put : Put). put.number) (marked_at n frames) ≡ map (λ (put : Put). put.number) frames
+numbers-marked : (n : ℕ) (frames : List Put)
+    → map (λ (put : Put). put.number) (marked_at n frames) ≡ map (λ (put : Put). put.number) frames
 numbers-marked n [] = refl
 numbers-marked zero (put ∷ others) = refl
-numbers-marked (suc n) (put ∷ others) = ap (λ (l : List ℕ). put.number ∷ l) (numbers-marked n others)
+numbers-marked (suc n) (put ∷ others) =
+    ap (λ (l : List ℕ). put.number ∷ l) (numbers-marked n others)
 
 -- a mark leaves a world tidy
-pub tidy-marked : (number : ℕ) (w : World) → IsTidy w → IsTidy (record w { kept = mark number w.kept })
+pub tidy-marked : (number : ℕ) (w : World) → IsTidy w
+    → IsTidy (record w { kept = mark number w.kept })
 tidy-marked number w tidy = record {
   sound = tidy.sound;
   within = tidy.within;
@@ -172,18 +211,22 @@ tidy-marked number w tidy = record {
   draws = tidy.draws;
 }
 
-pub comes-spread : (number : ℕ) (w : World) → IsTidy w → IsOnAir w.run number → Comes (spread number) w
+pub comes-spread : (number : ℕ) (w : World) → IsTidy w → IsOnAir w.run number
+    → Comes (spread number) w
 comes-spread number w tidy there = (
   comes-to_others number (sender w number) w tidy there,
-  is-going (perform (to_others number (sender w number)) w) (λ v. IsTidy v → Comes (change (mark number)) v)
+  is-going (perform (to_others number (sender w number)) w)
+      (λ v. IsTidy v → Comes (change (mark number)) v)
       (λ v e tidy_v. tidy-marked number v tidy_v),
 )
 
-all-more : {A : Type 0} (P Q : A → Type 0) (xs : List A) → ((x : A) → P x → Q x) → AllHave P xs → AllHave Q xs
+all-more : {A : Type 0} (P Q : A → Type 0) (xs : List A) → ((x : A) → P x → Q x) → AllHave P xs
+    → AllHave Q xs
 all-more P Q [] h all = tt
 all-more P Q (x ∷ xs) h all = (h x all.0, all-more P Q xs h all.1)
 
-all-end : {A : Type 0} (P : A → Type 0) (xs : List A) (y : A) → AllHave P xs → P y → AllHave P (xs ++ y ∷ [])
+all-end : {A : Type 0} (P : A → Type 0) (xs : List A) (y : A) → AllHave P xs → P y
+    → AllHave P (xs ++ y ∷ [])
 all-end P [] y all here = (here, tt)
 all-end P (x ∷ xs) y all here = (all.0, all-end P xs y all.1 here)
 
@@ -191,29 +234,39 @@ same-number : (n : ℕ) → (n == n) ≡ true
 same-number n = grind arith
 
 -- the numbers of frames are found
-numbers-found : (xs : List Frame) → AllHave (λ number. is_some (find (λ (f : Frame). f.number == number) xs) ≡ true) (numbers_of xs)
+numbers-found : (xs : List Frame)
+    → AllHave (λ number. is_some (find (λ (f : Frame). f.number == number) xs) ≡ true)
+    (numbers_of xs)
 numbers-found [] = tt
 numbers-found (f ∷ earlier) =
-    all-end (λ number. is_some (find (λ (g : Frame). g.number == number) (f ∷ earlier)) ≡ true) (numbers_of earlier) f.number
-    (all-more (λ number. is_some (find (λ (g : Frame). g.number == number) earlier) ≡ true) _ (numbers_of earlier)
-    (λ number there. find-more (λ (g : Frame). g.number == number) f earlier there) (numbers-found earlier))
-    (ap (λ (b : Bool). is_some (cond b (Some f) (find (λ (g : Frame). g.number == f.number) earlier))) (same-number f.number))
+    all-end (λ number. is_some (find (λ (g : Frame). g.number == number) (f ∷ earlier)) ≡ true)
+    (numbers_of earlier) f.number
+    (all-more (λ number. is_some (find (λ (g : Frame). g.number == number) earlier) ≡ true) _
+    (numbers_of earlier)
+    (λ number there. find-more (λ (g : Frame). g.number == number) f earlier there)
+    (numbers-found earlier))
+    (ap (λ (b : Bool). is_some (cond b (Some f) (find (λ (g : Frame). g.number == f.number)
+    earlier))) (same-number f.number))
 
-have-one : (P : ℕ → Type 0) (put : Put) (others : List Put) (b : Bool) → P put.number → AllHave P (map (λ (q : Put). q.number) others)
+have-one : (P : ℕ → Type 0) (put : Put) (others : List Put) (b : Bool) → P put.number
+    → AllHave P (map (λ (q : Put). q.number) others)
     → AllHave P (map (λ (q : Put). q.number) (cond b (put ∷ others) others))
 have-one P put others true here all = (here, all)
 have-one P put others false here all = all
 
-due-have : (P : ℕ → Type 0) (lag rounds : ℕ) (frames : List Put) → AllHave P (map (λ (put : Put). put.number) frames) → AllHave P (due_of lag rounds frames)
+due-have : (P : ℕ → Type 0) (lag rounds : ℕ) (frames : List Put)
+    → AllHave P (map (λ (put : Put). put.number) frames) → AllHave P (due_of lag rounds frames)
 due-have P lag rounds [] all = tt
 due-have P lag rounds (put ∷ others) all =
-    have-one P put (filter (is_due lag rounds) others) (is_due lag rounds put) all.0 (due-have P lag rounds others all.1)
+    have-one P put (filter (is_due lag rounds) others) (is_due lag rounds put) all.0
+    (due-have P lag rounds others all.1)
 
 -- what is due is on the air
 due-there : (w : World) → IsTidy w → AllHave (λ number. IsOnAir w.run number) (due w)
 due-there w tidy =
     due-have (λ number. IsOnAir w.run number) (lag_of w.kept.chosen) w.kept.rounds w.kept.frames
-    (subst (λ (l : List ℕ). AllHave (λ number. IsOnAir w.run number) l) (sym tidy.frames) (numbers-found (air w.run)))
+    (subst (λ (l : List ℕ). AllHave (λ number. IsOnAir w.run number) l) (sym tidy.frames)
+    (numbers-found (air w.run)))
 
 pub comes-due : (w : World) → IsTidy w → Comes (each spread (due w)) w
 comes-due w tidy =
@@ -222,13 +275,23 @@ comes-due w tidy =
 
 pub comes-flow_round : (w : World) → IsTidy w → Comes flow_round w
 comes-flow_round w tidy = (
-  record { sound = tidy.sound; within = tidy.within; frames = tidy.frames; numbered = tidy.numbered; in_turn = tidy.in_turn; waits = tidy.waits; draws = tidy.draws },
+  record {
+    sound = tidy.sound;
+    within = tidy.within;
+    frames = tidy.frames;
+    numbered = tidy.numbered;
+    in_turn = tidy.in_turn;
+    waits = tidy.waits;
+    draws = tidy.draws;
+  },
   λ tidy_v. (
     comes-round _ tidy_v,
-    is-going (perform round (record w { kept = record w.kept { rounds = w.kept.rounds + 1 } })) (λ v. IsTidy v → Comes (each spread (due v)) v)
+    is-going (perform round (record w { kept = record w.kept { rounds = w.kept.rounds + 1 } }))
+        (λ v. IsTidy v → Comes (each spread (due v)) v)
         (λ v e tidy_u. comes-due v tidy_u),
   ),
 )
 
 pub comes-flow : (n : ℕ) (w : World) → IsTidy w → Comes (times n flow_round) w
-comes-flow n w tidy = comes-span (λ _. flow_round) 0 n w tidy (λ k v below l tidy_v. comes-flow_round v tidy_v)
+comes-flow n w tidy = comes-span (λ _. flow_round) 0 n w tidy
+    (λ k v below l tidy_v. comes-flow_round v tidy_v)

@@ -15,7 +15,8 @@ use Rattle.lan_schedule.specs.inside.Choosing.{is_choice}
 use Rattle.lan_schedule.specs.inside.Comes.{Comes, Did}
 use Rattle.lan_schedule.specs.inside.Staged.{StandsFor}
 
-pub refused-does : (line : Line) (kind : Kind) (now : Moment Stage) → ((w : World) → StandsFor w now.value → refusal line w ≡ Some kind)
+pub refused-does : (line : Line) (kind : Kind) (now : Moment Stage)
+    → ((w : World) → StandsFor w now.value → refusal line w ≡ Some kind)
     → Did StandsFor (act_of line) now now (Err (halts.Trace now.value.line kind))
 refused-does line kind now is = record {
   ends = λ base w reached comes.
@@ -25,12 +26,14 @@ refused-does line kind now is = record {
       (w, out, reached.shown);
 }
 
-pub performed-does : (line : Line) (old new : Moment Stage) (r : Result (Unit {0}) Halt) → ((w : World) → StandsFor w old.value → refusal line w ≡ None)
+pub performed-does : (line : Line) (old new : Moment Stage) (r : Result (Unit {0}) Halt)
+    → ((w : World) → StandsFor w old.value → refusal line w ≡ None)
     → Did StandsFor (look (λ w. deed line w)) old new r → Did StandsFor (act_of line) old new r
 performed-does line old new r is d = record {
   ends = λ base w reached comes.
       let none = is w reached.stands in
-      subst (λ (o : Option Kind). Comes (unless_refused o (deed line w)) w → Ends StandsFor base (perform (unless_refused o (deed line w)) w) new r) (sym none)
+      subst (λ (o : Option Kind). Comes (unless_refused o (deed line w)) w
+      → Ends StandsFor base (perform (unless_refused o (deed line w)) w) new r) (sym none)
       (λ comes_deed. d.ends base w reached comes_deed) comes;
 }
 
@@ -38,6 +41,7 @@ pub none-of : (o : Option Kind) → ((x : Kind) → o ≡ Some x → ⊥) → o 
 none-of None other = refl
 none-of (Some kind) other = absurd (other kind refl)
 
-pub none-later : (line : Line) (o : Option Kind) → o ≡ None → IfNone o (is_choice line ≡ false) → is_choice line ≡ false
+pub none-later : (line : Line) (o : Option Kind) → o ≡ None → IfNone o (is_choice line ≡ false)
+    → is_choice line ≡ false
 none-later line None e h = h
 none-later line (Some kind) e h = absurd (cc e)

@@ -1,5 +1,8 @@
 -- A text is performed as it is read.
-use Rattle.std.proofs.Common.{◌≡◌, ℕ, zero, suc, ◌+◌, ◌-◌, ◌<◌, ◌≤◌, ◌==◌, Bool, true, false, List, [], ◌∷◌, ◌++◌, length, take, drop, get_or, drop-cons, Option, Some, None, refl, sym, ap, ◌∙◌, subst, append_assoc, add-one, length-append, arith}
+use Rattle.std.proofs.Common.{◌≡◌, ℕ, zero, suc, ◌+◌, ◌-◌, ◌<◌, ◌≤◌, ◌==◌, Bool, true, false, List}
+use Rattle.std.proofs.Common.{[], ◌∷◌, ◌++◌, length, take, drop, get_or, drop-cons, Option, Some}
+use Rattle.std.proofs.Common.{None, refl, sym, ap, ◌∙◌, subst, append_assoc, add-one, length-append}
+use Rattle.std.proofs.Common.{arith}
 use Rattle.std.specs.Prelude.{Result, Ok, Err, cond, nat_le}
 use Rattle.std.specs.Result.{IsErrAnd}
 use Rattle.std.proofs.lemmas.Result.{err_from_is_err_and}
@@ -8,9 +11,11 @@ use Rattle.lan_base.specs.Told.{before, IsUsedUp}
 use Rattle.lan_schedule.specs.declared.halt.Halt.{Halt}
 use Rattle.lan_schedule.specs.declared.halt.Halt.TheVariants as halts
 use Rattle.lan_schedule.specs.declared.commands.Replay.{Replay}
-use Rattle.lan_schedule.specs.Texts.{without_return, ended, open_line, whole_lines, last_line, lines_of}
+use Rattle.lan_schedule.specs.Texts.{without_return, ended, open_line, whole_lines, last_line}
+use Rattle.lan_schedule.specs.Texts.{lines_of}
 use Rattle.lan_schedule.specs.World.{World}
-use Rattle.lan_schedule.specs.Acts.{Act, nothing, seq, each, perform, Outcome, Goes, Stops, and_then}
+use Rattle.lan_schedule.specs.Acts.{Act, nothing, seq, each, perform, Outcome, Goes, Stops}
+use Rattle.lan_schedule.specs.Acts.{and_then}
 use Rattle.lan_schedule.specs.Lines.{performed, performed_all}
 use Rattle.lan_schedule.specs.Ends.{Sunk, Moment, Ends, EndsEarly, written}
 use Rattle.lan_schedule.specs.Standing.{StandsFor, Does}
@@ -19,65 +24,93 @@ use Rattle.lan_schedule.specs.inside.Reading.{WasDone}
 use Rattle.lan_schedule.proofs.Doing.{ends-early, grows}
 
 -- the first act ended early
-pub then-err : (f g : Act) (old new : Moment Replay) (e : Halt) → Does f old new (Err e) → Does (seq f g) old new (Err e)
-then-err f g old new e d = record { ends = λ base w reached. ends-early base new.sink (perform f w) g e (d.ends base w reached) }
+pub then-err : (f g : Act) (old new : Moment Replay) (e : Halt) → Does f old new (Err e)
+    → Does (seq f g) old new (Err e)
+then-err f g old new e d = record {
+  ends = λ base w reached.
+      ends-early base new.sink (perform f w) g e (d.ends base w reached);
+}
 
 -- the first act was done, and then the second ended so
-pub then-ok : (f g : Act) (old mid new : Moment Replay) (r : Result (Unit {0}) Halt) → Does f old mid (Ok tt) → Does g mid new r → Does (seq f g) old new r
+pub then-ok : (f g : Act) (old mid new : Moment Replay) (r : Result (Unit {0}) Halt)
+    → Does f old mid (Ok tt) → Does g mid new r → Does (seq f g) old new r
 then-ok f g old mid new r d e = record {
   ends = λ base w reached.
       let first = d.ends base w reached in
-      subst (λ (out : Outcome). Ends StandsFor base (and_then out (λ v. perform g v)) new r) (sym first.1) (e.ends base first.0 first.2);
+      subst (λ (out : Outcome). Ends StandsFor base (and_then out (λ v. perform g v)) new r)
+      (sym first.1) (e.ends base first.0 first.2);
 }
 
 pub nothing-does : (now : Moment Replay) → Does nothing now now (Ok tt)
 nothing-does now = record { ends = λ base w reached. (w, refl, reached) }
 
 -- no memory, before anything was written
-pub memory-does : (act : Act) (old new : Moment Replay) → new.sink.held ≡ old.sink.held → Does act old new (Err halts.Memory)
+pub memory-does : (act : Act) (old new : Moment Replay) → new.sink.held ≡ old.sink.held
+    → Does act old new (Err halts.Memory)
 memory-does act old new held = record {
   ends = λ base w reached.
       let longer = grows act w in
-      record { front = written w.run; rest = longer.more; parts = longer.parts; held = held ∙ reached.shown.written };
+      record {
+        front = written w.run;
+        rest = longer.more;
+        parts = longer.parts;
+        held = held
+            ∙ reached.shown.written;
+      };
 }
 
 -- what is left of an act, done from here, is the whole act done from the start
-pub record Leads (whole : Act) (old : Moment Replay) (left : Act) (now : Moment Replay) : Type 0 where
-  pub leads : (new : Moment Replay) (r : Result (Unit {0}) Halt) → Does left now new r → Does whole old new r
+pub record Leads (whole : Act) (old : Moment Replay) (left : Act) (now : Moment Replay) : Type 0
+  where
+    pub leads : (new : Moment Replay) (r : Result (Unit {0}) Halt) → Does left now new r
+        → Does whole old new r
 
 -- an error that `?` hands on is the error
-pub handed-on : (act : Act) (old new : Moment Replay) (e : Halt) (r : Result (Unit {0}) Halt) → Does act old new (Err e) → IsErrAnd r (λ y. y ≡ e) → Does act old new r
+pub handed-on : (act : Act) (old new : Moment Replay) (e : Halt) (r : Result (Unit {0}) Halt)
+    → Does act old new (Err e) → IsErrAnd r (λ y. y ≡ e) → Does act old new r
 handed-on act old new e r d is =
     let p = err_from_is_err_and r is in
-    subst (λ (r : Result (Unit {0}) Halt). Does act old new r) (sym (p.1 ∙ ap (λ (y : Halt). Err y) p.2)) d
+    subst (λ (r : Result (Unit {0}) Halt). Does act old new r)
+    (sym (p.1 ∙ ap (λ (y : Halt). Err y) p.2)) d
 
 pub leads-start : (f : Act) (now : Moment Replay) → Leads f now f now
 leads-start f now = record { leads = λ new r d. d }
 
-pub leads-step : (f g h : Act) (old now next : Moment Replay) → Leads f old (seq h g) now → Does h now next (Ok tt) → Leads f old g next
-leads-step f g h old now next l d = record { leads = λ new r e. l.leads new r (then-ok h g now next new r d e) }
+pub leads-step : (f g h : Act) (old now next : Moment Replay) → Leads f old (seq h g) now
+    → Does h now next (Ok tt) → Leads f old g next
+leads-step f g h old now next l d =
+    record { leads = λ new r e. l.leads new r (then-ok h g now next new r d e) }
 
-pub leads-err : (f g h : Act) (old now next : Moment Replay) (e : Halt) → Leads f old (seq h g) now → Does h now next (Err e) → Does f old next (Err e)
+pub leads-err : (f g h : Act) (old now next : Moment Replay) (e : Halt) → Leads f old (seq h g) now
+    → Does h now next (Err e) → Does f old next (Err e)
 leads-err f g h old now next e l d = l.leads next (Err e) (then-err h g now next e d)
 
-pub leads-end : (f : Act) (old now : Moment Replay) → Leads f old nothing now → Does f old now (Ok tt)
+pub leads-end : (f : Act) (old now : Moment Replay) → Leads f old nothing now
+    → Does f old now (Ok tt)
 leads-end f old now l = l.leads now (Ok tt) (nothing-does now)
 
 -- doing nothing first changes nothing
-pub nothing-first : (whole g : Act) (old now : Moment Replay) → Leads whole old g now → Leads whole old (seq nothing g) now
-nothing-first whole g old now l = record { leads = λ new r d. l.leads new r (record { ends = λ base w reached. d.ends base w reached }) }
+pub nothing-first : (whole g : Act) (old now : Moment Replay) → Leads whole old g now
+    → Leads whole old (seq nothing g) now
+nothing-first whole g old now l =
+    record {
+      leads = λ new r d. l.leads new r
+          (record { ends = λ base w reached. d.ends base w reached });
+    }
 
 -- one octet, of which the test says whether it ends a line
 abbrev pub chosen : Bool → List ℕ → Act
 chosen b carry = cond b (performed (without_return carry)) nothing
 
 abbrev pub lines_from : Bool → List ℕ → ℕ → List ℕ → List (List ℕ)
-lines_from b carry x text = cond b (without_return carry ∷ ended [] text) (ended (carry ++ x ∷ []) text)
+lines_from b carry x text = cond b (without_return carry ∷ ended [] text)
+    (ended (carry ++ x ∷ []) text)
 
 abbrev pub carry_by : Bool → List ℕ → ℕ → List ℕ
 carry_by b carry x = cond b [] (carry ++ x ∷ [])
 
-one-octet : (b : Bool) (carry : List ℕ) (x : ℕ) (text : List ℕ) (whole : Act) (old now : Moment Replay) → Leads whole old (each performed (lines_from b carry x text)) now
+one-octet : (b : Bool) (carry : List ℕ) (x : ℕ) (text : List ℕ) (whole : Act)
+    (old now : Moment Replay) → Leads whole old (each performed (lines_from b carry x text)) now
     → Leads whole old (seq (chosen b carry) (each performed (ended (carry_by b carry x) text))) now
 one-octet true carry x text whole old now l = l
 one-octet false carry x text whole old now l = nothing-first whole _ old now l
@@ -87,12 +120,15 @@ at xs i lt = rw (add-one, drop-cons xs i 0) refl
 
 begun : (carry piece : List ℕ) (i : ℕ) (whole : Act) (old now : Moment Replay) → i < length piece
     → Leads whole old (each performed (ended carry (drop i piece))) now
-    → Leads whole old (seq (chosen (get_or piece i 0 == 10) carry) (each performed (ended (carry_by (get_or piece i 0 == 10) carry (get_or piece i 0)) (drop (i + 1) piece)))) now
+    → Leads whole old (seq (chosen (get_or piece i 0 == 10) carry)
+    (each performed (ended (carry_by (get_or piece i 0 == 10) carry (get_or piece i 0))
+    (drop (i + 1) piece)))) now
 begun carry piece i whole old now lt l =
     one-octet (get_or piece i 0 == 10) carry (get_or piece i 0) (drop (i + 1) piece) whole old now
     (subst (λ (t : List ℕ). Leads whole old (each performed (ended carry t)) now) (at piece i lt) l)
 
-pub feed-step : (carry next_carry piece : List ℕ) (i : ℕ) (whole : Act) (old now next : Moment Replay) → i < length piece
+pub feed-step : (carry next_carry piece : List ℕ) (i : ℕ) (whole : Act)
+    (old now next : Moment Replay) → i < length piece
     → next_carry ≡ carry_by (get_or piece i 0 == 10) carry (get_or piece i 0)
     → Leads whole old (each performed (ended carry (drop i piece))) now
     → Does (chosen (get_or piece i 0 == 10) carry) now next (Ok tt)
@@ -100,62 +136,91 @@ pub feed-step : (carry next_carry piece : List ℕ) (i : ℕ) (whole : Act) (old
 feed-step carry next_carry piece i whole old now next lt is l d =
     rw is (leads-step whole _ _ old now next (begun carry piece i whole old now lt l) d)
 
-pub feed-err : (carry piece : List ℕ) (i : ℕ) (whole : Act) (old now next : Moment Replay) (e : Halt) → i < length piece
+pub feed-err : (carry piece : List ℕ) (i : ℕ) (whole : Act) (old now next : Moment Replay)
+    (e : Halt) → i < length piece
     → Leads whole old (each performed (ended carry (drop i piece))) now
     → Does (chosen (get_or piece i 0 == 10) carry) now next (Err e) → Does whole old next (Err e)
-feed-err carry piece i whole old now next e lt l d = leads-err whole _ _ old now next e (begun carry piece i whole old now lt l) d
+feed-err carry piece i whole old now next e lt l d =
+    leads-err whole _ _ old now next e (begun carry piece i whole old now lt l) d
 
-open_line-one : (b : Bool) (carry : List ℕ) (x : ℕ) (text : List ℕ) → (cond b (open_line [] text) (open_line (carry ++ x ∷ []) text)) ≡ open_line (carry_by b carry x) text
+open_line-one : (b : Bool) (carry : List ℕ) (x : ℕ) (text : List ℕ)
+    → (cond b (open_line [] text) (open_line (carry ++ x ∷ []) text))
+    ≡ open_line (carry_by b carry x) text
 open_line-one true carry x text = refl
 open_line-one false carry x text = refl
 
-pub open_line-step : (carry next_carry piece whole : List ℕ) (i : ℕ) → i < length piece → next_carry ≡ carry_by (get_or piece i 0 == 10) carry (get_or piece i 0)
+pub open_line-step : (carry next_carry piece whole : List ℕ) (i : ℕ) → i < length piece
+    → next_carry ≡ carry_by (get_or piece i 0 == 10) carry (get_or piece i 0)
     → whole ≡ open_line carry (drop i piece) → whole ≡ open_line next_carry (drop (i + 1) piece)
 open_line-step carry next_carry piece whole i lt is e =
-    e ∙ ap (λ (t : List ℕ). open_line carry t) (at piece i lt) ∙ open_line-one (get_or piece i 0 == 10) carry (get_or piece i 0) (drop (i + 1) piece)
+    e ∙ ap (λ (t : List ℕ). open_line carry t) (at piece i lt)
+    ∙ open_line-one (get_or piece i 0 == 10) carry (get_or piece i 0) (drop (i + 1) piece)
     ∙ ap (λ (c : List ℕ). open_line c (drop (i + 1) piece)) (sym is)
 
 -- lists of lines one after the other
-and-assoc : (out : Outcome) (g h : World → Outcome) → and_then out (λ v. and_then (g v) h) ≡ and_then (and_then out g) h
+and-assoc : (out : Outcome) (g h : World → Outcome)
+    → and_then out (λ v. and_then (g v) h) ≡ and_then (and_then out g) h
 and-assoc (Goes w) g h = refl
 and-assoc (Stops w why) g h = refl
 
-each-append : (f : List ℕ → Act) (xs ys : List (List ℕ)) (w : World) → perform (each f (xs ++ ys)) w ≡ perform (seq (each f xs) (each f ys)) w
+each-append : (f : List ℕ → Act) (xs ys : List (List ℕ)) (w : World)
+    → perform (each f (xs ++ ys)) w ≡ perform (seq (each f xs) (each f ys)) w
 each-append f [] ys w = refl
 each-append f (x ∷ xs) ys w =
     ap (λ (g : World → Outcome). and_then (perform (f x) w) g) (λ i v. each-append f xs ys v i)
     ∙ and-assoc (perform (f x) w) (λ v. perform (each f xs) v) (λ v. perform (each f ys) v)
 
-same-does : (f g : Act) (old new : Moment Replay) (r : Result (Unit {0}) Halt) → ((w : World) → perform f w ≡ perform g w) → Does g old new r → Does f old new r
-same-does f g old new r same d = record { ends = λ base w reached. subst (λ (out : Outcome). Ends StandsFor base out new r) (sym (same w)) (d.ends base w reached) }
+same-does : (f g : Act) (old new : Moment Replay) (r : Result (Unit {0}) Halt)
+    → ((w : World) → perform f w ≡ perform g w) → Does g old new r → Does f old new r
+same-does f g old new r same d =
+    record {
+      ends = λ base w reached.
+          subst (λ (out : Outcome). Ends StandsFor base out new r) (sym (same w))
+          (d.ends base w reached);
+    }
 
-pub append-ok : (f : List ℕ → Act) (xs ys : List (List ℕ)) (a b c : Moment Replay) (r : Result (Unit {0}) Halt)
+pub append-ok : (f : List ℕ → Act) (xs ys : List (List ℕ)) (a b c : Moment Replay)
+    (r : Result (Unit {0}) Halt)
     → Does (each f xs) a b (Ok tt) → Does (each f ys) b c r → Does (each f (xs ++ ys)) a c r
-append-ok f xs ys a b c r d e = same-does _ _ a c r (each-append f xs ys) (then-ok (each f xs) (each f ys) a b c r d e)
+append-ok f xs ys a b c r d e =
+    same-does _ _ a c r (each-append f xs ys) (then-ok (each f xs) (each f ys) a b c r d e)
 
-pub append-err : (f : List ℕ → Act) (xs ys : List (List ℕ)) (a b : Moment Replay) (e : Halt) → Does (each f xs) a b (Err e) → Does (each f (xs ++ ys)) a b (Err e)
-append-err f xs ys a b e d = same-does _ _ a b (Err e) (each-append f xs ys) (then-err (each f xs) (each f ys) a b e d)
+pub append-err : (f : List ℕ → Act) (xs ys : List (List ℕ)) (a b : Moment Replay) (e : Halt)
+    → Does (each f xs) a b (Err e) → Does (each f (xs ++ ys)) a b (Err e)
+append-err f xs ys a b e d = same-does _ _ a b (Err e) (each-append f xs ys)
+    (then-err (each f xs) (each f ys) a b e d)
 
-ended-by : (t : Bool) (carry d a b : List ℕ) → ended [] (a ++ b) ≡ ended [] a ++ ended (open_line [] a) b → ended d (a ++ b) ≡ ended d a ++ ended (open_line d a) b
-    → (cond t (carry ∷ ended [] (a ++ b)) (ended d (a ++ b))) ≡ (cond t (carry ∷ ended [] a) (ended d a)) ++ ended (cond t (open_line [] a) (open_line d a)) b
+ended-by : (t : Bool) (carry d a b : List ℕ) → ended [] (a ++ b) ≡ ended [] a
+    ++ ended (open_line [] a) b → ended d (a ++ b) ≡ ended d a ++ ended (open_line d a) b
+    → (cond t (carry ∷ ended [] (a ++ b)) (ended d (a ++ b)))
+    ≡ (cond t (carry ∷ ended [] a) (ended d a))
+    ++ ended (cond t (open_line [] a) (open_line d a)) b
 ended-by true carry d a b e f = ap (λ (l : List (List ℕ)). carry ∷ l) e
 ended-by false carry d a b e f = f
 
-ended-append : (carry a b : List ℕ) → ended carry (a ++ b) ≡ ended carry a ++ ended (open_line carry a) b
+ended-append : (carry a b : List ℕ) → ended carry (a ++ b) ≡ ended carry a
+    ++ ended (open_line carry a) b
 ended-append carry [] b = refl
-ended-append carry (x ∷ a) b = ended-by (x == 10) (without_return carry) (carry ++ x ∷ []) a b (ended-append [] a b) (ended-append (carry ++ x ∷ []) a b)
+ended-append carry (x ∷ a) b =
+    ended-by (x == 10) (without_return carry) (carry ++ x ∷ []) a b (ended-append [] a b)
+    (ended-append (carry ++ x ∷ []) a b)
 
-open_line-by : (t : Bool) (d a b : List ℕ) → open_line [] (a ++ b) ≡ open_line (open_line [] a) b → open_line d (a ++ b) ≡ open_line (open_line d a) b
-    → (cond t (open_line [] (a ++ b)) (open_line d (a ++ b))) ≡ open_line (cond t (open_line [] a) (open_line d a)) b
+open_line-by : (t : Bool) (d a b : List ℕ) → open_line [] (a ++ b) ≡ open_line (open_line [] a) b
+    → open_line d (a ++ b) ≡ open_line (open_line d a) b
+    → (cond t (open_line [] (a ++ b)) (open_line d (a ++ b)))
+    ≡ open_line (cond t (open_line [] a) (open_line d a)) b
 open_line-by true d a b e f = e
 open_line-by false d a b e f = f
 
 open_line-append : (carry a b : List ℕ) → open_line carry (a ++ b) ≡ open_line (open_line carry a) b
 open_line-append carry [] b = refl
-open_line-append carry (x ∷ a) b = open_line-by (x == 10) (carry ++ x ∷ []) a b (open_line-append [] a b) (open_line-append (carry ++ x ∷ []) a b)
+open_line-append carry (x ∷ a) b =
+    open_line-by (x == 10) (carry ++ x ∷ []) a b (open_line-append [] a b)
+    (open_line-append (carry ++ x ∷ []) a b)
 
 -- a front of the text was read, and the lines that end in it were performed
-pub record HasRead (text : List ℕ) (total : ℕ) (left : Option (List ℕ)) (old : Moment Replay) (carry : List ℕ) (now : Moment Replay) : Type 0 where
+pub record HasRead (text : List ℕ) (total : ℕ) (left : Option (List ℕ)) (old : Moment Replay)
+    (carry : List ℕ) (now : Moment Replay) : Type 0 where
   pub front : List ℕ
   pub rest : List ℕ
   pub parts : front ++ rest ≡ text
@@ -164,8 +229,18 @@ pub record HasRead (text : List ℕ) (total : ℕ) (left : Option (List ℕ)) (o
   pub carry_is : carry ≡ open_line [] front
   pub done : Does (each performed (ended [] front)) old now (Ok tt)
 
-pub read-none : (text : List ℕ) (left : Option (List ℕ)) (now : Moment Replay) → left ≡ Some text → Does nothing now now (Ok tt) → HasRead text 0 left now [] now
-read-none text left now is d = record { front = []; rest = text; parts = refl; left_is = is; count = refl; carry_is = refl; done = d }
+pub read-none : (text : List ℕ) (left : Option (List ℕ)) (now : Moment Replay) → left ≡ Some text
+    → Does nothing now now (Ok tt) → HasRead text 0 left now [] now
+read-none text left now is d =
+    record {
+      front = [];
+      rest = text;
+      parts = refl;
+      left_is = is;
+      count = refl;
+      carry_is = refl;
+      done = d;
+    }
 
 some-is : (a b : List ℕ) → Some a ≡ Some b → a ≡ b
 some-is a b e = cc
@@ -176,24 +251,37 @@ pub record Goes_on (rest piece : List ℕ) (left : Option (List ℕ)) : Type 0 w
   pub parts : piece ++ more ≡ rest
   pub left_is : left ≡ Some more
 
-pub goes-on : (rest piece : List ℕ) (old left : Option (List ℕ)) → old ≡ Some rest → old ≡ before piece left → Goes_on rest piece left
+pub goes-on : (rest piece : List ℕ) (old left : Option (List ℕ)) → old ≡ Some rest
+    → old ≡ before piece left → Goes_on rest piece left
 goes-on rest piece old None is moved = absurd (let bad : Some rest ≡ None = sym is ∙ moved in cc)
-goes-on rest piece old (Some more) is moved = record { more = more; parts = sym (some-is rest (piece ++ more) (sym is ∙ moved)); left_is = refl }
+goes-on rest piece old (Some more) is moved =
+    record {
+      more = more;
+      parts = sym (some-is rest (piece ++ more) (sym is ∙ moved));
+      left_is =
+          refl;
+    }
 
-pub read-more : (text : List ℕ) (total : ℕ) (left next_left : Option (List ℕ)) (old : Moment Replay) (carry piece next_carry : List ℕ) (now next : Moment Replay) (n : ℕ)
+pub read-more : (text : List ℕ) (total : ℕ) (left next_left : Option (List ℕ)) (old : Moment Replay)
+    (carry piece next_carry : List ℕ) (now next : Moment Replay) (n : ℕ)
     → HasRead text total left old carry now → left ≡ before piece next_left → n ≡ length piece
-    → Does (each performed (ended carry piece)) now next (Ok tt) → next_carry ≡ open_line carry piece
+    → Does (each performed (ended carry piece)) now next (Ok tt)
+    → next_carry ≡ open_line carry piece
     → HasRead text (total + n) next_left old next_carry next
 read-more text total left next_left old carry piece next_carry now next n h moved count d is =
     let g = goes-on h.rest piece left next_left h.left_is moved in
     record {
       front = h.front ++ piece;
       rest = g.more;
-      parts = append_assoc h.front piece g.more ∙ ap (λ (t : List ℕ). h.front ++ t) g.parts ∙ h.parts;
+      parts = append_assoc h.front piece g.more ∙ ap (λ (t : List ℕ). h.front ++ t) g.parts
+          ∙ h.parts;
       left_is = g.left_is;
       count = rw (h.count, count) (sym (length-append h.front piece));
-      carry_is = is ∙ ap (λ (c : List ℕ). open_line c piece) h.carry_is ∙ sym (open_line-append [] h.front piece);
-      done = rw (ended-append [] h.front piece) (append-ok performed (ended [] h.front) (ended (open_line [] h.front) piece) old now next (Ok tt) h.done (rw h.carry_is at d));
+      carry_is = is ∙ ap (λ (c : List ℕ). open_line c piece) h.carry_is
+          ∙ sym (open_line-append [] h.front piece);
+      done = rw (ended-append [] h.front piece)
+          (append-ok performed (ended [] h.front) (ended (open_line [] h.front) piece) old now next
+          (Ok tt) h.done (rw h.carry_is at d));
     }
 
 take-behind : (n : ℕ) (a b : List ℕ) → length a ≤ n → take n (a ++ b) ≡ a ++ take (n - length a) b
@@ -201,7 +289,8 @@ take-behind n [] b le = let e : n - 0 ≡ n = omega arith in ap (λ (k : ℕ). t
 take-behind zero (x ∷ a) b le = absurd (omega arith)
 take-behind (suc n) (x ∷ a) b le =
     let e : suc n - length (x ∷ a) ≡ n - length a = omega arith in
-    ap (λ (l : List ℕ). x ∷ l) (take-behind n a b (omega arith)) ∙ ap (λ (k : ℕ). x ∷ (a ++ take k b)) (sym e)
+    ap (λ (l : List ℕ). x ∷ l) (take-behind n a b (omega arith))
+    ∙ ap (λ (k : ℕ). x ∷ (a ++ take k b)) (sym e)
 
 -- the lines of the text are those that end in the front, those that end in the piece, and others
 pub record Extends (xs whole : List (List ℕ)) : Type 0 where
@@ -211,10 +300,12 @@ pub record Extends (xs whole : List (List ℕ)) : Type 0 where
 lines-extend : (a b : List ℕ) → Extends (ended [] a) (lines_of (a ++ b))
 lines-extend a b = record {
   more = ended (open_line [] a) b ++ last_line (open_line [] (a ++ b));
-  parts = ap (λ (l : List (List ℕ)). l ++ last_line (open_line [] (a ++ b))) (ended-append [] a b) ∙ append_assoc (ended [] a) (ended (open_line [] a) b) (last_line (open_line [] (a ++ b)));
+  parts = ap (λ (l : List (List ℕ)). l ++ last_line (open_line [] (a ++ b))) (ended-append [] a b)
+      ∙ append_assoc (ended [] a) (ended (open_line [] a) b) (last_line (open_line [] (a ++ b)));
 }
 
-extends-by : (xs whole other : List (List ℕ)) (b : Bool) → Extends xs whole → Extends xs other → Extends xs (cond b whole other)
+extends-by : (xs whole other : List (List ℕ)) (b : Bool) → Extends xs whole → Extends xs other
+    → Extends xs (cond b whole other)
 extends-by xs whole other true e f = e
 extends-by xs whole other false e f = f
 
@@ -222,43 +313,69 @@ whole-extend : (a b : List ℕ) → Extends (ended [] a) (whole_lines (a ++ b))
 whole-extend a b = record { more = ended (open_line [] a) b; parts = ended-append [] a b }
 
 -- so do the lines that count, within the limit
-within-extend : (a b : List ℕ) → length a ≤ most_input → Extends (ended [] a) (lines_within (a ++ b))
+within-extend : (a b : List ℕ) → length a ≤ most_input
+    → Extends (ended [] a) (lines_within (a ++ b))
 within-extend a b few =
-    extends-by (ended [] a) (lines_of (a ++ b)) (whole_lines (take most_input (a ++ b))) (nat_le (length (a ++ b)) most_input) (lines-extend a b)
-    (subst (λ (t : List ℕ). Extends (ended [] a) (whole_lines t)) (sym (take-behind most_input a b few)) (whole-extend a (take (most_input - length a) b)))
+    extends-by (ended [] a) (lines_of (a ++ b)) (whole_lines (take most_input (a ++ b)))
+    (nat_le (length (a ++ b)) most_input) (lines-extend a b)
+    (subst (λ (t : List ℕ). Extends (ended [] a) (whole_lines t))
+    (sym (take-behind most_input a b few)) (whole-extend a (take (most_input - length a) b)))
 
 -- an error in a piece is that of the lines that count
-pub read-err : (text : List ℕ) (total : ℕ) (left next_left : Option (List ℕ)) (old : Moment Replay) (carry piece : List ℕ) (now next : Moment Replay) (e : Halt)
-    → HasRead text total left old carry now → left ≡ before piece next_left → total + length piece ≤ most_input
-    → Does (performed_all (ended carry piece)) now next (Err e) → Does (performed_all (lines_within text)) old next (Err e)
+pub read-err : (text : List ℕ) (total : ℕ) (left next_left : Option (List ℕ)) (old : Moment Replay)
+    (carry piece : List ℕ) (now next : Moment Replay) (e : Halt)
+    → HasRead text total left old carry now → left ≡ before piece next_left
+    → total + length piece ≤ most_input
+    → Does (performed_all (ended carry piece)) now next (Err e)
+    → Does (performed_all (lines_within text)) old next (Err e)
 read-err text total left next_left old carry piece now next e h moved within d =
     let g = goes-on h.rest piece left next_left h.left_is moved in
-    let few : length (h.front ++ piece) ≤ most_input = let l = length-append h.front piece in let c = h.count in omega arith in
+    let few : length (h.front ++ piece) ≤ most_input = let l = length-append h.front piece in
+    let c = h.count in omega arith in
     let l = within-extend (h.front ++ piece) g.more few in
-    let whole : (h.front ++ piece) ++ g.more ≡ text = append_assoc h.front piece g.more ∙ ap (λ (t : List ℕ). h.front ++ t) g.parts ∙ h.parts in
-    let lines : lines_within text ≡ (ended [] h.front ++ ended (open_line [] h.front) piece) ++ l.more =
-    ap (λ (t : List ℕ). lines_within t) (sym whole) ∙ l.parts ∙ ap (λ (x : List (List ℕ)). x ++ l.more) (ended-append [] h.front piece) in
-    rw lines (append-err performed _ l.more old next e (append-ok performed (ended [] h.front) _ old now next (Err e) h.done (rw h.carry_is at d)))
+    let whole : (h.front ++ piece) ++ g.more ≡ text = append_assoc h.front piece g.more
+    ∙ ap (λ (t : List ℕ). h.front ++ t) g.parts ∙ h.parts in
+    let lines : lines_within text ≡ (ended [] h.front ++ ended (open_line [] h.front) piece)
+    ++ l.more =
+    ap (λ (t : List ℕ). lines_within t) (sym whole) ∙ l.parts
+    ∙ ap (λ (x : List (List ℕ)). x ++ l.more) (ended-append [] h.front piece) in
+    rw lines (append-err performed _ l.more old next e
+    (append-ok performed (ended [] h.front) _ old now next (Err e) h.done (rw h.carry_is at d)))
 
 -- the end: the last line
-pub read-end : (text : List ℕ) (total : ℕ) (left : Option (List ℕ)) (old : Moment Replay) (carry : List ℕ) (now next : Moment Replay) (r : Result (Unit {0}) Halt)
-    → HasRead text total left old carry now → IsUsedUp left → Does (each performed (last_line carry)) now next r → Does (performed_all (lines_of text)) old next r
+pub read-end : (text : List ℕ) (total : ℕ) (left : Option (List ℕ)) (old : Moment Replay)
+    (carry : List ℕ) (now next : Moment Replay) (r : Result (Unit {0}) Halt)
+    → HasRead text total left old carry now → IsUsedUp left
+    → Does (each performed (last_line carry)) now next r
+    → Does (performed_all (lines_of text)) old next r
 read-end text total left old carry now next r h used d =
     let none : h.rest ≡ [] = rw h.left_is at used in
-    let whole : h.front ≡ text = sym (append-nil h.front) ∙ ap (λ (t : List ℕ). h.front ++ t) (sym none) ∙ h.parts in
-    rw (← whole) (append-ok performed (ended [] h.front) (last_line (open_line [] h.front)) old now next r h.done (rw h.carry_is at d))
+    let whole : h.front ≡ text = sym (append-nil h.front)
+    ∙ ap (λ (t : List ℕ). h.front ++ t) (sym none) ∙ h.parts in
+    rw (← whole) (append-ok performed (ended [] h.front) (last_line (open_line [] h.front)) old now
+    next r h.done (rw h.carry_is at d))
 
 -- an act that comes to the same
-pub same-act : (f g : Act) (old new : Moment Replay) (r : Result (Unit {0}) Halt) → ((w : World) → StandsFor w old.value → perform f w ≡ perform g w) → Does g old new r → Does f old new r
+pub same-act : (f g : Act) (old new : Moment Replay) (r : Result (Unit {0}) Halt)
+    → ((w : World) → StandsFor w old.value → perform f w ≡ perform g w) → Does g old new r
+    → Does f old new r
 same-act f g old new r same d = record {
-  ends = λ base w reached. subst (λ (out : Outcome). Ends StandsFor base out new r) (sym (same w reached.stands)) (d.ends base w reached);
+  ends = λ base w reached. subst (λ (out : Outcome). Ends StandsFor base out new r)
+      (sym (same w reached.stands)) (d.ends base w reached);
 }
 
 -- an error says nothing of the value
-pub err-any : (act : Act) (old new other : Moment Replay) (e : Halt) → other.sink ≡ new.sink → Does act old new (Err e) → Does act old other (Err e)
-err-any act old new other e same d = record { ends = λ base w reached. subst (λ (s : Sunk). EndsEarly base (perform act w) s e) (sym same) (d.ends base w reached) }
+pub err-any : (act : Act) (old new other : Moment Replay) (e : Halt) → other.sink ≡ new.sink
+    → Does act old new (Err e) → Does act old other (Err e)
+err-any act old new other e same d =
+    record {
+      ends = λ base w reached.
+          subst (λ (s : Sunk). EndsEarly base (perform act w) s e) (sym same)
+          (d.ends base w reached);
+    }
 
-pub then-err-late : (f g : Act) (old mid new : Moment Replay) (e : Halt) → Does f old mid (Ok tt) → Does g mid new (Err e) → Does (seq f g) old new (Err e)
+pub then-err-late : (f g : Act) (old mid new : Moment Replay) (e : Halt) → Does f old mid (Ok tt)
+    → Does g mid new (Err e) → Does (seq f g) old new (Err e)
 then-err-late f g old mid new e d d2 = then-ok f g old mid new (Err e) d d2
 
 -- ---- whatever the source tells
@@ -266,7 +383,8 @@ then-err-late f g old mid new e d d2 = then-ok f g old mid new (Err e) d d2
 pub done-none : (now : Moment Replay) → WasDone now now (Ok tt)
 done-none now = record { lines = []; done = nothing-does now }
 
-pub done-then : (old now next : Moment Replay) (lines : List (List ℕ)) (r : Result (Unit {0}) Halt) → WasDone old now (Ok tt)
+pub done-then : (old now next : Moment Replay) (lines : List (List ℕ)) (r : Result (Unit {0}) Halt)
+    → WasDone old now (Ok tt)
     → Does (performed_all lines) now next r → WasDone old next r
 done-then old now next lines r before d = record {
   lines = before.lines ++ lines;

@@ -1,5 +1,6 @@
 -- What an event leaves.
-use Rattle.std.proofs.Common.{◌≡◌, ℕ, ◌+◌, ◌≤◌, List, [], ◌∷◌, ◌++◌, length, Option, Some, None, inl, inr, refl, sym, ap, ◌∙◌, subst, append_assoc, append-nil, arith}
+use Rattle.std.proofs.Common.{◌≡◌, ℕ, ◌+◌, ◌≤◌, List, [], ◌∷◌, ◌++◌, length, Option, Some, None}
+use Rattle.std.proofs.Common.{inl, inr, refl, sym, ap, ◌∙◌, subst, append_assoc, append-nil, arith}
 use Rattle.std.specs.Prelude.{Result, Ok, Err, map, unwrap_or}
 use Rattle.std.proofs.lemmas.List.{map-append}
 use Rattle.lan_base.specs.Faults.{Rose}
@@ -27,7 +28,8 @@ use Rattle.lan_schedule.specs.Supply.{draw_at}
 use Rattle.lan_schedule.specs.Answers.{supply, taken_by, halt_of, facts_shown, answered, answer}
 use Rattle.lan_schedule.specs.Acts.{happen, perform, Outcome, Goes, Stops, shown, world_after}
 use Rattle.lan_schedule.specs.Sound.{IsTidy}
-use Rattle.lan_schedule.specs.Ends.{Sunk, Moment, HoldsFront, IsShown, IsStopped, IsReached, Ends, EndsEarly, written}
+use Rattle.lan_schedule.specs.Ends.{Sunk, Moment, HoldsFront, IsShown, IsStopped, IsReached, Ends}
+use Rattle.lan_schedule.specs.Ends.{EndsEarly, written}
 use Rattle.lan_schedule.specs.inside.Frames.{Flow}
 use Rattle.lan_schedule.specs.inside.Supplies.{supply_nth}
 use Rattle.lan_schedule.specs.inside.Counters.{TellNext, ShowsNext}
@@ -48,41 +50,58 @@ pub record Told (w : World) (event : Event) (facts : List Fact) (new : Stage) : 
   pub lan : GroupStandsFor (settings w) w.kept.users new.lan (happened event facts ∷ w.run)
   pub draws : (k : ℕ) → supply_nth new.draws k ≡ supply (world_after w event facts) k
   pub stopless : first_stop (settings w) w.kept.users w.run event (supply w) ≡ None
-  pub shows : expected (settings w) w.kept.users w.run event (drawn_from (settings w).suite (supply w)) ≡ Some facts
+  pub shows : expected (settings w) w.kept.users w.run event
+      (drawn_from (settings w).suite (supply w)) ≡ Some facts
 
 same-supply : (w : World) (old : Stage) → StandsFor w old → supply_nth old.draws ≡ supply w
 same-supply w old stands = λ i k. stands.draws k i
 
-answers-by : (w : World) (event : Event) (facts : List Fact) (before : ℕ → Option (List ℕ)) → before ≡ supply w
+answers-by : (w : World) (event : Event) (facts : List Fact) (before : ℕ → Option (List ℕ))
+    → before ≡ supply w
     → first_stop (settings w) w.kept.users w.run event before ≡ None
-    → expected (settings w) w.kept.users w.run event (drawn_from (settings w).suite before) ≡ Some facts
+    → expected (settings w) w.kept.users w.run event (drawn_from (settings w).suite before)
+    ≡ Some facts
     → answer w event ≡ Ok facts
 answers-by w event facts before same goes shows =
     let none : first_stop (settings w) w.kept.users w.run event (supply w) ≡ None =
-    subst (λ (nth : ℕ → Option (List ℕ)). first_stop (settings w) w.kept.users w.run event nth ≡ None) same goes in
-    let some : expected (settings w) w.kept.users w.run event (drawn_from (settings w).suite (supply w)) ≡ Some facts =
-    subst (λ (nth : ℕ → Option (List ℕ)). expected (settings w) w.kept.users w.run event (drawn_from (settings w).suite nth) ≡ Some facts) same shows in
+    subst (λ (nth : ℕ → Option (List ℕ)). first_stop (settings w) w.kept.users w.run event nth
+    ≡ None) same goes in
+    let some : expected (settings w) w.kept.users w.run event
+    (drawn_from (settings w).suite (supply w)) ≡ Some facts =
+    subst (λ (nth : ℕ → Option (List ℕ)).
+    expected (settings w) w.kept.users w.run event (drawn_from (settings w).suite nth)
+    ≡ Some facts) same shows in
     ap (λ (s : Option Stop). answered w event s) none
     ∙ ap (λ (o : Option (List Fact)). Ok (unwrap_or o [])) some
 
 told-by : (w : World) (event : Event) (facts : List Fact) (old new : Stage) → StandsFor w old
-    → GoesOn (settings w) w.kept.users w.run event (supply_nth old.draws) (supply_nth new.draws) new.lan facts
+    → GoesOn (settings w) w.kept.users w.run event (supply_nth old.draws) (supply_nth new.draws)
+    new.lan facts
     → Told w event facts new
 told-by w event facts old new stands goes = record {
-  answers = answers-by w event facts (supply_nth old.draws) (same-supply w old stands) goes.goes goes.shows;
+  answers = answers-by w event facts (supply_nth old.draws) (same-supply w old stands) goes.goes
+      goes.shows;
   lan = goes.stands;
   draws = λ k.
       goes.drawn k ∙ stands.draws (k + taken_by w event)
-      ∙ ap (λ (n : ℕ). draw_at (rule_of w.kept.chosen) n) (let e : w.kept.taken + (k + taken_by w event) ≡ w.kept.taken + taken_by w event + k = omega arith in e);
-  stopless = subst (λ (nth : ℕ → Option (List ℕ)). first_stop (settings w) w.kept.users w.run event nth ≡ None) (same-supply w old stands) goes.goes;
-  shows = subst (λ (nth : ℕ → Option (List ℕ)). expected (settings w) w.kept.users w.run event (drawn_from (settings w).suite nth) ≡ Some facts) (same-supply w old stands) goes.shows;
+      ∙ ap (λ (n : ℕ). draw_at (rule_of w.kept.chosen) n)
+      (let e : w.kept.taken + (k + taken_by w event)
+      ≡ w.kept.taken + taken_by w event + k = omega arith in e);
+  stopless = subst (λ (nth : ℕ → Option (List ℕ)).
+      first_stop (settings w) w.kept.users w.run event nth ≡ None) (same-supply w old stands)
+      goes.goes;
+  shows = subst (λ (nth : ℕ → Option (List ℕ)).
+      expected (settings w) w.kept.users w.run event (drawn_from (settings w).suite nth)
+      ≡ Some facts) (same-supply w old stands) goes.shows;
 }
 
 abbrev pub entry_text : Event → List Fact → World → List ℕ
 entry_text event facts w = transcript (names_of (happened event facts ∷ w.run)) facts
 
-written-ends : (base : Sunk) (w : World) (event : Event) (facts : List Fact) (old new : Moment Stage) (r : Result (Unit {0}) Halt)
-    → IsReached StandsFor base w old → IsTidy (world_after w event facts) → StandsFor (world_after w event facts) new.value
+written-ends : (base : Sunk) (w : World) (event : Event) (facts : List Fact)
+    (old new : Moment Stage) (r : Result (Unit {0}) Halt)
+    → IsReached StandsFor base w old → IsTidy (world_after w event facts)
+    → StandsFor (world_after w event facts) new.value
     → Writes (entry_text event facts w) old.sink new.sink r
     → Ends StandsFor base (Goes (world_after w event facts)) new r
 written-ends base w event facts old new (Ok done) reached tidy stands wrote = (
@@ -92,22 +111,30 @@ written-ends base w event facts old new (Ok done) reached tidy stands wrote = (
     stands = stands;
     shown = record {
       tidy = tidy;
-      written = wrote.0 ∙ ap (λ (o : Option (List ℕ)). after o (entry_text event facts w)) reached.shown.written ∙ after-append base.held (written w.run) (entry_text event facts w);
+      written = wrote.0 ∙ ap (λ (o : Option (List ℕ)). after o (entry_text event facts w))
+          reached.shown.written ∙ after-append base.held (written w.run) (entry_text event facts w);
       counts = omega (arith, wrote.1, reached.shown.counts);
     };
   },
 )
-written-ends base w event facts old new (Err (halts.Trace line kind)) reached tidy stands wrote = absurd wrote
-written-ends base w event facts old new (Err halts.ReadFault) reached tidy stands wrote = absurd wrote
+written-ends base w event facts old new (Err (halts.Trace line kind)) reached tidy stands wrote =
+    absurd wrote
+written-ends base w event facts old new (Err halts.ReadFault) reached tidy stands wrote =
+    absurd wrote
 written-ends base w event facts old new (Err halts.WriteFault) reached tidy stands wrote = (
   rose-earlier base.faults old.sink.faults new.sink.faults reached.shown.counts wrote.0,
-  holds-behind base.held old.sink.held new.sink.held (written w.run) (entry_text event facts w) reached.shown.written wrote.1,
+  holds-behind base.held old.sink.held new.sink.held (written w.run) (entry_text event facts w)
+      reached.shown.written wrote.1,
 )
 written-ends base w event facts old new (Err halts.Memory) reached tidy stands wrote =
-    holds-behind base.held old.sink.held new.sink.held (written w.run) (entry_text event facts w) reached.shown.written wrote
-written-ends base w event facts old new (Err (halts.Limit which)) reached tidy stands wrote = absurd wrote
-written-ends base w event facts old new (Err (halts.RepeatedDraw first second)) reached tidy stands wrote = absurd wrote
-written-ends base w event facts old new (Err (halts.Forged line)) reached tidy stands wrote = absurd wrote
+    holds-behind base.held old.sink.held new.sink.held (written w.run) (entry_text event facts w)
+    reached.shown.written wrote
+written-ends base w event facts old new (Err (halts.Limit which)) reached tidy stands wrote =
+    absurd wrote
+written-ends base w event facts old new (Err (halts.RepeatedDraw first second)) reached tidy stands
+    wrote = absurd wrote
+written-ends base w event facts old new (Err (halts.Forged line)) reached tidy stands wrote =
+    absurd wrote
 
 shows-next : (w : World) (event : Event) → IsExact w event → ShowsNext (settings w) w.run event
 shows-next w (events.Start name sci priority) exact = tt
@@ -126,11 +153,17 @@ pub record Keeps (event : Event) (facts : List Fact) (old new : Stage) : Type 0 
   pub cuts : new.cuts ≡ old.cuts
   pub names : new.names.items ≡ old.names.items ++ map (λ (p : Profile). p.name) (started event)
   pub scis : new.scis.items ≡ old.scis.items ++ map (λ (p : Profile). p.sci) (started event)
-  pub frames : new.frames ≡ record { frames = old.frames.frames ++ puts old.frames.rounds facts; rounds = old.frames.rounds }
-  pub numbers : (settings : Settings) (r : Run) → TellNext settings r old.numbers → ShowsNext settings r event
+  pub frames : new.frames ≡ record {
+    frames = old.frames.frames
+        ++ puts old.frames.rounds facts;
+    rounds = old.frames.rounds;
+  }
+  pub numbers : (settings : Settings) (r : Run) → TellNext settings r old.numbers
+      → ShowsNext settings r event
       → TellNext settings (happened event facts ∷ r) new.numbers
 
-stands-after : (w : World) (event : Event) (facts : List Fact) (old new : Stage) → StandsFor w old → IsExact w event
+stands-after : (w : World) (event : Event) (facts : List Fact) (old new : Stage) → StandsFor w old
+    → IsExact w event
     → Told w event facts new → Keeps event facts old new → StandsFor (world_after w event facts) new
 unfolding stations
 stands-after w event facts old new stands exact told keeps = record {
@@ -140,29 +173,39 @@ stands-after w event facts old new stands exact told keeps = record {
   lag = keeps.lag ∙ stands.lag;
   lan = told.lan;
   draws = told.draws;
-  names = keeps.names ∙ ap (λ (l : List (List ℕ)). l ++ map (λ (p : Profile). p.name) (started event)) stands.names
+  names = keeps.names ∙ ap (λ (l : List (List ℕ)). l
+      ++ map (λ (p : Profile). p.name) (started event)) stands.names
       ∙ sym (map-append (λ (p : Profile). p.name) (stations w.run) (started event));
   scis = keeps.scis ∙ ap (λ l. l ++ map (λ (p : Profile). p.sci) (started event)) stands.scis
       ∙ sym (map-append (λ (p : Profile). p.sci) (stations w.run) (started event));
   users = keeps.users ∙ stands.users;
-  flow = keeps.frames ∙ ap (λ (f : Flow). record { frames = f.frames ++ puts f.rounds facts; rounds = f.rounds }) stands.flow;
+  flow = keeps.frames ∙ ap (λ (f : Flow).
+      record { frames = f.frames ++ puts f.rounds facts; rounds = f.rounds }) stands.flow;
   cuts = keeps.cuts ∙ stands.cuts;
   numbers = keeps.numbers (settings w) w.run stands.numbers (shows-next w event exact);
 }
 
 -- the event happened, and its facts were written, or a front of them
-pub event-did : (given : Option UserFrame) (event : Event) (facts : List Fact) (old new : Moment Stage) (r : Result (Unit {0}) Halt) → IsTyped event
+pub event-did : (given : Option UserFrame) (event : Event) (facts : List Fact)
+    (old new : Moment Stage) (r : Result (Unit {0}) Halt) → IsTyped event
     → StepGoes given event old.value new.value (Ok facts) → Keeps event facts old.value new.value
-    → Writes (transcript new.value.names.items facts) old.sink new.sink r → Happened given event old new r
+    → Writes (transcript new.value.names.items facts) old.sink new.sink r
+    → Happened given event old new r
 event-did given event facts old new r typed step keeps wrote = record {
   ends = λ base w reached is comes.
       let stands = reached.stands in
-      let goes = step (settings w) w.kept.users w.run stands.lan (subst (λ (g : Option UserFrame). MayCome (settings w) w.kept.users w.run g event) (sym is) comes.0) in
+      let goes = step (settings w) w.kept.users w.run stands.lan
+      (subst (λ (g : Option UserFrame). MayCome (settings w) w.kept.users w.run g event)
+      (sym is) comes.0) in
       let told = told-by w event facts old.value new.value stands goes in
       let after_it = stands-after w event facts old.value new.value stands comes.1 told keeps in
-      let tidy = tidy-after w event facts reached.shown.tidy comes typed told.stopless told.shows told.lan stands.begun in
-      subst (λ (a : Result (List Fact) Halt). Ends StandsFor base (shown w event a) new r) (sym told.answers)
-      (written-ends base w event facts old new r reached tidy after_it (subst (λ (names : List (List ℕ)). Writes (transcript names facts) old.sink new.sink r) after_it.names wrote));
+      let tidy = tidy-after w event facts reached.shown.tidy comes typed told.stopless told.shows
+      told.lan stands.begun in
+      subst (λ (a : Result (List Fact) Halt). Ends StandsFor base (shown w event a) new r)
+      (sym told.answers)
+      (written-ends base w event facts old new r reached tidy after_it
+      (subst (λ (names : List (List ℕ)). Writes (transcript names facts) old.sink new.sink r)
+      after_it.names wrote));
 }
 
 -- the group met a stop
@@ -172,10 +215,18 @@ stopped-ends base w line stops.DrawsSpent new h = (w, refl, h)
 stopped-ends base w line (stops.Limit which) new h = (w, refl, h)
 stopped-ends base w line (stops.RepeatedDraw first second) new h = (w, refl, h)
 stopped-ends base w line (stops.Forged station) new h = (w, refl, h)
-stopped-ends base w line stops.Memory new h = record { front = written w.run; rest = []; parts = append-nil (written w.run); held = h.written }
+stopped-ends base w line stops.Memory new h =
+    record {
+      front = written w.run;
+      rest = [];
+      parts = append-nil (written w.run);
+      held =
+          h.written;
+    }
 
 -- no memory, before anything was written
-memory-ends : (base : Sunk) (w : World) (event : Event) (old new : Moment Stage) → IsReached StandsFor base w old → new.sink ≡ old.sink
+memory-ends : (base : Sunk) (w : World) (event : Event) (old new : Moment Stage)
+    → IsReached StandsFor base w old → new.sink ≡ old.sink
     → EndsEarly base (perform (happen event) w) new.sink halts.Memory
 memory-ends base w event old new reached same =
     let longer = grows (happen event) w in
@@ -186,29 +237,43 @@ memory-ends base w event old new reached same =
       held = ap (λ (s : Sunk). s.held) same ∙ reached.shown.written;
     }
 
-is-shown : (base : Sunk) (w : World) (old new : Moment Stage) → IsReached StandsFor base w old → new.sink ≡ old.sink → IsShown base w new.sink
-is-shown base w old new reached same = subst (λ (s : Sunk). IsShown base w s) (sym same) reached.shown
+is-shown : (base : Sunk) (w : World) (old new : Moment Stage) → IsReached StandsFor base w old
+    → new.sink ≡ old.sink → IsShown base w new.sink
+is-shown base w old new reached same =
+    subst (λ (s : Sunk). IsShown base w s) (sym same) reached.shown
 
-pub event-stopped : (given : Option UserFrame) (event : Event) (stop : Stop) (line : ℕ) (old new : Moment Stage)
-    → StepGoes given event old.value new.value (Err stop) → line ≡ old.value.line → new.sink ≡ old.sink
+pub event-stopped : (given : Option UserFrame) (event : Event) (stop : Stop) (line : ℕ)
+    (old new : Moment Stage)
+    → StepGoes given event old.value new.value (Err stop) → line ≡ old.value.line
+    → new.sink ≡ old.sink
     → Happened given event old new (Err (halt_of line stop))
 event-stopped given event stop line old new step is_line same = record {
   ends = λ base w reached is comes.
       let stands = reached.stands in
-      let goes = step (settings w) w.kept.users w.run stands.lan (subst (λ (g : Option UserFrame). MayCome (settings w) w.kept.users w.run g event) (sym is) comes.0) in
+      let goes = step (settings w) w.kept.users w.run stands.lan
+      (subst (λ (g : Option UserFrame). MayCome (settings w) w.kept.users w.run g event)
+      (sym is) comes.0) in
       let at_line : line ≡ w.kept.line = is_line ∙ stands.line in
       elim goes as (λ _. EndsEarly base (perform (happen event) w) new.sink (halt_of line stop)) [
-        | inl memory ↦ subst (λ (s : Stop). EndsEarly base (perform (happen event) w) new.sink (halt_of line s)) (sym memory) (memory-ends base w event old new reached same)
+        | inl memory ↦ subst (λ (s : Stop).
+            EndsEarly base (perform (happen event) w) new.sink (halt_of line s)) (sym memory)
+            (memory-ends base w event old new reached same)
         | inr first ↦
             let met : answer w event ≡ Err (halt_of line stop) =
-            ap (λ (o : Option Stop). answered w event o) (subst (λ (nth : ℕ → Option (List ℕ)). first_stop (settings w) w.kept.users w.run event nth ≡ Some stop) (same-supply w old.value stands) first)
+            ap (λ (o : Option Stop). answered w event o)
+            (subst (λ (nth : ℕ → Option (List ℕ)).
+            first_stop (settings w) w.kept.users w.run event nth ≡ Some stop)
+            (same-supply w old.value stands) first)
             ∙ ap (λ (n : ℕ). Err (halt_of n stop)) (sym at_line) in
-            subst (λ (a : Result (List Fact) Halt). EndsEarly base (shown w event a) new.sink (halt_of line stop)) (sym met)
+            subst (λ (a : Result (List Fact) Halt).
+            EndsEarly base (shown w event a) new.sink (halt_of line stop)) (sym met)
             (stopped-ends base w line stop new.sink (is-shown base w old new reached same))
       ];
 }
 
 -- an event that names no user frame
-pub plainly : (event : Event) (old new : Moment Stage) (r : Result (Unit {0}) Halt) → ((w : World) → None ≡ named w event)
+pub plainly : (event : Event) (old new : Moment Stage) (r : Result (Unit {0}) Halt)
+    → ((w : World) → None ≡ named w event)
     → Happened None event old new r → Did StandsFor (happen event) old new r
-plainly event old new r none h = record { ends = λ base w reached comes. h.ends base w reached (none w) comes }
+plainly event old new r none h =
+    record { ends = λ base w reached comes. h.ends base w reached (none w) comes }

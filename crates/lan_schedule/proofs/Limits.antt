@@ -1,5 +1,6 @@
 -- No act meets the limit of the input, and the beginning is tidy.
-use Rattle.std.proofs.Common.{◌≡◌, ℕ, ◌+◌, Bool, true, false, List, [], ◌∷◌, Option, Some, None, refl, sym, ap, ◌∙◌, arith}
+use Rattle.std.proofs.Common.{◌≡◌, ℕ, ◌+◌, Bool, true, false, List, [], ◌∷◌, Option, Some, None}
+use Rattle.std.proofs.Common.{refl, sym, ap, ◌∙◌, arith}
 use Rattle.std.specs.Prelude.{Result, Ok, Err, cond, nat_lt, option_map, option_and_then}
 use Rattle.std.specs.Option.{option_or}
 use Rattle.lan_base.specs.declared.frame.UserFrame.{UserFrame}
@@ -16,13 +17,15 @@ use Rattle.lan_core.specs.Ledgers.{air, installs}
 use Rattle.lan_core.specs.Claims.{claimed}
 use Rattle.lan_core.specs.Expected.{expected, drawn_from}
 use Rattle.lan_core.specs.Fresh.{is_forged}
-use Rattle.lan_core.specs.Stops.{passed, first_stop, stop_at, stop_of_draw, stop_of_forgery, drawn_before, draws_in}
+use Rattle.lan_core.specs.Stops.{passed, first_stop, stop_at, stop_of_draw, stop_of_forgery}
+use Rattle.lan_core.specs.Stops.{drawn_before, draws_in}
 use Rattle.lan_core.specs.Stops.{is_spent, draws_needed}
 use Rattle.lan_schedule.specs.declared.halt.Halt.{Halt}
 use Rattle.lan_schedule.specs.declared.halt.Halt.TheVariants as halts
 use Rattle.lan_schedule.specs.World.{World, beginning, settings}
 use Rattle.lan_schedule.specs.Answers.{answer, answered, supply, halt_of}
-use Rattle.lan_schedule.specs.Acts.{Act, nothing, refuse, happen, change, seq, look, perform, Outcome, Goes, Stops, shown, and_then}
+use Rattle.lan_schedule.specs.Acts.{Act, nothing, refuse, happen, change, seq, look, perform}
+use Rattle.lan_schedule.specs.Acts.{Outcome, Goes, Stops, shown, and_then}
 use Rattle.lan_schedule.specs.Sound.{IsTidy}
 use Rattle.lan_schedule.proofs.Drawing.{counted-draws}
 use Rattle.lan_schedule.proofs.LinesCome.{sound-empty}
@@ -31,7 +34,14 @@ pub tidy-beginning : IsTidy beginning
 unfolding air installs stations claimed
 tidy-beginning = record {
   sound = sound-empty (settings beginning) [];
-  within = record { frames = omega arith; octets = omega arith; ticks = omega arith; installs = λ s. omega arith; stations = omega arith };
+  within = record {
+    frames = omega arith;
+    octets = omega arith;
+    ticks = omega arith;
+    installs =
+        λ s. omega arith;
+    stations = omega arith;
+  };
   frames = refl;
   numbered = tt;
   in_turn = omega arith;
@@ -41,7 +51,8 @@ tidy-beginning = record {
 
 -- ---- a stop
 
-not-yet : (b : Bool) (w : Which) (o : Option Which) → (w ≡ which.Input → ⊥) → (o ≡ Some which.Input → ⊥)
+not-yet : (b : Bool) (w : Which) (o : Option Which) → (w ≡ which.Input → ⊥)
+    → (o ≡ Some which.Input → ⊥)
     → cond b (Some w) o ≡ Some which.Input → ⊥
 not-yet true w o here later e = here (let same : w ≡ which.Input = cc in same)
 not-yet false w o here later e = later e
@@ -54,24 +65,30 @@ passed-never r =
     (not-yet _ which.Keys _ (λ e. cc e)
     (not-yet _ which.Stations None (λ e. cc e) (λ e. cc e)))))
 
-either-never : (o p : Option Stop) → (o ≡ Some (stops.Limit which.Input) → ⊥) → (p ≡ Some (stops.Limit which.Input) → ⊥)
+either-never : (o p : Option Stop) → (o ≡ Some (stops.Limit which.Input) → ⊥)
+    → (p ≡ Some (stops.Limit which.Input) → ⊥)
     → option_or o p ≡ Some (stops.Limit which.Input) → ⊥
 either-never None p first second e = second e
 either-never (Some stop) p first second e = first e
 
-limit-never : (o : Option Which) → (o ≡ Some which.Input → ⊥) → option_map stops.Limit o ≡ Some (stops.Limit which.Input) → ⊥
+limit-never : (o : Option Which) → (o ≡ Some which.Input → ⊥)
+    → option_map stops.Limit o ≡ Some (stops.Limit which.Input) → ⊥
 limit-never None never e = cc e
-limit-never (Some w) never e = never (let same : w ≡ which.Input = cc in ap (λ (w : Which). Some w) same)
+limit-never (Some w) never e =
+    never (let same : w ≡ which.Input = cc in ap (λ (w : Which). Some w) same)
 
-draw-never : (suite : ℕ) (r : Run) (x : Happening) → stop_of_draw suite r x ≡ Some (stops.Limit which.Input) → ⊥
+draw-never : (suite : ℕ) (r : Run) (x : Happening)
+    → stop_of_draw suite r x ≡ Some (stops.Limit which.Input) → ⊥
 draw-never suite r x = go (drawn_before suite r x)
   where
     go : (o : Option ℕ)
-        → option_map (λ first. stops.RepeatedDraw first (draws_in suite r + 1)) o ≡ Some (stops.Limit which.Input) → ⊥
+        → option_map (λ first. stops.RepeatedDraw first (draws_in suite r + 1)) o
+        ≡ Some (stops.Limit which.Input) → ⊥
     go None e = cc e
     go (Some first) e = cc e
 
-forged-never : (b : Bool) (s : ℕ) → cond b (Some (stops.Forged s)) None ≡ Some (stops.Limit which.Input) → ⊥
+forged-never : (b : Bool) (s : ℕ)
+    → cond b (Some (stops.Forged s)) None ≡ Some (stops.Limit which.Input) → ⊥
 forged-never true s e = cc e
 forged-never false s e = cc e
 
@@ -95,31 +112,38 @@ stop-never settings r event shown =
     (either-never (stop_of_draw settings.suite r x) (stop_of_forgery settings r event)
     (draw-never settings.suite r x) (forgery-never settings r event))
 
-first-never : (settings : Settings) (users : List UserFrame) (r : Run) (event : Event) (nth : ℕ → Option (List ℕ))
+first-never : (settings : Settings) (users : List UserFrame) (r : Run) (event : Event)
+    (nth : ℕ → Option (List ℕ))
     → first_stop settings users r event nth ≡ Some (stops.Limit which.Input) → ⊥
 unfolding first_stop
 first-never settings users r event nth =
-    go (is_spent (draws_needed settings r event) nth) (expected settings users r event (drawn_from settings.suite nth))
+    go (is_spent (draws_needed settings r event) nth)
+    (expected settings users r event (drawn_from settings.suite nth))
   where
     go : (b : Bool) (o : Option (List Fact))
-        → cond b (Some stops.DrawsSpent) (option_and_then (stop_at settings r event) o) ≡ Some (stops.Limit which.Input) → ⊥
+        → cond b (Some stops.DrawsSpent) (option_and_then (stop_at settings r event) o)
+        ≡ Some (stops.Limit which.Input) → ⊥
     go true o e = cc e
     go false None e = cc e
     go false (Some shown) e = stop-never settings r event shown e
 
-halt-never : (line : ℕ) (stop : Stop) → halt_of line stop ≡ halts.Limit which.Input → stop ≡ stops.Limit which.Input
-halt-never line (stops.Limit w) e = let same : w ≡ which.Input = cc in ap (λ (w : Which). stops.Limit w) same
+halt-never : (line : ℕ) (stop : Stop) → halt_of line stop ≡ halts.Limit which.Input
+    → stop ≡ stops.Limit which.Input
+halt-never line (stops.Limit w) e = let same : w
+    ≡ which.Input = cc in ap (λ (w : Which). stops.Limit w) same
 halt-never line stops.DrawsSpent e = absurd (cc e)
 halt-never line (stops.RepeatedDraw first second) e = absurd (cc e)
 halt-never line (stops.Forged s) e = absurd (cc e)
 halt-never line stops.Memory e = absurd (cc e)
 
-never-answered : (w : World) (event : Event) (o : Option Stop) → (o ≡ Some (stops.Limit which.Input) → ⊥)
+never-answered : (w : World) (event : Event) (o : Option Stop)
+    → (o ≡ Some (stops.Limit which.Input) → ⊥)
     → answered w event o ≡ Err (halts.Limit which.Input) → ⊥
 never-answered w event None never e = cc e
 never-answered w event (Some stop) never e =
     never (ap (λ (s : Stop). Some s)
-    (halt-never w.kept.line stop (let same : halt_of w.kept.line stop ≡ halts.Limit which.Input = cc in same)))
+    (halt-never w.kept.line stop (let same : halt_of w.kept.line stop
+    ≡ halts.Limit which.Input = cc in same)))
 
 -- an event meets no such stop
 event-never : (w : World) (event : Event) → answer w event ≡ Err (halts.Limit which.Input) → ⊥
@@ -127,19 +151,26 @@ event-never w event e =
     never-answered w event (first_stop (settings w) w.kept.users w.run event (supply w))
     (first-never (settings w) w.kept.users w.run event (supply w)) e
 
-never-shown : (w v : World) (event : Event) (r : Result (List Fact) Halt) → (r ≡ Err (halts.Limit which.Input) → ⊥) → shown w event r ≡ Stops v (halts.Limit which.Input) → ⊥
+never-shown : (w v : World) (event : Event) (r : Result (List Fact) Halt)
+    → (r ≡ Err (halts.Limit which.Input) → ⊥) → shown w event r ≡ Stops v (halts.Limit which.Input)
+    → ⊥
 never-shown w v event (Ok facts) never e = cc e
-never-shown w v event (Err halt) never e = never (let same : halt ≡ halts.Limit which.Input = cc in ap (λ (h : Halt). Err h) same)
+never-shown w v event (Err halt) never e =
+    never (let same : halt ≡ halts.Limit which.Input = cc in ap (λ (h : Halt). Err h) same)
 
-never-both : (v : World) (out : Outcome) (g : World → Outcome) → ((u : World) → out ≡ Stops u (halts.Limit which.Input) → ⊥)
-    → ((u : World) → g u ≡ Stops v (halts.Limit which.Input) → ⊥) → and_then out g ≡ Stops v (halts.Limit which.Input) → ⊥
+never-both : (v : World) (out : Outcome) (g : World → Outcome)
+    → ((u : World) → out ≡ Stops u (halts.Limit which.Input) → ⊥)
+    → ((u : World) → g u ≡ Stops v (halts.Limit which.Input) → ⊥)
+    → and_then out g ≡ Stops v (halts.Limit which.Input) → ⊥
 never-both v (Goes u) g first second e = second u e
-never-both v (Stops u halt) g first second e = first u (let same : halt ≡ halts.Limit which.Input = cc in ap (λ (h : Halt). Stops u h) same)
+never-both v (Stops u halt) g first second e =
+    first u (let same : halt ≡ halts.Limit which.Input = cc in ap (λ (h : Halt). Stops u h) same)
 
 pub never-input : (act : Act) (w v : World) → perform act w ≡ Stops v (halts.Limit which.Input) → ⊥
 never-input nothing w v e = cc e
 never-input (refuse kind) w v e = cc e
 never-input (happen event) w v e = never-shown w v event (answer w event) (event-never w event) e
 never-input (change f) w v e = cc e
-never-input (seq f g) w v e = never-both v (perform f w) (λ u. perform g u) (λ u first. never-input f w u first) (λ u second. never-input g u v second) e
+never-input (seq f g) w v e = never-both v (perform f w) (λ u. perform g u)
+    (λ u first. never-input f w u first) (λ u second. never-input g u v second) e
 never-input (look f) w v e = never-input (f w) w v e

@@ -1,5 +1,7 @@
 -- What each line performs can be performed.
-use Rattle.std.proofs.Common.{◌≡◌, ◌<◌, ◌≤◌, ◌≢◌, ℕ, zero, suc, ◌+◌, ◌-◌, ◌==◌, Bool, true, false, List, [], ◌∷◌, ◌++◌, length, Option, Some, None, ◌⊎◌, inl, inr, refl, sym, ap, ◌∙◌, subst, length-append, arith}
+use Rattle.std.proofs.Common.{◌≡◌, ◌<◌, ◌≤◌, ◌≢◌, ℕ, zero, suc, ◌+◌, ◌-◌, ◌==◌, Bool, true, false}
+use Rattle.std.proofs.Common.{List, [], ◌∷◌, ◌++◌, length, Option, Some, None, ◌⊎◌, inl, inr, refl}
+use Rattle.std.proofs.Common.{sym, ap, ◌∙◌, subst, length-append, arith}
 use Rattle.std.specs.Prelude.{cond, map, not, ◌&&◌, ◌||◌, nat_le, nat_lt, nat_eq, is_some, All}
 use Rattle.std.specs.List.{find, list_any, position_or_len}
 use Rattle.std.specs.Option.{is_none}
@@ -36,7 +38,8 @@ use Rattle.lan_schedule.specs.World.{World, Kept, count, settings, names_of, sci
 use Rattle.lan_schedule.specs.Numbers.{in_range, claimed_number}
 use Rattle.lan_core.specs.Unstopped.{next_under}
 use Rattle.lan_schedule.specs.Acts.{Act, Goes, refuse, happen, seq, unless, perform}
-use Rattle.lan_schedule.specs.Kinds.{or_else, where_, unknown, is_number, no_frame, is_performed, is_allowed, may_list, wrong_word, refusal}
+use Rattle.lan_schedule.specs.Kinds.{or_else, where_, unknown, is_number, no_frame, is_performed}
+use Rattle.lan_schedule.specs.Kinds.{is_allowed, may_list, wrong_word, refusal}
 use Rattle.lan_schedule.specs.Lines.{add_user, send, chosen_by, deed, act_of, unless_refused}
 use Rattle.lan_schedule.specs.Sound.{IsTidy, IsSound, numbers_of}
 use Rattle.lan_schedule.specs.inside.Comes.{Comes}
@@ -48,7 +51,8 @@ use Rattle.lan_schedule.proofs.Drawing.{bytes-all}
 use Rattle.lan_schedule.proofs.Awaiting.{waits-then}
 use Rattle.lan_schedule.proofs.Users.{user-at-end}
 use Rattle.lan_schedule.proofs.Placing.{place-there}
-use Rattle.lan_schedule.proofs.Coming.{IsOnAir, find-more, is-going, one-at-least, comes-ticks, comes-rounds, comes-spread, comes-flow, tidy-marked}
+use Rattle.lan_schedule.proofs.Coming.{IsOnAir, find-more, is-going, one-at-least, comes-ticks}
+use Rattle.lan_schedule.proofs.Coming.{comes-rounds, comes-spread, comes-flow, tidy-marked}
 
 -- ---- what a line is not refused for
 
@@ -82,43 +86,58 @@ is-right line w e =
     let allowed = is_allowed line w.kept.begun w.kept.chosen in
     let later = (or-none (where_ (not (is_performed line)) kinds.Word) _ e).1 in
     let both = or-none (where_ (not allowed) kinds.Order) (wrong_in line w) later in
-    record { allowed = not-false allowed (where-none (not allowed) kinds.Order both.0); words = both.1 }
+    record {
+      allowed = not-false allowed (where-none (not allowed) kinds.Order both.0);
+      words =
+          both.1;
+    }
 
 -- ---- names and frames
 
 known : (name : List ℕ) (w : World) → unknown name (names_of w.run) ≡ None → place w name < count w
 known name w e =
-    let there : is_in name (names_of w.run) ≡ true = not-false (is_in name (names_of w.run)) (where-none _ kinds.NameUnknown e) in
-    let lt : place w name < length (names_of w.run) = place-there (pointwise nat_eq name) (names_of w.run) there in
-    let same : length (names_of w.run) ≡ count w = length-map (stations w.run) (λ (p : Profile). p.name) in
+    let there : is_in name (names_of w.run)
+    ≡ true = not-false (is_in name (names_of w.run)) (where-none _ kinds.NameUnknown e) in
+    let lt : place w name < length (names_of w.run) =
+    place-there (pointwise nat_eq name) (names_of w.run) there in
+    let same : length (names_of w.run)
+    ≡ count w = length-map (stations w.run) (λ (p : Profile). p.name) in
     omega arith
 
 numbers-length : (xs : List Frame) → length (numbers_of xs) ≡ length xs
 numbers-length [] = refl
-numbers-length (f ∷ earlier) = let e = numbers-length earlier in length-append (numbers_of earlier) (f.number ∷ []) ∙ omega arith
+numbers-length (f ∷ earlier) = let e = numbers-length earlier in
+    length-append (numbers_of earlier) (f.number ∷ []) ∙ omega arith
 
 differs : (a b : ℕ) → (a == b) ≡ false → a ≢ b
 differs a b e = grind arith
 
-found-one : (number : ℕ) (f : Frame) (earlier : List Frame) (b : Bool) → (f.number == number) ≡ b → f.number ≡ length earlier + 1 → number ≤ length (f ∷ earlier)
+found-one : (number : ℕ) (f : Frame) (earlier : List Frame) (b : Bool) → (f.number == number) ≡ b
+    → f.number ≡ length earlier + 1 → number ≤ length (f ∷ earlier)
     → (number ≤ length earlier → is_some (find (λ (g : Frame). g.number == number) earlier) ≡ true)
     → is_some (cond b (Some f) (find (λ (g : Frame). g.number == number) earlier)) ≡ true
 found-one number f earlier true e top high lower = refl
-found-one number f earlier false e top high lower = let never = differs f.number number e in lower (omega arith)
+found-one number f earlier false e top high lower = let never = differs f.number number e in
+    lower (omega arith)
 
-found-by : (number : ℕ) (xs : List Frame) → AreNumbered xs → 1 ≤ number → number ≤ length xs → is_some (find (λ (f : Frame). f.number == number) xs) ≡ true
+found-by : (number : ℕ) (xs : List Frame) → AreNumbered xs → 1 ≤ number → number ≤ length xs
+    → is_some (find (λ (f : Frame). f.number == number) xs) ≡ true
 found-by number [] h low high = absurd (omega arith)
 found-by number (f ∷ earlier) h low high =
-    found-one number f earlier (f.number == number) refl h.0 high (λ lower. found-by number earlier h.1 low lower)
+    found-one number f earlier (f.number == number) refl h.0 high
+    (λ lower. found-by number earlier h.1 low lower)
 
 le-true : (a b : ℕ) → nat_le a b ≡ true → a ≤ b
 le-true a b e = grind arith
 
-on-air : (number : ℕ) (w : World) → IsTidy w → no_frame number (length w.kept.frames) ≡ None → IsOnAir w.run number
+on-air : (number : ℕ) (w : World) → IsTidy w → no_frame number (length w.kept.frames) ≡ None
+    → IsOnAir w.run number
 on-air number w tidy e =
-    let both = and-true (nat_le 1 number) (nat_le number (length w.kept.frames)) (not-false (is_number number (length w.kept.frames)) (where-none _ kinds.FrameUnknown e)) in
+    let both = and-true (nat_le 1 number) (nat_le number (length w.kept.frames))
+    (not-false (is_number number (length w.kept.frames)) (where-none _ kinds.FrameUnknown e)) in
     let same : length w.kept.frames ≡ length (air w.run) =
-    sym (length-map w.kept.frames (λ (put : Put). put.number)) ∙ ap (λ (l : List ℕ). length l) tidy.frames ∙ numbers-length (air w.run) in
+    sym (length-map w.kept.frames (λ (put : Put). put.number))
+    ∙ ap (λ (l : List ℕ). length l) tidy.frames ∙ numbers-length (air w.run) in
     let low : 1 ≤ number = le-true 1 number both.0 in
     let high : number ≤ length w.kept.frames = le-true number (length w.kept.frames) both.1 in
     found-by number (air w.run) tidy.numbered low (omega arith)
@@ -135,16 +154,20 @@ sound-empty settings users = record {
 }
 
 -- before the first station whatever is kept leaves a world tidy
-pub tidy-unbegun : (w v : World) → IsTidy w → w.run ≡ [] → v.run ≡ w.run → v.kept.frames ≡ w.kept.frames → AreDraws (draw_at (rule_of v.kept.chosen)) → IsTidy v
+pub tidy-unbegun : (w v : World) → IsTidy w → w.run ≡ [] → v.run ≡ w.run
+    → v.kept.frames ≡ w.kept.frames → AreDraws (draw_at (rule_of v.kept.chosen)) → IsTidy v
 unfolding air claimed
 tidy-unbegun w v tidy empty same frames draws =
     let none : v.run ≡ [] = same ∙ empty in
     record {
-      sound = subst (λ (r : Run). IsSound (settings v) v.kept.users r) (sym none) (sound-empty (settings v) v.kept.users);
+      sound = subst (λ (r : Run). IsSound (settings v) v.kept.users r) (sym none)
+          (sound-empty (settings v) v.kept.users);
       within = rw same tidy.within;
-      frames = ap (λ l. map (λ put. put.number) l) frames ∙ tidy.frames ∙ ap (λ (r : Run). numbers_of (air r)) (sym same);
+      frames = ap (λ l. map (λ put. put.number) l) frames ∙ tidy.frames
+          ∙ ap (λ (r : Run). numbers_of (air r)) (sym same);
       numbered = rw same tidy.numbered;
-      in_turn = subst (λ (r : Run). length (emitted r) ≤ length (claimed (settings v) r)) (sym none) (omega arith);
+      in_turn = subst (λ (r : Run). length (emitted r) ≤ length (claimed (settings v) r)) (sym none)
+          (omega arith);
       waits = λ e. none;
       draws = draws;
     }
@@ -153,15 +176,19 @@ unbegun-by : (a b : Bool) → (not a && b) ≡ true → a ≡ false
 unbegun-by true b e = absurd (cc e)
 unbegun-by false b e = refl
 
-chosen-comes : (line : Line) → IsInForm line → (b : Bool) (w : World) → IsTidy w → (not w.kept.begun && b) ≡ true
+chosen-comes : (line : Line) → IsInForm line → (b : Bool) (w : World) → IsTidy w
+    → (not w.kept.begun && b) ≡ true
     → IsTidy (record w { kept = record w.kept { chosen = chosen_by line w.kept.chosen } })
 chosen-comes line form b w tidy e =
     let unbegun : w.kept.begun ≡ false = unbegun-by w.kept.begun b e in
-    tidy-unbegun w _ tidy (tidy.waits unbegun) refl refl (chosen-draws line form w.kept.chosen tidy.draws)
+    tidy-unbegun w _ tidy (tidy.waits unbegun) refl refl
+    (chosen-draws line form w.kept.chosen tidy.draws)
 
 -- what is kept and no world looks at leaves a world tidy
-pub tidy-same : (w : World) (kept : Kept) → IsTidy w → kept.chosen ≡ w.kept.chosen → kept.users ≡ w.kept.users
-    → kept.frames ≡ w.kept.frames → (kept.begun ≡ false → w.kept.begun ≡ false) → IsTidy (record w { kept = kept })
+pub tidy-same : (w : World) (kept : Kept) → IsTidy w → kept.chosen ≡ w.kept.chosen
+    → kept.users ≡ w.kept.users
+    → kept.frames ≡ w.kept.frames → (kept.begun ≡ false → w.kept.begun ≡ false)
+    → IsTidy (record w { kept = kept })
 tidy-same w kept tidy chosen users frames begun = record {
   sound = rw (chosen, users) tidy.sound;
   within = tidy.within;
@@ -181,24 +208,33 @@ same-octets [] = refl
 same-octets (x ∷ xs) = let e : nat_eq x x ≡ true = grind arith in rw e (same-octets xs)
 
 other-name : (name other : List ℕ) → pointwise nat_eq name other ≡ false → other ≢ name
-other-name name other never e = let bad : true ≡ false = sym (same-octets name) ∙ ap (λ (xs : List ℕ). pointwise nat_eq name xs) (sym e) ∙ never in cc bad
+other-name name other never e = let bad : true ≡ false = sym (same-octets name)
+    ∙ ap (λ (xs : List ℕ). pointwise nat_eq name xs) (sym e) ∙ never in cc bad
 
-other-sci : (sci : List ℕ) (other : Sci) → pointwise nat_eq sci other.0 ≡ false → other ≢ (record { 0 = sci })
-other-sci sci other never e = let bad : true ≡ false = sym (same-octets sci) ∙ ap (λ (s : Sci). pointwise nat_eq sci s.0) (sym e) ∙ never in cc bad
+other-sci : (sci : List ℕ) (other : Sci) → pointwise nat_eq sci other.0 ≡ false
+    → other ≢ (record { 0 = sci })
+other-sci sci other never e = let bad : true ≡ false = sym (same-octets sci)
+    ∙ ap (λ (s : Sci). pointwise nat_eq sci s.0) (sym e) ∙ never in cc bad
 
 -- no station has a name or an SCI that is not taken
-new-station : (name sci : List ℕ) (ps : List Profile) → is_in name (map (λ (p : Profile). p.name) ps) ≡ false
-    → is_in sci (map (λ (p : Profile). p.sci.0) ps) ≡ false → All (λ (p : Profile). (p.name ≢ name) × (p.sci ≢ (record { 0 = sci }))) ps
+new-station : (name sci : List ℕ) (ps : List Profile)
+    → is_in name (map (λ (p : Profile). p.name) ps) ≡ false
+    → is_in sci (map (λ (p : Profile). p.sci.0) ps) ≡ false
+    → All (λ (p : Profile). (p.name ≢ name) × (p.sci ≢ (record { 0 = sci }))) ps
 new-station name sci [] no_name no_sci = λ k d lt. absurd (omega arith)
 new-station name sci (p ∷ ps) no_name no_sci =
-    All-cons (λ (q : Profile). (q.name ≢ name) × (q.sci ≢ (record { 0 = sci }))) p ps
-    (other-name name p.name (or-false (pointwise nat_eq name p.name) _ no_name).0, other-sci sci p.sci (or-false (pointwise nat_eq sci p.sci.0) _ no_sci).0)
-    (new-station name sci ps (or-false (pointwise nat_eq name p.name) _ no_name).1 (or-false (pointwise nat_eq sci p.sci.0) _ no_sci).1)
+    All-cons (λ (q : Profile). (q.name ≢ name) × (q.sci ≢ (record { 0 = sci }))) p ps (
+      other-name name p.name (or-false (pointwise nat_eq name p.name) _ no_name).0,
+      other-sci sci p.sci (or-false (pointwise nat_eq sci p.sci.0) _ no_sci).0,
+    )
+    (new-station name sci ps (or-false (pointwise nat_eq name p.name) _ no_name).1
+    (or-false (pointwise nat_eq sci p.sci.0) _ no_sci).1)
 
 -- ---- user data
 
 -- one user frame more leaves a world tidy
-tidy-user : (user : UserFrame) (w : World) → IsTidy w → IsTidy (record w { kept = record w.kept { users = w.kept.users ++ user ∷ [] } })
+tidy-user : (user : UserFrame) (w : World) → IsTidy w
+    → IsTidy (record w { kept = record w.kept { users = w.kept.users ++ user ∷ [] } })
 tidy-user user w tidy = record {
   sound = record {
     legal = legal-more (settings w) w.kept.users (user ∷ []) w.run tidy.sound.legal;
@@ -220,69 +256,104 @@ lt-true a b e = grind arith
 lt-false : (a b : ℕ) → nat_lt a b ≡ false → b ≤ a
 lt-false a b e = grind arith
 
-by-range : (n : ℕ) (user : Option UserFrame) (b : Bool) → nat_lt last_number n ≡ b → 1 ≤ n → IsSendable user
-    → ((cond b 0 n ≡ 0) × (last_number < n)) ⊎ ((1 ≤ cond b 0 n) × (n ≤ cond b 0 n) × (cond b 0 n ≤ last_number) × (user ≡ user) × IsSendable user)
+by-range : (n : ℕ) (user : Option UserFrame) (b : Bool) → nat_lt last_number n ≡ b → 1 ≤ n
+    → IsSendable user
+    → ((cond b 0 n ≡ 0) × (last_number < n))
+    ⊎ ((1 ≤ cond b 0 n) × (n ≤ cond b 0 n) × (cond b 0 n ≤ last_number) × (user ≡ user)
+    × IsSendable user)
 by-range n user true e one sendable = inl (refl, lt-true last_number n e)
-by-range n user false e one sendable = inr (one, omega arith, lt-false last_number n e, refl, sendable)
+by-range n user false e one sendable =
+    inr (one, omega arith, lt-false last_number n e, refl, sendable)
 
 -- a claim of the next number comes with its user frame, or no number is left
-demanded : (settings : Settings) (s : ℕ) (r : Run) (user : Option UserFrame) (k : Option Key) → IsSendable user
+demanded : (settings : Settings) (s : ℕ) (r : Run) (user : Option UserFrame) (k : Option Key)
+    → IsSendable user
     → IsDemanded settings s r (in_range (next_under settings s r k)) user user k
 demanded settings s r user None sendable = refl
 demanded settings s r user (Some k) sendable =
-    by-range (next settings s k.epoch r) user (nat_lt last_number (next settings s k.epoch r)) refl (one-at-least settings s k.epoch r) sendable
+    by-range (next settings s k.epoch r) user (nat_lt last_number (next settings s k.epoch r)) refl
+    (one-at-least settings s k.epoch r) sendable
 
-unless-comes : (b : Bool) (act : Act) (w : World) → (b ≡ false → Comes act w) → Comes (unless b act) w
+unless-comes : (b : Bool) (act : Act) (w : World) → (b ≡ false → Comes act w)
+    → Comes (unless b act) w
 unless-comes true act w h = tt
 unless-comes false act w h = h refl
 
-claim-comes : (s : ℕ) (user : UserFrame) (w : World) → IsTidy (record w { kept = record w.kept { users = w.kept.users ++ user ∷ [] } }) → IsUserFrame user → s < count w
+claim-comes : (s : ℕ) (user : UserFrame) (w : World)
+    → IsTidy (record w { kept = record w.kept { users = w.kept.users ++ user ∷ [] } })
+    → IsUserFrame user → s < count w
     → Comes (send s) (record w { kept = record w.kept { users = w.kept.users ++ user ∷ [] } })
 claim-comes s user w tidy is_user there =
     let v : World = record w { kept = record w.kept { users = w.kept.users ++ user ∷ [] } } in
     let n = length v.kept.users in
     let pn = claimed_number (settings v) s v.run in
-    let sendable : IsSendable (user_at v.kept.users n) = subst (λ (u : Option UserFrame). IsSendable u) (sym (user-at-end w.kept.users user)) is_user in
-    let may : MayCome (settings v) v.kept.users v.run (named v (events.Claim s n pn)) (events.Claim s n pn) = (there, demanded (settings v) s v.run (user_at v.kept.users n) (transmitting_at (settings v) s v.run) sendable) in (
+    let sendable : IsSendable (user_at v.kept.users n) =
+    subst (λ (u : Option UserFrame). IsSendable u) (sym (user-at-end w.kept.users user))
+    is_user in
+    let may : MayCome (settings v) v.kept.users v.run (named v (events.Claim s n pn))
+    (events.Claim s n pn) = (
+      there,
+      demanded (settings v) s v.run (user_at v.kept.users n)
+          (transmitting_at (settings v) s v.run) sendable,
+    ) in (
       (may, refl),
-      is-going (perform (happen (events.Claim s n pn)) v) (λ u. IsTidy u → Comes (unless (pn == 0) (happen events.Emit)) u)
-          (λ u e tidy_u. unless-comes (pn == 0) (happen events.Emit) u (λ some. (waits-then v u s n pn tidy e may some, tt))),
+      is-going (perform (happen (events.Claim s n pn)) v)
+          (λ u. IsTidy u → Comes (unless (pn == 0) (happen events.Emit)) u)
+          (λ u e tidy_u. unless-comes (pn == 0) (happen events.Emit) u
+          (λ some. (waits-then v u s n pn tidy e may some, tt))),
     )
 
-send-comes : (s : ℕ) (user : UserFrame) (w : World) → IsTidy w → IsUserFrame user → s < count w → Comes (seq (add_user user) (send s)) w
-send-comes s user w tidy is_user there = (tidy-user user w tidy, λ tidy_v. claim-comes s user w tidy_v is_user there)
+send-comes : (s : ℕ) (user : UserFrame) (w : World) → IsTidy w → IsUserFrame user → s < count w
+    → Comes (seq (add_user user) (send s)) w
+send-comes s user w tidy is_user there =
+    (tidy-user user w tidy, λ tidy_v. claim-comes s user w tidy_v is_user there)
 
 -- ---- lines
 
-refused-comes : (o : Option Kind) (act : Act) (w : World) → (o ≡ None → Comes act w) → Comes (unless_refused o act) w
+refused-comes : (o : Option Kind) (act : Act) (w : World) → (o ≡ None → Comes act w)
+    → Comes (unless_refused o act) w
 refused-comes None act w h = h refl
 refused-comes (Some kind) act w h = tt
 
-pub deed-comes : (line : Line) → IsInForm line → (w : World) → IsTidy w → IsRight line w → Comes (deed line w) w
-deed-comes lines.DrawsCount form w tidy right = chosen-comes lines.DrawsCount form (is_none w.kept.chosen.draws) w tidy right.allowed
-deed-comes (lines.DrawsChaCha key) form w tidy right = chosen-comes (lines.DrawsChaCha key) form (is_none w.kept.chosen.draws) w tidy right.allowed
-deed-comes (lines.DrawsList values) form w tidy right = chosen-comes (lines.DrawsList values) form (may_list w.kept.chosen.draws) w tidy right.allowed
-deed-comes (lines.Conf conf) form w tidy right = chosen-comes (lines.Conf conf) form (is_none w.kept.chosen.conf) w tidy right.allowed
-deed-comes (lines.Window window) form w tidy right = chosen-comes (lines.Window window) form (is_none w.kept.chosen.window) w tidy right.allowed
-deed-comes (lines.Rekey rekey) form w tidy right = chosen-comes (lines.Rekey rekey) form (is_none w.kept.chosen.rekey) w tidy right.allowed
-deed-comes (lines.Lag lag) form w tidy right = chosen-comes (lines.Lag lag) form (is_none w.kept.chosen.lag) w tidy right.allowed
-deed-comes (lines.Suite suite) form w tidy right = chosen-comes (lines.Suite suite) form (is_none w.kept.chosen.wide) w tidy right.allowed
-deed-comes (lines.Group cak ckn) form w tidy right = chosen-comes (lines.Group cak ckn) form (is_none w.kept.chosen.group) w tidy right.allowed
+pub deed-comes : (line : Line) → IsInForm line → (w : World) → IsTidy w → IsRight line w
+    → Comes (deed line w) w
+deed-comes lines.DrawsCount form w tidy right =
+    chosen-comes lines.DrawsCount form (is_none w.kept.chosen.draws) w tidy right.allowed
+deed-comes (lines.DrawsChaCha key) form w tidy right =
+    chosen-comes (lines.DrawsChaCha key) form (is_none w.kept.chosen.draws) w tidy right.allowed
+deed-comes (lines.DrawsList values) form w tidy right =
+    chosen-comes (lines.DrawsList values) form (may_list w.kept.chosen.draws) w tidy right.allowed
+deed-comes (lines.Conf conf) form w tidy right =
+    chosen-comes (lines.Conf conf) form (is_none w.kept.chosen.conf) w tidy right.allowed
+deed-comes (lines.Window window) form w tidy right =
+    chosen-comes (lines.Window window) form (is_none w.kept.chosen.window) w tidy right.allowed
+deed-comes (lines.Rekey rekey) form w tidy right =
+    chosen-comes (lines.Rekey rekey) form (is_none w.kept.chosen.rekey) w tidy right.allowed
+deed-comes (lines.Lag lag) form w tidy right =
+    chosen-comes (lines.Lag lag) form (is_none w.kept.chosen.lag) w tidy right.allowed
+deed-comes (lines.Suite suite) form w tidy right =
+    chosen-comes (lines.Suite suite) form (is_none w.kept.chosen.wide) w tidy right.allowed
+deed-comes (lines.Group cak ckn) form w tidy right =
+    chosen-comes (lines.Group cak ckn) form (is_none w.kept.chosen.group) w tidy right.allowed
 deed-comes (lines.Station name sci priority) form w tidy right = (
-  tidy-same w (record w.kept { begun = true }) tidy refl refl refl (λ e. absurd (let bad : true ≡ false = e in cc)),
+  tidy-same w (record w.kept { begun = true }) tidy refl refl refl
+      (λ e. absurd (let bad : true ≡ false = e in cc)),
   λ tidy_v. (
     (let both = or-none (where_ (is_in name (names_of w.run)) kinds.NameTaken) _ right.words in
-        new-station name sci.0 (stations w.run) (where-none _ kinds.NameTaken both.0) (where-none _ kinds.SciTaken both.1)),
+        new-station name sci.0 (stations w.run) (where-none _ kinds.NameTaken both.0)
+        (where-none _ kinds.SciTaken both.1)),
     tt,
   ),
 )
 deed-comes (lines.Tick rounds) form w tidy right = comes-rounds rounds w tidy
-deed-comes (lines.TickOne name ticks) form w tidy right = comes-ticks (place w name) ticks w tidy (known name w right.words)
+deed-comes (lines.TickOne name ticks) form w tidy right =
+    comes-ticks (place w name) ticks w tidy (known name w right.words)
 deed-comes (lines.Flow rounds) form w tidy right = comes-flow rounds w tidy
 deed-comes (lines.Deliver frame name) form w tidy right =
     let both = or-none (no_frame frame (length w.kept.frames)) _ right.words in
     ((known name w both.1, on-air frame w tidy both.0), tt)
-deed-comes (lines.Spread frame) form w tidy right = comes-spread frame w tidy (on-air frame w tidy right.words)
+deed-comes (lines.Spread frame) form w tidy right =
+    comes-spread frame w tidy (on-air frame w tidy right.words)
 deed-comes (lines.Lose frame) form w tidy right = tidy-marked frame w tidy
 deed-comes (lines.Cut from to) form w tidy right = tidy-same w _ tidy refl refl refl (λ e. e)
 deed-comes (lines.Mend from to) form w tidy right = tidy-same w _ tidy refl refl refl (λ e. e)
@@ -295,10 +366,13 @@ deed-comes (lines.Send name destination body) form w tidy right =
       octets = bytes-all body form.fits.1.1.0.2;
     } in
     send-comes (place w name) user w tidy is_user (known name w right.words)
-deed-comes (lines.Inject name octets) form w tidy right =
-    ((known name w right.words, (let few : length octets ≤ 1600 = form.fits.1.0.1 in omega arith)), tt)
+deed-comes (lines.Inject name octets) form w tidy right = (
+  (known name w right.words, (let few : length octets ≤ 1600 = form.fits.1.0.1 in omega arith)),
+  tt,
+)
 deed-comes _ form w tidy right = tidy-same w _ tidy refl refl refl (λ e. e)
 
 pub line-comes : (line : Line) → IsInForm line → (w : World) → IsTidy w → Comes (act_of line) w
 line-comes line form w tidy =
-    refused-comes (refusal line w) (deed line w) w (λ e. deed-comes line form w tidy (is-right line w e))
+    refused-comes (refusal line w) (deed line w) w
+    (λ e. deed-comes line form w tidy (is-right line w e))

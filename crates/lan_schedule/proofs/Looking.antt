@@ -1,5 +1,6 @@
 -- Acts that look at the world, begun from the group at work.
-use Rattle.std.proofs.Common.{◌≡◌, ℕ, ◌-◌, ◌≤◌, Bool, true, false, ◌==◌, List, length, ◌+◌, subst, refl, sym, ap, ◌∙◌, arith}
+use Rattle.std.proofs.Common.{◌≡◌, ℕ, ◌-◌, ◌≤◌, Bool, true, false, ◌==◌, List, length, ◌+◌, subst}
+use Rattle.std.proofs.Common.{refl, sym, ap, ◌∙◌, arith}
 use Rattle.std.specs.Prelude.{map, Result, Ok, Err, ◌||◌}
 use Rattle.std.proofs.lemmas.List.{length-map}
 use Rattle.lan_core.specs.Run.{Profile, stations}
@@ -7,9 +8,11 @@ use Rattle.lan_core.specs.declared.event.Event.TheVariants as events
 use Rattle.lan_schedule.specs.declared.halt.Halt.{Halt}
 use Rattle.lan_schedule.specs.declared.links.Link.{Link}
 use Rattle.lan_schedule.specs.declared.stage.Stage.{Stage}
-use Rattle.lan_schedule.specs.World.{World, Kept, count, names_of, settings, sender_at, mark, marked_at, is_cut}
+use Rattle.lan_schedule.specs.World.{World, Kept, count, names_of, settings, sender_at, mark}
+use Rattle.lan_schedule.specs.World.{marked_at, is_cut}
 use Rattle.lan_schedule.specs.Acts.{Act, nothing, happen, look, seq, change, span, each, unless}
-use Rattle.lan_schedule.specs.Lines.{pass, is_passed_by, to_others, spread, due, due_of, begin_round}
+use Rattle.lan_schedule.specs.Lines.{pass, is_passed_by, to_others, spread, due, due_of}
+use Rattle.lan_schedule.specs.Lines.{begin_round}
 use Rattle.lan_core.specs.Standing.{StandsFor as GroupStandsFor}
 use Rattle.lan_schedule.specs.inside.Supplies.{supply_nth}
 use Rattle.lan_schedule.specs.inside.Counters.{TellNext}
@@ -21,11 +24,14 @@ use Rattle.lan_schedule.specs.inside.Staged.{StandsFor}
 use Rattle.lan_schedule.proofs.Doing.{Leads, look-leads, change-does}
 
 -- how many stations there are
-pub stations-count : (w : World) (stage : Stage) → StandsFor w stage → length stage.names.items ≡ count w
+pub stations-count : (w : World) (stage : Stage) → StandsFor w stage
+    → length stage.names.items ≡ count w
 stations-count w stage stands =
-    ap (λ (l : List (List ℕ)). length l) stands.names ∙ length-map (stations w.run) (λ (p : Profile). p.name)
+    ap (λ (l : List (List ℕ)). length l) stands.names
+    ∙ length-map (stations w.run) (λ (p : Profile). p.name)
 
-pub stations-few : (w : World) (stage : Stage) → StandsFor w stage → IsTidy w → length stage.names.items ≤ 16
+pub stations-few : (w : World) (stage : Stage) → StandsFor w stage → IsTidy w
+    → length stage.names.items ≤ 16
 stations-few w stage stands tidy =
     let e = stations-count w stage stands in
     let few : count w ≤ 16 = tidy.within.stations in
@@ -41,15 +47,21 @@ stations-leads f n now is = look-leads (λ w. span f 0 (count w)) _ now (λ w st
     let zero_off : n - 0 ≡ n = omega arith in
     ap (λ (k : ℕ). span f 0 k) (zero_off ∙ e ∙ stations-count w now.value stands))
 
-pub spread-leads : (number from : ℕ) (now : Moment Stage) → from ≡ sender_at (number - 1) now.value.frames.frames
+pub spread-leads : (number from : ℕ) (now : Moment Stage)
+    → from ≡ sender_at (number - 1) now.value.frames.frames
     → Leads StandsFor (spread number) now (seq (to_others number from) (change (mark number))) now
 spread-leads number from now is = look-leads _ _ now (λ w stands tidy.
-    ap (λ (i : ℕ). seq (to_others number i) (change (mark number))) (is ∙ ap (λ (f : Flow). sender_at (number - 1) f.frames) stands.flow))
+    ap (λ (i : ℕ). seq (to_others number i) (change (mark number)))
+    (is ∙ ap (λ (f : Flow). sender_at (number - 1) f.frames) stands.flow))
 
-pub due-leads : (frames : List ℕ) (now : Moment Stage) → frames ≡ due_of now.value.lag now.value.frames.rounds now.value.frames.frames
+pub due-leads : (frames : List ℕ) (now : Moment Stage)
+    → frames ≡ due_of now.value.lag now.value.frames.rounds now.value.frames.frames
     → Leads StandsFor (look (λ w. each spread (due w))) now (each spread frames) now
-due-leads frames now is = look-leads (λ w. each spread (due w)) (each spread frames) now (λ w stands tidy.
-    ap (λ (l : List ℕ). each spread l) (is ∙ ap (λ (f : Flow). due_of now.value.lag f.rounds f.frames) stands.flow ∙ ap (λ (lag : ℕ). due_of lag w.kept.rounds w.kept.frames) stands.lag))
+due-leads frames now is = look-leads (λ w. each spread (due w)) (each spread frames) now
+    (λ w stands tidy.
+    ap (λ (l : List ℕ). each spread l)
+    (is ∙ ap (λ (f : Flow). due_of now.value.lag f.rounds f.frames) stands.flow
+    ∙ ap (λ (lag : ℕ). due_of lag w.kept.rounds w.kept.frames) stands.lag))
 
 -- all but the flow of frames is as before
 pub record Flows (old new : Stage) : Type 0 where
@@ -64,54 +76,77 @@ pub record Flows (old new : Stage) : Type 0 where
   pub numbers : new.numbers ≡ old.numbers
 
 pub mark-does : (number : ℕ) (old new : Moment Stage) → Flows old.value new.value
-    → new.value.frames ≡ record { frames = marked_at (number - 1) old.value.frames.frames; rounds = old.value.frames.rounds }
+    → new.value.frames ≡ record {
+      frames = marked_at (number - 1) old.value.frames.frames;
+      rounds =
+          old.value.frames.rounds;
+    }
     → new.sink ≡ old.sink → Did StandsFor (change (mark number)) old new (Ok tt)
-mark-does number old new same flow sink = change-does (mark number) old new (λ w stands tidy. record {
-  begun = stands.begun;
-  keyed = stands.keyed;
-  line = same.line ∙ stands.line;
-  lag = same.lag ∙ stands.lag;
-  lan = subst (λ lan. GroupStandsFor (settings w) w.kept.users lan w.run) (sym same.lan) stands.lan;
-  draws = λ k. ap (λ draws. supply_nth draws k) same.draws ∙ stands.draws k;
-  names = ap (λ names. names.items) same.names ∙ stands.names;
-  scis = ap (λ scis. scis.items) same.scis ∙ stands.scis;
-  users = same.users ∙ stands.users;
-  flow = flow ∙ ap (λ (f : Flow). record { frames = marked_at (number - 1) f.frames; rounds = f.rounds }) stands.flow;
-  cuts = same.cuts ∙ stands.cuts;
-  numbers = subst (λ numbers. TellNext (settings w) w.run numbers) (sym same.numbers) stands.numbers;
-}) sink
+mark-does number old new same flow sink =
+    change-does (mark number) old new (λ w stands tidy. record {
+      begun = stands.begun;
+      keyed = stands.keyed;
+      line = same.line ∙ stands.line;
+      lag = same.lag ∙ stands.lag;
+      lan = subst (λ lan. GroupStandsFor (settings w) w.kept.users lan w.run) (sym same.lan)
+          stands.lan;
+      draws = λ k. ap (λ draws. supply_nth draws k) same.draws ∙ stands.draws k;
+      names = ap (λ names. names.items) same.names ∙ stands.names;
+      scis = ap (λ scis. scis.items) same.scis ∙ stands.scis;
+      users = same.users ∙ stands.users;
+      flow = flow ∙ ap (λ (f : Flow).
+          record { frames = marked_at (number - 1) f.frames; rounds = f.rounds }) stands.flow;
+      cuts = same.cuts ∙ stands.cuts;
+      numbers = subst (λ numbers. TellNext (settings w) w.run numbers) (sym same.numbers)
+          stands.numbers;
+    }) sink
 
 pub begin-does : (old new : Moment Stage) → Flows old.value new.value
-    → new.value.frames ≡ record { frames = old.value.frames.frames; rounds = old.value.frames.rounds + 1 }
+    → new.value.frames ≡ record {
+      frames = old.value.frames.frames;
+      rounds =
+          old.value.frames.rounds + 1;
+    }
     → new.sink ≡ old.sink → Did StandsFor begin_round old new (Ok tt)
-begin-does old new same flow sink = change-does (λ kept. record kept { rounds = kept.rounds + 1 }) old new (λ w stands tidy. record {
-  begun = stands.begun;
-  keyed = stands.keyed;
-  line = same.line ∙ stands.line;
-  lag = same.lag ∙ stands.lag;
-  lan = subst (λ lan. GroupStandsFor (settings w) w.kept.users lan w.run) (sym same.lan) stands.lan;
-  draws = λ k. ap (λ draws. supply_nth draws k) same.draws ∙ stands.draws k;
-  names = ap (λ names. names.items) same.names ∙ stands.names;
-  scis = ap (λ scis. scis.items) same.scis ∙ stands.scis;
-  users = same.users ∙ stands.users;
-  flow = flow ∙ ap (λ (f : Flow). record { frames = f.frames; rounds = f.rounds + 1 }) stands.flow;
-  cuts = same.cuts ∙ stands.cuts;
-  numbers = subst (λ numbers. TellNext (settings w) w.run numbers) (sym same.numbers) stands.numbers;
-}) sink
+begin-does old new same flow sink =
+    change-does (λ kept. record kept { rounds = kept.rounds + 1 }) old new
+    (λ w stands tidy. record {
+      begun = stands.begun;
+      keyed = stands.keyed;
+      line = same.line ∙ stands.line;
+      lag = same.lag ∙ stands.lag;
+      lan = subst (λ lan. GroupStandsFor (settings w) w.kept.users lan w.run) (sym same.lan)
+          stands.lan;
+      draws = λ k. ap (λ draws. supply_nth draws k) same.draws ∙ stands.draws k;
+      names = ap (λ names. names.items) same.names ∙ stands.names;
+      scis = ap (λ scis. scis.items) same.scis ∙ stands.scis;
+      users = same.users ∙ stands.users;
+      flow = flow ∙ ap (λ (f : Flow). record { frames = f.frames; rounds = f.rounds + 1 })
+          stands.flow;
+      cuts = same.cuts ∙ stands.cuts;
+      numbers = subst (λ numbers. TellNext (settings w) w.run numbers) (sym same.numbers)
+          stands.numbers;
+    }) sink
 
 -- an act that is not skipped
-pub unless-does : (b : Bool) (act : Act) (old new : Moment Stage) (r : Result (Unit {0}) Halt) → b ≡ false → Did StandsFor act old new r → Did StandsFor (unless b act) old new r
-unless-does b act old new r e d = subst (λ (t : Bool). Did StandsFor (unless t act) old new r) (sym e) d
+pub unless-does : (b : Bool) (act : Act) (old new : Moment Stage) (r : Result (Unit {0}) Halt)
+    → b ≡ false → Did StandsFor act old new r → Did StandsFor (unless b act) old new r
+unless-does b act old new r e d =
+    subst (λ (t : Bool). Did StandsFor (unless t act) old new r) (sym e) d
 
-pub pass-leads : (number from s : ℕ) (now : Moment Stage) → (s == from) ≡ false → is_cut from s now.value.cuts ≡ false
+pub pass-leads : (number from s : ℕ) (now : Moment Stage) → (s == from) ≡ false
+    → is_cut from s now.value.cuts ≡ false
     → Leads StandsFor (pass number from s) now (happen (events.Deliver number s)) now
 pass-leads number from s now other whole = look-leads _ _ now (λ w stands tidy.
     let e : is_passed_by w from s ≡ false =
-    ap (λ (b : Bool). b || is_cut from s w.kept.cuts) other ∙ ap (λ (cuts : List Link). is_cut from s cuts) (sym stands.cuts) ∙ whole in
+    ap (λ (b : Bool). b || is_cut from s w.kept.cuts) other
+    ∙ ap (λ (cuts : List Link). is_cut from s cuts) (sym stands.cuts) ∙ whole in
     ap (λ (b : Bool). unless b (happen (events.Deliver number s))) (sym e))
 
-pub passed-leads : (number from s : ℕ) (now : Moment Stage) → ((s == from) || is_cut from s now.value.cuts) ≡ true
+pub passed-leads : (number from s : ℕ) (now : Moment Stage)
+    → ((s == from) || is_cut from s now.value.cuts) ≡ true
     → Leads StandsFor (pass number from s) now nothing now
 passed-leads number from s now passed = look-leads _ _ now (λ w stands tidy.
-    let e : is_passed_by w from s ≡ true = ap (λ (cuts : List Link). (s == from) || is_cut from s cuts) (sym stands.cuts) ∙ passed in
+    let e : is_passed_by w from s ≡ true =
+    ap (λ (cuts : List Link). (s == from) || is_cut from s cuts) (sym stands.cuts) ∙ passed in
     ap (λ (b : Bool). unless b (happen (events.Deliver number s))) (sym e))

@@ -1,5 +1,6 @@
 -- A group opens with the first station.
-use Rattle.std.proofs.Common.{◌≡◌, ℕ, ◌+◌, Bool, true, false, List, [], ◌∷◌, Option, Some, None, refl, sym, ap, ◌∙◌, subst, arith}
+use Rattle.std.proofs.Common.{◌≡◌, ℕ, ◌+◌, Bool, true, false, List, [], ◌∷◌, Option, Some, None}
+use Rattle.std.proofs.Common.{refl, sym, ap, ◌∙◌, subst, arith}
 use Rattle.std.specs.Prelude.{Result, Ok, Err, is_some, not}
 use Rattle.lan_base.specs.declared.frame.UserFrame.{UserFrame}
 use Rattle.lan_core.specs.Claims.{next}
@@ -37,33 +38,44 @@ use Rattle.lan_schedule.proofs.Drawing.{chosen-draws}
 abbrev pub opened : Choices → ℕ → Kept
 opened chosen line = record nothing_kept { line = line; chosen = chosen; begun = true }
 
-opens-there : (chosen : Choices) (line : ℕ) (stage : Stage) → is_some chosen.group ≡ true → stage.line ≡ line → stage.lag ≡ lag_of chosen
-    → ((users : List UserFrame) → GroupStandsFor (settings_of chosen) users stage.lan []) → ((k : ℕ) → supply_nth stage.draws k ≡ draw_at (rule_of chosen) k)
-    → stage.names.items ≡ [] → stage.scis.items ≡ [] → stage.users ≡ 0 → stage.frames ≡ record { frames = []; rounds = 0 } → stage.cuts ≡ [] → stage.numbers ≡ []
+opens-there : (chosen : Choices) (line : ℕ) (stage : Stage) → is_some chosen.group ≡ true
+    → stage.line ≡ line → stage.lag ≡ lag_of chosen
+    → ((users : List UserFrame) → GroupStandsFor (settings_of chosen) users stage.lan [])
+    → ((k : ℕ) → supply_nth stage.draws k ≡ draw_at (rule_of chosen) k)
+    → stage.names.items ≡ [] → stage.scis.items ≡ [] → stage.users ≡ 0
+    → stage.frames ≡ record { frames = []; rounds = 0 } → stage.cuts ≡ [] → stage.numbers ≡ []
     → StageStandsFor (record { run = []; kept = opened chosen line }) stage
 unfolding stations next
-opens-there chosen line stage keyed is_line lag lan draws names scis users frames cuts numbers = record {
-  begun = refl;
-  keyed = keyed;
-  line = is_line;
-  lag = lag;
-  lan = lan [];
-  draws = λ k. draws k ∙ ap (λ n. draw_at (rule_of chosen) n) (let e : k ≡ 0 + k = omega arith in e);
-  names = names;
-  scis = scis;
-  users = users;
-  flow = frames;
-  cuts = cuts;
-  numbers = rw numbers (λ s epoch. refl);
-}
+opens-there chosen line stage keyed is_line lag lan draws names scis users frames cuts numbers =
+    record {
+      begun = refl;
+      keyed = keyed;
+      line = is_line;
+      lag = lag;
+      lan = lan [];
+      draws = λ k. draws k ∙ ap (λ n. draw_at (rule_of chosen) n)
+          (let e : k ≡ 0 + k = omega arith in e);
+      names = names;
+      scis = scis;
+      users = users;
+      flow = frames;
+      cuts = cuts;
+      numbers = rw numbers (λ s epoch. refl);
+    }
 
-pub opens : (w : World) (chosen : Choices) (line : ℕ) (stage : Stage) → is_some chosen.group ≡ true → IsOpening w chosen line → stage.line ≡ line → stage.lag ≡ lag_of chosen
-    → ((users : List UserFrame) → GroupStandsFor (settings_of chosen) users stage.lan []) → ((k : ℕ) → supply_nth stage.draws k ≡ draw_at (rule_of chosen) k)
-    → stage.names.items ≡ [] → stage.scis.items ≡ [] → stage.users ≡ 0 → stage.frames ≡ record { frames = []; rounds = 0 } → stage.cuts ≡ [] → stage.numbers ≡ []
+pub opens : (w : World) (chosen : Choices) (line : ℕ) (stage : Stage) → is_some chosen.group ≡ true
+    → IsOpening w chosen line → stage.line ≡ line → stage.lag ≡ lag_of chosen
+    → ((users : List UserFrame) → GroupStandsFor (settings_of chosen) users stage.lan [])
+    → ((k : ℕ) → supply_nth stage.draws k ≡ draw_at (rule_of chosen) k)
+    → stage.names.items ≡ [] → stage.scis.items ≡ [] → stage.users ≡ 0
+    → stage.frames ≡ record { frames = []; rounds = 0 } → stage.cuts ≡ [] → stage.numbers ≡ []
     → StageStandsFor w stage
 opens w chosen line stage keyed opening is_line lag lan draws names scis users frames cuts numbers =
-    let same : w ≡ record { run = []; kept = opened chosen line } = λ i. record { run = opening.empty i; kept = opening.kept i } in
-    subst (λ (v : World). StageStandsFor v stage) (sym same) (opens-there chosen line stage keyed is_line lag lan draws names scis users frames cuts numbers)
+    let same : w ≡ record { run = []; kept = opened chosen line } =
+    λ i. record { run = opening.empty i; kept = opening.kept i } in
+    subst (λ (v : World). StageStandsFor v stage) (sym same)
+    (opens-there chosen line stage keyed is_line lag lan draws names scis users frames cuts
+    numbers)
 
 -- ---- lines before the first station
 
@@ -84,7 +96,8 @@ pub station-is-later : (line : Line) → IsStation line → is_choice line ≡ f
 station-is-later line station = station-later line station
 
 -- the first reason before any station
-unbegun-reason : (line : Line) (chosen : Choices) → first_of (is_performed line) (is_allowed line false chosen) (wrong_word line [] [] 0)
+unbegun-reason : (line : Line) (chosen : Choices)
+    → first_of (is_performed line) (is_allowed line false chosen) (wrong_word line [] [] 0)
     ≡ first_of (is_performed line) (is_allowed line false chosen) None
 unbegun-reason (lines.TickOne name ticks) chosen = refl
 unbegun-reason (lines.Deliver frame name) chosen = refl
@@ -99,14 +112,21 @@ unbegun-reason _ chosen = refl
 
 -- the world of a replay before the first station
 abbrev pub waiting : Replay → World
-waiting replay = record { run = []; kept = record nothing_kept { line = replay.line; chosen = replay.chosen } }
+waiting replay = record {
+  run = [];
+  kept =
+      record nothing_kept { line = replay.line; chosen = replay.chosen };
+}
 
-pub is-waiting : (w : World) (replay : Replay) → StandsFor w replay → replay.stage ≡ None → w ≡ waiting replay
+pub is-waiting : (w : World) (replay : Replay) → StandsFor w replay → replay.stage ≡ None
+    → w ≡ waiting replay
 is-waiting w replay stands unbegun =
     let before = subst (λ (o : Option Stage). IsStaged w replay o) unbegun stands.stage in
     λ i. record { run = before.0 i; kept = before.1 i }
 
-pub refusal-waiting : (line : Line) (replay : Replay) → refusal line (waiting replay) ≡ first_of (is_performed line) (is_allowed line false replay.chosen) None
+pub refusal-waiting : (line : Line) (replay : Replay)
+    → refusal line (waiting replay)
+    ≡ first_of (is_performed line) (is_allowed line false replay.chosen) None
 unfolding stations
 refusal-waiting line replay = unbegun-reason line replay.chosen
 
@@ -116,24 +136,32 @@ pub unbegun-refused : (line : Line) (kind : Kind) (now : Moment Replay) → now.
 unbegun-refused line kind now unbegun first = record {
   ends = λ base w reached.
       let same = is-waiting w now.value reached.stands unbegun in
-      let refused : refusal line w ≡ Some kind = ap (λ (v : World). refusal line v) same ∙ refusal-waiting line now.value ∙ first in
+      let refused : refusal line w ≡ Some kind = ap (λ (v : World). refusal line v) same
+      ∙ refusal-waiting line now.value ∙ first in
       let out : perform (act_of line) w ≡ Stops w (halts.Trace now.value.line kind) =
-      ap (λ (o : Option Kind). perform (unless_refused o (deed line w)) w) refused ∙ ap (λ (n : ℕ). Stops w (halts.Trace n kind)) (ap (λ (v : World). v.kept.line) same) in
+      ap (λ (o : Option Kind). perform (unless_refused o (deed line w)) w) refused
+      ∙ ap (λ (n : ℕ). Stops w (halts.Trace n kind)) (ap (λ (v : World). v.kept.line) same) in
       (w, out, reached.shown);
 }
 
 -- a line that isn't refused does what it performs
-pub unbegun-performed : (line : Line) (old new : Moment Replay) (r : Result (Unit {0}) Halt) → old.value.stage ≡ None
-    → first_of (is_performed line) (is_allowed line false old.value.chosen) None ≡ None → Does (look (λ w. deed line w)) old new r → Does (act_of line) old new r
-unbegun-performed line old new r unbegun first d = same-act (act_of line) (look (λ w. deed line w)) old new r (λ w stands.
+pub unbegun-performed : (line : Line) (old new : Moment Replay) (r : Result (Unit {0}) Halt)
+    → old.value.stage ≡ None
+    → first_of (is_performed line) (is_allowed line false old.value.chosen) None ≡ None
+    → Does (look (λ w. deed line w)) old new r → Does (act_of line) old new r
+unbegun-performed line old new r unbegun first d =
+    same-act (act_of line) (look (λ w. deed line w)) old new r (λ w stands.
     let same = is-waiting w old.value stands unbegun in
-    let none : refusal line w ≡ None = ap (λ (v : World). refusal line v) same ∙ refusal-waiting line old.value ∙ first in
+    let none : refusal line w ≡ None = ap (λ (v : World). refusal line v) same
+    ∙ refusal-waiting line old.value ∙ first in
     ap (λ (o : Option Kind). perform (unless_refused o (deed line w)) w) none) d
 
 -- what an allowed line chooses
 pub chosen-deed : (line : Line) (chosen : Choices) → is_allowed line false chosen ≡ true
-    → ((x : _) (x' : _) (x'' : _) → line ≡ lines.Station x x' x'' → ⊥) → (w : World) → deed line w ≡ choose (chosen_by line)
-chosen-deed (lines.Station name sci priority) chosen allowed other w = absurd (other name sci priority refl)
+    → ((x : _) (x' : _) (x'' : _) → line ≡ lines.Station x x' x'' → ⊥) → (w : World)
+    → deed line w ≡ choose (chosen_by line)
+chosen-deed (lines.Station name sci priority) chosen allowed other w =
+    absurd (other name sci priority refl)
 chosen-deed (lines.Tick rounds) chosen allowed other w = absurd (cc allowed)
 chosen-deed (lines.TickOne name ticks) chosen allowed other w = absurd (cc allowed)
 chosen-deed (lines.Flow rounds) chosen allowed other w = absurd (cc allowed)
@@ -147,50 +175,75 @@ chosen-deed (lines.Send name destination body) chosen allowed other w = absurd (
 chosen-deed (lines.Inject name octets) chosen allowed other w = absurd (cc allowed)
 chosen-deed _ chosen allowed other w = refl
 
-pub chosen-does : (line : Line) → IsInForm line → (old new : Moment Replay) → old.value.stage ≡ None → new.value.stage ≡ None → new.value.halted ≡ old.value.halted → new.value.line ≡ old.value.line
-    → new.value.chosen ≡ chosen_by line old.value.chosen → new.sink ≡ old.sink → ((w : World) → deed line w ≡ choose (chosen_by line)) → Does (look (λ w. deed line w)) old new (Ok tt)
-chosen-does line form old new unbegun still halted is_line is_chosen sink is = same-act (look (λ w. deed line w)) (choose (chosen_by line)) old new (Ok tt)
+pub chosen-does : (line : Line) → IsInForm line → (old new : Moment Replay) → old.value.stage ≡ None
+    → new.value.stage ≡ None → new.value.halted ≡ old.value.halted → new.value.line ≡ old.value.line
+    → new.value.chosen ≡ chosen_by line old.value.chosen → new.sink ≡ old.sink
+    → ((w : World) → deed line w ≡ choose (chosen_by line))
+    → Does (look (λ w. deed line w)) old new (Ok tt)
+chosen-does line form old new unbegun still halted is_line is_chosen sink is =
+    same-act (look (λ w. deed line w)) (choose (chosen_by line)) old new (Ok tt)
     (λ w stands. ap (λ (act : Act). perform act w) (is w))
-    (unbegun-does (λ kept. record kept { chosen = chosen_by line kept.chosen }) old new unbegun still halted
-    (λ w tidy empty. tidy-unbegun w _ tidy empty refl refl (chosen-draws line form w.kept.chosen tidy.draws))
+    (unbegun-does (λ kept. record kept { chosen = chosen_by line kept.chosen }) old new unbegun
+    still halted
+    (λ w tidy empty. tidy-unbegun w _ tidy empty refl refl
+    (chosen-draws line form w.kept.chosen tidy.draws))
     (λ i. record nothing_kept { line = sym is_line i; chosen = sym is_chosen i }) sink)
 
 -- ---- the first station
 
-station-right : (line : Line) (v : World) → IsStation line → v.run ≡ [] → is_some v.kept.chosen.group ≡ true → IsRight line v
+station-right : (line : Line) (v : World) → IsStation line → v.run ≡ []
+    → is_some v.kept.chosen.group ≡ true → IsRight line v
 unfolding stations
-station-right (lines.Station name sci priority) v station empty keyed = record { allowed = keyed; words = rw empty refl }
+station-right (lines.Station name sci priority) v station empty keyed =
+    record { allowed = keyed; words = rw empty refl }
 station-right _ v station empty keyed = absurd station
 
 begun-same : (line : Line) (w : World) → IsStation line
-    → perform (deed line w) w ≡ perform (deed line (record w { kept = record w.kept { begun = true } })) (record w { kept = record w.kept { begun = true } })
+    → perform (deed line w) w ≡ perform
+    (deed line (record w { kept = record w.kept { begun = true } }))
+    (record w { kept = record w.kept { begun = true } })
 begun-same (lines.Station name sci priority) w station = refl
 begun-same _ w station = absurd station
 
-lift-any : (base : Sunk) (out : Outcome) (later : Stage) (new : Moment Replay) (r : Result (Unit {0}) Halt) → (r ≡ Ok tt → new.value.stage ≡ Some later)
-    → new.value.halted ≡ None → Ends StageStandsFor base out (staged later new.sink) r → Ends StandsFor base out new r
+lift-any : (base : Sunk) (out : Outcome) (later : Stage) (new : Moment Replay)
+    (r : Result (Unit {0}) Halt) → (r ≡ Ok tt → new.value.stage ≡ Some later)
+    → new.value.halted ≡ None → Ends StageStandsFor base out (staged later new.sink) r
+    → Ends StandsFor base out new r
 lift-any base out later new (Ok done) is goes h = lift base out later new (Ok done) (is refl) goes h
 lift-any base out later new (Err halt) is goes h = h
 
-pub opening-does : (line : Line) → IsInForm line → (old new : Moment Replay) (stage later : Stage) (r : Result (Unit {0}) Halt) → IsStation line → old.value.stage ≡ None
+pub opening-does : (line : Line) → IsInForm line
+    → (old new : Moment Replay) (stage later : Stage) (r : Result (Unit {0}) Halt) → IsStation line
+    → old.value.stage ≡ None
     → is_some old.value.chosen.group ≡ true
-    → ((v : World) → IsTidy v → is_some old.value.chosen.group ≡ true → IsOpening v old.value.chosen old.value.line → StageStandsFor v stage)
+    → ((v : World) → IsTidy v → is_some old.value.chosen.group ≡ true
+    → IsOpening v old.value.chosen old.value.line → StageStandsFor v stage)
     → Did StageStandsFor (look (λ w. deed line w)) (staged stage old.sink) (staged later new.sink) r
-    → (r ≡ Ok tt → new.value.stage ≡ Some later) → new.value.halted ≡ old.value.halted → Does (look (λ w. deed line w)) old new r
+    → (r ≡ Ok tt → new.value.stage ≡ Some later) → new.value.halted ≡ old.value.halted
+    → Does (look (λ w. deed line w)) old new r
 opening-does line form old new stage later r station unbegun keyed stands d is halted = record {
   ends = λ base w reached.
       let same = is-waiting w old.value reached.stands unbegun in
       let v : World = record w { kept = record w.kept { begun = true } } in
-      let tidy = tidy-same w (record w.kept { begun = true }) reached.shown.tidy refl refl refl (λ e. absurd (let bad : true ≡ false = e in cc)) in
+      let tidy = tidy-same w (record w.kept { begun = true }) reached.shown.tidy refl refl refl
+      (λ e. absurd (let bad : true ≡ false = e in cc)) in
       let opening : IsOpening v old.value.chosen old.value.line = record {
         empty = ap (λ (u : World). u.run) same;
         kept = ap (λ (u : World). record u.kept { begun = true }) same;
       } in
-      let there : is_some v.kept.chosen.group ≡ true = ap (λ (u : World). is_some u.kept.chosen.group) same ∙ keyed in
+      let there : is_some v.kept.chosen.group
+      ≡ true = ap (λ (u : World). is_some u.kept.chosen.group) same ∙ keyed in
       let inner = d.ends base v (record {
         stands = stands v tidy keyed opening;
-        shown = record { tidy = tidy; written = reached.shown.written; counts = reached.shown.counts };
-      }) (deed-comes line form v tidy (station-right line v station (ap (λ (u : World). u.run) same) there)) in
+        shown = record {
+          tidy = tidy;
+          written = reached.shown.written;
+          counts =
+              reached.shown.counts;
+        };
+      }) (deed-comes line form v tidy
+      (station-right line v station (ap (λ (u : World). u.run) same) there)) in
       lift-any base (perform (deed line w) w) later new r is (halted ∙ reached.stands.goes)
-      (subst (λ (out : Outcome). Ends StageStandsFor base out (staged later new.sink) r) (sym (begun-same line w station)) inner);
+      (subst (λ (out : Outcome). Ends StageStandsFor base out (staged later new.sink) r)
+      (sym (begun-same line w station)) inner);
 }

@@ -20,37 +20,53 @@ use Rattle.lan_schedule.proofs.Looking.{stations-few}
 
 -- the place that a name has among those of a group at work
 abbrev pub Places : Stage → List ℕ → ℕ → Type 0
-Places stage name s = length stage.names.items ≤ 255 → s ≡ position_or_len (pointwise nat_eq name) stage.names.items
+Places stage name s = length stage.names.items ≤ 255
+    → s ≡ position_or_len (pointwise nat_eq name) stage.names.items
 
-place-is : (w : World) (stage : Stage) (name : List ℕ) (s : ℕ) → StandsFor w stage → IsTidy w → Places stage name s → s ≡ place w name
+place-is : (w : World) (stage : Stage) (name : List ℕ) (s : ℕ) → StandsFor w stage → IsTidy w
+    → Places stage name s → s ≡ place w name
 place-is w stage name s stands tidy is =
     let few = stations-few w stage stands tidy in
     let at : s ≡ position_or_len (pointwise nat_eq name) stage.names.items = is (omega arith) in
     at ∙ ap (λ (names : List (List ℕ)). position_or_len (pointwise nat_eq name) names) stands.names
 
-pub one-place : (line : Line) (name : List ℕ) (act : ℕ → Act) (s : ℕ) (old new : Moment Stage) (r : Result (Unit {0}) Halt)
-    → ((w : World) → act (place w name) ≡ deed line w) → Places old.value name s → Did StandsFor (act s) old new r
+pub one-place : (line : Line) (name : List ℕ) (act : ℕ → Act) (s : ℕ) (old new : Moment Stage)
+    (r : Result (Unit {0}) Halt)
+    → ((w : World) → act (place w name) ≡ deed line w) → Places old.value name s
+    → Did StandsFor (act s) old new r
     → Did StandsFor (look (λ w. deed line w)) old new r
 one-place line name act s old new r same is d =
-    (look-leads (λ w. deed line w) (act s) old (λ w stands tidy. ap (λ (n : ℕ). act n) (place-is w old.value name s stands tidy is) ∙ same w)).leads new r d
+    (look-leads (λ w. deed line w) (act s) old
+    (λ w stands tidy. ap (λ (n : ℕ). act n) (place-is w old.value name s stands tidy is)
+    ∙ same w)).leads new r d
 
-pub two-places : (line : Line) (from to : List ℕ) (act : ℕ → ℕ → Act) (s t : ℕ) (old new : Moment Stage) (r : Result (Unit {0}) Halt)
-    → ((w : World) → act (place w from) (place w to) ≡ deed line w) → Places old.value from s → Places old.value to t → Did StandsFor (act s t) old new r
+pub two-places : (line : Line) (from to : List ℕ) (act : ℕ → ℕ → Act) (s t : ℕ)
+    (old new : Moment Stage) (r : Result (Unit {0}) Halt)
+    → ((w : World) → act (place w from) (place w to) ≡ deed line w) → Places old.value from s
+    → Places old.value to t → Did StandsFor (act s t) old new r
     → Did StandsFor (look (λ w. deed line w)) old new r
 two-places line from to act s t old new r same is_from is_to d =
     (look-leads (λ w. deed line w) (act s t) old (λ w stands tidy.
-    ap (λ (n : ℕ). act n t) (place-is w old.value from s stands tidy is_from) ∙ ap (λ (n : ℕ). act (place w from) n) (place-is w old.value to t stands tidy is_to) ∙ same w)).leads new r d
+    ap (λ (n : ℕ). act n t) (place-is w old.value from s stands tidy is_from)
+    ∙ ap (λ (n : ℕ). act (place w from) n) (place-is w old.value to t stands tidy is_to)
+    ∙ same w)).leads new r d
 
-pub same-line : (line : Line) (act : Act) (old new : Moment Stage) (r : Result (Unit {0}) Halt) → ((w : World) → act ≡ deed line w) → Did StandsFor act old new r
+pub same-line : (line : Line) (act : Act) (old new : Moment Stage) (r : Result (Unit {0}) Halt)
+    → ((w : World) → act ≡ deed line w) → Did StandsFor act old new r
     → Did StandsFor (look (λ w. deed line w)) old new r
-same-line line act old new r same d = (look-leads (λ w. deed line w) act old (λ w stands tidy. same w)).leads new r d
+same-line line act old new r same d =
+    (look-leads (λ w. deed line w) act old (λ w stands tidy. same w)).leads new r d
 
 -- a line that is none of the others performs nothing
 pub default-does : (line : Line) (now : Moment Stage) → is_choice line ≡ false
-    → ((x : _) (x' : _) (x'' : _) → line ≡ lines.Station x x' x'' → ⊥) → ((x : _) → line ≡ lines.Tick x → ⊥) → ((x : _) (x' : _) → line ≡ lines.TickOne x x' → ⊥)
-    → ((x : _) → line ≡ lines.Flow x → ⊥) → ((x : _) (x' : _) → line ≡ lines.Deliver x x' → ⊥) → ((x : _) → line ≡ lines.Spread x → ⊥) → ((x : _) → line ≡ lines.Lose x → ⊥)
-    → ((x : _) (x' : _) → line ≡ lines.Cut x x' → ⊥) → ((x : _) (x' : _) → line ≡ lines.Mend x x' → ⊥) → ((x : _) → line ≡ lines.Restart x → ⊥)
-    → ((x : _) (x' : _) (x'' : _) → line ≡ lines.Send x x' x'' → ⊥) → ((x : _) (x' : _) → line ≡ lines.Inject x x' → ⊥)
+    → ((x : _) (x' : _) (x'' : _) → line ≡ lines.Station x x' x'' → ⊥)
+    → ((x : _) → line ≡ lines.Tick x → ⊥) → ((x : _) (x' : _) → line ≡ lines.TickOne x x' → ⊥)
+    → ((x : _) → line ≡ lines.Flow x → ⊥) → ((x : _) (x' : _) → line ≡ lines.Deliver x x' → ⊥)
+    → ((x : _) → line ≡ lines.Spread x → ⊥) → ((x : _) → line ≡ lines.Lose x → ⊥)
+    → ((x : _) (x' : _) → line ≡ lines.Cut x x' → ⊥)
+    → ((x : _) (x' : _) → line ≡ lines.Mend x x' → ⊥) → ((x : _) → line ≡ lines.Restart x → ⊥)
+    → ((x : _) (x' : _) (x'' : _) → line ≡ lines.Send x x' x'' → ⊥)
+    → ((x : _) (x' : _) → line ≡ lines.Inject x x' → ⊥)
     → Did StandsFor (look (λ w. deed line w)) now now (Ok tt)
 default-does (lines.Station x x' x'') now later a b c d e f g h i j k l = absurd (a x x' x'' refl)
 default-does (lines.Tick x) now later a b c d e f g h i j k l = absurd (b x refl)
@@ -73,4 +89,5 @@ default-does (lines.Rekey rekey) now later a b c d e f g h i j k l = absurd (cc 
 default-does (lines.Lag lag) now later a b c d e f g h i j k l = absurd (cc later)
 default-does (lines.Suite suite) now later a b c d e f g h i j k l = absurd (cc later)
 default-does (lines.Group cak ckn) now later a b c d e f g h i j k l = absurd (cc later)
-default-does _ now later a b c d e f g h i j k l = record { ends = λ base w reached comes. (w, refl, reached) }
+default-does _ now later a b c d e f g h i j k l =
+    record { ends = λ base w reached comes. (w, refl, reached) }

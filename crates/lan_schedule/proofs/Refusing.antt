@@ -1,5 +1,6 @@
 -- Which lines a group at work refuses.
-use Rattle.std.proofs.Common.{◌≡◌, ℕ, Bool, true, false, List, length, Option, Some, None, refl, sym, ap, ◌∙◌}
+use Rattle.std.proofs.Common.{◌≡◌, ℕ, Bool, true, false, List, length, Option, Some, None, refl}
+use Rattle.std.proofs.Common.{sym, ap, ◌∙◌}
 use Rattle.std.specs.Prelude.{map, not, is_some, ◌&&◌, cond}
 use Rattle.std.proofs.lemmas.Simd.{map-map}
 use Rattle.lan_base.specs.declared.address.Sci.{Sci}
@@ -16,7 +17,8 @@ use Rattle.lan_schedule.specs.inside.Choosing.{is_choice}
 use Rattle.lan_schedule.specs.inside.Frames.{Flow}
 use Rattle.lan_schedule.specs.inside.Staged.{StandsFor}
 
-allowed-then : (line : Line) (chosen : Choices) → is_some chosen.group ≡ true → is_allowed line true chosen ≡ not (is_choice line)
+allowed-then : (line : Line) (chosen : Choices) → is_some chosen.group ≡ true
+    → is_allowed line true chosen ≡ not (is_choice line)
 allowed-then lines.DrawsCount chosen keyed = refl
 allowed-then (lines.DrawsChaCha key) chosen keyed = refl
 allowed-then (lines.DrawsList values) chosen keyed = refl
@@ -29,37 +31,62 @@ allowed-then (lines.Group cak ckn) chosen keyed = refl
 allowed-then (lines.Station name sci priority) chosen keyed = keyed
 allowed-then _ chosen keyed = refl
 
-map-map-scis : (ps : List Profile) → map (λ (s : Sci). s.0) (map (λ (p : Profile). p.sci) ps) ≡ map (λ (p : Profile). p.sci.0) ps
+map-map-scis : (ps : List Profile)
+    → map (λ (s : Sci). s.0) (map (λ (p : Profile). p.sci) ps) ≡ map (λ (p : Profile). p.sci.0) ps
 map-map-scis ps = map-map (λ (s : Sci). s.0) (λ (p : Profile). p.sci) ps
 
 -- the first reason, from what the group has
 pub refusal-by : (line : Line) (w : World) (stage : Stage) → StandsFor w stage
     → first_of (is_performed line) (not (is_choice line))
-    (wrong_word line stage.names.items (map (λ (s : Sci). s.0) stage.scis.items) (length stage.frames.frames)) ≡ refusal line w
+    (wrong_word line stage.names.items (map (λ (s : Sci). s.0) stage.scis.items)
+    (length stage.frames.frames)) ≡ refusal line w
 refusal-by line w stage stands =
     let allowed : not (is_choice line) ≡ is_allowed line w.kept.begun w.kept.chosen =
-    sym (allowed-then line w.kept.chosen stands.keyed) ∙ ap (λ (b : Bool). is_allowed line b w.kept.chosen) (sym stands.begun) in
+    sym (allowed-then line w.kept.chosen stands.keyed)
+    ∙ ap (λ (b : Bool). is_allowed line b w.kept.chosen) (sym stands.begun) in
     let scis : map (λ (s : Sci). s.0) stage.scis.items ≡ scis_of w.run =
     ap (λ l. map (λ (s : Sci). s.0) l) stands.scis ∙ map-map-scis (stations w.run) in
-    ap (λ (b : Bool). first_of (is_performed line) b (wrong_word line stage.names.items (map (λ (s : Sci). s.0) stage.scis.items) (length stage.frames.frames))) allowed
-    ∙ ap (λ (l : List (List ℕ)). first_of (is_performed line) (is_allowed line w.kept.begun w.kept.chosen) (wrong_word line l (map (λ (s : Sci). s.0) stage.scis.items) (length stage.frames.frames))) stands.names
-    ∙ ap (λ (l : List (List ℕ)). first_of (is_performed line) (is_allowed line w.kept.begun w.kept.chosen) (wrong_word line (names_of w.run) l (length stage.frames.frames))) scis
-    ∙ ap (λ (f : Flow). first_of (is_performed line) (is_allowed line w.kept.begun w.kept.chosen) (wrong_word line (names_of w.run) (scis_of w.run) (length f.frames))) stands.flow
+    ap (λ (b : Bool). first_of (is_performed line) b
+    (wrong_word line stage.names.items (map (λ (s : Sci). s.0) stage.scis.items)
+    (length stage.frames.frames))) allowed
+    ∙ ap (λ (l : List (List ℕ)). first_of (is_performed line)
+    (is_allowed line w.kept.begun w.kept.chosen)
+    (wrong_word line l (map (λ (s : Sci). s.0) stage.scis.items) (length stage.frames.frames)))
+    stands.names
+    ∙ ap (λ (l : List (List ℕ)). first_of (is_performed line)
+    (is_allowed line w.kept.begun w.kept.chosen)
+    (wrong_word line (names_of w.run) l (length stage.frames.frames))) scis
+    ∙ ap (λ (f : Flow). first_of (is_performed line) (is_allowed line w.kept.begun w.kept.chosen)
+    (wrong_word line (names_of w.run) (scis_of w.run) (length f.frames))) stands.flow
 
-pub refused-word : (line : Line) (w : World) (stage : Stage) → StandsFor w stage → is_performed line ≡ false → Some kinds.Word ≡ refusal line w
+pub refused-word : (line : Line) (w : World) (stage : Stage) → StandsFor w stage
+    → is_performed line ≡ false → Some kinds.Word ≡ refusal line w
 refused-word line w stage stands isnt =
-    ap (λ (b : Bool). first_of b (not (is_choice line)) (wrong_word line stage.names.items (map (λ (s : Sci). s.0) stage.scis.items) (length stage.frames.frames))) (sym isnt)
+    ap (λ (b : Bool). first_of b (not (is_choice line))
+    (wrong_word line stage.names.items (map (λ (s : Sci). s.0) stage.scis.items)
+    (length stage.frames.frames))) (sym isnt)
     ∙ refusal-by line w stage stands
 
-pub refused-order : (line : Line) (w : World) (stage : Stage) → StandsFor w stage → is_performed line ≡ true → is_choice line ≡ true → Some kinds.Order ≡ refusal line w
+pub refused-order : (line : Line) (w : World) (stage : Stage) → StandsFor w stage
+    → is_performed line ≡ true → is_choice line ≡ true → Some kinds.Order ≡ refusal line w
 refused-order line w stage stands can choice =
-    ap (λ (b : Bool). first_of true (not b) (wrong_word line stage.names.items (map (λ (s : Sci). s.0) stage.scis.items) (length stage.frames.frames))) (sym choice)
-    ∙ ap (λ (b : Bool). first_of b (not (is_choice line)) (wrong_word line stage.names.items (map (λ (s : Sci). s.0) stage.scis.items) (length stage.frames.frames))) (sym can)
+    ap (λ (b : Bool). first_of true (not b)
+    (wrong_word line stage.names.items (map (λ (s : Sci). s.0) stage.scis.items)
+    (length stage.frames.frames))) (sym choice)
+    ∙ ap (λ (b : Bool). first_of b (not (is_choice line))
+    (wrong_word line stage.names.items (map (λ (s : Sci). s.0) stage.scis.items)
+    (length stage.frames.frames))) (sym can)
     ∙ refusal-by line w stage stands
 
-pub refused-words : (line : Line) (w : World) (stage : Stage) → StandsFor w stage → is_performed line ≡ true → is_choice line ≡ false
-    → wrong_word line stage.names.items (map (λ (s : Sci). s.0) stage.scis.items) (length stage.frames.frames) ≡ refusal line w
+pub refused-words : (line : Line) (w : World) (stage : Stage) → StandsFor w stage
+    → is_performed line ≡ true → is_choice line ≡ false
+    → wrong_word line stage.names.items (map (λ (s : Sci). s.0) stage.scis.items)
+    (length stage.frames.frames) ≡ refusal line w
 refused-words line w stage stands can isnt =
-    ap (λ (b : Bool). first_of true (not b) (wrong_word line stage.names.items (map (λ (s : Sci). s.0) stage.scis.items) (length stage.frames.frames))) (sym isnt)
-    ∙ ap (λ (b : Bool). first_of b (not (is_choice line)) (wrong_word line stage.names.items (map (λ (s : Sci). s.0) stage.scis.items) (length stage.frames.frames))) (sym can)
+    ap (λ (b : Bool). first_of true (not b)
+    (wrong_word line stage.names.items (map (λ (s : Sci). s.0) stage.scis.items)
+    (length stage.frames.frames))) (sym isnt)
+    ∙ ap (λ (b : Bool). first_of b (not (is_choice line))
+    (wrong_word line stage.names.items (map (λ (s : Sci). s.0) stage.scis.items)
+    (length stage.frames.frames))) (sym can)
     ∙ refusal-by line w stage stands

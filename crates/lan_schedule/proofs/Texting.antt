@@ -23,21 +23,31 @@ use Rattle.lan_schedule.proofs.LinesCome.{tidy-same}
 abbrev pub at_line : ℕ → World → World
 at_line number w = record w { kept = record w.kept { line = number } }
 
-pub skipped-does : (text : List ℕ) (number : ℕ) (old new : Moment Replay) → ((w : World) → StandsFor w old.value → number ≡ w.kept.line + 1)
-    → line_in text ≡ Ok None → Does (begin_line number) old new (Ok tt) → Does (performed text) old new (Ok tt)
-skipped-does text number old new next nothing_said d = same-act (performed text) (begin_line number) old new (Ok tt) (λ w stands.
-    ap (λ r. perform (act_read r) (at_line (w.kept.line + 1) w)) nothing_said ∙ ap (λ (n : ℕ). Goes (at_line n w)) (sym (next w stands))) d
+pub skipped-does : (text : List ℕ) (number : ℕ) (old new : Moment Replay)
+    → ((w : World) → StandsFor w old.value → number ≡ w.kept.line + 1)
+    → line_in text ≡ Ok None → Does (begin_line number) old new (Ok tt)
+    → Does (performed text) old new (Ok tt)
+skipped-does text number old new next nothing_said d =
+    same-act (performed text) (begin_line number) old new (Ok tt) (λ w stands.
+    ap (λ r. perform (act_read r) (at_line (w.kept.line + 1) w)) nothing_said
+    ∙ ap (λ (n : ℕ). Goes (at_line n w)) (sym (next w stands))) d
 
-pub line-does : (text : List ℕ) (number : ℕ) (line : Line) (old new : Moment Replay) (r : Result (Unit {0}) Halt) → ((w : World) → StandsFor w old.value → number ≡ w.kept.line + 1)
-    → line_in text ≡ Ok (Some line) → Does (numbered number line) old new r → Does (performed text) old new r
-line-does text number line old new r next said d = same-act (performed text) (numbered number line) old new r (λ w stands.
-    ap (λ s. perform (act_read s) (at_line (w.kept.line + 1) w)) said ∙ ap (λ (n : ℕ). perform (act_of line) (at_line n w)) (sym (next w stands))) d
+pub line-does : (text : List ℕ) (number : ℕ) (line : Line) (old new : Moment Replay)
+    (r : Result (Unit {0}) Halt) → ((w : World) → StandsFor w old.value → number ≡ w.kept.line + 1)
+    → line_in text ≡ Ok (Some line) → Does (numbered number line) old new r
+    → Does (performed text) old new r
+line-does text number line old new r next said d =
+    same-act (performed text) (numbered number line) old new r (λ w stands.
+    ap (λ s. perform (act_read s) (at_line (w.kept.line + 1) w)) said
+    ∙ ap (λ (n : ℕ). perform (act_of line) (at_line n w)) (sym (next w stands))) d
 
-fault-is : (said : Result (Option Line) TextFault) (fault : TextFault) → fault_in said ≡ Some fault → said ≡ Err fault
+fault-is : (said : Result (Option Line) TextFault) (fault : TextFault) → fault_in said ≡ Some fault
+    → said ≡ Err fault
 fault-is (Ok line) fault e = absurd (cc e)
 fault-is (Err other) fault e = let same : other ≡ fault = cc in ap (λ (f : TextFault). Err f) same
 
-kind-halt : (line : ℕ) (fault : TextFault) → fault ≢ faults.Memory → halt_of_text line fault ≡ halts.Trace line (kind_of_fault fault)
+kind-halt : (line : ℕ) (fault : TextFault) → fault ≢ faults.Memory
+    → halt_of_text line fault ≡ halts.Trace line (kind_of_fault fault)
 kind-halt line faults.TooLong never = refl
 kind-halt line faults.Word never = refl
 kind-halt line faults.Count never = refl
@@ -45,23 +55,43 @@ kind-halt line faults.Hex never = refl
 kind-halt line faults.Range never = refl
 kind-halt line faults.Memory never = absurd (never refl)
 
-pub fault-does : (text : List ℕ) (number : ℕ) (fault : TextFault) (now : Moment Replay) → ((w : World) → StandsFor w now.value → number ≡ w.kept.line + 1)
-    → fault ≢ faults.Memory → first_fault text ≡ Some fault → Does (performed text) now now (Err (halt_of_text number fault))
+pub fault-does : (text : List ℕ) (number : ℕ) (fault : TextFault) (now : Moment Replay)
+    → ((w : World) → StandsFor w now.value → number ≡ w.kept.line + 1)
+    → fault ≢ faults.Memory → first_fault text ≡ Some fault
+    → Does (performed text) now now (Err (halt_of_text number fault))
 fault-does text number fault now next never first = record {
   ends = λ base w reached.
       let v = at_line (w.kept.line + 1) w in
       let out : perform (performed text) w ≡ Stops v (halts.Trace number (kind_of_fault fault)) =
       ap (λ s. perform (act_read s) v) (fault-is (line_in text) fault first)
-      ∙ ap (λ (n : ℕ). Stops v (halts.Trace n (kind_of_fault fault))) (sym (next w reached.stands)) in
-      subst (λ (halt : Halt). EndsEarly base (perform (performed text) w) now.sink halt) (sym (kind-halt number fault never))
-      (v, out, record { tidy = tidy-same w (record w.kept { line = w.kept.line + 1 }) reached.shown.tidy refl refl refl (λ e. e); written = reached.shown.written; counts = reached.shown.counts });
+      ∙ ap (λ (n : ℕ). Stops v (halts.Trace n (kind_of_fault fault)))
+      (sym (next w reached.stands)) in
+      subst (λ (halt : Halt). EndsEarly base (perform (performed text) w) now.sink halt)
+      (sym (kind-halt number fault never)) (
+        v,
+        out,
+        record {
+          tidy = tidy-same w (record w.kept { line = w.kept.line + 1 })
+              reached.shown.tidy refl refl refl (λ e. e);
+          written = reached.shown.written;
+          counts =
+              reached.shown.counts;
+        },
+      );
 }
 
-pub any-fault-does : (text : List ℕ) (number : ℕ) (fault : TextFault) (now : Moment Replay) → ((w : World) → StandsFor w now.value → number ≡ w.kept.line + 1)
-    → (fault ≢ faults.Memory → first_fault text ≡ Some fault) → Does (performed text) now now (Err (halt_of_text number fault))
-any-fault-does text number faults.TooLong now next first = fault-does text number faults.TooLong now next (λ e. cc e) (first (λ e. cc e))
-any-fault-does text number faults.Word now next first = fault-does text number faults.Word now next (λ e. cc e) (first (λ e. cc e))
-any-fault-does text number faults.Count now next first = fault-does text number faults.Count now next (λ e. cc e) (first (λ e. cc e))
-any-fault-does text number faults.Hex now next first = fault-does text number faults.Hex now next (λ e. cc e) (first (λ e. cc e))
-any-fault-does text number faults.Range now next first = fault-does text number faults.Range now next (λ e. cc e) (first (λ e. cc e))
+pub any-fault-does : (text : List ℕ) (number : ℕ) (fault : TextFault) (now : Moment Replay)
+    → ((w : World) → StandsFor w now.value → number ≡ w.kept.line + 1)
+    → (fault ≢ faults.Memory → first_fault text ≡ Some fault)
+    → Does (performed text) now now (Err (halt_of_text number fault))
+any-fault-does text number faults.TooLong now next first =
+    fault-does text number faults.TooLong now next (λ e. cc e) (first (λ e. cc e))
+any-fault-does text number faults.Word now next first =
+    fault-does text number faults.Word now next (λ e. cc e) (first (λ e. cc e))
+any-fault-does text number faults.Count now next first =
+    fault-does text number faults.Count now next (λ e. cc e) (first (λ e. cc e))
+any-fault-does text number faults.Hex now next first =
+    fault-does text number faults.Hex now next (λ e. cc e) (first (λ e. cc e))
+any-fault-does text number faults.Range now next first =
+    fault-does text number faults.Range now next (λ e. cc e) (first (λ e. cc e))
 any-fault-does text number faults.Memory now next first = memory-does (performed text) now now refl

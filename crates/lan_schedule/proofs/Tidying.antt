@@ -1,5 +1,6 @@
 -- Worlds stay tidy.
-use Rattle.std.proofs.Common.{◌≡◌, ℕ, Bool, true, false, ◌⊎◌, inl, inr, subst, List, [], ◌∷◌, ◌++◌, Option, Some, None, refl, sym, ap, ◌∙◌, append_assoc, append-nil}
+use Rattle.std.proofs.Common.{◌≡◌, ℕ, Bool, true, false, ◌⊎◌, inl, inr, subst, List, [], ◌∷◌, ◌++◌}
+use Rattle.std.proofs.Common.{Option, Some, None, refl, sym, ap, ◌∙◌, append_assoc, append-nil}
 use Rattle.std.specs.Prelude.{map, cond, nat_lt}
 use Rattle.std.proofs.lemmas.List.{map-append}
 use Rattle.lan_core.specs.declared.event.Event.{Event}
@@ -26,11 +27,19 @@ use Rattle.lan_schedule.proofs.Drawing.{supply-draws}
 
 -- what facts put on the air has the numbers of its frames
 numbers-gather : (rounds : ℕ) (shown : List Fact) (xs : List Frame)
-    → numbers_of (gather framed shown xs) ≡ numbers_of xs ++ map (λ (put : Put). put.number) (puts rounds shown)
+    → numbers_of (gather framed shown xs) ≡ numbers_of xs
+    ++ map (λ (put : Put). put.number) (puts rounds shown)
 numbers-gather rounds [] xs = sym (append-nil (numbers_of xs))
 numbers-gather rounds (facts.Framed number station sec octets ∷ others) xs =
-    numbers-gather rounds others (record { number = number; station = station; sec = sec; octets = octets } ∷ xs)
-    ∙ append_assoc (numbers_of xs) (number ∷ []) (map (λ (put : Put). put.number) (puts rounds others))
+    numbers-gather rounds others (record {
+      number = number;
+      station = station;
+      sec = sec;
+      octets =
+          octets;
+    } ∷ xs)
+    ∙ append_assoc (numbers_of xs) (number ∷ [])
+    (map (λ (put : Put). put.number) (puts rounds others))
 numbers-gather rounds (_ ∷ others) xs = numbers-gather rounds others xs
 
 leaves-claim : (n : ℕ) (b : Bool) → (cond b 0 n ≡ 0) ⊎ (cond b 0 n ≡ n)
@@ -50,24 +59,39 @@ leaves-none w events.Emit exact = tt
 leaves-none w (events.Inject s octets) exact = tt
 
 -- what an event shows leaves the run sound
-sound-after : (w : World) (event : Event) (facts : List Fact) → IsTidy w → Comes (happen event) w → IsTyped event → IsSetting (settings w)
+sound-after : (w : World) (event : Event) (facts : List Fact) → IsTidy w → Comes (happen event) w
+    → IsTyped event → IsSetting (settings w)
     → first_stop (settings w) w.kept.users w.run event (supply w) ≡ None
-    → expected (settings w) w.kept.users w.run event (drawn_from (settings w).suite (supply w)) ≡ Some facts
+    → expected (settings w) w.kept.users w.run event (drawn_from (settings w).suite (supply w))
+    ≡ Some facts
     → IsSound (settings w) w.kept.users (happened event facts ∷ w.run)
 sound-after w event facts tidy comes typed setting goes shows =
     let on : IsUnstopped (settings w) w.kept.users w.run (named w event) event (supply w) facts =
-    record { setting = setting; typed = typed; draws = supply-draws w tidy; may_come = comes.0; shows = shows; goes = goes } in
     record {
-      legal = legal (settings w) w.kept.users w.run (named w event) event (supply w) facts on tidy.sound.legal;
-      fresh = fresh (settings w) w.kept.users w.run (named w event) event (supply w) facts on tidy.sound.legal.stepped tidy.sound.fresh;
-      unforged = unforged (settings w) w.kept.users w.run (named w event) event (supply w) facts on tidy.sound.unforged;
-      thrifty = stays-thrifty (settings w) w.kept.users (happened event facts) w.run (is-step (settings w) w.kept.users w.run (named w event) event (supply w) facts on)
+      setting = setting;
+      typed = typed;
+      draws = supply-draws w tidy;
+      may_come = comes.0;
+      shows = shows;
+      goes = goes;
+    } in
+    record {
+      legal = legal (settings w) w.kept.users w.run (named w event) event (supply w) facts on
+          tidy.sound.legal;
+      fresh = fresh (settings w) w.kept.users w.run (named w event) event (supply w) facts on
+          tidy.sound.legal.stepped tidy.sound.fresh;
+      unforged = unforged (settings w) w.kept.users w.run (named w event) event (supply w) facts on
+          tidy.sound.unforged;
+      thrifty = stays-thrifty (settings w) w.kept.users (happened event facts) w.run
+          (is-step (settings w) w.kept.users w.run (named w event) event (supply w) facts on)
           (leaves-none w event comes.1) tidy.sound.thrifty;
     }
 
-pub tidy-after : (w : World) (event : Event) (facts : List Fact) {lan : State} → IsTidy w → Comes (happen event) w → IsTyped event
+pub tidy-after : (w : World) (event : Event) (facts : List Fact) {lan : State} → IsTidy w
+    → Comes (happen event) w → IsTyped event
     → first_stop (settings w) w.kept.users w.run event (supply w) ≡ None
-    → expected (settings w) w.kept.users w.run event (drawn_from (settings w).suite (supply w)) ≡ Some facts
+    → expected (settings w) w.kept.users w.run event (drawn_from (settings w).suite (supply w))
+    ≡ Some facts
     → StandsFor (settings w) w.kept.users lan (happened event facts ∷ w.run) → w.kept.begun ≡ true
     → IsTidy (world_after w event facts)
 unfolding air
@@ -75,7 +99,8 @@ tidy-after w event facts tidy comes typed goes shows stands begun = record {
   sound = sound-after w event facts tidy comes typed stands.setting goes shows;
   within = stands.within;
   frames = map-append (λ (put : Put). put.number) w.kept.frames (puts w.kept.rounds facts)
-      ∙ ap (λ (l : List ℕ). l ++ map (λ (put : Put). put.number) (puts w.kept.rounds facts)) tidy.frames
+      ∙ ap (λ (l : List ℕ). l ++ map (λ (put : Put). put.number) (puts w.kept.rounds facts))
+      tidy.frames
       ∙ sym (numbers-gather w.kept.rounds facts (air w.run));
   numbered = stands.numbered;
   in_turn = stands.in_turn;

@@ -3,4 +3,5 @@ use Rattle.std.specs.Cmp.Lexicographic.{pointwise}
 use Rattle.lan_schedule.proofs.stage.position.Given as goal
 
 abbrev pub invariant-loop-place : goal.invariant-loop-place
-invariant-loop-place l = (k : ℕ) (d : List ℕ) → k < l.place → pointwise nat_eq l.name (get_or l.names k d) ≡ false
+invariant-loop-place l = (k : ℕ) (d : List ℕ) → k < l.place
+    → pointwise nat_eq l.name (get_or l.names k d) ≡ false

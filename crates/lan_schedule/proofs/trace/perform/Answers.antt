@@ -9,16 +9,22 @@ returns-in_default g c = memory-does _ _ _ refl
 
 pub returns-in-Ok-None : goal.returns-in-Ok-None
 returns-in-Ok-None g c =
-    skipped-does c.args.text.now c.in-Some.number _ _ (λ w stands. let at = c.line.ensures w stands in let is = c.in-Some.is in let counts = c.checked_add.ensures in grind (arith, at, is, counts))
+    skipped-does c.args.text.now c.in-Some.number _ _
+    (λ w stands. let at = c.line.ensures w stands in let is = c.in-Some.is in let counts =
+    c.checked_add.ensures in grind (arith, at, is, counts))
     (c.in-Ok-None.ensures.read ∙ ap (λ o. Ok o) c.in-Ok-None.field-0-is)
     c.skip.ensures
 
 pub returns-in-Ok-Some : goal.returns-in-Ok-Some
 returns-in-Ok-Some g c =
-    line-does c.args.text.now c.in-Some.number c.in-Ok-Some.line _ _ c.command.result (λ w stands. let at = c.line.ensures w stands in let is = c.in-Some.is in let counts = c.checked_add.ensures in grind (arith, at, is, counts))
+    line-does c.args.text.now c.in-Some.number c.in-Ok-Some.line _ _ c.command.result
+    (λ w stands. let at = c.line.ensures w stands in let is = c.in-Some.is in let counts =
+    c.checked_add.ensures in grind (arith, at, is, counts))
     (c.in-Ok-Some.ensures.read ∙ ap (λ o. Ok o) c.in-Ok-Some.field-0-is) c.command.ensures.does
 
 pub returns-in-Err : goal.returns-in-Err
 returns-in-Err g c =
-    rw c.halt_of_text.ensures (any-fault-does c.args.text.now c.in-Some.number c.in-Err.fault _ (λ w stands. let at = c.line.ensures w stands in let is = c.in-Some.is in let counts = c.checked_add.ensures in grind (arith, at, is, counts))
+    rw c.halt_of_text.ensures (any-fault-does c.args.text.now c.in-Some.number c.in-Err.fault _
+    (λ w stands. let at = c.line.ensures w stands in let is = c.in-Some.is in let counts =
+    c.checked_add.ensures in grind (arith, at, is, counts))
     (λ never. (c.in-Err.ensures.refused c.in-Err.fault never).0 refl))

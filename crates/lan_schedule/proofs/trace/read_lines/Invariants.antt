@@ -11,10 +11,13 @@ invariant-loop-count g l =
     let s = g.S.Source in
     record {
       within : l.total ≤ most_input;
-      some : WasDone (moment l.fn.replay (k.held l.fn.sink) (k.faults l.fn.sink)) (moment l.replay (k.held l.sink) (k.faults l.sink)) (Ok tt);
+      some : WasDone (moment l.fn.replay (k.held l.fn.sink) (k.faults l.fn.sink))
+          (moment l.replay (k.held l.sink) (k.faults l.sink)) (Ok tt);
       counts : s.faults l.fn.source ≤ s.faults l.source;
       read : (text : List ℕ) → s.left l.fn.source ≡ Some text
-          → HasRead text l.total (s.left l.source) (moment l.fn.replay (k.held l.fn.sink) (k.faults l.fn.sink)) l.begun.items (moment l.replay (k.held l.sink) (k.faults l.sink));
+          → HasRead text l.total (s.left l.source)
+          (moment l.fn.replay (k.held l.fn.sink) (k.faults l.fn.sink)) l.begun.items
+          (moment l.replay (k.held l.sink) (k.faults l.sink));
     }
 
 abbrev pub decreases-loop-count : goal.decreases-loop-count

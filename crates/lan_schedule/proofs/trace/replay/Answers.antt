@@ -36,7 +36,8 @@ returns-clause-read_fault g c =
     λ is.
     read-badly (moment c.new-replay.result (k.held c.args.sink.now) (k.faults c.args.sink.now))
     (moment c.read_lines.new.replay (k.held c.read_lines.new.sink) (k.faults c.read_lines.new.sink))
-    (s.faults c.args.source.now) (s.faults c.read_lines.new.source) c.in-Err.end c.new-replay.ensures c.in-Err.ensures.ended
+    (s.faults c.args.source.now) (s.faults c.read_lines.new.source) c.in-Err.end
+    c.new-replay.ensures c.in-Err.ensures.ended
     c.in-Err.ensures.read_fault (sym c.halt_of_end.ensures ∙ halt-is is)
 
 pub returns-clause-write_fault : goal.returns-clause-write_fault
@@ -45,4 +46,5 @@ returns-clause-write_fault g c =
     λ is.
     wrote-badly (moment c.new-replay.result (k.held c.args.sink.now) (k.faults c.args.sink.now))
     (moment c.read_lines.new.replay (k.held c.read_lines.new.sink) (k.faults c.read_lines.new.sink))
-    c.in-Err.end c.new-replay.ensures c.in-Err.ensures.ended (sym c.halt_of_end.ensures ∙ halt-is is)
+    c.in-Err.end c.new-replay.ensures c.in-Err.ensures.ended
+    (sym c.halt_of_end.ensures ∙ halt-is is)

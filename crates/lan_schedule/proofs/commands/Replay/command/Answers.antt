@@ -5,4 +5,6 @@ use Rattle.lan_schedule.proofs.commands.Replay.command.Goals as goal
 
 pub returns-in-Err-clause-does : goal.returns-in-Err-clause-does
 returns-in-Err-clause-does g c =
-    err-any _ _ _ _ c.in-Err.halt refl (then-err-late (begin_line c.args.number) (act_of c.args.line.now) _ _ _ c.in-Err.halt c.skip.ensures c.in-Err.ensures)
+    err-any _ _ _ _ c.in-Err.halt refl
+    (then-err-late (begin_line c.args.number) (act_of c.args.line.now) _ _ _ c.in-Err.halt
+    c.skip.ensures c.in-Err.ensures)

@@ -10,11 +10,15 @@ perform-requires-clause-later g c = station-is-later c.args.line.now c.requires.
 pub returns-in_err-perform : goal.returns-in_err-perform
 returns-in_err-perform g c =
     handed-on _ _ _ _ _
-    (opening-does c.args.line.now c.requires.form _ _ c.in_ok-stage.stage c.perform.new.self _ c.requires.station c.requires.unbegun c.requires.keyed
-    (λ v tidy keyed opening. c.in_ok-stage.ensures.stands v tidy keyed opening) c.in_err-perform.ensures (λ e. absurd (cc e)) refl)
+    (opening-does c.args.line.now c.requires.form _ _ c.in_ok-stage.stage c.perform.new.self _
+    c.requires.station c.requires.unbegun c.requires.keyed
+    (λ v tidy keyed opening. c.in_ok-stage.ensures.stands v tidy keyed opening)
+    c.in_err-perform.ensures (λ e. absurd (cc e)) refl)
     c.from_residual-in_err-perform.ensures.1
 
 pub returns : goal.returns
 returns g c =
-    opening-does c.args.line.now c.requires.form _ _ c.in_ok-stage.stage c.perform.new.self (Ok tt) c.requires.station c.requires.unbegun c.requires.keyed
-    (λ v tidy keyed opening. c.in_ok-stage.ensures.stands v tidy keyed opening) c.in_ok-perform.ensures (λ e. refl) refl
+    opening-does c.args.line.now c.requires.form _ _ c.in_ok-stage.stage c.perform.new.self (Ok tt)
+    c.requires.station c.requires.unbegun c.requires.keyed
+    (λ v tidy keyed opening. c.in_ok-stage.ensures.stands v tidy keyed opening)
+    c.in_ok-perform.ensures (λ e. refl) refl

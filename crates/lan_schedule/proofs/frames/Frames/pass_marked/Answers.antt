@@ -7,7 +7,9 @@ pub loop-self-preserved : goal.loop-self-preserved
 loop-self-preserved c = record {
   frames = c.loop-self.invariant.frames;
   rounds = c.loop-self.invariant.rounds;
-  marked = marked-more c.loop-self.self-inside.first c.loop-self.self-inside.frames.items c.index.result.now (omega arith)
-      (ap (λ (p : Put). p.marked) (sym c.index.ensures) ∙ c.if-index.true) c.loop-self.invariant.marked;
+  marked = marked-more c.loop-self.self-inside.first c.loop-self.self-inside.frames.items
+      c.index.result.now (omega arith)
+      (ap (λ (p : Put). p.marked) (sym c.index.ensures) ∙ c.if-index.true)
+      c.loop-self.invariant.marked;
   ordered = c.loop-self.invariant.ordered;
 }

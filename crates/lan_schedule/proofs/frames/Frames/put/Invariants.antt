@@ -4,4 +4,8 @@ use Rattle.lan_schedule.proofs.frames.Frames.put.Given as goal
 
 abbrev pub invariant-loop-fact : goal.invariant-loop-fact
 invariant-loop-fact l =
-    l.self ≡ record { frames = l.fn.self.frames ++ puts l.fn.self.rounds (take l.fact-index l.facts); rounds = l.fn.self.rounds }
+    l.self ≡ record {
+      frames = l.fn.self.frames
+          ++ puts l.fn.self.rounds (take l.fact-index l.facts);
+      rounds = l.fn.self.rounds;
+    }

@@ -4,4 +4,5 @@ use Rattle.lan_schedule.proofs.frames.Frames.waiting.Given as goal
 
 abbrev pub invariant-loop-place : goal.invariant-loop-place
 invariant-loop-place l =
-    due_of l.lag l.self.rounds l.self.frames ≡ l.numbers.items ++ due_of l.lag l.self.rounds (drop l.place l.self.frames)
+    due_of l.lag l.self.rounds l.self.frames ≡ l.numbers.items
+    ++ due_of l.lag l.self.rounds (drop l.place l.self.frames)

@@ -9,4 +9,5 @@ use Rattle.lan_schedule.proofs.stage.Stage.emit.Goals as goal
 
 pub returns : goal.returns
 returns g c =
-    unless-does (c.args.pn == 0) (happen Emit) _ _ _ (grind arith) (plainly Emit _ _ _ (λ w. refl) c.happen.ensures)
+    unless-does (c.args.pn == 0) (happen Emit) _ _ _ (grind arith)
+    (plainly Emit _ _ _ (λ w. refl) c.happen.ensures)

@@ -8,7 +8,8 @@ loop-init g c = span-start (λ _. flow_round) c.args.count _
 
 pub returns-in_err-flow_round : goal.returns-in_err-flow_round
 returns-in_err-flow_round g c =
-    span-exit (λ _. flow_round) c.loop.counter c.args.count _ _ _ _ _ _ (omega arith) c.loop.invariant
+    span-exit (λ _. flow_round) c.loop.counter c.args.count _ _ _ _ _ _ (omega arith)
+    c.loop.invariant
     c.in_err-flow_round.ensures c.from_residual.ensures.1
 
 pub loop-preserved : goal.loop-preserved
@@ -17,4 +18,5 @@ loop-preserved g c =
     c.in_ok-flow_round.ensures
 
 pub returns : goal.returns
-returns g c = span-end (λ _. flow_round) c.loop.counter c.args.count _ _ _ (omega arith) c.loop.invariant
+returns g c = span-end (λ _. flow_round) c.loop.counter c.args.count _ _ _ (omega arith)
+    c.loop.invariant

@@ -24,6 +24,7 @@ returns g c =
       names = c.in_ok-admit.ensures.names;
       scis = c.in_ok-admit.ensures.scis;
       frames = rw c.as_slice.ensures at c.in_ok-put.ensures;
-      numbers = λ settings r tell shows. (rw c.as_slice-2.ensures at c.in_ok-follow.ensures) settings r tell shows;
+      numbers = λ settings r tell shows.
+          (rw c.as_slice-2.ensures at c.in_ok-follow.ensures) settings r tell shows;
     })
     (rw (c.deref.ensures.value, c.as_slice-3.ensures) at c.show.ensures)

@@ -10,5 +10,6 @@ use Rattle.lan_schedule.proofs.stage.Stage.pass.Goals as goal
 
 pub returns : goal.returns
 returns g c =
-    (pass-leads c.args.frame c.args.from c.args.station _ (grind arith) (sym c.is_cut.ensures ∙ c.if-is_cut.false)).leads _ _
+    (pass-leads c.args.frame c.args.from c.args.station _ (grind arith)
+    (sym c.is_cut.ensures ∙ c.if-is_cut.false)).leads _ _
     (plainly (Deliver c.args.frame c.args.station) _ _ _ (λ w. refl) c.happen.ensures)

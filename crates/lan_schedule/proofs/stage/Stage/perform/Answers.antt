@@ -10,7 +10,8 @@ use Rattle.lan_schedule.proofs.stage.Stage.perform.Goals as goal
 pub returns-in-Station : goal.returns-in-Station
 returns-in-Station g c =
     let form = rw c.in-Station.is at c.requires.form in
-    same-line c.args.line.now (seq begin (happen (Start c.in-Station.name c.in-Station.sci c.in-Station.priority))) _ _ _
+    same-line c.args.line.now (seq begin (happen (Start c.in-Station.name c.in-Station.sci
+    c.in-Station.priority))) _ _ _
     (λ w. rw c.in-Station.is refl) (c.start.ensures form.fits.1.1.0.1)
 
 pub start-requires : goal.start-requires
@@ -20,40 +21,50 @@ start-requires g c =
 
 pub returns-in-TickOne : goal.returns-in-TickOne
 returns-in-TickOne g c =
-    one-place c.args.line.now c.in-TickOne.name (λ s. times c.in-TickOne.ticks (tick s)) c.place.result _ _ _
+    one-place c.args.line.now c.in-TickOne.name (λ s. times c.in-TickOne.ticks (tick s))
+    c.place.result _ _ _
     (λ w. rw c.in-TickOne.is refl) c.place.ensures c.ticks.ensures
 
 pub returns-in-Deliver : goal.returns-in-Deliver
 returns-in-Deliver g c =
-    one-place c.args.line.now c.in-Deliver.name (λ s. happen (Deliver c.in-Deliver.frame s)) c.place-in-Deliver.result _ _ _
+    one-place c.args.line.now c.in-Deliver.name (λ s. happen (Deliver c.in-Deliver.frame s))
+    c.place-in-Deliver.result _ _ _
     (λ w. rw c.in-Deliver.is refl) c.place-in-Deliver.ensures c.deliver.ensures
 
 pub returns-in-Cut : goal.returns-in-Cut
 returns-in-Cut g c =
-    two-places c.args.line.now c.in-Cut.from c.in-Cut.to (λ s t. link_cut s t) c.place-in-Cut.result c.place-in-Cut-2.result _ _ _
+    two-places c.args.line.now c.in-Cut.from c.in-Cut.to (λ s t. link_cut s t) c.place-in-Cut.result
+    c.place-in-Cut-2.result _ _ _
     (λ w. rw c.in-Cut.is refl) c.place-in-Cut.ensures c.place-in-Cut-2.ensures c.cut.ensures
 
 pub returns-in-Mend : goal.returns-in-Mend
 returns-in-Mend g c =
-    two-places c.args.line.now c.in-Mend.from c.in-Mend.to (λ s t. link_mended s t) c.place-in-Mend.result c.place-in-Mend-2.result _ _ _
+    two-places c.args.line.now c.in-Mend.from c.in-Mend.to (λ s t. link_mended s t)
+    c.place-in-Mend.result c.place-in-Mend-2.result _ _ _
     (λ w. rw c.in-Mend.is refl) c.place-in-Mend.ensures c.place-in-Mend-2.ensures c.mend.ensures
 
 pub returns-in-Restart : goal.returns-in-Restart
 returns-in-Restart g c =
-    one-place c.args.line.now c.in-Restart.name (λ s. happen (Restart s)) c.place-in-Restart.result _ _ _
+    one-place c.args.line.now c.in-Restart.name (λ s. happen (Restart s)) c.place-in-Restart.result
+    _ _ _
     (λ w. rw c.in-Restart.is refl) c.place-in-Restart.ensures c.restart.ensures
 
 pub returns-in-Send : goal.returns-in-Send
 returns-in-Send g c =
-    one-place c.args.line.now c.in-Send.name (λ s. seq (add_user (record { destination = c.in-Send.destination; body = c.in-Send.body })) (send s)) c.place-in-Send.result _ _ _
+    one-place c.args.line.now c.in-Send.name
+    (λ s. seq (add_user (record { destination = c.in-Send.destination; body = c.in-Send.body }))
+    (send s)) c.place-in-Send.result _ _ _
     (λ w. rw c.in-Send.is refl) c.place-in-Send.ensures c.send_body.ensures
 
 pub returns-in-Inject : goal.returns-in-Inject
 returns-in-Inject g c =
-    one-place c.args.line.now c.in-Inject.name (λ s. happen (Inject s c.in-Inject.octets)) c.place-in-Inject.result _ _ _
+    one-place c.args.line.now c.in-Inject.name (λ s. happen (Inject s c.in-Inject.octets))
+    c.place-in-Inject.result _ _ _
     (λ w. rw c.in-Inject.is refl) c.place-in-Inject.ensures c.inject.ensures
 
 pub returns-in_default : goal.returns-in_default
 returns-in_default g c =
     let d = c.in_default in
-    default-does c.args.line.now _ c.requires.later d.not-Station d.not-Tick d.not-TickOne d.not-Flow d.not-Deliver d.not-Spread d.not-Lose d.not-Cut d.not-Mend d.not-Restart d.not-Send d.not-Inject
+    default-does c.args.line.now _ c.requires.later d.not-Station d.not-Tick d.not-TickOne
+    d.not-Flow d.not-Deliver d.not-Spread d.not-Lose d.not-Cut d.not-Mend d.not-Restart
+    d.not-Send d.not-Inject

@@ -4,12 +4,17 @@ use Rattle.lan_schedule.proofs.stage.Stage.refusal.Goals as goal
 
 pub returns-then-not-is_performed-clause-first : goal.returns-then-not-is_performed-clause-first
 returns-then-not-is_performed-clause-first c = λ w stands.
-    refused-word c.args.line.now w c.args.self.now stands (sym c.is_performed.ensures ∙ c.if-not-is_performed.true)
+    refused-word c.args.line.now w c.args.self.now stands
+    (sym c.is_performed.ensures ∙ c.if-not-is_performed.true)
 
 pub returns-then-is_choice-clause-first : goal.returns-then-is_choice-clause-first
 returns-then-is_choice-clause-first c = λ w stands.
-    refused-order c.args.line.now w c.args.self.now stands (sym c.is_performed.ensures ∙ c.if-not-is_performed.false) (sym c.is_choice.ensures ∙ c.if-is_choice.true)
+    refused-order c.args.line.now w c.args.self.now stands
+    (sym c.is_performed.ensures ∙ c.if-not-is_performed.false)
+    (sym c.is_choice.ensures ∙ c.if-is_choice.true)
 
 pub returns-clause-first : goal.returns-clause-first
 returns-clause-first c = λ w stands.
-    c.wrong_word.ensures ∙ refused-words c.args.line.now w c.args.self.now stands (sym c.is_performed.ensures ∙ c.if-not-is_performed.false) (sym c.is_choice.ensures ∙ c.if-is_choice.false)
+    c.wrong_word.ensures ∙ refused-words c.args.line.now w c.args.self.now stands
+    (sym c.is_performed.ensures ∙ c.if-not-is_performed.false)
+    (sym c.is_choice.ensures ∙ c.if-is_choice.false)

@@ -9,13 +9,16 @@ loop-station-init g c = stations-leads tick c.count-station-end.result _ c.count
 
 pub returns-in_err-tick : goal.returns-in_err-tick
 returns-in_err-tick g c =
-    span-exit tick c.loop-station.station c.count-station-end.result _ _ _ _ _ _ (omega arith) c.loop-station.invariant
+    span-exit tick c.loop-station.station c.count-station-end.result _ _ _ _ _ _ (omega arith)
+    c.loop-station.invariant
     c.in_err-tick.ensures c.from_residual.ensures.1
 
 pub loop-station-preserved : goal.loop-station-preserved
 loop-station-preserved g c =
-    span-step tick c.loop-station.station c.count-station-end.result _ _ _ _ (omega arith) c.loop-station.invariant
+    span-step tick c.loop-station.station c.count-station-end.result _ _ _ _ (omega arith)
+    c.loop-station.invariant
     c.in_ok-tick.ensures
 
 pub returns : goal.returns
-returns g c = span-end tick c.loop-station.station c.count-station-end.result _ _ _ (omega arith) c.loop-station.invariant
+returns g c = span-end tick c.loop-station.station c.count-station-end.result _ _ _ (omega arith)
+    c.loop-station.invariant

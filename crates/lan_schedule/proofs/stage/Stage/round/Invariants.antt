@@ -10,4 +10,5 @@ abbrev pub invariant-loop-station : goal.invariant-loop-station
 invariant-loop-station g l =
     let k = g.K.Sink in
     Leads StandsFor (round) (moment l.fn.self (k.held l.fn.sink) (k.faults l.fn.sink))
-    (span tick l.station (l.station-end - l.station)) (moment l.self (k.held l.sink) (k.faults l.sink))
+    (span tick l.station (l.station-end - l.station))
+    (moment l.self (k.held l.sink) (k.faults l.sink))

@@ -13,9 +13,22 @@ returns-in_err-happen g c =
     handed-on _ _ _ _ _
     (send-does c.args.station c.in-Some.users c.to_claim-pn.result c.args.user.now _ _ _ _
     (λ base w reached tidy. user-reached c.args.user.now base w _ _ reached tidy
-    (record { lag = refl; lan = refl; draws = refl; names = refl; scis = refl; frames = refl; numbers = refl }) refl one_more refl refl)
-    (λ w stands. (stands.users, c.to_claim-pn.ensures (settings w) w.kept.users w.run stands.lan stands.numbers))
-    (claim-err c.args.station c.in-Some.users c.to_claim-pn.result c.args.user.now _ _ _ c.in_err-happen.ensures))
+    (record {
+      lag = refl;
+      lan = refl;
+      draws = refl;
+      names = refl;
+      scis = refl;
+      frames = refl;
+      numbers = refl;
+    }) refl one_more refl refl)
+    (λ w stands. (
+      stands.users,
+      c.to_claim-pn.ensures (settings w) w.kept.users w.run stands.lan
+          stands.numbers,
+    ))
+    (claim-err c.args.station c.in-Some.users c.to_claim-pn.result c.args.user.now _ _ _
+    c.in_err-happen.ensures))
     c.from_residual.ensures.1
 
 pub returns : goal.returns
@@ -23,6 +36,19 @@ returns g c =
     let one_more : c.in-Some.users ≡ c.args.self.now.users + 1 = grind arith in
     send-does c.args.station c.in-Some.users c.to_claim-pn.result c.args.user.now _ _ _ _
     (λ base w reached tidy. user-reached c.args.user.now base w _ _ reached tidy
-    (record { lag = refl; lan = refl; draws = refl; names = refl; scis = refl; frames = refl; numbers = refl }) refl one_more refl refl)
-    (λ w stands. (stands.users, c.to_claim-pn.ensures (settings w) w.kept.users w.run stands.lan stands.numbers))
-    (claim-ok c.args.station c.in-Some.users c.to_claim-pn.result c.args.user.now _ _ _ _ c.in_ok-happen.ensures c.emit.ensures)
+    (record {
+      lag = refl;
+      lan = refl;
+      draws = refl;
+      names = refl;
+      scis = refl;
+      frames = refl;
+      numbers = refl;
+    }) refl one_more refl refl)
+    (λ w stands. (
+      stands.users,
+      c.to_claim-pn.ensures (settings w) w.kept.users w.run stands.lan
+          stands.numbers,
+    ))
+    (claim-ok c.args.station c.in-Some.users c.to_claim-pn.result c.args.user.now _ _ _ _
+    c.in_ok-happen.ensures c.emit.ensures)

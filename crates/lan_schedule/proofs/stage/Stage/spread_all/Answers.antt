@@ -5,13 +5,16 @@ use Rattle.lan_schedule.proofs.stage.Stage.spread_all.Goals as goal
 
 pub returns-in_err-spread : goal.returns-in_err-spread
 returns-in_err-spread g c =
-    each-err spread c.args.frames.now c.loop-frame.frame-index _ _ _ _ _ _ (omega arith) c.loop-frame.invariant
+    each-err spread c.args.frames.now c.loop-frame.frame-index _ _ _ _ _ _ (omega arith)
+    c.loop-frame.invariant
     c.in_err-spread.ensures c.from_residual.ensures.1
 
 pub loop-frame-preserved : goal.loop-frame-preserved
 loop-frame-preserved g c =
-    each-step spread c.args.frames.now c.loop-frame.frame-index _ _ _ _ (omega arith) c.loop-frame.invariant
+    each-step spread c.args.frames.now c.loop-frame.frame-index _ _ _ _ (omega arith)
+    c.loop-frame.invariant
     c.in_ok-spread.ensures
 
 pub returns : goal.returns
-returns g c = each-end spread c.args.frames.now c.loop-frame.frame-index _ _ _ (omega arith) c.loop-frame.invariant
+returns g c = each-end spread c.args.frames.now c.loop-frame.frame-index _ _ _ (omega arith)
+    c.loop-frame.invariant

@@ -9,5 +9,6 @@ use Rattle.lan_schedule.proofs.stage.Stage.tick.Goals as goal
 pub returns : goal.returns
 returns g c =
     (look-leads _ (happen (Tick c.args.station c.shown-next.result)) _ (λ w stands tidy.
-    ap (λ n. happen (Tick c.args.station n)) (c.shown-next.ensures (settings w) w.kept.users w.run stands.lan stands.numbers))).leads _ _
+    ap (λ n. happen (Tick c.args.station n))
+    (c.shown-next.ensures (settings w) w.kept.users w.run stands.lan stands.numbers))).leads _ _
     (plainly (Tick c.args.station c.shown-next.result) _ _ _ (λ w. refl) c.happen.ensures)

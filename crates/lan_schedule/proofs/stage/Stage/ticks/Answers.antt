@@ -8,13 +8,16 @@ loop-init g c = span-start (λ _. tick c.args.station) c.args.count _
 
 pub returns-in_err-tick : goal.returns-in_err-tick
 returns-in_err-tick g c =
-    span-exit (λ _. tick c.args.station) c.loop.counter c.args.count _ _ _ _ _ _ (omega arith) c.loop.invariant
+    span-exit (λ _. tick c.args.station) c.loop.counter c.args.count _ _ _ _ _ _ (omega arith)
+    c.loop.invariant
     c.in_err-tick.ensures c.from_residual.ensures.1
 
 pub loop-preserved : goal.loop-preserved
 loop-preserved g c =
-    span-step (λ _. tick c.args.station) c.loop.counter c.args.count _ _ _ _ (omega arith) c.loop.invariant
+    span-step (λ _. tick c.args.station) c.loop.counter c.args.count _ _ _ _ (omega arith)
+    c.loop.invariant
     c.in_ok-tick.ensures
 
 pub returns : goal.returns
-returns g c = span-end (λ _. tick c.args.station) c.loop.counter c.args.count _ _ _ (omega arith) c.loop.invariant
+returns g c = span-end (λ _. tick c.args.station) c.loop.counter c.args.count _ _ _ (omega arith)
+    c.loop.invariant

@@ -9,5 +9,7 @@ use Rattle.lan_schedule.proofs.stage.Stage.to_others.Given as goal
 abbrev pub invariant-loop-station : goal.invariant-loop-station
 invariant-loop-station g l =
     let k = g.K.Sink in
-    Leads StandsFor (to_others l.frame l.from) (moment l.fn.self (k.held l.fn.sink) (k.faults l.fn.sink))
-    (span (pass l.frame l.from) l.station (l.station-end - l.station)) (moment l.self (k.held l.sink) (k.faults l.sink))
+    Leads StandsFor (to_others l.frame l.from)
+    (moment l.fn.self (k.held l.fn.sink) (k.faults l.fn.sink))
+    (span (pass l.frame l.from) l.station (l.station-end - l.station))
+    (moment l.self (k.held l.sink) (k.faults l.sink))
