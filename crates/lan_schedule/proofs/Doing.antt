@@ -19,8 +19,8 @@ use Rattle.lan_schedule.specs.Answers.{answer}
 use Rattle.lan_schedule.specs.Acts.{Act, nothing, refuse, happen, change, seq, look, perform}
 use Rattle.lan_schedule.specs.Acts.{Outcome, Goes, Stops, world_of, shown, and_then, each, span}
 use Rattle.lan_schedule.specs.Acts.{world_after}
-use Rattle.lan_schedule.specs.Ends.{Sunk, Moment, HoldsFront, IsShown, IsStopped, IsReached, Ends}
-use Rattle.lan_schedule.specs.Ends.{EndsEarly, written, text_of}
+use Rattle.lan_schedule.specs.Ends.{Sunk, Moment, HoldsFront, TookFront, IsShown, IsStopped}
+use Rattle.lan_schedule.specs.Ends.{IsReached, Ends, EndsEarly, written, text_of}
 use Rattle.lan_schedule.specs.inside.Comes.{Comes, Did, IsGoing}
 use Rattle.lan_schedule.specs.Sound.{IsTidy}
 
@@ -72,6 +72,11 @@ holds-longer old new a b longer h = record {
   held = h.held;
 }
 
+took-longer : (base now : Sunk) (a b : List ℕ) → Begins a b → TookFront base now a
+    → TookFront base now b
+took-longer base now a b longer t =
+    record { holds = holds-longer base.held now.held a b longer t.holds; counts = t.counts }
+
 and-longer : (out : Outcome) (g : Act)
     → Begins (text_of out) (text_of (and_then out (λ v. perform g v)))
 and-longer (Goes w) g = grows g w
@@ -89,9 +94,8 @@ ends-early base now out g (halts.Trace line kind) h =
     stopped-then base now out (λ v. perform g v) _ h
 ends-early base now out g halts.ReadFault h = h
 ends-early base now out g halts.WriteFault h =
-    (h.0, holds-longer base.held now.held (text_of out) _ (and-longer out g) h.1)
-ends-early base now out g halts.Memory h =
-    holds-longer base.held now.held (text_of out) _ (and-longer out g) h
+    (h.0, took-longer base now (text_of out) _ (and-longer out g) h.1)
+ends-early base now out g halts.Memory h = took-longer base now (text_of out) _ (and-longer out g) h
 ends-early base now out g (halts.Limit which) h = stopped-then base now out (λ v. perform g v) _ h
 ends-early base now out g (halts.RepeatedDraw first second) h =
     stopped-then base now out (λ v. perform g v) _ h
@@ -262,12 +266,20 @@ pub rose-earlier : (a b now : ℕ) → a ≤ b → Rose b now → Rose a now
 rose-earlier a b now le (inl lt) = inl (omega arith)
 rose-earlier a b now le (inr full) = inr full
 
-pub holds-taken : (old new : Option (List ℕ)) (text : List ℕ) (n : ℕ)
-    → new ≡ after old (take n text) → HoldsFront old new text
-holds-taken old new text n h =
-    record { front = take n text; rest = drop n text; parts = take-append-drop n text; held = h }
+pub took-taken : (old new : Sunk) (text : List ℕ) (n : ℕ) → new.held ≡ after old.held (take n text)
+    → old.faults ≤ new.faults → TookFront old new text
+took-taken old new text n h counts = record {
+  holds = record {
+    front = take n text;
+    rest = drop n text;
+    parts = take-append-drop n text;
+    held =
+        h;
+  };
+  counts = counts;
+}
 
-pub holds-behind : (base old new : Option (List ℕ)) (text piece : List ℕ) → old ≡ after base text
+holds-behind : (base old new : Option (List ℕ)) (text piece : List ℕ) → old ≡ after base text
     → HoldsFront old new piece → HoldsFront base new (text ++ piece)
 holds-behind base old new text piece e h = record {
   front = text ++ h.front;
@@ -276,20 +288,37 @@ holds-behind base old new text piece e h = record {
   held = h.held ∙ ap (λ (o : Option (List ℕ)). after o h.front) e ∙ after-append base text h.front;
 }
 
--- no memory, before anything was written
-pub memory-does : {R : Type 0} {Stands : World → R → Type 0} (act : Act) (old new : Moment R)
-    → new.sink.held ≡ old.sink.held → Did Stands act old new (Err halts.Memory)
-memory-does act old new held = record {
-  ends = λ base w reached comes.
-      let longer = grows act w in
-      record {
+pub took-behind : (base old new : Sunk) (text piece : List ℕ) → old.held ≡ after base.held text
+    → base.faults ≤ old.faults → TookFront old new piece → TookFront base new (text ++ piece)
+took-behind base old new text piece e counts t = record {
+  holds = holds-behind base.held old.held new.held text piece e t.holds;
+  counts = omega (arith, counts, t.counts);
+}
+
+-- no memory, before more was written
+pub took-none : (act : Act) (base : Sunk) (w : World) (old new : Sunk) → IsShown base w old
+    → new ≡ old → TookFront base new (text_of (perform act w))
+took-none act base w old new shown same =
+    let longer = grows act w in
+    let faults : new.faults ≡ old.faults = ap (λ (s : Sunk). s.faults) same in
+    record {
+      holds = record {
         front = written w.run;
         rest = longer.more;
         parts = longer.parts;
-        held = held
-            ∙ reached.shown.written;
+        held =
+            ap (λ (s : Sunk). s.held) same ∙ shown.written;
       };
-}
+      counts = omega (arith, faults, shown.counts);
+    }
+
+pub memory-does : {R : Type 0} {Stands : World → R → Type 0} (act : Act) (old new : Moment R)
+    → new.sink ≡ old.sink → Did Stands act old new (Err halts.Memory)
+memory-does act old new same =
+    record {
+      ends = λ base w reached comes.
+          took-none act base w old.sink new.sink reached.shown same;
+    }
 
 -- what is kept changes, and nothing is written
 pub change-does : {R : Type 0} {Stands : World → R → Type 0} (f : Kept → Kept) (old new : Moment R)

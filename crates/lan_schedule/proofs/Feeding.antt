@@ -17,11 +17,11 @@ use Rattle.lan_schedule.specs.World.{World}
 use Rattle.lan_schedule.specs.Acts.{Act, nothing, seq, each, perform, Outcome, Goes, Stops}
 use Rattle.lan_schedule.specs.Acts.{and_then}
 use Rattle.lan_schedule.specs.Lines.{performed, performed_all}
-use Rattle.lan_schedule.specs.Ends.{Sunk, Moment, Ends, EndsEarly, written}
+use Rattle.lan_schedule.specs.Ends.{Sunk, Moment, Ends, EndsEarly}
 use Rattle.lan_schedule.specs.Standing.{StandsFor, Does}
 use Rattle.lan_schedule.specs.Trace.{most_input, lines_within}
 use Rattle.lan_schedule.specs.inside.Reading.{WasDone}
-use Rattle.lan_schedule.proofs.Doing.{ends-early, grows}
+use Rattle.lan_schedule.proofs.Doing.{ends-early, took-none}
 
 -- the first act ended early
 pub then-err : (f g : Act) (old new : Moment Replay) (e : Halt) → Does f old new (Err e)
@@ -44,20 +44,11 @@ then-ok f g old mid new r d e = record {
 pub nothing-does : (now : Moment Replay) → Does nothing now now (Ok tt)
 nothing-does now = record { ends = λ base w reached. (w, refl, reached) }
 
--- no memory, before anything was written
-pub memory-does : (act : Act) (old new : Moment Replay) → new.sink.held ≡ old.sink.held
+-- no memory, before more was written
+pub memory-does : (act : Act) (old new : Moment Replay) → new.sink ≡ old.sink
     → Does act old new (Err halts.Memory)
-memory-does act old new held = record {
-  ends = λ base w reached.
-      let longer = grows act w in
-      record {
-        front = written w.run;
-        rest = longer.more;
-        parts = longer.parts;
-        held = held
-            ∙ reached.shown.written;
-      };
-}
+memory-does act old new same =
+    record { ends = λ base w reached. took-none act base w old.sink new.sink reached.shown same }
 
 -- what is left of an act, done from here, is the whole act done from the start
 pub record Leads (whole : Act) (old : Moment Replay) (left : Act) (now : Moment Replay) : Type 0
@@ -390,3 +381,17 @@ done-then old now next lines r before d = record {
   lines = before.lines ++ lines;
   done = append-ok performed before.lines lines old now next r before.done d;
 }
+
+-- ---- the last line
+
+alone-does : (f : Act) (old new : Moment Replay) (r : Result (Unit {0}) Halt) → Does f old new r
+    → Does (seq f nothing) old new r
+alone-does f old new (Ok done) d = then-ok f nothing old new new (Ok tt) d (nothing-does new)
+alone-does f old new (Err e) d = then-err f nothing old new e d
+
+-- octets are left for it
+pub last-does : (line : List ℕ) (old new : Moment Replay) (r : Result (Unit {0}) Halt)
+    → (length line == 0) ≡ false → Does (performed line) old new r
+    → Does (performed_all (last_line line)) old new r
+last-does [] old new r some d = absurd (let bad : true ≡ false = some in cc bad)
+last-does (x ∷ octets) old new r some d = alone-does (performed (x ∷ octets)) old new r d

@@ -12,12 +12,13 @@ use Rattle.lan_core.specs.declared.fact.Fact.{Fact}
 use Rattle.lan_core.specs.declared.settings.Settings.{Settings}
 use Rattle.lan_core.specs.declared.stop.Stop.{Stop}
 use Rattle.lan_core.specs.declared.stop.Stop.TheVariants as stops
-use Rattle.lan_core.specs.Run.{Run, Profile, happened, started, stations}
+use Rattle.lan_core.specs.Run.{Run, Profile, happened, started, stations, facts_of}
 use Rattle.lan_core.specs.Expected.{expected, drawn_from}
 use Rattle.lan_core.specs.Stops.{MayCome, first_stop, draws_needed}
 use Rattle.lan_core.specs.Types.{IsTyped}
 use Rattle.lan_core.specs.Standing.{StandsFor as GroupStandsFor}
 use Rattle.lan_core.specs.inside.Steps.{Answers, GoesOn}
+use Rattle.group_safety.specs.Summary.{counts}
 use Rattle.transcript.specs.Rendering.{transcript}
 use Rattle.lan_schedule.specs.declared.halt.Halt.{Halt}
 use Rattle.lan_schedule.specs.declared.halt.Halt.TheVariants as halts
@@ -26,16 +27,17 @@ use Rattle.lan_schedule.specs.World.{World, names_of, settings, puts}
 use Rattle.lan_schedule.specs.Settings.{rule_of}
 use Rattle.lan_schedule.specs.Supply.{draw_at}
 use Rattle.lan_schedule.specs.Answers.{supply, taken_by, halt_of, facts_shown, answered, answer}
-use Rattle.lan_schedule.specs.Acts.{happen, perform, Outcome, Goes, Stops, shown, world_after}
+use Rattle.lan_schedule.specs.Acts.{nothing, happen, perform, Outcome, Goes, Stops, shown}
+use Rattle.lan_schedule.specs.Acts.{world_after}
 use Rattle.lan_schedule.specs.Sound.{IsTidy}
-use Rattle.lan_schedule.specs.Ends.{Sunk, Moment, HoldsFront, IsShown, IsStopped, IsReached, Ends}
+use Rattle.lan_schedule.specs.Ends.{Sunk, Moment, TookFront, IsShown, IsStopped, IsReached, Ends}
 use Rattle.lan_schedule.specs.Ends.{EndsEarly, written}
 use Rattle.lan_schedule.specs.inside.Frames.{Flow}
 use Rattle.lan_schedule.specs.inside.Supplies.{supply_nth}
 use Rattle.lan_schedule.specs.inside.Counters.{TellNext, ShowsNext}
 use Rattle.lan_schedule.specs.inside.Comes.{Comes, Did, IsExact, named}
 use Rattle.lan_schedule.specs.inside.Staged.{StandsFor, Happened, Writes}
-use Rattle.lan_schedule.proofs.Doing.{grows, holds-behind, after-append, rose-earlier, memory-does}
+use Rattle.lan_schedule.proofs.Doing.{took-behind, took-none, after-append, rose-earlier}
 use Rattle.lan_schedule.proofs.Tidying.{tidy-after}
 
 -- what a step promises of a group
@@ -123,12 +125,12 @@ written-ends base w event facts old new (Err halts.ReadFault) reached tidy stand
     absurd wrote
 written-ends base w event facts old new (Err halts.WriteFault) reached tidy stands wrote = (
   rose-earlier base.faults old.sink.faults new.sink.faults reached.shown.counts wrote.0,
-  holds-behind base.held old.sink.held new.sink.held (written w.run) (entry_text event facts w)
-      reached.shown.written wrote.1,
+  took-behind base old.sink new.sink (written w.run) (entry_text event facts w)
+      reached.shown.written reached.shown.counts wrote.1,
 )
 written-ends base w event facts old new (Err halts.Memory) reached tidy stands wrote =
-    holds-behind base.held old.sink.held new.sink.held (written w.run) (entry_text event facts w)
-    reached.shown.written wrote
+    took-behind base old.sink new.sink (written w.run) (entry_text event facts w)
+    reached.shown.written reached.shown.counts wrote
 written-ends base w event facts old new (Err (halts.Limit which)) reached tidy stands wrote =
     absurd wrote
 written-ends base w event facts old new (Err (halts.RepeatedDraw first second)) reached tidy stands
@@ -161,6 +163,7 @@ pub record Keeps (event : Event) (facts : List Fact) (old new : Stage) : Type 0 
   pub numbers : (settings : Settings) (r : Run) → TellNext settings r old.numbers
       → ShowsNext settings r event
       → TellNext settings (happened event facts ∷ r) new.numbers
+  pub tally : (shown : List Fact) → old.tally ≡ counts shown → new.tally ≡ counts (shown ++ facts)
 
 stands-after : (w : World) (event : Event) (facts : List Fact) (old new : Stage) → StandsFor w old
     → IsExact w event
@@ -183,6 +186,7 @@ stands-after w event facts old new stands exact told keeps = record {
       record { frames = f.frames ++ puts f.rounds facts; rounds = f.rounds }) stands.flow;
   cuts = keeps.cuts ∙ stands.cuts;
   numbers = keeps.numbers (settings w) w.run stands.numbers (shows-next w event exact);
+  tally = keeps.tally (facts_of w.run) stands.tally;
 }
 
 -- the event happened, and its facts were written, or a front of them
@@ -215,27 +219,7 @@ stopped-ends base w line stops.DrawsSpent new h = (w, refl, h)
 stopped-ends base w line (stops.Limit which) new h = (w, refl, h)
 stopped-ends base w line (stops.RepeatedDraw first second) new h = (w, refl, h)
 stopped-ends base w line (stops.Forged station) new h = (w, refl, h)
-stopped-ends base w line stops.Memory new h =
-    record {
-      front = written w.run;
-      rest = [];
-      parts = append-nil (written w.run);
-      held =
-          h.written;
-    }
-
--- no memory, before anything was written
-memory-ends : (base : Sunk) (w : World) (event : Event) (old new : Moment Stage)
-    → IsReached StandsFor base w old → new.sink ≡ old.sink
-    → EndsEarly base (perform (happen event) w) new.sink halts.Memory
-memory-ends base w event old new reached same =
-    let longer = grows (happen event) w in
-    record {
-      front = written w.run;
-      rest = longer.more;
-      parts = longer.parts;
-      held = ap (λ (s : Sunk). s.held) same ∙ reached.shown.written;
-    }
+stopped-ends base w line stops.Memory new h = took-none nothing base w new new h refl
 
 is-shown : (base : Sunk) (w : World) (old new : Moment Stage) → IsReached StandsFor base w old
     → new.sink ≡ old.sink → IsShown base w new.sink
@@ -257,7 +241,7 @@ event-stopped given event stop line old new step is_line same = record {
       elim goes as (λ _. EndsEarly base (perform (happen event) w) new.sink (halt_of line stop)) [
         | inl memory ↦ subst (λ (s : Stop).
             EndsEarly base (perform (happen event) w) new.sink (halt_of line s)) (sym memory)
-            (memory-ends base w event old new reached same)
+            (took-none (happen event) base w old.sink new.sink reached.shown same)
         | inr first ↦
             let met : answer w event ≡ Err (halt_of line stop) =
             ap (λ (o : Option Stop). answered w event o)

@@ -20,4 +20,5 @@ mod Opening
 mod Limits
 mod Reading
 mod Texting
+mod Summing
 pub mod Returning

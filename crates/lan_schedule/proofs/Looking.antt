@@ -74,6 +74,7 @@ pub record Flows (old new : Stage) : Type 0 where
   pub users : new.users ≡ old.users
   pub cuts : new.cuts ≡ old.cuts
   pub numbers : new.numbers ≡ old.numbers
+  pub tally : new.tally ≡ old.tally
 
 pub mark-does : (number : ℕ) (old new : Moment Stage) → Flows old.value new.value
     → new.value.frames ≡ record {
@@ -99,6 +100,7 @@ mark-does number old new same flow sink =
       cuts = same.cuts ∙ stands.cuts;
       numbers = subst (λ numbers. TellNext (settings w) w.run numbers) (sym same.numbers)
           stands.numbers;
+      tally = same.tally ∙ stands.tally;
     }) sink
 
 pub begin-does : (old new : Moment Stage) → Flows old.value new.value
@@ -126,6 +128,7 @@ begin-does old new same flow sink =
       cuts = same.cuts ∙ stands.cuts;
       numbers = subst (λ numbers. TellNext (settings w) w.run numbers) (sym same.numbers)
           stands.numbers;
+      tally = same.tally ∙ stands.tally;
     }) sink
 
 -- an act that is not skipped

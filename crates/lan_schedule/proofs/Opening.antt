@@ -6,6 +6,7 @@ use Rattle.lan_base.specs.declared.frame.UserFrame.{UserFrame}
 use Rattle.lan_core.specs.Claims.{next}
 use Rattle.lan_core.specs.Run.{Run, stations}
 use Rattle.lan_core.specs.Standing.{StandsFor as GroupStandsFor}
+use Rattle.group_safety.specs.Summary.{counts}
 use Rattle.trace_text.specs.declared.line.Line.{Line}
 use Rattle.trace_text.specs.declared.line.Line.TheVariants as lines
 use Rattle.trace_text.specs.Writing.{IsInForm}
@@ -44,10 +45,11 @@ opens-there : (chosen : Choices) (line : ℕ) (stage : Stage) → is_some chosen
     → ((k : ℕ) → supply_nth stage.draws k ≡ draw_at (rule_of chosen) k)
     → stage.names.items ≡ [] → stage.scis.items ≡ [] → stage.users ≡ 0
     → stage.frames ≡ record { frames = []; rounds = 0 } → stage.cuts ≡ [] → stage.numbers ≡ []
+    → stage.tally ≡ counts []
     → StageStandsFor (record { run = []; kept = opened chosen line }) stage
 unfolding stations next
-opens-there chosen line stage keyed is_line lag lan draws names scis users frames cuts numbers =
-    record {
+opens-there chosen line stage keyed is_line lag lan draws names scis users frames cuts numbers
+    tally = record {
       begun = refl;
       keyed = keyed;
       line = is_line;
@@ -61,6 +63,7 @@ opens-there chosen line stage keyed is_line lag lan draws names scis users frame
       flow = frames;
       cuts = cuts;
       numbers = rw numbers (λ s epoch. refl);
+      tally = tally;
     }
 
 pub opens : (w : World) (chosen : Choices) (line : ℕ) (stage : Stage) → is_some chosen.group ≡ true
@@ -69,13 +72,15 @@ pub opens : (w : World) (chosen : Choices) (line : ℕ) (stage : Stage) → is_s
     → ((k : ℕ) → supply_nth stage.draws k ≡ draw_at (rule_of chosen) k)
     → stage.names.items ≡ [] → stage.scis.items ≡ [] → stage.users ≡ 0
     → stage.frames ≡ record { frames = []; rounds = 0 } → stage.cuts ≡ [] → stage.numbers ≡ []
+    → stage.tally ≡ counts []
     → StageStandsFor w stage
-opens w chosen line stage keyed opening is_line lag lan draws names scis users frames cuts numbers =
+opens w chosen line stage keyed opening is_line lag lan draws names scis users frames cuts numbers
+    tally =
     let same : w ≡ record { run = []; kept = opened chosen line } =
     λ i. record { run = opening.empty i; kept = opening.kept i } in
     subst (λ (v : World). StageStandsFor v stage) (sym same)
     (opens-there chosen line stage keyed is_line lag lan draws names scis users frames cuts
-    numbers)
+    numbers tally)
 
 -- ---- lines before the first station
 
@@ -177,14 +182,15 @@ chosen-deed _ chosen allowed other w = refl
 
 pub chosen-does : (line : Line) → IsInForm line → (old new : Moment Replay) → old.value.stage ≡ None
     → new.value.stage ≡ None → new.value.halted ≡ old.value.halted → new.value.line ≡ old.value.line
+    → new.value.nothing ≡ old.value.nothing
     → new.value.chosen ≡ chosen_by line old.value.chosen → new.sink ≡ old.sink
     → ((w : World) → deed line w ≡ choose (chosen_by line))
     → Does (look (λ w. deed line w)) old new (Ok tt)
-chosen-does line form old new unbegun still halted is_line is_chosen sink is =
+chosen-does line form old new unbegun still halted is_line nothing is_chosen sink is =
     same-act (look (λ w. deed line w)) (choose (chosen_by line)) old new (Ok tt)
     (λ w stands. ap (λ (act : Act). perform act w) (is w))
     (unbegun-does (λ kept. record kept { chosen = chosen_by line kept.chosen }) old new unbegun
-    still halted
+    still halted nothing
     (λ w tidy empty. tidy-unbegun w _ tidy empty refl refl
     (chosen-draws line form w.kept.chosen tidy.draws))
     (λ i. record nothing_kept { line = sym is_line i; chosen = sym is_chosen i }) sink)

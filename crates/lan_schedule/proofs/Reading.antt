@@ -142,12 +142,12 @@ read-fault text total old_source now_source left old begun now told h kept rose 
   ),
 )
 
-after-none : (told : Option (List ℕ)) → told ≡ after told []
+pub after-none : (told : Option (List ℕ)) → told ≡ after told []
 after-none None = refl
 after-none (Some held) = ap (λ (l : List ℕ). Some l) (sym (append-nil held))
 
 -- a fresh replay has reached the beginning
-fresh : (now : Moment Replay) → StandsFor beginning now.value
+pub fresh : (now : Moment Replay) → StandsFor beginning now.value
     → IsReached StandsFor now.sink beginning now
 fresh now stands = record {
   stands = stands;
@@ -174,9 +174,9 @@ is-replayed text left now old new (Err (ends.Halted (halts.Trace line kind))) st
 is-replayed text left now old new (Err (ends.Halted halts.ReadFault)) stands h =
     absurd (h.ends old.sink beginning (fresh old stands))
 is-replayed text left now old new (Err (ends.Halted halts.WriteFault)) stands h =
-    h.ends old.sink beginning (fresh old stands)
+    let end = h.ends old.sink beginning (fresh old stands) in (end.0, end.1.holds)
 is-replayed text left now old new (Err (ends.Halted halts.Memory)) stands h =
-    h.ends old.sink beginning (fresh old stands)
+    (h.ends old.sink beginning (fresh old stands)).holds
 is-replayed text left now old new (Err (ends.Halted (halts.Limit which.Input))) stands h =
     let end = h.ends old.sink beginning (fresh old stands) in
     absurd (never-input (performed_all (lines_within text)) beginning end.0 end.1)
@@ -234,6 +234,31 @@ wrote-badly old new (ends.Halted (halts.RepeatedDraw first second)) stands was e
 wrote-badly old new (ends.Halted (halts.Forged line)) stands was e = absurd (cc e)
 wrote-badly old new ends.ReadFault stands was e = absurd (cc e)
 wrote-badly old new ends.Input stands was e = absurd (cc e)
+
+-- the sink's count never falls
+pub writes : (old new : Moment Replay) (r : Result (Unit {0}) End) → StandsFor beginning old.value
+    → IsEnded old new r
+    → old.sink.faults ≤ new.sink.faults
+writes old new (Ok done) stands was =
+    (was.done.ends old.sink beginning (fresh old stands)).2.shown.counts
+writes old new (Err (ends.Halted (halts.Trace line kind))) stands was =
+    (was.done.ends old.sink beginning (fresh old stands)).2.counts
+writes old new (Err (ends.Halted halts.ReadFault)) stands was =
+    absurd (was.done.ends old.sink beginning (fresh old stands))
+writes old new (Err (ends.Halted halts.WriteFault)) stands was =
+    (was.done.ends old.sink beginning (fresh old stands)).1.counts
+writes old new (Err (ends.Halted halts.Memory)) stands was =
+    (was.done.ends old.sink beginning (fresh old stands)).counts
+writes old new (Err (ends.Halted (halts.Limit which))) stands was =
+    (was.done.ends old.sink beginning (fresh old stands)).2.counts
+writes old new (Err (ends.Halted (halts.RepeatedDraw first second))) stands was =
+    (was.done.ends old.sink beginning (fresh old stands)).2.counts
+writes old new (Err (ends.Halted (halts.Forged line))) stands was =
+    (was.done.ends old.sink beginning (fresh old stands)).2.counts
+writes old new (Err ends.ReadFault) stands was =
+    (was.done.ends old.sink beginning (fresh old stands)).2.shown.counts
+writes old new (Err ends.Input) stands was =
+    (was.done.ends old.sink beginning (fresh old stands)).2.shown.counts
 
 -- an error of either kind
 abbrev pub ending : End → Result (Unit {0}) End

@@ -37,6 +37,7 @@ pub record IsSame (old new : Stage) : Type 0 where
   pub scis : new.scis ≡ old.scis
   pub frames : new.frames ≡ old.frames
   pub numbers : new.numbers ≡ old.numbers
+  pub tally : new.tally ≡ old.tally
 
 same-self : (stage : Stage) → IsSame stage stage
 same-self stage = record {
@@ -48,6 +49,7 @@ same-self stage = record {
   frames =
       refl;
   numbers = refl;
+  tally = refl;
 }
 
 pub stands-with : (w : World) (line : ℕ) (users : List UserFrame) (cuts : List Link) (begun : Bool)
@@ -73,6 +75,7 @@ stands-with w line users cuts begun old new stands same is_line is_users is_cuts
       cuts = is_cuts;
       numbers = subst (λ (tables : List (List ℕ)). TellNext (settings w) w.run tables)
           (sym same.numbers) stands.numbers;
+      tally = same.tally ∙ stands.tally;
     }
 
 pub cut-does : (from to : ℕ) (old new : Moment Stage) → IsSame old.value new.value

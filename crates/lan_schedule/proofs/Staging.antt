@@ -57,11 +57,12 @@ staged-does act old new stage later r comes is_old is_new halted d = record {
 -- before the first station, what is kept changes
 pub unbegun-does : (f : Kept → Kept) (old new : Moment Replay) → old.value.stage ≡ None
     → new.value.stage ≡ None → new.value.halted ≡ old.value.halted
+    → new.value.nothing ≡ old.value.nothing
     → ((w : World) → IsTidy w → w.run ≡ [] → IsTidy (record w { kept = f w.kept }))
     → (f (record nothing_kept { line = old.value.line; chosen = old.value.chosen })
     ≡ record nothing_kept { line = new.value.line; chosen = new.value.chosen })
     → new.sink ≡ old.sink → Does (change f) old new (Ok tt)
-unbegun-does f old new is_old is_new halted tidied same sink = record {
+unbegun-does f old new is_old is_new halted nothing tidied same sink = record {
   ends = λ base w reached.
       let before = subst (λ (o : Option Stage). IsStaged w old.value o) is_old
       reached.stands.stage in
@@ -72,7 +73,7 @@ unbegun-does f old new is_old is_new halted tidied same sink = record {
           stands = record {
             goes = halted ∙ reached.stands.goes;
             stage = subst (λ (o : Option Stage). IsStaged v new.value o) (sym is_new)
-                (before.0, ap (λ (k : Kept). f k) before.1 ∙ same);
+                (before.0, ap (λ (k : Kept). f k) before.1 ∙ same, nothing ∙ before.2);
           };
           shown = record {
             tidy = tidied w reached.shown.tidy before.0;

@@ -9,9 +9,10 @@ use Rattle.lan_schedule.specs.declared.halt.Halt.{Halt}
 use Rattle.lan_schedule.specs.declared.halt.Halt.TheVariants as halts
 use Rattle.lan_schedule.specs.declared.commands.Replay.{Replay}
 use Rattle.lan_schedule.specs.World.{World, Kept}
-use Rattle.lan_schedule.specs.Kinds.{kind_of_fault}
-use Rattle.lan_schedule.specs.Acts.{Act, perform, Outcome, Goes, Stops}
-use Rattle.lan_schedule.specs.Lines.{begin_line, numbered, act_of, act_read, performed}
+use Rattle.lan_schedule.specs.Kinds.{kind_of_fault, refusal_read}
+use Rattle.lan_schedule.specs.Acts.{Act, look, perform, Outcome, Goes, Stops}
+use Rattle.lan_schedule.specs.Lines.{begin_line, numbered, act_of, deed_read, unless_refused}
+use Rattle.lan_schedule.specs.Lines.{performed}
 use Rattle.lan_schedule.specs.Ends.{Sunk, Moment, Ends, EndsEarly, IsShown}
 use Rattle.lan_schedule.specs.Sound.{IsTidy}
 use Rattle.lan_schedule.specs.Standing.{StandsFor, Does}
@@ -22,6 +23,10 @@ use Rattle.lan_schedule.proofs.LinesCome.{tidy-same}
 -- the world in which the line of a number begins
 abbrev pub at_line : ℕ → World → World
 at_line number w = record w { kept = record w.kept { line = number } }
+
+-- what a text says is performed, unless it is refused
+abbrev pub act_read : Result (Option Line) TextFault → Act
+act_read said = look (λ w. unless_refused (refusal_read said w) (deed_read said w))
 
 pub skipped-does : (text : List ℕ) (number : ℕ) (old new : Moment Replay)
     → ((w : World) → StandsFor w old.value → number ≡ w.kept.line + 1)

@@ -35,6 +35,11 @@ pub record Sunk : Type 0 where
 abbrev pub sunk : Option (List ℕ) → ℕ → Sunk
 sunk held faults = record { held = held; faults = faults }
 
+-- a sink took a front of the text, and its count didn't fall
+pub record TookFront (old new : Sunk) (text : List ℕ) : Type 0 where
+  pub holds : HoldsFront old.held new.held text
+  pub counts : old.faults ≤ new.faults
+
 -- a tidy world was shown since the sink stood at the base: its run's text was written
 pub record IsShown (base : Sunk) (w : World) (now : Sunk) : Type 0 where
   pub tidy : IsTidy w
@@ -65,8 +70,8 @@ abbrev pub EndsEarly : Sunk → Outcome → Sunk → Halt → Type 0
 EndsEarly base out now (halts.Trace line kind) = IsStopped base out now (halts.Trace line kind)
 EndsEarly base out now halts.ReadFault = ⊥
 EndsEarly base out now halts.WriteFault =
-    Rose base.faults now.faults × HoldsFront base.held now.held (text_of out)
-EndsEarly base out now halts.Memory = HoldsFront base.held now.held (text_of out)
+    Rose base.faults now.faults × TookFront base now (text_of out)
+EndsEarly base out now halts.Memory = TookFront base now (text_of out)
 EndsEarly base out now (halts.Limit which) = IsStopped base out now (halts.Limit which)
 EndsEarly base out now (halts.RepeatedDraw first second) =
     IsStopped base out now (halts.RepeatedDraw first second)

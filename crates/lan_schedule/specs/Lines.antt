@@ -2,7 +2,7 @@
 use Rattle.std.specs.Prelude.{ℕ, ◌+◌, ◌==◌, ◌||◌, ◌&&◌, nat_le, not, Bool, true, false, cond, List}
 use Rattle.std.specs.Prelude.{[], ◌∷◌, ◌++◌, length, map}
 use Rattle.std.specs.List.{filter}
-use Rattle.std.specs.Prelude.{Option, Some, None, Result, Ok, Err}
+use Rattle.std.specs.Prelude.{Option, Some, None, Result, Ok}
 use Rattle.lan_base.specs.declared.address.Mac.{Mac}
 use Rattle.lan_base.specs.declared.frame.UserFrame.{UserFrame}
 use Rattle.lan_core.specs.declared.event.Event.TheVariants.{Start, Tick, Deliver, Restart, Claim}
@@ -22,7 +22,7 @@ use Rattle.lan_schedule.specs.World.{with_link, without_link}
 use Rattle.lan_schedule.specs.Numbers.{shown_next, claimed_number}
 use Rattle.lan_schedule.specs.Acts.{Act, nothing, refuse, happen, change, seq, look, each, span}
 use Rattle.lan_schedule.specs.Acts.{times, unless}
-use Rattle.lan_schedule.specs.Kinds.{kind_of_fault, refusal}
+use Rattle.lan_schedule.specs.Kinds.{refusal, first_refusal}
 
 -- ---- settings
 
@@ -160,16 +160,16 @@ numbered number line = seq (begin_line number) (act_of line)
 
 -- ---- texts
 
--- what a text says is performed: nothing, where it has no word or is a comment
-abbrev pub act_read : Result (Option Line) TextFault → Act
-act_read (Err fault) = refuse (kind_of_fault fault)
-act_read (Ok None) = nothing
-act_read (Ok (Some line)) = act_of line
+-- what a text performs that isn't refused: nothing, where it has no word or is a comment
+abbrev pub deed_read : Result (Option Line) TextFault → World → Act
+deed_read (Ok (Some line)) w = deed line w
+deed_read _ w = nothing
 
 -- what a text without its line ending performs, as the next line
 abbrev pub performed : List ℕ → Act
 performed text =
-    seq (change (λ kept. record kept { line = kept.line + 1 })) (act_read (line_in text))
+    seq (change (λ kept. record kept { line = kept.line + 1 }))
+    (look (λ w. unless_refused (first_refusal text w) (deed_read (line_in text) w)))
 
 -- what lines perform
 abbrev pub performed_all : List (List ℕ) → Act

@@ -1,5 +1,6 @@
 -- For which world a replay stands.
 use Rattle.std.specs.Prelude.{◌≡◌, [], Option, Some, None, Result}
+use Rattle.group_safety.specs.Summary.{counts}
 use Rattle.lan_schedule.specs.declared.halt.Halt.{Halt}
 use Rattle.lan_schedule.specs.declared.stage.Stage.{Stage}
 use Rattle.lan_schedule.specs.declared.commands.Replay.{Replay}
@@ -8,10 +9,12 @@ use Rattle.lan_schedule.specs.Acts.{Act, perform}
 use Rattle.lan_schedule.specs.Ends.{Sunk, Moment, IsReached, Ends}
 use Rattle.lan_schedule.specs.inside.Staged.{StandsFor as StageStandsFor}
 
--- before the first station nothing happened; from then on the group at work stands for the world
+-- before the first station nothing happened, and the tally is that of no facts; from then on the
+-- group at work stands for the world
 abbrev pub IsStaged : World → Replay → Option Stage → Type 0
 IsStaged w replay None =
     (w.run ≡ []) × (w.kept ≡ record nothing_kept { line = replay.line; chosen = replay.chosen })
+    × (replay.nothing ≡ counts [])
 IsStaged w replay (Some stage) = StageStandsFor w stage
 
 -- a replay that is not halted stands for a world

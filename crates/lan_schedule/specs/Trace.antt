@@ -1,17 +1,19 @@
 -- A whole trace, whose lines are performed as soon as they have ended (this profile's own rule).
-use Rattle.std.specs.Prelude.{◌≡◌, ℕ, ◌<◌, ◌≤◌, nat_le, cond, List, [], length, take, Option, Some}
-use Rattle.std.specs.Prelude.{Result, Ok, Err}
+use Rattle.std.specs.Prelude.{◌≡◌, ◌⊎◌, ℕ, ◌<◌, ◌≤◌, nat_le, cond, List, [], length, take, Option}
+use Rattle.std.specs.Prelude.{Some, Result, Ok, Err}
 use Rattle.lan_base.specs.Faults.{Rose}
 use Rattle.lan_base.specs.Told.{after, before}
 use Rattle.lan_core.specs.declared.stop.Which.TheVariants.{Input}
-use Rattle.lan_core.specs.Run.{Run}
+use Rattle.lan_core.specs.Run.{Run, facts_of}
+use Rattle.group_safety.specs.Summary.{summary}
 use Rattle.lan_schedule.specs.declared.halt.Halt.{Halt}
 use Rattle.lan_schedule.specs.declared.halt.Halt.TheVariants as halts
 use Rattle.lan_schedule.specs.Texts.{whole_lines, lines_of}
 use Rattle.lan_schedule.specs.World.{World, beginning}
 use Rattle.lan_schedule.specs.Acts.{perform, Outcome, Goes, Stops}
 use Rattle.lan_schedule.specs.Lines.{performed_all}
-use Rattle.lan_schedule.specs.Ends.{Sunk, IsShown, IsStopped, HoldsFront, text_of}
+use Rattle.lan_schedule.specs.Sound.{IsTidy}
+use Rattle.lan_schedule.specs.Ends.{Sunk, IsShown, IsStopped, HoldsFront, TookFront, text_of}
 
 -- an input has at most so many octets
 abbrev pub most_input : ℕ
@@ -67,3 +69,55 @@ IsReplayed text left now old new (Err (halts.RepeatedDraw first second)) =
     IsStopped old (outcome (lines_within text)) new (halts.RepeatedDraw first second)
 IsReplayed text left now old new (Err (halts.Forged line)) =
     IsStopped old (outcome (lines_within text)) new (halts.Forged line)
+
+-- ---- with a summary
+
+-- the summary line of all facts of a run
+abbrev pub summary_of : Run → List ℕ
+summary_of r = summary (facts_of r)
+
+-- lines were performed to the end of the last, and nothing was written
+abbrev pub WereCounted : List (List ℕ) → Sunk → Sunk → Type 0
+WereCounted lines old new = (w : World) × (outcome lines ≡ Goes w) × IsTidy w × (new ≡ old)
+
+-- performing lines stopped for this reason, and nothing was written
+abbrev pub WereStopped : List (List ℕ) → Sunk → Sunk → Halt → Type 0
+WereStopped lines old new halt =
+    (w : World) × (outcome lines ≡ Stops w halt) × IsTidy w × (new ≡ old)
+
+-- lines were performed to the end of the last, and the summary of their run was written
+abbrev pub WereSummarized : List (List ℕ) → Sunk → Sunk → Type 0
+WereSummarized lines old new =
+    (w : World) × (outcome lines ≡ Goes w) × IsTidy w
+    × (new.held ≡ after old.held (summary_of w.run)) × (old.faults ≤ new.faults)
+
+-- lines were performed to the end of the last, and a front of the summary was written
+abbrev pub WereSummarizedInPart : List (List ℕ) → Sunk → Sunk → Type 0
+WereSummarizedInPart lines old new =
+    (w : World) × (outcome lines ≡ Goes w) × IsTidy w × TookFront old new (summary_of w.run)
+
+-- How a trace of this text ends of which the summary is asked for. At the end, all of it was
+-- performed, and the summary of its run was written, or a front of it. Nothing was written before
+-- the end.
+abbrev pub IsSummarized : List ℕ → Sourced → Sourced → Sunk → Sunk → Result (Unit {0}) Halt
+    → Type 0
+IsSummarized text left now old new (Ok done) =
+    (length text ≤ most_input) × (now.left ≡ Some []) × WereSummarized (lines_of text) old new
+IsSummarized text left now old new (Err (halts.Trace line kind)) =
+    WereStopped (lines_within text) old new (halts.Trace line kind)
+IsSummarized text left now old new (Err halts.ReadFault) =
+    Rose left.faults now.faults × ((taken : List ℕ) × (left.left ≡ before taken now.left)
+    × WereCounted (whole_lines taken) old new)
+IsSummarized text left now old new (Err halts.WriteFault) =
+    Rose old.faults new.faults × (length text ≤ most_input) × (now.left ≡ Some [])
+    × WereSummarizedInPart (lines_of text) old new
+IsSummarized text left now old new (Err halts.Memory) =
+    (new ≡ old) ⊎ WereSummarizedInPart (lines_of text) old new
+IsSummarized text left now old new (Err (halts.Limit Input)) =
+    (most_input < length text) × WereCounted (whole_lines (take most_input text)) old new
+IsSummarized text left now old new (Err (halts.Limit which)) =
+    WereStopped (lines_within text) old new (halts.Limit which)
+IsSummarized text left now old new (Err (halts.RepeatedDraw first second)) =
+    WereStopped (lines_within text) old new (halts.RepeatedDraw first second)
+IsSummarized text left now old new (Err (halts.Forged line)) =
+    WereStopped (lines_within text) old new (halts.Forged line)

@@ -3,6 +3,8 @@
 ghost use Rattle.std.specs.Prelude.{◌≡◌, ◌⊎◌, length, Some, None, Ok, Err, IfErr, IfSome, IfOk};
 ghost use Rattle.std.specs.Prelude.{OnOk, Option, is_some, ℕ, cond, option_map, IsTrue, true};
 ghost use Rattle.std.specs.Prelude.{false};
+ghost use Rattle.lan_core.specs.Run.{facts_of};
+ghost use Rattle.group_safety.specs.Summary.{counts};
 ghost use Rattle.trace_text.specs.Writing.{IsInForm};
 ghost use Rattle.lan_schedule.specs.World.{World, beginning};
 ghost use Rattle.lan_schedule.specs.declared.halt.Halt.{Halt};
@@ -19,6 +21,7 @@ use crate::choices::{Choices, Keyed, Rule};
 use crate::halt::{Halt, Kind};
 use crate::stage::Stage;
 use aes_block::Secret;
+use group_safety::Tally;
 use lan_base::{Blocks, Sink};
 use std::alloc::{AllocError, Global};
 use trace_text::Line;
@@ -32,6 +35,8 @@ pub struct Replay {
     /// The number of the last line before the first station.
     line: u32,
     chosen: Choices,
+    /// The tally before the first station: that of no facts.
+    nothing: Tally,
     /// The group at work, from the first station on.
     stage: Option<Stage>,
 }
@@ -46,7 +51,18 @@ impl Replay {
             halted: None,
             line: 0,
             chosen: Choices::new(),
+            nothing: Tally::new(),
             stage: None,
+        }
+    }
+
+    /// The tally of all facts that the lines so far have shown.
+    pub fn tally(&self) -> &Tally
+        ensures { (w : World) → StandsFor w self.now → result.now ≡ counts (facts_of w.run) }
+    {
+        match &self.stage {
+            Some(stage) => &stage.tally,
+            None => &self.nothing,
         }
     }
 

@@ -14,6 +14,8 @@ ghost use Rattle.gcm_frames.specs.Protected.{IsSci};
 ghost use Rattle.lan_base.specs.declared.frame.UserFrame.{UserFrame};
 ghost use Rattle.lan_core.specs.declared.event.Event.{Event};
 ghost use Rattle.lan_core.specs.declared.event.Event.TheVariants as events;
+ghost use Rattle.lan_core.specs.declared.fact.Fact.{Fact};
+ghost use Rattle.group_safety.specs.Summary.{counts};
 ghost use Rattle.trace_text.specs.Writing.{IsInForm};
 ghost use Rattle.trace_text.specs.declared.line.Line.TheVariants as lines;
 ghost use Rattle.lan_schedule.specs.World.{World, is_in, mark};
@@ -44,6 +46,7 @@ use crate::links::Links;
 use crate::numbers::Numbers;
 use crate::supply::Supply;
 use aes_block::Secret;
+use group_safety::Tally;
 use lan_base::{Mac, Name, Octets, Sci, Sink, Unwritten, UserFrame, write_all};
 use lan_core::{Event, Fact, Lan, Settings, Stop};
 use std::alloc::{AllocError, Global};
@@ -66,6 +69,8 @@ pub struct Stage {
     pub frames: Frames,
     pub cuts: Links,
     pub numbers: Numbers,
+    /// How many facts there were of each kind.
+    pub tally: Tally,
     /// The text of one event's facts.
     pub out: Vec<u8>,
 }
@@ -92,13 +97,15 @@ impl Stage {
             frames: Frames::new(alloc),
             cuts: Links::new(alloc),
             numbers: Numbers::new(alloc),
+            tally: Tally::new(),
             out: Vec::new(alloc),
         })
     }
 
     // ---- events
 
-    /// An event happens, with the user frame that a claim names, and what it shows is written.
+    /// An event happens, with the user frame that a claim names, and what it shows is counted and
+    /// written.
     fn happen<K: Sink>(
         &mut self,
         event: &Event,
@@ -117,6 +124,7 @@ impl Stage {
         self.frames.put(facts.as_slice())?;
         self.numbers.follow(self.alloc, event, facts.as_slice())?;
         admit(&mut self.names, &mut self.scis, event)?;
+        count_all(&mut self.tally, facts.as_slice());
         show(facts.as_slice(), &self.names, &mut self.out, sink)
     }
 
@@ -179,7 +187,7 @@ impl Stage {
         if station == from || self.cuts.is_cut(from, station) {
             return Ok(());
         }
-        self.happen(&Event::Deliver { frame, station }, None, sink)
+        self.deliver(frame, station, sink)
     }
 
     /// A frame goes from one station to all others along the links that are whole.
@@ -575,6 +583,16 @@ fn admit(names: &mut Vec<Name>, scis: &mut Vec<Sci>, event: &Event) -> Result<()
     Ok(())
 }
 
+/// Facts are counted.
+fn count_all(tally: &mut Tally, facts: &[Fact])
+    ensures { (shown : List Fact) → tally.old ≡ counts shown
+        → tally.new ≡ counts (shown ++ facts.now) }
+{
+    for fact in facts {
+        tally.add(fact);
+    }
+}
+
 /// The lines of one event's facts are written by one call.
 fn show<K: Sink>(
     facts: &[Fact],
@@ -586,7 +604,15 @@ fn show<K: Sink>(
         (sunk (K.held sink.new) (K.faults sink.new)) result }
 {
     render_all(facts, names, out)?;
-    match write_all(sink, out.as_slice()) {
+    write(out.as_slice(), sink)
+}
+
+/// A text is written.
+pub fn write<K: Sink>(text: &[u8], sink: &mut K) -> Result<(), Halt>
+    ensures { Writes text.now (sunk (K.held sink.old) (K.faults sink.old))
+        (sunk (K.held sink.new) (K.faults sink.new)) result }
+{
+    match write_all(sink, text) {
         Ok(()) => Ok(()),
         Err(Unwritten::Failed) => Err(Halt::WriteFault),
         Err(Unwritten::Memory) => Err(Halt::Memory),

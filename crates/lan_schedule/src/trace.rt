@@ -1,8 +1,9 @@
 //! A trace is read in pieces, and each line is performed as soon as it has ended.
 
 ghost use Rattle.std.specs.Prelude.{◌≡◌, ◌≤◌, ◌==◌, ◌++◌, ◌∷◌, [], List, ℕ, Some, Ok, Err, OnOk};
-ghost use Rattle.std.specs.Prelude.{cond};
+ghost use Rattle.std.specs.Prelude.{cond, true, false};
 ghost use Rattle.lan_base.specs.Faults.{Rose};
+ghost use Rattle.group_safety.specs.Summary.{line_of};
 ghost use Rattle.lan_schedule.specs.declared.halt.Halt.{Halt};
 ghost use Rattle.lan_schedule.specs.declared.halt.Halt.TheVariants as halts;
 ghost use Rattle.lan_schedule.specs.declared.trace.End.TheVariants as ends;
@@ -11,13 +12,16 @@ ghost use Rattle.lan_schedule.specs.Acts.{nothing};
 ghost use Rattle.lan_schedule.specs.Lines.{performed, performed_all};
 ghost use Rattle.lan_schedule.specs.Ends.{moment, sunk};
 ghost use Rattle.lan_schedule.specs.Standing.{Does};
-ghost use Rattle.lan_schedule.specs.Trace.{IsReplayed, sourced};
+ghost use Rattle.lan_schedule.specs.Trace.{IsReplayed, IsSummarized, sourced};
 ghost use Rattle.lan_schedule.specs.inside.Reading.{Runs, IsEnded, finished, limited, halt_of_end};
 ghost use Rattle.lan_schedule.specs.inside.Reading.{halt_of_text};
+ghost use Rattle.lan_schedule.specs.inside.Staged.{Writes};
 
 use crate::commands::Replay;
 use crate::halt::{Halt, Kind};
-use lan_base::{Sink, Source};
+use crate::stage::write;
+use group_safety::Tally;
+use lan_base::{DropSink, Sink, Source};
 use lan_core::Which;
 use std::alloc::Global;
 use trace_text::{TextFault, read_line};
@@ -39,11 +43,24 @@ pub enum End {
     Input,
 }
 
-/// Reads a trace from a source to its end, performs each line as soon as it has ended, and writes
-/// what each event shows before the next one happens. Clauses that name a text speak of a source
-/// that tells its octets.
-pub fn replay<S: Source, K: Sink>(alloc: Global, source: &mut S, sink: &mut K) -> Result<(), Halt>
-    ensures told { (text : List ℕ) → S.left source.old ≡ Some text → IsReplayed text
+/// Reads a trace from a source to its end, and performs each line as soon as it has ended. Without
+/// `summary` it writes what each event shows before the next one happens; with it, nothing before
+/// the end, and then the line that says how many facts there were of each kind. Clauses that name a
+/// text speak of a source that tells its octets.
+pub fn replay<S: Source, K: Sink>(
+    alloc: Global,
+    source: &mut S,
+    sink: &mut K,
+    summary: bool,
+) -> Result<(), Halt>
+    ensures told { summary ≡ false
+        → (text : List ℕ) → S.left source.old ≡ Some text → IsReplayed text
+        (sourced (S.left source.old) (S.faults source.old))
+        (sourced (S.left source.new) (S.faults source.new))
+        (sunk (K.held sink.old) (K.faults sink.old))
+        (sunk (K.held sink.new) (K.faults sink.new)) result }
+    ensures summarized { summary ≡ true
+        → (text : List ℕ) → S.left source.old ≡ Some text → IsSummarized text
         (sourced (S.left source.old) (S.faults source.old))
         (sourced (S.left source.new) (S.faults source.new))
         (sunk (K.held sink.old) (K.faults sink.old))
@@ -51,6 +68,28 @@ pub fn replay<S: Source, K: Sink>(alloc: Global, source: &mut S, sink: &mut K) -
 
     // A fault of the outside shows in its count, whatever the outside tells.
     ensures reads { S.faults source.old ≤ S.faults source.new }
+    ensures writes { K.faults sink.old ≤ K.faults sink.new }
+    ensures read_fault { result ≡ Err halts.ReadFault
+        → Rose (S.faults source.old) (S.faults source.new) }
+    ensures write_fault { result ≡ Err halts.WriteFault
+        → Rose (K.faults sink.old) (K.faults sink.new) }
+{
+    if summary {
+        summarize(alloc, source, sink)
+    } else {
+        transcribe(alloc, source, sink)
+    }
+}
+
+/// Reads a trace to its end and performs it; what each event shows is written before the next one.
+fn transcribe<S: Source, K: Sink>(alloc: Global, source: &mut S, sink: &mut K) -> Result<(), Halt>
+    ensures told { (text : List ℕ) → S.left source.old ≡ Some text → IsReplayed text
+        (sourced (S.left source.old) (S.faults source.old))
+        (sourced (S.left source.new) (S.faults source.new))
+        (sunk (K.held sink.old) (K.faults sink.old))
+        (sunk (K.held sink.new) (K.faults sink.new)) result }
+    ensures reads { S.faults source.old ≤ S.faults source.new }
+    ensures writes { K.faults sink.old ≤ K.faults sink.new }
     ensures read_fault { result ≡ Err halts.ReadFault
         → Rose (S.faults source.old) (S.faults source.new) }
     ensures write_fault { result ≡ Err halts.WriteFault
@@ -61,6 +100,37 @@ pub fn replay<S: Source, K: Sink>(alloc: Global, source: &mut S, sink: &mut K) -
         Ok(()) => Ok(()),
         Err(end) => Err(halt_of_end(end)),
     }
+}
+
+/// Reads a trace to its end and performs it; what it shows is counted, and the summary is written
+/// at the end.
+fn summarize<S: Source, K: Sink>(alloc: Global, source: &mut S, sink: &mut K) -> Result<(), Halt>
+    ensures summarized { (text : List ℕ) → S.left source.old ≡ Some text → IsSummarized text
+        (sourced (S.left source.old) (S.faults source.old))
+        (sourced (S.left source.new) (S.faults source.new))
+        (sunk (K.held sink.old) (K.faults sink.old))
+        (sunk (K.held sink.new) (K.faults sink.new)) result }
+    ensures reads { S.faults source.old ≤ S.faults source.new }
+    ensures writes { K.faults sink.old ≤ K.faults sink.new }
+    ensures read_fault { result ≡ Err halts.ReadFault
+        → Rose (S.faults source.old) (S.faults source.new) }
+    ensures write_fault { result ≡ Err halts.WriteFault
+        → Rose (K.faults sink.old) (K.faults sink.new) }
+{
+    let mut replay = Replay::new(alloc);
+    match read_lines(alloc, &mut replay, source, &mut DropSink) {
+        Ok(()) => write_line(alloc, replay.tally(), sink),
+        Err(why) => Err(halt_of_end(why)),
+    }
+}
+
+/// Writes the summary line.
+fn write_line<K: Sink>(alloc: Global, tally: &Tally, sink: &mut K) -> Result<(), Halt>
+    ensures { Writes (line_of tally.now) (sunk (K.held sink.old) (K.faults sink.old))
+        (sunk (K.held sink.new) (K.faults sink.new)) result }
+{
+    let line = tally.text(alloc)?;
+    write(line.as_slice(), sink)
 }
 
 /// Reads a trace to its end and performs it.

@@ -5,8 +5,9 @@ use Rattle.lan_base.specs.declared.frame.UserFrame.{UserFrame}
 use Rattle.lan_base.specs.Faults.{Rose}
 use Rattle.lan_base.specs.Told.{after}
 use Rattle.lan_core.specs.declared.event.Event.{Event}
-use Rattle.lan_core.specs.Run.{stations}
+use Rattle.lan_core.specs.Run.{stations, facts_of}
 use Rattle.lan_core.specs.Standing.{StandsFor as GroupStandsFor}
+use Rattle.group_safety.specs.Summary.{counts}
 use Rattle.lan_schedule.specs.declared.choices.Choices.{Choices}
 use Rattle.lan_schedule.specs.declared.halt.Halt.{Halt}
 use Rattle.lan_schedule.specs.declared.halt.Halt.TheVariants as halts
@@ -15,7 +16,7 @@ use Rattle.lan_schedule.specs.Settings.{lag_of}
 use Rattle.lan_schedule.specs.World.{World, nothing_kept, settings, names_of}
 use Rattle.lan_schedule.specs.Answers.{supply}
 use Rattle.lan_schedule.specs.Acts.{happen, perform}
-use Rattle.lan_schedule.specs.Ends.{Sunk, Moment, HoldsFront, IsReached, Ends}
+use Rattle.lan_schedule.specs.Ends.{Sunk, Moment, TookFront, IsReached, Ends}
 use Rattle.lan_schedule.specs.inside.Frames.{Flow}
 use Rattle.lan_schedule.specs.inside.Supplies.{supply_nth}
 use Rattle.lan_schedule.specs.inside.Counters.{TellNext}
@@ -38,6 +39,7 @@ pub record StandsFor (w : World) (stage : Stage) : Type 0 where
   pub flow : stage.frames ≡ flow_of w
   pub cuts : stage.cuts ≡ w.kept.cuts
   pub numbers : TellNext (settings w) w.run stage.numbers
+  pub tally : stage.tally ≡ counts (facts_of w.run)
 
 -- an event happened, where this user frame is the one that it names
 pub record Happened (given : Option UserFrame) (event : Event) (old new : Moment Stage)
@@ -53,7 +55,6 @@ pub record IsOpening (w : World) (chosen : Choices) (line : ℕ) : Type 0 where
 -- a call wrote a text, or a front of it and why not more
 abbrev pub Writes : List ℕ → Sunk → Sunk → Result (Unit {0}) Halt → Type 0
 Writes text old new (Ok done) = (new.held ≡ after old.held text) × (old.faults ≤ new.faults)
-Writes text old new (Err halts.WriteFault) =
-    Rose old.faults new.faults × HoldsFront old.held new.held text
-Writes text old new (Err halts.Memory) = HoldsFront old.held new.held text
+Writes text old new (Err halts.WriteFault) = Rose old.faults new.faults × TookFront old new text
+Writes text old new (Err halts.Memory) = TookFront old new text
 Writes text old new (Err _) = ⊥

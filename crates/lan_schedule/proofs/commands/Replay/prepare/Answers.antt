@@ -5,5 +5,5 @@ use Rattle.lan_schedule.proofs.commands.Replay.prepare.Goals as goal
 pub returns-in_ok-choose-in_default : goal.returns-in_ok-choose-in_default
 returns-in_ok-choose-in_default g c =
     chosen-does c.args.line.now c.requires.form _ _ c.requires.unbegun c.requires.unbegun refl refl
-    c.in_ok-choose-in_default.ensures refl
+    refl c.in_ok-choose-in_default.ensures refl
     (chosen-deed c.args.line.now c.args.self.now.chosen c.requires.allowed c.in_default.not-Station)

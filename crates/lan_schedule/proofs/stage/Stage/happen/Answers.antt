@@ -26,5 +26,6 @@ returns g c =
       frames = rw c.as_slice.ensures at c.in_ok-put.ensures;
       numbers = λ settings r tell shows.
           (rw c.as_slice-2.ensures at c.in_ok-follow.ensures) settings r tell shows;
+      tally = λ shown stood. (rw c.as_slice-3.ensures at c.count_all.ensures) shown stood;
     })
-    (rw (c.deref.ensures.value, c.as_slice-3.ensures) at c.show.ensures)
+    (rw (c.deref.ensures.value, c.as_slice-4.ensures) at c.show.ensures)

@@ -21,6 +21,7 @@ returns-in_err-happen g c =
       scis = refl;
       frames = refl;
       numbers = refl;
+      tally = refl;
     }) refl one_more refl refl)
     (λ w stands. (
       stands.users,
@@ -44,6 +45,7 @@ returns g c =
       scis = refl;
       frames = refl;
       numbers = refl;
+      tally = refl;
     }) refl one_more refl refl)
     (λ w stands. (
       stands.users,

@@ -28,4 +28,6 @@ returns g c =
       users = refl;
       cuts = refl;
       numbers = refl;
-    }) c.mark.ensures refl)
+      tally = refl;
+    }) c.mark.ensures
+    refl)

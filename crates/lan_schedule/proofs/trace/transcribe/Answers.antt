@@ -1,8 +1,8 @@
 use Rattle.std.proofs.Common.{◌≡◌, Ok, Err, sym, ◌∙◌}
 use Rattle.lan_schedule.specs.Trace.{sourced}
 use Rattle.lan_schedule.specs.Ends.{moment}
-use Rattle.lan_schedule.proofs.Reading.{is-replayed, read-badly, wrote-badly, halt-is}
-use Rattle.lan_schedule.proofs.trace.replay.Goals as goal
+use Rattle.lan_schedule.proofs.Reading.{is-replayed, writes, read-badly, wrote-badly, halt-is}
+use Rattle.lan_schedule.proofs.trace.transcribe.Goals as goal
 
 pub returns-in-Ok-clause-told : goal.returns-in-Ok-clause-told
 returns-in-Ok-clause-told g c =
@@ -48,3 +48,17 @@ returns-clause-write_fault g c =
     (moment c.read_lines.new.replay (k.held c.read_lines.new.sink) (k.faults c.read_lines.new.sink))
     c.in-Err.end c.new-replay.ensures c.in-Err.ensures.ended
     (sym c.halt_of_end.ensures ∙ halt-is is)
+
+pub returns-in-Ok-clause-writes : goal.returns-in-Ok-clause-writes
+returns-in-Ok-clause-writes g c =
+    let k = g.K.Sink in
+    writes (moment c.new-replay.result (k.held c.args.sink.now) (k.faults c.args.sink.now))
+    (moment c.read_lines.new.replay (k.held c.read_lines.new.sink) (k.faults c.read_lines.new.sink))
+    (Ok c.in-Ok.field-0) c.new-replay.ensures c.in-Ok.ensures.ended
+
+pub returns-clause-writes : goal.returns-clause-writes
+returns-clause-writes g c =
+    let k = g.K.Sink in
+    writes (moment c.new-replay.result (k.held c.args.sink.now) (k.faults c.args.sink.now))
+    (moment c.read_lines.new.replay (k.held c.read_lines.new.sink) (k.faults c.read_lines.new.sink))
+    (Err c.in-Err.end) c.new-replay.ensures c.in-Err.ensures.ended
