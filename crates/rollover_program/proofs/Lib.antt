@@ -1,2 +1,7 @@
-mod Words
+mod Commands
+mod Reading
+mod Taken
+mod Ordered
 mod Replayed
+mod Summarized
+mod Refused

@@ -1,11 +1,13 @@
--- How the program ends after a trace was replayed.
-use Rattle.std.proofs.Common.{◌≡◌, ℕ, ◌<◌, ◌≤◌, true, false, List, [], length, refl, sym, ap, ◌∙◌, subst, inl, inr, arith}
-use Rattle.std.specs.Prelude.{◌≢◌, ◌⊎◌, nat_le, take, Option, Some, None, Result, Ok, Err}
+-- How the program ends after a trace was performed for its transcript.
+use Rattle.std.proofs.Common.{◌≡◌, ℕ, ◌<◌, ◌≤◌, true, false, List, [], length, refl, sym, ap, subst}
+use Rattle.std.proofs.Common.{inl, inr, arith}
+use Rattle.std.specs.Prelude.{◌≢◌, ◌⊎◌, nat_le, take, Some, Ok, Err}
 use Rattle.std.proofs.lemmas.Bool.Decides.{nat_tests}
 use Rattle.lan_base.specs.Faults.{Rose}
 use Rattle.lan_base.specs.Told.{before}
 use Rattle.lan_core.specs.declared.stop.Which.{Which}
-use Rattle.lan_core.specs.declared.stop.Which.TheVariants.{Input, Frames, Octets, Ticks, Keys, Stations}
+use Rattle.lan_core.specs.declared.stop.Which.TheVariants.{Input, Frames, Octets, Ticks, Keys}
+use Rattle.lan_core.specs.declared.stop.Which.TheVariants.{Stations}
 use Rattle.group_safety.proofs.once.RunLaws.{known, run-once, run-one_key}
 use Rattle.group_safety.proofs.rollover.Found.{run-hitless}
 use Rattle.lan_schedule.specs.declared.halt.Halt.{Halt}
@@ -13,18 +15,16 @@ use Rattle.lan_schedule.specs.declared.halt.Halt.TheVariants as halts
 use Rattle.lan_schedule.specs.declared.halt.Kind.{Kind}
 use Rattle.lan_schedule.specs.Texts.{whole_lines, lines_of}
 use Rattle.lan_schedule.specs.World.{World, settings}
-use Rattle.lan_schedule.specs.Acts.{Outcome, Goes, Stops}
+use Rattle.lan_schedule.specs.Acts.{Goes}
 use Rattle.lan_schedule.specs.Ends.{Sunk, IsShown, IsStopped, HoldsFront, text_of}
-use Rattle.lan_schedule.specs.Trace.{outcome, lines_within, most_input, WerePerformed, Sourced, IsReplayed}
-use Rattle.rollover_program.specs.declared.status.Status.{Status}
+use Rattle.lan_schedule.specs.Trace.{outcome, lines_within, most_input, WerePerformed, Sourced}
+use Rattle.lan_schedule.specs.Trace.{IsReplayed}
 use Rattle.rollover_program.specs.declared.status.Status.TheVariants.{Done, Usage, Halted}
 use Rattle.rollover_program.specs.Headline.{IsTranscribed, IsPerformed, IsStoppedBy}
-use Rattle.rollover_program.specs.Ending.{status_of, status_after, status_within}
+use Rattle.rollover_program.specs.Ending.{status_after, status_within}
+use Rattle.rollover_program.specs.inside.Answering.{Answer, status_of}
 
-abbrev Answer : Type 0
-Answer = Result (Unit {0}) Halt
-
-halted : (r : Answer) (halt : Halt) → status_of r ≡ Halted halt → r ≡ Err halt
+pub halted : (r : Answer) (halt : Halt) → status_of r ≡ Halted halt → r ≡ Err halt
 halted (Ok done) halt e = absurd cc
 halted (Err other) halt e =
     let same : other ≡ halt = cc in
@@ -34,7 +34,8 @@ pub never_usage : (r : Answer) (P : Type 0) → status_of r ≡ Usage → P
 never_usage (Ok done) P e = absurd cc
 never_usage (Err halt) P e = absurd cc
 
-transcribed : (base now : Sunk) (w : World) → IsShown base w now → IsTranscribed w base.held now.held
+transcribed : (base now : Sunk) (w : World) → IsShown base w now
+    → IsTranscribed w base.held now.held
 transcribed base now w shown =
     let s = shown.tidy.sound in
     let k = known (settings w) w.kept.users w.run s.legal.stepped s.unforged in
@@ -46,34 +47,44 @@ transcribed base now w shown =
       rendered = shown.written;
     }
 
-performed : (lines : List (List ℕ)) (old new : Sunk) → WerePerformed lines old new → IsPerformed lines old.held new.held
+performed : (lines : List (List ℕ)) (old new : Sunk) → WerePerformed lines old new
+    → IsPerformed lines old.held new.held
 performed lines old new p = (p.0, p.1, transcribed old new p.0 p.2)
 
-stopped : (text : List ℕ) (old new : Sunk) (halt : Halt) → IsStopped old (outcome (lines_within text)) new halt
+stopped : (text : List ℕ) (old new : Sunk) (halt : Halt)
+    → IsStopped old (outcome (lines_within text)) new halt
     → IsStoppedBy halt (lines_within text) old.held new.held
 stopped text old new halt p = (p.0, p.1, transcribed old new p.0 p.2)
 
 -- what a halt says of a trace
-halt_says : (text : List ℕ) (left now : Sourced) (old new : Sunk) (r : Answer) (halt : Halt) → IsReplayed text left now old new r → status_of r ≡ Halted halt
+halt_says : (text : List ℕ) (left now : Sourced) (old new : Sunk) (r : Answer) (halt : Halt)
+    → IsReplayed text left now old new r → status_of r ≡ Halted halt
     → IsReplayed text left now old new (Err halt)
-halt_says text left now old new r halt replayed e = subst (IsReplayed text left now old new) (halted r halt e) replayed
+halt_says text left now old new r halt replayed e =
+    subst (IsReplayed text left now old new) (halted r halt e) replayed
 
-pub done : (text : List ℕ) (left now : Sourced) (old new : Sunk) (r : Answer) → IsReplayed text left now old new r → status_of r ≡ Done
+pub done : (text : List ℕ) (left now : Sourced) (old new : Sunk) (r : Answer)
+    → IsReplayed text left now old new r → status_of r ≡ Done
     → IsPerformed (lines_of text) old.held new.held
 done text left now old new (Ok tt) replayed e = performed (lines_of text) old new replayed.2
 done text left now old new (Err halt) replayed e = absurd cc
 
-pub read : (text : List ℕ) (left now : Sourced) (old new : Sunk) (r : Answer) → IsReplayed text left now old new r → status_of r ≡ Done
+pub read : (text : List ℕ) (left now : Sourced) (old new : Sunk) (r : Answer)
+    → IsReplayed text left now old new r → status_of r ≡ Done
     → (now.left ≡ Some []) × (length text ≤ most_input)
 read text left now old new (Ok tt) replayed e = (replayed.1, replayed.0)
 read text left now old new (Err halt) replayed e = absurd cc
 
-pub trace : (text : List ℕ) (left now : Sourced) (old new : Sunk) (r : Answer) (line : ℕ) (kind : Kind) → IsReplayed text left now old new r
-    → status_of r ≡ Halted (halts.Trace line kind) → IsStoppedBy (halts.Trace line kind) (lines_within text) old.held new.held
+pub trace : (text : List ℕ) (left now : Sourced) (old new : Sunk) (r : Answer) (line : ℕ)
+    (kind : Kind) → IsReplayed text left now old new r
+    → status_of r ≡ Halted (halts.Trace line kind)
+    → IsStoppedBy (halts.Trace line kind) (lines_within text) old.held new.held
 trace text left now old new r line kind replayed e =
-    stopped text old new (halts.Trace line kind) (halt_says text left now old new r (halts.Trace line kind) replayed e)
+    stopped text old new (halts.Trace line kind)
+    (halt_says text left now old new r (halts.Trace line kind) replayed e)
 
-limit_of : (text : List ℕ) (left now : Sourced) (old new : Sunk) (which : Which) → which ≢ Input → IsReplayed text left now old new (Err (halts.Limit which))
+limit_of : (text : List ℕ) (left now : Sourced) (old new : Sunk) (which : Which) → which ≢ Input
+    → IsReplayed text left now old new (Err (halts.Limit which))
     → IsStopped old (outcome (lines_within text)) new (halts.Limit which)
 limit_of text left now old new Input other says = absurd (other refl)
 limit_of text left now old new Frames other says = says
@@ -82,76 +93,103 @@ limit_of text left now old new Ticks other says = says
 limit_of text left now old new Keys other says = says
 limit_of text left now old new Stations other says = says
 
-pub limit : (text : List ℕ) (left now : Sourced) (old new : Sunk) (r : Answer) (which : Which) → IsReplayed text left now old new r → which ≢ Input
-    → status_of r ≡ Halted (halts.Limit which) → IsStoppedBy (halts.Limit which) (lines_within text) old.held new.held
+pub limit : (text : List ℕ) (left now : Sourced) (old new : Sunk) (r : Answer) (which : Which)
+    → IsReplayed text left now old new r → which ≢ Input
+    → status_of r ≡ Halted (halts.Limit which)
+    → IsStoppedBy (halts.Limit which) (lines_within text) old.held new.held
 limit text left now old new r which replayed other e =
     stopped text old new (halts.Limit which)
-    (limit_of text left now old new which other (halt_says text left now old new r (halts.Limit which) replayed e))
+    (limit_of text left now old new which other
+    (halt_says text left now old new r (halts.Limit which) replayed e))
 
-pub repeated_draw : (text : List ℕ) (left now : Sourced) (old new : Sunk) (r : Answer) (first second : ℕ) → IsReplayed text left now old new r
-    → status_of r ≡ Halted (halts.RepeatedDraw first second) → IsStoppedBy (halts.RepeatedDraw first second) (lines_within text) old.held new.held
+pub repeated_draw : (text : List ℕ) (left now : Sourced) (old new : Sunk) (r : Answer)
+    (first second : ℕ) → IsReplayed text left now old new r
+    → status_of r ≡ Halted (halts.RepeatedDraw first second)
+    → IsStoppedBy (halts.RepeatedDraw first second) (lines_within text) old.held new.held
 repeated_draw text left now old new r first second replayed e =
-    stopped text old new (halts.RepeatedDraw first second) (halt_says text left now old new r (halts.RepeatedDraw first second) replayed e)
+    stopped text old new (halts.RepeatedDraw first second)
+    (halt_says text left now old new r (halts.RepeatedDraw first second) replayed e)
 
-pub forged : (text : List ℕ) (left now : Sourced) (old new : Sunk) (r : Answer) (line : ℕ) → IsReplayed text left now old new r
-    → status_of r ≡ Halted (halts.Forged line) → IsStoppedBy (halts.Forged line) (lines_within text) old.held new.held
+pub forged : (text : List ℕ) (left now : Sourced) (old new : Sunk) (r : Answer) (line : ℕ)
+    → IsReplayed text left now old new r
+    → status_of r ≡ Halted (halts.Forged line)
+    → IsStoppedBy (halts.Forged line) (lines_within text) old.held new.held
 forged text left now old new r line replayed e =
-    stopped text old new (halts.Forged line) (halt_says text left now old new r (halts.Forged line) replayed e)
+    stopped text old new (halts.Forged line)
+    (halt_says text left now old new r (halts.Forged line) replayed e)
 
-pub input : (text : List ℕ) (left now : Sourced) (old new : Sunk) (r : Answer) → IsReplayed text left now old new r
-    → status_of r ≡ Halted (halts.Limit Input) → (most_input < length text) × IsPerformed (whole_lines (take most_input text)) old.held new.held
+pub input : (text : List ℕ) (left now : Sourced) (old new : Sunk) (r : Answer)
+    → IsReplayed text left now old new r
+    → status_of r ≡ Halted (halts.Limit Input) → (most_input < length text)
+    × IsPerformed (whole_lines (take most_input text)) old.held new.held
 input text left now old new r replayed e =
     let says = halt_says text left now old new r (halts.Limit Input) replayed e in
     (says.0, performed (whole_lines (take most_input text)) old new says.1)
 
-pub read_fault : (text : List ℕ) (left now : Sourced) (old new : Sunk) (r : Answer) → IsReplayed text left now old new r
+pub read_fault : (text : List ℕ) (left now : Sourced) (old new : Sunk) (r : Answer)
+    → IsReplayed text left now old new r
     → status_of r ≡ Halted halts.ReadFault
-    → (taken : List ℕ) × (left.left ≡ before taken now.left) × IsPerformed (whole_lines taken) old.held new.held
+    → (taken : List ℕ) × (left.left ≡ before taken now.left)
+    × IsPerformed (whole_lines taken) old.held new.held
 read_fault text left now old new r replayed e =
     let says = halt_says text left now old new r halts.ReadFault replayed e in
     (says.1.0, says.1.1, performed (whole_lines says.1.0) old new says.1.2)
 
-pub front : (text : List ℕ) (left now : Sourced) (old new : Sunk) (r : Answer) → IsReplayed text left now old new r
-    → (status_of r ≡ Halted halts.WriteFault) ⊎ (status_of r ≡ Halted halts.Memory) → HoldsFront old.held new.held (text_of (outcome (lines_within text)))
-front text left now old new r replayed (inl e) = (halt_says text left now old new r halts.WriteFault replayed e).1
-front text left now old new r replayed (inr e) = halt_says text left now old new r halts.Memory replayed e
-
-pub read_cause : (r : Answer) (P : Type 0) → (r ≡ Err halts.ReadFault → P) → status_of r ≡ Halted halts.ReadFault → P
-read_cause r P cause e = cause (halted r halts.ReadFault e)
-
-pub write_cause : (r : Answer) (P : Type 0) → (r ≡ Err halts.WriteFault → P) → status_of r ≡ Halted halts.WriteFault → P
-write_cause r P cause e = cause (halted r halts.WriteFault e)
+pub front : (text : List ℕ) (left now : Sourced) (old new : Sunk) (r : Answer)
+    → IsReplayed text left now old new r
+    → (status_of r ≡ Halted halts.WriteFault) ⊎ (status_of r ≡ Halted halts.Memory)
+    → HoldsFront old.held new.held (text_of (outcome (lines_within text)))
+front text left now old new r replayed (inl e) =
+    (halt_says text left now old new r halts.WriteFault replayed e).1
+front text left now old new r replayed (inr e) =
+    halt_says text left now old new r halts.Memory replayed e
 
 -- the status is what performing the text leaves, or memory was wanting
 abbrev pub IsComplete : List ℕ → Answer → Type 0
 IsComplete text r = (status_of r ≡ status_within text) ⊎ (status_of r ≡ Halted halts.Memory)
 
-by_stop : (text : List ℕ) (old new : Sunk) (halt : Halt) → IsStopped old (outcome (lines_within text)) new halt → IsComplete text (Err halt)
+by_stop : (text : List ℕ) (old new : Sunk) (halt : Halt)
+    → IsStopped old (outcome (lines_within text)) new halt → IsComplete text (Err halt)
 by_stop text old new halt p = inl (sym (ap (status_after (nat_le (length text) most_input)) p.1))
 
-at_end : (text : List ℕ) (w : World) → length text ≤ most_input → outcome (lines_of text) ≡ Goes w → Done ≡ status_within text
+pub at_end : (text : List ℕ) (w : World) → length text ≤ most_input
+    → outcome (lines_of text) ≡ Goes w → Done ≡ status_within text
 at_end text w within e =
     let test : nat_le (length text) most_input ≡ true = grind (arith, nat_tests, within) in
     rw (test, e) refl
 
-past_limit : (text : List ℕ) (w : World) → most_input < length text → outcome (whole_lines (take most_input text)) ≡ Goes w
+pub past_limit : (text : List ℕ) (w : World) → most_input < length text
+    → outcome (whole_lines (take most_input text)) ≡ Goes w
     → Halted (halts.Limit Input) ≡ status_within text
 past_limit text w past e =
     let test : nat_le (length text) most_input ≡ false = grind (arith, nat_tests, past) in
     rw (test, e) refl
 
-pub complete : (text : List ℕ) (left now : Sourced) (old new : Sunk) (r : Answer) → IsReplayed text left now old new r
+pub complete : (text : List ℕ) (left now : Sourced) (old new : Sunk) (r : Answer)
+    → IsReplayed text left now old new r
     → (Rose left.faults now.faults → ⊥) → (Rose old.faults new.faults → ⊥) → IsComplete text r
-complete text left now old new (Ok tt) replayed reads writes = inl (at_end text replayed.2.0 replayed.0 replayed.2.1)
-complete text left now old new (Err (halts.Trace line kind)) replayed reads writes = by_stop text old new (halts.Trace line kind) replayed
-complete text left now old new (Err halts.ReadFault) replayed reads writes = absurd (reads replayed.0)
-complete text left now old new (Err halts.WriteFault) replayed reads writes = absurd (writes replayed.0)
+complete text left now old new (Ok tt) replayed reads writes =
+    inl (at_end text replayed.2.0 replayed.0 replayed.2.1)
+complete text left now old new (Err (halts.Trace line kind)) replayed reads writes =
+    by_stop text old new (halts.Trace line kind) replayed
+complete text left now old new (Err halts.ReadFault) replayed reads writes =
+    absurd (reads replayed.0)
+complete text left now old new (Err halts.WriteFault) replayed reads writes =
+    absurd (writes replayed.0)
 complete text left now old new (Err halts.Memory) replayed reads writes = inr refl
-complete text left now old new (Err (halts.Limit Input)) replayed reads writes = inl (past_limit text replayed.1.0 replayed.0 replayed.1.1)
-complete text left now old new (Err (halts.Limit Frames)) replayed reads writes = by_stop text old new (halts.Limit Frames) replayed
-complete text left now old new (Err (halts.Limit Octets)) replayed reads writes = by_stop text old new (halts.Limit Octets) replayed
-complete text left now old new (Err (halts.Limit Ticks)) replayed reads writes = by_stop text old new (halts.Limit Ticks) replayed
-complete text left now old new (Err (halts.Limit Keys)) replayed reads writes = by_stop text old new (halts.Limit Keys) replayed
-complete text left now old new (Err (halts.Limit Stations)) replayed reads writes = by_stop text old new (halts.Limit Stations) replayed
-complete text left now old new (Err (halts.RepeatedDraw first second)) replayed reads writes = by_stop text old new (halts.RepeatedDraw first second) replayed
-complete text left now old new (Err (halts.Forged line)) replayed reads writes = by_stop text old new (halts.Forged line) replayed
+complete text left now old new (Err (halts.Limit Input)) replayed reads writes =
+    inl (past_limit text replayed.1.0 replayed.0 replayed.1.1)
+complete text left now old new (Err (halts.Limit Frames)) replayed reads writes =
+    by_stop text old new (halts.Limit Frames) replayed
+complete text left now old new (Err (halts.Limit Octets)) replayed reads writes =
+    by_stop text old new (halts.Limit Octets) replayed
+complete text left now old new (Err (halts.Limit Ticks)) replayed reads writes =
+    by_stop text old new (halts.Limit Ticks) replayed
+complete text left now old new (Err (halts.Limit Keys)) replayed reads writes =
+    by_stop text old new (halts.Limit Keys) replayed
+complete text left now old new (Err (halts.Limit Stations)) replayed reads writes =
+    by_stop text old new (halts.Limit Stations) replayed
+complete text left now old new (Err (halts.RepeatedDraw first second)) replayed reads writes =
+    by_stop text old new (halts.RepeatedDraw first second) replayed
+complete text left now old new (Err (halts.Forged line)) replayed reads writes =
+    by_stop text old new (halts.Forged line) replayed

@@ -1,9 +1,11 @@
-//! The program `rollover` as a library: the command words, a source and a sink go in, a status comes
-//! out.
+//! The program `rollover` as a library: the command words, a source and a sink go in, and a status
+//! comes out.
 #![tactic(auto)]
 
+mod orders;
 mod status;
 mod top;
+mod words;
 
 pub use lan_core::Which;
 pub use lan_schedule::{Halt, Kind};

@@ -4,6 +4,8 @@
 #[cfg(test)]
 mod agreement;
 #[cfg(test)]
+mod commands;
+#[cfg(test)]
 mod outside;
 #[cfg(test)]
 mod performing;

@@ -29,15 +29,17 @@ pub const STEADY: Outside = Outside {
     failing_write: 0,
 };
 
-/// The top call with one word.
-pub fn perform(
+/// The top call with these words.
+pub(crate) fn ordered(
     alloc: Global,
-    word: &str,
+    words: &[&str],
     text: &[u8],
     outside: Outside,
 ) -> Result<Left, AllocError> {
-    let mut words = Vec::new(alloc);
-    words.push(String::from_str(alloc, word)?)?;
+    let mut owned = Vec::new(alloc);
+    for word in words {
+        owned.push(String::from_str(alloc, word)?)?;
+    }
     let reads = Vec::from_slice(alloc, &[outside.failing_read])?;
     let writes = Vec::from_slice(alloc, &[outside.failing_write])?;
     let mut source = MemorySource::new(
@@ -46,11 +48,21 @@ pub fn perform(
         reads,
     );
     let mut sink = MemorySink::new(alloc, outside.write.max(1), writes);
-    let status = rollover(alloc, &words, &mut source, &mut sink);
+    let status = rollover(alloc, &owned, &mut source, &mut sink);
     Ok(Left {
         status,
         held: Octets::from_slice(alloc, sink.held())?,
     })
+}
+
+/// The top call with one word.
+pub fn perform(
+    alloc: Global,
+    word: &str,
+    text: &[u8],
+    outside: Outside,
+) -> Result<Left, AllocError> {
+    ordered(alloc, &[word], text, outside)
 }
 
 /// A trace, whose parts are these texts.

@@ -1,0 +1,28 @@
+-- The command at words that are written out.
+use Rattle.std.proofs.Common.{◌≡◌, true, [], ◌∷◌, codes, refl}
+use Rattle.clap.specs.Words.{fault_of, is_simple, is_simple_and_free}
+use Rattle.clap.specs.declared.error.ErrorKind.TheVariants.{InvalidSubcommand}
+use Rattle.clap.specs.declared.error.ErrorKind.TheVariants.{MissingRequiredArgument}
+use Rattle.clap.specs.declared.error.ErrorKind.TheVariants.{MissingSubcommand, UnknownArgument}
+use Rattle.clap.specs.declared.error.ErrorKind.TheVariants.{ValueValidation}
+use Rattle.clap.proofs.OnLiterals.{clap_on_literals}
+use Rattle.rollover_program.specs.Words.{command}
+
+pub is_free : is_simple_and_free command ≡ true
+unfolding clap_on_literals
+is_free = refl
+
+pub is_plain : is_simple command ≡ true
+unfolding clap_on_literals
+is_plain = refl
+
+-- words that are no command: no subcommand, none of this name, a word too many, no number, and
+-- numbers out of range
+refused : (fault_of command [] ≡ MissingSubcommand ∷ [])
+    × (fault_of command (codes "walk" ∷ []) ≡ UnknownArgument ∷ InvalidSubcommand ∷ [])
+    × (fault_of command (codes "run" ∷ codes "x" ∷ []) ≡ UnknownArgument ∷ [])
+    × (fault_of command (codes "make" ∷ []) ≡ MissingRequiredArgument ∷ [])
+    × (fault_of command (codes "make" ∷ codes "0" ∷ []) ≡ ValueValidation ∷ [])
+    × (fault_of command (codes "try" ∷ codes "10000" ∷ []) ≡ ValueValidation ∷ [])
+unfolding clap_on_literals
+refused = (refl, refl, refl, refl, refl, refl)

@@ -1,0 +1,176 @@
+-- Words without a fault order something, and each order has plain words.
+use Rattle.std.proofs.Common.{◌≡◌, ◌∙◌, ◌≤◌, ◌==◌, ℕ, Bool, true, false, cond, List, [], ◌∷◌}
+use Rattle.std.proofs.Common.{Option, Some, None, is_some, refl, sym, ap, arith, codes, option_map}
+use Rattle.std.proofs.Common.{option_and_then}
+use Rattle.std.specs.Prelude.{decimal, pos}
+use Rattle.std.specs.Option.{option_map_or}
+use Rattle.std.specs.Str.Parse.{IsNumeral, digits_value}
+use Rattle.std.proofs.lemmas.Bool.{ne_eqb}
+use Rattle.std.proofs.lemmas.Fmt.{decimal_is_IsNumeral}
+use Rattle.std.proofs.lemmas.Int.{ints}
+use Rattle.std.proofs.lemmas.Str.Parse.{digit_from_value}
+use Rattle.clap.specs.Words.{Row, Shape, Text, built, fault_of}
+use Rattle.clap.specs.Values.{IsSignedIn}
+use Rattle.clap.specs.ValueTests.{is_unsigned_in}
+use Rattle.clap.specs.Kinds.{Kinds, or_else}
+use Rattle.clap.specs.Walk.{answers_to, nothing_held, rows_after, settled, finished, walk}
+use Rattle.clap.specs.Walk.{walk_from}
+use Rattle.clap.specs.Simple.{built_leaf, entered, inherited, names_of, new_shape, rows_at}
+use Rattle.clap.specs.Faults.{check_fault, defaults_fault, entered_fault, level_fault, settle_fault}
+use Rattle.clap.specs.Faults.{walk_fault}
+use Rattle.clap.specs.declared.builder.ValueParser.TheVariants as parsers
+use Rattle.clap.proofs.KindLemmas.{value_kinds-ok}
+use Rattle.clap.proofs.OnLiterals.{clap_on_literals}
+use Rattle.clap.proofs.ValueTestLemmas.{Accepts-accepts}
+use Rattle.rollover_program.specs.declared.words.Order.{Order}
+use Rattle.rollover_program.specs.declared.words.Order.TheVariants.{Run, Make, Try}
+use Rattle.rollover_program.specs.Words.{IsNumbered, IsUsage, Orders, bare, command, number_of}
+use Rattle.rollover_program.specs.Words.{order_by, order_of}
+use Rattle.rollover_program.specs.Words.{subcommand, summary, summary_in, words_of}
+use Rattle.rollover_program.proofs.Taken.{given, gives, leaf, no_fault, taken}
+
+-- ---- without a fault
+
+abbrev run_leaf : Shape
+run_leaf = built_leaf (inherited (bare (new_shape (codes "rollover")))
+    (subcommand (codes "run") summary))
+
+-- the subcommand that was named
+abbrev named : Bool → Bool → Bool → Option Shape
+named run make try_ = cond run (Some run_leaf)
+    (cond make (Some (leaf (codes "make"))) (cond try_ (Some (leaf (codes "try"))) None))
+
+abbrev rows_in : Option Shape → List Text → Option (Text × List Row)
+rows_in sub words = option_map (λ s. rows_at s words) sub
+
+-- what was named orders this
+abbrev pub ordered_by : Option (Text × List Row) → Option Order
+ordered_by = option_and_then (λ p. order_by p.0 p.1)
+
+orders : (run make try_ : Bool) (words : List Text)
+    → option_map_or (λ s. level_fault s [] nothing_held words false []) (named run make try_) []
+    ≡ []
+    → is_some (rows_in (named run make try_) words) ≡ true → (o : Order)
+    × (ordered_by (rows_in (named run make try_) words) ≡ Some o) × IsNumbered o
+orders true make try_ words e h = (Run (summary_in (rows_after run_leaf.rules [] words)), refl, tt)
+orders false true try_ words e h =
+    let n = taken (codes "make") words e in
+    (Make n.0, ap (option_map (λ k. Make k)) n.1, (n.2, n.3))
+orders false false true words e h =
+    let n = taken (codes "try") words e in
+    (Try n.0, ap (option_map (λ k. Try k)) n.1, (n.2, n.3))
+orders false false false words e h = absurd cc
+
+by_stop : (stop : Option (Text × List Text)) → entered_fault (built command) stop ≡ []
+    → is_some (entered (built command) stop) ≡ true
+    → (o : Order) × (ordered_by (entered (built command) stop) ≡ Some o) × IsNumbered o
+by_stop None e h = absurd cc
+by_stop (Some p) e h = orders (answers_to p.0 (codes "run", [])) (answers_to p.0 (codes "make", []))
+    (answers_to p.0 (codes "try", [])) p.1 e h
+
+-- a subcommand has to be there
+needed : (rows : List Row) (has : Bool) → check_fault (built command).top rows has ≡ [] → has ≡ true
+needed rows true e = refl
+needed rows false e = absurd cc
+
+-- words without a fault order something
+pub ordered : (words : List Text) → fault_of command words ≡ [] → (o : Order)
+    × (order_of words ≡ Some o) × IsNumbered o
+ordered words e =
+    let top = (built command).top in
+    let names = names_of (built command) in
+    let w = walk top.rules names nothing_held words in
+    let below = entered_fault (built command) w.stopped in
+    let settling = settle_fault top.rules false w.held in
+    let filling = defaults_fault (settled top.rules w.held).rows top.rules in
+    let checking = check_fault top (finished top.rules w.held)
+    (is_some (entered (built command) w.stopped)) in
+    let one = no_fault (walk_fault top names (walk_from nothing_held) words)
+    (or_else below (or_else settling (or_else filling checking))) e in
+    let two = no_fault below (or_else settling (or_else filling checking)) one.1 in
+    let three = no_fault settling (or_else filling checking) two.1 in
+    by_stop w.stopped two.0 (needed (finished top.rules w.held)
+    (is_some (entered (built command) w.stopped)) (no_fault filling checking three.1).1)
+
+pub by_no_usage : (words : List Text) → (IsUsage words → ⊥)
+    → (order : Order) × Orders words order × IsNumbered order
+by_no_usage words taken = go (fault_of command words) refl
+  where
+    go : (k : Kinds) → fault_of command words ≡ k
+        → (order : Order) × Orders words order × IsNumbered order
+    go [] e =
+        let o = ordered words e in
+        (o.0, (e, o.1), o.2)
+    go (k ∷ ks) e =
+        absurd (taken (λ none.
+        let bad : k ∷ ks ≡ [] = sym e ∙ none in
+        cc))
+
+-- ---- plain words
+
+make_faults : (t : Text) → level_fault (leaf (codes "make")) [] nothing_held (t ∷ []) false [] ≡ []
+    → fault_of command (codes "make" ∷ t ∷ []) ≡ []
+unfolding clap_on_literals
+make_faults t e = ap (λ k. or_else k []) e
+
+try_faults : (t : Text) → level_fault (leaf (codes "try")) [] nothing_held (t ∷ []) false [] ≡ []
+    → fault_of command (codes "try" ∷ t ∷ []) ≡ []
+unfolding clap_on_literals
+try_faults t e = ap (λ k. or_else k []) e
+
+make_orders : (t : Text) → order_of (codes "make" ∷ t ∷ [])
+    ≡ order_by (codes "make") (rows_after (leaf (codes "make")).rules [] (t ∷ []))
+unfolding clap_on_literals
+make_orders t = refl
+
+try_orders : (t : Text) → order_of (codes "try" ∷ t ∷ [])
+    ≡ order_by (codes "try") (rows_after (leaf (codes "try")).rules [] (t ∷ []))
+unfolding clap_on_literals
+try_orders t = refl
+
+-- what a numeral is to the commands with a number
+record IsNumberText (t : Text) (n : ℕ) : Type 0 where
+  made : fault_of command (codes "make" ∷ t ∷ []) ≡ []
+  make : order_of (codes "make" ∷ t ∷ []) ≡ Some (Make n)
+  tried : fault_of command (codes "try" ∷ t ∷ []) ≡ []
+  try_ : order_of (codes "try" ∷ t ∷ []) ≡ Some (Try n)
+
+numeral : (t : Text) (n : ℕ) → IsNumeral 10 t → digits_value 10 t ≡ n → 1 ≤ n → n ≤ 9999
+    → IsNumberText t n
+numeral [] n h e low high = absurd (omega (arith, h.0))
+numeral (d ∷ ds) n h e low high =
+    let minus : (d == 45) ≡ false = ne_eqb _ _ (λ is. omega (arith, digit_from_value d h.1.0)) in
+    let plus : (d == 43) ≡ false = ne_eqb _ _ (λ is. omega (arith, digit_from_value d h.1.0)) in
+    let signed : IsSignedIn (pos 1) (pos 9999) (d ∷ ds) =
+    rw (minus, plus, e) (h, omega (arith, ints), omega (arith, ints), omega (arith, ints)) in
+    let passed = value_kinds-ok false (parsers.Signed (pos 1) (pos 9999)) (d ∷ ds) signed in
+    let unsigned : is_unsigned_in 0 4294967295 (d ∷ ds)
+    ≡ true = Accepts-accepts false (parsers.Unsigned 0 4294967295) (d ∷ ds)
+    (rw (plus, e) (h, omega arith, omega arith, omega arith)) in
+    let read : number_of (d ∷ ds) ≡ Some n = rw (unsigned, plus, e) refl in
+    record {
+      made = make_faults (d ∷ ds) (gives (codes "make") d ds minus passed);
+      make = make_orders (d ∷ ds) ∙ ap (option_map (λ k. Make k))
+          (given (codes "make") d ds minus ∙ read);
+      tried = try_faults (d ∷ ds) (gives (codes "try") d ds minus passed);
+      try_ = try_orders (d ∷ ds) ∙ ap (option_map (λ k. Try k))
+          (given (codes "try") d ds minus ∙ read);
+    }
+
+text_of : (n : ℕ) → 1 ≤ n → n ≤ 9999 → IsNumberText (decimal n) n
+text_of n low high =
+    let d = decimal_is_IsNumeral n (omega arith) in
+    numeral (decimal n) n d.0 d.1 low high
+
+run_plain : (s : Bool) → (fault_of command (words_of (Run s)) ≡ [])
+    × (order_of (words_of (Run s)) ≡ Some (Run s))
+unfolding clap_on_literals
+run_plain true = (refl, refl)
+run_plain false = (refl, refl)
+
+-- the plain words for an order have no fault, and order it
+pub plain_words : (o : Order) → IsNumbered o → (fault_of command (words_of o) ≡ [])
+    × (order_of (words_of o) ≡ Some o)
+plain_words (Run s) h = run_plain s
+plain_words (Make n) h = let t = text_of n h.0 h.1 in (t.made, t.make)
+plain_words (Try n) h = let t = text_of n h.0 h.1 in (t.tried, t.try_)

@@ -1,0 +1,123 @@
+//! The words after the program's name.
+
+ghost use Rattle.std.specs.Prelude.{◌≡◌, ◌≢◌, ◌⊎◌, Err, IfOk, Some, false, map, option_and_then};
+ghost use Rattle.std.specs.Prelude.{string_bytes};
+ghost use Rattle.clap.specs.Words.{app_of, found_of, kind_of, rows_of, rule_of, subcommand_rows_of};
+ghost use Rattle.clap.specs.declared.error.kind.ErrorKind.TheVariants as kinds;
+ghost use Rattle.rollover_program.specs.Words.{IsUsage, Orders, command, number, order_by};
+ghost use Rattle.rollover_program.specs.Words.{order_of, summary_in};
+
+use clap::error::ErrorKind;
+use clap::{Arg, ArgAction, ArgMatches, Command, Error};
+use std::alloc::{AllocError, Global};
+
+/// What the words order.
+#[derive(Clone, Copy, Debug, PartialEq, Eq)]
+pub enum Order {
+    /// A trace is performed, for its transcript or for its summary line.
+    Run { summary: bool },
+    /// The trace of a number is written.
+    Make { number: u32 },
+    /// The trace of a number is performed, for its summary line.
+    Try { number: u32 },
+}
+
+/// Why the words order nothing.
+#[derive(Clone, Copy, Debug, PartialEq, Eq)]
+pub enum Refusal {
+    /// They are no command.
+    Usage,
+    /// Memory ran out.
+    Memory,
+}
+
+impl From<AllocError> for Refusal {
+    ghost use Rattle.rollover_program.specs.declared.words.Refusal.TheVariants as refusals;
+
+    ghost from_gives = { λ _ r. r ≡ refusals.Memory };
+
+    fn from(_: AllocError) -> Refusal {
+        Refusal::Memory
+    }
+}
+
+/// Reads the words after the program's name.
+pub fn read_order(alloc: Global, words: &[String]) -> Result<Order, Refusal>
+    ensures ok { IfOk result (λ order. Orders (map string_bytes words.now) order) }
+    ensures usage { result ≡ Err Refusal.Usage → IsUsage (map string_bytes words.now) }
+    ensures refused { IsUsage (map string_bytes words.now)
+        → (result ≡ Err Refusal.Usage) ⊎ (result ≡ Err Refusal.Memory) }
+{
+    match command(alloc)?.try_get_matches_from(words) {
+        Ok(matches) => order_of(&matches).ok_or(Refusal::Usage),
+        Err(error) => Err(refusal_of(&error)),
+    }
+}
+
+/// The one command: `run [--summary]`, `make N` or `try N`.
+fn command<'a>(alloc: Global) -> Result<Command<'a>, AllocError>
+    ensures { IfOk result (λ r. app_of r ≡ command) }
+{
+    let summary = Arg::new(alloc, "summary")
+        .long("summary")
+        .action(ArgAction::SetTrue);
+    let rollover = Command::new(alloc, "rollover")
+        .no_binary_name(true)
+        .disable_help_flag(true)
+        .disable_help_subcommand(true)
+        .disable_version_flag(true)
+        .subcommand_required(true);
+    rollover
+        .subcommand(Command::new(alloc, "run").arg(summary)?)?
+        .subcommand(Command::new(alloc, "make").arg(number(alloc))?)?
+        .subcommand(Command::new(alloc, "try").arg(number(alloc))?)
+}
+
+/// A number from 1 to 9999.
+fn number<'a>(alloc: Global) -> Arg<'a>
+    ensures rule { rule_of result ≡ number }
+    ensures local { result.global ≡ false }
+{
+    Arg::new(alloc, "N")
+        .value_parser(clap::value_parser!(u32).range(1..=9999))
+        .required(true)
+}
+
+/// What the matches of a command order.
+fn order_of(matches: &ArgMatches<'_>) -> Option<Order>
+    ensures { result
+        ≡ option_and_then (λ p. order_by p.0 p.1) (subcommand_rows_of matches.now) }
+{
+    let (name, arguments) = matches.subcommand()?;
+    match name {
+        "run" => Some(Order::Run {
+            summary: is_summary(arguments),
+        }),
+        "make" => Some(Order::Make {
+            number: arguments.get_one("N")?,
+        }),
+        "try" => Some(Order::Try {
+            number: arguments.get_one("N")?,
+        }),
+        _ => None,
+    }
+}
+
+/// Whether the flag was given.
+fn is_summary(arguments: &ArgMatches<'_>) -> bool
+    ensures { result ≡ summary_in (rows_of (found_of arguments.now)) }
+{
+    // No clause of `get_flag` speaks of a text that is neither `true` nor `false`.
+    arguments.get_one("summary").unwrap_or(false)
+}
+
+/// Why words that clap does not take order nothing.
+fn refusal_of(error: &Error) -> Refusal
+    ensures memory { kind_of error.now ≡ kinds.OutOfMemory → result ≡ Refusal.Memory }
+    ensures usage { kind_of error.now ≢ kinds.OutOfMemory → result ≡ Refusal.Usage }
+{
+    match error.kind() {
+        ErrorKind::OutOfMemory => Refusal::Memory,
+        _ => Refusal::Usage,
+    }
+}

@@ -1,0 +1,68 @@
+//! The commands: words that are none, a generated trace, and summaries.
+
+use crate::performing::{STEADY, ordered, refused};
+use crate::worked::FIRST_KEY;
+use rollover_program::{Kind, Status};
+use std::test::Fail;
+
+/// The summary of the first key.
+const FIRST_KEY_SUMMARY: &str = "{\"accepted\":0,\"begun\":2,\"claims\":0,\"frames\":9,\
+    \"installed\":2,\"late\":0,\"missed\":0,\"noclaims\":0,\"ticks\":12}\n";
+
+/// The hash FNV-1a of 64 bits.
+fn hash(octets: &[u8]) -> u64 {
+    let mut hash = 0xcbf2_9ce4_8422_2325u64;
+    for octet in octets {
+        hash = (hash ^ u64::from(*octet)).wrapping_mul(0x100_0000_01b3);
+    }
+    hash
+}
+
+// A number out of its range, a word too many, and no word at all.
+#[test]
+fn refuses_words_that_are_no_command(rt: HostRuntime) -> Result<(), Fail> {
+    let alloc = rt.alloc();
+    let cases = [["make", "0"], ["make", "10000"], ["run", "x"], ["try", ""]];
+    for words in cases {
+        let left = ordered(alloc, &words, FIRST_KEY.as_bytes(), STEADY)?;
+        assert_eq!(rt; left.status, Status::Usage, "{words:?}");
+        assert!(rt; left.held.is_empty());
+    }
+    let left = ordered(alloc, &[], FIRST_KEY.as_bytes(), STEADY)?;
+    assert_eq!(rt; left.status, Status::Usage);
+    Ok(())
+}
+
+// The length and the hash are those of a Python program that was written from the description of
+// the generator. Performing the trace by either command gives one summary.
+#[test]
+fn makes_and_tries_a_trace(rt: HostRuntime) -> Result<(), Fail> {
+    let alloc = rt.alloc();
+    let made = ordered(alloc, &["make", "1"], b"", STEADY)?;
+    assert_eq!(rt; made.status, Status::Done);
+    assert_eq!(rt; made.held.len(), 5730);
+    assert_eq!(rt; hash(made.held.as_slice()), 0x6c2b_5265_6e0b_f582);
+    let tried = ordered(alloc, &["try", "1"], b"", STEADY)?;
+    let run = ordered(alloc, &["run", "--summary"], made.held.as_slice(), STEADY)?;
+    assert_eq!(rt; tried.status, Status::Done);
+    assert_eq!(rt; run.status, Status::Done);
+    assert!(rt; !tried.held.is_empty());
+    assert_eq!(rt; tried.held.as_slice(), run.held.as_slice());
+    Ok(())
+}
+
+// A summary is written at the end alone.
+#[test]
+fn sums_a_trace_up(rt: HostRuntime) -> Result<(), Fail> {
+    let alloc = rt.alloc();
+    let cases = [
+        (FIRST_KEY, Status::Done, FIRST_KEY_SUMMARY),
+        ("tick 1\n", refused(1, Kind::Order), ""),
+    ];
+    for (text, status, shown) in cases {
+        let left = ordered(alloc, &["run", "--summary"], text.as_bytes(), STEADY)?;
+        assert_eq!(rt; left.status, status);
+        assert_eq!(rt; left.held.as_slice(), shown.as_bytes());
+    }
+    Ok(())
+}
