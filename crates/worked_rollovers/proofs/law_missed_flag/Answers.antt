@@ -1,0 +1,11 @@
+use Rattle.worked_rollovers.proofs.Missed.{bob_said, word, keeps, never-begins, not-steady}
+use Rattle.worked_rollovers.proofs.law_missed_flag.Goals as goal
+
+pub returns-clause-keeps : goal.returns-clause-keeps
+returns-clause-keeps c = (bob_said, word, keeps)
+
+pub returns-clause-never : goal.returns-clause-never
+returns-clause-never c = never-begins
+
+pub returns-clause-unsteady : goal.returns-clause-unsteady
+returns-clause-unsteady c = not-steady

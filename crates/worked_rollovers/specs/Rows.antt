@@ -1,0 +1,46 @@
+-- Two rollovers of three stations, each told by a few lines.
+use Rattle.std.specs.Prelude.{ℕ, ◌==◌, ◌&&◌, not, Bool, List, [], ◌∷◌}
+use Rattle.lan_core.specs.Run.{Run}
+use Rattle.worked_rollovers.specs.Deeds.{Deed, run_of}
+use Rattle.worked_rollovers.specs.Script.{Story, begin, send, deliver, flow, always}
+
+abbrev pub all : List ℕ
+all = 0 ∷ 1 ∷ 2 ∷ []
+
+-- Two stations agree, and a third one comes. After five rounds alice has made her second key, and
+-- bob and carol have said that they receive it.
+abbrev pub before : Story
+before =
+    flow always all 5 (begin 2 4
+    (flow always (0 ∷ 1 ∷ []) 6 (begin 1 2 (begin 0 1 (record { deeds = []; frame = 1 })))))
+
+-- ---- in time and too late
+
+-- Bob sends a frame. A round comes, and the frame, which is number 18, reaches alice and carol.
+-- After 29 more rounds it reaches alice again.
+unfoldable pub late_story : Story
+late_story =
+    deliver 18 (flow always all 29
+    (deliver 18 (deliver 18 (flow always all 1 (send before)) 0) 2)) 0
+
+unfoldable pub late_deeds : List Deed
+late_deeds = late_story.deeds
+
+abbrev pub late : Run
+late = run_of late_deeds
+
+-- ---- a missed flag
+
+-- the way from alice to bob is cut
+abbrev pub cut : ℕ → ℕ → Bool
+cut s t = not ((s == 0) && (t == 1))
+
+-- After the cut come 31 rounds: bob doesn't hear that alice has begun the second key.
+unfoldable pub missed_story : Story
+missed_story = flow cut all 31 before
+
+unfoldable pub missed_deeds : List Deed
+missed_deeds = missed_story.deeds
+
+abbrev pub missed : Run
+missed = run_of missed_deeds

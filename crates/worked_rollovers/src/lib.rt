@@ -1,0 +1,36 @@
+//! Two rollovers of three stations, worked out: in one a frame is in time and too late, in the
+//! other a station misses the flag.
+#![tactic(auto)]
+
+ghost use Rattle.std.specs.Prelude.{ℕ};
+ghost use Rattle.peer_lists.specs.Acceptance.{Accepted};
+ghost use Rattle.sak_exchange.specs.declared.change.Cause.{Cause};
+ghost use Rattle.group_safety.specs.Steady.{Begins, IsKeeper, IsSteady};
+ghost use Rattle.group_safety.specs.Time.{IsFlight, IsInTime, IsFound};
+ghost use Rattle.worked_rollovers.specs.Group.{settings, id, first_key};
+ghost use Rattle.worked_rollovers.specs.Rows.{late, missed};
+
+/// In time and too late. Alice (station 0) makes the second key in event 41 and begins it in event
+/// 57. The rollover is steady, with a lag of 0 rounds. The frame that bob (station 1) claimed in
+/// event 55 under the first key reaches alice in event 62: it is in time, and found. In event 161
+/// it reaches her again, too late. Where it reaches carol (station 2), in event 63, it is not in
+/// time, as she never had the first key.
+pub fn law_late()
+    ensures steady { IsSteady settings late 41 41 57 0 (id 1) (id 2) 0 }
+    ensures flies { IsFlight settings late 55 62 1 0 first_key 18 }
+    ensures in_time { IsInTime settings late 41 41 57 0 (id 1) (id 2) 0 55 62 1 0 first_key }
+    ensures found { IsFound settings late 62 0 18 first_key }
+    ensures flies_again { IsFlight settings late 55 161 1 0 first_key 18 }
+    ensures too_late { IsInTime settings late 41 41 57 0 (id 1) (id 2) 0 55 161 1 0 first_key → ⊥ }
+    ensures flies_to_carol { IsFlight settings late 55 63 1 2 first_key 18 }
+    ensures no_keeper { IsInTime settings late 41 41 57 0 (id 1) (id 2) 0 55 63 1 2 first_key → ⊥ }
+{}
+
+/// A missed flag. Bob (station 1) has said that he receives both keys, and does not hear that alice
+/// begins the second one, in event 55: he never begins it. So no lag makes the rollover steady.
+pub fn law_missed_flag()
+    ensures keeps { (sent : ℕ) × (says : Accepted)
+        × IsKeeper settings missed 55 0 (id 1) 1 sent says }
+    ensures never { (x : ℕ) (cause : Cause) → Begins missed x 1 (id 2) cause → ⊥ }
+    ensures unsteady { (lag : ℕ) → IsSteady settings missed 41 41 55 0 (id 1) (id 2) lag → ⊥ }
+{}
