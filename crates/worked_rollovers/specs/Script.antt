@@ -1,5 +1,5 @@
--- The lines of a script. What each event shows is computed of the lives before it, by the
--- definitions of a station.
+-- The lines of a script. What ticks and announcements show is computed of the lives before them, by
+-- the definitions of a station; what the receive slots answer is told.
 use Rattle.std.specs.Prelude.{ℕ, zero, suc, ◌+◌, ◌-◌, List, [], ◌∷◌, ◌++◌, Bool, true, false}
 use Rattle.std.specs.Prelude.{cond, not, Option, Some, None, ◌==◌, ◌&&◌, option_map}
 use Rattle.std.specs.List.{list_any, filter}
