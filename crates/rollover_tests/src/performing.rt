@@ -56,7 +56,7 @@ pub(crate) fn ordered(
 }
 
 /// The top call with one word.
-pub fn perform(
+pub(crate) fn perform(
     alloc: Global,
     word: &str,
     text: &[u8],
@@ -66,12 +66,12 @@ pub fn perform(
 }
 
 /// A trace, whose parts are these texts.
-pub fn run(alloc: Global, parts: &[&str]) -> Result<Left, AllocError> {
+pub(crate) fn run(alloc: Global, parts: &[&str]) -> Result<Left, AllocError> {
     perform(alloc, "run", &joined(alloc, parts)?, STEADY)
 }
 
 /// Texts, one after the other.
-pub fn joined(alloc: Global, parts: &[&str]) -> Result<Vec<u8>, AllocError> {
+pub(crate) fn joined(alloc: Global, parts: &[&str]) -> Result<Vec<u8>, AllocError> {
     let mut all = Vec::new(alloc);
     for part in parts {
         all.extend_from_slice(part.as_bytes())?;
@@ -80,12 +80,12 @@ pub fn joined(alloc: Global, parts: &[&str]) -> Result<Vec<u8>, AllocError> {
 }
 
 /// The status of a refused line.
-pub fn refused(line: u32, kind: Kind) -> Status {
+pub(crate) fn refused(line: u32, kind: Kind) -> Status {
     Status::Halted(Halt::Trace { line, kind })
 }
 
 /// A transcript, each `frame` line cut behind its kind.
-pub fn cut(alloc: Global, transcript: &[u8]) -> Result<Vec<u8>, AllocError> {
+pub(crate) fn cut(alloc: Global, transcript: &[u8]) -> Result<Vec<u8>, AllocError> {
     let mut all = Vec::new(alloc);
     let mut begins = true;
     let mut is_frame = false;
@@ -108,7 +108,7 @@ pub fn cut(alloc: Global, transcript: &[u8]) -> Result<Vec<u8>, AllocError> {
 
 /// Whether lines stand together in a text, where `*` stands for one word; the last of them lacks its
 /// line feed.
-pub fn has(text: &[u8], lines: &str) -> bool {
+pub(crate) fn has(text: &[u8], lines: &str) -> bool {
     let mut left = text;
     for _ in text {
         if let Some([b'\n', ..]) = behind_front(left, lines) {
@@ -121,7 +121,7 @@ pub fn has(text: &[u8], lines: &str) -> bool {
 
 /// The first of these groups of lines, with an empty line between each two, that does not stand
 /// together in a text; nothing where each does.
-pub fn lacks<'a>(text: &[u8], groups: &'a str) -> &'a str {
+pub(crate) fn lacks<'a>(text: &[u8], groups: &'a str) -> &'a str {
     for group in groups.split("\n\n") {
         if !has(text, group) {
             return group;
@@ -131,7 +131,7 @@ pub fn lacks<'a>(text: &[u8], groups: &'a str) -> &'a str {
 }
 
 /// How many lines of a text begin so.
-pub fn count(text: &[u8], begin: &str) -> usize {
+pub(crate) fn count(text: &[u8], begin: &str) -> usize {
     let mut found = 0usize;
     let mut left = text;
     for _ in text {
