@@ -102,6 +102,33 @@ pub enum Fact {
         arrival: Arrival,
     },
 }
+
+impl Fact {
+    ghost use Rattle.std.specs.Prelude.{◌≡◌};
+    ghost use Rattle.lan_core.specs.Run.{place};
+
+    /// The place of the station that the fact speaks of.
+    pub fn place(&self) -> u8
+        ensures { result ≡ place self.now }
+    {
+        match self {
+            Fact::Life { station, .. }
+            | Fact::Ticked { station, .. }
+            | Fact::Server { station, .. }
+            | Fact::Dropped { station, .. }
+            | Fact::Retired { station, .. }
+            | Fact::Began { station, .. }
+            | Fact::Installed { station, .. }
+            | Fact::Untaken { station, .. }
+            | Fact::Framed { station, .. }
+            | Fact::HeardMka { station, .. }
+            | Fact::Claimed { station, .. }
+            | Fact::Unclaimed { station, .. }
+            | Fact::Arrived { station, .. } => *station,
+        }
+    }
+}
+
 /// The facts of one event, in their order. Contracts see it as the list.
 #[derive(Debug, Drop)]
 pub struct Facts {

@@ -7,8 +7,7 @@ ghost use Rattle.std.specs.List.{position_or_len, list_any};
 ghost use Rattle.std.specs.Option.{option_copied};
 ghost use Rattle.std.specs.Cmp.Lexicographic.{pointwise};
 ghost use Rattle.transcript.specs.Rendering.{transcript};
-ghost use Rattle.transcript.specs.Words.{place};
-ghost use Rattle.lan_core.specs.Run.{started};
+ghost use Rattle.lan_core.specs.Run.{place, started};
 ghost use Rattle.lan_core.specs.Types.{IsTyped};
 ghost use Rattle.gcm_frames.specs.Protected.{IsSci};
 ghost use Rattle.lan_base.specs.declared.frame.UserFrame.{UserFrame};
@@ -625,33 +624,12 @@ fn render_all(facts: &[Fact], names: &[Name], out: &mut Vec<u8>) -> Result<(), A
 {
     out.clear();
     for fact in facts {
-        if usize::from(station_of(fact)) >= names.len() {
+        if usize::from(fact.place()) >= names.len() {
             return Err(AllocError);
         }
         render(fact, out, names)?;
     }
     Ok(())
-}
-
-/// The place of the station that a fact tells of.
-fn station_of(fact: &Fact) -> u8
-    ensures { result ≡ place fact.now }
-{
-    match fact {
-        Fact::Life { station, .. }
-        | Fact::Ticked { station, .. }
-        | Fact::Server { station, .. }
-        | Fact::Dropped { station, .. }
-        | Fact::Retired { station, .. }
-        | Fact::Began { station, .. }
-        | Fact::Installed { station, .. }
-        | Fact::Untaken { station, .. }
-        | Fact::Framed { station, .. }
-        | Fact::HeardMka { station, .. }
-        | Fact::Claimed { station, .. }
-        | Fact::Unclaimed { station, .. }
-        | Fact::Arrived { station, .. } => *station,
-    }
 }
 
 /// Whether a line may only stand before the first station.

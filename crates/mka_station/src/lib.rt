@@ -25,7 +25,7 @@ pub use laws::{
     law_uses_show_the_keys,
 };
 pub use reaction::Reaction;
-pub use station::Station;
+pub use station::{Station, mi_of};
 pub use verdict::Verdict;
 
 #[cfg(test)]

@@ -677,8 +677,8 @@ impl Station {
     }
 }
 
-/// The member identifier that a draw gives.
-fn mi_of(draw: [u8; 16]) -> Mi
+/// The member identifier that a draw gives: its last 12 octets.
+pub fn mi_of(draw: [u8; 16]) -> Mi
     ensures { result ≡ drawn_mi draw }
 {
     let mut octets = [0; 12];

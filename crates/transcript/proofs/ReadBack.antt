@@ -3,7 +3,7 @@ use Rattle.std.proofs.Common.{◌≡◌, ℕ, ◌<◌, List, length, refl, sym, 
 use Rattle.std.specs.Prelude.{◌↔◌, Option, Some, None, IsSome, Result, Ok, Err, IfOk}
 use Rattle.lan_core.specs.declared.fact.Fact.{Fact}
 use Rattle.lan_core.specs.declared.fact.Fact.TheVariants.{Life, Ticked, Server, Dropped, Retired, Began, Installed, Untaken, Framed, HeardMka, Claimed, Unclaimed, Arrived}
-use Rattle.transcript.specs.Words.{place}
+use Rattle.lan_core.specs.Run.{place}
 use Rattle.transcript.specs.Rendering.{IsFact, Says, AreNames}
 use Rattle.transcript.specs.declared.fault.FactFault.{FactFault}
 use Rattle.transcript.specs.declared.fault.FactFault.TheVariants.{Unread, Memory}

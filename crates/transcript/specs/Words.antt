@@ -149,19 +149,3 @@ words (Claimed s an epoch pn) =
 words (Unclaimed s why) = text (codes "noclaim") ∷ station s ∷ lack_words why
 words (Arrived k s arrival) =
     text (codes "data") ∷ number 32 k ∷ station s ∷ arrival_words arrival
-
--- the place of the station that a fact speaks of
-abbrev pub place : Fact → ℕ
-place (Life s mi) = s
-place (Ticked s at next) = s
-place (Server s mi) = s
-place (Dropped s id an) = s
-place (Retired s id an) = s
-place (Began s id an epoch cause) = s
-place (Installed s id an epoch sak) = s
-place (Untaken s id why) = s
-place (Framed k s sec xs) = s
-place (HeardMka k s verdict) = s
-place (Claimed s an epoch pn) = s
-place (Unclaimed s why) = s
-place (Arrived k s arrival) = s

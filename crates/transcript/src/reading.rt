@@ -2,7 +2,7 @@
 
 ghost use Rattle.std.specs.Prelude.{◌≡◌, ◌<◌, ◌↔◌, ◌∷◌, ℕ, List, Ok, Err, IfOk, length};
 ghost use Rattle.lan_core.specs.declared.fact.Fact.{Fact};
-ghost use Rattle.transcript.specs.Words.{place};
+ghost use Rattle.lan_core.specs.Run.{place};
 ghost use Rattle.transcript.specs.Rendering.{Says, AreNames};
 ghost use Rattle.transcript.specs.inside.Reading.{along, fact_in, plain_tree};
 ghost use Rattle.transcript.specs.inside.Taking.{words_behind, Takes, Answers};

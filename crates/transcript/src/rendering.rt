@@ -4,7 +4,8 @@ ghost use Rattle.std.specs.Prelude.{◌≡◌, ◌<◌, ℕ, List, [], ◌∷◌
 ghost use Rattle.std.specs.List.{flat_map};
 ghost use Rattle.hex.specs.Hex.{encode_lower, lower_digits};
 ghost use Rattle.aes_block.specs.Secrets.{secret_octets};
-ghost use Rattle.transcript.specs.Words.{place, spelled, server_word, why_words, verdict_words, arrival_words, lack_words, cause_text, tag_text, frame_text};
+ghost use Rattle.lan_core.specs.Run.{place};
+ghost use Rattle.transcript.specs.Words.{spelled, server_word, why_words, verdict_words, arrival_words, lack_words, cause_text, tag_text, frame_text};
 ghost use Rattle.transcript.specs.Rendering.{rendered};
 ghost use Rattle.transcript.specs.inside.Appending.{Grew, word_text, line_of};
 
@@ -50,7 +51,7 @@ fn put_fact<'a>(fact: &'a Fact, into: &mut Vec<u8>, names: &'a [Name]) -> Result
     ensures ok { OnOk result (into.new.items ≡ into.old.items ++ rendered names.now fact.now) }
     ensures err { OnErr result (Grew into.old.items into.new.items) }
 {
-    let name = name_at(names, place(fact));
+    let name = name_at(names, fact.place());
     match fact {
         Fact::Life { mi, .. } => put(into, b"life", &[Word::Name(name), Word::Octets(&mi.0)], &[]),
         Fact::Ticked { at, next, .. } => put_ticked(into, name, *at, *next),
@@ -82,27 +83,6 @@ fn put_fact<'a>(fact: &'a Fact, into: &mut Vec<u8>, names: &'a [Name]) -> Result
         Fact::Claimed { an, epoch, pn, .. } => put_claimed(into, name, *an, *epoch, *pn),
         Fact::Unclaimed { why, .. } => put_unclaimed(into, name, *why),
         Fact::Arrived { frame, arrival, .. } => put_arrived(into, *frame, name, arrival),
-    }
-}
-
-/// The place of the station that a fact speaks of.
-fn place(fact: &Fact) -> u8
-    ensures { result ≡ place fact.now }
-{
-    match fact {
-        Fact::Life { station, .. }
-        | Fact::Ticked { station, .. }
-        | Fact::Server { station, .. }
-        | Fact::Dropped { station, .. }
-        | Fact::Retired { station, .. }
-        | Fact::Began { station, .. }
-        | Fact::Installed { station, .. }
-        | Fact::Untaken { station, .. }
-        | Fact::Framed { station, .. }
-        | Fact::HeardMka { station, .. }
-        | Fact::Claimed { station, .. }
-        | Fact::Unclaimed { station, .. }
-        | Fact::Arrived { station, .. } => *station,
     }
 }
 

@@ -3,7 +3,7 @@
 ghost use Rattle.std.specs.Prelude.{◌≡◌, ◌<◌, ◌≤◌, ◌+◌, ◌∷◌, ◌++◌, [], List, None, length, option_map, option_and_then, option_to_list, IfOk, OnOk, OnErr, IfErr};
 ghost use Rattle.std.specs.Option.{option_or};
 ghost use Rattle.lan_base.specs.declared.frame.UserFrame.{UserFrame};
-ghost use Rattle.mka_station.specs.Standing.{born, drawn_mi};
+ghost use Rattle.mka_station.specs.Standing.{born};
 ghost use Rattle.mka_station.specs.Drawing.{draws_for};
 ghost use Rattle.lan_core.specs.declared.event.Event.TheVariants as events;
 ghost use Rattle.lan_core.specs.declared.settings.Settings.{Settings};
@@ -26,8 +26,8 @@ use crate::member::Member;
 use crate::settings::group_of;
 use crate::stop::{Stop, Which};
 use crate::telling::one;
-use lan_base::{Draws, Mi, Name, Sci};
-use mka_station::Config;
+use lan_base::{Draws, Name, Sci};
+use mka_station::{Config, mi_of};
 use std::alloc::AllocError;
 
 impl Lan {
@@ -158,13 +158,4 @@ fn add_name(names: &mut Vec<Name>, name: Name) -> Result<(), AllocError>
 {
     names.push(name)?;
     Ok(())
-}
-
-/// The member identifier that a draw gives: its last 12 octets.
-fn mi_of(draw: [u8; 16]) -> Mi
-    ensures { result ≡ drawn_mi draw }
-{
-    let mut octets = [0; 12];
-    octets.copy_from_slice(&draw[4..]);
-    Mi(octets)
 }
