@@ -1,5 +1,6 @@
 -- MixColumns is undone by the product with the inverse polynomial.
 use Rattle.std.proofs.Common.{◌≡◌, ℕ, ◌<◌, Bool, true, false, ◌&&◌, eqb, List, [], ◌∷◌, ◌++◌, take, drop, map, length, refl, sym, ap, subst, ◌∙◌, arith, bit_xor}
+use Rattle.std.specs.Prelude.{slice_index}
 use Rattle.std.specs.List.{list_all}
 use Rattle.std.specs.Int.Bits.{xor_zero_r}
 use Rattle.std.proofs.lemmas.Bool.{and_parts, eqb-true, false≢true}
@@ -9,7 +10,7 @@ use Rattle.aes_block.specs.Octet.{octets_sum, octets, times}
 use Rattle.aes_block.specs.State.{mixed_column}
 use Rattle.aes_block.proofs.EachOctet.{at_octet}
 use Rattle.aes_block.proofs.Octets.{AreOctets}
-use Rattle.aes_block.proofs.Doubled.{times_2-lt, times_2-xor, times_3}
+use Rattle.aes_block.proofs.Doubled.{shifted, times_2, times_2-lt, times_2-xor, times_3}
 
 -- ---- sums
 
@@ -126,14 +127,60 @@ linear-mixed_column = record { keeps = keeps; adds = adds }
 
 -- ---- the inverse
 
+-- the product with 4 x ^ 2 + 5, the square of the polynomial of a mixed column
+abbrev by_square : List ℕ → List ℕ
+by_square u = octets_sum u (map (times 2) (map (times 2) (octets_sum u (turned u))))
+
+linear-by_square : IsLinear by_square
+linear-by_square =
+    linear-sum _ _ linear-itself
+    (linear-after (map (times 2)) _ linear-doubled (linear-after (map (times 2)) _ linear-doubled (linear-sum _ _ linear-itself linear-turned)))
+
 -- a column before it is mixed: the product with 4 x ^ 2 + 5, and then with the polynomial of a mixed column (5.3.3)
 abbrev pub inv_mixed_column : List ℕ → List ℕ
-inv_mixed_column u = mixed_column (octets_sum u (map (times 2) (map (times 2) (octets_sum u (turned u)))))
+inv_mixed_column u = mixed_column (by_square u)
 
 pub linear-inv_mixed_column : IsLinear inv_mixed_column
 linear-inv_mixed_column =
-    let across = linear-after (map (times 2)) _ linear-doubled (linear-after (map (times 2)) _ linear-doubled (linear-sum _ _ linear-itself linear-turned)) in
-    linear-after mixed_column _ linear-mixed_column (linear-sum _ _ linear-itself across)
+    linear-after mixed_column by_square linear-mixed_column linear-by_square
+
+-- ---- the same by shifts, which is quicker to compute than products
+
+-- a column times a polynomial of degree 3, octet by octet, from the octets' doubles
+abbrev mixed_row : ℕ → ℕ → ℕ → ℕ → ℕ
+mixed_row a b c d = bit_xor (bit_xor (bit_xor (shifted a) (bit_xor b (shifted b))) c) d
+
+abbrev mixed_octets : ℕ → ℕ → ℕ → ℕ → List ℕ
+mixed_octets a b c d = mixed_row a b c d ∷ mixed_row b c d a ∷ mixed_row c d a b ∷ mixed_row d a b c ∷ []
+
+mixed_by_shifts : List ℕ → List ℕ
+mixed_by_shifts u = mixed_octets (slice_index u 0) (slice_index u 1) (slice_index u 2) (slice_index u 3)
+
+is_mixed_by_shifts : (u : List ℕ) → IsFour u → mixed_column u ≡ mixed_by_shifts u
+unfolding mixed_column mixed_by_shifts
+is_mixed_by_shifts u (four {a} {b} {c} {d} fa fb fc fd) =
+    let two_a = times_2 a fa in
+    let two_b = times_2 b fb in
+    let two_c = times_2 c fc in
+    let two_d = times_2 d fd in
+    let three_a = times_3 a fa ∙ ap (bit_xor a) two_a in
+    let three_b = times_3 b fb ∙ ap (bit_xor b) two_b in
+    let three_c = times_3 c fc ∙ ap (bit_xor c) two_c in
+    let three_d = times_3 d fd ∙ ap (bit_xor d) two_d in
+    λ i. bit_xor (bit_xor (bit_xor (two_a i) (three_b i)) c) d ∷ bit_xor (bit_xor (bit_xor (two_b i) (three_c i)) d) a
+    ∷ bit_xor (bit_xor (bit_xor (two_c i) (three_d i)) a) b ∷ bit_xor (bit_xor (bit_xor (two_d i) (three_a i)) b) c ∷ []
+
+doubled_by_shifts : (u : List ℕ) → IsFour u → map (times 2) u ≡ map shifted u
+doubled_by_shifts u (four fa fb fc fd) = λ i. times_2 _ fa i ∷ times_2 _ fb i ∷ times_2 _ fc i ∷ times_2 _ fd i ∷ []
+
+square_by_shifts : List ℕ → List ℕ
+square_by_shifts u = octets_sum u (map shifted (map shifted (octets_sum u (turned u))))
+
+is_square_by_shifts : (u : List ℕ) → IsFour u → by_square u ≡ square_by_shifts u
+unfolding square_by_shifts
+is_square_by_shifts u h =
+    let once = IsFour-sum h (linear-turned.keeps u h) in
+    ap (octets_sum u) (doubled_by_shifts _ (linear-doubled.keeps _ once) ∙ ap (map shifted) (doubled_by_shifts _ once))
 
 -- whether two lists are equal
 abbrev same : List ℕ → List ℕ → Bool
@@ -173,28 +220,40 @@ given_back f place tests n fits = same-true (f (place n)) (place n) (at_octet (�
 apart : (a b c d : ℕ) → octets_sum (octets_sum (in_row_0 a) (in_row_1 b)) (octets_sum (in_row_2 c) (in_row_3 d)) ≡ a ∷ b ∷ c ∷ d ∷ []
 apart a b c d = λ i. (ap (λ x. bit_xor x 0) (xor_zero_r a) ∙ xor_zero_r a) i ∷ xor_zero_r b i ∷ xor_zero_r c i ∷ d ∷ []
 
--- a linear function that gives back each octet alone gives back every column
-identity : (f : List ℕ → List ℕ) → IsLinear f → GivesBack f in_row_0 → GivesBack f in_row_1 → GivesBack f in_row_2 → GivesBack f in_row_3
+-- a linear function gives back every column if what it is equal to gives back each octet alone
+identity : (f g : List ℕ → List ℕ) → IsLinear f → ((u : List ℕ) → IsFour u → f u ≡ g u)
+    → GivesBack g in_row_0 → GivesBack g in_row_1 → GivesBack g in_row_2 → GivesBack g in_row_3
     → (u : List ℕ) → IsFour u → f u ≡ u
-identity f linear tests_0 tests_1 tests_2 tests_3 u (four {a} {b} {c} {d} fa fb fc fd) =
+identity f g linear is tests_0 tests_1 tests_2 tests_3 u (four {a} {b} {c} {d} fa fb fc fd) =
     let none : 0 < 256 = omega arith in
     let alone_a = four fa none none none in
     let alone_b = four none fb none none in
     let alone_c = four none none fc none in
     let alone_d = four none none none fd in
+    let back_a = is (in_row_0 a) alone_a ∙ given_back g in_row_0 tests_0 a fa in
+    let back_b = is (in_row_1 b) alone_b ∙ given_back g in_row_1 tests_1 b fb in
+    let back_c = is (in_row_2 c) alone_c ∙ given_back g in_row_2 tests_2 c fc in
+    let back_d = is (in_row_3 d) alone_d ∙ given_back g in_row_3 tests_3 d fd in
     ap f (sym (apart a b c d))
     ∙ linear.adds (octets_sum (in_row_0 a) (in_row_1 b)) (octets_sum (in_row_2 c) (in_row_3 d)) (IsFour-sum alone_a alone_b) (IsFour-sum alone_c alone_d)
     ∙ (λ i. octets_sum (linear.adds (in_row_0 a) (in_row_1 b) alone_a alone_b i) (linear.adds (in_row_2 c) (in_row_3 d) alone_c alone_d i))
-    ∙ (λ i. octets_sum (octets_sum (given_back f in_row_0 tests_0 a fa i) (given_back f in_row_1 tests_1 b fb i))
-    (octets_sum (given_back f in_row_2 tests_2 c fc i) (given_back f in_row_3 tests_3 d fd i)))
+    ∙ (λ i. octets_sum (octets_sum (back_a i) (back_b i)) (octets_sum (back_c i) (back_d i)))
     ∙ apart a b c d
 
 pub mixed_column-inv_mixed_column : (u : List ℕ) → IsFour u → mixed_column (inv_mixed_column u) ≡ u
-unfolding mixed_column times
+unfolding mixed_by_shifts square_by_shifts
 mixed_column-inv_mixed_column =
-    identity (λ u. mixed_column (inv_mixed_column u)) (linear-after mixed_column inv_mixed_column linear-mixed_column linear-inv_mixed_column) refl refl refl refl
+    identity (λ u. mixed_column (inv_mixed_column u)) (λ u. mixed_by_shifts (mixed_by_shifts (square_by_shifts u)))
+    (linear-after mixed_column inv_mixed_column linear-mixed_column linear-inv_mixed_column)
+    (λ u h. is_mixed_by_shifts _ (linear-inv_mixed_column.keeps u h)
+    ∙ ap mixed_by_shifts (is_mixed_by_shifts _ (linear-by_square.keeps u h) ∙ ap mixed_by_shifts (is_square_by_shifts u h)))
+    refl refl refl refl
 
 pub inv_mixed_column-mixed_column : (u : List ℕ) → IsFour u → inv_mixed_column (mixed_column u) ≡ u
-unfolding mixed_column times
+unfolding mixed_by_shifts square_by_shifts
 inv_mixed_column-mixed_column =
-    identity (λ u. inv_mixed_column (mixed_column u)) (linear-after inv_mixed_column mixed_column linear-inv_mixed_column linear-mixed_column) refl refl refl refl
+    identity (λ u. inv_mixed_column (mixed_column u)) (λ u. mixed_by_shifts (square_by_shifts (mixed_by_shifts u)))
+    (linear-after inv_mixed_column mixed_column linear-inv_mixed_column linear-mixed_column)
+    (λ u h. is_mixed_by_shifts _ (linear-by_square.keeps _ (linear-mixed_column.keeps u h))
+    ∙ ap mixed_by_shifts (is_square_by_shifts _ (linear-mixed_column.keeps u h) ∙ ap square_by_shifts (is_mixed_by_shifts u h)))
+    refl refl refl refl
