@@ -1,9 +1,10 @@
 pub mod Sums
 pub mod EachOctet
 pub mod Octets
+pub mod Doubled
+pub mod ByBits
 pub mod Inverses
 pub mod SBox
-pub mod Doubled
 pub mod Words
 pub mod Mixing
 pub mod MixedWords

@@ -1,14 +1,16 @@
 -- The tables of the S-box and its inverse are what FIPS 197 defines, entry by entry.
 use Rattle.std.proofs.Common.{◌≡◌, ℕ, ◌<◌, refl, sym, ap, subst, ◌∙◌}
 use Rattle.std.specs.Prelude.{slice_index}
-use Rattle.aes_block.specs.Octet.{times, inverse, affine, sub_octet}
+use Rattle.aes_block.specs.Octet.{affine, sub_octet, terms}
 use Rattle.aes_block.specs.declared.s_box.TheConstants.{S_BOX, INVERSE_S_BOX}
+use Rattle.aes_block.proofs.ByBits.{by_bits, inverse_by_bits, inverse-by_bits}
 use Rattle.aes_block.proofs.EachOctet.{equal_at_octet, below_at_octet}
 
 -- the table of the S-box
 pub entry : (n : ℕ) → n < 256 → slice_index S_BOX n ≡ sub_octet n
-unfolding times inverse affine sub_octet
-entry = equal_at_octet (slice_index S_BOX) sub_octet refl
+unfolding by_bits inverse_by_bits affine sub_octet
+entry n fits =
+    equal_at_octet (slice_index S_BOX) (λ k. affine (inverse_by_bits (terms k))) refl n fits ∙ ap affine (sym (inverse-by_bits n))
 
 entry-lt : (n : ℕ) → n < 256 → slice_index S_BOX n < 256
 entry-lt = below_at_octet (slice_index S_BOX) 256 refl

@@ -1,6 +1,6 @@
 //! The key expansion, a word at a time (FIPS 197, section 5.2).
 
-ghost use Rattle.std.specs.Prelude.{ℕ, ◌≡◌, ◌+◌, ◌*◌, ◌/◌, ◌<◌, ◌≤◌, List, length, map, take};
+ghost use Rattle.std.specs.Prelude.{◌≡◌, ◌/◌, ◌<◌, ◌≤◌, length, map, take};
 ghost use Rattle.aes_block.specs.Column.{octets_of};
 ghost use Rattle.aes_block.specs.Expansion.{addend, expansion, key_words, next_word, sub_word};
 
