@@ -1,4 +1,4 @@
-ghost use Rattle.std.specs.Prelude.{◌≡◌, ◌↔◌, ◌≤◌, length, take, IfOk};
+ghost use Rattle.std.specs.Prelude.{◌≡◌, ◌↔◌, ◌≤◌, length, IfOk};
 ghost use Rattle.mka_kdf.specs.declared.group.GroupFault.TheVariants.{Memory};
 ghost use Rattle.mka_kdf.specs.Kdf.{HasWrongLength, context_of, derived, ick_of, kek_of};
 ghost use Rattle.aes_block.specs.Secrets.{secret_octets};
