@@ -1,6 +1,6 @@
 //! The hash of GCM (SP 800-38D, section 6.4).
 
-ghost use Rattle.std.specs.Prelude.{◌≡◌, ℕ, ◌+◌, ◌-◌, ◌≤◌, ◌++◌, length, replicate};
+ghost use Rattle.std.specs.Prelude.{◌≡◌, ◌+◌, ◌-◌, ◌≤◌, ◌++◌, length, replicate};
 ghost use Rattle.gcm_core.specs.Blocks.{block_bits, block_octets, blocks_of, padded};
 ghost use Rattle.gcm_core.specs.Ghash.{ghash};
 ghost use Rattle.gcm_core.specs.Gcm.{hashed, lengths};
