@@ -3,7 +3,6 @@ pub mod Opening
 pub mod Parts
 pub mod Reopened
 pub mod Reread
-pub mod Rooms
 pub mod Sealing
 pub mod Validated
 pub mod Within

@@ -2,4 +2,3 @@ pub mod Protected
 pub mod Tags
 pub mod Written
 pub mod Sealed
-pub mod inside

@@ -4,7 +4,6 @@
 
 mod laws;
 mod protecting;
-mod room;
 mod tag;
 mod tagging;
 mod validating;

@@ -2,12 +2,11 @@
 
 ghost use Rattle.std.specs.Prelude.{◌≡◌, ◌+◌, ◌<◌, ◌≤◌, ◌++◌, Bool, List, ℕ, length, take, drop, vec_len, vec_capacity};
 ghost use Rattle.gcm_frames.specs.Protected.{control_octet, short_length, sec_tag, head_octets, iv, protected, sealed_octets};
-ghost use Rattle.gcm_frames.specs.inside.Room.{HasRoom, Puts};
+ghost use Rattle.lan_base.specs.Room.{HasRoom, Puts};
 
-use crate::room::put;
 use aes_block::Key;
 use gcm_core::seal;
-use lan_base::{Mac, Sci, UserFrame};
+use lan_base::{Mac, Sci, UserFrame, put};
 
 /// The EtherType of MACsec.
 const ETHER_TYPE: [u8; 2] = [0x88, 0xe5];
@@ -49,7 +48,7 @@ pub(crate) fn iv_of(sci: Sci, pn: u32) -> [u8; 12]
 }
 
 /// Appends the SecTAG before so many octets of secure data.
-#[tactic(auto, using(crate::proofs::Rooms::room_in_front, crate::proofs::Rooms::room_behind, crate::proofs::Rooms::put_then))]
+#[tactic(auto, using(lan_base::proofs::Rooms::pieces))]
 fn put_sec_tag(sci: Sci, an: u8, pn: u32, conf: bool, count: usize, into: &mut Vec<u8>)
     requires an { an < 4 }
     requires room { HasRoom into.old (sec_tag sci an pn conf count) }
@@ -65,7 +64,7 @@ fn put_sec_tag(sci: Sci, an: u8, pn: u32, conf: bool, count: usize, into: &mut V
 }
 
 /// Appends what stands before the secure data: addresses and SecTAG.
-#[tactic(auto, using(crate::proofs::Rooms::room_in_front, crate::proofs::Rooms::room_behind, crate::proofs::Rooms::put_then))]
+#[tactic(auto, using(lan_base::proofs::Rooms::pieces))]
 fn put_head(sci: Sci, an: u8, pn: u32, conf: bool, user: &UserFrame, into: &mut Vec<u8>)
     requires an { an < 4 }
     requires room { HasRoom into.old (head_octets sci an pn conf user.now) }

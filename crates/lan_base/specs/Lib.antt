@@ -10,4 +10,5 @@ pub mod Told
 pub mod Faults
 pub mod InMemory
 pub mod Stream
+pub mod Room
 pub mod inside

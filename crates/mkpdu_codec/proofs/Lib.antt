@@ -1,4 +1,4 @@
-pub mod Rooms
+pub mod PeerRoom
 pub mod Taking
 pub mod Loops
 pub mod Header

@@ -3,7 +3,7 @@
 ghost use Rattle.std.specs.Prelude.{◌≡◌, ◌≤◌, ◌+◌, length, IfSome};
 ghost use Rattle.mkpdu_codec.specs.Fields.{basic_in, basic_at};
 ghost use Rattle.mkpdu_codec.specs.Refusals.{is_basic_length};
-ghost use Rattle.mkpdu_codec.specs.inside.Room.{HasRoom, Puts};
+ghost use Rattle.lan_base.specs.Room.{HasRoom, Puts};
 ghost use Rattle.mkpdu_codec.specs.Sets.{basic_body};
 ghost use Rattle.mkpdu_codec.specs.Written.{basic_set};
 ghost use Rattle.mkpdu_codec.specs.inside.Views.{Finds, set_of, basics_of};
@@ -11,9 +11,8 @@ ghost use Rattle.mkpdu_codec.specs.inside.Views.{Finds, set_of, basics_of};
 use crate::announcement::Announcement;
 use crate::fields::{read_mi, read_number, read_sci};
 use crate::layout::AGILITY;
-use crate::room::put;
 use crate::set::{ParameterSet, put_header, put_padding, read_set, set_len};
-use lan_base::{Mi, Sci};
+use lan_base::{Mi, Sci, put};
 
 /// What the set says.
 #[derive(Clone, Copy, Debug)]
@@ -54,7 +53,7 @@ pub fn basic_len(announcement: &Announcement) -> usize
 }
 
 /// Writes the body: SCI, member identifier, message number, agility, and the name of the key.
-#[tactic(auto, using(crate::proofs::Rooms::room_in_front, crate::proofs::Rooms::room_behind, crate::proofs::Rooms::put_then))]
+#[tactic(auto, using(lan_base::proofs::Rooms::pieces))]
 fn put_body(announcement: &Announcement, into: &mut Vec<u8>)
     requires { HasRoom into.old (basic_body announcement.now.sci.0 announcement.now.mi.0 announcement.now.mn announcement.now.ckn) }
     ensures { Puts into.old into.new (basic_body announcement.now.sci.0 announcement.now.mi.0 announcement.now.mn announcement.now.ckn) }
@@ -67,7 +66,7 @@ fn put_body(announcement: &Announcement, into: &mut Vec<u8>)
 }
 
 /// Writes the set: of version 1, MACsec desired, with MACsec capability 2.
-#[tactic(auto, using(crate::proofs::Rooms::room_in_front, crate::proofs::Rooms::room_behind, crate::proofs::Rooms::put_then))]
+#[tactic(auto, using(lan_base::proofs::Rooms::pieces))]
 pub fn put_basic(announcement: &Announcement, into: &mut Vec<u8>)
     requires name { length announcement.now.ckn ≤ 32 }
     requires room { HasRoom into.old (basic_set announcement.now) }

@@ -2,7 +2,7 @@
 
 ghost use Rattle.std.specs.Prelude.{◌≡◌, ◌≤◌, ◌<◌, ◌+◌, ◌++◌, IfSome, length};
 ghost use Rattle.mkpdu_codec.specs.Fields.{given_in, key_in, wide_in};
-ghost use Rattle.mkpdu_codec.specs.inside.Room.{HasRoom, Puts};
+ghost use Rattle.lan_base.specs.Room.{HasRoom, Puts};
 ghost use Rattle.mkpdu_codec.specs.Sets.{given_body, given_flags, set};
 ghost use Rattle.mkpdu_codec.specs.Written.{given_set, IsWritableGiven};
 ghost use Rattle.mkpdu_codec.specs.inside.Views.{Finds, seen};
@@ -10,8 +10,8 @@ ghost use Rattle.mkpdu_codec.specs.inside.Views.{Finds, seen};
 use crate::fields::read_number;
 use crate::given::Given;
 use crate::layout::DISTRIBUTED_SAK;
-use crate::room::put;
 use crate::set::{ParameterSet, put_header, put_padding, set_len};
+use lan_base::put;
 
 /// The identifier of the cipher suite GCM-AES-256.
 const GCM_AES_256: [u8; 8] = [0x00, 0x80, 0xc2, 0x00, 0x01, 0x00, 0x00, 0x02];
@@ -29,7 +29,7 @@ pub fn given_len(given: Option<Given>) -> usize
 }
 
 /// Writes a set: its second octet, key number, the suite's identifier, and the wrapped key.
-#[tactic(auto, using(crate::proofs::Rooms::room_in_front, crate::proofs::Rooms::room_behind, crate::proofs::Rooms::put_then))]
+#[tactic(auto, using(lan_base::proofs::Rooms::pieces))]
 fn put_key(second: u8, number: u32, suite: &[u8], wrapped: &[u8], into: &mut Vec<u8>)
     requires short { length suite.now + length wrapped.now < 64 }
     requires room { HasRoom into.old (set 4 second 0 (given_body number (suite.now ++ wrapped.now))) }

@@ -15,7 +15,6 @@ mod peer;
 mod peer_list;
 mod reading;
 mod refusal;
-mod room;
 mod sak_use;
 mod set;
 mod spelled;

@@ -3,15 +3,15 @@
 
 ghost use Rattle.std.specs.Prelude.{◌≡◌, ◌≤◌, ◌<◌, ◌+◌, ◌*◌, length, IfOk};
 ghost use Rattle.mkpdu_codec.specs.Fields.{entry_at, entries_at, peers_in};
-ghost use Rattle.mkpdu_codec.specs.inside.Room.{HasRoom, Puts};
+ghost use Rattle.lan_base.specs.Room.{HasRoom, Puts};
 ghost use Rattle.mkpdu_codec.specs.Sets.{peer, peers_body};
 ghost use Rattle.mkpdu_codec.specs.Written.{peers_set};
 ghost use Rattle.mkpdu_codec.specs.inside.Views.{Finds, set_of, seen};
 
 use crate::fields::{read_mi, read_number};
 use crate::peer::{Peer, Peers};
-use crate::room::put;
 use crate::set::{ParameterSet, put_header, set_len};
+use lan_base::put;
 use std::alloc::{AllocError, Global};
 
 /// How many octets an entry has.
@@ -48,7 +48,7 @@ pub fn peers_len(kind: u8, peers: &Peers) -> usize
 }
 
 /// Writes an entry: a member identifier and a message number.
-#[tactic(auto, using(crate::proofs::Rooms::room_in_front, crate::proofs::Rooms::room_behind, crate::proofs::Rooms::put_then))]
+#[tactic(auto, using(lan_base::proofs::Rooms::pieces))]
 fn put_entry(entry: Peer, into: &mut Vec<u8>)
     requires { HasRoom into.old (peer entry) }
     ensures { Puts into.old into.new (peer entry) }
@@ -68,7 +68,7 @@ fn put_body(peers: &[Peer], into: &mut Vec<u8>)
 }
 
 /// Writes the set of one of the two types, where there are peers.
-#[tactic(auto, using(crate::proofs::Rooms::room_in_front, crate::proofs::Rooms::room_behind, crate::proofs::Rooms::put_then))]
+#[tactic(auto, using(lan_base::proofs::Rooms::pieces))]
 pub fn put_peers(kind: u8, peers: &Peers, into: &mut Vec<u8>)
     requires few { length peers.now ≤ 80 }
     requires room { HasRoom into.old (peers_set kind peers.now) }

@@ -2,7 +2,7 @@
 
 ghost use Rattle.std.specs.Prelude.{◌≡◌, ◌≤◌, ◌<◌, IfSome, length};
 ghost use Rattle.mkpdu_codec.specs.Fields.{key_at, uses_in};
-ghost use Rattle.mkpdu_codec.specs.inside.Room.{HasRoom, Puts};
+ghost use Rattle.lan_base.specs.Room.{HasRoom, Puts};
 ghost use Rattle.mkpdu_codec.specs.Sets.{use_body, use_flags, uses_body, uses_flags};
 ghost use Rattle.mkpdu_codec.specs.Written.{uses_set};
 ghost use Rattle.mkpdu_codec.specs.inside.Views.{Finds, set_of, seen};
@@ -10,8 +10,8 @@ ghost use Rattle.mkpdu_codec.specs.inside.Views.{Finds, set_of, seen};
 use crate::fields::{read_mi, read_number};
 use crate::key_use::{KeyUse, Uses};
 use crate::layout::SAK_USE;
-use crate::room::put;
 use crate::set::{ParameterSet, put_header, set_len};
+use lan_base::put;
 
 /// How many octets the body has.
 fn body_len(uses: Uses) -> usize
@@ -42,7 +42,7 @@ fn flags_of(key: &KeyUse) -> u8
 }
 
 /// Writes one key: the server, the key number, and the lowest acceptable packet number.
-#[tactic(auto, using(crate::proofs::Rooms::room_in_front, crate::proofs::Rooms::room_behind, crate::proofs::Rooms::put_then))]
+#[tactic(auto, using(lan_base::proofs::Rooms::pieces))]
 fn put_key(key: &KeyUse, into: &mut Vec<u8>)
     requires { HasRoom into.old (use_body key.now) }
     ensures { Puts into.old into.new (use_body key.now) }
@@ -53,7 +53,7 @@ fn put_key(key: &KeyUse, into: &mut Vec<u8>)
 }
 
 /// Writes the latest key, and then the old one.
-#[tactic(auto, using(crate::proofs::Rooms::room_in_front, crate::proofs::Rooms::room_behind, crate::proofs::Rooms::put_then))]
+#[tactic(auto, using(lan_base::proofs::Rooms::pieces))]
 fn put_body(uses: &Uses, into: &mut Vec<u8>)
     requires { HasRoom into.old (uses_body uses.now) }
     ensures { Puts into.old into.new (uses_body uses.now) }
@@ -63,7 +63,7 @@ fn put_body(uses: &Uses, into: &mut Vec<u8>)
 }
 
 /// Writes the set, where there is one.
-#[tactic(auto, using(crate::proofs::Rooms::room_in_front, crate::proofs::Rooms::room_behind, crate::proofs::Rooms::put_then))]
+#[tactic(auto, using(lan_base::proofs::Rooms::pieces))]
 pub fn put_uses(uses: &Option<Uses>, into: &mut Vec<u8>)
     requires an { IfSome uses.now (λ u. (u.latest.an < 4) × (u.old.an < 4)) }
     requires room { HasRoom into.old (uses_set uses.now) }

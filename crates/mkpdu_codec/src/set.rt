@@ -1,12 +1,12 @@
 //! What every parameter set has: a header of four octets, a body, and padding.
 
 ghost use Rattle.std.specs.Prelude.{◌≡◌, ◌<◌, ◌+◌, ◌*◌, ◌^◌, length, replicate};
-ghost use Rattle.mkpdu_codec.specs.inside.Room.{HasRoom, Puts};
+ghost use Rattle.lan_base.specs.Room.{HasRoom, Puts};
 ghost use Rattle.mkpdu_codec.specs.Sets.{header, missing, set_length};
 ghost use Rattle.mkpdu_codec.specs.Fields.{set_at};
 ghost use Rattle.mkpdu_codec.specs.inside.Views.{Finds, set_of};
 
-use crate::room::put;
+use lan_base::put;
 
 /// A parameter set as it stands in a frame: its type, its second octet, the four flags of its
 /// third, and its body.

@@ -1,7 +1,7 @@
 //! An announcement as the octets of a frame.
 
 ghost use Rattle.std.specs.Prelude.{◌≡◌, ◌≤◌, ◌<◌, ℕ, ◌+◌, ◌*◌, ◌++◌, ◌^◌, List, length, IsOk, IfSome, OnOk, OnErr};
-ghost use Rattle.mkpdu_codec.specs.inside.Room.{HasRoom, Puts};
+ghost use Rattle.lan_base.specs.Room.{HasRoom, Puts};
 ghost use Rattle.std.specs.Vec.{vec_capacity};
 ghost use Rattle.mkpdu_codec.specs.Sets.{IsKey};
 ghost use Rattle.mkpdu_codec.specs.Written.{frame_header, sets, written, most_written, IsWritable};
@@ -14,9 +14,8 @@ use crate::given::Given;
 use crate::key_use::{KeyUse, Uses};
 use crate::layout::{CHECK_LEN, LIVE_PEERS, POTENTIAL_PEERS};
 use crate::peer_list::{peers_len, put_peers};
-use crate::room::put;
 use crate::sak_use::{put_uses, uses_len};
-use lan_base::{Mac, Mi, Sci};
+use lan_base::{Mac, Mi, Sci, put};
 use std::alloc::AllocError;
 
 /// The group address that MKA frames are sent to.
@@ -47,7 +46,7 @@ fn sets_len(announcement: &Announcement) -> usize
 }
 
 /// Writes the octets before the parameter sets, with the length of the EAPOL body.
-#[tactic(auto, using(crate::proofs::Rooms::room_in_front, crate::proofs::Rooms::room_behind, crate::proofs::Rooms::put_then))]
+#[tactic(auto, using(lan_base::proofs::Rooms::pieces))]
 fn put_header(source: Mac, length: u16, into: &mut Vec<u8>)
     requires { HasRoom into.old (frame_header source.0 length) }
     ensures { Puts into.old into.new (frame_header source.0 length) }
@@ -59,7 +58,7 @@ fn put_header(source: Mac, length: u16, into: &mut Vec<u8>)
 }
 
 /// Writes the parameter sets, in their order.
-#[tactic(auto, using(crate::proofs::Rooms::room_in_front, crate::proofs::Rooms::room_behind, crate::proofs::Rooms::put_then))]
+#[tactic(auto, using(lan_base::proofs::Rooms::pieces))]
 fn put_sets(announcement: &Announcement, into: &mut Vec<u8>)
     requires writable { IsWritable announcement.now }
     requires room { HasRoom into.old (sets announcement.now) }
@@ -122,7 +121,7 @@ pub fn written_len(announcement: &Announcement) -> usize
 }
 
 /// Appends the frame of an announcement without its check value, which is to be appended behind it.
-#[tactic(auto, using(crate::proofs::Rooms::room_in_front, crate::proofs::Rooms::room_behind, crate::proofs::Rooms::put_then))]
+#[tactic(auto, using(lan_base::proofs::Rooms::pieces))]
 pub fn write(announcement: &Announcement, into: &mut Vec<u8>) -> Result<(), AllocError>
     requires { IsWritable announcement.now }
 

@@ -1,4 +1,4 @@
-use Rattle.mkpdu_codec.proofs.Rooms.{room_for_peer}
+use Rattle.mkpdu_codec.proofs.PeerRoom.{room_for_peer}
 use Rattle.mkpdu_codec.proofs.peer_list.put_body.Goals as goal
 
 pub put_entry-requires : goal.put_entry-requires

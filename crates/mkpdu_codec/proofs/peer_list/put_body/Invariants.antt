@@ -1,5 +1,5 @@
 use Rattle.std.proofs.Common.{take}
-use Rattle.mkpdu_codec.specs.inside.Room.{Puts}
+use Rattle.lan_base.specs.Room.{Puts}
 use Rattle.mkpdu_codec.specs.Sets.{peers_body}
 use Rattle.mkpdu_codec.proofs.peer_list.put_body.Given as goal
 

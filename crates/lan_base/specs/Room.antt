@@ -1,4 +1,4 @@
--- Appending to a vector that has room.
+-- Appending to a vector that has room (this profile's own rule).
 use Rattle.std.specs.Prelude.{◌≡◌, ◌≤◌, ℕ, ◌+◌, List, ◌++◌, length}
 use Rattle.std.specs.Vec.{vec_capacity}
 use Rattle.std.specs.Global.{Vec}
