@@ -5,7 +5,7 @@ ghost use Rattle.lan_base.specs.Faults.{one_more};
 ghost use Rattle.lan_base.specs.InMemory.{is_listed, failures};
 
 use crate::octets::Octets;
-use crate::sink::{Sink, Unwritten};
+use crate::sink::{Sink, Unwritten, hold};
 use crate::source::{Failed, Source};
 use std::alloc::Global;
 use std::marker::Model;
@@ -161,8 +161,7 @@ impl Sink for MemorySink {
             return Err(Unwritten::Failed);
         }
         let count = piece.len().min(self.piece);
-        self.octets.extend(&piece[..count])?;
-        Ok(count)
+        hold(&mut self.octets, &piece[..count])
     }
 }
 

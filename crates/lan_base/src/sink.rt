@@ -1,9 +1,10 @@
 //! Where octets go.
 
-ghost use Rattle.std.specs.Prelude.{◌≡◌, ◌<◌, ◌≤◌, List, ℕ, Option, Err, length, take, IfOk, OnOk, OnErr};
+ghost use Rattle.std.specs.Prelude.{◌≡◌, ◌<◌, ◌≤◌, ◌++◌, List, ℕ, Option, Err, length, take, IfOk, IfErr, OnOk, OnErr};
 ghost use Rattle.lan_base.specs.Faults.{Rose};
 ghost use Rattle.lan_base.specs.Told.{after};
 
+use crate::octets::Octets;
 use std::alloc::AllocError;
 use thiserror::Error;
 
@@ -47,6 +48,17 @@ pub trait Sink {
         ensures failed { result ≡ Err Unwritten.Failed → Rose (faults self.old) (faults self.new) }
         ensures kept { OnErr result (held self.new ≡ held self.old) }
         ensures counts { faults self.old ≤ faults self.new };
+}
+
+/// Appends a piece to the octets that a sink holds, and answers how long it is.
+pub(crate) fn hold(octets: &mut Octets, piece: &[u8]) -> Result<usize, Unwritten>
+    ensures count { IfOk result (λ n. n ≡ length piece.now) }
+    ensures ok { OnOk result (octets.new ≡ octets.old ++ piece.now) }
+    ensures err { OnErr result (octets.new ≡ octets.old) }
+    ensures memory { IfErr result (λ why. why ≡ Unwritten.Memory) }
+{
+    octets.extend(piece)?;
+    Ok(piece.len())
 }
 
 /// Writes a whole piece, by as many calls as it takes. An error leaves a prefix of it written.

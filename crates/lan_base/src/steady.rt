@@ -3,7 +3,7 @@
 ghost use Rattle.std.specs.Prelude.{◌≡◌, ◌<◌, ◌≢◌, ◌++◌, [], Ok, Err, true, is_ok, length, take, drop, min, IfOk, OnErr, OnOk};
 
 use crate::octets::Octets;
-use crate::sink::{Sink, Unwritten};
+use crate::sink::{Sink, Unwritten, hold};
 use crate::source::{Failed, Source};
 use std::alloc::Global;
 use std::marker::Model;
@@ -102,8 +102,7 @@ impl Sink for SteadySink {
         ensures ok { OnOk result (self.new ≡ self.old ++ piece.now) }
         ensures err { OnErr result (self.new ≡ self.old) }
     {
-        self.octets.extend(piece)?;
-        Ok(piece.len())
+        hold(&mut self.octets, piece)
     }
 }
 
