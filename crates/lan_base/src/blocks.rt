@@ -29,12 +29,14 @@ impl Blocks {
         }
     }
 
+    /// How many blocks there are.
     pub fn len(&self) -> usize
         ensures { result ≡ length self.now }
     {
         self.blocks.len()
     }
 
+    /// The blocks.
     pub fn as_slice(&self) -> &[[u8; 16]]
         ensures { result.now ≡ self.now }
     {
