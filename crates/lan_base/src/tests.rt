@@ -1,38 +1,26 @@
-ghost use Rattle.std.specs.Prelude.{◌<◌};
+//! Octets, names, and sources and sinks that fail or are interrupted.
 
 use super::*;
-use std::alloc::Global;
+use std::alloc::{AllocError, Global};
 use std::io;
 use std::io::{ErrorKind, Read, Write};
+use std::process::Abort;
 use std::test::Fail;
 
 const WORD: &[u8] = b"octets";
 
 #[test]
 fn grows_and_is_copied(rt: HostRuntime) -> Result<(), Fail> {
-    let mut octets = Octets::from_slice(rt.alloc(), WORD)?;
-    octets.extend(b" of")?;
-    let copy = octets.copied(rt.alloc())?;
-    octets.extend(b" a LAN")?;
-    let wants: [&[u8]; 2] = [b"octets of a LAN", b"octets of"];
-    assert_eq!(rt; octets.as_slice(), wants[0]);
-    assert_eq!(rt; copy.as_slice(), wants[1]);
+    let mut octets = Vec::with_capacity(rt.alloc(), 9)?;
+    put(&mut octets, WORD);
+    put(&mut octets, b" of");
+    let copy = Octets::of(octets).copied(rt.alloc())?;
+    assert_eq!(rt; copy.as_slice(), b"octets of".as_slice());
     Ok(())
 }
 
-// Counts from one, big-endian, as the trace format says.
 #[test]
-fn counts_from_one(rt: HostRuntime) {
-    let mut draws = CountDraws::new();
-    for last in 1..4 {
-        let mut want = [0; 16];
-        want[15] = last;
-        assert_eq!(rt; draws.draw(), Some(want));
-    }
-}
-
-#[test]
-fn names(rt: HostRuntime) -> Result<(), Fail> {
+fn names(rt: HostRuntime) {
     let table: [(&[u8], bool); 9] = [
         (b"A", true),
         (b"sw1", true),
@@ -45,91 +33,123 @@ fn names(rt: HostRuntime) -> Result<(), Fail> {
         (b"\xc3\xa9", false),
     ];
     for (word, named) in table {
-        let name = Name::of(word);
-        assert_eq!(rt; name.is_some(), named, "{word:?}");
-        if let Some(name) = name {
-            assert_eq!(rt; name.octets(), word);
-        }
+        assert_eq!(rt; Name::of(word).is_some(), named, "{word:?}");
     }
-    let a = Name::of(b"a").ok_or("no name")?;
-    let ab = Name::of(b"ab").ok_or("no name")?;
-    assert!(rt; a < ab);
-    assert_eq!(rt; format!(in rt.alloc(); "{ab:?}")?.as_str(), "ab");
-    Ok(())
-}
-
-fn source(alloc: Global, piece: usize, fails: &[u64]) -> Result<MemorySource, Fail>
-    requires { 0 < piece }
-{
-    let octets = Octets::from_slice(alloc, WORD)?;
-    Ok(MemorySource::new(octets, piece, Vec::from_slice(alloc, fails)?))
+    assert!(rt; Name::of(b"a") < Name::of(b"ab"));
 }
 
 #[test]
-fn reads_to_the_end(rt: HostRuntime) -> Result<(), Fail> {
-    let alloc = rt.alloc();
-    let table: [(usize, &[u64], usize, Result<(), ReadEnd>); 7] = [
-        (1, &[], 6, Ok(())),
-        (4, &[], 6, Ok(())),
-        (9, &[3], 6, Ok(())),
-        (4, &[], 5, Err(ReadEnd::Limit)),
-        (4, &[1], 6, Err(ReadEnd::Failed)),
-        (4, &[2], 6, Err(ReadEnd::Failed)),
-        (9, &[2], 5, Err(ReadEnd::Limit)),
-    ];
-    for (piece, fails, limit, want) in table {
-        if piece == 0 {
-            continue;
-        }
-        let mut source = source(alloc, piece, fails)?;
-        let got = read_all(alloc, &mut source, limit);
-        match got {
-            Ok(octets) => {
-                assert_eq!(rt; want, Ok(()), "{piece} {limit}");
-                assert_eq!(rt; octets.as_slice(), WORD);
-            }
-            Err(end) => assert_eq!(rt; want, Err(end), "{piece} {limit}"),
-        }
-    }
+fn a_name_is_printed(rt: HostRuntime) -> Result<(), Fail> {
+    let name = Name::of(b"ab").ok_or("no name")?;
+    assert_eq!(rt; name.octets(), b"ab".as_slice());
+    assert_eq!(rt; format!(in rt.alloc(); "{name:?}")?.as_str(), "ab");
     Ok(())
+}
+
+/// A source of the word, with this piece. The call of the number `fail` fails; 0 is none's.
+fn source(alloc: Global, piece: usize, fail: u64) -> Result<MemorySource, AllocError> {
+    let fails = Vec::from_slice(alloc, &[fail])?;
+    let octets = Octets::from_slice(alloc, WORD)?;
+    Ok(MemorySource::new(octets, piece.max(1), fails))
+}
+
+/// Whether the word is read whole from such a source.
+fn read_word(alloc: Global, piece: usize, fail: u64, limit: usize) -> Result<bool, ReadEnd> {
+    let octets = read_all(alloc, &mut source(alloc, piece, fail)?, limit)?;
+    Ok(octets.as_slice() == WORD)
+}
+
+#[test]
+fn reads_to_the_end(rt: HostRuntime) {
+    for (piece, fail, limit, want) in [
+        (1, 0, 6, Ok(true)),
+        (4, 0, 6, Ok(true)),
+        (9, 3, 6, Ok(true)),
+        (4, 0, 5, Err(ReadEnd::Limit)),
+        (4, 1, 6, Err(ReadEnd::Failed)),
+        (4, 2, 6, Err(ReadEnd::Failed)),
+        (9, 2, 5, Err(ReadEnd::Limit)),
+    ] {
+        assert_eq!(rt; read_word(rt.alloc(), piece, fail, limit), want);
+    }
+}
+
+/// These are the answers of reads of four octets, and what they move.
+fn reads<S: Source + Drop>(
+    rt: &impl Abort,
+    mut source: S,
+    wants: &[(Result<usize, Failed>, [u8; 4])],
+) {
+    for (count, octets) in wants {
+        let mut into = [0; 4];
+        assert_eq!(rt; source.read(&mut into), *count);
+        assert_eq!(rt; into, *octets);
+    }
 }
 
 // A failing call takes nothing, so the octets go on where they stood.
 #[test]
 fn a_failing_read_takes_nothing(rt: HostRuntime) -> Result<(), Fail> {
-    let mut source = source(rt.alloc(), 4, &[2])?;
-    let mut into = [0; 5];
-    assert_eq!(rt; source.read(&mut into), Ok(4));
-    assert_eq!(rt; into[..4], b"octe"[..]);
-    assert_eq!(rt; source.read(&mut into), Err(Failed));
-    assert_eq!(rt; source.read(&mut into), Ok(2));
-    assert_eq!(rt; into[..2], b"ts"[..]);
-    assert_eq!(rt; source.read(&mut into), Ok(0));
+    reads(
+        &rt,
+        source(rt.alloc(), 4, 2)?,
+        &[
+            (Ok(4), *b"octe"),
+            (Err(Failed), [0; 4]),
+            (Ok(2), *b"ts\0\0"),
+            (Ok(0), [0; 4]),
+        ],
+    );
     Ok(())
 }
 
 #[test]
-fn writes_whole_pieces(rt: HostRuntime) -> Result<(), Fail> {
-    let alloc = rt.alloc();
-    let table: [(usize, &[u64], Result<(), Unwritten>, &[u8]); 4] = [
-        (1, &[], Ok(()), b"octets"),
-        (4, &[3], Ok(()), b"octets"),
-        (4, &[2], Err(Unwritten::Failed), b"octe"),
-        (9, &[1], Err(Unwritten::Failed), b""),
-    ];
-    for (piece, fails, want, held) in table {
-        if piece == 0 {
-            continue;
-        }
-        let mut sink = MemorySink::new(alloc, piece, Vec::from_slice(alloc, fails)?);
-        assert_eq!(rt; write_all(&mut sink, WORD), want, "{piece}");
-        assert_eq!(rt; sink.held(), held, "{piece}");
-    }
+fn reads_steadily(rt: HostRuntime) -> Result<(), Fail> {
+    reads(
+        &rt,
+        SteadySource::new(Octets::from_slice(rt.alloc(), WORD)?),
+        &[(Ok(4), *b"octe"), (Ok(2), *b"ts\0\0"), (Ok(0), [0; 4])],
+    );
     Ok(())
 }
 
+/// What a sink with this piece, whose call `fail` fails, answers to the word, and how much of the
+/// word it holds then.
+fn write_word(
+    rt: &impl Abort,
+    alloc: Global,
+    piece: usize,
+    fail: u64,
+) -> Result<(Result<(), Unwritten>, usize), AllocError> {
+    let fails = Vec::from_slice(alloc, &[fail])?;
+    let mut sink = MemorySink::new(alloc, piece.max(1), fails);
+    let written = write_all(&mut sink, WORD);
+    assert!(rt; WORD.starts_with(sink.held()));
+    Ok((written, sink.held().len()))
+}
+
+#[test]
+fn writes_whole_pieces(rt: HostRuntime) {
+    for (piece, fail, want, held) in [
+        (1, 0, Ok(()), 6),
+        (4, 3, Ok(()), 6),
+        (4, 2, Err(Unwritten::Failed), 4),
+        (9, 1, Err(Unwritten::Failed), 0),
+    ] {
+        assert_eq!(rt; write_word(&rt, rt.alloc(), piece, fail), Ok((want, held)));
+    }
+}
+
+#[test]
+fn writes_steadily(rt: HostRuntime) {
+    let mut sink = SteadySink::new(rt.alloc());
+    assert_eq!(rt; write_all(&mut sink, WORD), Ok(()));
+    assert_eq!(rt; sink.held(), WORD);
+    assert_eq!(rt; write_all(&mut DropSink, WORD), Ok(()));
+}
+
 /// A reader and a writer that is interrupted so often, and then breaks or goes on.
-#[derive(Drop)]
+#[derive(Clone, Copy)]
 struct Flaky {
     interruptions: u32,
     breaks: bool,
@@ -174,25 +194,20 @@ fn interruptions_are_tried_again(rt: HostRuntime) {
         (3, true, false),
         (1000, false, false),
     ] {
-        let mut source = StdSource::new(Flaky {
+        let flaky = Flaky {
             interruptions,
             breaks,
-        });
-        let mut sink = StdSink::new(Flaky {
-            interruptions,
-            breaks,
-        });
-        let read = if works { Ok(1) } else { Err(Failed) };
-        let written = if works { Ok(1) } else { Err(Unwritten::Failed) };
-        assert_eq!(rt; source.read(&mut [0; 2]), read, "{interruptions}");
-        assert_eq!(rt; sink.write(WORD), written, "{interruptions}");
+        };
+        let read = StdSource::new(flaky).read(&mut [0; 2]);
+        let written = StdSink::new(flaky).write(WORD);
+        assert_eq!(rt; read == Ok(1), works, "{interruptions}");
+        assert_eq!(rt; written == Ok(1), works, "{interruptions}");
     }
 }
 
 #[test]
 fn goes_through_std(rt: HostRuntime) -> Result<(), Fail> {
-    let alloc = rt.alloc();
-    let octets = read_all(alloc, &mut StdSource::new(WORD), 6)?;
+    let octets = read_all(rt.alloc(), &mut StdSource::new(WORD), 6)?;
     assert_eq!(rt; octets.as_slice(), WORD);
     let mut full = [0; 4];
     let mut sink = StdSink::new(&mut full[..]);
