@@ -3,13 +3,12 @@ use Rattle.std.proofs.Common.{◌≡◌, ℕ, ◌+◌, ◌/◌, ◌<◌, ◌≤�
 use Rattle.std.proofs.lemmas.Bool.{ltb-false, ltb-true}
 use Rattle.std.proofs.lemmas.List.{take_at, drop_at}
 use Rattle.lan_base.specs.declared.address.Mi.{Mi}
-use Rattle.lan_base.specs.declared.address.Sci.{Sci}
 use Rattle.byteorder.specs.Endian.{big_number}
 use Rattle.mkpdu_codec.specs.declared.peer.Peer.{Peer}
 use Rattle.mkpdu_codec.specs.Sets.{missing}
 use Rattle.mkpdu_codec.specs.Frames.{Set}
 use Rattle.mkpdu_codec.specs.Refusals.{front_length}
-use Rattle.mkpdu_codec.specs.Fields.{◌>>=◌, octets_at, number_at, mi_at, sci_at, entry_at, set_at}
+use Rattle.mkpdu_codec.specs.Fields.{◌>>=◌, octets_at, number_at, mi_at, entry_at, set_at}
 
 -- the value of a step that found something
 pub bind_some : {A B : Type 0} (o : Option A) (f : A → Option B) (y : B) → (o >>= f) ≡ Some y → (x : A) × (o ≡ Some x) × (f x ≡ Some y)

@@ -3,7 +3,7 @@
 ghost use Rattle.std.specs.Prelude.{◌≡◌, ◌≤◌, ◌<◌, ◌+◌, ◌++◌, IfSome, length};
 ghost use Rattle.mkpdu_codec.specs.Fields.{given_in, key_in, wide_in};
 ghost use Rattle.lan_base.specs.Room.{HasRoom, Puts};
-ghost use Rattle.mkpdu_codec.specs.Sets.{given_body, given_flags, set};
+ghost use Rattle.mkpdu_codec.specs.Sets.{given_body, set};
 ghost use Rattle.mkpdu_codec.specs.Written.{given_set, IsWritableGiven};
 ghost use Rattle.mkpdu_codec.specs.inside.Views.{Finds, seen};
 

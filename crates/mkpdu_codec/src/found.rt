@@ -1,8 +1,8 @@
 //! The parameter sets behind the Basic Parameter Set.
 
-ghost use Rattle.std.specs.Prelude.{◌≡◌, ◌≤◌, length, IsTrue};
+ghost use Rattle.std.specs.Prelude.{◌≡◌, ◌≤◌, length};
 ghost use Rattle.mkpdu_codec.specs.Refusals.{is_indicator, is_length_of};
-ghost use Rattle.mkpdu_codec.specs.Reading.{Gathered, nothing, placed, shaped_at, gathered};
+ghost use Rattle.mkpdu_codec.specs.Reading.{nothing, placed, shaped_at, gathered};
 ghost use Rattle.mkpdu_codec.specs.inside.Views.{set_of, Gives, gathered_of};
 
 use crate::layout::{DISTRIBUTED_SAK, ICV_INDICATOR, LIVE_PEERS, POTENTIAL_PEERS, SAK_USE};

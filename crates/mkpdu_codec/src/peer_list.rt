@@ -6,7 +6,7 @@ ghost use Rattle.mkpdu_codec.specs.Fields.{entry_at, entries_at, peers_in};
 ghost use Rattle.lan_base.specs.Room.{HasRoom, Puts};
 ghost use Rattle.mkpdu_codec.specs.Sets.{peer, peers_body};
 ghost use Rattle.mkpdu_codec.specs.Written.{peers_set};
-ghost use Rattle.mkpdu_codec.specs.inside.Views.{Finds, set_of, seen};
+ghost use Rattle.mkpdu_codec.specs.inside.Views.{Finds, seen};
 
 use crate::fields::{read_mi, read_number};
 use crate::peer::{Peer, Peers};

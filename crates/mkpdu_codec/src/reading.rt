@@ -61,6 +61,7 @@ fn has_body(frame: &[u8]) -> bool
     32 <= len && len % 4 == 0 && HEADER_LEN + len <= frame.len()
 }
 
+/// The parts of a frame, where it is one of MKA and has a body.
 #[tactic(auto, unfolding(crate::specs::Reading::parts_at))]
 fn read_parts(frame: &[u8]) -> Result<Parts<'_>, Refusal>
     ensures value { Gives inner_of result (parts_at frame.now) }

@@ -3,9 +3,9 @@
 ghost use Rattle.std.specs.Prelude.{◌≡◌, ◌≤◌, ◌<◌, IfSome, length};
 ghost use Rattle.mkpdu_codec.specs.Fields.{key_at, uses_in};
 ghost use Rattle.lan_base.specs.Room.{HasRoom, Puts};
-ghost use Rattle.mkpdu_codec.specs.Sets.{use_body, use_flags, uses_body, uses_flags};
+ghost use Rattle.mkpdu_codec.specs.Sets.{use_body, use_flags, uses_body};
 ghost use Rattle.mkpdu_codec.specs.Written.{uses_set};
-ghost use Rattle.mkpdu_codec.specs.inside.Views.{Finds, set_of, seen};
+ghost use Rattle.mkpdu_codec.specs.inside.Views.{Finds, seen};
 
 use crate::fields::{read_mi, read_number};
 use crate::key_use::{KeyUse, Uses};

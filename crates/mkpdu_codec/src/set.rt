@@ -1,6 +1,6 @@
 //! What every parameter set has: a header of four octets, a body, and padding.
 
-ghost use Rattle.std.specs.Prelude.{◌≡◌, ◌<◌, ◌+◌, ◌*◌, ◌^◌, length, replicate};
+ghost use Rattle.std.specs.Prelude.{◌≡◌, ◌<◌, ◌+◌, ◌*◌, replicate};
 ghost use Rattle.lan_base.specs.Room.{HasRoom, Puts};
 ghost use Rattle.mkpdu_codec.specs.Sets.{header, missing, set_length};
 ghost use Rattle.mkpdu_codec.specs.Fields.{set_at};
