@@ -1,6 +1,6 @@
 //! What holds of the peer lists after every history.
 
-ghost use Rattle.std.specs.Prelude.{◌≡◌, ◌≢◌, ◌≤◌, ◌+◌, ◌++◌, ◌&&◌, ◌||◌, ◌∷◌, List, ℕ, Bool, Some, IsTrue, IsFalse, length, filter, map, is_some, option_map};
+ghost use Rattle.std.specs.Prelude.{◌≡◌, ◌≢◌, ◌≤◌, ◌+◌, ◌++◌, ◌&&◌, ◌||◌, ◌∷◌, List, ℕ, Bool, Some, IsTrue, IsFalse, length, filter, is_some};
 ghost use Rattle.std.specs.List.{find, list_any};
 ghost use Rattle.lan_base.specs.declared.address.Mi.{Mi};
 ghost use Rattle.mkpdu_codec.specs.declared.peer.Peer.{Peer};

@@ -5,7 +5,7 @@ ghost use Rattle.std.specs.Prelude.{◌≡◌};
 ghost use Rattle.peer_lists.specs.inside.RowChanges.{aged, displaced_under, fresh, aged_peer, displaced_peer, has_sci, renewed, introduced, shown};
 
 use crate::heard::{Heard, Row};
-use lan_base::{LIFE_TIME, Mi, Sci};
+use lan_base::{LIFE_TIME, Sci};
 
 /// The life time, where a countdown begins.
 const WHOLE_LIFE: u8 = LIFE_TIME as u8;

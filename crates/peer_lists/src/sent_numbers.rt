@@ -1,6 +1,6 @@
 //! The message numbers that were sent less than the life time ago.
 
-ghost use Rattle.std.specs.Prelude.{◌≡◌, ◌≤◌};
+ghost use Rattle.std.specs.Prelude.{◌≡◌};
 ghost use Rattle.peer_lists.specs.inside.Countdowns.{no_numbers, numbers_after_tick, numbers_after_sent, is_number_recent};
 
 use lan_base::LIFE_TIME;

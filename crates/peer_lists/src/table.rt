@@ -1,14 +1,13 @@
 //! The peer lists of one life of a station.
 
-ghost use Rattle.std.specs.Prelude.{◌≡◌, ◌<◌, ◌≤◌, ◌+◌, ◌&&◌, ◌↔◌, ◌∷◌, [], List, ℕ, cond, length, slice_get, vec_capacity, IfOk, IsNone, IsTrue, OnErr};
-ghost use Rattle.std.specs.Option.{option_map, option_or};
-ghost use Rattle.std.specs.List.Sorted.{IsBinarySearchResult, IsSearchInRange};
-ghost use Rattle.lan_base.specs.Identifiers.{order};
+ghost use Rattle.std.specs.Prelude.{◌≡◌, ◌<◌, ◌≤◌, ◌+◌, ◌&&◌, ◌↔◌, ◌∷◌, [], List, ℕ, length, slice_get, vec_capacity, IfOk, IsNone, IsTrue, OnErr};
+ghost use Rattle.std.specs.Option.{option_or};
+ghost use Rattle.std.specs.List.Sorted.{IsSearchInRange};
 ghost use Rattle.peer_lists.specs.Histories.{Peering, ticked, sent, heard as heard_entry, recent as recent_after, last_sent as last_sent_in, may_send as may_send_after};
 ghost use Rattle.peer_lists.specs.Acceptance.{Own, IsDropped, echo, outcome, most_peers};
 ghost use Rattle.peer_lists.specs.Peers.{known, row_at};
-ghost use Rattle.peer_lists.specs.Table.{StandsFor, member};
-ghost use Rattle.peer_lists.specs.inside.RowChanges.{reason_at, rows_heard, shown};
+ghost use Rattle.peer_lists.specs.Table.{StandsFor};
+ghost use Rattle.peer_lists.specs.inside.RowChanges.{reason_at, rows_heard};
 ghost use Rattle.peer_lists.specs.inside.Countdowns.{is_number_recent};
 
 use crate::PEERS;
@@ -196,6 +195,7 @@ impl PeerTable {
     {
         shown_at(self.rows.as_slice(), at)
     }
+
     /// The rows as they will be after the next tick, in the same order. They take the place of what
     /// the vector has, and there is room for them, so no memory is taken.
     pub fn rows_after_tick(&self, into: &mut Vec<Row>)
