@@ -1,7 +1,9 @@
-use crate::{DropReason, Heard, Outcome, PeerTable};
+//! Lives of a station, step by step.
+
+use crate::{DropReason, Heard, Outcome, PeerTable, Row};
 use DropReason::{Echo, OldNumber, PeersFull};
 use Outcome::{Dropped, Unvouched, Vouched};
-use Step::{Lists, Plain, Recent, Rows, Sends, Ticks};
+use Step::{Fills, Lists, Plain, Recent, Rows, Sends, Ticks};
 use lan_base::{Mi, Sci};
 use std::alloc::Global;
 use std::process::Abort;
@@ -18,6 +20,8 @@ enum Step {
     Plain(u8, u8, u32, Outcome),
     /// The same, and it lists the station under a number.
     Lists(u8, u8, u32, u32, Outcome),
+    /// As many other members as are remembered are heard: 101 and those that follow.
+    Fills,
     /// The rows: member, number, SCI, and whether it is live and potential.
     Rows(&'static [(u8, u32, u8, bool, bool)]),
     /// Whether a number is recent.
@@ -44,12 +48,17 @@ fn heard(member: u8, channel: u8, mn: u32, listed: Option<u32>) -> Heard {
     }
 }
 
-/// The station has the member identifier 9 and the SCI 90.
-fn plays(rt: &impl Abort, alloc: Global, steps: &[Step]) -> Result<(), Fail> {
+/// The table after these steps of a station with the member identifier 9 and the SCI 90.
+fn played(rt: &impl Abort, alloc: Global, steps: &[Step]) -> Result<PeerTable, Fail> {
     let mut table = PeerTable::new(alloc, mi(9), sci(90))?;
     for step in steps {
         play(rt, &mut table, step);
     }
+    Ok(table)
+}
+
+fn plays(rt: &impl Abort, alloc: Global, steps: &[Step]) -> Result<(), Fail> {
+    played(rt, alloc, steps)?;
     Ok(())
 }
 
@@ -66,6 +75,7 @@ fn play(rt: &impl Abort, table: &mut PeerTable, step: &Step) {
                 outcome
             );
         }
+        Fills => fill(rt, table),
         Rows(rows) => shows(rt, table, rows),
         Recent(mn, recent) => assert_eq!(rt; table.recent(mn), recent),
     }
@@ -86,126 +96,119 @@ fn send(table: &mut PeerTable) {
     }
 }
 
+fn fill(rt: &impl Abort, table: &mut PeerTable) {
+    for member in 101..165 {
+        assert_eq!(rt; table.hear(&heard(member, member, 1, None)), Unvouched);
+    }
+    assert_eq!(rt; table.len(), 64);
+}
+
 fn shows(rt: &impl Abort, table: &PeerTable, rows: &[(u8, u32, u8, bool, bool)]) {
     assert_eq!(rt; table.len(), rows.len());
     assert!(rt; table.row(rows.len()).is_none());
     for (at, (member, mn, channel, live, potential)) in rows.iter().enumerate() {
-        let row = table.row(at).expect(rt, "a row at each place");
-        assert_eq!(rt; row.mi, mi(*member));
-        assert_eq!(rt; row.mn, *mn);
-        assert_eq!(rt; row.sci, sci(*channel));
-        assert_eq!(rt; row.priority, *channel);
-        assert_eq!(rt; row.live, *live);
-        assert_eq!(rt; row.potential, *potential);
+        let want = Row {
+            mi: mi(*member),
+            mn: *mn,
+            sci: sci(*channel),
+            priority: *channel,
+            live: *live,
+            potential: *potential,
+            uses: None,
+        };
+        assert_eq!(rt; table.row(at), Some(want));
     }
 }
 
 #[test]
 fn forgets_after_the_life_time(rt: HostRuntime) -> Result<(), Fail> {
-    plays(
-        &rt,
-        rt.alloc(),
-        &[
-            Plain(1, 10, 5, Unvouched),
-            Ticks(59),
-            Rows(&[(1, 5, 10, false, true)]),
-            Plain(1, 10, 5, Dropped(OldNumber { kept: 5 })),
-            Ticks(1),
-            Rows(&[]),
-            Plain(1, 10, 5, Unvouched),
-        ],
-    )
+    const STEPS: &[Step] = &[
+        Plain(1, 10, 5, Unvouched),
+        Ticks(59),
+        Rows(&[(1, 5, 10, false, true)]),
+        Plain(1, 10, 5, Dropped(OldNumber { kept: 5 })),
+        Ticks(1),
+        Rows(&[]),
+        Plain(1, 10, 5, Unvouched),
+    ];
+    plays(&rt, rt.alloc(), STEPS)
 }
 
 #[test]
 fn an_old_own_number_vouches_no_more(rt: HostRuntime) -> Result<(), Fail> {
-    plays(
-        &rt,
-        rt.alloc(),
-        &[
-            Recent(1, false),
-            Sends,
-            Recent(1, true),
-            Lists(1, 10, 1, 1, Vouched),
-            Lists(2, 20, 1, 2, Unvouched),
-            Rows(&[(1, 1, 10, true, false), (2, 1, 20, false, true)]),
-            Ticks(59),
-            Recent(1, true),
-            Lists(3, 30, 1, 1, Vouched),
-            Ticks(1),
-            Recent(1, false),
-            Lists(4, 40, 1, 1, Unvouched),
-            Rows(&[(3, 1, 30, true, false), (4, 1, 40, false, true)]),
-        ],
-    )
+    const STEPS: &[Step] = &[
+        Recent(1, false),
+        Sends,
+        Recent(1, true),
+        Lists(1, 10, 1, 1, Vouched),
+        Lists(2, 20, 1, 2, Unvouched),
+        Rows(&[(1, 1, 10, true, false), (2, 1, 20, false, true)]),
+        Ticks(59),
+        Recent(1, true),
+        Lists(3, 30, 1, 1, Vouched),
+        Ticks(1),
+        Recent(1, false),
+        Lists(4, 40, 1, 1, Unvouched),
+        Rows(&[(3, 1, 30, true, false), (4, 1, 40, false, true)]),
+    ];
+    plays(&rt, rt.alloc(), STEPS)
 }
 
 #[test]
 fn two_members_of_one_sci_alternate(rt: HostRuntime) -> Result<(), Fail> {
-    plays(
-        &rt,
-        rt.alloc(),
-        &[
-            Sends,
-            Lists(2, 10, 1, 1, Vouched),
-            Plain(1, 10, 1, Unvouched),
-            Rows(&[(1, 1, 10, false, true), (2, 1, 10, true, false)]),
-            Lists(1, 10, 2, 1, Vouched),
-            Rows(&[(1, 2, 10, true, false), (2, 1, 10, false, false)]),
-            Plain(2, 10, 2, Unvouched),
-            Rows(&[(1, 2, 10, true, false), (2, 2, 10, false, true)]),
-            Lists(2, 10, 3, 1, Vouched),
-            Rows(&[(1, 2, 10, false, false), (2, 3, 10, true, false)]),
-            Lists(2, 20, 4, 1, Vouched),
-            Rows(&[(1, 2, 10, false, false), (2, 4, 20, true, false)]),
-        ],
-    )
+    const STEPS: &[Step] = &[
+        Sends,
+        Lists(2, 10, 1, 1, Vouched),
+        Plain(1, 10, 1, Unvouched),
+        Rows(&[(1, 1, 10, false, true), (2, 1, 10, true, false)]),
+        Lists(1, 10, 2, 1, Vouched),
+        Rows(&[(1, 2, 10, true, false), (2, 1, 10, false, false)]),
+        Plain(2, 10, 2, Unvouched),
+        Rows(&[(1, 2, 10, true, false), (2, 2, 10, false, true)]),
+        Lists(2, 10, 3, 1, Vouched),
+        Rows(&[(1, 2, 10, false, false), (2, 3, 10, true, false)]),
+        Lists(2, 20, 4, 1, Vouched),
+        Rows(&[(1, 2, 10, false, false), (2, 4, 20, true, false)]),
+    ];
+    plays(&rt, rt.alloc(), STEPS)
 }
 
 #[test]
 fn a_live_peer_says_its_last_vouched_words(rt: HostRuntime) -> Result<(), Fail> {
-    plays(
-        &rt,
-        rt.alloc(),
-        &[
-            Sends,
-            Lists(1, 10, 1, 1, Vouched),
-            Ticks(30),
-            Plain(1, 20, 2, Unvouched),
-            Ticks(29),
-            Rows(&[(1, 2, 10, true, false)]),
-            Ticks(1),
-            Rows(&[(1, 2, 20, false, true)]),
-        ],
-    )
+    const STEPS: &[Step] = &[
+        Sends,
+        Lists(1, 10, 1, 1, Vouched),
+        Ticks(30),
+        Plain(1, 20, 2, Unvouched),
+        Ticks(29),
+        Rows(&[(1, 2, 10, true, false)]),
+        Ticks(1),
+        Rows(&[(1, 2, 20, false, true)]),
+    ];
+    plays(&rt, rt.alloc(), STEPS)
 }
 
 #[test]
 fn an_echo_has_the_own_identifier_or_sci(rt: HostRuntime) -> Result<(), Fail> {
-    plays(
-        &rt,
-        rt.alloc(),
-        &[
-            Plain(9, 10, 1, Dropped(Echo)),
-            Plain(1, 90, 1, Dropped(Echo)),
-            Rows(&[]),
-        ],
-    )
+    const STEPS: &[Step] = &[
+        Plain(9, 10, 1, Dropped(Echo)),
+        Plain(1, 90, 1, Dropped(Echo)),
+        Rows(&[]),
+    ];
+    plays(&rt, rt.alloc(), STEPS)
 }
 
 #[test]
 fn remembers_sixty_four_others(rt: HostRuntime) -> Result<(), Fail> {
-    let mut table = PeerTable::new(rt.alloc(), mi(9), sci(90))?;
-    for member in 101..165 {
-        assert_eq!(rt; table.hear(&heard(member, member, 1, None)), Unvouched);
-    }
-    assert_eq!(rt; table.len(), 64);
-    assert_eq!(rt; table.hear(&heard(1, 1, 1, None)), Dropped(PeersFull));
-    assert_eq!(rt; table.hear(&heard(164, 164, 2, None)), Unvouched);
-    pass(&mut table, 60);
-    assert_eq!(rt; table.hear(&heard(1, 1, 1, None)), Unvouched);
-    assert_eq!(rt; table.len(), 1);
-    Ok(())
+    const STEPS: &[Step] = &[
+        Fills,
+        Plain(1, 1, 1, Dropped(PeersFull)),
+        Plain(164, 164, 2, Unvouched),
+        Ticks(60),
+        Plain(1, 1, 1, Unvouched),
+        Rows(&[(1, 1, 1, false, true)]),
+    ];
+    plays(&rt, rt.alloc(), STEPS)
 }
 
 #[test]
@@ -222,18 +225,23 @@ fn sixty_numbers_are_recent(rt: HostRuntime) -> Result<(), Fail> {
 
 #[test]
 fn shows_the_rows_after_a_tick(rt: HostRuntime) -> Result<(), Fail> {
-    let mut table = PeerTable::new(rt.alloc(), mi(9), sci(90))?;
+    let table = played(
+        &rt,
+        rt.alloc(),
+        &[
+            Plain(2, 20, 1, Unvouched),
+            Ticks(59),
+            Plain(1, 10, 1, Unvouched),
+        ],
+    )?;
     let mut rows = Vec::with_capacity(rt.alloc(), 64)?;
-    assert_eq!(rt; table.hear(&heard(2, 20, 1, None)), Unvouched);
-    pass(&mut table, 59);
-    assert_eq!(rt; table.hear(&heard(1, 10, 1, None)), Unvouched);
-    table.rows_after_tick(&mut rows);
-    let mut copy = table.copied(rt.alloc())?;
-    copy.tick();
-    assert_eq!(rt; copy.len(), 1);
-    assert_eq!(rt; table.len(), 2);
+    table.copied(rt.alloc())?.rows_after_tick(&mut rows);
     assert_eq!(rt; rows.len(), 1);
     assert_eq!(rt; rows[0].mi, mi(1));
-    assert!(rt; rows[0].potential);
+    shows(
+        &rt,
+        &table,
+        &[(1, 1, 10, false, true), (2, 1, 20, false, true)],
+    );
     Ok(())
 }
