@@ -19,7 +19,7 @@ pub trait Draws {
 }
 
 /// A supply that counts: its n-th draw, from 1, is n modulo 2^128 in 16 octets, the highest first.
-#[derive(Debug, Drop)]
+#[derive(Drop)]
 pub struct CountDraws {
     drawn: u128,
 }

@@ -7,7 +7,7 @@ use crate::blocks::Blocks;
 use crate::draws::Draws;
 
 /// A supply that draws what a list holds, in its order, and then has no more.
-#[derive(Debug, Drop)]
+#[derive(Drop)]
 pub struct ListDraws {
     values: Blocks,
     drawn: usize,

@@ -12,7 +12,7 @@ use std::marker::Model;
 
 /// A source that gives its octets, at most `piece` a call, and fails the calls whose numbers, from
 /// 1, are listed. Contracts see what is left, the piece, the failing calls and the count of calls.
-#[derive(Debug, Drop)]
+#[derive(Drop)]
 pub struct MemorySource {
     octets: Octets,
     given: usize,
@@ -87,7 +87,7 @@ impl Source for MemorySource {
 
 /// A sink that takes at most `piece` octets a call, and fails the calls whose numbers, from 1, are
 /// listed. Contracts see what it holds, the piece, the failing calls and the count of calls.
-#[derive(Debug, Drop)]
+#[derive(Drop)]
 pub struct MemorySink {
     octets: Octets,
     piece: usize,

@@ -13,7 +13,7 @@ const LONGEST: usize = 16;
 
 /// A station's name: an ASCII letter and up to 15 further ASCII letters or digits. Contracts see
 /// its octets.
-#[derive(Clone, Copy, PartialEq, Eq, Hash, PartialOrd, Ord)]
+#[derive(Clone, Copy, PartialEq, Eq)]
 pub struct Name {
     octets: [u8; LONGEST],
     len: u8,

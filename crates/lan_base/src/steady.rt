@@ -9,7 +9,7 @@ use std::alloc::Global;
 use std::marker::Model;
 
 /// A source in memory that never fails. Contracts see the octets that are left.
-#[derive(Debug, Drop)]
+#[derive(Drop)]
 pub struct SteadySource {
     octets: Octets,
     given: usize,
@@ -57,7 +57,7 @@ impl Source for SteadySource {
 }
 
 /// A sink in memory that never fails; memory may still be wanting. Contracts see what it holds.
-#[derive(Debug, Drop)]
+#[derive(Drop)]
 pub struct SteadySink {
     octets: Octets,
 }
@@ -107,7 +107,7 @@ impl Sink for SteadySink {
 }
 
 /// A sink that takes every piece whole and keeps nothing. It tells no octets and never fails.
-#[derive(Debug, Drop)]
+#[derive(Drop)]
 pub struct DropSink;
 
 impl Sink for DropSink {

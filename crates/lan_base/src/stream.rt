@@ -12,7 +12,7 @@ use std::io::{ErrorKind, Read, Write};
 const TRIES: u32 = 100;
 
 /// A source over a reader. It tells no octets, and counts the reader's errors.
-#[derive(Debug, Drop)]
+#[derive(Drop)]
 pub struct StdSource<R: Read + Drop> {
     reader: R,
     faults: u64,
@@ -76,7 +76,7 @@ fn read_through<R: Read>(reader: &mut R, into: &mut [u8]) -> Result<usize, Faile
 }
 
 /// A sink over a writer. It tells no octets, and counts the writer's errors; taking nothing is one.
-#[derive(Debug, Drop)]
+#[derive(Drop)]
 pub struct StdSink<W: Write + Drop> {
     writer: W,
     faults: u64,
