@@ -1,3 +1,5 @@
+//! What a frame says of itself, and why it is malformed.
+
 use lan_base::Sci;
 use thiserror::Error;
 

@@ -2,7 +2,7 @@
 
 ghost use Rattle.std.specs.Prelude.{◌≡◌, ◌<◌, ◌≤◌, ◌+◌, ◌↔◌, length, Some, Ok, Err, IfOk};
 ghost use Rattle.gcm_frames.specs.declared.tag.TagRefusal.{TagRefusal};
-ghost use Rattle.gcm_frames.specs.Tags.{has_flag, is_mode, is_sec, is_short, is_length_wrong, start_of, sci_of, data_length, refused, tag_in, tag_fields};
+ghost use Rattle.gcm_frames.specs.Tags.{has_flag, is_mode, is_sec, start_of, sci_of, refused, tag_in, tag_fields};
 
 use crate::tag::{Tag, TagRefusal};
 use byteorder::{BigEndian, ByteOrder};
