@@ -1,4 +1,5 @@
-// Published frames, and frames of another implementation.
+//! Published frames, and frames of another implementation.
+
 use crate::{protect, tag_of, validate};
 use aes_block::{Key, Secret};
 use hex::FromHex;
