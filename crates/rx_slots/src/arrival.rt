@@ -1,3 +1,5 @@
+//! What a data frame comes to.
+
 use gcm_frames::TagRefusal;
 use lan_base::{Octets, Sci};
 

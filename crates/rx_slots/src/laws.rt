@@ -1,6 +1,6 @@
 //! Laws of the receive slots.
 
-ghost use Rattle.std.specs.Prelude.{◌≡◌, ◌≤◌, ◌-◌, ◌^◌, ◌⊎◌, ◌∷◌, ◌++◌, List, ℕ, max, min, Ok};
+ghost use Rattle.std.specs.Prelude.{◌≡◌, ◌≤◌, ◌⊎◌, ◌∷◌, ◌++◌, List, ℕ, Ok};
 ghost use Rattle.lan_base.specs.declared.address.Sci.{Sci};
 ghost use Rattle.gcm_frames.specs.declared.tag.Tag.{Tag};
 ghost use Rattle.gcm_frames.specs.Tags.{tag_fields};

@@ -1,6 +1,6 @@
 //! What stands under one association number.
 
-ghost use Rattle.std.specs.Prelude.{◌≡◌, ◌+◌, ◌<◌, ◌≤◌, ◌∷◌, [], ℕ, max, cond, OnOk, OnErr, Some};
+ghost use Rattle.std.specs.Prelude.{◌≡◌, ◌+◌, ◌<◌, [], max, OnOk, OnErr, Some};
 ghost use Rattle.rx_slots.specs.Slots.{Standing, number_in};
 ghost use Rattle.rx_slots.specs.inside.Admitting.{number_after};
 
@@ -27,7 +27,6 @@ impl Model for Slot {
 }
 
 impl Slot {
-    ghost use Rattle.std.specs.Prelude.{List};
     ghost use Rattle.lan_base.specs.declared.address.Sci.{Sci};
 
     /// A key under which nothing was accepted yet. No memory is taken.
@@ -41,6 +40,7 @@ impl Slot {
         }
     }
 
+    /// The key of the association number.
     pub fn key(&self) -> &Key
         ensures { result.now ≡ self.now.key }
     {

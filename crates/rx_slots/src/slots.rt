@@ -1,7 +1,6 @@
 //! The receive slots of a station, one for each association number.
 
 ghost use Rattle.std.specs.Prelude.{◌≡◌, ◌<◌, ◌≤◌, ◌+◌, ◌==◌, ◌∷◌, [], List, ℕ, length, option_map, Ok, IsSome, IsOk, IfOk, OnOk, OnErr, if◌then◌else◌};
-ghost use Rattle.aes_block.specs.Secrets.{secret_octets};
 ghost use Rattle.lan_base.specs.declared.address.Sci.{Sci};
 ghost use Rattle.rx_slots.specs.declared.arrival.Checked.{Checked};
 ghost use Rattle.rx_slots.specs.Histories.{Receiving, installed, removed, heard, standing_key};

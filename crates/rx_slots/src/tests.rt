@@ -1,3 +1,5 @@
+//! Frames at the receive slots, step by step.
+
 // Frames that a script put together from OpenSSL's sealing, and the answer to each.
 use crate::RxSlots;
 use aes_block::Secret;
