@@ -1,25 +1,26 @@
-//! Two stations of a group, told by the frames that they send and by what changes.
+//! Stations A and B of a group, each told by the frames that it hears and sends and by what
+//! changes. What A sends is what B hears, and the other way round.
 
-use crate::test_frames::{Frame, pieces};
+use crate::test_frames::*;
 use crate::{Config, Reaction, Station, StationFault, Verdict};
-use Frame::*;
-use Step::{Hears, Restarts, Ticks};
+use Step::{Hears, Holds, Restarts, Spends, Ticks};
 use Told::{Began, Dropped, Elected, Installed, Lost, Untaken};
 use Verdict::{
     Agility, Check, CkName, Echo, NotMka, OldNumber, PeersFull, Repeated, Shape, Short, Unvouched,
     Vouched,
 };
 use Who::{A, B};
-use aes_block::Secret;
+use aes_block::{Key, Secret};
 use aes_cmac::cmac;
-use lan_base::{Blocks, CountDraws, Draws, ListDraws, Mi, Sci};
+use lan_base::{Blocks, CountDraws, Draws, KeyId, ListDraws, Mi, Sci};
 use mka_kdf::Group;
-use sak_exchange::{Cause, Change, Seen, Why};
+use sak_exchange::{Cause, Change, HeldKey, Seen, Why};
 use std::alloc::Global;
 use std::process::Abort;
 use std::test::Fail;
 
-#[derive(Clone, Copy, Debug, PartialEq, Eq)]
+/// A station, with the identifier 1 or 2.
+#[derive(Clone, Copy)]
 enum Who {
     A,
     B,
@@ -42,33 +43,40 @@ enum Told {
 /// An event at a station, and what it then does.
 #[derive(Clone, Copy)]
 enum Step {
-    /// A tick that is shown this next number; what changes, and the frame that is sent, if one is.
-    Ticks(Who, u64, &'static [Told], Frame),
-    Hears(Who, Frame, Verdict, &'static [Told]),
-    Restarts(Who, &'static [Told]),
+    /// A tick that is shown this next number; what changes, and the frame that is sent, or none.
+    Ticks(u64, &'static [Told], &'static str),
+    /// A tick that is refused, since it makes a key and one draw is left.
+    Spends,
+    /// A frame is heard; what becomes of it, and what changes.
+    Hears(&'static str, Verdict, &'static [Told]),
+    /// The station starts again under this identifier; what changes.
+    Restarts(u8, &'static [Told]),
+    /// It holds these keys, and transmits under the last one.
+    Holds([Option<HeldKey>; 3]),
 }
 
-/// Stations A and B, which have one supply of draws.
-#[derive(Drop)]
-struct Stations {
-    a: Station,
-    b: Station,
-    draws: CountDraws,
+/// The draw that is this number.
+fn drawn(number: u8) -> [u8; 16] {
+    u128::from(number).to_be_bytes()
 }
 
-const CAK: u128 = 0x000102030405060708090a0b0c0d0e0f;
+/// The member identifier that is this number.
+fn mi(number: u8) -> Mi {
+    Mi([0, 0, 0, 0, 0, 0, 0, 0, 0, 0, 0, number])
+}
 
+/// The group of the frames.
 fn group(alloc: Global) -> Result<Group, Fail> {
-    Ok(Group::of(alloc, Secret::S128(CAK.to_be_bytes()), &[1, 2, 3, 4])?)
+    let cak: u128 = 0x000102030405060708090a0b0c0d0e0f;
+    Ok(Group::of(alloc, Secret::S128(cak.to_be_bytes()), &[1, 2, 3, 4])?)
 }
 
-fn station(
-    alloc: Global,
-    channel: u8,
-    priority: u8,
-    suite: u16,
-    number: u128,
-) -> Result<Station, Fail> {
+/// A station that makes keys of so many bits.
+fn station(alloc: Global, who: Who, suite: u16) -> Result<Station, Fail> {
+    let (number, channel, priority) = match who {
+        A => (1, 0x0a, 16),
+        B => (2, 0x0b, 32),
+    };
     let config = Config {
         sci: Sci([2, 0, 0, 0, 0, channel, 0, 1]),
         priority,
@@ -77,28 +85,10 @@ fn station(
         group: group(alloc)?,
         suite,
     };
-    Ok(Station::start(alloc, config, 0, number.to_be_bytes())?)
+    Ok(Station::start(alloc, config, 0, drawn(number))?)
 }
 
-/// Two stations that make keys of so many bits, and have drawn the numbers 1 and 2.
-fn two_stations(rt: &impl Abort, alloc: Global, suite: u16) -> Result<Stations, Fail> {
-    let mut draws = CountDraws::new();
-    assert!(rt; draws.draw().is_some() && draws.draw().is_some());
-    Ok(Stations {
-        a: station(alloc, 0x0a, 16, suite, 1)?,
-        b: station(alloc, 0x0b, 32, suite, 2)?,
-        draws,
-    })
-}
-
-fn octets_of(alloc: Global, frame: Frame) -> Result<Vec<u8>, Fail> {
-    let mut octets = Vec::new(alloc);
-    for piece in pieces(frame) {
-        octets.extend_from_slice(&hex::decode(alloc, piece)?)?;
-    }
-    Ok(octets)
-}
-
+/// What is told of a key.
 fn summary(change: &Change) -> Told {
     match change {
         Change::Dropped(key) => Dropped(key.id.number),
@@ -109,287 +99,337 @@ fn summary(change: &Change) -> Told {
     }
 }
 
-fn server_of(reaction: &Reaction) -> Option<Told> {
-    match &reaction.server {
-        Some(Some(mi)) => Some(Elected(mi.0[11])),
-        Some(None) => Some(Lost),
-        None => None,
-    }
-}
-
 /// The server, where it changes, and then the keys.
-fn tells(rt: &impl Abort, reaction: &Reaction, told: &[Told]) {
-    let mut wanted = told.iter().copied();
-    let server = server_of(reaction);
-    if server.is_some() {
-        assert!(rt; wanted.next() == server);
+fn facts(alloc: Global, reaction: &Reaction) -> Result<Vec<Told>, Fail> {
+    let mut told = Vec::new(alloc);
+    match &reaction.server {
+        Some(Some(mi)) => told.push(Elected(mi.0[11]))?,
+        Some(None) => told.push(Lost)?,
+        None => {}
     }
     for change in reaction.changes.as_slice() {
-        assert!(rt; wanted.next() == Some(summary(change)));
+        told.push(summary(change))?;
     }
-    assert!(rt; wanted.next().is_none());
+    Ok(told)
 }
 
-fn sends(rt: &impl Abort, alloc: Global, reaction: &Reaction, frame: Frame) -> Result<(), Fail> {
-    let wanted = octets_of(alloc, frame)?;
-    match &reaction.sent {
-        Some(octets) => assert!(rt; octets.as_slice() == wanted.as_slice()),
-        None => assert!(rt; wanted.is_empty()),
-    }
-    Ok(())
+/// Whether the station told this, and sent this frame, or none.
+fn is_told(alloc: Global, reaction: &Reaction, wanted: &[Told], frame: &str) -> Result<bool, Fail> {
+    let told = facts(alloc, reaction)?;
+    let octets = hex::decode(alloc, frame)?;
+    let sent = match &reaction.sent {
+        Some(sent) => sent.as_slice(),
+        None => &[],
+    };
+    Ok(told.as_slice() == wanted && sent == octets.as_slice())
 }
 
-fn tick<D: Draws>(
-    rt: &impl Abort,
-    station: &mut Station,
-    draws: &mut D,
-    next: u64,
-) -> Result<Result<Reaction, StationFault>, Fail> {
-    let seen = Seen {
+/// What frames were seen at a tick.
+fn seen(next: u64) -> Seen {
+    Seen {
         next,
         latest: 1,
         old: 1,
-    };
-    assert!(rt; station.has_room());
-    Ok(station.tick(&seen, draws))
+    }
 }
 
+/// A tick, where 3 is drawn next.
+fn tick(rt: &impl Abort, station: &mut Station, next: u64) -> Result<Reaction, Fail> {
+    let mut draws = CountDraws::new();
+    assert!(rt; draws.draw().is_some() && draws.draw().is_some());
+    assert!(rt; station.has_room());
+    Ok(station.tick(&seen(next), &mut draws)?)
+}
+
+/// Whether a tick is refused where one draw is left.
+fn is_refused(rt: &impl Abort, alloc: Global, station: &mut Station) -> Result<bool, Fail> {
+    let mut values = Blocks::new(alloc);
+    values.push(drawn(3))?;
+    assert!(rt; station.has_room());
+    let ticked = station.tick(&seen(0), &mut ListDraws::of(values));
+    Ok(matches!(ticked, Err(StationFault::DrawsSpent)))
+}
+
+/// A frame is heard.
 fn hear(rt: &impl Abort, station: &mut Station, frame: &[u8]) -> Result<Reaction, Fail> {
     assert!(rt; station.has_room());
     Ok(station.hear(frame)?)
 }
 
-fn ticks(rt: &impl Abort, stations: &mut Stations, who: Who, next: u64) -> Result<Reaction, Fail> {
-    let reaction = match who {
-        A => tick(rt, &mut stations.a, &mut stations.draws, next)?,
-        B => tick(rt, &mut stations.b, &mut stations.draws, next)?,
-    };
-    Ok(reaction?)
+/// Whether a tick comes to this.
+fn ticks(
+    rt: &impl Abort,
+    alloc: Global,
+    station: &mut Station,
+    next: u64,
+    wanted: &[Told],
+    frame: &str,
+) -> Result<bool, Fail> {
+    let reaction = tick(rt, station, next)?;
+    Ok(reaction.heard.is_none() && is_told(alloc, &reaction, wanted, frame)?)
 }
 
+/// Whether the hearing of a frame comes to this.
 fn hears(
     rt: &impl Abort,
-    stations: &mut Stations,
-    who: Who,
-    frame: &[u8],
-) -> Result<Reaction, Fail> {
-    match who {
-        A => hear(rt, &mut stations.a, frame),
-        B => hear(rt, &mut stations.b, frame),
-    }
+    alloc: Global,
+    station: &mut Station,
+    frame: &str,
+    verdict: Verdict,
+    wanted: &[Told],
+) -> Result<bool, Fail> {
+    let octets = hex::decode(alloc, frame)?;
+    let reaction = hear(rt, station, &octets)?;
+    Ok(reaction.heard == Some(verdict) && is_told(alloc, &reaction, wanted, "")?)
 }
 
-fn restarts(rt: &impl Abort, stations: &mut Stations, who: Who) -> Result<Reaction, Fail> {
-    let draw = stations.draws.draw().expect(rt, "a draw for each life");
-    match who {
-        A => Ok(stations.a.restart(draw)?),
-        B => Ok(stations.b.restart(draw)?),
-    }
+/// Whether a restart under this identifier comes to this.
+fn restarts(
+    alloc: Global,
+    station: &mut Station,
+    number: u8,
+    wanted: &[Told],
+) -> Result<bool, Fail> {
+    let reaction = station.restart(drawn(number))?;
+    let told = reaction.heard.is_none() && is_told(alloc, &reaction, wanted, "")?;
+    Ok(told && *station.mi() == mi(number))
 }
 
-fn play(rt: &impl Abort, alloc: Global, stations: &mut Stations, step: Step) -> Result<(), Fail> {
-    let (reaction, verdict, told, sent) = match step {
-        Ticks(who, next, told, sent) => (ticks(rt, stations, who, next)?, None, told, sent),
-        Hears(who, frame, verdict, told) => {
-            let octets = octets_of(alloc, frame)?;
-            (
-                hears(rt, stations, who, &octets)?,
-                Some(verdict),
-                told,
-                Nothing,
-            )
-        }
-        Restarts(who, told) => (restarts(rt, stations, who)?, None, told, Nothing),
-    };
-    assert!(rt; reaction.heard == verdict);
-    tells(rt, &reaction, told);
-    sends(rt, alloc, &reaction, sent)
+/// Whether the station holds these keys, and transmits under the last one.
+fn holds(station: &Station, keys: &[Option<HeldKey>; 3]) -> bool {
+    let [latest, old, transmitting] = keys;
+    station.latest() == *latest && station.old() == *old && station.transmitting() == *transmitting
+}
+
+/// Whether a step comes to what it tells.
+fn play(rt: &impl Abort, alloc: Global, station: &mut Station, step: &Step) -> Result<bool, Fail> {
+    match step {
+        Ticks(next, told, frame) => ticks(rt, alloc, station, *next, told, frame),
+        Spends => is_refused(rt, alloc, station),
+        Hears(frame, verdict, told) => hears(rt, alloc, station, frame, *verdict, told),
+        Restarts(number, told) => restarts(alloc, station, *number, told),
+        Holds(keys) => Ok(holds(station, keys)),
+    }
 }
 
 fn plays(
     rt: &impl Abort,
     alloc: Global,
-    stations: &mut Stations,
+    station: &mut Station,
     steps: &[Step],
 ) -> Result<(), Fail> {
-    for step in steps {
-        play(rt, alloc, stations, *step)?;
+    for (at, step) in steps.iter().enumerate() {
+        assert!(rt; play(rt, alloc, station, step)?, "step {at}");
     }
     Ok(())
 }
 
-/// Both hear each other, and A is elected.
-const MEETING: [Step; 8] = [
-    Ticks(A, 0, &[], A1),
-    Ticks(B, 0, &[], B1),
-    Hears(B, A1, Unvouched, &[]),
-    Hears(A, B1, Unvouched, &[]),
-    Ticks(A, 0, &[], A2),
-    Ticks(B, 0, &[], B2),
-    Hears(B, A2, Vouched, &[Elected(1)]),
-    Hears(A, B2, Vouched, &[Elected(1)]),
+/// The steps of a station's life, and more of them.
+fn lives(
+    rt: &impl Abort,
+    alloc: Global,
+    who: Who,
+    suite: u16,
+    steps: &[Step],
+    more: &[Step],
+) -> Result<(), Fail> {
+    let mut station = station(alloc, who, suite)?;
+    plays(rt, alloc, &mut station, steps)?;
+    plays(rt, alloc, &mut station, more)
+}
+
+/// The first key: A makes it of the third draw, and each holds it under its own first epoch.
+const FIRST: HeldKey = HeldKey {
+    id: KeyId {
+        server: Mi([0, 0, 0, 0, 0, 0, 0, 0, 0, 0, 0, 1]),
+        number: 1,
+    },
+    an: 0,
+    sak: Secret::S128([0, 0, 0, 0, 0, 0, 0, 0, 0, 0, 0, 0, 0, 0, 0, 3]),
+    conf: true,
+    epoch: 1,
+    begun: true,
+};
+
+/// A hears B and is elected.
+const A_MEETS: [Step; 4] = [
+    Ticks(0, &[], A1),
+    Hears(B1, Unvouched, &[]),
+    Ticks(0, &[], A2),
+    Hears(B2, Vouched, &[Elected(1)]),
 ];
 
-/// A makes the first key, and both begin it.
-const FIRST_KEY: [Step; 13] = [
-    Ticks(A, 0, &[Installed(1, 0, 1)], A3),
-    Ticks(B, 0, &[], B3),
-    Hears(B, A3, Vouched, &[Installed(1, 0, 1)]),
-    Hears(A, B3, Vouched, &[]),
-    Ticks(A, 0, &[], Nothing),
-    Ticks(B, 0, &[], B4),
-    Hears(A, B4, Vouched, &[]),
-    Ticks(A, 0, &[Began(1, Cause::All)], A4),
-    Ticks(B, 0, &[], Nothing),
-    Hears(B, A4, Vouched, &[Began(1, Cause::Flag)]),
-    Ticks(A, 1, &[], Nothing),
-    Ticks(B, 1, &[], B5),
-    Hears(A, B5, Vouched, &[]),
+/// B hears A and elects it.
+const B_MEETS: [Step; 4] = [
+    Ticks(0, &[], B1),
+    Hears(A1, Unvouched, &[]),
+    Ticks(0, &[], B2),
+    Hears(A2, Vouched, &[Elected(1)]),
+];
+
+/// A makes the first key, and begins it when B reports it.
+const A_LEADS: [Step; 8] = [
+    Ticks(0, &[Installed(1, 0, 1)], A3),
+    Hears(B3, Vouched, &[]),
+    Ticks(0, &[], ""),
+    Hears(B4, Vouched, &[]),
+    Ticks(0, &[Began(1, Cause::All)], A4),
+    Ticks(1, &[], ""),
+    Hears(B5, Vouched, &[]),
+    Holds([Some(FIRST), None, Some(FIRST)]),
+];
+
+/// B takes the first key, and begins it when A does.
+const B_FOLLOWS: [Step; 7] = [
+    Ticks(0, &[], B3),
+    Hears(A3, Vouched, &[Installed(1, 0, 1)]),
+    Ticks(0, &[], B4),
+    Ticks(0, &[], ""),
+    Hears(A4, Vouched, &[Began(1, Cause::Flag)]),
+    Ticks(1, &[], B5),
+    Holds([Some(FIRST), None, Some(FIRST)]),
 ];
 
 #[test]
 fn two_stations_share_a_key(rt: HostRuntime) -> Result<(), Fail> {
-    let alloc = rt.alloc();
-    let mut stations = two_stations(&rt, alloc, 128)?;
-    plays(&rt, alloc, &mut stations, &MEETING)?;
-    plays(&rt, alloc, &mut stations, &FIRST_KEY)?;
-    let key = stations.b.transmitting().expect(&rt, "the key that began");
-    assert_eq!(rt; key.sak, Secret::S128(3_u128.to_be_bytes()));
-    assert!(rt; key.conf && key.begun);
-    assert!(rt; stations.b.latest() == Some(key) && stations.b.old().is_none());
-    assert_eq!(rt; stations.a.transmitting(), Some(key));
-    Ok(())
+    lives(&rt, rt.alloc(), A, 128, &A_MEETS, &A_LEADS)?;
+    lives(&rt, rt.alloc(), B, 128, &B_MEETS, &B_FOLLOWS)
 }
+
+/// B takes the first key, begins it and starts again. Nothing that A said before gives it a key.
+const B_STARTS_AGAIN: [Step; 11] = [
+    Ticks(0, &[], B3),
+    Hears(A3, Vouched, &[Installed(1, 0, 1)]),
+    Ticks(0, &[], B4),
+    Hears(A4, Vouched, &[Began(1, Cause::Flag)]),
+    Restarts(4, &[Lost, Dropped(1)]),
+    Hears(A1, Unvouched, &[]),
+    Hears(A2, Unvouched, &[]),
+    Hears(A3, Unvouched, &[Untaken(1, Why::NotListed)]),
+    Hears(A4, Unvouched, &[]),
+    Hears(A3, OldNumber { kept: 4 }, &[]),
+    Holds([None; 3]),
+];
 
 #[test]
 fn a_restarted_station_takes_nothing(rt: HostRuntime) -> Result<(), Fail> {
-    let alloc = rt.alloc();
-    let mut stations = two_stations(&rt, alloc, 128)?;
-    plays(&rt, alloc, &mut stations, &MEETING)?;
-    plays(&rt, alloc, &mut stations, &FIRST_KEY)?;
-    plays(
-        &rt,
-        alloc,
-        &mut stations,
-        &[
-            Restarts(B, &[Lost, Dropped(1)]),
-            Hears(B, A1, Unvouched, &[]),
-            Hears(B, A2, Unvouched, &[]),
-            Hears(B, A3, Unvouched, &[Untaken(1, Why::NotListed)]),
-            Hears(B, A4, Unvouched, &[]),
-            Hears(B, A3, OldNumber { kept: 4 }, &[]),
-        ],
-    )?;
-    assert_eq!(rt; *stations.b.mi(), Mi([0, 0, 0, 0, 0, 0, 0, 0, 0, 0, 0, 4]));
-    assert!(rt; stations.b.latest().is_none() && stations.b.transmitting().is_none());
-    Ok(())
+    lives(&rt, rt.alloc(), B, 128, &B_MEETS, &B_STARTS_AGAIN)
 }
 
 /// B hears frames that it drops, and then A.
-const DROPS: [Step; 15] = [
-    Ticks(B, 0, &[], B1),
-    Hears(B, OtherType, NotMka, &[]),
-    Hears(B, Cut, Short, &[]),
-    Hears(B, Odd, Shape { at: 54 }, &[]),
-    Hears(B, Twice, Repeated { kind: 1 }, &[]),
-    Hears(B, OtherAgility, Agility, &[]),
-    Hears(B, OtherName, CkName, &[]),
-    Hears(B, OtherEnd, Check, &[]),
-    Hears(B, OtherSource, Check, &[]),
-    Hears(B, B1, Echo, &[]),
-    Hears(B, OwnMi, Echo, &[]),
-    Hears(B, OwnSci, Echo, &[]),
-    Hears(B, A2, Vouched, &[Elected(1)]),
-    Hears(B, A1, OldNumber { kept: 2 }, &[]),
-    Hears(B, A2, OldNumber { kept: 2 }, &[]),
+const B_DROPS: [Step; 15] = [
+    Ticks(0, &[], B1),
+    Hears(OTHER_TYPE, NotMka, &[]),
+    Hears(CUT, Short, &[]),
+    Hears(ODD, Shape { at: 54 }, &[]),
+    Hears(TWICE, Repeated { kind: 1 }, &[]),
+    Hears(OTHER_AGILITY, Agility, &[]),
+    Hears(OTHER_NAME, CkName, &[]),
+    Hears(OTHER_END, Check, &[]),
+    Hears(OTHER_SOURCE, Check, &[]),
+    Hears(B1, Echo, &[]),
+    Hears(OWN_MI, Echo, &[]),
+    Hears(OWN_SCI, Echo, &[]),
+    Hears(A2, Vouched, &[Elected(1)]),
+    Hears(A1, OldNumber { kept: 2 }, &[]),
+    Hears(A2, OldNumber { kept: 2 }, &[]),
 ];
 
 #[test]
 fn drops_for_the_first_reason(rt: HostRuntime) -> Result<(), Fail> {
-    let mut stations = two_stations(&rt, rt.alloc(), 128)?;
-    plays(&rt, rt.alloc(), &mut stations, &DROPS)
+    lives(&rt, rt.alloc(), B, 128, &[], &B_DROPS)
 }
 
 /// B is offered keys that it does not take, and some that it takes.
-const OFFERS: [Step; 12] = [
-    Hears(B, Hoping, Vouched, &[Untaken(1, Why::NotListed)]),
-    Hears(B, Third, Vouched, &[Untaken(1, Why::NotServer)]),
-    Hears(B, OtherSuite, Vouched, &[Untaken(1, Why::Suite)]),
-    Hears(B, Offset30, Vouched, &[Untaken(1, Why::Offset)]),
-    Hears(B, Offset50, Vouched, &[Untaken(1, Why::Offset)]),
-    Hears(B, OtherWrap, Vouched, &[Untaken(1, Why::Wrap)]),
-    Hears(B, Key1, Vouched, &[Installed(1, 2, 1)]),
-    Hears(B, Key1Again, Vouched, &[Untaken(1, Why::Seen { kept: 1 })]),
+const B_IS_OFFERED: [Step; 12] = [
+    Hears(HOPING, Vouched, &[Untaken(1, Why::NotListed)]),
+    Hears(THIRD, Vouched, &[Untaken(1, Why::NotServer)]),
+    Hears(OTHER_SUITE, Vouched, &[Untaken(1, Why::Suite)]),
+    Hears(OFFSET_30, Vouched, &[Untaken(1, Why::Offset)]),
+    Hears(OFFSET_50, Vouched, &[Untaken(1, Why::Offset)]),
+    Hears(OTHER_WRAP, Vouched, &[Untaken(1, Why::Wrap)]),
+    Hears(KEY_1, Vouched, &[Installed(1, 2, 1)]),
+    Hears(KEY_1_AGAIN, Vouched, &[Untaken(1, Why::Seen { kept: 1 })]),
     Hears(
-        B,
-        Key2Begins,
+        KEY_2_BEGINS,
         Vouched,
         &[Dropped(1), Installed(2, 2, 2), Began(2, Cause::Flag)],
     ),
-    Hears(B, Key3, Vouched, &[Installed(3, 3, 3)]),
+    Hears(KEY_3, Vouched, &[Installed(3, 3, 3)]),
     Hears(
-        B,
-        Key3Begins,
+        KEY_3_BEGINS,
         Vouched,
         &[Untaken(3, Why::Seen { kept: 3 }), Began(3, Cause::Flag)],
     ),
-    Hears(B, Key4, Vouched, &[Untaken(4, Why::Retiring)]),
+    Hears(KEY_4, Vouched, &[Untaken(4, Why::Retiring)]),
 ];
 
 #[test]
 fn takes_a_key_or_says_why_not(rt: HostRuntime) -> Result<(), Fail> {
-    let mut stations = two_stations(&rt, rt.alloc(), 128)?;
-    plays(&rt, rt.alloc(), &mut stations, &MEETING)?;
-    plays(&rt, rt.alloc(), &mut stations, &OFFERS)
+    lives(&rt, rt.alloc(), B, 128, &B_MEETS, &B_IS_OFFERED)
 }
+
+/// A makes a key of 256 bits, which takes two draws.
+const A_MAKES_WIDE: [Step; 2] = [Spends, Ticks(0, &[Installed(1, 0, 1)], WIDE)];
+
+/// The key of 256 bits.
+const WIDE_KEY: HeldKey = HeldKey {
+    sak: Secret::S256([
+        0, 0, 0, 0, 0, 0, 0, 0, 0, 0, 0, 0, 0, 0, 0, 3, 0, 0, 0, 0, 0, 0, 0, 0, 0, 0, 0, 0, 0, 0,
+        0, 4,
+    ]),
+    begun: false,
+    ..FIRST
+};
+
+/// B takes it.
+const B_TAKES_WIDE: [Step; 2] = [
+    Hears(WIDE, Vouched, &[Installed(1, 0, 1)]),
+    Holds([Some(WIDE_KEY), None, None]),
+];
 
 #[test]
 fn a_key_of_256_bits_takes_two_draws(rt: HostRuntime) -> Result<(), Fail> {
-    let alloc = rt.alloc();
-    let mut stations = two_stations(&rt, alloc, 256)?;
-    plays(&rt, alloc, &mut stations, &MEETING)?;
-    let mut values = Blocks::new(alloc);
-    values.push(3_u128.to_be_bytes())?;
-    let refused = tick(&rt, &mut stations.a, &mut ListDraws::of(values), 0)?;
-    assert!(rt; matches!(refused, Err(StationFault::DrawsSpent)));
-    plays(
-        &rt,
-        alloc,
-        &mut stations,
-        &[
-            Ticks(A, 0, &[Installed(1, 0, 1)], Wide),
-            Hears(B, Wide, Vouched, &[Installed(1, 0, 1)]),
-        ],
-    )?;
-    let key = stations.b.latest().expect(&rt, "the key that was taken");
-    let mut sak = [0; 32];
-    sak[15] = 3;
-    sak[31] = 4;
-    assert_eq!(rt; key.sak, Secret::S256(sak));
-    Ok(())
+    lives(&rt, rt.alloc(), A, 256, &A_MEETS, &A_MAKES_WIDE)?;
+    lives(&rt, rt.alloc(), B, 256, &B_MEETS, &B_TAKES_WIDE)
 }
 
 /// A1 from another member, under a channel of its own.
-fn hello(rt: &impl Abort, alloc: Global, member: u8) -> Result<[u8; 70], Fail> {
-    let octets = octets_of(alloc, A1)?;
-    assert_eq!(rt; octets.len(), 70);
-    let mut frame = [0; 70];
-    frame.copy_from_slice(&octets);
-    frame[27] = member;
-    frame[41] = member;
-    let group = group(alloc)?;
-    let (covered, check) = frame.split_at_mut(54);
-    check.copy_from_slice(&cmac(&group.ick, covered));
-    Ok(frame)
+fn hello(alloc: Global, ick: &Key, member: u8) -> Result<Vec<u8>, Fail> {
+    let front = "0180c200000302000000000a888e03050034011060200200000000";
+    let mut octets = hex::decode(alloc, front)?;
+    octets.push(member)?;
+    octets.extend_from_slice(&[0, 1, 0, 0, 0, 0, 0, 0, 0, 0, 0, 0, 0])?;
+    octets.push(member)?;
+    octets.extend_from_slice(&[0, 0, 0, 1, 0, 0x80, 0xc2, 1, 1, 2, 3, 4])?;
+    let check = cmac(ick, &octets);
+    octets.extend_from_slice(&check)?;
+    Ok(octets)
+}
+
+/// What becomes of the first announcement of a member.
+fn meets(
+    rt: &impl Abort,
+    alloc: Global,
+    station: &mut Station,
+    ick: &Key,
+    member: u8,
+) -> Result<Option<Verdict>, Fail> {
+    Ok(hear(rt, station, &hello(alloc, ick, member)?)?.heard)
+}
+
+/// A station remembers 64 members, and no more.
+fn fills(rt: &impl Abort, alloc: Global, station: &mut Station, ick: &Key) -> Result<(), Fail> {
+    for member in 100..165 {
+        let wanted = if member < 164 { Unvouched } else { PeersFull };
+        let heard = meets(rt, alloc, station, ick, member)?;
+        assert!(rt; heard == Some(wanted), "member {member}");
+    }
+    Ok(())
 }
 
 #[test]
 fn remembers_64_members(rt: HostRuntime) -> Result<(), Fail> {
-    let mut station = station(rt.alloc(), 0x0b, 32, 128, 2)?;
-    for member in 100..165 {
-        let reaction = hear(&rt, &mut station, &hello(&rt, rt.alloc(), member)?)?;
-        let wanted = if member < 164 { Unvouched } else { PeersFull };
-        assert_eq!(rt; reaction.heard, Some(wanted), "member {member}");
-    }
-    Ok(())
+    let mut station = station(rt.alloc(), B, 128)?;
+    fills(&rt, rt.alloc(), &mut station, &group(rt.alloc())?.ick)
 }
