@@ -1,6 +1,6 @@
 //! The keys of one life of a station.
 
-ghost use Rattle.std.specs.Prelude.{◌≡◌, ◌+◌, ◌<◌, ◌^◌, ◌∷◌, ◌&&◌, ◌==◌, ◌||◌, not, [], List, ℕ, Bool, Option, Some, None, true, false, cond, is_some, option_map, IsTrue, IfOk, OnOk, OnErr, IsOk, IsNone};
+ghost use Rattle.std.specs.Prelude.{◌≡◌, ◌+◌, ◌<◌, ◌^◌, ◌&&◌, ◌==◌, ◌||◌, not, [], List, ℕ, Bool, Option, Some, None, true, false, is_some, option_map, IsTrue, IfOk, OnOk, OnErr, IsOk, IsNone};
 ghost use Rattle.std.specs.List.{list_all, list_any};
 ghost use Rattle.std.specs.Option.{option_map_or};
 ghost use Rattle.lan_base.specs.declared.address.Mi.{Mi};
