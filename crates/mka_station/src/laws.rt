@@ -1,6 +1,6 @@
 //! What the definitions of a station give.
 
-ghost use Rattle.std.specs.Prelude.{◌≡◌, ◌<◌, ◌≤◌, false, ◌+◌, ◌^◌, ◌||◌, ◌∷◌, ◌↔◌, ℕ, Bool, List, All, Option, Some, None, is_some, IsTrue, IsFalse};
+ghost use Rattle.std.specs.Prelude.{◌≡◌, ◌<◌, ◌≤◌, false, ◌+◌, ◌^◌, ◌||◌, ◌∷◌, ◌↔◌, ℕ, List, All, Option, Some, None, is_some, IsTrue, IsFalse};
 ghost use Rattle.aes_block.specs.declared.secret.Secret.{Secret};
 ghost use Rattle.mkpdu_codec.specs.declared.announcement.Announcement.{Announcement};
 ghost use Rattle.peer_lists.specs.Histories.{last_sent};

@@ -1,6 +1,6 @@
 //! What a station makes of the rows of its peer lists.
 
-ghost use Rattle.std.specs.Prelude.{◌≡◌, ◌≤◌, ◌∷◌, ℕ, List, length, map, slice_get, nat_lt, IfOk};
+ghost use Rattle.std.specs.Prelude.{◌≡◌, ◌≤◌, ◌∷◌, ℕ, List, length, map, slice_get, IfOk};
 ghost use Rattle.std.specs.List.{list_any};
 ghost use Rattle.mka_station.specs.Views.{is_server};
 ghost use Rattle.peer_lists.specs.Acceptance.{Own};

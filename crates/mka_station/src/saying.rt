@@ -1,18 +1,18 @@
 //! What a station says of its keys, and the frame of an announcement.
 
-ghost use Rattle.std.specs.Prelude.{◌≡◌, ◌≢◌, ◌<◌, ◌++◌, ◌&&◌, ℕ, List, All, false, not, length, cond, option_map, IfOk, IfSome, OnOk};
+ghost use Rattle.std.specs.Prelude.{◌≡◌, ◌<◌, ◌++◌, ◌&&◌, ℕ, List, false, not, option_map, IfOk, IfSome};
 ghost use Rattle.std.specs.List.{list_all, list_any};
 ghost use Rattle.lan_base.specs.declared.address.Mi.{Mi};
 ghost use Rattle.aes_cmac.specs.Cmac.{cmac};
 ghost use Rattle.mkpdu_codec.specs.Written.{written, IsWritable, IsWritableGiven};
-ghost use Rattle.sak_exchange.specs.Histories.{Key as AKey, Keying, installs};
+ghost use Rattle.sak_exchange.specs.Histories.{Keying, installs};
 ghost use Rattle.sak_exchange.specs.Held.{latest, old, transmitting, held};
 ghost use Rattle.sak_exchange.specs.Making.{is_in_roster};
 ghost use Rattle.sak_exchange.specs.Reports.{names, reports as is_reported};
 ghost use Rattle.sak_exchange.specs.Standing.{StandsFor};
-ghost use Rattle.mka_station.specs.Announcing.{lowest_in, id_of};
+ghost use Rattle.mka_station.specs.Announcing.{id_of};
 ghost use Rattle.mka_station.specs.Standing.{HaveTwoBits};
-ghost use Rattle.mka_station.specs.inside.Saying.{given_after, lowest_by, use_by, uses_by, given_by, offset_by, is_given_to};
+ghost use Rattle.mka_station.specs.inside.Saying.{given_after, lowest_by, use_by, uses_by, given_by, is_given_to};
 
 use crate::shown::{id_of, is_same_key};
 use aes_block::{Key, Secret};

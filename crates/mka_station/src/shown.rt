@@ -1,13 +1,12 @@
 //! What a change of calls for an announcement.
 
-ghost use Rattle.std.specs.Prelude.{◌≡◌, ◌↔◌, ℕ, List, Bool, true, false, map, option_map, nat_le, ◌||◌, not, ◌+◌, IfOk};
+ghost use Rattle.std.specs.Prelude.{◌≡◌, ℕ, List, true, false, map, option_map, ◌||◌, IfOk};
 ghost use Rattle.lan_base.specs.declared.address.Mi.{Mi};
 ghost use Rattle.lan_base.specs.Identifiers.{same_mi};
 ghost use Rattle.sak_exchange.specs.Histories.{Keying};
 ghost use Rattle.sak_exchange.specs.Held.{latest, old, transmitting};
 ghost use Rattle.sak_exchange.specs.Standing.{StandsFor};
 ghost use Rattle.mka_station.specs.Announcing.{Shown, id_of, same_option, same_key, same_shown};
-ghost use Rattle.mka_station.specs.inside.Rows.{live_rows, potential_rows};
 ghost use Rattle.mka_station.specs.inside.Due.{shown_by, same_members, same_keys, is_due_now};
 
 use crate::rows::{live_members, potential_members};

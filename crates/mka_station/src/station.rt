@@ -1,6 +1,6 @@
 //! One station in one of its lives.
 
-ghost use Rattle.std.specs.Prelude.{◌≡◌, ◌≢◌, ◌≤◌, ◌<◌, ◌+◌, ◌^◌, ◌↔◌, ◌∷◌, ◌&&◌, ◌++◌, nat_lt, [], List, ℕ, Bool, true, false, Option, Some, None, Ok, Err, IsTrue, IfOk, OnOk, OnErr, OnSome, IfSome, IfErr, not, min, is_some, option_map, cond, length, take};
+ghost use Rattle.std.specs.Prelude.{◌≡◌, ◌≢◌, ◌≤◌, ◌<◌, ◌+◌, ◌^◌, ◌↔◌, ◌&&◌, ◌++◌, nat_lt, [], List, ℕ, true, false, Option, Some, None, Ok, Err, IsTrue, IfOk, OnOk, OnErr, OnSome, IfSome, IfErr, not, min, is_some, option_map, cond, length, take};
 ghost use Rattle.std.specs.List.{list_any};
 ghost use Rattle.lan_base.specs.declared.address.Mi.{Mi};
 ghost use Rattle.aes_block.specs.declared.secret.Secret.{Secret};

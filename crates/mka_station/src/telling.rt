@@ -1,6 +1,6 @@
 //! What an announcement tells a member.
 
-ghost use Rattle.std.specs.Prelude.{◌≡◌, ℕ, ◌∷◌, ◌++◌, ◌&&◌, List, unwrap_or, IfOk, OnOk};
+ghost use Rattle.std.specs.Prelude.{◌≡◌, ◌++◌, ◌&&◌, List, unwrap_or, IfOk, OnOk};
 ghost use Rattle.std.specs.Option.{option_or};
 ghost use Rattle.peer_lists.specs.Acceptance.{first_number};
 ghost use Rattle.std.specs.List.{find, list_any};
