@@ -677,7 +677,8 @@ impl Station {
     }
 }
 
-/// The member identifier that a draw gives: its last 12 octets.
+/// The member identifier that a draw gives, at a start and at a restart: its last 12 octets. A
+/// caller can ask for it before either.
 pub fn mi_of(draw: [u8; 16]) -> Mi
     ensures { result ≡ drawn_mi draw }
 {
