@@ -3,7 +3,7 @@ use Rattle.std.specs.Prelude.{IfOk}
 use Rattle.sak_exchange.specs.Beginning.{Beginning}
 use Rattle.sak_exchange.specs.Outcomes.{beginning}
 use Rattle.mka_station.proofs.Follows.{followed-is}
-use Rattle.mka_station.proofs.station.follow.Goals as goal
+use Rattle.mka_station.proofs.station.hearing.follow.Goals as goal
 
 pub returns-in-Vouched-Some-clause-changes : goal.returns-in-Vouched-Some-clause-changes
 returns-in-Vouched-Some-clause-changes c = λ base own h s.

@@ -3,7 +3,7 @@ use Rattle.std.specs.List.{list_any}
 use Rattle.lan_base.specs.Identifiers.{same_mi}
 use Rattle.peer_lists.specs.Histories.{recent}
 use Rattle.mka_station.proofs.Takes.{offered-is}
-use Rattle.mka_station.proofs.station.offered.Goals as goal
+use Rattle.mka_station.proofs.station.hearing.offered.Goals as goal
 
 pub returns : goal.returns
 returns c = λ own h s.

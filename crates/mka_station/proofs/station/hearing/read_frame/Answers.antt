@@ -1,4 +1,4 @@
-use Rattle.mka_station.proofs.station.read_frame.Goals as goal
+use Rattle.mka_station.proofs.station.hearing.read_frame.Goals as goal
 
 pub returns-in_ok-verdict-in-Err-clause-err : goal.returns-in_ok-verdict-in-Err-clause-err
 returns-in_ok-verdict-in-Err-clause-err c =

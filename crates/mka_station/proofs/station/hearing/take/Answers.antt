@@ -5,7 +5,7 @@ use Rattle.sak_exchange.specs.Standing.{StandsFor as KeysStandFor}
 use Rattle.mka_station.specs.Hearing.{take_changes, key_taken}
 use Rattle.mka_station.specs.inside.Turns.{answered, keys_with}
 use Rattle.mka_station.proofs.Takes.{past-judged}
-use Rattle.mka_station.proofs.station.take.Goals as goal
+use Rattle.mka_station.proofs.station.hearing.take.Goals as goal
 
 pub returns-in-Some-clause-changes : goal.returns-in-Some-clause-changes
 returns-in-Some-clause-changes c = λ base own h s.

@@ -4,7 +4,7 @@ use Rattle.aes_block.specs.declared.secret.Secret.{Secret}
 use Rattle.sak_exchange.specs.Making.{made_roster}
 use Rattle.sak_exchange.specs.Standing.{StandsFor as KeysStandFor}
 use Rattle.mka_station.specs.inside.Turns.{made_by, keys_made}
-use Rattle.mka_station.proofs.station.make.Goals as goal
+use Rattle.mka_station.proofs.station.ticking.make.Goals as goal
 
 pub returns-in-Some-clause-stands : goal.returns-in-Some-clause-stands
 returns-in-Some-clause-stands c = λ base own h s due.

@@ -1,0 +1,296 @@
+//! A frame is heard: it is judged, and what it says is taken.
+
+ghost use Rattle.std.specs.Prelude.{◌≡◌, ◌≢◌, ◌≤◌, ◌<◌, ◌+◌, ◌^◌, List, ℕ, false, Ok, Err, IfOk, OnOk, OnErr, IfSome, IfErr, length, take};
+ghost use Rattle.lan_base.specs.declared.address.Mi.{Mi};
+ghost use Rattle.mkpdu_codec.specs.declared.refusal.Refusal.{Refusal};
+ghost use Rattle.mkpdu_codec.specs.Reading.{reading};
+ghost use Rattle.peer_lists.specs.Acceptance.{Own};
+ghost use Rattle.peer_lists.specs.Histories.{Peering};
+ghost use Rattle.peer_lists.specs.Table.{StandsFor as PeersStandFor};
+ghost use Rattle.sak_exchange.specs.Histories.{Keying};
+ghost use Rattle.sak_exchange.specs.Outcomes.{beginning};
+ghost use Rattle.sak_exchange.specs.Standing.{StandsFor as KeysStandFor};
+ghost use Rattle.sak_exchange.specs.Taking.{an_of};
+ghost use Rattle.mka_station.specs.declared.verdict.Verdict.{Verdict};
+ghost use Rattle.mka_station.specs.Lives.{Member, Entry};
+ghost use Rattle.mka_station.specs.Hearing.{judged, hear_turn, frame_turn, take_changes, key_taken, is_accepted, verdict_of, verdict_of_refusal};
+ghost use Rattle.mka_station.specs.Standing.{StandsFor, HasRoom};
+ghost use Rattle.mka_station.specs.inside.Stages.{IsHeard};
+ghost use Rattle.mka_station.specs.inside.Turns.{offered_by, answered, keys_with, followed_by, IsRefused, fault_of};
+
+use super::{Station, new_server};
+use crate::changes::{joined, one_installs};
+use crate::coming::candidate;
+use crate::next::{Heard, Next};
+use crate::reaction::Reaction;
+use crate::rows::{elected, is_server, rows_now};
+use crate::telling::{is_listed, told};
+use crate::verdict::Verdict;
+use aes_block::Key;
+use aes_cmac::cmac;
+use lan_base::Mi;
+use mkpdu_codec::{Announcement, Refusal, Spelled, law_reading_refuses, law_spelled_is_read, read};
+use peer_lists::{DropReason, Outcome, PeerTable};
+use sak_exchange::{Changes, KeyState, Offer};
+use server_election::Candidate;
+use std::alloc::{AllocError, Global};
+
+impl Station {
+    /// A frame is heard. One that is dropped by its form, its group's name or its check value
+    /// changes nothing.
+    pub fn hear(&mut self, frame: &[u8]) -> Result<Reaction, AllocError>
+        requires room { HasRoom self.old }
+        ensures reaction { (m : Member) (p : List Entry) → StandsFor m self.old p →
+            IfOk result (λ r. r ≡ (frame_turn m frame.now p).reaction) }
+        ensures stands { (m : Member) (p : List Entry) → StandsFor m self.old p →
+            OnOk result (StandsFor m self.new (frame_turn m frame.now p).past) }
+        ensures dropped { (v : Verdict) → judged self.old.setup frame.now ≡ Err v →
+            self.new ≡ self.old }
+        ensures unchanged { OnErr result (self.new ≡ self.old) }
+    {
+        match self.judged(frame)? {
+            Ok(announcement) => self.hear_announcement(&announcement),
+            Err(verdict) => Ok(Reaction {
+                heard: Some(verdict),
+                server: None,
+                changes: Changes::new(self.alloc),
+                sent: None,
+            }),
+        }
+    }
+
+    /// The announcement of a frame of the group, or why the frame is dropped before anything is
+    /// known of its member.
+    fn judged(&self, frame: &[u8]) -> Result<Result<Announcement, Verdict>, AllocError>
+        ensures value { IfOk result (λ j. j ≡ judged self.now.setup frame.now) }
+        ensures bits { IfOk result (λ j. IfOk j (λ a. IfSome a.given (λ g. an_of g < 4))) }
+    {
+        let spelled = match read_frame(self.alloc, frame)? {
+            Ok(spelled) => spelled,
+            Err(verdict) => return Ok(Err(verdict)),
+        };
+        let Spelled {
+            announcement,
+            covered,
+            check,
+        } = spelled;
+        match self.fault(&announcement, frame, covered, &check) {
+            Some(verdict) => Ok(Err(verdict)),
+            None => Ok(Ok(announcement)),
+        }
+    }
+
+    /// Why an announcement is dropped that a frame spells, with this check value over so many of
+    /// its octets: it is not of the group.
+    fn fault(
+        &self,
+        announcement: &Announcement,
+        frame: &[u8],
+        covered: usize,
+        check: &[u8; 16],
+    ) -> Option<Verdict>
+        requires { covered ≤ length frame.now }
+        ensures { result
+            ≡ fault_of self.now.setup announcement.now (take covered frame.now) check.now }
+    {
+        if announcement.ckn != self.config.group.ckn {
+            return Some(Verdict::CkName);
+        }
+        if cmac(self.ick(), &frame[..covered]) != *check {
+            return Some(Verdict::Check);
+        }
+        None
+    }
+
+    /// An announcement is heard in a frame that is right.
+    fn hear_announcement(&mut self, announcement: &Announcement) -> Result<Reaction, AllocError>
+        requires room { HasRoom self.old }
+        ensures reaction { (m : Member) (p : List Entry) → StandsFor m self.old p →
+            IfOk result (λ r. r ≡ (hear_turn m announcement.now p).reaction) }
+        ensures stands { (m : Member) (p : List Entry) → StandsFor m self.old p →
+            IfSome announcement.now.given (λ g. an_of g < 4) →
+            OnOk result (StandsFor m self.new (hear_turn m announcement.now p).past) }
+        ensures unchanged { OnErr result (self.new ≡ self.old) }
+    {
+        let heard = self.after_hearing(announcement)?;
+        let Heard {
+            next,
+            installs,
+            reaction,
+        } = heard;
+        self.settle(next, installs);
+        Ok(reaction)
+    }
+
+    /// What a hearing comes to.
+    fn after_hearing(&self, announcement: &Announcement) -> Result<Heard, AllocError>
+        requires room { HasRoom self.now }
+        ensures { (m : Member) (p : List Entry) → StandsFor m self.now p →
+            IfOk result (IsHeard m p announcement.now) }
+    {
+        let heard = told(self.alloc, self.mi(), self.peers(), announcement)?;
+        let mut peers = self.peers().copied(self.alloc)?;
+        let outcome = peers.hear(&heard);
+        let rows = rows_now(self.alloc, &peers)?;
+        let server = elected(self.alloc, &self.candidate(), &rows)?;
+        let mut keys = self.keys().copied(self.alloc)?;
+        let offer = offered(outcome, &peers, self.mi(), server, announcement);
+        let taken = take(self.alloc, self.kek(), &mut keys, offer)?;
+        let followed = follow(self.alloc, &mut keys, outcome, server, announcement)?;
+        let installs = one_installs(&taken);
+        let changes = joined(taken, &followed)?;
+        let coming = self.prepare(*self.mi(), &peers, &keys)?;
+        Ok(Heard {
+            next: Next {
+                peers,
+                keys,
+                server,
+                coming,
+            },
+            installs,
+            reaction: Reaction {
+                heard: Some(verdict_of(outcome)),
+                server: new_server(self.server(), server),
+                changes,
+                sent: None,
+            },
+        })
+    }
+
+    /// The station as a candidate.
+    fn candidate(&self) -> Candidate
+        ensures { result ≡ record {
+          mi = self.now.mi;
+          sci = self.now.setup.sci;
+          priority = self.now.setup.priority;
+        } }
+    {
+        candidate(&self.config, self.mi)
+    }
+}
+
+/// What a frame spells, or why it is dropped.
+fn read_frame(alloc: Global, frame: &[u8]) -> Result<Result<Spelled, Verdict>, AllocError>
+    ensures ok { IfOk result (λ r. IfOk r (λ s. reading frame.now ≡ Ok s)) }
+    ensures covered { IfOk result (λ r. IfOk r (λ s. s.covered ≤ length frame.now)) }
+    ensures bits { IfOk result (λ r. IfOk r (λ s. IfSome s.announcement.given (λ g. an_of g < 4))) }
+    ensures err { IfOk result (λ r. IfErr r (λ v. IsRefused frame.now v)) }
+{
+    law_spelled_is_read();
+    law_reading_refuses();
+    match read(alloc, frame) {
+        Ok(spelled) => Ok(Ok(spelled)),
+        Err(refusal) => {
+            let verdict = verdict_of_refusal(refusal)?;
+            Ok(Err(verdict))
+        }
+    }
+}
+
+/// Why a frame is dropped that is not read, if that isn't want of memory.
+fn verdict_of_refusal(refusal: Refusal) -> Result<Verdict, AllocError>
+    ensures { IfOk result (λ v. (v ≡ verdict_of_refusal refusal) × (refusal ≢ Refusal.Memory)) }
+{
+    match refusal {
+        Refusal::NotMka => Ok(Verdict::NotMka),
+        Refusal::Short => Ok(Verdict::Short),
+        Refusal::Shape { at } => Ok(Verdict::Shape { at }),
+        Refusal::Repeated { kind } => Ok(Verdict::Repeated { kind }),
+        Refusal::Agility => Ok(Verdict::Agility),
+        Refusal::Memory => Err(AllocError),
+    }
+}
+
+/// What hearing comes to, by what the peer lists answer.
+fn verdict_of(outcome: Outcome) -> Verdict
+    ensures { result ≡ verdict_of outcome }
+{
+    match outcome {
+        Outcome::Vouched => Verdict::Vouched,
+        Outcome::Unvouched => Verdict::Unvouched,
+        Outcome::Dropped(DropReason::Echo) => Verdict::Echo,
+        Outcome::Dropped(DropReason::OldNumber { kept }) => Verdict::OldNumber { kept },
+        Outcome::Dropped(DropReason::PeersFull) => Verdict::PeersFull,
+    }
+}
+
+/// The key that an announcement offers that came to this, if it was accepted and gives one.
+fn offered(
+    outcome: Outcome,
+    peers: &PeerTable,
+    mi: &Mi,
+    server: Option<Mi>,
+    announcement: &Announcement,
+) -> Option<Offer>
+    ensures { (own : Own) (h : List Peering) → PeersStandFor own peers.now h →
+        result ≡ offered_by outcome h mi.now server announcement.now }
+{
+    let Some(given) = announcement.given else {
+        return None;
+    };
+    if !is_accepted(outcome) {
+        return None;
+    }
+    Some(Offer {
+        given,
+        server: announcement.mi,
+        listed: is_listed(mi, peers, announcement.live.as_slice()),
+        elected: is_server(server, &announcement.mi),
+    })
+}
+
+/// Whether what was heard is accepted.
+fn is_accepted(outcome: Outcome) -> bool
+    ensures { result ≡ is_accepted outcome }
+{
+    match outcome {
+        Outcome::Vouched | Outcome::Unvouched => true,
+        Outcome::Dropped(_) => false,
+    }
+}
+
+/// A key that is offered is taken, or told why not.
+fn take(
+    alloc: Global,
+    kek: &Key,
+    keys: &mut KeyState,
+    offer: Option<Offer>,
+) -> Result<Changes, AllocError>
+    requires few { keys.old.epochs + 1 < 2 ^ 32 }
+    ensures changes { (base : ℕ) (own : Mi) (h : List Keying) →
+        KeysStandFor base own false keys.old h →
+        IfOk result (λ c. c ≡ take_changes h offer (answered base kek.now h offer)) }
+    ensures stands { (base : ℕ) (own : Mi) (h : List Keying) →
+        KeysStandFor base own false keys.old h →
+        OnOk result (KeysStandFor base own false keys.new
+        (keys_with (key_taken (answered base kek.now h offer)) h)) }
+{
+    match offer {
+        Some(offer) => keys.take(&offer, kek),
+        None => Ok(Changes::new(alloc)),
+    }
+}
+
+/// The latest key begins, where the elected server says in a vouched announcement that it transmits
+/// under it.
+fn follow(
+    alloc: Global,
+    keys: &mut KeyState,
+    outcome: Outcome,
+    server: Option<Mi>,
+    announcement: &Announcement,
+) -> Result<Changes, AllocError>
+    ensures changes { (base : ℕ) (own : Mi) (h : List Keying) →
+        KeysStandFor base own false keys.old h →
+        IfOk result (λ c. c
+        ≡ (beginning h (followed_by outcome server announcement.now h)).changes) }
+    ensures stands { (base : ℕ) (own : Mi) (h : List Keying) →
+        KeysStandFor base own false keys.old h →
+        OnOk result (KeysStandFor base own false keys.new
+        (beginning h (followed_by outcome server announcement.now h)).past) }
+{
+    match (outcome, &announcement.uses) {
+        (Outcome::Vouched, Some(uses)) if is_server(server, &announcement.mi) => keys.follow(uses),
+        _ => Ok(Changes::new(alloc)),
+    }
+}
