@@ -3,7 +3,7 @@
 
 use crate::test_frames::*;
 use crate::{Config, Reaction, Station, StationFault, Verdict};
-use Step::{Hears, Holds, Restarts, Spends, Ticks};
+use Step::{Fills, Hears, Holds, Restarts, Spends, Ticks};
 use Told::{Began, Dropped, Elected, Installed, Lost, Untaken};
 use Verdict::{
     Agility, Check, CkName, Echo, NotMka, OldNumber, PeersFull, Repeated, Shape, Short, Unvouched,
@@ -28,7 +28,7 @@ enum Who {
 
 /// What changes in an event: the server, by the last octet of its identifier, and keys, by their
 /// number.
-#[derive(Clone, Copy, Debug, PartialEq, Eq)]
+#[derive(Clone, Copy, PartialEq, Eq)]
 enum Told {
     Elected(u8),
     Lost,
@@ -53,6 +53,8 @@ enum Step {
     Restarts(u8, &'static [Told]),
     /// It holds these keys, and transmits under the last one.
     Holds([Option<HeldKey>; 3]),
+    /// It hears so many other members that it cannot remember one more.
+    Fills,
 }
 
 /// The draw that is this number.
@@ -201,6 +203,42 @@ fn holds(station: &Station, keys: &[Option<HeldKey>; 3]) -> bool {
     station.latest() == *latest && station.old() == *old && station.transmitting() == *transmitting
 }
 
+/// A1 from another member, under a channel of its own.
+fn hello(alloc: Global, ick: &Key, member: u8) -> Result<Vec<u8>, Fail> {
+    let front = "0180c200000302000000000a888e03050034011060200200000000";
+    let mut octets = hex::decode(alloc, front)?;
+    octets.push(member)?;
+    octets.extend_from_slice(&[0, 1, 0, 0, 0, 0, 0, 0, 0, 0, 0, 0, 0])?;
+    octets.push(member)?;
+    octets.extend_from_slice(&[0, 0, 0, 1, 0, 0x80, 0xc2, 1, 1, 2, 3, 4])?;
+    let check = cmac(ick, &octets);
+    octets.extend_from_slice(&check)?;
+    Ok(octets)
+}
+
+/// What becomes of the first announcement of a member.
+fn meets(
+    rt: &impl Abort,
+    alloc: Global,
+    station: &mut Station,
+    ick: &Key,
+    member: u8,
+) -> Result<Option<Verdict>, Fail> {
+    Ok(hear(rt, station, &hello(alloc, ick, member)?)?.heard)
+}
+
+/// Whether the station, which knows one other member, remembers 64 and no more.
+fn fills(rt: &impl Abort, alloc: Global, station: &mut Station) -> Result<bool, Fail> {
+    let group = group(alloc)?;
+    for member in 100..164 {
+        let wanted = if member < 163 { Unvouched } else { PeersFull };
+        if meets(rt, alloc, station, &group.ick, member)? != Some(wanted) {
+            return Ok(false);
+        }
+    }
+    Ok(true)
+}
+
 /// Whether a step comes to what it tells.
 fn play(rt: &impl Abort, alloc: Global, station: &mut Station, step: &Step) -> Result<bool, Fail> {
     match step {
@@ -209,6 +247,7 @@ fn play(rt: &impl Abort, alloc: Global, station: &mut Station, step: &Step) -> R
         Hears(frame, verdict, told) => hears(rt, alloc, station, frame, *verdict, told),
         Restarts(number, told) => restarts(alloc, station, *number, told),
         Holds(keys) => Ok(holds(station, keys)),
+        Fills => fills(rt, alloc, station),
     }
 }
 
@@ -222,20 +261,6 @@ fn plays(
         assert!(rt; play(rt, alloc, station, step)?, "step {at}");
     }
     Ok(())
-}
-
-/// The steps of a station's life, and more of them.
-fn lives(
-    rt: &impl Abort,
-    alloc: Global,
-    who: Who,
-    suite: u16,
-    steps: &[Step],
-    more: &[Step],
-) -> Result<(), Fail> {
-    let mut station = station(alloc, who, suite)?;
-    plays(rt, alloc, &mut station, steps)?;
-    plays(rt, alloc, &mut station, more)
 }
 
 /// The first key: A makes it of the third draw, and each holds it under its own first epoch.
@@ -267,6 +292,27 @@ const B_MEETS: [Step; 4] = [
     Hears(A2, Vouched, &[Elected(1)]),
 ];
 
+/// The station meets the other one, and then takes these steps.
+fn meets_and_plays(
+    rt: &impl Abort,
+    alloc: Global,
+    who: Who,
+    station: &mut Station,
+    steps: &[Step],
+) -> Result<(), Fail> {
+    match who {
+        A => plays(rt, alloc, station, &A_MEETS)?,
+        B => plays(rt, alloc, station, &B_MEETS)?,
+    }
+    plays(rt, alloc, station, steps)
+}
+
+/// A station that makes keys of so many bits meets the other one, and then takes these steps.
+fn lives(rt: &impl Abort, alloc: Global, who: Who, suite: u16, steps: &[Step]) -> Result<(), Fail> {
+    let mut station = station(alloc, who, suite)?;
+    meets_and_plays(rt, alloc, who, &mut station, steps)
+}
+
 /// A makes the first key, and begins it when B reports it.
 const A_LEADS: [Step; 8] = [
     Ticks(0, &[Installed(1, 0, 1)], A3),
@@ -292,8 +338,8 @@ const B_FOLLOWS: [Step; 7] = [
 
 #[test]
 fn two_stations_share_a_key(rt: HostRuntime) -> Result<(), Fail> {
-    lives(&rt, rt.alloc(), A, 128, &A_MEETS, &A_LEADS)?;
-    lives(&rt, rt.alloc(), B, 128, &B_MEETS, &B_FOLLOWS)
+    lives(&rt, rt.alloc(), A, 128, &A_LEADS)?;
+    lives(&rt, rt.alloc(), B, 128, &B_FOLLOWS)
 }
 
 /// B takes the first key, begins it and starts again. Nothing that A said before gives it a key.
@@ -313,12 +359,11 @@ const B_STARTS_AGAIN: [Step; 11] = [
 
 #[test]
 fn a_restarted_station_takes_nothing(rt: HostRuntime) -> Result<(), Fail> {
-    lives(&rt, rt.alloc(), B, 128, &B_MEETS, &B_STARTS_AGAIN)
+    lives(&rt, rt.alloc(), B, 128, &B_STARTS_AGAIN)
 }
 
-/// B hears frames that it drops, and then A.
-const B_DROPS: [Step; 15] = [
-    Ticks(0, &[], B1),
+/// B hears frames that it drops.
+const B_DROPS: [Step; 13] = [
     Hears(OTHER_TYPE, NotMka, &[]),
     Hears(CUT, Short, &[]),
     Hears(ODD, Shape { at: 54 }, &[]),
@@ -330,14 +375,13 @@ const B_DROPS: [Step; 15] = [
     Hears(B1, Echo, &[]),
     Hears(OWN_MI, Echo, &[]),
     Hears(OWN_SCI, Echo, &[]),
-    Hears(A2, Vouched, &[Elected(1)]),
     Hears(A1, OldNumber { kept: 2 }, &[]),
     Hears(A2, OldNumber { kept: 2 }, &[]),
 ];
 
 #[test]
 fn drops_for_the_first_reason(rt: HostRuntime) -> Result<(), Fail> {
-    lives(&rt, rt.alloc(), B, 128, &[], &B_DROPS)
+    lives(&rt, rt.alloc(), B, 128, &B_DROPS)
 }
 
 /// B is offered keys that it does not take, and some that it takes.
@@ -366,7 +410,7 @@ const B_IS_OFFERED: [Step; 12] = [
 
 #[test]
 fn takes_a_key_or_says_why_not(rt: HostRuntime) -> Result<(), Fail> {
-    lives(&rt, rt.alloc(), B, 128, &B_MEETS, &B_IS_OFFERED)
+    lives(&rt, rt.alloc(), B, 128, &B_IS_OFFERED)
 }
 
 /// A makes a key of 256 bits, which takes two draws.
@@ -390,46 +434,11 @@ const B_TAKES_WIDE: [Step; 2] = [
 
 #[test]
 fn a_key_of_256_bits_takes_two_draws(rt: HostRuntime) -> Result<(), Fail> {
-    lives(&rt, rt.alloc(), A, 256, &A_MEETS, &A_MAKES_WIDE)?;
-    lives(&rt, rt.alloc(), B, 256, &B_MEETS, &B_TAKES_WIDE)
-}
-
-/// A1 from another member, under a channel of its own.
-fn hello(alloc: Global, ick: &Key, member: u8) -> Result<Vec<u8>, Fail> {
-    let front = "0180c200000302000000000a888e03050034011060200200000000";
-    let mut octets = hex::decode(alloc, front)?;
-    octets.push(member)?;
-    octets.extend_from_slice(&[0, 1, 0, 0, 0, 0, 0, 0, 0, 0, 0, 0, 0])?;
-    octets.push(member)?;
-    octets.extend_from_slice(&[0, 0, 0, 1, 0, 0x80, 0xc2, 1, 1, 2, 3, 4])?;
-    let check = cmac(ick, &octets);
-    octets.extend_from_slice(&check)?;
-    Ok(octets)
-}
-
-/// What becomes of the first announcement of a member.
-fn meets(
-    rt: &impl Abort,
-    alloc: Global,
-    station: &mut Station,
-    ick: &Key,
-    member: u8,
-) -> Result<Option<Verdict>, Fail> {
-    Ok(hear(rt, station, &hello(alloc, ick, member)?)?.heard)
-}
-
-/// A station remembers 64 members, and no more.
-fn fills(rt: &impl Abort, alloc: Global, station: &mut Station, ick: &Key) -> Result<(), Fail> {
-    for member in 100..165 {
-        let wanted = if member < 164 { Unvouched } else { PeersFull };
-        let heard = meets(rt, alloc, station, ick, member)?;
-        assert!(rt; heard == Some(wanted), "member {member}");
-    }
-    Ok(())
+    lives(&rt, rt.alloc(), A, 256, &A_MAKES_WIDE)?;
+    lives(&rt, rt.alloc(), B, 256, &B_TAKES_WIDE)
 }
 
 #[test]
 fn remembers_64_members(rt: HostRuntime) -> Result<(), Fail> {
-    let mut station = station(rt.alloc(), B, 128)?;
-    fills(&rt, rt.alloc(), &mut station, &group(rt.alloc())?.ick)
+    lives(&rt, rt.alloc(), B, 128, &[Fills])
 }
