@@ -1,4 +1,5 @@
-// The keys of one life, told by what its calls change.
+//! The keys of one life, told by what its calls change.
+
 use crate::{Cause, Change, Changes, Due, KeyState, Offer, Report, Seen, Why};
 use Cause::{All, Flag, Timeout};
 use Step::{Drops, Follows, Leads, Makes, Takes, Ticks};
@@ -150,113 +151,140 @@ fn reports(alloc: Global, live: &[(u8, u32)]) -> Result<Vec<Report>, Fail> {
     Ok(reports)
 }
 
-fn ticks(rt: &impl Abort, keys: &mut KeyState, count: u8, expected: &[Told]) -> Result<(), Fail> {
-    for _ in 1..count {
-        keys.tick();
-        assert!(rt; keys.retire()?.is_empty());
-    }
+/// A tick at which a key server is elected.
+fn tick(keys: &mut KeyState) -> Result<Changes, Fail> {
     keys.tick();
-    tells(rt, &keys.retire()?, expected);
-    Ok(())
+    Ok(keys.retire()?)
 }
 
-fn play(rt: &impl Abort, alloc: Global, keys: &mut KeyState, step: &Step) -> Result<(), Fail> {
+/// A tick at which none is.
+fn tick_alone(keys: &mut KeyState) -> Result<Changes, Fail> {
+    keys.tick();
+    Ok(keys.drop_all()?)
+}
+
+/// So many ticks at which a key server is elected, and what the last one changes.
+fn ticks(rt: &impl Abort, keys: &mut KeyState, count: u8) -> Result<Changes, Fail> {
+    for _ in 1..count {
+        assert!(rt; tick(keys)?.is_empty());
+    }
+    tick(keys)
+}
+
+/// Live members report these keys as their latest ones.
+fn leads(alloc: Global, keys: &mut KeyState, live: &[(u8, u32)]) -> Result<Changes, Fail> {
+    Ok(keys.lead(&reports(alloc, live)?)?)
+}
+
+/// The server transmits under its key of this number as its old one.
+fn follows(keys: &mut KeyState, number: u32) -> Result<Changes, Fail> {
+    let uses = Uses {
+        latest: use_of(0),
+        old: use_of(number),
+    };
+    Ok(keys.follow(&uses)?)
+}
+
+/// What a step changes.
+fn play(rt: &impl Abort, alloc: Global, keys: &mut KeyState, step: &Step) -> Result<Changes, Fail> {
     match *step {
-        Ticks(count, expected) => ticks(rt, keys, count, expected)?,
-        Drops(expected) => {
-            keys.tick();
-            tells(rt, &keys.drop_all()?, expected);
+        Ticks(count, _) => ticks(rt, keys, count),
+        Drops(_) => tick_alone(keys),
+        Leads(live, _) => leads(alloc, keys, live),
+        Makes(live, potential, _) => makes(rt, alloc, keys, &reports(alloc, live)?, potential),
+        Follows(number, _) => follows(keys, number),
+        Takes(number, an, offset, listed, elected, _) => {
+            takes(
+                rt,
+                keys,
+                &offer(number, an, offset, listed, elected),
+                &kek(),
+            )
         }
-        Leads(live, expected) => tells(rt, &keys.lead(&reports(alloc, live)?)?, expected),
-        Makes(live, potential, expected) => {
-            let live = reports(alloc, live)?;
-            tells(rt, &makes(rt, alloc, keys, &live, potential)?, expected);
-        }
-        Follows(number, expected) => {
-            let uses = Uses {
-                latest: use_of(0),
-                old: use_of(number),
-            };
-            tells(rt, &keys.follow(&uses)?, expected);
-        }
-        Takes(number, an, offset, listed, elected, expected) => {
-            let offer = offer(number, an, offset, listed, elected);
-            tells(rt, &takes(rt, keys, &offer, &kek())?, expected);
-        }
+    }
+}
+
+/// What a step is to change.
+fn expected(step: &Step) -> &'static [Told] {
+    match step {
+        Ticks(_, told)
+        | Drops(told)
+        | Leads(_, told)
+        | Makes(_, _, told)
+        | Follows(_, told)
+        | Takes(_, _, _, _, _, told) => told,
+    }
+}
+
+fn plays(rt: &impl Abort, alloc: Global, keys: &mut KeyState, steps: &[Step]) -> Result<(), Fail> {
+    for step in steps {
+        tells(rt, &play(rt, alloc, keys, step)?, expected(step));
     }
     Ok(())
 }
 
-fn plays(rt: &impl Abort, alloc: Global, own: u8, epochs: u32, steps: &[Step]) -> Result<(), Fail> {
+/// The steps of a life that begins after so many installs.
+fn lives(rt: &impl Abort, alloc: Global, own: u8, epochs: u32, steps: &[Step]) -> Result<(), Fail> {
     let mut keys = KeyState::new(alloc, mi(own), epochs)?;
-    for step in steps {
-        play(rt, alloc, &mut keys, step)?;
-    }
-    Ok(())
+    plays(rt, alloc, &mut keys, steps)
 }
+
+/// A server makes keys and leads.
+const SERVER: [Step; 23] = [
+    Drops(&[]),
+    Ticks(1, &[]),
+    Leads(&[(2, 0)], &[]),
+    Makes(&[(2, 0)], true, &[Installed(1, 0, 8)]),
+    Leads(&[(2, 0)], &[]),
+    Makes(&[(2, 0)], false, &[]),
+    Ticks(2, &[]),
+    Leads(&[(2, 1)], &[Began(1, All)]),
+    Makes(&[(2, 1), (3, 0)], true, &[]),
+    Makes(&[(2, 1), (3, 0)], false, &[Installed(2, 1, 9)]),
+    Leads(&[(2, 2), (3, 0)], &[]),
+    Makes(&[(4, 0)], false, &[Dropped(2), Installed(3, 2, 10)]),
+    Makes(&[(5, 0)], false, &[Dropped(3), Installed(4, 3, 11)]),
+    Makes(&[(6, 0)], false, &[Dropped(4), Installed(5, 1, 12)]),
+    Ticks(59, &[]),
+    Leads(&[(6, 0)], &[]),
+    Ticks(1, &[]),
+    Leads(&[(6, 0)], &[Began(5, Timeout)]),
+    Makes(&[(7, 0)], false, &[]),
+    Ticks(29, &[]),
+    Ticks(1, &[Retired(1)]),
+    Makes(&[(7, 0)], false, &[Installed(6, 2, 13)]),
+    Drops(&[Dropped(6), Dropped(5)]),
+];
 
 #[test]
 fn a_server_makes_and_leads(rt: HostRuntime) -> Result<(), Fail> {
-    plays(
-        &rt,
-        rt.alloc(),
-        1,
-        7,
-        &[
-            Drops(&[]),
-            Ticks(1, &[]),
-            Leads(&[(2, 0)], &[]),
-            Makes(&[(2, 0)], true, &[Installed(1, 0, 8)]),
-            Leads(&[(2, 0)], &[]),
-            Makes(&[(2, 0)], false, &[]),
-            Ticks(2, &[]),
-            Leads(&[(2, 1)], &[Began(1, All)]),
-            Makes(&[(2, 1), (3, 0)], true, &[]),
-            Makes(&[(2, 1), (3, 0)], false, &[Installed(2, 1, 9)]),
-            Leads(&[(2, 2), (3, 0)], &[]),
-            Makes(&[(4, 0)], false, &[Dropped(2), Installed(3, 2, 10)]),
-            Makes(&[(5, 0)], false, &[Dropped(3), Installed(4, 3, 11)]),
-            Makes(&[(6, 0)], false, &[Dropped(4), Installed(5, 1, 12)]),
-            Ticks(59, &[]),
-            Leads(&[(6, 0)], &[]),
-            Ticks(1, &[]),
-            Leads(&[(6, 0)], &[Began(5, Timeout)]),
-            Makes(&[(7, 0)], false, &[]),
-            Ticks(29, &[]),
-            Ticks(1, &[Retired(1)]),
-            Makes(&[(7, 0)], false, &[Installed(6, 2, 13)]),
-            Drops(&[Dropped(6), Dropped(5)]),
-        ],
-    )
+    lives(&rt, rt.alloc(), 1, 7, &SERVER)
 }
+
+/// A member takes keys and follows.
+const MEMBER: [Step; 17] = [
+    Ticks(1, &[]),
+    Takes(1, 0, 1, false, true, &[Untaken(1, Why::NotListed)]),
+    Takes(1, 0, 1, true, false, &[Untaken(1, Why::NotServer)]),
+    Takes(1, 0, 2, true, true, &[Untaken(1, Why::Offset)]),
+    Takes(1, 0, 1, true, true, &[Installed(1, 0, 1)]),
+    Takes(1, 1, 1, true, true, &[Untaken(1, Why::Seen { kept: 1 })]),
+    Follows(2, &[]),
+    Follows(1, &[Began(1, Flag)]),
+    Follows(1, &[]),
+    Takes(2, 0, 1, true, true, &[Dropped(1), Installed(2, 0, 2)]),
+    Follows(2, &[Began(2, Flag)]),
+    Takes(3, 1, 1, true, true, &[Installed(3, 1, 3)]),
+    Follows(3, &[Began(3, Flag)]),
+    Takes(4, 2, 1, true, true, &[Untaken(4, Why::Retiring)]),
+    Ticks(30, &[Retired(2)]),
+    Takes(4, 2, 1, true, true, &[Installed(4, 2, 4)]),
+    Drops(&[Dropped(4), Dropped(3)]),
+];
 
 #[test]
 fn a_member_takes_and_follows(rt: HostRuntime) -> Result<(), Fail> {
-    plays(
-        &rt,
-        rt.alloc(),
-        2,
-        0,
-        &[
-            Ticks(1, &[]),
-            Takes(1, 0, 1, false, true, &[Untaken(1, Why::NotListed)]),
-            Takes(1, 0, 1, true, false, &[Untaken(1, Why::NotServer)]),
-            Takes(1, 0, 2, true, true, &[Untaken(1, Why::Offset)]),
-            Takes(1, 0, 1, true, true, &[Installed(1, 0, 1)]),
-            Takes(1, 1, 1, true, true, &[Untaken(1, Why::Seen { kept: 1 })]),
-            Follows(2, &[]),
-            Follows(1, &[Began(1, Flag)]),
-            Follows(1, &[]),
-            Takes(2, 0, 1, true, true, &[Dropped(1), Installed(2, 0, 2)]),
-            Follows(2, &[Began(2, Flag)]),
-            Takes(3, 1, 1, true, true, &[Installed(3, 1, 3)]),
-            Follows(3, &[Began(3, Flag)]),
-            Takes(4, 2, 1, true, true, &[Untaken(4, Why::Retiring)]),
-            Ticks(30, &[Retired(2)]),
-            Takes(4, 2, 1, true, true, &[Installed(4, 2, 4)]),
-            Drops(&[Dropped(4), Dropped(3)]),
-        ],
-    )
+    lives(&rt, rt.alloc(), 2, 0, &MEMBER)
 }
 
 /// A wrap of a key of 256 bits in NIST's validation suite for key wrap.
@@ -275,42 +303,60 @@ fn longer_sak() -> [u8; 32] {
     octets
 }
 
-#[test]
-fn a_key_of_256_bits_is_held(rt: HostRuntime) -> Result<(), Fail> {
-    let mut keys = KeyState::new(rt.alloc(), mi(2), 0)?;
+/// The elected server gives a key, and lists the station.
+fn given(
+    rt: &impl Abort,
+    keys: &mut KeyState,
+    given: Given,
+    expected: &[Told],
+) -> Result<(), Fail> {
     let kek = Key::k128(&0xe5d058e7f1c22c016c4e1cc9b26b9f8f_u128.to_be_bytes());
-    let mut offer = offer(1, 3, 0, true, true);
-    tells(
-        &rt,
-        &takes(&rt, &mut keys, &offer, &kek)?,
-        &[Untaken(1, Why::Wrap)],
-    );
-    offer.given = Given::Other {
+    let offer = Offer {
+        given,
+        server: mi(1),
+        listed: true,
+        elected: true,
+    };
+    tells(rt, &takes(rt, keys, &offer, &kek)?, expected);
+    Ok(())
+}
+
+/// The wrap of another key, a wrap of another length, and the longer key.
+fn gives(rt: &impl Abort, keys: &mut KeyState) -> Result<(), Fail> {
+    let other = Given::Other {
         an: 3,
         offset: 0,
         number: 1,
     };
-    tells(
-        &rt,
-        &takes(&rt, &mut keys, &offer, &kek)?,
-        &[Untaken(1, Why::Suite)],
-    );
-    offer.given = Given::Aes256 {
+    let longer = Given::Aes256 {
         an: 3,
         offset: 0,
         number: 1,
         wrapped: wrapped_longer(),
     };
-    tells(
-        &rt,
-        &takes(&rt, &mut keys, &offer, &kek)?,
-        &[Installed(1, 3, 1)],
-    );
-    let copy = keys.copied(rt.alloc())?;
-    let key = copy.latest().expect(&rt, "the key that was installed");
+    given(
+        rt,
+        keys,
+        offer(1, 3, 0, true, true).given,
+        &[Untaken(1, Why::Wrap)],
+    )?;
+    given(rt, keys, other, &[Untaken(1, Why::Suite)])?;
+    given(rt, keys, longer, &[Installed(1, 3, 1)])
+}
+
+/// The longer key is held, has not begun, and was made by no roster.
+fn holds(rt: &impl Abort, keys: &KeyState) {
+    let key = keys.latest().expect(rt, "the key that was installed");
     assert_eq!(rt; key.sak, Secret::S256(longer_sak()));
     assert!(rt; !key.conf && !key.begun);
-    assert!(rt; copy.old().is_none() && copy.transmitting().is_none());
-    assert!(rt; !copy.in_roster(&mi(2)));
+    assert!(rt; keys.old().is_none() && keys.transmitting().is_none());
+    assert!(rt; !keys.in_roster(&mi(2)));
+}
+
+#[test]
+fn a_key_of_256_bits_is_held(rt: HostRuntime) -> Result<(), Fail> {
+    let mut keys = KeyState::new(rt.alloc(), mi(2), 0)?;
+    gives(&rt, &mut keys)?;
+    holds(&rt, &keys.copied(rt.alloc())?);
     Ok(())
 }
