@@ -1,77 +1,41 @@
-//! Two stations of a group, told by what each event shows.
+//! Two stations of a group that come to a key, and how groups end. What each event shows is told by
+//! the words of the transcript; whole rows of facts are compared where the program is tried.
 
-use crate::{Event, Fact, Facts, Lack, Lan, Settings, Stop, Which};
-use Act::{Claims, Delivers, Emits, Restarts, Starts, Ticks};
-use Shown::{
-    Accepted, Began, Claimed, Dropped, Elected, Heard, Installed, Late, Life, Lost, Missed, Mka,
-    NoKey, Other, Own, Sec, Ticked,
-};
-use Verdict::{Check, OldNumber, Unvouched, Vouched};
+use crate::{Event, Fact, Facts, Lan, Settings, Stop, Which};
+use Act::{Claims, Delivers, Emits, Injects, Restarts, Starts, Ticks};
+use Look::{Framed, Keyed, Named};
 use aes_block::Secret;
-use lan_base::{Blocks, CountDraws, Draws, ListDraws, Mac, Name, Octets, Sci, UserFrame};
+use lan_base::{Blocks, ListDraws, Mac, Name, Octets, Sci, UserFrame};
 use mka_station::Verdict;
 use rx_slots::Arrival;
-use sak_exchange::Cause;
 use std::alloc::Global;
 use std::process::Abort;
 use std::test::Fail;
 
-/// An event. Its station is told by its place.
+/// What happens at a station.
 #[derive(Clone, Copy)]
 enum Act {
-    Starts(u8),
+    Starts,
     /// The packet number that is shown.
-    Ticks(u8, u64),
-    /// The frame, and where it comes.
-    Delivers(u32, u8),
-    Restarts(u8),
+    Ticks(u64),
+    /// The frame.
+    Delivers(u32),
+    Restarts,
     /// The packet number.
-    Claims(u8, u32),
+    Claims(u32),
+    /// The station is the one whose frame is put on the air.
     Emits,
+    /// Foreign octets, part behind part.
+    Injects(&'static [&'static [u8]]),
 }
 
-/// What a fact shows of a station. A member identifier is told by its last octet, and a key by its
-/// number.
-#[derive(Clone, Copy, Debug, PartialEq, Eq)]
-enum Shown {
-    Life(u8, u8),
-    /// The clock, and the packet number that is shown.
-    Ticked(u8, u32, u64),
-    Elected(u8, u8),
-    Lost(u8),
-    Dropped(u8, u32),
-    /// The key, its association number, its epoch, and its last octet.
-    Installed(u8, u32, u8, u32, u8),
-    /// The key, its association number, its epoch, and why.
-    Began(u8, u32, u8, u32, Cause),
-    /// The frame, which is one of key agreement.
-    Mka(u8, u32),
-    /// The frame, which is a protected one.
-    Sec(u8, u32),
-    /// The frame.
-    Heard(u8, u32, Verdict),
-    /// The association number, the epoch, and the packet number.
-    Claimed(u8, u8, u32, u32),
-    NoKey(u8),
-    /// The frame, and its packet number.
-    Accepted(u8, u32, u32),
-    /// The frame, and the sender's next packet number.
-    Late(u8, u32, u64),
-    /// The frame.
-    Own(u8, u32),
-    /// The frame, and its association number.
-    Missed(u8, u32, u8),
-    /// What no test here shows.
-    Other,
-}
+/// The place of a station, what happens there, and the words of the facts that it shows.
+type Step = (u8, Act, &'static [&'static str]);
 
-/// An event, and all that it shows.
-type Step = (Act, &'static [Shown]);
-
-/// The first station.
+/// The place of the first station.
 const A: u8 = 0;
 
-/// The second one.
+/// The place of the second one.
 const B: u8 = 1;
 
 const CAK: u128 = 0x000102030405060708090a0b0c0d0e0f;
@@ -106,215 +70,174 @@ fn name(rt: &impl Abort, place: u8) -> Name {
     Name::of(&[b'A'.wrapping_add(place)]).expect(rt, "a letter")
 }
 
-fn event(rt: &impl Abort, act: Act) -> Event {
-    match act {
-        Starts(place) => Event::Start {
-            name: name(rt, place),
-            sci: Sci([2, 0, 0, 0, 0, 0x0a_u8.wrapping_add(place), 0, 1]),
-            priority: if place == A { 16 } else { 32 },
+/// The octets of parts, one behind another.
+fn joined(alloc: Global, parts: &[&[u8]]) -> Result<Octets, Fail> {
+    let mut octets = Octets::new(alloc);
+    for part in parts {
+        octets.extend(part)?;
+    }
+    Ok(octets)
+}
+
+fn event(rt: &impl Abort, alloc: Global, station: u8, act: Act) -> Result<Event, Fail> {
+    Ok(match act {
+        Starts => Event::Start {
+            name: name(rt, station),
+            sci: Sci([2, 0, 0, 0, 0, 0x0a_u8.wrapping_add(station), 0, 1]),
+            priority: if station == A { 16 } else { 32 },
         },
-        Ticks(station, next) => Event::Tick { station, next },
-        Delivers(frame, station) => Event::Deliver { frame, station },
-        Restarts(station) => Event::Restart { station },
-        Claims(station, pn) => Event::Claim {
+        Ticks(next) => Event::Tick { station, next },
+        Delivers(frame) => Event::Deliver { frame, station },
+        Restarts => Event::Restart { station },
+        Claims(pn) => Event::Claim {
             station,
             user: 1,
             pn,
         },
         Emits => Event::Emit,
-    }
-}
-
-fn last_octet(sak: &Secret) -> u8 {
-    match sak {
-        Secret::S128(octets) => octets[15],
-        Secret::S256(octets) => octets[31],
-    }
-}
-
-fn arrived(station: u8, frame: u32, arrival: &Arrival) -> Shown {
-    match arrival {
-        Arrival::Accepted { pn, .. } => Accepted(station, frame, *pn),
-        Arrival::Late { next } => Late(station, frame, *next),
-        Arrival::Own => Own(station, frame),
-        Arrival::Missed { an } => Missed(station, frame, *an),
-        _ => Other,
-    }
-}
-
-fn told(fact: &Fact) -> Shown {
-    match fact {
-        Fact::Life { station, mi } => Life(*station, mi.0[11]),
-        Fact::Ticked { station, at, next } => Ticked(*station, *at, *next),
-        Fact::Server { station, mi } => match mi {
-            Some(mi) => Elected(*station, mi.0[11]),
-            None => Lost(*station),
+        Injects(parts) => Event::Inject {
+            station,
+            octets: joined(alloc, parts)?,
         },
-        Fact::Dropped { station, id, .. } => Dropped(*station, id.number),
-        Fact::Began {
-            station,
-            id,
-            an,
-            epoch,
-            cause,
-        } => Began(*station, id.number, *an, *epoch, *cause),
-        Fact::Installed {
-            station,
-            id,
-            an,
-            epoch,
-            sak,
-        } => Installed(*station, id.number, *an, *epoch, last_octet(sak)),
-        Fact::Framed {
-            number,
-            station,
-            sec,
-            ..
-        } => {
-            if *sec {
-                Sec(*station, *number)
-            } else {
-                Mka(*station, *number)
-            }
-        }
-        Fact::HeardMka {
-            frame,
-            station,
-            verdict,
-        } => Heard(*station, *frame, *verdict),
-        Fact::Claimed {
-            station,
-            an,
-            epoch,
-            pn,
-        } => Claimed(*station, *an, *epoch, *pn),
-        Fact::Unclaimed {
-            station,
-            why: Lack::NoKey,
-        } => NoKey(*station),
-        Fact::Arrived {
-            frame,
-            station,
-            arrival,
-        } => arrived(*station, *frame, arrival),
-        _ => Other,
-    }
-}
-
-/// The facts are these, and no others.
-fn are(rt: &impl Abort, facts: &Facts, wanted: &[Shown]) {
-    let mut wanted = wanted.iter().copied();
-    for fact in facts.as_slice() {
-        assert!(rt; wanted.next() == Some(told(fact)));
-    }
-    assert!(rt; wanted.next().is_none());
+    })
 }
 
 /// What an event comes to. Each claim protects the same user data.
-fn step<D: Draws>(
+fn step(
     rt: &impl Abort,
     alloc: Global,
     lan: &mut Lan,
-    draws: &mut D,
+    draws: &mut ListDraws,
+    station: u8,
     act: Act,
 ) -> Result<Result<Facts, Stop>, Fail> {
+    let event = event(rt, alloc, station, act)?;
     let user = UserFrame {
         destination: Mac([0xff; 6]),
         body: Octets::from_slice(alloc, &[0x88, 0xb5, 0, 1])?,
     };
-    Ok(lan.step(&event(rt, act), Some(&user), draws))
+    Ok(lan.step(&event, Some(&user), draws))
 }
 
-fn plays<D: Draws>(
+fn word_of_verdict(verdict: &Verdict) -> &'static str {
+    match verdict {
+        Verdict::Vouched => "vouched",
+        Verdict::Unvouched => "unvouched",
+        Verdict::Check => "check",
+        Verdict::OldNumber { .. } => "oldnumber",
+        _ => "heard",
+    }
+}
+
+fn word_of_arrival(arrival: &Arrival) -> &'static str {
+    match arrival {
+        Arrival::Accepted { .. } => "accepted",
+        Arrival::Late { .. } => "late",
+        Arrival::Own => "own",
+        Arrival::Missed { .. } => "missed",
+        _ => "data",
+    }
+}
+
+fn word(fact: &Fact) -> &'static str {
+    match fact {
+        Fact::Life { .. } => "life",
+        Fact::Ticked { .. } => "tick",
+        Fact::Server { mi: Some(_), .. } => "server",
+        Fact::Server { mi: None, .. } => "noserver",
+        Fact::Dropped { .. } => "drop",
+        Fact::Retired { .. } => "retire",
+        Fact::Began { .. } => "begin",
+        Fact::Installed { .. } => "install",
+        Fact::Untaken { .. } => "untaken",
+        Fact::Framed { sec: true, .. } => "sec",
+        Fact::Framed { sec: false, .. } => "mka",
+        Fact::HeardMka { verdict, .. } => word_of_verdict(verdict),
+        Fact::Claimed { .. } => "claim",
+        Fact::Unclaimed { .. } => "noclaim",
+        Fact::Arrived { arrival, .. } => word_of_arrival(arrival),
+    }
+}
+
+/// The facts are of this station, and have these words.
+fn are(rt: &impl Abort, facts: &Facts, station: u8, words: &[&'static str]) {
+    let mut words = words.iter().copied();
+    for fact in facts.as_slice() {
+        assert_eq!(rt; fact.place(), station);
+        assert_eq!(rt; words.next(), Some(word(fact)));
+    }
+    assert!(rt; words.next().is_none());
+}
+
+fn plays(
     rt: &impl Abort,
     alloc: Global,
     lan: &mut Lan,
-    draws: &mut D,
+    draws: &mut ListDraws,
     steps: &[Step],
 ) -> Result<(), Fail> {
-    for (act, wanted) in steps {
-        let facts = step(rt, alloc, lan, draws, *act)??;
-        are(rt, &facts, wanted);
+    for (station, act, words) in steps {
+        let facts = step(rt, alloc, lan, draws, *station, *act)??;
+        are(rt, &facts, *station, words);
     }
     Ok(())
 }
 
-/// The first station starts.
-const START: [Step; 1] = [(Starts(A), &[Life(A, 1)])];
+/// The first station starts, and has no key to claim a packet number under.
+const START: [Step; 2] = [(A, Starts, &["life"]), (A, Claims(0), &["noclaim"])];
 
 /// Both stations start and hear each other, and A is elected.
 const MEETING: [Step; 10] = [
-    (Starts(A), &[Life(A, 1)]),
-    (Starts(B), &[Life(B, 2)]),
-    (Ticks(A, 0), &[Ticked(A, 1, 0), Mka(A, 1)]),
-    (Ticks(B, 0), &[Ticked(B, 1, 0), Mka(B, 2)]),
-    (Delivers(1, B), &[Heard(B, 1, Unvouched)]),
-    (Delivers(2, A), &[Heard(A, 2, Unvouched)]),
-    (Ticks(A, 0), &[Ticked(A, 2, 0), Mka(A, 3)]),
-    (Ticks(B, 0), &[Ticked(B, 2, 0), Mka(B, 4)]),
-    (Delivers(3, B), &[Heard(B, 3, Vouched), Elected(B, 1)]),
-    (Delivers(4, A), &[Heard(A, 4, Vouched), Elected(A, 1)]),
+    (A, Starts, &["life"]),
+    (B, Starts, &["life"]),
+    (A, Ticks(0), &["tick", "mka"]),
+    (B, Ticks(0), &["tick", "mka"]),
+    (B, Delivers(1), &["unvouched"]),
+    (A, Delivers(2), &["unvouched"]),
+    (A, Ticks(0), &["tick", "mka"]),
+    (B, Ticks(0), &["tick", "mka"]),
+    (B, Delivers(3), &["vouched", "server"]),
+    (A, Delivers(4), &["vouched", "server"]),
 ];
 
 /// A makes the first key, and both begin it.
 const FIRST_KEY: [Step; 13] = [
-    (
-        Ticks(A, 0),
-        &[Ticked(A, 3, 0), Installed(A, 1, 0, 1, 3), Mka(A, 5)],
-    ),
-    (Ticks(B, 0), &[Ticked(B, 3, 0), Mka(B, 6)]),
-    (
-        Delivers(5, B),
-        &[Heard(B, 5, Vouched), Installed(B, 1, 0, 1, 3)],
-    ),
-    (Delivers(6, A), &[Heard(A, 6, Vouched)]),
-    (Ticks(A, 0), &[Ticked(A, 4, 0)]),
-    (Ticks(B, 0), &[Ticked(B, 4, 0), Mka(B, 7)]),
-    (Delivers(7, A), &[Heard(A, 7, Vouched)]),
-    (
-        Ticks(A, 0),
-        &[Ticked(A, 5, 0), Began(A, 1, 0, 1, Cause::All), Mka(A, 8)],
-    ),
-    (Ticks(B, 0), &[Ticked(B, 5, 0)]),
-    (
-        Delivers(8, B),
-        &[Heard(B, 8, Vouched), Began(B, 1, 0, 1, Cause::Flag)],
-    ),
-    (Ticks(A, 1), &[Ticked(A, 6, 1)]),
-    (Ticks(B, 1), &[Ticked(B, 6, 1), Mka(B, 9)]),
-    (Delivers(9, A), &[Heard(A, 9, Vouched)]),
+    (A, Ticks(0), &["tick", "install", "mka"]),
+    (B, Ticks(0), &["tick", "mka"]),
+    (B, Delivers(5), &["vouched", "install"]),
+    (A, Delivers(6), &["vouched"]),
+    (A, Ticks(0), &["tick"]),
+    (B, Ticks(0), &["tick", "mka"]),
+    (A, Delivers(7), &["vouched"]),
+    (A, Ticks(0), &["tick", "begin", "mka"]),
+    (B, Ticks(0), &["tick"]),
+    (B, Delivers(8), &["vouched", "begin"]),
+    (A, Ticks(1), &["tick"]),
+    (B, Ticks(1), &["tick", "mka"]),
+    (A, Delivers(9), &["vouched"]),
 ];
-
-#[test]
-fn two_stations_share_a_key(rt: HostRuntime) -> Result<(), Fail> {
-    let alloc = rt.alloc();
-    let mut lan = empty(alloc, FAR)?;
-    let mut draws = CountDraws::new();
-    plays(&rt, alloc, &mut lan, &mut draws, &MEETING)?;
-    assert!(rt; lan.transmitting(A).is_none() && lan.held(A, 0).is_none());
-    plays(&rt, alloc, &mut lan, &mut draws, &FIRST_KEY)?;
-    assert_eq!(rt; lan.transmitting(A), Some((0, 1)));
-    assert_eq!(rt; lan.transmitting(B), Some((0, 1)));
-    let key = lan.held(B, 0).expect(&rt, "the key that began");
-    assert_eq!(rt; key.sak, Secret::S128(3_u128.to_be_bytes()));
-    assert!(rt; key.conf && key.begun && lan.held(B, 1).is_none());
-    assert_eq!(rt; lan.station(&name(&rt, B)), Some(B));
-    assert!(rt; lan.station(&name(&rt, 2)).is_none() && lan.transmitting(2).is_none());
-    Ok(())
-}
 
 /// Both send a protected frame, which arrives once, and is missed in the next life.
 const DATA: [Step; 10] = [
-    (Claims(A, 1), &[Claimed(A, 0, 1, 1)]),
-    (Claims(B, 1), &[Claimed(B, 0, 1, 1)]),
-    (Emits, &[Sec(A, 10)]),
-    (Emits, &[Sec(B, 11)]),
-    (Delivers(10, B), &[Accepted(B, 10, 1)]),
-    (Delivers(10, B), &[Late(B, 10, 2)]),
-    (Delivers(10, A), &[Own(A, 10)]),
-    (Delivers(11, A), &[Accepted(A, 11, 1)]),
-    (Restarts(B), &[Life(B, 4), Lost(B), Dropped(B, 1)]),
-    (Delivers(10, B), &[Missed(B, 10, 0)]),
+    (A, Claims(1), &["claim"]),
+    (B, Claims(1), &["claim"]),
+    (A, Emits, &["sec"]),
+    (B, Emits, &["sec"]),
+    (B, Delivers(10), &["accepted"]),
+    (B, Delivers(10), &["late"]),
+    (A, Delivers(10), &["own"]),
+    (A, Delivers(11), &["accepted"]),
+    (B, Restarts, &["life", "noserver", "drop"]),
+    (B, Delivers(10), &["missed"]),
+];
+
+/// The first announcement of A, by another program.
+const HELLO: [u8; 70] = [
+    0x01, 0x80, 0xc2, 0x00, 0x00, 0x03, 0x02, 0x00, 0x00, 0x00, 0x00, 0x0a, 0x88, 0x8e, 0x03, 0x05,
+    0x00, 0x34, 0x01, 0x10, 0x60, 0x20, 0x02, 0x00, 0x00, 0x00, 0x00, 0x0a, 0x00, 0x01, 0x00, 0x00,
+    0x00, 0x00, 0x00, 0x00, 0x00, 0x00, 0x00, 0x00, 0x00, 0x01, 0x00, 0x00, 0x00, 0x01, 0x00, 0x80,
+    0xc2, 0x01, 0x01, 0x02, 0x03, 0x04, 0x6a, 0xfe, 0xa3, 0x3c, 0x19, 0x7d, 0x66, 0x8f, 0x2e, 0xf5,
+    0xcc, 0x6f, 0x5a, 0x3c, 0xba, 0xe8,
 ];
 
 /// The protected frame of A, by another program.
@@ -324,26 +247,99 @@ const PROTECTED: [u8; 48] = [
     0x20, 0x6e, 0x34, 0x67, 0xe4, 0x3c, 0x32, 0x71, 0x72, 0x41, 0x8b, 0xf9, 0x47, 0xe3, 0xb3, 0xf3,
 ];
 
-#[test]
-fn user_data_arrives_once(rt: HostRuntime) -> Result<(), Fail> {
-    let alloc = rt.alloc();
-    let mut lan = empty(alloc, FAR)?;
-    let mut draws = CountDraws::new();
-    plays(&rt, alloc, &mut lan, &mut draws, &MEETING)?;
-    plays(&rt, alloc, &mut lan, &mut draws, &FIRST_KEY)?;
-    plays(&rt, alloc, &mut lan, &mut draws, &DATA)?;
-    assert_eq!(rt; lan.frame(10), Some(&PROTECTED[..]));
-    assert!(rt; lan.frame(0).is_none() && lan.frame(12).is_none());
-    assert!(rt; lan.transmitting(B).is_none());
-    Ok(())
+/// What a group answers of itself.
+#[derive(Clone, Copy)]
+enum Look {
+    /// The station of a place, and whether it holds the first key and transmits under it.
+    Keyed(u8, bool),
+    /// The number of a frame, and its octets.
+    Framed(u32, &'static [u8]),
+    /// The place of a station, which is found by its name.
+    Named(u8),
+}
+
+/// What happens to two stations, and what the group answers then.
+const PARTS: [(&[Step], &[Look]); 3] = [
+    (&MEETING, &[Keyed(A, false), Keyed(B, false)]),
+    (&FIRST_KEY, &[Keyed(A, true), Keyed(B, true)]),
+    (
+        &DATA,
+        &[
+            Keyed(A, true),
+            Keyed(B, false),
+            Framed(1, &HELLO),
+            Framed(10, &PROTECTED),
+            Named(B),
+        ],
+    ),
+];
+
+fn has_key(rt: &impl Abort, lan: &Lan, station: u8, keyed: bool) {
+    let Some(key) = lan.held(station, 0) else {
+        assert!(rt; !keyed && lan.transmitting(station).is_none());
+        return;
+    };
+    assert!(rt; keyed && key.sak == Secret::S128(3_u128.to_be_bytes()));
+    assert!(rt; lan.transmitting(station) == Some((0, 1)));
+}
+
+fn answers(rt: &impl Abort, lan: &Lan, look: Look) {
+    match look {
+        Keyed(station, keyed) => has_key(rt, lan, station, keyed),
+        Framed(number, octets) => assert!(rt; lan.frame(number) == Some(octets)),
+        Named(station) => assert!(rt; lan.station(&name(rt, station)) == Some(station)),
+    }
 }
 
 #[test]
-fn nothing_is_claimed_without_a_key(rt: HostRuntime) -> Result<(), Fail> {
-    let mut lan = empty(rt.alloc(), FAR)?;
-    let steps = [(Starts(A), &[Life(A, 1)][..]), (Claims(A, 0), &[NoKey(A)])];
-    plays(&rt, rt.alloc(), &mut lan, &mut CountDraws::new(), &steps)
+fn two_stations_share_a_key(rt: HostRuntime) -> Result<(), Fail> {
+    let alloc = rt.alloc();
+    let mut lan = empty(alloc, FAR)?;
+    let mut draws = supply(alloc, &[1, 2, 3, 4])?;
+    for (steps, looks) in &PARTS {
+        plays(&rt, alloc, &mut lan, &mut draws, steps)?;
+        for look in *looks {
+            answers(&rt, &lan, *look);
+        }
+    }
+    Ok(())
 }
+
+/// An announcement like the first one of A with the message number 7, by another program, but for its
+/// last octet, which is 0x1a.
+const FORGED: [u8; 69] = [
+    0x01, 0x80, 0xc2, 0x00, 0x00, 0x03, 0x02, 0x00, 0x00, 0x00, 0x00, 0x0a, 0x88, 0x8e, 0x03, 0x05,
+    0x00, 0x34, 0x01, 0x10, 0x60, 0x20, 0x02, 0x00, 0x00, 0x00, 0x00, 0x0a, 0x00, 0x01, 0x00, 0x00,
+    0x00, 0x00, 0x00, 0x00, 0x00, 0x00, 0x00, 0x00, 0x00, 0x01, 0x00, 0x00, 0x00, 0x07, 0x00, 0x80,
+    0xc2, 0x01, 0x01, 0x02, 0x03, 0x04, 0xe3, 0x6c, 0x82, 0x48, 0xa0, 0xb5, 0x80, 0x5c, 0x85, 0xa1,
+    0xf1, 0x05, 0xcc, 0xf9, 0x28,
+];
+
+/// Foreign octets that stop nothing: a frame of the air with an octet behind it, and a wrong check value.
+const HARMLESS: [Step; 2] = [
+    (B, Injects(&[&HELLO, &[0]]), &["oldnumber"]),
+    (B, Injects(&[&FORGED, &[0x1b]]), &["check"]),
+];
+
+/// Sixteen stations.
+const FULL: [Step; 16] = [
+    (0, Starts, &["life"]),
+    (1, Starts, &["life"]),
+    (2, Starts, &["life"]),
+    (3, Starts, &["life"]),
+    (4, Starts, &["life"]),
+    (5, Starts, &["life"]),
+    (6, Starts, &["life"]),
+    (7, Starts, &["life"]),
+    (8, Starts, &["life"]),
+    (9, Starts, &["life"]),
+    (10, Starts, &["life"]),
+    (11, Starts, &["life"]),
+    (12, Starts, &["life"]),
+    (13, Starts, &["life"]),
+    (14, Starts, &["life"]),
+    (15, Starts, &["life"]),
+];
 
 /// How a group ends with these draws.
 struct Ending {
@@ -351,26 +347,44 @@ struct Ending {
     rekey: u32,
     /// What goes well.
     before: &'static [&'static [Step]],
-    /// What stops the group.
-    act: Act,
+    /// Where and by what the group is stopped.
+    last: (u8, Act),
     stop: Stop,
 }
 
-/// Draws that repeat, and draws that are spent. An identifier that is drawn as a key was stops
-/// nothing.
-const ENDINGS: [Ending; 7] = [
+/// Draws that are spent, draws that repeat, a station too many, and forged octets. An identifier that
+/// is drawn as a key was stops nothing.
+const ENDINGS: [Ending; 9] = [
     Ending {
         draws: &[1],
         rekey: FAR,
         before: &[&START],
-        act: Starts(B),
+        last: (B, Starts),
+        stop: Stop::DrawsSpent,
+    },
+    Ending {
+        draws: &[1, 2],
+        rekey: FAR,
+        before: &[&MEETING],
+        last: (A, Ticks(0)),
+        stop: Stop::DrawsSpent,
+    },
+    Ending {
+        draws: &[1, 2, 3, 3],
+        rekey: FAR,
+        before: &[
+            &MEETING,
+            &FIRST_KEY,
+            &[(A, Restarts, &["life", "noserver", "drop"])],
+        ],
+        last: (A, Restarts),
         stop: Stop::DrawsSpent,
     },
     Ending {
         draws: &[1, 1],
         rekey: FAR,
         before: &[&START],
-        act: Starts(B),
+        last: (B, Starts),
         stop: Stop::RepeatedDraw {
             first: 1,
             second: 2,
@@ -381,24 +395,17 @@ const ENDINGS: [Ending; 7] = [
         draws: &[1, 0x1000000000000000000000001],
         rekey: FAR,
         before: &[&START],
-        act: Starts(B),
+        last: (B, Starts),
         stop: Stop::RepeatedDraw {
             first: 1,
             second: 2,
         },
     },
     Ending {
-        draws: &[1, 2],
-        rekey: FAR,
-        before: &[&MEETING],
-        act: Ticks(A, 0),
-        stop: Stop::DrawsSpent,
-    },
-    Ending {
         draws: &[1, 2, 3, 2],
         rekey: FAR,
         before: &[&MEETING, &FIRST_KEY],
-        act: Restarts(A),
+        last: (A, Restarts),
         stop: Stop::RepeatedDraw {
             first: 2,
             second: 4,
@@ -408,133 +415,46 @@ const ENDINGS: [Ending; 7] = [
         draws: &[1, 2, 3, 3],
         rekey: 5,
         before: &[&MEETING, &FIRST_KEY],
-        act: Ticks(A, 5),
+        last: (A, Ticks(5)),
         stop: Stop::RepeatedDraw {
             first: 3,
             second: 4,
         },
     },
     Ending {
-        draws: &[1, 2, 3, 3],
+        draws: &[0, 1, 2, 3, 4, 5, 6, 7, 8, 9, 10, 11, 12, 13, 14, 15, 16],
         rekey: FAR,
-        before: &[
-            &MEETING,
-            &FIRST_KEY,
-            &[(Restarts(A), &[Life(A, 3), Lost(A), Dropped(A, 1)])],
-        ],
-        act: Restarts(A),
-        stop: Stop::DrawsSpent,
+        before: &[&FULL],
+        last: (16, Starts),
+        stop: Stop::Limit(Which::Stations),
+    },
+    Ending {
+        draws: &[1, 2],
+        rekey: FAR,
+        before: &[&MEETING, &HARMLESS],
+        last: (B, Injects(&[&FORGED, &[0x1a]])),
+        stop: Stop::Forged { station: B },
     },
 ];
 
 /// An event stops the group, and so does each one after it.
-fn stops<D: Draws>(rt: &impl Abort, lan: &mut Lan, draws: &mut D, event: &Event, stop: Stop) {
-    for event in [
-        event,
-        &Event::Tick {
-            station: A,
-            next: 0,
-        },
-        &Event::Emit,
-    ] {
-        assert_eq!(rt; lan.step(event, None, draws).err(), Some(stop));
-    }
-}
-
 fn ends(rt: &impl Abort, alloc: Global, ending: &Ending) -> Result<(), Fail> {
     let mut lan = empty(alloc, ending.rekey)?;
     let mut draws = supply(alloc, ending.draws)?;
     for steps in ending.before {
         plays(rt, alloc, &mut lan, &mut draws, steps)?;
     }
-    let last = event(rt, ending.act);
-    stops(rt, &mut lan, &mut draws, &last, ending.stop);
+    for (station, act) in [ending.last, (A, Ticks(0)), (A, Emits)] {
+        let stop = step(rt, alloc, &mut lan, &mut draws, station, act)?.err();
+        assert_eq!(rt; stop, Some(ending.stop));
+    }
     Ok(())
 }
 
 #[test]
-fn a_draw_that_repeats_or_lacks_stops_the_group(rt: HostRuntime) -> Result<(), Fail> {
+fn what_stops_a_group_stops_it_for_good(rt: HostRuntime) -> Result<(), Fail> {
     for ending in &ENDINGS {
         ends(&rt, rt.alloc(), ending)?;
     }
-    Ok(())
-}
-
-#[test]
-fn a_seventeenth_station_stops_the_group(rt: HostRuntime) -> Result<(), Fail> {
-    let alloc = rt.alloc();
-    let mut lan = empty(alloc, FAR)?;
-    let mut draws = CountDraws::new();
-    for place in 0..16 {
-        let facts = step(&rt, alloc, &mut lan, &mut draws, Starts(place))??;
-        are(&rt, &facts, &[Life(place, place + 1)]);
-    }
-    let last = event(&rt, Starts(16));
-    stops(
-        &rt,
-        &mut lan,
-        &mut draws,
-        &last,
-        Stop::Limit(Which::Stations),
-    );
-    assert_eq!(rt; lan.station(&name(&rt, 15)), Some(15));
-    assert!(rt; lan.station(&name(&rt, 16)).is_none());
-    Ok(())
-}
-
-/// An announcement like the first one of A with the message number 7, by another program.
-const FORGED: [u8; 70] = [
-    0x01, 0x80, 0xc2, 0x00, 0x00, 0x03, 0x02, 0x00, 0x00, 0x00, 0x00, 0x0a, 0x88, 0x8e, 0x03, 0x05,
-    0x00, 0x34, 0x01, 0x10, 0x60, 0x20, 0x02, 0x00, 0x00, 0x00, 0x00, 0x0a, 0x00, 0x01, 0x00, 0x00,
-    0x00, 0x00, 0x00, 0x00, 0x00, 0x00, 0x00, 0x00, 0x00, 0x01, 0x00, 0x00, 0x00, 0x07, 0x00, 0x80,
-    0xc2, 0x01, 0x01, 0x02, 0x03, 0x04, 0xe3, 0x6c, 0x82, 0x48, 0xa0, 0xb5, 0x80, 0x5c, 0x85, 0xa1,
-    0xf1, 0x05, 0xcc, 0xf9, 0x28, 0x1a,
-];
-
-/// Foreign octets reach B.
-fn injects(
-    rt: &impl Abort,
-    alloc: Global,
-    lan: &mut Lan,
-    octets: Octets,
-    verdict: Verdict,
-) -> Result<(), Fail> {
-    let event = Event::Inject { station: B, octets };
-    let facts = lan.step(&event, None, &mut CountDraws::new())?;
-    are(rt, &facts, &[Heard(B, 0, verdict)]);
-    Ok(())
-}
-
-#[test]
-fn forged_octets_stop_the_group(rt: HostRuntime) -> Result<(), Fail> {
-    let alloc = rt.alloc();
-    let mut lan = empty(alloc, FAR)?;
-    let mut draws = CountDraws::new();
-    plays(&rt, alloc, &mut lan, &mut draws, &MEETING)?;
-    // One that is on the air, with an octet behind it.
-    let mut repeated = Octets::from_slice(alloc, lan.frame(1).expect(&rt, "the first frame"))?;
-    repeated.extend(&[0])?;
-    injects(&rt, alloc, &mut lan, repeated, OldNumber { kept: 2 })?;
-    let mut wrong = FORGED;
-    wrong[69] ^= 1;
-    injects(
-        &rt,
-        alloc,
-        &mut lan,
-        Octets::from_slice(alloc, &wrong)?,
-        Check,
-    )?;
-    let event = Event::Inject {
-        station: B,
-        octets: Octets::from_slice(alloc, &FORGED)?,
-    };
-    stops(
-        &rt,
-        &mut lan,
-        &mut draws,
-        &event,
-        Stop::Forged { station: B },
-    );
-    assert!(rt; lan.frame(4).is_some() && lan.frame(5).is_none());
     Ok(())
 }
