@@ -1,8 +1,7 @@
--- What frames spell decides which of them are repeated: two frames are the same up to the ends of their check values exactly where they have the same covered octets and the same check values.
+-- What frames spell decides which of them are repeated: two frames spell the same exactly where they have the same covered octets and the same check values.
 use Rattle.std.proofs.Common.{◌≡◌, ◌∙◌, ℕ, ◌+◌, ◌-◌, ◌%◌, ◌≤◌, Bool, true, false, ◌||◌, List, [], ◌∷◌, ◌++◌, map, length, take, drop, refl, sym, ap, subst, arith}
 use Rattle.std.proofs.lemmas.Bool.Decides.{nat_tests}
-use Rattle.std.proofs.Math.Seq.{take-add}
-use Rattle.std.proofs.lemmas.List.{drop-take, take-take, length-take-le}
+use Rattle.std.proofs.lemmas.List.{take_at, drop_at, length-drop, length-take-le}
 use Rattle.std.specs.Prelude.{◌&&◌, ◌==◌, nat_eq, nat_le, not, if◌then◌else◌, sum, All, Option, Some, None, Result, Ok, Err}
 use Rattle.std.specs.List.{list_any}
 use lib.Pointwise.{pointwise, bytes_decides}
@@ -88,11 +87,12 @@ read_stands frame s e =
 
 -- ---- repeating is spelling the same
 
-front : (n : ℕ) (xs : List ℕ) → take (n + 16) xs ≡ take n xs ++ take 16 (drop n xs)
-front n xs = take-add n 16 xs
+-- so many octets of a frame stand behind the covered ones
+behind : (frame : List ℕ) (n : ℕ) → n + 16 ≤ length frame → 16 ≤ length (drop n frame)
+behind frame n fits = let l : length (drop n frame) ≡ length frame - n = length-drop n frame in omega (arith, l, fits)
 
-shorter : (n : ℕ) (xs : List ℕ) → take n (take (n + 16) xs) ≡ take n xs
-shorter n xs = take-take n (n + 16) xs (omega arith)
+check_length : (frame : List ℕ) (n : ℕ) (check : List ℕ) → Stands frame n check → length check ≡ 16
+check_length frame n check p = ap length p.stands ∙ length-take-le 16 (drop n frame) (behind frame n p.fits)
 
 both : (a b : Bool) → a && b ≡ true → (a ≡ true) × (b ≡ true)
 both true true e = (refl, refl)
@@ -104,31 +104,26 @@ same_tests true b f g = sym (f refl)
 same_tests false true f g = g refl
 same_tests false false f g = refl
 
--- the covered octets and the check value are those of another frame exactly where the octets up to the end of the check value are
+-- the covered octets and the check value are those of another frame exactly where the check value with the covered octets behind it is
 parts_are_whole : (a b c d : List ℕ) (m n : ℕ) → Stands a m c → Stands b n d
-    → (pointwise nat_eq (take m a) (take n b) && pointwise nat_eq c d) ≡ pointwise nat_eq (take (m + 16) a) (take (n + 16) b)
+    → (pointwise nat_eq (take m a) (take n b) && pointwise nat_eq c d) ≡ pointwise nat_eq (c ++ take m a) (d ++ take n b)
 parts_are_whole a b c d m n p q =
-    same_tests (pointwise nat_eq (take m a) (take n b) && pointwise nat_eq c d) (pointwise nat_eq (take (m + 16) a) (take (n + 16) b))
+    same_tests (pointwise nat_eq (take m a) (take n b) && pointwise nat_eq c d) (pointwise nat_eq (c ++ take m a) (d ++ take n b))
     (λ e.
     let two = both (pointwise nat_eq (take m a) (take n b)) (pointwise nat_eq c d) e in
     let covered : take m a ≡ take n b = (bytes_decides (take m a) (take n b)).0 two.0 in
     let check : c ≡ d = (bytes_decides c d).0 two.1 in
-    let checks : take 16 (drop m a) ≡ take 16 (drop n b) = sym p.stands ∙ check ∙ q.stands in
-    (bytes_decides (take (m + 16) a) (take (n + 16) b)).1
-    (front m a ∙ ap (λ xs. xs ++ take 16 (drop m a)) covered ∙ ap (λ xs. take n b ++ xs) checks ∙ sym (front n b)))
+    (bytes_decides (c ++ take m a) (d ++ take n b)).1 (ap (λ xs. xs ++ take m a) check ∙ ap (λ xs. d ++ xs) covered))
     (λ e.
-    let whole : take (m + 16) a ≡ take (n + 16) b = (bytes_decides (take (m + 16) a) (take (n + 16) b)).0 e in
-    let lengths : m + 16 ≡ n + 16 = sym (length-take-le (m + 16) a p.fits) ∙ ap length whole ∙ length-take-le (n + 16) b q.fits in
-    let same : m ≡ n = omega (arith, lengths) in
-    let covered : take m a ≡ take n b = sym (shorter m a) ∙ ap (take m) whole ∙ ap (λ k. take k (take (n + 16) b)) same ∙ shorter n b in
-    let checks : take 16 (drop m a) ≡ take 16 (drop n b) = sym (drop-take m 16 a) ∙ ap (drop m) whole ∙ ap (λ k. drop k (take (n + 16) b)) same ∙ drop-take n 16 b in
-    let check : c ≡ d = p.stands ∙ checks ∙ sym q.stands in
+    let whole : c ++ take m a ≡ d ++ take n b = (bytes_decides (c ++ take m a) (d ++ take n b)).0 e in
+    let check : c ≡ d = sym (take_at c (take m a) 16 (check_length a m c p)) ∙ ap (take 16) whole ∙ take_at d (take n b) 16 (check_length b n d q) in
+    let covered : take m a ≡ take n b = sym (drop_at c (take m a) 16 (check_length a m c p)) ∙ ap (drop 16) whole ∙ drop_at d (take n b) 16 (check_length b n d q) in
     ap (λ t. t && pointwise nat_eq c d) ((bytes_decides (take m a) (take n b)).1 covered) ∙ (bytes_decides c d).1 check)
 
 -- ---- repeating is looked up
 
 same_is : (octets frame : List ℕ) (s : Spelled) (r : Result Spelled Refusal) → Stands octets s.covered s.check → reading frame ≡ r
-    → same_spelling octets frame (Ok s) r ≡ is_this (take (s.covered + 16) octets) (spelling_of frame r)
+    → same_spelling octets frame (Ok s) r ≡ is_this (s.check ++ take s.covered octets) (spelling_of frame r)
 same_is octets frame s (Ok t) stands e = parts_are_whole octets frame s.check t.check s.covered t.covered stands (read_stands frame t e)
 same_is octets frame s (Err refusal) stands e = refl
 

@@ -7,7 +7,7 @@ ghost use Rattle.lan_core.specs.declared.stop.Stop.TheVariants.{Memory};
 ghost use Rattle.lan_core.specs.Standing.{octets_at};
 ghost use Rattle.lan_core.specs.inside.Spellings.{repeats_octets};
 
-use crate::spellings::{Spellings, copied_spelling, spelling};
+use crate::spellings::{Spellings, spelling};
 use crate::stop::Stop;
 use lan_base::Octets;
 use std::alloc::{AllocError, Global};
@@ -94,7 +94,7 @@ impl Air {
         ensures { IfOk result (λ repeats. repeats ≡ list_any (repeats_octets octets.now) self.now) }
     {
         match spelling(self.alloc, octets)? {
-            Some(spelling) => Ok(self.spelled.has(spelling)),
+            Some(spelling) => Ok(self.spelled.has(&spelling)),
             None => Ok(false),
         }
     }
@@ -106,7 +106,7 @@ impl Air {
         ensures err { OnErr result (self.new ≡ self.old) }
     {
         let total = self.octets_with(octets.len())?;
-        let spelling = copied_spelling(self.alloc, octets.as_slice())?;
+        let spelling = spelling(self.alloc, octets.as_slice())?;
         self.frames.reserve(1)?;
         self.spelled.add(spelling)?;
         self.frames.push(octets)?;

@@ -1,6 +1,6 @@
 //! What frames spell, as it is looked up.
 
-ghost use Rattle.std.specs.Prelude.{◌≡◌, ◌≢◌, [], option_map, IfOk, OnOk, OnErr};
+ghost use Rattle.std.specs.Prelude.{◌≡◌, ◌≢◌, ◌++◌, [], option_map, IfOk, OnOk, OnErr};
 ghost use Rattle.mkpdu_codec.specs.declared.refusal.Refusal.TheVariants.{Memory};
 ghost use Rattle.lan_core.specs.inside.Spellings.{spelling, has_octets, Gains};
 
@@ -9,11 +9,8 @@ use std::alloc::{AllocError, Global};
 use std::collections::BTreeSet;
 use std::marker::Model;
 
-/// How many octets a check value has.
-const CHECK: usize = 16;
-
-/// The spellings of frames: their octets up to the end of their check values. Contracts see them as a
-/// list.
+/// The spellings of frames: their check values, each with the octets that it covers behind it, so that
+/// two of them mostly differ in their first octets. Contracts see them as a list.
 #[derive(Drop)]
 pub struct Spellings {
     spellings: BTreeSet<Vec<u8>>,
@@ -56,16 +53,16 @@ impl Spellings {
     }
 }
 
-/// The octets of a frame up to the end of its check value, if it spells something.
-pub fn spelling(alloc: Global, frame: &[u8]) -> Result<Option<&[u8]>, AllocError>
-    ensures { IfOk result (λ found. option_map (λ o. o.now) found ≡ spelling frame.now) }
+/// The check value of a frame and the octets that it covers, if it spells something.
+pub fn spelling(alloc: Global, frame: &[u8]) -> Result<Option<Vec<u8>>, AllocError>
+    ensures { IfOk result (λ found. option_map (λ v. v.items) found ≡ spelling frame.now) }
 {
     law_spelled_is_read();
     law_reading_refuses();
     match read(alloc, frame) {
         Ok(spelled) => {
-            let (spelling, _) = frame.split_at(spelled.covered + CHECK);
-            Ok(Some(spelling))
+            let covered = &frame[..spelled.covered];
+            Ok(Some(joined(alloc, &spelled.check, covered)?))
         }
         Err(refusal) => {
             unless_memory(refusal)?;
@@ -74,14 +71,14 @@ pub fn spelling(alloc: Global, frame: &[u8]) -> Result<Option<&[u8]>, AllocError
     }
 }
 
-/// A copy of it.
-pub fn copied_spelling(alloc: Global, frame: &[u8]) -> Result<Option<Vec<u8>>, AllocError>
-    ensures { IfOk result (λ found. option_map (λ v. v.items) found ≡ spelling frame.now) }
+/// Octets, with others behind them.
+fn joined(alloc: Global, first: &[u8], others: &[u8]) -> Result<Vec<u8>, AllocError>
+    ensures { IfOk result (λ both. both.items ≡ first.now ++ others.now) }
 {
-    match spelling(alloc, frame)? {
-        Some(spelling) => Ok(Some(Vec::from_slice(alloc, spelling)?)),
-        None => Ok(None),
-    }
+    let mut both = Vec::with_capacity(alloc, first.len() + others.len())?;
+    both.extend_from_slice(first)?;
+    both.extend_from_slice(others)?;
+    Ok(both)
 }
 
 /// A refusal that isn't want of memory.

@@ -1,12 +1,10 @@
 -- What the frames of the air spell, as it is looked up.
-use Rattle.std.specs.Prelude.{◌≡◌, ◌≤◌, ℕ, ◌+◌, nat_eq, Bool, false, ◌||◌, List, map, sum, take, length, All, Option, Some, None, Result, Ok, Err}
+use Rattle.std.specs.Prelude.{◌≡◌, ◌≤◌, ℕ, ◌+◌, nat_eq, Bool, false, ◌||◌, List, ◌++◌, map, sum, take, length, All, Option, Some, None, Result, Ok, Err}
 use Rattle.std.specs.List.{list_any}
-use lib.Pointwise.{pointwise}
 use Rattle.mkpdu_codec.specs.declared.spelled.Spelled.{Spelled}
 use Rattle.mkpdu_codec.specs.declared.refusal.Refusal.{Refusal}
 use Rattle.mkpdu_codec.specs.Reading.{reading}
 use lib.Pointwise.{pointwise}
-use Rattle.aes_cmac.specs.Cmac.{cmac}
 use Rattle.lan_core.specs.Fresh.{same_spelling}
 
 -- whether octets repeat a frame, but for what stands after its body
@@ -14,10 +12,10 @@ abbrev pub repeats_octets : List ℕ → List ℕ → Bool
 repeats_octets octets frame = same_spelling octets frame (reading octets) (reading frame)
 
 abbrev pub spelling_of : List ℕ → Result Spelled Refusal → Option (List ℕ)
-spelling_of octets (Ok s) = Some (take (s.covered + 16) octets)
+spelling_of octets (Ok s) = Some (s.check ++ take s.covered octets)
 spelling_of octets (Err refusal) = None
 
--- the octets of a frame up to the end of its check value, if it spells something
+-- the check value of a frame and the octets that it covers, if it spells something
 abbrev pub spelling : List ℕ → Option (List ℕ)
 spelling octets = spelling_of octets (reading octets)
 
