@@ -2,7 +2,7 @@
 
 ghost use Rattle.std.specs.Prelude.{◌≡◌, ◌++◌, [], ◌∷◌, OnOk, OnErr};
 ghost use Rattle.trace_text.specs.Writing.{written};
-ghost use Rattle.trace_text.specs.inside.Appending.{Grew};
+ghost use Rattle.trace_text.specs.Appending.{Grew};
 ghost use Rattle.trace_maker.specs.Generator.{after};
 ghost use Rattle.trace_maker.specs.Made.{made, head, stations, choices, text_of};
 

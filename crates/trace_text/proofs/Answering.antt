@@ -1,15 +1,14 @@
 -- What a call answers, of its parts.
-use Rattle.std.proofs.Common.{◌≡◌, ℕ, ◌≤◌, Bool, true, false, List, ◌∷◌, ◌++◌, length, refl, sym, ap, ◌∙◌, inl, inr, arith, append_assoc}
-use Rattle.std.specs.Prelude.{Option, Some, None, Result, Ok, Err, IsOk, OnErr, if◌then◌else◌, nat_lt}
+use Rattle.std.proofs.Common.{◌≡◌, ℕ, ◌≤◌, false, List, ◌∷◌, ◌++◌, length, refl, ap, ◌∙◌, inl, inr, arith, append_assoc}
+use Rattle.std.specs.Prelude.{Option, Some, Result, Ok, Err, OnErr, nat_lt}
 use Rattle.std.specs.Result.{result_map_both}
 use Rattle.std.proofs.lemmas.Bool.Decides.{nat_tests}
 use Rattle.trace_text.specs.declared.fault.TextFault.{TextFault}
-use Rattle.trace_text.specs.declared.fault.TextFault.TheVariants.{TooLong, Memory}
 use Rattle.trace_text.specs.declared.line.Line.{Line}
 use Rattle.trace_text.specs.Words.{words_of}
-use Rattle.trace_text.specs.Reading.{line_of, is_comment, line_of_words, line_in}
+use Rattle.trace_text.specs.Reading.{line_of, is_comment, line_in}
 use Rattle.trace_text.specs.inside.Answering.{Answers}
-use Rattle.trace_text.specs.inside.Appending.{Grew}
+use Rattle.trace_text.specs.Appending.{Grew}
 
 some_refused : (fault : TextFault) (r : Result Line TextFault) → Answers {X = Line} (Err fault) r
     → Answers {X = Option Line} (Err fault) (result_map_both (λ line. Some line) (λ e. e) r)

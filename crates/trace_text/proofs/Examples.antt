@@ -1,10 +1,10 @@
 -- Definitions at worked lines.
-use Rattle.std.proofs.Common.{◌≡◌, ◌≤◌, [], ◌∷◌, ◌++◌, length, replicate, refl, sym, subst, arith}
+use Rattle.std.proofs.Common.{◌≡◌, ◌≤◌, [], ◌∷◌, length, replicate, refl, sym, subst, arith}
 use Rattle.std.specs.Prelude.{codes, Ok, Err, Some, None}
 use Rattle.std.specs.Fmt.{digits}
 use Rattle.hex.proofs.OnLiterals.{hex_on_literals}
 use Rattle.trace_text.specs.declared.fault.TextFault.TheVariants.{TooLong, Word, Count, Hex, Range}
-use Rattle.trace_text.specs.declared.line.Line.TheVariants.{DrawsCount, DrawsList, Suite, Group, Station, Tick, TickOne, Restart, Feed}
+use Rattle.trace_text.specs.declared.line.Line.TheVariants.{DrawsCount, DrawsList, Station, Tick, TickOne, Feed}
 use Rattle.trace_text.specs.Words.{words_of}
 use Rattle.trace_text.specs.Reading.{line_in}
 use Rattle.trace_text.specs.Writing.{written, IsInForm}

@@ -1,14 +1,14 @@
 -- No line is refused for want of memory.
 use Rattle.std.proofs.Common.{◌≡◌, ℕ, Bool, true, false, List, [], ◌∷◌, length, refl, ap, subst, inl, inr}
-use Rattle.std.specs.Prelude.{◌≢◌, ◌⊎◌, Option, Some, None, Result, Ok, Err, IsOk, if◌then◌else◌, nat_lt, codes}
+use Rattle.std.specs.Prelude.{◌≢◌, ◌⊎◌, Option, Some, None, Result, Ok, Err, if◌then◌else◌, nat_lt, codes}
 use Rattle.std.specs.Result.{result_ok, result_map_both}
 use Rattle.std.specs.Option.{ok_or}
 use Rattle.hex.specs.Hex.{decode_of, decode_sized}
 use Rattle.trace_text.specs.declared.fault.TextFault.{TextFault}
-use Rattle.trace_text.specs.declared.fault.TextFault.TheVariants.{TooLong, Word, Count, Hex, Range, Memory}
+use Rattle.trace_text.specs.declared.fault.TextFault.TheVariants.{TooLong, Hex, Range, Memory}
 use Rattle.trace_text.specs.declared.line.Line.{Line}
 use Rattle.trace_text.specs.Words.{words_of, is_word}
-use Rattle.trace_text.specs.Kinds.{Kind, name, number, one_of, exactly, octets, secret, said, number_of, is_within, is_either, if_allowed, octets_of, exactly_of}
+use Rattle.trace_text.specs.Kinds.{Kind, name, number, one_of, exactly, octets, secret, said, is_within, is_either, if_allowed, exactly_of}
 use Rattle.trace_text.specs.Forms.{Row, makes, ◌⇒◌, blocks, Form, forms, draws_forms}
 use Rattle.trace_text.specs.Reading.{◌>>=◌, blocks_of, along, by_count, beginning, by_some, draws_of, line_of, is_comment, line_of_words, line_in, first_fault}
 use Rattle.trace_text.specs.inside.Answering.{Answers}

@@ -1,6 +1,6 @@
 -- Each word of a line that is read is inside its form.
-use Rattle.std.proofs.Common.{◌≡◌, ℕ, ◌+◌, ◌*◌, ◌<◌, ◌≤◌, Bool, true, false, List, [], ◌∷◌, length, refl, sym, ap, ◌∙◌, subst, inl, inr, arith}
-use Rattle.std.specs.Prelude.{Option, Some, None, Result, Ok, Err, IfOk, IfSome, if◌then◌else◌, ◌&&◌, ◌||◌, ◌==◌, ◌⊎◌, nat_lt, nat_le, codes, map, filter}
+use Rattle.std.proofs.Common.{◌≡◌, ℕ, ◌<◌, ◌≤◌, Bool, true, false, List, [], ◌∷◌, length, refl, sym, ap, ◌∙◌, subst, inl, inr, arith}
+use Rattle.std.specs.Prelude.{Option, Some, None, Result, Ok, Err, IfOk, IfSome, if◌then◌else◌, ◌&&◌, ◌⊎◌, nat_lt, codes, map}
 use Rattle.std.specs.Result.{result_ok, result_map_both}
 use Rattle.std.specs.Option.{ok_or}
 use Rattle.std.specs.Str.Parse.{digits_value}
@@ -14,10 +14,10 @@ use Rattle.trace_text.specs.declared.fault.TextFault.TheVariants.{TooLong, Hex, 
 use Rattle.trace_text.specs.declared.line.Line.{Line}
 use Rattle.trace_text.specs.declared.line.Line.TheVariants.{DrawsList}
 use Rattle.trace_text.specs.Words.{words_of, is_word}
-use Rattle.trace_text.specs.Kinds.{Kind, name, number, one_of, exactly, octets, secret, Said, said, IsFit, is_number, is_within, is_either, if_allowed, octets_of, exactly_of}
+use Rattle.trace_text.specs.Kinds.{Kind, name, number, one_of, exactly, octets, secret, Said, said, IsFit, is_number, is_within, is_either, if_allowed, exactly_of}
 use Rattle.trace_text.specs.Forms.{Row, makes, ◌⇒◌, blocks, Form, forms, draws_forms}
 use Rattle.trace_text.specs.Reading.{◌>>=◌, blocks_of, along, by_count, beginning, by_some, draws_of, line_of, is_comment, line_of_words, line_in}
-use Rattle.trace_text.specs.Writing.{Field, ◌∶◌, AllFit, IsInForm}
+use Rattle.trace_text.specs.Writing.{◌∶◌, AllFit, IsInForm}
 use Rattle.trace_text.specs.inside.Answering.{Answers}
 
 abbrev value_or : {A : Type 0} → A → Result A TextFault → A

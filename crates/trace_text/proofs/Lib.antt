@@ -2,9 +2,9 @@ pub mod Answering
 pub mod Decoding
 pub mod Digits
 pub mod Faults
-pub mod Hexing
 pub mod InForm
 pub mod Listing
+pub mod NoText
 pub mod RoundTrip
 pub mod Spacing
 pub mod Spelling

@@ -1,15 +1,14 @@
 -- What is written of a line is read as the same line.
-use Rattle.std.proofs.Common.{◌≡◌, ℕ, ◌<◌, ◌≤◌, Bool, true, false, List, [], ◌∷◌, ◌++◌, length, refl, sym, ap, ◌∙◌, arith}
-use Rattle.std.specs.Prelude.{Option, Some, Result, Ok, not, nat_lt, map, codes}
+use Rattle.std.proofs.Common.{◌≡◌, ℕ, ◌<◌, ◌≤◌, Bool, true, false, List, [], ◌∷◌, ◌++◌, length, refl, ap, ◌∙◌, arith}
+use Rattle.std.specs.Prelude.{Some, Ok, not, nat_lt, map, codes}
 use Rattle.std.specs.List.{list_all}
 use Rattle.std.specs.Result.{result_map_both}
 use Rattle.std.proofs.lemmas.Bool.Decides.{nat_tests}
-use Rattle.trace_text.specs.declared.fault.TextFault.{TextFault}
 use Rattle.trace_text.specs.declared.line.Line.{Line}
 use Rattle.trace_text.specs.declared.line.Line.TheVariants.{DrawsList, DrawsCount, DrawsChaCha, Conf, Window, Rekey, Lag, Suite, Group, Station, Tick, TickOne, Flow, Deliver, Spread, Lose, Cut, Mend, Restart, Send, Race, Burst, While, End, Inject, Feed}
 use Rattle.trace_text.specs.Words.{is_blank, words_of, spaced}
-use Rattle.trace_text.specs.Kinds.{Kind, name, number, one_of, exactly, octets, secret, ticks, frame, body, address, Said, said, spelled, IsFit, exactly_of}
-use Rattle.trace_text.specs.Reading.{◌>>=◌, blocks_of, draws_of, line_of, is_comment, line_in}
+use Rattle.trace_text.specs.Kinds.{name, number, one_of, exactly, octets, secret, ticks, frame, body, address, spelled}
+use Rattle.trace_text.specs.Reading.{blocks_of, draws_of, line_of, is_comment, line_in}
 use Rattle.trace_text.specs.Writing.{Field, ◌∶◌, first_words, fields, AllFit, IsInForm, written}
 use Rattle.trace_text.proofs.Answering.{line_in-words}
 use Rattle.trace_text.proofs.Spacing.{IsWord, AreWords, IsWord-literal, before_space, words_of-spaced}

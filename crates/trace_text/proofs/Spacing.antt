@@ -1,17 +1,12 @@
 -- Words that stand behind spaces are the words of the line.
-use Rattle.std.proofs.Common.{◌≡◌, ℕ, ◌<◌, Bool, true, false, List, [], ◌∷◌, ◌++◌, length, refl, sym, ap, ◌∙◌, subst}
-use Rattle.std.specs.Prelude.{not, map, codes}
-use Rattle.std.specs.List.{All, AllPass, list_all, slice_split, flat_map}
+use Rattle.std.proofs.Common.{◌≡◌, ℕ, ◌<◌, Bool, true, false, List, [], ◌∷◌, ◌++◌, length, refl, ap, ◌∙◌}
+use Rattle.std.specs.Prelude.{not}
+use Rattle.std.specs.List.{All, list_all, slice_split}
 use Rattle.std.proofs.lemmas.List.{append-nil}
 use Rattle.std.proofs.lemmas.List.Elements.{All-weaker}
 use Rattle.std.proofs.lemmas.List.Sums.{AllPass-from_list_all}
 use Rattle.std.proofs.lemmas.List.Splits.{slice_split_none, slice_split_at}
-use Rattle.hex.specs.Hex.{encode_lower}
-use Rattle.trace_text.specs.declared.line.Line.{Line}
-use Rattle.trace_text.specs.declared.line.Line.TheVariants.{DrawsList}
 use Rattle.trace_text.specs.Words.{is_blank, words_of, spaced}
-use Rattle.trace_text.specs.Kinds.{exactly, spelled}
-use Rattle.trace_text.specs.Writing.{Field, ◌∶◌, written}
 use Rattle.trace_text.proofs.Taking.{kept, kept-cons}
 
 -- octets without a blank, one at least
@@ -45,13 +40,3 @@ pub words_of-spaced : (first : List ℕ) (words : List (List ℕ)) → IsWord fi
 words_of-spaced first [] f ws = ap words_of (append-nil first) ∙ one first f
 words_of-spaced first (word ∷ words) f ws =
     before_space first (word ++ spaced words) f ∙ ap (λ others. first ∷ others) (words_of-spaced word words ws.0 ws.1)
-
-values_spaced : (values : List (List ℕ)) → flat_map (λ value. 32 ∷ encode_lower value) values
-    ≡ spaced (map (λ field. spelled field.kind field.says) (map (λ value. exactly 16 ∶ value) values))
-values_spaced [] = refl
-values_spaced (value ∷ values) = ap (λ text. (32 ∷ encode_lower value) ++ text) (values_spaced values)
-
-pub list_written : (slice values : List (List ℕ)) (line : Line) → slice ≡ values → line ≡ DrawsList values
-    → codes "draws list" ++ flat_map (λ value. 32 ∷ encode_lower value) slice ≡ written line
-unfolding written
-list_written slice values line s e = rw (s, e) (ap (λ text. codes "draws list" ++ text) (values_spaced values))

@@ -1,21 +1,21 @@
 -- A spelled word is a word, and says the same again.
-use Rattle.std.proofs.Common.{◌≡◌, ℕ, ◌+◌, ◌*◌, ◌<◌, ◌≤◌, ◌^◌, ◌/◌, ◌%◌, Bool, true, false, List, [], ◌∷◌, ◌++◌, length, refl, sym, ap, ◌∙◌, subst, inl, inr, arith}
-use Rattle.std.specs.Prelude.{Result, Ok, Err, if◌then◌else◌, ◌&&◌, ◌||◌, ◌==◌, ◌⊎◌, nat_lt, nat_le, decimal}
+use Rattle.std.proofs.Common.{◌≡◌, ℕ, ◌+◌, ◌<◌, ◌≤◌, ◌^◌, ◌%◌, Bool, true, false, List, [], ◌∷◌, ◌++◌, length, refl, sym, ap, ◌∙◌, inl, inr, arith}
+use Rattle.std.specs.Prelude.{Ok, Err, if◌then◌else◌, ◌&&◌, ◌⊎◌, nat_lt, nat_le, decimal}
 use Rattle.std.specs.List.{All, AllPass, list_all}
 use Rattle.std.specs.Char.{is_ascii_digit, is_ascii_alphabetic, is_ascii_alphanumeric}
 use Rattle.std.specs.Str.Parse.{digits_value}
 use Rattle.std.proofs.lemmas.Bool.Decides.{nat_tests}
 use Rattle.std.proofs.lemmas.Fmt.{decimal_is_IsNumeral, decimal_by_steps, length-decimal-le, decimal_nonempty}
 use Rattle.std.proofs.lemmas.List.Folds.{list_all-append}
-use Rattle.std.proofs.lemmas.List.Elements.{All-weaker, All-cons}
+use Rattle.std.proofs.lemmas.List.Elements.{All-weaker}
 use Rattle.std.proofs.lemmas.List.Sums.{AllPass-from_list_all}
-use Rattle.hex.specs.Hex.{decode_of, decode_sized, encode_lower, lower_digits, is_hex_digit, IsBytes}
+use Rattle.hex.specs.Hex.{encode_lower, lower_digits, is_hex_digit, IsBytes}
 use Rattle.hex.proofs.HexLemmas.{decode_of-ok, decode_of-encode_lower, decode_sized-encode_lower, length-encode_with}
 use Rattle.lan_base.specs.Name.{is_name}
-use Rattle.trace_text.specs.declared.fault.TextFault.{TextFault}
 use Rattle.trace_text.specs.declared.fault.TextFault.TheVariants.{Range}
 use Rattle.trace_text.specs.Words.{is_blank}
 use Rattle.trace_text.specs.Kinds.{Kind, name, number, one_of, exactly, octets, secret, Said, said, spelled, IsFit, is_number, number_of, is_within, is_either, octets_of, exactly_of}
+use Rattle.trace_text.proofs.Digits.{both}
 use Rattle.trace_text.proofs.Spacing.{IsWord}
 
 -- the words of a kind are not empty, and its numbers have at most ten digits
@@ -42,11 +42,6 @@ differ p octet false e space tab passes = refl
 whole_by : (p : ℕ → Bool) (word : List ℕ) → p 32 ≡ false → p 9 ≡ false → AllPass p word → All (λ octet. is_blank octet ≡ false) word
 whole_by p word space tab all =
     All-weaker (λ octet. p octet ≡ true) (λ octet. is_blank octet ≡ false) (λ octet passes. differ p octet (is_blank octet) refl space tab passes) word all
-
-both : (a b : Bool) → a && b ≡ true → (a ≡ true) × (b ≡ true)
-both true true e = (refl, refl)
-both true false e = absurd cc
-both false b e = absurd cc
 
 letter : (octet : ℕ) → is_ascii_alphabetic octet ≡ true → is_ascii_alphanumeric octet ≡ true
 letter octet e = grind (arith, nat_tests)

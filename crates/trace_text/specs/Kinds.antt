@@ -1,5 +1,5 @@
 -- The kinds of words that follow a line's first: what such a word says, and how that is written.
-use Rattle.std.specs.Prelude.{ℕ, ◌≤◌, ◌%◌, ◌<◌, ◌^◌, ◌==◌, ◌||◌, ◌&&◌, ◌≡◌, ◌⊎◌, nat_le, nat_lt, Bool, if◌then◌else◌, List, length, slice_index, decimal, Option, Some, None, Result, Ok, Err}
+use Rattle.std.specs.Prelude.{ℕ, ◌≤◌, ◌==◌, ◌||◌, ◌&&◌, ◌≡◌, ◌⊎◌, nat_le, nat_lt, Bool, if◌then◌else◌, List, length, decimal, Option, Some, None, Result, Ok, Err}
 use Rattle.std.specs.List.{list_all}
 use Rattle.std.specs.Char.{is_ascii_digit}
 use Rattle.std.specs.Str.Parse.{digits_value}

@@ -1,4 +1,5 @@
 pub mod Words
+pub mod Appending
 pub mod Kinds
 pub mod Forms
 pub mod Reading

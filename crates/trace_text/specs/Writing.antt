@@ -1,6 +1,5 @@
 -- How a line is written.
-use Rattle.std.specs.Prelude.{ℕ, ◌≤◌, ◌<◌, List, [], ◌∷◌, ◌++◌, length, map, codes}
-use Rattle.hex.specs.Hex.{encode_lower}
+use Rattle.std.specs.Prelude.{ℕ, ◌<◌, List, [], ◌∷◌, ◌++◌, length, map, codes}
 use Rattle.trace_text.specs.Words.{spaced}
 use Rattle.trace_text.specs.Kinds.{Kind, name, number, one_of, exactly, octets, secret, ticks, frame, body, address, Said, spelled, IsFit}
 use Rattle.trace_text.specs.declared.line.Line.{Line}

@@ -1,4 +1,3 @@
 -- What serves private functions alone.
 pub mod Answering
-pub mod Appending
-pub mod Keywords
+pub mod Fields

@@ -8,7 +8,6 @@ ghost use Rattle.trace_text.specs.inside.Answering.{Answers};
 
 use crate::blocks::{expect_blocks, read_blocks};
 use crate::fault::TextFault;
-use crate::keyword::Keyword;
 use crate::kinds::{
     decoded, expect_key, expect_octets, read_array, read_name, read_number, read_octets, read_suite,
 };
@@ -16,6 +15,7 @@ use crate::line::Line;
 use crate::words::{next_word, no_word, one_word, three_words, two_words};
 use lan_base::{Mac, Sci};
 use std::alloc::Global;
+use std::str;
 
 /// The most ticks or rounds of one line.
 const MAX_TICKS: u32 = 1_000_000;
@@ -27,34 +27,45 @@ const MAX_FRAME: u32 = 200_000;
 pub fn read_form(alloc: Global, first: &[u8], rest: &[u8]) -> Result<Line, TextFault>
     ensures { Answers result (line_of first.now (words_of rest.now)) }
 {
-    let keyword = Keyword::of(first).ok_or(TextFault::Word)?;
-    match keyword {
-        Keyword::Draws => draws(alloc, rest),
-        Keyword::Conf => conf(rest),
-        Keyword::Window => window(rest),
-        Keyword::Rekey => rekey(rest),
-        Keyword::Lag => lag(rest),
-        Keyword::Suite => suite(rest),
-        Keyword::Group => group(alloc, rest),
-        Keyword::Station => station(rest),
-        Keyword::Tick => tick(rest),
-        Keyword::Flow => flow(rest),
-        Keyword::Deliver => deliver(rest),
-        Keyword::Spread => spread(rest),
-        Keyword::Lose => lose(rest),
-        Keyword::Cut => cut(rest),
-        Keyword::Mend => mend(rest),
-        Keyword::Restart => restart(rest),
-        Keyword::Send => send(alloc, rest),
-        Keyword::Race => race(rest),
-        Keyword::Burst => burst(alloc, rest),
-        Keyword::While => race_control(rest),
-        Keyword::End => race_end(rest),
-        Keyword::Inject => inject(alloc, rest),
-        Keyword::Feed => feed(rest),
+    match str::from_utf8(first) {
+        Ok(first) => read_known(alloc, first, rest),
+        Err(_) => Err(TextFault::Word),
     }
 }
 
+/// The same of a first word that is text.
+fn read_known(alloc: Global, first: &str, rest: &[u8]) -> Result<Line, TextFault>
+    ensures { Answers result (line_of first.now (words_of rest.now)) }
+{
+    match first {
+        "draws" => draws(alloc, rest),
+        "conf" => conf(rest),
+        "window" => window(rest),
+        "rekey" => rekey(rest),
+        "lag" => lag(rest),
+        "suite" => suite(rest),
+        "group" => group(alloc, rest),
+        "station" => station(rest),
+        "tick" => tick(rest),
+        "flow" => flow(rest),
+        "deliver" => deliver(rest),
+        "spread" => spread(rest),
+        "lose" => lose(rest),
+        "cut" => cut(rest),
+        "mend" => mend(rest),
+        "restart" => restart(rest),
+        "send" => send(alloc, rest),
+        "race" => race(rest),
+        "burst" => burst(alloc, rest),
+        "while" => race_control(rest),
+        "end" => race_end(rest),
+        "inject" => inject(alloc, rest),
+        "feed" => feed(rest),
+        _ => Err(TextFault::Word),
+    }
+}
+
+/// `draws KIND ..`.
 fn draws(alloc: Global, rest: &[u8]) -> Result<Line, TextFault>
     ensures { Answers result (line_of (codes "draws") (words_of rest.now)) }
 {
@@ -71,6 +82,7 @@ fn draws(alloc: Global, rest: &[u8]) -> Result<Line, TextFault>
     Err(TextFault::Word)
 }
 
+/// `draws count`.
 fn draws_count(rest: &[u8]) -> Result<Line, TextFault>
     ensures { result ≡ draws_of (codes "count" ∷ words_of rest.now) }
 {
@@ -78,6 +90,7 @@ fn draws_count(rest: &[u8]) -> Result<Line, TextFault>
     Ok(Line::DrawsCount)
 }
 
+/// `draws chacha KEY`.
 fn draws_chacha(rest: &[u8]) -> Result<Line, TextFault>
     ensures { result ≡ draws_of (codes "chacha" ∷ words_of rest.now) }
 {
@@ -87,6 +100,7 @@ fn draws_chacha(rest: &[u8]) -> Result<Line, TextFault>
     })
 }
 
+/// `draws list D ..`.
 fn draws_list(alloc: Global, rest: &[u8]) -> Result<Line, TextFault>
     ensures { Answers result (draws_of (codes "list" ∷ words_of rest.now)) }
 {
@@ -98,6 +112,7 @@ fn draws_list(alloc: Global, rest: &[u8]) -> Result<Line, TextFault>
     Ok(Line::DrawsList { values })
 }
 
+/// `conf C`.
 fn conf(rest: &[u8]) -> Result<Line, TextFault>
     ensures { result ≡ line_of (codes "conf") (words_of rest.now) }
 {
@@ -105,6 +120,7 @@ fn conf(rest: &[u8]) -> Result<Line, TextFault>
     Ok(Line::Conf { conf })
 }
 
+/// `window W`.
 fn window(rest: &[u8]) -> Result<Line, TextFault>
     ensures { result ≡ line_of (codes "window") (words_of rest.now) }
 {
@@ -112,6 +128,7 @@ fn window(rest: &[u8]) -> Result<Line, TextFault>
     Ok(Line::Window { window })
 }
 
+/// `rekey R`.
 fn rekey(rest: &[u8]) -> Result<Line, TextFault>
     ensures { result ≡ line_of (codes "rekey") (words_of rest.now) }
 {
@@ -119,6 +136,7 @@ fn rekey(rest: &[u8]) -> Result<Line, TextFault>
     Ok(Line::Rekey { rekey })
 }
 
+/// `lag L`.
 fn lag(rest: &[u8]) -> Result<Line, TextFault>
     ensures { result ≡ line_of (codes "lag") (words_of rest.now) }
 {
@@ -126,6 +144,7 @@ fn lag(rest: &[u8]) -> Result<Line, TextFault>
     Ok(Line::Lag { lag })
 }
 
+/// `suite S`.
 fn suite(rest: &[u8]) -> Result<Line, TextFault>
     ensures { result ≡ line_of (codes "suite") (words_of rest.now) }
 {
@@ -133,6 +152,7 @@ fn suite(rest: &[u8]) -> Result<Line, TextFault>
     Ok(Line::Suite { suite })
 }
 
+/// `group CAK CKN`.
 fn group(alloc: Global, rest: &[u8]) -> Result<Line, TextFault>
     ensures { Answers result (line_of (codes "group") (words_of rest.now)) }
 {
@@ -144,6 +164,7 @@ fn group(alloc: Global, rest: &[u8]) -> Result<Line, TextFault>
     Ok(Line::Group { cak, ckn })
 }
 
+/// `station NAME SCI P`.
 fn station(rest: &[u8]) -> Result<Line, TextFault>
     ensures { result ≡ line_of (codes "station") (words_of rest.now) }
 {
@@ -158,6 +179,7 @@ fn station(rest: &[u8]) -> Result<Line, TextFault>
     })
 }
 
+/// `tick N`, or `tick NAME N`.
 fn tick(rest: &[u8]) -> Result<Line, TextFault>
     ensures { result ≡ line_of (codes "tick") (words_of rest.now) }
 {
@@ -171,6 +193,7 @@ fn tick(rest: &[u8]) -> Result<Line, TextFault>
     Ok(Line::TickOne { name, ticks })
 }
 
+/// `tick N`.
 fn rounds(word: &[u8]) -> Result<Line, TextFault>
     ensures { result ≡ line_of (codes "tick") (word.now ∷ []) }
 {
@@ -178,6 +201,7 @@ fn rounds(word: &[u8]) -> Result<Line, TextFault>
     Ok(Line::Tick { rounds })
 }
 
+/// `flow N`.
 fn flow(rest: &[u8]) -> Result<Line, TextFault>
     ensures { result ≡ line_of (codes "flow") (words_of rest.now) }
 {
@@ -185,6 +209,7 @@ fn flow(rest: &[u8]) -> Result<Line, TextFault>
     Ok(Line::Flow { rounds })
 }
 
+/// `deliver K NAME`.
 fn deliver(rest: &[u8]) -> Result<Line, TextFault>
     ensures { result ≡ line_of (codes "deliver") (words_of rest.now) }
 {
@@ -194,6 +219,7 @@ fn deliver(rest: &[u8]) -> Result<Line, TextFault>
     Ok(Line::Deliver { frame, name })
 }
 
+/// `spread K`.
 fn spread(rest: &[u8]) -> Result<Line, TextFault>
     ensures { result ≡ line_of (codes "spread") (words_of rest.now) }
 {
@@ -201,6 +227,7 @@ fn spread(rest: &[u8]) -> Result<Line, TextFault>
     Ok(Line::Spread { frame })
 }
 
+/// `lose K`.
 fn lose(rest: &[u8]) -> Result<Line, TextFault>
     ensures { result ≡ line_of (codes "lose") (words_of rest.now) }
 {
@@ -208,6 +235,7 @@ fn lose(rest: &[u8]) -> Result<Line, TextFault>
     Ok(Line::Lose { frame })
 }
 
+/// `cut FROM TO`.
 fn cut(rest: &[u8]) -> Result<Line, TextFault>
     ensures { result ≡ line_of (codes "cut") (words_of rest.now) }
 {
@@ -217,6 +245,7 @@ fn cut(rest: &[u8]) -> Result<Line, TextFault>
     Ok(Line::Cut { from, to })
 }
 
+/// `mend FROM TO`.
 fn mend(rest: &[u8]) -> Result<Line, TextFault>
     ensures { result ≡ line_of (codes "mend") (words_of rest.now) }
 {
@@ -226,6 +255,7 @@ fn mend(rest: &[u8]) -> Result<Line, TextFault>
     Ok(Line::Mend { from, to })
 }
 
+/// `restart NAME`.
 fn restart(rest: &[u8]) -> Result<Line, TextFault>
     ensures { result ≡ line_of (codes "restart") (words_of rest.now) }
 {
@@ -233,6 +263,7 @@ fn restart(rest: &[u8]) -> Result<Line, TextFault>
     Ok(Line::Restart { name })
 }
 
+/// `send NAME DST BODY`.
 fn send(alloc: Global, rest: &[u8]) -> Result<Line, TextFault>
     ensures { Answers result (line_of (codes "send") (words_of rest.now)) }
 {
@@ -247,6 +278,7 @@ fn send(alloc: Global, rest: &[u8]) -> Result<Line, TextFault>
     })
 }
 
+/// `race`.
 fn race(rest: &[u8]) -> Result<Line, TextFault>
     ensures { result ≡ line_of (codes "race") (words_of rest.now) }
 {
@@ -254,6 +286,7 @@ fn race(rest: &[u8]) -> Result<Line, TextFault>
     Ok(Line::Race)
 }
 
+/// `burst NAME W N DST BODY`.
 fn burst(alloc: Global, rest: &[u8]) -> Result<Line, TextFault>
     ensures { Answers result (line_of (codes "burst") (words_of rest.now)) }
 {
@@ -274,6 +307,7 @@ fn burst(alloc: Global, rest: &[u8]) -> Result<Line, TextFault>
     })
 }
 
+/// `while`.
 fn race_control(rest: &[u8]) -> Result<Line, TextFault>
     ensures { result ≡ line_of (codes "while") (words_of rest.now) }
 {
@@ -281,6 +315,7 @@ fn race_control(rest: &[u8]) -> Result<Line, TextFault>
     Ok(Line::While)
 }
 
+/// `end`.
 fn race_end(rest: &[u8]) -> Result<Line, TextFault>
     ensures { result ≡ line_of (codes "end") (words_of rest.now) }
 {
@@ -288,6 +323,7 @@ fn race_end(rest: &[u8]) -> Result<Line, TextFault>
     Ok(Line::End)
 }
 
+/// `inject NAME OCTETS`.
 fn inject(alloc: Global, rest: &[u8]) -> Result<Line, TextFault>
     ensures { Answers result (line_of (codes "inject") (words_of rest.now)) }
 {
@@ -297,6 +333,7 @@ fn inject(alloc: Global, rest: &[u8]) -> Result<Line, TextFault>
     Ok(Line::Inject { name, octets })
 }
 
+/// `feed K1 K2 NAME`.
 fn feed(rest: &[u8]) -> Result<Line, TextFault>
     ensures { result ≡ line_of (codes "feed") (words_of rest.now) }
 {

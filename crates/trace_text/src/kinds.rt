@@ -63,6 +63,7 @@ fn is_number(word: &[u8]) -> bool
     !word.is_empty() && word.len() <= MAX_DIGITS && are_digits(word)
 }
 
+/// Whether there are only decimal digits.
 fn are_digits(word: &[u8]) -> bool
     ensures { result ≡ list_all is_ascii_digit word.now }
 {

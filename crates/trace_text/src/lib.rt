@@ -2,10 +2,10 @@
 //! written as words.
 #![tactic(auto)]
 
+mod appending;
 mod blocks;
 mod fault;
 mod forms;
-mod keyword;
 mod kinds;
 mod laws;
 mod line;
@@ -13,6 +13,7 @@ mod reading;
 mod words;
 mod writing;
 
+pub use appending::{Word, put_words};
 pub use fault::TextFault;
 pub use laws::{law_read_or_refused, law_written_is_read};
 pub use line::Line;

@@ -1,5 +1,5 @@
 use Rattle.std.proofs.Common.{◌≡◌, ◌+◌, ap, ◌∙◌, arith}
-use Rattle.trace_text.specs.inside.Appending.{Grew}
+use Rattle.trace_text.specs.Appending.{Grew}
 use Rattle.trace_text.proofs.Answering.{on_err, then_grew}
 use Rattle.trace_maker.specs.Generator.{value}
 use Rattle.trace_maker.specs.Made.{chosen}
