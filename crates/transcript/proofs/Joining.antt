@@ -6,14 +6,10 @@ use Rattle.aes_block.specs.Secrets.{secret_octets}
 use Rattle.aes_block.specs.declared.secret.Secret.{Secret}
 use Rattle.aes_block.specs.declared.secret.Secret.TheVariants.{S128, S256}
 use Rattle.transcript.specs.Words.{spelled, secret_word}
-use Rattle.std.specs.List.{flat_map}
 use Rattle.trace_text.specs.Words.{spaced}
-use Rattle.transcript.specs.inside.Appending.{word_text, line_of}
-use Rattle.transcript.specs.declared.rendering.Word.{Word}
-
-pub spaced_texts : (words : List Word) → flat_map (λ word. 32 ∷ word_text word) words ≡ spaced (map word_text words)
-spaced_texts [] = refl
-spaced_texts (word ∷ words) = ap (λ text. (32 ∷ word_text word) ++ text) (spaced_texts words)
+use Rattle.trace_text.specs.Appending.{word_text}
+use Rattle.trace_text.specs.declared.appending.Word.{Word}
+use Rattle.transcript.specs.inside.Appending.{line_of}
 
 pub spaced_append : (xs ys : List (List ℕ)) → spaced (xs ++ ys) ≡ spaced xs ++ spaced ys
 spaced_append [] ys = refl
@@ -22,13 +18,13 @@ spaced_append (x ∷ xs) ys =
 
 -- a line that is appended part by part
 pub by_parts : (old a b c new first : List ℕ) (head tail : List Word) → a ≡ old ++ first
-    → b ≡ a ++ flat_map (λ word. 32 ∷ word_text word) head → c ≡ b ++ flat_map (λ word. 32 ∷ word_text word) tail → new ≡ c ++ 10 ∷ []
+    → b ≡ a ++ spaced (map word_text head) → c ≡ b ++ spaced (map word_text tail) → new ≡ c ++ 10 ∷ []
     → new ≡ old ++ line_of first (map word_text head ++ map word_text tail)
 by_parts old a b c new first head tail ea eb ec en =
     let h = spaced (map word_text head) in
     let t = spaced (map word_text tail) in
     let end : List ℕ = 10 ∷ [] in
-    en ∙ rw (ec, eb, ea, spaced_texts head, spaced_texts tail, spaced_append (map word_text head) (map word_text tail)) (
+    en ∙ rw (ec, eb, ea, spaced_append (map word_text head) (map word_text tail)) (
     ap (λ xs. xs ++ end) (ap (λ xs. xs ++ t) (append_assoc old first h) ∙ append_assoc old (first ++ h) t ∙ ap (λ xs. old ++ xs) (append_assoc first h t))
     ∙ append_assoc old (first ++ (h ++ t)) end)
 

@@ -1,5 +1,3 @@
-mod Hexing
-mod Answering
 mod Joining
 mod Pairs
 mod Said

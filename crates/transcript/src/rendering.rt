@@ -1,23 +1,23 @@
 //! A fact is rendered.
 
-ghost use Rattle.std.specs.Prelude.{◌≡◌, ◌<◌, ℕ, List, [], ◌∷◌, ◌++◌, length, get_or, map, codes, decimal, OnOk, OnErr, slice_index};
-ghost use Rattle.std.specs.List.{flat_map};
-ghost use Rattle.hex.specs.Hex.{encode_lower, lower_digits};
+ghost use Rattle.std.specs.Prelude.{◌≡◌, ◌<◌, ℕ, List, [], ◌∷◌, ◌++◌, length, get_or, map, codes, decimal, OnOk, OnErr};
+ghost use Rattle.hex.specs.Hex.{encode_lower};
 ghost use Rattle.aes_block.specs.Secrets.{secret_octets};
 ghost use Rattle.lan_core.specs.Run.{place};
 ghost use Rattle.transcript.specs.Words.{spelled, server_word, why_words, verdict_words, arrival_words, lack_words, cause_text, tag_text, frame_text};
 ghost use Rattle.transcript.specs.Rendering.{rendered};
-ghost use Rattle.transcript.specs.inside.Appending.{Grew, word_text, line_of};
+ghost use Rattle.trace_text.specs.Appending.{Grew, word_text};
+ghost use Rattle.transcript.specs.inside.Appending.{line_of};
 
 use aes_block::Secret;
 use gcm_frames::TagRefusal;
-use itoa::Buffer;
 use lan_base::{KeyId, Mi, Name, Octets};
 use lan_core::{Fact, Lack};
 use mka_station::Verdict;
 use rx_slots::Arrival;
 use sak_exchange::{Cause, Why};
 use std::alloc::AllocError;
+use trace_text::{Word, put_words};
 
 /// Appends a fact's line with its line feed, under the names of the stations by place. An `Err`
 /// leaves what was there.
@@ -32,15 +32,6 @@ pub fn render(fact: &Fact, into: &mut Vec<u8>, names: &[Name]) -> Result<(), All
         into.truncate(start);
     }
     result
-}
-
-/// A word of a line.
-#[derive(Clone, Copy)]
-enum Word<'a> {
-    Text(&'a [u8]),
-    Name(&'a Name),
-    Number(u64),
-    Octets(&'a [u8]),
 }
 
 /// Appends a fact's line. An `Err` leaves what was there, and may leave a front of the line behind
@@ -405,53 +396,4 @@ fn put(into: &mut Vec<u8>, first: &[u8], head: &[Word], tail: &[Word]) -> Result
     put_words(into, tail)?;
     into.push(b'\n')?;
     Ok(())
-}
-
-/// Appends each word behind a space.
-fn put_words(into: &mut Vec<u8>, words: &[Word]) -> Result<(), AllocError>
-    ensures ok { OnOk result (into.new.items
-        ≡ into.old.items ++ flat_map (λ word. 32 ∷ word_text word) words.now) }
-    ensures err { OnErr result (Grew into.old.items into.new.items) }
-{
-    for word in words {
-        into.push(b' ')?;
-        put_word(into, word)?;
-    }
-    Ok(())
-}
-
-/// Appends a word.
-fn put_word(into: &mut Vec<u8>, word: &Word) -> Result<(), AllocError>
-    ensures ok { OnOk result (into.new.items ≡ into.old.items ++ word_text word.now) }
-    ensures err { OnErr result (Grew into.old.items into.new.items) }
-{
-    match word {
-        Word::Text(letters) => into.extend_from_slice(letters),
-        Word::Name(name) => into.extend_from_slice(name.octets()),
-        Word::Number(number) => {
-            let mut buffer = Buffer::new();
-            into.extend_from_slice(buffer.format(*number).as_bytes())
-        }
-        Word::Octets(octets) => put_hex(into, octets),
-    }
-}
-
-/// Appends two hexadecimal digits for each octet, in lower case.
-fn put_hex(into: &mut Vec<u8>, octets: &[u8]) -> Result<(), AllocError>
-    ensures ok { OnOk result (into.new.items ≡ into.old.items ++ encode_lower octets.now) }
-    ensures err { OnErr result (Grew into.old.items into.new.items) }
-{
-    for octet in octets {
-        let digits = [digit(*octet / 16), digit(*octet % 16)];
-        into.extend_from_slice(&digits)?;
-    }
-    Ok(())
-}
-
-/// The hexadecimal digit of a number below 16.
-fn digit(value: u8) -> u8
-    requires { value < 16 }
-    ensures { result ≡ slice_index lower_digits value }
-{
-    b"0123456789abcdef"[value as usize]
 }
