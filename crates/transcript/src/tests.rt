@@ -1,3 +1,5 @@
+//! Facts are rendered, and lines are read back.
+
 use super::*;
 use aes_block::Secret;
 use gcm_frames::TagRefusal;
@@ -6,170 +8,147 @@ use lan_core::{Fact, Lack};
 use mka_station::Verdict;
 use rx_slots::Arrival;
 use sak_exchange::{Cause, Why};
+use std::alloc::{AllocError, Global};
 use std::test::Fail;
 
-/// The member identifier and the key that the n-th draw gives, where draws are counted.
-fn member(n: u8) -> Mi {
-    Mi([0, 0, 0, 0, 0, 0, 0, 0, 0, 0, 0, n])
-}
+/// The member identifiers that the first draws give, where draws are counted.
+const FIRST: Mi = Mi([0, 0, 0, 0, 0, 0, 0, 0, 0, 0, 0, 1]);
 
-fn names() -> Option<[Name; 2]> {
-    Some([Name::of(b"A")?, Name::of(b"B")?])
-}
+const SECOND: Mi = Mi([0, 0, 0, 0, 0, 0, 0, 0, 0, 0, 0, 2]);
 
-// Lines of worked traces: the first key, a spent key, a data frame.
-#[test]
-fn renders_keys(rt: HostRuntime) -> Result<(), Fail> {
-    let alloc = rt.alloc();
-    let names = names().ok_or("no name")?;
-    let id = KeyId {
-        server: member(1),
-        number: 2,
-    };
-    let facts = [
+/// The second key of the first.
+const ID: KeyId = KeyId {
+    server: FIRST,
+    number: 2,
+};
+
+/// Facts of worked traces without octets, and their lines: the first key, a spent key, a data frame.
+const WORKED: [(Fact, &str); 15] = [
+    (
         Fact::Life {
             station: 1,
-            mi: member(2),
+            mi: SECOND,
         },
+        "life B 000000000000000000000002\n",
+    ),
+    (
         Fact::Server {
             station: 1,
-            mi: Some(member(1)),
+            mi: Some(FIRST),
         },
+        "server B 000000000000000000000001\n",
+    ),
+    (
         Fact::Server {
             station: 0,
             mi: None,
         },
+        "server A none\n",
+    ),
+    (
         Fact::Began {
             station: 0,
-            id,
+            id: ID,
             an: 1,
             epoch: 2,
             cause: Cause::All,
         },
+        "begin A 000000000000000000000001 2 an 1 epoch 2 all\n",
+    ),
+    (
         Fact::Installed {
             station: 1,
-            id,
+            id: ID,
             an: 1,
             epoch: 2,
             sak: Secret::S128([0, 0, 0, 0, 0, 0, 0, 0, 0, 0, 0, 0, 0, 0, 0, 0x4a]),
         },
+        "install B 000000000000000000000001 2 an 1 epoch 2 sak 0000000000000000000000000000004a\n",
+    ),
+    (
         Fact::Dropped {
             station: 1,
-            id,
+            id: ID,
             an: 0,
         },
+        "drop B 000000000000000000000001 2 an 0\n",
+    ),
+    (
         Fact::Retired {
             station: 0,
-            id,
+            id: ID,
             an: 0,
         },
+        "retire A 000000000000000000000001 2 an 0\n",
+    ),
+    (
         Fact::Untaken {
             station: 1,
-            id,
+            id: ID,
             why: Why::Seen { kept: 1 },
         },
-    ];
-    let mut text = Vec::new(alloc);
-    for fact in &facts {
-        render(fact, &mut text, &names)?;
-    }
-    let want = b"life B 000000000000000000000002\n\
-        server B 000000000000000000000001\n\
-        server A none\n\
-        begin A 000000000000000000000001 2 an 1 epoch 2 all\n\
-        install B 000000000000000000000001 2 an 1 epoch 2 sak 0000000000000000000000000000004a\n\
-        drop B 000000000000000000000001 2 an 0\n\
-        retire A 000000000000000000000001 2 an 0\n\
-        untaken B 000000000000000000000001 2 seen 1\n";
-    assert_eq!(rt; text.as_slice(), want.as_slice());
-    Ok(())
-}
-
-#[test]
-fn renders_frames(rt: HostRuntime) -> Result<(), Fail> {
-    let alloc = rt.alloc();
-    let names = names().ok_or("no name")?;
-    let body = Octets::from_slice(alloc, &[0x88, 0xb5, 0x00, 0x01])?;
-    let octets = Octets::from_slice(alloc, &[0xff, 0x0e])?;
-    let malformed = Arrival::Malformed(TagRefusal::SlWrong);
-    let facts = [
+        "untaken B 000000000000000000000001 2 seen 1\n",
+    ),
+    (
         Fact::Ticked {
             station: 0,
             at: 9,
             next: 4_294_967_296,
         },
-        Fact::Framed {
-            number: 12,
-            station: 1,
-            sec: true,
-            octets,
-        },
-        Fact::Framed {
-            number: 13,
-            station: 1,
-            sec: false,
-            octets: Octets::new(alloc),
-        },
+        "tick A 9 next 4294967296\n",
+    ),
+    (
         Fact::HeardMka {
             frame: 0,
             station: 1,
             verdict: Verdict::Repeated { kind: 1 },
         },
+        "heard 0 B drop repeated 1\n",
+    ),
+    (
         Fact::HeardMka {
             frame: 5,
             station: 1,
             verdict: Verdict::Vouched,
         },
+        "heard 5 B vouched\n",
+    ),
+    (
         Fact::Claimed {
             station: 0,
             an: 1,
             epoch: 2,
             pn: 3,
         },
+        "claim A an 1 epoch 2 pn 3\n",
+    ),
+    (
         Fact::Unclaimed {
             station: 0,
             why: Lack::Exhausted { epoch: 7 },
         },
-        Fact::Arrived {
-            frame: 10,
-            station: 1,
-            arrival: Arrival::Accepted { pn: 1, body },
-        },
+        "noclaim A exhausted 7\n",
+    ),
+    (
         Fact::Arrived {
             frame: 0,
             station: 0,
-            arrival: malformed,
+            arrival: Arrival::Malformed(TagRefusal::SlWrong),
         },
+        "data 0 A malformed slwrong\n",
+    ),
+    (
         Fact::Arrived {
             frame: 10,
             station: 1,
             arrival: Arrival::Late { next: 2 },
         },
-    ];
-    let mut text = Vec::new(alloc);
-    for fact in &facts {
-        render(fact, &mut text, &names)?;
-    }
-    let want = b"tick A 9 next 4294967296\n\
-        frame 12 B sec ff0e\n\
-        frame 13 B mka \n\
-        heard 0 B drop repeated 1\n\
-        heard 5 B vouched\n\
-        claim A an 1 epoch 2 pn 3\n\
-        noclaim A exhausted 7\n\
-        data 10 B accepted 1 88b50001\n\
-        data 0 A malformed slwrong\n\
-        data 10 B late 2\n";
-    assert_eq!(rt; text.as_slice(), want.as_slice());
-    Ok(())
-}
+        "data 10 B late 2\n",
+    ),
+];
 
-// Each form of a line, read back and rendered again.
-#[test]
-fn reads_each_form(rt: HostRuntime) -> Result<(), Fail> {
-    let alloc = rt.alloc();
-    let names = names().ok_or("no name")?;
-    let transcript = "\
+/// Each form of a line.
+const TRANSCRIPT: &str = "\
 life A 000000000000000000000002
 tick A 4294967295 next 18446744073709551615
 server B 0000000000000000000000ff
@@ -218,47 +197,117 @@ data 10 B missed 2
 data 10 B badcheck
 data 10 B late 4294967296
 ";
-    let mut text = Vec::new(alloc);
-    for line in transcript.lines() {
-        let fact = read_fact(alloc, line.as_bytes(), &names)?;
-        render(&fact, &mut text, &names)?;
+
+/// Lines that no fact has.
+const UNREAD: [&str; 22] = [
+    "",
+    "tick A 1",
+    "tick A 1 next 2 ",
+    "tick A 01 next 2",
+    "tick A +1 next 2",
+    "tick  A 1 next 2",
+    "tick A 1 next 18446744073709551616",
+    "tick A 4294967296 next 2",
+    "tick C 1 next 2",
+    "Tick A 1 next 2",
+    "life A 00000000000000000000000A",
+    "life A 0000000000000000000000001",
+    "life A 00000000000000000000000102",
+    "drop A 000000000000000000000001 2 an 256",
+    "install A 000000000000000000000001 2 an 1 epoch 2 sak 00",
+    "frame 12 B sec ff0",
+    "frame 12 B sec",
+    "frame 12 B sec ff0e ",
+    "heard 5 B drop",
+    "heard 5 B drop vouched",
+    "data 10 B accepted 1",
+    "data 10 B late 2\n",
+];
+
+/// The names of the stations.
+fn names() -> Option<[Name; 2]> {
+    Some([Name::of(b"A")?, Name::of(b"B")?])
+}
+
+/// Appends a fact's line.
+fn put(fact: &Fact, text: &mut Vec<u8>) -> Result<(), Fail> {
+    let names = names().ok_or("no name")?;
+    if usize::from(fact.place()) >= names.len() {
+        return Err("no such station".into());
     }
-    assert_eq!(rt; text.as_slice(), transcript.as_bytes());
+    render(fact, text, &names)?;
     Ok(())
 }
 
-// Lines that no fact has.
+/// The fact of a line.
+fn read(alloc: Global, line: &str) -> Result<Fact, Fail> {
+    let names = names().ok_or("no name")?;
+    Ok(read_fact(alloc, line.as_bytes(), &names)?)
+}
+
+/// A frame that is put on the air.
+fn framed(alloc: Global, number: u32, sec: bool, octets: &[u8]) -> Result<Fact, AllocError> {
+    let octets = Octets::from_slice(alloc, octets)?;
+    Ok(Fact::Framed {
+        number,
+        station: 1,
+        sec,
+        octets,
+    })
+}
+
+/// A data frame that arrives.
+fn accepted(alloc: Global, body: &[u8]) -> Result<Fact, AllocError> {
+    let body = Octets::from_slice(alloc, body)?;
+    Ok(Fact::Arrived {
+        frame: 10,
+        station: 1,
+        arrival: Arrival::Accepted { pn: 1, body },
+    })
+}
+
+#[test]
+fn renders_worked_facts(rt: HostRuntime) -> Result<(), Fail> {
+    let alloc = rt.alloc();
+    for (fact, want) in WORKED {
+        let mut text = Vec::new(alloc);
+        put(&fact, &mut text)?;
+        assert_eq!(rt; text.as_slice(), want.as_bytes());
+    }
+    Ok(())
+}
+
+#[test]
+fn renders_octets(rt: HostRuntime) -> Result<(), Fail> {
+    let alloc = rt.alloc();
+    let mut text = Vec::new(alloc);
+    put(&framed(alloc, 12, true, &[0xff, 0x0e])?, &mut text)?;
+    put(&framed(alloc, 13, false, &[])?, &mut text)?;
+    put(&accepted(alloc, &[0x88, 0xb5, 0x00, 0x01])?, &mut text)?;
+    let want = "frame 12 B sec ff0e\nframe 13 B mka \ndata 10 B accepted 1 88b50001\n";
+    assert_eq!(rt; text.as_slice(), want.as_bytes());
+    Ok(())
+}
+
+// Each form of a line, read back and rendered again.
+#[test]
+fn reads_each_form(rt: HostRuntime) -> Result<(), Fail> {
+    let alloc = rt.alloc();
+    let mut text = Vec::new(alloc);
+    for line in TRANSCRIPT.lines() {
+        put(&read(alloc, line)?, &mut text)?;
+    }
+    assert_eq!(rt; text.as_slice(), TRANSCRIPT.as_bytes());
+    Ok(())
+}
+
 #[test]
 fn leaves_other_lines_unread(rt: HostRuntime) -> Result<(), Fail> {
     let alloc = rt.alloc();
     let names = names().ok_or("no name")?;
-    let lines = [
-        "",
-        "tick A 1",
-        "tick A 1 next 2 ",
-        "tick A 01 next 2",
-        "tick A +1 next 2",
-        "tick  A 1 next 2",
-        "tick A 1 next 18446744073709551616",
-        "tick A 4294967296 next 2",
-        "tick C 1 next 2",
-        "Tick A 1 next 2",
-        "life A 00000000000000000000000A",
-        "life A 0000000000000000000000001",
-        "life A 00000000000000000000000102",
-        "drop A 000000000000000000000001 2 an 256",
-        "install A 000000000000000000000001 2 an 1 epoch 2 sak 00",
-        "frame 12 B sec ff0",
-        "frame 12 B sec",
-        "frame 12 B sec ff0e ",
-        "heard 5 B drop",
-        "heard 5 B drop vouched",
-        "data 10 B accepted 1",
-        "data 10 B late 2\n",
-    ];
-    for line in lines {
-        let result = read_fact(alloc, line.as_bytes(), &names);
-        assert!(rt; matches!(&result, Err(FactFault::Unread)), "{line}");
+    for line in UNREAD {
+        let fault = read_fact(alloc, line.as_bytes(), &names).err();
+        assert_eq!(rt; fault, Some(FactFault::Unread), "{line}");
     }
     Ok(())
 }
