@@ -271,12 +271,8 @@ fn put_heard(
         Verdict::Echo => put(into, first, head, &[dropped, Word::Text(b"echo")]),
         Verdict::OldNumber { kept } => {
             let kept = Word::Number(u64::from(kept));
-            put(
-                into,
-                first,
-                head,
-                &[dropped, Word::Text(b"oldnumber"), kept],
-            )
+            let tail = [dropped, Word::Text(b"oldnumber"), kept];
+            put(into, first, head, &tail)
         }
         Verdict::PeersFull => put(into, first, head, &[dropped, Word::Text(b"peersfull")]),
     }
