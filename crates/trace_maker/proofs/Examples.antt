@@ -1,5 +1,5 @@
 -- The definitions at values of an independent program, which was written from the description of the generator.
-use Rattle.std.proofs.Common.{◌≡◌, ℕ, ◌-◌, ◌^◌, ◌++◌, [], ◌∷◌, List, replicate, refl}
+use Rattle.std.proofs.Common.{◌≡◌, ℕ, ◌-◌, ◌^◌, [], ◌∷◌, List, replicate, refl}
 use Rattle.std.specs.Prelude.{codes}
 use Rattle.std.specs.Fmt.{digits}
 use Rattle.trace_text.specs.declared.line.Line.{Line}
