@@ -1,9 +1,8 @@
 -- A claim that got a number waits for its emission.
-use Rattle.std.proofs.Common.{◌≡◌, ◌<◌, ◌≤◌, ℕ, zero, suc, ◌+◌, ◌==◌, Bool, true, false, ◌⊎◌, inl}
-use Rattle.std.proofs.Common.{inr, List, [], ◌∷◌, ◌++◌, length, Option, Some, None, refl, sym, ap}
-use Rattle.std.proofs.Common.{◌∙◌, subst, length-append, arith}
-use Rattle.std.specs.Prelude.{cond, slice_get, is_some, unwrap_or, Result, Ok, Err}
-use Rattle.std.specs.List.{filter}
+use Rattle.std.proofs.Common.{◌≡◌, ◌≤◌, ℕ, zero, suc, ◌+◌, ◌==◌, Bool, true, false}
+use Rattle.std.proofs.Common.{List, [], ◌∷◌, ◌++◌, length, Option, Some, None, refl}
+use Rattle.std.proofs.Common.{◌∙◌, subst, arith}
+use Rattle.std.specs.Prelude.{cond, slice_get, is_some, unwrap_or}
 use Rattle.std.specs.Option.{option_map}
 use Rattle.lan_base.specs.declared.frame.UserFrame.{UserFrame}
 use Rattle.sak_exchange.specs.Histories.{Key}
@@ -13,17 +12,16 @@ use Rattle.lan_core.specs.declared.fact.Fact.{Fact}
 use Rattle.lan_core.specs.declared.fact.Fact.TheVariants as facts
 use Rattle.lan_core.specs.declared.fact.Lack.{Lack}
 use Rattle.lan_core.specs.declared.settings.Settings.{Settings}
-use Rattle.lan_core.specs.Run.{Run, happened}
+use Rattle.lan_core.specs.Run.{Run}
 use Rattle.lan_core.specs.Ledgers.{Frame, air, emitted, framed, gather}
-use Rattle.lan_core.specs.Claims.{claimed, claimed_by, waiting, waiting_under, Waiting}
+use Rattle.lan_core.specs.Claims.{claimed, waiting, waiting_under, Waiting}
 use Rattle.lan_core.specs.Lives.{life, transmitting_at}
-use Rattle.lan_core.specs.Expected.{expected, drawn_from, lack, claim_fact, number_fact}
+use Rattle.lan_core.specs.Expected.{expected, lack, claim_fact, number_fact}
 use Rattle.lan_core.specs.Stops.{IsDemanded, MayCome, first_stop}
 use Rattle.lan_core.specs.declared.stop.Stop.{Stop}
-use Rattle.lan_schedule.specs.declared.halt.Halt.{Halt}
 use Rattle.lan_schedule.specs.World.{World, settings}
-use Rattle.lan_schedule.specs.Answers.{supply, answer, answered, facts_shown}
-use Rattle.lan_schedule.specs.Acts.{happen, perform, shown, world_after, Outcome, Goes, Stops}
+use Rattle.lan_schedule.specs.Answers.{supply, answered, facts_shown}
+use Rattle.lan_schedule.specs.Acts.{happen, perform, shown, world_after, Goes}
 use Rattle.lan_schedule.specs.Sound.{IsTidy}
 use Rattle.lan_schedule.specs.inside.Comes.{named}
 

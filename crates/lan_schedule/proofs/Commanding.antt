@@ -1,16 +1,16 @@
 -- A line is refused, or performed.
 use Rattle.std.proofs.Common.{◌≡◌, ℕ, Option, Some, None, refl, sym, ap, ◌∙◌, subst}
-use Rattle.std.specs.Prelude.{Result, Ok, Err, IfNone, false}
+use Rattle.std.specs.Prelude.{Result, Err, IfNone, false}
 use Rattle.trace_text.specs.declared.line.Line.{Line}
 use Rattle.lan_schedule.specs.declared.halt.Halt.{Halt}
 use Rattle.lan_schedule.specs.declared.halt.Halt.TheVariants as halts
 use Rattle.lan_schedule.specs.declared.halt.Kind.{Kind}
 use Rattle.lan_schedule.specs.declared.stage.Stage.{Stage}
 use Rattle.lan_schedule.specs.World.{World}
-use Rattle.lan_schedule.specs.Acts.{Act, refuse, look, perform, Outcome, Stops}
+use Rattle.lan_schedule.specs.Acts.{look, perform, Stops}
 use Rattle.lan_schedule.specs.Kinds.{refusal}
 use Rattle.lan_schedule.specs.Lines.{deed, act_of, unless_refused}
-use Rattle.lan_schedule.specs.Ends.{Sunk, Moment, Ends, EndsEarly, IsStopped}
+use Rattle.lan_schedule.specs.Ends.{Moment, Ends}
 use Rattle.lan_schedule.specs.inside.Choosing.{is_choice}
 use Rattle.lan_schedule.specs.inside.Comes.{Comes, Did}
 use Rattle.lan_schedule.specs.inside.Staged.{StandsFor}

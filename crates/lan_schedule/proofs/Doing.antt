@@ -17,10 +17,9 @@ use Rattle.lan_schedule.specs.declared.halt.Halt.TheVariants as halts
 use Rattle.lan_schedule.specs.World.{World, Kept, names_of}
 use Rattle.lan_schedule.specs.Answers.{answer}
 use Rattle.lan_schedule.specs.Acts.{Act, nothing, refuse, happen, change, seq, look, perform}
-use Rattle.lan_schedule.specs.Acts.{Outcome, Goes, Stops, world_of, shown, and_then, each, span}
-use Rattle.lan_schedule.specs.Acts.{world_after}
+use Rattle.lan_schedule.specs.Acts.{Outcome, Goes, Stops, shown, and_then, each, span}
 use Rattle.lan_schedule.specs.Ends.{Sunk, Moment, HoldsFront, TookFront, IsShown, IsStopped}
-use Rattle.lan_schedule.specs.Ends.{IsReached, Ends, EndsEarly, written, text_of}
+use Rattle.lan_schedule.specs.Ends.{Ends, EndsEarly, written, text_of}
 use Rattle.lan_schedule.specs.inside.Comes.{Comes, Did, IsGoing}
 use Rattle.lan_schedule.specs.Sound.{IsTidy}
 

@@ -1,6 +1,6 @@
 -- Draws are 16 octets each.
 use Rattle.std.proofs.Common.{◌≡◌, ◌<◌, ℕ, zero, suc, ◌+◌, List, [], ◌∷◌, ◌++◌, Option, Some, None}
-use Rattle.std.proofs.Common.{refl, sym, ap, ◌∙◌, subst, arith}
+use Rattle.std.proofs.Common.{refl, ap, ◌∙◌, subst, arith}
 use Rattle.std.specs.Prelude.{map, slice_get, All}
 use Rattle.std.proofs.lemmas.List.Elements.{All-cons}
 use Rattle.hex.specs.Hex.{IsBytes}
@@ -15,7 +15,7 @@ use Rattle.trace_text.specs.Writing.{IsInForm, AllFit, ◌∶◌}
 use Rattle.lan_schedule.specs.declared.choices.Choices.{Choices}
 use Rattle.lan_schedule.specs.declared.choices.Rule.{Rule}
 use Rattle.lan_schedule.specs.declared.choices.Rule.TheVariants.{Counted, Streamed, Listed}
-use Rattle.lan_schedule.specs.Supply.{draw_at, draws_after}
+use Rattle.lan_schedule.specs.Supply.{draw_at}
 use Rattle.lan_schedule.specs.Settings.{rule_of}
 use Rattle.lan_schedule.specs.World.{World}
 use Rattle.lan_schedule.specs.Answers.{supply}

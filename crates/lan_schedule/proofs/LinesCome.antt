@@ -1,9 +1,9 @@
 -- What each line performs can be performed.
-use Rattle.std.proofs.Common.{◌≡◌, ◌<◌, ◌≤◌, ◌≢◌, ℕ, zero, suc, ◌+◌, ◌-◌, ◌==◌, Bool, true, false}
+use Rattle.std.proofs.Common.{◌≡◌, ◌<◌, ◌≤◌, ◌≢◌, ℕ, ◌+◌, ◌-◌, ◌==◌, Bool, true, false}
 use Rattle.std.proofs.Common.{List, [], ◌∷◌, ◌++◌, length, Option, Some, None, ◌⊎◌, inl, inr, refl}
 use Rattle.std.proofs.Common.{sym, ap, ◌∙◌, subst, length-append, arith}
 use Rattle.std.specs.Prelude.{cond, map, not, ◌&&◌, ◌||◌, nat_le, nat_lt, nat_eq, is_some, All}
-use Rattle.std.specs.List.{find, list_any, position_or_len}
+use Rattle.std.specs.List.{find}
 use Rattle.std.specs.Option.{is_none}
 use Rattle.std.specs.Cmp.Lexicographic.{pointwise}
 use Rattle.std.proofs.lemmas.List.{length-map}
@@ -11,7 +11,6 @@ use Rattle.std.proofs.lemmas.List.Elements.{All-cons}
 use Rattle.lan_base.specs.declared.frame.UserFrame.{UserFrame}
 use Rattle.lan_base.specs.declared.address.Sci.{Sci}
 use Rattle.sak_exchange.specs.Histories.{Key}
-use Rattle.lan_core.specs.declared.event.Event.{Event}
 use Rattle.lan_core.specs.declared.event.Event.TheVariants as events
 use Rattle.lan_core.specs.declared.settings.Settings.{Settings}
 use Rattle.lan_core.specs.Run.{Run, Profile, stations}
@@ -19,7 +18,7 @@ use Rattle.lan_core.specs.Ledgers.{Frame, air, emitted, births, AreNumbered}
 use Rattle.lan_core.specs.Claims.{claimed, user_at, next}
 use Rattle.lan_core.specs.Expected.{last_number}
 use Rattle.lan_core.specs.Fresh.{drawn_saks}
-use Rattle.lan_core.specs.Order.{Exists, IsNew, IsSendable}
+use Rattle.lan_core.specs.Order.{IsSendable}
 use Rattle.lan_core.specs.Stops.{IsDemanded}
 use Rattle.lan_core.specs.Types.{IsUserFrame}
 use Rattle.lan_core.specs.Unstopped.{AreDraws}
@@ -30,20 +29,18 @@ use Rattle.lan_schedule.proofs.Drawing.{chosen-draws}
 use Rattle.trace_text.specs.declared.line.Line.{Line}
 use Rattle.trace_text.specs.declared.line.Line.TheVariants as lines
 use Rattle.trace_text.specs.Writing.{IsInForm}
-use Rattle.lan_schedule.specs.declared.choices.Choices.{Choices}
 use Rattle.lan_schedule.specs.declared.frames.Put.{Put}
 use Rattle.lan_schedule.specs.declared.halt.Kind.{Kind}
 use Rattle.lan_schedule.specs.declared.halt.Kind.TheVariants as kinds
 use Rattle.lan_schedule.specs.World.{World, Kept, count, settings, names_of, scis_of, is_in, place}
 use Rattle.lan_schedule.specs.Numbers.{in_range, claimed_number}
 use Rattle.lan_core.specs.Unstopped.{next_under}
-use Rattle.lan_schedule.specs.Acts.{Act, Goes, refuse, happen, seq, unless, perform}
+use Rattle.lan_schedule.specs.Acts.{Act, happen, seq, unless, perform}
 use Rattle.lan_schedule.specs.Kinds.{or_else, where_, unknown, is_number, no_frame, is_performed}
 use Rattle.lan_schedule.specs.Kinds.{is_allowed, may_list, wrong_word, refusal}
 use Rattle.lan_schedule.specs.Lines.{add_user, send, chosen_by, deed, act_of, unless_refused}
 use Rattle.lan_schedule.specs.Sound.{IsTidy, IsSound, numbers_of}
 use Rattle.lan_schedule.specs.inside.Comes.{Comes}
-use Rattle.lan_core.specs.Claims.{waiting}
 use Rattle.lan_core.specs.Lives.{transmitting_at}
 use Rattle.lan_core.specs.Stops.{MayCome}
 use Rattle.lan_schedule.specs.inside.Comes.{named}
@@ -51,7 +48,7 @@ use Rattle.lan_schedule.proofs.Drawing.{bytes-all}
 use Rattle.lan_schedule.proofs.Awaiting.{waits-then}
 use Rattle.lan_schedule.proofs.Users.{user-at-end}
 use Rattle.lan_schedule.proofs.Placing.{place-there}
-use Rattle.lan_schedule.proofs.Coming.{IsOnAir, find-more, is-going, one-at-least, comes-ticks}
+use Rattle.lan_schedule.proofs.Coming.{IsOnAir, is-going, one-at-least, comes-ticks}
 use Rattle.lan_schedule.proofs.Coming.{comes-rounds, comes-spread, comes-flow, tidy-marked}
 
 -- ---- what a line is not refused for

@@ -1,14 +1,14 @@
 -- Acts that look at the world, begun from the group at work.
 use Rattle.std.proofs.Common.{◌≡◌, ℕ, ◌-◌, ◌≤◌, Bool, true, false, ◌==◌, List, length, ◌+◌, subst}
-use Rattle.std.proofs.Common.{refl, sym, ap, ◌∙◌, arith}
-use Rattle.std.specs.Prelude.{map, Result, Ok, Err, ◌||◌}
+use Rattle.std.proofs.Common.{sym, ap, ◌∙◌, arith}
+use Rattle.std.specs.Prelude.{Result, Ok, ◌||◌}
 use Rattle.std.proofs.lemmas.List.{length-map}
 use Rattle.lan_core.specs.Run.{Profile, stations}
 use Rattle.lan_core.specs.declared.event.Event.TheVariants as events
 use Rattle.lan_schedule.specs.declared.halt.Halt.{Halt}
 use Rattle.lan_schedule.specs.declared.links.Link.{Link}
 use Rattle.lan_schedule.specs.declared.stage.Stage.{Stage}
-use Rattle.lan_schedule.specs.World.{World, Kept, count, names_of, settings, sender_at, mark}
+use Rattle.lan_schedule.specs.World.{World, count, settings, sender_at, mark}
 use Rattle.lan_schedule.specs.World.{marked_at, is_cut}
 use Rattle.lan_schedule.specs.Acts.{Act, nothing, happen, look, seq, change, span, each, unless}
 use Rattle.lan_schedule.specs.Lines.{pass, is_passed_by, to_others, spread, due, due_of}

@@ -1,10 +1,10 @@
 -- A group opens with the first station.
-use Rattle.std.proofs.Common.{◌≡◌, ℕ, ◌+◌, Bool, true, false, List, [], ◌∷◌, Option, Some, None}
+use Rattle.std.proofs.Common.{◌≡◌, ℕ, ◌+◌, true, false, List, [], Option, Some, None}
 use Rattle.std.proofs.Common.{refl, sym, ap, ◌∙◌, subst, arith}
-use Rattle.std.specs.Prelude.{Result, Ok, Err, is_some, not}
+use Rattle.std.specs.Prelude.{Result, Ok, Err, is_some}
 use Rattle.lan_base.specs.declared.frame.UserFrame.{UserFrame}
 use Rattle.lan_core.specs.Claims.{next}
-use Rattle.lan_core.specs.Run.{Run, stations}
+use Rattle.lan_core.specs.Run.{stations}
 use Rattle.lan_core.specs.Standing.{StandsFor as GroupStandsFor}
 use Rattle.group_safety.specs.Summary.{counts}
 use Rattle.trace_text.specs.declared.line.Line.{Line}
@@ -14,20 +14,19 @@ use Rattle.lan_schedule.specs.declared.choices.Choices.{Choices}
 use Rattle.lan_schedule.specs.declared.halt.Halt.{Halt}
 use Rattle.lan_schedule.specs.declared.halt.Halt.TheVariants as halts
 use Rattle.lan_schedule.specs.declared.halt.Kind.{Kind}
-use Rattle.lan_schedule.specs.declared.halt.Kind.TheVariants as kinds
 use Rattle.lan_schedule.specs.declared.stage.Stage.{Stage}
 use Rattle.lan_schedule.specs.declared.commands.Replay.{Replay}
 use Rattle.lan_schedule.specs.Supply.{draw_at}
 use Rattle.lan_schedule.specs.Settings.{settings_of, lag_of, rule_of}
-use Rattle.lan_schedule.specs.World.{World, Kept, nothing_kept, names_of, scis_of}
-use Rattle.lan_schedule.specs.Acts.{Act, look, change, perform, Outcome, Stops}
+use Rattle.lan_schedule.specs.World.{World, Kept, nothing_kept}
+use Rattle.lan_schedule.specs.Acts.{Act, look, perform, Outcome, Stops}
 use Rattle.lan_schedule.specs.Kinds.{first_of, is_performed, is_allowed, wrong_word, refusal}
 use Rattle.lan_schedule.specs.Lines.{choose, chosen_by, deed, act_of, unless_refused}
 use Rattle.lan_schedule.specs.Sound.{IsTidy}
-use Rattle.lan_schedule.specs.Ends.{Sunk, Moment, IsReached, IsShown, Ends, EndsEarly}
+use Rattle.lan_schedule.specs.Ends.{Sunk, Moment, Ends}
 use Rattle.lan_schedule.specs.Standing.{IsStaged, StandsFor, Does}
 use Rattle.lan_schedule.specs.inside.Choosing.{is_choice, IsStation}
-use Rattle.lan_schedule.specs.inside.Comes.{Comes, Did}
+use Rattle.lan_schedule.specs.inside.Comes.{Did}
 use Rattle.lan_schedule.specs.inside.Supplies.{supply_nth}
 use Rattle.lan_schedule.specs.inside.Staged.{StandsFor as StageStandsFor, IsOpening}
 use Rattle.lan_schedule.proofs.LinesCome.{IsRight, deed-comes, tidy-same, tidy-unbegun}

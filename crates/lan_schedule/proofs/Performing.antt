@@ -1,6 +1,6 @@
 -- A line is performed by the places of its names.
-use Rattle.std.proofs.Common.{◌≡◌, ◌≤◌, ℕ, false, nat_eq, List, length, refl, sym, ap, ◌∙◌, arith}
-use Rattle.std.specs.Prelude.{Result, Ok, Err}
+use Rattle.std.proofs.Common.{◌≡◌, ◌≤◌, ℕ, false, nat_eq, List, length, refl, ap, ◌∙◌, arith}
+use Rattle.std.specs.Prelude.{Result, Ok}
 use Rattle.std.specs.List.{position_or_len}
 use Rattle.std.specs.Cmp.Lexicographic.{pointwise}
 use Rattle.trace_text.specs.declared.line.Line.{Line}

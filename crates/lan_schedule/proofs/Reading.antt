@@ -1,13 +1,12 @@
 -- How reading ends.
 use Rattle.std.proofs.Common.{◌≡◌, ℕ, Bool, true, ◌+◌, ◌-◌, ◌<◌, ◌≤◌, List, [], ◌++◌, length, take}
-use Rattle.std.proofs.Common.{drop, Option, Some, None, inl, inr, refl, sym, ap, ◌∙◌, subst}
+use Rattle.std.proofs.Common.{drop, Option, Some, None, refl, sym, ap, ◌∙◌, subst}
 use Rattle.std.proofs.Common.{append_assoc, length-append, arith}
 use Rattle.std.specs.Prelude.{Result, Ok, Err, cond, nat_le}
-use Rattle.std.proofs.lemmas.List.{append-nil, take-append-drop, take_at, length-take-le, take-take}
+use Rattle.std.proofs.lemmas.List.{append-nil, take-append-drop, length-take-le, take-take}
 use Rattle.std.proofs.Math.Seq.{take-append_seam}
 use Rattle.lan_base.specs.Faults.{Rose}
 use Rattle.lan_base.specs.Told.{before, after, IsUsedUp}
-use Rattle.lan_core.specs.declared.stop.Which.{Which}
 use Rattle.lan_core.specs.declared.stop.Which.TheVariants as which
 use Rattle.lan_schedule.specs.declared.halt.Halt.{Halt}
 use Rattle.lan_schedule.specs.declared.halt.Halt.TheVariants as halts
@@ -15,15 +14,14 @@ use Rattle.lan_schedule.specs.declared.trace.End.{End}
 use Rattle.lan_schedule.specs.declared.trace.End.TheVariants as ends
 use Rattle.lan_schedule.specs.declared.commands.Replay.{Replay}
 use Rattle.lan_schedule.specs.Texts.{ended, open_line, whole_lines, lines_of}
-use Rattle.lan_schedule.specs.World.{World, beginning}
-use Rattle.lan_schedule.specs.Acts.{Act, each, perform}
-use Rattle.lan_schedule.specs.Lines.{performed, performed_all}
-use Rattle.lan_schedule.specs.Ends.{Sunk, Moment, IsShown, IsReached}
+use Rattle.lan_schedule.specs.World.{beginning}
+use Rattle.lan_schedule.specs.Lines.{performed_all}
+use Rattle.lan_schedule.specs.Ends.{Moment, IsReached}
 use Rattle.lan_schedule.specs.Standing.{StandsFor, Does}
-use Rattle.lan_schedule.specs.Trace.{Sourced, most_input, lines_within, outcome, IsReplayed}
+use Rattle.lan_schedule.specs.Trace.{Sourced, most_input, lines_within, IsReplayed}
 use Rattle.lan_schedule.specs.inside.Reading.{Runs, WasDone, IsEnded, finished, limited}
 use Rattle.lan_schedule.specs.inside.Reading.{halt_of_end}
-use Rattle.lan_schedule.proofs.Feeding.{HasRead, goes-on, read-err, read-more, read-end}
+use Rattle.lan_schedule.proofs.Feeding.{HasRead, goes-on, read-err, read-more}
 use Rattle.lan_schedule.proofs.Limits.{never-input, tidy-beginning}
 
 within-limit : (text : List ℕ) → length text ≤ most_input → lines_within text ≡ lines_of text

@@ -1,14 +1,13 @@
 -- Which lines a group at work refuses.
-use Rattle.std.proofs.Common.{◌≡◌, ℕ, Bool, true, false, List, length, Option, Some, None, refl}
+use Rattle.std.proofs.Common.{◌≡◌, ℕ, Bool, true, false, List, length, Some, refl}
 use Rattle.std.proofs.Common.{sym, ap, ◌∙◌}
-use Rattle.std.specs.Prelude.{map, not, is_some, ◌&&◌, cond}
+use Rattle.std.specs.Prelude.{map, not, is_some}
 use Rattle.std.proofs.lemmas.Simd.{map-map}
 use Rattle.lan_base.specs.declared.address.Sci.{Sci}
 use Rattle.lan_core.specs.Run.{Profile, stations}
 use Rattle.trace_text.specs.declared.line.Line.{Line}
 use Rattle.trace_text.specs.declared.line.Line.TheVariants as lines
 use Rattle.lan_schedule.specs.declared.choices.Choices.{Choices}
-use Rattle.lan_schedule.specs.declared.halt.Kind.{Kind}
 use Rattle.lan_schedule.specs.declared.halt.Kind.TheVariants as kinds
 use Rattle.lan_schedule.specs.declared.stage.Stage.{Stage}
 use Rattle.lan_schedule.specs.World.{World, names_of, scis_of}

@@ -1,25 +1,23 @@
 -- Lines that change little, and user data that is sent.
-use Rattle.std.proofs.Common.{◌≡◌, ℕ, zero, suc, ◌+◌, ◌-◌, ◌==◌, ◌≤◌, Bool, true, false, List, []}
-use Rattle.std.proofs.Common.{◌∷◌, ◌++◌, length, Option, Some, None, refl, sym, ap, ◌∙◌, subst}
-use Rattle.std.proofs.Common.{length-append, add-one, arith}
-use Rattle.std.specs.Prelude.{Result, Ok, Err, cond, slice_get}
+use Rattle.std.proofs.Common.{◌≡◌, ℕ, ◌+◌, ◌-◌, ◌==◌, Bool, true, List, []}
+use Rattle.std.proofs.Common.{◌∷◌, ◌++◌, length, Some, refl, sym, ap, ◌∙◌, subst}
+use Rattle.std.proofs.Common.{length-append, arith}
+use Rattle.std.specs.Prelude.{Result, Ok, Err}
 use Rattle.lan_base.specs.declared.frame.UserFrame.{UserFrame}
 use Rattle.lan_core.specs.declared.event.Event.TheVariants as events
-use Rattle.lan_core.specs.Run.{Run}
-use Rattle.lan_core.specs.declared.settings.Settings.{Settings}
 use Rattle.lan_core.specs.Claims.{user_at}
 use Rattle.lan_core.specs.Standing.{State, StandsFor as GroupStandsFor}
 use Rattle.lan_schedule.specs.declared.halt.Halt.{Halt}
 use Rattle.lan_schedule.specs.declared.links.Link.{Link}
 use Rattle.lan_schedule.specs.declared.stage.Stage.{Stage}
-use Rattle.lan_schedule.specs.World.{World, Kept, settings, with_link, without_link}
+use Rattle.lan_schedule.specs.World.{World, settings, with_link, without_link}
 use Rattle.lan_schedule.specs.Numbers.{claimed_number}
-use Rattle.lan_schedule.specs.Acts.{Act, happen, change, seq, look, perform, Outcome, Goes}
+use Rattle.lan_schedule.specs.Acts.{Act, happen, change, seq, perform, Outcome, Goes}
 use Rattle.lan_schedule.specs.Acts.{and_then, unless}
 use Rattle.lan_schedule.specs.Lines.{begin, begin_line, add_user, send, claim, link_cut}
 use Rattle.lan_schedule.specs.Lines.{link_mended}
 use Rattle.lan_schedule.specs.Sound.{IsTidy}
-use Rattle.lan_schedule.specs.Ends.{Sunk, Moment, IsReached, IsShown, Ends}
+use Rattle.lan_schedule.specs.Ends.{Sunk, Moment, IsReached, Ends}
 use Rattle.lan_schedule.specs.inside.Comes.{Comes, Did, IsGoing}
 use Rattle.lan_schedule.specs.inside.Staged.{StandsFor, Happened}
 use Rattle.lan_schedule.specs.inside.Supplies.{supply_nth}

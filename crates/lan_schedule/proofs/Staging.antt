@@ -1,18 +1,14 @@
 -- A replay before its first station, and with a group at work.
-use Rattle.std.proofs.Common.{◌≡◌, ℕ, Bool, true, false, List, [], Option, Some, None, refl, sym}
+use Rattle.std.proofs.Common.{◌≡◌, [], Option, Some, None, refl, sym}
 use Rattle.std.proofs.Common.{ap, ◌∙◌, subst, arith}
 use Rattle.std.specs.Prelude.{Result, Ok, Err}
 use Rattle.lan_schedule.specs.declared.halt.Halt.{Halt}
-use Rattle.lan_schedule.specs.declared.halt.Halt.TheVariants as halts
-use Rattle.lan_schedule.specs.declared.halt.Kind.{Kind}
-use Rattle.lan_schedule.specs.declared.choices.Choices.{Choices}
 use Rattle.lan_schedule.specs.declared.stage.Stage.{Stage}
 use Rattle.lan_schedule.specs.declared.commands.Replay.{Replay}
 use Rattle.lan_schedule.specs.World.{World, Kept, nothing_kept}
-use Rattle.lan_schedule.specs.Acts.{Act, change, perform, Outcome, Goes, refuse}
-use Rattle.lan_schedule.specs.Lines.{choose, begin_line}
+use Rattle.lan_schedule.specs.Acts.{Act, change, perform, Outcome}
 use Rattle.lan_schedule.specs.Sound.{IsTidy}
-use Rattle.lan_schedule.specs.Ends.{Sunk, Moment, IsReached, IsShown, Ends, EndsEarly}
+use Rattle.lan_schedule.specs.Ends.{Sunk, Moment, Ends}
 use Rattle.lan_schedule.specs.Standing.{IsStaged, StandsFor, Does}
 use Rattle.lan_schedule.specs.inside.Comes.{Comes, Did}
 use Rattle.lan_schedule.specs.inside.Staged.{StandsFor as StageStandsFor}

@@ -1,5 +1,5 @@
 -- What was counted is written at the end.
-use Rattle.std.proofs.Common.{◌≡◌, ℕ, ◌≤◌, List, [], Option, Some, None, inl, inr, refl, sym, ap, ◌∙◌}
+use Rattle.std.proofs.Common.{◌≡◌, ℕ, ◌≤◌, List, [], None, inl, inr, refl, sym, ap, ◌∙◌}
 use Rattle.std.proofs.Common.{subst, arith}
 use Rattle.std.specs.Prelude.{Result, Ok, Err}
 use Rattle.std.specs.Result.{IsErrAnd}
@@ -12,7 +12,6 @@ use Rattle.lan_schedule.specs.declared.trace.End.{End}
 use Rattle.lan_schedule.specs.declared.trace.End.TheVariants as ends
 use Rattle.lan_schedule.specs.declared.commands.Replay.{Replay}
 use Rattle.lan_schedule.specs.World.{World, beginning}
-use Rattle.lan_schedule.specs.Acts.{Outcome, Goes, Stops}
 use Rattle.lan_schedule.specs.Lines.{performed_all}
 use Rattle.lan_schedule.specs.Ends.{Sunk, Moment, IsStopped, sunk}
 use Rattle.lan_schedule.specs.Standing.{StandsFor}

@@ -8,13 +8,12 @@ use Rattle.trace_text.specs.Reading.{line_in, fault_in, first_fault}
 use Rattle.lan_schedule.specs.declared.halt.Halt.{Halt}
 use Rattle.lan_schedule.specs.declared.halt.Halt.TheVariants as halts
 use Rattle.lan_schedule.specs.declared.commands.Replay.{Replay}
-use Rattle.lan_schedule.specs.World.{World, Kept}
+use Rattle.lan_schedule.specs.World.{World}
 use Rattle.lan_schedule.specs.Kinds.{kind_of_fault, refusal_read}
-use Rattle.lan_schedule.specs.Acts.{Act, look, perform, Outcome, Goes, Stops}
+use Rattle.lan_schedule.specs.Acts.{Act, look, perform, Goes, Stops}
 use Rattle.lan_schedule.specs.Lines.{begin_line, numbered, act_of, deed_read, unless_refused}
 use Rattle.lan_schedule.specs.Lines.{performed}
-use Rattle.lan_schedule.specs.Ends.{Sunk, Moment, Ends, EndsEarly, IsShown}
-use Rattle.lan_schedule.specs.Sound.{IsTidy}
+use Rattle.lan_schedule.specs.Ends.{Moment, EndsEarly}
 use Rattle.lan_schedule.specs.Standing.{StandsFor, Does}
 use Rattle.lan_schedule.specs.inside.Reading.{halt_of_text}
 use Rattle.lan_schedule.proofs.Feeding.{same-act, memory-does}

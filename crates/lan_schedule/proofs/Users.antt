@@ -1,6 +1,6 @@
 -- User frames by number.
-use Rattle.std.proofs.Common.{◌≡◌, ℕ, zero, suc, ◌+◌, ◌-◌, ◌==◌, ◌≤◌, Bool, true, false, List, []}
-use Rattle.std.proofs.Common.{◌∷◌, ◌++◌, length, Option, Some, None, refl, sym, ap, ◌∙◌, subst}
+use Rattle.std.proofs.Common.{◌≡◌, ℕ, suc, ◌+◌, ◌-◌, ◌==◌, ◌≤◌, Bool, false, List, []}
+use Rattle.std.proofs.Common.{◌∷◌, ◌++◌, length, Some, None, refl, ap, ◌∙◌}
 use Rattle.std.proofs.Common.{length-append, add-one, arith}
 use Rattle.std.specs.Prelude.{cond, slice_get}
 use Rattle.lan_base.specs.declared.frame.UserFrame.{UserFrame}

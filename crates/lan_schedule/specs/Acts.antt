@@ -1,14 +1,13 @@
 -- What can be performed, and what performing it leaves (this profile's own rule).
-use Rattle.std.specs.Prelude.{ℕ, ◌+◌, ◌==◌, Bool, cond, zero, suc, List, [], ◌∷◌, ◌++◌, Result, Ok}
+use Rattle.std.specs.Prelude.{ℕ, ◌+◌, Bool, cond, zero, suc, List, [], ◌∷◌, ◌++◌, Result, Ok}
 use Rattle.std.specs.Prelude.{Err}
 use Rattle.lan_core.specs.declared.event.Event.{Event}
 use Rattle.lan_core.specs.declared.fact.Fact.{Fact}
 use Rattle.lan_core.specs.Run.{happened}
-use Rattle.transcript.specs.Rendering.{transcript}
 use Rattle.lan_schedule.specs.declared.halt.Halt.{Halt}
 use Rattle.lan_schedule.specs.declared.halt.Halt.TheVariants as halts
 use Rattle.lan_schedule.specs.declared.halt.Kind.{Kind}
-use Rattle.lan_schedule.specs.World.{World, Kept, puts, names_of}
+use Rattle.lan_schedule.specs.World.{World, Kept, puts}
 use Rattle.lan_schedule.specs.Answers.{answer, taken_by}
 
 -- nothing; the line is refused; an event happens; what is kept changes; one act and then another;

@@ -1,9 +1,8 @@
 -- What each line of a trace performs (this profile's own rule).
-use Rattle.std.specs.Prelude.{ℕ, ◌+◌, ◌==◌, ◌||◌, ◌&&◌, nat_le, not, Bool, true, false, cond, List}
+use Rattle.std.specs.Prelude.{ℕ, ◌+◌, ◌==◌, ◌||◌, ◌&&◌, nat_le, not, Bool, true, List}
 use Rattle.std.specs.Prelude.{[], ◌∷◌, ◌++◌, length, map}
 use Rattle.std.specs.List.{filter}
 use Rattle.std.specs.Prelude.{Option, Some, None, Result, Ok}
-use Rattle.lan_base.specs.declared.address.Mac.{Mac}
 use Rattle.lan_base.specs.declared.frame.UserFrame.{UserFrame}
 use Rattle.lan_core.specs.declared.event.Event.TheVariants.{Start, Tick, Deliver, Restart, Claim}
 use Rattle.lan_core.specs.declared.event.Event.TheVariants.{Emit, Inject}
@@ -17,7 +16,7 @@ use Rattle.lan_schedule.specs.declared.choices.Rule.TheVariants.{Counted, Stream
 use Rattle.lan_schedule.specs.declared.choices.Choices.{Choices}
 use Rattle.lan_schedule.specs.declared.frames.Put.{Put}
 use Rattle.lan_schedule.specs.Settings.{secret_of, lag_of}
-use Rattle.lan_schedule.specs.World.{World, Kept, settings, count, place, sender, mark, is_cut}
+use Rattle.lan_schedule.specs.World.{World, settings, count, place, sender, mark, is_cut}
 use Rattle.lan_schedule.specs.World.{with_link, without_link}
 use Rattle.lan_schedule.specs.Numbers.{shown_next, claimed_number}
 use Rattle.lan_schedule.specs.Acts.{Act, nothing, refuse, happen, change, seq, look, each, span}

@@ -1,7 +1,7 @@
 //! A replay performs the lines of a trace, one after the other.
 
-ghost use Rattle.std.specs.Prelude.{◌≡◌, ◌⊎◌, length, Some, None, Ok, Err, IfErr, IfSome, IfOk};
-ghost use Rattle.std.specs.Prelude.{OnOk, Option, is_some, ℕ, cond, option_map, IsTrue, true};
+ghost use Rattle.std.specs.Prelude.{◌≡◌, ◌⊎◌, length, Some, None, Ok, Err, IfErr};
+ghost use Rattle.std.specs.Prelude.{OnOk, Option, is_some, true};
 ghost use Rattle.std.specs.Prelude.{false};
 ghost use Rattle.lan_core.specs.Run.{facts_of};
 ghost use Rattle.group_safety.specs.Summary.{counts};

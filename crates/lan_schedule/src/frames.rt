@@ -1,6 +1,6 @@
 //! The frames of the air, as far as flow rounds look at them.
 
-ghost use Rattle.std.specs.Prelude.{◌≡◌, ◌+◌, ◌-◌, ◌++◌, ◌∷◌, [], cond, length, IfOk, OnOk, OnErr};
+ghost use Rattle.std.specs.Prelude.{◌≡◌, ◌+◌, ◌-◌, ◌++◌, ◌∷◌, [], cond, length, IfOk, OnOk};
 ghost use Rattle.lan_schedule.specs.World.{puts, put_by, marked_at, sender_at};
 ghost use Rattle.lan_schedule.specs.Lines.{due_of};
 ghost use Rattle.lan_schedule.specs.inside.Frames.{Flow};

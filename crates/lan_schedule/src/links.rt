@@ -1,7 +1,6 @@
 //! The links that are cut.
 
-ghost use Rattle.std.specs.Prelude.{◌≡◌, ◌++◌, ◌∷◌, [], cond, not, OnOk};
-ghost use Rattle.std.specs.List.{filter};
+ghost use Rattle.std.specs.Prelude.{◌≡◌, [], OnOk};
 ghost use Rattle.lan_schedule.specs.World.{is_link, is_cut, with_link, without_link};
 
 use std::alloc::{AllocError, Global};

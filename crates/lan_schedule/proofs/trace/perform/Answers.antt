@@ -1,5 +1,4 @@
-use Rattle.std.proofs.Common.{◌≡◌, ℕ, ◌+◌, Some, None, Ok, refl, sym, ap, ◌∙◌, arith}
-use Rattle.trace_text.specs.declared.fault.TextFault.TheVariants as faults
+use Rattle.std.proofs.Common.{Ok, refl, ap, ◌∙◌, arith}
 use Rattle.lan_schedule.proofs.Feeding.{memory-does}
 use Rattle.lan_schedule.proofs.Texting.{skipped-does, line-does, any-fault-does}
 use Rattle.lan_schedule.proofs.trace.perform.Goals as goal

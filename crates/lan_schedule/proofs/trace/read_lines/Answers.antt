@@ -1,4 +1,4 @@
-use Rattle.std.proofs.Common.{◌≡◌, ◌≤◌, take, length, sym, refl, ◌∙◌, arith}
+use Rattle.std.proofs.Common.{◌≡◌, take, length, sym, refl, ◌∙◌, arith}
 use Rattle.std.proofs.lemmas.List.{length-take-le}
 use Rattle.lan_schedule.proofs.Feeding.{read-more, read-err, read-end, read-none, nothing-does}
 use Rattle.lan_schedule.proofs.Feeding.{done-none, done-then}

@@ -1,4 +1,4 @@
-use Rattle.std.proofs.Common.{◌≡◌, Ok, Err, sym, ◌∙◌}
+use Rattle.std.proofs.Common.{Ok, Err, sym, ◌∙◌}
 use Rattle.lan_schedule.specs.Trace.{sourced}
 use Rattle.lan_schedule.specs.Ends.{moment}
 use Rattle.lan_schedule.proofs.Reading.{is-replayed, writes, read-badly, wrote-badly, halt-is}

@@ -1,4 +1,4 @@
-use Rattle.std.proofs.Common.{◌≡◌, refl, sym, ap, ◌∙◌}
+use Rattle.std.proofs.Common.{refl}
 use Rattle.lan_schedule.specs.Lines.{begin_line, act_of}
 use Rattle.lan_schedule.proofs.Feeding.{then-err-late, err-any}
 use Rattle.lan_schedule.proofs.commands.Replay.command.Goals as goal

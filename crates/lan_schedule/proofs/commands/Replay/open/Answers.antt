@@ -1,5 +1,5 @@
-use Rattle.std.proofs.Common.{◌≡◌, Some, refl, sym, ap, ◌∙◌}
-use Rattle.std.specs.Prelude.{Ok, Err}
+use Rattle.std.proofs.Common.{refl}
+use Rattle.std.specs.Prelude.{Ok}
 use Rattle.lan_schedule.proofs.Feeding.{handed-on}
 use Rattle.lan_schedule.proofs.Opening.{opening-does, station-is-later}
 use Rattle.lan_schedule.proofs.commands.Replay.open.Goals as goal

@@ -1,4 +1,4 @@
-use Rattle.std.proofs.Common.{◌≡◌, None, Some, refl, sym, ap, ◌∙◌}
+use Rattle.std.proofs.Common.{refl, sym, ◌∙◌}
 use Rattle.lan_schedule.specs.Lines.{act_of}
 use Rattle.lan_schedule.proofs.LinesCome.{line-comes}
 use Rattle.lan_schedule.proofs.Commanding.{none-of}

@@ -1,4 +1,4 @@
-use Rattle.std.proofs.Common.{◌≡◌, refl, sym, ap, ◌∙◌}
+use Rattle.std.proofs.Common.{refl}
 use Rattle.lan_schedule.proofs.Opening.{chosen-deed, chosen-does}
 use Rattle.lan_schedule.proofs.commands.Replay.prepare.Goals as goal
 

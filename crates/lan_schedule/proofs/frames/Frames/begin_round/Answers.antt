@@ -1,5 +1,4 @@
 use Rattle.std.proofs.Common.{◌≡◌, ◌+◌, arith}
-use Rattle.lan_schedule.specs.inside.Frames.{AreInOrder}
 use Rattle.lan_schedule.proofs.Flowing.{order-later}
 use Rattle.lan_schedule.proofs.frames.Frames.begin_round.Goals as goal
 

@@ -1,5 +1,4 @@
-use Rattle.std.proofs.Common.{◌≡◌, ◌∙◌, sym}
-use Rattle.std.specs.Prelude.{Result, Ok, Err}
+use Rattle.std.proofs.Common.{◌∙◌, sym}
 use Rattle.lan_schedule.proofs.Counting.{tell-tick, told-other}
 use Rattle.lan_schedule.proofs.numbers.Numbers.follow.Goals as goal
 

@@ -1,4 +1,4 @@
-use Rattle.std.proofs.Common.{◌≡◌, sym, ap, ◌∙◌}
+use Rattle.std.proofs.Common.{sym, ◌∙◌}
 use Rattle.lan_core.specs.Lives.{transmitting_at}
 use Rattle.lan_schedule.proofs.Counting.{shown-none, shown-some}
 use Rattle.lan_schedule.proofs.numbers.Numbers.shown.Goals as goal

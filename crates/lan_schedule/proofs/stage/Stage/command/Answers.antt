@@ -1,4 +1,4 @@
-use Rattle.std.proofs.Common.{◌≡◌, Some, None, refl, sym, ap, ◌∙◌}
+use Rattle.std.proofs.Common.{sym, ◌∙◌}
 use Rattle.lan_schedule.proofs.Commanding.{refused-does, performed-does, none-of, none-later}
 use Rattle.lan_schedule.proofs.stage.Stage.command.Goals as goal
 

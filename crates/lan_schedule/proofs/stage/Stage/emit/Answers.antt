@@ -1,8 +1,6 @@
-use Rattle.std.proofs.Common.{arith, ◌≡◌, ◌==◌, Bool, false, refl, sym, subst}
+use Rattle.std.proofs.Common.{arith, ◌==◌, refl}
 use Rattle.lan_core.specs.declared.event.Event.TheVariants.{Emit}
 use Rattle.lan_schedule.specs.Acts.{happen, unless}
-use Rattle.lan_schedule.specs.inside.Comes.{Did}
-use Rattle.lan_schedule.specs.inside.Staged.{StandsFor}
 use Rattle.lan_schedule.proofs.Happening.{plainly}
 use Rattle.lan_schedule.proofs.Looking.{unless-does}
 use Rattle.lan_schedule.proofs.stage.Stage.emit.Goals as goal

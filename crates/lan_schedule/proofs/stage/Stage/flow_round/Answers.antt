@@ -1,5 +1,5 @@
-use Rattle.std.proofs.Common.{◌≡◌, refl, ap, ◌∙◌}
-use Rattle.lan_schedule.specs.Lines.{flow_round, spread}
+use Rattle.std.proofs.Common.{refl, ◌∙◌}
+use Rattle.lan_schedule.specs.Lines.{flow_round}
 use Rattle.lan_schedule.proofs.Doing.{leads-start, leads-step, leads-err, handed-on, memory-does}
 use Rattle.lan_schedule.proofs.Looking.{due-leads, begin-does}
 use Rattle.lan_schedule.proofs.stage.Stage.flow_round.Goals as goal

@@ -1,4 +1,4 @@
-use Rattle.std.proofs.Common.{◌≡◌, refl, sym, ap, ◌∙◌}
+use Rattle.std.proofs.Common.{refl}
 use Rattle.lan_schedule.proofs.Happening.{event-did, event-stopped}
 use Rattle.lan_schedule.proofs.stage.Stage.happen.Goals as goal
 

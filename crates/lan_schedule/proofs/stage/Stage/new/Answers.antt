@@ -1,5 +1,4 @@
-use Rattle.std.proofs.Common.{◌≡◌, ℕ, [], List, refl, sym, ap, ◌∙◌, subst}
-use Rattle.lan_base.specs.declared.frame.UserFrame.{UserFrame}
+use Rattle.std.proofs.Common.{[], refl, subst}
 use Rattle.lan_core.specs.declared.settings.Settings.{Settings}
 use Rattle.lan_core.specs.Standing.{StandsFor as GroupStandsFor}
 use Rattle.lan_schedule.proofs.Opening.{opens}

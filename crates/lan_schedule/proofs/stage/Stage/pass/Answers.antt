@@ -1,9 +1,6 @@
-use Rattle.std.proofs.Common.{arith, ◌≡◌, ◌==◌, Bool, false, refl, sym, ap, ◌∙◌}
-use Rattle.std.specs.Prelude.{◌||◌}
+use Rattle.std.proofs.Common.{arith, false, sym, ◌∙◌}
 use Rattle.lan_schedule.specs.World.{is_cut}
-use Rattle.lan_schedule.specs.Acts.{happen, unless, nothing}
-use Rattle.lan_schedule.proofs.Doing.{nothing-does}
-use Rattle.lan_schedule.proofs.Looking.{pass-leads, passed-leads}
+use Rattle.lan_schedule.proofs.Looking.{pass-leads}
 use Rattle.lan_schedule.proofs.stage.Stage.pass.Goals as goal
 
 pub returns : goal.returns

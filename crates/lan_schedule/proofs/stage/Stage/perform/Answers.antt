@@ -1,6 +1,5 @@
-use Rattle.std.proofs.Common.{◌≡◌, refl, sym, ap, ◌∙◌}
+use Rattle.std.proofs.Common.{refl}
 use Rattle.lan_core.specs.declared.event.Event.TheVariants.{Start, Deliver, Restart, Inject}
-use Rattle.trace_text.specs.declared.line.Line.TheVariants as lines
 use Rattle.lan_schedule.specs.Acts.{happen, times, seq}
 use Rattle.lan_schedule.specs.Lines.{begin, tick, link_cut, link_mended, add_user, send}
 use Rattle.lan_schedule.proofs.Drawing.{bytes-all}

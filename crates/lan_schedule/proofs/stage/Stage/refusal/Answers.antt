@@ -1,4 +1,4 @@
-use Rattle.std.proofs.Common.{◌≡◌, sym, ap, ◌∙◌}
+use Rattle.std.proofs.Common.{sym, ◌∙◌}
 use Rattle.lan_schedule.proofs.Refusing.{refused-word, refused-order, refused-words}
 use Rattle.lan_schedule.proofs.stage.Stage.refusal.Goals as goal
 

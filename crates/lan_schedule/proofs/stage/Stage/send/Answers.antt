@@ -1,4 +1,4 @@
-use Rattle.std.proofs.Common.{◌≡◌, ◌+◌, refl, sym, ap, ◌∙◌, arith}
+use Rattle.std.proofs.Common.{◌≡◌, ◌+◌, refl, arith}
 use Rattle.lan_schedule.specs.World.{settings}
 use Rattle.lan_schedule.proofs.Doing.{memory-does, handed-on}
 use Rattle.lan_schedule.proofs.Sending.{send-does, user-reached, claim-err, claim-ok}

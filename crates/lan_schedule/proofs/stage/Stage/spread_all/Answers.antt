@@ -1,6 +1,6 @@
 use Rattle.std.proofs.Common.{arith}
 use Rattle.lan_schedule.specs.Lines.{spread}
-use Rattle.lan_schedule.proofs.Doing.{leads-start, each-step, each-err, each-end}
+use Rattle.lan_schedule.proofs.Doing.{each-step, each-err, each-end}
 use Rattle.lan_schedule.proofs.stage.Stage.spread_all.Goals as goal
 
 pub returns-in_err-spread : goal.returns-in_err-spread

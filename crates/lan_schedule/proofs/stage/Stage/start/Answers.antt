@@ -1,4 +1,3 @@
-use Rattle.std.proofs.Common.{◌≡◌, arith}
 use Rattle.lan_schedule.proofs.stage.Stage.start.Goals as goal
 
 pub happen-requires : goal.happen-requires

@@ -1,4 +1,4 @@
-use Rattle.std.proofs.Common.{◌≡◌, refl, sym, ap, ◌∙◌}
+use Rattle.std.proofs.Common.{refl, ap}
 use Rattle.lan_core.specs.declared.event.Event.TheVariants.{Tick}
 use Rattle.lan_schedule.specs.World.{settings}
 use Rattle.lan_schedule.specs.Acts.{happen}
