@@ -7,10 +7,14 @@ mod commands;
 mod frames;
 mod halt;
 mod links;
+mod moves;
 mod numbers;
+mod refusals;
+mod setup;
 mod stage;
 mod supply;
 mod trace;
+mod writing;
 
 pub use commands::Replay;
 pub use halt::{Halt, Kind};

@@ -1,56 +1,40 @@
 //! A group at work: the lines after the first station are performed on it.
 
-ghost use Rattle.std.specs.Prelude.{◌≡◌, ◌==◌, ◌<◌, ◌≤◌, ◌+◌, ◌⊎◌, ◌++◌, ℕ, true, is_some, nat_eq};
-ghost use Rattle.std.specs.Prelude.{length, map, List, [], Some, None, OnOk, IfOk, IfErr, IfNone};
-ghost use Rattle.std.specs.Prelude.{false, Option, option_map};
-ghost use Rattle.std.specs.List.{position_or_len, list_any};
+ghost use Rattle.std.specs.Prelude.{◌≡◌, ◌==◌, ◌≤◌, ◌+◌, ◌++◌, true, is_some, nat_eq, length, map};
+ghost use Rattle.std.specs.Prelude.{OnOk, IfOk, IfErr, false};
+ghost use Rattle.std.specs.List.{position_or_len};
 ghost use Rattle.std.specs.Option.{option_copied};
 ghost use Rattle.std.specs.Cmp.Lexicographic.{pointwise};
-ghost use Rattle.transcript.specs.Rendering.{transcript};
-ghost use Rattle.lan_core.specs.Run.{place, started};
+ghost use Rattle.lan_core.specs.Run.{started};
 ghost use Rattle.lan_core.specs.Types.{IsTyped};
 ghost use Rattle.gcm_frames.specs.Protected.{IsSci};
-ghost use Rattle.lan_base.specs.declared.frame.UserFrame.{UserFrame};
-ghost use Rattle.lan_core.specs.declared.event.Event.{Event};
 ghost use Rattle.lan_core.specs.declared.event.Event.TheVariants as events;
-ghost use Rattle.lan_core.specs.declared.fact.Fact.{Fact};
-ghost use Rattle.group_safety.specs.Summary.{counts};
 ghost use Rattle.trace_text.specs.Writing.{IsInForm};
-ghost use Rattle.trace_text.specs.declared.line.Line.TheVariants as lines;
-ghost use Rattle.lan_schedule.specs.World.{World, is_in, mark};
-ghost use Rattle.lan_core.specs.Standing.{StandsFor as GroupStandsFor};
+ghost use Rattle.lan_schedule.specs.World.{World, mark};
 ghost use Rattle.lan_schedule.specs.declared.halt.Halt.{Halt};
-ghost use Rattle.lan_schedule.specs.Settings.{settings_of, rule_of};
-ghost use Rattle.lan_schedule.specs.Supply.{draw_at};
 ghost use Rattle.lan_schedule.specs.Sound.{IsTidy};
-ghost use Rattle.lan_schedule.specs.inside.Supplies.{supply_nth};
-ghost use Rattle.lan_schedule.specs.Acts.{happen, change, seq, look, each, times, unless};
-ghost use Rattle.lan_schedule.specs.Kinds.{refusal, or_else, where_, unknown, no_frame, is_number};
-ghost use Rattle.lan_schedule.specs.Kinds.{wrong_word};
-ghost use Rattle.lan_schedule.specs.declared.halt.Kind.TheVariants as kinds;
+ghost use Rattle.lan_schedule.specs.Acts.{happen, change, seq, look, unless};
 ghost use Rattle.lan_schedule.specs.inside.Choosing.{is_choice};
-ghost use Rattle.lan_schedule.specs.Lines.{tick, round, to_others, spread, begin_round, flow_round};
-ghost use Rattle.lan_schedule.specs.Lines.{claim, send, add_user, begin, link_cut, link_mended};
-ghost use Rattle.lan_schedule.specs.Lines.{numbered, deed, act_of, pass};
+ghost use Rattle.lan_schedule.specs.Lines.{send, add_user, begin, link_cut, link_mended, deed};
+ghost use Rattle.lan_schedule.specs.Lines.{act_of};
 ghost use Rattle.lan_schedule.specs.Answers.{halt_of};
-ghost use Rattle.lan_schedule.specs.Ends.{moment, sunk};
+ghost use Rattle.lan_schedule.specs.Ends.{moment};
 ghost use Rattle.lan_schedule.specs.inside.Comes.{Did};
-ghost use Rattle.lan_schedule.specs.inside.Staged.{StandsFor, Happened, IsOpening, Writes};
+ghost use Rattle.lan_schedule.specs.inside.Staged.{StandsFor, Happened, IsOpening};
 
-use crate::choices::{Choices, Rule};
-use crate::commands::is_performed;
+use crate::choices::Choices;
 use crate::frames::Frames;
 use crate::halt::{Halt, Kind};
 use crate::links::Links;
 use crate::numbers::Numbers;
+use crate::setup::{group_of, settings_of, supply_of};
 use crate::supply::Supply;
-use aes_block::Secret;
+use crate::writing::{count_all, show};
 use group_safety::Tally;
-use lan_base::{Mac, Name, Octets, Sci, Sink, Unwritten, UserFrame, write_all};
-use lan_core::{Event, Fact, Lan, Settings, Stop};
+use lan_base::{Mac, Name, Octets, Sci, Sink, UserFrame};
+use lan_core::{Event, Lan, Stop};
 use std::alloc::{AllocError, Global};
 use trace_text::Line;
-use transcript::render;
 
 /// A group, and what is kept beside it.
 #[derive(Drop)]
@@ -105,7 +89,7 @@ impl Stage {
 
     /// An event happens, with the user frame that a claim names, and what it shows is counted and
     /// written.
-    fn happen<K: Sink>(
+    pub fn happen<K: Sink>(
         &mut self,
         event: &Event,
         user: Option<&UserFrame>,
@@ -125,128 +109,6 @@ impl Stage {
         admit(&mut self.names, &mut self.scis, event)?;
         count_all(&mut self.tally, facts.as_slice());
         show(facts.as_slice(), &self.names, &mut self.out, sink)
-    }
-
-    // ---- ticks
-
-    /// A tick of one station, which shows the next packet number.
-    fn tick<K: Sink>(&mut self, station: u8, sink: &mut K) -> Result<(), Halt>
-        ensures { Did StandsFor (tick station)
-            (moment self.old (K.held sink.old) (K.faults sink.old))
-            (moment self.new (K.held sink.new) (K.faults sink.new)) result }
-    {
-        let next = self.numbers.shown(&self.lan, station);
-        self.happen(&Event::Tick { station, next }, None, sink)
-    }
-
-    /// So many ticks of one station.
-    fn ticks<K: Sink>(&mut self, station: u8, count: u32, sink: &mut K) -> Result<(), Halt>
-        ensures { Did StandsFor (times count (tick station))
-            (moment self.old (K.held sink.old) (K.faults sink.old))
-            (moment self.new (K.held sink.new) (K.faults sink.new)) result }
-    {
-        for _ in 0..count {
-            self.tick(station, sink)?;
-        }
-        Ok(())
-    }
-
-    /// A tick of each station.
-    fn round<K: Sink>(&mut self, sink: &mut K) -> Result<(), Halt>
-        ensures { Did StandsFor round
-            (moment self.old (K.held sink.old) (K.faults sink.old))
-            (moment self.new (K.held sink.new) (K.faults sink.new)) result }
-    {
-        for station in 0..self.count() {
-            self.tick(station, sink)?;
-        }
-        Ok(())
-    }
-
-    /// So many rounds.
-    fn rounds<K: Sink>(&mut self, count: u32, sink: &mut K) -> Result<(), Halt>
-        ensures { Did StandsFor (times count round)
-            (moment self.old (K.held sink.old) (K.faults sink.old))
-            (moment self.new (K.held sink.new) (K.faults sink.new)) result }
-    {
-        for _ in 0..count {
-            self.round(sink)?;
-        }
-        Ok(())
-    }
-
-    // ---- frames
-
-    /// A frame goes from one station to another, unless that sent it or the link is cut.
-    fn pass<K: Sink>(&mut self, frame: u32, from: u8, station: u8, sink: &mut K) -> Result<(), Halt>
-        ensures { Did StandsFor (pass frame from station)
-            (moment self.old (K.held sink.old) (K.faults sink.old))
-            (moment self.new (K.held sink.new) (K.faults sink.new)) result }
-    {
-        if station == from || self.cuts.is_cut(from, station) {
-            return Ok(());
-        }
-        self.deliver(frame, station, sink)
-    }
-
-    /// A frame goes from one station to all others along the links that are whole.
-    fn to_others<K: Sink>(&mut self, frame: u32, from: u8, sink: &mut K) -> Result<(), Halt>
-        ensures { Did StandsFor (to_others frame from)
-            (moment self.old (K.held sink.old) (K.faults sink.old))
-            (moment self.new (K.held sink.new) (K.faults sink.new)) result }
-    {
-        for station in 0..self.count() {
-            self.pass(frame, from, station, sink)?;
-        }
-        Ok(())
-    }
-
-    /// A frame goes to all others, and is marked.
-    fn spread<K: Sink>(&mut self, frame: u32, sink: &mut K) -> Result<(), Halt>
-        ensures { Did StandsFor (spread frame)
-            (moment self.old (K.held sink.old) (K.faults sink.old))
-            (moment self.new (K.held sink.new) (K.faults sink.new)) result }
-    {
-        let from = self.frames.sender(frame);
-        self.to_others(frame, from, sink)?;
-        self.frames.mark(frame);
-        Ok(())
-    }
-
-    /// Frames are spread, one after the other.
-    fn spread_all<K: Sink>(&mut self, frames: &[u32], sink: &mut K) -> Result<(), Halt>
-        ensures { Did StandsFor (each spread frames.now)
-            (moment self.old (K.held sink.old) (K.faults sink.old))
-            (moment self.new (K.held sink.new) (K.faults sink.new)) result }
-    {
-        for frame in frames {
-            self.spread(*frame, sink)?;
-        }
-        Ok(())
-    }
-
-    /// A flow round: a round of ticks, and then each frame whose round has come is spread.
-    fn flow_round<K: Sink>(&mut self, sink: &mut K) -> Result<(), Halt>
-        ensures { Did StandsFor flow_round
-            (moment self.old (K.held sink.old) (K.faults sink.old))
-            (moment self.new (K.held sink.new) (K.faults sink.new)) result }
-    {
-        self.frames.begin_round()?;
-        self.round(sink)?;
-        let frames = self.frames.due(self.alloc, self.lag)?;
-        self.spread_all(&frames, sink)
-    }
-
-    /// So many flow rounds.
-    fn flow<K: Sink>(&mut self, count: u32, sink: &mut K) -> Result<(), Halt>
-        ensures { Did StandsFor (times count flow_round)
-            (moment self.old (K.held sink.old) (K.faults sink.old))
-            (moment self.new (K.held sink.new) (K.faults sink.new)) result }
-    {
-        for _ in 0..count {
-            self.flow_round(sink)?;
-        }
-        Ok(())
     }
 
     // ---- user data
@@ -286,7 +148,7 @@ impl Stage {
     // ---- names
 
     /// How many stations there are.
-    fn count(&self) -> u8
+    pub fn count(&self) -> u8
         ensures { length self.now.names.items ≤ 255 → result ≡ length self.now.names.items }
     {
         few(self.names.len())
@@ -298,30 +160,6 @@ impl Stage {
             → result ≡ position_or_len (pointwise nat_eq name.now) self.now.names.items }
     {
         few(position(&self.names, name))
-    }
-
-    /// Whether a station has this name.
-    fn is_named(&self, name: &Name) -> bool
-        ensures { result ≡ is_in name.now self.now.names.items }
-    {
-        self.names
-            .iter()
-            .any(|other| name.octets() == other.octets())
-    }
-
-    /// Whether a station has this SCI.
-    fn has_sci(&self, sci: &Sci) -> bool
-        ensures { result
-            ≡ list_any (λ other. pointwise nat_eq sci.now.0 other.0) self.now.scis.items }
-    {
-        self.scis.iter().any(|other| sci.0 == other.0)
-    }
-
-    /// Whether the air has a frame of this number.
-    fn has_frame(&self, number: u32) -> bool
-        ensures { result ≡ is_number number (length self.now.frames.frames) }
-    {
-        1 <= number && number as usize <= self.frames.len()
     }
 
     // ---- lines
@@ -340,77 +178,6 @@ impl Stage {
             });
         }
         self.perform(line, sink)
-    }
-
-    /// Why a line is refused.
-    fn refusal(&self, line: &Line) -> Option<Kind>
-        ensures first { (w : World) → StandsFor w self.now → result ≡ refusal line.now w }
-        ensures later { IfNone result (is_choice line.now ≡ false) }
-    {
-        if !is_performed(line) {
-            return Some(Kind::Word);
-        }
-        if is_choice(line) {
-            return Some(Kind::Order);
-        }
-        self.wrong_word(line)
-    }
-
-    /// What is wrong with the words of a line, from the left.
-    fn wrong_word(&self, line: &Line) -> Option<Kind>
-        ensures { result
-            ≡ wrong_word line.now self.now.names.items (map (λ sci. sci.0) self.now.scis.items)
-            (length self.now.frames.frames) }
-    {
-        match line {
-            Line::Station { name, sci, .. } => self.taken(name, sci),
-            Line::TickOne { name, .. }
-            | Line::Restart { name }
-            | Line::Send { name, .. }
-            | Line::Inject { name, .. } => self.unknown(name),
-            Line::Deliver { frame, name } => self.no_frame(*frame).or(self.unknown(name)),
-            Line::Spread { frame } | Line::Lose { frame } => self.no_frame(*frame),
-            Line::Cut { from, to } | Line::Mend { from, to } => {
-                self.unknown(from).or(self.unknown(to))
-            }
-            _ => None,
-        }
-    }
-
-    /// Whether the name or the SCI of a station that is to start is taken.
-    fn taken(&self, name: &Name, sci: &Sci) -> Option<Kind>
-        ensures { result ≡ or_else (where_ (is_in name.now self.now.names.items) kinds.NameTaken)
-            (where_ (is_in sci.now.0 (map (λ sci. sci.0) self.now.scis.items)) kinds.SciTaken) }
-    {
-        if self.is_named(name) {
-            Some(Kind::NameTaken)
-        } else if self.has_sci(sci) {
-            Some(Kind::SciTaken)
-        } else {
-            None
-        }
-    }
-
-    /// Whether no station has this name.
-    fn unknown(&self, name: &Name) -> Option<Kind>
-        ensures { result ≡ unknown name.now self.now.names.items }
-    {
-        if self.is_named(name) {
-            None
-        } else {
-            Some(Kind::NameUnknown)
-        }
-    }
-
-    /// Whether the air has no frame of this number.
-    fn no_frame(&self, number: u32) -> Option<Kind>
-        ensures { result ≡ no_frame number (length self.now.frames.frames) }
-    {
-        if self.has_frame(number) {
-            None
-        } else {
-            Some(Kind::FrameUnknown)
-        }
     }
 
     /// Performs a line that isn't refused.
@@ -470,7 +237,7 @@ impl Stage {
     }
 
     /// A frame reaches a station.
-    fn deliver<K: Sink>(&mut self, frame: u32, station: u8, sink: &mut K) -> Result<(), Halt>
+    pub fn deliver<K: Sink>(&mut self, frame: u32, station: u8, sink: &mut K) -> Result<(), Halt>
         ensures { Did StandsFor (happen (events.Deliver frame station))
             (moment self.old (K.held sink.old) (K.faults sink.old))
             (moment self.new (K.held sink.new) (K.faults sink.new)) result }
@@ -580,121 +347,6 @@ fn admit(names: &mut Vec<Name>, scis: &mut Vec<Sci>, event: &Event) -> Result<()
         scis.push(*sci)?;
     }
     Ok(())
-}
-
-/// Facts are counted.
-fn count_all(tally: &mut Tally, facts: &[Fact])
-    ensures { (shown : List Fact) → tally.old ≡ counts shown
-        → tally.new ≡ counts (shown ++ facts.now) }
-{
-    for fact in facts {
-        tally.add(fact);
-    }
-}
-
-/// The lines of one event's facts are written by one call.
-fn show<K: Sink>(
-    facts: &[Fact],
-    names: &[Name],
-    out: &mut Vec<u8>,
-    sink: &mut K,
-) -> Result<(), Halt>
-    ensures { Writes (transcript names.now facts.now) (sunk (K.held sink.old) (K.faults sink.old))
-        (sunk (K.held sink.new) (K.faults sink.new)) result }
-{
-    render_all(facts, names, out)?;
-    write(out.as_slice(), sink)
-}
-
-/// A text is written.
-pub fn write<K: Sink>(text: &[u8], sink: &mut K) -> Result<(), Halt>
-    ensures { Writes text.now (sunk (K.held sink.old) (K.faults sink.old))
-        (sunk (K.held sink.new) (K.faults sink.new)) result }
-{
-    match write_all(sink, text) {
-        Ok(()) => Ok(()),
-        Err(Unwritten::Failed) => Err(Halt::WriteFault),
-        Err(Unwritten::Memory) => Err(Halt::Memory),
-    }
-}
-
-/// The lines of one event's facts, in place of what the buffer had.
-fn render_all(facts: &[Fact], names: &[Name], out: &mut Vec<u8>) -> Result<(), AllocError>
-    ensures { OnOk result (out.new.items ≡ transcript names.now facts.now) }
-{
-    out.clear();
-    for fact in facts {
-        if usize::from(fact.place()) >= names.len() {
-            return Err(AllocError);
-        }
-        render(fact, out, names)?;
-    }
-    Ok(())
-}
-
-/// Whether a line may only stand before the first station.
-fn is_choice(line: &Line) -> bool
-    ensures { result ≡ is_choice line.now }
-{
-    matches!(
-        line,
-        Line::DrawsCount
-            | Line::DrawsChaCha { .. }
-            | Line::DrawsList { .. }
-            | Line::Conf { .. }
-            | Line::Window { .. }
-            | Line::Rekey { .. }
-            | Line::Lag { .. }
-            | Line::Suite { .. }
-            | Line::Group { .. }
-    )
-}
-
-/// What holds for the whole group, by what was chosen.
-fn settings_of(alloc: Global, chosen: &Choices) -> Result<Settings, AllocError>
-    ensures value { IfOk result (λ settings. settings ≡ settings_of chosen.now) }
-    ensures suite { IfOk result (λ settings. (settings.suite ≡ 128) ⊎ (settings.suite ≡ 256)) }
-{
-    let (cak, ckn) = match &chosen.group {
-        Some(group) => (group.cak, group.ckn.copied(alloc)?),
-        None => (Secret::S128([0; 16]), Octets::new(alloc)),
-    };
-    Ok(Settings {
-        cak,
-        ckn,
-        conf: chosen.conf.unwrap_or(1) == 1,
-        window: chosen.window.unwrap_or(0),
-        rekey: chosen.rekey.unwrap_or(3_221_225_472),
-        suite: if chosen.wide.unwrap_or(false) {
-            256
-        } else {
-            128
-        },
-    })
-}
-
-/// The supply that was chosen, from which nothing was drawn.
-fn supply_of(alloc: Global, chosen: &Choices) -> Result<Supply, AllocError>
-    ensures { IfOk result (λ supply. (k : ℕ)
-        → supply_nth supply k ≡ draw_at (rule_of chosen.now) k) }
-{
-    match &chosen.draws {
-        Some(rule) => Supply::of(alloc, rule),
-        None => Supply::of(alloc, &Rule::Counted),
-    }
-}
-
-/// A group to which nothing happened.
-fn group_of(alloc: Global, settings: Settings) -> Result<Lan, Halt>
-    requires { (settings.suite ≡ 128) ⊎ (settings.suite ≡ 256) }
-    ensures stands { IfOk result (λ lan. (users : List UserFrame)
-        → GroupStandsFor settings users lan []) }
-    ensures memory { IfErr result (λ halt. halt ≡ Halt.Memory) }
-{
-    match Lan::new(alloc, settings) {
-        Ok(lan) => Ok(lan),
-        Err(_) => Err(Halt::Memory),
-    }
 }
 
 /// Why a trace ends where its group stops, at the line of this number.

@@ -19,7 +19,7 @@ ghost use Rattle.lan_schedule.specs.inside.Staged.{Writes};
 
 use crate::commands::Replay;
 use crate::halt::{Halt, Kind};
-use crate::stage::write;
+use crate::writing::write;
 use group_safety::Tally;
 use lan_base::{DropSink, Sink, Source};
 use lan_core::Which;

@@ -1,7 +1,7 @@
-use Rattle.std.proofs.Common.{◌≡◌, ap}
+use Rattle.std.proofs.Common.{ap}
 use Rattle.std.specs.Prelude.{Err}
 use Rattle.lan_schedule.proofs.Doing.{took-taken}
-use Rattle.lan_schedule.proofs.stage.write.Goals as goal
+use Rattle.lan_schedule.proofs.writing.write.Goals as goal
 
 pub returns-in-Err-Failed : goal.returns-in-Err-Failed
 returns-in-Err-Failed g c =

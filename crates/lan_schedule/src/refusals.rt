@@ -1,0 +1,134 @@
+//! Why a line after the first station is refused.
+
+ghost use Rattle.std.specs.Prelude.{◌≡◌, nat_eq, length, map, IfNone, false};
+ghost use Rattle.std.specs.List.{list_any};
+ghost use Rattle.std.specs.Cmp.Lexicographic.{pointwise};
+ghost use Rattle.lan_schedule.specs.World.{World, is_in};
+ghost use Rattle.lan_schedule.specs.Kinds.{refusal, or_else, where_, unknown, no_frame, is_number};
+ghost use Rattle.lan_schedule.specs.Kinds.{wrong_word};
+ghost use Rattle.lan_schedule.specs.declared.halt.Kind.TheVariants as kinds;
+ghost use Rattle.lan_schedule.specs.inside.Choosing.{is_choice};
+ghost use Rattle.lan_schedule.specs.inside.Staged.{StandsFor};
+
+use crate::commands::is_performed;
+use crate::halt::Kind;
+use crate::stage::Stage;
+use lan_base::{Name, Sci};
+use trace_text::Line;
+
+impl Stage {
+    /// Why a line is refused.
+    pub fn refusal(&self, line: &Line) -> Option<Kind>
+        ensures first { (w : World) → StandsFor w self.now → result ≡ refusal line.now w }
+        ensures later { IfNone result (is_choice line.now ≡ false) }
+    {
+        if !is_performed(line) {
+            return Some(Kind::Word);
+        }
+        if is_choice(line) {
+            return Some(Kind::Order);
+        }
+        self.wrong_word(line)
+    }
+
+    /// What is wrong with the words of a line, from the left.
+    fn wrong_word(&self, line: &Line) -> Option<Kind>
+        ensures { result
+            ≡ wrong_word line.now self.now.names.items (map (λ sci. sci.0) self.now.scis.items)
+            (length self.now.frames.frames) }
+    {
+        match line {
+            Line::Station { name, sci, .. } => self.taken(name, sci),
+            Line::TickOne { name, .. }
+            | Line::Restart { name }
+            | Line::Send { name, .. }
+            | Line::Inject { name, .. } => self.unknown(name),
+            Line::Deliver { frame, name } => self.no_frame(*frame).or(self.unknown(name)),
+            Line::Spread { frame } | Line::Lose { frame } => self.no_frame(*frame),
+            Line::Cut { from, to } | Line::Mend { from, to } => {
+                self.unknown(from).or(self.unknown(to))
+            }
+            _ => None,
+        }
+    }
+
+    /// Whether the name or the SCI of a station that is to start is taken.
+    fn taken(&self, name: &Name, sci: &Sci) -> Option<Kind>
+        ensures { result ≡ or_else (where_ (is_in name.now self.now.names.items) kinds.NameTaken)
+            (where_ (is_in sci.now.0 (map (λ sci. sci.0) self.now.scis.items)) kinds.SciTaken) }
+    {
+        if self.is_named(name) {
+            Some(Kind::NameTaken)
+        } else if self.has_sci(sci) {
+            Some(Kind::SciTaken)
+        } else {
+            None
+        }
+    }
+
+    /// Whether no station has this name.
+    fn unknown(&self, name: &Name) -> Option<Kind>
+        ensures { result ≡ unknown name.now self.now.names.items }
+    {
+        if self.is_named(name) {
+            None
+        } else {
+            Some(Kind::NameUnknown)
+        }
+    }
+
+    /// Whether the air has no frame of this number.
+    fn no_frame(&self, number: u32) -> Option<Kind>
+        ensures { result ≡ no_frame number (length self.now.frames.frames) }
+    {
+        if self.has_frame(number) {
+            None
+        } else {
+            Some(Kind::FrameUnknown)
+        }
+    }
+
+    // ---- names and frames
+
+    /// Whether a station has this name.
+    fn is_named(&self, name: &Name) -> bool
+        ensures { result ≡ is_in name.now self.now.names.items }
+    {
+        self.names
+            .iter()
+            .any(|other| name.octets() == other.octets())
+    }
+
+    /// Whether a station has this SCI.
+    fn has_sci(&self, sci: &Sci) -> bool
+        ensures { result
+            ≡ list_any (λ other. pointwise nat_eq sci.now.0 other.0) self.now.scis.items }
+    {
+        self.scis.iter().any(|other| sci.0 == other.0)
+    }
+
+    /// Whether the air has a frame of this number.
+    fn has_frame(&self, number: u32) -> bool
+        ensures { result ≡ is_number number (length self.now.frames.frames) }
+    {
+        1 <= number && number as usize <= self.frames.len()
+    }
+}
+
+/// Whether a line may only stand before the first station.
+fn is_choice(line: &Line) -> bool
+    ensures { result ≡ is_choice line.now }
+{
+    matches!(
+        line,
+        Line::DrawsCount
+            | Line::DrawsChaCha { .. }
+            | Line::DrawsList { .. }
+            | Line::Conf { .. }
+            | Line::Window { .. }
+            | Line::Rekey { .. }
+            | Line::Lag { .. }
+            | Line::Suite { .. }
+            | Line::Group { .. }
+    )
+}
