@@ -1,35 +1,30 @@
 -- What can be performed in a tidy world.
-use Rattle.std.proofs.Common.{◌≡◌, ◌<◌, ◌≤◌, ◌≢◌, ℕ, zero, suc, ◌+◌, ◌-◌, ◌==◌, Bool, true, false}
-use Rattle.std.proofs.Common.{List, [], ◌∷◌, ◌++◌, length, Option, Some, None, inl, inr, refl, sym}
+use Rattle.std.proofs.Common.{◌≡◌, ◌<◌, ◌≤◌, ℕ, zero, suc, ◌+◌, ◌-◌, ◌==◌, Bool, true, false}
+use Rattle.std.proofs.Common.{List, [], ◌∷◌, ◌++◌, length, Option, Some, None, refl, sym}
 use Rattle.std.proofs.Common.{ap, ◌∙◌, subst, length-append, arith}
-use Rattle.std.specs.Prelude.{Result, Ok, Err, cond, map, max, is_some, nat_lt, nat_le}
+use Rattle.std.specs.Prelude.{Result, Ok, Err, cond, map, is_some}
 use Rattle.std.specs.List.{find, filter}
-use Rattle.lan_base.specs.declared.frame.UserFrame.{UserFrame}
 use Rattle.sak_exchange.specs.Histories.{Key}
 use Rattle.lan_core.specs.declared.event.Event.{Event}
 use Rattle.lan_core.specs.declared.event.Event.TheVariants as events
 use Rattle.lan_core.specs.declared.fact.Fact.{Fact}
 use Rattle.lan_core.specs.declared.settings.Settings.{Settings}
-use Rattle.lan_core.specs.Run.{Run, Profile, happened, started, stations}
+use Rattle.lan_core.specs.Run.{Run, started, stations}
 use Rattle.lan_core.specs.Ledgers.{Frame, air, framed, gather, with_one, frame_at}
-use Rattle.lan_core.specs.Claims.{next, user_at}
-use Rattle.lan_core.specs.Order.{Exists}
+use Rattle.lan_core.specs.Claims.{next}
 use Rattle.lan_core.specs.Stops.{IsNextShown}
 use Rattle.lan_core.specs.Lives.{transmitting_at}
 use Rattle.lan_schedule.specs.declared.frames.Put.{Put}
 use Rattle.lan_schedule.specs.declared.halt.Halt.{Halt}
-use Rattle.lan_schedule.specs.declared.halt.Kind.{Kind}
-use Rattle.lan_schedule.specs.World.{World, Kept, count, settings, sender, mark, marked_at}
-use Rattle.lan_schedule.specs.World.{with_mark}
+use Rattle.lan_schedule.specs.World.{World, count, settings, sender, mark, marked_at}
 use Rattle.lan_schedule.specs.Settings.{lag_of}
-use Rattle.lan_schedule.specs.Numbers.{shown_next}
 use Rattle.lan_core.specs.Unstopped.{next_under}
 use Rattle.lan_schedule.specs.Answers.{answer}
 use Rattle.lan_schedule.specs.Acts.{Act, nothing, refuse, happen, change, seq, look, perform}
 use Rattle.lan_schedule.specs.Acts.{Outcome, Goes, Stops, shown, and_then, each, span, times}
 use Rattle.lan_schedule.specs.Acts.{unless, world_after}
 use Rattle.lan_schedule.specs.Lines.{tick, round, pass, to_others, spread, is_passed_by, is_due}
-use Rattle.lan_schedule.specs.Lines.{due_of, due, begin_round, flow_round}
+use Rattle.lan_schedule.specs.Lines.{due_of, due, flow_round}
 use Rattle.lan_schedule.specs.Sound.{IsTidy, numbers_of}
 use Rattle.lan_schedule.specs.inside.Comes.{Comes, IsGoing}
 
@@ -220,7 +215,7 @@ comes-spread number w tidy there = (
       (λ v e tidy_v. tidy-marked number v tidy_v),
 )
 
-all-more : {A : Type 0} (P Q : A → Type 0) (xs : List A) → ((x : A) → P x → Q x) → AllHave P xs
+pub all-more : {A : Type 0} (P Q : A → Type 0) (xs : List A) → ((x : A) → P x → Q x) → AllHave P xs
     → AllHave Q xs
 all-more P Q [] h all = tt
 all-more P Q (x ∷ xs) h all = (h x all.0, all-more P Q xs h all.1)

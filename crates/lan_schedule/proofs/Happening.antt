@@ -1,9 +1,8 @@
 -- What an event leaves.
-use Rattle.std.proofs.Common.{◌≡◌, ℕ, ◌+◌, ◌≤◌, List, [], ◌∷◌, ◌++◌, length, Option, Some, None}
-use Rattle.std.proofs.Common.{inl, inr, refl, sym, ap, ◌∙◌, subst, append_assoc, append-nil, arith}
+use Rattle.std.proofs.Common.{◌≡◌, ℕ, ◌+◌, List, [], ◌∷◌, ◌++◌, Option, Some, None}
+use Rattle.std.proofs.Common.{inl, inr, refl, sym, ap, ◌∙◌, subst, arith}
 use Rattle.std.specs.Prelude.{Result, Ok, Err, map, unwrap_or}
 use Rattle.std.proofs.lemmas.List.{map-append}
-use Rattle.lan_base.specs.Faults.{Rose}
 use Rattle.lan_base.specs.Told.{after}
 use Rattle.lan_base.specs.declared.frame.UserFrame.{UserFrame}
 use Rattle.lan_core.specs.declared.event.Event.{Event}
@@ -14,7 +13,7 @@ use Rattle.lan_core.specs.declared.stop.Stop.{Stop}
 use Rattle.lan_core.specs.declared.stop.Stop.TheVariants as stops
 use Rattle.lan_core.specs.Run.{Run, Profile, happened, started, stations, facts_of}
 use Rattle.lan_core.specs.Expected.{expected, drawn_from}
-use Rattle.lan_core.specs.Stops.{MayCome, first_stop, draws_needed}
+use Rattle.lan_core.specs.Stops.{MayCome, first_stop}
 use Rattle.lan_core.specs.Types.{IsTyped}
 use Rattle.lan_core.specs.Standing.{StandsFor as GroupStandsFor}
 use Rattle.lan_core.specs.inside.Steps.{Answers, GoesOn}
@@ -26,16 +25,16 @@ use Rattle.lan_schedule.specs.declared.stage.Stage.{Stage}
 use Rattle.lan_schedule.specs.World.{World, names_of, settings, puts}
 use Rattle.lan_schedule.specs.Settings.{rule_of}
 use Rattle.lan_schedule.specs.Supply.{draw_at}
-use Rattle.lan_schedule.specs.Answers.{supply, taken_by, halt_of, facts_shown, answered, answer}
-use Rattle.lan_schedule.specs.Acts.{nothing, happen, perform, Outcome, Goes, Stops, shown}
+use Rattle.lan_schedule.specs.Answers.{supply, taken_by, halt_of, answered, answer}
+use Rattle.lan_schedule.specs.Acts.{nothing, happen, perform, Goes, Stops, shown}
 use Rattle.lan_schedule.specs.Acts.{world_after}
 use Rattle.lan_schedule.specs.Sound.{IsTidy}
-use Rattle.lan_schedule.specs.Ends.{Sunk, Moment, TookFront, IsShown, IsStopped, IsReached, Ends}
+use Rattle.lan_schedule.specs.Ends.{Sunk, Moment, IsShown, IsReached, Ends}
 use Rattle.lan_schedule.specs.Ends.{EndsEarly, written}
 use Rattle.lan_schedule.specs.inside.Frames.{Flow}
 use Rattle.lan_schedule.specs.inside.Supplies.{supply_nth}
 use Rattle.lan_schedule.specs.inside.Counters.{TellNext, ShowsNext}
-use Rattle.lan_schedule.specs.inside.Comes.{Comes, Did, IsExact, named}
+use Rattle.lan_schedule.specs.inside.Comes.{Did, IsExact, named}
 use Rattle.lan_schedule.specs.inside.Staged.{StandsFor, Happened, Writes}
 use Rattle.lan_schedule.proofs.Doing.{took-behind, took-none, after-append, rose-earlier}
 use Rattle.lan_schedule.proofs.Tidying.{tidy-after}
@@ -203,8 +202,8 @@ event-did given event facts old new r typed step keeps wrote = record {
       (sym is) comes.0) in
       let told = told-by w event facts old.value new.value stands goes in
       let after_it = stands-after w event facts old.value new.value stands comes.1 told keeps in
-      let tidy = tidy-after w event facts reached.shown.tidy comes typed told.stopless told.shows
-      told.lan stands.begun in
+      let tidy = tidy-after w event facts reached.shown.tidy comes typed told.lan.setting
+      told.stopless told.shows stands.begun in
       subst (λ (a : Result (List Fact) Halt). Ends StandsFor base (shown w event a) new r)
       (sym told.answers)
       (written-ends base w event facts old new r reached tidy after_it

@@ -9,7 +9,10 @@ mod Users
 mod Awaiting
 mod LinesCome
 mod Happening
+mod Bounded
+mod Turns
 mod Tidying
+mod Settled
 mod Sending
 mod Refusing
 mod Performing
@@ -21,4 +24,5 @@ mod Limits
 mod Reading
 mod Texting
 mod Summing
+pub mod EachLine
 pub mod Returning

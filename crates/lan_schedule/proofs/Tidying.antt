@@ -1,6 +1,6 @@
 -- Worlds stay tidy.
 use Rattle.std.proofs.Common.{◌≡◌, ℕ, Bool, true, false, ◌⊎◌, inl, inr, subst, List, [], ◌∷◌, ◌++◌}
-use Rattle.std.proofs.Common.{Option, Some, None, refl, sym, ap, ◌∙◌, append_assoc, append-nil}
+use Rattle.std.proofs.Common.{Some, None, refl, sym, ap, ◌∙◌, append_assoc, append-nil}
 use Rattle.std.specs.Prelude.{map, cond, nat_lt}
 use Rattle.std.proofs.lemmas.List.{map-append}
 use Rattle.lan_core.specs.declared.event.Event.{Event}
@@ -14,8 +14,8 @@ use Rattle.lan_core.specs.Types.{IsTyped, IsSetting}
 use Rattle.lan_core.specs.Unstopped.{IsUnstopped, LeavesNoneOut}
 use Rattle.lan_core.proofs.Unstopped.{is-step, legal, fresh, unforged}
 use Rattle.lan_core.proofs.Thrifty.{stays-thrifty}
+use Rattle.lan_core.proofs.Numbered.{air-numbered}
 use Rattle.lan_core.specs.Stops.{first_stop}
-use Rattle.lan_core.specs.Standing.{State, StandsFor}
 use Rattle.lan_schedule.specs.declared.frames.Put.{Put}
 use Rattle.lan_schedule.specs.World.{World, settings, puts}
 use Rattle.lan_schedule.specs.Answers.{supply}
@@ -24,6 +24,7 @@ use Rattle.lan_schedule.specs.Sound.{IsTidy, IsSound, numbers_of}
 use Rattle.lan_schedule.specs.inside.Comes.{Comes, IsExact, named}
 use Rattle.lan_schedule.specs.Numbers.{shown_next}
 use Rattle.lan_schedule.proofs.Drawing.{supply-draws}
+use Rattle.lan_schedule.proofs.Turns.{stays-in-turn}
 
 -- what facts put on the air has the numbers of its frames
 numbers-gather : (rounds : ℕ) (shown : List Fact) (xs : List Frame)
@@ -47,7 +48,7 @@ leaves-claim n true = inl refl
 leaves-claim n false = inr refl
 
 -- an exact event leaves no number out
-leaves-none : (w : World) (event : Event) → IsExact w event → LeavesNoneOut (settings w) w.run event
+pub leaves-none : (w : World) (event : Event) → IsExact w event → LeavesNoneOut (settings w) w.run event
 leaves-none w (events.Start name sci priority) exact = tt
 leaves-none w (events.Tick s shown) exact = exact
 leaves-none w (events.Deliver frame s) exact = tt
@@ -87,23 +88,26 @@ sound-after w event facts tidy comes typed setting goes shows =
           (leaves-none w event comes.1) tidy.sound.thrifty;
     }
 
-pub tidy-after : (w : World) (event : Event) (facts : List Fact) {lan : State} → IsTidy w
-    → Comes (happen event) w → IsTyped event
+pub tidy-after : (w : World) (event : Event) (facts : List Fact) → IsTidy w
+    → Comes (happen event) w → IsTyped event → IsSetting (settings w)
     → first_stop (settings w) w.kept.users w.run event (supply w) ≡ None
     → expected (settings w) w.kept.users w.run event (drawn_from (settings w).suite (supply w))
     ≡ Some facts
-    → StandsFor (settings w) w.kept.users lan (happened event facts ∷ w.run) → w.kept.begun ≡ true
-    → IsTidy (world_after w event facts)
+    → w.kept.begun ≡ true → IsTidy (world_after w event facts)
 unfolding air
-tidy-after w event facts tidy comes typed goes shows stands begun = record {
-  sound = sound-after w event facts tidy comes typed stands.setting goes shows;
-  within = stands.within;
-  frames = map-append (λ (put : Put). put.number) w.kept.frames (puts w.kept.rounds facts)
-      ∙ ap (λ (l : List ℕ). l ++ map (λ (put : Put). put.number) (puts w.kept.rounds facts))
-      tidy.frames
-      ∙ sym (numbers-gather w.kept.rounds facts (air w.run));
-  numbered = stands.numbered;
-  in_turn = stands.in_turn;
-  waits = λ e. absurd (let bad : true ≡ false = sym begun ∙ e in cc);
-  draws = tidy.draws;
-}
+tidy-after w event facts tidy comes typed setting goes shows begun =
+    let x = happened event facts in
+    let sound = sound-after w event facts tidy comes typed setting goes shows in
+    let stepped = sound.legal.stepped in
+    record {
+      sound = sound;
+      within = stepped.0.within;
+      frames = map-append (λ (put : Put). put.number) w.kept.frames (puts w.kept.rounds facts)
+          ∙ ap (λ (l : List ℕ). l ++ map (λ (put : Put). put.number) (puts w.kept.rounds facts))
+          tidy.frames
+          ∙ sym (numbers-gather w.kept.rounds facts (air w.run));
+      numbered = air-numbered (settings w) w.kept.users (x ∷ w.run) stepped;
+      in_turn = stays-in-turn (settings w) w.kept.users x w.run stepped.0 tidy.in_turn;
+      waits = λ e. absurd (let bad : true ≡ false = sym begun ∙ e in cc);
+      draws = tidy.draws;
+    }

@@ -6,6 +6,7 @@ mod choices;
 mod commands;
 mod frames;
 mod halt;
+mod laws;
 mod links;
 mod moves;
 mod numbers;
@@ -18,4 +19,5 @@ mod writing;
 
 pub use commands::Replay;
 pub use halt::{Halt, Kind};
+pub use laws::law_lines_leave_a_tidy_world;
 pub use trace::replay;

@@ -1,0 +1,421 @@
+-- Lines that are performed from the beginning leave a tidy world.
+use Rattle.std.proofs.Common.{◌≡◌, ◌<◌, ◌≤◌, ◌+◌, ◌^◌, ◌==◌, ℕ, suc, Bool, true, false, List, []}
+use Rattle.std.proofs.Common.{◌∷◌, ◌++◌, length, length-append, length-take-le, Option, Some, None}
+use Rattle.std.proofs.Common.{◌⊎◌, inl, inr, refl, sym, ap, ◌∙◌, subst, arith}
+use Rattle.std.specs.Prelude.{Result, Ok, Err, cond, not, ◌&&◌, is_some, nat_le, take, unwrap_or}
+use Rattle.std.specs.Option.{is_none}
+use Rattle.lan_base.specs.Ranges.{IsCkn}
+use Rattle.lan_base.specs.declared.frame.UserFrame.{UserFrame}
+use Rattle.aes_block.specs.declared.secret.Secret.TheVariants.{S128, S256}
+use Rattle.lan_core.specs.declared.event.Event.TheVariants.{Start, Deliver, Restart}
+use Rattle.lan_core.specs.declared.event.Event.TheVariants.{Inject}
+use Rattle.lan_core.specs.Types.{IsTyped, IsSecret, AreOctets}
+use Rattle.trace_text.specs.declared.fault.TextFault.{TextFault}
+use Rattle.trace_text.specs.declared.line.Line.{Line}
+use Rattle.trace_text.specs.declared.line.Line.TheVariants as lines
+use Rattle.trace_text.specs.Reading.{line_in}
+use Rattle.trace_text.specs.Writing.{IsInForm}
+use Rattle.trace_text.proofs.InForm.{read_fits}
+use Rattle.lan_schedule.specs.declared.choices.Choices.{Choices}
+use Rattle.lan_schedule.specs.declared.choices.Keyed.{Keyed}
+use Rattle.lan_schedule.specs.declared.halt.Kind.{Kind}
+use Rattle.lan_schedule.specs.Texts.{ended, open_line, whole_lines, last_line, lines_of}
+use Rattle.lan_schedule.specs.Texts.{without_return}
+use Rattle.lan_schedule.specs.Settings.{no_choice, secret_of, unkeyed, settings_of}
+use Rattle.lan_schedule.specs.World.{World, Kept, beginning, settings, place, mark}
+use Rattle.lan_schedule.specs.Acts.{Act, Outcome, Goes, Stops, happen, change}
+use Rattle.lan_schedule.specs.Acts.{perform, and_then, world_of, times}
+use Rattle.lan_schedule.specs.Kinds.{may_list, refusal, refusal_read}
+use Rattle.lan_schedule.specs.Lines.{deed, deed_read, chosen_by, send, unless_refused}
+use Rattle.lan_schedule.specs.Lines.{performed, performed_all, tick, round, spread, flow_round}
+use Rattle.lan_schedule.specs.Lines.{link_cut, link_mended}
+use Rattle.lan_schedule.specs.Trace.{outcome, lines_within, most_input}
+use Rattle.lan_schedule.specs.Sound.{IsTidy}
+use Rattle.lan_schedule.specs.inside.Comes.{Comes}
+use Rattle.lan_schedule.proofs.Bounded.{AreBounded, bounded-first}
+use Rattle.lan_schedule.proofs.Drawing.{bytes-all}
+use Rattle.lan_schedule.proofs.LinesCome.{IsRight, is-right, deed-comes, tidy-same}
+use Rattle.lan_schedule.proofs.Limits.{tidy-beginning}
+use Rattle.lan_schedule.proofs.Settled.{IsMild, IsOpen, HasSetting, stays-open, mild-ticks}
+use Rattle.lan_schedule.proofs.Settled.{mild-rounds, mild-mark, mild-spread, mild-flow, mild-send}
+
+-- ---- what was chosen
+
+-- a group's keys and name have their lengths
+abbrev IsNamed : Keyed → Type 0
+IsNamed group = IsSecret group.cak × IsCkn group.ckn × AreOctets group.ckn
+
+-- what was chosen is inside its ranges
+record AreChosen (chosen : Choices) : Type 0 where
+  window : unwrap_or chosen.window 0 < 2 ^ 32
+  rekey : unwrap_or chosen.rekey 3221225472 < 2 ^ 32
+  group : (named : Keyed) → chosen.group ≡ Some named → IsNamed named
+
+chosen-first : AreChosen no_choice
+chosen-first = record {
+  window = omega arith;
+  rekey = omega arith;
+  group = λ named is. absurd (cc is);
+}
+
+same-count : (a b : ℕ) → (a == b) ≡ true → a ≡ b
+same-count a b e = grind arith
+
+secret-is : (octets : List ℕ) (b : Bool) → (length octets == 16) ≡ b
+    → (length octets ≡ 16) ⊎ (length octets ≡ 32) → AreOctets octets
+    → IsSecret (cond b (S128 octets) (S256 octets))
+secret-is octets true is size all = (same-count (length octets) 16 is, all)
+secret-is octets false is (inl short) all =
+    absurd (let bad : (16 == 16) ≡ false = subst (λ (n : ℕ). (n == 16) ≡ false) short is in cc bad)
+secret-is octets false is (inr long) all = (long, all)
+
+same-named : (a b : Keyed) → Some a ≡ Some b → a ≡ b
+same-named a b e = cc e
+
+-- a line leaves what was chosen inside its ranges
+chosen-stays : (line : Line) → IsInForm line → (chosen : Choices) → AreChosen chosen
+    → AreChosen (chosen_by line chosen)
+chosen-stays (lines.Window window) form chosen are =
+    let most : window ≤ 4294967295 = form.fits.0.1 in
+    let few : window < 2 ^ 32 = omega (arith, most) in
+    record { window = few; rekey = are.rekey; group = are.group }
+chosen-stays (lines.Rekey rekey) form chosen are =
+    let most : rekey ≤ 4294967295 = form.fits.0.1 in
+    let few : rekey < 2 ^ 32 = omega (arith, most) in
+    record { window = are.window; rekey = few; group = are.group }
+chosen-stays (lines.Group cak ckn) form chosen are =
+    let named : Keyed = record { cak = secret_of cak; ckn = ckn } in
+    let is : IsNamed named = (
+      secret-is cak (length cak == 16) refl form.fits.0.0 (bytes-all cak form.fits.0.1),
+      (form.fits.1.0.0, form.fits.1.0.1),
+      bytes-all ckn form.fits.1.0.2,
+    ) in
+    record {
+      window = are.window;
+      rekey = are.rekey;
+      group = λ other e. subst IsNamed (same-named named other e) is;
+    }
+chosen-stays lines.DrawsCount form chosen are =
+    record { window = are.window; rekey = are.rekey; group = are.group }
+chosen-stays (lines.DrawsChaCha key) form chosen are =
+    record { window = are.window; rekey = are.rekey; group = are.group }
+chosen-stays (lines.DrawsList values) form chosen are =
+    record { window = are.window; rekey = are.rekey; group = are.group }
+chosen-stays (lines.Conf conf) form chosen are =
+    record { window = are.window; rekey = are.rekey; group = are.group }
+chosen-stays (lines.Lag lag) form chosen are =
+    record { window = are.window; rekey = are.rekey; group = are.group }
+chosen-stays (lines.Suite suite) form chosen are =
+    record { window = are.window; rekey = are.rekey; group = are.group }
+chosen-stays _ form chosen are = are
+
+abbrev bits : Bool → ℕ
+bits wide = cond wide 256 128
+
+wide-or-not : (wide : Bool) → (bits wide ≡ 128) ⊎ (bits wide ≡ 256)
+wide-or-not true = inr refl
+wide-or-not false = inl refl
+
+named-sets : (chosen : Choices) (o : Option Keyed) → chosen.group ≡ o → is_some o ≡ true
+    → AreChosen chosen → HasSetting chosen
+named-sets chosen None is there are = absurd (cc there)
+named-sets chosen (Some named) is there are =
+    let proper = are.group named is in
+    let same : unwrap_or chosen.group unkeyed ≡ named =
+    ap (λ (o : Option Keyed). unwrap_or o unkeyed) is in
+    record {
+      cak = subst (λ (g : Keyed). IsSecret g.cak) (sym same) proper.0;
+      ckn = subst (λ (g : Keyed). IsCkn g.ckn) (sym same) proper.1;
+      name_octets = subst (λ (g : Keyed). AreOctets g.ckn) (sym same) proper.2;
+      window = are.window;
+      rekey = are.rekey;
+      suite = wide-or-not (unwrap_or chosen.wide false);
+    }
+
+-- ---- worlds between lines
+
+-- a tidy world, in which at most so many user frames were sent
+record IsReady (n : ℕ) (w : World) : Type 0 where
+  users : length w.kept.users ≤ n
+  chosen : AreChosen w.kept.chosen
+  keyed : w.kept.begun ≡ true → is_some w.kept.chosen.group ≡ true
+  bounded : AreBounded (settings w) w.run
+  tidy : IsTidy w
+
+ready-first : IsReady 0 beginning
+ready-first = record {
+  users = omega arith;
+  chosen = chosen-first;
+  keyed = λ e. absurd (cc e);
+  bounded = bounded-first (settings beginning);
+  tidy = tidy-beginning;
+}
+
+opened : (n : ℕ) (w : World) → IsReady n w → w.kept.begun ≡ true → IsOpen (suc n) w.kept.chosen w
+opened n w ready begun = record {
+  same = refl;
+  users = let few = ready.users in omega (arith, few);
+  begun = begun;
+  bounded = ready.bounded;
+  tidy = ready.tidy;
+}
+
+ready-again : (n : ℕ) (chosen : Choices) (w : World) → AreChosen chosen
+    → is_some chosen.group ≡ true → IsOpen n chosen w → IsReady n w
+ready-again n chosen w are keyed now = record {
+  users = now.users;
+  chosen = subst (λ (c : Choices). AreChosen c) (sym now.same) are;
+  keyed = λ begun. subst (λ (c : Choices). is_some c.group ≡ true) (sym now.same) keyed;
+  bounded = now.bounded;
+  tidy = now.tidy;
+}
+
+-- ---- lines
+
+not-begun : (a b : Bool) → (not a && b) ≡ true → a ≡ false
+not-begun true b e = absurd (cc e)
+not-begun false b e = refl
+
+-- before the first station a line chooses something
+chosen-ready : (n : ℕ) (line : Line) (b : Bool) (w : World) → IsInForm line → IsReady n w
+    → (not w.kept.begun && b) ≡ true
+    → IsTidy (record w { kept = record w.kept { chosen = chosen_by line w.kept.chosen } })
+    → IsReady (suc n) (record w { kept = record w.kept { chosen = chosen_by line w.kept.chosen } })
+chosen-ready n line b w form ready allowed tidy =
+    let before : w.kept.begun ≡ false = not-begun w.kept.begun b allowed in
+    let later = settings_of (chosen_by line w.kept.chosen) in
+    record {
+      users = let few = ready.users in omega (arith, few);
+      chosen = chosen-stays line form w.kept.chosen ready.chosen;
+      keyed = λ begun. absurd (let bad : true ≡ false = sym begun ∙ before in cc bad);
+      bounded = subst (λ r. AreBounded later r) (sym (ready.tidy.waits before))
+          (bounded-first later);
+      tidy = tidy;
+    }
+
+-- after the first station a mild act is performed
+mild-ready : (n : ℕ) (act : Act) (w : World) → suc n < 2 ^ 32 → IsMild (suc n) act → IsReady n w
+    → w.kept.begun ≡ true → Comes act w → IsReady (suc n) (world_of (perform act w))
+mild-ready n act w below mild ready begun comes =
+    let keyed = ready.keyed begun in
+    let setting = named-sets w.kept.chosen w.kept.chosen.group refl keyed ready.chosen in
+    ready-again (suc n) w.kept.chosen (world_of (perform act w)) ready.chosen keyed
+    (stays-open (suc n) w.kept.chosen below setting act w mild (opened n w ready begun) comes)
+
+-- the first station, or another one, starts
+station-ready : (n : ℕ) (act : Act) (w : World) → suc n < 2 ^ 32
+    → IsMild (suc n) act → IsReady n w → is_some w.kept.chosen.group ≡ true
+    → IsTidy (record w { kept = record w.kept { begun = true } })
+    → Comes act (record w { kept = record w.kept { begun = true } })
+    → IsReady (suc n) (world_of (perform act (record w { kept = record w.kept { begun = true } })))
+station-ready n act w below mild ready keyed tidy comes =
+    mild-ready n act (record w { kept = record w.kept { begun = true } }) below mild
+    (record {
+      users = ready.users;
+      chosen = ready.chosen;
+      keyed = λ begun. keyed;
+      bounded = ready.bounded;
+      tidy = tidy;
+    }) refl comes
+
+-- a user frame is added, and sent
+send-ready : (n s : ℕ) (user : UserFrame) (w : World) → suc n < 2 ^ 32 → IsReady n w
+    → w.kept.begun ≡ true
+    → IsTidy (record w { kept = record w.kept { users = w.kept.users ++ user ∷ [] } })
+    → Comes (send s) (record w { kept = record w.kept { users = w.kept.users ++ user ∷ [] } })
+    → IsReady (suc n) (world_of (perform (send s)
+    (record w { kept = record w.kept { users = w.kept.users ++ user ∷ [] } })))
+send-ready n s user w below ready begun tidy comes =
+    let v : World = record w { kept = record w.kept { users = w.kept.users ++ user ∷ [] } } in
+    let keyed = ready.keyed begun in
+    let setting = named-sets w.kept.chosen w.kept.chosen.group refl keyed ready.chosen in
+    let now : IsOpen (suc n) w.kept.chosen v = record {
+      same = refl;
+      users = let one = length-append w.kept.users (user ∷ []) in
+          let few = ready.users in omega (arith, one, few);
+      begun = begun;
+      bounded = ready.bounded;
+      tidy = tidy;
+    } in
+    ready-again (suc n) w.kept.chosen (world_of (perform (send s) v)) ready.chosen keyed
+    (stays-open (suc n) w.kept.chosen below setting (send s) v (mild-send (suc n) s) now comes)
+
+-- what a line performs that isn't refused leaves such a world
+deed-ready : (n : ℕ) (line : Line) (w : World) → suc n < 2 ^ 32 → IsInForm line → IsReady n w
+    → IsRight line w → Comes (deed line w) w
+    → IsReady (suc n) (world_of (perform (deed line w) w))
+deed-ready n lines.DrawsCount w below form ready right comes =
+    chosen-ready n lines.DrawsCount (is_none w.kept.chosen.draws) w form ready right.allowed comes
+deed-ready n (lines.DrawsChaCha key) w below form ready right comes =
+    chosen-ready n (lines.DrawsChaCha key) (is_none w.kept.chosen.draws) w form ready right.allowed
+    comes
+deed-ready n (lines.DrawsList values) w below form ready right comes =
+    chosen-ready n (lines.DrawsList values) (may_list w.kept.chosen.draws) w form ready
+    right.allowed comes
+deed-ready n (lines.Conf conf) w below form ready right comes =
+    chosen-ready n (lines.Conf conf) (is_none w.kept.chosen.conf) w form ready right.allowed comes
+deed-ready n (lines.Window window) w below form ready right comes =
+    chosen-ready n (lines.Window window) (is_none w.kept.chosen.window) w form ready right.allowed
+    comes
+deed-ready n (lines.Rekey rekey) w below form ready right comes =
+    chosen-ready n (lines.Rekey rekey) (is_none w.kept.chosen.rekey) w form ready right.allowed
+    comes
+deed-ready n (lines.Lag lag) w below form ready right comes =
+    chosen-ready n (lines.Lag lag) (is_none w.kept.chosen.lag) w form ready right.allowed comes
+deed-ready n (lines.Suite suite) w below form ready right comes =
+    chosen-ready n (lines.Suite suite) (is_none w.kept.chosen.wide) w form ready right.allowed comes
+deed-ready n (lines.Group cak ckn) w below form ready right comes =
+    chosen-ready n (lines.Group cak ckn) (is_none w.kept.chosen.group) w form ready right.allowed
+    comes
+deed-ready n (lines.Station name sci priority) w below form ready right comes =
+    let small : priority ≤ 255 = form.fits.1.1.0.1 in
+    let typed : IsTyped (Start name sci priority) = (
+      form.fits.0,
+      record { count = form.fits.1.0.0; octets = bytes-all sci.0 form.fits.1.0.1 },
+      omega (arith, small),
+    ) in
+    station-ready n (happen (Start name sci priority)) w below typed ready right.allowed
+    comes.0 (comes.1 comes.0)
+deed-ready n (lines.Tick rounds) w below form ready right comes =
+    mild-ready n (times rounds round) w below
+    (mild-rounds (suc n) rounds) ready right.allowed comes
+deed-ready n (lines.TickOne name ticks) w below form ready right comes =
+    mild-ready n (times ticks (tick (place w name))) w below
+    (mild-ticks (suc n) (place w name) ticks) ready right.allowed comes
+deed-ready n (lines.Flow rounds) w below form ready right comes =
+    mild-ready n (times rounds flow_round) w below
+    (mild-flow (suc n) rounds) ready right.allowed comes
+deed-ready n (lines.Deliver frame name) w below form ready right comes =
+    mild-ready n (happen (Deliver frame (place w name))) w below tt ready right.allowed comes
+deed-ready n (lines.Spread frame) w below form ready right comes =
+    mild-ready n (spread frame) w below (mild-spread (suc n) frame) ready right.allowed comes
+deed-ready n (lines.Lose frame) w below form ready right comes =
+    mild-ready n (change (mark frame)) w below
+    (mild-mark (suc n) frame) ready right.allowed comes
+deed-ready n (lines.Cut from to) w below form ready right comes =
+    mild-ready n (link_cut (place w from) (place w to)) w below
+    (λ kept. record { chosen = refl; users = refl; begun = refl }) ready
+    right.allowed comes
+deed-ready n (lines.Mend from to) w below form ready right comes =
+    mild-ready n (link_mended (place w from) (place w to)) w below
+    (λ kept. record { chosen = refl; users = refl; begun = refl }) ready
+    right.allowed comes
+deed-ready n (lines.Restart name) w below form ready right comes =
+    mild-ready n (happen (Restart (place w name))) w below tt ready right.allowed comes
+deed-ready n (lines.Send name destination body) w below form ready right comes =
+    send-ready n (place w name) (record { destination = destination; body = body }) w below ready
+    right.allowed comes.0 (comes.1 comes.0)
+deed-ready n (lines.Inject name octets) w below form ready right comes =
+    mild-ready n (happen (Inject (place w name) octets)) w below
+    (bytes-all octets form.fits.1.0.2) ready right.allowed comes
+deed-ready n line w below form ready right comes =
+    mild-ready n (deed line w) w below
+    (λ kept. record { chosen = refl; users = refl; begun = refl }) ready
+    right.allowed comes
+
+more-ready : (n : ℕ) (w : World) → IsReady n w → IsReady (suc n) w
+more-ready n w ready = record {
+  users = let few = ready.users in omega (arith, few);
+  chosen = ready.chosen;
+  keyed = ready.keyed;
+  bounded = ready.bounded;
+  tidy = ready.tidy;
+}
+
+-- what is refused leaves the world as it was
+unless-ready : (n : ℕ) (o : Option Kind) (act : Act) (w : World) → IsReady n w
+    → (o ≡ None → IsReady (suc n) (world_of (perform act w)))
+    → IsReady (suc n) (world_of (perform (unless_refused o act) w))
+unless-ready n None act w ready goes = goes refl
+unless-ready n (Some kind) act w ready goes = more-ready n w ready
+
+said-ready : (n : ℕ) (text : List ℕ) (said : Result (Option Line) TextFault) (w : World)
+    → suc n < 2 ^ 32 → IsReady n w → line_in text ≡ said
+    → IsReady (suc n) (world_of (perform (unless_refused (refusal_read said w) (deed_read said w))
+    w))
+said-ready n text (Ok (Some line)) w below ready is =
+    let form = read_fits text line is in
+    unless-ready n (refusal line w) (deed line w) w ready
+    (λ none. let right = is-right line w none in
+    deed-ready n line w below form ready right (deed-comes line form w ready.tidy right))
+said-ready n text (Ok None) w below ready is = more-ready n w ready
+said-ready n text (Err fault) w below ready is = more-ready n w ready
+
+-- a text leaves such a world
+text-ready : (n : ℕ) (text : List ℕ) (w : World) → suc n < 2 ^ 32 → IsReady n w
+    → IsReady (suc n) (world_of (perform (performed text) w))
+text-ready n text w below ready =
+    let kept : Kept = record w.kept { line = w.kept.line + 1 } in
+    said-ready n text (line_in text) (record w { kept = kept }) below
+    (record {
+      users = ready.users;
+      chosen = ready.chosen;
+      keyed = ready.keyed;
+      bounded = ready.bounded;
+      tidy = tidy-same w kept ready.tidy refl refl refl (λ e. e);
+    }) refl
+
+then-tidy : (n : ℕ) (out : Outcome) (later : Act) → IsReady n (world_of out)
+    → ((v : World) → IsReady n v → IsTidy (world_of (perform later v)))
+    → IsTidy (world_of (and_then out (λ v. perform later v)))
+then-tidy n (Goes v) later ready next = next v ready
+then-tidy n (Stops v halt) later ready next = ready.tidy
+
+texts-tidy : (n : ℕ) (texts : List (List ℕ)) (w : World) → n + length texts < 2 ^ 32
+    → IsReady n w → IsTidy (world_of (perform (performed_all texts) w))
+texts-tidy n [] w below ready = ready.tidy
+texts-tidy n (text ∷ texts) w below ready =
+    then-tidy (suc n) (perform (performed text) w) (performed_all texts)
+    (text-ready n text w (omega (arith, below)) ready)
+    (λ v later. texts-tidy (suc n) texts v (omega (arith, below)) later)
+
+-- fewer than 2^32 lines leave a tidy world
+pub lines-tidy : (texts : List (List ℕ)) → length texts < 2 ^ 32
+    → IsTidy (world_of (outcome texts))
+lines-tidy texts below = texts-tidy 0 texts beginning (omega (arith, below)) ready-first
+
+-- ---- the lines of a text
+
+either-few : (b : Bool) (line : List ℕ) (first later : List (List ℕ)) (n : ℕ)
+    → length first ≤ n → length later ≤ n → length (cond b (line ∷ first) later) ≤ suc n
+either-few true line first later n few more = omega (arith, few)
+either-few false line first later n few more = omega (arith, more)
+
+ended-few : (begun text : List ℕ) → length (ended begun text) ≤ length text
+ended-few begun [] = omega arith
+ended-few begun (x ∷ text) =
+    either-few (x == 10) (without_return begun) (ended [] text) (ended (begun ++ x ∷ []) text)
+    (length text) (ended-few [] text) (ended-few (begun ++ x ∷ []) text)
+
+last-few : (octets : List ℕ) → length (last_line octets) ≤ 1
+last-few [] = omega arith
+last-few (x ∷ octets) = omega arith
+
+all-few : (text : List ℕ) → length (lines_of text) ≤ length text + 1
+all-few text =
+    let both = length-append (whole_lines text) (last_line (open_line [] text)) in
+    let first = ended-few [] text in
+    let last = last-few (open_line [] text) in
+    omega (arith, both, first, last)
+
+at-most : (a b : ℕ) → nat_le a b ≡ true → a ≤ b
+at-most a b e = grind arith
+
+above : (a b : ℕ) → nat_le a b ≡ false → b ≤ a
+above a b e = grind arith
+
+within-few : (text : List ℕ) (b : Bool) → nat_le (length text) most_input ≡ b
+    → length (cond b (lines_of text) (whole_lines (take most_input text))) < 2 ^ 32
+within-few text true is =
+    let most = at-most (length text) most_input is in
+    let few = all-few text in
+    omega (arith, most, few)
+within-few text false is =
+    let few = ended-few [] (take most_input text) in
+    let most = length-take-le most_input text (above (length text) most_input is) in
+    omega (arith, few, most)
+
+-- so do the lines of a text within the limit
+pub text-tidy : (text : List ℕ) → IsTidy (world_of (outcome (lines_within text)))
+text-tidy text =
+    lines-tidy (lines_within text) (within-few text (nat_le (length text) most_input) refl)
