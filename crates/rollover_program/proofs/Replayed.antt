@@ -1,6 +1,6 @@
 -- How the program ends after a trace was performed for its transcript.
-use Rattle.std.proofs.Common.{◌≡◌, ℕ, ◌<◌, ◌≤◌, true, false, List, [], length, refl, sym, ap, subst}
-use Rattle.std.proofs.Common.{inl, inr, arith}
+use Rattle.std.proofs.Common.{◌≡◌, ℕ, ◌<◌, ◌≤◌, true, false, List, [], length, Option, refl, sym, ap}
+use Rattle.std.proofs.Common.{subst, inl, inr, arith}
 use Rattle.std.specs.Prelude.{◌≢◌, ◌⊎◌, nat_le, take, Some, Ok, Err}
 use Rattle.std.proofs.lemmas.Bool.Decides.{nat_tests}
 use Rattle.lan_base.specs.Faults.{Rose}
@@ -15,12 +15,15 @@ use Rattle.lan_schedule.specs.declared.halt.Halt.TheVariants as halts
 use Rattle.lan_schedule.specs.declared.halt.Kind.{Kind}
 use Rattle.lan_schedule.specs.Texts.{whole_lines, lines_of}
 use Rattle.lan_schedule.specs.World.{World, settings}
-use Rattle.lan_schedule.specs.Acts.{Goes}
+use Rattle.lan_schedule.specs.Acts.{Goes, world_of}
+use Rattle.lan_schedule.specs.Sound.{IsSound}
 use Rattle.lan_schedule.specs.Ends.{Sunk, IsShown, IsStopped, HoldsFront, text_of}
 use Rattle.lan_schedule.specs.Trace.{outcome, lines_within, most_input, WerePerformed, Sourced}
 use Rattle.lan_schedule.specs.Trace.{IsReplayed}
+use Rattle.lan_schedule.proofs.EachLine.{text-tidy}
 use Rattle.rollover_program.specs.declared.status.Status.TheVariants.{Done, Usage, Halted}
-use Rattle.rollover_program.specs.Headline.{IsTranscribed, IsPerformed, IsStoppedBy}
+use Rattle.rollover_program.specs.Headline.{IsPromised, IsTranscribed, IsPerformed, IsStoppedBy}
+use Rattle.rollover_program.specs.Headline.{IsCutShort}
 use Rattle.rollover_program.specs.Ending.{status_after, status_within}
 use Rattle.rollover_program.specs.inside.Answering.{Answer, status_of}
 
@@ -34,18 +37,20 @@ pub never_usage : (r : Answer) (P : Type 0) → status_of r ≡ Usage → P
 never_usage (Ok done) P e = absurd cc
 never_usage (Err halt) P e = absurd cc
 
-transcribed : (base now : Sunk) (w : World) → IsShown base w now
-    → IsTranscribed w base.held now.held
-transcribed base now w shown =
-    let s = shown.tidy.sound in
+promised : (w : World) → IsSound (settings w) w.kept.users w.run → IsPromised w
+promised w s =
     let k = known (settings w) w.kept.users w.run s.legal.stepped s.unforged in
     record {
       sound = s;
       once = run-once (settings w) w.kept.users w.run k s.fresh;
       one_key = run-one_key (settings w) w.kept.users w.run k s.fresh;
       hitless = run-hitless (settings w) w.kept.users w.run s.legal.stepped s.unforged s.fresh;
-      rendered = shown.written;
     }
+
+transcribed : (base now : Sunk) (w : World) → IsShown base w now
+    → IsTranscribed w base.held now.held
+transcribed base now w shown =
+    record { promised = promised w shown.tidy.sound; rendered = shown.written }
 
 performed : (lines : List (List ℕ)) (old new : Sunk) → WerePerformed lines old new
     → IsPerformed lines old.held new.held
@@ -135,14 +140,25 @@ read_fault text left now old new r replayed e =
     let says = halt_says text left now old new r halts.ReadFault replayed e in
     (says.1.0, says.1.1, performed (whole_lines says.1.0) old new says.1.2)
 
+-- the run that a text makes is promised so much, and a front of it was taken
+pub cut_short : (text : List ℕ) (old new : Option (List ℕ))
+    → HoldsFront old new (text_of (outcome (lines_within text)))
+    → IsCutShort (lines_within text) old new
+cut_short text old new holds = record {
+  promised = promised (world_of (outcome (lines_within text))) (text-tidy text).sound;
+  rendered = holds;
+}
+
 pub front : (text : List ℕ) (left now : Sourced) (old new : Sunk) (r : Answer)
     → IsReplayed text left now old new r
     → (status_of r ≡ Halted halts.WriteFault) ⊎ (status_of r ≡ Halted halts.Memory)
-    → HoldsFront old.held new.held (text_of (outcome (lines_within text)))
+    → IsCutShort (lines_within text) old.held new.held
 front text left now old new r replayed (inl e) =
+    cut_short text old.held new.held
     (halt_says text left now old new r halts.WriteFault replayed e).1
 front text left now old new r replayed (inr e) =
-    halt_says text left now old new r halts.Memory replayed e
+    cut_short text old.held new.held
+    (halt_says text left now old new r halts.Memory replayed e)
 
 -- the status is what performing the text leaves, or memory was wanting
 abbrev pub IsComplete : List ℕ → Answer → Type 0

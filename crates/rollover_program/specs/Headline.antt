@@ -6,20 +6,28 @@ use Rattle.group_safety.specs.Hitless.{Hitless}
 use Rattle.lan_schedule.specs.declared.halt.Halt.{Halt}
 use Rattle.lan_schedule.specs.World.{World, settings}
 use Rattle.lan_schedule.specs.Sound.{IsSound}
-use Rattle.lan_schedule.specs.Acts.{Goes, Stops}
-use Rattle.lan_schedule.specs.Ends.{written}
+use Rattle.lan_schedule.specs.Acts.{Goes, Stops, world_of}
+use Rattle.lan_schedule.specs.Ends.{HoldsFront, written}
 use Rattle.lan_schedule.specs.Trace.{outcome}
 
 -- The run of a world is legal, what was drawn in it differs, nothing in it was forged, and few
 -- packet numbers are left out. No packet number is used twice under a key, and no key identifier
--- names two keys. In every steady rollover each frame that is delivered in time is found. The sink
--- took the run's whole transcript.
-pub record IsTranscribed (w : World) (old new : Option (List ℕ)) : Type 0 where
+-- names two keys. In every steady rollover each frame that is delivered in time is found.
+pub record IsPromised (w : World) : Type 0 where
   pub sound : IsSound (settings w) w.kept.users w.run
   pub once : Once w.run
   pub one_key : OneKey w.run
   pub hitless : Hitless (settings w) w.run
+
+-- the sink took the whole transcript of such a run
+pub record IsTranscribed (w : World) (old new : Option (List ℕ)) : Type 0 where
+  pub promised : IsPromised w
   pub rendered : new ≡ after old (written w.run)
+
+-- the sink took a front of the transcript of such a run
+pub record IsTranscribedInPart (w : World) (old new : Option (List ℕ)) : Type 0 where
+  pub promised : IsPromised w
+  pub rendered : HoldsFront old new (written w.run)
 
 -- these lines are performed to the end of the last
 abbrev pub IsPerformed : List (List ℕ) → Option (List ℕ) → Option (List ℕ) → Type 0
@@ -29,3 +37,7 @@ IsPerformed lines old new = (w : World) × (outcome lines ≡ Goes w) × IsTrans
 abbrev pub IsStoppedBy : Halt → List (List ℕ) → Option (List ℕ) → Option (List ℕ) → Type 0
 IsStoppedBy halt lines old new =
     (w : World) × (outcome lines ≡ Stops w halt) × IsTranscribed w old new
+
+-- performing these lines, to the end or to where they stop, makes a run of which a front was taken
+abbrev pub IsCutShort : List (List ℕ) → Option (List ℕ) → Option (List ℕ) → Type 0
+IsCutShort lines old new = IsTranscribedInPart (world_of (outcome lines)) old new

@@ -10,12 +10,12 @@ ghost use Rattle.lan_core.specs.declared.stop.Which.TheVariants.{Input};
 ghost use Rattle.lan_schedule.specs.declared.halt.Halt.TheVariants as halts;
 ghost use Rattle.lan_schedule.specs.declared.halt.Kind.{Kind};
 ghost use Rattle.lan_schedule.specs.Texts.{whole_lines, lines_of};
-ghost use Rattle.lan_schedule.specs.Ends.{HoldsFront, sunk, text_of};
-ghost use Rattle.lan_schedule.specs.Trace.{outcome, lines_within, most_input, sourced};
+ghost use Rattle.lan_schedule.specs.Ends.{sunk};
+ghost use Rattle.lan_schedule.specs.Trace.{lines_within, most_input, sourced};
 ghost use Rattle.rollover_program.specs.declared.words.Order.{Order};
 ghost use Rattle.rollover_program.specs.declared.words.Order.TheVariants as orders;
 ghost use Rattle.rollover_program.specs.Words.{IsNumbered, IsUsage, Orders, words_of};
-ghost use Rattle.rollover_program.specs.Headline.{IsPerformed, IsStoppedBy};
+ghost use Rattle.rollover_program.specs.Headline.{IsCutShort, IsPerformed, IsStoppedBy};
 ghost use Rattle.rollover_program.specs.Ending.{EndsMade, EndsSummarized, EndsTried, status_within};
 ghost use Rattle.rollover_program.specs.inside.Answering.{status_of, status_of_refusal};
 
@@ -101,11 +101,12 @@ pub fn rollover<S: Source, K: Sink>(
         → (taken : List ℕ) × (S.left source.old ≡ before taken (S.left source.new))
         × IsPerformed (whole_lines taken) (K.held sink.old) (K.held sink.new) }
 
-    // A fault of the sink, and want of memory, leave a front of the transcript.
+    // A fault of the sink, and want of memory, leave a front of the transcript of the run that
+    // performing the text makes.
     ensures front { (text : List ℕ) → Orders (map string_bytes words.now) (orders.Run false)
         → S.left source.old ≡ Some text
         → (result ≡ Status.Halted halts.WriteFault) ⊎ (result ≡ Status.Halted halts.Memory)
-        → HoldsFront (K.held sink.old) (K.held sink.new) (text_of (outcome (lines_within text))) }
+        → IsCutShort (lines_within text) (K.held sink.old) (K.held sink.new) }
 
     // `run --summary`, `make N` and `try N`, whatever the end.
     ensures summary { (text : List ℕ) → Orders (map string_bytes words.now) (orders.Run true)

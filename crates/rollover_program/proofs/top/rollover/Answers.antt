@@ -8,6 +8,7 @@ use Rattle.rollover_program.proofs.Refused.{plain_orders, either, usage_only, no
 use Rattle.rollover_program.proofs.Refused.{memory, summarized, made_nothing, tried_nothing}
 use Rattle.rollover_program.proofs.Replayed.{halted, never_usage, done, read, trace, limit}
 use Rattle.rollover_program.proofs.Replayed.{repeated_draw, forged, input, read_fault, front}
+use Rattle.rollover_program.proofs.Replayed.{cut_short}
 use Rattle.rollover_program.proofs.Summarized.{as_asked, either_order, no_front, complete_run}
 use Rattle.rollover_program.proofs.Summarized.{complete_make, complete_try}
 use Rattle.rollover_program.proofs.top.rollover.Goals as goal
@@ -185,7 +186,7 @@ returns-in-Err-clause-read_fault g c = λ text asked told e.
 
 pub returns-in-Err-clause-front : goal.returns-in-Err-clause-front
 returns-in-Err-clause-front g c = λ text asked told e.
-    no_front _ _
+    cut_short text _ _ (no_front _ _)
 
 pub returns-in-Err-clause-summary : goal.returns-in-Err-clause-summary
 returns-in-Err-clause-summary g c = λ text asked told.
