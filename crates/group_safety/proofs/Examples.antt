@@ -1,6 +1,6 @@
 -- A run that meets the premises of the laws: two stations, three lives, two keys and two claims.
 -- And what the definitions say of it, and of a run in which a packet number is used twice.
-use Rattle.std.proofs.Common.{◌≡◌, ◌≢◌, refl, inl, inr, ap, ℕ, List, [], ◌∷◌, Some, arith}
+use Rattle.std.proofs.Common.{◌≡◌, ◌≢◌, refl, ap, ℕ, List, [], ◌∷◌, Some, arith}
 use Rattle.std.proofs.lemmas.List.Elements.{All-nil, All-cons}
 use Rattle.std.specs.Prelude.{slice_index}
 use Rattle.lan_base.specs.declared.address.Sci.{Sci}
@@ -22,6 +22,7 @@ use Rattle.lan_core.specs.Lives.{receiving}
 use Rattle.lan_core.specs.Legal.{IsLegal, none_ahead}
 use Rattle.lan_core.specs.Fresh.{IsFresh, IsUnforged, drawn_saks}
 use Rattle.group_safety.specs.Once.{sak_of, sci_of, Once, OneKey, Drawn, makes}
+use Rattle.group_safety.proofs.Members.{contains-in}
 use Rattle.group_safety.proofs.once.StartKept.{begins}
 use Rattle.group_safety.proofs.once.RunLaws.{known, run-once, run-one_key, run-drawn}
 use Rattle.group_safety.proofs.example.Scene.{settings, Lives, with_one_life, Scene}
@@ -189,7 +190,7 @@ another = happened (events.Deliver 3 1) (facts.Installed 1 (id 1) 0 1 (sak 2) �
 two_under_one : ¬ (OneKey another)
 unfolding installs
 two_under_one one =
-    let same : sak 2 ≡ sak 1 = (one _ _ (inl refl) (inr (inl refl)) refl).0 in
+    let same : sak 2 ≡ sak 1 = (one _ _ (0, omega arith, refl) (1, omega arith, refl) refl).0 in
     saks_differ 2 1 (λ e. omega (arith, e)) (ap secret_octets same)
 
 -- a station installs a key that nobody made
@@ -198,4 +199,5 @@ from_nowhere = happened (events.Deliver 3 1) (facts.Installed 1 (id 1) 0 1 (sak 
 
 never_made : ¬ (Drawn from_nowhere)
 unfolding installs makes
-never_made drawn = elim (drawn _ (inl refl)).1.made_there [ ]
+never_made drawn =
+    elim (contains-in (makes from_nowhere) _ (drawn _ (0, omega arith, refl)).1.made_there) [ ]

@@ -1,5 +1,6 @@
 pub mod counting
 mod summary
+pub mod Members
 pub mod once
 pub mod rollover
 pub mod example

@@ -1,8 +1,8 @@
 -- A run that has a steady rollover with a keeper, and a frame in time: the laws on hitless rollover
 -- speak of it. And what is no steady rollover, or not in time.
-use Rattle.std.proofs.Common.{zero}
-use Rattle.std.proofs.Common.{◌≡◌, ◌<◌, ◌≤◌, ◌+◌, refl, sym, ap, inl, inr, ◌∙◌, ℕ, suc, List, []}
+use Rattle.std.proofs.Common.{◌≡◌, ◌<◌, ◌≤◌, ◌+◌, refl, sym, ap, inl, inr, ◌∙◌, ℕ, zero, suc, List, []}
 use Rattle.std.proofs.Common.{subst, ◌∷◌, ◌++◌, true, false, None, Some, is_some, option_map, arith}
+use Rattle.std.specs.Prelude.{Contains}
 use Rattle.lan_base.specs.declared.key_id.KeyId.{KeyId}
 use Rattle.mkpdu_codec.specs.declared.announcement.Announcement.{Announcement}
 use Rattle.peer_lists.specs.Acceptance.{Accepted}
@@ -21,16 +21,15 @@ use Rattle.lan_core.specs.Lives.{Life, life, setup_of, transmitting_at}
 use Rattle.lan_core.specs.Claims.{claimed}
 use Rattle.lan_core.specs.Legal.{IsLegal, none_ahead, with_ahead}
 use Rattle.lan_core.specs.Fresh.{IsFresh, IsUnforged, drawn_saks}
-use Rattle.group_safety.specs.Once.{In}
 use Rattle.group_safety.specs.Moments.{upto}
 use Rattle.group_safety.specs.Rounds.{pace, rounds}
 use Rattle.group_safety.specs.Stations.{mi_at, mi_of, keys_at, keys_of_life, server_at, server_of}
 use Rattle.group_safety.specs.Steady.{Begins, IsUnbroken, Trusts, IsListener}
 use Rattle.group_safety.specs.Steady.{IsKeeper, IsSteady}
 use Rattle.group_safety.specs.Time.{IsFlight, IsInTime, IsFound}
+use Rattle.group_safety.proofs.Members.{In, contains-in, by_sum}
 use Rattle.group_safety.proofs.rollover.Found.{run-hitless}
 use Rattle.group_safety.proofs.once.Currents.{some-same}
-use Rattle.group_safety.proofs.rollover.Members.{by_sum}
 use Rattle.group_safety.proofs.example.Scene.{settings, IsGood, Lives, Scene}
 use Rattle.group_safety.proofs.example.Run.{mi, alice, bob, users, id, sak, frames, a1, b1, a2, b2}
 use Rattle.group_safety.proofs.example.Run.{a3}
@@ -438,12 +437,13 @@ is_bob : (t sent : ℕ) (says : Accepted) → IsListener settings run 19 0 t sen
     → (t ≡ 1) × (sent ≡ 17)
 is_bob t sent says l =
     let lives : Some l.server_life ≡ Some (l20 0) = sym l.living ∙ alice_20 in
-    let here = subst (λ (w : Life). In says (live_words w.member (peers_of w.member w.past)))
+    let here = subst (λ (w : Life). Contains (live_words w.member (peers_of w.member w.past)) says)
     (some-same lives) l.live in
-    let only = subst (In says) words here in
-    let same : says ≡ word = by_sum only (λ e. e) (λ i. elim i [ ]) in
+    let only = subst (λ ws. Contains ws says) words here in
+    let same : says ≡ word = by_sum (contains-in (word ∷ []) says only) (λ e. e) (λ i. elim i [ ]) in
     each-at IsFourth run fourth sent l.sends.event l.sends.at l.sends.within l.sends.number
-    t l.sends.octets l.sends.profile l.announcement l.sends.fact l.sends.spelled
+    t l.sends.octets l.sends.profile l.announcement
+    (contains-in l.sends.event.facts _ l.sends.fact) l.sends.spelled
     (l.mi ∙ ap (λ (w : Accepted). w.told.mi) same) (l.mn ∙ ap (λ (w : Accepted). w.told.mn) same)
 
 listens : IsListener settings run 19 0 1 17 word
@@ -451,7 +451,7 @@ unfolding upto stations
 listens = record {
   server_life = l20 0;
   living = alice_20;
-  live = subst (In word) (sym words) (inl refl);
+  live = subst (λ ws. Contains ws word) (sym words) (0, omega arith, refl);
   announcement = e4;
   sends = record {
     event = _;
@@ -459,9 +459,9 @@ listens = record {
     within = omega arith;
     number = 8;
     octets = _;
-    fact = inr (inl refl);
+    fact = (1, omega arith, refl);
     profile = bob;
-    here = inr (inl refl);
+    here = (1, omega arith, refl);
     spelled = good-spelled bob bob e4 good_e4;
   };
   mi = refl;
@@ -511,7 +511,7 @@ his_beginning = record {
   within = omega arith;
   an = 1;
   epoch = 2;
-  fact = inr (inl refl);
+  fact = (1, omega arith, refl);
 }
 
 -- ---- the rollover
@@ -529,7 +529,7 @@ steady = record {
     within = omega arith;
     an = 1;
     epoch = 2;
-    fact = inr (inl refl);
+    fact = (1, omega arith, refl);
   };
   old_held = ap (λ o. option_map (λ k. k.id) (old (keys_of_life o))) alice_20 ∙ held;
   makes = record {
@@ -541,7 +541,7 @@ steady = record {
     an = 1;
     epoch = 2;
     sak = sak 2;
-    fact = inr (inl refl);
+    fact = (1, omega arith, refl);
   };
   order = omega arith;
   unbroken = unbroken 0 12;
@@ -554,10 +554,10 @@ steady = record {
   lag_short = omega arith;
   follow = λ t sent says k x cause begins.
       let b = is_bob t sent says k.listener in
-      let fact = subst (λ u. In (facts.Began u (id 2) begins.an begins.epoch cause)
-      begins.event.facts) b.0 begins.fact in
+      let fact = subst (λ u. Contains begins.event.facts
+      (facts.Began u (id 2) begins.an begins.epoch cause)) b.0 begins.fact in
       each-at Follows run each_follows x begins.event begins.at begins.within begins.an
-      begins.epoch cause fact;
+      begins.epoch cause (contains-in begins.event.facts _ fact);
   begun = λ t sent says k late.
       let b = is_bob t sent says k.listener in rw b.0 (23, flagged, his_beginning);
 }
@@ -577,7 +577,7 @@ flight = record {
     event = _;
     at = refl;
     within = omega arith;
-    fact = inl refl;
+    fact = (0, omega arith, refl);
     sends = ap (transmitting_at settings 1) first_21 ∙ transmits v21;
   };
   its_frame = record {
@@ -587,7 +587,7 @@ flight = record {
     within = omega arith;
     station = 1;
     octets = carried;
-    fact = inl refl;
+    fact = (0, omega arith, refl);
     place = refl;
   };
   event = scene.arrives;
@@ -691,7 +691,7 @@ unfolding upto stations missed rounds_on
 missed_listens = record {
   server_life = l20 0;
   living = ap (life settings 0) missed_20 ∙ v20.living 0 (omega arith);
-  live = subst (In word) (sym words) (inl refl);
+  live = subst (λ ws. Contains ws word) (sym words) (0, omega arith, refl);
   announcement = e4;
   sends = record {
     event = _;
@@ -699,9 +699,9 @@ missed_listens = record {
     within = omega arith;
     number = 8;
     octets = _;
-    fact = inr (inl refl);
+    fact = (1, omega arith, refl);
     profile = bob;
-    here = inr (inl refl);
+    here = (1, omega arith, refl);
     spelled = good-spelled bob bob e4 good_e4;
   };
   mi = refl;
@@ -729,4 +729,4 @@ not_steady_where_a_flag_is_missed s =
     (omega (arith, missed_in, missed_begun_in)) in
     let t = b.2 in
     none-begins t.event (each-at IsNoBeginning missed never_begins b.0 t.event t.at t.within)
-    t.an t.epoch b.1 t.fact
+    t.an t.epoch b.1 (contains-in t.event.facts _ t.fact)

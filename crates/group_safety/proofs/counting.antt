@@ -1,12 +1,12 @@
 -- One fact more raises the counts of its kind.
-use Rattle.std.proofs.Common.{◌≡◌, ◌∙◌, ℕ, ◌+◌, ◌-◌, ◌^◌, Bool, true, false, min, cond, refl, ap}
+use Rattle.std.proofs.Common.{◌≡◌, ◌∙◌, ℕ, ◌+◌, Bool, true, false, min, cond, refl, ap}
 use Rattle.std.proofs.Common.{List, [], ◌∷◌, ◌++◌, arith}
 use Rattle.std.proofs.lemmas.List.Sums.{sum_by_push}
 use Rattle.std.specs.List.{count_by}
 use Rattle.lan_core.specs.declared.fact.Fact.{Fact}
 use Rattle.group_safety.specs.Summary.{is_accepted, is_beginning, is_claim, is_frame, is_install}
 use Rattle.group_safety.specs.Summary.{is_late, is_missed, is_refusal, is_tick, most, counted}
-use Rattle.group_safety.specs.Summary.{Counts, counts}
+use Rattle.group_safety.specs.Summary.{counts}
 use Rattle.group_safety.specs.inside.Counting.{stepped, one_more}
 
 stops : (b : Bool) (n : ℕ) → min (n + cond b 1 0) most ≡ stepped b (min n most)

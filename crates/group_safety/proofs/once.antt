@@ -27,5 +27,4 @@ pub mod TickKept
 pub mod ReachKept
 pub mod StartKept
 pub mod ClaimKept
-pub mod Sent
 pub mod RunLaws

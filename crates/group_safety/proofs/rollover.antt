@@ -5,7 +5,6 @@ pub mod Young
 pub mod Core
 pub mod Rules
 pub mod Turns
-pub mod Members
 pub mod Facts
 pub mod Events
 pub mod Shows

@@ -1,6 +1,6 @@
 -- One use of each packet number under a SAK (IEEE Std 802.1AE, clause 10), and one key under each
 -- key identifier (IEEE Std 802.1X, clause 9), over a whole run of the group.
-use Rattle.std.specs.Prelude.{◌≡◌, ◌⊎◌, ℕ, List, [], ◌∷◌, map, slice_get, Option, option_map}
+use Rattle.std.specs.Prelude.{◌≡◌, ℕ, List, [], ◌∷◌, map, Contains, slice_get, Option, option_map}
 use Rattle.lan_base.specs.declared.address.Sci.{Sci}
 use Rattle.aes_block.specs.Secrets.{secret_octets}
 use Rattle.lan_core.specs.declared.event.Event.{Event}
@@ -9,11 +9,6 @@ use Rattle.lan_core.specs.declared.fact.Fact.{Fact}
 use Rattle.lan_core.specs.Run.{Run, stations}
 use Rattle.lan_core.specs.Ledgers.{gather, Install, install_of, install_at, installs, Claim, claims}
 use Rattle.lan_core.specs.Fresh.{AllDiffer, drawn_saks}
-
--- something stands in a list
-abbrev pub In : {A : Type 0} → A → List A → Type 0
-In a [] = ⊥
-In a (b ∷ bs) = (a ≡ b) ⊎ In a bs
 
 -- ---- one use of each packet number
 
@@ -42,7 +37,7 @@ Once r = AllDiffer (map (use_of r) (claims r))
 
 -- any two installs with equal key identifiers have equal SAK and equal association number
 abbrev pub OneKey : Run → Type 0
-OneKey r = (i j : Install) → In i (installs r) → In j (installs r) → i.id ≡ j.id
+OneKey r = (i j : Install) → Contains (installs r) i → Contains (installs r) j → i.id ≡ j.id
     → (i.sak ≡ j.sak) × (i.an ≡ j.an)
 
 -- ---- each key was drawn
@@ -60,12 +55,12 @@ makes (x ∷ r) = gather install_of (shown_made x.facts x.event) (makes r)
 -- an install is that of the key which a life made: under the same identifier, with the same
 -- association number, and with a SAK that was drawn for it
 pub record IsMadeAs (r : Run) (made i : Install) : Type 0 where
-  pub made_there : In made (makes r)
+  pub made_there : Contains (makes r) made
   pub id : made.id ≡ i.id
   pub an : made.an ≡ i.an
   pub sak : made.sak ≡ i.sak
-  pub drawn : In (secret_octets i.sak) (drawn_saks r)
+  pub drawn : Contains (drawn_saks r) (secret_octets i.sak)
 
 -- the SAK of each installed key was drawn in the run, for the key of its identifier
 abbrev pub Drawn : Run → Type 0
-Drawn r = (i : Install) → In i (installs r) → (made : Install) × IsMadeAs r made i
+Drawn r = (i : Install) → Contains (installs r) i → (made : Install) × IsMadeAs r made i

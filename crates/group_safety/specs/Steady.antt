@@ -1,6 +1,6 @@
 -- A steady rollover: a key server begins a key that all live members said they receive, and the
 -- members follow while nobody restarts, the server stays elected and ticks come in whole rounds.
-use Rattle.std.specs.Prelude.{◌≡◌, ◌<◌, ◌≤◌, ◌+◌, ℕ, suc, false, true, List, length}
+use Rattle.std.specs.Prelude.{◌≡◌, ◌<◌, ◌≤◌, ◌+◌, ℕ, suc, false, true, List, length, Contains}
 use Rattle.std.specs.Prelude.{Some, is_some, option_map}
 use Rattle.lan_base.specs.declared.key_id.KeyId.{KeyId}
 use Rattle.lan_base.specs.Timers.{retire_time}
@@ -18,7 +18,6 @@ use Rattle.lan_core.specs.declared.fact.Fact.TheVariants as facts
 use Rattle.lan_core.specs.declared.settings.Settings.{Settings}
 use Rattle.lan_core.specs.Run.{Run, Happening, Profile, stations}
 use Rattle.lan_core.specs.Lives.{Life, life, setup_of}
-use Rattle.group_safety.specs.Once.{In}
 use Rattle.group_safety.specs.Moments.{upto, At}
 use Rattle.group_safety.specs.Rounds.{pace, rounds}
 use Rattle.group_safety.specs.Stations.{mi_at, keys_at, server_at}
@@ -30,7 +29,7 @@ pub record Begins (run : Run) (n s : ℕ) (id : KeyId) (cause : Cause) : Type 0 
   pub within : n < length run
   pub an : ℕ
   pub epoch : ℕ
-  pub fact : In (facts.Began s id an epoch cause) event.facts
+  pub fact : Contains event.facts (facts.Began s id an epoch cause)
 
 -- it makes one: it installs the key at a tick
 pub record Makes (run : Run) (n s : ℕ) (id : KeyId) : Type 0 where
@@ -42,7 +41,7 @@ pub record Makes (run : Run) (n s : ℕ) (id : KeyId) : Type 0 where
   pub an : ℕ
   pub epoch : ℕ
   pub sak : Secret
-  pub fact : In (facts.Installed s id an epoch sak) event.facts
+  pub fact : Contains event.facts (facts.Installed s id an epoch sak)
 
 -- it puts a frame of key agreement on the air that spells an announcement
 pub record Sends (settings : Settings) (run : Run) (n s : ℕ) (a : Announcement) : Type 0 where
@@ -51,9 +50,9 @@ pub record Sends (settings : Settings) (run : Run) (n s : ℕ) (a : Announcement
   pub within : n < length run
   pub number : ℕ
   pub octets : List ℕ
-  pub fact : In (facts.Framed number s false octets) event.facts
+  pub fact : Contains event.facts (facts.Framed number s false octets)
   pub profile : Profile
-  pub here : In profile (stations run)
+  pub here : Contains (stations run) profile
   pub spelled : right (setup_of settings profile) octets ≡ Some a
 
 -- a station isn't restarted from a moment on
@@ -73,7 +72,7 @@ pub record IsListener (settings : Settings) (run : Run) (i server t sent : ℕ) 
   pub server_life : Life
   pub living : life settings server (upto (suc i) run) ≡ Some server_life
   pub live :
-      In says (live_words server_life.member (peers_of server_life.member server_life.past))
+      Contains (live_words server_life.member (peers_of server_life.member server_life.past)) says
   pub announcement : Announcement
   pub sends : Sends settings run sent t announcement
   pub mi : announcement.mi ≡ says.told.mi

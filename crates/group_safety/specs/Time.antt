@@ -1,6 +1,6 @@
 -- A frame's way through a run, from its claim to a delivery; when it is in time for a rollover, and
 -- when it is found to be of a key that is held.
-use Rattle.std.specs.Prelude.{◌≡◌, ◌<◌, ◌⊎◌, ◌+◌, ℕ, true, List, length, Some}
+use Rattle.std.specs.Prelude.{◌≡◌, ◌<◌, ◌⊎◌, ◌+◌, ℕ, true, List, length, Contains, Some}
 use Rattle.lan_base.specs.declared.key_id.KeyId.{KeyId}
 use Rattle.lan_base.specs.Timers.{retire_time}
 use Rattle.peer_lists.specs.Acceptance.{Accepted}
@@ -16,7 +16,6 @@ use Rattle.lan_core.specs.Run.{Run, Happening}
 use Rattle.lan_core.specs.Ledgers.{emitted}
 use Rattle.lan_core.specs.Lives.{transmitting_at}
 use Rattle.lan_core.specs.Claims.{claimed}
-use Rattle.group_safety.specs.Once.{In}
 use Rattle.group_safety.specs.Moments.{upto, At}
 use Rattle.group_safety.specs.Rounds.{rounds}
 use Rattle.group_safety.specs.Stations.{keys_at}
@@ -27,7 +26,7 @@ pub record Claims (settings : Settings) (run : Run) (n s : ℕ) (key : Key) (pn 
   pub event : Happening
   pub at : At run n event
   pub within : n < length run
-  pub fact : In (facts.Claimed s key.an key.epoch pn) event.facts
+  pub fact : Contains event.facts (facts.Claimed s key.an key.epoch pn)
   pub sends : transmitting_at settings s (upto n run) ≡ Some key
 
 -- The frame of a number is that of a claim: as many claims came before the claim as frames were
@@ -39,7 +38,7 @@ pub record IsFrameOf (settings : Settings) (run : Run) (c frame : ℕ) : Type 0 
   pub within : emission < length run
   pub station : ℕ
   pub octets : List ℕ
-  pub fact : In (facts.Framed frame station true octets) event.facts
+  pub fact : Contains event.facts (facts.Framed frame station true octets)
   pub place : length (emitted (upto emission run)) ≡ length (claimed settings (upto c run))
 
 -- A frame is claimed in one event by a station under a key, and delivered in another to a station.
@@ -67,7 +66,7 @@ Answers arrivals.BadCheck = ⊥
 -- a station receives a key of this association number and SAK
 pub record Receives (settings : Settings) (run : Run) (n t an : ℕ) (sak : Secret) : Type 0 where
   pub key : Key
-  pub received_here : In key (received (keys_at settings t (upto n run)))
+  pub received_here : Contains (received (keys_at settings t (upto n run))) key
   pub number : key.an ≡ an
   pub secret : key.sak ≡ sak
 
@@ -76,7 +75,7 @@ pub record IsFound (settings : Settings) (run : Run) (d t frame : ℕ) (key : Ke
   pub event : Happening
   pub at : At run d event
   pub arrival : Arrival
-  pub fact : In (facts.Arrived frame t arrival) event.facts
+  pub fact : Contains event.facts (facts.Arrived frame t arrival)
   pub answers : Answers arrival
   pub receives : Receives settings run d t key.an key.sak
 

@@ -1,13 +1,13 @@
 //! One use of each packet number, and one key under each identifier.
 
-ghost use Rattle.std.specs.Prelude.{List, IsTrue, is_some};
+ghost use Rattle.std.specs.Prelude.{List, Contains, IsTrue, is_some};
 ghost use Rattle.lan_base.specs.declared.frame.UserFrame.{UserFrame};
 ghost use Rattle.lan_core.specs.declared.settings.Settings.{Settings};
 ghost use Rattle.lan_core.specs.Run.{Run};
 ghost use Rattle.lan_core.specs.Ledgers.{Claim, claims};
 ghost use Rattle.lan_core.specs.Legal.{IsStepped, IsLegal};
 ghost use Rattle.lan_core.specs.Fresh.{IsFresh, IsUnforged};
-ghost use Rattle.group_safety.specs.Once.{In, sak_of, sci_of, Once, OneKey, Drawn};
+ghost use Rattle.group_safety.specs.Once.{sak_of, sci_of, Once, OneKey, Drawn};
 
 /// Each packet number is used once: no two claims of a run agree in SAK, SCI and number, whatever
 /// is lost, late, repeated or foreign, and whoever starts again. Each claim has a SAK and an SCI.
@@ -17,7 +17,7 @@ pub fn law_once()
     ensures stepped { (settings : Settings) (users : List UserFrame) (r : Run)
         → IsStepped settings users r → IsFresh r → IsUnforged settings r → Once r }
     ensures known { (settings : Settings) (users : List UserFrame) (r : Run) (c : Claim)
-        → IsStepped settings users r → IsFresh r → IsUnforged settings r → In c (claims r)
+        → IsStepped settings users r → IsFresh r → IsUnforged settings r → Contains (claims r) c
         → IsTrue (is_some (sak_of r c)) × IsTrue (is_some (sci_of r c.station)) }
 {}
 

@@ -3,7 +3,8 @@
 use Rattle.std.proofs.Common.{◌≡◌, ◌≤◌, ◌+◌, refl, sym, ap, ◌∙◌, subst, inl, inr, ℕ, suc, List}
 use Rattle.std.proofs.Common.{[], ◌∷◌, Bool, true, false, cond, not, Some, length}
 use Rattle.std.proofs.Common.{is_some, arith}
-use Rattle.std.specs.Prelude.{◌==◌, ◌&&◌, ◌||◌, nat_le, nat_lt, option_map, option_and_then}
+use Rattle.std.specs.Prelude.{◌==◌, ◌&&◌, ◌||◌, nat_le, nat_lt, Contains, option_map}
+use Rattle.std.specs.Prelude.{option_and_then}
 use Rattle.std.specs.List.{list_all}
 use Rattle.std.proofs.lemmas.Bool.{and_parts, leb-true}
 use Rattle.lan_base.specs.declared.key_id.KeyId.{KeyId}
@@ -27,13 +28,12 @@ use Rattle.lan_core.specs.Run.{Happening, stations}
 use Rattle.lan_core.specs.Ledgers.{installs, air, emitted}
 use Rattle.lan_core.specs.Lives.{Life, keys_in}
 use Rattle.lan_core.specs.Claims.{claimed}
-use Rattle.group_safety.specs.Once.{In}
 use Rattle.group_safety.specs.Moments.{upto}
 use Rattle.group_safety.specs.Rounds.{pace, rounds}
 use Rattle.group_safety.specs.Stations.{keys_at, keys_of_life}
 use Rattle.group_safety.specs.Steady.{Begins, IsUnbroken, Trusts, IsListener, IsKeeper, IsSteady}
 use Rattle.group_safety.specs.Time.{IsFlight, IsInTime, IsFound}
-use Rattle.group_safety.proofs.rollover.Members.{by_sum}
+use Rattle.group_safety.proofs.Members.{In, contains-in, in-contains, all-in, by_sum}
 use Rattle.group_safety.proofs.example.Each.{each-at, each-passes, IsNoRestart, no-restart, goes_on}
 use Rattle.worked_rollovers.specs.Group.{settings, mi, id, sak, bob, user, first_key}
 use Rattle.worked_rollovers.specs.Deeds.{Deed, plain, emits, carried}
@@ -45,7 +45,7 @@ use Rattle.worked_rollovers.proofs.Lived.{is_readable}
 use Rattle.worked_rollovers.proofs.Steadily.{deed_at, deed-at, told_upto, trusts-from}
 use Rattle.worked_rollovers.proofs.Steadily.{is_trusting_on}
 use Rattle.worked_rollovers.proofs.Steadily.{is_hushed, Place, is_said_at, sender-is, words_then}
-use Rattle.worked_rollovers.proofs.Steadily.{listener-word, all-in, all-upto, life-upto, happening}
+use Rattle.worked_rollovers.proofs.Steadily.{listener-word, all-upto, life-upto, happening}
 use Rattle.worked_rollovers.proofs.Steadily.{facts_in, begins-at, makes-at, is_keeper}
 use Rattle.worked_rollovers.proofs.Steadily.{first_word, keeper-is, is_tested, each-tested}
 
@@ -287,7 +287,7 @@ bob-follows x cause b =
     let each = each-at (λ n y. all_well n y ≡ true) late
     (each-tested all_well late computed.well) x b.event b.at b.within in
     let one = all-in (begins_well x) b.event.facts each (facts.Began 1 (id 2) b.an b.epoch cause)
-    b.fact in
+    (contains-in b.event.facts _ b.fact) in
     let p = and_parts (is_flag cause) _ one in
     (flag-is cause p.0, leb-true _ _ p.1)
 
@@ -331,7 +331,7 @@ way d t f comes_there =
         event = _;
         at = claims.0;
         within = claims.1;
-        fact = inl refl;
+        fact = (0, omega arith, refl);
         sends = ap (option_and_then (λ (w : Life). transmitting (keys_in w)))
             (life-upto 1 claim late_deeds computed.bare computed.readable) ∙ computed.sends;
       };
@@ -342,7 +342,7 @@ way d t f comes_there =
         within = emission.1;
         station = 1;
         octets = carried 1;
-        fact = inl refl;
+        fact = (0, omega arith, refl);
         place = computed.none_emitted ∙ sym computed.none_claimed;
       };
       event = _;
@@ -381,13 +381,14 @@ found =
       event = _;
       at = there.0;
       arrival = arrivals.Accepted 1 user.body;
-      fact = inl refl;
+      fact = (0, omega arith, refl);
       answers = tt;
       receives = record {
         key = first_key;
-        received_here = subst (λ o. In first_key (received (keys_of_life o)))
+        received_here = subst (λ o. Contains (received (keys_of_life o)) first_key)
             (sym (life-upto 0 first_delivery late_deeds computed.bare computed.readable))
-            computed.received_there;
+            (in-contains (received (keys_of_life (life_by 0 at_delivery))) first_key
+            computed.received_there);
         number = refl;
         secret = refl;
       };

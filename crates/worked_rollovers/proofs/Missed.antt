@@ -12,10 +12,10 @@ use Rattle.mka_station.specs.Views.{view}
 use Rattle.mka_station.specs.Tick.{tick_turn}
 use Rattle.lan_core.specs.Run.{Happening, stations}
 use Rattle.lan_core.specs.Ledgers.{installs}
-use Rattle.group_safety.specs.Once.{In}
 use Rattle.group_safety.specs.Moments.{upto}
 use Rattle.group_safety.specs.Rounds.{pace, rounds}
 use Rattle.group_safety.specs.Steady.{Begins, IsKeeper, IsSteady}
+use Rattle.group_safety.proofs.Members.{In, contains-in}
 use Rattle.group_safety.proofs.example.Each.{each-at, each-passes, begins_none, none-begins}
 use Rattle.worked_rollovers.specs.Group.{settings, id, bob}
 use Rattle.worked_rollovers.specs.Lives.{heard_by, life_by}
@@ -84,7 +84,7 @@ never-begins x cause b =
     (each-at IsNoBeginning missed
     (each-passes IsNoBeginning begins_none (λ n y none. none) missed computed.never) x b.event b.at
     b.within)
-    b.an b.epoch cause b.fact
+    b.an b.epoch cause (contains-in b.event.facts _ b.fact)
 
 pub not-steady : (lag : ℕ) → ¬ (IsSteady settings missed made made start 0 (id 1) (id 2) lag)
 not-steady lag s =

@@ -1,13 +1,11 @@
 -- What makes a rollover of a run that is told steady, decided.
-use Rattle.std.proofs.Common.{◌≡◌, ◌<◌, ◌+◌, refl, sym, ap, ◌∙◌, subst, inl, inr, ℕ, zero, suc}
-use Rattle.std.proofs.Common.{List}
-use Rattle.std.proofs.Common.{[], ◌∷◌, ◌++◌, Bool, true, false, cond, not, Option, Some, None}
-use Rattle.std.proofs.Common.{length}
-use Rattle.std.proofs.Common.{is_some, arith}
-use Rattle.std.specs.Prelude.{◌==◌, ◌&&◌, ◌||◌, nat_lt, nat_le}
+use Rattle.std.proofs.Common.{◌≡◌, ◌<◌, ◌+◌, refl, sym, ap, ◌∙◌, subst, inl, ℕ, zero, suc}
+use Rattle.std.proofs.Common.{List, [], ◌∷◌, ◌++◌, Bool, true, false, cond, not, Option, Some, None}
+use Rattle.std.proofs.Common.{length, is_some, arith}
+use Rattle.std.specs.Prelude.{◌==◌, ◌&&◌, ◌||◌, nat_lt, nat_le, Contains}
 use Rattle.std.specs.List.{list_all}
-use Rattle.std.proofs.lemmas.Bool.{and_parts, eqb-true, leb-true}
-use Rattle.std.proofs.lemmas.Bool.{eq-eqb}
+use Rattle.std.proofs.lemmas.Bool.{and_parts, eqb-true, eq-eqb, leb-true}
+use Rattle.std.proofs.lemmas.List.Elements.{Contains-push}
 use Rattle.lan_base.specs.declared.address.Mi.{Mi}
 use Rattle.lan_base.specs.declared.key_id.KeyId.{KeyId}
 use Rattle.lan_base.specs.Identifiers.{same_mi}
@@ -26,12 +24,11 @@ use Rattle.aes_block.specs.declared.secret.Secret.{Secret}
 use Rattle.sak_exchange.specs.declared.change.Cause.{Cause}
 use Rattle.sak_exchange.specs.Reports.{reports_old}
 use Rattle.lan_core.specs.Lives.{Life, life, setup_of}
-use Rattle.group_safety.specs.Once.{In}
 use Rattle.group_safety.specs.Moments.{upto, At}
 use Rattle.group_safety.specs.Stations.{mi_at, mi_of, server_at, server_of}
 use Rattle.group_safety.specs.Steady.{Begins, Makes, Sends, IsListener, IsKeeper, Trusts}
+use Rattle.group_safety.proofs.Members.{In, contains-in, in-contains, in-left, all-in, by_sum}
 use Rattle.group_safety.proofs.once.Currents.{some-same}
-use Rattle.group_safety.proofs.rollover.Members.{by_sum, in-left, in-right}
 use Rattle.group_safety.proofs.rollover.Moments.{upto-all, upto-on}
 use Rattle.group_safety.proofs.example.Each.{Each, each-at, Along, along-at, frames_none}
 use Rattle.group_safety.proofs.example.Each.{none-framed}
@@ -210,7 +207,8 @@ pub sender-is : (at : Place) (mi : Mi) (mn : ℕ) (ds : List Deed) → list_all 
     → a.mi ≡ mi → a.mn ≡ mn → (t ≡ at.0) × (sent ≡ at.1)
 sender-is at mi mn ds hushed read said t sent a s is_mi is_mn =
     each-at (IsAt at mi mn) (run_of ds) (each-placed at mi mn ds hushed read said) sent s.event
-    s.at s.within s.number t s.octets s.profile a s.fact s.spelled is_mi is_mn
+    s.at s.within s.number t s.octets s.profile a (contains-in s.event.facts _ s.fact) s.spelled
+    is_mi is_mn
 
 -- ---- listeners
 
@@ -220,12 +218,6 @@ words_of None = []
 words_of (Some l) = live_words l.member (peers_of l.member l.past)
 
 -- what holds of each word holds of what a listener says
-pub all-in : {A : Type 0} (p : A → Bool) (xs : List A) → list_all p xs ≡ true → (x : A) → In x xs
-    → p x ≡ true
-all-in p [] all x i = elim i [ ]
-all-in p (y ∷ ys) all x (inl e) = ap p e ∙ (and_parts (p y) (list_all p ys) all).0
-all-in p (y ∷ ys) all x (inr i) = all-in p ys (and_parts (p y) (list_all p ys) all).1 x i
-
 pub listener-word : (p : Accepted → Bool) (ds : List Deed) (i t sent : ℕ) (says : Accepted)
     → list_all is_bare (told_upto (suc i) ds) ≡ true
     → list_all is_readable (told_upto (suc i) ds) ≡ true
@@ -236,7 +228,7 @@ listener-word p ds i t sent says bare read all l =
     let lives : life_by 0 then ≡ Some l.server_life =
     sym (life-is 0 then bare read) ∙ ap (life settings 0) (sym (run-upto (suc i) ds)) ∙ l.living in
     all-in p (words_of (Some l.server_life)) (ap (λ o. list_all p (words_of o)) (sym lives) ∙ all)
-    says l.live
+    says (contains-in (words_of (Some l.server_life)) says l.live)
 
 -- ---- what comes at a moment
 
@@ -262,7 +254,7 @@ comes n ds e = go (deed_at n ds) refl e
 
 pub shown : (o : Option Deed) (y : Fact) → In y (facts_in o) → In y (happening o).facts
 shown None y i = i
-shown (Some (tells s next f n a g)) y i = in-left y f (told n s a g ∷ []) i
+shown (Some (tells s next f n a g)) y i = in-left f (told n s a g ∷ []) y i
 shown (Some (emits n pn)) y i = elim i [ ]
 shown (Some (plain e f)) y i = i
 
@@ -277,7 +269,8 @@ begins-at n s an epoch i c ds here fact =
       within = at.1;
       an = an;
       epoch = epoch;
-      fact = shown (deed_at n ds) (facts.Began s i an epoch c) fact;
+      fact = in-contains (happening (deed_at n ds)).facts (facts.Began s i an epoch c)
+          (shown (deed_at n ds) (facts.Began s i an epoch c) fact);
     }
 
 pub makes-at : (n s an epoch next : ℕ) (i : KeyId) (k : Secret) (ds : List Deed)
@@ -295,7 +288,8 @@ makes-at n s an epoch next i k ds here tick fact =
       an = an;
       epoch = epoch;
       sak = k;
-      fact = shown (deed_at n ds) (facts.Installed s i an epoch k) fact;
+      fact = in-contains (happening (deed_at n ds)).facts (facts.Installed s i an epoch k)
+          (shown (deed_at n ds) (facts.Installed s i an epoch k) fact);
     }
 
 -- ---- who says something at a moment
@@ -359,10 +353,10 @@ sends-at s n ds read here e = go (deed_at n ds) refl e
           within = at.1;
           number = m;
           octets = octets;
-          fact = subst (λ u. In (facts.Framed m u false octets) (f ++ told m t a g ∷ [])) mine
-              (in-right (told m t a g) f (told m t a g ∷ []) (inl refl));
+          fact = subst (λ u. Contains (f ++ told m t a g ∷ []) (facts.Framed m u false octets)) mine
+              (Contains-push f (told m t a g));
           profile = profile s;
-          here = here;
+          here = in-contains (stations (run_of ds)) (profile s) here;
           spelled = good-spelled (profile t) (profile s) (whole a g) (good-is a g good.0 good.1);
         }
 
@@ -446,7 +440,7 @@ keeper-is i s sent old_id ds bare read here some e =
     go (Some l) same word live mi mn sends = record {
       server_life = l;
       living = life-upto 0 (suc i) ds bare read ∙ same;
-      live = live;
+      live = in-contains (words_of (Some l)) word live;
       announcement = announced_in (deed_at sent ds);
       sends = sends;
       mi = mi;

@@ -1,5 +1,5 @@
 -- What holds of each event of a computed run, and of each of its last moments.
-use Rattle.std.proofs.Common.{◌≡◌, inl, inr, ℕ, zero, suc, ◌+◌, ◌≤◌, ◌<◌, Bool, true, false}
+use Rattle.std.proofs.Common.{◌≡◌, ℕ, zero, suc, ◌+◌, ◌≤◌, ◌<◌, Bool, true, false}
 use Rattle.std.proofs.Common.{not, List, [], ◌∷◌, ◌++◌, length, refl, ap, sym, ◌∙◌, subst, arith}
 use Rattle.std.proofs.Common.{Some}
 use Rattle.std.specs.Prelude.{◌==◌, ◌&&◌}
@@ -15,7 +15,7 @@ use Rattle.lan_core.specs.declared.fact.Fact.TheVariants as facts
 use Rattle.lan_core.specs.Run.{Run, Happening, Profile}
 use Rattle.lan_core.specs.Lives.{setup_of}
 use Rattle.group_safety.specs.Moments.{upto, At}
-use Rattle.group_safety.proofs.rollover.Members.{In, in-append, by_sum}
+use Rattle.group_safety.proofs.Members.{In, in-either, all-in, by_sum}
 use Rattle.group_safety.proofs.rollover.Moments.{upto-all, upto-on}
 use Rattle.group_safety.proofs.example.Scene.{settings, IsGood, framed_by, good-right}
 use Rattle.group_safety.proofs.once.Currents.{some-same}
@@ -67,12 +67,6 @@ along-at Q (suc k) (x ∷ r) holds n late within =
     (λ le. subst Q (sym (upto-all n (x ∷ r) (omega arith))) holds.0)
 
 -- ---- facts
-
-all-in : {A : Type 0} (p : A → Bool) (xs : List A) → list_all p xs ≡ true → (x : A) → In x xs
-    → p x ≡ true
-all-in p [] all x i = elim i [ ]
-all-in p (y ∷ ys) all x (inl e) = ap p e ∙ (and_parts (p y) (list_all p ys) all).0
-all-in p (y ∷ ys) all x (inr i) = all-in p ys (and_parts (p y) (list_all p ys) all).1 x i
 
 true-false : false ≡ true → ⊥
 true-false e = cc (e)
@@ -133,7 +127,7 @@ pub last-framed : (f : List Fact) (number s : ℕ) (p : Profile) (b : Announceme
     → In (facts.Framed m t false octets) (f ++ frames number s p b ∷ [])
     → right (setup_of settings q) octets ≡ Some a → (t ≡ s) × (a ≡ b)
 last-framed f number s p b none good m t octets q a i spelled =
-    by_sum (in-append (facts.Framed m t false octets) f (frames number s p b ∷ []) i)
+    by_sum (in-either f (frames number s p b ∷ []) (facts.Framed m t false octets) i)
     (λ j. absurd (none-framed f none m t octets j))
     (λ j. by_sum j
     (λ e.

@@ -20,7 +20,7 @@ use Rattle.mka_station.specs.Hearing.{judged, hear_turn, heard_turn, frame_turn}
 use Rattle.lan_core.specs.declared.event.Event.TheVariants as events
 use Rattle.lan_core.specs.declared.fact.Fact.{Fact}
 use Rattle.lan_core.specs.declared.fact.Fact.TheVariants as facts
-use Rattle.lan_core.specs.Run.{Run, Happening, happened, Profile, started, stations}
+use Rattle.lan_core.specs.Run.{Run, Happening, happened, Profile, stations}
 use Rattle.lan_core.specs.Ledgers.{Frame, air, frame_at, next_frame, installs_at}
 use Rattle.lan_core.specs.Lives.{Life, life, lived, lived_hearing, lived_ticking, lived_reached}
 use Rattle.lan_core.specs.Lives.{receiving, reaches, begun, drawn_mi, keys_in, setup_of, seen_at}
@@ -32,8 +32,7 @@ use Rattle.lan_core.specs.Order.{IsInOrder, IsShown, IsClaimable, IsSendable, Is
 use Rattle.lan_core.specs.Types.{IsTyped, IsMi, IfDrawn}
 use Rattle.lan_core.specs.Legal.{Ahead, is_excused_by}
 use Rattle.lan_core.proofs.Quiet.{others-change-none, claims-change-none}
-use Rattle.group_safety.specs.Once.{In}
-use Rattle.group_safety.proofs.once.Places.{in-either}
+use Rattle.group_safety.proofs.Members.{In, in-either}
 use Rattle.group_safety.proofs.once.Currents.{some-same, none-some}
 use Rattle.group_safety.proofs.once.Nexts.{life-next, stations-next}
 use Rattle.group_safety.proofs.once.StartKept.{begins}
@@ -76,10 +75,6 @@ sends-short number s p a good f (inr i) = elim i [ ]
 
 pub none-short : (f : Frame) → In f [] → length f.octets ≤ 70000
 none-short f i = elim i [ ]
-
-same-stations : (x : Happening) (r : Run) → started x.event ≡ []
-    → stations (x ∷ r) ≡ stations r ++ []
-same-stations x r none = stations-next x r ∙ ap (λ w. stations r ++ w) none
 
 -- ---- a tick
 

@@ -20,7 +20,7 @@ use Rattle.lan_core.specs.Claims.{waiting, waiting_under, claimed}
 use Rattle.lan_core.specs.Expected.{expected, emit_facts, reached_facts, reaction_facts}
 use Rattle.lan_core.specs.Legal.{IsStepped}
 use Rattle.lan_core.proofs.Quiet.{others-change-none}
-use Rattle.group_safety.specs.Once.{In}
+use Rattle.group_safety.proofs.Members.{In}
 use Rattle.group_safety.proofs.once.Ciphers.{encrypts as encrypts_block}
 use Rattle.group_safety.proofs.once.ClaimKept.{protected-is-sec}
 use Rattle.group_safety.proofs.once.Currents.{none-some}

@@ -49,7 +49,7 @@ use Rattle.lan_core.specs.Types.{IsSetting}
 use Rattle.lan_core.specs.Legal.{IsStepped, IsExcusedBefore, Ahead, with_ahead}
 use Rattle.lan_core.specs.Legal.{is_excused_by}
 use Rattle.lan_core.specs.Fresh.{IsUnforgedBy, IsUnforged}
-use Rattle.group_safety.specs.Once.{In}
+use Rattle.group_safety.proofs.Members.{In}
 use Rattle.group_safety.proofs.once.Ciphers.{cmac-length}
 use Rattle.group_safety.proofs.once.Carried.{sec-unread}
 use Rattle.group_safety.proofs.once.Living.{ick-key}
@@ -167,13 +167,6 @@ silent-seen s r l next silent =
       latest = silent-lowest l.member.setup.sci (receiving s r) (latest (keys_in l)) silent i;
       old = silent-lowest l.member.setup.sci (receiving s r) (old (keys_in l)) silent i;
     }
-
--- what facts do to slots is heard by none
-one-silent : (o : Option Receiving) (h : List Receiving)
-    → ((x : Receiving) → o ≡ Some x → IsSilent (x ∷ h))
-    → IsSilent h → IsSilent (with_one o h)
-one-silent None h new silent = silent
-one-silent (Some x) h new silent = new x refl
 
 change-silent : (s : ℕ) (fact : Fact) (h : List Receiving) → IsSilent h
     → IsSilent (with_one (slot_change s fact) h)

@@ -24,7 +24,7 @@ use Rattle.lan_core.specs.Order.{IsOfSuite, IsSendable}
 use Rattle.group_safety.proofs.example.Moves.{Hears, sends, sends-short, tick-moves}
 use Rattle.group_safety.proofs.example.Moves.{hear-moves, claim-moves, restart-moves}
 use Rattle.group_safety.proofs.example.Run as scene
-use Rattle.group_safety.proofs.example.Run.{mi, sci, alice, bob, users, octets_of_sak, sak}
+use Rattle.group_safety.proofs.example.Run.{mi, alice, bob, users, octets_of_sak, sak}
 use Rattle.group_safety.proofs.example.Run.{first_key, second_key}
 use Rattle.group_safety.proofs.example.Good.{mi_is, sak_is, good_a1, good_b1, good_a2}
 use Rattle.group_safety.proofs.example.Good.{good_b2, good_a3, good_c1, good_a4, good_c2, good_a5}

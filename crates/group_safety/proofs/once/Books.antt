@@ -1,11 +1,11 @@
 -- The changes of a tick and of a hearing, and the book after them.
-use Rattle.std.proofs.Common.{◌≡◌, ◌≢◌, refl, sym, ap, ◌∙◌, inl, inr, ℕ, List, [], ◌∷◌, ◌++◌, map}
+use Rattle.std.proofs.Common.{◌≡◌, ◌≢◌, refl, ◌∙◌, inl, inr, ℕ, List, [], ◌∷◌, ◌++◌, map}
 use Rattle.std.proofs.Common.{Option, Some, None}
 use Rattle.std.proofs.lemmas.Bool.Decides.{eqb_tells}
 use Rattle.lan_base.specs.declared.address.Mi.{Mi}
 use Rattle.sak_exchange.specs.Histories.{Key}
 use Rattle.lan_core.specs.Ledgers.{Install}
-use Rattle.group_safety.specs.Once.{In}
+use Rattle.group_safety.proofs.Members.{In}
 use Rattle.group_safety.proofs.once.Ledgers.{Said, Installation, Deeds, Book, with_life, Change}
 use Rattle.group_safety.proofs.once.Ledgers.{was_made, was_said, was_heard, was_taken, MayMake}
 use Rattle.group_safety.proofs.once.Ledgers.{MaySay, book, AreAllowed}
@@ -24,24 +24,10 @@ plains b = map plain b.installs
 abbrev pub plain_makes : Book → List Install
 plain_makes b = map plain (made_in b.installs)
 
-with-itself : (s t : ℕ) (l : Deeds) (old : ℕ → Option Deeds) → old s ≡ Some l
-    → with_life s l old t ≡ old t
-with-itself s t l old e = elim (eqb_tells s t) [
-  | inl y ↦ rw y.0 (sym e ∙ ap old y.1)
-  | inr y ↦ rw y.0 refl
-]
-
 pub with-this : (s : ℕ) (l : Deeds) (old : ℕ → Option Deeds) → with_life s l old s ≡ Some l
 with-this s l old = elim (eqb_tells s s) [
   | inl y ↦ rw y.0 refl
   | inr y ↦ absurd (y.1 refl)
-]
-
-with-again : (s t : ℕ) (l m : Deeds) (old : ℕ → Option Deeds)
-    → with_life s m (with_life s l old) t ≡ with_life s m old t
-with-again s t l m old = elim (eqb_tells s t) [
-  | inl y ↦ rw y.0 refl
-  | inr y ↦ rw y.0 refl
 ]
 
 pub with-other : (s t : ℕ) (l : Deeds) (old : ℕ → Option Deeds) → s ≢ t

@@ -29,11 +29,11 @@ use Rattle.lan_core.specs.Order.{IsClaimable, IsSendable}
 use Rattle.lan_core.specs.Types.{IsUserFrame}
 use Rattle.lan_core.specs.Legal.{IsStep}
 use Rattle.lan_core.proofs.Fronts.{stays-passed}
-use Rattle.group_safety.specs.Once.{In, shown_made}
+use Rattle.group_safety.specs.Once.{shown_made}
+use Rattle.group_safety.proofs.Members.{In, in-from_map, in-either}
 use Rattle.group_safety.proofs.once.Ledgers.{Installation, Book, Change}
 use Rattle.group_safety.proofs.once.Ledgers.{was_claimed, MayClaim, book, AreAllowed}
 use Rattle.group_safety.proofs.once.Given.{made_in}
-use Rattle.group_safety.proofs.once.Places.{in-from_map, in-either}
 use Rattle.group_safety.proofs.once.KeysSound.{transmitting-installed}
 use Rattle.group_safety.proofs.once.Carried.{IsCarried, carried-more}
 use Rattle.group_safety.proofs.once.Rules.{said_by}

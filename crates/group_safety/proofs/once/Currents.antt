@@ -4,8 +4,8 @@ use Rattle.std.proofs.Common.{Option, Some, None}
 use Rattle.std.proofs.lemmas.Bool.Decides.{eqb_tells}
 use Rattle.lan_core.specs.Ledgers.{Birth}
 use Rattle.lan_core.specs.Fresh.{AllDiffer}
-use Rattle.group_safety.specs.Once.{In}
-use Rattle.group_safety.proofs.once.Places.{IsTail, in-map, in-from_map, in-tail, same-place}
+use Rattle.group_safety.proofs.Members.{In, in-map, in-from_map}
+use Rattle.group_safety.proofs.once.Places.{IsTail, in-tail, same-place}
 use Rattle.group_safety.proofs.once.Places.{differs-in}
 use Rattle.lan_base.specs.declared.address.Mi.{Mi}
 use Rattle.group_safety.proofs.once.Ledgers.{Deeds, mis, current, with_life}

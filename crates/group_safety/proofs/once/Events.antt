@@ -6,7 +6,7 @@ use Rattle.lan_base.specs.declared.frame.UserFrame.{UserFrame}
 use Rattle.aes_block.specs.declared.secret.Secret.{Secret}
 use Rattle.aes_block.specs.Secrets.{secret_octets}
 use Rattle.sak_exchange.specs.declared.due.Seen.{Seen}
-use Rattle.sak_exchange.specs.Histories.{Key, Keying}
+use Rattle.sak_exchange.specs.Histories.{Key}
 use Rattle.sak_exchange.specs.Histories as keys
 use Rattle.sak_exchange.specs.Held.{latest, old}
 use Rattle.sak_exchange.specs.Beginning.{Beginning}
@@ -24,7 +24,8 @@ use Rattle.lan_core.specs.Expected.{tick_facts}
 use Rattle.lan_core.specs.Order.{IsOfSuite}
 use Rattle.lan_core.specs.Types.{IsSecret, IfDrawn}
 use Rattle.lan_core.specs.Fresh.{drawn_saks}
-use Rattle.group_safety.specs.Once.{In, makes}
+use Rattle.group_safety.specs.Once.{makes}
+use Rattle.group_safety.proofs.Members.{In}
 use Rattle.group_safety.proofs.once.Currents.{some-same}
 use Rattle.group_safety.proofs.once.Gists.{IsGist, installed_at, sent_frame, reaction-is}
 use Rattle.group_safety.proofs.once.Nexts.{makes-next, drawn-next, life-next, drawn-is, at-or-other}

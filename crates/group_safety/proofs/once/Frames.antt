@@ -30,8 +30,7 @@ use Rattle.mka_station.specs.Views.{View, view}
 use Rattle.mka_station.specs.Announcing.{peer_of, use_of, uses_of, given, given_as, announcement}
 use Rattle.mka_station.specs.Announcing.{frame_of}
 use Rattle.lan_core.specs.Types.{IsSecret}
-use Rattle.group_safety.specs.Once.{In}
-use Rattle.group_safety.proofs.once.Places.{in-from_map}
+use Rattle.group_safety.proofs.Members.{In, in-from_map}
 use Rattle.group_safety.proofs.once.Histories.{heard_of, view-keys, view-peers}
 use Rattle.group_safety.proofs.once.LiveHeard.{live-accepted, potential-accepted, peer-heard}
 use Rattle.group_safety.proofs.once.KeysSound.{AreKeys, IsKeyIn, installed-key, latest-installed}

@@ -5,9 +5,9 @@ use Rattle.lan_base.specs.declared.key_id.KeyId.{KeyId}
 use Rattle.aes_block.specs.Secrets.{secret_octets}
 use Rattle.lan_core.specs.Ledgers.{Birth, Claim}
 use Rattle.lan_core.specs.Fresh.{AllDiffer}
-use Rattle.group_safety.specs.Once.{In}
+use Rattle.group_safety.proofs.Members.{In, in-from_map, in-filter}
 use Rattle.group_safety.proofs.once.Ledgers.{Handed, Installation, Book, current}
-use Rattle.group_safety.proofs.once.Places.{in-from_map, in-tail, in-filter, same-place}
+use Rattle.group_safety.proofs.once.Places.{in-tail, same-place}
 use Rattle.group_safety.proofs.once.Places.{differs-from}
 use Rattle.group_safety.proofs.once.Currents.{some-same, in-current}
 use Rattle.group_safety.proofs.once.Invariant.{IsFalling, Inv, by_whom}

@@ -17,7 +17,7 @@ use Rattle.mka_station.specs.Views.{View, view}
 use Rattle.mka_station.specs.Tick.{with_install}
 use Rattle.mka_station.specs.Hearing.{outcome_of, offered, taken_of, take_changes, followed}
 use Rattle.mka_station.specs.Hearing.{hear_turn}
-use Rattle.group_safety.specs.Once.{In}
+use Rattle.group_safety.proofs.Members.{In}
 use Rattle.group_safety.proofs.once.Histories.{handed, deeds_of, with_key, with_began, past_heard}
 use Rattle.group_safety.proofs.once.Histories.{keys-begun, keys-installed, keys-heard, view-keys}
 use Rattle.group_safety.proofs.once.KeysSound.{AreSound, sound-taken, new-key}

@@ -168,10 +168,6 @@ sent-before m ms None (Some b) p = refl
 sent-before m ms (Some k) None p = refl
 sent-before m ms (Some k) (Some b) p = refl
 
-pub sent-none : (m : Member) (p : List Entry)
-    → last_sent (peers_of m (with_sent None p)) ≡ last_sent (peers_of m p)
-sent-none m p = refl
-
 pub sent-some : (m : Member) (a : Announcement) (p : List Entry)
     → last_sent (peers_of m (with_sent (Some a) p)) ≡ a.mn
 unfolding peers_of

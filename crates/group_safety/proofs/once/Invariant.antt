@@ -2,7 +2,7 @@
 use Rattle.std.proofs.Common.{◌≡◌, ◌<◌, ℕ, List, [], ◌∷◌, map, true, Some}
 use Rattle.lan_core.specs.Ledgers.{Birth, Claim}
 use Rattle.lan_core.specs.Fresh.{AllDiffer}
-use Rattle.group_safety.specs.Once.{In}
+use Rattle.group_safety.proofs.Members.{In}
 use Rattle.group_safety.proofs.once.Places.{IsTail}
 use Rattle.lan_base.specs.declared.address.Mi.{Mi}
 use Rattle.lan_base.specs.declared.key_id.KeyId.{KeyId}

@@ -1,10 +1,10 @@
 -- Each change keeps the invariant.
 use Rattle.std.proofs.Common.{◌≡◌, refl, sym, ap, ◌∙◌, subst, inl, inr, ℕ, List, [], ◌∷◌, map, true}
-use Rattle.std.proofs.Common.{false, Some, None}
+use Rattle.std.proofs.Common.{false, Some}
 use Rattle.lan_core.specs.Ledgers.{Birth, Claim}
 use Rattle.lan_core.specs.Fresh.{AllDiffer}
-use Rattle.group_safety.specs.Once.{In}
-use Rattle.group_safety.proofs.once.Places.{IsTail, in-from_map, tail-itself, differs-in}
+use Rattle.group_safety.proofs.Members.{In, in-from_map}
+use Rattle.group_safety.proofs.once.Places.{IsTail, tail-itself, differs-in}
 use Rattle.group_safety.proofs.once.Places.{differs-from}
 use Rattle.lan_base.specs.declared.address.Mi.{Mi}
 use Rattle.group_safety.proofs.once.Ledgers.{Handed, Said, Made, Installation, Deeds, Book, newborn}
@@ -13,7 +13,7 @@ use Rattle.group_safety.proofs.once.Ledgers.{was_taken, was_claimed, mis, with_l
 use Rattle.group_safety.proofs.once.Ledgers.{MayMake, MaySay, MayHear, MayTake, MayClaim, book}
 use Rattle.group_safety.proofs.once.Ledgers.{AreAllowed}
 use Rattle.group_safety.proofs.once.Currents.{with-life-cases, current-new, current-other, in-mis}
-use Rattle.group_safety.proofs.once.Currents.{current-apart, in-older, current-then}
+use Rattle.group_safety.proofs.once.Currents.{current-apart, in-older, current-then, none-some}
 use Rattle.group_safety.proofs.once.Invariant.{IsMadeFor, IsMakerOf, IsTied, Inv, by_whom}
 
 false-true : false ≡ true → ⊥
@@ -326,9 +326,6 @@ fresh-before (was_said s l a) st d = d
 fresh-before (was_heard s l a) st d = d
 fresh-before (was_taken s l a k e) st d = d
 fresh-before (was_claimed c) st d = d
-
-none-some : {X : Type 0} {x : X} → None ≡ Some x → ⊥
-none-some e = cc
 
 -- it holds after all allowed changes without two equal identifiers
 pub holds : (r : List Change) → AreAllowed r → AllDiffer (mis (book r).births) → Inv (book r)

@@ -15,9 +15,8 @@ use Rattle.sak_exchange.specs.Lives.{IsOver, IsNumbered, TakesNoneOfOwn, identif
 use Rattle.sak_exchange.proofs.Numbers.{identifiers-differ}
 use Rattle.sak_exchange.proofs.Epochs.{find-passes}
 use Rattle.lan_core.specs.Types.{IsSecret}
-use Rattle.group_safety.specs.Once.{In}
+use Rattle.group_safety.proofs.Members.{In, in-unfiltered}
 use Rattle.group_safety.proofs.once.Ledgers.{Made}
-use Rattle.group_safety.proofs.once.Places.{in-unfiltered}
 use Rattle.group_safety.proofs.once.Currents.{some-same, none-some}
 use Rattle.group_safety.proofs.once.Histories.{handed, made_of}
 use Rattle.group_safety.proofs.once.LiveHeard.{in-find}

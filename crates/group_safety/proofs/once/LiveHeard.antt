@@ -11,11 +11,11 @@ use Rattle.peer_lists.specs.declared.heard.Heard.{Heard}
 use Rattle.peer_lists.specs.Acceptance.{Own, Accepted, accepted, refusal, vouches}
 use Rattle.peer_lists.specs.Peers.{says, hopes, known, standing, is_displaced, is_of, is_vouched_of}
 use Rattle.peer_lists.specs.Peers.{last_accepted}
-use Rattle.mka_station.specs.Lives.{Member, Entry, own, told, peers_of, live_words, potential_words}
+use Rattle.mka_station.specs.Lives.{Member, Entry, own, told, peers_of}
 use Rattle.mka_station.specs.Lives as lives
 use Rattle.mka_station.specs.Views.{view}
 use Rattle.mka_station.specs.Announcing.{peer_of}
-use Rattle.group_safety.specs.Once.{In}
+use Rattle.group_safety.proofs.Members.{In}
 use Rattle.group_safety.proofs.once.Currents.{some-same, none-some}
 use Rattle.group_safety.proofs.once.Histories.{heard_of, told_of}
 

@@ -1,5 +1,5 @@
 -- What holds of the current life of a station, and of the run as a whole.
-use Rattle.std.proofs.Common.{◌≡◌, ◌<◌, ◌≤◌, refl, sym, subst, ℕ, List, ◌∷◌, length, map, Some}
+use Rattle.std.proofs.Common.{◌≡◌, ◌<◌, ◌≤◌, sym, subst, ℕ, List, ◌∷◌, length, map, Some}
 use Rattle.std.proofs.Common.{arith}
 use Rattle.std.specs.Prelude.{slice_get}
 use Rattle.lan_base.specs.declared.frame.UserFrame.{UserFrame}
@@ -20,9 +20,9 @@ use Rattle.lan_core.specs.Claims.{next, Waiting, claimed, user_at}
 use Rattle.lan_core.specs.Order.{ticks, IsSendable}
 use Rattle.lan_core.specs.Types.{IsSetting}
 use Rattle.lan_core.specs.Fresh.{AllDiffer, drawn_saks}
-use Rattle.group_safety.specs.Once.{In, makes}
+use Rattle.group_safety.specs.Once.{makes}
+use Rattle.group_safety.proofs.Members.{In, in-right}
 use Rattle.group_safety.proofs.once.Ledgers.{Book, Change, book, AreAllowed}
-use Rattle.group_safety.proofs.once.Places.{in-right}
 use Rattle.group_safety.proofs.once.Histories.{heard_of, deeds}
 use Rattle.group_safety.proofs.once.KeysSound.{AreSound, sound-more}
 use Rattle.group_safety.proofs.once.Ciphers.{kek-is-key, ick-is-key}
@@ -109,9 +109,6 @@ living-later settings x r s l {bs} {is} {fs} {cs} g v =
 
 pub kek-key : (settings : Settings) → IsSetting settings → IsCipherKey (group_kek settings)
 kek-key settings is = kek-is-key settings.cak settings.ckn is.cak is.name_octets
-
-pub setup-kek : (settings : Settings) (p : Profile) → (setup_of settings p).kek ≡ group_kek settings
-setup-kek settings p = refl
 
 pub ick-key : (settings : Settings) (p : Profile) → IsSetting settings
     → IsCipherKey (setup_of settings p).ick

@@ -1,5 +1,5 @@
 -- The ledgers and the lives of a run after one more event.
-use Rattle.std.proofs.Common.{◌≡◌, ◌≢◌, ◌<◌, ◌≤◌, refl, sym, ap, ◌∙◌, inl, inr, ◌⊎◌, ℕ, zero, suc}
+use Rattle.std.proofs.Common.{◌≡◌, ◌≢◌, ◌<◌, ◌≤◌, refl, sym, ap, ◌∙◌, subst, inl, inr, ◌⊎◌, ℕ, zero, suc}
 use Rattle.std.proofs.Common.{List, [], ◌∷◌, ◌++◌, length, cond, Option, Some, None, arith}
 use Rattle.std.specs.Prelude.{option_map, option_and_then, slice_get, ◌==◌}
 use Rattle.std.proofs.lemmas.Bool.Decides.{eqb_tells}
@@ -14,7 +14,8 @@ use Rattle.lan_core.specs.Lives.{life, life_after, drawn_sak}
 use Rattle.lan_core.specs.Claims.{claimed, claimed_by}
 use Rattle.lan_core.specs.Order.{ticks}
 use Rattle.lan_core.specs.Fresh.{drawn_saks, sak_drawn}
-use Rattle.group_safety.specs.Once.{In, makes, shown_made}
+use Rattle.group_safety.specs.Once.{makes, shown_made}
+use Rattle.group_safety.proofs.Members.{In, in-right}
 use Rattle.group_safety.proofs.once.Currents.{some-same}
 use Rattle.group_safety.proofs.once.Gists.{IsGist, installed_at}
 
@@ -106,6 +107,22 @@ gather-behind read (fact ∷ f) xs = go (read fact) (λ ys. gather-behind read f
         assoc : (ys : List _) → ys ++ a ∷ xs ≡ (ys ++ a ∷ []) ++ xs
         assoc [] = refl
         assoc (y ∷ ys) = ap (λ w. y ∷ w) (assoc ys)
+
+-- facts only add to a ledger, and add what is read of each
+pub in-later : {A : Type 0} (read : Fact → Option A) (f : List Fact) (xs : List A) (y : A)
+    → In y xs → In y (gather read f xs)
+in-later read f xs y i =
+    subst (λ w. In y w) (sym (gather-behind read f xs)) (in-right (gather read f []) xs y i)
+
+in-one : {A : Type 0} (o : Option A) (xs : List A) (y : A) → o ≡ Some y → In y (with_one o xs)
+in-one o xs y e = subst (λ w. In y (with_one w xs)) (sym e) (inl refl)
+
+pub in-gathered : {A : Type 0} (read : Fact → Option A) (f : List Fact) (xs : List A) (fact : Fact)
+    (y : A) → In fact f → read fact ≡ Some y → In y (gather read f xs)
+in-gathered read [] xs fact y i e = elim i [ ]
+in-gathered read (g ∷ f) xs fact y (inl same) e =
+    in-later read f (with_one (read g) xs) y (in-one (read g) xs y (ap read (sym same) ∙ e))
+in-gathered read (g ∷ f) xs fact y (inr i) e = in-gathered read f (with_one (read g) xs) fact y i e
 
 drawn-none : (f : List Fact) → gather install_of f [] ≡ [] → drawn_sak f ≡ None
 drawn-none [] e = refl

@@ -1,26 +1,14 @@
--- What stands in lists, and lists without two equal places.
-use Rattle.std.proofs.Common.{◌≡◌, ◌≢◌, refl, sym, ap, ◌∙◌, subst, inl, inr, List, [], ◌∷◌, ◌++◌}
-use Rattle.std.proofs.Common.{map, Bool, true, false, cond}
+-- Lists without two equal places, and the older ends of a list.
+use Rattle.std.proofs.Common.{◌≡◌, ◌≢◌, refl, sym, ap, ◌∙◌, subst, inl, inr, List, [], ◌∷◌}
+use Rattle.std.proofs.Common.{map}
 use Rattle.std.specs.Prelude.{◌⊎◌}
-use Rattle.std.specs.List.{filter}
 use Rattle.lan_core.specs.Fresh.{DiffersFrom, AllDiffer}
-use Rattle.group_safety.specs.Once.{In}
+use Rattle.group_safety.proofs.Members.{In, in-map, in-from_map}
 
 -- one list is the other without some of its newest entries
 abbrev pub IsTail : {A : Type 0} → List A → List A → Type 0
 IsTail as' [] = as' ≡ []
 IsTail as' (b ∷ bs) = (as' ≡ b ∷ bs) ⊎ IsTail as' bs
-
-pub in-map : {X Y : Type 0} (f : X → Y) (xs : List X) (x : X) → In x xs → In (f x) (map f xs)
-in-map f [] x h = elim h [ ]
-in-map f (y ∷ ys) x (inl e) = inl (ap f e)
-in-map f (y ∷ ys) x (inr h) = inr (in-map f ys x h)
-
-pub in-from_map : {X Y : Type 0} (f : X → Y) (xs : List X) (y : Y) → In y (map f xs)
-    → (x : X) × In x xs × (y ≡ f x)
-in-from_map f [] y h = elim h [ ]
-in-from_map f (x ∷ xs) y (inl e) = (x, inl refl, e)
-in-from_map f (x ∷ xs) y (inr h) = let r = in-from_map f xs y h in (r.0, inr r.1, r.2)
 
 pub differs-in : {X : Type 0} (x y : X) (ys : List X) → DiffersFrom x ys → In y ys → x ≢ y
 differs-in x y [] d h = elim h [ ]
@@ -63,37 +51,3 @@ in-tail xs (y ∷ ys) x (inr t) h = inr (in-tail xs ys x t h)
 pub tail-itself : {X : Type 0} (xs : List X) → IsTail xs xs
 tail-itself [] = refl
 tail-itself (x ∷ xs) = inl refl
-
-in-kept : {X : Type 0} (x y : X) (ys : List X) (b : Bool) → In x ys → In x (cond b (y ∷ ys) ys)
-in-kept x y ys true h = inr h
-in-kept x y ys false h = h
-
-pub in-filter : {X : Type 0} (p : X → Bool) (xs : List X) (x : X) → In x xs → p x ≡ true
-    → In x (filter p xs)
-in-filter p [] x h e = elim h [ ]
-in-filter p (y ∷ ys) x (inl i) e = rw (ap p (sym i) ∙ e) (inl i)
-in-filter p (y ∷ ys) x (inr h) e = in-kept x y (filter p ys) (p y) (in-filter p ys x h e)
-
-pub in-unfiltered : {X : Type 0} (p : X → Bool) (xs : List X) (x : X) → In x (filter p xs) → In x xs
-in-unfiltered p [] x h = h
-in-unfiltered p (y ∷ ys) x h = go (p y) h (in-unfiltered p ys x)
-  where
-    go : (b : Bool) → In x (cond b (y ∷ filter p ys) (filter p ys)) → (In x (filter p ys) → In x ys)
-        → In x (y ∷ ys)
-    go true i later = elim i [ inl e ↦ inl e | inr k ↦ inr (later k) ]
-    go false i later = inr (later i)
-
-pub in-left : {X : Type 0} (xs ys : List X) (x : X) → In x xs → In x (xs ++ ys)
-in-left [] ys x h = elim h [ ]
-in-left (y ∷ xs) ys x (inl e) = inl e
-in-left (y ∷ xs) ys x (inr h) = inr (in-left xs ys x h)
-
-pub in-right : {X : Type 0} (xs ys : List X) (x : X) → In x ys → In x (xs ++ ys)
-in-right [] ys x h = h
-in-right (y ∷ xs) ys x h = inr (in-right xs ys x h)
-
-pub in-either : {X : Type 0} (xs ys : List X) (x : X) → In x (xs ++ ys) → In x xs ⊎ In x ys
-in-either [] ys x h = inr h
-in-either (y ∷ xs) ys x (inl e) = inl (inl e)
-in-either (y ∷ xs) ys x (inr h) =
-    elim (in-either xs ys x h) [ inl i ↦ inl (inr i) | inr i ↦ inr i ]

@@ -34,14 +34,15 @@ use Rattle.lan_core.specs.Expected.{expected, reaction_facts, reached_facts}
 use Rattle.lan_core.specs.Order.{ticks}
 use Rattle.lan_core.specs.Legal.{IsStep}
 use Rattle.lan_core.specs.Fresh.{drawn_saks, repeats, is_right, is_forged, IsUnforgedBy}
-use Rattle.group_safety.specs.Once.{In, shown_made}
+use Rattle.group_safety.specs.Once.{shown_made}
+use Rattle.group_safety.proofs.Members.{In, in-any, any-in}
 use Rattle.group_safety.proofs.once.Ledgers.{Change, book, AreAllowed}
 use Rattle.group_safety.proofs.once.Currents.{some-same}
 use Rattle.group_safety.proofs.once.Histories.{heard_of, deeds, deeds_of, with_key, with_began}
 use Rattle.group_safety.proofs.once.Histories.{past_heard, deeds-heard, sent-heard, heard-heard}
 use Rattle.group_safety.proofs.once.LiveHeard.{in-find}
 use Rattle.group_safety.proofs.once.KeysSound.{AreSound}
-use Rattle.group_safety.proofs.once.Rules.{said_by, key_heard, in-any, any-in}
+use Rattle.group_safety.proofs.once.Rules.{said_by, key_heard}
 use Rattle.group_safety.proofs.once.Frames.{IsRanged}
 use Rattle.group_safety.proofs.once.Origins.{IsSaid, said-later}
 use Rattle.group_safety.proofs.once.Carried.{IsHeardOf, carried-heard, repeated-heard, judged-read}

@@ -3,7 +3,7 @@ use Rattle.std.proofs.Common.{◌≡◌, ◌<◌, ◌+◌, refl, sym, ap, ◌∙
 use Rattle.std.proofs.Common.{List, [], ◌∷◌, map, Bool, true, false, ◌&&◌, ◌||◌, cond, Option, Some}
 use Rattle.std.proofs.Common.{None, Result, Ok, Err, is_some, arith}
 use Rattle.std.specs.Prelude.{option_map, option_and_then, nat_lt}
-use Rattle.std.specs.List.{list_any, list_all}
+use Rattle.std.specs.List.{list_all}
 use Rattle.std.specs.Option.{option_or}
 use Rattle.std.proofs.lemmas.Bool.{and_parts, ltb-true, true≢false}
 use Rattle.lan_base.specs.declared.address.Mi.{Mi}
@@ -44,9 +44,8 @@ use Rattle.mka_station.specs.Announcing.{gives, given, given_as, announcement, s
 use Rattle.mka_station.specs.Tick.{made, makes_now}
 use Rattle.mka_station.specs.Hearing.{outcome_of, is_accepted, is_listed, offered, taken_of}
 use Rattle.mka_station.specs.Hearing.{key_taken}
-use Rattle.group_safety.specs.Once.{In}
+use Rattle.group_safety.proofs.Members.{In, in-map, any-in, all-in}
 use Rattle.group_safety.proofs.once.Ledgers.{Handed, Made, Said}
-use Rattle.group_safety.proofs.once.Places.{in-map}
 use Rattle.group_safety.proofs.once.Currents.{some-same, none-some}
 use Rattle.group_safety.proofs.once.Histories.{handed, made_of}
 use Rattle.group_safety.proofs.once.KeysSound.{AreKeys, latest-last, last-made}
@@ -56,27 +55,6 @@ in-has m [] e = absurd (true≢false (sym e))
 in-has m (n ∷ ns) e =
     by_test (same_mi n m) (λ y. inl (sym (same_mi-equal n m y)))
     (λ y. inr (in-has m ns (rw y at e)))
-
-pub any-in : {X : Type 0} (p : X → Bool) (xs : List X) → list_any p xs ≡ true
-    → (x : X) × In x xs × (p x ≡ true)
-any-in p [] e = absurd (true≢false (sym e))
-any-in p (x ∷ xs) e =
-    by_test (p x) (λ y. (x, inl refl, y))
-    (λ y. let r = any-in p xs (rw y at e) in (r.0, inr r.1, r.2))
-
-pub in-any : {X : Type 0} (p : X → Bool) (xs : List X) (x : X) → In x xs → p x ≡ true
-    → list_any p xs ≡ true
-in-any p [] x h e = elim h [ ]
-in-any p (y ∷ ys) x (inl i) e = rw (ap p (sym i) ∙ e) refl
-in-any p (y ∷ ys) x (inr h) e = by_test (p y) (λ t. rw t refl) (λ t. rw t (in-any p ys x h e))
-
-pub all-in : {X : Type 0} (p : X → Bool) (xs : List X) → list_all p xs ≡ true → (x : X) → In x xs
-    → p x ≡ true
-all-in p [] e x h = elim h [ ]
-all-in p (y ∷ ys) e x h =
-    by_test (p y)
-    (λ t. elim h [ inl i ↦ ap p i ∙ t | inr k ↦ all-in p ys (rw t at e) x k ])
-    (λ t. absurd (true≢false (sym (rw t at e))))
 
 -- ---- a made key
 

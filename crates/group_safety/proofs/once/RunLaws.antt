@@ -2,7 +2,7 @@
 use Rattle.std.proofs.Common.{◌≡◌, ◌<◌, refl, sym, ap, ◌∙◌, subst, inl, inr, ℕ, zero, suc, List, []}
 use Rattle.std.proofs.Common.{◌∷◌, length, map, Bool, true, false, ◌&&◌, Option, Some, is_some}
 use Rattle.std.proofs.Common.{IsTrue}
-use Rattle.std.specs.Prelude.{option_map, slice_get, ◌==◌}
+use Rattle.std.specs.Prelude.{Contains, option_map, slice_get, ◌==◌}
 use Rattle.std.specs.List.{find}
 use Rattle.std.proofs.lemmas.Bool.{and_parts, eqb-true, eq-eqb}
 use Rattle.lan_base.specs.declared.frame.UserFrame.{UserFrame}
@@ -18,9 +18,10 @@ use Rattle.lan_core.specs.Lives.{life}
 use Rattle.lan_core.specs.Claims.{claimed}
 use Rattle.lan_core.specs.Legal.{IsStep, IsStepped}
 use Rattle.lan_core.specs.Fresh.{AllDiffer, drawn_saks, IsFresh, IsUnforgedBy, IsUnforged}
-use Rattle.group_safety.specs.Once.{In, sak_of, sci_of, Use, use_of, Once, OneKey, makes, Drawn}
+use Rattle.group_safety.specs.Once.{sak_of, sci_of, Use, use_of, Once, OneKey, makes, Drawn}
+use Rattle.group_safety.proofs.Members.{In, contains-in, in-contains, in-map, in-from_map}
 use Rattle.group_safety.proofs.once.Ledgers.{Handed, Installation, Book, book, mis}
-use Rattle.group_safety.proofs.once.Places.{in-map, in-from_map, differs-in, differ-by}
+use Rattle.group_safety.proofs.once.Places.{differs-in, differ-by}
 use Rattle.group_safety.proofs.once.Currents.{some-same, none-some}
 use Rattle.group_safety.proofs.once.Invariant.{Inv}
 use Rattle.group_safety.proofs.once.Kept.{holds}
@@ -116,8 +117,8 @@ pub run-one_key : (settings : Settings) (users : List UserFrame) (r : Run)
     → IsKnown settings users r → IsFresh r → OneKey r
 run-one_key settings users r k fresh i j hi hj e =
     let v = invariant settings users r k fresh in
-    let m = behind settings users r k i hi in
-    let n = behind settings users r k j hj in
+    let m = behind settings users r k i (contains-in (installs r) i hi) in
+    let n = behind settings users r k j (contains-in (installs r) j hj) in
     let same = one-key (book k.changes) v m.0 n.0 m.1 n.1
     (ap (λ (w : Install). w.id) (sym m.2) ∙ e ∙ ap (λ (w : Install). w.id) n.2) in (
       ap (λ (w : Install). w.sak) m.2 ∙ ap (λ (w : Handed). w.sak) same
@@ -130,20 +131,21 @@ pub run-drawn : (settings : Settings) (users : List UserFrame) (r : Run) → IsK
     → IsFresh r → Drawn r
 run-drawn settings users r k fresh i hi =
     let v = invariant settings users r k fresh in
-    let n = behind settings users r k i hi in
+    let n = behind settings users r k i (contains-in (installs r) i hi) in
     let m = maker (book k.changes) v n.0 n.1 in
     let there : In (plain m.0) (makes r) = subst (λ w. In (plain m.0) w) k.shows.makes
     (in-map plain (made_in (book k.changes).installs) m.0 m.1) in
     let sak = ap (λ (w : Handed). w.sak) m.2 ∙ ap (λ (w : Install). w.sak) (sym n.2) in (
       plain m.0,
       record {
-        made_there = there;
+        made_there = in-contains (makes r) (plain m.0) there;
         id = ap (λ (w : Handed). w.id) m.2 ∙ ap (λ (w : Install). w.id) (sym n.2);
         an = ap (λ (w : Handed). w.an) m.2 ∙ ap (λ (w : Install). w.an) (sym n.2);
         sak = sak;
-        drawn = subst (λ w. In w (drawn_saks r)) (ap secret_octets sak)
+        drawn = in-contains (drawn_saks r) (secret_octets i.sak)
+            (subst (λ w. In w (drawn_saks r)) (ap secret_octets sak)
             (subst (λ w. In (secret_octets m.0.key.sak) w) k.plain.drawn
-            (in-map (λ (i : Install). secret_octets i.sak) (makes r) (plain m.0) there));
+            (in-map (λ (i : Install). secret_octets i.sak) (makes r) (plain m.0) there)));
       },
     )
 
@@ -253,8 +255,9 @@ run-once settings users r k fresh =
 
 pub run-claims_known : (settings : Settings) (users : List UserFrame) (r : Run) (c : Claim)
     → IsKnown settings users r → IsFresh r
-    → In c (claims r) → IsTrue (is_some (sak_of r c)) × IsTrue (is_some (sci_of r c.station))
-run-claims_known settings users r c k fresh h =
+    → Contains (claims r) c → IsTrue (is_some (sak_of r c)) × IsTrue (is_some (sci_of r c.station))
+run-claims_known settings users r c k fresh there =
+    let h = contains-in (claims r) c there in
     let i = used settings users r k fresh c h in
     let p = claimer settings users r k fresh c h in (
       ap (λ (o : Option Install). is_some (option_map (λ w. secret_octets w.sak) o)) i.found,

@@ -1,9 +1,10 @@
 -- A start keeps a run known, and so does a start again.
 use Rattle.std.proofs.Common.{◌≡◌, ◌≢◌, ◌<◌, ◌+◌, refl, sym, ap, ◌∙◌, subst, inl, inr, ℕ}
-use Rattle.std.proofs.Common.{suc, List, [], ◌∷◌, ◌++◌, length, map}
+use Rattle.std.proofs.Common.{List, [], ◌∷◌, ◌++◌, length, map}
 use Rattle.std.proofs.Common.{Some, None, arith}
-use Rattle.std.specs.Prelude.{option_map, option_and_then, slice_get, All}
+use Rattle.std.specs.Prelude.{option_map, option_and_then, slice_get}
 use Rattle.std.proofs.lemmas.List.{append-nil, length-append, map-append}
+use Rattle.std.proofs.lemmas.List.Elements.{All-contains}
 use Rattle.lan_base.specs.declared.address.Mi.{Mi}
 use Rattle.lan_base.specs.declared.address.Sci.{Sci}
 use Rattle.lan_base.specs.declared.frame.UserFrame.{UserFrame}
@@ -27,10 +28,10 @@ use Rattle.lan_core.specs.Order.{ticks}
 use Rattle.lan_core.specs.Types.{IsMi, IfDrawn}
 use Rattle.lan_core.specs.Legal.{IsStep}
 use Rattle.lan_core.specs.Fresh.{DiffersFrom, AllDiffer}
-use Rattle.group_safety.specs.Once.{In, shown_made}
+use Rattle.group_safety.specs.Once.{shown_made}
+use Rattle.group_safety.proofs.Members.{In, in-contains, in-from_map, in-either}
 use Rattle.group_safety.proofs.once.Ledgers.{newborn, with_life}
 use Rattle.group_safety.proofs.once.Ledgers.{was_born, book}
-use Rattle.group_safety.proofs.once.Places.{in-from_map, in-either}
 use Rattle.group_safety.proofs.once.Currents.{some-same}
 use Rattle.group_safety.proofs.once.Histories.{deeds, deeds-none}
 use Rattle.group_safety.proofs.once.KeysSound.{sound-none}
@@ -48,11 +49,6 @@ use Rattle.group_safety.proofs.once.Living.{IsKnown, living-later}
 use Rattle.group_safety.proofs.once.Stepping.{next-more, IsLifeOf}
 
 -- ---- lists
-
-in-all : {X : Type 0} (P : X → Type 0) (xs : List X) → All P xs → (x : X) → In x xs → P x
-in-all P [] all x i = elim i [ ]
-in-all P (y ∷ ys) all x (inl e) = subst P (sym e) (all 0 y (omega arith))
-in-all P (y ∷ ys) all x (inr i) = in-all P ys (λ k d less. all (suc k) d (omega (arith, less))) x i
 
 differs-last : {X : Type 0} (x : X) (xs : List X) (y : X) → DiffersFrom x xs → x ≢ y
     → DiffersFrom x (xs ++ y ∷ [])
@@ -206,8 +202,8 @@ start-on settings users name sci priority f r mi step k drawn shows =
     new-sci : (c : Sci) → In c (map (λ q. q.sci) (stations r)) → c ≢ sci
     new-sci c i same =
         let q = in-from_map (λ (q : Profile). q.sci) (stations r) c i in
-        (in-all (λ (q : Profile). (q.name ≢ name) × (q.sci ≢ sci)) (stations r) step.in_order.1.0
-        q.0 q.1).1 (sym q.2 ∙ same)
+        (All-contains (λ (q : Profile). (q.name ≢ name) × (q.sci ≢ sci)) (stations r) q.0
+        step.in_order.1.0 (in-contains (stations r) q.0 q.1)).1 (sym q.2 ∙ same)
 
     plain' : IsPlain settings users (x ∷ r)
     plain' = record {

@@ -11,9 +11,9 @@ use Rattle.lan_core.specs.Lives.{Life, life}
 use Rattle.lan_core.specs.Claims.{next, claimed, claimed_by}
 use Rattle.lan_core.specs.Fresh.{drawn_saks}
 use Rattle.lan_core.proofs.Fronts.{never-falls}
-use Rattle.group_safety.specs.Once.{In, makes}
+use Rattle.group_safety.specs.Once.{makes}
+use Rattle.group_safety.proofs.Members.{In, in-either, in-right}
 use Rattle.group_safety.proofs.once.Ledgers.{Said, Deeds, Book, Change, book, AreAllowed}
-use Rattle.group_safety.proofs.once.Places.{in-either, in-right}
 use Rattle.group_safety.proofs.once.Histories.{deeds}
 use Rattle.group_safety.proofs.once.Rules.{said_by}
 use Rattle.group_safety.proofs.once.Origins.{said-later}

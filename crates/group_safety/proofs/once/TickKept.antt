@@ -14,7 +14,7 @@ use Rattle.mkpdu_codec.specs.Frames.{Spells}
 use Rattle.mkpdu_codec.specs.Written.{written}
 use Rattle.peer_lists.specs.Histories.{last_sent}
 use Rattle.sak_exchange.specs.declared.due.Seen.{Seen}
-use Rattle.sak_exchange.specs.Histories.{Key, Keying}
+use Rattle.sak_exchange.specs.Histories.{Key}
 use Rattle.sak_exchange.specs.Histories as keys
 use Rattle.mka_station.specs.Lives.{Member, Entry, Setup, peers_of, keys_of}
 use Rattle.mka_station.specs.Announcing.{frame_of}
@@ -30,13 +30,13 @@ use Rattle.lan_core.specs.Order.{ticks}
 use Rattle.lan_core.specs.Types.{IsSetting, IsSecret}
 use Rattle.lan_core.specs.Legal.{IsStep}
 use Rattle.lan_core.specs.Fresh.{drawn_saks}
-use Rattle.group_safety.specs.Once.{In, makes}
+use Rattle.group_safety.specs.Once.{makes}
+use Rattle.group_safety.proofs.Members.{In, in-left}
 use Rattle.group_safety.proofs.once.Ledgers.{Said, Book, Change, MaySay, book, AreAllowed}
 use Rattle.group_safety.proofs.once.Histories.{heard_of, deeds, deeds_of, deeds-ticked, keys-said}
 use Rattle.group_safety.proofs.once.Histories.{sent-before, sent-some, heard-ticked}
 use Rattle.group_safety.proofs.once.KeysSound.{AreSound, sound-more}
 use Rattle.group_safety.proofs.once.Rules.{said_by}
-use Rattle.group_safety.proofs.once.Places.{in-left}
 use Rattle.group_safety.proofs.once.Origins.{said-later}
 use Rattle.group_safety.proofs.once.Carried.{IsCarried}
 use Rattle.group_safety.proofs.once.Gists.{IsGist, installed_at, sent_frame}
@@ -66,45 +66,6 @@ speaker-of settings users r s l is plain v = record {
   sent = v.sent;
   heard = v.heard;
 }
-
--- what a station says at a tick, its frame spells
-pub tick-spells : (settings : Settings) (users : List UserFrame) (s next : ℕ) (f : List Fact)
-    (r : Run) (l : Life)
-    (a : Announcement) → IsStep settings users (happened (events.Tick s next) f) r
-    → IsKnown settings users r
-    → life settings s r ≡ Some l → tick_facts settings s r next (sak_in f) l ≡ f
-    → tick_said l.member (seen_at settings s r l next) (sak_in f) l.past ≡ Some a
-    → Spells (frame_of l.member.setup a) a (length (written a))
-    (cmac l.member.setup.ick (written a))
-tick-spells settings users s next f r l a step k living shows e =
-    said-spells l.member seen (sak_in f) l.past (ticks r) a ready
-    (speaker-of settings users r s l step.setting k.plain v)
-    (seen-small settings s r l next)
-    (tick-sound l.member seen (sak_in f) l.past (ticks r) ready
-    (drawn-secret settings f s key g step.in_order.1.2)) e
-  where
-    seen : Seen
-    seen = seen_at settings s r l next
-
-    key : Option Key
-    key = tick_key l.member seen (sak_in f) l.past
-
-    v : IsLiving settings r s l
-    v = k.living s l living
-
-    few : 1 + ticks r ≤ 1000000
-    few = step.within.ticks
-
-    ready : IsReady l.member l.past (ticks r)
-    ready = record { mi = v.mi; keys = v.keys; few = omega (arith, few) }
-
-    g : IsGist f [] (installed_at s key)
-        (sent_frame (next_frame r) s
-        (option_map (frame_of l.member.setup) (tick_said l.member seen (sak_in f) l.past))) []
-    g = subst (λ w. IsGist w [] (installed_at s key)
-        (sent_frame (next_frame r) s
-        (option_map (frame_of l.member.setup) (tick_said l.member seen (sak_in f) l.past))) [])
-        shows (tick-gist settings s r next (sak_in f) l)
 
 tick-on : (settings : Settings) (users : List UserFrame) (s next : ℕ) (f : List Fact) (r : Run)
     (l : Life)

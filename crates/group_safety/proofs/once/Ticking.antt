@@ -26,9 +26,8 @@ use Rattle.mka_station.specs.Announcing.{says_now, lowest_in, announcement, fram
 use Rattle.mka_station.specs.Tick.{tick_turn, led, made, ended, with_beginning, with_install}
 use Rattle.mka_station.specs.Tick.{with_sent, install_changes}
 use Rattle.lan_core.specs.Types.{IsSecret}
-use Rattle.group_safety.specs.Once.{In}
+use Rattle.group_safety.proofs.Members.{In, in-map, in-from_map}
 use Rattle.group_safety.proofs.once.Ledgers.{Handed, Made, Book, MayMake, MaySay, IsOwn}
-use Rattle.group_safety.proofs.once.Places.{in-map, in-from_map}
 use Rattle.group_safety.proofs.once.Histories.{heard_of, handed, made_of, deeds_of, with_key}
 use Rattle.group_safety.proofs.once.Histories.{with_began, elects, keys-begun, keys-installed}
 use Rattle.group_safety.proofs.once.Histories.{keys-ticked, view-keys, view-peers, sent-before}

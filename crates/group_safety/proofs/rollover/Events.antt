@@ -1,9 +1,9 @@
 -- What an event of a stepped run is, and what it is to each station.
-use Rattle.std.proofs.Common.{◌≡◌, inl, ℕ, zero, suc, ◌<◌, false, List, [], ◌∷◌, length, refl, ap}
-use Rattle.std.proofs.Common.{sym, ◌∙◌, subst, arith}
-use Rattle.std.proofs.Common.{Option, Some, None, Result, Ok, Err}
+use Rattle.std.proofs.Common.{◌≡◌, inl, ℕ, false, List, [], ◌∷◌, length, refl, ap}
+use Rattle.std.proofs.Common.{sym, ◌∙◌, subst}
+use Rattle.std.proofs.Common.{Option, Some, Result, Ok, Err}
 use Rattle.std.proofs.lemmas.Bool.{eqb-true}
-use Rattle.std.specs.Prelude.{◌==◌, option_map, option_and_then, slice_get}
+use Rattle.std.specs.Prelude.{◌==◌, option_map, slice_get}
 use Rattle.lan_base.specs.declared.name.Name.{Name}
 use Rattle.lan_base.specs.declared.address.Mi.{Mi}
 use Rattle.lan_base.specs.declared.address.Sci.{Sci}
@@ -28,18 +28,8 @@ use Rattle.lan_core.specs.Expected.{claim_fact, emit_facts}
 use Rattle.lan_core.specs.Order.{Exists}
 use Rattle.lan_core.specs.Legal.{IsStep}
 use Rattle.group_safety.specs.inside.Waits.{tick_of}
-use Rattle.group_safety.proofs.rollover.Members.{In}
-
-pub mapped : {A B : Type 0} (f : A → B) (o : Option A) (b : B) → option_map f o ≡ Some b
-    → (a : A) × (o ≡ Some a) × (f a ≡ b)
-mapped f None b is = absurd (cc (is))
-mapped f (Some a) b is = (a, refl, cc (is))
-
-pub chained : {A B : Type 0} (f : A → Option B) (o : Option A) (b : B)
-    → option_and_then f o ≡ Some b
-    → (a : A) × (o ≡ Some a) × (f a ≡ Some b)
-chained f None b is = absurd (cc (is))
-chained f (Some a) b is = (a, refl, is)
+use Rattle.group_safety.proofs.Members.{In}
+use Rattle.group_safety.proofs.once.Nexts.{get-there, mapped, chained}
 
 -- octets reach a station: those of a frame on the air, or foreign ones
 pub data IsReached (r : Run) (e : Event) (s number : ℕ) (octets : List ℕ) : Type 0 where
@@ -124,15 +114,6 @@ pub data Part (settings : Settings) (u : ℕ) (r : Run) (e : Event) (shown : Lis
   born : (l : Life) → l.past ≡ [] → IsBirth u r e → after ≡ Some l
       → In (facts.Life u l.member.mi) shown
       → Part settings u r e shown after
-
-drawn-in : (s : ℕ) (mi : Mi) (rest : List Fact) → drawn_mi (facts.Life s mi ∷ rest) ≡ Some mi
-drawn-in s mi rest = refl
-
-pub get-there : {A : Type 0} (xs : List A) (n : ℕ) → n < length xs
-    → (x : A) × (slice_get xs n ≡ Some x)
-get-there [] n less = absurd (omega arith)
-get-there (y ∷ ys) zero less = (y, refl)
-get-there (y ∷ ys) (suc n) less = get-there ys n (omega arith)
 
 begun-is : (settings : Settings) (u : ℕ) (r : Run) (shown : List Fact) (p : Profile) (mi : Mi)
     → drawn_mi shown ≡ Some mi

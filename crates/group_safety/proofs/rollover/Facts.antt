@@ -31,7 +31,7 @@ use Rattle.mka_station.specs.inside.Stages.{says_at}
 use Rattle.lan_core.specs.declared.fact.Fact.{Fact}
 use Rattle.lan_core.specs.declared.fact.Fact.TheVariants as facts
 use Rattle.lan_core.specs.Expected.{change_fact, reaction_facts}
-use Rattle.group_safety.proofs.rollover.Members.{In, in-append, in-map, in-option, by_sum}
+use Rattle.group_safety.proofs.Members.{In, in-either, in-from_map, in-option, by_sum}
 
 -- where a fact of a reaction comes from
 pub data Reacts (s h n : ℕ) (re : Reaction) (f : Fact) : Type 0 where
@@ -48,13 +48,13 @@ reacts s h n re f i =
     let second = option_to_list (option_map (λ m. facts.Server s m) re.server) in
     let third = map (change_fact s) re.changes in
     let last = option_to_list (option_map (λ octets. facts.Framed n s false octets) re.sent) in
-    by_sum (in-append f first (second ++ (third ++ last)) i)
-    (λ a. let r = in-option (λ v. facts.HeardMka h s v) f re.heard a in hears r.0 r.2)
-    (λ b. by_sum (in-append f second (third ++ last) b)
-    (λ a. let r = in-option (λ m. facts.Server s m) f re.server a in serves r.0 r.2)
-    (λ d. by_sum (in-append f third last d)
-    (λ a. let r = in-map (change_fact s) f re.changes a in alters r.0 r.1 r.2)
-    (λ a. let r = in-option (λ octets. facts.Framed n s false octets) f re.sent a in
+    by_sum (in-either first (second ++ (third ++ last)) f i)
+    (λ a. let r = in-option (λ v. facts.HeardMka h s v) re.heard f a in hears r.0 r.2)
+    (λ b. by_sum (in-either second (third ++ last) f b)
+    (λ a. let r = in-option (λ m. facts.Server s m) re.server f a in serves r.0 r.2)
+    (λ d. by_sum (in-either third last f d)
+    (λ a. let r = in-from_map (change_fact s) re.changes f a in alters r.0 r.1 r.2)
+    (λ a. let r = in-option (λ octets. facts.Framed n s false octets) re.sent f a in
     sends r.0 r.1 r.2)))
 
 -- a change that takes a key away, or none
@@ -72,12 +72,12 @@ pub data Alters (lead : Option Beginning) (key : Option Key) (c : Change) : Type
 
 in-dropped : {A : Type 0} (f : A → HeldKey) (c : Change) (ks : List A)
     → In c (map (λ k. changes.Dropped (f k)) ks) → IsRemoval c
-in-dropped f c ks i = let r = in-map (λ k. changes.Dropped (f k)) c ks i in drops (f r.0) r.2
+in-dropped f c ks i = let r = in-from_map (λ k. changes.Dropped (f k)) ks c i in drops (f r.0) r.2
 
 in-ended : (h : List Keying) (server : Option Mi) (c : Change) → In c (ended h server) → IsRemoval c
 in-ended h None c i = in-dropped (held h) c (received h) i
 in-ended h (Some server) c i = let r =
-    in-option (λ k. changes.Retired (held h k)) c (retired h) i in retires (held h r.0) r.2
+    in-option (λ k. changes.Retired (held h k)) (retired h) c i in retires (held h r.0) r.2
 
 in-begun : (h : List Keying) (o : Option Beginning) (key : Option Key) (c : Change)
     → In c (beginning h o).changes → Alters o key c
@@ -92,9 +92,9 @@ in-installed : (h : List Keying) (r : Option (List Mi)) (k : Key) (lead : Option
     changes.Installed (shown false k) ∷ [])
     → Alters lead (Some k) c
 in-installed h r k lead c i =
-    by_sum (in-append c (map (λ j. changes.Dropped (held h j))
+    by_sum (in-either (map (λ j. changes.Dropped (held h j))
     (filter (ends (Rattle.sak_exchange.specs.Histories.installed r k) h) (received h)))
-    (changes.Installed (shown false k) ∷ []) i)
+    (changes.Installed (shown false k) ∷ []) c i)
     (λ a. removes (in-dropped (held h) c _ a))
     (λ a. elim a [ inl e ↦ installs k refl e | inr none ↦ absurd none ])
 
@@ -114,9 +114,9 @@ tick-alters m seen sak p c i =
     let second = (beginning v1.keys (led m v1)).changes in
     let third = install_changes v1.keys (Rattle.mka_station.specs.inside.Stages.roster_at m p)
     (made m v1 seen sak) in
-    by_sum (in-append c first (second ++ third) i)
+    by_sum (in-either first (second ++ third) c i)
     (λ a. removes (in-ended (view m p).keys v1.server c a))
-    (λ b. by_sum (in-append c second third b)
+    (λ b. by_sum (in-either second third c b)
     (λ a. in-begun v1.keys (led m v1) (made m v1 seen sak) c a)
     (λ a. in-key v1.keys (Rattle.mka_station.specs.inside.Stages.roster_at m p) (made m v1 seen sak)
     (led m v1) c a))
@@ -137,9 +137,9 @@ unfolding hear_turn
 hear-alters m a p c i =
     let v1 = view m (heard a ∷ p) in
     let first = take_changes v1.keys (offer_at m a p) (answer_at m a p) in
-    by_sum (in-append c first (beginning
+    by_sum (in-either first (beginning
     (view m (Rattle.mka_station.specs.inside.Stages.taken_past m a p)).keys
-    (follow_at m a p)).changes i)
+    (follow_at m a p)).changes c i)
     (λ b. in-taken v1.keys (offer_at m a p) (answer_at m a p) (follow_at m a p) c b)
     (λ b. in-begun (view m (Rattle.mka_station.specs.inside.Stages.taken_past m a p)).keys
     (follow_at m a p) (key_taken (answer_at m a p)) c b)
@@ -148,11 +148,6 @@ pub tick-sends : (m : Member) (seen : Seen) (sak : Secret) (p : List Entry)
     → (tick_turn m seen sak p).reaction.sent ≡ option_map (frame_of m.setup) (says_at m seen sak p)
 unfolding tick_turn
 tick-sends m seen sak p = refl
-
-pub hear-silent : (m : Member) (a : Announcement) (p : List Entry)
-    → (hear_turn m a p).reaction.sent ≡ None
-unfolding hear_turn
-hear-silent m a p = refl
 
 -- ---- by the kind of fact
 

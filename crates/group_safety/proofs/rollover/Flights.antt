@@ -1,7 +1,7 @@
 -- A frame's way from its claim to a delivery.
 use Rattle.std.proofs.Common.{◌≡◌, ◌≢◌, inl, inr, ℕ, zero, suc, ◌≤◌, ◌<◌, Bool, true, false, List}
 use Rattle.std.proofs.Common.{[], ◌∷◌, ◌++◌, length, refl, ap, sym, ◌∙◌, subst, arith}
-use Rattle.std.proofs.Common.{Option, Some, None, Ok}
+use Rattle.std.proofs.Common.{Option, Some, None}
 use Rattle.std.proofs.lemmas.Bool.{cases_lt, eqb-true, eqb-false}
 use Rattle.std.proofs.lemmas.List.{length-append, append_assoc}
 use Rattle.std.specs.Prelude.{◌==◌, option_map, slice_get}
@@ -10,13 +10,13 @@ use Rattle.lan_base.specs.declared.address.Sci.{Sci}
 use Rattle.lan_base.specs.Identifiers.{same_sci}
 use Rattle.aes_block.specs.declared.secret.Secret.{Secret}
 use Rattle.aes_block.specs.declared.secret.Secret.TheVariants.{S128, S256}
+use Rattle.group_safety.proofs.Members.{In, contains-in, by_sum}
 use Rattle.group_safety.proofs.once.KeysSound.{installed-key, IsKeyIn}
 use Rattle.group_safety.proofs.rollover.KeyFacts.{received-installed, transmitting-received}
 use Rattle.aes_block.specs.Secrets.{secret_octets}
 use Rattle.aes_block.specs.Aes.{IsKey as IsCipherKey}
 use Rattle.gcm_frames.specs.Protected.{IsSent, protected}
 use Rattle.gcm_frames.specs.Tags.{is_sec}
-use Rattle.gcm_frames.specs.Written.{tag_written}
 use Rattle.gcm_frames.proofs.Reread.{reread}
 use Rattle.gcm_frames.proofs.Reopened.{reopened}
 use Rattle.rx_slots.specs.Histories.{Receiving, standing_key}
@@ -47,16 +47,15 @@ use Rattle.group_safety.specs.Stations.{keys_at}
 use Rattle.group_safety.specs.Time.{Claims, IsFlight, Answers}
 use Rattle.group_safety.proofs.once.Ciphers.{encrypts}
 use Rattle.group_safety.proofs.once.Living.{IsLiving}
-use Rattle.group_safety.proofs.once.Nexts.{in-get, get-less}
+use Rattle.group_safety.proofs.once.Nexts.{in-get, get-less, in-later, in-gathered, mapped, chained}
 use Rattle.group_safety.proofs.once.LiveHeard.{in-find}
-use Rattle.group_safety.proofs.rollover.Members.{In, by_sum}
 use Rattle.group_safety.proofs.rollover.Spans.{from_to}
 use Rattle.group_safety.proofs.rollover.Moments.{along, event-at, to-upto}
-use Rattle.group_safety.proofs.rollover.Events.{Kind, kind, mapped, chained}
+use Rattle.group_safety.proofs.rollover.Events.{Kind, kind}
 use Rattle.group_safety.proofs.rollover.Events as kinds
 use Rattle.group_safety.proofs.rollover.Shows.{claims-by}
 use Rattle.group_safety.proofs.rollover.OneLife.{step-at, stands-at}
-use Rattle.group_safety.proofs.rollover.Said.{known-at, frames-by, in-framed}
+use Rattle.group_safety.proofs.rollover.Said.{known-at, frames-by}
 use Rattle.group_safety.proofs.rollover.Said as said
 use Rattle.group_safety.proofs.rollover.Lived.{life-kept}
 use Rattle.group_safety.proofs.rollover.Slots.{Stands}
@@ -87,22 +86,6 @@ one-number (f ∷ fs) y z n (inr i) (inl b) e =
 one-number (f ∷ fs) y z n (inr i) (inr j) e = one-number fs y z n.1 i j e
 
 -- facts only add frames
-gather-more : (f : List Fact) (fs : List Frame) (y : Frame) → In y fs → In y (gather framed f fs)
-gather-more [] fs y i = i
-gather-more (facts.Framed n s sec o ∷ later) fs y i = gather-more later _ y (inr i)
-gather-more (fact ∷ later) fs y i = gather-more later fs y i
-
-gather-here : (f : List Fact) (fs : List Frame) (n s : ℕ) (sec : Bool) (o : List ℕ)
-    → In (facts.Framed n s sec o) f
-    → In (record { number = n; station = s; sec = sec; octets = o }) (gather framed f fs)
-gather-here [] fs n s sec o i = absurd i
-gather-here (fact ∷ later) fs n s sec o (inl e) =
-    subst (λ (v : Fact). In (record { number = n; station = s; sec = sec; octets = o })
-    (gather framed (v ∷ later) fs)) e
-    (gather-more later (record { number = n; station = s; sec = sec; octets = o } ∷ fs) _
-    (inl refl))
-gather-here (fact ∷ later) fs n s sec o (inr i) = gather-here later _ n s sec o i
-
 gather-length : (f : List Fact) (fs : List Frame) → length fs ≤ length (gather framed f fs)
 gather-length [] fs = omega arith
 gather-length (facts.Framed n s sec o ∷ later) fs = let r =
@@ -112,7 +95,7 @@ gather-length (fact ∷ later) fs = gather-length later fs
 
 air-step : (x : Happening) (r : Run) (y : Frame) → In y (air r) → In y (air (x ∷ r))
 unfolding air
-air-step x r y i = gather-more x.facts (air r) y i
+air-step x r y i = in-later framed x.facts (air r) y i
 
 air-length : (x : Happening) (r : Run) → length (air r) ≤ length (air (x ∷ r))
 unfolding air
@@ -122,7 +105,8 @@ air-new : (x : Happening) (r : Run) (n s : ℕ) (sec : Bool) (o : List ℕ)
     → In (facts.Framed n s sec o) x.facts
     → In (record { number = n; station = s; sec = sec; octets = o }) (air (x ∷ r))
 unfolding air
-air-new x r n s sec o i = gather-here x.facts (air r) n s sec o i
+air-new x r n s sec o i =
+    in-gathered framed x.facts (air r) (facts.Framed n s sec o) _ i refl
 
 one-at-least : (n : ℕ) → n ≢ 0 → 1 ≤ n
 one-at-least zero d = absurd (d refl)
@@ -222,7 +206,8 @@ module _ (settings : Settings) (users : List UserFrame) (run : Run) (is : IsSett
       let by = claims-by settings users
       (upto c run) claims.event.event claims.event.facts sender key.an key.epoch pn
       (kind settings users claims.event (upto c run)
-      (step-of c claims.event claims.within claims.at)) claims.fact in
+      (step-of c claims.event claims.within claims.at))
+      (contains-in claims.event.facts _ claims.fact) in
       let within = claims.within in
       let here : slice_get (claimed settings (upto e run)) (length (claimed settings (upto c run)))
       ≡ Some w = subst (λ n. slice_get (claimed settings (upto e run)) n ≡ Some w) place waits
@@ -393,10 +378,11 @@ module _ (settings : Settings) (users : List UserFrame) (run : Run) (is : IsSett
       let E = F.its_frame in
       let within = E.within in
       let high = F.within in
+      let frame_in = contains-in E.event.facts (facts.Framed frame E.station true E.octets) E.fact in
       let fb = frames-by settings users
       (upto E.emission run) E.event.event E.event.facts frame E.station true E.octets
       (kind settings users E.event (upto E.emission run) (step-of E.emission E.event within E.at))
-      E.fact in
+      frame_in in
       elim fb [
         | said.says next l a s ev living said_it o ↦ absurd (cc (s))
         | said.emits w s ev waits sent st ↦
@@ -412,13 +398,14 @@ module _ (settings : Settings) (users : List UserFrame) (run : Run) (is : IsSett
             let kin = sending-key c sender key C.sends in
             let claims = claims-by settings users
             (upto c run) C.event.event C.event.facts sender key.an key.epoch F.pn
-            (kind settings users C.event (upto c run) (step-of c C.event C.within C.at)) C.fact in
+            (kind settings users C.event (upto c run) (step-of c C.event C.within C.at))
+            (contains-in C.event.facts _ C.fact) in
             let typed = (subst IsTyped claims.event
             ((step-of c C.event C.within C.at).in_order.0)).2 in
             let positive = eqb-false F.pn 0 claims.number in
             let B = brought d t frame F.event high F.at F.delivered in
             let number = emit-number E.emission E.event frame E.station E.octets within E.at ev
-            E.fact in
+            frame_in in
             let z : Frame = record {
               number = frame;
               station = E.station;
@@ -428,7 +415,7 @@ module _ (settings : Settings) (users : List UserFrame) (run : Run) (is : IsSett
             } in
             let z_in : In z (air (upto (suc E.emission) run)) =
             subst (λ r. In z (air r)) (sym E.at)
-            (air-new E.event (upto E.emission run) frame E.station true E.octets E.fact) in
+            (air-new E.event (upto E.emission run) frame E.station true E.octets frame_in) in
             let y_in : In B.y (air (upto d run)) =
             in-find (λ (v : Frame). v.number == frame) (air (upto d run)) B.y B.there in
             let y_number : B.y.number ≡ frame =

@@ -1,5 +1,5 @@
 -- The hitless rollover over stepped runs.
-use Rattle.std.proofs.Common.{◌≡◌, inr, ℕ, suc, ◌+◌, ◌≤◌, ◌<◌, List, [], ◌∷◌, length, refl, ap, sym}
+use Rattle.std.proofs.Common.{◌≡◌, ℕ, suc, ◌+◌, ◌≤◌, ◌<◌, List, ◌∷◌, length, refl, ap, sym}
 use Rattle.std.proofs.Common.{◌∙◌, subst, arith}
 use Rattle.std.proofs.Common.{Option, Some, None, option_map}
 use Rattle.lan_base.specs.declared.key_id.KeyId.{KeyId}
@@ -10,10 +10,9 @@ use Rattle.rx_slots.specs.Histories.{standing_key}
 use Rattle.sak_exchange.specs.Histories.{Key, installs}
 use Rattle.sak_exchange.specs.Held.{received, transmitting}
 use Rattle.sak_exchange.specs.Lives.{Has}
-use Rattle.lan_core.specs.declared.fact.Fact.{Fact}
 use Rattle.lan_core.specs.declared.settings.Settings.{Settings}
 use Rattle.lan_core.specs.Run.{Run, Happening}
-use Rattle.lan_core.specs.Ledgers.{Install, install_of, gather, with_one}
+use Rattle.lan_core.specs.Ledgers.{Install, install_of}
 use Rattle.lan_core.specs.Ledgers as ledgers
 use Rattle.lan_core.specs.Lives.{Life, life, receiving, transmitting_at, keys_in}
 use Rattle.lan_core.specs.Types.{IsSetting}
@@ -27,9 +26,10 @@ use Rattle.group_safety.specs.Steady.{IsKeeper, IsSteady}
 use Rattle.group_safety.specs.Time.{IsFlight, IsFound, Answers, HasSaid, IsInTime}
 use Rattle.group_safety.specs.Hitless.{Hitless}
 use Rattle.group_safety.specs.inside.Course.{Holds}
+use Rattle.group_safety.proofs.Members.{In, in-contains, by_sum}
 use Rattle.group_safety.proofs.once.Living.{IsLiving, install_by}
+use Rattle.group_safety.proofs.once.Nexts.{in-later}
 use Rattle.group_safety.proofs.once.RunLaws.{known, run-one_key}
-use Rattle.group_safety.proofs.rollover.Members.{In, by_sum}
 use Rattle.group_safety.proofs.rollover.Spans.{from_to}
 use Rattle.group_safety.proofs.rollover.Moments.{event-at, upto-all}
 use Rattle.group_safety.proofs.rollover.KeyFacts.{received-installed, transmitting-received}
@@ -41,21 +41,10 @@ use Rattle.group_safety.proofs.rollover.Timely.{held-old, held-new, soon-for-old
 use Rattle.group_safety.proofs.rollover.Slots.{sak_under, ans-differ, under-is}
 use Rattle.group_safety.proofs.rollover.Flights.{answers-it, slots-at, has-in, flight}
 
--- facts only add installs
-gather-more : (f : List Fact) (is : List Install) (i : Install) → In i is
-    → In i (gather install_of f is)
-gather-more [] is i h = h
-gather-more (fact ∷ later) is i h =
-    gather-more later (with_one (install_of fact) is) i (one (install_of fact) h)
-  where
-    one : (o : Option Install) → In i is → In i (with_one o is)
-    one None h = h
-    one (Some j) h = inr h
-
 installs-step : (x : Happening) (r : Run) (i : Install) → In i (ledgers.installs r)
     → In i (ledgers.installs (x ∷ r))
 unfolding ledgers.installs
-installs-step x r i h = gather-more x.facts (ledgers.installs r) i h
+installs-step x r i h = in-later install_of x.facts (ledgers.installs r) i h
 
 module _ (settings : Settings) (users : List UserFrame) (run : Run)
     (is : IsSetting settings) (stepped : IsStepped settings users run)
@@ -106,7 +95,9 @@ module _ (settings : Settings) (users : List UserFrame) (run : Run)
       let within = C.within in
       let theirs = sending-of c sender key (omega arith) C.sends in
       let one = run-one_key settings users run (known settings users run stepped unforged) fresh
-      (install_by t H.key) (install_by sender key) mine theirs H.named in
+      (install_by t H.key) (install_by sender key)
+      (in-contains (ledgers.installs run) (install_by t H.key) mine)
+      (in-contains (ledgers.installs run) (install_by sender key) theirs) H.named in
       let kept = kept-at settings users run is stepped unforged fresh.mis t d (omega arith) in
       let under = under-is (received (keys_at settings t (upto d run))) H.key
       (ans-differ kept.0 (keys_at settings t (upto d run)) kept.1) H.received_here in
@@ -121,13 +112,13 @@ module _ (settings : Settings) (users : List UserFrame) (run : Run)
         event = K.event;
         at = K.at;
         arrival = answer l.member.setup.sci settings.window (receiving t (upto d run)) K.octets;
-        fact = K.fact;
+        fact = in-contains K.event.facts _ K.fact;
         answers = subst (λ o. Answers (answer l.member.setup.sci settings.window
             (receiving t (upto d run)) o)) (sym K.protected_so) answered;
         receives = record {
           key = H.key;
-          received_here =
-              has-in H.key (received (keys_at settings t (upto d run))) H.received_here;
+          received_here = in-contains (received (keys_at settings t (upto d run))) H.key
+              (has-in H.key (received (keys_at settings t (upto d run))) H.received_here);
           number =
               one.1;
           secret = one.0;

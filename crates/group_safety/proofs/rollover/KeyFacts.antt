@@ -20,11 +20,6 @@ pub has-append : (k : Key) (a b : List Key) → Has k b → Has k (a ++ b)
 has-append k [] b has = has
 has-append k (j ∷ a) b has = inr (has-append k a b has)
 
-pub has-left : (k : Key) (a b : List Key) → Has k a → Has k (a ++ b)
-has-left k [] b has = absurd has
-has-left k (j ∷ a) b (inl same) = inl same
-has-left k (j ∷ a) b (inr rest) = inr (has-left k a b rest)
-
 pub installs-append : (a b : List Keying) → installs (a ++ b) ≡ installs a ++ installs b
 installs-append [] b = refl
 installs-append (ticked s ∷ a) b = installs-append a b

@@ -14,7 +14,7 @@ use Rattle.sak_exchange.specs.Beginning.{Beginning}
 use Rattle.sak_exchange.specs.Lives.{Has}
 use Rattle.sak_exchange.proofs.Cases.{by_test}
 use Rattle.sak_exchange.proofs.Epochs.{begun-upto}
-use Rattle.mka_station.specs.Lives.{Member, Entry, keys_of}
+use Rattle.mka_station.specs.Lives.{keys_of}
 use Rattle.mka_station.specs.Lives as lives
 use Rattle.mka_station.specs.Views.{view}
 use Rattle.mka_station.specs.Tick.{led}
@@ -29,14 +29,15 @@ use Rattle.lan_core.specs.Legal.{IsStepped}
 use Rattle.lan_core.specs.Fresh.{IsUnforged, AllDiffer, drawn_mis}
 use Rattle.group_safety.specs.Moments.{upto, At}
 use Rattle.group_safety.specs.Stations.{keys_at, keys_of_life}
-use Rattle.group_safety.proofs.rollover.Members.{by_sum}
+use Rattle.group_safety.proofs.Members.{by_sum}
+use Rattle.group_safety.proofs.once.Histories.{with_began, with_key, keys-said}
 use Rattle.group_safety.proofs.rollover.Spans.{from_to}
 use Rattle.group_safety.proofs.rollover.Moments.{event-at, upto-zero}
 use Rattle.group_safety.proofs.rollover.KeyFacts.{latest-received, received-installed}
 use Rattle.group_safety.proofs.rollover.KeyFacts.{transmitting-last}
 use Rattle.group_safety.proofs.rollover.Rules.{following-is}
-use Rattle.group_safety.proofs.rollover.Turns.{IsTurn, kept-turn, with_began, with_key, with_tick}
-use Rattle.group_safety.proofs.rollover.Turns.{keys-said, turn-past}
+use Rattle.group_safety.proofs.rollover.Turns.{IsTurn, kept-turn, with_tick}
+use Rattle.group_safety.proofs.rollover.Turns.{turn-past}
 use Rattle.group_safety.proofs.rollover.Rounds.{IsPaced}
 use Rattle.group_safety.proofs.rollover.Shown.{said-transmitting}
 use Rattle.group_safety.proofs.rollover.Said.{Said, reached-said}

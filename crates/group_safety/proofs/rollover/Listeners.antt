@@ -11,7 +11,7 @@ use Rattle.mkpdu_codec.specs.declared.announcement.Announcement.{Announcement}
 use Rattle.peer_lists.specs.Acceptance.{Accepted}
 use Rattle.sak_exchange.specs.declared.change.Cause.{Cause}
 use Rattle.sak_exchange.specs.declared.report.Report.{Report}
-use Rattle.sak_exchange.specs.Histories.{Key, Keying, ticked, installed, began, installs, begun_at}
+use Rattle.sak_exchange.specs.Histories.{Key, Keying, ticked, installed, began, installs}
 use Rattle.sak_exchange.specs.Histories.{has_begun}
 use Rattle.sak_exchange.specs.Held.{Kept, latest, old}
 use Rattle.sak_exchange.specs.Beginning.{Beginning}
@@ -39,17 +39,17 @@ use Rattle.group_safety.specs.Rounds.{rounds}
 use Rattle.group_safety.specs.Stations.{mi_at, keys_at}
 use Rattle.group_safety.specs.Steady.{Begins, IsListener, IsKeeper, IsSteady}
 use Rattle.group_safety.specs.inside.Course.{Course, Rests, IsListening, IsKeeping}
-use Rattle.group_safety.proofs.once.Rules.{all-in}
-use Rattle.group_safety.proofs.rollover.Members.{In, by_sum, in-mapped}
+use Rattle.group_safety.proofs.Members.{In, contains-in, all-in, in-map, by_sum}
+use Rattle.group_safety.proofs.once.Histories.{with_began, with_key, view-keys, keys-heard}
 use Rattle.group_safety.proofs.rollover.Moments.{one-event, upto-all}
 use Rattle.group_safety.proofs.rollover.KeyFacts.{installed-on, latest-received, received-installed}
 use Rattle.group_safety.proofs.rollover.Rules.{led-is, all-report, taking-is}
 use Rattle.group_safety.proofs.rollover.Events.{kind, IsReached}
 use Rattle.group_safety.proofs.rollover.Events as parts
-use Rattle.group_safety.proofs.rollover.Shows.{BeginsBy, begins-by}
+use Rattle.group_safety.proofs.rollover.Shows.{begins-by}
 use Rattle.group_safety.proofs.rollover.Shows as shows
-use Rattle.group_safety.proofs.rollover.Turns.{IsHearTurn, kept-turn, with_began, with_key}
-use Rattle.group_safety.proofs.rollover.Turns.{with_tick, view-keys, keys-heard}
+use Rattle.group_safety.proofs.rollover.Turns.{IsHearTurn, kept-turn}
+use Rattle.group_safety.proofs.rollover.Turns.{with_tick}
 use Rattle.group_safety.proofs.rollover.Rounds.{IsPaced}
 use Rattle.group_safety.proofs.rollover.Shown.{said-latest, said-old}
 use Rattle.group_safety.proofs.rollover.OneLife.{step-at, unbroken-life, stands-at}
@@ -63,10 +63,10 @@ use Rattle.group_safety.proofs.rollover.Words.{word-heard, word-other}
 use Rattle.group_safety.proofs.rollover.OneFrame.{one-frame, one-saying, said-number}
 use Rattle.group_safety.proofs.rollover.Servers.{TakenAt, rests, makes, takes, installs-at}
 use Rattle.group_safety.proofs.rollover.Servers.{words-ticked, the-course}
-use Rattle.group_safety.proofs.rollover.Rollovers.{c, is-course, tick-turn-then, beginning-tick}
-use Rattle.group_safety.proofs.rollover.Rollovers.{IsBeginning, grown-in, made-here, server-life}
-use Rattle.group_safety.proofs.rollover.Rollovers.{server-serves, server-lives, led-here, new-named}
-use Rattle.group_safety.proofs.rollover.Rollovers.{new-key, apart, rollover}
+use Rattle.group_safety.proofs.rollover.Rollovers.{tick-turn-then, beginning-tick}
+use Rattle.group_safety.proofs.rollover.Rollovers.{grown-in, made-here, server-life}
+use Rattle.group_safety.proofs.rollover.Rollovers.{led-here}
+use Rattle.group_safety.proofs.rollover.Rollovers.{apart, rollover}
 
 -- ---- histories
 
@@ -159,7 +159,8 @@ module _ (settings : Settings) (users : List UserFrame) (run : Run) (is : IsSett
       elim (begins-by settings users (upto x run) B.event.event B.event.facts t id B.an B.epoch
       cause
       (kind settings users B.event (upto x run)
-      (step-at settings users run stepped fresh x B.event B.within B.at)) B.fact) [
+      (step-at settings users run stepped fresh x B.event B.within B.at))
+      (contains-in B.event.facts _ B.fact)) [
         | shows.leads next l ev living b ↦
             let y = tick-turn-then settings users run is stepped unforged fresh from paced t x next
             B.event l B.within B.at ev living in
@@ -206,9 +207,10 @@ module _ (settings : Settings) (users : List UserFrame) (run : Run) (is : IsSett
         let s = l.sends in
         let a = l.announcement in
         let said = framed-said settings users run is stepped unforged fresh sent s.event s.number t
-        s.octets s.profile a s.within s.at s.fact s.spelled in
+        s.octets s.profile a s.within s.at (contains-in s.event.facts _ s.fact) s.spelled in
         let sl = l.server_life in
-        let w = word-heard sl.member sl.past says l.live in
+        let live = contains-in (live_words sl.member (peers_of sl.member sl.past)) says l.live in
+        let w = word-heard sl.member sl.past says live in
         let within = S.begins.within in
         let b : Announcement = w.0 in
         let h = heard-said settings users run is stepped unforged fresh
@@ -225,7 +227,7 @@ module _ (settings : Settings) (users : List UserFrame) (run : Run) (is : IsSett
         ∙ server-life settings users run is stepped unforged fresh from paced q i server old_id
         new_id lag S (suc i) (let o = S.order in omega arith) within in cc (f) in
         let other : a.mi ≢ new_id.server =
-        λ e. word-other sl.member sl.past says l.live (sym l.mi ∙ e ∙ sym own) in
+        λ e. word-other sl.member sl.past says live (sym l.mi ∙ e ∙ sym own) in
         record {
           announcement = a;
           said = said;
@@ -233,7 +235,7 @@ module _ (settings : Settings) (users : List UserFrame) (run : Run) (is : IsSett
           other = other;
           before = not-then t sent a said other (omega (arith, h.2, moment));
           reports = reported a says (ap (λ (v : Announcement). v.uses) one.1
-              ∙ sym w.2.uses) sl l.living l.live;
+              ∙ sym w.2.uses) sl l.living live;
         }
       where
         not-then : (t sent : ℕ) (a : Announcement) → Said settings run sent t a
@@ -280,8 +282,8 @@ module _ (settings : Settings) (users : List UserFrame) (run : Run) (is : IsSett
             (words-ticked l.member seen sak l.past
             ∙ view-live l.member (lives.ticked ∷ l.past)) there in
             let all = all-report v.keys (reports v.live) m.by.key (r.caused ∙ ap Some led_all.1) in
-            let told = in-mapped (λ (w : Accepted). let report : Report =
-            record { mi = w.told.mi; uses = w.told.uses } in report) says v.live words in
+            let told = in-map (λ (w : Accepted). let report : Report =
+            record { mi = w.told.mi; uses = w.told.uses } in report) v.live says words in
             let yes = all-in (λ (w : Report). reports_latest m.by.key.id w.uses)
             (reports v.live) all _ told in
             subst (λ u. reports_latest new_id u ≡ true) (sym uses)

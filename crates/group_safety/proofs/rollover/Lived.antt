@@ -7,7 +7,7 @@ use Rattle.lan_base.specs.declared.address.Mi.{Mi}
 use Rattle.lan_base.specs.declared.key_id.KeyId.{KeyId}
 use Rattle.lan_base.specs.declared.frame.UserFrame.{UserFrame}
 use Rattle.mkpdu_codec.specs.declared.announcement.Announcement.{Announcement}
-use Rattle.sak_exchange.specs.Histories.{Key, Keying, installs, clock, begun_at}
+use Rattle.sak_exchange.specs.Histories.{Key, Keying, installs, begun_at}
 use Rattle.sak_exchange.specs.Histories as keyings
 use Rattle.sak_exchange.specs.Held.{Kept}
 use Rattle.sak_exchange.specs.Lives.{Has, identifiers, IsNone, AllDiffer as IdsDiffer}
@@ -30,10 +30,10 @@ use Rattle.group_safety.specs.Rounds.{rounds}
 use Rattle.group_safety.specs.Stations.{mi_of, mi_at, keys_of_life, keys_at}
 use Rattle.group_safety.specs.inside.Waits.{waits, tick_of, last_tick}
 use Rattle.group_safety.specs.inside.Course.{Course, Step, Lives}
+use Rattle.group_safety.proofs.Members.{In, by_sum}
 use Rattle.group_safety.proofs.once.Histories.{heard_of, heard-ticked, heard-heard}
 use Rattle.group_safety.proofs.once.Ticking.{tick_key, tick_roster, tick_lead}
 use Rattle.group_safety.proofs.once.Living.{IsLiving}
-use Rattle.group_safety.proofs.rollover.Members.{In, by_sum}
 use Rattle.group_safety.proofs.rollover.Moments.{along, event-at, length-upto}
 use Rattle.group_safety.proofs.rollover.Turns.{IsTurn, kept-turn, news, turn-new, news-clock}
 use Rattle.group_safety.proofs.rollover.Turns.{turn-begins, tick_count, tick-is_turn, hear-is_turn}

@@ -17,7 +17,6 @@ use Rattle.sak_exchange.specs.Beginning.{Beginning}
 use Rattle.sak_exchange.specs.Taking.{number_of}
 use Rattle.sak_exchange.specs.Lives.{Has, IsNumbered}
 use Rattle.sak_exchange.proofs.Both.{first-is}
-use Rattle.mka_station.specs.Lives.{Member, Entry, keys_of, peers_of}
 use Rattle.mka_station.specs.Lives as lives
 use Rattle.mka_station.specs.Views.{view}
 use Rattle.mka_station.specs.Tick.{made}
@@ -33,23 +32,22 @@ use Rattle.lan_core.specs.Legal.{IsStepped}
 use Rattle.lan_core.specs.Fresh.{IsUnforged, AllDiffer, drawn_mis}
 use Rattle.group_safety.specs.Moments.{upto, At}
 use Rattle.group_safety.specs.Stations.{mi_of, mi_at, keys_at, keys_of_life}
+use Rattle.group_safety.proofs.Members.{by_sum}
 use Rattle.group_safety.proofs.once.Living.{IsLiving}
 use Rattle.group_safety.proofs.once.Rules.{given-is}
-use Rattle.group_safety.proofs.rollover.Members.{by_sum}
+use Rattle.group_safety.proofs.once.Histories.{with_began, with_key, view-keys, keys-ticked}
 use Rattle.group_safety.proofs.rollover.Spans.{from_to}
 use Rattle.group_safety.proofs.rollover.Moments.{event-at, upto-zero}
 use Rattle.group_safety.proofs.rollover.KeyFacts.{latest-received, received-installed}
 use Rattle.group_safety.proofs.rollover.Rules.{made-is, taking-is}
-use Rattle.group_safety.proofs.rollover.Turns.{IsTurn, with_began, with_key, with_tick, view-keys}
-use Rattle.group_safety.proofs.rollover.Turns.{keys-ticked}
+use Rattle.group_safety.proofs.rollover.Turns.{IsTurn, with_tick}
 use Rattle.group_safety.proofs.rollover.Rounds.{IsPaced}
-use Rattle.group_safety.proofs.rollover.Events.{IsReached}
 use Rattle.group_safety.proofs.rollover.Events as parts
 use Rattle.group_safety.proofs.rollover.Shown.{says-is}
 use Rattle.group_safety.proofs.rollover.OneLife.{one-life}
 use Rattle.group_safety.proofs.rollover.Said.{Said, known-at, reached-said}
 use Rattle.group_safety.proofs.rollover.Lived.{key-part, kept-at, tick-turn-at, hear-turn-at}
-use Rattle.group_safety.proofs.rollover.Lived.{lives-of, course}
+use Rattle.group_safety.proofs.rollover.Lived.{lives-of}
 use Rattle.group_safety.proofs.rollover.Lived as lived
 use Rattle.group_safety.proofs.rollover.Leads.{keys-when-said, life-when-said}
 

@@ -21,14 +21,14 @@ use Rattle.lan_core.specs.Legal.{IsStepped}
 use Rattle.lan_core.specs.Fresh.{IsUnforged, AllDiffer, drawn_mis}
 use Rattle.group_safety.specs.Moments.{upto}
 use Rattle.group_safety.specs.Stations.{mi_at}
+use Rattle.group_safety.proofs.Members.{In, by_sum}
 use Rattle.group_safety.proofs.once.Histories.{sent-before, sent-some, sent-heard}
 use Rattle.group_safety.proofs.once.Ticking.{tick_key, tick_roster, tick_lead, announced-next}
-use Rattle.group_safety.proofs.rollover.Members.{In, by_sum}
 use Rattle.group_safety.proofs.rollover.Spans.{from_to}
 use Rattle.group_safety.proofs.rollover.Moments.{event-at, one-event}
 use Rattle.group_safety.proofs.rollover.Turns.{turn-past, hear-past}
 use Rattle.group_safety.proofs.rollover.Rounds.{IsPaced}
-use Rattle.group_safety.proofs.rollover.Events.{Part, part}
+use Rattle.group_safety.proofs.rollover.Events.{part}
 use Rattle.group_safety.proofs.rollover.Events as parts
 use Rattle.group_safety.proofs.rollover.Shown.{says-is}
 use Rattle.group_safety.proofs.rollover.OneLife.{one-life, no-birth-of, step-at}

@@ -15,10 +15,11 @@ use Rattle.lan_core.specs.Ledgers.{Birth, births, born, gather, with_one}
 use Rattle.lan_core.specs.Lives.{life}
 use Rattle.lan_core.specs.Order.{Exists, IsAllowed}
 use Rattle.lan_core.specs.Legal.{IsStep, IsStepped}
-use Rattle.lan_core.specs.Fresh.{AllDiffer, DiffersFrom, drawn_mis}
+use Rattle.lan_core.specs.Fresh.{AllDiffer, drawn_mis}
 use Rattle.group_safety.specs.Moments.{upto, At}
 use Rattle.group_safety.specs.Stations.{mi_of, mi_at}
-use Rattle.group_safety.proofs.rollover.Members.{In, by_sum}
+use Rattle.group_safety.proofs.Members.{In, by_sum}
+use Rattle.group_safety.proofs.once.Places.{differs-in}
 use Rattle.group_safety.proofs.rollover.Spans.{from_to}
 use Rattle.group_safety.proofs.rollover.Moments.{along, event-at, to-upto}
 use Rattle.group_safety.proofs.rollover.Events.{Part, IsBirth, first, again, part}
@@ -76,11 +77,6 @@ fewer : (f : List Fact) (bs : List Birth) → AllDiffer (mis (gather born f bs))
 fewer [] bs all = all
 fewer (fact ∷ later) bs all = fewer-one (born fact) bs (fewer later (with_one (born fact) bs) all)
 
-apart-in : (m : Mi) (ms : List Mi) → DiffersFrom m ms → In m ms → ⊥
-apart-in m [] d i = i
-apart-in m (n ∷ ns) d (inl e) = d.0 e
-apart-in m (n ∷ ns) d (inr i) = apart-in m ns d.1 i
-
 one-more : (o : Option Birth) (bs : List Birth) (m : Mi) → In m (mis bs)
     → In m (mis (with_one o bs))
 one-more None bs m i = i
@@ -93,7 +89,7 @@ new-here (fact ∷ later) bs u m (inl e) all there =
     let here : born fact ≡ Some (record { station = u; mi = m }) = ap born (sym e) in
     let front = subst (λ o. AllDiffer (mis (with_one o bs))) here
     (fewer later (with_one (born fact) bs) all) in
-    apart-in m (mis bs) front.0 there
+    differs-in m m (mis bs) front.0 there refl
 new-here (fact ∷ later) bs u m (inr i) all there =
     new-here later (with_one (born fact) bs) u m i all (one-more (born fact) bs m there)
 

@@ -32,17 +32,18 @@ use Rattle.lan_core.specs.declared.fact.Fact.TheVariants as facts
 use Rattle.lan_core.specs.declared.settings.Settings.{Settings}
 use Rattle.lan_core.specs.Run.{Run, Happening, Profile, stations}
 use Rattle.lan_core.specs.Ledgers.{gather, with_one, next_frame}
-use Rattle.lan_core.specs.Lives.{Life, life, receiving, reaches, with_data, heard_data, slot_change}
-use Rattle.lan_core.specs.Lives.{seen_at, sak_in, lived, turn_at_tick, begun, drawn_mi}
+use Rattle.lan_core.specs.Lives.{Life, life, receiving, reaches, with_data, slot_change}
+use Rattle.lan_core.specs.Lives.{seen_at, sak_in, lived, begun, drawn_mi}
 use Rattle.lan_core.specs.Claims.{frame_of_claim}
 use Rattle.lan_core.specs.Expected.{change_fact, reaction_facts, reached_facts, claim_fact}
 use Rattle.lan_core.specs.Expected.{number_fact}
 use Rattle.group_safety.specs.Stations.{keys_at, keys_of_life}
 use Rattle.group_safety.proofs.once.Gists.{gathered}
-use Rattle.group_safety.proofs.rollover.Turns.{with_began, with_key, view-keys, keys-ticked}
-use Rattle.group_safety.proofs.rollover.Turns.{keys-heard, tick-keys, hear-keys}
+use Rattle.group_safety.proofs.once.Histories.{with_began, with_key, view-keys, keys-ticked, keys-heard}
+use Rattle.group_safety.proofs.once.Nexts.{mapped}
+use Rattle.group_safety.proofs.rollover.Turns.{tick-keys, hear-keys}
 use Rattle.group_safety.proofs.rollover.Rules.{made-is}
-use Rattle.group_safety.proofs.rollover.Events.{Kind, kind, IsReached, mapped}
+use Rattle.group_safety.proofs.rollover.Events.{Kind, IsReached}
 use Rattle.group_safety.proofs.rollover.Events as kinds
 use Rattle.group_safety.proofs.rollover.Makers.{keys-of-life}
 use Rattle.group_safety.proofs.rollover.Servers.{view-server}

@@ -36,17 +36,18 @@ use Rattle.group_safety.specs.Stations.{mi_at, keys_at, server_at}
 use Rattle.group_safety.specs.Steady.{IsSteady}
 use Rattle.group_safety.specs.inside.Course.{Course, IsCourse, Lives, Rests, RestsThrough}
 use Rattle.group_safety.specs.inside.Course.{IsRollover}
+use Rattle.group_safety.proofs.Members.{contains-in, by_sum}
 use Rattle.group_safety.proofs.once.Living.{IsLiving}
-use Rattle.group_safety.proofs.rollover.Members.{by_sum}
+use Rattle.group_safety.proofs.once.Histories.{with_began, with_key, view-keys, keys-ticked}
 use Rattle.group_safety.proofs.rollover.Spans.{grown, lives-later, from_to}
 use Rattle.group_safety.proofs.rollover.Moments.{one-event}
 use Rattle.group_safety.proofs.rollover.KeyFacts.{installed-on, latest-received, received-installed}
 use Rattle.group_safety.proofs.rollover.Rules.{IsLed, led-is, made-is, following-is}
 use Rattle.group_safety.proofs.rollover.Events.{kind}
-use Rattle.group_safety.proofs.rollover.Shows.{BeginsBy, begins-by, PutsBy, puts-by}
+use Rattle.group_safety.proofs.rollover.Shows.{begins-by, puts-by}
 use Rattle.group_safety.proofs.rollover.Shows as shows
-use Rattle.group_safety.proofs.rollover.Turns.{IsTickTurn, kept-turn, with_began, with_key}
-use Rattle.group_safety.proofs.rollover.Turns.{with_tick, view-keys, keys-ticked}
+use Rattle.group_safety.proofs.rollover.Turns.{IsTickTurn, kept-turn}
+use Rattle.group_safety.proofs.rollover.Turns.{with_tick}
 use Rattle.group_safety.proofs.rollover.Rounds.{IsPaced}
 use Rattle.group_safety.proofs.rollover.OneLife.{step-at, one-life, unbroken-life}
 use Rattle.group_safety.proofs.rollover.Said.{known-at}
@@ -247,7 +248,8 @@ module _ (settings : Settings) (users : List UserFrame) (run : Run) (is : IsSett
         let p = puts-by settings users (upto q run) M.event.event M.event.facts server M.next server
         new_id M.an M.epoch M.sak
         (kind settings users M.event (upto q run)
-        (step-at settings users run stepped fresh q M.event M.within M.at)) M.tick M.fact in (
+        (step-at settings users run stepped fresh q M.event M.within M.at)) M.tick
+        (contains-in M.event.facts _ M.fact) in (
           p.puts.this,
           record {
             event = M.event;
@@ -289,7 +291,8 @@ module _ (settings : Settings) (users : List UserFrame) (run : Run) (is : IsSett
         elim (begins-by settings users (upto i run) B.event.event B.event.facts server new_id B.an
         B.epoch All
         (kind settings users B.event (upto i run)
-        (step-at settings users run stepped fresh i B.event B.within B.at)) B.fact) [
+        (step-at settings users run stepped fresh i B.event B.within B.at))
+        (contains-in B.event.facts _ B.fact)) [
           | shows.leads next l ev living b ↦ (
             record {
               event = B.event;

@@ -86,15 +86,6 @@ all-report h live k is =
     (λ u. let never = rw (t, u) at is in absurd (cc (never)))
     (λ u. let never = rw (t, u) at is in absurd (cc (never))))
 
--- nobody leads because of a flag
-pub no-flag : (h : List Keying) (live : List Report) (k : Key) → lead_cause h live k ≡ Some Flag → ⊥
-no-flag h live k is =
-    by_test (list_all (λ r. reports_latest k.id r.uses) live)
-    (λ t. let never = rw t at is in cc (never))
-    (λ t. by_test (is_long_ago (clock h) (last_made_at h))
-    (λ u. let never = rw (t, u) at is in cc (never))
-    (λ u. let never = rw (t, u) at is in cc (never)))
-
 -- ---- the server makes
 
 pub record IsMaking (m : Member) (v : View) (seen : Seen) (sak : Secret) (k : Key) : Type 0 where

@@ -38,13 +38,13 @@ use Rattle.lan_core.specs.Run.{Run, Happening, Profile, stations}
 use Rattle.lan_core.specs.Ledgers.{Frame, framed, air, gather, next_frame}
 use Rattle.lan_core.specs.Lives.{Life, life, seen_at, sak_in, setup_of}
 use Rattle.lan_core.specs.Claims.{Waiting, waiting, user_at, frame_by, frame_of_claim, claimed}
-use Rattle.lan_core.specs.Expected.{emit_facts, claim_fact, number_fact, reached_facts}
-use Rattle.lan_core.specs.Expected.{reaction_facts}
+use Rattle.lan_core.specs.Expected.{claim_fact, number_fact, reached_facts}
 use Rattle.lan_core.specs.Order.{ticks, IsSendable}
 use Rattle.lan_core.specs.Types.{IsSetting, IsUserFrame, IsSecret}
 use Rattle.lan_core.specs.Legal.{IsStep, IsStepped}
 use Rattle.lan_core.specs.Fresh.{IsUnforged, IsUnforgedBy, repeats, same_spelling}
 use Rattle.group_safety.specs.Moments.{upto, At}
+use Rattle.group_safety.proofs.Members.{in-any, any-in, In, by_sum}
 use Rattle.group_safety.proofs.once.Living.{IsKnown, IsLiving}
 use Rattle.group_safety.proofs.once.RunLaws.{known}
 use Rattle.group_safety.proofs.once.Carried.{sec-unread, judged-read}
@@ -54,14 +54,13 @@ use Rattle.group_safety.proofs.once.TickKept.{speaker-of}
 use Rattle.group_safety.proofs.once.Ticking.{said-spells, tick-sound, tick_key, IsReady}
 use Rattle.group_safety.proofs.once.Events.{seen-small, tick-gist, drawn-secret}
 use Rattle.group_safety.proofs.once.Gists.{IsGist, installed_at, sent_frame}
-use Rattle.group_safety.proofs.once.Nexts.{in-get}
+use Rattle.group_safety.proofs.once.Nexts.{in-get, mapped, chained}
 use Rattle.group_safety.proofs.once.LiveHeard.{in-find}
-use Rattle.group_safety.proofs.once.Rules.{in-any, any-in}
-use Rattle.group_safety.proofs.rollover.Members.{In, by_sum}
+use Rattle.group_safety.proofs.once.Hearing.{hear-silent}
 use Rattle.group_safety.proofs.rollover.Moments.{along, to-upto, length-upto}
-use Rattle.group_safety.proofs.rollover.Facts.{reacts, Reacts, tick-sends, hear-silent}
+use Rattle.group_safety.proofs.rollover.Facts.{reacts, Reacts, tick-sends}
 use Rattle.group_safety.proofs.rollover.Facts as from
-use Rattle.group_safety.proofs.rollover.Events.{Kind, kind, IsReached, mapped, chained}
+use Rattle.group_safety.proofs.rollover.Events.{Kind, kind, IsReached}
 use Rattle.group_safety.proofs.rollover.Events as kinds
 use Rattle.group_safety.proofs.rollover.OneLife.{step-at}
 use Rattle.lan_core.specs.Fresh.{AllDiffer, drawn_mis}

@@ -31,12 +31,13 @@ use Rattle.lan_core.specs.Fresh.{IsUnforged, AllDiffer, drawn_mis}
 use Rattle.group_safety.specs.Moments.{upto, At}
 use Rattle.group_safety.specs.Stations.{mi_at, keys_at, server_of, server_at}
 use Rattle.group_safety.specs.inside.Course.{Course, Rests}
+use Rattle.group_safety.proofs.Members.{In}
 use Rattle.group_safety.proofs.once.Rules.{taken-is}
-use Rattle.group_safety.proofs.rollover.Members.{In}
+use Rattle.group_safety.proofs.once.Histories.{view-keys, keys-ticked}
 use Rattle.group_safety.proofs.rollover.Moments.{event-at}
 use Rattle.group_safety.proofs.rollover.Rules.{made-is, taking-is}
 use Rattle.group_safety.proofs.rollover.Turns.{IsTurn, news, turn-new, news-quiet, turn-past}
-use Rattle.group_safety.proofs.rollover.Turns.{hear-past, view-keys, keys-ticked}
+use Rattle.group_safety.proofs.rollover.Turns.{hear-past}
 use Rattle.group_safety.proofs.rollover.Rounds.{IsPaced}
 use Rattle.group_safety.proofs.rollover.Events.{IsReached}
 use Rattle.group_safety.proofs.rollover.Words.{live-said}

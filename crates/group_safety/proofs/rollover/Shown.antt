@@ -21,7 +21,7 @@ use Rattle.mka_station.specs.Views.{View, view}
 use Rattle.mka_station.specs.Announcing.{announcement, announces, says_now, use_of, uses_of, no_use}
 use Rattle.mka_station.specs.Announcing.{same_option, same_key, id_of, lowest_in}
 use Rattle.mka_station.specs.inside.Stages.{says_at, ticked_past}
-use Rattle.group_safety.proofs.rollover.Turns.{view-keys}
+use Rattle.group_safety.proofs.once.Histories.{view-keys}
 
 -- ---- identifiers
 

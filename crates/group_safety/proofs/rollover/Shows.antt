@@ -33,12 +33,12 @@ use Rattle.lan_core.specs.Lives.{Life, life, seen_at, transmitting_at, sak_in}
 use Rattle.lan_core.specs.Claims.{frame_of_claim}
 use Rattle.lan_core.specs.Expected.{tick_facts, reached_facts, claim_fact, number_fact}
 use Rattle.lan_core.specs.Expected.{reaction_facts}
-use Rattle.group_safety.proofs.rollover.Members.{In, in-map}
-use Rattle.group_safety.proofs.rollover.Facts.{reacts, Reacts, Alters, IsBegun, IsPut, IsRemoval}
+use Rattle.group_safety.proofs.Members.{In, in-from_map}
+use Rattle.group_safety.proofs.once.Nexts.{mapped}
+use Rattle.group_safety.proofs.rollover.Facts.{reacts, Reacts, Alters, IsBegun, IsPut}
 use Rattle.group_safety.proofs.rollover.Facts.{reacts-begins, reacts-puts, tick-alters, hear-alters}
-use Rattle.group_safety.proofs.rollover.Facts.{tick-sends}
 use Rattle.group_safety.proofs.rollover.Facts as from
-use Rattle.group_safety.proofs.rollover.Events.{Kind, IsReached, mapped}
+use Rattle.group_safety.proofs.rollover.Events.{Kind, IsReached}
 use Rattle.group_safety.proofs.rollover.Events as kinds
 
 -- ---- a beginning
@@ -66,7 +66,7 @@ ended-alters : (m : Member) (p : List Entry) (c : Change) → In c (ending m p).
 unfolding ending
 ended-alters m p c i =
     let v = view m p in
-    let r = in-map (λ k. changes.Dropped (held v.keys k)) c (received v.keys) i in
+    let r = in-from_map (λ k. changes.Dropped (held v.keys k)) (received v.keys) c i in
     from.removes (from.drops (held v.keys r.0) r.2)
 
 heard-begins : (settings : Settings) (r : Run) (e : Event) (shown : List Fact) (s t number : ℕ)

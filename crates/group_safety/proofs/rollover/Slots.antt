@@ -11,7 +11,7 @@ use Rattle.sak_exchange.specs.declared.change.Change.{Change}
 use Rattle.sak_exchange.specs.declared.change.Change.TheVariants as changes
 use Rattle.sak_exchange.specs.declared.change.Why.{Why}
 use Rattle.sak_exchange.specs.declared.offer.Offer.{Offer}
-use Rattle.sak_exchange.specs.Histories.{Key, Keying, clock, installs, begun_at, has_begun}
+use Rattle.sak_exchange.specs.Histories.{Key, Keying, clock, installs, begun_at}
 use Rattle.sak_exchange.specs.Histories as keyings
 use Rattle.sak_exchange.specs.Held.{Kept, received, ends, retires, held, shown, is_retire_time_ago}
 use Rattle.sak_exchange.specs.Beginning.{Beginning, retired}
@@ -23,8 +23,8 @@ use Rattle.sak_exchange.proofs.Shape.{latest-two}
 use Rattle.sak_exchange.proofs.Stays.{retired-by, ago-begun}
 use Rattle.mka_station.specs.Tick.{ended, install_changes}
 use Rattle.mka_station.specs.Hearing.{key_taken, take_changes}
+use Rattle.group_safety.proofs.once.Histories.{with_began, with_key}
 use Rattle.group_safety.proofs.rollover.KeyFacts.{received-installed}
-use Rattle.group_safety.proofs.rollover.Turns.{with_began, with_key}
 
 -- ---- keys by association number
 

@@ -33,7 +33,7 @@ use Rattle.group_safety.specs.Stations.{keys_at, keys_of_life}
 use Rattle.group_safety.specs.Steady.{Makes, IsListener, IsKeeper, IsSteady}
 use Rattle.group_safety.specs.Time.{Claims, HasSaid, IsInTimeForOld}
 use Rattle.group_safety.specs.inside.Course.{RestsThrough, Holds, SendsUnder}
-use Rattle.group_safety.proofs.rollover.Members.{In, by_sum, in-left, in-right, in-mapped}
+use Rattle.group_safety.proofs.Members.{In, in-contains, in-left, in-right, in-map, by_sum}
 use Rattle.group_safety.proofs.rollover.Events.{Kind, kind}
 use Rattle.group_safety.proofs.rollover.Events as kinds
 use Rattle.group_safety.proofs.rollover.Rounds.{IsPaced, paced-upto, idle-before}
@@ -52,19 +52,18 @@ pub reaction-shows : (s h n : ℕ) (re : _) (c : Change)
     → In c (Rattle.mka_station.specs.declared.reaction.Reaction.Reaction.changes re)
     → In (change_fact s c) (reaction_facts s h n re)
 reaction-shows s h n re c i =
-    in-right (change_fact s c) (option_to_list (option_map (λ v. facts.HeardMka h s v) re.heard)) _
-    (in-right (change_fact s c) (option_to_list (option_map (λ m. facts.Server s m) re.server)) _
-    (in-left (change_fact s c) (map (change_fact s) re.changes) _
-    (in-mapped (change_fact s) c re.changes i)))
+    in-right (option_to_list (option_map (λ v. facts.HeardMka h s v) re.heard)) _ (change_fact s c)
+    (in-right (option_to_list (option_map (λ m. facts.Server s m) re.server)) _ (change_fact s c)
+    (in-left (map (change_fact s) re.changes) _ (change_fact s c)
+    (in-map (change_fact s) re.changes c i)))
 
 put-shows : (h : List Keying) (r : _) (key : Option Key) (k : Key) → key ≡ Some k
     → In (changes.Installed (shown false k)) (install_changes h r key)
 put-shows h r key k is =
     subst (λ o. In (changes.Installed (shown false k)) (install_changes h r o)) (sym is)
-    (in-right (changes.Installed (shown false k))
-    (map (λ j. changes.Dropped (held h j))
+    (in-right (map (λ j. changes.Dropped (held h j))
     (filter (ends (Rattle.sak_exchange.specs.Histories.installed r k) h) (received h)))
-    (changes.Installed (shown false k) ∷ []) (inl refl))
+    (changes.Installed (shown false k) ∷ []) (changes.Installed (shown false k)) (inl refl))
 
 tick-puts : (m : Member) (seen : _) (sak : _) (p : List Entry) (k : Key)
     → made m (view m (lives.ticked ∷ p)) seen sak ≡ Some k
@@ -72,8 +71,8 @@ tick-puts : (m : Member) (seen : _) (sak : _) (p : List Entry) (k : Key)
 unfolding tick_turn
 tick-puts m seen sak p k is =
     let v1 = view m (lives.ticked ∷ p) in
-    in-right (changes.Installed (shown false k)) (ended (view m p).keys v1.server) _
-    (in-right (changes.Installed (shown false k)) (beginning v1.keys (led m v1)).changes _
+    in-right (ended (view m p).keys v1.server) _ (changes.Installed (shown false k))
+    (in-right (beginning v1.keys (led m v1)).changes _ (changes.Installed (shown false k))
     (put-shows v1.keys (roster_at m p) (made m v1 seen sak) k is))
 
 transmitting-keys : (settings : Settings) (s : ℕ) (r : Run) (k : Key)
@@ -99,8 +98,9 @@ module _ (settings : Settings) (users : List UserFrame) (run : Run) (is : IsSett
     an = k.an;
     epoch = k.epoch;
     sak = k.sak;
-    fact = go (kind settings users m.event (upto z run)
-        (step-at settings users run stepped fresh z m.event m.within m.at));
+    fact = in-contains m.event.facts (facts.Installed s k.id k.an k.epoch k.sak)
+        (go (kind settings users m.event (upto z run)
+        (step-at settings users run stepped fresh z m.event m.within m.at)));
   }
     where
       go : Kind settings users (upto z run) m.event.event m.event.facts

@@ -6,7 +6,7 @@ use Rattle.lan_base.specs.declared.address.Mi.{Mi}
 use Rattle.aes_block.specs.declared.secret.Secret.{Secret}
 use Rattle.mkpdu_codec.specs.declared.announcement.Announcement.{Announcement}
 use Rattle.sak_exchange.specs.declared.due.Seen.{Seen}
-use Rattle.sak_exchange.specs.Histories.{Key, Keying, ticked, installed, began, clock, begun_at}
+use Rattle.sak_exchange.specs.Histories.{Key, Keying, ticked, clock, begun_at}
 use Rattle.sak_exchange.specs.Histories.{install_count}
 use Rattle.sak_exchange.specs.Held.{Kept, latest, allows, may_begin}
 use Rattle.sak_exchange.specs.Beginning.{Beginning}
@@ -15,45 +15,20 @@ use Rattle.sak_exchange.proofs.Cases.{by_test}
 use Rattle.mka_station.specs.Lives.{Member, Entry, heard, keys_of, elected}
 use Rattle.mka_station.specs.Lives as lives
 use Rattle.mka_station.specs.Views.{view}
-use Rattle.mka_station.specs.Tick.{tick_turn, led, made, with_beginning, with_install, with_sent}
+use Rattle.mka_station.specs.Tick.{tick_turn, led, made, with_sent}
 use Rattle.mka_station.specs.Hearing.{hear_turn}
 use Rattle.mka_station.specs.inside.Stages.{roster_at, begun_past, ticked_past, says_at, answer_at}
 use Rattle.mka_station.specs.inside.Stages.{taken_past, follow_at, heard_past}
 use Rattle.mka_station.specs.Hearing.{key_taken}
+use Rattle.group_safety.proofs.Members.{by_sum}
+use Rattle.group_safety.proofs.once.Histories.{with_key, with_began, keys-begun, keys-installed}
+use Rattle.group_safety.proofs.once.Histories.{keys-said, keys-heard, keys-ticked, view-keys}
 use Rattle.group_safety.proofs.rollover.Rules.{led-is, made-is, taking-is, following-is, may}
 
--- the history with a beginning, and with an install, if there is one
-abbrev pub with_began : Option Beginning → List Keying → List Keying
-with_began None h = h
-with_began (Some b) h = began b.key.epoch ∷ h
-
-abbrev pub with_key : Option (List Mi) → Option Key → List Keying → List Keying
-with_key r None h = h
-with_key r (Some k) h = installed r k ∷ h
-
+-- the history with a tick, if there is one
 abbrev pub with_tick : Option Bool → List Keying → List Keying
 with_tick None h = h
 with_tick (Some s) h = ticked s ∷ h
-
-pub keys-ticked : (m : Member) (p : List Entry)
-    → keys_of m (lives.ticked ∷ p) ≡ ticked (is_some (elected m (lives.ticked ∷ p))) ∷ keys_of m p
-unfolding keys_of
-keys-ticked m p = refl
-
-pub keys-heard : (m : Member) (a : Announcement) (p : List Entry)
-    → keys_of m (heard a ∷ p) ≡ keys_of m p
-unfolding keys_of
-keys-heard m a p = refl
-
-pub keys-said : (m : Member) (a : Option Announcement) (p : List Entry)
-    → keys_of m (with_sent a p) ≡ keys_of m p
-unfolding keys_of
-keys-said m None p = refl
-keys-said m (Some a) p = refl
-
-pub view-keys : (m : Member) (p : List Entry) → (view m p).keys ≡ keys_of m p
-unfolding view
-view-keys m p = refl
 
 pub turn-past : (m : Member) (seen : Seen) (sak : Secret) (p : List Entry)
     → with_sent (says_at m seen sak p) (ticked_past m seen sak p) ≡ (tick_turn m seen sak p).past
@@ -64,18 +39,6 @@ pub hear-past : (m : Member) (a : Announcement) (p : List Entry)
     → heard_past m a p ≡ (hear_turn m a p).past
 unfolding hear_turn
 hear-past m a p = refl
-
-keys-begun : (m : Member) (b : Option Beginning) (p : List Entry)
-    → keys_of m (with_beginning b p) ≡ with_began b (keys_of m p)
-unfolding keys_of
-keys-begun m None p = refl
-keys-begun m (Some b) p = refl
-
-keys-put : (m : Member) (r : Option (List Mi)) (k : Option Key) (p : List Entry)
-    → keys_of m (with_install r k p) ≡ with_key r k (keys_of m p)
-unfolding keys_of
-keys-put m r None p = refl
-keys-put m r (Some k) p = refl
 
 -- The keys of a life through a turn, and the rules that were kept.
 pub record IsTurn (base : ℕ) (h g : List Keying) : Type 0 where
@@ -199,10 +162,6 @@ news-quiet t lead r k follow none on =
     (quiet-key r k (with_began lead (with_tick t [])) none
     (quiet-began lead (with_tick t []) (quiet-tick t on)))
 
--- what begins does so at the clock of the turn
-Now : List Keying → ℕ → ℕ → ℕ → Type 0
-Now h e at now = (begun_at h e ≡ Some at) ⊎ (at ≡ now)
-
 begins-began : (b : Option Beginning) (h : List Keying) (e at : ℕ)
     → begun_at (with_began b h) e ≡ Some at
     → (begun_at h e ≡ Some at) ⊎ (at ≡ clock h)
@@ -221,10 +180,6 @@ begins-tick : (t : Option Bool) (h : List Keying) (e : ℕ)
     → begun_at (with_tick t h) e ≡ begun_at h e
 begins-tick None h e = refl
 begins-tick (Some s) h e = refl
-
-by_sum : {A B P : Type 0} → A ⊎ B → (A → P) → (B → P) → P
-by_sum (inl a) f g = f a
-by_sum (inr b) f g = g b
 
 pub turn-begins : (base : ℕ) (h g : List Keying) (t : IsTurn base h g) (e at : ℕ)
     → begun_at g e ≡ Some at
@@ -251,7 +206,7 @@ pub tick-keys : (m : Member) (seen : Seen) (sak : Secret) (p : List Entry)
 tick-keys m seen sak p =
     ap (keys_of m) (sym (turn-past m seen sak p))
     ∙ keys-said m (says_at m seen sak p) (ticked_past m seen sak p)
-    ∙ keys-put m (roster_at m p) (made m (view m (lives.ticked ∷ p)) seen sak) (begun_past m p)
+    ∙ keys-installed m (roster_at m p) (made m (view m (lives.ticked ∷ p)) seen sak) (begun_past m p)
     ∙ ap (with_key (roster_at m p) (made m (view m (lives.ticked ∷ p)) seen sak))
     (keys-begun m (led m (view m (lives.ticked ∷ p))) (lives.ticked ∷ p)
     ∙ ap (with_began (led m (view m (lives.ticked ∷ p)))) (keys-ticked m p))
@@ -292,7 +247,7 @@ pub hear-keys : (m : Member) (a : Announcement) (p : List Entry)
     (with_key None (key_taken (answer_at m a p)) (keys_of m p))
 hear-keys m a p =
     ap (keys_of m) (sym (hear-past m a p)) ∙ keys-begun m (follow_at m a p) (taken_past m a p)
-    ∙ ap (with_began (follow_at m a p)) (keys-put m None (key_taken (answer_at m a p)) (heard a ∷ p)
+    ∙ ap (with_began (follow_at m a p)) (keys-installed m None (key_taken (answer_at m a p)) (heard a ∷ p)
     ∙ ap (with_key None (key_taken (answer_at m a p))) (keys-heard m a p))
 
 pub hear-is_turn : (m : Member) (a : Announcement) (p : List Entry)
@@ -302,7 +257,7 @@ hear-is_turn m a p =
     let v2 = view m (taken_past m a p) in
     let now : v1.keys ≡ keys_of m p = view-keys m (heard a ∷ p) ∙ keys-heard m a p in
     let then : v2.keys ≡ with_key None (key_taken (answer_at m a p)) (keys_of m p) =
-    view-keys m (taken_past m a p) ∙ keys-put m None (key_taken (answer_at m a p)) (heard a ∷ p)
+    view-keys m (taken_past m a p) ∙ keys-installed m None (key_taken (answer_at m a p)) (heard a ∷ p)
     ∙ ap (with_key None (key_taken (answer_at m a p))) (keys-heard m a p) in
     record {
       tick = None;

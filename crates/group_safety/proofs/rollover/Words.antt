@@ -20,9 +20,9 @@ use Rattle.sak_exchange.proofs.Cases.{by_test, by_option}
 use Rattle.mka_station.specs.Lives.{Member, Entry, own, told, peers_of, live_words}
 use Rattle.mka_station.specs.Lives as lives
 use Rattle.mka_station.specs.Tick.{with_sent}
+use Rattle.group_safety.proofs.Members.{In}
 use Rattle.group_safety.proofs.once.Histories.{heard_of, told_of}
 use Rattle.group_safety.proofs.once.LiveHeard.{in-filter_map, accepted-told, says-accepted}
-use Rattle.group_safety.proofs.rollover.Members.{In}
 
 -- ---- what is sent changes no words
 
