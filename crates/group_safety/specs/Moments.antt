@@ -1,4 +1,5 @@
--- Moments: a run stands newest first, and a moment is how many of its events have come.
+-- Moments (this profile's own word): a run stands newest first, and a moment is how many of its
+-- events have come.
 use Rattle.std.specs.Prelude.{◌≡◌, suc, ℕ, List, [], ◌∷◌, length, nat_lt, cond}
 
 -- the run at a moment: its oldest events

@@ -1,5 +1,5 @@
--- Rounds: lists of ticks, one of each station that has started, with nothing between them but
--- claims.
+-- Rounds (this profile's own word): ticks, one of each station that has started, with nothing
+-- between them but claims.
 use Rattle.std.specs.Prelude.{ℕ, zero, suc, ◌+◌, ◌==◌, not, cond, nat_lt}
 use Rattle.std.specs.Prelude.{List, [], ◌∷◌, length, Option, Some, None, option_and_then}
 use Rattle.std.specs.List.{filter, list_any}

@@ -1,5 +1,5 @@
--- A station after a run: the member identifier of its life, the keys it holds, the server it
--- elects.
+-- A station after a run (IEEE Std 802.1X, clause 9): the member identifier of its life, the keys it
+-- holds, the server it elects.
 use Rattle.std.specs.Prelude.{ℕ, List, [], Option, Some, None, option_map, option_and_then}
 use Rattle.lan_base.specs.declared.address.Mi.{Mi}
 use Rattle.sak_exchange.specs.Histories.{Keying}

@@ -1,5 +1,5 @@
 -- A frame's way through a run, from its claim to a delivery; when it is in time for a rollover, and
--- when it is found to be of a key that is held.
+-- when it is found to be of a key that is held (this profile's own words).
 use Rattle.std.specs.Prelude.{◌≡◌, ◌<◌, ◌⊎◌, ◌+◌, ℕ, true, List, length, Contains, Some}
 use Rattle.lan_base.specs.declared.key_id.KeyId.{KeyId}
 use Rattle.lan_base.specs.Timers.{retire_time}
@@ -22,16 +22,17 @@ use Rattle.group_safety.specs.Stations.{keys_at}
 use Rattle.group_safety.specs.Steady.{IsListener, IsKeeper, Makes}
 
 -- in the event at a moment a station claims a packet number under a key, which transmits there
-pub record Claims (settings : Settings) (run : Run) (n s : ℕ) (key : Key) (pn : ℕ) : Type 0 where
+pub record Claims (settings : Settings) (run : Run) (moment station : ℕ) (key : Key) (pn : ℕ) :
+    Type 0 where
   pub event : Happening
-  pub at : At run n event
-  pub within : n < length run
-  pub fact : Contains event.facts (facts.Claimed s key.an key.epoch pn)
-  pub sends : transmitting_at settings s (upto n run) ≡ Some key
+  pub at : At run moment event
+  pub within : moment < length run
+  pub fact : Contains event.facts (facts.Claimed station key.an key.epoch pn)
+  pub sends : transmitting_at settings station (upto moment run) ≡ Some key
 
 -- The frame of a number is that of a claim: as many claims came before the claim as frames were
 -- emitted before the emission.
-pub record IsFrameOf (settings : Settings) (run : Run) (c frame : ℕ) : Type 0 where
+pub record IsFrameOf (settings : Settings) (run : Run) (claim frame : ℕ) : Type 0 where
   pub emission : ℕ
   pub event : Happening
   pub at : At run emission event
@@ -39,18 +40,18 @@ pub record IsFrameOf (settings : Settings) (run : Run) (c frame : ℕ) : Type 0 
   pub station : ℕ
   pub octets : List ℕ
   pub fact : Contains event.facts (facts.Framed frame station true octets)
-  pub place : length (emitted (upto emission run)) ≡ length (claimed settings (upto c run))
+  pub place : length (emitted (upto emission run)) ≡ length (claimed settings (upto claim run))
 
 -- A frame is claimed in one event by a station under a key, and delivered in another to a station.
-pub record IsFlight (settings : Settings) (run : Run) (c d sender t : ℕ) (key : Key) (frame : ℕ) :
-    Type 0 where
+pub record IsFlight (settings : Settings) (run : Run) (claim delivery sender receiver : ℕ)
+    (key : Key) (frame : ℕ) : Type 0 where
   pub pn : ℕ
-  pub claims : Claims settings run c sender key pn
-  pub its_frame : IsFrameOf settings run c frame
+  pub claims : Claims settings run claim sender key pn
+  pub its_frame : IsFrameOf settings run claim frame
   pub event : Happening
-  pub at : At run d event
-  pub within : d < length run
-  pub delivered : event.event ≡ events.Deliver frame t
+  pub at : At run delivery event
+  pub within : delivery < length run
+  pub delivered : event.event ≡ events.Deliver frame receiver
 
 -- ---- found
 
@@ -64,57 +65,60 @@ Answers (arrivals.Missed an) = ⊥
 Answers arrivals.BadCheck = ⊥
 
 -- a station receives a key of this association number and SAK
-pub record Receives (settings : Settings) (run : Run) (n t an : ℕ) (sak : Secret) : Type 0 where
+pub record Receives (settings : Settings) (run : Run) (moment station an : ℕ) (sak : Secret) :
+    Type 0 where
   pub key : Key
-  pub received_here : Contains (received (keys_at settings t (upto n run))) key
+  pub received_here : Contains (received (keys_at settings station (upto moment run))) key
   pub number : key.an ≡ an
   pub secret : key.sak ≡ sak
 
 -- A delivery is found: it is answered, by a key that has the frame's SAK.
-pub record IsFound (settings : Settings) (run : Run) (d t frame : ℕ) (key : Key) : Type 0 where
+pub record IsFound (settings : Settings) (run : Run) (delivery receiver frame : ℕ) (key : Key) :
+    Type 0 where
   pub event : Happening
-  pub at : At run d event
+  pub at : At run delivery event
   pub arrival : Arrival
-  pub fact : Contains event.facts (facts.Arrived frame t arrival)
+  pub fact : Contains event.facts (facts.Arrived frame receiver arrival)
   pub answers : Answers arrival
-  pub receives : Receives settings run d t key.an key.sak
+  pub receives : Receives settings run delivery receiver key.an key.sak
 
 -- ---- in time
 
--- a station of the rollover is the server, or one that listens
-abbrev pub IsOne : ℕ → ℕ → (ℕ → ℕ → Accepted → Type 0) → Type 0
-IsOne server u listens =
-    (u ≡ server) ⊎ ((sent : ℕ) × (says : Accepted) × listens u sent says)
+-- a station takes part in the rollover: it is the server, or one that listens
+abbrev pub TakesPart : ℕ → ℕ → (ℕ → ℕ → Accepted → Type 0) → Type 0
+TakesPart server station listens =
+    (station ≡ server) ⊎ ((sent : ℕ) × (says : Accepted) × listens station sent says)
 
 -- the server, or one that listens and has said so before a moment
 abbrev pub HasSaid : ℕ → ℕ → ℕ → (ℕ → ℕ → Accepted → Type 0) → Type 0
-HasSaid server u d listens =
-    (u ≡ server) ⊎ ((sent : ℕ) × (says : Accepted) × (sent < d) × listens u sent says)
+HasSaid server station moment listens =
+    (station ≡ server)
+    ⊎ ((sent : ℕ) × (says : Accepted) × (sent < moment) × listens station sent says)
 
 -- A frame under the old key is in time for it: the server or a keeper sent it, and it reaches the
 -- server, or a keeper that has said so, before so many rounds have passed as are left of the retire
 -- time without the lag. (Claims and deliveries begin no round: those before one are those up to
 -- it.)
-pub record IsInTimeForOld (settings : Settings) (run : Run) (from q i server : ℕ) (old_id : KeyId)
-    (lag c d sender t : ℕ) (key : Key) : Type 0 where
+pub record IsInTimeForOld (settings : Settings) (run : Run) (from made start server : ℕ)
+    (old_id : KeyId) (lag claim delivery sender receiver : ℕ) (key : Key) : Type 0 where
   pub named : key.id ≡ old_id
-  pub after : q < c
-  pub sent : IsOne server sender (IsKeeper settings run i server old_id)
-  pub reaches : HasSaid server t d (IsKeeper settings run i server old_id)
-  pub soon : rounds from (upto d run) + lag < rounds from (upto c run) + retire_time
+  pub after : made < claim
+  pub sent : TakesPart server sender (IsKeeper settings run start server old_id)
+  pub reaches : HasSaid server receiver delivery (IsKeeper settings run start server old_id)
+  pub soon : rounds from (upto delivery run) + lag < rounds from (upto claim run) + retire_time
 
 -- A frame under the new key is: the server or a listener sent it, and it reaches the server, or a
 -- listener that has said so, before the server makes the next.
-pub record IsInTimeForNew (settings : Settings) (run : Run) (q i server : ℕ) (new_id : KeyId)
-    (c d sender t : ℕ) (key : Key) : Type 0 where
+pub record IsInTimeForNew (settings : Settings) (run : Run) (made start server : ℕ)
+    (new_id : KeyId) (claim delivery sender receiver : ℕ) (key : Key) : Type 0 where
   pub named : key.id ≡ new_id
-  pub after : q < c
-  pub sent : IsOne server sender (IsListener settings run i server)
-  pub reaches : HasSaid server t d (IsListener settings run i server)
-  pub last : (z : ℕ) (id : KeyId) → q < z → z < d → Makes run z server id → ⊥
+  pub after : made < claim
+  pub sent : TakesPart server sender (IsListener settings run start server)
+  pub reaches : HasSaid server receiver delivery (IsListener settings run start server)
+  pub last : (n : ℕ) (id : KeyId) → made < n → n < delivery → Makes run n server id → ⊥
 
-abbrev pub IsInTime : Settings → Run → (from q i server : ℕ) → (old_id new_id : KeyId)
-    → (lag c d sender t : ℕ) → Key → Type 0
-IsInTime settings run from q i server old_id new_id lag c d sender t key =
-    IsInTimeForOld settings run from q i server old_id lag c d sender t key
-    ⊎ IsInTimeForNew settings run q i server new_id c d sender t key
+abbrev pub IsInTime : Settings → Run → (from made start server : ℕ) → (old_id new_id : KeyId)
+    → (lag claim delivery sender receiver : ℕ) → Key → Type 0
+IsInTime settings run from made start server old_id new_id lag claim delivery sender receiver key =
+    IsInTimeForOld settings run from made start server old_id lag claim delivery sender receiver key
+    ⊎ IsInTimeForNew settings run made start server new_id claim delivery sender receiver key

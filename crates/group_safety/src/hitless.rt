@@ -15,8 +15,8 @@ ghost use Rattle.group_safety.specs.Steady.{IsKeeper, IsSteady};
 ghost use Rattle.group_safety.specs.Time.{IsFlight, IsFound, HasSaid};
 ghost use Rattle.group_safety.specs.Hitless.{Hitless};
 
-/// In every steady rollover, at each moment of a run, a frame that is delivered in time is found: it
-/// is answered, by a key that has its association number and its SAK.
+/// In every steady rollover, at each moment of a run, a frame that is delivered in time is found:
+/// it is answered, by a key that has its association number and its SAK.
 pub fn law_hitless()
     ensures legal { (settings : Settings) (users : List UserFrame) (r : Run)
         → IsLegal settings users r → IsFresh r → IsUnforged settings r → Hitless settings r }
@@ -24,16 +24,18 @@ pub fn law_hitless()
         → IsStepped settings users r → IsFresh r → IsUnforged settings r → Hitless settings r }
 {}
 
-/// In every steady rollover, any frame under the old key, whoever sent it and whenever it was claimed, is
-/// found where it reaches the server after the make, or a keeper after it reported the new key, less than
-/// the retire time after the beginning, in rounds.
+/// In every steady rollover, any frame under the old key, whoever sent it and whenever it was
+/// claimed, is found where it reaches the server after the make, or a keeper after it reported the
+/// new key, less than the retire time after the beginning, in rounds.
 pub fn law_old_key_is_received()
-    ensures { (settings : Settings) (users : List UserFrame) (run : Run) (from q i server : ℕ)
-        (old_id new_id : KeyId) (lag c d sender t : ℕ) (key : Key) (frame : ℕ)
+    ensures { (settings : Settings) (users : List UserFrame) (run : Run)
+        (from made start server : ℕ) (old_id new_id : KeyId)
+        (lag claim delivery sender receiver : ℕ) (key : Key) (frame : ℕ)
         → IsStepped settings users run → IsFresh run → IsUnforged settings run
-        → IsSteady settings run from q i server old_id new_id lag
-        → IsFlight settings run c d sender t key frame → key.id ≡ old_id → q < d
-        → HasSaid server t d (IsKeeper settings run i server old_id)
-        → rounds from (upto d run) < rounds from (upto (suc i) run) + retire_time
-        → IsFound settings run d t frame key }
+        → IsSteady settings run from made start server old_id new_id lag
+        → IsFlight settings run claim delivery sender receiver key frame
+        → key.id ≡ old_id → made < delivery
+        → HasSaid server receiver delivery (IsKeeper settings run start server old_id)
+        → rounds from (upto delivery run) < rounds from (upto (suc start) run) + retire_time
+        → IsFound settings run delivery receiver frame key }
 {}

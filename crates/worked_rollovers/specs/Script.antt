@@ -145,17 +145,20 @@ abbrev pub each : {A : Type 0} → (Story → A → Story) → List A → Story 
 each f [] x = x
 each f (a ∷ more) x = each f more (f x a)
 
--- the sender of a frame; of none, no station
-abbrev pub sender_of : Option Paper → ℕ
-sender_of None = 9
-sender_of (Some (says s a g)) = s
-sender_of (Some (carries pn)) = 1
+-- the sender of a frame
+abbrev pub sender_of : Paper → ℕ
+sender_of (says s a g) = s
+sender_of (carries pn) = 1
 
--- a frame reaches all others that a test lets through, given the sender
+-- whom a frame reaches: all others that a test lets through, given the sender
+abbrev pub reached_by : (ℕ → ℕ → Bool) → List ℕ → Option Paper → List ℕ
+reached_by through all None = []
+reached_by through all (Some paper) =
+    let s = sender_of paper in filter (λ t. not (t == s) && through s t) all
+
 unfoldable pub spread : (ℕ → ℕ → Bool) → List ℕ → Story → ℕ → Story
 spread through all x n =
-    let s = sender_of (on_air x.deeds n) in
-    each (λ y t. deliver n y t) (filter (λ t. not (t == s) && through s t) all) x
+    each (λ y t. deliver n y t) (reached_by through all (on_air x.deeds n)) x
 
 -- so many numbers from one on
 abbrev pub numbers : ℕ → ℕ → List ℕ

@@ -31,6 +31,6 @@ pub fn law_late()
 pub fn law_missed_flag()
     ensures keeps { (sent : ℕ) × (says : Accepted)
         × IsKeeper settings missed 55 0 (id 1) 1 sent says }
-    ensures never { (x : ℕ) (cause : Cause) → Begins missed x 1 (id 2) cause → ⊥ }
+    ensures never { (moment : ℕ) (cause : Cause) → Begins missed moment 1 (id 2) cause → ⊥ }
     ensures unsteady { (lag : ℕ) → IsSteady settings missed 41 41 55 0 (id 1) (id 2) lag → ⊥ }
 {}
