@@ -171,30 +171,38 @@ record IsUsed (b : Book) (r : Run) (c : Claim) : Type 0 where
   epoch : install.epoch ≡ c.epoch
   found : install_at c.station c.epoch r ≡ Some (plain install)
 
+-- the test that finds it
+is_under : Claim → Install → Bool
+is_under c i = (i.station == c.station) && (i.epoch == c.epoch)
+
+used-there : (b : Book) (r : Run) (c : Claim) (i : Install) (n : Installation) → In n b.installs
+    → i ≡ plain n → is_under c i ≡ true → install_at c.station c.epoch r ≡ Some i → IsUsed b r c
+unfolding is_under
+used-there b r c i n place same passes at =
+    let both = and_parts (i.station == c.station) (i.epoch == c.epoch) passes in
+    record {
+      install = n;
+      place = place;
+      station = ap (λ (w : Install). w.station) (sym same) ∙ eqb-true i.station c.station both.0;
+      epoch = ap (λ (w : Install). w.epoch) (sym same) ∙ eqb-true i.epoch c.epoch both.1;
+      found = at ∙ ap Some same;
+    }
+
 used : (settings : Settings) (users : List UserFrame) (r : Run) (k : IsKnown settings users r)
     → IsFresh r
     → (c : Claim) → In c (claims r) → IsUsed (book k.changes) r c
+unfolding is_under
 used settings users r k fresh c h =
     let v = invariant settings users r k fresh in
     let n = v.claimed c (subst (λ w. In c w) (sym k.shows.claims) h) in
     let there : In (plain n.0) (installs r) = subst (λ w. In (plain n.0) w) k.shows.installs
     (in-map plain (book k.changes).installs n.0 n.1) in
-    let passes : test (plain n.0) ≡ true =
+    let passes : is_under c (plain n.0) ≡ true =
     rw (eq-eqb n.0.station c.station n.2, eq-eqb n.0.epoch c.epoch n.3) refl in
-    let x = find-some test (installs r) (plain n.0) there passes in
-    let m = behind settings users r k x.0 (in-find test (installs r) x.0 x.1) in
-    let both = and_parts (x.0.station == c.station) (x.0.epoch == c.epoch)
-    (find-passes test (installs r) x.0 x.1) in
-    record {
-      install = m.0;
-      place = m.1;
-      station = ap (λ (w : Install). w.station) (sym m.2) ∙ eqb-true x.0.station c.station both.0;
-      epoch = ap (λ (w : Install). w.epoch) (sym m.2) ∙ eqb-true x.0.epoch c.epoch both.1;
-      found = x.1 ∙ ap Some m.2;
-    }
-  where
-    test : Install → Bool
-    test i = (i.station == c.station) && (i.epoch == c.epoch)
+    let x = find-some (is_under c) (installs r) (plain n.0) there passes in
+    let m = behind settings users r k x.0 (in-find (is_under c) (installs r) x.0 x.1) in
+    used-there (book k.changes) r c x.0 m.0 m.1 m.2
+    (find-passes (is_under c) (installs r) x.0 x.1) x.1
 
 -- the station that claimed is there
 claimer : (settings : Settings) (users : List UserFrame) (r : Run) (k : IsKnown settings users r)
