@@ -1,7 +1,8 @@
 //! The summary of facts.
 
-ghost use Rattle.std.specs.Prelude.{◌≡◌, ◌+◌, ◌++◌, ◌∷◌, [], min, List, IfOk};
-ghost use Rattle.serde_json.specs.View.{view};
+ghost use Rattle.std.specs.Prelude.{◌≡◌, ◌+◌, ◌++◌, ◌∷◌, [], min, List, IfOk, OnOk};
+ghost use Rattle.serde_json.specs.Data.{number, unsigned, put};
+ghost use Rattle.serde_json.specs.View.{view, members_view};
 ghost use Rattle.lan_core.specs.declared.fact.Fact.{Fact};
 ghost use Rattle.group_safety.specs.Summary.{counts, object_of, line_of, most};
 ghost use Rattle.group_safety.specs.inside.Counting.{one_more, one_more_arrival};
@@ -9,7 +10,7 @@ ghost use Rattle.group_safety.specs.inside.Counting.{one_more, one_more_arrival}
 use lan_base::Octets;
 use lan_core::Fact;
 use rx_slots::Arrival;
-use serde_json::{Value, json};
+use serde_json::{Map, Value};
 use std::alloc::{AllocError, Global};
 use std::marker::Model;
 
@@ -118,17 +119,17 @@ impl Tally {
     fn object(&self, alloc: Global) -> Result<Value, AllocError>
         ensures { IfOk result (λ object. view object ≡ object_of self.now) }
     {
-        json!(in alloc; {
-            "accepted": self.accepted,
-            "begun": self.begun,
-            "claims": self.claims,
-            "frames": self.frames,
-            "installed": self.installed,
-            "late": self.late,
-            "missed": self.missed,
-            "noclaims": self.noclaims,
-            "ticks": self.ticks,
-        })
+        let mut members = Map::new(alloc);
+        put_count(&mut members, alloc, "accepted", self.accepted)?;
+        put_count(&mut members, alloc, "begun", self.begun)?;
+        put_count(&mut members, alloc, "claims", self.claims)?;
+        put_count(&mut members, alloc, "frames", self.frames)?;
+        put_count(&mut members, alloc, "installed", self.installed)?;
+        put_count(&mut members, alloc, "late", self.late)?;
+        put_count(&mut members, alloc, "missed", self.missed)?;
+        put_count(&mut members, alloc, "noclaims", self.noclaims)?;
+        put_count(&mut members, alloc, "ticks", self.ticks)?;
+        Ok(Value::Object(members))
     }
 }
 
@@ -137,4 +138,17 @@ fn more(count: &mut u64)
     ensures { count.new ≡ min (count.old + 1) most }
 {
     *count = count.saturating_add(1);
+}
+
+/// One member more: a name, with a count.
+fn put_count(
+    members: &mut Map<String, Value>,
+    alloc: Global,
+    name: &str,
+    count: u64,
+) -> Result<(), AllocError>
+    ensures { OnOk result (members_view members.new.entries
+        ≡ put name.now (number (unsigned count)) (members_view members.old.entries)) }
+{
+    serde_json::put(members, alloc, name, Value::from(count))
 }
