@@ -107,10 +107,10 @@ counts shown = record {
 abbrev pub with_count : List ℕ → ℕ → Members → Members
 with_count name n others = member name (number (unsigned n)) others
 
--- the counts as an object
-abbrev pub object_of : Counts → Data
-object_of c =
-    object (with_count (codes "accepted") c.accepted
+-- the counts, each under its name, in the order of the names
+abbrev pub members_of : Counts → Members
+members_of c =
+    with_count (codes "accepted") c.accepted
     (with_count (codes "begun") c.begun
     (with_count (codes "claims") c.claims
     (with_count (codes "frames") c.frames
@@ -118,7 +118,11 @@ object_of c =
     (with_count (codes "late") c.late
     (with_count (codes "missed") c.missed
     (with_count (codes "noclaims") c.noclaims
-    (with_count (codes "ticks") c.ticks no_members)))))))))
+    (with_count (codes "ticks") c.ticks no_members))))))))
+
+-- the counts as an object
+abbrev pub object_of : Counts → Data
+object_of c = object (members_of c)
 
 -- the object without blanks, and a line feed
 abbrev pub line_of : Counts → List ℕ

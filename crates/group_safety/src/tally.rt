@@ -1,10 +1,10 @@
 //! The summary of facts.
 
 ghost use Rattle.std.specs.Prelude.{◌≡◌, ◌+◌, ◌++◌, ◌∷◌, [], min, List, IfOk, OnOk};
-ghost use Rattle.serde_json.specs.Data.{number, unsigned, put};
+ghost use Rattle.serde_json.specs.Data.{number, unsigned, put, no_members};
 ghost use Rattle.serde_json.specs.View.{view, members_view};
 ghost use Rattle.lan_core.specs.declared.fact.Fact.{Fact};
-ghost use Rattle.group_safety.specs.Summary.{counts, object_of, line_of, most};
+ghost use Rattle.group_safety.specs.Summary.{counts, members_of, object_of, line_of, most};
 ghost use Rattle.group_safety.specs.inside.Counting.{one_more, one_more_arrival};
 
 use lan_base::Octets;
@@ -120,16 +120,25 @@ impl Tally {
         ensures { IfOk result (λ object. view object ≡ object_of self.now) }
     {
         let mut members = Map::new(alloc);
-        put_count(&mut members, alloc, "accepted", self.accepted)?;
-        put_count(&mut members, alloc, "begun", self.begun)?;
-        put_count(&mut members, alloc, "claims", self.claims)?;
-        put_count(&mut members, alloc, "frames", self.frames)?;
-        put_count(&mut members, alloc, "installed", self.installed)?;
-        put_count(&mut members, alloc, "late", self.late)?;
-        put_count(&mut members, alloc, "missed", self.missed)?;
-        put_count(&mut members, alloc, "noclaims", self.noclaims)?;
-        put_count(&mut members, alloc, "ticks", self.ticks)?;
+        self.put_counts(&mut members, alloc)?;
         Ok(Value::Object(members))
+    }
+
+    /// The counts as the members of an object that has none.
+    fn put_counts(&self, members: &mut Map<String, Value>, alloc: Global) -> Result<(), AllocError>
+        ensures { members_view members.old.entries ≡ no_members
+            → OnOk result (members_view members.new.entries ≡ members_of self.now) }
+    {
+        put_count(members, alloc, "accepted", self.accepted)?;
+        put_count(members, alloc, "begun", self.begun)?;
+        put_count(members, alloc, "claims", self.claims)?;
+        put_count(members, alloc, "frames", self.frames)?;
+        put_count(members, alloc, "installed", self.installed)?;
+        put_count(members, alloc, "late", self.late)?;
+        put_count(members, alloc, "missed", self.missed)?;
+        put_count(members, alloc, "noclaims", self.noclaims)?;
+        put_count(members, alloc, "ticks", self.ticks)?;
+        Ok(())
     }
 }
 
