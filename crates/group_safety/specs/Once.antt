@@ -8,7 +8,8 @@ use Rattle.lan_core.specs.declared.event.Event.TheVariants as events
 use Rattle.lan_core.specs.declared.fact.Fact.{Fact}
 use Rattle.lan_core.specs.Run.{Run, stations}
 use Rattle.lan_core.specs.Ledgers.{gather, Install, install_of, install_at, installs, Claim, claims}
-use Rattle.lan_core.specs.Fresh.{AllDiffer, drawn_saks}
+use Rattle.lan_base.specs.Differing.{AllDiffer}
+use Rattle.lan_core.specs.Fresh.{drawn_saks}
 
 -- ---- one use of each packet number
 

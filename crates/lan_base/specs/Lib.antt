@@ -2,6 +2,7 @@ pub mod Timers
 pub mod Ranges
 pub mod Identifiers
 pub mod Falling
+pub mod Differing
 pub mod Name
 pub mod Counted
 pub mod ChaChaDrawn

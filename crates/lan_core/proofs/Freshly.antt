@@ -33,7 +33,8 @@ use Rattle.lan_core.specs.Expected.{claim_fact, number_fact, lack, emit_facts}
 use Rattle.lan_core.specs.Order.{IsOfSuite, IsAllowed}
 use Rattle.lan_core.specs.Types.{IfDrawn}
 use Rattle.lan_core.specs.Legal.{IsStep, IsStepped}
-use Rattle.lan_core.specs.Fresh.{IsFresh, AllDiffer, DiffersFrom, drawn_mis, drawn_saks, sak_drawn}
+use Rattle.lan_base.specs.Differing.{AllDiffer, DiffersFrom}
+use Rattle.lan_core.specs.Fresh.{IsFresh, drawn_mis, drawn_saks, sak_drawn}
 use Rattle.lan_core.specs.Fresh.{IsUnforged, IsUnforgedBy}
 use Rattle.lan_core.specs.Fresh.{is_forged}
 use Rattle.lan_core.specs.Stops.{mi_number, sak_number, sak_of_tick, same_secret, is_drawn}

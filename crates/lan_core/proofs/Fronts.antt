@@ -10,7 +10,8 @@ use Rattle.lan_core.specs.Lives.{transmitting_at}
 use Rattle.lan_core.specs.Ledgers.{Birth, born, births, gather, with_one}
 use Rattle.lan_core.specs.Claims.{next, a_claim}
 use Rattle.lan_core.specs.Legal.{IsStepped}
-use Rattle.lan_core.specs.Fresh.{AllDiffer, IsFresh, drawn_mis, drawn_saks, sak_drawn, IsUnforged}
+use Rattle.lan_base.specs.Differing.{AllDiffer}
+use Rattle.lan_core.specs.Fresh.{IsFresh, drawn_mis, drawn_saks, sak_drawn, IsUnforged}
 
 pub front-stepped : (settings : Settings) (users : List UserFrame) (later front : Run)
     → IsStepped settings users (later ++ front) → IsStepped settings users front

@@ -4,6 +4,7 @@ use Rattle.std.specs.Prelude.{Option, None, is_some, option_map, Result, Ok}
 use Rattle.std.specs.List.{list_any}
 use lib.Pointwise.{pointwise}
 use Rattle.lan_base.specs.declared.address.Mi.{Mi}
+use Rattle.lan_base.specs.Differing.{AllDiffer}
 use Rattle.aes_block.specs.Secrets.{secret_octets}
 use Rattle.mkpdu_codec.specs.declared.spelled.Spelled.{Spelled}
 use Rattle.mkpdu_codec.specs.declared.refusal.Refusal.{Refusal}
@@ -18,16 +19,6 @@ use Rattle.lan_core.specs.Ledgers.{air, Frame, births, with_one}
 use Rattle.lan_core.specs.Lives.{drawn_sak, setup_of}
 
 -- ---- fresh
-
--- this is none of the others
-abbrev pub DiffersFrom : {A : Type 0} → A → List A → Type 0
-DiffersFrom a [] = Unit {0}
-DiffersFrom a (b ∷ bs) = (a ≢ b) × DiffersFrom a bs
-
--- no two places have the same
-abbrev pub AllDiffer : {A : Type 0} → List A → Type 0
-AllDiffer [] = Unit {0}
-AllDiffer (a ∷ others) = DiffersFrom a others × AllDiffer others
 
 -- the member identifiers that were drawn
 abbrev pub drawn_mis : Run → List Mi

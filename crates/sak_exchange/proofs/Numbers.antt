@@ -7,7 +7,8 @@ use Rattle.lan_base.specs.Falling.{IsAbove, IsFalling}
 use Rattle.sak_exchange.specs.Histories.{Key, Keying, ticked, installed, began, install_count, made_count}
 use Rattle.sak_exchange.specs.Held.{Kept}
 use Rattle.sak_exchange.specs.Taking.{greatest_of}
-use Rattle.sak_exchange.specs.Lives.{IsOver, IsNumbered, TakesNoneOfOwn, epochs, numbers_of, identifiers, IsNone, AllDiffer}
+use Rattle.lan_base.specs.Differing.{DiffersFrom, AllDiffer}
+use Rattle.sak_exchange.specs.Lives.{IsOver, IsNumbered, TakesNoneOfOwn, epochs, numbers_of, identifiers}
 use Rattle.sak_exchange.proofs.Cases.{by_test}
 use Rattle.sak_exchange.proofs.Members.{same-equal, same-itself}
 
@@ -67,7 +68,7 @@ numbers-fall own s (installed r k ∷ h) n none =
     (λ t. rw t rest)
 numbers-fall own s (began e ∷ h) n none = numbers-fall own s h n none
 
-is-none : (h : List Keying) (i : KeyId) → IsOver (greatest_of i.server h) i.number → IsNone i (identifiers h)
+is-none : (h : List Keying) (i : KeyId) → IsOver (greatest_of i.server h) i.number → DiffersFrom i (identifiers h)
 is-none [] i over = tt
 is-none (ticked s ∷ h) i over = is-none h i over
 is-none (installed r k ∷ h) i over =

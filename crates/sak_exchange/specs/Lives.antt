@@ -90,13 +90,3 @@ identifiers [] = []
 identifiers (ticked s ∷ h) = identifiers h
 identifiers (installed r k ∷ h) = k.id ∷ identifiers h
 identifiers (began e ∷ h) = identifiers h
-
--- an identifier is none of the others
-abbrev pub IsNone : KeyId → List KeyId → Type 0
-IsNone i [] = Unit {0}
-IsNone i (j ∷ js) = (i ≢ j) × IsNone i js
-
--- no two places have the same identifier
-abbrev pub AllDiffer : List KeyId → Type 0
-AllDiffer [] = Unit {0}
-AllDiffer (i ∷ is) = IsNone i is × AllDiffer is

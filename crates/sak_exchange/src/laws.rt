@@ -10,7 +10,8 @@ ghost use Rattle.sak_exchange.specs.Held.{Kept, received, latest, old, transmitt
 ghost use Rattle.sak_exchange.specs.Beginning.{retired};
 ghost use Rattle.sak_exchange.specs.Making.{is_used, next_an};
 ghost use Rattle.sak_exchange.specs.Unwrapping.{unwrapped};
-ghost use Rattle.sak_exchange.specs.Lives.{Has, IsReceived, both, apart, IsQuiet, IsFresh, IsNumbered, TakesNoneOfOwn, epochs, numbers_of, identifiers, AllDiffer};
+ghost use Rattle.lan_base.specs.Differing.{AllDiffer};
+ghost use Rattle.sak_exchange.specs.Lives.{Has, IsReceived, both, apart, IsQuiet, IsFresh, IsNumbered, TakesNoneOfOwn, epochs, numbers_of, identifiers};
 
 use key_wrap::law_one_key_for_one_wrap;
 

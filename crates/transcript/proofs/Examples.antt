@@ -1,5 +1,5 @@
 -- The definitions, computed on worked lines.
-use Rattle.std.proofs.Common.{◌≡◌, ℕ, List, [], ◌∷◌, ◌++◌, get_or, refl, ap, arith}
+use Rattle.std.proofs.Common.{◌≡◌, ℕ, List, [], ◌∷◌, ◌++◌, get_or, refl, sym, ap, arith}
 use Rattle.std.specs.Prelude.{◌≢◌, false, codes, None}
 use Rattle.std.proofs.lemmas.List.Elements.{All-cons, All-nil}
 use Rattle.std.specs.Fmt.{digits}
@@ -9,7 +9,8 @@ use Rattle.mka_station.specs.declared.verdict.Verdict.TheVariants as Verdict
 use Rattle.rx_slots.specs.declared.arrival.Arrival.TheVariants as Arrival
 use Rattle.lan_core.specs.declared.fact.Fact.{Fact}
 use Rattle.lan_core.specs.declared.fact.Fact.TheVariants.{Ticked, Server, Framed, HeardMka, Claimed, Arrived}
-use Rattle.transcript.specs.Rendering.{line, rendered, IsFact, Says, Differ, AreNames}
+use Rattle.lan_base.specs.Differing.{AllDiffer}
+use Rattle.transcript.specs.Rendering.{line, rendered, IsFact, Says, AreNames}
 use Rattle.transcript.specs.inside.Reading.{fact_in}
 use Rattle.transcript.proofs.ReadBack.{told}
 use Rattle.transcript.specs.Cut.{cut}
@@ -63,9 +64,8 @@ different e =
     absurd (omega (arith, letter))
 
 -- the names differ, and the facts are facts under them
-pub names_differ : Differ names
-names_differ =
-    (All-cons (λ other. other ≢ codes "A") (codes "B") [] different (All-nil (λ other. other ≢ codes "A")), (All-nil (λ other. other ≢ codes "B"), tt))
+pub names_differ : AllDiffer names
+names_differ = ((λ e. different (sym e), tt), (tt, tt))
 
 pub is_fact : IsFact names ticked
 is_fact = (refl, ((omega arith, omega arith), (omega arith, (refl, (omega arith, tt)))))

@@ -19,7 +19,8 @@ use Rattle.lan_core.specs.declared.fact.Fact.{Fact}
 use Rattle.lan_core.specs.declared.fact.Fact.TheVariants.{Life, Ticked, Server, Dropped, Retired, Began, Installed, Untaken, Framed, HeardMka, Claimed, Unclaimed, Arrived}
 use Rattle.trace_text.specs.Words.{spaced}
 use Rattle.transcript.specs.Words.{Word, text, words, spelled, server_word, secret_word}
-use Rattle.transcript.specs.Rendering.{joined, line, transcript, AllFit, IsFact, Differ}
+use Rattle.lan_base.specs.Differing.{AllDiffer}
+use Rattle.transcript.specs.Rendering.{joined, line, transcript, AllFit, IsFact}
 use Rattle.transcript.specs.inside.Reading.{fact_in, along, fact_tree}
 use Rattle.transcript.proofs.Plain.{Lacks, IsSmall, spelled_lacks}
 use Rattle.transcript.proofs.Told.{fact_told}
@@ -149,7 +150,7 @@ split_some names [] some lack = absurd cc
 split_some names (word ∷ ws) some lack = split_words (spelled names word) (map (spelled names) ws) lack.0 lack.1
 
 -- a line says its fact
-pub line_told : (names : List (List ℕ)) (fact : Fact) → All IsName names → Differ names → IsFact names fact → fact_in names (line names fact) ≡ Some fact
+pub line_told : (names : List (List ℕ)) (fact : Fact) → All IsName names → AllDiffer names → IsFact names fact → fact_in names (line names fact) ≡ Some fact
 unfolding line
 line_told names fact named d fit =
     ap (along names fact_tree) (split_some names (words fact) (some_words fact) (all_plain 32 names fact refl refl refl refl named fit))
@@ -171,7 +172,7 @@ facts_of names (one ∷ others) = onto (fact_in names one) (facts_of names other
 abbrev facts_in : List (List ℕ) → List ℕ → List Fact
 facts_in names octets = facts_of names (slice_split is_feed octets)
 
-text_told : (names : List (List ℕ)) (facts : List Fact) → All IsName names → Differ names → All (IsFact names) facts
+text_told : (names : List (List ℕ)) (facts : List Fact) → All IsName names → AllDiffer names → All (IsFact names) facts
     → facts_in names (transcript names facts) ≡ facts
 text_told names [] named d fit = refl
 text_told names (fact ∷ facts) named d fit =
@@ -182,7 +183,7 @@ text_told names (fact ∷ facts) named d fit =
     ∙ ap (λ fs. fact ∷ fs) (text_told names facts named d (All-tail (IsFact names) fact facts fit))
 
 -- different facts have different texts
-pub texts_differ : (names : List (List ℕ)) (these those : List Fact) → All IsName names → Differ names → All (IsFact names) these → All (IsFact names) those
+pub texts_differ : (names : List (List ℕ)) (these those : List Fact) → All IsName names → AllDiffer names → All (IsFact names) these → All (IsFact names) those
     → transcript names these ≡ transcript names those → these ≡ those
 texts_differ names these those named d fit fit2 e =
     sym (text_told names these named d fit) ∙ ap (facts_in names) e ∙ text_told names those named d fit2

@@ -21,7 +21,8 @@ use Rattle.lan_core.specs.declared.fact.Fact.TheVariants.{Life, Ticked, Server, 
 use Rattle.lan_core.specs.declared.fact.Lack.TheVariants as Lack
 use Rattle.trace_text.specs.Words.{is_word}
 use Rattle.transcript.specs.Words.{spelled, Fits, words, server_word, secret_word}
-use Rattle.transcript.specs.Rendering.{Differ, IsFact}
+use Rattle.lan_base.specs.Differing.{DiffersFrom, AllDiffer}
+use Rattle.transcript.specs.Rendering.{IsFact}
 use Rattle.transcript.specs.inside.Reading.{place_of, station_of, whole_of, number_of, octets_of, array_of, member_of, server_of, secret_of, along, fact_tree}
 use Rattle.transcript.proofs.Pairs.{pairs_written}
 
@@ -38,15 +39,21 @@ other_word word other differ = never word other (is_word word other) refl differ
 one_more : (n : ℕ) → 1 + n ≡ suc n
 one_more n = omega arith
 
-place_found : (names : List (List ℕ)) (s : ℕ) → Differ names → s < length names → place_of names (get_or names s []) ≡ s
+differs-there : (name : List ℕ) (names : List (List ℕ)) (s : ℕ) → DiffersFrom name names
+    → s < length names → name ≢ get_or names s []
+differs-there name [] s d l = absurd (omega (arith, l))
+differs-there name (other ∷ names) zero d l = d.0
+differs-there name (other ∷ names) (suc s) d l = differs-there name names s d.1 (omega (arith, l))
+
+place_found : (names : List (List ℕ)) (s : ℕ) → AllDiffer names → s < length names → place_of names (get_or names s []) ≡ s
 place_found [] s d l = absurd (omega (arith, l))
 place_found (name ∷ names) zero d l = rw (same_word name) refl
 place_found (name ∷ names) (suc s) d l =
     let inside : s < length names = omega (arith, l) in
-    rw (other_word name (get_or names s []) (λ e. All-get_or (λ other. other ≢ name) names s [] inside d.0 (sym e)))
+    rw (other_word name (get_or names s []) (differs-there name names s d.0 inside))
     (one_more (place_of names (get_or names s [])) ∙ ap (λ n. suc n) (place_found names s d.1 inside))
 
-pub station_said : (names : List (List ℕ)) (s : ℕ) → Differ names → (s < length names) × (s < 256) → station_of names (get_or names s []) ≡ Some s
+pub station_said : (names : List (List ℕ)) (s : ℕ) → AllDiffer names → (s < length names) × (s < 256) → station_of names (get_or names s []) ≡ Some s
 station_said names s d fit =
     let named : nat_lt s (length names) ≡ true = grind (arith, nat_tests, fit.0) in
     let small : nat_lt s 256 ≡ true = grind (arith, nat_tests, fit.1) in
@@ -93,7 +100,7 @@ abbrev pub told : List (List ℕ) → Fact → Option Fact
 told names fact = along names fact_tree (map (spelled names) (words fact))
 
 -- a fact is told by its words
-pub fact_told : (names : List (List ℕ)) (fact : Fact) → Differ names → IsFact names fact → told names fact ≡ Some fact
+pub fact_told : (names : List (List ℕ)) (fact : Fact) → AllDiffer names → IsFact names fact → told names fact ≡ Some fact
 fact_told names (Life s mi) d fit = rw (station_said names s d fit.1.0, member_said mi fit.1.1.0) refl
 fact_told names (Ticked s at next) d fit = rw (station_said names s d fit.1.0, number_said 32 at (omega (arith, fit.1.1.0)) fit.1.1.0, number_said 64 next (omega (arith, fit.1.1.1.1.0)) fit.1.1.1.1.0) refl
 fact_told names (Server s mi) d fit = rw (station_said names s d fit.1.0, server_said names mi fit.1.1.0) refl

@@ -2,6 +2,7 @@
 use Rattle.std.specs.Prelude.{ℕ, ◌≡◌, ◌≢◌, List, [], ◌∷◌, ◌++◌, map}
 use Rattle.std.specs.List.{All, flat_map}
 use Rattle.lan_base.specs.Name.{IsName}
+use Rattle.lan_base.specs.Differing.{AllDiffer}
 use Rattle.lan_core.specs.declared.fact.Fact.{Fact}
 use Rattle.trace_text.specs.Words.{spaced}
 use Rattle.transcript.specs.Words.{Word, words, spelled, Fits}
@@ -37,11 +38,6 @@ IsFact names fact = AllFit names (words fact)
 abbrev pub Says : List (List ℕ) → List ℕ → Fact → Type 0
 Says names octets fact = IsFact names fact × (line names fact ≡ octets)
 
--- no two stations have the same name
-abbrev pub Differ : List (List ℕ) → Type 0
-Differ [] = Unit {0}
-Differ (name ∷ names) = All (λ other. other ≢ name) names × Differ names
-
 -- names of stations, each of another
 abbrev pub AreNames : List (List ℕ) → Type 0
-AreNames names = All IsName names × Differ names
+AreNames names = All IsName names × AllDiffer names

@@ -4,12 +4,13 @@ ghost use Rattle.std.specs.Prelude.{◌≡◌, ℕ, List, ◌∷◌, IsTrue};
 ghost use Rattle.std.specs.List.{All, flat_map};
 ghost use Rattle.lan_base.specs.Name.{IsName};
 ghost use Rattle.lan_core.specs.declared.fact.Fact.{Fact};
-ghost use Rattle.transcript.specs.Rendering.{IsFact, Differ, transcript};
+ghost use Rattle.lan_base.specs.Differing.{AllDiffer};
+ghost use Rattle.transcript.specs.Rendering.{IsFact, transcript};
 ghost use Rattle.transcript.specs.Cut.{cut, is_first, IsEvent};
 
 /// Different lists of facts have different texts, under names that differ.
 pub fn law_texts_differ()
-    ensures { (names : List (List ℕ)) (these those : List Fact) → All IsName names → Differ names
+    ensures { (names : List (List ℕ)) (these those : List Fact) → All IsName names → AllDiffer names
         → All (IsFact names) these → All (IsFact names) those
         → transcript names these ≡ transcript names those → these ≡ those }
 {}

@@ -3,7 +3,7 @@ use Rattle.std.proofs.Common.{◌≡◌, ◌≢◌, refl, sym, ap, ◌∙◌, su
 use Rattle.std.proofs.Common.{Option, Some, None}
 use Rattle.std.proofs.lemmas.Bool.Decides.{eqb_tells}
 use Rattle.lan_core.specs.Ledgers.{Birth}
-use Rattle.lan_core.specs.Fresh.{AllDiffer}
+use Rattle.lan_base.specs.Differing.{AllDiffer}
 use Rattle.group_safety.proofs.Members.{In, in-map, in-from_map}
 use Rattle.group_safety.proofs.once.Places.{IsTail, in-tail, same-place}
 use Rattle.group_safety.proofs.once.Places.{differs-in}

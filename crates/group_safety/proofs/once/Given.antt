@@ -4,7 +4,7 @@ use Rattle.std.proofs.Common.{◌≡◌, ◌<◌, sym, ap, ◌∙◌, ℕ, List,
 use Rattle.lan_base.specs.declared.key_id.KeyId.{KeyId}
 use Rattle.aes_block.specs.Secrets.{secret_octets}
 use Rattle.lan_core.specs.Ledgers.{Birth, Claim}
-use Rattle.lan_core.specs.Fresh.{AllDiffer}
+use Rattle.lan_base.specs.Differing.{AllDiffer}
 use Rattle.group_safety.proofs.Members.{In, in-from_map, in-filter}
 use Rattle.group_safety.proofs.once.Ledgers.{Handed, Installation, Book, current}
 use Rattle.group_safety.proofs.once.Places.{in-tail, same-place}

@@ -1,7 +1,7 @@
 -- What holds of the ledgers and the current lives after all allowed changes.
 use Rattle.std.proofs.Common.{◌≡◌, ◌<◌, ℕ, List, [], ◌∷◌, map, true, Some}
 use Rattle.lan_core.specs.Ledgers.{Birth, Claim}
-use Rattle.lan_core.specs.Fresh.{AllDiffer}
+use Rattle.lan_base.specs.Differing.{AllDiffer}
 use Rattle.group_safety.proofs.Members.{In}
 use Rattle.group_safety.proofs.once.Places.{IsTail}
 use Rattle.lan_base.specs.declared.address.Mi.{Mi}

@@ -2,7 +2,7 @@
 use Rattle.std.proofs.Common.{◌≡◌, refl, sym, ap, ◌∙◌, subst, inl, inr, ℕ, List, [], ◌∷◌, map, true}
 use Rattle.std.proofs.Common.{false, Some}
 use Rattle.lan_core.specs.Ledgers.{Birth, Claim}
-use Rattle.lan_core.specs.Fresh.{AllDiffer}
+use Rattle.lan_base.specs.Differing.{AllDiffer}
 use Rattle.group_safety.proofs.Members.{In, in-from_map}
 use Rattle.group_safety.proofs.once.Places.{IsTail, tail-itself, differs-in}
 use Rattle.group_safety.proofs.once.Places.{differs-from}

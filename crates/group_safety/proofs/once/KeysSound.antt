@@ -11,7 +11,8 @@ use Rattle.sak_exchange.specs.Histories.{Key, Keying, ticked, installed, began, 
 use Rattle.sak_exchange.specs.Histories.{last_roster, last_begun, install_count, made_count}
 use Rattle.sak_exchange.specs.Held.{received, latest, old, transmitting, ends, with_new, has_epoch}
 use Rattle.sak_exchange.specs.Taking.{greatest_of}
-use Rattle.sak_exchange.specs.Lives.{IsOver, IsNumbered, TakesNoneOfOwn, identifiers, IsNone}
+use Rattle.lan_base.specs.Differing.{DiffersFrom}
+use Rattle.sak_exchange.specs.Lives.{IsOver, IsNumbered, TakesNoneOfOwn, identifiers}
 use Rattle.sak_exchange.proofs.Numbers.{identifiers-differ}
 use Rattle.sak_exchange.proofs.Epochs.{find-passes}
 use Rattle.lan_core.specs.Types.{IsSecret}
@@ -96,7 +97,7 @@ sound-taken base own most k h v over other is =
 
 -- ---- a new key is new
 
-none-in : (i : KeyId) (is : List KeyId) → IsNone i is → In i is → ⊥
+none-in : (i : KeyId) (is : List KeyId) → DiffersFrom i is → In i is → ⊥
 none-in i [] none h = elim h [ ]
 none-in i (j ∷ js) none (inl e) = none.0 e
 none-in i (j ∷ js) none (inr h) = none-in i js none.1 h

@@ -19,7 +19,8 @@ use Rattle.lan_core.specs.Lives.{Life, life, keys_in, setup_of}
 use Rattle.lan_core.specs.Claims.{next, Waiting, claimed, user_at}
 use Rattle.lan_core.specs.Order.{ticks, IsSendable}
 use Rattle.lan_core.specs.Types.{IsSetting}
-use Rattle.lan_core.specs.Fresh.{AllDiffer, drawn_saks}
+use Rattle.lan_base.specs.Differing.{AllDiffer}
+use Rattle.lan_core.specs.Fresh.{drawn_saks}
 use Rattle.group_safety.specs.Once.{makes}
 use Rattle.group_safety.proofs.Members.{In, in-right}
 use Rattle.group_safety.proofs.once.Ledgers.{Book, Change, book, AreAllowed}

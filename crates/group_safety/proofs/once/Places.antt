@@ -2,7 +2,7 @@
 use Rattle.std.proofs.Common.{◌≡◌, ◌≢◌, refl, sym, ap, ◌∙◌, subst, inl, inr, List, [], ◌∷◌}
 use Rattle.std.proofs.Common.{map}
 use Rattle.std.specs.Prelude.{◌⊎◌}
-use Rattle.lan_core.specs.Fresh.{DiffersFrom, AllDiffer}
+use Rattle.lan_base.specs.Differing.{DiffersFrom, AllDiffer}
 use Rattle.group_safety.proofs.Members.{In, in-map, in-from_map}
 
 -- one list is the other without some of its newest entries

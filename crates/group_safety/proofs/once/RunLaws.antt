@@ -17,7 +17,8 @@ use Rattle.lan_core.specs.Ledgers.{births, Install, installs, install_at, air, C
 use Rattle.lan_core.specs.Lives.{life}
 use Rattle.lan_core.specs.Claims.{claimed}
 use Rattle.lan_core.specs.Legal.{IsStep, IsStepped}
-use Rattle.lan_core.specs.Fresh.{AllDiffer, drawn_saks, IsFresh, IsUnforgedBy, IsUnforged}
+use Rattle.lan_base.specs.Differing.{AllDiffer}
+use Rattle.lan_core.specs.Fresh.{drawn_saks, IsFresh, IsUnforgedBy, IsUnforged}
 use Rattle.group_safety.specs.Once.{sak_of, sci_of, Use, use_of, Once, OneKey, makes, Drawn}
 use Rattle.group_safety.proofs.Members.{In, contains-in, in-contains, in-map, in-from_map}
 use Rattle.group_safety.proofs.once.Ledgers.{Handed, Installation, Book, book, mis}

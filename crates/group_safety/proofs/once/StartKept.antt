@@ -27,7 +27,7 @@ use Rattle.lan_core.specs.Expected.{expected, reaction_facts, restart_facts}
 use Rattle.lan_core.specs.Order.{ticks}
 use Rattle.lan_core.specs.Types.{IsMi, IfDrawn}
 use Rattle.lan_core.specs.Legal.{IsStep}
-use Rattle.lan_core.specs.Fresh.{DiffersFrom, AllDiffer}
+use Rattle.lan_base.specs.Differing.{DiffersFrom, AllDiffer}
 use Rattle.group_safety.specs.Once.{shown_made}
 use Rattle.group_safety.proofs.Members.{In, in-contains, in-from_map, in-either}
 use Rattle.group_safety.proofs.once.Ledgers.{newborn, with_life}

@@ -40,7 +40,8 @@ use Rattle.lan_core.specs.Claims.{user_at}
 use Rattle.lan_core.specs.Order.{IsSendable}
 use Rattle.lan_core.specs.Types.{IsSetting, IsSecret, IsTyped, IsUserFrame}
 use Rattle.lan_core.specs.Legal.{IsStep, IsStepped}
-use Rattle.lan_core.specs.Fresh.{IsUnforged, AllDiffer, drawn_mis}
+use Rattle.lan_base.specs.Differing.{AllDiffer}
+use Rattle.lan_core.specs.Fresh.{IsUnforged, drawn_mis}
 use Rattle.lan_core.proofs.Numbered.{air-numbered}
 use Rattle.group_safety.specs.Moments.{upto, At}
 use Rattle.group_safety.specs.Stations.{keys_at}

@@ -26,7 +26,8 @@ use Rattle.lan_core.specs.Run.{Run, Happening}
 use Rattle.lan_core.specs.Lives.{Life, life, keys_in, seen_at, sak_in, lived, turn_at_tick}
 use Rattle.lan_core.specs.Types.{IsSetting}
 use Rattle.lan_core.specs.Legal.{IsStepped}
-use Rattle.lan_core.specs.Fresh.{IsUnforged, AllDiffer, drawn_mis}
+use Rattle.lan_base.specs.Differing.{AllDiffer}
+use Rattle.lan_core.specs.Fresh.{IsUnforged, drawn_mis}
 use Rattle.group_safety.specs.Moments.{upto, At}
 use Rattle.group_safety.specs.Stations.{keys_at, keys_of_life}
 use Rattle.group_safety.proofs.Members.{by_sum}

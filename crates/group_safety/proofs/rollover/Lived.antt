@@ -10,7 +10,7 @@ use Rattle.mkpdu_codec.specs.declared.announcement.Announcement.{Announcement}
 use Rattle.sak_exchange.specs.Histories.{Key, Keying, installs, begun_at}
 use Rattle.sak_exchange.specs.Histories as keyings
 use Rattle.sak_exchange.specs.Held.{Kept}
-use Rattle.sak_exchange.specs.Lives.{Has, identifiers, IsNone, AllDiffer as IdsDiffer}
+use Rattle.sak_exchange.specs.Lives.{Has, identifiers}
 use Rattle.sak_exchange.proofs.Numbers.{identifiers-differ}
 use Rattle.mka_station.specs.Lives.{Member, Entry, keys_of}
 use Rattle.mka_station.specs.Tick.{tick_turn}
@@ -24,7 +24,8 @@ use Rattle.lan_core.specs.Run.{Run, Happening}
 use Rattle.lan_core.specs.Lives.{Life, life, lived, keys_in, seen_at, sak_in, turn_at_tick}
 use Rattle.lan_core.specs.Types.{IsSetting}
 use Rattle.lan_core.specs.Legal.{IsStep, IsStepped}
-use Rattle.lan_core.specs.Fresh.{IsUnforged, AllDiffer, drawn_mis}
+use Rattle.lan_base.specs.Differing.{AllDiffer, DiffersFrom}
+use Rattle.lan_core.specs.Fresh.{IsUnforged, drawn_mis}
 use Rattle.group_safety.specs.Moments.{upto, At}
 use Rattle.group_safety.specs.Rounds.{rounds}
 use Rattle.group_safety.specs.Stations.{mi_of, mi_at, keys_of_life, keys_at}
@@ -50,7 +51,7 @@ use Rattle.group_safety.proofs.rollover.Said.{Said, known-at, reached-said}
 -- ---- one install of an identifier
 
 id-in : (k : Key) (h : List Keying) → Has k (installs h) → (ids : KeyId) → k.id ≡ ids
-    → IsNone ids (identifiers h) → ⊥
+    → DiffersFrom ids (identifiers h) → ⊥
 id-in k [] has i e none = has
 id-in k (keyings.ticked s ∷ h) has i e none = id-in k h has i e none
 id-in k (keyings.installed r j ∷ h) (inl same) i e none =
@@ -58,7 +59,7 @@ id-in k (keyings.installed r j ∷ h) (inl same) i e none =
 id-in k (keyings.installed r j ∷ h) (inr has) i e none = id-in k h has i e none.1
 id-in k (keyings.began n ∷ h) has i e none = id-in k h has i e none
 
-pub one-of-id : (h : List Keying) → IdsDiffer (identifiers h) → (j k : Key) → Has j (installs h)
+pub one-of-id : (h : List Keying) → AllDiffer (identifiers h) → (j k : Key) → Has j (installs h)
     → Has k (installs h) → j.id ≡ k.id → j ≡ k
 one-of-id [] d j k hj hk e = absurd hj
 one-of-id (keyings.ticked s ∷ h) d j k hj hk e = one-of-id h d j k hj hk e
@@ -161,8 +162,8 @@ module _ (settings : Settings) (users : List UserFrame) (run : Run) (is : IsSett
 
   -- ---- one install of an identifier in a life
 
-  ids-of : (o : Option Life) → ((l : Life) → o ≡ Some l → IdsDiffer (identifiers (keys_in l)))
-      → IdsDiffer (identifiers (keys_of_life o))
+  ids-of : (o : Option Life) → ((l : Life) → o ≡ Some l → AllDiffer (identifiers (keys_in l)))
+      → AllDiffer (identifiers (keys_of_life o))
   ids-of None f = tt
   ids-of (Some l) f = f l refl
 

@@ -15,7 +15,8 @@ use Rattle.lan_core.specs.Ledgers.{Birth, births, born, gather, with_one}
 use Rattle.lan_core.specs.Lives.{life}
 use Rattle.lan_core.specs.Order.{Exists, IsAllowed}
 use Rattle.lan_core.specs.Legal.{IsStep, IsStepped}
-use Rattle.lan_core.specs.Fresh.{AllDiffer, drawn_mis}
+use Rattle.lan_base.specs.Differing.{AllDiffer}
+use Rattle.lan_core.specs.Fresh.{drawn_mis}
 use Rattle.group_safety.specs.Moments.{upto, At}
 use Rattle.group_safety.specs.Stations.{mi_of, mi_at}
 use Rattle.group_safety.proofs.Members.{In, by_sum}

@@ -30,7 +30,8 @@ use Rattle.lan_core.specs.Run.{Run, Happening}
 use Rattle.lan_core.specs.Lives.{Life, life, seen_at, sak_in}
 use Rattle.lan_core.specs.Types.{IsSetting}
 use Rattle.lan_core.specs.Legal.{IsStepped}
-use Rattle.lan_core.specs.Fresh.{IsUnforged, AllDiffer, drawn_mis}
+use Rattle.lan_base.specs.Differing.{AllDiffer}
+use Rattle.lan_core.specs.Fresh.{IsUnforged, drawn_mis}
 use Rattle.group_safety.specs.Moments.{upto, At}
 use Rattle.group_safety.specs.Stations.{mi_at, keys_at, server_at}
 use Rattle.group_safety.specs.Steady.{IsSteady}

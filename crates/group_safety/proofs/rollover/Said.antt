@@ -63,7 +63,8 @@ use Rattle.group_safety.proofs.rollover.Facts as from
 use Rattle.group_safety.proofs.rollover.Events.{Kind, kind, IsReached}
 use Rattle.group_safety.proofs.rollover.Events as kinds
 use Rattle.group_safety.proofs.rollover.OneLife.{step-at}
-use Rattle.lan_core.specs.Fresh.{AllDiffer, drawn_mis}
+use Rattle.lan_base.specs.Differing.{AllDiffer}
+use Rattle.lan_core.specs.Fresh.{drawn_mis}
 
 -- a station says an announcement at a tick, which is an event of the run
 pub record Said (settings : Settings) (run : Run) (z t : ℕ) (a : Announcement) : Type 0 where
