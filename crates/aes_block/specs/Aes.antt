@@ -17,14 +17,16 @@ pub record IsKey (key : List ℕ) : Type 0 where
   pub count : (length key ≡ 16) ⊎ ((length key ≡ 24) ⊎ (length key ≡ 32))
   pub octets : All (λ octet. octet < 256) key
 
--- the state after so many whole rounds: before the first one a round key is added to the block (5.1)
+-- the state after so many whole rounds: before the first one a round key is added to the block
+-- (5.1)
 unfoldable pub after_rounds : List (List ℕ) → List ℕ → ℕ → List ℕ
 after_rounds words block zero = add_round_key block (round_key words zero)
 after_rounds words block (suc n) = round (after_rounds words block n) (round_key words (suc n))
 
 -- so many rounds of a block, with the words of the expanded key (5.1)
 unfoldable pub cipher : List (List ℕ) → List ℕ → ℕ → List ℕ
-cipher words block rounds = last_round (after_rounds words block (rounds - 1)) (round_key words rounds)
+cipher words block rounds =
+    last_round (after_rounds words block (rounds - 1)) (round_key words rounds)
 
 -- the encryption of a block under a key (5.1)
 unfoldable pub aes : List ℕ → List ℕ → List ℕ

@@ -8,7 +8,9 @@ has_bit n k = (n / 2 ^ k) % 2 == 1
 
 -- the eight bits of an octet, the highest first
 abbrev pub octet_bits : ℕ → List Bool
-octet_bits n = has_bit n 7 ∷ has_bit n 6 ∷ has_bit n 5 ∷ has_bit n 4 ∷ has_bit n 3 ∷ has_bit n 2 ∷ has_bit n 1 ∷ has_bit n 0 ∷ []
+octet_bits n =
+    has_bit n 7 ∷ has_bit n 6 ∷ has_bit n 5 ∷ has_bit n 4 ∷ has_bit n 3 ∷ has_bit n 2 ∷ has_bit n 1
+    ∷ has_bit n 0 ∷ []
 
 -- the bits of octets, one octet after the other
 abbrev pub bits : List ℕ → List Bool

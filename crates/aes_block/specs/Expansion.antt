@@ -41,7 +41,8 @@ addend nk i last =
 abbrev pub next_word : List ℕ → List (List ℕ) → ℕ → List ℕ
 next_word key words i =
     if nat_lt i (key_words key) then take 4 (drop (4 * i) key)
-    else octets_sum (word_at words (i - key_words key)) (addend (key_words key) i (word_at words (i - 1)))
+    else octets_sum (word_at words (i - key_words key))
+    (addend (key_words key) i (word_at words (i - 1)))
 
 -- these words and the next one
 abbrev pub extended : List ℕ → List (List ℕ) → List (List ℕ)

@@ -36,8 +36,8 @@ octets = range_with_len 0 256
 unfoldable pub inverse : ℕ → ℕ
 inverse a = unwrap_or (find (λ b. times a b == 1) octets) 0
 
--- bit i of the affine map: the sum of bit i of 0x63 and of the bits i, i + 4, i + 5, i + 6 and i + 7,
--- modulo 8 (5.1.1)
+-- bit i of the affine map: the sum of bit i of 0x63 and of the bits i, i + 4, i + 5, i + 6 and i +
+-- 7, modulo 8 (5.1.1)
 abbrev pub affine_bit : ℕ → ℕ → Bool
 affine_bit b i =
     fold bit_sum (has_bit 0x63 i) (map (λ k. has_bit b ((i + k) % 8)) (0 ∷ 4 ∷ 5 ∷ 6 ∷ 7 ∷ []))

@@ -1,6 +1,8 @@
--- Products in a field of 2 ^ n elements. A string of n bits is a polynomial over two elements, and the bit at
--- place i is the coefficient of x ^ i. A product is reduced modulo x ^ n + r, where the string r has the lower terms.
--- FIPS 197, section 4.2, has n = 8; SP 800-38D, section 6.3, has n = 128 and calls the steps Z and V.
+-- Products in a field of 2 ^ n elements. A string of n bits is a polynomial over two elements, and
+-- the bit at place i is the coefficient of x ^ i. A product is reduced modulo x ^ n + r, where the
+-- string r has the lower terms.
+-- FIPS 197, section 4.2, has n = 8; SP 800-38D, section 6.3, has n = 128 and calls the steps Z and
+-- V.
 use Rattle.std.specs.Prelude.{Bool, true, false, if◌then◌else◌, List, [], ◌∷◌, map}
 
 -- one or the other, not both

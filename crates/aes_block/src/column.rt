@@ -24,8 +24,9 @@ fn mixed(column: u32) -> u32
     twice ^ (column ^ twice).rotate_left(8) ^ column.rotate_left(16) ^ column.rotate_left(24)
 }
 
-/// InvMixColumns on a column: the one that is mixed to this one (5.3.3). The polynomial by which a column is mixed has the
-/// square 4 x ^ 2 + 5 and the fourth power 1, so that the product with the square, mixed, is the inverse.
+/// InvMixColumns on a column: the one that is mixed to this one (5.3.3). The polynomial by which a
+/// column is mixed has the square 4 x ^ 2 + 5 and the fourth power 1, so that the product with the
+/// square, mixed, is the inverse.
 pub fn inv_mixed(column: u32) -> u32
     ensures { mixed_column (octets_of result) ≡ octets_of column }
 {
@@ -48,8 +49,8 @@ pub fn sub_diagonal(a: u32, b: u32, c: u32, d: u32) -> u32
     ])
 }
 
-/// A column after SubBytes, ShiftRows and MixColumns, from the diagonal before: one entry of the table
-/// for each row.
+/// A column after SubBytes, ShiftRows and MixColumns, from the diagonal before: one entry of the
+/// table for each row.
 pub fn mixed_diagonal(a: u32, b: u32, c: u32, d: u32) -> u32
     ensures { octets_of result ≡ mixed_column (map sub_octet (diagonal a b c d)) }
 {

@@ -16,7 +16,8 @@ fn sub_word(word: u32) -> u32
     sub_diagonal(word, word, word, word)
 }
 
-/// What is added to the word `key_words` places before word `i`, where `last` is the word before it.
+/// What is added to the word `key_words` places before word `i`, where `last` is the word before
+/// it.
 fn addend(key_words: usize, i: usize, last: u32) -> u32
     requires some { 0 < key_words }
     requires past_key { key_words ≤ i }

@@ -28,8 +28,8 @@ impl Length {
     }
 }
 
-/// A cipher key, expanded once: as many words as its cipher has use for, and zeros. Contracts see it
-/// as its octets.
+/// A cipher key, expanded once: as many words as its cipher has use for, and zeros. Contracts see
+/// it as its octets.
 #[derive(Clone, Drop)]
 pub struct Key {
     len: Length,

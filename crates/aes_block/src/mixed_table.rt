@@ -1,8 +1,8 @@
 //! What SubBytes and MixColumns make of one octet, as a table (FIPS 197, sections 5.1.1 and 5.1.3).
 
-/// The columns that MixColumns makes of the S-box's octet for 0, 1 and so on to 255, where the other rows
-/// are zero: 256 columns for the octet in row 0, as many in row 1, and so on. A mixed column is the sum of
-/// four of them.
+/// The columns that MixColumns makes of the S-box's octet for 0, 1 and so on to 255, where the
+/// other rows are zero: 256 columns for the octet in row 0, as many in row 1, and so on. A mixed
+/// column is the sum of four of them.
 pub const MIXED: [u32; 1024] = [
     0xc66363a5, 0xf87c7c84, 0xee777799, 0xf67b7b8d, 0xfff2f20d, 0xd66b6bbd, 0xde6f6fb1, 0x91c5c554,
     0x60303050, 0x02010103, 0xce6767a9, 0x562b2b7d, 0xe7fefe19, 0xb5d7d762, 0x4dababe6, 0xec76769a,

@@ -49,7 +49,8 @@ impl State {
         requires { at + 4 ≤ length words.now }
         ensures { octets_of_state result
             ≡ octets_of (slice_index words.now at) ++ octets_of (slice_index words.now (at + 1))
-            ++ octets_of (slice_index words.now (at + 2)) ++ octets_of (slice_index words.now (at + 3)) }
+            ++ octets_of (slice_index words.now (at + 2))
+            ++ octets_of (slice_index words.now (at + 3)) }
     {
         State(words[at], words[at + 1], words[at + 2], words[at + 3])
     }
@@ -125,7 +126,8 @@ impl State {
         self.with_key(key).inv_shift_rows()
     }
 
-    /// InvShiftRows and InvSubBytes in one step: the state before SubBytes and ShiftRows (5.3.1 and 5.3.2).
+    /// InvShiftRows and InvSubBytes in one step: the state before SubBytes and ShiftRows (5.3.1 and
+    /// 5.3.2).
     fn inv_shift_rows(self) -> State
         ensures { shift_rows (sub_bytes (octets_of_state result)) ≡ octets_of_state self }
     {

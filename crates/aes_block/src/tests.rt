@@ -22,7 +22,8 @@ const VECTORS: [(u128, u128, u128); 7] = [
         0x6bc1bee2_2e409f96_e93d7e11_7393172a,
         0x3ad77bb4_0d7a3660_a89ecaf3_2466ef97,
     ),
-    // known answers of NIST's validation suite: S-box, key S-box, all bits in the block, all bits in the key
+    // known answers of NIST's validation suite: S-box, key S-box, all bits in the block, all bits
+    // in the key
     (
         0x00000000_00000000_00000000_00000000,
         0xf34481ec_3cc627ba_cd5dc3fb_08f273e6,
@@ -65,7 +66,8 @@ const VECTORS_256: [([u128; 2], u128, u128); 6] = [
         0x6bc1bee2_2e409f96_e93d7e11_7393172a,
         0xf3eed1bd_b5d2a03c_064b5a7e_3db181f8,
     ),
-    // known answers of NIST's validation suite: S-box, key S-box, all bits in the block, all bits in the key
+    // known answers of NIST's validation suite: S-box, key S-box, all bits in the block, all bits
+    // in the key
     (
         [
             0x00000000_00000000_00000000_00000000,

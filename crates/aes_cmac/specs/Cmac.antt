@@ -24,7 +24,8 @@ second_subkey key = doubled (first_subkey key)
 abbrev pub block : List ℕ → ℕ → List ℕ
 block message i = take 16 (drop (16 * i) message)
 
--- how many blocks come before the last one, which has 1 to 16 octets, or none if the message is empty
+-- how many blocks come before the last one, which has 1 to 16 octets, or none if the message is
+-- empty
 abbrev pub before_last : List ℕ → ℕ
 before_last message = (length message - 1) / 16
 
@@ -32,19 +33,22 @@ before_last message = (length message - 1) / 16
 abbrev pub padded_part : List ℕ → List ℕ
 padded_part part = part ++ 0x80 ∷ replicate (15 - length part) 0
 
--- the last block: whole, with the first subkey added, or padded, with the second one added (6.2, step 4)
+-- the last block: whole, with the first subkey added, or padded, with the second one added (6.2,
+-- step 4)
 abbrev pub last_block : List ℕ → List ℕ → List ℕ
 last_block key part =
-    if length part == 16 then octets_sum part (first_subkey key) else octets_sum (padded_part part) (second_subkey key)
+    if length part == 16 then octets_sum part (first_subkey key)
+    else octets_sum (padded_part part) (second_subkey key)
 
--- the chain after so many blocks: from zero, each time the ciphertext of the chain with the next block added
--- (6.2, steps 5 and 6)
+-- the chain after so many blocks: from zero, each time the ciphertext of the chain with the next
+-- block added (6.2, steps 5 and 6)
 unfoldable pub chain_after : List ℕ → List ℕ → ℕ → List ℕ
 chain_after key message zero = replicate 16 0
 chain_after key message (suc i) = aes key (octets_sum (chain_after key message i) (block message i))
 
 -- the value of a message under a key (6.2)
 unfoldable pub cmac : List ℕ → List ℕ → List ℕ
-cmac key message = aes key (octets_sum (chain_after key message n) (last_block key (block message n))) where
-  n : ℕ
-  n = before_last message
+cmac key message =
+    aes key (octets_sum (chain_after key message n) (last_block key (block message n))) where
+      n : ℕ
+      n = before_last message

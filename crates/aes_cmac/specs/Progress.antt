@@ -8,8 +8,8 @@ pub record Progress : Type 0 where
   pub chain : List ℕ
   pub rest : List ℕ
 
--- all of this message has come under this key: the blocks before the last one were enciphered, and the
--- last one waits
+-- all of this message has come under this key: the blocks before the last one were enciphered, and
+-- the last one waits
 pub record Holds (p : Progress) (key message : List ℕ) : Type 0 where
   pub under : p.key ≡ key
   pub enciphered : p.chain ≡ chain_after key message (before_last message)

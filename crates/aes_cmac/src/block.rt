@@ -13,8 +13,8 @@ fn doubled(block: [u8; 16]) -> [u8; 16]
     doubled_bits(u128::from_be_bytes(block)).to_be_bytes()
 }
 
-/// The bits of a block doubled: the highest one, which falls out, is multiplied and not asked for, so that
-/// the time it takes tells nothing of it.
+/// The bits of a block doubled: the highest one, which falls out, is multiplied and not asked for,
+/// so that the time it takes tells nothing of it.
 fn doubled_bits(bits: u128) -> u128
     ensures { result ≡ doubled_bits bits }
 {

@@ -10,8 +10,8 @@ pub struct Running<'a> {
     key: &'a Key,
     /// The chain after the blocks that were enciphered.
     chain: [u8; 16],
-    /// The block that comes next, of which `filled` octets are here. It is enciphered when another octet
-    /// comes, since the last block is not chained as the others are.
+    /// The block that comes next, of which `filled` octets are here. It is enciphered when another
+    /// octet comes, since the last block is not chained as the others are.
     next: [u8; 16],
     filled: usize,
 }
@@ -58,13 +58,15 @@ impl<'a> Running<'a> {
 
     /// The value of the whole message.
     pub fn finish(self) -> [u8; 16]
-        ensures { (key message : List ℕ) → Holds self.entry key message → result ≡ cmac key message }
+        ensures { (key message : List ℕ) → Holds self.entry key message
+            → result ≡ cmac key message }
     {
         let last = last_block(self.key, self.next, self.filled);
         self.key.encrypt(xored(&self.chain, &last))
     }
 
-    /// Takes at most a block of the message: what the waiting block has room for, and the rest behind it.
+    /// Takes at most a block of the message: what the waiting block has room for, and the rest
+    /// behind it.
     fn push(&mut self, part: &[u8])
         requires { length part.now ≤ 16 }
         ensures { (key message : List ℕ) → Holds self.old key message

@@ -13,8 +13,8 @@ struct Row {
     value: &'static str,
 }
 
-// The examples of SP 800-38B and of the RFCs that use its CMAC, and values of NIST's validation suite for SP 800-108,
-// where one block of a derived key is one CMAC.
+// The examples of SP 800-38B and of the RFCs that use its CMAC, and values of NIST's validation
+// suite for SP 800-108, where one block of a derived key is one CMAC.
 const PUBLISHED: [Row; 20] = [
     Row {
         name: "SP 800-38B and RFC 4493",
@@ -197,7 +197,8 @@ fn gives_the_published_values_under_a_long_key(rt: HostRuntime) -> Result<(), Fa
     Ok(())
 }
 
-// RFC 4615: a key of another length is first made one of 16 octets, by its own CMAC under the key zero.
+// RFC 4615: a key of another length is first made one of 16 octets, by its own CMAC under the key
+// zero.
 #[test]
 fn gives_the_published_values_under_a_key_that_is_a_value(rt: HostRuntime) -> Result<(), Fail> {
     let message = hex::decode(rt.alloc(), "000102030405060708090a0b0c0d0e0f10111213")?;

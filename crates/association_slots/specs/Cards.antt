@@ -35,7 +35,9 @@ card_words card = sak_words card.sak ++ flags_of card ∷ []
 -- the card that five words hold
 abbrev pub card_in : ℕ → ℕ → ℕ → ℕ → ℕ → Card
 card_in a b c d flags = record {
-  sak = if flags / 2 % 2 == 1 then S256 (octets_of a ++ octets_of b ++ octets_of c ++ octets_of d) else S128 (octets_of a ++ octets_of b);
+  sak =
+      if flags / 2 % 2 == 1 then S256 (octets_of a ++ octets_of b ++ octets_of c ++ octets_of d)
+      else S128 (octets_of a ++ octets_of b);
   conf = flags % 2 == 1;
 }
 

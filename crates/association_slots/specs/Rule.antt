@@ -135,7 +135,8 @@ agrees false b = not b
 
 -- the seats of the number got nothing from the epoch, after a load of it, or of an earlier one
 abbrev pub tagged : ℕ → ℕ → Bool → Addition → Bool
-tagged number epoch of_it a = not a.claimed && ((a.seat == number) && ((a.met == epoch) && agrees of_it (a.loaded == epoch)))
+tagged number epoch of_it a =
+    not a.claimed && ((a.seat == number) && ((a.met == epoch) && agrees of_it (a.loaded == epoch)))
 
 -- The additions and the marks of all seats, told ones too
 pub record Ledger (c : ControlView) (words : List ℕ) (vs : List View) : Type 0 where

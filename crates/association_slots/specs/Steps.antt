@@ -87,7 +87,8 @@ pointed c p = record c { points = p ∷ c.points }
 -- one more than each number that was claimed under the epoch, 0 for none
 abbrev pub above_claims : ℕ → List Addition → ℕ
 above_claims epoch [] = 0
-above_claims epoch (a ∷ rest) = max (cond (a.claimed && (a.met == epoch)) (a.pn + 1) 0) (above_claims epoch rest)
+above_claims epoch (a ∷ rest) =
+    max (cond (a.claimed && (a.met == epoch)) (a.pn + 1) 0) (above_claims epoch rest)
 
 -- the least next number that the slot has, by what control saw there and was told
 abbrev pub least_next : ControlView → ℕ → NextSeen
@@ -99,7 +100,9 @@ least_next c an = let epoch = (slot c an).epoch in record {
 
 -- for a slot that is open with an epoch no later than the last one pointed at
 abbrev pub given_of : ControlView → ℕ → List NextSeen → List NextSeen
-given_of c an rest = cons_if (not (slot c an).shut && nat_le (slot c an).epoch (current c).epoch) (least_next c an) rest
+given_of c an rest =
+    cons_if (not (slot c an).shut && nat_le (slot c an).epoch (current c).epoch)
+    (least_next c an) rest
 
 abbrev pub start_of : ControlView → Start
 start_of c = record {
@@ -155,7 +158,9 @@ loaded v p = record v {
 -- what an addition gives, where the epoch was loaded and the slot's word is this: a number where
 -- the word is open with that epoch and its next number is below 2 ^ 32
 abbrev pub answer : ℕ → ℕ → Added
-answer epoch word = cond (not (flag_of word) && (epoch_of word == epoch)) (cond (nat_lt (next_of word) (2 ^ 32)) (Number (next_of word)) Over) Gone
+answer epoch word =
+    cond (not (flag_of word) && (epoch_of word == epoch))
+    (cond (nat_lt (next_of word) (2 ^ 32)) (Number (next_of word)) Over) Gone
 
 -- an addition by a seat to the slot that it was shown, where that showed the epoch e
 abbrev pub addition : SeatView → ℕ → Bool → ℕ → Addition

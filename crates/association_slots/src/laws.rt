@@ -96,8 +96,8 @@ pub fn law_next_is_low()
         → next_of (slice_index words an) ≤ 2 ^ 32 + 16) }
 {}
 
-/// An addition, also one that got nothing, met an epoch that was raised on its slot and is not above
-/// what the slot shows, after a load of one that was pointed at there and is not above it.
+/// An addition, also one that got nothing, met an epoch that was raised on its slot and is not
+/// above what the slot shows, after a load of one that was pointed at there and is not above it.
 pub fn law_additions()
     ensures { (c : ControlView) (words : List ℕ) (views : List View) → Around c words views
         → (a : Addition) → Among adds a views → (0 < a.loaded) × (a.loaded ≤ a.met) × (a.an < 4)
@@ -105,9 +105,9 @@ pub fn law_additions()
         × In (present_at a.an a.loaded) c.points }
 {}
 
-/// An addition that got nothing is marked: the epoch loaded was gone, or it was met and is over. The
-/// seats of one number get nothing from an epoch at most twice: once after a load of it, and once
-/// after a load of an earlier one.
+/// An addition that got nothing is marked: the epoch loaded was gone, or it was met and is over.
+/// The seats of one number get nothing from an epoch at most twice: once after a load of it, and
+/// once after a load of an earlier one.
 pub fn law_lost_additions()
     ensures { (c : ControlView) (words : List ℕ) (views : List View) → Around c words views
         → ((a : Addition) → Among adds a views → a.claimed ≡ false

@@ -47,7 +47,8 @@ tag_of k length n extra = (gcm k (iv_after n) extra (stepped 7 length)).1
 -- the additional data: 28 octets at first, and then the data before, changed by the tag with them
 abbrev pub extra_after : List ℕ → ℕ → ℕ → List ℕ
 extra_after k length zero = stepped 1 28
-extra_after k length (suc n) = changed (extra_after k length n) (tag_of k length (suc n) (extra_after k length n))
+extra_after k length (suc n) =
+    changed (extra_after k length n) (tag_of k length (suc n) (extra_after k length n))
 
 -- the tag: zero at first, and then that with the additional data before
 abbrev pub tag_after : List ℕ → ℕ → ℕ → List ℕ

@@ -85,8 +85,8 @@ fn last_value(count: u32) -> [u8; 16]
     value
 }
 
-/// The tag of a text with 28 octets of additional data, of which the first is changed by each tag, sealed
-/// under the next IV each time.
+/// The tag of a text with 28 octets of additional data, of which the first is changed by each tag,
+/// sealed under the next IV each time.
 fn last_tag<const N: usize>(key: &Key, count: u32) -> [u8; 16]
     requires { N ≤ 65536 }
     ensures { result ≡ tag_after key.now N count }

@@ -45,8 +45,8 @@ fn user_data(alloc: Global, step: u8) -> Result<UserFrame, AllocError>
     })
 }
 
-/// The tag of a frame to a destination whose first octet is changed by each tag, protected under the next
-/// packet number each time.
+/// The tag of a frame to a destination whose first octet is changed by each tag, protected under
+/// the next packet number each time.
 pub fn last_frame_tag(alloc: Global, count: u32) -> Result<[u8; 16], AllocError>
     ensures { IfOk result (λ tag. tag ≡ frame_tag_after count) }
 {
@@ -73,8 +73,8 @@ fn tag_in(frame: &[u8]) -> [u8; 16]
     *tag
 }
 
-/// The end of the user data of a frame that was received, after which the frame with the other packet number
-/// is.
+/// The end of the user data of a frame that was received, after which the frame with the other
+/// packet number is.
 pub fn last_end(alloc: Global, count: u32) -> Result<[u8; 16], AllocError>
     ensures { IfOk result (λ end. end ≡ end_of (receiver_after count).last) }
 {

@@ -1,5 +1,6 @@
-//! Does a test of the ciphers as many times as it is asked to, and prints the last result in hexadecimal digits, so
-//! that anybody can time it, or count its instructions, beside another implementation.
+//! Does a test of the ciphers as many times as it is asked to, and prints the last result in
+//! hexadecimal digits, so that anybody can time it, or count its instructions, beside another
+//! implementation.
 #![tactic(auto)]
 
 mod bench;

@@ -15,12 +15,13 @@ pub enum Test {
     LongKeyBlock,
     /// The CMAC of a message, whose first octet the last value changes.
     Cmac,
-    /// The tag of a text that is sealed under the next IV, with data whose first octet the last tag changes.
+    /// The tag of a text that is sealed under the next IV, with data whose first octet the last tag
+    /// changes.
     Gcm(Frame),
     /// The same of the greatest frame, under a key of 256 bits.
     LongKeyGcm,
-    /// A frame of 1,500 octets is protected under the next packet number, to a destination whose first octet the
-    /// last tag changes.
+    /// A frame of 1,500 octets is protected under the next packet number, to a destination whose
+    /// first octet the last tag changes.
     Protect,
     /// One of two such frames is received, by the packet number that was accepted last.
     Receive,

@@ -1,4 +1,5 @@
--- The hash of GCM (SP 800-38D, sections 6.3 and 6.4). A block is a string of 128 bits, the leftmost one first.
+-- The hash of GCM (SP 800-38D, sections 6.3 and 6.4). A block is a string of 128 bits, the leftmost
+-- one first.
 use Rattle.std.specs.Prelude.{ℕ, Bool, true, false, List, [], ◌∷◌, replicate}
 use Rattle.aes_block.specs.Bits.{bits, has_bit}
 use Rattle.aes_block.specs.Product.{product, sum_of}

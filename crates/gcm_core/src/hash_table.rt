@@ -1,5 +1,5 @@
-//! Products with a hash key by tables (SP 800-38D, section 6.3). A block is a number whose highest bit
-//! is the first of the string.
+//! Products with a hash key by tables (SP 800-38D, section 6.3). A block is a number whose highest
+//! bit is the first of the string.
 
 ghost use Rattle.std.specs.Prelude.{◌≡◌, slice_index};
 ghost use Rattle.aes_block.specs.Product.{times_x};
@@ -12,8 +12,8 @@ use std::marker::Model;
 /// R: 11100001 and then 120 zeros.
 const REDUCTION: u128 = 0xe1 << 120;
 
-/// The first 64 places of the block whose last four places have the bits of the index, times x^4. The
-/// other places are zero.
+/// The first 64 places of the block whose last four places have the bits of the index, times x^4.
+/// The other places are zero.
 const REDUCTIONS: [u64; 16] = [
     0x0000_0000_0000_0000,
     0x1c20_0000_0000_0000,

@@ -10,8 +10,8 @@ use crate::hash::hash_of;
 use aes_block::{Key, law_ciphertexts_are_blocks};
 
 /// Encrypts `text` in place, and answers the tag of the additional data and of what `text` has
-/// become. Neither `extra` nor `text` is longer than 65,536 octets. Under one key each IV is for one
-/// call only: that is the caller's part.
+/// become. Neither `extra` nor `text` is longer than 65,536 octets. Under one key each IV is for
+/// one call only: that is the caller's part.
 pub fn seal(key: &Key, iv: [u8; 12], extra: &[u8], text: &mut [u8]) -> [u8; 16]
     requires extra { length extra.now ≤ 65536 }
     requires text { length text.old ≤ 65536 }
@@ -22,8 +22,8 @@ pub fn seal(key: &Key, iv: [u8; 12], extra: &[u8], text: &mut [u8]) -> [u8; 16]
 }
 
 /// Whether some text is sealed to these octets and this tag. If so, that text, the only one, stands
-/// in `text` afterwards; if not, `text` is as it was. Neither `extra` nor `text` is longer than 65,536
-/// octets.
+/// in `text` afterwards; if not, `text` is as it was. Neither `extra` nor `text` is longer than
+/// 65,536 octets.
 pub fn unseal(key: &Key, iv: [u8; 12], extra: &[u8], text: &mut [u8], tag: [u8; 16]) -> bool
     requires extra { length extra.now ≤ 65536 }
     requires text { length text.old ≤ 65536 }
@@ -64,8 +64,8 @@ fn tag_of(key: &Key, iv: &[u8; 12], extra: &[u8], ciphertext: &[u8]) -> [u8; 16]
     tag
 }
 
-/// Whether two tags are one. They are compared as numbers, so that the first octet that differs ends
-/// nothing early.
+/// Whether two tags are one. They are compared as numbers, so that the first octet that differs
+/// ends nothing early.
 fn is_same(found: &[u8; 16], tag: &[u8; 16]) -> bool
     ensures { IsTrue result ↔ (found.now ≡ tag.now) }
 {

@@ -477,8 +477,8 @@ const REFUSED: [Case; 8] = [
     },
 ];
 
-// How many octets of text and of additional data, the last 16 octets of ciphertext, and the tag, by OpenSSL. Octet i of
-// the text is 7 * i + 3, and of the additional data 5 * i + 1, modulo 256.
+// How many octets of text and of additional data, the last 16 octets of ciphertext, and the tag, by
+// OpenSSL. Octet i of the text is 7 * i + 3, and of the additional data 5 * i + 1, modulo 256.
 const LONG: [(usize, usize, &str, &str); 3] = [
     (
         1500,

@@ -1,4 +1,5 @@
--- What a received frame says of itself, and the first reason for which it is no protected frame (IEEE Std 802.1AE, clause 9).
+-- What a received frame says of itself, and the first reason for which it is no protected frame
+-- (IEEE Std 802.1AE, clause 9).
 use Rattle.std.specs.Prelude.{ℕ, ◌+◌, ◌-◌, ◌/◌, ◌%◌, ◌==◌, Bool, true, false, not, ◌&&◌, ◌||◌, nat_le, nat_lt, if◌then◌else◌, List, [], ◌∷◌, ◌++◌, length, take, drop, slice_index, Option, Some, None, Result, Ok, Err}
 use Rattle.byteorder.specs.Endian.{big_number}
 use Rattle.lan_base.specs.declared.address.Sci.{Sci}
@@ -54,7 +55,8 @@ start_of frame = if has_sci frame then 28 else 20
 
 -- addresses and the EtherType of MACsec
 abbrev pub is_sec : List ℕ → Bool
-is_sec frame = nat_le 14 (length frame) && (slice_index frame 12 == 0x88) && (slice_index frame 13 == 0xe5)
+is_sec frame =
+    nat_le 14 (length frame) && (slice_index frame 12 == 0x88) && (slice_index frame 13 == 0xe5)
 
 -- octet 14 exists
 abbrev pub has_control : List ℕ → Bool
@@ -70,10 +72,12 @@ is_mode frame =
 abbrev pub is_short : List ℕ → Bool
 is_short frame = nat_lt (length frame) (start_of frame + short_length_of frame + 16)
 
--- the short length is no length that is written for what follows: 48 or more, or none for fewer than 48 octets and a tag
+-- the short length is no length that is written for what follows: 48 or more, or none for fewer
+-- than 48 octets and a tag
 abbrev pub is_length_wrong : List ℕ → Bool
 is_length_wrong frame =
-    nat_le 48 (short_length_of frame) || ((short_length_of frame == 0) && nat_lt (length frame) (start_of frame + 64))
+    nat_le 48 (short_length_of frame) || ((short_length_of frame == 0)
+    && nat_lt (length frame) (start_of frame + 64))
 
 -- the first refusal of a frame, in the order in which they are tried
 abbrev pub refused : List ℕ → Option TagRefusal
@@ -90,12 +94,14 @@ refused frame =
 -- the SCI: that of the SecTAG, or else the source address with port 1
 abbrev pub sci_of : List ℕ → Sci
 sci_of frame =
-    if has_sci frame then record { 0 = take 8 (drop 20 frame) } else record { 0 = take 6 (drop 6 frame) ++ 0 ∷ 1 ∷ [] }
+    if has_sci frame then record { 0 = take 8 (drop 20 frame) }
+    else record { 0 = take 6 (drop 6 frame) ++ 0 ∷ 1 ∷ [] }
 
 -- how many octets of secure data there are: the short length, or else all up to the last 16
 abbrev pub data_length : List ℕ → ℕ
 data_length frame =
-    if short_length_of frame == 0 then length frame - (start_of frame + 16) else short_length_of frame
+    if short_length_of frame == 0 then length frame - (start_of frame + 16)
+    else short_length_of frame
 
 -- the fields of a frame that is not refused
 abbrev pub tag_in : List ℕ → Tag

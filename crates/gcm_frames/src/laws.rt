@@ -14,8 +14,8 @@ ghost use Rattle.mkpdu_codec.specs.declared.refusal.Refusal.TheVariants.{NotMka}
 
 use aes_block::law_ciphertexts_are_blocks;
 
-/// What `protect` writes is read again: the sender's SCI, the association number, the packet number and
-/// the mode, and where the user data stands.
+/// What `protect` writes is read again: the sender's SCI, the association number, the packet number
+/// and the mode, and where the user data stands.
 pub fn law_protected_is_read()
     ensures { (key : List ℕ) (sci : Sci) (an pn : ℕ) (conf : Bool) (user : UserFrame)
         → IsKey key → IsSent sci an pn user

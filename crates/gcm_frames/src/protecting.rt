@@ -84,8 +84,8 @@ fn head_len(sci: Sci, destination: Mac) -> usize
     destination.0.len() + 6 + 8 + sci.0.len()
 }
 
-/// The tag of a frame whose head of 28 octets and user data these are. With confidentiality the user
-/// data is enciphered in place.
+/// The tag of a frame whose head of 28 octets and user data these are. With confidentiality the
+/// user data is enciphered in place.
 fn seal_in_place(key: &Key, iv: [u8; 12], conf: bool, frame: &mut [u8]) -> [u8; 16]
     requires head { 28 ≤ length frame.old }
     requires most { length frame.old ≤ 65536 }
@@ -100,10 +100,10 @@ fn seal_in_place(key: &Key, iv: [u8; 12], conf: bool, frame: &mut [u8]) -> [u8; 
     }
 }
 
-/// Appends the protected frame of user data: that of the sender `sci`, under the key that stands under
-/// the association number `an`, with the packet number `pn`, and enciphered where `conf` is set. There is
-/// room for it, so no memory is taken. Under one key a sender uses each packet number once: that is the
-/// caller's part.
+/// Appends the protected frame of user data: that of the sender `sci`, under the key that stands
+/// under the association number `an`, with the packet number `pn`, and enciphered where `conf` is
+/// set. There is room for it, so no memory is taken. Under one key a sender uses each packet number
+/// once: that is the caller's part.
 pub fn protect(
     key: &Key,
     sci: Sci,
@@ -118,7 +118,8 @@ pub fn protect(
     requires some { 2 ≤ length user.now.body }
     requires most { length user.now.body ≤ 1500 }
     requires room { vec_len into.old + length user.now.body + 44 ≤ vec_capacity into.old }
-    ensures appended { into.new.items ≡ into.old.items ++ protected key.now sci an pn conf user.now }
+    ensures appended { into.new.items ≡ into.old.items
+        ++ protected key.now sci an pn conf user.now }
     ensures len { vec_len into.new ≡ vec_len into.old + length user.now.body + 44 }
     ensures capacity { vec_capacity into.old ≤ vec_capacity into.new }
 {

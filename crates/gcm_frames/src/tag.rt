@@ -30,8 +30,8 @@ pub enum TagRefusal {
     /// Another version of the SecTAG.
     #[error("the SecTAG has another version")]
     Version,
-    /// A single copy broadcast, an SCI given twice or not at all, or user data that is either enciphered
-    /// and not changed or changed and not enciphered.
+    /// A single copy broadcast, an SCI given twice or not at all, or user data that is either
+    /// enciphered and not changed or changed and not enciphered.
     #[error("the SecTAG's flags are those of another mode")]
     Mode,
     /// The frame ends before its tag does.

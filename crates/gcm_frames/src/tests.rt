@@ -16,8 +16,9 @@ struct Received {
     user: &'static str,
 }
 
-// The frames of IEEE Std 802.1AE, annex C. Of those with confidentiality under 256 bits the enciphered
-// octets and the tag are OpenSSL's, for the key, the SecTAG and the user data of the annex.
+// The frames of IEEE Std 802.1AE, annex C. Of those with confidentiality under 256 bits the
+// enciphered octets and the tag are OpenSSL's, for the key, the SecTAG and the user data of the
+// annex.
 const ANNEX_C: [Received; 16] = [
     Received {
         name: "54-octet frame, integrity, 128 bits",

@@ -20,9 +20,9 @@ fn check_of(tag: &Tag, frame: &[u8]) -> [u8; 16]
     *check
 }
 
-/// Whether a frame is sealed under a key. If so, its user data stands in the place of its secure data
-/// afterwards; if not, the frame is as it was. `tag` is what `tag_of` gave of this frame, which has at most
-/// 65,536 octets. No memory is taken.
+/// Whether a frame is sealed under a key. If so, its user data stands in the place of its secure
+/// data afterwards; if not, the frame is as it was. `tag` is what `tag_of` gave of this frame,
+/// which has at most 65,536 octets. No memory is taken.
 #[tactic(auto, using(crate::proofs::Within::within))]
 pub fn validate(key: &Key, tag: &Tag, frame: &mut [u8]) -> bool
     requires tag { tag_fields frame.old ≡ Ok tag.now }

@@ -8,8 +8,9 @@ use Rattle.aes_block.specs.Aes.{aes}
 abbrev pub numbered : List ℕ → ℕ → List ℕ
 numbered block number = octets_sum (take 8 block) (to_be_bytes w64 number) ++ drop 8 block
 
--- A and the registers after a step: A and the first register are encrypted; the first half, with the
--- step's number added, is the next A, and the second half comes behind the other registers (2.2.1)
+-- A and the registers after a step: A and the first register are encrypted; the first half, with
+-- the step's number added, is the next A, and the second half comes behind the other registers
+-- (2.2.1)
 unfoldable pub step : List ℕ → List ℕ → ℕ → List ℕ
 step kek state number = take 8 block ++ drop 16 state ++ drop 8 block where
   block : List ℕ
@@ -24,7 +25,7 @@ steps kek state (suc n) = step kek (steps kek state n) (suc n)
 abbrev pub initial_value : List ℕ
 initial_value = replicate 8 0xa6
 
--- a key of whole registers of eight octets, wrapped: six steps for each register, from the initial value
--- and the key (2.2.1)
+-- a key of whole registers of eight octets, wrapped: six steps for each register, from the initial
+-- value and the key (2.2.1)
 unfoldable pub wrapped : List ℕ → List ℕ → List ℕ
 wrapped kek key = steps kek (initial_value ++ key) (6 * (length key / 8))

@@ -1,5 +1,5 @@
-//! One step of the wrapping, and its inverse. The octets of a state are A and then the registers, eight
-//! octets each.
+//! One step of the wrapping, and its inverse. The octets of a state are A and then the registers,
+//! eight octets each.
 
 ghost use Rattle.std.specs.Prelude.{◌≡◌, ◌≤◌, ◌-◌, ◌++◌, List, ℕ, length, take, drop};
 ghost use Rattle.aes_block.specs.Aes.{aes, IsBlock, IsOctets};

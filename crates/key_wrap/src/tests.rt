@@ -4,7 +4,8 @@ use aes_block::Key;
 use hex::FromHex;
 use std::test::Fail;
 
-// KEK, key of 128 bits, and its wrap: RFC 3394, 4.1 and 4.3, and NIST's validation suite for key wrap (KW-AE).
+// KEK, key of 128 bits, and its wrap: RFC 3394, 4.1 and 4.3, and NIST's validation suite for key
+// wrap (KW-AE).
 const WRAPS_128: [[&str; 3]; 4] = [
     [
         "000102030405060708090a0b0c0d0e0f",

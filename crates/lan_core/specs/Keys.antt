@@ -13,7 +13,8 @@ use Rattle.lan_core.specs.Lives.{life, keys_in}
 -- the key that is held under an association number, the latest or the old one
 abbrev pub held_under : List Keying → ℕ → Option HeldKey
 held_under h an =
-    option_map (held h) (find (λ k. k.an == an) (option_to_list (latest h) ++ option_to_list (old h)))
+    option_map (held h) (find (λ k. k.an == an)
+    (option_to_list (latest h) ++ option_to_list (old h)))
 
 -- the key that a station of a group holds under an association number
 abbrev pub held_at : Settings → ℕ → Run → ℕ → Option HeldKey

@@ -17,8 +17,8 @@ use Rattle.lan_core.specs.Expected.{expected, drawn_in}
 use Rattle.lan_core.specs.Types.{IsSetting}
 use Rattle.lan_core.specs.Order.{IsWithin, IsInOrder, is_event_of}
 
--- one event more, in a group that may be set up so: it is in order, it shows exactly what it has to,
--- and the run stays within the limits
+-- one event more, in a group that may be set up so: it is in order, it shows exactly what it has
+-- to, and the run stays within the limits
 pub record IsStep (settings : Settings) (users : List UserFrame) (x : Happening) (r : Run) :
     Type 0 where
   pub setting : IsSetting settings

@@ -31,7 +31,8 @@ use Rattle.lan_core.specs.Stops.{draws_in, mi_number, sak_number}
 
 -- ---- a station with its receive slots
 
--- the station and its receive slots, how many ticks its life has, and how many keys it installed over all its lives
+-- the station and its receive slots, how many ticks its life has, and how many keys it installed
+-- over all its lives
 pub record Seat : Type 0 where
   pub station : Station
   pub slots : Slots
@@ -50,9 +51,10 @@ pub record Sits (window : ℕ) (l : Life) (h : List Receiving) (seat : Seat) : T
 abbrev pub IsSeat : Seat → Type 0
 IsSeat seat = (window : ℕ) × ((l : Life) × ((h : List Receiving) × Sits window l h seat))
 
--- A place has a seat, a life and a profile, which agree with what its slots received and with so many installs, or none
--- of them and nothing happened there.
-abbrev pub IsSeated : Settings → List Receiving → ℕ → Option Seat → Option Life → Option Profile → Type 0
+-- A place has a seat, a life and a profile, which agree with what its slots received and with so
+-- many installs, or none of them and nothing happened there.
+abbrev pub IsSeated : Settings → List Receiving → ℕ → Option Seat → Option Life → Option Profile
+    → Type 0
 IsSeated settings h count (Some seat) (Some l) (Some p) =
     Sits settings.window l h seat × (l.member.setup ≡ setup_of settings p) × (seat.installs ≡ count)
 IsSeated settings h count None None None = (h ≡ []) × (count ≡ 0)
@@ -60,7 +62,8 @@ IsSeated settings h count _ _ _ = ⊥
 
 -- ---- draws
 
--- how many draws there were, and the numbers of those that gave member identifiers, and keys of either length
+-- how many draws there were, and the numbers of those that gave member identifiers, and keys of
+-- either length
 pub record Numbers : Type 0 where
   pub count : ℕ
   pub mis : List (Mi × ℕ)
@@ -92,7 +95,9 @@ octets_at frames number = cond (number == 0) None (slice_get frames (number - 1)
 
 -- a claim's frame, and whose it is
 abbrev pub sealed_of : List UserFrame → Run → Waiting → Option Sealed
-sealed_of users r w = option_map (λ octets. record { station = w.station; octets = octets }) (frame_of_claim users r w)
+sealed_of users r w =
+    option_map (λ octets. record { station = w.station; octets = octets })
+    (frame_of_claim users r w)
 
 -- ---- the group
 
@@ -107,17 +112,21 @@ pub record State : Type 0 where
   pub ticks : ℕ
   pub drawn : Numbers
 
--- A group stands for a run: it is not stopped, and has the run's stations, air, frames that wait, ticks and draws.
-pub record StandsFor (settings : Settings) (users : List UserFrame) (lan : State) (r : Run) : Type 0 where
+-- A group stands for a run: it is not stopped, and has the run's stations, air, frames that wait,
+-- ticks and draws.
+pub record StandsFor (settings : Settings) (users : List UserFrame) (lan : State)
+    (r : Run) : Type 0 where
   pub set_up : lan.settings ≡ settings
   pub setting : IsSetting settings
   pub goes : lan.stopped ≡ None
   pub names : lan.names ≡ map (λ p. p.name) (stations r)
   pub on_air : lan.air ≡ in_order (air r)
   pub numbered : AreNumbered (air r)
-  pub seats : (s : ℕ) → IsSeated settings (receiving s r) (length (installs_at s r)) (slice_get lan.seats s)
+  pub seats : (s : ℕ) → IsSeated settings (receiving s r) (length (installs_at s r))
+      (slice_get lan.seats s)
       (life settings s r) (slice_get (stations r) s)
-  pub waiting : map Some lan.waiting ≡ map (sealed_of users r) (drop (length (emitted r)) (claimed settings r))
+  pub waiting : map Some lan.waiting ≡ map (sealed_of users r)
+      (drop (length (emitted r)) (claimed settings r))
   pub in_turn : length (emitted r) ≤ length (claimed settings r)
   pub ticked : lan.ticks ≡ ticks r
   pub drawn : AreDrawn settings.suite r lan.drawn

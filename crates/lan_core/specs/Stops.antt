@@ -1,5 +1,6 @@
--- When an event may come by its caller's conditions, and the first stop that it meets: draws that are spent, a limit in
--- the order of the table, a repeated draw, foreign octets that are forged (this profile's own rules).
+-- When an event may come by its caller's conditions, and the first stop that it meets: draws that
+-- are spent, a limit in the order of the table, a repeated draw, foreign octets that are forged
+-- (this profile's own rules).
 use Rattle.std.specs.Prelude.{◌≡◌, ◌<◌, ◌≤◌, ◌⊎◌, ℕ, ◌+◌, ◌-◌, ◌==◌, Bool, true, false, cond, nat_eq, nat_lt}
 use Rattle.std.specs.Prelude.{List, [], ◌∷◌, map, sum, length, Option, Some, None, is_some, is_none, option_map, option_and_then}
 use Rattle.std.specs.Option.{option_or}
@@ -35,24 +36,30 @@ abbrev pub IsNextShown : Settings → ℕ → Run → ℕ → Option Key → Typ
 IsNextShown settings s r shown None = shown ≡ 0
 IsNextShown settings s r shown (Some k) = (1 ≤ shown) × (next settings s k.epoch r ≤ shown)
 
--- A claim of a packet number comes with its user frame. One without comes only where no number is left.
-abbrev pub IsDemanded : Settings → ℕ → Run → ℕ → Option UserFrame → Option UserFrame → Option Key → Type 0
+-- A claim of a packet number comes with its user frame. One without comes only where no number is
+-- left.
+abbrev pub IsDemanded : Settings → ℕ → Run → ℕ → Option UserFrame → Option UserFrame → Option Key
+    → Type 0
 IsDemanded settings s r pn given named None = pn ≡ 0
 IsDemanded settings s r pn given named (Some k) =
     ((pn ≡ 0) × (last_number < next settings s k.epoch r))
-    ⊎ ((1 ≤ pn) × (next settings s k.epoch r ≤ pn) × (pn ≤ last_number) × (given ≡ named) × IsSendable named)
+    ⊎ ((1 ≤ pn) × (next settings s k.epoch r ≤ pn) × (pn ≤ last_number) × (given ≡ named)
+    × IsSendable named)
 
 -- an event may come, with the user frame that is given with it
 abbrev pub MayCome : Settings → List UserFrame → Run → Option UserFrame → Event → Type 0
 MayCome settings users r given (events.Start name sci priority) = IsNew name sci r
 MayCome settings users r given (events.Tick s shown) =
     Exists s r × IsNextShown settings s r shown (transmitting_at settings s r)
-MayCome settings users r given (events.Deliver frame s) = Exists s r × (is_some (frame_at r frame) ≡ true)
+MayCome settings users r given (events.Deliver frame s) =
+    Exists s r × (is_some (frame_at r frame) ≡ true)
 MayCome settings users r given (events.Restart s) = Exists s r
 MayCome settings users r given (events.Claim s user pn) =
-    Exists s r × IsDemanded settings s r pn given (user_at users user) (transmitting_at settings s r)
+    Exists s r × IsDemanded settings s r pn given (user_at users user)
+    (transmitting_at settings s r)
 MayCome settings users r given events.Emit = is_some (waiting settings r) ≡ true
-MayCome settings users r given (events.Inject s octets) = Exists s r × (length octets ≤ most_injected)
+MayCome settings users r given (events.Inject s octets) =
+    Exists s r × (length octets ≤ most_injected)
 
 -- ---- draws
 
@@ -77,7 +84,8 @@ abbrev pub sak_of_tick : List Fact → Event → Option Secret
 sak_of_tick facts (events.Tick s next) = drawn_sak facts
 sak_of_tick facts _ = None
 
--- how many draws a happening took: one for a member identifier, and as many as a key takes for a key
+-- how many draws a happening took: one for a member identifier, and as many as a key takes for a
+-- key
 abbrev pub draws_by : ℕ → Happening → ℕ
 draws_by suite x =
     cond (is_some (drawn_mi x.facts)) 1 0
@@ -101,13 +109,15 @@ is_drawn same a (Some b) = same a b
 unfoldable pub mi_number : ℕ → Run → Mi → Option ℕ
 mi_number suite [] mi = None
 mi_number suite (x ∷ r) mi =
-    cond (is_drawn same_mi mi (drawn_mi x.facts)) (Some (draws_in suite r + 1)) (mi_number suite r mi)
+    cond (is_drawn same_mi mi (drawn_mi x.facts)) (Some (draws_in suite r + 1))
+    (mi_number suite r mi)
 
 -- the number of the first draw of those that gave a SAK
 unfoldable pub sak_number : ℕ → Run → Secret → Option ℕ
 sak_number suite [] sak = None
 sak_number suite (x ∷ r) sak =
-    cond (is_drawn same_secret sak (sak_of_tick x.facts x.event)) (Some (draws_in suite r + 1)) (sak_number suite r sak)
+    cond (is_drawn same_secret sak (sak_of_tick x.facts x.event)) (Some (draws_in suite r + 1))
+    (sak_number suite r sak)
 
 -- the draw that gave before what a happening drew
 abbrev pub drawn_before : ℕ → Run → Happening → Option ℕ
@@ -119,7 +129,8 @@ drawn_before suite r x =
 
 -- some station installed more keys than it may
 abbrev pub is_over_installs : Run → Bool
-is_over_installs r = list_any (λ i. nat_lt most_installs (length (installs_at i.station r))) (installs r)
+is_over_installs r =
+    list_any (λ i. nat_lt most_installs (length (installs_at i.station r))) (installs r)
 
 -- the first limit in the order of the table that a run passes
 abbrev pub passed : Run → Option Which
@@ -137,7 +148,8 @@ stop_of_draw suite r x =
     option_map (λ first. RepeatedDraw first (draws_in suite r + 1)) (drawn_before suite r x)
 
 abbrev pub stop_of_forgery : Settings → Run → Event → Option Stop
-stop_of_forgery settings r (events.Inject s octets) = cond (is_forged settings r octets) (Some (Forged s)) None
+stop_of_forgery settings r (events.Inject s octets) =
+    cond (is_forged settings r octets) (Some (Forged s)) None
 stop_of_forgery settings r _ = None
 
 -- the first stop of an event that would show these facts
@@ -148,7 +160,9 @@ stop_at settings r event facts =
     (option_or (stop_of_draw settings.suite r x) (stop_of_forgery settings r event))
 
 -- the first stop of an event, by what the supply gives next
-unfoldable pub first_stop : Settings → List UserFrame → Run → Event → (ℕ → Option (List ℕ)) → Option Stop
+unfoldable pub first_stop : Settings → List UserFrame → Run → Event → (ℕ → Option (List ℕ))
+    → Option Stop
 first_stop settings users r event nth =
     cond (is_spent (draws_needed settings r event) nth) (Some DrawsSpent)
-    (option_and_then (stop_at settings r event) (expected settings users r event (drawn_from settings.suite nth)))
+    (option_and_then (stop_at settings r event)
+    (expected settings users r event (drawn_from settings.suite nth)))

@@ -16,8 +16,8 @@ use std::marker::Model;
 /// The most octets of a frame that the air takes. No station sends a longer one.
 const LONGEST: usize = 65536;
 
-/// Every frame that was ever put on the air, oldest first, and an index of what they spell. Contracts
-/// see the list of the frames' octets.
+/// Every frame that was ever put on the air, oldest first, and an index of what they spell.
+/// Contracts see the list of the frames' octets.
 #[derive(Drop)]
 pub struct Air {
     alloc: Global,
@@ -99,8 +99,8 @@ impl Air {
         }
     }
 
-    /// Puts a frame on the air. An error leaves the air as it was; longer frames than any that is sent
-    /// are refused so too.
+    /// Puts a frame on the air. An error leaves the air as it was; longer frames than any that is
+    /// sent are refused so too.
     pub fn push(&mut self, octets: Octets) -> Result<(), AllocError>
         ensures ok { OnOk result (self.new ≡ self.old ++ octets ∷ []) }
         ensures err { OnErr result (self.new ≡ self.old) }
@@ -116,7 +116,8 @@ impl Air {
 
     /// Puts a copy of a frame on the air, if there is one. An error leaves the air as it was.
     pub fn put(&mut self, sent: Option<&Octets>) -> Result<(), Stop>
-        ensures ok { OnOk result (self.new ≡ self.old ++ option_to_list (option_copied sent.entry)) }
+        ensures ok { OnOk result (self.new ≡ self.old
+            ++ option_to_list (option_copied sent.entry)) }
         ensures err { OnErr result (self.new ≡ self.old) }
         ensures memory { IfErr result (λ stop. stop ≡ Memory) }
     {

@@ -9,8 +9,8 @@ use crate::fact::{Fact, Facts};
 use aes_block::Secret;
 use lan_base::Octets;
 
-/// What an event comes to at its station: its facts, and how many keys the station then installed, over all
-/// its lives.
+/// What an event comes to at its station: its facts, and how many keys the station then installed,
+/// over all its lives.
 #[derive(Debug, Drop)]
 pub struct Came {
     pub facts: Facts,

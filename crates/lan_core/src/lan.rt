@@ -34,8 +34,8 @@ use sak_exchange::HeldKey;
 use std::alloc::Global;
 use std::marker::Model;
 
-/// A group of stations, with all that is on the air between them. A group that was stopped answers its
-/// stop again, and shows the air and the names of before.
+/// A group of stations, with all that is on the air between them. A group that was stopped answers
+/// its stop again, and shows the air and the names of before.
 #[derive(Drop)]
 pub struct Lan {
     alloc: Global,
@@ -71,7 +71,8 @@ impl Lan {
     /// A group with no station.
     pub fn new(alloc: Global, settings: Settings) -> Result<Lan, GroupFault>
         requires suite { (settings.suite ≡ 128) ⊎ (settings.suite ≡ 256) }
-        ensures stands { (users : List UserFrame) → IfOk result (λ lan. StandsFor settings users lan []) }
+        ensures stands { (users : List UserFrame)
+            → IfOk result (λ lan. StandsFor settings users lan []) }
         ensures length { (result ≡ Err GroupFault.CknLength) ↔ HasWrongLength settings.ckn }
     {
         if !is_ckn(settings.ckn.as_slice()) {
@@ -98,8 +99,8 @@ impl Lan {
         user: Option<&UserFrame>,
         draws: &mut D,
     ) -> Result<Facts, Stop>
-        // Of a run whose next event may come: the event shows what it has to, takes the draws that it needs,
-        // and the group then stands for the run with it.
+        // Of a run whose next event may come: the event shows what it has to, takes the draws that
+        // it needs, and the group then stands for the run with it.
         ensures facts { (settings : Settings) (users : List UserFrame) (r : Run)
             → StandsFor settings users self.old r
             → MayCome settings users r (option_copied user.entry) event.now
@@ -108,14 +109,16 @@ impl Lan {
         ensures stands { (settings : Settings) (users : List UserFrame) (r : Run)
             → StandsFor settings users self.old r
             → MayCome settings users r (option_copied user.entry) event.now
-            → IfOk result (λ facts. StandsFor settings users self.new (happened event.now facts ∷ r)) }
+            → IfOk result (λ facts. StandsFor settings users self.new
+            (happened event.now facts ∷ r)) }
         ensures drawn { (settings : Settings) (users : List UserFrame) (r : Run)
             → StandsFor settings users self.old r
             → MayCome settings users r (option_copied user.entry) event.now
             → OnOk result ((k : ℕ) → D.nth draws.new k
             ≡ D.nth draws.old (k + draws_needed settings r event.now)) }
 
-        // It goes on exactly where it meets no stop, and else answers the first one, but for want of memory.
+        // It goes on exactly where it meets no stop, and else answers the first one, but for want
+        // of memory.
         ensures goes { (settings : Settings) (users : List UserFrame) (r : Run)
             → StandsFor settings users self.old r
             → MayCome settings users r (option_copied user.entry) event.now
@@ -126,10 +129,13 @@ impl Lan {
             → IfErr result (λ stop. (stop ≡ Stop.Memory)
             ⊎ (first_stop settings users r event.now (D.nth draws.old) ≡ Some stop)) }
 
-        // It is stopped then, with the air and the names of before, and answers its stop from then on.
+        // It is stopped then, with the air and the names of before, and answers its stop from then
+        // on.
         ensures stopped { IfErr result (λ stop. self.new.stopped ≡ Some stop) }
-        ensures shown { OnErr result ((self.new.air ≡ self.old.air) × (self.new.names ≡ self.old.names)) }
-        ensures again { IfSome self.old.stopped (λ stop. (result ≡ Err stop) × (self.new ≡ self.old)) }
+        ensures shown { OnErr result ((self.new.air ≡ self.old.air)
+            × (self.new.names ≡ self.old.names)) }
+        ensures again { IfSome self.old.stopped
+            (λ stop. (result ≡ Err stop) × (self.new ≡ self.old)) }
     {
         if let Some(stop) = self.stopped {
             return Err(stop);
@@ -197,8 +203,10 @@ impl Lan {
         ensures answers { (settings : Settings) (users : List UserFrame) (r : Run)
             → StandsFor settings users self.old r
             → MayCome settings users r (option_copied user.entry) event.now
-            → Answers settings users r event.now (D.nth draws.old) (D.nth draws.new) self.new result }
-        ensures shown { OnErr result ((self.new.air ≡ self.old.air) × (self.new.names ≡ self.old.names)) }
+            → Answers settings users r event.now (D.nth draws.old)
+            (D.nth draws.new) self.new result }
+        ensures shown { OnErr result ((self.new.air ≡ self.old.air)
+            × (self.new.names ≡ self.old.names)) }
     {
         match event {
             Event::Start {

@@ -88,7 +88,8 @@ pub fn law_an_unstopped_event_keeps_a_run_sound()
         → IsLegal settings users (happened event shown ∷ r) }
     ensures fresh { (settings : Settings) (users : List UserFrame) (r : Run)
         (given : Option UserFrame) (event : Event) (nth : ℕ → Option (List ℕ)) (shown : List Fact)
-        → IsUnstopped settings users r given event nth shown → IsStepped settings users r → IsFresh r
+        → IsUnstopped settings users r given event nth shown → IsStepped settings users r
+        → IsFresh r
         → IsFresh (happened event shown ∷ r) }
     ensures unforged { (settings : Settings) (users : List UserFrame) (r : Run)
         (given : Option UserFrame) (event : Event) (nth : ℕ → Option (List ℕ)) (shown : List Fact)

@@ -94,7 +94,8 @@ impl Member {
         })
     }
 
-    /// A tick at the station, which stands at this place, where the next frame of the air has this number.
+    /// A tick at the station, which stands at this place, where the next frame of the air has this
+    /// number.
     pub fn tick<D: Draws>(
         &mut self,
         place: u8,
@@ -102,20 +103,28 @@ impl Member {
         next: u64,
         draws: &mut D,
     ) -> Result<Facts, StationFault>
-        ensures facts { (settings : Settings) (r : Run) (l : Life) → Sits settings.window l (receiving place r) self.old →
+        ensures facts { (settings : Settings) (r : Run) (l : Life)
+            → Sits settings.window l (receiving place r) self.old →
             number ≡ next_frame r → IfOk result (λ facts. facts
             ≡ tick_facts settings place r next (sak_of l.member.setup.suite (D.nth draws.old)) l) }
-        ensures stands { (settings : Settings) (r : Run) (l : Life) → Sits settings.window l (receiving place r) self.old →
+        ensures stands { (settings : Settings) (r : Run) (l : Life)
+            → Sits settings.window l (receiving place r) self.old →
             number ≡ next_frame r → let sak = sak_of l.member.setup.suite (D.nth draws.old) in
             OnOk result (Sits settings.window (lived_ticking settings place r next sak l)
-            (gather (slot_change place) (tick_facts settings place r next sak l) (receiving place r)) self.new) }
-        ensures drawn { (settings : Settings) (r : Run) (l : Life) → Sits settings.window l (receiving place r) self.old →
+            (gather (slot_change place) (tick_facts settings place r next sak l)
+            (receiving place r)) self.new) }
+        ensures drawn { (settings : Settings) (r : Run) (l : Life)
+            → Sits settings.window l (receiving place r) self.old →
             OnOk result ((k : ℕ) → D.nth draws.new k
             ≡ D.nth draws.old (k + draws_at l.member l.past (seen_at settings place r l next))) }
-        ensures counted { IfOk result (λ facts. self.new.installs ≡ self.old.installs + installs_in facts) }
-        ensures enough { (settings : Settings) (r : Run) (l : Life) → Sits settings.window l (receiving place r) self.old →
-            OnOk result (is_short l.member l.past (seen_at settings place r l next) (D.nth draws.old) ≡ false) }
-        ensures spent { (settings : Settings) (r : Run) (l : Life) → Sits settings.window l (receiving place r) self.old →
+        ensures counted { IfOk result (λ facts. self.new.installs
+            ≡ self.old.installs + installs_in facts) }
+        ensures enough { (settings : Settings) (r : Run) (l : Life)
+            → Sits settings.window l (receiving place r) self.old →
+            OnOk result (is_short l.member l.past (seen_at settings place r l next)
+            (D.nth draws.old) ≡ false) }
+        ensures spent { (settings : Settings) (r : Run) (l : Life)
+            → Sits settings.window l (receiving place r) self.old →
             result ≡ Err StationFault.DrawsSpent →
             is_short l.member l.past (seen_at settings place r l next) (D.nth draws.old) ≡ true }
     {
@@ -140,15 +149,19 @@ impl Member {
             let sak = sak_of l.member.setup.suite (D.nth draws.old) in
             IfOk result (λ x. Sits settings.window (lived_ticking settings place r next sak l)
             (followed x.changes (receiving place r)) self.new) }
-        ensures counted { IfOk result (λ x. self.new.installs ≡ self.old.installs + count_installed x.changes) }
+        ensures counted { IfOk result (λ x. self.new.installs
+            ≡ self.old.installs + count_installed x.changes) }
         ensures drawn { (settings : Settings) (place : ℕ) (r : Run) (l : Life) →
-            Sits settings.window l (receiving place r) self.old → OnOk result ((k : ℕ) → D.nth draws.new k
+            Sits settings.window l (receiving place r) self.old
+            → OnOk result ((k : ℕ) → D.nth draws.new k
             ≡ D.nth draws.old (k + draws_at l.member l.past (seen_at settings place r l next))) }
         ensures enough { (settings : Settings) (place : ℕ) (r : Run) (l : Life) →
             Sits settings.window l (receiving place r) self.old →
-            OnOk result (is_short l.member l.past (seen_at settings place r l next) (D.nth draws.old) ≡ false) }
+            OnOk result (is_short l.member l.past (seen_at settings place r l next)
+            (D.nth draws.old) ≡ false) }
         ensures spent { (settings : Settings) (place : ℕ) (r : Run) (l : Life) →
-            Sits settings.window l (receiving place r) self.old → result ≡ Err StationFault.DrawsSpent →
+            Sits settings.window l (receiving place r) self.old
+            → result ≡ Err StationFault.DrawsSpent →
             is_short l.member l.past (seen_at settings place r l next) (D.nth draws.old) ≡ true }
     {
         let seen = self.seen(next);
@@ -157,7 +170,8 @@ impl Member {
 
     /// What a tick is shown of packet numbers.
     fn seen(&self, next: u64) -> Seen
-        ensures { (settings : Settings) (place : ℕ) (r : Run) (l : Life) → Sits settings.window l (receiving place r) self.now →
+        ensures { (settings : Settings) (place : ℕ) (r : Run) (l : Life)
+            → Sits settings.window l (receiving place r) self.now →
             result ≡ seen_at settings place r l next }
     {
         Seen {
@@ -170,18 +184,23 @@ impl Member {
     /// A tick at the station, whose receive slots follow.
     fn advance<D: Draws>(&mut self, seen: &Seen, draws: &mut D) -> Result<Reaction, StationFault>
         ensures reaction { (window : ℕ) (l : Life) (h : List Receiving) → Sits window l h self.old →
-            IfOk result (λ r. r ≡ (tick_turn l.member seen.now (sak_of l.member.setup.suite (D.nth draws.old)) l.past).reaction) }
+            IfOk result (λ r. r ≡ (tick_turn l.member seen.now
+            (sak_of l.member.setup.suite (D.nth draws.old)) l.past).reaction) }
         ensures stands { (window : ℕ) (l : Life) (h : List Receiving) → Sits window l h self.old →
             IfOk result (λ r. Sits window
-            (lived l (tick_turn l.member seen.now (sak_of l.member.setup.suite (D.nth draws.old)) l.past))
+            (lived l (tick_turn l.member seen.now (sak_of l.member.setup.suite
+            (D.nth draws.old)) l.past))
             (followed r.changes h) self.new) }
-        ensures counted { IfOk result (λ r. self.new.installs ≡ self.old.installs + count_installed r.changes) }
+        ensures counted { IfOk result (λ r. self.new.installs
+            ≡ self.old.installs + count_installed r.changes) }
         ensures drawn { (window : ℕ) (l : Life) (h : List Receiving) → Sits window l h self.old →
-            OnOk result ((k : ℕ) → D.nth draws.new k ≡ D.nth draws.old (k + draws_at l.member l.past seen.now)) }
+            OnOk result ((k : ℕ) → D.nth draws.new k
+            ≡ D.nth draws.old (k + draws_at l.member l.past seen.now)) }
         ensures enough { (window : ℕ) (l : Life) (h : List Receiving) → Sits window l h self.old →
             OnOk result (is_short l.member l.past seen.now (D.nth draws.old) ≡ false) }
         ensures spent { (window : ℕ) (l : Life) (h : List Receiving) → Sits window l h self.old →
-            result ≡ Err StationFault.DrawsSpent → is_short l.member l.past seen.now (D.nth draws.old) ≡ true }
+            result ≡ Err StationFault.DrawsSpent → is_short l.member l.past seen.now
+            (D.nth draws.old) ≡ true }
     {
         law_room();
         law_turns_count();
@@ -198,7 +217,8 @@ impl Member {
 
     /// The number of the life's next tick, where it and one more install can be counted.
     fn next_tick(&self) -> Option<u32>
-        ensures { IfSome result (λ ticks. (ticks ≡ self.now.ticks + 1) × (self.now.installs + 1 < 2 ^ 32)) }
+        ensures { IfSome result (λ ticks. (ticks ≡ self.now.ticks + 1)
+            × (self.now.installs + 1 < 2 ^ 32)) }
     {
         if self.installs == u32::MAX {
             return None;
@@ -206,17 +226,20 @@ impl Member {
         self.ticks.checked_add(1)
     }
 
-    /// The frame of this number, or foreign octets under the number 0, reach the station, which stands at
-    /// this place.
+    /// The frame of this number, or foreign octets under the number 0, reach the station, which
+    /// stands at this place.
     pub fn reach(&mut self, place: u8, number: u32, octets: &[u8]) -> Result<Facts, AllocError>
         requires { length octets.now ≤ 65536 }
-        ensures facts { (settings : Settings) (r : Run) (l : Life) → Sits settings.window l (receiving place r) self.old →
+        ensures facts { (settings : Settings) (r : Run) (l : Life)
+            → Sits settings.window l (receiving place r) self.old →
             IfOk result (λ facts. facts ≡ reached_facts settings place r number octets.now l) }
-        ensures stands { (settings : Settings) (r : Run) (l : Life) → Sits settings.window l (receiving place r) self.old →
+        ensures stands { (settings : Settings) (r : Run) (l : Life)
+            → Sits settings.window l (receiving place r) self.old →
             OnOk result (Sits settings.window (lived_hearing l octets.now)
             (gather (slot_change place) (reached_facts settings place r number octets.now l)
             (heard_data octets.now (receiving place r))) self.new) }
-        ensures counted { IfOk result (λ facts. self.new.installs ≡ self.old.installs + installs_in facts) }
+        ensures counted { IfOk result (λ facts. self.new.installs
+            ≡ self.old.installs + installs_in facts) }
     {
         if is_protected(octets) {
             self.receive(place, number, octets)
@@ -229,10 +252,12 @@ impl Member {
     fn receive(&mut self, place: u8, number: u32, octets: &[u8]) -> Result<Facts, AllocError>
         requires { length octets.now ≤ 65536 }
         ensures facts { (window : ℕ) (l : Life) (h : List Receiving) → Sits window l h self.old →
-            IfOk result (λ facts. facts ≡ Arrived number place (answer l.member.setup.sci window h octets.now) ∷ []) }
+            IfOk result (λ facts. facts ≡ Arrived number place
+            (answer l.member.setup.sci window h octets.now) ∷ []) }
         ensures stands { (window : ℕ) (l : Life) (h : List Receiving) → Sits window l h self.old →
             OnOk result (Sits window l (heard octets.now ∷ h) self.new) }
-        ensures counted { IfOk result (λ facts. self.new.installs ≡ self.old.installs + installs_in facts) }
+        ensures counted { IfOk result (λ facts. self.new.installs
+            ≡ self.old.installs + installs_in facts) }
     {
         let arrival = self.slots.receive(octets)?;
         let arrived = Fact::Arrived {
@@ -246,12 +271,15 @@ impl Member {
     /// A frame that is no protected one reaches the station.
     fn hear_frame(&mut self, place: u8, number: u32, octets: &[u8]) -> Result<Facts, AllocError>
         ensures facts { (window : ℕ) (l : Life) (h : List Receiving) → Sits window l h self.old →
-            IfOk result (λ facts. facts ≡ reaction_facts place number 0 (frame_turn l.member octets.now l.past).reaction) }
+            IfOk result (λ facts. facts ≡ reaction_facts place number 0
+            (frame_turn l.member octets.now l.past).reaction) }
         ensures stands { (window : ℕ) (l : Life) (h : List Receiving) → Sits window l h self.old →
             OnOk result (Sits window (lived l (frame_turn l.member octets.now l.past))
-            (gather (slot_change place) (reaction_facts place number 0 (frame_turn l.member octets.now l.past).reaction) h)
+            (gather (slot_change place) (reaction_facts place number 0
+            (frame_turn l.member octets.now l.past).reaction) h)
             self.new) }
-        ensures counted { IfOk result (λ facts. self.new.installs ≡ self.old.installs + installs_in facts) }
+        ensures counted { IfOk result (λ facts. self.new.installs
+            ≡ self.old.installs + installs_in facts) }
     {
         let reaction = self.hear(octets)?;
         let mut facts = Facts::new(self.alloc);
@@ -264,8 +292,10 @@ impl Member {
         ensures reaction { (window : ℕ) (l : Life) (h : List Receiving) → Sits window l h self.old →
             IfOk result (λ r. r ≡ (frame_turn l.member frame.now l.past).reaction) }
         ensures stands { (window : ℕ) (l : Life) (h : List Receiving) → Sits window l h self.old →
-            IfOk result (λ r. Sits window (lived l (frame_turn l.member frame.now l.past)) (followed r.changes h) self.new) }
-        ensures counted { IfOk result (λ r. self.new.installs ≡ self.old.installs + count_installed r.changes) }
+            IfOk result (λ r. Sits window (lived l (frame_turn l.member frame.now l.past))
+            (followed r.changes h) self.new) }
+        ensures counted { IfOk result (λ r. self.new.installs
+            ≡ self.old.installs + count_installed r.changes) }
     {
         law_room();
         law_turns_count();
@@ -286,7 +316,8 @@ impl Member {
         ensures stands { (window : ℕ) (l : Life) (h : List Receiving) → Sits window l h self.old →
             OnOk result (Sits window (record { member = reborn l.member l.past draw; past = [] })
             (gather (slot_change place) (restart_facts place (drawn_mi draw) l) h) self.new) }
-        ensures counted { IfOk result (λ facts. self.new.installs ≡ self.old.installs + installs_in facts) }
+        ensures counted { IfOk result (λ facts. self.new.installs
+            ≡ self.old.installs + installs_in facts) }
     {
         let reaction = self.begin_again(draw)?;
         let life = Fact::Life {
@@ -302,7 +333,10 @@ impl Member {
         ensures reaction { (window : ℕ) (l : Life) (h : List Receiving) → Sits window l h self.old →
             IfOk result (λ r. r ≡ ending l.member l.past) }
         ensures stands { (window : ℕ) (l : Life) (h : List Receiving) → Sits window l h self.old →
-            IfOk result (λ r. Sits window (record { member = reborn l.member l.past draw; past = [] }) (followed r.changes h) self.new) }
+            IfOk result (λ r. Sits window (record {
+              member = reborn l.member l.past draw;
+              past = [];
+            }) (followed r.changes h) self.new) }
         ensures counted { OnOk result (self.new.installs ≡ self.old.installs) }
         ensures none { IfOk result (λ r. count_installed r.changes ≡ 0) }
     {

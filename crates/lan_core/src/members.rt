@@ -67,13 +67,17 @@ impl Members {
         draws: &mut D,
     ) -> Result<Option<Came>, StationFault>
         ensures came { (settings : Settings) (r : Run) (seat : Seat) (l : Life)
-            → slice_get self.old place ≡ Some seat → Sits settings.window l (receiving place r) seat → number ≡ next_frame r
-            → IfOk result (λ came. IsSomeAnd came (Ticks settings r place seat l next (D.nth draws.old) (D.nth draws.new)
+            → slice_get self.old place ≡ Some seat → Sits settings.window l (receiving place r) seat
+            → number ≡ next_frame r
+            → IfOk result (λ came. IsSomeAnd came (Ticks settings r place seat l next
+            (D.nth draws.old) (D.nth draws.new)
             self.old self.new)) }
         ensures spent { (settings : Settings) (r : Run) (seat : Seat) (l : Life)
             → slice_get self.old place ≡ Some seat → Sits settings.window l (receiving place r) seat
-            → IfErr result (λ fault. (fault ≡ StationFault.Memory) ⊎ ((fault ≡ StationFault.DrawsSpent)
-            × (is_short l.member l.past (seen_at settings place r l next) (D.nth draws.old) ≡ true))) }
+            → IfErr result (λ fault. (fault ≡ StationFault.Memory)
+            ⊎ ((fault ≡ StationFault.DrawsSpent)
+            × (is_short l.member l.past (seen_at settings place r l next) (D.nth draws.old)
+            ≡ true))) }
     {
         let Some(member) = self.members.get_mut(place as usize) else {
             return Ok(None);
@@ -86,7 +90,8 @@ impl Members {
         Ok(Some(Came { facts, installs }))
     }
 
-    /// A frame of this number, or foreign octets under the number 0, reach a station, if it is there.
+    /// A frame of this number, or foreign octets under the number 0, reach a station, if it is
+    /// there.
     pub fn reach(
         &mut self,
         place: u8,
@@ -96,7 +101,8 @@ impl Members {
         requires { length octets.now ≤ 65536 }
         ensures { (settings : Settings) (r : Run) (seat : Seat) (l : Life)
             → slice_get self.old place ≡ Some seat → Sits settings.window l (receiving place r) seat
-            → IfOk result (λ came. IsSomeAnd came (Reaches settings r place seat l number octets.now self.old self.new)) }
+            → IfOk result (λ came. IsSomeAnd came
+            (Reaches settings r place seat l number octets.now self.old self.new)) }
     {
         let Some(member) = self.members.get_mut(place as usize) else {
             return Ok(None);
@@ -110,7 +116,8 @@ impl Members {
     pub fn restart(&mut self, place: u8, draw: [u8; 16]) -> Result<Option<Came>, AllocError>
         ensures { (settings : Settings) (r : Run) (seat : Seat) (l : Life)
             → slice_get self.old place ≡ Some seat → Sits settings.window l (receiving place r) seat
-            → IfOk result (λ came. IsSomeAnd came (Restarts settings r place seat l draw self.old self.new)) }
+            → IfOk result (λ came. IsSomeAnd came
+            (Restarts settings r place seat l draw self.old self.new)) }
     {
         let Some(member) = self.members.get_mut(place as usize) else {
             return Ok(None);

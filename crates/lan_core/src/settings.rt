@@ -30,7 +30,8 @@ pub struct Settings {
     pub suite: u16,
 }
 
-/// What is set up lies in its types, where the name and the suite are what they may be. Nothing runs.
+/// What is set up lies in its types, where the name and the suite are what they may be. Nothing
+/// runs.
 pub(crate) fn law_types_are_kept(settings: &Settings)
     requires ckn { IsCkn settings.now.ckn }
     requires suite { (settings.now.suite ≡ 128) ⊎ (settings.now.suite ≡ 256) }
@@ -60,8 +61,10 @@ fn law_octets_are_small(octets: &[u8])
 /// The keys that the connectivity association key gives.
 pub fn group_of(alloc: Global, settings: &Settings) -> Result<Group, Stop>
     ensures ckn { IfOk result (λ group. group.ckn ≡ settings.now.ckn) }
-    ensures kek { IfOk result (λ group. group.kek ≡ kek_of (secret_octets settings.now.cak) settings.now.ckn) }
-    ensures ick { IfOk result (λ group. group.ick ≡ ick_of (secret_octets settings.now.cak) settings.now.ckn) }
+    ensures kek { IfOk result (λ group. group.kek
+        ≡ kek_of (secret_octets settings.now.cak) settings.now.ckn) }
+    ensures ick { IfOk result (λ group. group.ick
+        ≡ ick_of (secret_octets settings.now.cak) settings.now.ckn) }
     ensures memory { IfErr result (λ stop. stop ≡ Memory) }
 {
     match Group::of(alloc, settings.cak, settings.ckn.as_slice()) {

@@ -9,8 +9,8 @@ use std::alloc::{AllocError, Global};
 use std::collections::BTreeSet;
 use std::marker::Model;
 
-/// The spellings of frames: their check values, each with the octets that it covers behind it, so that
-/// two of them mostly differ in their first octets. Contracts see them as a list.
+/// The spellings of frames: their check values, each with the octets that it covers behind it, so
+/// that two of them mostly differ in their first octets. Contracts see them as a list.
 #[derive(Drop)]
 pub struct Spellings {
     spellings: BTreeSet<Vec<u8>>,

@@ -34,8 +34,8 @@ pub enum Stop {
     /// An event would pass a limit.
     #[error("a limit is reached")]
     Limit(Which),
-    /// Two member identifiers that were drawn are equal, or two keys. Draws are numbered from 1, and
-    /// a key of two draws has the number of its first.
+    /// Two member identifiers that were drawn are equal, or two keys. Draws are numbered from 1,
+    /// and a key of two draws has the number of its first.
     #[error("draws {first} and {second} repeat")]
     RepeatedDraw { first: u64, second: u64 },
     /// Foreign octets that reached the station have the group's name and a right check value, and

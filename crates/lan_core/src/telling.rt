@@ -8,8 +8,8 @@ use mka_station::Reaction;
 use sak_exchange::Change;
 use std::alloc::{AllocError, Global};
 
-/// Appends what a reaction of the station of a place shows; the numbers of the frame that was heard and of
-/// the one that was sent are given.
+/// Appends what a reaction of the station of a place shows; the numbers of the frame that was heard
+/// and of the one that was sent are given.
 pub fn tell(
     facts: &mut Facts,
     station: u8,

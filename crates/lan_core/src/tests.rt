@@ -305,8 +305,8 @@ fn two_stations_share_a_key(rt: HostRuntime) -> Result<(), Fail> {
     Ok(())
 }
 
-/// An announcement like the first one of A with the message number 7, by another program, but for its
-/// last octet, which is 0x1a.
+/// An announcement like the first one of A with the message number 7, by another program, but for
+/// its last octet, which is 0x1a.
 const FORGED: [u8; 69] = [
     0x01, 0x80, 0xc2, 0x00, 0x00, 0x03, 0x02, 0x00, 0x00, 0x00, 0x00, 0x0a, 0x88, 0x8e, 0x03, 0x05,
     0x00, 0x34, 0x01, 0x10, 0x60, 0x20, 0x02, 0x00, 0x00, 0x00, 0x00, 0x0a, 0x00, 0x01, 0x00, 0x00,
@@ -315,7 +315,8 @@ const FORGED: [u8; 69] = [
     0xf1, 0x05, 0xcc, 0xf9, 0x28,
 ];
 
-/// Foreign octets that stop nothing: a frame of the air with an octet behind it, and a wrong check value.
+/// Foreign octets that stop nothing: a frame of the air with an octet behind it, and a wrong check
+/// value.
 const HARMLESS: [Step; 2] = [
     (B, Injects(&[&HELLO, &[0]]), &["oldnumber"]),
     (B, Injects(&[&FORGED, &[0x1b]]), &["check"]),
@@ -352,8 +353,8 @@ struct Ending {
     stop: Stop,
 }
 
-/// Draws that are spent, draws that repeat, a station too many, and forged octets. An identifier that
-/// is drawn as a key was stops nothing.
+/// Draws that are spent, draws that repeat, a station too many, and forged octets. An identifier
+/// that is drawn as a key was stops nothing.
 const ENDINGS: [Ending; 9] = [
     Ending {
         draws: &[1],

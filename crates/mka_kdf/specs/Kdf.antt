@@ -1,10 +1,11 @@
--- The keys of a key agreement group (IEEE Std 802.1X, 9.3.3), derived in counter mode (NIST SP 800-108, 4.1)
--- by CMAC. All are lists of octets.
+-- The keys of a key agreement group (IEEE Std 802.1X, 9.3.3), derived in counter mode (NIST SP
+-- 800-108, 4.1) by CMAC. All are lists of octets.
 use Rattle.std.specs.Prelude.{◌≡◌, ◌⊎◌, ℕ, zero, suc, ◌+◌, ◌*◌, ◌/◌, ◌<◌, List, [], ◌∷◌, ◌++◌, length, take, replicate, codes}
 use Rattle.std.specs.Int.{w16, to_be_bytes}
 use Rattle.aes_cmac.specs.Cmac.{cmac}
 
--- what a block is the CMAC of: its number, the label, a zero octet, the context, and how many bits are wanted
+-- what a block is the CMAC of: its number, the label, a zero octet, the context, and how many bits
+-- are wanted
 abbrev pub input : ℕ → List ℕ → List ℕ → ℕ → List ℕ
 input number label context bits = number ∷ label ++ 0 ∷ context ++ to_be_bytes w16 bits
 
@@ -14,7 +15,8 @@ blocks key label context bits zero = []
 blocks key label context bits (suc n) =
     blocks key label context bits n ++ cmac key (input (suc n) label context bits)
 
--- so many octets, derived from a key under a label and a context: the first ones of as many blocks as they take
+-- so many octets, derived from a key under a label and a context: the first ones of as many blocks
+-- as they take
 unfoldable pub derived : List ℕ → List ℕ → List ℕ → ℕ → List ℕ
 derived key label context len = take len (blocks key label context (8 * len) ((len + 15) / 16))
 

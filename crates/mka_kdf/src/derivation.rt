@@ -5,7 +5,8 @@ ghost use Rattle.mka_kdf.specs.Kdf.{derived, input};
 use aes_block::Key;
 use aes_cmac::Running;
 
-/// Derives 16 octets from a key, for what a label and a context name (NIST SP 800-108, in counter mode).
+/// Derives 16 octets from a key, for what a label and a context name (NIST SP 800-108, in counter
+/// mode).
 pub fn derive(key: &Key, label: &[u8; 12], context: &[u8; 16]) -> [u8; 16]
     ensures { result ≡ derived key.now label.now context.now 16 }
 {

@@ -34,8 +34,8 @@ impl From<AllocError> for GroupFault {
     }
 }
 
-/// The keys of a group of stations that have one connectivity association key (CAK): its name (CKN), the
-/// key encrypting key and the integrity check key (IEEE Std 802.1X, 9.3.3).
+/// The keys of a group of stations that have one connectivity association key (CAK): its name
+/// (CKN), the key encrypting key and the integrity check key (IEEE Std 802.1X, 9.3.3).
 #[derive(Debug, Drop)]
 pub struct Group {
     pub ckn: Octets,

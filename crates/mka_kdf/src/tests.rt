@@ -4,8 +4,9 @@ use aes_block::{Key, Secret};
 use hex::FromHex;
 use std::test::Fail;
 
-// CAK, CKN, KEK and ICK, in hexadecimal digits. The values are those of the key derivation of the Python package
-// `cryptography`, in counter mode over CMAC, with one octet of counter and two of length.
+// CAK, CKN, KEK and ICK, in hexadecimal digits. The values are those of the key derivation of the
+// Python package `cryptography`, in counter mode over CMAC, with one octet of counter and two of
+// length.
 const GROUPS: [[&str; 4]; 6] = [
     [
         "000102030405060708090a0b0c0d0e0f",

@@ -45,7 +45,15 @@ unfoldable pub set_at : List ℕ → Option (Set × List ℕ)
 set_at octets = do
   header ← octets_at 4 octets
   whole ← octets_at (front_length header.0 + missing (front_length header.0)) header.1
-  Some (record { kind = slice_index header.0 0; second = slice_index header.0 1; flags = slice_index header.0 2 / 16; body = take (front_length header.0) whole.0 }, whole.1)
+  Some (
+    record {
+      kind = slice_index header.0 0;
+      second = slice_index header.0 1;
+      flags = slice_index header.0 2 / 16;
+      body = take (front_length header.0) whole.0;
+    },
+    whole.1,
+  )
 
 -- ---- peer lists
 
@@ -77,7 +85,17 @@ key_at bits octets = do
   server ← mi_at octets
   number ← number_at server.1
   lowest ← number_at number.1
-  Some (record { server = server.0; number = number.0; an = bits / 4; tx = bits / 2 % 2 == 1; rx = bits % 2 == 1; lowest = lowest.0 }, lowest.1)
+  Some (
+    record {
+      server = server.0;
+      number = number.0;
+      an = bits / 4;
+      tx = bits / 2 % 2 == 1;
+      rx = bits % 2 == 1;
+      lowest = lowest.0;
+    },
+    lowest.1,
+  )
 
 unfoldable pub uses_in : Option Set → Option Uses
 uses_in found = do
@@ -90,14 +108,18 @@ uses_in found = do
 
 -- the wrapped key of a key for GCM-AES-256
 abbrev pub wide_in : List ℕ → Option (List ℕ)
-wide_in key = if starts_with (λ a b. a == b) key gcm_aes_256 && (length key == 48) then Some (drop 8 key) else None
+wide_in key =
+    if starts_with (λ a b. a == b) key gcm_aes_256 && (length key == 48) then Some (drop 8 key)
+    else None
 
 abbrev pub wide_or_other : ℕ → ℕ → ℕ → Option (List ℕ) → Given
 wide_or_other an offset number None = Other an offset number
 wide_or_other an offset number (Some wrapped) = Aes256 an offset number wrapped
 
 abbrev pub key_in : ℕ → ℕ → ℕ → List ℕ → Given
-key_in an offset number key = if length key == 24 then Aes128 an offset number key else wide_or_other an offset number (wide_in key)
+key_in an offset number key =
+    if length key == 24 then Aes128 an offset number key
+    else wide_or_other an offset number (wide_in key)
 
 unfoldable pub given_in : Option Set → Option Given
 given_in found = do
@@ -123,7 +145,15 @@ basic_in s = if not (is_basic_length (length s.body)) then None else do
   mi ← mi_at sci.1
   mn ← number_at mi.1
   agility ← octets_at 4 mn.1
-  Some (record { priority = s.second; server = s.flags / 8 == 1; sci = sci.0; mi = mi.0; mn = mn.0; agility = agility.0; ckn = agility.1 })
+  Some (record {
+    priority = s.second;
+    server = s.flags / 8 == 1;
+    sci = sci.0;
+    mi = mi.0;
+    mn = mn.0;
+    agility = agility.0;
+    ckn = agility.1;
+  })
 
 unfoldable pub basic_at : List ℕ → Option (Basics × List ℕ)
 basic_at octets = do

@@ -31,7 +31,8 @@ pub record IsSet (octets : List ℕ) (s : Set) : Type 0 where
 abbrev pub AreSets : List ℕ → List Set → Type 0
 AreSets octets [] = octets ≡ []
 AreSets octets (s ∷ ss) =
-    (front : List ℕ) × ((rest : List ℕ) × ((octets ≡ front ++ rest) × IsSet front s × AreSets rest ss))
+    (front : List ℕ) × ((rest : List ℕ) × ((octets ≡ front ++ rest) × IsSet front s
+    × AreSets rest ss))
 
 -- the header of an ICV Indicator, whose body is the check value
 pub record IsIndicator (octets : List ℕ) : Type 0 where
@@ -52,7 +53,9 @@ pub record Frame : Type 0 where
 
 -- what the check value covers: addresses, EtherType, version, packet type 5, length, and the body
 abbrev pub covered_octets : Frame → List ℕ
-covered_octets f = f.destination ++ (f.source ++ (0x88 ∷ 0x8e ∷ f.version ∷ 5 ∷ (big_bytes 2 (length f.body + check_length) ++ f.body)))
+covered_octets f =
+    f.destination ++ (f.source ++ (0x88 ∷ 0x8e ∷ f.version ∷ 5
+    ∷ (big_bytes 2 (length f.body + check_length) ++ f.body)))
 
 abbrev pub octets_of : Frame → List ℕ
 octets_of f = covered_octets f ++ (f.check ++ f.behind)
@@ -97,7 +100,8 @@ pub record SpellsPeers (s : Set) (ps : List Peer) : Type 0 where
 -- MACsec SAK Use: an empty one says nothing
 abbrev pub SpellsUses : Set → Option Uses → Type 0
 SpellsUses s None = s.body ≡ []
-SpellsUses s (Some u) = (s.second ≡ uses_flags u) × (s.body ≡ uses_body u) × IsKeyUse u.latest × IsKeyUse u.old
+SpellsUses s (Some u) =
+    (s.second ≡ uses_flags u) × (s.body ≡ uses_body u) × IsKeyUse u.latest × IsKeyUse u.old
 
 -- a Distributed SAK with its association number, offset and key number, and the key of its suite
 pub record IsGiving (s : Set) (an offset number : ℕ) (key : List ℕ) : Type 0 where
@@ -115,9 +119,13 @@ IsWide key wrapped = (length wrapped ≡ 40) × (key ≡ gcm_aes_256 ++ wrapped)
 -- key that isn't one for GCM-AES-256 is that of another suite
 abbrev pub SpellsGiven : Set → Option Given → Type 0
 SpellsGiven s None = s.body ≡ []
-SpellsGiven s (Some (Aes128 an offset number wrapped)) = IsGiving s an offset number wrapped × (length wrapped ≡ 24)
-SpellsGiven s (Some (Aes256 an offset number wrapped)) = (key : List ℕ) × (IsGiving s an offset number key × IsWide key wrapped)
-SpellsGiven s (Some (Other an offset number)) = (key : List ℕ) × (IsGiving s an offset number key × (length key ≢ 24) × ((wrapped : List ℕ) → IsWide key wrapped → ⊥))
+SpellsGiven s (Some (Aes128 an offset number wrapped)) =
+    IsGiving s an offset number wrapped × (length wrapped ≡ 24)
+SpellsGiven s (Some (Aes256 an offset number wrapped)) =
+    (key : List ℕ) × (IsGiving s an offset number key × IsWide key wrapped)
+SpellsGiven s (Some (Other an offset number)) =
+    (key : List ℕ) × (IsGiving s an offset number key × (length key ≢ 24)
+    × ((wrapped : List ℕ) → IsWide key wrapped → ⊥))
 
 -- the Basic Parameter Set: its second octet is the priority, and its highest flag is that of the
 -- key server

@@ -29,7 +29,12 @@ unfoldable pub parts_at : List ℕ → Result Inner Refusal
 parts_at frame =
     if not (is_mka frame) then Err NotMka else
     if not (is_long_enough frame) then Err Short else
-    Ok (record { source = record { 0 = take 6 (drop 6 frame) }; sets = sets_of frame; covered = check_place frame; check = take check_length (drop (check_place frame) frame) })
+    Ok (record {
+      source = record { 0 = take 6 (drop 6 frame) };
+      sets = sets_of frame;
+      covered = check_place frame;
+      check = take check_length (drop (check_place frame) frame);
+    })
 
 -- ---- the sets behind the Basic Parameter Set
 
@@ -46,10 +51,14 @@ nothing = record { live = None; potential = None; uses = None; given = None }
 -- a set takes its place, which no set has taken
 unfoldable pub placed : Gathered → Set → Result Gathered Refusal
 placed g s =
-    if s.kind == 1 then (if is_some g.live then Err (Repeated s.kind) else Ok (record g { live = Some s })) else
-    if s.kind == 2 then (if is_some g.potential then Err (Repeated s.kind) else Ok (record g { potential = Some s })) else
-    if s.kind == 3 then (if is_some g.uses then Err (Repeated s.kind) else Ok (record g { uses = Some s })) else
-    if s.kind == 4 then (if is_some g.given then Err (Repeated s.kind) else Ok (record g { given = Some s })) else
+    if s.kind == 1 then (if is_some g.live then Err (Repeated s.kind)
+    else Ok (record g { live = Some s })) else
+    if s.kind == 2 then (if is_some g.potential then Err (Repeated s.kind)
+    else Ok (record g { potential = Some s })) else
+    if s.kind == 3 then (if is_some g.uses then Err (Repeated s.kind)
+    else Ok (record g { uses = Some s })) else
+    if s.kind == 4 then (if is_some g.given then Err (Repeated s.kind)
+    else Ok (record g { given = Some s })) else
     Ok g
 
 -- a set that has a length of its type
@@ -96,4 +105,9 @@ reading frame = do
   parts ← parts_at frame
   basic ← basic_or 18 (basic_at parts.sets)
   others ← gathered (length basic.1) parts.covered nothing basic.1
-  if not (is_known basic.0.agility) then Err Agility else Ok (record { announcement = announcement_of parts.source basic.0 others; covered = parts.covered; check = parts.check })
+  if not (is_known basic.0.agility) then Err Agility
+      else Ok (record {
+        announcement = announcement_of parts.source basic.0 others;
+        covered = parts.covered;
+        check = parts.check;
+      })

@@ -20,7 +20,8 @@ body_length frame = big_number 2 (drop 16 frame)
 -- the body has 32 octets, a multiple of four, and no more than stand behind the header
 abbrev pub is_long_enough : List ℕ → Bool
 is_long_enough frame =
-    nat_le 32 (body_length frame) && (body_length frame % 4 == 0) && nat_le (18 + body_length frame) (length frame)
+    nat_le 32 (body_length frame) && (body_length frame % 4 == 0)
+    && nat_le (18 + body_length frame) (length frame)
 
 -- where the check value begins
 abbrev pub check_place : List ℕ → ℕ
@@ -48,7 +49,9 @@ is_whole octets = nat_le (front_size octets) (length octets)
 
 -- the header of an ICV Indicator stands directly before the check value
 abbrev pub is_indicator : List ℕ → Bool
-is_indicator octets = (length octets == 4) && (front_kind octets == icv_indicator) && (front_length octets == check_length)
+is_indicator octets =
+    (length octets == 4) && (front_kind octets == icv_indicator)
+    && (front_length octets == check_length)
 
 -- the lengths that a type allows; a set of the ICV Indicator's type allows none here
 abbrev pub is_length_of : ℕ → ℕ → Bool
@@ -69,8 +72,10 @@ unfoldable pub refused_sets : ℕ → ℕ → List ℕ → List ℕ → Option R
 refused_sets zero end met octets = None
 refused_sets (suc n) end met octets =
     if (length octets == 0) || is_indicator octets then None else
-    if not (is_whole octets && is_length_of (front_kind octets) (front_length octets)) then Some (Shape (end - length octets)) else
-    if is_single (front_kind octets) && list_any (λ kind. kind == front_kind octets) met then Some (Repeated (front_kind octets)) else
+    if not (is_whole octets && is_length_of (front_kind octets) (front_length octets))
+    then Some (Shape (end - length octets)) else
+    if is_single (front_kind octets) && list_any (λ kind. kind == front_kind octets) met
+    then Some (Repeated (front_kind octets)) else
     refused_sets n end (front_kind octets ∷ met) (drop (front_size octets) octets)
 
 -- the length of a Basic Parameter Set: its fixed fields, and a name of 1 to 32 octets

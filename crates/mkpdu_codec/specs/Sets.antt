@@ -46,7 +46,8 @@ header kind second flags n = kind ∷ second ∷ (flags * 16 + n / 256) ∷ (n %
 
 -- a set is its header, its body, and zeros up to the next multiple of four
 abbrev pub set : ℕ → ℕ → ℕ → List ℕ → List ℕ
-set kind second flags body = header kind second flags (length body) ++ (body ++ replicate (missing (length body)) 0)
+set kind second flags body =
+    header kind second flags (length body) ++ (body ++ replicate (missing (length body)) 0)
 
 -- the algorithm agility of the one set of algorithms that there is
 abbrev pub agility : List ℕ

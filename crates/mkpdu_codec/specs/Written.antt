@@ -34,13 +34,17 @@ uses_set (Some u) = set sak_use (uses_flags u) 0 (uses_body u)
 -- Distributed SAK, of which those for GCM-AES-128 and GCM-AES-256 are written
 abbrev pub given_set : Option Given → List ℕ
 given_set None = []
-given_set (Some (Aes128 an offset number wrapped)) = set distributed_sak (given_flags an offset * 16) 0 (given_body number wrapped)
-given_set (Some (Aes256 an offset number wrapped)) = set distributed_sak (given_flags an offset * 16) 0 (given_body number (gcm_aes_256 ++ wrapped))
+given_set (Some (Aes128 an offset number wrapped)) =
+    set distributed_sak (given_flags an offset * 16) 0 (given_body number wrapped)
+given_set (Some (Aes256 an offset number wrapped)) =
+    set distributed_sak (given_flags an offset * 16) 0 (given_body number (gcm_aes_256 ++ wrapped))
 given_set (Some (Other an offset number)) = []
 
 -- the sets of an announcement, in their order
 abbrev pub sets : Announcement → List ℕ
-sets a = basic_set a ++ (peers_set live_peers a.live ++ (peers_set potential_peers a.potential ++ (uses_set a.uses ++ given_set a.given)))
+sets a =
+    basic_set a ++ (peers_set live_peers a.live
+    ++ (peers_set potential_peers a.potential ++ (uses_set a.uses ++ given_set a.given)))
 
 -- the whole frame up to its check value, whose octets the length counts
 abbrev pub written : Announcement → List ℕ

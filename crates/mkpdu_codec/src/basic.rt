@@ -37,7 +37,9 @@ fn fixed_len(sci: Sci, mi: Mi) -> usize
 /// How many octets the body has.
 fn body_len(announcement: &Announcement) -> usize
     requires { length announcement.now.ckn ≤ 32 }
-    ensures value { result ≡ length (basic_body announcement.now.sci.0 announcement.now.mi.0 announcement.now.mn announcement.now.ckn) }
+    ensures value { result ≡ length
+        (basic_body announcement.now.sci.0 announcement.now.mi.0 announcement.now.mn
+        announcement.now.ckn) }
     ensures most { result ≤ 60 }
 {
     fixed_len(announcement.sci, announcement.mi) + announcement.ckn.len()
@@ -55,8 +57,12 @@ pub fn basic_len(announcement: &Announcement) -> usize
 /// Writes the body: SCI, member identifier, message number, agility, and the name of the key.
 #[tactic(auto, using(lan_base::proofs::Rooms::pieces))]
 fn put_body(announcement: &Announcement, into: &mut Vec<u8>)
-    requires { HasRoom into.old (basic_body announcement.now.sci.0 announcement.now.mi.0 announcement.now.mn announcement.now.ckn) }
-    ensures { Puts into.old into.new (basic_body announcement.now.sci.0 announcement.now.mi.0 announcement.now.mn announcement.now.ckn) }
+    requires { HasRoom into.old
+        (basic_body announcement.now.sci.0 announcement.now.mi.0 announcement.now.mn
+        announcement.now.ckn) }
+    ensures { Puts into.old into.new
+        (basic_body announcement.now.sci.0 announcement.now.mi.0 announcement.now.mn
+        announcement.now.ckn) }
 {
     put(into, &announcement.sci.0);
     put(into, &announcement.mi.0);

@@ -32,8 +32,10 @@ pub fn given_len(given: Option<Given>) -> usize
 #[tactic(auto, using(lan_base::proofs::Rooms::pieces))]
 fn put_key(second: u8, number: u32, suite: &[u8], wrapped: &[u8], into: &mut Vec<u8>)
     requires short { length suite.now + length wrapped.now < 64 }
-    requires room { HasRoom into.old (set 4 second 0 (given_body number (suite.now ++ wrapped.now))) }
-    ensures { Puts into.old into.new (set 4 second 0 (given_body number (suite.now ++ wrapped.now))) }
+    requires room { HasRoom into.old (set 4 second 0
+        (given_body number (suite.now ++ wrapped.now))) }
+    ensures { Puts into.old into.new (set 4 second 0
+        (given_body number (suite.now ++ wrapped.now))) }
 {
     let len = 4 + suite.len() + wrapped.len();
     put_header(DISTRIBUTED_SAK, second, 0, len, into);

@@ -35,14 +35,16 @@ pub fn law_never_both()
 /// The covered octets alone decide what a frame spells, and how many they are.
 pub fn law_covered_octets_decide()
     ensures { (frame other : List ℕ) (a b : Announcement) (m n : ℕ) (c d : List ℕ)
-        → Spells frame a m c → Spells other b n d → take m frame ≡ take n other → (a ≡ b) × (m ≡ n) }
+        → Spells frame a m c → Spells other b n d → take m frame ≡ take n other
+        → (a ≡ b) × (m ≡ n) }
 {}
 
 /// What stands behind the check value is ignored.
 #[tactic(auto, using(crate::proofs::Unique::behind_ignored))]
 pub fn law_octets_behind_are_ignored()
     ensures { (frame behind check : List ℕ) (a : Announcement) (covered : ℕ)
-        → Spells frame a covered check → Spells (take (covered + 16) frame ++ behind) a covered check }
+        → Spells frame a covered check → Spells
+        (take (covered + 16) frame ++ behind) a covered check }
 {}
 
 /// Each frame spells an announcement, or has a first refusal.
@@ -55,7 +57,8 @@ pub fn law_spelled_or_refused()
 /// What is written of an announcement, followed by a check value, spells that announcement.
 #[tactic(auto, using(crate::proofs::WrittenSpelled::written_spells))]
 pub fn law_written_is_spelled()
-    ensures { (a : Announcement) (check : List ℕ) → IsWritable a → IsOfItsTypes a → length check ≡ 16
+    ensures { (a : Announcement) (check : List ℕ) → IsWritable a → IsOfItsTypes a
+        → length check ≡ 16
         → Spells (written a ++ check) a (length (written a)) check }
 {}
 

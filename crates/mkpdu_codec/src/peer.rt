@@ -89,9 +89,12 @@ impl PartialEq for Peers {
     ghost use Rattle.std.specs.Cmp.Lexicographic.{pointwise};
     ghost use Rattle.std.proofs.lemmas.Cmp.{lists_equiv, and_equiv, on_equiv, nat_eq_equiv, nat_list_eq_equiv};
 
-    ghost eq = { pointwise (eq_of_both (on (λ p. p.mi.0) (pointwise nat_eq)) (on (λ p. p.mn) nat_eq)) };
+    ghost eq = { pointwise (eq_of_both (on (λ p. p.mi.0) (pointwise nat_eq))
+        (on (λ p. p.mn) nat_eq)) };
 
-    ghost laws = { Cmp.partial_equiv_from_equiv (lists_equiv (and_equiv (on_equiv (λ p. p.mi.0) nat_list_eq_equiv) (on_equiv (λ p. p.mn) nat_eq_equiv))) };
+    ghost laws = { Cmp.partial_equiv_from_equiv
+        (lists_equiv (and_equiv (on_equiv (λ p. p.mi.0) nat_list_eq_equiv)
+        (on_equiv (λ p. p.mn) nat_eq_equiv))) };
 
     fn eq(&self, other: &Peers) -> bool {
         self.as_slice() == other.as_slice()

@@ -159,13 +159,15 @@ fn spelled(alloc: Global, frame: &[u8]) -> Result<Spelled, Refusal>
 pub fn read(alloc: Global, frame: &[u8]) -> Result<Spelled, Refusal>
     // What is read is spelled so, and what is spelled so is read, unless memory ran out.
     ensures found { IfOk result (λ s. Spells frame.now s.announcement s.covered s.check) }
-    ensures only { (a : Announcement) (covered : ℕ) (check : List ℕ) → Spells frame.now a covered check
+    ensures only { (a : Announcement) (covered : ℕ) (check : List ℕ)
+        → Spells frame.now a covered check
         → (result ≡ Ok (record { announcement = a; covered = covered; check = check }))
         ⊎ (result ≡ Err Refusal.Memory) }
 
     // A refusal is answered exactly where it is the frame's first one, and memory is wanted only
     // where there is none.
-    ensures refused { (e : Refusal) → e ≢ Refusal.Memory → (result ≡ Err e) ↔ (refused frame.now ≡ Some e) }
+    ensures refused { (e : Refusal) → e ≢ Refusal.Memory
+        → (result ≡ Err e) ↔ (refused frame.now ≡ Some e) }
     ensures memory { result ≡ Err Refusal.Memory → refused frame.now ≡ None }
 {
     spelled(alloc, frame)

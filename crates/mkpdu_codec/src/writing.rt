@@ -36,7 +36,8 @@ fn header_len(source: Mac) -> usize
 fn sets_len(announcement: &Announcement) -> usize
     requires { IsWritable announcement.now }
     ensures value { result ≡ length (sets announcement.now) }
-    ensures most { result ≤ 172 + 16 * (length announcement.now.live + length announcement.now.potential) }
+    ensures most { result ≤ 172 + 16 * (length announcement.now.live
+        + length announcement.now.potential) }
 {
     basic_len(announcement)
         + peers_len(LIVE_PEERS, &announcement.live)
@@ -115,7 +116,8 @@ fn is_of_its_types(announcement: &Announcement)
 pub fn written_len(announcement: &Announcement) -> usize
     requires { IsWritable announcement.now }
     ensures value { result ≡ length (written announcement.now) }
-    ensures most { result ≤ most_written (length announcement.now.live + length announcement.now.potential) }
+    ensures most { result ≤ most_written (length announcement.now.live
+        + length announcement.now.potential) }
 {
     header_len(announcement.source) + sets_len(announcement)
 }
@@ -128,12 +130,14 @@ pub fn write(announcement: &Announcement, into: &mut Vec<u8>) -> Result<(), Allo
     // The octets are appended, or nothing is; where there is room for them, they are.
     ensures ok { OnOk result (into.new.items ≡ into.old.items ++ written announcement.now) }
     ensures err { OnErr result (into.new.items ≡ into.old.items) }
-    ensures room { length into.old.items + length (written announcement.now) ≤ vec_capacity into.old → IsOk result }
+    ensures room { length into.old.items + length (written announcement.now) ≤ vec_capacity into.old
+        → IsOk result }
     ensures capacity { vec_capacity into.old ≤ vec_capacity into.new }
 
     // With any check value behind them they spell the announcement.
     ensures spells { (check : List ℕ) → length check ≡ 16
-        → Spells (written announcement.now ++ check) announcement.now (length (written announcement.now)) check }
+        → Spells (written announcement.now ++ check) announcement.now
+        (length (written announcement.now)) check }
 {
     is_of_its_types(announcement);
     into.reserve(written_len(announcement))?;

@@ -1,4 +1,5 @@
-//! The program `rollover`: standard input, standard output and the command words, for `rollover_program`.
+//! The program `rollover`: standard input, standard output and the command words, for
+//! `rollover_program`.
 #![tactic(auto)]
 
 use lan_base::{StdSink, StdSource};

@@ -106,8 +106,8 @@ pub(crate) fn cut(alloc: Global, transcript: &[u8]) -> Result<Vec<u8>, AllocErro
     Ok(all)
 }
 
-/// Whether lines stand together in a text, where `*` stands for one word; the last of them lacks its
-/// line feed.
+/// Whether lines stand together in a text, where `*` stands for one word; the last of them lacks
+/// its line feed.
 pub(crate) fn has(text: &[u8], lines: &str) -> bool {
     let mut left = text;
     for _ in text {

@@ -24,7 +24,8 @@ checked_under (Some secret) tag frame = checked_data tag (opened (secret_octets 
 -- Malformed: the frame is no protected frame. Own: the station is its sender.
 abbrev pub checked_fields : Sci → (ℕ → Option Secret) → List ℕ → Result Tag TagRefusal → Checked
 checked_fields own keys frame (Err refusal) = Malformed refusal
-checked_fields own keys frame (Ok tag) = if same_sci tag.sci own then Own else checked_under (keys tag.an) tag frame
+checked_fields own keys frame (Ok tag) =
+    if same_sci tag.sci own then Own else checked_under (keys tag.an) tag frame
 
 -- what is answered to a frame by the keys that stand, before its number is looked at
 abbrev pub checked : Sci → (ℕ → Option Secret) → List ℕ → Checked

@@ -2,14 +2,15 @@
 use Rattle.std.specs.Prelude.{◌≢◌, ℕ, ◌==◌, if◌then◌else◌, List, [], ◌∷◌, Option, Some, None}
 use Rattle.aes_block.specs.declared.secret.Secret.{Secret}
 
--- a key was installed under an association number, what stood under one was removed, or a frame was heard
+-- a key was installed under an association number, what stood under one was removed, or a frame was
+-- heard
 pub data Receiving : Type 0 where
   installed : ℕ → Secret → Receiving
   removed : ℕ → Receiving
   heard : List ℕ → Receiving
 
--- The key that stands under an association number: that of the last install, unless it was removed since. A history
--- stands newest first.
+-- The key that stands under an association number: that of the last install, unless it was removed
+-- since. A history stands newest first.
 abbrev pub standing_key : List Receiving → ℕ → Option Secret
 standing_key [] an = None
 standing_key (installed n secret ∷ h) an = if n == an then Some secret else standing_key h an

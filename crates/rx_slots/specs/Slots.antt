@@ -7,7 +7,8 @@ use Rattle.std.specs.Cmp.Lexicographic.{slice_cmp}
 use Rattle.std.specs.declared.cmp.Ordering.{Ordering}
 use Rattle.lan_base.specs.declared.address.Sci.{Sci}
 
--- what stands under an association number: the octets of the key, next numbers by sender, and the greatest of them
+-- what stands under an association number: the octets of the key, next numbers by sender, and the
+-- greatest of them
 pub record Standing : Type 0 where
   pub key : List ℕ
   pub numbers : List (Sci × ℕ)

@@ -11,10 +11,13 @@ use Rattle.rx_slots.specs.Slots.{Slots, slot_at, key_at, next_of, greatest_of}
 abbrev pub next_numbers : List Taken → ℕ → List ℕ
 next_numbers past an = map (λ t. t.pn + 1) (filter (is_under an) past)
 
--- The slots stand for a history: they have its keys, the next number of each sender, and the greatest of these.
+-- The slots stand for a history: they have its keys, the next number of each sender, and the
+-- greatest of these.
 pub record StandsFor (own : Sci) (window : ℕ) (s : Slots) (h : List Receiving) : Type 0 where
   pub owner : s.own ≡ own
   pub width : s.window ≡ window
   pub keys : (an : ℕ) → key_at s an ≡ option_map secret_octets (standing_key h an)
-  pub numbers : (an : ℕ) (sci : Sci) → next_of (slot_at s an) sci ≡ next_number (accepted own window h) an sci
-  pub top : (an : ℕ) → greatest_of (slot_at s an) ≡ greatest (next_numbers (accepted own window h) an)
+  pub numbers : (an : ℕ) (sci : Sci) → next_of (slot_at s an) sci
+      ≡ next_number (accepted own window h) an sci
+  pub top : (an : ℕ) → greatest_of (slot_at s an)
+      ≡ greatest (next_numbers (accepted own window h) an)

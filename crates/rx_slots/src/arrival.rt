@@ -33,7 +33,8 @@ pub enum Checked {
     },
     /// The tag is not that of the frame under the key.
     BadCheck,
-    /// The tag is right: the sender, the association number, the packet number, and the user data in plain.
+    /// The tag is right: the sender, the association number, the packet number, and the user data
+    /// in plain.
     Sealed {
         sci: Sci,
         an: u8,

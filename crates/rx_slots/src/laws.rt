@@ -8,11 +8,12 @@ ghost use Rattle.rx_slots.specs.declared.arrival.Arrival.TheVariants.{Accepted, 
 ghost use Rattle.rx_slots.specs.Histories.{Receiving, IsQuiet, heard};
 ghost use Rattle.rx_slots.specs.Numbers.{Taken, answer, lowest, lowest_for, next_number};
 
-/// Without a window a frame that was accepted is late ever after, as long as its key stands: nothing is
-/// accepted twice, the last packet number included.
+/// Without a window a frame that was accepted is late ever after, as long as its key stands:
+/// nothing is accepted twice, the last packet number included.
 pub fn law_nothing_is_accepted_twice()
     ensures { (own : Sci) (h between : List Receiving) (frame body : List ℕ) (tag : Tag) (pn : ℕ)
-        → tag_fields frame ≡ Ok tag → IsQuiet tag.an between → answer own 0 h frame ≡ Accepted pn body
+        → tag_fields frame ≡ Ok tag → IsQuiet tag.an between
+        → answer own 0 h frame ≡ Accepted pn body
         → (next : ℕ) × (answer own 0 (between ++ heard frame ∷ h) frame ≡ Late next) }
 {}
 

@@ -1,5 +1,5 @@
-//! The receive side of a secure entity (IEEE Std 802.1AE, clause 10): the answer to each frame under the
-//! keys that stand, proved against the history of what was installed, removed and heard.
+//! The receive side of a secure entity (IEEE Std 802.1AE, clause 10): the answer to each frame
+//! under the keys that stand, proved against the history of what was installed, removed and heard.
 #![tactic(auto)]
 
 mod arrival;

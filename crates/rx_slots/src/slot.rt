@@ -10,7 +10,8 @@ use std::alloc::{AllocError, Global};
 use std::collections::BTreeMap;
 use std::marker::Model;
 
-/// A key, the next packet number of each sender that was accepted under it, and the greatest of these.
+/// A key, the next packet number of each sender that was accepted under it, and the greatest of
+/// these.
 #[derive(Drop)]
 pub struct Slot {
     key: Key,
@@ -23,7 +24,11 @@ impl Model for Slot {
 
     ghost Value = { Standing };
 
-    ghost view = { λ s. record { key = s.key; numbers = s.numbers.entries; greatest = s.greatest } };
+    ghost view = { λ s. record {
+      key = s.key;
+      numbers = s.numbers.entries;
+      greatest = s.greatest;
+    } };
 }
 
 impl Slot {

@@ -38,8 +38,8 @@ impl Model for RxSlots {
 }
 
 impl RxSlots {
-    /// The slots of a station with this SCI, with no key. A packet number is late that is below the next
-    /// one of its sender by more than `window`.
+    /// The slots of a station with this SCI, with no key. A packet number is late that is below the
+    /// next one of its sender by more than `window`.
     pub fn new(alloc: Global, sci: Sci, window: u32) -> RxSlots
         ensures { StandsFor sci window result [] }
     {
@@ -51,8 +51,8 @@ impl RxSlots {
         }
     }
 
-    /// Installs a key under an association number, in place of what stood there. The key is expanded here,
-    /// once. No memory is taken.
+    /// Installs a key under an association number, in place of what stood there. The key is
+    /// expanded here, once. No memory is taken.
     pub fn install(&mut self, an: u8, sak: &Secret)
         requires { an < 4 }
         ensures { (own : Sci) (window : ℕ) (h : List Receiving) → StandsFor own window self.old h →
@@ -76,7 +76,8 @@ impl RxSlots {
         requires { an < 4 }
         ensures owner { self.new.own ≡ self.old.own }
         ensures width { self.new.window ≡ self.old.window }
-        ensures slots { (n : ℕ) → slot_at self.new n ≡ (if n == an then slot else slot_at self.old n) }
+        ensures slots { (n : ℕ) → slot_at self.new n
+            ≡ (if n == an then slot else slot_at self.old n) }
     {
         self.slots[an as usize] = slot;
     }
@@ -84,11 +85,14 @@ impl RxSlots {
     /// Answers a heard frame of at most 65,536 octets. An error leaves the slots as they were.
     pub fn receive(&mut self, frame: &[u8]) -> Result<Arrival, AllocError>
         requires { length frame.now ≤ 65536 }
-        ensures answer { (own : Sci) (window : ℕ) (h : List Receiving) → StandsFor own window self.old h →
+        ensures answer { (own : Sci) (window : ℕ) (h : List Receiving)
+            → StandsFor own window self.old h →
             IfOk result (λ arrival. arrival ≡ answer own window h frame.now) }
-        ensures stands { (own : Sci) (window : ℕ) (h : List Receiving) → StandsFor own window self.old h →
+        ensures stands { (own : Sci) (window : ℕ) (h : List Receiving)
+            → StandsFor own window self.old h →
             OnOk result (StandsFor own window self.new (heard frame.now ∷ h)) }
-        ensures prompt { (own : Sci) (window : ℕ) (h : List Receiving) → StandsFor own window self.old h →
+        ensures prompt { (own : Sci) (window : ℕ) (h : List Receiving)
+            → StandsFor own window self.old h →
             IsPrompt (checked_answer own (standing_key h) frame.now) → IsOk result }
         ensures unchanged { OnErr result (self.new ≡ self.old) }
     {
@@ -99,9 +103,11 @@ impl RxSlots {
     /// Answers a frame of at most 65,536 octets as far as its tag.
     pub fn check(&self, frame: &[u8]) -> Result<Checked, AllocError>
         requires { length frame.now ≤ 65536 }
-        ensures answer { (own : Sci) (window : ℕ) (h : List Receiving) → StandsFor own window self.now h →
+        ensures answer { (own : Sci) (window : ℕ) (h : List Receiving)
+            → StandsFor own window self.now h →
             IfOk result (λ checked. checked ≡ checked_answer own (standing_key h) frame.now) }
-        ensures prompt { (own : Sci) (window : ℕ) (h : List Receiving) → StandsFor own window self.now h →
+        ensures prompt { (own : Sci) (window : ℕ) (h : List Receiving)
+            → StandsFor own window self.now h →
             IsPrompt (checked_answer own (standing_key h) frame.now) → IsOk result }
     {
         let tag = match tag_of(frame) {
@@ -117,8 +123,8 @@ impl RxSlots {
         }
     }
 
-    /// Answers a frame that `check` answered under the keys that stand now. Only a frame that is accepted
-    /// takes memory. An error leaves the slots as they were.
+    /// Answers a frame that `check` answered under the keys that stand now. Only a frame that is
+    /// accepted takes memory. An error leaves the slots as they were.
     pub fn admit(&mut self, checked: Checked) -> Result<Arrival, AllocError>
         ensures answer { (own : Sci) (window : ℕ) (h : List Receiving) (frame : List ℕ)
             → StandsFor own window self.old h → checked ≡ checked_answer own (standing_key h) frame

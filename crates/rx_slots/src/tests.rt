@@ -21,8 +21,8 @@ const A: Sci = Sci([2, 0, 0, 0, 0, 0x0a, 0, 1]);
 
 const B: Sci = Sci([2, 0, 0, 0, 0, 0x0b, 0, 1]);
 
-// Frames of A under the short key: number 1 and 2, number 1 with a changed tag, number 0, and the last
-// number without confidentiality.
+// Frames of A under the short key: number 1 and 2, number 1 with a changed tag, number 0, and the
+// last number without confidentiality.
 const FIRST: &str =
     "ffffffffffff02000000000a88e52c040000000102000000000a000109773226206e3467e43c327172418bf947e3b3f3";
 

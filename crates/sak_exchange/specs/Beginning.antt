@@ -24,21 +24,28 @@ pub record Beginning : Type 0 where
   pub key : Key
   pub cause : Cause
 
--- Why a key begins that this life made: all live members report it as their latest one, or it was made the life time ago or earlier.
+-- Why a key begins that this life made: all live members report it as their latest one, or it was
+-- made the life time ago or earlier.
 abbrev pub lead_cause : List Keying → List Report → Key → Option Cause
 lead_cause h live k =
-    cond (list_all (λ r. reports_latest k.id r.uses) live) (Some All) (cond (is_long_ago (clock h) (last_made_at h)) (Some Timeout) None)
+    cond (list_all (λ r. reports_latest k.id r.uses) live) (Some All)
+    (cond (is_long_ago (clock h) (last_made_at h)) (Some Timeout) None)
 
--- the latest key, where a station that is its own elected server begins it at a tick: its life made it, it has not begun, and there is a cause
+-- the latest key, where a station that is its own elected server begins it at a tick: its life made
+-- it, it has not begun, and there is a cause
 abbrev pub leads : List Keying → List Report → Option Beginning
 leads h live =
-    option_and_then (λ k. cond (is_latest_made h && not (has_begun h k.epoch)) (option_map (λ c. record { key = k; cause = c }) (lead_cause h live k)) None) (latest h)
+    option_and_then (λ k. cond (is_latest_made h && not (has_begun h k.epoch))
+    (option_map (λ c. record { key = k; cause = c }) (lead_cause h live k)) None) (latest h)
 
--- the latest key, where a station begins it because its elected server says that it transmits under it, and it has not begun
+-- the latest key, where a station begins it because its elected server says that it transmits under
+-- it, and it has not begun
 abbrev pub follows : List Keying → Uses → Option Beginning
 follows h u =
-    option_and_then (λ k. cond (not (has_begun h k.epoch) && transmits k.id u) (Some (record { key = k; cause = Flag })) None) (latest h)
+    option_and_then (λ k. cond (not (has_begun h k.epoch) && transmits k.id u)
+    (Some (record { key = k; cause = Flag })) None) (latest h)
 
 -- the old key, where the next tick is the one at which the latest key began the retire time ago
 abbrev pub retired : List Keying → Option Key
-retired h = cond (is_latest h (λ k. is_retire_time_ago (clock h + 1) (begun_at h k.epoch))) (old h) None
+retired h =
+    cond (is_latest h (λ k. is_retire_time_ago (clock h + 1) (begun_at h k.epoch))) (old h) None

@@ -1,4 +1,5 @@
--- Which keys are held (IEEE Std 802.1X, clause 9): those received, the latest and the old one among them, and the one that transmits.
+-- Which keys are held (IEEE Std 802.1X, clause 9): those received, the latest and the old one among
+-- them, and the one that transmits.
 use Rattle.std.specs.Prelude.{◌≡◌, ℕ, ◌==◌, ◌+◌, nat_lt, Bool, true, false, not, ◌&&◌, ◌||◌, List, [], ◌∷◌, Option, Some, None, is_some, option_and_then}
 use Rattle.std.specs.Option.{option_map_or}
 use Rattle.std.specs.List.{list_any, filter, find}
@@ -13,9 +14,12 @@ is_retire_time_ago now (Some at) = at + retire_time == now
 
 -- whether a key is later than this epoch's, and began the retire time before the next tick
 abbrev pub retires : List Keying → ℕ → Key → Bool
-retires h e later = nat_lt e later.epoch && is_retire_time_ago (clock h + 1) (begun_at h later.epoch)
+retires h e later =
+    nat_lt e later.epoch && is_retire_time_ago (clock h + 1) (begun_at h later.epoch)
 
--- Whether an entry that comes after this history ends a key: a tick with no elected server; a tick at which a later key began the retire time ago; an install under the key's association number, or before the key began.
+-- Whether an entry that comes after this history ends a key: a tick with no elected server; a tick
+-- at which a later key began the retire time ago; an install under the key's association number, or
+-- before the key began.
 abbrev pub ends : Keying → List Keying → Key → Bool
 ends (ticked false) h k = true
 ends (ticked true) h k = list_any (retires h k.epoch) (installs h)
@@ -61,16 +65,19 @@ allows h = not (is_latest h (λ k. has_begun h k.epoch) && is_some (old h))
 abbrev pub may_begin : List Keying → ℕ → Bool
 may_begin h e = is_latest h (λ k. k.epoch == e && not (has_begun h e))
 
--- The rules were kept, where so many keys were installed in earlier lives: epochs go on counting, a key is installed where that is allowed, and what begins is the latest key, once.
+-- The rules were kept, where so many keys were installed in earlier lives: epochs go on counting, a
+-- key is installed where that is allowed, and what begins is the latest key, once.
 abbrev pub Kept : ℕ → List Keying → Type 0
 Kept base [] = Unit {0}
 Kept base (ticked s ∷ h) = Kept base h
-Kept base (installed r k ∷ h) = (k.epoch ≡ (base + install_count h) + 1) × (allows h ≡ true) × Kept base h
+Kept base (installed r k ∷ h) =
+    (k.epoch ≡ (base + install_count h) + 1) × (allows h ≡ true) × Kept base h
 Kept base (began e ∷ h) = (may_begin h e ≡ true) × Kept base h
 
 -- a key as it is shown, which has begun or not
 abbrev pub shown : Bool → Key → HeldKey
-shown begun k = record { id = k.id; an = k.an; sak = k.sak; conf = k.conf; epoch = k.epoch; begun = begun }
+shown begun k =
+    record { id = k.id; an = k.an; sak = k.sak; conf = k.conf; epoch = k.epoch; begun = begun }
 
 -- a key as it is held after a history
 abbrev pub held : List Keying → Key → HeldKey

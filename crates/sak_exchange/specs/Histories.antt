@@ -1,10 +1,13 @@
--- The history of one life of a station, as far as its keys go (IEEE Std 802.1X, clause 9). It stands newest first.
+-- The history of one life of a station, as far as its keys go (IEEE Std 802.1X, clause 9). It
+-- stands newest first.
 use Rattle.std.specs.Prelude.{ℕ, ◌==◌, ◌+◌, Bool, cond, List, [], ◌∷◌, Option, Some, None, is_some}
 use Rattle.aes_block.specs.declared.secret.Secret.{Secret}
 use Rattle.lan_base.specs.declared.address.Mi.{Mi}
 use Rattle.lan_base.specs.declared.key_id.KeyId.{KeyId}
 
--- A key as it was installed: its identifier, its association number, the SAK, and whether it gives confidentiality. Its epoch is the count of installs at the station, over all its lives, up to and with it.
+-- A key as it was installed: its identifier, its association number, the SAK, and whether it gives
+-- confidentiality. Its epoch is the count of installs at the station, over all its lives, up to and
+-- with it.
 pub record Key : Type 0 where
   pub id : KeyId
   pub an : ℕ
@@ -12,7 +15,8 @@ pub record Key : Type 0 where
   pub conf : Bool
   pub epoch : ℕ
 
--- A tick, and whether a key server was elected then; a key that was installed, with its roster where this life made it and none where it was taken; a key that began, by its epoch.
+-- A tick, and whether a key server was elected then; a key that was installed, with its roster
+-- where this life made it and none where it was taken; a key that began, by its epoch.
 pub data Keying : Type 0 where
   ticked : Bool → Keying
   installed : Option (List Mi) → Key → Keying

@@ -1,4 +1,5 @@
--- What the laws say of a life (this profile's own rules): which key is received, in one sentence; what is quiet; and which numbers rise.
+-- What the laws say of a life (this profile's own rules): which key is received, in one sentence;
+-- what is quiet; and which numbers rise.
 use Rattle.std.specs.Prelude.{◌≡◌, ◌⊎◌, ◌≢◌, ℕ, ◌==◌, ◌+◌, ◌<◌, true, false, cond, List, [], ◌∷◌, ◌++◌, map, Option, Some, None}
 use Rattle.lan_base.specs.declared.address.Mi.{Mi}
 use Rattle.lan_base.specs.declared.key_id.KeyId.{KeyId}
@@ -26,7 +27,8 @@ pub record IsReceived (h : List Keying) (k : Key) : Type 0 where
   pub before : List Keying
   pub whole : h ≡ since ++ install ∷ before
   pub installs : Installs install k
-  pub stays : (newer : List Keying) (x : Keying) (older : List Keying) → since ≡ newer ++ x ∷ older → ends x (older ++ install ∷ before) k ≡ false
+  pub stays : (newer : List Keying) (x : Keying) (older : List Keying) → since ≡ newer ++ x ∷ older
+      → ends x (older ++ install ∷ before) k ≡ false
 
 -- the keys that are there, the first one first
 abbrev pub both : Option Key → Option Key → List Key
@@ -57,12 +59,15 @@ abbrev pub IsOver : Option ℕ → ℕ → Type 0
 IsOver None n = Unit {0}
 IsOver (Some m) n = m < n
 
--- Each key that the station made has its own identifier and the next key number; each that it took has a greater number than all that it installed of that key server.
+-- Each key that the station made has its own identifier and the next key number; each that it took
+-- has a greater number than all that it installed of that key server.
 abbrev pub IsNumbered : Mi → List Keying → Type 0
 IsNumbered own [] = Unit {0}
 IsNumbered own (ticked s ∷ h) = IsNumbered own h
-IsNumbered own (installed None k ∷ h) = IsOver (greatest_of k.id.server h) k.id.number × IsNumbered own h
-IsNumbered own (installed (Some r) k ∷ h) = (k.id.server ≡ own) × (k.id.number ≡ made_count h + 1) × IsNumbered own h
+IsNumbered own (installed None k ∷ h) =
+    IsOver (greatest_of k.id.server h) k.id.number × IsNumbered own h
+IsNumbered own (installed (Some r) k ∷ h) =
+    (k.id.server ≡ own) × (k.id.number ≡ made_count h + 1) × IsNumbered own h
 IsNumbered own (began e ∷ h) = IsNumbered own h
 
 -- no key with the station's own identifier was taken
@@ -81,7 +86,8 @@ epochs h = map (λ k. k.epoch) (installs h)
 abbrev pub numbers_of : Mi → List Keying → List ℕ
 numbers_of s [] = []
 numbers_of s (ticked b ∷ h) = numbers_of s h
-numbers_of s (installed r k ∷ h) = cond (same_mi k.id.server s) (k.id.number ∷ numbers_of s h) (numbers_of s h)
+numbers_of s (installed r k ∷ h) =
+    cond (same_mi k.id.server s) (k.id.number ∷ numbers_of s h) (numbers_of s h)
 numbers_of s (began e ∷ h) = numbers_of s h
 
 -- the identifiers of the keys that were installed

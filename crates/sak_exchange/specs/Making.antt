@@ -1,4 +1,5 @@
--- When a key server makes a key, and which (IEEE Std 802.1X, clause 9; the reasons and the roster are this profile's own).
+-- When a key server makes a key, and which (IEEE Std 802.1X, clause 9; the reasons and the roster
+-- are this profile's own).
 use Rattle.std.specs.Prelude.{ℕ, zero, suc, ◌==◌, ◌+◌, ◌%◌, nat_le, Bool, false, cond, not, ◌&&◌, ◌||◌, List, ◌∷◌, map, Option, Some, None, is_none}
 use Rattle.std.specs.List.{list_any}
 use Rattle.lan_base.specs.declared.address.Mi.{Mi}
@@ -21,12 +22,15 @@ lists (Some ms) m = has m ms
 abbrev pub is_in_roster : List Keying → Mi → Bool
 is_in_roster h m = is_latest h (λ k. lists (last_roster h) m)
 
--- Whether a key is spent: the limit isn't above the next number of the association, the own lowest acceptable number under the key, or that which a live member says.
+-- Whether a key is spent: the limit isn't above the next number of the association, the own lowest
+-- acceptable number under the key, or that which a live member says.
 abbrev pub is_spent : List Report → Seen → ℕ → KeyId → Bool
 is_spent live seen limit i =
-    nat_le limit seen.next || (nat_le limit seen.latest || list_any (λ r. reaches limit i r.uses) live)
+    nat_le limit seen.next || (nat_le limit seen.latest
+    || list_any (λ r. reaches limit i r.uses) live)
 
--- A key is due for one of four reasons. The first: no key is held, or this life did not make the latest one.
+-- A key is due for one of four reasons. The first: no key is held, or this life did not make the
+-- latest one.
 abbrev pub is_none_of_own : List Keying → Bool
 is_none_of_own h = not (is_latest_made h)
 
@@ -36,26 +40,33 @@ is_one_left_out h live = list_any (λ r. not (is_in_roster h r.mi)) live
 
 -- The third: the latest key has begun and is spent.
 abbrev pub is_latest_spent : List Keying → List Report → Seen → ℕ → Bool
-is_latest_spent h live seen limit = is_latest h (λ k. has_begun h k.epoch && is_spent live seen limit k.id)
+is_latest_spent h live seen limit =
+    is_latest h (λ k. has_begun h k.epoch && is_spent live seen limit k.id)
 
--- The fourth: the latest key began the life time ago or earlier, and a live member doesn't report it.
+-- The fourth: the latest key began the life time ago or earlier, and a live member doesn't report
+-- it.
 abbrev pub is_one_behind : List Keying → List Report → Bool
 is_one_behind h live =
-    is_latest h (λ k. is_long_ago (clock h) (begun_at h k.epoch) && list_any (λ r. not (reports k.id r.uses)) live)
+    is_latest h (λ k. is_long_ago (clock h) (begun_at h k.epoch)
+    && list_any (λ r. not (reports k.id r.uses)) live)
 
 -- whether a key is due
 abbrev pub is_key_due : List Keying → List Report → Seen → ℕ → Bool
 is_key_due h live seen limit =
-    is_none_of_own h || (is_one_left_out h live || (is_latest_spent h live seen limit || is_one_behind h live))
+    is_none_of_own h || (is_one_left_out h live
+    || (is_latest_spent h live seen limit || is_one_behind h live))
 
--- whether no member is potential, or this life made no key, or made the last one the life time ago or earlier
+-- whether no member is potential, or this life made no key, or made the last one the life time ago
+-- or earlier
 abbrev pub is_rested : List Keying → Bool → Bool
 is_rested h potential =
     not potential || (is_none (last_made_at h) || is_long_ago (clock h) (last_made_at h))
 
--- whether a station that is its own elected server, and has not begun a key in this tick, makes a key
+-- whether a station that is its own elected server, and has not begun a key in this tick, makes a
+-- key
 abbrev pub makes : List Keying → List Report → Bool → Seen → ℕ → Bool
-makes h live potential seen limit = allows h && (is_key_due h live seen limit && is_rested h potential)
+makes h live potential seen limit =
+    allows h && (is_key_due h live seen limit && is_rested h potential)
 
 -- whether a held key has the association number
 abbrev pub is_used : List Keying → ℕ → Bool
@@ -70,7 +81,9 @@ abbrev pub free_from : ℕ → List Keying → ℕ → ℕ
 free_from zero h a = a
 free_from (suc n) h a = cond (is_used h a) (free_from n h (after a)) a
 
--- The association number of the next key that is made: 0 in a life that installed none, else the first free one behind that of the last install. Two keys are held at most, so two turns are enough.
+-- The association number of the next key that is made: 0 in a life that installed none, else the
+-- first free one behind that of the last install. Two keys are held at most, so two turns are
+-- enough.
 abbrev pub next_an : List Keying → ℕ
 next_an h = elim (last_key h) [ None ↦ 0 | Some k ↦ free_from 2 h (after k.an) ]
 
@@ -78,10 +91,17 @@ next_an h = elim (last_key h) [ None ↦ 0 | Some k ↦ free_from 2 h (after k.a
 abbrev pub next_epoch : ℕ → List Keying → ℕ
 next_epoch base h = (base + install_count h) + 1
 
--- the key that a station makes, given its member identifier, whether the key gives confidentiality, and the SAK
+-- the key that a station makes, given its member identifier, whether the key gives confidentiality,
+-- and the SAK
 abbrev pub made_key : ℕ → Mi → List Keying → Bool → Secret → Key
 made_key base own h conf sak =
-    record { id = record { server = own; number = made_count h + 1 }; an = next_an h; sak = sak; conf = conf; epoch = next_epoch base h }
+    record {
+      id = record { server = own; number = made_count h + 1 };
+      an = next_an h;
+      sak = sak;
+      conf = conf;
+      epoch = next_epoch base h;
+    }
 
 -- its roster: the station itself and the live members of that moment
 abbrev pub made_roster : Mi → List Report → List Mi

@@ -1,4 +1,5 @@
--- What each call changes, and the history after it (the order of the changes is this profile's own).
+-- What each call changes, and the history after it (the order of the changes is this profile's
+-- own).
 use Rattle.std.specs.Prelude.{ℕ, Bool, true, false, List, [], ◌∷◌, ◌++◌, map, option_to_list, Option, Some, None, option_map, Result, Ok, Err}
 use Rattle.std.specs.List.{filter}
 use Rattle.lan_base.specs.declared.address.Mi.{Mi}
@@ -22,16 +23,22 @@ pub record Outcome : Type 0 where
 
 -- at a tick with no elected server every key is dropped
 abbrev pub dropping : List Keying → Outcome
-dropping h = record { changes = map (λ k. Dropped (held h k)) (received h); past = ticked false ∷ h }
+dropping h =
+    record { changes = map (λ k. Dropped (held h k)) (received h); past = ticked false ∷ h }
 
 -- at a tick with an elected server the old key is retired where its time is over
 abbrev pub retiring : List Keying → Outcome
-retiring h = record { changes = option_to_list (option_map (λ k. Retired (held h k)) (retired h)); past = ticked true ∷ h }
+retiring h =
+    record {
+      changes = option_to_list (option_map (λ k. Retired (held h k)) (retired h));
+      past = ticked true ∷ h;
+    }
 
 -- a key begins, or none does
 abbrev pub beginning : List Keying → Option Beginning → Outcome
 beginning h None = record { changes = []; past = h }
-beginning h (Some b) = record { changes = Began (shown true b.key) b.cause ∷ []; past = began b.key.epoch ∷ h }
+beginning h (Some b) =
+    record { changes = Began (shown true b.key) b.cause ∷ []; past = began b.key.epoch ∷ h }
 
 -- a station that is its own elected server leads
 abbrev pub leading : List Keying → List Report → Outcome
@@ -44,11 +51,16 @@ following h u = beginning h (follows h u)
 -- a key is installed, with its roster where this life made it, and ends others
 abbrev pub installing : List Keying → Option (List Mi) → Key → Outcome
 installing h roster k =
-    record { changes = map (λ j. Dropped (held h j)) (filter (ends (installed roster k) h) (received h)) ++ Installed (shown false k) ∷ []; past = installed roster k ∷ h }
+    record {
+      changes = map (λ j. Dropped (held h j))
+          (filter (ends (installed roster k) h) (received h)) ++ Installed (shown false k) ∷ [];
+      past = installed roster k ∷ h;
+    }
 
 -- a station that is its own elected server makes a key
 abbrev pub making : ℕ → Mi → List Keying → List Report → Bool → Secret → Outcome
-making base own h live conf sak = installing h (Some (made_roster own live)) (made_key base own h conf sak)
+making base own h live conf sak =
+    installing h (Some (made_roster own live)) (made_key base own h conf sak)
 
 -- an offered key is taken, or there is a reason why not
 abbrev pub judging : List Keying → Offer → Result Key Why → Outcome

@@ -27,7 +27,8 @@ reports i u = reports_latest i u || reports_old i u
 abbrev pub transmits : KeyId → Uses → Bool
 transmits i u = (names i u.latest && u.latest.tx) || (names i u.old && u.old.tx)
 
--- whether it says, of the key as its latest one, a lowest acceptable packet number that isn't below the limit
+-- whether it says, of the key as its latest one, a lowest acceptable packet number that isn't below
+-- the limit
 abbrev pub reaches : ℕ → KeyId → Option Uses → Bool
 reaches limit i None = false
 reaches limit i (Some u) = names i u.latest && nat_le limit u.latest.lowest

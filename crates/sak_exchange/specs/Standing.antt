@@ -1,4 +1,5 @@
--- What the state of the keys holds, and for which histories it stands (this profile's own): no other file knows of counters and maps.
+-- What the state of the keys holds, and for which histories it stands (this profile's own): no
+-- other file knows of counters and maps.
 use Rattle.std.specs.Prelude.{◌≡◌, ℕ, ◌+◌, ◌-◌, min, Bool, cond, List, Option, Some, None, option_map}
 use Rattle.std.specs.Map.{lookup}
 use Rattle.std.specs.BTreeMap.{is_at}
@@ -49,8 +50,11 @@ abbrev pub kept_of : Bool → List Keying → Key → Latest
 kept_of pending h k =
     record { key = held h k; since_begun = ticks_since_any (now pending h) (begun_at h k.epoch) }
 
--- The state stands for a history of the station's life, before which so many keys were installed: it holds the latest key and the old one of the history, and its counts, numbers and ticks are the history's. Where a tick is pending, the history ends before that tick.
-pub record StandsFor (base : ℕ) (own : Mi) (pending : Bool) (s : State) (h : List Keying) : Type 0 where
+-- The state stands for a history of the station's life, before which so many keys were installed:
+-- it holds the latest key and the old one of the history, and its counts, numbers and ticks are the
+-- history's. Where a tick is pending, the history ends before that tick.
+pub record StandsFor (base : ℕ) (own : Mi) (pending : Bool) (s : State)
+    (h : List Keying) : Type 0 where
   pub kept : Kept base h
   pub numbered : IsNumbered own h
   pub owner : s.own ≡ own

@@ -1,4 +1,5 @@
--- When a key is taken that a key server gives, and which (IEEE Std 802.1X, clause 9; the order of the reasons not to is this profile's own).
+-- When a key is taken that a key server gives, and which (IEEE Std 802.1X, clause 9; the order of
+-- the reasons not to is this profile's own).
 use Rattle.std.specs.Prelude.{ℕ, ◌==◌, nat_lt, max, Bool, true, false, cond, List, [], ◌∷◌, Option, Some, None, unwrap_or, Result, Ok, Err}
 use Rattle.lan_base.specs.declared.address.Mi.{Mi}
 use Rattle.lan_base.specs.declared.key_id.KeyId.{KeyId}
@@ -13,7 +14,8 @@ use Rattle.sak_exchange.specs.Histories.{Key, Keying, ticked, installed, began}
 use Rattle.sak_exchange.specs.Held.{allows}
 use Rattle.sak_exchange.specs.Making.{next_epoch}
 
--- the fields of what is given: the association number, the confidentiality offset (1 for none left out, 2 and 3 for 30 and 50 octets) and the key number
+-- the fields of what is given: the association number, the confidentiality offset (1 for none left
+-- out, 2 and 3 for 30 and 50 octets) and the key number
 abbrev pub an_of : Given → ℕ
 an_of (Aes128 an offset number octets) = an
 an_of (Aes256 an offset number octets) = an
@@ -44,7 +46,8 @@ abbrev pub greatest_of : Mi → List Keying → Option ℕ
 greatest_of s [] = None
 greatest_of s (ticked b ∷ h) = greatest_of s h
 greatest_of s (installed r k ∷ h) =
-    cond (same_mi k.id.server s) (Some (max k.id.number (unwrap_or (greatest_of s h) 0))) (greatest_of s h)
+    cond (same_mi k.id.server s) (Some (max k.id.number (unwrap_or (greatest_of s h) 0)))
+    (greatest_of s h)
 greatest_of s (began e ∷ h) = greatest_of s h
 
 -- what follows, where a condition holds, and else the reason
@@ -60,14 +63,22 @@ provided_new (Some kept) number rest = provided (nat_lt kept number) (Seen kept)
 -- the key that an offer installs under an epoch
 abbrev pub offered_key : ℕ → Offer → Secret → Key
 offered_key epoch o sak =
-    record { id = offered_id o; an = an_of o.given; sak = sak; conf = offset_of o.given == 1; epoch = epoch }
+    record {
+      id = offered_id o;
+      an = an_of o.given;
+      sak = sak;
+      conf = offset_of o.given == 1;
+      epoch = epoch;
+    }
 
 -- the same, or the reason that there is no SAK
 abbrev pub unwrapped_key : ℕ → Offer → Option Secret → Result Key Why
 unwrapped_key epoch o None = Err Wrap
 unwrapped_key epoch o (Some sak) = Ok (offered_key epoch o sak)
 
--- The key that an offer installs under an epoch, given the SAK that it hides, if it hides one; else the first reason why it installs none, given the greatest number of a key of its server that was installed, and whether a key may be installed.
+-- The key that an offer installs under an epoch, given the SAK that it hides, if it hides one; else
+-- the first reason why it installs none, given the greatest number of a key of its server that was
+-- installed, and whether a key may be installed.
 abbrev pub judged : Option ℕ → Bool → ℕ → Offer → Option Secret → Result Key Why
 judged kept allowed epoch o sak =
     provided o.listed NotListed (

@@ -18,9 +18,11 @@ unfoldable pub octet_lists : ℕ → List (List ℕ)
 octet_lists zero = [] ∷ []
 octet_lists (suc n) = flat_map (λ rest. map (λ octet. octet ∷ rest) (below 256)) (octet_lists n)
 
--- of all keys of so many octets, the one whose wrap under a key encrypting key this is, if there is one
+-- of all keys of so many octets, the one whose wrap under a key encrypting key this is, if there is
+-- one
 unfoldable pub unwrapped : ℕ → List ℕ → List ℕ → Option (List ℕ)
-unwrapped count kek octets = find (λ key. pointwise nat_eq (wrapped kek key) octets) (octet_lists count)
+unwrapped count kek octets =
+    find (λ key. pointwise nat_eq (wrapped kek key) octets) (octet_lists count)
 
 -- the SAK that is given, if what was given is a wrap of one
 abbrev pub given_sak : List ℕ → Given → Option Secret

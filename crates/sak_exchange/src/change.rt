@@ -23,8 +23,8 @@ pub enum Why {
     NotListed,
     /// Its announcer isn't the elected server.
     NotServer,
-    /// This life installed a key of that server, and the number offered isn't greater than `kept`, the
-    /// greatest of their key numbers.
+    /// This life installed a key of that server, and the number offered isn't greater than `kept`,
+    /// the greatest of their key numbers.
     Seen { kept: u32 },
     /// The latest key has begun and an old one is held.
     Retiring,

@@ -24,11 +24,12 @@ use std::collections::BTreeMap;
 use std::marker::Model;
 use std::rc::Rc;
 
-/// The keys that a station holds in one life, and what their rules ask of its past. Each call answers
-/// what changes. A call that answers an error, which it does for want of memory alone, changes nothing.
+/// The keys that a station holds in one life, and what their rules ask of its past. Each call
+/// answers what changes. A call that answers an error, which it does for want of memory alone,
+/// changes nothing.
 ///
-/// After each `tick` comes `drop_all` where no key server is elected then, and else `retire`; all other
-/// calls that change the keys come after that.
+/// After each `tick` comes `drop_all` where no key server is elected then, and else `retire`; all
+/// other calls that change the keys come after that.
 #[derive(Drop)]
 pub struct KeyState {
     alloc: Global,
@@ -39,8 +40,8 @@ pub struct KeyState {
     roster: Option<Rc<Vec<Mi>>>,
     /// How many keys this station installed, over all its lives.
     epochs: u32,
-    /// The greatest key number installed of each key server, once one is. Copies share the map, and an
-    /// install puts another in its place.
+    /// The greatest key number installed of each key server, once one is. Copies share the map, and
+    /// an install puts another in its place.
     numbers: Option<Rc<BTreeMap<Mi, u32>>>,
     /// How many keys this life made.
     made: u32,
@@ -73,8 +74,9 @@ impl Model for KeyState {
 }
 
 impl KeyState {
-    /// The keys of a life that begins, at a station that installed so many keys in its earlier lives. An
-    /// empty state takes no memory, so this never answers an error; a state that reserves some may.
+    /// The keys of a life that begins, at a station that installed so many keys in its earlier
+    /// lives. An empty state takes no memory, so this never answers an error; a state that reserves
+    /// some may.
     pub fn new(alloc: Global, own: Mi, epochs: u32) -> Result<KeyState, AllocError>
         ensures stands { IfOk result (λ s. StandsFor epochs own (false) s []) }
         ensures prompt { IsOk result }
@@ -149,7 +151,8 @@ impl KeyState {
         self.epochs
     }
 
-    /// The latest key. Between a tick and what follows it, this and the next two answer as before the tick.
+    /// The latest key. Between a tick and what follows it, this and the next two answer as before
+    /// the tick.
     pub fn latest(&self) -> Option<HeldKey>
         ensures { (base : ℕ) (own : Mi) (pending : Bool) (h : List Keying) →
             StandsFor base own pending self.now h → result ≡ option_map (held h) (latest_after h) }
@@ -168,7 +171,8 @@ impl KeyState {
     /// The key under which frames are sent.
     pub fn transmitting(&self) -> Option<HeldKey>
         ensures { (base : ℕ) (own : Mi) (pending : Bool) (h : List Keying) →
-            StandsFor base own pending self.now h → result ≡ option_map (held h) (transmitting_after h) }
+            StandsFor base own pending self.now h → result
+            ≡ option_map (held h) (transmitting_after h) }
     {
         self.current()
     }

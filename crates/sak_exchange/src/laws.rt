@@ -22,7 +22,8 @@ pub fn law_received_is()
 
 /// At most two keys are received: the latest one, which is the key installed last, and the old one.
 pub fn law_at_most_two_are_received()
-    ensures both { (base : ℕ) (h : List Keying) → Kept base h → received h ≡ both (latest h) (old h) }
+    ensures both { (base : ℕ) (h : List Keying) → Kept base h
+        → received h ≡ both (latest h) (old h) }
     ensures most { (base : ℕ) (h : List Keying) → Kept base h → length (received h) ≤ 2 }
     ensures last { (base : ℕ) (h : List Keying) (l : Key) → Kept base h → latest h ≡ Some l →
         last_key h ≡ Some l }
@@ -36,26 +37,28 @@ pub fn law_an_old_key_has_begun()
         IsTrue (has_begun h o.epoch) }
     ensures after { (base : ℕ) (h : List Keying) (o : Key) (e : ℕ) → Kept base h → old h ≡ Some o →
         IsTrue (has_begun h e) → o.epoch < e → (l : Key) × (latest h ≡ Some l) × (l.epoch ≡ e) }
-    ensures latest { (base : ℕ) (h : List Keying) (l : Key) (e : ℕ) → Kept base h → latest h ≡ Some l →
+    ensures latest { (base : ℕ) (h : List Keying) (l : Key) (e : ℕ) → Kept base h
+        → latest h ≡ Some l →
         IsTrue (has_begun h e) → e ≤ l.epoch }
 {}
 
 /// The latest key and the old one have different association numbers.
 pub fn law_two_keys_have_two_numbers()
-    ensures { (base : ℕ) (h : List Keying) (l o : Key) → Kept base h → latest h ≡ Some l → old h ≡ Some o →
+    ensures { (base : ℕ) (h : List Keying) (l o : Key) → Kept base h → latest h ≡ Some l
+        → old h ≡ Some o →
         l.an ≢ o.an }
 {}
 
-/// The epochs of the keys that begin rise, so that each begins at most once; and what has begun stays
-/// begun.
+/// The epochs of the keys that begin rise, so that each begins at most once; and what has begun
+/// stays begun.
 pub fn law_begun_epochs_rise()
     ensures fall { (base : ℕ) (h : List Keying) → Kept base h → IsFalling (beginnings h) }
     ensures stay { (new earlier : List Keying) (e : ℕ) → IsTrue (has_begun earlier e) →
         IsTrue (has_begun (new ++ earlier) e) }
 {}
 
-/// While nothing is installed and a key server stays elected, the latest key is received and stays the
-/// latest one; nothing else comes to be received.
+/// While nothing is installed and a key server stays elected, the latest key is received and stays
+/// the latest one; nothing else comes to be received.
 pub fn law_the_latest_key_is_received()
     ensures latest { (base : ℕ) (new earlier : List Keying) (l : Key) → Kept base (new ++ earlier) →
         IsQuiet new → latest earlier ≡ Some l → latest (new ++ earlier) ≡ Some l }
@@ -63,8 +66,8 @@ pub fn law_the_latest_key_is_received()
         Has k (received (new ++ earlier)) → Has k (received earlier) }
 {}
 
-/// While nothing is installed and a key server stays elected, the old key is received and stays the old one
-/// until the latest one began the retire time ago.
+/// While nothing is installed and a key server stays elected, the old key is received and stays the
+/// old one until the latest one began the retire time ago.
 pub fn law_the_old_key_is_received()
     ensures { (base : ℕ) (new earlier : List Keying) (l o : Key) → Kept base (new ++ earlier) →
         IsQuiet new → latest earlier ≡ Some l → old earlier ≡ Some o →
@@ -78,11 +81,12 @@ pub fn law_transmitting_is()
         IsTrue (has_begun h l.epoch) → transmitting h ≡ Some l }
     ensures unbegun { (base : ℕ) (h : List Keying) (l : Key) → Kept base h → latest h ≡ Some l →
         IsFalse (has_begun h l.epoch) → transmitting h ≡ old h }
-    ensures none { (base : ℕ) (h : List Keying) → Kept base h → latest h ≡ None → transmitting h ≡ None }
+    ensures none { (base : ℕ) (h : List Keying) → Kept base h → latest h ≡ None
+        → transmitting h ≡ None }
 {}
 
-/// After an install the new key is the latest one, and the key that transmitted is the old one, if its
-/// association number is another.
+/// After an install the new key is the latest one, and the key that transmitted is the old one, if
+/// its association number is another.
 pub fn law_an_install_leaves_what_transmits()
     ensures latest { (base : ℕ) (h : List Keying) (r : Option (List Mi)) (k : Key) →
         Kept base (installed r k ∷ h) → latest (installed r k ∷ h) ≡ Some k }
@@ -90,10 +94,11 @@ pub fn law_an_install_leaves_what_transmits()
         Kept base (installed r k ∷ h) → old (installed r k ∷ h) ≡ apart k.an (transmitting h) }
 {}
 
-/// At a tick with an elected server the latest key stays, and the old one is what is left where it is not
-/// retired.
+/// At a tick with an elected server the latest key stays, and the old one is what is left where it
+/// is not retired.
 pub fn law_a_tick_retires()
-    ensures latest { (base : ℕ) (h : List Keying) → Kept base h → latest (ticked true ∷ h) ≡ latest h }
+    ensures latest { (base : ℕ) (h : List Keying) → Kept base h
+        → latest (ticked true ∷ h) ≡ latest h }
     ensures retired { (base : ℕ) (h : List Keying) (o : Key) → Kept base h → retired h ≡ Some o →
         old (ticked true ∷ h) ≡ None }
     ensures kept { (base : ℕ) (h : List Keying) → Kept base h → retired h ≡ None →
@@ -110,10 +115,11 @@ pub fn law_epochs_rise()
     ensures { (base : ℕ) (h : List Keying) → Kept base h → IsFalling (epochs h) }
 {}
 
-/// The numbers of the keys of one key server that a life installs rise, and no two of its keys have one
-/// identifier, where none with the station's own identifier was taken.
+/// The numbers of the keys of one key server that a life installs rise, and no two of its keys have
+/// one identifier, where none with the station's own identifier was taken.
 pub fn law_key_numbers_rise()
-    ensures numbers { (own server : Mi) (h : List Keying) → IsNumbered own h → TakesNoneOfOwn own h →
+    ensures numbers { (own server : Mi) (h : List Keying) → IsNumbered own h
+        → TakesNoneOfOwn own h →
         IsFalling (numbers_of server h) }
     ensures identifiers { (own : Mi) (h : List Keying) → IsNumbered own h → TakesNoneOfOwn own h →
         AllDiffer (identifiers h) }
@@ -122,7 +128,8 @@ pub fn law_key_numbers_rise()
 /// The key that an unwrapping answers is the one whose wrap was given.
 pub fn law_unwrapped_is_the_key()
     ensures { (count : ℕ) (kek octets key : List ℕ) → IsKey kek → 8 ≤ count →
-        ((unwrapped count kek octets ≡ Some key) ↔ (IsOctets count key × (wrapped kek key ≡ octets))) }
+        ((unwrapped count kek octets ≡ Some key)
+        ↔ (IsOctets count key × (wrapped kek key ≡ octets))) }
 {
     law_one_key_for_one_wrap();
 }

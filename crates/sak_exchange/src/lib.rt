@@ -1,6 +1,6 @@
-//! Which secure association keys a station holds (IEEE Std 802.1X, clause 9): when its key server makes
-//! one, who takes it, when it begins to transmit and when the old one goes, proved against the history
-//! of one life of the station.
+//! Which secure association keys a station holds (IEEE Std 802.1X, clause 9): when its key server
+//! makes one, who takes it, when it begins to transmit and when the old one goes, proved against
+//! the history of one life of the station.
 #![tactic(auto)]
 
 mod change;

@@ -36,8 +36,8 @@ impl Report {
         }
     }
 
-    /// Whether it says, of the key as its latest one, a lowest acceptable packet number that isn't below
-    /// the limit.
+    /// Whether it says, of the key as its latest one, a lowest acceptable packet number that isn't
+    /// below the limit.
     pub(crate) fn reaches(&self, limit: u32, id: &KeyId) -> bool
         ensures { result ≡ reaches limit id.now self.now.uses }
     {
@@ -55,7 +55,8 @@ pub(crate) fn names(used: &KeyUse, id: &KeyId) -> bool
     used.server == id.server && used.number == id.number
 }
 
-/// Whether the uses say that their announcer transmits under the key, as its latest one or its old one.
+/// Whether the uses say that their announcer transmits under the key, as its latest one or its old
+/// one.
 pub(crate) fn transmits(uses: &Uses, id: &KeyId) -> bool
     ensures { result ≡ transmits id.now uses.now }
 {

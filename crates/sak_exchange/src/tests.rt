@@ -35,8 +35,8 @@ enum Step {
     Makes(&'static [(u8, u32)], bool, &'static [Told]),
     /// Its server, member 1, says that it transmits under its key of this number.
     Follows(u32, &'static [Told]),
-    /// Member 1 gives a key of this number: its association number and offset, and whether it lists the
-    /// station and is elected.
+    /// Member 1 gives a key of this number: its association number and offset, and whether it lists
+    /// the station and is elected.
     Takes(u32, u8, u8, bool, bool, &'static [Told]),
 }
 

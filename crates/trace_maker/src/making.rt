@@ -27,8 +27,8 @@ pub fn make(alloc: Global, number: u32, into: &mut Vec<u8>) -> Result<(), AllocE
     result
 }
 
-/// Appends the trace that is made of a number. An `Err` leaves what was there, and may leave a front
-/// of the trace behind it.
+/// Appends the trace that is made of a number. An `Err` leaves what was there, and may leave a
+/// front of the trace behind it.
 fn put_lines(alloc: Global, number: u32, into: &mut Vec<u8>) -> Result<(), AllocError>
     ensures ok { OnOk result (into.new.items ≡ into.old.items ++ made number) }
     ensures err { OnErr result (Grew into.old.items into.new.items) }

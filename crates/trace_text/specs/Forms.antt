@@ -6,7 +6,8 @@ use Rattle.trace_text.specs.declared.line.Line.{Line}
 use Rattle.trace_text.specs.declared.line.Line.TheVariants.{DrawsCount, DrawsChaCha, DrawsList, Conf, Window, Rekey, Lag, Suite, Group, Station, Tick, TickOne, Flow, Deliver, Spread, Lose, Cut, Mend, Restart, Send, Race, Burst, While, End, Inject, Feed}
 
 infixr 5 ◌⇒◌
--- the words that follow, from the left: none more, and the line that is made; one word, and what follows where it says this; or blocks of 16 octets to the end
+-- the words that follow, from the left: none more, and the line that is made; one word, and what
+-- follows where it says this; or blocks of 16 octets to the end
 pub data Row : Type 0 where
   makes : Line → Row
   ◌⇒◌ : (k : Kind) → (Said k → Row) → Row

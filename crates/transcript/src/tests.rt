@@ -22,7 +22,8 @@ const ID: KeyId = KeyId {
     number: 2,
 };
 
-/// Facts of worked traces without octets, and their lines: the first key, a spent key, a data frame.
+/// Facts of worked traces without octets, and their lines: the first key, a spent key, a data
+/// frame.
 const WORKED: [(Fact, &str); 15] = [
     (
         Fact::Life {

@@ -13,7 +13,8 @@ use Rattle.association_slots.specs.declared.worker_seat.Known.{Known}
 
 -- the first number, the room for cards, how many epochs have one, the epoch pointed at last, which
 -- numbers are out, and for each number the greatest epoch that its seats told as over
-pub record ControlKept (table : TableId) (me : Me ℕ View) (first limit given last : ℕ) (out : List Bool) (overshot : List ℕ) : Type 0 where
+pub record ControlKept (table : TableId) (me : Me ℕ View) (first limit given last : ℕ)
+    (out : List Bool) (overshot : List ℕ) : Type 0 where
   pub is : me ≡ (Control (control_of me.0), [])
   pub first_is : first ≡ (control_of me.0).first
   pub limit_is : (limit ≡ (control_of me.0).limit) × (limit ≤ 4096) × (table.words ≡ 5 + 5 * limit)
@@ -33,11 +34,13 @@ abbrev pub IsKnown : List (ℕ × ℕ) → Option Known → Type 0
 IsKnown reads None = Unit {0}
 IsKnown reads (Some k) = ((i : ℕ) → i < 5
     → IsTrue (was_read reads (5 * k.epoch + i) (slice_index k.words i)))
-    × (k.card ≡ card_in (slice_index k.words 0) (slice_index k.words 1) (slice_index k.words 2) (slice_index k.words 3) (slice_index k.words 4))
+    × (k.card ≡ card_in (slice_index k.words 0) (slice_index k.words 1) (slice_index k.words 2)
+    (slice_index k.words 3) (slice_index k.words 4))
 
 -- its number, what it was shown, the greatest epoch that it or a seat of its number before
 -- overshot, and the last card that it read
-pub record SeatKept (table : TableId) (me : Me ℕ View) (number : ℕ) (shown : Current) (overshot : ℕ) (known : Option Known) : Type 0 where
+pub record SeatKept (table : TableId) (me : Me ℕ View) (number : ℕ) (shown : Current) (overshot : ℕ)
+    (known : Option Known) : Type 0 where
   pub is : me ≡ (Seat (seat_of me.0), [])
   pub number_is : (number ≡ (seat_of me.0).number) × (0 < number) × (number < 9)
   pub limit_is : ((seat_of me.0).limit ≤ 4096) × (table.words ≡ 5 + 5 * (seat_of me.0).limit)
@@ -49,4 +52,9 @@ pub record SeatKept (table : TableId) (me : Me ℕ View) (number : ℕ) (shown :
 
 -- the seat read the five words of the card of the epoch, the last one last
 abbrev pub read_five : SeatView → ℕ → List ℕ → SeatView
-read_five v epoch words = record v { reads = (5 * epoch + 4, slice_index words 4) ∷ (5 * epoch + 3, slice_index words 3) ∷ (5 * epoch + 2, slice_index words 2) ∷ (5 * epoch + 1, slice_index words 1) ∷ (5 * epoch, slice_index words 0) ∷ v.reads }
+read_five v epoch words =
+    record v {
+      reads = (5 * epoch + 4, slice_index words 4) ∷ (5 * epoch + 3, slice_index words 3)
+          ∷ (5 * epoch + 2, slice_index words 2) ∷ (5 * epoch + 1, slice_index words 1)
+          ∷ (5 * epoch, slice_index words 0) ∷ v.reads;
+    }

@@ -55,7 +55,10 @@ Loads st m found m' = (m' ≡ (Seat (loaded (seat_of m.0) (shown_by found)), m.1
 -- and the slot's next number was not below what the seat was given
 abbrev pub Adds : At → Holder → ℕ → Holder → Type 0
 Adds st m found m' =
-    (m' ≡ (Seat (added (seat_of m.0) (epoch_of found) (answer (seat_of m.0).shown.epoch found)), m.1))
+    (m' ≡ (
+      Seat (added (seat_of m.0) (epoch_of found) (answer (seat_of m.0).shown.epoch found)),
+      m.1,
+    ))
     × ((f : NextSeen) → In f (seat_of m.0).start.given → f.an ≡ (seat_of m.0).shown.an
     → f.epoch ≡ (seat_of m.0).shown.epoch → flag_of found ≡ false
     → epoch_of found ≡ (seat_of m.0).shown.epoch → f.next ≤ next_of found)

@@ -11,7 +11,8 @@ times_power (suc n) v = times_power n (times_x reduction v)
 
 -- a row for every four bits: their product with a block
 unfoldable pub AreProducts : List Bool → List ℕ → Type 0
-AreProducts v rows = (n : ℕ) → n < 16 → block_bits (slice_index rows n) ≡ product reduction (four_places n) v
+AreProducts v rows =
+    (n : ℕ) → n < 16 → block_bits (slice_index rows n) ≡ product reduction (four_places n) v
 
 -- the rows of a hash key, and of its products with x ^ 32, x ^ 64 and x ^ 96
 pub record IsTable (h : ℕ) (one two three four : List ℕ) : Type 0 where

@@ -7,4 +7,5 @@ use Rattle.mkpdu_codec.specs.declared.spelled.Spelled.{Spelled}
 -- whether what octets spell has this name, and a check value that is right under this key
 abbrev pub is_of_group : List ℕ → List ℕ → List ℕ → Spelled → Bool
 is_of_group ckn ick octets s =
-    pointwise nat_eq s.announcement.ckn ckn && pointwise nat_eq s.check (cmac ick (take s.covered octets))
+    pointwise nat_eq s.announcement.ckn ckn
+    && pointwise nat_eq s.check (cmac ick (take s.covered octets))

@@ -9,4 +9,5 @@ use Rattle.lan_core.specs.Standing.{Numbers, number_of_mi, number_of_sak}
 pub record SakIsKept (number : ℕ) (old new : Numbers) (sak : Secret) : Type 0 where
   pub count : new.count ≡ old.count
   pub mis : (m : Mi) → number_of_mi new m ≡ number_of_mi old m
-  pub saks : (s : Secret) → number_of_sak new s ≡ cond (same_secret s sak) (Some number) (number_of_sak old s)
+  pub saks : (s : Secret) → number_of_sak new s
+      ≡ cond (same_secret s sak) (Some number) (number_of_sak old s)

@@ -19,9 +19,10 @@ installs_in [] = 0
 installs_in (facts.Installed station id an epoch sak ∷ later) = installs_in later + 1
 installs_in (_ ∷ later) = installs_in later
 
--- Among seats, that of one place now stands for a life and what its slots received, and has so many installs; the
--- others are as before.
-pub record IsMoved (window : ℕ) (l : Life) (h : List Receiving) (s : ℕ) (old new : List Seat) (count : ℕ) : Type 0 where
+-- Among seats, that of one place now stands for a life and what its slots received, and has so many
+-- installs; the others are as before.
+pub record IsMoved (window : ℕ) (l : Life) (h : List Receiving) (s : ℕ) (old new : List Seat)
+    (count : ℕ) : Type 0 where
   pub seat : Seat
   pub there : slice_get new s ≡ Some seat
   pub others : (t : ℕ) → t ≢ s → slice_get new t ≡ slice_get old t
@@ -29,25 +30,31 @@ pub record IsMoved (window : ℕ) (l : Life) (h : List Receiving) (s : ℕ) (old
   pub installs : seat.installs ≡ count
 
 -- a tick at a station
-pub record Ticks (settings : Settings) (r : Run) (s : ℕ) (seat : Seat) (l : Life) (next : ℕ) (before after : ℕ → Option (List ℕ))
+pub record Ticks (settings : Settings) (r : Run) (s : ℕ) (seat : Seat) (l : Life) (next : ℕ)
+    (before after : ℕ → Option (List ℕ))
     (old new : List Seat) (came : Came) : Type 0 where
   pub facts : came.facts ≡ tick_facts settings s r next (sak_of l.member.setup.suite before) l
   pub counted : came.installs ≡ seat.installs + installs_in came.facts
-  pub moved : IsMoved settings.window (lived_ticking settings s r next (sak_of l.member.setup.suite before) l)
+  pub moved : IsMoved settings.window (lived_ticking settings s r next
+      (sak_of l.member.setup.suite before) l)
       (gather (slot_change s) came.facts (receiving s r)) s old new came.installs
   pub enough : is_short l.member l.past (seen_at settings s r l next) before ≡ false
-  pub drawn : (k : ℕ) → after k ≡ before (k + draws_at l.member l.past (seen_at settings s r l next))
+  pub drawn : (k : ℕ) → after k ≡ before (k
+      + draws_at l.member l.past (seen_at settings s r l next))
 
 -- octets reach a station
-pub record Reaches (settings : Settings) (r : Run) (s : ℕ) (seat : Seat) (l : Life) (number : ℕ) (octets : List ℕ)
+pub record Reaches (settings : Settings) (r : Run) (s : ℕ) (seat : Seat) (l : Life) (number : ℕ)
+    (octets : List ℕ)
     (old new : List Seat) (came : Came) : Type 0 where
   pub facts : came.facts ≡ reached_facts settings s r number octets l
   pub counted : came.installs ≡ seat.installs + installs_in came.facts
   pub moved : IsMoved settings.window (lived_hearing l octets)
-      (gather (slot_change s) came.facts (heard_data octets (receiving s r))) s old new came.installs
+      (gather (slot_change s) came.facts (heard_data octets
+      (receiving s r))) s old new came.installs
 
 -- a station starts again
-pub record Restarts (settings : Settings) (r : Run) (s : ℕ) (seat : Seat) (l : Life) (draw : List ℕ) (old new : List Seat)
+pub record Restarts (settings : Settings) (r : Run) (s : ℕ) (seat : Seat) (l : Life) (draw : List ℕ)
+    (old new : List Seat)
     (came : Came) : Type 0 where
   pub facts : came.facts ≡ restart_facts s (drawn_mi draw) l
   pub counted : came.installs ≡ seat.installs + installs_in came.facts

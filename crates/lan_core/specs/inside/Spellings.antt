@@ -30,10 +30,12 @@ has_octets lists octets = list_any (pointwise nat_eq octets) lists
 
 -- a list has what another has, and these octets, if there are any
 abbrev pub Gains : Option (List ℕ) → List (List ℕ) → List (List ℕ) → Type 0
-Gains more old new = (octets : List ℕ) → has_octets new octets ≡ (has_octets old octets || is_this octets more)
+Gains more old new =
+    (octets : List ℕ) → has_octets new octets ≡ (has_octets old octets || is_this octets more)
 
 -- the index of frames: how many octets they have, and what they spell
 pub record IsIndex (frames : List (List ℕ)) (count : ℕ) (spelled : List (List ℕ)) : Type 0 where
   pub octets : count ≡ sum (map length frames)
   pub short : All (λ frame. length frame ≤ 65536) frames
-  pub spellings : (octets : List ℕ) → has_octets spelled octets ≡ list_any (λ frame. is_this octets (spelling frame)) frames
+  pub spellings : (octets : List ℕ) → has_octets spelled octets
+      ≡ list_any (λ frame. is_this octets (spelling frame)) frames

@@ -29,13 +29,16 @@ pub record GoesOn (settings : Settings) (users : List UserFrame) (r : Run) (even
   pub drawn : (k : ℕ) → after k ≡ before (k + draws_needed settings r event)
 
 -- a step goes on, or is refused by the first stop, or for want of memory
-abbrev pub Answers : Settings → List UserFrame → Run → Event → (ℕ → Option (List ℕ)) → (ℕ → Option (List ℕ)) → State
+abbrev pub Answers : Settings → List UserFrame → Run → Event → (ℕ → Option (List ℕ))
+    → (ℕ → Option (List ℕ)) → State
     → Result (List Fact) Stop → Type 0
-Answers settings users r event before after lan (Ok facts) = GoesOn settings users r event before after lan facts
+Answers settings users r event before after lan (Ok facts) =
+    GoesOn settings users r event before after lan facts
 Answers settings users r event before after lan (Err stop) =
     (stop ≡ Memory) ⊎ (first_stop settings users r event before ≡ Some stop)
 
--- the first limit that is passed by so many frames and octets on the air, ticks, installs at a station, and stations
+-- the first limit that is passed by so many frames and octets on the air, ticks, installs at a
+-- station, and stations
 abbrev pub passed_by : ℕ → ℕ → ℕ → ℕ → ℕ → Option Which
 passed_by frames octets ticks installs stations =
     cond (nat_lt most_frames frames) (Some Frames)
@@ -67,21 +70,25 @@ stop_of drawn before = option_map (λ first. RepeatedDraw first (drawn.count + 1
 -- a member identifier was drawn
 pub record MiIsNoted (old new : Numbers) (mi : Mi) : Type 0 where
   pub count : new.count ≡ old.count + 1
-  pub mis : (m : Mi) → number_of_mi new m ≡ cond (same_mi m mi) (Some (old.count + 1)) (number_of_mi old m)
+  pub mis : (m : Mi) → number_of_mi new m
+      ≡ cond (same_mi m mi) (Some (old.count + 1)) (number_of_mi old m)
   pub saks : (sak : Secret) → number_of_sak new sak ≡ number_of_sak old sak
 
 -- a key was drawn, by so many draws
 pub record SakIsNoted (draws : ℕ) (old new : Numbers) (sak : Secret) : Type 0 where
   pub count : new.count ≡ old.count + draws
   pub mis : (m : Mi) → number_of_mi new m ≡ number_of_mi old m
-  pub saks : (s : Secret) → number_of_sak new s ≡ cond (same_secret s sak) (Some (old.count + 1)) (number_of_sak old s)
+  pub saks : (s : Secret) → number_of_sak new s
+      ≡ cond (same_secret s sak) (Some (old.count + 1)) (number_of_sak old s)
 
 -- a key was drawn, if any
 abbrev pub IfNoted : ℕ → Numbers → Numbers → Option Secret → Type 0
 IfNoted draws old new None = new ≡ old
 IfNoted draws old new (Some sak) = SakIsNoted draws old new sak
 
--- what a claim of a packet number shows, 0 where it got none, at a station that transmits under this key
+-- what a claim of a packet number shows, 0 where it got none, at a station that transmits under
+-- this key
 abbrev pub claim_shown : ℕ → ℕ → Option HeldKey → Fact
 claim_shown s pn None = facts.Unclaimed s NoKey
-claim_shown s pn (Some k) = cond (pn == 0) (facts.Unclaimed s (Exhausted k.epoch)) (facts.Claimed s k.an k.epoch pn)
+claim_shown s pn (Some k) =
+    cond (pn == 0) (facts.Unclaimed s (Exhausted k.epoch)) (facts.Claimed s k.an k.epoch pn)

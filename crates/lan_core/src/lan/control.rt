@@ -44,7 +44,8 @@ impl Lan {
             → MayCome settings users r None (events.Start name sci priority)
             → Answers settings users r (events.Start name sci priority)
             (D.nth draws.old) (D.nth draws.new) self.new result }
-        ensures shown { OnErr result ((self.new.air ≡ self.old.air) × (self.new.names ≡ self.old.names)) }
+        ensures shown { OnErr result ((self.new.air ≡ self.old.air)
+            × (self.new.names ≡ self.old.names)) }
     {
         let draw = draws.draw().ok_or(Stop::DrawsSpent)?;
         let place = free_place(self.names.len())?;
@@ -60,7 +61,8 @@ impl Lan {
     /// A station in its first life, which begins with this draw.
     fn member(&self, sci: Sci, priority: u8, draw: [u8; 16]) -> Result<Member, Stop>
         ensures member { IfOk result (Sits self.now.settings.window (record {
-          member = born (setup_of self.now.settings (record { name = []; sci = sci; priority = priority })) 0 draw;
+          member = born (setup_of self.now.settings
+              (record { name = []; sci = sci; priority = priority })) 0 draw;
           past = [];
         }) []) }
         ensures memory { IfErr result (λ stop. stop ≡ Stop.Memory) }
@@ -90,7 +92,8 @@ impl Lan {
             → MayCome settings users r None (events.Tick station next)
             → Answers settings users r (events.Tick station next)
             (D.nth draws.old) (D.nth draws.new) self.new result }
-        ensures shown { OnErr result ((self.new.air ≡ self.old.air) × (self.new.names ≡ self.old.names)) }
+        ensures shown { OnErr result ((self.new.air ≡ self.old.air)
+            × (self.new.names ≡ self.old.names)) }
     {
         let number = self.air.next_number()?;
         let Some(came) = self.members.tick(station, number, next, draws)? else {
@@ -103,17 +106,21 @@ impl Lan {
     /// What a tick shows is judged, counted, and put on the air.
     fn count_tick(&mut self, came: &Came) -> Result<(), Stop>
         ensures judges { Judges (option_or
-            (option_map Limit (passed_with (self.old.air ++ option_to_list (sent_in came.now.facts)) (self.old.ticks + 1)
+            (option_map Limit (passed_with (self.old.air ++ option_to_list (sent_in came.now.facts))
+            (self.old.ticks + 1)
             came.now.installs (length self.old.names)))
-            (stop_of self.old.drawn (option_and_then (number_of_sak self.old.drawn) (drawn_sak came.now.facts)))) result }
+            (stop_of self.old.drawn (option_and_then (number_of_sak self.old.drawn)
+            (drawn_sak came.now.facts)))) result }
         ensures ticked { OnOk result (self.new ≡ record self.old {
           air = self.old.air ++ option_to_list (sent_in came.now.facts);
           ticks = self.old.ticks + 1;
           drawn = self.new.drawn;
         }) }
-        ensures drawn { OnOk result (IfNoted (draws_for self.old.settings.suite) self.old.drawn self.new.drawn
+        ensures drawn { OnOk result
+            (IfNoted (draws_for self.old.settings.suite) self.old.drawn self.new.drawn
             (drawn_sak came.now.facts)) }
-        ensures shown { OnErr result ((self.new.air ≡ self.old.air) × (self.new.names ≡ self.old.names)) }
+        ensures shown { OnErr result ((self.new.air ≡ self.old.air)
+            × (self.new.names ≡ self.old.names)) }
     {
         let sent = came.sent();
         let ticks = self.ticks.checked_add(1).ok_or(Stop::Memory)?;
@@ -128,8 +135,10 @@ impl Lan {
         ensures answers { (settings : Settings) (users : List UserFrame) (r : Run)
             → StandsFor settings users self.old r
             → MayCome settings users r None (events.Restart station)
-            → Answers settings users r (events.Restart station) (D.nth draws.old) (D.nth draws.new) self.new result }
-        ensures shown { OnErr result ((self.new.air ≡ self.old.air) × (self.new.names ≡ self.old.names)) }
+            → Answers settings users r (events.Restart station) (D.nth draws.old)
+            (D.nth draws.new) self.new result }
+        ensures shown { OnErr result ((self.new.air ≡ self.old.air)
+            × (self.new.names ≡ self.old.names)) }
     {
         let draw = draws.draw().ok_or(Stop::DrawsSpent)?;
         note_mi(&mut self.drawn, mi_of(draw))?;

@@ -28,8 +28,8 @@ use std::alloc::Global;
 const WIDE: u16 = 256;
 
 impl Lan {
-    /// How far the group comes with a frame more, if there is one, with so many ticks, and with so many
-    /// installs at a station.
+    /// How far the group comes with a frame more, if there is one, with so many ticks, and with so
+    /// many installs at a station.
     pub(super) fn extent(
         &self,
         sent: Option<&Octets>,
@@ -95,7 +95,8 @@ pub fn note_mi(drawn: &mut Drawn, mi: Mi) -> Result<(), Stop>
 
 /// A key is drawn, if one was made. One that was drawn before stops the group.
 pub fn note_sak(drawn: &mut Drawn, suite: u16, sak: Option<Secret>) -> Result<(), Stop>
-    ensures judges { Judges (stop_of drawn.old (option_and_then (number_of_sak drawn.old) sak)) result }
+    ensures judges { Judges (stop_of drawn.old
+        (option_and_then (number_of_sak drawn.old) sak)) result }
     ensures noted { OnOk result (IfNoted (draws_for suite) drawn.old drawn.new sak) }
 {
     let Some(sak) = sak else {

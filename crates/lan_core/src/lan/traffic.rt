@@ -31,11 +31,13 @@ use std::alloc::AllocError;
 impl Lan {
     /// A frame of the air reaches a station.
     pub(super) fn deliver(&mut self, frame: u32, station: u8) -> Result<Facts, Stop>
-        ensures answers { (settings : Settings) (users : List UserFrame) (r : Run) (nth : ℕ → Option (List ℕ))
+        ensures answers { (settings : Settings) (users : List UserFrame) (r : Run)
+            (nth : ℕ → Option (List ℕ))
             → StandsFor settings users self.old r
             → MayCome settings users r None (events.Deliver frame station)
             → Answers settings users r (events.Deliver frame station) nth nth self.new result }
-        ensures shown { OnErr result ((self.new.air ≡ self.old.air) × (self.new.names ≡ self.old.names)) }
+        ensures shown { OnErr result ((self.new.air ≡ self.old.air)
+            × (self.new.names ≡ self.old.names)) }
     {
         let Some(octets) = self.air.frame(frame) else {
             return Ok(Facts::new(self.alloc));
@@ -54,11 +56,13 @@ impl Lan {
         pn: u32,
         user: Option<&UserFrame>,
     ) -> Result<Facts, Stop>
-        ensures answers { (settings : Settings) (users : List UserFrame) (r : Run) (nth : ℕ → Option (List ℕ)) (number : ℕ)
+        ensures answers { (settings : Settings) (users : List UserFrame) (r : Run)
+            (nth : ℕ → Option (List ℕ)) (number : ℕ)
             → StandsFor settings users self.old r
             → MayCome settings users r (option_copied user.entry) (events.Claim station number pn)
             → Answers settings users r (events.Claim station number pn) nth nth self.new result }
-        ensures shown { OnErr result ((self.new.air ≡ self.old.air) × (self.new.names ≡ self.old.names)) }
+        ensures shown { OnErr result ((self.new.air ≡ self.old.air)
+            × (self.new.names ≡ self.old.names)) }
     {
         let Some(member) = self.members.get(station) else {
             return Ok(Facts::new(self.alloc));
@@ -72,10 +76,12 @@ impl Lan {
 
     /// The oldest frame that waits is put on the air.
     pub(super) fn emit(&mut self) -> Result<Facts, Stop>
-        ensures answers { (settings : Settings) (users : List UserFrame) (r : Run) (nth : ℕ → Option (List ℕ))
+        ensures answers { (settings : Settings) (users : List UserFrame) (r : Run)
+            (nth : ℕ → Option (List ℕ))
             → StandsFor settings users self.old r → MayCome settings users r None events.Emit
             → Answers settings users r events.Emit nth nth self.new result }
-        ensures shown { OnErr result ((self.new.air ≡ self.old.air) × (self.new.names ≡ self.old.names)) }
+        ensures shown { OnErr result ((self.new.air ≡ self.old.air)
+            × (self.new.names ≡ self.old.names)) }
     {
         let number = self.air.next_number()?;
         let Some(frame) = self.waiting.pop() else {
@@ -98,11 +104,13 @@ impl Lan {
 
     /// Foreign octets reach a station.
     pub(super) fn inject(&mut self, station: u8, octets: &[u8]) -> Result<Facts, Stop>
-        ensures answers { (settings : Settings) (users : List UserFrame) (r : Run) (nth : ℕ → Option (List ℕ))
+        ensures answers { (settings : Settings) (users : List UserFrame) (r : Run)
+            (nth : ℕ → Option (List ℕ))
             → StandsFor settings users self.old r
             → MayCome settings users r None (events.Inject station octets.now)
             → Answers settings users r (events.Inject station octets.now) nth nth self.new result }
-        ensures shown { OnErr result ((self.new.air ≡ self.old.air) × (self.new.names ≡ self.old.names)) }
+        ensures shown { OnErr result ((self.new.air ≡ self.old.air)
+            × (self.new.names ≡ self.old.names)) }
     {
         if octets.len() > MOST_INJECTED {
             return Ok(Facts::new(self.alloc));
@@ -143,7 +151,8 @@ fn claim_fact(station: u8, pn: u32, key: Option<HeldKey>) -> Fact
 /// The frame of a claim that got a packet number, protected under the key that transmits.
 fn sealed(member: &Member, pn: u32, user: Option<&UserFrame>) -> Result<Option<Octets>, AllocError>
     ensures none { pn ≡ 0 → IfOk result (λ octets. octets ≡ None) }
-    ensures octets { (window : ℕ) (l : Life) (h : List Receiving) (given : UserFrame) → Sits window l h member.now
+    ensures octets { (window : ℕ) (l : Life) (h : List Receiving) (given : UserFrame)
+        → Sits window l h member.now
         → 1 ≤ pn → option_copied user.entry ≡ Some given → IsUserData given.body
         → IfOk result (λ octets. octets ≡ option_map (λ k. protected (secret_octets k.sak)
         l.member.setup.sci k.an pn k.conf given) (transmitting (keys_in l))) }

@@ -33,7 +33,16 @@ abbrev pub set_of : ParameterSet → Set
 set_of s = record { kind = s.kind; second = s.second; flags = s.flags; body = s.body.now }
 
 abbrev pub basics_of : Basic → Basics
-basics_of b = record { priority = b.priority; server = b.server; sci = b.sci; mi = b.mi; mn = b.mn; agility = b.agility; ckn = b.ckn.now }
+basics_of b =
+    record {
+      priority = b.priority;
+      server = b.server;
+      sci = b.sci;
+      mi = b.mi;
+      mn = b.mn;
+      agility = b.agility;
+      ckn = b.ckn.now;
+    }
 
 abbrev pub inner_of : Parts → Inner
 inner_of p = record { source = p.source; sets = p.sets.now; covered = p.covered; check = p.check }
@@ -43,7 +52,19 @@ seen None = None
 seen (Some s) = Some (set_of s)
 
 abbrev pub gathered_of : Found → Gathered
-gathered_of f = record { live = seen f.live; potential = seen f.potential; uses = seen f.uses; given = seen f.given }
+gathered_of f =
+    record {
+      live = seen f.live;
+      potential = seen f.potential;
+      uses = seen f.uses;
+      given = seen f.given;
+    }
 
 abbrev pub spelled_of : Borrowed → Spelled
-spelled_of b = record { announcement = announcement_of b.parts.source (basics_of b.basic) (gathered_of b.found); covered = b.parts.covered; check = b.parts.check }
+spelled_of b =
+    record {
+      announcement = announcement_of b.parts.source (basics_of b.basic)
+          (gathered_of b.found);
+      covered = b.parts.covered;
+      check = b.parts.check;
+    }

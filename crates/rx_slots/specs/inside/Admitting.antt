@@ -15,7 +15,8 @@ number_after numbers sci pn s =
 abbrev pub arrival_under : Option Standing → ℕ → Sci → ℕ → ℕ → List ℕ → Arrival
 arrival_under None window sci an pn body = Missed an
 arrival_under (Some slot) window sci an pn body =
-    if is_late window (number_in slot.numbers sci) pn then Late (number_in slot.numbers sci) else Accepted pn body
+    if is_late window (number_in slot.numbers sci) pn then Late (number_in slot.numbers sci)
+    else Accepted pn body
 
 -- the answer by what stands
 abbrev pub arrival_at : Slots → Sci → ℕ → ℕ → List ℕ → Arrival
@@ -28,7 +29,8 @@ pub record Takes (old new : Slots) (sci : Sci) (an pn : ℕ) : Type 0 where
   pub others : (n : ℕ) → n ≢ an → slot_at new n ≡ slot_at old n
   pub same_key : key_at new an ≡ key_at old an
   pub numbers : (s : Sci) → next_of (slot_at new an) s
-      ≡ cond (is_at (order sci) s) (max (pn + 1) (next_of (slot_at old an) sci)) (next_of (slot_at old an) s)
+      ≡ cond (is_at (order sci) s) (max (pn + 1) (next_of (slot_at old an) sci))
+      (next_of (slot_at old an) s)
   pub top : greatest_of (slot_at new an) ≡ max (greatest_of (slot_at old an)) (pn + 1)
 
 -- the slots after an answer

@@ -40,7 +40,8 @@ begun_now l = record { key = record l.key { begun = true }; since_begun = 0 }
 
 -- the state a tick later
 abbrev pub ticked_now : State → State
-ticked_now s = record s { latest = option_map aged s.latest; since_made = option_map counted s.since_made }
+ticked_now s =
+    record s { latest = option_map aged s.latest; since_made = option_map counted s.since_made }
 
 -- whether a latest key is held of which this is true
 abbrev pub is_latest_now : State → (Latest → Bool) → Bool
@@ -57,22 +58,26 @@ retired_now s = cond (retires_now s) s.former None
 -- the keys that are held, dropped
 abbrev pub drops_now : State → List Change
 drops_now s =
-    option_to_list (option_map (λ l. Dropped l.key) s.latest) ++ option_to_list (option_map (λ k. Dropped k) s.former)
+    option_to_list (option_map (λ l. Dropped l.key) s.latest)
+    ++ option_to_list (option_map (λ k. Dropped k) s.former)
 
 -- why the latest key, which this life made, begins
 abbrev pub lead_cause_now : State → List Report → HeldKey → Option Cause
 lead_cause_now s live k =
-    cond (list_all (λ r. reports_latest k.id r.uses) live) (Some All) (cond (option_map_or (nat_le life_time) s.since_made false) (Some Timeout) None)
+    cond (list_all (λ r. reports_latest k.id r.uses) live) (Some All)
+    (cond (option_map_or (nat_le life_time) s.since_made false) (Some Timeout) None)
 
 -- what begins where the station leads
 abbrev pub leads_now : State → List Report → Option (Latest × Cause)
 leads_now s live =
-    option_and_then (λ l. cond (is_some s.roster && not l.key.begun) (option_map (λ c. (l, c)) (lead_cause_now s live l.key)) None) s.latest
+    option_and_then (λ l. cond (is_some s.roster && not l.key.begun)
+    (option_map (λ c. (l, c)) (lead_cause_now s live l.key)) None) s.latest
 
 -- what begins where the station follows
 abbrev pub follows_now : State → Uses → Option (Latest × Cause)
 follows_now s u =
-    option_and_then (λ l. cond (not l.key.begun && transmits l.key.id u) (Some (l, Flag)) None) s.latest
+    option_and_then (λ l. cond (not l.key.begun && transmits l.key.id u)
+    (Some (l, Flag)) None) s.latest
 
 -- what a beginning changes
 abbrev pub beginning_changes : Option (Latest × Cause) → List Change
@@ -86,7 +91,8 @@ beginning_state s (Some b) = record s { latest = Some (begun_now b.0) }
 
 -- the key that transmits
 abbrev pub transmitting_now : State → Option HeldKey
-transmitting_now s = elim s.latest [ None ↦ s.former | Some l ↦ cond l.key.begun (Some l.key) s.former ]
+transmitting_now s =
+    elim s.latest [ None ↦ s.former | Some l ↦ cond l.key.begun (Some l.key) s.former ]
 
 -- whether a key may be installed
 abbrev pub allows_now : State → Bool
@@ -105,15 +111,18 @@ abbrev pub is_one_left_out_now : State → List Report → Bool
 is_one_left_out_now s live = list_any (λ r. not (is_in_roster_now s r.mi)) live
 
 abbrev pub is_latest_spent_now : State → List Report → Seen → ℕ → Bool
-is_latest_spent_now s live seen limit = is_latest_now s (λ l. l.key.begun && is_spent live seen limit l.key.id)
+is_latest_spent_now s live seen limit =
+    is_latest_now s (λ l. l.key.begun && is_spent live seen limit l.key.id)
 
 abbrev pub is_one_behind_now : State → List Report → Bool
 is_one_behind_now s live =
-    is_latest_now s (λ l. (l.key.begun && nat_le life_time l.since_begun) && list_any (λ r. not (reports l.key.id r.uses)) live)
+    is_latest_now s (λ l. (l.key.begun && nat_le life_time l.since_begun)
+    && list_any (λ r. not (reports l.key.id r.uses)) live)
 
 abbrev pub is_key_due_now : State → List Report → Seen → ℕ → Bool
 is_key_due_now s live seen limit =
-    not (is_latest_made_now s) || (is_one_left_out_now s live || (is_latest_spent_now s live seen limit || is_one_behind_now s live))
+    not (is_latest_made_now s) || (is_one_left_out_now s live
+    || (is_latest_spent_now s live seen limit || is_one_behind_now s live))
 
 -- whether the last key that this life made is old enough, or nobody is potential
 abbrev pub is_rested_now : State → Bool → Bool
@@ -121,7 +130,8 @@ is_rested_now s potential = not potential || option_map_or (nat_le life_time) s.
 
 -- whether a key is made
 abbrev pub makes_now : State → List Report → Bool → Seen → ℕ → Bool
-makes_now s live potential seen limit = allows_now s && (is_key_due_now s live seen limit && is_rested_now s potential)
+makes_now s live potential seen limit =
+    allows_now s && (is_key_due_now s live seen limit && is_rested_now s potential)
 
 -- whether a key, if there is one, has the association number
 abbrev pub has_an : ℕ → Option HeldKey → Bool
@@ -135,12 +145,22 @@ is_used_now s a = has_an a (option_map (λ l. l.key) s.latest) || has_an a s.for
 -- the association number of the next key
 abbrev pub next_an_now : State → ℕ
 next_an_now s =
-    elim s.last_an [ None ↦ 0 | Some a ↦ cond (is_used_now s (after a)) (cond (is_used_now s (after (after a))) (after (after (after a))) (after (after a))) (after a) ]
+    elim s.last_an [
+      | None ↦ 0
+      | Some a ↦ cond (is_used_now s (after a))
+          (cond (is_used_now s (after (after a))) (after (after (after a))) (after (after a))) (after a)
+    ]
 
 -- the next key that is made
 abbrev pub made_key_now : State → Bool → Secret → Key
 made_key_now s conf sak =
-    record { id = record { server = s.own; number = s.made + 1 }; an = next_an_now s; sak = sak; conf = conf; epoch = s.epochs + 1 }
+    record {
+      id = record { server = s.own; number = s.made + 1 };
+      an = next_an_now s;
+      sak = sak;
+      conf = conf;
+      epoch = s.epochs + 1;
+    }
 
 -- a key that was just installed
 abbrev pub fresh : Key → HeldKey
@@ -152,7 +172,8 @@ fresh_or (Ok k) = Ok (fresh k)
 fresh_or (Err why) = Err why
 
 abbrev pub judged_now : State → Offer → Option Secret → Result HeldKey Why
-judged_now s o sak = fresh_or (judged (number_in s.numbers o.server) (allows_now s) (s.epochs + 1) o sak)
+judged_now s o sak =
+    fresh_or (judged (number_in s.numbers o.server) (allows_now s) (s.epochs + 1) o sak)
 
 -- the key, if its association number is another
 abbrev pub apart_held : ℕ → Option HeldKey → Option HeldKey
@@ -170,15 +191,18 @@ drops_former a (Some k) = cond (a == k.an) (Dropped k ∷ []) []
 
 -- what an install changes
 abbrev pub install_changes_now : State → HeldKey → List Change
-install_changes_now s k = (drops_latest k.an s.latest ++ drops_former k.an s.former) ++ Installed k ∷ []
+install_changes_now s k =
+    (drops_latest k.an s.latest ++ drops_former k.an s.former) ++ Installed k ∷ []
 
 -- the greatest key number of a server after an install
 abbrev pub number_after : List (Mi × ℕ) → KeyId → Mi → Option ℕ
 number_after entries i q =
-    cond (is_at (order i.server) q) (Some (max i.number (unwrap_or (number_in entries i.server) 0))) (number_in entries q)
+    cond (is_at (order i.server) q) (Some (max i.number (unwrap_or (number_in entries i.server) 0)))
+    (number_in entries q)
 
 -- The second state is the first with a key installed, and with its roster where this life made it.
-pub record IsInstalled (s : State) (k : HeldKey) (listed : Option (List Mi)) (t : State) : Type 0 where
+pub record IsInstalled (s : State) (k : HeldKey) (listed : Option (List Mi))
+    (t : State) : Type 0 where
   pub own : t.own ≡ s.own
   pub latest : t.latest ≡ Some (record { key = k; since_begun = 0 })
   pub former : t.former ≡ apart_held k.an (transmitting_now s)

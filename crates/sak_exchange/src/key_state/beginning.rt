@@ -19,14 +19,18 @@ use mkpdu_codec::Uses;
 use std::alloc::AllocError;
 
 impl KeyState {
-    /// At a tick of a station that is its own elected server: its latest key begins, where its life made
-    /// it, it has not begun, and either all live members report it or it was made the life time ago.
+    /// At a tick of a station that is its own elected server: its latest key begins, where its life
+    /// made it, it has not begun, and either all live members report it or it was made the life
+    /// time ago.
     pub fn lead(&mut self, reports: &[Report]) -> Result<Changes, AllocError>
-        ensures changes { (base : ℕ) (own : Mi) (h : List Keying) → StandsFor base own false self.old h →
+        ensures changes { (base : ℕ) (own : Mi) (h : List Keying)
+            → StandsFor base own false self.old h →
             IfOk result (λ c. c ≡ (leading h reports.now).changes) }
-        ensures stands { (base : ℕ) (own : Mi) (h : List Keying) → StandsFor base own false self.old h →
+        ensures stands { (base : ℕ) (own : Mi) (h : List Keying)
+            → StandsFor base own false self.old h →
             OnOk result (StandsFor base own false self.new (leading h reports.now).past) }
-        ensures prompt { (base : ℕ) (own : Mi) (h : List Keying) → StandsFor base own false self.old h →
+        ensures prompt { (base : ℕ) (own : Mi) (h : List Keying)
+            → StandsFor base own false self.old h →
             (leading h reports.now).changes ≡ [] → IsOk result }
         ensures unchanged { OnErr result (self.new ≡ self.old) }
     {
@@ -58,14 +62,17 @@ impl KeyState {
         }
     }
 
-    /// At a vouched announcement of the elected server with these uses: the latest key begins, where it
-    /// has not and the server says that it transmits under it.
+    /// At a vouched announcement of the elected server with these uses: the latest key begins,
+    /// where it has not and the server says that it transmits under it.
     pub fn follow(&mut self, uses: &Uses) -> Result<Changes, AllocError>
-        ensures changes { (base : ℕ) (own : Mi) (h : List Keying) → StandsFor base own false self.old h →
+        ensures changes { (base : ℕ) (own : Mi) (h : List Keying)
+            → StandsFor base own false self.old h →
             IfOk result (λ c. c ≡ (following h uses.now).changes) }
-        ensures stands { (base : ℕ) (own : Mi) (h : List Keying) → StandsFor base own false self.old h →
+        ensures stands { (base : ℕ) (own : Mi) (h : List Keying)
+            → StandsFor base own false self.old h →
             OnOk result (StandsFor base own false self.new (following h uses.now).past) }
-        ensures prompt { (base : ℕ) (own : Mi) (h : List Keying) → StandsFor base own false self.old h →
+        ensures prompt { (base : ℕ) (own : Mi) (h : List Keying)
+            → StandsFor base own false self.old h →
             (following h uses.now).changes ≡ [] → IsOk result }
         ensures unchanged { OnErr result (self.new ≡ self.old) }
     {

@@ -38,11 +38,14 @@ impl KeyState {
 
     /// After a tick at which no key server is elected: every key is dropped.
     pub fn drop_all(&mut self) -> Result<Changes, AllocError>
-        ensures changes { (base : ℕ) (own : Mi) (h : List Keying) → StandsFor base own true self.old h →
+        ensures changes { (base : ℕ) (own : Mi) (h : List Keying)
+            → StandsFor base own true self.old h →
             IfOk result (λ c. c ≡ (dropping h).changes) }
-        ensures stands { (base : ℕ) (own : Mi) (h : List Keying) → StandsFor base own true self.old h →
+        ensures stands { (base : ℕ) (own : Mi) (h : List Keying)
+            → StandsFor base own true self.old h →
             OnOk result (StandsFor base own false self.new (dropping h).past) }
-        ensures prompt { (base : ℕ) (own : Mi) (h : List Keying) → StandsFor base own true self.old h →
+        ensures prompt { (base : ℕ) (own : Mi) (h : List Keying)
+            → StandsFor base own true self.old h →
             (dropping h).changes ≡ [] → IsOk result }
         ensures unchanged { OnErr result (self.new ≡ self.old) }
     {
@@ -67,14 +70,17 @@ impl KeyState {
         Ok(changes)
     }
 
-    /// After a tick at which a key server is elected: the old key is retired where the latest one began
-    /// the retire time ago.
+    /// After a tick at which a key server is elected: the old key is retired where the latest one
+    /// began the retire time ago.
     pub fn retire(&mut self) -> Result<Changes, AllocError>
-        ensures changes { (base : ℕ) (own : Mi) (h : List Keying) → StandsFor base own true self.old h →
+        ensures changes { (base : ℕ) (own : Mi) (h : List Keying)
+            → StandsFor base own true self.old h →
             IfOk result (λ c. c ≡ (retiring h).changes) }
-        ensures stands { (base : ℕ) (own : Mi) (h : List Keying) → StandsFor base own true self.old h →
+        ensures stands { (base : ℕ) (own : Mi) (h : List Keying)
+            → StandsFor base own true self.old h →
             OnOk result (StandsFor base own false self.new (retiring h).past) }
-        ensures prompt { (base : ℕ) (own : Mi) (h : List Keying) → StandsFor base own true self.old h →
+        ensures prompt { (base : ℕ) (own : Mi) (h : List Keying)
+            → StandsFor base own true self.old h →
             (retiring h).changes ≡ [] → IsOk result }
         ensures unchanged { OnErr result (self.new ≡ self.old) }
     {

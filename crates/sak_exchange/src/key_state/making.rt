@@ -21,7 +21,8 @@ use std::alloc::AllocError;
 use std::rc::Rc;
 
 impl KeyState {
-    /// Whether a station that is its own elected server, and has not begun a key at this tick, makes one.
+    /// Whether a station that is its own elected server, and has not begun a key at this tick,
+    /// makes one.
     pub fn makes(&self, due: &Due) -> bool
         ensures { (base : ℕ) (own : Mi) (h : List Keying) → StandsFor base own false self.now h →
             result ≡ makes h due.now.live.now due.now.potential due.now.seen due.now.rekey }
@@ -71,7 +72,8 @@ impl KeyState {
         }
     }
 
-    /// Whether the latest key began the life time ago or earlier, and a live member doesn't report it.
+    /// Whether the latest key began the life time ago or earlier, and a live member doesn't report
+    /// it.
     fn is_one_behind(&self, live: &[Report]) -> bool
         ensures { result ≡ is_one_behind_now self.now live.now }
     {
@@ -98,11 +100,14 @@ impl KeyState {
     /// A station that is its own elected server makes a key under the SAK, and installs it.
     pub fn make(&mut self, due: &Due, sak: Secret) -> Result<Changes, AllocError>
         requires few { self.old.epochs + 1 < 2 ^ 32 }
-        requires due { (base : ℕ) (own : Mi) (h : List Keying) → StandsFor base own false self.old h →
+        requires due { (base : ℕ) (own : Mi) (h : List Keying)
+            → StandsFor base own false self.old h →
             IsTrue (makes h due.now.live.now due.now.potential due.now.seen due.now.rekey) }
-        ensures changes { (base : ℕ) (own : Mi) (h : List Keying) → StandsFor base own false self.old h →
+        ensures changes { (base : ℕ) (own : Mi) (h : List Keying)
+            → StandsFor base own false self.old h →
             IfOk result (λ c. c ≡ (making base own h due.now.live.now due.now.conf sak).changes) }
-        ensures stands { (base : ℕ) (own : Mi) (h : List Keying) → StandsFor base own false self.old h →
+        ensures stands { (base : ℕ) (own : Mi) (h : List Keying)
+            → StandsFor base own false self.old h →
             OnOk result (StandsFor base own false self.new
             (making base own h due.now.live.now due.now.conf sak).past) }
         ensures unchanged { OnErr result (self.new ≡ self.old) }

@@ -16,13 +16,16 @@ use aes_block::Key;
 use std::alloc::AllocError;
 
 impl KeyState {
-    /// At an accepted announcement that gives a key: the key is installed, or the first reason why not is
-    /// told.
+    /// At an accepted announcement that gives a key: the key is installed, or the first reason why
+    /// not is told.
     pub fn take(&mut self, offer: &Offer, kek: &Key) -> Result<Changes, AllocError>
         requires few { self.old.epochs + 1 < 2 ^ 32 }
-        ensures changes { (base : ℕ) (own : Mi) (h : List Keying) → StandsFor base own false self.old h →
-            IfOk result (λ c. c ≡ (taking base h offer.now (given_sak kek.now offer.now.given)).changes) }
-        ensures stands { (base : ℕ) (own : Mi) (h : List Keying) → StandsFor base own false self.old h →
+        ensures changes { (base : ℕ) (own : Mi) (h : List Keying)
+            → StandsFor base own false self.old h →
+            IfOk result (λ c. c ≡ (taking base h offer.now
+            (given_sak kek.now offer.now.given)).changes) }
+        ensures stands { (base : ℕ) (own : Mi) (h : List Keying)
+            → StandsFor base own false self.old h →
             OnOk result (StandsFor base own false self.new
             (taking base h offer.now (given_sak kek.now offer.now.given)).past) }
         ensures unchanged { OnErr result (self.new ≡ self.old) }

@@ -73,7 +73,8 @@ station_of names word = and_then (position_of names word) (λ p. kept_if (nat_lt
 -- the number below 2^64 that a word spells, without leading zeros
 abbrev pub whole_of : List ℕ → Option ℕ
 whole_of word =
-    kept_if (is_word word (decimal (digits_value 10 word)) && nat_lt (digits_value 10 word) (2 ^ 64))
+    kept_if (is_word word (decimal (digits_value 10 word))
+    && nat_lt (digits_value 10 word) (2 ^ 64))
     (digits_value 10 word)
 
 -- the number of so many bits that a word spells
@@ -284,7 +285,8 @@ life_tree = station (λ s. member (λ mi. says (Life s mi)))
 
 abbrev pub tick_tree : Tree
 tick_tree =
-    station (λ s. number 32 (λ at. only (codes "next") (number 64 (λ next. says (Ticked s at next)))))
+    station (λ s. number 32 (λ at. only (codes "next")
+    (number 64 (λ next. says (Ticked s at next)))))
 
 abbrev pub server_tree : Tree
 server_tree = station (λ s. server (λ mi. says (Server s mi)))
