@@ -1,16 +1,16 @@
 -- A seat adds one to the slot that it was shown, and the rule is kept.
-use Rattle.std.proofs.Common.{◌≡◌, ◌≢◌, ◌⊎◌, ℕ, zero, suc, ◌+◌, ◌-◌, ◌*◌, ◌/◌, ◌%◌, ◌^◌, ◌<◌, ◌≤◌, Bool, true, false, not, cond, ◌&&◌, ◌==◌, ltb, eqb, List, [], ◌∷◌, ◌++◌, length, get_or, set, refl, sym, ap, ◌∙◌, subst, inl, inr, ⊎_elim, arith, eq-eqb, ne_eqb, get_or-set_other, get_or-set_same}
+use Rattle.std.proofs.Common.{◌≡◌, ◌≢◌, ◌⊎◌, ℕ, zero, suc, ◌+◌, ◌-◌, ◌%◌, ◌^◌, ◌<◌, ◌≤◌, Bool, true, false, not, cond, ◌&&◌, ◌==◌, ltb, eqb, List, [], ◌∷◌, ◌++◌, length, get_or, set, refl, sym, ap, ◌∙◌, subst, inl, inr, ⊎_elim, arith, eq-eqb, ne_eqb, get_or-set_other, get_or-set_same}
 use mathlib.Core.Logic.{dite}
 use mathlib.Core.Option.{none, some, some-ne-none}
 use native.Mathlib.Decide.{ℕ_discrete}
 use lib.ListN.{get_elem?}
 use Rattle.std.proofs.lemmas.Bool.{false≢true, eqb-true, eqb-false, ltb-true, ltb-false, and_parts, and_from, and_cases, cases_Bool, cond-true, cond-false}
-use Rattle.atomic_table.specs.Table.{State, step, Act, keeps, Allows}
+use Rattle.atomic_table.specs.Table.{step, keeps, Allows}
 use Rattle.atomic_table.proofs.Lists.{at_set, set_here}
 use Rattle.association_slots.specs.Words.{epoch_of, flag_of, next_of}
-use Rattle.association_slots.specs.Views.{In, Among, slot, current, present_at, top, WasShut, weigh, adds, overs, gones, tally, one, met, lost, claimed, mark, seat_of}
+use Rattle.association_slots.specs.Views.{In, Among, slot, present_at, WasShut, weigh, adds, overs, gones, tally, one, met, lost, claimed, mark, seat_of}
 use Rattle.association_slots.specs.Steps.{addition, answer, added}
-use Rattle.association_slots.specs.Rule.{IsAsLeft, Settled, AtLeast, IsAddition, Fits, Follows, Ledger, Sums, Around, Slotted, tagged, agrees}
+use Rattle.association_slots.specs.Rule.{AtLeast, IsAddition, Fits, Follows, Ledger, Sums, Around, Slotted, tagged, agrees}
 use Rattle.association_slots.specs.Told.{Gives, IsAdded}
 use Rattle.association_slots.specs.inside.Plays.{Adds}
 use Rattle.association_slots.specs.declared.view.Current.{Current}
@@ -18,15 +18,14 @@ use Rattle.association_slots.specs.declared.view.NextSeen.{NextSeen}
 use Rattle.association_slots.specs.declared.view.Addition.{Addition}
 use Rattle.association_slots.specs.declared.view.Mark.{Mark}
 use Rattle.association_slots.specs.declared.view.Added.{Added}
-use Rattle.association_slots.specs.declared.view.Added.TheVariants.{Number, Over, Gone}
 use Rattle.association_slots.specs.declared.view.ControlView.{ControlView}
 use Rattle.association_slots.specs.declared.view.SeatView.{SeatView}
 use Rattle.association_slots.specs.declared.view.View.{View}
-use Rattle.association_slots.specs.declared.view.View.TheVariants.{Control, Seat}
+use Rattle.association_slots.specs.declared.view.View.TheVariants.{Seat}
 use Rattle.association_slots.proofs.WordParts.{added_epoch, added_flag, added_next}
 use Rattle.association_slots.proofs.Lists.{in_append, in_left, in_right, weigh-set, among_at, among_set, among_on, tally_none}
 use Rattle.association_slots.proofs.StaysSettled.{words_added, cards_else, once}
-use Rattle.association_slots.proofs.Grows.{Grown, grown_words, member_grows, shut_grows, seat_grows, not_true, is_present}
+use Rattle.association_slots.proofs.Grows.{Grown, grown_words, member_grows, seat_grows, not_true, is_present}
 use Rattle.association_slots.proofs.ControlKeeps.{M, wide, numbers_from, seat_back, control_else, alone_else}
 use Rattle.association_slots.proofs.Sixteen.{sixteen}
 

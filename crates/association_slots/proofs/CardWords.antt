@@ -1,8 +1,7 @@
 -- A card is what its words hold.
-use Rattle.std.proofs.Common.{◌≡◌, ℕ, zero, suc, ◌+◌, ◌-◌, ◌*◌, ◌/◌, ◌%◌, ◌<◌, ◌≤◌, Bool, true, false, List, [], ◌∷◌, ◌++◌, length, get_or, take, drop, refl, sym, ap, ◌∙◌, subst, arith, length-drop, length-take, take-append-drop, take_all, drop-drop, get_or-drop, get_or-take, append_assoc, if◌then◌else◌}
+use Rattle.std.proofs.Common.{◌≡◌, ℕ, zero, suc, ◌+◌, ◌-◌, ◌*◌, ◌<◌, ◌≤◌, Bool, true, false, List, [], ◌∷◌, ◌++◌, length, get_or, take, drop, refl, sym, ap, ◌∙◌, subst, arith, length-drop, length-take, take-append-drop, take_all, drop-drop, get_or-drop, get_or-take, if◌then◌else◌}
 use Rattle.std.proofs.lemmas.Nat.{be_bytes_8}
-use Rattle.std.specs.Int.{w64, from_be_bytes, to_be_bytes}
-use Rattle.aes_block.specs.declared.secret.Secret.{Secret}
+use Rattle.std.specs.Int.{w64, from_be_bytes}
 use Rattle.aes_block.specs.declared.secret.Secret.TheVariants.{S128, S256}
 use Rattle.association_slots.specs.Cards.{word_at, octets_of, card_in, card_at}
 use Rattle.association_slots.specs.declared.view.ControlView.{ControlView}

@@ -1,5 +1,5 @@
 -- Card words are stored once, and read.
-use Rattle.std.proofs.Common.{◌≡◌, ◌≢◌, ◌⊎◌, ℕ, zero, suc, ◌+◌, ◌-◌, ◌*◌, ◌<◌, ◌≤◌, List, [], ◌∷◌, ◌++◌, length, get_or, set, refl, sym, ap, ◌∙◌, subst, inl, inr, ⊎_elim, arith, length-set, length-append, get_or-set_other, get_or-set_same}
+use Rattle.std.proofs.Common.{◌≡◌, ◌≢◌, ◌⊎◌, ℕ, ◌+◌, ◌-◌, ◌*◌, ◌<◌, ◌≤◌, List, [], ◌∷◌, ◌++◌, length, get_or, set, refl, sym, ap, ◌∙◌, subst, inl, ⊎_elim, arith, length-set, length-append, get_or-set_other, get_or-set_same}
 use Rattle.std.proofs.lemmas.List.{set-get_or}
 use mathlib.Core.Logic.{dite}
 use mathlib.Core.Option.{none, some}
@@ -8,9 +8,9 @@ use lib.ListN.{get_elem?}
 use Rattle.atomic_table.specs.Table.{step, keeps, Allows}
 use Rattle.atomic_table.proofs.Lists.{at_set}
 use Rattle.association_slots.specs.Words.{epoch_of, flag_of, next_of, shown_by}
-use Rattle.association_slots.specs.Views.{In, slot, current, present_at, control_of, seat_of}
+use Rattle.association_slots.specs.Views.{In, slot, control_of, seat_of}
 use Rattle.association_slots.specs.Steps.{wrote, did_read}
-use Rattle.association_slots.specs.Rule.{IsAsLeft, HoldsCards, Fits, Follows, Settled, Around, Slotted}
+use Rattle.association_slots.specs.Rule.{IsAsLeft, HoldsCards, Fits, Follows, Around, Slotted}
 use Rattle.association_slots.specs.inside.Plays.{Writes, Reads}
 use Rattle.association_slots.specs.declared.view.ControlView.{ControlView}
 use Rattle.association_slots.specs.declared.view.SeatView.{SeatView}

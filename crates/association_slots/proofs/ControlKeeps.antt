@@ -1,19 +1,16 @@
 -- Each step of control, and a load by a seat, keeps the rule.
-use Rattle.std.proofs.Common.{◌≡◌, ◌≢◌, ◌⊎◌, ℕ, zero, suc, ◌+◌, ◌-◌, ◌*◌, ◌^◌, ◌<◌, ◌≤◌, Bool, true, false, List, [], ◌∷◌, ◌++◌, length, get_or, set, refl, sym, ap, ◌∙◌, subst, inl, inr, ⊎_elim, arith, length-set, get_or-set_other, get_or-set_same}
+use Rattle.std.proofs.Common.{◌≡◌, ◌≢◌, ◌⊎◌, ℕ, ◌+◌, ◌-◌, ◌*◌, ◌^◌, ◌<◌, ◌≤◌, Bool, true, false, List, [], ◌∷◌, length, get_or, set, refl, sym, ap, ◌∙◌, subst, inl, inr, ⊎_elim, arith, get_or-set_other, get_or-set_same}
 use Rattle.std.proofs.lemmas.List.{set-get_or}
-use mathlib.Core.Logic.{dite}
 use mathlib.Core.Option.{none, some, some-ne-none, some-injective}
-use native.Mathlib.Decide.{ℕ_discrete}
 use lib.ListN.{get_elem?}
 use Rattle.std.proofs.lemmas.Bool.{false≢true}
 use Rattle.std.specs.Prelude.{bit_or}
-use Rattle.atomic_table.specs.Table.{State, Me, step, Act, keeps, Allows}
+use Rattle.atomic_table.specs.Table.{Me, step, keeps, Allows}
 use Rattle.atomic_table.proofs.Lists.{at_set, set_here, set_else, set_again}
-use Rattle.association_slots.specs.Words.{epoch_of, flag_of, next_of, an_of, shown_by, open_word, present_word, absent_word}
-use Rattle.association_slots.specs.Views.{In, Among, slot, blank_slot, current, newest, absent_after, present_at, IsOpen, top, control_of, seat_of, adds, overs, gones}
+use Rattle.association_slots.specs.Words.{epoch_of, flag_of, next_of, shown_by, open_word, present_word, absent_word}
+use Rattle.association_slots.specs.Views.{In, slot, current, absent_after, present_at, IsOpen, top, control_of, seat_of, overs, gones}
 use Rattle.association_slots.specs.Steps.{loaded, raised, closed, pointed, looked}
-use Rattle.association_slots.specs.Rule.{IsAsLeft, HoldsCards, Settled, AtLeast, Fits, Follows, Ledger, Sums, ToldFits, Around, Slotted}
-use Rattle.association_slots.specs.Told.{Sees}
+use Rattle.association_slots.specs.Rule.{IsAsLeft, HoldsCards, Settled, AtLeast, Fits, Follows, Sums, ToldFits, Around, Slotted}
 use Rattle.association_slots.specs.inside.Plays.{Loads, Raises, Shuts, Points, Looks, Learns}
 use Rattle.association_slots.specs.declared.view.Current.{Current}
 use Rattle.association_slots.specs.declared.view.NextSeen.{NextSeen}
@@ -21,7 +18,7 @@ use Rattle.association_slots.specs.declared.view.SlotView.{SlotView}
 use Rattle.association_slots.specs.declared.view.ControlView.{ControlView}
 use Rattle.association_slots.specs.declared.view.SeatView.{SeatView}
 use Rattle.association_slots.specs.declared.view.View.{View}
-use Rattle.association_slots.specs.declared.view.View.TheVariants.{Control, Seat, Spent}
+use Rattle.association_slots.specs.declared.view.View.TheVariants.{Control, Seat}
 use Rattle.association_slots.proofs.WordParts.{open_epoch, open_flag, open_next, shut_epoch, shut_flag, shut_next, present_shows, absent_shows}
 use Rattle.association_slots.proofs.Lists.{Moved, moved_set, among_at}
 use Rattle.association_slots.proofs.StaysSettled.{words_slot, words_point, cards_else, slot_set, settled_raised, settled_closed, settled_pointed, settled_looked}

@@ -1,10 +1,10 @@
 -- What stays true as the words grow and control goes on.
-use Rattle.std.proofs.Common.{◌≡◌, ◌≢◌, ◌⊎◌, ℕ, zero, suc, ◌+◌, ◌-◌, ◌*◌, ◌^◌, ◌<◌, ◌≤◌, Bool, true, false, List, [], ◌∷◌, ◌++◌, length, get_or, set, refl, sym, ap, ◌∙◌, subst, inl, inr, ⊎_elim, arith, length-append, get_or-set_other, get_or-set_same}
+use Rattle.std.proofs.Common.{◌≡◌, ◌≢◌, ◌⊎◌, ℕ, zero, suc, ◌+◌, ◌-◌, ◌^◌, ◌<◌, ◌≤◌, Bool, true, false, List, [], ◌∷◌, ◌++◌, length, get_or, set, refl, sym, ap, ◌∙◌, subst, inl, inr, ⊎_elim, arith, length-append, get_or-set_other}
 use Rattle.std.proofs.lemmas.Bool.{false≢true, eqb-true, and_parts, cases_Bool}
-use Rattle.association_slots.specs.Words.{epoch_of, flag_of, next_of, shown_by}
-use Rattle.association_slots.specs.Views.{In, Among, cons_if, slot, blank_slot, current, newest, absent_after, present_at, IsOpen, WasAbsent, WasShut, top, adds, overs, gones, tally, one, met, lost, claimed}
+use Rattle.association_slots.specs.Words.{next_of}
+use Rattle.association_slots.specs.Views.{In, Among, slot, current, newest, present_at, IsOpen, WasAbsent, WasShut, top, overs, tally, one, met, lost}
 use Rattle.association_slots.specs.Steps.{wrote, raised, closed, pointed, looked, loaded}
-use Rattle.association_slots.specs.Rule.{IsAsLeft, Settled, AtLeast, IsAddition, Fits, Follows, Ledger, Sums, ToldFits, tagged}
+use Rattle.association_slots.specs.Rule.{Settled, AtLeast, IsAddition, Fits, Follows, Ledger, Sums, ToldFits}
 use Rattle.association_slots.specs.declared.view.Current.{Current}
 use Rattle.association_slots.specs.declared.view.NextSeen.{NextSeen}
 use Rattle.association_slots.specs.declared.view.Addition.{Addition}

@@ -1,10 +1,10 @@
 -- What the rule says of control's view alone.
-use Rattle.std.proofs.Common.{◌≡◌, ◌≢◌, ◌⊎◌, ℕ, zero, suc, ◌+◌, ◌-◌, ◌*◌, ◌/◌, ◌^◌, ◌<◌, ◌≤◌, Bool, true, false, List, [], ◌∷◌, length, get_or, refl, sym, ap, ◌∙◌, subst, inl, inr, ⊎_elim, arith}
+use Rattle.std.proofs.Common.{◌≡◌, ◌≢◌, ◌⊎◌, ℕ, suc, ◌+◌, ◌-◌, ◌*◌, ◌^◌, ◌<◌, ◌≤◌, Bool, true, false, List, [], ◌∷◌, length, get_or, refl, sym, ap, ◌∙◌, subst, inl, inr, ⊎_elim, arith}
 use mathlib.Core.Option.{some, some-ne-none, some-injective}
 use lib.ListN.{get_elem?}
 use Rattle.std.proofs.lemmas.Bool.{false≢true}
 use Rattle.association_slots.specs.Words.{next_of}
-use Rattle.association_slots.specs.Views.{In, Among, slot, IsOpen, AllIn, weigh, adds, overs, gones, tally, one, met, lost, claimed, count, told_sum, count_all}
+use Rattle.association_slots.specs.Views.{In, Among, IsOpen, AllIn, weigh, adds, overs, gones, tally, one, met, lost, claimed, count, count_all}
 use Rattle.association_slots.specs.Cards.{card_in, card_at, Knows}
 use Rattle.association_slots.specs.Rule.{Around, AtLeast, tagged}
 use Rattle.association_slots.specs.Learned.{IsNext, WasNext, IsTold, Learned}

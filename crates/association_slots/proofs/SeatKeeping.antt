@@ -1,9 +1,8 @@
 -- What the fields of a `WorkerSeat` keep, over its calls.
-use Rattle.std.proofs.Common.{◌≡◌, ◌≢◌, ◌⊎◌, ℕ, ◌+◌, ◌*◌, ◌<◌, ◌≤◌, max, Bool, true, false, ◌&&◌, ◌||◌, eqb, IsTrue, List, [], ◌∷◌, ◌++◌, Option, Some, None, slice_index, refl, sym, ap, ◌∙◌, subst, inl, inr, ⊎_elim, arith}
-use Rattle.std.proofs.lemmas.Bool.{false≢true}
+use Rattle.std.proofs.Common.{◌≡◌, ◌⊎◌, ℕ, ◌+◌, ◌*◌, ◌<◌, ◌≤◌, max, Bool, true, false, [], Option, Some, slice_index, refl, sym, ap, subst, ⊎_elim, arith}
 use Rattle.atomic_table.specs.Table.{Me}
 use Rattle.atomic_table.specs.Seated.{TableId}
-use Rattle.association_slots.specs.Views.{In, seat_of, greatest, mark}
+use Rattle.association_slots.specs.Views.{In, seat_of, greatest}
 use Rattle.association_slots.specs.Steps.{loaded, added}
 use Rattle.association_slots.specs.Told.{Sees}
 use Rattle.association_slots.specs.Cards.{card_in}

@@ -4,13 +4,13 @@ use mathlib.Core.Logic.{dite}
 use mathlib.Core.Option.{none, some, some-ne-none, some-injective}
 use native.Mathlib.Decide.{ℕ_discrete}
 use lib.ListN.{get_elem?}
-use Rattle.std.proofs.lemmas.Bool.{false≢true, eqb-true, and_parts, leb-true, cases_Bool, cond-true, cond-false}
-use Rattle.atomic_table.specs.Table.{State, Me, step, keeps, Allows, Splits, Joins, opening}
-use Rattle.atomic_table.proofs.Lists.{at_set, set_here, set_else, at_longer, at_snoc, set_again}
+use Rattle.std.proofs.lemmas.Bool.{false≢true, eqb-true, and_parts, leb-true}
+use Rattle.atomic_table.specs.Table.{Splits, Joins, opening}
+use Rattle.atomic_table.proofs.Lists.{at_set, set_here, set_else, at_longer}
 use Rattle.association_slots.specs.Words.{epoch_of, flag_of, next_of, shown_by}
-use Rattle.association_slots.specs.Views.{In, Among, cons_if, slot, current, IsOpen, weigh, adds, overs, gones, tally, one, met, claimed, of_seat, free, free_number, told_sum, control_of, seat_of}
+use Rattle.association_slots.specs.Views.{In, Among, cons_if, slot, current, weigh, adds, overs, gones, one, met, claimed, of_seat, free, control_of, seat_of}
 use Rattle.association_slots.specs.Steps.{at_first, above_claims, least_next, given_of, seated, new_seat, told}
-use Rattle.association_slots.specs.Rule.{IsAsLeft, HoldsCards, Settled, AtLeast, Fits, Follows, Around, Slotted}
+use Rattle.association_slots.specs.Rule.{AtLeast, Fits, Follows, Around, Slotted}
 use Rattle.association_slots.specs.declared.view.NextSeen.{NextSeen}
 use Rattle.association_slots.specs.declared.view.Addition.{Addition}
 use Rattle.association_slots.specs.declared.view.Mark.{Mark}
@@ -21,7 +21,7 @@ use Rattle.association_slots.specs.declared.view.View.TheVariants.{Control, Seat
 use Rattle.association_slots.proofs.Lists.{Moved, moved_set, in_append, in_left, in_right, in_cons_if, weigh-append, weigh-set, weigh_at, among_at, among_from, among_set, among_on, among_snoc, among_longer}
 use Rattle.association_slots.proofs.StaysSettled.{once, words_out, settled_out}
 use Rattle.association_slots.proofs.Grows.{Grown, ledger_grows, told_grows, seat_grows, sums_grow, follows_moved, grown_out, not_true}
-use Rattle.association_slots.proofs.ControlKeeps.{M, same_cards, not_both, known, Numbers, numbers_from, some_long}
+use Rattle.association_slots.proofs.ControlKeeps.{same_cards, not_both, known, Numbers, numbers_from, some_long}
 
 -- the first free place is free
 pub free_at : (bs : List Bool) → free bs < length bs → get_or bs (free bs) false ≡ false

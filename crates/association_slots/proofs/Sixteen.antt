@@ -1,8 +1,8 @@
 -- At most sixteen numbers of one epoch are lost: each lost addition has a seat of eight, and a load of that epoch or of a lower one.
-use Rattle.std.proofs.Common.{◌≡◌, ◌⊎◌, ℕ, zero, suc, ◌+◌, ◌*◌, ◌<◌, ◌≤◌, Bool, true, false, not, ◌&&◌, ◌==◌, List, refl, sym, ap, ◌∙◌, subst, inl, inr, ⊎_elim, arith, eq-eqb, eqb}
+use Rattle.std.proofs.Common.{◌≡◌, ◌⊎◌, ℕ, zero, suc, ◌+◌, ◌*◌, ◌<◌, ◌≤◌, Bool, true, false, not, List, refl, ap, ⊎_elim, arith, eq-eqb, eqb}
 use Rattle.std.proofs.lemmas.Bool.{false≢true, eqb-true, and_parts, and_from, cases_Bool, cases_eq}
-use Rattle.association_slots.specs.Views.{Among, adds, tally, one, met, lost}
-use Rattle.association_slots.specs.Rule.{Ledger, IsAddition, tagged, agrees}
+use Rattle.association_slots.specs.Views.{tally, one, met, lost}
+use Rattle.association_slots.specs.Rule.{Ledger, tagged}
 use Rattle.association_slots.specs.declared.view.Addition.{Addition}
 use Rattle.association_slots.specs.declared.view.ControlView.{ControlView}
 use Rattle.association_slots.specs.declared.view.View.{View}

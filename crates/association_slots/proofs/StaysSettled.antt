@@ -1,11 +1,11 @@
 -- What control did, over each of its steps.
-use Rattle.std.proofs.Common.{◌≡◌, ◌≢◌, ◌⊎◌, ℕ, zero, suc, ◌+◌, ◌<◌, ◌≤◌, Bool, true, false, List, [], ◌∷◌, length, get_or, set, refl, sym, ap, ◌∙◌, subst, inl, inr, ⊎_elim, arith, length-append, ◌*◌, ◌++◌, length-set, get_or-set_other, get_or-set_same}
+use Rattle.std.proofs.Common.{◌≡◌, ◌≢◌, ◌⊎◌, ℕ, ◌+◌, ◌<◌, ◌≤◌, Bool, true, false, List, [], ◌∷◌, length, get_or, set, refl, sym, ap, ◌∙◌, subst, inl, inr, ⊎_elim, arith, length-append, ◌*◌, length-set, get_or-set_other, get_or-set_same}
 use mathlib.Core.Logic.{dite}
 use native.Mathlib.Decide.{ℕ_discrete}
 use Rattle.std.proofs.lemmas.Bool.{false≢true}
 use Rattle.association_slots.specs.Words.{epoch_of, flag_of, next_of}
 use Rattle.association_slots.specs.Words.{shown_by}
-use Rattle.association_slots.specs.Views.{In, slot, blank_slot, current, newest, IsOpen, top, WasAbsent, WasShut}
+use Rattle.association_slots.specs.Views.{In, slot, blank_slot, current, top, WasShut}
 use Rattle.association_slots.specs.Steps.{wrote, raised, closed, pointed, looked}
 use Rattle.association_slots.specs.Rule.{IsAsLeft, Rise, Settled, HoldsCards}
 use Rattle.association_slots.specs.declared.view.Current.{Current}

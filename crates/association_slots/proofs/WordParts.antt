@@ -1,10 +1,9 @@
 -- A word's parts after each change. Nothing above this file opens a word.
-use Rattle.std.proofs.Common.{◌≡◌, ℕ, zero, suc, ◌+◌, ◌*◌, ◌/◌, ◌%◌, ◌^◌, ◌<◌, true, false, refl, ap, ◌∙◌, arith, eqb, eq-eqb, ne_eqb}
+use Rattle.std.proofs.Common.{◌≡◌, ℕ, zero, suc, ◌+◌, ◌/◌, ◌%◌, ◌^◌, ◌<◌, true, false, refl, ap, ◌∙◌, arith, eqb, eq-eqb, ne_eqb}
 use Rattle.std.specs.Prelude.{bit_or}
 use Rattle.std.specs.Int.Bits.{or_zero_r}
 use Rattle.std.proofs.lemmas.Nat.{or_shr, or_mod}
 use Rattle.association_slots.specs.Words.{epoch_of, flag_of, next_of, an_of, shown_by, open_word, present_word, absent_word}
-use Rattle.association_slots.specs.declared.view.Current.{Current}
 
 pub open_epoch : (e n : ℕ) → n < 2 ^ 39 → epoch_of (open_word e n) ≡ e
 open_epoch e n small = omega arith

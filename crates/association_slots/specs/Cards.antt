@@ -2,7 +2,7 @@
 -- first, of which the last two are 0 for a SAK of 128 bits; in the fifth, bit 0 is the
 -- confidentiality flag, and bit 1 is set for a SAK of 256 bits. The card of the epoch e lies in the
 -- words from 5 e on.
-use Rattle.std.specs.Prelude.{◌≡◌, ℕ, ◌+◌, ◌-◌, ◌*◌, ◌/◌, ◌%◌, Bool, ◌==◌, if◌then◌else◌, List, [], ◌∷◌, ◌++◌, length, take, drop, slice_index}
+use Rattle.std.specs.Prelude.{◌≡◌, ℕ, ◌+◌, ◌-◌, ◌*◌, ◌/◌, ◌%◌, ◌==◌, if◌then◌else◌, List, [], ◌∷◌, ◌++◌, length, drop, slice_index}
 use Rattle.std.specs.Int.{w64, from_be_bytes, to_be_bytes}
 use Rattle.association_slots.specs.Views.{In}
 use Rattle.aes_block.specs.declared.secret.Secret.{Secret}

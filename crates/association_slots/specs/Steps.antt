@@ -1,12 +1,10 @@
 -- How each step changes the view of the one that makes it.
-use Rattle.std.specs.Prelude.{ℕ, suc, ◌+◌, ◌-◌, ◌*◌, ◌^◌, max, List, [], ◌∷◌, ◌++◌, Bool, true, false, not, cond, ◌&&◌, ◌==◌, nat_lt, nat_le, replicate, slice_set}
+use Rattle.std.specs.Prelude.{ℕ, ◌+◌, ◌-◌, ◌^◌, max, List, [], ◌∷◌, ◌++◌, Bool, true, false, not, cond, ◌&&◌, ◌==◌, nat_lt, nat_le, replicate, slice_set}
 use Rattle.association_slots.specs.Words.{epoch_of, flag_of, next_of}
 use Rattle.association_slots.specs.Views.{cons_if, blank_slot, slot, current, absent_after, free, free_number, of_seat, mark, told_sum}
-use Rattle.association_slots.specs.declared.view.SlotView.{SlotView}
 use Rattle.association_slots.specs.declared.view.Current.{Current}
 use Rattle.association_slots.specs.declared.view.NextSeen.{NextSeen}
 use Rattle.association_slots.specs.declared.view.Addition.{Addition}
-use Rattle.association_slots.specs.declared.view.Mark.{Mark}
 use Rattle.association_slots.specs.declared.view.Added.{Added}
 use Rattle.association_slots.specs.declared.view.Added.TheVariants.{Number, Over, Gone}
 use Rattle.association_slots.specs.declared.view.ControlView.{ControlView}

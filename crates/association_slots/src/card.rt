@@ -1,6 +1,6 @@
 //! What a claim needs of a key.
 ghost use Rattle.std.specs.Prelude.{◌≡◌, ◌+◌, ◌≤◌, ◌++◌, length, slice_index};
-ghost use Rattle.association_slots.specs.Cards.{word_at, octets_of, length_flag, card_words, card_in};
+ghost use Rattle.association_slots.specs.Cards.{word_at, octets_of, card_words, card_in};
 ghost use Rattle.aes_block.specs.declared.secret.Secret.TheVariants.{S128, S256};
 
 use aes_block::Secret;

@@ -1,11 +1,11 @@
 //! What the rule of a table says: each of these holds between any two steps of any number of
 //! threads.
-ghost use Rattle.std.specs.Prelude.{◌≡◌, ◌≢◌, ◌⊎◌, ℕ, ◌+◌, ◌-◌, ◌*◌, ◌^◌, ◌<◌, ◌≤◌, Bool, List, true, false, slice_index};
+ghost use Rattle.std.specs.Prelude.{◌≡◌, ◌⊎◌, ℕ, ◌+◌, ◌^◌, ◌<◌, ◌≤◌, Bool, List, true, false, slice_index};
 ghost use mathlib.Core.Option.{some};
 ghost use lib.ListN.{get_elem?};
-ghost use Rattle.association_slots.specs.Cards.{Knows, card_at, card_words, card_in};
+ghost use Rattle.association_slots.specs.Cards.{Knows, card_at};
 ghost use Rattle.association_slots.specs.Rule.{Around, AtLeast, ClaimsRise, HoldsCards, IsAsLeft, Rise, tagged};
-ghost use Rattle.association_slots.specs.Views.{In, Among, adds, overs, gones, slot, current, present_at, IsOpen, WasShut, WasAbsent, met, lost, claimed, count_all};
+ghost use Rattle.association_slots.specs.Views.{In, Among, adds, overs, gones, slot, present_at, IsOpen, WasShut, WasAbsent, met, lost, claimed, count_all};
 ghost use Rattle.association_slots.specs.Words.{epoch_of, flag_of, next_of, an_of};
 ghost use Rattle.association_slots.specs.declared.card.Card.{Card};
 ghost use Rattle.association_slots.specs.declared.view.Addition.{Addition};

@@ -1,6 +1,6 @@
 //! A seat from which numbers are claimed.
-ghost use Rattle.std.specs.Prelude.{ℕ, ◌≡◌, ◌≢◌, ◌+◌, ◌*◌, ◌<◌, ◌≤◌, max, true, false, [], length, Some, IfSome, if◌then◌else◌};
-ghost use Rattle.association_slots.specs.Cards.{Knows, card_in};
+ghost use Rattle.std.specs.Prelude.{ℕ, ◌≡◌, ◌≢◌, ◌+◌, ◌*◌, ◌<◌, ◌≤◌, max, true, false, [], Some};
+ghost use Rattle.association_slots.specs.Cards.{Knows};
 ghost use Rattle.association_slots.specs.Steps.{loaded, did_read};
 ghost use Rattle.association_slots.specs.inside.Kept.{read_five};
 ghost use Rattle.association_slots.specs.Told.{Sees, IsAdded, ReadsMore};

@@ -1,7 +1,7 @@
 //! The work of the tests of protected frames.
 
 ghost use Rattle.std.specs.Prelude.{◌≡◌, ◌≤◌, length, replicate, IfOk};
-ghost use Rattle.cipher_bench.specs.Frames.{end_of, frame_tag_after, frame_to, next_number, frame_numbered, receiver, receiver_after, sender, tag_in};
+ghost use Rattle.cipher_bench.specs.Frames.{end_of, frame_tag_after, next_number, frame_numbered, receiver, receiver_after, tag_in};
 ghost use Rattle.cipher_bench.specs.Work.{stepped};
 ghost use Rattle.rx_slots.specs.Standing.{StandsFor};
 

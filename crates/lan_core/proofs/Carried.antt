@@ -1,8 +1,7 @@
 -- What a group stands for, carried over one more event.
-use Rattle.std.proofs.Common.{◌≡◌, ◌≢◌, ◌<◌, ◌≤◌, ◌+◌, ◌⊎◌, ℕ, Bool, true, false, cond, List, [], ◌∷◌, ◌++◌, length, map, drop}
-use Rattle.std.proofs.Common.{Option, Some, None, inl, inr, refl, ap, sym, subst, arith}
-use Rattle.std.specs.Prelude.{◌==◌, option_map, option_and_then, option_to_list, slice_get, sum, nat_lt, is_none, unwrap_or}
-use Rattle.std.specs.Option.{option_or}
+use Rattle.std.proofs.Common.{◌≡◌, ◌≢◌, ◌≤◌, ℕ, Bool, true, false, List, [], ◌∷◌, length, map, drop}
+use Rattle.std.proofs.Common.{Option, Some, None, refl, sym, subst, arith}
+use Rattle.std.specs.Prelude.{◌==◌, option_map, slice_get, sum, unwrap_or}
 use Rattle.std.proofs.lemmas.Bool.{eqb-true, eqb-false}
 use Rattle.std.proofs.lemmas.List.{append-nil, length-append, map-append}
 use Rattle.std.proofs.lemmas.Grind.{common_steps}
@@ -15,17 +14,14 @@ use Rattle.lan_core.specs.declared.event.Event.{Event}
 use Rattle.lan_core.specs.declared.event.Event.TheVariants as events
 use Rattle.lan_core.specs.declared.fact.Fact.{Fact}
 use Rattle.lan_core.specs.declared.settings.Settings.{Settings}
-use Rattle.lan_core.specs.declared.stop.Stop.{Stop}
-use Rattle.lan_core.specs.declared.stop.Stop.TheVariants.{Limit}
 use Rattle.lan_core.specs.declared.waiting.Sealed.{Sealed}
-use Rattle.lan_core.specs.Run.{Run, Happening, happened, Profile, started, stations}
-use Rattle.lan_core.specs.Ledgers.{Frame, air, emitted, installs, installs_at, gather, framed, install_of, AreNumbered}
-use Rattle.lan_core.specs.Lives.{Life, life, receiving, drawn_mi, slot_change, with_data, reaches}
-use Rattle.lan_core.specs.Claims.{Waiting, claimed, claimed_by, frame_of_claim}
+use Rattle.lan_core.specs.Run.{Run, Happening, Profile, started, stations}
+use Rattle.lan_core.specs.Ledgers.{Frame, emitted, installs, installs_at}
+use Rattle.lan_core.specs.Lives.{Life, life, receiving, drawn_mi, reaches}
+use Rattle.lan_core.specs.Claims.{Waiting, claimed, claimed_by}
 use Rattle.lan_core.specs.Expected.{expected, drawn_from}
-use Rattle.lan_core.specs.Order.{ticks, is_event_of, IsWithin}
-use Rattle.lan_core.specs.Stops.{draws_needed, is_spent, first_stop, stop_at, draws_in, mi_number, sak_number, sak_of_tick, passed}
-use Rattle.lan_core.specs.Standing.{Seat, Sits, State, StandsFor, IsSeated, Numbers, AreDrawn, in_order, sealed_of}
+use Rattle.lan_core.specs.Stops.{draws_needed, is_spent, first_stop, stop_at, draws_in, mi_number, sak_number, sak_of_tick}
+use Rattle.lan_core.specs.Standing.{Seat, Sits, IsSeated, Numbers, AreDrawn, in_order, sealed_of}
 use Rattle.lan_core.proofs.Gists.{AreOf, installs-of-others, slots-of-others}
 
 -- ---- stops

@@ -1,9 +1,8 @@
 -- A station of a group claims a packet number.
-use Rattle.std.proofs.Common.{◌≡◌, ◌≢◌, ◌<◌, ◌≤◌, ◌+◌, ◌⊎◌, ℕ, Bool, true, false, cond, List, [], ◌∷◌, ◌++◌, length, map, drop}
-use Rattle.std.proofs.Common.{Option, Some, None, inl, inr, refl, ap, sym, subst, arith}
-use Rattle.std.specs.Prelude.{◌==◌, option_map, option_and_then, option_to_list, slice_get, sum, nat_lt, is_some}
-use Rattle.std.specs.Option.{option_or}
-use Rattle.std.proofs.lemmas.Bool.{eqb-true, eqb-false, ne_eqb, lt-ltb, le-ltb}
+use Rattle.std.proofs.Common.{◌≡◌, ◌≤◌, ◌+◌, ℕ, Bool, true, false, cond, List, [], ◌∷◌, ◌++◌, length, map, drop}
+use Rattle.std.proofs.Common.{Option, Some, None, inl, inr, refl, ap, subst, arith}
+use Rattle.std.specs.Prelude.{◌==◌, option_map, option_to_list, slice_get}
+use Rattle.std.proofs.lemmas.Bool.{ne_eqb, lt-ltb, le-ltb}
 use Rattle.std.proofs.lemmas.List.{append-nil, length-append, map-append, drop-append-le}
 use Rattle.lan_base.specs.declared.frame.UserFrame.{UserFrame}
 use Rattle.lan_base.specs.Ranges.{IsUserData}
@@ -16,20 +15,18 @@ use Rattle.lan_core.specs.declared.event.Event.TheVariants as events
 use Rattle.lan_core.specs.declared.fact.Fact.{Fact}
 use Rattle.lan_core.specs.declared.fact.Fact.TheVariants as facts
 use Rattle.lan_core.specs.declared.fact.Lack.{Lack}
-use Rattle.lan_core.specs.declared.fact.Lack.TheVariants.{NoKey, Exhausted}
+use Rattle.lan_core.specs.declared.fact.Lack.TheVariants.{NoKey}
 use Rattle.lan_core.specs.declared.settings.Settings.{Settings}
-use Rattle.lan_core.specs.declared.stop.Stop.{Stop}
 use Rattle.lan_core.specs.declared.waiting.Sealed.{Sealed}
 use Rattle.lan_core.specs.Run.{Run, Happening, happened, Profile, stations}
 use Rattle.lan_core.specs.Ledgers.{air, emitted, framed, gather, installs, installs_at, install_of, Install, Frame}
 use Rattle.lan_core.specs.Lives.{Life, life, keys_in, receiving, setup_of, slot_change, drawn_mi, transmitting_at}
 use Rattle.rx_slots.specs.Histories.{Receiving}
-use Rattle.lan_core.specs.Claims.{Waiting, claimed, next, user_at, waiting_under, frame_of_claim}
+use Rattle.lan_core.specs.Claims.{claimed, next, user_at, waiting_under}
 use Rattle.lan_core.specs.Expected.{expected, drawn_from, claim_fact, number_fact, lack, last_number}
-use Rattle.lan_core.specs.Types.{IsUserFrame}
-use Rattle.lan_core.specs.Order.{IsWithin, IsSendable, ticks, most_frames, most_octets, most_ticks, most_stations}
-use Rattle.lan_core.specs.Stops.{IsDemanded, first_stop, passed, stop_at}
-use Rattle.lan_core.specs.Standing.{Seat, State, StandsFor, IsSeated, in_order, sealed_of}
+use Rattle.lan_core.specs.Order.{IsWithin, ticks, most_frames, most_octets, most_ticks, most_stations}
+use Rattle.lan_core.specs.Stops.{IsDemanded, passed}
+use Rattle.lan_core.specs.Standing.{State, StandsFor, IsSeated, sealed_of}
 use Rattle.lan_core.specs.inside.Steps.{GoesOn, claim_shown}
 use Rattle.lan_core.proofs.Limited.{none-over}
 use Rattle.lan_core.proofs.Carried.{meets, draws-none, sealed-same, IsThere}

@@ -1,9 +1,9 @@
 -- The oldest frame that waits is put on the air.
-use Rattle.std.proofs.Common.{◌≡◌, ◌≢◌, ◌<◌, ◌≤◌, ◌+◌, ℕ, zero, suc, true, false, List, [], ◌∷◌, ◌++◌, length, map, drop}
-use Rattle.std.proofs.Common.{Option, Some, None, refl, ap, sym, subst, arith}
-use Rattle.std.specs.Prelude.{option_map, option_and_then, slice_get, sum, is_some}
+use Rattle.std.proofs.Common.{◌≡◌, ◌≤◌, ◌+◌, ℕ, zero, suc, true, List, [], ◌∷◌, ◌++◌, length, map, drop}
+use Rattle.std.proofs.Common.{Option, Some, None, refl, ap, subst, arith}
+use Rattle.std.specs.Prelude.{option_map, slice_get, sum}
 use Rattle.std.specs.Option.{option_or}
-use Rattle.std.proofs.lemmas.List.{append-nil, length-append, length-map}
+use Rattle.std.proofs.lemmas.List.{append-nil, length-map}
 use Rattle.lan_base.specs.declared.frame.UserFrame.{UserFrame}
 use Rattle.lan_core.specs.declared.event.Event.TheVariants as events
 use Rattle.lan_core.specs.declared.fact.Fact.{Fact}
@@ -18,14 +18,14 @@ use Rattle.lan_core.specs.Ledgers.{Frame, air, emitted, installs, installs_at, n
 use Rattle.lan_core.specs.Lives.{life, receiving}
 use Rattle.lan_core.specs.Claims.{Waiting, claimed, waiting, frame_of_claim}
 use Rattle.lan_core.specs.Expected.{expected, drawn_from}
-use Rattle.lan_core.specs.Order.{ticks, most_installs}
-use Rattle.lan_core.specs.Stops.{first_stop, passed, is_over_installs, stop_at}
-use Rattle.lan_core.specs.Standing.{Seat, State, StandsFor, IsSeated, in_order, sealed_of}
+use Rattle.lan_core.specs.Order.{ticks}
+use Rattle.lan_core.specs.Stops.{first_stop, passed}
+use Rattle.lan_core.specs.Standing.{State, StandsFor, IsSeated, in_order, sealed_of}
 use Rattle.lan_core.specs.inside.Steps.{GoesOn, passed_with, passed_by}
 use Rattle.lan_core.specs.declared.limits.Extent.{Extent}
 use Rattle.lan_core.proofs.Places.{front-of, front-mapped, none-left, none-mapped}
 use Rattle.lan_core.proofs.Limited.{none-over, passed-is, within-where}
-use Rattle.lan_core.proofs.Carried.{meets, no-station, draws-none, sealed-same, order-length, order-sum}
+use Rattle.lan_core.proofs.Carried.{meets, draws-none, sealed-same, order-length, order-sum}
 
 -- the emission of a frame, as it happens
 abbrev pub emission : ℕ → Sealed → Happening

@@ -1,10 +1,9 @@
 -- The receive slots and the counts of a station follow the changes of its keys.
-use Rattle.std.proofs.Common.{◌≡◌, ◌∙◌, ◌+◌, ◌<◌, ◌≤◌, ℕ, Bool, true, false, cond, not, List, [], ◌∷◌, ◌++◌, length, map, take, drop, get_or, zero, suc, add-one, Option, Some, None, Result, Ok, Err, is_some, refl, ap, sym, subst, arith}
+use Rattle.std.proofs.Common.{◌≡◌, ◌∙◌, ◌+◌, ◌<◌, ◌≤◌, ℕ, Bool, true, false, cond, not, List, [], ◌∷◌, ◌++◌, length, map, take, drop, get_or, zero, suc, add-one, Option, Some, None, Result, Ok, Err, refl, ap, subst, arith}
 use Rattle.std.proofs.Math.Seq.{take-suc}
 use Rattle.std.proofs.lemmas.List.{take-append-drop}
 use Rattle.std.specs.Prelude.{◌==◌, option_map, option_to_list}
 use Rattle.std.specs.List.{filter, find}
-use Rattle.std.specs.Option.{option_and_then}
 use Rattle.lan_base.specs.declared.address.Mi.{Mi}
 use Rattle.lan_base.specs.declared.address.Sci.{Sci}
 use Rattle.aes_block.specs.declared.secret.Secret.{Secret}
@@ -16,7 +15,6 @@ use Rattle.sak_exchange.specs.declared.change.Change.{Change}
 use Rattle.sak_exchange.specs.declared.change.Change.TheVariants as changes
 use Rattle.sak_exchange.specs.declared.change.Why.{Why}
 use Rattle.sak_exchange.specs.declared.due.Seen.{Seen}
-use Rattle.sak_exchange.specs.declared.held_key.HeldKey.{HeldKey}
 use Rattle.sak_exchange.specs.declared.offer.Offer.{Offer}
 use Rattle.sak_exchange.specs.Histories.{Key, Keying, ticked as keys_ticked, installed as keys_installed, began as keys_began, installs, install_count, last_key, last_begun}
 use Rattle.sak_exchange.specs.Held.{latest, old, transmitting, received, ends, held, has_epoch, is_latest, is_retire_time_ago}
@@ -25,7 +23,7 @@ use Rattle.sak_exchange.specs.Beginning.{Beginning, retired}
 use Rattle.sak_exchange.specs.Making.{made_roster}
 use Rattle.sak_exchange.specs.Taking.{taken}
 use Rattle.sak_exchange.specs.Unwrapping.{given_sak}
-use Rattle.sak_exchange.specs.Outcomes.{beginning, dropping, retiring, installing, judging}
+use Rattle.sak_exchange.specs.Outcomes.{beginning, installing}
 use Rattle.sak_exchange.proofs.Cases.{by_test, by_option}
 use Rattle.mka_station.specs.declared.reaction.Reaction.{Reaction}
 use Rattle.mka_station.specs.declared.verdict.Verdict.{Verdict}

@@ -1,6 +1,6 @@
 -- Whether foreign octets are forged.
-use Rattle.std.proofs.Common.{◌≡◌, ◌<◌, ℕ, Bool, true, false, cond, List, [], ◌∷◌, ◌++◌, length}
-use Rattle.std.proofs.Common.{Option, Some, None, Result, Ok, Err, IfOk, refl, ap, sym, arith}
+use Rattle.std.proofs.Common.{◌≡◌, ◌<◌, ℕ, Bool, true, false, cond, List, [], ◌∷◌, length}
+use Rattle.std.proofs.Common.{Some, None, Result, Ok, Err, IfOk, refl, ap, sym, arith}
 use Rattle.std.specs.Prelude.{◌&&◌, ◌||◌, not, nat_eq, is_some, take}
 use Rattle.std.specs.List.{list_any}
 use Rattle.std.proofs.lemmas.List.Folds.{list_any-append}
@@ -10,7 +10,6 @@ use Rattle.mkpdu_codec.specs.declared.announcement.Announcement.{Announcement}
 use Rattle.mkpdu_codec.specs.declared.refusal.Refusal.{Refusal}
 use Rattle.mkpdu_codec.specs.declared.spelled.Spelled.{Spelled}
 use Rattle.mkpdu_codec.specs.Reading.{reading}
-use Rattle.mka_station.specs.declared.verdict.Verdict.{Verdict}
 use Rattle.mka_station.specs.declared.verdict.Verdict.TheVariants as verdicts
 use Rattle.mka_station.specs.Lives.{Setup}
 use Rattle.mka_station.specs.Hearing.{judged, read_as, right}
@@ -18,13 +17,12 @@ use Rattle.mka_kdf.specs.Kdf.{ick_of}
 use Rattle.aes_block.specs.Secrets.{secret_octets}
 use Rattle.lan_core.specs.declared.event.Event.TheVariants as events
 use Rattle.lan_core.specs.declared.settings.Settings.{Settings}
-use Rattle.lan_core.specs.declared.stop.Stop.{Stop}
 use Rattle.lan_core.specs.declared.stop.Stop.TheVariants.{Forged}
 use Rattle.lan_core.specs.Run.{Run, stations}
 use Rattle.lan_core.specs.Ledgers.{Frame, air}
 use Rattle.lan_core.specs.Lives.{setup_of}
 use Rattle.lan_core.specs.Order.{Exists}
-use Rattle.lan_core.specs.Fresh.{is_forged, is_right, repeats}
+use Rattle.lan_core.specs.Fresh.{is_forged}
 use Rattle.lan_core.specs.Stops.{stop_of_forgery}
 use Rattle.lan_core.specs.Standing.{in_order}
 use Rattle.lan_core.specs.inside.Judging.{is_of_group}

@@ -1,6 +1,6 @@
 -- What the facts of an event add to the ledgers of their station, and what they leave.
 use Rattle.std.proofs.Common.{◌≡◌, ◌≢◌, ◌+◌, ℕ, Bool, true, false, cond, List, [], ◌∷◌, ◌++◌, length, map}
-use Rattle.std.proofs.Common.{Option, Some, None, refl, sym, subst, arith}
+use Rattle.std.proofs.Common.{Option, Some, None, refl, arith}
 use Rattle.std.specs.Prelude.{◌==◌, option_map, option_to_list}
 use Rattle.std.specs.List.{filter}
 use Rattle.std.specs.Option.{option_or}
@@ -20,7 +20,7 @@ use Rattle.lan_core.specs.declared.fact.Fact.{Fact}
 use Rattle.lan_core.specs.declared.fact.Fact.TheVariants as facts
 use Rattle.lan_core.specs.declared.settings.Settings.{Settings}
 use Rattle.lan_core.specs.Run.{Run}
-use Rattle.lan_core.specs.Ledgers.{gather, with_one, install_of, Install, framed, Frame}
+use Rattle.lan_core.specs.Ledgers.{gather, install_of, Install, framed, Frame}
 use Rattle.lan_core.specs.Lives.{Life, receiving, slot_change, drawn_mi, drawn_sak, turn_at_tick}
 use Rattle.lan_core.specs.Expected.{change_fact, reaction_facts, tick_facts, reached_facts, restart_facts}
 use Rattle.lan_core.specs.Ledgers.{next_frame}

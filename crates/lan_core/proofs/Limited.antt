@@ -1,12 +1,12 @@
 -- The limits that a run passes.
-use Rattle.std.proofs.Common.{◌≡◌, ◌≢◌, ◌<◌, ◌≤◌, ◌+◌, ℕ, Bool, true, false, cond, List, [], ◌∷◌, ◌++◌, length, map}
+use Rattle.std.proofs.Common.{◌≡◌, ◌≢◌, ◌<◌, ◌≤◌, ℕ, Bool, true, false, cond, List, [], ◌∷◌, length, map}
 use Rattle.std.proofs.Common.{Option, Some, None, refl, sym, subst, arith}
 use Rattle.std.specs.Prelude.{◌==◌, ◌&&◌, ◌||◌, nat_lt, sum}
 use Rattle.std.specs.List.{list_any}
 use Rattle.std.proofs.lemmas.Bool.{eqb-true, eqb-false, lt-ltb, ltb-true, le-ltb, ltb-false}
 use Rattle.lan_core.specs.declared.stop.Which.{Which}
 use Rattle.lan_core.specs.Run.{Run, stations}
-use Rattle.lan_core.specs.Ledgers.{air, Install, installs, installs_at}
+use Rattle.lan_core.specs.Ledgers.{air, Install, installs}
 use Rattle.lan_core.specs.Order.{IsWithin, ticks, most_stations, most_ticks, most_frames, most_octets, most_installs}
 use Rattle.lan_core.specs.Stops.{passed, is_over_installs}
 use Rattle.lan_core.specs.inside.Steps.{passed_by}

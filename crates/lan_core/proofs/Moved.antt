@@ -1,26 +1,17 @@
 -- A group after an event at one of its stations.
-use Rattle.std.proofs.Common.{◌≡◌, ◌≢◌, ◌<◌, ◌≤◌, ◌+◌, ◌-◌, ℕ, Bool, zero, suc, true, false, cond, List, [], ◌∷◌, ◌++◌, length, map, drop}
-use Rattle.std.proofs.Common.{Option, Some, None, refl, ap, sym, subst, arith}
-use Rattle.std.specs.Prelude.{◌==◌, option_map, option_and_then, option_to_list, slice_get, sum, is_some, nat_lt, IsSomeAnd}
-use Rattle.std.specs.Option.{option_or}
+use Rattle.std.proofs.Common.{◌≡◌, ◌≢◌, ◌+◌, ◌-◌, ℕ, Bool, true, false, cond, List, [], ◌∷◌, ◌++◌, length}
+use Rattle.std.proofs.Common.{Option, Some, None, refl, arith}
+use Rattle.std.specs.Prelude.{◌==◌, option_map, slice_get}
 use Rattle.std.specs.List.{find}
 use Rattle.std.proofs.lemmas.Bool.{eqb-true, eqb-false, ne_eqb}
-use Rattle.std.proofs.lemmas.List.{append-nil, length-append, length-map}
 use Rattle.lan_base.specs.declared.frame.UserFrame.{UserFrame}
-use Rattle.rx_slots.specs.Histories.{Receiving}
-use Rattle.lan_core.specs.declared.event.Event.{Event}
 use Rattle.lan_core.specs.declared.event.Event.TheVariants as events
-use Rattle.lan_core.specs.declared.fact.Fact.{Fact}
 use Rattle.lan_core.specs.declared.settings.Settings.{Settings}
-use Rattle.lan_core.specs.declared.stop.Stop.{Stop}
-use Rattle.lan_core.specs.declared.stop.Stop.TheVariants.{Limit}
-use Rattle.lan_core.specs.declared.stop.Which.{Which}
-use Rattle.lan_core.specs.declared.waiting.Sealed.{Sealed}
-use Rattle.lan_core.specs.Run.{Run, Happening, happened, Profile, started, stations}
-use Rattle.lan_core.specs.Ledgers.{Frame, air, emitted, installs, installs_at, framed, gather, frame_at, AreNumbered}
+use Rattle.lan_core.specs.Run.{Run, Happening, Profile, started, stations}
+use Rattle.lan_core.specs.Ledgers.{Frame, air, emitted, installs, installs_at, AreNumbered}
 use Rattle.lan_core.specs.Lives.{Life, life, receiving, reaches, setup_of}
-use Rattle.lan_core.specs.Claims.{claimed, claimed_by}
-use Rattle.lan_core.specs.Order.{ticks, most_installs}
+use Rattle.lan_core.specs.Claims.{claimed_by}
+use Rattle.lan_core.specs.Order.{ticks}
 use Rattle.lan_core.specs.Stops.{passed}
 use Rattle.lan_core.specs.Standing.{Seat, State, StandsFor, IsSeated, Numbers, AreDrawn, in_order, octets_at}
 use Rattle.lan_core.specs.inside.Seats.{IsMoved, installs_in}

@@ -1,5 +1,5 @@
 -- A seat among seats that an event moves on.
-use Rattle.std.proofs.Common.{◌≡◌, ◌≢◌, ◌+◌, ◌⊎◌, ℕ, Bool, true, List, Option, Some, Result, Err, inl, inr, refl, ap, sym, subst}
+use Rattle.std.proofs.Common.{◌≡◌, ◌+◌, ◌⊎◌, ℕ, Bool, true, List, Some, Result, Err, inl, inr, refl, ap, sym, subst}
 use Rattle.std.specs.Prelude.{slice_get, set, get_or}
 use Rattle.std.proofs.lemmas.Option.{get_or_from_slice_get}
 use Rattle.mka_station.specs.declared.fault.StationFault.{StationFault}

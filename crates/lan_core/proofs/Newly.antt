@@ -1,5 +1,5 @@
 -- A group with no station stands for the empty run.
-use Rattle.std.proofs.Common.{ℕ, List, [], None, refl, arith}
+use Rattle.std.proofs.Common.{List, [], None, refl, arith}
 use Rattle.lan_base.specs.declared.frame.UserFrame.{UserFrame}
 use Rattle.lan_core.specs.declared.settings.Settings.{Settings}
 use Rattle.lan_core.specs.Run.{stations}

@@ -1,10 +1,9 @@
 -- Octets reach a station of a group.
-use Rattle.std.proofs.Common.{◌≡◌, ◌≢◌, ◌<◌, ◌≤◌, ◌+◌, ◌⊎◌, ℕ, Bool, true, false, cond, List, [], ◌∷◌, ◌++◌, length, map}
+use Rattle.std.proofs.Common.{◌≡◌, ◌≢◌, ℕ, Bool, true, false, cond, List, [], ◌∷◌, length, map}
 use Rattle.std.proofs.Common.{Option, Some, None, Result, Ok, Err, refl, ap, sym, subst, arith}
-use Rattle.std.specs.Prelude.{◌==◌, option_map, option_and_then, option_to_list, slice_get, sum, nat_lt, is_some, IsSomeAnd}
+use Rattle.std.specs.Prelude.{option_map, slice_get, sum, nat_lt, is_some, IsSomeAnd}
 use Rattle.std.specs.Option.{option_or}
 use Rattle.std.proofs.lemmas.Bool.{ne_eqb, le-ltb}
-use Rattle.std.proofs.lemmas.List.{append-nil, length-map}
 use Rattle.lan_base.specs.declared.frame.UserFrame.{UserFrame}
 use Rattle.mkpdu_codec.specs.declared.announcement.Announcement.{Announcement}
 use Rattle.gcm_frames.specs.Tags.{is_sec}
@@ -20,24 +19,23 @@ use Rattle.lan_core.specs.declared.fact.Fact.TheVariants as facts
 use Rattle.lan_core.specs.declared.settings.Settings.{Settings}
 use Rattle.lan_core.specs.declared.stop.Stop.{Stop}
 use Rattle.lan_core.specs.declared.stop.Stop.TheVariants.{Limit}
-use Rattle.lan_core.specs.declared.stop.Which.{Which}
 use Rattle.lan_core.specs.declared.stop.Which.TheVariants.{Keys}
 use Rattle.lan_core.specs.Run.{Run, Happening, happened, Profile, started, stations}
-use Rattle.lan_core.specs.Ledgers.{Frame, air, emitted, installs, installs_at, framed, gather, frame_at}
+use Rattle.lan_core.specs.Ledgers.{Frame, air, installs, installs_at, framed, gather, frame_at}
 use Rattle.lan_core.specs.Lives.{Life, life, receiving, reaches, setup_of, drawn_mi, lived_reached, lived_hearing, heard_data, slot_change}
-use Rattle.lan_core.specs.Claims.{claimed, claimed_by}
+use Rattle.lan_core.specs.Claims.{claimed_by}
 use Rattle.lan_core.specs.Expected.{expected, drawn_from, Drawn, reached_facts, reaction_facts}
 use Rattle.lan_core.specs.Order.{IsWithin, Exists, ticks, ticks_of, most_stations, most_ticks, most_frames, most_octets, most_installs}
-use Rattle.lan_core.specs.Stops.{draws_needed, first_stop, passed, is_over_installs, stop_at, stop_of_forgery, sak_of_tick}
-use Rattle.lan_core.specs.Standing.{Seat, State, StandsFor, IsSeated, in_order, octets_at}
-use Rattle.lan_core.specs.inside.Seats.{IsMoved, Reaches, installs_in}
+use Rattle.lan_core.specs.Stops.{draws_needed, first_stop, passed, is_over_installs, stop_of_forgery, sak_of_tick}
+use Rattle.lan_core.specs.Standing.{Seat, State, StandsFor, octets_at}
+use Rattle.lan_core.specs.inside.Seats.{IsMoved, Reaches}
 use Rattle.lan_core.specs.inside.Steps.{GoesOn, passed_by}
 use Rattle.lan_core.proofs.Gists.{AreOf, reached-is-of, reaction-air, reaction-begins-none, installs-of-others}
 use Rattle.lan_core.proofs.Limited.{over-at, passed-is}
 use Rattle.lan_core.proofs.Carried.{meets, no-station, draws-none, IsThere, is-there}
 use Rattle.lan_core.proofs.Places.{there-is}
 use Rattle.lan_core.proofs.Numbered.{mapped}
-use Rattle.lan_core.proofs.Moved.{IsQuiet, GoesOnAs, stands-after, counted-on, same-place, frame-of}
+use Rattle.lan_core.proofs.Moved.{IsQuiet, stands-after, counted-on, same-place, frame-of}
 
 -- ---- what it shows puts nothing on the air, and begins no life
 

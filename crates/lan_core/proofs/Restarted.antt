@@ -1,7 +1,7 @@
 -- A station of a group starts again.
-use Rattle.std.proofs.Common.{◌≡◌, ◌≢◌, ◌<◌, ◌≤◌, ◌+◌, ◌⊎◌, ℕ, Bool, true, false, cond, List, [], ◌∷◌, ◌++◌, length, map}
-use Rattle.std.proofs.Common.{Option, Some, None, Result, Ok, Err, refl, ap, sym, subst, arith}
-use Rattle.std.specs.Prelude.{◌==◌, option_map, option_and_then, option_to_list, slice_get, sum, nat_lt, is_some, is_none}
+use Rattle.std.proofs.Common.{◌≡◌, ◌+◌, ℕ, cond, List, [], ◌∷◌, length, map}
+use Rattle.std.proofs.Common.{Option, Some, None, refl, ap, sym, subst, arith}
+use Rattle.std.specs.Prelude.{option_map, slice_get, sum}
 use Rattle.std.specs.Option.{option_or}
 use Rattle.std.proofs.lemmas.Bool.{ne_eqb, le-ltb}
 use Rattle.lan_base.specs.declared.address.Mi.{Mi}
@@ -17,22 +17,22 @@ use Rattle.lan_core.specs.declared.fact.Fact.{Fact}
 use Rattle.lan_core.specs.declared.fact.Fact.TheVariants as facts
 use Rattle.lan_core.specs.declared.settings.Settings.{Settings}
 use Rattle.lan_core.specs.declared.stop.Stop.{Stop}
-use Rattle.lan_core.specs.declared.stop.Stop.TheVariants.{DrawsSpent, Limit, RepeatedDraw}
+use Rattle.lan_core.specs.declared.stop.Stop.TheVariants.{DrawsSpent, RepeatedDraw}
 use Rattle.lan_core.specs.declared.stop.Which.TheVariants.{Keys}
 use Rattle.lan_core.specs.Run.{Run, Happening, happened, Profile, stations}
-use Rattle.lan_core.specs.Ledgers.{Frame, air, emitted, installs, installs_at, framed, gather}
+use Rattle.lan_core.specs.Ledgers.{Frame, air, installs, installs_at, framed, gather}
 use Rattle.lan_core.specs.Lives.{Life, life, receiving, setup_of, drawn_mi, slot_change}
 use Rattle.lan_core.specs.Expected.{expected, drawn_from, restart_facts, reaction_facts}
-use Rattle.lan_core.specs.Order.{IsWithin, ticks, most_installs}
-use Rattle.lan_core.specs.Stops.{draws_needed, draws_in, is_spent, first_stop, passed, stop_at, stop_of_draw, sak_of_tick, mi_number, sak_number}
-use Rattle.lan_core.specs.Standing.{Seat, State, StandsFor, Numbers, AreDrawn, number_of_mi, in_order}
+use Rattle.lan_core.specs.Order.{ticks, most_installs}
+use Rattle.lan_core.specs.Stops.{draws_needed, draws_in, first_stop, passed, stop_of_draw, sak_of_tick, mi_number, sak_number}
+use Rattle.lan_core.specs.Standing.{Seat, State, StandsFor, Numbers, AreDrawn, number_of_mi}
 use Rattle.lan_core.specs.inside.Seats.{IsMoved, Restarts, installs_in}
 use Rattle.lan_core.specs.inside.Steps.{GoesOn, MiIsNoted, stop_of}
 use Rattle.lan_core.proofs.Gists.{AreOf, restart-is-of, reaction-air}
 use Rattle.lan_core.proofs.Followed.{in-reaction, ending-count}
 use Rattle.lan_core.proofs.Limited.{passed-is}
 use Rattle.lan_core.proofs.Carried.{meets, no-station, IsThere}
-use Rattle.lan_core.proofs.Moved.{IsQuiet, GoesOnAs, stands-after, counted-on, same-place}
+use Rattle.lan_core.proofs.Moved.{IsQuiet, stands-after, counted-on, same-place}
 use Rattle.lan_core.proofs.Reached.{only-keys, over-of}
 
 -- ---- draws

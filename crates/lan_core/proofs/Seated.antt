@@ -1,5 +1,5 @@
 -- The seat of a station goes on with what the station does.
-use Rattle.std.proofs.Common.{◌≡◌, ◌∙◌, ◌+◌, ◌≤◌, ℕ, Bool, true, false, cond, not, ◌&&◌, List, [], ◌∷◌, Option, Some, None, Result, Ok, Err, refl, ap, sym, subst, arith}
+use Rattle.std.proofs.Common.{◌≡◌, ◌∙◌, ◌+◌, ◌≤◌, ℕ, Bool, true, false, cond, not, ◌&&◌, List, [], ◌∷◌, Some, None, Result, Ok, Err, refl, ap, sym, subst, arith}
 use Rattle.std.specs.Prelude.{OnOk}
 use Rattle.aes_block.specs.declared.secret.Secret.{Secret}
 use Rattle.gcm_frames.specs.declared.tag.TagRefusal.TheVariants.{NotSec, Version, Mode, Short, SlWrong}
@@ -10,12 +10,11 @@ use Rattle.rx_slots.specs.Histories.{Receiving}
 use Rattle.rx_slots.specs.Standing.{StandsFor as SlotsStandFor}
 use Rattle.sak_exchange.specs.declared.change.Change.{Change}
 use Rattle.sak_exchange.specs.declared.due.Seen.{Seen}
-use Rattle.sak_exchange.specs.Histories.{install_count}
-use Rattle.mka_station.specs.Lives.{Member, Entry, peers_of, keys_of}
+use Rattle.mka_station.specs.Lives.{Member, peers_of, keys_of}
 use Rattle.mka_station.specs.Tick.{tick_turn}
 use Rattle.mka_station.specs.Hearing.{frame_turn, hear_turn}
 use Rattle.mka_station.specs.Standing.{StandsFor as StationStandsFor}
-use Rattle.lan_core.specs.Lives.{Life, lived, lived_ticking, receiving, seen_at, slot_change, turn_at_tick}
+use Rattle.lan_core.specs.Lives.{Life, lived, lived_ticking, seen_at, slot_change, turn_at_tick}
 use Rattle.lan_core.specs.Standing.{Seat, Sits}
 use Rattle.lan_core.specs.inside.Following.{followed, count_installed, tells_sec}
 use Rattle.lan_core.specs.declared.fact.Fact.{Fact}

@@ -1,8 +1,8 @@
 -- What frames spell decides which of them are repeated: two frames spell the same exactly where they have the same covered octets and the same check values.
-use Rattle.std.proofs.Common.{◌≡◌, ◌∙◌, ℕ, ◌+◌, ◌-◌, ◌%◌, ◌≤◌, Bool, true, false, ◌||◌, List, [], ◌∷◌, ◌++◌, map, length, take, drop, refl, sym, ap, subst, arith}
+use Rattle.std.proofs.Common.{◌≡◌, ◌∙◌, ℕ, ◌+◌, ◌-◌, ◌%◌, ◌≤◌, Bool, true, false, ◌||◌, List, [], ◌∷◌, ◌++◌, length, take, drop, refl, sym, ap, subst, arith}
 use Rattle.std.proofs.lemmas.Bool.Decides.{nat_tests}
 use Rattle.std.proofs.lemmas.List.{take_at, drop_at, length-drop, length-take-le}
-use Rattle.std.specs.Prelude.{◌&&◌, ◌==◌, nat_eq, nat_le, not, if◌then◌else◌, sum, All, Option, Some, None, Result, Ok, Err}
+use Rattle.std.specs.Prelude.{◌&&◌, ◌==◌, nat_eq, nat_le, not, if◌then◌else◌, Option, Some, None, Result, Ok, Err}
 use Rattle.std.specs.List.{list_any}
 use lib.Pointwise.{pointwise, bytes_decides}
 use Rattle.mkpdu_codec.specs.declared.announcement.Announcement.{Announcement}

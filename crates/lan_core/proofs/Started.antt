@@ -1,9 +1,9 @@
 -- A station of a group begins its first life.
-use Rattle.std.proofs.Common.{◌≡◌, ◌≢◌, ◌<◌, ◌≤◌, ◌+◌, ◌⊎◌, ℕ, Bool, zero, suc, true, false, cond, List, [], ◌∷◌, ◌++◌, length, map, drop}
-use Rattle.std.proofs.Common.{Option, Some, None, Result, Ok, Err, refl, ap, sym, subst, arith}
-use Rattle.std.specs.Prelude.{◌==◌, option_map, option_and_then, option_to_list, slice_get, sum, nat_lt, is_some, is_none}
+use Rattle.std.proofs.Common.{◌≡◌, ◌≢◌, ◌<◌, ◌≤◌, ◌+◌, ℕ, Bool, suc, true, false, cond, List, [], ◌∷◌, ◌++◌, length, map, drop}
+use Rattle.std.proofs.Common.{Option, Some, None, refl, ap, sym, subst, arith}
+use Rattle.std.specs.Prelude.{◌==◌, option_map, option_and_then, slice_get, sum, nat_lt, is_some}
 use Rattle.std.specs.Option.{option_or}
-use Rattle.std.proofs.lemmas.Bool.{eqb-true, eqb-false, ne_eqb, le-ltb, lt-ltb}
+use Rattle.std.proofs.lemmas.Bool.{eqb-true, eqb-false, le-ltb, lt-ltb}
 use Rattle.std.proofs.lemmas.List.{append-nil, length-append, length-map, map-append}
 use Rattle.lan_base.specs.declared.address.Mi.{Mi}
 use Rattle.lan_base.specs.declared.address.Sci.{Sci}
@@ -12,23 +12,20 @@ use Rattle.lan_base.specs.declared.frame.UserFrame.{UserFrame}
 use Rattle.rx_slots.specs.Histories.{Receiving}
 use Rattle.mka_station.specs.Lives.{keys_of}
 use Rattle.mka_station.specs.Standing.{drawn_mi as mi_of_draw, born}
-use Rattle.lan_core.specs.declared.event.Event.{Event}
 use Rattle.lan_core.specs.declared.event.Event.TheVariants as events
 use Rattle.lan_core.specs.declared.fact.Fact.{Fact}
 use Rattle.lan_core.specs.declared.fact.Fact.TheVariants as facts
 use Rattle.lan_core.specs.declared.settings.Settings.{Settings}
-use Rattle.lan_core.specs.declared.stop.Stop.{Stop}
 use Rattle.lan_core.specs.declared.stop.Stop.TheVariants.{Limit}
-use Rattle.lan_core.specs.declared.stop.Which.{Which}
 use Rattle.lan_core.specs.declared.stop.Which.TheVariants.{Stations}
 use Rattle.lan_core.specs.declared.waiting.Sealed.{Sealed}
 use Rattle.lan_core.specs.Run.{Run, Happening, happened, Profile, stations}
 use Rattle.lan_core.specs.Ledgers.{air, emitted, installs, installs_at}
 use Rattle.lan_core.specs.Lives.{Life, life, receiving, setup_of}
-use Rattle.lan_core.specs.Claims.{Waiting, claimed, frame_of_claim, frame_by, user_at}
+use Rattle.lan_core.specs.Claims.{Waiting, claimed, frame_by, user_at}
 use Rattle.lan_core.specs.Expected.{expected, drawn_from}
 use Rattle.lan_core.specs.Order.{ticks, IsWithin, most_stations, most_ticks, most_frames, most_octets, most_installs}
-use Rattle.lan_core.specs.Stops.{draws_needed, first_stop, passed, is_over_installs}
+use Rattle.lan_core.specs.Stops.{first_stop, passed, is_over_installs}
 use Rattle.lan_core.specs.Standing.{Seat, Sits, State, StandsFor, IsSeated, Numbers, number_of_mi, sealed_of}
 use Rattle.lan_core.specs.inside.Steps.{GoesOn, MiIsNoted, stop_of, passed_by}
 use Rattle.lan_core.proofs.Places.{last-here, before-last, stays}

@@ -1,6 +1,6 @@
 -- What stops an event, worked by hand at small runs: no draws left, a limit, a draw that repeats,
 -- foreign octets that are forged. Ciphers stay closed.
-use Rattle.std.proofs.Common.{◌≡◌, ◌≢◌, ◌∙◌, ◌≤◌, ◌+◌, ℕ, zero, suc, Bool, true, false, cond, List, [], ◌∷◌, ◌++◌, length, map}
+use Rattle.std.proofs.Common.{◌≡◌, ◌≢◌, ◌∙◌, ◌≤◌, ◌+◌, ℕ, zero, suc, true, false, cond, List, [], ◌∷◌, ◌++◌, length, map}
 use Rattle.std.proofs.Common.{Option, Some, None, refl, ap, arith}
 use Rattle.std.specs.Prelude.{◌==◌, replicate, nat_lt, sum, is_some}
 use Rattle.std.proofs.lemmas.List.{length-replicate}
@@ -19,20 +19,18 @@ use Rattle.lan_core.specs.declared.event.Event.{Event}
 use Rattle.lan_core.specs.declared.event.Event.TheVariants as events
 use Rattle.lan_core.specs.declared.fact.Fact.{Fact}
 use Rattle.lan_core.specs.declared.fact.Fact.TheVariants as facts
-use Rattle.lan_core.specs.declared.settings.Settings.{Settings}
 use Rattle.lan_core.specs.declared.stop.Stop.TheVariants.{DrawsSpent, Limit, RepeatedDraw, Forged}
 use Rattle.lan_core.specs.declared.stop.Which.TheVariants.{Frames, Octets, Ticks, Keys, Stations}
 use Rattle.lan_core.specs.Run.{Run, Happening, happened, Profile, started, stations}
-use Rattle.lan_core.specs.Ledgers.{gather, collect, Frame, air, framed, births, Install, install_of, installs, installs_at}
+use Rattle.lan_core.specs.Ledgers.{gather, collect, Frame, air, framed, births, install_of, installs, installs_at}
 use Rattle.lan_core.specs.Lives.{life, receiving, setup_of}
 use Rattle.lan_core.specs.Claims.{next, claimed}
 use Rattle.lan_core.specs.Expected.{expected}
-use Rattle.lan_core.specs.Order.{ticks, ticks_of, most_stations, most_ticks, most_frames, most_octets, most_installs}
+use Rattle.lan_core.specs.Order.{ticks, ticks_of, most_ticks, most_frames, most_octets, most_installs}
 use Rattle.lan_core.specs.Fresh.{drawn_saks, repeats}
-use Rattle.lan_core.specs.Stops.{draws_in, draws_needed, is_spent, mi_number, sak_number, passed, is_over_installs}
+use Rattle.lan_core.specs.Stops.{draws_in, draws_needed, is_spent, mi_number, sak_number, passed}
 use Rattle.lan_core.specs.Stops.{stop_of_draw, stop_of_forgery, stop_at, first_stop}
 use Rattle.lan_core.specs.inside.Steps.{passed_by}
-use Rattle.lan_core.proofs.Gists.{installs_of}
 use Rattle.lan_core.proofs.Limited.{none-over, over-at, passed-is}
 use Rattle.lan_core.proofs.Examples.{headed, id, mi, play, sak, sci, settings, two}
 

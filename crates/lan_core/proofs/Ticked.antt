@@ -1,7 +1,7 @@
 -- A tick at a station of a group.
-use Rattle.std.proofs.Common.{◌≡◌, ◌≢◌, ◌<◌, ◌≤◌, ◌+◌, ◌-◌, ◌⊎◌, ℕ, Bool, true, false, cond, List, [], ◌∷◌, ◌++◌, length, map}
-use Rattle.std.proofs.Common.{Option, Some, None, Result, Ok, Err, inl, inr, refl, ap, sym, subst, arith}
-use Rattle.std.specs.Prelude.{◌==◌, ◌&&◌, option_map, option_and_then, option_to_list, slice_get, sum, nat_lt, is_some, is_none, unwrap_or}
+use Rattle.std.proofs.Common.{◌≡◌, ◌+◌, ◌-◌, ℕ, Bool, true, false, cond, List, [], ◌∷◌, ◌++◌, length, map}
+use Rattle.std.proofs.Common.{Option, Some, None, refl, ap, sym, subst, arith}
+use Rattle.std.specs.Prelude.{◌&&◌, option_map, option_and_then, option_to_list, slice_get, sum, is_none, unwrap_or}
 use Rattle.std.specs.Option.{option_or}
 use Rattle.std.specs.List.{filter}
 use Rattle.std.proofs.lemmas.Bool.{ne_eqb}
@@ -22,10 +22,9 @@ use Rattle.mka_station.specs.Lives.{Member, Entry, ticked}
 use Rattle.mka_station.specs.Views.{view, reports}
 use Rattle.mka_station.specs.Announcing.{says_now, lowest_in, frame_of}
 use Rattle.mka_station.specs.Tick.{Turn, tick_turn, new_server, ended, with_beginning, led, makes_now, made, with_install, install_changes, with_sent}
-use Rattle.mka_station.specs.Drawing.{is_wide, next_sak, sak_of, draws_for, draws_at, makes_next, is_short}
+use Rattle.mka_station.specs.Drawing.{is_wide, next_sak, sak_of, draws_for, makes_next, is_short}
 use Rattle.lan_core.specs.declared.came.Came.{Came}
 use Rattle.lan_core.specs.declared.event.Event.TheVariants as events
-use Rattle.lan_core.specs.declared.fact.Fact.{Fact}
 use Rattle.lan_core.specs.declared.fact.Fact.TheVariants as facts
 use Rattle.lan_core.specs.declared.settings.Settings.{Settings}
 use Rattle.lan_core.specs.declared.stop.Stop.{Stop}
@@ -33,19 +32,18 @@ use Rattle.lan_core.specs.declared.stop.Stop.TheVariants.{Limit, DrawsSpent, Rep
 use Rattle.lan_core.specs.declared.stop.Which.{Which}
 use Rattle.lan_core.proofs.Numbered.{by_event}
 use Rattle.lan_core.specs.Run.{Run, Happening, happened, Profile, stations}
-use Rattle.lan_core.specs.Ledgers.{Frame, air, emitted, installs, installs_at, framed, gather, next_frame}
-use Rattle.lan_core.specs.Lives.{Life, life, receiving, reaches, setup_of, drawn_mi, drawn_sak, sak_in, no_sak, seen_at, lived_ticking, turn_at_tick, slot_change}
-use Rattle.lan_core.specs.Claims.{claimed, claimed_by}
-use Rattle.lan_core.specs.Expected.{expected, drawn_from, tick_facts, reaction_facts}
-use Rattle.lan_core.specs.Order.{IsWithin, ticks, most_installs}
-use Rattle.lan_core.specs.Stops.{draws_needed, draws_by, draws_in, is_spent, first_stop, passed, is_over_installs, stop_at, stop_of_draw, sak_of_tick, mi_number, sak_number, same_secret}
+use Rattle.lan_core.specs.Ledgers.{Frame, air, installs, framed, gather, next_frame}
+use Rattle.lan_core.specs.Lives.{Life, life, receiving, setup_of, drawn_mi, drawn_sak, sak_in, no_sak, seen_at, lived_ticking, turn_at_tick}
+use Rattle.lan_core.specs.Expected.{expected, drawn_from, tick_facts}
+use Rattle.lan_core.specs.Order.{ticks}
+use Rattle.lan_core.specs.Stops.{draws_needed, draws_in, is_spent, first_stop, passed, sak_of_tick, mi_number, sak_number}
 use Rattle.lan_core.specs.Standing.{Seat, State, StandsFor, Numbers, AreDrawn, number_of_sak, in_order}
 use Rattle.lan_core.specs.inside.Seats.{Ticks}
 use Rattle.lan_core.specs.inside.Steps.{GoesOn, passed_with, sent_in, stop_of, IfNoted}
 use Rattle.lan_core.proofs.Gists.{AreOf, tick-is-of, reaction-air, reaction-sends, reaction-begins-none, reaction-installs, installed_by}
 use Rattle.lan_core.proofs.Limited.{passed-is}
-use Rattle.lan_core.proofs.Carried.{meets, no-station, draws-none, IsThere, order-length, order-sum}
-use Rattle.lan_core.proofs.Moved.{IsQuiet, GoesOnAs, stands-after, counted-on, same-place}
+use Rattle.lan_core.proofs.Carried.{meets, draws-none, IsThere, order-length, order-sum}
+use Rattle.lan_core.proofs.Moved.{stands-after, counted-on, same-place}
 use Rattle.lan_core.proofs.Reached.{over-of}
 
 -- ---- the key that a tick makes is the one that it shows

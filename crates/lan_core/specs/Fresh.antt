@@ -1,5 +1,5 @@
 -- Premises on a run: drawn values differ, and nobody forges a frame of the group.
-use Rattle.std.specs.Prelude.{◌≡◌, ◌≢◌, ℕ, Bool, nat_eq, ◌&&◌, false, not, List, [], ◌∷◌, map, take}
+use Rattle.std.specs.Prelude.{◌≡◌, ℕ, Bool, nat_eq, ◌&&◌, false, not, List, [], ◌∷◌, map, take}
 use Rattle.std.specs.Prelude.{Option, None, is_some, option_map, Result, Ok}
 use Rattle.std.specs.List.{list_any}
 use lib.Pointwise.{pointwise}

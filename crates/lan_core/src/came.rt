@@ -1,6 +1,6 @@
 //! What an event comes to at its station.
 
-ghost use Rattle.std.specs.Prelude.{◌≡◌, option_map};
+ghost use Rattle.std.specs.Prelude.{◌≡◌};
 ghost use Rattle.std.specs.Option.{option_copied};
 ghost use Rattle.lan_core.specs.Lives.{drawn_sak};
 ghost use Rattle.lan_core.specs.inside.Steps.{sent_in};

@@ -1,6 +1,6 @@
 //! Whether foreign octets are forged.
 
-ghost use Rattle.std.specs.Prelude.{◌≡◌, ◌≢◌, false, is_some, length, take, ◌≤◌, IfOk};
+ghost use Rattle.std.specs.Prelude.{◌≡◌, ◌≢◌, false, is_some, length, ◌≤◌, IfOk};
 ghost use Rattle.mkpdu_codec.specs.declared.refusal.Refusal.{Refusal};
 ghost use Rattle.mka_station.specs.Lives.{Setup};
 ghost use Rattle.mka_station.specs.Hearing.{right};

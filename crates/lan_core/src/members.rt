@@ -1,6 +1,6 @@
 //! The stations of a group, by their places.
 
-ghost use Rattle.std.specs.Prelude.{◌≡◌, ◌≤◌, ◌++◌, ◌∷◌, ◌⊎◌, [], true, length, slice_get, option_map, Option, Some, IsSomeAnd, IfOk, IfErr, OnOk, List, ℕ};
+ghost use Rattle.std.specs.Prelude.{◌≡◌, ◌≤◌, ◌++◌, ◌∷◌, ◌⊎◌, [], true, length, slice_get, Option, Some, IsSomeAnd, IfOk, IfErr, OnOk, List};
 ghost use Rattle.std.specs.Option.{option_copied};
 ghost use Rattle.mka_station.specs.Drawing.{is_short};
 ghost use Rattle.mka_station.specs.declared.fault.StationFault.{StationFault};

@@ -1,10 +1,10 @@
 -- A claim with no other seat out.
-use Rattle.std.proofs.Common.{◌≡◌, ◌≢◌, ◌⊎◌, ℕ, zero, suc, ◌+◌, ◌-◌, ◌*◌, ◌^◌, ◌<◌, ◌≤◌, max, Bool, true, false, not, ◌&&◌, nat_le, List, [], ◌∷◌, ◌++◌, map, length, get_or, set, Result, Ok, Err, MatchResult, refl, sym, ap, ◌∙◌, subst, inl, inr, ⊎_elim, arith, eq-eqb, le-leb, append-nil, length-set, get_or-set_other, get_or-set_same}
+use Rattle.std.proofs.Common.{◌≡◌, ◌⊎◌, ℕ, zero, suc, ◌+◌, ◌-◌, ◌^◌, ◌<◌, ◌≤◌, Bool, true, false, not, ◌&&◌, nat_le, List, [], ◌∷◌, ◌++◌, map, length, get_or, set, Result, Ok, Err, MatchResult, refl, sym, ap, ◌∙◌, subst, inl, inr, ⊎_elim, arith, eq-eqb, le-leb, length-set, get_or-set_other, get_or-set_same}
 use mathlib.Core.Logic.{dite}
 use native.Mathlib.Decide.{ℕ_discrete}
-use Rattle.std.proofs.lemmas.Bool.{false≢true, and_from}
-use Rattle.association_slots.specs.Cards.{card_at, Knows}
-use Rattle.association_slots.specs.Views.{In, cons_if, slot, current, present_at, WasAbsent, IsOpen, AllIn, free, free_number, weigh, one, met, told_sum}
+use Rattle.std.proofs.lemmas.Bool.{and_from}
+use Rattle.association_slots.specs.Cards.{Knows}
+use Rattle.association_slots.specs.Views.{In, slot, current, present_at, IsOpen, AllIn, free, free_number, weigh, one, met, told_sum}
 use Rattle.association_slots.specs.Steps.{seated, new_seat, told, least_next, given_of}
 use Rattle.association_slots.specs.Learned.{Learned}
 use Rattle.association_slots.specs.declared.card.Card.{Card}

@@ -1,17 +1,15 @@
 -- What a claim has done, step by step.
-use Rattle.std.proofs.Common.{◌≡◌, ◌≢◌, ◌⊎◌, ℕ, ◌+◌, ◌<◌, ◌≤◌, max, Bool, true, false, not, List, [], ◌∷◌, ◌++◌, map, refl, sym, ap, ◌∙◌, subst, inl, inr, ⊎_elim, arith}
+use Rattle.std.proofs.Common.{◌≡◌, ◌≢◌, ◌⊎◌, ℕ, ◌+◌, ◌<◌, ◌≤◌, Bool, true, false, not, List, [], ◌∷◌, ◌++◌, refl, sym, ap, ◌∙◌, subst, inl, inr, ⊎_elim, arith}
 use Rattle.std.proofs.lemmas.Bool.{false≢true, cases_lt}
 use Rattle.association_slots.specs.Cards.{Knows}
 use Rattle.association_slots.specs.Views.{In, cons_if, greatest, mark}
-use Rattle.association_slots.specs.Steps.{loaded, added, addition}
-use Rattle.association_slots.specs.Told.{Sees, Gives, IsAdded, ReadsMore}
+use Rattle.association_slots.specs.Steps.{loaded, addition}
+use Rattle.association_slots.specs.Told.{Sees, IsAdded, ReadsMore}
 use Rattle.association_slots.specs.declared.card.Card.{Card}
 use Rattle.association_slots.specs.declared.view.Current.{Current}
 use Rattle.association_slots.specs.declared.view.Mark.{Mark}
 use Rattle.association_slots.specs.declared.view.Start.{Start}
-use Rattle.association_slots.specs.declared.view.NextSeen.{NextSeen}
 use Rattle.association_slots.specs.declared.view.Addition.{Addition}
-use Rattle.association_slots.specs.declared.view.Added.{Added}
 use Rattle.association_slots.specs.declared.view.Added.TheVariants.{Number, Over, Gone}
 use Rattle.association_slots.specs.declared.view.SeatView.{SeatView}
 use Rattle.association_slots.proofs.Lists.{behind_cons_if, at_cons_if}
@@ -19,7 +17,7 @@ use Rattle.std.proofs.Common.{Result, Err}
 use Rattle.packet_claims.specs.declared.answers.Claim.{Claim}
 use Rattle.packet_claims.specs.declared.answers.NoClaim.{NoClaim}
 use Rattle.packet_claims.specs.declared.answers.NoClaim.TheVariants.{NoKey, Exhausted}
-use Rattle.packet_claims.specs.Claims.{gone_mark, Stays, NotBelow, Above, IsClaim, IsNoKey, IsExhausted}
+use Rattle.packet_claims.specs.Claims.{Stays, NotBelow, Above, IsClaim, IsNoKey, IsExhausted}
 use Rattle.packet_claims.specs.inside.Tries.{Tries}
 
 greatest_low : (m : Mark) (ms : List Mark) → In m ms → m.epoch ≤ greatest ms

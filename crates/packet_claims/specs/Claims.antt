@@ -1,5 +1,5 @@
 -- What a call of `claim` did to the view v of its seat, which is w after it.
-use Rattle.std.specs.Prelude.{◌≡◌, ◌⊎◌, ℕ, ◌^◌, ◌<◌, ◌≤◌, Bool, true, false, List, [], ◌∷◌, ◌++◌, map, Result, Ok, Err}
+use Rattle.std.specs.Prelude.{◌≡◌, ◌⊎◌, ℕ, ◌^◌, ◌<◌, ◌≤◌, true, false, List, ◌∷◌, ◌++◌, map, Result, Ok, Err}
 use Rattle.association_slots.specs.Cards.{Knows}
 use Rattle.association_slots.specs.Views.{In}
 use Rattle.association_slots.specs.declared.card.Card.{Card}

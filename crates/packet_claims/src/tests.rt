@@ -1,5 +1,4 @@
 ghost use Rattle.std.specs.Prelude.{◌≡◌, ◌≤◌, IfOk};
-ghost use Rattle.association_slots.specs.Views.{free_number};
 
 use super::*;
 use aes_block::Secret;

@@ -1,11 +1,11 @@
 //! What holds of the keys after every history.
 
-ghost use Rattle.std.specs.Prelude.{◌≡◌, ◌≢◌, ◌≤◌, ◌<◌, ◌+◌, ◌++◌, ◌∷◌, ◌↔◌, not, ℕ, List, Option, Some, None, true, IsTrue, IsFalse, is_some, length};
+ghost use Rattle.std.specs.Prelude.{◌≡◌, ◌≢◌, ◌≤◌, ◌<◌, ◌+◌, ◌++◌, ◌∷◌, ◌↔◌, ℕ, List, Option, Some, None, true, IsTrue, IsFalse, is_some, length};
 ghost use Rattle.aes_block.specs.Aes.{IsKey, IsOctets};
 ghost use Rattle.key_wrap.specs.Wrap.{wrapped};
 ghost use Rattle.lan_base.specs.declared.address.Mi.{Mi};
 ghost use Rattle.lan_base.specs.Falling.{IsFalling};
-ghost use Rattle.sak_exchange.specs.Histories.{Key, Keying, ticked, installed, began, clock, last_key, begun_at, has_begun, beginnings};
+ghost use Rattle.sak_exchange.specs.Histories.{Key, Keying, ticked, installed, clock, last_key, begun_at, has_begun, beginnings};
 ghost use Rattle.sak_exchange.specs.Held.{Kept, received, latest, old, transmitting};
 ghost use Rattle.sak_exchange.specs.Beginning.{retired};
 ghost use Rattle.sak_exchange.specs.Making.{is_used, next_an};

@@ -1,6 +1,6 @@
 //! The generator of values.
 
-ghost use Rattle.std.specs.Prelude.{◌≡◌, ◌<◌, ◌/◌, ◌^◌};
+ghost use Rattle.std.specs.Prelude.{◌≡◌, ◌/◌, ◌^◌};
 ghost use Rattle.trace_maker.specs.Generator.{next};
 
 const MULTIPLIER: u64 = 6_364_136_223_846_793_005;

@@ -1,6 +1,6 @@
 //! The listed draws of a line.
 
-ghost use Rattle.std.specs.Prelude.{◌≡◌, Ok, IsOk, IfOk};
+ghost use Rattle.std.specs.Prelude.{◌≡◌, Ok, IsOk};
 ghost use Rattle.trace_text.specs.Words.{words_of};
 ghost use Rattle.trace_text.specs.Reading.{blocks_of};
 ghost use Rattle.trace_text.specs.inside.Answering.{Answers, checked};

@@ -1,6 +1,6 @@
 //! What one word says.
 
-ghost use Rattle.std.specs.Prelude.{◌≡◌, ◌≤◌, Ok, Some, None, IsOk, IfOk, IsTrue, length, if◌then◌else◌};
+ghost use Rattle.std.specs.Prelude.{◌≡◌, Ok, Some, None, IsOk, IfOk, IsTrue, length, if◌then◌else◌};
 ghost use Rattle.std.specs.List.{list_all};
 ghost use Rattle.std.specs.Option.{option_map};
 ghost use Rattle.std.specs.Result.{result_ok};

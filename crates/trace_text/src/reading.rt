@@ -2,7 +2,6 @@
 
 ghost use Rattle.std.specs.Prelude.{◌≡◌, ◌≢◌, ◌↔◌, Ok, Err, Some, None, IfOk, IfSome};
 ghost use Rattle.trace_text.specs.Reading.{line_in, first_fault, is_comment};
-ghost use Rattle.trace_text.specs.Words.{words_of};
 ghost use Rattle.trace_text.specs.Writing.{IsInForm};
 ghost use Rattle.trace_text.specs.inside.Answering.{Answers};
 ghost use Rattle.trace_text.specs.declared.fault.TextFault.{TextFault};

@@ -1,5 +1,5 @@
 -- The text of facts.
-use Rattle.std.specs.Prelude.{ℕ, ◌≡◌, ◌≢◌, List, [], ◌∷◌, ◌++◌, map}
+use Rattle.std.specs.Prelude.{ℕ, ◌≡◌, List, [], ◌∷◌, ◌++◌, map}
 use Rattle.std.specs.List.{All, flat_map}
 use Rattle.lan_base.specs.Name.{IsName}
 use Rattle.lan_base.specs.Differing.{AllDiffer}

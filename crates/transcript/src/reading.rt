@@ -1,6 +1,6 @@
 //! A line is read back.
 
-ghost use Rattle.std.specs.Prelude.{◌≡◌, ◌<◌, ◌↔◌, ◌∷◌, ℕ, List, Ok, Err, IfOk, length};
+ghost use Rattle.std.specs.Prelude.{◌≡◌, ◌<◌, ◌↔◌, ◌∷◌, Err, IfOk, length};
 ghost use Rattle.lan_core.specs.declared.fact.Fact.{Fact};
 ghost use Rattle.lan_core.specs.Run.{place};
 ghost use Rattle.transcript.specs.Rendering.{Says, AreNames};

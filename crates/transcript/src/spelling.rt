@@ -1,6 +1,6 @@
 //! What one word says.
 
-ghost use Rattle.std.specs.Prelude.{ℕ, ◌≡◌, ◌≤◌, ◌<◌, ◌+◌, ◌^◌, Ok, Some, None, IsTrue, IfSome, decimal, length, nat_lt, nat_le};
+ghost use Rattle.std.specs.Prelude.{ℕ, ◌≡◌, ◌<◌, ◌^◌, Ok, Some, None, decimal, nat_le};
 ghost use Rattle.std.specs.List.{list_all};
 ghost use Rattle.trace_text.specs.Words.{is_word};
 ghost use Rattle.transcript.specs.inside.Reading.{and_then, kept_if, position_of, station_of, whole_of, is_small_digit, is_pairs, octets_of, array_of, member_of, server_of, secret_of, said_by, causes, secs, tags};

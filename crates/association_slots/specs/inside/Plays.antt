@@ -1,6 +1,6 @@
 -- What each step on a word tells the one that makes it: its new view, from what the word showed,
 -- and what it may conclude.
-use Rattle.std.specs.Prelude.{◌≡◌, ℕ, ◌<◌, ◌≤◌, true, false}
+use Rattle.std.specs.Prelude.{◌≡◌, ℕ, ◌≤◌, false}
 use Rattle.atomic_table.specs.Table.{Me, Step}
 use Rattle.association_slots.specs.Words.{epoch_of, flag_of, next_of, shown_by}
 use Rattle.association_slots.specs.Views.{In, slot, control_of, seat_of}
@@ -9,7 +9,6 @@ use Rattle.association_slots.specs.Learned.{Learned, IsNext}
 use Rattle.association_slots.specs.Told.{Sees}
 use Rattle.association_slots.specs.declared.view.NextSeen.{NextSeen}
 use Rattle.association_slots.specs.declared.view.ControlView.{ControlView}
-use Rattle.association_slots.specs.declared.view.SeatView.{SeatView}
 use Rattle.association_slots.specs.declared.view.View.{View}
 use Rattle.association_slots.specs.declared.view.View.TheVariants.{Control, Seat}
 

@@ -148,7 +148,8 @@ next_an_now s =
     elim s.last_an [
       | None ↦ 0
       | Some a ↦ cond (is_used_now s (after a))
-          (cond (is_used_now s (after (after a))) (after (after (after a))) (after (after a))) (after a)
+          (cond (is_used_now s (after (after a))) (after (after (after a)))
+          (after (after a))) (after a)
     ]
 
 -- the next key that is made

@@ -64,7 +64,8 @@ impl KeyState {
 
     /// Whether the latest key has begun and is spent.
     fn is_latest_spent(&self, due: &Due) -> bool
-        ensures { result ≡ is_latest_spent_now self.now due.now.live.now due.now.seen due.now.rekey }
+        ensures { result
+            ≡ is_latest_spent_now self.now due.now.live.now due.now.seen due.now.rekey }
     {
         match &self.latest {
             Some(latest) => latest.key.begun && is_spent(due, &latest.key.id),

@@ -1,4 +1,4 @@
-use Rattle.std.proofs.Common.{◌+◌, Bool, true, false, ap, ◌∙◌, sym}
+use Rattle.std.proofs.Common.{Bool, true, false, ap, ◌∙◌, sym}
 use Rattle.aes_block.specs.declared.secret.Secret.TheVariants.{S128}
 use Rattle.association_slots.specs.Cards.{card_in}
 use Rattle.association_slots.specs.declared.card.Card.{Card}

@@ -1,4 +1,4 @@
-use Rattle.std.proofs.Common.{rules, arith, ap, ◌∙◌, sym}
+use Rattle.std.proofs.Common.{arith, ap, ◌∙◌, sym}
 use Rattle.atomic_table.specs.Seated.{TableId}
 use Rattle.association_slots.proofs.CardsKeep.{writes_at}
 use Rattle.association_slots.proofs.control.write.Goals as goal

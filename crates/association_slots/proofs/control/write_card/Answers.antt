@@ -1,4 +1,4 @@
-use Rattle.std.proofs.Common.{rules, arith, ℕ, List, [], get_or, ap, ◌∙◌, sym}
+use Rattle.std.proofs.Common.{ℕ, List, [], get_or, ap, ◌∙◌}
 use Rattle.atomic_table.specs.Table.{Me}
 use Rattle.association_slots.specs.Steps.{wrote}
 use Rattle.association_slots.specs.Views.{control_of}

@@ -1,4 +1,4 @@
-use Rattle.std.proofs.Common.{◌≡◌, ◌⊎◌, ℕ, ◌+◌, ◌<◌, ◌≤◌, slice_index, ap, sym, ◌∙◌, subst, arith}
+use Rattle.std.proofs.Common.{ℕ, subst, arith}
 use Rattle.association_slots.specs.Views.{In, present_at}
 use Rattle.association_slots.proofs.laws.law_claims_are_numbers.Goals as goal
 

@@ -1,4 +1,4 @@
-use Rattle.std.proofs.Common.{◌≡◌, ◌⊎◌, ℕ, ◌+◌, ◌<◌, ◌≤◌, slice_index, ap, sym, ◌∙◌, subst, arith}
+use Rattle.std.proofs.Common.{ap, arith}
 use Rattle.association_slots.specs.declared.view.Current.{Current}
 use Rattle.association_slots.proofs.laws.law_loaded.Goals as goal
 

@@ -1,5 +1,5 @@
-use Rattle.std.proofs.Common.{◌≡◌, ◌⊎◌, ℕ, ◌+◌, ◌<◌, ◌≤◌, slice_index, ap, sym, ◌∙◌, subst, arith}
-use Rattle.association_slots.specs.Views.{slot, current}
+use Rattle.std.proofs.Common.{ℕ, ap, sym, ◌∙◌, arith}
+use Rattle.association_slots.specs.Views.{slot}
 use Rattle.association_slots.specs.declared.view.Current.{Current}
 use Rattle.association_slots.proofs.laws.law_names_an_open_slot.Goals as goal
 

@@ -1,4 +1,4 @@
-use Rattle.std.proofs.Common.{◌≡◌, ◌⊎◌, ℕ, ◌+◌, ◌<◌, ◌≤◌, slice_index, ap, sym, ◌∙◌, subst, arith}
+use Rattle.std.proofs.Common.{arith}
 use Rattle.association_slots.specs.Views.{slot}
 use Rattle.association_slots.proofs.Sixteen.{sixteen}
 use Rattle.association_slots.proofs.laws.law_next_is_low.Goals as goal

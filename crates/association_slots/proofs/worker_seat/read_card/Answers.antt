@@ -1,10 +1,7 @@
-use Rattle.std.proofs.Common.{rules, arith, ℕ, ◌+◌, ◌*◌, List, [], ◌∷◌, slice_index, ap, ◌∙◌, sym, subst}
+use Rattle.std.proofs.Common.{arith, ℕ, sym, subst}
 use Rattle.atomic_table.specs.Table.{Me}
 use Rattle.association_slots.specs.Views.{In, seat_of}
-use Rattle.association_slots.specs.Steps.{did_read}
-use Rattle.association_slots.specs.declared.view.SeatView.{SeatView}
 use Rattle.association_slots.specs.declared.view.View.{View}
-use Rattle.association_slots.specs.declared.view.View.TheVariants.{Seat}
 use Rattle.association_slots.proofs.worker_seat.read_card.Goals as goal
 
 pub read-requires-clause-loaded : goal.read-requires-clause-loaded

@@ -1,4 +1,4 @@
-use Rattle.std.proofs.Common.{◌≡◌, ℕ, suc, true, ◌++◌, sym, ap, ◌∙◌, add-one, arith}
+use Rattle.std.proofs.Common.{◌≡◌, suc, true, ◌++◌, sym, ap, ◌∙◌, add-one, arith}
 use Rattle.gcm_frames.specs.Protected.{protected}
 use Rattle.cipher_bench.specs.Frames.{destination_after, frame_tag_after, frame_to, sender, tag_in}
 use Rattle.cipher_bench.specs.Work.{changed}

@@ -1,4 +1,4 @@
-use Rattle.std.proofs.Common.{◌≡◌, ◌<◌, length, List, subst, sym, arith}
+use Rattle.std.proofs.Common.{◌<◌, length, List, subst, sym, arith}
 use Rattle.std.proofs.lemmas.List.{take_all}
 use Rattle.rx_slots.specs.Standing.{StandsFor as SlotsStandFor}
 use Rattle.rx_slots.specs.Histories.{Receiving}

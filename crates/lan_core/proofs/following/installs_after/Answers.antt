@@ -1,4 +1,4 @@
-use Rattle.std.proofs.Common.{◌≡◌, ◌+◌, ◌<◌, length, arith}
+use Rattle.std.proofs.Common.{◌+◌, ◌<◌, length, arith}
 use Rattle.lan_core.proofs.Followed.{count-next, count-up-to, no_change}
 use Rattle.lan_core.proofs.following.installs_after.Goals as goal
 

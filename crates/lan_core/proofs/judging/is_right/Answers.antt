@@ -1,4 +1,4 @@
-use Rattle.std.proofs.Common.{◌≡◌, refl, sym}
+use Rattle.std.proofs.Common.{refl, sym}
 use Rattle.lan_core.proofs.Forgery.{right-where, refused-right}
 use Rattle.lan_core.proofs.judging.is_right.Goals as goal
 

@@ -1,7 +1,6 @@
-use Rattle.std.proofs.Common.{◌≡◌, ◌<◌, ℕ, true, false, get_or, sym, arith, []}
+use Rattle.std.proofs.Common.{◌≡◌, true, false, get_or, sym, arith, []}
 use Rattle.std.specs.Prelude.{nat_eq}
 use lib.Pointwise.{pointwise}
-use Rattle.lan_base.specs.declared.name.Name.{Name}
 use Rattle.lan_core.proofs.Placed.{placed, nowhere}
 use Rattle.lan_core.proofs.lan.first_of.Goals as goal
 

@@ -1,6 +1,6 @@
-use Rattle.std.proofs.Common.{rules, arith, ◌≡◌, ℕ, ◌∙◌, sym, ap, subst, MatchResult}
+use Rattle.std.proofs.Common.{◌∙◌, sym, ap, subst, MatchResult}
 use Rattle.association_slots.specs.Learned.{Learned}
-use Rattle.association_slots.specs.Steps.{seated, new_seat, told}
+use Rattle.association_slots.specs.Steps.{new_seat, told}
 use Rattle.association_slots.specs.Views.{AllIn, ControlAt, SeatAt}
 use Rattle.association_slots.specs.declared.view.ControlView.{ControlView}
 use Rattle.association_slots.specs.declared.view.SeatView.{SeatView}

@@ -1,5 +1,5 @@
-use Rattle.std.proofs.Common.{rules, arith, ◌≡◌, ◌≢◌, ℕ, ◌∙◌, sym, ap, subst}
-use Rattle.association_slots.specs.Told.{IsAdded, ReadsMore}
+use Rattle.std.proofs.Common.{rules, arith, ◌≢◌, ◌∙◌, sym, ap, subst}
+use Rattle.association_slots.specs.Told.{IsAdded}
 use Rattle.association_slots.specs.Views.{In, SeatAt, greatest}
 use Rattle.association_slots.specs.declared.view.Mark.{Mark}
 use Rattle.association_slots.specs.declared.view.SeatView.{SeatView}

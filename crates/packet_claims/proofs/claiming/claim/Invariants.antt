@@ -1,4 +1,4 @@
-use Rattle.std.proofs.Common.{◌≡◌, ℕ, ◌+◌, ◌-◌, ◌<◌, ◌≤◌}
+use Rattle.std.proofs.Common.{◌≡◌, ◌+◌, ◌-◌}
 use Rattle.packet_claims.specs.inside.Tries.{Tries}
 use Rattle.packet_claims.proofs.claiming.claim.Given as goal
 

@@ -1,4 +1,4 @@
-use Rattle.std.proofs.Common.{rules, arith, ℕ, ap, ◌∙◌, sym}
+use Rattle.std.proofs.Common.{arith, ℕ, ap, ◌∙◌}
 use Rattle.atomic_table.specs.Table.{Me}
 use Rattle.association_slots.specs.Cards.{card_at}
 use Rattle.association_slots.specs.Views.{control_of}

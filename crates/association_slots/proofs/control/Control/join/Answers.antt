@@ -1,7 +1,7 @@
-use Rattle.std.proofs.Common.{rules, arith, ℕ, ◌+◌, ◌-◌, ◌++◌, get_or, set, ◌≡◌, ◌≢◌, ◌<◌, ◌≤◌, ◌*◌, true, false, length, ap, ◌∙◌, sym, subst}
+use Rattle.std.proofs.Common.{rules, arith, ℕ, ◌+◌, ◌-◌, ◌++◌, get_or, set, ◌≡◌, ◌<◌, ap, ◌∙◌, sym, subst}
 use Rattle.atomic_table.specs.Seated.{TableId}
 use Rattle.atomic_table.specs.Table.{Me}
-use Rattle.association_slots.specs.Views.{In, ControlAt, SeatAt, control_of, seat_of, greatest, of_seat}
+use Rattle.association_slots.specs.Views.{In, ControlAt, control_of, seat_of, greatest, of_seat}
 use Rattle.association_slots.proofs.Keeping.{overshot_told}
 use Rattle.association_slots.specs.Steps.{told}
 use Rattle.association_slots.specs.declared.view.View.{View}

@@ -1,6 +1,6 @@
-use Rattle.std.proofs.Common.{rules, arith, ℕ, ◌≡◌, ◌<◌, ap, ◌∙◌, sym, subst}
+use Rattle.std.proofs.Common.{arith, ◌<◌, ap, ◌∙◌, sym, subst}
 use Rattle.atomic_table.specs.Seated.{TableId}
-use Rattle.association_slots.specs.Views.{ControlAt, SeatAt, control_of, seat_of, slot, current, top, IsOpen}
+use Rattle.association_slots.specs.Views.{ControlAt, current, IsOpen}
 use Rattle.association_slots.specs.declared.view.ControlView.{ControlView}
 use Rattle.association_slots.proofs.ControlKeeps.{points}
 use Rattle.association_slots.proofs.control.Control.point.Goals as goal

@@ -1,6 +1,6 @@
-use Rattle.std.proofs.Common.{rules, arith, ℕ, ◌+◌, get_or, ◌≡◌, ◌≢◌, ◌<◌, ◌≤◌, ◌*◌, true, false, length, ap, ◌∙◌, sym, subst}
+use Rattle.std.proofs.Common.{arith, ℕ, get_or, ◌≡◌, ◌<◌, ◌≤◌, ap, ◌∙◌, sym, subst}
 use Rattle.atomic_table.specs.Seated.{TableId}
-use Rattle.association_slots.specs.Views.{ControlAt, SeatAt, control_of, seat_of, slot, current, top, IsOpen}
+use Rattle.association_slots.specs.Views.{ControlAt, control_of, seat_of}
 use Rattle.association_slots.specs.declared.view.ControlView.{ControlView}
 use Rattle.association_slots.specs.Views.{In, free, free_number, greatest}
 use Rattle.atomic_table.specs.Table.{Me}

@@ -1,6 +1,6 @@
-use Rattle.std.proofs.Common.{rules, arith, ℕ, ◌≡◌, ◌≢◌, ◌<◌, ◌≤◌, ◌*◌, true, false, length, ap, ◌∙◌, sym, subst}
+use Rattle.std.proofs.Common.{rules, arith, ℕ, ◌≡◌, ◌≢◌, ◌≤◌, true, false, ap, ◌∙◌, sym, subst}
 use Rattle.atomic_table.specs.Seated.{TableId}
-use Rattle.association_slots.specs.Views.{ControlAt, SeatAt, control_of, seat_of, slot, current, top, IsOpen}
+use Rattle.association_slots.specs.Views.{ControlAt, control_of, slot, current}
 use Rattle.association_slots.specs.declared.view.ControlView.{ControlView}
 use Rattle.atomic_table.specs.Table.{Me}
 use Rattle.association_slots.specs.declared.view.View.{View}

@@ -1,4 +1,4 @@
-use Rattle.std.proofs.Common.{rules, arith, refl}
+use Rattle.std.proofs.Common.{rules, arith}
 use Rattle.association_slots.proofs.SeatsKeep.{opens, each_shut}
 use Rattle.association_slots.proofs.table.SlotTable.new.Goals as goal
 

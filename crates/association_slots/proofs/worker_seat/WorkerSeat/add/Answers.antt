@@ -1,17 +1,15 @@
-use Rattle.std.proofs.Common.{rules, arith, ℕ, ◌≡◌, ◌≢◌, ap, ◌∙◌, sym, subst, true, false}
+use Rattle.std.proofs.Common.{arith, ℕ, ◌≡◌, ◌≢◌, ap, ◌∙◌, sym, subst, true, false}
 use Rattle.atomic_table.specs.Seated.{TableId}
 use Rattle.atomic_table.specs.Table.{Me}
 use Rattle.association_slots.specs.Views.{In, SeatAt, seat_of}
 use Rattle.association_slots.specs.Words.{epoch_of}
 use Rattle.association_slots.specs.Steps.{added, answer}
 use Rattle.association_slots.specs.Told.{IsAdded}
-use Rattle.association_slots.specs.declared.view.Added.{Added}
 use Rattle.association_slots.specs.declared.view.Added.TheVariants.{Over}
 use Rattle.association_slots.specs.declared.view.Current.{Current}
 use Rattle.association_slots.specs.declared.view.Mark.{Mark}
 use Rattle.association_slots.specs.declared.view.SeatView.{SeatView}
 use Rattle.association_slots.specs.declared.view.View.{View}
-use Rattle.association_slots.specs.declared.view.View.TheVariants.{Seat}
 use Rattle.association_slots.proofs.AddKeeps.{adding_as, did_add, added_now}
 use Rattle.association_slots.proofs.SeatKeeping.{of_kept, to_kept, keeps_over, keeps_added}
 use Rattle.association_slots.proofs.worker_seat.WorkerSeat.add.Goals as goal

@@ -1,5 +1,5 @@
 use Rattle.std.proofs.Common.{◌≡◌, ap, subst}
-use Rattle.association_slots.specs.Views.{In, SeatAt, seat_of}
+use Rattle.association_slots.specs.Views.{In, SeatAt}
 use Rattle.association_slots.specs.declared.view.Mark.{Mark}
 use Rattle.association_slots.specs.declared.view.SeatView.{SeatView}
 use Rattle.association_slots.proofs.worker_seat.WorkerSeat.into_place.Goals as goal

@@ -1,4 +1,4 @@
-use Rattle.std.proofs.Common.{rules, arith, ℕ, ◌≡◌, ◌*◌, ◌+◌, ◌<◌, ◌≤◌, List, [], ◌∷◌, slice_index, ap, ◌∙◌, sym, subst}
+use Rattle.std.proofs.Common.{arith, ℕ, ◌*◌, ◌+◌, [], ◌∷◌, slice_index, ap, ◌∙◌, sym, subst}
 use Rattle.atomic_table.specs.Seated.{TableId}
 use Rattle.atomic_table.specs.Table.{Me}
 use Rattle.association_slots.specs.Cards.{Knows}

@@ -1,4 +1,4 @@
-use Rattle.std.proofs.Common.{◌≡◌, ◌∙◌, ◌+◌, ℕ, refl, sym, ap, subst}
+use Rattle.std.proofs.Common.{◌≡◌, ◌∙◌, ◌+◌, refl, sym, ap, subst}
 use Rattle.lan_core.specs.Standing.{Numbers}
 use Rattle.lan_core.specs.inside.Steps.{MiIsNoted}
 use Rattle.lan_core.proofs.Kept.{mi_kept}

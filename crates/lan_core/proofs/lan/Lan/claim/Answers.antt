@@ -1,11 +1,10 @@
-use Rattle.std.proofs.Common.{◌≡◌, ◌++◌, ◌∷◌, [], Some, None, refl, ap, sym, subst}
+use Rattle.std.proofs.Common.{◌≡◌, ◌∷◌, [], Some, ap, sym, subst}
 use Rattle.std.specs.Prelude.{slice_get, unwrap_or}
 use Rattle.std.specs.Option.{option_copied}
-use Rattle.rx_slots.specs.Histories.{Receiving}
 use Rattle.lan_core.specs.Lives.{receiving}
 use Rattle.lan_core.specs.Standing.{StandsFor, Sits}
 use Rattle.lan_core.specs.inside.Steps.{claim_shown}
-use Rattle.lan_core.proofs.Claimed.{claim-goes-on, sealed_by}
+use Rattle.lan_core.proofs.Claimed.{claim-goes-on}
 use Rattle.lan_core.proofs.Reached.{place-of}
 use Rattle.lan_core.proofs.lan.Lan.claim.Goals as goal
 

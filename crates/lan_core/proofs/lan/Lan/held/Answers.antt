@@ -1,5 +1,4 @@
-use Rattle.std.proofs.Common.{◌≡◌, Some, None, refl, ap, sym, subst}
-use Rattle.std.specs.Prelude.{slice_get, option_and_then}
+use Rattle.std.proofs.Common.{Some, None, refl, sym, subst}
 use Rattle.lan_core.specs.Lives.{receiving}
 use Rattle.lan_core.specs.Standing.{StandsFor}
 use Rattle.lan_core.proofs.Carried.{no-life, its-life}

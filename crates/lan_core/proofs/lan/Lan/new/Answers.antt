@@ -1,4 +1,3 @@
-use Rattle.std.proofs.Common.{refl, arith}
 use Rattle.lan_core.proofs.Newly.{stands-for-none}
 use Rattle.lan_core.proofs.lan.Lan.new.Goals as goal
 

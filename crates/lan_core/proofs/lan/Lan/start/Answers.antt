@@ -1,4 +1,4 @@
-use Rattle.std.proofs.Common.{◌≡◌, ◌∙◌, ◌+◌, ◌⊎◌, ◌<◌, ◌≤◌, ℕ, [], ◌∷◌, length, Some, None, inr, refl, ap, sym, subst, arith}
+use Rattle.std.proofs.Common.{◌≡◌, ◌∙◌, ◌+◌, ◌<◌, ◌≤◌, ℕ, [], ◌∷◌, length, Some, None, inr, refl, ap, sym, subst, arith}
 use Rattle.std.specs.Prelude.{OnSome}
 use Rattle.std.specs.Option.{ok_or}
 use Rattle.mka_station.specs.Standing.{born, drawn_mi}

@@ -1,4 +1,4 @@
-use Rattle.std.proofs.Common.{◌≡◌, ◌+◌, ◌++◌, length, Some, None, refl, ap, sym, subst}
+use Rattle.std.proofs.Common.{◌≡◌, ◌+◌, length, Some, ap, sym, subst}
 use Rattle.mka_station.specs.Drawing.{draws_for}
 use Rattle.lan_core.specs.declared.event.Event.TheVariants as events
 use Rattle.lan_core.specs.Ledgers.{air, next_frame}

@@ -1,5 +1,5 @@
 use Rattle.std.proofs.Common.{◌≡◌, Some, None, refl, ap, sym, subst}
-use Rattle.std.specs.Prelude.{slice_get, option_and_then, option_map}
+use Rattle.std.specs.Prelude.{option_map}
 use Rattle.sak_exchange.specs.Held.{transmitting}
 use Rattle.lan_core.specs.Lives.{receiving, keys_in}
 use Rattle.lan_core.specs.Standing.{StandsFor}

@@ -1,4 +1,4 @@
-use Rattle.std.proofs.Common.{◌≡◌, Some, IfOk, ap, sym, subst}
+use Rattle.std.proofs.Common.{◌≡◌, Some, IfOk, ap, subst}
 use Rattle.std.specs.Prelude.{option_map, unwrap_or}
 use Rattle.std.specs.Option.{option_copied}
 use Rattle.aes_block.specs.Secrets.{secret_octets}

@@ -1,5 +1,4 @@
-use Rattle.std.proofs.Common.{◌≡◌, ◌∙◌, ◌+◌, ℕ, List, ap, subst, sym, refl, arith}
-use Rattle.rx_slots.specs.Histories.{Receiving}
+use Rattle.std.proofs.Common.{◌≡◌, ◌∙◌, ◌+◌, List, ap, subst, sym, arith}
 use Rattle.rx_slots.specs.Standing.{StandsFor as SlotsStandFor}
 use Rattle.sak_exchange.specs.declared.change.Change.{Change}
 use Rattle.sak_exchange.proofs.Cases.{by_test}

@@ -1,4 +1,4 @@
-use Rattle.std.proofs.Common.{◌≡◌, ◌∙◌, [], List, ap, subst, sym, refl}
+use Rattle.std.proofs.Common.{◌∙◌, [], List, ap, subst, sym, refl}
 use Rattle.rx_slots.specs.Standing.{StandsFor as SlotsStandFor}
 use Rattle.sak_exchange.specs.declared.change.Change.{Change}
 use Rattle.mka_station.specs.declared.reaction.Reaction.{Reaction}

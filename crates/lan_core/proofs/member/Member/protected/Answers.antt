@@ -1,4 +1,4 @@
-use Rattle.std.proofs.Common.{◌≡◌, ◌∙◌, ap, subst, sym}
+use Rattle.std.proofs.Common.{◌∙◌, subst, sym}
 use Rattle.lan_core.specs.Lives.{keys_in}
 use Rattle.lan_core.specs.inside.Following.{IfHeld}
 use Rattle.lan_core.proofs.Followed.{transmitting-held}

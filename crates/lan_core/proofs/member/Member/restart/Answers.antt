@@ -1,5 +1,4 @@
-use Rattle.std.proofs.Common.{◌≡◌, ◌∙◌, ◌∷◌, ap, sym, arith}
-use Rattle.lan_base.specs.declared.address.Mi.{Mi}
+use Rattle.std.proofs.Common.{◌≡◌, ◌∙◌, ◌∷◌, ap, arith}
 use Rattle.mka_station.specs.Restart.{ending}
 use Rattle.mka_station.specs.Standing.{drawn_mi}
 use Rattle.lan_core.specs.declared.fact.Fact.TheVariants as facts

@@ -1,4 +1,4 @@
-use Rattle.std.proofs.Common.{[], ap, subst, sym, refl}
+use Rattle.std.proofs.Common.{[], ap, subst, refl}
 use Rattle.lan_base.specs.declared.address.Sci.{Sci}
 use Rattle.mka_station.specs.Lives.{Setup}
 use Rattle.mka_station.specs.Standing.{born}

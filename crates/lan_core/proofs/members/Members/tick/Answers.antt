@@ -1,5 +1,4 @@
-use Rattle.lan_core.specs.Lives.{receiving, seen_at}
-use Rattle.mka_station.specs.Drawing.{is_short}
+use Rattle.lan_core.specs.Lives.{receiving}
 use Rattle.lan_core.proofs.Moves.{is-the-seat, same-seat, more-installs, moves, refused-tick}
 use Rattle.lan_core.proofs.members.Members.tick.Goals as goal
 
