@@ -115,13 +115,13 @@ octets_of-four_entries a b c d fa fb fc fd =
     ∷ (moved_on s t (times 2 u) (times 3 v) ∙ moved_on t (times 2 u) (times 3 v) s) i
     ∷ (moved_on (times 3 s) t u (times 2 v) ∙ moved_on t u (times 2 v) (times 3 s) ∙ moved_on u (times 2 v) (times 3 s) t) i ∷ [])
 
--- the same of a diagonal of four columns, whose octets these are
-pub octets_of-entries : (a b c d : ℕ) (as' bs cs ds : List ℕ) → as' ≡ octets_of a → bs ≡ octets_of b → cs ≡ octets_of c → ds ≡ octets_of d
-    → octets_of (bit_xor (bit_xor (bit_xor (slice_index MIXED (slice_index as' 0)) (slice_index MIXED (256 + slice_index bs 1)))
-    (slice_index MIXED (512 + slice_index cs 2))) (slice_index MIXED (768 + slice_index ds 3)))
+-- the same of a diagonal of four columns
+pub octets_of-entries : (a b c d : ℕ) (octets : List ℕ) → octets ≡ diagonal a b c d
+    → octets_of (bit_xor (bit_xor (bit_xor (slice_index MIXED (slice_index octets 0)) (slice_index MIXED (256 + slice_index octets 1)))
+    (slice_index MIXED (512 + slice_index octets 2))) (slice_index MIXED (768 + slice_index octets 3)))
     ≡ mixed_column (map sub_octet (diagonal a b c d))
 unfolding octets_of
-octets_of-entries a b c d as' bs cs ds is_a is_b is_c is_d =
-    (λ i. octets_of (bit_xor (bit_xor (bit_xor (slice_index MIXED (slice_index (is_a i) 0)) (slice_index MIXED (256 + slice_index (is_b i) 1)))
-    (slice_index MIXED (512 + slice_index (is_c i) 2))) (slice_index MIXED (768 + slice_index (is_d i) 3))))
+octets_of-entries a b c d octets are =
+    (λ i. octets_of (bit_xor (bit_xor (bit_xor (slice_index MIXED (slice_index (are i) 0)) (slice_index MIXED (256 + slice_index (are i) 1)))
+    (slice_index MIXED (512 + slice_index (are i) 2))) (slice_index MIXED (768 + slice_index (are i) 3))))
     ∙ octets_of-four_entries _ _ _ _ (octets_of-AreOctets a).0 (octets_of-AreOctets b).1.0 (octets_of-AreOctets c).1.1.0 (octets_of-AreOctets d).1.1.1.0

@@ -33,14 +33,22 @@ pub fn inv_mixed(column: u32) -> u32
     mixed(column ^ doubled_octets(doubled_octets(column ^ column.rotate_left(16))))
 }
 
-/// The S-box on a diagonal: on row 0 of the first column, on row 1 of the second, and so on.
-pub fn sub_diagonal(a: u32, b: u32, c: u32, d: u32) -> u32
-    ensures { octets_of result ≡ map sub_octet (diagonal a b c d) }
+/// A diagonal: row 0 of the first column, row 1 of the second, and so on.
+fn on_diagonal(a: u32, b: u32, c: u32, d: u32) -> [u8; 4]
+    ensures { result ≡ diagonal a b c d }
 {
     let [first, _, _, _] = a.to_be_bytes();
     let [_, second, _, _] = b.to_be_bytes();
     let [_, _, third, _] = c.to_be_bytes();
     let [_, _, _, fourth] = d.to_be_bytes();
+    [first, second, third, fourth]
+}
+
+/// The S-box on a diagonal.
+pub fn sub_diagonal(a: u32, b: u32, c: u32, d: u32) -> u32
+    ensures { octets_of result ≡ map sub_octet (diagonal a b c d) }
+{
+    let [first, second, third, fourth] = on_diagonal(a, b, c, d);
     u32::from_be_bytes([
         sub_octet(first),
         sub_octet(second),
@@ -54,10 +62,7 @@ pub fn sub_diagonal(a: u32, b: u32, c: u32, d: u32) -> u32
 pub fn mixed_diagonal(a: u32, b: u32, c: u32, d: u32) -> u32
     ensures { octets_of result ≡ mixed_column (map sub_octet (diagonal a b c d)) }
 {
-    let [first, _, _, _] = a.to_be_bytes();
-    let [_, second, _, _] = b.to_be_bytes();
-    let [_, _, third, _] = c.to_be_bytes();
-    let [_, _, _, fourth] = d.to_be_bytes();
+    let [first, second, third, fourth] = on_diagonal(a, b, c, d);
     MIXED[first as usize]
         ^ MIXED[256 + second as usize]
         ^ MIXED[512 + third as usize]
@@ -68,10 +73,7 @@ pub fn mixed_diagonal(a: u32, b: u32, c: u32, d: u32) -> u32
 pub fn inv_sub_diagonal(a: u32, b: u32, c: u32, d: u32) -> u32
     ensures { map sub_octet (octets_of result) ≡ diagonal a b c d }
 {
-    let [first, _, _, _] = a.to_be_bytes();
-    let [_, second, _, _] = b.to_be_bytes();
-    let [_, _, third, _] = c.to_be_bytes();
-    let [_, _, _, fourth] = d.to_be_bytes();
+    let [first, second, third, fourth] = on_diagonal(a, b, c, d);
     u32::from_be_bytes([
         inv_sub_octet(first),
         inv_sub_octet(second),

@@ -1,9 +1,10 @@
-// Published vectors.
+//! Published vectors.
+
 use crate::{Key, Secret};
 use std::process::Abort;
 use std::test::Fail;
 
-// Key, block and ciphertext, as numbers whose highest octet is the first.
+/// Key, block and ciphertext, as numbers whose highest octet is the first.
 const VECTORS: [(u128, u128, u128); 7] = [
     // FIPS 197, appendices B and C.1
     (
@@ -46,7 +47,7 @@ const VECTORS: [(u128, u128, u128); 7] = [
     ),
 ];
 
-// The same under keys of 256 bits, of which the first half comes first.
+/// The same under keys of 256 bits, of which the first half comes first.
 const VECTORS_256: [([u128; 2], u128, u128); 6] = [
     // FIPS 197, appendix C.3
     (
@@ -102,11 +103,13 @@ const VECTORS_256: [([u128; 2], u128, u128); 6] = [
     ),
 ];
 
+/// The key makes this ciphertext of the block, and the block of the ciphertext.
 fn gives(rt: &impl Abort, key: &Key, block: u128, ciphertext: u128) {
     assert_eq!(rt; key.encrypt(block.to_be_bytes()), ciphertext.to_be_bytes());
     assert_eq!(rt; key.decrypt(ciphertext.to_be_bytes()), block.to_be_bytes());
 }
 
+/// The octets of a key of 256 bits, from its two halves.
 fn joined(halves: [u128; 2]) -> [u8; 32] {
     let mut octets = [0; 32];
     octets[..16].copy_from_slice(&halves[0].to_be_bytes());

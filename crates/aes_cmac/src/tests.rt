@@ -1,11 +1,12 @@
-// Published values and values of another implementation, whole and in pieces.
+//! Published values and values of another implementation, whole and in pieces.
+
 use crate::{Running, cmac};
 use aes_block::Key;
 use hex::FromHex;
 use std::process::Abort;
 use std::test::Fail;
 
-// A key, a message and its value, in hexadecimal digits.
+/// A key, a message and its value, in hexadecimal digits.
 struct Row {
     name: &'static str,
     key: &'static str,
@@ -13,8 +14,8 @@ struct Row {
     value: &'static str,
 }
 
-// The examples of SP 800-38B and of the RFCs that use its CMAC, and values of NIST's validation
-// suite for SP 800-108, where one block of a derived key is one CMAC.
+/// The examples of SP 800-38B and of the RFCs that use its CMAC, and values of NIST's validation
+/// suite for SP 800-108, where one block of a derived key is one CMAC.
 const PUBLISHED: [Row; 20] = [
     Row {
         name: "SP 800-38B and RFC 4493",
@@ -138,6 +139,7 @@ const PUBLISHED: [Row; 20] = [
     },
 ];
 
+/// The value is the expected one, of the message at once and of its pieces of each size below 20.
 fn whole_and_in_pieces(rt: &impl Abort, key: &Key, message: &[u8], expected: [u8; 16], name: &str) {
     let len = message.len();
     assert_eq!(rt; cmac(key, message), expected, "{name}, {len} octets");
@@ -165,7 +167,7 @@ fn gives_the_published_values(rt: HostRuntime) -> Result<(), Fail> {
     Ok(())
 }
 
-// The examples of SP 800-38B for a key of 256 bits, and one of 40 octets from its first edition.
+/// The examples of SP 800-38B for a key of 256 bits, and one of 40 octets from its first edition.
 #[test]
 fn gives_the_published_values_under_a_long_key(rt: HostRuntime) -> Result<(), Fail> {
     let octets = "603deb1015ca71be2b73aef0857d77811f352c073b6108d72d9810a30914dff4";
@@ -197,8 +199,8 @@ fn gives_the_published_values_under_a_long_key(rt: HostRuntime) -> Result<(), Fa
     Ok(())
 }
 
-// RFC 4615: a key of another length is first made one of 16 octets, by its own CMAC under the key
-// zero.
+/// RFC 4615: a key of another length is first made one of 16 octets, by its own CMAC under the key
+/// zero.
 #[test]
 fn gives_the_published_values_under_a_key_that_is_a_value(rt: HostRuntime) -> Result<(), Fail> {
     let message = hex::decode(rt.alloc(), "000102030405060708090a0b0c0d0e0f10111213")?;
@@ -218,7 +220,7 @@ fn gives_the_published_values_under_a_key_that_is_a_value(rt: HostRuntime) -> Re
     Ok(())
 }
 
-// Values that OpenSSL gives, for messages whose octet i is 7 i + 3 modulo 256.
+/// Values that OpenSSL gives, for messages whose octet i is 7 i + 3 modulo 256.
 #[test]
 fn gives_the_values_of_another_implementation(rt: HostRuntime) {
     let mut message = [0u8; 150];

@@ -1,8 +1,10 @@
+//! The life of an epoch on one thread.
+
 use super::*;
 use aes_block::Secret;
 use std::test::Fail;
 
-// Each call once, on one thread: an epoch from its card to its shut, with one number claimed.
+/// Each call once, on one thread: an epoch from its card to its shut, with one number claimed.
 #[test]
 fn gives_an_epoch_and_takes_it_back(rt: HostRuntime) -> Result<(), Fail> {
     for (sak, conf) in [

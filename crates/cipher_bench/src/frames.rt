@@ -12,9 +12,10 @@ use lan_base::{Mac, Octets, Sci, UserFrame};
 use rx_slots::{Arrival, RxSlots};
 use std::alloc::{AllocError, Global};
 
-/// The stations that send and receive.
+/// The station that sends.
 const SENDER: Sci = Sci([2, 0, 0, 0, 0, 10, 0, 1]);
 
+/// The station that receives.
 const RECEIVER: Sci = Sci([2, 0, 0, 0, 0, 11, 0, 1]);
 
 /// A packet number that is as much below the next one is not late.

@@ -11,10 +11,12 @@ use anyhow::{Context, bail};
 use named::Test;
 use std::env;
 
+/// What is said where the words are others.
 const USAGE: &str =
     "usage: cipher_bench TEST COUNT, where TEST is aes128_block, aes256_block, cmac_150, \
     gcm_64, gcm_512, gcm_1500, gcm256_1500, protect_1500 or receive_1500";
 
+/// Does the named test as often as is said, and prints its last value.
 fn main(rt: HostRuntime) -> anyhow::Result<()> {
     let mut words = env::args(&rt)?.skip(1);
     let (Some(test), Some(count), None) = (words.next(), words.next(), words.next()) else {

@@ -1,5 +1,6 @@
-// Last results of tests, by other implementations: that of the first row is OpenSSL's, and the
-// others are those of a Python program over `cryptography`.
+//! Last results of tests, by other implementations: that of the first row is OpenSSL's, and the
+//! others are those of a Python program over `cryptography`.
+
 use crate::bench::last_result;
 use crate::named::{Frame, Test};
 use std::process::Abort;

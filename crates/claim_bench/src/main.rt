@@ -11,11 +11,13 @@ use association_slots::Card;
 use hand::{Desk, opened};
 use std::{env, thread};
 
+/// What is said where the words are others.
 const USAGE: &str = "usage: claim_bench SEATS, where SEATS is from 1 to 8";
 
 /// How many numbers are claimed.
 const NUMBERS: u32 = 10_000_000;
 
+/// Lets so many threads claim numbers of one epoch, and prints how long they took.
 fn main(rt: HostRuntime) -> anyhow::Result<()> {
     let mut words = env::args(&rt)?.skip(1);
     let (Some(seats), None) = (words.next(), words.next()) else {

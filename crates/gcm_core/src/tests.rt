@@ -1,4 +1,5 @@
-// Published sealings and refusals, and values of another implementation at other lengths.
+//! Published sealings and refusals, and values of another implementation at other lengths.
+
 use crate::{HashTable, seal, unseal};
 use aes_block::Key;
 use hex::FromHex;
@@ -6,7 +7,7 @@ use std::alloc::{AllocError, Global};
 use std::process::Abort;
 use std::test::Fail;
 
-// One sealing, its octets in hexadecimal digits.
+/// One sealing, its octets in hexadecimal digits.
 struct Case {
     name: &'static str,
     key: &'static str,
@@ -17,7 +18,7 @@ struct Case {
     tag: &'static str,
 }
 
-// The test cases of McGrew and Viega's submission of GCM.
+/// The test cases of McGrew and Viega's submission of GCM.
 const SUBMISSION: [Case; 4] = [
     Case {
         name: "McGrew and Viega, test case 1",
@@ -57,7 +58,7 @@ const SUBMISSION: [Case; 4] = [
     },
 ];
 
-// Cases of NIST's validation suite with IVs of 96 bits and whole tags.
+/// Cases of NIST's validation suite with IVs of 96 bits and whole tags.
 const SUITE: [Case; 13] = [
     Case {
         name: "validation suite, 0 octets of text, 0 of additional data",
@@ -178,7 +179,7 @@ const SUITE: [Case; 13] = [
     },
 ];
 
-// The frames of IEEE Std 802.1AE, annex C, under GCM-AES-128.
+/// The frames of IEEE Std 802.1AE, annex C, under GCM-AES-128.
 const ANNEX_C: [Case; 8] = [
     Case {
         name: "IEEE Std 802.1AE, annex C, 54-octet frame, integrity",
@@ -254,7 +255,7 @@ const ANNEX_C: [Case; 8] = [
     },
 ];
 
-// Cases of the suite with keys of 256 bits.
+/// Cases of the suite with keys of 256 bits.
 const SUITE_256: [Case; 7] = [
     Case {
         name: "validation suite, 256 bits, 0 octets of text, 0 of additional data",
@@ -321,7 +322,7 @@ const SUITE_256: [Case; 7] = [
     },
 ];
 
-// The frames of IEEE Std 802.1AE, annex C, that GCM-AES-256 gives integrity alone.
+/// The frames of IEEE Std 802.1AE, annex C, that GCM-AES-256 gives integrity alone.
 const ANNEX_C_256: [Case; 4] = [
     Case {
         name: "IEEE Std 802.1AE, annex C, GCM-AES-256, 70 octets of additional data, integrity",
@@ -361,7 +362,7 @@ const ANNEX_C_256: [Case; 4] = [
     },
 ];
 
-// Octets drawn at random and sealed by OpenSSL, at lengths that the published cases leave out.
+/// Octets drawn at random and sealed by OpenSSL, at lengths that the published cases leave out.
 const OPENSSL: [Case; 4] = [
     Case {
         name: "OpenSSL, 1 octet of text, 0 of additional data",
@@ -401,7 +402,7 @@ const OPENSSL: [Case; 4] = [
     },
 ];
 
-// What the validation suite says is refused; no text is known.
+/// What the validation suite says is refused; no text is known.
 const REFUSED: [Case; 8] = [
     Case {
         name: "validation suite, 0 octets of text, 0 of additional data, refused",
@@ -477,8 +478,8 @@ const REFUSED: [Case; 8] = [
     },
 ];
 
-// How many octets of text and of additional data, the last 16 octets of ciphertext, and the tag, by
-// OpenSSL. Octet i of the text is 7 * i + 3, and of the additional data 5 * i + 1, modulo 256.
+/// How many octets of text and of additional data, the last 16 octets of ciphertext, and the tag, by
+/// OpenSSL. Octet i of the text is 7 * i + 3, and of the additional data 5 * i + 1, modulo 256.
 const LONG: [(usize, usize, &str, &str); 3] = [
     (
         1500,
@@ -495,7 +496,7 @@ const LONG: [(usize, usize, &str, &str); 3] = [
     (0, 65536, "", "d73f29114e559e2596a41b2a52632de9"),
 ];
 
-// The key of 128 or 256 bits with these digits.
+/// The key of 128 or 256 bits with these digits.
 fn key_of(digits: &str) -> Result<Key, Fail> {
     if digits.len() == 32 {
         Ok(Key::k128(&<[u8; 16]>::from_hex(digits)?))
@@ -504,7 +505,7 @@ fn key_of(digits: &str) -> Result<Key, Fail> {
     }
 }
 
-// Octet i is step * i + first, modulo 256.
+/// Octet i is step * i + first, modulo 256.
 fn counted(alloc: Global, len: usize, step: u8, first: u8) -> Result<Vec<u8>, AllocError> {
     let mut octets = Vec::new(alloc);
     let mut next = first;
@@ -515,7 +516,7 @@ fn counted(alloc: Global, len: usize, step: u8, first: u8) -> Result<Vec<u8>, Al
     Ok(octets)
 }
 
-// The octets are refused, and stay as they were.
+/// The octets are refused, and stay as they were.
 fn is_refused(
     rt: &impl Abort,
     key: &Key,
@@ -532,13 +533,14 @@ fn is_refused(
     Ok(())
 }
 
-// The tag with its last bit changed.
+/// The tag with its last bit changed.
 fn changed(tag: [u8; 16]) -> [u8; 16] {
     let mut other = tag;
     other[15] ^= 1;
     other
 }
 
+/// The plaintext is sealed to the ciphertext and its tag, and unsealed to itself again.
 fn is_sealed(rt: &impl Abort, alloc: Global, case: &Case) -> Result<(), Fail> {
     let key = key_of(case.key)?;
     let iv = <[u8; 12]>::from_hex(case.iv)?;
@@ -621,7 +623,7 @@ fn seals_up_to_the_greatest_length(rt: HostRuntime) -> Result<(), Fail> {
     Ok(())
 }
 
-// H, the first block and the first product of test case 2 of the submission.
+/// H, the first block and the first product of test case 2 of the submission.
 #[test]
 fn multiplies_by_the_table(rt: HostRuntime) {
     let table = HashTable::of(0x66e94bd4ef8a2c3b884cfa59ca342b2e);

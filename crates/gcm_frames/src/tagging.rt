@@ -17,16 +17,22 @@ fn has_flag(flag: u8, frame: &[u8]) -> bool
     frame[14] / flag % 2 == 1
 }
 
+/// The flag V: another version of the SecTAG than the one that is read.
 const VERSION: u8 = 0x80;
 
+/// The flag ES: the sender is an end station, so its address and the port 1 are its SCI.
 const END_STATION: u8 = 0x40;
 
+/// The flag SC: the SecTAG has an SCI.
 const EXPLICIT_SCI: u8 = 0x20;
 
+/// The flag SCB: the frame is of the single copy broadcast channel.
 const BROADCAST: u8 = 0x10;
 
+/// The flag E: the user data are enciphered.
 const ENCIPHERED: u8 = 0x08;
 
+/// The flag C: the user data differ from those that were given.
 const CHANGED: u8 = 0x04;
 
 /// Whether the frame has the EtherType of MACsec behind its addresses.

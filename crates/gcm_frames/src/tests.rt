@@ -8,7 +8,7 @@ use std::alloc::Global;
 use std::process::Abort;
 use std::test::Fail;
 
-// A received frame and its user data, in hexadecimal digits.
+/// A received frame and its user data, in hexadecimal digits.
 struct Received {
     name: &'static str,
     key: &'static str,
@@ -16,9 +16,9 @@ struct Received {
     user: &'static str,
 }
 
-// The frames of IEEE Std 802.1AE, annex C. Of those with confidentiality under 256 bits the
-// enciphered octets and the tag are OpenSSL's, for the key, the SecTAG and the user data of the
-// annex.
+/// The frames of IEEE Std 802.1AE, annex C. Of those with confidentiality under 256 bits the
+/// enciphered octets and the tag are OpenSSL's, for the key, the SecTAG and the user data of the
+/// annex.
 const ANNEX_C: [Received; 16] = [
     Received {
         name: "54-octet frame, integrity, 128 bits",
@@ -118,7 +118,7 @@ const ANNEX_C: [Received; 16] = [
     },
 ];
 
-// A frame that the station 02000000000a with port 1 sends to ffffffffffff.
+/// A frame that the station 02000000000a with port 1 sends to ffffffffffff.
 struct Sent {
     key: &'static str,
     an: u8,
@@ -128,7 +128,7 @@ struct Sent {
     frame: &'static str,
 }
 
-// Frames that a script put together from OpenSSL's sealing.
+/// Frames that a script put together from OpenSSL's sealing.
 const OPENSSL: [Sent; 4] = [
     Sent {
         key: "000102030405060708090a0b0c0d0e0f",
@@ -164,7 +164,7 @@ const OPENSSL: [Sent; 4] = [
     },
 ];
 
-// A key of 16 or 32 octets.
+/// A key of 16 or 32 octets.
 fn key_of(digits: &str) -> Result<Key, Fail> {
     let secret = if digits.len() == 32 {
         Secret::S128(<[u8; 16]>::from_hex(digits)?)
@@ -174,7 +174,7 @@ fn key_of(digits: &str) -> Result<Key, Fail> {
     Ok(Key::of(&secret))
 }
 
-// The frame is opened to its user data, and refused unchanged with a changed tag.
+/// The frame is opened to its user data, and refused unchanged with a changed tag.
 fn is_opened(rt: &impl Abort, alloc: Global, case: &Received) -> Result<(), Fail> {
     let key = key_of(case.key)?;
     let mut frame = hex::decode(alloc, case.frame)?;
@@ -191,6 +191,7 @@ fn is_opened(rt: &impl Abort, alloc: Global, case: &Received) -> Result<(), Fail
     Ok(())
 }
 
+/// The frame with its last bit changed is refused, and stays as it is.
 fn is_refused_when_changed(rt: &impl Abort, alloc: Global, case: &Received) -> Result<(), Fail> {
     let key = key_of(case.key)?;
     let mut frame = hex::decode(alloc, case.frame)?;

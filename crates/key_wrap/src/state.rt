@@ -32,6 +32,7 @@ pub fn undo_step(kek: &Key, state: &mut [u8], number: u64)
     put_first_block(state, &block);
 }
 
+/// The first 16 octets.
 fn first_block(state: &[u8]) -> [u8; 16]
     requires { 16 ≤ length state.now }
     ensures { result ≡ take 16 state.now }
@@ -41,6 +42,7 @@ fn first_block(state: &[u8]) -> [u8; 16]
     block
 }
 
+/// Puts a block in the place of the first 16 octets.
 fn put_first_block(state: &mut [u8], block: &[u8; 16])
     requires { 16 ≤ length state.old }
     ensures { state.new ≡ block.now ++ drop 16 state.old }

@@ -1,11 +1,12 @@
-// Published wraps, and published octets that are none. Octets are written in hexadecimal digits.
+//! Published wraps, and published octets that are none. Octets are written in hexadecimal digits.
+
 use crate::{unwrap, unwrap256, wrap, wrap256};
 use aes_block::Key;
 use hex::FromHex;
 use std::test::Fail;
 
-// KEK, key of 128 bits, and its wrap: RFC 3394, 4.1 and 4.3, and NIST's validation suite for key
-// wrap (KW-AE).
+/// KEK, key of 128 bits, and its wrap: RFC 3394, 4.1 and 4.3, and NIST's validation suite for key
+/// wrap (KW-AE).
 const WRAPS_128: [[&str; 3]; 4] = [
     [
         "000102030405060708090a0b0c0d0e0f",
@@ -29,7 +30,7 @@ const WRAPS_128: [[&str; 3]; 4] = [
     ],
 ];
 
-// KEK, key of 256 bits, and its wrap: RFC 3394, 4.6, and the same suite.
+/// KEK, key of 256 bits, and its wrap: RFC 3394, 4.6, and the same suite.
 const WRAPS_256: [[&str; 3]; 3] = [
     [
         "000102030405060708090a0b0c0d0e0f101112131415161718191a1b1c1d1e1f",
@@ -48,7 +49,7 @@ const WRAPS_256: [[&str; 3]; 3] = [
     ],
 ];
 
-// KEK, and octets that the suite says are the wrap of no key of 128 bits (KW-AD).
+/// KEK, and octets that the suite says are the wrap of no key of 128 bits (KW-AD).
 const REFUSED_128: [[&str; 2]; 2] = [
     [
         "5d4899ee66beff1bda1fc717a1ad4c50",
@@ -60,7 +61,7 @@ const REFUSED_128: [[&str; 2]; 2] = [
     ],
 ];
 
-// KEK, and octets that the suite says are the wrap of no key of 256 bits.
+/// KEK, and octets that the suite says are the wrap of no key of 256 bits.
 const REFUSED_256: [[&str; 2]; 2] = [
     [
         "84bc6ce7ee4fd9db512536669d0686da",
@@ -72,6 +73,7 @@ const REFUSED_256: [[&str; 2]; 2] = [
     ],
 ];
 
+/// The key of 128 or 256 bits with these digits.
 fn kek_of(digits: &str) -> Result<Key, Fail> {
     if digits.len() == 32 {
         Ok(Key::k128(&<[u8; 16]>::from_hex(digits)?))

@@ -81,6 +81,7 @@ fn is_undone(kek: &Key, state: &mut [u8]) -> bool
     is_initial(&state[..8])
 }
 
+/// The registers as the key that was wrapped.
 fn key_of<const N: usize>(registers: &[u8]) -> [u8; N]
     requires { length registers.now ≡ N }
     ensures value { result ≡ registers.now }
@@ -91,6 +92,7 @@ fn key_of<const N: usize>(registers: &[u8]) -> [u8; N]
     key
 }
 
+/// Whether eight octets are the initial value (RFC 3394, 2.2.3.1).
 fn is_initial(octets: &[u8]) -> bool
     requires { length octets.now ≡ 8 }
     ensures { IsTrue result ↔ (octets.now ≡ initial_value) }
@@ -107,6 +109,7 @@ fn step_count(len: usize) -> u64
     6 * (len / 8) as u64
 }
 
+/// Takes the first `count` steps of wrapping, in their order.
 fn take_steps(kek: &Key, state: &mut [u8], count: u64)
     requires { 16 ≤ length state.old }
     ensures { state.new ≡ steps kek.now state.old count }
@@ -116,6 +119,7 @@ fn take_steps(kek: &Key, state: &mut [u8], count: u64)
     }
 }
 
+/// Undoes the first `count` steps, the last of them first.
 fn undo_steps(kek: &Key, state: &mut [u8], count: u64)
     requires { 16 ≤ length state.old }
     ensures undone { steps kek.now state.new count ≡ state.old }

@@ -12,7 +12,7 @@ fn draws<D: Draws + Drop>(rt: &impl Abort, mut supply: D, wants: &[Option<[u8; 1
     }
 }
 
-// Counts from one, big-endian, as the trace format says.
+/// Counts from one, big-endian, as the trace format says.
 #[test]
 fn counts_from_one(rt: HostRuntime) {
     draws(
@@ -25,8 +25,8 @@ fn counts_from_one(rt: HostRuntime) {
     );
 }
 
-// RFC 8439, A.1, its first two vectors: the key of zeros, blocks 0 and 1, of which the second's
-// first four words are the fifth draw.
+/// RFC 8439, A.1, its first two vectors: the key of zeros, blocks 0 and 1, of which the second's
+/// first four words are the fifth draw.
 #[test]
 fn draws_the_key_stream(rt: HostRuntime) {
     draws(
@@ -42,7 +42,7 @@ fn draws_the_key_stream(rt: HostRuntime) {
     );
 }
 
-// The key 00 01 .. 1f, by OpenSSL's ChaCha20 with a counter and a nonce of zeros.
+/// The key 00 01 .. 1f, by OpenSSL's ChaCha20 with a counter and a nonce of zeros.
 #[test]
 fn draws_by_its_key(rt: HostRuntime) {
     let key = *b"\x00\x01\x02\x03\x04\x05\x06\x07\x08\x09\x0a\x0b\x0c\x0d\x0e\x0f\
@@ -57,6 +57,7 @@ fn draws_by_its_key(rt: HostRuntime) {
     );
 }
 
+/// Three blocks, of sevens, of fives and of nines.
 fn listed(alloc: Global) -> Result<Blocks, AllocError> {
     let mut values = Blocks::new(alloc);
     values.push([7; 16])?;

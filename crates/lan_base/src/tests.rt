@@ -87,7 +87,7 @@ fn reads<S: Source + Drop>(
     }
 }
 
-// A failing call takes nothing, so the octets go on where they stood.
+/// A failing call takes nothing, so the octets go on where they stood.
 #[test]
 fn a_failing_read_takes_nothing(rt: HostRuntime) -> Result<(), Fail> {
     reads(
@@ -156,6 +156,7 @@ struct Flaky {
 }
 
 impl Flaky {
+    /// What a read or a write meets first: an interruption, or a fault, or nothing.
     fn attempt(&mut self) -> io::Result<()> {
         if self.interruptions > 0 {
             self.interruptions -= 1;

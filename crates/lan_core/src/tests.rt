@@ -79,6 +79,7 @@ fn joined(alloc: Global, parts: &[&[u8]]) -> Result<Octets, Fail> {
     Ok(octets)
 }
 
+/// The event of an act at a station.
 fn event(rt: &impl Abort, alloc: Global, station: u8, act: Act) -> Result<Event, Fail> {
     Ok(match act {
         Starts => Event::Start {
@@ -119,6 +120,7 @@ fn step(
     Ok(lan.step(&event, Some(&user), draws))
 }
 
+/// The word for a frame that was heard with this verdict.
 fn word_of_verdict(verdict: &Verdict) -> &'static str {
     match verdict {
         Verdict::Vouched => "vouched",
@@ -129,6 +131,7 @@ fn word_of_verdict(verdict: &Verdict) -> &'static str {
     }
 }
 
+/// The word for a data frame that arrived so.
 fn word_of_arrival(arrival: &Arrival) -> &'static str {
     match arrival {
         Arrival::Accepted { .. } => "accepted",
@@ -139,6 +142,7 @@ fn word_of_arrival(arrival: &Arrival) -> &'static str {
     }
 }
 
+/// The word of the transcript that a fact begins with, or one that tells its kind.
 fn word(fact: &Fact) -> &'static str {
     match fact {
         Fact::Life { .. } => "life",
@@ -169,6 +173,7 @@ fn are(rt: &impl Abort, facts: &Facts, station: u8, words: &[&'static str]) {
     assert!(rt; words.next().is_none());
 }
 
+/// Performs the steps one after the other; each shows the facts that its words say.
 fn plays(
     rt: &impl Abort,
     alloc: Global,
@@ -274,6 +279,7 @@ const PARTS: [(&[Step], &[Look]); 3] = [
     ),
 ];
 
+/// The station holds the first key and sends by it, or holds and sends by none.
 fn has_key(rt: &impl Abort, lan: &Lan, station: u8, keyed: bool) {
     let Some(key) = lan.held(station, 0) else {
         assert!(rt; !keyed && lan.transmitting(station).is_none());
@@ -283,6 +289,7 @@ fn has_key(rt: &impl Abort, lan: &Lan, station: u8, keyed: bool) {
     assert!(rt; lan.transmitting(station) == Some((0, 1)));
 }
 
+/// The group answers a question as is said.
 fn answers(rt: &impl Abort, lan: &Lan, look: Look) {
     match look {
         Keyed(station, keyed) => has_key(rt, lan, station, keyed),

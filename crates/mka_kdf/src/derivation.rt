@@ -1,3 +1,5 @@
+//! Octets derived from a key, in counter mode over CMAC (NIST SP 800-108).
+
 ghost use Rattle.std.specs.Prelude.{◌≡◌};
 ghost use Rattle.aes_cmac.specs.Cmac.{cmac};
 ghost use Rattle.mka_kdf.specs.Kdf.{derived, input};

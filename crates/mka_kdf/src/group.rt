@@ -1,3 +1,5 @@
+//! The keys of a group, from its CAK and CKN (IEEE Std 802.1X, 9.3.3).
+
 ghost use Rattle.std.specs.Prelude.{◌≡◌, ◌↔◌, ◌≤◌, length, IfOk};
 ghost use Rattle.mka_kdf.specs.declared.group.GroupFault.TheVariants.{Memory};
 ghost use Rattle.mka_kdf.specs.Kdf.{HasWrongLength, context_of, derived, ick_of, kek_of};
@@ -9,8 +11,10 @@ use lan_base::Octets;
 use std::alloc::{AllocError, Global};
 use thiserror::Error;
 
+/// The label of the key encrypting key.
 const KEK_LABEL: [u8; 12] = *b"IEEE8021 KEK";
 
+/// The label of the integrity check key.
 const ICK_LABEL: [u8; 12] = *b"IEEE8021 ICK";
 
 /// The most octets that the name of a connectivity association key has.

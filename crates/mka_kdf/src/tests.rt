@@ -1,12 +1,13 @@
-// Keys of groups, and octets derived under their labels, by another implementation.
+//! Keys of groups, and octets derived under their labels, by another implementation.
+
 use crate::{Group, GroupFault, derive, derive256};
 use aes_block::{Key, Secret};
 use hex::FromHex;
 use std::test::Fail;
 
-// CAK, CKN, KEK and ICK, in hexadecimal digits. The values are those of the key derivation of the
-// Python package `cryptography`, in counter mode over CMAC, with one octet of counter and two of
-// length.
+/// CAK, CKN, KEK and ICK, in hexadecimal digits. The values are those of the key derivation of the
+/// Python package `cryptography`, in counter mode over CMAC, with one octet of counter and two of
+/// length.
 const GROUPS: [[&str; 4]; 6] = [
     [
         "000102030405060708090a0b0c0d0e0f",
@@ -46,10 +47,10 @@ const GROUPS: [[&str; 4]; 6] = [
     ],
 ];
 
-// 33 octets, one more than a name has at most.
+/// 33 octets, one more than a name has at most.
 const LONG: [u8; 33] = [7; 33];
 
-// The key of 128 or 256 bits with these digits.
+/// The key of 128 or 256 bits with these digits.
 fn secret_of(digits: &str) -> Result<Secret, Fail> {
     if digits.len() == 32 {
         Ok(Secret::S128(<[u8; 16]>::from_hex(digits)?))
@@ -80,7 +81,7 @@ fn derives_both_keys_of_a_group(rt: HostRuntime) -> Result<(), Fail> {
     Ok(())
 }
 
-// The context is the first 16 octets of a name above.
+/// The context is the first 16 octets of a name above.
 #[test]
 fn derives_octets_under_a_label(rt: HostRuntime) -> Result<(), Fail> {
     let context = <[u8; 16]>::from_hex("0524436281a0bfdefd1c3b5a7998b7d6")?;

@@ -251,6 +251,7 @@ fn play(rt: &impl Abort, alloc: Global, station: &mut Station, step: &Step) -> R
     }
 }
 
+/// Plays the steps one after the other; each gives what it says.
 fn plays(
     rt: &impl Abort,
     alloc: Global,

@@ -170,7 +170,7 @@ const GIVING_OTHER: Result<Told, Refusal> = Ok(Told {
     ..HELLO
 });
 
-// Sets: live lists, of which some have no right length, potential lists, and those of keys.
+/// Sets: live lists, of which some have no right length, potential lists, and those of keys.
 const EMPTY: &str = "01000000";
 
 const LIVE: &str = "0100001000000000000000000000000200000002";
@@ -463,6 +463,7 @@ const FIRST_FAULTS: [Row; 5] = [
     Row("both in one", &[BASIC, EMPTY, "0100000400000000"], AT_58),
 ];
 
+/// A list of these peers.
 fn peers_of(alloc: Global, peers: &[Peer]) -> Result<Peers, Fail> {
     let mut list = Peers::new(alloc);
     for peer in peers {
@@ -471,6 +472,7 @@ fn peers_of(alloc: Global, peers: &[Peer]) -> Result<Peers, Fail> {
     Ok(list)
 }
 
+/// The announcement of the first member that tells these things.
 fn announcement_of(alloc: Global, told: Told) -> Result<Announcement, Fail> {
     Ok(Announcement {
         source: Mac([2, 0, 0, 0, 0, 0x0a]),
@@ -527,6 +529,7 @@ fn wanted_of(alloc: Global, row: &Row, length: u16) -> Result<Result<Spelled, Re
     }
 }
 
+/// Each row is read as it says.
 fn check_rows(rt: &impl Abort, alloc: Global, rows: &[Row]) -> Result<(), Fail> {
     for row in rows {
         let sets = octets_of(alloc, row.1)?;

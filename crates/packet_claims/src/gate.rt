@@ -13,6 +13,7 @@ pub enum Point {
 
 /// What a thread does at such a place. It may wait, and changes nothing that a contract sees.
 pub trait Gate {
+    /// The thread has come to this place.
     fn at(&self, point: Point);
 }
 

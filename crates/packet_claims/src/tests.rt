@@ -1,3 +1,5 @@
+//! Numbers that seats claim on one thread and on several, and what stops them.
+
 ghost use Rattle.std.specs.Prelude.{◌≡◌, ◌≤◌, IfOk};
 
 use super::*;
@@ -7,7 +9,7 @@ use std::alloc::{AllocError, Global};
 use std::test::Fail;
 use std::thread;
 
-// A table, and the control of it.
+/// A table, and the control of it.
 #[derive(Drop)]
 struct Desk<'a> {
     table: &'a SlotTable,
@@ -15,7 +17,7 @@ struct Desk<'a> {
     ghost here: { control.table ≡ table.now },
 }
 
-// A table, a seat at it, and the numbers that it claimed.
+/// A table, a seat at it, and the numbers that it claimed.
 #[derive(Drop)]
 struct Hand<'a> {
     table: &'a SlotTable,
@@ -25,10 +27,12 @@ struct Hand<'a> {
 }
 
 impl<'a> Desk<'a> {
+    /// Registers a card at the table, and gives its number.
     fn card(&mut self, card: &Card) -> Result<u32, Cards> {
         self.control.card(self.table, card)
     }
 
+    /// A further seat at the table, where there is room.
     fn sit(&mut self) -> Option<Hand<'a>> {
         if !self.control.has_room() {
             return None;
@@ -42,10 +46,12 @@ impl<'a> Desk<'a> {
 }
 
 impl<'a> Hand<'a> {
+    /// Claims the next number of the epoch that is current.
     fn claim(&mut self) -> Result<Claim, NoClaim> {
         claim(self.table, &mut self.seat, &OpenGate)
     }
 
+    /// Claims 500 times, and keeps each number that it was given.
     fn fill(&mut self) {
         for place in 0..500 {
             if let Ok(claim) = self.claim() {
@@ -55,7 +61,7 @@ impl<'a> Hand<'a> {
     }
 }
 
-// A table whose first card's epoch is current under AN 1, with these cards and this first number.
+/// A table whose first card's epoch is current under AN 1, with these cards and this first number.
 fn opened(
     alloc: Global,
     cards: u16,

@@ -28,14 +28,17 @@ enum Step {
     Recent(u32, bool),
 }
 
+/// The member identifier whose last octet is this one, after zeros.
 fn mi(last: u8) -> Mi {
     Mi([0, 0, 0, 0, 0, 0, 0, 0, 0, 0, 0, last])
 }
 
+/// The channel whose address begins with this octet, before zeros.
 fn sci(first: u8) -> Sci {
     Sci([first, 0, 0, 0, 0, 0, 0, 1])
 }
 
+/// An announcement of a member, which may list the station with a number.
 fn heard(member: u8, channel: u8, mn: u32, listed: Option<u32>) -> Heard {
     Heard {
         mi: mi(member),
@@ -57,11 +60,13 @@ fn played(rt: &impl Abort, alloc: Global, steps: &[Step]) -> Result<PeerTable, F
     Ok(table)
 }
 
+/// Plays the steps on a table of its own.
 fn plays(rt: &impl Abort, alloc: Global, steps: &[Step]) -> Result<(), Fail> {
     played(rt, alloc, steps)?;
     Ok(())
 }
 
+/// Plays one step; each gives what it says.
 fn play(rt: &impl Abort, table: &mut PeerTable, step: &Step) {
     match *step {
         Ticks(count) => pass(table, count),
@@ -81,6 +86,7 @@ fn play(rt: &impl Abort, table: &mut PeerTable, step: &Step) {
     }
 }
 
+/// So many ticks pass.
 fn pass(table: &mut PeerTable, count: u8) {
     for _ in 0..count {
         table.tick();
@@ -96,6 +102,7 @@ fn send(table: &mut PeerTable) {
     }
 }
 
+/// Hears 64 members, of the numbers 101 to 164, which fill the table.
 fn fill(rt: &impl Abort, table: &mut PeerTable) {
     for member in 101..165 {
         assert_eq!(rt; table.hear(&heard(member, member, 1, None)), Unvouched);
@@ -103,6 +110,7 @@ fn fill(rt: &impl Abort, table: &mut PeerTable) {
     assert_eq!(rt; table.len(), 64);
 }
 
+/// The rows are these: a member, its number, its channel, and whether it is live or potential.
 fn shows(rt: &impl Abort, table: &PeerTable, rows: &[(u8, u32, u8, bool, bool)]) {
     assert_eq!(rt; table.len(), rows.len());
     assert!(rt; table.row(rows.len()).is_none());

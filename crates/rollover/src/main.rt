@@ -33,6 +33,7 @@ fn status(rt: &HostRuntime) -> Status {
     }
 }
 
+/// Ends with the status of the call, and tells on standard error why it is none of success.
 fn main(rt: HostRuntime) -> ExitCode {
     let status = status(&rt);
     if status != Status::Done {

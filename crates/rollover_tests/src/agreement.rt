@@ -5,14 +5,14 @@ use crate::worked::{FIRST_KEY, FIRST_KEY_SHOWN, GROUP, STATION};
 use rollover_program::Status;
 use std::test::Fail;
 
-// The two frames, with check values of another implementation of AES-CMAC.
+/// The two frames, with check values of another implementation of AES-CMAC.
 const FIRST_FRAME: &str =
     "frame 1 A mka 0180c200000302000000000a888e030500340110602002000000000a0001000000000000000000000001000000010080c201010203046afea33c197d668f2ef5cc6f5a3cbae8\n";
 
 const SECOND_FRAME: &str =
     "frame 2 A mka 0180c200000302000000000a888e030500340110602002000000000a0001000000000000000000000001000000020080c2010102030418eead0904ae88a740746d927d5f7e1c\n";
 
-// One station says hello at its first tick, and again at its 21st.
+/// One station says hello at its first tick, and again at its 21st.
 #[test]
 fn says_hello(rt: HostRuntime) -> Result<(), Fail> {
     let alloc = rt.alloc();
@@ -32,8 +32,8 @@ fn says_hello(rt: HostRuntime) -> Result<(), Fail> {
     Ok(())
 }
 
-// Two stations agree on a key; a restarted one takes none of its earlier life's; a data frame is
-// accepted once, and not by its sender.
+/// Two stations agree on a key; a restarted one takes none of its earlier life's; a data frame is
+/// accepted once, and not by its sender.
 #[test]
 fn agrees_on_a_key(rt: HostRuntime) -> Result<(), Fail> {
     let alloc = rt.alloc();
@@ -88,7 +88,7 @@ data 10 A own
     Ok(())
 }
 
-// Who serves, and when a key is made.
+/// Who serves, and when a key is made.
 #[test]
 fn elects_and_renews(rt: HostRuntime) -> Result<(), Fail> {
     let alloc = rt.alloc();
@@ -185,7 +185,7 @@ begin A 000000000000000000000001 2 an 1 epoch 2 all",
     Ok(())
 }
 
-// From one key to the next.
+/// From one key to the next.
 #[test]
 fn rolls_over(rt: HostRuntime) -> Result<(), Fail> {
     let alloc = rt.alloc();

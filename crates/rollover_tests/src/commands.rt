@@ -18,7 +18,7 @@ fn hash(octets: &[u8]) -> u64 {
     hash
 }
 
-// A number out of its range, a word too many, and no word at all.
+/// A number out of its range, a word too many, and no word at all.
 #[test]
 fn refuses_words_that_are_no_command(rt: HostRuntime) -> Result<(), Fail> {
     let alloc = rt.alloc();
@@ -33,8 +33,8 @@ fn refuses_words_that_are_no_command(rt: HostRuntime) -> Result<(), Fail> {
     Ok(())
 }
 
-// The length and the hash are those of a Python program that was written from the description of
-// the generator. Performing the trace by either command gives one summary.
+/// The length and the hash are those of a Python program that was written from the description of
+/// the generator. Performing the trace by either command gives one summary.
 #[test]
 fn makes_and_tries_a_trace(rt: HostRuntime) -> Result<(), Fail> {
     let alloc = rt.alloc();
@@ -51,7 +51,7 @@ fn makes_and_tries_a_trace(rt: HostRuntime) -> Result<(), Fail> {
     Ok(())
 }
 
-// A summary is written at the end alone.
+/// A summary is written at the end alone.
 #[test]
 fn sums_a_trace_up(rt: HostRuntime) -> Result<(), Fail> {
     let alloc = rt.alloc();

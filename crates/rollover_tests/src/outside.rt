@@ -5,7 +5,7 @@ use crate::worked::{FIRST_KEY, GROUP, STATION};
 use rollover_program::{Halt, Kind, Status, Which};
 use std::test::Fail;
 
-// At each failing call of the source, what was written is a front of the transcript.
+/// At each failing call of the source, what was written is a front of the transcript.
 #[test]
 fn leaves_a_front_at_a_read_fault(rt: HostRuntime) -> Result<(), Fail> {
     let alloc = rt.alloc();
@@ -34,7 +34,7 @@ fn leaves_a_front_at_a_read_fault(rt: HostRuntime) -> Result<(), Fail> {
     Ok(())
 }
 
-// At each failing call of the sink, what was written before it is a front of the transcript.
+/// At each failing call of the sink, what was written before it is a front of the transcript.
 #[test]
 fn leaves_a_front_at_a_write_fault(rt: HostRuntime) -> Result<(), Fail> {
     let alloc = rt.alloc();
@@ -60,7 +60,7 @@ fn leaves_a_front_at_a_write_fault(rt: HostRuntime) -> Result<(), Fail> {
     Ok(())
 }
 
-// The greatest input, and one octet more; the line that has not ended is not judged then.
+/// The greatest input, and one octet more; the line that has not ended is not judged then.
 #[test]
 fn stops_at_the_limit_of_the_input(rt: HostRuntime) -> Result<(), Fail> {
     let alloc = rt.alloc();
@@ -80,7 +80,7 @@ fn stops_at_the_limit_of_the_input(rt: HostRuntime) -> Result<(), Fail> {
     Ok(())
 }
 
-// Lines of 4,096 octets and of one more, with and without a carriage return.
+/// Lines of 4,096 octets and of one more, with and without a carriage return.
 #[test]
 fn takes_lines_of_4096_octets(rt: HostRuntime) -> Result<(), Fail> {
     let alloc = rt.alloc();
@@ -102,7 +102,7 @@ fn takes_lines_of_4096_octets(rt: HostRuntime) -> Result<(), Fail> {
     Ok(())
 }
 
-// Words that are no command, and lines that are not performed yet.
+/// Words that are no command, and lines that are not performed yet.
 #[test]
 fn refuses_what_is_not_there(rt: HostRuntime) -> Result<(), Fail> {
     let alloc = rt.alloc();
@@ -118,7 +118,7 @@ fn refuses_what_is_not_there(rt: HostRuntime) -> Result<(), Fail> {
     Ok(())
 }
 
-// The line on standard error and the number of each status.
+/// The line on standard error and the number of each status.
 #[test]
 fn names_each_status(rt: HostRuntime) -> Result<(), Fail> {
     let alloc = rt.alloc();

@@ -11,7 +11,7 @@ const HELLO: &str = "\
 0180c200000302000000000a888e030500340110602002000000000a0001000000000000000000000001000000\
 010080c201010203046afea33c197d668f2ef5cc6f5a3cbae8";
 
-// Lines that are refused, and events that are stopped; what stands before them is performed.
+/// Lines that are refused, and events that are stopped; what stands before them is performed.
 #[test]
 fn ends_where_a_line_is_refused(rt: HostRuntime) -> Result<(), Fail> {
     let alloc = rt.alloc();
@@ -259,7 +259,7 @@ frame 1 A mka
     Ok(())
 }
 
-// Small traces.
+/// Small traces.
 #[test]
 fn performs_to_the_end(rt: HostRuntime) -> Result<(), Fail> {
     let alloc = rt.alloc();
@@ -403,7 +403,7 @@ data 10 B accepted 1 88b50001
     Ok(())
 }
 
-// A hello that is cut anywhere, is whole, is changed in its check value, or comes home.
+/// A hello that is cut anywhere, is whole, is changed in its check value, or comes home.
 #[test]
 fn drops_mutated_hellos(rt: HostRuntime) -> Result<(), Fail> {
     let alloc = rt.alloc();

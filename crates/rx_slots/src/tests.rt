@@ -8,7 +8,7 @@ use std::alloc::Global;
 use std::process::Abort;
 use std::test::Fail;
 
-// Two keys of 128 and 256 bits.
+/// Two keys of 128 and 256 bits.
 const SHORT_KEY: Secret = Secret::S128([0, 0, 0, 0, 0, 0, 0, 0, 0, 0, 0, 0, 0, 0, 0, 3]);
 
 const LONG_KEY: Secret = Secret::S256([
@@ -16,13 +16,13 @@ const LONG_KEY: Secret = Secret::S256([
     26, 27, 28, 29, 30, 31,
 ]);
 
-// The stations A, B and C.
+/// The stations A, B and C.
 const A: Sci = Sci([2, 0, 0, 0, 0, 0x0a, 0, 1]);
 
 const B: Sci = Sci([2, 0, 0, 0, 0, 0x0b, 0, 1]);
 
-// Frames of A under the short key: number 1 and 2, number 1 with a changed tag, number 0, and the
-// last number without confidentiality.
+/// Frames of A under the short key: number 1 and 2, number 1 with a changed tag, number 0, and the
+/// last number without confidentiality.
 const FIRST: &str =
     "ffffffffffff02000000000a88e52c040000000102000000000a000109773226206e3467e43c327172418bf947e3b3f3";
 
@@ -38,18 +38,18 @@ const ZERO: &str =
 const LAST: &str =
     "ffffffffffff02000000000a88e52004ffffffff02000000000a000188b5ffffe344ccc70aea1cb9eee5d86b20ed123f";
 
-// A frame of A under association number 1, and one under the long key and number 2.
+/// A frame of A under association number 1, and one under the long key and number 2.
 const OTHER: &str =
     "ffffffffffff02000000000a88e52d040000000102000000000a000109773226254a928a9de86cf19e1367d79a59ffa5";
 
 const LONG: &str =
     "ffffffffffff02000000000a88e52e040000000502000000000a0001793da7ee51d5be9a2d202ea6aca8b54fcb25a829";
 
-// A frame of C, which writes no SCI.
+/// A frame of C, which writes no SCI.
 const WITHOUT_SCI: &str =
     "ffffffffffff02000000000c88e54c040000000734c1d34920486aab75318d5bbe54c735fa148614";
 
-// What B is answered in turn, with window 0.
+/// What B is answered in turn, with window 0.
 const ANSWERS: [(&str, &str); 10] = [
     ("ffffffffffff02000000000a888e", "Malformed(NotSec)"),
     (ZERO, "Late { next: 1 }"),
@@ -75,7 +75,7 @@ const ANSWERS: [(&str, &str); 10] = [
     (LAST, "Late { next: 4294967296 }"),
 ];
 
-// The frame is answered so.
+/// The frame is answered so.
 fn is_answered(
     rt: &impl Abort,
     alloc: Global,

@@ -40,10 +40,12 @@ enum Step {
     Takes(u32, u8, u8, bool, bool, &'static [Told]),
 }
 
+/// The member identifier of this octet twelve times.
 fn mi(member: u8) -> Mi {
     Mi([member; 12])
 }
 
+/// The use of the key with this number by the first member, for sending and receiving.
 fn use_of(number: u32) -> KeyUse {
     KeyUse {
         server: mi(1),
@@ -66,6 +68,7 @@ fn report((member, number): (u8, u32)) -> Report {
     }
 }
 
+/// A change, told in short.
 fn summary(change: &Change) -> Told {
     match change {
         Change::Dropped(key) => Dropped(key.id.number),
@@ -76,6 +79,7 @@ fn summary(change: &Change) -> Told {
     }
 }
 
+/// The changes are the expected ones, in their order.
 fn tells(rt: &impl Abort, changes: &Changes, expected: &[Told]) {
     assert_eq!(rt; changes.len(), expected.len());
     for (change, expected) in changes.as_slice().iter().zip(expected) {
@@ -86,6 +90,7 @@ fn tells(rt: &impl Abort, changes: &Changes, expected: &[Told]) {
 /// A key that RFC 3394 (4.1) wraps under the octets from 0 to 15.
 const SAK: u128 = 0x00112233445566778899aabbccddeeff;
 
+/// What RFC 3394 (4.1) gives for that key.
 fn wrapped() -> [u8; 24] {
     let mut octets = [0; 24];
     octets[..8].copy_from_slice(&0x1fa68b0a8112b447_u64.to_be_bytes());
@@ -93,6 +98,7 @@ fn wrapped() -> [u8; 24] {
     octets
 }
 
+/// An offer of that key by the first member, with this number and AN.
 fn offer(number: u32, an: u8, offset: u8, listed: bool, elected: bool) -> Offer {
     Offer {
         given: Given::Aes128 {
@@ -107,6 +113,7 @@ fn offer(number: u32, an: u8, offset: u8, listed: bool, elected: bool) -> Offer 
     }
 }
 
+/// The key under which it is wrapped.
 fn kek() -> Key {
     Key::k128(&0x000102030405060708090a0b0c0d0e0f_u128.to_be_bytes())
 }
@@ -143,6 +150,7 @@ fn makes(
     Ok(Changes::new(alloc))
 }
 
+/// What the live members report.
 fn reports(alloc: Global, live: &[(u8, u32)]) -> Result<Vec<Report>, Fail> {
     let mut reports = Vec::new(alloc);
     for member in live {
@@ -216,6 +224,7 @@ fn expected(step: &Step) -> &'static [Told] {
     }
 }
 
+/// Plays the steps one after the other; each tells what it says.
 fn plays(rt: &impl Abort, alloc: Global, keys: &mut KeyState, steps: &[Step]) -> Result<(), Fail> {
     for step in steps {
         tells(rt, &play(rt, alloc, keys, step)?, expected(step));
@@ -296,6 +305,7 @@ fn wrapped_longer() -> [u8; 40] {
     octets
 }
 
+/// The key of 256 bits that the longer of the tried wraps holds.
 fn longer_sak() -> [u8; 32] {
     let mut octets = [0; 32];
     octets[..16].copy_from_slice(&0x7f604e9b8d39d3c91e193fe6f196c1e3_u128.to_be_bytes());

@@ -4,7 +4,7 @@ use super::*;
 use lan_base::{Mi, Sci};
 use std::process::Abort;
 
-// A candidate whose identifier and SCI are of one octet each.
+/// A candidate whose identifier and SCI are of one octet each.
 fn candidate(mi: u8, sci: u8, priority: u8) -> Candidate {
     Candidate {
         mi: Mi([mi; 12]),
@@ -13,6 +13,7 @@ fn candidate(mi: u8, sci: u8, priority: u8) -> Candidate {
     }
 }
 
+/// The candidates elect the wanted one, or nobody.
 fn elects(rt: &impl Abort, own: Candidate, live: &[Candidate], want: Option<u8>) {
     assert_eq!(rt; elect(&own, live), want.map(|mi| Mi([mi; 12])));
 }
@@ -46,7 +47,7 @@ fn of_equal_pairs_the_own_one_comes_first(rt: HostRuntime) {
     elects(&rt, candidate(5, 1, 255), &[twin, a], Some(4));
 }
 
-// SCIs compare by their first octet that differs.
+/// SCIs compare by their first octet that differs.
 #[test]
 fn compares_scis_from_the_left(rt: HostRuntime) {
     let (mut a, mut b) = (candidate(1, 0, 0), candidate(2, 0, 0));

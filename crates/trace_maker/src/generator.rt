@@ -3,8 +3,10 @@
 ghost use Rattle.std.specs.Prelude.{◌≡◌, ◌/◌, ◌^◌};
 ghost use Rattle.trace_maker.specs.Generator.{next};
 
+/// What a state is multiplied by.
 const MULTIPLIER: u64 = 6_364_136_223_846_793_005;
 
+/// What is added to the product.
 const INCREMENT: u64 = 1_442_695_040_888_963_407;
 
 /// How far the values stand above the state's low bits.

@@ -1,3 +1,5 @@
+//! Made traces, by their lengths, hashes and first lines.
+
 use super::*;
 use std::test::Fail;
 
@@ -10,8 +12,8 @@ fn hash(octets: &[u8]) -> u64 {
     hash
 }
 
-// Lengths, hashes and the first lines are those of a Python program that was written from the
-// format's description.
+/// Lengths, hashes and the first lines are those of a Python program that was written from the
+/// format's description.
 #[test]
 fn makes_what_another_program_makes(rt: HostRuntime) -> Result<(), Fail> {
     let alloc = rt.alloc();
@@ -29,7 +31,7 @@ fn makes_what_another_program_makes(rt: HostRuntime) -> Result<(), Fail> {
     Ok(())
 }
 
-// What was there stays in front.
+/// What was there stays in front.
 #[test]
 fn appends(rt: HostRuntime) -> Result<(), Fail> {
     let alloc = rt.alloc();

@@ -131,7 +131,7 @@ fn fault_of(alloc: Global, text: &[u8]) -> Option<TextFault> {
     read_line(alloc, text).err()
 }
 
-// What is read of a text is written as that text.
+/// What is read of a text is written as that text.
 #[test]
 fn reads_and_writes_each_form(rt: HostRuntime) -> Result<(), Fail> {
     let alloc = rt.alloc();
@@ -162,8 +162,8 @@ fn refuses_the_first_fault(rt: HostRuntime) -> Result<(), Fail> {
     Ok(())
 }
 
-// Lines of 4,096 and 4,097 octets, words of 1,500 octets, numbers of 10 and 11 digits, a body of
-// 1,500 octets and one of 1,501.
+/// Lines of 4,096 and 4,097 octets, words of 1,500 octets, numbers of 10 and 11 digits, a body of
+/// 1,500 octets and one of 1,501.
 #[test]
 fn minds_the_lengths(rt: HostRuntime) -> Result<(), Fail> {
     let alloc = rt.alloc();

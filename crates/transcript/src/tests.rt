@@ -290,7 +290,7 @@ fn renders_octets(rt: HostRuntime) -> Result<(), Fail> {
     Ok(())
 }
 
-// Each form of a line, read back and rendered again.
+/// Each form of a line, read back and rendered again.
 #[test]
 fn reads_each_form(rt: HostRuntime) -> Result<(), Fail> {
     let alloc = rt.alloc();

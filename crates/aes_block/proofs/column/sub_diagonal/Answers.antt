@@ -9,7 +9,7 @@ pub returns : goal.returns
 unfolding octets_of
 returns c =
     octets_of-from_bytes _ _ _ _ _ c.sub_octet.type_inv c.sub_octet-2.type_inv c.sub_octet-3.type_inv c.sub_octet-4.type_inv c.from_be_bytes.ensures
-    ∙ (λ i. (c.sub_octet.ensures ∙ ap (λ xs. sub_octet (slice_index xs 0)) c.to_be_bytes.ensures) i
-    ∷ (c.sub_octet-2.ensures ∙ ap (λ xs. sub_octet (slice_index xs 1)) c.to_be_bytes-2.ensures) i
-    ∷ (c.sub_octet-3.ensures ∙ ap (λ xs. sub_octet (slice_index xs 2)) c.to_be_bytes-3.ensures) i
-    ∷ (c.sub_octet-4.ensures ∙ ap (λ xs. sub_octet (slice_index xs 3)) c.to_be_bytes-4.ensures) i ∷ [])
+    ∙ (λ i. (c.sub_octet.ensures ∙ ap (λ xs. sub_octet (slice_index xs 0)) c.on_diagonal.ensures) i
+    ∷ (c.sub_octet-2.ensures ∙ ap (λ xs. sub_octet (slice_index xs 1)) c.on_diagonal.ensures) i
+    ∷ (c.sub_octet-3.ensures ∙ ap (λ xs. sub_octet (slice_index xs 2)) c.on_diagonal.ensures) i
+    ∷ (c.sub_octet-4.ensures ∙ ap (λ xs. sub_octet (slice_index xs 3)) c.on_diagonal.ensures) i ∷ [])
