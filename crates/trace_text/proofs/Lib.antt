@@ -1,4 +1,5 @@
 pub mod Answering
+pub mod Characters
 pub mod Decoding
 pub mod Digits
 pub mod Faults

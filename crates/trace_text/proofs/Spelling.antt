@@ -1,12 +1,11 @@
 -- A spelled word is a word, and says the same again.
-use Rattle.std.proofs.Common.{◌≡◌, ℕ, ◌+◌, ◌<◌, ◌≤◌, ◌^◌, ◌%◌, Bool, true, false, List, [], ◌∷◌, ◌++◌, length, refl, sym, ap, ◌∙◌, inl, inr, arith}
+use Rattle.std.proofs.Common.{◌≡◌, ℕ, ◌<◌, ◌≤◌, ◌^◌, Bool, true, false, List, [], ◌∷◌, length, refl, sym, ap, ◌∙◌, inl, inr, arith}
 use Rattle.std.specs.Prelude.{Ok, Err, if◌then◌else◌, ◌&&◌, ◌⊎◌, nat_lt, nat_le, decimal}
 use Rattle.std.specs.List.{All, AllPass, list_all}
-use Rattle.std.specs.Char.{is_ascii_digit, is_ascii_alphabetic, is_ascii_alphanumeric}
+use Rattle.std.specs.Char.{is_ascii_digit, is_ascii_alphanumeric}
 use Rattle.std.specs.Str.Parse.{digits_value}
 use Rattle.std.proofs.lemmas.Bool.Decides.{nat_tests}
-use Rattle.std.proofs.lemmas.Fmt.{decimal_is_IsNumeral, decimal_by_steps, length-decimal-le, decimal_nonempty}
-use Rattle.std.proofs.lemmas.List.Folds.{list_all-append}
+use Rattle.std.proofs.lemmas.Fmt.{decimal_is_IsNumeral, length-decimal-le, decimal_nonempty}
 use Rattle.std.proofs.lemmas.List.Elements.{All-weaker}
 use Rattle.std.proofs.lemmas.List.Sums.{AllPass-from_list_all}
 use Rattle.hex.specs.Hex.{encode_lower, lower_digits, is_hex_digit, IsBytes}
@@ -15,7 +14,7 @@ use Rattle.lan_base.specs.Name.{is_name}
 use Rattle.trace_text.specs.declared.fault.TextFault.TheVariants.{Range}
 use Rattle.trace_text.specs.Words.{is_blank}
 use Rattle.trace_text.specs.Kinds.{Kind, name, number, one_of, exactly, octets, secret, Said, said, spelled, IsFit, is_number, number_of, is_within, is_either, octets_of, exactly_of}
-use Rattle.trace_text.proofs.Digits.{both}
+use Rattle.trace_text.proofs.Characters.{name_characters, decimal_digits}
 use Rattle.trace_text.proofs.Spacing.{IsWord}
 
 -- the words of a kind are not empty, and its numbers have at most ten digits
@@ -43,32 +42,13 @@ whole_by : (p : ℕ → Bool) (word : List ℕ) → p 32 ≡ false → p 9 ≡ f
 whole_by p word space tab all =
     All-weaker (λ octet. p octet ≡ true) (λ octet. is_blank octet ≡ false) (λ octet passes. differ p octet (is_blank octet) refl space tab passes) word all
 
-letter : (octet : ℕ) → is_ascii_alphabetic octet ≡ true → is_ascii_alphanumeric octet ≡ true
-letter octet e = grind (arith, nat_tests)
-
 name_word : (n : List ℕ) → is_name n ≡ true → IsWord n
 name_word [] e = absurd cc
 name_word (first ∷ others) e =
-    let p = both (is_ascii_alphabetic first && list_all is_ascii_alphanumeric others) (nat_le (length others) 15) e in
-    let q = both (is_ascii_alphabetic first) (list_all is_ascii_alphanumeric others) p.0 in
     record {
       some = omega arith;
-      whole = whole_by is_ascii_alphanumeric (first ∷ others) refl refl
-          (AllPass-from_list_all is_ascii_alphanumeric (first ∷ others) (rw (letter first q.0, q.1) refl));
+      whole = whole_by is_ascii_alphanumeric (first ∷ others) refl refl (name_characters (first ∷ others) e);
     }
-
-digit : (n : ℕ) → n < 10 → is_ascii_digit (48 + n) ≡ true
-digit n small = grind (arith, nat_tests)
-
-one_digit : (n : ℕ) → n < 10 → list_all is_ascii_digit ((48 + n) ∷ []) ≡ true
-one_digit n small = rw (digit n small) refl
-
-more_digits : (n : ℕ) (ds : List ℕ) → 10 ≤ n → list_all is_ascii_digit ds ≡ true → list_all is_ascii_digit (ds ++ ((48 + n % 10) ∷ [])) ≡ true
-more_digits n ds large all =
-    list_all-append is_ascii_digit ds ((48 + n % 10) ∷ []) ∙ rw (all, one_digit (n % 10) (omega arith)) refl
-
-decimal_digits : (n : ℕ) → n < 2 ^ 64 → list_all is_ascii_digit (decimal n) ≡ true
-decimal_digits n small = decimal_by_steps (λ m ds. list_all is_ascii_digit ds ≡ true) one_digit more_digits n small
 
 number_word : (n : ℕ) → n < 10000000000 → IsWord (decimal n)
 number_word n small =

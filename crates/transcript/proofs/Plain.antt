@@ -1,16 +1,15 @@
 -- No word has a space or a line feed in it.
-use Rattle.std.proofs.Common.{◌≡◌, ℕ, ◌+◌, ◌<◌, ◌≤◌, ◌^◌, ◌%◌, Bool, true, false, List, [], ◌∷◌, ◌++◌, length, get_or, refl, sym, ap, ◌∙◌, arith}
-use Rattle.std.specs.Prelude.{◌==◌, ◌&&◌, nat_le, decimal}
-use Rattle.std.specs.List.{All, AllPass, list_all}
-use Rattle.std.specs.Char.{is_ascii_digit, is_ascii_alphabetic, is_ascii_alphanumeric, is_ascii_lowercase}
+use Rattle.std.proofs.Common.{◌≡◌, ℕ, ◌<◌, ◌^◌, Bool, true, false, List, [], get_or, refl, sym, ap, ◌∙◌, arith}
+use Rattle.std.specs.Prelude.{◌==◌, decimal}
+use Rattle.std.specs.List.{All, AllPass}
+use Rattle.std.specs.Char.{is_ascii_digit, is_ascii_alphanumeric, is_ascii_lowercase}
 use Rattle.std.proofs.lemmas.Bool.Decides.{nat_tests}
-use Rattle.std.proofs.lemmas.Fmt.{decimal_by_steps}
-use Rattle.std.proofs.lemmas.List.Folds.{list_all-append}
-use Rattle.std.proofs.lemmas.List.Elements.{All-weaker, All-get_or, All-nil}
+use Rattle.std.proofs.lemmas.List.Elements.{All-weaker, All-get_or}
 use Rattle.std.proofs.lemmas.List.Sums.{AllPass-from_list_all}
 use Rattle.hex.specs.Hex.{encode_lower, is_hex_digit, IsBytes}
 use Rattle.hex.proofs.HexLemmas.{decode_of-ok, decode_of-encode_lower}
 use Rattle.lan_base.specs.Name.{is_name, IsName}
+use Rattle.trace_text.proofs.Characters.{name_characters, decimal_digits}
 use Rattle.transcript.specs.Words.{Word, text, station, number, array, octets, spelled, Fits}
 
 -- an octet stands nowhere in these
@@ -28,34 +27,8 @@ lacks_by : (p : ℕ → Bool) (c : ℕ) (xs : List ℕ) → p c ≡ false → Al
 lacks_by p c xs none all =
     All-weaker (λ x. p x ≡ true) (λ x. (x == c) ≡ false) (λ x passes. differ p c x (x == c) refl none passes) xs all
 
-both : (a b : Bool) → a && b ≡ true → (a ≡ true) × (b ≡ true)
-both true true e = (refl, refl)
-both true false e = absurd cc
-both false b e = absurd cc
-
-letter : (octet : ℕ) → is_ascii_alphabetic octet ≡ true → is_ascii_alphanumeric octet ≡ true
-letter octet e = grind (arith, nat_tests)
-
 name_lacks : (c : ℕ) (n : List ℕ) → is_ascii_alphanumeric c ≡ false → is_name n ≡ true → Lacks c n
-name_lacks c [] none e = All-nil (λ octet. (octet == c) ≡ false)
-name_lacks c (first ∷ others) none e =
-    let p = both (is_ascii_alphabetic first && list_all is_ascii_alphanumeric others) (nat_le (length others) 15) e in
-    let q = both (is_ascii_alphabetic first) (list_all is_ascii_alphanumeric others) p.0 in
-    lacks_by is_ascii_alphanumeric c (first ∷ others) none
-    (AllPass-from_list_all is_ascii_alphanumeric (first ∷ others) (rw (letter first q.0, q.1) refl))
-
-digit : (n : ℕ) → n < 10 → is_ascii_digit (48 + n) ≡ true
-digit n small = grind (arith, nat_tests)
-
-one_digit : (n : ℕ) → n < 10 → list_all is_ascii_digit ((48 + n) ∷ []) ≡ true
-one_digit n small = rw (digit n small) refl
-
-more_digits : (n : ℕ) (ds : List ℕ) → 10 ≤ n → list_all is_ascii_digit ds ≡ true → list_all is_ascii_digit (ds ++ ((48 + n % 10) ∷ [])) ≡ true
-more_digits n ds large all =
-    list_all-append is_ascii_digit ds ((48 + n % 10) ∷ []) ∙ rw (all, one_digit (n % 10) (omega arith)) refl
-
-decimal_digits : (n : ℕ) → n < 2 ^ 64 → list_all is_ascii_digit (decimal n) ≡ true
-decimal_digits n small = decimal_by_steps (λ m ds. list_all is_ascii_digit ds ≡ true) one_digit more_digits n small
+name_lacks c n none e = lacks_by is_ascii_alphanumeric c n none (name_characters n e)
 
 hex_lacks : (c : ℕ) (xs : List ℕ) → is_hex_digit c ≡ false → IsBytes xs → Lacks c (encode_lower xs)
 hex_lacks c xs none bytes =
