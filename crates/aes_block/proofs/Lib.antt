@@ -16,3 +16,4 @@ pub mod Held
 pub mod KeyBlocks
 pub mod Cipher
 pub mod Vectors
+pub mod Public

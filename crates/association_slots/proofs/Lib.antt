@@ -13,3 +13,4 @@ pub mod CardWords
 pub mod KnownCards
 pub mod SeatKeeping
 pub mod Examples
+pub mod Public

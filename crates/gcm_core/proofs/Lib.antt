@@ -8,3 +8,4 @@ pub mod Tags
 pub mod Times
 pub mod Vectors
 pub mod WholeBlocks
+pub mod Public

@@ -6,3 +6,4 @@ pub mod Reread
 pub mod Sealing
 pub mod Validated
 pub mod Within
+pub mod Public

@@ -48,7 +48,7 @@ pub(crate) fn iv_of(sci: Sci, pn: u32) -> [u8; 12]
 }
 
 /// Appends the SecTAG before so many octets of secure data.
-#[tactic(auto, using(lan_base::proofs::Rooms::pieces))]
+#[tactic(auto, using(lan_base::proofs::Public::pieces))]
 fn put_sec_tag(sci: Sci, an: u8, pn: u32, conf: bool, count: usize, into: &mut Vec<u8>)
     requires an { an < 4 }
     requires room { HasRoom into.old (sec_tag sci an pn conf count) }
@@ -64,7 +64,7 @@ fn put_sec_tag(sci: Sci, an: u8, pn: u32, conf: bool, count: usize, into: &mut V
 }
 
 /// Appends what stands before the secure data: addresses and SecTAG.
-#[tactic(auto, using(lan_base::proofs::Rooms::pieces))]
+#[tactic(auto, using(lan_base::proofs::Public::pieces))]
 fn put_head(sci: Sci, an: u8, pn: u32, conf: bool, user: &UserFrame, into: &mut Vec<u8>)
     requires an { an < 4 }
     requires room { HasRoom into.old (head_octets sci an pn conf user.now) }

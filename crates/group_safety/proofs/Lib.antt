@@ -6,3 +6,4 @@ pub mod rollover
 pub mod example
 mod Examples
 mod SteadyExample
+pub mod Public

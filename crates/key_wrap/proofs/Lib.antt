@@ -4,3 +4,4 @@ pub mod Steps
 pub mod Leading
 pub mod Unwrapping
 pub mod OneKey
+pub mod Public

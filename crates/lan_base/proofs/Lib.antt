@@ -1,6 +1,8 @@
 pub mod Calls
 pub mod KeyStream
 pub mod Moves
+pub mod Numbering
 pub mod Padding
+pub mod Public
 pub mod Rooms
 mod Examples

@@ -1,6 +1,8 @@
 pub mod Timers
 pub mod Ranges
 pub mod Identifiers
+pub mod AssociationNumbers
+pub mod Suites
 pub mod Falling
 pub mod Differing
 pub mod Name

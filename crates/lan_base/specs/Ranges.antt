@@ -1,5 +1,5 @@
--- Ranges that several crates speak of: how long a CKN is (IEEE Std 802.1X, 9.3.1), and user data
--- (this profile's own rule).
+-- Ranges that several crates speak of: how long a CKN is (IEEE Std 802.1X, 9.3.1); and, by this
+-- profile's own rule, how long user data and frames are, and how many frames and ticks a group has.
 use Rattle.std.specs.Prelude.{ℕ, ◌≤◌, List, length}
 
 -- a CKN, which names a connectivity association key, has at most so many octets
@@ -21,3 +21,15 @@ most_user_octets = 1500
 -- 2 to 1,500 octets
 abbrev pub IsUserData : List ℕ → Type 0
 IsUserData octets = (least_user_octets ≤ length octets) × (length octets ≤ most_user_octets)
+
+-- a frame, protected or not, has at most so many octets
+abbrev pub most_frame_octets : ℕ
+most_frame_octets = 65536
+
+-- a group puts at most so many frames on the air
+abbrev pub most_frames : ℕ
+most_frames = 200000
+
+-- and has at most so many ticks, at all its stations
+abbrev pub most_ticks : ℕ
+most_ticks = 1000000

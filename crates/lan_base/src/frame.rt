@@ -1,6 +1,7 @@
 //! Frames of users, before and after they are protected.
 
 use crate::address::Mac;
+use crate::association_number::AssociationNumber;
 use crate::octets::Octets;
 
 /// Plain user data for one protected frame: where it goes, and its EtherType and payload.
@@ -15,7 +16,7 @@ pub struct UserFrame {
 #[derive(Debug, Drop)]
 pub struct Protected {
     pub station: u8,
-    pub an: u8,
+    pub an: AssociationNumber,
     pub epoch: u32,
     pub pn: u32,
     pub octets: Octets,

@@ -4,6 +4,7 @@
 #![tactic(auto)]
 
 mod address;
+mod association_number;
 mod blocks;
 mod chacha_draws;
 mod draws;
@@ -19,9 +20,11 @@ mod sink;
 mod source;
 mod steady;
 mod stream;
+mod suite;
 mod timers;
 
 pub use address::{Mac, Mi, Sci};
+pub use association_number::AssociationNumber;
 pub use blocks::Blocks;
 pub use chacha_draws::ChaChaDraws;
 pub use draws::{CountDraws, Draws};
@@ -31,12 +34,16 @@ pub use list_draws::ListDraws;
 pub use memory::{MemorySink, MemorySource};
 pub use name::Name;
 pub use octets::Octets;
-pub use ranges::{CKN_MAX, USER_DATA_MAX, USER_DATA_MIN, is_ckn, is_user_data, law_ranges};
+pub use ranges::{
+    CKN_MAX, FRAME_MAX, FRAMES_MAX, TICKS_MAX, USER_DATA_MAX, USER_DATA_MIN, is_ckn, is_user_data,
+    law_ranges,
+};
 pub use room::put;
 pub use sink::{Sink, Unwritten, write_all};
 pub use source::{Failed, ReadEnd, Source, read_all};
 pub use steady::{DropSink, SteadySink, SteadySource};
 pub use stream::{StdSink, StdSource};
+pub use suite::Suite;
 pub use timers::{HELLO_TIME, LIFE_TIME, RETIRE_TIME, law_timers};
 
 #[cfg(test)]

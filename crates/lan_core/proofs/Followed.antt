@@ -24,7 +24,7 @@ use Rattle.sak_exchange.specs.Making.{made_roster}
 use Rattle.sak_exchange.specs.Taking.{taken}
 use Rattle.sak_exchange.specs.Unwrapping.{given_sak}
 use Rattle.sak_exchange.specs.Outcomes.{beginning, installing}
-use Rattle.sak_exchange.proofs.Cases.{by_test, by_option}
+use Rattle.sak_exchange.proofs.Public.{by_test, by_option}
 use Rattle.mka_station.specs.declared.reaction.Reaction.{Reaction}
 use Rattle.mka_station.specs.declared.verdict.Verdict.{Verdict}
 use Rattle.mka_station.specs.Lives.{Member, Entry, ticked, sent, heard, peers_of, keys_of}

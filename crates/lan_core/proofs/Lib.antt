@@ -34,3 +34,4 @@ pub mod Restarted
 pub mod Started
 pub mod Placed
 pub mod Newly
+pub mod Public

@@ -9,7 +9,7 @@ use Rattle.std.specs.Int.{byte_at, bytes_low_first, bytes_high_first}
 use Rattle.lan_base.specs.Counted.{counted, count_from}
 use Rattle.lan_base.specs.ChaChaDrawn.{four_words, word_octets, chacha_from}
 use Rattle.lan_base.specs.Listed.{list_from}
-use Rattle.lan_base.specs.inside.ListedEnds.{list_from-ends}
+use Rattle.lan_base.proofs.Public.{list_from-ends}
 use Rattle.lan_core.specs.Types.{AreSome}
 use Rattle.lan_core.specs.Unstopped.{AreDraws}
 

@@ -26,7 +26,7 @@ use Rattle.lan_core.specs.Expected.{expected, Drawn, reached_facts, restart_fact
 use Rattle.lan_core.specs.Expected.{reaction_facts, change_fact, claim_fact, number_fact, lack}
 use Rattle.lan_core.specs.Expected.{emit_facts, last_number}
 use Rattle.lan_core.specs.Unstopped.{next_under, LeavesNoneOut}
-use Rattle.lan_core.proofs.Numbered.{mapped, chained}
+use Rattle.lan_core.proofs.Public.{mapped, chained}
 
 -- each next number is a packet number of its key, or lies behind the last one
 abbrev pub AreBounded : Settings → Run → Type 0

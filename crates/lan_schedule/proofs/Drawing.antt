@@ -7,7 +7,7 @@ use Rattle.hex.specs.Hex.{IsBytes}
 use Rattle.rand_chacha.specs.ChaCha.{key_of}
 use Rattle.lan_core.specs.Types.{AreSome}
 use Rattle.lan_core.specs.Unstopped.{AreDraws}
-use Rattle.lan_core.proofs.Supplied.{counts-are, streamed-are}
+use Rattle.lan_core.proofs.Public.{counts-are, streamed-are}
 use Rattle.trace_text.specs.declared.line.Line.{Line}
 use Rattle.trace_text.specs.declared.line.Line.TheVariants as lines
 use Rattle.trace_text.specs.Kinds.{exactly}

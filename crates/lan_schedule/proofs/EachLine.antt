@@ -15,7 +15,7 @@ use Rattle.trace_text.specs.declared.line.Line.{Line}
 use Rattle.trace_text.specs.declared.line.Line.TheVariants as lines
 use Rattle.trace_text.specs.Reading.{line_in}
 use Rattle.trace_text.specs.Writing.{IsInForm}
-use Rattle.trace_text.proofs.InForm.{read_fits}
+use Rattle.trace_text.proofs.Public.{read_fits}
 use Rattle.lan_schedule.specs.declared.choices.Choices.{Choices}
 use Rattle.lan_schedule.specs.declared.choices.Keyed.{Keyed}
 use Rattle.lan_schedule.specs.declared.halt.Kind.{Kind}

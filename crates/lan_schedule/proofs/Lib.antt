@@ -26,3 +26,4 @@ mod Texting
 mod Summing
 pub mod EachLine
 pub mod Returning
+pub mod Public

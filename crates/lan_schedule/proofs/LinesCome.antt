@@ -22,7 +22,7 @@ use Rattle.lan_core.specs.Order.{IsSendable}
 use Rattle.lan_core.specs.Stops.{IsDemanded}
 use Rattle.lan_core.specs.Types.{IsUserFrame}
 use Rattle.lan_core.specs.Unstopped.{AreDraws}
-use Rattle.lan_core.proofs.MoreUsers.{legal-more}
+use Rattle.lan_core.proofs.Public.{legal-more}
 use Rattle.lan_schedule.specs.Supply.{draw_at}
 use Rattle.lan_schedule.specs.Settings.{rule_of}
 use Rattle.lan_schedule.proofs.Drawing.{chosen-draws}

@@ -22,7 +22,7 @@ use Rattle.lan_schedule.specs.inside.Comes.{Comes, Did, IsGoing}
 use Rattle.lan_schedule.specs.inside.Staged.{StandsFor, Happened}
 use Rattle.lan_schedule.specs.inside.Supplies.{supply_nth}
 use Rattle.lan_schedule.specs.inside.Counters.{TellNext}
-use Rattle.lan_core.proofs.MoreUsers.{stands-more}
+use Rattle.lan_core.proofs.Public.{stands-more}
 use Rattle.lan_schedule.proofs.Users.{user-at-end}
 use Rattle.lan_schedule.proofs.Doing.{change-does, ends-early}
 

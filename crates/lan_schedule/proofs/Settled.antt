@@ -24,8 +24,7 @@ use Rattle.lan_core.specs.Legal.{IsStepped}
 use Rattle.lan_core.specs.Stops.{MayCome, draws_needed, is_spent, first_stop}
 use Rattle.lan_core.specs.Types.{IsTyped, IsSetting, AreOctets}
 use Rattle.lan_core.specs.Unstopped.{next_under}
-use Rattle.lan_core.proofs.Numbered.{number-frame}
-use Rattle.lan_core.proofs.There.{in-a-life}
+use Rattle.lan_core.proofs.Public.{number-frame, in-a-life}
 use Rattle.lan_schedule.specs.declared.choices.Choices.{Choices}
 use Rattle.lan_schedule.specs.Settings.{settings_of}
 use Rattle.lan_schedule.specs.World.{World, Kept, settings, count, sender, mark}

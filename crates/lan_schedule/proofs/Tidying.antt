@@ -12,9 +12,7 @@ use Rattle.lan_core.specs.Ledgers.{Frame, air, framed, gather}
 use Rattle.lan_core.specs.Expected.{expected, drawn_from, last_number}
 use Rattle.lan_core.specs.Types.{IsTyped, IsSetting}
 use Rattle.lan_core.specs.Unstopped.{IsUnstopped, LeavesNoneOut}
-use Rattle.lan_core.proofs.Unstopped.{is-step, legal, fresh, unforged}
-use Rattle.lan_core.proofs.Thrifty.{stays-thrifty}
-use Rattle.lan_core.proofs.Numbered.{air-numbered}
+use Rattle.lan_core.proofs.Public.{is-step, legal, fresh, unforged, stays-thrifty, air-numbered}
 use Rattle.lan_core.specs.Stops.{first_stop}
 use Rattle.lan_schedule.specs.declared.frames.Put.{Put}
 use Rattle.lan_schedule.specs.World.{World, settings, puts}

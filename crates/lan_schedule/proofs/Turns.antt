@@ -26,7 +26,7 @@ use Rattle.lan_core.specs.Expected.{reaction_facts, restart_facts, change_fact, 
 use Rattle.lan_core.specs.Expected.{number_fact, lack, emit_facts}
 use Rattle.lan_core.specs.Order.{Exists, IsAllowed, IsClaimable, IsSendable}
 use Rattle.lan_core.specs.Legal.{IsStep, IsStepped}
-use Rattle.lan_core.proofs.Numbered.{mapped, chained, appended, by_verdict, by_server, by_changes}
+use Rattle.lan_core.proofs.Public.{mapped, chained, appended, by_verdict, by_server, by_changes}
 use Rattle.lan_schedule.proofs.Coming.{AllHave, all-more}
 
 -- ---- claims that wait

@@ -15,14 +15,14 @@ use Rattle.peer_lists.specs.declared.heard.Outcome.TheVariants.{Vouched, Unvouch
 use Rattle.peer_lists.specs.Histories.{Peering, Sent, clock, announced, last_sent, recent, is_recent, ticked as peers_ticked, sent as peers_sent, heard as peers_heard}
 use Rattle.peer_lists.specs.Acceptance.{Own, Accepted, accepted, refusal, outcome}
 use Rattle.peer_lists.specs.Peers.{is_of}
-use Rattle.peer_lists.proofs.Pasts.{accepted-ticked, accepted-sent}
+use Rattle.peer_lists.proofs.Public.{accepted-ticked, accepted-sent}
 use Rattle.sak_exchange.specs.declared.due.Seen.{Seen}
 use Rattle.sak_exchange.specs.declared.offer.Offer.{Offer}
 use Rattle.sak_exchange.specs.Beginning.{Beginning}
 use Rattle.sak_exchange.specs.Histories.{Key, Keying, ticked as keys_ticked}
 use Rattle.sak_exchange.specs.Making.{made_roster}
 use Rattle.sak_exchange.specs.Outcomes.{beginning}
-use Rattle.sak_exchange.proofs.Cases.{by_test}
+use Rattle.sak_exchange.proofs.Public.{by_test}
 use Rattle.mka_station.specs.declared.reaction.Reaction.{Reaction}
 use Rattle.mka_station.specs.Lives.{Member, Entry, ticked, sent, heard, installed, began, own, told, peers_of, keys_of, elected, elected_by, live_words, potential_words, last_spoken}
 use Rattle.mka_station.specs.Views.{View, view, reports, is_server, serves}

@@ -1,7 +1,7 @@
 -- The number of the next announcement.
 use Rattle.std.proofs.Common.{◌≡◌, ◌∙◌, ◌<◌, ◌+◌, min, ℕ, Bool, true, false, cond, ◌&&◌, nat_lt, Option, Some, None, refl, sym, arith}
 use Rattle.std.proofs.lemmas.Bool.Decides.{nat_tests}
-use Rattle.sak_exchange.proofs.Cases.{by_test}
+use Rattle.sak_exchange.proofs.Public.{by_test}
 
 below-is : (n k : ℕ) → n < k → nat_lt n k ≡ true
 below-is n k l = grind (arith, nat_tests)

@@ -9,12 +9,10 @@ use Rattle.peer_lists.specs.declared.heard.Outcome.TheVariants.{Vouched, Unvouch
 use Rattle.peer_lists.specs.Acceptance.{Own, Accepted, accepted, refusal, outcome, members, vouches}
 use Rattle.peer_lists.specs.Histories.{Peering, clock, last_sent, recent, heard as peers_heard, ticked as peers_ticked}
 use Rattle.peer_lists.specs.Peers.{says, hopes, known, standing, is_of, is_vouched_of}
-use Rattle.peer_lists.proofs.Pasts.{accepted-dropped}
-use Rattle.peer_lists.proofs.Refusals.{known-is}
-use Rattle.peer_lists.proofs.Shown.{says-is, hopes-is}
+use Rattle.peer_lists.proofs.Public.{accepted-dropped, known-is, says-is, hopes-is}
 use Rattle.sak_exchange.specs.declared.due.Seen.{Seen}
 use Rattle.sak_exchange.specs.Histories.{install_count}
-use Rattle.sak_exchange.proofs.Cases.{by_test, by_option}
+use Rattle.sak_exchange.proofs.Public.{by_test, by_option}
 use Rattle.mka_station.specs.Lives.{Member, Entry, ticked, heard, own, told, peers_of, keys_of, live_words, potential_words, elected_by}
 use Rattle.mka_station.specs.Views.{View, view}
 use Rattle.mka_station.specs.Announcing.{announces}

@@ -1,7 +1,7 @@
 -- What is mapped of the elements that pass a test, one element more.
 use Rattle.std.proofs.Common.{◌≡◌, ◌<◌, ◌∙◌, ℕ, zero, suc, ◌+◌, None, Some, arith, Bool, true, false, cond, List, [], ◌∷◌, ◌++◌, map, take, length, get_or, ap, refl}
 use Rattle.std.specs.List.{filter, find, list_any, list_all}
-use Rattle.sak_exchange.proofs.Cases.{by_test}
+use Rattle.sak_exchange.proofs.Public.{by_test}
 use Rattle.std.proofs.lemmas.List.Elements.{filter_more}
 use Rattle.std.proofs.lemmas.List.{map-append}
 

@@ -24,7 +24,7 @@ use Rattle.sak_exchange.specs.Outcomes.{beginning, judging}
 use Rattle.sak_exchange.specs.Standing.{StandsFor as KeysStandFor, ticks_since}
 use Rattle.sak_exchange.specs.Taking.{taken, an_of, offset_of, number_of, is_supported, greatest_of, provided, provided_new, unwrapped_key, offered_key}
 use Rattle.sak_exchange.specs.Unwrapping.{given_sak}
-use Rattle.sak_exchange.proofs.Cases.{by_test, by_option}
+use Rattle.sak_exchange.proofs.Public.{by_test, by_option}
 use Rattle.mka_station.specs.declared.reaction.Reaction.{Reaction}
 use Rattle.mka_station.specs.Lives.{Member, Entry, heard, own, candidate, peers_of, keys_of, last_spoken}
 use Rattle.mka_station.specs.Views.{View, view, is_server}

@@ -4,14 +4,14 @@ use Rattle.std.proofs.lemmas.Bool.{and_parts, eqb-true, eq-eqb}
 use Rattle.lan_base.specs.declared.address.Mi.{Mi}
 use Rattle.lan_base.specs.declared.key_id.KeyId.{KeyId}
 use Rattle.lan_base.specs.Identifiers.{same_mi}
-use Rattle.peer_lists.proofs.Identifiers.{same_mi-equal, same_mi-itself}
+use Rattle.peer_lists.proofs.Public.{same_mi-equal, same_mi-itself}
 use Rattle.aes_block.specs.declared.secret.Secret.{Secret}
 use Rattle.mkpdu_codec.specs.declared.announcement.Announcement.{Announcement}
 use Rattle.peer_lists.specs.Histories.{last_sent}
 use Rattle.sak_exchange.specs.declared.due.Seen.{Seen}
 use Rattle.sak_exchange.specs.Histories.{Key, Keying, install_count}
 use Rattle.sak_exchange.specs.Held.{latest, old}
-use Rattle.sak_exchange.proofs.Cases.{by_test}
+use Rattle.sak_exchange.proofs.Public.{by_test}
 use Rattle.mka_station.specs.Lives.{Member, Entry, ticked, heard, elected, keys_of, peers_of}
 use Rattle.mka_station.specs.Announcing.{id_of, same_key, use_of, uses_of}
 use Rattle.mka_station.specs.Tick.{tick_turn}

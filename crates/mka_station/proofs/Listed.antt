@@ -11,10 +11,7 @@ use Rattle.peer_lists.specs.declared.heard.DropReason.{DropReason}
 use Rattle.peer_lists.specs.Histories.{Peering, clock, recent}
 use Rattle.peer_lists.specs.Acceptance.{Own, Accepted, accepted, refusal, outcome, vouches}
 use Rattle.peer_lists.specs.Peers.{says, hopes, known, is_of, is_vouched_of, last_accepted}
-use Rattle.peer_lists.proofs.Identifiers.{by_test, same_mi-equal, same_mi-itself}
-use Rattle.peer_lists.proofs.Finds.{find-here, find-on, find-any, find-is_some}
-use Rattle.peer_lists.proofs.Pasts.{by_option, accepted-ticked, accepted-sent, accepted-new, accepted-dropped, entered}
-use Rattle.peer_lists.proofs.Shown.{says-is}
+use Rattle.peer_lists.proofs.Public.{by_test, same_mi-equal, same_mi-itself, find-here, find-on, find-any, find-is_some, by_option, accepted-ticked, accepted-sent, accepted-new, accepted-dropped, entered, says-is}
 use Rattle.sak_exchange.specs.Histories.{Key}
 use Rattle.mka_station.specs.Lives.{Member, Entry, ticked, sent, heard, installed, began, own, told, peers_of}
 use Rattle.mka_station.specs.Views.{View, view}

@@ -9,7 +9,7 @@ use Rattle.peer_lists.specs.Histories.{ticked as peers_ticked}
 use Rattle.sak_exchange.specs.declared.due.Seen.{Seen}
 use Rattle.sak_exchange.specs.Histories.{Key, Keying, last_key}
 use Rattle.sak_exchange.specs.Making.{makes, made_key, next_an, free_from, after, is_used}
-use Rattle.sak_exchange.proofs.Cases.{by_test, by_option}
+use Rattle.sak_exchange.proofs.Public.{by_test, by_option}
 use Rattle.mka_station.specs.Lives.{Member, Entry, ticked, peers_of, keys_of}
 use Rattle.mka_station.specs.Views.{View, view, reports, is_server, serves}
 use Rattle.mka_station.specs.Tick.{led, makes_now, made, with_beginning, install_changes}

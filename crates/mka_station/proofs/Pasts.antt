@@ -6,9 +6,7 @@ use Rattle.mkpdu_codec.specs.declared.announcement.Announcement.{Announcement}
 use Rattle.peer_lists.specs.Histories.{Peering, clock, ticked as peers_ticked, sent as peers_sent, heard as peers_heard, recent}
 use Rattle.peer_lists.specs.Acceptance.{Own, members}
 use Rattle.peer_lists.specs.Peers.{says, known, standing, is_vouched_of}
-use Rattle.peer_lists.proofs.Pasts.{accepted-sent}
-use Rattle.peer_lists.proofs.Shown.{says-is}
-use Rattle.peer_lists.proofs.Refusals.{known-is}
+use Rattle.peer_lists.proofs.Public.{accepted-sent, says-is, known-is}
 use Rattle.server_election.specs.Election.{elected as elected_among}
 use Rattle.sak_exchange.specs.Histories.{Key, ticked as keys_ticked}
 use Rattle.sak_exchange.specs.Beginning.{Beginning}

@@ -13,11 +13,7 @@ use Rattle.peer_lists.specs.Histories.{Peering, clock, is_young}
 use Rattle.peer_lists.specs.Acceptance.{Own, Accepted, accepted}
 use Rattle.peer_lists.specs.Peers.{is_of, is_vouched_of, is_displaced, standing, says, hopes, known, last_accepted, row_of, row_at}
 use Rattle.peer_lists.specs.Table.{words_of}
-use Rattle.peer_lists.proofs.Identifiers.{by_test, same_mi-equal, same_mi-itself}
-use Rattle.peer_lists.proofs.Finds.{find-passes}
-use Rattle.peer_lists.proofs.Pasts.{by_option}
-use Rattle.peer_lists.proofs.Refusals.{remembered-is, has-known}
-use Rattle.peer_lists.proofs.Shown.{says-is, hopes-is}
+use Rattle.peer_lists.proofs.Public.{by_test, same_mi-equal, same_mi-itself, find-passes, by_option, remembered-is, has-known, says-is, hopes-is}
 use Rattle.mka_station.specs.Lives.{Member, Entry, own, peers_of, candidate_of}
 use Rattle.mka_station.specs.Views.{View, view, speakers, reports}
 use Rattle.mka_station.specs.Announcing.{peer_of}

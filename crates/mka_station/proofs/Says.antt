@@ -18,7 +18,7 @@ use Rattle.sak_exchange.specs.Making.{is_in_roster, lists}
 use Rattle.sak_exchange.specs.Beginning.{is_latest_made}
 use Rattle.sak_exchange.specs.Reports.{reports as is_reported}
 use Rattle.sak_exchange.specs.Standing.{ticks_since}
-use Rattle.sak_exchange.proofs.Cases.{by_test, by_option}
+use Rattle.sak_exchange.proofs.Public.{by_test, by_option}
 use Rattle.mka_station.specs.declared.saying.Lowest.{Lowest}
 use Rattle.mka_station.specs.declared.shown.Spoken.{Spoken}
 use Rattle.mka_station.specs.Lives.{Member, Entry, peers_of, last_spoken}

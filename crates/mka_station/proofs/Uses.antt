@@ -7,7 +7,7 @@ use Rattle.aes_block.specs.declared.secret.Secret.TheVariants.{S128, S256}
 use Rattle.mkpdu_codec.specs.declared.given.Given.{Given}
 use Rattle.sak_exchange.specs.declared.held_key.HeldKey.{HeldKey}
 use Rattle.sak_exchange.specs.declared.report.Report.{Report}
-use Rattle.sak_exchange.proofs.Cases.{by_test, by_option}
+use Rattle.sak_exchange.proofs.Public.{by_test, by_option}
 use Rattle.sak_exchange.specs.Histories.{Key, Keying, ticked, installed, began, installs, last_key}
 use Rattle.sak_exchange.specs.Held.{latest, old, transmitting, held, received, ends, has_epoch}
 use Rattle.mka_station.specs.declared.saying.Lowest.{Lowest}

@@ -14,3 +14,4 @@ pub mod WhatIsRead
 pub mod Unique
 pub mod WrittenSpelled
 mod Examples
+pub mod Public

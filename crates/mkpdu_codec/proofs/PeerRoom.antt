@@ -4,7 +4,7 @@ use Rattle.std.specs.Global.{Vec}
 use Rattle.std.proofs.lemmas.List.{take-append-drop}
 use Rattle.std.proofs.lemmas.List.Concat.{flat_map-append}
 use Rattle.lan_base.specs.Room.{HasRoom, Puts}
-use Rattle.lan_base.proofs.Rooms.{room_in_front, room_behind}
+use Rattle.lan_base.proofs.Public.{room_in_front, room_behind}
 use Rattle.mkpdu_codec.specs.declared.peer.Peer.{Peer}
 use Rattle.mkpdu_codec.specs.Sets.{peer, peers_body}
 

@@ -55,7 +55,7 @@ pub fn basic_len(announcement: &Announcement) -> usize
 }
 
 /// Writes the body: SCI, member identifier, message number, agility, and the name of the key.
-#[tactic(auto, using(lan_base::proofs::Rooms::pieces))]
+#[tactic(auto, using(lan_base::proofs::Public::pieces))]
 fn put_body(announcement: &Announcement, into: &mut Vec<u8>)
     requires { HasRoom into.old
         (basic_body announcement.now.sci.0 announcement.now.mi.0 announcement.now.mn
@@ -72,7 +72,7 @@ fn put_body(announcement: &Announcement, into: &mut Vec<u8>)
 }
 
 /// Writes the set: of version 1, MACsec desired, with MACsec capability 2.
-#[tactic(auto, using(lan_base::proofs::Rooms::pieces))]
+#[tactic(auto, using(lan_base::proofs::Public::pieces))]
 pub fn put_basic(announcement: &Announcement, into: &mut Vec<u8>)
     requires name { length announcement.now.ckn ≤ 32 }
     requires room { HasRoom into.old (basic_set announcement.now) }

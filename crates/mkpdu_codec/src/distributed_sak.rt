@@ -29,7 +29,7 @@ pub fn given_len(given: Option<Given>) -> usize
 }
 
 /// Writes a set: its second octet, key number, the suite's identifier, and the wrapped key.
-#[tactic(auto, using(lan_base::proofs::Rooms::pieces))]
+#[tactic(auto, using(lan_base::proofs::Public::pieces))]
 fn put_key(second: u8, number: u32, suite: &[u8], wrapped: &[u8], into: &mut Vec<u8>)
     requires short { length suite.now + length wrapped.now < 64 }
     requires room { HasRoom into.old (set 4 second 0

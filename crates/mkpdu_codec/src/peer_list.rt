@@ -48,7 +48,7 @@ pub fn peers_len(kind: u8, peers: &Peers) -> usize
 }
 
 /// Writes an entry: a member identifier and a message number.
-#[tactic(auto, using(lan_base::proofs::Rooms::pieces))]
+#[tactic(auto, using(lan_base::proofs::Public::pieces))]
 fn put_entry(entry: Peer, into: &mut Vec<u8>)
     requires { HasRoom into.old (peer entry) }
     ensures { Puts into.old into.new (peer entry) }
@@ -68,7 +68,7 @@ fn put_body(peers: &[Peer], into: &mut Vec<u8>)
 }
 
 /// Writes the set of one of the two types, where there are peers.
-#[tactic(auto, using(lan_base::proofs::Rooms::pieces))]
+#[tactic(auto, using(lan_base::proofs::Public::pieces))]
 pub fn put_peers(kind: u8, peers: &Peers, into: &mut Vec<u8>)
     requires few { length peers.now ≤ 80 }
     requires room { HasRoom into.old (peers_set kind peers.now) }

@@ -42,7 +42,7 @@ fn flags_of(key: &KeyUse) -> u8
 }
 
 /// Writes one key: the server, the key number, and the lowest acceptable packet number.
-#[tactic(auto, using(lan_base::proofs::Rooms::pieces))]
+#[tactic(auto, using(lan_base::proofs::Public::pieces))]
 fn put_key(key: &KeyUse, into: &mut Vec<u8>)
     requires { HasRoom into.old (use_body key.now) }
     ensures { Puts into.old into.new (use_body key.now) }
@@ -53,7 +53,7 @@ fn put_key(key: &KeyUse, into: &mut Vec<u8>)
 }
 
 /// Writes the latest key, and then the old one.
-#[tactic(auto, using(lan_base::proofs::Rooms::pieces))]
+#[tactic(auto, using(lan_base::proofs::Public::pieces))]
 fn put_body(uses: &Uses, into: &mut Vec<u8>)
     requires { HasRoom into.old (uses_body uses.now) }
     ensures { Puts into.old into.new (uses_body uses.now) }
@@ -63,7 +63,7 @@ fn put_body(uses: &Uses, into: &mut Vec<u8>)
 }
 
 /// Writes the set, where there is one.
-#[tactic(auto, using(lan_base::proofs::Rooms::pieces))]
+#[tactic(auto, using(lan_base::proofs::Public::pieces))]
 pub fn put_uses(uses: &Option<Uses>, into: &mut Vec<u8>)
     requires an { IfSome uses.now (λ u. (u.latest.an < 4) × (u.old.an < 4)) }
     requires room { HasRoom into.old (uses_set uses.now) }

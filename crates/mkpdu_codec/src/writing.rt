@@ -47,7 +47,7 @@ fn sets_len(announcement: &Announcement) -> usize
 }
 
 /// Writes the octets before the parameter sets, with the length of the EAPOL body.
-#[tactic(auto, using(lan_base::proofs::Rooms::pieces))]
+#[tactic(auto, using(lan_base::proofs::Public::pieces))]
 fn put_header(source: Mac, length: u16, into: &mut Vec<u8>)
     requires { HasRoom into.old (frame_header source.0 length) }
     ensures { Puts into.old into.new (frame_header source.0 length) }
@@ -59,7 +59,7 @@ fn put_header(source: Mac, length: u16, into: &mut Vec<u8>)
 }
 
 /// Writes the parameter sets, in their order.
-#[tactic(auto, using(lan_base::proofs::Rooms::pieces))]
+#[tactic(auto, using(lan_base::proofs::Public::pieces))]
 fn put_sets(announcement: &Announcement, into: &mut Vec<u8>)
     requires writable { IsWritable announcement.now }
     requires room { HasRoom into.old (sets announcement.now) }
@@ -123,7 +123,7 @@ pub fn written_len(announcement: &Announcement) -> usize
 }
 
 /// Appends the frame of an announcement without its check value, which is to be appended behind it.
-#[tactic(auto, using(lan_base::proofs::Rooms::pieces))]
+#[tactic(auto, using(lan_base::proofs::Public::pieces))]
 pub fn write(announcement: &Announcement, into: &mut Vec<u8>) -> Result<(), AllocError>
     requires { IsWritable announcement.now }
 

@@ -14,8 +14,7 @@ use Rattle.association_slots.specs.declared.view.Mark.{Mark}
 use Rattle.association_slots.specs.declared.view.NextSeen.{NextSeen}
 use Rattle.association_slots.specs.declared.view.ControlView.{ControlView}
 use Rattle.association_slots.specs.declared.view.SeatView.{SeatView}
-use Rattle.association_slots.proofs.Lists.{in_left, behind_cons_if, at_cons_if}
-use Rattle.association_slots.proofs.StaysSettled.{once}
+use Rattle.association_slots.proofs.Public.{in_left, behind_cons_if, at_cons_if, once}
 use Rattle.packet_claims.specs.Alone.{next_now, IsNextClaim}
 use Rattle.packet_claims.specs.Claims.{gone_mark, Stays, IsClaim, IsNoKey, IsExhausted, Did}
 use Rattle.packet_claims.specs.declared.answers.Claim.{Claim}

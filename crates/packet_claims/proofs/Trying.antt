@@ -12,7 +12,7 @@ use Rattle.association_slots.specs.declared.view.Start.{Start}
 use Rattle.association_slots.specs.declared.view.Addition.{Addition}
 use Rattle.association_slots.specs.declared.view.Added.TheVariants.{Number, Over, Gone}
 use Rattle.association_slots.specs.declared.view.SeatView.{SeatView}
-use Rattle.association_slots.proofs.Lists.{behind_cons_if, at_cons_if}
+use Rattle.association_slots.proofs.Public.{behind_cons_if, at_cons_if}
 use Rattle.std.proofs.Common.{Result, Err}
 use Rattle.packet_claims.specs.declared.answers.Claim.{Claim}
 use Rattle.packet_claims.specs.declared.answers.NoClaim.{NoClaim}

@@ -11,3 +11,4 @@ pub mod Numbers
 pub mod Stands
 pub mod EveryHistory
 pub mod AtMost
+pub mod Public

@@ -8,8 +8,7 @@ use Rattle.lan_base.specs.Told.{before}
 use Rattle.lan_core.specs.declared.stop.Which.{Which}
 use Rattle.lan_core.specs.declared.stop.Which.TheVariants.{Input, Frames, Octets, Ticks, Keys}
 use Rattle.lan_core.specs.declared.stop.Which.TheVariants.{Stations}
-use Rattle.group_safety.proofs.once.RunLaws.{known, run-once, run-one_key}
-use Rattle.group_safety.proofs.rollover.Found.{run-hitless}
+use Rattle.group_safety.proofs.Public.{known, run-once, run-one_key, run-hitless}
 use Rattle.lan_schedule.specs.declared.halt.Halt.{Halt}
 use Rattle.lan_schedule.specs.declared.halt.Halt.TheVariants as halts
 use Rattle.lan_schedule.specs.declared.halt.Kind.{Kind}
@@ -20,7 +19,7 @@ use Rattle.lan_schedule.specs.Sound.{IsSound}
 use Rattle.lan_schedule.specs.Ends.{Sunk, IsShown, IsStopped, HoldsFront, text_of}
 use Rattle.lan_schedule.specs.Trace.{outcome, lines_within, most_input, WerePerformed, Sourced}
 use Rattle.lan_schedule.specs.Trace.{IsReplayed}
-use Rattle.lan_schedule.proofs.EachLine.{text-tidy}
+use Rattle.lan_schedule.proofs.Public.{text-tidy}
 use Rattle.rollover_program.specs.declared.status.Status.TheVariants.{Done, Usage, Halted}
 use Rattle.rollover_program.specs.Headline.{IsPromised, IsTranscribed, IsPerformed, IsStoppedBy}
 use Rattle.rollover_program.specs.Headline.{IsCutShort}

@@ -15,3 +15,4 @@ pub mod Makes
 pub mod NextAn
 pub mod Numbers
 mod Examples
+pub mod Public

@@ -11,3 +11,4 @@ pub mod Spacing
 pub mod Spelling
 pub mod Taking
 mod Examples
+pub mod Public

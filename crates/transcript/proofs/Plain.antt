@@ -9,7 +9,7 @@ use Rattle.std.proofs.lemmas.List.Sums.{AllPass-from_list_all}
 use Rattle.hex.specs.Hex.{encode_lower, is_hex_digit, IsBytes}
 use Rattle.hex.proofs.HexLemmas.{decode_of-ok, decode_of-encode_lower}
 use Rattle.lan_base.specs.Name.{is_name, IsName}
-use Rattle.trace_text.proofs.Characters.{name_characters, decimal_digits}
+use Rattle.trace_text.proofs.Public.{name_characters, decimal_digits}
 use Rattle.transcript.specs.Words.{Word, text, station, number, array, octets, spelled, Fits}
 
 -- an octet stands nowhere in these

@@ -4,7 +4,7 @@ use Rattle.std.proofs.Common.{Option, Some, None}
 use Rattle.std.specs.Prelude.{◌==◌, option_map, is_none}
 use Rattle.std.specs.List.{list_all, find}
 use Rattle.std.proofs.lemmas.Bool.{and_parts}
-use Rattle.sak_exchange.proofs.Cases.{by_test}
+use Rattle.sak_exchange.proofs.Public.{by_test}
 use Rattle.lan_core.specs.declared.fact.Fact.{Fact}
 use Rattle.lan_core.specs.Ledgers.{Frame, framed, gather, with_one, air, frame_at}
 use Rattle.worked_rollovers.specs.Group.{profile}

@@ -17,7 +17,7 @@ use Rattle.sak_exchange.specs.declared.change.Cause.TheVariants.{All as all_repo
 use Rattle.sak_exchange.specs.declared.change.Cause.TheVariants.{Timeout as timed_out}
 use Rattle.sak_exchange.specs.Held.{received, latest, old, transmitting}
 use Rattle.sak_exchange.specs.Reports.{reports_old}
-use Rattle.sak_exchange.proofs.Cases.{by_test}
+use Rattle.sak_exchange.proofs.Public.{by_test}
 use Rattle.mka_station.specs.Lives.{peers_of, keys_of, elected}
 use Rattle.mka_station.specs.Views.{view}
 use Rattle.mka_station.specs.Tick.{tick_turn}
@@ -33,8 +33,7 @@ use Rattle.group_safety.specs.Rounds.{pace, rounds}
 use Rattle.group_safety.specs.Stations.{keys_at, keys_of_life}
 use Rattle.group_safety.specs.Steady.{Begins, IsUnbroken, Trusts, IsListener, IsKeeper, IsSteady}
 use Rattle.group_safety.specs.Time.{IsFlight, IsInTime, IsFound}
-use Rattle.group_safety.proofs.Members.{In, contains-in, in-contains, all-in, by_sum}
-use Rattle.group_safety.proofs.example.Each.{each-at, each-passes, IsNoRestart, no-restart, goes_on}
+use Rattle.group_safety.proofs.Public.{In, contains-in, in-contains, all-in, by_sum, each-at, each-passes, IsNoRestart, no-restart, goes_on}
 use Rattle.worked_rollovers.specs.Group.{settings, mi, id, sak, bob, user, first_key}
 use Rattle.worked_rollovers.specs.Deeds.{Deed, plain, emits, carried}
 use Rattle.worked_rollovers.specs.Lives.{heard_by, life_by}

@@ -12,7 +12,7 @@ use Rattle.sak_exchange.specs.declared.offer.Offer.{Offer}
 use Rattle.sak_exchange.specs.Histories.{Keying}
 use Rattle.sak_exchange.specs.Taking.{taken}
 use Rattle.sak_exchange.specs.Unwrapping.{given_sak}
-use Rattle.sak_exchange.proofs.Cases.{by_test}
+use Rattle.sak_exchange.proofs.Public.{by_test}
 use Rattle.gcm_frames.specs.Tags.{is_sec}
 use Rattle.mka_station.specs.Lives.{Member, Entry, heard}
 use Rattle.mka_station.specs.Views.{view}
@@ -26,10 +26,7 @@ use Rattle.lan_core.specs.Ledgers.{Frame, frame_at, installs_at}
 use Rattle.lan_core.specs.Lives.{Life, life, life_after, lived, lived_hearing, lived_reached}
 use Rattle.lan_core.specs.Lives.{setup_of}
 use Rattle.lan_core.specs.Lives.{begun, drawn_mi, sak_in, lived_ticking, receiving, reaches}
-use Rattle.group_safety.proofs.once.Living.{group_kek}
-use Rattle.group_safety.proofs.once.Currents.{some-same, none-some}
-use Rattle.group_safety.proofs.example.Scene.{good-plain, good-right, IsSilent, next-silent}
-use Rattle.group_safety.proofs.example.Scene.{silent-seen}
+use Rattle.group_safety.proofs.Public.{group_kek, some-same, none-some, good-plain, good-right, IsSilent, next-silent, silent-seen}
 use Rattle.worked_rollovers.specs.Group.{settings, profile}
 use Rattle.worked_rollovers.specs.Deeds.{Deed, tells, emits, plain, happens, run_of}
 use Rattle.worked_rollovers.specs.Deeds.{whole, framed_by, carried, Paper, says, carries, on_air}

@@ -15,8 +15,7 @@ use Rattle.lan_core.specs.Ledgers.{installs}
 use Rattle.group_safety.specs.Moments.{upto}
 use Rattle.group_safety.specs.Rounds.{pace, rounds}
 use Rattle.group_safety.specs.Steady.{Begins, IsKeeper, IsSteady}
-use Rattle.group_safety.proofs.Members.{In, contains-in}
-use Rattle.group_safety.proofs.example.Each.{each-at, each-passes, begins_none, none-begins}
+use Rattle.group_safety.proofs.Public.{In, contains-in, each-at, each-passes, begins_none, none-begins}
 use Rattle.worked_rollovers.specs.Group.{settings, id, bob}
 use Rattle.worked_rollovers.specs.Lives.{heard_by, life_by}
 use Rattle.worked_rollovers.specs.Script.{tick, deliver, begin, send, spread, round, flow}

@@ -19,12 +19,7 @@ use Rattle.mkpdu_codec.specs.Sets.{IsPeer, IsKey}
 use Rattle.mkpdu_codec.specs.Frames.{IsGiven}
 use Rattle.mkpdu_codec.specs.Written.{IsWritableGiven}
 use Rattle.sak_exchange.specs.Unwrapping.{given_sak}
-use Rattle.group_safety.proofs.once.ClaimKept.{protected-is-sec}
-use Rattle.group_safety.proofs.once.Currents.{some-same}
-use Rattle.group_safety.proofs.once.Living.{group_kek}
-use Rattle.group_safety.proofs.example.Scene.{IsGood}
-use Rattle.group_safety.proofs.example.Good.{wraps}
-use Rattle.group_safety.proofs.example.Steps.{hides}
+use Rattle.group_safety.proofs.Public.{protected-is-sec, some-same, group_kek, IsGood, wraps, hides}
 use Rattle.worked_rollovers.specs.Group.{settings, bob, octets_of_sak, draw_of, user}
 use Rattle.worked_rollovers.specs.Deeds.{Gift, given_of, whole, carried}
 use Rattle.worked_rollovers.specs.Lives.{hidden_in}

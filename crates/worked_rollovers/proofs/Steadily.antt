@@ -11,8 +11,8 @@ use Rattle.lan_base.specs.declared.key_id.KeyId.{KeyId}
 use Rattle.lan_base.specs.Identifiers.{same_mi}
 use Rattle.mkpdu_codec.specs.declared.announcement.Announcement.{Announcement}
 use Rattle.peer_lists.specs.Acceptance.{Accepted}
-use Rattle.peer_lists.proofs.Identifiers.{same_mi-equal, same_mi-itself}
-use Rattle.sak_exchange.proofs.Cases.{by_test}
+use Rattle.peer_lists.proofs.Public.{same_mi-equal, same_mi-itself}
+use Rattle.sak_exchange.proofs.Public.{by_test}
 use Rattle.mka_station.specs.Announcing.{same_option}
 use Rattle.mka_station.specs.Hearing.{right}
 use Rattle.mka_station.specs.Lives.{live_words, peers_of}
@@ -27,12 +27,7 @@ use Rattle.lan_core.specs.Lives.{Life, life, setup_of}
 use Rattle.group_safety.specs.Moments.{upto, At}
 use Rattle.group_safety.specs.Stations.{mi_at, mi_of, server_at, server_of}
 use Rattle.group_safety.specs.Steady.{Begins, Makes, Sends, IsListener, IsKeeper, Trusts}
-use Rattle.group_safety.proofs.Members.{In, contains-in, in-contains, in-left, all-in, by_sum}
-use Rattle.group_safety.proofs.once.Currents.{some-same}
-use Rattle.group_safety.proofs.rollover.Moments.{upto-all, upto-on}
-use Rattle.group_safety.proofs.example.Each.{Each, each-at, Along, along-at, frames_none}
-use Rattle.group_safety.proofs.example.Each.{none-framed}
-use Rattle.group_safety.proofs.example.Each.{last-framed, good-spelled}
+use Rattle.group_safety.proofs.Public.{In, contains-in, in-contains, in-left, all-in, by_sum, some-same, upto-all, upto-on, Each, each-at, Along, along-at, frames_none, none-framed, last-framed, good-spelled}
 use Rattle.worked_rollovers.specs.Group.{settings, profile}
 use Rattle.worked_rollovers.specs.Deeds.{Deed, tells, emits, plain, happens, run_of, whole}
 use Rattle.worked_rollovers.specs.Deeds.{told, framed_by}

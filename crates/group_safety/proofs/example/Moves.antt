@@ -31,7 +31,7 @@ use Rattle.lan_core.specs.Expected.{reaction_facts, claim_fact, lack, last_numbe
 use Rattle.lan_core.specs.Order.{IsInOrder, IsShown, IsClaimable, IsSendable, IsOfSuite}
 use Rattle.lan_core.specs.Types.{IsTyped, IsMi, IfDrawn}
 use Rattle.lan_core.specs.Legal.{Ahead, is_excused_by}
-use Rattle.lan_core.proofs.Quiet.{others-change-none, claims-change-none}
+use Rattle.lan_core.proofs.Public.{others-change-none, claims-change-none}
 use Rattle.group_safety.proofs.Members.{In, in-either}
 use Rattle.group_safety.proofs.once.Currents.{some-same, none-some}
 use Rattle.group_safety.proofs.once.Nexts.{life-next, stations-next}

@@ -5,8 +5,7 @@ use Rattle.std.specs.Prelude.{option_map, option_and_then, slice_get}
 use Rattle.std.proofs.lemmas.List.Elements.{All-nil}
 use Rattle.gcm_frames.specs.Tags.{is_sec}
 use Rattle.gcm_frames.specs.Protected.{iv}
-use Rattle.gcm_frames.proofs.Opening.{Encrypts, encrypts, length-gcm_text}
-use Rattle.gcm_frames.proofs.Reopened.{length-gcm_tag}
+use Rattle.gcm_frames.proofs.Public.{Encrypts, encrypts, length-gcm_text, length-gcm_tag}
 use Rattle.mkpdu_codec.specs.Sets.{IsPeer}
 use Rattle.rx_slots.specs.Numbers.{answer}
 use Rattle.sak_exchange.specs.Held.{transmitting}
@@ -19,7 +18,7 @@ use Rattle.lan_core.specs.Lives.{transmitting_at}
 use Rattle.lan_core.specs.Claims.{waiting, waiting_under, claimed}
 use Rattle.lan_core.specs.Expected.{expected, emit_facts, reached_facts, reaction_facts}
 use Rattle.lan_core.specs.Legal.{IsStepped}
-use Rattle.lan_core.proofs.Quiet.{others-change-none}
+use Rattle.lan_core.proofs.Public.{others-change-none}
 use Rattle.group_safety.proofs.Members.{In}
 use Rattle.group_safety.proofs.once.Ciphers.{encrypts as encrypts_block}
 use Rattle.group_safety.proofs.once.ClaimKept.{protected-is-sec}

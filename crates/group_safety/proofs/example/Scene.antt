@@ -14,14 +14,13 @@ use Rattle.lan_base.specs.declared.frame.UserFrame.{UserFrame}
 use Rattle.aes_block.specs.declared.secret.Secret.TheVariants.{S128}
 use Rattle.aes_cmac.specs.Cmac.{cmac}
 use Rattle.gcm_frames.specs.Tags.{is_sec}
-use Rattle.gcm_frames.proofs.Parts.{take_front}
+use Rattle.gcm_frames.proofs.Public.{take_front}
 use Rattle.mkpdu_codec.specs.declared.announcement.Announcement.{Announcement}
 use Rattle.mkpdu_codec.specs.Frames.{Spells}
 use Rattle.mkpdu_codec.specs.Frames.{IsOfItsTypes}
 use Rattle.mkpdu_codec.specs.Reading.{reading}
 use Rattle.mkpdu_codec.specs.Written.{written, IsWritable}
-use Rattle.mkpdu_codec.proofs.FrameAgain.{read_again, length-covered}
-use Rattle.mkpdu_codec.proofs.WrittenSpelled.{written_spells}
+use Rattle.mkpdu_codec.proofs.Public.{read_again, length-covered, written_spells}
 use Rattle.rx_slots.specs.Histories.{Receiving}
 use Rattle.rx_slots.specs.Histories as slots
 use Rattle.rx_slots.specs.Numbers.{accepted, is_under}

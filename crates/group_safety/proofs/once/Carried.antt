@@ -16,10 +16,7 @@ use Rattle.mkpdu_codec.specs.declared.refusal.Refusal.TheVariants.{NotMka}
 use Rattle.mkpdu_codec.specs.Frames.{Set, Spells, SpellsGiven}
 use Rattle.mkpdu_codec.specs.Reading.{reading, parts_at}
 use Rattle.mkpdu_codec.specs.Refusals.{is_mka}
-use Rattle.mkpdu_codec.proofs.FrameAgain.{read_again}
-use Rattle.mkpdu_codec.proofs.SetOctets.{IsBytes-all}
-use Rattle.mkpdu_codec.proofs.Unique.{same_covered}
-use Rattle.mkpdu_codec.proofs.WhatIsRead.{read_is_spelled}
+use Rattle.mkpdu_codec.proofs.Public.{read_again, IsBytes-all, same_covered, read_is_spelled}
 use Rattle.sak_exchange.specs.Taking.{an_of, number_of}
 use Rattle.mka_station.specs.declared.verdict.Verdict.TheVariants.{CkName, Check}
 use Rattle.mka_station.specs.Lives.{Setup}

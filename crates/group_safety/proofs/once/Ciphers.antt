@@ -17,23 +17,18 @@ use Rattle.aes_block.specs.Octet.{octets_sum}
 use Rattle.aes_block.specs.Secrets.{secret_octets}
 use Rattle.aes_block.specs.State.{last_round, shift_rows, sub_bytes}
 use Rattle.aes_block.specs.Aes.{aes, cipher, IsBlock, IsKey, IsOctets}
-use Rattle.aes_block.proofs.Octets.{AreOctets, All-from_AreOctets, AreOctets-from_All}
-use Rattle.aes_block.proofs.Octets.{AreOctets-append, AreOctets-octets_sum, AreOctets-take}
-use Rattle.aes_block.proofs.Octets.{AreOctets-drop}
-use Rattle.aes_block.proofs.Steps.{same_source}
-use Rattle.aes_block.proofs.KeyBlocks.{inv_aes, aes-inverse}
+use Rattle.aes_block.proofs.Public.{AreOctets, All-from_AreOctets, AreOctets-from_All, AreOctets-append, AreOctets-octets_sum, AreOctets-take, AreOctets-drop, same_source, inv_aes, aes-inverse}
 use Rattle.aes_cmac.specs.Cmac.{cmac, chain_after, block, before_last, last_block, padded_part}
 use Rattle.aes_cmac.specs.Cmac.{first_subkey, second_subkey, doubled, doubled_bits}
 use Rattle.mka_kdf.specs.Kdf.{kek_of, ick_of, derived, input, context_of}
-use Rattle.mka_kdf.proofs.Lengths.{derived-16, derived-32}
+use Rattle.mka_kdf.proofs.Public.{derived-16, derived-32}
 use Rattle.key_wrap.specs.Wrap.{wrapped, initial_value}
-use Rattle.key_wrap.proofs.Octets.{IsOctets-steps}
-use Rattle.key_wrap.proofs.OneKey.{Permutes, one_key}
+use Rattle.key_wrap.proofs.Public.{IsOctets-steps, Permutes, one_key}
 use Rattle.mkpdu_codec.specs.declared.given.Given.{Given}
 use Rattle.mkpdu_codec.specs.declared.given.Given.TheVariants.{Aes128, Aes256, Other}
 use Rattle.sak_exchange.specs.Histories.{Key}
 use Rattle.sak_exchange.specs.Unwrapping.{unwrapped, given_sak}
-use Rattle.sak_exchange.proofs.Unwrapping.{key-unwrapped, unwrapped-key}
+use Rattle.sak_exchange.proofs.Public.{key-unwrapped, unwrapped-key}
 use Rattle.mka_station.specs.Announcing.{given_as, offset}
 use Rattle.lan_core.specs.Types.{IsSecret, AreSome}
 use Rattle.group_safety.proofs.once.Currents.{some-same, none-some}

@@ -28,7 +28,7 @@ use Rattle.lan_core.specs.Expected.{number_fact, lack}
 use Rattle.lan_core.specs.Order.{IsClaimable, IsSendable}
 use Rattle.lan_core.specs.Types.{IsUserFrame}
 use Rattle.lan_core.specs.Legal.{IsStep}
-use Rattle.lan_core.proofs.Fronts.{stays-passed}
+use Rattle.lan_core.proofs.Public.{stays-passed}
 use Rattle.group_safety.specs.Once.{shown_made}
 use Rattle.group_safety.proofs.Members.{In, in-from_map, in-either}
 use Rattle.group_safety.proofs.once.Ledgers.{Installation, Book, Change}

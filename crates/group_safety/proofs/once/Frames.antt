@@ -18,11 +18,11 @@ use Rattle.mkpdu_codec.specs.declared.key_use.Uses.{Uses}
 use Rattle.mkpdu_codec.specs.Sets.{IsPeer, IsKey}
 use Rattle.mkpdu_codec.specs.Frames.{Spells, IsGiven, IsOfItsTypes}
 use Rattle.mkpdu_codec.specs.Written.{written, IsWritable, IsWritableGiven}
-use Rattle.mkpdu_codec.proofs.WrittenSpelled.{written_spells}
+use Rattle.mkpdu_codec.proofs.Public.{written_spells}
 use Rattle.peer_lists.specs.Histories.{Peering, last_sent}
 use Rattle.peer_lists.specs.Acceptance.{Accepted, accepted}
 use Rattle.peer_lists.specs.Peers.{says, hopes, known}
-use Rattle.peer_lists.proofs.AtMost.{known-at-most}
+use Rattle.peer_lists.proofs.Public.{known-at-most}
 use Rattle.sak_exchange.specs.Histories.{Key, Keying}
 use Rattle.sak_exchange.specs.Held.{latest, old, transmitting}
 use Rattle.mka_station.specs.Lives.{Member, Entry, own, peers_of, keys_of}

@@ -13,8 +13,7 @@ use Rattle.sak_exchange.specs.Held.{received, latest, old, transmitting, ends, w
 use Rattle.sak_exchange.specs.Taking.{greatest_of}
 use Rattle.lan_base.specs.Differing.{DiffersFrom}
 use Rattle.sak_exchange.specs.Lives.{IsOver, IsNumbered, TakesNoneOfOwn, identifiers}
-use Rattle.sak_exchange.proofs.Numbers.{identifiers-differ}
-use Rattle.sak_exchange.proofs.Epochs.{find-passes}
+use Rattle.sak_exchange.proofs.Public.{identifiers-differ, find-passes}
 use Rattle.lan_core.specs.Types.{IsSecret}
 use Rattle.group_safety.proofs.Members.{In, in-unfiltered}
 use Rattle.group_safety.proofs.once.Ledgers.{Made}

@@ -20,7 +20,7 @@ use Rattle.peer_lists.specs.declared.heard.DropReason.TheVariants.{Echo}
 use Rattle.peer_lists.specs.declared.heard.Heard.{Heard}
 use Rattle.peer_lists.specs.Histories.{Peering, recent, clock}
 use Rattle.peer_lists.specs.Acceptance.{Own, accepted, Accepted, outcome, refusal, echo}
-use Rattle.peer_lists.proofs.Identifiers.{same_mi-equal, by_test}
+use Rattle.peer_lists.proofs.Public.{same_mi-equal, by_test}
 use Rattle.sak_exchange.specs.declared.change.Why.{Why}
 use Rattle.sak_exchange.specs.declared.due.Seen.{Seen}
 use Rattle.sak_exchange.specs.declared.offer.Offer.{Offer}

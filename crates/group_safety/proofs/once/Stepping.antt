@@ -10,7 +10,7 @@ use Rattle.lan_core.specs.Ledgers.{births, Install, Frame, air, Claim, claims}
 use Rattle.lan_core.specs.Lives.{Life, life}
 use Rattle.lan_core.specs.Claims.{next, claimed, claimed_by}
 use Rattle.lan_core.specs.Fresh.{drawn_saks}
-use Rattle.lan_core.proofs.Fronts.{never-falls}
+use Rattle.lan_core.proofs.Public.{never-falls}
 use Rattle.group_safety.specs.Once.{makes}
 use Rattle.group_safety.proofs.Members.{In, in-either, in-right}
 use Rattle.group_safety.proofs.once.Ledgers.{Said, Deeds, Book, Change, book, AreAllowed}

@@ -7,8 +7,7 @@ use Rattle.lan_base.specs.Timers.{retire_time}
 use Rattle.sak_exchange.specs.Histories.{Key, ticked, clock, installs, begun_at, has_begun}
 use Rattle.sak_exchange.specs.Held.{Kept, received, latest, old, allows}
 use Rattle.sak_exchange.specs.Lives.{Has, IsFresh}
-use Rattle.sak_exchange.proofs.Stays.{old-stays, latest-stays, unbegun-fresh, begun-stays}
-use Rattle.sak_exchange.proofs.Survival.{was-received}
+use Rattle.sak_exchange.proofs.Public.{old-stays, latest-stays, unbegun-fresh, begun-stays, was-received}
 use Rattle.group_safety.specs.inside.Course.{Course, IsCourse, Lives, Rests, RestsThrough}
 use Rattle.group_safety.specs.inside.Course.{IsRollover, IsListening, IsKeeping, Holds, SendsUnder}
 use Rattle.group_safety.proofs.rollover.Spans.{by_cases, from_to, clock-append, grown}

@@ -10,7 +10,7 @@ use Rattle.lan_base.specs.declared.address.Sci.{Sci}
 use Rattle.lan_base.specs.declared.frame.UserFrame.{UserFrame}
 use Rattle.gcm_frames.specs.Tags.{is_sec}
 use Rattle.mkpdu_codec.specs.declared.announcement.Announcement.{Announcement}
-use Rattle.sak_exchange.proofs.Cases.{by_test}
+use Rattle.sak_exchange.proofs.Public.{by_test}
 use Rattle.mka_station.specs.declared.verdict.Verdict.{Verdict}
 use Rattle.mka_station.specs.Hearing.{judged, hear_turn, frame_turn}
 use Rattle.lan_core.specs.declared.event.Event.{Event}

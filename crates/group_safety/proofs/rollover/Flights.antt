@@ -17,15 +17,14 @@ use Rattle.aes_block.specs.Secrets.{secret_octets}
 use Rattle.aes_block.specs.Aes.{IsKey as IsCipherKey}
 use Rattle.gcm_frames.specs.Protected.{IsSent, protected}
 use Rattle.gcm_frames.specs.Tags.{is_sec}
-use Rattle.gcm_frames.proofs.Reread.{reread}
-use Rattle.gcm_frames.proofs.Reopened.{reopened}
+use Rattle.gcm_frames.proofs.Public.{reread, reopened}
 use Rattle.rx_slots.specs.Histories.{Receiving, standing_key}
 use Rattle.rx_slots.specs.Numbers.{answer, accepted, admitted, is_late, next_number}
 use Rattle.rx_slots.specs.Answers.{checked}
 use Rattle.sak_exchange.specs.Histories.{Key, installs}
 use Rattle.sak_exchange.specs.Held.{received, transmitting}
 use Rattle.sak_exchange.specs.Lives.{Has}
-use Rattle.sak_exchange.proofs.Cases.{by_test}
+use Rattle.sak_exchange.proofs.Public.{by_test}
 use Rattle.lan_core.specs.declared.event.Event.{Event}
 use Rattle.lan_core.specs.declared.event.Event.TheVariants as events
 use Rattle.lan_core.specs.declared.fact.Fact.{Fact}
@@ -42,7 +41,7 @@ use Rattle.lan_core.specs.Types.{IsSetting, IsSecret, IsTyped, IsUserFrame}
 use Rattle.lan_core.specs.Legal.{IsStep, IsStepped}
 use Rattle.lan_base.specs.Differing.{AllDiffer}
 use Rattle.lan_core.specs.Fresh.{IsUnforged, drawn_mis}
-use Rattle.lan_core.proofs.Numbered.{air-numbered}
+use Rattle.lan_core.proofs.Public.{air-numbered}
 use Rattle.group_safety.specs.Moments.{upto, At}
 use Rattle.group_safety.specs.Stations.{keys_at}
 use Rattle.group_safety.specs.Time.{Claims, IsFlight, Answers}
@@ -420,7 +419,7 @@ module _ (settings : Settings) (users : List UserFrame) (run : Run) (is : IsSett
             let y_in : In B.y (air (upto d run)) =
             in-find (λ (v : Frame). v.number == frame) (air (upto d run)) B.y B.there in
             let y_number : B.y.number ≡ frame =
-            eqb-true B.y.number frame (Rattle.sak_exchange.proofs.Epochs.find-passes
+            eqb-true B.y.number frame (Rattle.sak_exchange.proofs.Public.find-passes
             (λ (v : Frame). v.number == frame) (air (upto d run)) B.y B.there) in
             let same : B.y ≡ z = one-number (air (upto (length run) run)) B.y z
             (numbered-at (length run)) (air-more d (length run) (omega arith)

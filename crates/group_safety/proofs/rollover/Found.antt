@@ -18,7 +18,7 @@ use Rattle.lan_core.specs.Lives.{Life, life, receiving, transmitting_at, keys_in
 use Rattle.lan_core.specs.Types.{IsSetting}
 use Rattle.lan_core.specs.Legal.{IsStepped}
 use Rattle.lan_core.specs.Fresh.{IsFresh, IsUnforged}
-use Rattle.lan_core.proofs.Fronts.{front-stepped, front-fresh, front-unforged}
+use Rattle.lan_core.proofs.Public.{front-stepped, front-fresh, front-unforged}
 use Rattle.group_safety.specs.Moments.{upto}
 use Rattle.group_safety.specs.Rounds.{rounds}
 use Rattle.group_safety.specs.Stations.{keys_at}

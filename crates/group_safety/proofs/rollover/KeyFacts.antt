@@ -10,11 +10,7 @@ use Rattle.sak_exchange.specs.Histories.{Key, Keying, ticked, installed, began, 
 use Rattle.sak_exchange.specs.Histories.{begun_at, has_begun, beginnings, last_begun}
 use Rattle.sak_exchange.specs.Held.{Kept, received, latest, old, transmitting, allows, has_epoch}
 use Rattle.sak_exchange.specs.Lives.{Has, Installs}
-use Rattle.sak_exchange.proofs.Cases.{by_test, by_option}
-use Rattle.sak_exchange.proofs.Epochs.{may-begin, find-passes}
-use Rattle.sak_exchange.proofs.Both.{first-is, are-two, beside-old}
-use Rattle.sak_exchange.proofs.Survival.{is-received}
-use Rattle.sak_exchange.proofs.Stays.{beginnings-fall}
+use Rattle.sak_exchange.proofs.Public.{by_test, by_option, may-begin, find-passes, first-is, are-two, beside-old, is-received, beginnings-fall}
 
 pub has-append : (k : Key) (a b : List Key) → Has k b → Has k (a ++ b)
 has-append k [] b has = has

@@ -12,8 +12,7 @@ use Rattle.sak_exchange.specs.Histories.{last_begun, install_count}
 use Rattle.sak_exchange.specs.Held.{Kept, latest, transmitting}
 use Rattle.sak_exchange.specs.Beginning.{Beginning}
 use Rattle.sak_exchange.specs.Lives.{Has}
-use Rattle.sak_exchange.proofs.Cases.{by_test}
-use Rattle.sak_exchange.proofs.Epochs.{begun-upto}
+use Rattle.sak_exchange.proofs.Public.{by_test, begun-upto}
 use Rattle.mka_station.specs.Lives.{keys_of}
 use Rattle.mka_station.specs.Lives as lives
 use Rattle.mka_station.specs.Views.{view}

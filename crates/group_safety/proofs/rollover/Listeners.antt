@@ -18,8 +18,7 @@ use Rattle.sak_exchange.specs.Beginning.{Beginning}
 use Rattle.sak_exchange.specs.Reports.{reports_latest, reports_old}
 use Rattle.sak_exchange.specs.Taking.{greatest_of}
 use Rattle.sak_exchange.specs.Lives.{Has, IsQuiet, IsOver}
-use Rattle.sak_exchange.proofs.Cases.{by_test}
-use Rattle.sak_exchange.proofs.Members.{same-itself}
+use Rattle.sak_exchange.proofs.Public.{by_test, same-itself}
 use Rattle.mka_station.specs.Lives.{Member, Entry, live_words, peers_of}
 use Rattle.mka_station.specs.Lives as lives
 use Rattle.mka_station.specs.Views.{view, reports}

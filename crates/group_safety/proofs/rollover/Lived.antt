@@ -11,7 +11,7 @@ use Rattle.sak_exchange.specs.Histories.{Key, Keying, installs, begun_at}
 use Rattle.sak_exchange.specs.Histories as keyings
 use Rattle.sak_exchange.specs.Held.{Kept}
 use Rattle.sak_exchange.specs.Lives.{Has, identifiers}
-use Rattle.sak_exchange.proofs.Numbers.{identifiers-differ}
+use Rattle.sak_exchange.proofs.Public.{identifiers-differ}
 use Rattle.mka_station.specs.Lives.{Member, Entry, keys_of}
 use Rattle.mka_station.specs.Tick.{tick_turn}
 use Rattle.mka_station.specs.Hearing.{judged, hear_turn}

@@ -16,7 +16,7 @@ use Rattle.sak_exchange.specs.Held.{latest}
 use Rattle.sak_exchange.specs.Beginning.{Beginning}
 use Rattle.sak_exchange.specs.Taking.{number_of}
 use Rattle.sak_exchange.specs.Lives.{Has, IsNumbered}
-use Rattle.sak_exchange.proofs.Both.{first-is}
+use Rattle.sak_exchange.proofs.Public.{first-is}
 use Rattle.mka_station.specs.Lives as lives
 use Rattle.mka_station.specs.Views.{view}
 use Rattle.mka_station.specs.Tick.{made}

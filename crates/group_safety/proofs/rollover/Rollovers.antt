@@ -13,11 +13,7 @@ use Rattle.sak_exchange.specs.Histories.{begun_at, has_begun, install_count, las
 use Rattle.sak_exchange.specs.Held.{Kept, latest, old, allows}
 use Rattle.sak_exchange.specs.Beginning.{Beginning, is_latest_made}
 use Rattle.sak_exchange.specs.Lives.{Has, IsNumbered}
-use Rattle.sak_exchange.proofs.Cases.{by_test, by_option}
-use Rattle.sak_exchange.proofs.Epochs.{latest-epoch}
-use Rattle.sak_exchange.proofs.Both.{first-is}
-use Rattle.sak_exchange.proofs.Entries.{keys-installed}
-use Rattle.sak_exchange.proofs.Stays.{latest-stays, begun-stays}
+use Rattle.sak_exchange.proofs.Public.{by_test, by_option, latest-epoch, first-is, keys-installed, latest-stays, begun-stays}
 use Rattle.mka_station.specs.Lives.{Member, Entry, keys_of}
 use Rattle.mka_station.specs.Lives as lives
 use Rattle.mka_station.specs.Views.{view}

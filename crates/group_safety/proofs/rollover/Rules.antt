@@ -24,7 +24,7 @@ use Rattle.sak_exchange.specs.Taking.{judged, provided, provided_new, unwrapped_
 use Rattle.sak_exchange.specs.Taking.{greatest_of, number_of, is_supported, offset_of}
 use Rattle.sak_exchange.specs.Unwrapping.{given_sak}
 use Rattle.sak_exchange.specs.Lives.{IsOver}
-use Rattle.sak_exchange.proofs.Cases.{by_test, by_option, not-true}
+use Rattle.sak_exchange.proofs.Public.{by_test, by_option, not-true}
 use Rattle.mka_station.specs.Lives.{Member}
 use Rattle.mka_station.specs.Views.{View, reports, serves, is_server}
 use Rattle.mka_station.specs.Tick.{led, made, makes_now}

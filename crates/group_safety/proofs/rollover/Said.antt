@@ -14,13 +14,10 @@ use Rattle.mkpdu_codec.specs.declared.spelled.Spelled.{Spelled}
 use Rattle.mkpdu_codec.specs.Frames.{Spells}
 use Rattle.mkpdu_codec.specs.Reading.{reading}
 use Rattle.mkpdu_codec.specs.Written.{written}
-use Rattle.mkpdu_codec.proofs.FrameAgain.{read_again}
-use Rattle.mkpdu_codec.proofs.SetOctets.{IsBytes-all}
-use Rattle.mkpdu_codec.proofs.Unique.{same_covered}
-use Rattle.mkpdu_codec.proofs.WhatIsRead.{read_is_spelled}
+use Rattle.mkpdu_codec.proofs.Public.{read_again, IsBytes-all, same_covered, read_is_spelled}
 use Rattle.sak_exchange.specs.declared.change.Change.TheVariants as changes
 use Rattle.sak_exchange.specs.Histories.{Key}
-use Rattle.sak_exchange.proofs.Cases.{by_test}
+use Rattle.sak_exchange.proofs.Public.{by_test}
 use Rattle.mka_station.specs.declared.reaction.Reaction.{Reaction}
 use Rattle.mka_station.specs.declared.verdict.Verdict.{Verdict}
 use Rattle.mka_station.specs.Lives.{Member, Entry, Setup}

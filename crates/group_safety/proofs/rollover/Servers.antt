@@ -10,8 +10,7 @@ use Rattle.mkpdu_codec.specs.declared.announcement.Announcement.{Announcement}
 use Rattle.sak_exchange.specs.Histories.{Key, ticked}
 use Rattle.sak_exchange.specs.Held.{allows}
 use Rattle.sak_exchange.specs.Beginning.{Beginning}
-use Rattle.sak_exchange.proofs.Cases.{by_option}
-use Rattle.sak_exchange.proofs.Members.{same-equal}
+use Rattle.sak_exchange.proofs.Public.{by_option, same-equal}
 use Rattle.mka_station.specs.Lives.{Member, Entry, keys_of, elected, elected_by, live_words}
 use Rattle.mka_station.specs.Lives.{peers_of}
 use Rattle.mka_station.specs.Lives as lives
@@ -240,7 +239,7 @@ module _ (settings : Settings) (users : List UserFrame) (run : Run) (is : IsSett
             sym (mi-of-life settings u (upto n run) l living) ∙ f in cc (w) in
             let mine : a.mi ≡ l.member.mi = sym r.server ∙ sym g in
             let yes : same_mi a.mi l.member.mi ≡ true =
-            rw mine (Rattle.sak_exchange.proofs.Members.same-itself l.member.mi) in
+            rw mine (Rattle.sak_exchange.proofs.Public.same-itself l.member.mi) in
             cc (other, yes)))
         | lived.born l birth none mi fact ↦
             let same : l.member.mi ≡ m = let f = sym (ap (mi_at settings u) at ∙ mi) ∙ then in

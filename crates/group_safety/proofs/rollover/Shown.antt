@@ -14,8 +14,7 @@ use Rattle.sak_exchange.specs.declared.due.Seen.{Seen}
 use Rattle.sak_exchange.specs.Histories.{Key, Keying}
 use Rattle.sak_exchange.specs.Held.{latest, old, transmitting}
 use Rattle.sak_exchange.specs.Reports.{names, reports_latest, reports_old, transmits}
-use Rattle.sak_exchange.proofs.Cases.{by_test, by_option}
-use Rattle.sak_exchange.proofs.Members.{same-equal}
+use Rattle.sak_exchange.proofs.Public.{by_test, by_option, same-equal}
 use Rattle.mka_station.specs.Lives.{Member, Entry, keys_of}
 use Rattle.mka_station.specs.Views.{View, view}
 use Rattle.mka_station.specs.Announcing.{announcement, announces, says_now, use_of, uses_of, no_use}

@@ -17,10 +17,7 @@ use Rattle.sak_exchange.specs.Held.{Kept, received, ends, retires, held, shown, 
 use Rattle.sak_exchange.specs.Beginning.{Beginning, retired}
 use Rattle.sak_exchange.specs.Outcomes.{beginning}
 use Rattle.sak_exchange.specs.Lives.{Has}
-use Rattle.sak_exchange.proofs.Cases.{by_test}
-use Rattle.sak_exchange.proofs.Shape.{shape, none, one, two, not-ended, latest-none, latest-one}
-use Rattle.sak_exchange.proofs.Shape.{latest-two}
-use Rattle.sak_exchange.proofs.Stays.{retired-by, ago-begun}
+use Rattle.sak_exchange.proofs.Public.{by_test, shape, none, one, two, not-ended, latest-none, latest-one, latest-two, retired-by, ago-begun}
 use Rattle.mka_station.specs.Tick.{ended, install_changes}
 use Rattle.mka_station.specs.Hearing.{key_taken, take_changes}
 use Rattle.group_safety.proofs.once.Histories.{with_began, with_key}

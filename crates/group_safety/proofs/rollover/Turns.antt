@@ -11,7 +11,7 @@ use Rattle.sak_exchange.specs.Histories.{install_count}
 use Rattle.sak_exchange.specs.Held.{Kept, latest, allows, may_begin}
 use Rattle.sak_exchange.specs.Beginning.{Beginning}
 use Rattle.sak_exchange.specs.Lives.{IsQuiet}
-use Rattle.sak_exchange.proofs.Cases.{by_test}
+use Rattle.sak_exchange.proofs.Public.{by_test}
 use Rattle.mka_station.specs.Lives.{Member, Entry, heard, keys_of, elected}
 use Rattle.mka_station.specs.Lives as lives
 use Rattle.mka_station.specs.Views.{view}

@@ -10,13 +10,8 @@ use Rattle.peer_lists.specs.declared.heard.Heard.{Heard}
 use Rattle.peer_lists.specs.Histories.{Peering, clock, is_young, sent as peers_sent}
 use Rattle.peer_lists.specs.Acceptance.{Own, Accepted, accepted, members}
 use Rattle.peer_lists.specs.Peers.{says, known, standing, is_displaced, is_vouched_of}
-use Rattle.peer_lists.proofs.Pasts.{accepted-sent}
-use Rattle.peer_lists.proofs.Shown.{says-is}
-use Rattle.peer_lists.proofs.Refusals.{known-is}
-use Rattle.peer_lists.proofs.EveryHistory.{says-other}
-use Rattle.peer_lists.proofs.Finds.{find-passes}
-use Rattle.sak_exchange.proofs.Members.{same-equal}
-use Rattle.sak_exchange.proofs.Cases.{by_test, by_option}
+use Rattle.peer_lists.proofs.Public.{accepted-sent, says-is, known-is, says-other, find-passes}
+use Rattle.sak_exchange.proofs.Public.{same-equal, by_test, by_option}
 use Rattle.mka_station.specs.Lives.{Member, Entry, own, told, peers_of, live_words}
 use Rattle.mka_station.specs.Lives as lives
 use Rattle.mka_station.specs.Tick.{with_sent}

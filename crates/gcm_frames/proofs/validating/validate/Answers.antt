@@ -1,5 +1,5 @@
 use Rattle.std.proofs.Common.{rules}
-use Rattle.gcm_core.proofs.KeyStream.{IsBlock-counter}
+use Rattle.gcm_core.proofs.Public.{IsBlock-counter}
 use Rattle.gcm_frames.proofs.Opening.{Encrypts}
 use Rattle.gcm_frames.proofs.Within.{within}
 use Rattle.gcm_frames.proofs.Validated.{conf_plain, conf_unchanged, conf_exact, plain_plain, plain_exact}

@@ -1,6 +1,6 @@
 use Rattle.std.proofs.Common.{◌≡◌, ◌+◌, ap, ◌∙◌, arith}
 use Rattle.trace_text.specs.Appending.{Grew}
-use Rattle.trace_text.proofs.Answering.{on_err, then_grew}
+use Rattle.trace_text.proofs.Public.{on_err, then_grew}
 use Rattle.trace_maker.specs.Generator.{value}
 use Rattle.trace_maker.specs.Made.{chosen}
 use Rattle.trace_maker.proofs.Steps.{value_more, state_more, line_more, choices_end}

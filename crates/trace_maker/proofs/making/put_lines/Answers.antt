@@ -1,5 +1,5 @@
 use Rattle.std.proofs.lemmas.Result.{on_ok_weaker, on_err_weaker}
-use Rattle.trace_text.proofs.Answering.{on_err, then_more, then_grew}
+use Rattle.trace_text.proofs.Public.{on_err, then_more, then_grew}
 use Rattle.trace_maker.proofs.Steps.{made_of}
 use Rattle.trace_maker.proofs.making.put_lines.Goals as goal
 

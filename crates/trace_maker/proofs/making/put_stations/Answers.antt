@@ -1,5 +1,5 @@
 use Rattle.std.proofs.Common.{◌≡◌, ◌+◌, ap, ◌∙◌, arith}
-use Rattle.trace_text.proofs.Answering.{on_err, then_grew}
+use Rattle.trace_text.proofs.Public.{on_err, then_grew}
 use Rattle.trace_maker.specs.Generator.{after, value}
 use Rattle.trace_maker.specs.Made.{station}
 use Rattle.trace_maker.proofs.Steps.{value_more, state_more, line_more, stations_end}

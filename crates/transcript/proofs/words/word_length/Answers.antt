@@ -3,7 +3,7 @@ use Rattle.std.specs.Prelude.{length}
 use Rattle.std.specs.Option.{unwrap_or}
 use Rattle.std.proofs.lemmas.Iterator.{YieldsList-from_slice}
 use Rattle.std.proofs.lemmas.Iterator.Search.{position_from_yields_List}
-use Rattle.trace_text.proofs.Taking.{counted, within}
+use Rattle.trace_text.proofs.Public.{counted, within}
 use Rattle.transcript.specs.inside.Reading.{is_space}
 use Rattle.transcript.proofs.words.word_length.Goals as goal
 

@@ -1,7 +1,7 @@
 use Rattle.std.proofs.Common.{◌≡◌, ◌∙◌, ◌+◌, List, ap, subst, sym, arith}
 use Rattle.rx_slots.specs.Standing.{StandsFor as SlotsStandFor}
 use Rattle.sak_exchange.specs.declared.change.Change.{Change}
-use Rattle.sak_exchange.proofs.Cases.{by_test}
+use Rattle.sak_exchange.proofs.Public.{by_test}
 use Rattle.mka_station.specs.declared.reaction.Reaction.{Reaction}
 use Rattle.mka_station.specs.Drawing.{sak_of, is_short}
 use Rattle.mka_station.specs.Tick.{tick_turn}

@@ -1,0 +1,3 @@
+-- What other crates may cite of the proofs.
+pub use Rattle.association_slots.proofs.Lists.{at_cons_if, behind_cons_if, in_left}
+pub use Rattle.association_slots.proofs.StaysSettled.{once}
