@@ -2,8 +2,8 @@
 use Rattle.std.proofs.Common.{◌≡◌, ◌≤◌, ℕ, Bool, true, false, cond, List, [], ◌∷◌, ◌++◌, length, Some, None, refl, sym, ap, ◌∙◌, subst, arith}
 use Rattle.std.specs.Cmp.Lexicographic.{bytes_decides}
 use Rattle.gcm_core.specs.Gcm.{gcm_text, gcm_tag, gctr, increment, first_counter}
-use Rattle.gcm_core.proofs.KeyStream.{gctr-gctr, IsBlock-increment}
-use Rattle.gcm_core.proofs.Octets.{IsOctet, All-bytes, length-bytes}
+use Rattle.gcm_core.proofs.Public.{gctr-gctr, IsBlock-increment}
+use Rattle.gcm_core.proofs.Public.{IsOctet, All-bytes, length-bytes}
 use Rattle.std.proofs.lemmas.List.{length-append}
 use Rattle.std.proofs.lemmas.List.Elements.{All-append}
 use Rattle.std.specs.Int.{w32, to_be_bytes}

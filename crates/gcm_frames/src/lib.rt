@@ -15,6 +15,3 @@ pub use protecting::protect;
 pub use tag::{Tag, TagRefusal};
 pub use tagging::tag_of;
 pub use validating::validate;
-
-#[cfg(test)]
-mod tests;

@@ -4,8 +4,7 @@ ghost use Rattle.std.specs.Prelude.{◌≡◌, ◌+◌, ◌<◌, ◌≤◌, ◌+
 ghost use Rattle.gcm_frames.specs.Protected.{control_octet, short_length, sec_tag, head_octets, iv, protected, sealed_octets};
 ghost use Rattle.lan_base.specs.Room.{HasRoom, Puts};
 
-use aes_block::Key;
-use gcm_core::seal;
+use gcm_core::{GcmKey, seal};
 use lan_base::{Mac, Sci, UserFrame, put};
 
 /// The EtherType of MACsec.
@@ -86,7 +85,7 @@ fn head_len(sci: Sci, destination: Mac) -> usize
 
 /// The tag of a frame whose head of 28 octets and user data these are. With confidentiality the
 /// user data is enciphered in place.
-fn seal_in_place(key: &Key, iv: [u8; 12], conf: bool, frame: &mut [u8]) -> [u8; 16]
+fn seal_in_place(key: &GcmKey, iv: [u8; 12], conf: bool, frame: &mut [u8]) -> [u8; 16]
     requires head { 28 ≤ length frame.old }
     requires most { length frame.old ≤ 65536 }
     ensures { sealed_octets key.now iv conf (take 28 frame.old) (drop 28 frame.old)
@@ -105,7 +104,7 @@ fn seal_in_place(key: &Key, iv: [u8; 12], conf: bool, frame: &mut [u8]) -> [u8; 
 /// set. There is room for it, so no memory is taken. Under one key a sender uses each packet number
 /// once: that is the caller's part.
 pub fn protect(
-    key: &Key,
+    key: &GcmKey,
     sci: Sci,
     an: u8,
     pn: u32,
