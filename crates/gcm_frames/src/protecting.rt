@@ -6,8 +6,7 @@ ghost use Rattle.lan_base.specs.declared.association_number.AssociationNumber.{A
 ghost use Rattle.lan_base.specs.Ranges.{IsUserData, most_frame_octets};
 ghost use Rattle.lan_base.specs.Room.{HasRoom, Puts};
 
-use aes_block::Key;
-use gcm_core::seal;
+use gcm_core::{GcmKey, seal};
 use lan_base::{AssociationNumber, Mac, Sci, UserFrame, put};
 
 /// The EtherType of MACsec.
@@ -99,7 +98,7 @@ fn head_len(sci: Sci, destination: Mac) -> usize
 
 /// The tag of a frame whose head of 28 octets and user data these are. With confidentiality the
 /// user data is enciphered in place.
-fn seal_in_place(key: &Key, iv: [u8; 12], conf: bool, frame: &mut [u8]) -> [u8; 16]
+fn seal_in_place(key: &GcmKey, iv: [u8; 12], conf: bool, frame: &mut [u8]) -> [u8; 16]
     requires head { 28 ≤ length frame.old }
     requires most { length frame.old ≤ most_frame_octets }
     ensures { sealed_octets key.now iv conf (take 28 frame.old) (drop 28 frame.old)
@@ -118,7 +117,7 @@ fn seal_in_place(key: &Key, iv: [u8; 12], conf: bool, frame: &mut [u8]) -> [u8; 
 /// set. There is room for it, so no memory is taken. Under one key a sender uses each packet number
 /// once: that is the caller's part.
 pub fn protect(
-    key: &Key,
+    key: &GcmKey,
     sci: Sci,
     an: AssociationNumber,
     pn: u32,

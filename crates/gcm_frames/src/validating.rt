@@ -8,8 +8,8 @@ ghost use Rattle.gcm_frames.specs.Sealed.{check_octets, IsSealed, IsSealedFrom, 
 
 use crate::protecting::iv_of;
 use crate::tag::Tag;
-use aes_block::{Key, law_ciphertexts_are_blocks};
-use gcm_core::unseal;
+use aes_block::law_ciphertexts_are_blocks;
+use gcm_core::{GcmKey, unseal};
 
 /// The 16 octets of tag behind the secure data.
 fn check_of(tag: &Tag, frame: &[u8]) -> [u8; 16]
@@ -25,7 +25,7 @@ fn check_of(tag: &Tag, frame: &[u8]) -> [u8; 16]
 /// data afterwards; if not, the frame is as it was. `tag` is what `tag_of` gave of this frame,
 /// which is no longer than a frame may be. No memory is taken.
 #[tactic(auto, using(crate::proofs::Within::within))]
-pub fn validate(key: &Key, tag: &Tag, frame: &mut [u8]) -> bool
+pub fn validate(key: &GcmKey, tag: &Tag, frame: &mut [u8]) -> bool
     requires tag { tag_fields frame.old ≡ Ok tag.now }
     requires length { length frame.old ≤ most_frame_octets }
     ensures sealed { IsTrue result ↔ IsSealed key.now tag.now frame.old }
@@ -37,9 +37,8 @@ pub fn validate(key: &Key, tag: &Tag, frame: &mut [u8]) -> bool
     ensures exact { opened key.now tag.now frame.old
         ≡ (if result then Some (secure_data tag.now frame.new) else None) }
 {
-    // A block under the key shows that it is one, so that encrypting again decrypts.
     law_ciphertexts_are_blocks();
-    let _ = key.encrypt([0; 16]);
+    key.law_is_key();
     let iv = iv_of(tag.sci, tag.pn);
     let check = check_of(tag, frame);
     let end = tag.start + tag.len;

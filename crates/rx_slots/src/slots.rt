@@ -18,6 +18,7 @@ ghost use Rattle.rx_slots.specs.inside.Admitting.{After, Takes, arrival_at};
 use crate::arrival::{Arrival, Checked};
 use crate::slot::Slot;
 use aes_block::{Key, Secret};
+use gcm_core::GcmKey;
 use gcm_frames::{Tag, tag_of, validate};
 use lan_base::{AssociationNumber, Octets, Sci};
 use std::alloc::{AllocError, Global};
@@ -55,12 +56,12 @@ impl RxSlots {
     }
 
     /// Installs a key under an association number, in place of what stood there. The key is
-    /// expanded here, once. No memory is taken.
+    /// prepared here, once. No memory is taken.
     pub fn install(&mut self, an: AssociationNumber, sak: &Secret)
         ensures { (own : Sci) (window : ℕ) (h : List Receiving) → StandsFor own window self.old h →
             StandsFor own window self.new (installed an sak.now ∷ h) }
     {
-        let slot = Slot::new(self.alloc, Key::of(sak));
+        let slot = Slot::new(self.alloc, GcmKey::of(Key::of(sak)));
         self.set(an, Some(slot));
     }
 
@@ -223,7 +224,7 @@ impl RxSlots {
 }
 
 /// Answers a frame by its tag under a key.
-fn opened(alloc: Global, key: &Key, tag: &Tag, frame: &[u8]) -> Result<Checked, AllocError>
+fn opened(alloc: Global, key: &GcmKey, tag: &Tag, frame: &[u8]) -> Result<Checked, AllocError>
     requires tag { tag_fields frame.now ≡ Ok tag.now }
     requires length { length frame.now ≤ most_frame_octets }
     requires within { tag.now.start + tag.now.len + 16 ≤ length frame.now }
