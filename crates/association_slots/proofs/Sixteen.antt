@@ -1,6 +1,7 @@
 -- At most sixteen numbers of one epoch are lost: each lost addition has a seat of eight, and a load of that epoch or of a lower one.
 use Rattle.std.proofs.Common.{◌≡◌, ◌⊎◌, ℕ, zero, suc, ◌+◌, ◌*◌, ◌<◌, ◌≤◌, Bool, true, false, not, List, refl, ap, ⊎_elim, arith, eq-eqb, eqb}
 use Rattle.std.proofs.lemmas.Bool.{false≢true, eqb-true, and_parts, and_from, cases_Bool, cases_eq}
+use Rattle.lan_base.specs.declared.association_number.AssociationNumber.{AssociationNumber}
 use Rattle.association_slots.specs.Views.{tally, one, met, lost}
 use Rattle.association_slots.specs.Rule.{Ledger, tagged}
 use Rattle.association_slots.specs.declared.view.Addition.{Addition}
@@ -36,7 +37,7 @@ tags_few vs e few (suc q) =
     let s = tally_plus (λ a. one (tagged (suc q) e true a) + one (tagged (suc q) e false a)) (tags_below q e) vs in
     let t = tally_plus (λ a. one (tagged (suc q) e true a)) (λ a. one (tagged (suc q) e false a)) vs in omega arith
 
-pub sixteen : (c : ControlView) (ws : List ℕ) (vs : List View) (k e : ℕ) → Ledger c ws vs → tally (λ a. one (lost k e a)) vs ≤ 16
+pub sixteen : (c : ControlView) (ws : List ℕ) (vs : List View) (k : AssociationNumber) (e : ℕ) → Ledger c ws vs → tally (λ a. one (lost k e a)) vs ≤ 16
 sixteen c ws vs k e ok =
     let m = tally_mono (λ a. one (lost k e a)) (tags_below 8 e) vs (λ a i. ⊎_elim
     (λ t. let both = and_parts _ _ t in let s = (ok.additions a i).seat in let x = one_true (lost k e a) t in

@@ -13,10 +13,9 @@ use Rattle.association_slots.specs.declared.view.SeatView.{SeatView}
 -- was shown, was given, noted or marked, and was not found gone; where it is present, it is above
 -- those after which nothing was present
 pub record Sees (v : SeatView) (p : Current) : Type 0 where
-  pub an : p.an < 4
   pub small : (p.epoch ≤ v.limit) × (p.present ≡ true → 0 < p.epoch)
   pub later : v.shown.epoch ≤ p.epoch
-  pub later_loaded : (e : ℕ) → In e v.loaded → e ≤ p.epoch
+  pub later_loaded : (q : Current) → In q v.loaded → q.epoch ≤ p.epoch
   pub later_notes : (e : ℕ) → In e v.notes → (e ≤ p.epoch) × (p.present ≡ true → e < p.epoch)
   pub later_start : (v.start.last ≤ p.epoch) × (v.start.present ≡ false → p.present ≡ true
       → v.start.last < p.epoch)

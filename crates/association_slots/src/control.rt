@@ -11,6 +11,7 @@ use crate::rule::{ComeBack, GoOut, Learn, Look, Place, PointAt, Raise, Shut, Wri
 use crate::table::SlotTable;
 use crate::words::{FLAG, absent_word, next_of, open_word, present_word};
 use crate::worker_seat::WorkerSeat;
+use lan_base::AssociationNumber;
 use std::marker::Model;
 
 /// How many seats may be out.
@@ -87,9 +88,9 @@ impl Control {
     }
 
     /// Opens a shut slot with an epoch that has a card and is above every raised one.
-    pub fn raise(&mut self, table: &SlotTable, an: u8, epoch: u32)
+    pub fn raise(&mut self, table: &SlotTable, an: AssociationNumber, epoch: u32)
         requires here { self.old.table ≡ table.now }
-        requires shut { (an < 4) × ((slot self.old.view an).shut ≡ true) }
+        requires shut { (slot self.old.view an).shut ≡ true }
         requires card { epoch ≤ cards_given self.old.view }
         requires above { top self.old.view.raises < epoch }
         ensures { self.new ≡ record self.old { view = raised self.old.view an epoch } }
@@ -98,11 +99,11 @@ impl Control {
         table
             .table
             .shared
-            .swap::<Raise>(&mut self.place, usize::from(an), word);
+            .swap::<Raise>(&mut self.place, usize::from(an.number()), word);
     }
 
     /// Makes the epoch of an open slot present, which is above every epoch pointed at before.
-    pub fn point(&mut self, table: &SlotTable, an: u8, epoch: u32)
+    pub fn point(&mut self, table: &SlotTable, an: AssociationNumber, epoch: u32)
         requires here { self.old.table ≡ table.now }
         requires open { IsOpen self.old.view an epoch }
         requires above { (current self.old.view).epoch < epoch }
@@ -133,9 +134,9 @@ impl Control {
 
     /// Shuts an open slot that the current word does not name, and answers the next number that it
     /// showed then. Every number claimed under its epoch, then or later, is below it.
-    pub fn shut(&mut self, table: &SlotTable, an: u8) -> u64
+    pub fn shut(&mut self, table: &SlotTable, an: AssociationNumber) -> u64
         requires here { self.old.table ≡ table.now }
-        requires open { (an < 4) × ((slot self.old.view an).shut ≡ false) }
+        requires open { (slot self.old.view an).shut ≡ false }
         requires away { (current self.old.view).present ≡ true → (current self.old.view).an ≢ an }
         ensures view { self.new ≡ record self.old { view = closed self.old.view an result } }
         ensures seen { (slot self.old.view an).seen ≤ result }
@@ -144,14 +145,14 @@ impl Control {
         let word = table
             .table
             .shared
-            .fetch_or::<Shut>(&mut self.place, usize::from(an), FLAG);
+            .fetch_or::<Shut>(&mut self.place, usize::from(an.number()), FLAG);
         next_of(word)
     }
 
     /// The next number of an open slot, by one load.
-    pub fn next_of(&mut self, table: &SlotTable, an: u8) -> u64
+    pub fn next_of(&mut self, table: &SlotTable, an: AssociationNumber) -> u64
         requires here { self.old.table ≡ table.now }
-        requires open { (an < 4) × ((slot self.old.view an).shut ≡ false) }
+        requires open { (slot self.old.view an).shut ≡ false }
         ensures view { self.new ≡ record self.old { view = looked self.old.view an result } }
         ensures seen { (slot self.old.view an).seen ≤ result }
         ensures next { IsNext self.old.view an (slot self.old.view an).epoch result }
@@ -159,7 +160,7 @@ impl Control {
         let word = table
             .table
             .shared
-            .load::<Look>(&mut self.place, usize::from(an));
+            .load::<Look>(&mut self.place, usize::from(an.number()));
         next_of(word)
     }
 

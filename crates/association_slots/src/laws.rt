@@ -7,9 +7,12 @@ ghost use Rattle.association_slots.specs.Cards.{Knows, card_at};
 ghost use Rattle.association_slots.specs.Rule.{Around, AtLeast, ClaimsRise, HoldsCards, IsAsLeft, Rise, tagged};
 ghost use Rattle.association_slots.specs.Views.{In, Among, adds, overs, gones, slot, present_at, IsOpen, WasShut, WasAbsent, met, lost, claimed, count_all};
 ghost use Rattle.association_slots.specs.Words.{epoch_of, flag_of, next_of, an_of};
+ghost use Rattle.lan_base.specs.AssociationNumbers.{number_of};
+ghost use Rattle.lan_base.specs.declared.association_number.AssociationNumber.{AssociationNumber};
 ghost use Rattle.association_slots.specs.declared.card.Card.{Card};
 ghost use Rattle.association_slots.specs.declared.view.Addition.{Addition};
 ghost use Rattle.association_slots.specs.declared.view.ControlView.{ControlView};
+ghost use Rattle.association_slots.specs.declared.view.Current.{Current};
 ghost use Rattle.association_slots.specs.declared.view.Mark.{Mark};
 ghost use Rattle.association_slots.specs.declared.view.NextSeen.{NextSeen};
 ghost use Rattle.association_slots.specs.declared.view.SeatView.{SeatView};
@@ -25,16 +28,16 @@ pub fn law_words()
 /// A present current word names an open slot with its epoch.
 pub fn law_names_an_open_slot()
     ensures { (c : ControlView) (words : List ℕ) (views : List View) → Around c words views
-        → flag_of (slice_index words 4) ≡ true → (an_of (slice_index words 4) < 4)
-        × (flag_of (slice_index words (an_of (slice_index words 4))) ≡ false)
-        × (epoch_of (slice_index words (an_of (slice_index words 4)))
+        → flag_of (slice_index words 4) ≡ true
+        → (flag_of (slice_index words (number_of (an_of (slice_index words 4)))) ≡ false)
+        × (epoch_of (slice_index words (number_of (an_of (slice_index words 4))))
         ≡ epoch_of (slice_index words 4)) }
 {}
 
 /// Raised epochs rise, and one that was shut is open in no slot again.
 pub fn law_raised_epochs_rise()
     ensures { (c : ControlView) (words : List ℕ) (views : List View) → Around c words views
-        → Rise c.raises × ((an e k : ℕ) → IsOpen c an e → WasShut c k e → ⊥) }
+        → Rise c.raises × ((an k : AssociationNumber) (e : ℕ) → IsOpen c an e → WasShut c k e → ⊥) }
 {}
 
 /// What a seat was shown as present was pointed at, and is above neither what the current word
@@ -43,16 +46,17 @@ pub fn law_loaded()
     ensures { (c : ControlView) (words : List ℕ) (views : List View) → Around c words views
         → (i : ℕ) (v : SeatView) → get_elem? views i ≡ some (Seat v) → v.shown.present ≡ true
         → In v.shown c.points × (v.shown.epoch ≤ epoch_of (slice_index words 4))
-        × (v.shown.epoch ≤ epoch_of (slice_index words v.shown.an)) }
+        × (v.shown.epoch ≤ epoch_of (slice_index words (number_of v.shown.an))) }
 {}
 
-/// What a seat loaded as present was pointed at by control, and is not above what the current word
-/// shows.
+/// What a seat loaded as present, in any of its loads, was pointed at by control under the AN
+/// loaded with it, and is above neither what the current word shows nor what the slot named with it
+/// does.
 pub fn law_loaded_was_pointed_at()
     ensures { (c : ControlView) (words : List ℕ) (views : List View) → Around c words views
-        → (i : ℕ) (v : SeatView) → get_elem? views i ≡ some (Seat v) → (e : ℕ) → In e v.loaded
-        → ((an : ℕ) × (an < 4) × In (present_at an e) c.points)
-        × (e ≤ epoch_of (slice_index words 4)) }
+        → (i : ℕ) (v : SeatView) → get_elem? views i ≡ some (Seat v) → (p : Current) → In p v.loaded
+        → (p.present ≡ true) × In p c.points × (p.epoch ≤ epoch_of (slice_index words 4))
+        × (p.epoch ≤ epoch_of (slice_index words (number_of p.an))) }
 {}
 
 /// Claims of all seats, those that came back too, differ in epoch or number.
@@ -82,8 +86,8 @@ pub fn law_claims_rise()
 /// was found when it was shut is no more than that.
 pub fn law_sums()
     ensures { (c : ControlView) (words : List ℕ) (views : List View) → Around c words views
-        → ((an : ℕ) → an < 4 → 0 < (slot c an).epoch
-        → next_of (slice_index words an) ≡ c.first + count_all (met an (slot c an).epoch) views)
+        → ((an : AssociationNumber) → 0 < (slot c an).epoch
+        → next_of (slice_index words (number_of an)) ≡ c.first + count_all (met an (slot c an).epoch) views)
         × ((f : NextSeen) → In f c.found → f.next ≤ c.first + count_all (met f.an f.epoch) views) }
 {}
 
@@ -91,17 +95,17 @@ pub fn law_sums()
 /// 2 ^ 32 by no more than these: it never reaches the bit above.
 pub fn law_next_is_low()
     ensures { (c : ControlView) (words : List ℕ) (views : List View) → Around c words views
-        → ((an epoch : ℕ) → count_all (lost an epoch) views ≤ 16)
-        × ((an : ℕ) → an < 4 → 0 < (slot c an).epoch
-        → next_of (slice_index words an) ≤ 2 ^ 32 + 16) }
+        → ((an : AssociationNumber) (epoch : ℕ) → count_all (lost an epoch) views ≤ 16)
+        × ((an : AssociationNumber) → 0 < (slot c an).epoch
+        → next_of (slice_index words (number_of an)) ≤ 2 ^ 32 + 16) }
 {}
 
 /// An addition, also one that got nothing, met an epoch that was raised on its slot and is not
 /// above what the slot shows, after a load of one that was pointed at there and is not above it.
 pub fn law_additions()
     ensures { (c : ControlView) (words : List ℕ) (views : List View) → Around c words views
-        → (a : Addition) → Among adds a views → (0 < a.loaded) × (a.loaded ≤ a.met) × (a.an < 4)
-        × (a.met ≤ epoch_of (slice_index words a.an)) × In (a.an, a.met) c.raises
+        → (a : Addition) → Among adds a views → (0 < a.loaded) × (a.loaded ≤ a.met)
+        × (a.met ≤ epoch_of (slice_index words (number_of a.an))) × In (a.an, a.met) c.raises
         × In (present_at a.an a.loaded) c.points }
 {}
 

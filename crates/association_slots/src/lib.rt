@@ -27,6 +27,3 @@ pub use view::{
     Added, Addition, ControlView, Current, Mark, NextSeen, SeatView, SlotView, Start, View,
 };
 pub use worker_seat::WorkerSeat;
-
-#[cfg(test)]
-mod tests;

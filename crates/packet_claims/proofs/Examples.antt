@@ -2,6 +2,7 @@
 use Rattle.std.proofs.Common.{◌≡◌, ℕ, ◌+◌, ◌≤◌, true, false, [], ◌∷◌, ◌++◌, Ok, Err, refl, sym, ap, inl, inr, ⊎_elim, arith}
 use Rattle.std.proofs.lemmas.Bool.{false≢true}
 use Rattle.aes_block.specs.declared.secret.Secret.TheVariants.{S128}
+use Rattle.lan_base.specs.declared.association_number.AssociationNumber.TheVariants.{An1, An2}
 use Rattle.association_slots.specs.Views.{absent_after, present_at}
 use Rattle.association_slots.specs.Cards.{card_words}
 use Rattle.association_slots.specs.Steps.{at_first, raised, pointed, seated, new_seat, told, loaded, added}
@@ -21,13 +22,13 @@ abbrev card : Card
 card = record { sak = S128 (0 ∷ 1 ∷ 2 ∷ 3 ∷ 4 ∷ 5 ∷ 6 ∷ 7 ∷ 8 ∷ 9 ∷ 10 ∷ 11 ∷ 12 ∷ 13 ∷ 14 ∷ 15 ∷ []); conf = true }
 
 abbrev one_epoch : ControlView
-one_epoch = pointed (raised (record (at_first 1 2) { card_words = card_words card ++ card_words card }) 1 1) (present_at 1 1)
+one_epoch = pointed (raised (record (at_first 1 2) { card_words = card_words card ++ card_words card }) An1 1) (present_at An1 1)
 
 abbrev seat : SeatView
 seat = new_seat one_epoch
 
 abbrev shown : SeatView
-shown = loaded seat (present_at 1 1)
+shown = loaded seat (present_at An1 1)
 
 -- it read the words of the card that lie from there on
 abbrev read : SeatView → ℕ → SeatView
@@ -48,7 +49,7 @@ above n = record { notes = λ e i. absurd i; start = λ absent. absurd (false≢
 abbrev claimed : SeatView
 claimed = read (added shown 1 (Number 1)) 5
 
-claims : Did seat claimed (Ok (record { an = 1; epoch = 1; pn = 1; card = card }))
+claims : Did seat claimed (Ok (record { an = An1; epoch = 1; pn = 1; card = card }))
 claims = record {
   lost = [];
   stays = record { number = refl; limit = refl; start = refl; lost_nothing = λ a i. absurd i; gone = refl; loaded = λ e i. absurd i; reads = (claimed.reads, refl) };
@@ -68,7 +69,7 @@ claims = record {
 next_was : next_now one_epoch ≡ 1
 next_was = refl
 
-is_next : IsNextClaim one_epoch (told (seated one_epoch) claimed) (record { an = 1; epoch = 1; pn = 1; card = card })
+is_next : IsNextClaim one_epoch (told (seated one_epoch) claimed) (record { an = An1; epoch = 1; pn = 1; card = card })
 is_next = (refl, refl, refl, refl, refl, refl)
 
 next_is : next_now (told (seated one_epoch) claimed) ≡ 2
@@ -77,15 +78,15 @@ next_is = refl
 -- it finds that epoch 2 had taken the slot of AN 1 when it got there, and claims number 1 of epoch
 -- 3
 abbrev lost : Addition
-lost = record { seat = 1; an = 1; met = 2; loaded = 1; claimed = false; pn = 0 }
+lost = record { seat = 1; an = An1; met = 2; loaded = 1; claimed = false; pn = 0 }
 
-marked : gone_mark lost ≡ record { seat = 1; an = 1; epoch = 1 }
+marked : gone_mark lost ≡ record { seat = 1; an = An1; epoch = 1 }
 marked = refl
 
 abbrev after_loss : SeatView
-after_loss = read (added (loaded (added shown 2 Gone) (present_at 2 3)) 3 (Number 1)) 15
+after_loss = read (added (loaded (added shown 2 Gone) (present_at An2 3)) 3 (Number 1)) 15
 
-claims_later : Did seat after_loss (Ok (record { an = 2; epoch = 3; pn = 1; card = card }))
+claims_later : Did seat after_loss (Ok (record { an = An2; epoch = 3; pn = 1; card = card }))
 claims_later = record {
   lost = lost ∷ [];
   stays = record { number = refl; limit = refl; start = refl; lost_nothing = λ a i. ⊎_elim (λ same. (ap (λ (b : Addition). b.claimed) (sym same), let e = ap (λ (b : Addition). b.loaded) same in omega arith)) (λ b. absurd b) i; gone = refl; loaded = λ e i. absurd i; reads = (after_loss.reads, refl) };
@@ -119,8 +120,8 @@ exhausted = record {
   stays = record { number = refl; limit = refl; start = refl; lost_nothing = λ a i. absurd i; gone = refl; loaded = λ e i. absurd i; reads = ([], refl) };
   additions = inr refl;
   notes = refl;
-  over = (record { seat = 1; an = 1; epoch = 1 }, inl refl, refl, refl);
+  over = (record { seat = 1; an = An1; epoch = 1 }, inl refl, refl, refl);
   not_below = given_low 1 (omega arith);
   above = above 1;
-  loaded = inl refl;
+  loaded = (An1, inl refl);
 }

@@ -2,7 +2,7 @@
 use Rattle.std.proofs.Common.{◌≡◌, ◌≢◌, ◌⊎◌, ℕ, ◌+◌, ◌<◌, ◌≤◌, Bool, true, false, not, List, [], ◌∷◌, ◌++◌, refl, sym, ap, ◌∙◌, subst, inl, inr, ⊎_elim, arith}
 use Rattle.std.proofs.lemmas.Bool.{false≢true, cases_lt}
 use Rattle.association_slots.specs.Cards.{Knows}
-use Rattle.association_slots.specs.Views.{In, cons_if, greatest, mark}
+use Rattle.association_slots.specs.Views.{In, cons_if, greatest, mark, present_at}
 use Rattle.association_slots.specs.Steps.{loaded, addition}
 use Rattle.association_slots.specs.Told.{Sees, IsAdded, ReadsMore}
 use Rattle.association_slots.specs.declared.card.Card.{Card}
@@ -12,7 +12,7 @@ use Rattle.association_slots.specs.declared.view.Start.{Start}
 use Rattle.association_slots.specs.declared.view.Addition.{Addition}
 use Rattle.association_slots.specs.declared.view.Added.TheVariants.{Number, Over, Gone}
 use Rattle.association_slots.specs.declared.view.SeatView.{SeatView}
-use Rattle.association_slots.proofs.Public.{behind_cons_if, at_cons_if}
+use Rattle.association_slots.proofs.Public.{behind_cons_if, at_cons_if, in_right, is_present}
 use Rattle.std.proofs.Common.{Result, Err}
 use Rattle.packet_claims.specs.declared.answers.Claim.{Claim}
 use Rattle.packet_claims.specs.declared.answers.NoClaim.{NoClaim}
@@ -43,7 +43,7 @@ cons_false false x xs e = refl
 pub begins : (v : SeatView) → Tries v v 0
 begins v = record {
   lost = [];
-  stays = record { number = refl; limit = refl; start = refl; lost_nothing = λ a i. absurd i; gone = refl; loaded = λ e i. i; reads = ([], refl) };
+  stays = record { number = refl; limit = refl; start = refl; lost_nothing = λ a i. absurd i; gone = refl; loaded = λ q i. i; reads = ([], refl) };
   additions = refl;
   notes = refl;
   over = refl;
@@ -53,7 +53,7 @@ begins v = record {
 module _ (v0 v : SeatView) (tried : ℕ) (t : Tries v0 v tried) (p : Current) (sees : Sees v p) where
   not_below : NotBelow v0 p.epoch
   not_below = record {
-    loaded = λ e i. sees.later_loaded e (t.stays.loaded e i);
+    loaded = λ q i. sees.later_loaded q (t.stays.loaded q i);
     notes = λ e i. (sees.later_notes e (subst (In e) (sym t.notes) i)).0;
     start = subst (λ (s : Start). s.last ≤ p.epoch) t.stays.start sees.later_start.0;
     given = λ f i. sees.later_given f (subst (λ (s : Start). In f s.given) (sym t.stays.start) i);
@@ -65,6 +65,9 @@ module _ (v0 v : SeatView) (tried : ℕ) (t : Tries v0 v tried) (p : Current) (s
     start = λ none. subst (λ (s : Start). s.present ≡ false → p.present ≡ true → s.last < p.epoch) t.stays.start sees.later_start.1 none is;
   }
 
+  loaded_it : p.present ≡ true → In (present_at p.an p.epoch) (loaded v p).loaded
+  loaded_it is = subst (λ (q : Current). In q (loaded v p).loaded) (is_present p is) (at_cons_if p.present p v.loaded is)
+
   stays_loaded : Stays v0 (loaded v p) t.lost
   stays_loaded = record {
     number = t.stays.number;
@@ -72,7 +75,7 @@ module _ (v0 v : SeatView) (tried : ℕ) (t : Tries v0 v tried) (p : Current) (s
     start = t.stays.start;
     lost_nothing = t.stays.lost_nothing;
     gone = t.stays.gone;
-    loaded = λ e i. behind_cons_if p.present p.epoch e v.loaded (t.stays.loaded e i);
+    loaded = λ q i. behind_cons_if p.present p q v.loaded (t.stays.loaded q i);
     reads = t.stays.reads;
   }
 
@@ -99,7 +102,7 @@ module _ (v0 v : SeatView) (tried : ℕ) (t : Tries v0 v tried) (p : Current) (s
     over = (g.0, g.1, l.0 ∙ t.stays.number, (let e = g.2 in let h = l.1 is in omega arith));
     not_below = not_below;
     above = above is;
-    loaded = at_cons_if p.present p.epoch v.loaded is;
+    loaded = (p.an, loaded_it is);
   }
 
   pub fills : p.present ≡ true → (w : SeatView) → IsAdded (loaded v p) Over w → IsExhausted v0 w p.epoch
@@ -111,7 +114,7 @@ module _ (v0 v : SeatView) (tried : ℕ) (t : Tries v0 v tried) (p : Current) (s
     over = (mark (loaded v p), inl refl, t.stays.number, refl);
     not_below = not_below;
     above = above is;
-    loaded = at_cons_if p.present p.epoch v.loaded is;
+    loaded = (p.an, loaded_it is);
   })
     where
       the_lost : Addition
@@ -162,7 +165,7 @@ module _ (v0 v : SeatView) (tried : ℕ) (t : Tries v0 v tried) (p : Current) (s
     over = t.over;
     not_below = not_below;
     above = above is;
-    loaded = at_cons_if p.present p.epoch v.loaded is;
+    loaded = loaded_it is;
     number = (sees.small.1 is, a.2.1);
     given = λ f i. a.2.2 f (subst (λ (s : Start). In f s.given) (sym t.stays.start) i);
     knows = k;

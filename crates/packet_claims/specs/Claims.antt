@@ -1,9 +1,11 @@
 -- What a call of `claim` did to the view v of its seat, which is w after it.
 use Rattle.std.specs.Prelude.{◌≡◌, ◌⊎◌, ℕ, ◌^◌, ◌<◌, ◌≤◌, true, false, List, ◌∷◌, ◌++◌, map, Result, Ok, Err}
 use Rattle.association_slots.specs.Cards.{Knows}
-use Rattle.association_slots.specs.Views.{In}
+use Rattle.association_slots.specs.Views.{In, HasLoaded, present_at}
+use Rattle.lan_base.specs.declared.association_number.AssociationNumber.{AssociationNumber}
 use Rattle.association_slots.specs.declared.card.Card.{Card}
 use Rattle.association_slots.specs.declared.view.Addition.{Addition}
+use Rattle.association_slots.specs.declared.view.Current.{Current}
 use Rattle.association_slots.specs.declared.view.Mark.{Mark}
 use Rattle.association_slots.specs.declared.view.NextSeen.{NextSeen}
 use Rattle.association_slots.specs.declared.view.SeatView.{SeatView}
@@ -23,13 +25,13 @@ pub record Stays (v w : SeatView) (lost : List Addition) : Type 0 where
   pub start : w.start ≡ v.start
   pub lost_nothing : (a : Addition) → In a lost → (a.claimed ≡ false) × (v.start.last ≤ a.loaded)
   pub gone : w.gone ≡ map gone_mark lost ++ v.gone
-  pub loaded : (e : ℕ) → In e v.loaded → In e w.loaded
+  pub loaded : (p : Current) → In p v.loaded → In p w.loaded
   pub reads : (more : List (ℕ × ℕ)) × (w.reads ≡ more ++ v.reads)
 
 -- The epoch of an answer is below none that the seat loaded, noted, marked or was given, nor below
 -- the one that was pointed at last when the seat was made
 pub record NotBelow (v : SeatView) (epoch : ℕ) : Type 0 where
-  pub loaded : (e : ℕ) → In e v.loaded → e ≤ epoch
+  pub loaded : (p : Current) → In p v.loaded → p.epoch ≤ epoch
   pub notes : (e : ℕ) → In e v.notes → e ≤ epoch
   pub start : v.start.last ≤ epoch
   pub given : (f : NextSeen) → In f v.start.given → f.epoch ≤ epoch
@@ -41,7 +43,7 @@ pub record Above (v : SeatView) (epoch : ℕ) : Type 0 where
 
 -- exactly one claim more and no note: a packet number, with the card of its epoch by the words that
 -- the seat read
-pub record IsClaim (v w : SeatView) (an epoch pn : ℕ) (card : Card) : Type 0 where
+pub record IsClaim (v w : SeatView) (an : AssociationNumber) (epoch pn : ℕ) (card : Card) : Type 0 where
   pub lost : List Addition
   pub stays : Stays v w lost
   pub additions : w.additions ≡ record {
@@ -56,7 +58,7 @@ pub record IsClaim (v w : SeatView) (an epoch pn : ℕ) (card : Card) : Type 0 w
   pub over : w.over ≡ v.over
   pub not_below : NotBelow v epoch
   pub above : Above v epoch
-  pub loaded : In epoch w.loaded
+  pub loaded : In (present_at an epoch) w.loaded
   pub number : (0 < epoch) × (pn < 2 ^ 32)
   pub given : (f : NextSeen) → In f v.start.given → f.an ≡ an → f.epoch ≡ epoch → f.next ≤ pn
   pub knows : Knows w.reads epoch card
@@ -88,7 +90,7 @@ pub record IsExhausted (v w : SeatView) (epoch : ℕ) : Type 0 where
   pub over : (m : Mark) × In m w.over × (m.seat ≡ v.number) × (m.epoch ≡ epoch)
   pub not_below : NotBelow v epoch
   pub above : Above v epoch
-  pub loaded : In epoch w.loaded
+  pub loaded : HasLoaded w epoch
 
 -- what the call did, by its answer
 abbrev pub Did : SeatView → SeatView → Result Claim NoClaim → Type 0

@@ -2,11 +2,12 @@
 -- and what it may conclude.
 use Rattle.std.specs.Prelude.{◌≡◌, ℕ, ◌≤◌, false}
 use Rattle.atomic_table.specs.Table.{Me, Step}
-use Rattle.association_slots.specs.Words.{epoch_of, flag_of, next_of, shown_by}
+use Rattle.association_slots.specs.Words.{an_of, epoch_of, flag_of, next_of, shown_by}
 use Rattle.association_slots.specs.Views.{In, slot, control_of, seat_of}
 use Rattle.association_slots.specs.Steps.{wrote, raised, closed, looked, pointed, loaded, added, answer, did_read}
 use Rattle.association_slots.specs.Learned.{Learned, IsNext}
 use Rattle.association_slots.specs.Told.{Sees}
+use Rattle.lan_base.specs.declared.association_number.AssociationNumber.{AssociationNumber}
 use Rattle.association_slots.specs.declared.view.NextSeen.{NextSeen}
 use Rattle.association_slots.specs.declared.view.ControlView.{ControlView}
 use Rattle.association_slots.specs.declared.view.View.{View}
@@ -18,28 +19,28 @@ At = Step ℕ
 abbrev pub Holder : Type 0
 Holder = Me ℕ View
 
--- Of control
+-- Of control, whose slots are the words of their ANs
 
 -- the next number that control found at a slot
-abbrev pub Shows : ControlView → ℕ → ℕ → Type 0
+abbrev pub Shows : ControlView → AssociationNumber → ℕ → Type 0
 Shows c an n = ((slot c an).seen ≤ n) × IsNext c an (slot c an).epoch n
 
 abbrev pub Writes : At → Holder → ℕ → Holder → Type 0
 Writes st m found m' = m' ≡ (Control (wrote (control_of m.0) found), m.1)
 
 abbrev pub Raises : At → Holder → ℕ → Holder → Type 0
-Raises st m found m' = m' ≡ (Control (raised (control_of m.0) st.word (epoch_of st.first)), m.1)
+Raises st m found m' = m' ≡ (Control (raised (control_of m.0) (an_of st.word) (epoch_of st.first)), m.1)
 
 abbrev pub Shuts : At → Holder → ℕ → Holder → Type 0
-Shuts st m found m' = (m' ≡ (Control (closed (control_of m.0) st.word (next_of found)), m.1))
-    × Shows (control_of m.0) st.word (next_of found)
+Shuts st m found m' = (m' ≡ (Control (closed (control_of m.0) (an_of st.word) (next_of found)), m.1))
+    × Shows (control_of m.0) (an_of st.word) (next_of found)
 
 abbrev pub Points : At → Holder → ℕ → Holder → Type 0
 Points st m found m' = m' ≡ (Control (pointed (control_of m.0) (shown_by st.first)), m.1)
 
 abbrev pub Looks : At → Holder → ℕ → Holder → Type 0
-Looks st m found m' = (m' ≡ (Control (looked (control_of m.0) st.word (next_of found)), m.1))
-    × Shows (control_of m.0) st.word (next_of found)
+Looks st m found m' = (m' ≡ (Control (looked (control_of m.0) (an_of st.word) (next_of found)), m.1))
+    × Shows (control_of m.0) (an_of st.word) (next_of found)
 
 -- a load that changes no view: control learns what the rule says of its own
 abbrev pub Learns : At → Holder → ℕ → Holder → Type 0

@@ -2,9 +2,10 @@
 
 ghost use Rattle.std.specs.Prelude.{◌≡◌, ◌≤◌, IfOk};
 
-use super::*;
 use aes_block::Secret;
 use association_slots::{Card, Cards, Control, SlotTable, WorkerSeat};
+use lan_base::AssociationNumber;
+use packet_claims::{Claim, NoClaim, OpenGate, claim, claim_alone};
 use std::alloc::{AllocError, Global};
 use std::test::Fail;
 use std::thread;
@@ -73,8 +74,8 @@ fn opened(
 {
     let (table, mut control) = SlotTable::new(alloc, cards, first)?;
     if let Ok(epoch) = control.card(&table, card) {
-        control.raise(&table, 1, epoch);
-        control.point(&table, 1, epoch);
+        control.raise(&table, AssociationNumber::An1, epoch);
+        control.point(&table, AssociationNumber::An1, epoch);
     }
     Ok((table, control))
 }
@@ -112,7 +113,7 @@ fn takes_turns_at_the_last_numbers(rt: HostRuntime) -> Result<(), Fail> {
                 assert_eq!(rt;
                     claim,
                     Claim {
-                        an: 1,
+                        an: AssociationNumber::An1,
                         epoch: 1,
                         pn: claim.pn,
                         card

@@ -1,7 +1,8 @@
 //! The life of an epoch on one thread.
 
-use super::*;
 use aes_block::Secret;
+use association_slots::{Added, Card, Cards, Current, SlotTable};
+use lan_base::AssociationNumber;
 use std::test::Fail;
 
 /// Each call once, on one thread: an epoch from its card to its shut, with one number claimed.
@@ -16,8 +17,8 @@ fn gives_an_epoch_and_takes_it_back(rt: HostRuntime) -> Result<(), Fail> {
         let epoch = control.card(&table, &card).map_err(|_| "no card")?;
         assert_eq!(rt; epoch, 1);
         assert_eq!(rt; control.card(&table, &card), Err(Cards));
-        control.raise(&table, 3, epoch);
-        control.point(&table, 3, epoch);
+        control.raise(&table, AssociationNumber::An3, epoch);
+        control.point(&table, AssociationNumber::An3, epoch);
         assert!(rt; control.has_room());
         let mut seat = control.seat(&table);
         assert_eq!(rt; seat.number(), 1);
@@ -27,7 +28,7 @@ fn gives_an_epoch_and_takes_it_back(rt: HostRuntime) -> Result<(), Fail> {
             Current {
                 epoch: 1,
                 present: true,
-                an: 3
+                an: AssociationNumber::An3
             }
         );
         if now.present && seat.overshot() < now.epoch {
@@ -36,9 +37,9 @@ fn gives_an_epoch_and_takes_it_back(rt: HostRuntime) -> Result<(), Fail> {
         }
         assert_eq!(rt; seat.overshot(), 0);
         control.join(&table, seat);
-        assert_eq!(rt; control.next_of(&table, 3), 8);
+        assert_eq!(rt; control.next_of(&table, AssociationNumber::An3), 8);
         control.unpoint(&table);
-        assert_eq!(rt; control.shut(&table, 3), 8);
+        assert_eq!(rt; control.shut(&table, AssociationNumber::An3), 8);
     }
     Ok(())
 }
