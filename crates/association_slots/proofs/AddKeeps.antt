@@ -4,7 +4,7 @@ use mathlib.Core.Logic.{dite}
 use mathlib.Core.Option.{none, some, some-ne-none}
 use native.Mathlib.Decide.{ℕ_discrete}
 use lib.ListN.{get_elem?}
-use Rattle.std.proofs.lemmas.Bool.{false≢true, eqb-true, eqb-false, ltb-true, ltb-false, and_parts, and_from, and_cases, cases_Bool, cond-true, cond-false}
+use Rattle.std.proofs.lemmas.Bool.{false≢true, eqb-true, eqb-false, ltb-true, ltb-false, and_parts, and_from, and_cases, cases_Bool, cases_lt, cond-true, cond-false}
 use Rattle.atomic_table.specs.Table.{step, keeps, Allows}
 use Rattle.atomic_table.proofs.Lists.{at_set, set_here}
 use Rattle.lan_base.specs.AssociationNumbers.{number_of}
@@ -14,13 +14,14 @@ use Rattle.association_slots.specs.Words.{epoch_of, flag_of, next_of}
 use Rattle.association_slots.specs.Views.{In, Among, slot, present_at, WasShut, weigh, adds, overs, gones, tally, one, met, lost, claimed, mark, seat_of}
 use Rattle.association_slots.specs.Steps.{addition, answer, added}
 use Rattle.association_slots.specs.Rule.{AtLeast, IsAddition, Fits, Follows, Ledger, Sums, Around, Slotted, tagged, agrees}
-use Rattle.association_slots.specs.Told.{Gives, IsAdded}
+use Rattle.association_slots.specs.Told.{Gives, IsAdded, IsAboveClaims}
 use Rattle.association_slots.specs.inside.Plays.{Adds}
 use Rattle.association_slots.specs.declared.view.Current.{Current}
 use Rattle.association_slots.specs.declared.view.NextSeen.{NextSeen}
 use Rattle.association_slots.specs.declared.view.Addition.{Addition}
 use Rattle.association_slots.specs.declared.view.Mark.{Mark}
 use Rattle.association_slots.specs.declared.view.Added.{Added}
+use Rattle.association_slots.specs.declared.view.Added.TheVariants.{Number, Over, Gone}
 use Rattle.association_slots.specs.declared.view.ControlView.{ControlView}
 use Rattle.association_slots.specs.declared.view.SeatView.{SeatView}
 use Rattle.association_slots.specs.declared.view.View.{View}
@@ -105,6 +106,19 @@ module _ (c : ControlView) (ws : List ℕ) (vs : List View) (a : Around c ws vs)
 
   open_here : flag_of w ≡ false → (slot c an).shut ≡ false
   open_here f = sym (a.words.shuts an) ∙ f
+
+  -- a number of an open word is above all that the seat claimed of its epoch
+  above_own : flag_of w ≡ false → epoch_of w ≡ e → IsAboveClaims v v.shown.epoch (next_of w)
+  above_own flag same = (
+    let n = a.sums.sum an above in let f = a.settled.first_small.0 in omega arith,
+    λ b i bw bm.
+        let m = among_at adds b vs id (Seat v) at i in let on = same_slot b m (bm ∙ sym same) in
+        let low = ((a.ledger.additions b m).claim bw).3.now (ap (λ (k : AssociationNumber). (slot c k).shut) on ∙ open_here flag, ap (λ (k : AssociationNumber). (slot c k).epoch) on ∙ (sym here ∙ (same ∙ sym bm))) in
+        let there = subst (λ (k : AssociationNumber). b.pn + 1 ≤ next_of (get_or ws (number_of k) 0)) on low in omega arith,
+  )
+
+  not_earlier : e ≤ epoch_of w
+  not_earlier = let s = saw.1 in let h = here in omega arith
 
   module _ (won : Bool) (got : ℕ) (os gs : List Mark) (fair : Fair c v w won got os gs) where
     abbrev x : Addition
@@ -250,6 +264,7 @@ module _ (c : ControlView) (ws : List ℕ) (vs : List View) (a : Around c ws vs)
       inherits = λ m i is. ⊎_elim (λ j. j) (λ old. in_right m os v.over (waiting.inherits m old is)) (among_set overs m vs id (Seat v') i);
       not_yet = λ _ f. absurd (false≢true (sym f));
       not_later = λ _ f. absurd (false≢true (sym f));
+      not_gone = λ _ f. absurd (false≢true (sym f));
     }
 
     -- another seat has another number
@@ -258,6 +273,7 @@ module _ (c : ControlView) (ws : List ℕ) (vs : List View) (a : Around c ws vs)
       inherits = λ m i is. ⊎_elim (λ k. absurd (apart (sym is ∙ mine_after.own_over m k))) (λ old. ok.inherits m old is) (among_set overs m vs id (Seat v') i);
       not_yet = λ p n b i q. ok.not_yet p n b (old b i q) q;
       not_later = λ p n b i q. ok.not_later p n b (old b i q) q;
+      not_gone = λ p n m i q. ⊎_elim (λ k. absurd (apart (sym q ∙ mine_after.own_gone m k))) (λ k. ok.not_gone p n m k q) (among_set gones m vs id (Seat v') i);
     }
       where
         apart : u.number ≢ v.number
@@ -334,41 +350,53 @@ module _ (c : ControlView) (ws : List ℕ) (vs : List View) (a : Around c ws vs)
           other : epoch_of w ≢ e → WasShut c an e
           other ne = ⊎_elim (λ same. absurd (ne (here ∙ same))) (λ s. s) (a.settled.raised_once _ loaded_raised).2
 
+is_true : (b : Bool) → not b ≡ false → b ≡ true
+is_true true z = refl
+is_true false z = absurd (false≢true (sym z))
+
+-- a word that is shut, or shows another epoch
+was_gone_by : (v : SeatView) (w : ℕ) → v.shown.epoch ≤ epoch_of w → (not (flag_of w) && (epoch_of w == v.shown.epoch)) ≡ false → Gives v Gone w
+was_gone_by v w low differs = dite (ℕ_discrete (epoch_of w) v.shown.epoch)
+    (λ same. ⊎_elim (λ shut. inr (same, is_true (flag_of w) shut)) (λ ne. absurd (eqb-false _ _ ne same)) (and_cases _ _ differs))
+    (λ other. ⊎_elim (λ less. inl less) (λ high. absurd (other (omega arith))) (cases_lt v.shown.epoch (epoch_of w)))
+
+-- what the answer says of the word
+answered : (v : SeatView) (w : ℕ) → ((f : NextSeen) → In f v.start.given → f.an ≡ v.shown.an → f.epoch ≡ v.shown.epoch → flag_of w ≡ false → epoch_of w ≡ v.shown.epoch → f.next ≤ next_of w)
+    → (flag_of w ≡ false → epoch_of w ≡ v.shown.epoch → IsAboveClaims v v.shown.epoch (next_of w)) → v.shown.epoch ≤ epoch_of w → Gives v (answer v.shown.epoch w) w
+answered v w given above not_earlier = ⊎_elim
+    (λ t. let p = and_parts _ _ t in let f = not_true (flag_of w) p.0 in let same = eqb-true (epoch_of w) v.shown.epoch p.1 in ⊎_elim
+    (λ low. subst (λ (r : Added). Gives v r w) (sym (cond-true _ _ _ t ∙ cond-true _ _ _ low)) (same, f, refl, ltb-true _ _ low, (λ x i a b. given x i a b f same), above f same))
+    (λ high. subst (λ (r : Added). Gives v r w) (sym (cond-true _ _ _ t ∙ cond-false _ _ _ high)) (same, f, ltb-false _ _ high))
+    (cases_Bool (ltb (next_of w) (2 ^ 32))))
+    (λ differs. subst (λ (r : Added). Gives v r w) (sym (cond-false _ _ _ differs)) (was_gone_by v w not_earlier differs))
+    (cases_Bool (not (flag_of w) && (epoch_of w == v.shown.epoch)))
+
 -- 2. a seat adds one to the slot that it was shown
 pub adding : (n id : ℕ) (m : M) → m.0 ≡ Seat (seat_of m.0) → (seat_of m.0).shown.present ≡ true → (seat_of m.0).added ≡ false → ((x : Mark) → In x (seat_of m.0).over → x.epoch ≢ (seat_of m.0).shown.epoch)
     → Allows Slotted n id m (number_of (seat_of m.0).shown.an) (λ w. (w + 1) % 2 ^ 64) (Adds (step n (number_of (seat_of m.0).shown.an) 1 0 none) m)
 adding n id m is present waits free s r _ at fits =
-    let v = seat_of m.0 in let w : ℕ = get_or s.words (number_of v.shown.an) 0 in (
+    let v = seat_of m.0 in let w : ℕ = get_or s.words (number_of v.shown.an) 0 in let here = at ∙ ap some is in let may : May v = record { present = present; waits = waits; free = λ i. free (mark v) i refl } in (
       Seat (added v (epoch_of w) (answer v.shown.epoch w)),
       keeps,
       tt,
-      (r.0, by_answer r.0 s.words s.views r.1 id v (at ∙ ap some is) (record { present = present; waits = waits; free = λ i. free (mark v) i refl }) fits (answer v.shown.epoch w) refl),
+      (r.0, by_answer r.0 s.words s.views r.1 id v here may fits (answer v.shown.epoch w) refl),
       (
         refl,
-        λ f i at_slot at_epoch flag same.
-            let k = (r.1.seats id v (at ∙ ap some is)).0 in let q = k.shown present in
-            let f' = (k.given f i).2 in
-            subst (λ (j : AssociationNumber). f.next ≤ next_of (get_or s.words (number_of j) 0)) at_slot (f'.now (ap (λ (j : AssociationNumber). (slot r.0 j).shut) at_slot ∙ (sym (r.1.words.shuts v.shown.an) ∙ flag), ap (λ (j : AssociationNumber). (slot r.0 j).epoch) at_slot ∙ (sym (r.1.words.epochs v.shown.an) ∙ (same ∙ sym at_epoch)))),
+        answered v w
+            (λ f i at_slot at_epoch flag same.
+            let f' = ((r.1.seats id v here).0.given f i).2 in
+            subst (λ (j : AssociationNumber). f.next ≤ next_of (get_or s.words (number_of j) 0)) at_slot (f'.now (ap (λ (j : AssociationNumber). (slot r.0 j).shut) at_slot ∙ (sym (r.1.words.shuts v.shown.an) ∙ flag), ap (λ (j : AssociationNumber). (slot r.0 j).epoch) at_slot ∙ (sym (r.1.words.epochs v.shown.an) ∙ (same ∙ sym at_epoch)))))
+            (above_own r.0 s.words s.views r.1 id v here may fits) (not_earlier r.0 s.words s.views r.1 id v here may fits),
       ),
     )
-
--- what the answer says of the word
-pub answered : (v : SeatView) (w : ℕ) → ((f : NextSeen) → In f v.start.given → f.an ≡ v.shown.an → f.epoch ≡ v.shown.epoch → flag_of w ≡ false → epoch_of w ≡ v.shown.epoch → f.next ≤ next_of w) → Gives v (answer v.shown.epoch w) (epoch_of w)
-answered v w given = ⊎_elim
-    (λ t. let p = and_parts _ _ t in let f = not_true (flag_of w) p.0 in let same = eqb-true (epoch_of w) v.shown.epoch p.1 in ⊎_elim
-    (λ low. subst (λ (r : Added). Gives v r (epoch_of w)) (sym (cond-true _ _ _ t ∙ cond-true _ _ _ low)) (same, ltb-true _ _ low, λ x i a b. given x i a b f same))
-    (λ high. subst (λ (r : Added). Gives v r (epoch_of w)) (sym (cond-true _ _ _ t ∙ cond-false _ _ _ high)) same)
-    (cases_Bool (ltb (next_of w) (2 ^ 32))))
-    (λ differs. subst (λ (r : Added). Gives v r (epoch_of w)) (sym (cond-false _ _ _ differs)) tt)
-    (cases_Bool (not (flag_of w) && (epoch_of w == v.shown.epoch)))
 
 pub adding_as : (n id : ℕ) (m : M) (k : ℕ) → k ≡ number_of (seat_of m.0).shown.an → m.0 ≡ Seat (seat_of m.0) → (seat_of m.0).shown.present ≡ true → (seat_of m.0).added ≡ false → ((x : Mark) → In x (seat_of m.0).over → x.epoch ≢ (seat_of m.0).shown.epoch)
     → Allows Slotted n id m k (λ w. (w + 1) % 2 ^ 64) (Adds (step n k 1 0 none) m)
 adding_as n id m k at is present waits free = subst (λ (j : ℕ). Allows Slotted n id m j (λ w. (w + 1) % 2 ^ 64) (Adds (step n j 1 0 none) m)) (sym at) (adding n id m is present waits free)
 
 -- what a seat has done, from what the step told
-pub did_add : (v w : SeatView) (found : ℕ) (r : Added) → w ≡ added v (epoch_of found) (answer v.shown.epoch found) → ((f : NextSeen) → In f v.start.given → f.an ≡ v.shown.an → f.epoch ≡ v.shown.epoch → flag_of found ≡ false → epoch_of found ≡ v.shown.epoch → f.next ≤ next_of found) → r ≡ answer v.shown.epoch found → IsAdded v r w
-did_add v w found r is given same = subst (λ (z : Added). IsAdded v z w) (sym same) (epoch_of found, is, answered v found given)
+pub did_add : (v w : SeatView) (found : ℕ) (r : Added) → w ≡ added v (epoch_of found) (answer v.shown.epoch found) → Gives v (answer v.shown.epoch found) found → r ≡ answer v.shown.epoch found → IsAdded v r w
+did_add v w found r is gives same = subst (λ (z : Added). IsAdded v z w) (sym same) (found, is, gives)
 
 -- the view, by the answer
 pub added_now : (m m' : M) (found : ℕ) (r : Added) → m' ≡ (Seat (added (seat_of m.0) (epoch_of found) (answer (seat_of m.0).shown.epoch found)), m.1) → m.1 ≡ [] → r ≡ answer (seat_of m.0).shown.epoch found → m' ≡ (Seat (added (seat_of m.0) (epoch_of found) r), [])

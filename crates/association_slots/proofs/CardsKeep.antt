@@ -118,7 +118,7 @@ seat_reads c ws vs a id v i at l = record {
     }
 
     waits : Follows vs w
-    waits = let o = (a.seats id v at).1 in record { inherits = o.inherits; not_yet = o.not_yet; not_later = o.not_later }
+    waits = let o = (a.seats id v at).1 in record { inherits = o.inherits; not_yet = o.not_yet; not_later = o.not_later; not_gone = o.not_gone }
 
 -- 7. a seat loads a word of the card of an epoch that it loaded
 pub reads : (n id : ℕ) (m : M) (e j k : ℕ) → k ≡ 5 * e + j → j < 5 → m.0 ≡ Seat (seat_of m.0) → HasLoaded (seat_of m.0) e → Allows Slotted n id m k (λ w. w) (Reads (step n k 0 0 none) m)

@@ -182,6 +182,7 @@ follows_moved vs xs v m ok = record {
   inherits = λ x i e. ok.inherits x (m.overs_back x i) e;
   not_yet = λ p n a i q w s o t. ok.not_yet p n a (m.adds_back a i) q w s o t;
   not_later = λ p n a i q s. ok.not_later p n a (m.adds_back a i) q s;
+  not_gone = λ p n x i. ok.not_gone p n x (m.gones_back x i);
 }
 
 -- a seat that has just loaded a present word may add
@@ -194,6 +195,7 @@ follows_loaded c ws vs v p is settled ledger ok = record {
       (λ (o : (a.loaded ≡ a.met) × Among overs (record { seat = a.seat; an = a.an; epoch = a.met }) vs). ok.inherits _ (subst (λ (z : Mark). Among overs z vs) (the_mark a seat an_is met_is) o.1) refl)
       (ledger.cause a i lost);
   not_later = λ q _ a i seat an_is. let n = names q in let o = (ledger.additions a i).order.2 in let e : (slot c a.an).epoch ≡ p.epoch = ap (λ (k : AssociationNumber). (slot c k).epoch) an_is ∙ n.1 in omega arith;
+  not_gone = λ q _ m i _ same. let n = names q in let s = (ledger.gone m i).0 in settled.found_gone p.an n.0 s.0 s.1 (s.3 ∙ (same ∙ sym n.1));
 }
   where
     names : p.present ≡ true → IsOpen c p.an p.epoch

@@ -170,6 +170,7 @@ splits id v is room s r at =
           inherits = λ m i is. ⊎_elim (λ b. b) (λ b. let f = among_from overs m ys b in from m is f.0 f.1 f.2 f.3) (among_snoc overs m ys (Seat n) i);
           not_yet = λ p. absurd (false≢true p);
           not_later = λ p. absurd (false≢true p);
+          not_gone = λ p. absurd (false≢true p);
         }
           where
             from : (m : Mark) → m.seat ≡ n.number → (j : ℕ) (v : View) → get_elem? ys j ≡ some v → In m (overs v) → In m n.over

@@ -122,7 +122,8 @@ pub record Fits (c : ControlView) (words : List ℕ) (v : SeatView) : Type 0 whe
 
 -- What one seat knows of the seats of its number before it: their marks; and while it may add to
 -- the slot that it was shown, no addition of its number after a load of that epoch got no number
--- there, unless the epoch is marked as over, and none met a later epoch on that slot
+-- there, unless the epoch is marked as over, none met a later epoch on that slot, and none found
+-- the epoch gone
 pub record Follows (vs : List View) (v : SeatView) : Type 0 where
   pub inherits : (m : Mark) → Among overs m vs → m.seat ≡ v.number → In m v.over
   pub not_yet : v.shown.present ≡ true → v.added ≡ false → (a : Addition) → Among adds a vs
@@ -131,6 +132,8 @@ pub record Follows (vs : List View) (v : SeatView) : Type 0 where
       → In (record { seat = v.number; an = v.shown.an; epoch = v.shown.epoch }) v.over
   pub not_later : v.shown.present ≡ true → v.added ≡ false → (a : Addition) → Among adds a vs
       → a.seat ≡ v.number → a.an ≡ v.shown.an → a.met ≤ v.shown.epoch
+  pub not_gone : v.shown.present ≡ true → v.added ≡ false → (m : Mark) → Among gones m vs
+      → m.seat ≡ v.number → m.epoch ≢ v.shown.epoch
 
 abbrev pub agrees : Bool → Bool → Bool
 agrees true b = b

@@ -1,6 +1,6 @@
 //! What the rule of a table says: each of these holds between any two steps of any number of
 //! threads.
-ghost use Rattle.std.specs.Prelude.{◌≡◌, ◌⊎◌, ℕ, ◌+◌, ◌^◌, ◌<◌, ◌≤◌, Bool, List, true, false, slice_index};
+ghost use Rattle.std.specs.Prelude.{◌≡◌, ◌≢◌, ◌⊎◌, ℕ, ◌+◌, ◌^◌, ◌<◌, ◌≤◌, Bool, List, true, false, slice_index};
 ghost use mathlib.Core.Option.{some};
 ghost use lib.ListN.{get_elem?};
 ghost use Rattle.association_slots.specs.Cards.{Knows, card_at};
@@ -131,6 +131,15 @@ pub fn law_before_an_addition()
         → a.an ≡ v.shown.an → (a.met ≤ v.shown.epoch)
         × (a.claimed ≡ false → a.loaded ≡ v.shown.epoch → a.met ≡ v.shown.epoch
         → In (record { seat = v.number; an = v.shown.an; epoch = v.shown.epoch }) v.over) }
+{}
+
+/// While a seat that was shown an epoch as present has not added yet, no seat of its number found
+/// that epoch gone.
+pub fn law_not_gone()
+    ensures { (c : ControlView) (words : List ℕ) (views : List View) → Around c words views
+        → (i : ℕ) (v : SeatView) → get_elem? views i ≡ some (Seat v) → v.shown.present ≡ true
+        → v.added ≡ false → (m : Mark) → Among gones m views → m.seat ≡ v.number
+        → m.epoch ≢ v.shown.epoch }
 {}
 
 /// A seat has the marks of an epoch as over that seats of its number made before it.

@@ -3,12 +3,13 @@ use Rattle.std.proofs.Common.{◌≡◌, ℕ, ◌+◌, ◌≤◌, true, false, [
 use Rattle.std.proofs.lemmas.Bool.{false≢true}
 use Rattle.aes_block.specs.declared.secret.Secret.TheVariants.{S128}
 use Rattle.lan_base.specs.declared.association_number.AssociationNumber.TheVariants.{An1, An2}
-use Rattle.association_slots.specs.Views.{absent_after, present_at}
+use Rattle.association_slots.specs.Views.{In, absent_after, present_at}
 use Rattle.association_slots.specs.Cards.{card_words}
 use Rattle.association_slots.specs.Steps.{at_first, raised, pointed, seated, new_seat, told, loaded, added}
 use Rattle.association_slots.specs.declared.card.Card.{Card}
 use Rattle.association_slots.specs.declared.view.Addition.{Addition}
 use Rattle.association_slots.specs.declared.view.Added.TheVariants.{Number, Over, Gone}
+use Rattle.association_slots.specs.declared.view.Current.{Current}
 use Rattle.association_slots.specs.declared.view.ControlView.{ControlView}
 use Rattle.association_slots.specs.declared.view.NextSeen.{NextSeen}
 use Rattle.association_slots.specs.declared.view.SeatView.{SeatView}
@@ -45,6 +46,12 @@ given_low n some = record {
 above : (n : ℕ) → Above seat n
 above n = record { notes = λ e i. absurd i; start = λ absent. absurd (false≢true (sym absent)) }
 
+latest_one : (p : Current) → In p (present_at An1 1 ∷ []) → p.epoch ≤ 1
+latest_one p i = ⊎_elim (λ same. let e = ap (λ (q : Current). q.epoch) same in omega arith) (λ b. absurd b) i
+
+latest_low : (p : Current) → In p (present_at An1 1 ∷ []) → p.epoch ≤ 3
+latest_low p i = let l = latest_one p i in omega arith
+
 -- it claims number 1
 abbrev claimed : SeatView
 claimed = read (added shown 1 (Number 1)) 5
@@ -58,8 +65,12 @@ claims = record {
   over = refl;
   not_below = given_low 1 (omega arith);
   above = above 1;
+  shown = refl;
   loaded = inl refl;
+  latest = latest_one;
   number = (omega arith, omega arith);
+  first = omega arith;
+  rises = λ a i. absurd i;
   given = λ f i _ _. ⊎_elim (λ same. let e = ap (λ (g : NextSeen). g.next) same in omega arith) (λ b. absurd b) i;
   knows = (0x0001020304050607, 0x08090a0b0c0d0e0f, 0, 0, 1, inr (inr (inr (inr (inl refl)))), inr (inr (inr (inl refl))), inr (inr (inl refl)), inr (inl refl), inl refl, refl);
 }
@@ -89,14 +100,18 @@ after_loss = read (added (loaded (added shown 2 Gone) (present_at An2 3)) 3 (Num
 claims_later : Did seat after_loss (Ok (record { an = An2; epoch = 3; pn = 1; card = card }))
 claims_later = record {
   lost = lost ∷ [];
-  stays = record { number = refl; limit = refl; start = refl; lost_nothing = λ a i. ⊎_elim (λ same. (ap (λ (b : Addition). b.claimed) (sym same), let e = ap (λ (b : Addition). b.loaded) same in omega arith)) (λ b. absurd b) i; gone = refl; loaded = λ e i. absurd i; reads = (after_loss.reads, refl) };
+  stays = record { number = refl; limit = refl; start = refl; lost_nothing = λ a i. ⊎_elim (λ same. (ap (λ (b : Addition). b.claimed) (sym same), let e = ap (λ (b : Addition). b.loaded) same in omega arith, let e = ap (λ (b : Addition). b.loaded) same in let f = ap (λ (b : Addition). b.met) same in omega arith)) (λ b. absurd b) i; gone = refl; loaded = λ e i. absurd i; reads = (after_loss.reads, refl) };
   additions = refl;
   notes = refl;
   over = refl;
   not_below = given_low 3 (omega arith);
   above = above 3;
+  shown = refl;
   loaded = inl refl;
+  latest = λ p i. ⊎_elim (λ same. let e = ap (λ (q : Current). q.epoch) same in omega arith) (latest_low p) i;
   number = (omega arith, omega arith);
+  first = omega arith;
+  rises = λ a i. absurd i;
   given = λ f i _ _. ⊎_elim (λ same. let e = ap (λ (g : NextSeen). g.next) same in omega arith) (λ b. absurd b) i;
   knows = (0x0001020304050607, 0x08090a0b0c0d0e0f, 0, 0, 1, inr (inr (inr (inr (inl refl)))), inr (inr (inr (inl refl))), inr (inr (inl refl)), inr (inl refl), inl refl, refl);
 }
@@ -110,6 +125,7 @@ no_key = record {
   notes = refl;
   over = refl;
   absent = (refl, refl);
+  latest = λ p i. absurd i;
   not_below = given_low 1 (omega arith);
 }
 
@@ -121,6 +137,9 @@ exhausted = record {
   additions = inr refl;
   notes = refl;
   over = (record { seat = 1; an = An1; epoch = 1 }, inl refl, refl, refl);
+  marks = λ m i. absurd i;
+  shown = (refl, refl);
+  latest = latest_one;
   not_below = given_low 1 (omega arith);
   above = above 1;
   loaded = (An1, inl refl);

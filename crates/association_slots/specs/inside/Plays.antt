@@ -6,7 +6,7 @@ use Rattle.association_slots.specs.Words.{an_of, epoch_of, flag_of, next_of, sho
 use Rattle.association_slots.specs.Views.{In, slot, control_of, seat_of}
 use Rattle.association_slots.specs.Steps.{wrote, raised, closed, looked, pointed, loaded, added, answer, did_read}
 use Rattle.association_slots.specs.Learned.{Learned, IsNext}
-use Rattle.association_slots.specs.Told.{Sees}
+use Rattle.association_slots.specs.Told.{Sees, Gives}
 use Rattle.lan_base.specs.declared.association_number.AssociationNumber.{AssociationNumber}
 use Rattle.association_slots.specs.declared.view.NextSeen.{NextSeen}
 use Rattle.association_slots.specs.declared.view.ControlView.{ControlView}
@@ -52,16 +52,12 @@ abbrev pub Loads : At → Holder → ℕ → Holder → Type 0
 Loads st m found m' = (m' ≡ (Seat (loaded (seat_of m.0) (shown_by found)), m.1))
     × Sees (seat_of m.0) (shown_by found)
 
--- and the slot's next number was not below what the seat was given
 abbrev pub Adds : At → Holder → ℕ → Holder → Type 0
 Adds st m found m' =
     (m' ≡ (
       Seat (added (seat_of m.0) (epoch_of found) (answer (seat_of m.0).shown.epoch found)),
       m.1,
-    ))
-    × ((f : NextSeen) → In f (seat_of m.0).start.given → f.an ≡ (seat_of m.0).shown.an
-    → f.epoch ≡ (seat_of m.0).shown.epoch → flag_of found ≡ false
-    → epoch_of found ≡ (seat_of m.0).shown.epoch → f.next ≤ next_of found)
+    )) × Gives (seat_of m.0) (answer (seat_of m.0).shown.epoch found) found
 
 abbrev pub Reads : At → Holder → ℕ → Holder → Type 0
 Reads st m found m' = m' ≡ (Seat (did_read (seat_of m.0) st.word found), m.1)
