@@ -22,6 +22,7 @@ use Rattle.association_slots.specs.declared.view.View.TheVariants.{Control, Seat
 use Rattle.association_slots.proofs.Lists.{Moved, moved_set}
 use Rattle.association_slots.proofs.StaysSettled.{settled_wrote}
 use Rattle.association_slots.proofs.Grows.{Grown, ledger_grows, told_grows, seat_grows, sums_grow, follows_moved, grown_words, grown_wrote, in_front}
+use Rattle.association_slots.proofs.Learning.{learned}
 use Rattle.association_slots.proofs.ControlKeeps.{M, known, control_steps, control_else, alone_else, numbers_from, seat_back}
 
 words_card : (c : ControlView) (ws : List ℕ) (j n : ℕ) → IsAsLeft c ws → IsAsLeft (wrote c n) (set ws (5 + j) n)
@@ -54,17 +55,14 @@ writes n id m x is room s r _ at fits =
       lie = λ j l. dite (ℕ_discrete j (length c.card_words))
           (λ same. ap (λ (i : ℕ). get_or us (5 + i) 0) same ∙ (get_or-set_same s.words (5 + length c.card_words) x 0 (let z = a.cards.size in omega arith) ∙ (sym (at_end c.card_words x) ∙ ap (λ (i : ℕ). get_or d.card_words i 0) (sym same))))
           (λ ne. let e = length-append c.card_words (x ∷ []) in let before : j < length c.card_words = omega arith in get_or-set_other s.words (5 + length c.card_words) (5 + j) x 0 (λ y. ne (omega arith)) ∙ (a.cards.lie j before ∙ sym (in_front c.card_words (x ∷ []) j before)));
-    } in (
+    } in
+    let kept : Around d us (set s.views 0 (Control d)) = control_steps c d s.words us s.views a (words_card c s.words (length c.card_words) x a.words) cards (settled_wrote c x a.settled) g (λ v. seat_grows c s.words d us g v refl (λ z. z)) refl refl refl (told_grows c s.words d us g refl refl refl a.told)
+    (λ k. sums_grow c s.words d us g s.views _ a.settled a.ledger k (λ j _. let few = number_of-few j in inl (refl, ap next_of (get_or-set_other s.words (5 + length c.card_words) (number_of j) x 0 (λ y. omega arith)))) (λ f i. inl i) (λ f i. inl i) a.sums) in (
       Control d,
       keeps,
       tt,
-      (
-        d,
-        subst (λ (i : ℕ). Around d us (set s.views i (Control d))) q.0
-            (control_steps c d s.words us s.views a (words_card c s.words (length c.card_words) x a.words) cards (settled_wrote c x a.settled) g (λ v. seat_grows c s.words d us g v refl (λ z. z)) refl refl refl (told_grows c s.words d us g refl refl refl a.told)
-            (λ k. sums_grow c s.words d us g s.views _ a.settled a.ledger k (λ j _. let few = number_of-few j in inl (refl, ap next_of (get_or-set_other s.words (5 + length c.card_words) (number_of j) x 0 (λ y. omega arith)))) (λ f i. inl i) (λ f i. inl i) a.sums)),
-      ),
-      refl,
+      (d, subst (λ (i : ℕ). Around d us (set s.views i (Control d))) q.0 kept),
+      (refl, learned d us (set s.views 0 (Control d)) kept),
     )
 
 pub writes_at : (n id : ℕ) (m : M) (x k : ℕ) → k ≡ 5 + length (control_of m.0).card_words → m.0 ≡ Control (control_of m.0) → length (control_of m.0).card_words < 5 * (control_of m.0).limit

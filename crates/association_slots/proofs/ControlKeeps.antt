@@ -152,19 +152,16 @@ raises n id m k e is shut above carded s r _ at fits =
     let g = grown_raised c s.words k e w above a.settled in
     let slots : (j : AssociationNumber) → 0 < (slot d j).epoch → (((slot c j).epoch ≡ (slot d j).epoch) × (next_of (get_or us (number_of j) 0) ≡ next_of (get_or s.words (number_of j) 0))) ⊎ ((next_of (get_or us (number_of j) 0) ≡ c.first) × (top c.raises < (slot d j).epoch)) =
     slot_set (λ j y. 0 < y.epoch → (((slot c j).epoch ≡ y.epoch) × (next_of (get_or us (number_of j) 0) ≡ next_of (get_or s.words (number_of j) 0))) ⊎ ((next_of (get_or us (number_of j) 0) ≡ c.first) × (top c.raises < y.epoch))) c.slots k x (let f = a.settled.four in omega arith)
-    (λ _. inr (next, above)) (λ j ne _. inl (refl, ap next_of (get_or-set_other s.words (number_of k) (number_of j) w 0 ne))) in (
+    (λ _. inr (next, above)) (λ j ne _. inl (refl, ap next_of (get_or-set_other s.words (number_of k) (number_of j) w 0 ne))) in
+    let kept : Around d us (set s.views 0 (Control d)) = control_steps c d s.words us s.views a
+    (words_slot c s.words k w x d.raises c.found c.loads a.settled.four long a.words (open_epoch e c.first low) (open_flag e c.first low) (let z = open_next e c.first low in omega arith))
+    (same_cards c d us refl refl (cards_else c s.words (number_of k) w (omega arith) a.cards)) (settled_raised c k e shut above carded a.settled) g (λ v. seat_grows c s.words d us g v refl (λ z. z)) refl refl refl (told_grows c s.words d us g refl refl refl a.told)
+    (λ m. sums_grow c s.words d us g s.views _ a.settled a.ledger m slots (λ f i. inl i) (λ f i. inl i) a.sums) in (
       Control d,
       keeps,
       tt,
-      (
-        d,
-        subst (λ (i : ℕ). Around d us (set s.views i (Control d))) q.0
-            (control_steps c d s.words us s.views a
-            (words_slot c s.words k w x d.raises c.found c.loads a.settled.four long a.words (open_epoch e c.first low) (open_flag e c.first low) (let z = open_next e c.first low in omega arith))
-            (same_cards c d us refl refl (cards_else c s.words (number_of k) w (omega arith) a.cards)) (settled_raised c k e shut above carded a.settled) g (λ v. seat_grows c s.words d us g v refl (λ z. z)) refl refl refl (told_grows c s.words d us g refl refl refl a.told)
-            (λ m. sums_grow c s.words d us g s.views _ a.settled a.ledger m slots (λ f i. inl i) (λ f i. inl i) a.sums)),
-      ),
-      (λ i. let y : M = (Control (raised c (sym (an_back k) i) (sym (open_epoch e c.first low) i)), m.1) in y),
+      (d, subst (λ (i : ℕ). Around d us (set s.views i (Control d))) q.0 kept),
+      ((λ i. let y : M = (Control (raised c (sym (an_back k) i) (sym (open_epoch e c.first low) i)), m.1) in y), learned d us (set s.views 0 (Control d)) kept),
     )
 
 -- 4. control shuts a slot
@@ -178,21 +175,19 @@ shuts n id m k is opened away s r _ at fits =
     let slots : (j : AssociationNumber) → 0 < (slot d j).epoch → (((slot c j).epoch ≡ (slot d j).epoch) × (next_of (get_or us (number_of j) 0) ≡ next_of (get_or s.words (number_of j) 0))) ⊎ ((next_of (get_or us (number_of j) 0) ≡ c.first) × (top c.raises < (slot d j).epoch)) =
     slot_set (λ j y. 0 < y.epoch → (((slot c j).epoch ≡ y.epoch) × (next_of (get_or us (number_of j) 0) ≡ next_of (get_or s.words (number_of j) 0))) ⊎ ((next_of (get_or us (number_of j) 0) ≡ c.first) × (top c.raises < y.epoch))) c.slots k x (let f = a.settled.four in omega arith)
     (λ _. inl (refl, next)) (λ j ne _. inl (refl, ap next_of (get_or-set_other s.words (number_of k) (number_of j) w' 0 ne))) in
-    let New : NextSeen → Type 0 = λ f. (0 < f.epoch) × ((slot c f.an).epoch ≡ f.epoch) × (f.next ≡ next_of (get_or s.words (number_of f.an) 0)) in (
+    let New : NextSeen → Type 0 = λ f. (0 < f.epoch) × ((slot c f.an).epoch ≡ f.epoch) × (f.next ≡ next_of (get_or s.words (number_of f.an) 0)) in
+    let kept : Around d us (set s.views 0 (Control d)) = control_steps c d s.words us s.views a
+    (words_slot c s.words k w' x c.raises d.found c.loads a.settled.four long a.words (shut_epoch w ∙ a.words.epochs k) (shut_flag w) (let z = shut_next w in omega arith))
+    (same_cards c d us refl refl (cards_else c s.words (number_of k) w' (omega arith) a.cards)) (settled_closed c k (next_of w) opened away a.settled) g (λ v. seat_grows c s.words d us g v refl (λ z. z)) refl refl refl (told_grows c s.words d us g refl refl refl a.told)
+    (λ m. sums_grow c s.words d us g s.views _ a.settled a.ledger m slots (λ f. ⊎_elim (λ e. inr (subst New e (a.settled.open_some k opened, refl, refl))) inl) (λ f i. inl i) a.sums) in (
       Control d,
       keeps,
       tt,
-      (
-        d,
-        subst (λ (i : ℕ). Around d us (set s.views i (Control d))) q.0
-            (control_steps c d s.words us s.views a
-            (words_slot c s.words k w' x c.raises d.found c.loads a.settled.four long a.words (shut_epoch w ∙ a.words.epochs k) (shut_flag w) (let z = shut_next w in omega arith))
-            (same_cards c d us refl refl (cards_else c s.words (number_of k) w' (omega arith) a.cards)) (settled_closed c k (next_of w) opened away a.settled) g (λ v. seat_grows c s.words d us g v refl (λ z. z)) refl refl refl (told_grows c s.words d us g refl refl refl a.told)
-            (λ m. sums_grow c s.words d us g s.views _ a.settled a.ledger m slots (λ f. ⊎_elim (λ e. inr (subst New e (a.settled.open_some k opened, refl, refl))) inl) (λ f i. inl i) a.sums)),
-      ),
+      (d, subst (λ (i : ℕ). Around d us (set s.views i (Control d))) q.0 kept),
       (
         (λ i. let y : M = (Control (closed c (sym (an_back k) i) (next_of w)), m.1) in y),
         subst (λ (j : AssociationNumber). Shows c j (next_of w)) (sym (an_back k)) (a.words.seen k, is_next c s.words s.views a k (slot c k).epoch (opened, refl)),
+        learned d us (set s.views 0 (Control d)) kept,
       ),
     )
 
@@ -202,17 +197,14 @@ stores : (n id : ℕ) (m : M) (w : ℕ) (p : Current) → m.0 ≡ Control (contr
     → Allows Slotted n id m 4 (λ _. w) (λ _. Points (step n 4 w 0 none) m w)
 stores n id m w p is shows names later above low s r _ at fits =
     let c = control_of m.0 in let q = known s.words s.views id c r (at ∙ ap some is) in let a = q.1 in let d = pointed c p in let us = set s.words 4 w in
-    let g = grown_pointed c s.words p w in (
+    let g = grown_pointed c s.words p w in
+    let kept : Around d us (set s.views 0 (Control d)) = control_steps c d s.words us s.views a (words_point c s.words w p (wide c s.words s.views a) a.words shows) (same_cards c d us refl refl (cards_else c s.words 4 w (omega arith) a.cards)) (settled_pointed c p names later above (low c a.settled refl) a.settled) g (λ v. seat_pointed c s.words us p v g later above) refl refl refl (record { noted = λ e i. inr (a.told.noted e i); reads = a.told.reads })
+    (λ m. sums_grow c s.words d us g s.views _ a.settled a.ledger m (λ j _. let few = number_of-few j in inl (refl, ap next_of (get_or-set_other s.words 4 (number_of j) w 0 (λ z. omega arith)))) (λ f i. inl i) (λ f i. inl i) a.sums) in (
       Control d,
       keeps,
       tt,
-      (
-        d,
-        subst (λ (i : ℕ). Around d us (set s.views i (Control d))) q.0
-            (control_steps c d s.words us s.views a (words_point c s.words w p (wide c s.words s.views a) a.words shows) (same_cards c d us refl refl (cards_else c s.words 4 w (omega arith) a.cards)) (settled_pointed c p names later above (low c a.settled refl) a.settled) g (λ v. seat_pointed c s.words us p v g later above) refl refl refl (record { noted = λ e i. inr (a.told.noted e i); reads = a.told.reads })
-            (λ m. sums_grow c s.words d us g s.views _ a.settled a.ledger m (λ j _. let few = number_of-few j in inl (refl, ap next_of (get_or-set_other s.words 4 (number_of j) w 0 (λ z. omega arith)))) (λ f i. inl i) (λ f i. inl i) a.sums)),
-      ),
-      ap (λ (x : Current). let y : M = (Control (pointed c x), m.1) in y) (sym shows),
+      (d, subst (λ (i : ℕ). Around d us (set s.views i (Control d))) q.0 kept),
+      (ap (λ (x : Current). let y : M = (Control (pointed c x), m.1) in y) (sym shows), learned d us (set s.views 0 (Control d)) kept),
     )
 
 pub points : (n id : ℕ) (m : M) (an : AssociationNumber) (e w : ℕ) → m.0 ≡ Control (control_of m.0) → IsOpen (control_of m.0) an e → (current (control_of m.0)).epoch < e → w ≡ present_word e an
@@ -239,21 +231,19 @@ looks n id m k is opened s r _ at fits =
     let news : New (record { an = k; epoch = (slot c k).epoch; next = next_of w }) = (
       a.settled.slot_raised k (a.settled.open_some k opened),
       record { now = λ _. omega arith; then = λ f i _ e. absurd (a.settled.found_gone k opened f i e) },
-    ) in (
+    ) in
+    let kept : Around d s.words (set s.views 0 (Control d)) = control_steps c d s.words s.words s.views a
+    (same_words_back s.words (number_of k) (IsAsLeft d) (words_slot c s.words k w x c.raises c.found d.loads a.settled.four (wide c s.words s.views a) a.words (a.words.epochs k) (a.words.shuts k) (omega arith)))
+    (same_cards c d s.words refl refl a.cards) (settled_looked c k (next_of w) a.settled) g (λ v. seat_grows c s.words d s.words g v refl (λ z. z)) refl refl refl (told_grows c s.words d s.words g refl refl refl a.told)
+    (λ m. sums_grow c s.words d s.words g s.views _ a.settled a.ledger m slots (λ f i. inl i) (λ f. ⊎_elim (λ e. inr (subst New e news)) inl) a.sums) in (
       Control d,
       keeps,
       tt,
-      (
-        d,
-        same_words s.words (number_of k) (λ us. Around d us (set s.views id (Control d))) (subst (λ (i : ℕ). Around d s.words (set s.views i (Control d))) q.0
-            (control_steps c d s.words s.words s.views a
-            (same_words_back s.words (number_of k) (IsAsLeft d) (words_slot c s.words k w x c.raises c.found d.loads a.settled.four (wide c s.words s.views a) a.words (a.words.epochs k) (a.words.shuts k) (omega arith)))
-            (same_cards c d s.words refl refl a.cards) (settled_looked c k (next_of w) a.settled) g (λ v. seat_grows c s.words d s.words g v refl (λ z. z)) refl refl refl (told_grows c s.words d s.words g refl refl refl a.told)
-            (λ m. sums_grow c s.words d s.words g s.views _ a.settled a.ledger m slots (λ f i. inl i) (λ f. ⊎_elim (λ e. inr (subst New e news)) inl) a.sums))),
-      ),
+      (d, same_words s.words (number_of k) (λ us. Around d us (set s.views id (Control d))) (subst (λ (i : ℕ). Around d s.words (set s.views i (Control d))) q.0 kept)),
       (
         (λ i. let y : M = (Control (looked c (sym (an_back k) i) (next_of w)), m.1) in y),
         subst (λ (j : AssociationNumber). Shows c j (next_of w)) (sym (an_back k)) (a.words.seen k, is_next c s.words s.views a k (slot c k).epoch (opened, refl)),
+        learned d s.words (set s.views 0 (Control d)) kept,
       ),
     )
   where

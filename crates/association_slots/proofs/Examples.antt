@@ -223,13 +223,13 @@ abbrev view_of : Me ℕ View → View
 view_of m = m.0
 
 wrote_on : (c : ControlView) (ws : List ℕ) (vs : List View) (x : ℕ) → length c.card_words < 5 * c.limit → get_or ws (5 + length c.card_words) 0 ≡ 0 → Slotted (at ws (Control c ∷ vs)) → Slotted (at (set ws (5 + length c.card_words) x) (Control (wrote c x) ∷ vs))
-wrote_on c ws vs x room holds = stepped_on 0 (5 + length c.card_words) 0 (λ _. x) (λ _. Writes (step 0 (5 + length c.card_words) x 0 none) (Control c, []) x) (Control c) (Control (wrote c x)) ws (Control c ∷ vs) (writes_at 0 0 (Control c, []) x _ refl refl room) (λ m is. ap view_of is) refl holds (omega arith)
+wrote_on c ws vs x room holds = stepped_on 0 (5 + length c.card_words) 0 (λ _. x) (λ _. Writes (step 0 (5 + length c.card_words) x 0 none) (Control c, []) x) (Control c) (Control (wrote c x)) ws (Control c ∷ vs) (writes_at 0 0 (Control c, []) x _ refl refl room) (λ m is. ap view_of is.0) refl holds (omega arith)
 
 raised_on : (c : ControlView) (ws : List ℕ) (vs : List View) (k : AssociationNumber) (e held : ℕ) → (slot c k).shut ≡ true → top c.raises < e → 5 * e ≤ length c.card_words → epoch_of (open_word e c.first) ≡ e → get_or ws (number_of k) 0 ≡ held → held < 2 ^ 64 → Slotted (at ws (Control c ∷ vs)) → Slotted (at (set ws (number_of k) (open_word e c.first)) (Control (raised c k e) ∷ vs))
-raised_on c ws vs k e held shut above carded shows = stepped_on 0 (number_of k) held (λ _. open_word e c.first) (Raises (step 0 (number_of k) (open_word e c.first) 0 none) (Control c, [])) (Control c) (Control (raised c k e)) ws (Control c ∷ vs) (raises 0 0 (Control c, []) k e refl shut above carded) (λ m is. ap view_of is ∙ (λ i. let y : View = Control (raised c (an_back k i) (shows i)) in y)) refl
+raised_on c ws vs k e held shut above carded shows = stepped_on 0 (number_of k) held (λ _. open_word e c.first) (Raises (step 0 (number_of k) (open_word e c.first) 0 none) (Control c, [])) (Control c) (Control (raised c k e)) ws (Control c ∷ vs) (raises 0 0 (Control c, []) k e refl shut above carded) (λ m is. ap view_of is.0 ∙ (λ i. let y : View = Control (raised c (an_back k i) (shows i)) in y)) refl
 
 pointed_on : (c : ControlView) (ws : List ℕ) (vs : List View) (an : AssociationNumber) (e held : ℕ) → IsOpen c an e → (current c).epoch < e → shown_by (present_word e an) ≡ present_at an e → get_or ws 4 0 ≡ held → held < 2 ^ 64 → Slotted (at ws (Control c ∷ vs)) → Slotted (at (set ws 4 (present_word e an)) (Control (pointed c (present_at an e)) ∷ vs))
-pointed_on c ws vs an e held opened above shows = stepped_on 0 4 held (λ _. present_word e an) (λ _. Points (step 0 4 (present_word e an) 0 none) (Control c, []) (present_word e an)) (Control c) (Control (pointed c (present_at an e))) ws (Control c ∷ vs) (points 0 0 (Control c, []) an e (present_word e an) refl opened above refl) (λ m is. ap view_of is ∙ ap (λ (x : Current). let y : View = Control (pointed c x) in y) shows) refl
+pointed_on c ws vs an e held opened above shows = stepped_on 0 4 held (λ _. present_word e an) (λ _. Points (step 0 4 (present_word e an) 0 none) (Control c, []) (present_word e an)) (Control c) (Control (pointed c (present_at an e))) ws (Control c ∷ vs) (points 0 0 (Control c, []) an e (present_word e an) refl opened above refl) (λ m is. ap view_of is.0 ∙ ap (λ (x : Current). let y : View = Control (pointed c x) in y) shows) refl
 
 shut_on : (c : ControlView) (ws : List ℕ) (vs : List View) (k : AssociationNumber) (held : ℕ) → (slot c k).shut ≡ false → ((current c).present ≡ true → (current c).an ≢ k) → get_or ws (number_of k) 0 ≡ held → held < 2 ^ 64 → Slotted (at ws (Control c ∷ vs)) → Slotted (at (set ws (number_of k) (bit_or (get_or ws (number_of k) 0) (2 ^ 39))) (Control (closed c k (next_of (get_or ws (number_of k) 0))) ∷ vs))
 shut_on c ws vs k held is_open away = stepped_on 0 (number_of k) held (λ w. bit_or w (2 ^ 39)) (Shuts (step 0 (number_of k) (2 ^ 39) 0 none) (Control c, [])) (Control c) (Control (closed c k (next_of (get_or ws (number_of k) 0)))) ws (Control c ∷ vs) (shuts 0 0 (Control c, []) k refl is_open away) (λ m is. ap view_of is.0 ∙ ap (λ (j : AssociationNumber). let y : View = Control (closed c j (next_of (get_or ws (number_of k) 0))) in y) (an_back k)) refl

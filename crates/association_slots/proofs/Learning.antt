@@ -1,12 +1,12 @@
 -- What the rule says of control's view alone.
-use Rattle.std.proofs.Common.{◌≡◌, ◌≢◌, ◌⊎◌, ℕ, suc, ◌+◌, ◌-◌, ◌*◌, ◌^◌, ◌<◌, ◌≤◌, Bool, true, false, List, [], ◌∷◌, length, get_or, refl, sym, ap, ◌∙◌, subst, inl, inr, ⊎_elim, arith}
+use Rattle.std.proofs.Common.{◌≡◌, ◌≢◌, ◌⊎◌, ℕ, suc, ◌+◌, ◌-◌, ◌*◌, ◌^◌, ◌<◌, ◌≤◌, Bool, true, false, List, [], ◌∷◌, length, get_or, set, refl, sym, ap, ◌∙◌, subst, inl, inr, ⊎_elim, arith, length-set, get_or-set_same}
 use mathlib.Core.Option.{some, some-ne-none, some-injective}
 use lib.ListN.{get_elem?}
 use Rattle.std.proofs.lemmas.Bool.{false≢true}
 use Rattle.lan_base.specs.AssociationNumbers.{number_of}
 use Rattle.lan_base.specs.declared.association_number.AssociationNumber.{AssociationNumber}
 use Rattle.association_slots.specs.Words.{next_of}
-use Rattle.association_slots.specs.Views.{In, Among, IsOpen, AllIn, weigh, adds, overs, gones, tally, one, met, lost, claimed, count, count_all}
+use Rattle.association_slots.specs.Views.{In, Among, IsOpen, AllIn, free, weigh, adds, overs, gones, tally, one, met, lost, claimed, count, count_all}
 use Rattle.association_slots.specs.Cards.{card_in, card_at, Knows}
 use Rattle.association_slots.specs.Rule.{Around, AtLeast, tagged}
 use Rattle.association_slots.specs.Learned.{IsNext, WasNext, IsTold, Learned}
@@ -18,6 +18,8 @@ use Rattle.association_slots.specs.declared.view.SeatView.{SeatView}
 use Rattle.association_slots.specs.declared.view.View.{View}
 use Rattle.association_slots.specs.declared.view.View.TheVariants.{Control, Seat, Spent}
 use Rattle.association_slots.specs.declared.card.Card.{Card}
+use Rattle.association_slots.specs.Steps.{seated}
+use Rattle.association_slots.proofs.StaysSettled.{settled_out}
 use Rattle.association_slots.proofs.Lists.{weigh_at, among_at, among_from}
 
 -- no view has additions, so there are none
@@ -124,3 +126,22 @@ module _ (c : ControlView) (ws : List ℕ) (vs : List View) (a : Around c ws vs)
     noted = a.told.noted;
     cards = card_known c c.told_reads a.told.reads;
   }
+
+-- what control has learned, when a seat goes out: then not all are in
+pub learned_out : (c : ControlView) → free c.out < 8 → Learned c → Learned (seated c)
+learned_out c room ok = record {
+  settled = settled_out c (set c.out (free c.out) true) c.told c.told_over c.told_gone c.told_notes c.told_reads (length-set c.out (free c.out) true ∙ ok.settled.eight) ok.settled;
+  additions = λ b i. let t = ok.additions b i in record { seat = t.seat; raised = t.raised; pointed = t.pointed; claim = t.claim; cause = λ all_in. absurd (one_out all_in) };
+  differ = ok.differ;
+  twice = ok.twice;
+  open_next = λ k e o. let n = ok.open_next k e o in (n.0, record { above_claims = n.1.above_claims; above_loads = n.1.above_loads; above_over = n.1.above_over; is_sum = λ all_in. absurd (one_out all_in); bound = λ all_in. absurd (one_out all_in) });
+  shut_next = λ f i. let n = ok.shut_next f i in record { above_claims = n.above_claims; above_loads = n.above_loads; above_over = n.above_over; low = λ all_in. absurd (one_out all_in) };
+  loads = ok.loads;
+  over = ok.over;
+  gone = ok.gone;
+  noted = ok.noted;
+  cards = ok.cards;
+}
+  where
+    one_out : AllIn (seated c) → ⊥
+    one_out all_in = false≢true (sym (all_in (free c.out)) ∙ get_or-set_same c.out (free c.out) true false (let e = ok.settled.eight in omega arith))

@@ -1,5 +1,6 @@
 -- A seat goes out, and comes back; and the table at the start.
-use Rattle.std.proofs.Common.{◌≡◌, ◌≢◌, ◌⊎◌, ℕ, zero, suc, ◌+◌, ◌-◌, ◌*◌, ◌^◌, ◌<◌, ◌≤◌, max, Bool, true, false, not, ◌&&◌, nat_le, cond, eqb, List, [], ◌∷◌, ◌++◌, length, get_or, set, refl, sym, ap, ◌∙◌, subst, inl, inr, ⊎_elim, arith, eq-eqb, length-set, get_or-set_other, get_or-set_same}
+use Rattle.std.proofs.Common.{◌≡◌, ◌≢◌, ◌⊎◌, ℕ, zero, suc, ◌+◌, ◌-◌, ◌*◌, ◌^◌, ◌<◌, ◌≤◌, max, Bool, true, false, not, ◌&&◌, nat_le, cond, eqb, List, [], ◌∷◌, ◌++◌, length, get_or, set, refl, sym, ap, ◌∙◌, subst, inl, inr, ⊎_elim, arith, eq-eqb, length-set, get_or-set_other, get_or-set_same, replicate}
+use Rattle.std.proofs.lemmas.List.{length-replicate}
 use mathlib.Core.Logic.{dite}
 use mathlib.Core.Option.{none, some, some-ne-none, some-injective}
 use native.Mathlib.Decide.{ℕ_discrete}
@@ -14,6 +15,8 @@ use Rattle.association_slots.specs.Words.{epoch_of, flag_of, next_of, shown_by}
 use Rattle.association_slots.specs.Views.{In, Among, cons_if, slot, current, weigh, adds, overs, gones, one, met, claimed, of_seat, free, control_of, seat_of}
 use Rattle.association_slots.specs.Steps.{at_first, above_claims, least_next, given_of, seated, new_seat, told}
 use Rattle.association_slots.specs.Rule.{AtLeast, Fits, Follows, Around, Slotted}
+use Rattle.association_slots.specs.Learned.{Learned}
+use Rattle.association_slots.proofs.Learning.{learned}
 use Rattle.association_slots.specs.declared.view.NextSeen.{NextSeen}
 use Rattle.association_slots.specs.declared.view.Addition.{Addition}
 use Rattle.association_slots.specs.declared.view.Mark.{Mark}
@@ -339,3 +342,15 @@ each_shut ws a b c d An0 = a
 each_shut ws a b c d An1 = b
 each_shut ws a b c d An2 = c
 each_shut ws a b c d An3 = d
+
+-- what control has learned at the start
+pub learned_first : (first limit : ℕ) → 1 ≤ first → first < 2 ^ 32 → Learned (at_first first limit)
+unfolding opens
+learned_first first limit some_first low = let start = opens first limit (blank_words limit) some_first low (size limit) (each_shut (blank_words limit) refl refl refl refl) refl in
+    learned (at_first first limit) (blank_words limit) (Control (at_first first limit) ∷ []) start.1
+  where
+    blank_words : ℕ → List ℕ
+    blank_words n = 2 ^ 39 ∷ 2 ^ 39 ∷ 2 ^ 39 ∷ 2 ^ 39 ∷ 0 ∷ replicate (5 * n) 0
+
+    size : (n : ℕ) → length (blank_words n) ≡ 5 + 5 * n
+    size n = let zeros : List ℕ = replicate (5 * n) 0 in let l : length zeros ≡ 5 * n = length-replicate (5 * n) 0 in omega arith

@@ -76,6 +76,7 @@ impl Control {
               card_words = self.old.view.card_words ++ card_words card.now;
             }) }
         ensures card { IfOk result (λ epoch. card_at self.new.view epoch ≡ card.now) }
+        ensures learned { OnOk result (Learned self.new.view) }
         ensures unchanged { OnErr result (self.new ≡ self.old) }
     {
         if self.given == self.limit {
@@ -93,7 +94,8 @@ impl Control {
         requires shut { (slot self.old.view an).shut ≡ true }
         requires card { epoch ≤ cards_given self.old.view }
         requires above { top self.old.view.raises < epoch }
-        ensures { self.new ≡ record self.old { view = raised self.old.view an epoch } }
+        ensures view { self.new ≡ record self.old { view = raised self.old.view an epoch } }
+        ensures learned { Learned self.new.view }
     {
         let word = open_word(epoch, self.first);
         table
@@ -107,8 +109,9 @@ impl Control {
         requires here { self.old.table ≡ table.now }
         requires open { IsOpen self.old.view an epoch }
         requires above { (current self.old.view).epoch < epoch }
-        ensures { self.new
+        ensures view { self.new
             ≡ record self.old { view = pointed self.old.view (present_at an epoch) } }
+        ensures learned { Learned self.new.view }
     {
         self.last = epoch;
         let word = present_word(self.last, an);
@@ -121,9 +124,10 @@ impl Control {
     /// Nothing is present from now on.
     pub fn unpoint(&mut self, table: &SlotTable)
         requires here { self.old.table ≡ table.now }
-        ensures { self.new ≡ record self.old {
+        ensures view { self.new ≡ record self.old {
           view = pointed self.old.view (absent_after (current self.old.view).epoch);
         } }
+        ensures learned { Learned self.new.view }
     {
         let word = absent_word(self.last);
         table
@@ -141,6 +145,7 @@ impl Control {
         ensures view { self.new ≡ record self.old { view = closed self.old.view an result } }
         ensures seen { (slot self.old.view an).seen ≤ result }
         ensures next { IsNext self.old.view an (slot self.old.view an).epoch result }
+        ensures learned { Learned self.new.view }
     {
         let word = table
             .table
@@ -156,6 +161,7 @@ impl Control {
         ensures view { self.new ≡ record self.old { view = looked self.old.view an result } }
         ensures seen { (slot self.old.view an).seen ≤ result }
         ensures next { IsNext self.old.view an (slot self.old.view an).epoch result }
+        ensures learned { Learned self.new.view }
     {
         let word = table
             .table
@@ -177,7 +183,7 @@ impl Control {
         requires room { free_number self.old.view ≤ 8 }
         ensures control { self.new ≡ record self.old { view = seated self.old.view } }
         ensures seat { result ≡ record { table = self.old.table; view = new_seat self.old.view } }
-        ensures learned { Learned self.old.view }
+        ensures learned { Learned self.old.view × Learned self.new.view }
     {
         table.table.shared.load::<Learn>(&mut self.place, 4);
         let free = free_place(&self.out);
@@ -218,7 +224,7 @@ fn write_card(table: &SlotTable, place: &mut Place, from: usize, words: &[u64; 5
             card_words = (control_of place.old.me.0).card_words ++ words.now;
           }),
           [],
-        )) }
+        )) × Learned (control_of place.new.me.0) }
 {
     let [a, b, c, d, flags] = *words;
     write(table, place, from, a);
@@ -236,7 +242,8 @@ fn write(table: &SlotTable, place: &mut Place, word: usize, held: u64)
         × (word < 5 + 5 * (control_of place.old.me.0).limit)
         × (table.now.words ≡ 5 + 5 * (control_of place.old.me.0).limit) }
     ensures { (place.new.table_id ≡ place.old.table_id)
-        × (place.new.me ≡ («control» (wrote (control_of place.old.me.0) held), [])) }
+        × (place.new.me ≡ («control» (wrote (control_of place.old.me.0) held), []))
+        × Learned (control_of place.new.me.0) }
 {
     table.table.shared.store::<Write>(place, word, held);
 }

@@ -19,28 +19,33 @@ At = Step ℕ
 abbrev pub Holder : Type 0
 Holder = Me ℕ View
 
--- Of control, whose slots are the words of their ANs
+-- Of control, whose slots are the words of their ANs. After each step it learns what the rule says
+-- of its new view
 
 -- the next number that control found at a slot
 abbrev pub Shows : ControlView → AssociationNumber → ℕ → Type 0
 Shows c an n = ((slot c an).seen ≤ n) × IsNext c an (slot c an).epoch n
 
 abbrev pub Writes : At → Holder → ℕ → Holder → Type 0
-Writes st m found m' = m' ≡ (Control (wrote (control_of m.0) found), m.1)
+Writes st m found m' = (m' ≡ (Control (wrote (control_of m.0) found), m.1))
+    × Learned (control_of m'.0)
 
 abbrev pub Raises : At → Holder → ℕ → Holder → Type 0
-Raises st m found m' = m' ≡ (Control (raised (control_of m.0) (an_of st.word) (epoch_of st.first)), m.1)
+Raises st m found m' =
+    (m' ≡ (Control (raised (control_of m.0) (an_of st.word) (epoch_of st.first)), m.1))
+    × Learned (control_of m'.0)
 
 abbrev pub Shuts : At → Holder → ℕ → Holder → Type 0
 Shuts st m found m' = (m' ≡ (Control (closed (control_of m.0) (an_of st.word) (next_of found)), m.1))
-    × Shows (control_of m.0) (an_of st.word) (next_of found)
+    × Shows (control_of m.0) (an_of st.word) (next_of found) × Learned (control_of m'.0)
 
 abbrev pub Points : At → Holder → ℕ → Holder → Type 0
-Points st m found m' = m' ≡ (Control (pointed (control_of m.0) (shown_by st.first)), m.1)
+Points st m found m' = (m' ≡ (Control (pointed (control_of m.0) (shown_by st.first)), m.1))
+    × Learned (control_of m'.0)
 
 abbrev pub Looks : At → Holder → ℕ → Holder → Type 0
 Looks st m found m' = (m' ≡ (Control (looked (control_of m.0) (an_of st.word) (next_of found)), m.1))
-    × Shows (control_of m.0) (an_of st.word) (next_of found)
+    × Shows (control_of m.0) (an_of st.word) (next_of found) × Learned (control_of m'.0)
 
 -- a load that changes no view: control learns what the rule says of its own
 abbrev pub Learns : At → Holder → ℕ → Holder → Type 0
