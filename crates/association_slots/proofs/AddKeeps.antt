@@ -229,7 +229,7 @@ module _ (c : ControlView) (ws : List ℕ) (vs : List View) (a : Around c ws vs)
         old_over m i = let o = a.ledger.over m i in (o.0, grows.least _ _ _ o.0 o.1, o.2)
 
     mine_after : Fits c us v'
-    mine_after = let s = seat_grows c ws c us grows v refl (λ z. z) mine in record {
+    mine_after = let s = seat_grows c ws c us grows a.settled v refl (λ z. z) mine in record {
       number = s.number;
       own = λ b i. ⊎_elim (λ is. ap (λ (y : Addition). y.seat) (sym is)) (mine.own b) i;
       own_over = λ m i. ⊎_elim (λ j. ap (λ (y : Mark). y.seat) (fair.fills m j).0) (mine.own_over m) (in_append m os v.over i);
@@ -311,7 +311,7 @@ module _ (c : ControlView) (ws : List ℕ) (vs : List View) (a : Around c ws vs)
       words = words_added c ws an ((w + 1) % 2 ^ 64) (wide c ws vs a) a.words (added_epoch w fits room) (added_flag w fits room) (let n = added_next w fits room in omega arith);
       settled = a.settled;
       seats = λ j u at_j. ⊎_elim (λ (t : (j ≡ id) × (Seat v' ≡ Seat u)). subst (λ (y : SeatView). Fits c us y × Follows xs y) (ap seat_of t.1) (mine_after, mine_waits))
-          (λ (t : (j ≢ id) × (get_elem? vs j ≡ some (Seat u))). let s = a.seats j u t.1 in (seat_grows c ws c us grows u refl (λ z. z) s.0, others_wait j u t.0 t.1 s.1)) (at_set vs id j (Seat v') (Seat u) at_j);
+          (λ (t : (j ≢ id) × (get_elem? vs j ≡ some (Seat u))). let s = a.seats j u t.1 in (seat_grows c ws c us grows a.settled u refl (λ z. z) s.0, others_wait j u t.0 t.1 s.1)) (at_set vs id j (Seat v') (Seat u) at_j);
       numbers = numbers_from vs xs (seat_back vs id v v' at refl) a.numbers;
       cards = cards_else c ws (number_of an) ((w + 1) % 2 ^ 64) (let few = number_of-few an in omega arith) a.cards;
       ledger = ledger;

@@ -56,7 +56,7 @@ writes n id m x is room s r _ at fits =
           (λ same. ap (λ (i : ℕ). get_or us (5 + i) 0) same ∙ (get_or-set_same s.words (5 + length c.card_words) x 0 (let z = a.cards.size in omega arith) ∙ (sym (at_end c.card_words x) ∙ ap (λ (i : ℕ). get_or d.card_words i 0) (sym same))))
           (λ ne. let e = length-append c.card_words (x ∷ []) in let before : j < length c.card_words = omega arith in get_or-set_other s.words (5 + length c.card_words) (5 + j) x 0 (λ y. ne (omega arith)) ∙ (a.cards.lie j before ∙ sym (in_front c.card_words (x ∷ []) j before)));
     } in
-    let kept : Around d us (set s.views 0 (Control d)) = control_steps c d s.words us s.views a (words_card c s.words (length c.card_words) x a.words) cards (settled_wrote c x a.settled) g (λ v. seat_grows c s.words d us g v refl (λ z. z)) refl refl refl (told_grows c s.words d us g refl refl refl a.told)
+    let kept : Around d us (set s.views 0 (Control d)) = control_steps c d s.words us s.views a (words_card c s.words (length c.card_words) x a.words) cards (settled_wrote c x a.settled) g (λ v. seat_grows c s.words d us g a.settled v refl (λ z. z)) refl refl refl (told_grows c s.words d us g refl refl refl a.told)
     (λ k. sums_grow c s.words d us g s.views _ a.settled a.ledger k (λ j _. let few = number_of-few j in inl (refl, ap next_of (get_or-set_other s.words (5 + length c.card_words) (number_of j) x 0 (λ y. omega arith)))) (λ f i. inl i) (λ f i. inl i) a.sums) in (
       Control d,
       keeps,

@@ -155,7 +155,7 @@ raises n id m k e is shut above carded s r _ at fits =
     (λ _. inr (next, above)) (λ j ne _. inl (refl, ap next_of (get_or-set_other s.words (number_of k) (number_of j) w 0 ne))) in
     let kept : Around d us (set s.views 0 (Control d)) = control_steps c d s.words us s.views a
     (words_slot c s.words k w x d.raises c.found c.loads a.settled.four long a.words (open_epoch e c.first low) (open_flag e c.first low) (let z = open_next e c.first low in omega arith))
-    (same_cards c d us refl refl (cards_else c s.words (number_of k) w (omega arith) a.cards)) (settled_raised c k e shut above carded a.settled) g (λ v. seat_grows c s.words d us g v refl (λ z. z)) refl refl refl (told_grows c s.words d us g refl refl refl a.told)
+    (same_cards c d us refl refl (cards_else c s.words (number_of k) w (omega arith) a.cards)) (settled_raised c k e shut above carded a.settled) g (λ v. seat_grows c s.words d us g a.settled v refl (λ z. z)) refl refl refl (told_grows c s.words d us g refl refl refl a.told)
     (λ m. sums_grow c s.words d us g s.views _ a.settled a.ledger m slots (λ f i. inl i) (λ f i. inl i) a.sums) in (
       Control d,
       keeps,
@@ -178,7 +178,7 @@ shuts n id m k is opened away s r _ at fits =
     let New : NextSeen → Type 0 = λ f. (0 < f.epoch) × ((slot c f.an).epoch ≡ f.epoch) × (f.next ≡ next_of (get_or s.words (number_of f.an) 0)) in
     let kept : Around d us (set s.views 0 (Control d)) = control_steps c d s.words us s.views a
     (words_slot c s.words k w' x c.raises d.found c.loads a.settled.four long a.words (shut_epoch w ∙ a.words.epochs k) (shut_flag w) (let z = shut_next w in omega arith))
-    (same_cards c d us refl refl (cards_else c s.words (number_of k) w' (omega arith) a.cards)) (settled_closed c k (next_of w) opened away a.settled) g (λ v. seat_grows c s.words d us g v refl (λ z. z)) refl refl refl (told_grows c s.words d us g refl refl refl a.told)
+    (same_cards c d us refl refl (cards_else c s.words (number_of k) w' (omega arith) a.cards)) (settled_closed c k (next_of w) opened away a.settled) g (λ v. seat_grows c s.words d us g a.settled v refl (λ z. z)) refl refl refl (told_grows c s.words d us g refl refl refl a.told)
     (λ m. sums_grow c s.words d us g s.views _ a.settled a.ledger m slots (λ f. ⊎_elim (λ e. inr (subst New e (a.settled.open_some k opened, refl, refl))) inl) (λ f i. inl i) a.sums) in (
       Control d,
       keeps,
@@ -198,7 +198,7 @@ stores : (n id : ℕ) (m : M) (w : ℕ) (p : Current) → m.0 ≡ Control (contr
 stores n id m w p is shows names later above low s r _ at fits =
     let c = control_of m.0 in let q = known s.words s.views id c r (at ∙ ap some is) in let a = q.1 in let d = pointed c p in let us = set s.words 4 w in
     let g = grown_pointed c s.words p w in
-    let kept : Around d us (set s.views 0 (Control d)) = control_steps c d s.words us s.views a (words_point c s.words w p (wide c s.words s.views a) a.words shows) (same_cards c d us refl refl (cards_else c s.words 4 w (omega arith) a.cards)) (settled_pointed c p names later above (low c a.settled refl) a.settled) g (λ v. seat_pointed c s.words us p v g later above) refl refl refl (record { noted = λ e i. inr (a.told.noted e i); reads = a.told.reads })
+    let kept : Around d us (set s.views 0 (Control d)) = control_steps c d s.words us s.views a (words_point c s.words w p (wide c s.words s.views a) a.words shows) (same_cards c d us refl refl (cards_else c s.words 4 w (omega arith) a.cards)) (settled_pointed c p names later above (low c a.settled refl) a.settled) g (λ v. seat_pointed c s.words us p v g a.settled later above) refl refl refl (record { noted = λ e i. inr (a.told.noted e i); reads = a.told.reads })
     (λ m. sums_grow c s.words d us g s.views _ a.settled a.ledger m (λ j _. let few = number_of-few j in inl (refl, ap next_of (get_or-set_other s.words 4 (number_of j) w 0 (λ z. omega arith)))) (λ f i. inl i) (λ f i. inl i) a.sums) in (
       Control d,
       keeps,
@@ -234,7 +234,7 @@ looks n id m k is opened s r _ at fits =
     ) in
     let kept : Around d s.words (set s.views 0 (Control d)) = control_steps c d s.words s.words s.views a
     (same_words_back s.words (number_of k) (IsAsLeft d) (words_slot c s.words k w x c.raises c.found d.loads a.settled.four (wide c s.words s.views a) a.words (a.words.epochs k) (a.words.shuts k) (omega arith)))
-    (same_cards c d s.words refl refl a.cards) (settled_looked c k (next_of w) a.settled) g (λ v. seat_grows c s.words d s.words g v refl (λ z. z)) refl refl refl (told_grows c s.words d s.words g refl refl refl a.told)
+    (same_cards c d s.words refl refl a.cards) (settled_looked c k (next_of w) a.settled) g (λ v. seat_grows c s.words d s.words g a.settled v refl (λ z. z)) refl refl refl (told_grows c s.words d s.words g refl refl refl a.told)
     (λ m. sums_grow c s.words d s.words g s.views _ a.settled a.ledger m slots (λ f i. inl i) (λ f. ⊎_elim (λ e. inr (subst New e news)) inl) a.sums) in (
       Control d,
       keeps,

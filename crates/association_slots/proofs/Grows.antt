@@ -66,8 +66,8 @@ module _ (c : ControlView) (ws : List ℕ) (d : ControlView) (us : List ℕ) (g 
   }
 
   -- the points stay
-  pub seat_grows : (v : SeatView) → d.points ≡ c.points → (get_or c.out (v.number - 1) false ≡ true → get_or d.out (v.number - 1) false ≡ true) → Fits c ws v → Fits d us v
-  seat_grows v same out ok = record {
+  pub seat_grows : Settled c → (v : SeatView) → d.points ≡ c.points → (get_or c.out (v.number - 1) false ≡ true → get_or d.out (v.number - 1) false ≡ true) → Fits c ws v → Fits d us v
+  seat_grows settled v same out ok = record {
     number = let n = ok.number in (n.0, n.1, out n.2);
     own = ok.own;
     own_over = ok.own_over;
@@ -78,7 +78,7 @@ module _ (c : ControlView) (ws : List ℕ) (d : ControlView) (us : List ℕ) (g 
     loaded = λ p i. let o = ok.loaded p i in let e = g.epochs p.an in (o.0, g.points _ o.1, omega (arith, o.2));
     noted = subst (λ (ps : List Current). (e : ℕ) → In e v.notes → WasAbsent ps e) (sym same) ok.noted;
     start = subst (λ (ps : List Current). (v.start.last ≤ (newest ps).epoch) × (v.start.present ≡ false → (newest ps).present ≡ true → v.start.last < (newest ps).epoch)) (sym same) ok.start;
-    given = λ f i. let o = ok.given f i in (g.raises _ o.0, o.1, g.least _ _ _ o.0 o.2);
+    given = λ f i. let o = ok.given f i in (g.points _ o.0, o.1, g.least _ _ _ ((settled.points_low _ o.0).1 refl) o.2);
     claims_rise = ok.claims_rise;
     not_below = ok.not_below;
     reads = reads_grow v.reads ok.reads;
@@ -113,8 +113,8 @@ module _ (c : ControlView) (ws : List ℕ) (d : ControlView) (us : List ℕ) (g 
           (λ f. ap one f) (cases_Bool (met j e a)))
 
 -- a seat's view, where the points grow
-pub seat_pointed : (c : ControlView) (ws us : List ℕ) (p : Current) (v : SeatView) → Grown c ws (pointed c p) us → (current c).epoch ≤ p.epoch → (p.present ≡ true → (current c).epoch < p.epoch) → Fits c ws v → Fits (pointed c p) us v
-seat_pointed c ws us p v g later above ok = record {
+pub seat_pointed : (c : ControlView) (ws us : List ℕ) (p : Current) (v : SeatView) → Grown c ws (pointed c p) us → Settled c → (current c).epoch ≤ p.epoch → (p.present ≡ true → (current c).epoch < p.epoch) → Fits c ws v → Fits (pointed c p) us v
+seat_pointed c ws us p v g settled later above ok = record {
   number = ok.number;
   own = ok.own;
   own_over = ok.own_over;
@@ -125,7 +125,7 @@ seat_pointed c ws us p v g later above ok = record {
   loaded = λ q i. let o = ok.loaded q i in (o.0, inr o.1, o.2);
   noted = λ e i. inr (ok.noted e i);
   start = let m = ok.start.0 in (omega arith, λ _ q. let a = above q in omega arith);
-  given = λ f i. let o = ok.given f i in (o.0, o.1, g.least _ _ _ o.0 o.2);
+  given = λ f i. let o = ok.given f i in (inr o.0, o.1, g.least _ _ _ ((settled.points_low _ o.0).1 refl) o.2);
   claims_rise = ok.claims_rise;
   not_below = ok.not_below;
   reads = ok.reads;

@@ -1,23 +1,25 @@
 -- A seat goes out, and comes back; and the table at the start.
-use Rattle.std.proofs.Common.{◌≡◌, ◌≢◌, ◌⊎◌, ℕ, zero, suc, ◌+◌, ◌-◌, ◌*◌, ◌^◌, ◌<◌, ◌≤◌, max, Bool, true, false, not, ◌&&◌, nat_le, cond, eqb, List, [], ◌∷◌, ◌++◌, length, get_or, set, refl, sym, ap, ◌∙◌, subst, inl, inr, ⊎_elim, arith, eq-eqb, length-set, get_or-set_other, get_or-set_same, replicate}
+use Rattle.std.proofs.Common.{◌≡◌, ◌≢◌, ◌⊎◌, ℕ, zero, suc, ◌+◌, ◌-◌, ◌*◌, ◌^◌, ◌<◌, ◌≤◌, max, Bool, true, false, not, ◌&&◌, ◌||◌, cond, eqb, List, [], ◌∷◌, ◌++◌, length, get_or, set, refl, sym, ap, ◌∙◌, subst, inl, inr, ⊎_elim, arith, eq-eqb, length-set, get_or-set_other, get_or-set_same, replicate}
 use Rattle.std.proofs.lemmas.List.{length-replicate}
 use mathlib.Core.Logic.{dite}
 use mathlib.Core.Option.{none, some, some-ne-none, some-injective}
 use native.Mathlib.Decide.{ℕ_discrete}
 use lib.ListN.{get_elem?}
-use Rattle.std.proofs.lemmas.Bool.{false≢true, eqb-true, and_parts, leb-true}
+use Rattle.std.proofs.lemmas.Bool.{false≢true, eqb-true, and_parts}
 use Rattle.atomic_table.specs.Table.{Splits, Joins, opening}
 use Rattle.atomic_table.proofs.Lists.{at_set, set_here, set_else, at_longer}
-use Rattle.lan_base.specs.AssociationNumbers.{number_of}
+use Rattle.lan_base.specs.AssociationNumbers.{number_of, same_an}
 use Rattle.lan_base.specs.declared.association_number.AssociationNumber.{AssociationNumber}
 use Rattle.lan_base.specs.declared.association_number.AssociationNumber.TheVariants.{An0, An1, An2, An3}
 use Rattle.association_slots.specs.Words.{epoch_of, flag_of, next_of, shown_by}
-use Rattle.association_slots.specs.Views.{In, Among, cons_if, slot, current, weigh, adds, overs, gones, one, met, claimed, of_seat, free, control_of, seat_of}
+use Rattle.association_slots.specs.Views.{told_sum, present_at, was_pointed, In, Among, cons_if, slot, current, weigh, adds, overs, gones, one, met, claimed, of_seat, free, control_of, seat_of}
 use Rattle.association_slots.specs.Steps.{at_first, above_claims, least_next, given_of, seated, new_seat, told}
 use Rattle.association_slots.specs.Rule.{AtLeast, Fits, Follows, Around, Slotted}
 use Rattle.association_slots.specs.Learned.{Learned}
 use Rattle.association_slots.proofs.Learning.{learned}
+use Rattle.association_slots.specs.declared.view.Current.{Current}
 use Rattle.association_slots.specs.declared.view.NextSeen.{NextSeen}
+use Rattle.association_slots.proofs.SlotNumbers.{same_number}
 use Rattle.association_slots.specs.declared.view.Addition.{Addition}
 use Rattle.association_slots.specs.declared.view.Mark.{Mark}
 use Rattle.association_slots.specs.declared.view.ControlView.{ControlView}
@@ -57,8 +59,20 @@ at_end [] w v (suc j) e = absurd (some-ne-none v (sym e))
 at_end (x ∷ vs) w v zero e = inl e
 at_end (x ∷ vs) w v (suc j) e = ⊎_elim inl (λ t. inr (ap suc t.0, t.1)) (at_end vs w v j e)
 
-in_given : (c : ControlView) (k : AssociationNumber) (f : NextSeen) (rest : List NextSeen) → In f (given_of c k rest) → (((slot c k).shut ≡ false) × ((slot c k).epoch ≤ (current c).epoch) × (least_next c k ≡ f)) ⊎ In f rest
-in_given c k f rest i = ⊎_elim (λ t. let p = and_parts _ _ t.0 in inl (not_true _ p.0, leb-true _ _ p.1, t.1)) inr (in_cons_if (not (slot c k).shut && nat_le (slot c k).epoch (current c).epoch) (least_next c k) f rest i)
+either : (a b : Bool) → (a || b) ≡ true → (a ≡ true) ⊎ (b ≡ true)
+either true b is = inl refl
+either false b is = inr is
+
+-- what was pointed at stands among the points
+in_points : (k : AssociationNumber) (e : ℕ) (ps : List Current) → was_pointed k e ps ≡ true → In (present_at k e) ps
+in_points k e [] is = absurd (false≢true is)
+in_points k e (p ∷ ps) is = ⊎_elim
+    (λ here. let q = and_parts _ _ here in let r = and_parts _ _ q.1 in inl (λ i. record { epoch = eqb-true p.epoch e r.1 i; present = q.0 i; an = same_number p.an k (eqb-true (number_of p.an) (number_of k) r.0) i }))
+    (λ more. inr (in_points k e ps more))
+    (either (p.present && (same_an p.an k && (eqb p.epoch e))) (was_pointed k e ps) is)
+
+in_given : (c : ControlView) (k : AssociationNumber) (f : NextSeen) (rest : List NextSeen) → In f (given_of c k rest) → (((slot c k).shut ≡ false) × In (present_at k (slot c k).epoch) c.points × (least_next c k ≡ f)) ⊎ In f rest
+in_given c k f rest i = ⊎_elim (λ t. let p = and_parts _ _ t.0 in inl (not_true _ p.0, in_points k (slot c k).epoch c.points p.1, t.1)) inr (in_cons_if (not (slot c k).shut && was_pointed k (slot c k).epoch c.points) (least_next c k) f rest i)
 
 max_low : (x y n : ℕ) → x ≤ n → y ≤ n → max x y ≤ n
 max_low x y n a b = omega arith
@@ -88,6 +102,13 @@ given_fits c ws vs a k opened = let z = a.settled.open_some k opened in let e : 
         let here : b.an ≡ k = once c.raises a.settled.rise (b.an, b.met) (k, (slot c k).epoch) m.raised (a.settled.slot_raised k (a.settled.open_some k opened)) at in
         (subst (λ (t : AssociationNumber × ℕ). AtLeast c ws t.0 t.1 (b.pn + 1)) (λ j. (here j, at j)) (m.claim is).3).now (opened, refl)
 
+-- the same in words of control alone
+pub counted_fits : (c : ControlView) (ws : List ℕ) (vs : List View) → Around c ws vs → (k : AssociationNumber) → (slot c k).shut ≡ false → (least_next c k).next ≤ next_of (get_or ws (number_of k) 0)
+counted_fits c ws vs a k opened = (given_fits c ws vs a k opened).1.now (opened, refl)
+
+pub counted_low : (c : ControlView) (k : AssociationNumber) (e : ℕ) → (slot c k).epoch ≡ e → told_sum c k e ≤ (least_next c k).next
+counted_low c k e is = subst (λ (n : ℕ). told_sum c k n ≤ (least_next c k).next) is (omega arith)
+
 pub splits : (id : ℕ) (v : View) → v ≡ Control (control_of v) → free (control_of v).out < 8 → Splits Slotted id v (Control (seated (control_of v))) (Seat (new_seat (control_of v)))
 splits id v is room s r at =
     let c = control_of v in let q = known s.words s.views id c r (at ∙ ap some is) in
@@ -99,7 +120,7 @@ splits id v is room s r at =
       alone = λ j x e. ⊎_elim (λ t. ⊎_elim (λ u. u.0) (λ u. a.alone j x u.1) (at_set vs 0 j (Control d) (Control x) t)) (λ t. absurd (not_both x n (sym t.1))) (at_end ys (Seat n) (Control x) j e);
       words = words_out c ws d.out c.told c.told_over c.told_gone c.told_notes c.told_reads a.words;
       settled = settled_out c d.out c.told c.told_over c.told_gone c.told_notes c.told_reads (length-set c.out (free c.out) true ∙ a.settled.eight) a.settled;
-      seats = λ j u e. ⊎_elim (λ t. let o = old j u t in let s = a.seats j u o in (seat_grows c ws d ws g u refl (stays u) s.0, follows_moved vs xs u moved s.1)) (λ t. subst (λ (y : SeatView). Fits d ws y × Follows xs y) (ap seat_of t.1) (fresh, fresh_waits)) (at_end ys (Seat n) (Seat u) j e);
+      seats = λ j u e. ⊎_elim (λ t. let o = old j u t in let s = a.seats j u o in (seat_grows c ws d ws g a.settled u refl (stays u) s.0, follows_moved vs xs u moved s.1)) (λ t. subst (λ (y : SeatView). Fits d ws y × Follows xs y) (ap seat_of t.1) (fresh, fresh_waits)) (at_end ys (Seat n) (Seat u) j e);
       numbers = numbers;
       cards = same_cards c d ws refl refl a.cards;
       ledger = ledger_grows c ws d ws g vs xs moved a.ledger;
@@ -165,8 +186,8 @@ splits id v is room s r at =
           reads = λ r i. absurd i;
         }
           where
-            gift : (k : AssociationNumber) → (f : NextSeen) → ((slot c k).shut ≡ false) × ((slot c k).epoch ≤ (current c).epoch) × (least_next c k ≡ f) → In (f.an, f.epoch) c.raises × (f.epoch ≤ (current c).epoch) × AtLeast d ws f.an f.epoch f.next
-            gift k f t = let z = given_fits c ws vs a k t.0 in subst (λ (x : NextSeen). In (x.an, x.epoch) c.raises × (x.epoch ≤ (current c).epoch) × AtLeast d ws x.an x.epoch x.next) t.2 (z.0, t.1, record { now = z.1.now; then = z.1.then })
+            gift : (k : AssociationNumber) → (f : NextSeen) → ((slot c k).shut ≡ false) × In (present_at k (slot c k).epoch) c.points × (least_next c k ≡ f) → In (present_at f.an f.epoch) c.points × (f.epoch ≤ (current c).epoch) × AtLeast d ws f.an f.epoch f.next
+            gift k f t = let z = given_fits c ws vs a k t.0 in subst (λ (x : NextSeen). In (present_at x.an x.epoch) c.points × (x.epoch ≤ (current c).epoch) × AtLeast d ws x.an x.epoch x.next) t.2 (t.1, (a.settled.points_low _ t.1).0, record { now = z.1.now; then = z.1.then })
 
         fresh_waits : Follows xs n
         fresh_waits = record {
@@ -210,7 +231,7 @@ joins id v other w is is_seat s r at apart at_other =
       alone = λ j x e. ⊎_elim (λ t. absurd (spent_is_no_control x t.1)) (λ t. ⊎_elim (λ k. k.0) (λ k. a.alone j x k.1) (at_set vs 0 j (Control d) (Control x) t.1)) (at_set ys o j Spent (Control x) e);
       words = words_out c ws d.out d.told d.told_over d.told_gone d.told_notes d.told_reads a.words;
       settled = settled_out c d.out d.told d.told_over d.told_gone d.told_notes d.told_reads (length-set c.out (u.number - 1) false ∙ a.settled.eight) a.settled;
-      seats = λ j y e. let b = back j y e in let s = a.seats j y b.1 in (seat_grows c ws d ws g y refl (stays j y b.0 b.1) s.0, follows_moved vs xs y moved s.1);
+      seats = λ j y e. let b = back j y e in let s = a.seats j y b.1 in (seat_grows c ws d ws g a.settled y refl (stays j y b.0 b.1) s.0, follows_moved vs xs y moved s.1);
       numbers = numbers_from vs xs (λ j y e. (y, (back j y e).1, refl)) a.numbers;
       cards = same_cards c d ws refl refl a.cards;
       ledger = ledger_grows c ws d ws g vs xs moved a.ledger;

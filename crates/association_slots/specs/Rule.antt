@@ -109,8 +109,8 @@ pub record Fits (c : ControlView) (words : List ℕ) (v : SeatView) : Type 0 whe
   -- only now one is present
   pub start : (v.start.last ≤ (current c).epoch) × (v.start.present ≡ false
       → (current c).present ≡ true → v.start.last < (current c).epoch)
-  -- the least next numbers that it was given
-  pub given : (f : NextSeen) → In f v.start.given → In (f.an, f.epoch) c.raises
+  -- the least next numbers that it was given, of epochs that were pointed at
+  pub given : (f : NextSeen) → In f v.start.given → In (present_at f.an f.epoch) c.points
       × (f.epoch ≤ v.start.last) × AtLeast c words f.an f.epoch f.next
   -- its claims rise, and are not below what it was given
   pub claims_rise : ClaimsRise v.additions

@@ -1,7 +1,7 @@
 -- How each step changes the view of the one that makes it.
-use Rattle.std.specs.Prelude.{ℕ, ◌+◌, ◌-◌, ◌^◌, max, List, [], ◌∷◌, ◌++◌, Bool, true, false, not, cond, ◌&&◌, ◌==◌, nat_lt, nat_le, replicate, slice_set}
+use Rattle.std.specs.Prelude.{ℕ, ◌+◌, ◌-◌, ◌^◌, max, List, [], ◌∷◌, ◌++◌, Bool, true, false, not, cond, ◌&&◌, ◌==◌, nat_lt, replicate, slice_set}
 use Rattle.association_slots.specs.Words.{epoch_of, flag_of, next_of}
-use Rattle.association_slots.specs.Views.{cons_if, blank_slot, slot, current, absent_after, free, free_number, of_seat, mark, told_sum}
+use Rattle.association_slots.specs.Views.{cons_if, blank_slot, slot, current, absent_after, free, free_number, of_seat, mark, told_sum, was_pointed}
 use Rattle.lan_base.specs.AssociationNumbers.{number_of}
 use Rattle.lan_base.specs.declared.association_number.AssociationNumber.{AssociationNumber}
 use Rattle.lan_base.specs.declared.association_number.AssociationNumber.TheVariants.{An0, An1, An2, An3}
@@ -99,11 +99,11 @@ least_next c an = let epoch = (slot c an).epoch in record {
   next = max (slot c an).seen (max (told_sum c an epoch) (above_claims epoch c.told));
 }
 
--- for a slot that is open with an epoch no later than the last one pointed at
+-- for a slot that is open with an epoch that was pointed at under its AN
 abbrev pub given_of : ControlView → AssociationNumber → List NextSeen → List NextSeen
 given_of c an rest =
-    cons_if (not (slot c an).shut && nat_le (slot c an).epoch (current c).epoch)
-    (least_next c an) rest
+    cons_if (not (slot c an).shut && was_pointed an (slot c an).epoch c.points) (least_next c an)
+    rest
 
 abbrev pub start_of : ControlView → Start
 start_of c = record {

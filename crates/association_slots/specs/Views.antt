@@ -1,5 +1,5 @@
 -- How the views are read: of control, of a seat, and of all of them together.
-use Rattle.std.specs.Prelude.{◌≡◌, ◌⊎◌, ℕ, suc, ◌+◌, ◌<◌, max, Bool, true, false, not, ◌&&◌, ◌==◌, List, [], ◌∷◌, slice_index_or}
+use Rattle.std.specs.Prelude.{◌≡◌, ◌⊎◌, ℕ, suc, ◌+◌, ◌<◌, max, Bool, true, false, not, ◌&&◌, ◌||◌, ◌==◌, List, [], ◌∷◌, slice_index_or}
 use Rattle.atomic_table.specs.Seated.{TableId}
 use Rattle.lan_base.specs.AssociationNumbers.{number_of, same_an}
 use Rattle.lan_base.specs.declared.association_number.AssociationNumber.{AssociationNumber}
@@ -62,6 +62,12 @@ IsOpen c an epoch = ((slot c an).shut ≡ false) × ((slot c an).epoch ≡ epoch
 -- the epoch was shut at that slot
 abbrev pub WasShut : ControlView → AssociationNumber → ℕ → Type 0
 WasShut c an epoch = (f : NextSeen) × In f c.found × (f.an ≡ an) × (f.epoch ≡ epoch)
+
+-- the epoch was pointed at under the AN
+abbrev pub was_pointed : AssociationNumber → ℕ → List Current → Bool
+was_pointed an epoch [] = false
+was_pointed an epoch (p ∷ ps) =
+    (p.present && (same_an p.an an && (p.epoch == epoch))) || was_pointed an epoch ps
 
 -- the greatest raised epoch
 abbrev pub top : List (AssociationNumber × ℕ) → ℕ

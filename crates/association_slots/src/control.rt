@@ -183,7 +183,8 @@ impl Control {
         requires room { free_number self.old.view ≤ 8 }
         ensures control { self.new ≡ record self.old { view = seated self.old.view } }
         ensures seat { result ≡ record { table = self.old.table; view = new_seat self.old.view } }
-        ensures learned { Learned self.old.view × Learned self.new.view }
+        ensures before { Learned self.old.view }
+        ensures learned { Learned self.new.view }
     {
         table.table.shared.load::<Learn>(&mut self.place, 4);
         let free = free_place(&self.out);

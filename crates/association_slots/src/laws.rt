@@ -1,11 +1,13 @@
 //! What the rule of a table says: each of these holds between any two steps of any number of
 //! threads.
-ghost use Rattle.std.specs.Prelude.{◌≡◌, ◌≢◌, ◌⊎◌, ℕ, ◌+◌, ◌^◌, ◌<◌, ◌≤◌, Bool, List, true, false, slice_index};
+ghost use Rattle.std.specs.Prelude.{◌≡◌, ◌≢◌, ◌⊎◌, ℕ, ◌+◌, ◌++◌, ◌^◌, ◌<◌, ◌≤◌, Bool, List, true, false, slice_index};
 ghost use mathlib.Core.Option.{some};
 ghost use lib.ListN.{get_elem?};
-ghost use Rattle.association_slots.specs.Cards.{Knows, card_at};
+ghost use Rattle.association_slots.specs.Cards.{Knows, card_at, card_words, cards_given};
+ghost use Rattle.association_slots.specs.Learned.{Learned};
+ghost use Rattle.association_slots.specs.Steps.{least_next};
 ghost use Rattle.association_slots.specs.Rule.{Around, AtLeast, ClaimsRise, HoldsCards, IsAsLeft, Rise, tagged};
-ghost use Rattle.association_slots.specs.Views.{In, Among, adds, overs, gones, slot, present_at, IsOpen, WasShut, WasAbsent, met, lost, claimed, count_all};
+ghost use Rattle.association_slots.specs.Views.{AllIn, In, Among, count, told_sum, adds, overs, gones, slot, present_at, IsOpen, WasShut, WasAbsent, met, lost, claimed, count_all};
 ghost use Rattle.association_slots.specs.Words.{epoch_of, flag_of, next_of, an_of};
 ghost use Rattle.lan_base.specs.AssociationNumbers.{number_of};
 ghost use Rattle.lan_base.specs.declared.association_number.AssociationNumber.{AssociationNumber};
@@ -80,6 +82,29 @@ pub fn law_claims_rise()
         → (i : ℕ) (v : SeatView) → get_elem? views i ≡ some (Seat v) → ClaimsRise v.additions
         × ((f : NextSeen) (a : Addition) → In f v.start.given → In a v.additions → a.claimed ≡ true
         → a.an ≡ f.an → a.met ≡ f.epoch → f.next ≤ a.pn) }
+{}
+
+/// At most sixteen numbers of an epoch are lost, of what control was told.
+pub fn law_few_numbers_are_lost()
+    ensures { (c : ControlView) → Learned c → (an : AssociationNumber) (epoch : ℕ)
+        → count (lost an epoch) c.told ≤ 16 }
+{}
+
+/// Of an open slot, the next number that control counts is not above the word's, also where control
+/// gives it to a new seat; with no seat out it is the word's.
+pub fn law_counted_next()
+    ensures { (c : ControlView) (words : List ℕ) (views : List View) → Around c words views
+        → (an : AssociationNumber) (epoch : ℕ) → IsOpen c an epoch
+        → (told_sum c an epoch ≤ (least_next c an).next)
+        × ((least_next c an).next ≤ next_of (slice_index words (number_of an)))
+        × (AllIn c → next_of (slice_index words (number_of an)) ≡ told_sum c an epoch) }
+{}
+
+/// The cards of earlier epochs stay when one is given.
+pub fn law_earlier_cards_stay()
+    ensures { (c : ControlView) (card : Card) (epoch : ℕ) → 0 < epoch → epoch ≤ cards_given c
+        → card_at (record c { card_words = c.card_words ++ card_words card }) epoch
+        ≡ card_at c epoch }
 {}
 
 /// A slot's next number is the first one, and one more for each addition that met its epoch. What
@@ -159,12 +184,13 @@ pub fn law_start()
         → v.start.last < epoch_of (slice_index words 4)) }
 {}
 
-/// A next number that a seat was given when it was made is of an epoch that was raised on its slot
-/// and is not above the last one then; the slot shows no less, or showed no less when it was shut.
+/// A next number that a seat was given when it was made is of an epoch that was pointed at under
+/// its AN and is not above the last one then; the slot shows no less, or showed no less when it was
+/// shut.
 pub fn law_given()
     ensures { (c : ControlView) (words : List ℕ) (views : List View) → Around c words views
         → (i : ℕ) (v : SeatView) → get_elem? views i ≡ some (Seat v)
-        → (f : NextSeen) → In f v.start.given → In (f.an, f.epoch) c.raises
+        → (f : NextSeen) → In f v.start.given → In (present_at f.an f.epoch) c.points
         × (f.epoch ≤ v.start.last) × AtLeast c words f.an f.epoch f.next }
 {}
 

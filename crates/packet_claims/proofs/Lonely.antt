@@ -1,13 +1,13 @@
 -- A claim with no other seat out.
-use Rattle.std.proofs.Common.{◌≡◌, ◌⊎◌, ℕ, zero, suc, ◌+◌, ◌-◌, ◌^◌, ◌<◌, ◌≤◌, Bool, true, false, not, ◌&&◌, nat_le, List, [], ◌∷◌, ◌++◌, map, length, get_or, set, Result, Ok, Err, MatchResult, refl, sym, ap, ◌∙◌, subst, inl, inr, ⊎_elim, arith, eq-eqb, le-leb, length-set, get_or-set_other, get_or-set_same}
+use Rattle.std.proofs.Common.{◌≡◌, ◌⊎◌, ℕ, zero, suc, ◌+◌, ◌-◌, ◌^◌, ◌<◌, ◌≤◌, Bool, true, false, not, ◌&&◌, ◌||◌, List, [], ◌∷◌, ◌++◌, map, length, get_or, set, Result, Ok, Err, MatchResult, refl, sym, ap, ◌∙◌, subst, inl, inr, ⊎_elim, arith, eq-eqb, length-set, get_or-set_other, get_or-set_same}
 use mathlib.Core.Logic.{dite}
 use native.Mathlib.Decide.{ℕ_discrete}
-use Rattle.std.proofs.lemmas.Bool.{and_from}
+use Rattle.std.proofs.lemmas.Bool.{and_from, false≢true}
 use Rattle.lan_base.specs.declared.association_number.AssociationNumber.{AssociationNumber}
 use Rattle.lan_base.specs.declared.association_number.AssociationNumber.TheVariants.{An0, An1, An2, An3}
 use Rattle.lan_base.specs.AssociationNumbers.{number_of}
 use Rattle.association_slots.specs.Cards.{Knows}
-use Rattle.association_slots.specs.Views.{In, slot, current, present_at, IsOpen, AllIn, free, free_number, weigh, one, met, told_sum}
+use Rattle.association_slots.specs.Views.{newest, was_pointed, In, slot, current, present_at, IsOpen, AllIn, free, free_number, weigh, one, met, told_sum}
 use Rattle.association_slots.specs.Steps.{seated, new_seat, told, least_next, given_of}
 use Rattle.association_slots.specs.Learned.{Learned}
 use Rattle.association_slots.specs.declared.card.Card.{Card}
@@ -31,15 +31,24 @@ in_map a (x ∷ xs) i = ⊎_elim (λ e. inl (ap gone_mark e)) (λ j. inr (in_map
 knows_more : (reads more : List (ℕ × ℕ)) (epoch : ℕ) (card : Card) → Knows reads epoch card → Knows (reads ++ more) epoch card
 knows_more reads more epoch card k = (k.0, k.1, k.2, k.3, k.4, in_left _ reads more k.5, in_left _ reads more k.6, in_left _ reads more k.7, in_left _ reads more k.8, in_left _ reads more k.9, k.10)
 
--- Of each slot that is open with an epoch no later than the current one, a seat is given the least next number
+-- Of each slot that is open with an epoch that was pointed at, a seat is given the least next number
 
-here : (c : ControlView) (an : AssociationNumber) (rest : List NextSeen) → (not (slot c an).shut && nat_le (slot c an).epoch (current c).epoch) ≡ true → In (least_next c an) (given_of c an rest)
-here c an rest is = at_cons_if (not (slot c an).shut && nat_le (slot c an).epoch (current c).epoch) (least_next c an) rest is
+here : (c : ControlView) (an : AssociationNumber) (rest : List NextSeen) → (not (slot c an).shut && was_pointed an (slot c an).epoch c.points) ≡ true → In (least_next c an) (given_of c an rest)
+here c an rest is = at_cons_if (not (slot c an).shut && was_pointed an (slot c an).epoch c.points) (least_next c an) rest is
 
 past : (c : ControlView) (an : AssociationNumber) (f : NextSeen) (rest : List NextSeen) → In f rest → In f (given_of c an rest)
-past c an f rest i = behind_cons_if (not (slot c an).shut && nat_le (slot c an).epoch (current c).epoch) (least_next c an) f rest i
+past c an f rest i = behind_cons_if (not (slot c an).shut && was_pointed an (slot c an).epoch c.points) (least_next c an) f rest i
 
-given_at : (c : ControlView) (j : AssociationNumber) → (not (slot c j).shut && nat_le (slot c j).epoch (current c).epoch) ≡ true → In (least_next c j) (given_of c An0 (given_of c An1 (given_of c An2 (given_of c An3 []))))
+-- the current key was pointed at
+newest_pointed : (ps : List Current) → (newest ps).present ≡ true → was_pointed (newest ps).an (newest ps).epoch ps ≡ true
+newest_pointed [] is = absurd (false≢true is)
+newest_pointed (p ∷ ps) is = left_of _ _ (and_from _ _ is (and_from _ _ (eq-eqb (number_of p.an) (number_of p.an) refl) (eq-eqb p.epoch p.epoch refl)))
+  where
+    left_of : (a b : Bool) → a ≡ true → (a || b) ≡ true
+    left_of true b t = refl
+    left_of false b t = absurd (false≢true t)
+
+given_at : (c : ControlView) (j : AssociationNumber) → (not (slot c j).shut && was_pointed j (slot c j).epoch c.points) ≡ true → In (least_next c j) (given_of c An0 (given_of c An1 (given_of c An2 (given_of c An3 []))))
 given_at c An0 o = here c An0 (given_of c An1 (given_of c An2 (given_of c An3 []))) o
 given_at c An1 o = past c An0 (least_next c An1) (given_of c An1 (given_of c An2 (given_of c An3 []))) (here c An1 (given_of c An2 (given_of c An3 [])) o)
 given_at c An2 o = past c An0 (least_next c An2) (given_of c An1 (given_of c An2 (given_of c An3 []))) (past c An1 (least_next c An2) (given_of c An2 (given_of c An3 [])) (here c An2 (given_of c An3 []) o))
@@ -105,7 +114,7 @@ module _ (c : ControlView) (w : SeatView) (known : Learned c) (back : Learned (t
     one_low false = omega arith
 
     given_here : In (least_next c an) (new_seat c).start.given
-    given_here = given_at c an (and_from _ _ (ap not is_open.0) (le-leb _ _ (let z = is_open.1 in omega arith)))
+    given_here = given_at c an (and_from _ _ (ap not is_open.0) (subst (λ (n : ℕ). was_pointed an n c.points ≡ true) (sym is_open.1) (newest_pointed c.points present)))
 
     least_low : told_sum c an e ≤ (least_next c an).next
     least_low = let z : told_sum c an (slot c an).epoch ≡ told_sum c an e = ap (told_sum c an) is_open.1 in omega arith

@@ -37,9 +37,10 @@ new-requires-clause-overshot c =
       subst (λ (v : SeatView). (m : Mark) → In m v.over → m.seat ≡ v.number) (sym view) (λ m i. (in_of_seat (free_number (control_of c.self.inside.place.me.0)) m (control_of c.self.inside.place.me.0).told_over i).1),
     )
 
+pub returns-clause-before : goal.returns-clause-before
+returns-clause-before c = subst Learned (ap (λ (v : ControlAt). v.view) c.self.view_is) c.load.ensures.2.1
+
 pub returns-clause-learned : goal.returns-clause-learned
 returns-clause-learned c =
-    let is = ap (λ (v : ControlAt). v.view) c.self.view_is in let room = subst (λ (d : ControlView). free_number d ≤ 8) (sym is) c.requires.room in let old = c.load.ensures.2.1 in (
-      subst Learned is old,
-      subst (λ (m : Me ℕ View). Learned (control_of m.0)) (sym c.split_seat-place.ensures.2) (subst (λ (m : Me ℕ View). Learned (seated (control_of m.0))) (sym c.load.ensures.2.0) (learned_out (control_of c.self.inside.place.me.0) (omega (arith, room)) old)),
-    )
+    let room = subst (λ (d : ControlView). free_number d ≤ 8) (sym (ap (λ (v : ControlAt). v.view) c.self.view_is)) c.requires.room in
+    subst (λ (m : Me ℕ View). Learned (control_of m.0)) (sym c.split_seat-place.ensures.2) (subst (λ (m : Me ℕ View). Learned (seated (control_of m.0))) (sym c.load.ensures.2.0) (learned_out (control_of c.self.inside.place.me.0) (omega (arith, room)) c.load.ensures.2.1))
