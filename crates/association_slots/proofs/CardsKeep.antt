@@ -1,5 +1,5 @@
 -- Card words are stored once, and read.
-use Rattle.std.proofs.Common.{◌≡◌, ◌≢◌, ◌⊎◌, ℕ, ◌+◌, ◌-◌, ◌*◌, ◌<◌, ◌≤◌, List, [], ◌∷◌, ◌++◌, length, get_or, set, refl, sym, ap, ◌∙◌, subst, inl, ⊎_elim, arith, length-set, length-append, get_or-set_other, get_or-set_same}
+use Rattle.std.proofs.Common.{◌≡◌, ◌≢◌, ℕ, ◌+◌, ◌-◌, ◌*◌, ◌<◌, ◌≤◌, List, [], ◌∷◌, ◌++◌, length, get_or, set, refl, sym, ap, ◌∙◌, subst, inl, ⊎_elim, arith, length-set, length-append, get_or-set_other, get_or-set_same}
 use Rattle.std.proofs.lemmas.List.{set-get_or}
 use mathlib.Core.Logic.{dite}
 use mathlib.Core.Option.{none, some}
@@ -11,7 +11,7 @@ use Rattle.lan_base.specs.AssociationNumbers.{number_of}
 use Rattle.lan_base.specs.declared.association_number.AssociationNumber.{AssociationNumber}
 use Rattle.lan_base.proofs.Public.{number_of-few}
 use Rattle.association_slots.specs.Words.{epoch_of, flag_of, next_of, shown_by}
-use Rattle.association_slots.specs.Views.{In, HasLoaded, slot, control_of, seat_of}
+use Rattle.association_slots.specs.Views.{HasLoaded, slot, control_of, seat_of}
 use Rattle.association_slots.specs.Steps.{wrote, did_read}
 use Rattle.association_slots.specs.Rule.{IsAsLeft, HoldsCards, Fits, Follows, Around, Slotted}
 use Rattle.association_slots.specs.inside.Plays.{Writes, Reads}

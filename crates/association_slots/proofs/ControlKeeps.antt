@@ -1,5 +1,5 @@
 -- Each step of control, and a load by a seat, keeps the rule.
-use Rattle.std.proofs.Common.{◌≡◌, ◌≢◌, ◌⊎◌, ℕ, ◌+◌, ◌-◌, ◌*◌, ◌^◌, ◌<◌, ◌≤◌, Bool, true, false, List, [], ◌∷◌, length, get_or, set, refl, sym, ap, ◌∙◌, subst, inl, inr, ⊎_elim, arith, get_or-set_other, get_or-set_same}
+use Rattle.std.proofs.Common.{◌≡◌, ◌≢◌, ◌⊎◌, ℕ, ◌+◌, ◌*◌, ◌^◌, ◌<◌, ◌≤◌, Bool, true, false, List, [], ◌∷◌, length, get_or, set, refl, sym, ap, ◌∙◌, subst, inl, inr, ⊎_elim, arith, get_or-set_other, get_or-set_same}
 use Rattle.std.proofs.lemmas.List.{set-get_or}
 use mathlib.Core.Option.{none, some, some-ne-none, some-injective}
 use lib.ListN.{get_elem?}
@@ -10,7 +10,7 @@ use Rattle.atomic_table.proofs.Lists.{at_set, set_here, set_else, set_again}
 use Rattle.lan_base.specs.AssociationNumbers.{number_of}
 use Rattle.lan_base.specs.declared.association_number.AssociationNumber.{AssociationNumber}
 use Rattle.lan_base.proofs.Public.{number_of-few}
-use Rattle.association_slots.specs.Words.{an_of, epoch_of, flag_of, next_of, shown_by, open_word, present_word, absent_word}
+use Rattle.association_slots.specs.Words.{epoch_of, flag_of, next_of, shown_by, open_word, present_word, absent_word}
 use Rattle.association_slots.specs.Views.{In, slot, current, absent_after, present_at, IsOpen, top, control_of, seat_of, overs, gones}
 use Rattle.association_slots.specs.Steps.{loaded, raised, closed, pointed, looked}
 use Rattle.association_slots.specs.Rule.{IsAsLeft, HoldsCards, Settled, AtLeast, Fits, Follows, Sums, ToldFits, Around, Slotted}

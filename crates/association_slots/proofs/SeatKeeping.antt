@@ -1,5 +1,5 @@
 -- What the fields of a `WorkerSeat` keep, over its calls.
-use Rattle.std.proofs.Common.{◌≡◌, ◌⊎◌, ℕ, ◌+◌, ◌*◌, ◌<◌, ◌≤◌, max, Bool, true, false, [], Option, Some, slice_index, refl, sym, ap, subst, ⊎_elim, arith}
+use Rattle.std.proofs.Common.{◌≡◌, ℕ, ◌+◌, ◌*◌, ◌<◌, ◌≤◌, max, Bool, true, false, [], Option, Some, slice_index, refl, sym, ap, subst, ⊎_elim, arith}
 use Rattle.atomic_table.specs.Table.{Me}
 use Rattle.atomic_table.specs.Seated.{TableId}
 use Rattle.association_slots.specs.Views.{In, seat_of, greatest}

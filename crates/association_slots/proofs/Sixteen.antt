@@ -2,7 +2,7 @@
 use Rattle.std.proofs.Common.{◌≡◌, ◌⊎◌, ℕ, zero, suc, ◌+◌, ◌*◌, ◌<◌, ◌≤◌, Bool, true, false, not, List, [], ◌∷◌, refl, ap, ⊎_elim, arith, eq-eqb, eqb}
 use Rattle.std.proofs.lemmas.Bool.{false≢true, eqb-true, and_parts, and_from, cases_Bool, cases_eq}
 use Rattle.lan_base.specs.declared.association_number.AssociationNumber.{AssociationNumber}
-use Rattle.association_slots.specs.Views.{In, Among, adds, tally, one, met, lost, count}
+use Rattle.association_slots.specs.Views.{Among, adds, tally, one, lost, count}
 use Rattle.association_slots.specs.Learned.{Learned}
 use Rattle.association_slots.specs.Rule.{Ledger, tagged}
 use Rattle.association_slots.specs.declared.view.Addition.{Addition}

@@ -1,7 +1,7 @@
 -- What the rule says of control's view alone, so of all that seats told. Control learns it where a
 -- seat goes out and where one comes back.
 use Rattle.std.specs.Prelude.{◌≡◌, ◌⊎◌, ℕ, ◌+◌, ◌^◌, ◌<◌, ◌≤◌, Bool, true, false}
-use Rattle.association_slots.specs.Views.{In, present_at, IsOpen, WasShut, WasAbsent, AllIn, met, lost, claimed, count, told_sum}
+use Rattle.association_slots.specs.Views.{In, present_at, IsOpen, WasShut, WasAbsent, AllIn, lost, claimed, count, told_sum}
 use Rattle.association_slots.specs.Cards.{card_at, Knows}
 use Rattle.association_slots.specs.Rule.{Settled, tagged}
 use Rattle.lan_base.specs.declared.association_number.AssociationNumber.{AssociationNumber}

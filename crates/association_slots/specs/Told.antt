@@ -1,5 +1,5 @@
 -- What a seat's calls tell.
-use Rattle.std.specs.Prelude.{◌≡◌, ◌≢◌, ◌⊎◌, ℕ, ◌+◌, ◌^◌, ◌<◌, ◌≤◌, true, false, List, ◌++◌}
+use Rattle.std.specs.Prelude.{◌≡◌, ◌≢◌, ◌⊎◌, ℕ, ◌^◌, ◌<◌, ◌≤◌, true, false, List, ◌++◌}
 use Rattle.association_slots.specs.Words.{epoch_of, flag_of, next_of}
 use Rattle.association_slots.specs.Views.{In}
 use Rattle.association_slots.specs.Steps.{added}

@@ -1,5 +1,5 @@
 -- How the views are read: of control, of a seat, and of all of them together.
-use Rattle.std.specs.Prelude.{◌≡◌, ◌⊎◌, ℕ, suc, ◌+◌, ◌<◌, max, Bool, true, false, not, ◌&&◌, ◌||◌, ◌==◌, List, [], ◌∷◌, slice_index_or}
+use Rattle.std.specs.Prelude.{◌≡◌, ◌⊎◌, ℕ, suc, ◌+◌, max, Bool, true, false, not, ◌&&◌, ◌||◌, ◌==◌, List, [], ◌∷◌, slice_index_or}
 use Rattle.atomic_table.specs.Seated.{TableId}
 use Rattle.lan_base.specs.AssociationNumbers.{number_of, same_an}
 use Rattle.lan_base.specs.declared.association_number.AssociationNumber.{AssociationNumber}

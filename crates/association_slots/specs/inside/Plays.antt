@@ -1,14 +1,13 @@
 -- What each step on a word tells the one that makes it: its new view, from what the word showed,
 -- and what it may conclude.
-use Rattle.std.specs.Prelude.{◌≡◌, ℕ, ◌≤◌, false}
+use Rattle.std.specs.Prelude.{◌≡◌, ℕ, ◌≤◌}
 use Rattle.atomic_table.specs.Table.{Me, Step}
-use Rattle.association_slots.specs.Words.{an_of, epoch_of, flag_of, next_of, shown_by}
-use Rattle.association_slots.specs.Views.{In, slot, control_of, seat_of}
+use Rattle.association_slots.specs.Words.{an_of, epoch_of, next_of, shown_by}
+use Rattle.association_slots.specs.Views.{slot, control_of, seat_of}
 use Rattle.association_slots.specs.Steps.{wrote, raised, closed, looked, pointed, loaded, added, answer, did_read}
 use Rattle.association_slots.specs.Learned.{Learned, IsNext}
 use Rattle.association_slots.specs.Told.{Sees, Gives}
 use Rattle.lan_base.specs.declared.association_number.AssociationNumber.{AssociationNumber}
-use Rattle.association_slots.specs.declared.view.NextSeen.{NextSeen}
 use Rattle.association_slots.specs.declared.view.ControlView.{ControlView}
 use Rattle.association_slots.specs.declared.view.View.{View}
 use Rattle.association_slots.specs.declared.view.View.TheVariants.{Control, Seat}

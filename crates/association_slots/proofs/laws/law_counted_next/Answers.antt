@@ -1,4 +1,3 @@
-use Rattle.std.proofs.Common.{refl}
 use Rattle.association_slots.proofs.SeatsKeep.{counted_low, counted_fits}
 use Rattle.association_slots.proofs.Learning.{is_next}
 use Rattle.association_slots.proofs.laws.law_counted_next.Goals as goal

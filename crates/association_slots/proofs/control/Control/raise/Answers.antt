@@ -1,6 +1,6 @@
-use Rattle.std.proofs.Common.{rules, arith, ℕ, ◌≡◌, ◌<◌, ◌≤◌, true, ap, ◌∙◌, sym, subst}
+use Rattle.std.proofs.Common.{arith, ◌≡◌, ◌<◌, ◌≤◌, true, ap, ◌∙◌, sym, subst}
 use Rattle.atomic_table.specs.Seated.{TableId}
-use Rattle.association_slots.specs.Views.{ControlAt, control_of, slot, top}
+use Rattle.association_slots.specs.Views.{ControlAt, slot, top}
 use Rattle.association_slots.specs.declared.view.ControlView.{ControlView}
 use Rattle.association_slots.specs.Cards.{cards_given}
 use Rattle.association_slots.specs.Words.{open_word}
