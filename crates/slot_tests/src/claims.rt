@@ -1,84 +1,42 @@
 //! Numbers that seats claim on one thread and on several, and what stops them.
 
-ghost use Rattle.std.specs.Prelude.{◌≡◌, ◌≤◌, IfOk};
-
+use crate::desk::{CARD, Desk, opened};
 use aes_block::Secret;
-use association_slots::{Card, Cards, Control, SlotTable, WorkerSeat};
+use association_slots::{Card, Cards, SlotTable};
 use lan_base::AssociationNumber;
-use packet_claims::{Claim, NoClaim, OpenGate, claim, claim_alone};
-use std::alloc::{AllocError, Global};
+use packet_claims::{Claim, NoClaim, OpenGate, claim_alone};
 use std::test::Fail;
 use std::thread;
 
-/// A table, and the control of it.
-#[derive(Drop)]
-struct Desk<'a> {
-    table: &'a SlotTable,
-    control: Control,
-    ghost here: { control.table ≡ table.now },
+/// What a claim at one turn answers.
+struct Turn {
+    seat: usize,
+    answer: Result<u32, NoClaim>,
 }
 
-/// A table, a seat at it, and the numbers that it claimed.
-#[derive(Drop)]
-struct Hand<'a> {
-    table: &'a SlotTable,
-    seat: WorkerSeat,
-    numbers: [u32; 500],
-    ghost here: { seat.table ≡ table.now },
-}
-
-impl<'a> Desk<'a> {
-    /// Registers a card at the table, and gives its number.
-    fn card(&mut self, card: &Card) -> Result<u32, Cards> {
-        self.control.card(self.table, card)
-    }
-
-    /// A further seat at the table, where there is room.
-    fn sit(&mut self) -> Option<Hand<'a>> {
-        if !self.control.has_room() {
-            return None;
-        }
-        Some(Hand {
-            table: self.table,
-            seat: self.control.seat(self.table),
-            numbers: [0; 500],
-        })
-    }
-}
-
-impl<'a> Hand<'a> {
-    /// Claims the next number of the epoch that is current.
-    fn claim(&mut self) -> Result<Claim, NoClaim> {
-        claim(self.table, &mut self.seat, &OpenGate)
-    }
-
-    /// Claims 500 times, and keeps each number that it was given.
-    fn fill(&mut self) {
-        for place in 0..500 {
-            if let Ok(claim) = self.claim() {
-                self.numbers[place] = claim.pn;
-            }
-        }
-    }
-}
-
-/// A table whose first card's epoch is current under AN 1, with these cards and this first number.
-fn opened(
-    alloc: Global,
-    cards: u16,
-    first: u32,
-    card: &Card,
-) -> Result<(SlotTable, Control), AllocError>
-    requires { (1 ≤ cards) × (cards ≤ 4096) × (1 ≤ first) }
-    ensures { IfOk result (λ t. t.1.table ≡ t.0) }
-{
-    let (table, mut control) = SlotTable::new(alloc, cards, first)?;
-    if let Ok(epoch) = control.card(&table, card) {
-        control.raise(&table, AssociationNumber::An1, epoch);
-        control.point(&table, AssociationNumber::An1, epoch);
-    }
-    Ok((table, control))
-}
+/// The last two numbers of an epoch, and then none, whoever claims.
+const TURNS: [Turn; 5] = [
+    Turn {
+        seat: 0,
+        answer: Ok(4_294_967_294),
+    },
+    Turn {
+        seat: 1,
+        answer: Ok(4_294_967_295),
+    },
+    Turn {
+        seat: 2,
+        answer: Err(NoClaim::Exhausted { epoch: 1 }),
+    },
+    Turn {
+        seat: 0,
+        answer: Err(NoClaim::Exhausted { epoch: 1 }),
+    },
+    Turn {
+        seat: 2,
+        answer: Err(NoClaim::Exhausted { epoch: 1 }),
+    },
+];
 
 #[test]
 fn takes_turns_at_the_last_numbers(rt: HostRuntime) -> Result<(), Fail> {
@@ -89,27 +47,12 @@ fn takes_turns_at_the_last_numbers(rt: HostRuntime) -> Result<(), Fail> {
             table: &table,
             control,
         };
-        let mut hands = [
-            desk.sit(),
-            desk.sit(),
-            desk.sit(),
-            desk.sit(),
-            desk.sit(),
-            desk.sit(),
-            desk.sit(),
-            desk.sit(),
-        ];
-        assert!(rt; desk.sit().is_none());
-        for turn in 0..10usize {
-            let hand = hands[turn % 8].as_mut().ok_or("a seat")?;
-            let want = match turn {
-                0 => Ok(4_294_967_294),
-                1 => Ok(4_294_967_295),
-                _ => Err(NoClaim::Exhausted { epoch: 1 }),
-            };
-            let claim = hand.claim();
-            assert_eq!(rt; claim.map(|claim| claim.pn), want);
-            if let Ok(claim) = claim {
+        let mut hands = [desk.sit(), desk.sit(), desk.sit()];
+        for turn in &TURNS {
+            let hand = hands[turn.seat].as_mut().ok_or("a seat")?;
+            let answer = hand.claim(&OpenGate);
+            assert_eq!(rt; answer.map(|claim| claim.pn), turn.answer);
+            if let Ok(claim) = answer {
                 assert_eq!(rt;
                     claim,
                     Claim {
@@ -128,6 +71,21 @@ fn takes_turns_at_the_last_numbers(rt: HostRuntime) -> Result<(), Fail> {
 }
 
 #[test]
+fn gives_out_eight_seats(rt: HostRuntime) -> Result<(), Fail> {
+    let (table, control) = opened(rt.alloc(), 1, 1, &CARD)?;
+    let mut desk = Desk {
+        table: &table,
+        control,
+    };
+    for number in 1..=8u8 {
+        let hand = desk.sit().ok_or("a seat")?;
+        assert_eq!(rt; hand.seat.number(), number);
+    }
+    assert!(rt; desk.sit().is_none());
+    Ok(())
+}
+
+#[test]
 fn claims_nothing_before_it_is_pointed_at(rt: HostRuntime) -> Result<(), Fail> {
     let (table, mut control) = SlotTable::new(rt.alloc(), 1, 1)?;
     assert!(rt; control.has_room());
@@ -138,11 +96,7 @@ fn claims_nothing_before_it_is_pointed_at(rt: HostRuntime) -> Result<(), Fail> {
 
 #[test]
 fn gives_each_number_once_to_two_threads(rt: HostRuntime) -> Result<(), Fail> {
-    let card = Card {
-        sak: Secret::S128([7; 16]),
-        conf: false,
-    };
-    let (table, control) = opened(rt.alloc(), 1, 1, &card)?;
+    let (table, control) = opened(rt.alloc(), 1, 1, &CARD)?;
     let mut desk = Desk {
         table: &table,
         control,

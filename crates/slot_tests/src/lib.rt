@@ -4,4 +4,6 @@
 #[cfg(test)]
 mod claims;
 #[cfg(test)]
+mod desk;
+#[cfg(test)]
 mod words;
