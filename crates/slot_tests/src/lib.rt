@@ -6,4 +6,6 @@ mod claims;
 #[cfg(test)]
 mod desk;
 #[cfg(test)]
+mod gates;
+#[cfg(test)]
 mod words;
