@@ -54,7 +54,8 @@ pub record Learned (c : ControlView) : Type 0 where
   pub additions : (a : Addition) → In a c.told → IsTold c a
   pub differ : (epoch pn : ℕ) → count (claimed epoch pn) c.told ≤ 1
   pub twice : (number epoch : ℕ) (of_it : Bool) → count (tagged number epoch of_it) c.told ≤ 1
-  pub open_next : (an : AssociationNumber) (epoch : ℕ) → IsOpen c an epoch → (n : ℕ) × IsNext c an epoch n
+  pub open_next : (an : AssociationNumber) (epoch : ℕ) → IsOpen c an epoch → (n : ℕ)
+      × IsNext c an epoch n
   pub shut_next : (f : NextSeen) → In f c.found → WasNext c f
   pub loads : (f : NextSeen) → In f c.loads → In (f.an, f.epoch) c.raises
   pub over : (m : Mark) → In m c.told_over → In (present_at m.an m.epoch) c.points

@@ -19,9 +19,12 @@ use Rattle.association_slots.specs.declared.view.View.TheVariants.{Control, Seat
 
 -- Words 0 to 4 are as control left them, and a slot's next number is not below what control saw
 pub record IsAsLeft (c : ControlView) (words : List ℕ) : Type 0 where
-  pub epochs : (an : AssociationNumber) → epoch_of (slice_index words (number_of an)) ≡ (slot c an).epoch
-  pub shuts : (an : AssociationNumber) → flag_of (slice_index words (number_of an)) ≡ (slot c an).shut
-  pub seen : (an : AssociationNumber) → (slot c an).seen ≤ next_of (slice_index words (number_of an))
+  pub epochs : (an : AssociationNumber) → epoch_of (slice_index words (number_of an))
+      ≡ (slot c an).epoch
+  pub shuts : (an : AssociationNumber) → flag_of (slice_index words (number_of an))
+      ≡ (slot c an).shut
+  pub seen : (an : AssociationNumber) → (slot c an).seen
+      ≤ next_of (slice_index words (number_of an))
   pub shows : shown_by (slice_index words 4) ≡ current c
 
 -- the cards lie in the words from the sixth on, five words each
@@ -51,14 +54,15 @@ pub record Settled (c : ControlView) : Type 0 where
   pub has_card : 5 * top c.raises ≤ length c.card_words
   -- a slot shows an epoch that was raised there, or 0, and then it is shut
   pub slot_low : (an : AssociationNumber) → (slot c an).epoch ≤ top c.raises
-  pub slot_raised : (an : AssociationNumber) → 0 < (slot c an).epoch → In (an, (slot c an).epoch) c.raises
+  pub slot_raised : (an : AssociationNumber) → 0 < (slot c an).epoch
+      → In (an, (slot c an).epoch) c.raises
   pub open_some : (an : AssociationNumber) → (slot c an).shut ≡ false → 0 < (slot c an).epoch
   -- an epoch that was shut was raised there, and is open in no slot again
   pub slot_shut : (an : AssociationNumber) → 0 < (slot c an).epoch → (slot c an).shut ≡ true
       → WasShut c an (slot c an).epoch
   pub found_raised : (f : NextSeen) → In f c.found → In (f.an, f.epoch) c.raises
-  pub found_gone : (an : AssociationNumber) → (slot c an).shut ≡ false → (f : NextSeen) → In f c.found
-      → f.epoch ≢ (slot c an).epoch
+  pub found_gone : (an : AssociationNumber) → (slot c an).shut ≡ false → (f : NextSeen)
+      → In f c.found → f.epoch ≢ (slot c an).epoch
   -- what was pointed at was raised under that AN, and no epoch was above the last
   pub points_low : (p : Current) → In p c.points → (p.epoch ≤ (current c).epoch) × (p.present ≡ true
       → In (p.an, p.epoch) c.raises)
@@ -67,7 +71,8 @@ pub record Settled (c : ControlView) : Type 0 where
       × ((current c).present ≡ true → e < (current c).epoch)
 
 -- The slot shows at least n while it is open with the epoch, or showed it when it was shut
-pub record AtLeast (c : ControlView) (words : List ℕ) (an : AssociationNumber) (epoch n : ℕ) : Type 0 where
+pub record AtLeast (c : ControlView) (words : List ℕ) (an : AssociationNumber)
+    (epoch n : ℕ) : Type 0 where
   pub now : IsOpen c an epoch → n ≤ next_of (slice_index words (number_of an))
   pub then : (f : NextSeen) → In f c.found → f.an ≡ an → f.epoch ≡ epoch → n ≤ f.next
 
@@ -167,9 +172,11 @@ pub record Ledger (c : ControlView) (words : List ℕ) (vs : List View) : Type 0
 -- found when a slot was shut
 pub record Sums (c : ControlView) (words : List ℕ) (vs : List View) : Type 0 where
   pub sum : (an : AssociationNumber) → 0 < (slot c an).epoch
-      → next_of (slice_index words (number_of an)) ≡ c.first + count_all (met an (slot c an).epoch) vs
+      → next_of (slice_index words (number_of an))
+      ≡ c.first + count_all (met an (slot c an).epoch) vs
   pub bound : (an : AssociationNumber) → 0 < (slot c an).epoch
-      → next_of (slice_index words (number_of an)) ≤ 2 ^ 32 + count_all (lost an (slot c an).epoch) vs
+      → next_of (slice_index words (number_of an))
+      ≤ 2 ^ 32 + count_all (lost an (slot c an).epoch) vs
   pub shut_sum : (f : NextSeen) → In f c.found
       → (f.next ≤ c.first + count_all (met f.an f.epoch) vs)
       × (f.next ≤ 2 ^ 32 + count_all (lost f.an f.epoch) vs)

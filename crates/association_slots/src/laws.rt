@@ -112,7 +112,8 @@ pub fn law_earlier_cards_stay()
 pub fn law_sums()
     ensures { (c : ControlView) (words : List ℕ) (views : List View) → Around c words views
         → ((an : AssociationNumber) → 0 < (slot c an).epoch
-        → next_of (slice_index words (number_of an)) ≡ c.first + count_all (met an (slot c an).epoch) views)
+        → next_of (slice_index words (number_of an))
+        ≡ c.first + count_all (met an (slot c an).epoch) views)
         × ((f : NextSeen) → In f c.found → f.next ≤ c.first + count_all (met f.an f.epoch) views) }
 {}
 

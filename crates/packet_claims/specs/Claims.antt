@@ -44,7 +44,8 @@ pub record Above (v : SeatView) (epoch : ℕ) : Type 0 where
 
 -- exactly one claim more and no note: a packet number of what the last load showed, above all that
 -- the seat claimed of its epoch, with the card of the epoch by the words that the seat read
-pub record IsClaim (v w : SeatView) (an : AssociationNumber) (epoch pn : ℕ) (card : Card) : Type 0 where
+pub record IsClaim (v w : SeatView) (an : AssociationNumber) (epoch pn : ℕ)
+    (card : Card) : Type 0 where
   pub lost : List Addition
   pub stays : Stays v w lost
   pub additions : w.additions ≡ record {

@@ -35,7 +35,8 @@ Raises st m found m' =
     × Learned (control_of m'.0)
 
 abbrev pub Shuts : At → Holder → ℕ → Holder → Type 0
-Shuts st m found m' = (m' ≡ (Control (closed (control_of m.0) (an_of st.word) (next_of found)), m.1))
+Shuts st m found m' =
+    (m' ≡ (Control (closed (control_of m.0) (an_of st.word) (next_of found)), m.1))
     × Shows (control_of m.0) (an_of st.word) (next_of found) × Learned (control_of m'.0)
 
 abbrev pub Points : At → Holder → ℕ → Holder → Type 0
@@ -43,7 +44,8 @@ Points st m found m' = (m' ≡ (Control (pointed (control_of m.0) (shown_by st.f
     × Learned (control_of m'.0)
 
 abbrev pub Looks : At → Holder → ℕ → Holder → Type 0
-Looks st m found m' = (m' ≡ (Control (looked (control_of m.0) (an_of st.word) (next_of found)), m.1))
+Looks st m found m' =
+    (m' ≡ (Control (looked (control_of m.0) (an_of st.word) (next_of found)), m.1))
     × Shows (control_of m.0) (an_of st.word) (next_of found) × Learned (control_of m'.0)
 
 -- a load that changes no view: control learns what the rule says of its own
