@@ -23,7 +23,7 @@ some-held h (Some k) = refl
 
 pub allows-told : (base : ℕ) (own : Mi) (s : State) (h : List Keying) → StandsFor base own false s h → allows_now s ≡ allows h
 allows-told base own s h t =
-    let first = latest-told base own false s h (λ l. l.key.begun) (λ k. has_begun h k.epoch) t (λ k. refl) in
+    let first = latest-told base own false s h (λ l. l.held.begun) (λ k. has_begun h k.epoch) t (λ k. refl) in
     let second = ap is_some t.former ∙ some-held h (old h) in
     ap (λ (b : Bool). not (b && is_some s.former)) first ∙ ap (λ (b : Bool). not (is_latest h (λ k. has_begun h k.epoch) && b)) second
 
@@ -32,7 +32,7 @@ begun-or-old h true k o = refl
 begun-or-old h false k o = refl
 
 current-is : (pending : Bool) (h : List Keying) (l o : Option Key)
-    → elim (option_map (kept_of pending h) l) [ None ↦ option_map (held h) o | Some x ↦ cond x.key.begun (Some x.key) (option_map (held h) o) ] ≡ option_map (held h) (cond (option_map_or (λ k. has_begun h k.epoch) l false) l o)
+    → elim (option_map (kept_of pending h) l) [ None ↦ option_map (held h) o | Some x ↦ cond x.held.begun (Some x.held) (option_map (held h) o) ] ≡ option_map (held h) (cond (option_map_or (λ k. has_begun h k.epoch) l false) l o)
 current-is pending h None o = refl
 current-is pending h (Some k) o = begun-or-old h (has_begun h k.epoch) k o
 
