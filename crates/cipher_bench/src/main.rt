@@ -3,12 +3,8 @@
 //! implementation.
 #![tactic(auto)]
 
-mod bench;
-mod frames;
-mod named;
-
 use anyhow::{Context, bail};
-use named::Test;
+use cipher_work::{Test, last_result};
 use std::env;
 
 /// What is said where the words are others.
@@ -28,10 +24,7 @@ fn main(rt: HostRuntime) -> anyhow::Result<()> {
         .context("COUNT is a number from 0 to 4294967295")?;
     println!(rt;
         "{}",
-        hex::encode(rt.alloc(), bench::last_result(rt.alloc(), test, count)?)?
+        hex::encode(rt.alloc(), last_result(rt.alloc(), test, count)?)?
     )?;
     Ok(())
 }
-
-#[cfg(test)]
-mod tests;
