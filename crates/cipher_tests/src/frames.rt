@@ -1,8 +1,8 @@
 //! Published frames, and frames of another implementation.
 
-use crate::{protect, tag_of, validate};
-use aes_block::{Key, Secret};
-use hex::FromHex;
+use crate::keys::key_of;
+use gcm_core::GcmKey;
+use gcm_frames::{protect, tag_of, validate};
 use lan_base::{Mac, Octets, Sci, UserFrame};
 use std::alloc::Global;
 use std::process::Abort;
@@ -164,19 +164,9 @@ const OPENSSL: [Sent; 4] = [
     },
 ];
 
-/// A key of 16 or 32 octets.
-fn key_of(digits: &str) -> Result<Key, Fail> {
-    let secret = if digits.len() == 32 {
-        Secret::S128(<[u8; 16]>::from_hex(digits)?)
-    } else {
-        Secret::S256(<[u8; 32]>::from_hex(digits)?)
-    };
-    Ok(Key::of(&secret))
-}
-
 /// The frame is opened to its user data, and refused unchanged with a changed tag.
 fn is_opened(rt: &impl Abort, alloc: Global, case: &Received) -> Result<(), Fail> {
-    let key = key_of(case.key)?;
+    let key = GcmKey::of(key_of(case.key)?);
     let mut frame = hex::decode(alloc, case.frame)?;
     let user = hex::decode(alloc, case.user)?;
     assert!(rt; frame.len() <= 65536);
@@ -193,7 +183,7 @@ fn is_opened(rt: &impl Abort, alloc: Global, case: &Received) -> Result<(), Fail
 
 /// The frame with its last bit changed is refused, and stays as it is.
 fn is_refused_when_changed(rt: &impl Abort, alloc: Global, case: &Received) -> Result<(), Fail> {
-    let key = key_of(case.key)?;
+    let key = GcmKey::of(key_of(case.key)?);
     let mut frame = hex::decode(alloc, case.frame)?;
     let Some(last) = frame.last_mut() else {
         return Ok(());
@@ -232,7 +222,7 @@ fn protects_as_openssl_does(rt: HostRuntime) -> Result<(), Fail> {
         assert!(&rt; case.an < 4 && case.pn > 0);
         let mut frame = Vec::with_capacity(rt.alloc(), user.body.len() + 44)?;
         protect(
-            &key_of(case.key)?,
+            &GcmKey::of(key_of(case.key)?),
             sci,
             case.an,
             case.pn,

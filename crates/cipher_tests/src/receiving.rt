@@ -1,9 +1,8 @@
-//! Frames at the receive slots, step by step.
+//! Frames at the receive slots, step by step: a script put them together from OpenSSL's sealing.
 
-// Frames that a script put together from OpenSSL's sealing, and the answer to each.
-use crate::RxSlots;
 use aes_block::Secret;
 use lan_base::Sci;
+use rx_slots::RxSlots;
 use std::alloc::Global;
 use std::process::Abort;
 use std::test::Fail;
@@ -16,7 +15,7 @@ const LONG_KEY: Secret = Secret::S256([
     26, 27, 28, 29, 30, 31,
 ]);
 
-/// The stations A, B and C.
+/// The stations A and B.
 const A: Sci = Sci([2, 0, 0, 0, 0, 0x0a, 0, 1]);
 
 const B: Sci = Sci([2, 0, 0, 0, 0, 0x0b, 0, 1]);
@@ -49,30 +48,54 @@ const LONG: &str =
 const WITHOUT_SCI: &str =
     "ffffffffffff02000000000c88e54c040000000734c1d34920486aab75318d5bbe54c735fa148614";
 
+/// A frame, and the answer to it.
+struct Case {
+    frame: &'static str,
+    answer: &'static str,
+}
+
 /// What B is answered in turn, with window 0.
-const ANSWERS: [(&str, &str); 10] = [
-    ("ffffffffffff02000000000a888e", "Malformed(NotSec)"),
-    (ZERO, "Late { next: 1 }"),
-    (
-        FIRST,
-        "Accepted { pn: 1, body: Octets { octets: [136, 181, 0, 1] } }",
-    ),
-    (FIRST, "Late { next: 2 }"),
-    (CHANGED, "BadCheck"),
-    (OTHER, "Missed { an: 1 }"),
-    (
-        LONG,
-        "Accepted { pn: 5, body: Octets { octets: [136, 181, 0, 5] } }",
-    ),
-    (
-        WITHOUT_SCI,
-        "Accepted { pn: 7, body: Octets { octets: [136, 181, 0, 7] } }",
-    ),
-    (
-        LAST,
-        "Accepted { pn: 4294967295, body: Octets { octets: [136, 181, 255, 255] } }",
-    ),
-    (LAST, "Late { next: 4294967296 }"),
+const ANSWERS: [Case; 10] = [
+    Case {
+        frame: "ffffffffffff02000000000a888e",
+        answer: "Malformed(NotSec)",
+    },
+    Case {
+        frame: ZERO,
+        answer: "Late { next: 1 }",
+    },
+    Case {
+        frame: FIRST,
+        answer: "Accepted { pn: 1, body: Octets { octets: [136, 181, 0, 1] } }",
+    },
+    Case {
+        frame: FIRST,
+        answer: "Late { next: 2 }",
+    },
+    Case {
+        frame: CHANGED,
+        answer: "BadCheck",
+    },
+    Case {
+        frame: OTHER,
+        answer: "Missed { an: 1 }",
+    },
+    Case {
+        frame: LONG,
+        answer: "Accepted { pn: 5, body: Octets { octets: [136, 181, 0, 5] } }",
+    },
+    Case {
+        frame: WITHOUT_SCI,
+        answer: "Accepted { pn: 7, body: Octets { octets: [136, 181, 0, 7] } }",
+    },
+    Case {
+        frame: LAST,
+        answer: "Accepted { pn: 4294967295, body: Octets { octets: [136, 181, 255, 255] } }",
+    },
+    Case {
+        frame: LAST,
+        answer: "Late { next: 4294967296 }",
+    },
 ];
 
 /// The frame is answered so.
@@ -95,8 +118,8 @@ fn answers_in_turn(rt: HostRuntime) -> Result<(), Fail> {
     let mut slots = RxSlots::new(rt.alloc(), B, 0);
     slots.install(0, &SHORT_KEY);
     slots.install(2, &LONG_KEY);
-    for (frame, answer) in ANSWERS {
-        is_answered(&rt, rt.alloc(), &mut slots, frame, answer)?;
+    for case in &ANSWERS {
+        is_answered(&rt, rt.alloc(), &mut slots, case.frame, case.answer)?;
     }
     assert_eq!(&rt; slots.lowest(0), 4294967295);
     assert_eq!(&rt; slots.lowest(1), 1);

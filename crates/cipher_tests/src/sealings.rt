@@ -1,7 +1,7 @@
 //! Published sealings and refusals, and values of another implementation at other lengths.
 
-use crate::{HashTable, seal, unseal};
-use aes_block::Key;
+use crate::keys::key_of;
+use gcm_core::{GcmKey, seal, unseal};
 use hex::FromHex;
 use std::alloc::{AllocError, Global};
 use std::process::Abort;
@@ -478,35 +478,40 @@ const REFUSED: [Case; 8] = [
     },
 ];
 
-/// How many octets of text and of additional data, the last 16 octets of ciphertext, and the tag, by
-/// OpenSSL. Octet i of the text is 7 * i + 3, and of the additional data 5 * i + 1, modulo 256.
-const LONG: [(usize, usize, &str, &str); 3] = [
-    (
-        1500,
-        28,
-        "8e943a0ac54f824b007a2f5bcbb3145a",
-        "9014a7b9338df18fb032b0103ea9edf5",
-    ),
-    (
-        65536,
-        65536,
-        "a0a87776d0c5437f6239f9ae249afa15",
-        "886f777cd24b0774a31e6bc8d4bddc4f",
-    ),
-    (0, 65536, "", "d73f29114e559e2596a41b2a52632de9"),
-];
-
-/// The key of 128 or 256 bits with these digits.
-fn key_of(digits: &str) -> Result<Key, Fail> {
-    if digits.len() == 32 {
-        Ok(Key::k128(&<[u8; 16]>::from_hex(digits)?))
-    } else {
-        Ok(Key::k256(&<[u8; 32]>::from_hex(digits)?))
-    }
+/// How many octets of text and of additional data, the last octets of ciphertext, at most 16, and the
+/// tag, in hexadecimal digits.
+struct Counted {
+    len: usize,
+    extra: usize,
+    end: &'static str,
+    tag: &'static str,
 }
 
+/// Values of OpenSSL. Octet i of the text is 7 * i + 3, and of the additional data 5 * i + 1, modulo
+/// 256.
+const LONG: [Counted; 3] = [
+    Counted {
+        len: 1500,
+        extra: 28,
+        end: "8e943a0ac54f824b007a2f5bcbb3145a",
+        tag: "9014a7b9338df18fb032b0103ea9edf5",
+    },
+    Counted {
+        len: 65536,
+        extra: 65536,
+        end: "a0a87776d0c5437f6239f9ae249afa15",
+        tag: "886f777cd24b0774a31e6bc8d4bddc4f",
+    },
+    Counted {
+        len: 0,
+        extra: 65536,
+        end: "",
+        tag: "d73f29114e559e2596a41b2a52632de9",
+    },
+];
+
 /// Octet i is step * i + first, modulo 256.
-fn counted(alloc: Global, len: usize, step: u8, first: u8) -> Result<Vec<u8>, AllocError> {
+fn rising(alloc: Global, len: usize, step: u8, first: u8) -> Result<Vec<u8>, AllocError> {
     let mut octets = Vec::new(alloc);
     let mut next = first;
     for _ in 0..len {
@@ -519,7 +524,7 @@ fn counted(alloc: Global, len: usize, step: u8, first: u8) -> Result<Vec<u8>, Al
 /// The octets are refused, and stay as they were.
 fn is_refused(
     rt: &impl Abort,
-    key: &Key,
+    key: &GcmKey,
     iv: [u8; 12],
     extra: &[u8],
     sealed: &Vec<u8>,
@@ -542,7 +547,7 @@ fn changed(tag: [u8; 16]) -> [u8; 16] {
 
 /// The plaintext is sealed to the ciphertext and its tag, and unsealed to itself again.
 fn is_sealed(rt: &impl Abort, alloc: Global, case: &Case) -> Result<(), Fail> {
-    let key = key_of(case.key)?;
+    let key = GcmKey::of(key_of(case.key)?);
     let iv = <[u8; 12]>::from_hex(case.iv)?;
     let tag = <[u8; 16]>::from_hex(case.tag)?;
     let extra = hex::decode(alloc, case.extra)?;
@@ -589,7 +594,7 @@ fn seals_and_unseals(rt: HostRuntime) -> Result<(), Fail> {
 #[test]
 fn refuses_what_was_not_sealed(rt: HostRuntime) -> Result<(), Fail> {
     for case in &REFUSED {
-        let key = key_of(case.key)?;
+        let key = GcmKey::of(key_of(case.key)?);
         let iv = <[u8; 12]>::from_hex(case.iv)?;
         let tag = <[u8; 16]>::from_hex(case.tag)?;
         let extra = hex::decode(rt.alloc(), case.extra)?;
@@ -601,35 +606,25 @@ fn refuses_what_was_not_sealed(rt: HostRuntime) -> Result<(), Fail> {
 
 #[test]
 fn seals_up_to_the_greatest_length(rt: HostRuntime) -> Result<(), Fail> {
-    let key = Key::k128(&[0, 1, 2, 3, 4, 5, 6, 7, 8, 9, 10, 11, 12, 13, 14, 15]);
+    let key = GcmKey::of(key_of("000102030405060708090a0b0c0d0e0f")?);
     let iv = [16, 17, 18, 19, 20, 21, 22, 23, 24, 25, 26, 27];
-    for (len, extra_len, end, tag) in LONG {
-        let extra = counted(rt.alloc(), extra_len, 5, 1)?;
-        let mut text = counted(rt.alloc(), len, 7, 3)?;
+    for case in &LONG {
+        let extra = rising(rt.alloc(), case.extra, 5, 1)?;
+        let mut text = rising(rt.alloc(), case.len, 7, 3)?;
         assert!(rt; extra.len() <= 65536);
         assert!(rt; text.len() <= 65536);
-        let tag = <[u8; 16]>::from_hex(tag)?;
+        let tag = <[u8; 16]>::from_hex(case.tag)?;
         assert_eq!(rt;
             seal(&key, iv, extra.as_slice(), text.as_mut_slice()),
             tag,
-            "{len}"
+            "{}",
+            case.len
         );
         assert!(rt;
             text.as_slice()
-                .ends_with(hex::decode(rt.alloc(), end)?.as_slice())
+                .ends_with(hex::decode(rt.alloc(), case.end)?.as_slice())
         );
         is_refused(&rt, &key, iv, extra.as_slice(), &text, changed(tag))?;
     }
     Ok(())
-}
-
-/// H, the first block and the first product of test case 2 of the submission.
-#[test]
-fn multiplies_by_the_table(rt: HostRuntime) {
-    let table = HashTable::of(0x66e94bd4ef8a2c3b884cfa59ca342b2e);
-    assert_eq!(rt; table.row(8), 0x66e94bd4ef8a2c3b884cfa59ca342b2e);
-    assert_eq!(rt;
-        table.times(0x0388dace60b6a392f328c2b971b2fe78),
-        0x5e2ec746917062882c85b0685353deb7
-    );
 }

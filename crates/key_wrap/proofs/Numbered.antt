@@ -5,7 +5,7 @@ use Rattle.std.specs.Int.{w64, to_be_bytes}
 use Rattle.std.proofs.lemmas.List.{length-append, length-take-le, length-drop, take_at, drop_at, take-append-drop}
 use Rattle.std.proofs.lemmas.Simd.{length-zip2}
 use Rattle.aes_block.specs.Octet.{octets_sum}
-use Rattle.aes_block.proofs.Steps.{octets_sum-twice}
+use Rattle.aes_block.proofs.Public.{octets_sum-twice}
 use Rattle.key_wrap.specs.Wrap.{numbered}
 
 pub length-first : (block : List ℕ) (number : ℕ) → length block ≡ 16 → length (octets_sum (take 8 block) (to_be_bytes w64 number)) ≡ 8

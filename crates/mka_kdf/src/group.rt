@@ -7,7 +7,7 @@ ghost use Rattle.aes_block.specs.Secrets.{secret_octets};
 
 use crate::derivation::{derive, derive256};
 use aes_block::{Key, Secret};
-use lan_base::Octets;
+use lan_base::{CKN_MAX, Octets};
 use std::alloc::{AllocError, Global};
 use thiserror::Error;
 
@@ -16,9 +16,6 @@ const KEK_LABEL: [u8; 12] = *b"IEEE8021 KEK";
 
 /// The label of the integrity check key.
 const ICK_LABEL: [u8; 12] = *b"IEEE8021 ICK";
-
-/// The most octets that the name of a connectivity association key has.
-const CKN_MAX: usize = 32;
 
 /// Why there is no such group.
 #[derive(Clone, Copy, Debug, PartialEq, Eq, Error)]
