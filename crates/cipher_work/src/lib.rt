@@ -4,7 +4,9 @@
 
 mod frames;
 mod named;
+mod round_trips;
 mod work;
 
 pub use named::{Frame, Test};
+pub use round_trips::come_back;
 pub use work::last_result;
