@@ -3,7 +3,7 @@
 use crate::keys::{key_of, secret_of};
 use aes_block::Secret;
 use hex::FromHex;
-use mka_kdf::{Group, GroupFault, derive, derive256};
+use mka_kdf::{Group, GroupError, GroupFault, derive, derive256};
 use std::test::Fail;
 
 /// A CAK, the name of a group (CKN), its KEK and its ICK, in hexadecimal digits.
@@ -107,7 +107,7 @@ fn derives_octets_under_a_label(rt: HostRuntime) -> Result<(), Fail> {
 fn refuses_names_of_other_lengths(rt: HostRuntime) {
     let cak = Secret::S128([7; 16]);
     let none = Group::of(rt.alloc(), cak, &[]).map(|_| ());
-    assert_eq!(rt; none, Err(GroupFault::CknLength));
+    assert_eq!(rt; none, Err(GroupError::Refused(GroupFault::CknLength)));
     let long = Group::of(rt.alloc(), cak, &LONG).map(|_| ());
-    assert_eq!(rt; long, Err(GroupFault::CknLength));
+    assert_eq!(rt; long, Err(GroupError::Refused(GroupFault::CknLength)));
 }

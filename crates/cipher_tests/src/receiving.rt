@@ -1,7 +1,7 @@
 //! Frames at the receive slots, step by step: a script put them together from OpenSSL's sealing.
 
 use aes_block::Secret;
-use lan_base::Sci;
+use lan_base::{AssociationNumber, Sci};
 use rx_slots::RxSlots;
 use std::alloc::Global;
 use std::process::Abort;
@@ -78,7 +78,7 @@ const ANSWERS: [Case; 10] = [
     },
     Case {
         frame: OTHER,
-        answer: "Missed { an: 1 }",
+        answer: "Missed { an: An1 }",
     },
     Case {
         frame: LONG,
@@ -116,18 +116,18 @@ fn is_answered(
 #[test]
 fn answers_in_turn(rt: HostRuntime) -> Result<(), Fail> {
     let mut slots = RxSlots::new(rt.alloc(), B, 0);
-    slots.install(0, &SHORT_KEY);
-    slots.install(2, &LONG_KEY);
+    slots.install(AssociationNumber::An0, &SHORT_KEY);
+    slots.install(AssociationNumber::An2, &LONG_KEY);
     for case in &ANSWERS {
         is_answered(&rt, rt.alloc(), &mut slots, case.frame, case.answer)?;
     }
-    assert_eq!(&rt; slots.lowest(0), 4294967295);
-    assert_eq!(&rt; slots.lowest(1), 1);
-    assert_eq!(&rt; slots.lowest(2), 6);
-    slots.install(0, &SHORT_KEY);
+    assert_eq!(&rt; slots.lowest(AssociationNumber::An0), 4294967295);
+    assert_eq!(&rt; slots.lowest(AssociationNumber::An1), 1);
+    assert_eq!(&rt; slots.lowest(AssociationNumber::An2), 6);
+    slots.install(AssociationNumber::An0, &SHORT_KEY);
     is_answered(&rt, rt.alloc(), &mut slots, ZERO, "Late { next: 1 }")?;
     slots.remove(0);
-    is_answered(&rt, rt.alloc(), &mut slots, FIRST, "Missed { an: 0 }")?;
+    is_answered(&rt, rt.alloc(), &mut slots, FIRST, "Missed { an: An0 }")?;
     let mut own = RxSlots::new(rt.alloc(), A, 0);
     is_answered(&rt, rt.alloc(), &mut own, CHANGED, "Own")
 }
@@ -135,7 +135,7 @@ fn answers_in_turn(rt: HostRuntime) -> Result<(), Fail> {
 #[test]
 fn admits_what_was_checked_before(rt: HostRuntime) -> Result<(), Fail> {
     let mut slots = RxSlots::new(rt.alloc(), B, 0);
-    slots.install(0, &SHORT_KEY);
+    slots.install(AssociationNumber::An0, &SHORT_KEY);
     let first = hex::decode(rt.alloc(), FIRST)?;
     let second = hex::decode(rt.alloc(), SECOND)?;
     assert!(&rt; first.len() <= 65536 && second.len() <= 65536);

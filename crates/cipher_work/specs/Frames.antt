@@ -3,6 +3,7 @@
 use Rattle.std.specs.Prelude.{ℕ, zero, suc, ◌-◌, ◌==◌, true, nat_le, if◌then◌else◌, List, [], ◌∷◌, drop, length, replicate}
 use Rattle.aes_block.specs.declared.secret.Secret.TheVariants.{S128}
 use Rattle.lan_base.specs.declared.address.Sci.{Sci}
+use Rattle.lan_base.specs.declared.association_number.AssociationNumber.TheVariants.{An0}
 use Rattle.gcm_frames.specs.Protected.{protected}
 use Rattle.rx_slots.specs.declared.arrival.Arrival.{Arrival}
 use Rattle.rx_slots.specs.declared.arrival.Arrival.TheVariants.{Accepted, Malformed, Own, Missed, BadCheck, Late}
@@ -20,7 +21,7 @@ receiver = record { 0 = 2 ∷ 0 ∷ 0 ∷ 0 ∷ 0 ∷ 11 ∷ 0 ∷ 1 ∷ [] }
 -- the frame to a destination, enciphered under a packet number, whose user data rises by a step
 abbrev pub frame_to : List ℕ → ℕ → ℕ → List ℕ
 frame_to destination number step =
-    protected key sender 0 number true (record
+    protected key sender An0 number true (record
     { destination = record { 0 = destination }; body = stepped step 1488 })
 
 -- its tag: the last 16 octets
@@ -65,7 +66,7 @@ hears r frame =
 -- the receiver: the key was installed at first, and then it hears the frame that is received after
 -- its last answer
 abbrev pub receiver_after : ℕ → Receiver
-receiver_after zero = record { history = installed 0 (S128 key) ∷ []; last = Own }
+receiver_after zero = record { history = installed An0 (S128 key) ∷ []; last = Own }
 receiver_after (suc n) =
     hears (receiver_after n) (frame_numbered (next_number (receiver_after n).last))
 

@@ -9,7 +9,7 @@ use crate::work::{stepped, test_key};
 use aes_block::Secret;
 use gcm_core::GcmKey;
 use gcm_frames::protect;
-use lan_base::{Mac, Octets, Sci, UserFrame};
+use lan_base::{AssociationNumber, Mac, Octets, Sci, UserFrame};
 use rx_slots::{Arrival, RxSlots};
 use std::alloc::{AllocError, Global};
 
@@ -58,7 +58,7 @@ pub fn last_frame_tag(alloc: Global, count: u32) -> Result<[u8; 16], AllocError>
     let mut tag = [0; 16];
     for done in 0..count {
         frame.clear();
-        protect(&key, SENDER, 0, done + 1, true, &user, &mut frame);
+        protect(&key, SENDER, AssociationNumber::An0, done + 1, true, &user, &mut frame);
         tag = tag_in(&frame);
         user.destination.0[0] ^= tag[0];
     }
@@ -95,7 +95,7 @@ fn ready(alloc: Global) -> RxSlots
     ensures { StandsFor receiver 2 result (receiver_after 0).history }
 {
     let mut slots = RxSlots::new(alloc, RECEIVER, WINDOW);
-    slots.install(0, &Secret::S128(stepped::<16>(1)));
+    slots.install(AssociationNumber::An0, &Secret::S128(stepped::<16>(1)));
     slots
 }
 
@@ -110,7 +110,7 @@ fn frame_numbered(alloc: Global, number: u8) -> Result<Vec<u8>, AllocError>
     protect(
         &GcmKey::of(test_key()),
         SENDER,
-        0,
+        AssociationNumber::An0,
         u32::from(number),
         true,
         &user,
