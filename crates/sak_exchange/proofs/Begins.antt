@@ -11,7 +11,8 @@ use Rattle.sak_exchange.specs.declared.change.Cause.{Cause}
 use Rattle.sak_exchange.specs.declared.change.Cause.TheVariants.{Flag}
 use Rattle.sak_exchange.specs.declared.latest.Latest.{Latest}
 use Rattle.sak_exchange.specs.declared.report.Report.{Report}
-use Rattle.sak_exchange.specs.Histories.{Key, Keying, began, clock, last_roster, last_made_at, has_begun}
+use Rattle.sak_exchange.specs.declared.held_key.Key.{Key}
+use Rattle.sak_exchange.specs.Histories.{Keying, began, clock, last_roster, last_made_at, has_begun}
 use Rattle.sak_exchange.specs.Held.{latest, old, held, shown}
 use Rattle.sak_exchange.specs.Reports.{transmits}
 use Rattle.sak_exchange.specs.Beginning.{Beginning, is_latest_made, lead_cause, leads, follows}

@@ -3,7 +3,8 @@ use Rattle.std.proofs.Common.{◌≡◌, ℕ, Bool, true, false, cond, not, ◌&
 use Rattle.std.specs.Option.{option_map, option_map_or}
 use Rattle.lan_base.specs.declared.address.Mi.{Mi}
 use Rattle.sak_exchange.specs.declared.latest.Latest.{Latest}
-use Rattle.sak_exchange.specs.Histories.{Key, Keying, has_begun}
+use Rattle.sak_exchange.specs.declared.held_key.Key.{Key}
+use Rattle.sak_exchange.specs.Histories.{Keying, has_begun}
 use Rattle.sak_exchange.specs.Held.{latest, old, is_latest, allows, held}
 use Rattle.sak_exchange.specs.Standing.{State, StandsFor, kept_of}
 use Rattle.sak_exchange.specs.inside.States.{is_latest_now, transmitting_now, allows_now}

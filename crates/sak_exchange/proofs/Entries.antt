@@ -5,7 +5,8 @@ use Rattle.std.specs.Prelude.{nat_lt, ◌==◌}
 use Rattle.std.specs.List.{list_any, find}
 use Rattle.lan_base.specs.declared.address.Mi.{Mi}
 use Rattle.lan_base.specs.AssociationNumbers.{same_an}
-use Rattle.sak_exchange.specs.Histories.{Key, Keying, ticked, installed, began, clock, installs, last_key, begun_at, has_begun, last_begun}
+use Rattle.sak_exchange.specs.declared.held_key.Key.{Key}
+use Rattle.sak_exchange.specs.Histories.{Keying, ticked, installed, began, clock, installs, last_key, begun_at, has_begun, last_begun}
 use Rattle.sak_exchange.specs.Held.{is_retire_time_ago, ends, received, has_epoch, latest, old, transmitting, is_latest, Kept}
 use Rattle.sak_exchange.specs.Beginning.{retired}
 use Rattle.sak_exchange.specs.Lives.{apart}

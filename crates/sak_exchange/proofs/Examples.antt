@@ -18,7 +18,8 @@ use Rattle.sak_exchange.specs.declared.change.Why.TheVariants.{NotListed, NotSer
 use Rattle.sak_exchange.specs.declared.due.Seen as numbers
 use Rattle.sak_exchange.specs.declared.offer.Offer.{Offer}
 use Rattle.sak_exchange.specs.declared.report.Report.{Report}
-use Rattle.sak_exchange.specs.Histories.{Key, Keying, ticked, installed, began}
+use Rattle.sak_exchange.specs.declared.held_key.Key.{Key}
+use Rattle.sak_exchange.specs.Histories.{Keying, ticked, installed, began}
 use Rattle.sak_exchange.specs.Held.{received, latest, old, transmitting, allows, Kept, shown}
 use Rattle.sak_exchange.specs.Beginning.{leads, follows, retired}
 use Rattle.sak_exchange.specs.Making.{is_none_of_own, is_one_left_out, is_latest_spent, is_one_behind, makes, is_in_roster, next_an, made_key}

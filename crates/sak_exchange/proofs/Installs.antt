@@ -14,7 +14,8 @@ use Rattle.sak_exchange.specs.declared.change.Why.{Why}
 use Rattle.sak_exchange.specs.declared.change.Why.TheVariants.{NotListed, NotServer, Seen, Retiring, Suite, Offset}
 use Rattle.sak_exchange.specs.declared.latest.Latest.{Latest}
 use Rattle.sak_exchange.specs.declared.offer.Offer.{Offer}
-use Rattle.sak_exchange.specs.Histories.{Key, Keying, installed, clock, last_made_at, install_count, made_count, begun_at, has_begun}
+use Rattle.sak_exchange.specs.declared.held_key.Key.{Key}
+use Rattle.sak_exchange.specs.Histories.{Keying, installed, clock, last_made_at, install_count, made_count, begun_at, has_begun}
 use Rattle.sak_exchange.specs.Held.{latest, old, allows, Kept, shown, held}
 use Rattle.sak_exchange.specs.Taking.{greatest_of, provided, provided_new, offered_id, number_of, is_supported, offset_of, leaves_none, offered_key, unwrapped_key, judged, taken}
 use Rattle.sak_exchange.specs.Making.{next_epoch}

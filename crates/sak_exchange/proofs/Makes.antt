@@ -12,7 +12,8 @@ use Rattle.aes_block.specs.declared.secret.Secret.{Secret}
 use Rattle.sak_exchange.specs.declared.due.Seen.{Seen}
 use Rattle.sak_exchange.specs.declared.latest.Latest.{Latest}
 use Rattle.sak_exchange.specs.declared.report.Report.{Report}
-use Rattle.sak_exchange.specs.Histories.{Key, Keying, clock, last_key, last_roster, last_made_at, begun_at, has_begun}
+use Rattle.sak_exchange.specs.declared.held_key.Key.{Key}
+use Rattle.sak_exchange.specs.Histories.{Keying, clock, last_key, last_roster, last_made_at, begun_at, has_begun}
 use Rattle.sak_exchange.specs.Held.{latest, old, allows, held}
 use Rattle.sak_exchange.specs.Reports.{reports}
 use Rattle.sak_exchange.specs.Beginning.{is_long_ago, is_latest_made}

@@ -5,7 +5,8 @@ use Rattle.std.specs.Prelude.{◌==◌}
 use Rattle.std.specs.List.{filter}
 use Rattle.lan_base.specs.declared.address.Mi.{Mi}
 use Rattle.lan_base.specs.AssociationNumbers.{same_an}
-use Rattle.sak_exchange.specs.Histories.{Key, Keying, ticked, installed, began, clock, last_key, begun_at, has_begun}
+use Rattle.sak_exchange.specs.declared.held_key.Key.{Key}
+use Rattle.sak_exchange.specs.Histories.{Keying, ticked, installed, began, clock, last_key, begun_at, has_begun}
 use Rattle.sak_exchange.specs.Held.{is_retire_time_ago, ends, with_new, received, has_epoch, latest, old, Kept}
 use Rattle.sak_exchange.proofs.Cases.{by_test, by_option, not-false}
 use Rattle.sak_exchange.proofs.Epochs.{last-epoch, none-later, may-begin, begun-upto}

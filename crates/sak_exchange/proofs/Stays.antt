@@ -5,7 +5,8 @@ use Rattle.std.specs.Prelude.{nat_lt, ◌==◌}
 use Rattle.std.specs.List.{list_any}
 use Rattle.lan_base.specs.Falling.{IsAbove, IsFalling}
 use Rattle.lan_base.specs.Timers.{retire_time}
-use Rattle.sak_exchange.specs.Histories.{Key, Keying, ticked, installed, began, clock, installs, last_key, begun_at, has_begun, beginnings}
+use Rattle.sak_exchange.specs.declared.held_key.Key.{Key}
+use Rattle.sak_exchange.specs.Histories.{Keying, ticked, installed, began, clock, installs, last_key, begun_at, has_begun, beginnings}
 use Rattle.sak_exchange.specs.Held.{is_retire_time_ago, retires, ends, received, has_epoch, latest, old, Kept}
 use Rattle.sak_exchange.specs.Lives.{IsQuiet, IsFresh}
 use Rattle.sak_exchange.proofs.AssociationNumbers.{other-an}

@@ -8,7 +8,8 @@ use Rattle.lan_base.specs.Timers.{life_time, retire_time}
 use Rattle.sak_exchange.specs.declared.change.Change.TheVariants.{Dropped, Retired}
 use Rattle.sak_exchange.specs.declared.held_key.HeldKey.{HeldKey}
 use Rattle.sak_exchange.specs.declared.latest.Latest.{Latest}
-use Rattle.sak_exchange.specs.Histories.{Key, Keying, ticked, installed, began, clock, last_made_at, begun_at, has_begun}
+use Rattle.sak_exchange.specs.declared.held_key.Key.{Key}
+use Rattle.sak_exchange.specs.Histories.{Keying, ticked, installed, began, clock, last_made_at, begun_at, has_begun}
 use Rattle.sak_exchange.specs.Held.{is_retire_time_ago, latest, old, Kept, held}
 use Rattle.sak_exchange.specs.Beginning.{is_long_ago, retired}
 use Rattle.sak_exchange.specs.Outcomes.{dropping, retiring}

@@ -6,7 +6,8 @@ use Rattle.mkpdu_codec.specs.declared.key_use.Uses.{Uses}
 use Rattle.sak_exchange.specs.declared.change.Cause.{Cause}
 use Rattle.sak_exchange.specs.declared.change.Cause.TheVariants.{All, Timeout, Flag}
 use Rattle.sak_exchange.specs.declared.report.Report.{Report}
-use Rattle.sak_exchange.specs.Histories.{Key, Keying, clock, last_roster, last_made_at, begun_at, has_begun}
+use Rattle.sak_exchange.specs.declared.held_key.Key.{Key}
+use Rattle.sak_exchange.specs.Histories.{Keying, clock, last_roster, last_made_at, begun_at, has_begun}
 use Rattle.sak_exchange.specs.Held.{is_retire_time_ago, latest, old, is_latest}
 use Rattle.sak_exchange.specs.Reports.{reports_latest, transmits}
 

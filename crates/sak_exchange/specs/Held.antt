@@ -6,7 +6,8 @@ use Rattle.std.specs.List.{list_any, filter, find}
 use Rattle.lan_base.specs.AssociationNumbers.{same_an}
 use Rattle.lan_base.specs.Timers.{retire_time}
 use Rattle.sak_exchange.specs.declared.held_key.HeldKey.{HeldKey}
-use Rattle.sak_exchange.specs.Histories.{Key, Keying, ticked, installed, began, clock, installs, last_key, install_count, begun_at, has_begun, last_begun}
+use Rattle.sak_exchange.specs.declared.held_key.Key.{Key}
+use Rattle.sak_exchange.specs.Histories.{Keying, ticked, installed, began, clock, installs, last_key, install_count, begun_at, has_begun, last_begun}
 
 -- whether what began at a tick count began the retire time before another
 abbrev pub is_retire_time_ago : ℕ → Option ℕ → Bool

@@ -2,7 +2,7 @@
 -- stands newest first.
 use Rattle.std.specs.Prelude.{ℕ, ◌==◌, ◌+◌, Bool, if◌then◌else◌, List, [], ◌∷◌, Option, Some, None, is_some}
 use Rattle.lan_base.specs.declared.address.Mi.{Mi}
-pub use Rattle.sak_exchange.specs.declared.held_key.Key.{Key}
+use Rattle.sak_exchange.specs.declared.held_key.Key.{Key}
 
 -- A tick, and whether a key server was elected then; a key that was installed, with its roster
 -- where this life made it and none where it was taken; a key that began, by its epoch.

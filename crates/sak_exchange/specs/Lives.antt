@@ -7,7 +7,8 @@ use Rattle.lan_base.specs.declared.association_number.AssociationNumber.{Associa
 use Rattle.lan_base.specs.AssociationNumbers.{same_an}
 use Rattle.lan_base.specs.Timers.{retire_time}
 use Rattle.lan_base.specs.Identifiers.{same_mi}
-use Rattle.sak_exchange.specs.Histories.{Key, Keying, ticked, installed, began, installs, made_count}
+use Rattle.sak_exchange.specs.declared.held_key.Key.{Key}
+use Rattle.sak_exchange.specs.Histories.{Keying, ticked, installed, began, installs, made_count}
 use Rattle.sak_exchange.specs.Held.{ends}
 use Rattle.sak_exchange.specs.Taking.{greatest_of}
 

@@ -8,7 +8,8 @@ use Rattle.lan_base.specs.declared.association_number.AssociationNumber.{Associa
 use Rattle.lan_base.specs.Identifiers.{order}
 use Rattle.sak_exchange.specs.declared.held_key.HeldKey.{HeldKey}
 use Rattle.sak_exchange.specs.declared.latest.Latest.{Latest}
-use Rattle.sak_exchange.specs.Histories.{Key, Keying, clock, last_key, last_roster, last_made_at, install_count, made_count, begun_at}
+use Rattle.sak_exchange.specs.declared.held_key.Key.{Key}
+use Rattle.sak_exchange.specs.Histories.{Keying, clock, last_key, last_roster, last_made_at, install_count, made_count, begun_at}
 use Rattle.sak_exchange.specs.Held.{latest, old, Kept, held}
 use Rattle.sak_exchange.specs.Taking.{greatest_of}
 use Rattle.sak_exchange.specs.Lives.{IsNumbered}
