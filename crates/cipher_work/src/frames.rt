@@ -19,6 +19,9 @@ const SENDER: Sci = Sci([2, 0, 0, 0, 0, 10, 0, 1]);
 /// The station that receives.
 const RECEIVER: Sci = Sci([2, 0, 0, 0, 0, 11, 0, 1]);
 
+/// The association that the frames belong to.
+const AN: AssociationNumber = AssociationNumber::An0;
+
 /// A packet number that is as much below the next one is not late.
 const WINDOW: u32 = 2;
 
@@ -58,7 +61,8 @@ pub fn last_frame_tag(alloc: Global, count: u32) -> Result<[u8; 16], AllocError>
     let mut tag = [0; 16];
     for done in 0..count {
         frame.clear();
-        protect(&key, SENDER, AssociationNumber::An0, done + 1, true, &user, &mut frame);
+        let number = done + 1;
+        protect(&key, SENDER, AN, number, true, &user, &mut frame);
         tag = tag_in(&frame);
         user.destination.0[0] ^= tag[0];
     }
@@ -95,7 +99,7 @@ fn ready(alloc: Global) -> RxSlots
     ensures { StandsFor receiver 2 result (receiver_after 0).history }
 {
     let mut slots = RxSlots::new(alloc, RECEIVER, WINDOW);
-    slots.install(AssociationNumber::An0, &Secret::S128(stepped::<16>(1)));
+    slots.install(AN, &Secret::S128(stepped::<16>(1)));
     slots
 }
 
@@ -110,7 +114,7 @@ fn frame_numbered(alloc: Global, number: u8) -> Result<Vec<u8>, AllocError>
     protect(
         &GcmKey::of(test_key()),
         SENDER,
-        AssociationNumber::An0,
+        AN,
         u32::from(number),
         true,
         &user,
