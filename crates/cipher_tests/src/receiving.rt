@@ -126,7 +126,7 @@ fn answers_in_turn(rt: HostRuntime) -> Result<(), Fail> {
     assert_eq!(&rt; slots.lowest(AssociationNumber::An2), 6);
     slots.install(AssociationNumber::An0, &SHORT_KEY);
     is_answered(&rt, rt.alloc(), &mut slots, ZERO, "Late { next: 1 }")?;
-    slots.remove(0);
+    slots.remove(AssociationNumber::An0);
     is_answered(&rt, rt.alloc(), &mut slots, FIRST, "Missed { an: An0 }")?;
     let mut own = RxSlots::new(rt.alloc(), A, 0);
     is_answered(&rt, rt.alloc(), &mut own, CHANGED, "Own")
