@@ -14,8 +14,8 @@ use Rattle.lan_core.specs.declared.fact.Lack.TheVariants.{NoKey}
 use Rattle.lan_core.specs.declared.fact.Fact.TheVariants.{Life, Ticked, Server, Dropped, Began}
 use Rattle.lan_core.specs.declared.fact.Fact.TheVariants.{Installed, Framed, Claimed, Unclaimed}
 use Rattle.lan_core.specs.declared.fact.Fact.TheVariants.{Arrived}
-use Rattle.group_safety.specs.Summary.{summary, counts, most}
-use Rattle.group_safety.specs.inside.Counting.{stepped}
+use Rattle.fact_tally.specs.Summary.{summary, counts, most}
+use Rattle.fact_tally.specs.inside.Counting.{stepped}
 
 abbrev mi : Mi
 mi = record { 0 = replicate 12 1 }
@@ -23,7 +23,8 @@ mi = record { 0 = replicate 12 1 }
 abbrev id : KeyId
 id = record { server = mi; number = 1 }
 
--- two stations with their first key: twelve ticks, nine frames, and each installs and begins the key
+-- two stations with their first key: twelve ticks, nine frames, and each installs and begins the
+-- key
 abbrev first_key : List Fact
 first_key =
     Life 0 mi ∷ Life 1 mi ∷ replicate 12 (Ticked 0 1 0) ++ replicate 9 (Framed 1 0 false [])
