@@ -1,9 +1,11 @@
 -- The proof of the hitless rollover.
+pub mod Waits
+pub mod Course
 pub mod Spans
 pub mod KeyFacts
 pub mod Young
 pub mod Core
-pub mod Rules
+pub mod Begins
 pub mod Turns
 pub mod Facts
 pub mod Events

@@ -19,7 +19,7 @@ use Rattle.lan_core.specs.Claims.{claimed}
 use Rattle.group_safety.specs.Moments.{upto, At}
 use Rattle.group_safety.specs.Rounds.{rounds}
 use Rattle.group_safety.specs.Stations.{keys_at}
-use Rattle.group_safety.specs.Steady.{IsListener, IsKeeper, Makes}
+use Rattle.group_safety.specs.Steady.{Rollover, IsListener, IsKeeper, Makes}
 
 -- in the event at a moment a station claims a packet number under a key, which transmits there
 pub record Claims (settings : Settings) (run : Run) (moment station : ℕ) (key : Key) (pn : ℕ) :
@@ -42,16 +42,26 @@ pub record IsFrameOf (settings : Settings) (run : Run) (claim frame : ℕ) : Typ
   pub fact : Contains event.facts (facts.Framed frame station true octets)
   pub place : length (emitted (upto emission run)) ≡ length (claimed settings (upto claim run))
 
--- A frame is claimed in one event by a station under a key, and delivered in another to a station.
-pub record IsFlight (settings : Settings) (run : Run) (claim delivery sender receiver : ℕ)
-    (key : Key) (frame : ℕ) : Type 0 where
+-- A flight of a frame: which station claims it under which key, to which it is delivered, and the
+-- moments of both.
+pub record Flight : Type 0 where
+  pub frame : ℕ
+  pub key : Key
+  pub sender : ℕ
+  pub claim : ℕ
+  pub receiver : ℕ
+  pub delivery : ℕ
+
+-- The frame is claimed in one event by the sender under the key, and delivered in another to the
+-- receiver.
+pub record IsFlight (settings : Settings) (run : Run) (flight : Flight) : Type 0 where
   pub pn : ℕ
-  pub claims : Claims settings run claim sender key pn
-  pub its_frame : IsFrameOf settings run claim frame
+  pub claims : Claims settings run flight.claim flight.sender flight.key pn
+  pub its_frame : IsFrameOf settings run flight.claim flight.frame
   pub event : Happening
-  pub at : At run delivery event
-  pub within : delivery < length run
-  pub delivered : event.event ≡ events.Deliver frame receiver
+  pub at : At run flight.delivery event
+  pub within : flight.delivery < length run
+  pub delivered : event.event ≡ events.Deliver flight.frame flight.receiver
 
 -- ---- found
 
@@ -73,14 +83,14 @@ pub record Receives (settings : Settings) (run : Run) (moment station an : ℕ) 
   pub secret : key.sak ≡ sak
 
 -- A delivery is found: it is answered, by a key that has the frame's SAK.
-pub record IsFound (settings : Settings) (run : Run) (delivery receiver frame : ℕ) (key : Key) :
-    Type 0 where
+pub record IsFound (settings : Settings) (run : Run) (flight : Flight) : Type 0 where
   pub event : Happening
-  pub at : At run delivery event
+  pub at : At run flight.delivery event
   pub arrival : Arrival
-  pub fact : Contains event.facts (facts.Arrived frame receiver arrival)
+  pub fact : Contains event.facts (facts.Arrived flight.frame flight.receiver arrival)
   pub answers : Answers arrival
-  pub receives : Receives settings run delivery receiver key.an key.sak
+  pub receives :
+      Receives settings run flight.delivery flight.receiver flight.key.an flight.key.sak
 
 -- ---- in time
 
@@ -99,26 +109,28 @@ HasSaid server station moment listens =
 -- server, or a keeper that has said so, before so many rounds have passed as are left of the retire
 -- time without the lag. (Claims and deliveries begin no round: those before one are those up to
 -- it.)
-pub record IsInTimeForOld (settings : Settings) (run : Run) (from made start server : ℕ)
-    (old_id : KeyId) (lag claim delivery sender receiver : ℕ) (key : Key) : Type 0 where
-  pub named : key.id ≡ old_id
-  pub after : made < claim
-  pub sent : TakesPart server sender (IsKeeper settings run start server old_id)
-  pub reaches : HasSaid server receiver delivery (IsKeeper settings run start server old_id)
-  pub soon : rounds from (upto delivery run) + lag < rounds from (upto claim run) + retire_time
+pub record IsInTimeForOld (settings : Settings) (run : Run) (rollover : Rollover)
+    (flight : Flight) : Type 0 where
+  pub named : flight.key.id ≡ rollover.old_id
+  pub after : rollover.made < flight.claim
+  pub sent : TakesPart rollover.server flight.sender (IsKeeper settings run rollover)
+  pub reaches :
+      HasSaid rollover.server flight.receiver flight.delivery (IsKeeper settings run rollover)
+  pub soon : rounds rollover.from (upto flight.delivery run) + rollover.lag
+      < rounds rollover.from (upto flight.claim run) + retire_time
 
 -- A frame under the new key is: the server or a listener sent it, and it reaches the server, or a
 -- listener that has said so, before the server makes the next.
-pub record IsInTimeForNew (settings : Settings) (run : Run) (made start server : ℕ)
-    (new_id : KeyId) (claim delivery sender receiver : ℕ) (key : Key) : Type 0 where
-  pub named : key.id ≡ new_id
-  pub after : made < claim
-  pub sent : TakesPart server sender (IsListener settings run start server)
-  pub reaches : HasSaid server receiver delivery (IsListener settings run start server)
-  pub last : (n : ℕ) (id : KeyId) → made < n → n < delivery → Makes run n server id → ⊥
+pub record IsInTimeForNew (settings : Settings) (run : Run) (rollover : Rollover)
+    (flight : Flight) : Type 0 where
+  pub named : flight.key.id ≡ rollover.new_id
+  pub after : rollover.made < flight.claim
+  pub sent : TakesPart rollover.server flight.sender (IsListener settings run rollover)
+  pub reaches :
+      HasSaid rollover.server flight.receiver flight.delivery (IsListener settings run rollover)
+  pub last : (n : ℕ) (id : KeyId) → rollover.made < n → n < flight.delivery
+      → Makes run n rollover.server id → ⊥
 
-abbrev pub IsInTime : Settings → Run → (from made start server : ℕ) → (old_id new_id : KeyId)
-    → (lag claim delivery sender receiver : ℕ) → Key → Type 0
-IsInTime settings run from made start server old_id new_id lag claim delivery sender receiver key =
-    IsInTimeForOld settings run from made start server old_id lag claim delivery sender receiver key
-    ⊎ IsInTimeForNew settings run made start server new_id claim delivery sender receiver key
+abbrev pub IsInTime : Settings → Run → Rollover → Flight → Type 0
+IsInTime settings run rollover flight =
+    IsInTimeForOld settings run rollover flight ⊎ IsInTimeForNew settings run rollover flight

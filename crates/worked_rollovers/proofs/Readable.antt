@@ -19,7 +19,7 @@ use Rattle.mkpdu_codec.specs.Sets.{IsPeer, IsKey}
 use Rattle.mkpdu_codec.specs.Frames.{IsGiven}
 use Rattle.mkpdu_codec.specs.Written.{IsWritableGiven}
 use Rattle.sak_exchange.specs.Unwrapping.{given_sak}
-use Rattle.group_safety.proofs.Public.{protected-is-sec, some-same, group_kek, IsGood, wraps, hides}
+use Rattle.group_safety.proofs.Public.{protected-is_sec, some-same, group_kek, IsSayable, length-wrapped_sak, unwrapped-wrapped_sak}
 use Rattle.worked_rollovers.specs.Group.{settings, bob, octets_of_sak, draw_of, user}
 use Rattle.worked_rollovers.specs.Deeds.{Gift, given_of, whole, carried}
 use Rattle.worked_rollovers.specs.Lives.{hidden_in}
@@ -70,7 +70,7 @@ key-is u e =
     )
 
 pub good-is : (a : Announcement) (g : Option Gift) → is_good a ≡ true → is_gift g ≡ true
-    → IsGood (whole a g)
+    → IsSayable (whole a g)
 good-is a g e f =
     let p1 = and_parts (pointwise nat_eq a.source.0 (take 6 a.sci.0)) _ e in
     let p2 = and_parts (pointwise nat_eq a.ckn settings.ckn) _ p1.1 in
@@ -125,7 +125,7 @@ good-is a g e f =
           (ltb-true g.an 4 x.0, omega arith),
           (
             ltb-true g.number (2 ^ 32) y.0,
-            wraps (draw_of g.number) y.1,
+            length-wrapped_sak (draw_of g.number) y.1,
           ),
         )
 
@@ -136,7 +136,7 @@ hidden-is (Some g) e x same =
     let p = and_parts (nat_lt g.an 4) _ e in
     let q = and_parts (nat_lt g.number (2 ^ 32)) _ p.1 in
     ap (given_sak (group_kek settings)) (sym (some-same same))
-    ∙ ap (option_map S128) (hides (draw_of g.number) q.1)
+    ∙ ap (option_map S128) (unwrapped-wrapped_sak (draw_of g.number) q.1)
 
 pub carried-is-sec : (pn : ℕ) → is_sec (carried pn) ≡ true
-carried-is-sec pn = protected-is-sec (octets_of_sak 3) bob.sci 0 pn true user refl refl
+carried-is-sec pn = protected-is_sec (octets_of_sak 3) bob.sci 0 pn true user refl refl

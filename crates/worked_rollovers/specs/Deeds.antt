@@ -1,5 +1,5 @@
 -- Events as they are told: with what frames of key agreement say, in place of their octets.
-use Rattle.std.specs.Prelude.{ℕ, ◌==◌, cond, List, [], ◌∷◌, ◌++◌, Option, Some, None, true, false}
+use Rattle.std.specs.Prelude.{ℕ, ◌==◌, if◌then◌else◌, List, [], ◌∷◌, ◌++◌, Option, Some, None, true, false}
 use Rattle.gcm_frames.specs.Protected.{protected}
 use Rattle.key_wrap.specs.Wrap.{wrapped}
 use Rattle.mkpdu_codec.specs.declared.announcement.Announcement.{Announcement}
@@ -67,6 +67,6 @@ pub data Paper : Type 0 where
 
 abbrev pub on_air : List Deed → ℕ → Option Paper
 on_air [] n = None
-on_air (tells s next f m a g ∷ ds) n = cond (m == n) (Some (says s a g)) (on_air ds n)
-on_air (emits m pn ∷ ds) n = cond (m == n) (Some (carries pn)) (on_air ds n)
+on_air (tells s next f m a g ∷ ds) n = if m == n then Some (says s a g) else on_air ds n
+on_air (emits m pn ∷ ds) n = if m == n then Some (carries pn) else on_air ds n
 on_air (plain e f ∷ ds) n = on_air ds n

@@ -1,5 +1,5 @@
 -- Three stations of one group, and the keys that alice makes.
-use Rattle.std.specs.Prelude.{ℕ, ◌==◌, cond, List, [], ◌∷◌, ◌++◌, replicate, true}
+use Rattle.std.specs.Prelude.{ℕ, ◌==◌, if◌then◌else◌, List, [], ◌∷◌, ◌++◌, replicate, true}
 use Rattle.lan_base.specs.declared.address.Mi.{Mi}
 use Rattle.lan_base.specs.declared.address.Sci.{Sci}
 use Rattle.lan_base.specs.declared.key_id.KeyId.{KeyId}
@@ -38,7 +38,7 @@ carol = record { name = 67 ∷ []; sci = sci 12; priority = 64 }
 
 -- alice is station 0, bob station 1 and carol station 2
 abbrev pub profile : ℕ → Profile
-profile s = cond (s == 0) alice (cond (s == 1) bob carol)
+profile s = if s == 0 then alice else if s == 1 then bob else carol
 
 -- the SAK of a draw
 abbrev pub octets_of_sak : ℕ → List ℕ
@@ -49,7 +49,7 @@ sak n = S128 (octets_of_sak n)
 
 -- which draw is the SAK of the key of a number
 abbrev pub draw_of : ℕ → ℕ
-draw_of number = cond (number == 1) 3 5
+draw_of number = if number == 1 then 3 else 5
 
 -- the identifiers of alice's keys
 abbrev pub id : ℕ → KeyId

@@ -1,7 +1,7 @@
 -- The lines of a script. What ticks and announcements show is computed of the lives before them, by
 -- the definitions of a station; what the receive slots answer is told.
 use Rattle.std.specs.Prelude.{ℕ, zero, suc, ◌+◌, ◌-◌, List, [], ◌∷◌, ◌++◌, Bool, true, false}
-use Rattle.std.specs.Prelude.{cond, not, Option, Some, None, ◌==◌, ◌&&◌, option_map}
+use Rattle.std.specs.Prelude.{if◌then◌else◌, not, Option, Some, None, ◌==◌, ◌&&◌, option_map}
 use Rattle.std.specs.List.{list_any, filter}
 use Rattle.aes_block.specs.declared.secret.Secret.{Secret}
 use Rattle.mkpdu_codec.specs.declared.announcement.Announcement.{Announcement}
@@ -46,7 +46,7 @@ has_claimed (d ∷ ds) = has_claimed ds
 -- the next packet number that a tick shows
 abbrev pub next_in : ℕ → List Deed → Option Key → ℕ
 next_in s ds None = 0
-next_in s ds (Some k) = cond ((s == 1) && ((k.epoch == 1) && has_claimed ds)) 2 1
+next_in s ds (Some k) = if (s == 1) && ((k.epoch == 1) && has_claimed ds) then 2 else 1
 
 -- the SAK that would be drawn for the next key of a life
 abbrev pub sak_for : Life → Secret
@@ -57,7 +57,7 @@ abbrev pub sees : ℕ → List Deed → ℕ → Seen
 sees s ds next = record {
   next = next;
   latest = 1;
-  old = cond ((s == 0) && not (is_silent 0 ds)) 2 1;
+  old = if (s == 0) && not (is_silent 0 ds) then 2 else 1;
 }
 
 abbrev pub gift_in : Option Given → Option Gift
@@ -112,9 +112,10 @@ has_first l = list_any (λ k. k.an == 0) (received (keys_in l))
 
 abbrev pub arrival_by : ℕ → List Deed → ℕ → Life → Arrival
 arrival_by s ds pn l =
-    cond (s == 1) arrivals.Own
-    (cond (not (has_first l)) (arrivals.Missed 0)
-    (cond (is_silent s ds) (arrivals.Accepted pn user.body) (arrivals.Late (pn + 1))))
+    if s == 1 then arrivals.Own
+    else if not (has_first l) then arrivals.Missed 0
+    else if is_silent s ds then arrivals.Accepted pn user.body
+    else arrivals.Late (pn + 1)
 
 abbrev pub shown_by : ℕ → ℕ → List Deed → Option Paper → Life → List Fact
 shown_by n s ds None l = []

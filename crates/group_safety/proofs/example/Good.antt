@@ -9,7 +9,7 @@ use Rattle.mkpdu_codec.specs.Sets.{IsPeer}
 use Rattle.lan_core.specs.Types.{IsMi, IsSecret}
 use Rattle.group_safety.proofs.once.Ciphers.{wrapped-length}
 use Rattle.group_safety.proofs.once.Living.{group_kek, kek-key}
-use Rattle.group_safety.proofs.example.Scene.{settings, octets_of, set_up, IsGood}
+use Rattle.group_safety.proofs.example.Scene.{settings, octets_of, set_up, IsSayable}
 use Rattle.group_safety.proofs.example.Run.{mi, sci, octets_of_sak, sak, a1, b1, a2, b2, a3, c1, a4}
 use Rattle.group_safety.proofs.example.Run.{c2, a5}
 
@@ -26,13 +26,13 @@ pub one : (m n : ℕ) → n < 2 ^ 32 → All IsPeer (record { mi = mi m; mn = n 
 one m n small = All-cons IsPeer (record { mi = mi m; mn = n }) [] (record { mi = refl; mn = small })
     (All-nil IsPeer)
 
-pub wraps : (n : ℕ) → nat_lt n 256 ≡ true
+pub length-wrapped_sak : (n : ℕ) → nat_lt n 256 ≡ true
     → length (wrapped (group_kek settings) (octets_of_sak n)) ≡ 24
-wraps n small =
+length-wrapped_sak n small =
     wrapped-length (group_kek settings) (octets_of_sak n) 16 (kek-key settings set_up) (omega arith)
     refl (sak_is n small).1
 
-pub good_a1 : IsGood a1
+pub good_a1 : IsSayable a1
 good_a1 = record {
   writable =
       record {
@@ -57,7 +57,7 @@ good_a1 = record {
   named = refl;
 }
 
-pub good_b1 : IsGood b1
+pub good_b1 : IsSayable b1
 good_b1 = record {
   writable =
       record {
@@ -82,7 +82,7 @@ good_b1 = record {
   named = refl;
 }
 
-pub good_a2 : IsGood a2
+pub good_a2 : IsSayable a2
 good_a2 = record {
   writable = record {
     source = refl;
@@ -103,12 +103,12 @@ good_a2 = record {
       record { server = refl; number = omega arith; lowest = omega arith },
       record { server = refl; number = omega arith; lowest = omega arith },
     );
-    given = (omega arith, wraps 1 refl);
+    given = (omega arith, length-wrapped_sak 1 refl);
   };
   named = refl;
 }
 
-pub good_b2 : IsGood b2
+pub good_b2 : IsSayable b2
 good_b2 = record {
   writable = record {
     source = refl;
@@ -134,7 +134,7 @@ good_b2 = record {
   named = refl;
 }
 
-pub good_a3 : IsGood a3
+pub good_a3 : IsSayable a3
 good_a3 = record {
   writable = record {
     source = refl;
@@ -160,7 +160,7 @@ good_a3 = record {
   named = refl;
 }
 
-pub good_c1 : IsGood c1
+pub good_c1 : IsSayable c1
 good_c1 = record {
   writable =
       record {
@@ -185,7 +185,7 @@ good_c1 = record {
   named = refl;
 }
 
-pub good_a4 : IsGood a4
+pub good_a4 : IsSayable a4
 good_a4 = record {
   writable = record {
     source = refl;
@@ -206,12 +206,12 @@ good_a4 = record {
       record { server = refl; number = omega arith; lowest = omega arith },
       record { server = refl; number = omega arith; lowest = omega arith },
     );
-    given = (omega arith, wraps 2 refl);
+    given = (omega arith, length-wrapped_sak 2 refl);
   };
   named = refl;
 }
 
-pub good_c2 : IsGood c2
+pub good_c2 : IsSayable c2
 good_c2 = record {
   writable = record {
     source = refl;
@@ -237,7 +237,7 @@ good_c2 = record {
   named = refl;
 }
 
-pub good_a5 : IsGood a5
+pub good_a5 : IsSayable a5
 good_a5 = record {
   writable = record {
     source = refl;

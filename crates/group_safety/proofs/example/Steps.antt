@@ -100,10 +100,11 @@ abbrev pub l21 : Lives
 l21 = goes 0 scene.alice9 l20
 
 -- what a wrap hides
-pub hides : (n : ℕ) → nat_lt n 256 ≡ true
+pub unwrapped-wrapped_sak : (n : ℕ) → nat_lt n 256 ≡ true
     → unwrapped 16 (group_kek settings) (wrapped (group_kek settings) (octets_of_sak n))
     ≡ Some (octets_of_sak n)
-hides n small = hidden 16 (group_kek settings) (octets_of_sak n) (kek-key settings set_up)
+unwrapped-wrapped_sak n small = hidden 16 (group_kek settings) (octets_of_sak n)
+    (kek-key settings set_up)
     (omega arith) (sak_is n small)
 
 -- ---- alice says something, bob answers, and alice makes a key
@@ -150,7 +151,10 @@ s7 v =
 
 takes_first : Hears scene.r7 1 3 (scene.takes 3 1 0) (l7 1) scene.a2 scene.bob3
 unfolding opens
-takes_first = record { shows = rw (hides 1 refl) refl; past = rw (hides 1 refl) refl }
+takes_first = record {
+  shows = rw (unwrapped-wrapped_sak 1 refl) refl;
+  past = rw (unwrapped-wrapped_sak 1 refl) refl;
+}
 
 s8 : Scene users both scene.r7 l7 → Scene users both scene.r8 l8
 unfolding opens
@@ -236,7 +240,10 @@ s17 v =
 
 takes_second : Hears scene.r17 1 7 (scene.takes 7 2 1) (l17 1) scene.a4 scene.carol3
 unfolding opens
-takes_second = record { shows = rw (hides 2 refl) refl; past = rw (hides 2 refl) refl }
+takes_second = record {
+  shows = rw (unwrapped-wrapped_sak 2 refl) refl;
+  past = rw (unwrapped-wrapped_sak 2 refl) refl;
+}
 
 s18 : Scene users both scene.r17 l17 → Scene users both scene.r18 l18
 unfolding opens

@@ -298,13 +298,13 @@ head-is-sec d s t rest dl sl =
     (length (a ∷ b ∷ c ∷ e ∷ f ∷ g ∷ h ∷ i ∷ j ∷ k ∷ l ∷ m ∷ 0x88 ∷ 0xe5 ∷ (t ++ rest)))
     (omega arith)) refl) s sl) d dl
 
-pub protected-is-sec : (key : List ℕ) (sci : Sci) (an pn : ℕ) (conf : Bool) (user : UserFrame)
+pub protected-is_sec : (key : List ℕ) (sci : Sci) (an pn : ℕ) (conf : Bool) (user : UserFrame)
     → length sci.0 ≡ 8
     → length user.destination.0 ≡ 6 → is_sec (protected key sci an pn conf user) ≡ true
-protected-is-sec key sci an pn true user sl dl =
+protected-is_sec key sci an pn true user sl dl =
     head-is-sec user.destination.0 (take 6 sci.0) _ _ dl
     (length-take-le 6 sci.0 (omega (arith, sl)))
-protected-is-sec key sci an pn false user sl dl =
+protected-is_sec key sci an pn false user sl dl =
     head-is-sec user.destination.0 (take 6 sci.0) _ _ dl
     (length-take-le 6 sci.0 (omega (arith, sl)))
 
@@ -330,7 +330,7 @@ emit-on settings users f r w p user k waits place given shows =
     in
     let sends : IsUserFrame user =
     subst IsSendable given (k.plain.sendable w (in-get (claimed settings r) _ w waits)) in
-    let sec = protected-is-sec (secret_octets w.key.sak) p.sci w.key.an w.pn w.key.conf user
+    let sec = protected-is_sec (secret_octets w.key.sak) p.sci w.key.an w.pn w.key.conf user
     (k.plain.typed p (in-get (stations r) w.station p place)).count sends.destination.0 in
     still-kept settings users x r g (emit-still settings f r) refl k k.changes k.allowed
     refl refl refl refl (λ t. refl) (only frame sec)

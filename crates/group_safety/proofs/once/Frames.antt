@@ -20,7 +20,7 @@ use Rattle.mkpdu_codec.specs.Frames.{Spells, IsGiven, IsOfItsTypes}
 use Rattle.mkpdu_codec.specs.Written.{written, IsWritable, IsWritableGiven}
 use Rattle.mkpdu_codec.proofs.Public.{written_spells}
 use Rattle.peer_lists.specs.Histories.{Peering, last_sent}
-use Rattle.peer_lists.specs.Acceptance.{Accepted, accepted}
+use Rattle.peer_lists.specs.Acceptance.{Accepted, accepted, most_peers}
 use Rattle.peer_lists.specs.Peers.{says, hopes, known}
 use Rattle.peer_lists.proofs.Public.{known-at-most}
 use Rattle.sak_exchange.specs.Histories.{Key, Keying}
@@ -90,7 +90,7 @@ fewer {X} {Y} f (x ∷ xs) = go (f x) refl (fewer f xs)
     go None e r = rw e (omega (arith, r))
     go (Some y) e r = rw e (omega (arith, r))
 
-live-few : (m : Member) (p : List Entry) → length (view m p).live ≤ 64
+live-few : (m : Member) (p : List Entry) → length (view m p).live ≤ most_peers
 unfolding view known
 live-few m p =
     let h = peers_of m p in
@@ -98,7 +98,7 @@ live-few m p =
     let b = known-at-most (own m) h in
     omega (arith, a, b)
 
-potential-few : (m : Member) (p : List Entry) → length (view m p).potential ≤ 64
+potential-few : (m : Member) (p : List Entry) → length (view m p).potential ≤ most_peers
 unfolding view known
 potential-few m p =
     let h = peers_of m p in

@@ -136,17 +136,19 @@ key-ok epoch o (Some s) k is =
     (s, refl, sym key)
 
 -- what is known of an offer that is taken
-record IsTakenBy (kept : Option ℕ) (epoch : ℕ) (o : Offer) (sak : Option Secret) (k : Key) : Type 0
-  where
-    listed : o.listed ≡ true
-    over : IsOver kept (number_of o.given)
-    secret : Secret
-    hidden : sak ≡ Some secret
-    same : k ≡ offered_key epoch o secret
+record IsOfferTaken (kept : Option ℕ) (allowed : Bool) (epoch : ℕ) (o : Offer) (sak : Option Secret)
+    (k : Key) : Type 0 where
+  listed : o.listed ≡ true
+  elected : o.elected ≡ true
+  over : IsOver kept (number_of o.given)
+  may_take : allowed ≡ true
+  secret : Secret
+  hidden : sak ≡ Some secret
+  same : k ≡ offered_key epoch o secret
 
 judged-ok : (kept : Option ℕ) (allowed : Bool) (epoch : ℕ) (o : Offer) (sak : Option Secret)
     (k : Key)
-    → judged kept allowed epoch o sak ≡ Ok k → IsTakenBy kept epoch o sak k
+    → judged kept allowed epoch o sak ≡ Ok k → IsOfferTaken kept allowed epoch o sak k
 judged-ok kept allowed epoch o sak k is =
     let a = provided-ok o.listed NotListed _ k is in
     let b = provided-ok o.elected NotServer _ k a.1 in
@@ -155,7 +157,77 @@ judged-ok kept allowed epoch o sak k is =
     let e = provided-ok (is_supported o.given) Suite _ k d.1 in
     let f = provided-ok (nat_lt (offset_of o.given) 2) Offset _ k e.1 in
     let g = key-ok epoch o sak k f.1 in
-    record { listed = a.0; over = c.0; secret = g.0; hidden = g.1; same = g.2 }
+    record {
+      listed = a.0;
+      elected = b.0;
+      over = c.0;
+      may_take = d.0;
+      secret = g.0;
+      hidden = g.1;
+      same = g.2;
+    }
+
+-- what is known of a key that an announcement gives and a station takes, by what it sees then
+pub record IsTaking (m : Member) (v : View) (o : Outcome) (a : Announcement) (k : Key) : Type 0
+  where
+    pub gift : Given
+    pub gives : a.given ≡ Some gift
+    pub accepted : is_accepted o ≡ true
+    pub listed : is_listed m v.peers a ≡ true
+    pub elected : is_server v.server a.mi ≡ true
+    pub server : k.id.server ≡ a.mi
+    pub number : k.id.number ≡ number_of gift
+    pub an : k.an ≡ an_of gift
+    pub hidden : given_sak m.setup.kek gift ≡ Some k.sak
+    pub over : IsOver (greatest_of a.mi v.keys) k.id.number
+    pub allowed : allows v.keys ≡ true
+    pub epoch : k.epoch ≡ next_epoch m.base v.keys
+
+pub taking-is : (m : Member) (v : View) (o : Outcome) (a : Announcement) (k : Key)
+    → key_taken (taken_of m v (offered m v o a)) ≡ Some k → IsTaking m v o a k
+taking-is m v o a k e = go (is_accepted o) refl a.given refl e
+  where
+    offer : Given → Offer
+    offer g =
+        record {
+          given = g;
+          server = a.mi;
+          listed = is_listed m v.peers a;
+          elected =
+              is_server v.server a.mi;
+        }
+
+    answer : (g : Given) (r : Result Key Why) → a.given ≡ Some g → is_accepted o ≡ true
+        → taken m.base v.keys (offer g) (given_sak m.setup.kek g) ≡ r → key_taken (Some r) ≡ Some k
+        → IsTaking m v o a k
+    answer g (Err why) given ok is f = absurd (none-some f)
+    answer g (Ok n) given ok is f =
+        let t = judged-ok (greatest_of a.mi v.keys) (allows v.keys) (next_epoch m.base v.keys)
+        (offer g)
+        (given_sak m.setup.kek g) n is in
+        subst (IsTaking m v o a) (some-same f) (record {
+          gift = g;
+          gives = given;
+          accepted = ok;
+          listed = t.listed;
+          elected = t.elected;
+          server = ap (λ (w : Key). w.id.server) t.same;
+          number = ap (λ (w : Key). w.id.number) t.same;
+          an = ap (λ (w : Key). w.an) t.same;
+          hidden = t.hidden ∙ ap (λ (w : Key). Some w.sak) (sym t.same);
+          over = subst (IsOver (greatest_of a.mi v.keys))
+              (sym (ap (λ (w : Key). w.id.number) t.same)) t.over;
+          allowed = t.may_take;
+          epoch = ap (λ (w : Key). w.epoch) t.same;
+        })
+
+    go : (b : Bool) → is_accepted o ≡ b → (g : Option Given) → a.given ≡ g
+        → key_taken (taken_of m v (cond b (option_map offer g) None)) ≡ Some k
+        → IsTaking m v o a k
+    go false ok g given f = absurd (none-some f)
+    go true ok None given f = absurd (none-some f)
+    go true ok (Some g) given f =
+        answer g (taken m.base v.keys (offer g) (given_sak m.setup.kek g)) given ok refl f
 
 -- an announcement that is accepted is of another member
 or-none : (o p : Option DropReason) → option_or o p ≡ None → o ≡ None
@@ -211,47 +283,20 @@ listed-in m h a e =
 offer-taken : (m : Member) (v : View) (a : Announcement) (k : Key) (o : Outcome)
     → (is_accepted o ≡ true → same_mi a.mi m.mi ≡ false)
     → key_taken (taken_of m v (offered m v o a)) ≡ Some k → IsTaken m v.keys a k
-offer-taken m v a k o others e = go (is_accepted o) refl a.given refl e
-  where
-    offer : Given → Offer
-    offer g =
-        record {
-          given = g;
-          server = a.mi;
-          listed = is_listed m v.peers a;
-          elected =
-              is_server v.server a.mi;
-        }
-
-    answer : (g : Given) (r : Result Key Why) → a.given ≡ Some g → is_accepted o ≡ true
-        → taken m.base v.keys (offer g) (given_sak m.setup.kek g) ≡ r → key_taken (Some r) ≡ Some k
-        → IsTaken m v.keys a k
-    answer g (Err why) given ok is f = absurd (none-some f)
-    answer g (Ok n) given ok is f =
-        let t = judged-ok (greatest_of a.mi v.keys) (allows v.keys) (next_epoch m.base v.keys)
-        (offer g)
-        (given_sak m.setup.kek g) n is in
-        subst (IsTaken m v.keys a) (some-same f) (record {
-          gift = g;
-          gives = given;
-          listed = listed-in m v.peers a t.listed;
-          server = ap (λ (w : Key). w.id.server) t.same;
-          number = ap (λ (w : Key). w.id.number) t.same;
-          an = ap (λ (w : Key). w.an) t.same;
-          hidden = t.hidden ∙ ap (λ (w : Key). Some w.sak) (sym t.same);
-          other = others ok;
-          over = subst (IsOver (greatest_of a.mi v.keys))
-              (sym (ap (λ (w : Key). w.id.number) t.same)) t.over;
-          epoch = ap (λ (w : Key). w.epoch) t.same;
-        })
-
-    go : (b : Bool) → is_accepted o ≡ b → (g : Option Given) → a.given ≡ g
-        → key_taken (taken_of m v (cond b (option_map offer g) None)) ≡ Some k
-        → IsTaken m v.keys a k
-    go false ok g given f = absurd (none-some f)
-    go true ok None given f = absurd (none-some f)
-    go true ok (Some g) given f =
-        answer g (taken m.base v.keys (offer g) (given_sak m.setup.kek g)) given ok refl f
+offer-taken m v a k o others e =
+    let t = taking-is m v o a k e in
+    record {
+      gift = t.gift;
+      gives = t.gives;
+      listed = listed-in m v.peers a t.listed;
+      server = t.server;
+      number = t.number;
+      an = t.an;
+      hidden = t.hidden;
+      other = others t.accepted;
+      over = t.over;
+      epoch = t.epoch;
+    }
 
 -- the key that a hearing takes
 abbrev pub key_heard : Member → Announcement → List Entry → Option Key

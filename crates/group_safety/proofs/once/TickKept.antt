@@ -4,7 +4,7 @@ use Rattle.std.proofs.Common.{◌++◌, length, map, Option, Some, None, arith}
 use Rattle.std.specs.Prelude.{option_map, slice_get}
 use Rattle.lan_base.specs.declared.frame.UserFrame.{UserFrame}
 use Rattle.lan_base.specs.declared.address.Mi.{Mi}
-use Rattle.lan_base.specs.Ranges.{IsCkn}
+use Rattle.lan_base.specs.Ranges.{IsCkn, most_ticks}
 use Rattle.aes_block.specs.declared.secret.Secret.{Secret}
 use Rattle.aes_block.specs.Secrets.{secret_octets}
 use Rattle.aes_block.specs.Aes.{IsKey as IsCipherKey}
@@ -123,7 +123,7 @@ tick-on settings users s next f r l is step k living shows =
         (sent_frame (next_frame r) s (option_map (frame_of m.setup) said)) [])
         shows (tick-gist settings s r next sak l)
 
-    few : 1 + ticks r ≤ 1000000
+    few : 1 + ticks r ≤ most_ticks
     few = step.within.ticks
 
     ready : IsReady m p most

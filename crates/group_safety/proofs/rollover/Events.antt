@@ -27,7 +27,7 @@ use Rattle.lan_core.specs.Expected.{expected, drawn_in, tick_facts, reached_fact
 use Rattle.lan_core.specs.Expected.{claim_fact, emit_facts}
 use Rattle.lan_core.specs.Order.{Exists}
 use Rattle.lan_core.specs.Legal.{IsStep}
-use Rattle.group_safety.specs.inside.Waits.{tick_of}
+use Rattle.group_safety.proofs.rollover.Waits.{tick_of}
 use Rattle.group_safety.proofs.Members.{In}
 use Rattle.group_safety.proofs.once.Nexts.{get-there, mapped, chained}
 

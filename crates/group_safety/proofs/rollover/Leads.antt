@@ -35,7 +35,7 @@ use Rattle.group_safety.proofs.rollover.Spans.{from_to}
 use Rattle.group_safety.proofs.rollover.Moments.{event-at, upto-zero}
 use Rattle.group_safety.proofs.rollover.KeyFacts.{latest-received, received-installed}
 use Rattle.group_safety.proofs.rollover.KeyFacts.{transmitting-last}
-use Rattle.group_safety.proofs.rollover.Rules.{following-is}
+use Rattle.group_safety.proofs.rollover.Begins.{following-is}
 use Rattle.group_safety.proofs.rollover.Turns.{IsTurn, kept-turn, with_tick}
 use Rattle.group_safety.proofs.rollover.Turns.{turn-past}
 use Rattle.group_safety.proofs.rollover.Rounds.{IsPaced}
@@ -192,7 +192,7 @@ module _ (settings : Settings) (users : List UserFrame) (run : Run) (is : IsSett
   life-when-said z t a s =
       elim (key-part settings users run is stepped unforged fresh t z s.event s.within s.at) [
         | lived.rests same none ↦ let e = sym none
-            ∙ ap (Rattle.group_safety.specs.inside.Waits.tick_of t) s.tick in
+            ∙ ap (Rattle.group_safety.proofs.rollover.Waits.tick_of t) s.tick in
             let yes : (t == t) ≡ true = eq-eqb t t refl in absurd (cc (rw yes at e))
         | lived.ticks next l ev living after before keys ↦
             let same_n : next ≡ s.next = let f = sym ev ∙ s.tick in cc (f) in

@@ -29,8 +29,8 @@ use Rattle.lan_core.specs.Fresh.{IsUnforged, drawn_mis}
 use Rattle.group_safety.specs.Moments.{upto, At}
 use Rattle.group_safety.specs.Rounds.{rounds}
 use Rattle.group_safety.specs.Stations.{mi_of, mi_at, keys_of_life, keys_at}
-use Rattle.group_safety.specs.inside.Waits.{waits, tick_of, last_tick}
-use Rattle.group_safety.specs.inside.Course.{Course, Step, Lives}
+use Rattle.group_safety.proofs.rollover.Waits.{waits, tick_of, last_tick}
+use Rattle.group_safety.proofs.rollover.Course.{Course, Step, Lives}
 use Rattle.group_safety.proofs.Members.{In, by_sum}
 use Rattle.group_safety.proofs.once.Histories.{heard_of, heard-ticked, heard-heard}
 use Rattle.group_safety.proofs.once.Ticking.{tick_key, tick_roster, tick_lead}

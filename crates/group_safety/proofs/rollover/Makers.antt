@@ -35,12 +35,12 @@ use Rattle.group_safety.specs.Moments.{upto, At}
 use Rattle.group_safety.specs.Stations.{mi_of, mi_at, keys_at, keys_of_life}
 use Rattle.group_safety.proofs.Members.{by_sum}
 use Rattle.group_safety.proofs.once.Living.{IsLiving}
-use Rattle.group_safety.proofs.once.Rules.{given-is}
+use Rattle.group_safety.proofs.once.Rules.{given-is, taking-is}
 use Rattle.group_safety.proofs.once.Histories.{with_began, with_key, view-keys, keys-ticked}
 use Rattle.group_safety.proofs.rollover.Spans.{from_to}
 use Rattle.group_safety.proofs.rollover.Moments.{event-at, upto-zero}
 use Rattle.group_safety.proofs.rollover.KeyFacts.{latest-received, received-installed}
-use Rattle.group_safety.proofs.rollover.Rules.{made-is, taking-is}
+use Rattle.group_safety.proofs.rollover.Begins.{making-is}
 use Rattle.group_safety.proofs.rollover.Turns.{IsTurn, with_tick}
 use Rattle.group_safety.proofs.rollover.Rounds.{IsPaced}
 use Rattle.group_safety.proofs.rollover.Events as parts
@@ -286,7 +286,7 @@ module _ (settings : Settings) (users : List UserFrame) (run : Run) (is : IsSett
   make-names z s k m =
       let l = m.life_then in
       let v = view l.member (lives.ticked ∷ l.past) in
-      let r = made-is l.member v (seen_at settings s (upto z run) l m.next)
+      let r = making-is l.member v (seen_at settings s (upto z run) l m.next)
       (sak_in m.event.facts) k m.makes in
       let here = keys-of-life settings s (upto z run) l m.living in
       let now = ap made_count (view-keys l.member (lives.ticked ∷ l.past)
@@ -311,7 +311,7 @@ module _ (settings : Settings) (users : List UserFrame) (run : Run) (is : IsSett
   make-counts z s k m =
       elim (key-part settings users run is stepped unforged fresh s z m.event m.within m.at) [
         | lived.rests same none ↦ let e = sym none
-            ∙ ap (Rattle.group_safety.specs.inside.Waits.tick_of s) m.tick in
+            ∙ ap (Rattle.group_safety.proofs.rollover.Waits.tick_of s) m.tick in
             let yes : Rattle.std.specs.Prelude.nat_eq s s ≡ true = eq-eqb s s refl in
             absurd (cc (rw yes at e))
         | lived.ticks next l ev living after before keys ↦

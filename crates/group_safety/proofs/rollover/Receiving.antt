@@ -42,7 +42,7 @@ use Rattle.group_safety.proofs.once.Gists.{gathered}
 use Rattle.group_safety.proofs.once.Histories.{with_began, with_key, view-keys, keys-ticked, keys-heard}
 use Rattle.group_safety.proofs.once.Nexts.{mapped}
 use Rattle.group_safety.proofs.rollover.Turns.{tick-keys, hear-keys}
-use Rattle.group_safety.proofs.rollover.Rules.{made-is}
+use Rattle.group_safety.proofs.rollover.Begins.{making-is}
 use Rattle.group_safety.proofs.rollover.Events.{Kind, IsReached}
 use Rattle.group_safety.proofs.rollover.Events as kinds
 use Rattle.group_safety.proofs.rollover.Makers.{keys-of-life}
@@ -151,7 +151,7 @@ tick-stands m seen sak p s kept stands =
     let second = stands-with_began lead h1 w first2 in
     let now : v1.keys ≡ h1 = view-keys m (lives.ticked ∷ p) ∙ keys-ticked m p in
     let third = key-stage m.base h1 v1.keys lead r key w now kept
-    (λ k e. (made-is m v1 seen sak k e).none_led) second in
+    (λ k e. (making-is m v1 seen sak k e).none_led) second in
     let slots : slots_by (ended v0.keys v1.server ++
     ((beginning v1.keys lead).changes ++ install_changes v1.keys r key)) s ≡ slots_by
     (install_changes v1.keys r key) w =

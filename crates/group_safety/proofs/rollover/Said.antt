@@ -45,7 +45,7 @@ use Rattle.group_safety.proofs.Members.{in-any, any-in, In, by_sum}
 use Rattle.group_safety.proofs.once.Living.{IsKnown, IsLiving}
 use Rattle.group_safety.proofs.once.RunLaws.{known}
 use Rattle.group_safety.proofs.once.Carried.{sec-unread, judged-read}
-use Rattle.group_safety.proofs.once.ClaimKept.{protected-is-sec}
+use Rattle.group_safety.proofs.once.ClaimKept.{protected-is_sec}
 use Rattle.group_safety.proofs.once.ReachKept.{right-some, unforged-repeats}
 use Rattle.group_safety.proofs.once.TickKept.{speaker-of}
 use Rattle.group_safety.proofs.once.Ticking.{said-spells, tick-sound, tick_key, IsReady}
@@ -61,6 +61,7 @@ use Rattle.group_safety.proofs.rollover.Events.{Kind, kind, IsReached}
 use Rattle.group_safety.proofs.rollover.Events as kinds
 use Rattle.group_safety.proofs.rollover.OneLife.{step-at}
 use Rattle.lan_base.specs.Differing.{AllDiffer}
+use Rattle.lan_base.specs.Ranges.{most_ticks}
 use Rattle.lan_core.specs.Fresh.{drawn_mis}
 
 -- a station says an announcement at a tick, which is an event of the run
@@ -267,7 +268,7 @@ module _ (settings : Settings) (users : List UserFrame) (run : Run) (is : IsSett
       let v : IsLiving settings r t l = k.living t l living in
       let seen = seen_at settings t r l next in
       let sak = sak_in x.facts in
-      let more : ticks (x ∷ r) ≤ 1000000 = step.within.ticks in
+      let more : ticks (x ∷ r) ≤ most_ticks = step.within.ticks in
       let count : ticks (x ∷ r) ≡ 1 + ticks r =
       ap (λ e. Rattle.lan_core.specs.Order.ticks_of e + ticks r) ev in
       let ready : IsReady l.member l.past (ticks r) =
@@ -324,7 +325,7 @@ module _ (settings : Settings) (users : List UserFrame) (run : Run) (is : IsSett
       let sends : IsUserFrame u.0 = subst IsSendable u.1
       (k.plain.sendable w (in-get (claimed settings r) _ w waits)) in
       subst (λ o. is_sec o ≡ true) u.2
-      (protected-is-sec (secret_octets w.key.sak) p.0.sci w.key.an w.pn w.key.conf u.0
+      (protected-is_sec (secret_octets w.key.sak) p.0.sci w.key.an w.pn w.key.conf u.0
       (k.plain.typed p.0 (in-get (stations r) w.station p.0 p.1)).count sends.destination.0)
 
   framed-aired : (n : ℕ) (x : Happening) (k t : ℕ) (sec : Bool) (octets : List ℕ) → n < length run

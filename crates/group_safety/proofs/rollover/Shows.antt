@@ -54,9 +54,9 @@ pub data BeginsBy (settings : Settings) (r : Run) (e : Event) (shown : List Fact
       → IsBegun (follow_at l.member a l.past) id epoch cause
       → BeginsBy settings r e shown s id epoch cause
 
-none-begins : (re : Reaction) → re.changes ≡ [] → (c : Change) → In c re.changes
+no-second-begins : (re : Reaction) → re.changes ≡ [] → (c : Change) → In c re.changes
     → Alters None None c
-none-begins re none c i = absurd (subst (λ cs. In c cs) none i)
+no-second-begins re none c i = absurd (subst (λ cs. In c cs) none i)
 
 no-beginning : (id : KeyId) (epoch : ℕ) (cause : Cause) → IsBegun None id epoch cause → ⊥
 no-beginning id epoch cause b = let e = b.begins_now in cc (e)
