@@ -4,7 +4,7 @@
 pub use Rattle.group_safety.proofs.Members.{In, contains-in, in-contains, in-left, all-in, by_sum}
 pub use Rattle.group_safety.proofs.once.Currents.{none-some, some-same}
 -- A run up to a moment: it is whole at its end, and one event more changes nothing before.
-pub use Rattle.group_safety.proofs.rollover.Moments.{upto-whole, upto-earlier}
+pub use Rattle.group_safety.proofs.rollover.AtMoments.{upto-whole, upto-earlier}
 -- What holds of each event of a run, and along its last moments.
 pub use Rattle.group_safety.proofs.example.Each.{Each, each-at, each-passes, Along, along-at}
 -- Events that restart no station, begin no second key, put no frame of key agreement on the air.

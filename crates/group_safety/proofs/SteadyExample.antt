@@ -1,8 +1,11 @@
 -- A run that has a steady rollover with a keeper, and a frame in time: the laws on hitless rollover
 -- speak of it. And what is no steady rollover, or not in time.
-use Rattle.std.proofs.Common.{◌≡◌, ◌<◌, ◌≤◌, ◌+◌, refl, sym, ap, inl, inr, ◌∙◌, ℕ, zero, suc, List, []}
+use Rattle.std.proofs.Common.{◌≡◌, ◌<◌, ◌≤◌, ◌+◌, refl, sym, ap, inl, inr, ◌∙◌, ℕ, zero, suc, List}
+use Rattle.std.proofs.Common.{[]}
 use Rattle.std.proofs.Common.{subst, ◌∷◌, ◌++◌, true, false, None, Some, is_some, option_map, arith}
 use Rattle.std.specs.Prelude.{Contains}
+use Rattle.lan_base.specs.declared.association_number.AssociationNumber.TheVariants.{An0, An1}
+use Rattle.lan_base.specs.declared.association_number.AssociationNumber.{AssociationNumber}
 use Rattle.lan_base.specs.declared.key_id.KeyId.{KeyId}
 use Rattle.mkpdu_codec.specs.declared.announcement.Announcement.{Announcement}
 use Rattle.peer_lists.specs.Acceptance.{Accepted}
@@ -46,9 +49,12 @@ use Rattle.group_safety.proofs.example.Rolled.{l26}
 use Rattle.group_safety.proofs.example.Rolled.{s12, s13, s14, s15, s16, s17, s18, s19, s20, s21}
 use Rattle.group_safety.proofs.example.Rolled.{s22, s23, s24, s25, s26, steps, alice_after}
 use Rattle.group_safety.proofs.example.Rolled.{bob_after, transmits}
-use Rattle.group_safety.proofs.example.Each.{Each, each-at, each-passes, Along, along-at, is_no_restart}
-use Rattle.group_safety.proofs.example.Each.{IsNoRestart, is_no_restart-event, begins_no_second, no-second-begins}
-use Rattle.group_safety.proofs.example.Each.{frames_none, frames_none-framed, last-frame_says, sayable-right}
+use Rattle.group_safety.proofs.example.Each.{Each, each-at, each-passes, Along, along-at}
+use Rattle.group_safety.proofs.example.Each.{is_no_restart}
+use Rattle.group_safety.proofs.example.Each.{IsNoRestart, is_no_restart-event, begins_no_second}
+use Rattle.group_safety.proofs.example.Each.{no-second-begins}
+use Rattle.group_safety.proofs.example.Each.{frames_none, frames_none-framed, last-frame_says}
+use Rattle.group_safety.proofs.example.Each.{sayable-right}
 use Rattle.group_safety.proofs.Examples.{bob_starts, mis_differ, saks_differ}
 
 -- ---- the scenes
@@ -363,7 +369,7 @@ by_6 = (quiet 5 (newest first.r6) refl, by_5)
 
 by_7 : Each IsFourth first.r7
 by_7 = (
-  other 6 (newest first.r7) (facts.Ticked 0 2 0 ∷ facts.Installed 0 (id 1) 0 1 (sak 1) ∷ [])
+  other 6 (newest first.r7) (facts.Ticked 0 2 0 ∷ facts.Installed 0 (id 1) An0 1 (sak 1) ∷ [])
       3 0 alice a2 refl refl good_a2 (λ e f. not_bob e),
   by_6,
 )
@@ -383,7 +389,7 @@ by_10 = (quiet 9 (newest first.r10) refl, by_9)
 
 by_11 : Each IsFourth first.r11
 by_11 = (
-  other 10 (newest first.r11) (facts.Ticked 0 3 0 ∷ facts.Began 0 (id 1) 0 1 all_report ∷ [])
+  other 10 (newest first.r11) (facts.Ticked 0 3 0 ∷ facts.Began 0 (id 1) An0 1 all_report ∷ [])
       5 0 alice a3 refl refl good_a3 (λ e f. not_bob e),
   by_10,
 )
@@ -393,7 +399,7 @@ by_12 = (quiet 11 (newest scene.r12) refl, by_11)
 
 by_13 : Each IsFourth scene.r13
 by_13 = (
-  other 12 (newest scene.r13) (facts.Ticked 0 4 many ∷ facts.Installed 0 (id 2) 1 2 (sak 2) ∷ [])
+  other 12 (newest scene.r13) (facts.Ticked 0 4 many ∷ facts.Installed 0 (id 2) An1 2 (sak 2) ∷ [])
       6 0 alice d4 refl refl good_d4 (λ e f. not_bob e),
   by_12,
 )
@@ -422,7 +428,7 @@ by_19 = (quiet 18 (newest scene.r19) refl, by_18)
 
 by_20 : Each IsFourth scene.r20
 by_20 = (
-  other 19 (newest scene.r20) (facts.Ticked 0 6 many ∷ facts.Began 0 (id 2) 1 2 all_report ∷ [])
+  other 19 (newest scene.r20) (facts.Ticked 0 6 many ∷ facts.Began 0 (id 2) An1 2 all_report ∷ [])
       9 0 alice d5 refl refl good_d5 (λ e f. not_bob e),
   by_19,
 )
@@ -490,20 +496,22 @@ keeps = record { listener = listens; keeps = refl }
 -- ---- he begins the second key once, since he follows
 
 abbrev Follows : ℕ → Happening → Type 0
-Follows n x = (an epoch : ℕ) (cause : Cause) → In (facts.Began 1 (id 2) an epoch cause) x.facts
+Follows n x = (an : AssociationNumber) (epoch : ℕ) (cause : Cause)
+    → In (facts.Began 1 (id 2) an epoch cause) x.facts
     → (cause ≡ flagged) × (rounds 12 (upto (suc n) run) ≤ rounds 12 (upto 20 run) + 0)
 
 none_of : (n : ℕ) (x : Happening) → begins_no_second x ≡ true → Follows n x
 none_of n x none an epoch cause i = absurd (no-second-begins x none an epoch cause i)
 
-same_cause : (an epoch bn other : ℕ) (cause why : Cause)
+same_cause : (an : AssociationNumber) (epoch : ℕ) (bn : AssociationNumber) (other : ℕ)
+    (cause why : Cause)
     → facts.Began 1 (id 2) an epoch cause ≡ facts.Began 1 (id 2) bn other why → cause ≡ why
 same_cause an epoch bn other cause why e = cc (e)
 
 bob_follows : Follows 23 scene.follows
 bob_follows an epoch cause i =
     by_sum i (λ e. cc (e)) (λ j. by_sum j
-    (λ e. (same_cause an epoch 1 2 cause flagged e, omega (arith, begun_in, followed_in)))
+    (λ e. (same_cause an epoch An1 2 cause flagged e, omega (arith, begun_in, followed_in)))
     (λ k. elim k [ ]))
 
 each_follows : Each Follows run
@@ -524,7 +532,7 @@ his_beginning = record {
   event = scene.follows;
   at = refl;
   within = omega arith;
-  an = 1;
+  an = An1;
   epoch = 2;
   fact = (1, omega arith, refl);
 }
@@ -542,7 +550,7 @@ steady = record {
     event = _;
     at = refl;
     within = omega arith;
-    an = 1;
+    an = An1;
     epoch = 2;
     fact = (1, omega arith, refl);
   };
@@ -553,7 +561,7 @@ steady = record {
     within = omega arith;
     next = many;
     tick = refl;
-    an = 1;
+    an = An1;
     epoch = 2;
     sak = sak 2;
     fact = (1, omega arith, refl);

@@ -3,6 +3,7 @@
 -- come in whole rounds.
 use Rattle.std.specs.Prelude.{◌≡◌, ◌<◌, ◌≤◌, ◌+◌, ℕ, suc, false, true, List, length, Contains}
 use Rattle.std.specs.Prelude.{Some, is_some, option_map}
+use Rattle.lan_base.specs.declared.association_number.AssociationNumber.{AssociationNumber}
 use Rattle.lan_base.specs.declared.key_id.KeyId.{KeyId}
 use Rattle.lan_base.specs.Timers.{retire_time}
 use Rattle.mkpdu_codec.specs.declared.announcement.Announcement.{Announcement}
@@ -28,7 +29,7 @@ pub record Begins (run : Run) (moment station : ℕ) (id : KeyId) (cause : Cause
   pub event : Happening
   pub at : At run moment event
   pub within : moment < length run
-  pub an : ℕ
+  pub an : AssociationNumber
   pub epoch : ℕ
   pub fact : Contains event.facts (facts.Began station id an epoch cause)
 
@@ -39,7 +40,7 @@ pub record Makes (run : Run) (moment station : ℕ) (id : KeyId) : Type 0 where
   pub within : moment < length run
   pub next : ℕ
   pub tick : event.event ≡ events.Tick station next
-  pub an : ℕ
+  pub an : AssociationNumber
   pub epoch : ℕ
   pub sak : Secret
   pub fact : Contains event.facts (facts.Installed station id an epoch sak)

@@ -1,13 +1,14 @@
 -- A frame's way through a run, from its claim to a delivery; when it is in time for a rollover, and
 -- when it is found to be of a key that is held (this profile's own words).
-use Rattle.std.specs.Prelude.{◌≡◌, ◌<◌, ◌⊎◌, ◌+◌, ℕ, true, List, length, Contains, Some}
+use Rattle.std.specs.Prelude.{⊤, ◌≡◌, ◌<◌, ◌⊎◌, ◌+◌, ℕ, true, List, length, Contains, Some}
+use Rattle.lan_base.specs.declared.association_number.AssociationNumber.{AssociationNumber}
 use Rattle.lan_base.specs.declared.key_id.KeyId.{KeyId}
 use Rattle.lan_base.specs.Timers.{retire_time}
 use Rattle.peer_lists.specs.Acceptance.{Accepted}
 use Rattle.aes_block.specs.declared.secret.Secret.{Secret}
 use Rattle.rx_slots.specs.declared.arrival.Arrival.{Arrival}
 use Rattle.rx_slots.specs.declared.arrival.Arrival.TheVariants as arrivals
-use Rattle.sak_exchange.specs.Histories.{Key}
+use Rattle.sak_exchange.specs.declared.held_key.Key.{Key}
 use Rattle.sak_exchange.specs.Held.{received}
 use Rattle.lan_core.specs.declared.event.Event.TheVariants as events
 use Rattle.lan_core.specs.declared.fact.Fact.TheVariants as facts
@@ -67,16 +68,16 @@ pub record IsFlight (settings : Settings) (run : Run) (flight : Flight) : Type 0
 
 -- the receiver's association answers
 abbrev pub Answers : Arrival → Type 0
-Answers (arrivals.Accepted pn body) = Unit {0}
-Answers (arrivals.Late next) = Unit {0}
-Answers arrivals.Own = Unit {0}
+Answers (arrivals.Accepted pn body) = ⊤
+Answers (arrivals.Late next) = ⊤
+Answers arrivals.Own = ⊤
 Answers (arrivals.Malformed refusal) = ⊥
 Answers (arrivals.Missed an) = ⊥
 Answers arrivals.BadCheck = ⊥
 
 -- a station receives a key of this association number and SAK
-pub record Receives (settings : Settings) (run : Run) (moment station an : ℕ) (sak : Secret) :
-    Type 0 where
+pub record Receives (settings : Settings) (run : Run) (moment station : ℕ)
+    (an : AssociationNumber) (sak : Secret) : Type 0 where
   pub key : Key
   pub received_here : Contains (received (keys_at settings station (upto moment run))) key
   pub number : key.an ≡ an

@@ -7,6 +7,7 @@ use Rattle.std.specs.Prelude.{◌==◌, ◌&&◌, ◌||◌, nat_le, nat_lt, Cont
 use Rattle.std.specs.Prelude.{option_and_then}
 use Rattle.std.specs.List.{list_all}
 use Rattle.std.proofs.lemmas.Bool.{and_parts, leb-true}
+use Rattle.lan_base.specs.declared.association_number.AssociationNumber.TheVariants.{An0, An1}
 use Rattle.lan_base.specs.declared.key_id.KeyId.{KeyId}
 use Rattle.lan_base.specs.Identifiers.{same_mi}
 use Rattle.peer_lists.specs.Acceptance.{Accepted, refusal, accepted, outcome}
@@ -33,7 +34,8 @@ use Rattle.group_safety.specs.Rounds.{pace, rounds}
 use Rattle.group_safety.specs.Stations.{keys_at, keys_of_life}
 use Rattle.group_safety.specs.Steady.{Begins, IsUnbroken, Trusts, IsListener, IsKeeper, IsSteady}
 use Rattle.group_safety.specs.Time.{IsFlight, IsInTime, IsFound}
-use Rattle.group_safety.proofs.Public.{In, contains-in, in-contains, all-in, by_sum, each-at, each-passes, IsNoRestart, is_no_restart-event, is_no_restart}
+use Rattle.group_safety.proofs.Public.{In, contains-in, in-contains, all-in, by_sum, each-at}
+use Rattle.group_safety.proofs.Public.{each-passes, IsNoRestart, is_no_restart-event, is_no_restart}
 use Rattle.worked_rollovers.specs.Group.{settings, mi, id, sak, bob, user, first_key}
 use Rattle.worked_rollovers.specs.Deeds.{Deed, plain, emits, carried}
 use Rattle.worked_rollovers.specs.Lives.{heard_by, life_by}
@@ -144,26 +146,26 @@ record Computed : Type 0 where
   bob_here : In bob (stations late)
   well : is_tested all_well late ≡ true
   started : is_some (deed_at start late_deeds) ≡ true
-  begun : In (facts.Began 0 (id 2) 1 2 all_report) (facts_in (deed_at start late_deeds))
+  begun : In (facts.Began 0 (id 2) An1 2 all_report) (facts_in (deed_at start late_deeds))
   at_make : is_some (deed_at made late_deeds) ≡ true
   make_tick : (happening (deed_at made late_deeds)).event ≡ events.Tick 0 1
-  installed : In (facts.Installed 0 (id 2) 1 2 (sak 5)) (facts_in (deed_at made late_deeds))
+  installed : In (facts.Installed 0 (id 2) An1 2 (sak 5)) (facts_in (deed_at made late_deeds))
   followed : is_some (deed_at follows late_deeds) ≡ true
-  follow : In (facts.Began 1 (id 2) 1 2 flagged) (facts_in (deed_at follows late_deeds))
+  follow : In (facts.Began 1 (id 2) An1 2 flagged) (facts_in (deed_at follows late_deeds))
   old_held : option_map (λ k. k.id) (old (keys_of_life (life_by 0 server_then)))
       ≡ Some (id 1)
   sends : option_and_then (λ (w : Life). transmitting (keys_in w))
       (life_by 1 (told_upto claim late_deeds))
       ≡ Some first_key
   claims : deed_at claim late_deeds
-      ≡ Some (plain (events.Claim 1 1 1) (facts.Claimed 1 0 1 1 ∷ []))
+      ≡ Some (plain (events.Claim 1 1 1) (facts.Claimed 1 An0 1 1 ∷ []))
   emitted_then : deed_at (suc claim) late_deeds ≡ Some (emits 18 1)
   none_emitted : length (emitted (upto (suc claim) late)) ≡ 0
   none_claimed : length (claimed settings (upto claim late)) ≡ 0
   comes_first : deed_at first_delivery late_deeds
       ≡ Some (plain (events.Deliver 18 0) (facts.Arrived 18 0 (arrivals.Accepted 1 user.body) ∷ []))
   comes_to_carol : deed_at to_carol late_deeds
-      ≡ Some (plain (events.Deliver 18 2) (facts.Arrived 18 2 (arrivals.Missed 0) ∷ []))
+      ≡ Some (plain (events.Deliver 18 2) (facts.Arrived 18 2 (arrivals.Missed An0) ∷ []))
   comes_again : deed_at second_delivery late_deeds
       ≡ Some (plain (events.Deliver 18 0) (facts.Arrived 18 0 (arrivals.Late 2) ∷ []))
   received_there : In first_key (received (keys_of_life (life_by 0 at_delivery)))
@@ -279,7 +281,7 @@ flag-is timed_out e = absurd (cc (e))
 
 bob_begins : Begins late follows 1 (id 2) flagged
 bob_begins =
-    begins-at follows 1 1 2 (id 2) flagged late_deeds computed.followed computed.follow
+    begins-at follows 1 An1 2 (id 2) flagged late_deeds computed.followed computed.follow
 
 bob-follows : (x : ℕ) (cause : Cause) → Begins late x 1 (id 2) cause
     → (cause ≡ flagged)
@@ -297,10 +299,10 @@ bob-follows x cause b =
 pub steady : IsSteady settings late late_rollover
 unfolding keys_at
 steady = record {
-  begins = begins-at start 0 1 2 (id 2) all_report late_deeds computed.started computed.begun;
+  begins = begins-at start 0 An1 2 (id 2) all_report late_deeds computed.started computed.begun;
   old_held = ap (λ o. option_map (λ k. k.id) (old (keys_of_life o)))
       (life-upto 0 (suc start) late_deeds computed.bare computed.readable) ∙ computed.old_held;
-  makes = makes-at made 0 1 2 1 (id 2) (sak 5) late_deeds computed.at_make computed.make_tick
+  makes = makes-at made 0 An1 2 1 (id 2) (sak 5) late_deeds computed.at_make computed.make_tick
       computed.installed;
   order = omega arith;
   unbroken = unbroken 0 made;

@@ -26,7 +26,8 @@ use Rattle.lan_core.specs.Ledgers.{Frame, frame_at, installs_at}
 use Rattle.lan_core.specs.Lives.{Life, life, life_after, lived, lived_hearing, lived_reached}
 use Rattle.lan_core.specs.Lives.{setup_of}
 use Rattle.lan_core.specs.Lives.{begun, drawn_mi, sak_in, lived_ticking, receiving, reaches}
-use Rattle.group_safety.proofs.Public.{group_kek, some-same, none-some, sayable-unprotected, sayable-judged, IsSilent, silent-next, seen-silent}
+use Rattle.group_safety.proofs.Public.{group_kek, some-same, none-some, sayable-unprotected}
+use Rattle.group_safety.proofs.Public.{sayable-judged, IsSilent, silent-next, seen-silent}
 use Rattle.worked_rollovers.specs.Group.{settings, profile}
 use Rattle.worked_rollovers.specs.Deeds.{Deed, tells, emits, plain, happens, run_of}
 use Rattle.worked_rollovers.specs.Deeds.{whole, framed_by, carried, Paper, says, carries, on_air}

@@ -15,7 +15,8 @@ use Rattle.lan_core.specs.Ledgers.{installs}
 use Rattle.group_safety.specs.Moments.{upto}
 use Rattle.group_safety.specs.Rounds.{pace, rounds}
 use Rattle.group_safety.specs.Steady.{Begins, IsKeeper, IsSteady}
-use Rattle.group_safety.proofs.Public.{In, contains-in, each-at, each-passes, begins_no_second, no-second-begins}
+use Rattle.group_safety.proofs.Public.{In, contains-in, each-at, each-passes, begins_no_second}
+use Rattle.group_safety.proofs.Public.{no-second-begins}
 use Rattle.worked_rollovers.specs.Group.{settings, id, bob}
 use Rattle.worked_rollovers.specs.Lives.{heard_by, life_by}
 use Rattle.worked_rollovers.specs.Script.{tick, deliver, begin, send, spread, round, flow}

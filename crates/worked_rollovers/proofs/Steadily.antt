@@ -6,6 +6,7 @@ use Rattle.std.specs.Prelude.{◌==◌, ◌&&◌, ◌||◌, nat_lt, nat_le, Cont
 use Rattle.std.specs.List.{list_all}
 use Rattle.std.proofs.lemmas.Bool.{and_parts, eqb-true, eq-eqb, leb-true}
 use Rattle.std.proofs.lemmas.List.Elements.{Contains-push}
+use Rattle.lan_base.specs.declared.association_number.AssociationNumber.{AssociationNumber}
 use Rattle.lan_base.specs.declared.address.Mi.{Mi}
 use Rattle.lan_base.specs.declared.key_id.KeyId.{KeyId}
 use Rattle.lan_base.specs.Identifiers.{same_mi}
@@ -27,7 +28,10 @@ use Rattle.lan_core.specs.Lives.{Life, life, setup_of}
 use Rattle.group_safety.specs.Moments.{upto, At}
 use Rattle.group_safety.specs.Stations.{mi_at, mi_of, server_at, server_of}
 use Rattle.group_safety.specs.Steady.{Begins, Makes, Sends, Rollover, IsListener, IsKeeper, Trusts}
-use Rattle.group_safety.proofs.Public.{In, contains-in, in-contains, in-left, all-in, by_sum, some-same, upto-whole, upto-earlier, Each, each-at, Along, along-at, frames_none, frames_none-framed, last-frame_says, sayable-right}
+use Rattle.group_safety.proofs.Public.{In, contains-in, in-contains, in-left, all-in, by_sum}
+use Rattle.group_safety.proofs.Public.{some-same, upto-whole, upto-earlier, Each, each-at, Along}
+use Rattle.group_safety.proofs.Public.{along-at, frames_none, frames_none-framed, last-frame_says}
+use Rattle.group_safety.proofs.Public.{sayable-right}
 use Rattle.worked_rollovers.specs.Group.{settings, profile}
 use Rattle.worked_rollovers.specs.Deeds.{Deed, tells, emits, plain, happens, run_of, whole}
 use Rattle.worked_rollovers.specs.Deeds.{told, framed_by}
@@ -254,7 +258,8 @@ shown (Some (tells s next f n a g)) y i = in-left f (told n s a g ∷ []) y i
 shown (Some (emits n pn)) y i = elim i [ ]
 shown (Some (plain e f)) y i = i
 
-pub begins-at : (n s an epoch : ℕ) (i : KeyId) (c : Cause) (ds : List Deed)
+pub begins-at : (n s : ℕ) (an : AssociationNumber) (epoch : ℕ) (i : KeyId) (c : Cause)
+    (ds : List Deed)
     → is_some (deed_at n ds) ≡ true
     → In (facts.Began s i an epoch c) (facts_in (deed_at n ds)) → Begins (run_of ds) n s i c
 begins-at n s an epoch i c ds here fact =
@@ -269,7 +274,8 @@ begins-at n s an epoch i c ds here fact =
           (shown (deed_at n ds) (facts.Began s i an epoch c) fact);
     }
 
-pub makes-at : (n s an epoch next : ℕ) (i : KeyId) (k : Secret) (ds : List Deed)
+pub makes-at : (n s : ℕ) (an : AssociationNumber) (epoch next : ℕ) (i : KeyId) (k : Secret)
+    (ds : List Deed)
     → is_some (deed_at n ds) ≡ true
     → (happening (deed_at n ds)).event ≡ events.Tick s next
     → In (facts.Installed s i an epoch k) (facts_in (deed_at n ds)) → Makes (run_of ds) n s i

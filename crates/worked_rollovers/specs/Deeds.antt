@@ -1,10 +1,14 @@
 -- Events as they are told: with what frames of key agreement say, in place of their octets.
-use Rattle.std.specs.Prelude.{ℕ, ◌==◌, if◌then◌else◌, List, [], ◌∷◌, ◌++◌, Option, Some, None, true, false}
+use Rattle.std.specs.Prelude.{ℕ, ◌==◌, if◌then◌else◌, List, [], ◌∷◌, ◌++◌, Option, Some, None, true}
+use Rattle.std.specs.Prelude.{false}
+use Rattle.lan_base.specs.declared.association_number.AssociationNumber.{AssociationNumber}
+use Rattle.lan_base.specs.declared.association_number.AssociationNumber.TheVariants.{An0}
 use Rattle.gcm_frames.specs.Protected.{protected}
 use Rattle.key_wrap.specs.Wrap.{wrapped}
 use Rattle.mkpdu_codec.specs.declared.announcement.Announcement.{Announcement}
 use Rattle.mkpdu_codec.specs.declared.given.Given.{Given}
 use Rattle.mkpdu_codec.specs.declared.given.Given.TheVariants.{Aes128}
+use Rattle.mkpdu_codec.specs.declared.offset.ConfidentialityOffset.TheVariants.{Octets0}
 use Rattle.mka_station.specs.Announcing.{frame_of}
 use Rattle.lan_core.specs.declared.event.Event.{Event}
 use Rattle.lan_core.specs.declared.event.Event.TheVariants as events
@@ -16,13 +20,13 @@ use Rattle.worked_rollovers.specs.Group.{settings, profile, octets_of_sak, draw_
 
 -- a key that is given: its association number and its key number
 pub record Gift : Type 0 where
-  pub an : ℕ
+  pub an : AssociationNumber
   pub number : ℕ
 
 abbrev pub given_of : Option Gift → Option Given
 given_of None = None
 given_of (Some g) =
-    Some (Aes128 g.an 1 g.number (wrapped (setup_of settings bob).kek
+    Some (Aes128 g.an Octets0 g.number (wrapped (setup_of settings bob).kek
     (octets_of_sak (draw_of g.number))))
 
 -- an announcement with the key that it gives
@@ -35,7 +39,7 @@ framed_by p a = frame_of (setup_of settings p) a
 
 -- a frame that bob protects under the first key
 abbrev pub carried : ℕ → List ℕ
-carried pn = protected (octets_of_sak 3) bob.sci 0 pn true user
+carried pn = protected (octets_of_sak 3) bob.sci An0 pn true user
 
 -- ---- what happens
 

@@ -3,6 +3,8 @@
 use Rattle.std.specs.Prelude.{ℕ, zero, suc, ◌+◌, ◌-◌, List, [], ◌∷◌, ◌++◌, Bool, true, false}
 use Rattle.std.specs.Prelude.{if◌then◌else◌, not, Option, Some, None, ◌==◌, ◌&&◌, option_map}
 use Rattle.std.specs.List.{list_any, filter}
+use Rattle.lan_base.specs.declared.association_number.AssociationNumber.TheVariants.{An0}
+use Rattle.lan_base.specs.AssociationNumbers.{same_an}
 use Rattle.aes_block.specs.declared.secret.Secret.{Secret}
 use Rattle.mkpdu_codec.specs.declared.announcement.Announcement.{Announcement}
 use Rattle.mkpdu_codec.specs.declared.given.Given.{Given}
@@ -11,7 +13,8 @@ use Rattle.peer_lists.specs.Histories.{clock}
 use Rattle.rx_slots.specs.declared.arrival.Arrival.{Arrival}
 use Rattle.rx_slots.specs.declared.arrival.Arrival.TheVariants as arrivals
 use Rattle.sak_exchange.specs.declared.due.Seen.{Seen}
-use Rattle.sak_exchange.specs.Histories.{Key, made_count}
+use Rattle.sak_exchange.specs.declared.held_key.Key.{Key}
+use Rattle.sak_exchange.specs.Histories.{made_count}
 use Rattle.sak_exchange.specs.Held.{received, transmitting}
 use Rattle.sak_exchange.specs.Outcomes.{beginning}
 use Rattle.mka_station.specs.declared.reaction.Reaction.{Reaction}
@@ -108,12 +111,12 @@ reaction_by m a hidden p =
 
 -- whether a station receives the first key
 abbrev pub has_first : Life → Bool
-has_first l = list_any (λ k. k.an == 0) (received (keys_in l))
+has_first l = list_any (λ k. same_an k.an An0) (received (keys_in l))
 
 abbrev pub arrival_by : ℕ → List Deed → ℕ → Life → Arrival
 arrival_by s ds pn l =
     if s == 1 then arrivals.Own
-    else if not (has_first l) then arrivals.Missed 0
+    else if not (has_first l) then arrivals.Missed An0
     else if is_silent s ds then arrivals.Accepted pn user.body
     else arrivals.Late (pn + 1)
 
@@ -140,7 +143,7 @@ begin s m x = with_deed (Some (plain
 -- bob claims the number 1 of the first key, and the frame goes on the air
 unfoldable pub send : Story → Story
 send x = with_deed (Some (emits x.frame 1))
-    (with_deed (Some (plain (events.Claim 1 1 1) (facts.Claimed 1 0 1 1 ∷ []))) x)
+    (with_deed (Some (plain (events.Claim 1 1 1) (facts.Claimed 1 An0 1 1 ∷ []))) x)
 
 abbrev pub each : {A : Type 0} → (Story → A → Story) → List A → Story → Story
 each f [] x = x

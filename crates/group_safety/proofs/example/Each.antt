@@ -5,6 +5,7 @@ use Rattle.std.proofs.Common.{Some}
 use Rattle.std.specs.Prelude.{◌==◌, ◌&&◌}
 use Rattle.std.specs.List.{list_all}
 use Rattle.std.proofs.lemmas.Bool.{cases_lt, and_parts}
+use Rattle.lan_base.specs.declared.association_number.AssociationNumber.{AssociationNumber}
 use Rattle.mkpdu_codec.specs.declared.announcement.Announcement.{Announcement}
 use Rattle.sak_exchange.specs.declared.change.Cause.{Cause}
 use Rattle.mka_station.specs.Hearing.{right}
@@ -16,7 +17,7 @@ use Rattle.lan_core.specs.Run.{Run, Happening, Profile}
 use Rattle.lan_core.specs.Lives.{setup_of}
 use Rattle.group_safety.specs.Moments.{upto, At}
 use Rattle.group_safety.proofs.Members.{In, in-either, all-in, by_sum}
-use Rattle.group_safety.proofs.rollover.Moments.{upto-whole, upto-earlier}
+use Rattle.group_safety.proofs.rollover.AtMoments.{upto-whole, upto-earlier}
 use Rattle.group_safety.proofs.example.Scene.{settings, IsSayable, framed_by, sayable-judged}
 use Rattle.group_safety.proofs.once.Currents.{some-same}
 use Rattle.group_safety.proofs.example.Run.{id, frames}
@@ -93,7 +94,8 @@ begins_second f = false
 abbrev pub begins_no_second : Happening → Bool
 begins_no_second x = list_all (λ f. not (begins_second f)) x.facts
 
-pub no-second-begins : (x : Happening) → begins_no_second x ≡ true → (an epoch : ℕ) (cause : Cause)
+pub no-second-begins : (x : Happening) → begins_no_second x ≡ true → (an : AssociationNumber)
+    (epoch : ℕ) (cause : Cause)
     → In (facts.Began 1 (id 2) an epoch cause) x.facts → ⊥
 no-second-begins x none an epoch cause i =
     true-false (all-in (λ f. not (begins_second f)) x.facts none _ i)

@@ -41,7 +41,6 @@ good_a1 = record {
         live = omega arith;
         potential =
             omega arith;
-        uses = tt;
         given = tt;
       };
   typed = record {
@@ -66,7 +65,6 @@ good_b1 = record {
         live = omega arith;
         potential =
             omega arith;
-        uses = tt;
         given = tt;
       };
   typed = record {
@@ -89,8 +87,7 @@ good_a2 = record {
     named = (omega arith, omega arith);
     live = omega arith;
     potential = omega arith;
-    uses = (omega arith, omega arith);
-    given = (omega arith, omega arith);
+    given = tt;
   };
   typed = record {
     sci = refl;
@@ -115,7 +112,6 @@ good_b2 = record {
     named = (omega arith, omega arith);
     live = omega arith;
     potential = omega arith;
-    uses = (omega arith, omega arith);
     given = tt;
   };
   typed = record {
@@ -141,7 +137,6 @@ good_a3 = record {
     named = (omega arith, omega arith);
     live = omega arith;
     potential = omega arith;
-    uses = (omega arith, omega arith);
     given = tt;
   };
   typed = record {
@@ -169,7 +164,6 @@ good_c1 = record {
         live = omega arith;
         potential =
             omega arith;
-        uses = tt;
         given = tt;
       };
   typed = record {
@@ -192,8 +186,7 @@ good_a4 = record {
     named = (omega arith, omega arith);
     live = omega arith;
     potential = omega arith;
-    uses = (omega arith, omega arith);
-    given = (omega arith, omega arith);
+    given = tt;
   };
   typed = record {
     sci = refl;
@@ -218,7 +211,6 @@ good_c2 = record {
     named = (omega arith, omega arith);
     live = omega arith;
     potential = omega arith;
-    uses = (omega arith, omega arith);
     given = tt;
   };
   typed = record {
@@ -244,7 +236,6 @@ good_a5 = record {
     named = (omega arith, omega arith);
     live = omega arith;
     potential = omega arith;
-    uses = (omega arith, omega arith);
     given = tt;
   };
   typed = record {

@@ -12,7 +12,7 @@ use Rattle.gcm_frames.specs.Tags.{is_sec}
 use Rattle.mkpdu_codec.specs.declared.announcement.Announcement.{Announcement}
 use Rattle.peer_lists.specs.Histories.{clock}
 use Rattle.rx_slots.specs.Numbers.{answer}
-use Rattle.sak_exchange.specs.Histories.{Key}
+use Rattle.sak_exchange.specs.declared.held_key.Key.{Key}
 use Rattle.sak_exchange.specs.Held.{transmitting}
 use Rattle.mka_station.specs.Lives.{Entry, peers_of}
 use Rattle.mka_station.specs.Tick.{tick_turn}
@@ -36,7 +36,8 @@ use Rattle.group_safety.proofs.Members.{In, in-either}
 use Rattle.group_safety.proofs.once.Currents.{some-same, none-some}
 use Rattle.group_safety.proofs.once.Nexts.{life-next, stations-next}
 use Rattle.group_safety.proofs.once.StartKept.{begins}
-use Rattle.group_safety.proofs.example.Scene.{settings, IsSayable, framed_by, sayable-unprotected, sayable-judged}
+use Rattle.group_safety.proofs.example.Scene.{settings, IsSayable, framed_by, sayable-unprotected}
+use Rattle.group_safety.proofs.example.Scene.{sayable-judged}
 use Rattle.group_safety.proofs.example.Scene.{good-short, seen, seen-silent, IsPlainTo}
 use Rattle.group_safety.proofs.example.Scene.{is_few, most_next, next-most, Lives, with_one_life}
 use Rattle.group_safety.proofs.example.Scene.{Scene, goes-on}

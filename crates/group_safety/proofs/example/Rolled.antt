@@ -3,6 +3,7 @@ use Rattle.std.proofs.Common.{◌≡◌, ◌<◌, ◌≤◌, ℕ, refl, sym, ap,
 use Rattle.std.proofs.Common.{List, [], ◌∷◌, cond, Some, is_some, arith, length-append}
 use Rattle.std.specs.Prelude.{option_map, option_and_then, slice_get}
 use Rattle.std.proofs.lemmas.List.Elements.{All-nil}
+use Rattle.lan_base.specs.declared.association_number.AssociationNumber.TheVariants.{An0, An1}
 use Rattle.gcm_frames.specs.Tags.{is_sec}
 use Rattle.gcm_frames.specs.Protected.{iv}
 use Rattle.gcm_frames.proofs.Public.{Encrypts, encrypts, length-gcm_text, length-gcm_tag}
@@ -31,7 +32,8 @@ use Rattle.group_safety.proofs.example.Moves.{tick-moves, hear-moves, claim-move
 use Rattle.group_safety.proofs.example.Run.{alice, bob, user, users, a3, id, sak, octets_of_sak}
 use Rattle.group_safety.proofs.example.Run.{first_key, r11}
 use Rattle.group_safety.proofs.example.Good.{one, length-wrapped_sak, sci_is, sak_is, good_a3}
-use Rattle.group_safety.proofs.example.Steps.{opens, goes, both, l11, unwrapped-wrapped_sak, drawn, a-user}
+use Rattle.group_safety.proofs.example.Steps.{opens, goes, both, l11, unwrapped-wrapped_sak, drawn}
+use Rattle.group_safety.proofs.example.Steps.{a-user}
 use Rattle.group_safety.proofs.example.Rolling as scene
 use Rattle.group_safety.proofs.example.Rolling.{many, more, carried}
 
@@ -44,8 +46,7 @@ good_d4 = record {
     named = (omega arith, omega arith);
     live = omega arith;
     potential = omega arith;
-    uses = (omega arith, omega arith);
-    given = (omega arith, omega arith);
+    given = tt;
   };
   typed = record {
     sci = refl;
@@ -69,7 +70,6 @@ good_e3 = record {
     named = (omega arith, omega arith);
     live = omega arith;
     potential = omega arith;
-    uses = (omega arith, omega arith);
     given = tt;
   };
   typed = record {
@@ -94,7 +94,6 @@ good_e4 = record {
     named = (omega arith, omega arith);
     live = omega arith;
     potential = omega arith;
-    uses = (omega arith, omega arith);
     given = tt;
   };
   typed = record {
@@ -119,7 +118,6 @@ good_d5 = record {
     named = (omega arith, omega arith);
     live = omega arith;
     potential = omega arith;
-    uses = (omega arith, omega arith);
     given = tt;
   };
   typed = record {
@@ -144,7 +142,6 @@ good_e5 = record {
     named = (omega arith, omega arith);
     live = omega arith;
     potential = omega arith;
-    uses = (omega arith, omega arith);
     given = tt;
   };
   typed = record {
@@ -229,7 +226,7 @@ s14 v =
     (λ ahead. refl)
 
 takes : Hears scene.r14 1 6
-    (facts.HeardMka 6 1 Vouched ∷ facts.Installed 1 (id 2) 1 2 (sak 2) ∷ [])
+    (facts.HeardMka 6 1 Vouched ∷ facts.Installed 1 (id 2) An1 2 (sak 2) ∷ [])
     (l14 1) scene.d4 scene.bob7
 unfolding opens
 takes = record {
@@ -308,7 +305,7 @@ data_length =
     simp (length-append, text, tag) (omega arith)
 
 data_is_sec : is_sec carried ≡ true
-data_is_sec = protected-is_sec (octets_of_sak 1) bob.sci 0 many true user refl refl
+data_is_sec = protected-is_sec (octets_of_sak 1) bob.sci An0 many true user refl refl
 
 pub transmits : Scene users both scene.r21 l21
     → transmitting_at settings 1 scene.r21 ≡ Some first_key

@@ -11,6 +11,7 @@ use Rattle.std.proofs.lemmas.Bool.{and_parts, leb-true, ltb-true}
 use lib.Pointwise.{pointwise, bytes_decides}
 use Rattle.lan_base.specs.declared.address.Sci.{Sci}
 use Rattle.lan_base.specs.declared.frame.UserFrame.{UserFrame}
+use Rattle.lan_base.specs.declared.suite.Suite.TheVariants.{GcmAes128}
 use Rattle.aes_block.specs.declared.secret.Secret.TheVariants.{S128}
 use Rattle.aes_cmac.specs.Cmac.{cmac}
 use Rattle.gcm_frames.specs.Tags.{is_sec}
@@ -25,7 +26,7 @@ use Rattle.rx_slots.specs.Histories.{Receiving}
 use Rattle.rx_slots.specs.Histories as slots
 use Rattle.rx_slots.specs.Numbers.{accepted, is_under}
 use Rattle.sak_exchange.specs.declared.due.Seen.{Seen}
-use Rattle.sak_exchange.specs.Histories.{Key}
+use Rattle.sak_exchange.specs.declared.held_key.Key.{Key}
 use Rattle.sak_exchange.specs.Held.{latest, old}
 use Rattle.mka_station.specs.Announcing.{frame_of}
 use Rattle.mka_station.specs.Hearing.{judged}
@@ -62,7 +63,7 @@ settings = record {
   conf = true;
   window = 0;
   rekey = 3221225472;
-  suite = 128;
+  suite = GcmAes128;
 }
 
 pub octets_of : (octets : List ℕ) → list_all (λ octet. nat_lt octet 256) octets ≡ true
@@ -80,7 +81,6 @@ set_up = record {
   name_octets = octets_of settings.ckn refl;
   window = omega arith;
   rekey = omega arith;
-  suite = inl refl;
 }
 
 -- ---- a frame that is right

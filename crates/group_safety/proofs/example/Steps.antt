@@ -2,6 +2,7 @@
 use Rattle.std.proofs.Common.{◌≡◌, refl, ℕ, List, [], ◌∷◌}
 use Rattle.std.proofs.Common.{replicate, true, Some, arith}
 use Rattle.std.specs.Prelude.{nat_lt}
+use Rattle.lan_base.specs.declared.association_number.AssociationNumber.TheVariants.{An0, An1}
 use Rattle.key_wrap.specs.Wrap.{wrapped}
 use Rattle.peer_lists.specs.Acceptance.{refusal, accepted, outcome}
 use Rattle.peer_lists.specs.Peers.{says, hopes, known}
@@ -149,7 +150,7 @@ s7 v =
 
 -- ---- bob takes it, and says so; alice begins it, and claims a number
 
-takes_first : Hears scene.r7 1 3 (scene.takes 3 1 0) (l7 1) scene.a2 scene.bob3
+takes_first : Hears scene.r7 1 3 (scene.takes 3 1 An0) (l7 1) scene.a2 scene.bob3
 unfolding opens
 takes_first = record {
   shows = rw (unwrapped-wrapped_sak 1 refl) refl;
@@ -238,7 +239,7 @@ s17 v =
 
 -- ---- the new life takes it; alice begins it, and claims a number under it
 
-takes_second : Hears scene.r17 1 7 (scene.takes 7 2 1) (l17 1) scene.a4 scene.carol3
+takes_second : Hears scene.r17 1 7 (scene.takes 7 2 An1) (l17 1) scene.a4 scene.carol3
 unfolding opens
 takes_second = record {
   shows = rw (unwrapped-wrapped_sak 2 refl) refl;

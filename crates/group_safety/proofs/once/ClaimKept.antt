@@ -5,12 +5,13 @@ use Rattle.std.proofs.Common.{Option, Some, None, arith}
 use Rattle.std.specs.Prelude.{option_map, slice_get, ◌==◌}
 use Rattle.std.proofs.lemmas.Bool.{le-leb, eqb-false}
 use Rattle.std.proofs.lemmas.List.{append-nil, length-take-le}
+use Rattle.lan_base.specs.declared.association_number.AssociationNumber.{AssociationNumber}
 use Rattle.lan_base.specs.declared.address.Sci.{Sci}
 use Rattle.lan_base.specs.declared.frame.UserFrame.{UserFrame}
 use Rattle.aes_block.specs.Secrets.{secret_octets}
 use Rattle.gcm_frames.specs.Tags.{is_sec}
 use Rattle.gcm_frames.specs.Protected.{protected}
-use Rattle.sak_exchange.specs.Histories.{Key}
+use Rattle.sak_exchange.specs.declared.held_key.Key.{Key}
 use Rattle.sak_exchange.specs.Held.{transmitting}
 use Rattle.lan_core.specs.declared.event.Event.TheVariants as events
 use Rattle.lan_core.specs.declared.fact.Fact.{Fact}
@@ -33,7 +34,7 @@ use Rattle.group_safety.specs.Once.{shown_made}
 use Rattle.group_safety.proofs.Members.{In, in-from_map, in-either}
 use Rattle.group_safety.proofs.once.Ledgers.{Installation, Book, Change}
 use Rattle.group_safety.proofs.once.Ledgers.{was_claimed, MayClaim, book, AreAllowed}
-use Rattle.group_safety.proofs.once.Given.{made_in}
+use Rattle.group_safety.proofs.once.OneKeyEach.{made_in}
 use Rattle.group_safety.proofs.once.KeysSound.{transmitting-installed}
 use Rattle.group_safety.proofs.once.Carried.{IsCarried, carried-more}
 use Rattle.group_safety.proofs.once.Rules.{said_by}
@@ -298,7 +299,8 @@ head-is-sec d s t rest dl sl =
     (length (a ∷ b ∷ c ∷ e ∷ f ∷ g ∷ h ∷ i ∷ j ∷ k ∷ l ∷ m ∷ 0x88 ∷ 0xe5 ∷ (t ++ rest)))
     (omega arith)) refl) s sl) d dl
 
-pub protected-is_sec : (key : List ℕ) (sci : Sci) (an pn : ℕ) (conf : Bool) (user : UserFrame)
+pub protected-is_sec : (key : List ℕ) (sci : Sci) (an : AssociationNumber) (pn : ℕ) (conf : Bool)
+    (user : UserFrame)
     → length sci.0 ≡ 8
     → length user.destination.0 ≡ 6 → is_sec (protected key sci an pn conf user) ≡ true
 protected-is_sec key sci an pn true user sl dl =

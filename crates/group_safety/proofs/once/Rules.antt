@@ -1,7 +1,7 @@
 -- The rules of a station: which key is made, which is taken, and what is said.
-use Rattle.std.proofs.Common.{◌≡◌, ◌<◌, ◌+◌, refl, sym, ap, ◌∙◌, subst, inl, inr, ◌⊎◌, ℕ, zero, suc}
+use Rattle.std.proofs.Common.{◌≡◌, ◌+◌, refl, sym, ap, ◌∙◌, subst, inl, inr, ◌⊎◌, ℕ}
 use Rattle.std.proofs.Common.{List, [], ◌∷◌, map, Bool, true, false, ◌&&◌, ◌||◌, cond, Option, Some}
-use Rattle.std.proofs.Common.{None, Result, Ok, Err, is_some, arith}
+use Rattle.std.proofs.Common.{None, Result, Ok, Err, is_some}
 use Rattle.std.specs.Prelude.{option_map, option_and_then, nat_lt}
 use Rattle.std.specs.List.{list_all}
 use Rattle.std.specs.Option.{option_or}
@@ -15,8 +15,8 @@ use Rattle.mkpdu_codec.specs.declared.given.Given.{Given}
 use Rattle.mkpdu_codec.specs.declared.peer.Peer.{Peer}
 use Rattle.peer_lists.specs.declared.heard.Outcome.{Outcome}
 use Rattle.peer_lists.specs.declared.heard.Outcome.TheVariants.{Dropped}
-use Rattle.peer_lists.specs.declared.heard.DropReason.{DropReason}
-use Rattle.peer_lists.specs.declared.heard.DropReason.TheVariants.{Echo}
+use Rattle.peer_lists.specs.declared.heard.PeerRefusal.{PeerRefusal}
+use Rattle.peer_lists.specs.declared.heard.PeerRefusal.TheVariants.{Echo}
 use Rattle.peer_lists.specs.declared.heard.Heard.{Heard}
 use Rattle.peer_lists.specs.Histories.{Peering, recent, clock}
 use Rattle.peer_lists.specs.Acceptance.{Own, accepted, Accepted, outcome, refusal, echo}
@@ -24,15 +24,16 @@ use Rattle.peer_lists.proofs.Public.{same_mi-equal, by_test}
 use Rattle.sak_exchange.specs.declared.change.Why.{Why}
 use Rattle.sak_exchange.specs.declared.due.Seen.{Seen}
 use Rattle.sak_exchange.specs.declared.offer.Offer.{Offer}
-use Rattle.sak_exchange.specs.Histories.{Key, Keying, last_key, last_roster, install_count}
+use Rattle.sak_exchange.specs.declared.held_key.Key.{Key}
+use Rattle.sak_exchange.specs.Histories.{Keying, last_roster, install_count}
 use Rattle.sak_exchange.specs.Histories.{made_count}
 use Rattle.sak_exchange.specs.Held.{latest, allows}
 use Rattle.sak_exchange.specs.Beginning.{is_latest_made}
-use Rattle.sak_exchange.specs.Making.{made_key, made_roster, next_an, free_from, after, is_used}
+use Rattle.sak_exchange.specs.Making.{made_key, made_roster}
 use Rattle.sak_exchange.specs.Making.{is_in_roster, next_epoch}
 use Rattle.sak_exchange.specs.Taking.{taken, judged, offered_key, provided, provided_new}
 use Rattle.sak_exchange.specs.Taking.{unwrapped_key, greatest_of, an_of, number_of, offset_of}
-use Rattle.sak_exchange.specs.Taking.{is_supported}
+use Rattle.sak_exchange.specs.Taking.{is_supported, leaves_none}
 use Rattle.sak_exchange.specs.declared.change.Why.TheVariants.{NotListed, NotServer}
 use Rattle.sak_exchange.specs.declared.change.Why.TheVariants.{Seen as seen_why, Retiring, Suite}
 use Rattle.sak_exchange.specs.declared.change.Why.TheVariants.{Offset}
@@ -58,27 +59,11 @@ in-has m (n ∷ ns) e =
 
 -- ---- a made key
 
-after-bits : (a : ℕ) → after a < 4
-after-bits a = omega arith
-
-free-bits : (n : ℕ) (h : List Keying) (a : ℕ) → a < 4 → free_from n h a < 4
-free-bits zero h a l = l
-free-bits (suc n) h a l =
-    by_test (is_used h a) (λ e. rw e (free-bits n h (after a) (after-bits a))) (λ e. rw e l)
-
-next-bits : (h : List Keying) → next_an h < 4
-next-bits h = go (last_key h)
-  where
-    go : (o : Option Key) → (elim o [ None ↦ 0 | Some k ↦ free_from 2 h (after k.an) ]) < 4
-    go None = omega arith
-    go (Some k) = free-bits 2 h (after k.an) (after-bits k.an)
-
 -- what is known of a key that is made
 pub record IsMade (base : ℕ) (own : Mi) (h : List Keying) (sak : Secret) (k : Key) : Type 0 where
   pub server : k.id.server ≡ own
   pub number : k.id.number ≡ made_count h + 1
   pub epoch : k.epoch ≡ (base + install_count h) + 1
-  pub an : k.an < 4
   pub same_sak : k.sak ≡ sak
 
 pub made-is : (m : Member) (v : View) (seen : Seen) (sak : Secret) (k : Key)
@@ -95,7 +80,6 @@ made-is m v seen sak k e = go (makes_now m v seen) e
           server = refl;
           number = refl;
           epoch = refl;
-          an = next-bits v.keys;
           same_sak =
               refl;
         })
@@ -155,7 +139,7 @@ judged-ok kept allowed epoch o sak k is =
     let c = new-ok kept (number_of o.given) _ k b.1 in
     let d = provided-ok allowed Retiring _ k c.1 in
     let e = provided-ok (is_supported o.given) Suite _ k d.1 in
-    let f = provided-ok (nat_lt (offset_of o.given) 2) Offset _ k e.1 in
+    let f = provided-ok (leaves_none (offset_of o.given)) Offset _ k e.1 in
     let g = key-ok epoch o sak k f.1 in
     record {
       listed = a.0;
@@ -230,7 +214,7 @@ taking-is m v o a k e = go (is_accepted o) refl a.given refl e
         answer g (taken m.base v.keys (offer g) (given_sak m.setup.kek g)) given ok refl f
 
 -- an announcement that is accepted is of another member
-or-none : (o p : Option DropReason) → option_or o p ≡ None → o ≡ None
+or-none : (o p : Option PeerRefusal) → option_or o p ≡ None → o ≡ None
 or-none None p e = refl
 or-none (Some a) p e = absurd (cc e)
 
@@ -242,7 +226,7 @@ no-echo : (b : Bool) → cond b (Some Echo) None ≡ None → b ≡ false
 no-echo true e = absurd (cc e)
 no-echo false e = refl
 
-unrefused : (r : Option DropReason) (o : Outcome)
+unrefused : (r : Option PeerRefusal) (o : Outcome)
     → is_accepted (elim r [ None ↦ o | Some reason ↦ Dropped reason ]) ≡ true → r ≡ None
 unrefused None o e = refl
 unrefused (Some reason) o e = absurd (true≢false (sym e))

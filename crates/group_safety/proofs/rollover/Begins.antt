@@ -1,35 +1,29 @@
 -- What the rules of a station say where a key begins or is made.
-use Rattle.std.proofs.Common.{◌≡◌, ℕ, Bool, true, false, not, ◌&&◌, List, refl, ap, sym, ◌∙◌, subst}
-use Rattle.std.proofs.Common.{Option, Some, None, is_some, Result, Ok, Err, nat_lt, length}
+use Rattle.std.proofs.Common.{◌≡◌, true, false, not, ◌&&◌, List, refl, ap, sym, ◌∙◌, subst}
+use Rattle.std.proofs.Common.{Option, Some, None, is_some, nat_lt, length}
 use Rattle.std.proofs.lemmas.Bool.{and_parts}
 use Rattle.std.specs.Prelude.{is_none}
 use Rattle.std.specs.List.{list_all}
 use Rattle.aes_block.specs.declared.secret.Secret.{Secret}
 use Rattle.mkpdu_codec.specs.declared.announcement.Announcement.{Announcement}
-use Rattle.mkpdu_codec.specs.declared.given.Given.{Given}
 use Rattle.mkpdu_codec.specs.declared.key_use.Uses.{Uses}
 use Rattle.peer_lists.specs.declared.heard.Outcome.{Outcome}
 use Rattle.sak_exchange.specs.declared.change.Cause.TheVariants.{All, Flag}
-use Rattle.sak_exchange.specs.declared.change.Why.{Why}
 use Rattle.sak_exchange.specs.declared.due.Seen.{Seen}
-use Rattle.sak_exchange.specs.declared.offer.Offer.{Offer}
 use Rattle.sak_exchange.specs.declared.report.Report.{Report}
-use Rattle.sak_exchange.specs.Histories.{Key, Keying, has_begun, clock, last_made_at, last_roster}
+use Rattle.sak_exchange.specs.declared.held_key.Key.{Key}
+use Rattle.sak_exchange.specs.Histories.{Keying, has_begun, clock, last_made_at, last_roster}
 use Rattle.sak_exchange.specs.Held.{latest, allows, may_begin}
 use Rattle.sak_exchange.specs.Reports.{reports_latest, transmits}
 use Rattle.sak_exchange.specs.Beginning.{Beginning, leads, follows, lead_cause, is_latest_made}
 use Rattle.sak_exchange.specs.Beginning.{is_long_ago}
-use Rattle.sak_exchange.specs.Making.{makes, made_key, next_epoch}
-use Rattle.sak_exchange.specs.Taking.{judged, provided, provided_new, unwrapped_key, offered_key}
-use Rattle.sak_exchange.specs.Taking.{greatest_of, number_of, is_supported, offset_of}
-use Rattle.sak_exchange.specs.Unwrapping.{given_sak}
-use Rattle.sak_exchange.specs.Lives.{IsOver}
+use Rattle.sak_exchange.specs.Making.{makes, made_key}
 use Rattle.sak_exchange.proofs.Public.{by_test, by_option, not-true}
 use Rattle.mka_station.specs.Lives.{Member}
 use Rattle.mka_station.specs.Views.{View, reports, serves, is_server}
 use Rattle.mka_station.specs.Tick.{led, made, makes_now}
-use Rattle.mka_station.specs.Hearing.{is_accepted, is_vouched, is_listed, offered, taken_of}
-use Rattle.mka_station.specs.Hearing.{key_taken, followed}
+use Rattle.mka_station.specs.Hearing.{is_vouched}
+use Rattle.mka_station.specs.Hearing.{followed}
 
 -- ---- the server leads
 

@@ -3,7 +3,8 @@ use Rattle.std.specs.Prelude.{◌≡◌, ◌<◌, ◌≤◌, ◌⊎◌, ℕ, ◌
 use Rattle.std.specs.Prelude.{List, ◌∷◌, ◌++◌, Some}
 use Rattle.lan_base.specs.declared.key_id.KeyId.{KeyId}
 use Rattle.lan_base.specs.Timers.{retire_time}
-use Rattle.sak_exchange.specs.Histories.{Key, Keying, ticked, clock, installs, begun_at, has_begun}
+use Rattle.sak_exchange.specs.declared.held_key.Key.{Key}
+use Rattle.sak_exchange.specs.Histories.{Keying, ticked, clock, installs, begun_at, has_begun}
 use Rattle.sak_exchange.specs.Held.{Kept, received, latest, old, transmitting, allows}
 use Rattle.sak_exchange.specs.Lives.{Has, IsQuiet}
 use Rattle.group_safety.specs.Steady.{Rollover}

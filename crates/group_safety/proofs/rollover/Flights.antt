@@ -5,6 +5,7 @@ use Rattle.std.proofs.Common.{Option, Some, None}
 use Rattle.std.proofs.lemmas.Bool.{cases_lt, eqb-true, eqb-false}
 use Rattle.std.proofs.lemmas.List.{length-append, append_assoc}
 use Rattle.std.specs.Prelude.{◌==◌, option_map, slice_get}
+use Rattle.lan_base.specs.declared.association_number.AssociationNumber.{AssociationNumber}
 use Rattle.lan_base.specs.declared.frame.UserFrame.{UserFrame}
 use Rattle.lan_base.specs.declared.address.Sci.{Sci}
 use Rattle.lan_base.specs.Identifiers.{same_sci}
@@ -21,7 +22,8 @@ use Rattle.gcm_frames.proofs.Public.{reread, reopened}
 use Rattle.rx_slots.specs.Histories.{Receiving, standing_key}
 use Rattle.rx_slots.specs.Numbers.{answer, accepted, admitted, is_late, next_number}
 use Rattle.rx_slots.specs.Answers.{checked}
-use Rattle.sak_exchange.specs.Histories.{Key, installs}
+use Rattle.sak_exchange.specs.declared.held_key.Key.{Key}
+use Rattle.sak_exchange.specs.Histories.{installs}
 use Rattle.sak_exchange.specs.Held.{received, transmitting}
 use Rattle.sak_exchange.specs.Lives.{Has}
 use Rattle.sak_exchange.proofs.Public.{by_test}
@@ -50,9 +52,9 @@ use Rattle.group_safety.proofs.once.Living.{IsLiving}
 use Rattle.group_safety.proofs.once.Nexts.{in-get, get-less, in-later, in-gathered, mapped, chained}
 use Rattle.group_safety.proofs.once.LiveHeard.{in-find}
 use Rattle.group_safety.proofs.rollover.Spans.{from_to}
-use Rattle.group_safety.proofs.rollover.Moments.{along, event-at, to-upto}
-use Rattle.group_safety.proofs.rollover.Events.{Kind, kind}
-use Rattle.group_safety.proofs.rollover.Events as kinds
+use Rattle.group_safety.proofs.rollover.AtMoments.{along, event-at, to-upto}
+use Rattle.group_safety.proofs.rollover.EventKinds.{Kind, kind}
+use Rattle.group_safety.proofs.rollover.EventKinds as kinds
 use Rattle.group_safety.proofs.rollover.Shows.{claims-by}
 use Rattle.group_safety.proofs.rollover.OneLife.{step-at, stands-at}
 use Rattle.group_safety.proofs.rollover.Said.{known-at, frames-by}
@@ -114,15 +116,16 @@ one-at-least (suc n) d = omega arith
 
 -- ---- the answer to a frame of a key that stands
 
-answered-data : (window : ℕ) (past : List _) (sci : Sci) (an pn : ℕ) (body : List ℕ)
+answered-data : (window : ℕ) (past : List _) (sci : Sci) (an : AssociationNumber) (pn : ℕ)
+    (body : List ℕ)
     → Answers (admitted window past
     (Rattle.rx_slots.specs.declared.arrival.Checked.TheVariants.Sealed sci an pn body))
 answered-data window past sci an pn body =
     by_test (is_late window (next_number past an sci) pn) (λ t. rw t tt) (λ t. rw t tt)
 
 pub answers-it : (own : Sci) (window : ℕ) (s : List Receiving) (sak : Secret)
-    (sci : Sci) (an pn : ℕ) (conf : Bool) (user : UserFrame)
-    → IsCipherKey (secret_octets sak) → IsSent sci an pn user → standing_key s an ≡ Some sak
+    (sci : Sci) (an : AssociationNumber) (pn : ℕ) (conf : Bool) (user : UserFrame)
+    → IsCipherKey (secret_octets sak) → IsSent sci pn user → standing_key s an ≡ Some sak
     → Answers (answer own window s (protected (secret_octets sak) sci an pn conf user))
 answers-it own window s sak sci an pn conf user key sent stands =
     let octets = protected (secret_octets sak) sci an pn conf user in
@@ -322,7 +325,7 @@ module _ (settings : Settings) (users : List UserFrame) (run : Run) (is : IsSett
     pub octets : List ℕ
     pub protected_so :
         octets ≡ protected (secret_octets f.key.sak) sci f.key.an pn f.key.conf user
-    pub sent : IsSent sci f.key.an pn user
+    pub sent : IsSent sci pn user
     pub key_is : IsCipherKey (secret_octets f.key.sak)
     pub fact : In (facts.Arrived f.frame f.receiver
         (answer life_then.member.setup.sci settings.window (receiving f.receiver
@@ -458,13 +461,9 @@ module _ (settings : Settings) (users : List UserFrame) (run : Run) (is : IsSett
               sent = record {
                 channel = channel;
                 destination = sends.destination.0;
-                an_bits =
-                    kin.an;
                 first = one-at-least F.pn positive;
                 last = typed;
-                some =
-                    sends.body.0;
-                most = sends.body.1;
+                body = sends.body;
               };
               key_is = secret-key f.key.sak kin.sak;
               fact = subst (λ w. In (facts.Arrived f.frame f.receiver

@@ -6,7 +6,8 @@ use Rattle.lan_base.specs.declared.frame.UserFrame.{UserFrame}
 use Rattle.lan_base.specs.Timers.{retire_time}
 use Rattle.rx_slots.specs.Numbers.{answer}
 use Rattle.rx_slots.specs.Histories.{standing_key}
-use Rattle.sak_exchange.specs.Histories.{Key, installs}
+use Rattle.sak_exchange.specs.declared.held_key.Key.{Key}
+use Rattle.sak_exchange.specs.Histories.{installs}
 use Rattle.sak_exchange.specs.Held.{received, transmitting}
 use Rattle.sak_exchange.specs.Lives.{Has}
 use Rattle.lan_core.specs.declared.settings.Settings.{Settings}
@@ -30,7 +31,7 @@ use Rattle.group_safety.proofs.once.Living.{IsLiving, install_by}
 use Rattle.group_safety.proofs.once.Nexts.{in-later}
 use Rattle.group_safety.proofs.once.RunLaws.{known, run-one_key}
 use Rattle.group_safety.proofs.rollover.Spans.{from_to}
-use Rattle.group_safety.proofs.rollover.Moments.{event-at, upto-whole}
+use Rattle.group_safety.proofs.rollover.AtMoments.{event-at, upto-whole}
 use Rattle.group_safety.proofs.rollover.KeyFacts.{received-installed, transmitting-received}
 use Rattle.group_safety.proofs.rollover.OneLife.{step-at}
 use Rattle.group_safety.proofs.rollover.Said.{known-at}

@@ -11,7 +11,8 @@ use Rattle.mkpdu_codec.specs.declared.announcement.Announcement.{Announcement}
 use Rattle.peer_lists.specs.Acceptance.{Accepted}
 use Rattle.sak_exchange.specs.declared.change.Cause.{Cause}
 use Rattle.sak_exchange.specs.declared.report.Report.{Report}
-use Rattle.sak_exchange.specs.Histories.{Key, Keying, ticked, installed, began, installs}
+use Rattle.sak_exchange.specs.declared.held_key.Key.{Key}
+use Rattle.sak_exchange.specs.Histories.{Keying, ticked, installed, began, installs}
 use Rattle.sak_exchange.specs.Histories.{has_begun}
 use Rattle.sak_exchange.specs.Held.{Kept, latest, old}
 use Rattle.sak_exchange.specs.Beginning.{Beginning}
@@ -25,7 +26,7 @@ use Rattle.mka_station.specs.Views.{view, reports}
 use Rattle.mka_station.specs.Hearing.{hear_turn, outcome_of, judged}
 use Rattle.gcm_frames.specs.Tags.{is_sec}
 use Rattle.std.specs.Prelude.{nat_eq, Ok}
-use Rattle.mka_station.specs.inside.Stages.{follow_at}
+use Rattle.mka_station.specs.Hearing.{follow_at}
 use Rattle.lan_core.specs.declared.event.Event.TheVariants as events
 use Rattle.lan_core.specs.declared.settings.Settings.{Settings}
 use Rattle.lan_core.specs.Run.{Run, Happening}
@@ -41,17 +42,17 @@ use Rattle.group_safety.specs.Steady.{Begins, Rollover, IsListener, IsKeeper, Is
 use Rattle.group_safety.proofs.rollover.Course.{Course, Rests, IsListening, IsKeeping}
 use Rattle.group_safety.proofs.Members.{In, contains-in, all-in, in-map, by_sum}
 use Rattle.group_safety.proofs.once.Histories.{with_began, with_key, view-keys, keys-heard}
-use Rattle.group_safety.proofs.rollover.Moments.{one-event, upto-whole}
+use Rattle.group_safety.proofs.rollover.AtMoments.{one-event, upto-whole}
 use Rattle.group_safety.proofs.rollover.KeyFacts.{installed-on, latest-received, received-installed}
 use Rattle.group_safety.proofs.once.Rules.{taking-is}
 use Rattle.group_safety.proofs.rollover.Begins.{led-is, all-report}
-use Rattle.group_safety.proofs.rollover.Events.{kind, IsReached}
-use Rattle.group_safety.proofs.rollover.Events as parts
+use Rattle.group_safety.proofs.rollover.EventKinds.{kind, IsReached}
+use Rattle.group_safety.proofs.rollover.EventKinds as parts
 use Rattle.group_safety.proofs.rollover.Shows.{begins-by}
 use Rattle.group_safety.proofs.rollover.Shows as shows
 use Rattle.group_safety.proofs.rollover.Turns.{IsHearTurn, kept-turn}
 use Rattle.group_safety.proofs.rollover.Turns.{with_tick}
-use Rattle.group_safety.proofs.rollover.Rounds.{IsPaced}
+use Rattle.group_safety.proofs.rollover.TicksAreRounds.{IsPaced}
 use Rattle.group_safety.proofs.rollover.Shown.{said-latest, said-old}
 use Rattle.group_safety.proofs.rollover.OneLife.{step-at, unbroken-life, stands-at}
 use Rattle.group_safety.proofs.rollover.Said.{Said, framed-said}

@@ -8,18 +8,20 @@ use Rattle.lan_base.specs.declared.address.Mi.{Mi}
 use Rattle.lan_base.specs.declared.key_id.KeyId.{KeyId}
 use Rattle.lan_base.specs.declared.frame.UserFrame.{UserFrame}
 use Rattle.sak_exchange.specs.declared.change.Cause.TheVariants.{All}
-use Rattle.sak_exchange.specs.Histories.{Key, Keying, ticked, began, installed, clock, installs}
+use Rattle.sak_exchange.specs.declared.held_key.Key.{Key}
+use Rattle.sak_exchange.specs.Histories.{Keying, ticked, began, installed, clock, installs}
 use Rattle.sak_exchange.specs.Histories.{begun_at, has_begun, install_count, last_roster}
 use Rattle.sak_exchange.specs.Held.{Kept, latest, old, allows}
 use Rattle.sak_exchange.specs.Beginning.{Beginning, is_latest_made}
 use Rattle.sak_exchange.specs.Lives.{Has, IsNumbered}
-use Rattle.sak_exchange.proofs.Public.{by_test, by_option, latest-epoch, first-is, keys-installed, latest-stays, begun-stays}
+use Rattle.sak_exchange.proofs.Public.{by_test, by_option, latest-epoch, first-is, keys-installed}
+use Rattle.sak_exchange.proofs.Public.{latest-stays, begun-stays}
 use Rattle.mka_station.specs.Lives.{Member, Entry, keys_of}
 use Rattle.mka_station.specs.Lives as lives
 use Rattle.mka_station.specs.Views.{view}
 use Rattle.mka_station.specs.Tick.{led, made}
 use Rattle.mka_station.specs.Hearing.{outcome_of}
-use Rattle.mka_station.specs.inside.Stages.{taken_past}
+use Rattle.mka_station.specs.Hearing.{taken_past}
 use Rattle.lan_core.specs.declared.event.Event.TheVariants as events
 use Rattle.lan_core.specs.declared.settings.Settings.{Settings}
 use Rattle.lan_core.specs.Run.{Run, Happening}
@@ -37,21 +39,21 @@ use Rattle.group_safety.proofs.Members.{contains-in, by_sum}
 use Rattle.group_safety.proofs.once.Living.{IsLiving}
 use Rattle.group_safety.proofs.once.Histories.{with_began, with_key, view-keys, keys-ticked}
 use Rattle.group_safety.proofs.rollover.Spans.{grown, lives-later, from_to}
-use Rattle.group_safety.proofs.rollover.Moments.{one-event}
+use Rattle.group_safety.proofs.rollover.AtMoments.{one-event}
 use Rattle.group_safety.proofs.rollover.KeyFacts.{installed-on, latest-received, received-installed}
 use Rattle.group_safety.proofs.rollover.Begins.{IsLed, led-is, making-is, following-is}
-use Rattle.group_safety.proofs.rollover.Events.{kind}
+use Rattle.group_safety.proofs.rollover.EventKinds.{kind}
 use Rattle.group_safety.proofs.rollover.Shows.{begins-by, puts-by}
 use Rattle.group_safety.proofs.rollover.Shows as shows
 use Rattle.group_safety.proofs.rollover.Turns.{IsTickTurn, kept-turn}
 use Rattle.group_safety.proofs.rollover.Turns.{with_tick}
-use Rattle.group_safety.proofs.rollover.Rounds.{IsPaced}
+use Rattle.group_safety.proofs.rollover.TicksAreRounds.{IsPaced}
 use Rattle.group_safety.proofs.rollover.OneLife.{step-at, one-life, unbroken-life}
 use Rattle.group_safety.proofs.rollover.Said.{known-at}
 use Rattle.group_safety.proofs.rollover.Lived.{key-part, kept-at, life-kept, one-install-at}
 use Rattle.group_safety.proofs.rollover.Lived.{tick-turn-at, lives-of, rise-at, tick-settled}
 use Rattle.group_safety.proofs.rollover.Lived as lived
-use Rattle.group_safety.proofs.rollover.Events as parts
+use Rattle.group_safety.proofs.rollover.EventKinds as parts
 use Rattle.group_safety.proofs.rollover.Leads.{LedAt, installed-upto, begun-led}
 use Rattle.group_safety.proofs.rollover.Makers.{MadeAt, keys-of-life, mi-of-life, made-own}
 use Rattle.group_safety.proofs.rollover.Makers.{make-names, turn-puts}

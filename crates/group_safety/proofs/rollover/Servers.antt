@@ -7,7 +7,8 @@ use Rattle.lan_base.specs.declared.address.Mi.{Mi}
 use Rattle.lan_base.specs.Identifiers.{same_mi}
 use Rattle.lan_base.specs.declared.frame.UserFrame.{UserFrame}
 use Rattle.mkpdu_codec.specs.declared.announcement.Announcement.{Announcement}
-use Rattle.sak_exchange.specs.Histories.{Key, ticked}
+use Rattle.sak_exchange.specs.declared.held_key.Key.{Key}
+use Rattle.sak_exchange.specs.Histories.{ticked}
 use Rattle.sak_exchange.specs.Held.{allows}
 use Rattle.sak_exchange.specs.Beginning.{Beginning}
 use Rattle.sak_exchange.proofs.Public.{by_option, same-equal}
@@ -17,8 +18,9 @@ use Rattle.mka_station.specs.Lives as lives
 use Rattle.mka_station.specs.Views.{view, is_server}
 use Rattle.mka_station.specs.Tick.{made, led, tick_turn, with_install, with_beginning}
 use Rattle.mka_station.specs.Hearing.{judged, hear_turn, outcome_of, key_taken}
-use Rattle.mka_station.specs.inside.Stages.{ticked_past, says_at, answer_at, heard_past, follow_at}
-use Rattle.mka_station.specs.inside.Stages.{roster_at}
+use Rattle.mka_station.specs.Tick.{ticked_past, says_at}
+use Rattle.mka_station.specs.Hearing.{answer_at, heard_past, follow_at}
+use Rattle.mka_station.specs.Tick.{roster_at}
 use Rattle.lan_core.specs.declared.event.Event.TheVariants as events
 use Rattle.lan_core.specs.declared.fact.Fact.TheVariants as facts
 use Rattle.lan_core.specs.declared.settings.Settings.{Settings}
@@ -34,12 +36,12 @@ use Rattle.group_safety.proofs.rollover.Course.{Course, Rests}
 use Rattle.group_safety.proofs.Members.{In}
 use Rattle.group_safety.proofs.once.Rules.{taken-is, taking-is}
 use Rattle.group_safety.proofs.once.Histories.{view-keys, keys-ticked}
-use Rattle.group_safety.proofs.rollover.Moments.{event-at}
+use Rattle.group_safety.proofs.rollover.AtMoments.{event-at}
 use Rattle.group_safety.proofs.rollover.Begins.{making-is}
 use Rattle.group_safety.proofs.rollover.Turns.{IsTurn, news, turn-new, news-quiet, turn-past}
 use Rattle.group_safety.proofs.rollover.Turns.{hear-past}
-use Rattle.group_safety.proofs.rollover.Rounds.{IsPaced}
-use Rattle.group_safety.proofs.rollover.Events.{IsReached}
+use Rattle.group_safety.proofs.rollover.TicksAreRounds.{IsPaced}
+use Rattle.group_safety.proofs.rollover.EventKinds.{IsReached}
 use Rattle.group_safety.proofs.rollover.Words.{live-said}
 use Rattle.group_safety.proofs.rollover.OneLife.{no-birth-of}
 use Rattle.group_safety.proofs.rollover.Lived.{key-part, tick-turn-at, hear-turn-at, tick-at}

@@ -9,14 +9,15 @@ use Rattle.lan_base.specs.declared.frame.UserFrame.{UserFrame}
 use Rattle.lan_base.specs.Timers.{retire_time}
 use Rattle.sak_exchange.specs.declared.change.Change.{Change}
 use Rattle.sak_exchange.specs.declared.change.Change.TheVariants as changes
-use Rattle.sak_exchange.specs.Histories.{Key, Keying}
+use Rattle.sak_exchange.specs.declared.held_key.Key.{Key}
+use Rattle.sak_exchange.specs.Histories.{Keying}
 use Rattle.sak_exchange.specs.Held.{transmitting, received, held, shown, ends}
 use Rattle.sak_exchange.specs.Outcomes.{beginning}
 use Rattle.mka_station.specs.Lives.{Member, Entry}
 use Rattle.mka_station.specs.Lives as lives
 use Rattle.mka_station.specs.Views.{view}
 use Rattle.mka_station.specs.Tick.{tick_turn, made, led, ended, install_changes}
-use Rattle.mka_station.specs.inside.Stages.{roster_at}
+use Rattle.mka_station.specs.Tick.{roster_at}
 use Rattle.lan_core.specs.declared.event.Event.TheVariants as events
 use Rattle.lan_core.specs.declared.fact.Fact.TheVariants as facts
 use Rattle.lan_core.specs.declared.settings.Settings.{Settings}
@@ -35,17 +36,18 @@ use Rattle.group_safety.specs.Steady.{Makes, Rollover, IsListener, IsKeeper, IsS
 use Rattle.group_safety.specs.Time.{Flight, Claims, HasSaid, IsInTimeForOld}
 use Rattle.group_safety.proofs.rollover.Course.{RestsThrough, Holds, SendsUnder}
 use Rattle.group_safety.proofs.Members.{In, in-contains, in-left, in-right, in-map, by_sum}
-use Rattle.group_safety.proofs.rollover.Events.{Kind, kind}
-use Rattle.group_safety.proofs.rollover.Events as kinds
-use Rattle.group_safety.proofs.rollover.Rounds.{IsPaced, paced-upto, idle-before}
+use Rattle.group_safety.proofs.rollover.EventKinds.{Kind, kind}
+use Rattle.group_safety.proofs.rollover.EventKinds as kinds
+use Rattle.group_safety.proofs.rollover.TicksAreRounds.{IsPaced, paced-upto, idle-before}
 use Rattle.group_safety.proofs.rollover.OneLife.{step-at}
 use Rattle.group_safety.proofs.rollover.Makers.{MadeAt}
 use Rattle.group_safety.proofs.rollover.Servers.{the-course}
 use Rattle.group_safety.proofs.rollover.Rollovers.{is-course, rollover, server-may}
 use Rattle.group_safety.proofs.rollover.Listeners.{listening, keeping}
-use Rattle.group_safety.proofs.rollover.Core.{found-old_server, found-old_keeper, found-new_server}
-use Rattle.group_safety.proofs.rollover.Core.{found-new_listener, sent-when_server}
-use Rattle.group_safety.proofs.rollover.Core.{sent-when_keeper, soon-enough}
+use Rattle.group_safety.proofs.rollover.ByNumbers.{found-old_server, found-old_keeper}
+use Rattle.group_safety.proofs.rollover.ByNumbers.{found-new_server}
+use Rattle.group_safety.proofs.rollover.ByNumbers.{found-new_listener, sent-when_server}
+use Rattle.group_safety.proofs.rollover.ByNumbers.{sent-when_keeper, soon-enough}
 
 -- ---- a make is shown
 

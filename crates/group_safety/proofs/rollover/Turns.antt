@@ -6,7 +6,8 @@ use Rattle.lan_base.specs.declared.address.Mi.{Mi}
 use Rattle.aes_block.specs.declared.secret.Secret.{Secret}
 use Rattle.mkpdu_codec.specs.declared.announcement.Announcement.{Announcement}
 use Rattle.sak_exchange.specs.declared.due.Seen.{Seen}
-use Rattle.sak_exchange.specs.Histories.{Key, Keying, ticked, clock, begun_at}
+use Rattle.sak_exchange.specs.declared.held_key.Key.{Key}
+use Rattle.sak_exchange.specs.Histories.{Keying, ticked, clock, begun_at}
 use Rattle.sak_exchange.specs.Histories.{install_count}
 use Rattle.sak_exchange.specs.Held.{Kept, latest, allows, may_begin}
 use Rattle.sak_exchange.specs.Beginning.{Beginning}
@@ -17,8 +18,9 @@ use Rattle.mka_station.specs.Lives as lives
 use Rattle.mka_station.specs.Views.{view}
 use Rattle.mka_station.specs.Tick.{tick_turn, led, made, with_sent}
 use Rattle.mka_station.specs.Hearing.{hear_turn}
-use Rattle.mka_station.specs.inside.Stages.{roster_at, begun_past, ticked_past, says_at, answer_at}
-use Rattle.mka_station.specs.inside.Stages.{taken_past, follow_at, heard_past}
+use Rattle.mka_station.specs.Tick.{roster_at, begun_past, ticked_past, says_at}
+use Rattle.mka_station.specs.Hearing.{answer_at}
+use Rattle.mka_station.specs.Hearing.{taken_past, follow_at, heard_past}
 use Rattle.mka_station.specs.Hearing.{key_taken}
 use Rattle.group_safety.proofs.Members.{by_sum}
 use Rattle.group_safety.proofs.once.Histories.{with_key, with_began, keys-begun, keys-installed}

@@ -3,13 +3,16 @@ use Rattle.std.proofs.Common.{◌≡◌, ◌⊎◌, inl, inr, ℕ, suc, ◌+◌,
 use Rattle.std.proofs.Common.{Option, Some, None, is_some, refl, ap, sym, ◌∙◌, subst, arith}
 use Rattle.std.proofs.lemmas.Bool.{cases_lt}
 use Rattle.lan_base.specs.Timers.{retire_time}
-use Rattle.sak_exchange.specs.Histories.{Key, ticked, clock, installs, begun_at, has_begun}
+use Rattle.sak_exchange.specs.declared.held_key.Key.{Key}
+use Rattle.sak_exchange.specs.Histories.{ticked, clock, installs, begun_at, has_begun}
 use Rattle.sak_exchange.specs.Held.{Kept, received, latest, old, allows}
 use Rattle.sak_exchange.specs.Lives.{Has, IsFresh}
-use Rattle.sak_exchange.proofs.Public.{old-stays, latest-stays, unbegun-fresh, begun-stays, was-received}
+use Rattle.sak_exchange.proofs.Public.{old-stays, latest-stays, unbegun-fresh, begun-stays}
+use Rattle.sak_exchange.proofs.Public.{was-received}
 use Rattle.group_safety.specs.Steady.{Rollover}
 use Rattle.group_safety.proofs.rollover.Course.{Course, IsCourse, Lives, Rests, RestsThrough}
-use Rattle.group_safety.proofs.rollover.Course.{IsRollover, IsListening, IsKeeping, Holds, SendsUnder}
+use Rattle.group_safety.proofs.rollover.Course.{IsRollover, IsListening, IsKeeping, Holds}
+use Rattle.group_safety.proofs.rollover.Course.{SendsUnder}
 use Rattle.group_safety.proofs.rollover.Spans.{by_cases, from_to, clock-append, grown}
 use Rattle.group_safety.proofs.rollover.Spans.{grown-quietly}
 use Rattle.group_safety.proofs.rollover.Spans.{clock-rises, rounds-rise, lives-later, rests-part}
