@@ -11,9 +11,9 @@ use Rattle.lan_core.specs.declared.settings.Settings.{Settings}
 use Rattle.lan_core.specs.Run.{Run, happened}
 use Rattle.lan_core.specs.Lives.{transmitting_at}
 use Rattle.lan_core.specs.Claims.{next, is_epoch, shown_by, after_claim}
-use Rattle.lan_schedule.specs.Numbers.{shown_next}
+use Rattle.lan_schedule.specs.Numbers.{shown_next, counted_next, TellNext}
 use Rattle.lan_core.specs.Unstopped.{next_under}
-use Rattle.lan_schedule.specs.inside.Counters.{counted_next, is_tick, TellNext, ShowsNext}
+use Rattle.lan_schedule.specs.inside.Counters.{is_tick, ShowsNext}
 
 equal : (a b : ℕ) → (a == b) ≡ true → a ≡ b
 equal a b e = grind arith

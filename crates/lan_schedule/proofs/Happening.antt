@@ -22,20 +22,18 @@ use Rattle.transcript.specs.Rendering.{transcript}
 use Rattle.lan_schedule.specs.declared.halt.Halt.{Halt}
 use Rattle.lan_schedule.specs.declared.halt.Halt.TheVariants as halts
 use Rattle.lan_schedule.specs.declared.stage.Stage.{Stage}
-use Rattle.lan_schedule.specs.World.{World, names_of, settings, puts}
+use Rattle.lan_schedule.specs.World.{World, names_of, settings, puts, Flow}
 use Rattle.lan_schedule.specs.Settings.{rule_of}
-use Rattle.lan_schedule.specs.Supply.{draw_at}
+use Rattle.lan_schedule.specs.Supply.{draw_at, supply_nth}
 use Rattle.lan_schedule.specs.Answers.{supply, taken_by, halt_of, answered, answer}
-use Rattle.lan_schedule.specs.Acts.{nothing, happen, perform, Goes, Stops, shown}
-use Rattle.lan_schedule.specs.Acts.{world_after}
+use Rattle.lan_schedule.specs.Acts.{nothing, happen, perform, Goes, Stops, shown, world_after}
 use Rattle.lan_schedule.specs.Sound.{IsTidy}
-use Rattle.lan_schedule.specs.Ends.{Sunk, Moment, IsShown, IsReached, Ends}
-use Rattle.lan_schedule.specs.Ends.{EndsEarly, written}
-use Rattle.lan_schedule.specs.inside.Frames.{Flow}
-use Rattle.lan_schedule.specs.inside.Supplies.{supply_nth}
-use Rattle.lan_schedule.specs.inside.Counters.{TellNext, ShowsNext}
+use Rattle.lan_schedule.specs.Ends.{Sunk, Moment, IsShown, IsReached, Ends, EndsEarly, written}
+use Rattle.lan_schedule.specs.Numbers.{TellNext}
+use Rattle.lan_schedule.specs.inside.Counters.{ShowsNext}
 use Rattle.lan_schedule.specs.inside.Comes.{Did, IsExact, named}
-use Rattle.lan_schedule.specs.inside.Staged.{StandsFor, Happened, Writes}
+use Rattle.lan_schedule.specs.Stages.{StandsFor}
+use Rattle.lan_schedule.specs.inside.Staged.{Happened, Writes}
 use Rattle.lan_schedule.proofs.Doing.{took-behind, took-none, after-append, rose-earlier}
 use Rattle.lan_schedule.proofs.Tidying.{tidy-after}
 

@@ -25,7 +25,7 @@ use Rattle.lan_schedule.specs.declared.halt.Halt.TheVariants as halts
 use Rattle.lan_schedule.specs.World.{World, beginning, settings}
 use Rattle.lan_schedule.specs.Answers.{answer, answered, supply, halt_of}
 use Rattle.lan_schedule.specs.Acts.{Act, nothing, refuse, happen, change, seq, look, perform}
-use Rattle.lan_schedule.specs.Acts.{Outcome, Goes, Stops, shown, and_then}
+use Rattle.lan_schedule.specs.Acts.{Course, Goes, Stops, shown, and_then}
 use Rattle.lan_schedule.specs.Sound.{IsTidy}
 use Rattle.lan_schedule.proofs.Drawing.{counted-draws}
 use Rattle.lan_schedule.proofs.LinesCome.{sound-empty}
@@ -158,7 +158,7 @@ never-shown w v event (Ok facts) never e = cc e
 never-shown w v event (Err halt) never e =
     never (let same : halt ≡ halts.Limit which.Input = cc in ap (λ (h : Halt). Err h) same)
 
-never-both : (v : World) (out : Outcome) (g : World → Outcome)
+never-both : (v : World) (out : Course) (g : World → Course)
     → ((u : World) → out ≡ Stops u (halts.Limit which.Input) → ⊥)
     → ((u : World) → g u ≡ Stops v (halts.Limit which.Input) → ⊥)
     → and_then out g ≡ Stops v (halts.Limit which.Input) → ⊥

@@ -40,10 +40,9 @@ use Rattle.lan_schedule.specs.Kinds.{or_else, where_, unknown, is_number, no_fra
 use Rattle.lan_schedule.specs.Kinds.{is_allowed, may_list, wrong_word, refusal}
 use Rattle.lan_schedule.specs.Lines.{add_user, send, chosen_by, deed, act_of, unless_refused}
 use Rattle.lan_schedule.specs.Sound.{IsTidy, IsSound, numbers_of}
-use Rattle.lan_schedule.specs.inside.Comes.{Comes}
+use Rattle.lan_schedule.specs.inside.Comes.{Comes, named}
 use Rattle.lan_core.specs.Lives.{transmitting_at}
 use Rattle.lan_core.specs.Stops.{MayCome}
-use Rattle.lan_schedule.specs.inside.Comes.{named}
 use Rattle.lan_schedule.proofs.Drawing.{bytes-all}
 use Rattle.lan_schedule.proofs.Awaiting.{waits-then}
 use Rattle.lan_schedule.proofs.Users.{user-at-end}

@@ -7,7 +7,7 @@ use Rattle.lan_schedule.specs.declared.commands.Replay.{Replay}
 use Rattle.lan_schedule.specs.World.{World, nothing_kept}
 use Rattle.lan_schedule.specs.Acts.{Act, perform}
 use Rattle.lan_schedule.specs.Ends.{Sunk, Moment, IsReached, Ends}
-use Rattle.lan_schedule.specs.inside.Staged.{StandsFor as StageStandsFor}
+use Rattle.lan_schedule.specs.Stages.{StandsFor as StageStandsFor}
 
 -- before the first station nothing happened, and the tally is that of no facts; from then on the
 -- group at work stands for the world

@@ -104,6 +104,14 @@ sender_at n frames = unwrap_or (option_map (λ put. put.sender) (slice_get frame
 abbrev pub sender : World → ℕ → ℕ
 sender w number = sender_at (number - 1) w.kept.frames
 
+-- the frames by number, and the count of flow rounds
+pub record Flow : Type 0 where
+  pub frames : List Put
+  pub rounds : ℕ
+
+abbrev pub flow_of : World → Flow
+flow_of w = record { frames = w.kept.frames; rounds = w.kept.rounds }
+
 -- ---- links
 
 abbrev pub is_link : ℕ → ℕ → Link → Bool

@@ -1,9 +1,8 @@
 //! The frames of the air, as far as flow rounds look at them.
 
 ghost use Rattle.std.specs.Prelude.{◌≡◌, ◌+◌, ◌-◌, ◌++◌, ◌∷◌, [], cond, length, IfOk, OnOk};
-ghost use Rattle.lan_schedule.specs.World.{puts, put_by, marked_at, sender_at};
+ghost use Rattle.lan_schedule.specs.World.{puts, put_by, marked_at, sender_at, Flow};
 ghost use Rattle.lan_schedule.specs.Lines.{due_of};
-ghost use Rattle.lan_schedule.specs.inside.Frames.{Flow};
 
 use lan_core::Fact;
 use std::alloc::{AllocError, Global};
@@ -29,7 +28,8 @@ pub struct Frames {
 }
 
 impl Model for Frames {
-    ghost use Rattle.lan_schedule.specs.inside.Frames.{Flow, AreMarked, AreInOrder};
+    ghost use Rattle.lan_schedule.specs.World.{Flow};
+    ghost use Rattle.lan_schedule.specs.inside.Frames.{AreMarked, AreInOrder};
 
     ghost Value = { Flow };
 

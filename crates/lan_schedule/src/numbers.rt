@@ -9,8 +9,8 @@ ghost use Rattle.lan_core.specs.Run.{Run, happened};
 ghost use Rattle.lan_core.specs.Claims.{after_claim};
 ghost use Rattle.lan_core.specs.Standing.{StandsFor};
 ghost use Rattle.lan_schedule.specs.Numbers.{shown_next, claimed_number, in_range};
-ghost use Rattle.lan_schedule.specs.inside.Counters.{counted_next, raised_at, is_tick, TellNext};
-ghost use Rattle.lan_schedule.specs.inside.Counters.{ShowsNext};
+ghost use Rattle.lan_schedule.specs.Numbers.{counted_next, TellNext};
+ghost use Rattle.lan_schedule.specs.inside.Counters.{raised_at, is_tick, ShowsNext};
 
 use lan_core::{Event, Fact, Lan};
 use std::alloc::{AllocError, Global};

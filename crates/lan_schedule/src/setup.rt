@@ -5,8 +5,7 @@ ghost use Rattle.lan_base.specs.declared.frame.UserFrame.{UserFrame};
 ghost use Rattle.lan_core.specs.Standing.{StandsFor as GroupStandsFor};
 ghost use Rattle.lan_schedule.specs.declared.halt.Halt.{Halt};
 ghost use Rattle.lan_schedule.specs.Settings.{settings_of, rule_of};
-ghost use Rattle.lan_schedule.specs.Supply.{draw_at};
-ghost use Rattle.lan_schedule.specs.inside.Supplies.{supply_nth};
+ghost use Rattle.lan_schedule.specs.Supply.{draw_at, supply_nth};
 
 use crate::choices::{Choices, Rule};
 use crate::halt::Halt;
@@ -15,6 +14,9 @@ use aes_block::Secret;
 use lan_base::Octets;
 use lan_core::{Lan, Settings};
 use std::alloc::{AllocError, Global};
+
+/// The packet number from which a key is spent, where no line says so: three quarters of all.
+const USUAL_REKEY: u32 = 3_221_225_472;
 
 /// What holds for the whole group, by what was chosen.
 pub fn settings_of(alloc: Global, chosen: &Choices) -> Result<Settings, AllocError>
@@ -30,7 +32,7 @@ pub fn settings_of(alloc: Global, chosen: &Choices) -> Result<Settings, AllocErr
         ckn,
         conf: chosen.conf.unwrap_or(1) == 1,
         window: chosen.window.unwrap_or(0),
-        rekey: chosen.rekey.unwrap_or(3_221_225_472),
+        rekey: chosen.rekey.unwrap_or(USUAL_REKEY),
         suite: if chosen.wide.unwrap_or(false) {
             256
         } else {

@@ -20,7 +20,8 @@ ghost use Rattle.lan_schedule.specs.Lines.{act_of};
 ghost use Rattle.lan_schedule.specs.Answers.{halt_of};
 ghost use Rattle.lan_schedule.specs.Ends.{moment};
 ghost use Rattle.lan_schedule.specs.inside.Comes.{Did};
-ghost use Rattle.lan_schedule.specs.inside.Staged.{StandsFor, Happened, IsOpening};
+ghost use Rattle.lan_schedule.specs.Stages.{StandsFor};
+ghost use Rattle.lan_schedule.specs.inside.Staged.{Happened, IsOpening};
 
 use crate::choices::Choices;
 use crate::frames::Frames;
