@@ -1,24 +1,18 @@
 -- What a call on a group at work did of an act.
-use Rattle.std.specs.Prelude.{◌≡◌, ℕ, true, List, [], length, map, Option, is_some, Result, Ok, Err}
+use Rattle.std.specs.Prelude.{◌≡◌, ℕ, true, List, [], Option, Result, Ok, Err}
 use Rattle.std.specs.Prelude.{◌≤◌}
 use Rattle.lan_base.specs.declared.frame.UserFrame.{UserFrame}
 use Rattle.lan_base.specs.Faults.{Rose}
 use Rattle.lan_base.specs.Told.{after}
 use Rattle.lan_core.specs.declared.event.Event.{Event}
-use Rattle.lan_core.specs.Run.{stations, facts_of}
-use Rattle.lan_core.specs.Standing.{StandsFor as GroupStandsFor}
-use Rattle.group_safety.specs.Summary.{counts}
 use Rattle.lan_schedule.specs.declared.choices.Choices.{Choices}
 use Rattle.lan_schedule.specs.declared.halt.Halt.{Halt}
 use Rattle.lan_schedule.specs.declared.halt.Halt.TheVariants as halts
 use Rattle.lan_schedule.specs.declared.stage.Stage.{Stage}
-use Rattle.lan_schedule.specs.Settings.{lag_of}
-use Rattle.lan_schedule.specs.World.{World, nothing_kept, settings, names_of, Flow}
-use Rattle.lan_schedule.specs.Answers.{supply}
+use Rattle.lan_schedule.specs.World.{World, nothing_kept}
 use Rattle.lan_schedule.specs.Acts.{happen, perform}
 use Rattle.lan_schedule.specs.Ends.{Sunk, Moment, TookFront, IsReached, Ends}
-use Rattle.lan_schedule.specs.Supply.{supply_nth}
-use Rattle.lan_schedule.specs.Numbers.{TellNext}
+use Rattle.lan_schedule.specs.Stages.{StandsFor}
 use Rattle.lan_schedule.specs.inside.Comes.{Comes, named}
 
 -- an event happened, where this user frame is the one that it names
