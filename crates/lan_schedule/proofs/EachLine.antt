@@ -109,13 +109,6 @@ chosen-stays (lines.Suite suite) form chosen are =
     record { window = are.window; rekey = are.rekey; group = are.group }
 chosen-stays _ form chosen are = are
 
-abbrev bits : Bool → ℕ
-bits wide = cond wide 256 128
-
-wide-or-not : (wide : Bool) → (bits wide ≡ 128) ⊎ (bits wide ≡ 256)
-wide-or-not true = inr refl
-wide-or-not false = inl refl
-
 named-sets : (chosen : Choices) (o : Option Keyed) → chosen.group ≡ o → is_some o ≡ true
     → AreChosen chosen → HasSetting chosen
 named-sets chosen None is there are = absurd (cc there)
@@ -129,7 +122,6 @@ named-sets chosen (Some named) is there are =
       name_octets = subst (λ (g : Keyed). AreOctets g.ckn) (sym same) proper.2;
       window = are.window;
       rekey = are.rekey;
-      suite = wide-or-not (unwrap_or chosen.wide false);
     }
 
 -- ---- worlds between lines
@@ -263,7 +255,7 @@ deed-ready n (lines.Rekey rekey) w below form ready right comes =
 deed-ready n (lines.Lag lag) w below form ready right comes =
     chosen-ready n (lines.Lag lag) (is_none w.kept.chosen.lag) w form ready right.allowed comes
 deed-ready n (lines.Suite suite) w below form ready right comes =
-    chosen-ready n (lines.Suite suite) (is_none w.kept.chosen.wide) w form ready right.allowed comes
+    chosen-ready n (lines.Suite suite) (is_none w.kept.chosen.suite) w form ready right.allowed comes
 deed-ready n (lines.Group cak ckn) w below form ready right comes =
     chosen-ready n (lines.Group cak ckn) (is_none w.kept.chosen.group) w form ready right.allowed
     comes

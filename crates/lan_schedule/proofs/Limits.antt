@@ -4,6 +4,7 @@ use Rattle.std.proofs.Common.{refl, ap, arith}
 use Rattle.std.specs.Prelude.{Result, Ok, Err, cond, option_map, option_and_then}
 use Rattle.std.specs.Option.{option_or}
 use Rattle.lan_base.specs.declared.frame.UserFrame.{UserFrame}
+use Rattle.lan_base.specs.declared.suite.Suite.{Suite}
 use Rattle.lan_core.specs.declared.event.Event.{Event}
 use Rattle.lan_core.specs.declared.event.Event.TheVariants as events
 use Rattle.lan_core.specs.declared.settings.Settings.{Settings}
@@ -77,7 +78,7 @@ limit-never None never e = cc e
 limit-never (Some w) never e =
     never (let same : w ≡ which.Input = cc in ap (λ (w : Which). Some w) same)
 
-draw-never : (suite : ℕ) (r : Run) (x : Happening)
+draw-never : (suite : Suite) (r : Run) (x : Happening)
     → stop_of_draw suite r x ≡ Some (stops.Limit which.Input) → ⊥
 draw-never suite r x = go (drawn_before suite r x)
   where
@@ -134,7 +135,6 @@ halt-never line (stops.Limit w) e = let same : w
 halt-never line stops.DrawsSpent e = absurd (cc e)
 halt-never line (stops.RepeatedDraw first second) e = absurd (cc e)
 halt-never line (stops.Forged s) e = absurd (cc e)
-halt-never line stops.Memory e = absurd (cc e)
 
 never-answered : (w : World) (event : Event) (o : Option Stop)
     → (o ≡ Some (stops.Limit which.Input) → ⊥)

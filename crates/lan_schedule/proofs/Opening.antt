@@ -6,7 +6,7 @@ use Rattle.lan_base.specs.declared.frame.UserFrame.{UserFrame}
 use Rattle.lan_core.specs.Claims.{next}
 use Rattle.lan_core.specs.Run.{stations}
 use Rattle.lan_core.specs.Standing.{StandsFor as GroupStandsFor}
-use Rattle.group_safety.specs.Summary.{counts}
+use Rattle.fact_tally.specs.Summary.{counts}
 use Rattle.trace_text.specs.declared.line.Line.{Line}
 use Rattle.trace_text.specs.declared.line.Line.TheVariants as lines
 use Rattle.trace_text.specs.Writing.{IsInForm}

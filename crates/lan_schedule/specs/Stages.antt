@@ -2,7 +2,7 @@
 use Rattle.std.specs.Prelude.{◌≡◌, ℕ, true, length, map, is_some}
 use Rattle.lan_core.specs.Run.{stations, facts_of}
 use Rattle.lan_core.specs.Standing.{StandsFor as GroupStandsFor}
-use Rattle.group_safety.specs.Summary.{counts}
+use Rattle.fact_tally.specs.Summary.{counts}
 use Rattle.lan_schedule.specs.declared.stage.Stage.{Stage}
 use Rattle.lan_schedule.specs.Settings.{lag_of}
 use Rattle.lan_schedule.specs.Supply.{supply_nth}

@@ -1,6 +1,6 @@
 -- For which world a replay stands.
 use Rattle.std.specs.Prelude.{◌≡◌, [], Option, Some, None, Result}
-use Rattle.group_safety.specs.Summary.{counts}
+use Rattle.fact_tally.specs.Summary.{counts}
 use Rattle.lan_schedule.specs.declared.halt.Halt.{Halt}
 use Rattle.lan_schedule.specs.declared.stage.Stage.{Stage}
 use Rattle.lan_schedule.specs.declared.commands.Replay.{Replay}

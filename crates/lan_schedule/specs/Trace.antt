@@ -5,7 +5,7 @@ use Rattle.lan_base.specs.Faults.{Rose}
 use Rattle.lan_base.specs.Told.{after, before}
 use Rattle.lan_core.specs.declared.stop.Which.TheVariants.{Input}
 use Rattle.lan_core.specs.Run.{Run, facts_of}
-use Rattle.group_safety.specs.Summary.{summary}
+use Rattle.fact_tally.specs.Summary.{summary}
 use Rattle.lan_schedule.specs.declared.halt.Halt.{Halt}
 use Rattle.lan_schedule.specs.declared.halt.Halt.TheVariants as halts
 use Rattle.lan_schedule.specs.Texts.{whole_lines, lines_of}
