@@ -1,14 +1,8 @@
 -- The cipher a round at a time.
-use Rattle.std.proofs.Common.{◌≡◌, ℕ, zero, suc, ◌+◌, ◌-◌, ◌≤◌, List, refl, sym, ap, ◌∙◌, arith}
-use Rattle.aes_block.specs.Octet.{octets_sum}
+use Rattle.std.proofs.Common.{◌≡◌, ℕ, zero, suc, ◌+◌, ◌-◌, ◌≤◌, List, sym, ap, ◌∙◌, arith}
 use Rattle.aes_block.specs.State.{add_round_key, round, last_round}
-use Rattle.aes_block.specs.Column.{octets_of}
-use Rattle.aes_block.specs.Columns.{octets_of_state}
-use Rattle.aes_block.specs.declared.state.State.{State}
 use Rattle.aes_block.specs.Expansion.{expanded_key, round_count, round_key}
-use Rattle.aes_block.specs.Aes.{IsBlock, aes, after_rounds, cipher}
-use Rattle.aes_block.proofs.MixedWords.{IsFour-octets_of}
-use Rattle.aes_block.proofs.Steps.{columns-IsBlock, octets_sum-twice}
+use Rattle.aes_block.specs.Aes.{aes, after_rounds, cipher}
 
 -- one round more
 pub after_rounds-more : (words : List (List ℕ)) (block : List ℕ) (i : ℕ) → 1 ≤ i
@@ -36,14 +30,3 @@ unfolding aes cipher
 last_round-after key block i n i_is n_is =
     let words = expanded_key key in
     λ j. last_round (after_rounds words block (i_is j - 1)) (round_key words (n_is j))
-
--- the octets of a state are a block
-pub IsBlock-octets_of_state : (s : State) → IsBlock (octets_of_state s)
-IsBlock-octets_of_state s = columns-IsBlock (IsFour-octets_of s.0) (IsFour-octets_of s.1) (IsFour-octets_of s.2) (IsFour-octets_of s.3)
-
--- a round key that was added is added again
-pub key_added_twice : (s k : State) (text key : List ℕ) → text ≡ octets_sum (octets_of_state s) (octets_of_state k) → octets_of_state k ≡ key
-    → octets_sum text key ≡ octets_of_state s
-unfolding octets_of
-key_added_twice s k text key added is =
-    ap (octets_sum text) (sym is) ∙ ap (λ t. octets_sum t (octets_of_state k)) added ∙ octets_sum-twice (octets_of_state s) (octets_of_state k) refl

@@ -20,10 +20,6 @@ pub times_2-lt : (n : ℕ) → n < 256 → times 2 n < 256
 unfolding times
 times_2-lt = below_at_octet (times 2) 256 refl
 
--- the highest bit is there or not
-pub high_bit : (n : ℕ) → n < 256 → bit_and n 0x80 ≡ bit_and n 0x80 / 128 * 128
-high_bit = equal_at_octet (λ n. bit_and n 0x80) (λ n. bit_and n 0x80 / 128 * 128) refl
-
 shifted-xor : (a b : ℕ) → a < 256 → b < 256 → shifted (bit_xor a b) ≡ bit_xor (shifted a) (shifted b)
 shifted-xor = equal_at_octets (λ a b. shifted (bit_xor a b)) (λ a b. bit_xor (shifted a) (shifted b)) refl
 

@@ -7,8 +7,8 @@ use Rattle.aes_block.specs.Expansion.{expanded_key, expansion, round_count}
 use Rattle.aes_block.specs.Aes.{IsKey}
 use Rattle.aes_block.specs.Secrets.{key_text}
 use Rattle.aes_block.specs.inside.Held.{key_octets, words_of}
-use Rattle.aes_block.specs.declared.key.Length.{Length}
-use Rattle.aes_block.specs.declared.key.Length.TheVariants.{Bits128, Bits256}
+use Rattle.aes_block.specs.declared.expanded_key.Length.{Length}
+use Rattle.aes_block.specs.declared.expanded_key.Length.TheVariants.{Bits128, Bits256}
 use Rattle.aes_block.proofs.Octets.{AreOctets, All-from_AreOctets, AreOctets-append}
 use Rattle.aes_block.proofs.Schedule.{key_of_words, length-expansion}
 use Rattle.aes_block.proofs.Words.{octets_of-AreOctets}

@@ -64,15 +64,19 @@ module _ (key : List ℕ) (octets : AreOctets key) (some : 4 ≤ length key) whe
             (subst (λ k. IsFour (next_word key words k)) (sym count) (IsFour-next_word words n (IsFour-word n)))
       ]
 
-  -- each round key is a block
-  IsBlock-round_key : (n i : ℕ) → 4 * i + 4 ≤ n → IsBlock (round_key (expansion key n) i)
+  -- four words in a row are a block
+  IsBlock-word_key : (n i : ℕ) → 4 * i + 4 ≤ n → IsBlock (round_key (expansion key n) i)
   unfolding round_key
-  IsBlock-round_key n i le =
+  IsBlock-word_key n i le =
       columns-IsBlock (IsFour-word n (4 * i) (omega arith)) (IsFour-word n (4 * i + 1) (omega arith)) (IsFour-word n (4 * i + 2) (omega arith))
       (IsFour-word n (4 * i + 3) (omega arith))
 
 some_octets : (key : List ℕ) → IsKey key → 4 ≤ length key
 some_octets key h = elim h.count [ inl e ↦ omega arith | inr e ↦ elim e [ inl e' ↦ omega arith | inr e' ↦ omega arith ] ]
+
+-- each round key is a block
+pub IsBlock-round_key : (key : List ℕ) → IsKey key → (i : ℕ) → i ≤ round_count key → IsBlock (round_key (expanded_key key) i)
+IsBlock-round_key key h i le = IsBlock-word_key key (AreOctets-from_All key h.octets) (some_octets key h) (4 * (round_count key + 1)) i (omega (arith, le))
 
 -- the cipher under a key, undone
 pub inv_aes : List ℕ → List ℕ → List ℕ
@@ -82,4 +86,4 @@ pub aes-inverse : (key : List ℕ) → IsKey key → AreInverse (aes key) (inv_a
 unfolding aes inv_aes HasKeys
 aes-inverse key h =
     cipher-inverse (expanded_key key) (round_count key)
-    (λ i le. IsBlock-round_key key (AreOctets-from_All key h.octets) (some_octets key h) (4 * (round_count key + 1)) i (omega arith))
+    (IsBlock-round_key key h)

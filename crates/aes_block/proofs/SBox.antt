@@ -1,37 +1,42 @@
--- The tables of the S-box and its inverse are what FIPS 197 defines, entry by entry.
-use Rattle.std.proofs.Common.{◌≡◌, ℕ, ◌<◌, refl, sym, ap, subst, ◌∙◌}
-use Rattle.std.specs.Prelude.{slice_index}
+-- The S-box and its inverse from look-ups are what FIPS 197 defines, octet by octet.
+use Rattle.std.proofs.Common.{◌≡◌, ℕ, ◌<◌, refl, sym, ap, subst, ◌∙◌, bit_xor}
+use Rattle.aes_block.specs.LookUp.{entry_at}
 use Rattle.aes_block.specs.Octet.{affine, sub_octet, terms}
-use Rattle.aes_block.specs.declared.s_box.TheConstants.{S_BOX, INVERSE_S_BOX}
+use Rattle.aes_block.specs.inside.Halves.{changed, first_half, inv_sub_octet, second_half}
+use Rattle.aes_block.specs.declared.tables.TheConstants.{SUB_FIRST, SUB_SECOND}
 use Rattle.aes_block.proofs.ByBits.{by_bits, inverse_by_bits, inverse-by_bits}
 use Rattle.aes_block.proofs.EachOctet.{equal_at_octet, below_at_octet}
 
--- the table of the S-box
-pub entry : (n : ℕ) → n < 256 → slice_index S_BOX n ≡ sub_octet n
+-- what the look-ups make of an octet
+abbrev pub put_together : ℕ → ℕ
+put_together x =
+    bit_xor (bit_xor (entry_at SUB_FIRST (first_half (changed x))) (entry_at SUB_SECOND (second_half (changed x)))) 0x63
+
+pub is_sub_octet : (n : ℕ) → n < 256 → put_together n ≡ sub_octet n
 unfolding by_bits inverse_by_bits affine sub_octet
-entry n fits =
-    equal_at_octet (slice_index S_BOX) (λ k. affine (inverse_by_bits (terms k))) refl n fits ∙ ap affine (sym (inverse-by_bits n))
+is_sub_octet n fits =
+    equal_at_octet put_together (λ k. affine (inverse_by_bits (terms k))) refl n fits ∙ ap affine (sym (inverse-by_bits n))
 
-entry-lt : (n : ℕ) → n < 256 → slice_index S_BOX n < 256
-entry-lt = below_at_octet (slice_index S_BOX) 256 refl
+put_together-lt : (n : ℕ) → n < 256 → put_together n < 256
+put_together-lt = below_at_octet put_together 256 refl
 
-pub inverse_entry-lt : (n : ℕ) → n < 256 → slice_index INVERSE_S_BOX n < 256
-inverse_entry-lt = below_at_octet (slice_index INVERSE_S_BOX) 256 refl
+pub inv_sub_octet-lt : (n : ℕ) → n < 256 → inv_sub_octet n < 256
+inv_sub_octet-lt = below_at_octet inv_sub_octet 256 refl
 
-entry-inverse_entry : (n : ℕ) → n < 256 → slice_index S_BOX (slice_index INVERSE_S_BOX n) ≡ n
-entry-inverse_entry = equal_at_octet (λ n. slice_index S_BOX (slice_index INVERSE_S_BOX n)) (λ n. n) refl
+put_together-inv_sub_octet : (n : ℕ) → n < 256 → put_together (inv_sub_octet n) ≡ n
+put_together-inv_sub_octet = equal_at_octet (λ n. put_together (inv_sub_octet n)) (λ n. n) refl
 
-inverse_entry-entry : (n : ℕ) → n < 256 → slice_index INVERSE_S_BOX (slice_index S_BOX n) ≡ n
-inverse_entry-entry = equal_at_octet (λ n. slice_index INVERSE_S_BOX (slice_index S_BOX n)) (λ n. n) refl
+inv_sub_octet-put_together : (n : ℕ) → n < 256 → inv_sub_octet (put_together n) ≡ n
+inv_sub_octet-put_together = equal_at_octet (λ n. inv_sub_octet (put_together n)) (λ n. n) refl
 
 -- what the S-box puts in place of an octet is an octet
 pub sub_octet-lt : (n : ℕ) → n < 256 → sub_octet n < 256
-sub_octet-lt n fits = subst (λ m. m < 256) (entry n fits) (entry-lt n fits)
+sub_octet-lt n fits = subst (λ m. m < 256) (is_sub_octet n fits) (put_together-lt n fits)
 
--- the octet that the S-box puts in place of an entry of the inverse table
-pub sub_octet-inverse_entry : (n : ℕ) → n < 256 → sub_octet (slice_index INVERSE_S_BOX n) ≡ n
-sub_octet-inverse_entry n fits = sym (entry (slice_index INVERSE_S_BOX n) (inverse_entry-lt n fits)) ∙ entry-inverse_entry n fits
+-- the S-box after its inverse
+pub sub_octet-inv_sub_octet : (n : ℕ) → n < 256 → sub_octet (inv_sub_octet n) ≡ n
+sub_octet-inv_sub_octet n fits = sym (is_sub_octet (inv_sub_octet n) (inv_sub_octet-lt n fits)) ∙ put_together-inv_sub_octet n fits
 
--- the entry of the inverse table for the octet that the S-box puts
-pub inverse_entry-sub_octet : (n : ℕ) → n < 256 → slice_index INVERSE_S_BOX (sub_octet n) ≡ n
-inverse_entry-sub_octet n fits = ap (slice_index INVERSE_S_BOX) (sym (entry n fits)) ∙ inverse_entry-entry n fits
+-- the inverse after the S-box
+pub inv_sub_octet-sub_octet : (n : ℕ) → n < 256 → inv_sub_octet (sub_octet n) ≡ n
+inv_sub_octet-sub_octet n fits = ap inv_sub_octet (sym (is_sub_octet n fits)) ∙ inv_sub_octet-put_together n fits

@@ -8,9 +8,9 @@ use lib.Bits.{xor_assoc}
 use Rattle.aes_block.specs.Octet.{octets_sum, sub_octet}
 use Rattle.aes_block.specs.State.{octet_at, column_of, state_of, sub_bytes, shift_rows, mixed_column, mix_columns}
 use Rattle.aes_block.specs.Aes.{IsBlock}
-use Rattle.aes_block.specs.declared.s_box.TheConstants.{INVERSE_S_BOX}
+use Rattle.aes_block.specs.inside.Halves.{inv_sub_octet}
 use Rattle.aes_block.proofs.Octets.{AreOctets, All-from_AreOctets, AreOctets-from_All, AreOctets-map, AreOctets-octets_sum}
-use Rattle.aes_block.proofs.SBox.{sub_octet-lt, inverse_entry-lt, sub_octet-inverse_entry, inverse_entry-sub_octet}
+use Rattle.aes_block.proofs.SBox.{sub_octet-lt, inv_sub_octet-lt, sub_octet-inv_sub_octet, inv_sub_octet-sub_octet}
 use Rattle.aes_block.proofs.Mixing.{IsFour, four, linear-mixed_column, linear-inv_mixed_column, inv_mixed_column, mixed_column-inv_mixed_column, inv_mixed_column-mixed_column}
 
 -- f and g keep blocks, and each undoes the other on them
@@ -65,20 +65,24 @@ map-IsBlock f fits s h =
     IsBlock-from (map f s) (length-map s f ∙ h.count) (AreOctets-map f fits s (AreOctets-from_All s h.octets))
 
 pub inv_sub_bytes : List ℕ → List ℕ
-inv_sub_bytes s = map (slice_index INVERSE_S_BOX) s
+inv_sub_bytes s = map inv_sub_octet s
 
 pub sub_bytes-inverse : AreInverse sub_bytes inv_sub_bytes
 unfolding sub_bytes inv_sub_bytes
 sub_bytes-inverse = record {
   keeps = map-IsBlock sub_octet sub_octet-lt;
-  keeps_back = map-IsBlock (slice_index INVERSE_S_BOX) inverse_entry-lt;
-  undone = λ s h. map-undone sub_octet (slice_index INVERSE_S_BOX) inverse_entry-sub_octet s (AreOctets-from_All s h.octets);
-  made = λ s h. map-undone (slice_index INVERSE_S_BOX) sub_octet sub_octet-inverse_entry s (AreOctets-from_All s h.octets);
+  keeps_back = map-IsBlock inv_sub_octet inv_sub_octet-lt;
+  undone = λ s h. map-undone sub_octet inv_sub_octet inv_sub_octet-sub_octet s (AreOctets-from_All s h.octets);
+  made = λ s h. map-undone inv_sub_octet sub_octet sub_octet-inv_sub_octet s (AreOctets-from_All s h.octets);
 }
+
+-- the S-box on octets after its inverse
+pub sub_octets_undone : (s : List ℕ) → IsBlock s → map sub_octet (map inv_sub_octet s) ≡ s
+sub_octets_undone s h = map-undone inv_sub_octet sub_octet sub_octet-inv_sub_octet s (AreOctets-from_All s h.octets)
 
 -- ---- ShiftRows
 
-pub inv_shift_rows : List ℕ → List ℕ
+unfoldable pub inv_shift_rows : List ℕ → List ℕ
 inv_shift_rows s = state_of (λ column. column_of (λ row. octet_at s row ((column + 4 - row) % 4)))
 
 shift_rows-IsBlock : (s : List ℕ) → IsBlock s → IsBlock (shift_rows s)
@@ -112,7 +116,7 @@ shift_rows-inverse = record {
 
 -- ---- MixColumns
 
-pub inv_mix_columns : List ℕ → List ℕ
+unfoldable pub inv_mix_columns : List ℕ → List ℕ
 inv_mix_columns s = state_of (λ column. inv_mixed_column (column_of (λ row. octet_at s row column)))
 
 -- a block's columns

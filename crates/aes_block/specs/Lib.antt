@@ -4,7 +4,7 @@ pub mod Octet
 pub mod State
 pub mod Expansion
 pub mod Column
-pub mod Columns
+pub mod LookUp
 pub mod Aes
 pub mod Secrets
 pub mod inside

@@ -4,7 +4,8 @@ ghost use Rattle.std.specs.Prelude.{◌≡◌, ◌/◌, ◌<◌, ◌≤◌, leng
 ghost use Rattle.aes_block.specs.Column.{octets_of};
 ghost use Rattle.aes_block.specs.Expansion.{addend, expansion, key_words, next_word, sub_word};
 
-use crate::column::sub_diagonal;
+use crate::substitution::sub_octets;
+use std::simd::prelude::*;
 
 /// The powers of x from 1 on, in the first octet of a round constant.
 const POWERS_OF_X: [u8; 10] = [0x01, 0x02, 0x04, 0x08, 0x10, 0x20, 0x40, 0x80, 0x1b, 0x36];
@@ -13,7 +14,10 @@ const POWERS_OF_X: [u8; 10] = [0x01, 0x02, 0x04, 0x08, 0x10, 0x20, 0x40, 0x80, 0
 fn sub_word(word: u32) -> u32
     ensures { octets_of result ≡ sub_word (octets_of word) }
 {
-    sub_diagonal(word, word, word, word)
+    let [a, b, c, d] = word.to_be_bytes();
+    let octets = u8x16::from_array([a, b, c, d, 0, 0, 0, 0, 0, 0, 0, 0, 0, 0, 0, 0]);
+    let subbed = sub_octets(octets).to_array();
+    u32::from_be_bytes([subbed[0], subbed[1], subbed[2], subbed[3]])
 }
 
 /// What is added to the word `key_words` places before word `i`, where `last` is the word before

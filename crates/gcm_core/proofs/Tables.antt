@@ -1,14 +1,13 @@
--- The tables of a hash key: rows, and steps of four places.
-use Rattle.std.proofs.Common.{◌≡◌, ℕ, zero, suc, ◌*◌, ◌/◌, ◌%◌, ◌^◌, ◌<◌, Bool, true, false, List, [], ◌∷◌, length, refl, sym, ap, ◌∙◌, arith, bit_xor}
+-- The products of a block with every four bits.
+use Rattle.std.proofs.Common.{◌≡◌, ℕ, zero, suc, ◌<◌, Bool, true, false, List, [], ◌∷◌, length, sym, ap, ◌∙◌, arith, bit_xor}
 use Rattle.std.specs.Prelude.{slice_index}
-use Rattle.std.specs.Int.Bits.{xor_zero_r, xor_shifted}
+use Rattle.std.specs.Int.Bits.{xor_zero_r}
 use Rattle.aes_block.specs.Product.{sum_of, times_x, product}
-use Rattle.gcm_core.specs.Blocks.{block_bits, block_octets}
+use Rattle.gcm_core.specs.Blocks.{block_bits}
 use Rattle.gcm_core.specs.Ghash.{four_places, reduction}
-use Rattle.gcm_core.specs.inside.Tables.{AreProducts, times_power}
-use Rattle.gcm_core.specs.declared.hash_table.TheConstants.{REDUCTIONS}
-use Rattle.gcm_core.proofs.Products.{block_bits-xor, block_bits-zero, length-block_bits, length-reduction, length-times_x, sum_of-zeros, times_x-number}
-use Rattle.gcm_core.proofs.Powers.{product-padded, times_power-sum}
+use Rattle.gcm_core.specs.inside.Tables.{AreProducts}
+use Rattle.gcm_core.proofs.Products.{block_bits-xor, block_bits-zero, length-block_bits, length-reduction, length-times_x, sum_of-zeros}
+use Rattle.gcm_core.proofs.Powers.{product-padded}
 
 -- ---- rows
 
@@ -148,56 +147,3 @@ rows_of v s t f es et ef =
     at (suc (suc (suc (suc (suc (suc (suc (suc (suc (suc (suc (suc (suc (suc zero)))))))))))))) h = r1110 ∙ sym (product-padded (true ∷ true ∷ true ∷ false ∷ []) (block_bits v) 124 (length-block_bits v))
     at (suc (suc (suc (suc (suc (suc (suc (suc (suc (suc (suc (suc (suc (suc (suc zero))))))))))))))) h = r1111 ∙ sym (product-padded (true ∷ true ∷ true ∷ true ∷ []) (block_bits v) 124 (length-block_bits v))
     at (suc (suc (suc (suc (suc (suc (suc (suc (suc (suc (suc (suc (suc (suc (suc (suc m)))))))))))))))) h = absurd (omega arith)
-
--- ---- steps of four places
-
-half : (k : ℕ) → 2 * k < 2 ^ 128 → times_x reduction (block_bits (2 * k)) ≡ block_bits k
-half k fits =
-    let even : 2 * k / 2 ≡ k = omega arith in
-    sym (times_x-number (2 * k) 0 fits (omega arith)) ∙ ap block_bits (xor_zero_r (2 * k / 2) ∙ even)
-
--- where nothing falls out
-whole : (q : ℕ) → q * 2 ^ 4 < 2 ^ 128 → times_power 4 (block_bits (q * 2 ^ 4)) ≡ block_bits q
-unfolding times_power
-whole q fits =
-    let split : q * 2 ^ 4 ≡ 2 * (2 * (2 * (2 * q))) = omega arith in
-    let d = half q (omega arith) in
-    let c = half (2 * q) (omega arith) in
-    let b = half (2 * (2 * q)) (omega arith) in
-    let a = half (2 * (2 * (2 * q))) (omega arith) in
-    let x = times_x reduction in
-    ap (λ n. x (x (x (x (block_bits n))))) split ∙ ap (λ v. x (x (x v))) a ∙ ap (λ v. x (x v)) b ∙ ap x c ∙ d
-
--- what falls out, entry by entry
-small : (m : ℕ) → m < 16 → block_bits (slice_index REDUCTIONS m * 2 ^ 64 % 2 ^ 128) ≡ times_power 4 (block_bits m)
-unfolding times_power block_bits block_octets reduction
-small zero h = refl
-small (suc zero) h = refl
-small (suc (suc zero)) h = refl
-small (suc (suc (suc zero))) h = refl
-small (suc (suc (suc (suc zero)))) h = refl
-small (suc (suc (suc (suc (suc zero))))) h = refl
-small (suc (suc (suc (suc (suc (suc zero)))))) h = refl
-small (suc (suc (suc (suc (suc (suc (suc zero))))))) h = refl
-small (suc (suc (suc (suc (suc (suc (suc (suc zero)))))))) h = refl
-small (suc (suc (suc (suc (suc (suc (suc (suc (suc zero))))))))) h = refl
-small (suc (suc (suc (suc (suc (suc (suc (suc (suc (suc zero)))))))))) h = refl
-small (suc (suc (suc (suc (suc (suc (suc (suc (suc (suc (suc zero))))))))))) h = refl
-small (suc (suc (suc (suc (suc (suc (suc (suc (suc (suc (suc (suc zero)))))))))))) h = refl
-small (suc (suc (suc (suc (suc (suc (suc (suc (suc (suc (suc (suc (suc zero))))))))))))) h = refl
-small (suc (suc (suc (suc (suc (suc (suc (suc (suc (suc (suc (suc (suc (suc zero)))))))))))))) h = refl
-small (suc (suc (suc (suc (suc (suc (suc (suc (suc (suc (suc (suc (suc (suc (suc zero))))))))))))))) h = refl
-small (suc (suc (suc (suc (suc (suc (suc (suc (suc (suc (suc (suc (suc (suc (suc (suc m)))))))))))))))) h = absurd (omega arith)
-
-pub times_x4-is : (z k : ℕ) → z < 2 ^ 128 → k ≡ slice_index REDUCTIONS (z % 16) * 2 ^ 64 % 2 ^ 128
-    → block_bits (bit_xor (z / 2 ^ 4) k) ≡ times_power 4 (block_bits z)
-times_x4-is z k fits e =
-    let q = z / 2 ^ 4 in
-    let m = z % 16 in
-    let split : bit_xor (q * 2 ^ 4) m ≡ z = xor_shifted q 4 m (omega arith) ∙ omega arith in
-    let high : block_bits q ≡ times_power 4 (block_bits (q * 2 ^ 4)) = sym (whole q (omega arith)) in
-    let low : block_bits k ≡ times_power 4 (block_bits m) = ap block_bits e ∙ small m (omega arith) in
-    block_bits-xor q k
-    ∙ (λ i. sum_of (high i) (low i))
-    ∙ sym (times_power-sum 4 (block_bits (q * 2 ^ 4)) (block_bits m) (length-block_bits (q * 2 ^ 4)) (length-block_bits m))
-    ∙ ap (times_power 4) (sym (block_bits-xor (q * 2 ^ 4) m) ∙ ap block_bits split)

@@ -9,18 +9,17 @@ use Rattle.gcm_core.specs.Gcm.{gcm, gcm_text, gcm_tag, gctr, increment, first_co
 use Rattle.gcm_core.proofs.KeyStream.{gctr-gctr, gctr-increment, IsBlock-increment}
 use Rattle.gcm_core.proofs.Octets.{IsOctet, block_octets-read, octets_of_bits-block_bits}
 
-hash_key-is : (key cipher : List ℕ) (h : ℕ) → cipher ≡ aes key (replicate 16 0) → block_octets h ≡ cipher → hash_key key ≡ block_bits h
+pub hash_key-is : (key cipher : List ℕ) (h : ℕ) → cipher ≡ aes key (replicate 16 0) → block_octets h ≡ cipher → hash_key key ≡ block_bits h
 unfolding hash_key block_bits
 hash_key-is key cipher h ec eh = ap bits (sym ec ∙ sym eh)
 
-pub gcm_tag-is : (key iv extra text cipher first tag : List ℕ) (h s : ℕ) → cipher ≡ aes key (replicate 16 0) → block_octets h ≡ cipher
-    → block_bits s ≡ hashed (block_bits h) extra text → s < 2 ^ 128 → first ≡ first_counter iv → tag ≡ gctr key first (block_octets s)
-    → tag ≡ gcm_tag key iv extra text
+pub tag_is : (key iv extra text tag : List ℕ) (h : List Bool) (s : ℕ) → h ≡ hash_key key → block_bits s ≡ hashed h extra text → s < 2 ^ 128
+    → tag ≡ gctr key (first_counter iv) (block_octets s) → tag ≡ gcm_tag key iv extra text
 unfolding gcm_tag
-gcm_tag-is key iv extra text cipher first tag h s ec eh es fits ef et =
-    let hash : octets_of_bits (hashed (hash_key key) extra text) ≡ block_octets s =
-    ap (λ (k : List Bool). octets_of_bits (hashed k extra text)) (hash_key-is key cipher h ec eh) ∙ ap octets_of_bits (sym es) ∙ octets_of_bits-block_bits s fits in
-    rw (hash, ← ef) et
+tag_is key iv extra text tag h s eh es fits et =
+    et
+    ∙ ap (gctr key (first_counter iv)) (sym (ap octets_of_bits (sym es) ∙ octets_of_bits-block_bits s fits)
+    ∙ ap (λ (k : List Bool). octets_of_bits (hashed k extra text)) eh)
 
 pub gcm_text-is : (key iv text result : List ℕ) → length iv ≡ 12 → result ≡ gctr key (counter_block iv 2) text → result ≡ gcm_text key iv text
 unfolding gcm_text

@@ -15,7 +15,7 @@ length-padded : (octets : List ℕ) → length (padded octets) ≡ 16 * block_co
 unfolding padded
 length-padded octets = simp (length-append, length-replicate) (omega arith)
 
-chunks-append : (k m : ℕ) (xs ys : List ℕ) → length xs ≡ 16 * k → first_chunks 16 (k + m) (xs ++ ys) ≡ first_chunks 16 k xs ++ first_chunks 16 m ys
+pub chunks-append : (k m : ℕ) (xs ys : List ℕ) → length xs ≡ 16 * k → first_chunks 16 (k + m) (xs ++ ys) ≡ first_chunks 16 k xs ++ first_chunks 16 m ys
 chunks-append zero m xs ys h =
     let none : xs ≡ [] = nil_from_length xs h in
     rw (none, zero-add) refl

@@ -6,13 +6,14 @@ ghost use Rattle.aes_block.specs.Aes.{aes, IsBlock};
 ghost use Rattle.gcm_core.specs.Gcm.{first_counter, gcm, gcm_tag, gcm_text};
 
 use crate::counter::encrypt;
+use crate::gcm_key::GcmKey;
 use crate::hash::hash_of;
-use aes_block::{Key, law_ciphertexts_are_blocks};
+use aes_block::law_ciphertexts_are_blocks;
 
 /// Encrypts `text` in place, and answers the tag of the additional data and of what `text` has
 /// become. Neither `extra` nor `text` is longer than 65,536 octets. Under one key each IV is for
 /// one call only: that is the caller's part.
-pub fn seal(key: &Key, iv: [u8; 12], extra: &[u8], text: &mut [u8]) -> [u8; 16]
+pub fn seal(key: &GcmKey, iv: [u8; 12], extra: &[u8], text: &mut [u8]) -> [u8; 16]
     requires extra { length extra.now ≤ 65536 }
     requires text { length text.old ≤ 65536 }
     ensures { gcm key.now iv extra.now text.old ≡ (text.new, result) }
@@ -24,7 +25,7 @@ pub fn seal(key: &Key, iv: [u8; 12], extra: &[u8], text: &mut [u8]) -> [u8; 16]
 /// Whether some text is sealed to these octets and this tag. If so, that text, the only one, stands
 /// in `text` afterwards; if not, `text` is as it was. Neither `extra` nor `text` is longer than
 /// 65,536 octets.
-pub fn unseal(key: &Key, iv: [u8; 12], extra: &[u8], text: &mut [u8], tag: [u8; 16]) -> bool
+pub fn unseal(key: &GcmKey, iv: [u8; 12], extra: &[u8], text: &mut [u8], tag: [u8; 16]) -> bool
     requires extra { length extra.now ≤ 65536 }
     requires text { length text.old ≤ 65536 }
     ensures opened { OnTrue result (gcm key.now iv extra.now text.new ≡ (text.old, tag)) }
@@ -43,24 +44,24 @@ pub fn unseal(key: &Key, iv: [u8; 12], extra: &[u8], text: &mut [u8], tag: [u8; 
 }
 
 /// Encrypts text in place; the same call decrypts it.
-fn encrypt_text(key: &Key, iv: &[u8; 12], text: &mut [u8])
+fn encrypt_text(key: &GcmKey, iv: &[u8; 12], text: &mut [u8])
     ensures text { text.new ≡ gcm_text key.now iv.now text.old }
     ensures counter { IsBlock (first_counter iv.now) }
 {
-    encrypt(key, iv, 2, text);
+    encrypt(&key.cipher, iv, 2, text);
 }
 
 /// The tag of additional data and ciphertext.
-fn tag_of(key: &Key, iv: &[u8; 12], extra: &[u8], ciphertext: &[u8]) -> [u8; 16]
+fn tag_of(key: &GcmKey, iv: &[u8; 12], extra: &[u8], ciphertext: &[u8]) -> [u8; 16]
     requires extra { length extra.now ≤ 65536 }
     requires ciphertext { length ciphertext.now ≤ 65536 }
     ensures tag { result ≡ gcm_tag key.now iv.now extra.now ciphertext.now }
     ensures blocks { (text : List ℕ) → IsBlock text → IsBlock (aes key.now text) }
 {
     law_ciphertexts_are_blocks();
-    let hash_key = u128::from_be_bytes(key.encrypt([0; 16]));
-    let mut tag = hash_of(hash_key, extra, ciphertext).to_be_bytes();
-    encrypt(key, iv, 1, &mut tag);
+    key.cipher.law_is_key();
+    let mut tag = hash_of(&key.hash, extra, ciphertext).to_be_bytes();
+    encrypt(&key.cipher, iv, 1, &mut tag);
     tag
 }
 

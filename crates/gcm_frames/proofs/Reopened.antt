@@ -3,13 +3,14 @@ use Rattle.std.proofs.Common.{◌≡◌, ℕ, ◌+◌, Bool, true, false, List, 
 use Rattle.std.proofs.lemmas.List.{length-append, length-take-le, take_all}
 use Rattle.byteorder.specs.Numbers.{length-bytes_high_first}
 use Rattle.byteorder.specs.Endian.{big_bytes}
+use Rattle.lan_base.specs.declared.association_number.AssociationNumber.{AssociationNumber}
 use Rattle.lan_base.specs.declared.address.Sci.{Sci}
 use Rattle.lan_base.specs.declared.frame.UserFrame.{UserFrame}
 use Rattle.gcm_core.specs.Blocks.{octets_of_bits, block_octets}
 use Rattle.gcm_core.specs.Gcm.{gcm, gcm_text, gcm_tag, gctr, hash_key, hashed, first_counter}
 use Rattle.aes_block.specs.Aes.{aes, IsBlock, IsKey}
 use Rattle.gcm_frames.specs.declared.tag.Tag.{Tag}
-use Rattle.gcm_frames.specs.Protected.{iv, sec_tag, head_octets, sealed_octets, protected, IsSent}
+use Rattle.gcm_frames.specs.Protected.{iv, sec_tag, head_octets, sealed_octets, protected, protection_octets, IsSent}
 use Rattle.gcm_frames.specs.Written.{tag_written}
 use Rattle.gcm_frames.specs.Sealed.{opened, IsSealedFrom}
 use Rattle.gcm_frames.proofs.Parts.{take_front, take_two, drop_two, middle}
@@ -29,10 +30,10 @@ text_none : (key v : List ℕ) → gcm_text key v [] ≡ []
 unfolding gcm_text gctr
 text_none key v = refl
 
-pub length-sec_tag : (sci : Sci) (an pn : ℕ) (conf : Bool) (n : ℕ) → length sci.0 ≡ 8 → length (sec_tag sci an pn conf n) ≡ 16
+pub length-sec_tag : (sci : Sci) (an : AssociationNumber) (pn : ℕ) (conf : Bool) (n : ℕ) → length sci.0 ≡ 8 → length (sec_tag sci an pn conf n) ≡ 16
 length-sec_tag sci an pn conf n h = omega (arith, length-append (big_bytes 4 pn) sci.0, length-bytes_high_first 4 pn)
 
-pub length-head : (sci : Sci) (an pn : ℕ) (conf : Bool) (user : UserFrame) → length sci.0 ≡ 8 → length user.destination.0 ≡ 6
+pub length-head : (sci : Sci) (an : AssociationNumber) (pn : ℕ) (conf : Bool) (user : UserFrame) → length sci.0 ≡ 8 → length user.destination.0 ≡ 6
     → length (head_octets sci an pn conf user) ≡ 28
 length-head sci an pn conf user h k =
     omega (
@@ -44,7 +45,7 @@ length-head sci an pn conf user h k =
     )
 
 -- with confidentiality
-opened_conf : (key head body : List ℕ) (sci : Sci) (an pn : ℕ) → Encrypts key (iv sci pn) → length head ≡ 28
+opened_conf : (key head body : List ℕ) (sci : Sci) (an : AssociationNumber) (pn : ℕ) → Encrypts key (iv sci pn) → length head ≡ 28
     → opened key (record { sci = sci; an = an; pn = pn; conf = true; start = 28; len = length body }) (sealed_octets key (iv sci pn) true head body) ≡ Some body
 opened_conf key head body sci an pn w long =
     let tag : Tag = record { sci = sci; an = an; pn = pn; conf = true; start = 28; len = length body } in
@@ -61,7 +62,7 @@ opened_conf key head body sci an pn w long =
     opened_some key frame body tag w sealed
 
 -- without it
-opened_plain : (key head body : List ℕ) (sci : Sci) (an pn : ℕ) → Encrypts key (iv sci pn) → length head ≡ 28
+opened_plain : (key head body : List ℕ) (sci : Sci) (an : AssociationNumber) (pn : ℕ) → Encrypts key (iv sci pn) → length head ≡ 28
     → opened key (record { sci = sci; an = an; pn = pn; conf = false; start = 28; len = length body }) (sealed_octets key (iv sci pn) false head body) ≡ Some body
 opened_plain key head body sci an pn w long =
     let tag : Tag = record { sci = sci; an = an; pn = pn; conf = false; start = 28; len = length body } in
@@ -76,10 +77,27 @@ opened_plain key head body sci an pn w long =
     let sealed : IsSealedFrom key tag frame [] = ap (λ (x : List ℕ). gcm key v x []) front ∙ whole ∙ sym (λ i. ([], back i)) in
     opened_some key frame [] tag w sealed ∙ ap Some mid
 
-pub reopened : (key : List ℕ) (sci : Sci) (an pn : ℕ) (conf : Bool) (user : UserFrame)
-    → ((k block : List ℕ) → IsKey k → IsBlock block → IsBlock (aes k block)) → IsKey key → IsSent sci an pn user
+pub reopened : (key : List ℕ) (sci : Sci) (an : AssociationNumber) (pn : ℕ) (conf : Bool) (user : UserFrame)
+    → ((k block : List ℕ) → IsKey k → IsBlock block → IsBlock (aes k block)) → IsKey key → IsSent sci pn user
     → opened key (tag_written sci an pn conf user) (protected key sci an pn conf user) ≡ Some user.body
 reopened key sci an pn true user ciphers is_key s =
     opened_conf key (head_octets sci an pn true user) user.body sci an pn (encrypts key sci pn ciphers is_key s.channel) (length-head sci an pn true user s.channel.count s.destination)
 reopened key sci an pn false user ciphers is_key s =
     opened_plain key (head_octets sci an pn false user) user.body sci an pn (encrypts key sci pn ciphers is_key s.channel) (length-head sci an pn false user s.channel.count s.destination)
+
+-- ---- how long it is
+
+pub longer : (key : List ℕ) (sci : Sci) (an : AssociationNumber) (pn : ℕ) (conf : Bool) (user : UserFrame)
+    → ((k block : List ℕ) → IsKey k → IsBlock block → IsBlock (aes k block)) → IsKey key → IsSent sci pn user
+    → length (protected key sci an pn conf user) ≡ length user.body + protection_octets
+longer key sci an pn true user ciphers is_key s =
+    let w = encrypts key sci pn ciphers is_key s.channel in
+    let head : List ℕ = head_octets sci an pn true user in
+    let text : List ℕ = gcm_text key (iv sci pn) user.body in
+    let check : List ℕ = gcm_tag key (iv sci pn) head text in
+    omega (arith, length-append head (text ++ check), length-append text check, length-head sci an pn true user s.channel.count s.destination, length-gcm_text key (iv sci pn) user.body w, length-gcm_tag key (iv sci pn) head text w)
+longer key sci an pn false user ciphers is_key s =
+    let w = encrypts key sci pn ciphers is_key s.channel in
+    let head : List ℕ = head_octets sci an pn false user in
+    let check : List ℕ = gcm_tag key (iv sci pn) (head ++ user.body) (gcm_text key (iv sci pn) []) in
+    omega (arith, length-append head (user.body ++ check), length-append user.body check, length-head sci an pn false user s.channel.count s.destination, length-gcm_tag key (iv sci pn) (head ++ user.body) (gcm_text key (iv sci pn) []) w)

@@ -1,9 +1,12 @@
 -- A frame as it is written is read again.
-use Rattle.std.proofs.Common.{◌≡◌, ℕ, zero, suc, ◌+◌, ◌-◌, ◌/◌, ◌%◌, ◌^◌, ◌<◌, ◌≤◌, ◌==◌, Bool, true, false, not, ◌&&◌, ◌||◌, cond, List, [], ◌∷◌, ◌++◌, length, take, drop, slice_index, nat_lt, nat_le, Option, Some, None, Ok, refl, sym, ap, ◌∙◌, arith}
+use Rattle.std.proofs.Common.{◌≡◌, ℕ, ◌+◌, ◌-◌, ◌/◌, ◌%◌, ◌^◌, ◌<◌, ◌≤◌, ◌==◌, Bool, true, false, not, ◌&&◌, ◌||◌, cond, List, [], ◌∷◌, ◌++◌, length, take, drop, slice_index, nat_lt, nat_le, Option, Some, None, Ok, refl, sym, ap, ◌∙◌, arith}
 use Rattle.std.proofs.lemmas.List.{length-append, length-take-le, append_assoc, drop-drop, get_or-append_right}
 use Rattle.std.proofs.lemmas.Bool.{ltb-true, ltb-false, lt-ltb, le-ltb, le-leb, lt-leb, ne_eqb}
 use Rattle.byteorder.specs.Endian.{big_bytes, big_number}
 use Rattle.byteorder.specs.Numbers.{length-bytes_high_first, big_number-reads_back}
+use Rattle.lan_base.specs.declared.association_number.AssociationNumber.{AssociationNumber}
+use Rattle.lan_base.specs.declared.association_number.AssociationNumber.TheVariants.{An0, An1, An2, An3}
+use Rattle.lan_base.specs.AssociationNumbers.{of_bits}
 use Rattle.lan_base.specs.declared.address.Sci.{Sci}
 use Rattle.lan_base.specs.declared.frame.UserFrame.{UserFrame}
 use Rattle.gcm_frames.specs.declared.tag.TagRefusal.{TagRefusal}
@@ -18,26 +21,24 @@ use Rattle.gcm_frames.proofs.Reopened.{length-sec_tag, length-gcm_tag}
 use Rattle.gcm_core.specs.Gcm.{gcm_text, gcm_tag}
 
 -- the flags of an octet of control information
-record Flags (control : ℕ) (conf : Bool) (an : ℕ) : Type 0 where
+record Flags (control : ℕ) (conf : Bool) (an : AssociationNumber) : Type 0 where
   version : (control / 0x80 % 2 == 1) ≡ false
   end_station : (control / 0x40 % 2 == 1) ≡ false
   explicit : (control / 0x20 % 2 == 1) ≡ true
   broadcast : (control / 0x10 % 2 == 1) ≡ false
   enciphered : (control / 0x08 % 2 == 1) ≡ conf
   changed : (control / 0x04 % 2 == 1) ≡ conf
-  number : control % 4 ≡ an
+  number : of_bits (control / 0x02 % 2 == 1) (control / 0x01 % 2 == 1) ≡ an
 
-flags : (conf : Bool) (an : ℕ) → an < 4 → Flags (control_octet conf an) conf an
-flags true zero h = record { version = refl; end_station = refl; explicit = refl; broadcast = refl; enciphered = refl; changed = refl; number = refl }
-flags true (suc zero) h = record { version = refl; end_station = refl; explicit = refl; broadcast = refl; enciphered = refl; changed = refl; number = refl }
-flags true (suc (suc zero)) h = record { version = refl; end_station = refl; explicit = refl; broadcast = refl; enciphered = refl; changed = refl; number = refl }
-flags true (suc (suc (suc zero))) h = record { version = refl; end_station = refl; explicit = refl; broadcast = refl; enciphered = refl; changed = refl; number = refl }
-flags true (suc (suc (suc (suc n)))) h = absurd (omega arith)
-flags false zero h = record { version = refl; end_station = refl; explicit = refl; broadcast = refl; enciphered = refl; changed = refl; number = refl }
-flags false (suc zero) h = record { version = refl; end_station = refl; explicit = refl; broadcast = refl; enciphered = refl; changed = refl; number = refl }
-flags false (suc (suc zero)) h = record { version = refl; end_station = refl; explicit = refl; broadcast = refl; enciphered = refl; changed = refl; number = refl }
-flags false (suc (suc (suc zero))) h = record { version = refl; end_station = refl; explicit = refl; broadcast = refl; enciphered = refl; changed = refl; number = refl }
-flags false (suc (suc (suc (suc n)))) h = absurd (omega arith)
+flags : (conf : Bool) (an : AssociationNumber) → Flags (control_octet conf an) conf an
+flags true An0 = record { version = refl; end_station = refl; explicit = refl; broadcast = refl; enciphered = refl; changed = refl; number = refl }
+flags true An1 = record { version = refl; end_station = refl; explicit = refl; broadcast = refl; enciphered = refl; changed = refl; number = refl }
+flags true An2 = record { version = refl; end_station = refl; explicit = refl; broadcast = refl; enciphered = refl; changed = refl; number = refl }
+flags true An3 = record { version = refl; end_station = refl; explicit = refl; broadcast = refl; enciphered = refl; changed = refl; number = refl }
+flags false An0 = record { version = refl; end_station = refl; explicit = refl; broadcast = refl; enciphered = refl; changed = refl; number = refl }
+flags false An1 = record { version = refl; end_station = refl; explicit = refl; broadcast = refl; enciphered = refl; changed = refl; number = refl }
+flags false An2 = record { version = refl; end_station = refl; explicit = refl; broadcast = refl; enciphered = refl; changed = refl; number = refl }
+flags false An3 = record { version = refl; end_station = refl; explicit = refl; broadcast = refl; enciphered = refl; changed = refl; number = refl }
 
 -- a frame of addresses, the EtherType, two octets, and what is behind
 record Written (frame : List ℕ) (control short : ℕ) (behind : List ℕ) : Type 0 where
@@ -108,13 +109,13 @@ abbrev of_octets : List ℕ → Sci
 of_octets octets = record { 0 = octets }
 
 -- a frame of which the octets are so is read
-read_again : (frame rest : List ℕ) (sci : Sci) (an pn n : ℕ) (conf : Bool) → an < 4 → pn < 2 ^ 32 → 2 ≤ n → length sci.0 ≡ 8
+read_again : (frame rest : List ℕ) (sci : Sci) (an : AssociationNumber) (pn n : ℕ) (conf : Bool) → pn < 2 ^ 32 → 2 ≤ n → length sci.0 ≡ 8
     → length frame ≡ 28 + n + 16
     → Written frame (control_octet conf an) (short_length n) ((big_bytes 4 pn ++ sci.0) ++ rest)
     → tag_fields frame ≡ Ok (record { sci = sci; an = an; pn = pn; conf = conf; start = 28; len = n })
 unfolding tag_fields
-read_again frame rest sci an pn n conf h4 h32 some h8 long w =
-    let f : Flags (control_octet conf an) conf an = flags conf an h4 in
+read_again frame rest sci an pn n conf h32 some h8 long w =
+    let f : Flags (control_octet conf an) conf an = flags conf an in
     let flag : (k : ℕ) → (slice_index frame 14 / k % 2 == 1) ≡ (control_octet conf an / k % 2 == 1) =
     λ k. ap (λ (c : ℕ). c / k % 2 == 1) w.third in
     let explicit : has_sci frame ≡ true = flag 0x20 ∙ f.explicit in
@@ -147,10 +148,10 @@ read_again frame rest sci an pn n conf h4 h32 some h8 long w =
     let packet : big_number 4 (drop 16 frame) ≡ pn =
     ap (big_number 4) (w.rest ∙ append_assoc (big_bytes 4 pn) sci.0 rest) ∙ big_number-reads_back 4 pn (sci.0 ++ rest) h32 in
     ap (λ (r : Option TagRefusal). fields_or r frame) none
-    ∙ (λ i. Ok (record { sci = from i; an = (ap (λ (c : ℕ). c % 4) w.third ∙ f.number) i; pn = packet i; conf = (flag 0x08 ∙ f.enciphered) i; start = begins i; len = count i }))
+    ∙ (λ i. Ok (record { sci = from i; an = (ap (λ (c : ℕ). of_bits (c / 0x02 % 2 == 1) (c / 0x01 % 2 == 1)) w.third ∙ f.number) i; pn = packet i; conf = (flag 0x08 ∙ f.enciphered) i; start = begins i; len = count i }))
 
 -- a head, and as many octets as the secure data and a tag have
-reread_head : (more : List ℕ) (sci : Sci) (an pn : ℕ) (conf : Bool) (user : UserFrame) → IsSent sci an pn user
+reread_head : (more : List ℕ) (sci : Sci) (an : AssociationNumber) (pn : ℕ) (conf : Bool) (user : UserFrame) → IsSent sci pn user
     → length more ≡ length user.body + 16
     → tag_fields (head_octets sci an pn conf user ++ more) ≡ Ok (tag_written sci an pn conf user)
 reread_head more sci an pn conf user s long =
@@ -166,10 +167,10 @@ reread_head more sci an pn conf user s long =
     let count : length (pre ++ (tag ++ more)) ≡ 28 + length user.body + 16 =
     omega (arith, length-append pre (tag ++ more), length-append tag more, length-sec_tag sci an pn conf (length user.body) s.channel.count) in
     ap tag_fields whole
-    ∙ read_again (pre ++ (tag ++ more)) more sci an pn (length user.body) conf s.an_bits s.last s.some s.channel.count count there
+    ∙ read_again (pre ++ (tag ++ more)) more sci an pn (length user.body) conf s.last s.body.0 s.channel.count count there
 
-pub reread : (key : List ℕ) (sci : Sci) (an pn : ℕ) (conf : Bool) (user : UserFrame)
-    → ((k block : List ℕ) → IsKey k → IsBlock block → IsBlock (aes k block)) → IsKey key → IsSent sci an pn user
+pub reread : (key : List ℕ) (sci : Sci) (an : AssociationNumber) (pn : ℕ) (conf : Bool) (user : UserFrame)
+    → ((k block : List ℕ) → IsKey k → IsBlock block → IsBlock (aes k block)) → IsKey key → IsSent sci pn user
     → tag_fields (protected key sci an pn conf user) ≡ Ok (tag_written sci an pn conf user)
 reread key sci an pn true user ciphers is_key s =
     let w = encrypts key sci pn ciphers is_key s.channel in

@@ -2,6 +2,8 @@
 -- (IEEE Std 802.1AE, clause 9).
 use Rattle.std.specs.Prelude.{ℕ, ◌+◌, ◌-◌, ◌/◌, ◌%◌, ◌==◌, Bool, true, false, not, ◌&&◌, ◌||◌, nat_le, nat_lt, if◌then◌else◌, List, [], ◌∷◌, ◌++◌, length, take, drop, slice_index, Option, Some, None, Result, Ok, Err}
 use Rattle.byteorder.specs.Endian.{big_number}
+use Rattle.lan_base.specs.AssociationNumbers.{of_bits}
+use Rattle.lan_base.specs.declared.association_number.AssociationNumber.{AssociationNumber}
 use Rattle.lan_base.specs.declared.address.Sci.{Sci}
 use Rattle.gcm_frames.specs.declared.tag.Tag.{Tag}
 use Rattle.gcm_frames.specs.declared.tag.TagRefusal.{TagRefusal}
@@ -38,6 +40,10 @@ is_enciphered frame = has_flag 0x08 frame
 -- C: the user data is changed
 abbrev pub is_changed : List ℕ → Bool
 is_changed frame = has_flag 0x04 frame
+
+-- the association number
+abbrev pub an_of : List ℕ → AssociationNumber
+an_of frame = of_bits (has_flag 0x02 frame) (has_flag 0x01 frame)
 
 abbrev pub are_same : Bool → Bool → Bool
 are_same true b = b
@@ -107,7 +113,7 @@ data_length frame =
 abbrev pub tag_in : List ℕ → Tag
 tag_in frame = record {
   sci = sci_of frame;
-  an = control_of frame % 4;
+  an = an_of frame;
   pn = big_number 4 (drop 16 frame);
   conf = is_enciphered frame;
   start = start_of frame;

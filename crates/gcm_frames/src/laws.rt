@@ -1,11 +1,12 @@
 //! Laws of protected frames.
 
-ghost use Rattle.std.specs.Prelude.{◌≡◌, ◌↔◌, Bool, List, ℕ, Some, Ok, IsTrue};
+ghost use Rattle.std.specs.Prelude.{◌≡◌, ◌↔◌, ◌+◌, Bool, List, ℕ, length, Some, Ok, IsTrue};
 ghost use Rattle.aes_block.specs.Aes.{IsKey};
 ghost use Rattle.lan_base.specs.declared.address.Sci.{Sci};
+ghost use Rattle.lan_base.specs.declared.association_number.AssociationNumber.{AssociationNumber};
 ghost use Rattle.lan_base.specs.declared.frame.UserFrame.{UserFrame};
 ghost use Rattle.gcm_frames.specs.declared.tag.Tag.{Tag};
-ghost use Rattle.gcm_frames.specs.Protected.{IsSci, IsSent, protected};
+ghost use Rattle.gcm_frames.specs.Protected.{IsSci, IsSent, protected, protection_octets};
 ghost use Rattle.gcm_frames.specs.Tags.{is_sec, tag_fields};
 ghost use Rattle.gcm_frames.specs.Written.{tag_written};
 ghost use Rattle.gcm_frames.specs.Sealed.{IsSealedFrom, opened, user_data};
@@ -17,17 +18,26 @@ use aes_block::law_ciphertexts_are_blocks;
 /// What `protect` writes is read again: the sender's SCI, the association number, the packet number
 /// and the mode, and where the user data stands.
 pub fn law_protected_is_read()
-    ensures { (key : List ℕ) (sci : Sci) (an pn : ℕ) (conf : Bool) (user : UserFrame)
-        → IsKey key → IsSent sci an pn user
+    ensures { (key : List ℕ) (sci : Sci) (an : AssociationNumber) (pn : ℕ) (conf : Bool)
+        (user : UserFrame) → IsKey key → IsSent sci pn user
         → tag_fields (protected key sci an pn conf user) ≡ Ok (tag_written sci an pn conf user) }
+{
+    law_ciphertexts_are_blocks();
+}
+
+/// A protected frame has 44 octets more than its user data: addresses, SecTAG and tag.
+pub fn law_protected_is_longer()
+    ensures { (key : List ℕ) (sci : Sci) (an : AssociationNumber) (pn : ℕ) (conf : Bool)
+        (user : UserFrame) → IsKey key → IsSent sci pn user
+        → length (protected key sci an pn conf user) ≡ length user.body + protection_octets }
 {
     law_ciphertexts_are_blocks();
 }
 
 /// What `protect` writes, the same key opens to the user data.
 pub fn law_protected_is_opened()
-    ensures { (key : List ℕ) (sci : Sci) (an pn : ℕ) (conf : Bool) (user : UserFrame)
-        → IsKey key → IsSent sci an pn user
+    ensures { (key : List ℕ) (sci : Sci) (an : AssociationNumber) (pn : ℕ) (conf : Bool)
+        (user : UserFrame) → IsKey key → IsSent sci pn user
         → opened key (tag_written sci an pn conf user) (protected key sci an pn conf user)
         ≡ Some user.body }
 {

@@ -9,12 +9,10 @@ mod tagging;
 mod validating;
 
 pub use laws::{
-    law_no_frame_is_both, law_opened_is_sealed, law_protected_is_opened, law_protected_is_read,
+    law_no_frame_is_both, law_opened_is_sealed, law_protected_is_longer, law_protected_is_opened,
+    law_protected_is_read,
 };
 pub use protecting::protect;
 pub use tag::{Tag, TagRefusal};
 pub use tagging::tag_of;
 pub use validating::validate;
-
-#[cfg(test)]
-mod tests;

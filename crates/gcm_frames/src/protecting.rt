@@ -1,12 +1,13 @@
 //! Writing a protected frame (IEEE Std 802.1AE, clauses 9 and 14).
 
 ghost use Rattle.std.specs.Prelude.{◌≡◌, ◌+◌, ◌<◌, ◌≤◌, ◌++◌, Bool, List, ℕ, length, take, drop, vec_len, vec_capacity};
-ghost use Rattle.gcm_frames.specs.Protected.{control_octet, short_length, sec_tag, head_octets, iv, protected, sealed_octets};
+ghost use Rattle.gcm_frames.specs.Protected.{control_octet, short_length, sec_tag, head_octets, iv, protected, protection_octets, sealed_octets};
+ghost use Rattle.lan_base.specs.declared.association_number.AssociationNumber.{AssociationNumber};
+ghost use Rattle.lan_base.specs.Ranges.{IsUserData, most_frame_octets};
 ghost use Rattle.lan_base.specs.Room.{HasRoom, Puts};
 
-use aes_block::Key;
-use gcm_core::seal;
-use lan_base::{Mac, Sci, UserFrame, put};
+use gcm_core::{GcmKey, seal};
+use lan_base::{AssociationNumber, Mac, Sci, UserFrame, put};
 
 /// The EtherType of MACsec.
 const ETHER_TYPE: [u8; 2] = [0x88, 0xe5];
@@ -24,11 +25,10 @@ const HEAD: usize = 28;
 const LONG: usize = 48;
 
 /// The octet of control information.
-fn control_octet(conf: bool, an: u8) -> u8
-    requires { an < 4 }
+fn control_octet(conf: bool, an: AssociationNumber) -> u8
     ensures { result ≡ control_octet conf an }
 {
-    SC + if conf { E_AND_C } else { 0 } + an
+    SC + if conf { E_AND_C } else { 0 } + an.number()
 }
 
 /// The short length of so many octets.
@@ -49,9 +49,15 @@ pub(crate) fn iv_of(sci: Sci, pn: u32) -> [u8; 12]
 
 /// Appends the SecTAG before so many octets of secure data.
 #[tactic(auto, using(lan_base::proofs::Public::pieces))]
-fn put_sec_tag(sci: Sci, an: u8, pn: u32, conf: bool, count: usize, into: &mut Vec<u8>)
-    requires an { an < 4 }
-    requires room { HasRoom into.old (sec_tag sci an pn conf count) }
+fn put_sec_tag(
+    sci: Sci,
+    an: AssociationNumber,
+    pn: u32,
+    conf: bool,
+    count: usize,
+    into: &mut Vec<u8>,
+)
+    requires { HasRoom into.old (sec_tag sci an pn conf count) }
     ensures { Puts into.old into.new (sec_tag sci an pn conf count) }
 {
     let [first, second] = ETHER_TYPE;
@@ -65,9 +71,15 @@ fn put_sec_tag(sci: Sci, an: u8, pn: u32, conf: bool, count: usize, into: &mut V
 
 /// Appends what stands before the secure data: addresses and SecTAG.
 #[tactic(auto, using(lan_base::proofs::Public::pieces))]
-fn put_head(sci: Sci, an: u8, pn: u32, conf: bool, user: &UserFrame, into: &mut Vec<u8>)
-    requires an { an < 4 }
-    requires room { HasRoom into.old (head_octets sci an pn conf user.now) }
+fn put_head(
+    sci: Sci,
+    an: AssociationNumber,
+    pn: u32,
+    conf: bool,
+    user: &UserFrame,
+    into: &mut Vec<u8>,
+)
+    requires { HasRoom into.old (head_octets sci an pn conf user.now) }
     ensures { Puts into.old into.new (head_octets sci an pn conf user.now) }
 {
     put(into, &user.destination.0);
@@ -77,7 +89,7 @@ fn put_head(sci: Sci, an: u8, pn: u32, conf: bool, user: &UserFrame, into: &mut 
 
 /// How many octets stand before the secure data.
 fn head_len(sci: Sci, destination: Mac) -> usize
-    ensures value { (an pn : ℕ) (conf : Bool) (body : List ℕ) → result
+    ensures value { (an : AssociationNumber) (pn : ℕ) (conf : Bool) (body : List ℕ) → result
         ≡ length (head_octets sci an pn conf (record { destination = destination; body = body })) }
     ensures fixed { result ≡ 28 }
 {
@@ -86,9 +98,9 @@ fn head_len(sci: Sci, destination: Mac) -> usize
 
 /// The tag of a frame whose head of 28 octets and user data these are. With confidentiality the
 /// user data is enciphered in place.
-fn seal_in_place(key: &Key, iv: [u8; 12], conf: bool, frame: &mut [u8]) -> [u8; 16]
+fn seal_in_place(key: &GcmKey, iv: [u8; 12], conf: bool, frame: &mut [u8]) -> [u8; 16]
     requires head { 28 ≤ length frame.old }
-    requires most { length frame.old ≤ 65536 }
+    requires most { length frame.old ≤ most_frame_octets }
     ensures { sealed_octets key.now iv conf (take 28 frame.old) (drop 28 frame.old)
         ≡ frame.new ++ result }
 {
@@ -105,22 +117,21 @@ fn seal_in_place(key: &Key, iv: [u8; 12], conf: bool, frame: &mut [u8]) -> [u8; 
 /// set. There is room for it, so no memory is taken. Under one key a sender uses each packet number
 /// once: that is the caller's part.
 pub fn protect(
-    key: &Key,
+    key: &GcmKey,
     sci: Sci,
-    an: u8,
+    an: AssociationNumber,
     pn: u32,
     conf: bool,
     user: &UserFrame,
     into: &mut Vec<u8>,
 )
-    requires an { an < 4 }
     requires pn { 1 ≤ pn }
-    requires some { 2 ≤ length user.now.body }
-    requires most { length user.now.body ≤ 1500 }
-    requires room { vec_len into.old + length user.now.body + 44 ≤ vec_capacity into.old }
+    requires user { IsUserData user.now.body }
+    requires room { vec_len into.old + length user.now.body + protection_octets
+        ≤ vec_capacity into.old }
     ensures appended { into.new.items ≡ into.old.items
         ++ protected key.now sci an pn conf user.now }
-    ensures len { vec_len into.new ≡ vec_len into.old + length user.now.body + 44 }
+    ensures len { vec_len into.new ≡ vec_len into.old + length user.now.body + protection_octets }
     ensures capacity { vec_capacity into.old ≤ vec_capacity into.new }
 {
     let start = into.len();

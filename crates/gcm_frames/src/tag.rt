@@ -1,6 +1,6 @@
 //! What a frame says of itself, and why it is malformed.
 
-use lan_base::Sci;
+use lan_base::{AssociationNumber, Sci};
 use thiserror::Error;
 
 /// What a protected frame says of itself in its SecTAG (IEEE Std 802.1AE, clause 9), and where its
@@ -9,8 +9,7 @@ use thiserror::Error;
 pub struct Tag {
     /// The secure channel of the sender.
     pub sci: Sci,
-    /// The association number, below 4.
-    pub an: u8,
+    pub an: AssociationNumber,
     /// The packet number. 0 is read too, though no sender writes it.
     pub pn: u32,
     /// Whether the user data is enciphered.

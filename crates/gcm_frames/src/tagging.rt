@@ -2,11 +2,11 @@
 
 ghost use Rattle.std.specs.Prelude.{◌≡◌, ◌<◌, ◌≤◌, ◌+◌, ◌↔◌, length, Some, Ok, Err, IfOk};
 ghost use Rattle.gcm_frames.specs.declared.tag.TagRefusal.{TagRefusal};
-ghost use Rattle.gcm_frames.specs.Tags.{has_flag, is_mode, is_sec, start_of, sci_of, refused, tag_in, tag_fields};
+ghost use Rattle.gcm_frames.specs.Tags.{an_of, has_flag, is_mode, is_sec, start_of, sci_of, refused, tag_in, tag_fields};
 
 use crate::tag::{Tag, TagRefusal};
 use byteorder::{BigEndian, ByteOrder};
-use lan_base::Sci;
+use lan_base::{AssociationNumber, Sci};
 
 /// Whether the octet of control information has a flag.
 fn has_flag(flag: u8, frame: &[u8]) -> bool
@@ -34,6 +34,19 @@ const ENCIPHERED: u8 = 0x08;
 
 /// The flag C: the user data differ from those that were given.
 const CHANGED: u8 = 0x04;
+
+/// The two bits of the association number, that of greater value first.
+const AN_HIGH: u8 = 0x02;
+
+const AN_LOW: u8 = 0x01;
+
+/// The association number.
+fn an_of(frame: &[u8]) -> AssociationNumber
+    requires { 14 < length frame.now }
+    ensures { result ≡ an_of frame.now }
+{
+    AssociationNumber::of_bits(has_flag(AN_HIGH, frame), has_flag(AN_LOW, frame))
+}
 
 /// Whether the frame has the EtherType of MACsec behind its addresses.
 fn is_sec(frame: &[u8]) -> bool
@@ -115,7 +128,7 @@ pub fn tag_of(frame: &[u8]) -> Result<Tag, TagRefusal>
     }
     Ok(Tag {
         sci: sci_of(frame),
-        an: frame[14] % 4,
+        an: an_of(frame),
         pn: BigEndian::read_u32(&frame[16..]),
         conf: has_flag(ENCIPHERED, frame),
         start,

@@ -2,13 +2,14 @@
 
 ghost use Rattle.std.specs.Prelude.{◌≡◌, ◌≤◌, ◌↔◌, ◌+◌, List, ℕ, length, Ok, Some, None, IsTrue, if◌then◌else◌};
 ghost use Rattle.std.specs.Bool.{OnTrue, OnFalse};
+ghost use Rattle.lan_base.specs.Ranges.{most_frame_octets};
 ghost use Rattle.gcm_frames.specs.Tags.{tag_fields};
 ghost use Rattle.gcm_frames.specs.Sealed.{check_octets, IsSealed, IsSealedFrom, opened, secure_data, user_data, with_user_data};
 
 use crate::protecting::iv_of;
 use crate::tag::Tag;
-use aes_block::{Key, law_ciphertexts_are_blocks};
-use gcm_core::unseal;
+use aes_block::law_ciphertexts_are_blocks;
+use gcm_core::{GcmKey, unseal};
 
 /// The 16 octets of tag behind the secure data.
 fn check_of(tag: &Tag, frame: &[u8]) -> [u8; 16]
@@ -22,11 +23,11 @@ fn check_of(tag: &Tag, frame: &[u8]) -> [u8; 16]
 
 /// Whether a frame is sealed under a key. If so, its user data stands in the place of its secure
 /// data afterwards; if not, the frame is as it was. `tag` is what `tag_of` gave of this frame,
-/// which has at most 65,536 octets. No memory is taken.
+/// which is no longer than a frame may be. No memory is taken.
 #[tactic(auto, using(crate::proofs::Within::within))]
-pub fn validate(key: &Key, tag: &Tag, frame: &mut [u8]) -> bool
+pub fn validate(key: &GcmKey, tag: &Tag, frame: &mut [u8]) -> bool
     requires tag { tag_fields frame.old ≡ Ok tag.now }
-    requires length { length frame.old ≤ 65536 }
+    requires length { length frame.old ≤ most_frame_octets }
     ensures sealed { IsTrue result ↔ IsSealed key.now tag.now frame.old }
     ensures plain { OnTrue result ((text : List ℕ) → IsSealedFrom key.now tag.now frame.old text
         → frame.new ≡ with_user_data tag.now frame.old (user_data tag.now frame.old text)) }
@@ -36,9 +37,8 @@ pub fn validate(key: &Key, tag: &Tag, frame: &mut [u8]) -> bool
     ensures exact { opened key.now tag.now frame.old
         ≡ (if result then Some (secure_data tag.now frame.new) else None) }
 {
-    // A block under the key shows that it is one, so that encrypting again decrypts.
     law_ciphertexts_are_blocks();
-    let _ = key.encrypt([0; 16]);
+    key.law_is_key();
     let iv = iv_of(tag.sci, tag.pn);
     let check = check_of(tag, frame);
     let end = tag.start + tag.len;

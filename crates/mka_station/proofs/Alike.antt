@@ -19,7 +19,8 @@ use Rattle.peer_lists.proofs.Public.{accepted-ticked, accepted-sent}
 use Rattle.sak_exchange.specs.declared.due.Seen.{Seen}
 use Rattle.sak_exchange.specs.declared.offer.Offer.{Offer}
 use Rattle.sak_exchange.specs.Beginning.{Beginning}
-use Rattle.sak_exchange.specs.Histories.{Key, Keying, ticked as keys_ticked}
+use Rattle.sak_exchange.specs.declared.held_key.Key.{Key}
+use Rattle.sak_exchange.specs.Histories.{Keying, ticked as keys_ticked}
 use Rattle.sak_exchange.specs.Making.{made_roster}
 use Rattle.sak_exchange.specs.Outcomes.{beginning}
 use Rattle.sak_exchange.proofs.Public.{by_test}

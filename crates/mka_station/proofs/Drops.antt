@@ -18,7 +18,8 @@ use Rattle.mka_station.specs.Views.{View, view}
 use Rattle.mka_station.specs.Announcing.{announces}
 use Rattle.mka_station.specs.Tick.{tick_turn, made}
 use Rattle.mka_station.specs.Hearing.{hear_turn, outcome_of, is_accepted, key_taken}
-use Rattle.mka_station.specs.inside.Stages.{ticked_past, says_at, answer_at}
+use Rattle.mka_station.specs.Tick.{ticked_past, says_at}
+use Rattle.mka_station.specs.Hearing.{answer_at}
 use Rattle.mka_station.specs.inside.Turns.{peers_with}
 use Rattle.mka_station.proofs.Pasts.{peers-heard, keys-heard, view-peers, filter-same}
 use Rattle.mka_station.proofs.Ticks.{turn-past, whole-peers, whole-keys, past-count, past-peers}

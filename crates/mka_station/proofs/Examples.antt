@@ -3,16 +3,19 @@ use Rattle.std.proofs.Common.{◌≡◌, ℕ, List, [], ◌∷◌, ◌++◌, Non
 use Rattle.std.specs.Prelude.{drop}
 use Rattle.lan_base.specs.declared.address.Mi.{Mi}
 use Rattle.lan_base.specs.declared.address.Sci.{Sci}
+use Rattle.lan_base.specs.declared.association_number.AssociationNumber.TheVariants.{An0}
+use Rattle.lan_base.specs.declared.suite.Suite.TheVariants.{GcmAes128}
 use Rattle.aes_block.specs.declared.secret.Secret.{Secret}
 use Rattle.aes_block.specs.declared.secret.Secret.TheVariants.{S128}
 use Rattle.mkpdu_codec.specs.declared.announcement.Announcement.{Announcement}
 use Rattle.peer_lists.specs.Acceptance.{refusal, accepted, outcome}
 use Rattle.peer_lists.specs.Peers.{says, hopes, known}
 use Rattle.sak_exchange.specs.Held.{received, latest, old, transmitting}
-use Rattle.sak_exchange.specs.Histories.{Key}
+use Rattle.sak_exchange.specs.declared.held_key.Key.{Key}
 use Rattle.sak_exchange.specs.declared.change.Change.TheVariants.{Installed}
 use Rattle.sak_exchange.specs.declared.due.Seen.{Seen}
-use Rattle.mka_station.specs.declared.verdict.Verdict.TheVariants.{Vouched, Unvouched, Echo, OldNumber}
+use Rattle.mka_station.specs.declared.verdict.Verdict.TheVariants.{Vouched, Unvouched, Dropped}
+use Rattle.mka_station.specs.declared.verdict.DropReason.TheVariants.{Echo, OldNumber}
 use Rattle.mka_station.specs.Lives.{Setup, Member, Entry, ticked, sent, heard, installed, peers_of, keys_of, elected}
 use Rattle.mka_station.specs.Views.{view}
 use Rattle.mka_station.specs.Tick.{tick_turn}
@@ -31,7 +34,7 @@ abbrev sci : ℕ → Sci
 sci n = record { 0 = 2 ∷ 0 ∷ 0 ∷ 0 ∷ 0 ∷ n ∷ 0 ∷ 1 ∷ [] }
 
 abbrev setup : ℕ → ℕ → Setup
-setup s priority = record { sci = sci s; priority = priority; rekey = 3221225472; conf = true; suite = 128; ckn = 1 ∷ 2 ∷ 3 ∷ 4 ∷ []; kek = replicate 16 7; ick = replicate 16 8 }
+setup s priority = record { sci = sci s; priority = priority; rekey = 3221225472; conf = true; suite = GcmAes128; ckn = 1 ∷ 2 ∷ 3 ∷ 4 ∷ []; kek = replicate 16 7; ick = replicate 16 8 }
 
 abbrev alice : Member
 alice = record { setup = setup 10 16; mi = mi 1; base = 0 }
@@ -107,9 +110,9 @@ alice_is_elected = refl
 
 -- the third round: the server makes a key
 abbrev key : Key
-key = record { id = record { server = mi 1; number = 1 }; an = 0; sak = sak; conf = true; epoch = 1 }
+key = record { id = record { server = mi 1; number = 1 }; an = An0; sak = sak; conf = true; epoch = 1 }
 
-makes_a_key : (tick_turn alice none_seen sak a4).reaction.changes ≡ Installed (record { id = record { server = mi 1; number = 1 }; an = 0; sak = sak; conf = true; epoch = 1; begun = false }) ∷ []
+makes_a_key : (tick_turn alice none_seen sak a4).reaction.changes ≡ Installed (record { key = key; begun = false }) ∷ []
 unfolding opens
 makes_a_key = refl
 
@@ -122,11 +125,11 @@ unfolding opens
 third_number = refl
 
 -- a frame heard again is dropped, and so is one's own
-again : (hear_turn alice (said b3) a4).reaction.heard ≡ Some (OldNumber 2)
+again : (hear_turn alice (said b3) a4).reaction.heard ≡ Some (Dropped (OldNumber 2))
 unfolding opens
 again = refl
 
-own_words : (hear_turn alice (said a3) a4).reaction.heard ≡ Some Echo
+own_words : (hear_turn alice (said a3) a4).reaction.heard ≡ Some (Dropped Echo)
 unfolding opens
 own_words = refl
 

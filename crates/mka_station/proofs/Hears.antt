@@ -16,7 +16,8 @@ use Rattle.sak_exchange.specs.declared.change.Change.{Change}
 use Rattle.sak_exchange.specs.declared.change.Change.TheVariants.{Dropped}
 use Rattle.sak_exchange.specs.declared.change.Why.{Why}
 use Rattle.sak_exchange.specs.declared.offer.Offer.{Offer}
-use Rattle.sak_exchange.specs.Histories.{Key, Keying, install_count, installs, installed}
+use Rattle.sak_exchange.specs.declared.held_key.Key.{Key}
+use Rattle.sak_exchange.specs.Histories.{Keying, install_count, installs, installed}
 use Rattle.sak_exchange.specs.Held.{received, held, ends, allows}
 use Rattle.sak_exchange.specs.Making.{next_epoch}
 use Rattle.sak_exchange.specs.Beginning.{Beginning}
@@ -30,27 +31,12 @@ use Rattle.mka_station.specs.Lives.{Member, Entry, heard, own, candidate, peers_
 use Rattle.mka_station.specs.Views.{View, view, is_server}
 use Rattle.mka_station.specs.Announcing.{same_option, shown}
 use Rattle.mka_station.specs.Tick.{new_server}
-use Rattle.mka_station.specs.Hearing.{hear_turn, outcome_of, offered, taken_of, key_taken, take_changes, is_accepted, verdict_of, is_listed}
-use Rattle.mka_station.specs.Standing.{State, Comes, StandsFor, HaveTwoBits, spoken_at}
+use Rattle.mka_station.specs.Hearing.{hear_turn, outcome_of, offer_at, answer_at, taken_past, follow_at, heard_past, key_taken, take_changes, verdict_of}
+use Rattle.mka_station.specs.Standing.{State, Comes, StandsFor, spoken_at}
 use Rattle.mka_station.specs.inside.Rows.{live_rows, candidate_in, IsShown}
 use Rattle.mka_station.specs.inside.Turns.{is_install, offered_by, answered, keys_with, followed_by}
-use Rattle.mka_station.specs.inside.Stages.{offer_at, answer_at, taken_past, follow_at, heard_past}
 use Rattle.mka_station.proofs.RowsShown.{rows-show}
 use Rattle.mka_station.proofs.Pasts.{peers-heard, peers-begun, peers-installed, keys-heard, keys-begun, keys-taken, spoken-begun, spoken-installed, view-peers, view-keys, view-server, view-elected, view-same, elected-same}
-
-abbrev pub hears_to : Member → Announcement → List Entry → Reaction
-hears_to m a p =
-    let v = view m (heard a ∷ p) in
-    record {
-      heard = Some (verdict_of (outcome_of m p a));
-      server = new_server (view m p) v;
-      changes = take_changes v.keys (offer_at m a p) (answer_at m a p) ++ (beginning (view m (taken_past m a p)).keys (follow_at m a p)).changes;
-      sent = None;
-    }
-
-pub hear-reaction : (m : Member) (a : Announcement) (p : List Entry) → hears_to m a p ≡ (hear_turn m a p).reaction
-unfolding hear_turn
-hear-reaction m a p = refl
 
 pub hear-past : (m : Member) (a : Announcement) (p : List Entry) → heard_past m a p ≡ (hear_turn m a p).past
 unfolding hear_turn
@@ -113,6 +99,7 @@ pub heard-reacts : (m : Member) (s : State) (a : Announcement) (p : List Entry) 
     → second ≡ (beginning (keys_of m (taken_past m a p)) (followed_by o server a (keys_of m (taken_past m a p)))).changes
     → changes ≡ first ++ second
     → record { heard = Some (verdict_of o); server = news; changes = changes; sent = None } ≡ (hear_turn m a p).reaction
+unfolding hear_turn
 heard-reacts m s a p o server offer news first second changes stands out is off news_is first_is second_is changes_is =
     let v = view m (heard a ∷ p) in
     let n : news ≡ new_server (view m p) v = news_is ∙ ap (λ (x : Option Mi). cond (same_option same_mi x server) None (Some server)) (stands.server ∙ sym (view-server m p)) ∙ ap (λ (x : Option Mi). cond (same_option same_mi (view m p).server x) None (Some x)) is in
@@ -120,7 +107,7 @@ heard-reacts m s a p o server offer news first second changes stands out is off 
     first_is ∙ ap (take_changes (keys_of m p) offer) (answer-is m a p offer off) ∙ ap (λ (x : Option Offer). take_changes (keys_of m p) x (answer_at m a p)) off ∙ ap (λ (h : List Keying). take_changes h (offer_at m a p) (answer_at m a p)) (sym (heard-keys m a p)) in
     let g : second ≡ (beginning (view m (taken_past m a p)).keys (follow_at m a p)).changes =
     second_is ∙ ap (λ (b : Option Beginning). (beginning (keys_of m (taken_past m a p)) b).changes) (follow-is m a p server o is out) ∙ ap (λ (h : List Keying). (beginning h (follow_at m a p)).changes) (sym (view-keys m (taken_past m a p))) in
-    rw (n, changes_is, f, g, out) (hear-reaction m a p)
+    rw (n, changes_is, f, g, out) refl
 
 -- ---- installs
 
@@ -153,59 +140,6 @@ begun-count : (h : List Keying) (b : Option Beginning) → install_count (beginn
 begun-count h None = refl
 begun-count h (Some b) = refl
 
-begun-installs : (h : List Keying) (b : Option Beginning) → installs (beginning h b).past ≡ installs h
-begun-installs h None = refl
-begun-installs h (Some b) = refl
-
--- ---- the association number of a taken key has two bits
-
-provided-rest : (b : Bool) (why : Why) (rest : Result Key Why) (k : Key) → provided b why rest ≡ Ok k → rest ≡ Ok k
-provided-rest true why rest k is = is
-provided-rest false why rest k is = absurd (cc (is))
-
-new-rest : (kept : Option ℕ) (number : ℕ) (rest : Result Key Why) (k : Key) → provided_new kept number rest ≡ Ok k → rest ≡ Ok k
-new-rest None number rest k is = is
-new-rest (Some n) number rest k is = provided-rest (nat_lt n number) _ rest k is
-
-unwrapped-an : (epoch : ℕ) (o : Offer) (sak : Option Secret) (k : Key) → unwrapped_key epoch o sak ≡ Ok k → an_of o.given ≡ k.an
-unwrapped-an epoch o None k is = absurd (cc (is))
-unwrapped-an epoch o (Some x) k is = let same : Ok (offered_key epoch o x) ≡ Ok k = is in let key : offered_key epoch o x ≡ k = cc (same) in ap (λ (j : Key). j.an) key
-
-taken-an : (base : ℕ) (h : List Keying) (o : Offer) (sak : Option Secret) (k : Key) → taken base h o sak ≡ Ok k → an_of o.given ≡ k.an
-taken-an base h o sak k is =
-    let a = provided-rest o.listed _ _ k is in
-    let b = provided-rest o.elected _ _ k a in
-    let c = new-rest (greatest_of o.server h) (number_of o.given) _ k b in
-    let d = provided-rest (allows h) _ _ k c in
-    let e = provided-rest (is_supported o.given) _ _ k d in
-    let f = provided-rest (nat_lt (offset_of o.given) 2) _ _ k e in
-    unwrapped-an (next_epoch base h) o sak k f
-
-taken-bits : (m : Member) (v : View) (o : Outcome) (a : Announcement) (k : Key) → IfSome a.given (λ g. an_of g < 4) → key_taken (taken_of m v (offered m v o a)) ≡ Some k → k.an < 4
-taken-bits m v o a k small is =
-    by_test (is_accepted o)
-    (λ e. by_option a.given
-    (λ f. absurd (cc (rw (e, f) at is)))
-    (λ g f. let offer : Offer = record { given = g; server = a.mi; listed = is_listed m v.peers a; elected = is_server v.server a.mi } in
-    let t : key_taken (Some (taken m.base v.keys offer (given_sak m.setup.kek g))) ≡ Some k = rw (e, f) at is in
-    subst (λ (n : ℕ). n < 4) (taken-an m.base v.keys offer (given_sak m.setup.kek g) k (key-of (taken m.base v.keys offer (given_sak m.setup.kek g)) k t)) (rw f at small)))
-    (λ e. absurd (cc (rw e at is)))
-  where
-    key-of : (r : Result Key Why) (j : Key) → key_taken (Some r) ≡ Some j → r ≡ Ok j
-    key-of (Ok x) j is = cc (is)
-    key-of (Err why) j is = absurd (cc (is))
-
-with-bits : (o : Option Key) (h : List Keying) → ((k : Key) → o ≡ Some k → k.an < 4) → HaveTwoBits (installs h) → HaveTwoBits (installs (keys_with o h))
-with-bits None h small bits = bits
-with-bits (Some k) h small bits = (small k refl, bits)
-
-pub heard-bits : (m : Member) (a : Announcement) (p : List Entry) → IfSome a.given (λ g. an_of g < 4) → HaveTwoBits (installs (keys_of m p)) → HaveTwoBits (installs (keys_of m (heard_past m a p)))
-heard-bits m a p small bits =
-    let q = taken_past m a p in
-    let t : HaveTwoBits (installs (keys_of m q)) = subst (λ (h : List Keying). HaveTwoBits (installs h)) (taken-keys m a p)
-    (with-bits (key_taken (answer_at m a p)) (keys_of m p) (λ k e. taken-bits m (view m (heard a ∷ p)) (outcome_of m p a) a k small e) bits) in
-    subst (λ (h : List Keying). HaveTwoBits (installs h)) (heard-all m a p) (subst (λ (ks : List Key). HaveTwoBits ks) (sym (begun-installs (keys_of m q) (follow_at m a p))) t)
-
 -- ---- what stands then
 
 spoken-kept : (m : Member) (p q : List Entry) (last : Option (List Entry)) → clock (peers_of m q) ≡ clock (peers_of m p) → option_map (spoken_at m p) last ≡ option_map (spoken_at m q) last
@@ -219,7 +153,7 @@ pub heard-count : (m : Member) (a : Announcement) (p : List Entry) → install_c
 heard-count m a p =
     ap install_count (sym (heard-all m a p)) ∙ begun-count (keys_of m (taken_past m a p)) (follow_at m a p) ∙ ap install_count (sym (taken-keys m a p)) ∙ with-count (key_taken (answer_at m a p)) (keys_of m p)
 
-pub stands-heard : (m : Member) (s t : State) (a : Announcement) (p : List Entry) (server : Option Mi) → StandsFor m s p → IfSome a.given (λ g. an_of g < 4)
+pub stands-heard : (m : Member) (s t : State) (a : Announcement) (p : List Entry) (server : Option Mi) → StandsFor m s p
     → server ≡ (view m (heard a ∷ p)).server
     → t.setup ≡ s.setup → t.mi ≡ s.mi → t.epochs ≡ s.epochs + cond (is_some (key_taken (answer_at m a p))) 1 0
     → PeersStandFor (own m) t.peers (peers_of m (heard a ∷ p))
@@ -227,7 +161,7 @@ pub stands-heard : (m : Member) (s t : State) (a : Announcement) (p : List Entry
     → t.server ≡ server → t.spoken ≡ s.spoken
     → Comes m (heard_past m a p) t.coming
     → StandsFor m t (hear_turn m a p).past
-stands-heard m s t a p server stands small server_is setup mi epochs peers keys elects spoken coming =
+stands-heard m s t a p server stands server_is setup mi epochs peers keys elects spoken coming =
     let q = taken_past m a p in
     let r = heard_past m a p in
     let key = key_taken (answer_at m a p) in
@@ -242,6 +176,5 @@ stands-heard m s t a p server stands small server_is setup mi epochs peers keys 
       server = elects ∙ server_is ∙ view-server m (heard a ∷ p) ∙ sym (elected-same m (heard a ∷ p) r (heard-peers m a p));
       spoken = spoken ∙ stands.spoken ∙ spoken-kept m p r (last_spoken p) (heard-clock m a p) ∙ ap (option_map (spoken_at m r)) (sym (heard-spoken m a p));
       coming = coming;
-      numbered = heard-bits m a p small stands.numbered;
     } in
     subst (λ (x : List Entry). StandsFor m t x) (hear-past m a p) whole

@@ -7,16 +7,16 @@ use Rattle.mkpdu_codec.specs.declared.announcement.Announcement.{Announcement}
 use Rattle.mkpdu_codec.specs.declared.spelled.Spelled.{Spelled}
 use Rattle.mkpdu_codec.specs.Reading.{reading}
 use Rattle.sak_exchange.proofs.Public.{by_test}
-use Rattle.mka_station.specs.declared.verdict.Verdict.{Verdict}
+use Rattle.mka_station.specs.declared.verdict.DropReason.{DropReason}
 use Rattle.mka_station.specs.Lives.{Setup}
 use Rattle.mka_station.specs.Hearing.{judged, of_group}
 use Rattle.mka_station.specs.inside.Turns.{IsRefused, fault_of}
 
-pub judged-refused : (setup : Setup) (frame : List ℕ) (v : Verdict) → IsRefused frame v → Err v ≡ judged setup frame
+pub judged-refused : (setup : Setup) (frame : List ℕ) (v : DropReason) → IsRefused frame v → Err v ≡ judged setup frame
 unfolding judged
 judged-refused setup frame v is = sym (rw (is.2, is.1) refl)
 
-abbrev verdict-of : Option Verdict → Announcement → Result Announcement Verdict
+abbrev verdict-of : Option DropReason → Announcement → Result Announcement DropReason
 verdict-of None a = Ok a
 verdict-of (Some v) a = Err v
 
@@ -30,7 +30,7 @@ judged-read : (setup : Setup) (frame : List ℕ) (s : Spelled) → reading frame
 unfolding judged
 judged-read setup frame s is = rw is refl
 
-pub judged-fault : (setup : Setup) (frame : List ℕ) (s : Spelled) (v : Verdict) → reading frame ≡ Ok s → fault_of setup s.announcement (take s.covered frame) s.check ≡ Some v → Err v ≡ judged setup frame
+pub judged-fault : (setup : Setup) (frame : List ℕ) (s : Spelled) (v : DropReason) → reading frame ≡ Ok s → fault_of setup s.announcement (take s.covered frame) s.check ≡ Some v → Err v ≡ judged setup frame
 judged-fault setup frame s v is why = sym (judged-read setup frame s is ∙ by-fault setup frame s ∙ ap (λ o. verdict-of o s.announcement) why)
 
 pub judged-right : (setup : Setup) (frame : List ℕ) (s : Spelled) → reading frame ≡ Ok s → fault_of setup s.announcement (take s.covered frame) s.check ≡ None → Ok s.announcement ≡ judged setup frame

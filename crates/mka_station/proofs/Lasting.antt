@@ -9,7 +9,8 @@ use Rattle.aes_block.specs.declared.secret.Secret.{Secret}
 use Rattle.mkpdu_codec.specs.declared.announcement.Announcement.{Announcement}
 use Rattle.peer_lists.specs.Histories.{last_sent}
 use Rattle.sak_exchange.specs.declared.due.Seen.{Seen}
-use Rattle.sak_exchange.specs.Histories.{Key, Keying, install_count}
+use Rattle.sak_exchange.specs.declared.held_key.Key.{Key}
+use Rattle.sak_exchange.specs.Histories.{Keying, install_count}
 use Rattle.sak_exchange.specs.Held.{latest, old}
 use Rattle.sak_exchange.proofs.Public.{by_test}
 use Rattle.mka_station.specs.Lives.{Member, Entry, ticked, heard, elected, keys_of, peers_of}
@@ -17,7 +18,8 @@ use Rattle.mka_station.specs.Announcing.{id_of, same_key, use_of, uses_of}
 use Rattle.mka_station.specs.Tick.{tick_turn}
 use Rattle.mka_station.specs.Hearing.{hear_turn}
 use Rattle.mka_station.specs.Standing.{State, StandsFor, HasRoom}
-use Rattle.mka_station.specs.inside.Stages.{ticked_past, says_at, heard_past}
+use Rattle.mka_station.specs.Tick.{ticked_past, says_at}
+use Rattle.mka_station.specs.Hearing.{heard_past}
 use Rattle.mka_station.proofs.Pasts.{elected-same, elected-said, peers-ticked}
 use Rattle.mka_station.proofs.Ticks.{turn-past, past-peers, begun-count}
 use Rattle.mka_station.proofs.Hears.{hear-past, heard-peers}

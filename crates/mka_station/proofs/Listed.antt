@@ -7,12 +7,12 @@ use Rattle.lan_base.specs.Identifiers.{same_mi}
 use Rattle.mkpdu_codec.specs.declared.announcement.Announcement.{Announcement}
 use Rattle.mkpdu_codec.specs.declared.peer.Peer.{Peer}
 use Rattle.peer_lists.specs.declared.heard.Heard.{Heard}
-use Rattle.peer_lists.specs.declared.heard.DropReason.{DropReason}
+use Rattle.peer_lists.specs.declared.heard.PeerRefusal.{PeerRefusal}
 use Rattle.peer_lists.specs.Histories.{Peering, clock, recent}
 use Rattle.peer_lists.specs.Acceptance.{Own, Accepted, accepted, refusal, outcome, vouches}
 use Rattle.peer_lists.specs.Peers.{says, hopes, known, is_of, is_vouched_of, last_accepted}
 use Rattle.peer_lists.proofs.Public.{by_test, same_mi-equal, same_mi-itself, find-here, find-on, find-any, find-is_some, by_option, accepted-ticked, accepted-sent, accepted-new, accepted-dropped, entered, says-is}
-use Rattle.sak_exchange.specs.Histories.{Key}
+use Rattle.sak_exchange.specs.declared.held_key.Key.{Key}
 use Rattle.mka_station.specs.Lives.{Member, Entry, ticked, sent, heard, installed, began, own, told, peers_of}
 use Rattle.mka_station.specs.Views.{View, view}
 use Rattle.mka_station.specs.Announcing.{announcement, peer_of}
@@ -24,7 +24,7 @@ use Rattle.mka_station.proofs.Drops.{outcome-kept, kept-accepted}
 
 -- ---- what hearing comes to
 
-outcome-dropped : (o : Own) (h : List Peering) (x : Heard) (r : DropReason) → refusal o (clock h) (accepted o h) x ≡ Some r → is_accepted (outcome o h x) ≡ false
+outcome-dropped : (o : Own) (h : List Peering) (x : Heard) (r : PeerRefusal) → refusal o (clock h) (accepted o h) x ≡ Some r → is_accepted (outcome o h x) ≡ false
 unfolding outcome
 outcome-dropped o h x r e = rw (e, outcome) refl
 
@@ -101,7 +101,7 @@ other-leaves m a p entry other b is mi =
     let no : true ≡ false = sym yes ∙ other in
     absurd (cc (no))
 
-dropped-leaves : (m : Member) (a : Announcement) (p : List Entry) (entry : Peer) (r : DropReason)
+dropped-leaves : (m : Member) (a : Announcement) (p : List Entry) (entry : Peer) (r : PeerRefusal)
     → refusal (own m) (clock (peers_of m p)) (accepted (own m) (peers_of m p)) (told m.mi (recent (peers_of m p)) a) ≡ Some r → Leaves m p entry (heard a)
 dropped-leaves m a p entry r e b is mi =
     let same : a ≡ b = cc (is) in

@@ -7,12 +7,13 @@ use Rattle.lan_base.specs.declared.address.Mi.{Mi}
 use Rattle.aes_block.specs.declared.secret.Secret.{Secret}
 use Rattle.peer_lists.specs.Histories.{ticked as peers_ticked}
 use Rattle.sak_exchange.specs.declared.due.Seen.{Seen}
-use Rattle.sak_exchange.specs.Histories.{Key, Keying, last_key}
-use Rattle.sak_exchange.specs.Making.{makes, made_key, next_an, free_from, after, is_used}
+use Rattle.sak_exchange.specs.declared.held_key.Key.{Key}
+use Rattle.sak_exchange.specs.Histories.{Keying}
+use Rattle.sak_exchange.specs.Making.{makes, made_key}
 use Rattle.sak_exchange.proofs.Public.{by_test, by_option}
 use Rattle.mka_station.specs.Lives.{Member, Entry, ticked, peers_of, keys_of}
 use Rattle.mka_station.specs.Views.{View, view, reports, is_server, serves}
-use Rattle.mka_station.specs.Tick.{led, makes_now, made, with_beginning, install_changes}
+use Rattle.mka_station.specs.Tick.{led, made, with_beginning, install_changes}
 use Rattle.mka_station.specs.Drawing.{makes_next}
 use Rattle.mka_station.specs.Standing.{Coming, Comes}
 use Rattle.mka_station.specs.inside.Rows.{potential_rows, IsShown}
@@ -101,22 +102,3 @@ install-same m p seen any roster =
 
 pub some-made : (m : Member) (p : List Entry) (seen : Seen) (any : Secret) (sak : Option Secret) → sak ≡ cond (makes_next m p seen) (Some any) None → is_some sak ≡ is_some (made m (view m (ticked ∷ p)) seen any)
 some-made m p seen any sak is = by_test (makes_next m p seen) (λ e. rw (is, e) refl) (λ e. rw (is, e) refl)
-
--- ---- the association number of a made key has two bits
-
-after-bits : (a : ℕ) → after a < 4
-after-bits a = omega arith
-
-free-bits : (n : ℕ) (h : List Keying) (a : ℕ) → a < 4 → free_from n h a < 4
-free-bits zero h a l = l
-free-bits (suc n) h a l = by_test (is_used h a) (λ e. rw e (free-bits n h (after a) (after-bits a))) (λ e. rw e l)
-
-next-bits : (h : List Keying) → next_an h < 4
-next-bits h = by_option (last_key h) (λ e. rw (e, next_an) (omega arith)) (λ k e. rw (e, next_an) (free-bits 2 h (after k.an) (after-bits k.an)))
-
-pub made-bits : (m : Member) (v : View) (seen : Seen) (any : Secret) (k : Key) → made m v seen any ≡ Some k → k.an < 4
-made-bits m v seen any k is =
-    by_test (makes_now m v seen)
-    (λ e. let f : Some (made_key m.base m.mi v.keys m.setup.conf any) ≡ Some k = rw e at is in
-    let g : made_key m.base m.mi v.keys m.setup.conf any ≡ k = cc (f) in subst (λ (x : Key). x.an < 4) g (next-bits v.keys))
-    (λ e. absurd (cc (rw e at is)))

@@ -8,7 +8,8 @@ use Rattle.peer_lists.specs.Acceptance.{Own, members}
 use Rattle.peer_lists.specs.Peers.{says, known, standing, is_vouched_of}
 use Rattle.peer_lists.proofs.Public.{accepted-sent, says-is, known-is}
 use Rattle.server_election.specs.Election.{elected as elected_among}
-use Rattle.sak_exchange.specs.Histories.{Key, ticked as keys_ticked}
+use Rattle.sak_exchange.specs.declared.held_key.Key.{Key}
+use Rattle.sak_exchange.specs.Histories.{ticked as keys_ticked}
 use Rattle.sak_exchange.specs.Beginning.{Beginning}
 use Rattle.sak_exchange.specs.Outcomes.{beginning}
 use Rattle.mka_station.specs.Lives.{Member, Entry, ticked, sent, heard, installed, began, own, told, candidate, candidate_of, peers_of, keys_of, elected, elected_by, live_words, potential_words, last_spoken}

@@ -12,7 +12,8 @@ use Rattle.peer_lists.specs.declared.heard.Row.{Row}
 use Rattle.peer_lists.specs.Histories.{clock, last_sent, ticked as peers_ticked}
 use Rattle.peer_lists.specs.Acceptance.{Accepted}
 use Rattle.sak_exchange.specs.declared.report.Report.{Report}
-use Rattle.sak_exchange.specs.Histories.{Key, Keying, last_roster}
+use Rattle.sak_exchange.specs.declared.held_key.Key.{Key}
+use Rattle.sak_exchange.specs.Histories.{Keying, last_roster}
 use Rattle.sak_exchange.specs.Held.{latest, old, transmitting}
 use Rattle.sak_exchange.specs.Making.{is_in_roster, lists}
 use Rattle.sak_exchange.specs.Beginning.{is_latest_made}
@@ -122,17 +123,17 @@ given-seen : (m : Member) (s : State) (v : View) (mn : ℕ) (h : List Keying) �
 given-seen m s v mn h e =
     rw (e.setup, e.mi, e.told, e.server, e.keys) (given-is m v (latest v.keys))
 
-pub announced-is : (m : Member) (s : State) (v : View) (mn : ℕ) (h : List Keying) (l : Lowest) (lowest : Key → ℕ) → ((k : Key) → lowest_by l k.id ≡ lowest k) → Sees m s v mn h
-    → announced_by s mn (uses_of (λ k. lowest_by l k.id) h) (given_after s.setup.kek (is_server s.coming.server s.mi) s.coming.reports h) ≡ announcement m lowest v
+pub announced-is : (m : Member) (s : State) (v : View) (mn : ℕ) (h : List Keying) (l : Lowest) (lowest : Key → ℕ) → ((k : Key) → lowest_by l k ≡ lowest k) → Sees m s v mn h
+    → announced_by s mn (uses_of (lowest_by l) h) (given_after s.setup.kek (is_server s.coming.server s.mi) s.coming.reports h) ≡ announcement m lowest v
 announced-is m s v mn h l lowest same e =
-    let u : uses_of (λ k. lowest_by l k.id) h ≡ uses_of lowest v.keys = uses-lowest h (λ k. lowest_by l k.id) lowest same ∙ ap (uses_of lowest) e.keys in
+    let u : uses_of (lowest_by l) h ≡ uses_of lowest v.keys = uses-lowest h (lowest_by l) lowest same ∙ ap (uses_of lowest) e.keys in
     let g = given-seen m s v mn h e in
     ap (λ (x : Option Uses). announced_by s mn x (given_after s.setup.kek (is_server s.coming.server s.mi) s.coming.reports h)) u
     ∙ ap (announced_by s mn (uses_of lowest v.keys)) g
     ∙ rw (e.setup, e.mi, e.server, e.number, e.shows.live_peers, e.shows.potential_peers) refl
 
 -- what a station says
-pub said-is : (m : Member) (p q : List Entry) (s : State) (shows : Shown) (mn : ℕ) (l : Lowest) (h : List Keying) (lowest : Key → ℕ) → ((k : Key) → lowest_by l k.id ≡ lowest k)
+pub said-is : (m : Member) (p q : List Entry) (s : State) (shows : Shown) (mn : ℕ) (l : Lowest) (h : List Keying) (lowest : Key → ℕ) → ((k : Key) → lowest_by l k ≡ lowest k)
     → Sees m s (view m q) mn h → shows ≡ shown (view m q) → s.spoken ≡ option_map (spoken_at m p) (last_spoken p) → last_spoken q ≡ last_spoken p → peers_of m q ≡ peers_ticked ∷ peers_of m p
     → said_by s shows mn l h ≡ says_now m lowest q (view m q)
 said-is m p q s shows mn l h lowest same e is kept spoke peers =
@@ -141,5 +142,5 @@ said-is m p q s shows mn l h lowest same e is kept spoke peers =
     let due : is_due_after s.spoken shows ≡ announces m v q =
     ap (λ (k : Option Spoken). is_due_after k shows) kept ∙ ap (is_due_after (option_map (spoken_at m p) (last_spoken p))) is
     ∙ due-is m p v (last_spoken p) (spoken-before m p) now ∙ ap (is_due_since m v) (sym spoke) in
-    ap (λ (b : Bool). cond b (Some (announced_by s mn (uses_of (λ k. lowest_by l k.id) h) (given_after s.setup.kek (is_server s.coming.server s.mi) s.coming.reports h))) None) due
+    ap (λ (b : Bool). cond b (Some (announced_by s mn (uses_of (lowest_by l) h) (given_after s.setup.kek (is_server s.coming.server s.mi) s.coming.reports h))) None) due
     ∙ ap (λ (a : Announcement). cond (announces m v q) (Some a) None) (announced-is m s v mn h l lowest same e)

@@ -6,13 +6,13 @@ use Rattle.peer_lists.specs.Histories.{Peering}
 use Rattle.peer_lists.specs.Peers.{known}
 use Rattle.peer_lists.specs.Table.{StandsFor as PeersStandFor}
 use Rattle.sak_exchange.specs.declared.change.Change.{Change}
-use Rattle.sak_exchange.specs.Histories.{Keying, install_count, installs}
+use Rattle.sak_exchange.specs.Histories.{Keying, install_count}
 use Rattle.sak_exchange.specs.Outcomes.{dropping}
 use Rattle.sak_exchange.specs.Standing.{StandsFor as KeysStandFor}
 use Rattle.mka_station.specs.Lives.{Setup, Member, Entry, own, peers_of, keys_of, elected}
 use Rattle.mka_station.specs.Views.{view}
 use Rattle.mka_station.specs.Restart.{ending, lost_server}
-use Rattle.mka_station.specs.Standing.{State, Comes, StandsFor, HaveTwoBits, drawn_mi, born}
+use Rattle.mka_station.specs.Standing.{State, Comes, StandsFor, drawn_mi, born}
 use Rattle.mka_station.proofs.Pasts.{keys-none, peers-none, view-keys, view-server}
 
 none-elected : (m : Member) → None ≡ elected m []
@@ -38,7 +38,6 @@ stands-born setup epochs draw s setup_is mi_is epochs_is peers keys server spoke
       server = server ∙ none-elected m;
       spoken = spoken;
       coming = coming p k;
-      numbered = subst (λ (h : List Keying). HaveTwoBits (installs h)) (sym (keys-none m)) tt;
     }
 
 ends-is : (m : Member) (p : List Entry) → record { heard = None; server = lost_server (view m p).server; changes = (dropping (view m p).keys).changes; sent = None } ≡ ending m p

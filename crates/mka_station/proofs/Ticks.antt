@@ -11,42 +11,27 @@ use Rattle.peer_lists.specs.Table.{StandsFor as PeersStandFor}
 use Rattle.sak_exchange.specs.declared.change.Change.{Change}
 use Rattle.sak_exchange.specs.declared.due.Seen.{Seen}
 use Rattle.sak_exchange.specs.declared.report.Report.{Report}
-use Rattle.sak_exchange.specs.Histories.{Key, Keying, install_count, installs}
+use Rattle.sak_exchange.specs.declared.held_key.Key.{Key}
+use Rattle.sak_exchange.specs.Histories.{Keying, install_count}
 use Rattle.sak_exchange.specs.Held.{latest, old}
 use Rattle.sak_exchange.specs.Making.{made_roster}
 use Rattle.sak_exchange.specs.Outcomes.{beginning}
 use Rattle.sak_exchange.specs.Standing.{StandsFor as KeysStandFor, ticks_since}
-use Rattle.mka_station.specs.declared.reaction.Reaction.{Reaction}
 use Rattle.mka_station.specs.declared.saying.Lowest.{Lowest}
 use Rattle.mka_station.specs.declared.shown.Spoken.{Spoken}
 use Rattle.mka_station.specs.Lives.{Member, Entry, ticked, sent, own, peers_of, keys_of, last_spoken}
 use Rattle.mka_station.specs.Views.{View, view, reports}
-use Rattle.mka_station.specs.Announcing.{Shown, shown, id_of, same_option, lowest_in, frame_of}
-use Rattle.mka_station.specs.Tick.{new_server, ended, led, made, with_sent, install_changes, tick_turn}
+use Rattle.mka_station.specs.Announcing.{Shown, shown, same_option, lowest_in, frame_of}
+use Rattle.mka_station.specs.Tick.{new_server, ended, led, made, with_sent, install_changes, roster_at, begun_past, ticked_past, says_at, tick_turn}
 use Rattle.mka_station.specs.Drawing.{makes_next}
-use Rattle.mka_station.specs.Standing.{State, Coming, Comes, StandsFor, HaveTwoBits, spoken_at}
+use Rattle.mka_station.specs.Standing.{State, Coming, Comes, StandsFor, spoken_at}
 use Rattle.mka_station.specs.inside.Rows.{IsShown}
 use Rattle.mka_station.specs.inside.Due.{shown_by, one_later}
 use Rattle.mka_station.specs.inside.Turns.{said_by, peers_with, made_by, keys_made, spoken_after, spoken_later}
-use Rattle.mka_station.specs.inside.Stages.{roster_at, begun_past, ticked_past, says_at}
 use Rattle.mka_station.proofs.RowsShown.{rows-show}
 use Rattle.mka_station.proofs.Pasts.{peers-ticked, peers-begun, peers-installed, peers-said, keys-ticked, keys-begun, keys-made, keys-said, spoken-begun, spoken-installed, view-peers, view-keys, view-server, view-same, elected-said, spoken-before}
-use Rattle.mka_station.proofs.Makes.{key-is, install-same, made-bits, some-made}
+use Rattle.mka_station.proofs.Makes.{key-is, install-same, some-made}
 use Rattle.mka_station.proofs.Says.{Sees, shown-is, said-is, since-later}
-
-abbrev pub ticks_to : Member → Seen → Secret → List Entry → Reaction
-ticks_to m seen any p =
-    let v = view m (ticked ∷ p) in
-    record {
-      heard = None;
-      server = new_server (view m p) v;
-      changes = ended (view m p).keys v.server ++ ((beginning v.keys (led m v)).changes ++ install_changes v.keys (roster_at m p) (made m v seen any));
-      sent = option_map (frame_of m.setup) (says_at m seen any p);
-    }
-
-pub turn-reaction : (m : Member) (seen : Seen) (any : Secret) (p : List Entry) → ticks_to m seen any p ≡ (tick_turn m seen any p).reaction
-unfolding tick_turn
-turn-reaction m seen any p = refl
 
 pub turn-past : (m : Member) (seen : Seen) (any : Secret) (p : List Entry) → with_sent (says_at m seen any p) (ticked_past m seen any p) ≡ (tick_turn m seen any p).past
 unfolding tick_turn
@@ -82,13 +67,6 @@ past-installed m p c seen any sak conf comes is same =
 
 -- ---- its installs
 
-begun-installs : (m : Member) (p : List Entry) → installs (keys_of m (begun_past m p)) ≡ installs (keys_of m p)
-begun-installs m p = ap installs (sym (keys-begun m (led m (view m (ticked ∷ p))) (ticked ∷ p))) ∙ same (led m (view m (ticked ∷ p))) ∙ ap installs (keys-ticked m p)
-  where
-    same : (b : Option Beginning) → installs (beginning (keys_of m (ticked ∷ p)) b).past ≡ installs (keys_of m (ticked ∷ p))
-    same None = refl
-    same (Some b) = refl
-
 pub begun-count : (m : Member) (p : List Entry) → install_count (keys_of m (begun_past m p)) ≡ install_count (keys_of m p)
 begun-count m p = ap install_count (sym (keys-begun m (led m (view m (ticked ∷ p))) (ticked ∷ p))) ∙ same (led m (view m (ticked ∷ p))) ∙ ap install_count (keys-ticked m p)
   where
@@ -96,19 +74,9 @@ begun-count m p = ap install_count (sym (keys-begun m (led m (view m (ticked ∷
     same None = refl
     same (Some b) = refl
 
-with-bits : (r : Option (List Mi)) (o : Option Key) (h : List Keying) → ((k : Key) → o ≡ Some k → k.an < 4) → HaveTwoBits (installs h) → HaveTwoBits (installs (keys_made r o h))
-with-bits r None h small bits = bits
-with-bits r (Some k) h small bits = (small k refl, bits)
-
 with-count : (r : Option (List Mi)) (o : Option Key) (h : List Keying) → install_count (keys_made r o h) ≡ install_count h + cond (is_some o) 1 0
 with-count r None h = omega arith
 with-count r (Some k) h = refl
-
-pub past-bits : (m : Member) (seen : Seen) (any : Secret) (p : List Entry) → HaveTwoBits (installs (keys_of m p)) → HaveTwoBits (installs (keys_of m (ticked_past m seen any p)))
-past-bits m seen any p bits =
-    let key = made m (view m (ticked ∷ p)) seen any in
-    subst (λ (h : List Keying). HaveTwoBits (installs h)) (keys-made m (roster_at m p) key (begun_past m p))
-    (with-bits (roster_at m p) key (keys_of m (begun_past m p)) (λ k e. made-bits m (view m (ticked ∷ p)) seen any k e) (subst (λ (ks : List Key). HaveTwoBits ks) (sym (begun-installs m p)) bits))
 
 pub past-count : (m : Member) (seen : Seen) (any : Secret) (p : List Entry) → install_count (keys_of m (ticked_past m seen any p)) ≡ install_count (keys_of m p) + cond (is_some (made m (view m (ticked ∷ p)) seen any)) 1 0
 past-count m seen any p =
@@ -148,7 +116,7 @@ past-shown m s p seen any stands =
 
 pub past-said : (m : Member) (s : State) (p : List Entry) (seen : Seen) (any : Secret) (shows : Shown) (lowest : Lowest) → StandsFor m s p
     → shows ≡ shown_by s.coming.rows s.coming.server (keys_of m (ticked_past m seen any p))
-    → lowest ≡ record { latest = id_of (latest (keys_of m p)); old = id_of (old (keys_of m p)); seen = seen }
+    → lowest ≡ record { latest = latest (keys_of m p); old = old (keys_of m p); seen = seen }
     → said_by s shows (last_sent (peers_ticked ∷ peers_of m p) + 1) lowest (keys_of m (ticked_past m seen any p)) ≡ says_at m seen any p
 past-said m s p seen any shows lowest stands is low =
     let q = ticked_past m seen any p in
@@ -163,13 +131,14 @@ pub reacts : (m : Member) (s : State) (p : List Entry) (seen : Seen) (any : Secr
     → inst ≡ install_changes (view m (ticked ∷ p)).keys (roster_at m p) (made m (view m (ticked ∷ p)) seen any)
     → frame ≡ option_map (frame_of m.setup) (says_at m seen any p)
     → record { heard = None; server = server; changes = changes; sent = frame } ≡ (tick_turn m seen any p).reaction
+unfolding tick_turn
 reacts m s p seen any server changes inst frame stands server_is changes_is inst_is frame_is =
     let v = view m (ticked ∷ p) in
     let a : server ≡ new_server (view m p) v = server_is ∙ ap (λ (o : Option Mi). cond (same_option same_mi o s.coming.server) None (Some s.coming.server)) (stands.server ∙ sym (view-server m p)) ∙ ap (λ (o : Option Mi). cond (same_option same_mi (view m p).server o) None (Some o)) stands.coming.server in
     let b : changes ≡ ended (view m p).keys v.server ++ ((beginning v.keys (led m v)).changes ++ install_changes v.keys (roster_at m p) (made m v seen any)) =
     changes_is ∙ ap (λ (xs : List Change). xs ++ inst) (stands.coming.changes ∙ ap (λ (h : List Keying). ended h v.server ++ (beginning (keys_of m (ticked ∷ p)) (led m v)).changes) (sym (view-keys m p)) ∙ ap (λ (h : List Keying). ended (view m p).keys v.server ++ (beginning h (led m v)).changes) (sym (view-keys m (ticked ∷ p))))
     ∙ append_assoc (ended (view m p).keys v.server) (beginning v.keys (led m v)).changes inst ∙ ap (λ (xs : List Change). ended (view m p).keys v.server ++ ((beginning v.keys (led m v)).changes ++ xs)) inst_is in
-    rw (a, b, frame_is) (turn-reaction m seen any p)
+    rw (a, b, frame_is) refl
 
 -- ---- what stands then
 
@@ -222,7 +191,6 @@ stands-ticked m s t p seen any sak shows stands sak_is shows_is setup mi epochs 
       server = server ∙ past-server m s p seen any stands ∙ view-server m q ∙ sym (elected-said m said q);
       spoken = spoken ∙ spoken-is m p q s.spoken shows said stands.spoken (past-spoken m seen any p) (past-peers m seen any p) (shows_is ∙ past-shown m s p seen any stands);
       coming = coming;
-      numbered = subst (λ (h : List Keying). HaveTwoBits (installs h)) keys_are (past-bits m seen any p stands.numbered);
     } in
     subst (λ (x : List Entry). StandsFor m t x) (turn-past m seen any p) whole
 

@@ -1,11 +1,13 @@
 -- When a station announces itself, and what it says (IEEE Std 802.1X, clauses 9 and 11). What is
 -- compared with the last announcement is this profile's own rule.
-use Rattle.std.specs.Prelude.{ℕ, ◌+◌, nat_le, ◌==◌, Bool, true, false, cond, not, ◌&&◌, ◌||◌, List}
+use Rattle.std.specs.Prelude.{ℕ, ◌+◌, nat_le, ◌==◌, Bool, true, false, if◌then◌else◌, not, ◌&&◌}
+use Rattle.std.specs.Prelude.{◌||◌, List}
 use Rattle.std.specs.Prelude.{◌++◌, take, map, replicate, Option, Some, None, is_some, option_map}
 use Rattle.std.specs.Prelude.{option_and_then, unwrap_or}
 use Rattle.std.specs.List.{list_all, list_any}
 use lib.Pointwise.{pointwise}
 use Rattle.lan_base.specs.declared.address.Mi.{Mi}
+use Rattle.lan_base.specs.declared.association_number.AssociationNumber.TheVariants.{An0}
 use Rattle.lan_base.specs.declared.key_id.KeyId.{KeyId}
 use Rattle.lan_base.specs.Identifiers.{same_mi}
 use Rattle.lan_base.specs.Timers.{hello_time}
@@ -14,6 +16,8 @@ use Rattle.aes_block.specs.declared.secret.Secret.TheVariants.{S128, S256}
 use Rattle.aes_cmac.specs.Cmac.{cmac}
 use Rattle.key_wrap.specs.Wrap.{wrapped}
 use Rattle.mkpdu_codec.specs.declared.announcement.Announcement.{Announcement}
+use Rattle.mkpdu_codec.specs.declared.offset.ConfidentialityOffset.{ConfidentialityOffset}
+use Rattle.mkpdu_codec.specs.declared.offset.ConfidentialityOffset.TheVariants as offsets
 use Rattle.mkpdu_codec.specs.declared.given.Given.{Given}
 use Rattle.mkpdu_codec.specs.declared.given.Given.TheVariants.{Aes128, Aes256}
 use Rattle.mkpdu_codec.specs.declared.key_use.KeyUse.{KeyUse}
@@ -23,7 +27,8 @@ use Rattle.mkpdu_codec.specs.Written.{written}
 use Rattle.peer_lists.specs.Histories.{clock, last_sent}
 use Rattle.peer_lists.specs.Acceptance.{Accepted}
 use Rattle.peer_lists.specs.Peers.{last_accepted}
-use Rattle.sak_exchange.specs.Histories.{Key, Keying}
+use Rattle.sak_exchange.specs.declared.held_key.Key.{Key}
+use Rattle.sak_exchange.specs.Histories.{Keying}
 use Rattle.sak_exchange.specs.Held.{latest, old, transmitting}
 use Rattle.sak_exchange.specs.Reports.{reports as is_reported}
 use Rattle.sak_exchange.specs.Making.{is_in_roster}
@@ -44,19 +49,24 @@ pub record Shown : Type 0 where
   pub old : Option KeyId
   pub transmitting : Option KeyId
 
+-- the identifier of a key, where there is one
 abbrev pub id_of : Option Key → Option KeyId
 id_of k = option_map (λ k. k.id) k
 
-abbrev pub shown : View → Shown
-shown v =
+-- what these live and potential members, this server and these keys show
+abbrev pub shown_of : List Mi → List Mi → Option Mi → List Keying → Shown
+shown_of live potential server h =
     record {
-      live = speakers v.live;
-      potential = speakers v.potential;
-      server = v.server;
-      latest = id_of (latest v.keys);
-      old = id_of (old v.keys);
-      transmitting = id_of (transmitting v.keys);
+      live = live;
+      potential = potential;
+      server = server;
+      latest = id_of (latest h);
+      old = id_of (old h);
+      transmitting = id_of (transmitting h);
     }
+
+abbrev pub shown : View → Shown
+shown v = shown_of (speakers v.live) (speakers v.potential) v.server v.keys
 
 -- whether both are there and the same, or neither is
 abbrev pub same_option : {A : Type 0} → (A → A → Bool) → Option A → Option A → Bool
@@ -80,8 +90,8 @@ same_shown s t =
 -- shown has changed since
 abbrev pub is_due_since : Member → View → Option (List Entry) → Bool
 is_due_since m v None = true
-is_due_since m v (Some then) =
-    let before = view m then in
+is_due_since m v (Some past) =
+    let before = view m past in
     nat_le (clock before.peers + hello_time) (clock v.peers)
     || not (same_shown (shown v) (shown before))
 
@@ -102,7 +112,7 @@ no_use =
     record {
       server = record { 0 = replicate 12 0 };
       number = 0;
-      an = 0;
+      an = An0;
       tx = false;
       rx = false;
       lowest = 0;
@@ -121,13 +131,17 @@ use_of sending lowest (Some k) =
       lowest = lowest k;
     }
 
+-- the SAK Use of a latest key and an old one, where one of them is there
+abbrev pub uses_with : Option Key → (Key → ℕ) → Option Key → Option Key → Option Uses
+uses_with sending lowest newer older =
+    if is_some newer || is_some older then Some (record {
+      latest = use_of sending lowest newer;
+      old = use_of sending lowest older;
+    }) else None
+
 -- the SAK Use, where a key is held
 abbrev pub uses_of : (Key → ℕ) → List Keying → Option Uses
-uses_of lowest h =
-    cond (is_some (latest h) || is_some (old h)) (Some (record {
-      latest = use_of (transmitting h) lowest (latest h);
-      old = use_of (transmitting h) lowest (old h);
-    })) None
+uses_of lowest h = uses_with (transmitting h) lowest (latest h) (old h)
 
 -- whether the station gives its latest key: it serves and made the key in this life, each live
 -- member is in the key's roster, and one of them does not report it
@@ -137,8 +151,8 @@ gives m v k =
     && list_any (λ a. not (is_reported k.id a.told.uses)) v.live))
 
 -- the confidentiality offset: none, or that of 0 octets
-abbrev pub offset : Key → ℕ
-offset k = cond k.conf 1 0
+abbrev pub offset : Key → ConfidentialityOffset
+offset k = if k.conf then offsets.Octets0 else offsets.None
 
 -- a key as it is given, wrapped under the key encrypting key
 abbrev pub given_as : List ℕ → Key → Secret → Given
@@ -148,7 +162,7 @@ given_as kek k (S256 octets) = Aes256 k.an (offset k) k.id.number (wrapped kek o
 -- the Distributed SAK
 abbrev pub given : Member → View → Option Given
 given m v =
-    option_and_then (λ k. cond (gives m v k) (Some (given_as m.setup.kek k k.sak)) None)
+    option_and_then (λ k. if gives m v k then Some (given_as m.setup.kek k k.sak) else None)
     (latest v.keys)
 
 -- the announcement, given the lowest acceptable packet number under each key
@@ -170,14 +184,18 @@ announcement m lowest v =
 
 -- what a station says now, if it announces itself
 abbrev pub says_now : Member → (Key → ℕ) → List Entry → View → Option Announcement
-says_now m lowest p v = cond (announces m v p) (Some (announcement m lowest v)) None
+says_now m lowest p v = if announces m v p then Some (announcement m lowest v) else None
 
 -- the lowest acceptable packet number under a key: what a tick was shown for it, which then was the
 -- latest key or the old one, and 1 for a key that is new
+abbrev pub lowest_under : Option Key → Option Key → Seen → Key → ℕ
+lowest_under newer older seen k =
+    if same_option same_key (id_of newer) (Some k.id) then seen.latest
+    else if same_option same_key (id_of older) (Some k.id) then seen.old
+    else 1
+
 abbrev pub lowest_in : Seen → List Keying → Key → ℕ
-lowest_in seen before k =
-    cond (same_option same_key (id_of (latest before)) (Some k.id)) seen.latest
-    (cond (same_option same_key (id_of (old before)) (Some k.id)) seen.old 1)
+lowest_in seen before k = lowest_under (latest before) (old before) seen k
 
 -- the frame of an announcement, with its check value
 abbrev pub frame_of : Setup → Announcement → List ℕ

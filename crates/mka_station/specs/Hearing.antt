@@ -1,6 +1,7 @@
 -- What a station does when it hears a frame of key agreement (IEEE Std 802.1X, clause 9; the order
 -- of the reasons to drop one is this profile's own).
-use Rattle.std.specs.Prelude.{ℕ, nat_eq, Bool, true, false, not, ◌&&◌, cond, List, [], ◌∷◌, ◌++◌}
+use Rattle.std.specs.Prelude.{ℕ, nat_eq, Bool, true, false, not, ◌&&◌, if◌then◌else◌, List, []}
+use Rattle.std.specs.Prelude.{◌∷◌, ◌++◌}
 use Rattle.std.specs.Prelude.{take, Option, Some, None, option_map, option_and_then, Result, Ok}
 use Rattle.std.specs.Prelude.{Err}
 use Rattle.std.specs.List.{list_any}
@@ -16,9 +17,10 @@ use Rattle.peer_lists.specs.Histories.{Peering, recent}
 use Rattle.peer_lists.specs.Acceptance.{outcome}
 use Rattle.peer_lists.specs.declared.heard.Outcome.{Outcome}
 use Rattle.peer_lists.specs.declared.heard.Outcome.TheVariants as outcomes
-use Rattle.peer_lists.specs.declared.heard.DropReason.{DropReason}
-use Rattle.peer_lists.specs.declared.heard.DropReason.TheVariants as reasons
-use Rattle.sak_exchange.specs.Histories.{Key, Keying}
+use Rattle.peer_lists.specs.declared.heard.PeerRefusal.{PeerRefusal}
+use Rattle.peer_lists.specs.declared.heard.PeerRefusal.TheVariants as peer_refusals
+use Rattle.sak_exchange.specs.declared.held_key.Key.{Key}
+use Rattle.sak_exchange.specs.Histories.{Keying}
 use Rattle.sak_exchange.specs.declared.change.Change.{Change}
 use Rattle.sak_exchange.specs.declared.change.Why.{Why}
 use Rattle.sak_exchange.specs.declared.offer.Offer.{Offer}
@@ -26,6 +28,8 @@ use Rattle.sak_exchange.specs.Beginning.{Beginning, follows}
 use Rattle.sak_exchange.specs.Taking.{taken}
 use Rattle.sak_exchange.specs.Outcomes.{judging, beginning}
 use Rattle.sak_exchange.specs.Unwrapping.{given_sak}
+use Rattle.mka_station.specs.declared.verdict.DropReason.{DropReason}
+use Rattle.mka_station.specs.declared.verdict.DropReason.TheVariants as reasons
 use Rattle.mka_station.specs.declared.verdict.Verdict.{Verdict}
 use Rattle.mka_station.specs.declared.verdict.Verdict.TheVariants as verdicts
 use Rattle.mka_station.specs.Lives.{Setup, Member, Entry, heard, own, told, peers_of}
@@ -35,54 +39,56 @@ use Rattle.mka_station.specs.Tick.{Turn, new_server, with_beginning, with_instal
 -- ---- whether the frame counts
 
 -- a frame is of the group: it has the group's CKN and a right check value
-abbrev pub of_group : Setup → List ℕ → Spelled → Result Announcement Verdict
+abbrev pub of_group : Setup → List ℕ → Spelled → Result Announcement DropReason
 of_group setup frame s =
-    cond (not (pointwise nat_eq s.announcement.ckn setup.ckn)) (Err verdicts.CkName)
-    (cond (not (pointwise nat_eq s.check (cmac setup.ick (take s.covered frame))))
-    (Err verdicts.Check) (Ok s.announcement))
+    if not (pointwise nat_eq s.announcement.ckn setup.ckn) then Err reasons.CkName
+    else if not (pointwise nat_eq s.check (cmac setup.ick (take s.covered frame)))
+    then Err reasons.Check
+    else Ok s.announcement
 
-abbrev pub verdict_of_refusal : Refusal → Verdict
-verdict_of_refusal refusals.NotMka = verdicts.NotMka
-verdict_of_refusal refusals.Short = verdicts.Short
-verdict_of_refusal (refusals.Shape at) = verdicts.Shape at
-verdict_of_refusal (refusals.Repeated kind) = verdicts.Repeated kind
-verdict_of_refusal refusals.Agility = verdicts.Agility
-verdict_of_refusal refusals.Memory = verdicts.NotMka
+-- why a frame is dropped that spells no announcement
+abbrev pub reason_of_refusal : Refusal → DropReason
+reason_of_refusal refusals.NotMka = reasons.NotMka
+reason_of_refusal refusals.Short = reasons.Short
+reason_of_refusal (refusals.Shape at) = reasons.Shape at
+reason_of_refusal (refusals.Repeated kind) = reasons.Repeated kind
+reason_of_refusal refusals.Agility = reasons.Agility
 
-abbrev pub read_as : Setup → List ℕ → Result Spelled Refusal → Result Announcement Verdict
+abbrev pub read_as : Setup → List ℕ → Result Spelled Refusal → Result Announcement DropReason
 read_as setup frame (Ok s) = of_group setup frame s
-read_as setup frame (Err refusal) = Err (verdict_of_refusal refusal)
+read_as setup frame (Err refusal) = Err (reason_of_refusal refusal)
 
 -- the announcement of a frame of the group, or why the frame is dropped before anything is known of
 -- its member
-unfoldable pub judged : Setup → List ℕ → Result Announcement Verdict
+unfoldable pub judged : Setup → List ℕ → Result Announcement DropReason
 judged setup frame = read_as setup frame (reading frame)
 
 -- the announcement of a frame that is right
 abbrev pub right : Setup → List ℕ → Option Announcement
-right setup frame = elim (judged setup frame) [ Ok a ↦ Some a | Err v ↦ None ]
+right setup frame = elim (judged setup frame) [ Ok a ↦ Some a | Err reason ↦ None ]
 
 -- ---- what an announcement comes to
 
-abbrev pub verdict_of_reason : DropReason → Verdict
-verdict_of_reason reasons.Echo = verdicts.Echo
-verdict_of_reason (reasons.OldNumber kept) = verdicts.OldNumber kept
-verdict_of_reason reasons.PeersFull = verdicts.PeersFull
+-- why an announcement is dropped that the peer lists refuse
+abbrev pub reason_of_peers : PeerRefusal → DropReason
+reason_of_peers peer_refusals.Echo = reasons.Echo
+reason_of_peers (peer_refusals.OldNumber kept) = reasons.OldNumber kept
+reason_of_peers peer_refusals.PeersFull = reasons.PeersFull
 
 abbrev pub verdict_of : Outcome → Verdict
 verdict_of outcomes.Vouched = verdicts.Vouched
 verdict_of outcomes.Unvouched = verdicts.Unvouched
-verdict_of (outcomes.Dropped reason) = verdict_of_reason reason
+verdict_of (outcomes.Dropped refusal) = verdicts.Dropped (reason_of_peers refusal)
 
 abbrev pub is_accepted : Outcome → Bool
 is_accepted outcomes.Vouched = true
 is_accepted outcomes.Unvouched = true
-is_accepted (outcomes.Dropped reason) = false
+is_accepted (outcomes.Dropped refusal) = false
 
 abbrev pub is_vouched : Outcome → Bool
 is_vouched outcomes.Vouched = true
 is_vouched outcomes.Unvouched = false
-is_vouched (outcomes.Dropped reason) = false
+is_vouched (outcomes.Dropped refusal) = false
 
 -- what the peer lists make of it
 abbrev pub outcome_of : Member → List Entry → Announcement → Outcome
@@ -96,12 +102,12 @@ is_listed m h a = list_any (λ peer. same_mi peer.mi m.mi && recent h peer.mn) a
 -- the key that it offers, where it was accepted and gives one
 abbrev pub offered : Member → View → Outcome → Announcement → Option Offer
 offered m v o a =
-    cond (is_accepted o) (option_map (λ g. record {
+    if is_accepted o then option_map (λ g. record {
       given = g;
       server = a.mi;
       listed = is_listed m v.peers a;
       elected = is_server v.server a.mi;
-    }) a.given) None
+    }) a.given else None
 
 -- the key that is taken, or why it is not, if one is offered
 abbrev pub taken_of : Member → View → Option Offer → Option (Result Key Why)
@@ -122,42 +128,60 @@ take_changes h None answer = []
 -- says that it transmits under it
 abbrev pub followed : View → Outcome → Announcement → Option Beginning
 followed v o a =
-    cond (is_vouched o && is_server v.server a.mi) (option_and_then (follows v.keys) a.uses) None
+    if is_vouched o && is_server v.server a.mi then option_and_then (follows v.keys) a.uses
+    else None
+
+-- the key that a hearing is offered, and what comes of it
+abbrev pub offer_at : Member → Announcement → List Entry → Option Offer
+offer_at m a p = offered m (view m (heard a ∷ p)) (outcome_of m p a) a
+
+abbrev pub answer_at : Member → Announcement → List Entry → Option (Result Key Why)
+answer_at m a p = taken_of m (view m (heard a ∷ p)) (offer_at m a p)
+
+-- the history of a hearing after a key was taken
+abbrev pub taken_past : Member → Announcement → List Entry → List Entry
+taken_past m a p = with_install None (key_taken (answer_at m a p)) (heard a ∷ p)
+
+-- the key that begins then
+abbrev pub follow_at : Member → Announcement → List Entry → Option Beginning
+follow_at m a p = followed (view m (taken_past m a p)) (outcome_of m p a) a
+
+-- and the history after it began
+abbrev pub heard_past : Member → Announcement → List Entry → List Entry
+heard_past m a p = with_beginning (follow_at m a p) (taken_past m a p)
 
 -- Hearing an announcement: the peer lists, and the server is elected; a key is taken; the latest
 -- key begins.
 unfoldable pub hear_turn : Member → Announcement → List Entry → Turn
 hear_turn m a p =
-    let before = view m p in
-    let o = outcome_of m p a in
-    let p1 = heard a ∷ p in
-    let v1 = view m p1 in
-    let offer = offered m v1 o a in
-    let answer = taken_of m v1 offer in
-    let p2 = with_install None (key_taken answer) p1 in
-    let v2 = view m p2 in
-    let follow = followed v2 o a in
+    let now = view m (heard a ∷ p) in
     record {
       reaction = record {
-        heard = Some (verdict_of o);
-        server = new_server before v1;
-        changes = take_changes v1.keys offer answer ++ (beginning v2.keys follow).changes;
+        heard = Some (verdict_of (outcome_of m p a));
+        server = new_server (view m p) now;
+        changes = take_changes now.keys (offer_at m a p) (answer_at m a p)
+            ++ (beginning (view m (taken_past m a p)).keys (follow_at m a p)).changes;
         sent = None;
       };
-      past = with_beginning follow p2;
+      past = heard_past m a p;
     }
 
 -- a frame that is dropped before anything is known of its member
-abbrev pub drop_turn : Verdict → List Entry → Turn
-drop_turn v p =
+abbrev pub drop_turn : DropReason → List Entry → Turn
+drop_turn reason p =
     record {
-      reaction = record { heard = Some v; server = None; changes = []; sent = None };
+      reaction = record {
+        heard = Some (verdicts.Dropped reason);
+        server = None;
+        changes = [];
+        sent = None;
+      };
       past = p;
     }
 
-abbrev pub heard_turn : Member → Result Announcement Verdict → List Entry → Turn
+abbrev pub heard_turn : Member → Result Announcement DropReason → List Entry → Turn
 heard_turn m (Ok a) p = hear_turn m a p
-heard_turn m (Err v) p = drop_turn v p
+heard_turn m (Err reason) p = drop_turn reason p
 
 -- hearing a frame
 abbrev pub frame_turn : Member → List ℕ → List Entry → Turn

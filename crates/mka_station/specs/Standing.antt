@@ -9,7 +9,7 @@ use Rattle.peer_lists.specs.Peers.{row_at}
 use Rattle.peer_lists.specs.Table.{Table, StandsFor as PeersStandFor}
 use Rattle.sak_exchange.specs.declared.change.Change.{Change}
 use Rattle.sak_exchange.specs.declared.report.Report.{Report}
-use Rattle.sak_exchange.specs.Histories.{Key, install_count, installs}
+use Rattle.sak_exchange.specs.Histories.{install_count}
 use Rattle.sak_exchange.specs.Outcomes.{beginning}
 use Rattle.sak_exchange.specs.Standing.{State as Keys, StandsFor as KeysStandFor, ticks_since}
 use Rattle.mka_station.specs.declared.shown.Spoken.{Spoken}
@@ -60,11 +60,6 @@ pub record Comes (m : Member) (p : List Entry) (c : Coming) : Type 0 where
       ++ (beginning (keys_of m (ticked ∷ p)) (led m (view m (ticked ∷ p)))).changes
   pub leads : c.leads ≡ is_some (led m (view m (ticked ∷ p)))
 
--- each key's association number has two bits
-abbrev pub HaveTwoBits : List Key → Type 0
-HaveTwoBits [] = Unit {0}
-HaveTwoBits (k ∷ ks) = (k.an < 4) × HaveTwoBits ks
-
 -- A station stands for a history of a life: its peer lists and its keys stand for what the history
 -- is to them, the server is the elected one, and what was shown and what is prepared are the
 -- history's.
@@ -77,7 +72,6 @@ pub record StandsFor (m : Member) (s : State) (p : List Entry) : Type 0 where
   pub server : s.server ≡ elected m p
   pub spoken : s.spoken ≡ option_map (spoken_at m p) (last_spoken p)
   pub coming : Comes m p s.coming
-  pub numbered : HaveTwoBits (installs (keys_of m p))
 
 -- One more install and one more announcement can be counted.
 pub record HasRoom (s : State) : Type 0 where

@@ -2,4 +2,4 @@ pub mod Rows
 pub mod Due
 pub mod Saying
 pub mod Turns
-pub mod Stages
+pub mod Reached

@@ -38,6 +38,7 @@ pub struct Coming {
 
 impl Model for Coming {
     ghost use Rattle.std.specs.Prelude.{◌≤◌, length};
+    ghost use Rattle.peer_lists.specs.Acceptance.{most_peers};
     ghost use Rattle.mka_station.specs.Standing.{Coming as Prepared};
 
     ghost Value = { Prepared };
@@ -51,7 +52,7 @@ impl Model for Coming {
       leads = c.leads;
     } };
 
-    ghost invariant = { λ c. length c.rows.items ≤ 64 };
+    ghost invariant = { λ c. length c.rows.items ≤ most_peers };
 }
 
 impl Coming {

@@ -1,6 +1,6 @@
 //! What a station is set up with.
 
-use lan_base::Sci;
+use lan_base::{Sci, Suite};
 use mka_kdf::Group;
 use std::marker::Model;
 
@@ -16,8 +16,8 @@ pub struct Config {
     pub conf: bool,
     /// The keys that the group's connectivity association key gives.
     pub group: Group,
-    /// How many bits the keys that the station makes have: 128 or 256.
-    pub suite: u16,
+    /// The cipher suite of the keys that the station makes.
+    pub suite: Suite,
 }
 
 impl Model for Config {

@@ -6,7 +6,6 @@
 mod changes;
 mod coming;
 mod config;
-mod fault;
 mod laws;
 mod next;
 mod reaction;
@@ -15,10 +14,10 @@ mod saying;
 mod shown;
 mod station;
 mod telling;
+mod tick_error;
 mod verdict;
 
 pub use config::Config;
-pub use fault::StationFault;
 pub use laws::{
     law_dropped_changes_no_answer, law_dropped_changes_no_view, law_elected_stays,
     law_listed_was_heard, law_marks_what_transmits, law_room, law_turns_count,
@@ -26,7 +25,8 @@ pub use laws::{
 };
 pub use reaction::Reaction;
 pub use station::{Station, mi_of};
-pub use verdict::Verdict;
+pub use tick_error::TickError;
+pub use verdict::{DropReason, Verdict};
 
 #[cfg(test)]
 mod test_frames;

@@ -26,7 +26,7 @@ pub struct Ticked {
 
 /// What a hearing comes to.
 #[derive(Drop)]
-pub struct Heard {
+pub struct Hearing {
     pub next: Next,
     pub installs: bool,
     pub reaction: Reaction,

@@ -3,7 +3,7 @@
 ghost use Rattle.std.specs.Prelude.{◌≡◌, ◌≤◌, ◌∷◌, ℕ, List, length, map, slice_get, IfOk};
 ghost use Rattle.std.specs.List.{list_any};
 ghost use Rattle.mka_station.specs.Views.{is_server};
-ghost use Rattle.peer_lists.specs.Acceptance.{Own};
+ghost use Rattle.peer_lists.specs.Acceptance.{Own, most_peers};
 ghost use Rattle.peer_lists.specs.Histories.{Peering, ticked};
 ghost use Rattle.peer_lists.specs.Peers.{row_at};
 ghost use Rattle.peer_lists.specs.Table.{StandsFor};
@@ -35,7 +35,7 @@ pub fn rows_now(alloc: Global, peers: &PeerTable) -> Result<Vec<Row>, AllocError
 pub fn rows_after_tick(alloc: Global, peers: &PeerTable) -> Result<Vec<Row>, AllocError>
     ensures rows { IfOk result (λ rows. (own : Own) (h : List Peering) → StandsFor own peers.now h →
         (at : ℕ) → slice_get rows.items at ≡ row_at own (ticked ∷ h) at) }
-    ensures few { IfOk result (λ rows. length rows.items ≤ 64) }
+    ensures few { IfOk result (λ rows. length rows.items ≤ most_peers) }
 {
     let mut rows = Vec::with_capacity(alloc, PEERS)?;
     peers.rows_after_tick(&mut rows);

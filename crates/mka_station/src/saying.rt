@@ -1,33 +1,32 @@
 //! What a station says of its keys, and the frame of an announcement.
 
-ghost use Rattle.std.specs.Prelude.{◌≡◌, ◌<◌, ◌++◌, ◌&&◌, ℕ, List, false, not, option_map, IfOk, IfSome};
+ghost use Rattle.std.specs.Prelude.{◌≡◌, ◌++◌, ◌&&◌, ℕ, List, false, not, IfOk, IfSome};
 ghost use Rattle.std.specs.List.{list_all, list_any};
 ghost use Rattle.lan_base.specs.declared.address.Mi.{Mi};
 ghost use Rattle.aes_cmac.specs.Cmac.{cmac};
 ghost use Rattle.mkpdu_codec.specs.Written.{written, IsWritable, IsWritableGiven};
-ghost use Rattle.sak_exchange.specs.Histories.{Keying, installs};
-ghost use Rattle.sak_exchange.specs.Held.{latest, old, transmitting, held};
+ghost use Rattle.sak_exchange.specs.Histories.{Keying};
+ghost use Rattle.sak_exchange.specs.Held.{latest, old};
 ghost use Rattle.sak_exchange.specs.Making.{is_in_roster};
 ghost use Rattle.sak_exchange.specs.Reports.{names, reports as is_reported};
 ghost use Rattle.sak_exchange.specs.Standing.{StandsFor};
-ghost use Rattle.mka_station.specs.Announcing.{id_of};
-ghost use Rattle.mka_station.specs.Standing.{HaveTwoBits};
-ghost use Rattle.mka_station.specs.inside.Saying.{given_after, lowest_by, use_by, uses_by, given_by, is_given_to};
+ghost use Rattle.mka_station.specs.Announcing.{use_of, uses_with, uses_of, offset, given_as};
+ghost use Rattle.mka_station.specs.inside.Saying.{given_after, lowest_by, is_given_to};
 
-use crate::shown::{id_of, is_same_key};
-use aes_block::{Key, Secret};
+use crate::shown::{id_of, is_same_key, key_of};
+use aes_block::Secret;
 use aes_cmac::cmac;
 use key_wrap::{wrap, wrap256};
-use lan_base::{KeyId, Mi, Octets};
-use mkpdu_codec::{Announcement, Given, KeyUse, Uses, write};
-use sak_exchange::{HeldKey, KeyState, Report, Seen};
+use lan_base::{AssociationNumber, KeyId, Mi, Octets};
+use mkpdu_codec::{Announcement, ConfidentialityOffset, Given, KeyUse, Uses, write};
+use sak_exchange::{Key, KeyState, Report, Seen};
 use std::alloc::{AllocError, Global};
 
 /// The lowest acceptable packet numbers that a tick is shown, and the keys that they are of.
 #[derive(Clone, Copy, Debug)]
 pub struct Lowest {
-    pub latest: Option<KeyId>,
-    pub old: Option<KeyId>,
+    pub latest: Option<Key>,
+    pub old: Option<Key>,
     pub seen: Seen,
 }
 
@@ -35,22 +34,22 @@ impl Lowest {
     /// What a tick is shown while these keys are held.
     pub fn of(keys: &KeyState, seen: &Seen) -> Lowest
         ensures { (base : ℕ) (own : Mi) (h : List Keying) → StandsFor base own false keys.now h →
-            result ≡ record { latest = id_of (latest h); old = id_of (old h); seen = seen.now } }
+            result ≡ record { latest = latest h; old = old h; seen = seen.now } }
     {
         Lowest {
-            latest: id_of(keys.latest()),
-            old: id_of(keys.old()),
+            latest: key_of(keys.latest()),
+            old: key_of(keys.old()),
             seen: *seen,
         }
     }
 
     /// The number under a key: 1 for one that is new.
-    fn under(&self, id: KeyId) -> u32
-        ensures { result ≡ lowest_by self.now id }
+    fn under(&self, key: &Key) -> u32
+        ensures { result ≡ lowest_by self.now key.now }
     {
-        if is_same_key(self.latest, Some(id)) {
+        if is_same_key(id_of(self.latest), Some(key.id)) {
             self.seen.latest
-        } else if is_same_key(self.old, Some(id)) {
+        } else if is_same_key(id_of(self.old), Some(key.id)) {
             self.seen.old
         } else {
             1
@@ -60,28 +59,25 @@ impl Lowest {
 
 /// What is said of the keys that are held, if one is.
 pub fn uses(keys: &KeyState, lowest: &Lowest) -> Option<Uses>
-    ensures value { (base : ℕ) (own : Mi) (h : List Keying) → StandsFor base own false keys.now h →
-        result ≡ uses_by (id_of (transmitting h)) lowest.now (option_map (held h) (latest h))
-        (option_map (held h) (old h)) }
-    ensures bits { IfSome result (λ u. (u.latest.an < 4) × (u.old.an < 4)) }
+    ensures { (base : ℕ) (own : Mi) (h : List Keying) → StandsFor base own false keys.now h →
+        result ≡ uses_of (lowest_by lowest.now) h }
 {
-    uses_of(
-        id_of(keys.transmitting()),
+    uses_with(
+        key_of(keys.transmitting()),
         lowest,
-        keys.latest(),
-        keys.old(),
+        key_of(keys.latest()),
+        key_of(keys.old()),
     )
 }
 
 /// The same of these keys, of which one transmits.
-fn uses_of(
-    transmitting: Option<KeyId>,
+fn uses_with(
+    transmitting: Option<Key>,
     lowest: &Lowest,
-    latest: Option<HeldKey>,
-    old: Option<HeldKey>,
+    latest: Option<Key>,
+    old: Option<Key>,
 ) -> Option<Uses>
-    ensures value { result ≡ uses_by transmitting lowest.now latest old }
-    ensures bits { IfSome result (λ u. (u.latest.an < 4) × (u.old.an < 4)) }
+    ensures { result ≡ uses_with transmitting (lowest_by lowest.now) latest old }
 {
     if latest.is_none() && old.is_none() {
         return None;
@@ -92,24 +88,23 @@ fn uses_of(
     })
 }
 
-/// What is said of a key, or that there is none. An association number has two bits.
-fn use_of(transmitting: Option<KeyId>, lowest: &Lowest, key: Option<HeldKey>) -> KeyUse
-    ensures value { result ≡ use_by transmitting lowest.now key }
-    ensures bits { result.an < 4 }
+/// What is said of a key, or that there is none.
+fn use_of(transmitting: Option<Key>, lowest: &Lowest, key: Option<Key>) -> KeyUse
+    ensures { result ≡ use_of transmitting (lowest_by lowest.now) key }
 {
     match key {
         Some(key) => KeyUse {
             server: key.id.server,
             number: key.id.number,
-            an: key.an % 4,
-            tx: is_same_key(transmitting, Some(key.id)),
+            an: key.an,
+            tx: is_same_key(id_of(transmitting), Some(key.id)),
             rx: true,
-            lowest: lowest.under(key.id),
+            lowest: lowest.under(&key),
         },
         None => KeyUse {
             server: Mi([0; 12]),
             number: 0,
-            an: 0,
+            an: AssociationNumber::An0,
             tx: false,
             rx: false,
             lowest: 0,
@@ -118,15 +113,15 @@ fn use_of(transmitting: Option<KeyId>, lowest: &Lowest, key: Option<HeldKey>) ->
 }
 
 /// The latest key of a station, if it serves and gives the key to these live members.
-pub fn given(kek: &Key, serves: bool, live: &[Report], keys: &KeyState) -> Option<Given>
+pub fn given(kek: &aes_block::Key, serves: bool, live: &[Report], keys: &KeyState) -> Option<Given>
     ensures value { (base : ℕ) (own : Mi) (h : List Keying) → StandsFor base own false keys.now h →
-        HaveTwoBits (installs h) → result ≡ given_after kek.now serves live.now h }
+        result ≡ given_after kek.now serves live.now h }
     ensures writable { IfSome result IsWritableGiven }
 {
     if !serves {
         return None;
     }
-    let Some(key) = keys.latest() else {
+    let Some(key) = key_of(keys.latest()) else {
         return None;
     };
     if !is_given(keys, live, &key.id) {
@@ -136,12 +131,12 @@ pub fn given(kek: &Key, serves: bool, live: &[Report], keys: &KeyState) -> Optio
 }
 
 /// A key as it is given, wrapped under the key encrypting key.
-fn given_as(kek: &Key, key: &HeldKey) -> Given
-    ensures value { result ≡ given_by kek.now key.now key.now.sak }
+fn given_as(kek: &aes_block::Key, key: &Key) -> Given
+    ensures value { result ≡ given_as kek.now key.now key.now.sak }
     ensures writable { IsWritableGiven result }
 {
-    let an = key.an % 4;
-    let offset = u8::from(key.conf);
+    let an = key.an;
+    let offset = offset(key);
     let number = key.id.number;
     match &key.sak {
         Secret::S128(sak) => Given::Aes128 {
@@ -156,6 +151,17 @@ fn given_as(kek: &Key, key: &HeldKey) -> Given
             number,
             wrapped: wrap256(kek, sak),
         },
+    }
+}
+
+/// The confidentiality offset of a key.
+fn offset(key: &Key) -> ConfidentialityOffset
+    ensures { result ≡ offset key.now }
+{
+    if key.conf {
+        ConfidentialityOffset::Octets0
+    } else {
+        ConfidentialityOffset::None
     }
 }
 
@@ -205,7 +211,11 @@ fn is_received(used: &KeyUse, id: &KeyId) -> bool
 }
 
 /// The frame of an announcement, with its check value.
-pub fn frame(alloc: Global, announcement: &Announcement, ick: &Key) -> Result<Octets, AllocError>
+pub fn frame(
+    alloc: Global,
+    announcement: &Announcement,
+    ick: &aes_block::Key,
+) -> Result<Octets, AllocError>
     requires { IsWritable announcement.now }
     ensures { IfOk result (λ o. o
         ≡ written announcement.now ++ cmac ick.now (written announcement.now)) }

@@ -12,7 +12,7 @@ ghost use Rattle.mka_station.specs.inside.Due.{shown_by, same_members, same_keys
 use crate::rows::{live_members, potential_members};
 use lan_base::{HELLO_TIME, KeyId, Mi};
 use peer_lists::Row;
-use sak_exchange::{HeldKey, KeyState};
+use sak_exchange::{HeldKey, Key, KeyState};
 use std::alloc::{AllocError, Global};
 use std::marker::Model;
 
@@ -58,9 +58,9 @@ impl Shown {
             live: live_members(alloc, rows)?,
             potential: potential_members(alloc, rows)?,
             server,
-            latest: id_of(keys.latest()),
-            old: id_of(keys.old()),
-            transmitting: id_of(keys.transmitting()),
+            latest: id_of(key_of(keys.latest())),
+            old: id_of(key_of(keys.old())),
+            transmitting: id_of(key_of(keys.transmitting())),
         })
     }
 
@@ -107,9 +107,16 @@ impl Spoken {
     }
 }
 
+/// The key that is held.
+pub fn key_of(held: Option<HeldKey>) -> Option<Key>
+    ensures { result ≡ option_map (λ h. h.key) held }
+{
+    held.map(|held| held.key)
+}
+
 /// The identifier of a key.
-pub fn id_of(key: Option<HeldKey>) -> Option<KeyId>
-    ensures { result ≡ option_map (λ k. k.id) key }
+pub fn id_of(key: Option<Key>) -> Option<KeyId>
+    ensures { result ≡ id_of key }
 {
     key.map(|key| key.id)
 }

@@ -1,10 +1,6 @@
 //! What hearing a frame comes to.
 
-use mkpdu_codec::Refusal;
-use peer_lists::{DropReason, Outcome};
-
-/// What hearing a frame comes to: it is accepted, or dropped for the first of the reasons that
-/// hold.
+/// What hearing a frame comes to.
 #[derive(Clone, Copy, Debug, PartialEq, Eq)]
 pub enum Verdict {
     /// Accepted, and it lists the station under a message number that it sent less than the life
@@ -12,6 +8,13 @@ pub enum Verdict {
     Vouched,
     /// Accepted only.
     Unvouched,
+    /// Dropped: it changes no answer.
+    Dropped(DropReason),
+}
+
+/// Why a heard frame is dropped: the first of these that holds.
+#[derive(Clone, Copy, Debug, PartialEq, Eq)]
+pub enum DropReason {
     /// No frame of key agreement.
     NotMka,
     /// Its body is no body, or is longer than the frame.

@@ -10,6 +10,8 @@ use Rattle.std.proofs.lemmas.List.{append-nil}
 use Rattle.std.proofs.lemmas.List.Elements.{recursion_from_All}
 use Rattle.byteorder.specs.Endian.{big_bytes}
 use Rattle.byteorder.specs.Numbers.{big_number-reads_back}
+use Rattle.lan_base.specs.declared.association_number.AssociationNumber.{AssociationNumber}
+use Rattle.lan_base.proofs.Public.{number_of-few}
 use Rattle.lan_base.specs.declared.address.Mi.{Mi}
 use Rattle.lan_base.specs.declared.address.Sci.{Sci}
 use Rattle.mkpdu_codec.specs.declared.announcement.Announcement.{Announcement}
@@ -17,11 +19,13 @@ use Rattle.mkpdu_codec.specs.declared.given.Given.{Given}
 use Rattle.mkpdu_codec.specs.declared.given.Given.TheVariants.{Aes128, Aes256, Other}
 use Rattle.mkpdu_codec.specs.declared.key_use.KeyUse.{KeyUse}
 use Rattle.mkpdu_codec.specs.declared.key_use.Uses.{Uses}
+use Rattle.mkpdu_codec.specs.declared.offset.ConfidentialityOffset.{ConfidentialityOffset}
 use Rattle.mkpdu_codec.specs.declared.peer.Peer.{Peer}
-use Rattle.mkpdu_codec.specs.Sets.{bit, agility, peer, peers_body, use_body, use_flags, gcm_aes_256, IsPeer}
-use Rattle.mkpdu_codec.specs.Frames.{Set, the, SpellsPeers, SpellsUses, IsGiving, IsWide, SpellsGiven, SpellsBasic, IsKeyUse}
-use Rattle.mkpdu_codec.specs.Fields.{number_at, mi_at, sci_at, entry_at, entries_at, peers_in, key_at, uses_in, wide_in, key_in, given_in, Basics, basic_in}
+use Rattle.mkpdu_codec.specs.Sets.{bit, agility, peer, peers_body, use_body, use_flags, gcm_aes_256, IsPeer, IsKey}
+use Rattle.mkpdu_codec.specs.Frames.{Set, the, SpellsPeers, SpellsUses, IsGiving, IsWide, SpellsGiven, SpellsBasic}
+use Rattle.mkpdu_codec.specs.Fields.{an_in, offset_in, number_at, mi_at, sci_at, entry_at, entries_at, peers_in, key_at, uses_in, wide_in, key_in, given_in, Basics, basic_in}
 use Rattle.mkpdu_codec.proofs.SetOctets.{length-basic_body}
+use Rattle.mkpdu_codec.proofs.TwoBits.{an_in-number_of, offset_in-offset_bits, offset_bits-few}
 use Rattle.mkpdu_codec.proofs.Taking.{octets_at-append, octets_at-short}
 
 pub number_again : (n : ℕ) (rest : List ℕ) → n < 2 ^ 32 → number_at (big_bytes 4 n ++ rest) ≡ Some (n, rest)
@@ -99,21 +103,22 @@ bit_again : (b : Bool) → eqb (bit b) 1 ≡ b
 bit_again true = refl
 bit_again false = refl
 
-key_again : (u : KeyUse) (rest : List ℕ) → IsKeyUse u → key_at (use_flags u) (use_body u ++ rest) ≡ Some (u, rest)
+key_again : (u : KeyUse) (rest : List ℕ) → IsKey u → key_at (use_flags u) (use_body u ++ rest) ≡ Some (u, rest)
 unfolding key_at
 key_again u rest is =
     let regrouped : use_body u ++ rest ≡ u.server.0 ++ (big_bytes 4 u.number ++ (big_bytes 4 u.lowest ++ rest)) =
     append_assoc u.server.0 (big_bytes 4 u.number ++ big_bytes 4 u.lowest) rest ∙ ap (λ (x : List ℕ). u.server.0 ++ x) (append_assoc (big_bytes 4 u.number) (big_bytes 4 u.lowest) rest) in
     let t = bit_small u.tx in
     let r = bit_small u.rx in
-    let an : use_flags u / 4 ≡ u.an = omega (arith, is.1, t, r) in
-    let tx : use_flags u / 2 % 2 ≡ bit u.tx = omega (arith, is.1, t, r) in
-    let rx : use_flags u % 2 ≡ bit u.rx = omega (arith, is.1, t, r) in
+    let four = number_of-few u.an in
+    let an : an_in (use_flags u / 4) ≡ u.an = an_in-number_of (use_flags u / 4) u.an (omega (arith, four, t, r)) in
+    let tx : use_flags u / 2 % 2 ≡ bit u.tx = omega (arith, t, r) in
+    let rx : use_flags u % 2 ≡ bit u.rx = omega (arith, t, r) in
     ap (key_at (use_flags u)) regrouped
     ∙ rw (
-      mi_again u.server (big_bytes 4 u.number ++ (big_bytes 4 u.lowest ++ rest)) is.0.server,
-      number_again u.number (big_bytes 4 u.lowest ++ rest) is.0.number,
-      number_again u.lowest rest is.0.lowest,
+      mi_again u.server (big_bytes 4 u.number ++ (big_bytes 4 u.lowest ++ rest)) is.server,
+      number_again u.number (big_bytes 4 u.lowest ++ rest) is.number,
+      number_again u.lowest rest is.lowest,
       an,
       tx,
       rx,
@@ -137,7 +142,7 @@ uses_of_set s (Some u) spells = go where
   r = bit_small u.old.rx
 
   small : use_flags u.old < 16
-  small = omega (arith, spells.3.1, t, r)
+  small = omega (arith, number_of-few u.old.an, t, r)
 
   latest : s.second / 16 ≡ use_flags u.latest
   latest = omega (arith, spells.0, small)
@@ -196,11 +201,13 @@ not_wide key other = go (wide_in key) refl where
   go None e = refl
   go (Some wrapped) e = absurd (other wrapped (wide_is key wrapped e))
 
-key_given : (s : Set) (an offset number : ℕ) (key : List ℕ) → IsGiving s an offset number key → given_in (Some s) ≡ Some (key_in an offset number key)
+key_given : (s : Set) (an : AssociationNumber) (offset : ConfidentialityOffset) (number : ℕ) (key : List ℕ) → IsGiving s an offset number key → given_in (Some s) ≡ Some (key_in an offset number key)
 unfolding given_in
 key_given s an offset number key is =
-    let a : s.second / 64 ≡ an = omega (arith, is.second, is.two_bits, is.two_more) in
-    let o : s.second / 16 % 4 ≡ offset = omega (arith, is.second, is.two_bits, is.two_more) in
+    let few = number_of-few an in
+    let two = offset_bits-few offset in
+    let a : an_in (s.second / 64) ≡ an = an_in-number_of (s.second / 64) an (omega (arith, is.second, few, two)) in
+    let o : offset_in (s.second / 16) ≡ offset = offset_in-offset_bits (s.second / 16) offset (omega (arith, is.second, few, two)) in
     rw (is.body, number_again number key is.four_octets, a, o) refl
 
 given_of_set : (s : Set) (g : Option Given) → SpellsGiven s g → given_in (Some s) ≡ g

@@ -8,13 +8,15 @@ use Rattle.std.proofs.lemmas.List.{take_at, drop_at}
 use Rattle.std.proofs.lemmas.List.Elements.{recursion_from_All}
 use Rattle.byteorder.specs.Endian.{big_bytes}
 use Rattle.lan_base.specs.declared.address.Mac.{Mac}
+use Rattle.lan_base.specs.declared.association_number.AssociationNumber.{AssociationNumber}
 use Rattle.mkpdu_codec.specs.declared.announcement.Announcement.{Announcement}
 use Rattle.mkpdu_codec.specs.declared.given.Given.{Given}
 use Rattle.mkpdu_codec.specs.declared.given.Given.TheVariants.{Aes128, Aes256, Other}
 use Rattle.mkpdu_codec.specs.declared.key_use.Uses.{Uses}
+use Rattle.mkpdu_codec.specs.declared.offset.ConfidentialityOffset.{ConfidentialityOffset}
 use Rattle.mkpdu_codec.specs.declared.peer.Peer.{Peer}
-use Rattle.mkpdu_codec.specs.Sets.{missing, uses_body, IsPeer}
-use Rattle.mkpdu_codec.specs.Frames.{Set, IsSet, AreSets, IsIndicator, Frame, IsFrame, IsBody, covered_octets, octets_of, the, SpellsPeers, SpellsUses, IsGiving, SpellsGiven, Spells, IsKeyUse}
+use Rattle.mkpdu_codec.specs.Sets.{missing, uses_body, IsPeer, IsKey}
+use Rattle.mkpdu_codec.specs.Frames.{Set, IsSet, AreSets, IsIndicator, Frame, IsFrame, IsBody, covered_octets, octets_of, the, SpellsPeers, SpellsUses, IsGiving, SpellsGiven, Spells}
 use Rattle.mkpdu_codec.specs.Refusals.{is_mka, is_long_enough, body_length}
 use Rattle.mkpdu_codec.specs.Fields.{set_at, basic_at, peers_in, uses_in, given_in}
 use Rattle.mkpdu_codec.specs.Reading.{Inner, Gathered, nothing, parts_at, announcement_of, reading}
@@ -119,8 +121,8 @@ shape_of_peers s ps spells =
     let len = length-peers_body ps (recursion_from_All IsPeer ps spells.are_peers) in
     eq-eqb (length s.body % 16) 0 (omega (arith, len, ap length spells.body))
 
-pub length-uses_body : (u : Uses) → IsKeyUse u.latest → IsKeyUse u.old → length (uses_body u) ≡ 40
-length-uses_body u x y = simp length-append (omega (arith, x.0.server, y.0.server))
+pub length-uses_body : (u : Uses) → IsKey u.latest → IsKey u.old → length (uses_body u) ≡ 40
+length-uses_body u x y = simp length-append (omega (arith, x.server, y.server))
 
 shape_of_uses : (s : Set) (u : Option Uses) → SpellsUses s u → (eqb (length s.body) 0 || eqb (length s.body) 40) ≡ true
 shape_of_uses s None spells = rw spells refl
@@ -129,7 +131,7 @@ shape_of_uses s (Some u) spells = let len : length s.body ≡ 40 = ap length spe
 long_enough : (n : ℕ) → 4 ≤ n → (eqb n 0 || leb 4 n) ≡ true
 long_enough n le = rw (le-leb 4 n le) (or-true (eqb n 0))
 
-giving_long : (s : Set) (an offset number : ℕ) (key : List ℕ) → IsGiving s an offset number key → (eqb (length s.body) 0 || leb 4 (length s.body)) ≡ true
+giving_long : (s : Set) (an : AssociationNumber) (offset : ConfidentialityOffset) (number : ℕ) (key : List ℕ) → IsGiving s an offset number key → (eqb (length s.body) 0 || leb 4 (length s.body)) ≡ true
 giving_long s an offset number key is = long_enough (length s.body) (omega (arith, ap length is.body))
 
 shape_of_given : (s : Set) (g : Option Given) → SpellsGiven s g → (eqb (length s.body) 0 || leb 4 (length s.body)) ≡ true

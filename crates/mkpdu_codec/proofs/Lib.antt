@@ -1,3 +1,4 @@
+pub mod TwoBits
 pub mod PeerRoom
 pub mod Taking
 pub mod Loops

@@ -1,5 +1,5 @@
 -- Reading refuses in the order of the refusals.
-use Rattle.std.specs.Prelude.{◌&&◌, ◌||◌, not, is_some}
+use Rattle.std.specs.Prelude.{◌&&◌, not, is_some}
 use Rattle.std.specs.List.{list_any}
 use Rattle.std.specs.Cmp.Lexicographic.{pointwise}
 use Rattle.byteorder.specs.Endian.{big_number}
@@ -7,7 +7,7 @@ use Rattle.std.proofs.Common.{◌≡◌, ℕ, zero, suc, ◌-◌, ◌/◌, ◌�
 use Rattle.std.proofs.lemmas.Bool.{leb-true, and_parts}
 use Rattle.std.proofs.lemmas.List.{drop-drop, drop-take, take-take}
 use Rattle.mkpdu_codec.specs.declared.refusal.Refusal.{Refusal}
-use Rattle.mkpdu_codec.specs.declared.refusal.Refusal.TheVariants.{NotMka, Short, Shape, Repeated, Agility, Memory}
+use Rattle.mkpdu_codec.specs.declared.refusal.Refusal.TheVariants.{Shape, Repeated, Agility}
 use Rattle.mkpdu_codec.specs.declared.spelled.Spelled.{Spelled}
 use Rattle.mkpdu_codec.specs.Sets.{agility}
 use Rattle.mkpdu_codec.specs.Frames.{Set}
@@ -232,28 +232,3 @@ refused_exactly frame e = (λ r. back (reading frame) (sym (refused-is frame) �
   back (Err f) d = let same : f ≡ e = cc in ap Err same
 
 -- ---- want of memory is no refusal of a frame
-
-sets_never : (n end : ℕ) (met octets : List ℕ) → refused_sets n end met octets ≡ Some Memory → ⊥
-unfolding refused_sets
-sets_never zero end met octets e = cc
-sets_never (suc n) end met octets e =
-    go ((eqb (length octets) 0) || is_indicator octets) (not (is_whole octets && is_length_of (front_kind octets) (front_length octets))) (is_single (front_kind octets) && list_any (λ j. eqb j (front_kind octets)) met)
-    (refused_sets n end (front_kind octets ∷ met) (drop (front_size octets) octets)) (sets_never n end (front_kind octets ∷ met) (drop (front_size octets) octets)) e where
-      go : (a b c : Bool) (o : Option Refusal) → (o ≡ Some Memory → ⊥) → cond a None (cond b (Some (Shape (end - length octets))) (cond c (Some (Repeated (front_kind octets))) o)) ≡ Some Memory → ⊥
-      go true b c o never e = cc
-      go false true c o never e = cc
-      go false false true o never e = cc
-      go false false false o never e = never e
-
-pub never_memory : (frame : List ℕ) → refused frame ≡ Some Memory → ⊥
-unfolding refused
-never_memory frame e =
-    go (not (is_mka frame)) (not (is_long_enough frame)) (not (is_basic (sets_of frame))) (is_known (drop 28 (sets_of frame)))
-    (refused_sets (length (others_of frame)) (check_place frame) [] (others_of frame)) (sets_never (length (others_of frame)) (check_place frame) [] (others_of frame)) e where
-      go : (a b c d : Bool) (o : Option Refusal) → (o ≡ Some Memory → ⊥) → cond a (Some NotMka) (cond b (Some Short) (cond c (Some (Shape 18)) (or_else o (cond d None (Some Agility))))) ≡ Some Memory → ⊥
-      go true b c d o never e = cc
-      go false true c d o never e = cc
-      go false false true d o never e = cc
-      go false false false d (Some r) never e = never e
-      go false false false true None never e = cc
-      go false false false false None never e = cc

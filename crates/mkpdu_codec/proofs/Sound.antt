@@ -8,16 +8,19 @@ use Rattle.std.proofs.lemmas.List.Elements.{All-from_recursion}
 use Rattle.std.proofs.lemmas.Nat.{be_bytes_4}
 use Rattle.byteorder.specs.Endian.{big_number, big_bytes}
 use Rattle.byteorder.specs.Numbers.{big_from-lt}
+use Rattle.lan_base.specs.declared.association_number.AssociationNumber.{AssociationNumber}
 use Rattle.lan_base.specs.declared.address.Mi.{Mi}
 use Rattle.mkpdu_codec.specs.declared.given.Given.{Given}
 use Rattle.mkpdu_codec.specs.declared.given.Given.TheVariants.{Aes128}
 use Rattle.mkpdu_codec.specs.declared.key_use.KeyUse.{KeyUse}
 use Rattle.mkpdu_codec.specs.declared.key_use.Uses.{Uses}
+use Rattle.mkpdu_codec.specs.declared.offset.ConfidentialityOffset.{ConfidentialityOffset}
 use Rattle.mkpdu_codec.specs.declared.peer.Peer.{Peer}
-use Rattle.mkpdu_codec.specs.Sets.{bit, peer, peers_body, use_body, use_flags, IsPeer}
-use Rattle.mkpdu_codec.specs.Frames.{Set, the, SpellsPeers, SpellsUses, IsGiving, SpellsGiven, IsKeyUse}
+use Rattle.mkpdu_codec.specs.Sets.{bit, peer, peers_body, use_body, use_flags, IsPeer, IsKey}
+use Rattle.mkpdu_codec.specs.Frames.{Set, the, SpellsPeers, SpellsUses, IsGiving, SpellsGiven}
 use Rattle.mkpdu_codec.specs.Refusals.{is_length_of}
-use Rattle.mkpdu_codec.specs.Fields.{number_at, mi_at, entry_at, entries_at, entries_from, peers_in, key_at, uses_in, wide_in, wide_or_other, key_in, given_in}
+use Rattle.mkpdu_codec.specs.Fields.{an_in, offset_in, number_at, mi_at, entry_at, entries_at, entries_from, peers_in, key_at, uses_in, wide_in, wide_or_other, key_in, given_in}
+use Rattle.mkpdu_codec.proofs.TwoBits.{number_of-an_in, offset_bits-offset_in}
 use Rattle.mkpdu_codec.proofs.Taking.{octets_at-long}
 use Rattle.mkpdu_codec.proofs.SetOctets.{IsBytes, IsBytes-drop}
 use Rattle.mkpdu_codec.proofs.Again.{first, the-first, peers_in-or_empty, uses_in-or_empty, given_in-or_empty, short_number, wide_again, wide_is}
@@ -99,7 +102,7 @@ peers_are k ss empty sixteens all =
 -- ---- SAK Use
 
 abbrev key_of : ℕ → List ℕ → KeyUse
-key_of bits octets = record { server = mi_of (take 12 octets); number = big_number 4 (take 4 (drop 12 octets)); an = bits / 4; tx = eqb (bits / 2 % 2) 1; rx = eqb (bits % 2) 1; lowest = big_number 4 (take 4 (drop 4 (drop 12 octets))) }
+key_of bits octets = record { server = mi_of (take 12 octets); number = big_number 4 (take 4 (drop 12 octets)); an = an_in (bits / 4); tx = eqb (bits / 2 % 2) 1; rx = eqb (bits % 2) 1; lowest = big_number 4 (take 4 (drop 4 (drop 12 octets))) }
 
 key_long : (bits : ℕ) (octets : List ℕ) → 20 ≤ length octets → key_at bits octets ≡ Some (key_of bits octets, drop 4 (drop 4 (drop 12 octets)))
 unfolding key_at
@@ -112,9 +115,9 @@ bit_of (suc zero) lt = refl
 bit_of (suc (suc n)) lt = absurd (omega (arith, lt))
 
 key_flags : (bits : ℕ) (octets : List ℕ) → bits < 16 → use_flags (key_of bits octets) ≡ bits
-key_flags bits octets lt = rw (bit_of (bits / 2 % 2) (omega arith), bit_of (bits % 2) (omega arith)) (omega (arith, lt))
+key_flags bits octets lt = rw (number_of-an_in (bits / 4), bit_of (bits / 2 % 2) (omega arith), bit_of (bits % 2) (omega arith)) (omega (arith, lt))
 
-key_is : (bits : ℕ) (octets : List ℕ) → bits < 16 → IsBytes octets → 20 ≤ length octets → (octets ≡ use_body (key_of bits octets) ++ drop 4 (drop 4 (drop 12 octets))) × IsKeyUse (key_of bits octets)
+key_is : (bits : ℕ) (octets : List ℕ) → bits < 16 → IsBytes octets → 20 ≤ length octets → (octets ≡ use_body (key_of bits octets) ++ drop 4 (drop 4 (drop 12 octets))) × IsKey (key_of bits octets)
 key_is bits octets lt bytes le =
     let b1 = IsBytes-drop 12 octets bytes in
     let b2 = IsBytes-drop 4 (drop 12 octets) b1 in
@@ -127,7 +130,7 @@ key_is bits octets lt bytes le =
     let pieces : octets ≡ server ++ (number ++ (lowest ++ rest)) =
     sym (take-append-drop 12 octets) ∙ ap (λ (x : List ℕ). server ++ x) (number_front (drop 12 octets) b1 l1 ∙ ap (λ (x : List ℕ). number ++ x) (number_front (drop 4 (drop 12 octets)) b2 l2)) in (
       pieces ∙ ap (λ (x : List ℕ). server ++ x) (sym (append_assoc number lowest rest)) ∙ sym (append_assoc server (number ++ lowest) rest),
-      (record { server = omega (arith, le, length-take 12 octets); number = number_below (drop 12 octets) b1; lowest = number_below (drop 4 (drop 12 octets)) b2 }, omega arith),
+      record { server = omega (arith, le, length-take 12 octets); number = number_below (drop 12 octets) b1; lowest = number_below (drop 4 (drop 12 octets)) b2 },
     )
 
 or_cases : (a b : Bool) → (a || b) ≡ true → (a ≡ true) ⊎ (b ≡ true)
@@ -167,7 +170,7 @@ uses_are ss all =
 
 -- ---- Distributed SAK
 
-key_is_given : (s : Set) (an offset number : ℕ) (key : List ℕ) → IsGiving s an offset number key → SpellsGiven s (Some (key_in an offset number key))
+key_is_given : (s : Set) (an : AssociationNumber) (offset : ConfidentialityOffset) (number : ℕ) (key : List ℕ) → IsGiving s an offset number key → SpellsGiven s (Some (key_in an offset number key))
 key_is_given s an offset number key giving = go (eqb (length key) 24) refl (wide_in key) refl where
   go : (t : Bool) → eqb (length key) 24 ≡ t → (w : Option (List ℕ)) → wide_in key ≡ w → SpellsGiven s (Some (cond t (Aes128 an offset number key) (wide_or_other an offset number w)))
   go true t w e = (giving, eqb-true (length key) 24 t)
@@ -177,12 +180,6 @@ key_is_given s an offset number key giving = go (eqb (length key) 24) refl (wide
 given_are_of : (s : Set) → IsBytes s.body → s.second < 256 → is_length_of 4 (length s.body) ≡ true → SpellsGiven s (given_in (Some s))
 unfolding given_in
 given_are_of s bytes byte shaped = go (or_cases (eqb (length s.body) 0) (leb 4 (length s.body)) shaped) where
-  an : s.second / 64 < 4
-  an = omega (arith, byte)
-
-  offset : s.second / 16 % 4 < 4
-  offset = omega arith
-
   go : (eqb (length s.body) 0 ≡ true) ⊎ (leb 4 (length s.body) ≡ true) → SpellsGiven s (given_in (Some s))
   go (inl e) =
       let none : s.body ≡ [] = nil_from_length s.body (eqb-true (length s.body) 0 e) in
@@ -190,8 +187,8 @@ given_are_of s bytes byte shaped = go (or_cases (eqb (length s.body) 0) (leb 4 (
   go (inr e) = some (leb-true 4 (length s.body) e) where
     some : 4 ≤ length s.body → SpellsGiven s (given_in (Some s))
     some le =
-        let giving : IsGiving s (s.second / 64) (s.second / 16 % 4) (big_number 4 (take 4 s.body)) (drop 4 s.body) = record { second = omega (arith, byte); two_bits = an; two_more = offset; four_octets = number_below s.body bytes; body = number_front s.body bytes le } in
-        rw (number_long s.body le) (key_is_given s (s.second / 64) (s.second / 16 % 4) (big_number 4 (take 4 s.body)) (drop 4 s.body) giving)
+        let giving : IsGiving s (an_in (s.second / 64)) (offset_in (s.second / 16)) (big_number 4 (take 4 s.body)) (drop 4 s.body) = record { second = rw (number_of-an_in (s.second / 64), offset_bits-offset_in (s.second / 16)) (omega (arith, byte)); four_octets = number_below s.body bytes; body = number_front s.body bytes le } in
+        rw (number_long s.body le) (key_is_given s (an_in (s.second / 64)) (offset_in (s.second / 16)) (big_number 4 (take 4 s.body)) (drop 4 s.body) giving)
 
 pub given_are : (ss : List Set) → AllByRecursion IsRead ss → SpellsGiven (the 4 ss) (given_in (first 4 ss))
 given_are ss all =

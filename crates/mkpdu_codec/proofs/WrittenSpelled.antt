@@ -6,14 +6,16 @@ use Rattle.std.proofs.lemmas.Bool.{ne_eqb}
 use Rattle.std.proofs.lemmas.List.{append-nil, length-replicate}
 use Rattle.std.proofs.lemmas.List.Elements.{All-from_recursion, recursion_from_All}
 use Rattle.byteorder.specs.Endian.{big_bytes}
+use Rattle.lan_base.specs.declared.association_number.AssociationNumber.{AssociationNumber}
 use Rattle.mkpdu_codec.specs.declared.announcement.Announcement.{Announcement}
 use Rattle.mkpdu_codec.specs.declared.given.Given.{Given}
 use Rattle.mkpdu_codec.specs.declared.given.Given.TheVariants.{Aes128, Aes256, Other}
 use Rattle.mkpdu_codec.specs.declared.key_use.Uses.{Uses}
+use Rattle.mkpdu_codec.specs.declared.offset.ConfidentialityOffset.{ConfidentialityOffset}
 use Rattle.mkpdu_codec.specs.declared.peer.Peer.{Peer}
 use Rattle.mkpdu_codec.specs.Sets.{bit, missing, set, basic_body, peers_body, uses_body, uses_flags, given_body, given_flags, gcm_aes_256, IsPeer, IsKey}
 use Rattle.mkpdu_codec.specs.Written.{group_address, frame_header, basic_set, peers_set, uses_set, given_set, sets, written, IsWritable, IsWritableGiven}
-use Rattle.mkpdu_codec.specs.Frames.{Set, IsSet, AreSets, the, SpellsPeers, SpellsUses, IsGiving, SpellsGiven, Spells, IsGiven, IsOfItsTypes, IsKeyUse}
+use Rattle.mkpdu_codec.specs.Frames.{Set, IsSet, AreSets, the, SpellsPeers, SpellsUses, IsGiving, SpellsGiven, Spells, IsGiven, IsOfItsTypes}
 use Rattle.mkpdu_codec.proofs.SetOctets.{length-set, length-basic_body}
 use Rattle.mkpdu_codec.proofs.Again.{length-peers_body}
 use Rattle.mkpdu_codec.proofs.FrameAgain.{length-uses_body}
@@ -55,7 +57,7 @@ are_peers kind (p ∷ ps) are few =
     let len = length-peers_body (p ∷ ps) are in
     one_set (peers_set kind (p ∷ ps)) (record { kind = kind; second = 0; flags = 0; body = peers_body (p ∷ ps) }) (is_set kind 0 0 (peers_body (p ∷ ps)) (omega arith) (omega (arith, len, few)))
 
-are_uses : (u : Option Uses) → IfSome u (λ v. IsKeyUse v.latest × IsKeyUse v.old) → AreSets (uses_set u) (uses_written u)
+are_uses : (u : Option Uses) → IfSome u (λ v. IsKey v.latest × IsKey v.old) → AreSets (uses_set u) (uses_written u)
 are_uses None is = refl
 are_uses (Some u) is =
     let len = length-uses_body u is.0 is.1 in
@@ -104,22 +106,22 @@ spells_potential live potential u g are =
 skips_lists : (k : ℕ) (live potential : List Peer) (rest : List Set) → eqb 1 k ≡ false → eqb 2 k ≡ false → the k (peers_written 1 live ++ (peers_written 2 potential ++ rest)) ≡ the k rest
 skips_lists k live potential rest e d = skips_peers k 1 live (peers_written 2 potential ++ rest) e ∙ skips_peers k 2 potential rest d
 
-spells_uses : (live potential : List Peer) (u : Option Uses) (g : Option Given) → IfSome u (λ v. IsKeyUse v.latest × IsKeyUse v.old) → SpellsUses (the 3 (all_written live potential u g)) u
+spells_uses : (live potential : List Peer) (u : Option Uses) (g : Option Given) → IfSome u (λ v. IsKey v.latest × IsKey v.old) → SpellsUses (the 3 (all_written live potential u g)) u
 spells_uses live potential u g is = subst (λ (s : Set). SpellsUses s u) (sym (skips_lists 3 live potential (uses_written u ++ given_written g) refl refl)) (go u is) where
-  go : (u : Option Uses) → IfSome u (λ v. IsKeyUse v.latest × IsKeyUse v.old) → SpellsUses (the 3 (uses_written u ++ given_written g)) u
+  go : (u : Option Uses) → IfSome u (λ v. IsKey v.latest × IsKey v.old) → SpellsUses (the 3 (uses_written u ++ given_written g)) u
   go (Some u) is = (refl, refl, is.0, is.1)
   go None is = subst (λ (s : Set). SpellsUses s None) (sym (skips_given 3 g refl)) refl
 
-giving : (an offset number : ℕ) (key : List ℕ) → an < 4 → offset < 4 → number < 2 ^ 32 → IsGiving (record { kind = 4; second = given_flags an offset * 16; flags = 0; body = given_body number key }) an offset number key
-giving an offset number key a o n = record { second = omega arith; two_bits = a; two_more = o; four_octets = n; body = refl }
+giving : (an : AssociationNumber) (offset : ConfidentialityOffset) (number : ℕ) (key : List ℕ) → number < 2 ^ 32 → IsGiving (record { kind = 4; second = given_flags an offset * 16; flags = 0; body = given_body number key }) an offset number key
+giving an offset number key n = record { second = omega arith; four_octets = n; body = refl }
 
 spells_given : (live potential : List Peer) (u : Option Uses) (g : Option Given) → IfSome g IsGiven → IfSome g IsWritableGiven → SpellsGiven (the 4 (all_written live potential u g)) g
 spells_given live potential u g is may =
     subst (λ (s : Set). SpellsGiven s g) (sym (skips_lists 4 live potential (uses_written u ++ given_written g) refl refl ∙ skips_uses 4 u (given_written g) refl)) (go g is may) where
       go : (g : Option Given) → IfSome g IsGiven → IfSome g IsWritableGiven → SpellsGiven (the 4 (given_written g)) g
       go None is may = refl
-      go (Some (Aes128 an offset number wrapped)) is may = (giving an offset number wrapped may.0 may.1 is.0, is.1)
-      go (Some (Aes256 an offset number wrapped)) is may = (gcm_aes_256 ++ wrapped, (giving an offset number (gcm_aes_256 ++ wrapped) may.0 may.1 is.0, (is.1, refl)))
+      go (Some (Aes128 an offset number wrapped)) is may = (giving an offset number wrapped is.0, is.1)
+      go (Some (Aes256 an offset number wrapped)) is may = (gcm_aes_256 ++ wrapped, (giving an offset number (gcm_aes_256 ++ wrapped) is.0, (is.1, refl)))
       go (Some (Other an offset number)) is may = absurd may
 
 -- ---- none of them comes twice
@@ -200,7 +202,7 @@ peers_most : (kind : ℕ) (ps : List Peer) → AllByRecursion IsPeer ps → leng
 peers_most kind [] are few = omega arith
 peers_most kind (p ∷ ps) are few = set_most kind 0 0 1280 (peers_body (p ∷ ps)) (let len = length-peers_body (p ∷ ps) are in omega (arith, len, few))
 
-uses_most : (u : Option Uses) → IfSome u (λ v. IsKeyUse v.latest × IsKeyUse v.old) → length (uses_set u) ≤ 47
+uses_most : (u : Option Uses) → IfSome u (λ v. IsKey v.latest × IsKey v.old) → length (uses_set u) ≤ 47
 uses_most None is = omega arith
 uses_most (Some u) is = set_most 3 (uses_flags u) 0 40 (uses_body u) (let len = length-uses_body u is.0 is.1 in omega (arith, len))
 
@@ -215,10 +217,6 @@ given_most (Some (Other an offset number)) is = omega arith
 laid_out : (source body : List ℕ) → frame_header source (length body + 16) ++ body ≡ group_address ++ (source ++ (0x88 ∷ 0x8e ∷ 3 ∷ 5 ∷ (big_bytes 2 (length body + 16) ++ body)))
 laid_out source body = ap (λ (x : List ℕ). group_address ++ x) (append_assoc source (0x88 ∷ 0x8e ∷ 3 ∷ 5 ∷ big_bytes 2 (length body + 16)) body)
 
-keys_are : (u : Option Uses) → IfSome u (λ v. (v.latest.an < 4) × (v.old.an < 4)) → IfSome u (λ v. IsKey v.latest × IsKey v.old) → IfSome u (λ v. IsKeyUse v.latest × IsKeyUse v.old)
-keys_are None may is = tt
-keys_are (Some u) may is = ((is.0, may.0), (is.1, may.1))
-
 flags_fit : (b : Bool) → bit b * 8 + 6 < 16
 flags_fit true = lit< tt
 flags_fit false = lit< tt
@@ -227,7 +225,7 @@ pub written_spells : (a : Announcement) (check : List ℕ) → IsWritable a → 
 written_spells a check may is sixteen =
     let live = recursion_from_All IsPeer a.live is.live in
     let potential = recursion_from_All IsPeer a.potential is.potential in
-    let keys = keys_are a.uses may.uses is.uses in
+    let keys = is.uses in
     let body : List ℕ = basic_body a.sci.0 a.mi.0 a.mn a.ckn in
     let len = length-basic_body a.sci.0 a.mi.0 a.mn a.ckn is.sci is.mi in
     let others : List Set = all_written a.live a.potential a.uses a.given in

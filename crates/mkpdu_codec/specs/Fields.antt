@@ -3,14 +3,18 @@
 use Rattle.std.specs.Prelude.{Bool, not, ℕ, zero, suc, ◌+◌, ◌/◌, ◌%◌, ◌&&◌, ◌==◌, nat_lt, if◌then◌else◌, List, [], ◌∷◌, length, take, drop, slice_index, Option, Some, None}
 use Rattle.std.specs.List.{starts_with}
 use Rattle.byteorder.specs.Endian.{big_number}
+use Rattle.lan_base.specs.declared.association_number.AssociationNumber.{AssociationNumber}
+use Rattle.lan_base.specs.AssociationNumbers.{of_bits}
 use Rattle.lan_base.specs.declared.address.Mi.{Mi}
 use Rattle.lan_base.specs.declared.address.Sci.{Sci}
 use Rattle.mkpdu_codec.specs.declared.given.Given.{Given}
 use Rattle.mkpdu_codec.specs.declared.given.Given.TheVariants.{Aes128, Aes256, Other}
 use Rattle.mkpdu_codec.specs.declared.key_use.KeyUse.{KeyUse}
 use Rattle.mkpdu_codec.specs.declared.key_use.Uses.{Uses}
+use Rattle.mkpdu_codec.specs.declared.offset.ConfidentialityOffset.{ConfidentialityOffset}
 use Rattle.mkpdu_codec.specs.declared.peer.Peer.{Peer}
 use Rattle.mkpdu_codec.specs.Frames.{Set}
+use Rattle.mkpdu_codec.specs.Offsets.{offset_of_bits}
 use Rattle.mkpdu_codec.specs.Refusals.{front_length, is_basic_length}
 use Rattle.mkpdu_codec.specs.Sets.{missing, gcm_aes_256}
 
@@ -18,6 +22,14 @@ infixl 10 ◌>>=◌
 abbrev pub ◌>>=◌ : {A B : Type 0} → Option A → (A → Option B) → Option B
 (Some x) >>= f = f x
 None >>= f = None
+
+-- the association number in the two lowest bits
+abbrev pub an_in : ℕ → AssociationNumber
+an_in bits = of_bits (bits / 2 % 2 == 1) (bits % 2 == 1)
+
+-- the confidentiality offset in the two lowest bits
+abbrev pub offset_in : ℕ → ConfidentialityOffset
+offset_in bits = offset_of_bits (bits / 2 % 2 == 1) (bits % 2 == 1)
 
 -- so many octets
 abbrev pub octets_at : ℕ → List ℕ → Option (List ℕ × List ℕ)
@@ -89,7 +101,7 @@ key_at bits octets = do
     record {
       server = server.0;
       number = number.0;
-      an = bits / 4;
+      an = an_in (bits / 4);
       tx = bits / 2 % 2 == 1;
       rx = bits % 2 == 1;
       lowest = lowest.0;
@@ -112,11 +124,11 @@ wide_in key =
     if starts_with (λ a b. a == b) key gcm_aes_256 && (length key == 48) then Some (drop 8 key)
     else None
 
-abbrev pub wide_or_other : ℕ → ℕ → ℕ → Option (List ℕ) → Given
+abbrev pub wide_or_other : AssociationNumber → ConfidentialityOffset → ℕ → Option (List ℕ) → Given
 wide_or_other an offset number None = Other an offset number
 wide_or_other an offset number (Some wrapped) = Aes256 an offset number wrapped
 
-abbrev pub key_in : ℕ → ℕ → ℕ → List ℕ → Given
+abbrev pub key_in : AssociationNumber → ConfidentialityOffset → ℕ → List ℕ → Given
 key_in an offset number key =
     if length key == 24 then Aes128 an offset number key
     else wide_or_other an offset number (wide_in key)
@@ -125,7 +137,7 @@ unfoldable pub given_in : Option Set → Option Given
 given_in found = do
   s ← found
   number ← number_at s.body
-  Some (key_in (s.second / 64) (s.second / 16 % 4) number.0 number.1)
+  Some (key_in (an_in (s.second / 64)) (offset_in (s.second / 16)) number.0 number.1)
 
 -- ---- the Basic Parameter Set
 

@@ -1,12 +1,13 @@
 -- Which frames spell which announcement (IEEE Std 802.1X, clause 11): a grammar of whole frames.
 use Rattle.std.specs.Prelude.{◌≡◌, ◌≢◌, ◌≤◌, ◌<◌, ℕ, ◌+◌, ◌/◌, ◌%◌, ◌^◌, ◌==◌, if◌then◌else◌, ◌⊎◌, List, [], ◌∷◌, ◌++◌, length, slice_index, Option, Some, None, IfSome, All, count_by}
 use Rattle.byteorder.specs.Endian.{big_bytes}
+use Rattle.lan_base.specs.declared.association_number.AssociationNumber.{AssociationNumber}
 use Rattle.lan_base.specs.Ranges.{IsCkn}
 use Rattle.mkpdu_codec.specs.declared.announcement.Announcement.{Announcement}
 use Rattle.mkpdu_codec.specs.declared.given.Given.{Given}
 use Rattle.mkpdu_codec.specs.declared.given.Given.TheVariants.{Aes128, Aes256, Other}
-use Rattle.mkpdu_codec.specs.declared.key_use.KeyUse.{KeyUse}
 use Rattle.mkpdu_codec.specs.declared.key_use.Uses.{Uses}
+use Rattle.mkpdu_codec.specs.declared.offset.ConfidentialityOffset.{ConfidentialityOffset}
 use Rattle.mkpdu_codec.specs.declared.peer.Peer.{Peer}
 use Rattle.mkpdu_codec.specs.Sets.{live_peers, potential_peers, sak_use, distributed_sak, icv_indicator, check_length, bit, missing, header, basic_body, peers_body, uses_body, uses_flags, given_flags, given_body, gcm_aes_256, IsPeer, IsKey}
 
@@ -88,10 +89,6 @@ abbrev pub the : ℕ → List Set → Set
 the k [] = record { kind = k; second = 0; flags = 0; body = [] }
 the k (s ∷ ss) = if s.kind == k then s else the k ss
 
--- one key of a SAK Use
-abbrev pub IsKeyUse : KeyUse → Type 0
-IsKeyUse u = IsKey u × (u.an < 4)
-
 -- a Live or Potential Peer List
 pub record SpellsPeers (s : Set) (ps : List Peer) : Type 0 where
   pub body : s.body ≡ peers_body ps
@@ -101,13 +98,12 @@ pub record SpellsPeers (s : Set) (ps : List Peer) : Type 0 where
 abbrev pub SpellsUses : Set → Option Uses → Type 0
 SpellsUses s None = s.body ≡ []
 SpellsUses s (Some u) =
-    (s.second ≡ uses_flags u) × (s.body ≡ uses_body u) × IsKeyUse u.latest × IsKeyUse u.old
+    (s.second ≡ uses_flags u) × (s.body ≡ uses_body u) × IsKey u.latest × IsKey u.old
 
 -- a Distributed SAK with its association number, offset and key number, and the key of its suite
-pub record IsGiving (s : Set) (an offset number : ℕ) (key : List ℕ) : Type 0 where
+pub record IsGiving (s : Set) (an : AssociationNumber) (offset : ConfidentialityOffset) (number : ℕ)
+    (key : List ℕ) : Type 0 where
   pub second : s.second / 16 ≡ given_flags an offset
-  pub two_bits : an < 4
-  pub two_more : offset < 4
   pub four_octets : number < 2 ^ 32
   pub body : s.body ≡ given_body number key
 

@@ -1,3 +1,4 @@
+pub mod Offsets
 pub mod Sets
 pub mod Frames
 pub mod Refusals

@@ -2,9 +2,13 @@
 use Rattle.std.specs.Prelude.{◌≡◌, ◌<◌, ◌^◌, ℕ, ◌+◌, ◌-◌, ◌*◌, ◌/◌, ◌%◌, Bool, true, false, List, [], ◌∷◌, ◌++◌, length, replicate}
 use Rattle.std.specs.List.{flat_map}
 use Rattle.byteorder.specs.Endian.{big_bytes}
+use Rattle.lan_base.specs.declared.association_number.AssociationNumber.{AssociationNumber}
+use Rattle.lan_base.specs.AssociationNumbers.{number_of}
+use Rattle.mkpdu_codec.specs.declared.offset.ConfidentialityOffset.{ConfidentialityOffset}
 use Rattle.mkpdu_codec.specs.declared.peer.Peer.{Peer}
 use Rattle.mkpdu_codec.specs.declared.key_use.KeyUse.{KeyUse}
 use Rattle.mkpdu_codec.specs.declared.key_use.Uses.{Uses}
+use Rattle.mkpdu_codec.specs.Offsets.{offset_bits}
 
 -- the types of the sets behind the Basic Parameter Set
 abbrev pub live_peers : ℕ
@@ -77,7 +81,7 @@ uses_body u = use_body u.latest ++ use_body u.old
 -- one key in the second octet of a SAK Use: its association number, and whether it transmits and
 -- receives
 abbrev pub use_flags : KeyUse → ℕ
-use_flags u = u.an * 4 + bit u.tx * 2 + bit u.rx
+use_flags u = number_of u.an * 4 + bit u.tx * 2 + bit u.rx
 
 -- the second octet of a SAK Use: the latest key in the high four bits, and the old one in the low
 -- four
@@ -86,8 +90,8 @@ uses_flags u = use_flags u.latest * 16 + use_flags u.old
 
 -- the high four bits of the second octet of a Distributed SAK: association number and
 -- confidentiality offset
-abbrev pub given_flags : ℕ → ℕ → ℕ
-given_flags an offset = an * 4 + offset
+abbrev pub given_flags : AssociationNumber → ConfidentialityOffset → ℕ
+given_flags an offset = number_of an * 4 + offset_bits offset
 
 -- the identifier of the cipher suite GCM-AES-256
 abbrev pub gcm_aes_256 : List ℕ

@@ -1,5 +1,5 @@
 -- The octets of an announcement as they are written: a whole MKA frame without its check value.
-use Rattle.std.specs.Prelude.{◌≡◌, ◌≤◌, ◌<◌, ℕ, ◌+◌, ◌*◌, List, [], ◌∷◌, ◌++◌, length, take, Option, Some, None, IfSome}
+use Rattle.std.specs.Prelude.{⊤, ◌≡◌, ◌≤◌, ℕ, ◌+◌, ◌*◌, List, [], ◌∷◌, ◌++◌, length, take, Option, Some, None, IfSome}
 use Rattle.byteorder.specs.Endian.{big_bytes}
 use Rattle.lan_base.specs.Ranges.{IsCkn}
 use Rattle.mkpdu_codec.specs.declared.announcement.Announcement.{Announcement}
@@ -54,10 +54,10 @@ written a = frame_header a.source.0 (length (sets a) + check_length) ++ sets a
 abbrev pub most_written : ℕ → ℕ
 most_written peers = 190 + 16 * peers
 
--- association numbers and offsets have two bits, and a key for another cipher isn't written
+-- a key for another cipher isn't written
 abbrev pub IsWritableGiven : Given → Type 0
-IsWritableGiven (Aes128 an offset number wrapped) = (an < 4) × (offset < 4)
-IsWritableGiven (Aes256 an offset number wrapped) = (an < 4) × (offset < 4)
+IsWritableGiven (Aes128 an offset number wrapped) = ⊤
+IsWritableGiven (Aes256 an offset number wrapped) = ⊤
 IsWritableGiven (Other an offset number) = ⊥
 
 -- what may be written
@@ -66,5 +66,4 @@ pub record IsWritable (a : Announcement) : Type 0 where
   pub named : IsCkn a.ckn
   pub live : length a.live ≤ 80
   pub potential : length a.potential ≤ 80
-  pub uses : IfSome a.uses (λ u. (u.latest.an < 4) × (u.old.an < 4))
   pub given : IfSome a.given IsWritableGiven

@@ -1,17 +1,18 @@
 //! Distributed SAK (IEEE Std 802.1X, clause 11): the key that the key server gives.
 
-ghost use Rattle.std.specs.Prelude.{◌≡◌, ◌≤◌, ◌<◌, ◌+◌, ◌++◌, IfSome, length};
+ghost use Rattle.std.specs.Prelude.{◌≡◌, ◌≤◌, ◌<◌, ◌+◌, ◌*◌, ◌++◌, length};
 ghost use Rattle.mkpdu_codec.specs.Fields.{given_in, key_in, wide_in};
 ghost use Rattle.lan_base.specs.Room.{HasRoom, Puts};
-ghost use Rattle.mkpdu_codec.specs.Sets.{given_body, set};
-ghost use Rattle.mkpdu_codec.specs.Written.{given_set, IsWritableGiven};
+ghost use Rattle.mkpdu_codec.specs.Sets.{given_body, given_flags, set};
+ghost use Rattle.mkpdu_codec.specs.Written.{given_set};
 ghost use Rattle.mkpdu_codec.specs.inside.Views.{Finds, seen};
 
-use crate::fields::read_number;
+use crate::fields::{an_of, offset_of, read_number};
 use crate::given::Given;
 use crate::layout::DISTRIBUTED_SAK;
+use crate::offset::ConfidentialityOffset;
 use crate::set::{ParameterSet, put_header, put_padding, set_len};
-use lan_base::put;
+use lan_base::{AssociationNumber, put};
 
 /// The identifier of the cipher suite GCM-AES-256.
 const GCM_AES_256: [u8; 8] = [0x00, 0x80, 0xc2, 0x00, 0x01, 0x00, 0x00, 0x02];
@@ -45,10 +46,16 @@ fn put_key(second: u8, number: u32, suite: &[u8], wrapped: &[u8], into: &mut Vec
     put_padding(len, into);
 }
 
+/// The second octet: association number and confidentiality offset in its high four bits.
+fn second_of(an: AssociationNumber, offset: ConfidentialityOffset) -> u8
+    ensures { result ≡ given_flags an offset * 16 }
+{
+    (an.number() * 4 + offset.bits()) * 16
+}
+
 /// Writes the set, where there is one.
 pub fn put_given(given: &Option<Given>, into: &mut Vec<u8>)
-    requires writable { IfSome given.now IsWritableGiven }
-    requires room { HasRoom into.old (given_set given.now) }
+    requires { HasRoom into.old (given_set given.now) }
     ensures { Puts into.old into.new (given_set given.now) }
 {
     match given {
@@ -60,7 +67,7 @@ pub fn put_given(given: &Option<Given>, into: &mut Vec<u8>)
                 wrapped,
             },
         ) => {
-            put_key((*an * 4 + *offset) * 16, *number, &[], wrapped, into);
+            put_key(second_of(*an, *offset), *number, &[], wrapped, into);
         }
         Some(
             Given::Aes256 {
@@ -71,7 +78,7 @@ pub fn put_given(given: &Option<Given>, into: &mut Vec<u8>)
             },
         ) => {
             put_key(
-                (*an * 4 + *offset) * 16,
+                second_of(*an, *offset),
                 *number,
                 &GCM_AES_256,
                 wrapped,
@@ -93,7 +100,7 @@ fn wide_of(key: &[u8]) -> Option<[u8; 40]>
 }
 
 /// The key behind the key number.
-fn key_of(an: u8, offset: u8, number: u32, key: &[u8]) -> Given
+fn key_of(an: AssociationNumber, offset: ConfidentialityOffset, number: u32, key: &[u8]) -> Given
     ensures { result ≡ key_in an offset number key.now }
 {
     if let Ok(wrapped) = <[u8; 24]>::try_from(key) {
@@ -122,5 +129,10 @@ pub fn given_of(set: Option<ParameterSet<'_>>) -> Option<Given>
 {
     let set = set?;
     let (number, key) = read_number(set.body)?;
-    Some(key_of(set.second / 64, set.second / 16 % 4, number, key))
+    Some(key_of(
+        an_of(set.second / 64),
+        offset_of(set.second / 16),
+        number,
+        key,
+    ))
 }

@@ -1,10 +1,26 @@
 //! The fields of parameter sets: a value, and the octets behind it.
 
-ghost use Rattle.mkpdu_codec.specs.Fields.{number_at, mi_at, sci_at};
+ghost use Rattle.std.specs.Prelude.{◌≡◌};
+ghost use Rattle.mkpdu_codec.specs.Fields.{an_in, offset_in, number_at, mi_at, sci_at};
 ghost use Rattle.mkpdu_codec.specs.inside.Views.{Finds};
 
+use crate::offset::ConfidentialityOffset;
 use byteorder::{BigEndian, ByteOrder};
-use lan_base::{Mi, Sci};
+use lan_base::{AssociationNumber, Mi, Sci};
+
+/// The association number in the two lowest bits.
+pub fn an_of(bits: u8) -> AssociationNumber
+    ensures { result ≡ an_in bits }
+{
+    AssociationNumber::of_bits(bits / 2 % 2 == 1, bits % 2 == 1)
+}
+
+/// The confidentiality offset in the two lowest bits.
+pub fn offset_of(bits: u8) -> ConfidentialityOffset
+    ensures { result ≡ offset_in bits }
+{
+    ConfidentialityOffset::of_bits(bits / 2 % 2 == 1, bits % 2 == 1)
+}
 
 /// Reads a number of four octets, the highest first.
 #[tactic(auto, unfolding(crate::specs::Fields::number_at))]

@@ -1,15 +1,15 @@
 //! What an announcement says of the keys in use.
 
-use lan_base::Mi;
+use lan_base::{AssociationNumber, Mi};
 
 /// The use of one key: its identifier and association number, whether its announcer transmits and
 /// receives with it, and the lowest packet number that the announcer accepts under it. All fields
-/// of a key that is not held are zero.
+/// of a key that is not held are zero, and its association number is the first.
 #[derive(Clone, Copy, Debug, PartialEq, Eq)]
 pub struct KeyUse {
     pub server: Mi,
     pub number: u32,
-    pub an: u8,
+    pub an: AssociationNumber,
     pub tx: bool,
     pub rx: bool,
     pub lowest: u32,

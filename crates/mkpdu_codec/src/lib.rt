@@ -11,8 +11,10 @@ mod given;
 mod key_use;
 mod laws;
 mod layout;
+mod offset;
 mod peer;
 mod peer_list;
+mod read_error;
 mod reading;
 mod refusal;
 mod sak_use;
@@ -28,11 +30,10 @@ pub use laws::{
     law_read_is_spelled, law_reading_refuses, law_spelled_is_read, law_spelled_or_refused,
     law_written_is_spelled,
 };
+pub use offset::ConfidentialityOffset;
 pub use peer::{Peer, Peers};
+pub use read_error::ReadError;
 pub use reading::read;
 pub use refusal::Refusal;
 pub use spelled::Spelled;
 pub use writing::{write, written_len};
-
-#[cfg(test)]
-mod tests;

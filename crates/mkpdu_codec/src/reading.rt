@@ -1,8 +1,9 @@
 //! Octets of a frame as an announcement.
 
-ghost use Rattle.std.specs.Prelude.{◌≡◌, ◌≢◌, ◌↔◌, ◌≤◌, ◌<◌, ◌^◌, ◌+◌, ◌⊎◌, ℕ, List, length, IfOk, Some, None, Ok, Err};
+ghost use Rattle.std.specs.Prelude.{◌≡◌, ◌↔◌, ◌≤◌, ◌<◌, ◌^◌, ◌+◌, ◌⊎◌, ℕ, List, length, IfOk, Some, None, Ok, Err};
 ghost use Rattle.mkpdu_codec.specs.declared.announcement.Announcement.{Announcement};
 ghost use Rattle.mkpdu_codec.specs.declared.refusal.Refusal.{Refusal};
+ghost use Rattle.mkpdu_codec.specs.declared.read_error.ReadError.TheVariants.{Refused, Memory};
 ghost use Rattle.mkpdu_codec.specs.Frames.{Spells};
 ghost use Rattle.mkpdu_codec.specs.Reading.{parts_at, reading};
 ghost use Rattle.mkpdu_codec.specs.Refusals.{is_mka, is_long_enough, is_known, body_length, refused};
@@ -14,6 +15,7 @@ use crate::distributed_sak::given_of;
 use crate::found::{Found, read_found};
 use crate::layout::{AGILITY, CHECK_LEN, HEADER_LEN};
 use crate::peer_list::peers_of;
+use crate::read_error::ReadError;
 use crate::refusal::Refusal;
 use crate::sak_use::uses_of;
 use crate::spelled::Spelled;
@@ -149,26 +151,25 @@ fn owned(alloc: Global, borrowed: Borrowed<'_>) -> Result<Spelled, AllocError>
 }
 
 /// Reads a frame. Memory is taken only for one without a refusal.
-fn spelled(alloc: Global, frame: &[u8]) -> Result<Spelled, Refusal>
+fn spelled(alloc: Global, frame: &[u8]) -> Result<Spelled, ReadError>
     ensures { Answers result (reading frame.now) }
 {
     Ok(owned(alloc, read_in_place(frame)?)?)
 }
 
 /// Reads a frame: what it spells, or its first refusal.
-pub fn read(alloc: Global, frame: &[u8]) -> Result<Spelled, Refusal>
+pub fn read(alloc: Global, frame: &[u8]) -> Result<Spelled, ReadError>
     // What is read is spelled so, and what is spelled so is read, unless memory ran out.
     ensures found { IfOk result (λ s. Spells frame.now s.announcement s.covered s.check) }
     ensures only { (a : Announcement) (covered : ℕ) (check : List ℕ)
         → Spells frame.now a covered check
         → (result ≡ Ok (record { announcement = a; covered = covered; check = check }))
-        ⊎ (result ≡ Err Refusal.Memory) }
+        ⊎ (result ≡ Err Memory) }
 
     // A refusal is answered exactly where it is the frame's first one, and memory is wanted only
     // where there is none.
-    ensures refused { (e : Refusal) → e ≢ Refusal.Memory
-        → (result ≡ Err e) ↔ (refused frame.now ≡ Some e) }
-    ensures memory { result ≡ Err Refusal.Memory → refused frame.now ≡ None }
+    ensures refused { (e : Refusal) → (result ≡ Err (Refused e)) ↔ (refused frame.now ≡ Some e) }
+    ensures memory { result ≡ Err Memory → refused frame.now ≡ None }
 {
     spelled(alloc, frame)
 }

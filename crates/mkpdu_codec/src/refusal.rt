@@ -1,9 +1,5 @@
 //! Why a frame is not read.
 
-ghost use Rattle.std.specs.Prelude.{◌≡◌};
-ghost use Rattle.mkpdu_codec.specs.declared.refusal.Refusal.TheVariants.{Memory};
-
-use std::alloc::{AllocError, AllocFailed};
 use thiserror::Error;
 
 /// Why a frame spells no announcement: the first of these that applies, from the front.
@@ -25,23 +21,4 @@ pub enum Refusal {
     /// The algorithm agility is not the one that there is.
     #[error("the algorithm agility is unknown")]
     Agility,
-    /// Memory ran out, which says nothing of the frame.
-    #[error("out of memory")]
-    Memory,
-}
-
-impl From<AllocError> for Refusal {
-    ghost from_gives = { λ _ e. e ≡ Memory };
-
-    fn from(_e: AllocError) -> Refusal {
-        Refusal::Memory
-    }
-}
-
-impl<T: Drop> From<AllocFailed<T>> for Refusal {
-    ghost from_gives = { λ _ e. e ≡ Memory };
-
-    fn from(_e: AllocFailed<T>) -> Refusal {
-        Refusal::Memory
-    }
 }

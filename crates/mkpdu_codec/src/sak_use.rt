@@ -1,13 +1,13 @@
 //! MACsec SAK Use (IEEE Std 802.1X, clause 11): which keys the announcer uses.
 
-ghost use Rattle.std.specs.Prelude.{◌≡◌, ◌≤◌, ◌<◌, IfSome, length};
+ghost use Rattle.std.specs.Prelude.{◌≡◌, ◌≤◌, ◌<◌, length};
 ghost use Rattle.mkpdu_codec.specs.Fields.{key_at, uses_in};
 ghost use Rattle.lan_base.specs.Room.{HasRoom, Puts};
 ghost use Rattle.mkpdu_codec.specs.Sets.{use_body, use_flags, uses_body};
 ghost use Rattle.mkpdu_codec.specs.Written.{uses_set};
 ghost use Rattle.mkpdu_codec.specs.inside.Views.{Finds, seen};
 
-use crate::fields::{read_mi, read_number};
+use crate::fields::{an_of, read_mi, read_number};
 use crate::key_use::{KeyUse, Uses};
 use crate::layout::SAK_USE;
 use crate::set::{ParameterSet, put_header, set_len};
@@ -34,11 +34,10 @@ pub fn uses_len(uses: &Option<Uses>) -> usize
 
 /// One key in the second octet: two bits of association number, transmits, receives.
 fn flags_of(key: &KeyUse) -> u8
-    requires { key.now.an < 4 }
     ensures value { result ≡ use_flags key.now }
     ensures small { result < 16 }
 {
-    key.an * 4 + u8::from(key.tx) * 2 + u8::from(key.rx)
+    key.an.number() * 4 + u8::from(key.tx) * 2 + u8::from(key.rx)
 }
 
 /// Writes one key: the server, the key number, and the lowest acceptable packet number.
@@ -65,8 +64,7 @@ fn put_body(uses: &Uses, into: &mut Vec<u8>)
 /// Writes the set, where there is one.
 #[tactic(auto, using(lan_base::proofs::Public::pieces))]
 pub fn put_uses(uses: &Option<Uses>, into: &mut Vec<u8>)
-    requires an { IfSome uses.now (λ u. (u.latest.an < 4) × (u.old.an < 4)) }
-    requires room { HasRoom into.old (uses_set uses.now) }
+    requires { HasRoom into.old (uses_set uses.now) }
     ensures { Puts into.old into.new (uses_set uses.now) }
 {
     if let Some(uses) = uses {
@@ -87,7 +85,7 @@ fn read_key(bits: u8, octets: &[u8]) -> Option<(KeyUse, &[u8])>
     let key = KeyUse {
         server,
         number,
-        an: bits / 4,
+        an: an_of(bits / 4),
         tx: bits / 2 % 2 == 1,
         rx: bits % 2 == 1,
         lowest,

@@ -5,7 +5,7 @@ use Rattle.std.specs.List.{list_any, filter}
 use Rattle.std.specs.Option.{option_or}
 use Rattle.lan_base.specs.declared.address.Mi.{Mi}
 use Rattle.peer_lists.specs.declared.heard.Heard.{Heard}
-use Rattle.peer_lists.specs.declared.heard.DropReason.TheVariants.{PeersFull}
+use Rattle.peer_lists.specs.declared.heard.PeerRefusal.TheVariants.{PeersFull}
 use Rattle.lan_base.specs.Identifiers.{same_mi, order, has}
 use Rattle.peer_lists.specs.Histories.{Peering, ticked, sent, heard, clock, is_young}
 use Rattle.peer_lists.specs.Acceptance.{Own, Accepted, accepted, refusal, echo, old_number, peers_full, is_young_of, members, most_peers, put_in}

@@ -5,7 +5,7 @@ use Rattle.std.specs.List.{list_any, find}
 use Rattle.std.specs.Option.{option_map, option_and_then}
 use Rattle.lan_base.specs.declared.address.Mi.{Mi}
 use Rattle.peer_lists.specs.declared.heard.Heard.{Heard}
-use Rattle.peer_lists.specs.declared.heard.DropReason.{DropReason}
+use Rattle.peer_lists.specs.declared.heard.PeerRefusal.{PeerRefusal}
 use Rattle.peer_lists.specs.declared.remembered.Words.{Words}
 use Rattle.peer_lists.specs.declared.remembered.Remembered.{Remembered}
 use Rattle.lan_base.specs.Timers.{life_time}
@@ -62,7 +62,7 @@ remembered-tick own h m =
 pub remembered-sent : (own : Own) (n : ℕ) (h : List Peering) (m : Mi) → remembered own (sent n ∷ h) m ≡ remembered own h m
 remembered-sent own n h m = rw (remembered-is own (sent n ∷ h) m, remembered-is own h m, accepted-sent own n h) refl
 
-pub remembered-dropped : (own : Own) (x : Heard) (h : List Peering) (r : DropReason) → reason_after own h x ≡ Some r → (m : Mi) → remembered own (heard x ∷ h) m ≡ remembered own h m
+pub remembered-dropped : (own : Own) (x : Heard) (h : List Peering) (r : PeerRefusal) → reason_after own h x ≡ Some r → (m : Mi) → remembered own (heard x ∷ h) m ≡ remembered own h m
 remembered-dropped own x h r e m = rw (remembered-is own (heard x ∷ h) m, remembered-is own h m, accepted-dropped own x h r e) refl
 
 -- an accepted announcement

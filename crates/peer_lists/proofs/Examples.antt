@@ -5,7 +5,7 @@ use Rattle.lan_base.specs.declared.address.Mi.{Mi}
 use Rattle.lan_base.specs.declared.address.Sci.{Sci}
 use Rattle.mkpdu_codec.specs.declared.peer.Peer.{Peer}
 use Rattle.peer_lists.specs.declared.heard.Heard.{Heard}
-use Rattle.peer_lists.specs.declared.heard.DropReason.TheVariants.{Echo, OldNumber, PeersFull}
+use Rattle.peer_lists.specs.declared.heard.PeerRefusal.TheVariants.{Echo, OldNumber, PeersFull}
 use Rattle.peer_lists.specs.declared.heard.Outcome.TheVariants.{Vouched, Unvouched, Dropped}
 use Rattle.peer_lists.specs.Histories.{Peering, ticked, sent, heard, recent, last_sent, may_send, IsCounted}
 use Rattle.peer_lists.specs.Acceptance.{Own, refusal, accepted, outcome}

@@ -5,8 +5,8 @@ use Rattle.std.specs.List.{list_any, filter, find}
 use Rattle.std.specs.Option.{option_map, option_and_then, option_or}
 use Rattle.lan_base.specs.declared.address.Mi.{Mi}
 use Rattle.peer_lists.specs.declared.heard.Heard.{Heard}
-use Rattle.peer_lists.specs.declared.heard.DropReason.{DropReason}
-use Rattle.peer_lists.specs.declared.heard.DropReason.TheVariants.{OldNumber}
+use Rattle.peer_lists.specs.declared.heard.PeerRefusal.{PeerRefusal}
+use Rattle.peer_lists.specs.declared.heard.PeerRefusal.TheVariants.{OldNumber}
 use Rattle.peer_lists.specs.declared.remembered.Words.{Words}
 use Rattle.lan_base.specs.Timers.{life_time}
 use Rattle.lan_base.specs.Identifiers.{same_mi}
@@ -32,7 +32,7 @@ unfolding accepted
 accepted-sent own n h = refl
 
 -- the reason to drop an announcement that is heard after a history
-abbrev pub reason_after : Own → List Peering → Heard → Option DropReason
+abbrev pub reason_after : Own → List Peering → Heard → Option PeerRefusal
 reason_after own h x = refusal own (clock h) (accepted own h) x
 
 -- the announcement, accepted after a history
@@ -43,7 +43,7 @@ pub accepted-new : (own : Own) (x : Heard) (h : List Peering) → reason_after o
 unfolding accepted
 accepted-new own x h e = rw (e, accepted) refl
 
-pub accepted-dropped : (own : Own) (x : Heard) (h : List Peering) (r : DropReason) → reason_after own h x ≡ Some r → accepted own (heard x ∷ h) ≡ accepted own h
+pub accepted-dropped : (own : Own) (x : Heard) (h : List Peering) (r : PeerRefusal) → reason_after own h x ≡ Some r → accepted own (heard x ∷ h) ≡ accepted own h
 unfolding accepted
 accepted-dropped own x h r e = rw (e, accepted) refl
 

@@ -5,8 +5,8 @@ use Rattle.std.specs.List.{list_any, filter}
 use Rattle.std.specs.Option.{option_map, option_and_then, option_or}
 use Rattle.lan_base.specs.declared.address.Mi.{Mi}
 use Rattle.peer_lists.specs.declared.heard.Heard.{Heard}
-use Rattle.peer_lists.specs.declared.heard.DropReason.{DropReason}
-use Rattle.peer_lists.specs.declared.heard.DropReason.TheVariants.{OldNumber, PeersFull}
+use Rattle.peer_lists.specs.declared.heard.PeerRefusal.{PeerRefusal}
+use Rattle.peer_lists.specs.declared.heard.PeerRefusal.TheVariants.{OldNumber, PeersFull}
 use Rattle.peer_lists.specs.declared.remembered.Remembered.{Remembered}
 use Rattle.peer_lists.specs.Acceptance.{most_peers}
 use Rattle.lan_base.specs.Identifiers.{same_mi, has}
@@ -23,7 +23,7 @@ use Rattle.peer_lists.proofs.Finds.{greatest-from}
 use Rattle.peer_lists.proofs.Pasts.{by_option, IsUpTo, accepted-upto, accepted-falling, kept-first, kept-some}
 
 -- a number that is kept, as a reason against a number that is not greater
-abbrev number_against : ℕ → ℕ → Option DropReason
+abbrev number_against : ℕ → ℕ → Option PeerRefusal
 number_against k n = cond (nat_le k n) (Some (OldNumber n)) None
 
 against-kept : (k : ℕ) (o : Option ℕ) → option_map OldNumber (option_and_then (λ n. cond (nat_le k n) (Some n) None) o) ≡ option_and_then (number_against k) o

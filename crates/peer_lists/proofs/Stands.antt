@@ -7,7 +7,7 @@ use Rattle.std.specs.Option.{option_map, option_and_then, option_or}
 use Rattle.lan_base.specs.declared.address.Mi.{Mi}
 use Rattle.peer_lists.specs.declared.heard.Heard.{Heard}
 use Rattle.peer_lists.specs.declared.heard.Outcome.TheVariants.{Vouched, Unvouched, Dropped}
-use Rattle.peer_lists.specs.declared.heard.DropReason.{DropReason}
+use Rattle.peer_lists.specs.declared.heard.PeerRefusal.{PeerRefusal}
 use Rattle.peer_lists.specs.declared.heard.Row.{Row}
 use Rattle.peer_lists.specs.declared.remembered.Remembered.{Remembered}
 use Rattle.lan_base.specs.Timers.{life_time}
@@ -85,7 +85,7 @@ pub refusal-stands : (own : Own) (t : Table) (h : List Peering) (x : Heard) (pla
 refusal-stands own t h x place s range found =
     rw (s.owner, reason_at-is x t.rows place s.ascending range found, reason-is own h t.rows x s.ascending s.rows) (sym (refusal-is own h x))
 
-pub stands-dropped : (own : Own) (t : Table) (h : List Peering) (x : Heard) (r : DropReason) → reason_after own h x ≡ Some r → StandsFor own t h → StandsFor own t (heard x ∷ h)
+pub stands-dropped : (own : Own) (t : Table) (h : List Peering) (x : Heard) (r : PeerRefusal) → reason_after own h x ≡ Some r → StandsFor own t h → StandsFor own t (heard x ∷ h)
 stands-dropped own t h x r e s = record {
   owner = s.owner;
   ascending = s.ascending;
@@ -157,7 +157,7 @@ pub outcome-new : (own : Own) (h : List Peering) (x : Heard) → reason_after ow
 unfolding outcome
 outcome-new own h x e = rw (e, outcome) refl
 
-pub outcome-dropped : (own : Own) (h : List Peering) (x : Heard) (r : DropReason) → reason_after own h x ≡ Some r → outcome own h x ≡ Dropped r
+pub outcome-dropped : (own : Own) (h : List Peering) (x : Heard) (r : PeerRefusal) → reason_after own h x ≡ Some r → outcome own h x ≡ Dropped r
 unfolding outcome
 outcome-dropped own h x r e = rw (e, outcome) refl
 
@@ -175,7 +175,7 @@ len-stands own t h s = sym (length-map t.rows member) ∙ ap length (rows-known 
 
 -- the same, as `hear` comes to know them
 
-pub reason-told : (own : Own) (t : Table) (h : List Peering) (x : Heard) (place : Result ℕ ℕ) (ps : List Remembered) (o : Option DropReason) → ps ≡ t.rows → IsSearchInRange place (length ps) → IsBinarySearchResult (λ p. order (member p) x.mi) ps place
+pub reason-told : (own : Own) (t : Table) (h : List Peering) (x : Heard) (place : Result ℕ ℕ) (ps : List Remembered) (o : Option PeerRefusal) → ps ≡ t.rows → IsSearchInRange place (length ps) → IsBinarySearchResult (λ p. order (member p) x.mi) ps place
     → o ≡ option_or (echo t.own x) (reason_at place t.rows x) → StandsFor own t h → reason_after own h x ≡ o
 reason-told own t h x place ps o same range found told s =
     sym (told ∙ refusal-stands own t h x place s (subst (λ (l : List Remembered). IsSearchInRange place (length l)) same range) (subst (λ (l : List Remembered). IsBinarySearchResult (λ p. order (member p) x.mi) l place) same found))

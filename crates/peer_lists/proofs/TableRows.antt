@@ -14,8 +14,8 @@ use Rattle.peer_lists.specs.Table.{member, look_up}
 use Rattle.lan_base.specs.Identifiers.{IsBefore, IsAscending}
 use Rattle.peer_lists.specs.inside.RowChanges.{put, introduced, renewed, heard_at, reason_at}
 use Rattle.peer_lists.specs.declared.heard.Heard.{Heard}
-use Rattle.peer_lists.specs.declared.heard.DropReason.{DropReason}
-use Rattle.peer_lists.specs.declared.heard.DropReason.TheVariants.{OldNumber, PeersFull}
+use Rattle.peer_lists.specs.declared.heard.PeerRefusal.{PeerRefusal}
+use Rattle.peer_lists.specs.declared.heard.PeerRefusal.TheVariants.{OldNumber, PeersFull}
 use Rattle.peer_lists.specs.Acceptance.{most_peers}
 use Rattle.peer_lists.proofs.Identifiers.{by_test, by_order, same_mi-equal, same_mi-itself, order-equal, order-itself, order-trans}
 use Rattle.peer_lists.proofs.Ascending.{same_mi-apart, same_mi-sym, order-less, order-greater, put_in-ascending, before-lacks}
@@ -193,7 +193,7 @@ heard_at-is v x ps (Err at) h range found =
     rest.1 (introduced v x) refl ∙ ap (λ (o : Option Remembered). put (row_heard v x o) ps) (sym rest.0)
 
 -- the reason to drop an announcement, given the row of its member
-abbrev pub reason_by : List Remembered → Heard → Option Remembered → Option DropReason
+abbrev pub reason_by : List Remembered → Heard → Option Remembered → Option PeerRefusal
 reason_by ps x None = cond (nat_le most_peers (length ps)) (Some PeersFull) None
 reason_by ps x (Some p) = cond (nat_le x.mn p.last.told.mn) (Some (OldNumber p.last.told.mn)) None
 

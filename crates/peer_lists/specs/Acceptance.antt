@@ -1,13 +1,13 @@
 -- Which heard announcements are accepted, and which of them are vouched (IEEE Std 802.1X, 9.4.2).
-use Rattle.std.specs.Prelude.{ℕ, Bool, cond, not, ◌&&◌, ◌||◌, List, [], ◌∷◌, map, length, nat_le, max, Option, Some, None, unwrap_or, option_map}
+use Rattle.std.specs.Prelude.{⊤, ℕ, Bool, if◌then◌else◌, not, ◌&&◌, ◌||◌, List, [], ◌∷◌, map, length, nat_le, max, Option, Some, None, unwrap_or, option_map}
 use Rattle.std.specs.List.{list_any, filter}
 use Rattle.std.specs.Option.{option_or}
 use Rattle.std.specs.declared.cmp.Ordering.TheVariants.{Less, Equal, Greater}
 use Rattle.lan_base.specs.declared.address.Mi.{Mi}
 use Rattle.lan_base.specs.declared.address.Sci.{Sci}
 use Rattle.peer_lists.specs.declared.heard.Heard.{Heard}
-use Rattle.peer_lists.specs.declared.heard.DropReason.{DropReason}
-use Rattle.peer_lists.specs.declared.heard.DropReason.TheVariants.{Echo, OldNumber, PeersFull}
+use Rattle.peer_lists.specs.declared.heard.PeerRefusal.{PeerRefusal}
+use Rattle.peer_lists.specs.declared.heard.PeerRefusal.TheVariants.{Echo, OldNumber, PeersFull}
 use Rattle.peer_lists.specs.declared.heard.Outcome.{Outcome}
 use Rattle.peer_lists.specs.declared.heard.Outcome.TheVariants.{Vouched, Unvouched, Dropped}
 use Rattle.lan_base.specs.Identifiers.{same_mi, same_sci, order}
@@ -55,8 +55,9 @@ first_number [] = None
 first_number (n ∷ ns) = Some n
 
 -- Echo: the announcement has the station's own member identifier or its own SCI.
-abbrev pub echo : Own → Heard → Option DropReason
-echo own x = cond (same_mi x.mi own.mi || same_sci x.sci own.sci) (Some Echo) None
+abbrev pub echo : Own → Heard → Option PeerRefusal
+echo own x =
+    if same_mi x.mi own.mi || same_sci x.sci own.sci then Some Echo else None
 
 -- the message numbers of a member's young accepted announcements, newest first
 abbrev pub young_numbers : ℕ → Mi → List Accepted → List ℕ
@@ -64,7 +65,7 @@ young_numbers now m past = map (λ a. a.told.mn) (filter (is_young_of now m) pas
 
 -- Old number: some young accepted announcements of the same member have a message number that is
 -- not less. The greatest such number is told.
-abbrev pub old_number : ℕ → List Accepted → Heard → Option DropReason
+abbrev pub old_number : ℕ → List Accepted → Heard → Option PeerRefusal
 old_number now past x =
     option_map OldNumber (greatest (filter (nat_le x.mn) (young_numbers now x.mi past)))
 
@@ -74,14 +75,14 @@ most_peers = 64
 
 -- Peers full: as many other members as there is room for have a young accepted announcement, and
 -- this one has none.
-abbrev pub peers_full : ℕ → List Accepted → Heard → Option DropReason
+abbrev pub peers_full : ℕ → List Accepted → Heard → Option PeerRefusal
 peers_full now past x =
     let others = filter (λ m. not (same_mi m x.mi)) (members now past) in
-    cond (nat_le most_peers (length others) && not (list_any (is_young_of now x.mi) past))
-    (Some PeersFull) None
+    if nat_le most_peers (length others) && not (list_any (is_young_of now x.mi) past)
+    then Some PeersFull else None
 
 -- the first reason that there is to drop the announcement
-unfoldable pub refusal : Own → ℕ → List Accepted → Heard → Option DropReason
+unfoldable pub refusal : Own → ℕ → List Accepted → Heard → Option PeerRefusal
 refusal own now past x =
     option_or (echo own x) (option_or (old_number now past x) (peers_full now past x))
 
@@ -105,7 +106,7 @@ accepted own (heard x ∷ h) =
 unfoldable pub outcome : Own → List Peering → Heard → Outcome
 outcome own h x =
     elim (refusal own (clock h) (accepted own h) x) [
-      | None ↦ cond (vouches h x) Vouched Unvouched
+      | None ↦ if vouches h x then Vouched else Unvouched
       | Some reason ↦ Dropped reason
     ]
 
@@ -113,4 +114,4 @@ outcome own h x =
 abbrev pub IsDropped : Outcome → Type 0
 IsDropped Vouched = ⊥
 IsDropped Unvouched = ⊥
-IsDropped (Dropped reason) = Unit {0}
+IsDropped (Dropped reason) = ⊤

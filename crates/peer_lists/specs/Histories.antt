@@ -1,6 +1,6 @@
 -- The history of one life of a station, as far as its peer lists go: ticks, announcements sent and
 -- announcements heard (IEEE Std 802.1X, 9.4).
-use Rattle.std.specs.Prelude.{◌≡◌, ◌==◌, ℕ, ◌+◌, Bool, true, false, ◌&&◌, List, [], ◌∷◌, nat_lt}
+use Rattle.std.specs.Prelude.{⊤, ◌≡◌, ◌==◌, ℕ, ◌+◌, Bool, true, false, ◌&&◌, List, [], ◌∷◌, nat_lt}
 use Rattle.std.specs.List.{list_any}
 use Rattle.lan_base.specs.Timers.{life_time}
 use Rattle.peer_lists.specs.declared.heard.Heard.{Heard}
@@ -69,7 +69,7 @@ may_send (heard x ∷ h) = may_send h
 -- Each number that was sent is one greater than the one before it, from 1 on, and at most one was
 -- sent in a tick.
 abbrev pub IsCounted : List Peering → Type 0
-IsCounted [] = Unit {0}
+IsCounted [] = ⊤
 IsCounted (ticked ∷ h) = IsCounted h
 IsCounted (sent n ∷ h) = (n ≡ last_sent h + 1) × (may_send h ≡ true) × IsCounted h
 IsCounted (heard x ∷ h) = IsCounted h

@@ -1,6 +1,6 @@
 -- Who is live, who is potential, what a live peer says, and the rows that show it (IEEE Std 802.1X,
 -- 9.4.3).
-use Rattle.std.specs.Prelude.{ℕ, Bool, false, cond, not, ◌&&◌, List, [], ◌∷◌, Option, Some, None, is_some, unwrap_or, option_map, option_and_then, slice_get}
+use Rattle.std.specs.Prelude.{ℕ, Bool, false, if◌then◌else◌, not, ◌&&◌, List, [], ◌∷◌, Option, Some, None, is_some, unwrap_or, option_map, option_and_then, slice_get}
 use Rattle.std.specs.List.{list_any, filter, find}
 use Rattle.lan_base.specs.declared.address.Mi.{Mi}
 use Rattle.peer_lists.specs.declared.heard.Row.{Row}
@@ -11,7 +11,7 @@ use Rattle.peer_lists.specs.Acceptance.{Own, Accepted, accepted, members}
 -- what stands before the first that passes the test, or all where none does
 abbrev pub newer : {A : Type 0} → (A → Bool) → List A → List A
 newer test [] = []
-newer test (x ∷ xs) = cond (test x) [] (x ∷ newer test xs)
+newer test (x ∷ xs) = if test x then [] else x ∷ newer test xs
 
 -- whether the second announcement, if it came later, displaces the first: it is vouched, and of
 -- another member with the same SCI
@@ -26,7 +26,8 @@ is_displaced test past a = list_any (displaces a) (newer test past)
 -- one displaces it
 abbrev pub standing : ℕ → (Accepted → Bool) → List Accepted → Option Accepted
 standing now test past =
-    option_and_then (λ a. cond (is_young now a.at && not (is_displaced test past a)) (Some a) None)
+    option_and_then
+    (λ a. if is_young now a.at && not (is_displaced test past a) then Some a else None)
     (find test past)
 
 -- whether an announcement is of this member
@@ -49,7 +50,9 @@ says own h m = standing (clock h) (is_vouched_of m) (accepted own h)
 -- the last accepted announcement of a potential member: it is not live, and that announcement
 -- stands
 unfoldable pub hopes : Own → List Peering → Mi → Option Accepted
-hopes own h m = cond (is_some (says own h m)) None (standing (clock h) (is_of m) (accepted own h))
+hopes own h m =
+    if is_some (says own h m) then None
+    else standing (clock h) (is_of m) (accepted own h)
 
 -- the members with an accepted announcement younger than the life time, ascending
 unfoldable pub known : Own → List Peering → List Mi

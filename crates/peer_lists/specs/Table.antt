@@ -1,6 +1,6 @@
 -- What the table of peers holds, and for which histories it stands (this profile's own rule): no
 -- public definition but these knows of rows and countdowns.
-use Rattle.std.specs.Prelude.{◌≡◌, ℕ, ◌+◌, ◌-◌, ◌%◌, ◌<◌, ◌≤◌, Bool, cond, List, Option, Some, None, option_map, option_and_then, map, slice_index, length}
+use Rattle.std.specs.Prelude.{◌≡◌, ℕ, ◌+◌, ◌-◌, ◌%◌, ◌<◌, ◌≤◌, Bool, if◌then◌else◌, List, Option, Some, None, option_map, option_and_then, map, slice_index, length}
 use Rattle.std.specs.List.{find}
 use Rattle.lan_base.specs.declared.address.Mi.{Mi}
 use Rattle.peer_lists.specs.declared.sent_numbers.SentNumbers.{SentNumbers}
@@ -29,11 +29,11 @@ look_up m ps = find (λ p. same_mi (member p) m) ps
 -- what is kept of the last announcement that passes the test, where it is young
 abbrev pub words_of : ℕ → (Accepted → Bool) → List Accepted → Option Words
 words_of now test past =
-    option_and_then (λ a. cond (is_young now a.at) (Some (record {
+    option_and_then (λ a. if is_young now a.at then Some (record {
       told = a.told;
       left = (a.at + life_time) - now;
       displaced = is_displaced test past a;
-    })) None) (find test past)
+    }) else None) (find test past)
 
 -- what is kept of a member
 unfoldable pub remembered : Own → List Peering → Mi → Option Remembered

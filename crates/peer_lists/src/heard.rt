@@ -20,7 +20,7 @@ pub struct Heard {
 
 /// Why a heard announcement is dropped: the first of these that holds.
 #[derive(Clone, Copy, Debug, PartialEq, Eq)]
-pub enum DropReason {
+pub enum PeerRefusal {
     /// Its member identifier or its SCI is the hearer's own.
     Echo,
     /// The last accepted announcement of its member is younger than the life time and has the
@@ -40,7 +40,7 @@ pub enum Outcome {
     /// Accepted only.
     Unvouched,
     /// Dropped: it changes nothing.
-    Dropped(DropReason),
+    Dropped(PeerRefusal),
 }
 
 /// What is shown of a member with an accepted announcement younger than the life time.

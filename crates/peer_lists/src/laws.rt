@@ -77,7 +77,7 @@ pub fn law_sent_is_at_most_the_clock_and_one()
 {}
 
 /// No more members are known at once than are remembered.
-pub fn law_known_are_at_most_64()
+pub fn law_known_are_few()
     ensures places { PEERS ≡ most_peers }
     ensures known { (own : Own) (h : List Peering) → length (known own h) ≤ most_peers }
 {}

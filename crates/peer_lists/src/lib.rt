@@ -9,17 +9,15 @@ mod remembered;
 mod sent_numbers;
 mod table;
 
-pub use heard::{DropReason, Heard, Outcome, Row};
+pub use heard::{Heard, Outcome, PeerRefusal, Row};
 pub use laws::{
-    law_age_is_ticks, law_kept_is_last, law_known_are_at_most_64, law_known_is_ascending,
+    law_age_is_ticks, law_kept_is_last, law_known_are_few, law_known_is_ascending,
     law_known_is_live_potential_or_displaced, law_live_exactly_where_it_says, law_live_is_not_own,
     law_newer_came_later, law_no_two_live_share_an_sci, law_sent_is_at_most_the_clock_and_one,
     law_vouched_is,
 };
 pub use table::PeerTable;
 
-/// The most other members that are remembered at once.
+/// The most other members that are remembered at once, by `law_known_are_few` those of the
+/// definitions.
 pub const PEERS: usize = 64;
-
-#[cfg(test)]
-mod tests;

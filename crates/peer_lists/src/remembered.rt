@@ -5,10 +5,8 @@ ghost use Rattle.std.specs.Prelude.{◌≡◌};
 ghost use Rattle.peer_lists.specs.inside.RowChanges.{aged, displaced_under, fresh, aged_peer, displaced_peer, has_sci, renewed, introduced, shown};
 
 use crate::heard::{Heard, Row};
-use lan_base::{LIFE_TIME, Sci};
-
-/// The life time, where a countdown begins.
-const WHOLE_LIFE: u8 = LIFE_TIME as u8;
+use crate::sent_numbers::WHOLE_LIFE;
+use lan_base::Sci;
 
 /// An accepted announcement that is younger than the life time.
 #[derive(Clone, Copy, Debug)]

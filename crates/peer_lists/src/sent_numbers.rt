@@ -9,7 +9,7 @@ use lan_base::LIFE_TIME;
 const SENT: usize = LIFE_TIME as usize;
 
 /// The life time, where a countdown begins.
-const WHOLE_LIFE: u8 = LIFE_TIME as u8;
+pub const WHOLE_LIFE: u8 = LIFE_TIME as u8;
 
 /// The message numbers of a life, which rise by one and of which at most one is sent in a tick.
 #[derive(Clone, Copy, Debug)]

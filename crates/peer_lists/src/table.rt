@@ -11,7 +11,7 @@ ghost use Rattle.peer_lists.specs.inside.RowChanges.{reason_at, rows_heard};
 ghost use Rattle.peer_lists.specs.inside.Countdowns.{is_number_recent};
 
 use crate::PEERS;
-use crate::heard::{DropReason, Heard, Outcome, Row};
+use crate::heard::{Heard, Outcome, PeerRefusal, Row};
 use crate::places::{age, displace, place_of, remember, show_after_tick, shown_at};
 use crate::remembered::Remembered;
 use crate::sent_numbers::SentNumbers;
@@ -31,7 +31,7 @@ pub struct PeerTable {
 
 impl Model for PeerTable {
     ghost use Rattle.std.specs.Prelude.{◌≤◌, length, vec_capacity};
-    ghost use Rattle.peer_lists.specs.Acceptance.{Own};
+    ghost use Rattle.peer_lists.specs.Acceptance.{Own, most_peers};
     ghost use Rattle.peer_lists.specs.Table.{Table};
 
     ghost Value = { Table };
@@ -42,7 +42,8 @@ impl Model for PeerTable {
       sent = t.sent;
     } };
 
-    ghost invariant = { λ t. (length t.rows.items ≤ 64) × (64 ≤ vec_capacity t.rows) };
+    ghost invariant = { λ t. (length t.rows.items ≤ most_peers)
+        × (most_peers ≤ vec_capacity t.rows) };
 }
 
 impl PeerTable {
@@ -143,20 +144,20 @@ impl PeerTable {
     }
 
     /// The reason to drop what is heard, given the place of its member's row.
-    fn refusal(&self, heard: &Heard, place: Result<usize, usize>) -> Option<DropReason>
+    fn refusal(&self, heard: &Heard, place: Result<usize, usize>) -> Option<PeerRefusal>
         requires { IsSearchInRange place (length self.now.rows) }
         ensures { result ≡ option_or (echo self.now.own heard.now)
             (reason_at place self.now.rows heard.now) }
     {
         if heard.mi == self.mi || heard.sci == self.sci {
-            return Some(DropReason::Echo);
+            return Some(PeerRefusal::Echo);
         }
         match place {
             Ok(at) => {
                 let kept = self.rows[at].last.told.mn;
-                (heard.mn <= kept).then_some(DropReason::OldNumber { kept })
+                (heard.mn <= kept).then_some(PeerRefusal::OldNumber { kept })
             }
-            Err(_) => (self.rows.len() >= PEERS).then_some(DropReason::PeersFull),
+            Err(_) => (self.rows.len() >= PEERS).then_some(PeerRefusal::PeersFull),
         }
     }
 

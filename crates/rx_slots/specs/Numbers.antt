@@ -1,6 +1,8 @@
 -- Which numbers were accepted, and so which are late.
-use Rattle.std.specs.Prelude.{ℕ, ◌+◌, ◌-◌, ◌^◌, ◌==◌, Bool, not, ◌&&◌, ◌||◌, nat_lt, max, min, if◌then◌else◌, List, [], ◌∷◌, map}
+use Rattle.std.specs.Prelude.{⊤, ℕ, ◌+◌, ◌-◌, ◌^◌, ◌==◌, Bool, not, ◌&&◌, ◌||◌, nat_lt, max, min, if◌then◌else◌, List, [], ◌∷◌, map}
 use Rattle.std.specs.List.{filter}
+use Rattle.lan_base.specs.declared.association_number.AssociationNumber.{AssociationNumber}
+use Rattle.lan_base.specs.AssociationNumbers.{same_an}
 use Rattle.lan_base.specs.declared.address.Sci.{Sci}
 use Rattle.rx_slots.specs.declared.arrival.Checked.{Checked}
 use Rattle.rx_slots.specs.declared.arrival.Checked.TheVariants as checked_is
@@ -12,14 +14,14 @@ use Rattle.rx_slots.specs.Answers.{checked}
 
 -- a packet number that was accepted: under which association number, and of which sender
 pub record Taken : Type 0 where
-  pub an : ℕ
+  pub an : AssociationNumber
   pub sci : Sci
   pub pn : ℕ
 
-abbrev pub is_under : ℕ → Taken → Bool
-is_under an t = t.an == an
+abbrev pub is_under : AssociationNumber → Taken → Bool
+is_under an t = same_an t.an an
 
-abbrev pub is_of : ℕ → Sci → Taken → Bool
+abbrev pub is_of : AssociationNumber → Sci → Taken → Bool
 is_of an sci t = is_under an t && same_sci t.sci sci
 
 -- the greatest of the numbers and 1
@@ -29,7 +31,7 @@ greatest (n ∷ ns) = max n (greatest ns)
 
 -- the next number of a sender under an association number: one more than the greatest that was
 -- accepted, 1 where none was
-abbrev pub next_number : List Taken → ℕ → Sci → ℕ
+abbrev pub next_number : List Taken → AssociationNumber → Sci → ℕ
 next_number past an sci = greatest (map (λ t. t.pn + 1) (filter (is_of an sci) past))
 
 -- Late: the number is 0, or is below the next one by more than the window.
@@ -74,7 +76,7 @@ answer own window h frame =
 
 -- the frame is accepted
 abbrev pub IsAccepted : Arrival → Type 0
-IsAccepted (Accepted pn body) = Unit {0}
+IsAccepted (Accepted pn body) = ⊤
 IsAccepted (Malformed refusal) = ⊥
 IsAccepted Own = ⊥
 IsAccepted (Missed an) = ⊥
@@ -83,7 +85,7 @@ IsAccepted (Late next) = ⊥
 
 -- The lowest acceptable packet number under an association number: the greatest of 1 and of one
 -- more than each accepted number less the window, and no more than the last number
-abbrev pub lowest : ℕ → List Taken → ℕ → ℕ
+abbrev pub lowest : ℕ → List Taken → AssociationNumber → ℕ
 lowest window past an =
     min (greatest (map (λ t. (t.pn + 1) - window) (filter (is_under an) past))) (2 ^ 32 - 1)
 

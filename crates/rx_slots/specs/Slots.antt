@@ -5,6 +5,8 @@ use Rattle.std.specs.BTreeMap.{is_at}
 use Rattle.std.specs.Ordering.{nat_cmp}
 use Rattle.std.specs.Cmp.Lexicographic.{slice_cmp}
 use Rattle.std.specs.declared.cmp.Ordering.{Ordering}
+use Rattle.lan_base.specs.declared.association_number.AssociationNumber.{AssociationNumber}
+use Rattle.lan_base.specs.AssociationNumbers.{number_of}
 use Rattle.lan_base.specs.declared.address.Sci.{Sci}
 
 -- what stands under an association number: the octets of the key, next numbers by sender, and the
@@ -14,7 +16,7 @@ pub record Standing : Type 0 where
   pub numbers : List (Sci × ℕ)
   pub greatest : ℕ
 
--- the station's own SCI, its window, and what stands under each association number
+-- the station's own SCI, its window, and what stands under each association number, in their order
 pub record Slots : Type 0 where
   pub own : Sci
   pub window : ℕ
@@ -29,10 +31,10 @@ abbrev pub number_in : List (Sci × ℕ) → Sci → ℕ
 number_in numbers sci = unwrap_or (lookup (is_at (order sci)) numbers) 1
 
 -- what stands under an association number
-abbrev pub slot_at : Slots → ℕ → Option Standing
-slot_at s an = slice_index_or s.slots an None
+abbrev pub slot_at : Slots → AssociationNumber → Option Standing
+slot_at s an = slice_index_or s.slots (number_of an) None
 
-abbrev pub key_at : Slots → ℕ → Option (List ℕ)
+abbrev pub key_at : Slots → AssociationNumber → Option (List ℕ)
 key_at s an = option_map (λ slot. slot.key) (slot_at s an)
 
 abbrev pub next_of : Option Standing → Sci → ℕ

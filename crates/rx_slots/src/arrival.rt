@@ -1,7 +1,7 @@
 //! What a data frame comes to.
 
 use gcm_frames::TagRefusal;
-use lan_base::{Octets, Sci};
+use lan_base::{AssociationNumber, Octets, Sci};
 
 /// The answer to a data frame: the first of these that applies, `Accepted` where no other does.
 #[derive(Debug, Drop)]
@@ -13,7 +13,7 @@ pub enum Arrival {
     /// The station itself is the sender.
     Own,
     /// No key stands under the frame's association number.
-    Missed { an: u8 },
+    Missed { an: AssociationNumber },
     /// The tag is not that of the frame under the key.
     BadCheck,
     /// The packet number is 0, or is below the sender's next one by more than the window.
@@ -29,7 +29,7 @@ pub enum Checked {
     Own,
     /// No key stands under the frame's association number.
     Missed {
-        an: u8,
+        an: AssociationNumber,
     },
     /// The tag is not that of the frame under the key.
     BadCheck,
@@ -37,7 +37,7 @@ pub enum Checked {
     /// in plain.
     Sealed {
         sci: Sci,
-        an: u8,
+        an: AssociationNumber,
         pn: u32,
         body: Octets,
     },

@@ -2,6 +2,7 @@
 
 ghost use Rattle.std.specs.Prelude.{◌≡◌, ◌≤◌, ◌⊎◌, ◌∷◌, ◌++◌, List, ℕ, Ok};
 ghost use Rattle.lan_base.specs.declared.address.Sci.{Sci};
+ghost use Rattle.lan_base.specs.declared.association_number.AssociationNumber.{AssociationNumber};
 ghost use Rattle.gcm_frames.specs.declared.tag.Tag.{Tag};
 ghost use Rattle.gcm_frames.specs.Tags.{tag_fields};
 ghost use Rattle.rx_slots.specs.declared.arrival.Arrival.TheVariants.{Accepted, Late};
@@ -19,12 +20,12 @@ pub fn law_nothing_is_accepted_twice()
 
 /// The lowest acceptable packet number is no less than that of any sender.
 pub fn law_lowest_is_no_less_than_a_senders()
-    ensures { (window an : ℕ) (past : List Taken) (sci : Sci)
+    ensures { (window : ℕ) (an : AssociationNumber) (past : List Taken) (sci : Sci)
         → lowest_for window (next_number past an sci) ≤ lowest window past an }
 {}
 
 /// It is that of some sender, or 1.
 pub fn law_lowest_is_a_senders()
-    ensures { (window an : ℕ) (past : List Taken) → (lowest window past an ≡ 1)
-        ⊎ ((sci : Sci) × (lowest window past an ≡ lowest_for window (next_number past an sci))) }
+    ensures { (window : ℕ) (an : AssociationNumber) (past : List Taken)
+        → (lowest window past an ≡ 1) ⊎ ((sci : Sci) × (lowest window past an ≡ lowest_for window (next_number past an sci))) }
 {}

@@ -12,6 +12,3 @@ pub use laws::{
     law_lowest_is_a_senders, law_lowest_is_no_less_than_a_senders, law_nothing_is_accepted_twice,
 };
 pub use slots::RxSlots;
-
-#[cfg(test)]
-mod tests;

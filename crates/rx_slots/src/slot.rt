@@ -4,17 +4,17 @@ ghost use Rattle.std.specs.Prelude.{◌≡◌, ◌+◌, ◌<◌, [], max, OnOk, 
 ghost use Rattle.rx_slots.specs.Slots.{Standing, number_in};
 ghost use Rattle.rx_slots.specs.inside.Admitting.{number_after};
 
-use aes_block::Key;
+use gcm_core::GcmKey;
 use lan_base::Sci;
 use std::alloc::{AllocError, Global};
 use std::collections::BTreeMap;
 use std::marker::Model;
 
-/// A key, the next packet number of each sender that was accepted under it, and the greatest of
+/// A prepared key, the next packet number of each sender that was accepted under it, and the greatest of
 /// these.
 #[derive(Drop)]
 pub struct Slot {
-    key: Key,
+    key: GcmKey,
     numbers: BTreeMap<Sci, u64>,
     greatest: u64,
 }
@@ -35,7 +35,7 @@ impl Slot {
     ghost use Rattle.lan_base.specs.declared.address.Sci.{Sci};
 
     /// A key under which nothing was accepted yet. No memory is taken.
-    pub fn new(alloc: Global, key: Key) -> Slot
+    pub fn new(alloc: Global, key: GcmKey) -> Slot
         ensures { result ≡ record { key = key; numbers = []; greatest = 1 } }
     {
         Slot {
@@ -46,7 +46,7 @@ impl Slot {
     }
 
     /// The key of the association number.
-    pub fn key(&self) -> &Key
+    pub fn key(&self) -> &GcmKey
         ensures { result.now ≡ self.now.key }
     {
         &self.key

@@ -1,7 +1,10 @@
 //! The receive slots of a station, one for each association number.
 
-ghost use Rattle.std.specs.Prelude.{◌≡◌, ◌<◌, ◌≤◌, ◌+◌, ◌==◌, ◌∷◌, [], List, ℕ, length, option_map, Ok, IsSome, IsOk, IfOk, OnOk, OnErr, if◌then◌else◌};
+ghost use Rattle.std.specs.Prelude.{◌≡◌, ◌<◌, ◌≤◌, ◌+◌, ◌∷◌, [], List, ℕ, length, option_map, Ok, IsSome, IsOk, IfOk, OnOk, OnErr, if◌then◌else◌};
 ghost use Rattle.lan_base.specs.declared.address.Sci.{Sci};
+ghost use Rattle.lan_base.specs.declared.association_number.AssociationNumber.{AssociationNumber};
+ghost use Rattle.lan_base.specs.AssociationNumbers.{same_an};
+ghost use Rattle.lan_base.specs.Ranges.{most_frame_octets};
 ghost use Rattle.rx_slots.specs.declared.arrival.Checked.{Checked};
 ghost use Rattle.rx_slots.specs.Histories.{Receiving, installed, removed, heard, standing_key};
 ghost use Rattle.rx_slots.specs.Answers.{IsPrompt, checked as checked_answer, checked_data};
@@ -15,8 +18,9 @@ ghost use Rattle.rx_slots.specs.inside.Admitting.{After, Takes, arrival_at};
 use crate::arrival::{Arrival, Checked};
 use crate::slot::Slot;
 use aes_block::{Key, Secret};
+use gcm_core::GcmKey;
 use gcm_frames::{Tag, tag_of, validate};
-use lan_base::{Octets, Sci};
+use lan_base::{AssociationNumber, Octets, Sci};
 use std::alloc::{AllocError, Global};
 use std::marker::Model;
 
@@ -52,19 +56,17 @@ impl RxSlots {
     }
 
     /// Installs a key under an association number, in place of what stood there. The key is
-    /// expanded here, once. No memory is taken.
-    pub fn install(&mut self, an: u8, sak: &Secret)
-        requires { an < 4 }
+    /// prepared here, once. No memory is taken.
+    pub fn install(&mut self, an: AssociationNumber, sak: &Secret)
         ensures { (own : Sci) (window : ℕ) (h : List Receiving) → StandsFor own window self.old h →
             StandsFor own window self.new (installed an sak.now ∷ h) }
     {
-        let slot = Slot::new(self.alloc, Key::of(sak));
+        let slot = Slot::new(self.alloc, GcmKey::of(Key::of(sak)));
         self.set(an, Some(slot));
     }
 
     /// Removes what stands under an association number.
-    pub fn remove(&mut self, an: u8)
-        requires { an < 4 }
+    pub fn remove(&mut self, an: AssociationNumber)
         ensures { (own : Sci) (window : ℕ) (h : List Receiving) → StandsFor own window self.old h →
             StandsFor own window self.new (removed an ∷ h) }
     {
@@ -72,19 +74,18 @@ impl RxSlots {
     }
 
     /// Puts a slot, or none, in the place of what stands under an association number.
-    fn set(&mut self, an: u8, slot: Option<Slot>)
-        requires { an < 4 }
+    fn set(&mut self, an: AssociationNumber, slot: Option<Slot>)
         ensures owner { self.new.own ≡ self.old.own }
         ensures width { self.new.window ≡ self.old.window }
-        ensures slots { (n : ℕ) → slot_at self.new n
-            ≡ (if n == an then slot else slot_at self.old n) }
+        ensures slots { (n : AssociationNumber) → slot_at self.new n
+            ≡ (if same_an n an then slot else slot_at self.old n) }
     {
-        self.slots[an as usize] = slot;
+        self.slots[usize::from(an.number())] = slot;
     }
 
-    /// Answers a heard frame of at most 65,536 octets. An error leaves the slots as they were.
+    /// Answers a heard frame, which is no longer than a frame may be. An error leaves the slots as they were.
     pub fn receive(&mut self, frame: &[u8]) -> Result<Arrival, AllocError>
-        requires { length frame.now ≤ 65536 }
+        requires { length frame.now ≤ most_frame_octets }
         ensures answer { (own : Sci) (window : ℕ) (h : List Receiving)
             → StandsFor own window self.old h →
             IfOk result (λ arrival. arrival ≡ answer own window h frame.now) }
@@ -100,9 +101,9 @@ impl RxSlots {
         self.admit(checked)
     }
 
-    /// Answers a frame of at most 65,536 octets as far as its tag.
+    /// Answers a frame, which is no longer than a frame may be, as far as its tag.
     pub fn check(&self, frame: &[u8]) -> Result<Checked, AllocError>
-        requires { length frame.now ≤ 65536 }
+        requires { length frame.now ≤ most_frame_octets }
         ensures answer { (own : Sci) (window : ℕ) (h : List Receiving)
             → StandsFor own window self.now h →
             IfOk result (λ checked. checked ≡ checked_answer own (standing_key h) frame.now) }
@@ -117,7 +118,7 @@ impl RxSlots {
         if tag.sci == self.own {
             return Ok(Checked::Own);
         }
-        match &self.slots[tag.an as usize] {
+        match &self.slots[usize::from(tag.an.number())] {
             None => Ok(Checked::Missed { an: tag.an }),
             Some(slot) => opened(self.alloc, slot.key(), &tag, frame),
         }
@@ -151,7 +152,7 @@ impl RxSlots {
     fn admit_number(
         &mut self,
         sci: Sci,
-        an: u8,
+        an: AssociationNumber,
         pn: u32,
         body: Octets,
     ) -> Result<Arrival, AllocError>
@@ -171,14 +172,13 @@ impl RxSlots {
     }
 
     /// The next packet number of a sender under the key that stands under an association number.
-    fn next(&self, an: u8, sci: &Sci) -> Option<u64>
-        ensures number { result
+    fn next(&self, an: AssociationNumber, sci: &Sci) -> Option<u64>
+        ensures { result
             ≡ option_map (λ slot. number_in slot.numbers sci.now) (slot_at self.now an) }
-        ensures there { IsSome result → an < 4 }
     {
-        match self.slots.get(an as usize) {
-            Some(Some(slot)) => Some(slot.next(sci)),
-            _ => None,
+        match &self.slots[usize::from(an.number())] {
+            Some(slot) => Some(slot.next(sci)),
+            None => None,
         }
     }
 
@@ -190,21 +190,19 @@ impl RxSlots {
     }
 
     /// A packet number of a sender was accepted. An error leaves the slots as they were.
-    fn take(&mut self, sci: Sci, an: u8, pn: u32) -> Result<(), AllocError>
-        requires an { an < 4 }
-        requires stands { IsSome (slot_at self.old an) }
+    fn take(&mut self, sci: Sci, an: AssociationNumber, pn: u32) -> Result<(), AllocError>
+        requires { IsSome (slot_at self.old an) }
         ensures taken { OnOk result (Takes self.old self.new sci an pn) }
         ensures unchanged { OnErr result (self.new ≡ self.old) }
     {
-        let Some(slot) = &mut self.slots[an as usize] else {
+        let Some(slot) = &mut self.slots[usize::from(an.number())] else {
             return Ok(());
         };
         slot.take(sci, pn)
     }
 
     /// The lowest acceptable packet number under an association number.
-    pub fn lowest(&self, an: u8) -> u32
-        requires { an < 4 }
+    pub fn lowest(&self, an: AssociationNumber) -> u32
         ensures { (own : Sci) (window : ℕ) (h : List Receiving) → StandsFor own window self.now h →
             result ≡ lowest_number window (accepted own window h) an }
     {
@@ -215,20 +213,20 @@ impl RxSlots {
     }
 
     /// The greatest next packet number under an association number, 1 where no key stands.
-    fn greatest(&self, an: u8) -> u64
+    fn greatest(&self, an: AssociationNumber) -> u64
         ensures { result ≡ greatest_of (slot_at self.now an) }
     {
-        match self.slots.get(an as usize) {
-            Some(Some(slot)) => slot.greatest(),
-            _ => 1,
+        match &self.slots[usize::from(an.number())] {
+            Some(slot) => slot.greatest(),
+            None => 1,
         }
     }
 }
 
 /// Answers a frame by its tag under a key.
-fn opened(alloc: Global, key: &Key, tag: &Tag, frame: &[u8]) -> Result<Checked, AllocError>
+fn opened(alloc: Global, key: &GcmKey, tag: &Tag, frame: &[u8]) -> Result<Checked, AllocError>
     requires tag { tag_fields frame.now ≡ Ok tag.now }
-    requires length { length frame.now ≤ 65536 }
+    requires length { length frame.now ≤ most_frame_octets }
     requires within { tag.now.start + tag.now.len + 16 ≤ length frame.now }
     ensures { IfOk result (λ checked. checked
         ≡ checked_data tag.now (opened_data key.now tag.now frame.now)) }

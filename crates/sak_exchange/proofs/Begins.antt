@@ -4,14 +4,15 @@ use Rattle.std.proofs.lemmas.Bool.{eq-eqb, and_parts}
 use Rattle.std.specs.Prelude.{◌==◌}
 use Rattle.std.specs.Option.{option_map, option_map_or, option_and_then}
 use Rattle.lan_base.specs.declared.address.Mi.{Mi}
+use Rattle.lan_base.specs.declared.key_id.KeyId.{KeyId}
 use Rattle.lan_base.specs.Timers.{life_time}
 use Rattle.mkpdu_codec.specs.declared.key_use.Uses.{Uses}
 use Rattle.sak_exchange.specs.declared.change.Cause.{Cause}
 use Rattle.sak_exchange.specs.declared.change.Cause.TheVariants.{Flag}
-use Rattle.sak_exchange.specs.declared.held_key.HeldKey.{HeldKey}
 use Rattle.sak_exchange.specs.declared.latest.Latest.{Latest}
 use Rattle.sak_exchange.specs.declared.report.Report.{Report}
-use Rattle.sak_exchange.specs.Histories.{Key, Keying, began, clock, last_roster, last_made_at, has_begun}
+use Rattle.sak_exchange.specs.declared.held_key.Key.{Key}
+use Rattle.sak_exchange.specs.Histories.{Keying, began, clock, last_roster, last_made_at, has_begun}
 use Rattle.sak_exchange.specs.Held.{latest, old, held, shown}
 use Rattle.sak_exchange.specs.Reports.{transmits}
 use Rattle.sak_exchange.specs.Beginning.{Beginning, is_latest_made, lead_cause, leads, follows}
@@ -27,7 +28,7 @@ use Rattle.sak_exchange.proofs.Ticks.{made-long-ago}
 abbrev pub told : List Keying → Beginning → Latest × Cause
 told h b = (kept_of false h b.key, b.cause)
 
-cause-told : (base : ℕ) (own : Mi) (s : State) (h : List Keying) (live : List Report) (k : Key) → StandsFor base own false s h → lead_cause_now s live (held h k) ≡ lead_cause h live k
+cause-told : (base : ℕ) (own : Mi) (s : State) (h : List Keying) (live : List Report) (k : Key) → StandsFor base own false s h → lead_cause_now s live k.id ≡ lead_cause h live k
 cause-told base own s h live k t =
     let ago = ap (λ (o : Option ℕ). option_map_or (nat_le life_time) o false) t.since_made ∙ made-long-ago (clock h) (last_made_at h) in rw ago refl
 
@@ -37,9 +38,9 @@ mapped h true None k = refl
 mapped h true (Some c) k = refl
 mapped h false o k = refl
 
-leads-is : (h : List Keying) (live : List Report) (roster : Option (List Mi)) (cause : HeldKey → Option Cause) (made : Bool) (o : Option Key)
-    → ((k : Key) → o ≡ Some k → cause (held h k) ≡ lead_cause h live k) → ((k : Key) → o ≡ Some k → is_some roster ≡ made)
-    → option_and_then (λ (l : Latest). cond (is_some roster && not l.key.begun) (option_map (λ c. (l, c)) (cause l.key)) None) (option_map (kept_of false h) o)
+leads-is : (h : List Keying) (live : List Report) (roster : Option (List Mi)) (cause : KeyId → Option Cause) (made : Bool) (o : Option Key)
+    → ((k : Key) → o ≡ Some k → cause k.id ≡ lead_cause h live k) → ((k : Key) → o ≡ Some k → is_some roster ≡ made)
+    → option_and_then (λ (l : Latest). cond (is_some roster && not l.held.begun) (option_map (λ c. (l, c)) (cause l.held.key.id)) None) (option_map (kept_of false h) o)
     ≡ option_map (told h) (option_and_then (λ k. cond (made && not (has_begun h k.epoch)) (option_map (λ c. record { key = k; cause = c }) (lead_cause h live k)) None) o)
 leads-is h live roster cause made None same by = refl
 leads-is h live roster cause made (Some k) same by = rw (same k refl, by k refl) (mapped h (made && not (has_begun h k.epoch)) (lead_cause h live k) k)
@@ -57,7 +58,7 @@ followed h true k = refl
 followed h false k = refl
 
 follows-is : (h : List Keying) (u : Uses) (o : Option Key)
-    → option_and_then (λ (l : Latest). cond (not l.key.begun && transmits l.key.id u) (Some (l, Flag)) None) (option_map (kept_of false h) o)
+    → option_and_then (λ (l : Latest). cond (not l.held.begun && transmits l.held.key.id u) (Some (l, Flag)) None) (option_map (kept_of false h) o)
     ≡ option_map (told h) (option_and_then (λ k. cond (not (has_begun h k.epoch) && transmits k.id u) (Some (record { key = k; cause = Flag })) None) o)
 follows-is h u None = refl
 follows-is h u (Some k) = followed h (not (has_begun h k.epoch) && transmits k.id u) k
@@ -103,11 +104,11 @@ pub changes-begun : (h : List Keying) (o : Option Beginning) → beginning_chang
 changes-begun h None = refl
 changes-begun h (Some b) = refl
 
-kept-begun : (h : List Keying) (k : Key) → (let l : Latest = record { key = shown true k; since_begun = 0 } in l) ≡ kept_of false (began k.epoch ∷ h) k
+kept-begun : (h : List Keying) (k : Key) → (let l : Latest = record { held = shown true k; since_begun = 0 } in l) ≡ kept_of false (began k.epoch ∷ h) k
 kept-begun h k =
     let this : (k.epoch == k.epoch) ≡ true = eq-eqb k.epoch k.epoch refl in
     let zero_ticks : 0 ≡ min (clock h - clock h) most_ticks = omega arith in
-    rw this (ap (λ (n : ℕ). let l : Latest = record { key = shown true k; since_begun = n } in l) zero_ticks)
+    rw this (ap (λ (n : ℕ). let l : Latest = record { held = shown true k; since_begun = n } in l) zero_ticks)
 
 -- a key that had begun is held as it was
 held-begun : (h : List Keying) (e : ℕ) (o : Key) → has_begun h o.epoch ≡ true → held h o ≡ held (began e ∷ h) o
@@ -118,7 +119,7 @@ old-held h e None begun = refl
 old-held h e (Some k) begun = ap Some (held-begun h e k (begun k refl))
 
 stands-begun : (base : ℕ) (own : Mi) (s : State) (h : List Keying) (k : Key) → latest h ≡ Some k → has_begun h k.epoch ≡ false → StandsFor base own false s h
-    → StandsFor base own false (record s { latest = Some (let l : Latest = record { key = shown true k; since_begun = 0 } in l) }) (began k.epoch ∷ h)
+    → StandsFor base own false (record s { latest = Some (let l : Latest = record { held = shown true k; since_begun = 0 } in l) }) (began k.epoch ∷ h)
 stands-begun base own s h k is unbegun t =
     let keys = keys-began base h k.epoch t.kept in
     let this : (k.epoch == k.epoch) ≡ true = eq-eqb k.epoch k.epoch refl in

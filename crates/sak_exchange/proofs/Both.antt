@@ -1,6 +1,7 @@
 -- What is received, as the latest key and the old one.
 use Rattle.std.proofs.Common.{◌≡◌, ℕ, ◌≤◌, List, [], ◌∷◌, Some, length, subst, arith}
-use Rattle.sak_exchange.specs.Histories.{Key, Keying, last_key}
+use Rattle.sak_exchange.specs.declared.held_key.Key.{Key}
+use Rattle.sak_exchange.specs.Histories.{Keying, last_key}
 use Rattle.sak_exchange.specs.Held.{received, latest, old, Kept}
 use Rattle.sak_exchange.specs.Lives.{both}
 use Rattle.sak_exchange.proofs.Shape.{IsBeside, none, one, two, shape, latest-none, latest-one, latest-two}

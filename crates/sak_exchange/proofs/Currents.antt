@@ -3,7 +3,8 @@ use Rattle.std.proofs.Common.{◌≡◌, ℕ, Bool, true, false, cond, not, ◌&
 use Rattle.std.specs.Option.{option_map, option_map_or}
 use Rattle.lan_base.specs.declared.address.Mi.{Mi}
 use Rattle.sak_exchange.specs.declared.latest.Latest.{Latest}
-use Rattle.sak_exchange.specs.Histories.{Key, Keying, has_begun}
+use Rattle.sak_exchange.specs.declared.held_key.Key.{Key}
+use Rattle.sak_exchange.specs.Histories.{Keying, has_begun}
 use Rattle.sak_exchange.specs.Held.{latest, old, is_latest, allows, held}
 use Rattle.sak_exchange.specs.Standing.{State, StandsFor, kept_of}
 use Rattle.sak_exchange.specs.inside.States.{is_latest_now, transmitting_now, allows_now}
@@ -23,7 +24,7 @@ some-held h (Some k) = refl
 
 pub allows-told : (base : ℕ) (own : Mi) (s : State) (h : List Keying) → StandsFor base own false s h → allows_now s ≡ allows h
 allows-told base own s h t =
-    let first = latest-told base own false s h (λ l. l.key.begun) (λ k. has_begun h k.epoch) t (λ k. refl) in
+    let first = latest-told base own false s h (λ l. l.held.begun) (λ k. has_begun h k.epoch) t (λ k. refl) in
     let second = ap is_some t.former ∙ some-held h (old h) in
     ap (λ (b : Bool). not (b && is_some s.former)) first ∙ ap (λ (b : Bool). not (is_latest h (λ k. has_begun h k.epoch) && b)) second
 
@@ -32,7 +33,7 @@ begun-or-old h true k o = refl
 begun-or-old h false k o = refl
 
 current-is : (pending : Bool) (h : List Keying) (l o : Option Key)
-    → elim (option_map (kept_of pending h) l) [ None ↦ option_map (held h) o | Some x ↦ cond x.key.begun (Some x.key) (option_map (held h) o) ] ≡ option_map (held h) (cond (option_map_or (λ k. has_begun h k.epoch) l false) l o)
+    → elim (option_map (kept_of pending h) l) [ None ↦ option_map (held h) o | Some x ↦ cond x.held.begun (Some x.held) (option_map (held h) o) ] ≡ option_map (held h) (cond (option_map_or (λ k. has_begun h k.epoch) l false) l o)
 current-is pending h None o = refl
 current-is pending h (Some k) o = begun-or-old h (has_begun h k.epoch) k o
 

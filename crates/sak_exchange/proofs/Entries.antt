@@ -4,7 +4,9 @@ use Rattle.std.proofs.lemmas.Bool.{eqb-true, eq-eqb, lt-ltb, ltb-true, ltb-false
 use Rattle.std.specs.Prelude.{nat_lt, ◌==◌}
 use Rattle.std.specs.List.{list_any, find}
 use Rattle.lan_base.specs.declared.address.Mi.{Mi}
-use Rattle.sak_exchange.specs.Histories.{Key, Keying, ticked, installed, began, clock, installs, last_key, begun_at, has_begun, last_begun}
+use Rattle.lan_base.specs.AssociationNumbers.{same_an}
+use Rattle.sak_exchange.specs.declared.held_key.Key.{Key}
+use Rattle.sak_exchange.specs.Histories.{Keying, ticked, installed, began, clock, installs, last_key, begun_at, has_begun, last_begun}
 use Rattle.sak_exchange.specs.Held.{is_retire_time_ago, ends, received, has_epoch, latest, old, transmitting, is_latest, Kept}
 use Rattle.sak_exchange.specs.Beginning.{retired}
 use Rattle.sak_exchange.specs.Lives.{apart}
@@ -93,7 +95,7 @@ keys-installed base h r k kept =
           let next = kept.0 in
           let whole = received-next x h (l ∷ []) is in
           rw (keys.0, keys.1) (by_test (has_begun h l.epoch)
-          (λ t. by_test (k.an == l.an)
+          (λ t. by_test (same_an k.an l.an)
           (λ s. rw (t, s) (one-are (x ∷ h) k (whole ∙ ap (λ ks. k ∷ ks) (keeps-none x h l (rw s refl))) refl))
           (λ s. rw (t, s) (two-are (x ∷ h) k l (whole ∙ ap (λ ks. k ∷ ks) (keeps-one x h l (rw (s, t) refl))) refl (omega arith))))
           (λ t. rw t (one-are (x ∷ h) k (whole ∙ ap (λ ks. k ∷ ks) (keeps-none x h l (ends-unbegun r k h l t))) refl)))
@@ -104,7 +106,7 @@ keys-installed base h r k kept =
           let unbegun = unbegun-of h l o keys.0 keys.1 (rw (keys.0, keys.1) at kept.1) in
           let gone = ends-unbegun r k h l unbegun in
           let whole = received-next x h (l ∷ o ∷ []) is in
-          rw (keys.0, keys.1, unbegun) (by_test (k.an == o.an)
+          rw (keys.0, keys.1, unbegun) (by_test (same_an k.an o.an)
           (λ s. rw s (one-are (x ∷ h) k (whole ∙ ap (λ ks. k ∷ ks) (keeps-neither x h l o gone (rw s refl))) refl))
           (λ s. rw s (two-are (x ∷ h) k o (whole ∙ ap (λ ks. k ∷ ks) (keeps-second x h l o gone (rw (s, b.started) refl))) refl (omega arith))))
     ]

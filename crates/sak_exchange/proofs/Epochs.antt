@@ -3,7 +3,8 @@ use Rattle.std.proofs.Common.{◌≡◌, ℕ, ◌+◌, ◌≤◌, Bool, true, fa
 use Rattle.std.proofs.lemmas.Bool.{eqb-true, le-ltb, and_parts}
 use Rattle.std.specs.Prelude.{nat_lt, ◌==◌}
 use Rattle.std.specs.List.{list_any, find}
-use Rattle.sak_exchange.specs.Histories.{Key, Keying, ticked, installed, began, installs, last_key, install_count, has_begun}
+use Rattle.sak_exchange.specs.declared.held_key.Key.{Key}
+use Rattle.sak_exchange.specs.Histories.{Keying, ticked, installed, began, installs, last_key, install_count, has_begun}
 use Rattle.sak_exchange.specs.Held.{received, latest, has_epoch, may_begin, Kept}
 use Rattle.sak_exchange.proofs.Cases.{by_test, by_option, not-true}
 

@@ -4,7 +4,11 @@ use Rattle.std.specs.Prelude.{Ok, Err}
 use Rattle.std.specs.Option.{option_map}
 use Rattle.aes_block.specs.declared.secret.Secret.TheVariants.{S128, S256}
 use Rattle.lan_base.specs.declared.address.Mi.{Mi}
+use Rattle.lan_base.specs.declared.association_number.AssociationNumber.{AssociationNumber}
+use Rattle.lan_base.specs.declared.association_number.AssociationNumber.TheVariants.{An0, An1, An2, An3}
 use Rattle.lan_base.specs.declared.key_id.KeyId.{KeyId}
+use Rattle.mkpdu_codec.specs.declared.offset.ConfidentialityOffset.{ConfidentialityOffset}
+use Rattle.mkpdu_codec.specs.declared.offset.ConfidentialityOffset.TheVariants as offsets
 use Rattle.mkpdu_codec.specs.declared.given.Given.{Given}
 use Rattle.mkpdu_codec.specs.declared.given.Given.TheVariants.{Aes128, Aes256, Other}
 use Rattle.mkpdu_codec.specs.declared.key_use.KeyUse.{KeyUse}
@@ -14,7 +18,8 @@ use Rattle.sak_exchange.specs.declared.change.Why.TheVariants.{NotListed, NotSer
 use Rattle.sak_exchange.specs.declared.due.Seen as numbers
 use Rattle.sak_exchange.specs.declared.offer.Offer.{Offer}
 use Rattle.sak_exchange.specs.declared.report.Report.{Report}
-use Rattle.sak_exchange.specs.Histories.{Key, Keying, ticked, installed, began}
+use Rattle.sak_exchange.specs.declared.held_key.Key.{Key}
+use Rattle.sak_exchange.specs.Histories.{Keying, ticked, installed, began}
 use Rattle.sak_exchange.specs.Held.{received, latest, old, transmitting, allows, Kept, shown}
 use Rattle.sak_exchange.specs.Beginning.{leads, follows, retired}
 use Rattle.sak_exchange.specs.Making.{is_none_of_own, is_one_left_out, is_latest_spent, is_one_behind, makes, is_in_roster, next_an, made_key}
@@ -31,7 +36,7 @@ abbrev id : ℕ → ℕ → KeyId
 id server number = record { server = mi server; number = number }
 
 -- the key of a server and a number, under an association number and an epoch
-abbrev key : ℕ → ℕ → ℕ → ℕ → Key
+abbrev key : ℕ → ℕ → AssociationNumber → ℕ → Key
 key server number an epoch = record { id = id server number; an = an; sak = S128 (replicate 16 number); conf = true; epoch = epoch }
 
 abbrev ticks : ℕ → List Keying → List Keying
@@ -45,11 +50,11 @@ abbrev number_in : Option Key → Option ℕ
 number_in o = option_map (λ k. k.id.number) o
 
 abbrev no_use : KeyUse
-no_use = record { server = mi 0; number = 0; an = 0; tx = false; rx = false; lowest = 0 }
+no_use = record { server = mi 0; number = 0; an = An0; tx = false; rx = false; lowest = 0 }
 
 -- the use of a key of member 1, with its flags for transmission and reception and its lowest acceptable number
 abbrev use_of : ℕ → Bool → Bool → ℕ → KeyUse
-use_of number tx rx lowest = record { server = mi 1; number = number; an = 0; tx = tx; rx = rx; lowest = lowest }
+use_of number tx rx lowest = record { server = mi 1; number = number; an = An0; tx = tx; rx = rx; lowest = lowest }
 
 -- a live member that says nothing of keys, or that uses a key as its latest one or as its old one
 abbrev silent : ℕ → Report
@@ -75,19 +80,19 @@ makes_the_first : makes before (silent 2 ∷ []) false (shows 0 1) 100 ≡ true
 unfolding received latest old
 makes_the_first = refl
 
-the_first : made_key 0 (mi 1) before true (S128 (replicate 16 1)) ≡ key 1 1 0 1
+the_first : made_key 0 (mi 1) before true (S128 (replicate 16 1)) ≡ key 1 1 An0 1
 unfolding received
 the_first = refl
 
 abbrev first : List Keying
-first = installed (Some (mi 1 ∷ mi 2 ∷ [])) (key 1 1 0 1) ∷ before
+first = installed (Some (mi 1 ∷ mi 2 ∷ [])) (key 1 1 An0 1) ∷ before
 
 waits_for_a_report : leads (ticks 1 first) (silent 2 ∷ []) ≡ None
 unfolding received latest
 waits_for_a_report = refl
 
 -- two ticks later all report it
-leads_with_all : leads (ticks 2 first) (with_latest 2 (use_of 1 false true 1) ∷ []) ≡ Some (record { key = key 1 1 0 1; cause = All })
+leads_with_all : leads (ticks 2 first) (with_latest 2 (use_of 1 false true 1) ∷ []) ≡ Some (record { key = key 1 1 An0 1; cause = All })
 unfolding received latest
 leads_with_all = refl
 
@@ -96,19 +101,19 @@ old_is_not_latest : leads (ticks 2 first) (with_old 2 (use_of 1 false true 1) �
 unfolding received latest
 old_is_not_latest = refl
 
-leads_after_the_life_time : (leads (ticks 59 first) (silent 2 ∷ []) ≡ None) × (leads (ticks 60 first) (silent 2 ∷ []) ≡ Some (record { key = key 1 1 0 1; cause = Timeout }))
+leads_after_the_life_time : (leads (ticks 59 first) (silent 2 ∷ []) ≡ None) × (leads (ticks 60 first) (silent 2 ∷ []) ≡ Some (record { key = key 1 1 An0 1; cause = Timeout }))
 unfolding received latest
 leads_after_the_life_time = (refl, refl)
 
 -- member 2 took it, and follows its server's flag
 abbrev taken_first : List Keying
-taken_first = installed None (key 1 1 0 1) ∷ before
+taken_first = installed None (key 1 1 An0 1) ∷ before
 
-follows_the_flag : follows (ticks 2 taken_first) (record { latest = use_of 1 true true 1; old = no_use }) ≡ Some (record { key = key 1 1 0 1; cause = Flag })
+follows_the_flag : follows (ticks 2 taken_first) (record { latest = use_of 1 true true 1; old = no_use }) ≡ Some (record { key = key 1 1 An0 1; cause = Flag })
 unfolding received latest
 follows_the_flag = refl
 
-follows_the_flag_of_an_old_one : follows (ticks 2 taken_first) (record { latest = no_use; old = use_of 1 true true 1 }) ≡ Some (record { key = key 1 1 0 1; cause = Flag })
+follows_the_flag_of_an_old_one : follows (ticks 2 taken_first) (record { latest = no_use; old = use_of 1 true true 1 }) ≡ Some (record { key = key 1 1 An0 1; cause = Flag })
 unfolding received latest
 follows_the_flag_of_an_old_one = refl
 
@@ -130,12 +135,12 @@ held_then = (refl, refl)
 -- member 3 is not in the roster
 joins : (makes begun (with_latest 2 (use_of 1 true true 1) ∷ []) false (shows 1 1) 100 ≡ false)
     × (makes begun (with_latest 2 (use_of 1 true true 1) ∷ silent 3 ∷ []) false (shows 1 1) 100 ≡ true)
-    × (made_key 0 (mi 1) begun true (S128 (replicate 16 2)) ≡ key 1 2 1 2)
+    × (made_key 0 (mi 1) begun true (S128 (replicate 16 2)) ≡ key 1 2 An1 2)
 unfolding received latest old
 joins = (refl, refl, refl)
 
 abbrev second : List Keying
-second = installed (Some (mi 1 ∷ mi 2 ∷ mi 3 ∷ [])) (key 1 2 1 2) ∷ begun
+second = installed (Some (mi 1 ∷ mi 2 ∷ mi 3 ∷ [])) (key 1 2 An1 2) ∷ begun
 
 -- both are received, and the old one transmits until the new one begins
 held_after_the_join : (numbers_in (received second) ≡ 2 ∷ 1 ∷ []) × (number_in (latest second) ≡ Some 2) × (number_in (old second) ≡ Some 1) × (number_in (transmitting second) ≡ Some 1)
@@ -164,26 +169,26 @@ keeps_the_rules = ((refl, (refl, refl, (refl, (refl, refl, tt)))), (refl, refl, 
 -- ---- installs
 
 -- a key that was installed over one that had not begun
-over_an_unbegun : (numbers_in (received (installed None (key 1 3 2 3) ∷ second)) ≡ 3 ∷ 1 ∷ [])
-    × ((installing second None (key 1 3 2 3)).changes ≡ Dropped (shown false (key 1 2 1 2)) ∷ Installed (shown false (key 1 3 2 3)) ∷ [])
+over_an_unbegun : (numbers_in (received (installed None (key 1 3 An2 3) ∷ second)) ≡ 3 ∷ 1 ∷ [])
+    × ((installing second None (key 1 3 An2 3)).changes ≡ Dropped (shown false (key 1 2 An1 2)) ∷ Installed (shown false (key 1 3 An2 3)) ∷ [])
 unfolding received
 over_an_unbegun = (refl, refl)
 
 -- a key under the association number of the one that transmits
-under_the_same_number : (numbers_in (received (installed None (key 1 2 0 2) ∷ begun)) ≡ 2 ∷ []) × (transmitting (installed None (key 1 2 0 2) ∷ begun) ≡ None)
+under_the_same_number : (numbers_in (received (installed None (key 1 2 An0 2) ∷ begun)) ≡ 2 ∷ []) × (transmitting (installed None (key 1 2 An0 2) ∷ begun) ≡ None)
 unfolding received transmitting
 under_the_same_number = (refl, refl)
 
 -- after two keys that never began, the next number is that of the last one and one; the one that transmits has 0, which is left out
 abbrev abandoned : List Keying
-abandoned = installed None (key 1 4 3 4) ∷ installed None (key 1 3 2 3) ∷ second
+abandoned = installed None (key 1 4 An3 4) ∷ installed None (key 1 3 An2 3) ∷ second
 
-leaves_out_a_held_number : (numbers_in (received abandoned) ≡ 4 ∷ 1 ∷ []) × (next_an abandoned ≡ 1)
+leaves_out_a_held_number : (numbers_in (received abandoned) ≡ 4 ∷ 1 ∷ []) × (next_an abandoned ≡ An1)
 unfolding received
 leaves_out_a_held_number = (refl, refl)
 
 -- a key that was dropped counts: the next one has the next number, and the association number behind that of the last install
-counts_a_dropped_key : (next_an (ticked true ∷ ticked false ∷ second) ≡ 2) × (made_key 0 (mi 1) (ticked true ∷ ticked false ∷ second) true (S128 (replicate 16 3)) ≡ key 1 3 2 3)
+counts_a_dropped_key : (next_an (ticked true ∷ ticked false ∷ second) ≡ An2) × (made_key 0 (mi 1) (ticked true ∷ ticked false ∷ second) true (S128 (replicate 16 3)) ≡ key 1 3 An2 3)
 unfolding received
 counts_a_dropped_key = (refl, refl)
 
@@ -218,29 +223,29 @@ rests_while_one_is_potential = (refl, refl, refl)
 
 -- ---- a key is offered
 
-abbrev given : ℕ → ℕ → Given
-given number offset = Aes128 1 offset number []
+abbrev given : ℕ → ConfidentialityOffset → Given
+given number offset = Aes128 An1 offset number []
 
 abbrev offer : Given → Bool → Bool → Offer
 offer g listed elected = record { given = g; server = mi 1; listed = listed; elected = elected }
 
 -- each reason comes where none before it does
-first_reasons : (taken 0 taken_first (offer (given 1 2) false false) None ≡ Err NotListed) × (taken 0 taken_first (offer (given 1 2) true false) None ≡ Err NotServer)
-    × (taken 0 taken_first (offer (given 1 2) true true) None ≡ Err (Seen 1)) × (taken 0 rolled (offer (Other 1 2 3) true true) None ≡ Err Retiring)
-    × (taken 0 taken_first (offer (Other 1 2 2) true true) None ≡ Err Suite) × (taken 0 taken_first (offer (given 2 2) true true) None ≡ Err Offset) × (taken 0 taken_first (offer (given 2 1) true true) None ≡ Err Wrap)
+first_reasons : (taken 0 taken_first (offer (given 1 offsets.Octets30) false false) None ≡ Err NotListed) × (taken 0 taken_first (offer (given 1 offsets.Octets30) true false) None ≡ Err NotServer)
+    × (taken 0 taken_first (offer (given 1 offsets.Octets30) true true) None ≡ Err (Seen 1)) × (taken 0 rolled (offer (Other An1 offsets.Octets30 3) true true) None ≡ Err Retiring)
+    × (taken 0 taken_first (offer (Other An1 offsets.Octets30 2) true true) None ≡ Err Suite) × (taken 0 taken_first (offer (given 2 offsets.Octets30) true true) None ≡ Err Offset) × (taken 0 taken_first (offer (given 2 offsets.Octets0) true true) None ≡ Err Wrap)
 unfolding received latest old
 first_reasons = (refl, refl, refl, refl, refl, refl, refl)
 
 -- nor is a key taken that was dropped
-takes_no_dropped_key : taken 0 (ticked true ∷ ticked false ∷ taken_first) (offer (given 1 1) true true) (Some (S128 (replicate 16 1))) ≡ Err (Seen 1)
+takes_no_dropped_key : taken 0 (ticked true ∷ ticked false ∷ taken_first) (offer (given 1 offsets.Octets0) true true) (Some (S128 (replicate 16 1))) ≡ Err (Seen 1)
 unfolding received latest old
 takes_no_dropped_key = refl
 
-takes_a_key : taken 7 taken_first (offer (given 2 1) true true) (Some (S128 (replicate 16 2))) ≡ Ok (key 1 2 1 9)
+takes_a_key : taken 7 taken_first (offer (given 2 offsets.Octets0) true true) (Some (S128 (replicate 16 2))) ≡ Ok (key 1 2 An1 9)
 unfolding received latest old
 takes_a_key = refl
 
 -- offset 0 gives integrity alone
-takes_a_longer_key : taken 7 taken_first (offer (Aes256 1 0 2 []) true true) (Some (S256 (replicate 32 2))) ≡ Ok (record (key 1 2 1 9) { sak = S256 (replicate 32 2); conf = false })
+takes_a_longer_key : taken 7 taken_first (offer (Aes256 An1 offsets.None 2 []) true true) (Some (S256 (replicate 32 2))) ≡ Ok (record (key 1 2 An1 9) { sak = S256 (replicate 32 2); conf = false })
 unfolding received latest old
 takes_a_longer_key = refl

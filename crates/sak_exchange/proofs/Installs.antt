@@ -5,22 +5,24 @@ use Rattle.std.proofs.lemmas.Bool.{ltb-true}
 use Rattle.std.specs.Option.{option_map}
 use Rattle.std.specs.BTreeMap.{is_at}
 use Rattle.lan_base.specs.declared.address.Mi.{Mi}
+use Rattle.lan_base.specs.declared.association_number.AssociationNumber.{AssociationNumber}
+use Rattle.lan_base.specs.AssociationNumbers.{same_an}
 use Rattle.lan_base.specs.Identifiers.{same_mi, order}
 use Rattle.aes_block.specs.declared.secret.Secret.{Secret}
 use Rattle.sak_exchange.specs.declared.change.Change.TheVariants.{Installed}
 use Rattle.sak_exchange.specs.declared.change.Why.{Why}
 use Rattle.sak_exchange.specs.declared.change.Why.TheVariants.{NotListed, NotServer, Seen, Retiring, Suite, Offset}
-use Rattle.sak_exchange.specs.declared.held_key.HeldKey.{HeldKey}
 use Rattle.sak_exchange.specs.declared.latest.Latest.{Latest}
 use Rattle.sak_exchange.specs.declared.offer.Offer.{Offer}
-use Rattle.sak_exchange.specs.Histories.{Key, Keying, installed, clock, last_made_at, install_count, made_count, begun_at, has_begun}
+use Rattle.sak_exchange.specs.declared.held_key.Key.{Key}
+use Rattle.sak_exchange.specs.Histories.{Keying, installed, clock, last_made_at, install_count, made_count, begun_at, has_begun}
 use Rattle.sak_exchange.specs.Held.{latest, old, allows, Kept, shown, held}
-use Rattle.sak_exchange.specs.Taking.{greatest_of, provided, provided_new, offered_id, number_of, is_supported, offset_of, offered_key, unwrapped_key, judged, taken}
+use Rattle.sak_exchange.specs.Taking.{greatest_of, provided, provided_new, offered_id, number_of, is_supported, offset_of, leaves_none, offered_key, unwrapped_key, judged, taken}
 use Rattle.sak_exchange.specs.Making.{next_epoch}
 use Rattle.sak_exchange.specs.Outcomes.{installing}
 use Rattle.sak_exchange.specs.Lives.{apart, IsNumbered, IsOver}
 use Rattle.sak_exchange.specs.Standing.{State, StandsFor, ticks_since, kept_of, number_in, most_ticks}
-use Rattle.sak_exchange.specs.inside.States.{apart_held, drops_latest, drops_former, install_changes_now, number_after, fresh, fresh_or, judged_now, IsInstalled}
+use Rattle.sak_exchange.specs.inside.States.{apart_held, drops_latest, drops_former, dropped, install_changes_now, number_after, judged_now, IsInstalled}
 use Rattle.sak_exchange.proofs.Cases.{by_test}
 use Rattle.sak_exchange.proofs.Epochs.{begun-upto}
 use Rattle.sak_exchange.proofs.Shape.{none, one, two, shape, latest-none, latest-one, latest-two}
@@ -31,19 +33,19 @@ use Rattle.sak_exchange.proofs.Currents.{allows-told, current-told}
 -- ---- what the install changes
 
 changes-are : (base : ℕ) (h : List Keying) (r : Option (List Mi)) (k : Key) → Kept base h
-    → ((drops_latest k.an (option_map (kept_of false h) (latest h)) ++ drops_former k.an (option_map (held h) (old h))) ++ Installed (shown false k) ∷ []) ≡ (installing h r k).changes
+    → ((dropped (drops_latest k.an (option_map (kept_of false h) (latest h))) ++ dropped (drops_former k.an (option_map (held h) (old h)))) ++ Installed (shown false k) ∷ []) ≡ (installing h r k).changes
 changes-are base h r k kept =
     elim (shape base h kept) [
       | none is ↦ let keys = latest-none h is in rw (keys.0, keys.1, is) refl
       | one l is last ↦ let keys = latest-one h l is last in
-          rw (keys.0, keys.1, is) (by_test (k.an == l.an || not (has_begun h l.epoch)) (λ t. rw t refl) (λ t. rw t refl))
+          rw (keys.0, keys.1, is) (by_test (same_an k.an l.an || not (has_begun h l.epoch)) (λ t. rw t refl) (λ t. rw t refl))
       | two l o is last b ↦ let keys = latest-two h l o is last b.less in
-          rw (keys.0, keys.1, is, b.started) (by_test (k.an == l.an || not (has_begun h l.epoch))
-          (λ t. by_test (k.an == o.an) (λ u. rw (t, u, b.started) refl) (λ u. rw (t, u) refl))
-          (λ t. by_test (k.an == o.an) (λ u. rw (t, u, b.started) refl) (λ u. rw (t, u) refl)))
+          rw (keys.0, keys.1, is, b.started) (by_test (same_an k.an l.an || not (has_begun h l.epoch))
+          (λ t. by_test (same_an k.an o.an) (λ u. rw (t, u, b.started) refl) (λ u. rw (t, u) refl))
+          (λ t. by_test (same_an k.an o.an) (λ u. rw (t, u, b.started) refl) (λ u. rw (t, u) refl)))
     ]
 
-pub changes-installed : (base : ℕ) (own : Mi) (s : State) (h : List Keying) (r : Option (List Mi)) (k : Key) → StandsFor base own false s h → install_changes_now s (fresh k) ≡ (installing h r k).changes
+pub changes-installed : (base : ℕ) (own : Mi) (s : State) (h : List Keying) (r : Option (List Mi)) (k : Key) → StandsFor base own false s h → install_changes_now s k ≡ (installing h r k).changes
 changes-installed base own s h r k t = rw (t.latest, t.former) (changes-are base h r k t.kept)
 
 -- ---- the state after it
@@ -53,14 +55,14 @@ is-absent None never = refl
 is-absent (Some at) never = absurd (never refl)
 
 kept-fresh : (base : ℕ) (h : List Keying) (r : Option (List Mi)) (k : Key) → Kept base h → k.epoch ≡ (base + install_count h) + 1
-    → (let l : Latest = record { key = fresh k; since_begun = 0 } in l) ≡ kept_of false (installed r k ∷ h) k
+    → (let l : Latest = record { held = shown false k; since_begun = 0 } in l) ≡ kept_of false (installed r k ∷ h) k
 kept-fresh base h r k kept next =
     let unbegun : begun_at h k.epoch ≡ None = is-absent (begun_at h k.epoch) (λ b. let most = begun-upto base h k.epoch kept b in omega arith) in
     rw unbegun refl
 
-apart-held : (h : List Keying) (a : ℕ) (o : Option Key) → apart_held a (option_map (held h) o) ≡ option_map (held h) (apart a o)
+apart-held : (h : List Keying) (a : AssociationNumber) (o : Option Key) → apart_held a (option_map (held h) o) ≡ option_map (held h) (apart a o)
 apart-held h a None = refl
-apart-held h a (Some k) = by_test (a == k.an) (λ t. rw t refl) (λ t. rw t refl)
+apart-held h a (Some k) = by_test (same_an a k.an) (λ t. rw t refl) (λ t. rw t refl)
 
 made-more : (h : List Keying) (r : Option (List Mi)) (k : Key) → cond (is_some r) (made_count h + 1) (made_count h) ≡ made_count (installed r k ∷ h)
 made-more h None k = refl
@@ -79,7 +81,7 @@ number-is es h r k q is =
     rw (place, t, before) refl)
     (λ t. let place : is_at (order k.id.server) q ≡ false = place-is k.id.server q ∙ t in rw (place, t) (is q))
 
-pub stands-installed : (base : ℕ) (own : Mi) (s t : State) (h : List Keying) (r : Option (List Mi)) (k : Key) → IsInstalled s (fresh k) r t → Kept base (installed r k ∷ h) → IsNumbered own (installed r k ∷ h)
+pub stands-installed : (base : ℕ) (own : Mi) (s t : State) (h : List Keying) (r : Option (List Mi)) (k : Key) → IsInstalled s k r t → Kept base (installed r k ∷ h) → IsNumbered own (installed r k ∷ h)
     → StandsFor base own false s h → StandsFor base own false t (installing h r k).past
 stands-installed base own s t h r k i kept numbered x =
     let keys = keys-installed base h r k kept in
@@ -99,7 +101,7 @@ stands-installed base own s t h r k i kept numbered x =
 
 -- ---- a key that is taken
 
-pub judged-told : (base : ℕ) (own : Mi) (s : State) (h : List Keying) (o : Offer) (sak : Option Secret) → StandsFor base own false s h → judged_now s o sak ≡ fresh_or (taken base h o sak)
+pub judged-told : (base : ℕ) (own : Mi) (s : State) (h : List Keying) (o : Offer) (sak : Option Secret) → StandsFor base own false s h → judged_now s o sak ≡ taken base h o sak
 judged-told base own s h o sak t = rw (t.numbers o.server, allows-told base own s h t, t.epochs) refl
 
 -- what is known of a key that is taken
@@ -128,37 +130,21 @@ judged-ok kept allowed epoch o sak k is =
     let c = new-ok kept (number_of o.given) _ k b.1 in
     let d = provided-ok allowed Retiring _ k c.1 in
     let e = provided-ok (is_supported o.given) Suite _ k d.1 in
-    let f = provided-ok (nat_lt (offset_of o.given) 2) Offset _ k e.1 in
+    let f = provided-ok (leaves_none (offset_of o.given)) Offset _ k e.1 in
     let g = key-ok epoch o sak k f.1 in
     record { id = g.0; over = c.0; may = d.0; next = g.1 }
 
-fresh-ok : (r : Result Key Why) (key : HeldKey) → fresh_or r ≡ Ok key → (k : Key) × (r ≡ Ok k) × (key ≡ fresh k)
-fresh-ok (Ok k) key is = (k, refl, cc (is))
-fresh-ok (Err why) key is = absurd (cc (is))
-
-fresh-err : (r : Result Key Why) (why : Why) → fresh_or r ≡ Err why → r ≡ Err why
-fresh-err (Ok k) why is = absurd (cc (is))
-fresh-err (Err w) why is = let same : w ≡ why = cc (is) in ap Err same
-
 -- the key that the code installs, in its history
-pub record Takes (base : ℕ) (own : Mi) (h : List Keying) (o : Offer) (sak : Option Secret) (key : HeldKey) : Type 0 where
-  pub taken_key : Key
-  pub is : taken base h o sak ≡ Ok taken_key
-  pub same : key ≡ fresh taken_key
-  pub kept : Kept base (installed None taken_key ∷ h)
-  pub numbered : IsNumbered own (installed None taken_key ∷ h)
+pub record Takes (base : ℕ) (own : Mi) (h : List Keying) (o : Offer) (sak : Option Secret) (key : Key) : Type 0 where
+  pub is : taken base h o sak ≡ Ok key
+  pub kept : Kept base (installed None key ∷ h)
+  pub numbered : IsNumbered own (installed None key ∷ h)
 
-pub takes : (base : ℕ) (own : Mi) (s : State) (h : List Keying) (o : Offer) (sak : Option Secret) (key : HeldKey) → StandsFor base own false s h → judged_now s o sak ≡ Ok key → Takes base own h o sak key
+pub takes : (base : ℕ) (own : Mi) (s : State) (h : List Keying) (o : Offer) (sak : Option Secret) (key : Key) → StandsFor base own false s h → judged_now s o sak ≡ Ok key → Takes base own h o sak key
 takes base own s h o sak key t is =
-    let found = fresh-ok (taken base h o sak) key (sym (judged-told base own s h o sak t) ∙ is) in
-    let known = judged-ok (greatest_of o.server h) (allows h) (next_epoch base h) o sak found.0 found.1 in
-    record {
-      taken_key = found.0;
-      is = found.1;
-      same = found.2;
-      kept = (known.next, known.may, t.kept);
-      numbered = (rw known.id known.over, t.numbered);
-    }
+    let found = sym (judged-told base own s h o sak t) ∙ is in
+    let known = judged-ok (greatest_of o.server h) (allows h) (next_epoch base h) o sak key found in
+    record { is = found; kept = (known.next, known.may, t.kept); numbered = (rw known.id known.over, t.numbered) }
 
 pub refuses : (base : ℕ) (own : Mi) (s : State) (h : List Keying) (o : Offer) (sak : Option Secret) (why : Why) → StandsFor base own false s h → judged_now s o sak ≡ Err why → taken base h o sak ≡ Err why
-refuses base own s h o sak why t is = fresh-err (taken base h o sak) why (sym (judged-told base own s h o sak t) ∙ is)
+refuses base own s h o sak why t is = sym (judged-told base own s h o sak t) ∙ is

@@ -1,4 +1,5 @@
 pub mod Cases
+pub mod AssociationNumbers
 pub mod Epochs
 pub mod Shape
 pub mod Both

@@ -4,7 +4,8 @@ use Rattle.lan_base.specs.declared.address.Mi.{Mi}
 use Rattle.lan_base.specs.declared.key_id.KeyId.{KeyId}
 use Rattle.lan_base.specs.Identifiers.{same_mi}
 use Rattle.lan_base.specs.Falling.{IsAbove, IsFalling}
-use Rattle.sak_exchange.specs.Histories.{Key, Keying, ticked, installed, began, install_count, made_count}
+use Rattle.sak_exchange.specs.declared.held_key.Key.{Key}
+use Rattle.sak_exchange.specs.Histories.{Keying, ticked, installed, began, install_count, made_count}
 use Rattle.sak_exchange.specs.Held.{Kept}
 use Rattle.sak_exchange.specs.Taking.{greatest_of}
 use Rattle.lan_base.specs.Differing.{DiffersFrom, AllDiffer}

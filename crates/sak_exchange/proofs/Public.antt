@@ -1,4 +1,5 @@
 -- What other crates may cite of the proofs.
+pub use Rattle.sak_exchange.proofs.AssociationNumbers.{other-an, same-an-equal, same-an-itself}
 pub use Rattle.sak_exchange.proofs.Both.{are-two, beside-old, first-is}
 pub use Rattle.sak_exchange.proofs.Cases.{by_option, by_test, not-true}
 pub use Rattle.sak_exchange.proofs.Entries.{keys-installed}

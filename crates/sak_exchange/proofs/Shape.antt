@@ -4,7 +4,9 @@ use Rattle.std.proofs.lemmas.Bool.{eqb-true, eq-eqb, ne_eqb, or_parts}
 use Rattle.std.specs.Prelude.{◌==◌}
 use Rattle.std.specs.List.{filter}
 use Rattle.lan_base.specs.declared.address.Mi.{Mi}
-use Rattle.sak_exchange.specs.Histories.{Key, Keying, ticked, installed, began, clock, last_key, begun_at, has_begun}
+use Rattle.lan_base.specs.AssociationNumbers.{same_an}
+use Rattle.sak_exchange.specs.declared.held_key.Key.{Key}
+use Rattle.sak_exchange.specs.Histories.{Keying, ticked, installed, began, clock, last_key, begun_at, has_begun}
 use Rattle.sak_exchange.specs.Held.{is_retire_time_ago, ends, with_new, received, has_epoch, latest, old, Kept}
 use Rattle.sak_exchange.proofs.Cases.{by_test, by_option, not-false}
 use Rattle.sak_exchange.proofs.Epochs.{last-epoch, none-later, may-begin, begun-upto}
@@ -12,7 +14,7 @@ use Rattle.sak_exchange.proofs.Epochs.{last-epoch, none-later, may-begin, begun-
 -- an older key is held beside the last one
 pub record IsBeside (h : List Keying) (l o : Key) : Type 0 where
   pub less : o.epoch < l.epoch
-  pub apart : (l.an == o.an) ≡ false
+  pub apart : same_an l.an o.an ≡ false
   pub started : has_begun h o.epoch ≡ true
   pub only : (e : ℕ) → has_begun h e ≡ true → o.epoch < e → e ≡ l.epoch
 
@@ -110,7 +112,7 @@ none-begun-later base h l kept last e b less = let epoch = last-epoch base h l k
 
 -- an install ends a key that has not begun
 pub ends-unbegun : (r : Option (List Mi)) (n : Key) (h : List Keying) (k : Key) → has_begun h k.epoch ≡ false → ends (installed r n) h k ≡ true
-ends-unbegun r n h k b = rw b (by_test (n.an == k.an) (λ t. rw t refl) (λ t. rw t refl))
+ends-unbegun r n h k b = rw b (by_test (same_an n.an k.an) (λ t. rw t refl) (λ t. rw t refl))
 
 -- with two keys held, an install is allowed only where the latest one has not begun
 pub unbegun-of : (h : List Keying) (l o : Key) → latest h ≡ Some l → old h ≡ Some o → not (has_begun h l.epoch && true) ≡ true → has_begun h l.epoch ≡ false
@@ -124,7 +126,7 @@ shape-installed base h r k kept (one l is last) =
     let next = kept.0 in
     by_test (ends x h l)
     (λ off. one k (received-next x h (l ∷ []) is ∙ ap (λ ks. k ∷ ks) (keeps-none x h l off)) refl)
-    (λ on. let parts = or_parts (k.an == l.an) (not (has_begun h l.epoch)) on in
+    (λ on. let parts = or_parts (same_an k.an l.an) (not (has_begun h l.epoch)) on in
     two k l (received-next x h (l ∷ []) is ∙ ap (λ ks. k ∷ ks) (keeps-one x h l on)) refl (record {
       less = omega arith;
       apart = parts.0;
@@ -142,7 +144,7 @@ shape-installed base h r k kept (two l o is last b) =
     (λ off. one k (received-next x h (l ∷ o ∷ []) is ∙ ap (λ ks. k ∷ ks) (keeps-neither x h l o gone off)) refl)
     (λ on. two k o (received-next x h (l ∷ o ∷ []) is ∙ ap (λ ks. k ∷ ks) (keeps-second x h l o gone on)) refl (record {
       less = let less = b.less in omega arith;
-      apart = (or_parts (k.an == o.an) (not (has_begun h o.epoch)) on).0;
+      apart = (or_parts (same_an k.an o.an) (not (has_begun h o.epoch)) on).0;
       started = b.started;
       only = λ e begun less. let same = b.only e begun less in let never : has_begun h e ≡ false = rw same unbegun in absurd (cc (begun, never));
     }))

@@ -5,9 +5,11 @@ use Rattle.std.specs.Prelude.{nat_lt, ◌==◌}
 use Rattle.std.specs.List.{list_any}
 use Rattle.lan_base.specs.Falling.{IsAbove, IsFalling}
 use Rattle.lan_base.specs.Timers.{retire_time}
-use Rattle.sak_exchange.specs.Histories.{Key, Keying, ticked, installed, began, clock, installs, last_key, begun_at, has_begun, beginnings}
+use Rattle.sak_exchange.specs.declared.held_key.Key.{Key}
+use Rattle.sak_exchange.specs.Histories.{Keying, ticked, installed, began, clock, installs, last_key, begun_at, has_begun, beginnings}
 use Rattle.sak_exchange.specs.Held.{is_retire_time_ago, retires, ends, received, has_epoch, latest, old, Kept}
 use Rattle.sak_exchange.specs.Lives.{IsQuiet, IsFresh}
+use Rattle.sak_exchange.proofs.AssociationNumbers.{other-an}
 use Rattle.sak_exchange.proofs.Cases.{by_test}
 use Rattle.sak_exchange.proofs.Epochs.{may-begin, latest-epoch, begun-upto}
 use Rattle.sak_exchange.proofs.Shape.{left, received-next, left-on, keeps-both, latest-two, not-ended}
@@ -24,7 +26,7 @@ pub none-begins-later : (base : ℕ) (h : List Keying) (l : Key) (e : ℕ) → K
 none-begins-later base h l e kept is begun = let epoch = latest-epoch base h l kept is in let most = begun-upto base h e kept begun in omega arith
 
 pub ans-differ : (base : ℕ) (h : List Keying) (l o : Key) → Kept base h → latest h ≡ Some l → old h ≡ Some o → l.an ≡ o.an → ⊥
-ans-differ base h l o kept first second = eqb-false l.an o.an (are-two base h l o kept first second).beside.apart
+ans-differ base h l o kept first second = other-an l.an o.an (are-two base h l o kept first second).beside.apart
 
 above-all : (n : ℕ) (h : List Keying) → ((e : ℕ) → has_begun h e ≡ true → e < n) → IsAbove n (beginnings h)
 above-all n [] above = tt

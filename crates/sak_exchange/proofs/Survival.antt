@@ -1,7 +1,8 @@
 -- A key is received exactly where it was installed and no later entry ends it.
 use Rattle.std.proofs.Common.{◌≡◌, inl, inr, Bool, true, false, not, List, [], ◌∷◌, ◌++◌, refl, ap, sym, subst}
 use Rattle.std.specs.List.{filter}
-use Rattle.sak_exchange.specs.Histories.{Key, Keying, ticked, installed, began}
+use Rattle.sak_exchange.specs.declared.held_key.Key.{Key}
+use Rattle.sak_exchange.specs.Histories.{Keying, ticked, installed, began}
 use Rattle.sak_exchange.specs.Held.{ends, with_new, received}
 use Rattle.sak_exchange.specs.Lives.{Has, Installs, IsReceived, IsQuiet}
 use Rattle.sak_exchange.proofs.Cases.{by_test, not-true}

@@ -8,7 +8,8 @@ use Rattle.lan_base.specs.Timers.{life_time, retire_time}
 use Rattle.sak_exchange.specs.declared.change.Change.TheVariants.{Dropped, Retired}
 use Rattle.sak_exchange.specs.declared.held_key.HeldKey.{HeldKey}
 use Rattle.sak_exchange.specs.declared.latest.Latest.{Latest}
-use Rattle.sak_exchange.specs.Histories.{Key, Keying, ticked, installed, began, clock, last_made_at, begun_at, has_begun}
+use Rattle.sak_exchange.specs.declared.held_key.Key.{Key}
+use Rattle.sak_exchange.specs.Histories.{Keying, ticked, installed, began, clock, last_made_at, begun_at, has_begun}
 use Rattle.sak_exchange.specs.Held.{is_retire_time_ago, latest, old, Kept, held}
 use Rattle.sak_exchange.specs.Beginning.{is_long_ago, retired}
 use Rattle.sak_exchange.specs.Outcomes.{dropping, retiring}
@@ -44,7 +45,7 @@ counts-on-any now (Some at) before = counts-on now at (before at refl)
 aged-key : (h : List Keying) (k : Key) → aged (kept_of false h k) ≡ kept_of true h k
 aged-key h k =
     let count : cond (has_begun h k.epoch) (counted (ticks_since_any (clock h) (begun_at h k.epoch))) 0 ≡ ticks_since_any (clock h + 1) (begun_at h k.epoch) = counts-on-any (clock h) (begun_at h k.epoch) (begun-before h k.epoch) in
-    ap (λ (n : ℕ). let l : Latest = record { key = held h k; since_begun = n } in l) count
+    ap (λ (n : ℕ). let l : Latest = record { held = held h k; since_begun = n } in l) count
 
 aged-latest : (h : List Keying) (o : Option Key) → option_map aged (option_map (kept_of false h) o) ≡ option_map (kept_of true h) o
 aged-latest h None = refl
@@ -79,12 +80,12 @@ ago-is now (Some at) =
     (λ t. let same = eqb-true (at + retire_time) now t in rw t (eq-eqb (min (now - at) most_ticks) retire_time (omega arith)))
     (λ t. let other = eqb-false (at + retire_time) now t in rw t (ne_eqb (min (now - at) most_ticks) retire_time (λ e. other (omega arith))))
 
-over-is : (h : List Keying) (o : Option Key) → option_map_or (λ (l : Latest). l.key.begun && l.since_begun == retire_time) (option_map (kept_of true h) o) false ≡ option_map_or (λ k. is_retire_time_ago (clock h + 1) (begun_at h k.epoch)) o false
+over-is : (h : List Keying) (o : Option Key) → option_map_or (λ (l : Latest). l.held.begun && l.since_begun == retire_time) (option_map (kept_of true h) o) false ≡ option_map_or (λ k. is_retire_time_ago (clock h + 1) (begun_at h k.epoch)) o false
 over-is h None = refl
 over-is h (Some k) = ago-is (clock h + 1) (begun_at h k.epoch)
 
 pub retires-told : (base : ℕ) (own : Mi) (s : State) (h : List Keying) → StandsFor base own true s h → retires_now s ≡ is_over h
-retires-told base own s h t = ap (λ (o : Option Latest). option_map_or (λ l. l.key.begun && l.since_begun == retire_time) o false) t.latest ∙ over-is h (latest h)
+retires-told base own s h t = ap (λ (o : Option Latest). option_map_or (λ l. l.held.begun && l.since_begun == retire_time) o false) t.latest ∙ over-is h (latest h)
 
 cond-held : (h : List Keying) (b : Bool) (o : Option Key) → cond b (option_map (held h) o) None ≡ option_map (held h) (cond b o None)
 cond-held h true o = refl
@@ -135,7 +136,7 @@ retires-some false o k is = absurd (cc (is))
 -- ---- dropping all
 
 shown-dropped : (base : ℕ) (h : List Keying) → Kept base h
-    → (option_to_list (option_map (λ (l : Latest). Dropped l.key) (option_map (kept_of true h) (latest h))) ++ option_to_list (option_map Dropped (option_map (held h) (old h)))) ≡ (dropping h).changes
+    → (option_to_list (option_map (λ (l : Latest). Dropped l.held) (option_map (kept_of true h) (latest h))) ++ option_to_list (option_map Dropped (option_map (held h) (old h)))) ≡ (dropping h).changes
 shown-dropped base h kept =
     elim (shape base h kept) [
       | none r ↦ let keys = latest-none h r in rw (keys.0, keys.1, r) refl

@@ -3,9 +3,11 @@
 use Rattle.std.specs.Prelude.{◌≡◌, ℕ, ◌==◌, ◌+◌, nat_lt, Bool, true, false, not, ◌&&◌, ◌||◌, List, [], ◌∷◌, Option, Some, None, is_some, option_and_then}
 use Rattle.std.specs.Option.{option_map_or}
 use Rattle.std.specs.List.{list_any, filter, find}
+use Rattle.lan_base.specs.AssociationNumbers.{same_an}
 use Rattle.lan_base.specs.Timers.{retire_time}
 use Rattle.sak_exchange.specs.declared.held_key.HeldKey.{HeldKey}
-use Rattle.sak_exchange.specs.Histories.{Key, Keying, ticked, installed, began, clock, installs, last_key, install_count, begun_at, has_begun, last_begun}
+use Rattle.sak_exchange.specs.declared.held_key.Key.{Key}
+use Rattle.sak_exchange.specs.Histories.{Keying, ticked, installed, began, clock, installs, last_key, install_count, begun_at, has_begun, last_begun}
 
 -- whether what began at a tick count began the retire time before another
 abbrev pub is_retire_time_ago : ℕ → Option ℕ → Bool
@@ -23,7 +25,7 @@ retires h e later =
 abbrev pub ends : Keying → List Keying → Key → Bool
 ends (ticked false) h k = true
 ends (ticked true) h k = list_any (retires h k.epoch) (installs h)
-ends (installed r n) h k = n.an == k.an || not (has_begun h k.epoch)
+ends (installed r n) h k = same_an n.an k.an || not (has_begun h k.epoch)
 ends (began e) h k = false
 
 -- the keys with the one that an entry installs
@@ -76,8 +78,7 @@ Kept base (began e ∷ h) = (may_begin h e ≡ true) × Kept base h
 
 -- a key as it is shown, which has begun or not
 abbrev pub shown : Bool → Key → HeldKey
-shown begun k =
-    record { id = k.id; an = k.an; sak = k.sak; conf = k.conf; epoch = k.epoch; begun = begun }
+shown begun k = record { key = k; begun = begun }
 
 -- a key as it is held after a history
 abbrev pub held : List Keying → Key → HeldKey

@@ -1,19 +1,8 @@
 -- The history of one life of a station, as far as its keys go (IEEE Std 802.1X, clause 9). It
 -- stands newest first.
-use Rattle.std.specs.Prelude.{ℕ, ◌==◌, ◌+◌, Bool, cond, List, [], ◌∷◌, Option, Some, None, is_some}
-use Rattle.aes_block.specs.declared.secret.Secret.{Secret}
+use Rattle.std.specs.Prelude.{ℕ, ◌==◌, ◌+◌, Bool, if◌then◌else◌, List, [], ◌∷◌, Option, Some, None, is_some}
 use Rattle.lan_base.specs.declared.address.Mi.{Mi}
-use Rattle.lan_base.specs.declared.key_id.KeyId.{KeyId}
-
--- A key as it was installed: its identifier, its association number, the SAK, and whether it gives
--- confidentiality. Its epoch is the count of installs at the station, over all its lives, up to and
--- with it.
-pub record Key : Type 0 where
-  pub id : KeyId
-  pub an : ℕ
-  pub sak : Secret
-  pub conf : Bool
-  pub epoch : ℕ
+use Rattle.sak_exchange.specs.declared.held_key.Key.{Key}
 
 -- A tick, and whether a key server was elected then; a key that was installed, with its roster
 -- where this life made it and none where it was taken; a key that began, by its epoch.
@@ -78,7 +67,7 @@ abbrev pub begun_at : List Keying → ℕ → Option ℕ
 begun_at [] e = None
 begun_at (ticked s ∷ h) e = begun_at h e
 begun_at (installed r k ∷ h) e = begun_at h e
-begun_at (began f ∷ h) e = cond (f == e) (Some (clock h)) (begun_at h e)
+begun_at (began f ∷ h) e = if f == e then Some (clock h) else begun_at h e
 
 -- whether the key of an epoch has begun
 abbrev pub has_begun : List Keying → ℕ → Bool

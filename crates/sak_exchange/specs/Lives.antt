@@ -1,11 +1,14 @@
 -- What the laws say of a life (this profile's own rules): which key is received, in one sentence;
 -- what is quiet; and which numbers rise.
-use Rattle.std.specs.Prelude.{◌≡◌, ◌⊎◌, ℕ, ◌==◌, ◌+◌, ◌<◌, true, false, cond, List, [], ◌∷◌, ◌++◌, map, Option, Some, None}
+use Rattle.std.specs.Prelude.{◌≡◌, ◌⊎◌, ℕ, ◌+◌, ◌<◌, true, false, if◌then◌else◌, List, [], ◌∷◌, ◌++◌, map, Option, Some, None}
 use Rattle.lan_base.specs.declared.address.Mi.{Mi}
 use Rattle.lan_base.specs.declared.key_id.KeyId.{KeyId}
+use Rattle.lan_base.specs.declared.association_number.AssociationNumber.{AssociationNumber}
+use Rattle.lan_base.specs.AssociationNumbers.{same_an}
 use Rattle.lan_base.specs.Timers.{retire_time}
 use Rattle.lan_base.specs.Identifiers.{same_mi}
-use Rattle.sak_exchange.specs.Histories.{Key, Keying, ticked, installed, began, installs, made_count}
+use Rattle.sak_exchange.specs.declared.held_key.Key.{Key}
+use Rattle.sak_exchange.specs.Histories.{Keying, ticked, installed, began, installs, made_count}
 use Rattle.sak_exchange.specs.Held.{ends}
 use Rattle.sak_exchange.specs.Taking.{greatest_of}
 
@@ -38,9 +41,9 @@ both (Some l) None = l ∷ []
 both (Some l) (Some o) = l ∷ o ∷ []
 
 -- the key, if its association number is another
-abbrev pub apart : ℕ → Option Key → Option Key
+abbrev pub apart : AssociationNumber → Option Key → Option Key
 apart an None = None
-apart an (Some k) = cond (an == k.an) None (Some k)
+apart an (Some k) = if same_an an k.an then None else Some k
 
 -- Nothing was installed, and a key server was elected at each tick.
 abbrev pub IsQuiet : List Keying → Type 0
@@ -87,7 +90,7 @@ abbrev pub numbers_of : Mi → List Keying → List ℕ
 numbers_of s [] = []
 numbers_of s (ticked b ∷ h) = numbers_of s h
 numbers_of s (installed r k ∷ h) =
-    cond (same_mi k.id.server s) (k.id.number ∷ numbers_of s h) (numbers_of s h)
+    if same_mi k.id.server s then k.id.number ∷ numbers_of s h else numbers_of s h
 numbers_of s (began e ∷ h) = numbers_of s h
 
 -- the identifiers of the keys that were installed

@@ -1,14 +1,18 @@
 -- When a key server makes a key, and which (IEEE Std 802.1X, clause 9; the reasons and the roster
 -- are this profile's own).
-use Rattle.std.specs.Prelude.{ℕ, zero, suc, ◌==◌, ◌+◌, ◌%◌, nat_le, Bool, false, cond, not, ◌&&◌, ◌||◌, List, ◌∷◌, map, Option, Some, None, is_none}
+use Rattle.std.specs.Prelude.{ℕ, zero, suc, ◌+◌, nat_le, Bool, false, if◌then◌else◌, not, ◌&&◌, ◌||◌, List, ◌∷◌, map, Option, Some, None, is_none}
 use Rattle.std.specs.List.{list_any}
 use Rattle.lan_base.specs.declared.address.Mi.{Mi}
+use Rattle.lan_base.specs.declared.association_number.AssociationNumber.{AssociationNumber}
+use Rattle.lan_base.specs.declared.association_number.AssociationNumber.TheVariants.{An0}
+use Rattle.lan_base.specs.AssociationNumbers.{same_an, behind}
 use Rattle.lan_base.specs.declared.key_id.KeyId.{KeyId}
 use Rattle.aes_block.specs.declared.secret.Secret.{Secret}
 use Rattle.sak_exchange.specs.declared.report.Report.{Report}
 use Rattle.sak_exchange.specs.declared.due.Seen.{Seen}
 use Rattle.lan_base.specs.Identifiers.{has}
-use Rattle.sak_exchange.specs.Histories.{Key, Keying, clock, last_key, last_roster, last_made_at, install_count, made_count, begun_at, has_begun}
+use Rattle.sak_exchange.specs.declared.held_key.Key.{Key}
+use Rattle.sak_exchange.specs.Histories.{Keying, clock, last_key, last_roster, last_made_at, install_count, made_count, begun_at, has_begun}
 use Rattle.sak_exchange.specs.Held.{received, is_latest, allows}
 use Rattle.sak_exchange.specs.Reports.{reports, reaches}
 use Rattle.sak_exchange.specs.Beginning.{is_long_ago, is_latest_made}
@@ -69,23 +73,19 @@ makes h live potential seen limit =
     allows h && (is_key_due h live seen limit && is_rested h potential)
 
 -- whether a held key has the association number
-abbrev pub is_used : List Keying → ℕ → Bool
-is_used h a = list_any (λ k. k.an == a) (received h)
-
--- the association number behind another
-abbrev pub after : ℕ → ℕ
-after a = (a + 1) % 4
+abbrev pub is_used : List Keying → AssociationNumber → Bool
+is_used h a = list_any (λ k. same_an k.an a) (received h)
 
 -- the first number from one on that no held key has, after so many turns at most
-abbrev pub free_from : ℕ → List Keying → ℕ → ℕ
+abbrev pub free_from : ℕ → List Keying → AssociationNumber → AssociationNumber
 free_from zero h a = a
-free_from (suc n) h a = cond (is_used h a) (free_from n h (after a)) a
+free_from (suc n) h a = if is_used h a then free_from n h (behind a) else a
 
 -- The association number of the next key that is made: 0 in a life that installed none, else the
 -- first free one behind that of the last install. Two keys are held at most, so two turns are
 -- enough.
-abbrev pub next_an : List Keying → ℕ
-next_an h = elim (last_key h) [ None ↦ 0 | Some k ↦ free_from 2 h (after k.an) ]
+abbrev pub next_an : List Keying → AssociationNumber
+next_an h = elim (last_key h) [ None ↦ An0 | Some k ↦ free_from 2 h (behind k.an) ]
 
 -- the epoch of the next install, where so many keys were installed in earlier lives
 abbrev pub next_epoch : ℕ → List Keying → ℕ

@@ -10,24 +10,25 @@ use Rattle.sak_exchange.specs.declared.change.Change.TheVariants.{Dropped, Retir
 use Rattle.sak_exchange.specs.declared.change.Why.{Why}
 use Rattle.sak_exchange.specs.declared.offer.Offer.{Offer}
 use Rattle.sak_exchange.specs.declared.report.Report.{Report}
-use Rattle.sak_exchange.specs.Histories.{Key, Keying, ticked, installed, began}
+use Rattle.sak_exchange.specs.declared.held_key.Key.{Key}
+use Rattle.sak_exchange.specs.Histories.{Keying, ticked, installed, began}
 use Rattle.sak_exchange.specs.Held.{ends, received, shown, held}
 use Rattle.sak_exchange.specs.Beginning.{Beginning, leads, follows, retired}
 use Rattle.sak_exchange.specs.Making.{made_key, made_roster}
 use Rattle.sak_exchange.specs.Taking.{offered_id, taken}
 
 -- what changes, and the history then
-pub record Outcome : Type 0 where
+pub record Effect : Type 0 where
   pub changes : List Change
   pub past : List Keying
 
 -- at a tick with no elected server every key is dropped
-abbrev pub dropping : List Keying → Outcome
+abbrev pub dropping : List Keying → Effect
 dropping h =
     record { changes = map (λ k. Dropped (held h k)) (received h); past = ticked false ∷ h }
 
 -- at a tick with an elected server the old key is retired where its time is over
-abbrev pub retiring : List Keying → Outcome
+abbrev pub retiring : List Keying → Effect
 retiring h =
     record {
       changes = option_to_list (option_map (λ k. Retired (held h k)) (retired h));
@@ -35,21 +36,21 @@ retiring h =
     }
 
 -- a key begins, or none does
-abbrev pub beginning : List Keying → Option Beginning → Outcome
+abbrev pub beginning : List Keying → Option Beginning → Effect
 beginning h None = record { changes = []; past = h }
 beginning h (Some b) =
     record { changes = Began (shown true b.key) b.cause ∷ []; past = began b.key.epoch ∷ h }
 
 -- a station that is its own elected server leads
-abbrev pub leading : List Keying → List Report → Outcome
+abbrev pub leading : List Keying → List Report → Effect
 leading h live = beginning h (leads h live)
 
 -- a station follows what its elected server says of its keys
-abbrev pub following : List Keying → Uses → Outcome
+abbrev pub following : List Keying → Uses → Effect
 following h u = beginning h (follows h u)
 
 -- a key is installed, with its roster where this life made it, and ends others
-abbrev pub installing : List Keying → Option (List Mi) → Key → Outcome
+abbrev pub installing : List Keying → Option (List Mi) → Key → Effect
 installing h roster k =
     record {
       changes = map (λ j. Dropped (held h j))
@@ -58,15 +59,15 @@ installing h roster k =
     }
 
 -- a station that is its own elected server makes a key
-abbrev pub making : ℕ → Mi → List Keying → List Report → Bool → Secret → Outcome
+abbrev pub making : ℕ → Mi → List Keying → List Report → Bool → Secret → Effect
 making base own h live conf sak =
     installing h (Some (made_roster own live)) (made_key base own h conf sak)
 
 -- an offered key is taken, or there is a reason why not
-abbrev pub judging : List Keying → Offer → Result Key Why → Outcome
+abbrev pub judging : List Keying → Offer → Result Key Why → Effect
 judging h o (Ok k) = installing h None k
 judging h o (Err why) = record { changes = Untaken (offered_id o) why ∷ []; past = h }
 
 -- a key is offered, with the SAK that it hides, if it hides one
-abbrev pub taking : ℕ → List Keying → Offer → Option Secret → Outcome
+abbrev pub taking : ℕ → List Keying → Offer → Option Secret → Effect
 taking base h o sak = judging h o (taken base h o sak)

@@ -1,13 +1,15 @@
 -- What the state of the keys holds, and for which histories it stands (this profile's own): no
 -- other file knows of counters and maps.
-use Rattle.std.specs.Prelude.{◌≡◌, ℕ, ◌+◌, ◌-◌, min, Bool, cond, List, Option, Some, None, option_map}
+use Rattle.std.specs.Prelude.{◌≡◌, ℕ, ◌+◌, ◌-◌, min, Bool, if◌then◌else◌, List, Option, Some, None, option_map}
 use Rattle.std.specs.Map.{lookup}
 use Rattle.std.specs.BTreeMap.{is_at}
 use Rattle.lan_base.specs.declared.address.Mi.{Mi}
+use Rattle.lan_base.specs.declared.association_number.AssociationNumber.{AssociationNumber}
 use Rattle.lan_base.specs.Identifiers.{order}
 use Rattle.sak_exchange.specs.declared.held_key.HeldKey.{HeldKey}
 use Rattle.sak_exchange.specs.declared.latest.Latest.{Latest}
-use Rattle.sak_exchange.specs.Histories.{Key, Keying, clock, last_key, last_roster, last_made_at, install_count, made_count, begun_at}
+use Rattle.sak_exchange.specs.declared.held_key.Key.{Key}
+use Rattle.sak_exchange.specs.Histories.{Keying, clock, last_key, last_roster, last_made_at, install_count, made_count, begun_at}
 use Rattle.sak_exchange.specs.Held.{latest, old, Kept, held}
 use Rattle.sak_exchange.specs.Taking.{greatest_of}
 use Rattle.sak_exchange.specs.Lives.{IsNumbered}
@@ -22,7 +24,7 @@ pub record State : Type 0 where
   pub numbers : List (Mi × ℕ)
   pub made : ℕ
   pub since_made : Option ℕ
-  pub last_an : Option ℕ
+  pub last_an : Option AssociationNumber
 
 -- the number of a key server in a map from key servers to numbers
 abbrev pub number_in : List (Mi × ℕ) → Mi → Option ℕ
@@ -43,12 +45,12 @@ ticks_since_any now (Some at) = ticks_since now at
 
 -- the tick count, with the tick that neither retire nor drop all has followed yet
 abbrev pub now : Bool → List Keying → ℕ
-now pending h = cond pending (clock h + 1) (clock h)
+now pending h = if pending then clock h + 1 else clock h
 
 -- what is kept of the latest key
 abbrev pub kept_of : Bool → List Keying → Key → Latest
 kept_of pending h k =
-    record { key = held h k; since_begun = ticks_since_any (now pending h) (begun_at h k.epoch) }
+    record { held = held h k; since_begun = ticks_since_any (now pending h) (begun_at h k.epoch) }
 
 -- The state stands for a history of the station's life, before which so many keys were installed:
 -- it holds the latest key and the old one of the history, and its counts, numbers and ticks are the

@@ -1,27 +1,31 @@
 -- When a key is taken that a key server gives, and which (IEEE Std 802.1X, clause 9; the order of
 -- the reasons not to is this profile's own).
-use Rattle.std.specs.Prelude.{ℕ, ◌==◌, nat_lt, max, Bool, true, false, cond, List, [], ◌∷◌, Option, Some, None, unwrap_or, Result, Ok, Err}
+use Rattle.std.specs.Prelude.{ℕ, nat_lt, max, Bool, true, false, if◌then◌else◌, List, [], ◌∷◌, Option, Some, None, unwrap_or, Result, Ok, Err}
 use Rattle.lan_base.specs.declared.address.Mi.{Mi}
+use Rattle.lan_base.specs.declared.association_number.AssociationNumber.{AssociationNumber}
 use Rattle.lan_base.specs.declared.key_id.KeyId.{KeyId}
 use Rattle.aes_block.specs.declared.secret.Secret.{Secret}
+use Rattle.mkpdu_codec.specs.declared.offset.ConfidentialityOffset.{ConfidentialityOffset}
+use Rattle.mkpdu_codec.specs.declared.offset.ConfidentialityOffset.TheVariants as offsets
 use Rattle.mkpdu_codec.specs.declared.given.Given.{Given}
 use Rattle.mkpdu_codec.specs.declared.given.Given.TheVariants.{Aes128, Aes256, Other}
 use Rattle.sak_exchange.specs.declared.offer.Offer.{Offer}
 use Rattle.sak_exchange.specs.declared.change.Why.{Why}
 use Rattle.sak_exchange.specs.declared.change.Why.TheVariants.{NotListed, NotServer, Seen, Retiring, Suite, Offset, Wrap}
 use Rattle.lan_base.specs.Identifiers.{same_mi}
-use Rattle.sak_exchange.specs.Histories.{Key, Keying, ticked, installed, began}
+use Rattle.sak_exchange.specs.declared.held_key.Key.{Key}
+use Rattle.sak_exchange.specs.Histories.{Keying, ticked, installed, began}
 use Rattle.sak_exchange.specs.Held.{allows}
 use Rattle.sak_exchange.specs.Making.{next_epoch}
 
--- the fields of what is given: the association number, the confidentiality offset (1 for none left
--- out, 2 and 3 for 30 and 50 octets) and the key number
-abbrev pub an_of : Given → ℕ
+-- the fields of what is given: the association number, the confidentiality offset and the key
+-- number
+abbrev pub an_of : Given → AssociationNumber
 an_of (Aes128 an offset number octets) = an
 an_of (Aes256 an offset number octets) = an
 an_of (Other an offset number) = an
 
-abbrev pub offset_of : Given → ℕ
+abbrev pub offset_of : Given → ConfidentialityOffset
 offset_of (Aes128 an offset number octets) = offset
 offset_of (Aes256 an offset number octets) = offset
 offset_of (Other an offset number) = offset
@@ -37,6 +41,20 @@ is_supported (Aes128 an offset number octets) = true
 is_supported (Aes256 an offset number octets) = true
 is_supported (Other an offset number) = false
 
+-- whether frames under a key of this confidentiality offset are encrypted
+abbrev pub encrypts : ConfidentialityOffset → Bool
+encrypts offsets.None = false
+encrypts offsets.Octets0 = true
+encrypts offsets.Octets30 = true
+encrypts offsets.Octets50 = true
+
+-- whether no octets of a frame that is encrypted under such a key stay in the clear
+abbrev pub leaves_none : ConfidentialityOffset → Bool
+leaves_none offsets.None = true
+leaves_none offsets.Octets0 = true
+leaves_none offsets.Octets30 = false
+leaves_none offsets.Octets50 = false
+
 -- the identifier of the key that is offered
 abbrev pub offered_id : Offer → KeyId
 offered_id o = record { server = o.server; number = number_of o.given }
@@ -46,8 +64,8 @@ abbrev pub greatest_of : Mi → List Keying → Option ℕ
 greatest_of s [] = None
 greatest_of s (ticked b ∷ h) = greatest_of s h
 greatest_of s (installed r k ∷ h) =
-    cond (same_mi k.id.server s) (Some (max k.id.number (unwrap_or (greatest_of s h) 0)))
-    (greatest_of s h)
+    if same_mi k.id.server s then Some (max k.id.number (unwrap_or (greatest_of s h) 0))
+    else greatest_of s h
 greatest_of s (began e ∷ h) = greatest_of s h
 
 -- what follows, where a condition holds, and else the reason
@@ -67,7 +85,7 @@ offered_key epoch o sak =
       id = offered_id o;
       an = an_of o.given;
       sak = sak;
-      conf = offset_of o.given == 1;
+      conf = encrypts (offset_of o.given);
       epoch = epoch;
     }
 
@@ -86,7 +104,7 @@ judged kept allowed epoch o sak =
     provided_new kept (number_of o.given) (
     provided allowed Retiring (
     provided (is_supported o.given) Suite (
-    provided (nat_lt (offset_of o.given) 2) Offset (unwrapped_key epoch o sak))))))
+    provided (leaves_none (offset_of o.given)) Offset (unwrapped_key epoch o sak))))))
 
 -- the same after a history
 abbrev pub taken : ℕ → List Keying → Offer → Option Secret → Result Key Why

@@ -18,7 +18,7 @@ mod taking;
 
 use crate::held_key::HeldKey;
 use crate::latest::Latest;
-use lan_base::Mi;
+use lan_base::{AssociationNumber, Mi};
 use std::alloc::{AllocError, Global};
 use std::collections::BTreeMap;
 use std::marker::Model;
@@ -48,7 +48,7 @@ pub struct KeyState {
     /// How many ticks ago it made the last one, as far as they can be counted.
     since_made: Option<u32>,
     /// The association number of the key installed last.
-    last_an: Option<u8>,
+    last_an: Option<AssociationNumber>,
 }
 
 impl Model for KeyState {
@@ -157,7 +157,7 @@ impl KeyState {
         ensures { (base : ℕ) (own : Mi) (pending : Bool) (h : List Keying) →
             StandsFor base own pending self.now h → result ≡ option_map (held h) (latest_after h) }
     {
-        self.latest.map(|latest| latest.key)
+        self.latest.map(|latest| latest.held)
     }
 
     /// The old key.
@@ -182,7 +182,7 @@ impl KeyState {
         ensures { result ≡ transmitting_now self.now }
     {
         match &self.latest {
-            Some(latest) if latest.key.begun => Some(latest.key),
+            Some(latest) if latest.held.begun => Some(latest.held),
             _ => self.former,
         }
     }
@@ -192,7 +192,7 @@ impl KeyState {
         ensures { result ≡ allows_now self.now }
     {
         match &self.latest {
-            Some(latest) => !(latest.key.begun && self.former.is_some()),
+            Some(latest) => !(latest.held.begun && self.former.is_some()),
             None => true,
         }
     }

@@ -8,7 +8,7 @@ use crate::held_key::HeldKey;
 /// The latest key.
 #[derive(Clone, Copy, Debug)]
 pub struct Latest {
-    pub key: HeldKey,
+    pub held: HeldKey,
     /// How many ticks ago it began, as far as they can be counted; 0 where it hasn't begun.
     pub since_begun: u32,
 }
@@ -19,8 +19,8 @@ impl Latest {
         ensures { result ≡ aged self.now }
     {
         Latest {
-            key: self.key,
-            since_begun: if self.key.begun {
+            held: self.held,
+            since_begun: if self.held.begun {
                 self.since_begun.saturating_add(1)
             } else {
                 0
@@ -33,9 +33,9 @@ impl Latest {
         ensures { result ≡ begun_now self.now }
     {
         Latest {
-            key: HeldKey {
+            held: HeldKey {
+                key: self.held.key,
                 begun: true,
-                ..self.key
             },
             since_begun: 0,
         }

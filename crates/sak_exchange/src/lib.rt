@@ -14,7 +14,7 @@ mod report;
 
 pub use change::{Cause, Change, Changes, Why};
 pub use due::{Due, Seen};
-pub use held_key::HeldKey;
+pub use held_key::{HeldKey, Key};
 pub use key_state::KeyState;
 pub use laws::{
     law_a_tick_retires, law_an_install_leaves_what_transmits, law_an_old_key_has_begun,

@@ -5,8 +5,8 @@ ghost use Rattle.sak_exchange.specs.Unwrapping.{unwrapped};
 
 use aes_block::{Key, Secret};
 use key_wrap::{unwrap, unwrap256};
-use lan_base::{KeyId, Mi};
-use mkpdu_codec::Given;
+use lan_base::{AssociationNumber, KeyId, Mi};
+use mkpdu_codec::{ConfidentialityOffset, Given};
 
 /// A key that an accepted announcement gives.
 #[derive(Clone, Copy, Debug, PartialEq, Eq)]
@@ -22,7 +22,7 @@ pub struct Offer {
 
 impl Offer {
     ghost use Rattle.std.specs.Prelude.{◌≡◌};
-    ghost use Rattle.sak_exchange.specs.Taking.{an_of, offset_of, is_supported, offered_id};
+    ghost use Rattle.sak_exchange.specs.Taking.{an_of, offset_of, encrypts, leaves_none, is_supported, offered_id};
     ghost use Rattle.sak_exchange.specs.Unwrapping.{given_sak};
 
     /// The key's identifier.
@@ -41,7 +41,7 @@ impl Offer {
     }
 
     /// Its association number.
-    pub(crate) fn an(&self) -> u8
+    pub(crate) fn an(&self) -> AssociationNumber
         ensures { result ≡ an_of self.now.given }
     {
         match self.given {
@@ -49,8 +49,25 @@ impl Offer {
         }
     }
 
-    /// Its confidentiality offset, as a number.
-    pub(crate) fn offset(&self) -> u8
+    /// Whether frames under it are encrypted.
+    pub(crate) fn encrypts(&self) -> bool
+        ensures { result ≡ encrypts (offset_of self.now.given) }
+    {
+        self.offset() != ConfidentialityOffset::None
+    }
+
+    /// Whether no octets of such frames stay in the clear.
+    pub(crate) fn leaves_none(&self) -> bool
+        ensures { result ≡ leaves_none (offset_of self.now.given) }
+    {
+        match self.offset() {
+            ConfidentialityOffset::None | ConfidentialityOffset::Octets0 => true,
+            ConfidentialityOffset::Octets30 | ConfidentialityOffset::Octets50 => false,
+        }
+    }
+
+    /// Its confidentiality offset.
+    fn offset(&self) -> ConfidentialityOffset
         ensures { result ≡ offset_of self.now.given }
     {
         match self.given {

@@ -1,5 +1,5 @@
 -- Who serves: the candidate with the least pair of priority and SCI (IEEE Std 802.1X, 9.5).
-use Rattle.std.specs.Prelude.{◌≡◌, ◌==◌, Bool, false, not, List, [], ◌∷◌, Option, None, Some, All, Contains, filter, if◌then◌else◌}
+use Rattle.std.specs.Prelude.{◌≡◌, ℕ, ◌==◌, Bool, false, not, List, [], ◌∷◌, Option, None, Some, All, Contains, filter, if◌then◌else◌}
 use Rattle.std.specs.Option.{option_map}
 use Rattle.std.specs.declared.cmp.Ordering.{Ordering}
 use Rattle.std.specs.Ordering.{nat_cmp, ordering_then, is_lt}
@@ -15,9 +15,13 @@ pair_cmp x y = ordering_then (nat_cmp x.priority y.priority) (slice_cmp nat_cmp 
 abbrev pub precedes : Candidate → Candidate → Bool
 precedes x y = is_lt (pair_cmp x y)
 
--- a candidate of priority 255 never serves
+-- the priority that never serves
+abbrev pub never_serves : ℕ
+never_serves = 255
+
+-- a candidate of another priority may serve
 abbrev pub may_serve : Candidate → Bool
-may_serve x = not (x.priority == 255)
+may_serve x = not (x.priority == never_serves)
 
 -- the station itself and its live peers, without those that never serve
 abbrev pub eligible : Candidate → List Candidate → List Candidate

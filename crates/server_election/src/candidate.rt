@@ -2,8 +2,8 @@
 
 use lan_base::{Mi, Sci};
 
-/// The priority that never serves.
-const NEVER: u8 = 255;
+/// The priority that never serves, by `law_never_serves` that of the definitions.
+pub const NEVER: u8 = 255;
 
 /// A station that may serve, and its key server priority; the least serves.
 #[derive(Clone, Copy, Debug, PartialEq, Eq)]

@@ -4,7 +4,14 @@ ghost use Rattle.std.specs.Prelude.{◌≡◌, ◌↔◌, ◌⊎◌, List, [], �
 ghost use Rattle.std.specs.declared.cmp.Ordering.TheVariants.{Equal};
 ghost use Rattle.lan_base.specs.declared.address.Mi.{Mi};
 ghost use Rattle.server_election.specs.declared.candidate.Candidate.{Candidate};
-ghost use Rattle.server_election.specs.Election.{elected, eligible, pair_cmp, IsLeast};
+ghost use Rattle.server_election.specs.Election.{elected, eligible, never_serves, pair_cmp, IsLeast};
+
+use crate::candidate::NEVER;
+
+/// The priority that never serves is that of the definitions.
+pub fn law_never_serves()
+    ensures { NEVER ≡ never_serves }
+{}
 
 /// The elected server is one of those that may serve, and none of these has a smaller pair.
 pub fn law_least()
@@ -12,10 +19,10 @@ pub fn law_least()
         → (server : Candidate) × IsLeast server (eligible own live) × (server.mi ≡ mi) }
 {}
 
-/// Nobody is elected exactly where no peer is live or all have priority 255.
+/// Nobody is elected exactly where no peer is live or all have the priority that never serves.
 pub fn law_none()
     ensures { (own : Candidate) (live : List Candidate) → (elected own live ≡ None)
-        ↔ ((live ≡ []) ⊎ All (λ x. x.priority ≡ 255) (own ∷ live)) }
+        ↔ ((live ≡ []) ⊎ All (λ x. x.priority ≡ never_serves) (own ∷ live)) }
 {}
 
 /// Where equal pairs are of one identifier, the order of the peers doesn't matter.

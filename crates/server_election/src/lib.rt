@@ -5,9 +5,6 @@ mod candidate;
 mod election;
 mod laws;
 
-pub use candidate::Candidate;
+pub use candidate::{Candidate, NEVER};
 pub use election::elect;
-pub use laws::{law_least, law_none, law_order};
-
-#[cfg(test)]
-mod tests;
+pub use laws::{law_least, law_never_serves, law_none, law_order};

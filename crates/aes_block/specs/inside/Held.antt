@@ -1,8 +1,8 @@
 -- What a key holds.
 use Rattle.std.specs.Prelude.{ℕ, List, take}
 use Rattle.aes_block.specs.Column.{octets_of_words}
-use Rattle.aes_block.specs.declared.key.Length.{Length}
-use Rattle.aes_block.specs.declared.key.Length.TheVariants.{Bits128, Bits256}
+use Rattle.aes_block.specs.declared.expanded_key.Length.{Length}
+use Rattle.aes_block.specs.declared.expanded_key.Length.TheVariants.{Bits128, Bits256}
 
 -- how many words a key of this length has (FIPS 197, section 5.2)
 abbrev pub words_of : Length → ℕ

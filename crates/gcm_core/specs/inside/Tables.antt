@@ -1,4 +1,4 @@
--- What the tables of a hash key hold.
+-- Powers of x, and products with every four bits.
 use Rattle.std.specs.Prelude.{◌≡◌, ◌<◌, ℕ, zero, suc, Bool, List, slice_index}
 use Rattle.aes_block.specs.Product.{product, times_x}
 use Rattle.gcm_core.specs.Blocks.{block_bits}
@@ -9,14 +9,7 @@ unfoldable pub times_power : ℕ → List Bool → List Bool
 times_power zero v = v
 times_power (suc n) v = times_power n (times_x reduction v)
 
--- a row for every four bits: their product with a block
+-- for every four bits their product with a block
 unfoldable pub AreProducts : List Bool → List ℕ → Type 0
 AreProducts v rows =
     (n : ℕ) → n < 16 → block_bits (slice_index rows n) ≡ product reduction (four_places n) v
-
--- the rows of a hash key, and of its products with x ^ 32, x ^ 64 and x ^ 96
-pub record IsTable (h : ℕ) (one two three four : List ℕ) : Type 0 where
-  pub first : AreProducts (block_bits h) one
-  pub second : AreProducts (times_power 32 (block_bits h)) two
-  pub third : AreProducts (times_power 32 (times_power 32 (block_bits h))) three
-  pub fourth : AreProducts (times_power 32 (times_power 32 (times_power 32 (block_bits h)))) four

@@ -7,23 +7,15 @@ use Rattle.lan_base.specs.Identifiers.{same_mi}
 use Rattle.lan_base.specs.Timers.{hello_time}
 use Rattle.peer_lists.specs.declared.heard.Row.{Row}
 use Rattle.sak_exchange.specs.Histories.{Keying}
-use Rattle.sak_exchange.specs.Held.{latest, old, transmitting}
 use Rattle.sak_exchange.specs.Standing.{most_ticks}
-use Rattle.mka_station.specs.Announcing.{Shown, id_of, same_option, same_key, same_shown}
+use Rattle.mka_station.specs.Announcing.{Shown, shown_of, same_option, same_key, same_shown}
 use Rattle.mka_station.specs.declared.shown.Spoken.{Spoken}
 use Rattle.mka_station.specs.inside.Rows.{live_rows, potential_rows}
 
 -- what rows, a server and keys show
 abbrev pub shown_by : List Row → Option Mi → List Keying → Shown
 shown_by rows server h =
-    record {
-      live = map (λ r. r.mi) (live_rows rows);
-      potential = map (λ r. r.mi) (potential_rows rows);
-      server = server;
-      latest = id_of (latest h);
-      old = id_of (old h);
-      transmitting = id_of (transmitting h);
-    }
+    shown_of (map (λ r. r.mi) (live_rows rows)) (map (λ r. r.mi) (potential_rows rows)) server h
 
 abbrev pub same_members : Shown → Shown → Bool
 same_members s t =

@@ -3,10 +3,10 @@ use lib.Pointwise.{pointwise}
 use Rattle.aes_cmac.specs.Cmac.{cmac}
 use Rattle.mkpdu_codec.specs.declared.refusal.Refusal.{Refusal}
 use Rattle.mkpdu_codec.specs.Reading.{reading}
-use Rattle.mka_station.specs.declared.verdict.Verdict.{Verdict}
-use Rattle.mka_station.specs.declared.verdict.Verdict.TheVariants.{CkName, Check}
+use Rattle.mka_station.specs.declared.verdict.DropReason.{DropReason}
+use Rattle.mka_station.specs.declared.verdict.DropReason.TheVariants.{CkName, Check}
 use Rattle.mka_station.specs.Lives.{Setup}
-use Rattle.std.specs.Prelude.{◌≡◌, nat_eq, not, Err, ℕ, Bool, true, false, cond, ◌&&◌, List, ◌∷◌}
+use Rattle.std.specs.Prelude.{◌≡◌, nat_eq, not, Err, ℕ, Bool, true, false, if◌then◌else◌, ◌&&◌, List, ◌∷◌}
 use Rattle.std.specs.Prelude.{Option, Some, None, option_map, option_and_then, Result, IsTrue}
 use Rattle.std.specs.List.{list_any}
 use Rattle.lan_base.specs.declared.address.Mi.{Mi}
@@ -15,7 +15,8 @@ use Rattle.aes_block.specs.declared.secret.Secret.{Secret}
 use Rattle.mkpdu_codec.specs.declared.announcement.Announcement.{Announcement}
 use Rattle.peer_lists.specs.declared.heard.Outcome.{Outcome}
 use Rattle.peer_lists.specs.Histories.{Peering, sent, recent}
-use Rattle.sak_exchange.specs.Histories.{Key, Keying, installed}
+use Rattle.sak_exchange.specs.declared.held_key.Key.{Key}
+use Rattle.sak_exchange.specs.Histories.{Keying, installed}
 use Rattle.sak_exchange.specs.Beginning.{Beginning, follows}
 use Rattle.sak_exchange.specs.Making.{made_key}
 use Rattle.sak_exchange.specs.Taking.{taken}
@@ -26,7 +27,7 @@ use Rattle.mka_station.specs.declared.saying.Lowest.{Lowest}
 use Rattle.mka_station.specs.declared.shown.Spoken.{Spoken}
 use Rattle.mka_station.specs.Views.{is_server}
 use Rattle.mka_station.specs.Announcing.{Shown, uses_of}
-use Rattle.mka_station.specs.Hearing.{is_accepted, is_vouched, verdict_of_refusal}
+use Rattle.mka_station.specs.Hearing.{is_accepted, is_vouched, reason_of_refusal}
 use Rattle.mka_station.specs.Standing.{State}
 use Rattle.mka_station.specs.inside.Due.{is_due_after, one_later}
 use Rattle.mka_station.specs.inside.Saying.{lowest_by, given_after, announced_by}
@@ -46,9 +47,10 @@ is_install (Untaken id why) = false
 -- of its keys
 abbrev pub said_by : State → Shown → ℕ → Lowest → List Keying → Option Announcement
 said_by s shown mn lowest h =
-    cond (is_due_after s.spoken shown)
-    (Some (announced_by s mn (uses_of (λ k. lowest_by lowest k.id) h)
-    (given_after s.setup.kek (is_server s.coming.server s.mi) s.coming.reports h))) None
+    if is_due_after s.spoken shown
+    then Some (announced_by s mn (uses_of (lowest_by lowest) h)
+    (given_after s.setup.kek (is_server s.coming.server s.mi) s.coming.reports h))
+    else None
 
 -- the history of the peer lists, with an announcement where one is sent
 abbrev pub peers_with : Option Announcement → List Peering → List Peering
@@ -58,12 +60,12 @@ peers_with (Some a) h = sent a.mn ∷ h
 -- what is offered by an announcement that came to this
 abbrev pub offered_by : Outcome → List Peering → Mi → Option Mi → Announcement → Option Offer
 offered_by o h mi server a =
-    cond (is_accepted o) (option_map (λ g. record {
+    if is_accepted o then option_map (λ g. record {
       given = g;
       server = a.mi;
       listed = list_any (λ peer. same_mi peer.mi mi && recent h peer.mn) a.live;
       elected = is_server server a.mi;
-    }) a.given) None
+    }) a.given else None
 
 -- what an offer comes to
 abbrev pub answered : ℕ → List ℕ → List Keying → Option Offer → Option (Result Key Why)
@@ -77,7 +79,7 @@ keys_with (Some k) h = installed None k ∷ h
 -- the key that begins as a station follows its server
 abbrev pub followed_by : Outcome → Option Mi → Announcement → List Keying → Option Beginning
 followed_by o server a h =
-    cond (is_vouched o && is_server server a.mi) (option_and_then (follows h) a.uses) None
+    if is_vouched o && is_server server a.mi then option_and_then (follows h) a.uses else None
 
 -- a key that was made, where one was
 abbrev pub made_by : ℕ → Mi → List Keying → Bool → Option Secret → Option Key
@@ -105,11 +107,12 @@ IsDue None due = Unit {0}
 IsDue (Some sak) due = IsTrue due
 
 -- why an announcement that octets spell is not of the group, if it is not
-abbrev pub fault_of : Setup → Announcement → List ℕ → List ℕ → Option Verdict
+abbrev pub fault_of : Setup → Announcement → List ℕ → List ℕ → Option DropReason
 fault_of setup a covered check =
-    cond (not (pointwise nat_eq a.ckn setup.ckn)) (Some CkName)
-    (cond (not (pointwise nat_eq check (cmac setup.ick covered))) (Some Check) None)
+    if not (pointwise nat_eq a.ckn setup.ckn) then Some CkName
+    else if not (pointwise nat_eq check (cmac setup.ick covered)) then Some Check
+    else None
 
 -- a frame is refused in reading, and this is why
-abbrev pub IsRefused : List ℕ → Verdict → Type 0
-IsRefused frame v = (r : Refusal) × (reading frame ≡ Err r) × (v ≡ verdict_of_refusal r)
+abbrev pub IsRefused : List ℕ → DropReason → Type 0
+IsRefused frame reason = (r : Refusal) × (reading frame ≡ Err r) × (reason ≡ reason_of_refusal r)

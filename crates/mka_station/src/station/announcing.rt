@@ -6,11 +6,10 @@ ghost use Rattle.mkpdu_codec.specs.Written.{IsWritable, IsWritableGiven};
 ghost use Rattle.peer_lists.specs.Acceptance.{Own};
 ghost use Rattle.peer_lists.specs.Histories.{Peering, last_sent, may_send};
 ghost use Rattle.peer_lists.specs.Table.{StandsFor as PeersStandFor};
-ghost use Rattle.sak_exchange.specs.Histories.{Keying, installs};
+ghost use Rattle.sak_exchange.specs.Histories.{Keying};
 ghost use Rattle.sak_exchange.specs.Standing.{StandsFor as KeysStandFor};
 ghost use Rattle.mka_station.specs.Views.{is_server};
 ghost use Rattle.mka_station.specs.Announcing.{frame_of, uses_of};
-ghost use Rattle.mka_station.specs.Standing.{HaveTwoBits};
 ghost use Rattle.mka_station.specs.inside.Due.{is_due_after};
 ghost use Rattle.mka_station.specs.inside.Saying.{announced_by, given_after, lowest_by};
 ghost use Rattle.mka_station.specs.inside.Turns.{said_by, peers_with, spoken_after};
@@ -37,7 +36,7 @@ impl Station {
     ) -> Result<Option<Octets>, AllocError>
         ensures frame { (own : Own) (h : List Peering) (base : ℕ) (mi : Mi) (k : List Keying) →
             PeersStandFor own peers.old h → KeysStandFor base mi false keys.now k →
-            HaveTwoBits (installs k) → may_send h ≡ true → last_sent h + 1 < 2 ^ 32 →
+            may_send h ≡ true → last_sent h + 1 < 2 ^ 32 →
             IfOk result (λ o. o ≡ option_map (frame_of self.now.setup)
             (said_by self.now shown.now (last_sent h + 1) lowest.now k)) }
         ensures stands { (own : Own) (h : List Peering) (k : List Keying) →
@@ -69,9 +68,8 @@ impl Station {
     /// The frame of the announcement of a number.
     fn frame_saying(&self, mn: u32, keys: &KeyState, lowest: &Lowest) -> Result<Octets, AllocError>
         ensures { (base : ℕ) (mi : Mi) (h : List Keying) → KeysStandFor base mi false keys.now h →
-            HaveTwoBits (installs h) →
             IfOk result (λ o. o ≡ frame_of self.now.setup (announced_by self.now mn
-            (uses_of (λ k. lowest_by lowest.now k.id) h)
+            (uses_of (lowest_by lowest.now) h)
             (given_after self.now.setup.kek (is_server self.now.coming.server self.now.mi)
             self.now.coming.reports h))) }
     {
@@ -87,8 +85,7 @@ impl Station {
         uses: Option<Uses>,
         given: Option<Given>,
     ) -> Result<Announcement, AllocError>
-        requires uses { IfSome uses (λ u. (u.latest.an < 4) × (u.old.an < 4)) }
-        requires given { IfSome given IsWritableGiven }
+        requires { IfSome given IsWritableGiven }
         ensures value { IfOk result (λ a. a ≡ announced_by self.now mn uses given) }
         ensures writable { IfOk result IsWritable }
     {

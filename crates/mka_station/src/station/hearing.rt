@@ -1,8 +1,7 @@
 //! A frame is heard: it is judged, and what it says is taken.
 
-ghost use Rattle.std.specs.Prelude.{◌≡◌, ◌≢◌, ◌≤◌, ◌<◌, ◌+◌, ◌^◌, List, ℕ, false, Ok, Err, IfOk, OnOk, OnErr, IfSome, IfErr, length, take};
+ghost use Rattle.std.specs.Prelude.{◌≡◌, ◌≤◌, ◌<◌, ◌+◌, ◌^◌, List, ℕ, false, Ok, Err, IfOk, OnOk, OnErr, IfErr, length, take};
 ghost use Rattle.lan_base.specs.declared.address.Mi.{Mi};
-ghost use Rattle.mkpdu_codec.specs.declared.refusal.Refusal.{Refusal};
 ghost use Rattle.mkpdu_codec.specs.Reading.{reading};
 ghost use Rattle.peer_lists.specs.Acceptance.{Own};
 ghost use Rattle.peer_lists.specs.Histories.{Peering};
@@ -10,27 +9,28 @@ ghost use Rattle.peer_lists.specs.Table.{StandsFor as PeersStandFor};
 ghost use Rattle.sak_exchange.specs.Histories.{Keying};
 ghost use Rattle.sak_exchange.specs.Outcomes.{beginning};
 ghost use Rattle.sak_exchange.specs.Standing.{StandsFor as KeysStandFor};
-ghost use Rattle.sak_exchange.specs.Taking.{an_of};
-ghost use Rattle.mka_station.specs.declared.verdict.Verdict.{Verdict};
+ghost use Rattle.mka_station.specs.declared.verdict.DropReason.{DropReason};
 ghost use Rattle.mka_station.specs.Lives.{Member, Entry};
-ghost use Rattle.mka_station.specs.Hearing.{judged, hear_turn, frame_turn, take_changes, key_taken, is_accepted, verdict_of, verdict_of_refusal};
+ghost use Rattle.mka_station.specs.Hearing.{judged, hear_turn, frame_turn, take_changes, key_taken, is_accepted, verdict_of, reason_of_refusal, reason_of_peers};
 ghost use Rattle.mka_station.specs.Standing.{StandsFor, HasRoom};
-ghost use Rattle.mka_station.specs.inside.Stages.{IsHeard};
+ghost use Rattle.mka_station.specs.inside.Reached.{IsHeard};
 ghost use Rattle.mka_station.specs.inside.Turns.{offered_by, answered, keys_with, followed_by, IsRefused, fault_of};
 
 use super::{Station, new_server};
 use crate::changes::{joined, one_installs};
 use crate::coming::candidate;
-use crate::next::{Heard, Next};
+use crate::next::{Hearing, Next};
 use crate::reaction::Reaction;
 use crate::rows::{elected, is_server, rows_now};
 use crate::telling::{is_listed, told};
-use crate::verdict::Verdict;
+use crate::verdict::{DropReason, Verdict};
 use aes_block::Key;
 use aes_cmac::cmac;
 use lan_base::Mi;
-use mkpdu_codec::{Announcement, Refusal, Spelled, law_reading_refuses, law_spelled_is_read, read};
-use peer_lists::{DropReason, Outcome, PeerTable};
+use mkpdu_codec::{
+    Announcement, ReadError, Refusal, Spelled, law_reading_refuses, law_spelled_is_read, read,
+};
+use peer_lists::{Outcome, PeerRefusal, PeerTable};
 use sak_exchange::{Changes, KeyState, Offer};
 use server_election::Candidate;
 use std::alloc::{AllocError, Global};
@@ -44,14 +44,14 @@ impl Station {
             IfOk result (λ r. r ≡ (frame_turn m frame.now p).reaction) }
         ensures stands { (m : Member) (p : List Entry) → StandsFor m self.old p →
             OnOk result (StandsFor m self.new (frame_turn m frame.now p).past) }
-        ensures dropped { (v : Verdict) → judged self.old.setup frame.now ≡ Err v →
+        ensures dropped { (r : DropReason) → judged self.old.setup frame.now ≡ Err r →
             self.new ≡ self.old }
         ensures unchanged { OnErr result (self.new ≡ self.old) }
     {
         match self.judged(frame)? {
             Ok(announcement) => self.hear_announcement(&announcement),
-            Err(verdict) => Ok(Reaction {
-                heard: Some(verdict),
+            Err(reason) => Ok(Reaction {
+                heard: Some(Verdict::Dropped(reason)),
                 server: None,
                 changes: Changes::new(self.alloc),
                 sent: None,
@@ -61,13 +61,12 @@ impl Station {
 
     /// The announcement of a frame of the group, or why the frame is dropped before anything is
     /// known of its member.
-    fn judged(&self, frame: &[u8]) -> Result<Result<Announcement, Verdict>, AllocError>
-        ensures value { IfOk result (λ j. j ≡ judged self.now.setup frame.now) }
-        ensures bits { IfOk result (λ j. IfOk j (λ a. IfSome a.given (λ g. an_of g < 4))) }
+    fn judged(&self, frame: &[u8]) -> Result<Result<Announcement, DropReason>, AllocError>
+        ensures { IfOk result (λ j. j ≡ judged self.now.setup frame.now) }
     {
         let spelled = match read_frame(self.alloc, frame)? {
             Ok(spelled) => spelled,
-            Err(verdict) => return Ok(Err(verdict)),
+            Err(reason) => return Ok(Err(reason)),
         };
         let Spelled {
             announcement,
@@ -75,7 +74,7 @@ impl Station {
             check,
         } = spelled;
         match self.fault(&announcement, frame, covered, &check) {
-            Some(verdict) => Ok(Err(verdict)),
+            Some(reason) => Ok(Err(reason)),
             None => Ok(Ok(announcement)),
         }
     }
@@ -88,16 +87,16 @@ impl Station {
         frame: &[u8],
         covered: usize,
         check: &[u8; 16],
-    ) -> Option<Verdict>
+    ) -> Option<DropReason>
         requires { covered ≤ length frame.now }
         ensures { result
             ≡ fault_of self.now.setup announcement.now (take covered frame.now) check.now }
     {
         if announcement.ckn != self.config.group.ckn {
-            return Some(Verdict::CkName);
+            return Some(DropReason::CkName);
         }
         if cmac(self.ick(), &frame[..covered]) != *check {
-            return Some(Verdict::Check);
+            return Some(DropReason::Check);
         }
         None
     }
@@ -108,12 +107,11 @@ impl Station {
         ensures reaction { (m : Member) (p : List Entry) → StandsFor m self.old p →
             IfOk result (λ r. r ≡ (hear_turn m announcement.now p).reaction) }
         ensures stands { (m : Member) (p : List Entry) → StandsFor m self.old p →
-            IfSome announcement.now.given (λ g. an_of g < 4) →
             OnOk result (StandsFor m self.new (hear_turn m announcement.now p).past) }
         ensures unchanged { OnErr result (self.new ≡ self.old) }
     {
         let heard = self.after_hearing(announcement)?;
-        let Heard {
+        let Hearing {
             next,
             installs,
             reaction,
@@ -123,7 +121,7 @@ impl Station {
     }
 
     /// What a hearing comes to.
-    fn after_hearing(&self, announcement: &Announcement) -> Result<Heard, AllocError>
+    fn after_hearing(&self, announcement: &Announcement) -> Result<Hearing, AllocError>
         requires room { HasRoom self.now }
         ensures { (m : Member) (p : List Entry) → StandsFor m self.now p →
             IfOk result (IsHeard m p announcement.now) }
@@ -140,7 +138,7 @@ impl Station {
         let installs = one_installs(&taken);
         let changes = joined(taken, &followed)?;
         let coming = self.prepare(*self.mi(), &peers, &keys)?;
-        Ok(Heard {
+        Ok(Hearing {
             next: Next {
                 peers,
                 keys,
@@ -170,34 +168,30 @@ impl Station {
 }
 
 /// What a frame spells, or why it is dropped.
-fn read_frame(alloc: Global, frame: &[u8]) -> Result<Result<Spelled, Verdict>, AllocError>
+fn read_frame(alloc: Global, frame: &[u8]) -> Result<Result<Spelled, DropReason>, AllocError>
     ensures ok { IfOk result (λ r. IfOk r (λ s. reading frame.now ≡ Ok s)) }
     ensures covered { IfOk result (λ r. IfOk r (λ s. s.covered ≤ length frame.now)) }
-    ensures bits { IfOk result (λ r. IfOk r (λ s. IfSome s.announcement.given (λ g. an_of g < 4))) }
-    ensures err { IfOk result (λ r. IfErr r (λ v. IsRefused frame.now v)) }
+    ensures err { IfOk result (λ r. IfErr r (λ reason. IsRefused frame.now reason)) }
 {
     law_spelled_is_read();
     law_reading_refuses();
     match read(alloc, frame) {
         Ok(spelled) => Ok(Ok(spelled)),
-        Err(refusal) => {
-            let verdict = verdict_of_refusal(refusal)?;
-            Ok(Err(verdict))
-        }
+        Err(ReadError::Refused(refusal)) => Ok(Err(reason_of_refusal(refusal))),
+        Err(ReadError::Memory) => Err(AllocError),
     }
 }
 
-/// Why a frame is dropped that is not read, if that isn't want of memory.
-fn verdict_of_refusal(refusal: Refusal) -> Result<Verdict, AllocError>
-    ensures { IfOk result (λ v. (v ≡ verdict_of_refusal refusal) × (refusal ≢ Refusal.Memory)) }
+/// Why a frame is dropped that is not read.
+fn reason_of_refusal(refusal: Refusal) -> DropReason
+    ensures { result ≡ reason_of_refusal refusal }
 {
     match refusal {
-        Refusal::NotMka => Ok(Verdict::NotMka),
-        Refusal::Short => Ok(Verdict::Short),
-        Refusal::Shape { at } => Ok(Verdict::Shape { at }),
-        Refusal::Repeated { kind } => Ok(Verdict::Repeated { kind }),
-        Refusal::Agility => Ok(Verdict::Agility),
-        Refusal::Memory => Err(AllocError),
+        Refusal::NotMka => DropReason::NotMka,
+        Refusal::Short => DropReason::Short,
+        Refusal::Shape { at } => DropReason::Shape { at },
+        Refusal::Repeated { kind } => DropReason::Repeated { kind },
+        Refusal::Agility => DropReason::Agility,
     }
 }
 
@@ -208,9 +202,18 @@ fn verdict_of(outcome: Outcome) -> Verdict
     match outcome {
         Outcome::Vouched => Verdict::Vouched,
         Outcome::Unvouched => Verdict::Unvouched,
-        Outcome::Dropped(DropReason::Echo) => Verdict::Echo,
-        Outcome::Dropped(DropReason::OldNumber { kept }) => Verdict::OldNumber { kept },
-        Outcome::Dropped(DropReason::PeersFull) => Verdict::PeersFull,
+        Outcome::Dropped(refusal) => Verdict::Dropped(reason_of_peers(refusal)),
+    }
+}
+
+/// Why an announcement is dropped that the peer lists refuse.
+fn reason_of_peers(refusal: PeerRefusal) -> DropReason
+    ensures { result ≡ reason_of_peers refusal }
+{
+    match refusal {
+        PeerRefusal::Echo => DropReason::Echo,
+        PeerRefusal::OldNumber { kept } => DropReason::OldNumber { kept },
+        PeerRefusal::PeersFull => DropReason::PeersFull,
     }
 }
 

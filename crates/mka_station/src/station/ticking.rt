@@ -7,36 +7,34 @@ ghost use Rattle.aes_block.specs.declared.secret.Secret.{Secret};
 ghost use Rattle.sak_exchange.specs.Histories.{Keying};
 ghost use Rattle.sak_exchange.specs.Making.{makes, made_roster};
 ghost use Rattle.sak_exchange.specs.Standing.{StandsFor as KeysStandFor};
-ghost use Rattle.mka_station.specs.declared.fault.StationFault.{StationFault};
+ghost use Rattle.mka_station.specs.declared.tick_error.TickError.{TickError};
+ghost use Rattle.lan_base.specs.Suites.{sak_draws};
 ghost use Rattle.mka_station.specs.Lives.{Member, Entry};
 ghost use Rattle.mka_station.specs.Views.{is_server};
 ghost use Rattle.mka_station.specs.Tick.{tick_turn, install_changes};
-ghost use Rattle.mka_station.specs.Drawing.{next_sak, sak_of, draws_for, draws_at, makes_next, is_short};
+ghost use Rattle.mka_station.specs.Drawing.{next_sak, sak_of, draws_at, makes_next, is_short};
 ghost use Rattle.mka_station.specs.Standing.{StandsFor, HasRoom};
 ghost use Rattle.mka_station.specs.inside.Due.{shown_by};
-ghost use Rattle.mka_station.specs.inside.Stages.{IsTicked};
+ghost use Rattle.mka_station.specs.inside.Reached.{IsTicked};
 ghost use Rattle.mka_station.specs.inside.Turns.{made_by, keys_made, IsDue};
 
 use super::{Station, new_server};
 use crate::changes::joined;
-use crate::fault::StationFault;
 use crate::next::{Next, Ticked};
 use crate::reaction::Reaction;
 use crate::rows::{is_one_potential, is_server};
 use crate::saying::Lowest;
 use crate::shown::Shown;
+use crate::tick_error::TickError;
 use aes_block::Secret;
-use lan_base::Draws;
+use lan_base::{Draws, Suite};
 use sak_exchange::{Changes, Due, KeyState, Seen};
 use std::alloc::{AllocError, Global};
-
-/// How many bits a key has that takes two draws.
-const WIDE: u16 = 256;
 
 impl Station {
     /// A tick: the server is elected, keys end, begin or are made, and the station announces
     /// itself.
-    pub fn tick<D: Draws>(&mut self, seen: &Seen, draws: &mut D) -> Result<Reaction, StationFault>
+    pub fn tick<D: Draws>(&mut self, seen: &Seen, draws: &mut D) -> Result<Reaction, TickError>
         requires room { HasRoom self.old }
 
         // What happens is the turn of the life's history.
@@ -54,12 +52,12 @@ impl Station {
 
         // It is refused exactly where a key is made for which there are too few draws.
         ensures spent { (m : Member) (p : List Entry) → StandsFor m self.old p →
-            (result ≡ Err StationFault.DrawsSpent)
+            (result ≡ Err TickError.DrawsSpent)
             ↔ IsTrue (is_short m p seen.now (D.nth draws.old)) }
         ensures unchanged { OnErr result (self.new ≡ self.old) }
     {
         let sak = if self.makes(seen) {
-            Some(drawn_sak(self.config.suite, draws).ok_or(StationFault::DrawsSpent)?)
+            Some(drawn_sak(self.config.suite, draws).ok_or(TickError::DrawsSpent)?)
         } else {
             None
         };
@@ -179,18 +177,19 @@ impl Station {
     }
 }
 
-/// The SAK that the next draws give: one for a key of 128 bits, two for one of 256.
-fn drawn_sak<D: Draws>(suite: u16, draws: &mut D) -> Option<Secret>
+/// The SAK of a cipher suite that the next draws give.
+fn drawn_sak<D: Draws>(suite: Suite, draws: &mut D) -> Option<Secret>
     ensures value { result ≡ next_sak suite (D.nth draws.old) }
     ensures taken { OnSome result ((k : ℕ) →
-        D.nth draws.new k ≡ D.nth draws.old (k + draws_for suite)) }
+        D.nth draws.new k ≡ D.nth draws.old (k + sak_draws suite)) }
 {
-    if suite == WIDE {
-        let first = draws.draw()?;
-        let second = draws.draw()?;
-        Some(Secret::S256(both(&first, &second)))
-    } else {
-        Some(Secret::S128(draws.draw()?))
+    match suite {
+        Suite::GcmAes128 => Some(Secret::S128(draws.draw()?)),
+        Suite::GcmAes256 => {
+            let first = draws.draw()?;
+            let second = draws.draw()?;
+            Some(Secret::S256(both(&first, &second)))
+        }
     }
 }
 

@@ -1,12 +1,13 @@
 -- What the private functions found and answered, as the definitions of reading have it: without
 -- where it lies in memory.
-use Rattle.std.specs.Prelude.{◌≡◌, ◌⊎◌, Option, Some, None, Result, Ok, Err, IsOk}
+use Rattle.std.specs.Prelude.{◌≡◌, Option, Some, None, Result, Ok, Err, IsOk}
 use Rattle.mkpdu_codec.specs.declared.basic.Basic.{Basic}
 use Rattle.mkpdu_codec.specs.declared.found.Found.{Found}
 use Rattle.mkpdu_codec.specs.declared.reading.Borrowed.{Borrowed}
 use Rattle.mkpdu_codec.specs.declared.reading.Parts.{Parts}
+use Rattle.mkpdu_codec.specs.declared.read_error.ReadError.{ReadError}
+use Rattle.mkpdu_codec.specs.declared.read_error.ReadError.TheVariants.{Refused, Memory}
 use Rattle.mkpdu_codec.specs.declared.refusal.Refusal.{Refusal}
-use Rattle.mkpdu_codec.specs.declared.refusal.Refusal.TheVariants.{Memory}
 use Rattle.mkpdu_codec.specs.declared.set.ParameterSet.{ParameterSet}
 use Rattle.mkpdu_codec.specs.declared.spelled.Spelled.{Spelled}
 use Rattle.mkpdu_codec.specs.Frames.{Set}
@@ -24,9 +25,10 @@ Gives view (Ok x) read = read ≡ Ok (view x)
 Gives view (Err e) read = read ≡ Err e
 
 -- the answer is what reading gives; where that is a value, memory may have run out
-abbrev pub Answers : Result Spelled Refusal → Result Spelled Refusal → Type 0
+abbrev pub Answers : Result Spelled ReadError → Result Spelled Refusal → Type 0
 Answers (Ok s) read = read ≡ Ok s
-Answers (Err e) read = (read ≡ Err e) ⊎ ((e ≡ Memory) × IsOk read)
+Answers (Err (Refused e)) read = read ≡ Err e
+Answers (Err Memory) read = IsOk read
 
 -- a set without where its body lies in memory
 abbrev pub set_of : ParameterSet → Set

@@ -1,5 +1,5 @@
 -- How the rows of the table change with each call (this profile's own rule).
-use Rattle.std.specs.Prelude.{ℕ, ◌-◌, Bool, false, cond, not, ◌&&◌, ◌||◌, List, [], ◌∷◌, Option, Some, None, is_some, is_none, option_map, option_and_then, unwrap_or, map, nat_lt, nat_le, slice_index_or, slice_set, length, Result, Ok, Err}
+use Rattle.std.specs.Prelude.{ℕ, ◌-◌, Bool, false, if◌then◌else◌, not, ◌&&◌, ◌||◌, List, [], ◌∷◌, Option, Some, None, is_some, is_none, option_map, option_and_then, unwrap_or, map, nat_lt, nat_le, slice_index_or, slice_set, length, Result, Ok, Err}
 use Rattle.std.specs.List.{filter, insert}
 use Rattle.std.specs.declared.cmp.Ordering.TheVariants.{Less, Equal, Greater}
 use Rattle.lan_base.specs.declared.address.Sci.{Sci}
@@ -10,8 +10,8 @@ use Rattle.peer_lists.specs.declared.remembered.Remembered.{Remembered}
 use Rattle.lan_base.specs.Identifiers.{same_mi, same_sci, order}
 use Rattle.lan_base.specs.Timers.{life_time}
 use Rattle.peer_lists.specs.Acceptance.{most_peers}
-use Rattle.peer_lists.specs.declared.heard.DropReason.{DropReason}
-use Rattle.peer_lists.specs.declared.heard.DropReason.TheVariants.{OldNumber, PeersFull}
+use Rattle.peer_lists.specs.declared.heard.PeerRefusal.{PeerRefusal}
+use Rattle.peer_lists.specs.declared.heard.PeerRefusal.TheVariants.{OldNumber, PeersFull}
 use Rattle.peer_lists.specs.Table.{member}
 
 -- words of an announcement that has just come
@@ -28,7 +28,7 @@ displaced_under s w = record w { displaced = same_sci s w.told.sci || w.displace
 
 -- the words, if they have ticks left
 abbrev pub kept_words : Words → Option Words
-kept_words w = cond (nat_lt 0 w.left) (Some w) None
+kept_words w = if nat_lt 0 w.left then Some w else None
 
 -- a peer a tick later
 abbrev pub aged_peer : Remembered → Remembered
@@ -38,10 +38,10 @@ aged_peer p =
 -- a peer after a vouched announcement
 abbrev pub displaced_peer : Heard → Remembered → Remembered
 displaced_peer x p =
-    cond (same_mi p.last.told.mi x.mi) p (record {
+    if same_mi p.last.told.mi x.mi then p else record {
       last = displaced_under x.sci p.last;
       vouched = option_map (displaced_under x.sci) p.vouched;
-    })
+    }
 
 -- whether the last words or the vouched ones of a peer have an SCI
 abbrev pub has_sci : Sci → Remembered → Bool
@@ -53,15 +53,17 @@ has_sci s p =
 
 -- a peer that was heard for the first time
 abbrev pub introduced : Bool → Heard → Remembered
-introduced vouched x = record { last = fresh x; vouched = cond vouched (Some (fresh x)) None }
+introduced vouched x =
+    record { last = fresh x; vouched = if vouched then Some (fresh x) else None }
 
 -- a peer that was heard again
 abbrev pub renewed : Bool → Heard → Remembered → Remembered
-renewed vouched x p = record { last = fresh x; vouched = cond vouched (Some (fresh x)) p.vouched }
+renewed vouched x p =
+    record { last = fresh x; vouched = if vouched then Some (fresh x) else p.vouched }
 
 -- the words of a peer that is live
 abbrev pub live_words : Remembered → Option Words
-live_words p = option_and_then (λ w. cond w.displaced None (Some w)) p.vouched
+live_words p = option_and_then (λ w. if w.displaced then None else Some w) p.vouched
 
 -- what is shown of a peer
 abbrev pub shown : Remembered → Row
@@ -103,14 +105,14 @@ heard_at (Ok at) vouched x ps =
 heard_at (Err at) vouched x ps = insert ps at (introduced vouched x)
 
 -- the reason to drop an announcement of another station, given the same place
-abbrev pub reason_at : Result ℕ ℕ → List Remembered → Heard → Option DropReason
+abbrev pub reason_at : Result ℕ ℕ → List Remembered → Heard → Option PeerRefusal
 reason_at (Ok at) ps x =
     let kept = (slice_index_or ps at (introduced false x)).last.told.mn in
-    cond (nat_le x.mn kept) (Some (OldNumber kept)) None
-reason_at (Err at) ps x = cond (nat_le most_peers (length ps)) (Some PeersFull) None
+    if nat_le x.mn kept then Some (OldNumber kept) else None
+reason_at (Err at) ps x = if nat_le most_peers (length ps) then Some PeersFull else None
 
 -- the rows after an accepted announcement, which displaces others if it is vouched
 abbrev pub rows_heard : Result ℕ ℕ → Bool → Heard → List Remembered → List Remembered
 rows_heard place vouched x ps =
     let rows = heard_at place vouched x ps in
-    cond vouched (displaced_rows x rows) rows
+    if vouched then displaced_rows x rows else rows

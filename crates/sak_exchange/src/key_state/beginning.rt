@@ -11,7 +11,6 @@ ghost use Rattle.sak_exchange.specs.inside.States.{lead_cause_now, leads_now, fo
 
 use super::KeyState;
 use crate::change::{Cause, Change, Changes};
-use crate::held_key::HeldKey;
 use crate::latest::Latest;
 use crate::report::{Report, transmits};
 use lan_base::{KeyId, LIFE_TIME};
@@ -42,18 +41,18 @@ impl KeyState {
         ensures { result ≡ leads_now self.now live.now }
     {
         let latest = self.latest?;
-        if self.roster.is_none() || latest.key.begun {
+        if self.roster.is_none() || latest.held.begun {
             return None;
         }
-        let cause = self.lead_cause(live, &latest.key)?;
+        let cause = self.lead_cause(live, &latest.held.key.id)?;
         Some((latest, cause))
     }
 
     /// Why a key that this life made begins, if it does.
-    fn lead_cause(&self, live: &[Report], key: &HeldKey) -> Option<Cause>
-        ensures { result ≡ lead_cause_now self.now live.now key.now }
+    fn lead_cause(&self, live: &[Report], id: &KeyId) -> Option<Cause>
+        ensures { result ≡ lead_cause_now self.now live.now id.now }
     {
-        if all_report_latest(live, &key.id) {
+        if all_report_latest(live, id) {
             return Some(Cause::All);
         }
         match self.since_made {
@@ -84,7 +83,7 @@ impl KeyState {
         ensures { result ≡ follows_now self.now uses.now }
     {
         let latest = self.latest?;
-        if latest.key.begun || !transmits(uses, &latest.key.id) {
+        if latest.held.begun || !transmits(uses, &latest.held.key.id) {
             return None;
         }
         Some((latest, Cause::Flag))
@@ -101,7 +100,7 @@ impl KeyState {
             return Ok(Changes::new(self.alloc));
         };
         let latest = latest.begun_now();
-        let key = latest.key;
+        let key = latest.held;
         let changes = Changes::of(self.alloc, Change::Began { key, cause })?;
         self.latest = Some(latest);
         Ok(changes)

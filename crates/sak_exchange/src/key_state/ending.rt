@@ -62,7 +62,7 @@ impl KeyState {
     {
         let mut changes = Changes::new(self.alloc);
         if let Some(latest) = &self.latest {
-            changes.push(Change::Dropped(latest.key))?;
+            changes.push(Change::Dropped(latest.held))?;
         }
         if let Some(former) = &self.former {
             changes.push(Change::Dropped(*former))?;
@@ -104,7 +104,7 @@ impl KeyState {
         ensures { result ≡ retires_now self.now }
     {
         match &self.latest {
-            Some(latest) => latest.key.begun && latest.since_begun == RETIRE_TIME,
+            Some(latest) => latest.held.begun && latest.since_begun == RETIRE_TIME,
             None => false,
         }
     }

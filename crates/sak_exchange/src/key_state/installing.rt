@@ -3,13 +3,13 @@
 ghost use Rattle.std.specs.Prelude.{◌≡◌, ◌+◌, ◌<◌, ◌^◌, option_map, IfOk, OnOk, OnErr};
 ghost use Rattle.lan_base.specs.declared.address.Mi.{Mi};
 ghost use Rattle.sak_exchange.specs.Standing.{number_in};
-ghost use Rattle.sak_exchange.specs.inside.States.{transmitting_now, apart_held, install_changes_now, number_after, IsInstalled};
+ghost use Rattle.sak_exchange.specs.inside.States.{transmitting_now, apart_held, drops_latest, drops_former, install_changes_now, number_after, IsInstalled};
 
 use super::KeyState;
 use crate::change::{Change, Changes};
-use crate::held_key::HeldKey;
+use crate::held_key::{HeldKey, Key};
 use crate::latest::Latest;
-use lan_base::{KeyId, Mi};
+use lan_base::{AssociationNumber, KeyId, Mi};
 use std::alloc::AllocError;
 use std::collections::BTreeMap;
 use std::rc::Rc;
@@ -18,7 +18,7 @@ impl KeyState {
     /// A key is installed, with its roster where this life made it, and what changes is told.
     pub(super) fn install(
         &mut self,
-        key: HeldKey,
+        key: Key,
         roster: Option<Rc<Vec<Mi>>>,
     ) -> Result<Changes, AllocError>
         requires few { self.old.epochs + 1 < 2 ^ 32 }
@@ -31,7 +31,7 @@ impl KeyState {
         self.note_number(&key.id)?;
         self.former = self.beside(key.an);
         self.latest = Some(Latest {
-            key,
+            held: HeldKey { key, begun: false },
             since_begun: 0,
         });
         self.last_an = Some(key.an);
@@ -45,30 +45,49 @@ impl KeyState {
     }
 
     /// What an install changes.
-    fn install_changes(&self, key: &HeldKey) -> Result<Changes, AllocError>
+    fn install_changes(&self, key: &Key) -> Result<Changes, AllocError>
         ensures { IfOk result (λ c. c ≡ install_changes_now self.now key.now) }
     {
         let mut changes = Changes::new(self.alloc);
-        if let Some(latest) = &self.latest {
-            if key.an == latest.key.an || !latest.key.begun {
-                changes.push(Change::Dropped(latest.key))?;
-            }
+        if let Some(latest) = self.drops_latest(key.an) {
+            changes.push(Change::Dropped(latest))?;
         }
-        if let Some(former) = &self.former {
-            if key.an == former.an {
-                changes.push(Change::Dropped(*former))?;
-            }
+        if let Some(former) = self.drops_former(key.an) {
+            changes.push(Change::Dropped(former))?;
         }
-        changes.push(Change::Installed(*key))?;
+        changes.push(Change::Installed(HeldKey {
+            key: *key,
+            begun: false,
+        }))?;
         Ok(changes)
     }
 
+    /// The latest key, where an install under this association number ends it.
+    fn drops_latest(&self, an: AssociationNumber) -> Option<HeldKey>
+        ensures { result ≡ drops_latest an self.now.latest }
+    {
+        match &self.latest {
+            Some(latest) if an == latest.held.key.an || !latest.held.begun => Some(latest.held),
+            _ => None,
+        }
+    }
+
+    /// The old key, where an install under this association number ends it.
+    fn drops_former(&self, an: AssociationNumber) -> Option<HeldKey>
+        ensures { result ≡ drops_former an self.now.former }
+    {
+        match &self.former {
+            Some(former) if an == former.key.an => Some(*former),
+            _ => None,
+        }
+    }
+
     /// The key that an install under this association number leaves.
-    fn beside(&self, an: u8) -> Option<HeldKey>
+    fn beside(&self, an: AssociationNumber) -> Option<HeldKey>
         ensures { result ≡ apart_held an (transmitting_now self.now) }
     {
         match self.current() {
-            Some(key) if key.an != an => Some(key),
+            Some(held) if held.key.an != an => Some(held),
             _ => None,
         }
     }

@@ -5,18 +5,18 @@ ghost use Rattle.std.specs.List.{list_any};
 ghost use Rattle.lan_base.specs.declared.address.Mi.{Mi};
 ghost use Rattle.sak_exchange.specs.Histories.{Keying};
 ghost use Rattle.sak_exchange.specs.Reports.{reports, reaches};
-ghost use Rattle.sak_exchange.specs.Making.{makes, made_roster, is_spent, after};
+ghost use Rattle.sak_exchange.specs.Making.{makes, made_roster, is_spent};
 ghost use Rattle.sak_exchange.specs.Outcomes.{making};
 ghost use Rattle.sak_exchange.specs.Standing.{StandsFor};
-ghost use Rattle.sak_exchange.specs.inside.States.{is_latest_made_now, is_one_left_out_now, is_latest_spent_now, is_one_behind_now, is_key_due_now, is_rested_now, makes_now, is_used_now, next_an_now, made_key_now, fresh};
+ghost use Rattle.sak_exchange.specs.inside.States.{is_latest_made_now, is_one_left_out_now, is_latest_spent_now, is_one_behind_now, is_key_due_now, is_rested_now, makes_now, is_used_now, next_an_now, made_key_now};
 
 use super::KeyState;
 use crate::change::Changes;
 use crate::due::Due;
-use crate::held_key::HeldKey;
+use crate::held_key::Key;
 use crate::report::Report;
 use aes_block::Secret;
-use lan_base::{KeyId, LIFE_TIME, Mi};
+use lan_base::{AssociationNumber, KeyId, LIFE_TIME, Mi};
 use std::alloc::AllocError;
 use std::rc::Rc;
 
@@ -68,7 +68,7 @@ impl KeyState {
             ≡ is_latest_spent_now self.now due.now.live.now due.now.seen due.now.rekey }
     {
         match &self.latest {
-            Some(latest) => latest.key.begun && is_spent(due, &latest.key.id),
+            Some(latest) => latest.held.begun && is_spent(due, &latest.held.key.id),
             None => false,
         }
     }
@@ -80,9 +80,9 @@ impl KeyState {
     {
         match &self.latest {
             Some(latest) => {
-                latest.key.begun
+                latest.held.begun
                     && latest.since_begun >= LIFE_TIME
-                    && one_is_silent(live, &latest.key.id)
+                    && one_is_silent(live, &latest.held.key.id)
             }
             None => false,
         }
@@ -119,11 +119,11 @@ impl KeyState {
     }
 
     /// The next key that is made.
-    fn made_key(&self, conf: bool, sak: Secret) -> HeldKey
+    fn made_key(&self, conf: bool, sak: Secret) -> Key
         requires { self.now.epochs + 1 < 2 ^ 32 }
-        ensures { result ≡ fresh (made_key_now self.now conf sak) }
+        ensures { result ≡ made_key_now self.now conf sak }
     {
-        HeldKey {
+        Key {
             id: KeyId {
                 server: self.own,
                 number: self.made + 1,
@@ -132,7 +132,6 @@ impl KeyState {
             sak,
             conf,
             epoch: self.epochs + 1,
-            begun: false,
         }
     }
 
@@ -149,33 +148,33 @@ impl KeyState {
     }
 
     /// The association number of the next key that is made.
-    fn next_an(&self) -> u8
+    fn next_an(&self) -> AssociationNumber
         ensures { result ≡ next_an_now self.now }
     {
         let Some(an) = self.last_an else {
-            return 0;
+            return AssociationNumber::An0;
         };
-        let first = after(an);
+        let first = an.behind();
         if !self.is_used(first) {
             return first;
         }
-        let second = after(first);
+        let second = first.behind();
         if !self.is_used(second) {
             return second;
         }
-        after(second)
+        second.behind()
     }
 
     /// Whether a held key has the association number.
-    fn is_used(&self, an: u8) -> bool
+    fn is_used(&self, an: AssociationNumber) -> bool
         ensures { result ≡ is_used_now self.now an }
     {
         let latest = match &self.latest {
-            Some(latest) => latest.key.an == an,
+            Some(latest) => latest.held.key.an == an,
             None => false,
         };
         let former = match &self.former {
-            Some(key) => key.an == an,
+            Some(held) => held.key.an == an,
             None => false,
         };
         latest || former
@@ -203,11 +202,4 @@ fn one_reaches(live: &[Report], limit: u32, id: &KeyId) -> bool
     ensures { result ≡ list_any (λ r. reaches limit id.now r.uses) live.now }
 {
     live.iter().any(|report| report.reaches(limit, id))
-}
-
-/// The association number behind another.
-fn after(an: u8) -> u8
-    ensures { result ≡ after an }
-{
-    (an % 4 + 1) % 4
 }

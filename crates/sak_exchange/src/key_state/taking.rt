@@ -10,15 +10,14 @@ ghost use Rattle.sak_exchange.specs.inside.States.{judged_now};
 
 use super::KeyState;
 use crate::change::{Change, Changes, Why};
-use crate::held_key::HeldKey;
+use crate::held_key::Key;
 use crate::offer::Offer;
-use aes_block::Key;
 use std::alloc::AllocError;
 
 impl KeyState {
     /// At an accepted announcement that gives a key: the key is installed, or the first reason why
     /// not is told.
-    pub fn take(&mut self, offer: &Offer, kek: &Key) -> Result<Changes, AllocError>
+    pub fn take(&mut self, offer: &Offer, kek: &aes_block::Key) -> Result<Changes, AllocError>
         requires few { self.old.epochs + 1 < 2 ^ 32 }
         ensures changes { (base : ℕ) (own : Mi) (h : List Keying)
             → StandsFor base own false self.old h →
@@ -43,7 +42,7 @@ impl KeyState {
     }
 
     /// The key that an offer installs, or the first reason why it installs none.
-    fn judge(&self, offer: &Offer, kek: &Key) -> Result<HeldKey, Why>
+    fn judge(&self, offer: &Offer, kek: &aes_block::Key) -> Result<Key, Why>
         requires { self.now.epochs + 1 < 2 ^ 32 }
         ensures { result ≡ judged_now self.now offer.now (given_sak kek.now offer.now.given) }
     {
@@ -65,17 +64,16 @@ impl KeyState {
         if !offer.is_supported() {
             return Err(Why::Suite);
         }
-        if offer.offset() >= 2 {
+        if !offer.leaves_none() {
             return Err(Why::Offset);
         }
         let sak = offer.sak(kek).ok_or(Why::Wrap)?;
-        Ok(HeldKey {
+        Ok(Key {
             id,
             an: offer.an(),
             sak,
-            conf: offer.offset() == 1,
+            conf: offer.encrypts(),
             epoch: self.epochs + 1,
-            begun: false,
         })
     }
 }

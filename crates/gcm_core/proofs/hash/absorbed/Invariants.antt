@@ -1,9 +1,10 @@
-use Rattle.std.proofs.Common.{◌≡◌, drop}
-use Rattle.gcm_core.specs.Blocks.{block_bits}
+use Rattle.std.proofs.Common.{◌≡◌, ◌*◌, drop}
+use Rattle.gcm_core.specs.Blocks.{block_bits, blocks_of, padded}
 use Rattle.gcm_core.specs.Ghash.{ghash}
 use Rattle.gcm_core.proofs.hash.absorbed.Given as goal
 
--- to absorb the blocks that are left gives the hash of all whole blocks
-abbrev pub invariant-loop-block : goal.invariant-loop-block
-invariant-loop-block l =
-    ghash (block_bits l.table) (block_bits l.value) (drop l.block-index l.blocks) ≡ ghash (block_bits l.table) (block_bits l.before) l.blocks
+-- to absorb what is behind the groups gives the hash of all
+abbrev pub invariant-loop-four : goal.invariant-loop-four
+invariant-loop-four l =
+    ghash (block_bits l.key) (block_bits l.value) (blocks_of (padded (drop (64 * l.four-index) l.octets)))
+    ≡ ghash (block_bits l.key) (block_bits l.before) (blocks_of (padded l.octets))

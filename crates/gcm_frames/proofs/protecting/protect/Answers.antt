@@ -5,8 +5,8 @@ use Rattle.gcm_frames.specs.Protected.{head_octets, iv, sealed_octets}
 use Rattle.gcm_frames.proofs.Sealing.{sealed_behind}
 use Rattle.gcm_frames.proofs.protecting.protect.Goals as goal
 
-pub put_head-requires-clause-room : goal.put_head-requires-clause-room
-put_head-requires-clause-room c =
+pub put_head-requires : goal.put_head-requires
+put_head-requires c =
     record { enough = omega (arith, c.head_len-head.ensures.value c.args.an c.args.pn c.args.conf c.args.user.now.body, c.head_len-head.ensures.fixed, c.requires.room) }
 
 pub put-requires : goal.put-requires
@@ -25,7 +25,7 @@ pub seal_in_place-check-requires-clause-most : goal.seal_in_place-check-requires
 seal_in_place-check-requires-clause-most c =
     let head : List ℕ = head_octets c.args.sci c.args.an c.args.pn c.args.conf c.args.user.now in
     let count : length head ≡ 28 = sym (c.head_len-head.ensures.value c.args.an c.args.pn c.args.conf c.args.user.now.body) ∙ c.head_len-head.ensures.fixed in
-    omega (arith, c.requires.most, c.len-start.ensures, c.split_at_mut-frame.ensures.back_len, ap length c.deref_mut.ensures.value, ap length c.put.ensures.items, ap length c.put_head.ensures.items, ap length c.as_slice.ensures.value, length-append c.put_head.new.into.items c.as_slice.result.now, length-append c.args.into.now.items head)
+    omega (arith, c.requires.user.1, c.len-start.ensures, c.split_at_mut-frame.ensures.back_len, ap length c.deref_mut.ensures.value, ap length c.put.ensures.items, ap length c.put_head.ensures.items, ap length c.as_slice.ensures.value, length-append c.put_head.new.into.items c.as_slice.result.now, length-append c.args.into.now.items head)
 
 pub put-requires-2 : goal.put-requires-2
 put-requires-2 c =

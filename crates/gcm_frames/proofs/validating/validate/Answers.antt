@@ -21,7 +21,7 @@ pub returns-then-tag-clause-exact : goal.returns-then-tag-clause-exact
 returns-then-tag-clause-exact c =
     let w : Encrypts c.args.key.now c.iv_of-iv.result = record {
       counter = IsBlock-counter c.iv_of-iv.result 1 (search rules) (λ i. search rules);
-      blocks = λ text h. c.law_ciphertexts_are_blocks.ensures c.args.key.now text c.encrypt.ensures.key h;
+      blocks = λ text h. c.law_ciphertexts_are_blocks.ensures c.args.key.now text c.law_is_key.ensures h;
     } in
     conf_exact _ c.args.frame.now _ c.args.tag.now _ _ _ _ c.unseal.result w
     (record { iv_is = c.iv_of-iv.ensures; head_is = c.split_at_mut-head.ensures.front; rest_is = c.split_at_mut-head.ensures.back; check_is = c.check_of-check.ensures; conf_is = c.if-tag.true })
@@ -34,7 +34,7 @@ pub returns-else-tag-clause-exact : goal.returns-else-tag-clause-exact
 returns-else-tag-clause-exact c =
     let w : Encrypts c.args.key.now c.iv_of-iv.result = record {
       counter = IsBlock-counter c.iv_of-iv.result 1 (search rules) (λ i. search rules);
-      blocks = λ text h. c.law_ciphertexts_are_blocks.ensures c.args.key.now text c.encrypt.ensures.key h;
+      blocks = λ text h. c.law_ciphertexts_are_blocks.ensures c.args.key.now text c.law_is_key.ensures h;
     } in
     plain_exact _ c.args.frame.now _ c.args.tag.now _ _ c.unseal-else-tag.result w c.if-tag.false c.iv_of-iv.ensures c.check_of-check.ensures
     c.unseal-else-tag.ensures.opened c.unseal-else-tag.ensures.refused

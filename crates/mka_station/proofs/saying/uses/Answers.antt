@@ -1,12 +1,11 @@
-use Rattle.std.proofs.Common.{◌∙◌, ap, refl}
-use Rattle.std.specs.Option.{option_map}
-use Rattle.sak_exchange.specs.Held.{transmitting}
-use Rattle.mka_station.proofs.Keys.{id-held}
+use Rattle.std.proofs.Common.{◌∙◌, refl}
+use Rattle.sak_exchange.specs.Held.{latest, old, transmitting}
+use Rattle.mka_station.proofs.Keys.{key-told}
 use Rattle.mka_station.proofs.saying.uses.Goals as goal
 
-pub returns-clause-value : goal.returns-clause-value
-returns-clause-value c = λ base own h s.
-    let t = c.id_of.ensures ∙ ap (option_map (λ k. k.id)) (c.transmitting.ensures base own _ h s) ∙ id-held h (transmitting h) in
-    let l = c.latest.ensures base own _ h s in
-    let o = c.old.ensures base own _ h s in
-    c.uses_of.ensures.value ∙ rw (t, l, o) refl
+pub returns : goal.returns
+returns c = λ base own h s.
+    let t = key-told h (transmitting h) c.transmitting.result c.key_of.result c.key_of.ensures (c.transmitting.ensures base own _ h s) in
+    let l = key-told h (latest h) c.latest.result c.key_of-2.result c.key_of-2.ensures (c.latest.ensures base own _ h s) in
+    let o = key-told h (old h) c.old.result c.key_of-3.result c.key_of-3.ensures (c.old.ensures base own _ h s) in
+    c.uses_with.ensures ∙ rw (t, l, o) refl

@@ -9,7 +9,7 @@ pub returns-clause-only : goal.returns-clause-only
 returns-clause-only c = λ a m check spells. answer_only c.args.frame.now c.spelled.result a m check c.spelled.ensures spells
 
 pub returns-clause-refused : goal.returns-clause-refused
-returns-clause-refused c = λ e other. answer_refused c.args.frame.now c.spelled.result e c.spelled.ensures other
+returns-clause-refused c = λ e. answer_refused c.args.frame.now c.spelled.result e c.spelled.ensures
 
 pub returns-clause-memory : goal.returns-clause-memory
 returns-clause-memory c = λ was. answer_memory c.args.frame.now c.spelled.result c.spelled.ensures was

@@ -1,32 +1,39 @@
-use Rattle.std.proofs.Common.{◌+◌, length, sym, ap, subst, ◌∙◌, arith}
-use Rattle.aes_block.specs.Aes.{IsKey}
-use Rattle.aes_block.specs.Expansion.{round_count}
-use Rattle.aes_block.specs.inside.Held.{words_of}
-use Rattle.aes_block.proofs.Held.{IsKey-key_octets, length-key_octets, round_count-key_octets, two_lengths}
+use Rattle.std.proofs.Common.{◌≡◌, ◌⊎◌, List, ℕ, length, sym, ap, subst, ◌∙◌, arith, inl, inr}
+use Rattle.aes_block.specs.Aes.{aes, IsKey}
+use Rattle.aes_block.specs.Expansion.{expanded_key}
+use Rattle.aes_block.specs.inside.RoundKeys.{AreRoundKeys}
+use Rattle.aes_block.proofs.RoundKeys.{round_keys}
 use Rattle.aes_block.proofs.key.Key.encrypt.Goals as goal
 
-pub encrypt_in-requires : goal.encrypt_in-requires
-encrypt_in-requires c =
-    sym (sym (ap round_count c.self.view_is) ∙ round_count-key_octets c.self.inside.len c.self.inside.words (omega (arith, c.self.told))
-    ∙ ap (λ l. words_of l + 6) c.in-Bits128.is)
+pub returns-then-self-eq10-clause-key : goal.returns-then-self-eq10-clause-key
+returns-then-self-eq10-clause-key c = subst IsKey c.self.view_is c.self.invariant.is_key
 
-pub encrypt_in-requires-in-Bits256 : goal.encrypt_in-requires-in-Bits256
-encrypt_in-requires-in-Bits256 c =
-    sym (sym (ap round_count c.self.view_is) ∙ round_count-key_octets c.self.inside.len c.self.inside.words (omega (arith, c.self.told))
-    ∙ ap (λ l. words_of l + 6) c.in-Bits256.is)
+pub returns-else-self-eq10-clause-key : goal.returns-else-self-eq10-clause-key
+returns-else-self-eq10-clause-key c = subst IsKey c.self.view_is c.self.invariant.is_key
 
-pub returns-in-Bits128-clause-key : goal.returns-in-Bits128-clause-key
-returns-in-Bits128-clause-key c =
-    subst IsKey c.self.view_is (IsKey-key_octets c.self.inside.len c.self.inside.words (omega (arith, c.self.told)))
+pub returns-then-self-eq10-clause-length : goal.returns-then-self-eq10-clause-length
+returns-then-self-eq10-clause-length c =
+    subst (λ (k : List ℕ). (length k ≡ 16) ⊎ (length k ≡ 32)) c.self.view_is c.self.invariant.two
 
-pub returns-in-Bits128-clause-length : goal.returns-in-Bits128-clause-length
-returns-in-Bits128-clause-length c =
-    two_lengths c.self.inside.len _ (ap length (sym c.self.view_is) ∙ length-key_octets c.self.inside.len c.self.inside.words (omega (arith, c.self.told)))
+pub returns-else-self-eq10-clause-length : goal.returns-else-self-eq10-clause-length
+returns-else-self-eq10-clause-length c =
+    subst (λ (k : List ℕ). (length k ≡ 16) ⊎ (length k ≡ 32)) c.self.view_is c.self.invariant.two
 
-pub returns-in-Bits256-clause-key : goal.returns-in-Bits256-clause-key
-returns-in-Bits256-clause-key c =
-    subst IsKey c.self.view_is (IsKey-key_octets c.self.inside.len c.self.inside.words (omega (arith, c.self.told)))
+pub returns-then-self-eq10-clause-ciphertext : goal.returns-then-self-eq10-clause-ciphertext
+returns-then-self-eq10-clause-ciphertext c =
+    let s = c.self.inside in
+    let k = c.self.invariant in
+    let e : s.rounds ≡ 10 = omega (arith, c.if-self-eq10.true) in
+    let rows = subst (λ (n : ℕ). AreRoundKeys (expanded_key s.expanded) n s.rows) e (round_keys s.expanded s.rounds s.rows k) in
+    c.encrypt_in.ensures s.expanded (sym e ∙ k.count) rows ∙ ap (λ (key : List ℕ). aes key c.args.block) c.self.view_is
 
-pub returns-in-Bits256-clause-length : goal.returns-in-Bits256-clause-length
-returns-in-Bits256-clause-length c =
-    two_lengths c.self.inside.len _ (ap length (sym c.self.view_is) ∙ length-key_octets c.self.inside.len c.self.inside.words (omega (arith, c.self.told)))
+pub returns-else-self-eq10-clause-ciphertext : goal.returns-else-self-eq10-clause-ciphertext
+returns-else-self-eq10-clause-ciphertext c =
+    let s = c.self.inside in
+    let k = c.self.invariant in
+    let e : s.rounds ≡ 14 = elim k.two [
+      | inl a ↦ absurd (omega (arith, k.count, a, c.if-self-eq10.false))
+      | inr a ↦ omega (arith, k.count, a)
+    ] in
+    let rows = subst (λ (n : ℕ). AreRoundKeys (expanded_key s.expanded) n s.rows) e (round_keys s.expanded s.rounds s.rows k) in
+    c.encrypt_by_halves.ensures s.expanded (sym e ∙ k.count) rows ∙ ap (λ (key : List ℕ). aes key c.args.block) c.self.view_is

@@ -1,11 +1,9 @@
-use Rattle.std.proofs.Common.{◌∙◌, ap}
-use Rattle.std.specs.Option.{option_map}
 use Rattle.sak_exchange.specs.Held.{latest, old}
-use Rattle.mka_station.proofs.Keys.{id-held}
+use Rattle.mka_station.proofs.Keys.{key-told}
 use Rattle.mka_station.proofs.saying.Lowest.of.Goals as goal
 
 pub returns : goal.returns
 returns c = λ base own h s.
-    let l = c.id_of.ensures ∙ ap (option_map (λ k. k.id)) (c.latest.ensures base own _ h s) ∙ id-held h (latest h) in
-    let o = c.id_of-2.ensures ∙ ap (option_map (λ k. k.id)) (c.old.ensures base own _ h s) ∙ id-held h (old h) in
+    let l = key-told h (latest h) c.latest.result c.key_of.result c.key_of.ensures (c.latest.ensures base own _ h s) in
+    let o = key-told h (old h) c.old.result c.key_of-2.result c.key_of-2.ensures (c.old.ensures base own _ h s) in
     cc

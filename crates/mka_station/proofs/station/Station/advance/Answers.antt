@@ -6,7 +6,7 @@ use Rattle.mka_station.specs.Lives.{own, peers_of, keys_of}
 use Rattle.mka_station.specs.Tick.{with_sent}
 use Rattle.mka_station.specs.Standing.{State, Coming, Comes}
 use Rattle.mka_station.specs.inside.Turns.{peers_with, spoken_after}
-use Rattle.mka_station.specs.inside.Stages.{ticked_past, says_at}
+use Rattle.mka_station.specs.Tick.{ticked_past, says_at}
 use Rattle.mka_station.proofs.Counts.{counted-epochs}
 use Rattle.mka_station.proofs.Ticks.{stands-ticked}
 use Rattle.mka_station.proofs.station.Station.advance.Goals as goal

@@ -18,7 +18,7 @@ use Rattle.mka_station.specs.Announcing.{same_option}
 use Rattle.mka_station.specs.Hearing.{outcome_of, take_changes, key_taken}
 use Rattle.mka_station.specs.inside.Rows.{live_rows, candidate_in}
 use Rattle.mka_station.specs.inside.Turns.{offered_by, answered, keys_with}
-use Rattle.mka_station.specs.inside.Stages.{offer_at, taken_past, heard_past}
+use Rattle.mka_station.specs.Hearing.{offer_at, taken_past, heard_past}
 use Rattle.mka_station.proofs.Pasts.{peers-heard}
 use Rattle.mka_station.proofs.Hears.{heard-server, offer-is, answer-is, taken-keys, follow-is, heard-all, heard-reacts, taken-installs, heard-peers}
 use Rattle.mka_station.proofs.station.Station.after_hearing.Goals as goal

@@ -15,9 +15,9 @@ use Rattle.mka_station.specs.Lives.{Setup, own, peers_of, keys_of}
 use Rattle.mka_station.specs.Announcing.{frame_of, same_option}
 use Rattle.mka_station.specs.Tick.{with_sent, install_changes}
 use Rattle.mka_station.specs.inside.Turns.{made_by, keys_made, peers_with, IsDue}
-use Rattle.mka_station.specs.inside.Stages.{begun_past, ticked_past, says_at}
+use Rattle.mka_station.specs.Tick.{begun_past, ticked_past, says_at}
 use Rattle.mka_station.proofs.Makes.{is-due}
-use Rattle.mka_station.proofs.Ticks.{past-keys, past-installed, past-bits, past-said, reacts, whole-peers, whole-keys, some-framed}
+use Rattle.mka_station.proofs.Ticks.{past-keys, past-installed, past-said, reacts, whole-peers, whole-keys, some-framed}
 use Rattle.mka_station.proofs.station.Station.after_tick.Goals as goal
 
 pub returns : goal.returns
@@ -46,11 +46,10 @@ returns c = λ m p any s is.
     let p0 = subst (λ (x : Table). PeersStandFor (own m) x (peers_of m p)) (sym (c.in_ok-peers.ensures ∙ c.peers.ensures)) s.peers in
     let p1 = c.tick.ensures (own m) (peers_of m p) p0 in
     let shows = c.in_ok-shown.ensures m.base m.mi h3 k3 in
-    let bits = past-bits m seen any p s.numbered in
     let last = s.peers.last in
     let few : last_sent ph + 1 < 4294967296 = omega (arith, last, c.requires.room.sent) in
     let said = past-said m now p seen any c.in_ok-shown.shown c.of-lowest.result s shows low in
-    let frame = c.in_ok-sent.ensures.frame (own m) ph m.base m.mi h3 p1 k3 bits refl few ∙ ap (option_map (frame_of now.setup)) said ∙ ap (λ (x : Setup). option_map (frame_of x) (says_at m seen any p)) s.setup in
+    let frame = c.in_ok-sent.ensures.frame (own m) ph m.base m.mi h3 p1 k3 refl few ∙ ap (option_map (frame_of now.setup)) said ∙ ap (λ (x : Setup). option_map (frame_of x) (says_at m seen any p)) s.setup in
     let p2 = subst (λ (a : Option Announcement). PeersStandFor (own m) c.say.new.peers (peers_with a ph)) said (c.in_ok-sent.ensures.stands (own m) ph h3 p1 refl few) in
     let server = c.new_server.ensures ∙ ap (λ (x : Option Mi). cond (same_option same_mi x c.next_server-server.result) None (Some c.next_server-server.result)) c.server.ensures ∙ ap (λ (x : Option Mi). cond (same_option same_mi now.server x) None (Some x)) c.next_server-server.ensures in
     record {

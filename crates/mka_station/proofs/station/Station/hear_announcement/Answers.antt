@@ -4,18 +4,18 @@ use Rattle.sak_exchange.specs.Standing.{State as Keys, StandsFor as KeysStandFor
 use Rattle.mka_station.specs.Lives.{heard, own, peers_of, keys_of}
 use Rattle.mka_station.specs.Hearing.{key_taken}
 use Rattle.mka_station.specs.Standing.{State, Coming, Comes}
-use Rattle.mka_station.specs.inside.Stages.{answer_at, heard_past}
+use Rattle.mka_station.specs.Hearing.{answer_at, heard_past}
 use Rattle.mka_station.proofs.Counts.{counted-epochs}
 use Rattle.mka_station.proofs.Hears.{stands-heard}
 use Rattle.mka_station.proofs.station.Station.hear_announcement.Goals as goal
 
 pub returns-clause-stands : goal.returns-clause-stands
-returns-clause-stands c = λ m p s small.
+returns-clause-stands c = λ m p s.
     let now = c.args.self.now in
     let a = c.args.announcement.now in
     let t = c.in_ok-heard.ensures m p s in
     let two = c.settle.ensures in
-    stands-heard m now c.settle.new.self a p c.in_ok-heard.heard.next.server s small t.server
+    stands-heard m now c.settle.new.self a p c.in_ok-heard.heard.next.server s t.server
     (ap (λ (x : State). x.setup) two)
     (ap (λ (x : State). x.mi) two)
     (ap (λ (x : State). x.epochs) two ∙ counted-epochs c.in_ok-heard.heard.installs (is_some (key_taken (answer_at m a p))) now.epochs t.installs c.requires.room.installs)

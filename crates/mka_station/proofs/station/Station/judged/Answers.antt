@@ -2,19 +2,19 @@ use Rattle.std.proofs.Common.{◌≡◌, ◌∙◌, sym, subst}
 use Rattle.std.specs.Prelude.{IfOk, IfErr, Result, Ok}
 use Rattle.mkpdu_codec.specs.declared.spelled.Spelled.{Spelled}
 use Rattle.mkpdu_codec.specs.Reading.{reading}
-use Rattle.mka_station.specs.declared.verdict.Verdict.{Verdict}
+use Rattle.mka_station.specs.declared.verdict.DropReason.{DropReason}
 use Rattle.mka_station.specs.inside.Turns.{IsRefused}
 use Rattle.mka_station.proofs.Judges.{judged-refused, judged-fault, judged-right}
 use Rattle.mka_station.proofs.station.Station.judged.Goals as goal
 
-pub returns-in-Err-clause-value : goal.returns-in-Err-clause-value
-returns-in-Err-clause-value c =
-    judged-refused c.args.self.now.setup c.args.frame.now c.in-Err.verdict (subst (λ (r : Result Spelled Verdict). IfErr r (λ v. IsRefused c.args.frame.now v)) c.in-Err.is c.in_ok-spelled.ensures.err)
+pub returns-in-Err : goal.returns-in-Err
+returns-in-Err c =
+    judged-refused c.args.self.now.setup c.args.frame.now c.in-Err.reason (subst (λ (r : Result Spelled DropReason). IfErr r (λ v. IsRefused c.args.frame.now v)) c.in-Err.is c.in_ok-spelled.ensures.err)
 
-pub returns-in-Some-clause-value : goal.returns-in-Some-clause-value
-returns-in-Some-clause-value c =
-    judged-fault c.args.self.now.setup c.args.frame.now c.in-Ok.spelled c.in-Some.verdict (subst (λ (r : Result Spelled Verdict). IfOk r (λ s. reading c.args.frame.now ≡ Ok s)) c.in-Ok.is c.in_ok-spelled.ensures.ok) (sym c.fault.ensures ∙ c.in-Some.is)
+pub returns-in-Some : goal.returns-in-Some
+returns-in-Some c =
+    judged-fault c.args.self.now.setup c.args.frame.now c.in-Ok.spelled c.in-Some.reason (subst (λ (r : Result Spelled DropReason). IfOk r (λ s. reading c.args.frame.now ≡ Ok s)) c.in-Ok.is c.in_ok-spelled.ensures.ok) (sym c.fault.ensures ∙ c.in-Some.is)
 
-pub returns-in-None-clause-value : goal.returns-in-None-clause-value
-returns-in-None-clause-value c =
-    judged-right c.args.self.now.setup c.args.frame.now c.in-Ok.spelled (subst (λ (r : Result Spelled Verdict). IfOk r (λ s. reading c.args.frame.now ≡ Ok s)) c.in-Ok.is c.in_ok-spelled.ensures.ok) (sym c.fault.ensures ∙ c.in-None.is)
+pub returns-in-None : goal.returns-in-None
+returns-in-None c =
+    judged-right c.args.self.now.setup c.args.frame.now c.in-Ok.spelled (subst (λ (r : Result Spelled DropReason). IfOk r (λ s. reading c.args.frame.now ≡ Ok s)) c.in-Ok.is c.in_ok-spelled.ensures.ok) (sym c.fault.ensures ∙ c.in-None.is)

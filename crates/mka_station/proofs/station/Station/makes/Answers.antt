@@ -2,7 +2,7 @@ use Rattle.std.proofs.Common.{◌≡◌, ◌∙◌, false, sym, refl, subst}
 use Rattle.sak_exchange.specs.Standing.{State as Keys, StandsFor as KeysStandFor}
 use Rattle.mka_station.specs.Lives.{keys_of}
 use Rattle.mka_station.proofs.Makes.{makes-is, makes_by}
-use Rattle.mka_station.specs.inside.Stages.{begun_past}
+use Rattle.mka_station.specs.Tick.{begun_past}
 use Rattle.mka_station.proofs.station.Station.makes.Goals as goal
 
 pub returns : goal.returns

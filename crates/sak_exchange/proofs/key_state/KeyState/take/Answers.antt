@@ -4,11 +4,10 @@ use Rattle.std.proofs.lemmas.Result.{on_ok_weaker}
 use Rattle.lan_base.specs.declared.key_id.KeyId.{KeyId}
 use Rattle.sak_exchange.specs.declared.change.Change.{Change}
 use Rattle.sak_exchange.specs.declared.change.Change.TheVariants.{Untaken}
-use Rattle.sak_exchange.specs.declared.held_key.HeldKey.{HeldKey}
 use Rattle.sak_exchange.specs.Unwrapping.{given_sak}
 use Rattle.sak_exchange.specs.Outcomes.{judging}
 use Rattle.sak_exchange.specs.Standing.{StandsFor}
-use Rattle.sak_exchange.specs.inside.States.{install_changes_now, IsInstalled}
+use Rattle.sak_exchange.specs.inside.States.{IsInstalled}
 use Rattle.sak_exchange.proofs.Cases.{on_ok_always}
 use Rattle.sak_exchange.proofs.Installs.{changes-installed, stands-installed, takes, refuses}
 use Rattle.sak_exchange.proofs.key_state.KeyState.take.Goals as goal
@@ -19,7 +18,7 @@ returns-in-Ok-clause-changes c = λ base own h s.
     let o = c.args.offer.now in
     let sak = given_sak c.args.kek.now o.given in
     let t = takes base own s0 h o sak c.in-Ok.key s (sym c.judge.ensures ∙ c.in-Ok.is) in
-    let told = ap (install_changes_now s0) t.same ∙ changes-installed base own s0 h None t.taken_key s ∙ ap (λ r. (judging h o r).changes) (sym t.is) in
+    let told = changes-installed base own s0 h None c.in-Ok.key s ∙ ap (λ r. (judging h o r).changes) (sym t.is) in
     subst (λ (xs : List Change). IfOk c.install.result (λ v. v ≡ xs)) told c.install.ensures.changes
 
 pub returns-in-Ok-clause-stands : goal.returns-in-Ok-clause-stands
@@ -29,8 +28,8 @@ returns-in-Ok-clause-stands c = λ base own h s.
     let sak = given_sak c.args.kek.now o.given in
     let t = takes base own s0 h o sak c.in-Ok.key s (sym c.judge.ensures ∙ c.in-Ok.is) in
     on_ok_weaker c.install.result
-    (λ i. let is = subst (λ (k : HeldKey). IsInstalled s0 k None c.install.new.self) t.same i in
-    let stands = stands-installed base own s0 c.install.new.self h None t.taken_key is t.kept t.numbered s in
+    (λ i. let is : IsInstalled s0 c.in-Ok.key None c.install.new.self = i in
+    let stands = stands-installed base own s0 c.install.new.self h None c.in-Ok.key is t.kept t.numbered s in
     subst (λ r. StandsFor base own false c.install.new.self (judging h o r).past) (sym t.is) stands)
     c.install.ensures.installed
 

@@ -1,0 +1,14 @@
+use Rattle.std.proofs.Common.{ap, ◌∙◌, arith}
+use Rattle.aes_block.specs.Octet.{octets_sum}
+use Rattle.aes_block.specs.State.{mix_columns, round, shift_rows, sub_bytes}
+use Rattle.aes_block.proofs.Steps.{octets_sum-twice}
+use Rattle.aes_block.proofs.inverse_rounds.inv_round.Goals as goal
+
+pub returns : goal.returns
+unfolding round sub_bytes
+returns c =
+    let key = c.args.key in
+    ap (λ s. octets_sum (mix_columns (shift_rows s)) key) c.inv_sub_octets.ensures
+    ∙ ap (λ s. octets_sum (mix_columns s) key) c.shifted_back.ensures
+    ∙ ap (λ s. octets_sum s key) c.inv_mixed.ensures
+    ∙ octets_sum-twice c.args.state key (omega (arith, c.fits-state.0, c.fits-key.0))

@@ -1,5 +1,0 @@
-use Rattle.gcm_core.proofs.Tables.{rows_of}
-use Rattle.gcm_core.proofs.hash_table.products.Goals as goal
-
-pub returns-clause-rows : goal.returns-clause-rows
-returns-clause-rows c = rows_of c.args.block _ _ _ c.times_x-second.ensures c.times_x-third.ensures c.times_x-fourth.ensures
