@@ -9,12 +9,14 @@ use Rattle.hex.specs.declared.error.FromHexError.{FromHexError}
 use Rattle.hex.specs.Hex.{decode_of, decode_sized, IsBytes}
 use Rattle.hex.proofs.HexLemmas.{decode_of-ok, decode_sized-ok, decode_sized-twice}
 use Rattle.lan_base.specs.Name.{is_name}
+use Rattle.trace_text.specs.declared.fault.LineError.{LineError}
 use Rattle.trace_text.specs.declared.fault.TextFault.{TextFault}
 use Rattle.trace_text.specs.declared.fault.TextFault.TheVariants.{TooLong, Hex, Range}
 use Rattle.trace_text.specs.declared.line.Line.{Line}
 use Rattle.trace_text.specs.declared.line.Line.TheVariants.{DrawsList}
+use Rattle.trace_text.specs.Limits.{most_line}
 use Rattle.trace_text.specs.Words.{words_of, is_word}
-use Rattle.trace_text.specs.Kinds.{Kind, name, number, one_of, exactly, octets, secret, Said, said, IsFit, is_number, is_within, is_either, if_allowed, exactly_of}
+use Rattle.trace_text.specs.Kinds.{Kind, name, number, suite, exactly, octets, secret, Said, said, IsFit, is_number, is_within, is_either, if_allowed, exactly_of}
 use Rattle.trace_text.specs.Forms.{Row, makes, ◌⇒◌, blocks, Form, forms, draws_forms}
 use Rattle.trace_text.specs.Reading.{◌>>=◌, blocks_of, along, by_count, beginning, by_some, draws_of, line_of, is_comment, line_of_words, line_in}
 use Rattle.trace_text.specs.Writing.{◌∶◌, AllFit, IsInForm}
@@ -74,7 +76,7 @@ said_fits name word x e =
     let p = passed (is_name word) word x Range e in
     subst (λ w. is_name w ≡ true) p.1 p.0
 said_fits (number low high) word x e = within_bounds low high x (number_fits word (is_within low high) x e)
-said_fits (one_of this that) word x e = one_of_two this that x (number_fits word (is_either this that) x e)
+said_fits suite word x e = tt
 said_fits (exactly count) word x e = array_fits count word (decode_sized word count) refl x e
 said_fits (octets low high) word x e =
     let p = octets_fit (is_within low high) word (decode_of word) refl x e in
@@ -268,9 +270,9 @@ short_enough false r said e = e
 
 pub read_fits : (text : List ℕ) (line : Line) → line_in text ≡ Ok (Some line) → IsInForm line
 unfolding line_in
-read_fits text line e = words_fit (words_of text) line (short_enough (nat_lt 4096 (length text)) (line_of_words (words_of text)) (Some line) e)
+read_fits text line e = words_fit (words_of text) line (short_enough (nat_lt most_line (length text)) (line_of_words (words_of text)) (Some line) e)
 
-pub answer_fits : (r : Result (Option Line) TextFault) (text : List ℕ) → Answers r (line_in text) → IfOk r (λ read. IfSome read IsInForm)
+pub answer_fits : (r : Result (Option Line) LineError) (text : List ℕ) → Answers r (line_in text) → IfOk r (λ read. IfSome read IsInForm)
 answer_fits (Ok None) text e = tt
 answer_fits (Ok (Some line)) text e = read_fits text line e
-answer_fits (Err fault) text e = tt
+answer_fits (Err error) text e = tt

@@ -1,7 +1,7 @@
 -- The forms of a line, one row each: the word that it begins with, how many words follow, what each
 -- of them is, and the line that they make.
 use Rattle.std.specs.Prelude.{ℕ, ◌==◌, nat_lt, Bool, List, [], ◌∷◌, codes}
-use Rattle.trace_text.specs.Kinds.{Kind, name, number, one_of, exactly, octets, secret, ticks, frame, body, address, Said}
+use Rattle.trace_text.specs.Kinds.{Kind, Said, name, secret, exactly, suite, bit, window, rekey, lag, key_name, priority, ticks, frame, frame_from, workers, burst, address, body, injected}
 use Rattle.trace_text.specs.declared.line.Line.{Line}
 use Rattle.trace_text.specs.declared.line.Line.TheVariants.{DrawsCount, DrawsChaCha, DrawsList, Conf, Window, Rekey, Lag, Suite, Group, Station, Tick, TickOne, Flow, Deliver, Spread, Lose, Cut, Mend, Restart, Send, Race, Burst, While, End, Inject, Feed}
 
@@ -40,14 +40,14 @@ draws_forms =
 -- the other forms; the second frame of `feed` is not below its first
 abbrev pub forms : List Form
 forms =
-    form (codes "conf") (just 1) (number 0 1 ⇒ λ conf. makes (Conf conf))
-    ∷ form (codes "window") (just 1) (number 0 4294967295 ⇒ λ window. makes (Window window))
-    ∷ form (codes "rekey") (just 1) (number 2 4294967295 ⇒ λ rekey. makes (Rekey rekey))
-    ∷ form (codes "lag") (just 1) (number 0 1000 ⇒ λ lag. makes (Lag lag))
-    ∷ form (codes "suite") (just 1) (one_of 128 256 ⇒ λ suite. makes (Suite suite))
-    ∷ form (codes "group") (just 2) (secret ⇒ λ cak. octets 1 32 ⇒ λ ckn. makes (Group cak ckn))
+    form (codes "conf") (just 1) (bit ⇒ λ b. makes (Conf b))
+    ∷ form (codes "window") (just 1) (window ⇒ λ w. makes (Window w))
+    ∷ form (codes "rekey") (just 1) (rekey ⇒ λ r. makes (Rekey r))
+    ∷ form (codes "lag") (just 1) (lag ⇒ λ l. makes (Lag l))
+    ∷ form (codes "suite") (just 1) (suite ⇒ λ s. makes (Suite s))
+    ∷ form (codes "group") (just 2) (secret ⇒ λ cak. key_name ⇒ λ ckn. makes (Group cak ckn))
     ∷ form (codes "station") (just 3)
-    (name ⇒ λ n. exactly 8 ⇒ λ sci. number 0 255 ⇒ λ p. makes (Station n (record { 0 = sci }) p))
+    (name ⇒ λ n. exactly 8 ⇒ λ sci. priority ⇒ λ p. makes (Station n (record { 0 = sci }) p))
     ∷ form (codes "tick") (just 1) (ticks ⇒ λ rounds. makes (Tick rounds))
     ∷ form (codes "tick") (just 2) (name ⇒ λ n. ticks ⇒ λ count. makes (TickOne n count))
     ∷ form (codes "flow") (just 1) (ticks ⇒ λ rounds. makes (Flow rounds))
@@ -61,11 +61,11 @@ forms =
     (name ⇒ λ n. address ⇒ λ to. body ⇒ λ b. makes (Send n (record { 0 = to }) b))
     ∷ form (codes "race") (just 0) (makes Race)
     ∷ form (codes "burst") (just 5)
-    (name ⇒ λ n. number 1 8 ⇒ λ workers. number 1 100000 ⇒ λ frames. address ⇒ λ to. body ⇒ λ b.
-    makes (Burst n workers frames (record { 0 = to }) b))
+    (name ⇒ λ n. workers ⇒ λ w. burst ⇒ λ count. address ⇒ λ to. body ⇒ λ b.
+    makes (Burst n w count (record { 0 = to }) b))
     ∷ form (codes "while") (just 0) (makes While)
     ∷ form (codes "end") (just 0) (makes End)
-    ∷ form (codes "inject") (just 2) (name ⇒ λ n. octets 1 1600 ⇒ λ xs. makes (Inject n xs))
+    ∷ form (codes "inject") (just 2) (name ⇒ λ n. injected ⇒ λ xs. makes (Inject n xs))
     ∷ form (codes "feed") (just 3)
-    (frame ⇒ λ first. number first 200000 ⇒ λ last. name ⇒ λ n. makes (Feed first last n))
+    (frame ⇒ λ first. frame_from first ⇒ λ last. name ⇒ λ n. makes (Feed first last n))
     ∷ []

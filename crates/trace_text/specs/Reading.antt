@@ -4,6 +4,7 @@ use Rattle.std.specs.Result.{result_map_both}
 use Rattle.trace_text.specs.declared.fault.TextFault.{TextFault}
 use Rattle.trace_text.specs.declared.fault.TextFault.TheVariants.{TooLong, Word, Count}
 use Rattle.trace_text.specs.declared.line.Line.{Line}
+use Rattle.trace_text.specs.Limits.{most_line}
 use Rattle.trace_text.specs.Words.{words_of, is_word}
 use Rattle.trace_text.specs.Kinds.{exactly_of, said}
 use Rattle.trace_text.specs.Forms.{Row, makes, ◌⇒◌, blocks, Form, forms, draws_forms}
@@ -73,7 +74,7 @@ line_of_words (first ∷ words) =
 
 -- what a text without its line ending says as a line, or its first fault
 unfoldable pub line_in : List ℕ → Result (Option Line) TextFault
-line_in text = if nat_lt 4096 (length text) then Err TooLong else line_of_words (words_of text)
+line_in text = if nat_lt most_line (length text) then Err TooLong else line_of_words (words_of text)
 
 -- the fault that was found instead of a value
 abbrev pub fault_in : {A : Type 0} → Result A TextFault → Option TextFault

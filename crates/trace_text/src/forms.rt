@@ -7,79 +7,74 @@ ghost use Rattle.trace_text.specs.Reading.{line_of, draws_of};
 ghost use Rattle.trace_text.specs.inside.Answering.{Answers};
 
 use crate::blocks::{expect_blocks, read_blocks};
-use crate::fault::TextFault;
+use crate::fault::{LineError, TextFault};
 use crate::kinds::{
     decoded, expect_key, expect_octets, read_array, read_name, read_number, read_octets, read_suite,
 };
+use crate::limits::{MAX_BURST, MAX_INJECTED, MAX_LAG, MAX_PRIORITY, MAX_WORKERS, MIN_REKEY};
 use crate::line::Line;
 use crate::words::{next_word, no_word, one_word, three_words, two_words};
-use lan_base::{Mac, Sci};
+use lan_base::{CKN_MAX, FRAMES_MAX, Mac, Sci, TICKS_MAX, USER_DATA_MAX, USER_DATA_MIN};
 use std::alloc::Global;
 use std::str;
 
-/// The most ticks or rounds of one line.
-const MAX_TICKS: u32 = 1_000_000;
-
-/// The greatest number of a frame.
-const MAX_FRAME: u32 = 200_000;
-
 /// The line that a first word and the words behind it say.
-pub fn read_form(alloc: Global, first: &[u8], rest: &[u8]) -> Result<Line, TextFault>
+pub fn read_form(alloc: Global, first: &[u8], rest: &[u8]) -> Result<Line, LineError>
     ensures { Answers result (line_of first.now (words_of rest.now)) }
 {
     match str::from_utf8(first) {
         Ok(first) => read_known(alloc, first, rest),
-        Err(_) => Err(TextFault::Word),
+        Err(_) => Err(LineError::Refused(TextFault::Word)),
     }
 }
 
 /// The same of a first word that is text.
-fn read_known(alloc: Global, first: &str, rest: &[u8]) -> Result<Line, TextFault>
+fn read_known(alloc: Global, first: &str, rest: &[u8]) -> Result<Line, LineError>
     ensures { Answers result (line_of first.now (words_of rest.now)) }
 {
     match first {
         "draws" => draws(alloc, rest),
-        "conf" => conf(rest),
-        "window" => window(rest),
-        "rekey" => rekey(rest),
-        "lag" => lag(rest),
-        "suite" => suite(rest),
+        "conf" => Ok(conf(rest)?),
+        "window" => Ok(window(rest)?),
+        "rekey" => Ok(rekey(rest)?),
+        "lag" => Ok(lag(rest)?),
+        "suite" => Ok(suite(rest)?),
         "group" => group(alloc, rest),
-        "station" => station(rest),
-        "tick" => tick(rest),
-        "flow" => flow(rest),
-        "deliver" => deliver(rest),
-        "spread" => spread(rest),
-        "lose" => lose(rest),
-        "cut" => cut(rest),
-        "mend" => mend(rest),
-        "restart" => restart(rest),
+        "station" => Ok(station(rest)?),
+        "tick" => Ok(tick(rest)?),
+        "flow" => Ok(flow(rest)?),
+        "deliver" => Ok(deliver(rest)?),
+        "spread" => Ok(spread(rest)?),
+        "lose" => Ok(lose(rest)?),
+        "cut" => Ok(cut(rest)?),
+        "mend" => Ok(mend(rest)?),
+        "restart" => Ok(restart(rest)?),
         "send" => send(alloc, rest),
-        "race" => race(rest),
+        "race" => Ok(race(rest)?),
         "burst" => burst(alloc, rest),
-        "while" => race_control(rest),
-        "end" => race_end(rest),
+        "while" => Ok(race_control(rest)?),
+        "end" => Ok(race_end(rest)?),
         "inject" => inject(alloc, rest),
-        "feed" => feed(rest),
-        _ => Err(TextFault::Word),
+        "feed" => Ok(feed(rest)?),
+        _ => Err(LineError::Refused(TextFault::Word)),
     }
 }
 
 /// `draws KIND ..`.
-fn draws(alloc: Global, rest: &[u8]) -> Result<Line, TextFault>
+fn draws(alloc: Global, rest: &[u8]) -> Result<Line, LineError>
     ensures { Answers result (line_of (codes "draws") (words_of rest.now)) }
 {
     let (kind, rest) = next_word(rest).ok_or(TextFault::Count)?;
     if kind == b"count".as_slice() {
-        return draws_count(rest);
+        return Ok(draws_count(rest)?);
     }
     if kind == b"chacha".as_slice() {
-        return draws_chacha(rest);
+        return Ok(draws_chacha(rest)?);
     }
     if kind == b"list".as_slice() {
         return draws_list(alloc, rest);
     }
-    Err(TextFault::Word)
+    Err(LineError::Refused(TextFault::Word))
 }
 
 /// `draws count`.
@@ -101,11 +96,11 @@ fn draws_chacha(rest: &[u8]) -> Result<Line, TextFault>
 }
 
 /// `draws list D ..`.
-fn draws_list(alloc: Global, rest: &[u8]) -> Result<Line, TextFault>
+fn draws_list(alloc: Global, rest: &[u8]) -> Result<Line, LineError>
     ensures { Answers result (draws_of (codes "list" ∷ words_of rest.now)) }
 {
     if next_word(rest).is_none() {
-        return Err(TextFault::Count);
+        return Err(LineError::Refused(TextFault::Count));
     }
     expect_blocks(rest)?;
     let values = read_blocks(alloc, rest)?;
@@ -132,7 +127,7 @@ fn window(rest: &[u8]) -> Result<Line, TextFault>
 fn rekey(rest: &[u8]) -> Result<Line, TextFault>
     ensures { result ≡ line_of (codes "rekey") (words_of rest.now) }
 {
-    let rekey = read_number(one_word(rest)?, 2, u32::MAX)?;
+    let rekey = read_number(one_word(rest)?, MIN_REKEY, u32::MAX)?;
     Ok(Line::Rekey { rekey })
 }
 
@@ -140,7 +135,7 @@ fn rekey(rest: &[u8]) -> Result<Line, TextFault>
 fn lag(rest: &[u8]) -> Result<Line, TextFault>
     ensures { result ≡ line_of (codes "lag") (words_of rest.now) }
 {
-    let lag = read_number(one_word(rest)?, 0, 1000)?;
+    let lag = read_number(one_word(rest)?, 0, MAX_LAG)?;
     Ok(Line::Lag { lag })
 }
 
@@ -153,12 +148,12 @@ fn suite(rest: &[u8]) -> Result<Line, TextFault>
 }
 
 /// `group CAK CKN`.
-fn group(alloc: Global, rest: &[u8]) -> Result<Line, TextFault>
+fn group(alloc: Global, rest: &[u8]) -> Result<Line, LineError>
     ensures { Answers result (line_of (codes "group") (words_of rest.now)) }
 {
     let (cak, ckn) = two_words(rest)?;
     expect_key(cak)?;
-    expect_octets(ckn, 1, 32)?;
+    expect_octets(ckn, 1, CKN_MAX)?;
     let cak = decoded(alloc, cak)?;
     let ckn = decoded(alloc, ckn)?;
     Ok(Line::Group { cak, ckn })
@@ -171,7 +166,7 @@ fn station(rest: &[u8]) -> Result<Line, TextFault>
     let (name, sci, priority) = three_words(rest)?;
     let name = read_name(name)?;
     let sci = Sci(read_array(sci)?);
-    let priority = read_number(priority, 0, 255)?;
+    let priority = read_number(priority, 0, MAX_PRIORITY)?;
     Ok(Line::Station {
         name,
         sci,
@@ -189,7 +184,7 @@ fn tick(rest: &[u8]) -> Result<Line, TextFault>
     };
     no_word(rest)?;
     let name = read_name(first)?;
-    let ticks = read_number(second, 1, MAX_TICKS)?;
+    let ticks = read_number(second, 1, TICKS_MAX)?;
     Ok(Line::TickOne { name, ticks })
 }
 
@@ -197,7 +192,7 @@ fn tick(rest: &[u8]) -> Result<Line, TextFault>
 fn rounds(word: &[u8]) -> Result<Line, TextFault>
     ensures { result ≡ line_of (codes "tick") (word.now ∷ []) }
 {
-    let rounds = read_number(word, 1, MAX_TICKS)?;
+    let rounds = read_number(word, 1, TICKS_MAX)?;
     Ok(Line::Tick { rounds })
 }
 
@@ -205,7 +200,7 @@ fn rounds(word: &[u8]) -> Result<Line, TextFault>
 fn flow(rest: &[u8]) -> Result<Line, TextFault>
     ensures { result ≡ line_of (codes "flow") (words_of rest.now) }
 {
-    let rounds = read_number(one_word(rest)?, 1, MAX_TICKS)?;
+    let rounds = read_number(one_word(rest)?, 1, TICKS_MAX)?;
     Ok(Line::Flow { rounds })
 }
 
@@ -214,7 +209,7 @@ fn deliver(rest: &[u8]) -> Result<Line, TextFault>
     ensures { result ≡ line_of (codes "deliver") (words_of rest.now) }
 {
     let (frame, name) = two_words(rest)?;
-    let frame = read_number(frame, 1, MAX_FRAME)?;
+    let frame = read_number(frame, 1, FRAMES_MAX)?;
     let name = read_name(name)?;
     Ok(Line::Deliver { frame, name })
 }
@@ -223,7 +218,7 @@ fn deliver(rest: &[u8]) -> Result<Line, TextFault>
 fn spread(rest: &[u8]) -> Result<Line, TextFault>
     ensures { result ≡ line_of (codes "spread") (words_of rest.now) }
 {
-    let frame = read_number(one_word(rest)?, 1, MAX_FRAME)?;
+    let frame = read_number(one_word(rest)?, 1, FRAMES_MAX)?;
     Ok(Line::Spread { frame })
 }
 
@@ -231,7 +226,7 @@ fn spread(rest: &[u8]) -> Result<Line, TextFault>
 fn lose(rest: &[u8]) -> Result<Line, TextFault>
     ensures { result ≡ line_of (codes "lose") (words_of rest.now) }
 {
-    let frame = read_number(one_word(rest)?, 1, MAX_FRAME)?;
+    let frame = read_number(one_word(rest)?, 1, FRAMES_MAX)?;
     Ok(Line::Lose { frame })
 }
 
@@ -264,13 +259,13 @@ fn restart(rest: &[u8]) -> Result<Line, TextFault>
 }
 
 /// `send NAME DST BODY`.
-fn send(alloc: Global, rest: &[u8]) -> Result<Line, TextFault>
+fn send(alloc: Global, rest: &[u8]) -> Result<Line, LineError>
     ensures { Answers result (line_of (codes "send") (words_of rest.now)) }
 {
     let (name, destination, body) = three_words(rest)?;
     let name = read_name(name)?;
     let destination = Mac(read_array(destination)?);
-    let body = read_octets(alloc, body, 2, 1500)?;
+    let body = read_octets(alloc, body, USER_DATA_MIN, USER_DATA_MAX)?;
     Ok(Line::Send {
         name,
         destination,
@@ -287,17 +282,17 @@ fn race(rest: &[u8]) -> Result<Line, TextFault>
 }
 
 /// `burst NAME W N DST BODY`.
-fn burst(alloc: Global, rest: &[u8]) -> Result<Line, TextFault>
+fn burst(alloc: Global, rest: &[u8]) -> Result<Line, LineError>
     ensures { Answers result (line_of (codes "burst") (words_of rest.now)) }
 {
     let (name, rest) = next_word(rest).ok_or(TextFault::Count)?;
     let (workers, rest) = next_word(rest).ok_or(TextFault::Count)?;
     let (frames, destination, body) = three_words(rest)?;
     let name = read_name(name)?;
-    let workers = read_number(workers, 1, 8)?;
-    let frames = read_number(frames, 1, 100_000)?;
+    let workers = read_number(workers, 1, MAX_WORKERS)?;
+    let frames = read_number(frames, 1, MAX_BURST)?;
     let destination = Mac(read_array(destination)?);
-    let body = read_octets(alloc, body, 2, 1500)?;
+    let body = read_octets(alloc, body, USER_DATA_MIN, USER_DATA_MAX)?;
     Ok(Line::Burst {
         name,
         workers,
@@ -324,12 +319,12 @@ fn race_end(rest: &[u8]) -> Result<Line, TextFault>
 }
 
 /// `inject NAME OCTETS`.
-fn inject(alloc: Global, rest: &[u8]) -> Result<Line, TextFault>
+fn inject(alloc: Global, rest: &[u8]) -> Result<Line, LineError>
     ensures { Answers result (line_of (codes "inject") (words_of rest.now)) }
 {
     let (name, octets) = two_words(rest)?;
     let name = read_name(name)?;
-    let octets = read_octets(alloc, octets, 1, 1600)?;
+    let octets = read_octets(alloc, octets, 1, MAX_INJECTED)?;
     Ok(Line::Inject { name, octets })
 }
 
@@ -338,8 +333,8 @@ fn feed(rest: &[u8]) -> Result<Line, TextFault>
     ensures { result ≡ line_of (codes "feed") (words_of rest.now) }
 {
     let (first, last, name) = three_words(rest)?;
-    let first = read_number(first, 1, MAX_FRAME)?;
-    let last = read_number(last, first, MAX_FRAME)?;
+    let first = read_number(first, 1, FRAMES_MAX)?;
+    let last = read_number(last, first, FRAMES_MAX)?;
     let name = read_name(name)?;
     Ok(Line::Feed { first, last, name })
 }
