@@ -3,6 +3,7 @@
 use Rattle.std.specs.Prelude.{◌≡◌, ◌⊎◌, ℕ, zero, suc, ◌+◌, ◌*◌, ◌/◌, ◌<◌, List, [], ◌∷◌, ◌++◌, length, take, replicate, codes}
 use Rattle.std.specs.Int.{w16, to_be_bytes}
 use Rattle.aes_cmac.specs.Cmac.{cmac}
+use Rattle.lan_base.specs.Ranges.{most_ckn_octets}
 
 -- what a block is the CMAC of: its number, the label, a zero octet, the context, and how many bits
 -- are wanted
@@ -32,6 +33,6 @@ kek_of cak ckn = derived cak (codes "IEEE8021 KEK") (context_of ckn) (length cak
 abbrev pub ick_of : List ℕ → List ℕ → List ℕ
 ick_of cak ckn = derived cak (codes "IEEE8021 ICK") (context_of ckn) (length cak)
 
--- a CKN has 1 to 32 octets, and this one has not
+-- a CKN has 1 to 32 octets, and this one has none or more
 abbrev pub HasWrongLength : List ℕ → Type 0
-HasWrongLength ckn = (ckn ≡ []) ⊎ (32 < length ckn)
+HasWrongLength ckn = (ckn ≡ []) ⊎ (most_ckn_octets < length ckn)

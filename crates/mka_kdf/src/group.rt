@@ -1,13 +1,15 @@
 //! The keys of a group, from its CAK and CKN (IEEE Std 802.1X, 9.3.3).
 
-ghost use Rattle.std.specs.Prelude.{◌≡◌, ◌↔◌, ◌≤◌, length, IfOk};
-ghost use Rattle.mka_kdf.specs.declared.group.GroupFault.TheVariants.{Memory};
+ghost use Rattle.std.specs.Prelude.{◌≡◌, ◌↔◌, length, IfOk};
+ghost use Rattle.lan_base.specs.Ranges.{IsCkn};
+ghost use Rattle.mka_kdf.specs.declared.group.GroupError.TheVariants as errors;
+ghost use Rattle.mka_kdf.specs.declared.group.GroupFault.TheVariants.{CknLength};
 ghost use Rattle.mka_kdf.specs.Kdf.{HasWrongLength, context_of, derived, ick_of, kek_of};
 ghost use Rattle.aes_block.specs.Secrets.{secret_octets};
 
 use crate::derivation::{derive, derive256};
 use aes_block::{Key, Secret};
-use lan_base::Octets;
+use lan_base::{Octets, is_ckn};
 use std::alloc::{AllocError, Global};
 use thiserror::Error;
 
@@ -17,24 +19,30 @@ const KEK_LABEL: [u8; 12] = *b"IEEE8021 KEK";
 /// The label of the integrity check key.
 const ICK_LABEL: [u8; 12] = *b"IEEE8021 ICK";
 
-/// The most octets that the name of a connectivity association key has.
-const CKN_MAX: usize = 32;
-
 /// Why there is no such group.
 #[derive(Clone, Copy, Debug, PartialEq, Eq, Error)]
 pub enum GroupFault {
     /// The name of the connectivity association key has no octet, or more than 32.
     #[error("the CKN must have 1 to 32 octets")]
     CknLength,
+}
+
+/// Why there are no keys of a group.
+#[derive(Clone, Copy, Debug, PartialEq, Eq, Error)]
+pub enum GroupError {
+    /// There is no such group.
+    #[error("{0}")]
+    Refused(GroupFault),
+    /// Memory ran out, which says nothing of the group.
     #[error("out of memory")]
     Memory,
 }
 
-impl From<AllocError> for GroupFault {
-    ghost from_gives = { λ _ fault. fault ≡ Memory };
+impl From<AllocError> for GroupError {
+    ghost from_gives = { λ _ e. e ≡ errors.Memory };
 
     fn from(_: AllocError) -> Self {
-        GroupFault::Memory
+        GroupError::Memory
     }
 }
 
@@ -46,19 +54,19 @@ pub struct Group {
     pub kek: Key,
     pub ick: Key,
     /// The name has 1 to 32 octets.
-    pub ghost name_length: { (1 ≤ length ckn) × (length ckn ≤ 32) },
+    pub ghost name_length: { IsCkn ckn },
 }
 
 impl Group {
     /// The group of a CAK under its name.
-    pub fn of(alloc: Global, cak: Secret, ckn: &[u8]) -> Result<Self, GroupFault>
+    pub fn of(alloc: Global, cak: Secret, ckn: &[u8]) -> Result<Self, GroupError>
         ensures name { IfOk result (λ group. group.ckn ≡ ckn.now) }
         ensures kek { IfOk result (λ group. group.kek ≡ kek_of (secret_octets cak) ckn.now) }
         ensures ick { IfOk result (λ group. group.ick ≡ ick_of (secret_octets cak) ckn.now) }
-        ensures length { (result ≡ Err GroupFault.CknLength) ↔ HasWrongLength ckn.now }
+        ensures length { (result ≡ Err (errors.Refused CknLength)) ↔ HasWrongLength ckn.now }
     {
-        if ckn.is_empty() || ckn.len() > CKN_MAX {
-            return Err(GroupFault::CknLength);
+        if !is_ckn(ckn) {
+            return Err(GroupError::Refused(GroupFault::CknLength));
         }
         let context = context_of(ckn);
         Ok(Group {

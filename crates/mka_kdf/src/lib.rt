@@ -8,4 +8,4 @@ mod group;
 mod tests;
 
 pub use derivation::{derive, derive256};
-pub use group::{Group, GroupFault};
+pub use group::{Group, GroupError, GroupFault};
