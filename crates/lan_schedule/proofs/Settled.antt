@@ -5,7 +5,7 @@ use Rattle.std.proofs.Common.{◌∙◌, subst, arith}
 use Rattle.std.specs.Prelude.{cond, is_some, is_none, nat_lt, unwrap_or, option_map}
 use Rattle.std.specs.Prelude.{option_and_then}
 use Rattle.lan_base.specs.declared.frame.UserFrame.{UserFrame}
-use Rattle.sak_exchange.specs.Histories.{Key}
+use Rattle.sak_exchange.specs.declared.held_key.Key.{Key}
 use Rattle.mka_station.specs.Standing.{drawn_mi as mi_of_draw}
 use Rattle.lan_core.specs.declared.event.Event.{Event}
 use Rattle.lan_core.specs.declared.event.Event.TheVariants as events

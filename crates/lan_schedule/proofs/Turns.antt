@@ -7,7 +7,7 @@ use Rattle.std.specs.List.{filter}
 use Rattle.lan_base.specs.declared.frame.UserFrame.{UserFrame}
 use Rattle.gcm_frames.specs.Tags.{is_sec}
 use Rattle.rx_slots.specs.Numbers.{answer}
-use Rattle.sak_exchange.specs.Histories.{Key}
+use Rattle.sak_exchange.specs.declared.held_key.Key.{Key}
 use Rattle.mka_station.specs.declared.reaction.Reaction.{Reaction}
 use Rattle.mka_station.specs.Hearing.{frame_turn}
 use Rattle.mka_station.specs.Restart.{ending}
