@@ -1,5 +1,6 @@
 -- What can be performed, and what performing it leaves (this profile's own rule).
-use Rattle.std.specs.Prelude.{ℕ, ◌+◌, Bool, cond, zero, suc, List, [], ◌∷◌, ◌++◌, Result, Ok}
+use Rattle.std.specs.Prelude.{ℕ, ◌+◌, Bool, if◌then◌else◌, zero, suc, List}
+use Rattle.std.specs.Prelude.{[], ◌∷◌, ◌++◌, Result, Ok}
 use Rattle.std.specs.Prelude.{Err}
 use Rattle.lan_core.specs.declared.event.Event.{Event}
 use Rattle.lan_core.specs.declared.fact.Fact.{Fact}
@@ -71,7 +72,7 @@ times count act = span (λ _. act) 0 count
 
 -- skipped where the test holds
 abbrev pub unless : Bool → Act → Act
-unless skipped act = cond skipped nothing act
+unless skipped act = if skipped then nothing else act
 
 -- ---- what was shown
 

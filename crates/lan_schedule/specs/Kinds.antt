@@ -1,5 +1,5 @@
 -- Which line is refused, and the first reason (this profile's own rule).
-use Rattle.std.specs.Prelude.{ℕ, nat_le, Bool, true, false, not, ◌&&◌, cond, List, length}
+use Rattle.std.specs.Prelude.{ℕ, nat_le, Bool, true, false, not, ◌&&◌, if◌then◌else◌, List, length}
 use Rattle.std.specs.Prelude.{Option, Some, None, is_some, Result, Ok, Err}
 use Rattle.std.specs.Option.{is_none}
 use Rattle.trace_text.specs.declared.fault.TextFault.{TextFault}
@@ -66,7 +66,7 @@ or_else (Some kind) later = Some kind
 
 -- a reason, where the test holds
 abbrev pub where_ : Bool → Kind → Option Kind
-where_ test kind = cond test (Some kind) None
+where_ test kind = if test then Some kind else None
 
 -- no station has this name
 abbrev pub unknown : List ℕ → List (List ℕ) → Option Kind

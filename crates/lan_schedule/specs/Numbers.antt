@@ -1,5 +1,5 @@
 -- The packet numbers that a trace without a race shows and claims: each is the next one.
-use Rattle.std.specs.Prelude.{◌≡◌, ℕ, cond, nat_lt, List, [], get_or}
+use Rattle.std.specs.Prelude.{◌≡◌, ℕ, if◌then◌else◌, nat_lt, List, [], get_or}
 use Rattle.lan_core.specs.declared.settings.Settings.{Settings}
 use Rattle.lan_core.specs.Run.{Run}
 use Rattle.lan_core.specs.Claims.{next}
@@ -13,7 +13,7 @@ shown_next settings s r = next_under settings s r (transmitting_at settings s r)
 
 -- a packet number, and 0 for what lies behind the last one
 abbrev pub in_range : ℕ → ℕ
-in_range n = cond (nat_lt last_number n) 0 n
+in_range n = if nat_lt last_number n then 0 else n
 
 -- what a station claims: that number, or 0 where it can claim none
 abbrev pub claimed_number : Settings → ℕ → Run → ℕ

@@ -1,5 +1,6 @@
 -- A whole trace, whose lines are performed as soon as they have ended (this profile's own rule).
-use Rattle.std.specs.Prelude.{◌≡◌, ◌⊎◌, ℕ, ◌<◌, ◌≤◌, nat_le, cond, List, [], length, take, Option}
+use Rattle.std.specs.Prelude.{◌≡◌, ◌⊎◌, ℕ, ◌<◌, ◌≤◌, nat_le, if◌then◌else◌}
+use Rattle.std.specs.Prelude.{List, [], length, take, Option}
 use Rattle.std.specs.Prelude.{Some, Result, Ok, Err}
 use Rattle.lan_base.specs.Faults.{Rose}
 use Rattle.lan_base.specs.Told.{after, before}
@@ -22,7 +23,8 @@ most_input = 4194304
 -- the lines of a text, of which those count that end within the limit
 abbrev pub lines_within : List ℕ → List (List ℕ)
 lines_within text =
-    cond (nat_le (length text) most_input) (lines_of text) (whole_lines (take most_input text))
+    if nat_le (length text) most_input then lines_of text
+    else whole_lines (take most_input text)
 
 -- what performing lines leaves, from the beginning on
 abbrev pub course : List (List ℕ) → Course

@@ -1,7 +1,7 @@
 //! A trace is read in pieces, and each line is performed as soon as it has ended.
 
 ghost use Rattle.std.specs.Prelude.{◌≡◌, ◌≤◌, ◌==◌, ◌++◌, ◌∷◌, [], List, ℕ, Some, Ok, Err, OnOk};
-ghost use Rattle.std.specs.Prelude.{cond, true, false};
+ghost use Rattle.std.specs.Prelude.{if◌then◌else◌, true, false};
 ghost use Rattle.lan_base.specs.Faults.{Rose};
 ghost use Rattle.fact_tally.specs.Summary.{line_of};
 ghost use Rattle.lan_schedule.specs.declared.halt.Halt.{Halt};
@@ -235,11 +235,12 @@ fn take<K: Sink>(
     octet: u8,
     sink: &mut K,
 ) -> Result<(), Halt>
-    ensures does { Does (cond (octet == 10) (performed (without_return begun.old.items)) nothing)
+    ensures does { Does
+        (if octet == 10 then performed (without_return begun.old.items) else nothing)
         (moment replay.old (K.held sink.old) (K.faults sink.old))
         (moment replay.new (K.held sink.new) (K.faults sink.new)) result }
     ensures begun { OnOk result (begun.new.items
-        ≡ cond (octet == 10) [] (begun.old.items ++ octet ∷ [])) }
+        ≡ (if octet == 10 then [] else begun.old.items ++ octet ∷ [])) }
 {
     if octet != b'\n' {
         begun.push(octet)?;

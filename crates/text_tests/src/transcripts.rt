@@ -23,6 +23,7 @@ const ID: KeyId = KeyId {
 };
 
 /// A fact, and its line.
+#[derive(Drop)]
 struct Worked {
     fact: Fact,
     line: &'static str,
