@@ -14,9 +14,13 @@ use Rattle.gcm_core.specs.Gcm.{gcm}
 abbrev pub control_octet : Bool → AssociationNumber → ℕ
 control_octet conf an = 0x20 + (if conf then 0x0c else 0) + number_of an
 
--- the short length: how many octets of secure data there are, 0 for 48 and more
+-- secure data of so many octets and more has no short length
+abbrev pub least_long : ℕ
+least_long = 48
+
+-- the short length: how many octets of secure data there are, 0 where they have none
 abbrev pub short_length : ℕ → ℕ
-short_length count = if nat_lt count 48 then count else 0
+short_length count = if nat_lt count least_long then count else 0
 
 -- the SecTAG before secure data of so many octets: EtherType, control information, short length,
 -- packet number and SCI

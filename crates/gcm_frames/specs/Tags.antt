@@ -5,6 +5,7 @@ use Rattle.byteorder.specs.Endian.{big_number}
 use Rattle.lan_base.specs.AssociationNumbers.{of_bits}
 use Rattle.lan_base.specs.declared.association_number.AssociationNumber.{AssociationNumber}
 use Rattle.lan_base.specs.declared.address.Sci.{Sci}
+use Rattle.gcm_frames.specs.Protected.{least_long}
 use Rattle.gcm_frames.specs.declared.tag.Tag.{Tag}
 use Rattle.gcm_frames.specs.declared.tag.TagRefusal.{TagRefusal}
 use Rattle.gcm_frames.specs.declared.tag.TagRefusal.TheVariants.{NotSec, Version, Mode, Short, SlWrong}
@@ -78,12 +79,12 @@ is_mode frame =
 abbrev pub is_short : List ℕ → Bool
 is_short frame = nat_lt (length frame) (start_of frame + short_length_of frame + 16)
 
--- the short length is no length that is written for what follows: 48 or more, or none for fewer
--- than 48 octets and a tag
+-- the short length is none that is written for what follows: 48 or more, or 0 for fewer than 48
+-- octets and a tag
 abbrev pub is_length_wrong : List ℕ → Bool
 is_length_wrong frame =
-    nat_le 48 (short_length_of frame) || ((short_length_of frame == 0)
-    && nat_lt (length frame) (start_of frame + 64))
+    nat_le least_long (short_length_of frame) || ((short_length_of frame == 0)
+    && nat_lt (length frame) (start_of frame + (least_long + 16)))
 
 -- the first refusal of a frame, in the order in which they are tried
 abbrev pub refused : List ℕ → Option TagRefusal

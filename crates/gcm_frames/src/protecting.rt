@@ -21,8 +21,8 @@ const E_AND_C: u8 = 0x0c;
 /// How many octets stand before the secure data: addresses, and a SecTAG with an SCI.
 const HEAD: usize = 28;
 
-/// From this count on the short length is 0.
-const LONG: usize = 48;
+/// From this count of octets on the short length is 0.
+pub(crate) const LONG: usize = 48;
 
 /// The octet of control information.
 fn control_octet(conf: bool, an: AssociationNumber) -> u8

@@ -4,6 +4,7 @@ ghost use Rattle.std.specs.Prelude.{◌≡◌, ◌<◌, ◌≤◌, ◌+◌, ◌�
 ghost use Rattle.gcm_frames.specs.declared.tag.TagRefusal.{TagRefusal};
 ghost use Rattle.gcm_frames.specs.Tags.{an_of, has_flag, is_mode, is_sec, start_of, sci_of, refused, tag_in, tag_fields};
 
+use crate::protecting::LONG;
 use crate::tag::{Tag, TagRefusal};
 use byteorder::{BigEndian, ByteOrder};
 use lan_base::{AssociationNumber, Sci};
@@ -123,7 +124,7 @@ pub fn tag_of(frame: &[u8]) -> Result<Tag, TagRefusal>
     if frame.len() < start + short + 16 {
         return Err(TagRefusal::Short);
     }
-    if short >= 48 || short == 0 && frame.len() < start + 64 {
+    if short >= LONG || short == 0 && frame.len() < start + LONG + 16 {
         return Err(TagRefusal::SlWrong);
     }
     Ok(Tag {

@@ -4,8 +4,6 @@
 
 mod derivation;
 mod group;
-#[cfg(test)]
-mod tests;
 
 pub use derivation::{derive, derive256};
 pub use group::{Group, GroupError, GroupFault};

@@ -2,6 +2,7 @@
 use Rattle.std.specs.Prelude.{ℕ, zero, suc, ◌+◌, ◌-◌, ◌*◌, ◌%◌, Bool, not, ◌&&◌, ◌||◌, ◌==◌, nat_le, if◌then◌else◌, List, [], ◌∷◌, length, take, drop, slice_index, Option, Some, None}
 use Rattle.std.specs.List.{list_any, starts_with}
 use Rattle.byteorder.specs.Endian.{big_number}
+use Rattle.lan_base.specs.Ranges.{most_ckn_octets}
 use Rattle.mkpdu_codec.specs.declared.refusal.Refusal.{Refusal}
 use Rattle.mkpdu_codec.specs.declared.refusal.Refusal.TheVariants.{NotMka, Short, Shape, Repeated, Agility}
 use Rattle.mkpdu_codec.specs.Sets.{set_length, agility, check_length, live_peers, potential_peers, sak_use, distributed_sak, icv_indicator}
@@ -78,11 +79,16 @@ refused_sets (suc n) end met octets =
     then Some (Repeated (front_kind octets)) else
     refused_sets n end (front_kind octets ∷ met) (drop (front_size octets) octets)
 
--- the length of a Basic Parameter Set: its fixed fields, and a name of 1 to 32 octets
-abbrev pub is_basic_length : ℕ → Bool
-is_basic_length n = nat_le 29 n && nat_le n 60
+-- the fixed fields of a Basic Parameter Set have so many octets
+abbrev pub basic_fields : ℕ
+basic_fields = 28
 
--- the Basic Parameter Set ends before the check value, and has a name of 1 to 32 octets
+-- the length of a Basic Parameter Set: its fixed fields, and a CKN
+abbrev pub is_basic_length : ℕ → Bool
+is_basic_length n =
+    nat_le (basic_fields + 1) n && nat_le n (basic_fields + most_ckn_octets)
+
+-- the Basic Parameter Set ends before the check value, and has a CKN
 abbrev pub is_basic : List ℕ → Bool
 is_basic octets = is_whole octets && is_basic_length (front_length octets)
 

@@ -54,6 +54,10 @@ written a = frame_header a.source.0 (length (sets a) + check_length) ++ sets a
 abbrev pub most_written : ℕ → ℕ
 most_written peers = 190 + 16 * peers
 
+-- a peer list that is written has at most so many entries
+abbrev pub most_listed : ℕ
+most_listed = 80
+
 -- a key for another cipher isn't written
 abbrev pub IsWritableGiven : Given → Type 0
 IsWritableGiven (Aes128 an offset number wrapped) = ⊤
@@ -64,6 +68,6 @@ IsWritableGiven (Other an offset number) = ⊥
 pub record IsWritable (a : Announcement) : Type 0 where
   pub source : a.source.0 ≡ take 6 a.sci.0
   pub named : IsCkn a.ckn
-  pub live : length a.live ≤ 80
-  pub potential : length a.potential ≤ 80
+  pub live : length a.live ≤ most_listed
+  pub potential : length a.potential ≤ most_listed
   pub given : IfSome a.given IsWritableGiven

@@ -3,6 +3,7 @@
 ghost use Rattle.std.specs.Prelude.{◌≡◌, ◌≤◌, ◌+◌, length, IfSome};
 ghost use Rattle.mkpdu_codec.specs.Fields.{basic_in, basic_at};
 ghost use Rattle.mkpdu_codec.specs.Refusals.{is_basic_length};
+ghost use Rattle.lan_base.specs.Ranges.{most_ckn_octets};
 ghost use Rattle.lan_base.specs.Room.{HasRoom, Puts};
 ghost use Rattle.mkpdu_codec.specs.Sets.{basic_body};
 ghost use Rattle.mkpdu_codec.specs.Written.{basic_set};
@@ -12,7 +13,7 @@ use crate::announcement::Announcement;
 use crate::fields::{read_mi, read_number, read_sci};
 use crate::layout::AGILITY;
 use crate::set::{ParameterSet, put_header, put_padding, read_set, set_len};
-use lan_base::{Mi, Sci, put};
+use lan_base::{CKN_MAX, Mi, Sci, put};
 
 /// What the set says.
 #[derive(Clone, Copy, Debug)]
@@ -26,17 +27,20 @@ pub struct Basic<'a> {
     pub ckn: &'a [u8],
 }
 
-/// How many octets stand in the body before the name of the connectivity association key.
+/// The octets of the body's fixed fields, before the name of the connectivity association key.
+const FIXED_LEN: usize = 28;
+
+/// How many octets stand in the body before the name.
 fn fixed_len(sci: Sci, mi: Mi) -> usize
     ensures value { result ≡ length sci.0 + length mi.0 + 8 }
-    ensures fixed { result ≡ 28 }
+    ensures fixed { result ≡ FIXED_LEN }
 {
     sci.0.len() + mi.0.len() + 8
 }
 
 /// How many octets the body has.
 fn body_len(announcement: &Announcement) -> usize
-    requires { length announcement.now.ckn ≤ 32 }
+    requires { length announcement.now.ckn ≤ most_ckn_octets }
     ensures value { result ≡ length
         (basic_body announcement.now.sci.0 announcement.now.mi.0 announcement.now.mn
         announcement.now.ckn) }
@@ -47,7 +51,7 @@ fn body_len(announcement: &Announcement) -> usize
 
 /// How many octets the set has.
 pub fn basic_len(announcement: &Announcement) -> usize
-    requires { length announcement.now.ckn ≤ 32 }
+    requires { length announcement.now.ckn ≤ most_ckn_octets }
     ensures value { result ≡ length (basic_set announcement.now) }
     ensures most { result ≤ 64 }
 {
@@ -74,7 +78,7 @@ fn put_body(announcement: &Announcement, into: &mut Vec<u8>)
 /// Writes the set: of version 1, MACsec desired, with MACsec capability 2.
 #[tactic(auto, using(lan_base::proofs::Public::pieces))]
 pub fn put_basic(announcement: &Announcement, into: &mut Vec<u8>)
-    requires name { length announcement.now.ckn ≤ 32 }
+    requires name { length announcement.now.ckn ≤ most_ckn_octets }
     requires room { HasRoom into.old (basic_set announcement.now) }
     ensures { Puts into.old into.new (basic_set announcement.now) }
 {
@@ -85,11 +89,11 @@ pub fn put_basic(announcement: &Announcement, into: &mut Vec<u8>)
     put_padding(len, into);
 }
 
-/// The length of a body: its fixed fields, and a name of 1 to 32 octets.
+/// The length of a body: its fixed fields, and a CKN.
 fn is_basic_len(len: usize) -> bool
     ensures { result ≡ is_basic_length len }
 {
-    (29..=60).contains(&len)
+    (FIXED_LEN + 1..=FIXED_LEN + CKN_MAX).contains(&len)
 }
 
 /// What the body of a set says, if its length allows.
@@ -115,7 +119,7 @@ fn basic_of<'a>(set: ParameterSet<'a>) -> Option<Basic<'a>>
     })
 }
 
-/// Reads the set in front, which has a name of 1 to 32 octets. The octets that follow it are left.
+/// Reads the set in front, which has a CKN. The octets that follow it are left.
 #[tactic(auto, unfolding(crate::specs::Fields::basic_at))]
 pub fn read_basic(octets: &[u8]) -> Option<(Basic<'_>, &[u8])>
     ensures value { Finds (λ x. (basics_of x.0, x.1.now)) result (basic_at octets.now) }

@@ -5,7 +5,7 @@ ghost use Rattle.std.specs.Prelude.{◌≡◌, ◌≤◌, ◌<◌, ◌+◌, ◌*
 ghost use Rattle.mkpdu_codec.specs.Fields.{entry_at, entries_at, peers_in};
 ghost use Rattle.lan_base.specs.Room.{HasRoom, Puts};
 ghost use Rattle.mkpdu_codec.specs.Sets.{peer, peers_body};
-ghost use Rattle.mkpdu_codec.specs.Written.{peers_set};
+ghost use Rattle.mkpdu_codec.specs.Written.{most_listed, peers_set};
 ghost use Rattle.mkpdu_codec.specs.inside.Views.{Finds, seen};
 
 use crate::fields::{read_mi, read_number};
@@ -24,7 +24,7 @@ fn entry_len(entry: Peer) -> usize
 
 /// How many octets the body has.
 fn body_len(peers: &[Peer]) -> usize
-    requires { length peers.now ≤ 80 }
+    requires { length peers.now ≤ most_listed }
     ensures value { result ≡ length (peers_body peers.now) }
     ensures entries { result ≡ 16 * length peers.now }
 {
@@ -37,7 +37,7 @@ fn body_len(peers: &[Peer]) -> usize
 
 /// How many octets the set has: none where there are no peers.
 pub fn peers_len(kind: u8, peers: &Peers) -> usize
-    requires { length peers.now ≤ 80 }
+    requires { length peers.now ≤ most_listed }
     ensures value { result ≡ length (peers_set kind peers.now) }
     ensures most { result ≤ 4 + 16 * length peers.now }
 {
@@ -70,7 +70,7 @@ fn put_body(peers: &[Peer], into: &mut Vec<u8>)
 /// Writes the set of one of the two types, where there are peers.
 #[tactic(auto, using(lan_base::proofs::Public::pieces))]
 pub fn put_peers(kind: u8, peers: &Peers, into: &mut Vec<u8>)
-    requires few { length peers.now ≤ 80 }
+    requires few { length peers.now ≤ most_listed }
     requires room { HasRoom into.old (peers_set kind peers.now) }
     ensures { Puts into.old into.new (peers_set kind peers.now) }
 {

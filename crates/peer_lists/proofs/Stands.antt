@@ -183,8 +183,8 @@ reason-told own t h x place ps o same range found told s =
 pub vouched-told : (own : Own) (t : Table) (h : List Peering) (x : Heard) (v : Bool) → v ≡ (x.lists && is_number_recent t.sent x.listed) → StandsFor own t h → vouches h x ≡ v
 vouched-told own t h x v told s = sym (told ∙ ap (λ b. x.lists && b) (recent-stands own t h s x.listed))
 
-pub answer-told : (own : Own) (h : List Peering) (x : Heard) (v b : Bool) → reason_after own h x ≡ None → vouches h x ≡ v → v ≡ b → cond b Vouched Unvouched ≡ outcome own h x
-answer-told own h x v b e f g = sym (outcome-new own h x e ∙ ap (λ k. cond k Vouched Unvouched) (f ∙ g))
+pub answer-told : (own : Own) (h : List Peering) (x : Heard) (v : Bool) → reason_after own h x ≡ None → vouches h x ≡ v → cond v Vouched Unvouched ≡ outcome own h x
+answer-told own h x v e f = sym (outcome-new own h x e ∙ ap (λ k. cond k Vouched Unvouched) f)
 
 pub table-told : (own : Own) (t u : Table) (h : List Peering) (x : Heard) (place : Result ℕ ℕ) (ps : List Remembered) (v : Bool) → ps ≡ t.rows → IsSearchInRange place (length ps) → IsBinarySearchResult (λ p. order (member p) x.mi) ps place
     → reason_after own h x ≡ None → vouches h x ≡ v → u ≡ record t { rows = rows_heard place v x t.rows } → StandsFor own t h → StandsFor own u (heard x ∷ h)

@@ -1,6 +1,6 @@
 //! The peer lists of one life of a station.
 
-ghost use Rattle.std.specs.Prelude.{◌≡◌, ◌<◌, ◌≤◌, ◌+◌, ◌&&◌, ◌↔◌, ◌∷◌, [], List, ℕ, length, slice_get, vec_capacity, IfOk, IsNone, IsTrue, OnErr};
+ghost use Rattle.std.specs.Prelude.{◌≡◌, ◌<◌, ◌≤◌, ◌+◌, ◌&&◌, ◌↔◌, ◌∷◌, [], List, ℕ, length, slice_get, vec_capacity, IfOk, IsNone, IsTrue, OnErr, if◌then◌else◌};
 ghost use Rattle.std.specs.Option.{option_or};
 ghost use Rattle.std.specs.List.Sorted.{IsSearchInRange};
 ghost use Rattle.peer_lists.specs.Histories.{Peering, ticked, sent, heard as heard_entry, recent as recent_after, last_sent as last_sent_in, may_send as may_send_after};
@@ -133,13 +133,7 @@ impl PeerTable {
         let place = place_of(self.rows.as_slice(), &heard.mi);
         match self.refusal(heard, place) {
             Some(reason) => Outcome::Dropped(reason),
-            None => {
-                if self.accept(heard, place) {
-                    Outcome::Vouched
-                } else {
-                    Outcome::Unvouched
-                }
-            }
+            None => accepted_as(self.accept(heard, place)),
         }
     }
 
@@ -206,5 +200,16 @@ impl PeerTable {
         ensures capacity { vec_capacity into.new ≡ vec_capacity into.old }
     {
         show_after_tick(self.rows.as_slice(), into);
+    }
+}
+
+/// What an accepted announcement comes to.
+fn accepted_as(vouched: bool) -> Outcome
+    ensures { result ≡ (if vouched then Outcome.Vouched else Outcome.Unvouched) }
+{
+    if vouched {
+        Outcome::Vouched
+    } else {
+        Outcome::Unvouched
     }
 }

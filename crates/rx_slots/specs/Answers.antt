@@ -23,7 +23,8 @@ checked_under None tag frame = Missed tag.an
 checked_under (Some secret) tag frame = checked_data tag (opened (secret_octets secret) tag frame)
 
 -- Malformed: the frame is no protected frame. Own: the station is its sender.
-abbrev pub checked_fields : Sci → (AssociationNumber → Option Secret) → List ℕ → Result Tag TagRefusal → Checked
+abbrev pub checked_fields : Sci → (AssociationNumber → Option Secret) → List ℕ
+    → Result Tag TagRefusal → Checked
 checked_fields own keys frame (Err refusal) = Malformed refusal
 checked_fields own keys frame (Ok tag) =
     if same_sci tag.sci own then Own else checked_under (keys tag.an) tag frame

@@ -27,5 +27,6 @@ pub fn law_lowest_is_no_less_than_a_senders()
 /// It is that of some sender, or 1.
 pub fn law_lowest_is_a_senders()
     ensures { (window : ℕ) (an : AssociationNumber) (past : List Taken)
-        → (lowest window past an ≡ 1) ⊎ ((sci : Sci) × (lowest window past an ≡ lowest_for window (next_number past an sci))) }
+        → (lowest window past an ≡ 1) ⊎ ((sci : Sci)
+        × (lowest window past an ≡ lowest_for window (next_number past an sci))) }
 {}

@@ -10,8 +10,8 @@ use std::alloc::{AllocError, Global};
 use std::collections::BTreeMap;
 use std::marker::Model;
 
-/// A prepared key, the next packet number of each sender that was accepted under it, and the greatest of
-/// these.
+/// A prepared key, the next packet number of each sender that was accepted under it, and the
+/// greatest of these.
 #[derive(Drop)]
 pub struct Slot {
     key: GcmKey,

@@ -83,7 +83,8 @@ impl RxSlots {
         self.slots[usize::from(an.number())] = slot;
     }
 
-    /// Answers a heard frame, which is no longer than a frame may be. An error leaves the slots as they were.
+    /// Answers a heard frame, which is no longer than a frame may be. An error leaves the slots as
+    /// they were.
     pub fn receive(&mut self, frame: &[u8]) -> Result<Arrival, AllocError>
         requires { length frame.now ≤ most_frame_octets }
         ensures answer { (own : Sci) (window : ℕ) (h : List Receiving)
