@@ -27,8 +27,3 @@ pub use reaction::Reaction;
 pub use station::{Station, mi_of};
 pub use tick_error::TickError;
 pub use verdict::{DropReason, Verdict};
-
-#[cfg(test)]
-mod test_frames;
-#[cfg(test)]
-mod tests;

@@ -25,6 +25,3 @@ pub use laws::{
 };
 pub use offer::Offer;
 pub use report::Report;
-
-#[cfg(test)]
-mod tests;

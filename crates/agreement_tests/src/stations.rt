@@ -1,20 +1,22 @@
 //! Stations A and B of a group, each told by the frames that it hears and sends and by what
 //! changes. What A sends is what B hears, and the other way round.
 
-use crate::test_frames::*;
-use crate::{Config, Reaction, Station, StationFault, Verdict};
-use Step::{Fills, Hears, Holds, Restarts, Spends, Ticks};
-use Told::{Began, Dropped, Elected, Installed, Lost, Untaken};
-use Verdict::{
-    Agility, Check, CkName, Echo, NotMka, OldNumber, PeersFull, Repeated, Shape, Short, Unvouched,
-    Vouched,
+use crate::station_frames::*;
+use AssociationNumber::{An0, An2, An3};
+use DropReason::{
+    Agility, Check, CkName, Echo, NotMka, OldNumber, PeersFull, Repeated, Shape, Short,
 };
+use Step::{Drops, Fills, Hears, Holds, Restarts, Spends, Ticks};
+use Suite::{GcmAes128, GcmAes256};
+use Told::{Began, Dropped, Elected, Installed, Lost, Untaken};
+use Verdict::{Unvouched, Vouched};
 use Who::{A, B};
-use aes_block::{Key, Secret};
+use aes_block::Secret;
 use aes_cmac::cmac;
-use lan_base::{Blocks, CountDraws, Draws, KeyId, ListDraws, Mi, Sci};
+use lan_base::{AssociationNumber, Blocks, CountDraws, Draws, KeyId, ListDraws, Mi, Sci, Suite};
 use mka_kdf::Group;
-use sak_exchange::{Cause, Change, HeldKey, Seen, Why};
+use mka_station::{Config, DropReason, Reaction, Station, TickError, Verdict};
+use sak_exchange::{Cause, Change, HeldKey, Key, Seen, Why};
 use std::alloc::Global;
 use std::process::Abort;
 use std::test::Fail;
@@ -36,7 +38,7 @@ enum Told {
     Retired(u32),
     Began(u32, Cause),
     /// The number, the association number and the epoch.
-    Installed(u32, u8, u32),
+    Installed(u32, AssociationNumber, u32),
     Untaken(u32, Why),
 }
 
@@ -47,14 +49,25 @@ enum Step {
     Ticks(u64, &'static [Told], &'static str),
     /// A tick that is refused, since it makes a key and one draw is left.
     Spends,
-    /// A frame is heard; what becomes of it, and what changes.
+    /// A frame is heard and accepted; as what, and what changes.
     Hears(&'static str, Verdict, &'static [Told]),
+    /// A frame is heard and dropped, and nothing changes.
+    Drops(&'static str, DropReason),
     /// The station starts again under this identifier; what changes.
     Restarts(u8, &'static [Told]),
     /// It holds these keys, and transmits under the last one.
     Holds([Option<HeldKey>; 3]),
     /// It hears so many other members that it cannot remember one more.
     Fills,
+}
+
+/// What a station that makes keys of a suite does, once it has met the other one.
+#[derive(Clone, Copy)]
+struct Case {
+    name: &'static str,
+    who: Who,
+    suite: Suite,
+    steps: &'static [Step],
 }
 
 /// The draw that is this number.
@@ -73,8 +86,8 @@ fn group(alloc: Global) -> Result<Group, Fail> {
     Ok(Group::of(alloc, Secret::S128(cak.to_be_bytes()), &[1, 2, 3, 4])?)
 }
 
-/// A station that makes keys of so many bits.
-fn station(alloc: Global, who: Who, suite: u16) -> Result<Station, Fail> {
+/// A station that makes keys of this suite.
+fn station(alloc: Global, who: Who, suite: Suite) -> Result<Station, Fail> {
     let (number, channel, priority) = match who {
         A => (1, 0x0a, 16),
         B => (2, 0x0b, 32),
@@ -93,10 +106,10 @@ fn station(alloc: Global, who: Who, suite: u16) -> Result<Station, Fail> {
 /// What is told of a key.
 fn summary(change: &Change) -> Told {
     match change {
-        Change::Dropped(key) => Dropped(key.id.number),
-        Change::Retired(key) => Told::Retired(key.id.number),
-        Change::Began { key, cause } => Began(key.id.number, *cause),
-        Change::Installed(key) => Installed(key.id.number, key.an, key.epoch),
+        Change::Dropped(held) => Dropped(held.key.id.number),
+        Change::Retired(held) => Told::Retired(held.key.id.number),
+        Change::Began { key, cause } => Began(key.key.id.number, *cause),
+        Change::Installed(held) => Installed(held.key.id.number, held.key.an, held.key.epoch),
         Change::Untaken { id, why } => Untaken(id.number, *why),
     }
 }
@@ -149,7 +162,7 @@ fn is_refused(rt: &impl Abort, alloc: Global, station: &mut Station) -> Result<b
     values.push(drawn(3))?;
     assert!(rt; station.has_room());
     let ticked = station.tick(&seen(0), &mut ListDraws::of(values));
-    Ok(matches!(ticked, Err(StationFault::DrawsSpent)))
+    Ok(matches!(ticked, Err(TickError::DrawsSpent)))
 }
 
 /// A frame is heard.
@@ -204,7 +217,7 @@ fn holds(station: &Station, keys: &[Option<HeldKey>; 3]) -> bool {
 }
 
 /// A1 from another member, under a channel of its own.
-fn hello(alloc: Global, ick: &Key, member: u8) -> Result<Vec<u8>, Fail> {
+fn hello(alloc: Global, ick: &aes_block::Key, member: u8) -> Result<Vec<u8>, Fail> {
     let front = "0180c200000302000000000a888e03050034011060200200000000";
     let mut octets = hex::decode(alloc, front)?;
     octets.push(member)?;
@@ -221,7 +234,7 @@ fn meets(
     rt: &impl Abort,
     alloc: Global,
     station: &mut Station,
-    ick: &Key,
+    ick: &aes_block::Key,
     member: u8,
 ) -> Result<Option<Verdict>, Fail> {
     Ok(hear(rt, station, &hello(alloc, ick, member)?)?.heard)
@@ -231,7 +244,11 @@ fn meets(
 fn fills(rt: &impl Abort, alloc: Global, station: &mut Station) -> Result<bool, Fail> {
     let group = group(alloc)?;
     for member in 100..164 {
-        let wanted = if member < 163 { Unvouched } else { PeersFull };
+        let wanted = if member < 163 {
+            Unvouched
+        } else {
+            Verdict::Dropped(PeersFull)
+        };
         if meets(rt, alloc, station, &group.ick, member)? != Some(wanted) {
             return Ok(false);
         }
@@ -245,37 +262,45 @@ fn play(rt: &impl Abort, alloc: Global, station: &mut Station, step: &Step) -> R
         Ticks(next, told, frame) => ticks(rt, alloc, station, *next, told, frame),
         Spends => is_refused(rt, alloc, station),
         Hears(frame, verdict, told) => hears(rt, alloc, station, frame, *verdict, told),
+        Drops(frame, why) => hears(rt, alloc, station, frame, Verdict::Dropped(*why), &[]),
         Restarts(number, told) => restarts(alloc, station, *number, told),
         Holds(keys) => Ok(holds(station, keys)),
         Fills => fills(rt, alloc, station),
     }
 }
 
-/// Plays the steps one after the other; each gives what it says.
+/// Plays the steps of a part of a life; each gives what it says.
 fn plays(
     rt: &impl Abort,
     alloc: Global,
     station: &mut Station,
+    name: &str,
     steps: &[Step],
 ) -> Result<(), Fail> {
     for (at, step) in steps.iter().enumerate() {
-        assert!(rt; play(rt, alloc, station, step)?, "step {at}");
+        assert!(rt; play(rt, alloc, station, step)?, "{name}: step {at}");
     }
     Ok(())
 }
 
-/// The first key: A makes it of the third draw, and each holds it under its own first epoch.
-const FIRST: HeldKey = HeldKey {
-    id: KeyId {
-        server: Mi([0, 0, 0, 0, 0, 0, 0, 0, 0, 0, 0, 1]),
-        number: 1,
-    },
-    an: 0,
-    sak: Secret::S128([0, 0, 0, 0, 0, 0, 0, 0, 0, 0, 0, 0, 0, 0, 0, 3]),
-    conf: true,
-    epoch: 1,
-    begun: true,
-};
+/// Plays the life of a station that meets the other one first.
+fn lives(rt: &impl Abort, alloc: Global, case: &Case) -> Result<(), Fail> {
+    let mut station = station(alloc, case.who, case.suite)?;
+    let meeting: &[Step] = match case.who {
+        A => &A_MEETS,
+        B => &B_MEETS,
+    };
+    plays(rt, alloc, &mut station, "meeting", meeting)?;
+    plays(rt, alloc, &mut station, case.name, case.steps)
+}
+
+/// Plays lives of several stations.
+fn all_live(rt: &impl Abort, alloc: Global, cases: &[Case]) -> Result<(), Fail> {
+    for case in cases {
+        lives(rt, alloc, case)?;
+    }
+    Ok(())
+}
 
 /// A hears B and is elected.
 const A_MEETS: [Step; 4] = [
@@ -293,153 +318,187 @@ const B_MEETS: [Step; 4] = [
     Hears(A2, Vouched, &[Elected(1)]),
 ];
 
-/// The station meets the other one, and then takes these steps.
-fn meets_and_plays(
-    rt: &impl Abort,
-    alloc: Global,
-    who: Who,
-    station: &mut Station,
-    steps: &[Step],
-) -> Result<(), Fail> {
-    match who {
-        A => plays(rt, alloc, station, &A_MEETS)?,
-        B => plays(rt, alloc, station, &B_MEETS)?,
-    }
-    plays(rt, alloc, station, steps)
-}
+/// The first key: A makes it of the third draw, and each holds it under its own first epoch.
+const FIRST: Key = Key {
+    id: KeyId {
+        server: Mi([0, 0, 0, 0, 0, 0, 0, 0, 0, 0, 0, 1]),
+        number: 1,
+    },
+    an: An0,
+    sak: Secret::S128([0, 0, 0, 0, 0, 0, 0, 0, 0, 0, 0, 0, 0, 0, 0, 3]),
+    conf: true,
+    epoch: 1,
+};
 
-/// A station that makes keys of so many bits meets the other one, and then takes these steps.
-fn lives(rt: &impl Abort, alloc: Global, who: Who, suite: u16, steps: &[Step]) -> Result<(), Fail> {
-    let mut station = station(alloc, who, suite)?;
-    meets_and_plays(rt, alloc, who, &mut station, steps)
-}
+const FIRST_BEGUN: HeldKey = HeldKey {
+    key: FIRST,
+    begun: true,
+};
 
-/// A makes the first key, and begins it when B reports it.
-const A_LEADS: [Step; 8] = [
-    Ticks(0, &[Installed(1, 0, 1)], A3),
-    Hears(B3, Vouched, &[]),
-    Ticks(0, &[], ""),
-    Hears(B4, Vouched, &[]),
-    Ticks(0, &[Began(1, Cause::All)], A4),
-    Ticks(1, &[], ""),
-    Hears(B5, Vouched, &[]),
-    Holds([Some(FIRST), None, Some(FIRST)]),
-];
-
-/// B takes the first key, and begins it when A does.
-const B_FOLLOWS: [Step; 7] = [
-    Ticks(0, &[], B3),
-    Hears(A3, Vouched, &[Installed(1, 0, 1)]),
-    Ticks(0, &[], B4),
-    Ticks(0, &[], ""),
-    Hears(A4, Vouched, &[Began(1, Cause::Flag)]),
-    Ticks(1, &[], B5),
-    Holds([Some(FIRST), None, Some(FIRST)]),
+const SHARING: [Case; 2] = [
+    Case {
+        name: "A makes the first key, and begins it when B reports it",
+        who: A,
+        suite: GcmAes128,
+        steps: &[
+            Ticks(0, &[Installed(1, An0, 1)], A3),
+            Hears(B3, Vouched, &[]),
+            Ticks(0, &[], ""),
+            Hears(B4, Vouched, &[]),
+            Ticks(0, &[Began(1, Cause::All)], A4),
+            Ticks(1, &[], ""),
+            Hears(B5, Vouched, &[]),
+            Holds([Some(FIRST_BEGUN), None, Some(FIRST_BEGUN)]),
+        ],
+    },
+    Case {
+        name: "B takes the first key, and begins it when A does",
+        who: B,
+        suite: GcmAes128,
+        steps: &[
+            Ticks(0, &[], B3),
+            Hears(A3, Vouched, &[Installed(1, An0, 1)]),
+            Ticks(0, &[], B4),
+            Ticks(0, &[], ""),
+            Hears(A4, Vouched, &[Began(1, Cause::Flag)]),
+            Ticks(1, &[], B5),
+            Holds([Some(FIRST_BEGUN), None, Some(FIRST_BEGUN)]),
+        ],
+    },
 ];
 
 #[test]
 fn two_stations_share_a_key(rt: HostRuntime) -> Result<(), Fail> {
-    lives(&rt, rt.alloc(), A, 128, &A_LEADS)?;
-    lives(&rt, rt.alloc(), B, 128, &B_FOLLOWS)
+    all_live(&rt, rt.alloc(), &SHARING)
 }
 
-/// B takes the first key, begins it and starts again. Nothing that A said before gives it a key.
-const B_STARTS_AGAIN: [Step; 11] = [
-    Ticks(0, &[], B3),
-    Hears(A3, Vouched, &[Installed(1, 0, 1)]),
-    Ticks(0, &[], B4),
-    Hears(A4, Vouched, &[Began(1, Cause::Flag)]),
-    Restarts(4, &[Lost, Dropped(1)]),
-    Hears(A1, Unvouched, &[]),
-    Hears(A2, Unvouched, &[]),
-    Hears(A3, Unvouched, &[Untaken(1, Why::NotListed)]),
-    Hears(A4, Unvouched, &[]),
-    Hears(A3, OldNumber { kept: 4 }, &[]),
-    Holds([None; 3]),
-];
+/// Nothing that A said before gives B a key.
+const STARTING_AGAIN: Case = Case {
+    name: "B takes the first key, begins it and starts again",
+    who: B,
+    suite: GcmAes128,
+    steps: &[
+        Ticks(0, &[], B3),
+        Hears(A3, Vouched, &[Installed(1, An0, 1)]),
+        Ticks(0, &[], B4),
+        Hears(A4, Vouched, &[Began(1, Cause::Flag)]),
+        Restarts(4, &[Lost, Dropped(1)]),
+        Hears(A1, Unvouched, &[]),
+        Hears(A2, Unvouched, &[]),
+        Hears(A3, Unvouched, &[Untaken(1, Why::NotListed)]),
+        Hears(A4, Unvouched, &[]),
+        Drops(A3, OldNumber { kept: 4 }),
+        Holds([None; 3]),
+    ],
+};
 
 #[test]
 fn a_restarted_station_takes_nothing(rt: HostRuntime) -> Result<(), Fail> {
-    lives(&rt, rt.alloc(), B, 128, &B_STARTS_AGAIN)
+    lives(&rt, rt.alloc(), &STARTING_AGAIN)
 }
 
-/// B hears frames that it drops.
-const B_DROPS: [Step; 13] = [
-    Hears(OTHER_TYPE, NotMka, &[]),
-    Hears(CUT, Short, &[]),
-    Hears(ODD, Shape { at: 54 }, &[]),
-    Hears(TWICE, Repeated { kind: 1 }, &[]),
-    Hears(OTHER_AGILITY, Agility, &[]),
-    Hears(OTHER_NAME, CkName, &[]),
-    Hears(OTHER_END, Check, &[]),
-    Hears(OTHER_SOURCE, Check, &[]),
-    Hears(B1, Echo, &[]),
-    Hears(OWN_MI, Echo, &[]),
-    Hears(OWN_SCI, Echo, &[]),
-    Hears(A1, OldNumber { kept: 2 }, &[]),
-    Hears(A2, OldNumber { kept: 2 }, &[]),
-];
+const DROPPING: Case = Case {
+    name: "B drops frames for the first reason",
+    who: B,
+    suite: GcmAes128,
+    steps: &[
+        Drops(OTHER_TYPE, NotMka),
+        Drops(CUT, Short),
+        Drops(ODD, Shape { at: 54 }),
+        Drops(TWICE, Repeated { kind: 1 }),
+        Drops(OTHER_AGILITY, Agility),
+        Drops(OTHER_NAME, CkName),
+        Drops(OTHER_END, Check),
+        Drops(OTHER_SOURCE, Check),
+        Drops(B1, Echo),
+        Drops(OWN_MI, Echo),
+        Drops(OWN_SCI, Echo),
+        Drops(A1, OldNumber { kept: 2 }),
+        Drops(A2, OldNumber { kept: 2 }),
+    ],
+};
 
 #[test]
 fn drops_for_the_first_reason(rt: HostRuntime) -> Result<(), Fail> {
-    lives(&rt, rt.alloc(), B, 128, &B_DROPS)
+    lives(&rt, rt.alloc(), &DROPPING)
 }
 
-/// B is offered keys that it does not take, and some that it takes.
-const B_IS_OFFERED: [Step; 12] = [
-    Hears(HOPING, Vouched, &[Untaken(1, Why::NotListed)]),
-    Hears(THIRD, Vouched, &[Untaken(1, Why::NotServer)]),
-    Hears(OTHER_SUITE, Vouched, &[Untaken(1, Why::Suite)]),
-    Hears(OFFSET_30, Vouched, &[Untaken(1, Why::Offset)]),
-    Hears(OFFSET_50, Vouched, &[Untaken(1, Why::Offset)]),
-    Hears(OTHER_WRAP, Vouched, &[Untaken(1, Why::Wrap)]),
-    Hears(KEY_1, Vouched, &[Installed(1, 2, 1)]),
-    Hears(KEY_1_AGAIN, Vouched, &[Untaken(1, Why::Seen { kept: 1 })]),
-    Hears(
-        KEY_2_BEGINS,
-        Vouched,
-        &[Dropped(1), Installed(2, 2, 2), Began(2, Cause::Flag)],
-    ),
-    Hears(KEY_3, Vouched, &[Installed(3, 3, 3)]),
-    Hears(
-        KEY_3_BEGINS,
-        Vouched,
-        &[Untaken(3, Why::Seen { kept: 3 }), Began(3, Cause::Flag)],
-    ),
-    Hears(KEY_4, Vouched, &[Untaken(4, Why::Retiring)]),
-];
+const TAKING: Case = Case {
+    name: "B is offered keys that it does not take, and some that it takes",
+    who: B,
+    suite: GcmAes128,
+    steps: &[
+        Hears(HOPING, Vouched, &[Untaken(1, Why::NotListed)]),
+        Hears(THIRD, Vouched, &[Untaken(1, Why::NotServer)]),
+        Hears(OTHER_SUITE, Vouched, &[Untaken(1, Why::Suite)]),
+        Hears(OFFSET_30, Vouched, &[Untaken(1, Why::Offset)]),
+        Hears(OFFSET_50, Vouched, &[Untaken(1, Why::Offset)]),
+        Hears(OTHER_WRAP, Vouched, &[Untaken(1, Why::Wrap)]),
+        Hears(KEY_1, Vouched, &[Installed(1, An2, 1)]),
+        Hears(KEY_1_AGAIN, Vouched, &[Untaken(1, Why::Seen { kept: 1 })]),
+        Hears(
+            KEY_2_BEGINS,
+            Vouched,
+            &[Dropped(1), Installed(2, An2, 2), Began(2, Cause::Flag)],
+        ),
+        Hears(KEY_3, Vouched, &[Installed(3, An3, 3)]),
+        Hears(
+            KEY_3_BEGINS,
+            Vouched,
+            &[Untaken(3, Why::Seen { kept: 3 }), Began(3, Cause::Flag)],
+        ),
+        Hears(KEY_4, Vouched, &[Untaken(4, Why::Retiring)]),
+    ],
+};
 
 #[test]
 fn takes_a_key_or_says_why_not(rt: HostRuntime) -> Result<(), Fail> {
-    lives(&rt, rt.alloc(), B, 128, &B_IS_OFFERED)
+    lives(&rt, rt.alloc(), &TAKING)
 }
 
-/// A makes a key of 256 bits, which takes two draws.
-const A_MAKES_WIDE: [Step; 2] = [Spends, Ticks(0, &[Installed(1, 0, 1)], WIDE)];
-
-/// The key of 256 bits.
-const WIDE_KEY: HeldKey = HeldKey {
-    sak: Secret::S256([
-        0, 0, 0, 0, 0, 0, 0, 0, 0, 0, 0, 0, 0, 0, 0, 3, 0, 0, 0, 0, 0, 0, 0, 0, 0, 0, 0, 0, 0, 0,
-        0, 4,
-    ]),
+/// The first key, where it is one of 256 bits.
+const LONG: HeldKey = HeldKey {
+    key: Key {
+        sak: Secret::S256([
+            0, 0, 0, 0, 0, 0, 0, 0, 0, 0, 0, 0, 0, 0, 0, 3, 0, 0, 0, 0, 0, 0, 0, 0, 0, 0, 0, 0, 0,
+            0, 0, 4,
+        ]),
+        ..FIRST
+    },
     begun: false,
-    ..FIRST
 };
 
-/// B takes it.
-const B_TAKES_WIDE: [Step; 2] = [
-    Hears(WIDE, Vouched, &[Installed(1, 0, 1)]),
-    Holds([Some(WIDE_KEY), None, None]),
+const LONG_KEYS: [Case; 2] = [
+    Case {
+        name: "A makes a key of 256 bits, which takes two draws",
+        who: A,
+        suite: GcmAes256,
+        steps: &[Spends, Ticks(0, &[Installed(1, An0, 1)], LONG_KEY)],
+    },
+    Case {
+        name: "B takes it",
+        who: B,
+        suite: GcmAes256,
+        steps: &[
+            Hears(LONG_KEY, Vouched, &[Installed(1, An0, 1)]),
+            Holds([Some(LONG), None, None]),
+        ],
+    },
 ];
 
 #[test]
 fn a_key_of_256_bits_takes_two_draws(rt: HostRuntime) -> Result<(), Fail> {
-    lives(&rt, rt.alloc(), A, 256, &A_MAKES_WIDE)?;
-    lives(&rt, rt.alloc(), B, 256, &B_TAKES_WIDE)
+    all_live(&rt, rt.alloc(), &LONG_KEYS)
 }
+
+const FULL: Case = Case {
+    name: "B remembers 64 other members and no more",
+    who: B,
+    suite: GcmAes128,
+    steps: &[Fills],
+};
 
 #[test]
 fn remembers_64_members(rt: HostRuntime) -> Result<(), Fail> {
-    lives(&rt, rt.alloc(), B, 128, &[Fills])
+    lives(&rt, rt.alloc(), &FULL)
 }
