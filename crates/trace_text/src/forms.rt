@@ -3,11 +3,12 @@
 
 ghost use Rattle.std.specs.Prelude.{◌≡◌, [], ◌∷◌, codes};
 ghost use Rattle.trace_text.specs.Words.{words_of};
-ghost use Rattle.trace_text.specs.Reading.{line_of, draws_of};
+ghost use Rattle.trace_text.specs.Reading.{line_of, line_by, draws_of};
 ghost use Rattle.trace_text.specs.inside.Answering.{Answers};
 
 use crate::blocks::{expect_blocks, read_blocks};
 use crate::fault::{LineError, TextFault};
+use crate::keyword::Keyword;
 use crate::kinds::{
     decoded, expect_key, expect_octets, read_array, read_name, read_number, read_octets, read_suite,
 };
@@ -16,53 +17,51 @@ use crate::line::Line;
 use crate::words::{next_word, no_word, one_word, three_words, two_words};
 use lan_base::{CKN_MAX, FRAMES_MAX, Mac, Sci, TICKS_MAX, USER_DATA_MAX, USER_DATA_MIN};
 use std::alloc::Global;
-use std::str;
 
 /// The line that a first word and the words behind it say.
 pub fn read_form(alloc: Global, first: &[u8], rest: &[u8]) -> Result<Line, LineError>
     ensures { Answers result (line_of first.now (words_of rest.now)) }
 {
-    match str::from_utf8(first) {
-        Ok(first) => read_known(alloc, first, rest),
-        Err(_) => Err(LineError::Refused(TextFault::Word)),
+    match Keyword::of(first) {
+        Some(keyword) => read_behind(alloc, keyword, rest),
+        None => Err(LineError::Refused(TextFault::Word)),
     }
 }
 
-/// The same of a first word that is text.
-fn read_known(alloc: Global, first: &str, rest: &[u8]) -> Result<Line, LineError>
-    ensures { Answers result (line_of first.now (words_of rest.now)) }
+/// The line that the words behind a keyword say.
+fn read_behind(alloc: Global, keyword: Keyword, rest: &[u8]) -> Result<Line, LineError>
+    ensures { Answers result (line_by keyword (words_of rest.now)) }
 {
-    match first {
-        "draws" => draws(alloc, rest),
-        "conf" => Ok(conf(rest)?),
-        "window" => Ok(window(rest)?),
-        "rekey" => Ok(rekey(rest)?),
-        "lag" => Ok(lag(rest)?),
-        "suite" => Ok(suite(rest)?),
-        "group" => group(alloc, rest),
-        "station" => Ok(station(rest)?),
-        "tick" => Ok(tick(rest)?),
-        "flow" => Ok(flow(rest)?),
-        "deliver" => Ok(deliver(rest)?),
-        "spread" => Ok(spread(rest)?),
-        "lose" => Ok(lose(rest)?),
-        "cut" => Ok(cut(rest)?),
-        "mend" => Ok(mend(rest)?),
-        "restart" => Ok(restart(rest)?),
-        "send" => send(alloc, rest),
-        "race" => Ok(race(rest)?),
-        "burst" => burst(alloc, rest),
-        "while" => Ok(race_control(rest)?),
-        "end" => Ok(race_end(rest)?),
-        "inject" => inject(alloc, rest),
-        "feed" => Ok(feed(rest)?),
-        _ => Err(LineError::Refused(TextFault::Word)),
+    match keyword {
+        Keyword::Draws => draws(alloc, rest),
+        Keyword::Conf => Ok(conf(rest)?),
+        Keyword::Window => Ok(window(rest)?),
+        Keyword::Rekey => Ok(rekey(rest)?),
+        Keyword::Lag => Ok(lag(rest)?),
+        Keyword::Suite => Ok(suite(rest)?),
+        Keyword::Group => group(alloc, rest),
+        Keyword::Station => Ok(station(rest)?),
+        Keyword::Tick => Ok(tick(rest)?),
+        Keyword::Flow => Ok(flow(rest)?),
+        Keyword::Deliver => Ok(deliver(rest)?),
+        Keyword::Spread => Ok(spread(rest)?),
+        Keyword::Lose => Ok(lose(rest)?),
+        Keyword::Cut => Ok(cut(rest)?),
+        Keyword::Mend => Ok(mend(rest)?),
+        Keyword::Restart => Ok(restart(rest)?),
+        Keyword::Send => send(alloc, rest),
+        Keyword::Race => Ok(race(rest)?),
+        Keyword::Burst => burst(alloc, rest),
+        Keyword::While => Ok(race_control(rest)?),
+        Keyword::End => Ok(race_end(rest)?),
+        Keyword::Inject => inject(alloc, rest),
+        Keyword::Feed => Ok(feed(rest)?),
     }
 }
 
 /// `draws KIND ..`.
 fn draws(alloc: Global, rest: &[u8]) -> Result<Line, LineError>
-    ensures { Answers result (line_of (codes "draws") (words_of rest.now)) }
+    ensures { Answers result (line_by Keyword.Draws (words_of rest.now)) }
 {
     let (kind, rest) = next_word(rest).ok_or(TextFault::Count)?;
     if kind == b"count".as_slice() {
@@ -109,7 +108,7 @@ fn draws_list(alloc: Global, rest: &[u8]) -> Result<Line, LineError>
 
 /// `conf C`.
 fn conf(rest: &[u8]) -> Result<Line, TextFault>
-    ensures { result ≡ line_of (codes "conf") (words_of rest.now) }
+    ensures { result ≡ line_by Keyword.Conf (words_of rest.now) }
 {
     let conf = read_number(one_word(rest)?, 0, 1)?;
     Ok(Line::Conf { conf })
@@ -117,7 +116,7 @@ fn conf(rest: &[u8]) -> Result<Line, TextFault>
 
 /// `window W`.
 fn window(rest: &[u8]) -> Result<Line, TextFault>
-    ensures { result ≡ line_of (codes "window") (words_of rest.now) }
+    ensures { result ≡ line_by Keyword.Window (words_of rest.now) }
 {
     let window = read_number(one_word(rest)?, 0, u32::MAX)?;
     Ok(Line::Window { window })
@@ -125,7 +124,7 @@ fn window(rest: &[u8]) -> Result<Line, TextFault>
 
 /// `rekey R`.
 fn rekey(rest: &[u8]) -> Result<Line, TextFault>
-    ensures { result ≡ line_of (codes "rekey") (words_of rest.now) }
+    ensures { result ≡ line_by Keyword.Rekey (words_of rest.now) }
 {
     let rekey = read_number(one_word(rest)?, MIN_REKEY, u32::MAX)?;
     Ok(Line::Rekey { rekey })
@@ -133,7 +132,7 @@ fn rekey(rest: &[u8]) -> Result<Line, TextFault>
 
 /// `lag L`.
 fn lag(rest: &[u8]) -> Result<Line, TextFault>
-    ensures { result ≡ line_of (codes "lag") (words_of rest.now) }
+    ensures { result ≡ line_by Keyword.Lag (words_of rest.now) }
 {
     let lag = read_number(one_word(rest)?, 0, MAX_LAG)?;
     Ok(Line::Lag { lag })
@@ -141,7 +140,7 @@ fn lag(rest: &[u8]) -> Result<Line, TextFault>
 
 /// `suite S`.
 fn suite(rest: &[u8]) -> Result<Line, TextFault>
-    ensures { result ≡ line_of (codes "suite") (words_of rest.now) }
+    ensures { result ≡ line_by Keyword.Suite (words_of rest.now) }
 {
     let suite = read_suite(one_word(rest)?)?;
     Ok(Line::Suite { suite })
@@ -149,7 +148,7 @@ fn suite(rest: &[u8]) -> Result<Line, TextFault>
 
 /// `group CAK CKN`.
 fn group(alloc: Global, rest: &[u8]) -> Result<Line, LineError>
-    ensures { Answers result (line_of (codes "group") (words_of rest.now)) }
+    ensures { Answers result (line_by Keyword.Group (words_of rest.now)) }
 {
     let (cak, ckn) = two_words(rest)?;
     expect_key(cak)?;
@@ -161,7 +160,7 @@ fn group(alloc: Global, rest: &[u8]) -> Result<Line, LineError>
 
 /// `station NAME SCI P`.
 fn station(rest: &[u8]) -> Result<Line, TextFault>
-    ensures { result ≡ line_of (codes "station") (words_of rest.now) }
+    ensures { result ≡ line_by Keyword.Station (words_of rest.now) }
 {
     let (name, sci, priority) = three_words(rest)?;
     let name = read_name(name)?;
@@ -176,7 +175,7 @@ fn station(rest: &[u8]) -> Result<Line, TextFault>
 
 /// `tick N`, or `tick NAME N`.
 fn tick(rest: &[u8]) -> Result<Line, TextFault>
-    ensures { result ≡ line_of (codes "tick") (words_of rest.now) }
+    ensures { result ≡ line_by Keyword.Tick (words_of rest.now) }
 {
     let (first, rest) = next_word(rest).ok_or(TextFault::Count)?;
     let Some((second, rest)) = next_word(rest) else {
@@ -190,7 +189,7 @@ fn tick(rest: &[u8]) -> Result<Line, TextFault>
 
 /// `tick N`.
 fn rounds(word: &[u8]) -> Result<Line, TextFault>
-    ensures { result ≡ line_of (codes "tick") (word.now ∷ []) }
+    ensures { result ≡ line_by Keyword.Tick (word.now ∷ []) }
 {
     let rounds = read_number(word, 1, TICKS_MAX)?;
     Ok(Line::Tick { rounds })
@@ -198,7 +197,7 @@ fn rounds(word: &[u8]) -> Result<Line, TextFault>
 
 /// `flow N`.
 fn flow(rest: &[u8]) -> Result<Line, TextFault>
-    ensures { result ≡ line_of (codes "flow") (words_of rest.now) }
+    ensures { result ≡ line_by Keyword.Flow (words_of rest.now) }
 {
     let rounds = read_number(one_word(rest)?, 1, TICKS_MAX)?;
     Ok(Line::Flow { rounds })
@@ -206,7 +205,7 @@ fn flow(rest: &[u8]) -> Result<Line, TextFault>
 
 /// `deliver K NAME`.
 fn deliver(rest: &[u8]) -> Result<Line, TextFault>
-    ensures { result ≡ line_of (codes "deliver") (words_of rest.now) }
+    ensures { result ≡ line_by Keyword.Deliver (words_of rest.now) }
 {
     let (frame, name) = two_words(rest)?;
     let frame = read_number(frame, 1, FRAMES_MAX)?;
@@ -216,7 +215,7 @@ fn deliver(rest: &[u8]) -> Result<Line, TextFault>
 
 /// `spread K`.
 fn spread(rest: &[u8]) -> Result<Line, TextFault>
-    ensures { result ≡ line_of (codes "spread") (words_of rest.now) }
+    ensures { result ≡ line_by Keyword.Spread (words_of rest.now) }
 {
     let frame = read_number(one_word(rest)?, 1, FRAMES_MAX)?;
     Ok(Line::Spread { frame })
@@ -224,7 +223,7 @@ fn spread(rest: &[u8]) -> Result<Line, TextFault>
 
 /// `lose K`.
 fn lose(rest: &[u8]) -> Result<Line, TextFault>
-    ensures { result ≡ line_of (codes "lose") (words_of rest.now) }
+    ensures { result ≡ line_by Keyword.Lose (words_of rest.now) }
 {
     let frame = read_number(one_word(rest)?, 1, FRAMES_MAX)?;
     Ok(Line::Lose { frame })
@@ -232,7 +231,7 @@ fn lose(rest: &[u8]) -> Result<Line, TextFault>
 
 /// `cut FROM TO`.
 fn cut(rest: &[u8]) -> Result<Line, TextFault>
-    ensures { result ≡ line_of (codes "cut") (words_of rest.now) }
+    ensures { result ≡ line_by Keyword.Cut (words_of rest.now) }
 {
     let (from, to) = two_words(rest)?;
     let from = read_name(from)?;
@@ -242,7 +241,7 @@ fn cut(rest: &[u8]) -> Result<Line, TextFault>
 
 /// `mend FROM TO`.
 fn mend(rest: &[u8]) -> Result<Line, TextFault>
-    ensures { result ≡ line_of (codes "mend") (words_of rest.now) }
+    ensures { result ≡ line_by Keyword.Mend (words_of rest.now) }
 {
     let (from, to) = two_words(rest)?;
     let from = read_name(from)?;
@@ -252,7 +251,7 @@ fn mend(rest: &[u8]) -> Result<Line, TextFault>
 
 /// `restart NAME`.
 fn restart(rest: &[u8]) -> Result<Line, TextFault>
-    ensures { result ≡ line_of (codes "restart") (words_of rest.now) }
+    ensures { result ≡ line_by Keyword.Restart (words_of rest.now) }
 {
     let name = read_name(one_word(rest)?)?;
     Ok(Line::Restart { name })
@@ -260,7 +259,7 @@ fn restart(rest: &[u8]) -> Result<Line, TextFault>
 
 /// `send NAME DST BODY`.
 fn send(alloc: Global, rest: &[u8]) -> Result<Line, LineError>
-    ensures { Answers result (line_of (codes "send") (words_of rest.now)) }
+    ensures { Answers result (line_by Keyword.Send (words_of rest.now)) }
 {
     let (name, destination, body) = three_words(rest)?;
     let name = read_name(name)?;
@@ -275,7 +274,7 @@ fn send(alloc: Global, rest: &[u8]) -> Result<Line, LineError>
 
 /// `race`.
 fn race(rest: &[u8]) -> Result<Line, TextFault>
-    ensures { result ≡ line_of (codes "race") (words_of rest.now) }
+    ensures { result ≡ line_by Keyword.Race (words_of rest.now) }
 {
     no_word(rest)?;
     Ok(Line::Race)
@@ -283,7 +282,7 @@ fn race(rest: &[u8]) -> Result<Line, TextFault>
 
 /// `burst NAME W N DST BODY`.
 fn burst(alloc: Global, rest: &[u8]) -> Result<Line, LineError>
-    ensures { Answers result (line_of (codes "burst") (words_of rest.now)) }
+    ensures { Answers result (line_by Keyword.Burst (words_of rest.now)) }
 {
     let (name, rest) = next_word(rest).ok_or(TextFault::Count)?;
     let (workers, rest) = next_word(rest).ok_or(TextFault::Count)?;
@@ -304,7 +303,7 @@ fn burst(alloc: Global, rest: &[u8]) -> Result<Line, LineError>
 
 /// `while`.
 fn race_control(rest: &[u8]) -> Result<Line, TextFault>
-    ensures { result ≡ line_of (codes "while") (words_of rest.now) }
+    ensures { result ≡ line_by Keyword.While (words_of rest.now) }
 {
     no_word(rest)?;
     Ok(Line::While)
@@ -312,7 +311,7 @@ fn race_control(rest: &[u8]) -> Result<Line, TextFault>
 
 /// `end`.
 fn race_end(rest: &[u8]) -> Result<Line, TextFault>
-    ensures { result ≡ line_of (codes "end") (words_of rest.now) }
+    ensures { result ≡ line_by Keyword.End (words_of rest.now) }
 {
     no_word(rest)?;
     Ok(Line::End)
@@ -320,7 +319,7 @@ fn race_end(rest: &[u8]) -> Result<Line, TextFault>
 
 /// `inject NAME OCTETS`.
 fn inject(alloc: Global, rest: &[u8]) -> Result<Line, LineError>
-    ensures { Answers result (line_of (codes "inject") (words_of rest.now)) }
+    ensures { Answers result (line_by Keyword.Inject (words_of rest.now)) }
 {
     let (name, octets) = two_words(rest)?;
     let name = read_name(name)?;
@@ -330,7 +329,7 @@ fn inject(alloc: Global, rest: &[u8]) -> Result<Line, LineError>
 
 /// `feed K1 K2 NAME`.
 fn feed(rest: &[u8]) -> Result<Line, TextFault>
-    ensures { result ≡ line_of (codes "feed") (words_of rest.now) }
+    ensures { result ≡ line_by Keyword.Feed (words_of rest.now) }
 {
     let (first, last, name) = three_words(rest)?;
     let first = read_number(first, 1, FRAMES_MAX)?;

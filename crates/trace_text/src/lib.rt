@@ -6,6 +6,7 @@ mod appending;
 mod blocks;
 mod fault;
 mod forms;
+mod keyword;
 mod kinds;
 mod laws;
 mod limits;
