@@ -3,6 +3,7 @@
 use Rattle.std.proofs.Common.{◌≡◌, ◌≢◌, refl, ap, ℕ, List, [], ◌∷◌, Some, arith}
 use Rattle.std.proofs.lemmas.List.Elements.{All-nil, All-cons}
 use Rattle.std.specs.Prelude.{slice_index}
+use Rattle.lan_base.specs.declared.association_number.AssociationNumber.TheVariants.{An0, An1}
 use Rattle.lan_base.specs.declared.address.Sci.{Sci}
 use Rattle.aes_block.specs.Secrets.{secret_octets}
 use Rattle.lan_core.specs.declared.event.Event.TheVariants as events
@@ -11,7 +12,8 @@ use Rattle.peer_lists.specs.Acceptance.{refusal, accepted, outcome}
 use Rattle.peer_lists.specs.Peers.{says, hopes, known as known_members}
 use Rattle.sak_exchange.specs.Held.{received, latest, old, transmitting}
 use Rattle.sak_exchange.specs.declared.change.Why.TheVariants.{NotListed}
-use Rattle.mka_station.specs.declared.verdict.Verdict.TheVariants.{Unvouched, OldNumber}
+use Rattle.mka_station.specs.declared.verdict.Verdict.TheVariants.{Unvouched, Dropped}
+use Rattle.mka_station.specs.declared.verdict.DropReason.TheVariants.{OldNumber}
 use Rattle.mka_station.specs.Lives.{peers_of, keys_of, elected}
 use Rattle.mka_station.specs.Views.{view}
 use Rattle.mka_station.specs.Hearing.{hear_turn}
@@ -111,31 +113,33 @@ fresh = record {
 -- ---- and the laws speak of it
 
 two_claims : claims run ≡
-    record { station = 0; an = 1; epoch = 2; pn = 2 }
-    ∷ record { station = 0; an = 0; epoch = 1; pn = 1 } ∷ []
+    record { station = 0; an = An1; epoch = 2; pn = 2 }
+    ∷ record { station = 0; an = An0; epoch = 1; pn = 1 } ∷ []
 unfolding claims
 two_claims = refl
 
 four_installs : installs run ≡
-    record { station = 1; id = id 2; an = 1; epoch = 2; sak = sak 2 }
-    ∷ record { station = 0; id = id 2; an = 1; epoch = 2; sak = sak 2 }
-    ∷ record { station = 1; id = id 1; an = 0; epoch = 1; sak = sak 1 }
-    ∷ record { station = 0; id = id 1; an = 0; epoch = 1; sak = sak 1 } ∷ []
+    record { station = 1; id = id 2; an = An1; epoch = 2; sak = sak 2 }
+    ∷ record { station = 0; id = id 2; an = An1; epoch = 2; sak = sak 2 }
+    ∷ record { station = 1; id = id 1; an = An0; epoch = 1; sak = sak 1 }
+    ∷ record { station = 0; id = id 1; an = An0; epoch = 1; sak = sak 1 } ∷ []
 unfolding installs
 four_installs = refl
 
 two_makes : makes run ≡
-    record { station = 0; id = id 2; an = 1; epoch = 2; sak = sak 2 }
-    ∷ record { station = 0; id = id 1; an = 0; epoch = 1; sak = sak 1 } ∷ []
+    record { station = 0; id = id 2; an = An1; epoch = 2; sak = sak 2 }
+    ∷ record { station = 0; id = id 1; an = An0; epoch = 1; sak = sak 1 } ∷ []
 unfolding makes
 two_makes = refl
 
 -- what the two claims use
-second_use : sak_of run (record { station = 0; an = 1; epoch = 2; pn = 2 }) ≡ Some (octets_of_sak 2)
+second_use : sak_of run (record { station = 0; an = An1; epoch = 2; pn = 2 })
+    ≡ Some (octets_of_sak 2)
 unfolding installs
 second_use = refl
 
-first_use : sak_of run (record { station = 0; an = 0; epoch = 1; pn = 1 }) ≡ Some (octets_of_sak 1)
+first_use : sak_of run (record { station = 0; an = An0; epoch = 1; pn = 1 })
+    ≡ Some (octets_of_sak 1)
 unfolding installs
 first_use = refl
 
@@ -169,7 +173,7 @@ a_restarted_member_takes_nothing = refl
 -- a hello of the earlier life that comes again late is old
 a_late_hello_of_the_earlier_life_is_old :
     reaction_facts 0 4 0 (hear_turn (l16 0).member b2 (l16 0).past).reaction ≡
-    facts.HeardMka 4 0 (OldNumber 2) ∷ []
+    facts.HeardMka 4 0 (Dropped (OldNumber 2)) ∷ []
 unfolding opens
 a_late_hello_of_the_earlier_life_is_old = refl
 
@@ -177,7 +181,7 @@ a_late_hello_of_the_earlier_life_is_old = refl
 
 -- the number is claimed again
 abbrev again : Run
-again = happened (events.Claim 0 1 1) (facts.Claimed 0 0 1 1 ∷ []) ∷ r12
+again = happened (events.Claim 0 1 1) (facts.Claimed 0 An0 1 1 ∷ []) ∷ r12
 
 twice : ¬ (Once again)
 unfolding claims installs stations
@@ -185,7 +189,7 @@ twice once = once.0.0 refl
 
 -- a station installs another key under an identifier
 abbrev another : Run
-another = happened (events.Deliver 3 1) (facts.Installed 1 (id 1) 0 1 (sak 2) ∷ []) ∷ r7
+another = happened (events.Deliver 3 1) (facts.Installed 1 (id 1) An0 1 (sak 2) ∷ []) ∷ r7
 
 two_under_one : ¬ (OneKey another)
 unfolding installs
@@ -195,7 +199,7 @@ two_under_one one =
 
 -- a station installs a key that nobody made
 abbrev from_nowhere : Run
-from_nowhere = happened (events.Deliver 3 1) (facts.Installed 1 (id 1) 0 1 (sak 1) ∷ []) ∷ r2
+from_nowhere = happened (events.Deliver 3 1) (facts.Installed 1 (id 1) An0 1 (sak 1) ∷ []) ∷ r2
 
 never_made : ¬ (Drawn from_nowhere)
 unfolding installs makes

@@ -1,5 +1,3 @@
-pub mod counting
-mod summary
 pub mod Members
 pub mod once
 pub mod rollover

@@ -1,12 +1,23 @@
 -- What other crates may cite of the proofs.
-pub use Rattle.group_safety.proofs.Members.{In, all-in, by_sum, contains-in, in-contains, in-left}
-pub use Rattle.group_safety.proofs.example.Each.{Along, Each, IsNoRestart, along-at, begins_none, each-at, each-passes, frames_none, goes_on, good-spelled, last-framed, no-restart, none-begins, none-framed}
-pub use Rattle.group_safety.proofs.example.Good.{wraps}
-pub use Rattle.group_safety.proofs.example.Scene.{IsGood, IsSilent, good-plain, good-right, next-silent, silent-seen}
-pub use Rattle.group_safety.proofs.example.Steps.{hides}
-pub use Rattle.group_safety.proofs.once.ClaimKept.{protected-is-sec}
+
+-- What stands in a list, by recursion over it; cases of a sum, and what an option has.
+pub use Rattle.group_safety.proofs.Members.{In, contains-in, in-contains, in-left, all-in, by_sum}
 pub use Rattle.group_safety.proofs.once.Currents.{none-some, some-same}
+-- A run up to a moment: it is whole at its end, and one event more changes nothing before.
+pub use Rattle.group_safety.proofs.rollover.AtMoments.{upto-whole, upto-earlier}
+-- What holds of each event of a run, and along its last moments.
+pub use Rattle.group_safety.proofs.example.Each.{Each, each-at, each-passes, Along, along-at}
+-- Events that restart no station, begin no second key, put no frame of key agreement on the air.
+pub use Rattle.group_safety.proofs.example.Each.{IsNoRestart, is_no_restart, is_no_restart-event}
+pub use Rattle.group_safety.proofs.example.Each.{begins_no_second, no-second-begins}
+pub use Rattle.group_safety.proofs.example.Each.{frames_none, frames_none-framed}
+-- Announcements that a station of the group may say: their frames are read as such by the others.
+pub use Rattle.group_safety.proofs.example.Scene.{IsSayable, sayable-unprotected, sayable-judged}
+pub use Rattle.group_safety.proofs.example.Each.{sayable-right, last-frame_says}
+-- Wrapped SAKs, under the key encrypting key of the group.
 pub use Rattle.group_safety.proofs.once.Living.{group_kek}
-pub use Rattle.group_safety.proofs.once.RunLaws.{known, run-once, run-one_key}
-pub use Rattle.group_safety.proofs.rollover.Found.{run-hitless}
-pub use Rattle.group_safety.proofs.rollover.Moments.{upto-all, upto-on}
+pub use Rattle.group_safety.proofs.example.Good.{length-wrapped_sak}
+pub use Rattle.group_safety.proofs.example.Steps.{unwrapped-wrapped_sak}
+-- Protected frames are known by their type; a station that none reached sees no numbers.
+pub use Rattle.group_safety.proofs.once.ClaimKept.{protected-is_sec}
+pub use Rattle.group_safety.proofs.example.Scene.{IsSilent, silent-next, seen-silent}

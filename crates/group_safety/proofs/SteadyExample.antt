@@ -1,8 +1,11 @@
 -- A run that has a steady rollover with a keeper, and a frame in time: the laws on hitless rollover
 -- speak of it. And what is no steady rollover, or not in time.
-use Rattle.std.proofs.Common.{◌≡◌, ◌<◌, ◌≤◌, ◌+◌, refl, sym, ap, inl, inr, ◌∙◌, ℕ, zero, suc, List, []}
+use Rattle.std.proofs.Common.{◌≡◌, ◌<◌, ◌≤◌, ◌+◌, refl, sym, ap, inl, inr, ◌∙◌, ℕ, zero, suc, List}
+use Rattle.std.proofs.Common.{[]}
 use Rattle.std.proofs.Common.{subst, ◌∷◌, ◌++◌, true, false, None, Some, is_some, option_map, arith}
 use Rattle.std.specs.Prelude.{Contains}
+use Rattle.lan_base.specs.declared.association_number.AssociationNumber.TheVariants.{An0, An1}
+use Rattle.lan_base.specs.declared.association_number.AssociationNumber.{AssociationNumber}
 use Rattle.lan_base.specs.declared.key_id.KeyId.{KeyId}
 use Rattle.mkpdu_codec.specs.declared.announcement.Announcement.{Announcement}
 use Rattle.peer_lists.specs.Acceptance.{Accepted}
@@ -25,12 +28,12 @@ use Rattle.group_safety.specs.Moments.{upto}
 use Rattle.group_safety.specs.Rounds.{pace, rounds}
 use Rattle.group_safety.specs.Stations.{mi_at, mi_of, keys_at, keys_of_life, server_at, server_of}
 use Rattle.group_safety.specs.Steady.{Begins, IsUnbroken, Trusts, IsListener}
-use Rattle.group_safety.specs.Steady.{IsKeeper, IsSteady}
-use Rattle.group_safety.specs.Time.{IsFlight, IsInTime, IsFound}
+use Rattle.group_safety.specs.Steady.{Rollover, IsKeeper, IsSteady}
+use Rattle.group_safety.specs.Time.{Flight, IsFlight, IsInTime, IsFound}
 use Rattle.group_safety.proofs.Members.{In, contains-in, by_sum}
 use Rattle.group_safety.proofs.rollover.Found.{run-hitless}
 use Rattle.group_safety.proofs.once.Currents.{some-same}
-use Rattle.group_safety.proofs.example.Scene.{settings, IsGood, Lives, Scene}
+use Rattle.group_safety.proofs.example.Scene.{settings, IsSayable, Lives, Scene}
 use Rattle.group_safety.proofs.example.Run.{mi, alice, bob, users, id, sak, frames, a1, b1, a2, b2}
 use Rattle.group_safety.proofs.example.Run.{a3}
 use Rattle.group_safety.proofs.example.Run.{r11, first_key}
@@ -46,9 +49,12 @@ use Rattle.group_safety.proofs.example.Rolled.{l26}
 use Rattle.group_safety.proofs.example.Rolled.{s12, s13, s14, s15, s16, s17, s18, s19, s20, s21}
 use Rattle.group_safety.proofs.example.Rolled.{s22, s23, s24, s25, s26, steps, alice_after}
 use Rattle.group_safety.proofs.example.Rolled.{bob_after, transmits}
-use Rattle.group_safety.proofs.example.Each.{Each, each-at, each-passes, Along, along-at, goes_on}
-use Rattle.group_safety.proofs.example.Each.{IsNoRestart, no-restart, begins_none, none-begins}
-use Rattle.group_safety.proofs.example.Each.{frames_none, none-framed, last-framed, good-spelled}
+use Rattle.group_safety.proofs.example.Each.{Each, each-at, each-passes, Along, along-at}
+use Rattle.group_safety.proofs.example.Each.{is_no_restart}
+use Rattle.group_safety.proofs.example.Each.{IsNoRestart, is_no_restart-event, begins_no_second}
+use Rattle.group_safety.proofs.example.Each.{no-second-begins}
+use Rattle.group_safety.proofs.example.Each.{frames_none, frames_none-framed, last-frame_says}
+use Rattle.group_safety.proofs.example.Each.{sayable-right}
 use Rattle.group_safety.proofs.Examples.{bob_starts, mis_differ, saks_differ}
 
 -- ---- the scenes
@@ -132,7 +138,7 @@ fresh = record {
 -- ---- nobody starts again
 
 no_restarts : Each IsNoRestart run
-no_restarts = each-passes IsNoRestart goes_on no-restart run refl
+no_restarts = each-passes IsNoRestart is_no_restart is_no_restart-event run refl
 
 unbroken : (s a : ℕ) → IsUnbroken run s a
 unbroken s a = record {
@@ -275,6 +281,19 @@ followed_in : rounds 12 (upto 24 run) ≡ 3
 unfolding rounds pace upto opens
 followed_in = refl
 
+-- ---- the rollover: alice makes the second key in event 12, and begins it in event 19
+
+abbrev second : Rollover
+second = record {
+  server = 0;
+  made = 12;
+  start = 19;
+  old_id = id 1;
+  new_id = id 2;
+  lag = 0;
+  from = 12;
+}
+
 -- ---- one listener: bob, who said so in event 17
 
 abbrev word : Accepted
@@ -303,13 +322,13 @@ IsFourth n x = (m t : ℕ) (octets : List ℕ) (q : Profile) (a : Announcement)
 
 quiet : (n : ℕ) (x : Happening) → frames_none x.facts ≡ true → IsFourth n x
 quiet n x none m t octets q a i spelled is_mi is_mn =
-    absurd (none-framed x.facts none m t octets i)
+    absurd (frames_none-framed x.facts none m t octets i)
 
 other : (n : ℕ) (x : Happening) (f : List Fact) (number s : ℕ) (p : Profile) (b : Announcement)
-    → f ++ frames number s p b ∷ [] ≡ x.facts → frames_none f ≡ true → IsGood b
+    → f ++ frames number s p b ∷ [] ≡ x.facts → frames_none f ≡ true → IsSayable b
     → (b.mi ≡ mi 2 → b.mn ≡ 4 → ⊥) → IsFourth n x
 other n x f number s p b same none good unlike m t octets q a i spelled is_mi is_mn =
-    let parts = last-framed f number s p b none good m t octets q a
+    let parts = last-frame_says f number s p b none good m t octets q a
     (subst (In (facts.Framed m t false octets)) (sym same) i) spelled in
     absurd (unlike (ap (λ (w : Announcement). w.mi) (sym parts.1) ∙ is_mi)
     (ap (λ (w : Announcement). w.mn) (sym parts.1) ∙ is_mn))
@@ -320,7 +339,8 @@ not_bob = mis_differ 1 2 (λ same. omega arith)
 bobs_fourth : IsFourth 17
     (happened (events.Tick 1 many) (facts.Ticked 1 4 many ∷ frames 8 1 bob e4 ∷ []))
 bobs_fourth m t octets q a i spelled is_mi is_mn =
-    let parts = last-framed (facts.Ticked 1 4 many ∷ []) 8 1 bob e4 refl good_e4 m t octets q a i
+    let parts = last-frame_says (facts.Ticked 1 4 many ∷ []) 8 1 bob e4 refl good_e4
+    m t octets q a i
     spelled in
     (parts.0, refl)
 
@@ -349,7 +369,7 @@ by_6 = (quiet 5 (newest first.r6) refl, by_5)
 
 by_7 : Each IsFourth first.r7
 by_7 = (
-  other 6 (newest first.r7) (facts.Ticked 0 2 0 ∷ facts.Installed 0 (id 1) 0 1 (sak 1) ∷ [])
+  other 6 (newest first.r7) (facts.Ticked 0 2 0 ∷ facts.Installed 0 (id 1) An0 1 (sak 1) ∷ [])
       3 0 alice a2 refl refl good_a2 (λ e f. not_bob e),
   by_6,
 )
@@ -369,7 +389,7 @@ by_10 = (quiet 9 (newest first.r10) refl, by_9)
 
 by_11 : Each IsFourth first.r11
 by_11 = (
-  other 10 (newest first.r11) (facts.Ticked 0 3 0 ∷ facts.Began 0 (id 1) 0 1 all_report ∷ [])
+  other 10 (newest first.r11) (facts.Ticked 0 3 0 ∷ facts.Began 0 (id 1) An0 1 all_report ∷ [])
       5 0 alice a3 refl refl good_a3 (λ e f. not_bob e),
   by_10,
 )
@@ -379,7 +399,7 @@ by_12 = (quiet 11 (newest scene.r12) refl, by_11)
 
 by_13 : Each IsFourth scene.r13
 by_13 = (
-  other 12 (newest scene.r13) (facts.Ticked 0 4 many ∷ facts.Installed 0 (id 2) 1 2 (sak 2) ∷ [])
+  other 12 (newest scene.r13) (facts.Ticked 0 4 many ∷ facts.Installed 0 (id 2) An1 2 (sak 2) ∷ [])
       6 0 alice d4 refl refl good_d4 (λ e f. not_bob e),
   by_12,
 )
@@ -408,7 +428,7 @@ by_19 = (quiet 18 (newest scene.r19) refl, by_18)
 
 by_20 : Each IsFourth scene.r20
 by_20 = (
-  other 19 (newest scene.r20) (facts.Ticked 0 6 many ∷ facts.Began 0 (id 2) 1 2 all_report ∷ [])
+  other 19 (newest scene.r20) (facts.Ticked 0 6 many ∷ facts.Began 0 (id 2) An1 2 all_report ∷ [])
       9 0 alice d5 refl refl good_d5 (λ e f. not_bob e),
   by_19,
 )
@@ -433,20 +453,21 @@ fourth : Each IsFourth run
 fourth = (quiet 26 scene.arrives refl, by_26)
 
 -- every listener is he
-is_bob : (t sent : ℕ) (says : Accepted) → IsListener settings run 19 0 t sent says
+is_bob : (t sent : ℕ) (says : Accepted) → IsListener settings run second t sent says
     → (t ≡ 1) × (sent ≡ 17)
 is_bob t sent says l =
     let lives : Some l.server_life ≡ Some (l20 0) = sym l.living ∙ alice_20 in
     let here = subst (λ (w : Life). Contains (live_words w.member (peers_of w.member w.past)) says)
     (some-same lives) l.live in
     let only = subst (λ ws. Contains ws says) words here in
-    let same : says ≡ word = by_sum (contains-in (word ∷ []) says only) (λ e. e) (λ i. elim i [ ]) in
+    let same : says ≡ word = by_sum (contains-in (word ∷ []) says only) (λ e. e) (λ i. elim i [ ])
+    in
     each-at IsFourth run fourth sent l.sends.event l.sends.at l.sends.within l.sends.number
     t l.sends.octets l.sends.profile l.announcement
     (contains-in l.sends.event.facts _ l.sends.fact) l.sends.spelled
     (l.mi ∙ ap (λ (w : Accepted). w.told.mi) same) (l.mn ∙ ap (λ (w : Accepted). w.told.mn) same)
 
-listens : IsListener settings run 19 0 1 17 word
+listens : IsListener settings run second 1 17 word
 unfolding upto stations
 listens = record {
   server_life = l20 0;
@@ -462,33 +483,35 @@ listens = record {
     fact = (1, omega arith, refl);
     profile = bob;
     here = (1, omega arith, refl);
-    spelled = good-spelled bob bob e4 good_e4;
+    spelled = sayable-right bob bob e4 good_e4;
   };
   mi = refl;
   mn = refl;
 }
 
 -- bob is a keeper
-pub keeps : IsKeeper settings run 19 0 (id 1) 1 17 word
+pub keeps : IsKeeper settings run second 1 17 word
 keeps = record { listener = listens; keeps = refl }
 
 -- ---- he begins the second key once, since he follows
 
 abbrev Follows : ℕ → Happening → Type 0
-Follows n x = (an epoch : ℕ) (cause : Cause) → In (facts.Began 1 (id 2) an epoch cause) x.facts
+Follows n x = (an : AssociationNumber) (epoch : ℕ) (cause : Cause)
+    → In (facts.Began 1 (id 2) an epoch cause) x.facts
     → (cause ≡ flagged) × (rounds 12 (upto (suc n) run) ≤ rounds 12 (upto 20 run) + 0)
 
-none_of : (n : ℕ) (x : Happening) → begins_none x ≡ true → Follows n x
-none_of n x none an epoch cause i = absurd (none-begins x none an epoch cause i)
+none_of : (n : ℕ) (x : Happening) → begins_no_second x ≡ true → Follows n x
+none_of n x none an epoch cause i = absurd (no-second-begins x none an epoch cause i)
 
-same_cause : (an epoch bn other : ℕ) (cause why : Cause)
+same_cause : (an : AssociationNumber) (epoch : ℕ) (bn : AssociationNumber) (other : ℕ)
+    (cause why : Cause)
     → facts.Began 1 (id 2) an epoch cause ≡ facts.Began 1 (id 2) bn other why → cause ≡ why
 same_cause an epoch bn other cause why e = cc (e)
 
 bob_follows : Follows 23 scene.follows
 bob_follows an epoch cause i =
     by_sum i (λ e. cc (e)) (λ j. by_sum j
-    (λ e. (same_cause an epoch 1 2 cause flagged e, omega (arith, begun_in, followed_in)))
+    (λ e. (same_cause an epoch An1 2 cause flagged e, omega (arith, begun_in, followed_in)))
     (λ k. elim k [ ]))
 
 each_follows : Each Follows run
@@ -498,7 +521,7 @@ each_follows = (
     none_of 25 (newest scene.r26) refl,
     (
       none_of 24 (newest scene.r25) refl,
-      (bob_follows, each-passes Follows begins_none none_of scene.r23 refl),
+      (bob_follows, each-passes Follows begins_no_second none_of scene.r23 refl),
     ),
   ),
 )
@@ -509,25 +532,25 @@ his_beginning = record {
   event = scene.follows;
   at = refl;
   within = omega arith;
-  an = 1;
+  an = An1;
   epoch = 2;
   fact = (1, omega arith, refl);
 }
 
--- ---- the rollover
+-- ---- the rollover is steady
 
 held : option_map (λ k. k.id) (old (keys_of_life (Some (l20 0)))) ≡ Some (id 1)
 unfolding opens
 held = refl
 
-pub steady : IsSteady settings run 12 12 19 0 (id 1) (id 2) 0
+pub steady : IsSteady settings run second
 unfolding upto keys_at
 steady = record {
   begins = record {
     event = _;
     at = refl;
     within = omega arith;
-    an = 1;
+    an = An1;
     epoch = 2;
     fact = (1, omega arith, refl);
   };
@@ -538,7 +561,7 @@ steady = record {
     within = omega arith;
     next = many;
     tick = refl;
-    an = 1;
+    an = An1;
     epoch = 2;
     sak = sak 2;
     fact = (1, omega arith, refl);
@@ -565,11 +588,21 @@ steady = record {
 -- ---- a frame under the first key, which bob claimed before he followed, reaches alice after all
 -- did
 
+abbrev bobs : Flight
+bobs = record {
+  frame = 10;
+  key = first_key;
+  sender = 1;
+  claim = 21;
+  receiver = 0;
+  delivery = 26;
+}
+
 first_21 : upto 21 run ≡ scene.r21
 unfolding upto
 first_21 = refl
 
-pub flight : IsFlight settings run 21 26 1 0 first_key 10
+pub flight : IsFlight settings run bobs
 unfolding upto claimed opens
 flight = record {
   pn = many;
@@ -604,7 +637,7 @@ delivered_in : rounds 12 (upto 26 run) ≡ 4
 unfolding rounds pace upto opens
 delivered_in = refl
 
-pub in_time : IsInTime settings run 12 12 19 0 (id 1) (id 2) 0 21 26 1 0 first_key
+pub in_time : IsInTime settings run second bobs
 in_time = inl (record {
   named = refl;
   after = omega arith;
@@ -614,15 +647,15 @@ in_time = inl (record {
 })
 
 -- the law on it
-pub found : IsFound settings run 26 0 10 first_key
+pub found : IsFound settings run bobs
 found =
-    run-hitless settings users run legal.stepped unforged fresh [] run 12 12 19 0 (id 1) (id 2) 0
-    21 26 1 0 first_key 10 refl steady flight in_time
+    run-hitless settings users run legal.stepped unforged fresh [] run second bobs refl steady
+    flight in_time
 
 -- ---- what is refused
 
 -- where members may take 29 rounds to follow, the same frame would be too late
-too_late : ¬ (IsInTime settings run 12 12 19 0 (id 1) (id 2) 29 21 26 1 0 first_key)
+too_late : ¬ (IsInTime settings run (record second { lag = 29 }) bobs)
 too_late time =
     by_sum time (λ old_one. let s = old_one.soon in
     absurd (omega (arith, s, claimed_in, delivered_in)))
@@ -633,7 +666,7 @@ too_late time =
 again : Run
 again = happened (events.Restart 0) [] ∷ run
 
-not_steady_where_it_starts_again : ¬ (IsSteady settings again 12 12 19 0 (id 1) (id 2) 0)
+not_steady_where_it_starts_again : ¬ (IsSteady settings again second)
 unfolding again upto
 not_steady_where_it_starts_again s =
     s.unbroken.on 27 (happened (events.Restart 0) []) (omega arith) refl (omega arith) refl
@@ -642,7 +675,7 @@ not_steady_where_it_starts_again s =
 within_a_round : Run
 within_a_round = happened (events.Deliver 10 0) [] ∷ scene.r25
 
-not_steady_within_a_round : ¬ (IsSteady settings within_a_round 12 12 19 0 (id 1) (id 2) 0)
+not_steady_within_a_round : ¬ (IsSteady settings within_a_round second)
 unfolding within_a_round
 not_steady_within_a_round s =
     let broken : is_some (pace 12 within_a_round) ≡ false =
@@ -668,8 +701,8 @@ unfolding rounds pace upto opens rounds_on late_by
 claimed_before = refl
 
 its_second_delivery_is_too_late :
-    ¬ (IsInTime settings (happened (events.Deliver 10 0) [] ∷ late_by) 12 12 19 0 (id 1) (id 2) 0
-    21 85 1 0 first_key)
+    ¬ (IsInTime settings (happened (events.Deliver 10 0) [] ∷ late_by) second
+    (record bobs { delivery = 85 }))
 its_second_delivery_is_too_late time =
     by_sum time
     (λ old_one. let s = old_one.soon in
@@ -686,7 +719,7 @@ missed_20 : upto 20 missed ≡ scene.r20
 unfolding upto missed rounds_on
 missed_20 = refl
 
-missed_listens : IsListener settings missed 19 0 1 17 word
+missed_listens : IsListener settings missed second 1 17 word
 unfolding upto stations missed rounds_on
 missed_listens = record {
   server_life = l20 0;
@@ -702,18 +735,18 @@ missed_listens = record {
     fact = (1, omega arith, refl);
     profile = bob;
     here = (1, omega arith, refl);
-    spelled = good-spelled bob bob e4 good_e4;
+    spelled = sayable-right bob bob e4 good_e4;
   };
   mi = refl;
   mn = refl;
 }
 
 abbrev IsNoBeginning : ℕ → Happening → Type 0
-IsNoBeginning n x = begins_none x ≡ true
+IsNoBeginning n x = begins_no_second x ≡ true
 
 never_begins : Each IsNoBeginning missed
 unfolding missed rounds_on
-never_begins = each-passes IsNoBeginning begins_none (λ n x none. none) missed refl
+never_begins = each-passes IsNoBeginning begins_no_second (λ n x none. none) missed refl
 
 missed_in : rounds 12 missed ≡ 4
 unfolding rounds pace opens missed rounds_on
@@ -723,10 +756,10 @@ missed_begun_in : rounds 12 (upto 20 missed) ≡ 3
 unfolding rounds pace upto opens missed rounds_on
 missed_begun_in = refl
 
-not_steady_where_a_flag_is_missed : ¬ (IsSteady settings missed 12 12 19 0 (id 1) (id 2) 0)
+not_steady_where_a_flag_is_missed : ¬ (IsSteady settings missed second)
 not_steady_where_a_flag_is_missed s =
     let b = s.begun 1 17 word (record { listener = missed_listens; keeps = refl })
     (omega (arith, missed_in, missed_begun_in)) in
     let t = b.2 in
-    none-begins t.event (each-at IsNoBeginning missed never_begins b.0 t.event t.at t.within)
+    no-second-begins t.event (each-at IsNoBeginning missed never_begins b.0 t.event t.at t.within)
     t.an t.epoch b.1 (contains-in t.event.facts _ t.fact)

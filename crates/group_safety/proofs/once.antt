@@ -5,8 +5,8 @@ pub mod Places
 pub mod Ledgers
 pub mod Currents
 pub mod Invariant
-pub mod Kept
-pub mod Given
+pub mod ChangesKeep
+pub mod OneKeyEach
 pub mod Gists
 pub mod Histories
 pub mod LiveHeard
@@ -22,7 +22,7 @@ pub mod Nexts
 pub mod Books
 pub mod Living
 pub mod Stepping
-pub mod Events
+pub mod EventsKeepKnown
 pub mod TickKept
 pub mod ReachKept
 pub mod StartKept

@@ -1,15 +1,17 @@
 -- The proof of the hitless rollover.
+pub mod Waits
+pub mod Course
 pub mod Spans
 pub mod KeyFacts
 pub mod Young
-pub mod Core
-pub mod Rules
+pub mod ByNumbers
+pub mod Begins
 pub mod Turns
-pub mod Facts
-pub mod Events
+pub mod TurnFacts
+pub mod EventKinds
 pub mod Shows
-pub mod Moments
-pub mod Rounds
+pub mod AtMoments
+pub mod TicksAreRounds
 pub mod OneLife
 pub mod Said
 pub mod Lived

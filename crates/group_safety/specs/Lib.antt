@@ -1,6 +1,6 @@
 -- What a reader reads: one use of each packet number and one key under each identifier; then
 -- moments and rounds of a run, what a station is then, steady rollovers, frames in time for them,
--- and hitless rollover; and the summary of a run.
+-- and hitless rollover.
 pub mod Once
 pub mod Moments
 pub mod Rounds
@@ -8,5 +8,3 @@ pub mod Stations
 pub mod Steady
 pub mod Time
 pub mod Hitless
-pub mod Summary
-pub mod inside

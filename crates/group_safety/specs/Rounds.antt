@@ -1,6 +1,6 @@
 -- Rounds (this profile's own word): ticks, one of each station that has started, with nothing
 -- between them but claims.
-use Rattle.std.specs.Prelude.{ℕ, zero, suc, ◌+◌, ◌==◌, not, cond, nat_lt}
+use Rattle.std.specs.Prelude.{ℕ, zero, suc, ◌+◌, ◌==◌, not, if◌then◌else◌, nat_lt}
 use Rattle.std.specs.Prelude.{List, [], ◌∷◌, length, Option, Some, None, option_and_then}
 use Rattle.std.specs.List.{filter, list_any}
 use Rattle.lan_core.specs.declared.event.Event.{Event}
@@ -30,8 +30,9 @@ between_rounds rounds (t ∷ ts) = None
 abbrev pub ticking : List ℕ → ℕ → ℕ → List ℕ → Option Pace
 ticking all s rounds [] = Some (record { rounds = rounds + 1; waiting = without s all })
 ticking all s rounds (t ∷ ts) =
-    cond (list_any (λ u. u == s) (t ∷ ts))
-    (Some (record { rounds = rounds; waiting = without s (t ∷ ts) })) None
+    if list_any (λ u. u == s) (t ∷ ts)
+    then Some (record { rounds = rounds; waiting = without s (t ∷ ts) })
+    else None
 
 -- one event, given the stations that take part
 abbrev pub turn : List ℕ → Event → Pace → Option Pace
@@ -43,8 +44,9 @@ turn all _ p = between_rounds p.rounds p.waiting
 unfoldable pub pace : ℕ → Run → Option Pace
 pace from [] = Some (record { rounds = 0; waiting = [] })
 pace from (x ∷ r) =
-    cond (nat_lt (length r) from) (Some (record { rounds = 0; waiting = [] }))
-    (option_and_then (turn (places (length (stations r))) x.event) (pace from r))
+    if nat_lt (length r) from
+    then Some (record { rounds = 0; waiting = [] })
+    else option_and_then (turn (places (length (stations r))) x.event) (pace from r)
 
 -- how many rounds have begun
 abbrev pub rounds_in : Option Pace → ℕ

@@ -3,6 +3,7 @@
 -- come in whole rounds.
 use Rattle.std.specs.Prelude.{◌≡◌, ◌<◌, ◌≤◌, ◌+◌, ℕ, suc, false, true, List, length, Contains}
 use Rattle.std.specs.Prelude.{Some, is_some, option_map}
+use Rattle.lan_base.specs.declared.association_number.AssociationNumber.{AssociationNumber}
 use Rattle.lan_base.specs.declared.key_id.KeyId.{KeyId}
 use Rattle.lan_base.specs.Timers.{retire_time}
 use Rattle.mkpdu_codec.specs.declared.announcement.Announcement.{Announcement}
@@ -28,7 +29,7 @@ pub record Begins (run : Run) (moment station : ℕ) (id : KeyId) (cause : Cause
   pub event : Happening
   pub at : At run moment event
   pub within : moment < length run
-  pub an : ℕ
+  pub an : AssociationNumber
   pub epoch : ℕ
   pub fact : Contains event.facts (facts.Began station id an epoch cause)
 
@@ -39,7 +40,7 @@ pub record Makes (run : Run) (moment station : ℕ) (id : KeyId) : Type 0 where
   pub within : moment < length run
   pub next : ℕ
   pub tick : event.event ≡ events.Tick station next
-  pub an : ℕ
+  pub an : AssociationNumber
   pub epoch : ℕ
   pub sak : Secret
   pub fact : Contains event.facts (facts.Installed station id an epoch sak)
@@ -67,12 +68,24 @@ pub record Trusts (settings : Settings) (run : Run) (station server since : ℕ)
   pub on : (n : ℕ) → since ≤ n → n ≤ length run
       → server_at settings station (upto n run) ≡ mi_at settings server (upto n run)
 
+-- A rollover: which station is the server, the moments at which it makes the new key and begins it,
+-- the identifiers of the old and the new key, how many rounds the members may lag, and the moment
+-- from which rounds count.
+pub record Rollover : Type 0 where
+  pub server : ℕ
+  pub made : ℕ
+  pub start : ℕ
+  pub old_id : KeyId
+  pub new_id : KeyId
+  pub lag : ℕ
+  pub from : ℕ
+
 -- A listener: a member that said what a live member says to the server after the event in which
 -- this one begins the key, and the moment at which it sent that.
-pub record IsListener (settings : Settings) (run : Run) (start server member sent : ℕ)
+pub record IsListener (settings : Settings) (run : Run) (rollover : Rollover) (member sent : ℕ)
     (says : Accepted) : Type 0 where
   pub server_life : Life
-  pub living : life settings server (upto (suc start) run) ≡ Some server_life
+  pub living : life settings rollover.server (upto (suc rollover.start) run) ≡ Some server_life
   pub live :
       Contains (live_words server_life.member (peers_of server_life.member server_life.past)) says
   pub announcement : Announcement
@@ -81,43 +94,46 @@ pub record IsListener (settings : Settings) (run : Run) (start server member sen
   pub mn : announcement.mn ≡ says.told.mn
 
 -- a keeper: one that said, too, that it receives the old key as its old one
-pub record IsKeeper (settings : Settings) (run : Run) (start server : ℕ) (old_id : KeyId)
-    (member sent : ℕ) (says : Accepted) : Type 0 where
-  pub listener : IsListener settings run start server member sent says
-  pub keeps : reports_old old_id says.told.uses ≡ true
+pub record IsKeeper (settings : Settings) (run : Run) (rollover : Rollover) (member sent : ℕ)
+    (says : Accepted) : Type 0 where
+  pub listener : IsListener settings run rollover member sent says
+  pub keeps : reports_old rollover.old_id says.told.uses ≡ true
 
--- A steady rollover of a run, whose rounds count from a moment on: the server makes the new key in
--- one event, and begins it in another; the members begin it no later than so many rounds after.
-pub record IsSteady (settings : Settings) (run : Run) (from made start server : ℕ)
-    (old_id new_id : KeyId) (lag : ℕ) : Type 0 where
+-- A steady rollover of a run: the server makes the new key in one event, and begins it in another;
+-- the members begin it no later than so many rounds after.
+pub record IsSteady (settings : Settings) (run : Run) (rollover : Rollover) : Type 0 where
   -- the server begins the new key since all reported it, and the old one is then its old key
-  pub begins : Begins run start server new_id All
-  pub old_held : option_map (λ k. k.id) (old (keys_at settings server (upto (suc start) run)))
-      ≡ Some old_id
+  pub begins : Begins run rollover.start rollover.server rollover.new_id All
+  pub old_held :
+      option_map (λ k. k.id)
+      (old (keys_at settings rollover.server (upto (suc rollover.start) run)))
+      ≡ Some rollover.old_id
   -- it made the new key before, and since then isn't restarted and is its own elected server
-  pub makes : Makes run made server new_id
-  pub order : made ≤ start
-  pub unbroken : IsUnbroken run server made
-  pub served : Trusts settings run server server (suc made)
+  pub makes : Makes run rollover.made rollover.server rollover.new_id
+  pub order : rollover.made ≤ rollover.start
+  pub unbroken : IsUnbroken run rollover.server rollover.made
+  pub served : Trusts settings run rollover.server rollover.server (suc rollover.made)
   -- from the round of the make on, ticks come in whole rounds only
-  pub whole_rounds : is_some (pace from run) ≡ true
-  pub early : from ≤ made
-  pub first_round : rounds from (upto (suc made) run) ≡ 1
+  pub whole_rounds : is_some (pace rollover.from run) ≡ true
+  pub early : rollover.from ≤ rollover.made
+  pub first_round : rounds rollover.from (upto (suc rollover.made) run) ≡ 1
   -- since it sent what it says, no listener was restarted, and its elected server is the server
   pub listeners_stay : (member sent : ℕ) (says : Accepted)
-      → IsListener settings run start server member sent says → IsUnbroken run member sent
+      → IsListener settings run rollover member sent says → IsUnbroken run member sent
   pub listeners_trust : (member sent : ℕ) (says : Accepted)
-      → IsListener settings run start server member sent says
-      → Trusts settings run member server (suc sent)
+      → IsListener settings run rollover member sent says
+      → Trusts settings run member rollover.server (suc sent)
   -- the keepers that begin the new key do so since they follow, and in time; and each has begun it
   -- where the run has come to a later round
-  pub lag_short : lag < retire_time
+  pub lag_short : rollover.lag < retire_time
   pub follow : (member sent : ℕ) (says : Accepted)
-      → IsKeeper settings run start server old_id member sent says → (n : ℕ) (cause : Cause)
-      → Begins run n member new_id cause
+      → IsKeeper settings run rollover member sent says → (n : ℕ) (cause : Cause)
+      → Begins run n member rollover.new_id cause
       → (cause ≡ Flag)
-      × (rounds from (upto (suc n) run) ≤ rounds from (upto (suc start) run) + lag)
+      × (rounds rollover.from (upto (suc n) run)
+      ≤ rounds rollover.from (upto (suc rollover.start) run) + rollover.lag)
   pub begun : (member sent : ℕ) (says : Accepted)
-      → IsKeeper settings run start server old_id member sent says
-      → rounds from (upto (suc start) run) + lag < rounds from run
-      → (n : ℕ) × (cause : Cause) × Begins run n member new_id cause
+      → IsKeeper settings run rollover member sent says
+      → rounds rollover.from (upto (suc rollover.start) run) + rollover.lag
+      < rounds rollover.from run
+      → (n : ℕ) × (cause : Cause) × Begins run n member rollover.new_id cause

@@ -1,18 +1,16 @@
 //! Hitless rollover: each frame that is delivered in time meets an association that holds its key.
 
-ghost use Rattle.std.specs.Prelude.{◌≡◌, ◌<◌, ◌+◌, ℕ, suc, List};
+ghost use Rattle.std.specs.Prelude.{◌≡◌, ◌<◌, ◌+◌, suc, List};
 ghost use Rattle.lan_base.specs.declared.frame.UserFrame.{UserFrame};
-ghost use Rattle.lan_base.specs.declared.key_id.KeyId.{KeyId};
 ghost use Rattle.lan_base.specs.Timers.{retire_time};
-ghost use Rattle.sak_exchange.specs.Histories.{Key};
 ghost use Rattle.lan_core.specs.declared.settings.Settings.{Settings};
 ghost use Rattle.lan_core.specs.Run.{Run};
 ghost use Rattle.lan_core.specs.Legal.{IsStepped, IsLegal};
 ghost use Rattle.lan_core.specs.Fresh.{IsFresh, IsUnforged};
 ghost use Rattle.group_safety.specs.Moments.{upto};
 ghost use Rattle.group_safety.specs.Rounds.{rounds};
-ghost use Rattle.group_safety.specs.Steady.{IsKeeper, IsSteady};
-ghost use Rattle.group_safety.specs.Time.{IsFlight, IsFound, HasSaid};
+ghost use Rattle.group_safety.specs.Steady.{Rollover, IsKeeper, IsSteady};
+ghost use Rattle.group_safety.specs.Time.{Flight, IsFlight, IsFound, HasSaid};
 ghost use Rattle.group_safety.specs.Hitless.{Hitless};
 
 /// In every steady rollover, at each moment of a run, a frame that is delivered in time is found:
@@ -29,13 +27,12 @@ pub fn law_hitless()
 /// new key, less than the retire time after the beginning, in rounds.
 pub fn law_old_key_is_received()
     ensures { (settings : Settings) (users : List UserFrame) (run : Run)
-        (from made start server : ℕ) (old_id new_id : KeyId)
-        (lag claim delivery sender receiver : ℕ) (key : Key) (frame : ℕ)
+        (rollover : Rollover) (flight : Flight)
         → IsStepped settings users run → IsFresh run → IsUnforged settings run
-        → IsSteady settings run from made start server old_id new_id lag
-        → IsFlight settings run claim delivery sender receiver key frame
-        → key.id ≡ old_id → made < delivery
-        → HasSaid server receiver delivery (IsKeeper settings run start server old_id)
-        → rounds from (upto delivery run) < rounds from (upto (suc start) run) + retire_time
-        → IsFound settings run delivery receiver frame key }
+        → IsSteady settings run rollover → IsFlight settings run flight
+        → flight.key.id ≡ rollover.old_id → rollover.made < flight.delivery
+        → HasSaid rollover.server flight.receiver flight.delivery (IsKeeper settings run rollover)
+        → rounds rollover.from (upto flight.delivery run)
+        < rounds rollover.from (upto (suc rollover.start) run) + retire_time
+        → IsFound settings run flight }
 {}

@@ -7,6 +7,7 @@ use Rattle.std.specs.Prelude.{◌==◌, ◌&&◌, ◌||◌, nat_le, nat_lt, Cont
 use Rattle.std.specs.Prelude.{option_and_then}
 use Rattle.std.specs.List.{list_all}
 use Rattle.std.proofs.lemmas.Bool.{and_parts, leb-true}
+use Rattle.lan_base.specs.declared.association_number.AssociationNumber.TheVariants.{An0, An1}
 use Rattle.lan_base.specs.declared.key_id.KeyId.{KeyId}
 use Rattle.lan_base.specs.Identifiers.{same_mi}
 use Rattle.peer_lists.specs.Acceptance.{Accepted, refusal, accepted, outcome}
@@ -33,12 +34,13 @@ use Rattle.group_safety.specs.Rounds.{pace, rounds}
 use Rattle.group_safety.specs.Stations.{keys_at, keys_of_life}
 use Rattle.group_safety.specs.Steady.{Begins, IsUnbroken, Trusts, IsListener, IsKeeper, IsSteady}
 use Rattle.group_safety.specs.Time.{IsFlight, IsInTime, IsFound}
-use Rattle.group_safety.proofs.Public.{In, contains-in, in-contains, all-in, by_sum, each-at, each-passes, IsNoRestart, no-restart, goes_on}
+use Rattle.group_safety.proofs.Public.{In, contains-in, in-contains, all-in, by_sum, each-at}
+use Rattle.group_safety.proofs.Public.{each-passes, IsNoRestart, is_no_restart-event, is_no_restart}
 use Rattle.worked_rollovers.specs.Group.{settings, mi, id, sak, bob, user, first_key}
 use Rattle.worked_rollovers.specs.Deeds.{Deed, plain, emits, carried}
 use Rattle.worked_rollovers.specs.Lives.{heard_by, life_by}
 use Rattle.worked_rollovers.specs.Script.{tick, deliver, begin, send, spread, round, flow}
-use Rattle.worked_rollovers.specs.Rows.{late_story, late_deeds, late}
+use Rattle.worked_rollovers.specs.Rows.{late_story, late_deeds, late, late_rollover, late_flight}
 use Rattle.worked_rollovers.proofs.Framing.{is_bare}
 use Rattle.worked_rollovers.proofs.Lived.{is_readable}
 use Rattle.worked_rollovers.proofs.Steadily.{deed_at, deed-at, told_upto, trusts-from}
@@ -112,7 +114,7 @@ abbrev all_well : ℕ → Happening → Bool
 all_well n x = list_all (begins_well n) x.facts
 
 abbrev word : Accepted
-word = first_word (words_then start late_deeds)
+word = first_word (words_then late_rollover late_deeds)
 
 -- what was told up to alice's beginning, and up to the first delivery
 
@@ -127,7 +129,7 @@ record Computed : Type 0 where
   bare : list_all is_bare late_deeds ≡ true
   readable : list_all is_readable late_deeds ≡ true
   hushed : list_all is_hushed late_deeds ≡ true
-  goes : list_all goes_on late ≡ true
+  goes : list_all is_no_restart late ≡ true
   long : length late ≡ 162
   paced : is_some (pace made late) ≡ true
   first_round : rounds made (upto (suc made) late) ≡ 1
@@ -138,32 +140,32 @@ record Computed : Type 0 where
   bob_trusts : is_trusting_on 1 112 late_deeds ≡ true
   carol_trusts : is_trusting_on 2 111 late_deeds ≡ true
   long_enough : (nat_le (length late_deeds) 162) ≡ true
-  some_word : nat_lt 0 (length (words_then start late_deeds)) ≡ true
-  words : list_all is_word (words_then start late_deeds) ≡ true
+  some_word : nat_lt 0 (length (words_then late_rollover late_deeds)) ≡ true
+  words : list_all is_word (words_then late_rollover late_deeds) ≡ true
   keeper : is_keeper 1 bob_said (id 1) word late_deeds ≡ true
   bob_here : In bob (stations late)
   well : is_tested all_well late ≡ true
   started : is_some (deed_at start late_deeds) ≡ true
-  begun : In (facts.Began 0 (id 2) 1 2 all_report) (facts_in (deed_at start late_deeds))
+  begun : In (facts.Began 0 (id 2) An1 2 all_report) (facts_in (deed_at start late_deeds))
   at_make : is_some (deed_at made late_deeds) ≡ true
   make_tick : (happening (deed_at made late_deeds)).event ≡ events.Tick 0 1
-  installed : In (facts.Installed 0 (id 2) 1 2 (sak 5)) (facts_in (deed_at made late_deeds))
+  installed : In (facts.Installed 0 (id 2) An1 2 (sak 5)) (facts_in (deed_at made late_deeds))
   followed : is_some (deed_at follows late_deeds) ≡ true
-  follow : In (facts.Began 1 (id 2) 1 2 flagged) (facts_in (deed_at follows late_deeds))
+  follow : In (facts.Began 1 (id 2) An1 2 flagged) (facts_in (deed_at follows late_deeds))
   old_held : option_map (λ k. k.id) (old (keys_of_life (life_by 0 server_then)))
       ≡ Some (id 1)
   sends : option_and_then (λ (w : Life). transmitting (keys_in w))
       (life_by 1 (told_upto claim late_deeds))
       ≡ Some first_key
   claims : deed_at claim late_deeds
-      ≡ Some (plain (events.Claim 1 1 1) (facts.Claimed 1 0 1 1 ∷ []))
+      ≡ Some (plain (events.Claim 1 1 1) (facts.Claimed 1 An0 1 1 ∷ []))
   emitted_then : deed_at (suc claim) late_deeds ≡ Some (emits 18 1)
   none_emitted : length (emitted (upto (suc claim) late)) ≡ 0
   none_claimed : length (claimed settings (upto claim late)) ≡ 0
   comes_first : deed_at first_delivery late_deeds
       ≡ Some (plain (events.Deliver 18 0) (facts.Arrived 18 0 (arrivals.Accepted 1 user.body) ∷ []))
   comes_to_carol : deed_at to_carol late_deeds
-      ≡ Some (plain (events.Deliver 18 2) (facts.Arrived 18 2 (arrivals.Missed 0) ∷ []))
+      ≡ Some (plain (events.Deliver 18 2) (facts.Arrived 18 2 (arrivals.Missed An0) ∷ []))
   comes_again : deed_at second_delivery late_deeds
       ≡ Some (plain (events.Deliver 18 0) (facts.Arrived 18 0 (arrivals.Late 2) ∷ []))
   received_there : In first_key (received (keys_of_life (life_by 0 at_delivery)))
@@ -214,7 +216,8 @@ computed = record {
 unbroken : (s a : ℕ) → IsUnbroken late s a
 unbroken s a = record {
   on = λ n x from at within e. each-at IsNoRestart late
-      (each-passes IsNoRestart goes_on no-restart late computed.goes) n x at within s e;
+      (each-passes IsNoRestart is_no_restart is_no_restart-event late computed.goes) n x at within
+      s e;
 }
 
 alice_trusts : Trusts settings late 0 0 42
@@ -234,10 +237,10 @@ carol_trusts =
 
 -- ---- listeners are bob, who keeps the old key, and carol
 
-listener-at : (t sent : ℕ) (said : Accepted) → IsListener settings late start 0 t sent said
+listener-at : (t sent : ℕ) (said : Accepted) → IsListener settings late late_rollover t sent said
     → (t ≡ (place said).0) × (sent ≡ (place said).1) × (is_kept_by_bob said ≡ true)
 listener-at t sent said l =
-    let heard = listener-word is_word late_deeds start t sent said
+    let heard = listener-word is_word late_deeds late_rollover t sent said
     (all-upto is_bare (suc start) late_deeds computed.bare)
     (all-upto is_readable (suc start) late_deeds computed.readable) computed.words l in
     let p = and_parts (is_said_at (place said) said.told.mi said.told.mn late_deeds)
@@ -246,7 +249,8 @@ listener-at t sent said l =
     computed.readable p.0 t sent l.announcement l.sends l.mi l.mn in
     (at.0, at.1, p.1)
 
-listener-trusts : (t sent : ℕ) (said : Accepted) → IsListener settings late start 0 t sent said
+listener-trusts : (t sent : ℕ) (said : Accepted) → IsListener settings late late_rollover t sent
+    said
     → Trusts settings late t 0 (suc sent)
 listener-trusts t sent said l =
     let at = listener-at t sent said l in
@@ -256,16 +260,16 @@ listener-trusts t sent said l =
     (λ e. let a : t ≡ 2 = rw e at at.0 in let b : sent ≡ carol_said = rw e at at.1 in
     rw (a, b) carol_trusts)
 
-keeper-at : (t sent : ℕ) (said : Accepted) → IsKeeper settings late start 0 (id 1) t sent said
+keeper-at : (t sent : ℕ) (said : Accepted) → IsKeeper settings late late_rollover t sent said
     → (t ≡ 1) × (sent ≡ bob_said)
 keeper-at t sent said k =
     let at = listener-at t sent said k.listener in
     let mine : same_mi said.told.mi (mi 2) ≡ true = rw k.keeps at at.2 in
     (rw mine at at.0, rw mine at at.1)
 
-bob_keeps : IsKeeper settings late start 0 (id 1) 1 bob_said word
+bob_keeps : IsKeeper settings late late_rollover 1 bob_said word
 bob_keeps =
-    keeper-is start 1 bob_said (id 1) late_deeds computed.bare computed.readable computed.bob_here
+    keeper-is late_rollover 1 bob_said late_deeds computed.bare computed.readable computed.bob_here
     computed.some_word computed.keeper
 
 -- ---- bob follows
@@ -277,7 +281,7 @@ flag-is timed_out e = absurd (cc (e))
 
 bob_begins : Begins late follows 1 (id 2) flagged
 bob_begins =
-    begins-at follows 1 1 2 (id 2) flagged late_deeds computed.followed computed.follow
+    begins-at follows 1 An1 2 (id 2) flagged late_deeds computed.followed computed.follow
 
 bob-follows : (x : ℕ) (cause : Cause) → Begins late x 1 (id 2) cause
     → (cause ≡ flagged)
@@ -292,13 +296,13 @@ bob-follows x cause b =
 
 -- ---- the rollover
 
-pub steady : IsSteady settings late made made start 0 (id 1) (id 2) 0
+pub steady : IsSteady settings late late_rollover
 unfolding keys_at
 steady = record {
-  begins = begins-at start 0 1 2 (id 2) all_report late_deeds computed.started computed.begun;
+  begins = begins-at start 0 An1 2 (id 2) all_report late_deeds computed.started computed.begun;
   old_held = ap (λ o. option_map (λ k. k.id) (old (keys_of_life o)))
       (life-upto 0 (suc start) late_deeds computed.bare computed.readable) ∙ computed.old_held;
-  makes = makes-at made 0 1 2 1 (id 2) (sak 5) late_deeds computed.at_make computed.make_tick
+  makes = makes-at made 0 An1 2 1 (id 2) (sak 5) late_deeds computed.at_make computed.make_tick
       computed.installed;
   order = omega arith;
   unbroken = unbroken 0 made;
@@ -319,7 +323,7 @@ steady = record {
 -- ---- the frame
 
 way : (d t : ℕ) (f : List Fact) → deed_at d late_deeds ≡ Some (plain (events.Deliver 18 t) f)
-    → IsFlight settings late claim d 1 t first_key 18
+    → IsFlight settings late (late_flight t d)
 way d t f comes_there =
     let claims = deed-at claim late_deeds _ computed.claims in
     let emission = deed-at (suc claim) late_deeds (emits 18 1) computed.emitted_then in
@@ -350,17 +354,17 @@ way d t f comes_there =
       delivered = refl;
     }
 
-pub first_way : IsFlight settings late claim first_delivery 1 0 first_key 18
+pub first_way : IsFlight settings late (late_flight 0 first_delivery)
 first_way = way first_delivery 0 _ computed.comes_first
 
-pub second_way : IsFlight settings late claim second_delivery 1 0 first_key 18
+pub second_way : IsFlight settings late (late_flight 0 second_delivery)
 second_way = way second_delivery 0 _ computed.comes_again
 
-pub way_to_carol : IsFlight settings late claim to_carol 1 2 first_key 18
+pub way_to_carol : IsFlight settings late (late_flight 2 to_carol)
 way_to_carol = way to_carol 2 _ computed.comes_to_carol
 
 pub in_time :
-    IsInTime settings late made made start 0 (id 1) (id 2) 0 claim first_delivery 1 0 first_key
+    IsInTime settings late late_rollover (late_flight 0 first_delivery)
 in_time =
     let claimed_in = computed.claimed_in in
     let delivered_in = computed.delivered_in in
@@ -372,7 +376,7 @@ in_time =
       soon = omega (arith, claimed_in, delivered_in);
     })
 
-pub found : IsFound settings late first_delivery 0 18 first_key
+pub found : IsFound settings late (late_flight 0 first_delivery)
 unfolding keys_at
 found =
     let there = deed-at first_delivery late_deeds _ computed.comes_first in
@@ -399,7 +403,7 @@ no-other : id 1 ≡ id 2 → ⊥
 no-other e = let same : 1 ≡ 2 = ap (λ (i : KeyId). i.number) e in absurd (omega (arith, same))
 
 pub too_late :
-    ¬ (IsInTime settings late made made start 0 (id 1) (id 2) 0 claim second_delivery 1 0 first_key)
+    ¬ (IsInTime settings late late_rollover (late_flight 0 second_delivery))
 too_late time =
     let claimed_in = computed.claimed_in in
     let again_in = computed.again_in in
@@ -408,7 +412,7 @@ too_late time =
     (λ new_one. no-other new_one.named)
 
 pub not_at_carol :
-    ¬ (IsInTime settings late made made start 0 (id 1) (id 2) 0 claim to_carol 1 2 first_key)
+    ¬ (IsInTime settings late late_rollover (late_flight 2 to_carol))
 not_at_carol time =
     by_sum time
     (λ old_one. by_sum old_one.reaches

@@ -26,7 +26,8 @@ use Rattle.lan_core.specs.Ledgers.{Frame, frame_at, installs_at}
 use Rattle.lan_core.specs.Lives.{Life, life, life_after, lived, lived_hearing, lived_reached}
 use Rattle.lan_core.specs.Lives.{setup_of}
 use Rattle.lan_core.specs.Lives.{begun, drawn_mi, sak_in, lived_ticking, receiving, reaches}
-use Rattle.group_safety.proofs.Public.{group_kek, some-same, none-some, good-plain, good-right, IsSilent, next-silent, silent-seen}
+use Rattle.group_safety.proofs.Public.{group_kek, some-same, none-some, sayable-unprotected}
+use Rattle.group_safety.proofs.Public.{sayable-judged, IsSilent, silent-next, seen-silent}
 use Rattle.worked_rollovers.specs.Group.{settings, profile}
 use Rattle.worked_rollovers.specs.Deeds.{Deed, tells, emits, plain, happens, run_of}
 use Rattle.worked_rollovers.specs.Deeds.{whole, framed_by, carried, Paper, says, carries, on_air}
@@ -35,24 +36,24 @@ use Rattle.worked_rollovers.specs.Lives.{ticked_by, reads, life_on, life_by}
 use Rattle.worked_rollovers.proofs.Framing.{is_bare, octets_in, frame-octets}
 use Rattle.worked_rollovers.proofs.Readable.{is_good, is_gift, good-is, hidden-is, carried-is-sec}
 
--- ---- hearing an announcement, given the SAK that it hides
+-- ---- hearing an announcement, given the SAK that it unwrapped-wrapped_sak
 
 same-answer : (m : Member) (h : List Keying) (hidden : Option Secret) (b : Bool)
     (make : Given → Offer) (o : Option Given) → ((x : Given) → (make x).given ≡ x)
     → ((x : Given) → o ≡ Some x → given_sak m.setup.kek x ≡ hidden)
     → option_map (λ (w : Offer). taken m.base h w (given_sak m.setup.kek w.given))
     (cond b (option_map make o) None) ≡ answered m h (cond b (option_map make o) None) hidden
-same-answer m h hidden false make o gives hides = refl
-same-answer m h hidden true make None gives hides = refl
-same-answer m h hidden true make (Some x) gives hides =
+same-answer m h hidden false make o gives unwrapped-wrapped_sak = refl
+same-answer m h hidden true make None gives unwrapped-wrapped_sak = refl
+same-answer m h hidden true make (Some x) gives unwrapped-wrapped_sak =
     ap (λ k. Some (taken m.base h (make x) k))
-    (ap (given_sak m.setup.kek) (gives x) ∙ hides x refl)
+    (ap (given_sak m.setup.kek) (gives x) ∙ unwrapped-wrapped_sak x refl)
 
 heard-is : (m : Member) (a : Announcement) (hidden : Option Secret) (p : List Entry)
     → ((x : Given) → a.given ≡ Some x → given_sak m.setup.kek x ≡ hidden)
     → (hear_turn m a p).past ≡ heard_by m a hidden p
 unfolding hear_turn heard_by
-heard-is m a hidden p hides =
+heard-is m a hidden p unwrapped-wrapped_sak =
     let o = outcome_of m p a in
     let p1 = heard a ∷ p in
     let v1 = view m p1 in
@@ -63,7 +64,7 @@ heard-is m a hidden p hides =
       server = a.mi;
       listed = is_listed m v1.peers a;
       elected = Rattle.mka_station.specs.Views.is_server v1.server a.mi;
-    }) a.given (λ x. refl) hides)
+    }) a.given (λ x. refl) unwrapped-wrapped_sak)
 
 -- ---- they are the run's
 
@@ -179,10 +180,10 @@ reached-is (Some (says t a g)) (Some l) h read =
     let good = and_parts (is_good a) (is_gift g) (read (says t a g) refl) in
     let is = good-is a g good.0 good.1 in
     let octets = framed_by (profile t) (whole a g) in
-    let right = ap (λ w. judged w octets) h.1 ∙ good-right (profile t) h.0 (whole a g) is in
+    let right = ap (λ w. judged w octets) h.1 ∙ sayable-judged (profile t) h.0 (whole a g) is in
     let kek : l.member.setup.kek ≡ group_kek settings = ap (λ w. w.kek) h.1 in
     ap Some (ap (λ b. cond b l (lived l (frame_turn l.member octets l.past)))
-    (good-plain (profile t) (whole a g) is)
+    (sayable-unprotected (profile t) (whole a g) is)
     ∙ ap (λ j. lived l (heard_turn l.member j l.past)) right
     ∙ ap (λ w. record l { past = w }) (heard-is l.member (whole a g) (hidden_in g) l.past
     (λ x e. ap (λ k. given_sak k x) kek ∙ hidden-is g good.1 x e)))
@@ -195,7 +196,7 @@ silent-on : (s : ℕ) (ds : List Deed) (d : Deed)
     → ((octets : List ℕ) → reaches s (run_of ds) (happens d).event ≡ Some octets
     → is_sec octets ≡ false)
     → IsSilent (receiving s (run_of ds)) → IsSilent (receiving s (run_of (d ∷ ds)))
-silent-on s ds d plainly before = next-silent s (happens d) (run_of ds) plainly before
+silent-on s ds d plainly before = silent-next s (happens d) (run_of ds) plainly before
 
 silent-at-first : (s : ℕ) → IsSilent (receiving s [])
 unfolding receiving
@@ -229,7 +230,7 @@ silent-is s (plain (events.Deliver n t) f ∷ ds) bare read silent =
     go true (Some (says u a g)) c r q same octets e =
         let good = and_parts (is_good a) (is_gift g) (r (says u a g) refl) in
         ap is_sec (sym (some-same (sym same ∙ e)))
-        ∙ good-plain (profile u) (whole a g) (good-is a g good.0 good.1)
+        ∙ sayable-unprotected (profile u) (whole a g) (good-is a g good.0 good.1)
 silent-is s (plain (events.Start name sci priority) f ∷ ds) bare read silent =
     silent-on s ds (plain (events.Start name sci priority) f) (λ octets e. absurd (none-some e))
     (silent-is s ds (and_parts (list_all _ f) (list_all is_bare ds) bare).1 read silent)
@@ -256,7 +257,7 @@ ticked-is s ds t next f bare read None = refl
 ticked-is s ds t next f bare read (Some l) =
     ap (λ w. cond (t == s) (Some (lived l (tick_turn l.member w (sak_in f) l.past))) (Some l))
     (by_test (is_silent s ds)
-    (λ e. silent-seen s (run_of ds) l next (silent-is s ds bare read e) ∙ rw e refl)
+    (λ e. seen-silent s (run_of ds) l next (silent-is s ds bare read e) ∙ rw e refl)
     (λ e. rw e refl))
 
 pub life-is : (s : ℕ) (ds : List Deed) → list_all is_bare ds ≡ true

@@ -15,11 +15,12 @@ use Rattle.lan_core.specs.Ledgers.{installs}
 use Rattle.group_safety.specs.Moments.{upto}
 use Rattle.group_safety.specs.Rounds.{pace, rounds}
 use Rattle.group_safety.specs.Steady.{Begins, IsKeeper, IsSteady}
-use Rattle.group_safety.proofs.Public.{In, contains-in, each-at, each-passes, begins_none, none-begins}
+use Rattle.group_safety.proofs.Public.{In, contains-in, each-at, each-passes, begins_no_second}
+use Rattle.group_safety.proofs.Public.{no-second-begins}
 use Rattle.worked_rollovers.specs.Group.{settings, id, bob}
 use Rattle.worked_rollovers.specs.Lives.{heard_by, life_by}
 use Rattle.worked_rollovers.specs.Script.{tick, deliver, begin, send, spread, round, flow}
-use Rattle.worked_rollovers.specs.Rows.{missed_story, missed_deeds, missed}
+use Rattle.worked_rollovers.specs.Rows.{missed_story, missed_deeds, missed, missed_rollover}
 use Rattle.worked_rollovers.proofs.Framing.{is_bare}
 use Rattle.worked_rollovers.proofs.Lived.{is_readable}
 use Rattle.worked_rollovers.proofs.Steadily.{deed_at, told_upto, words_then, is_keeper, first_word}
@@ -43,16 +44,16 @@ abbrev start : ℕ
 start = 55
 
 abbrev pub word : Accepted
-word = first_word (words_then start missed_deeds)
+word = first_word (words_then (missed_rollover 0) missed_deeds)
 
 -- all that is computed of the row, at once
 record Computed : Type 0 where
   bare : list_all is_bare missed_deeds ≡ true
   readable : list_all is_readable missed_deeds ≡ true
-  some_word : nat_lt 0 (length (words_then start missed_deeds)) ≡ true
+  some_word : nat_lt 0 (length (words_then (missed_rollover 0) missed_deeds)) ≡ true
   keeper : is_keeper 1 bob_said (id 1) word missed_deeds ≡ true
   bob_here : In bob (stations missed)
-  never : list_all begins_none missed ≡ true
+  never : list_all begins_no_second missed ≡ true
   begun_in : rounds made (upto (suc start) missed) ≡ 3
   ended_in : rounds made missed ≡ 33
 
@@ -69,26 +70,27 @@ computed = record {
   ended_in = refl;
 }
 
-pub keeps : IsKeeper settings missed start 0 (id 1) 1 bob_said word
-keeps =
-    keeper-is start 1 bob_said (id 1) missed_deeds computed.bare computed.readable
+pub keeps : (lag : ℕ) → IsKeeper settings missed (missed_rollover lag) 1 bob_said word
+keeps lag =
+    keeper-is (missed_rollover lag) 1 bob_said missed_deeds computed.bare computed.readable
     computed.bob_here computed.some_word computed.keeper
 
 abbrev IsNoBeginning : ℕ → Happening → Type 0
-IsNoBeginning n x = begins_none x ≡ true
+IsNoBeginning n x = begins_no_second x ≡ true
 
 pub never-begins : (x : ℕ) (cause : Cause) → Begins missed x 1 (id 2) cause → ⊥
 never-begins x cause b =
-    none-begins b.event
+    no-second-begins b.event
     (each-at IsNoBeginning missed
-    (each-passes IsNoBeginning begins_none (λ n y none. none) missed computed.never) x b.event b.at
+    (each-passes IsNoBeginning begins_no_second (λ n y none. none) missed computed.never) x b.event
+    b.at
     b.within)
     b.an b.epoch cause (contains-in b.event.facts _ b.fact)
 
-pub not-steady : (lag : ℕ) → ¬ (IsSteady settings missed made made start 0 (id 1) (id 2) lag)
+pub not-steady : (lag : ℕ) → ¬ (IsSteady settings missed (missed_rollover lag))
 not-steady lag s =
     let short = s.lag_short in
     let begun_in = computed.begun_in in
     let ended_in = computed.ended_in in
-    let b = s.begun 1 bob_said word keeps (omega (arith, short, begun_in, ended_in)) in
+    let b = s.begun 1 bob_said word (keeps lag) (omega (arith, short, begun_in, ended_in)) in
     never-begins b.0 b.1 b.2

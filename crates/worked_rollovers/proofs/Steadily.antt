@@ -6,6 +6,7 @@ use Rattle.std.specs.Prelude.{◌==◌, ◌&&◌, ◌||◌, nat_lt, nat_le, Cont
 use Rattle.std.specs.List.{list_all}
 use Rattle.std.proofs.lemmas.Bool.{and_parts, eqb-true, eq-eqb, leb-true}
 use Rattle.std.proofs.lemmas.List.Elements.{Contains-push}
+use Rattle.lan_base.specs.declared.association_number.AssociationNumber.{AssociationNumber}
 use Rattle.lan_base.specs.declared.address.Mi.{Mi}
 use Rattle.lan_base.specs.declared.key_id.KeyId.{KeyId}
 use Rattle.lan_base.specs.Identifiers.{same_mi}
@@ -26,8 +27,11 @@ use Rattle.sak_exchange.specs.Reports.{reports_old}
 use Rattle.lan_core.specs.Lives.{Life, life, setup_of}
 use Rattle.group_safety.specs.Moments.{upto, At}
 use Rattle.group_safety.specs.Stations.{mi_at, mi_of, server_at, server_of}
-use Rattle.group_safety.specs.Steady.{Begins, Makes, Sends, IsListener, IsKeeper, Trusts}
-use Rattle.group_safety.proofs.Public.{In, contains-in, in-contains, in-left, all-in, by_sum, some-same, upto-all, upto-on, Each, each-at, Along, along-at, frames_none, none-framed, last-framed, good-spelled}
+use Rattle.group_safety.specs.Steady.{Begins, Makes, Sends, Rollover, IsListener, IsKeeper, Trusts}
+use Rattle.group_safety.proofs.Public.{In, contains-in, in-contains, in-left, all-in, by_sum}
+use Rattle.group_safety.proofs.Public.{some-same, upto-whole, upto-earlier, Each, each-at, Along}
+use Rattle.group_safety.proofs.Public.{along-at, frames_none, frames_none-framed, last-frame_says}
+use Rattle.group_safety.proofs.Public.{sayable-right}
 use Rattle.worked_rollovers.specs.Group.{settings, profile}
 use Rattle.worked_rollovers.specs.Deeds.{Deed, tells, emits, plain, happens, run_of, whole}
 use Rattle.worked_rollovers.specs.Deeds.{told, framed_by}
@@ -57,19 +61,19 @@ deed-at n (c ∷ ds) d e =
     (λ t. let here : length ds ≡ n = eqb-true (length ds) n t in
     let one : Some c ≡ Some d = rw t at e in
     let this : c ≡ d = some-same one in (
-      upto-all (suc n) (happens c ∷ run_of ds) (omega (arith, here, same))
+      upto-whole (suc n) (happens c ∷ run_of ds) (omega (arith, here, same))
           ∙ ap (λ (q : Run). happens c ∷ q)
-          (sym (upto-on n (happens c) (run_of ds) (omega (arith, here, same))
-          ∙ upto-all n (run_of ds) (omega (arith, here, same))))
+          (sym (upto-earlier n (happens c) (run_of ds) (omega (arith, here, same))
+          ∙ upto-whole n (run_of ds) (omega (arith, here, same))))
           ∙ ap (λ w. happens w ∷ upto n (happens c ∷ run_of ds)) this,
       omega (arith, here, same),
     ))
     (λ t. let there : deed_at n ds ≡ Some d = rw t at e in
     let on = deed-at n ds d there in
     let low = on.1 in (
-      upto-on (suc n) (happens c) (run_of ds) (omega (arith, low)) ∙ on.0
+      upto-earlier (suc n) (happens c) (run_of ds) (omega (arith, low)) ∙ on.0
           ∙ ap (λ (q : Run). happens d ∷ q)
-          (sym (upto-on n (happens c) (run_of ds) (omega (arith, low)))),
+          (sym (upto-earlier n (happens c) (run_of ds) (omega (arith, low)))),
       omega (arith, low),
     ))
 
@@ -178,7 +182,7 @@ each-placed at mi mn (tells s next f n a g ∷ ds) hushed read said =
     let good = and_parts (is_good a && is_gift g) (list_all is_readable ds) read in
     let mine = and_parts (is_good a) (is_gift g) good.0 in (
       (λ m t octets q b i spelled is_mi is_mn.
-          let parts = last-framed f n s (profile s) (whole a g) quiet.0
+          let parts = last-frame_says f n s (profile s) (whole a g) quiet.0
           (good-is a g mine.0 mine.1) m t octets q b i spelled in
           let here = placed at mi mn s (length ds) a p.0
           (sym (ap (λ (w : Announcement). w.mi) parts.1) ∙ is_mi)
@@ -192,7 +196,7 @@ each-placed at mi mn (emits n pn ∷ ds) hushed read said = (
 )
 each-placed at mi mn (plain e f ∷ ds) hushed read said =
     let quiet = and_parts (frames_none f) (list_all is_hushed ds) hushed in (
-      (λ m t octets q b i spelled is_mi is_mn. absurd (none-framed f quiet.0 m t octets i)),
+      (λ m t octets q b i spelled is_mi is_mn. absurd (frames_none-framed f quiet.0 m t octets i)),
       each-placed at mi mn ds quiet.1 read said,
     )
 
@@ -207,22 +211,23 @@ sender-is at mi mn ds hushed read said t sent a s is_mi is_mn =
 
 -- ---- listeners
 
--- what live members say to alice
+-- what live members say to a station
 abbrev pub words_of : Option Life → List Accepted
 words_of None = []
 words_of (Some l) = live_words l.member (peers_of l.member l.past)
 
 -- what holds of each word holds of what a listener says
-pub listener-word : (p : Accepted → Bool) (ds : List Deed) (i t sent : ℕ) (says : Accepted)
-    → list_all is_bare (told_upto (suc i) ds) ≡ true
-    → list_all is_readable (told_upto (suc i) ds) ≡ true
-    → list_all p (words_of (life_by 0 (told_upto (suc i) ds))) ≡ true
-    → IsListener settings (run_of ds) i 0 t sent says → p says ≡ true
-listener-word p ds i t sent says bare read all l =
-    let then = told_upto (suc i) ds in
-    let lives : life_by 0 then ≡ Some l.server_life =
-    sym (life-is 0 then bare read) ∙ ap (life settings 0) (sym (run-upto (suc i) ds)) ∙ l.living in
-    all-in p (words_of (Some l.server_life)) (ap (λ o. list_all p (words_of o)) (sym lives) ∙ all)
+pub listener-word : (p : Accepted → Bool) (ds : List Deed) (o : Rollover) (t sent : ℕ)
+    (says : Accepted) → list_all is_bare (told_upto (suc o.start) ds) ≡ true
+    → list_all is_readable (told_upto (suc o.start) ds) ≡ true
+    → list_all p (words_of (life_by o.server (told_upto (suc o.start) ds))) ≡ true
+    → IsListener settings (run_of ds) o t sent says → p says ≡ true
+listener-word p ds o t sent says bare read all l =
+    let then = told_upto (suc o.start) ds in
+    let lives : life_by o.server then ≡ Some l.server_life =
+    sym (life-is o.server then bare read)
+    ∙ ap (life settings o.server) (sym (run-upto (suc o.start) ds)) ∙ l.living in
+    all-in p (words_of (Some l.server_life)) (ap (λ w. list_all p (words_of w)) (sym lives) ∙ all)
     says (contains-in (words_of (Some l.server_life)) says l.live)
 
 -- ---- what comes at a moment
@@ -253,7 +258,8 @@ shown (Some (tells s next f n a g)) y i = in-left f (told n s a g ∷ []) y i
 shown (Some (emits n pn)) y i = elim i [ ]
 shown (Some (plain e f)) y i = i
 
-pub begins-at : (n s an epoch : ℕ) (i : KeyId) (c : Cause) (ds : List Deed)
+pub begins-at : (n s : ℕ) (an : AssociationNumber) (epoch : ℕ) (i : KeyId) (c : Cause)
+    (ds : List Deed)
     → is_some (deed_at n ds) ≡ true
     → In (facts.Began s i an epoch c) (facts_in (deed_at n ds)) → Begins (run_of ds) n s i c
 begins-at n s an epoch i c ds here fact =
@@ -268,7 +274,8 @@ begins-at n s an epoch i c ds here fact =
           (shown (deed_at n ds) (facts.Began s i an epoch c) fact);
     }
 
-pub makes-at : (n s an epoch next : ℕ) (i : KeyId) (k : Secret) (ds : List Deed)
+pub makes-at : (n s : ℕ) (an : AssociationNumber) (epoch next : ℕ) (i : KeyId) (k : Secret)
+    (ds : List Deed)
     → is_some (deed_at n ds) ≡ true
     → (happening (deed_at n ds)).event ≡ events.Tick s next
     → In (facts.Installed s i an epoch k) (facts_in (deed_at n ds)) → Makes (run_of ds) n s i
@@ -352,7 +359,7 @@ sends-at s n ds read here e = go (deed_at n ds) refl e
               (Contains-push f (told m t a g));
           profile = profile s;
           here = in-contains (stations (run_of ds)) (profile s) here;
-          spelled = good-spelled (profile t) (profile s) (whole a g) (good-is a g good.0 good.1);
+          spelled = sayable-right (profile t) (profile s) (whole a g) (good-is a g good.0 good.1);
         }
 
 -- ---- a listener and a keeper, decided
@@ -404,37 +411,39 @@ life-upto s n ds bare read =
     ap (life settings s) (run-upto n ds)
     ∙ life-is s (told_upto n ds) (all-upto is_bare n ds bare) (all-upto is_readable n ds read)
 
-abbrev pub words_then : ℕ → List Deed → List Accepted
-words_then i ds = words_of (life_by 0 (told_upto (suc i) ds))
+-- to the server, right after it begins the new key
+abbrev pub words_then : Rollover → List Deed → List Accepted
+words_then o ds = words_of (life_by o.server (told_upto (suc o.start) ds))
 
-pub keeper-is : (i s sent : ℕ) (old_id : KeyId) (ds : List Deed) → list_all is_bare ds ≡ true
+pub keeper-is : (o : Rollover) (s sent : ℕ) (ds : List Deed) → list_all is_bare ds ≡ true
     → list_all is_readable ds ≡ true → In (profile s) (stations (run_of ds))
-    → nat_lt 0 (length (words_then i ds)) ≡ true
-    → is_keeper s sent old_id (first_word (words_then i ds)) ds ≡ true
-    → IsKeeper settings (run_of ds) i 0 old_id s sent (first_word (words_then i ds))
-keeper-is i s sent old_id ds bare read here some e =
-    let word = first_word (words_then i ds) in
-    let keeps = and_parts (is_listener s sent word ds) (reports_old old_id word.told.uses) e in
+    → nat_lt 0 (length (words_then o ds)) ≡ true
+    → is_keeper s sent o.old_id (first_word (words_then o ds)) ds ≡ true
+    → IsKeeper settings (run_of ds) o s sent (first_word (words_then o ds))
+keeper-is o s sent ds bare read here some e =
+    let word = first_word (words_then o ds) in
+    let keeps = and_parts (is_listener s sent word ds) (reports_old o.old_id word.told.uses) e in
     let says = and_parts (is_telling s (deed_at sent ds)) _ keeps.0 in
     let spoken = and_parts (same_mi (announced_in (deed_at sent ds)).mi word.told.mi) _ says.1 in
     record {
-      listener = go (life_by 0 (told_upto (suc i) ds)) refl word
-          (first-in (words_then i ds) some)
+      listener = go (life_by o.server (told_upto (suc o.start) ds)) refl word
+          (first-in (words_then o ds) some)
           (same_mi-equal (announced_in (deed_at sent ds)).mi word.told.mi spoken.0)
           (eqb-true (announced_in (deed_at sent ds)).mn word.told.mn spoken.1)
           (sends-at s sent ds read here says.0);
       keeps = keeps.1;
     }
   where
-    go : (o : Option Life) → life_by 0 (told_upto (suc i) ds) ≡ o → (word : Accepted)
-        → In word (words_of o) → (announced_in (deed_at sent ds)).mi ≡ word.told.mi
+    go : (then : Option Life) → life_by o.server (told_upto (suc o.start) ds) ≡ then
+        → (word : Accepted) → In word (words_of then)
+        → (announced_in (deed_at sent ds)).mi ≡ word.told.mi
         → (announced_in (deed_at sent ds)).mn ≡ word.told.mn
         → Sends settings (run_of ds) sent s (announced_in (deed_at sent ds))
-        → IsListener settings (run_of ds) i 0 s sent word
+        → IsListener settings (run_of ds) o s sent word
     go None same word live mi mn sends = elim live [ ]
     go (Some l) same word live mi mn sends = record {
       server_life = l;
-      living = life-upto 0 (suc i) ds bare read ∙ same;
+      living = life-upto o.server (suc o.start) ds bare read ∙ same;
       live = in-contains (words_of (Some l)) word live;
       announcement = announced_in (deed_at sent ds);
       sends = sends;

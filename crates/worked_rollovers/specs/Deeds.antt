@@ -1,10 +1,14 @@
 -- Events as they are told: with what frames of key agreement say, in place of their octets.
-use Rattle.std.specs.Prelude.{ℕ, ◌==◌, cond, List, [], ◌∷◌, ◌++◌, Option, Some, None, true, false}
+use Rattle.std.specs.Prelude.{ℕ, ◌==◌, if◌then◌else◌, List, [], ◌∷◌, ◌++◌, Option, Some, None, true}
+use Rattle.std.specs.Prelude.{false}
+use Rattle.lan_base.specs.declared.association_number.AssociationNumber.{AssociationNumber}
+use Rattle.lan_base.specs.declared.association_number.AssociationNumber.TheVariants.{An0}
 use Rattle.gcm_frames.specs.Protected.{protected}
 use Rattle.key_wrap.specs.Wrap.{wrapped}
 use Rattle.mkpdu_codec.specs.declared.announcement.Announcement.{Announcement}
 use Rattle.mkpdu_codec.specs.declared.given.Given.{Given}
 use Rattle.mkpdu_codec.specs.declared.given.Given.TheVariants.{Aes128}
+use Rattle.mkpdu_codec.specs.declared.offset.ConfidentialityOffset.TheVariants.{Octets0}
 use Rattle.mka_station.specs.Announcing.{frame_of}
 use Rattle.lan_core.specs.declared.event.Event.{Event}
 use Rattle.lan_core.specs.declared.event.Event.TheVariants as events
@@ -16,13 +20,13 @@ use Rattle.worked_rollovers.specs.Group.{settings, profile, octets_of_sak, draw_
 
 -- a key that is given: its association number and its key number
 pub record Gift : Type 0 where
-  pub an : ℕ
+  pub an : AssociationNumber
   pub number : ℕ
 
 abbrev pub given_of : Option Gift → Option Given
 given_of None = None
 given_of (Some g) =
-    Some (Aes128 g.an 1 g.number (wrapped (setup_of settings bob).kek
+    Some (Aes128 g.an Octets0 g.number (wrapped (setup_of settings bob).kek
     (octets_of_sak (draw_of g.number))))
 
 -- an announcement with the key that it gives
@@ -35,7 +39,7 @@ framed_by p a = frame_of (setup_of settings p) a
 
 -- a frame that bob protects under the first key
 abbrev pub carried : ℕ → List ℕ
-carried pn = protected (octets_of_sak 3) bob.sci 0 pn true user
+carried pn = protected (octets_of_sak 3) bob.sci An0 pn true user
 
 -- ---- what happens
 
@@ -67,6 +71,6 @@ pub data Paper : Type 0 where
 
 abbrev pub on_air : List Deed → ℕ → Option Paper
 on_air [] n = None
-on_air (tells s next f m a g ∷ ds) n = cond (m == n) (Some (says s a g)) (on_air ds n)
-on_air (emits m pn ∷ ds) n = cond (m == n) (Some (carries pn)) (on_air ds n)
+on_air (tells s next f m a g ∷ ds) n = if m == n then Some (says s a g) else on_air ds n
+on_air (emits m pn ∷ ds) n = if m == n then Some (carries pn) else on_air ds n
 on_air (plain e f ∷ ds) n = on_air ds n

@@ -1,12 +1,14 @@
 -- Three stations of one group, and the keys that alice makes.
-use Rattle.std.specs.Prelude.{ℕ, ◌==◌, cond, List, [], ◌∷◌, ◌++◌, replicate, true}
+use Rattle.std.specs.Prelude.{ℕ, ◌==◌, if◌then◌else◌, List, [], ◌∷◌, ◌++◌, replicate, true}
+use Rattle.lan_base.specs.declared.association_number.AssociationNumber.TheVariants.{An0}
 use Rattle.lan_base.specs.declared.address.Mi.{Mi}
 use Rattle.lan_base.specs.declared.address.Sci.{Sci}
 use Rattle.lan_base.specs.declared.key_id.KeyId.{KeyId}
 use Rattle.lan_base.specs.declared.frame.UserFrame.{UserFrame}
+use Rattle.lan_base.specs.declared.suite.Suite.TheVariants.{GcmAes128}
 use Rattle.aes_block.specs.declared.secret.Secret.{Secret}
 use Rattle.aes_block.specs.declared.secret.Secret.TheVariants.{S128}
-use Rattle.sak_exchange.specs.Histories.{Key}
+use Rattle.sak_exchange.specs.declared.held_key.Key.{Key}
 use Rattle.lan_core.specs.declared.settings.Settings.{Settings}
 use Rattle.lan_core.specs.Run.{Profile}
 
@@ -17,7 +19,7 @@ settings = record {
   conf = true;
   window = 0;
   rekey = 3221225472;
-  suite = 128;
+  suite = GcmAes128;
 }
 
 -- the member identifier of a draw
@@ -38,7 +40,7 @@ carol = record { name = 67 ∷ []; sci = sci 12; priority = 64 }
 
 -- alice is station 0, bob station 1 and carol station 2
 abbrev pub profile : ℕ → Profile
-profile s = cond (s == 0) alice (cond (s == 1) bob carol)
+profile s = if s == 0 then alice else if s == 1 then bob else carol
 
 -- the SAK of a draw
 abbrev pub octets_of_sak : ℕ → List ℕ
@@ -49,14 +51,14 @@ sak n = S128 (octets_of_sak n)
 
 -- which draw is the SAK of the key of a number
 abbrev pub draw_of : ℕ → ℕ
-draw_of number = cond (number == 1) 3 5
+draw_of number = if number == 1 then 3 else 5
 
 -- the identifiers of alice's keys
 abbrev pub id : ℕ → KeyId
 id n = record { server = mi 1; number = n }
 
 abbrev pub first_key : Key
-first_key = record { id = id 1; an = 0; sak = sak 3; conf = true; epoch = 1 }
+first_key = record { id = id 1; an = An0; sak = sak 3; conf = true; epoch = 1 }
 
 -- what bob sends
 abbrev pub user : UserFrame

@@ -1,12 +1,13 @@
 -- The life of a station, computed of what is told: no octets are read and no cipher is computed.
-use Rattle.std.specs.Prelude.{ℕ, ◌==◌, ◌&&◌, not, cond, List, [], ◌∷◌, Bool, true, false}
+use Rattle.std.specs.Prelude.{ℕ, ◌==◌, ◌&&◌, not, if◌then◌else◌, List, [], ◌∷◌, Bool, true, false}
 use Rattle.std.specs.Prelude.{Option, Some, None, option_map, Result}
 use Rattle.aes_block.specs.declared.secret.Secret.{Secret}
 use Rattle.mkpdu_codec.specs.declared.announcement.Announcement.{Announcement}
 use Rattle.sak_exchange.specs.declared.due.Seen.{Seen}
 use Rattle.sak_exchange.specs.declared.offer.Offer.{Offer}
 use Rattle.sak_exchange.specs.declared.change.Why.{Why}
-use Rattle.sak_exchange.specs.Histories.{Key, Keying}
+use Rattle.sak_exchange.specs.declared.held_key.Key.{Key}
+use Rattle.sak_exchange.specs.Histories.{Keying}
 use Rattle.sak_exchange.specs.Taking.{taken}
 use Rattle.mka_station.specs.Lives.{Member, Entry, heard}
 use Rattle.mka_station.specs.Views.{view}
@@ -59,7 +60,8 @@ abbrev pub seen : ℕ → Seen
 seen next = record { next = next; latest = 1; old = 1 }
 
 abbrev pub seen_by : ℕ → List Deed → ℕ → Life → Seen
-seen_by s ds next l = cond (is_silent s ds) (seen next) (seen_at settings s (run_of ds) l next)
+seen_by s ds next l =
+    if is_silent s ds then seen next else seen_at settings s (run_of ds) l next
 
 abbrev pub ticked_by : ℕ → List Deed → ℕ → List Fact → Life → Life
 ticked_by s ds next f l = lived l (tick_turn l.member (seen_by s ds next l) (sak_in f) l.past)
@@ -73,15 +75,16 @@ reads (Some (carries pn)) l = l
 
 abbrev pub life_on : ℕ → List Deed → Deed → Option Life → Option Life
 life_on s ds (tells t next f n a g) l =
-    cond (t == s)
-    (option_map (ticked_by s ds next (happens (tells t next f n a g)).facts) l) l
+    if t == s
+    then option_map (ticked_by s ds next (happens (tells t next f n a g)).facts) l
+    else l
 life_on s ds (emits n pn) l = l
 life_on s ds (plain (events.Start name sci priority) f) l =
     life_after settings s (run_of ds) f (events.Start name sci priority) l
 life_on s ds (plain (events.Tick t next) f) l =
-    cond (t == s) (option_map (ticked_by s ds next f) l) l
+    if t == s then option_map (ticked_by s ds next f) l else l
 life_on s ds (plain (events.Deliver n t) f) l =
-    cond (t == s) (option_map (reads (on_air ds n)) l) l
+    if t == s then option_map (reads (on_air ds n)) l else l
 life_on s ds (plain (events.Restart t) f) l =
     life_after settings s (run_of ds) f (events.Restart t) l
 life_on s ds (plain (events.Claim t user pn) f) l = l

@@ -1,6 +1,9 @@
 -- Two rollovers of three stations, each told by a few lines.
 use Rattle.std.specs.Prelude.{ℕ, ◌==◌, ◌&&◌, not, Bool, List, [], ◌∷◌}
 use Rattle.lan_core.specs.Run.{Run}
+use Rattle.group_safety.specs.Steady.{Rollover}
+use Rattle.group_safety.specs.Time.{Flight}
+use Rattle.worked_rollovers.specs.Group.{id, first_key}
 use Rattle.worked_rollovers.specs.Deeds.{Deed, run_of}
 use Rattle.worked_rollovers.specs.Script.{Story, begin, send, deliver, flow, always}
 
@@ -29,6 +32,29 @@ late_deeds = late_story.deeds
 abbrev pub late : Run
 late = run_of late_deeds
 
+-- alice makes the second key in event 41 and begins it in event 57; nobody lags
+abbrev pub late_rollover : Rollover
+late_rollover = record {
+  server = 0;
+  made = 41;
+  start = 57;
+  old_id = id 1;
+  new_id = id 2;
+  lag = 0;
+  from = 41;
+}
+
+-- bob claimed the frame in event 55, and it reaches a station in another
+abbrev pub late_flight : ℕ → ℕ → Flight
+late_flight receiver delivery = record {
+  frame = 18;
+  key = first_key;
+  sender = 1;
+  claim = 55;
+  receiver = receiver;
+  delivery = delivery;
+}
+
 -- ---- a missed flag
 
 -- the way from alice to bob is cut
@@ -44,3 +70,16 @@ missed_deeds = missed_story.deeds
 
 abbrev pub missed : Run
 missed = run_of missed_deeds
+
+-- alice makes the second key in event 41 and begins it in event 55; the members may lag so many
+-- rounds
+abbrev pub missed_rollover : ℕ → Rollover
+missed_rollover lag = record {
+  server = 0;
+  made = 41;
+  start = 55;
+  old_id = id 1;
+  new_id = id 2;
+  lag = lag;
+  from = 41;
+}

@@ -1,8 +1,10 @@
 -- The lines of a script. What ticks and announcements show is computed of the lives before them, by
 -- the definitions of a station; what the receive slots answer is told.
 use Rattle.std.specs.Prelude.{ℕ, zero, suc, ◌+◌, ◌-◌, List, [], ◌∷◌, ◌++◌, Bool, true, false}
-use Rattle.std.specs.Prelude.{cond, not, Option, Some, None, ◌==◌, ◌&&◌, option_map}
+use Rattle.std.specs.Prelude.{if◌then◌else◌, not, Option, Some, None, ◌==◌, ◌&&◌, option_map}
 use Rattle.std.specs.List.{list_any, filter}
+use Rattle.lan_base.specs.declared.association_number.AssociationNumber.TheVariants.{An0}
+use Rattle.lan_base.specs.AssociationNumbers.{same_an}
 use Rattle.aes_block.specs.declared.secret.Secret.{Secret}
 use Rattle.mkpdu_codec.specs.declared.announcement.Announcement.{Announcement}
 use Rattle.mkpdu_codec.specs.declared.given.Given.{Given}
@@ -11,7 +13,8 @@ use Rattle.peer_lists.specs.Histories.{clock}
 use Rattle.rx_slots.specs.declared.arrival.Arrival.{Arrival}
 use Rattle.rx_slots.specs.declared.arrival.Arrival.TheVariants as arrivals
 use Rattle.sak_exchange.specs.declared.due.Seen.{Seen}
-use Rattle.sak_exchange.specs.Histories.{Key, made_count}
+use Rattle.sak_exchange.specs.declared.held_key.Key.{Key}
+use Rattle.sak_exchange.specs.Histories.{made_count}
 use Rattle.sak_exchange.specs.Held.{received, transmitting}
 use Rattle.sak_exchange.specs.Outcomes.{beginning}
 use Rattle.mka_station.specs.declared.reaction.Reaction.{Reaction}
@@ -46,7 +49,7 @@ has_claimed (d ∷ ds) = has_claimed ds
 -- the next packet number that a tick shows
 abbrev pub next_in : ℕ → List Deed → Option Key → ℕ
 next_in s ds None = 0
-next_in s ds (Some k) = cond ((s == 1) && ((k.epoch == 1) && has_claimed ds)) 2 1
+next_in s ds (Some k) = if (s == 1) && ((k.epoch == 1) && has_claimed ds) then 2 else 1
 
 -- the SAK that would be drawn for the next key of a life
 abbrev pub sak_for : Life → Secret
@@ -57,7 +60,7 @@ abbrev pub sees : ℕ → List Deed → ℕ → Seen
 sees s ds next = record {
   next = next;
   latest = 1;
-  old = cond ((s == 0) && not (is_silent 0 ds)) 2 1;
+  old = if (s == 0) && not (is_silent 0 ds) then 2 else 1;
 }
 
 abbrev pub gift_in : Option Given → Option Gift
@@ -108,13 +111,14 @@ reaction_by m a hidden p =
 
 -- whether a station receives the first key
 abbrev pub has_first : Life → Bool
-has_first l = list_any (λ k. k.an == 0) (received (keys_in l))
+has_first l = list_any (λ k. same_an k.an An0) (received (keys_in l))
 
 abbrev pub arrival_by : ℕ → List Deed → ℕ → Life → Arrival
 arrival_by s ds pn l =
-    cond (s == 1) arrivals.Own
-    (cond (not (has_first l)) (arrivals.Missed 0)
-    (cond (is_silent s ds) (arrivals.Accepted pn user.body) (arrivals.Late (pn + 1))))
+    if s == 1 then arrivals.Own
+    else if not (has_first l) then arrivals.Missed An0
+    else if is_silent s ds then arrivals.Accepted pn user.body
+    else arrivals.Late (pn + 1)
 
 abbrev pub shown_by : ℕ → ℕ → List Deed → Option Paper → Life → List Fact
 shown_by n s ds None l = []
@@ -139,7 +143,7 @@ begin s m x = with_deed (Some (plain
 -- bob claims the number 1 of the first key, and the frame goes on the air
 unfoldable pub send : Story → Story
 send x = with_deed (Some (emits x.frame 1))
-    (with_deed (Some (plain (events.Claim 1 1 1) (facts.Claimed 1 0 1 1 ∷ []))) x)
+    (with_deed (Some (plain (events.Claim 1 1 1) (facts.Claimed 1 An0 1 1 ∷ []))) x)
 
 abbrev pub each : {A : Type 0} → (Story → A → Story) → List A → Story → Story
 each f [] x = x

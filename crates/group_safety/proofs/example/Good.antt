@@ -9,7 +9,7 @@ use Rattle.mkpdu_codec.specs.Sets.{IsPeer}
 use Rattle.lan_core.specs.Types.{IsMi, IsSecret}
 use Rattle.group_safety.proofs.once.Ciphers.{wrapped-length}
 use Rattle.group_safety.proofs.once.Living.{group_kek, kek-key}
-use Rattle.group_safety.proofs.example.Scene.{settings, octets_of, set_up, IsGood}
+use Rattle.group_safety.proofs.example.Scene.{settings, octets_of, set_up, IsSayable}
 use Rattle.group_safety.proofs.example.Run.{mi, sci, octets_of_sak, sak, a1, b1, a2, b2, a3, c1, a4}
 use Rattle.group_safety.proofs.example.Run.{c2, a5}
 
@@ -26,13 +26,13 @@ pub one : (m n : ℕ) → n < 2 ^ 32 → All IsPeer (record { mi = mi m; mn = n 
 one m n small = All-cons IsPeer (record { mi = mi m; mn = n }) [] (record { mi = refl; mn = small })
     (All-nil IsPeer)
 
-pub wraps : (n : ℕ) → nat_lt n 256 ≡ true
+pub length-wrapped_sak : (n : ℕ) → nat_lt n 256 ≡ true
     → length (wrapped (group_kek settings) (octets_of_sak n)) ≡ 24
-wraps n small =
+length-wrapped_sak n small =
     wrapped-length (group_kek settings) (octets_of_sak n) 16 (kek-key settings set_up) (omega arith)
     refl (sak_is n small).1
 
-pub good_a1 : IsGood a1
+pub good_a1 : IsSayable a1
 good_a1 = record {
   writable =
       record {
@@ -41,7 +41,6 @@ good_a1 = record {
         live = omega arith;
         potential =
             omega arith;
-        uses = tt;
         given = tt;
       };
   typed = record {
@@ -57,7 +56,7 @@ good_a1 = record {
   named = refl;
 }
 
-pub good_b1 : IsGood b1
+pub good_b1 : IsSayable b1
 good_b1 = record {
   writable =
       record {
@@ -66,7 +65,6 @@ good_b1 = record {
         live = omega arith;
         potential =
             omega arith;
-        uses = tt;
         given = tt;
       };
   typed = record {
@@ -82,15 +80,14 @@ good_b1 = record {
   named = refl;
 }
 
-pub good_a2 : IsGood a2
+pub good_a2 : IsSayable a2
 good_a2 = record {
   writable = record {
     source = refl;
     named = (omega arith, omega arith);
     live = omega arith;
     potential = omega arith;
-    uses = (omega arith, omega arith);
-    given = (omega arith, omega arith);
+    given = tt;
   };
   typed = record {
     sci = refl;
@@ -103,19 +100,18 @@ good_a2 = record {
       record { server = refl; number = omega arith; lowest = omega arith },
       record { server = refl; number = omega arith; lowest = omega arith },
     );
-    given = (omega arith, wraps 1 refl);
+    given = (omega arith, length-wrapped_sak 1 refl);
   };
   named = refl;
 }
 
-pub good_b2 : IsGood b2
+pub good_b2 : IsSayable b2
 good_b2 = record {
   writable = record {
     source = refl;
     named = (omega arith, omega arith);
     live = omega arith;
     potential = omega arith;
-    uses = (omega arith, omega arith);
     given = tt;
   };
   typed = record {
@@ -134,14 +130,13 @@ good_b2 = record {
   named = refl;
 }
 
-pub good_a3 : IsGood a3
+pub good_a3 : IsSayable a3
 good_a3 = record {
   writable = record {
     source = refl;
     named = (omega arith, omega arith);
     live = omega arith;
     potential = omega arith;
-    uses = (omega arith, omega arith);
     given = tt;
   };
   typed = record {
@@ -160,7 +155,7 @@ good_a3 = record {
   named = refl;
 }
 
-pub good_c1 : IsGood c1
+pub good_c1 : IsSayable c1
 good_c1 = record {
   writable =
       record {
@@ -169,7 +164,6 @@ good_c1 = record {
         live = omega arith;
         potential =
             omega arith;
-        uses = tt;
         given = tt;
       };
   typed = record {
@@ -185,15 +179,14 @@ good_c1 = record {
   named = refl;
 }
 
-pub good_a4 : IsGood a4
+pub good_a4 : IsSayable a4
 good_a4 = record {
   writable = record {
     source = refl;
     named = (omega arith, omega arith);
     live = omega arith;
     potential = omega arith;
-    uses = (omega arith, omega arith);
-    given = (omega arith, omega arith);
+    given = tt;
   };
   typed = record {
     sci = refl;
@@ -206,19 +199,18 @@ good_a4 = record {
       record { server = refl; number = omega arith; lowest = omega arith },
       record { server = refl; number = omega arith; lowest = omega arith },
     );
-    given = (omega arith, wraps 2 refl);
+    given = (omega arith, length-wrapped_sak 2 refl);
   };
   named = refl;
 }
 
-pub good_c2 : IsGood c2
+pub good_c2 : IsSayable c2
 good_c2 = record {
   writable = record {
     source = refl;
     named = (omega arith, omega arith);
     live = omega arith;
     potential = omega arith;
-    uses = (omega arith, omega arith);
     given = tt;
   };
   typed = record {
@@ -237,14 +229,13 @@ good_c2 = record {
   named = refl;
 }
 
-pub good_a5 : IsGood a5
+pub good_a5 : IsSayable a5
 good_a5 = record {
   writable = record {
     source = refl;
     named = (omega arith, omega arith);
     live = omega arith;
     potential = omega arith;
-    uses = (omega arith, omega arith);
     given = tt;
   };
   typed = record {

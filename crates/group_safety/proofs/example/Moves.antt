@@ -12,7 +12,7 @@ use Rattle.gcm_frames.specs.Tags.{is_sec}
 use Rattle.mkpdu_codec.specs.declared.announcement.Announcement.{Announcement}
 use Rattle.peer_lists.specs.Histories.{clock}
 use Rattle.rx_slots.specs.Numbers.{answer}
-use Rattle.sak_exchange.specs.Histories.{Key}
+use Rattle.sak_exchange.specs.declared.held_key.Key.{Key}
 use Rattle.sak_exchange.specs.Held.{transmitting}
 use Rattle.mka_station.specs.Lives.{Entry, peers_of}
 use Rattle.mka_station.specs.Tick.{tick_turn}
@@ -36,8 +36,9 @@ use Rattle.group_safety.proofs.Members.{In, in-either}
 use Rattle.group_safety.proofs.once.Currents.{some-same, none-some}
 use Rattle.group_safety.proofs.once.Nexts.{life-next, stations-next}
 use Rattle.group_safety.proofs.once.StartKept.{begins}
-use Rattle.group_safety.proofs.example.Scene.{settings, IsGood, framed_by, good-plain, good-right}
-use Rattle.group_safety.proofs.example.Scene.{good-short, seen, silent-seen, IsPlainTo}
+use Rattle.group_safety.proofs.example.Scene.{settings, IsSayable, framed_by, sayable-unprotected}
+use Rattle.group_safety.proofs.example.Scene.{sayable-judged}
+use Rattle.group_safety.proofs.example.Scene.{good-short, seen, seen-silent, IsPlainTo}
 use Rattle.group_safety.proofs.example.Scene.{is_few, most_next, next-most, Lives, with_one_life}
 use Rattle.group_safety.proofs.example.Scene.{Scene, goes-on}
 
@@ -67,7 +68,7 @@ abbrev pub sends : ℕ → ℕ → Profile → Announcement → List Frame
 sends number s p a =
     record { number = number; station = s; sec = false; octets = framed_by p a } ∷ []
 
-pub sends-short : (number s : ℕ) (p : Profile) (a : Announcement) → IsGood a
+pub sends-short : (number s : ℕ) (p : Profile) (a : Announcement) → IsSayable a
     → (f : Frame) → In f (sends number s p a) → length f.octets ≤ 70000
 sends-short number s p a good f (inl e) = subst (λ (w : Frame). length w.octets ≤ 70000) (sym e)
     (good-short p a good)
@@ -132,7 +133,7 @@ tick-moves users ps r ls s next f p sent v c exists typed shown drawn on_air sho
     l' = record l { past = p }
 
     sees : seen_at settings s r l next ≡ seen next
-    sees = silent-seen s r l next (v.silent s)
+    sees = seen-silent s r l next (v.silent s)
 
     told : tick_facts settings s r next (sak_in f) l ≡ f
     told = ap (λ w. facts.Ticked s (clock (peers_of l.member l.past) + 1) next
@@ -170,7 +171,7 @@ pub record Hears (r : Run) (s number : ℕ) (f : List Fact) (l : Life) (a : Anno
 pub hear-moves : (users : List UserFrame) (ps : List Profile) (r : Run) (ls : Lives)
     (s number : ℕ) (f : List Fact) (a : Announcement) (p : List Entry) (q : Profile) (frame : Frame)
     → let x = happened (events.Deliver number s) f in let l = ls s in
-    Scene users ps r ls → Hears r s number f l a p → IsGood a → s < length ps → IsTyped x.event
+    Scene users ps r ls → Hears r s number f l a p → IsSayable a → s < length ps → IsTyped x.event
     → frame_at r number ≡ Some frame → frame.octets ≡ framed_by q a → (own : Profile)
     → l.member.setup ≡ setup_of settings own → air (x ∷ r) ≡ air r → is_few (x ∷ r) ≡ true
     → stations (x ∷ r) ≡ ps → ((ahead : Ahead) → is_excused_by settings r ahead f ≡ true)
@@ -204,11 +205,11 @@ hear-moves users ps r ls s number f a p q frame v c good exists typed at octets 
     l' = record l { past = p }
 
     not-sec : is_sec frame.octets ≡ false
-    not-sec = ap is_sec octets ∙ good-plain q a good
+    not-sec = ap is_sec octets ∙ sayable-unprotected q a good
 
     right : judged l.member.setup frame.octets ≡ Ok a
     right = ap (λ w. judged w frame.octets) set_up ∙ ap (judged (setup_of settings own)) octets
-        ∙ good-right q own a good
+        ∙ sayable-judged q own a good
 
     told : reached_facts settings s r number frame.octets l ≡ f
     told = ap (λ b. cond b

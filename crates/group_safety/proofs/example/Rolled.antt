@@ -3,6 +3,7 @@ use Rattle.std.proofs.Common.{◌≡◌, ◌<◌, ◌≤◌, ℕ, refl, sym, ap,
 use Rattle.std.proofs.Common.{List, [], ◌∷◌, cond, Some, is_some, arith, length-append}
 use Rattle.std.specs.Prelude.{option_map, option_and_then, slice_get}
 use Rattle.std.proofs.lemmas.List.Elements.{All-nil}
+use Rattle.lan_base.specs.declared.association_number.AssociationNumber.TheVariants.{An0, An1}
 use Rattle.gcm_frames.specs.Tags.{is_sec}
 use Rattle.gcm_frames.specs.Protected.{iv}
 use Rattle.gcm_frames.proofs.Public.{Encrypts, encrypts, length-gcm_text, length-gcm_tag}
@@ -21,31 +22,31 @@ use Rattle.lan_core.specs.Legal.{IsStepped}
 use Rattle.lan_core.proofs.Public.{others-change-none}
 use Rattle.group_safety.proofs.Members.{In}
 use Rattle.group_safety.proofs.once.Ciphers.{encrypts as encrypts_block}
-use Rattle.group_safety.proofs.once.ClaimKept.{protected-is-sec}
+use Rattle.group_safety.proofs.once.ClaimKept.{protected-is_sec}
 use Rattle.group_safety.proofs.once.Currents.{none-some}
 use Rattle.group_safety.proofs.once.Nexts.{life-next}
-use Rattle.group_safety.proofs.example.Scene.{settings, set_up, IsGood, Lives, Scene, goes-on}
+use Rattle.group_safety.proofs.example.Scene.{settings, set_up, IsSayable, Lives, Scene, goes-on}
 use Rattle.group_safety.proofs.example.Scene.{few-within}
 use Rattle.group_safety.proofs.example.Moves.{Hears, sends, sends-short, none-short}
 use Rattle.group_safety.proofs.example.Moves.{tick-moves, hear-moves, claim-moves, new-short}
 use Rattle.group_safety.proofs.example.Run.{alice, bob, user, users, a3, id, sak, octets_of_sak}
 use Rattle.group_safety.proofs.example.Run.{first_key, r11}
-use Rattle.group_safety.proofs.example.Good.{one, wraps, sci_is, sak_is, good_a3}
-use Rattle.group_safety.proofs.example.Steps.{opens, goes, both, l11, hides, drawn, a-user}
+use Rattle.group_safety.proofs.example.Good.{one, length-wrapped_sak, sci_is, sak_is, good_a3}
+use Rattle.group_safety.proofs.example.Steps.{opens, goes, both, l11, unwrapped-wrapped_sak, drawn}
+use Rattle.group_safety.proofs.example.Steps.{a-user}
 use Rattle.group_safety.proofs.example.Rolling as scene
 use Rattle.group_safety.proofs.example.Rolling.{many, more, carried}
 
 -- ---- the announcements
 
-pub good_d4 : IsGood scene.d4
+pub good_d4 : IsSayable scene.d4
 good_d4 = record {
   writable = record {
     source = refl;
     named = (omega arith, omega arith);
     live = omega arith;
     potential = omega arith;
-    uses = (omega arith, omega arith);
-    given = (omega arith, omega arith);
+    given = tt;
   };
   typed = record {
     sci = refl;
@@ -57,19 +58,18 @@ good_d4 = record {
       record { server = refl; number = omega arith; lowest = omega arith },
       record { server = refl; number = omega arith; lowest = omega arith },
     );
-    given = (omega arith, wraps 2 refl);
+    given = (omega arith, length-wrapped_sak 2 refl);
   };
   named = refl;
 }
 
-pub good_e3 : IsGood scene.e3
+pub good_e3 : IsSayable scene.e3
 good_e3 = record {
   writable = record {
     source = refl;
     named = (omega arith, omega arith);
     live = omega arith;
     potential = omega arith;
-    uses = (omega arith, omega arith);
     given = tt;
   };
   typed = record {
@@ -87,14 +87,13 @@ good_e3 = record {
   named = refl;
 }
 
-pub good_e4 : IsGood scene.e4
+pub good_e4 : IsSayable scene.e4
 good_e4 = record {
   writable = record {
     source = refl;
     named = (omega arith, omega arith);
     live = omega arith;
     potential = omega arith;
-    uses = (omega arith, omega arith);
     given = tt;
   };
   typed = record {
@@ -112,14 +111,13 @@ good_e4 = record {
   named = refl;
 }
 
-pub good_d5 : IsGood scene.d5
+pub good_d5 : IsSayable scene.d5
 good_d5 = record {
   writable = record {
     source = refl;
     named = (omega arith, omega arith);
     live = omega arith;
     potential = omega arith;
-    uses = (omega arith, omega arith);
     given = tt;
   };
   typed = record {
@@ -137,14 +135,13 @@ good_d5 = record {
   named = refl;
 }
 
-pub good_e5 : IsGood scene.e5
+pub good_e5 : IsSayable scene.e5
 good_e5 = record {
   writable = record {
     source = refl;
     named = (omega arith, omega arith);
     live = omega arith;
     potential = omega arith;
-    uses = (omega arith, omega arith);
     given = tt;
   };
   typed = record {
@@ -229,10 +226,13 @@ s14 v =
     (λ ahead. refl)
 
 takes : Hears scene.r14 1 6
-    (facts.HeardMka 6 1 Vouched ∷ facts.Installed 1 (id 2) 1 2 (sak 2) ∷ [])
+    (facts.HeardMka 6 1 Vouched ∷ facts.Installed 1 (id 2) An1 2 (sak 2) ∷ [])
     (l14 1) scene.d4 scene.bob7
 unfolding opens
-takes = record { shows = rw (hides 2 refl) refl; past = rw (hides 2 refl) refl }
+takes = record {
+  shows = rw (unwrapped-wrapped_sak 2 refl) refl;
+  past = rw (unwrapped-wrapped_sak 2 refl) refl;
+}
 
 pub s15 : Scene users both scene.r14 l14 → Scene users both scene.r15 l15
 unfolding opens
@@ -305,7 +305,7 @@ data_length =
     simp (length-append, text, tag) (omega arith)
 
 data_is_sec : is_sec carried ≡ true
-data_is_sec = protected-is-sec (octets_of_sak 1) bob.sci 0 many true user refl refl
+data_is_sec = protected-is_sec (octets_of_sak 1) bob.sci An0 many true user refl refl
 
 pub transmits : Scene users both scene.r21 l21
     → transmitting_at settings 1 scene.r21 ≡ Some first_key

@@ -3,6 +3,7 @@
 -- which bob takes and reports; alice begins it, and bob follows.
 use Rattle.std.proofs.Common.{ℕ, List, []}
 use Rattle.std.proofs.Common.{◌∷◌, false, true, Some, None}
+use Rattle.lan_base.specs.declared.association_number.AssociationNumber.TheVariants.{An0, An1}
 use Rattle.gcm_frames.specs.Protected.{protected}
 use Rattle.rx_slots.specs.Numbers.{answer}
 use Rattle.lan_core.specs.Lives.{receiving}
@@ -28,25 +29,25 @@ many = 3221225472
 -- alice makes the second key
 abbrev pub d4 : Announcement
 d4 = says alice 1 4 true (peers 2 2) []
-    (Some (record { latest = use_of 2 1 false; old = use_of 1 0 true })) (gives 2 1)
+    (Some (record { latest = use_of 2 An1 false; old = use_of 1 An0 true })) (gives 2 An1)
 
 -- bob has begun the first one
 abbrev pub e3 : Announcement
-e3 = says bob 2 3 false (peers 1 3) [] (one_use (use_of 1 0 true)) None
+e3 = says bob 2 3 false (peers 1 3) [] (one_use (use_of 1 An0 true)) None
 
 -- bob receives the second one
 abbrev pub e4 : Announcement
 e4 = says bob 2 4 false (peers 1 4) []
-    (Some (record { latest = use_of 2 1 false; old = use_of 1 0 true })) None
+    (Some (record { latest = use_of 2 An1 false; old = use_of 1 An0 true })) None
 
 -- each has begun it
 abbrev pub d5 : Announcement
 d5 = says alice 1 5 true (peers 2 4) []
-    (Some (record { latest = use_of 2 1 true; old = use_of 1 0 false })) None
+    (Some (record { latest = use_of 2 An1 true; old = use_of 1 An0 false })) None
 
 abbrev pub e5 : Announcement
 e5 = says bob 2 5 false (peers 1 5) []
-    (Some (record { latest = use_of 2 1 true; old = use_of 1 0 false })) None
+    (Some (record { latest = use_of 2 An1 true; old = use_of 1 An0 false })) None
 
 -- ---- the histories of the lives
 
@@ -94,20 +95,21 @@ bob11 = sent e5 ∷ ticked ∷ bob10
 -- bob begins the first key
 abbrev pub r12 : Run
 r12 = happened (events.Deliver 5 1)
-    (facts.HeardMka 5 1 Vouched ∷ facts.Began 1 (id 1) 0 1 flagged ∷ []) ∷ r11
+    (facts.HeardMka 5 1 Vouched ∷ facts.Began 1 (id 1) An0 1 flagged ∷ []) ∷ r11
 
 -- the first round: alice makes the second one, which bob takes
 abbrev pub r13 : Run
 r13 =
     happened (events.Tick 0 many)
-    (facts.Ticked 0 4 many ∷ facts.Installed 0 (id 2) 1 2 (sak 2) ∷ frames 6 0 alice d4 ∷ []) ∷ r12
+    (facts.Ticked 0 4 many ∷ facts.Installed 0 (id 2) An1 2 (sak 2) ∷ frames 6 0 alice d4 ∷ []) ∷
+    r12
 
 abbrev pub r14 : Run
 r14 = happened (events.Tick 1 many) (facts.Ticked 1 3 many ∷ frames 7 1 bob e3 ∷ []) ∷ r13
 
 abbrev pub r15 : Run
 r15 = happened (events.Deliver 6 1)
-    (facts.HeardMka 6 1 Vouched ∷ facts.Installed 1 (id 2) 1 2 (sak 2) ∷ []) ∷ r14
+    (facts.HeardMka 6 1 Vouched ∷ facts.Installed 1 (id 2) An1 2 (sak 2) ∷ []) ∷ r14
 
 abbrev pub r16 : Run
 r16 = happened (events.Deliver 7 0) (facts.HeardMka 7 0 Vouched ∷ []) ∷ r15
@@ -126,17 +128,17 @@ r19 = happened (events.Deliver 8 0) (facts.HeardMka 8 0 Vouched ∷ []) ∷ r18
 abbrev pub r20 : Run
 r20 =
     happened (events.Tick 0 many)
-    (facts.Ticked 0 6 many ∷ facts.Began 0 (id 2) 1 2 all_report ∷ frames 9 0 alice d5 ∷ []) ∷ r19
+    (facts.Ticked 0 6 many ∷ facts.Began 0 (id 2) An1 2 all_report ∷ frames 9 0 alice d5 ∷ []) ∷ r19
 
 abbrev pub r21 : Run
 r21 = happened (events.Tick 1 many) (facts.Ticked 1 5 many ∷ []) ∷ r20
 
 -- bob claims a number under the first key, and the frame goes on the air
 abbrev pub carried : List ℕ
-carried = protected (octets_of_sak 1) bob.sci 0 many true user
+carried = protected (octets_of_sak 1) bob.sci An0 many true user
 
 abbrev pub r22 : Run
-r22 = happened (events.Claim 1 1 many) (facts.Claimed 1 0 1 many ∷ []) ∷ r21
+r22 = happened (events.Claim 1 1 many) (facts.Claimed 1 An0 1 many ∷ []) ∷ r21
 
 abbrev pub emits : Happening
 emits = happened events.Emit (facts.Framed 10 1 true carried ∷ [])
@@ -147,7 +149,7 @@ r23 = emits ∷ r22
 -- bob begins the second key
 abbrev pub follows : Happening
 follows = happened (events.Deliver 9 1)
-    (facts.HeardMka 9 1 Vouched ∷ facts.Began 1 (id 2) 1 2 flagged ∷ [])
+    (facts.HeardMka 9 1 Vouched ∷ facts.Began 1 (id 2) An1 2 flagged ∷ [])
 
 abbrev pub r24 : Run
 r24 = follows ∷ r23

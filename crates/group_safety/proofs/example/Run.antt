@@ -3,6 +3,8 @@
 use Rattle.std.proofs.Common.{ℕ, List, []}
 use Rattle.std.proofs.Common.{◌∷◌, ◌++◌, replicate, Bool, true, false, Option, Some, None}
 use Rattle.std.specs.Prelude.{slice_index}
+use Rattle.lan_base.specs.declared.association_number.AssociationNumber.{AssociationNumber}
+use Rattle.lan_base.specs.declared.association_number.AssociationNumber.TheVariants.{An0, An1}
 use Rattle.lan_base.specs.declared.address.Mi.{Mi}
 use Rattle.lan_base.specs.declared.address.Sci.{Sci}
 use Rattle.lan_base.specs.declared.key_id.KeyId.{KeyId}
@@ -13,6 +15,7 @@ use Rattle.key_wrap.specs.Wrap.{wrapped}
 use Rattle.mkpdu_codec.specs.declared.announcement.Announcement.{Announcement}
 use Rattle.mkpdu_codec.specs.declared.given.Given.{Given}
 use Rattle.mkpdu_codec.specs.declared.given.Given.TheVariants.{Aes128}
+use Rattle.mkpdu_codec.specs.declared.offset.ConfidentialityOffset.TheVariants.{Octets0}
 use Rattle.mkpdu_codec.specs.declared.key_use.KeyUse.{KeyUse}
 use Rattle.mkpdu_codec.specs.declared.key_use.Uses.{Uses}
 use Rattle.mkpdu_codec.specs.declared.peer.Peer.{Peer}
@@ -20,7 +23,7 @@ use Rattle.mka_station.specs.Announcing.{no_use}
 use Rattle.mka_station.specs.Lives.{Entry, ticked, sent, heard, installed, began}
 use Rattle.mka_station.specs.declared.verdict.Verdict.TheVariants.{Vouched, Unvouched}
 use Rattle.sak_exchange.specs.declared.change.Cause.TheVariants.{All as all_report}
-use Rattle.sak_exchange.specs.Histories.{Key}
+use Rattle.sak_exchange.specs.declared.held_key.Key.{Key}
 use Rattle.lan_core.specs.declared.event.Event.TheVariants as events
 use Rattle.lan_core.specs.declared.fact.Fact.{Fact}
 use Rattle.lan_core.specs.declared.fact.Fact.TheVariants as facts
@@ -50,28 +53,28 @@ abbrev pub id : ℕ → KeyId
 id n = record { server = mi 1; number = n }
 
 -- the two keys: both are made by the first life of alice
-abbrev pub key : ℕ → ℕ → Key
+abbrev pub key : ℕ → AssociationNumber → Key
 key n an = record { id = id n; an = an; sak = sak n; conf = true; epoch = n }
 
 abbrev pub first_key : Key
-first_key = key 1 0
+first_key = key 1 An0
 
 abbrev pub second_key : Key
-second_key = key 2 1
+second_key = key 2 An1
 
 -- ---- what is said
 
 abbrev pub peers : ℕ → ℕ → List Peer
 peers m n = record { mi = mi m; mn = n } ∷ []
 
-abbrev pub use_of : ℕ → ℕ → Bool → KeyUse
+abbrev pub use_of : ℕ → AssociationNumber → Bool → KeyUse
 use_of n an tx = record { server = mi 1; number = n; an = an; tx = tx; rx = true; lowest = 1 }
 
 abbrev pub one_use : KeyUse → Option Uses
 one_use u = Some (record { latest = u; old = no_use })
 
-abbrev pub gives : ℕ → ℕ → Option Given
-gives n an = Some (Aes128 an 1 n (wrapped (group_kek settings) (octets_of_sak n)))
+abbrev pub gives : ℕ → AssociationNumber → Option Given
+gives n an = Some (Aes128 an Octets0 n (wrapped (group_kek settings) (octets_of_sak n)))
 
 abbrev pub says : Profile → ℕ → ℕ → Bool → List Peer → List Peer → Option Uses → Option Given
     → Announcement
@@ -96,13 +99,13 @@ abbrev pub b1 : Announcement
 b1 = says bob 2 1 false [] (peers 1 1) None None
 
 abbrev pub a2 : Announcement
-a2 = says alice 1 2 true (peers 2 1) [] (one_use (use_of 1 0 false)) (gives 1 0)
+a2 = says alice 1 2 true (peers 2 1) [] (one_use (use_of 1 An0 false)) (gives 1 An0)
 
 abbrev pub b2 : Announcement
-b2 = says bob 2 2 false (peers 1 2) [] (one_use (use_of 1 0 false)) None
+b2 = says bob 2 2 false (peers 1 2) [] (one_use (use_of 1 An0 false)) None
 
 abbrev pub a3 : Announcement
-a3 = says alice 1 3 true (peers 2 2) [] (one_use (use_of 1 0 true)) None
+a3 = says alice 1 3 true (peers 2 2) [] (one_use (use_of 1 An0 true)) None
 
 -- bob starts again
 abbrev pub c1 : Announcement
@@ -110,14 +113,14 @@ c1 = says bob 3 1 false [] (peers 1 3) None None
 
 abbrev pub a4 : Announcement
 a4 = says alice 1 4 true (peers 3 1) []
-    (Some (record { latest = use_of 2 1 false; old = use_of 1 0 true })) (gives 2 1)
+    (Some (record { latest = use_of 2 An1 false; old = use_of 1 An0 true })) (gives 2 An1)
 
 abbrev pub c2 : Announcement
-c2 = says bob 3 2 false (peers 1 4) [] (one_use (use_of 2 1 false)) None
+c2 = says bob 3 2 false (peers 1 4) [] (one_use (use_of 2 An1 false)) None
 
 abbrev pub a5 : Announcement
 a5 = says alice 1 5 true (peers 3 2) []
-    (Some (record { latest = use_of 2 1 true; old = use_of 1 0 false })) None
+    (Some (record { latest = use_of 2 An1 true; old = use_of 1 An0 false })) None
 
 -- ---- the histories of the lives
 
@@ -205,16 +208,16 @@ r6 = happened (events.Deliver 2 0)
 abbrev pub r7 : Run
 r7 =
     happened (events.Tick 0 0)
-    (facts.Ticked 0 2 0 ∷ facts.Installed 0 (id 1) 0 1 (sak 1) ∷ frames 3 0 alice a2 ∷ []) ∷ r6
+    (facts.Ticked 0 2 0 ∷ facts.Installed 0 (id 1) An0 1 (sak 1) ∷ frames 3 0 alice a2 ∷ []) ∷ r6
 
 -- bob takes it, and says so; alice begins it, and claims a number
-abbrev pub takes : ℕ → ℕ → ℕ → List Fact
+abbrev pub takes : ℕ → ℕ → AssociationNumber → List Fact
 takes number n an =
     facts.HeardMka number 1 Vouched ∷ facts.Server 1 (Some (mi 1)) ∷ facts.Installed 1 (id n) an n
     (sak n) ∷ []
 
 abbrev pub r8 : Run
-r8 = happened (events.Deliver 3 1) (takes 3 1 0) ∷ r7
+r8 = happened (events.Deliver 3 1) (takes 3 1 An0) ∷ r7
 
 abbrev pub r9 : Run
 r9 = happened (events.Tick 1 0) (facts.Ticked 1 2 0 ∷ frames 4 1 bob b2 ∷ []) ∷ r8
@@ -225,16 +228,16 @@ r10 = happened (events.Deliver 4 0) (facts.HeardMka 4 0 Vouched ∷ []) ∷ r9
 abbrev pub r11 : Run
 r11 =
     happened (events.Tick 0 0)
-    (facts.Ticked 0 3 0 ∷ facts.Began 0 (id 1) 0 1 all_report ∷ frames 5 0 alice a3 ∷ []) ∷ r10
+    (facts.Ticked 0 3 0 ∷ facts.Began 0 (id 1) An0 1 all_report ∷ frames 5 0 alice a3 ∷ []) ∷ r10
 
 abbrev pub r12 : Run
-r12 = happened (events.Claim 0 1 1) (facts.Claimed 0 0 1 1 ∷ []) ∷ r11
+r12 = happened (events.Claim 0 1 1) (facts.Claimed 0 An0 1 1 ∷ []) ∷ r11
 
 -- bob starts again, and alice makes a second key
 abbrev pub r13 : Run
 r13 =
     happened (events.Restart 1)
-    (facts.Life 1 (mi 3) ∷ facts.Server 1 None ∷ facts.Dropped 1 (id 1) 0 ∷ []) ∷ r12
+    (facts.Life 1 (mi 3) ∷ facts.Server 1 None ∷ facts.Dropped 1 (id 1) An0 ∷ []) ∷ r12
 
 abbrev pub r14 : Run
 r14 = happened (events.Deliver 5 1) (facts.HeardMka 5 1 Unvouched ∷ []) ∷ r13
@@ -248,11 +251,11 @@ r16 = happened (events.Deliver 6 0) (facts.HeardMka 6 0 Vouched ∷ []) ∷ r15
 abbrev pub r17 : Run
 r17 =
     happened (events.Tick 0 2)
-    (facts.Ticked 0 4 2 ∷ facts.Installed 0 (id 2) 1 2 (sak 2) ∷ frames 7 0 alice a4 ∷ []) ∷ r16
+    (facts.Ticked 0 4 2 ∷ facts.Installed 0 (id 2) An1 2 (sak 2) ∷ frames 7 0 alice a4 ∷ []) ∷ r16
 
 -- the new life takes it; alice begins it, and claims a number under it
 abbrev pub r18 : Run
-r18 = happened (events.Deliver 7 1) (takes 7 2 1) ∷ r17
+r18 = happened (events.Deliver 7 1) (takes 7 2 An1) ∷ r17
 
 abbrev pub r19 : Run
 r19 = happened (events.Tick 1 0) (facts.Ticked 1 2 0 ∷ frames 8 1 bob c2 ∷ []) ∷ r18
@@ -263,7 +266,7 @@ r20 = happened (events.Deliver 8 0) (facts.HeardMka 8 0 Vouched ∷ []) ∷ r19
 abbrev pub r21 : Run
 r21 =
     happened (events.Tick 0 2)
-    (facts.Ticked 0 5 2 ∷ facts.Began 0 (id 2) 1 2 all_report ∷ frames 9 0 alice a5 ∷ []) ∷ r20
+    (facts.Ticked 0 5 2 ∷ facts.Began 0 (id 2) An1 2 all_report ∷ frames 9 0 alice a5 ∷ []) ∷ r20
 
 abbrev pub run : Run
-run = happened (events.Claim 0 1 2) (facts.Claimed 0 1 2 2 ∷ []) ∷ r21
+run = happened (events.Claim 0 1 2) (facts.Claimed 0 An1 2 2 ∷ []) ∷ r21

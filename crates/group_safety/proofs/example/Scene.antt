@@ -11,6 +11,7 @@ use Rattle.std.proofs.lemmas.Bool.{and_parts, leb-true, ltb-true}
 use lib.Pointwise.{pointwise, bytes_decides}
 use Rattle.lan_base.specs.declared.address.Sci.{Sci}
 use Rattle.lan_base.specs.declared.frame.UserFrame.{UserFrame}
+use Rattle.lan_base.specs.declared.suite.Suite.TheVariants.{GcmAes128}
 use Rattle.aes_block.specs.declared.secret.Secret.TheVariants.{S128}
 use Rattle.aes_cmac.specs.Cmac.{cmac}
 use Rattle.gcm_frames.specs.Tags.{is_sec}
@@ -25,7 +26,7 @@ use Rattle.rx_slots.specs.Histories.{Receiving}
 use Rattle.rx_slots.specs.Histories as slots
 use Rattle.rx_slots.specs.Numbers.{accepted, is_under}
 use Rattle.sak_exchange.specs.declared.due.Seen.{Seen}
-use Rattle.sak_exchange.specs.Histories.{Key}
+use Rattle.sak_exchange.specs.declared.held_key.Key.{Key}
 use Rattle.sak_exchange.specs.Held.{latest, old}
 use Rattle.mka_station.specs.Announcing.{frame_of}
 use Rattle.mka_station.specs.Hearing.{judged}
@@ -62,7 +63,7 @@ settings = record {
   conf = true;
   window = 0;
   rekey = 3221225472;
-  suite = 128;
+  suite = GcmAes128;
 }
 
 pub octets_of : (octets : List ℕ) → list_all (λ octet. nat_lt octet 256) octets ≡ true
@@ -80,12 +81,11 @@ set_up = record {
   name_octets = octets_of settings.ckn refl;
   window = omega arith;
   rekey = omega arith;
-  suite = inl refl;
 }
 
 -- ---- a frame that is right
 
-pub record IsGood (a : Announcement) : Type 0 where
+pub record IsSayable (a : Announcement) : Type 0 where
   pub writable : IsWritable a
   pub typed : IsOfItsTypes a
   pub named : a.ckn ≡ settings.ckn
@@ -93,13 +93,13 @@ pub record IsGood (a : Announcement) : Type 0 where
 abbrev pub framed_by : Profile → Announcement → List ℕ
 framed_by p a = frame_of (setup_of settings p) a
 
-good-spells : (p : Profile) (a : Announcement) → IsGood a
+good-spells : (p : Profile) (a : Announcement) → IsSayable a
     → Spells (framed_by p a) a (length (written a)) (cmac (setup_of settings p).ick (written a))
 good-spells p a good =
     written_spells a (cmac (setup_of settings p).ick (written a)) good.writable good.typed
     (cmac-length (setup_of settings p).ick (written a) (ick-key settings p set_up))
 
-good-read : (p : Profile) (a : Announcement) → IsGood a
+good-read : (p : Profile) (a : Announcement) → IsSayable a
     → reading (framed_by p a)
     ≡ Ok (record {
       announcement = a;
@@ -111,17 +111,18 @@ good-read p a good =
     read_again (framed_by p a) a (length (written a)) (cmac (setup_of settings p).ick (written a))
     (good-spells p a good)
 
-pub good-plain : (p : Profile) (a : Announcement) → IsGood a → is_sec (framed_by p a) ≡ false
-good-plain p a good = go (is_sec (framed_by p a)) refl
+pub sayable-unprotected : (p : Profile) (a : Announcement) → IsSayable a → is_sec (framed_by p a)
+    ≡ false
+sayable-unprotected p a good = go (is_sec (framed_by p a)) refl
   where
     go : (b : Bool) → is_sec (framed_by p a) ≡ b → b ≡ false
     go true e = absurd (cc (sec-unread (framed_by p a) e, good-read p a good))
     go false e = refl
 
-pub good-right : (p q : Profile) (a : Announcement) → IsGood a
+pub sayable-judged : (p q : Profile) (a : Announcement) → IsSayable a
     → judged (setup_of settings q) (framed_by p a) ≡ Ok a
 unfolding judged
-good-right p q a good =
+sayable-judged p q a good =
     let front : take (length (written a)) (framed_by p a) ≡ written a =
     take_front (written a) (cmac (setup_of settings p).ick (written a)) (length (written a)) refl in
     let named : pointwise nat_eq a.ckn settings.ckn ≡ true = (bytes_decides a.ckn settings.ckn).1
@@ -158,9 +159,9 @@ silent-lowest own h (Some k) silent = rw (silent-accepted own settings.window h 
 abbrev pub seen : ℕ → Seen
 seen next = record { next = next; latest = 1; old = 1 }
 
-pub silent-seen : (s : ℕ) (r : Run) (l : Life) (next : ℕ) → IsSilent (receiving s r)
+pub seen-silent : (s : ℕ) (r : Run) (l : Life) (next : ℕ) → IsSilent (receiving s r)
     → seen_at settings s r l next ≡ seen next
-silent-seen s r l next silent =
+seen-silent s r l next silent =
     λ i. record {
       next = next;
       latest = silent-lowest l.member.setup.sci (receiving s r) (latest (keys_in l)) silent i;
@@ -196,11 +197,11 @@ gather-silent s (fact ∷ f) h silent =
 abbrev pub IsPlainTo : ℕ → Run → Event → Type 0
 IsPlainTo s r e = (octets : List ℕ) → reaches s r e ≡ Some octets → is_sec octets ≡ false
 
-pub next-silent : (s : ℕ) (x : Happening) (r : Run) → IsPlainTo s r x.event
+pub silent-next : (s : ℕ) (x : Happening) (r : Run) → IsPlainTo s r x.event
     → IsSilent (receiving s r)
     → IsSilent (receiving s (x ∷ r))
 unfolding receiving
-next-silent s x r none silent =
+silent-next s x r none silent =
     gather-silent s x.facts (with_data (reaches s r x.event) (receiving s r))
     (go (reaches s r x.event) refl)
   where
@@ -260,7 +261,7 @@ few-within r short few =
     }
 
 -- the frames of an announcement are short
-pub good-short : (p : Profile) (a : Announcement) → IsGood a
+pub good-short : (p : Profile) (a : Announcement) → IsSayable a
     → length (framed_by p a) ≤ 70000
 good-short p a good =
     let s = good-spells p a good in
@@ -352,7 +353,7 @@ pub goes-on : (users : List UserFrame) (ps qs : List Profile) (x : Happening) (r
 goes-on users ps qs x r ls ms v c = record {
   there = c.there;
   living = c.living;
-  silent = λ s. next-silent s x r (c.plain s) (v.silent s);
+  silent = λ s. silent-next s x r (c.plain s) (v.silent s);
   short = c.short;
   stepped = (
     record {

@@ -2,6 +2,7 @@
 use Rattle.std.proofs.Common.{◌≡◌, refl, ℕ, List, [], ◌∷◌}
 use Rattle.std.proofs.Common.{replicate, true, Some, arith}
 use Rattle.std.specs.Prelude.{nat_lt}
+use Rattle.lan_base.specs.declared.association_number.AssociationNumber.TheVariants.{An0, An1}
 use Rattle.key_wrap.specs.Wrap.{wrapped}
 use Rattle.peer_lists.specs.Acceptance.{refusal, accepted, outcome}
 use Rattle.peer_lists.specs.Peers.{says, hopes, known}
@@ -100,10 +101,11 @@ abbrev pub l21 : Lives
 l21 = goes 0 scene.alice9 l20
 
 -- what a wrap hides
-pub hides : (n : ℕ) → nat_lt n 256 ≡ true
+pub unwrapped-wrapped_sak : (n : ℕ) → nat_lt n 256 ≡ true
     → unwrapped 16 (group_kek settings) (wrapped (group_kek settings) (octets_of_sak n))
     ≡ Some (octets_of_sak n)
-hides n small = hidden 16 (group_kek settings) (octets_of_sak n) (kek-key settings set_up)
+unwrapped-wrapped_sak n small = hidden 16 (group_kek settings) (octets_of_sak n)
+    (kek-key settings set_up)
     (omega arith) (sak_is n small)
 
 -- ---- alice says something, bob answers, and alice makes a key
@@ -148,9 +150,12 @@ s7 v =
 
 -- ---- bob takes it, and says so; alice begins it, and claims a number
 
-takes_first : Hears scene.r7 1 3 (scene.takes 3 1 0) (l7 1) scene.a2 scene.bob3
+takes_first : Hears scene.r7 1 3 (scene.takes 3 1 An0) (l7 1) scene.a2 scene.bob3
 unfolding opens
-takes_first = record { shows = rw (hides 1 refl) refl; past = rw (hides 1 refl) refl }
+takes_first = record {
+  shows = rw (unwrapped-wrapped_sak 1 refl) refl;
+  past = rw (unwrapped-wrapped_sak 1 refl) refl;
+}
 
 s8 : Scene users both scene.r7 l7 → Scene users both scene.r8 l8
 unfolding opens
@@ -234,9 +239,12 @@ s17 v =
 
 -- ---- the new life takes it; alice begins it, and claims a number under it
 
-takes_second : Hears scene.r17 1 7 (scene.takes 7 2 1) (l17 1) scene.a4 scene.carol3
+takes_second : Hears scene.r17 1 7 (scene.takes 7 2 An1) (l17 1) scene.a4 scene.carol3
 unfolding opens
-takes_second = record { shows = rw (hides 2 refl) refl; past = rw (hides 2 refl) refl }
+takes_second = record {
+  shows = rw (unwrapped-wrapped_sak 2 refl) refl;
+  past = rw (unwrapped-wrapped_sak 2 refl) refl;
+}
 
 s18 : Scene users both scene.r17 l17 → Scene users both scene.r18 l18
 unfolding opens

@@ -3,13 +3,13 @@ use Rattle.std.proofs.Common.{◌≡◌, ◌≢◌, refl, ◌∙◌, inl, inr, �
 use Rattle.std.proofs.Common.{Option, Some, None}
 use Rattle.std.proofs.lemmas.Bool.Decides.{eqb_tells}
 use Rattle.lan_base.specs.declared.address.Mi.{Mi}
-use Rattle.sak_exchange.specs.Histories.{Key}
+use Rattle.sak_exchange.specs.declared.held_key.Key.{Key}
 use Rattle.lan_core.specs.Ledgers.{Install}
 use Rattle.group_safety.proofs.Members.{In}
 use Rattle.group_safety.proofs.once.Ledgers.{Said, Installation, Deeds, Book, with_life, Change}
 use Rattle.group_safety.proofs.once.Ledgers.{was_made, was_said, was_heard, was_taken, MayMake}
 use Rattle.group_safety.proofs.once.Ledgers.{MaySay, book, AreAllowed}
-use Rattle.group_safety.proofs.once.Given.{made_in}
+use Rattle.group_safety.proofs.once.OneKeyEach.{made_in}
 use Rattle.group_safety.proofs.once.Histories.{handed, having_made, having_taken, having_heard}
 use Rattle.group_safety.proofs.once.Gists.{installed_at}
 

@@ -17,8 +17,8 @@ use Rattle.mkpdu_codec.specs.Frames.{Set, Spells, SpellsGiven}
 use Rattle.mkpdu_codec.specs.Reading.{reading, parts_at}
 use Rattle.mkpdu_codec.specs.Refusals.{is_mka}
 use Rattle.mkpdu_codec.proofs.Public.{read_again, IsBytes-all, same_covered, read_is_spelled}
-use Rattle.sak_exchange.specs.Taking.{an_of, number_of}
-use Rattle.mka_station.specs.declared.verdict.Verdict.TheVariants.{CkName, Check}
+use Rattle.sak_exchange.specs.Taking.{number_of}
+use Rattle.mka_station.specs.declared.verdict.DropReason.TheVariants.{CkName, Check}
 use Rattle.mka_station.specs.Lives.{Setup}
 use Rattle.mka_station.specs.Hearing.{judged, read_as, of_group}
 use Rattle.lan_core.specs.Fresh.{same_spelling}
@@ -51,12 +51,12 @@ carried-more Told More octets grows (inr m) = inr (record {
 pub record IsHeardOf (Told : Announcement → Type 0) (a : Announcement) : Type 0 where
   pub told : Told a
   pub ranged : IsRanged a
-  pub gift : (g : Given) → a.given ≡ Some g → (an_of g < 4) × (number_of g < 2 ^ 32)
+  pub gift : (g : Given) → a.given ≡ Some g → number_of g < 2 ^ 32
 
-gift-small : (s : Set) (g : Given) → SpellsGiven s (Some g) → (an_of g < 4) × (number_of g < 2 ^ 32)
-gift-small s (Aes128 an offset number wrapped) is = (is.0.two_bits, is.0.four_octets)
-gift-small s (Aes256 an offset number wrapped) is = (is.1.0.two_bits, is.1.0.four_octets)
-gift-small s (Other an offset number) is = (is.1.0.two_bits, is.1.0.four_octets)
+gift-small : (s : Set) (g : Given) → SpellsGiven s (Some g) → number_of g < 2 ^ 32
+gift-small s (Aes128 an offset number wrapped) is = is.0.four_octets
+gift-small s (Aes256 an offset number wrapped) is = is.1.0.four_octets
+gift-small s (Other an offset number) is = is.1.0.four_octets
 
 spelled-heard : (Told : Announcement → Type 0) (octets : List ℕ) (a : Announcement) (n : ℕ)
     (check : List ℕ) → Spells octets a n check → Told a → IsHeardOf Told a

@@ -2,7 +2,7 @@
 -- encrypting key is a key, and that a wrap hides what was wrapped.
 use Rattle.std.proofs.Common.{◌≡◌, ◌<◌, ◌≤◌, ◌+◌, ◌-◌, ◌*◌, ◌/◌, refl, sym, ap, ◌∙◌, subst, inl}
 use Rattle.std.proofs.Common.{inr, ◌⊎◌, ℕ, zero, suc, List, [], ◌∷◌, ◌++◌, length, drop, replicate}
-use Rattle.std.proofs.Common.{Bool, true, false, cond, Option, Some, None, arith, length-append}
+use Rattle.std.proofs.Common.{Bool, true, false, Option, Some, None, arith, length-append}
 use Rattle.std.proofs.Common.{length-take}
 use Rattle.std.specs.Prelude.{All, codes, option_map, nat_lt, ◌==◌, if◌then◌else◌, bit_xor}
 use lib.Lanes.{zip2}
@@ -17,7 +17,9 @@ use Rattle.aes_block.specs.Octet.{octets_sum}
 use Rattle.aes_block.specs.Secrets.{secret_octets}
 use Rattle.aes_block.specs.State.{last_round, shift_rows, sub_bytes}
 use Rattle.aes_block.specs.Aes.{aes, cipher, IsBlock, IsKey, IsOctets}
-use Rattle.aes_block.proofs.Public.{AreOctets, All-from_AreOctets, AreOctets-from_All, AreOctets-append, AreOctets-octets_sum, AreOctets-take, AreOctets-drop, same_source, inv_aes, aes-inverse}
+use Rattle.aes_block.proofs.Public.{AreOctets, All-from_AreOctets, AreOctets-from_All}
+use Rattle.aes_block.proofs.Public.{AreOctets-append, AreOctets-octets_sum, AreOctets-take}
+use Rattle.aes_block.proofs.Public.{AreOctets-drop, same_source, inv_aes, aes-inverse}
 use Rattle.aes_cmac.specs.Cmac.{cmac, chain_after, block, before_last, last_block, padded_part}
 use Rattle.aes_cmac.specs.Cmac.{first_subkey, second_subkey, doubled, doubled_bits}
 use Rattle.mka_kdf.specs.Kdf.{kek_of, ick_of, derived, input, context_of}
@@ -26,10 +28,10 @@ use Rattle.key_wrap.specs.Wrap.{wrapped, initial_value}
 use Rattle.key_wrap.proofs.Public.{IsOctets-steps, Permutes, one_key}
 use Rattle.mkpdu_codec.specs.declared.given.Given.{Given}
 use Rattle.mkpdu_codec.specs.declared.given.Given.TheVariants.{Aes128, Aes256, Other}
-use Rattle.sak_exchange.specs.Histories.{Key}
+use Rattle.sak_exchange.specs.declared.held_key.Key.{Key}
 use Rattle.sak_exchange.specs.Unwrapping.{unwrapped, given_sak}
 use Rattle.sak_exchange.proofs.Public.{key-unwrapped, unwrapped-key}
-use Rattle.mka_station.specs.Announcing.{given_as, offset}
+use Rattle.mka_station.specs.Announcing.{given_as}
 use Rattle.lan_core.specs.Types.{IsSecret, AreSome}
 use Rattle.group_safety.proofs.once.Currents.{some-same, none-some}
 use Rattle.group_safety.proofs.once.Rules.{Hides}
@@ -280,13 +282,6 @@ hides-secret kek k (S256 octets) is_key is =
 
 pub hides : (kek : List ℕ) (k : Key) → IsKey kek → IsSecret k.sak → Hides kek k
 hides kek k is_key is = hides-secret kek k k.sak is_key is
-
-pub offset-small : (k : Key) → offset k < 4
-offset-small k = go k.conf
-  where
-    go : (b : Bool) → cond b 1 0 < 4
-    go true = omega arith
-    go false = omega arith
 
 -- what is unwrapped is a key of its length
 from_map : {A B : Type 0} (f : A → B) (o : Option A) (b : B) → option_map f o ≡ Some b

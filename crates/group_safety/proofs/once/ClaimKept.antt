@@ -5,12 +5,13 @@ use Rattle.std.proofs.Common.{Option, Some, None, arith}
 use Rattle.std.specs.Prelude.{option_map, slice_get, ◌==◌}
 use Rattle.std.proofs.lemmas.Bool.{le-leb, eqb-false}
 use Rattle.std.proofs.lemmas.List.{append-nil, length-take-le}
+use Rattle.lan_base.specs.declared.association_number.AssociationNumber.{AssociationNumber}
 use Rattle.lan_base.specs.declared.address.Sci.{Sci}
 use Rattle.lan_base.specs.declared.frame.UserFrame.{UserFrame}
 use Rattle.aes_block.specs.Secrets.{secret_octets}
 use Rattle.gcm_frames.specs.Tags.{is_sec}
 use Rattle.gcm_frames.specs.Protected.{protected}
-use Rattle.sak_exchange.specs.Histories.{Key}
+use Rattle.sak_exchange.specs.declared.held_key.Key.{Key}
 use Rattle.sak_exchange.specs.Held.{transmitting}
 use Rattle.lan_core.specs.declared.event.Event.TheVariants as events
 use Rattle.lan_core.specs.declared.fact.Fact.{Fact}
@@ -33,7 +34,7 @@ use Rattle.group_safety.specs.Once.{shown_made}
 use Rattle.group_safety.proofs.Members.{In, in-from_map, in-either}
 use Rattle.group_safety.proofs.once.Ledgers.{Installation, Book, Change}
 use Rattle.group_safety.proofs.once.Ledgers.{was_claimed, MayClaim, book, AreAllowed}
-use Rattle.group_safety.proofs.once.Given.{made_in}
+use Rattle.group_safety.proofs.once.OneKeyEach.{made_in}
 use Rattle.group_safety.proofs.once.KeysSound.{transmitting-installed}
 use Rattle.group_safety.proofs.once.Carried.{IsCarried, carried-more}
 use Rattle.group_safety.proofs.once.Rules.{said_by}
@@ -298,13 +299,14 @@ head-is-sec d s t rest dl sl =
     (length (a ∷ b ∷ c ∷ e ∷ f ∷ g ∷ h ∷ i ∷ j ∷ k ∷ l ∷ m ∷ 0x88 ∷ 0xe5 ∷ (t ++ rest)))
     (omega arith)) refl) s sl) d dl
 
-pub protected-is-sec : (key : List ℕ) (sci : Sci) (an pn : ℕ) (conf : Bool) (user : UserFrame)
+pub protected-is_sec : (key : List ℕ) (sci : Sci) (an : AssociationNumber) (pn : ℕ) (conf : Bool)
+    (user : UserFrame)
     → length sci.0 ≡ 8
     → length user.destination.0 ≡ 6 → is_sec (protected key sci an pn conf user) ≡ true
-protected-is-sec key sci an pn true user sl dl =
+protected-is_sec key sci an pn true user sl dl =
     head-is-sec user.destination.0 (take 6 sci.0) _ _ dl
     (length-take-le 6 sci.0 (omega (arith, sl)))
-protected-is-sec key sci an pn false user sl dl =
+protected-is_sec key sci an pn false user sl dl =
     head-is-sec user.destination.0 (take 6 sci.0) _ _ dl
     (length-take-le 6 sci.0 (omega (arith, sl)))
 
@@ -330,7 +332,7 @@ emit-on settings users f r w p user k waits place given shows =
     in
     let sends : IsUserFrame user =
     subst IsSendable given (k.plain.sendable w (in-get (claimed settings r) _ w waits)) in
-    let sec = protected-is-sec (secret_octets w.key.sak) p.sci w.key.an w.pn w.key.conf user
+    let sec = protected-is_sec (secret_octets w.key.sak) p.sci w.key.an w.pn w.key.conf user
     (k.plain.typed p (in-get (stations r) w.station p place)).count sends.destination.0 in
     still-kept settings users x r g (emit-still settings f r) refl k k.changes k.allowed
     refl refl refl refl (λ t. refl) (only frame sec)

@@ -13,17 +13,17 @@ use Rattle.aes_block.specs.Aes.{IsKey as IsCipherKey}
 use Rattle.aes_cmac.specs.Cmac.{cmac}
 use Rattle.mkpdu_codec.specs.declared.announcement.Announcement.{Announcement}
 use Rattle.mkpdu_codec.specs.declared.given.Given.{Given}
-use Rattle.mkpdu_codec.specs.declared.key_use.KeyUse.{KeyUse}
 use Rattle.mkpdu_codec.specs.declared.key_use.Uses.{Uses}
 use Rattle.mkpdu_codec.specs.Sets.{IsPeer, IsKey}
 use Rattle.mkpdu_codec.specs.Frames.{Spells, IsGiven, IsOfItsTypes}
 use Rattle.mkpdu_codec.specs.Written.{written, IsWritable, IsWritableGiven}
 use Rattle.mkpdu_codec.proofs.Public.{written_spells}
 use Rattle.peer_lists.specs.Histories.{Peering, last_sent}
-use Rattle.peer_lists.specs.Acceptance.{Accepted, accepted}
+use Rattle.peer_lists.specs.Acceptance.{Accepted, accepted, most_peers}
 use Rattle.peer_lists.specs.Peers.{says, hopes, known}
 use Rattle.peer_lists.proofs.Public.{known-at-most}
-use Rattle.sak_exchange.specs.Histories.{Key, Keying}
+use Rattle.sak_exchange.specs.declared.held_key.Key.{Key}
+use Rattle.sak_exchange.specs.Histories.{Keying}
 use Rattle.sak_exchange.specs.Held.{latest, old, transmitting}
 use Rattle.mka_station.specs.Lives.{Member, Entry, own, peers_of, keys_of}
 use Rattle.mka_station.specs.Views.{View, view}
@@ -36,7 +36,7 @@ use Rattle.group_safety.proofs.once.LiveHeard.{live-accepted, potential-accepted
 use Rattle.group_safety.proofs.once.KeysSound.{AreKeys, IsKeyIn, installed-key, latest-installed}
 use Rattle.group_safety.proofs.once.KeysSound.{old-installed}
 use Rattle.group_safety.proofs.once.Rules.{given-is}
-use Rattle.group_safety.proofs.once.Ciphers.{cmac-length, wrapped-length, offset-small}
+use Rattle.group_safety.proofs.once.Ciphers.{cmac-length, wrapped-length}
 
 pub all-from_in : {X : Type 0} (P : X → Type 0) (xs : List X) → ((x : X) → In x xs → P x) → All P xs
 all-from_in P [] each = All-nil P
@@ -90,7 +90,7 @@ fewer {X} {Y} f (x ∷ xs) = go (f x) refl (fewer f xs)
     go None e r = rw e (omega (arith, r))
     go (Some y) e r = rw e (omega (arith, r))
 
-live-few : (m : Member) (p : List Entry) → length (view m p).live ≤ 64
+live-few : (m : Member) (p : List Entry) → length (view m p).live ≤ most_peers
 unfolding view known
 live-few m p =
     let h = peers_of m p in
@@ -98,7 +98,7 @@ live-few m p =
     let b = known-at-most (own m) h in
     omega (arith, a, b)
 
-potential-few : (m : Member) (p : List Entry) → length (view m p).potential ≤ 64
+potential-few : (m : Member) (p : List Entry) → length (view m p).potential ≤ most_peers
 unfolding view known
 potential-few m p =
     let h = peers_of m p in
@@ -108,25 +108,16 @@ potential-few m p =
 
 -- ---- the SAK Use
 
-record IsUse (u : KeyUse) : Type 0 where
-  key : IsKey u
-  an : u.an < 4
-
 use-is : (sending : Option Key) (lowest : Key → ℕ) (o : Option Key)
     → ((k : Key) → lowest k < 2 ^ 32)
-    → ((k : Key) → o ≡ Some k → IsKeyIn k) → IsUse (use_of sending lowest o)
+    → ((k : Key) → o ≡ Some k → IsKeyIn k) → IsKey (use_of sending lowest o)
 use-is sending lowest None low keys =
-    record {
-      key = record { server = refl; number = omega arith; lowest = omega arith };
-      an =
-          omega arith;
-    }
+    record { server = refl; number = omega arith; lowest = omega arith }
 use-is sending lowest (Some k) low keys =
-    let t = keys k refl in
-    record { key = record { server = t.server; number = t.number; lowest = low k }; an = t.an }
+    let t = keys k refl in record { server = t.server; number = t.number; lowest = low k }
 
 abbrev AreUses : Uses → Type 0
-AreUses u = IsUse u.latest × IsUse u.old
+AreUses u = IsKey u.latest × IsKey u.old
 
 uses-are : (lowest : Key → ℕ) (h : List Keying) (base : ℕ) → ((k : Key) → lowest k < 2 ^ 32)
     → AreKeys base h
@@ -171,11 +162,11 @@ gift-is : (kek : List ℕ) (k : Key) (s : Secret) → IsCipherKey kek → IsKeyI
     → IsGift (given_as kek k s)
 gift-is kek k (S128 octets) is_key t is = record {
   typed = (t.number, wrapped-length kek octets 16 is_key (omega arith) is.0 is.1);
-  writable = (t.an, offset-small k);
+  writable = tt;
 }
 gift-is kek k (S256 octets) is_key t is = record {
   typed = (t.number, wrapped-length kek octets 32 is_key (omega arith) is.0 is.1);
-  writable = (t.an, offset-small k);
+  writable = tt;
 }
 
 given-typed : (m : Member) (v : View) → IsCipherKey m.setup.kek → AreKeys m.base v.keys
@@ -221,8 +212,6 @@ frame-spells m p lowest s =
           omega (arith, l, few);
       potential = let l = length-map v.potential (peer_of m v) in let few = potential-few m p in
           omega (arith, l, few);
-      uses = if-some AreUses (λ u. (u.latest.an < 4) × (u.old.an < 4)) a.uses
-          (λ u h. (h.0.an, h.1.an)) uses;
       given = if-some IsGift IsWritableGiven a.given (λ g h. h.writable) gift;
     }
 
@@ -233,8 +222,7 @@ frame-spells m p lowest s =
       mn = next;
       live = peers-are m p v.live s.heard (live-accepted m p);
       potential = peers-are m p v.potential s.heard (potential-accepted m p);
-      uses = if-some AreUses (λ u. IsKey u.latest × IsKey u.old) a.uses (λ u h. (h.0.key, h.1.key))
-          uses;
+      uses = uses;
       given = if-some IsGift IsGiven a.given (λ g h. h.typed) gift;
     }
       where

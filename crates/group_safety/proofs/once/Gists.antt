@@ -9,19 +9,20 @@ use Rattle.sak_exchange.specs.declared.change.Change.TheVariants as changes
 use Rattle.sak_exchange.specs.declared.change.Why.{Why}
 use Rattle.sak_exchange.specs.declared.held_key.HeldKey.{HeldKey}
 use Rattle.sak_exchange.specs.declared.offer.Offer.{Offer}
-use Rattle.sak_exchange.specs.Histories.{Key, Keying, installed}
+use Rattle.sak_exchange.specs.declared.held_key.Key.{Key}
+use Rattle.sak_exchange.specs.Histories.{Keying, installed}
 use Rattle.sak_exchange.specs.Held.{ends, received, held, shown as seen_as}
 use Rattle.sak_exchange.specs.Beginning.{Beginning, retired}
 use Rattle.sak_exchange.specs.Outcomes.{beginning, installing, judging}
 use Rattle.mka_station.specs.declared.reaction.Reaction.{Reaction}
-use Rattle.mka_station.specs.declared.verdict.Verdict.{Verdict}
 use Rattle.mka_station.specs.Tick.{ended, install_changes}
 use Rattle.mka_station.specs.Hearing.{key_taken, take_changes}
 use Rattle.lan_core.specs.declared.fact.Fact.{Fact}
 use Rattle.lan_core.specs.declared.fact.Fact.TheVariants as facts
 use Rattle.lan_core.specs.Ledgers.{Birth, born, Install, install_of, Frame, framed, Claim, claim_of}
-use Rattle.lan_core.specs.Ledgers.{gather, with_one}
+use Rattle.lan_core.specs.Ledgers.{gather}
 use Rattle.lan_core.specs.Expected.{change_fact, reaction_facts}
+use Rattle.lan_core.proofs.Public.{gather-append, sending, gather-reaction}
 
 -- what facts add to the births, the installs, the air and the claims, newest first
 pub record IsGist (shown : List Fact) (bs : List Birth) (is : List Install) (fs : List Frame)
@@ -39,21 +40,16 @@ pub quiet-none : IsQuiet []
 quiet-none =
     record { births = λ xs. refl; installs = λ xs. refl; air = λ xs. refl; claims = λ xs. refl }
 
-pub gathered : {A : Type 0} (read : Fact → Option A) (before later : List Fact) (xs : List A)
-    → gather read (before ++ later) xs ≡ gather read later (gather read before xs)
-gathered read [] later xs = refl
-gathered read (fact ∷ before) later xs = gathered read before later (with_one (read fact) xs)
-
 -- after facts that add nothing
 pub quiet-before : {f g : List Fact} {bs : List Birth} {is : List Install} {fs : List Frame}
     {cs : List Claim}
     → IsQuiet f → IsGist g bs is fs cs → IsGist (f ++ g) bs is fs cs
 quiet-before {f} {g} {bs} {is} {fs} {cs} a b = record {
-  births = λ xs. gathered born f g xs ∙ ap (gather born g) (a.births xs) ∙ b.births xs;
-  installs = λ xs. gathered install_of f g xs ∙ ap (gather install_of g) (a.installs xs)
+  births = λ xs. gather-append born f g xs ∙ ap (gather born g) (a.births xs) ∙ b.births xs;
+  installs = λ xs. gather-append install_of f g xs ∙ ap (gather install_of g) (a.installs xs)
       ∙ b.installs xs;
-  air = λ xs. gathered framed f g xs ∙ ap (gather framed g) (a.air xs) ∙ b.air xs;
-  claims = λ xs. gathered claim_of f g xs ∙ ap (gather claim_of g) (a.claims xs) ∙ b.claims xs;
+  air = λ xs. gather-append framed f g xs ∙ ap (gather framed g) (a.air xs) ∙ b.air xs;
+  claims = λ xs. gather-append claim_of f g xs ∙ ap (gather claim_of g) (a.claims xs) ∙ b.claims xs;
 }
 
 -- before facts that only put frames on the air
@@ -61,11 +57,11 @@ pub frames-after : {f g : List Fact} {bs : List Birth} {is : List Install} {fs :
     {cs : List Claim}
     → IsGist f bs is [] cs → IsGist g [] [] fs [] → IsGist (f ++ g) bs is fs cs
 frames-after {f} {g} {bs} {is} {fs} {cs} a b = record {
-  births = λ xs. gathered born f g xs ∙ ap (gather born g) (a.births xs) ∙ b.births (bs ++ xs);
-  installs = λ xs. gathered install_of f g xs ∙ ap (gather install_of g) (a.installs xs)
+  births = λ xs. gather-append born f g xs ∙ ap (gather born g) (a.births xs) ∙ b.births (bs ++ xs);
+  installs = λ xs. gather-append install_of f g xs ∙ ap (gather install_of g) (a.installs xs)
       ∙ b.installs (is ++ xs);
-  air = λ xs. gathered framed f g xs ∙ ap (gather framed g) (a.air xs) ∙ b.air xs;
-  claims = λ xs. gathered claim_of f g xs ∙ ap (gather claim_of g) (a.claims xs)
+  air = λ xs. gather-append framed f g xs ∙ ap (gather framed g) (a.air xs) ∙ b.air xs;
+  claims = λ xs. gather-append claim_of f g xs ∙ ap (gather claim_of g) (a.claims xs)
       ∙ b.claims (cs ++ xs);
 }
 
@@ -154,18 +150,6 @@ sent_frame number s None = []
 sent_frame number s (Some octets) =
     record { number = number; station = s; sec = false; octets = octets } ∷ []
 
-heard-quiet : (s heard : ℕ) (v : Option Verdict)
-    → IsQuiet (option_to_list (option_map (λ v. facts.HeardMka heard s v) v))
-heard-quiet s heard None = quiet-none
-heard-quiet s heard (Some v) =
-    record { births = λ xs. refl; installs = λ xs. refl; air = λ xs. refl; claims = λ xs. refl }
-
-server-quiet : (s : ℕ) (server : Option (Option Mi))
-    → IsQuiet (option_to_list (option_map (λ m. facts.Server s m) server))
-server-quiet s None = quiet-none
-server-quiet s (Some server) =
-    record { births = λ xs. refl; installs = λ xs. refl; air = λ xs. refl; claims = λ xs. refl }
-
 sent-is : (s number : ℕ) (o : Option (List ℕ))
     → IsGist (option_to_list (option_map (λ octets. facts.Framed number s false octets) o)) [] []
     (sent_frame number s o) []
@@ -178,6 +162,16 @@ pub reaction-is : (s heard number : ℕ) (reaction : Reaction) (k : Option Key)
     → IsGist (reaction_facts s heard number reaction) [] (installed_at s k)
     (sent_frame number s reaction.sent) []
 reaction-is s heard number reaction k changed =
-    quiet-before (heard-quiet s heard reaction.heard)
-    (quiet-before (server-quiet s reaction.server)
-    (frames-after changed (sent-is s number reaction.sent)))
+    let last = sending s number reaction in
+    let sent = sent-is s number reaction.sent in
+    record {
+      births = λ xs. gather-reaction born s heard number reaction xs (λ v. refl) (λ m. refl)
+          ∙ ap (gather born last) (changed.births xs) ∙ sent.births xs;
+      installs = λ xs. gather-reaction install_of s heard number reaction xs (λ v. refl) (λ m. refl)
+          ∙ ap (gather install_of last) (changed.installs xs)
+          ∙ sent.installs (installed_at s k ++ xs);
+      air = λ xs. gather-reaction framed s heard number reaction xs (λ v. refl) (λ m. refl)
+          ∙ ap (gather framed last) (changed.air xs) ∙ sent.air xs;
+      claims = λ xs. gather-reaction claim_of s heard number reaction xs (λ v. refl) (λ m. refl)
+          ∙ ap (gather claim_of last) (changed.claims xs) ∙ sent.claims xs;
+    }

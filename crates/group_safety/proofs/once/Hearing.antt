@@ -6,17 +6,17 @@ use Rattle.lan_base.specs.Identifiers.{same_mi}
 use Rattle.mkpdu_codec.specs.declared.announcement.Announcement.{Announcement}
 use Rattle.mkpdu_codec.specs.declared.given.Given.{Given}
 use Rattle.sak_exchange.specs.declared.offer.Offer.{Offer}
-use Rattle.sak_exchange.specs.Histories.{Key, installed}
+use Rattle.sak_exchange.specs.declared.held_key.Key.{Key}
+use Rattle.sak_exchange.specs.Histories.{installed}
 use Rattle.sak_exchange.specs.Lives.{IsOver}
-use Rattle.sak_exchange.specs.Beginning.{Beginning}
 use Rattle.sak_exchange.specs.Outcomes.{beginning}
-use Rattle.sak_exchange.specs.Taking.{taken, greatest_of, an_of, number_of}
+use Rattle.sak_exchange.specs.Taking.{taken, greatest_of, number_of}
 use Rattle.sak_exchange.specs.Unwrapping.{given_sak}
 use Rattle.mka_station.specs.Lives.{Member, Entry, heard, keys_of}
 use Rattle.mka_station.specs.Views.{View, view}
-use Rattle.mka_station.specs.Tick.{with_install}
-use Rattle.mka_station.specs.Hearing.{outcome_of, offered, taken_of, take_changes, followed}
+use Rattle.mka_station.specs.Hearing.{outcome_of, offered, taken_of, take_changes}
 use Rattle.mka_station.specs.Hearing.{hear_turn}
+use Rattle.mka_station.specs.Hearing.{taken_past, follow_at}
 use Rattle.group_safety.proofs.Members.{In}
 use Rattle.group_safety.proofs.once.Histories.{handed, deeds_of, with_key, with_began, past_heard}
 use Rattle.group_safety.proofs.once.Histories.{keys-begun, keys-installed, keys-heard, view-keys}
@@ -33,14 +33,8 @@ use Rattle.group_safety.proofs.once.Ticking.{sound-begun}
 abbrev pub hear_view : Member → Announcement → List Entry → View
 hear_view m a p = view m (heard a ∷ p)
 
-abbrev pub taken_past : Member → Announcement → List Entry → List Entry
-taken_past m a p = with_install None (key_heard m a p) (heard a ∷ p)
-
-abbrev pub hear_follow : Member → Announcement → List Entry → Option Beginning
-hear_follow m a p = followed (view m (taken_past m a p)) (outcome_of m p a) a
-
 pub hear-past : (m : Member) (a : Announcement) (p : List Entry)
-    → (hear_turn m a p).past ≡ past_heard (hear_follow m a p) (key_heard m a p) a p
+    → (hear_turn m a p).past ≡ past_heard (follow_at m a p) (key_heard m a p) a p
 unfolding hear_turn
 hear-past m a p = refl
 
@@ -56,15 +50,15 @@ hear-changes s m a p =
     let v = hear_view m a p in
     let offer = offered m v (outcome_of m p a) a in
     then-changes s (take_changes v.keys offer (taken_of m v offer))
-    (beginning (view m (taken_past m a p)).keys (hear_follow m a p)).changes (key_heard m a p)
+    (beginning (view m (taken_past m a p)).keys (follow_at m a p)).changes (key_heard m a p)
     (take-is s v.keys offer (λ (o : Offer). taken m.base v.keys o (given_sak m.setup.kek o.given)))
-    (begin-quiet s (view m (taken_past m a p)).keys (hear_follow m a p))
+    (begin-quiet s (view m (taken_past m a p)).keys (follow_at m a p))
 
 -- ---- the keys after a hearing
 
--- what the fields of what is given have to be
+-- what the key number of what is given has to be
 abbrev pub IsSmallGift : Announcement → Type 0
-IsSmallGift a = (g : Given) → a.given ≡ Some g → (an_of g < 4) × (number_of g < 2 ^ 32)
+IsSmallGift a = (g : Given) → a.given ≡ Some g → number_of g < 2 ^ 32
 
 hear-taken : (m : Member) (a : Announcement) (p : List Entry) (k : Key) → key_heard m a p ≡ Some k
     → IsTaken m (keys_of m p) a k
@@ -81,26 +75,25 @@ taken-sound m a p most k sound ranged small t =
     (ap (λ w. same_mi w m.mi) t.server ∙ t.other) (record {
       epoch = t.epoch;
       server = ap (λ (n : Mi). length n.0) t.server ∙ ranged.mi;
-      number = subst (λ (n : ℕ). n < 2 ^ 32) (sym t.number) (small t.gift t.gives).1;
-      an = subst (λ (n : ℕ). n < 4) (sym t.an) (small t.gift t.gives).0;
+      number = subst (λ (n : ℕ). n < 2 ^ 32) (sym t.number) (small t.gift t.gives);
       sak = unwrapped-secret m.setup.kek t.gift k.sak t.hidden;
     })
 
 pub heard-keys : (m : Member) (a : Announcement) (p : List Entry)
-    → keys_of m (past_heard (hear_follow m a p) (key_heard m a p) a p)
-    ≡ with_began (hear_follow m a p) (with_key None (key_heard m a p) (keys_of m p))
+    → keys_of m (past_heard (follow_at m a p) (key_heard m a p) a p)
+    ≡ with_began (follow_at m a p) (with_key None (key_heard m a p) (keys_of m p))
 heard-keys m a p =
-    keys-begun m (hear_follow m a p) (taken_past m a p)
-    ∙ ap (with_began (hear_follow m a p))
+    keys-begun m (follow_at m a p) (taken_past m a p)
+    ∙ ap (with_began (follow_at m a p))
     (keys-installed m None (key_heard m a p) (heard a ∷ p)
     ∙ ap (with_key None (key_heard m a p)) (keys-heard m a p))
 
 pub hear-sound : (m : Member) (a : Announcement) (p : List Entry) (most : ℕ)
     → AreSound m.base m.mi most (keys_of m p) → IsRanged a → IsSmallGift a
-    → AreSound m.base m.mi most (keys_of m (past_heard (hear_follow m a p) (key_heard m a p) a p))
+    → AreSound m.base m.mi most (keys_of m (past_heard (follow_at m a p) (key_heard m a p) a p))
 hear-sound m a p most sound ranged small =
     subst (AreSound m.base m.mi most) (sym (heard-keys m a p))
-    (sound-begun m.base m.mi most (hear_follow m a p)
+    (sound-begun m.base m.mi most (follow_at m a p)
     (with_key None (key_heard m a p) (keys_of m p))
     (go (key_heard m a p) refl))
   where

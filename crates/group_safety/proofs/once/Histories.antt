@@ -5,7 +5,8 @@ use Rattle.mkpdu_codec.specs.declared.announcement.Announcement.{Announcement}
 use Rattle.peer_lists.specs.Histories.{Peering, last_sent}
 use Rattle.peer_lists.specs.Histories as peers
 use Rattle.peer_lists.specs.declared.heard.Heard.{Heard}
-use Rattle.sak_exchange.specs.Histories.{Key, Keying}
+use Rattle.sak_exchange.specs.declared.held_key.Key.{Key}
+use Rattle.sak_exchange.specs.Histories.{Keying}
 use Rattle.sak_exchange.specs.Histories as keys
 use Rattle.sak_exchange.specs.Beginning.{Beginning}
 use Rattle.sak_exchange.specs.Lives.{identifiers}

@@ -7,7 +7,8 @@ use Rattle.std.proofs.lemmas.Bool.{eqb-true}
 use Rattle.lan_base.specs.declared.address.Mi.{Mi}
 use Rattle.lan_base.specs.declared.key_id.KeyId.{KeyId}
 use Rattle.lan_base.specs.Identifiers.{same_mi}
-use Rattle.sak_exchange.specs.Histories.{Key, Keying, ticked, installed, began, installs, last_key}
+use Rattle.sak_exchange.specs.declared.held_key.Key.{Key}
+use Rattle.sak_exchange.specs.Histories.{Keying, ticked, installed, began, installs, last_key}
 use Rattle.sak_exchange.specs.Histories.{last_roster, last_begun, install_count, made_count}
 use Rattle.sak_exchange.specs.Held.{received, latest, old, transmitting, ends, with_new, has_epoch}
 use Rattle.sak_exchange.specs.Taking.{greatest_of}
@@ -26,7 +27,6 @@ pub record IsKeyOf (base : ℕ) (h : List Keying) (k : Key) : Type 0 where
   pub epoch : k.epoch ≡ (base + install_count h) + 1
   pub server : length k.id.server.0 ≡ 12
   pub number : k.id.number < 2 ^ 32
-  pub an : k.an < 4
   pub sak : IsSecret k.sak
 
 abbrev pub AreKeys : ℕ → List Keying → Type 0
@@ -164,7 +164,6 @@ transmitting-installed h k e = go (last_begun h) e
 pub record IsKeyIn (k : Key) : Type 0 where
   pub server : length k.id.server.0 ≡ 12
   pub number : k.id.number < 2 ^ 32
-  pub an : k.an < 4
   pub sak : IsSecret k.sak
 
 pub installed-key : (base : ℕ) (h : List Keying) (k : Key) → AreKeys base h → In k (installs h)
@@ -173,7 +172,7 @@ installed-key base [] k v i = elim i [ ]
 installed-key base (ticked s ∷ h) k v i = installed-key base h k v i
 installed-key base (installed r n ∷ h) k v (inl e) =
     subst IsKeyIn (sym e)
-    (record { server = v.0.server; number = v.0.number; an = v.0.an; sak = v.0.sak })
+    (record { server = v.0.server; number = v.0.number; sak = v.0.sak })
 installed-key base (installed r n ∷ h) k v (inr i) = installed-key base h k v.1 i
 installed-key base (began e ∷ h) k v i = installed-key base h k v i
 

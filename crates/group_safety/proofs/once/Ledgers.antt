@@ -1,6 +1,7 @@
 -- The ledgers of a run, what each current life has done, and the changes of both.
 use Rattle.std.specs.Prelude.{◌≡◌, ◌==◌, ◌<◌, ◌⊎◌, ℕ, Bool, true, false, cond, List, [], ◌∷◌, map}
 use Rattle.std.specs.Prelude.{Option, Some, None}
+use Rattle.lan_base.specs.declared.association_number.AssociationNumber.{AssociationNumber}
 use Rattle.lan_base.specs.declared.address.Mi.{Mi}
 use Rattle.lan_base.specs.declared.key_id.KeyId.{KeyId}
 use Rattle.aes_block.specs.declared.secret.Secret.{Secret}
@@ -10,7 +11,7 @@ use Rattle.group_safety.proofs.Members.{In}
 -- a key as it is handed out
 pub record Handed : Type 0 where
   pub id : KeyId
-  pub an : ℕ
+  pub an : AssociationNumber
   pub sak : Secret
 
 -- an announcement: whose it is, whom its Live Peer List has, and the key that it gives

@@ -6,7 +6,7 @@ use Rattle.lan_base.specs.declared.address.Mi.{Mi}
 use Rattle.mkpdu_codec.specs.declared.announcement.Announcement.{Announcement}
 use Rattle.mkpdu_codec.specs.declared.peer.Peer.{Peer}
 use Rattle.peer_lists.specs.Histories.{Peering, ticked, sent, heard, clock, is_young}
-use Rattle.peer_lists.specs.declared.heard.DropReason.{DropReason}
+use Rattle.peer_lists.specs.declared.heard.PeerRefusal.{PeerRefusal}
 use Rattle.peer_lists.specs.declared.heard.Heard.{Heard}
 use Rattle.peer_lists.specs.Acceptance.{Own, Accepted, accepted, refusal, vouches}
 use Rattle.peer_lists.specs.Peers.{says, hopes, known, standing, is_displaced, is_of, is_vouched_of}
@@ -52,7 +52,7 @@ accepted-told o (sent n ∷ h) a i = accepted-told o h a i
 accepted-told o (heard x ∷ h) a i = go (refusal o (clock h) (accepted o h) x) i
     (accepted-told o h a)
   where
-    go : (r : Option DropReason)
+    go : (r : Option PeerRefusal)
         → In a (elim r [
           | None ↦ record { at = clock h; told = x; vouched = vouches h x } ∷ accepted o h
           | Some

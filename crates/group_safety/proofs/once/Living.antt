@@ -9,7 +9,7 @@ use Rattle.gcm_frames.specs.Protected.{IsSci}
 use Rattle.mka_kdf.specs.Kdf.{kek_of}
 use Rattle.mkpdu_codec.specs.declared.announcement.Announcement.{Announcement}
 use Rattle.peer_lists.specs.Histories.{last_sent}
-use Rattle.sak_exchange.specs.Histories.{Key}
+use Rattle.sak_exchange.specs.declared.held_key.Key.{Key}
 use Rattle.sak_exchange.specs.Histories as keying
 use Rattle.mka_station.specs.Lives.{peers_of}
 use Rattle.lan_core.specs.declared.settings.Settings.{Settings}

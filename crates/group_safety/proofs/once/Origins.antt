@@ -1,12 +1,12 @@
 -- Where an announcement comes from: a tick at which a station said it.
 use Rattle.std.proofs.Common.{◌≡◌, ap, ℕ, List, ◌∷◌, ◌++◌, Some}
 use Rattle.mkpdu_codec.specs.declared.announcement.Announcement.{Announcement}
+use Rattle.mka_station.specs.Tick.{says_at}
 use Rattle.lan_core.specs.declared.event.Event.TheVariants as events
 use Rattle.lan_core.specs.declared.fact.Fact.{Fact}
 use Rattle.lan_core.specs.declared.settings.Settings.{Settings}
 use Rattle.lan_core.specs.Run.{Run, Happening, happened}
 use Rattle.lan_core.specs.Lives.{Life, life, seen_at, sak_in}
-use Rattle.group_safety.proofs.once.Ticking.{tick_said}
 
 -- a station says this at a tick after a run
 pub record IsSaidAt (settings : Settings) (front : Run) (s next : ℕ) (f : List Fact)
@@ -14,7 +14,7 @@ pub record IsSaidAt (settings : Settings) (front : Run) (s next : ℕ) (f : List
     Type 0 where
   pub by : Life
   pub living : life settings s front ≡ Some by
-  pub says : tick_said by.member (seen_at settings s front by next) (sak_in f) by.past ≡ Some a
+  pub says : says_at by.member (seen_at settings s front by next) (sak_in f) by.past ≡ Some a
 
 -- it was said in the run
 pub record IsSaid (settings : Settings) (r : Run) (a : Announcement) : Type 0 where

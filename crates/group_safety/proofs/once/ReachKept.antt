@@ -14,13 +14,15 @@ use Rattle.mkpdu_codec.specs.Reading.{reading}
 use Rattle.peer_lists.specs.Histories.{last_sent}
 use Rattle.rx_slots.specs.declared.arrival.Arrival.{Arrival}
 use Rattle.rx_slots.specs.Numbers.{answer}
-use Rattle.sak_exchange.specs.Histories.{Key, Keying}
+use Rattle.sak_exchange.specs.declared.held_key.Key.{Key}
+use Rattle.sak_exchange.specs.Histories.{Keying}
 use Rattle.sak_exchange.specs.Histories as keys
 use Rattle.sak_exchange.specs.Beginning.{Beginning}
-use Rattle.mka_station.specs.declared.verdict.Verdict.{Verdict}
+use Rattle.mka_station.specs.declared.verdict.DropReason.{DropReason}
 use Rattle.mka_station.specs.Lives.{Member, Entry, Setup, peers_of, keys_of}
 use Rattle.mka_station.specs.Tick.{Turn}
 use Rattle.mka_station.specs.Hearing.{judged, right, hear_turn, heard_turn, frame_turn, drop_turn}
+use Rattle.mka_station.specs.Hearing.{follow_at}
 use Rattle.lan_core.specs.declared.event.Event.TheVariants as events
 use Rattle.lan_core.specs.declared.fact.Fact.{Fact}
 use Rattle.lan_core.specs.declared.fact.Fact.TheVariants as facts
@@ -54,7 +56,7 @@ use Rattle.group_safety.proofs.once.Nexts.{mapped, chained}
 use Rattle.group_safety.proofs.once.Books.{Follows, changes_heard, heard-follows, heard-allowed}
 use Rattle.group_safety.proofs.once.Living.{group_kek, IsTold, install_by, IsLiving, IsPlain}
 use Rattle.group_safety.proofs.once.Living.{IsKnown, living-later}
-use Rattle.group_safety.proofs.once.Hearing.{hear_follow, hear-past, hear-silent, hear-changes}
+use Rattle.group_safety.proofs.once.Hearing.{hear-past, hear-silent, hear-changes}
 use Rattle.group_safety.proofs.once.Hearing.{heard-keys, hear-sound, hear-may-take}
 use Rattle.group_safety.proofs.once.Stepping.{follows-itself, plain-same, IsLifeOf, turn-kept}
 
@@ -143,12 +145,12 @@ hear-kept settings users x r s number octets l a c g same k heard =
         (subst (λ w. In (said_by w a) (book k.changes).spoken) (sym kek-same) heard.told.said)
         (λ n e. hear-may-take m a p (ticks r) n v.keys heard.ranged heard.gift e)
 
-    past-is : l'.past ≡ past_heard (hear_follow m a p) key a p
+    past-is : l'.past ≡ past_heard (follow_at m a p) key a p
     past-is = hear-past m a p
 
     follows : Follows (book k.changes) (book cs) s (deeds l') (installed_at s key) [] []
     follows = subst (λ w. Follows (book k.changes) (book cs) s w (installed_at s key) [] [])
-        (sym (ap (deeds_of m) past-is ∙ deeds-heard m (hear_follow m a p) key a p))
+        (sym (ap (deeds_of m) past-is ∙ deeds-heard m (follow_at m a p) key a p))
         (heard-follows s (deeds l) (said_by m.setup.kek a) key k.changes in-book)
 
     now-heard : (b : Announcement) → In b (a ∷ heard_of p) → IsRanged b
@@ -172,14 +174,14 @@ hear-kept settings users x r s number octets l a c g same k heard =
           (hear-sound m a p (ticks r) v.keys heard.ranged heard.gift));
       sent = subst (λ n. last_sent (peers_of m l'.past) ≤ n) (sym c.ticks)
           (subst (λ w. last_sent (peers_of m w) ≤ ticks r) (sym past-is)
-          (subst (λ n. n ≤ ticks r) (sym (sent-heard m (hear_follow m a p) key a p)) v.sent));
+          (subst (λ n. n ≤ ticks r) (sym (sent-heard m (follow_at m a p) key a p)) v.sent));
       heard = λ b i. now-heard b
-          (subst (λ w. In b w) (ap heard_of past-is ∙ heard-heard (hear_follow m a p) key a p) i);
+          (subst (λ w. In b w) (ap heard_of past-is ∙ heard-heard (follow_at m a p) key a p) i);
       origins =
           λ b i. now-said b
-          (subst (λ w. In b w) (ap heard_of past-is ∙ heard-heard (hear_follow m a p) key a p) i);
+          (subst (λ w. In b w) (ap heard_of past-is ∙ heard-heard (follow_at m a p) key a p) i);
       backed = λ n i. subst (λ w. In (install_by s n) w) (sym (installs-next x r g))
-          (hear-backed (hear_follow m a p) key (keys_of m p) s (installs r) v.backed n
+          (hear-backed (follow_at m a p) key (keys_of m p) s (installs r) v.backed n
           (subst (λ w. In n (keys.installs w)) (ap (keys_of m) past-is ∙ heard-keys m a p) i));
     }
 
@@ -204,7 +206,7 @@ reach-kept settings users x r s number octets l c k heard = go (is_sec octets) r
     arrival : Fact
     arrival = facts.Arrived number s (answer m.setup.sci settings.window (receiving s r) octets)
 
-    turn : Result Announcement Verdict → Turn
+    turn : Result Announcement DropReason → Turn
     turn judgement = heard_turn m judgement l.past
 
     told : Turn → List Fact
@@ -220,11 +222,13 @@ reach-kept settings users x r s number octets l c k heard = go (is_sec octets) r
         → lived_hearing l octets ≡ cond b l (lived l (frame_turn m octets l.past))
     life-is b e = ap (λ w. cond w l (lived l (frame_turn m octets l.past))) e
 
-    judge : (j : Result Announcement Verdict) → judged m.setup octets ≡ j → told (turn j) ≡ x.facts
+    judge : (j : Result Announcement DropReason) → judged m.setup octets ≡ j → told (turn j)
+        ≡ x.facts
         → lived_hearing l octets ≡ lived l (turn j) → IsKnown settings users (x ∷ r)
-    judge (Err v) e shows same =
+    judge (Err reason) e shows same =
         quiet-kept settings users x r s number octets l c
-        (subst IsQuiet shows (reaction-is s number 0 (drop_turn v l.past).reaction None quiet-none))
+        (subst IsQuiet shows (reaction-is s number 0 (drop_turn reason l.past).reaction None
+        quiet-none))
         same k
     judge (Ok a) e shows same =
         let read = judged-read m.setup octets a e in
@@ -297,7 +301,10 @@ deliver-kept settings users frame s f r step k =
 pub right-some : (setup : Setup) (octets : List ℕ) (a : Announcement) → judged setup octets ≡ Ok a
     → is_some (right setup octets) ≡ true
 right-some setup octets a e =
-    ap (λ (j : Result Announcement Verdict). is_some (elim j [ Ok a ↦ Some a | Err v ↦ None ])) e
+    ap (λ (j : Result Announcement DropReason). is_some (elim j [
+      | Ok a ↦ Some a
+      | Err reason ↦ None
+    ])) e
 
 pub unforged-repeats : (settings : Settings) (r : Run) (octets : List ℕ)
     → is_forged settings r octets ≡ false

@@ -1,7 +1,7 @@
 -- The rules of a station: which key is made, which is taken, and what is said.
-use Rattle.std.proofs.Common.{◌≡◌, ◌<◌, ◌+◌, refl, sym, ap, ◌∙◌, subst, inl, inr, ◌⊎◌, ℕ, zero, suc}
+use Rattle.std.proofs.Common.{◌≡◌, ◌+◌, refl, sym, ap, ◌∙◌, subst, inl, inr, ◌⊎◌, ℕ}
 use Rattle.std.proofs.Common.{List, [], ◌∷◌, map, Bool, true, false, ◌&&◌, ◌||◌, cond, Option, Some}
-use Rattle.std.proofs.Common.{None, Result, Ok, Err, is_some, arith}
+use Rattle.std.proofs.Common.{None, Result, Ok, Err, is_some}
 use Rattle.std.specs.Prelude.{option_map, option_and_then, nat_lt}
 use Rattle.std.specs.List.{list_all}
 use Rattle.std.specs.Option.{option_or}
@@ -15,8 +15,8 @@ use Rattle.mkpdu_codec.specs.declared.given.Given.{Given}
 use Rattle.mkpdu_codec.specs.declared.peer.Peer.{Peer}
 use Rattle.peer_lists.specs.declared.heard.Outcome.{Outcome}
 use Rattle.peer_lists.specs.declared.heard.Outcome.TheVariants.{Dropped}
-use Rattle.peer_lists.specs.declared.heard.DropReason.{DropReason}
-use Rattle.peer_lists.specs.declared.heard.DropReason.TheVariants.{Echo}
+use Rattle.peer_lists.specs.declared.heard.PeerRefusal.{PeerRefusal}
+use Rattle.peer_lists.specs.declared.heard.PeerRefusal.TheVariants.{Echo}
 use Rattle.peer_lists.specs.declared.heard.Heard.{Heard}
 use Rattle.peer_lists.specs.Histories.{Peering, recent, clock}
 use Rattle.peer_lists.specs.Acceptance.{Own, accepted, Accepted, outcome, refusal, echo}
@@ -24,15 +24,16 @@ use Rattle.peer_lists.proofs.Public.{same_mi-equal, by_test}
 use Rattle.sak_exchange.specs.declared.change.Why.{Why}
 use Rattle.sak_exchange.specs.declared.due.Seen.{Seen}
 use Rattle.sak_exchange.specs.declared.offer.Offer.{Offer}
-use Rattle.sak_exchange.specs.Histories.{Key, Keying, last_key, last_roster, install_count}
+use Rattle.sak_exchange.specs.declared.held_key.Key.{Key}
+use Rattle.sak_exchange.specs.Histories.{Keying, last_roster, install_count}
 use Rattle.sak_exchange.specs.Histories.{made_count}
 use Rattle.sak_exchange.specs.Held.{latest, allows}
 use Rattle.sak_exchange.specs.Beginning.{is_latest_made}
-use Rattle.sak_exchange.specs.Making.{made_key, made_roster, next_an, free_from, after, is_used}
+use Rattle.sak_exchange.specs.Making.{made_key, made_roster}
 use Rattle.sak_exchange.specs.Making.{is_in_roster, next_epoch}
 use Rattle.sak_exchange.specs.Taking.{taken, judged, offered_key, provided, provided_new}
 use Rattle.sak_exchange.specs.Taking.{unwrapped_key, greatest_of, an_of, number_of, offset_of}
-use Rattle.sak_exchange.specs.Taking.{is_supported}
+use Rattle.sak_exchange.specs.Taking.{is_supported, leaves_none}
 use Rattle.sak_exchange.specs.declared.change.Why.TheVariants.{NotListed, NotServer}
 use Rattle.sak_exchange.specs.declared.change.Why.TheVariants.{Seen as seen_why, Retiring, Suite}
 use Rattle.sak_exchange.specs.declared.change.Why.TheVariants.{Offset}
@@ -58,27 +59,11 @@ in-has m (n ∷ ns) e =
 
 -- ---- a made key
 
-after-bits : (a : ℕ) → after a < 4
-after-bits a = omega arith
-
-free-bits : (n : ℕ) (h : List Keying) (a : ℕ) → a < 4 → free_from n h a < 4
-free-bits zero h a l = l
-free-bits (suc n) h a l =
-    by_test (is_used h a) (λ e. rw e (free-bits n h (after a) (after-bits a))) (λ e. rw e l)
-
-next-bits : (h : List Keying) → next_an h < 4
-next-bits h = go (last_key h)
-  where
-    go : (o : Option Key) → (elim o [ None ↦ 0 | Some k ↦ free_from 2 h (after k.an) ]) < 4
-    go None = omega arith
-    go (Some k) = free-bits 2 h (after k.an) (after-bits k.an)
-
 -- what is known of a key that is made
 pub record IsMade (base : ℕ) (own : Mi) (h : List Keying) (sak : Secret) (k : Key) : Type 0 where
   pub server : k.id.server ≡ own
   pub number : k.id.number ≡ made_count h + 1
   pub epoch : k.epoch ≡ (base + install_count h) + 1
-  pub an : k.an < 4
   pub same_sak : k.sak ≡ sak
 
 pub made-is : (m : Member) (v : View) (seen : Seen) (sak : Secret) (k : Key)
@@ -95,7 +80,6 @@ made-is m v seen sak k e = go (makes_now m v seen) e
           server = refl;
           number = refl;
           epoch = refl;
-          an = next-bits v.keys;
           same_sak =
               refl;
         })
@@ -136,29 +120,101 @@ key-ok epoch o (Some s) k is =
     (s, refl, sym key)
 
 -- what is known of an offer that is taken
-record IsTakenBy (kept : Option ℕ) (epoch : ℕ) (o : Offer) (sak : Option Secret) (k : Key) : Type 0
-  where
-    listed : o.listed ≡ true
-    over : IsOver kept (number_of o.given)
-    secret : Secret
-    hidden : sak ≡ Some secret
-    same : k ≡ offered_key epoch o secret
+record IsOfferTaken (kept : Option ℕ) (allowed : Bool) (epoch : ℕ) (o : Offer) (sak : Option Secret)
+    (k : Key) : Type 0 where
+  listed : o.listed ≡ true
+  elected : o.elected ≡ true
+  over : IsOver kept (number_of o.given)
+  may_take : allowed ≡ true
+  secret : Secret
+  hidden : sak ≡ Some secret
+  same : k ≡ offered_key epoch o secret
 
 judged-ok : (kept : Option ℕ) (allowed : Bool) (epoch : ℕ) (o : Offer) (sak : Option Secret)
     (k : Key)
-    → judged kept allowed epoch o sak ≡ Ok k → IsTakenBy kept epoch o sak k
+    → judged kept allowed epoch o sak ≡ Ok k → IsOfferTaken kept allowed epoch o sak k
 judged-ok kept allowed epoch o sak k is =
     let a = provided-ok o.listed NotListed _ k is in
     let b = provided-ok o.elected NotServer _ k a.1 in
     let c = new-ok kept (number_of o.given) _ k b.1 in
     let d = provided-ok allowed Retiring _ k c.1 in
     let e = provided-ok (is_supported o.given) Suite _ k d.1 in
-    let f = provided-ok (nat_lt (offset_of o.given) 2) Offset _ k e.1 in
+    let f = provided-ok (leaves_none (offset_of o.given)) Offset _ k e.1 in
     let g = key-ok epoch o sak k f.1 in
-    record { listed = a.0; over = c.0; secret = g.0; hidden = g.1; same = g.2 }
+    record {
+      listed = a.0;
+      elected = b.0;
+      over = c.0;
+      may_take = d.0;
+      secret = g.0;
+      hidden = g.1;
+      same = g.2;
+    }
+
+-- what is known of a key that an announcement gives and a station takes, by what it sees then
+pub record IsTaking (m : Member) (v : View) (o : Outcome) (a : Announcement) (k : Key) : Type 0
+  where
+    pub gift : Given
+    pub gives : a.given ≡ Some gift
+    pub accepted : is_accepted o ≡ true
+    pub listed : is_listed m v.peers a ≡ true
+    pub elected : is_server v.server a.mi ≡ true
+    pub server : k.id.server ≡ a.mi
+    pub number : k.id.number ≡ number_of gift
+    pub an : k.an ≡ an_of gift
+    pub hidden : given_sak m.setup.kek gift ≡ Some k.sak
+    pub over : IsOver (greatest_of a.mi v.keys) k.id.number
+    pub allowed : allows v.keys ≡ true
+    pub epoch : k.epoch ≡ next_epoch m.base v.keys
+
+pub taking-is : (m : Member) (v : View) (o : Outcome) (a : Announcement) (k : Key)
+    → key_taken (taken_of m v (offered m v o a)) ≡ Some k → IsTaking m v o a k
+taking-is m v o a k e = go (is_accepted o) refl a.given refl e
+  where
+    offer : Given → Offer
+    offer g =
+        record {
+          given = g;
+          server = a.mi;
+          listed = is_listed m v.peers a;
+          elected =
+              is_server v.server a.mi;
+        }
+
+    answer : (g : Given) (r : Result Key Why) → a.given ≡ Some g → is_accepted o ≡ true
+        → taken m.base v.keys (offer g) (given_sak m.setup.kek g) ≡ r → key_taken (Some r) ≡ Some k
+        → IsTaking m v o a k
+    answer g (Err why) given ok is f = absurd (none-some f)
+    answer g (Ok n) given ok is f =
+        let t = judged-ok (greatest_of a.mi v.keys) (allows v.keys) (next_epoch m.base v.keys)
+        (offer g)
+        (given_sak m.setup.kek g) n is in
+        subst (IsTaking m v o a) (some-same f) (record {
+          gift = g;
+          gives = given;
+          accepted = ok;
+          listed = t.listed;
+          elected = t.elected;
+          server = ap (λ (w : Key). w.id.server) t.same;
+          number = ap (λ (w : Key). w.id.number) t.same;
+          an = ap (λ (w : Key). w.an) t.same;
+          hidden = t.hidden ∙ ap (λ (w : Key). Some w.sak) (sym t.same);
+          over = subst (IsOver (greatest_of a.mi v.keys))
+              (sym (ap (λ (w : Key). w.id.number) t.same)) t.over;
+          allowed = t.may_take;
+          epoch = ap (λ (w : Key). w.epoch) t.same;
+        })
+
+    go : (b : Bool) → is_accepted o ≡ b → (g : Option Given) → a.given ≡ g
+        → key_taken (taken_of m v (cond b (option_map offer g) None)) ≡ Some k
+        → IsTaking m v o a k
+    go false ok g given f = absurd (none-some f)
+    go true ok None given f = absurd (none-some f)
+    go true ok (Some g) given f =
+        answer g (taken m.base v.keys (offer g) (given_sak m.setup.kek g)) given ok refl f
 
 -- an announcement that is accepted is of another member
-or-none : (o p : Option DropReason) → option_or o p ≡ None → o ≡ None
+or-none : (o p : Option PeerRefusal) → option_or o p ≡ None → o ≡ None
 or-none None p e = refl
 or-none (Some a) p e = absurd (cc e)
 
@@ -170,7 +226,7 @@ no-echo : (b : Bool) → cond b (Some Echo) None ≡ None → b ≡ false
 no-echo true e = absurd (cc e)
 no-echo false e = refl
 
-unrefused : (r : Option DropReason) (o : Outcome)
+unrefused : (r : Option PeerRefusal) (o : Outcome)
     → is_accepted (elim r [ None ↦ o | Some reason ↦ Dropped reason ]) ≡ true → r ≡ None
 unrefused None o e = refl
 unrefused (Some reason) o e = absurd (true≢false (sym e))
@@ -211,47 +267,20 @@ listed-in m h a e =
 offer-taken : (m : Member) (v : View) (a : Announcement) (k : Key) (o : Outcome)
     → (is_accepted o ≡ true → same_mi a.mi m.mi ≡ false)
     → key_taken (taken_of m v (offered m v o a)) ≡ Some k → IsTaken m v.keys a k
-offer-taken m v a k o others e = go (is_accepted o) refl a.given refl e
-  where
-    offer : Given → Offer
-    offer g =
-        record {
-          given = g;
-          server = a.mi;
-          listed = is_listed m v.peers a;
-          elected =
-              is_server v.server a.mi;
-        }
-
-    answer : (g : Given) (r : Result Key Why) → a.given ≡ Some g → is_accepted o ≡ true
-        → taken m.base v.keys (offer g) (given_sak m.setup.kek g) ≡ r → key_taken (Some r) ≡ Some k
-        → IsTaken m v.keys a k
-    answer g (Err why) given ok is f = absurd (none-some f)
-    answer g (Ok n) given ok is f =
-        let t = judged-ok (greatest_of a.mi v.keys) (allows v.keys) (next_epoch m.base v.keys)
-        (offer g)
-        (given_sak m.setup.kek g) n is in
-        subst (IsTaken m v.keys a) (some-same f) (record {
-          gift = g;
-          gives = given;
-          listed = listed-in m v.peers a t.listed;
-          server = ap (λ (w : Key). w.id.server) t.same;
-          number = ap (λ (w : Key). w.id.number) t.same;
-          an = ap (λ (w : Key). w.an) t.same;
-          hidden = t.hidden ∙ ap (λ (w : Key). Some w.sak) (sym t.same);
-          other = others ok;
-          over = subst (IsOver (greatest_of a.mi v.keys))
-              (sym (ap (λ (w : Key). w.id.number) t.same)) t.over;
-          epoch = ap (λ (w : Key). w.epoch) t.same;
-        })
-
-    go : (b : Bool) → is_accepted o ≡ b → (g : Option Given) → a.given ≡ g
-        → key_taken (taken_of m v (cond b (option_map offer g) None)) ≡ Some k
-        → IsTaken m v.keys a k
-    go false ok g given f = absurd (none-some f)
-    go true ok None given f = absurd (none-some f)
-    go true ok (Some g) given f =
-        answer g (taken m.base v.keys (offer g) (given_sak m.setup.kek g)) given ok refl f
+offer-taken m v a k o others e =
+    let t = taking-is m v o a k e in
+    record {
+      gift = t.gift;
+      gives = t.gives;
+      listed = listed-in m v.peers a t.listed;
+      server = t.server;
+      number = t.number;
+      an = t.an;
+      hidden = t.hidden;
+      other = others t.accepted;
+      over = t.over;
+      epoch = t.epoch;
+    }
 
 -- the key that a hearing takes
 abbrev pub key_heard : Member → Announcement → List Entry → Option Key

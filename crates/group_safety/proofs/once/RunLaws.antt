@@ -25,9 +25,10 @@ use Rattle.group_safety.proofs.once.Ledgers.{Handed, Installation, Book, book, m
 use Rattle.group_safety.proofs.once.Places.{differs-in, differ-by}
 use Rattle.group_safety.proofs.once.Currents.{some-same, none-some}
 use Rattle.group_safety.proofs.once.Invariant.{Inv}
-use Rattle.group_safety.proofs.once.Kept.{holds}
-use Rattle.group_safety.proofs.once.Given.{octets_in, made_in, one-key, maker, one-install, slot_of}
-use Rattle.group_safety.proofs.once.Given.{claims-differ, lived}
+use Rattle.group_safety.proofs.once.ChangesKeep.{holds}
+use Rattle.group_safety.proofs.once.OneKeyEach.{octets_in, made_in, one-key, maker, one-install}
+use Rattle.group_safety.proofs.once.OneKeyEach.{number_taken}
+use Rattle.group_safety.proofs.once.OneKeyEach.{claims-differ, lived}
 use Rattle.group_safety.proofs.once.LiveHeard.{in-find}
 use Rattle.group_safety.proofs.once.Nexts.{get-there, in-get}
 use Rattle.group_safety.proofs.once.Books.{plain}
@@ -231,15 +232,15 @@ place-apart f (x ∷ xs) (suc s) (suc t) p q d hs ht e = ap suc (place-apart f x
 pub run-once : (settings : Settings) (users : List UserFrame) (r : Run) → IsKnown settings users r
     → IsFresh r → Once r
 run-once settings users r k fresh =
-    differ-by (use_of r) slot_of (claims r) same
-    (subst (λ cs. AllDiffer (map slot_of cs)) k.shows.claims
+    differ-by (use_of r) number_taken (claims r) same
+    (subst (λ cs. AllDiffer (map number_taken cs)) k.shows.claims
     (claims-differ (book k.changes).claims v.falling))
   where
     v : Inv (book k.changes)
     v = invariant settings users r k fresh
 
     same : (c d : Claim) → In c (claims r) → In d (claims r) → use_of r c ≡ use_of r d
-        → slot_of c ≡ slot_of d
+        → number_taken c ≡ number_taken d
     same c d hc hd e =
         let i = used settings users r k fresh c hc in
         let j = used settings users r k fresh d hd in

@@ -4,7 +4,7 @@ use Rattle.std.proofs.Common.{◌++◌, length, map, Option, Some, None, arith}
 use Rattle.std.specs.Prelude.{option_map, slice_get}
 use Rattle.lan_base.specs.declared.frame.UserFrame.{UserFrame}
 use Rattle.lan_base.specs.declared.address.Mi.{Mi}
-use Rattle.lan_base.specs.Ranges.{IsCkn}
+use Rattle.lan_base.specs.Ranges.{IsCkn, most_ticks}
 use Rattle.aes_block.specs.declared.secret.Secret.{Secret}
 use Rattle.aes_block.specs.Secrets.{secret_octets}
 use Rattle.aes_block.specs.Aes.{IsKey as IsCipherKey}
@@ -14,11 +14,12 @@ use Rattle.mkpdu_codec.specs.Frames.{Spells}
 use Rattle.mkpdu_codec.specs.Written.{written}
 use Rattle.peer_lists.specs.Histories.{last_sent}
 use Rattle.sak_exchange.specs.declared.due.Seen.{Seen}
-use Rattle.sak_exchange.specs.Histories.{Key}
+use Rattle.sak_exchange.specs.declared.held_key.Key.{Key}
 use Rattle.sak_exchange.specs.Histories as keys
 use Rattle.mka_station.specs.Lives.{Member, Entry, Setup, peers_of, keys_of}
 use Rattle.mka_station.specs.Announcing.{frame_of}
 use Rattle.mka_station.specs.Tick.{with_sent}
+use Rattle.mka_station.specs.Tick.{ticked_past, says_at}
 use Rattle.lan_core.specs.declared.event.Event.TheVariants as events
 use Rattle.lan_core.specs.declared.fact.Fact.{Fact}
 use Rattle.lan_core.specs.declared.settings.Settings.{Settings}
@@ -46,11 +47,12 @@ use Rattle.group_safety.proofs.once.Books.{Follows, changes_made, changes_said, 
 use Rattle.group_safety.proofs.once.Books.{made-follows, made-allowed, said-follows, said-allowed}
 use Rattle.group_safety.proofs.once.Living.{group_kek, IsTold, install_by, IsLiving, IsPlain}
 use Rattle.group_safety.proofs.once.Living.{IsKnown, kek-key, ick-key}
-use Rattle.group_safety.proofs.once.Ticking.{tick_key, tick_roster, tick_lead, tick_past, tick_said}
+use Rattle.group_safety.proofs.once.Ticking.{tick_key, tick_roster, tick_lead}
 use Rattle.group_safety.proofs.once.Ticking.{turn-past, tick-sound, tick-may-make, said-may}
 use Rattle.group_safety.proofs.once.Ticking.{said-spells, announced-next, IsReady, IsSpeaker}
-use Rattle.group_safety.proofs.once.Events.{seen-small, tick-gist, drawn-secret, tick-drawn}
-use Rattle.group_safety.proofs.once.Events.{tick-lives, tick-backed}
+use Rattle.group_safety.proofs.once.EventsKeepKnown.{seen-small, tick-gist, drawn-secret}
+use Rattle.group_safety.proofs.once.EventsKeepKnown.{tick-drawn}
+use Rattle.group_safety.proofs.once.EventsKeepKnown.{tick-lives, tick-backed}
 use Rattle.group_safety.proofs.once.Stepping.{follows-on, plain-same, turn-kept}
 
 -- what is known of a station that speaks
@@ -103,10 +105,10 @@ tick-on settings users s next f r l is step k living shows =
     ms = tick_roster m p
 
     q : List Entry
-    q = tick_past m seen sak p
+    q = ticked_past m seen sak p
 
     said : Option Announcement
-    said = tick_said m seen sak p
+    said = says_at m seen sak p
 
     b : Book
     b = book k.changes
@@ -123,7 +125,7 @@ tick-on settings users s next f r l is step k living shows =
         (sent_frame (next_frame r) s (option_map (frame_of m.setup) said)) [])
         shows (tick-gist settings s r next sak l)
 
-    few : 1 + ticks r ≤ 1000000
+    few : 1 + ticks r ≤ most_ticks
     few = step.within.ticks
 
     ready : IsReady m p most

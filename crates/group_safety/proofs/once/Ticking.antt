@@ -14,7 +14,8 @@ use Rattle.mkpdu_codec.specs.Written.{written}
 use Rattle.peer_lists.specs.Histories.{last_sent}
 use Rattle.peer_lists.specs.Acceptance.{Accepted}
 use Rattle.sak_exchange.specs.declared.due.Seen.{Seen}
-use Rattle.sak_exchange.specs.Histories.{Key, Keying, installed, install_count, made_count}
+use Rattle.sak_exchange.specs.declared.held_key.Key.{Key}
+use Rattle.sak_exchange.specs.Histories.{Keying, installed, install_count, made_count}
 use Rattle.sak_exchange.specs.Held.{latest}
 use Rattle.sak_exchange.specs.Lives.{identifiers}
 use Rattle.sak_exchange.specs.Beginning.{Beginning}
@@ -22,9 +23,10 @@ use Rattle.sak_exchange.specs.Making.{made_roster}
 use Rattle.sak_exchange.specs.Outcomes.{beginning}
 use Rattle.mka_station.specs.Lives.{Member, Entry, ticked, peers_of, keys_of}
 use Rattle.mka_station.specs.Views.{View, view, reports, speakers}
-use Rattle.mka_station.specs.Announcing.{says_now, lowest_in, announcement, frame_of, peer_of}
-use Rattle.mka_station.specs.Tick.{tick_turn, led, made, ended, with_beginning, with_install}
+use Rattle.mka_station.specs.Announcing.{lowest_in, announcement, frame_of, peer_of}
+use Rattle.mka_station.specs.Tick.{tick_turn, led, made, ended, with_beginning}
 use Rattle.mka_station.specs.Tick.{with_sent, install_changes}
+use Rattle.mka_station.specs.Tick.{ticked_past, says_at}
 use Rattle.lan_core.specs.Types.{IsSecret}
 use Rattle.group_safety.proofs.Members.{In, in-map, in-from_map}
 use Rattle.group_safety.proofs.once.Ledgers.{Handed, Made, Book, MayMake, MaySay, IsOwn}
@@ -57,26 +59,17 @@ tick_roster m p = made_roster m.mi (reports (tick_view m p).live)
 abbrev pub tick_lead : Member → List Entry → Option Beginning
 tick_lead m p = led m (tick_view m p)
 
-abbrev pub tick_past : Member → Seen → Secret → List Entry → List Entry
-tick_past m seen sak p =
-    with_install (Some (tick_roster m p)) (tick_key m seen sak p)
-    (with_beginning (tick_lead m p) (ticked ∷ p))
-
 abbrev pub tick_lowest : Member → Seen → List Entry → Key → ℕ
 tick_lowest m seen p = lowest_in seen (view m p).keys
 
-abbrev pub tick_said : Member → Seen → Secret → List Entry → Option Announcement
-tick_said m seen sak p =
-    says_now m (tick_lowest m seen p) (tick_past m seen sak p) (view m (tick_past m seen sak p))
-
 pub turn-past : (m : Member) (seen : Seen) (sak : Secret) (p : List Entry)
-    → (tick_turn m seen sak p).past ≡ with_sent (tick_said m seen sak p) (tick_past m seen sak p)
+    → (tick_turn m seen sak p).past ≡ with_sent (says_at m seen sak p) (ticked_past m seen sak p)
 unfolding tick_turn
 turn-past m seen sak p = refl
 
 pub turn-sent : (m : Member) (seen : Seen) (sak : Secret) (p : List Entry)
     → (tick_turn m seen sak p).reaction.sent ≡ option_map (frame_of m.setup)
-    (tick_said m seen sak p)
+    (says_at m seen sak p)
 unfolding tick_turn
 turn-sent m seen sak p = refl
 
@@ -148,7 +141,6 @@ made-key-of m p most sak k v secret is =
           (sym (installs-begun (tick_lead m p) (elects m p ∷ keys_of m p)));
       server = ap (λ (n : Mi). length n.0) is.server ∙ v.mi;
       number = omega (arith, few, most', number);
-      an = is.an;
       sak = subst IsSecret (sym is.same_sak) secret;
     }
 
@@ -165,7 +157,8 @@ made-sound m seen sak p most k v secret e =
     (made-key-of m p most sak k v secret is)
 
 past-keys : (m : Member) (seen : Seen) (sak : Secret) (p : List Entry)
-    → keys_of m (tick_past m seen sak p) ≡ with_key (Some (tick_roster m p)) (tick_key m seen sak p)
+    → keys_of m (ticked_past m seen sak p) ≡ with_key (Some (tick_roster m p))
+    (tick_key m seen sak p)
     (led_keys m p)
 past-keys m seen sak p =
     keys-installed m (Some (tick_roster m p)) (tick_key m seen sak p)
@@ -176,7 +169,7 @@ past-keys m seen sak p =
 pub tick-sound : (m : Member) (seen : Seen) (sak : Secret) (p : List Entry) (most : ℕ)
     → IsReady m p most
     → ((k : Key) → tick_key m seen sak p ≡ Some k → IsSecret sak)
-    → AreSound m.base m.mi (most + 1) (keys_of m (tick_past m seen sak p))
+    → AreSound m.base m.mi (most + 1) (keys_of m (ticked_past m seen sak p))
 tick-sound m seen sak p most v secret =
     subst (AreSound m.base m.mi (most + 1)) (sym (past-keys m seen sak p))
     (go (tick_key m seen sak p) refl)
@@ -263,15 +256,16 @@ announced-may b s m lowest q most living keys is_key =
 
 pub said-may : (b : Book) (s : ℕ) (m : Member) (seen : Seen) (sak : Secret) (p : List Entry)
     (most : ℕ)
-    (a : Announcement) → b.life s ≡ Some (deeds_of m (tick_past m seen sak p))
-    → AreSound m.base m.mi most (keys_of m (tick_past m seen sak p)) → IsCipherKey m.setup.kek
-    → tick_said m seen sak p ≡ Some a
-    → MaySay b s (deeds_of m (tick_past m seen sak p)) (said_by m.setup.kek a)
+    (a : Announcement) → b.life s ≡ Some (deeds_of m (ticked_past m seen sak p))
+    → AreSound m.base m.mi most (keys_of m (ticked_past m seen sak p)) → IsCipherKey m.setup.kek
+    → says_at m seen sak p ≡ Some a
+    → MaySay b s (deeds_of m (ticked_past m seen sak p)) (said_by m.setup.kek a)
 said-may b s m seen sak p most a living keys is_key e =
-    subst (λ w. MaySay b s (deeds_of m (tick_past m seen sak p)) (said_by m.setup.kek w))
-    (said-now m (tick_lowest m seen p) (tick_past m seen sak p) (view m (tick_past m seen sak p)) a
+    subst (λ w. MaySay b s (deeds_of m (ticked_past m seen sak p)) (said_by m.setup.kek w))
+    (said-now m (tick_lowest m seen p) (ticked_past m seen sak p)
+    (view m (ticked_past m seen sak p)) a
     e)
-    (announced-may b s m (tick_lowest m seen p) (tick_past m seen sak p) most living keys is_key)
+    (announced-may b s m (tick_lowest m seen p) (ticked_past m seen sak p) most living keys is_key)
 
 -- its frame spells it
 lowest-small : (seen : Seen) (h : List Keying) (k : Key) → seen.latest < 2 ^ 32 → seen.old < 2 ^ 32
@@ -298,11 +292,11 @@ pub record IsSpeaker (m : Member) (p : List Entry) (most : ℕ) : Type 0 where
 pub said-spells : (m : Member) (seen : Seen) (sak : Secret) (p : List Entry) (most : ℕ)
     (a : Announcement)
     → IsReady m p most → IsSpeaker m p most → SeenSmall seen
-    → AreSound m.base m.mi (most + 1) (keys_of m (tick_past m seen sak p))
-    → tick_said m seen sak p ≡ Some a
+    → AreSound m.base m.mi (most + 1) (keys_of m (ticked_past m seen sak p))
+    → says_at m seen sak p ≡ Some a
     → Spells (frame_of m.setup a) a (length (written a)) (cmac m.setup.ick (written a))
 said-spells m seen sak p most a v w small keys e =
-    let q = tick_past m seen sak p in
+    let q = ticked_past m seen sak p in
     let sent = w.sent in let few = v.few in
     let same : last_sent (peers_of m q) ≡ last_sent (peers_of m p) =
     sent-before m (tick_roster m p) (tick_key m seen sak p) (tick_lead m p) p in
@@ -324,9 +318,9 @@ said-spells m seen sak p most a v w small keys e =
 
 -- the number that was sent last
 pub announced-next : (m : Member) (seen : Seen) (sak : Secret) (p : List Entry) (a : Announcement)
-    → tick_said m seen sak p ≡ Some a → a.mn ≡ last_sent (peers_of m p) + 1
+    → says_at m seen sak p ≡ Some a → a.mn ≡ last_sent (peers_of m p) + 1
 announced-next m seen sak p a e =
-    let q = tick_past m seen sak p in
+    let q = ticked_past m seen sak p in
     sym (ap (λ (x : Announcement). x.mn) (said-now m (tick_lowest m seen p) q (view m q) a e))
     ∙ ap (λ h. last_sent h + 1) (view-peers m q)
     ∙ ap (λ (n : ℕ). n + 1)

@@ -5,6 +5,7 @@ use Rattle.std.proofs.Common.{Option, Some, None}
 use Rattle.std.proofs.lemmas.Bool.{cases_lt, eqb-true, eqb-false}
 use Rattle.std.proofs.lemmas.List.{length-append, append_assoc}
 use Rattle.std.specs.Prelude.{◌==◌, option_map, slice_get}
+use Rattle.lan_base.specs.declared.association_number.AssociationNumber.{AssociationNumber}
 use Rattle.lan_base.specs.declared.frame.UserFrame.{UserFrame}
 use Rattle.lan_base.specs.declared.address.Sci.{Sci}
 use Rattle.lan_base.specs.Identifiers.{same_sci}
@@ -21,7 +22,8 @@ use Rattle.gcm_frames.proofs.Public.{reread, reopened}
 use Rattle.rx_slots.specs.Histories.{Receiving, standing_key}
 use Rattle.rx_slots.specs.Numbers.{answer, accepted, admitted, is_late, next_number}
 use Rattle.rx_slots.specs.Answers.{checked}
-use Rattle.sak_exchange.specs.Histories.{Key, installs}
+use Rattle.sak_exchange.specs.declared.held_key.Key.{Key}
+use Rattle.sak_exchange.specs.Histories.{installs}
 use Rattle.sak_exchange.specs.Held.{received, transmitting}
 use Rattle.sak_exchange.specs.Lives.{Has}
 use Rattle.sak_exchange.proofs.Public.{by_test}
@@ -44,15 +46,15 @@ use Rattle.lan_core.specs.Fresh.{IsUnforged, drawn_mis}
 use Rattle.lan_core.proofs.Public.{air-numbered}
 use Rattle.group_safety.specs.Moments.{upto, At}
 use Rattle.group_safety.specs.Stations.{keys_at}
-use Rattle.group_safety.specs.Time.{Claims, IsFlight, Answers}
+use Rattle.group_safety.specs.Time.{Claims, Flight, IsFlight, Answers}
 use Rattle.group_safety.proofs.once.Ciphers.{encrypts}
 use Rattle.group_safety.proofs.once.Living.{IsLiving}
 use Rattle.group_safety.proofs.once.Nexts.{in-get, get-less, in-later, in-gathered, mapped, chained}
 use Rattle.group_safety.proofs.once.LiveHeard.{in-find}
 use Rattle.group_safety.proofs.rollover.Spans.{from_to}
-use Rattle.group_safety.proofs.rollover.Moments.{along, event-at, to-upto}
-use Rattle.group_safety.proofs.rollover.Events.{Kind, kind}
-use Rattle.group_safety.proofs.rollover.Events as kinds
+use Rattle.group_safety.proofs.rollover.AtMoments.{along, event-at, to-upto}
+use Rattle.group_safety.proofs.rollover.EventKinds.{Kind, kind}
+use Rattle.group_safety.proofs.rollover.EventKinds as kinds
 use Rattle.group_safety.proofs.rollover.Shows.{claims-by}
 use Rattle.group_safety.proofs.rollover.OneLife.{step-at, stands-at}
 use Rattle.group_safety.proofs.rollover.Said.{known-at, frames-by}
@@ -114,15 +116,16 @@ one-at-least (suc n) d = omega arith
 
 -- ---- the answer to a frame of a key that stands
 
-answered-data : (window : ℕ) (past : List _) (sci : Sci) (an pn : ℕ) (body : List ℕ)
+answered-data : (window : ℕ) (past : List _) (sci : Sci) (an : AssociationNumber) (pn : ℕ)
+    (body : List ℕ)
     → Answers (admitted window past
     (Rattle.rx_slots.specs.declared.arrival.Checked.TheVariants.Sealed sci an pn body))
 answered-data window past sci an pn body =
     by_test (is_late window (next_number past an sci) pn) (λ t. rw t tt) (λ t. rw t tt)
 
 pub answers-it : (own : Sci) (window : ℕ) (s : List Receiving) (sak : Secret)
-    (sci : Sci) (an pn : ℕ) (conf : Bool) (user : UserFrame)
-    → IsCipherKey (secret_octets sak) → IsSent sci an pn user → standing_key s an ≡ Some sak
+    (sci : Sci) (an : AssociationNumber) (pn : ℕ) (conf : Bool) (user : UserFrame)
+    → IsCipherKey (secret_octets sak) → IsSent sci pn user → standing_key s an ≡ Some sak
     → Answers (answer own window s (protected (secret_octets sak) sci an pn conf user))
 answers-it own window s sak sci an pn conf user key sent stands =
     let octets = protected (secret_octets sak) sci an pn conf user in
@@ -310,21 +313,23 @@ module _ (settings : Settings) (users : List UserFrame) (run : Run) (is : IsSett
           (received-installed (keys_in l) key (transmitting-received (keys_in l) key g)))
 
   -- what is known of a flight
-  pub record IsKnownFlight (c d t : ℕ) (key : Key) (frame : ℕ) : Type 0 where
-    pub order : c < d
+  pub record IsKnownFlight (f : Flight) : Type 0 where
+    pub order : f.claim < f.delivery
     pub event : Happening
-    pub at : At run d event
+    pub at : At run f.delivery event
     pub life_then : Life
-    pub living : life settings t (upto d run) ≡ Some life_then
+    pub living : life settings f.receiver (upto f.delivery run) ≡ Some life_then
     pub sci : Sci
     pub pn : ℕ
     pub user : UserFrame
     pub octets : List ℕ
-    pub protected_so : octets ≡ protected (secret_octets key.sak) sci key.an pn key.conf user
-    pub sent : IsSent sci key.an pn user
-    pub key_is : IsCipherKey (secret_octets key.sak)
-    pub fact : In (facts.Arrived frame t
-        (answer life_then.member.setup.sci settings.window (receiving t (upto d run)) octets))
+    pub protected_so :
+        octets ≡ protected (secret_octets f.key.sak) sci f.key.an pn f.key.conf user
+    pub sent : IsSent sci pn user
+    pub key_is : IsCipherKey (secret_octets f.key.sak)
+    pub fact : In (facts.Arrived f.frame f.receiver
+        (answer life_then.member.setup.sci settings.window (receiving f.receiver
+        (upto f.delivery run)) octets))
         event.facts
 
   -- the frame that is delivered
@@ -371,22 +376,23 @@ module _ (settings : Settings) (users : List UserFrame) (run : Run) (is : IsSett
       (Rattle.lan_core.specs.Expected.reached_facts settings t (upto d run) frame octets l)
   arrived d t frame octets l sec = rw sec (inl refl)
 
-  pub flight : (c d sender t : ℕ) (key : Key) (frame : ℕ)
-      → IsFlight settings run c d sender t key frame → IsKnownFlight c d t key frame
-  flight c d sender t key frame F =
+  pub flight : (f : Flight) → IsFlight settings run f → IsKnownFlight f
+  flight f F =
       let C = F.claims in
       let E = F.its_frame in
       let within = E.within in
       let high = F.within in
-      let frame_in = contains-in E.event.facts (facts.Framed frame E.station true E.octets) E.fact in
+      let frame_in = contains-in E.event.facts (facts.Framed f.frame E.station true E.octets)
+      E.fact in
       let fb = frames-by settings users
-      (upto E.emission run) E.event.event E.event.facts frame E.station true E.octets
+      (upto E.emission run) E.event.event E.event.facts f.frame E.station true E.octets
       (kind settings users E.event (upto E.emission run) (step-of E.emission E.event within E.at))
       frame_in in
       elim fb [
         | said.says next l a s ev living said_it o ↦ absurd (cc (s))
         | said.emits w s ev waits sent st ↦
-            let by = emitted-claim c E.emission sender F.pn key w C (omega arith) waits E.place in
+            let by = emitted-claim f.claim E.emission f.sender F.pn f.key w C (omega arith) waits
+            E.place in
             let p = chained (λ (p : Profile). option_map (frame_by w p) (user_at users w.user))
             (slice_get (stations (upto E.emission run)) w.station) E.octets sent in
             let u = mapped (frame_by w p.0) (user_at users w.user) E.octets p.2 in
@@ -395,19 +401,19 @@ module _ (settings : Settings) (users : List UserFrame) (run : Run) (is : IsSett
             (k.plain.sendable w (in-get (claimed settings (upto E.emission run)) _ w waits)) in
             let channel = k.plain.typed p.0
             (in-get (stations (upto E.emission run)) w.station p.0 p.1) in
-            let kin = sending-key c sender key C.sends in
+            let kin = sending-key f.claim f.sender f.key C.sends in
             let claims = claims-by settings users
-            (upto c run) C.event.event C.event.facts sender key.an key.epoch F.pn
-            (kind settings users C.event (upto c run) (step-of c C.event C.within C.at))
+            (upto f.claim run) C.event.event C.event.facts f.sender f.key.an f.key.epoch F.pn
+            (kind settings users C.event (upto f.claim run) (step-of f.claim C.event C.within C.at))
             (contains-in C.event.facts _ C.fact) in
             let typed = (subst IsTyped claims.event
-            ((step-of c C.event C.within C.at).in_order.0)).2 in
+            ((step-of f.claim C.event C.within C.at).in_order.0)).2 in
             let positive = eqb-false F.pn 0 claims.number in
-            let B = brought d t frame F.event high F.at F.delivered in
-            let number = emit-number E.emission E.event frame E.station E.octets within E.at ev
+            let B = brought f.delivery f.receiver f.frame F.event high F.at F.delivered in
+            let number = emit-number E.emission E.event f.frame E.station E.octets within E.at ev
             frame_in in
             let z : Frame = record {
-              number = frame;
+              number = f.frame;
               station = E.station;
               sec = true;
               octets =
@@ -415,28 +421,31 @@ module _ (settings : Settings) (users : List UserFrame) (run : Run) (is : IsSett
             } in
             let z_in : In z (air (upto (suc E.emission) run)) =
             subst (λ r. In z (air r)) (sym E.at)
-            (air-new E.event (upto E.emission run) frame E.station true E.octets frame_in) in
-            let y_in : In B.y (air (upto d run)) =
-            in-find (λ (v : Frame). v.number == frame) (air (upto d run)) B.y B.there in
-            let y_number : B.y.number ≡ frame =
-            eqb-true B.y.number frame (Rattle.sak_exchange.proofs.Public.find-passes
-            (λ (v : Frame). v.number == frame) (air (upto d run)) B.y B.there) in
+            (air-new E.event (upto E.emission run) f.frame E.station true E.octets frame_in) in
+            let y_in : In B.y (air (upto f.delivery run)) =
+            in-find (λ (v : Frame). v.number == f.frame) (air (upto f.delivery run)) B.y B.there in
+            let y_number : B.y.number ≡ f.frame =
+            eqb-true B.y.number f.frame (Rattle.sak_exchange.proofs.Public.find-passes
+            (λ (v : Frame). v.number == f.frame) (air (upto f.delivery run)) B.y B.there) in
             let same : B.y ≡ z = one-number (air (upto (length run) run)) B.y z
-            (numbered-at (length run)) (air-more d (length run) (omega arith)
+            (numbered-at (length run)) (air-more f.delivery (length run) (omega arith)
             (omega arith) B.y y_in) (air-more (suc E.emission) (length run) within
             (omega arith) z z_in) y_number in
-            let low = below (air (upto d run)) B.y (numbered-at d) y_in in
-            let before : E.emission < d = by_sum (cases_lt E.emission d) (λ less. less)
-            (λ le. let longer = air-longer d E.emission le (omega arith) in absurd (omega arith)) in
+            let low = below (air (upto f.delivery run)) B.y (numbered-at f.delivery) y_in in
+            let before : E.emission < f.delivery = by_sum (cases_lt E.emission f.delivery)
+            (λ less. less)
+            (λ le. let longer = air-longer f.delivery E.emission le (omega arith) in absurd
+            (omega arith)) in
             let octets : B.y.octets ≡ protected
-            (secret_octets key.sak) p.0.sci key.an F.pn key.conf u.0 =
+            (secret_octets f.key.sak) p.0.sci f.key.an F.pn f.key.conf u.0 =
             ap (λ (v : Frame). v.octets) same ∙ sym u.2
             ∙ ap (λ (v : Key). protected (secret_octets v.sak) p.0.sci v.an w.pn v.conf u.0) by.2
-            ∙ ap (λ n. protected (secret_octets key.sak) p.0.sci key.an n key.conf u.0) by.3 in
+            ∙ ap (λ n. protected (secret_octets f.key.sak) p.0.sci f.key.an n f.key.conf u.0)
+            by.3 in
             let sec : is_sec B.y.octets ≡ true =
             subst (λ o. is_sec o ≡ true) (sym octets)
-            (Rattle.group_safety.proofs.once.ClaimKept.protected-is-sec
-            (secret_octets key.sak) p.0.sci key.an F.pn key.conf u.0 channel.count
+            (Rattle.group_safety.proofs.once.ClaimKept.protected-is_sec
+            (secret_octets f.key.sak) p.0.sci f.key.an F.pn f.key.conf u.0 channel.count
             sends.destination.0) in
             record {
               order = omega (arith, by.0);
@@ -452,18 +461,14 @@ module _ (settings : Settings) (users : List UserFrame) (run : Run) (is : IsSett
               sent = record {
                 channel = channel;
                 destination = sends.destination.0;
-                an_bits =
-                    kin.an;
                 first = one-at-least F.pn positive;
                 last = typed;
-                some =
-                    sends.body.0;
-                most = sends.body.1;
+                body = sends.body;
               };
-              key_is = secret-key key.sak kin.sak;
-              fact = subst (λ f. In (facts.Arrived frame t
+              key_is = secret-key f.key.sak kin.sak;
+              fact = subst (λ w. In (facts.Arrived f.frame f.receiver
                   (answer B.l.member.setup.sci settings.window
-                  (receiving t (upto d run)) B.y.octets)) f) (sym B.shown)
-                  (arrived d t frame B.y.octets B.l sec);
+                  (receiving f.receiver (upto f.delivery run)) B.y.octets)) w) (sym B.shown)
+                  (arrived f.delivery f.receiver f.frame B.y.octets B.l sec);
             }
       ]

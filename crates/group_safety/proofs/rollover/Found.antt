@@ -2,12 +2,12 @@
 use Rattle.std.proofs.Common.{◌≡◌, ℕ, suc, ◌+◌, ◌≤◌, ◌<◌, List, ◌∷◌, length, refl, ap, sym}
 use Rattle.std.proofs.Common.{◌∙◌, subst, arith}
 use Rattle.std.proofs.Common.{Option, Some, None, option_map}
-use Rattle.lan_base.specs.declared.key_id.KeyId.{KeyId}
 use Rattle.lan_base.specs.declared.frame.UserFrame.{UserFrame}
 use Rattle.lan_base.specs.Timers.{retire_time}
 use Rattle.rx_slots.specs.Numbers.{answer}
 use Rattle.rx_slots.specs.Histories.{standing_key}
-use Rattle.sak_exchange.specs.Histories.{Key, installs}
+use Rattle.sak_exchange.specs.declared.held_key.Key.{Key}
+use Rattle.sak_exchange.specs.Histories.{installs}
 use Rattle.sak_exchange.specs.Held.{received, transmitting}
 use Rattle.sak_exchange.specs.Lives.{Has}
 use Rattle.lan_core.specs.declared.settings.Settings.{Settings}
@@ -22,16 +22,16 @@ use Rattle.lan_core.proofs.Public.{front-stepped, front-fresh, front-unforged}
 use Rattle.group_safety.specs.Moments.{upto}
 use Rattle.group_safety.specs.Rounds.{rounds}
 use Rattle.group_safety.specs.Stations.{keys_at}
-use Rattle.group_safety.specs.Steady.{IsKeeper, IsSteady}
-use Rattle.group_safety.specs.Time.{IsFlight, IsFound, Answers, HasSaid, IsInTime}
+use Rattle.group_safety.specs.Steady.{Rollover, IsKeeper, IsSteady}
+use Rattle.group_safety.specs.Time.{Flight, IsFlight, IsFound, Answers, HasSaid, IsInTime}
 use Rattle.group_safety.specs.Hitless.{Hitless}
-use Rattle.group_safety.specs.inside.Course.{Holds}
+use Rattle.group_safety.proofs.rollover.Course.{Holds}
 use Rattle.group_safety.proofs.Members.{In, in-contains, by_sum}
 use Rattle.group_safety.proofs.once.Living.{IsLiving, install_by}
 use Rattle.group_safety.proofs.once.Nexts.{in-later}
 use Rattle.group_safety.proofs.once.RunLaws.{known, run-one_key}
 use Rattle.group_safety.proofs.rollover.Spans.{from_to}
-use Rattle.group_safety.proofs.rollover.Moments.{event-at, upto-all}
+use Rattle.group_safety.proofs.rollover.AtMoments.{event-at, upto-whole}
 use Rattle.group_safety.proofs.rollover.KeyFacts.{received-installed, transmitting-received}
 use Rattle.group_safety.proofs.rollover.OneLife.{step-at}
 use Rattle.group_safety.proofs.rollover.Said.{known-at}
@@ -52,7 +52,7 @@ module _ (settings : Settings) (users : List UserFrame) (run : Run)
   installs-more : (n : ℕ) → n ≤ length run → (i : Install) → In i (ledgers.installs (upto n run))
       → In i (ledgers.installs run)
   installs-more n high i h =
-      subst (λ r. In i (ledgers.installs r)) (upto-all (length run) run (omega arith))
+      subst (λ r. In i (ledgers.installs r)) (upto-whole (length run) run (omega arith))
       (from_to (λ m. In i (ledgers.installs (upto m run))) n (length run) high h
       (λ m p q j. let s = event-at m run q in
       subst (λ r. In i (ledgers.installs r)) (sym s.1) (installs-step s.0 (upto m run) i j)))
@@ -80,123 +80,119 @@ module _ (settings : Settings) (users : List UserFrame) (run : Run)
           (transmitting-received (keys_in l) key g))
 
   -- where a key of the frame's identifier is received, the frame is found
-  found : (c d sender t : ℕ) (key : Key) (frame : ℕ)
-      (F : IsFlight settings run c d sender t key frame)
-      → Holds key.id (keys_at settings t (upto d run)) → IsFound settings run d t frame key
-  found c d sender t key frame F H =
-      let K = flight settings users run is stepped unforged fresh.mis c d sender t key frame F in
+  found : (f : Flight) (F : IsFlight settings run f)
+      → Holds f.key.id (keys_at settings f.receiver (upto f.delivery run)) → IsFound settings run f
+  found f F H =
+      let K = flight settings users run is stepped unforged fresh.mis f F in
       let l = K.life_then in
       let high = F.within in
-      let here = keys-of-life settings t (upto d run) l K.living in
-      let has = received-installed (keys_at settings t (upto d run)) H.key H.received_here in
-      let mine = of-run d t l H.key (omega arith) K.living
+      let here = keys-of-life settings f.receiver (upto f.delivery run) l K.living in
+      let has = received-installed (keys_at settings f.receiver (upto f.delivery run)) H.key
+      H.received_here in
+      let mine = of-run f.delivery f.receiver l H.key (omega arith) K.living
       (subst (λ w. Has H.key (installs w)) here has) in
       let C = F.claims in
       let within = C.within in
-      let theirs = sending-of c sender key (omega arith) C.sends in
+      let theirs = sending-of f.claim f.sender f.key (omega arith) C.sends in
       let one = run-one_key settings users run (known settings users run stepped unforged) fresh
-      (install_by t H.key) (install_by sender key)
-      (in-contains (ledgers.installs run) (install_by t H.key) mine)
-      (in-contains (ledgers.installs run) (install_by sender key) theirs) H.named in
-      let kept = kept-at settings users run is stepped unforged fresh.mis t d (omega arith) in
-      let under = under-is (received (keys_at settings t (upto d run))) H.key
-      (ans-differ kept.0 (keys_at settings t (upto d run)) kept.1) H.received_here in
-      let stands : standing_key (receiving t (upto d run)) key.an ≡ Some key.sak =
-      slots-at settings users run is stepped unforged fresh.mis d (omega arith) t key.an
-      ∙ ap (λ an. sak_under an (received (keys_at settings t (upto d run)))) (sym one.1)
+      (install_by f.receiver H.key) (install_by f.sender f.key)
+      (in-contains (ledgers.installs run) (install_by f.receiver H.key) mine)
+      (in-contains (ledgers.installs run) (install_by f.sender f.key) theirs) H.named in
+      let kept = kept-at settings users run is stepped unforged fresh.mis f.receiver f.delivery
+      (omega arith) in
+      let under = under-is (received (keys_at settings f.receiver (upto f.delivery run))) H.key
+      (ans-differ kept.0 (keys_at settings f.receiver (upto f.delivery run)) kept.1)
+      H.received_here in
+      let stands : standing_key (receiving f.receiver (upto f.delivery run)) f.key.an
+      ≡ Some f.key.sak =
+      slots-at settings users run is stepped unforged fresh.mis f.delivery (omega arith) f.receiver
+      f.key.an
+      ∙ ap (λ an. sak_under an (received (keys_at settings f.receiver (upto f.delivery run))))
+      (sym one.1)
       ∙ ap (option_map (λ (w : Key). w.sak)) under ∙ ap Some one.0 in
       let answered = answers-it l.member.setup.sci settings.window
-      (receiving t (upto d run)) key.sak K.sci key.an K.pn key.conf K.user K.key_is K.sent
+      (receiving f.receiver (upto f.delivery run)) f.key.sak K.sci f.key.an K.pn f.key.conf K.user
+      K.key_is K.sent
       stands in
       record {
         event = K.event;
         at = K.at;
-        arrival = answer l.member.setup.sci settings.window (receiving t (upto d run)) K.octets;
+        arrival = answer l.member.setup.sci settings.window (receiving f.receiver
+            (upto f.delivery run)) K.octets;
         fact = in-contains K.event.facts _ K.fact;
         answers = subst (λ o. Answers (answer l.member.setup.sci settings.window
-            (receiving t (upto d run)) o)) (sym K.protected_so) answered;
+            (receiving f.receiver (upto f.delivery run)) o)) (sym K.protected_so) answered;
         receives = record {
           key = H.key;
-          received_here = in-contains (received (keys_at settings t (upto d run))) H.key
-              (has-in H.key (received (keys_at settings t (upto d run))) H.received_here);
+          received_here = in-contains (received (keys_at settings f.receiver
+              (upto f.delivery run))) H.key
+              (has-in H.key (received (keys_at settings f.receiver (upto f.delivery run)))
+              H.received_here);
           number =
               one.1;
           secret = one.0;
         };
       }
 
-  module _ (from q i server : ℕ) (old_id new_id : KeyId) (lag : ℕ)
-      (S : IsSteady settings run from q i server old_id new_id lag) where
-    -- any frame under the old key that comes so soon is found
-    old-found : (c d sender t : ℕ) (key : Key) (frame : ℕ)
-        → IsFlight settings run c d sender t key frame → key.id ≡ old_id → q < d
-        → HasSaid server t d (IsKeeper settings run i server old_id)
-        → rounds from (upto d run) < rounds from (upto (suc i) run) + retire_time
-        → IsFound settings run d t frame key
-    old-found c d sender t key frame F named after who soon =
-        found c d sender t key frame F
-        (subst (λ v. Holds v (keys_at settings t (upto d run))) (sym named)
-        (held-old settings users run is stepped unforged fresh.mis from S.whole_rounds q i server
-        old_id new_id lag S d frame t F.event F.within F.at F.delivered after soon who))
+  -- any frame under the old key that comes so soon is found
+  old-found : (o : Rollover) (S : IsSteady settings run o) (f : Flight) → IsFlight settings run f
+      → f.key.id ≡ o.old_id → o.made < f.delivery
+      → HasSaid o.server f.receiver f.delivery (IsKeeper settings run o)
+      → rounds o.from (upto f.delivery run) < rounds o.from (upto (suc o.start) run) + retire_time
+      → IsFound settings run f
+  old-found o S f F named after who soon =
+      found f F
+      (subst (λ v. Holds v (keys_at settings f.receiver (upto f.delivery run))) (sym named)
+      (held-old settings users run is stepped unforged fresh.mis o.from S.whole_rounds o S
+      f.delivery f.frame f.receiver F.event F.within F.at F.delivered after soon who))
 
-    -- a frame in time is found
-    in-time-found : (c d sender t : ℕ) (key : Key) (frame : ℕ)
-        → IsFlight settings run c d sender t key frame
-        → IsInTime settings run from q i server old_id new_id lag c d sender t key
-        → IsFound settings run d t frame key
-    in-time-found c d sender t key frame F T =
-        by_sum T
-        (λ o. let K = flight settings users run is stepped unforged fresh.mis c d sender t key frame
-        F in
-        let order = K.order in let after = o.after in let high = F.within in
-        old-found c d sender t key frame F o.named (omega arith) o.reaches
-        (soon-for-old settings users run is stepped unforged fresh.mis from S.whole_rounds q i
-        server old_id new_id lag S c d sender t F.pn key (omega arith) F.claims o))
-        (λ n. let K = flight settings users run is stepped unforged fresh.mis c d sender t key frame
-        F in
-        let order = K.order in let after = n.after in
-        found c d sender t key frame F
-        (subst (λ v. Holds v (keys_at settings t (upto d run))) (sym n.named)
-        (held-new settings users run is stepped unforged fresh.mis from S.whole_rounds q i server
-        old_id new_id lag S d t F.within (omega arith) n.last n.reaches)))
+  -- a frame in time is found
+  in-time-found : (o : Rollover) (S : IsSteady settings run o) (f : Flight)
+      → IsFlight settings run f → IsInTime settings run o f → IsFound settings run f
+  in-time-found o S f F T =
+      let K = flight settings users run is stepped unforged fresh.mis f F in
+      let order = K.order in
+      let high = F.within in
+      by_sum T
+      (λ t. let after = t.after in
+      old-found o S f F t.named (omega arith) t.reaches
+      (soon-for-old settings users run is stepped unforged fresh.mis o.from S.whole_rounds o S f
+      F.pn (omega arith) F.claims t))
+      (λ t. let after = t.after in
+      found f F
+      (subst (λ v. Holds v (keys_at settings f.receiver (upto f.delivery run))) (sym t.named)
+      (held-new settings users run is stepped unforged fresh.mis o.from S.whole_rounds o S
+      f.delivery f.receiver F.within (omega arith) t.last t.reaches)))
 
 -- ---- with no other premise
 
 -- a run with a rollover is of a group that may be set up so
-setting-of : (settings : Settings) (users : List UserFrame) (run : Run) (from q i server : ℕ)
-    (old_id new_id : KeyId) (lag : ℕ) → IsStepped settings users run → IsFresh run
-    → IsSteady settings run from q i server old_id new_id lag → IsSetting settings
-setting-of settings users run from q i server old_id new_id lag stepped fresh S =
-    (step-at settings users run stepped fresh.mis i S.begins.event S.begins.within
+setting-of : (settings : Settings) (users : List UserFrame) (run : Run) (o : Rollover)
+    → IsStepped settings users run → IsFresh run → IsSteady settings run o → IsSetting settings
+setting-of settings users run o stepped fresh S =
+    (step-at settings users run stepped fresh.mis o.start S.begins.event S.begins.within
     S.begins.at).setting
 
 pub any-old-found : (settings : Settings) (users : List UserFrame) (run : Run)
     → IsStepped settings users run → IsUnforged settings run → IsFresh run
-    → (from q i server : ℕ) (old_id new_id : KeyId) (lag : ℕ)
-    → IsSteady settings run from q i server old_id new_id lag
-    → (c d sender t : ℕ) (key : Key) (frame : ℕ) → IsFlight settings run c d sender t key frame
-    → key.id ≡ old_id → q < d
-    → HasSaid server t d (IsKeeper settings run i server old_id)
-    → rounds from (upto d run) < rounds from (upto (suc i) run) + retire_time
-    → IsFound settings run d t frame key
-any-old-found settings users run stepped unforged fresh from q i server old_id new_id lag S c d
-    sender t key frame F named after who soon =
-    old-found settings users run
-    (setting-of settings users run from q i server old_id new_id lag stepped fresh S) stepped
-    unforged fresh
-    from q i server old_id new_id lag S c d sender t key frame F named after who soon
+    → (o : Rollover) (f : Flight) → IsSteady settings run o → IsFlight settings run f
+    → f.key.id ≡ o.old_id → o.made < f.delivery
+    → HasSaid o.server f.receiver f.delivery (IsKeeper settings run o)
+    → rounds o.from (upto f.delivery run) < rounds o.from (upto (suc o.start) run) + retire_time
+    → IsFound settings run f
+any-old-found settings users run stepped unforged fresh o f S F named after who soon =
+    old-found settings users run (setting-of settings users run o stepped fresh S) stepped unforged
+    fresh o S f F named after who soon
 
 -- over the run up to each of its moments
 pub run-hitless : (settings : Settings) (users : List UserFrame) (run : Run)
     → IsStepped settings users run → IsUnforged settings run → IsFresh run → Hitless settings run
-run-hitless settings users run stepped unforged fresh later front from q i server old_id new_id lag
-    c d sender t key frame same S F T =
+run-hitless settings users run stepped unforged fresh later front o f same S F T =
     let stepped_then = front-stepped settings users later front
     (subst (IsStepped settings users) same stepped) in
     let unforged_then = front-unforged settings later front
     (subst (IsUnforged settings) same unforged) in
     let fresh_then = front-fresh later front (subst IsFresh same fresh) in
     in-time-found settings users front
-    (setting-of settings users front from q i server old_id new_id lag stepped_then fresh_then S)
-    stepped_then unforged_then fresh_then
-    from q i server old_id new_id lag S c d sender t key frame F T
+    (setting-of settings users front o stepped_then fresh_then S) stepped_then unforged_then
+    fresh_then o S f F T

@@ -6,11 +6,13 @@ use Rattle.std.proofs.lemmas.Bool.{eqb-true}
 use Rattle.std.specs.Prelude.{◌==◌}
 use Rattle.std.specs.List.{find}
 use Rattle.lan_base.specs.Falling.{IsAbove, IsFalling}
-use Rattle.sak_exchange.specs.Histories.{Key, Keying, ticked, installed, began, installs}
+use Rattle.sak_exchange.specs.declared.held_key.Key.{Key}
+use Rattle.sak_exchange.specs.Histories.{Keying, ticked, installed, began, installs}
 use Rattle.sak_exchange.specs.Histories.{begun_at, has_begun, beginnings, last_begun}
 use Rattle.sak_exchange.specs.Held.{Kept, received, latest, old, transmitting, allows, has_epoch}
 use Rattle.sak_exchange.specs.Lives.{Has, Installs}
-use Rattle.sak_exchange.proofs.Public.{by_test, by_option, may-begin, find-passes, first-is, are-two, beside-old, is-received, beginnings-fall}
+use Rattle.sak_exchange.proofs.Public.{by_test, by_option, may-begin, find-passes, first-is}
+use Rattle.sak_exchange.proofs.Public.{are-two, beside-old, is-received, beginnings-fall}
 
 pub has-append : (k : Key) (a b : List Key) → Has k b → Has k (a ++ b)
 has-append k [] b has = has

@@ -7,7 +7,8 @@ use Rattle.std.specs.Prelude.{◌==◌}
 use Rattle.lan_base.specs.declared.key_id.KeyId.{KeyId}
 use Rattle.lan_base.specs.declared.frame.UserFrame.{UserFrame}
 use Rattle.mkpdu_codec.specs.declared.announcement.Announcement.{Announcement}
-use Rattle.sak_exchange.specs.Histories.{Key, Keying, ticked, installed, began, installs, has_begun}
+use Rattle.sak_exchange.specs.declared.held_key.Key.{Key}
+use Rattle.sak_exchange.specs.Histories.{Keying, ticked, installed, began, installs, has_begun}
 use Rattle.sak_exchange.specs.Histories.{last_begun, install_count}
 use Rattle.sak_exchange.specs.Held.{Kept, latest, transmitting}
 use Rattle.sak_exchange.specs.Beginning.{Beginning}
@@ -18,7 +19,8 @@ use Rattle.mka_station.specs.Lives as lives
 use Rattle.mka_station.specs.Views.{view}
 use Rattle.mka_station.specs.Tick.{led}
 use Rattle.mka_station.specs.Hearing.{outcome_of}
-use Rattle.mka_station.specs.inside.Stages.{ticked_past, taken_past, follow_at, says_at}
+use Rattle.mka_station.specs.Tick.{ticked_past, says_at}
+use Rattle.mka_station.specs.Hearing.{taken_past, follow_at}
 use Rattle.lan_core.specs.declared.event.Event.TheVariants as events
 use Rattle.lan_core.specs.declared.settings.Settings.{Settings}
 use Rattle.lan_core.specs.Run.{Run, Happening}
@@ -32,19 +34,19 @@ use Rattle.group_safety.specs.Stations.{keys_at, keys_of_life}
 use Rattle.group_safety.proofs.Members.{by_sum}
 use Rattle.group_safety.proofs.once.Histories.{with_began, with_key, keys-said}
 use Rattle.group_safety.proofs.rollover.Spans.{from_to}
-use Rattle.group_safety.proofs.rollover.Moments.{event-at, upto-zero}
+use Rattle.group_safety.proofs.rollover.AtMoments.{event-at, upto-zero}
 use Rattle.group_safety.proofs.rollover.KeyFacts.{latest-received, received-installed}
 use Rattle.group_safety.proofs.rollover.KeyFacts.{transmitting-last}
-use Rattle.group_safety.proofs.rollover.Rules.{following-is}
+use Rattle.group_safety.proofs.rollover.Begins.{following-is}
 use Rattle.group_safety.proofs.rollover.Turns.{IsTurn, kept-turn, with_tick}
 use Rattle.group_safety.proofs.rollover.Turns.{turn-past}
-use Rattle.group_safety.proofs.rollover.Rounds.{IsPaced}
+use Rattle.group_safety.proofs.rollover.TicksAreRounds.{IsPaced}
 use Rattle.group_safety.proofs.rollover.Shown.{said-transmitting}
 use Rattle.group_safety.proofs.rollover.Said.{Said, reached-said}
 use Rattle.group_safety.proofs.rollover.Lived.{key-part, life-kept, tick-turn-at, hear-turn-at}
 use Rattle.group_safety.proofs.rollover.Lived as lived
-use Rattle.group_safety.proofs.rollover.Events.{IsReached}
-use Rattle.group_safety.proofs.rollover.Events as parts
+use Rattle.group_safety.proofs.rollover.EventKinds.{IsReached}
+use Rattle.group_safety.proofs.rollover.EventKinds as parts
 use Rattle.mka_station.specs.Hearing.{judged}
 use Rattle.std.specs.Prelude.{Ok}
 
@@ -192,7 +194,7 @@ module _ (settings : Settings) (users : List UserFrame) (run : Run) (is : IsSett
   life-when-said z t a s =
       elim (key-part settings users run is stepped unforged fresh t z s.event s.within s.at) [
         | lived.rests same none ↦ let e = sym none
-            ∙ ap (Rattle.group_safety.specs.inside.Waits.tick_of t) s.tick in
+            ∙ ap (Rattle.group_safety.proofs.rollover.Waits.tick_of t) s.tick in
             let yes : (t == t) ≡ true = eq-eqb t t refl in absurd (cc (rw yes at e))
         | lived.ticks next l ev living after before keys ↦
             let same_n : next ≡ s.next = let f = sym ev ∙ s.tick in cc (f) in

@@ -11,7 +11,8 @@ use Rattle.mkpdu_codec.specs.declared.announcement.Announcement.{Announcement}
 use Rattle.peer_lists.specs.Acceptance.{Accepted}
 use Rattle.sak_exchange.specs.declared.change.Cause.{Cause}
 use Rattle.sak_exchange.specs.declared.report.Report.{Report}
-use Rattle.sak_exchange.specs.Histories.{Key, Keying, ticked, installed, began, installs}
+use Rattle.sak_exchange.specs.declared.held_key.Key.{Key}
+use Rattle.sak_exchange.specs.Histories.{Keying, ticked, installed, began, installs}
 use Rattle.sak_exchange.specs.Histories.{has_begun}
 use Rattle.sak_exchange.specs.Held.{Kept, latest, old}
 use Rattle.sak_exchange.specs.Beginning.{Beginning}
@@ -25,7 +26,7 @@ use Rattle.mka_station.specs.Views.{view, reports}
 use Rattle.mka_station.specs.Hearing.{hear_turn, outcome_of, judged}
 use Rattle.gcm_frames.specs.Tags.{is_sec}
 use Rattle.std.specs.Prelude.{nat_eq, Ok}
-use Rattle.mka_station.specs.inside.Stages.{follow_at}
+use Rattle.mka_station.specs.Hearing.{follow_at}
 use Rattle.lan_core.specs.declared.event.Event.TheVariants as events
 use Rattle.lan_core.specs.declared.settings.Settings.{Settings}
 use Rattle.lan_core.specs.Run.{Run, Happening}
@@ -37,20 +38,21 @@ use Rattle.lan_core.specs.Fresh.{IsUnforged, drawn_mis}
 use Rattle.group_safety.specs.Moments.{upto, At}
 use Rattle.group_safety.specs.Rounds.{rounds}
 use Rattle.group_safety.specs.Stations.{mi_at, keys_at}
-use Rattle.group_safety.specs.Steady.{Begins, IsListener, IsKeeper, IsSteady}
-use Rattle.group_safety.specs.inside.Course.{Course, Rests, IsListening, IsKeeping}
+use Rattle.group_safety.specs.Steady.{Begins, Rollover, IsListener, IsKeeper, IsSteady}
+use Rattle.group_safety.proofs.rollover.Course.{Course, Rests, IsListening, IsKeeping}
 use Rattle.group_safety.proofs.Members.{In, contains-in, all-in, in-map, by_sum}
 use Rattle.group_safety.proofs.once.Histories.{with_began, with_key, view-keys, keys-heard}
-use Rattle.group_safety.proofs.rollover.Moments.{one-event, upto-all}
+use Rattle.group_safety.proofs.rollover.AtMoments.{one-event, upto-whole}
 use Rattle.group_safety.proofs.rollover.KeyFacts.{installed-on, latest-received, received-installed}
-use Rattle.group_safety.proofs.rollover.Rules.{led-is, all-report, taking-is}
-use Rattle.group_safety.proofs.rollover.Events.{kind, IsReached}
-use Rattle.group_safety.proofs.rollover.Events as parts
+use Rattle.group_safety.proofs.once.Rules.{taking-is}
+use Rattle.group_safety.proofs.rollover.Begins.{led-is, all-report}
+use Rattle.group_safety.proofs.rollover.EventKinds.{kind, IsReached}
+use Rattle.group_safety.proofs.rollover.EventKinds as parts
 use Rattle.group_safety.proofs.rollover.Shows.{begins-by}
 use Rattle.group_safety.proofs.rollover.Shows as shows
 use Rattle.group_safety.proofs.rollover.Turns.{IsHearTurn, kept-turn}
 use Rattle.group_safety.proofs.rollover.Turns.{with_tick}
-use Rattle.group_safety.proofs.rollover.Rounds.{IsPaced}
+use Rattle.group_safety.proofs.rollover.TicksAreRounds.{IsPaced}
 use Rattle.group_safety.proofs.rollover.Shown.{said-latest, said-old}
 use Rattle.group_safety.proofs.rollover.OneLife.{step-at, unbroken-life, stands-at}
 use Rattle.group_safety.proofs.rollover.Said.{Said, framed-said}
@@ -190,18 +192,21 @@ module _ (settings : Settings) (users : List UserFrame) (run : Run) (is : IsSett
             (b.by.key, g.0, g.1, b.id_is)
       ]
 
-  module _ (q i server : ℕ) (old_id new_id : KeyId) (lag : ℕ)
-      (S : IsSteady settings run from q i server old_id new_id lag) where
+  module _ (o : Rollover) (S : IsSteady settings run (record o { from = from })) where
+    -- the rollover, with the moment from which rounds count here
+    abbrev rolled : Rollover
+    rolled = record o { from = from }
+
     -- what is known of a listener
     pub record IsHeard (t sent : ℕ) (says : Accepted) : Type 0 where
       pub announcement : Announcement
       pub said : Said settings run sent t announcement
       pub uses : announcement.uses ≡ says.told.uses
-      pub other : announcement.mi ≢ new_id.server
-      pub before : suc sent ≤ i
-      pub reports : reports_latest new_id announcement.uses ≡ true
+      pub other : announcement.mi ≢ o.new_id.server
+      pub before : suc sent ≤ o.start
+      pub reports : reports_latest o.new_id announcement.uses ≡ true
 
-    heard-of : (t sent : ℕ) (says : Accepted) → IsListener settings run i server t sent says
+    heard-of : (t sent : ℕ) (says : Accepted) → IsListener settings run rolled t sent says
         → IsHeard t sent says
     heard-of t sent says l =
         let s = l.sends in
@@ -214,7 +219,7 @@ module _ (settings : Settings) (users : List UserFrame) (run : Run) (is : IsSett
         let within = S.begins.within in
         let b : Announcement = w.0 in
         let h = heard-said settings users run is stepped unforged fresh
-        (suc i) within server sl b l.living w.1 in
+        (suc o.start) within o.server sl b l.living w.1 in
         let mi : a.mi ≡ b.mi = l.mi ∙ w.2.mi in
         let mn : a.mn ≡ b.mn = l.mn ∙ w.2.mn in
         let moment = one-frame settings users run is stepped unforged fresh from paced sent h.0 t
@@ -222,11 +227,11 @@ module _ (settings : Settings) (users : List UserFrame) (run : Run) (is : IsSett
         let there = subst (λ v. Said settings run v h.1 b) (sym moment) h.3 in
         let one = one-saying settings users run is stepped unforged fresh from paced sent t h.1 a b
         said there in
-        let own : sl.member.mi ≡ new_id.server =
-        let f = sym (mi-of-life settings server (upto (suc i) run) sl l.living)
-        ∙ server-life settings users run is stepped unforged fresh from paced q i server old_id
-        new_id lag S (suc i) (let o = S.order in omega arith) within in cc (f) in
-        let other : a.mi ≢ new_id.server =
+        let own : sl.member.mi ≡ o.new_id.server =
+        let f = sym (mi-of-life settings o.server (upto (suc o.start) run) sl l.living)
+        ∙ server-life settings users run is stepped unforged fresh from paced o S (suc o.start)
+        (let order = S.order in omega arith) within in cc (f) in
+        let other : a.mi ≢ o.new_id.server =
         λ e. word-other sl.member sl.past says live (sym l.mi ∙ e ∙ sym own) in
         record {
           announcement = a;
@@ -239,42 +244,42 @@ module _ (settings : Settings) (users : List UserFrame) (run : Run) (is : IsSett
         }
       where
         not-then : (t sent : ℕ) (a : Announcement) → Said settings run sent t a
-            → a.mi ≢ new_id.server → sent ≤ i → suc sent ≤ i
+            → a.mi ≢ o.new_id.server → sent ≤ o.start → suc sent ≤ o.start
         not-then t sent a said other low =
-            by_sum (cases_lt sent i) (λ less. less)
-            (λ le. let m = (led-here settings users run is stepped unforged fresh from paced q i
-            server old_id new_id lag S).0 in
-            let same : sent ≡ i = omega arith in
+            by_sum (cases_lt sent o.start) (λ less. less)
+            (λ le. let m = (led-here settings users run is stepped unforged fresh from paced o S).0
+            in
+            let same : sent ≡ o.start = omega arith in
             let at = subst (λ v. At run v said.event) same said.at in
-            let event = one-event i run said.event m.event at m.at in
-            let tick : events.Tick t said.next ≡ events.Tick server m.next = sym said.tick
+            let event = one-event o.start run said.event m.event at m.at in
+            let tick : events.Tick t said.next ≡ events.Tick o.server m.next = sym said.tick
             ∙ ap (λ (v : Happening). v.event) event ∙ m.tick in
-            let station : t ≡ server = cc (tick) in
+            let station : t ≡ o.server = cc (tick) in
             let within = S.begins.within in
             let mine = (said-number settings users run is stepped unforged fresh from paced sent t a
             said).0 in
-            let here = subst (λ v. mi_at settings v (upto i run) ≡ Some a.mi) station
+            let here = subst (λ v. mi_at settings v (upto o.start run) ≡ Some a.mi) station
             (subst (λ v. mi_at settings t (upto v run) ≡ Some a.mi) same mine) in
-            let own = server-life settings users run is stepped unforged fresh from paced q i server
-            old_id new_id lag S i (let o = S.order in omega arith) (omega arith) in
-            let f = sym here ∙ own in let e : a.mi ≡ new_id.server = cc (f) in absurd (other e))
+            let own = server-life settings users run is stepped unforged fresh from paced o S
+            o.start (let order = S.order in omega arith) (omega arith) in
+            let f = sym here ∙ own in let e : a.mi ≡ o.new_id.server = cc (f) in absurd (other e))
 
         reported : (a : Announcement) (says : Accepted) → a.uses ≡ says.told.uses → (sl : Life)
-            → life settings server (upto (suc i) run) ≡ Some sl
+            → life settings o.server (upto (suc o.start) run) ≡ Some sl
             → In says (live_words sl.member (peers_of sl.member sl.past))
-            → reports_latest new_id a.uses ≡ true
+            → reports_latest o.new_id a.uses ≡ true
         reported a says uses sl living live =
-            let led_all = led-here settings users run is stepped unforged fresh from paced q i
-            server old_id new_id lag S in
+            let led_all = led-here settings users run is stepped unforged fresh from paced o S in
             let m = led_all.0 in
             let l = m.life_then in
             let v = view l.member (lives.ticked ∷ l.past) in
             let r = led-is l.member v m.by m.leads in
-            let seen = seen_at settings server (upto i run) l m.next in
+            let seen = seen_at settings o.server (upto o.start run) l m.next in
             let sak = sak_in m.event.facts in
-            let after = ap (life settings server) m.at
-            ∙ life-ticked settings server m.next m.event (upto i run) l m.tick m.living in
-            let same : sl ≡ lived l (turn_at_tick settings server (upto i run) l m.next sak) =
+            let after = ap (life settings o.server) m.at
+            ∙ life-ticked settings o.server m.next m.event (upto o.start run) l m.tick m.living in
+            let same : sl ≡ lived l (turn_at_tick settings o.server (upto o.start run) l m.next
+            sak) =
             let f = sym living ∙ after in cc (f) in
             let there = subst (λ (w : Life). In says
             (live_words w.member (peers_of w.member w.past))) same live in
@@ -286,12 +291,12 @@ module _ (settings : Settings) (users : List UserFrame) (run : Run) (is : IsSett
             record { mi = w.told.mi; uses = w.told.uses } in report) v.live says words in
             let yes = all-in (λ (w : Report). reports_latest m.by.key.id w.uses)
             (reports v.live) all _ told in
-            subst (λ u. reports_latest new_id u ≡ true) (sym uses)
+            subst (λ u. reports_latest o.new_id u ≡ true) (sym uses)
             (subst (λ (w : KeyId). reports_latest w says.told.uses ≡ true) m.named yes)
 
     -- the life of a listener
     listener-life : (t sent : ℕ) (says : Accepted)
-        (l : IsListener settings run i server t sent says) → (n : ℕ) → sent ≤ n → n ≤ length run
+        (l : IsListener settings run rolled t sent says) → (n : ℕ) → sent ≤ n → n ≤ length run
         → mi_at settings t (upto n run) ≡ Some (heard-of t sent says l).announcement.mi
     listener-life t sent says l =
         let h = heard-of t sent says l in
@@ -300,36 +305,37 @@ module _ (settings : Settings) (users : List UserFrame) (run : Run) (is : IsSett
         let before = h.before in let within = S.begins.within in
         let unbroken = S.listeners_stay t sent says l in
         unbroken-life settings users run stepped fresh t h.announcement.mi sent (length run)
-        (omega arith) (omega arith) mine (λ n x p q at. unbroken.on n x p at q)
+        (omega arith) (omega arith) mine (λ n x p k at. unbroken.on n x p at k)
 
     -- the keys of a listener right after it said so
     listener-keys : (t sent : ℕ) (says : Accepted)
-        (l : IsListener settings run i server t sent says)
-        → (k : Key) × (latest (keys_at settings t (upto (suc sent) run)) ≡ Some k) × (k.id ≡ new_id)
+        (l : IsListener settings run rolled t sent says)
+        → (k : Key) × (latest (keys_at settings t (upto (suc sent) run)) ≡ Some k)
+        × (k.id ≡ o.new_id)
     listener-keys t sent says l =
         let h = heard-of t sent says l in
         let s = h.said in
         let keys = keys-when-said settings run sent t h.announcement s
         (life-when-said settings users run is stepped unforged fresh from paced sent t
         h.announcement s) in
-        let k = said-latest s.life_then.member _ _ s.life_then.past h.announcement new_id s.said
+        let k = said-latest s.life_then.member _ _ s.life_then.past h.announcement o.new_id s.said
         h.reports in
         (k.0, ap latest keys ∙ k.1, k.2)
 
-    keeper-keys : (t sent : ℕ) (says : Accepted) (l : IsListener settings run i server t sent says)
-        → reports_old old_id says.told.uses ≡ true
-        → (k : Key) × (old (keys_at settings t (upto (suc sent) run)) ≡ Some k) × (k.id ≡ old_id)
+    keeper-keys : (t sent : ℕ) (says : Accepted) (l : IsListener settings run rolled t sent says)
+        → reports_old o.old_id says.told.uses ≡ true
+        → (k : Key) × (old (keys_at settings t (upto (suc sent) run)) ≡ Some k) × (k.id ≡ o.old_id)
     keeper-keys t sent says l keeps =
         let h = heard-of t sent says l in
         let s = h.said in
         let keys = keys-when-said settings run sent t h.announcement s
         (life-when-said settings users run is stepped unforged fresh from paced sent t
         h.announcement s) in
-        let k = said-old s.life_then.member _ _ s.life_then.past h.announcement old_id s.said
-        (subst (λ u. reports_old old_id u ≡ true) (sym h.uses) keeps) in
+        let k = said-old s.life_then.member _ _ s.life_then.past h.announcement o.old_id s.said
+        (subst (λ u. reports_old o.old_id u ≡ true) (sym h.uses) keeps) in
         (k.0, ap old keys ∙ k.1, k.2)
 
-    listener-has : (t sent : ℕ) (says : Accepted) (l : IsListener settings run i server t sent says)
+    listener-has : (t sent : ℕ) (says : Accepted) (l : IsListener settings run rolled t sent says)
         (n : ℕ) → suc sent ≤ n → n ≤ length run
         → Has (listener-keys t sent says l).0 (installs (keys_at settings t (upto n run)))
     listener-has t sent says l n low high =
@@ -340,41 +346,42 @@ module _ (settings : Settings) (users : List UserFrame) (run : Run) (is : IsSett
         (latest-received kept.0 (keys_at settings t (upto (suc sent) run)) k.0 kept.1 k.1) in
         let g = grown-in settings users run is stepped unforged fresh from paced t
         (heard-of t sent says l).announcement.mi (suc sent) n low high
-        (λ m p q. listener-life t sent says l m (omega arith) (omega arith)) in
+        (λ m p k. listener-life t sent says l m (omega arith) (omega arith)) in
         subst (λ w. Has k.0 (installs w)) (sym g.1)
         (installed-on k.0 g.0 (keys_at settings t (upto (suc sent) run)) first)
 
     -- it has the key after the make
     listener-after : (t sent : ℕ) (says : Accepted)
-        (l : IsListener settings run i server t sent says) → suc q ≤ suc sent
+        (l : IsListener settings run rolled t sent says) → suc o.made ≤ suc sent
     listener-after t sent says l =
         let h = heard-of t sent says l in
         let k = listener-keys t sent says l in
         let before = h.before in let within = S.begins.within in
         let m = maker settings users run is stepped unforged fresh from paced (suc sent) t k.0
         (omega arith) (listener-has t sent says l (suc sent) (omega arith) (omega arith)) in
-        let made_q = made-here settings users run is stepped unforged fresh from paced q i server
-        old_id new_id lag S in
-        let same = one-make settings users run is stepped unforged fresh from paced m.0 q m.1 server
+        let made_q = made-here settings users run is stepped unforged fresh from paced o S in
+        let same = one-make settings users run is stepped unforged fresh from paced m.0 o.made m.1
+        o.server
         m.2 made_q.0 m.4 made_q.1 (m.5 ∙ k.2 ∙ sym made_q.2) in
         omega (arith, m.3)
 
     -- where the server makes a key, it does not rest
-    make-no_rest : (z : ℕ) (j : Key) → MadeAt settings run z server j → Rests cc_ server z → ⊥
+    make-no_rest : (z : ℕ) (j : Key) → MadeAt settings run z o.server j → Rests cc_ o.server z → ⊥
     make-no_rest z j m r =
-        let y = tick-turn-then settings users run is stepped unforged fresh from paced server z
+        let y = tick-turn-then settings users run is stepped unforged fresh from paced o.server z
         m.next m.event m.life_then m.within m.at m.tick m.living in
         let within = m.within in
         let base : ℕ = m.life_then.member.base in
-        let h = keys_at settings server (upto z run) in
+        let h = keys_at settings o.server (upto z run) in
         let puts : y.0.turn.key ≡ Some j = y.0.key_is ∙ m.makes in
-        let there = turn-puts base h (keys_at settings server (upto (suc z) run)) y.0.turn j puts in
+        let there = turn-puts base h (keys_at settings o.server (upto (suc z) run)) y.0.turn j
+        puts in
         let before = quiet-installs r.new h j r.quiet
         (subst (λ w. Has j (installs w)) r.whole there) in
         let first = subst (Kept base) (sym
-        (keys-of-life settings server (upto z run) m.life_then m.living))
+        (keys-of-life settings o.server (upto z run) m.life_then m.living))
         (life-kept settings users run is stepped unforged fresh z
-        (omega arith) server m.life_then m.living) in
+        (omega arith) o.server m.life_then m.living) in
         let below = installed-upto base h j first before in
         let epoch = (y.0.turn.may_install j puts).0 in
         let count = Rattle.group_safety.proofs.rollover.Rollovers.count-began y.0.turn.lead
@@ -383,44 +390,47 @@ module _ (settings : Settings) (users : List UserFrame) (run : Run) (is : IsSett
         omega arith
 
     -- a make under a greater number came after the make of the new key
-    later-make : (z s : ℕ) (j : Key) → MadeAt settings run z s j → j.id.server ≡ new_id.server
-        → new_id.number < j.id.number → (s ≡ server) × (suc q ≤ z)
+    later-make : (z s : ℕ) (j : Key) → MadeAt settings run z s j → j.id.server ≡ o.new_id.server
+        → o.new_id.number < j.id.number → (s ≡ o.server) × (suc o.made ≤ z)
     later-make z s j m owner less =
-        let made_q = made-here settings users run is stepped unforged fresh from paced q i server
-        old_id new_id lag S in
+        let made_q = made-here settings users run is stepped unforged fresh from paced o S in
         let name = ap (λ (v : KeyId). v.server) made_q.2 in
         let number = ap (λ (v : KeyId). v.number) made_q.2 in
-        by_sum (cases_lt q z)
-        (λ after. let r = makes-rise settings users run is stepped unforged fresh from paced q z
-        server s made_q.0 j made_q.1 m (name ∙ sym owner) after in (r.0, after))
-        (λ le. by_sum (cases_lt z q)
-        (λ before. let r = makes-rise settings users run is stepped unforged fresh from paced z q s
-        server j made_q.0 m made_q.1 (owner ∙ sym name) before in
+        by_sum (cases_lt o.made z)
+        (λ after. let r = makes-rise settings users run is stepped unforged fresh from paced o.made
+        z
+        o.server s made_q.0 j made_q.1 m (name ∙ sym owner) after in (r.0, after))
+        (λ le. by_sum (cases_lt z o.made)
+        (λ before. let r = makes-rise settings users run is stepped unforged fresh from paced z
+        o.made s
+        o.server j made_q.0 m made_q.1 (owner ∙ sym name) before in
         let l = r.1 in absurd (omega arith))
-        (λ le2. let same : z ≡ q = omega arith in
+        (λ le2. let same : z ≡ o.made = omega arith in
         let a = make-names settings users run is stepped unforged fresh from paced z s j m in
-        let b = make-names settings users run is stepped unforged fresh from paced q server made_q.0
+        let b = make-names settings users run is stepped unforged fresh from paced o.made o.server
+        made_q.0
         made_q.1 in
         let within = m.within in
-        let mine : mi_at settings s (upto z run) ≡ Some new_id.server = a.0 ∙ ap Some owner in
-        let his : mi_at settings server (upto z run) ≡ Some new_id.server =
-        subst (λ v. mi_at settings server (upto v run) ≡ Some new_id.server) (sym same)
+        let mine : mi_at settings s (upto z run) ≡ Some o.new_id.server = a.0 ∙ ap Some owner in
+        let his : mi_at settings o.server (upto z run) ≡ Some o.new_id.server =
+        subst (λ v. mi_at settings o.server (upto v run) ≡ Some o.new_id.server) (sym same)
         (b.0 ∙ ap Some name) in
-        let one : s ≡ server = (stands-at settings users run stepped fresh z (omega arith)).apart s
-        server new_id.server mine his in
+        let one : s ≡ o.server = (stands-at settings users run stepped fresh z (omega arith)).apart
+        s
+        o.server o.new_id.server mine his in
         let here : j.id.number ≡ Rattle.sak_exchange.specs.Histories.made_count
-        (keys_at settings server (upto q run)) + 1 =
+        (keys_at settings o.server (upto o.made run)) + 1 =
         subst (λ v. j.id.number ≡ Rattle.sak_exchange.specs.Histories.made_count
-        (keys_at settings server (upto v run)) + 1) same
+        (keys_at settings o.server (upto v run)) + 1) same
         (subst (λ v. j.id.number ≡ Rattle.sak_exchange.specs.Histories.made_count
         (keys_at settings v (upto z run)) + 1) one a.1) in
         let there = b.1 in absurd (omega arith)))
 
     -- what a listener takes, the server made after the new key
-    taken-later : (t sent : ℕ) (says : Accepted) (l : IsListener settings run i server t sent says)
+    taken-later : (t sent : ℕ) (says : Accepted) (l : IsListener settings run rolled t sent says)
         (n : ℕ) (k : Key) → suc sent ≤ n → n < length run
-        → TakenAt settings run n t k → k.id.server ≡ new_id.server
-        → (z : ℕ) × (suc q ≤ z) × (z < n) × (Rests cc_ server z → ⊥)
+        → TakenAt settings run n t k → k.id.server ≡ o.new_id.server
+        → (z : ℕ) × (suc o.made ≤ z) × (z < n) × (Rests cc_ o.server z → ⊥)
     taken-later t sent says l n k low high T owner =
         let nk = listener-keys t sent says l in
         let r = taking-is T.life_then.member
@@ -435,16 +445,16 @@ module _ (settings : Settings) (users : List UserFrame) (run : Run) (is : IsSett
         let has = listener-has t sent says l n low (omega arith) in
         let less = over-each T.heard.mi (keys_at settings t (upto n run)) k.id.number nk.0 over has
         (ap (λ (v : KeyId). v.server) nk.2 ∙ sym owner ∙ r.server) in
-        let above : new_id.number < k.id.number =
+        let above : o.new_id.number < k.id.number =
         subst (λ (v : KeyId). v.number < k.id.number) nk.2 less in
         let y = taken-turn t n k T high in
         let m = maker settings users run is stepped unforged fresh from paced (suc n) t k high y in
         let later = later-make m.0 m.1 m.2 m.4 (ap (λ (v : KeyId). v.server) m.5 ∙ owner)
-        (subst (λ (v : KeyId). new_id.number < v.number) (sym m.5) above) in
+        (subst (λ (v : KeyId). o.new_id.number < v.number) (sym m.5) above) in
         let mine = subst (λ v. MadeAt settings run m.0 v m.2) later.0 m.4 in (
           m.0,
           later.1,
-          not-now t n k T m.0 server m.2 mine (omega (arith, m.3)),
+          not-now t n k T m.0 o.server m.2 mine (omega (arith, m.3)),
           make-no_rest m.0 m.2 mine,
         )
       where
@@ -474,8 +484,8 @@ module _ (settings : Settings) (users : List UserFrame) (run : Run) (is : IsSett
             absurd (clash t n T.event T.number T.octets T.came (sym event ∙ m.tick)))
 
     -- A listener, by numbers.
-    pub listening : (t sent : ℕ) (says : Accepted) → IsListener settings run i server t sent says
-        → IsListening cc_ (suc q) i server new_id t (suc sent)
+    pub listening : (t sent : ℕ) (says : Accepted) → IsListener settings run rolled t sent says
+        → IsListening cc_ o t (suc sent)
     listening t sent says l =
         let h = heard-of t sent says l in
         let k = listener-keys t sent says l in
@@ -491,15 +501,15 @@ module _ (settings : Settings) (users : List UserFrame) (run : Run) (is : IsSett
           takes = λ n p m.
               let after = listener-after t sent says l in
               let elects = trust.on (suc n) (omega arith) m
-              ∙ server-life settings users run is stepped unforged fresh from paced q i server
-              old_id new_id lag S (suc n) (omega arith) m in
+              ∙ server-life settings users run is stepped unforged fresh from paced o S (suc n)
+              (omega arith) m in
               elim (installs-at settings users run is stepped unforged fresh from paced t n
-              h.announcement.mi new_id.server m
+              h.announcement.mi o.new_id.server m
               (listener-life t sent says l n (omega arith) (omega arith))
               (listener-life t sent says l (suc n) (omega arith) m) elects) [
                 | rests r ↦ inl r
                 | makes j made_j serves ticks_one allowed ↦
-                    let owner : j.id.server ≡ new_id.server = let f = sym serves ∙ elects in
+                    let owner : j.id.server ≡ o.new_id.server = let f = sym serves ∙ elects in
                     cc (f) in
                     let mine = (make-names settings users run is stepped unforged fresh from paced n
                     t j made_j).0 in
@@ -508,15 +518,15 @@ module _ (settings : Settings) (users : List UserFrame) (run : Run) (is : IsSett
                     cc (f) in
                     absurd (h.other (own ∙ owner))
                 | takes j T serves other ↦
-                    let owner : j.id.server ≡ new_id.server = let f = sym serves ∙ elects in
+                    let owner : j.id.server ≡ o.new_id.server = let f = sym serves ∙ elects in
                     cc (f) in
                     inr (taken-later t sent says l n j p m T owner)
               ];
         }
 
     -- A keeper, by numbers.
-    pub keeping : (t sent : ℕ) (says : Accepted) → IsKeeper settings run i server old_id t sent says
-        → IsKeeping cc_ (suc q) i server old_id new_id lag t (suc sent)
+    pub keeping : (t sent : ℕ) (says : Accepted) → IsKeeper settings run rolled t sent says
+        → IsKeeping cc_ o t (suc sent)
     unfolding listening listener-keys
     keeping t sent says K =
         let l = K.listener in
@@ -527,29 +537,28 @@ module _ (settings : Settings) (users : List UserFrame) (run : Run) (is : IsSett
           old_named = k.2;
           old_is = k.1;
           soon = λ late. soon t sent says K
-              (subst (λ r. rounds from (upto (suc i) run) + lag < rounds from r)
-              (upto-all (length run) run (omega arith)) late);
+              (subst (λ r. rounds from (upto (suc o.start) run) + o.lag < rounds from r)
+              (upto-whole (length run) run (omega arith)) late);
         }
       where
         soon : (t sent : ℕ) (says : Accepted)
-            (K : IsKeeper settings run i server old_id t sent says)
-            → rounds from (upto (suc i) run) + lag < rounds from run
+            (K : IsKeeper settings run rolled t sent says)
+            → rounds from (upto (suc o.start) run) + o.lag < rounds from run
             → (n : ℕ) × (suc sent ≤ n) × (n < length run) ×
             (has_begun (keys_at settings t (upto (suc n) run))
             (listener-keys t sent says K.listener).0.epoch ≡ true)
-            × (rounds from (upto (suc n) run) ≤ rounds from (upto (suc i) run) + lag)
+            × (rounds from (upto (suc n) run) ≤ rounds from (upto (suc o.start) run) + o.lag)
         soon t sent says K late =
             let l = K.listener in
             let b = S.begun t sent says K late in
             let x : ℕ = b.0 in
             let B = b.2 in
             let within = B.within in
-            let now = begun-then x t new_id b.1 B in
+            let now = begun-then x t o.new_id b.1 B in
             let begins = S.follow t sent says K x b.1 B in
             let before = (heard-of t sent says l).before in
-            let R = rollover settings users run is stepped unforged fresh from paced q i server
-            old_id new_id lag S in
-            let late_enough : i ≤ x = by_sum (cases_lt x i)
+            let R = rollover settings users run is stepped unforged fresh from paced o S in
+            let late_enough : o.start ≤ x = by_sum (cases_lt x o.start)
             (λ less. let never = R.unbegun t (suc x) now.0 less now.1 now.3 in let yes = now.2 in
             absurd (cc (never, yes)))
             (λ le. le) in

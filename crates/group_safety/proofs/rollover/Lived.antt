@@ -7,7 +7,8 @@ use Rattle.lan_base.specs.declared.address.Mi.{Mi}
 use Rattle.lan_base.specs.declared.key_id.KeyId.{KeyId}
 use Rattle.lan_base.specs.declared.frame.UserFrame.{UserFrame}
 use Rattle.mkpdu_codec.specs.declared.announcement.Announcement.{Announcement}
-use Rattle.sak_exchange.specs.Histories.{Key, Keying, installs, begun_at}
+use Rattle.sak_exchange.specs.declared.held_key.Key.{Key}
+use Rattle.sak_exchange.specs.Histories.{Keying, installs, begun_at}
 use Rattle.sak_exchange.specs.Histories as keyings
 use Rattle.sak_exchange.specs.Held.{Kept}
 use Rattle.sak_exchange.specs.Lives.{Has, identifiers}
@@ -15,7 +16,8 @@ use Rattle.sak_exchange.proofs.Public.{identifiers-differ}
 use Rattle.mka_station.specs.Lives.{Member, Entry, keys_of}
 use Rattle.mka_station.specs.Tick.{tick_turn}
 use Rattle.mka_station.specs.Hearing.{judged, hear_turn}
-use Rattle.mka_station.specs.inside.Stages.{says_at, follow_at, answer_at}
+use Rattle.mka_station.specs.Tick.{says_at}
+use Rattle.mka_station.specs.Hearing.{follow_at, answer_at}
 use Rattle.mka_station.specs.Hearing.{key_taken}
 use Rattle.lan_core.specs.declared.event.Event.TheVariants as events
 use Rattle.lan_core.specs.declared.fact.Fact.TheVariants as facts
@@ -29,22 +31,24 @@ use Rattle.lan_core.specs.Fresh.{IsUnforged, drawn_mis}
 use Rattle.group_safety.specs.Moments.{upto, At}
 use Rattle.group_safety.specs.Rounds.{rounds}
 use Rattle.group_safety.specs.Stations.{mi_of, mi_at, keys_of_life, keys_at}
-use Rattle.group_safety.specs.inside.Waits.{waits, tick_of, last_tick}
-use Rattle.group_safety.specs.inside.Course.{Course, Step, Lives}
+use Rattle.group_safety.proofs.rollover.Waits.{waits, tick_of, last_tick}
+use Rattle.group_safety.proofs.rollover.Course.{Course, Step, Lives}
 use Rattle.group_safety.proofs.Members.{In, by_sum}
 use Rattle.group_safety.proofs.once.Histories.{heard_of, heard-ticked, heard-heard}
 use Rattle.group_safety.proofs.once.Ticking.{tick_key, tick_roster, tick_lead}
 use Rattle.group_safety.proofs.once.Living.{IsLiving}
-use Rattle.group_safety.proofs.rollover.Moments.{along, event-at, length-upto}
+use Rattle.group_safety.proofs.rollover.AtMoments.{along, event-at, length-upto}
 use Rattle.group_safety.proofs.rollover.Turns.{IsTurn, kept-turn, news, turn-new, news-clock}
 use Rattle.group_safety.proofs.rollover.Turns.{turn-begins, tick_count, tick-is_turn, hear-is_turn}
 use Rattle.group_safety.proofs.rollover.Turns.{turn-past, hear-past, IsTickTurn, tick-turned}
 use Rattle.group_safety.proofs.rollover.Turns.{IsHearTurn, hear-turned}
-use Rattle.group_safety.proofs.rollover.Rounds.{IsPaced, paced-upto, step-counts, step-rises}
-use Rattle.group_safety.proofs.rollover.Rounds.{Settles, settled-waits}
-use Rattle.group_safety.proofs.rollover.Rounds as settle
-use Rattle.group_safety.proofs.rollover.Events.{Part, IsReached, IsBirth, part, delivered, injected}
-use Rattle.group_safety.proofs.rollover.Events as parts
+use Rattle.group_safety.proofs.rollover.TicksAreRounds.{IsPaced, paced-upto, step-counts}
+use Rattle.group_safety.proofs.rollover.TicksAreRounds.{step-rises}
+use Rattle.group_safety.proofs.rollover.TicksAreRounds.{Settles, settled-waits}
+use Rattle.group_safety.proofs.rollover.TicksAreRounds as settle
+use Rattle.group_safety.proofs.rollover.EventKinds.{Part, IsReached, IsBirth, part, delivered}
+use Rattle.group_safety.proofs.rollover.EventKinds.{injected}
+use Rattle.group_safety.proofs.rollover.EventKinds as parts
 use Rattle.group_safety.proofs.rollover.OneLife.{step-at, stands-at, no-birth-of}
 use Rattle.group_safety.proofs.rollover.Said.{Said, known-at, reached-said}
 

@@ -10,7 +10,8 @@ use Rattle.aes_block.specs.declared.secret.Secret.{Secret}
 use Rattle.aes_block.specs.declared.secret.Secret.TheVariants.{S128, S256}
 use Rattle.mkpdu_codec.specs.declared.announcement.Announcement.{Announcement}
 use Rattle.mkpdu_codec.specs.declared.given.Given.{Given}
-use Rattle.sak_exchange.specs.Histories.{Key, Keying, ticked, installed, began, installs, last_key}
+use Rattle.sak_exchange.specs.declared.held_key.Key.{Key}
+use Rattle.sak_exchange.specs.Histories.{Keying, ticked, installed, began, installs, last_key}
 use Rattle.sak_exchange.specs.Histories.{last_roster, made_count}
 use Rattle.sak_exchange.specs.Held.{latest}
 use Rattle.sak_exchange.specs.Beginning.{Beginning}
@@ -22,7 +23,7 @@ use Rattle.mka_station.specs.Views.{view}
 use Rattle.mka_station.specs.Tick.{made}
 use Rattle.mka_station.specs.Hearing.{outcome_of}
 use Rattle.mka_station.specs.Announcing.{given_as}
-use Rattle.mka_station.specs.inside.Stages.{ticked_past}
+use Rattle.mka_station.specs.Tick.{ticked_past}
 use Rattle.lan_core.specs.declared.event.Event.TheVariants as events
 use Rattle.lan_core.specs.declared.settings.Settings.{Settings}
 use Rattle.lan_core.specs.Run.{Run, Happening}
@@ -35,15 +36,15 @@ use Rattle.group_safety.specs.Moments.{upto, At}
 use Rattle.group_safety.specs.Stations.{mi_of, mi_at, keys_at, keys_of_life}
 use Rattle.group_safety.proofs.Members.{by_sum}
 use Rattle.group_safety.proofs.once.Living.{IsLiving}
-use Rattle.group_safety.proofs.once.Rules.{given-is}
+use Rattle.group_safety.proofs.once.Rules.{given-is, taking-is}
 use Rattle.group_safety.proofs.once.Histories.{with_began, with_key, view-keys, keys-ticked}
 use Rattle.group_safety.proofs.rollover.Spans.{from_to}
-use Rattle.group_safety.proofs.rollover.Moments.{event-at, upto-zero}
+use Rattle.group_safety.proofs.rollover.AtMoments.{event-at, upto-zero}
 use Rattle.group_safety.proofs.rollover.KeyFacts.{latest-received, received-installed}
-use Rattle.group_safety.proofs.rollover.Rules.{made-is, taking-is}
+use Rattle.group_safety.proofs.rollover.Begins.{making-is}
 use Rattle.group_safety.proofs.rollover.Turns.{IsTurn, with_tick}
-use Rattle.group_safety.proofs.rollover.Rounds.{IsPaced}
-use Rattle.group_safety.proofs.rollover.Events as parts
+use Rattle.group_safety.proofs.rollover.TicksAreRounds.{IsPaced}
+use Rattle.group_safety.proofs.rollover.EventKinds as parts
 use Rattle.group_safety.proofs.rollover.Shown.{says-is}
 use Rattle.group_safety.proofs.rollover.OneLife.{one-life}
 use Rattle.group_safety.proofs.rollover.Said.{Said, known-at, reached-said}
@@ -286,7 +287,7 @@ module _ (settings : Settings) (users : List UserFrame) (run : Run) (is : IsSett
   make-names z s k m =
       let l = m.life_then in
       let v = view l.member (lives.ticked ∷ l.past) in
-      let r = made-is l.member v (seen_at settings s (upto z run) l m.next)
+      let r = making-is l.member v (seen_at settings s (upto z run) l m.next)
       (sak_in m.event.facts) k m.makes in
       let here = keys-of-life settings s (upto z run) l m.living in
       let now = ap made_count (view-keys l.member (lives.ticked ∷ l.past)
@@ -311,7 +312,7 @@ module _ (settings : Settings) (users : List UserFrame) (run : Run) (is : IsSett
   make-counts z s k m =
       elim (key-part settings users run is stepped unforged fresh s z m.event m.within m.at) [
         | lived.rests same none ↦ let e = sym none
-            ∙ ap (Rattle.group_safety.specs.inside.Waits.tick_of s) m.tick in
+            ∙ ap (Rattle.group_safety.proofs.rollover.Waits.tick_of s) m.tick in
             let yes : Rattle.std.specs.Prelude.nat_eq s s ≡ true = eq-eqb s s refl in
             absurd (cc (rw yes at e))
         | lived.ticks next l ev living after before keys ↦

@@ -10,7 +10,8 @@ use Rattle.peer_lists.specs.Histories.{last_sent}
 use Rattle.mka_station.specs.Lives.{Member, Entry, peers_of}
 use Rattle.mka_station.specs.Tick.{tick_turn, with_sent}
 use Rattle.mka_station.specs.Hearing.{hear_turn, key_taken}
-use Rattle.mka_station.specs.inside.Stages.{says_at, ticked_past, answer_at, follow_at}
+use Rattle.mka_station.specs.Tick.{says_at, ticked_past}
+use Rattle.mka_station.specs.Hearing.{answer_at, follow_at}
 use Rattle.lan_core.specs.declared.event.Event.TheVariants as events
 use Rattle.lan_core.specs.declared.fact.Fact.TheVariants as facts
 use Rattle.lan_core.specs.declared.settings.Settings.{Settings}
@@ -26,11 +27,11 @@ use Rattle.group_safety.proofs.Members.{In, by_sum}
 use Rattle.group_safety.proofs.once.Histories.{sent-before, sent-some, sent-heard}
 use Rattle.group_safety.proofs.once.Ticking.{tick_key, tick_roster, tick_lead, announced-next}
 use Rattle.group_safety.proofs.rollover.Spans.{from_to}
-use Rattle.group_safety.proofs.rollover.Moments.{event-at, one-event}
+use Rattle.group_safety.proofs.rollover.AtMoments.{event-at, one-event}
 use Rattle.group_safety.proofs.rollover.Turns.{turn-past, hear-past}
-use Rattle.group_safety.proofs.rollover.Rounds.{IsPaced}
-use Rattle.group_safety.proofs.rollover.Events.{part}
-use Rattle.group_safety.proofs.rollover.Events as parts
+use Rattle.group_safety.proofs.rollover.TicksAreRounds.{IsPaced}
+use Rattle.group_safety.proofs.rollover.EventKinds.{part}
+use Rattle.group_safety.proofs.rollover.EventKinds as parts
 use Rattle.group_safety.proofs.rollover.Shown.{says-is}
 use Rattle.group_safety.proofs.rollover.OneLife.{one-life, no-birth-of, step-at}
 use Rattle.group_safety.proofs.rollover.Said.{Said}

@@ -22,9 +22,9 @@ use Rattle.group_safety.specs.Stations.{mi_of, mi_at}
 use Rattle.group_safety.proofs.Members.{In, by_sum}
 use Rattle.group_safety.proofs.once.Places.{differs-in}
 use Rattle.group_safety.proofs.rollover.Spans.{from_to}
-use Rattle.group_safety.proofs.rollover.Moments.{along, event-at, to-upto}
-use Rattle.group_safety.proofs.rollover.Events.{Part, IsBirth, first, again, part}
-use Rattle.group_safety.proofs.rollover.Events as parts
+use Rattle.group_safety.proofs.rollover.AtMoments.{along, event-at, to-upto}
+use Rattle.group_safety.proofs.rollover.EventKinds.{Part, IsBirth, first, again, part}
+use Rattle.group_safety.proofs.rollover.EventKinds as parts
 
 -- ---- one event
 

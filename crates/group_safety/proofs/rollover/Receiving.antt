@@ -3,7 +3,7 @@ use Rattle.std.proofs.Common.{◌≡◌, ℕ, ◌<◌, Bool, true, false, List, 
 use Rattle.std.proofs.Common.{refl, ap, sym, ◌∙◌, subst, arith}
 use Rattle.std.proofs.Common.{Option, Some, None, is_some, Result, Ok, Err}
 use Rattle.std.proofs.lemmas.Bool.{eqb-true, eq-eqb}
-use Rattle.std.specs.Prelude.{◌==◌, nat_eq, option_map, option_and_then, option_to_list, slice_get}
+use Rattle.std.specs.Prelude.{◌==◌, nat_eq, option_map, option_and_then, slice_get}
 use Rattle.lan_base.specs.declared.frame.UserFrame.{UserFrame}
 use Rattle.lan_base.specs.declared.address.Mi.{Mi}
 use Rattle.gcm_frames.specs.Tags.{is_sec}
@@ -11,21 +11,23 @@ use Rattle.rx_slots.specs.Histories.{Receiving}
 use Rattle.mkpdu_codec.specs.declared.announcement.Announcement.{Announcement}
 use Rattle.sak_exchange.specs.declared.change.Change.{Change}
 use Rattle.sak_exchange.specs.declared.change.Change.TheVariants as changes
-use Rattle.sak_exchange.specs.Histories.{Key, Keying}
+use Rattle.sak_exchange.specs.declared.held_key.Key.{Key}
+use Rattle.sak_exchange.specs.Histories.{Keying}
 use Rattle.sak_exchange.specs.Histories as keyings
 use Rattle.sak_exchange.specs.Held.{Kept, received, held}
 use Rattle.sak_exchange.specs.Beginning.{Beginning}
 use Rattle.sak_exchange.specs.Outcomes.{beginning}
 use Rattle.sak_exchange.proofs.Public.{by_test, by_option}
 use Rattle.mka_station.specs.declared.reaction.Reaction.{Reaction}
-use Rattle.mka_station.specs.declared.verdict.Verdict.{Verdict}
+use Rattle.mka_station.specs.declared.verdict.DropReason.{DropReason}
 use Rattle.mka_station.specs.Lives.{Member, Entry, keys_of, elected}
 use Rattle.mka_station.specs.Lives as lives
 use Rattle.mka_station.specs.Views.{view}
 use Rattle.mka_station.specs.Tick.{tick_turn, led, made, ended, install_changes}
 use Rattle.mka_station.specs.Hearing.{judged, hear_turn, frame_turn, key_taken, take_changes}
 use Rattle.mka_station.specs.Restart.{ending}
-use Rattle.mka_station.specs.inside.Stages.{roster_at, offer_at, answer_at, taken_past, follow_at}
+use Rattle.mka_station.specs.Tick.{roster_at}
+use Rattle.mka_station.specs.Hearing.{offer_at, answer_at, taken_past, follow_at}
 use Rattle.lan_core.specs.declared.event.Event.TheVariants as events
 use Rattle.lan_core.specs.declared.fact.Fact.{Fact}
 use Rattle.lan_core.specs.declared.fact.Fact.TheVariants as facts
@@ -37,14 +39,15 @@ use Rattle.lan_core.specs.Lives.{seen_at, sak_in, lived, begun, drawn_mi}
 use Rattle.lan_core.specs.Claims.{frame_of_claim}
 use Rattle.lan_core.specs.Expected.{change_fact, reaction_facts, reached_facts, claim_fact}
 use Rattle.lan_core.specs.Expected.{number_fact}
+use Rattle.lan_core.proofs.Public.{gather-unread, gather-reaction}
 use Rattle.group_safety.specs.Stations.{keys_at, keys_of_life}
-use Rattle.group_safety.proofs.once.Gists.{gathered}
-use Rattle.group_safety.proofs.once.Histories.{with_began, with_key, view-keys, keys-ticked, keys-heard}
+use Rattle.group_safety.proofs.once.Histories.{with_began, with_key, view-keys, keys-ticked}
+use Rattle.group_safety.proofs.once.Histories.{keys-heard}
 use Rattle.group_safety.proofs.once.Nexts.{mapped}
 use Rattle.group_safety.proofs.rollover.Turns.{tick-keys, hear-keys}
-use Rattle.group_safety.proofs.rollover.Rules.{made-is}
-use Rattle.group_safety.proofs.rollover.Events.{Kind, IsReached}
-use Rattle.group_safety.proofs.rollover.Events as kinds
+use Rattle.group_safety.proofs.rollover.Begins.{making-is}
+use Rattle.group_safety.proofs.rollover.EventKinds.{Kind, IsReached}
+use Rattle.group_safety.proofs.rollover.EventKinds as kinds
 use Rattle.group_safety.proofs.rollover.Makers.{keys-of-life}
 use Rattle.group_safety.proofs.rollover.Servers.{view-server}
 use Rattle.group_safety.proofs.rollover.Listeners.{life-ticked}
@@ -85,36 +88,13 @@ changes-other t u (c ∷ cs) s apart =
     ap (gather (slot_change t) (map (change_fact u) cs)) (fact-other t u c s apart)
     ∙ changes-other t u cs s apart
 
-by-verdict : (t u h : ℕ) (o : Option Verdict) (s : List Receiving)
-    → gather (slot_change t) (option_to_list (option_map (λ v. facts.HeardMka h u v) o)) s ≡ s
-by-verdict t u h None s = refl
-by-verdict t u h (Some v) s = refl
-
-by-server : (t u : ℕ) (o : Option (Option Mi)) (s : List Receiving)
-    → gather (slot_change t) (option_to_list (option_map (λ m. facts.Server u m) o)) s ≡ s
-by-server t u None s = refl
-by-server t u (Some m) s = refl
-
-by-sent : (t u n : ℕ) (o : Option (List ℕ)) (s : List Receiving)
-    → gather (slot_change t) (option_to_list
-    (option_map (λ octets. facts.Framed n u false octets) o)) s ≡ s
-by-sent t u n None s = refl
-by-sent t u n (Some octets) s = refl
-
 reaction-slots : (t u h n : ℕ) (re : Reaction) (s : List Receiving)
     → gather (slot_change t) (reaction_facts u h n re) s ≡ gather (slot_change t)
     (map (change_fact u) re.changes) s
 reaction-slots t u h n re s =
-    let first = option_to_list (option_map (λ v. facts.HeardMka h u v) re.heard) in
-    let second = option_to_list (option_map (λ m. facts.Server u m) re.server) in
-    let third = map (change_fact u) re.changes in
-    let last = option_to_list (option_map (λ octets. facts.Framed n u false octets) re.sent) in
-    gathered (slot_change t) first (second ++ (third ++ last)) s
-    ∙ ap (gather (slot_change t) (second ++ (third ++ last))) (by-verdict t u h re.heard s)
-    ∙ gathered (slot_change t) second (third ++ last) s
-    ∙ ap (gather (slot_change t) (third ++ last)) (by-server t u re.server s)
-    ∙ gathered (slot_change t) third last s
-    ∙ by-sent t u n re.sent (gather (slot_change t) third s)
+    gather-reaction (slot_change t) u h n re s (λ v. refl) (λ m. refl)
+    ∙ gather-unread (slot_change t) (λ octets. facts.Framed n u false octets) re.sent
+    (gather (slot_change t) (map (change_fact u) re.changes) s) (λ octets. refl)
 
 -- ---- turns
 
@@ -151,7 +131,7 @@ tick-stands m seen sak p s kept stands =
     let second = stands-with_began lead h1 w first2 in
     let now : v1.keys ≡ h1 = view-keys m (lives.ticked ∷ p) ∙ keys-ticked m p in
     let third = key-stage m.base h1 v1.keys lead r key w now kept
-    (λ k e. (made-is m v1 seen sak k e).none_led) second in
+    (λ k e. (making-is m v1 seen sak k e).none_led) second in
     let slots : slots_by (ended v0.keys v1.server ++
     ((beginning v1.keys lead).changes ++ install_changes v1.keys r key)) s ≡ slots_by
     (install_changes v1.keys r key) w =
@@ -305,13 +285,14 @@ claim-slots settings t s pn r k w = by_test (pn == 0) (λ y. rw y refl) (λ y. r
 
 -- ---- along a run
 
-heard-stands : (m : Member) (j : Result Announcement Verdict) (p : List Entry) (s : List Receiving)
+heard-stands : (m : Member) (j : Result Announcement DropReason) (p : List Entry)
+    (s : List Receiving)
     → Kept m.base (keys_of m p) → Stands (keys_of m p) s
     → Stands (keys_of m (Rattle.mka_station.specs.Hearing.heard_turn m j p).past)
     (slots_by (Rattle.mka_station.specs.Hearing.heard_turn m j p).reaction.changes s)
 unfolding slots_by
 heard-stands m (Ok a) p s k stands = hear-stands m a p s k stands
-heard-stands m (Err v) p s k stands = stands
+heard-stands m (Err reason) p s k stands = stands
 
 put : (h g : List Keying) (s w : List Receiving) → h ≡ g → s ≡ w → Stands g w → Stands h s
 put h g s w a b stands = subst (λ v. Stands v s) (sym a) (subst (λ v. Stands g v) (sym b) stands)

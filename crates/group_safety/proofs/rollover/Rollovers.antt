@@ -8,18 +8,20 @@ use Rattle.lan_base.specs.declared.address.Mi.{Mi}
 use Rattle.lan_base.specs.declared.key_id.KeyId.{KeyId}
 use Rattle.lan_base.specs.declared.frame.UserFrame.{UserFrame}
 use Rattle.sak_exchange.specs.declared.change.Cause.TheVariants.{All}
-use Rattle.sak_exchange.specs.Histories.{Key, Keying, ticked, began, installed, clock, installs}
+use Rattle.sak_exchange.specs.declared.held_key.Key.{Key}
+use Rattle.sak_exchange.specs.Histories.{Keying, ticked, began, installed, clock, installs}
 use Rattle.sak_exchange.specs.Histories.{begun_at, has_begun, install_count, last_roster}
 use Rattle.sak_exchange.specs.Held.{Kept, latest, old, allows}
 use Rattle.sak_exchange.specs.Beginning.{Beginning, is_latest_made}
 use Rattle.sak_exchange.specs.Lives.{Has, IsNumbered}
-use Rattle.sak_exchange.proofs.Public.{by_test, by_option, latest-epoch, first-is, keys-installed, latest-stays, begun-stays}
+use Rattle.sak_exchange.proofs.Public.{by_test, by_option, latest-epoch, first-is, keys-installed}
+use Rattle.sak_exchange.proofs.Public.{latest-stays, begun-stays}
 use Rattle.mka_station.specs.Lives.{Member, Entry, keys_of}
 use Rattle.mka_station.specs.Lives as lives
 use Rattle.mka_station.specs.Views.{view}
 use Rattle.mka_station.specs.Tick.{led, made}
 use Rattle.mka_station.specs.Hearing.{outcome_of}
-use Rattle.mka_station.specs.inside.Stages.{taken_past}
+use Rattle.mka_station.specs.Hearing.{taken_past}
 use Rattle.lan_core.specs.declared.event.Event.TheVariants as events
 use Rattle.lan_core.specs.declared.settings.Settings.{Settings}
 use Rattle.lan_core.specs.Run.{Run, Happening}
@@ -30,32 +32,32 @@ use Rattle.lan_base.specs.Differing.{AllDiffer}
 use Rattle.lan_core.specs.Fresh.{IsUnforged, drawn_mis}
 use Rattle.group_safety.specs.Moments.{upto, At}
 use Rattle.group_safety.specs.Stations.{mi_at, keys_at, server_at}
-use Rattle.group_safety.specs.Steady.{IsSteady}
-use Rattle.group_safety.specs.inside.Course.{Course, IsCourse, Lives, Rests, RestsThrough}
-use Rattle.group_safety.specs.inside.Course.{IsRollover}
+use Rattle.group_safety.specs.Steady.{Rollover, IsSteady}
+use Rattle.group_safety.proofs.rollover.Course.{Course, IsCourse, Lives, Rests, RestsThrough}
+use Rattle.group_safety.proofs.rollover.Course.{IsRollover}
 use Rattle.group_safety.proofs.Members.{contains-in, by_sum}
 use Rattle.group_safety.proofs.once.Living.{IsLiving}
 use Rattle.group_safety.proofs.once.Histories.{with_began, with_key, view-keys, keys-ticked}
 use Rattle.group_safety.proofs.rollover.Spans.{grown, lives-later, from_to}
-use Rattle.group_safety.proofs.rollover.Moments.{one-event}
+use Rattle.group_safety.proofs.rollover.AtMoments.{one-event}
 use Rattle.group_safety.proofs.rollover.KeyFacts.{installed-on, latest-received, received-installed}
-use Rattle.group_safety.proofs.rollover.Rules.{IsLed, led-is, made-is, following-is}
-use Rattle.group_safety.proofs.rollover.Events.{kind}
+use Rattle.group_safety.proofs.rollover.Begins.{IsLed, led-is, making-is, following-is}
+use Rattle.group_safety.proofs.rollover.EventKinds.{kind}
 use Rattle.group_safety.proofs.rollover.Shows.{begins-by, puts-by}
 use Rattle.group_safety.proofs.rollover.Shows as shows
 use Rattle.group_safety.proofs.rollover.Turns.{IsTickTurn, kept-turn}
 use Rattle.group_safety.proofs.rollover.Turns.{with_tick}
-use Rattle.group_safety.proofs.rollover.Rounds.{IsPaced}
+use Rattle.group_safety.proofs.rollover.TicksAreRounds.{IsPaced}
 use Rattle.group_safety.proofs.rollover.OneLife.{step-at, one-life, unbroken-life}
 use Rattle.group_safety.proofs.rollover.Said.{known-at}
 use Rattle.group_safety.proofs.rollover.Lived.{key-part, kept-at, life-kept, one-install-at}
 use Rattle.group_safety.proofs.rollover.Lived.{tick-turn-at, lives-of, rise-at, tick-settled}
 use Rattle.group_safety.proofs.rollover.Lived as lived
-use Rattle.group_safety.proofs.rollover.Events as parts
+use Rattle.group_safety.proofs.rollover.EventKinds as parts
 use Rattle.group_safety.proofs.rollover.Leads.{LedAt, installed-upto, begun-led}
 use Rattle.group_safety.proofs.rollover.Makers.{MadeAt, keys-of-life, mi-of-life, made-own}
 use Rattle.group_safety.proofs.rollover.Makers.{make-names, turn-puts}
-use Rattle.group_safety.proofs.rollover.Servers.{Installs, rests, makes, takes, installs-at}
+use Rattle.group_safety.proofs.rollover.Servers.{KeyTurn, rests, makes, takes, installs-at}
 use Rattle.group_safety.proofs.rollover.Servers.{the-course}
 
 -- ---- one tick
@@ -66,7 +68,7 @@ none-made : (m : Member) (p : List Entry) (seen : _) (sak : _) (b : Beginning)
     → made m (view m (lives.ticked ∷ p)) seen sak ≡ None
 none-made m p seen sak b leads =
     by_option (made m (view m (lives.ticked ∷ p)) seen sak) (λ none. none)
-    (λ k is. let r = made-is m (view m (lives.ticked ∷ p)) seen sak k is in let f = sym leads
+    (λ k is. let r = making-is m (view m (lives.ticked ∷ p)) seen sak k is in let f = sym leads
     ∙ r.none_led in absurd (cc (f)))
 
 began-now : (e : ℕ) (h : List Keying) → begun_at (began e ∷ h) e ≡ Some (clock (began e ∷ h))
@@ -159,7 +161,7 @@ module _ (settings : Settings) (users : List UserFrame) (run : Run) (is : IsSett
   tick-turn-then u n next x l high at tick living =
       elim (key-part settings users run is stepped unforged fresh u n x high at) [
         | lived.rests same none ↦ let e = sym none
-            ∙ ap (Rattle.group_safety.specs.inside.Waits.tick_of u) tick in
+            ∙ ap (Rattle.group_safety.proofs.rollover.Waits.tick_of u) tick in
             let yes : Rattle.std.specs.Prelude.nat_eq u u ≡ true = eq-eqb u u refl in
             absurd (cc (rw yes at e))
         | lived.ticks m j ev there after before keys ↦
@@ -237,15 +239,15 @@ module _ (settings : Settings) (users : List UserFrame) (run : Run) (is : IsSett
 
   -- ---- a steady rollover
 
-  module _ (q i server : ℕ) (old_id new_id : KeyId) (lag : ℕ)
-      (S : IsSteady settings run from q i server old_id new_id lag) where
-    pub made-here : (k : Key) × MadeAt settings run q server k × (k.id ≡ new_id)
+  module _ (o : Rollover) (S : IsSteady settings run (record o { from = from })) where
+    pub made-here : (k : Key) × MadeAt settings run o.made o.server k × (k.id ≡ o.new_id)
     made-here =
         let M = S.makes in
-        let p = puts-by settings users (upto q run) M.event.event M.event.facts server M.next server
-        new_id M.an M.epoch M.sak
-        (kind settings users M.event (upto q run)
-        (step-at settings users run stepped fresh q M.event M.within M.at)) M.tick
+        let p = puts-by settings users (upto o.made run) M.event.event M.event.facts o.server
+        M.next o.server
+        o.new_id M.an M.epoch M.sak
+        (kind settings users M.event (upto o.made run)
+        (step-at settings users run stepped fresh o.made M.event M.within M.at)) M.tick
         (contains-in M.event.facts _ M.fact) in (
           p.puts.this,
           record {
@@ -263,32 +265,34 @@ module _ (settings : Settings) (users : List UserFrame) (run : Run) (is : IsSett
         )
 
     -- the life of the server
-    pub server-life : (n : ℕ) → q ≤ n → n ≤ length run
-        → mi_at settings server (upto n run) ≡ Some new_id.server
+    pub server-life : (n : ℕ) → o.made ≤ n → n ≤ length run
+        → mi_at settings o.server (upto n run) ≡ Some o.new_id.server
     server-life =
         let m = made-here in
-        let names = (make-names settings users run is stepped unforged fresh from paced q server m.0
+        let names = (make-names settings users run is stepped unforged fresh from paced o.made
+        o.server m.0
         m.1).0 ∙ ap (λ (v : KeyId). Some v.server) m.2 in
         let within = S.makes.within in
-        unbroken-life settings users run stepped fresh server new_id.server q (length run)
+        unbroken-life settings users run stepped fresh o.server o.new_id.server o.made (length run)
         (omega arith) (omega arith) names (λ n x p l at. S.unbroken.on n x p at l)
 
-    pub server-serves : (n : ℕ) → suc q ≤ n → n ≤ length run
-        → server_at settings server (upto n run) ≡ Some new_id.server
+    pub server-serves : (n : ℕ) → suc o.made ≤ n → n ≤ length run
+        → server_at settings o.server (upto n run) ≡ Some o.new_id.server
     server-serves n low high = S.served.on n low high ∙ server-life n (omega arith) high
 
-    pub server-lives : Lives c server (suc q)
-    server-lives = lives-of settings users run is stepped unforged fresh from paced server
-        (suc q) new_id.server (λ n p l. server-life n (omega arith) l)
+    pub server-lives : Lives c o.server (suc o.made)
+    server-lives = lives-of settings users run is stepped unforged fresh from paced o.server
+        (suc o.made) o.new_id.server (λ n p l. server-life n (omega arith) l)
 
     -- the beginning
-    pub led-here : (m : LedAt settings run i server new_id) × (m.by.cause ≡ All)
+    pub led-here : (m : LedAt settings run o.start o.server o.new_id) × (m.by.cause ≡ All)
     led-here =
         let B = S.begins in
-        elim (begins-by settings users (upto i run) B.event.event B.event.facts server new_id B.an
+        elim (begins-by settings users (upto o.start run) B.event.event B.event.facts o.server
+        o.new_id B.an
         B.epoch All
-        (kind settings users B.event (upto i run)
-        (step-at settings users run stepped fresh i B.event B.within B.at))
+        (kind settings users B.event (upto o.start run)
+        (step-at settings users run stepped fresh o.start B.event B.within B.at))
         (contains-in B.event.facts _ B.fact)) [
           | shows.leads next l ev living b ↦ (
             record {
@@ -313,28 +317,29 @@ module _ (settings : Settings) (users : List UserFrame) (run : Run) (is : IsSett
               let e = sym b.cause_is ∙ f.cause in absurd (cc (e))
         ]
 
-    abbrev L : LedAt settings run i server new_id
+    abbrev L : LedAt settings run o.start o.server o.new_id
     L = led-here.0
 
     pub new-key : Key
     new-key = L.by.key
 
-    pub new-named : new-key.id ≡ new_id
+    pub new-named : new-key.id ≡ o.new_id
     unfolding new-key
     new-named = L.named
 
-    pub beginning-here : IsBeginning (keys_at settings server (upto i run))
-        (keys_at settings server (upto (suc i) run)) new-key
+    pub beginning-here : IsBeginning (keys_at settings o.server (upto o.start run))
+        (keys_at settings o.server (upto (suc o.start) run)) new-key
     unfolding new-key
     beginning-here =
-        let t = tick-turn-then server i L.next L.event L.life_then L.within L.at L.tick L.living in
+        let t = tick-turn-then o.server o.start L.next L.event L.life_then L.within L.at L.tick
+        L.living in
         beginning-tick L.life_then.member _ _ L.life_then.past
-        (keys_at settings server (upto i run))
-        (keys_at settings server (upto (suc i) run)) L.by t.0 t.1 L.leads
+        (keys_at settings o.server (upto o.start run))
+        (keys_at settings o.server (upto (suc o.start) run)) L.by t.0 t.1 L.leads
 
     -- before it, the key is installed and has not begun
-    before-begun : Has new-key (installs (keys_at settings server (upto i run))) ×
-        (has_begun (keys_at settings server (upto i run)) new-key.epoch ≡ false)
+    before-begun : Has new-key (installs (keys_at settings o.server (upto o.start run))) ×
+        (has_begun (keys_at settings o.server (upto o.start run)) new-key.epoch ≡ false)
     unfolding new-key
     before-begun =
         let m = L.life_then.member in
@@ -342,124 +347,132 @@ module _ (settings : Settings) (users : List UserFrame) (run : Run) (is : IsSett
         let l = led-is m (view m (lives.ticked ∷ p)) L.by L.leads in
         let on : Bool = is_some (lives.elected m (lives.ticked ∷ p)) in
         let within = L.within in
-        let here = keys-of-life settings server (upto i run) L.life_then L.living in
+        let here = keys-of-life settings o.server (upto o.start run) L.life_then L.living in
         let now = view-keys m (lives.ticked ∷ p) ∙ keys-ticked m p
         ∙ ap (λ w. ticked on ∷ w) (sym here) in
         let first = subst (Kept m.base) (sym here)
-        (life-kept settings users run is stepped unforged fresh i
-        (omega arith) server L.life_then L.living) in
+        (life-kept settings users run is stepped unforged fresh o.start
+        (omega arith) o.server L.life_then L.living) in
         let newest = subst (λ w. latest w ≡ Some L.by.key) now l.latest_key in (
-          received-installed (ticked on ∷ keys_at settings server (upto i run)) L.by.key
-              (latest-received m.base (ticked on ∷ keys_at settings server (upto i run)) L.by.key
+          received-installed (ticked on ∷ keys_at settings o.server (upto o.start run)) L.by.key
+              (latest-received m.base (ticked on ∷ keys_at settings o.server (upto o.start run))
+              L.by.key
               first newest),
           subst (λ w. has_begun w L.by.key.epoch ≡ false) now l.unbegun,
         )
 
-    begun-within : i < length run
+    begun-within : o.start < length run
     begun-within = S.begins.within
 
-    made-installed : Has made-here.0 (installs (keys_at settings server (upto (suc q) run)))
+    made-installed : Has made-here.0 (installs (keys_at settings o.server (upto (suc o.made) run)))
     made-installed =
         let m = made-here in
         let w = m.1 in
-        let t = tick-turn-then server q w.next w.event w.life_then w.within w.at w.tick w.living in
-        turn-puts w.life_then.member.base (keys_at settings server (upto q run))
-        (keys_at settings server (upto (suc q) run)) t.0.turn m.0 (t.0.key_is ∙ w.makes)
+        let t = tick-turn-then o.server o.made w.next w.event w.life_then w.within w.at w.tick
+        w.living in
+        turn-puts w.life_then.member.base (keys_at settings o.server (upto o.made run))
+        (keys_at settings o.server (upto (suc o.made) run)) t.0.turn m.0 (t.0.key_is ∙ w.makes)
 
-    pub latest-made : latest (keys_at settings server (upto (suc q) run)) ≡ Some made-here.0
+    pub latest-made : latest (keys_at settings o.server (upto (suc o.made) run)) ≡ Some made-here.0
     latest-made =
         let m = made-here in
         let w = m.1 in
-        let t = tick-turn-then server q w.next w.event w.life_then w.within w.at w.tick w.living in
-        making-tick w.life_then.member _ _ w.life_then.past (keys_at settings server (upto q run))
-        (keys_at settings server (upto (suc q) run)) m.0 t.0 t.1 w.makes
+        let t = tick-turn-then o.server o.made w.next w.event w.life_then w.within w.at w.tick
+        w.living in
+        making-tick w.life_then.member _ _ w.life_then.past (keys_at settings o.server
+        (upto o.made run))
+        (keys_at settings o.server (upto (suc o.made) run)) m.0 t.0 t.1 w.makes
 
     -- the event of the beginning is not that of the make
-    pub apart : suc q ≤ i
+    pub apart : suc o.made ≤ o.start
     apart =
-        by_sum (cases_lt q i) (λ less. less)
-        (λ le. let order = S.order in let same : q ≡ i = omega arith in
+        by_sum (cases_lt o.made o.start) (λ less. less)
+        (λ le. let order = S.order in let same : o.made ≡ o.start = omega arith in
         let m = made-here in
         let w = m.1 in
         let at = subst (λ v. At run v w.event) same w.at in
-        let event = one-event i run w.event L.event at L.at in
-        let tick : events.Tick server w.next ≡ events.Tick server L.next = sym w.tick
+        let event = one-event o.start run w.event L.event at L.at in
+        let tick : events.Tick o.server w.next ≡ events.Tick o.server L.next = sym w.tick
         ∙ ap (λ (v : Happening). v.event) event ∙ L.tick in
         let next : w.next ≡ L.next = cc (tick) in
-        let living = subst (λ v. life settings server (upto v run) ≡ Some w.life_then) same w.living
+        let living = subst (λ v. life settings o.server (upto v run) ≡ Some w.life_then) same
+        w.living
         in
         let lives_same : w.life_then ≡ L.life_then = let f = sym living ∙ L.living in cc (f) in
         let makes_k = subst (λ v. made w.life_then.member
         (view w.life_then.member (lives.ticked ∷ w.life_then.past))
-        (seen_at settings server (upto v run) w.life_then w.next) (sak_in w.event.facts)
+        (seen_at settings o.server (upto v run) w.life_then w.next) (sak_in w.event.facts)
         ≡ Some m.0) same w.makes in
         let there = subst (λ (v : Life). made v.member (view v.member (lives.ticked ∷ v.past))
-        (seen_at settings server (upto i run) v w.next) (sak_in w.event.facts) ≡ Some m.0)
+        (seen_at settings o.server (upto o.start run) v w.next) (sak_in w.event.facts) ≡ Some m.0)
         lives_same makes_k in
         let none = none-made L.life_then.member L.life_then.past
-        (seen_at settings server (upto i run) L.life_then w.next)
+        (seen_at settings o.server (upto o.start run) L.life_then w.next)
         (sak_in w.event.facts) L.by L.leads in
         let f = sym none ∙ there in absurd (cc (f)))
 
     -- what was installed in the server's life stays so
-    server-has : (k : Key) (a b : ℕ) → suc q ≤ a → a ≤ b → b ≤ length run
-        → Has k (installs (keys_at settings server (upto a run)))
-        → Has k (installs (keys_at settings server (upto b run)))
+    server-has : (k : Key) (a b : ℕ) → suc o.made ≤ a → a ≤ b → b ≤ length run
+        → Has k (installs (keys_at settings o.server (upto a run)))
+        → Has k (installs (keys_at settings o.server (upto b run)))
     server-has k a b first low high has =
-        let g = grown c server a b low high (lives-later c server (suc q) a first server-lives) in
+        let g = grown c o.server a b low high (lives-later c o.server (suc o.made) a first
+        server-lives) in
         subst (λ w. Has k (installs w)) (sym g.whole)
-        (installed-on k g.new (keys_at settings server (upto a run)) has)
+        (installed-on k g.new (keys_at settings o.server (upto a run)) has)
 
-    new-installed : Has new-key (installs (keys_at settings server (upto (suc i) run)))
+    new-installed : Has new-key (installs (keys_at settings o.server (upto (suc o.start) run)))
     new-installed =
-        let kept = kept-at settings users run is stepped unforged fresh server
-        (suc i) begun-within in
-        received-installed (keys_at settings server (upto (suc i) run)) new-key
-        (latest-received kept.0 (keys_at settings server (upto (suc i) run)) new-key kept.1
+        let kept = kept-at settings users run is stepped unforged fresh o.server
+        (suc o.start) begun-within in
+        received-installed (keys_at settings o.server (upto (suc o.start) run)) new-key
+        (latest-received kept.0 (keys_at settings o.server (upto (suc o.start) run)) new-key kept.1
         beginning-here.latest_is)
 
     -- the key that was made is the one that begins
     pub one-key : made-here.0 ≡ new-key
     one-key =
         let a = apart in
-        one-install-at settings users run is stepped unforged fresh server
-        (suc i) made-here.0 new-key
-        (server-has made-here.0 (suc q) (suc i) (omega arith)
+        one-install-at settings users run is stepped unforged fresh o.server
+        (suc o.start) made-here.0 new-key
+        (server-has made-here.0 (suc o.made) (suc o.start) (omega arith)
         (omega arith) begun-within made-installed) new-installed (made-here.2 ∙ sym new-named)
 
-    server-installs : (n : ℕ) → suc q ≤ n → n < length run → Installs settings run c server n
+    server-installs : (n : ℕ) → suc o.made ≤ n → n < length run → KeyTurn settings run c o.server n
     server-installs n low high =
-        installs-at settings users run is stepped unforged fresh from paced server n new_id.server
-        new_id.server high (server-life n (omega arith) (omega arith))
+        installs-at settings users run is stepped unforged fresh from paced o.server n
+        o.new_id.server
+        o.new_id.server high (server-life n (omega arith) (omega arith))
         (server-life (suc n) (omega arith) high) (server-serves (suc n) (omega arith) high)
 
     -- the server installs what it makes
-    pub server-may : (n : ℕ) → suc q ≤ n → n < length run
-        → Rests c server n ⊎ ((k : Key) × MadeAt settings run n server k × (c.ticks server n ≡ 1) ×
-        (allows (ticked true ∷ keys_at settings server (upto n run)) ≡ true))
+    pub server-may : (n : ℕ) → suc o.made ≤ n → n < length run
+        → Rests c o.server n ⊎ ((k : Key) × MadeAt settings run n o.server k × (c.ticks o.server n
+        ≡ 1) ×
+        (allows (ticked true ∷ keys_at settings o.server (upto n run)) ≡ true))
     server-may n low high = elim (server-installs n low high) [
       | rests r ↦ inl r
       | makes k m serves ticks_one allowed ↦ inr (k, m, ticks_one, allowed)
       | takes k t serves other ↦
-          let same : k.id.server ≡ new_id.server = let f = sym serves
+          let same : k.id.server ≡ o.new_id.server = let f = sym serves
           ∙ server-serves (suc n) (omega arith) high in cc (f) in
           absurd (other (server-life n (omega arith) (omega arith) ∙ ap Some (sym same)))
     ]
 
-    rests-before : RestsThrough c server (suc q) (suc i)
+    rests-before : RestsThrough c o.server (suc o.made) (suc o.start)
     rests-before = record {
       on = λ n p l. let high = begun-within in
           by_sum (server-may n p (omega arith)) (λ r. r)
-          (λ m. absurd (not-latest-again server n (suc i) made-here.0 m.0 l begun-within
-          (lives-later c server (suc q) (suc n) (omega arith) server-lives) m.1
-          (server-has made-here.0 (suc q) n (omega arith) p (omega arith) made-installed)
-          (subst (λ w. latest (keys_at settings server (upto (suc i) run)) ≡ Some w)
+          (λ m. absurd (not-latest-again o.server n (suc o.start) made-here.0 m.0 l begun-within
+          (lives-later c o.server (suc o.made) (suc n) (omega arith) server-lives) m.1
+          (server-has made-here.0 (suc o.made) n (omega arith) p (omega arith) made-installed)
+          (subst (λ w. latest (keys_at settings o.server (upto (suc o.start) run)) ≡ Some w)
           (sym one-key) beginning-here.latest_is)));
     }
 
     -- nobody has begun the new key before
-    unbegun : (u n : ℕ) (k : Key) → n ≤ i → Has k (installs (keys_at settings u (upto n run)))
-        → k.id ≡ new_id → has_begun (keys_at settings u (upto n run)) k.epoch ≡ false
+    unbegun : (u n : ℕ) (k : Key) → n ≤ o.start → Has k (installs (keys_at settings u (upto n run)))
+        → k.id ≡ o.new_id → has_begun (keys_at settings u (upto n run)) k.epoch ≡ false
     unbegun u n k low has named =
         by_test (has_begun (keys_at settings u (upto n run)) k.epoch)
         (λ yes. let within = begun-within in
@@ -469,7 +482,7 @@ module _ (settings : Settings) (users : List UserFrame) (run : Run) (is : IsSett
         (subst (LedAt settings run b.0 b.1) named b.3)))
         (λ no. no)
       where
-        not-before : (z s : ℕ) → z < i → LedAt settings run z s new_id → ⊥
+        not-before : (z s : ℕ) → z < o.start → LedAt settings run z s o.new_id → ⊥
         not-before z s less m =
             let within = begun-within in
             let l = m.life_then in
@@ -487,39 +500,42 @@ module _ (settings : Settings) (users : List UserFrame) (run : Run) (is : IsSett
             led-owner l.member l.past m.by r v.keys.numbered
             (life-kept settings users run is stepped unforged fresh z
             (omega arith) s l m.living) in
-            let mine : mi_at settings s (upto z run) ≡ Some new_id.server =
+            let mine : mi_at settings s (upto z run) ≡ Some o.new_id.server =
             mi-of-life settings s (upto z run) l m.living
             ∙ ap Some (sym owner ∙ ap (λ (w : KeyId). w.server) m.named) in
             let a = apart in
-            let one = one-life settings users run stepped fresh s server new_id.server z i
-            (omega arith) (omega arith) mine (server-life i (omega arith) (omega arith)) in
-            let same : server ≡ s = one.0 in
-            let g = grown-in s new_id.server (suc z) i less (omega arith)
-            (λ n p q. one.1 n (omega arith) q) in
+            let one = one-life settings users run stepped fresh s o.server o.new_id.server z o.start
+            (omega arith) (omega arith) mine (server-life o.start (omega arith) (omega arith)) in
+            let same : o.server ≡ s = one.0 in
+            let g = grown-in s o.new_id.server (suc z) o.start less (omega arith)
+            (λ n p k. one.1 n (omega arith) k) in
             let begun_i = subst (λ w. has_begun w m.by.key.epoch ≡ true) (sym g.1)
             (begun-stays g.0 (keys_at settings s (upto (suc z) run)) m.by.key.epoch
             (ap is_some begins_then.begun_is)) in
             let has_i = subst (λ w. Has m.by.key (installs w)) (sym g.1)
             (installed-on m.by.key g.0 (keys_at settings s (upto (suc z) run)) has_then) in
-            let has_s = subst (λ w. Has m.by.key (installs (keys_at settings w (upto i run))))
+            let has_s = subst (λ w. Has m.by.key (installs (keys_at settings w (upto o.start run))))
             (sym same) has_i in
-            let begun_s = subst (λ w. has_begun (keys_at settings w (upto i run)) m.by.key.epoch
+            let begun_s = subst (λ w. has_begun (keys_at settings w (upto o.start run))
+            m.by.key.epoch
             ≡ true) (sym same) begun_i in
-            let key = one-install-at settings users run is stepped unforged fresh server i m.by.key
+            let key = one-install-at settings users run is stepped unforged fresh o.server o.start
+            m.by.key
             new-key has_s before-begun.0 (m.named ∙ sym new-named) in
-            let never = subst (λ (w : Key). has_begun (keys_at settings server (upto i run)) w.epoch
+            let never = subst (λ (w : Key). has_begun (keys_at settings o.server
+            (upto o.start run)) w.epoch
             ≡ true) key begun_s in
             let no = before-begun.1 in cc (never, no)
 
-    old-of : (o : Option Key) → option_map (λ (k : Key). k.id) o ≡ Some old_id
-        → (k : Key) × (o ≡ Some k) × (k.id ≡ old_id)
+    old-of : (older : Option Key) → option_map (λ (k : Key). k.id) older ≡ Some o.old_id
+        → (k : Key) × (older ≡ Some k) × (k.id ≡ o.old_id)
     old-of None e = absurd (cc (e))
-    old-of (Some k) e = (k, refl, let f : k.id ≡ old_id = cc (e) in f)
+    old-of (Some k) e = (k, refl, let f : k.id ≡ o.old_id = cc (e) in f)
 
     -- The rollover, by numbers.
-    pub rollover : IsRollover c (suc q) i server old_id new_id lag
+    pub rollover : IsRollover c o
     rollover =
-        let older = old-of (old (keys_at settings server (upto (suc i) run))) S.old_held in
+        let older = old-of (old (keys_at settings o.server (upto (suc o.start) run))) S.old_held in
         let early = S.early in let a = apart in
         record {
           order = a;
@@ -533,7 +549,8 @@ module _ (settings : Settings) (users : List UserFrame) (run : Run) (is : IsSett
           old_is = older.1;
           new_is = beginning-here.latest_is;
           begun = beginning-here.begun_is;
-          settled = tick-settled settings users run is stepped unforged fresh from paced server i
+          settled = tick-settled settings users run is stepped unforged fresh from paced o.server
+              o.start
               L.next L.event L.at L.tick;
           made = latest-made ∙ ap Some one-key;
           no_makes = rests-before;

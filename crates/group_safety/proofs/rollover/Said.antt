@@ -16,16 +16,16 @@ use Rattle.mkpdu_codec.specs.Reading.{reading}
 use Rattle.mkpdu_codec.specs.Written.{written}
 use Rattle.mkpdu_codec.proofs.Public.{read_again, IsBytes-all, same_covered, read_is_spelled}
 use Rattle.sak_exchange.specs.declared.change.Change.TheVariants as changes
-use Rattle.sak_exchange.specs.Histories.{Key}
+use Rattle.sak_exchange.specs.declared.held_key.Key.{Key}
 use Rattle.sak_exchange.proofs.Public.{by_test}
 use Rattle.mka_station.specs.declared.reaction.Reaction.{Reaction}
-use Rattle.mka_station.specs.declared.verdict.Verdict.{Verdict}
+use Rattle.mka_station.specs.declared.verdict.DropReason.{DropReason}
 use Rattle.mka_station.specs.Lives.{Member, Entry, Setup}
 use Rattle.mka_station.specs.Announcing.{frame_of}
 use Rattle.mka_station.specs.Hearing.{judged, right, heard_turn, frame_turn}
 use Rattle.mka_station.specs.Restart.{ending}
 use Rattle.mka_station.specs.Tick.{tick_turn}
-use Rattle.mka_station.specs.inside.Stages.{says_at}
+use Rattle.mka_station.specs.Tick.{says_at}
 use Rattle.lan_core.specs.declared.event.Event.{Event}
 use Rattle.lan_core.specs.declared.event.Event.TheVariants as events
 use Rattle.lan_core.specs.declared.fact.Fact.{Fact}
@@ -45,22 +45,23 @@ use Rattle.group_safety.proofs.Members.{in-any, any-in, In, by_sum}
 use Rattle.group_safety.proofs.once.Living.{IsKnown, IsLiving}
 use Rattle.group_safety.proofs.once.RunLaws.{known}
 use Rattle.group_safety.proofs.once.Carried.{sec-unread, judged-read}
-use Rattle.group_safety.proofs.once.ClaimKept.{protected-is-sec}
+use Rattle.group_safety.proofs.once.ClaimKept.{protected-is_sec}
 use Rattle.group_safety.proofs.once.ReachKept.{right-some, unforged-repeats}
 use Rattle.group_safety.proofs.once.TickKept.{speaker-of}
 use Rattle.group_safety.proofs.once.Ticking.{said-spells, tick-sound, tick_key, IsReady}
-use Rattle.group_safety.proofs.once.Events.{seen-small, tick-gist, drawn-secret}
+use Rattle.group_safety.proofs.once.EventsKeepKnown.{seen-small, tick-gist, drawn-secret}
 use Rattle.group_safety.proofs.once.Gists.{IsGist, installed_at, sent_frame}
 use Rattle.group_safety.proofs.once.Nexts.{in-get, mapped, chained}
 use Rattle.group_safety.proofs.once.LiveHeard.{in-find}
 use Rattle.group_safety.proofs.once.Hearing.{hear-silent}
-use Rattle.group_safety.proofs.rollover.Moments.{along, to-upto, length-upto}
-use Rattle.group_safety.proofs.rollover.Facts.{reacts, Reacts, tick-sends}
-use Rattle.group_safety.proofs.rollover.Facts as from
-use Rattle.group_safety.proofs.rollover.Events.{Kind, kind, IsReached}
-use Rattle.group_safety.proofs.rollover.Events as kinds
+use Rattle.group_safety.proofs.rollover.AtMoments.{along, to-upto, length-upto}
+use Rattle.group_safety.proofs.rollover.TurnFacts.{reacts, Reacts, tick-sends}
+use Rattle.group_safety.proofs.rollover.TurnFacts as from
+use Rattle.group_safety.proofs.rollover.EventKinds.{Kind, kind, IsReached}
+use Rattle.group_safety.proofs.rollover.EventKinds as kinds
 use Rattle.group_safety.proofs.rollover.OneLife.{step-at}
 use Rattle.lan_base.specs.Differing.{AllDiffer}
+use Rattle.lan_base.specs.Ranges.{most_ticks}
 use Rattle.lan_core.specs.Fresh.{drawn_mis}
 
 -- a station says an announcement at a tick, which is an event of the run
@@ -152,10 +153,10 @@ reacts-frames s h n k t sec octets re (from.sends o is e) = (
       ∙ (let f : octets ≡ o = cc (e) in ap Some (sym f)),
 )
 
-heard-silent : (m : Member) (j : Result Announcement Verdict) (p : List Entry)
+heard-silent : (m : Member) (j : Result Announcement DropReason) (p : List Entry)
     → (heard_turn m j p).reaction.sent ≡ None
 heard-silent m (Ok a) p = hear-silent m a p
-heard-silent m (Err v) p = refl
+heard-silent m (Err reason) p = refl
 
 ended-silent : (m : Member) (p : List Entry) → (ending m p).sent ≡ None
 unfolding ending
@@ -267,7 +268,7 @@ module _ (settings : Settings) (users : List UserFrame) (run : Run) (is : IsSett
       let v : IsLiving settings r t l = k.living t l living in
       let seen = seen_at settings t r l next in
       let sak = sak_in x.facts in
-      let more : ticks (x ∷ r) ≤ 1000000 = step.within.ticks in
+      let more : ticks (x ∷ r) ≤ most_ticks = step.within.ticks in
       let count : ticks (x ∷ r) ≡ 1 + ticks r =
       ap (λ e. Rattle.lan_core.specs.Order.ticks_of e + ticks r) ev in
       let ready : IsReady l.member l.past (ticks r) =
@@ -324,7 +325,7 @@ module _ (settings : Settings) (users : List UserFrame) (run : Run) (is : IsSett
       let sends : IsUserFrame u.0 = subst IsSendable u.1
       (k.plain.sendable w (in-get (claimed settings r) _ w waits)) in
       subst (λ o. is_sec o ≡ true) u.2
-      (protected-is-sec (secret_octets w.key.sak) p.0.sci w.key.an w.pn w.key.conf u.0
+      (protected-is_sec (secret_octets w.key.sak) p.0.sci w.key.an w.pn w.key.conf u.0
       (k.plain.typed p.0 (in-get (stations r) w.station p.0 p.1)).count sends.destination.0)
 
   framed-aired : (n : ℕ) (x : Happening) (k t : ℕ) (sec : Bool) (octets : List ℕ) → n < length run
@@ -452,12 +453,21 @@ module _ (settings : Settings) (users : List UserFrame) (run : Run) (is : IsSett
       → judged setup octets ≡ Ok a
   right-judged setup octets a e = go (judged setup octets) refl
     where
-      go : (j : Result Announcement Verdict) → judged setup octets ≡ j → judged setup octets ≡ Ok a
+      go : (j : Result Announcement DropReason) → judged setup octets ≡ j → judged setup octets
+          ≡ Ok a
       go (Ok b) j = let f : Some b ≡ Some a =
-          sym (ap (λ (w : Result Announcement Verdict). elim w [ Ok v ↦ Some v | Err x ↦ None ]) j)
+          sym (ap (λ (w : Result Announcement DropReason). elim w [
+            | Ok v ↦ Some v
+            | Err reason ↦
+                None
+          ]) j)
           ∙ e in j ∙ (let g : b ≡ a = cc (f) in ap Ok g)
-      go (Err v) j = let f : None ≡ Some a =
-          sym (ap (λ (w : Result Announcement Verdict). elim w [ Ok v ↦ Some v | Err x ↦ None ]) j)
+      go (Err reason) j = let f : None ≡ Some a =
+          sym (ap (λ (w : Result Announcement DropReason). elim w [
+            | Ok v ↦ Some v
+            | Err reason ↦
+                None
+          ]) j)
           ∙ e in absurd (cc (f))
 
   -- what a frame of key agreement spells, its station said

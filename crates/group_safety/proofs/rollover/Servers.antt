@@ -7,7 +7,8 @@ use Rattle.lan_base.specs.declared.address.Mi.{Mi}
 use Rattle.lan_base.specs.Identifiers.{same_mi}
 use Rattle.lan_base.specs.declared.frame.UserFrame.{UserFrame}
 use Rattle.mkpdu_codec.specs.declared.announcement.Announcement.{Announcement}
-use Rattle.sak_exchange.specs.Histories.{Key, ticked}
+use Rattle.sak_exchange.specs.declared.held_key.Key.{Key}
+use Rattle.sak_exchange.specs.Histories.{ticked}
 use Rattle.sak_exchange.specs.Held.{allows}
 use Rattle.sak_exchange.specs.Beginning.{Beginning}
 use Rattle.sak_exchange.proofs.Public.{by_option, same-equal}
@@ -17,8 +18,9 @@ use Rattle.mka_station.specs.Lives as lives
 use Rattle.mka_station.specs.Views.{view, is_server}
 use Rattle.mka_station.specs.Tick.{made, led, tick_turn, with_install, with_beginning}
 use Rattle.mka_station.specs.Hearing.{judged, hear_turn, outcome_of, key_taken}
-use Rattle.mka_station.specs.inside.Stages.{ticked_past, says_at, answer_at, heard_past, follow_at}
-use Rattle.mka_station.specs.inside.Stages.{roster_at}
+use Rattle.mka_station.specs.Tick.{ticked_past, says_at}
+use Rattle.mka_station.specs.Hearing.{answer_at, heard_past, follow_at}
+use Rattle.mka_station.specs.Tick.{roster_at}
 use Rattle.lan_core.specs.declared.event.Event.TheVariants as events
 use Rattle.lan_core.specs.declared.fact.Fact.TheVariants as facts
 use Rattle.lan_core.specs.declared.settings.Settings.{Settings}
@@ -30,16 +32,16 @@ use Rattle.lan_base.specs.Differing.{AllDiffer}
 use Rattle.lan_core.specs.Fresh.{IsUnforged, drawn_mis}
 use Rattle.group_safety.specs.Moments.{upto, At}
 use Rattle.group_safety.specs.Stations.{mi_at, keys_at, server_of, server_at}
-use Rattle.group_safety.specs.inside.Course.{Course, Rests}
+use Rattle.group_safety.proofs.rollover.Course.{Course, Rests}
 use Rattle.group_safety.proofs.Members.{In}
-use Rattle.group_safety.proofs.once.Rules.{taken-is}
+use Rattle.group_safety.proofs.once.Rules.{taken-is, taking-is}
 use Rattle.group_safety.proofs.once.Histories.{view-keys, keys-ticked}
-use Rattle.group_safety.proofs.rollover.Moments.{event-at}
-use Rattle.group_safety.proofs.rollover.Rules.{made-is, taking-is}
+use Rattle.group_safety.proofs.rollover.AtMoments.{event-at}
+use Rattle.group_safety.proofs.rollover.Begins.{making-is}
 use Rattle.group_safety.proofs.rollover.Turns.{IsTurn, news, turn-new, news-quiet, turn-past}
 use Rattle.group_safety.proofs.rollover.Turns.{hear-past}
-use Rattle.group_safety.proofs.rollover.Rounds.{IsPaced}
-use Rattle.group_safety.proofs.rollover.Events.{IsReached}
+use Rattle.group_safety.proofs.rollover.TicksAreRounds.{IsPaced}
+use Rattle.group_safety.proofs.rollover.EventKinds.{IsReached}
 use Rattle.group_safety.proofs.rollover.Words.{live-said}
 use Rattle.group_safety.proofs.rollover.OneLife.{no-birth-of}
 use Rattle.group_safety.proofs.rollover.Lived.{key-part, tick-turn-at, hear-turn-at, tick-at}
@@ -125,15 +127,15 @@ pub record TakenAt (settings : Settings) (run : Run) (z u : ℕ) (k : Key) : Typ
       (hear_turn life_then.member heard life_then.past).past
 
 -- it rests, or makes a key, or takes one
-pub data Installs (settings : Settings) (run : Run) (c : Course) (u n : ℕ) : Type 0 where
-  rests : Rests c u n → Installs settings run c u n
+pub data KeyTurn (settings : Settings) (run : Run) (c : Course) (u n : ℕ) : Type 0 where
+  rests : Rests c u n → KeyTurn settings run c u n
   makes : (k : Key) → MadeAt settings run n u k
       → server_at settings u (upto (suc n) run) ≡ Some k.id.server
       → c.ticks u n ≡ 1 → allows (ticked true ∷ keys_at settings u (upto n run)) ≡ true
-      → Installs settings run c u n
+      → KeyTurn settings run c u n
   takes : (k : Key) → TakenAt settings run n u k
       → server_at settings u (upto (suc n) run) ≡ Some k.id.server
-      → mi_at settings u (upto n run) ≢ Some k.id.server → Installs settings run c u n
+      → mi_at settings u (upto n run) ≢ Some k.id.server → KeyTurn settings run c u n
 
 module _ (settings : Settings) (users : List UserFrame) (run : Run) (is : IsSetting settings)
     (stepped : IsStepped settings users run) (unforged : IsUnforged settings run)
@@ -152,14 +154,14 @@ module _ (settings : Settings) (users : List UserFrame) (run : Run) (is : IsSett
     quiet = news-quiet t.tick t.lead t.roster t.key t.follow none on;
   }
 
-  tick-own : (u next : ℕ) → Rattle.group_safety.specs.inside.Waits.tick_of u (events.Tick u next)
+  tick-own : (u next : ℕ) → Rattle.group_safety.proofs.rollover.Waits.tick_of u (events.Tick u next)
       ≡ 1
   tick-own u next = let t = eq-eqb u u refl in rw t refl
 
   -- in a life that elects a server after the event
   pub installs-at : (u n : ℕ) (m e : Mi) → n < length run → mi_at settings u (upto n run) ≡ Some m
       → mi_at settings u (upto (suc n) run) ≡ Some m
-      → server_at settings u (upto (suc n) run) ≡ Some e → Installs settings run the-course u n
+      → server_at settings u (upto (suc n) run) ≡ Some e → KeyTurn settings run the-course u n
   installs-at u n m e high here then serves =
       let s = event-at n run high in
       let x : Happening = s.0 in
@@ -181,7 +183,7 @@ module _ (settings : Settings) (users : List UserFrame) (run : Run) (is : IsSett
             by_option (made l.member v seen sak)
             (λ none. rests (turn-rests u n l.member.base t.turn (t.key_is ∙ none)
             (λ b f. let g = sym f ∙ t.tick_is ∙ ap (λ o. Some (is_some o)) on in cc (g))))
-            (λ k makes_k. let r = made-is l.member v seen sak k makes_k in
+            (λ k makes_k. let r = making-is l.member v seen sak k makes_k in
             let own = server-is v.server l.member.mi r.serves_here in
             let names = ap (λ (w : Key). w.id.server) r.key in
             let h = view-keys l.member (lives.ticked ∷ l.past) ∙ keys-ticked l.member l.past
@@ -201,7 +203,7 @@ module _ (settings : Settings) (users : List UserFrame) (run : Run) (is : IsSett
             (server ∙ sym (view-server l.member (lives.ticked ∷ l.past)) ∙ own
             ∙ ap Some (sym names))
             (tick-at settings users run is stepped unforged fresh from paced u n x at
-            ∙ ap (Rattle.group_safety.specs.inside.Waits.tick_of u) ev ∙ tick-own u next)
+            ∙ ap (Rattle.group_safety.proofs.rollover.Waits.tick_of u) ev ∙ tick-own u next)
             (subst (λ w. allows w ≡ true) h r.allowed))
         | lived.hears number octets l a came living right after before keys ↦
             let t = hear-turn-at settings users run is stepped unforged fresh from paced u n x l a

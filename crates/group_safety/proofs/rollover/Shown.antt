@@ -11,7 +11,8 @@ use Rattle.aes_block.specs.declared.secret.Secret.{Secret}
 use Rattle.mkpdu_codec.specs.declared.announcement.Announcement.{Announcement}
 use Rattle.mkpdu_codec.specs.declared.key_use.Uses.{Uses}
 use Rattle.sak_exchange.specs.declared.due.Seen.{Seen}
-use Rattle.sak_exchange.specs.Histories.{Key, Keying}
+use Rattle.sak_exchange.specs.declared.held_key.Key.{Key}
+use Rattle.sak_exchange.specs.Histories.{Keying}
 use Rattle.sak_exchange.specs.Held.{latest, old, transmitting}
 use Rattle.sak_exchange.specs.Reports.{names, reports_latest, reports_old, transmits}
 use Rattle.sak_exchange.proofs.Public.{by_test, by_option, same-equal}
@@ -19,7 +20,7 @@ use Rattle.mka_station.specs.Lives.{Member, Entry, keys_of}
 use Rattle.mka_station.specs.Views.{View, view}
 use Rattle.mka_station.specs.Announcing.{announcement, announces, says_now, use_of, uses_of, no_use}
 use Rattle.mka_station.specs.Announcing.{same_option, same_key, id_of, lowest_in}
-use Rattle.mka_station.specs.inside.Stages.{says_at, ticked_past}
+use Rattle.mka_station.specs.Tick.{says_at, ticked_past}
 use Rattle.group_safety.proofs.once.Histories.{view-keys}
 
 -- ---- identifiers

@@ -3,6 +3,7 @@ use Rattle.std.proofs.Common.{◌≡◌, inl, inr, ℕ, true, false, List, [], �
 use Rattle.std.proofs.Common.{subst}
 use Rattle.std.proofs.Common.{Option, Some, None, Result, Ok, Err}
 use Rattle.std.specs.Prelude.{◌==◌}
+use Rattle.lan_base.specs.declared.association_number.AssociationNumber.{AssociationNumber}
 use Rattle.lan_base.specs.declared.key_id.KeyId.{KeyId}
 use Rattle.lan_base.specs.declared.frame.UserFrame.{UserFrame}
 use Rattle.aes_block.specs.declared.secret.Secret.{Secret}
@@ -11,17 +12,17 @@ use Rattle.mkpdu_codec.specs.declared.announcement.Announcement.{Announcement}
 use Rattle.sak_exchange.specs.declared.change.Cause.{Cause}
 use Rattle.sak_exchange.specs.declared.change.Change.{Change}
 use Rattle.sak_exchange.specs.declared.change.Change.TheVariants as changes
-use Rattle.sak_exchange.specs.Histories.{Key}
+use Rattle.sak_exchange.specs.declared.held_key.Key.{Key}
 use Rattle.sak_exchange.specs.Held.{received, held}
 use Rattle.sak_exchange.proofs.Public.{by_test}
-use Rattle.mka_station.specs.declared.verdict.Verdict.{Verdict}
+use Rattle.mka_station.specs.declared.verdict.DropReason.{DropReason}
 use Rattle.mka_station.specs.declared.reaction.Reaction.{Reaction}
 use Rattle.mka_station.specs.Lives.{Member, Entry, ticked}
 use Rattle.mka_station.specs.Views.{view}
 use Rattle.mka_station.specs.Tick.{led, made, tick_turn}
 use Rattle.mka_station.specs.Hearing.{judged, hear_turn, frame_turn, key_taken}
 use Rattle.mka_station.specs.Restart.{ending}
-use Rattle.mka_station.specs.inside.Stages.{follow_at, answer_at}
+use Rattle.mka_station.specs.Hearing.{follow_at, answer_at}
 use Rattle.lan_core.specs.declared.event.Event.{Event}
 use Rattle.lan_core.specs.declared.event.Event.TheVariants as events
 use Rattle.lan_core.specs.declared.fact.Fact.{Fact}
@@ -35,11 +36,12 @@ use Rattle.lan_core.specs.Expected.{tick_facts, reached_facts, claim_fact, numbe
 use Rattle.lan_core.specs.Expected.{reaction_facts}
 use Rattle.group_safety.proofs.Members.{In, in-from_map}
 use Rattle.group_safety.proofs.once.Nexts.{mapped}
-use Rattle.group_safety.proofs.rollover.Facts.{reacts, Reacts, Alters, IsBegun, IsPut}
-use Rattle.group_safety.proofs.rollover.Facts.{reacts-begins, reacts-puts, tick-alters, hear-alters}
-use Rattle.group_safety.proofs.rollover.Facts as from
-use Rattle.group_safety.proofs.rollover.Events.{Kind, IsReached}
-use Rattle.group_safety.proofs.rollover.Events as kinds
+use Rattle.group_safety.proofs.rollover.TurnFacts.{reacts, Reacts, Alters, IsBegun, IsPut}
+use Rattle.group_safety.proofs.rollover.TurnFacts.{reacts-begins, reacts-puts, tick-alters}
+use Rattle.group_safety.proofs.rollover.TurnFacts.{hear-alters}
+use Rattle.group_safety.proofs.rollover.TurnFacts as from
+use Rattle.group_safety.proofs.rollover.EventKinds.{Kind, IsReached}
+use Rattle.group_safety.proofs.rollover.EventKinds as kinds
 
 -- ---- a beginning
 
@@ -54,9 +56,9 @@ pub data BeginsBy (settings : Settings) (r : Run) (e : Event) (shown : List Fact
       → IsBegun (follow_at l.member a l.past) id epoch cause
       → BeginsBy settings r e shown s id epoch cause
 
-none-begins : (re : Reaction) → re.changes ≡ [] → (c : Change) → In c re.changes
+no-second-begins : (re : Reaction) → re.changes ≡ [] → (c : Change) → In c re.changes
     → Alters None None c
-none-begins re none c i = absurd (subst (λ cs. In c cs) none i)
+no-second-begins re none c i = absurd (subst (λ cs. In c cs) none i)
 
 no-beginning : (id : KeyId) (epoch : ℕ) (cause : Cause) → IsBegun None id epoch cause → ⊥
 no-beginning id epoch cause b = let e = b.begins_now in cc (e)
@@ -70,7 +72,7 @@ ended-alters m p c i =
     from.removes (from.drops (held v.keys r.0) r.2)
 
 heard-begins : (settings : Settings) (r : Run) (e : Event) (shown : List Fact) (s t number : ℕ)
-    (octets : List ℕ) (l : Life) (id : KeyId) (an epoch : ℕ) (cause : Cause)
+    (octets : List ℕ) (l : Life) (id : KeyId) (an : AssociationNumber) (epoch : ℕ) (cause : Cause)
     → IsReached r e t number octets → life settings t r ≡ Some l
     → In (facts.Began s id an epoch cause) (reached_facts settings t r number octets l)
     → BeginsBy settings r e shown s id epoch cause
@@ -79,7 +81,7 @@ heard-begins settings r e shown s t number octets l id an epoch cause came livin
     (λ y. let j = rw y at i in elim j [ inl f ↦ absurd (cc (f)) | inr none ↦ absurd none ])
     (λ y. go (judged l.member.setup octets) refl y (rw y at i))
   where
-    go : (j : Result Announcement Verdict) → judged l.member.setup octets ≡ j
+    go : (j : Result Announcement DropReason) → judged l.member.setup octets ≡ j
         → is_sec octets ≡ false
         → In (facts.Began s id an epoch cause)
         (reaction_facts t number 0 (frame_turn l.member octets l.past).reaction)
@@ -93,10 +95,11 @@ heard-begins settings r e shown s t number octets l id an epoch cause came livin
         (facts.Began s id an epoch cause) k) in
         follows number octets l a (subst (λ v. IsReached r e v number octets) (sym b.0) came)
         (subst (λ v. life settings v r ≡ Some l) (sym b.0) living) y is b.1
-    go (Err v) is y i =
+    go (Err reason) is y i =
         let k = rw is at i in elim k [ inl f ↦ absurd (cc (f)) | inr none ↦ absurd none ]
 
-claim-begins : (settings : Settings) (r : Run) (s t : ℕ) (id : KeyId) (an epoch : ℕ) (cause : Cause)
+claim-begins : (settings : Settings) (r : Run) (s t : ℕ) (id : KeyId) (an : AssociationNumber)
+    (epoch : ℕ) (cause : Cause)
     (pn : ℕ) (k : Option Key)
     → facts.Began s id an epoch cause ≡ claim_fact settings t r pn k → ⊥
 claim-begins settings r s t id an epoch cause pn k =
@@ -109,7 +112,7 @@ claim-begins settings r s t id an epoch cause pn k =
     go (Some k) f = cc (f)
 
 pub begins-by : (settings : Settings) (users : List UserFrame) (r : Run) (e : Event)
-    (shown : List Fact) (s : ℕ) (id : KeyId) (an epoch : ℕ) (cause : Cause)
+    (shown : List Fact) (s : ℕ) (id : KeyId) (an : AssociationNumber) (epoch : ℕ) (cause : Cause)
     → Kind settings users r e shown → In (facts.Began s id an epoch cause) shown
     → BeginsBy settings r e shown s id epoch cause
 begins-by settings users r e shown s id an epoch cause (kinds.starts name sci priority mi ev is) i =
@@ -166,7 +169,7 @@ begins-by settings users r e shown s id an epoch cause (kinds.emits w ev waits i
 -- ---- an install at a tick
 
 pub record PutsBy (settings : Settings) (r : Run) (shown : List Fact) (s next : ℕ) (t : ℕ)
-    (id : KeyId) (an epoch : ℕ) (sak : Secret) : Type 0 where
+    (id : KeyId) (an : AssociationNumber) (epoch : ℕ) (sak : Secret) : Type 0 where
   pub same_station : t ≡ s
   pub life_now : Life
   pub living : life settings s r ≡ Some life_now
@@ -174,7 +177,8 @@ pub record PutsBy (settings : Settings) (r : Run) (shown : List Fact) (s next : 
       (seen_at settings s r life_now next) (sak_in shown)) id an epoch sak
 
 pub puts-by : (settings : Settings) (users : List UserFrame) (r : Run) (e : Event)
-    (shown : List Fact) (s next t : ℕ) (id : KeyId) (an epoch : ℕ) (sak : Secret)
+    (shown : List Fact) (s next t : ℕ) (id : KeyId) (an : AssociationNumber) (epoch : ℕ)
+    (sak : Secret)
     → Kind settings users r e shown → e ≡ events.Tick s next
     → In (facts.Installed t id an epoch sak) shown
     → PutsBy settings r shown s next t id an epoch sak
@@ -215,7 +219,8 @@ puts-by settings users r e shown s next t id an epoch sak (kinds.emits w ev wait
 
 -- ---- a claim
 
-pub record ClaimsBy (settings : Settings) (r : Run) (e : Event) (s an epoch pn : ℕ) : Type 0 where
+pub record ClaimsBy (settings : Settings) (r : Run) (e : Event) (s : ℕ) (an : AssociationNumber)
+    (epoch pn : ℕ) : Type 0 where
   pub user : ℕ
   pub event : e ≡ events.Claim s user pn
   pub key : Key
@@ -224,7 +229,8 @@ pub record ClaimsBy (settings : Settings) (r : Run) (e : Event) (s an epoch pn :
   pub epoch_is : key.epoch ≡ epoch
   pub number : (pn == 0) ≡ false
 
-claimed-fact : (settings : Settings) (r : Run) (e : Event) (s an epoch pn t user n : ℕ)
+claimed-fact : (settings : Settings) (r : Run) (e : Event) (s : ℕ) (an : AssociationNumber)
+    (epoch pn t user n : ℕ)
     → e ≡ events.Claim t user n
     → facts.Claimed s an epoch pn ≡ claim_fact settings t r n (transmitting_at settings t r)
     → ClaimsBy settings r e s an epoch pn
@@ -252,7 +258,7 @@ claimed-fact settings r e s an epoch pn t user n ev is =
           number = subst (λ v. (v == 0) ≡ false) (sym same_n) y;
         }
 
-reacts-claims : (s h n t an epoch pn : ℕ) (re : Reaction)
+reacts-claims : (s h n t : ℕ) (an : AssociationNumber) (epoch pn : ℕ) (re : Reaction)
     → Reacts s h n re (facts.Claimed t an epoch pn) → ⊥
 reacts-claims s h n t an epoch pn re (from.hears v e) = cc (e)
 reacts-claims s h n t an epoch pn re (from.serves m e) = cc (e)
@@ -264,7 +270,7 @@ reacts-claims s h n t an epoch pn re (from.alters (changes.Untaken id why) i e) 
 reacts-claims s h n t an epoch pn re (from.sends octets is e) = cc (e)
 
 reached-claims : (settings : Settings) (r : Run) (t number : ℕ) (octets : List ℕ) (l : Life)
-    (s an epoch pn : ℕ)
+    (s : ℕ) (an : AssociationNumber) (epoch pn : ℕ)
     → In (facts.Claimed s an epoch pn) (reached_facts settings t r number octets l) → ⊥
 reached-claims settings r t number octets l s an epoch pn i =
     by_test (is_sec octets)
@@ -274,7 +280,7 @@ reached-claims settings r t number octets l s an epoch pn i =
     (rw y at i)))
 
 pub claims-by : (settings : Settings) (users : List UserFrame) (r : Run) (e : Event)
-    (shown : List Fact) (s an epoch pn : ℕ)
+    (shown : List Fact) (s : ℕ) (an : AssociationNumber) (epoch pn : ℕ)
     → Kind settings users r e shown → In (facts.Claimed s an epoch pn) shown
     → ClaimsBy settings r e s an epoch pn
 claims-by settings users r e shown s an epoch pn (kinds.starts name sci priority mi ev is) i =

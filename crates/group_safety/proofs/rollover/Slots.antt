@@ -2,22 +2,27 @@
 use Rattle.std.proofs.Common.{◌≡◌, ◌≢◌, inl, inr, ℕ, ◌+◌, Bool, true, false, cond, not, List, []}
 use Rattle.std.proofs.Common.{◌∷◌, ◌++◌, map, refl, ap, sym, ◌∙◌, subst}
 use Rattle.std.proofs.Common.{Option, Some, None, is_some, Result, Ok, Err}
-use Rattle.std.proofs.lemmas.Bool.{eqb-true, eqb-false, eq-eqb, ne_eqb, lt-ltb}
-use Rattle.std.specs.Prelude.{◌==◌, nat_lt, option_map, option_to_list}
+use Rattle.std.proofs.lemmas.Bool.{lt-ltb}
+use Rattle.std.specs.Prelude.{nat_lt, option_map, option_to_list}
 use Rattle.std.specs.List.{filter, find, list_any}
+use Rattle.lan_base.specs.declared.association_number.AssociationNumber.{AssociationNumber}
+use Rattle.lan_base.specs.AssociationNumbers.{same_an}
 use Rattle.aes_block.specs.declared.secret.Secret.{Secret}
 use Rattle.rx_slots.specs.Histories.{Receiving, installed, removed, standing_key}
 use Rattle.sak_exchange.specs.declared.change.Change.{Change}
 use Rattle.sak_exchange.specs.declared.change.Change.TheVariants as changes
 use Rattle.sak_exchange.specs.declared.change.Why.{Why}
 use Rattle.sak_exchange.specs.declared.offer.Offer.{Offer}
-use Rattle.sak_exchange.specs.Histories.{Key, Keying, clock, installs, begun_at}
+use Rattle.sak_exchange.specs.declared.held_key.Key.{Key}
+use Rattle.sak_exchange.specs.Histories.{Keying, clock, installs, begun_at}
 use Rattle.sak_exchange.specs.Histories as keyings
 use Rattle.sak_exchange.specs.Held.{Kept, received, ends, retires, held, shown, is_retire_time_ago}
 use Rattle.sak_exchange.specs.Beginning.{Beginning, retired}
 use Rattle.sak_exchange.specs.Outcomes.{beginning}
 use Rattle.sak_exchange.specs.Lives.{Has}
-use Rattle.sak_exchange.proofs.Public.{by_test, shape, none, one, two, not-ended, latest-none, latest-one, latest-two, retired-by, ago-begun}
+use Rattle.sak_exchange.proofs.Public.{by_test, shape, other-an, same-an-equal, same-an-itself}
+use Rattle.sak_exchange.proofs.Public.{none, one, two, not-ended, latest-none, latest-one}
+use Rattle.sak_exchange.proofs.Public.{latest-two, retired-by, ago-begun}
 use Rattle.mka_station.specs.Tick.{ended, install_changes}
 use Rattle.mka_station.specs.Hearing.{key_taken, take_changes}
 use Rattle.group_safety.proofs.once.Histories.{with_began, with_key}
@@ -25,14 +30,18 @@ use Rattle.group_safety.proofs.rollover.KeyFacts.{received-installed}
 
 -- ---- keys by association number
 
-abbrev pub key_under : ℕ → List Key → Option Key
-key_under an ks = find (λ k. k.an == an) ks
+abbrev pub key_under : AssociationNumber → List Key → Option Key
+key_under an ks = find (λ k. same_an k.an an) ks
 
-abbrev pub sak_under : ℕ → List Key → Option Secret
+abbrev pub sak_under : AssociationNumber → List Key → Option Secret
 sak_under an ks = option_map (λ k. k.sak) (key_under an ks)
 
+apart-an : (a b : AssociationNumber) → a ≢ b → same_an a b ≡ false
+apart-an a b apart =
+    by_test (same_an a b) (λ t. absurd (apart (same-an-equal a b t))) (λ f. f)
+
 -- no key has the number
-pub NoneHas : ℕ → List Key → Type 0
+pub NoneHas : AssociationNumber → List Key → Type 0
 NoneHas an [] = Unit {0}
 NoneHas an (k ∷ ks) = (k.an ≢ an) × NoneHas an ks
 
@@ -46,46 +55,47 @@ ans-differ base h kept =
     elim (shape base h kept) [
       | none r ↦ rw r tt
       | one l r last ↦ rw r (tt, tt)
-      | two l o r last b ↦ rw r ((λ e. eqb-false l.an o.an b.apart (sym e), tt), (tt, tt))
+      | two l o r last b ↦ rw r ((λ e. other-an l.an o.an b.apart (sym e), tt), (tt, tt))
     ]
 
-none-under : (an : ℕ) (ks : List Key) → NoneHas an ks → key_under an ks ≡ None
+none-under : (an : AssociationNumber) (ks : List Key) → NoneHas an ks → key_under an ks ≡ None
 unfolding NoneHas
 none-under an [] n = refl
-none-under an (k ∷ ks) n = let f : (k.an == an) ≡ false = ne_eqb k.an an n.0 in
+none-under an (k ∷ ks) n = let f : (same_an k.an an) ≡ false = apart-an k.an an n.0 in
     rw f (none-under an ks n.1)
 
-abbrev has_an : ℕ → List Key → Bool
-has_an an ks = list_any (λ k. k.an == an) ks
+abbrev has_an : AssociationNumber → List Key → Bool
+has_an an ks = list_any (λ k. same_an k.an an) ks
 
-none-any : (an : ℕ) (p : Key → Bool) (ks : List Key) → NoneHas an ks
+none-any : (an : AssociationNumber) (p : Key → Bool) (ks : List Key) → NoneHas an ks
     → has_an an (filter p ks) ≡ false
 unfolding NoneHas
 none-any an p [] n = refl
 none-any an p (k ∷ ks) n =
-    let f : (k.an == an) ≡ false = ne_eqb k.an an n.0 in
+    let f : (same_an k.an an) ≡ false = apart-an k.an an n.0 in
     by_test (p k) (λ t. rw (t, f) (none-any an p ks n.1)) (λ t. rw t (none-any an p ks n.1))
 
-none-filter : (an : ℕ) (p : Key → Bool) (ks : List Key) → NoneHas an ks → NoneHas an (filter p ks)
+none-filter : (an : AssociationNumber) (p : Key → Bool) (ks : List Key) → NoneHas an ks
+    → NoneHas an (filter p ks)
 unfolding NoneHas
 none-filter an p [] n = tt
 none-filter an p (k ∷ ks) n = by_test (p k) (λ t. rw t (n.0, none-filter an p ks n.1))
     (λ t. rw t (none-filter an p ks n.1))
 
 -- what is under a number where some keys are taken away
-left-under : (an : ℕ) (p : Key → Bool) (ks : List Key) → AnsDiffer ks
+left-under : (an : AssociationNumber) (p : Key → Bool) (ks : List Key) → AnsDiffer ks
     → key_under an (filter (λ k. not (p k)) ks) ≡ cond (has_an an (filter p ks)) None
     (key_under an ks)
 unfolding AnsDiffer
 left-under an p [] d = refl
 left-under an p (k ∷ ks) d =
     by_test (p k)
-    (λ t. by_test (k.an == an)
-    (λ e. let n = subst (λ v. NoneHas v ks) (eqb-true k.an an e) d.0 in
+    (λ t. by_test (same_an k.an an)
+    (λ e. let n = subst (λ v. NoneHas v ks) (same-an-equal k.an an e) d.0 in
     rw (t, e) (none-under an (filter (λ j. not (p j)) ks) (none-filter an (λ j. not (p j)) ks n)))
     (λ e. rw (t, e) (left-under an p ks d.1)))
-    (λ t. by_test (k.an == an)
-    (λ e. let n = subst (λ v. NoneHas v ks) (eqb-true k.an an e) d.0 in let f =
+    (λ t. by_test (same_an k.an an)
+    (λ e. let n = subst (λ v. NoneHas v ks) (same-an-equal k.an an e) d.0 in let f =
     none-any an p ks n in rw (t, e, f) refl)
     (λ e. rw (t, e) (left-under an p ks d.1)))
 
@@ -96,18 +106,19 @@ removals : List Key → List Receiving → List Receiving
 removals [] s = s
 removals (k ∷ ks) s = removals ks (removed k.an ∷ s)
 
-removed-standing : (an : ℕ) (ks : List Key) (s : List Receiving)
+removed-standing : (an : AssociationNumber) (ks : List Key) (s : List Receiving)
     → standing_key (removals ks s) an ≡ cond (has_an an ks) None (standing_key s an)
 unfolding removals
 removed-standing an [] s = refl
 removed-standing an (k ∷ ks) s =
     removed-standing an ks (removed k.an ∷ s)
-    ∙ by_test (k.an == an) (λ e. by_test (has_an an ks) (λ f. rw (e, f) refl) (λ f. rw (e, f) refl))
+    ∙ by_test (same_an k.an an) (λ e. by_test (has_an an ks) (λ f. rw (e, f) refl)
+    (λ f. rw (e, f) refl))
     (λ e. by_test (has_an an ks) (λ f. rw (e, f) refl) (λ f. rw (e, f) refl))
 
 -- The slots stand for keys: under each number is the SAK of the received key.
 abbrev pub Stands : List Keying → List Receiving → Type 0
-Stands h s = (an : ℕ) → standing_key s an ≡ sak_under an (received h)
+Stands h s = (an : AssociationNumber) → standing_key s an ≡ sak_under an (received h)
 
 cond-sak : (b : Bool) (o : Option Key)
     → cond b None (option_map (λ (k : Key). k.sak) o) ≡ option_map (λ k. k.sak) (cond b None o)
@@ -115,7 +126,8 @@ cond-sak true o = refl
 cond-sak false o = refl
 
 -- taking away what an entry ends
-ended-standing : (base : ℕ) (h : List Keying) (x : Keying) (s : List Receiving) (an : ℕ)
+ended-standing : (base : ℕ) (h : List Keying) (x : Keying) (s : List Receiving)
+    (an : AssociationNumber)
     → Kept base h → Stands h s
     → standing_key (removals (filter (ends x h) (received h)) s) an ≡ sak_under an
     (filter (λ k. not (ends x h k)) (received h))
@@ -146,7 +158,7 @@ stands-installed : (base : ℕ) (h : List Keying) (r : _) (k : Key) (s : List Re
     (installed k.an k.sak ∷ removals (filter (ends (keyings.installed r k) h) (received h)) s)
 unfolding received
 stands-installed base h r k s kept stands an =
-    by_test (k.an == an)
+    by_test (same_an k.an an)
     (λ e. rw e refl)
     (λ e. rw e (ended-standing base h (keyings.installed r k) s an kept stands))
 
@@ -216,10 +228,10 @@ stands-retired base h s kept stands an =
 
 -- what a change does to the slots
 abbrev pub slot_of : Change → List Receiving → List Receiving
-slot_of (changes.Dropped k) s = removed k.an ∷ s
-slot_of (changes.Retired k) s = removed k.an ∷ s
+slot_of (changes.Dropped k) s = removed k.key.an ∷ s
+slot_of (changes.Retired k) s = removed k.key.an ∷ s
 slot_of (changes.Began k cause) s = s
-slot_of (changes.Installed k) s = installed k.an k.sak ∷ s
+slot_of (changes.Installed k) s = installed k.key.an k.key.sak ∷ s
 slot_of (changes.Untaken id why) s = s
 
 unfoldable pub slots_by : List Change → List Receiving → List Receiving
@@ -309,9 +321,10 @@ stands-none h s stands an =
   where
     go : (ks : List Key) → cond (has_an an ks) None (sak_under an ks) ≡ None
     go [] = refl
-    go (k ∷ ks) = by_test (k.an == an) (λ e. rw e refl) (λ e. rw e (go ks))
+    go (k ∷ ks) = by_test (same_an k.an an) (λ e. rw e refl) (λ e. rw e (go ks))
 
-none-holds : (ks : List Key) (an : ℕ) (k : Key) → an ≡ k.an → NoneHas an ks → Has k ks → ⊥
+none-holds : (ks : List Key) (an : AssociationNumber) (k : Key) → an ≡ k.an → NoneHas an ks
+    → Has k ks → ⊥
 unfolding NoneHas
 none-holds [] an k e n has = has
 none-holds (j ∷ ks) an k e n (inl same) = n.0 (ap (λ (w : Key). w.an) same ∙ sym e)
@@ -322,9 +335,10 @@ pub under-is : (ks : List Key) (k : Key) → AnsDiffer ks → Has k ks → key_u
 unfolding AnsDiffer
 under-is [] k d has = absurd has
 under-is (j ∷ ks) k d (inl same) =
-    let e : (j.an == k.an) ≡ true = eq-eqb j.an k.an (ap (λ (w : Key). w.an) same) in
+    let e : (same_an j.an k.an) ≡ true = ap (same_an j.an) (sym (ap (λ (w : Key). w.an) same))
+    ∙ same-an-itself j.an in
     rw e (ap Some same)
 under-is (j ∷ ks) k d (inr has) =
-    by_test (j.an == k.an)
-    (λ t. absurd (none-holds ks j.an k (eqb-true j.an k.an t) d.0 has))
+    by_test (same_an j.an k.an)
+    (λ t. absurd (none-holds ks j.an k (same-an-equal j.an k.an t) d.0 has))
     (λ t. rw t (under-is ks k d.1 has))

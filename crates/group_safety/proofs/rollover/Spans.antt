@@ -5,8 +5,8 @@ use Rattle.std.proofs.lemmas.Bool.{cases_lt}
 use Rattle.std.proofs.lemmas.List.{append_assoc}
 use Rattle.sak_exchange.specs.Histories.{Keying, ticked, installed, began, clock}
 use Rattle.sak_exchange.specs.Lives.{IsQuiet}
-use Rattle.group_safety.specs.inside.Course.{Course, IsCourse, Lives, GrowsQuietly}
-use Rattle.group_safety.specs.inside.Course.{RestsThrough}
+use Rattle.group_safety.proofs.rollover.Course.{Course, IsCourse, Lives, GrowsQuietly}
+use Rattle.group_safety.proofs.rollover.Course.{RestsThrough}
 
 pub by_cases : {A B P : Type 0} → A ⊎ B → (A → P) → (B → P) → P
 by_cases (inl a) f g = f a

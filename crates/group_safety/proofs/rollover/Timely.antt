@@ -9,14 +9,15 @@ use Rattle.lan_base.specs.declared.frame.UserFrame.{UserFrame}
 use Rattle.lan_base.specs.Timers.{retire_time}
 use Rattle.sak_exchange.specs.declared.change.Change.{Change}
 use Rattle.sak_exchange.specs.declared.change.Change.TheVariants as changes
-use Rattle.sak_exchange.specs.Histories.{Key, Keying}
+use Rattle.sak_exchange.specs.declared.held_key.Key.{Key}
+use Rattle.sak_exchange.specs.Histories.{Keying}
 use Rattle.sak_exchange.specs.Held.{transmitting, received, held, shown, ends}
 use Rattle.sak_exchange.specs.Outcomes.{beginning}
 use Rattle.mka_station.specs.Lives.{Member, Entry}
 use Rattle.mka_station.specs.Lives as lives
 use Rattle.mka_station.specs.Views.{view}
 use Rattle.mka_station.specs.Tick.{tick_turn, made, led, ended, install_changes}
-use Rattle.mka_station.specs.inside.Stages.{roster_at}
+use Rattle.mka_station.specs.Tick.{roster_at}
 use Rattle.lan_core.specs.declared.event.Event.TheVariants as events
 use Rattle.lan_core.specs.declared.fact.Fact.TheVariants as facts
 use Rattle.lan_core.specs.declared.settings.Settings.{Settings}
@@ -31,21 +32,22 @@ use Rattle.lan_core.specs.Fresh.{IsUnforged, drawn_mis}
 use Rattle.group_safety.specs.Moments.{upto, At}
 use Rattle.group_safety.specs.Rounds.{rounds}
 use Rattle.group_safety.specs.Stations.{keys_at, keys_of_life}
-use Rattle.group_safety.specs.Steady.{Makes, IsListener, IsKeeper, IsSteady}
-use Rattle.group_safety.specs.Time.{Claims, HasSaid, IsInTimeForOld}
-use Rattle.group_safety.specs.inside.Course.{RestsThrough, Holds, SendsUnder}
+use Rattle.group_safety.specs.Steady.{Makes, Rollover, IsListener, IsKeeper, IsSteady}
+use Rattle.group_safety.specs.Time.{Flight, Claims, HasSaid, IsInTimeForOld}
+use Rattle.group_safety.proofs.rollover.Course.{RestsThrough, Holds, SendsUnder}
 use Rattle.group_safety.proofs.Members.{In, in-contains, in-left, in-right, in-map, by_sum}
-use Rattle.group_safety.proofs.rollover.Events.{Kind, kind}
-use Rattle.group_safety.proofs.rollover.Events as kinds
-use Rattle.group_safety.proofs.rollover.Rounds.{IsPaced, paced-upto, idle-before}
+use Rattle.group_safety.proofs.rollover.EventKinds.{Kind, kind}
+use Rattle.group_safety.proofs.rollover.EventKinds as kinds
+use Rattle.group_safety.proofs.rollover.TicksAreRounds.{IsPaced, paced-upto, idle-before}
 use Rattle.group_safety.proofs.rollover.OneLife.{step-at}
 use Rattle.group_safety.proofs.rollover.Makers.{MadeAt}
 use Rattle.group_safety.proofs.rollover.Servers.{the-course}
 use Rattle.group_safety.proofs.rollover.Rollovers.{is-course, rollover, server-may}
 use Rattle.group_safety.proofs.rollover.Listeners.{listening, keeping}
-use Rattle.group_safety.proofs.rollover.Core.{found-old_server, found-old_keeper, found-new_server}
-use Rattle.group_safety.proofs.rollover.Core.{found-new_listener, sent-when_server}
-use Rattle.group_safety.proofs.rollover.Core.{sent-when_keeper, soon-enough}
+use Rattle.group_safety.proofs.rollover.ByNumbers.{found-old_server, found-old_keeper}
+use Rattle.group_safety.proofs.rollover.ByNumbers.{found-new_server}
+use Rattle.group_safety.proofs.rollover.ByNumbers.{found-new_listener, sent-when_server}
+use Rattle.group_safety.proofs.rollover.ByNumbers.{sent-when_keeper, soon-enough}
 
 -- ---- a make is shown
 
@@ -131,8 +133,11 @@ module _ (settings : Settings) (users : List UserFrame) (run : Run) (is : IsSett
       go (kinds.claims t user pn ev q) = let e = sym ev ∙ m.tick in absurd (cc (e))
       go (kinds.emits w ev waits q) = let e = sym ev ∙ m.tick in absurd (cc (e))
 
-  module _ (q i server : ℕ) (old_id new_id : KeyId) (lag : ℕ)
-      (S : IsSteady settings run from q i server old_id new_id lag) where
+  module _ (o : Rollover) (S : IsSteady settings run (record o { from = from })) where
+    -- the rollover, with the moment from which rounds count here
+    abbrev rolled : Rollover
+    rolled = record o { from = from }
+
     -- nobody waits before a delivery
     idle : (u d frame t : ℕ) (x : Happening) → At run d x → x.event ≡ events.Deliver frame t
         → (the-course settings users run is stepped unforged fresh from paced).waits u d ≡ 0
@@ -141,70 +146,65 @@ module _ (settings : Settings) (users : List UserFrame) (run : Run) (is : IsSett
 
     -- Any frame under the old key that comes so soon finds a station that receives the key.
     pub held-old : (d frame t : ℕ) (x : Happening) → d < length run → At run d x
-        → x.event ≡ events.Deliver frame t → q < d
-        → rounds from (upto d run) < rounds from (upto (suc i) run) + retire_time
-        → HasSaid server t d (IsKeeper settings run i server old_id)
-        → Holds old_id (keys_at settings t (upto d run))
+        → x.event ≡ events.Deliver frame t → o.made < d
+        → rounds from (upto d run) < rounds from (upto (suc o.start) run) + retire_time
+        → HasSaid o.server t d (IsKeeper settings run rolled)
+        → Holds o.old_id (keys_at settings t (upto d run))
     held-old d frame t x high at ev after soon who =
-        let R = rollover settings users run is stepped unforged fresh from paced q i server old_id
-        new_id lag S in
+        let R = rollover settings users run is stepped unforged fresh from paced o S in
         let C = is-course settings users run is stepped unforged fresh from paced in
         let c = the-course settings users run is stepped unforged fresh from paced in
         by_sum who
-        (λ same. subst (λ v. Holds old_id (keys_at settings v (upto d run))) (sym same)
-        (found-old_server c (suc q) i server old_id new_id lag C R d after (omega arith)
-        (idle server d frame t x at ev) soon))
-        (λ k. found-old_keeper c (suc q) i server old_id new_id lag C R t (suc k.0) d
-        (keeping settings users run is stepped unforged fresh from paced q i server old_id
-        new_id lag S t k.0 k.1 k.3)
+        (λ same. subst (λ v. Holds o.old_id (keys_at settings v (upto d run))) (sym same)
+        (found-old_server c o C R d after (omega arith)
+        (idle o.server d frame t x at ev) soon))
+        (λ k. found-old_keeper c o C R t (suc k.0) d
+        (keeping settings users run is stepped unforged fresh from paced o S t k.0 k.1 k.3)
         (omega (arith, k.2)) (omega arith) (idle t d frame t x at ev)
-        (idle server d frame t x at ev) soon)
+        (idle o.server d frame t x at ev) soon)
 
     -- Any frame under the new key finds one too, until the server makes the next.
-    pub held-new : (d t : ℕ) → d < length run → q < d
-        → ((z : ℕ) (id : KeyId) → q < z → z < d → Makes run z server id → ⊥)
-        → HasSaid server t d (IsListener settings run i server)
-        → Holds new_id (keys_at settings t (upto d run))
+    pub held-new : (d t : ℕ) → d < length run → o.made < d
+        → ((z : ℕ) (id : KeyId) → o.made < z → z < d → Makes run z o.server id → ⊥)
+        → HasSaid o.server t d (IsListener settings run rolled)
+        → Holds o.new_id (keys_at settings t (upto d run))
     held-new d t high after last who =
-        let R = rollover settings users run is stepped unforged fresh from paced q i server old_id
-        new_id lag S in
+        let R = rollover settings users run is stepped unforged fresh from paced o S in
         let C = is-course settings users run is stepped unforged fresh from paced in
         let c = the-course settings users run is stepped unforged fresh from paced in
-        let rested : RestsThrough c server (suc q) d = record {
-          on = λ n p l. by_sum (server-may settings users run is stepped unforged fresh from paced q
-              i server old_id new_id lag S n p (omega arith)) (λ r. r)
-              (λ m. absurd (last n m.0.id p l (made-shown n server m.0 m.1)));
+        let rested : RestsThrough c o.server (suc o.made) d = record {
+          on = λ n p l. by_sum (server-may settings users run is stepped unforged fresh from paced
+              o S n p (omega arith)) (λ r. r)
+              (λ m. absurd (last n m.0.id p l (made-shown n o.server m.0 m.1)));
         } in
         by_sum who
-        (λ same. subst (λ v. Holds new_id (keys_at settings v (upto d run))) (sym same)
-        (found-new_server c (suc q) i server old_id new_id lag C R d after (omega arith) rested))
-        (λ k. found-new_listener c (suc q) i server old_id new_id lag C R t (suc k.0) d
-        (listening settings users run is stepped unforged fresh from paced q i server old_id
-        new_id lag S t k.0 k.1 k.3)
+        (λ same. subst (λ v. Holds o.new_id (keys_at settings v (upto d run))) (sym same)
+        (found-new_server c o C R d after (omega arith) rested))
+        (λ k. found-new_listener c o C R t (suc k.0) d
+        (listening settings users run is stepped unforged fresh from paced o S t k.0 k.1 k.3)
         (omega (arith, k.2)) (omega arith) rested)
 
     -- a frame that is in time for the old key comes so soon
-    pub soon-for-old : (c d sender t pn : ℕ) (key : Key) → d ≤ length run
-        → Claims settings run c sender key pn
-        → IsInTimeForOld settings run from q i server old_id lag c d sender t key
-        → rounds from (upto d run) < rounds from (upto (suc i) run) + retire_time
-    soon-for-old c d sender t pn key high claims T =
-        let R = rollover settings users run is stepped unforged fresh from paced q i server old_id
-        new_id lag S in
+    pub soon-for-old : (f : Flight) (pn : ℕ) → f.delivery ≤ length run
+        → Claims settings run f.claim f.sender f.key pn
+        → IsInTimeForOld settings run rolled f
+        → rounds from (upto f.delivery run) < rounds from (upto (suc o.start) run) + retire_time
+    soon-for-old f pn high claims T =
+        let R = rollover settings users run is stepped unforged fresh from paced o S in
         let C = is-course settings users run is stepped unforged fresh from paced in
         let co = the-course settings users run is stepped unforged fresh from paced in
         let within = claims.within in
-        let under : SendsUnder old_id (keys_at settings sender (upto c run)) =
+        let under : SendsUnder o.old_id (keys_at settings f.sender (upto f.claim run)) =
         record {
-          key = key;
-          sends = transmitting-keys settings sender
-              (upto c run) key claims.sends;
+          key = f.key;
+          sends = transmitting-keys settings f.sender
+              (upto f.claim run) f.key claims.sends;
           named = T.named;
         } in
         let when = by_sum T.sent
-        (λ same. sent-when_server co (suc q) i server old_id new_id lag C R c (omega arith)
-        (subst (λ v. SendsUnder old_id (keys_at settings v (upto c run))) same under))
-        (λ k. sent-when_keeper co (suc q) i server old_id new_id lag C R sender (suc k.0) c
-        (keeping settings users run is stepped unforged fresh from paced q i server old_id
-        new_id lag S sender k.0 k.1 k.2) (omega arith) under) in
-        soon-enough co (suc q) i server old_id new_id lag C R c d when high T.soon
+        (λ same. sent-when_server co o C R f.claim (omega arith)
+        (subst (λ v. SendsUnder o.old_id (keys_at settings v (upto f.claim run))) same under))
+        (λ k. sent-when_keeper co o C R f.sender (suc k.0) f.claim
+        (keeping settings users run is stepped unforged fresh from paced o S f.sender k.0 k.1 k.2)
+        (omega arith) under) in
+        soon-enough co o C R f.claim f.delivery when high T.soon

@@ -6,7 +6,8 @@ use Rattle.lan_base.specs.declared.address.Mi.{Mi}
 use Rattle.aes_block.specs.declared.secret.Secret.{Secret}
 use Rattle.mkpdu_codec.specs.declared.announcement.Announcement.{Announcement}
 use Rattle.sak_exchange.specs.declared.due.Seen.{Seen}
-use Rattle.sak_exchange.specs.Histories.{Key, Keying, ticked, clock, begun_at}
+use Rattle.sak_exchange.specs.declared.held_key.Key.{Key}
+use Rattle.sak_exchange.specs.Histories.{Keying, ticked, clock, begun_at}
 use Rattle.sak_exchange.specs.Histories.{install_count}
 use Rattle.sak_exchange.specs.Held.{Kept, latest, allows, may_begin}
 use Rattle.sak_exchange.specs.Beginning.{Beginning}
@@ -17,13 +18,15 @@ use Rattle.mka_station.specs.Lives as lives
 use Rattle.mka_station.specs.Views.{view}
 use Rattle.mka_station.specs.Tick.{tick_turn, led, made, with_sent}
 use Rattle.mka_station.specs.Hearing.{hear_turn}
-use Rattle.mka_station.specs.inside.Stages.{roster_at, begun_past, ticked_past, says_at, answer_at}
-use Rattle.mka_station.specs.inside.Stages.{taken_past, follow_at, heard_past}
+use Rattle.mka_station.specs.Tick.{roster_at, begun_past, ticked_past, says_at}
+use Rattle.mka_station.specs.Hearing.{answer_at}
+use Rattle.mka_station.specs.Hearing.{taken_past, follow_at, heard_past}
 use Rattle.mka_station.specs.Hearing.{key_taken}
 use Rattle.group_safety.proofs.Members.{by_sum}
 use Rattle.group_safety.proofs.once.Histories.{with_key, with_began, keys-begun, keys-installed}
 use Rattle.group_safety.proofs.once.Histories.{keys-said, keys-heard, keys-ticked, view-keys}
-use Rattle.group_safety.proofs.rollover.Rules.{led-is, made-is, taking-is, following-is, may}
+use Rattle.group_safety.proofs.once.Rules.{taking-is}
+use Rattle.group_safety.proofs.rollover.Begins.{led-is, making-is, following-is, may}
 
 -- the history with a tick, if there is one
 abbrev pub with_tick : Option Bool → List Keying → List Keying
@@ -206,7 +209,8 @@ pub tick-keys : (m : Member) (seen : Seen) (sak : Secret) (p : List Entry)
 tick-keys m seen sak p =
     ap (keys_of m) (sym (turn-past m seen sak p))
     ∙ keys-said m (says_at m seen sak p) (ticked_past m seen sak p)
-    ∙ keys-installed m (roster_at m p) (made m (view m (lives.ticked ∷ p)) seen sak) (begun_past m p)
+    ∙ keys-installed m (roster_at m p) (made m (view m (lives.ticked ∷ p)) seen sak)
+    (begun_past m p)
     ∙ ap (with_key (roster_at m p) (made m (view m (lives.ticked ∷ p)) seen sak))
     (keys-begun m (led m (view m (lives.ticked ∷ p))) (lives.ticked ∷ p)
     ∙ ap (with_began (led m (view m (lives.ticked ∷ p)))) (keys-ticked m p))
@@ -228,7 +232,7 @@ tick-is_turn m seen sak p =
           subst (λ w. may_begin w b.key.epoch ≡ true) now (may v.keys b.key l.latest_key l.unbegun);
       lead_latest = λ b is. subst (λ w. latest w ≡ Some b.key) now (led-is m v b is).latest_key;
       follow_latest = λ b is. absurd (cc (is));
-      may_install = λ k is. let r = made-is m v seen sak k is in
+      may_install = λ k is. let r = making-is m v seen sak k is in
           let same : v.keys ≡ with_began (led m v)
           (ticked (is_some (elected m (lives.ticked ∷ p))) ∷ keys_of m p) =
           now ∙ ap (λ b. with_began b (ticked
@@ -247,7 +251,8 @@ pub hear-keys : (m : Member) (a : Announcement) (p : List Entry)
     (with_key None (key_taken (answer_at m a p)) (keys_of m p))
 hear-keys m a p =
     ap (keys_of m) (sym (hear-past m a p)) ∙ keys-begun m (follow_at m a p) (taken_past m a p)
-    ∙ ap (with_began (follow_at m a p)) (keys-installed m None (key_taken (answer_at m a p)) (heard a ∷ p)
+    ∙ ap (with_began (follow_at m a p)) (keys-installed m None (key_taken (answer_at m a p))
+    (heard a ∷ p)
     ∙ ap (with_key None (key_taken (answer_at m a p))) (keys-heard m a p))
 
 pub hear-is_turn : (m : Member) (a : Announcement) (p : List Entry)
@@ -257,7 +262,8 @@ hear-is_turn m a p =
     let v2 = view m (taken_past m a p) in
     let now : v1.keys ≡ keys_of m p = view-keys m (heard a ∷ p) ∙ keys-heard m a p in
     let then : v2.keys ≡ with_key None (key_taken (answer_at m a p)) (keys_of m p) =
-    view-keys m (taken_past m a p) ∙ keys-installed m None (key_taken (answer_at m a p)) (heard a ∷ p)
+    view-keys m (taken_past m a p) ∙ keys-installed m None (key_taken (answer_at m a p))
+    (heard a ∷ p)
     ∙ ap (with_key None (key_taken (answer_at m a p))) (keys-heard m a p) in
     record {
       tick = None;

@@ -4,7 +4,7 @@ use Rattle.std.proofs.Common.{refl, ap, ◌∙◌, arith}
 use Rattle.lan_base.specs.Timers.{retire_time}
 use Rattle.sak_exchange.specs.Histories.{clock, begun_at}
 use Rattle.sak_exchange.specs.Lives.{IsFresh}
-use Rattle.group_safety.specs.inside.Course.{Course, Lives}
+use Rattle.group_safety.proofs.rollover.Course.{Course, Lives}
 use Rattle.group_safety.proofs.rollover.Spans.{by_cases, from_to, clock-append}
 
 -- a key began no more ticks ago than so many rounds

@@ -2,7 +2,7 @@ use Rattle.worked_rollovers.proofs.Missed.{bob_said, word, keeps, never-begins, 
 use Rattle.worked_rollovers.proofs.law_missed_flag.Goals as goal
 
 pub returns-clause-keeps : goal.returns-clause-keeps
-returns-clause-keeps c = (bob_said, word, keeps)
+returns-clause-keeps c = λ lag. (bob_said, word, keeps lag)
 
 pub returns-clause-never : goal.returns-clause-never
 returns-clause-never c = never-begins

@@ -10,9 +10,9 @@ use Rattle.lan_core.specs.Run.{Run, Happening, stations}
 use Rattle.group_safety.specs.Moments.{upto}
 use Rattle.group_safety.specs.Rounds.{Pace, places, without, between_rounds, ticking, turn, pace}
 use Rattle.group_safety.specs.Rounds.{rounds_in, rounds}
-use Rattle.group_safety.specs.inside.Waits.{bit, has, waits_in, waits, tick_of}
+use Rattle.group_safety.proofs.rollover.Waits.{bit, has, waits_in, waits, tick_of}
 use Rattle.group_safety.proofs.rollover.Spans.{by_cases}
-use Rattle.group_safety.proofs.rollover.Moments.{to-upto}
+use Rattle.group_safety.proofs.rollover.AtMoments.{to-upto}
 
 has-place : (u n : ℕ) → u < n → has u (places n) ≡ true
 has-place u zero l = absurd (omega arith)

@@ -6,13 +6,14 @@ use Rattle.lan_base.specs.declared.frame.UserFrame.{UserFrame}
 use Rattle.aes_block.specs.declared.secret.Secret.{Secret}
 use Rattle.aes_block.specs.Secrets.{secret_octets}
 use Rattle.sak_exchange.specs.declared.due.Seen.{Seen}
-use Rattle.sak_exchange.specs.Histories.{Key}
+use Rattle.sak_exchange.specs.declared.held_key.Key.{Key}
 use Rattle.sak_exchange.specs.Histories as keys
 use Rattle.sak_exchange.specs.Held.{latest, old}
 use Rattle.sak_exchange.specs.Beginning.{Beginning}
 use Rattle.mka_station.specs.Lives.{Member, Entry, ticked, keys_of}
 use Rattle.mka_station.specs.Announcing.{frame_of}
 use Rattle.mka_station.specs.Tick.{with_install, with_beginning}
+use Rattle.mka_station.specs.Tick.{ticked_past, says_at}
 use Rattle.lan_core.specs.declared.event.Event.TheVariants as events
 use Rattle.lan_core.specs.declared.fact.Fact.{Fact}
 use Rattle.lan_core.specs.declared.settings.Settings.{Settings}
@@ -30,7 +31,7 @@ use Rattle.group_safety.proofs.once.Currents.{some-same}
 use Rattle.group_safety.proofs.once.Gists.{IsGist, installed_at, sent_frame, reaction-is}
 use Rattle.group_safety.proofs.once.Nexts.{makes-next, drawn-next, life-next, drawn-is, at-or-other}
 use Rattle.group_safety.proofs.once.Living.{install_by, IsPlain}
-use Rattle.group_safety.proofs.once.Ticking.{tick_key, tick_roster, tick_lead, tick_past, tick_said}
+use Rattle.group_safety.proofs.once.Ticking.{tick_key, tick_roster, tick_lead}
 use Rattle.group_safety.proofs.once.Ticking.{turn-sent, turn-changes, SeenSmall}
 use Rattle.group_safety.proofs.once.Stepping.{IsLifeOf}
 
@@ -53,7 +54,7 @@ pub tick-gist : (settings : Settings) (s : ℕ) (r : Run) (next : ℕ) (sak : Se
     IsGist (tick_facts settings s r next sak l) []
     (installed_at s (tick_key l.member seen sak l.past))
     (sent_frame (next_frame r) s
-    (option_map (frame_of l.member.setup) (tick_said l.member seen sak l.past))) []
+    (option_map (frame_of l.member.setup) (says_at l.member seen sak l.past))) []
 tick-gist settings s r next sak l =
     let seen = seen_at settings s r l next in
     let turn = turn_at_tick settings s r l next sak in
@@ -124,7 +125,7 @@ tick-lives settings s next f r l living t n e =
 pub tick-backed : (m : Member) (seen : Seen) (sak : Secret) (p : List Entry) (s : ℕ)
     (is : List Install)
     → ((k : Key) → In k (keys.installs (keys_of m p)) → In (install_by s k) is) → (k : Key)
-    → In k (keys.installs (keys_of m (tick_past m seen sak p)))
+    → In k (keys.installs (keys_of m (ticked_past m seen sak p)))
     → In (install_by s k) (installed_at s (tick_key m seen sak p) ++ is)
 unfolding keys_of
 tick-backed m seen sak p s is backed k i = go (tick_key m seen sak p) (tick_lead m p) i

@@ -1,8 +1,8 @@
 use Rattle.std.proofs.Common.{◌∙◌, sym, ap}
-use Rattle.group_safety.specs.Summary.{Counts}
-use Rattle.group_safety.specs.inside.Counting.{one_more}
-use Rattle.group_safety.proofs.counting.{counts_more}
-use Rattle.group_safety.proofs.tally.Tally.add.Goals as goal
+use Rattle.fact_tally.specs.Summary.{Counts}
+use Rattle.fact_tally.specs.inside.Counting.{one_more}
+use Rattle.fact_tally.proofs.OneMore.{counts_more}
+use Rattle.fact_tally.proofs.tally.Tally.add.Goals as goal
 
 pub returns : goal.returns
 returns c = λ shown stood.

@@ -4,8 +4,8 @@ ghost use Rattle.std.specs.Prelude.{◌≡◌, ◌+◌, ◌++◌, ◌∷◌, [],
 ghost use Rattle.serde_json.specs.Data.{number, unsigned, put, no_members};
 ghost use Rattle.serde_json.specs.View.{view, members_view};
 ghost use Rattle.lan_core.specs.declared.fact.Fact.{Fact};
-ghost use Rattle.group_safety.specs.Summary.{counts, members_of, object_of, line_of, most};
-ghost use Rattle.group_safety.specs.inside.Counting.{one_more, one_more_arrival};
+ghost use Rattle.fact_tally.specs.Summary.{counts, members_of, object_of, line_of, most};
+ghost use Rattle.fact_tally.specs.inside.Counting.{one_more, one_more_arrival};
 
 use lan_base::Octets;
 use lan_core::Fact;
@@ -29,7 +29,7 @@ pub struct Tally {
 }
 
 impl Model for Tally {
-    ghost use Rattle.group_safety.specs.Summary.{Counts};
+    ghost use Rattle.fact_tally.specs.Summary.{Counts};
 
     ghost Value = { Counts };
 

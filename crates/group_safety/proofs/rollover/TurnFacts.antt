@@ -4,6 +4,7 @@ use Rattle.std.proofs.Common.{sym, ◌∙◌}
 use Rattle.std.proofs.Common.{Option, Some, None, Result, Ok, Err}
 use Rattle.std.specs.Prelude.{option_map, option_to_list}
 use Rattle.std.specs.List.{filter}
+use Rattle.lan_base.specs.declared.association_number.AssociationNumber.{AssociationNumber}
 use Rattle.lan_base.specs.declared.address.Mi.{Mi}
 use Rattle.lan_base.specs.declared.key_id.KeyId.{KeyId}
 use Rattle.aes_block.specs.declared.secret.Secret.{Secret}
@@ -15,7 +16,8 @@ use Rattle.sak_exchange.specs.declared.change.Why.{Why}
 use Rattle.sak_exchange.specs.declared.due.Seen.{Seen}
 use Rattle.sak_exchange.specs.declared.held_key.HeldKey.{HeldKey}
 use Rattle.sak_exchange.specs.declared.offer.Offer.{Offer}
-use Rattle.sak_exchange.specs.Histories.{Key, Keying}
+use Rattle.sak_exchange.specs.declared.held_key.Key.{Key}
+use Rattle.sak_exchange.specs.Histories.{Keying}
 use Rattle.sak_exchange.specs.Held.{received, held, shown, ends}
 use Rattle.sak_exchange.specs.Beginning.{Beginning, retired}
 use Rattle.sak_exchange.specs.Outcomes.{beginning}
@@ -25,9 +27,9 @@ use Rattle.mka_station.specs.Lives.{Member, Entry, ticked, heard}
 use Rattle.mka_station.specs.Views.{view}
 use Rattle.mka_station.specs.Tick.{tick_turn, led, made, ended, install_changes}
 use Rattle.mka_station.specs.Hearing.{hear_turn, key_taken, take_changes}
-use Rattle.mka_station.specs.inside.Stages.{offer_at, answer_at, follow_at}
+use Rattle.mka_station.specs.Hearing.{offer_at, answer_at, follow_at}
 use Rattle.mka_station.specs.Announcing.{frame_of}
-use Rattle.mka_station.specs.inside.Stages.{says_at}
+use Rattle.mka_station.specs.Tick.{says_at}
 use Rattle.lan_core.specs.declared.fact.Fact.{Fact}
 use Rattle.lan_core.specs.declared.fact.Fact.TheVariants as facts
 use Rattle.lan_core.specs.Expected.{change_fact, reaction_facts}
@@ -112,13 +114,13 @@ tick-alters m seen sak p c i =
     let v1 = view m (ticked ∷ p) in
     let first = ended (view m p).keys v1.server in
     let second = (beginning v1.keys (led m v1)).changes in
-    let third = install_changes v1.keys (Rattle.mka_station.specs.inside.Stages.roster_at m p)
+    let third = install_changes v1.keys (Rattle.mka_station.specs.Tick.roster_at m p)
     (made m v1 seen sak) in
     by_sum (in-either first (second ++ third) c i)
     (λ a. removes (in-ended (view m p).keys v1.server c a))
     (λ b. by_sum (in-either second third c b)
     (λ a. in-begun v1.keys (led m v1) (made m v1 seen sak) c a)
-    (λ a. in-key v1.keys (Rattle.mka_station.specs.inside.Stages.roster_at m p) (made m v1 seen sak)
+    (λ a. in-key v1.keys (Rattle.mka_station.specs.Tick.roster_at m p) (made m v1 seen sak)
     (led m v1) c a))
 
 in-taken : (h : List Keying) (o : Option Offer) (answer : Option (Result Key Why))
@@ -138,10 +140,10 @@ hear-alters m a p c i =
     let v1 = view m (heard a ∷ p) in
     let first = take_changes v1.keys (offer_at m a p) (answer_at m a p) in
     by_sum (in-either first (beginning
-    (view m (Rattle.mka_station.specs.inside.Stages.taken_past m a p)).keys
+    (view m (Rattle.mka_station.specs.Hearing.taken_past m a p)).keys
     (follow_at m a p)).changes c i)
     (λ b. in-taken v1.keys (offer_at m a p) (answer_at m a p) (follow_at m a p) c b)
-    (λ b. in-begun (view m (Rattle.mka_station.specs.inside.Stages.taken_past m a p)).keys
+    (λ b. in-begun (view m (Rattle.mka_station.specs.Hearing.taken_past m a p)).keys
     (follow_at m a p) (key_taken (answer_at m a p)) c b)
 
 pub tick-sends : (m : Member) (seen : Seen) (sak : Secret) (p : List Entry)
@@ -159,14 +161,16 @@ pub record IsBegun (lead : Option Beginning) (id : KeyId) (epoch : ℕ) (cause :
   pub epoch_is : by.key.epoch ≡ epoch
   pub cause_is : by.cause ≡ cause
 
-removed-begins : (s t : ℕ) (id : KeyId) (an epoch : ℕ) (cause : Cause) (c : Change) → IsRemoval c
+removed-begins : (s t : ℕ) (id : KeyId) (an : AssociationNumber) (epoch : ℕ) (cause : Cause)
+    (c : Change) → IsRemoval c
     → facts.Began t id an epoch cause ≡ change_fact s c → ⊥
 removed-begins s t id an epoch cause c (drops k e) f = let g = f ∙ ap (change_fact s) e in cc (g)
 removed-begins s t id an epoch cause c (retires k e) f = let g = f ∙ ap (change_fact s) e in cc (g)
 removed-begins s t id an epoch cause c (refuses i w e) f = let g = f ∙ ap (change_fact s) e in
     cc (g)
 
-altered-begins : (s t : ℕ) (id : KeyId) (an epoch : ℕ) (cause : Cause) (lead : Option Beginning)
+altered-begins : (s t : ℕ) (id : KeyId) (an : AssociationNumber) (epoch : ℕ) (cause : Cause)
+    (lead : Option Beginning)
     (key : Option Key) (c : Change)
     → Alters lead key c → facts.Began t id an epoch cause ≡ change_fact s c
     → (t ≡ s) × IsBegun lead id epoch cause
@@ -191,7 +195,8 @@ altered-begins s t id an epoch cause lead key c (installs k is e) f = let g = f
     ∙ ap (change_fact s) e in absurd (cc (g))
 
 -- a key that is installed
-pub record IsPut (key : Option Key) (id : KeyId) (an epoch : ℕ) (sak : Secret) : Type 0 where
+pub record IsPut (key : Option Key) (id : KeyId) (an : AssociationNumber) (epoch : ℕ)
+    (sak : Secret) : Type 0 where
   pub this : Key
   pub put : key ≡ Some this
   pub id_is : this.id ≡ id
@@ -199,13 +204,15 @@ pub record IsPut (key : Option Key) (id : KeyId) (an epoch : ℕ) (sak : Secret)
   pub epoch_is : this.epoch ≡ epoch
   pub sak_is : this.sak ≡ sak
 
-removed-puts : (s t : ℕ) (id : KeyId) (an epoch : ℕ) (sak : Secret) (c : Change) → IsRemoval c
+removed-puts : (s t : ℕ) (id : KeyId) (an : AssociationNumber) (epoch : ℕ) (sak : Secret)
+    (c : Change) → IsRemoval c
     → facts.Installed t id an epoch sak ≡ change_fact s c → ⊥
 removed-puts s t id an epoch sak c (drops k e) f = let g = f ∙ ap (change_fact s) e in cc (g)
 removed-puts s t id an epoch sak c (retires k e) f = let g = f ∙ ap (change_fact s) e in cc (g)
 removed-puts s t id an epoch sak c (refuses i w e) f = let g = f ∙ ap (change_fact s) e in cc (g)
 
-altered-puts : (s t : ℕ) (id : KeyId) (an epoch : ℕ) (sak : Secret) (lead : Option Beginning)
+altered-puts : (s t : ℕ) (id : KeyId) (an : AssociationNumber) (epoch : ℕ) (sak : Secret)
+    (lead : Option Beginning)
     (key : Option Key) (c : Change)
     → Alters lead key c → facts.Installed t id an epoch sak ≡ change_fact s c
     → (t ≡ s) × IsPut key id an epoch sak
@@ -227,7 +234,8 @@ altered-puts s t id an epoch sak lead key c (installs k is e) f =
       },
     )
 
-pub reacts-begins : (s h n t : ℕ) (id : KeyId) (an epoch : ℕ) (cause : Cause) (re : Reaction)
+pub reacts-begins : (s h n t : ℕ) (id : KeyId) (an : AssociationNumber) (epoch : ℕ) (cause : Cause)
+    (re : Reaction)
     (lead : Option Beginning) (key : Option Key)
     → ((c : Change) → In c re.changes → Alters lead key c)
     → Reacts s h n re (facts.Began t id an epoch cause)
@@ -238,7 +246,8 @@ reacts-begins s h n t id an epoch cause re lead key each (alters c i e) =
     altered-begins s t id an epoch cause lead key c (each c i) e
 reacts-begins s h n t id an epoch cause re lead key each (sends octets is e) = absurd (cc (e))
 
-pub reacts-puts : (s h n t : ℕ) (id : KeyId) (an epoch : ℕ) (sak : Secret) (re : Reaction)
+pub reacts-puts : (s h n t : ℕ) (id : KeyId) (an : AssociationNumber) (epoch : ℕ) (sak : Secret)
+    (re : Reaction)
     (lead : Option Beginning) (key : Option Key)
     → ((c : Change) → In c re.changes → Alters lead key c)
     → Reacts s h n re (facts.Installed t id an epoch sak)

@@ -6,14 +6,15 @@ use Rattle.std.specs.Prelude.{nat_lt}
 use Rattle.sak_exchange.proofs.Public.{by_test}
 use Rattle.group_safety.specs.Moments.{upto, At}
 
-pub upto-all : {A : Type 0} (n : ℕ) (r : List A) → length r ≤ n → upto n r ≡ r
+pub upto-whole : {A : Type 0} (n : ℕ) (r : List A) → length r ≤ n → upto n r ≡ r
 unfolding upto
-upto-all n [] h = refl
-upto-all n (x ∷ r) h = rw (lt-ltb (length r) n (omega arith)) refl
+upto-whole n [] h = refl
+upto-whole n (x ∷ r) h = rw (lt-ltb (length r) n (omega arith)) refl
 
-pub upto-on : {A : Type 0} (n : ℕ) (x : A) (r : List A) → n ≤ length r → upto n (x ∷ r) ≡ upto n r
+pub upto-earlier : {A : Type 0} (n : ℕ) (x : A) (r : List A) → n ≤ length r → upto n (x ∷ r)
+    ≡ upto n r
 unfolding upto
-upto-on n x r h = rw (le-ltb (length r) n h) refl
+upto-earlier n x r h = rw (le-ltb (length r) n h) refl
 
 pub length-upto : {A : Type 0} (n : ℕ) (r : List A) → n ≤ length r → length (upto n r) ≡ n
 unfolding upto

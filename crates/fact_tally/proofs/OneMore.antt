@@ -4,10 +4,10 @@ use Rattle.std.proofs.Common.{List, [], ◌∷◌, ◌++◌, arith}
 use Rattle.std.proofs.lemmas.List.Sums.{sum_by_push}
 use Rattle.std.specs.List.{count_by}
 use Rattle.lan_core.specs.declared.fact.Fact.{Fact}
-use Rattle.group_safety.specs.Summary.{is_accepted, is_beginning, is_claim, is_frame, is_install}
-use Rattle.group_safety.specs.Summary.{is_late, is_missed, is_refusal, is_tick, most, counted}
-use Rattle.group_safety.specs.Summary.{counts}
-use Rattle.group_safety.specs.inside.Counting.{stepped, one_more}
+use Rattle.fact_tally.specs.Summary.{is_accepted, is_beginning, is_claim, is_frame, is_install}
+use Rattle.fact_tally.specs.Summary.{is_late, is_missed, is_refusal, is_tick, most, counted}
+use Rattle.fact_tally.specs.Summary.{counts}
+use Rattle.fact_tally.specs.inside.Counting.{stepped, one_more}
 
 stops : (b : Bool) (n : ℕ) → min (n + cond b 1 0) most ≡ stepped b (min n most)
 stops true n = omega arith

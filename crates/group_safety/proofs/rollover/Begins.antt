@@ -1,35 +1,29 @@
--- What the rules of a station say where a key begins, is made or is taken.
-use Rattle.std.proofs.Common.{◌≡◌, ℕ, Bool, true, false, not, ◌&&◌, List, refl, ap, sym, ◌∙◌, subst}
-use Rattle.std.proofs.Common.{Option, Some, None, is_some, Result, Ok, Err, nat_lt, length}
+-- What the rules of a station say where a key begins or is made.
+use Rattle.std.proofs.Common.{◌≡◌, true, false, not, ◌&&◌, List, refl, ap, sym, ◌∙◌, subst}
+use Rattle.std.proofs.Common.{Option, Some, None, is_some, nat_lt, length}
 use Rattle.std.proofs.lemmas.Bool.{and_parts}
 use Rattle.std.specs.Prelude.{is_none}
 use Rattle.std.specs.List.{list_all}
 use Rattle.aes_block.specs.declared.secret.Secret.{Secret}
 use Rattle.mkpdu_codec.specs.declared.announcement.Announcement.{Announcement}
-use Rattle.mkpdu_codec.specs.declared.given.Given.{Given}
 use Rattle.mkpdu_codec.specs.declared.key_use.Uses.{Uses}
 use Rattle.peer_lists.specs.declared.heard.Outcome.{Outcome}
 use Rattle.sak_exchange.specs.declared.change.Cause.TheVariants.{All, Flag}
-use Rattle.sak_exchange.specs.declared.change.Why.{Why}
 use Rattle.sak_exchange.specs.declared.due.Seen.{Seen}
-use Rattle.sak_exchange.specs.declared.offer.Offer.{Offer}
 use Rattle.sak_exchange.specs.declared.report.Report.{Report}
-use Rattle.sak_exchange.specs.Histories.{Key, Keying, has_begun, clock, last_made_at, last_roster}
+use Rattle.sak_exchange.specs.declared.held_key.Key.{Key}
+use Rattle.sak_exchange.specs.Histories.{Keying, has_begun, clock, last_made_at, last_roster}
 use Rattle.sak_exchange.specs.Held.{latest, allows, may_begin}
 use Rattle.sak_exchange.specs.Reports.{reports_latest, transmits}
 use Rattle.sak_exchange.specs.Beginning.{Beginning, leads, follows, lead_cause, is_latest_made}
 use Rattle.sak_exchange.specs.Beginning.{is_long_ago}
-use Rattle.sak_exchange.specs.Making.{makes, made_key, next_epoch}
-use Rattle.sak_exchange.specs.Taking.{judged, provided, provided_new, unwrapped_key, offered_key}
-use Rattle.sak_exchange.specs.Taking.{greatest_of, number_of, is_supported, offset_of}
-use Rattle.sak_exchange.specs.Unwrapping.{given_sak}
-use Rattle.sak_exchange.specs.Lives.{IsOver}
+use Rattle.sak_exchange.specs.Making.{makes, made_key}
 use Rattle.sak_exchange.proofs.Public.{by_test, by_option, not-true}
 use Rattle.mka_station.specs.Lives.{Member}
 use Rattle.mka_station.specs.Views.{View, reports, serves, is_server}
 use Rattle.mka_station.specs.Tick.{led, made, makes_now}
-use Rattle.mka_station.specs.Hearing.{is_accepted, is_vouched, is_listed, offered, taken_of}
-use Rattle.mka_station.specs.Hearing.{key_taken, followed}
+use Rattle.mka_station.specs.Hearing.{is_vouched}
+use Rattle.mka_station.specs.Hearing.{followed}
 
 -- ---- the server leads
 
@@ -98,10 +92,10 @@ none-is : {A : Type 0} (o : Option A) → is_none o ≡ true → o ≡ None
 none-is None is = refl
 none-is (Some a) is = absurd (cc (is))
 
-pub made-is : (m : Member) (v : View) (seen : Seen) (sak : Secret) (k : Key)
+pub making-is : (m : Member) (v : View) (seen : Seen) (sak : Secret) (k : Key)
     → made m v seen sak ≡ Some k
     → IsMaking m v seen sak k
-made-is m v seen sak k is =
+making-is m v seen sak k is =
     by_test (makes_now m v seen)
     (λ t. let found = rw t at is in
     let first = and_parts (serves m v)
@@ -118,96 +112,6 @@ made-is m v seen sak k is =
       key =
           let e : made_key m.base m.mi v.keys m.setup.conf sak ≡ k = cc (found) in sym e;
     })
-    (λ t. let never = rw t at is in absurd (cc (never)))
-
--- ---- a member takes
-
-pub record IsTaking (m : Member) (v : View) (o : Outcome) (a : Announcement)
-    (k : Key) : Type 0 where
-  pub gift : Given
-  pub gives : a.given ≡ Some gift
-  pub accepted : is_accepted o ≡ true
-  pub elected : is_server v.server a.mi ≡ true
-  pub server : k.id.server ≡ a.mi
-  pub number : k.id.number ≡ number_of gift
-  pub over : IsOver (greatest_of a.mi v.keys) k.id.number
-  pub allowed : allows v.keys ≡ true
-  pub epoch : k.epoch ≡ next_epoch m.base v.keys
-
-given-ok : (b : Bool) (why : Why) (rest : Result Key Why) (k : Key) → provided b why rest ≡ Ok k
-    → (b ≡ true) × (rest ≡ Ok k)
-given-ok true why rest k is = (refl, is)
-given-ok false why rest k is = absurd (cc (is))
-
-over-ok : (kept : Option ℕ) (number : ℕ) (rest : Result Key Why) (k : Key)
-    → provided_new kept number rest ≡ Ok k
-    → IsOver kept number × (rest ≡ Ok k)
-over-ok None number rest k is = (tt, is)
-over-ok (Some n) number rest k is =
-    let r = given-ok (nat_lt n number)
-    (Rattle.sak_exchange.specs.declared.change.Why.TheVariants.Seen n) rest k is in
-    (Rattle.std.proofs.lemmas.Bool.ltb-true n number r.0, r.1)
-
-hidden-ok : (epoch : ℕ) (o : Offer) (sak : Option Secret) (k : Key)
-    → unwrapped_key epoch o sak ≡ Ok k
-    → (s : Secret) × (k ≡ offered_key epoch o s)
-hidden-ok epoch o None k is = absurd (cc (is))
-hidden-ok epoch o (Some s) k is = (s, let e : offered_key epoch o s ≡ k = cc (is) in sym e)
-
-pub record IsJudged (kept : Option ℕ) (allowed : Bool) (epoch : ℕ) (o : Offer)
-    (k : Key) : Type 0 where
-  pub elected : o.elected ≡ true
-  pub over : IsOver kept (number_of o.given)
-  pub may_take : allowed ≡ true
-  pub hidden : (s : Secret) × (k ≡ offered_key epoch o s)
-
-judged-ok : (kept : Option ℕ) (allowed : Bool) (epoch : ℕ) (o : Offer) (sak : Option Secret)
-    (k : Key)
-    → judged kept allowed epoch o sak ≡ Ok k → IsJudged kept allowed epoch o k
-judged-ok kept allowed epoch o sak k is =
-    let a = given-ok o.listed _ _ k is in
-    let b = given-ok o.elected _ _ k a.1 in
-    let c = over-ok kept (number_of o.given) _ k b.1 in
-    let d = given-ok allowed _ _ k c.1 in
-    let e = given-ok (is_supported o.given) _ _ k d.1 in
-    let f = given-ok (nat_lt (offset_of o.given) 2) _ _ k e.1 in
-    record { elected = b.0; over = c.0; may_take = d.0; hidden = hidden-ok epoch o sak k f.1 }
-
-taken-ok : (r : Result Key Why) (k : Key) → key_taken (Some r) ≡ Some k → r ≡ Ok k
-taken-ok (Ok j) k is = let e : j ≡ k = cc (is) in ap Ok e
-taken-ok (Err why) k is = absurd (cc (is))
-
-pub taking-is : (m : Member) (v : View) (o : Outcome) (a : Announcement) (k : Key)
-    → key_taken (taken_of m v (offered m v o a)) ≡ Some k → IsTaking m v o a k
-taking-is m v o a k is =
-    by_test (is_accepted o)
-    (λ t. let first = rw t at is in
-    by_option a.given
-    (λ none. let never = rw none at first in absurd (cc (never)))
-    (λ g gives. let second = rw gives at first in
-    let r = taken-ok _ k second in
-    let offer : Offer = record {
-      given = g;
-      server = a.mi;
-      listed = is_listed m v.peers a;
-      elected =
-          is_server v.server a.mi;
-    } in
-    let j = judged-ok (greatest_of a.mi v.keys) (allows v.keys) (next_epoch m.base v.keys) offer
-    (given_sak m.setup.kek g) k r in
-    let key = j.hidden.1 in
-    record {
-      gift = g;
-      gives = gives;
-      accepted = t;
-      elected = j.elected;
-      server = ap (λ (w : Key). w.id.server) key;
-      number = ap (λ (w : Key). w.id.number) key;
-      over = subst (λ n. IsOver (greatest_of a.mi v.keys) n)
-          (sym (ap (λ (w : Key). w.id.number) key)) j.over;
-      allowed = j.may_take;
-      epoch = ap (λ (w : Key). w.epoch) key;
-    }))
     (λ t. let never = rw t at is in absurd (cc (never)))
 
 -- ---- a member follows

@@ -11,7 +11,7 @@ use Rattle.lan_base.specs.declared.frame.UserFrame.{UserFrame}
 use Rattle.gcm_frames.specs.Tags.{is_sec}
 use Rattle.mkpdu_codec.specs.declared.announcement.Announcement.{Announcement}
 use Rattle.sak_exchange.proofs.Public.{by_test}
-use Rattle.mka_station.specs.declared.verdict.Verdict.{Verdict}
+use Rattle.mka_station.specs.declared.verdict.DropReason.{DropReason}
 use Rattle.mka_station.specs.Hearing.{judged, hear_turn, frame_turn}
 use Rattle.lan_core.specs.declared.event.Event.{Event}
 use Rattle.lan_core.specs.declared.event.Event.TheVariants as events
@@ -27,7 +27,7 @@ use Rattle.lan_core.specs.Expected.{expected, drawn_in, tick_facts, reached_fact
 use Rattle.lan_core.specs.Expected.{claim_fact, emit_facts}
 use Rattle.lan_core.specs.Order.{Exists}
 use Rattle.lan_core.specs.Legal.{IsStep}
-use Rattle.group_safety.specs.inside.Waits.{tick_of}
+use Rattle.group_safety.proofs.rollover.Waits.{tick_of}
 use Rattle.group_safety.proofs.Members.{In}
 use Rattle.group_safety.proofs.once.Nexts.{get-there, mapped, chained}
 
@@ -138,13 +138,13 @@ heard-part settings u r e shown number octets l came none living after is =
     (λ t. let s = rw t at is in same (s ∙ sym living) none)
     (λ t. let s = rw t at is in go (judged l.member.setup octets) refl s)
   where
-    go : (j : Result Announcement Verdict) → judged l.member.setup octets ≡ j
+    go : (j : Result Announcement DropReason) → judged l.member.setup octets ≡ j
         → after ≡ Some (lived l (frame_turn l.member octets l.past))
         → Part settings u r e shown after
     go (Ok a) j s = by_test (is_sec octets)
         (λ t. let q = rw t at is in same (q ∙ sym living) none)
         (λ t. hears number octets l a came living t j (rw j at s))
-    go (Err v) j s = let q = rw j at s in same (q ∙ sym living) none
+    go (Err reason) j s = let q = rw j at s in same (q ∙ sym living) none
 
 -- to the station that it reaches, and to the others
 reached-part : (settings : Settings) (u s : ℕ) (r : Run) (e : Event) (shown : List Fact)

@@ -71,25 +71,25 @@ one-install b fresh v i j hi hj s e =
     (ap (λ (k : Handed). k.id) (sym m.1.key ∙ ap (λ (w : Installation). w.key) same ∙ n.1.key)))
 
 -- where a claim stands
-pub record Slot : Type 0 where
+pub record NumberTaken : Type 0 where
   pub station : ℕ
   pub epoch : ℕ
   pub pn : ℕ
 
-abbrev pub slot_of : Claim → Slot
-slot_of c = record { station = c.station; epoch = c.epoch; pn = c.pn }
+abbrev pub number_taken : Claim → NumberTaken
+number_taken c = record { station = c.station; epoch = c.epoch; pn = c.pn }
 
 -- no two claims have one number under one epoch of one station
-pub claims-differ : (cs : List Claim) → IsFalling cs → AllDiffer (map slot_of cs)
+pub claims-differ : (cs : List Claim) → IsFalling cs → AllDiffer (map number_taken cs)
 claims-differ [] f = tt
 claims-differ (c ∷ cs) f =
-    (differs-from (slot_of c) (map slot_of cs) no, claims-differ cs f.1)
+    (differs-from (number_taken c) (map number_taken cs) no, claims-differ cs f.1)
   where
-    no : ¬ (In (slot_of c) (map slot_of cs))
-    no h = let r = in-from_map slot_of cs (slot_of c) h in
-        let less : r.0.pn < c.pn = f.0 r.0 r.1 (ap (λ (w : Slot). w.station) (sym r.2))
-        (ap (λ (w : Slot). w.epoch) (sym r.2)) in
-        let same : r.0.pn ≡ c.pn = ap (λ (w : Slot). w.pn) (sym r.2) in
+    no : ¬ (In (number_taken c) (map number_taken cs))
+    no h = let r = in-from_map number_taken cs (number_taken c) h in
+        let less : r.0.pn < c.pn = f.0 r.0 r.1 (ap (λ (w : NumberTaken). w.station) (sym r.2))
+        (ap (λ (w : NumberTaken). w.epoch) (sym r.2)) in
+        let same : r.0.pn ≡ c.pn = ap (λ (w : NumberTaken). w.pn) (sym r.2) in
         omega (arith, less, same)
 
 -- a station that has installed has lived

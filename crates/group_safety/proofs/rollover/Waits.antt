@@ -1,6 +1,7 @@
 -- Whether a station still has to tick in the round that stands open, as a number; and ticks as
 -- numbers.
-use Rattle.std.specs.Prelude.{ℕ, ◌==◌, Bool, true, false, cond, List, [], ◌∷◌, Option, Some, None}
+use Rattle.std.specs.Prelude.{ℕ, ◌==◌, Bool, true, false, if◌then◌else◌, List, [], ◌∷◌, Option}
+use Rattle.std.specs.Prelude.{Some, None}
 use Rattle.std.specs.List.{list_any}
 use Rattle.lan_core.specs.declared.event.Event.{Event}
 use Rattle.lan_core.specs.declared.event.Event.TheVariants as events
@@ -23,7 +24,7 @@ waits from u r = waits_in u (pace from r)
 
 -- an event is a tick of the station, 1, or not
 abbrev pub tick_of : ℕ → Event → ℕ
-tick_of u (events.Tick s next) = cond (s == u) 1 0
+tick_of u (events.Tick s next) = if s == u then 1 else 0
 tick_of u _ = 0
 
 -- the last event of a run is

@@ -3,9 +3,11 @@ use Rattle.std.specs.Prelude.{◌≡◌, ◌<◌, ◌≤◌, ◌⊎◌, ℕ, ◌
 use Rattle.std.specs.Prelude.{List, ◌∷◌, ◌++◌, Some}
 use Rattle.lan_base.specs.declared.key_id.KeyId.{KeyId}
 use Rattle.lan_base.specs.Timers.{retire_time}
-use Rattle.sak_exchange.specs.Histories.{Key, Keying, ticked, clock, installs, begun_at, has_begun}
+use Rattle.sak_exchange.specs.declared.held_key.Key.{Key}
+use Rattle.sak_exchange.specs.Histories.{Keying, ticked, clock, installs, begun_at, has_begun}
 use Rattle.sak_exchange.specs.Held.{Kept, received, latest, old, transmitting, allows}
 use Rattle.sak_exchange.specs.Lives.{Has, IsQuiet}
+use Rattle.group_safety.specs.Steady.{Rollover}
 
 -- How many events there are; a station's keys at a moment; whether an event is a tick of a station,
 -- 1 or 0; how many rounds have begun at a moment; and whether a station still has to tick in the
@@ -55,54 +57,51 @@ Rests c u n = GrowsQuietly (c.keys u n) (c.keys u (suc n))
 pub record RestsThrough (c : Course) (u a b : ℕ) : Type 0 where
   pub on : (n : ℕ) → a ≤ n → n < b → Rests c u n
 
--- The rollover at the server: the moment after the make, the event that begins the new key, the
--- identifiers of the old and the new key, and the lag of the members.
-pub record IsRollover (c : Course) (q i server : ℕ) (old_id new_id : KeyId) (lag : ℕ) :
-    Type 0 where
-  pub order : q ≤ i
-  pub within : i < c.end
-  pub early : c.from ≤ i
-  pub life : Lives c server q
+-- a rollover at the server, from the moment after the make on
+pub record IsRollover (c : Course) (o : Rollover) : Type 0 where
+  pub order : suc o.made ≤ o.start
+  pub within : o.start < c.end
+  pub early : c.from ≤ o.start
+  pub life : Lives c o.server (suc o.made)
   pub old_key : Key
   pub new_key : Key
-  pub old_named : old_key.id ≡ old_id
-  pub new_named : new_key.id ≡ new_id
-  pub old_is : old (c.keys server (suc i)) ≡ Some old_key
-  pub new_is : latest (c.keys server (suc i)) ≡ Some new_key
-  pub begun : begun_at (c.keys server (suc i)) new_key.epoch
-      ≡ Some (clock (c.keys server (suc i)))
-  pub settled : c.waits server (suc i) ≡ 0
-  pub made : latest (c.keys server q) ≡ Some new_key
-  pub no_makes : RestsThrough c server q (suc i)
-  pub makes : (n : ℕ) → suc i ≤ n → n < c.end → Rests c server n
-      ⊎ ((c.ticks server n ≡ 1) × (allows (ticked true ∷ c.keys server n) ≡ true))
-  pub unbegun : (u n : ℕ) (k : Key) → n ≤ i → Has k (installs (c.keys u n)) → k.id ≡ new_id
+  pub old_named : old_key.id ≡ o.old_id
+  pub new_named : new_key.id ≡ o.new_id
+  pub old_is : old (c.keys o.server (suc o.start)) ≡ Some old_key
+  pub new_is : latest (c.keys o.server (suc o.start)) ≡ Some new_key
+  pub begun : begun_at (c.keys o.server (suc o.start)) new_key.epoch
+      ≡ Some (clock (c.keys o.server (suc o.start)))
+  pub settled : c.waits o.server (suc o.start) ≡ 0
+  pub made : latest (c.keys o.server (suc o.made)) ≡ Some new_key
+  pub no_makes : RestsThrough c o.server (suc o.made) (suc o.start)
+  pub makes : (n : ℕ) → suc o.start ≤ n → n < c.end → Rests c o.server n
+      ⊎ ((c.ticks o.server n ≡ 1) × (allows (ticked true ∷ c.keys o.server n) ≡ true))
+  pub unbegun : (u n : ℕ) (k : Key) → n ≤ o.start → Has k (installs (c.keys u n)) → k.id ≡ o.new_id
       → has_begun (c.keys u n) k.epoch ≡ false
-  pub lag_short : lag < retire_time
+  pub lag_short : o.lag < retire_time
 
 -- a listener, from the moment on at which it had said that it receives the new key
-pub record IsListening (c : Course) (q i server : ℕ) (new_id : KeyId) (t sent : ℕ) : Type 0 where
-  pub after : q ≤ sent
-  pub before : sent ≤ i
+pub record IsListening (c : Course) (o : Rollover) (t sent : ℕ) : Type 0 where
+  pub after : suc o.made ≤ sent
+  pub before : sent ≤ o.start
   pub life : Lives c t sent
   pub new_key : Key
-  pub new_named : new_key.id ≡ new_id
+  pub new_named : new_key.id ≡ o.new_id
   pub new_is : latest (c.keys t sent) ≡ Some new_key
   -- it rests, but for keys that the server made after the new one
   pub takes : (n : ℕ) → sent ≤ n → n < c.end → Rests c t n
-      ⊎ ((z : ℕ) × (q ≤ z) × (z < n) × (Rests c server z → ⊥))
+      ⊎ ((z : ℕ) × (suc o.made ≤ z) × (z < n) × (Rests c o.server z → ⊥))
 
 -- a listener that kept the old key, and begins the new one in time
-pub record IsKeeping (c : Course) (q i server : ℕ) (old_id new_id : KeyId) (lag t sent : ℕ) :
-    Type 0 where
-  pub listens : IsListening c q i server new_id t sent
+pub record IsKeeping (c : Course) (o : Rollover) (t sent : ℕ) : Type 0 where
+  pub listens : IsListening c o t sent
   pub old_key : Key
-  pub old_named : old_key.id ≡ old_id
+  pub old_named : old_key.id ≡ o.old_id
   pub old_is : old (c.keys t sent) ≡ Some old_key
-  pub soon : c.rounds (suc i) + lag < c.rounds c.end
+  pub soon : c.rounds (suc o.start) + o.lag < c.rounds c.end
       → (n : ℕ) × (sent ≤ n) × (n < c.end)
       × (has_begun (c.keys t (suc n)) listens.new_key.epoch ≡ true)
-      × (c.rounds (suc n) ≤ c.rounds (suc i) + lag)
+      × (c.rounds (suc n) ≤ c.rounds (suc o.start) + o.lag)
 
 -- a station receives a key of an identifier
 pub record Holds (id : KeyId) (h : List Keying) : Type 0 where

@@ -2,9 +2,9 @@
 use Rattle.std.specs.Prelude.{ℕ, ◌+◌, min, Bool, true, false}
 use Rattle.rx_slots.specs.declared.arrival.Arrival.{Arrival}
 use Rattle.lan_core.specs.declared.fact.Fact.{Fact}
-use Rattle.group_safety.specs.Summary.{is_accepted, is_beginning, is_claim, is_frame, is_install}
-use Rattle.group_safety.specs.Summary.{is_late, is_missed, is_refusal, is_tick, most, Counts}
-use Rattle.group_safety.specs.Summary.{was_accepted, was_late, was_missed}
+use Rattle.fact_tally.specs.Summary.{is_accepted, is_beginning, is_claim, is_frame, is_install}
+use Rattle.fact_tally.specs.Summary.{is_late, is_missed, is_refusal, is_tick, most, Counts}
+use Rattle.fact_tally.specs.Summary.{was_accepted, was_late, was_missed}
 
 -- one more, where it is of the kind
 abbrev pub stepped : Bool → ℕ → ℕ

@@ -1,0 +1,3 @@
+-- What a reader reads: the summary of facts.
+pub mod Summary
+pub mod inside
