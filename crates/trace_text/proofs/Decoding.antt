@@ -1,29 +1,43 @@
--- How many octets a word spells.
-use Rattle.std.proofs.Common.{◌≡◌, ℕ, ◌/◌, ◌%◌, List, true, length, refl, ap, arith}
-use Rattle.std.specs.Prelude.{Some, None, Result, Ok, Err}
-use Rattle.std.specs.List.{list_all}
-use Rattle.std.specs.Option.{option_map}
+-- Whether a word spells octets, by its length and by what decodes it.
+use Rattle.std.proofs.Common.{◌≡◌, ℕ, ◌/◌, ◌==◌, Bool, true, false, List, length, refl, sym, arith}
+use Rattle.std.specs.Prelude.{◌&&◌, Result, Ok, Err, is_ok, if◌then◌else◌}
 use Rattle.std.specs.Result.{result_ok}
-use Rattle.std.proofs.lemmas.List.Sums.{AllPass-from_list_all, list_all-from_AllPass}
+use Rattle.std.proofs.lemmas.Bool.Decides.{nat_tests}
 use Rattle.hex.specs.declared.error.FromHexError.{FromHexError}
-use Rattle.hex.specs.Hex.{decode_of, is_hex_digit}
-use Rattle.hex.proofs.HexLemmas.{decode_of-digits, decode_of-ok}
+use Rattle.hex.specs.Hex.{decode_of, decode_sized}
+use Rattle.hex.proofs.HexLemmas.{decode_of-ok}
+use Rattle.trace_text.specs.declared.fault.TextFault.{TextFault}
+use Rattle.trace_text.specs.declared.fault.TextFault.TheVariants.{Hex}
+use Rattle.trace_text.specs.Kinds.{if_allowed, octets_of}
+use Rattle.trace_text.specs.inside.Answering.{checked}
 
-pub some_octets : (word : List ℕ) → length word % 2 ≡ 0 → list_all is_hex_digit word ≡ true
-    → Some (length word / 2) ≡ option_map length (result_ok (decode_of word))
-some_octets word even digits =
-    let decoded = decode_of-digits word even (AllPass-from_list_all is_hex_digit word digits) in
-    let ok = decode_of-ok word decoded.0 decoded.1 in
-    let half : length word / 2 ≡ length decoded.0 = omega (arith, ok.2) in
-    rw decoded.1 (ap Some half)
+-- a test that was passed, or the fault
+abbrev pub passes : Bool → Result (Unit {0}) TextFault
+passes test = if test then Ok tt else Err Hex
 
-spelled_by : (word : List ℕ) (r : Result (List ℕ) FromHexError) → decode_of word ≡ r
-    → (length word % 2 ≡ 0 → list_all is_hex_digit word ≡ true → ⊥) → None ≡ option_map length (result_ok r)
-spelled_by word (Ok octets) e not_both =
-    let ok = decode_of-ok word octets e in
-    absurd (not_both ok.0 (list_all-from_AllPass is_hex_digit word ok.1))
-spelled_by word (Err fault) e not_both = refl
+same_number : (n : ℕ) → (n == n) ≡ true
+same_number n = grind (arith, nat_tests)
 
-pub no_octets : (word : List ℕ) → (length word % 2 ≡ 0 → list_all is_hex_digit word ≡ true → ⊥)
-    → None ≡ option_map length (result_ok (decode_of word))
-no_octets word not_both = spelled_by word (decode_of word) refl not_both
+-- half as many octets as digits
+pub half : (word : List ℕ) → decode_sized word (length word / 2) ≡ decode_of word
+half word = rw (same_number (length word / 2)) refl
+
+never : (b : Bool) → passes (b && false) ≡ Err Hex
+never true = refl
+never false = refl
+
+allowed_alone : (b : Bool) (xs : List ℕ) → checked (if b then Ok xs else Err Hex) ≡ passes (b && true)
+allowed_alone true xs = refl
+allowed_alone false xs = refl
+
+checked_by : (allowed : ℕ → Bool) (word : List ℕ) (r : Result (List ℕ) FromHexError) → decode_of word ≡ r
+    → checked (if_allowed allowed (result_ok r)) ≡ passes (allowed (length word / 2) && is_ok r)
+checked_by allowed word (Err e) d = sym (never (allowed (length word / 2)))
+checked_by allowed word (Ok xs) d =
+    let ok = decode_of-ok word xs d in
+    let count : length xs ≡ length word / 2 = omega (arith, ok.2) in
+    rw (← count) (allowed_alone (allowed (length xs)) xs)
+
+-- what is checked of a word: its length, and whether it decodes
+pub checked_as : (allowed : ℕ → Bool) (word : List ℕ) → checked (octets_of allowed word) ≡ passes (allowed (length word / 2) && is_ok (decode_of word))
+checked_as allowed word = checked_by allowed word (decode_of word) refl

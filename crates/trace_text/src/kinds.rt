@@ -1,20 +1,21 @@
 //! What one word says.
 
-ghost use Rattle.std.specs.Prelude.{◌≡◌, Ok, Some, None, IsOk, IfOk, IsTrue, length, if◌then◌else◌};
+ghost use Rattle.std.specs.Prelude.{◌≡◌, ◌≤◌, ◌/◌, ◌&&◌, Ok, Err, Some, None, IsOk, IfOk, IsTrue, is_ok, length, if◌then◌else◌};
 ghost use Rattle.std.specs.List.{list_all};
-ghost use Rattle.std.specs.Option.{option_map};
-ghost use Rattle.std.specs.Result.{result_ok};
 ghost use Rattle.std.specs.Char.{is_ascii_digit};
 ghost use Rattle.std.specs.Str.Parse.{digits_value};
-ghost use Rattle.hex.specs.Hex.{decode_of, is_hex_digit};
+ghost use Rattle.hex.specs.Hex.{decode_of};
 ghost use Rattle.trace_text.specs.Kinds.{said, name, is_number, number_of, suite_in, octets_of, exactly_of, is_within, is_either};
+ghost use Rattle.trace_text.specs.Limits.{most_injected};
+ghost use Rattle.trace_text.specs.declared.fault.TextFault.TheVariants.{Hex};
 ghost use Rattle.trace_text.specs.inside.Answering.{Answers, checked};
 
 use crate::fault::{LineError, TextFault};
-use crate::limits::MAX_DIGITS;
+use crate::limits::{MAX_DIGITS, MAX_INJECTED};
 use hex::FromHex;
 use lan_base::{Name, Octets, Suite};
 use std::alloc::{AllocError, Global};
+use std::str;
 
 /// The station's name that a word is.
 pub fn read_name(word: &[u8]) -> Result<Name, TextFault>
@@ -48,7 +49,10 @@ fn decimal(word: &[u8]) -> Option<u64>
     if !is_number(word) {
         return None;
     }
-    Some(decimal_value(word))
+    match str::from_utf8(word) {
+        Ok(text) => text.parse().ok(),
+        Err(_) => None,
+    }
 }
 
 /// Whether a word is 1 to 10 decimal digits.
@@ -65,19 +69,6 @@ fn are_digits(word: &[u8]) -> bool
     word.iter().all(|octet| octet.is_ascii_digit())
 }
 
-/// The number that such a word spells.
-#[tactic(auto, using(crate::proofs::Digits::one_more, crate::proofs::Digits::is_digit_at))]
-fn decimal_value(word: &[u8]) -> u64
-    requires { IsTrue (is_number word.now) }
-    ensures { result ≡ digits_value 10 word.now }
-{
-    let mut value = 0u64;
-    for octet in word {
-        value = value * 10 + u64::from(*octet - b'0');
-    }
-    value
-}
-
 /// The octets that a word spells, as many as the array has.
 pub fn read_array<const N: usize>(word: &[u8]) -> Result<[u8; N], TextFault>
     ensures { result ≡ exactly_of N word.now }
@@ -90,48 +81,55 @@ pub fn read_array<const N: usize>(word: &[u8]) -> Result<[u8; N], TextFault>
 /// The octets that a word spells, whose count lies within bounds. Memory is taken for a word that
 /// spells such octets alone.
 pub fn read_octets(alloc: Global, word: &[u8], low: usize, high: usize) -> Result<Octets, LineError>
+    requires { high ≤ most_injected }
     ensures { Answers result (octets_of (is_within low high) word.now) }
 {
     expect_octets(word, low, high)?;
     Ok(decoded(alloc, word)?)
 }
 
-/// Whether a word spells octets whose count lies within bounds.
+/// Whether a word spells octets whose count lies within bounds, no more than a line injects.
 pub fn expect_octets(word: &[u8], low: usize, high: usize) -> Result<(), TextFault>
+    requires { high ≤ most_injected }
     ensures { result ≡ checked (octets_of (is_within low high) word.now) }
 {
-    match octet_count(word) {
-        Some(count) if low <= count && count <= high => Ok(()),
-        _ => Err(TextFault::Hex),
-    }
+    expect_spelled(word, is_within(word.len() / 2, low, high))
 }
 
 /// Whether a word spells a key of 16 or 32 octets.
 pub fn expect_key(word: &[u8]) -> Result<(), TextFault>
     ensures { result ≡ checked (octets_of (is_either 16 32) word.now) }
 {
-    match octet_count(word) {
-        Some(16 | 32) => Ok(()),
-        _ => Err(TextFault::Hex),
-    }
+    expect_spelled(word, is_key_length(word.len() / 2))
 }
 
-/// How many octets a word spells, if it spells octets.
-fn octet_count(word: &[u8]) -> Option<usize>
-    ensures { result ≡ option_map length (result_ok (decode_of word.now)) }
+/// Whether a number lies within bounds.
+fn is_within(number: usize, low: usize, high: usize) -> bool
+    ensures { result ≡ is_within low high number }
 {
-    if word.len() % 2 == 0 && are_hex_digits(word) {
-        Some(word.len() / 2)
-    } else {
-        None
-    }
+    low <= number && number <= high
 }
 
-/// Whether there are only hexadecimal digits, of either case.
-fn are_hex_digits(word: &[u8]) -> bool
-    ensures { result ≡ list_all is_hex_digit word.now }
+/// Whether a key may have so many octets: 16 or 32.
+fn is_key_length(count: usize) -> bool
+    ensures { result ≡ is_either 16 32 count }
 {
-    word.iter().all(|octet| octet.is_ascii_hexdigit())
+    count == 16 || count == 32
+}
+
+/// Whether a word spells octets, where their count is allowed.
+fn expect_spelled(word: &[u8], allowed: bool) -> Result<(), TextFault>
+    requires { IsTrue allowed → length word.now / 2 ≤ most_injected }
+    ensures { result ≡ (if allowed && is_ok (decode_of word.now) then Ok tt else Err Hex) }
+{
+    if !allowed {
+        return Err(TextFault::Hex);
+    }
+    let mut octets = [0; MAX_INJECTED];
+    match hex::decode_to_slice(word, &mut octets[..word.len() / 2]) {
+        Ok(()) => Ok(()),
+        Err(_) => Err(TextFault::Hex),
+    }
 }
 
 /// The octets that a word spells, where it spells octets.
