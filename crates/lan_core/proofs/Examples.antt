@@ -3,19 +3,22 @@ use Rattle.std.proofs.Common.{◌≡◌, ℕ, true, false, List, [], ◌∷◌, 
 use Rattle.std.specs.Prelude.{◌+◌, replicate, unwrap_or, map}
 use Rattle.lan_base.specs.declared.address.Mi.{Mi}
 use Rattle.lan_base.specs.declared.address.Sci.{Sci}
+use Rattle.lan_base.specs.declared.association_number.AssociationNumber.TheVariants.{An0, An2}
 use Rattle.lan_base.specs.declared.key_id.KeyId.{KeyId}
+use Rattle.lan_base.specs.declared.suite.Suite.TheVariants.{GcmAes128}
 use Rattle.aes_block.specs.declared.secret.Secret.{Secret}
 use Rattle.aes_block.specs.declared.secret.Secret.TheVariants.{S128}
 use Rattle.peer_lists.specs.Acceptance.{refusal, accepted, outcome}
 use Rattle.peer_lists.specs.Peers.{says, hopes, known}
-use Rattle.sak_exchange.specs.Histories.{Key}
+use Rattle.sak_exchange.specs.declared.held_key.Key.{Key}
 use Rattle.sak_exchange.specs.Held.{received, latest, old, transmitting}
 use Rattle.sak_exchange.specs.declared.change.Cause.TheVariants.{Flag}
 use Rattle.gcm_frames.specs.declared.tag.TagRefusal.TheVariants as refusals
 use Rattle.gcm_frames.specs.Tags.{tag_fields}
 use Rattle.mkpdu_codec.specs.Reading.{reading, parts_at}
 use Rattle.rx_slots.specs.declared.arrival.Arrival.TheVariants.{Malformed}
-use Rattle.mka_station.specs.declared.verdict.Verdict.TheVariants.{NotMka, Vouched}
+use Rattle.mka_station.specs.declared.verdict.DropReason.TheVariants.{NotMka}
+use Rattle.mka_station.specs.declared.verdict.Verdict.TheVariants.{Dropped, Vouched}
 use Rattle.mka_station.specs.Lives.{peers_of, keys_of, elected}
 use Rattle.mka_station.specs.Views.{view}
 use Rattle.mka_station.specs.Hearing.{judged, hear_turn}
@@ -53,7 +56,7 @@ settings = record {
   conf = true;
   window = 0;
   rekey = 3221225472;
-  suite = 128;
+  suite = GcmAes128;
 }
 
 -- ---- runs that the rules make of events
@@ -127,7 +130,7 @@ foreign =
     ∷ starts 0 65 10 ∷ []
 
 four_answers : facts_of (play foreign) ≡
-    facts.Life 0 (mi 1) ∷ facts.HeardMka 0 0 NotMka
+    facts.Life 0 (mi 1) ∷ facts.HeardMka 0 0 (Dropped NotMka)
     ∷ facts.Arrived 0 0 (Malformed refusals.Mode) ∷ facts.Arrived 0 0 (Malformed refusals.Short)
     ∷ facts.Arrived 0 0 (Malformed refusals.Version) ∷ []
 unfolding opens play
@@ -153,7 +156,7 @@ three_drawn = refl
 -- ---- packet numbers
 
 abbrev seven : Run
-seven = a_claim 0 1 0 1 7 ∷ []
+seven = a_claim 0 1 An0 1 7 ∷ []
 
 after_seven : next settings 0 1 seven ≡ 8
 unfolding opens
@@ -169,7 +172,7 @@ unfolding opens
 under_another = refl
 
 -- a lower number that is claimed late leaves it
-late_three : next settings 0 1 (a_claim 0 1 0 1 3 ∷ seven) ≡ 8
+late_three : next settings 0 1 (a_claim 0 1 An0 1 3 ∷ seven) ≡ 8
 unfolding opens
 late_three = refl
 
@@ -178,7 +181,7 @@ six_unused : unused settings 0 1 seven ≡ 6
 unfolding opens
 six_unused = refl
 
-five_unused : unused settings 0 1 (a_claim 0 1 0 1 3 ∷ seven) ≡ 5
+five_unused : unused settings 0 1 (a_claim 0 1 An0 1 3 ∷ seven) ≡ 5
 unfolding opens
 five_unused = refl
 
@@ -196,9 +199,9 @@ abbrev pub sak : Secret
 sak = S128 (replicate 15 0 ++ 3 ∷ [])
 
 abbrev key : Key
-key = record { id = id 1; an = 2; sak = sak; conf = true; epoch = 1 }
+key = record { id = id 1; an = An2; sak = sak; conf = true; epoch = 1 }
 
-a_number : claim_fact settings 0 [] 7 (Some key) ≡ facts.Claimed 0 2 1 7
+a_number : claim_fact settings 0 [] 7 (Some key) ≡ facts.Claimed 0 An2 1 7
 a_number = refl
 
 no_number : claim_fact settings 0 [] 0 (Some key) ≡ facts.Unclaimed 0 NoKey
@@ -206,7 +209,7 @@ unfolding opens
 no_number = refl
 
 no_number_left :
-    claim_fact settings 0 (a_claim 0 1 2 1 4294967295 ∷ []) 0 (Some key)
+    claim_fact settings 0 (a_claim 0 1 An2 1 4294967295 ∷ []) 0 (Some key)
     ≡ facts.Unclaimed 0 (Exhausted 1)
 unfolding opens
 no_number_left = refl
@@ -220,8 +223,8 @@ it_waits = refl
 -- an announcement that drops the key of this number, and begins one at a station
 abbrev follows : ℕ → ℕ → Happening
 follows dropped s = happened (events.Deliver 3 0) (
-    facts.HeardMka 3 0 Vouched ∷ facts.Dropped 0 (id dropped) 2
-    ∷ facts.Installed 0 (id 3) 2 3 sak ∷ facts.Began s (id 3) 2 3 Flag ∷ [])
+    facts.HeardMka 3 0 Vouched ∷ facts.Dropped 0 (id dropped) An2
+    ∷ facts.Installed 0 (id 3) An2 3 sak ∷ facts.Began s (id 3) An2 3 Flag ∷ [])
 
 excused : is_excuse 0 (Some key) (Some (follows 1 0)) ≡ true
 excused = refl

@@ -1,6 +1,6 @@
 -- Whether foreign octets are forged.
 use Rattle.std.proofs.Common.{◌≡◌, ◌<◌, ℕ, Bool, true, false, cond, List, [], ◌∷◌, length}
-use Rattle.std.proofs.Common.{Some, None, Result, Ok, Err, IfOk, refl, ap, sym, arith}
+use Rattle.std.proofs.Common.{Some, None, Result, Ok, Err, refl, ap, sym, arith}
 use Rattle.std.specs.Prelude.{◌&&◌, ◌||◌, not, nat_eq, is_some, take}
 use Rattle.std.specs.List.{list_any}
 use Rattle.std.proofs.lemmas.List.Folds.{list_any-append}
@@ -10,7 +10,7 @@ use Rattle.mkpdu_codec.specs.declared.announcement.Announcement.{Announcement}
 use Rattle.mkpdu_codec.specs.declared.refusal.Refusal.{Refusal}
 use Rattle.mkpdu_codec.specs.declared.spelled.Spelled.{Spelled}
 use Rattle.mkpdu_codec.specs.Reading.{reading}
-use Rattle.mka_station.specs.declared.verdict.Verdict.TheVariants as verdicts
+use Rattle.mka_station.specs.declared.verdict.DropReason.TheVariants as reasons
 use Rattle.mka_station.specs.Lives.{Setup}
 use Rattle.mka_station.specs.Hearing.{judged, read_as, right}
 use Rattle.mka_kdf.specs.Kdf.{ick_of}
@@ -31,7 +31,7 @@ use Rattle.lan_core.specs.inside.Spellings.{repeats_octets}
 -- ---- right
 
 both : (a b : Bool) (an : Announcement)
-    → is_some (elim (cond (not a) (Err verdicts.CkName) (cond (not b) (Err verdicts.Check) (Ok an)))
+    → is_some (elim (cond (not a) (Err reasons.CkName) (cond (not b) (Err reasons.Check) (Ok an)))
     [ Ok a ↦ Some a | Err v ↦ None ]) ≡ (a && b)
 both true true an = refl
 both true false an = refl
@@ -52,13 +52,6 @@ pub wrong-where : (setup : Setup) (octets : List ℕ) (e : Refusal) → reading 
 unfolding judged
 wrong-where setup octets e is =
     ap (λ j. is_some (elim (read_as setup octets j) [ Ok a ↦ Some a | Err v ↦ None ])) is
-
-pub refused-right : {E Q : Type 0} (setup : Setup) (octets : List ℕ) (refusal : Refusal) (result : Result Bool E)
-    → IfOk result (λ b. (b ≡ false) × Q) → (Q → reading octets ≡ Err refusal)
-    → IfOk result (λ b. b ≡ is_some (right setup octets))
-refused-right setup octets refusal (Ok b) is reads =
-    cc (is.0, wrong-where setup octets refusal (reads is.1))
-refused-right setup octets refusal (Err e) is reads = tt
 
 -- ---- forged
 

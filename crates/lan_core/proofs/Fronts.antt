@@ -1,7 +1,8 @@
 -- What passes from a run to what comes before its later events.
 use Rattle.std.proofs.Common.{◌≡◌, ◌<◌, ◌≤◌, ℕ, List, [], ◌∷◌, ◌++◌, map, Option, Some, None, arith}
+use Rattle.lan_base.specs.declared.association_number.AssociationNumber.{AssociationNumber}
 use Rattle.lan_base.specs.declared.frame.UserFrame.{UserFrame}
-use Rattle.sak_exchange.specs.Histories.{Key}
+use Rattle.sak_exchange.specs.declared.held_key.Key.{Key}
 use Rattle.lan_core.specs.declared.fact.Fact.{Fact}
 use Rattle.lan_core.specs.declared.settings.Settings.{Settings}
 use Rattle.lan_core.specs.declared.event.Event.TheVariants as events
@@ -40,12 +41,14 @@ never-falls settings s epoch (x ∷ later) front =
     let step = step-rises settings s epoch x (later ++ front) in
     omega arith
 
-claim-passed : (settings : Settings) (s user an epoch pn : ℕ) (front : Run)
+claim-passed : (settings : Settings) (s user : ℕ) (an : AssociationNumber) (epoch pn : ℕ)
+    (front : Run)
     → pn < next settings s epoch (a_claim s user an epoch pn ∷ front)
 unfolding next
 claim-passed settings s user an epoch pn front = search arith
 
-pub stays-passed : (settings : Settings) (s user an epoch pn : ℕ) (later front : Run)
+pub stays-passed : (settings : Settings) (s user : ℕ) (an : AssociationNumber) (epoch pn : ℕ)
+    (later front : Run)
     → pn < next settings s epoch (later ++ a_claim s user an epoch pn ∷ front)
 stays-passed settings s user an epoch pn later front =
     let passed = claim-passed settings s user an epoch pn front in

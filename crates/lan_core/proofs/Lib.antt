@@ -1,37 +1,39 @@
 mod Examples
-mod Small
-mod Stopping
-mod First
-pub mod Quiet
+mod LegalRun
+mod StopExamples
+mod FirstStart
+pub mod LivesUnchanged
 pub mod Fronts
-pub mod Excuses
-pub mod There
-pub mod Numbered
-pub mod Gists
-pub mod Places
-pub mod Moves
-pub mod Limited
-pub mod Carried
-pub mod Emits
-pub mod Refused
-pub mod Moved
-pub mod Reached
-pub mod Kept
-pub mod Spelling
-pub mod LookedUp
-pub mod Drawing
-pub mod Unstopped
-pub mod Freshly
-pub mod Thrifty
+pub mod ExcusesStay
+pub mod EachInALife
+pub mod Reactions
+pub mod FramesNumbered
+pub mod OwnLedgers
+pub mod ListPlaces
+pub mod SeatMoved
+pub mod LimitsPassed
+pub mod CarriedOver
+pub mod EmissionGoesOn
+pub mod RefusalPassedOn
+pub mod GroupMoved
+pub mod OctetsReach
+pub mod DrawsLookedUp
+pub mod SpellingRepeats
+pub mod OctetsLookedUp
+pub mod TickDraws
+pub mod UnstoppedSteps
+pub mod StaysFresh
+pub mod StaysThrifty
 pub mod MoreUsers
-pub mod Supplied
+pub mod SuppliedDraws
 pub mod Forgery
-pub mod Ticked
-pub mod Claimed
-pub mod Followed
-pub mod Seated
-pub mod Restarted
-pub mod Started
-pub mod Placed
-pub mod Newly
+pub mod TickGoesOn
+pub mod ClaimGoesOn
+pub mod SlotsFollow
+pub mod HeldByNumber
+pub mod SeatGoesOn
+pub mod RestartGoesOn
+pub mod StartGoesOn
+pub mod NamePlaced
+pub mod EmptyGroup
 pub mod Public

@@ -17,7 +17,7 @@ use Rattle.lan_core.specs.Expected.{expected, drawn_in, Drawn, emit_facts}
 use Rattle.lan_core.specs.Order.{IsAllowed, IsSendable}
 use Rattle.lan_core.specs.Legal.{IsStep, IsStepped, IsLegal}
 use Rattle.lan_core.specs.Standing.{State, StandsFor, sealed_of}
-use Rattle.lan_core.proofs.Numbered.{mapped, chained}
+use Rattle.lan_core.proofs.FramesNumbered.{mapped, chained}
 
 -- ---- user frames
 

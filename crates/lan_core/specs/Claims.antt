@@ -1,13 +1,14 @@
 -- Packet numbers: the next one of a key at a station, and the claims that wait to be put on the air
 -- (IEEE Std 802.1AE, clause 10; that a claim and its emission are two events is this profile's own
 -- rule).
-use Rattle.std.specs.Prelude.{ℕ, ◌==◌, ◌&&◌, ◌+◌, ◌-◌, Bool, false, cond, max}
+use Rattle.std.specs.Prelude.{ℕ, ◌==◌, ◌&&◌, ◌+◌, ◌-◌, Bool, false, if◌then◌else◌, max}
 use Rattle.std.specs.Prelude.{List, [], ◌∷◌, ◌++◌, length, slice_get}
 use Rattle.std.specs.Prelude.{Option, Some, None, option_and_then, option_map}
+use Rattle.lan_base.specs.declared.association_number.AssociationNumber.{AssociationNumber}
 use Rattle.lan_base.specs.declared.frame.UserFrame.{UserFrame}
 use Rattle.aes_block.specs.Secrets.{secret_octets}
 use Rattle.gcm_frames.specs.Protected.{protected}
-use Rattle.sak_exchange.specs.Histories.{Key}
+use Rattle.sak_exchange.specs.declared.held_key.Key.{Key}
 use Rattle.lan_core.specs.declared.event.Event.{Event}
 use Rattle.lan_core.specs.declared.event.Event.TheVariants as events
 use Rattle.lan_core.specs.declared.fact.Fact.{Fact}
@@ -25,14 +26,14 @@ is_epoch epoch (Some k) = k.epoch == epoch
 -- one more than the number of a claim of this station and epoch, else 0
 abbrev pub after_claim : ℕ → ℕ → List Fact → ℕ
 after_claim s epoch (facts.Claimed station an e pn ∷ later) =
-    cond ((station == s) && (e == epoch)) (pn + 1) 0
+    if (station == s) && (e == epoch) then pn + 1 else 0
 after_claim s epoch _ = 0
 
 -- The least next packet number that an event leaves to a station under an epoch: one more than a
 -- claimed number, or what a tick showed under the key that transmitted before it.
 abbrev pub shown_by : Settings → ℕ → ℕ → Run → List Fact → Event → ℕ
 shown_by settings s epoch r facts (events.Tick station next) =
-    cond ((station == s) && is_epoch epoch (transmitting_at settings s r)) next 0
+    if (station == s) && is_epoch epoch (transmitting_at settings s r) then next else 0
 shown_by settings s epoch r facts _ = after_claim s epoch facts
 
 -- the next packet number of a station under an epoch
@@ -42,7 +43,7 @@ next settings s epoch (x ∷ r) =
     max (shown_by settings s epoch r x.facts x.event) (next settings s epoch r)
 
 -- a station claims a number for a user frame, under the key of an epoch
-abbrev pub a_claim : ℕ → ℕ → ℕ → ℕ → ℕ → Happening
+abbrev pub a_claim : ℕ → ℕ → AssociationNumber → ℕ → ℕ → Happening
 a_claim s user an epoch pn =
     happened (events.Claim s user pn) (facts.Claimed s an epoch pn ∷ [])
 
@@ -59,7 +60,7 @@ pub record Waiting : Type 0 where
 abbrev pub waiting_under : ℕ → ℕ → ℕ → Option Key → List Waiting
 waiting_under s user pn None = []
 waiting_under s user pn (Some k) =
-    cond (pn == 0) [] (record { station = s; key = k; pn = pn; user = user } ∷ [])
+    if pn == 0 then [] else record { station = s; key = k; pn = pn; user = user } ∷ []
 
 -- what an event adds to them
 abbrev pub claimed_by : Settings → Run → Event → List Waiting
@@ -78,7 +79,7 @@ waiting settings r = slice_get (claimed settings r) (length (emitted r))
 
 -- the user frame of a number, from 1
 abbrev pub user_at : List UserFrame → ℕ → Option UserFrame
-user_at users number = cond (number == 0) None (slice_get users (number - 1))
+user_at users number = if number == 0 then None else slice_get users (number - 1)
 
 -- the octets of a claim's frame, protected by a station for a user
 abbrev pub frame_by : Waiting → Profile → UserFrame → List ℕ

@@ -1,15 +1,16 @@
 -- What an event has to show after a run: exactly these facts, in this order.
-use Rattle.std.specs.Prelude.{ℕ, ◌+◌, ◌-◌, ◌^◌, ◌==◌, cond, nat_lt, true, false}
+use Rattle.std.specs.Prelude.{ℕ, ◌+◌, ◌-◌, ◌^◌, ◌==◌, if◌then◌else◌, nat_lt, true, false}
 use Rattle.std.specs.Prelude.{List, [], ◌∷◌, ◌++◌, map, length, option_to_list}
 use Rattle.std.specs.Prelude.{Option, Some, None, option_map, option_and_then}
 use Rattle.lan_base.specs.declared.address.Mi.{Mi}
 use Rattle.lan_base.specs.declared.frame.UserFrame.{UserFrame}
+use Rattle.lan_base.specs.declared.suite.Suite.{Suite}
 use Rattle.aes_block.specs.declared.secret.Secret.{Secret}
 use Rattle.gcm_frames.specs.Tags.{is_sec}
 use Rattle.rx_slots.specs.Numbers.{answer}
 use Rattle.sak_exchange.specs.declared.change.Change.{Change}
 use Rattle.sak_exchange.specs.declared.change.Change.TheVariants as changes
-use Rattle.sak_exchange.specs.Histories.{Key}
+use Rattle.sak_exchange.specs.declared.held_key.Key.{Key}
 use Rattle.peer_lists.specs.Histories.{clock}
 use Rattle.mka_station.specs.declared.reaction.Reaction.{Reaction}
 use Rattle.mka_station.specs.Lives.{peers_of}
@@ -42,17 +43,19 @@ abbrev pub drawn_in : List Fact → Drawn
 drawn_in facts = record { mi = drawn_mi facts; sak = sak_in facts }
 
 -- by what a supply gives next, from its place 0 on
-abbrev pub drawn_from : ℕ → (ℕ → Option (List ℕ)) → Drawn
+abbrev pub drawn_from : Suite → (ℕ → Option (List ℕ)) → Drawn
 drawn_from suite nth = record { mi = option_map mi_of_draw (nth 0); sak = sak_of suite nth }
 
 -- ---- a station's reaction as facts
 
 -- one change of its keys
 abbrev pub change_fact : ℕ → Change → Fact
-change_fact s (changes.Dropped k) = facts.Dropped s k.id k.an
-change_fact s (changes.Retired k) = facts.Retired s k.id k.an
-change_fact s (changes.Began k cause) = facts.Began s k.id k.an k.epoch cause
-change_fact s (changes.Installed k) = facts.Installed s k.id k.an k.epoch k.sak
+change_fact s (changes.Dropped h) = facts.Dropped s h.key.id h.key.an
+change_fact s (changes.Retired h) = facts.Retired s h.key.id h.key.an
+change_fact s (changes.Began h cause) =
+    facts.Began s h.key.id h.key.an h.key.epoch cause
+change_fact s (changes.Installed h) =
+    facts.Installed s h.key.id h.key.an h.key.epoch h.key.sak
 change_fact s (changes.Untaken id why) = facts.Untaken s id why
 
 -- what became of a frame, the server, the keys, and the frame that was sent; the numbers of the
@@ -76,10 +79,10 @@ tick_facts settings s r next sak l =
 -- heard.
 abbrev pub reached_facts : Settings → ℕ → Run → ℕ → List ℕ → Life → List Fact
 reached_facts settings s r number octets l =
-    cond (is_sec octets)
-    (facts.Arrived number s
-    (answer l.member.setup.sci settings.window (receiving s r) octets) ∷ [])
-    (reaction_facts s number 0 (frame_turn l.member octets l.past).reaction)
+    if is_sec octets
+    then facts.Arrived number s
+        (answer l.member.setup.sci settings.window (receiving s r) octets) ∷ []
+    else reaction_facts s number 0 (frame_turn l.member octets l.past).reaction
 
 -- a new life, and what the end of the one before shows
 abbrev pub restart_facts : ℕ → Mi → Life → List Fact
@@ -93,7 +96,7 @@ last_number = 2 ^ 32 - 1
 abbrev pub lack : Settings → ℕ → Run → Option Key → Lack
 lack settings s r None = NoKey
 lack settings s r (Some k) =
-    cond (nat_lt last_number (next settings s k.epoch r)) (Exhausted k.epoch) NoKey
+    if nat_lt last_number (next settings s k.epoch r) then Exhausted k.epoch else NoKey
 
 -- a claim that got a number, under the key that transmits; without one it can get none
 abbrev pub number_fact : ℕ → ℕ → Option Key → Fact
@@ -103,7 +106,7 @@ number_fact s pn (Some k) = facts.Claimed s k.an k.epoch pn
 -- a claim of a packet number, 0 where it got none
 abbrev pub claim_fact : Settings → ℕ → Run → ℕ → Option Key → Fact
 claim_fact settings s r pn k =
-    cond (pn == 0) (facts.Unclaimed s (lack settings s r k)) (number_fact s pn k)
+    if pn == 0 then facts.Unclaimed s (lack settings s r k) else number_fact s pn k
 
 -- the emission of a claim's frame
 abbrev pub emit_facts : List UserFrame → Run → Waiting → Option (List Fact)

@@ -2,6 +2,7 @@
 use Rattle.std.specs.Prelude.{◌≡◌, ℕ, ◌+◌, ◌==◌, ◌&&◌, Bool, List, [], ◌∷◌, length, Option, Some, None}
 use Rattle.std.specs.List.{filter, find}
 use Rattle.lan_base.specs.declared.address.Mi.{Mi}
+use Rattle.lan_base.specs.declared.association_number.AssociationNumber.{AssociationNumber}
 use Rattle.lan_base.specs.declared.key_id.KeyId.{KeyId}
 use Rattle.aes_block.specs.declared.secret.Secret.{Secret}
 use Rattle.lan_core.specs.declared.fact.Fact.{Fact}
@@ -78,7 +79,7 @@ births r = collect born r
 pub record Install : Type 0 where
   pub station : ℕ
   pub id : KeyId
-  pub an : ℕ
+  pub an : AssociationNumber
   pub epoch : ℕ
   pub sak : Secret
 
@@ -103,7 +104,7 @@ install_at s epoch r = find (λ i. (i.station == s) && (i.epoch == epoch)) (inst
 -- a packet number that was claimed
 pub record Claim : Type 0 where
   pub station : ℕ
-  pub an : ℕ
+  pub an : AssociationNumber
   pub epoch : ℕ
   pub pn : ℕ
 

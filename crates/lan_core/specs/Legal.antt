@@ -1,9 +1,9 @@
 -- Legal runs of a group.
-use Rattle.std.specs.Prelude.{◌≡◌, ◌≤◌, ℕ, ◌-◌, ◌==◌, Bool, true, false, cond, not, ◌&&◌}
+use Rattle.std.specs.Prelude.{◌≡◌, ◌≤◌, ℕ, ◌-◌, ◌==◌, Bool, true, false, if◌then◌else◌, not, ◌&&◌}
 use Rattle.std.specs.Prelude.{List, [], ◌∷◌, length, Option, Some, None}
 use Rattle.std.specs.List.{list_any, filter, range_with_len}
 use Rattle.lan_base.specs.declared.frame.UserFrame.{UserFrame}
-use Rattle.sak_exchange.specs.Histories.{Key}
+use Rattle.sak_exchange.specs.declared.held_key.Key.{Key}
 use Rattle.mka_station.specs.Announcing.{same_key}
 use Rattle.lan_core.specs.declared.fact.Fact.{Fact}
 use Rattle.lan_core.specs.declared.fact.Fact.TheVariants as facts
@@ -42,7 +42,7 @@ abbrev pub none_ahead : Ahead
 none_ahead s = None
 
 abbrev pub with_ahead : Happening → Ahead → Ahead
-with_ahead x ahead s = cond (is_event_of s x.event) (Some x) (ahead s)
+with_ahead x ahead s = if is_event_of s x.event then Some x else ahead s
 
 abbrev pub is_drop_of : ℕ → Key → Fact → Bool
 is_drop_of s k (facts.Dropped station id an) = (station == s) && same_key id k.id

@@ -13,4 +13,5 @@ pub mod Keys
 pub mod Stops
 pub mod Unstopped
 pub mod Standing
+pub mod Answers
 pub mod inside

@@ -1,6 +1,6 @@
 -- The life that a station is in after a run, and its history. Claims and emissions are no part of
 -- it.
-use Rattle.std.specs.Prelude.{ℕ, ◌==◌, cond, List, [], ◌∷◌, length, slice_get, replicate}
+use Rattle.std.specs.Prelude.{ℕ, ◌==◌, if◌then◌else◌, List, [], ◌∷◌, length, slice_get, replicate}
 use Rattle.std.specs.Prelude.{Option, Some, None, option_map, option_and_then, unwrap_or}
 use Rattle.lan_base.specs.declared.address.Mi.{Mi}
 use Rattle.lan_base.specs.declared.address.Sci.{Sci}
@@ -12,7 +12,8 @@ use Rattle.gcm_frames.specs.Tags.{is_sec}
 use Rattle.rx_slots.specs.Histories.{Receiving, installed, removed, heard}
 use Rattle.rx_slots.specs.Numbers.{accepted, lowest}
 use Rattle.sak_exchange.specs.declared.due.Seen.{Seen}
-use Rattle.sak_exchange.specs.Histories.{Key, Keying}
+use Rattle.sak_exchange.specs.declared.held_key.Key.{Key}
+use Rattle.sak_exchange.specs.Histories.{Keying}
 use Rattle.sak_exchange.specs.Held.{latest, old, transmitting}
 use Rattle.mka_station.specs.Lives.{Setup, Member, Entry, keys_of}
 use Rattle.mka_station.specs.Tick.{Turn, tick_turn}
@@ -52,20 +53,20 @@ sak_in facts = unwrap_or (drawn_sak facts) no_sak
 -- what a fact does to the receive slots of a station
 abbrev pub slot_change : ℕ → Fact → Option Receiving
 slot_change s (facts.Installed station id an epoch sak) =
-    cond (station == s) (Some (installed an sak)) None
-slot_change s (facts.Dropped station id an) = cond (station == s) (Some (removed an)) None
-slot_change s (facts.Retired station id an) = cond (station == s) (Some (removed an)) None
+    if station == s then Some (installed an sak) else None
+slot_change s (facts.Dropped station id an) = if station == s then Some (removed an) else None
+slot_change s (facts.Retired station id an) = if station == s then Some (removed an) else None
 slot_change s _ = None
 
 -- a protected frame is heard by the receive slots, any other by the key agreement
 abbrev pub heard_data : List ℕ → List Receiving → List Receiving
-heard_data octets h = cond (is_sec octets) (heard octets ∷ h) h
+heard_data octets h = if is_sec octets then heard octets ∷ h else h
 
 -- the octets that an event brings to a station
 abbrev pub reaches : ℕ → Run → Event → Option (List ℕ)
 reaches s r (events.Deliver frame station) =
-    cond (station == s) (option_map (λ f. f.octets) (frame_at r frame)) None
-reaches s r (events.Inject station octets) = cond (station == s) (Some octets) None
+    if station == s then option_map (λ f. f.octets) (frame_at r frame) else None
+reaches s r (events.Inject station octets) = if station == s then Some octets else None
 reaches s r _ = None
 
 abbrev pub with_data : Option (List ℕ) → List Receiving → List Receiving
@@ -140,7 +141,8 @@ lived l turn = record l { past = turn.past }
 
 -- a life goes on with octets that reach it, where they are no protected frame
 abbrev pub lived_hearing : Life → List ℕ → Life
-lived_hearing l octets = cond (is_sec octets) l (lived l (frame_turn l.member octets l.past))
+lived_hearing l octets =
+    if is_sec octets then l else lived l (frame_turn l.member octets l.past)
 
 -- a life goes on with a tick
 abbrev pub lived_ticking : Settings → ℕ → Run → ℕ → Secret → Life → Life
@@ -153,14 +155,15 @@ lived_reached l (Some octets) = option_map (λ l. lived_hearing l octets) l
 -- the life of station s after one more event
 abbrev pub life_after : Settings → ℕ → Run → List Fact → Event → Option Life → Option Life
 life_after settings s r facts (events.Start name sci priority) l =
-    cond (length (stations r) == s)
-    (begun settings s r facts (record { name = name; sci = sci; priority = priority })) l
+    if length (stations r) == s
+    then begun settings s r facts (record { name = name; sci = sci; priority = priority }) else l
 life_after settings s r facts (events.Tick station next) l =
-    cond (station == s) (option_map (lived_ticking settings s r next (sak_in facts)) l) l
+    if station == s then option_map (lived_ticking settings s r next (sak_in facts)) l else l
 life_after settings s r facts (events.Deliver frame station) l =
     lived_reached l (reaches s r (events.Deliver frame station))
 life_after settings s r facts (events.Restart station) l =
-    cond (station == s) (option_and_then (begun settings s r facts) (slice_get (stations r) s)) l
+    if station == s then option_and_then (begun settings s r facts) (slice_get (stations r) s)
+    else l
 life_after settings s r facts (events.Inject station octets) l =
     lived_reached l (reaches s r (events.Inject station octets))
 life_after settings s r facts _ l = l

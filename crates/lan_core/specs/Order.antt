@@ -1,13 +1,15 @@
 -- Which event may come after a run: what it names is there, its packet number is in order, and the
 -- run stays within the limits of the profile.
-use Rattle.std.specs.Prelude.{◌≡◌, ◌≢◌, ◌<◌, ◌≤◌, ◌⊎◌, ℕ, ◌+◌, ◌*◌, ◌==◌, Bool, true, false, cond}
+use Rattle.std.specs.Prelude.{◌≡◌, ◌≢◌, ◌<◌, ◌≤◌, ◌⊎◌, ℕ, ◌+◌, ◌*◌, ◌==◌, Bool, true, false, if◌then◌else◌}
 use Rattle.std.specs.Prelude.{List, [], ◌∷◌, map, sum, length, All, Option, Some, None, is_some}
 use Rattle.lan_base.specs.declared.address.Sci.{Sci}
 use Rattle.lan_base.specs.declared.frame.UserFrame.{UserFrame}
 use Rattle.lan_base.specs.declared.name.Name.{Name}
+use Rattle.lan_base.specs.Ranges.{most_frame_octets, most_frames, most_ticks}
+use Rattle.lan_base.specs.Suites.{key_bits}
 use Rattle.aes_block.specs.declared.secret.Secret.{Secret}
 use Rattle.aes_block.specs.Secrets.{secret_octets}
-use Rattle.sak_exchange.specs.Histories.{Key}
+use Rattle.sak_exchange.specs.declared.held_key.Key.{Key}
 use Rattle.lan_core.specs.declared.event.Event.{Event}
 use Rattle.lan_core.specs.declared.event.Event.TheVariants as events
 use Rattle.lan_core.specs.declared.settings.Settings.{Settings}
@@ -23,21 +25,13 @@ use Rattle.lan_core.specs.Types.{IsTyped, IsMi, IsSecret, IsUserFrame, IfDrawn}
 abbrev pub most_stations : ℕ
 most_stations = 16
 
-abbrev pub most_ticks : ℕ
-most_ticks = 1000000
-
-abbrev pub most_frames : ℕ
-most_frames = 200000
-
+-- octets on the air
 abbrev pub most_octets : ℕ
 most_octets = 67108864
 
+-- at one station, over all its lives
 abbrev pub most_installs : ℕ
 most_installs = 4096
-
--- how many octets of foreign frames reach a station at once, at most
-abbrev pub most_injected : ℕ
-most_injected = 65536
 
 abbrev pub ticks_of : Event → ℕ
 ticks_of (events.Tick s next) = 1
@@ -69,7 +63,7 @@ is_event_of s _ = false
 -- the run up to the station's last event that is no claim
 abbrev pub settled : ℕ → Run → Run
 settled s [] = []
-settled s (x ∷ r) = cond (is_event_of s x.event) (x ∷ r) (settled s r)
+settled s (x ∷ r) = if is_event_of s x.event then x ∷ r else settled s r
 
 -- The number that a tick shows under the key that transmits before it is not below the next one.
 -- Where the tick ends that key's transmission, claims of the key that come during the tick stand
@@ -94,10 +88,10 @@ IsSendable (Some frame) = IsUserFrame frame
 
 -- ---- draws
 
--- a drawn key has as many bits as the suite says
+-- a drawn key has as many bits as those of the suite
 pub record IsOfSuite (settings : Settings) (sak : Secret) : Type 0 where
   pub secret : IsSecret sak
-  pub bits : 8 * length (secret_octets sak) ≡ settings.suite
+  pub bits : 8 * length (secret_octets sak) ≡ key_bits settings.suite
 
 -- ---- events
 
@@ -122,7 +116,7 @@ IsAllowed settings users r x (events.Claim s user pn) =
     Exists s r × ((pn ≡ 0) ⊎ (IsClaimable settings s r pn (transmitting_at settings s r)
     × IsSendable (user_at users user)))
 IsAllowed settings users r x events.Emit = is_some (waiting settings r) ≡ true
-IsAllowed settings users r x (events.Inject s octets) = Exists s r × (length octets ≤ most_injected)
+IsAllowed settings users r x (events.Inject s octets) = Exists s r × (length octets ≤ most_frame_octets)
 
 -- an event with its facts is in order after a run
 abbrev pub IsInOrder : Settings → List UserFrame → Run → Happening → Type 0

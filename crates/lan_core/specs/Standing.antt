@@ -1,5 +1,5 @@
 -- What a group holds, and for which runs it stands: the only place that knows of tables and counts.
-use Rattle.std.specs.Prelude.{◌≡◌, ◌≤◌, ℕ, ◌+◌, ◌-◌, ◌==◌, cond, List, [], ◌∷◌, ◌++◌, map, drop, length, slice_get}
+use Rattle.std.specs.Prelude.{◌≡◌, ◌≤◌, ℕ, ◌+◌, ◌-◌, ◌==◌, if◌then◌else◌, List, [], ◌∷◌, ◌++◌, map, drop, length, slice_get}
 use Rattle.std.specs.Prelude.{Option, Some, None, option_map}
 use Rattle.std.specs.Map.{lookup}
 use Rattle.std.specs.BTreeMap.{is_at}
@@ -8,6 +8,7 @@ use Rattle.std.specs.Cmp.Lexicographic.{slice_cmp}
 use Rattle.lan_base.specs.declared.address.Mi.{Mi}
 use Rattle.lan_base.specs.declared.name.Name.{Name}
 use Rattle.lan_base.specs.declared.frame.UserFrame.{UserFrame}
+use Rattle.lan_base.specs.declared.suite.Suite.{Suite}
 use Rattle.lan_base.specs.Identifiers.{order}
 use Rattle.aes_block.specs.declared.secret.Secret.{Secret}
 use Rattle.aes_block.specs.declared.secret.Secret.TheVariants.{S128, S256}
@@ -19,7 +20,7 @@ use Rattle.rx_slots.specs.Standing.{StandsFor as SlotsStandFor}
 use Rattle.mka_station.specs.Lives.{peers_of, keys_of}
 use Rattle.mka_station.specs.Standing.{State as Station, StandsFor as StationStandsFor}
 use Rattle.lan_core.specs.declared.settings.Settings.{Settings}
-use Rattle.lan_core.specs.declared.stop.Stop.{Stop}
+use Rattle.lan_core.specs.declared.stop.StepError.{StepError}
 use Rattle.lan_core.specs.declared.waiting.Sealed.{Sealed}
 use Rattle.lan_core.specs.Run.{Run, Profile, stations}
 use Rattle.lan_core.specs.Ledgers.{Frame, air, emitted, installs_at, AreNumbered}
@@ -77,7 +78,7 @@ abbrev pub number_of_sak : Numbers → Secret → Option ℕ
 number_of_sak n (S128 octets) = lookup (is_at (slice_cmp nat_cmp octets)) n.narrow
 number_of_sak n (S256 octets) = lookup (is_at (slice_cmp nat_cmp octets)) n.wide
 
-pub record AreDrawn (suite : ℕ) (r : Run) (n : Numbers) : Type 0 where
+pub record AreDrawn (suite : Suite) (r : Run) (n : Numbers) : Type 0 where
   pub count : n.count ≡ draws_in suite r
   pub mis : (mi : Mi) → number_of_mi n mi ≡ mi_number suite r mi
   pub saks : (sak : Secret) → number_of_sak n sak ≡ sak_number suite r sak
@@ -91,7 +92,7 @@ in_order (frame ∷ earlier) = in_order earlier ++ frame.octets ∷ []
 
 -- the frame of a number, from 1
 abbrev pub octets_at : List (List ℕ) → ℕ → Option (List ℕ)
-octets_at frames number = cond (number == 0) None (slice_get frames (number - 1))
+octets_at frames number = if number == 0 then None else slice_get frames (number - 1)
 
 -- a claim's frame, and whose it is
 abbrev pub sealed_of : List UserFrame → Run → Waiting → Option Sealed
@@ -101,10 +102,10 @@ sealed_of users r w =
 
 -- ---- the group
 
--- what contracts see of a group
+-- what contracts see of a group; why it was stopped, if it was
 pub record State : Type 0 where
   pub settings : Settings
-  pub stopped : Option Stop
+  pub stopped : Option StepError
   pub names : List Name
   pub air : List (List ℕ)
   pub seats : List Seat

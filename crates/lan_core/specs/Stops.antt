@@ -1,18 +1,21 @@
 -- When an event may come by its caller's conditions, and the first stop that it meets: draws that
 -- are spent, a limit in the order of the table, a repeated draw, foreign octets that are forged
 -- (this profile's own rules).
-use Rattle.std.specs.Prelude.{◌≡◌, ◌<◌, ◌≤◌, ◌⊎◌, ℕ, ◌+◌, ◌-◌, ◌==◌, Bool, true, false, cond, nat_eq, nat_lt}
+use Rattle.std.specs.Prelude.{◌≡◌, ◌<◌, ◌≤◌, ◌⊎◌, ℕ, ◌+◌, ◌-◌, ◌==◌, Bool, true, false, if◌then◌else◌, nat_eq, nat_lt}
 use Rattle.std.specs.Prelude.{List, [], ◌∷◌, map, sum, length, Option, Some, None, is_some, is_none, option_map, option_and_then}
 use Rattle.std.specs.Option.{option_or}
 use Rattle.std.specs.List.{list_any}
 use lib.Pointwise.{pointwise}
 use Rattle.lan_base.specs.declared.address.Mi.{Mi}
 use Rattle.lan_base.specs.declared.frame.UserFrame.{UserFrame}
+use Rattle.lan_base.specs.declared.suite.Suite.{Suite}
 use Rattle.lan_base.specs.Identifiers.{same_mi}
+use Rattle.lan_base.specs.Ranges.{most_frame_octets, most_frames, most_ticks}
+use Rattle.lan_base.specs.Suites.{sak_draws}
 use Rattle.aes_block.specs.declared.secret.Secret.{Secret}
 use Rattle.aes_block.specs.declared.secret.Secret.TheVariants.{S128, S256}
-use Rattle.sak_exchange.specs.Histories.{Key}
-use Rattle.mka_station.specs.Drawing.{draws_for, draws_at}
+use Rattle.sak_exchange.specs.declared.held_key.Key.{Key}
+use Rattle.mka_station.specs.Drawing.{draws_at}
 use Rattle.lan_core.specs.declared.event.Event.{Event}
 use Rattle.lan_core.specs.declared.event.Event.TheVariants as events
 use Rattle.lan_core.specs.declared.fact.Fact.{Fact}
@@ -26,7 +29,7 @@ use Rattle.lan_core.specs.Ledgers.{air, frame_at, installs, installs_at}
 use Rattle.lan_core.specs.Lives.{Life, life, seen_at, drawn_mi, drawn_sak, transmitting_at}
 use Rattle.lan_core.specs.Claims.{next, waiting, user_at}
 use Rattle.lan_core.specs.Expected.{expected, drawn_from, last_number}
-use Rattle.lan_core.specs.Order.{Exists, IsNew, IsSendable, ticks, most_stations, most_ticks, most_frames, most_octets, most_installs, most_injected}
+use Rattle.lan_core.specs.Order.{Exists, IsNew, IsSendable, ticks, most_stations, most_octets, most_installs}
 use Rattle.lan_core.specs.Fresh.{is_forged}
 
 -- ---- when an event may come
@@ -59,7 +62,7 @@ MayCome settings users r given (events.Claim s user pn) =
     (transmitting_at settings s r)
 MayCome settings users r given events.Emit = is_some (waiting settings r) ≡ true
 MayCome settings users r given (events.Inject s octets) =
-    Exists s r × (length octets ≤ most_injected)
+    Exists s r × (length octets ≤ most_frame_octets)
 
 -- ---- draws
 
@@ -77,7 +80,7 @@ draws_needed settings r _ = 0
 
 -- the last of so many draws is not there
 abbrev pub is_spent : ℕ → (ℕ → Option (List ℕ)) → Bool
-is_spent count nth = cond (count == 0) false (is_none (nth (count - 1)))
+is_spent count nth = if count == 0 then false else is_none (nth (count - 1))
 
 -- the SAK that a happening drew
 abbrev pub sak_of_tick : List Fact → Event → Option Secret
@@ -86,13 +89,13 @@ sak_of_tick facts _ = None
 
 -- how many draws a happening took: one for a member identifier, and as many as a key takes for a
 -- key
-abbrev pub draws_by : ℕ → Happening → ℕ
+abbrev pub draws_by : Suite → Happening → ℕ
 draws_by suite x =
-    cond (is_some (drawn_mi x.facts)) 1 0
-    + cond (is_some (sak_of_tick x.facts x.event)) (draws_for suite) 0
+    (if is_some (drawn_mi x.facts) then 1 else 0)
+    + (if is_some (sak_of_tick x.facts x.event) then sak_draws suite else 0)
 
 -- how many draws a run took
-unfoldable pub draws_in : ℕ → Run → ℕ
+unfoldable pub draws_in : Suite → Run → ℕ
 draws_in suite [] = 0
 draws_in suite (x ∷ r) = draws_by suite x + draws_in suite r
 
@@ -106,21 +109,21 @@ is_drawn same a None = false
 is_drawn same a (Some b) = same a b
 
 -- the number of the draw that gave a member identifier, from 1
-unfoldable pub mi_number : ℕ → Run → Mi → Option ℕ
+unfoldable pub mi_number : Suite → Run → Mi → Option ℕ
 mi_number suite [] mi = None
 mi_number suite (x ∷ r) mi =
-    cond (is_drawn same_mi mi (drawn_mi x.facts)) (Some (draws_in suite r + 1))
-    (mi_number suite r mi)
+    if is_drawn same_mi mi (drawn_mi x.facts) then Some (draws_in suite r + 1)
+    else mi_number suite r mi
 
 -- the number of the first draw of those that gave a SAK
-unfoldable pub sak_number : ℕ → Run → Secret → Option ℕ
+unfoldable pub sak_number : Suite → Run → Secret → Option ℕ
 sak_number suite [] sak = None
 sak_number suite (x ∷ r) sak =
-    cond (is_drawn same_secret sak (sak_of_tick x.facts x.event)) (Some (draws_in suite r + 1))
-    (sak_number suite r sak)
+    if is_drawn same_secret sak (sak_of_tick x.facts x.event) then Some (draws_in suite r + 1)
+    else sak_number suite r sak
 
 -- the draw that gave before what a happening drew
-abbrev pub drawn_before : ℕ → Run → Happening → Option ℕ
+abbrev pub drawn_before : Suite → Run → Happening → Option ℕ
 drawn_before suite r x =
     option_or (option_and_then (mi_number suite r) (drawn_mi x.facts))
     (option_and_then (sak_number suite r) (sak_of_tick x.facts x.event))
@@ -135,21 +138,22 @@ is_over_installs r =
 -- the first limit in the order of the table that a run passes
 abbrev pub passed : Run → Option Which
 passed r =
-    cond (nat_lt most_frames (length (air r))) (Some Frames)
-    (cond (nat_lt most_octets (sum (map (λ frame. length frame.octets) (air r)))) (Some Octets)
-    (cond (nat_lt most_ticks (ticks r)) (Some Ticks)
-    (cond (is_over_installs r) (Some Keys)
-    (cond (nat_lt most_stations (length (stations r))) (Some Stations) None))))
+    if nat_lt most_frames (length (air r)) then Some Frames
+    else if nat_lt most_octets (sum (map (λ frame. length frame.octets) (air r))) then Some Octets
+    else if nat_lt most_ticks (ticks r) then Some Ticks
+    else if is_over_installs r then Some Keys
+    else if nat_lt most_stations (length (stations r)) then Some Stations
+    else None
 
 -- ---- the first stop
 
-abbrev pub stop_of_draw : ℕ → Run → Happening → Option Stop
+abbrev pub stop_of_draw : Suite → Run → Happening → Option Stop
 stop_of_draw suite r x =
     option_map (λ first. RepeatedDraw first (draws_in suite r + 1)) (drawn_before suite r x)
 
 abbrev pub stop_of_forgery : Settings → Run → Event → Option Stop
 stop_of_forgery settings r (events.Inject s octets) =
-    cond (is_forged settings r octets) (Some (Forged s)) None
+    if is_forged settings r octets then Some (Forged s) else None
 stop_of_forgery settings r _ = None
 
 -- the first stop of an event that would show these facts
@@ -163,6 +167,6 @@ stop_at settings r event facts =
 unfoldable pub first_stop : Settings → List UserFrame → Run → Event → (ℕ → Option (List ℕ))
     → Option Stop
 first_stop settings users r event nth =
-    cond (is_spent (draws_needed settings r event) nth) (Some DrawsSpent)
-    (option_and_then (stop_at settings r event)
-    (expected settings users r event (drawn_from settings.suite nth)))
+    if is_spent (draws_needed settings r event) nth then Some DrawsSpent
+    else option_and_then (stop_at settings r event)
+        (expected settings users r event (drawn_from settings.suite nth))

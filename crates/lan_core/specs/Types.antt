@@ -1,5 +1,5 @@
 -- Numbers inside the types of their fields, and octets of their lengths.
-use Rattle.std.specs.Prelude.{◌≡◌, ◌<◌, ◌⊎◌, ℕ, ◌^◌, List, length, All, Option, Some, None}
+use Rattle.std.specs.Prelude.{◌≡◌, ◌<◌, ℕ, ◌^◌, List, length, All, Option, Some, None}
 use Rattle.lan_base.specs.declared.address.Mi.{Mi}
 use Rattle.lan_base.specs.declared.frame.UserFrame.{UserFrame}
 use Rattle.lan_base.specs.Name.{IsName}
@@ -40,7 +40,6 @@ pub record IsSetting (settings : Settings) : Type 0 where
   pub name_octets : AreOctets settings.ckn
   pub window : settings.window < 2 ^ 32
   pub rekey : settings.rekey < 2 ^ 32
-  pub suite : (settings.suite ≡ 128) ⊎ (settings.suite ≡ 256)
 
 -- the fields of an event
 abbrev pub IsTyped : Event → Type 0

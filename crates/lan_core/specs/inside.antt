@@ -1,7 +1,9 @@
+-- Definitions that serve private functions alone.
 pub mod Spellings
-pub mod Keeping
-pub mod Steps
+pub mod Drawing
 pub mod Seats
+pub mod Shown
 pub mod Faults
 pub mod Judging
+pub mod Limits
 pub mod Following

@@ -1,20 +1,16 @@
 //! The air: every frame that was ever put there.
 
-ghost use Rattle.std.specs.Prelude.{◌≡◌, ◌≤◌, ◌+◌, ◌++◌, ◌∷◌, [], map, sum, length, option_to_list, IfOk, IfErr, OnOk, OnErr, IfSome};
+ghost use Rattle.std.specs.Prelude.{◌≡◌, ◌≤◌, ◌+◌, ◌++◌, ◌∷◌, [], map, sum, length, option_to_list, IfOk, OnOk, OnErr, IfSome};
 ghost use Rattle.std.specs.Option.{option_copied};
 ghost use Rattle.std.specs.List.{list_any};
-ghost use Rattle.lan_core.specs.declared.stop.Stop.TheVariants.{Memory};
+ghost use Rattle.lan_base.specs.Ranges.{most_frame_octets};
 ghost use Rattle.lan_core.specs.Standing.{octets_at};
 ghost use Rattle.lan_core.specs.inside.Spellings.{repeats_octets};
 
 use crate::spellings::{Spellings, spelling};
-use crate::stop::Stop;
-use lan_base::Octets;
+use lan_base::{FRAME_MAX, Octets};
 use std::alloc::{AllocError, Global};
 use std::marker::Model;
-
-/// The most octets of a frame that the air takes. No station sends a longer one.
-const LONGEST: usize = 65536;
 
 /// Every frame that was ever put on the air, oldest first, and an index of what they spell.
 /// Contracts see the list of the frames' octets.
@@ -69,7 +65,7 @@ impl Air {
     /// The frame of a number, from 1.
     pub fn frame(&self, number: u32) -> Option<&[u8]>
         ensures frame { option_copied result ≡ octets_at self.now number }
-        ensures short { IfSome result (λ o. length o.now ≤ 65536) }
+        ensures short { IfSome result (λ o. length o.now ≤ most_frame_octets) }
     {
         let place = number.checked_sub(1)?;
         let frame = self.frames.get(place as usize)?;
@@ -77,15 +73,14 @@ impl Air {
     }
 
     /// The number of the frame that is next put on the air.
-    pub fn next_number(&self) -> Result<u32, Stop>
-        ensures number { IfOk result (λ number. number ≡ length self.now + 1) }
-        ensures memory { IfErr result (λ stop. stop ≡ Memory) }
+    pub fn next_number(&self) -> Result<u32, AllocError>
+        ensures { IfOk result (λ number. number ≡ length self.now + 1) }
     {
         let frames = self.frames.len();
         if frames < u32::MAX as usize {
             Ok(frames as u32 + 1)
         } else {
-            Err(Stop::Memory)
+            Err(AllocError)
         }
     }
 
@@ -115,11 +110,10 @@ impl Air {
     }
 
     /// Puts a copy of a frame on the air, if there is one. An error leaves the air as it was.
-    pub fn put(&mut self, sent: Option<&Octets>) -> Result<(), Stop>
+    pub fn put(&mut self, sent: Option<&Octets>) -> Result<(), AllocError>
         ensures ok { OnOk result (self.new ≡ self.old
             ++ option_to_list (option_copied sent.entry)) }
         ensures err { OnErr result (self.new ≡ self.old) }
-        ensures memory { IfErr result (λ stop. stop ≡ Memory) }
     {
         if let Some(octets) = sent {
             let octets = octets.copied(self.alloc)?;
@@ -130,10 +124,10 @@ impl Air {
 
     /// How many octets there will be with a frame of so many more, if the air takes it.
     fn octets_with(&self, more: usize) -> Result<u64, AllocError>
-        ensures short { OnOk result (more ≤ 65536) }
+        ensures short { OnOk result (more ≤ most_frame_octets) }
         ensures total { IfOk result (λ total. total ≡ sum (map length self.now) + more) }
     {
-        if more > LONGEST {
+        if more > FRAME_MAX {
             return Err(AllocError);
         }
         self.octets.checked_add(more as u64).ok_or(AllocError)

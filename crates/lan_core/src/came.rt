@@ -3,7 +3,7 @@
 ghost use Rattle.std.specs.Prelude.{◌≡◌};
 ghost use Rattle.std.specs.Option.{option_copied};
 ghost use Rattle.lan_core.specs.Lives.{drawn_sak};
-ghost use Rattle.lan_core.specs.inside.Steps.{sent_in};
+ghost use Rattle.lan_core.specs.inside.Shown.{sent_in};
 
 use crate::fact::{Fact, Facts};
 use aes_block::Secret;

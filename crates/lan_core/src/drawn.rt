@@ -2,8 +2,8 @@
 
 ghost use Rattle.std.specs.Prelude.{◌≡◌, ◌+◌, [], IfOk, OnOk};
 ghost use Rattle.lan_core.specs.Standing.{number_of_mi, number_of_sak};
-ghost use Rattle.lan_core.specs.inside.Steps.{MiIsNoted, SakIsNoted};
-ghost use Rattle.lan_core.specs.inside.Keeping.{SakIsKept};
+ghost use Rattle.lan_core.specs.inside.Drawing.{MiIsNoted, SakIsNoted};
+ghost use Rattle.lan_core.specs.inside.Drawing.{SakIsKept};
 
 use aes_block::Secret;
 use lan_base::Mi;

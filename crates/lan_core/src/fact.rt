@@ -1,7 +1,7 @@
 //! What an event shows.
 
 use aes_block::Secret;
-use lan_base::{KeyId, Mi, Octets};
+use lan_base::{AssociationNumber, KeyId, Mi, Octets};
 use mka_station::Verdict;
 use rx_slots::Arrival;
 use sak_exchange::{Cause, Why};
@@ -40,19 +40,19 @@ pub enum Fact {
     Dropped {
         station: u8,
         id: KeyId,
-        an: u8,
+        an: AssociationNumber,
     },
     /// The old key is held no more, the retire time after the latest one began.
     Retired {
         station: u8,
         id: KeyId,
-        an: u8,
+        an: AssociationNumber,
     },
     /// The latest key begins to transmit.
     Began {
         station: u8,
         id: KeyId,
-        an: u8,
+        an: AssociationNumber,
         epoch: u32,
         cause: Cause,
     },
@@ -60,7 +60,7 @@ pub enum Fact {
     Installed {
         station: u8,
         id: KeyId,
-        an: u8,
+        an: AssociationNumber,
         epoch: u32,
         sak: Secret,
     },
@@ -86,7 +86,7 @@ pub enum Fact {
     /// The station claimed a packet number under a key.
     Claimed {
         station: u8,
-        an: u8,
+        an: AssociationNumber,
         epoch: u32,
         pn: u32,
     },

@@ -4,7 +4,7 @@ ghost use Rattle.std.specs.Prelude.{◌≡◌, ◌+◌, ◌<◌, ◌^◌, ℕ, L
 ghost use Rattle.lan_base.specs.declared.address.Sci.{Sci};
 ghost use Rattle.rx_slots.specs.Histories.{Receiving};
 ghost use Rattle.rx_slots.specs.Standing.{StandsFor as SlotsStandFor};
-ghost use Rattle.lan_core.specs.inside.Following.{HasSlot, HaveSlots, IfHeld, count_installed, followed, lowest_held, one_installed, slot_of};
+ghost use Rattle.lan_core.specs.inside.Following.{count_installed, followed, lowest_held, one_installed, slot_of};
 ghost use Rattle.lan_core.specs.Ledgers.{with_one};
 
 use rx_slots::RxSlots;
@@ -12,7 +12,6 @@ use sak_exchange::{Change, HeldKey};
 
 /// The receive slots follow the changes of a station's keys.
 pub fn follow(slots: &mut RxSlots, changes: &[Change])
-    requires { HaveSlots changes.now }
     ensures { (own : Sci) (window : ℕ) (h : List Receiving) → SlotsStandFor own window slots.old h →
         SlotsStandFor own window slots.new (followed changes.now h) }
 {
@@ -23,14 +22,13 @@ pub fn follow(slots: &mut RxSlots, changes: &[Change])
 
 /// They follow one change.
 fn follow_one(slots: &mut RxSlots, change: &Change)
-    requires { HasSlot change.now }
     ensures { (own : Sci) (window : ℕ) (h : List Receiving) → SlotsStandFor own window slots.old h →
         SlotsStandFor own window slots.new (with_one (slot_of change.now) h) }
 {
     match change {
-        Change::Dropped(key) => slots.remove(key.an),
-        Change::Retired(key) => slots.remove(key.an),
-        Change::Installed(key) => slots.install(key.an, &key.sak),
+        Change::Dropped(held) => slots.remove(held.key.an),
+        Change::Retired(held) => slots.remove(held.key.an),
+        Change::Installed(held) => slots.install(held.key.an, &held.key.sak),
         Change::Began { .. } | Change::Untaken { .. } => {}
     }
 }
@@ -58,13 +56,12 @@ fn installs_one(change: &Change) -> u32
 }
 
 /// The lowest acceptable packet number under a held key, 1 where there is none.
-pub fn lowest_under(slots: &RxSlots, key: Option<HeldKey>) -> u32
-    requires { IfHeld key }
+pub fn lowest_under(slots: &RxSlots, held: Option<HeldKey>) -> u32
     ensures { (own : Sci) (window : ℕ) (h : List Receiving) → SlotsStandFor own window slots.now h →
-        result ≡ lowest_held own window h key }
+        result ≡ lowest_held own window h held }
 {
-    match key {
-        Some(key) => slots.lowest(key.an),
+    match held {
+        Some(held) => slots.lowest(held.key.an),
         None => 1,
     }
 }

@@ -1,14 +1,13 @@
 //! Whether foreign octets are forged.
 
-ghost use Rattle.std.specs.Prelude.{◌≡◌, ◌≢◌, false, is_some, length, ◌≤◌, IfOk};
-ghost use Rattle.mkpdu_codec.specs.declared.refusal.Refusal.{Refusal};
+ghost use Rattle.std.specs.Prelude.{◌≡◌, is_some, length, ◌≤◌, IfOk};
 ghost use Rattle.mka_station.specs.Lives.{Setup};
 ghost use Rattle.mka_station.specs.Hearing.{right};
 ghost use Rattle.lan_core.specs.inside.Judging.{is_of_group};
 
 use aes_cmac::cmac;
 use mka_kdf::Group;
-use mkpdu_codec::{Refusal, Spelled, law_reading_refuses, law_spelled_is_read, read};
+use mkpdu_codec::{ReadError, Spelled, law_reading_refuses, law_spelled_is_read, read};
 use std::alloc::{AllocError, Global};
 
 /// Whether a frame has the group's name and a right check value.
@@ -20,17 +19,8 @@ pub fn is_right(alloc: Global, group: &Group, octets: &[u8]) -> Result<bool, All
     law_reading_refuses();
     match read(alloc, octets) {
         Ok(spelled) => Ok(is_of_group(group, octets, &spelled)),
-        Err(refusal) => is_refused(refusal),
-    }
-}
-
-/// What is refused is not right, unless memory ran out.
-fn is_refused(refusal: Refusal) -> Result<bool, AllocError>
-    ensures { IfOk result (λ right. (right ≡ false) × (refusal ≢ Refusal.Memory)) }
-{
-    match refusal {
-        Refusal::Memory => Err(AllocError),
-        _ => Ok(false),
+        Err(ReadError::Refused(_)) => Ok(false),
+        Err(ReadError::Memory) => Err(AllocError),
     }
 }
 

@@ -4,13 +4,13 @@ mod control;
 mod stopping;
 mod traffic;
 
-ghost use Rattle.std.specs.Prelude.{◌≡◌, ◌+◌, ◌∷◌, ◌↔◌, ◌⊎◌, [], List, ℕ, Some, None, Err, length, option_map, IfOk, OnOk, OnErr, IfErr, IfSome};
+ghost use Rattle.std.specs.Prelude.{◌≡◌, ◌+◌, ◌∷◌, ◌↔◌, [], List, ℕ, Some, None, Err, option_map, IfOk, OnOk, OnErr, IfErr, IfSome};
 ghost use Rattle.std.specs.Option.{option_copied};
+ghost use Rattle.lan_base.specs.declared.association_number.AssociationNumber.{AssociationNumber};
 ghost use Rattle.lan_base.specs.declared.frame.UserFrame.{UserFrame};
 ghost use Rattle.mka_kdf.specs.declared.group.GroupFault.{GroupFault};
 ghost use Rattle.mka_kdf.specs.Kdf.{HasWrongLength};
 ghost use Rattle.lan_core.specs.declared.settings.Settings.{Settings};
-ghost use Rattle.lan_core.specs.declared.stop.Stop.{Stop};
 ghost use Rattle.lan_core.specs.Run.{Run, happened};
 ghost use Rattle.lan_core.specs.Ledgers.{frame_at};
 ghost use Rattle.lan_core.specs.Lives.{transmitting_at};
@@ -18,33 +18,33 @@ ghost use Rattle.lan_core.specs.Expected.{expected, drawn_from};
 ghost use Rattle.lan_core.specs.Keys.{held_at, place_of};
 ghost use Rattle.lan_core.specs.Stops.{MayCome, draws_needed, first_stop};
 ghost use Rattle.lan_core.specs.Standing.{StandsFor, octets_at};
-ghost use Rattle.lan_core.specs.inside.Steps.{Answers};
+ghost use Rattle.lan_core.specs.Answers.{Answers, IsWhy};
 
 use crate::air::Air;
 use crate::drawn::Drawn;
 use crate::event::Event;
 use crate::fact::Facts;
-use crate::members::Members;
+use crate::names::Names;
+use crate::seats::Seats;
 use crate::settings::{Settings, law_types_are_kept};
-use crate::stop::Stop;
+use crate::stop::StepError;
 use crate::waiting::Queue;
-use lan_base::{Draws, Name, UserFrame, is_ckn};
+use lan_base::{AssociationNumber, Draws, Name, UserFrame, is_ckn};
 use mka_kdf::GroupFault;
 use sak_exchange::HeldKey;
 use std::alloc::Global;
 use std::marker::Model;
 
-/// A group of stations, with all that is on the air between them. A group that was stopped answers
-/// its stop again, and shows the air and the names of before.
+/// A group of stations, with all that is on the air between them. A group whose step failed goes no
+/// further: it answers that error again, takes no draw, and shows the air and the names of before.
 #[derive(Drop)]
 pub struct Lan {
     alloc: Global,
     settings: Settings,
-    stopped: Option<Stop>,
-    /// The names of the stations, in the order of their starts.
-    names: Vec<Name>,
+    stopped: Option<StepError>,
+    names: Names,
     air: Air,
-    members: Members,
+    seats: Seats,
     waiting: Queue,
     ticks: u32,
     drawn: Drawn,
@@ -58,9 +58,9 @@ impl Model for Lan {
     ghost view = { λ l. record {
       settings = l.settings;
       stopped = l.stopped;
-      names = l.names.items;
+      names = l.names;
       air = l.air;
-      seats = l.members;
+      seats = l.seats;
       waiting = l.waiting;
       ticks = l.ticks;
       drawn = l.drawn;
@@ -70,7 +70,6 @@ impl Model for Lan {
 impl Lan {
     /// A group with no station.
     pub fn new(alloc: Global, settings: Settings) -> Result<Lan, GroupFault>
-        requires suite { (settings.suite ≡ 128) ⊎ (settings.suite ≡ 256) }
         ensures stands { (users : List UserFrame)
             → IfOk result (λ lan. StandsFor settings users lan []) }
         ensures length { (result ≡ Err GroupFault.CknLength) ↔ HasWrongLength settings.ckn }
@@ -83,9 +82,9 @@ impl Lan {
             alloc,
             settings,
             stopped: None,
-            names: Vec::new(alloc),
+            names: Names::new(alloc),
             air: Air::new(alloc),
-            members: Members::new(alloc),
+            seats: Seats::new(alloc),
             waiting: Queue::new(alloc),
             ticks: 0,
             drawn: Drawn::new(alloc),
@@ -98,7 +97,7 @@ impl Lan {
         event: &Event,
         user: Option<&UserFrame>,
         draws: &mut D,
-    ) -> Result<Facts, Stop>
+    ) -> Result<Facts, StepError>
         // Of a run whose next event may come: the event shows what it has to, takes the draws that
         // it needs, and the group then stands for the run with it.
         ensures facts { (settings : Settings) (users : List UserFrame) (r : Run)
@@ -117,8 +116,8 @@ impl Lan {
             → OnOk result ((k : ℕ) → D.nth draws.new k
             ≡ D.nth draws.old (k + draws_needed settings r event.now)) }
 
-        // It goes on exactly where it meets no stop, and else answers the first one, but for want
-        // of memory.
+        // It goes on only where it meets no stop, and fails at the first one, or for want of
+        // memory.
         ensures goes { (settings : Settings) (users : List UserFrame) (r : Run)
             → StandsFor settings users self.old r
             → MayCome settings users r (option_copied user.entry) event.now
@@ -126,25 +125,26 @@ impl Lan {
         ensures refused { (settings : Settings) (users : List UserFrame) (r : Run)
             → StandsFor settings users self.old r
             → MayCome settings users r (option_copied user.entry) event.now
-            → IfErr result (λ stop. (stop ≡ Stop.Memory)
-            ⊎ (first_stop settings users r event.now (D.nth draws.old) ≡ Some stop)) }
+            → IfErr result (λ error.
+            IsWhy (first_stop settings users r event.now (D.nth draws.old)) error) }
 
-        // It is stopped then, with the air and the names of before, and answers its stop from then
-        // on.
-        ensures stopped { IfErr result (λ stop. self.new.stopped ≡ Some stop) }
+        // Where it fails the group is stopped, with the air and the names of before. It answers the
+        // same from then on, and takes no draw.
+        ensures stopped { IfErr result (λ error. self.new.stopped ≡ Some error) }
         ensures shown { OnErr result ((self.new.air ≡ self.old.air)
             × (self.new.names ≡ self.old.names)) }
         ensures again { IfSome self.old.stopped
-            (λ stop. (result ≡ Err stop) × (self.new ≡ self.old)) }
+            (λ error. (result ≡ Err error) × (self.new ≡ self.old)) }
+        ensures undrawn { IfSome self.old.stopped (λ error. draws.new ≡ draws.old) }
     {
-        if let Some(stop) = self.stopped {
-            return Err(stop);
+        if let Some(error) = self.stopped {
+            return Err(error);
         }
         match self.perform(event, user, draws) {
             Ok(facts) => Ok(facts),
-            Err(stop) => {
-                self.stopped = Some(stop);
-                Err(stop)
+            Err(error) => {
+                self.stopped = Some(error);
+                Err(error)
             }
         }
     }
@@ -159,36 +159,33 @@ impl Lan {
         self.air.frame(number)
     }
 
-    /// The place of the station of a name.
+    /// The place of the station of a name, also in a group that is stopped.
     pub fn station(&self, name: &Name) -> Option<u8>
-        ensures { (settings : Settings) (users : List UserFrame) (r : Run)
-            → StandsFor settings users self.now r
-            → result ≡ place_of name.now self.now.names }
+        ensures { result ≡ place_of name.now self.now.names }
     {
-        let place = first_of(&self.names, name)?;
-        if place < 256 { Some(place as u8) } else { None }
+        self.names.place(name)
     }
 
     /// The association number and the epoch of the key that transmits at a station.
-    pub fn transmitting(&self, station: u8) -> Option<(u8, u32)>
+    pub fn transmitting(&self, station: u8) -> Option<(AssociationNumber, u32)>
         ensures { (settings : Settings) (users : List UserFrame) (r : Run)
             → StandsFor settings users self.now r
             → result ≡ option_map (λ k. (k.an, k.epoch)) (transmitting_at settings station r) }
     {
-        match self.members.get(station) {
-            Some(member) => numbers_of(member.transmitting()),
+        match self.seats.get(station) {
+            Some(seat) => numbers_of(seat.transmitting()),
             None => None,
         }
     }
 
     /// The key that a station holds under an association number.
-    pub fn held(&self, station: u8, an: u8) -> Option<HeldKey>
+    pub fn held(&self, station: u8, an: AssociationNumber) -> Option<HeldKey>
         ensures { (settings : Settings) (users : List UserFrame) (r : Run)
             → StandsFor settings users self.now r
             → result ≡ held_at settings station r an }
     {
-        match self.members.get(station) {
-            Some(member) => member.held(an),
+        match self.seats.get(station) {
+            Some(seat) => seat.held(an),
             None => None,
         }
     }
@@ -199,7 +196,7 @@ impl Lan {
         event: &Event,
         user: Option<&UserFrame>,
         draws: &mut D,
-    ) -> Result<Facts, Stop>
+    ) -> Result<Facts, StepError>
         ensures answers { (settings : Settings) (users : List UserFrame) (r : Run)
             → StandsFor settings users self.old r
             → MayCome settings users r (option_copied user.entry) event.now
@@ -229,23 +226,11 @@ impl Lan {
 }
 
 /// The association number and the epoch of a key.
-fn numbers_of(key: Option<HeldKey>) -> Option<(u8, u32)>
-    ensures { result ≡ option_map (λ k. (k.an, k.epoch)) key }
+fn numbers_of(held: Option<HeldKey>) -> Option<(AssociationNumber, u32)>
+    ensures { result ≡ option_map (λ h. (h.key.an, h.key.epoch)) held }
 {
-    match key {
-        Some(key) => Some((key.an, key.epoch)),
+    match held {
+        Some(held) => Some((held.key.an, held.key.epoch)),
         None => None,
     }
-}
-
-/// The place of the first of these names that is this one.
-fn first_of(names: &[Name], name: &Name) -> Option<usize>
-    ensures { result ≡ place_of name.now names.now }
-{
-    for place in 0..names.len() {
-        if names[place].octets() == name.octets() {
-            return Some(place);
-        }
-    }
-    None
 }

@@ -2,8 +2,9 @@
 
 ghost use Rattle.std.specs.Prelude.{◌≡◌, ◌↔◌, ◌<◌, ◌≤◌, ◌++◌, ◌∷◌, ℕ, List, length, IsTrue};
 ghost use Rattle.std.specs.Prelude.{true, false, Option, Some, is_some};
+ghost use Rattle.lan_base.specs.declared.association_number.AssociationNumber.{AssociationNumber};
 ghost use Rattle.lan_base.specs.declared.frame.UserFrame.{UserFrame};
-ghost use Rattle.sak_exchange.specs.Histories.{Key};
+ghost use Rattle.sak_exchange.specs.declared.held_key.Key.{Key};
 ghost use Rattle.lan_core.specs.declared.event.Event.{Event};
 ghost use Rattle.lan_core.specs.declared.event.Event.TheVariants as events;
 ghost use Rattle.lan_core.specs.declared.fact.Fact.{Fact};
@@ -123,7 +124,8 @@ pub fn law_the_next_number_never_falls()
 
 /// Once a number was claimed, the next one is above it for good.
 pub fn law_a_claimed_number_is_passed()
-    ensures { (settings : Settings) (s user an epoch pn : ℕ) (later front : Run)
+    ensures { (settings : Settings) (s user : ℕ) (an : AssociationNumber) (epoch pn : ℕ)
+        (later front : Run)
         → pn < next settings s epoch (later ++ a_claim s user an epoch pn ∷ front) }
 {}
 

@@ -12,8 +12,9 @@ mod judging;
 mod lan;
 mod laws;
 mod limits;
-mod member;
-mod members;
+mod names;
+mod seat;
+mod seats;
 mod settings;
 mod spellings;
 mod stop;
@@ -34,7 +35,4 @@ pub use laws::{
     law_next_numbers_keep_a_run_thrifty, law_the_next_number_never_falls,
 };
 pub use settings::Settings;
-pub use stop::{Stop, Which};
-
-#[cfg(test)]
-mod tests;
+pub use stop::{StepError, Stop, Which};

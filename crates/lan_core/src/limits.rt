@@ -1,30 +1,23 @@
 //! The limits of the profile.
 
-ghost use Rattle.std.specs.Prelude.{◌≡◌, nat_lt, cond, option_map, Some, None};
+ghost use Rattle.std.specs.Prelude.{◌≡◌, nat_lt, if◌then◌else◌, option_map, Some, None};
 ghost use Rattle.lan_core.specs.declared.stop.Stop.TheVariants.{Limit};
 ghost use Rattle.lan_core.specs.declared.stop.Which.TheVariants.{Keys};
 ghost use Rattle.lan_core.specs.Order.{most_installs};
-ghost use Rattle.lan_core.specs.inside.Steps.{Judges, passed_by};
+ghost use Rattle.lan_core.specs.inside.Judging.{Judges};
+ghost use Rattle.lan_core.specs.inside.Limits.{passed_by};
 
 use crate::stop::{Stop, Which};
-
-/// The most frames on the air.
-const MOST_FRAMES: usize = 200_000;
+use lan_base::{FRAMES_MAX, TICKS_MAX};
 
 /// The most octets on the air.
-const MOST_OCTETS: u64 = 67_108_864;
-
-/// The most ticks, at all stations.
-const MOST_TICKS: u32 = 1_000_000;
+const OCTETS_MAX: u64 = 67_108_864;
 
 /// The most installs at one station, over all its lives.
-const MOST_INSTALLS: u32 = 4_096;
+const INSTALLS_MAX: u32 = 4_096;
 
 /// The most stations.
-pub const MOST_STATIONS: usize = 16;
-
-/// The most octets of foreign frames that reach a station at once.
-pub const MOST_INJECTED: usize = 65_536;
+pub const STATIONS_MAX: usize = 16;
 
 /// How far a group comes in each of what is limited.
 #[derive(Clone, Copy)]
@@ -56,15 +49,15 @@ impl Extent {
         ensures { result ≡ passed_by self.now.frames self.now.octets self.now.ticks
             self.now.installs self.now.stations }
     {
-        if self.frames > MOST_FRAMES {
+        if self.frames > FRAMES_MAX as usize {
             Some(Which::Frames)
-        } else if self.octets > MOST_OCTETS {
+        } else if self.octets > OCTETS_MAX {
             Some(Which::Octets)
-        } else if self.ticks > MOST_TICKS {
+        } else if self.ticks > TICKS_MAX {
             Some(Which::Ticks)
-        } else if self.installs > MOST_INSTALLS {
+        } else if self.installs > INSTALLS_MAX {
             Some(Which::Keys)
-        } else if self.stations > MOST_STATIONS {
+        } else if self.stations > STATIONS_MAX {
             Some(Which::Stations)
         } else {
             None
@@ -74,9 +67,9 @@ impl Extent {
 
 /// More installs at one station than it may make stop the group.
 pub fn judge_installs(installs: u32) -> Result<(), Stop>
-    ensures { Judges (cond (nat_lt most_installs installs) (Some (Limit Keys)) None) result }
+    ensures { Judges (if nat_lt most_installs installs then Some (Limit Keys) else None) result }
 {
-    if installs > MOST_INSTALLS {
+    if installs > INSTALLS_MAX {
         Err(Stop::Limit(Which::Keys))
     } else {
         Ok(())

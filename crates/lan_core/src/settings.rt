@@ -1,17 +1,15 @@
 //! What holds for the whole group.
 
-ghost use Rattle.std.specs.Prelude.{◌≡◌, ◌<◌, ◌⊎◌, All, IfOk, IfErr};
+ghost use Rattle.std.specs.Prelude.{◌≡◌, ◌<◌, All, IfOk};
 ghost use Rattle.lan_base.specs.Ranges.{IsCkn};
 ghost use Rattle.aes_block.specs.Secrets.{secret_octets};
 ghost use Rattle.mka_kdf.specs.Kdf.{kek_of, ick_of};
-ghost use Rattle.lan_core.specs.declared.stop.Stop.TheVariants.{Memory};
 ghost use Rattle.lan_core.specs.Types.{IsSecret, IsSetting};
 
-use crate::stop::Stop;
 use aes_block::Secret;
-use lan_base::Octets;
+use lan_base::{Octets, Suite};
 use mka_kdf::Group;
-use std::alloc::Global;
+use std::alloc::{AllocError, Global};
 
 /// What holds for the whole group.
 #[derive(Debug, Drop)]
@@ -26,15 +24,13 @@ pub struct Settings {
     pub window: u32,
     /// The packet number from which on a key is spent.
     pub rekey: u32,
-    /// How many bits the keys that are made have: 128 or 256.
-    pub suite: u16,
+    /// The cipher suite of the keys that are made.
+    pub suite: Suite,
 }
 
-/// What is set up lies in its types, where the name and the suite are what they may be. Nothing
-/// runs.
+/// What is set up lies in its types, where the name is what it may be. Nothing runs.
 pub(crate) fn law_types_are_kept(settings: &Settings)
-    requires ckn { IsCkn settings.now.ckn }
-    requires suite { (settings.now.suite ≡ 128) ⊎ (settings.now.suite ≡ 256) }
+    requires { IsCkn settings.now.ckn }
     ensures { IsSetting settings.now }
 {
     law_a_key_has_its_length(&settings.cak);
@@ -59,16 +55,15 @@ fn law_octets_are_small(octets: &[u8])
 {}
 
 /// The keys that the connectivity association key gives.
-pub fn group_of(alloc: Global, settings: &Settings) -> Result<Group, Stop>
+pub fn group_of(alloc: Global, settings: &Settings) -> Result<Group, AllocError>
     ensures ckn { IfOk result (λ group. group.ckn ≡ settings.now.ckn) }
     ensures kek { IfOk result (λ group. group.kek
         ≡ kek_of (secret_octets settings.now.cak) settings.now.ckn) }
     ensures ick { IfOk result (λ group. group.ick
         ≡ ick_of (secret_octets settings.now.cak) settings.now.ckn) }
-    ensures memory { IfErr result (λ stop. stop ≡ Memory) }
 {
     match Group::of(alloc, settings.cak, settings.ckn.as_slice()) {
         Ok(group) => Ok(group),
-        Err(_) => Err(Stop::Memory),
+        Err(_) => Err(AllocError),
     }
 }

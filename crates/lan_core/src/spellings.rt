@@ -1,10 +1,9 @@
 //! What frames spell, as it is looked up.
 
-ghost use Rattle.std.specs.Prelude.{◌≡◌, ◌≢◌, ◌++◌, [], option_map, IfOk, OnOk, OnErr};
-ghost use Rattle.mkpdu_codec.specs.declared.refusal.Refusal.TheVariants.{Memory};
+ghost use Rattle.std.specs.Prelude.{◌≡◌, ◌++◌, [], option_map, IfOk, OnOk, OnErr};
 ghost use Rattle.lan_core.specs.inside.Spellings.{spelling, has_octets, Gains};
 
-use mkpdu_codec::{Refusal, law_reading_refuses, law_spelled_is_read, read};
+use mkpdu_codec::{ReadError, law_reading_refuses, law_spelled_is_read, read};
 use std::alloc::{AllocError, Global};
 use std::collections::BTreeSet;
 use std::marker::Model;
@@ -64,10 +63,8 @@ pub fn spelling(alloc: Global, frame: &[u8]) -> Result<Option<Vec<u8>>, AllocErr
             let covered = &frame[..spelled.covered];
             Ok(Some(joined(alloc, &spelled.check, covered)?))
         }
-        Err(refusal) => {
-            unless_memory(refusal)?;
-            Ok(None)
-        }
+        Err(ReadError::Refused(_)) => Ok(None),
+        Err(ReadError::Memory) => Err(AllocError),
     }
 }
 
@@ -79,18 +76,4 @@ fn joined(alloc: Global, first: &[u8], others: &[u8]) -> Result<Vec<u8>, AllocEr
     both.extend_from_slice(first)?;
     both.extend_from_slice(others)?;
     Ok(both)
-}
-
-/// A refusal that isn't want of memory.
-fn unless_memory(refusal: Refusal) -> Result<(), AllocError>
-    ensures { OnOk result (refusal ≢ Memory) }
-{
-    match refusal {
-        Refusal::Memory => Err(AllocError),
-        Refusal::NotMka
-        | Refusal::Short
-        | Refusal::Shape { .. }
-        | Refusal::Repeated { .. }
-        | Refusal::Agility => Ok(()),
-    }
 }

@@ -1,10 +1,10 @@
 //! Why a group goes no further.
 
 ghost use Rattle.std.specs.Prelude.{◌≡◌};
-ghost use Rattle.lan_core.specs.declared.stop.Stop.TheVariants.{Memory};
-ghost use Rattle.lan_core.specs.inside.Faults.{stop_of_fault};
+ghost use Rattle.lan_core.specs.declared.stop.StepError.TheVariants.{Memory, Stopped};
+ghost use Rattle.lan_core.specs.inside.Faults.{error_of_fault};
 
-use mka_station::StationFault;
+use mka_station::TickError;
 use std::alloc::AllocError;
 use thiserror::Error;
 
@@ -25,7 +25,7 @@ pub enum Which {
     Stations,
 }
 
-/// Why a group goes no further: the first of these that holds, of want of memory alone anywhere.
+/// Why a group goes no further: the first of these that holds.
 #[derive(Clone, Copy, Debug, PartialEq, Eq, Error)]
 pub enum Stop {
     /// An event needs more draws than the supply has left.
@@ -42,25 +42,40 @@ pub enum Stop {
     /// repeat no frame on the air.
     #[error("forged")]
     Forged { station: u8 },
+}
+
+/// Why a step fails: its event meets a stop, or memory ran out.
+#[derive(Clone, Copy, Debug, PartialEq, Eq, Error)]
+pub enum StepError {
+    #[error("{0}")]
+    Stopped(Stop),
     #[error("out of memory")]
     Memory,
 }
 
-impl From<AllocError> for Stop {
-    ghost from_gives = { λ _ stop. stop ≡ Memory };
+impl From<Stop> for StepError {
+    ghost from_gives = { λ stop error. error ≡ Stopped stop };
 
-    fn from(_: AllocError) -> Self {
-        Stop::Memory
+    fn from(stop: Stop) -> Self {
+        StepError::Stopped(stop)
     }
 }
 
-impl From<StationFault> for Stop {
-    ghost from_gives = { λ fault stop. stop ≡ stop_of_fault fault };
+impl From<AllocError> for StepError {
+    ghost from_gives = { λ _ error. error ≡ Memory };
 
-    fn from(fault: StationFault) -> Self {
+    fn from(_: AllocError) -> Self {
+        StepError::Memory
+    }
+}
+
+impl From<TickError> for StepError {
+    ghost from_gives = { λ fault error. error ≡ error_of_fault fault };
+
+    fn from(fault: TickError) -> Self {
         match fault {
-            StationFault::DrawsSpent => Stop::DrawsSpent,
-            StationFault::Memory => Stop::Memory,
+            TickError::DrawsSpent => StepError::Stopped(Stop::DrawsSpent),
+            TickError::Memory => StepError::Memory,
         }
     }
 }

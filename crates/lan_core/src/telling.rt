@@ -5,7 +5,7 @@ ghost use Rattle.lan_core.specs.Expected.{change_fact, reaction_facts};
 
 use crate::fact::{Fact, Facts};
 use mka_station::Reaction;
-use sak_exchange::Change;
+use sak_exchange::{Change, HeldKey};
 use std::alloc::{AllocError, Global};
 
 /// Appends what a reaction of the station of a place shows; the numbers of the frame that was heard
@@ -86,24 +86,24 @@ fn fact_of(station: u8, change: &Change) -> Fact
     ensures { result ≡ change_fact station change.now }
 {
     match *change {
-        Change::Dropped(key) => Fact::Dropped {
+        Change::Dropped(HeldKey { key, .. }) => Fact::Dropped {
             station,
             id: key.id,
             an: key.an,
         },
-        Change::Retired(key) => Fact::Retired {
+        Change::Retired(HeldKey { key, .. }) => Fact::Retired {
             station,
             id: key.id,
             an: key.an,
         },
         Change::Began { key, cause } => Fact::Began {
             station,
-            id: key.id,
-            an: key.an,
-            epoch: key.epoch,
+            id: key.key.id,
+            an: key.key.an,
+            epoch: key.key.epoch,
             cause,
         },
-        Change::Installed(key) => Fact::Installed {
+        Change::Installed(HeldKey { key, .. }) => Fact::Installed {
             station,
             id: key.id,
             an: key.an,

@@ -1,5 +1,5 @@
 -- What the changes of a station's keys do to its receive slots and to its counts.
-use Rattle.std.specs.Prelude.{ℕ, ◌+◌, ◌<◌, Bool, true, false, List, [], ◌∷◌, Option, Some, None, Result, Ok, Err}
+use Rattle.std.specs.Prelude.{ℕ, ◌+◌, Bool, true, false, List, [], ◌∷◌, Option, Some, None, Result, Ok, Err}
 use Rattle.lan_base.specs.declared.address.Sci.{Sci}
 use Rattle.gcm_frames.specs.declared.tag.Tag.{Tag}
 use Rattle.gcm_frames.specs.declared.tag.TagRefusal.{TagRefusal}
@@ -13,10 +13,10 @@ use Rattle.lan_core.specs.Ledgers.{with_one}
 
 -- what one change does to the slots
 abbrev pub slot_of : Change → Option Receiving
-slot_of (Dropped k) = Some (removed k.an)
-slot_of (Retired k) = Some (removed k.an)
-slot_of (Began k cause) = None
-slot_of (Installed k) = Some (installed k.an k.sak)
+slot_of (Dropped h) = Some (removed h.key.an)
+slot_of (Retired h) = Some (removed h.key.an)
+slot_of (Began h cause) = None
+slot_of (Installed h) = Some (installed h.key.an h.key.sak)
 slot_of (Untaken id why) = None
 
 -- the history of the slots after changes, of which the first is the oldest
@@ -37,27 +37,10 @@ abbrev pub count_installed : List Change → ℕ
 count_installed [] = 0
 count_installed (c ∷ later) = count_installed later + one_installed c
 
--- there is a slot for the association number of a change's key
-abbrev pub HasSlot : Change → Type 0
-HasSlot (Dropped k) = k.an < 4
-HasSlot (Retired k) = k.an < 4
-HasSlot (Began k cause) = Unit {0}
-HasSlot (Installed k) = k.an < 4
-HasSlot (Untaken id why) = Unit {0}
-
-abbrev pub HaveSlots : List Change → Type 0
-HaveSlots [] = Unit {0}
-HaveSlots (c ∷ later) = HasSlot c × HaveSlots later
-
 -- the lowest acceptable packet number under a held key, 1 where there is none
 abbrev pub lowest_held : Sci → ℕ → List Receiving → Option HeldKey → ℕ
 lowest_held own window h None = 1
-lowest_held own window h (Some k) = lowest window (accepted own window h) k.an
-
--- there is a slot for the association number of a held key, if there is one
-abbrev pub IfHeld : Option HeldKey → Type 0
-IfHeld None = Unit {0}
-IfHeld (Some k) = k.an < 4
+lowest_held own window h (Some k) = lowest window (accepted own window h) k.key.an
 
 -- whether reading a SecTAG found the EtherType of MACsec
 abbrev pub tells_sec : Result Tag TagRefusal → Bool

@@ -1,6 +1,7 @@
 -- What the frames of the air spell, as it is looked up.
 use Rattle.std.specs.Prelude.{◌≡◌, ◌≤◌, ℕ, ◌+◌, nat_eq, Bool, false, ◌||◌, List, ◌++◌, map, sum, take, length, All, Option, Some, None, Result, Ok, Err}
 use Rattle.std.specs.List.{list_any}
+use Rattle.lan_base.specs.Ranges.{most_frame_octets}
 use Rattle.mkpdu_codec.specs.declared.spelled.Spelled.{Spelled}
 use Rattle.mkpdu_codec.specs.declared.refusal.Refusal.{Refusal}
 use Rattle.mkpdu_codec.specs.Reading.{reading}
@@ -36,6 +37,6 @@ Gains more old new =
 -- the index of frames: how many octets they have, and what they spell
 pub record IsIndex (frames : List (List ℕ)) (count : ℕ) (spelled : List (List ℕ)) : Type 0 where
   pub octets : count ≡ sum (map length frames)
-  pub short : All (λ frame. length frame ≤ 65536) frames
+  pub short : All (λ frame. length frame ≤ most_frame_octets) frames
   pub spellings : (octets : List ℕ) → has_octets spelled octets
       ≡ list_any (λ frame. is_this octets (spelling frame)) frames

@@ -1,13 +1,12 @@
 //! What drives key agreement: a start, a tick, a new life.
 
-ghost use Rattle.std.specs.Prelude.{◌≡◌, ◌<◌, ◌≤◌, ◌+◌, ◌∷◌, ◌++◌, [], List, None, length, option_map, option_and_then, option_to_list, IfOk, OnOk, OnErr, IfErr};
+ghost use Rattle.std.specs.Prelude.{◌≡◌, ◌<◌, ◌≤◌, ◌+◌, ◌++◌, [], List, None, length, option_map, option_and_then, option_to_list, IfOk, OnOk, OnErr, IfErr};
 ghost use Rattle.std.specs.Option.{option_or};
 ghost use Rattle.lan_base.specs.declared.frame.UserFrame.{UserFrame};
+ghost use Rattle.lan_base.specs.Suites.{sak_draws};
 ghost use Rattle.mka_station.specs.Standing.{born};
-ghost use Rattle.mka_station.specs.Drawing.{draws_for};
 ghost use Rattle.lan_core.specs.declared.event.Event.TheVariants as events;
 ghost use Rattle.lan_core.specs.declared.settings.Settings.{Settings};
-ghost use Rattle.lan_core.specs.declared.stop.Stop.{Stop};
 ghost use Rattle.lan_core.specs.declared.stop.Stop.TheVariants.{Limit};
 ghost use Rattle.lan_core.specs.declared.stop.Which.TheVariants.{Stations};
 ghost use Rattle.lan_core.specs.Run.{Run};
@@ -15,16 +14,20 @@ ghost use Rattle.lan_core.specs.Lives.{drawn_sak, setup_of};
 ghost use Rattle.lan_core.specs.Order.{most_stations};
 ghost use Rattle.lan_core.specs.Stops.{MayCome};
 ghost use Rattle.lan_core.specs.Standing.{StandsFor, Sits, number_of_sak};
-ghost use Rattle.lan_core.specs.inside.Steps.{Answers, Judges, IfNoted, passed_with, sent_in, stop_of};
+ghost use Rattle.lan_core.specs.Answers.{Answers};
+ghost use Rattle.lan_core.specs.inside.Judging.{MayJudge};
+ghost use Rattle.lan_core.specs.inside.Drawing.{IfNoted, stop_of};
+ghost use Rattle.lan_core.specs.inside.Limits.{passed_with};
+ghost use Rattle.lan_core.specs.inside.Shown.{sent_in};
 
 use super::Lan;
 use super::stopping::{note_mi, note_sak};
 use crate::came::Came;
 use crate::fact::{Fact, Facts};
-use crate::limits::MOST_STATIONS;
-use crate::member::Member;
+use crate::limits::STATIONS_MAX;
+use crate::seat::Seat;
 use crate::settings::group_of;
-use crate::stop::{Stop, Which};
+use crate::stop::{StepError, Stop, Which};
 use crate::telling::one;
 use lan_base::{Draws, Name, Sci};
 use mka_station::{Config, mi_of};
@@ -38,7 +41,7 @@ impl Lan {
         sci: Sci,
         priority: u8,
         draws: &mut D,
-    ) -> Result<Facts, Stop>
+    ) -> Result<Facts, StepError>
         ensures answers { (settings : Settings) (users : List UserFrame) (r : Run)
             → StandsFor settings users self.old r
             → MayCome settings users r None (events.Start name sci priority)
@@ -51,21 +54,20 @@ impl Lan {
         let place = free_place(self.names.len())?;
         let mi = mi_of(draw);
         note_mi(&mut self.drawn, mi)?;
-        let member = self.member(sci, priority, draw)?;
+        let seat = self.seat(sci, priority, draw)?;
         let facts = one(self.alloc, Fact::Life { station: place, mi })?;
-        self.members.push(member)?;
-        add_name(&mut self.names, name)?;
+        self.seats.push(seat)?;
+        self.names.push(name)?;
         Ok(facts)
     }
 
-    /// A station in its first life, which begins with this draw.
-    fn member(&self, sci: Sci, priority: u8, draw: [u8; 16]) -> Result<Member, Stop>
-        ensures member { IfOk result (Sits self.now.settings.window (record {
+    /// The seat of a station in its first life, which begins with this draw.
+    fn seat(&self, sci: Sci, priority: u8, draw: [u8; 16]) -> Result<Seat, AllocError>
+        ensures { IfOk result (Sits self.now.settings.window (record {
           member = born (setup_of self.now.settings
               (record { name = []; sci = sci; priority = priority })) 0 draw;
           past = [];
         }) []) }
-        ensures memory { IfErr result (λ stop. stop ≡ Stop.Memory) }
     {
         let group = group_of(self.alloc, &self.settings)?;
         let config = Config {
@@ -76,8 +78,7 @@ impl Lan {
             group,
             suite: self.settings.suite,
         };
-        let member = Member::start(self.alloc, config, self.settings.window, draw)?;
-        Ok(member)
+        Seat::start(self.alloc, config, self.settings.window, draw)
     }
 
     /// A tick at a station.
@@ -86,7 +87,7 @@ impl Lan {
         station: u8,
         next: u64,
         draws: &mut D,
-    ) -> Result<Facts, Stop>
+    ) -> Result<Facts, StepError>
         ensures answers { (settings : Settings) (users : List UserFrame) (r : Run)
             → StandsFor settings users self.old r
             → MayCome settings users r None (events.Tick station next)
@@ -96,7 +97,7 @@ impl Lan {
             × (self.new.names ≡ self.old.names)) }
     {
         let number = self.air.next_number()?;
-        let Some(came) = self.members.tick(station, number, next, draws)? else {
+        let Some(came) = self.seats.tick(station, number, next, draws)? else {
             return Ok(Facts::new(self.alloc));
         };
         self.count_tick(&came)?;
@@ -104,8 +105,8 @@ impl Lan {
     }
 
     /// What a tick shows is judged, counted, and put on the air.
-    fn count_tick(&mut self, came: &Came) -> Result<(), Stop>
-        ensures judges { Judges (option_or
+    fn count_tick(&mut self, came: &Came) -> Result<(), StepError>
+        ensures judges { MayJudge (option_or
             (option_map Limit (passed_with (self.old.air ++ option_to_list (sent_in came.now.facts))
             (self.old.ticks + 1)
             came.now.installs (length self.old.names)))
@@ -117,21 +118,26 @@ impl Lan {
           drawn = self.new.drawn;
         }) }
         ensures drawn { OnOk result
-            (IfNoted (draws_for self.old.settings.suite) self.old.drawn self.new.drawn
+            (IfNoted (sak_draws self.old.settings.suite) self.old.drawn self.new.drawn
             (drawn_sak came.now.facts)) }
         ensures shown { OnErr result ((self.new.air ≡ self.old.air)
             × (self.new.names ≡ self.old.names)) }
     {
         let sent = came.sent();
-        let ticks = self.ticks.checked_add(1).ok_or(Stop::Memory)?;
+        let ticks = self.ticks.checked_add(1).ok_or(AllocError)?;
         self.extent(sent, ticks, came.installs)?.judge()?;
         note_sak(&mut self.drawn, self.settings.suite, came.installed())?;
         self.ticks = ticks;
-        self.air.put(sent)
+        self.air.put(sent)?;
+        Ok(())
     }
 
     /// A station starts again.
-    pub(super) fn restart<D: Draws>(&mut self, station: u8, draws: &mut D) -> Result<Facts, Stop>
+    pub(super) fn restart<D: Draws>(
+        &mut self,
+        station: u8,
+        draws: &mut D,
+    ) -> Result<Facts, StepError>
         ensures answers { (settings : Settings) (users : List UserFrame) (r : Run)
             → StandsFor settings users self.old r
             → MayCome settings users r None (events.Restart station)
@@ -142,7 +148,7 @@ impl Lan {
     {
         let draw = draws.draw().ok_or(Stop::DrawsSpent)?;
         note_mi(&mut self.drawn, mi_of(draw))?;
-        let Some(came) = self.members.restart(station, draw)? else {
+        let Some(came) = self.seats.restart(station, draw)? else {
             return Ok(Facts::new(self.alloc));
         };
         Ok(came.facts)
@@ -154,17 +160,8 @@ fn free_place(stations: usize) -> Result<u8, Stop>
     ensures place { IfOk result (λ place. (place ≡ stations) × (stations < most_stations)) }
     ensures full { IfErr result (λ stop. (stop ≡ Limit Stations) × (most_stations ≤ stations)) }
 {
-    if stations >= MOST_STATIONS {
+    if stations >= STATIONS_MAX {
         return Err(Stop::Limit(Which::Stations));
     }
     Ok(stations as u8)
-}
-
-/// Appends a name. An error leaves the names as they were.
-fn add_name(names: &mut Vec<Name>, name: Name) -> Result<(), AllocError>
-    ensures ok { OnOk result (names.new.items ≡ names.old.items ++ name ∷ []) }
-    ensures err { OnErr result (names.new.items ≡ names.old.items) }
-{
-    names.push(name)?;
-    Ok(())
 }

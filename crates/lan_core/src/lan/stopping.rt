@@ -1,17 +1,18 @@
 //! What stops a group: a limit, a draw that repeats, foreign octets that are forged.
 
-ghost use Rattle.std.specs.Prelude.{◌≡◌, ◌+◌, ◌++◌, ◌⊎◌, map, sum, length, option_and_then, option_to_list, IfOk, OnOk, IfErr};
+ghost use Rattle.std.specs.Prelude.{◌≡◌, ◌+◌, ◌++◌, map, sum, length, Some, option_and_then, option_to_list, IfOk, OnOk};
 ghost use Rattle.std.specs.Option.{option_copied};
-ghost use Rattle.mka_station.specs.Drawing.{draws_for};
+ghost use Rattle.lan_base.specs.Suites.{sak_draws};
 ghost use Rattle.lan_core.specs.declared.event.Event.TheVariants as events;
-ghost use Rattle.lan_core.specs.declared.stop.Stop.{Stop};
 ghost use Rattle.lan_core.specs.declared.stop.Stop.TheVariants.{RepeatedDraw};
 ghost use Rattle.lan_core.specs.Run.{Run};
 ghost use Rattle.lan_core.specs.Ledgers.{air as air_after};
 ghost use Rattle.lan_core.specs.Order.{Exists};
 ghost use Rattle.lan_core.specs.Stops.{stop_of_forgery};
 ghost use Rattle.lan_core.specs.Standing.{in_order, number_of_mi, number_of_sak};
-ghost use Rattle.lan_core.specs.inside.Steps.{Judges, MiIsNoted, IfNoted, stop_of};
+ghost use Rattle.lan_core.specs.Answers.{IsWhy};
+ghost use Rattle.lan_core.specs.inside.Judging.{MayJudge};
+ghost use Rattle.lan_core.specs.inside.Drawing.{MiIsNoted, IfNoted, stop_of};
 
 use super::Lan;
 use crate::air::Air;
@@ -19,13 +20,10 @@ use crate::drawn::Drawn;
 use crate::judging::is_right;
 use crate::limits::Extent;
 use crate::settings::{Settings, group_of};
-use crate::stop::Stop;
+use crate::stop::{StepError, Stop};
 use aes_block::Secret;
-use lan_base::{Mi, Octets};
-use std::alloc::Global;
-
-/// How many bits a key has that takes two draws.
-const WIDE: u16 = 256;
+use lan_base::{Mi, Octets, Suite};
+use std::alloc::{AllocError, Global};
 
 impl Lan {
     /// How far the group comes with a frame more, if there is one, with so many ticks, and with so
@@ -35,8 +33,8 @@ impl Lan {
         sent: Option<&Octets>,
         ticks: u32,
         installs: u32,
-    ) -> Result<Extent, Stop>
-        ensures extent { let frames = self.now.air ++ option_to_list (option_copied sent.entry) in
+    ) -> Result<Extent, AllocError>
+        ensures { let frames = self.now.air ++ option_to_list (option_copied sent.entry) in
             IfOk result (λ e. e ≡ record {
               frames = length frames;
               octets = sum (map length frames);
@@ -44,15 +42,14 @@ impl Lan {
               installs = installs;
               stations = length self.now.names;
             }) }
-        ensures memory { IfErr result (λ stop. stop ≡ Stop.Memory) }
     {
         let (frames, octets) = match sent {
             Some(octets) => (1, octets.len() as u64),
             None => (0, 0),
         };
         Ok(Extent {
-            frames: self.air.len().checked_add(frames).ok_or(Stop::Memory)?,
-            octets: self.air.octets().checked_add(octets).ok_or(Stop::Memory)?,
+            frames: self.air.len().checked_add(frames).ok_or(AllocError)?,
+            octets: self.air.octets().checked_add(octets).ok_or(AllocError)?,
             ticks,
             installs,
             stations: self.names.len(),
@@ -67,9 +64,9 @@ pub fn judge_forgery(
     air: &Air,
     station: u8,
     octets: &[u8],
-) -> Result<(), Stop>
+) -> Result<(), StepError>
     ensures { (r : Run) → air.now ≡ in_order (air_after r) → Exists station r
-        → Judges (stop_of_forgery settings.now r (events.Inject station octets.now)) result }
+        → MayJudge (stop_of_forgery settings.now r (events.Inject station octets.now)) result }
 {
     let group = group_of(alloc, settings)?;
     if !is_right(alloc, &group, octets)? {
@@ -78,12 +75,12 @@ pub fn judge_forgery(
     if air.repeats(octets)? {
         return Ok(());
     }
-    Err(Stop::Forged { station })
+    Err(StepError::Stopped(Stop::Forged { station }))
 }
 
 /// A member identifier is drawn. One that was drawn before stops the group.
-pub fn note_mi(drawn: &mut Drawn, mi: Mi) -> Result<(), Stop>
-    ensures judges { Judges (stop_of drawn.old (number_of_mi drawn.old mi)) result }
+pub fn note_mi(drawn: &mut Drawn, mi: Mi) -> Result<(), StepError>
+    ensures judges { MayJudge (stop_of drawn.old (number_of_mi drawn.old mi)) result }
     ensures noted { OnOk result (MiIsNoted drawn.old drawn.new mi) }
 {
     if let Some(first) = drawn.number_of_mi(&mi) {
@@ -94,10 +91,10 @@ pub fn note_mi(drawn: &mut Drawn, mi: Mi) -> Result<(), Stop>
 }
 
 /// A key is drawn, if one was made. One that was drawn before stops the group.
-pub fn note_sak(drawn: &mut Drawn, suite: u16, sak: Option<Secret>) -> Result<(), Stop>
-    ensures judges { Judges (stop_of drawn.old
+pub fn note_sak(drawn: &mut Drawn, suite: Suite, sak: Option<Secret>) -> Result<(), StepError>
+    ensures judges { MayJudge (stop_of drawn.old
         (option_and_then (number_of_sak drawn.old) sak)) result }
-    ensures noted { OnOk result (IfNoted (draws_for suite) drawn.old drawn.new sak) }
+    ensures noted { OnOk result (IfNoted (sak_draws suite) drawn.old drawn.new sak) }
 {
     let Some(sak) = sak else {
         return Ok(());
@@ -105,23 +102,16 @@ pub fn note_sak(drawn: &mut Drawn, suite: u16, sak: Option<Secret>) -> Result<()
     if let Some(first) = drawn.number_of_sak(&sak) {
         return Err(repeated(first, drawn.count()));
     }
-    drawn.note_sak(&sak, draws_for(suite))?;
+    drawn.note_sak(&sak, suite.sak_draws())?;
     Ok(())
 }
 
-/// How many draws a key takes.
-fn draws_for(suite: u16) -> u64
-    ensures { result ≡ draws_for suite }
-{
-    if suite == WIDE { 2 } else { 1 }
-}
-
 /// The draw after so many repeats this one.
-fn repeated(first: u64, count: u64) -> Stop
-    ensures { (result ≡ Stop.Memory) ⊎ (result ≡ RepeatedDraw first (count + 1)) }
+fn repeated(first: u64, count: u64) -> StepError
+    ensures { IsWhy (Some (RepeatedDraw first (count + 1))) result }
 {
     match count.checked_add(1) {
-        Some(second) => Stop::RepeatedDraw { first, second },
-        None => Stop::Memory,
+        Some(second) => StepError::Stopped(Stop::RepeatedDraw { first, second }),
+        None => StepError::Memory,
     }
 }

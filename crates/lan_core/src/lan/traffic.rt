@@ -14,23 +14,24 @@ ghost use Rattle.lan_core.specs.Run.{Run};
 ghost use Rattle.lan_core.specs.Lives.{Life, keys_in};
 ghost use Rattle.lan_core.specs.Stops.{MayCome};
 ghost use Rattle.lan_core.specs.Standing.{StandsFor, Sits};
-ghost use Rattle.lan_core.specs.inside.Steps.{Answers, claim_shown};
+ghost use Rattle.lan_core.specs.Answers.{Answers};
+ghost use Rattle.lan_core.specs.inside.Shown.{claim_shown};
 
 use super::Lan;
 use super::stopping::judge_forgery;
 use crate::fact::{Fact, Facts, Lack};
-use crate::limits::{MOST_INJECTED, judge_installs};
-use crate::member::Member;
-use crate::stop::Stop;
+use crate::limits::judge_installs;
+use crate::seat::Seat;
+use crate::stop::StepError;
 use crate::telling::one;
 use crate::waiting::{Queue, Sealed};
-use lan_base::{Octets, UserFrame, is_user_data};
+use lan_base::{FRAME_MAX, Octets, UserFrame, is_user_data};
 use sak_exchange::HeldKey;
 use std::alloc::AllocError;
 
 impl Lan {
     /// A frame of the air reaches a station.
-    pub(super) fn deliver(&mut self, frame: u32, station: u8) -> Result<Facts, Stop>
+    pub(super) fn deliver(&mut self, frame: u32, station: u8) -> Result<Facts, StepError>
         ensures answers { (settings : Settings) (users : List UserFrame) (r : Run)
             (nth : ℕ → Option (List ℕ))
             → StandsFor settings users self.old r
@@ -42,7 +43,7 @@ impl Lan {
         let Some(octets) = self.air.frame(frame) else {
             return Ok(Facts::new(self.alloc));
         };
-        let Some(came) = self.members.reach(station, frame, octets)? else {
+        let Some(came) = self.seats.reach(station, frame, octets)? else {
             return Ok(Facts::new(self.alloc));
         };
         judge_installs(came.installs)?;
@@ -55,7 +56,7 @@ impl Lan {
         station: u8,
         pn: u32,
         user: Option<&UserFrame>,
-    ) -> Result<Facts, Stop>
+    ) -> Result<Facts, StepError>
         ensures answers { (settings : Settings) (users : List UserFrame) (r : Run)
             (nth : ℕ → Option (List ℕ)) (number : ℕ)
             → StandsFor settings users self.old r
@@ -64,18 +65,18 @@ impl Lan {
         ensures shown { OnErr result ((self.new.air ≡ self.old.air)
             × (self.new.names ≡ self.old.names)) }
     {
-        let Some(member) = self.members.get(station) else {
+        let Some(seat) = self.seats.get(station) else {
             return Ok(Facts::new(self.alloc));
         };
-        let key = member.transmitting();
-        let octets = sealed(member, pn, user)?;
+        let key = seat.transmitting();
+        let octets = sealed(seat, pn, user)?;
         let facts = one(self.alloc, claim_fact(station, pn, key))?;
         wait(&mut self.waiting, station, octets)?;
         Ok(facts)
     }
 
     /// The oldest frame that waits is put on the air.
-    pub(super) fn emit(&mut self) -> Result<Facts, Stop>
+    pub(super) fn emit(&mut self) -> Result<Facts, StepError>
         ensures answers { (settings : Settings) (users : List UserFrame) (r : Run)
             (nth : ℕ → Option (List ℕ))
             → StandsFor settings users self.old r → MayCome settings users r None events.Emit
@@ -103,7 +104,7 @@ impl Lan {
     }
 
     /// Foreign octets reach a station.
-    pub(super) fn inject(&mut self, station: u8, octets: &[u8]) -> Result<Facts, Stop>
+    pub(super) fn inject(&mut self, station: u8, octets: &[u8]) -> Result<Facts, StepError>
         ensures answers { (settings : Settings) (users : List UserFrame) (r : Run)
             (nth : ℕ → Option (List ℕ))
             → StandsFor settings users self.old r
@@ -112,10 +113,10 @@ impl Lan {
         ensures shown { OnErr result ((self.new.air ≡ self.old.air)
             × (self.new.names ≡ self.old.names)) }
     {
-        if octets.len() > MOST_INJECTED {
+        if octets.len() > FRAME_MAX {
             return Ok(Facts::new(self.alloc));
         }
-        let Some(came) = self.members.reach(station, 0, octets)? else {
+        let Some(came) = self.seats.reach(station, 0, octets)? else {
             return Ok(Facts::new(self.alloc));
         };
         judge_installs(came.installs)?;
@@ -125,10 +126,10 @@ impl Lan {
 }
 
 /// What a claim shows at a station that transmits under this key.
-fn claim_fact(station: u8, pn: u32, key: Option<HeldKey>) -> Fact
-    ensures { result ≡ claim_shown station pn key }
+fn claim_fact(station: u8, pn: u32, held: Option<HeldKey>) -> Fact
+    ensures { result ≡ claim_shown station pn held }
 {
-    let Some(key) = key else {
+    let Some(held) = held else {
         return Fact::Unclaimed {
             station,
             why: Lack::NoKey,
@@ -137,28 +138,30 @@ fn claim_fact(station: u8, pn: u32, key: Option<HeldKey>) -> Fact
     if pn == 0 {
         return Fact::Unclaimed {
             station,
-            why: Lack::Exhausted { epoch: key.epoch },
+            why: Lack::Exhausted {
+                epoch: held.key.epoch,
+            },
         };
     }
     Fact::Claimed {
         station,
-        an: key.an,
-        epoch: key.epoch,
+        an: held.key.an,
+        epoch: held.key.epoch,
         pn,
     }
 }
 
 /// The frame of a claim that got a packet number, protected under the key that transmits.
-fn sealed(member: &Member, pn: u32, user: Option<&UserFrame>) -> Result<Option<Octets>, AllocError>
+fn sealed(seat: &Seat, pn: u32, user: Option<&UserFrame>) -> Result<Option<Octets>, AllocError>
     ensures none { pn ≡ 0 → IfOk result (λ octets. octets ≡ None) }
     ensures octets { (window : ℕ) (l : Life) (h : List Receiving) (given : UserFrame)
-        → Sits window l h member.now
+        → Sits window l h seat.now
         → 1 ≤ pn → option_copied user.entry ≡ Some given → IsUserData given.body
         → IfOk result (λ octets. octets ≡ option_map (λ k. protected (secret_octets k.sak)
         l.member.setup.sci k.an pn k.conf given) (transmitting (keys_in l))) }
 {
     match user {
-        Some(user) if pn > 0 && is_user_data(user.body.as_slice()) => member.protected(pn, user),
+        Some(user) if pn > 0 && is_user_data(user.body.as_slice()) => seat.protected(pn, user),
         _ => Ok(None),
     }
 }

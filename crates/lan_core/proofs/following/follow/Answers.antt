@@ -4,11 +4,8 @@ use Rattle.rx_slots.specs.Standing.{StandsFor as SlotsStandFor}
 use Rattle.rx_slots.specs.Histories.{Receiving}
 use Rattle.sak_exchange.specs.declared.change.Change.{Change}
 use Rattle.lan_core.specs.inside.Following.{followed}
-use Rattle.lan_core.proofs.Followed.{followed-next, slot-at}
+use Rattle.lan_core.proofs.SlotsFollow.{followed-next}
 use Rattle.lan_core.proofs.following.follow.Goals as goal
-
-pub follow_one-requires : goal.follow_one-requires
-follow_one-requires c = slot-at c.args.changes.now c.loop-change.change-index _ c.requires (omega (arith, c.loop-change-test.true))
 
 pub loop-change-preserved : goal.loop-change-preserved
 loop-change-preserved c = λ own window h s.

@@ -1,5 +1,5 @@
 use Rattle.std.proofs.Common.{◌+◌, ◌<◌, length, arith}
-use Rattle.lan_core.proofs.Followed.{count-next, count-up-to, no_change}
+use Rattle.lan_core.proofs.SlotsFollow.{count-next, count-up-to, no_change}
 use Rattle.lan_core.proofs.following.installs_after.Goals as goal
 
 pub overflow_add-count : goal.overflow_add-count

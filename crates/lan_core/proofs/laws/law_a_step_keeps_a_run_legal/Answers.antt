@@ -1,4 +1,4 @@
-use Rattle.lan_core.proofs.Excuses.{step-legal}
+use Rattle.lan_core.proofs.ExcusesStay.{step-legal}
 use Rattle.lan_core.proofs.laws.law_a_step_keeps_a_run_legal.Goals as goal
 
 pub returns : goal.returns

@@ -1,4 +1,4 @@
-use Rattle.lan_core.proofs.Excuses.{stays-excused}
+use Rattle.lan_core.proofs.ExcusesStay.{stays-excused}
 use Rattle.lan_core.proofs.laws.law_an_excused_run_stays_excused.Goals as goal
 
 pub returns : goal.returns

@@ -1,4 +1,4 @@
-use Rattle.lan_core.proofs.Unstopped.{legal, fresh, unforged}
+use Rattle.lan_core.proofs.UnstoppedSteps.{legal, fresh, unforged}
 use Rattle.lan_core.proofs.laws.law_an_unstopped_event_keeps_a_run_sound.Goals as goal
 
 pub returns-clause-legal : goal.returns-clause-legal

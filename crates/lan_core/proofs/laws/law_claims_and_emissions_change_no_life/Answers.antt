@@ -1,4 +1,4 @@
-use Rattle.lan_core.proofs.Quiet.{claims-change-none, emissions-change-none}
+use Rattle.lan_core.proofs.LivesUnchanged.{claims-change-none, emissions-change-none}
 use Rattle.lan_core.proofs.laws.law_claims_and_emissions_change_no_life.Goals as goal
 
 pub returns-clause-claim : goal.returns-clause-claim

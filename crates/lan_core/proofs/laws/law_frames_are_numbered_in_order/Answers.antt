@@ -1,4 +1,4 @@
-use Rattle.lan_core.proofs.Numbered.{air-numbered}
+use Rattle.lan_core.proofs.FramesNumbered.{air-numbered}
 use Rattle.lan_core.proofs.laws.law_frames_are_numbered_in_order.Goals as goal
 
 pub returns : goal.returns

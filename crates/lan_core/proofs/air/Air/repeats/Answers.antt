@@ -1,7 +1,7 @@
 use Rattle.std.proofs.Common.{◌≡◌, ◌∙◌, Some, None, option_map, ap, subst}
 use Rattle.std.specs.List.{list_any}
 use Rattle.lan_core.specs.inside.Spellings.{has_octets, repeats_octets, spelling}
-use Rattle.lan_core.proofs.Spelling.{repeats_found, repeats_none}
+use Rattle.lan_core.proofs.SpellingRepeats.{repeats_found, repeats_none}
 use Rattle.lan_core.proofs.air.Air.repeats.Goals as goal
 
 pub returns-in-Some : goal.returns-in-Some

@@ -1,5 +1,5 @@
 use Rattle.std.proofs.Common.{◌≡◌, drop}
-use Rattle.lan_core.specs.inside.Steps.{sent_in}
+use Rattle.lan_core.specs.inside.Shown.{sent_in}
 use Rattle.lan_core.proofs.came.Came.sent.Given as goal
 
 abbrev pub invariant-loop-fact : goal.invariant-loop-fact

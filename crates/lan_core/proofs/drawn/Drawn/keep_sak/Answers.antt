@@ -2,8 +2,8 @@ use Rattle.std.proofs.Common.{refl, sym, subst}
 use Rattle.aes_block.specs.declared.secret.Secret.{Secret}
 use Rattle.aes_block.specs.declared.secret.Secret.TheVariants.{S128, S256}
 use Rattle.lan_core.specs.Standing.{Numbers}
-use Rattle.lan_core.specs.inside.Keeping.{SakIsKept}
-use Rattle.lan_core.proofs.Kept.{narrow_kept, wide_kept}
+use Rattle.lan_core.specs.inside.Drawing.{SakIsKept}
+use Rattle.lan_core.proofs.DrawsLookedUp.{narrow_kept, wide_kept}
 use Rattle.lan_core.proofs.drawn.Drawn.keep_sak.Goals as goal
 
 pub returns-in_ok-insert-in-S128 : goal.returns-in_ok-insert-in-S128

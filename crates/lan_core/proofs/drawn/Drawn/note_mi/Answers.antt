@@ -1,7 +1,7 @@
 use Rattle.std.proofs.Common.{◌≡◌, ◌∙◌, ◌+◌, refl, sym, ap, subst}
 use Rattle.lan_core.specs.Standing.{Numbers}
-use Rattle.lan_core.specs.inside.Steps.{MiIsNoted}
-use Rattle.lan_core.proofs.Kept.{mi_kept}
+use Rattle.lan_core.specs.inside.Drawing.{MiIsNoted}
+use Rattle.lan_core.proofs.DrawsLookedUp.{mi_kept}
 use Rattle.lan_core.proofs.drawn.Drawn.note_mi.Goals as goal
 
 pub returns : goal.returns

@@ -1,10 +1,10 @@
-use Rattle.std.proofs.Common.{◌≡◌, Some, refl, ap, sym, subst}
+use Rattle.std.proofs.Common.{◌≡◌, ◌∙◌, Some, refl, ap, sym, subst}
 use Rattle.std.specs.Option.{option_copied}
 use Rattle.lan_core.specs.declared.event.Event.TheVariants as events
 use Rattle.lan_core.specs.Standing.{StandsFor, octets_at}
 use Rattle.lan_core.specs.inside.Seats.{Reaches}
-use Rattle.lan_core.proofs.Reached.{reach-goes-on, reach-stops, or-none, delivered, place-of, no-frame, came-so, came-not}
-use Rattle.lan_core.proofs.Refused.{refused, by-part}
+use Rattle.lan_core.proofs.OctetsReach.{reach-goes-on, reach-stops, or-none, delivered, place-of, no-frame, came-so, came-not}
+use Rattle.lan_core.proofs.RefusalPassedOn.{stopped}
 use Rattle.lan_core.proofs.lan.Lan.deliver.Goals as goal
 
 pub returns-clause-answers : goal.returns-clause-answers
@@ -19,7 +19,7 @@ returns-clause-answers c settings users r nth stands comes =
     cc (c.frame.ensures.frame, ap (λ o. option_copied o) c.in-Some.is) in
     let place = place-of settings users r _ st s comes.0 in
     let there = place.1.1 in
-    let reaches = came-so (Reaches settings r s there.seat there.alive n octets now.members new) c.in_ok-came.field-0
+    let reaches = came-so (Reaches settings r s there.seat there.alive n octets now.seats new) c.in_ok-came.field-0
     c.in-Some-2.came c.in-Some-2.is (c.in_ok-came.ensures settings r there.seat there.alive there.there there.seated.0) in
     reach-goes-on settings users r _ st (events.Deliver n s) s n octets
     (delivered settings users r _ st n s octets at) place.0 place.1.0 there new c.in-Some-2.came reaches nth
@@ -37,7 +37,7 @@ returns-in_default-2-clause-answers c settings users r nth stands comes =
     let now = c.self.inside in
     let st = subst (λ lan. StandsFor settings users lan r) (sym c.self.view_is) stands in
     let there = (place-of settings users r _ st s comes.0).1.1 in
-    absurd (came-not (Reaches settings r s there.seat there.alive n c.in-Some.octets.now now.members c.reach.new.self)
+    absurd (came-not (Reaches settings r s there.seat there.alive n c.in-Some.octets.now now.seats c.reach.new.self)
     c.in_ok-came.field-0 c.in_default-2.is
     (c.in_ok-came.ensures settings r there.seat there.alive there.there there.seated.0))
 
@@ -53,9 +53,9 @@ returns-in_err-judge_installs-clause-answers c settings users r nth stands comes
     cc (c.frame.ensures.frame, ap (λ o. option_copied o) c.in-Some.is) in
     let place = place-of settings users r _ st s comes.0 in
     let there = place.1.1 in
-    let reaches = came-so (Reaches settings r s there.seat there.alive n octets now.members new) c.in_ok-came.field-0
+    let reaches = came-so (Reaches settings r s there.seat there.alive n octets now.seats new) c.in_ok-came.field-0
     c.in-Some-2.came c.in-Some-2.is (c.in_ok-came.ensures settings r there.seat there.alive there.there there.seated.0) in
     let first = reach-stops settings users r _ st (events.Deliver n s) s n octets
     (delivered settings users r _ st n s octets at) place.0 there new c.in-Some-2.came reaches nth in
-    refused settings users r (events.Deliver n s) nth nth _ _ _ c.from_residual-in_err-judge_installs.ensures.1
-    (by-part _ _ _ (or-none _ _ first) c.in_err-judge_installs.ensures)
+    stopped settings users r (events.Deliver n s) nth nth _ _ _ c.from_residual-in_err-judge_installs.ensures.1
+    (or-none _ _ first ∙ c.in_err-judge_installs.ensures)

@@ -3,10 +3,10 @@ use Rattle.std.specs.Prelude.{option_map}
 use Rattle.lan_core.specs.declared.fact.Fact.TheVariants as facts
 use Rattle.lan_core.specs.declared.stop.Stop.TheVariants.{Limit}
 use Rattle.lan_core.specs.Standing.{StandsFor}
-use Rattle.lan_core.specs.inside.Steps.{passed_with}
-use Rattle.lan_core.proofs.Emits.{emission-stops, emission-goes-on, next-is, none-waits, judged}
+use Rattle.lan_core.specs.inside.Limits.{passed_with}
+use Rattle.lan_core.proofs.EmissionGoesOn.{emission-stops, emission-goes-on, next-is, none-waits, judged}
 use Rattle.lan_core.specs.declared.event.Event.TheVariants as events
-use Rattle.lan_core.proofs.Refused.{refused, by-part}
+use Rattle.lan_core.proofs.RefusalPassedOn.{stopped}
 use Rattle.lan_core.proofs.lan.Lan.emit.Goals as goal
 
 pub returns-clause-answers : goal.returns-clause-answers
@@ -17,9 +17,9 @@ returns-clause-answers c settings users r nth stands comes =
     let number = c.in_ok-number.number in
     let st = subst (λ lan. StandsFor settings users lan r) (sym c.self.view_is) stands in
     let waits : now.waiting ≡ frame ∷ rest = c.in-Some.ensures.front in
-    let counted : number ≡ length now.air + 1 = c.in_ok-number.ensures.number in
-    let within : option_map Limit (passed_with (now.air ++ frame.octets ∷ []) now.ticks 0 (length now.names.items)) ≡ None =
-    judged c.in_ok-extent.field-0 _ None c.in_ok-extent.ensures.extent c.in_ok-judge.ensures in
+    let counted : number ≡ length now.air + 1 = c.in_ok-number.ensures in
+    let within : option_map Limit (passed_with (now.air ++ frame.octets ∷ []) now.ticks 0 (length now.names)) ≡ None =
+    judged c.in_ok-extent.field-0 _ None c.in_ok-extent.ensures c.in_ok-judge.ensures in
     let told : c.in_ok-facts.facts ≡ facts.Framed number frame.station true c.in_ok-octets.octets ∷ [] = c.in_ok-facts.ensures in
     let copied : c.in_ok-octets.octets ≡ frame.octets = c.in_ok-octets.ensures in
     let put : c.push.new.self ≡ now.air ++ frame.octets ∷ [] = c.in_ok-push.ensures.ok in
@@ -39,6 +39,6 @@ returns-in_err-judge-clause-answers c settings users r nth stands comes =
     let st = subst (λ lan. StandsFor settings users lan r) (sym c.self.view_is) stands in
     let next = next-is settings users r _ st frame c.pop.new.self c.in-Some.ensures.front in
     let first = emission-stops settings users r _ st nth frame c.pop.new.self next in
-    let here = judged c.in_ok-extent.field-0 _ _ c.in_ok-extent.ensures.extent refl in
-    refused settings users r events.Emit nth nth _ _ _ c.from_residual-in_err-judge.ensures.1
-    (by-part _ _ _ (cc (first, here)) c.in_err-judge.ensures)
+    let here = judged c.in_ok-extent.field-0 _ _ c.in_ok-extent.ensures refl in
+    stopped settings users r events.Emit nth nth _ _ _ c.from_residual-in_err-judge.ensures.1
+    (cc (first, here, c.in_err-judge.ensures))

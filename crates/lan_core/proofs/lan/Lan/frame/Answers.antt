@@ -2,7 +2,7 @@ use Rattle.std.proofs.Common.{◌≡◌, ap, sym, subst}
 use Rattle.std.specs.Option.{option_copied}
 use Rattle.lan_core.specs.Ledgers.{air}
 use Rattle.lan_core.specs.Standing.{StandsFor, octets_at}
-use Rattle.lan_core.proofs.Moved.{frame-of}
+use Rattle.lan_core.proofs.GroupMoved.{frame-of}
 use Rattle.lan_core.proofs.lan.Lan.frame.Goals as goal
 
 pub returns-clause-frame : goal.returns-clause-frame

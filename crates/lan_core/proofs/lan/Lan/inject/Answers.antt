@@ -1,11 +1,11 @@
-use Rattle.std.proofs.Common.{◌≡◌, ◌⊎◌, Some, None, sym, subst}
+use Rattle.std.proofs.Common.{◌≡◌, None, sym, subst}
 use Rattle.lan_core.specs.declared.event.Event.TheVariants as events
-use Rattle.lan_core.specs.declared.stop.Stop.TheVariants.{Memory}
+use Rattle.lan_core.specs.Answers.{IsWhy}
 use Rattle.lan_core.specs.Stops.{stop_of_forgery}
 use Rattle.lan_core.specs.Standing.{StandsFor}
 use Rattle.lan_core.specs.inside.Seats.{Reaches}
-use Rattle.lan_core.proofs.Reached.{reach-goes-on, reach-stops, injects, place-of, came-so, came-not, or-later}
-use Rattle.lan_core.proofs.Refused.{refused, by-part, by-first}
+use Rattle.lan_core.proofs.OctetsReach.{reach-goes-on, reach-stops, injects, place-of, came-so, came-not, or-later}
+use Rattle.lan_core.proofs.RefusalPassedOn.{refused, stopped, by-part, by-first}
 use Rattle.lan_core.proofs.lan.Lan.inject.Goals as goal
 
 pub returns-clause-answers : goal.returns-clause-answers
@@ -17,7 +17,7 @@ returns-clause-answers c settings users r nth stands comes =
     let st = subst (λ lan. StandsFor settings users lan r) (sym c.self.view_is) stands in
     let place = place-of settings users r _ st s comes.0 in
     let there = place.1.1 in
-    let reaches = came-so (Reaches settings r s there.seat there.alive 0 octets now.members new) c.in_ok-came.field-0
+    let reaches = came-so (Reaches settings r s there.seat there.alive 0 octets now.seats new) c.in_ok-came.field-0
     c.in-Some.came c.in-Some.is (c.in_ok-came.ensures settings r there.seat there.alive there.there there.seated.0) in
     reach-goes-on settings users r _ st (events.Inject s octets) s 0 octets
     (injects settings users r s octets) place.0 place.1.0 there new c.in-Some.came reaches nth
@@ -31,7 +31,7 @@ returns-in_default-clause-answers c settings users r nth stands comes =
     let now = c.self.inside in
     let st = subst (λ lan. StandsFor settings users lan r) (sym c.self.view_is) stands in
     let there = (place-of settings users r _ st s comes.0).1.1 in
-    absurd (came-not (Reaches settings r s there.seat there.alive 0 c.args.octets.now now.members c.reach.new.self)
+    absurd (came-not (Reaches settings r s there.seat there.alive 0 c.args.octets.now now.seats c.reach.new.self)
     c.in_ok-came.field-0 c.in_default.is
     (c.in_ok-came.ensures settings r there.seat there.alive there.there there.seated.0))
 
@@ -44,11 +44,11 @@ returns-in_err-judge_installs-clause-answers c settings users r nth stands comes
     let st = subst (λ lan. StandsFor settings users lan r) (sym c.self.view_is) stands in
     let place = place-of settings users r _ st s comes.0 in
     let there = place.1.1 in
-    let reaches = came-so (Reaches settings r s there.seat there.alive 0 octets now.members new) c.in_ok-came.field-0
+    let reaches = came-so (Reaches settings r s there.seat there.alive 0 octets now.seats new) c.in_ok-came.field-0
     c.in-Some.came c.in-Some.is (c.in_ok-came.ensures settings r there.seat there.alive there.there there.seated.0) in
     let first = reach-stops settings users r _ st (events.Inject s octets) s 0 octets
     (injects settings users r s octets) place.0 there new c.in-Some.came reaches nth in
-    refused settings users r (events.Inject s octets) nth nth _ _ _ c.from_residual-in_err-judge_installs.ensures.1
+    stopped settings users r (events.Inject s octets) nth nth _ _ _ c.from_residual-in_err-judge_installs.ensures.1
     (by-first _ _ _ _ first c.in_err-judge_installs.ensures)
 
 pub returns-in_err-judge_forgery-clause-answers : goal.returns-in_err-judge_forgery-clause-answers
@@ -60,12 +60,11 @@ returns-in_err-judge_forgery-clause-answers c settings users r nth stands comes 
     let st = subst (λ lan. StandsFor settings users lan r) (sym c.self.view_is) stands in
     let place = place-of settings users r _ st s comes.0 in
     let there = place.1.1 in
-    let reaches = came-so (Reaches settings r s there.seat there.alive 0 octets now.members new) c.in_ok-came.field-0
+    let reaches = came-so (Reaches settings r s there.seat there.alive 0 octets now.seats new) c.in_ok-came.field-0
     c.in-Some.came c.in-Some.is (c.in_ok-came.ensures settings r there.seat there.alive there.there there.seated.0) in
     let first = reach-stops settings users r _ st (events.Inject s octets) s 0 octets
     (injects settings users r s octets) place.0 there new c.in-Some.came reaches nth in
     refused settings users r (events.Inject s octets) nth nth _ _ _ c.from_residual-in_err-judge_forgery.ensures.1
     (by-part _ _ _ (or-later _ _ _ first c.in_ok-judge_installs.ensures)
-    (subst (λ q. (c.in_err-judge_forgery.field-0.0 ≡ Memory)
-    ⊎ (stop_of_forgery q r (events.Inject s octets) ≡ Some c.in_err-judge_forgery.field-0.0)) st.set_up
+    (subst (λ q. IsWhy (stop_of_forgery q r (events.Inject s octets)) c.in_err-judge_forgery.field-0.0) st.set_up
     (c.in_err-judge_forgery.ensures r st.on_air comes.0)))

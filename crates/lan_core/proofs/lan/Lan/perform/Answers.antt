@@ -3,7 +3,7 @@ use Rattle.std.specs.Option.{option_copied}
 use Rattle.lan_core.specs.declared.event.Event.{Event}
 use Rattle.lan_core.specs.declared.event.Event.TheVariants as events
 use Rattle.lan_core.specs.Stops.{MayCome}
-use Rattle.lan_core.specs.inside.Steps.{Answers}
+use Rattle.lan_core.specs.Answers.{Answers}
 use Rattle.lan_core.proofs.lan.Lan.perform.Goals as goal
 
 pub returns-in-Deliver-clause-answers : goal.returns-in-Deliver-clause-answers

@@ -1,4 +1,4 @@
-use Rattle.std.proofs.Common.{◌≡◌, ◌∙◌, ◌+◌, ℕ, Some, None, inr, refl, ap, sym, subst}
+use Rattle.std.proofs.Common.{◌≡◌, ◌∙◌, ◌+◌, ℕ, Some, None, refl, ap, sym, subst}
 use Rattle.std.specs.Prelude.{OnSome}
 use Rattle.std.specs.Option.{ok_or}
 use Rattle.mka_station.specs.Standing.{drawn_mi}
@@ -6,10 +6,10 @@ use Rattle.lan_core.specs.declared.event.Event.TheVariants as events
 use Rattle.lan_core.specs.declared.stop.Stop.TheVariants.{DrawsSpent}
 use Rattle.lan_core.specs.Standing.{StandsFor, number_of_mi}
 use Rattle.lan_core.specs.inside.Seats.{Restarts}
-use Rattle.lan_core.specs.inside.Steps.{MiIsNoted, stop_of}
-use Rattle.lan_core.proofs.Reached.{place-of, came-so, came-not}
-use Rattle.lan_core.proofs.Refused.{refused, by-part}
-use Rattle.lan_core.proofs.Restarted.{no-draw, restart-goes-on, restart-stops}
+use Rattle.lan_core.specs.inside.Drawing.{MiIsNoted, stop_of}
+use Rattle.lan_core.proofs.OctetsReach.{place-of, came-so, came-not}
+use Rattle.lan_core.proofs.RefusalPassedOn.{refused, stopped, by-part}
+use Rattle.lan_core.proofs.RestartGoesOn.{no-draw, restart-goes-on, restart-stops}
 use Rattle.lan_core.proofs.lan.Lan.restart.Goals as goal
 
 pub returns-in_err-draw-clause-answers : goal.returns-in_err-draw-clause-answers
@@ -18,8 +18,8 @@ returns-in_err-draw-clause-answers g c settings users r stands comes =
     let none : nth 0 ≡ None = sym c.draw.ensures.next ∙ c.in_err-draw.ensures.ok_part in
     let spent : c.in_err-draw.field-0.0 ≡ DrawsSpent =
     cc (c.in_err-draw.ensures.value, ap (λ o. ok_or o DrawsSpent) c.in_err-draw.ensures.ok_part) in
-    refused settings users r (events.Restart c.args.station) nth _ _ _ _ c.from_residual.ensures.1
-    (inr (no-draw settings users r (events.Restart c.args.station) nth refl none ∙ ap (λ stop. Some stop) (sym spent)))
+    stopped settings users r (events.Restart c.args.station) nth _ _ _ _ c.from_residual.ensures.1
+    (no-draw settings users r (events.Restart c.args.station) nth refl none ∙ ap (λ stop. Some stop) (sym spent))
 
 pub returns-in_err-note_mi-clause-answers : goal.returns-in_err-note_mi-clause-answers
 returns-in_err-note_mi-clause-answers g c settings users r stands comes =
@@ -39,7 +39,7 @@ returns-in_default-clause-answers g c settings users r stands comes =
     let now = c.self.inside in
     let st = subst (λ lan. StandsFor settings users lan r) (sym c.self.view_is) stands in
     let there = (place-of settings users r _ st s comes).1.1 in
-    absurd (came-not (Restarts settings r s there.seat there.alive c.in_ok-draw.draw now.members c.restart.new.self)
+    absurd (came-not (Restarts settings r s there.seat there.alive c.in_ok-draw.draw now.seats c.restart.new.self)
     c.in_ok-came.field-0 c.in_default.is
     (c.in_ok-came.ensures settings r there.seat there.alive there.there there.seated.0))
 
@@ -57,7 +57,7 @@ returns-clause-answers g c settings users r stands comes =
     let first : nth 0 ≡ Some draw = sym c.draw.ensures.next ∙ c.in_ok-draw.ensures.ok_part in
     let taken : (k : ℕ) → after k ≡ nth (k + 1) =
     subst (λ o. OnSome o ((k : ℕ) → after k ≡ nth (k + 1))) c.in_ok-draw.ensures.ok_part c.draw.ensures.taken in
-    let did = came-so (Restarts settings r s there.seat there.alive draw now.members new) c.in_ok-came.field-0
+    let did = came-so (Restarts settings r s there.seat there.alive draw now.seats new) c.in_ok-came.field-0
     c.in-Some.came c.in-Some.is (c.in_ok-came.ensures settings r there.seat there.alive there.there there.seated.0) in
     let goes : stop_of now.drawn (number_of_mi now.drawn (drawn_mi draw)) ≡ None =
     subst (λ mi. stop_of now.drawn (number_of_mi now.drawn mi) ≡ None) c.mi_of.ensures c.in_ok-note_mi.ensures.judges in

@@ -1,15 +1,16 @@
 use Rattle.std.proofs.Common.{◌≡◌, ◌+◌, length, Some, ap, sym, subst}
-use Rattle.mka_station.specs.Drawing.{draws_for}
+use Rattle.lan_base.specs.Suites.{sak_draws}
 use Rattle.lan_core.specs.declared.event.Event.TheVariants as events
 use Rattle.lan_core.specs.Ledgers.{air, next_frame}
 use Rattle.lan_core.specs.Lives.{drawn_sak}
 use Rattle.lan_core.specs.Standing.{StandsFor}
 use Rattle.lan_core.specs.inside.Seats.{Ticks}
-use Rattle.lan_core.specs.inside.Steps.{GoesOn, IfNoted}
-use Rattle.lan_core.proofs.Carried.{order-length}
-use Rattle.lan_core.proofs.Reached.{place-of, came-so, came-not}
-use Rattle.lan_core.proofs.Refused.{refused, refused-fault, by-part}
-use Rattle.lan_core.proofs.Ticked.{tick-goes-on, tick-stops, tick-is-spent}
+use Rattle.lan_core.specs.Answers.{GoesOn}
+use Rattle.lan_core.specs.inside.Drawing.{IfNoted}
+use Rattle.lan_core.proofs.CarriedOver.{order-length}
+use Rattle.lan_core.proofs.OctetsReach.{place-of, came-so, came-not}
+use Rattle.lan_core.proofs.RefusalPassedOn.{refused, refused-fault, by-part}
+use Rattle.lan_core.proofs.TickGoesOn.{tick-goes-on, tick-stops, tick-is-spent}
 use Rattle.lan_core.proofs.lan.Lan.tick.Goals as goal
 
 pub returns-clause-answers : goal.returns-clause-answers
@@ -21,13 +22,13 @@ returns-clause-answers g c settings users r stands comes =
     let after = g.D.Draws.nth c.tick.new.draws in
     let st = subst (λ lan. StandsFor settings users lan r) (sym c.self.view_is) stands in
     let numbered : c.in_ok-number.number ≡ next_frame r =
-    cc (c.in_ok-number.ensures.number, ap (λ fs. length fs + 1) st.on_air, ap (λ n. n + 1) (order-length (air r))) in
+    cc (c.in_ok-number.ensures, ap (λ fs. length fs + 1) st.on_air, ap (λ n. n + 1) (order-length (air r))) in
     let place = place-of settings users r _ st s comes.0 in
     let there = place.1.1 in
-    let did = came-so (Ticks settings r s there.seat there.alive c.args.next before after now.members new)
+    let did = came-so (Ticks settings r s there.seat there.alive c.args.next before after now.seats new)
     c.in_ok-came.field-0 c.in-Some.came c.in-Some.is
     (c.in_ok-came.ensures.came settings r there.seat there.alive there.there there.seated.0 numbered) in
-    let noted = subst (λ q. IfNoted (draws_for q.suite) now.drawn c.count_tick.new.self.drawn (drawn_sak c.in-Some.came.facts))
+    let noted = subst (λ q. IfNoted (sak_draws q.suite) now.drawn c.count_tick.new.self.drawn (drawn_sak c.in-Some.came.facts))
     st.set_up c.in_ok-count_tick.ensures.drawn in
     subst (λ lan. GoesOn settings users r (events.Tick s c.args.next) before after lan c.in-Some.came.facts)
     (sym c.in_ok-count_tick.ensures.ticked)
@@ -54,9 +55,9 @@ returns-in_default-clause-answers g c settings users r stands comes =
     let after = g.D.Draws.nth c.tick.new.draws in
     let st = subst (λ lan. StandsFor settings users lan r) (sym c.self.view_is) stands in
     let numbered : c.in_ok-number.number ≡ next_frame r =
-    cc (c.in_ok-number.ensures.number, ap (λ fs. length fs + 1) st.on_air, ap (λ n. n + 1) (order-length (air r))) in
+    cc (c.in_ok-number.ensures, ap (λ fs. length fs + 1) st.on_air, ap (λ n. n + 1) (order-length (air r))) in
     let there = (place-of settings users r _ st s comes.0).1.1 in
-    absurd (came-not (Ticks settings r s there.seat there.alive c.args.next before after now.members c.tick.new.self)
+    absurd (came-not (Ticks settings r s there.seat there.alive c.args.next before after now.seats c.tick.new.self)
     c.in_ok-came.field-0 c.in_default.is
     (c.in_ok-came.ensures.came settings r there.seat there.alive there.there there.seated.0 numbered))
 
@@ -69,10 +70,10 @@ returns-in_err-count_tick-clause-answers g c settings users r stands comes =
     let after = g.D.Draws.nth c.tick.new.draws in
     let st = subst (λ lan. StandsFor settings users lan r) (sym c.self.view_is) stands in
     let numbered : c.in_ok-number.number ≡ next_frame r =
-    cc (c.in_ok-number.ensures.number, ap (λ fs. length fs + 1) st.on_air, ap (λ n. n + 1) (order-length (air r))) in
+    cc (c.in_ok-number.ensures, ap (λ fs. length fs + 1) st.on_air, ap (λ n. n + 1) (order-length (air r))) in
     let place = place-of settings users r _ st s comes.0 in
     let there = place.1.1 in
-    let did = came-so (Ticks settings r s there.seat there.alive c.args.next before after now.members new)
+    let did = came-so (Ticks settings r s there.seat there.alive c.args.next before after now.seats new)
     c.in_ok-came.field-0 c.in-Some.came c.in-Some.is
     (c.in_ok-came.ensures.came settings r there.seat there.alive there.there there.seated.0 numbered) in
     refused settings users r (events.Tick s c.args.next) before _ _ _ _ c.from_residual-in_err-count_tick.ensures.1

@@ -3,14 +3,14 @@ use Rattle.std.specs.Prelude.{option_map}
 use Rattle.sak_exchange.specs.Held.{transmitting}
 use Rattle.lan_core.specs.Lives.{receiving, keys_in}
 use Rattle.lan_core.specs.Standing.{StandsFor}
-use Rattle.lan_core.proofs.Carried.{no-life, its-life, numbers-held, numbers_of_held}
+use Rattle.lan_core.proofs.CarriedOver.{no-life, its-life, numbers-held, numbers_of_held}
 use Rattle.lan_core.proofs.lan.Lan.transmitting.Goals as goal
 
 pub returns-in-Some : goal.returns-in-Some
 returns-in-Some c settings users r stands =
     let s = c.args.station in
     let st = subst (λ lan. StandsFor settings users lan r) (sym c.self.view_is) stands in
-    let own = its-life settings _ _ _ _ _ c.in-Some.member.now (st.seats s) (sym c.in-Some.ensures) in
+    let own = its-life settings _ _ _ _ _ c.in-Some.seat.now (st.seats s) (sym c.in-Some.ensures) in
     let told = ap (λ k. option_map numbers_of_held k) (c.transmitting.ensures settings.window own.0 (receiving s r) own.1.1) in
     let so = cc_numbers c.numbers_of.ensures told (numbers-held (keys_in own.0) (transmitting (keys_in own.0))) in
     rw own.1.0 so

@@ -1,4 +1,4 @@
-use Rattle.std.proofs.Common.{true, false, inr, refl}
+use Rattle.std.proofs.Common.{true, false, refl}
 use Rattle.std.specs.List.{list_any}
 use Rattle.lan_core.specs.inside.Spellings.{repeats_octets}
 use Rattle.lan_core.proofs.Forgery.{forged-is, are-forged, not-right, not-new}
@@ -11,7 +11,7 @@ returns c r put exists =
     (λ setup ckn ick. c.in_ok-is_right.ensures setup (cc (ckn, c.in_ok-group.ensures.ckn)) (cc (ick, c.in_ok-group.ensures.ick))) in
     let yes = are-forged _ c.in_ok-is_right.field-0 known forged c.if-not-branch.false
     (cc (c.in_ok-repeats.ensures, c.if-branch.false)) in
-    inr (rw yes refl)
+    rw yes refl
 
 pub returns-then-not-branch : goal.returns-then-not-branch
 returns-then-not-branch c r put exists =

@@ -1,7 +1,7 @@
 use Rattle.std.proofs.Common.{◌∙◌, ◌||◌, List, ℕ, map, option_map, nat_eq, sym, ap}
 use lib.Pointwise.{pointwise}
 use Rattle.lan_core.specs.inside.Spellings.{has_octets, is_this}
-use Rattle.lan_core.proofs.LookedUp.{added}
+use Rattle.lan_core.proofs.OctetsLookedUp.{added}
 use Rattle.lan_core.proofs.spellings.Spellings.add.Goals as goal
 
 pub returns-in_ok-insert-clause-ok : goal.returns-in_ok-insert-clause-ok

@@ -1,6 +1,6 @@
 use Rattle.std.proofs.Common.{◌∙◌, List, ℕ, ap}
 use Rattle.lan_core.specs.inside.Spellings.{has_octets}
-use Rattle.lan_core.proofs.LookedUp.{found}
+use Rattle.lan_core.proofs.OctetsLookedUp.{found}
 use Rattle.lan_core.proofs.spellings.Spellings.has.Goals as goal
 
 pub returns : goal.returns

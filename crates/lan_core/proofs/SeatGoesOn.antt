@@ -1,0 +1,107 @@
+-- The seat of a station goes on with what the station does.
+use Rattle.std.proofs.Common.{◌≡◌, ◌∙◌, ◌+◌, ◌≤◌, ℕ, Bool, true, false, cond, not, ◌&&◌, List, [], ◌∷◌, Some, None, Result, Ok, Err, refl, ap, sym, subst, arith}
+use Rattle.std.specs.Prelude.{OnOk}
+use Rattle.aes_block.specs.declared.secret.Secret.{Secret}
+use Rattle.gcm_frames.specs.declared.tag.TagRefusal.TheVariants.{NotSec, Version, Mode, Short, SlWrong}
+use Rattle.gcm_frames.specs.Tags.{tag_fields, fields_or, is_sec, has_control, has_version, is_mode, is_short, is_length_wrong}
+use Rattle.mkpdu_codec.specs.declared.announcement.Announcement.{Announcement}
+use Rattle.peer_lists.specs.Histories.{clock, last_sent}
+use Rattle.rx_slots.specs.Histories.{Receiving}
+use Rattle.rx_slots.specs.Standing.{StandsFor as SlotsStandFor}
+use Rattle.sak_exchange.specs.declared.change.Change.{Change}
+use Rattle.sak_exchange.specs.declared.due.Seen.{Seen}
+use Rattle.mka_station.specs.Lives.{Member, peers_of, keys_of}
+use Rattle.mka_station.specs.Tick.{tick_turn}
+use Rattle.mka_station.specs.Hearing.{frame_turn, hear_turn}
+use Rattle.mka_station.specs.Standing.{StandsFor as StationStandsFor}
+use Rattle.lan_core.specs.Lives.{Life, lived, lived_ticking, seen_at, slot_change, turn_at_tick}
+use Rattle.lan_core.specs.Standing.{Seat, Sits}
+use Rattle.lan_core.specs.inside.Following.{followed, count_installed, tells_sec}
+use Rattle.lan_core.specs.declared.fact.Fact.{Fact}
+use Rattle.lan_core.specs.declared.fact.Fact.TheVariants as facts
+use Rattle.lan_core.specs.declared.settings.Settings.{Settings}
+use Rattle.lan_core.specs.Run.{Run}
+use Rattle.lan_core.specs.Ledgers.{gather, next_frame}
+use Rattle.lan_core.specs.Expected.{reaction_facts, tick_facts}
+use Rattle.mka_station.specs.declared.reaction.Reaction.{Reaction}
+use Rattle.lan_core.proofs.SlotsFollow.{slots-follow, tick-count, tick-clock, frame-count, frame-clock, frame-sent}
+
+-- reading finds the EtherType where it stands
+pub sec-told : (frame : List ℕ) → tells_sec (tag_fields frame) ≡ is_sec frame
+unfolding tag_fields
+sec-told frame =
+    go (is_sec frame) (has_control frame && has_version frame) (has_control frame && not (is_mode frame)) (is_short frame) (is_length_wrong frame)
+  where
+    go : (s a b c d : Bool) → tells_sec (fields_or (cond (not s) (Some NotSec) (cond a (Some Version) (cond b (Some Mode) (cond c (Some Short) (cond d (Some SlWrong) None))))) frame) ≡ s
+    go false a b c d = refl
+    go true true b c d = refl
+    go true false true c d = refl
+    go true false false true d = refl
+    go true false false false true = refl
+    go true false false false false = refl
+
+pub on-ok : {A E P : Type 0} (r : Result A E) → P → OnOk r P
+on-ok (Ok a) holds = holds
+on-ok (Err e) holds = tt
+
+-- a life begins
+pub sits-new : (window : ℕ) (m : Member) (h : List Receiving) (seat : Seat) → StationStandsFor m seat.station []
+    → SlotsStandFor m.setup.sci window seat.slots h → seat.ticks ≡ 0 → seat.installs ≡ m.base
+    → Sits window (record { member = m; past = [] }) h seat
+unfolding peers_of keys_of
+sits-new window m h seat stands slots ticks installs = record {
+  station = stands;
+  slots = slots;
+  ticks = ticks;
+  sent = omega (arith, ticks);
+  installs = omega (arith, installs);
+}
+
+-- a life goes on with a tick
+pub sits-ticked : (window : ℕ) (l : Life) (h : List Receiving) (old new : Seat) (seen : Seen) (sak : Secret) (cs : List Change)
+    → Sits window l h old → StationStandsFor l.member new.station (tick_turn l.member seen sak l.past).past
+    → cs ≡ (tick_turn l.member seen sak l.past).reaction.changes → SlotsStandFor l.member.setup.sci window new.slots (followed cs h)
+    → new.ticks ≡ old.ticks + 1 → new.installs ≡ old.installs + count_installed cs
+    → last_sent (peers_of l.member (tick_turn l.member seen sak l.past).past) ≤ last_sent (peers_of l.member l.past) + 1
+    → Sits window (lived l (tick_turn l.member seen sak l.past)) (followed cs h) new
+sits-ticked window l h old new seen sak cs s stands is slots ticks installs sent = record {
+  station = stands;
+  slots = slots;
+  ticks = omega (arith, ticks, s.ticks, tick-clock l.member seen sak l.past);
+  sent = omega (arith, ticks, s.sent, sent);
+  installs = omega (arith, installs, s.installs, ap count_installed is, tick-count l.member seen sak l.past);
+}
+
+-- a life goes on with a frame that is heard
+pub sits-heard : (window : ℕ) (l : Life) (h : List Receiving) (old new : Seat) (frame : List ℕ) (cs : List Change)
+    → Sits window l h old → StationStandsFor l.member new.station (frame_turn l.member frame l.past).past
+    → cs ≡ (frame_turn l.member frame l.past).reaction.changes → SlotsStandFor l.member.setup.sci window new.slots (followed cs h)
+    → new.ticks ≡ old.ticks → new.installs ≡ old.installs + count_installed cs
+    → ((a : Announcement) → last_sent (peers_of l.member (hear_turn l.member a l.past).past) ≡ last_sent (peers_of l.member l.past))
+    → Sits window (lived l (frame_turn l.member frame l.past)) (followed cs h) new
+sits-heard window l h old new frame cs s stands is slots ticks installs silent = record {
+  station = stands;
+  slots = slots;
+  ticks = omega (arith, ticks, s.ticks, frame-clock l.member frame l.past);
+  sent = omega (arith, ticks, s.sent, frame-sent l.member frame l.past silent);
+  installs = omega (arith, installs, s.installs, ap count_installed is, frame-count l.member frame l.past);
+}
+
+-- what a tick shows
+pub tick-told : (settings : Settings) (s : ℕ) (r : Run) (l : Life) (next : ℕ) (sak : Secret) (reaction : Reaction) (number clocked : ℕ) (shown : List Fact)
+    → reaction ≡ (turn_at_tick settings s r l next sak).reaction → number ≡ next_frame r
+    → clocked ≡ clock (peers_of l.member l.past) + 1 → shown ≡ facts.Ticked s clocked next ∷ reaction_facts s 0 number reaction
+    → shown ≡ tick_facts settings s r next sak l
+tick-told settings s r l next sak reaction number clocked shown is numbered counted tells =
+    tells ∙ (λ i. facts.Ticked s (counted i) next ∷ reaction_facts s 0 (numbered i) (is i))
+
+-- the clock after a tick
+pub clock-told : (settings : Settings) (s : ℕ) (r : Run) (l : Life) (next : ℕ) (sak : Secret) (h : List Receiving) (seat : Seat)
+    → Sits settings.window (lived_ticking settings s r next sak l) h seat → seat.ticks ≡ clock (peers_of l.member l.past) + 1
+clock-told settings s r l next sak h seat sits = sits.ticks ∙ tick-clock l.member (seen_at settings s r l next) sak l.past
+
+-- the slots after a reaction
+pub leaves : (window : ℕ) (l : Life) (s hearing sending : ℕ) (h : List Receiving) (reaction turn : Reaction) (seat : Seat)
+    → reaction ≡ turn → Sits window l (followed reaction.changes h) seat → Sits window l (gather (slot_change s) (reaction_facts s hearing sending turn) h) seat
+leaves window l s hearing sending h reaction turn seat is sits =
+    subst (λ (g : List Receiving). Sits window l g seat) (ap (λ (x : Reaction). followed x.changes h) is ∙ sym (slots-follow s hearing sending turn h)) sits

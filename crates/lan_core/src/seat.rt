@@ -1,0 +1,426 @@
+//! A station with its receive slots.
+
+ghost use Rattle.std.specs.Prelude.{◌≡◌, ◌≤◌, ◌<◌, ◌+◌, ◌^◌, ◌∷◌, [], List, ℕ, length, true, false, Err, IfOk, IfSome, OnOk, Option, option_map, option_to_list};
+ghost use Rattle.std.specs.List.{find};
+ghost use Rattle.lan_base.specs.AssociationNumbers.{same_an};
+ghost use Rattle.lan_base.specs.Ranges.{IsUserData, most_frame_octets};
+ghost use Rattle.aes_block.specs.Secrets.{secret_octets};
+ghost use Rattle.gcm_frames.specs.Protected.{protected};
+ghost use Rattle.sak_exchange.specs.Held.{held as held_after, transmitting as transmitting_after};
+ghost use Rattle.rx_slots.specs.Histories.{Receiving, heard};
+ghost use Rattle.rx_slots.specs.Numbers.{answer};
+ghost use Rattle.lan_core.specs.declared.fact.Fact.TheVariants.{Arrived};
+ghost use Rattle.mka_station.specs.Standing.{born, reborn, drawn_mi};
+ghost use Rattle.mka_station.specs.Drawing.{sak_of, draws_at, is_short};
+ghost use Rattle.mka_station.specs.declared.tick_error.TickError.{TickError};
+ghost use Rattle.lan_core.specs.declared.settings.Settings.{Settings};
+ghost use Rattle.lan_core.specs.Run.{Run};
+ghost use Rattle.lan_core.specs.Ledgers.{gather, next_frame};
+ghost use Rattle.lan_core.specs.Lives.{Life, keys_in, receiving, seen_at, slot_change, turn_at_tick, heard_data, lived, lived_hearing, lived_ticking};
+ghost use Rattle.lan_core.specs.Expected.{tick_facts, reached_facts, reaction_facts, restart_facts};
+ghost use Rattle.lan_core.specs.Keys.{held_under};
+ghost use Rattle.lan_core.specs.Standing.{Sits};
+ghost use Rattle.lan_core.specs.inside.Seats.{installs_in};
+ghost use Rattle.lan_core.specs.inside.Following.{count_installed, followed, tells_sec};
+ghost use Rattle.mka_station.specs.Tick.{tick_turn};
+ghost use Rattle.mka_station.specs.Hearing.{frame_turn};
+ghost use Rattle.mka_station.specs.Restart.{ending};
+ghost use Rattle.gcm_frames.specs.Tags.{is_sec};
+
+use crate::fact::{Fact, Facts};
+use crate::following::{follow, installs_after, lowest_under};
+use crate::telling::{one, tell, told};
+use aes_block::Key;
+use gcm_core::GcmKey;
+use gcm_frames::{Tag, TagRefusal, protect, tag_of};
+use lan_base::{AssociationNumber, Draws, Octets, UserFrame};
+use mka_station::{Config, Reaction, Station, TickError, law_room, law_turns_count};
+use rx_slots::RxSlots;
+use sak_exchange::{HeldKey, Seen};
+use std::alloc::{AllocError, Global};
+use std::marker::Model;
+
+/// How many octets stand around the user data of a protected frame.
+const AROUND: usize = 44;
+
+/// A station in one of its lives, with its receive slots, which it keeps over all its lives.
+#[derive(Drop)]
+pub struct Seat {
+    alloc: Global,
+    station: Station,
+    slots: RxSlots,
+    /// How many ticks the life has.
+    ticks: u32,
+    /// How many keys the station installed, over all its lives.
+    installs: u32,
+}
+
+impl Model for Seat {
+    ghost use Rattle.lan_core.specs.Standing.{Seat, IsSeat};
+
+    ghost Value = { Seat };
+
+    ghost view = { λ s. record {
+      station = s.station;
+      slots = s.slots;
+      ticks = s.ticks;
+      installs = s.installs;
+    } };
+
+    ghost invariant = { λ s. IsSeat (record {
+      station = s.station;
+      slots = s.slots;
+      ticks = s.ticks;
+      installs = s.installs;
+    }) };
+}
+
+impl Seat {
+    /// A station in its first life, whose member identifier is drawn.
+    pub fn start(
+        alloc: Global,
+        config: Config,
+        window: u32,
+        draw: [u8; 16],
+    ) -> Result<Seat, AllocError>
+        ensures { IfOk result (Sits window (record { member = born config 0 draw; past = [] }) []) }
+    {
+        let sci = config.sci;
+        let station = Station::start(alloc, config, 0, draw)?;
+        Ok(Seat {
+            alloc,
+            station,
+            slots: RxSlots::new(alloc, sci, window),
+            ticks: 0,
+            installs: 0,
+        })
+    }
+
+    /// A tick at the station, which stands at this place, where the next frame of the air has this
+    /// number.
+    pub fn tick<D: Draws>(
+        &mut self,
+        place: u8,
+        number: u32,
+        next: u64,
+        draws: &mut D,
+    ) -> Result<Facts, TickError>
+        ensures facts { (settings : Settings) (r : Run) (l : Life)
+            → Sits settings.window l (receiving place r) self.old →
+            number ≡ next_frame r → IfOk result (λ facts. facts
+            ≡ tick_facts settings place r next (sak_of l.member.setup.suite (D.nth draws.old)) l) }
+        ensures stands { (settings : Settings) (r : Run) (l : Life)
+            → Sits settings.window l (receiving place r) self.old →
+            number ≡ next_frame r → let sak = sak_of l.member.setup.suite (D.nth draws.old) in
+            OnOk result (Sits settings.window (lived_ticking settings place r next sak l)
+            (gather (slot_change place) (tick_facts settings place r next sak l)
+            (receiving place r)) self.new) }
+        ensures drawn { (settings : Settings) (r : Run) (l : Life)
+            → Sits settings.window l (receiving place r) self.old →
+            OnOk result ((k : ℕ) → D.nth draws.new k
+            ≡ D.nth draws.old (k + draws_at l.member l.past (seen_at settings place r l next))) }
+        ensures counted { IfOk result (λ facts. self.new.installs
+            ≡ self.old.installs + installs_in facts) }
+        ensures enough { (settings : Settings) (r : Run) (l : Life)
+            → Sits settings.window l (receiving place r) self.old →
+            OnOk result (is_short l.member l.past (seen_at settings place r l next)
+            (D.nth draws.old) ≡ false) }
+        ensures spent { (settings : Settings) (r : Run) (l : Life)
+            → Sits settings.window l (receiving place r) self.old →
+            result ≡ Err TickError.DrawsSpent →
+            is_short l.member l.past (seen_at settings place r l next) (D.nth draws.old) ≡ true }
+    {
+        let reaction = self.react(next, draws)?;
+        let ticked = Fact::Ticked {
+            station: place,
+            at: self.ticks,
+            next,
+        };
+        let facts = told(self.alloc, ticked, place, number, reaction)?;
+        Ok(facts)
+    }
+
+    /// A tick at the station, which transmits at this packet number next.
+    fn react<D: Draws>(&mut self, next: u64, draws: &mut D) -> Result<Reaction, TickError>
+        ensures reaction { (settings : Settings) (place : ℕ) (r : Run) (l : Life) →
+            Sits settings.window l (receiving place r) self.old →
+            let sak = sak_of l.member.setup.suite (D.nth draws.old) in
+            IfOk result (λ x. x ≡ (turn_at_tick settings place r l next sak).reaction) }
+        ensures stands { (settings : Settings) (place : ℕ) (r : Run) (l : Life) →
+            Sits settings.window l (receiving place r) self.old →
+            let sak = sak_of l.member.setup.suite (D.nth draws.old) in
+            IfOk result (λ x. Sits settings.window (lived_ticking settings place r next sak l)
+            (followed x.changes (receiving place r)) self.new) }
+        ensures counted { IfOk result (λ x. self.new.installs
+            ≡ self.old.installs + count_installed x.changes) }
+        ensures drawn { (settings : Settings) (place : ℕ) (r : Run) (l : Life) →
+            Sits settings.window l (receiving place r) self.old
+            → OnOk result ((k : ℕ) → D.nth draws.new k
+            ≡ D.nth draws.old (k + draws_at l.member l.past (seen_at settings place r l next))) }
+        ensures enough { (settings : Settings) (place : ℕ) (r : Run) (l : Life) →
+            Sits settings.window l (receiving place r) self.old →
+            OnOk result (is_short l.member l.past (seen_at settings place r l next)
+            (D.nth draws.old) ≡ false) }
+        ensures spent { (settings : Settings) (place : ℕ) (r : Run) (l : Life) →
+            Sits settings.window l (receiving place r) self.old
+            → result ≡ Err TickError.DrawsSpent →
+            is_short l.member l.past (seen_at settings place r l next) (D.nth draws.old) ≡ true }
+    {
+        let seen = self.seen(next);
+        self.advance(&seen, draws)
+    }
+
+    /// What a tick is shown of packet numbers.
+    fn seen(&self, next: u64) -> Seen
+        ensures { (settings : Settings) (place : ℕ) (r : Run) (l : Life)
+            → Sits settings.window l (receiving place r) self.now →
+            result ≡ seen_at settings place r l next }
+    {
+        Seen {
+            next,
+            latest: lowest_under(&self.slots, self.station.latest()),
+            old: lowest_under(&self.slots, self.station.old()),
+        }
+    }
+
+    /// A tick at the station, whose receive slots follow.
+    fn advance<D: Draws>(&mut self, seen: &Seen, draws: &mut D) -> Result<Reaction, TickError>
+        ensures reaction { (window : ℕ) (l : Life) (h : List Receiving) → Sits window l h self.old →
+            IfOk result (λ r. r ≡ (tick_turn l.member seen.now
+            (sak_of l.member.setup.suite (D.nth draws.old)) l.past).reaction) }
+        ensures stands { (window : ℕ) (l : Life) (h : List Receiving) → Sits window l h self.old →
+            IfOk result (λ r. Sits window
+            (lived l (tick_turn l.member seen.now (sak_of l.member.setup.suite
+            (D.nth draws.old)) l.past))
+            (followed r.changes h) self.new) }
+        ensures counted { IfOk result (λ r. self.new.installs
+            ≡ self.old.installs + count_installed r.changes) }
+        ensures drawn { (window : ℕ) (l : Life) (h : List Receiving) → Sits window l h self.old →
+            OnOk result ((k : ℕ) → D.nth draws.new k
+            ≡ D.nth draws.old (k + draws_at l.member l.past seen.now)) }
+        ensures enough { (window : ℕ) (l : Life) (h : List Receiving) → Sits window l h self.old →
+            OnOk result (is_short l.member l.past seen.now (D.nth draws.old) ≡ false) }
+        ensures spent { (window : ℕ) (l : Life) (h : List Receiving) → Sits window l h self.old →
+            result ≡ Err TickError.DrawsSpent → is_short l.member l.past seen.now
+            (D.nth draws.old) ≡ true }
+    {
+        law_room();
+        law_turns_count();
+        let Some(ticks) = self.next_tick() else {
+            return Err(TickError::Memory);
+        };
+        let reaction = self.station.tick(seen, draws)?;
+        let changes = reaction.changes.as_slice();
+        self.ticks = ticks;
+        self.installs = installs_after(self.installs, changes);
+        follow(&mut self.slots, changes);
+        Ok(reaction)
+    }
+
+    /// The number of the life's next tick, where it and one more install can be counted.
+    fn next_tick(&self) -> Option<u32>
+        ensures { IfSome result (λ ticks. (ticks ≡ self.now.ticks + 1)
+            × (self.now.installs + 1 < 2 ^ 32)) }
+    {
+        if self.installs == u32::MAX {
+            return None;
+        }
+        self.ticks.checked_add(1)
+    }
+
+    /// The frame of this number, or foreign octets under the number 0, reach the station, which
+    /// stands at this place.
+    pub fn reach(&mut self, place: u8, number: u32, octets: &[u8]) -> Result<Facts, AllocError>
+        requires { length octets.now ≤ most_frame_octets }
+        ensures facts { (settings : Settings) (r : Run) (l : Life)
+            → Sits settings.window l (receiving place r) self.old →
+            IfOk result (λ facts. facts ≡ reached_facts settings place r number octets.now l) }
+        ensures stands { (settings : Settings) (r : Run) (l : Life)
+            → Sits settings.window l (receiving place r) self.old →
+            OnOk result (Sits settings.window (lived_hearing l octets.now)
+            (gather (slot_change place) (reached_facts settings place r number octets.now l)
+            (heard_data octets.now (receiving place r))) self.new) }
+        ensures counted { IfOk result (λ facts. self.new.installs
+            ≡ self.old.installs + installs_in facts) }
+    {
+        if is_protected(octets) {
+            self.receive(place, number, octets)
+        } else {
+            self.hear_frame(place, number, octets)
+        }
+    }
+
+    /// A protected frame reaches the station.
+    fn receive(&mut self, place: u8, number: u32, octets: &[u8]) -> Result<Facts, AllocError>
+        requires { length octets.now ≤ most_frame_octets }
+        ensures facts { (window : ℕ) (l : Life) (h : List Receiving) → Sits window l h self.old →
+            IfOk result (λ facts. facts ≡ Arrived number place
+            (answer l.member.setup.sci window h octets.now) ∷ []) }
+        ensures stands { (window : ℕ) (l : Life) (h : List Receiving) → Sits window l h self.old →
+            OnOk result (Sits window l (heard octets.now ∷ h) self.new) }
+        ensures counted { IfOk result (λ facts. self.new.installs
+            ≡ self.old.installs + installs_in facts) }
+    {
+        let arrival = self.slots.receive(octets)?;
+        let arrived = Fact::Arrived {
+            frame: number,
+            station: place,
+            arrival,
+        };
+        one(self.alloc, arrived)
+    }
+
+    /// A frame that is no protected one reaches the station.
+    fn hear_frame(&mut self, place: u8, number: u32, octets: &[u8]) -> Result<Facts, AllocError>
+        ensures facts { (window : ℕ) (l : Life) (h : List Receiving) → Sits window l h self.old →
+            IfOk result (λ facts. facts ≡ reaction_facts place number 0
+            (frame_turn l.member octets.now l.past).reaction) }
+        ensures stands { (window : ℕ) (l : Life) (h : List Receiving) → Sits window l h self.old →
+            OnOk result (Sits window (lived l (frame_turn l.member octets.now l.past))
+            (gather (slot_change place) (reaction_facts place number 0
+            (frame_turn l.member octets.now l.past).reaction) h)
+            self.new) }
+        ensures counted { IfOk result (λ facts. self.new.installs
+            ≡ self.old.installs + installs_in facts) }
+    {
+        let reaction = self.hear(octets)?;
+        let mut facts = Facts::new(self.alloc);
+        tell(&mut facts, place, number, 0, reaction)?;
+        Ok(facts)
+    }
+
+    /// A frame of key agreement is heard, and the receive slots follow.
+    fn hear(&mut self, frame: &[u8]) -> Result<Reaction, AllocError>
+        ensures reaction { (window : ℕ) (l : Life) (h : List Receiving) → Sits window l h self.old →
+            IfOk result (λ r. r ≡ (frame_turn l.member frame.now l.past).reaction) }
+        ensures stands { (window : ℕ) (l : Life) (h : List Receiving) → Sits window l h self.old →
+            IfOk result (λ r. Sits window (lived l (frame_turn l.member frame.now l.past))
+            (followed r.changes h) self.new) }
+        ensures counted { IfOk result (λ r. self.new.installs
+            ≡ self.old.installs + count_installed r.changes) }
+    {
+        law_room();
+        law_turns_count();
+        let Some(_ticks) = self.next_tick() else {
+            return Err(AllocError);
+        };
+        let reaction = self.station.hear(frame)?;
+        let changes = reaction.changes.as_slice();
+        self.installs = installs_after(self.installs, changes);
+        follow(&mut self.slots, changes);
+        Ok(reaction)
+    }
+
+    /// The station, which stands at this place, starts again.
+    pub fn restart(&mut self, place: u8, draw: [u8; 16]) -> Result<Facts, AllocError>
+        ensures facts { (window : ℕ) (l : Life) (h : List Receiving) → Sits window l h self.old →
+            IfOk result (λ facts. facts ≡ restart_facts place (drawn_mi draw) l) }
+        ensures stands { (window : ℕ) (l : Life) (h : List Receiving) → Sits window l h self.old →
+            OnOk result (Sits window (record { member = reborn l.member l.past draw; past = [] })
+            (gather (slot_change place) (restart_facts place (drawn_mi draw) l) h) self.new) }
+        ensures counted { IfOk result (λ facts. self.new.installs
+            ≡ self.old.installs + installs_in facts) }
+    {
+        let reaction = self.begin_again(draw)?;
+        let life = Fact::Life {
+            station: place,
+            mi: *self.station.mi(),
+        };
+        let facts = told(self.alloc, life, place, 0, reaction)?;
+        Ok(facts)
+    }
+
+    /// The station starts again, and the receive slots follow the end of its life.
+    fn begin_again(&mut self, draw: [u8; 16]) -> Result<Reaction, AllocError>
+        ensures reaction { (window : ℕ) (l : Life) (h : List Receiving) → Sits window l h self.old →
+            IfOk result (λ r. r ≡ ending l.member l.past) }
+        ensures stands { (window : ℕ) (l : Life) (h : List Receiving) → Sits window l h self.old →
+            IfOk result (λ r. Sits window (record {
+              member = reborn l.member l.past draw;
+              past = [];
+            }) (followed r.changes h) self.new) }
+        ensures counted { OnOk result (self.new.installs ≡ self.old.installs) }
+        ensures none { IfOk result (λ r. count_installed r.changes ≡ 0) }
+    {
+        let reaction = self.station.restart(draw)?;
+        self.ticks = 0;
+        follow(&mut self.slots, reaction.changes.as_slice());
+        Ok(reaction)
+    }
+
+    /// The key under which frames are sent.
+    pub fn transmitting(&self) -> Option<HeldKey>
+        ensures { (window : ℕ) (l : Life) (h : List Receiving) → Sits window l h self.now →
+            result ≡ option_map (held_after (keys_in l)) (transmitting_after (keys_in l)) }
+    {
+        self.station.transmitting()
+    }
+
+    /// The key that is held under an association number.
+    pub fn held(&self, an: AssociationNumber) -> Option<HeldKey>
+        ensures { (window : ℕ) (l : Life) (h : List Receiving) → Sits window l h self.now →
+            result ≡ held_under (keys_in l) an }
+    {
+        let latest = with_number(self.station.latest(), an);
+        latest.or(with_number(self.station.old(), an))
+    }
+
+    /// How many keys the station installed, over all its lives.
+    pub fn installs(&self) -> u32
+        ensures { result ≡ self.now.installs }
+    {
+        self.installs
+    }
+
+    /// The frame of a user, protected under the key that transmits, if one does.
+    pub fn protected(&self, pn: u32, user: &UserFrame) -> Result<Option<Octets>, AllocError>
+        requires pn { 1 ≤ pn }
+        requires user { IsUserData user.now.body }
+        ensures { (window : ℕ) (l : Life) (h : List Receiving) → Sits window l h self.now →
+            IfOk result (λ octets. octets ≡ option_map (λ k. protected (secret_octets k.sak)
+            l.member.setup.sci k.an pn k.conf user.now) (transmitting_after (keys_in l))) }
+    {
+        let Some(HeldKey { key, .. }) = self.station.transmitting() else {
+            return Ok(None);
+        };
+        let mut frame = Vec::with_capacity(self.alloc, user.body.len() + AROUND)?;
+        let sci = self.station.sci();
+        protect(
+            &GcmKey::of(Key::of(&key.sak)),
+            sci,
+            key.an,
+            pn,
+            key.conf,
+            user,
+            &mut frame,
+        );
+        Ok(Some(Octets::of(frame)))
+    }
+}
+
+/// A held key, if it has this association number.
+fn with_number(held: Option<HeldKey>, an: AssociationNumber) -> Option<HeldKey>
+    ensures { result ≡ find (λ h. same_an h.key.an an) (option_to_list held) }
+{
+    match held {
+        Some(held) if held.key.an == an => Some(held),
+        _ => None,
+    }
+}
+
+/// Whether octets are a protected frame.
+fn is_protected(octets: &[u8]) -> bool
+    ensures { result ≡ is_sec octets.now }
+{
+    tells_sec(tag_of(octets))
+}
+
+/// Whether reading a SecTAG found the EtherType of MACsec.
+fn tells_sec(tag: Result<Tag, TagRefusal>) -> bool
+    ensures { result ≡ tells_sec tag }
+{
+    match tag {
+        Ok(_) => true,
+        Err(refusal) => refusal != TagRefusal::NotSec,
+    }
+}

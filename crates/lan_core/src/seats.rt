@@ -1,0 +1,130 @@
+//! The stations of a group, by their places.
+
+ghost use Rattle.std.specs.Prelude.{◌≡◌, ◌≤◌, ◌++◌, ◌∷◌, ◌⊎◌, [], true, length, slice_get, Option, Some, IsSomeAnd, IfOk, IfErr, OnOk, List};
+ghost use Rattle.std.specs.Option.{option_copied};
+ghost use Rattle.lan_base.specs.Ranges.{most_frame_octets};
+ghost use Rattle.mka_station.specs.Drawing.{is_short};
+ghost use Rattle.mka_station.specs.declared.tick_error.TickError.{TickError};
+ghost use Rattle.lan_core.specs.declared.settings.Settings.{Settings};
+ghost use Rattle.lan_core.specs.Run.{Run};
+ghost use Rattle.lan_core.specs.Ledgers.{next_frame};
+ghost use Rattle.lan_core.specs.Lives.{Life, receiving, seen_at};
+ghost use Rattle.lan_core.specs.Standing.{Seat, Sits};
+ghost use Rattle.lan_core.specs.inside.Seats.{Ticks, Reaches, Restarts};
+
+use crate::came::Came;
+use crate::seat::Seat;
+use lan_base::Draws;
+use mka_station::TickError;
+use std::alloc::{AllocError, Global};
+use std::marker::Model;
+
+/// The stations of a group, in the order of their starts. Contracts see the list.
+#[derive(Drop)]
+pub struct Seats {
+    seats: Vec<Seat>,
+}
+
+impl Model for Seats {
+    ghost use Rattle.std.specs.Prelude.{List};
+    ghost use Rattle.lan_core.specs.Standing.{Seat};
+
+    ghost Value = { List Seat };
+
+    ghost view = { λ s. s.seats.items };
+}
+
+impl Seats {
+    /// No station, which takes no memory.
+    pub fn new(alloc: Global) -> Seats
+        ensures { result ≡ [] }
+    {
+        Seats {
+            seats: Vec::new(alloc),
+        }
+    }
+
+    /// The station of a place.
+    pub fn get(&self, place: u8) -> Option<&Seat>
+        ensures { option_copied result ≡ slice_get self.now place }
+    {
+        self.seats.get(place as usize)
+    }
+
+    /// Appends a station.
+    pub fn push(&mut self, seat: Seat) -> Result<(), AllocError>
+        ensures { OnOk result (self.new ≡ self.old ++ seat ∷ []) }
+    {
+        self.seats.push(seat)?;
+        Ok(())
+    }
+
+    /// A tick at a station, if it is there, where the next frame of the air has this number.
+    pub fn tick<D: Draws>(
+        &mut self,
+        place: u8,
+        number: u32,
+        next: u64,
+        draws: &mut D,
+    ) -> Result<Option<Came>, TickError>
+        ensures came { (settings : Settings) (r : Run) (seat : Seat) (l : Life)
+            → slice_get self.old place ≡ Some seat → Sits settings.window l (receiving place r) seat
+            → number ≡ next_frame r
+            → IfOk result (λ came. IsSomeAnd came (Ticks settings r place seat l next
+            (D.nth draws.old) (D.nth draws.new)
+            self.old self.new)) }
+        ensures spent { (settings : Settings) (r : Run) (seat : Seat) (l : Life)
+            → slice_get self.old place ≡ Some seat → Sits settings.window l (receiving place r) seat
+            → IfErr result (λ fault. (fault ≡ TickError.Memory)
+            ⊎ ((fault ≡ TickError.DrawsSpent)
+            × (is_short l.member l.past (seen_at settings place r l next) (D.nth draws.old)
+            ≡ true))) }
+    {
+        let Some(seat) = self.seats.get_mut(place as usize) else {
+            return Ok(None);
+        };
+        let facts = match seat.tick(place, number, next, draws) {
+            Ok(facts) => facts,
+            Err(fault) => return Err(fault),
+        };
+        let installs = seat.installs();
+        Ok(Some(Came { facts, installs }))
+    }
+
+    /// A frame of this number, or foreign octets under the number 0, reach a station, if it is
+    /// there.
+    pub fn reach(
+        &mut self,
+        place: u8,
+        number: u32,
+        octets: &[u8],
+    ) -> Result<Option<Came>, AllocError>
+        requires { length octets.now ≤ most_frame_octets }
+        ensures { (settings : Settings) (r : Run) (seat : Seat) (l : Life)
+            → slice_get self.old place ≡ Some seat → Sits settings.window l (receiving place r) seat
+            → IfOk result (λ came. IsSomeAnd came
+            (Reaches settings r place seat l number octets.now self.old self.new)) }
+    {
+        let Some(seat) = self.seats.get_mut(place as usize) else {
+            return Ok(None);
+        };
+        let facts = seat.reach(place, number, octets)?;
+        let installs = seat.installs();
+        Ok(Some(Came { facts, installs }))
+    }
+
+    /// A station starts again, if it is there.
+    pub fn restart(&mut self, place: u8, draw: [u8; 16]) -> Result<Option<Came>, AllocError>
+        ensures { (settings : Settings) (r : Run) (seat : Seat) (l : Life)
+            → slice_get self.old place ≡ Some seat → Sits settings.window l (receiving place r) seat
+            → IfOk result (λ came. IsSomeAnd came
+            (Restarts settings r place seat l draw self.old self.new)) }
+    {
+        let Some(seat) = self.seats.get_mut(place as usize) else {
+            return Ok(None);
+        };
+        let facts = seat.restart(place, draw)?;
+        let installs = seat.installs();
+        Ok(Some(Came { facts, installs }))
+    }
+}
