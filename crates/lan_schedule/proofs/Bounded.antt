@@ -8,7 +8,7 @@ use Rattle.gcm_frames.specs.Tags.{is_sec}
 use Rattle.rx_slots.specs.Numbers.{answer}
 use Rattle.sak_exchange.specs.declared.change.Change.{Change}
 use Rattle.sak_exchange.specs.declared.change.Change.TheVariants as changes
-use Rattle.sak_exchange.specs.Histories.{Key}
+use Rattle.sak_exchange.specs.declared.held_key.Key.{Key}
 use Rattle.mka_station.specs.declared.reaction.Reaction.{Reaction}
 use Rattle.mka_station.specs.declared.verdict.Verdict.{Verdict}
 use Rattle.mka_station.specs.Hearing.{frame_turn}

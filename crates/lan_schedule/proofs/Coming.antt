@@ -4,7 +4,7 @@ use Rattle.std.proofs.Common.{List, [], ◌∷◌, ◌++◌, length, Option, Som
 use Rattle.std.proofs.Common.{ap, ◌∙◌, subst, length-append, arith}
 use Rattle.std.specs.Prelude.{Result, Ok, Err, cond, map, is_some}
 use Rattle.std.specs.List.{find, filter}
-use Rattle.sak_exchange.specs.Histories.{Key}
+use Rattle.sak_exchange.specs.declared.held_key.Key.{Key}
 use Rattle.lan_core.specs.declared.event.Event.{Event}
 use Rattle.lan_core.specs.declared.event.Event.TheVariants as events
 use Rattle.lan_core.specs.declared.fact.Fact.{Fact}
@@ -21,7 +21,7 @@ use Rattle.lan_schedule.specs.Settings.{lag_of}
 use Rattle.lan_core.specs.Unstopped.{next_under}
 use Rattle.lan_schedule.specs.Answers.{answer}
 use Rattle.lan_schedule.specs.Acts.{Act, nothing, refuse, happen, change, seq, look, perform}
-use Rattle.lan_schedule.specs.Acts.{Outcome, Goes, Stops, shown, and_then, each, span, times}
+use Rattle.lan_schedule.specs.Acts.{Course, Goes, Stops, shown, and_then, each, span, times}
 use Rattle.lan_schedule.specs.Acts.{unless, world_after}
 use Rattle.lan_schedule.specs.Lines.{tick, round, pass, to_others, spread, is_passed_by, is_due}
 use Rattle.lan_schedule.specs.Lines.{due_of, due, flow_round}
@@ -85,7 +85,7 @@ later-shown w v event (Ok facts) e =
     ≡ v = cc in subst (λ (u : World). IsLater w u) same (later-event w event facts)
 later-shown w v event (Err halt) e = absurd (let bad : Stops w halt ≡ Goes v = e in cc)
 
-later-both : (w v : World) (out : Outcome) (g : World → Outcome)
+later-both : (w v : World) (out : Course) (g : World → Course)
     → ((u : World) → out ≡ Goes u → IsLater w u)
     → ((u : World) → g u ≡ Goes v → IsLater u v) → and_then out g ≡ Goes v → IsLater w v
 later-both w v (Goes u) g first second e = later-later w u v (first u refl) (second u e)
@@ -105,7 +105,7 @@ later (look f) w v e = later (f w) w v e
 
 -- ---- many acts
 
-pub is-going : (out : Outcome) (P : World → Type 0) → ((v : World) → out ≡ Goes v → P v)
+pub is-going : (out : Course) (P : World → Type 0) → ((v : World) → out ≡ Goes v → P v)
     → IsGoing out P
 is-going (Goes v) P h = h v refl
 is-going (Stops v halt) P h = tt

@@ -13,7 +13,7 @@ use Rattle.lan_schedule.specs.Lines.{deed, act_of, unless_refused}
 use Rattle.lan_schedule.specs.Ends.{Moment, Ends}
 use Rattle.lan_schedule.specs.inside.Choosing.{is_choice}
 use Rattle.lan_schedule.specs.inside.Comes.{Comes, Did}
-use Rattle.lan_schedule.specs.inside.Staged.{StandsFor}
+use Rattle.lan_schedule.specs.Stages.{StandsFor}
 
 pub refused-does : (line : Line) (kind : Kind) (now : Moment Stage)
     → ((w : World) → StandsFor w now.value → refusal line w ≡ Some kind)

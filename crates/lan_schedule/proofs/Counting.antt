@@ -3,7 +3,7 @@ use Rattle.std.proofs.Common.{◌≡◌, ℕ, ◌==◌, Bool, true, false, List,
 use Rattle.std.proofs.Common.{None, refl, sym, ap, ◌∙◌, arith}
 use Rattle.std.specs.Prelude.{cond, max, ◌&&◌, Result, Ok, Err, OnOk, option_map}
 use Rattle.std.specs.declared.alloc.AllocError.{AllocError}
-use Rattle.sak_exchange.specs.Histories.{Key}
+use Rattle.sak_exchange.specs.declared.held_key.Key.{Key}
 use Rattle.lan_core.specs.declared.event.Event.{Event}
 use Rattle.lan_core.specs.declared.event.Event.TheVariants as events
 use Rattle.lan_core.specs.declared.fact.Fact.{Fact}
@@ -11,9 +11,9 @@ use Rattle.lan_core.specs.declared.settings.Settings.{Settings}
 use Rattle.lan_core.specs.Run.{Run, happened}
 use Rattle.lan_core.specs.Lives.{transmitting_at}
 use Rattle.lan_core.specs.Claims.{next, is_epoch, shown_by, after_claim}
-use Rattle.lan_schedule.specs.Numbers.{shown_next}
+use Rattle.lan_schedule.specs.Numbers.{shown_next, counted_next, TellNext}
 use Rattle.lan_core.specs.Unstopped.{next_under}
-use Rattle.lan_schedule.specs.inside.Counters.{counted_next, is_tick, TellNext, ShowsNext}
+use Rattle.lan_schedule.specs.inside.Counters.{is_tick, ShowsNext}
 
 equal : (a b : ℕ) → (a == b) ≡ true → a ≡ b
 equal a b e = grind arith

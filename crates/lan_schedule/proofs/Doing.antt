@@ -17,7 +17,7 @@ use Rattle.lan_schedule.specs.declared.halt.Halt.TheVariants as halts
 use Rattle.lan_schedule.specs.World.{World, Kept, names_of}
 use Rattle.lan_schedule.specs.Answers.{answer}
 use Rattle.lan_schedule.specs.Acts.{Act, nothing, refuse, happen, change, seq, look, perform}
-use Rattle.lan_schedule.specs.Acts.{Outcome, Goes, Stops, shown, and_then, each, span}
+use Rattle.lan_schedule.specs.Acts.{Course, Goes, Stops, shown, and_then, each, span}
 use Rattle.lan_schedule.specs.Ends.{Sunk, Moment, HoldsFront, TookFront, IsShown, IsStopped}
 use Rattle.lan_schedule.specs.Ends.{Ends, EndsEarly, written, text_of}
 use Rattle.lan_schedule.specs.inside.Comes.{Comes, Did, IsGoing}
@@ -45,7 +45,7 @@ shown-begins w event (Ok facts) = record {
 }
 shown-begins w event (Err halt) = begins-self (written w.run)
 
-and-begins : (text : List ℕ) (out : Outcome) (g : World → Outcome) → Begins text (text_of out)
+and-begins : (text : List ℕ) (out : Course) (g : World → Course) → Begins text (text_of out)
     → ((v : World) → Begins (written v.run) (text_of (g v)))
     → Begins text (text_of (and_then out g))
 and-begins text (Goes w) g f h = begins-then text (written w.run) (text_of (g w)) f (h w)
@@ -76,17 +76,17 @@ took-longer : (base now : Sunk) (a b : List ℕ) → Begins a b → TookFront ba
 took-longer base now a b longer t =
     record { holds = holds-longer base.held now.held a b longer t.holds; counts = t.counts }
 
-and-longer : (out : Outcome) (g : Act)
+and-longer : (out : Course) (g : Act)
     → Begins (text_of out) (text_of (and_then out (λ v. perform g v)))
 and-longer (Goes w) g = grows g w
 and-longer (Stops w halt) g = begins-self (written w.run)
 
-stopped-then : (base now : Sunk) (out : Outcome) (g : World → Outcome) (halt : Halt)
+stopped-then : (base now : Sunk) (out : Course) (g : World → Course) (halt : Halt)
     → IsStopped base out now halt → IsStopped base (and_then out g) now halt
-stopped-then base now out g halt h = (h.0, ap (λ (o : Outcome). and_then o g) h.1, h.2)
+stopped-then base now out g halt h = (h.0, ap (λ (o : Course). and_then o g) h.1, h.2)
 
 -- the first act ended early
-pub ends-early : (base now : Sunk) (out : Outcome) (g : Act) (halt : Halt)
+pub ends-early : (base now : Sunk) (out : Course) (g : Act) (halt : Halt)
     → EndsEarly base out now halt
     → EndsEarly base (and_then out (λ v. perform g v)) now halt
 ends-early base now out g (halts.Trace line kind) h =
@@ -108,8 +108,8 @@ then-err f g old new e d = record {
       ends-early base new.sink (perform f w) g e (d.ends base w reached comes.0);
 }
 
-going : (out : Outcome) (w : World) (P : World → Type 0) → out ≡ Goes w → IsGoing out P → P w
-going out w P e h = subst (λ (o : Outcome). IsGoing o P) e h
+going : (out : Course) (w : World) (P : World → Type 0) → out ≡ Goes w → IsGoing out P → P w
+going out w P e h = subst (λ (o : Course). IsGoing o P) e h
 
 -- the first act was done, and then the second ended so
 pub then-ok : {R : Type 0} {Stands : World → R → Type 0} (f g : Act) (old mid new : Moment R)
@@ -120,7 +120,7 @@ then-ok {Stands = Stands} f g old mid new r d e = record {
       let first = d.ends base w reached comes.0 in
       let later : Comes g first.0 = going (perform f w) first.0 (λ v. IsTidy v → Comes g v) first.1
       comes.1 first.2.shown.tidy in
-      subst (λ (out : Outcome). Ends Stands base (and_then out (λ v. perform g v)) new r)
+      subst (λ (out : Course). Ends Stands base (and_then out (λ v. perform g v)) new r)
       (sym first.1) (e.ends base first.0 first.2 later);
 }
 

@@ -23,13 +23,13 @@ use Rattle.lan_schedule.specs.Texts.{ended, open_line, whole_lines, last_line, l
 use Rattle.lan_schedule.specs.Texts.{without_return}
 use Rattle.lan_schedule.specs.Settings.{no_choice, secret_of, unkeyed, settings_of}
 use Rattle.lan_schedule.specs.World.{World, Kept, beginning, settings, place, mark}
-use Rattle.lan_schedule.specs.Acts.{Act, Outcome, Goes, Stops, happen, change}
+use Rattle.lan_schedule.specs.Acts.{Act, Course, Goes, Stops, happen, change}
 use Rattle.lan_schedule.specs.Acts.{perform, and_then, world_of, times}
 use Rattle.lan_schedule.specs.Kinds.{may_list, refusal, refusal_read}
 use Rattle.lan_schedule.specs.Lines.{deed, deed_read, chosen_by, send, unless_refused}
 use Rattle.lan_schedule.specs.Lines.{performed, performed_all, tick, round, spread, flow_round}
 use Rattle.lan_schedule.specs.Lines.{link_cut, link_mended}
-use Rattle.lan_schedule.specs.Trace.{outcome, lines_within, most_input}
+use Rattle.lan_schedule.specs.Trace.{course, lines_within, most_input}
 use Rattle.lan_schedule.specs.Sound.{IsTidy}
 use Rattle.lan_schedule.specs.inside.Comes.{Comes}
 use Rattle.lan_schedule.proofs.Bounded.{AreBounded, bounded-first}
@@ -109,13 +109,6 @@ chosen-stays (lines.Suite suite) form chosen are =
     record { window = are.window; rekey = are.rekey; group = are.group }
 chosen-stays _ form chosen are = are
 
-abbrev bits : Bool → ℕ
-bits wide = cond wide 256 128
-
-wide-or-not : (wide : Bool) → (bits wide ≡ 128) ⊎ (bits wide ≡ 256)
-wide-or-not true = inr refl
-wide-or-not false = inl refl
-
 named-sets : (chosen : Choices) (o : Option Keyed) → chosen.group ≡ o → is_some o ≡ true
     → AreChosen chosen → HasSetting chosen
 named-sets chosen None is there are = absurd (cc there)
@@ -129,7 +122,6 @@ named-sets chosen (Some named) is there are =
       name_octets = subst (λ (g : Keyed). AreOctets g.ckn) (sym same) proper.2;
       window = are.window;
       rekey = are.rekey;
-      suite = wide-or-not (unwrap_or chosen.wide false);
     }
 
 -- ---- worlds between lines
@@ -263,7 +255,7 @@ deed-ready n (lines.Rekey rekey) w below form ready right comes =
 deed-ready n (lines.Lag lag) w below form ready right comes =
     chosen-ready n (lines.Lag lag) (is_none w.kept.chosen.lag) w form ready right.allowed comes
 deed-ready n (lines.Suite suite) w below form ready right comes =
-    chosen-ready n (lines.Suite suite) (is_none w.kept.chosen.wide) w form ready right.allowed comes
+    chosen-ready n (lines.Suite suite) (is_none w.kept.chosen.suite) w form ready right.allowed comes
 deed-ready n (lines.Group cak ckn) w below form ready right comes =
     chosen-ready n (lines.Group cak ckn) (is_none w.kept.chosen.group) w form ready right.allowed
     comes
@@ -355,7 +347,7 @@ text-ready n text w below ready =
       tidy = tidy-same w kept ready.tidy refl refl refl (λ e. e);
     }) refl
 
-then-tidy : (n : ℕ) (out : Outcome) (later : Act) → IsReady n (world_of out)
+then-tidy : (n : ℕ) (out : Course) (later : Act) → IsReady n (world_of out)
     → ((v : World) → IsReady n v → IsTidy (world_of (perform later v)))
     → IsTidy (world_of (and_then out (λ v. perform later v)))
 then-tidy n (Goes v) later ready next = next v ready
@@ -371,7 +363,7 @@ texts-tidy n (text ∷ texts) w below ready =
 
 -- fewer than 2^32 lines leave a tidy world
 pub lines-tidy : (texts : List (List ℕ)) → length texts < 2 ^ 32
-    → IsTidy (world_of (outcome texts))
+    → IsTidy (world_of (course texts))
 lines-tidy texts below = texts-tidy 0 texts beginning (omega (arith, below)) ready-first
 
 -- ---- the lines of a text
@@ -416,6 +408,6 @@ within-few text false is =
     omega (arith, few, most)
 
 -- so do the lines of a text within the limit
-pub text-tidy : (text : List ℕ) → IsTidy (world_of (outcome (lines_within text)))
+pub text-tidy : (text : List ℕ) → IsTidy (world_of (course (lines_within text)))
 text-tidy text =
     lines-tidy (lines_within text) (within-few text (nat_le (length text) most_input) refl)

@@ -14,8 +14,7 @@ use Rattle.lan_schedule.specs.declared.commands.Replay.{Replay}
 use Rattle.lan_schedule.specs.Texts.{without_return, ended, open_line, whole_lines, last_line}
 use Rattle.lan_schedule.specs.Texts.{lines_of}
 use Rattle.lan_schedule.specs.World.{World}
-use Rattle.lan_schedule.specs.Acts.{Act, nothing, seq, each, perform, Outcome, Goes, Stops}
-use Rattle.lan_schedule.specs.Acts.{and_then}
+use Rattle.lan_schedule.specs.Acts.{Act, nothing, seq, each, perform, Course, Goes, Stops, and_then}
 use Rattle.lan_schedule.specs.Lines.{performed, performed_all}
 use Rattle.lan_schedule.specs.Ends.{Sunk, Moment, Ends, EndsEarly}
 use Rattle.lan_schedule.specs.Standing.{StandsFor, Does}
@@ -37,7 +36,7 @@ pub then-ok : (f g : Act) (old mid new : Moment Replay) (r : Result (Unit {0}) H
 then-ok f g old mid new r d e = record {
   ends = λ base w reached.
       let first = d.ends base w reached in
-      subst (λ (out : Outcome). Ends StandsFor base (and_then out (λ v. perform g v)) new r)
+      subst (λ (out : Course). Ends StandsFor base (and_then out (λ v. perform g v)) new r)
       (sym first.1) (e.ends base first.0 first.2);
 }
 
@@ -149,7 +148,7 @@ open_line-step carry next_carry piece whole i lt is e =
     ∙ ap (λ (c : List ℕ). open_line c (drop (i + 1) piece)) (sym is)
 
 -- lists of lines one after the other
-and-assoc : (out : Outcome) (g h : World → Outcome)
+and-assoc : (out : Course) (g h : World → Course)
     → and_then out (λ v. and_then (g v) h) ≡ and_then (and_then out g) h
 and-assoc (Goes w) g h = refl
 and-assoc (Stops w why) g h = refl
@@ -158,7 +157,7 @@ each-append : (f : List ℕ → Act) (xs ys : List (List ℕ)) (w : World)
     → perform (each f (xs ++ ys)) w ≡ perform (seq (each f xs) (each f ys)) w
 each-append f [] ys w = refl
 each-append f (x ∷ xs) ys w =
-    ap (λ (g : World → Outcome). and_then (perform (f x) w) g) (λ i v. each-append f xs ys v i)
+    ap (λ (g : World → Course). and_then (perform (f x) w) g) (λ i v. each-append f xs ys v i)
     ∙ and-assoc (perform (f x) w) (λ v. perform (each f xs) v) (λ v. perform (each f ys) v)
 
 same-does : (f g : Act) (old new : Moment Replay) (r : Result (Unit {0}) Halt)
@@ -166,7 +165,7 @@ same-does : (f g : Act) (old new : Moment Replay) (r : Result (Unit {0}) Halt)
 same-does f g old new r same d =
     record {
       ends = λ base w reached.
-          subst (λ (out : Outcome). Ends StandsFor base out new r) (sym (same w))
+          subst (λ (out : Course). Ends StandsFor base out new r) (sym (same w))
           (d.ends base w reached);
     }
 
@@ -351,7 +350,7 @@ pub same-act : (f g : Act) (old new : Moment Replay) (r : Result (Unit {0}) Halt
     → ((w : World) → StandsFor w old.value → perform f w ≡ perform g w) → Does g old new r
     → Does f old new r
 same-act f g old new r same d = record {
-  ends = λ base w reached. subst (λ (out : Outcome). Ends StandsFor base out new r)
+  ends = λ base w reached. subst (λ (out : Course). Ends StandsFor base out new r)
       (sym (same w reached.stands)) (d.ends base w reached);
 }
 

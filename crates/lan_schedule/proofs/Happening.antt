@@ -11,36 +11,37 @@ use Rattle.lan_core.specs.declared.fact.Fact.{Fact}
 use Rattle.lan_core.specs.declared.settings.Settings.{Settings}
 use Rattle.lan_core.specs.declared.stop.Stop.{Stop}
 use Rattle.lan_core.specs.declared.stop.Stop.TheVariants as stops
+use Rattle.lan_core.specs.declared.stop.StepError.{StepError}
+use Rattle.lan_core.specs.declared.stop.StepError.TheVariants.{Stopped}
 use Rattle.lan_core.specs.Run.{Run, Profile, happened, started, stations, facts_of}
 use Rattle.lan_core.specs.Expected.{expected, drawn_from}
 use Rattle.lan_core.specs.Stops.{MayCome, first_stop}
 use Rattle.lan_core.specs.Types.{IsTyped}
 use Rattle.lan_core.specs.Standing.{StandsFor as GroupStandsFor}
-use Rattle.lan_core.specs.inside.Steps.{Answers, GoesOn}
-use Rattle.group_safety.specs.Summary.{counts}
+use Rattle.lan_core.specs.Answers.{Answers, GoesOn}
+use Rattle.fact_tally.specs.Summary.{counts}
 use Rattle.transcript.specs.Rendering.{transcript}
 use Rattle.lan_schedule.specs.declared.halt.Halt.{Halt}
 use Rattle.lan_schedule.specs.declared.halt.Halt.TheVariants as halts
 use Rattle.lan_schedule.specs.declared.stage.Stage.{Stage}
-use Rattle.lan_schedule.specs.World.{World, names_of, settings, puts}
+use Rattle.lan_schedule.specs.World.{World, names_of, settings, puts, Flow}
 use Rattle.lan_schedule.specs.Settings.{rule_of}
-use Rattle.lan_schedule.specs.Supply.{draw_at}
+use Rattle.lan_schedule.specs.Supply.{draw_at, supply_nth}
 use Rattle.lan_schedule.specs.Answers.{supply, taken_by, halt_of, answered, answer}
-use Rattle.lan_schedule.specs.Acts.{nothing, happen, perform, Goes, Stops, shown}
-use Rattle.lan_schedule.specs.Acts.{world_after}
+use Rattle.lan_schedule.specs.Acts.{nothing, happen, perform, Goes, Stops, shown, world_after}
 use Rattle.lan_schedule.specs.Sound.{IsTidy}
-use Rattle.lan_schedule.specs.Ends.{Sunk, Moment, IsShown, IsReached, Ends}
-use Rattle.lan_schedule.specs.Ends.{EndsEarly, written}
-use Rattle.lan_schedule.specs.inside.Frames.{Flow}
-use Rattle.lan_schedule.specs.inside.Supplies.{supply_nth}
-use Rattle.lan_schedule.specs.inside.Counters.{TellNext, ShowsNext}
+use Rattle.lan_schedule.specs.Ends.{Sunk, Moment, IsShown, IsReached, Ends, EndsEarly, written}
+use Rattle.lan_schedule.specs.Numbers.{TellNext}
+use Rattle.lan_schedule.specs.inside.Counters.{ShowsNext}
 use Rattle.lan_schedule.specs.inside.Comes.{Did, IsExact, named}
-use Rattle.lan_schedule.specs.inside.Staged.{StandsFor, Happened, Writes}
+use Rattle.lan_schedule.specs.Stages.{StandsFor}
+use Rattle.lan_schedule.specs.inside.Staged.{Happened, Writes}
 use Rattle.lan_schedule.proofs.Doing.{took-behind, took-none, after-append, rose-earlier}
 use Rattle.lan_schedule.proofs.Tidying.{tidy-after}
 
 -- what a step promises of a group
-abbrev pub StepGoes : Option UserFrame → Event → Stage → Stage → Result (List Fact) Stop → Type 0
+abbrev pub StepGoes : Option UserFrame → Event → Stage → Stage → Result (List Fact) StepError
+    → Type 0
 StepGoes given event old new result = (settings : Settings) (users : List UserFrame) (r : Run)
     → GroupStandsFor settings users old.lan r → MayCome settings users r given event
     → Answers settings users r event (supply_nth old.draws) (supply_nth new.draws) new.lan result
@@ -218,7 +219,6 @@ stopped-ends base w line stops.DrawsSpent new h = (w, refl, h)
 stopped-ends base w line (stops.Limit which) new h = (w, refl, h)
 stopped-ends base w line (stops.RepeatedDraw first second) new h = (w, refl, h)
 stopped-ends base w line (stops.Forged station) new h = (w, refl, h)
-stopped-ends base w line stops.Memory new h = took-none nothing base w new new h refl
 
 is-shown : (base : Sunk) (w : World) (old new : Moment Stage) → IsReached StandsFor base w old
     → new.sink ≡ old.sink → IsShown base w new.sink
@@ -227,31 +227,33 @@ is-shown base w old new reached same =
 
 pub event-stopped : (given : Option UserFrame) (event : Event) (stop : Stop) (line : ℕ)
     (old new : Moment Stage)
-    → StepGoes given event old.value new.value (Err stop) → line ≡ old.value.line
+    → StepGoes given event old.value new.value (Err (Stopped stop)) → line ≡ old.value.line
     → new.sink ≡ old.sink
     → Happened given event old new (Err (halt_of line stop))
 event-stopped given event stop line old new step is_line same = record {
   ends = λ base w reached is comes.
       let stands = reached.stands in
-      let goes = step (settings w) w.kept.users w.run stands.lan
+      let first = step (settings w) w.kept.users w.run stands.lan
       (subst (λ (g : Option UserFrame). MayCome (settings w) w.kept.users w.run g event)
       (sym is) comes.0) in
       let at_line : line ≡ w.kept.line = is_line ∙ stands.line in
-      elim goes as (λ _. EndsEarly base (perform (happen event) w) new.sink (halt_of line stop)) [
-        | inl memory ↦ subst (λ (s : Stop).
-            EndsEarly base (perform (happen event) w) new.sink (halt_of line s)) (sym memory)
-            (took-none (happen event) base w old.sink new.sink reached.shown same)
-        | inr first ↦
-            let met : answer w event ≡ Err (halt_of line stop) =
-            ap (λ (o : Option Stop). answered w event o)
-            (subst (λ (nth : ℕ → Option (List ℕ)).
-            first_stop (settings w) w.kept.users w.run event nth ≡ Some stop)
-            (same-supply w old.value stands) first)
-            ∙ ap (λ (n : ℕ). Err (halt_of n stop)) (sym at_line) in
-            subst (λ (a : Result (List Fact) Halt).
-            EndsEarly base (shown w event a) new.sink (halt_of line stop)) (sym met)
-            (stopped-ends base w line stop new.sink (is-shown base w old new reached same))
-      ];
+      let met : answer w event ≡ Err (halt_of line stop) =
+      ap (λ (o : Option Stop). answered w event o)
+      (subst (λ (nth : ℕ → Option (List ℕ)).
+      first_stop (settings w) w.kept.users w.run event nth ≡ Some stop)
+      (same-supply w old.value stands) first)
+      ∙ ap (λ (n : ℕ). Err (halt_of n stop)) (sym at_line) in
+      subst (λ (a : Result (List Fact) Halt).
+      EndsEarly base (shown w event a) new.sink (halt_of line stop)) (sym met)
+      (stopped-ends base w line stop new.sink (is-shown base w old new reached same));
+}
+
+-- memory was wanting, and nothing was written
+pub event-wanting : (given : Option UserFrame) (event : Event) (old new : Moment Stage)
+    → new.sink ≡ old.sink → Happened given event old new (Err halts.Memory)
+event-wanting given event old new same = record {
+  ends = λ base w reached is comes.
+      took-none (happen event) base w old.sink new.sink reached.shown same;
 }
 
 -- an event that names no user frame

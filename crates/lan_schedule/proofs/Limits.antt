@@ -4,6 +4,7 @@ use Rattle.std.proofs.Common.{refl, ap, arith}
 use Rattle.std.specs.Prelude.{Result, Ok, Err, cond, option_map, option_and_then}
 use Rattle.std.specs.Option.{option_or}
 use Rattle.lan_base.specs.declared.frame.UserFrame.{UserFrame}
+use Rattle.lan_base.specs.declared.suite.Suite.{Suite}
 use Rattle.lan_core.specs.declared.event.Event.{Event}
 use Rattle.lan_core.specs.declared.event.Event.TheVariants as events
 use Rattle.lan_core.specs.declared.settings.Settings.{Settings}
@@ -25,7 +26,7 @@ use Rattle.lan_schedule.specs.declared.halt.Halt.TheVariants as halts
 use Rattle.lan_schedule.specs.World.{World, beginning, settings}
 use Rattle.lan_schedule.specs.Answers.{answer, answered, supply, halt_of}
 use Rattle.lan_schedule.specs.Acts.{Act, nothing, refuse, happen, change, seq, look, perform}
-use Rattle.lan_schedule.specs.Acts.{Outcome, Goes, Stops, shown, and_then}
+use Rattle.lan_schedule.specs.Acts.{Course, Goes, Stops, shown, and_then}
 use Rattle.lan_schedule.specs.Sound.{IsTidy}
 use Rattle.lan_schedule.proofs.Drawing.{counted-draws}
 use Rattle.lan_schedule.proofs.LinesCome.{sound-empty}
@@ -77,7 +78,7 @@ limit-never None never e = cc e
 limit-never (Some w) never e =
     never (let same : w ≡ which.Input = cc in ap (λ (w : Which). Some w) same)
 
-draw-never : (suite : ℕ) (r : Run) (x : Happening)
+draw-never : (suite : Suite) (r : Run) (x : Happening)
     → stop_of_draw suite r x ≡ Some (stops.Limit which.Input) → ⊥
 draw-never suite r x = go (drawn_before suite r x)
   where
@@ -134,7 +135,6 @@ halt-never line (stops.Limit w) e = let same : w
 halt-never line stops.DrawsSpent e = absurd (cc e)
 halt-never line (stops.RepeatedDraw first second) e = absurd (cc e)
 halt-never line (stops.Forged s) e = absurd (cc e)
-halt-never line stops.Memory e = absurd (cc e)
 
 never-answered : (w : World) (event : Event) (o : Option Stop)
     → (o ≡ Some (stops.Limit which.Input) → ⊥)
@@ -158,7 +158,7 @@ never-shown w v event (Ok facts) never e = cc e
 never-shown w v event (Err halt) never e =
     never (let same : halt ≡ halts.Limit which.Input = cc in ap (λ (h : Halt). Err h) same)
 
-never-both : (v : World) (out : Outcome) (g : World → Outcome)
+never-both : (v : World) (out : Course) (g : World → Course)
     → ((u : World) → out ≡ Stops u (halts.Limit which.Input) → ⊥)
     → ((u : World) → g u ≡ Stops v (halts.Limit which.Input) → ⊥)
     → and_then out g ≡ Stops v (halts.Limit which.Input) → ⊥

@@ -10,7 +10,7 @@ use Rattle.std.proofs.lemmas.List.{length-map}
 use Rattle.std.proofs.lemmas.List.Elements.{All-cons}
 use Rattle.lan_base.specs.declared.frame.UserFrame.{UserFrame}
 use Rattle.lan_base.specs.declared.address.Sci.{Sci}
-use Rattle.sak_exchange.specs.Histories.{Key}
+use Rattle.sak_exchange.specs.declared.held_key.Key.{Key}
 use Rattle.lan_core.specs.declared.event.Event.TheVariants as events
 use Rattle.lan_core.specs.declared.settings.Settings.{Settings}
 use Rattle.lan_core.specs.Run.{Run, Profile, stations}
@@ -40,10 +40,9 @@ use Rattle.lan_schedule.specs.Kinds.{or_else, where_, unknown, is_number, no_fra
 use Rattle.lan_schedule.specs.Kinds.{is_allowed, may_list, wrong_word, refusal}
 use Rattle.lan_schedule.specs.Lines.{add_user, send, chosen_by, deed, act_of, unless_refused}
 use Rattle.lan_schedule.specs.Sound.{IsTidy, IsSound, numbers_of}
-use Rattle.lan_schedule.specs.inside.Comes.{Comes}
+use Rattle.lan_schedule.specs.inside.Comes.{Comes, named}
 use Rattle.lan_core.specs.Lives.{transmitting_at}
 use Rattle.lan_core.specs.Stops.{MayCome}
-use Rattle.lan_schedule.specs.inside.Comes.{named}
 use Rattle.lan_schedule.proofs.Drawing.{bytes-all}
 use Rattle.lan_schedule.proofs.Awaiting.{waits-then}
 use Rattle.lan_schedule.proofs.Users.{user-at-end}
@@ -329,7 +328,7 @@ deed-comes (lines.Rekey rekey) form w tidy right =
 deed-comes (lines.Lag lag) form w tidy right =
     chosen-comes (lines.Lag lag) form (is_none w.kept.chosen.lag) w tidy right.allowed
 deed-comes (lines.Suite suite) form w tidy right =
-    chosen-comes (lines.Suite suite) form (is_none w.kept.chosen.wide) w tidy right.allowed
+    chosen-comes (lines.Suite suite) form (is_none w.kept.chosen.suite) w tidy right.allowed
 deed-comes (lines.Group cak ckn) form w tidy right =
     chosen-comes (lines.Group cak ckn) form (is_none w.kept.chosen.group) w tidy right.allowed
 deed-comes (lines.Station name sci priority) form w tidy right = (

@@ -8,19 +8,18 @@ use Rattle.lan_core.specs.declared.event.Event.TheVariants as events
 use Rattle.lan_schedule.specs.declared.halt.Halt.{Halt}
 use Rattle.lan_schedule.specs.declared.links.Link.{Link}
 use Rattle.lan_schedule.specs.declared.stage.Stage.{Stage}
-use Rattle.lan_schedule.specs.World.{World, count, settings, sender_at, mark}
-use Rattle.lan_schedule.specs.World.{marked_at, is_cut}
+use Rattle.lan_schedule.specs.World.{World, count, settings, sender_at, mark, marked_at, is_cut}
 use Rattle.lan_schedule.specs.Acts.{Act, nothing, happen, look, seq, change, span, each, unless}
 use Rattle.lan_schedule.specs.Lines.{pass, is_passed_by, to_others, spread, due, due_of}
 use Rattle.lan_schedule.specs.Lines.{begin_round}
 use Rattle.lan_core.specs.Standing.{StandsFor as GroupStandsFor}
-use Rattle.lan_schedule.specs.inside.Supplies.{supply_nth}
-use Rattle.lan_schedule.specs.inside.Counters.{TellNext}
+use Rattle.lan_schedule.specs.Supply.{supply_nth}
+use Rattle.lan_schedule.specs.Numbers.{TellNext}
 use Rattle.lan_schedule.specs.inside.Comes.{Did}
 use Rattle.lan_schedule.specs.Sound.{IsTidy}
 use Rattle.lan_schedule.specs.Ends.{Moment}
-use Rattle.lan_schedule.specs.inside.Frames.{Flow}
-use Rattle.lan_schedule.specs.inside.Staged.{StandsFor}
+use Rattle.lan_schedule.specs.World.{Flow}
+use Rattle.lan_schedule.specs.Stages.{StandsFor}
 use Rattle.lan_schedule.proofs.Doing.{Leads, look-leads, change-does}
 
 -- how many stations there are

@@ -6,7 +6,7 @@ use Rattle.lan_base.specs.declared.frame.UserFrame.{UserFrame}
 use Rattle.lan_core.specs.Claims.{next}
 use Rattle.lan_core.specs.Run.{stations}
 use Rattle.lan_core.specs.Standing.{StandsFor as GroupStandsFor}
-use Rattle.group_safety.specs.Summary.{counts}
+use Rattle.fact_tally.specs.Summary.{counts}
 use Rattle.trace_text.specs.declared.line.Line.{Line}
 use Rattle.trace_text.specs.declared.line.Line.TheVariants as lines
 use Rattle.trace_text.specs.Writing.{IsInForm}
@@ -16,10 +16,10 @@ use Rattle.lan_schedule.specs.declared.halt.Halt.TheVariants as halts
 use Rattle.lan_schedule.specs.declared.halt.Kind.{Kind}
 use Rattle.lan_schedule.specs.declared.stage.Stage.{Stage}
 use Rattle.lan_schedule.specs.declared.commands.Replay.{Replay}
-use Rattle.lan_schedule.specs.Supply.{draw_at}
+use Rattle.lan_schedule.specs.Supply.{draw_at, supply_nth}
 use Rattle.lan_schedule.specs.Settings.{settings_of, lag_of, rule_of}
 use Rattle.lan_schedule.specs.World.{World, Kept, nothing_kept}
-use Rattle.lan_schedule.specs.Acts.{Act, look, perform, Outcome, Stops}
+use Rattle.lan_schedule.specs.Acts.{Act, look, perform, Course, Stops}
 use Rattle.lan_schedule.specs.Kinds.{first_of, is_performed, is_allowed, wrong_word, refusal}
 use Rattle.lan_schedule.specs.Lines.{choose, chosen_by, deed, act_of, unless_refused}
 use Rattle.lan_schedule.specs.Sound.{IsTidy}
@@ -27,8 +27,8 @@ use Rattle.lan_schedule.specs.Ends.{Sunk, Moment, Ends}
 use Rattle.lan_schedule.specs.Standing.{IsStaged, StandsFor, Does}
 use Rattle.lan_schedule.specs.inside.Choosing.{is_choice, IsStation}
 use Rattle.lan_schedule.specs.inside.Comes.{Did}
-use Rattle.lan_schedule.specs.inside.Supplies.{supply_nth}
-use Rattle.lan_schedule.specs.inside.Staged.{StandsFor as StageStandsFor, IsOpening}
+use Rattle.lan_schedule.specs.Stages.{StandsFor as StageStandsFor}
+use Rattle.lan_schedule.specs.inside.Staged.{IsOpening}
 use Rattle.lan_schedule.proofs.LinesCome.{IsRight, deed-comes, tidy-same, tidy-unbegun}
 use Rattle.lan_schedule.proofs.Staging.{staged, unbegun-does, lift}
 use Rattle.lan_schedule.proofs.Feeding.{same-act}
@@ -210,7 +210,7 @@ begun-same : (line : Line) (w : World) → IsStation line
 begun-same (lines.Station name sci priority) w station = refl
 begun-same _ w station = absurd station
 
-lift-any : (base : Sunk) (out : Outcome) (later : Stage) (new : Moment Replay)
+lift-any : (base : Sunk) (out : Course) (later : Stage) (new : Moment Replay)
     (r : Result (Unit {0}) Halt) → (r ≡ Ok tt → new.value.stage ≡ Some later)
     → new.value.halted ≡ None → Ends StageStandsFor base out (staged later new.sink) r
     → Ends StandsFor base out new r
@@ -249,6 +249,6 @@ opening-does line form old new stage later r station unbegun keyed stands d is h
       }) (deed-comes line form v tidy
       (station-right line v station (ap (λ (u : World). u.run) same) there)) in
       lift-any base (perform (deed line w) w) later new r is (halted ∙ reached.stands.goes)
-      (subst (λ (out : Outcome). Ends StageStandsFor base out (staged later new.sink) r)
+      (subst (λ (out : Course). Ends StageStandsFor base out (staged later new.sink) r)
       (sym (begun-same line w station)) inner);
 }

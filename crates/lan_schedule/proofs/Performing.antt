@@ -14,7 +14,7 @@ use Rattle.lan_schedule.specs.Sound.{IsTidy}
 use Rattle.lan_schedule.specs.inside.Choosing.{is_choice}
 use Rattle.lan_schedule.specs.Ends.{Moment}
 use Rattle.lan_schedule.specs.inside.Comes.{Did}
-use Rattle.lan_schedule.specs.inside.Staged.{StandsFor}
+use Rattle.lan_schedule.specs.Stages.{StandsFor}
 use Rattle.lan_schedule.proofs.Doing.{look-leads}
 use Rattle.lan_schedule.proofs.Looking.{stations-few}
 

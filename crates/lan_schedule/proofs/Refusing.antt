@@ -10,11 +10,10 @@ use Rattle.trace_text.specs.declared.line.Line.TheVariants as lines
 use Rattle.lan_schedule.specs.declared.choices.Choices.{Choices}
 use Rattle.lan_schedule.specs.declared.halt.Kind.TheVariants as kinds
 use Rattle.lan_schedule.specs.declared.stage.Stage.{Stage}
-use Rattle.lan_schedule.specs.World.{World, names_of, scis_of}
+use Rattle.lan_schedule.specs.World.{World, names_of, scis_of, Flow}
 use Rattle.lan_schedule.specs.Kinds.{first_of, is_performed, is_allowed, wrong_word, refusal}
 use Rattle.lan_schedule.specs.inside.Choosing.{is_choice}
-use Rattle.lan_schedule.specs.inside.Frames.{Flow}
-use Rattle.lan_schedule.specs.inside.Staged.{StandsFor}
+use Rattle.lan_schedule.specs.Stages.{StandsFor}
 
 allowed-then : (line : Line) (chosen : Choices) → is_some chosen.group ≡ true
     → is_allowed line true chosen ≡ not (is_choice line)

@@ -11,17 +11,17 @@ use Rattle.lan_schedule.specs.declared.halt.Halt.{Halt}
 use Rattle.lan_schedule.specs.declared.links.Link.{Link}
 use Rattle.lan_schedule.specs.declared.stage.Stage.{Stage}
 use Rattle.lan_schedule.specs.World.{World, settings, with_link, without_link}
-use Rattle.lan_schedule.specs.Numbers.{claimed_number}
-use Rattle.lan_schedule.specs.Acts.{Act, happen, change, seq, perform, Outcome, Goes}
+use Rattle.lan_schedule.specs.Numbers.{claimed_number, TellNext}
+use Rattle.lan_schedule.specs.Acts.{Act, happen, change, seq, perform, Course, Goes}
 use Rattle.lan_schedule.specs.Acts.{and_then, unless}
 use Rattle.lan_schedule.specs.Lines.{begin, begin_line, add_user, send, claim, link_cut}
 use Rattle.lan_schedule.specs.Lines.{link_mended}
 use Rattle.lan_schedule.specs.Sound.{IsTidy}
 use Rattle.lan_schedule.specs.Ends.{Sunk, Moment, IsReached, Ends}
 use Rattle.lan_schedule.specs.inside.Comes.{Comes, Did, IsGoing}
-use Rattle.lan_schedule.specs.inside.Staged.{StandsFor, Happened}
-use Rattle.lan_schedule.specs.inside.Supplies.{supply_nth}
-use Rattle.lan_schedule.specs.inside.Counters.{TellNext}
+use Rattle.lan_schedule.specs.Stages.{StandsFor}
+use Rattle.lan_schedule.specs.inside.Staged.{Happened}
+use Rattle.lan_schedule.specs.Supply.{supply_nth}
 use Rattle.lan_core.proofs.Public.{stands-more}
 use Rattle.lan_schedule.proofs.Users.{user-at-end}
 use Rattle.lan_schedule.proofs.Doing.{change-does, ends-early}
@@ -177,8 +177,8 @@ claim-err s n pn user mid new e h base w reached named comes =
     ends-early base new.sink (perform (happen (events.Claim s n pn)) w)
     (unless (pn == 0) (happen events.Emit)) e (h.ends base w reached named comes.0)
 
-going : (out : Outcome) (w : World) (P : World → Type 0) → out ≡ Goes w → IsGoing out P → P w
-going out w P e h = subst (λ (o : Outcome). IsGoing o P) e h
+going : (out : Course) (w : World) (P : World → Type 0) → out ≡ Goes w → IsGoing out P → P w
+going out w P e h = subst (λ (o : Course). IsGoing o P) e h
 
 -- the claim was made, and then the emission ended so
 pub claim-ok : (s n pn : ℕ) (user : UserFrame) (mid now new : Moment Stage)
@@ -193,5 +193,5 @@ claim-ok s n pn user mid now new r h d base w reached named comes =
     let later : Comes emit first.0 =
     going (perform (happen (events.Claim s n pn)) w) first.0 (λ v. IsTidy v → Comes emit v)
     first.1 comes.1 first.2.shown.tidy in
-    subst (λ (out : Outcome). Ends StandsFor base (and_then out (λ v. perform emit v)) new r)
+    subst (λ (out : Course). Ends StandsFor base (and_then out (λ v. perform emit v)) new r)
     (sym first.1) (d.ends base first.0 first.2 later)

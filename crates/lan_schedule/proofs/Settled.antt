@@ -5,7 +5,7 @@ use Rattle.std.proofs.Common.{◌∙◌, subst, arith}
 use Rattle.std.specs.Prelude.{cond, is_some, is_none, nat_lt, unwrap_or, option_map}
 use Rattle.std.specs.Prelude.{option_and_then}
 use Rattle.lan_base.specs.declared.frame.UserFrame.{UserFrame}
-use Rattle.sak_exchange.specs.Histories.{Key}
+use Rattle.sak_exchange.specs.declared.held_key.Key.{Key}
 use Rattle.mka_station.specs.Standing.{drawn_mi as mi_of_draw}
 use Rattle.lan_core.specs.declared.event.Event.{Event}
 use Rattle.lan_core.specs.declared.event.Event.TheVariants as events
@@ -31,7 +31,7 @@ use Rattle.lan_schedule.specs.World.{World, Kept, settings, count, sender, mark}
 use Rattle.lan_schedule.specs.Numbers.{shown_next, claimed_number}
 use Rattle.lan_schedule.specs.Answers.{supply, answered, facts_shown}
 use Rattle.lan_schedule.specs.Acts.{Act, nothing, refuse, happen, change, seq, look, perform, each}
-use Rattle.lan_schedule.specs.Acts.{Outcome, Goes, Stops, shown, and_then, span, times, unless}
+use Rattle.lan_schedule.specs.Acts.{Course, Goes, Stops, shown, and_then, span, times, unless}
 use Rattle.lan_schedule.specs.Acts.{world_of, world_after}
 use Rattle.lan_schedule.specs.Lines.{tick, round, pass, to_others, spread, is_passed_by, due}
 use Rattle.lan_schedule.specs.Lines.{flow_round, send}
@@ -243,7 +243,7 @@ change-open n chosen f w aside now tidy = record {
   tidy = tidy;
 }
 
-both-open : (n : ℕ) (chosen : Choices) (out : Outcome) (later : Act)
+both-open : (n : ℕ) (chosen : Choices) (out : Course) (later : Act)
     → IsOpen n chosen (world_of out) → IsGoing out (λ v. IsTidy v → Comes later v)
     → ((v : World) → IsOpen n chosen v → Comes later v
     → IsOpen n chosen (world_of (perform later v)))

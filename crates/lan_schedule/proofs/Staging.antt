@@ -6,18 +6,18 @@ use Rattle.lan_schedule.specs.declared.halt.Halt.{Halt}
 use Rattle.lan_schedule.specs.declared.stage.Stage.{Stage}
 use Rattle.lan_schedule.specs.declared.commands.Replay.{Replay}
 use Rattle.lan_schedule.specs.World.{World, Kept, nothing_kept}
-use Rattle.lan_schedule.specs.Acts.{Act, change, perform, Outcome}
+use Rattle.lan_schedule.specs.Acts.{Act, change, perform, Course}
 use Rattle.lan_schedule.specs.Sound.{IsTidy}
 use Rattle.lan_schedule.specs.Ends.{Sunk, Moment, Ends}
 use Rattle.lan_schedule.specs.Standing.{IsStaged, StandsFor, Does}
 use Rattle.lan_schedule.specs.inside.Comes.{Comes, Did}
-use Rattle.lan_schedule.specs.inside.Staged.{StandsFor as StageStandsFor}
+use Rattle.lan_schedule.specs.Stages.{StandsFor as StageStandsFor}
 
 -- a group at work, and its sink
 abbrev pub staged : Stage → Sunk → Moment Stage
 staged stage sink = record { value = stage; sink = sink }
 
-pub lift : (base : Sunk) (out : Outcome) (stage : Stage) (new : Moment Replay)
+pub lift : (base : Sunk) (out : Course) (stage : Stage) (new : Moment Replay)
     (r : Result (Unit {0}) Halt) → new.value.stage ≡ Some stage
     → new.value.halted ≡ None → Ends StageStandsFor base out (staged stage new.sink) r
     → Ends StandsFor base out new r

@@ -15,7 +15,7 @@ use Rattle.lan_schedule.specs.World.{World, beginning}
 use Rattle.lan_schedule.specs.Lines.{performed_all}
 use Rattle.lan_schedule.specs.Ends.{Sunk, Moment, IsStopped, sunk}
 use Rattle.lan_schedule.specs.Standing.{StandsFor}
-use Rattle.lan_schedule.specs.Trace.{Sourced, lines_within, outcome, summary_of, WereStopped}
+use Rattle.lan_schedule.specs.Trace.{Sourced, lines_within, course, summary_of, WereStopped}
 use Rattle.lan_schedule.specs.Trace.{IsSummarized}
 use Rattle.lan_schedule.specs.inside.Reading.{Runs, IsEnded, halt_of_end}
 use Rattle.lan_schedule.specs.inside.Staged.{Writes}
@@ -31,7 +31,7 @@ never-rises (inl lt) = omega (arith, lt)
 never-rises (inr full) = omega (arith, full)
 
 stopped : (lines : List (List ℕ)) (base sink now : Sunk) (halt : Halt)
-    → IsStopped base (outcome lines) now halt
+    → IsStopped base (course lines) now halt
     → WereStopped lines sink sink halt
 stopped lines base sink now halt p = (p.0, p.1, p.2.tidy, refl)
 

@@ -1,11 +1,9 @@
 -- The text of a line is performed.
-use Rattle.std.proofs.Common.{◌≡◌, ◌≢◌, ℕ, ◌+◌, List, Option, Some, None, refl, sym, ap, ◌∙◌, subst}
+use Rattle.std.proofs.Common.{◌≡◌, ℕ, ◌+◌, List, Option, Some, None, refl, sym, ap, ◌∙◌}
 use Rattle.std.specs.Prelude.{Result, Ok, Err}
 use Rattle.trace_text.specs.declared.fault.TextFault.{TextFault}
-use Rattle.trace_text.specs.declared.fault.TextFault.TheVariants as faults
 use Rattle.trace_text.specs.declared.line.Line.{Line}
 use Rattle.trace_text.specs.Reading.{line_in, fault_in, first_fault}
-use Rattle.lan_schedule.specs.declared.halt.Halt.{Halt}
 use Rattle.lan_schedule.specs.declared.halt.Halt.TheVariants as halts
 use Rattle.lan_schedule.specs.declared.commands.Replay.{Replay}
 use Rattle.lan_schedule.specs.World.{World}
@@ -13,10 +11,9 @@ use Rattle.lan_schedule.specs.Kinds.{kind_of_fault, refusal_read}
 use Rattle.lan_schedule.specs.Acts.{Act, look, perform, Goes, Stops}
 use Rattle.lan_schedule.specs.Lines.{begin_line, numbered, act_of, deed_read, unless_refused}
 use Rattle.lan_schedule.specs.Lines.{performed}
-use Rattle.lan_schedule.specs.Ends.{Moment, EndsEarly}
+use Rattle.lan_schedule.specs.Ends.{Moment}
 use Rattle.lan_schedule.specs.Standing.{StandsFor, Does}
-use Rattle.lan_schedule.specs.inside.Reading.{halt_of_text}
-use Rattle.lan_schedule.proofs.Feeding.{same-act, memory-does}
+use Rattle.lan_schedule.proofs.Feeding.{same-act}
 use Rattle.lan_schedule.proofs.LinesCome.{tidy-same}
 
 -- the world in which the line of a number begins
@@ -50,28 +47,17 @@ fault-is : (said : Result (Option Line) TextFault) (fault : TextFault) → fault
 fault-is (Ok line) fault e = absurd (cc e)
 fault-is (Err other) fault e = let same : other ≡ fault = cc in ap (λ (f : TextFault). Err f) same
 
-kind-halt : (line : ℕ) (fault : TextFault) → fault ≢ faults.Memory
-    → halt_of_text line fault ≡ halts.Trace line (kind_of_fault fault)
-kind-halt line faults.TooLong never = refl
-kind-halt line faults.Word never = refl
-kind-halt line faults.Count never = refl
-kind-halt line faults.Hex never = refl
-kind-halt line faults.Range never = refl
-kind-halt line faults.Memory never = absurd (never refl)
-
 pub fault-does : (text : List ℕ) (number : ℕ) (fault : TextFault) (now : Moment Replay)
     → ((w : World) → StandsFor w now.value → number ≡ w.kept.line + 1)
-    → fault ≢ faults.Memory → first_fault text ≡ Some fault
-    → Does (performed text) now now (Err (halt_of_text number fault))
-fault-does text number fault now next never first = record {
+    → first_fault text ≡ Some fault
+    → Does (performed text) now now (Err (halts.Trace number (kind_of_fault fault)))
+fault-does text number fault now next first = record {
   ends = λ base w reached.
       let v = at_line (w.kept.line + 1) w in
       let out : perform (performed text) w ≡ Stops v (halts.Trace number (kind_of_fault fault)) =
       ap (λ s. perform (act_read s) v) (fault-is (line_in text) fault first)
       ∙ ap (λ (n : ℕ). Stops v (halts.Trace n (kind_of_fault fault)))
-      (sym (next w reached.stands)) in
-      subst (λ (halt : Halt). EndsEarly base (perform (performed text) w) now.sink halt)
-      (sym (kind-halt number fault never)) (
+      (sym (next w reached.stands)) in (
         v,
         out,
         record {
@@ -83,19 +69,3 @@ fault-does text number fault now next never first = record {
         },
       );
 }
-
-pub any-fault-does : (text : List ℕ) (number : ℕ) (fault : TextFault) (now : Moment Replay)
-    → ((w : World) → StandsFor w now.value → number ≡ w.kept.line + 1)
-    → (fault ≢ faults.Memory → first_fault text ≡ Some fault)
-    → Does (performed text) now now (Err (halt_of_text number fault))
-any-fault-does text number faults.TooLong now next first =
-    fault-does text number faults.TooLong now next (λ e. cc e) (first (λ e. cc e))
-any-fault-does text number faults.Word now next first =
-    fault-does text number faults.Word now next (λ e. cc e) (first (λ e. cc e))
-any-fault-does text number faults.Count now next first =
-    fault-does text number faults.Count now next (λ e. cc e) (first (λ e. cc e))
-any-fault-does text number faults.Hex now next first =
-    fault-does text number faults.Hex now next (λ e. cc e) (first (λ e. cc e))
-any-fault-does text number faults.Range now next first =
-    fault-does text number faults.Range now next (λ e. cc e) (first (λ e. cc e))
-any-fault-does text number faults.Memory now next first = memory-does (performed text) now now refl

@@ -1,13 +1,13 @@
 -- Each claim that waits has its frame, and no more are emitted than there are.
 use Rattle.std.proofs.Common.{◌≡◌, ◌<◌, ◌≤◌, ◌+◌, ◌==◌, ℕ, zero, suc, Bool, true, false, List, []}
-use Rattle.std.proofs.Common.{◌∷◌, ◌++◌, map, length, length-append, Option, Some, None, ◌⊎◌, inl}
+use Rattle.std.proofs.Common.{◌∷◌, ◌++◌, length, length-append, Option, Some, None, ◌⊎◌, inl}
 use Rattle.std.proofs.Common.{inr, refl, ap, ◌∙◌, subst, arith}
 use Rattle.std.specs.Prelude.{cond, is_some, option_map, option_and_then, option_to_list, slice_get}
 use Rattle.std.specs.List.{filter}
 use Rattle.lan_base.specs.declared.frame.UserFrame.{UserFrame}
 use Rattle.gcm_frames.specs.Tags.{is_sec}
 use Rattle.rx_slots.specs.Numbers.{answer}
-use Rattle.sak_exchange.specs.Histories.{Key}
+use Rattle.sak_exchange.specs.declared.held_key.Key.{Key}
 use Rattle.mka_station.specs.declared.reaction.Reaction.{Reaction}
 use Rattle.mka_station.specs.Hearing.{frame_turn}
 use Rattle.mka_station.specs.Restart.{ending}
@@ -22,11 +22,11 @@ use Rattle.lan_core.specs.Lives.{Life, life, receiving, turn_at_tick, transmitti
 use Rattle.lan_core.specs.Claims.{Waiting, waiting, waiting_under, claimed, claimed_by, user_at}
 use Rattle.lan_core.specs.Claims.{frame_by, frame_of_claim}
 use Rattle.lan_core.specs.Expected.{expected, Drawn, drawn_in, tick_facts, reached_facts}
-use Rattle.lan_core.specs.Expected.{reaction_facts, restart_facts, change_fact, claim_fact}
+use Rattle.lan_core.specs.Expected.{reaction_facts, restart_facts, claim_fact}
 use Rattle.lan_core.specs.Expected.{number_fact, lack, emit_facts}
 use Rattle.lan_core.specs.Order.{Exists, IsAllowed, IsClaimable, IsSendable}
 use Rattle.lan_core.specs.Legal.{IsStep, IsStepped}
-use Rattle.lan_core.proofs.Public.{mapped, chained, appended, by_verdict, by_server, by_changes}
+use Rattle.lan_core.proofs.Public.{mapped, chained, reaction-air}
 use Rattle.lan_schedule.proofs.Coming.{AllHave, all-more}
 
 -- ---- claims that wait
@@ -134,20 +134,7 @@ sent-plainly s sent (Some octets) fs = refl
 reaction-plain : (s heard sent : ℕ) (reaction : Reaction)
     → EmitNone (reaction_facts s heard sent reaction)
 reaction-plain s heard sent reaction = λ fs.
-    let first = option_to_list (option_map (λ v. facts.HeardMka heard s v) reaction.heard) in
-    let second = option_to_list (option_map (λ m. facts.Server s m) reaction.server) in
-    let third = map (change_fact s) reaction.changes in
-    let last =
-    option_to_list (option_map (λ octets. facts.Framed sent s false octets) reaction.sent) in
-    rw (
-      appended first (second ++ (third ++ last)) fs,
-      by_verdict s heard reaction.heard fs,
-      appended second (third ++ last) fs,
-      by_server s reaction.server fs,
-      appended third last fs,
-      by_changes s reaction.changes fs,
-    )
-    (sent-plainly s sent reaction.sent fs)
+    ap protected_of (reaction-air s heard sent reaction fs) ∙ sent-plainly s sent reaction.sent fs
 
 reached-plain : (settings : Settings) (s : ℕ) (r : Run) (number : ℕ) (octets : List ℕ) (l : Life)
     → EmitNone (reached_facts settings s r number octets l)

@@ -1,5 +1,6 @@
 -- What can be performed, and what performing it leaves (this profile's own rule).
-use Rattle.std.specs.Prelude.{ℕ, ◌+◌, Bool, cond, zero, suc, List, [], ◌∷◌, ◌++◌, Result, Ok}
+use Rattle.std.specs.Prelude.{ℕ, ◌+◌, Bool, if◌then◌else◌, zero, suc, List}
+use Rattle.std.specs.Prelude.{[], ◌∷◌, ◌++◌, Result, Ok}
 use Rattle.std.specs.Prelude.{Err}
 use Rattle.lan_core.specs.declared.event.Event.{Event}
 use Rattle.lan_core.specs.declared.fact.Fact.{Fact}
@@ -21,9 +22,9 @@ pub data Act : Type 0 where
   look : (World → Act) → Act
 
 -- what an act leaves: the world, also where it stopped before its end
-pub data Outcome : Type 0 where
-  Goes : World → Outcome
-  Stops : World → Halt → Outcome
+pub data Course : Type 0 where
+  Goes : World → Course
+  Stops : World → Halt → Course
 
 -- what is kept after an event that showed these facts
 abbrev pub kept_after : World → Event → List Fact → Kept
@@ -37,15 +38,15 @@ abbrev pub world_after : World → Event → List Fact → World
 world_after w event facts =
     record { run = happened event facts ∷ w.run; kept = kept_after w event facts }
 
-abbrev pub shown : World → Event → Result (List Fact) Halt → Outcome
+abbrev pub shown : World → Event → Result (List Fact) Halt → Course
 shown w event (Ok facts) = Goes (world_after w event facts)
 shown w event (Err halt) = Stops w halt
 
-abbrev pub and_then : Outcome → (World → Outcome) → Outcome
+abbrev pub and_then : Course → (World → Course) → Course
 and_then (Goes w) later = later w
 and_then (Stops w halt) later = Stops w halt
 
-abbrev pub perform : Act → World → Outcome
+abbrev pub perform : Act → World → Course
 perform nothing w = Goes w
 perform (refuse kind) w = Stops w (halts.Trace w.kept.line kind)
 perform (happen event) w = shown w event (answer w event)
@@ -71,10 +72,10 @@ times count act = span (λ _. act) 0 count
 
 -- skipped where the test holds
 abbrev pub unless : Bool → Act → Act
-unless skipped act = cond skipped nothing act
+unless skipped act = if skipped then nothing else act
 
 -- ---- what was shown
 
-abbrev pub world_of : Outcome → World
+abbrev pub world_of : Course → World
 world_of (Goes w) = w
 world_of (Stops w halt) = w

@@ -9,7 +9,7 @@ use Rattle.lan_schedule.specs.declared.halt.Halt.{Halt}
 use Rattle.lan_schedule.specs.declared.halt.Halt.TheVariants as halts
 use Rattle.lan_schedule.specs.Sound.{IsTidy}
 use Rattle.lan_schedule.specs.World.{World, names_of}
-use Rattle.lan_schedule.specs.Acts.{Outcome, Goes, Stops, world_of}
+use Rattle.lan_schedule.specs.Acts.{Course, Goes, Stops, world_of}
 
 -- the facts of a run as text, those of each event under the names that the stations have by then
 abbrev pub written : Run → List ℕ
@@ -17,7 +17,7 @@ written [] = []
 written (x ∷ r) = written r ++ transcript (names_of (x ∷ r)) x.facts
 
 -- the text of all that was shown, also before an act
-abbrev pub text_of : Outcome → List ℕ
+abbrev pub text_of : Course → List ℕ
 text_of out = written (world_of out).run
 
 -- what is held is what was held, and then a front of the text
@@ -62,11 +62,11 @@ pub record IsReached {R : Type 0} (Stands : World → R → Type 0) (base : Sunk
   pub shown : IsShown base w now.sink
 
 -- the act stopped in a world, all of which was shown
-abbrev pub IsStopped : Sunk → Outcome → Sunk → Halt → Type 0
+abbrev pub IsStopped : Sunk → Course → Sunk → Halt → Type 0
 IsStopped base out now halt = (w : World) × (out ≡ Stops w halt) × IsShown base w now
 
--- how a call ends early whose outcome would be this one
-abbrev pub EndsEarly : Sunk → Outcome → Sunk → Halt → Type 0
+-- how a call ends early whose course would be this one
+abbrev pub EndsEarly : Sunk → Course → Sunk → Halt → Type 0
 EndsEarly base out now (halts.Trace line kind) = IsStopped base out now (halts.Trace line kind)
 EndsEarly base out now halts.ReadFault = ⊥
 EndsEarly base out now halts.WriteFault =
@@ -77,8 +77,8 @@ EndsEarly base out now (halts.RepeatedDraw first second) =
     IsStopped base out now (halts.RepeatedDraw first second)
 EndsEarly base out now (halts.Forged line) = IsStopped base out now (halts.Forged line)
 
--- how a call ends whose outcome would be this one
+-- how a call ends whose course would be this one
 abbrev pub Ends : {R : Type 0} → (World → R → Type 0)
-    → Sunk → Outcome → Moment R → Result (Unit {0}) Halt → Type 0
+    → Sunk → Course → Moment R → Result (Unit {0}) Halt → Type 0
 Ends Stands base out now (Ok done) = (w : World) × (out ≡ Goes w) × IsReached Stands base w now
 Ends Stands base out now (Err halt) = EndsEarly base out now.sink halt

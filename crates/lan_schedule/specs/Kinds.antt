@@ -1,5 +1,5 @@
 -- Which line is refused, and the first reason (this profile's own rule).
-use Rattle.std.specs.Prelude.{ℕ, nat_le, Bool, true, false, not, ◌&&◌, cond, List, length}
+use Rattle.std.specs.Prelude.{ℕ, nat_le, Bool, true, false, not, ◌&&◌, if◌then◌else◌, List, length}
 use Rattle.std.specs.Prelude.{Option, Some, None, is_some, Result, Ok, Err}
 use Rattle.std.specs.Option.{is_none}
 use Rattle.trace_text.specs.declared.fault.TextFault.{TextFault}
@@ -16,14 +16,13 @@ use Rattle.lan_schedule.specs.World.{World, names_of, scis_of, is_in}
 
 -- ---- the text alone
 
--- a fault of the text as a kind; memory is no fault of a text
+-- a fault of the text as a kind
 abbrev pub kind_of_fault : TextFault → Kind
 kind_of_fault faults.TooLong = kinds.TooLong
 kind_of_fault faults.Word = kinds.Word
 kind_of_fault faults.Count = kinds.Count
 kind_of_fault faults.Hex = kinds.Hex
 kind_of_fault faults.Range = kinds.Range
-kind_of_fault faults.Memory = kinds.Word
 
 -- whether lines of this form can be performed: races and feeding can't
 abbrev pub is_performed : Line → Bool
@@ -53,7 +52,7 @@ is_allowed (lines.Conf conf) begun chosen = not begun && is_none chosen.conf
 is_allowed (lines.Window window) begun chosen = not begun && is_none chosen.window
 is_allowed (lines.Rekey rekey) begun chosen = not begun && is_none chosen.rekey
 is_allowed (lines.Lag lag) begun chosen = not begun && is_none chosen.lag
-is_allowed (lines.Suite suite) begun chosen = not begun && is_none chosen.wide
+is_allowed (lines.Suite suite) begun chosen = not begun && is_none chosen.suite
 is_allowed (lines.Group cak ckn) begun chosen = not begun && is_none chosen.group
 is_allowed (lines.Station name sci priority) begun chosen = is_some chosen.group
 is_allowed _ begun chosen = begun
@@ -67,7 +66,7 @@ or_else (Some kind) later = Some kind
 
 -- a reason, where the test holds
 abbrev pub where_ : Bool → Kind → Option Kind
-where_ test kind = cond test (Some kind) None
+where_ test kind = if test then Some kind else None
 
 -- no station has this name
 abbrev pub unknown : List ℕ → List (List ℕ) → Option Kind

@@ -12,6 +12,7 @@ pub mod Kinds
 pub mod Lines
 pub mod Sound
 pub mod Ends
+pub mod Stages
 pub mod Standing
 pub mod Trace
 pub mod inside

@@ -1,13 +1,13 @@
 -- For which world a replay stands.
 use Rattle.std.specs.Prelude.{◌≡◌, [], Option, Some, None, Result}
-use Rattle.group_safety.specs.Summary.{counts}
+use Rattle.fact_tally.specs.Summary.{counts}
 use Rattle.lan_schedule.specs.declared.halt.Halt.{Halt}
 use Rattle.lan_schedule.specs.declared.stage.Stage.{Stage}
 use Rattle.lan_schedule.specs.declared.commands.Replay.{Replay}
 use Rattle.lan_schedule.specs.World.{World, nothing_kept}
 use Rattle.lan_schedule.specs.Acts.{Act, perform}
 use Rattle.lan_schedule.specs.Ends.{Sunk, Moment, IsReached, Ends}
-use Rattle.lan_schedule.specs.inside.Staged.{StandsFor as StageStandsFor}
+use Rattle.lan_schedule.specs.Stages.{StandsFor as StageStandsFor}
 
 -- before the first station nothing happened, and the tally is that of no facts; from then on the
 -- group at work stands for the world

@@ -1,5 +1,6 @@
 -- What the lines so far have made: a run, and what is kept beside it.
-use Rattle.std.specs.Prelude.{ℕ, ◌==◌, ◌&&◌, ◌-◌, Bool, true, false, cond, nat_eq, zero, suc}
+use Rattle.std.specs.Prelude.{ℕ, ◌==◌, ◌&&◌, ◌-◌, Bool, true}
+use Rattle.std.specs.Prelude.{false, if◌then◌else◌, nat_eq, zero, suc}
 use Rattle.std.specs.Prelude.{List, [], ◌∷◌, ◌++◌, map, length, not, slice_get, option_map}
 use Rattle.std.specs.Prelude.{unwrap_or}
 use Rattle.std.specs.List.{list_any, filter, flat_map, position_or_len}
@@ -104,6 +105,14 @@ sender_at n frames = unwrap_or (option_map (λ put. put.sender) (slice_get frame
 abbrev pub sender : World → ℕ → ℕ
 sender w number = sender_at (number - 1) w.kept.frames
 
+-- the frames by number, and the count of flow rounds
+pub record Flow : Type 0 where
+  pub frames : List Put
+  pub rounds : ℕ
+
+abbrev pub flow_of : World → Flow
+flow_of w = record { frames = w.kept.frames; rounds = w.kept.rounds }
+
 -- ---- links
 
 abbrev pub is_link : ℕ → ℕ → Link → Bool
@@ -116,7 +125,7 @@ is_cut from to cuts = list_any (is_link from to) cuts
 -- a link is cut; one that is cut already stays so
 abbrev pub with_link : ℕ → ℕ → List Link → List Link
 with_link from to cuts =
-    cond (is_cut from to cuts) cuts (cuts ++ record { from = from; to = to } ∷ [])
+    if is_cut from to cuts then cuts else cuts ++ record { from = from; to = to } ∷ []
 
 -- a link is whole again
 abbrev pub without_link : ℕ → ℕ → List Link → List Link

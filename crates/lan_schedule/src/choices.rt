@@ -4,7 +4,7 @@ ghost use Rattle.std.specs.Prelude.{◌≡◌};
 ghost use Rattle.lan_schedule.specs.Settings.{no_choice};
 
 use aes_block::Secret;
-use lan_base::{Blocks, Octets};
+use lan_base::{Blocks, Octets, Suite};
 
 /// Where draws come from.
 #[derive(Debug, Drop)]
@@ -32,8 +32,8 @@ pub struct Choices {
     pub window: Option<u32>,
     pub rekey: Option<u32>,
     pub lag: Option<u32>,
-    /// Whether the keys that are made have 256 bits, and not 128.
-    pub wide: Option<bool>,
+    /// The suite of the keys that are made.
+    pub suite: Option<Suite>,
     pub group: Option<Keyed>,
 }
 
@@ -48,7 +48,7 @@ impl Choices {
             window: None,
             rekey: None,
             lag: None,
-            wide: None,
+            suite: None,
             group: None,
         }
     }

@@ -4,7 +4,7 @@ ghost use Rattle.std.specs.Prelude.{◌≡◌, ◌⊎◌, length, Some, None, Ok
 ghost use Rattle.std.specs.Prelude.{OnOk, Option, is_some, true};
 ghost use Rattle.std.specs.Prelude.{false};
 ghost use Rattle.lan_core.specs.Run.{facts_of};
-ghost use Rattle.group_safety.specs.Summary.{counts};
+ghost use Rattle.fact_tally.specs.Summary.{counts};
 ghost use Rattle.trace_text.specs.Writing.{IsInForm};
 ghost use Rattle.lan_schedule.specs.World.{World, beginning};
 ghost use Rattle.lan_schedule.specs.declared.halt.Halt.{Halt};
@@ -21,7 +21,7 @@ use crate::choices::{Choices, Keyed, Rule};
 use crate::halt::{Halt, Kind};
 use crate::stage::Stage;
 use aes_block::Secret;
-use group_safety::Tally;
+use fact_tally::Tally;
 use lan_base::{Blocks, Sink};
 use std::alloc::{AllocError, Global};
 use trace_text::Line;
@@ -180,7 +180,7 @@ fn choose(alloc: Global, chosen: &mut Choices, line: &Line) -> Result<(), AllocE
         Line::Window { window } => chosen.window = Some(*window),
         Line::Rekey { rekey } => chosen.rekey = Some(*rekey),
         Line::Lag { lag } => chosen.lag = Some(*lag),
-        Line::Suite { suite } => chosen.wide = Some(*suite == 256),
+        Line::Suite { suite } => chosen.suite = Some(*suite),
         Line::Group { cak, ckn } => {
             let cak = secret_of(cak.as_slice());
             let ckn = ckn.copied(alloc)?;
@@ -247,7 +247,7 @@ fn is_allowed(chosen: &Choices, line: &Line) -> bool
         Line::Window { .. } => chosen.window.is_none(),
         Line::Rekey { .. } => chosen.rekey.is_none(),
         Line::Lag { .. } => chosen.lag.is_none(),
-        Line::Suite { .. } => chosen.wide.is_none(),
+        Line::Suite { .. } => chosen.suite.is_none(),
         Line::Group { .. } => chosen.group.is_none(),
         Line::Station { .. } => chosen.group.is_some(),
         _ => false,

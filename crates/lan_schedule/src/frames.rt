@@ -1,9 +1,8 @@
 //! The frames of the air, as far as flow rounds look at them.
 
-ghost use Rattle.std.specs.Prelude.{◌≡◌, ◌+◌, ◌-◌, ◌++◌, ◌∷◌, [], cond, length, IfOk, OnOk};
-ghost use Rattle.lan_schedule.specs.World.{puts, put_by, marked_at, sender_at};
+ghost use Rattle.std.specs.Prelude.{◌≡◌, ◌+◌, ◌-◌, ◌++◌, ◌∷◌, [], if◌then◌else◌, length, IfOk, OnOk};
+ghost use Rattle.lan_schedule.specs.World.{puts, put_by, marked_at, sender_at, Flow};
 ghost use Rattle.lan_schedule.specs.Lines.{due_of};
-ghost use Rattle.lan_schedule.specs.inside.Frames.{Flow};
 
 use lan_core::Fact;
 use std::alloc::{AllocError, Global};
@@ -29,7 +28,8 @@ pub struct Frames {
 }
 
 impl Model for Frames {
-    ghost use Rattle.lan_schedule.specs.inside.Frames.{Flow, AreMarked, AreInOrder};
+    ghost use Rattle.lan_schedule.specs.World.{Flow};
+    ghost use Rattle.lan_schedule.specs.inside.Frames.{AreMarked, AreInOrder};
 
     ghost Value = { Flow };
 
@@ -168,7 +168,7 @@ impl Frames {
 /// Notes the number of a frame that isn't marked.
 fn note(numbers: &mut Vec<u32>, put: Put) -> Result<(), AllocError>
     ensures { OnOk result (numbers.new.items
-        ≡ numbers.old.items ++ cond put.marked [] (put.number ∷ [])) }
+        ≡ numbers.old.items ++ (if put.marked then [] else put.number ∷ [])) }
 {
     if !put.marked {
         numbers.push(put.number)?;

@@ -4,7 +4,7 @@ ghost use Rattle.lan_schedule.specs.Acts.{each, times};
 ghost use Rattle.lan_schedule.specs.Lines.{tick, round, to_others, spread, flow_round, pass};
 ghost use Rattle.lan_schedule.specs.Ends.{moment};
 ghost use Rattle.lan_schedule.specs.inside.Comes.{Did};
-ghost use Rattle.lan_schedule.specs.inside.Staged.{StandsFor};
+ghost use Rattle.lan_schedule.specs.Stages.{StandsFor};
 
 use crate::halt::Halt;
 use crate::stage::Stage;

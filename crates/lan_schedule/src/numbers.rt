@@ -1,6 +1,7 @@
 //! The packet numbers that stations show and claim.
 
-ghost use Rattle.std.specs.Prelude.{◌≡◌, ◌==◌, ◌&&◌, ◌+◌, ◌<◌, ℕ, List, [], ◌∷◌, get_or, cond, max};
+ghost use Rattle.std.specs.Prelude.{◌≡◌, ◌==◌, ◌&&◌, ◌+◌, ◌<◌, ℕ, List};
+ghost use Rattle.std.specs.Prelude.{[], ◌∷◌, get_or, if◌then◌else◌, max};
 ghost use Rattle.std.specs.Prelude.{OnOk};
 ghost use Rattle.lan_base.specs.declared.frame.UserFrame.{UserFrame};
 ghost use Rattle.lan_core.specs.declared.event.Event.{Event};
@@ -9,8 +10,8 @@ ghost use Rattle.lan_core.specs.Run.{Run, happened};
 ghost use Rattle.lan_core.specs.Claims.{after_claim};
 ghost use Rattle.lan_core.specs.Standing.{StandsFor};
 ghost use Rattle.lan_schedule.specs.Numbers.{shown_next, claimed_number, in_range};
-ghost use Rattle.lan_schedule.specs.inside.Counters.{counted_next, raised_at, is_tick, TellNext};
-ghost use Rattle.lan_schedule.specs.inside.Counters.{ShowsNext};
+ghost use Rattle.lan_schedule.specs.Numbers.{counted_next, TellNext};
+ghost use Rattle.lan_schedule.specs.inside.Counters.{raised_at, is_tick, ShowsNext};
 
 use lan_core::{Event, Fact, Lan};
 use std::alloc::{AllocError, Global};
@@ -106,8 +107,8 @@ impl Numbers {
     /// The next number of a station under an epoch is this one at least.
     fn raise(&mut self, alloc: Global, station: u8, epoch: u32, next: u64) -> Result<(), AllocError>
         ensures { OnOk result ((s e : ℕ) → counted_next self.new s e
-            ≡ cond ((station == s) && (epoch == e)) (max next (counted_next self.old s e))
-            (counted_next self.old s e)) }
+            ≡ (if (station == s) && (epoch == e) then max next (counted_next self.old s e)
+            else counted_next self.old s e)) }
     {
         let place = usize::from(station);
         while self.stations.len() <= place {

@@ -8,7 +8,7 @@ ghost use Rattle.lan_schedule.specs.Kinds.{refusal, or_else, where_, unknown, no
 ghost use Rattle.lan_schedule.specs.Kinds.{wrong_word};
 ghost use Rattle.lan_schedule.specs.declared.halt.Kind.TheVariants as kinds;
 ghost use Rattle.lan_schedule.specs.inside.Choosing.{is_choice};
-ghost use Rattle.lan_schedule.specs.inside.Staged.{StandsFor};
+ghost use Rattle.lan_schedule.specs.Stages.{StandsFor};
 
 use crate::commands::is_performed;
 use crate::halt::Kind;

@@ -20,7 +20,8 @@ ghost use Rattle.lan_schedule.specs.Lines.{act_of};
 ghost use Rattle.lan_schedule.specs.Answers.{halt_of};
 ghost use Rattle.lan_schedule.specs.Ends.{moment};
 ghost use Rattle.lan_schedule.specs.inside.Comes.{Did};
-ghost use Rattle.lan_schedule.specs.inside.Staged.{StandsFor, Happened, IsOpening};
+ghost use Rattle.lan_schedule.specs.Stages.{StandsFor};
+ghost use Rattle.lan_schedule.specs.inside.Staged.{Happened, IsOpening};
 
 use crate::choices::Choices;
 use crate::frames::Frames;
@@ -30,9 +31,9 @@ use crate::numbers::Numbers;
 use crate::setup::{group_of, settings_of, supply_of};
 use crate::supply::Supply;
 use crate::writing::{count_all, show};
-use group_safety::Tally;
+use fact_tally::Tally;
 use lan_base::{Mac, Name, Octets, Sci, Sink, UserFrame};
-use lan_core::{Event, Lan, Stop};
+use lan_core::{Event, Lan, StepError, Stop};
 use std::alloc::{AllocError, Global};
 use trace_text::Line;
 
@@ -102,7 +103,8 @@ impl Stage {
     {
         let facts = match self.lan.step(event, user, &mut self.draws) {
             Ok(facts) => facts,
-            Err(stop) => return Err(halt_of(stop, self.line)),
+            Err(StepError::Stopped(stop)) => return Err(halt_of(stop, self.line)),
+            Err(StepError::Memory) => return Err(Halt::Memory),
         };
         self.frames.put(facts.as_slice())?;
         self.numbers.follow(self.alloc, event, facts.as_slice())?;
@@ -361,6 +363,5 @@ fn halt_of(stop: Stop, line: u32) -> Halt
         Stop::Limit(which) => Halt::Limit(which),
         Stop::RepeatedDraw { first, second } => Halt::RepeatedDraw { first, second },
         Stop::Forged { .. } => Halt::Forged { line },
-        Stop::Memory => Halt::Memory,
     }
 }

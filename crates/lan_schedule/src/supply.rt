@@ -34,7 +34,8 @@ impl Supply {
 }
 
 impl Draws for Supply {
-    ghost use Rattle.lan_schedule.specs.inside.Supplies.{supply_nth, supply-ends};
+    ghost use Rattle.lan_schedule.specs.Supply.{supply_nth};
+    ghost use Rattle.lan_schedule.specs.inside.Supplies.{supply-ends};
 
     ghost nth = { supply_nth };
 

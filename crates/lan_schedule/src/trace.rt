@@ -1,12 +1,13 @@
 //! A trace is read in pieces, and each line is performed as soon as it has ended.
 
 ghost use Rattle.std.specs.Prelude.{◌≡◌, ◌≤◌, ◌==◌, ◌++◌, ◌∷◌, [], List, ℕ, Some, Ok, Err, OnOk};
-ghost use Rattle.std.specs.Prelude.{cond, true, false};
+ghost use Rattle.std.specs.Prelude.{if◌then◌else◌, true, false};
 ghost use Rattle.lan_base.specs.Faults.{Rose};
-ghost use Rattle.group_safety.specs.Summary.{line_of};
+ghost use Rattle.fact_tally.specs.Summary.{line_of};
 ghost use Rattle.lan_schedule.specs.declared.halt.Halt.{Halt};
 ghost use Rattle.lan_schedule.specs.declared.halt.Halt.TheVariants as halts;
 ghost use Rattle.lan_schedule.specs.declared.trace.End.TheVariants as ends;
+ghost use Rattle.lan_schedule.specs.Kinds.{kind_of_fault};
 ghost use Rattle.lan_schedule.specs.Texts.{ended, open_line, last_line, without_return};
 ghost use Rattle.lan_schedule.specs.Acts.{nothing};
 ghost use Rattle.lan_schedule.specs.Lines.{performed, performed_all};
@@ -14,17 +15,16 @@ ghost use Rattle.lan_schedule.specs.Ends.{moment, sunk};
 ghost use Rattle.lan_schedule.specs.Standing.{Does};
 ghost use Rattle.lan_schedule.specs.Trace.{IsReplayed, IsSummarized, sourced};
 ghost use Rattle.lan_schedule.specs.inside.Reading.{Runs, IsEnded, finished, limited, halt_of_end};
-ghost use Rattle.lan_schedule.specs.inside.Reading.{halt_of_text};
 ghost use Rattle.lan_schedule.specs.inside.Staged.{Writes};
 
 use crate::commands::Replay;
 use crate::halt::{Halt, Kind};
 use crate::writing::write;
-use group_safety::Tally;
+use fact_tally::Tally;
 use lan_base::{DropSink, Sink, Source};
 use lan_core::Which;
 use std::alloc::Global;
-use trace_text::{TextFault, read_line};
+use trace_text::{LineError, TextFault, read_line};
 
 /// The greatest count of octets of an input.
 const MAX_INPUT: usize = 4_194_304;
@@ -235,11 +235,12 @@ fn take<K: Sink>(
     octet: u8,
     sink: &mut K,
 ) -> Result<(), Halt>
-    ensures does { Does (cond (octet == 10) (performed (without_return begun.old.items)) nothing)
+    ensures does { Does
+        (if octet == 10 then performed (without_return begun.old.items) else nothing)
         (moment replay.old (K.held sink.old) (K.faults sink.old))
         (moment replay.new (K.held sink.new) (K.faults sink.new)) result }
     ensures begun { OnOk result (begun.new.items
-        ≡ cond (octet == 10) [] (begun.old.items ++ octet ∷ [])) }
+        ≡ (if octet == 10 then [] else begun.old.items ++ octet ∷ [])) }
 {
     if octet != b'\n' {
         begun.push(octet)?;
@@ -282,23 +283,25 @@ fn perform<K: Sink>(
             Ok(())
         }
         Ok(Some(line)) => replay.command(number, &line, sink),
-        Err(fault) => Err(halt_of_text(fault, number)),
+        Err(LineError::Refused(fault)) => Err(Halt::Trace {
+            line: number,
+            kind: kind_of_fault(fault),
+        }),
+        Err(LineError::Memory) => Err(Halt::Memory),
     }
 }
 
-/// What a fault of a line's text is to the trace.
-fn halt_of_text(fault: TextFault, line: u32) -> Halt
-    ensures { result ≡ halt_of_text line fault }
+/// A fault of a line's text as a kind.
+fn kind_of_fault(fault: TextFault) -> Kind
+    ensures { result ≡ kind_of_fault fault }
 {
-    let kind = match fault {
+    match fault {
         TextFault::TooLong => Kind::TooLong,
         TextFault::Word => Kind::Word,
         TextFault::Count => Kind::Count,
         TextFault::Hex => Kind::Hex,
         TextFault::Range => Kind::Range,
-        TextFault::Memory => return Halt::Memory,
-    };
-    Halt::Trace { line, kind }
+    }
 }
 
 /// Octets without one carriage return at their end.

@@ -3,12 +3,12 @@
 ghost use Rattle.std.specs.Prelude.{◌≡◌, ◌+◌, ◌++◌, List, OnOk};
 ghost use Rattle.transcript.specs.Rendering.{transcript};
 ghost use Rattle.lan_core.specs.declared.fact.Fact.{Fact};
-ghost use Rattle.group_safety.specs.Summary.{counts};
+ghost use Rattle.fact_tally.specs.Summary.{counts};
 ghost use Rattle.lan_schedule.specs.Ends.{sunk};
 ghost use Rattle.lan_schedule.specs.inside.Staged.{Writes};
 
 use crate::halt::Halt;
-use group_safety::Tally;
+use fact_tally::Tally;
 use lan_base::{Name, Sink, Unwritten, write_all};
 use lan_core::Fact;
 use std::alloc::AllocError;

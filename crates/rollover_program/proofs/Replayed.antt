@@ -8,7 +8,6 @@ use Rattle.lan_base.specs.Told.{before}
 use Rattle.lan_core.specs.declared.stop.Which.{Which}
 use Rattle.lan_core.specs.declared.stop.Which.TheVariants.{Input, Frames, Octets, Ticks, Keys}
 use Rattle.lan_core.specs.declared.stop.Which.TheVariants.{Stations}
-use Rattle.group_safety.proofs.Public.{known, run-once, run-one_key, run-hitless}
 use Rattle.lan_schedule.specs.declared.halt.Halt.{Halt}
 use Rattle.lan_schedule.specs.declared.halt.Halt.TheVariants as halts
 use Rattle.lan_schedule.specs.declared.halt.Kind.{Kind}
@@ -17,9 +16,8 @@ use Rattle.lan_schedule.specs.World.{World, settings}
 use Rattle.lan_schedule.specs.Acts.{Goes, world_of}
 use Rattle.lan_schedule.specs.Sound.{IsSound}
 use Rattle.lan_schedule.specs.Ends.{Sunk, IsShown, IsStopped, HoldsFront, text_of}
-use Rattle.lan_schedule.specs.Trace.{outcome, lines_within, most_input, WerePerformed, Sourced}
+use Rattle.lan_schedule.specs.Trace.{course, lines_within, most_input, WerePerformed, Sourced}
 use Rattle.lan_schedule.specs.Trace.{IsReplayed}
-use Rattle.lan_schedule.proofs.Public.{text-tidy}
 use Rattle.rollover_program.specs.declared.status.Status.TheVariants.{Done, Usage, Halted}
 use Rattle.rollover_program.specs.Headline.{IsPromised, IsTranscribed, IsPerformed, IsStoppedBy}
 use Rattle.rollover_program.specs.Headline.{IsCutShort}
@@ -36,30 +34,6 @@ pub never_usage : (r : Answer) (P : Type 0) → status_of r ≡ Usage → P
 never_usage (Ok done) P e = absurd cc
 never_usage (Err halt) P e = absurd cc
 
-promised : (w : World) → IsSound (settings w) w.kept.users w.run → IsPromised w
-promised w s =
-    let k = known (settings w) w.kept.users w.run s.legal.stepped s.unforged in
-    record {
-      sound = s;
-      once = run-once (settings w) w.kept.users w.run k s.fresh;
-      one_key = run-one_key (settings w) w.kept.users w.run k s.fresh;
-      hitless = run-hitless (settings w) w.kept.users w.run s.legal.stepped s.unforged s.fresh;
-    }
-
-transcribed : (base now : Sunk) (w : World) → IsShown base w now
-    → IsTranscribed w base.held now.held
-transcribed base now w shown =
-    record { promised = promised w shown.tidy.sound; rendered = shown.written }
-
-performed : (lines : List (List ℕ)) (old new : Sunk) → WerePerformed lines old new
-    → IsPerformed lines old.held new.held
-performed lines old new p = (p.0, p.1, transcribed old new p.0 p.2)
-
-stopped : (text : List ℕ) (old new : Sunk) (halt : Halt)
-    → IsStopped old (outcome (lines_within text)) new halt
-    → IsStoppedBy halt (lines_within text) old.held new.held
-stopped text old new halt p = (p.0, p.1, transcribed old new p.0 p.2)
-
 -- what a halt says of a trace
 halt_says : (text : List ℕ) (left now : Sourced) (old new : Sunk) (r : Answer) (halt : Halt)
     → IsReplayed text left now old new r → status_of r ≡ Halted halt
@@ -67,29 +41,15 @@ halt_says : (text : List ℕ) (left now : Sourced) (old new : Sunk) (r : Answer)
 halt_says text left now old new r halt replayed e =
     subst (IsReplayed text left now old new) (halted r halt e) replayed
 
-pub done : (text : List ℕ) (left now : Sourced) (old new : Sunk) (r : Answer)
-    → IsReplayed text left now old new r → status_of r ≡ Done
-    → IsPerformed (lines_of text) old.held new.held
-done text left now old new (Ok tt) replayed e = performed (lines_of text) old new replayed.2
-done text left now old new (Err halt) replayed e = absurd cc
-
 pub read : (text : List ℕ) (left now : Sourced) (old new : Sunk) (r : Answer)
     → IsReplayed text left now old new r → status_of r ≡ Done
     → (now.left ≡ Some []) × (length text ≤ most_input)
 read text left now old new (Ok tt) replayed e = (replayed.1, replayed.0)
 read text left now old new (Err halt) replayed e = absurd cc
 
-pub trace : (text : List ℕ) (left now : Sourced) (old new : Sunk) (r : Answer) (line : ℕ)
-    (kind : Kind) → IsReplayed text left now old new r
-    → status_of r ≡ Halted (halts.Trace line kind)
-    → IsStoppedBy (halts.Trace line kind) (lines_within text) old.held new.held
-trace text left now old new r line kind replayed e =
-    stopped text old new (halts.Trace line kind)
-    (halt_says text left now old new r (halts.Trace line kind) replayed e)
-
 limit_of : (text : List ℕ) (left now : Sourced) (old new : Sunk) (which : Which) → which ≢ Input
     → IsReplayed text left now old new (Err (halts.Limit which))
-    → IsStopped old (outcome (lines_within text)) new (halts.Limit which)
+    → IsStopped old (course (lines_within text)) new (halts.Limit which)
 limit_of text left now old new Input other says = absurd (other refl)
 limit_of text left now old new Frames other says = says
 limit_of text left now old new Octets other says = says
@@ -97,84 +57,116 @@ limit_of text left now old new Ticks other says = says
 limit_of text left now old new Keys other says = says
 limit_of text left now old new Stations other says = says
 
-pub limit : (text : List ℕ) (left now : Sourced) (old new : Sunk) (r : Answer) (which : Which)
-    → IsReplayed text left now old new r → which ≢ Input
-    → status_of r ≡ Halted (halts.Limit which)
-    → IsStoppedBy (halts.Limit which) (lines_within text) old.held new.held
-limit text left now old new r which replayed other e =
-    stopped text old new (halts.Limit which)
-    (limit_of text left now old new which other
-    (halt_says text left now old new r (halts.Limit which) replayed e))
+-- where all is promised of each sound run
+module _ (promised : (w : World) → IsSound (settings w) w.kept.users w.run → IsPromised w) where
+  transcribed : (base now : Sunk) (w : World) → IsShown base w now
+      → IsTranscribed w base.held now.held
+  transcribed base now w shown =
+      record { promised = promised w shown.tidy.sound; rendered = shown.written }
 
-pub repeated_draw : (text : List ℕ) (left now : Sourced) (old new : Sunk) (r : Answer)
-    (first second : ℕ) → IsReplayed text left now old new r
-    → status_of r ≡ Halted (halts.RepeatedDraw first second)
-    → IsStoppedBy (halts.RepeatedDraw first second) (lines_within text) old.held new.held
-repeated_draw text left now old new r first second replayed e =
-    stopped text old new (halts.RepeatedDraw first second)
-    (halt_says text left now old new r (halts.RepeatedDraw first second) replayed e)
+  performed : (lines : List (List ℕ)) (old new : Sunk) → WerePerformed lines old new
+      → IsPerformed lines old.held new.held
+  performed lines old new p = (p.0, p.1, transcribed old new p.0 p.2)
 
-pub forged : (text : List ℕ) (left now : Sourced) (old new : Sunk) (r : Answer) (line : ℕ)
-    → IsReplayed text left now old new r
-    → status_of r ≡ Halted (halts.Forged line)
-    → IsStoppedBy (halts.Forged line) (lines_within text) old.held new.held
-forged text left now old new r line replayed e =
-    stopped text old new (halts.Forged line)
-    (halt_says text left now old new r (halts.Forged line) replayed e)
+  stopped : (text : List ℕ) (old new : Sunk) (halt : Halt)
+      → IsStopped old (course (lines_within text)) new halt
+      → IsStoppedBy halt (lines_within text) old.held new.held
+  stopped text old new halt p = (p.0, p.1, transcribed old new p.0 p.2)
 
-pub input : (text : List ℕ) (left now : Sourced) (old new : Sunk) (r : Answer)
-    → IsReplayed text left now old new r
-    → status_of r ≡ Halted (halts.Limit Input) → (most_input < length text)
-    × IsPerformed (whole_lines (take most_input text)) old.held new.held
-input text left now old new r replayed e =
-    let says = halt_says text left now old new r (halts.Limit Input) replayed e in
-    (says.0, performed (whole_lines (take most_input text)) old new says.1)
+  pub done : (text : List ℕ) (left now : Sourced) (old new : Sunk) (r : Answer)
+      → IsReplayed text left now old new r → status_of r ≡ Done
+      → IsPerformed (lines_of text) old.held new.held
+  done text left now old new (Ok tt) replayed e = performed (lines_of text) old new replayed.2
+  done text left now old new (Err halt) replayed e = absurd cc
 
-pub read_fault : (text : List ℕ) (left now : Sourced) (old new : Sunk) (r : Answer)
-    → IsReplayed text left now old new r
-    → status_of r ≡ Halted halts.ReadFault
-    → (taken : List ℕ) × (left.left ≡ before taken now.left)
-    × IsPerformed (whole_lines taken) old.held new.held
-read_fault text left now old new r replayed e =
-    let says = halt_says text left now old new r halts.ReadFault replayed e in
-    (says.1.0, says.1.1, performed (whole_lines says.1.0) old new says.1.2)
+  pub trace : (text : List ℕ) (left now : Sourced) (old new : Sunk) (r : Answer) (line : ℕ)
+      (kind : Kind) → IsReplayed text left now old new r
+      → status_of r ≡ Halted (halts.Trace line kind)
+      → IsStoppedBy (halts.Trace line kind) (lines_within text) old.held new.held
+  trace text left now old new r line kind replayed e =
+      stopped text old new (halts.Trace line kind)
+      (halt_says text left now old new r (halts.Trace line kind) replayed e)
 
--- the run that a text makes is promised so much, and a front of it was taken
-pub cut_short : (text : List ℕ) (old new : Option (List ℕ))
-    → HoldsFront old new (text_of (outcome (lines_within text)))
-    → IsCutShort (lines_within text) old new
-cut_short text old new holds = record {
-  promised = promised (world_of (outcome (lines_within text))) (text-tidy text).sound;
-  rendered = holds;
-}
+  pub limit : (text : List ℕ) (left now : Sourced) (old new : Sunk) (r : Answer) (which : Which)
+      → IsReplayed text left now old new r → which ≢ Input
+      → status_of r ≡ Halted (halts.Limit which)
+      → IsStoppedBy (halts.Limit which) (lines_within text) old.held new.held
+  limit text left now old new r which replayed other e =
+      stopped text old new (halts.Limit which)
+      (limit_of text left now old new which other
+      (halt_says text left now old new r (halts.Limit which) replayed e))
 
-pub front : (text : List ℕ) (left now : Sourced) (old new : Sunk) (r : Answer)
-    → IsReplayed text left now old new r
-    → (status_of r ≡ Halted halts.WriteFault) ⊎ (status_of r ≡ Halted halts.Memory)
-    → IsCutShort (lines_within text) old.held new.held
-front text left now old new r replayed (inl e) =
-    cut_short text old.held new.held
-    (halt_says text left now old new r halts.WriteFault replayed e).1
-front text left now old new r replayed (inr e) =
-    cut_short text old.held new.held
-    (halt_says text left now old new r halts.Memory replayed e)
+  pub repeated_draw : (text : List ℕ) (left now : Sourced) (old new : Sunk) (r : Answer)
+      (first second : ℕ) → IsReplayed text left now old new r
+      → status_of r ≡ Halted (halts.RepeatedDraw first second)
+      → IsStoppedBy (halts.RepeatedDraw first second) (lines_within text) old.held new.held
+  repeated_draw text left now old new r first second replayed e =
+      stopped text old new (halts.RepeatedDraw first second)
+      (halt_says text left now old new r (halts.RepeatedDraw first second) replayed e)
+
+  pub forged : (text : List ℕ) (left now : Sourced) (old new : Sunk) (r : Answer) (line : ℕ)
+      → IsReplayed text left now old new r
+      → status_of r ≡ Halted (halts.Forged line)
+      → IsStoppedBy (halts.Forged line) (lines_within text) old.held new.held
+  forged text left now old new r line replayed e =
+      stopped text old new (halts.Forged line)
+      (halt_says text left now old new r (halts.Forged line) replayed e)
+
+  pub input : (text : List ℕ) (left now : Sourced) (old new : Sunk) (r : Answer)
+      → IsReplayed text left now old new r
+      → status_of r ≡ Halted (halts.Limit Input) → (most_input < length text)
+      × IsPerformed (whole_lines (take most_input text)) old.held new.held
+  input text left now old new r replayed e =
+      let says = halt_says text left now old new r (halts.Limit Input) replayed e in
+      (says.0, performed (whole_lines (take most_input text)) old new says.1)
+
+  pub read_fault : (text : List ℕ) (left now : Sourced) (old new : Sunk) (r : Answer)
+      → IsReplayed text left now old new r
+      → status_of r ≡ Halted halts.ReadFault
+      → (taken : List ℕ) × (left.left ≡ before taken now.left)
+      × IsPerformed (whole_lines taken) old.held new.held
+  read_fault text left now old new r replayed e =
+      let says = halt_says text left now old new r halts.ReadFault replayed e in
+      (says.1.0, says.1.1, performed (whole_lines says.1.0) old new says.1.2)
+
+-- where all is promised of the run that a text makes
+module _ (promised : (text : List ℕ) → IsPromised (world_of (course (lines_within text)))) where
+  -- a front was taken of the run that a text makes
+  pub cut_short : (text : List ℕ) (old new : Option (List ℕ))
+      → HoldsFront old new (text_of (course (lines_within text)))
+      → IsCutShort (lines_within text) old new
+  cut_short text old new holds = record {
+    promised = promised text;
+    rendered = holds;
+  }
+
+  pub front : (text : List ℕ) (left now : Sourced) (old new : Sunk) (r : Answer)
+      → IsReplayed text left now old new r
+      → (status_of r ≡ Halted halts.WriteFault) ⊎ (status_of r ≡ Halted halts.Memory)
+      → IsCutShort (lines_within text) old.held new.held
+  front text left now old new r replayed (inl e) =
+      cut_short text old.held new.held
+      (halt_says text left now old new r halts.WriteFault replayed e).1
+  front text left now old new r replayed (inr e) =
+      cut_short text old.held new.held
+      (halt_says text left now old new r halts.Memory replayed e)
 
 -- the status is what performing the text leaves, or memory was wanting
 abbrev pub IsComplete : List ℕ → Answer → Type 0
 IsComplete text r = (status_of r ≡ status_within text) ⊎ (status_of r ≡ Halted halts.Memory)
 
 by_stop : (text : List ℕ) (old new : Sunk) (halt : Halt)
-    → IsStopped old (outcome (lines_within text)) new halt → IsComplete text (Err halt)
+    → IsStopped old (course (lines_within text)) new halt → IsComplete text (Err halt)
 by_stop text old new halt p = inl (sym (ap (status_after (nat_le (length text) most_input)) p.1))
 
 pub at_end : (text : List ℕ) (w : World) → length text ≤ most_input
-    → outcome (lines_of text) ≡ Goes w → Done ≡ status_within text
+    → course (lines_of text) ≡ Goes w → Done ≡ status_within text
 at_end text w within e =
     let test : nat_le (length text) most_input ≡ true = grind (arith, nat_tests, within) in
     rw (test, e) refl
 
 pub past_limit : (text : List ℕ) (w : World) → most_input < length text
-    → outcome (whole_lines (take most_input text)) ≡ Goes w
+    → course (whole_lines (take most_input text)) ≡ Goes w
     → Halted (halts.Limit Input) ≡ status_within text
 past_limit text w past e =
     let test : nat_le (length text) most_input ≡ false = grind (arith, nat_tests, past) in

@@ -8,7 +8,7 @@ use Rattle.lan_schedule.specs.World.{World, settings}
 use Rattle.lan_schedule.specs.Sound.{IsSound}
 use Rattle.lan_schedule.specs.Acts.{Goes, Stops, world_of}
 use Rattle.lan_schedule.specs.Ends.{HoldsFront, written}
-use Rattle.lan_schedule.specs.Trace.{outcome}
+use Rattle.lan_schedule.specs.Trace.{course}
 
 -- The run of a world is legal, what was drawn in it differs, nothing in it was forged, and few
 -- packet numbers are left out. No packet number is used twice under a key, and no key identifier
@@ -31,13 +31,13 @@ pub record IsTranscribedInPart (w : World) (old new : Option (List ℕ)) : Type 
 
 -- these lines are performed to the end of the last
 abbrev pub IsPerformed : List (List ℕ) → Option (List ℕ) → Option (List ℕ) → Type 0
-IsPerformed lines old new = (w : World) × (outcome lines ≡ Goes w) × IsTranscribed w old new
+IsPerformed lines old new = (w : World) × (course lines ≡ Goes w) × IsTranscribed w old new
 
 -- performing these lines stops for this reason
 abbrev pub IsStoppedBy : Halt → List (List ℕ) → Option (List ℕ) → Option (List ℕ) → Type 0
 IsStoppedBy halt lines old new =
-    (w : World) × (outcome lines ≡ Stops w halt) × IsTranscribed w old new
+    (w : World) × (course lines ≡ Stops w halt) × IsTranscribed w old new
 
 -- performing these lines, to the end or to where they stop, makes a run of which a front was taken
 abbrev pub IsCutShort : List (List ℕ) → Option (List ℕ) → Option (List ℕ) → Type 0
-IsCutShort lines old new = IsTranscribedInPart (world_of (outcome lines)) old new
+IsCutShort lines old new = IsTranscribedInPart (world_of (course lines)) old new

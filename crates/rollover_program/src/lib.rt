@@ -2,6 +2,7 @@
 //! comes out.
 #![tactic(auto)]
 
+mod laws;
 mod orders;
 mod status;
 mod top;
@@ -9,5 +10,6 @@ mod words;
 
 pub use lan_core::Which;
 pub use lan_schedule::{Halt, Kind};
+pub use laws::{law_each_text_is_promised, law_sound_runs_are_promised};
 pub use status::Status;
 pub use top::rollover;

@@ -19,6 +19,7 @@ ghost use Rattle.rollover_program.specs.Headline.{IsCutShort, IsPerformed, IsSto
 ghost use Rattle.rollover_program.specs.Ending.{EndsMade, EndsSummarized, EndsTried, status_within};
 ghost use Rattle.rollover_program.specs.inside.Answering.{status_of, status_of_refusal};
 
+use crate::laws::{law_each_text_is_promised, law_sound_runs_are_promised};
 use crate::orders::carry_out;
 use crate::status::Status;
 use crate::words::{Refusal, read_order};
@@ -144,6 +145,8 @@ pub fn rollover<S: Source, K: Sink>(
         → (Rose (K.faults sink.old) (K.faults sink.new) → ⊥)
         → (result ≡ status_within (made n)) ⊎ (result ≡ Status.Halted halts.Memory) }
 {
+    law_sound_runs_are_promised();
+    law_each_text_is_promised();
     match read_order(alloc, words) {
         Ok(order) => status_of(carry_out(alloc, order, source, sink)),
         Err(refusal) => status_of_refusal(refusal),

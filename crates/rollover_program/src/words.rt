@@ -22,6 +22,9 @@ pub enum Order {
     Try { number: u32 },
 }
 
+/// The greatest number of which a trace is made.
+const GREATEST_NUMBER: i64 = 9999;
+
 /// Why the words order nothing.
 #[derive(Clone, Copy, Debug, PartialEq, Eq)]
 pub enum Refusal {
@@ -73,13 +76,13 @@ fn command<'a>(alloc: Global) -> Result<Command<'a>, AllocError>
         .subcommand(Command::new(alloc, "try").arg(number(alloc))?)
 }
 
-/// A number from 1 to 9999.
+/// A number from 1 to the greatest.
 fn number<'a>(alloc: Global) -> Arg<'a>
     ensures rule { rule_of result ≡ number }
     ensures local { result.global ≡ false }
 {
     Arg::new(alloc, "N")
-        .value_parser(clap::value_parser!(u32).range(1..=9999))
+        .value_parser(clap::value_parser!(u32).range(1..=GREATEST_NUMBER))
         .required(true)
 }
 

@@ -1,13 +1,45 @@
 //! The commands: words that are none, a generated trace, and summaries.
 
-use crate::performing::{STEADY, ordered, refused};
-use crate::worked::FIRST_KEY;
-use rollover_program::{Kind, Status};
+use crate::case::{Case, Shown, wrong};
+use crate::performing::{STEADY, joined, ordered};
+use crate::worked::{FIRST, FIRST_KEY, GROUP, SECOND, SIX_ROUNDS};
+use rollover_program::{Halt, Kind, Status};
 use std::test::Fail;
 
-/// The summary of the first key.
-const FIRST_KEY_SUMMARY: &str = "{\"accepted\":0,\"begun\":2,\"claims\":0,\"frames\":9,\
-    \"installed\":2,\"late\":0,\"missed\":0,\"noclaims\":0,\"ticks\":12}\n";
+/// Words that are no command.
+const NO_COMMANDS: [&[&str]; 9] = [
+    &[],
+    &["walk"],
+    &[""],
+    &["run "],
+    &["Run"],
+    &["make", "0"],
+    &["make", "10000"],
+    &["run", "x"],
+    &["try", ""],
+];
+
+/// Summaries.
+const SUMMED: [Case; 2] = [
+    Case {
+        name: "the first key",
+        trace: &[GROUP, FIRST, SECOND, SIX_ROUNDS],
+        status: Status::Done,
+        shown: Shown::All(&[
+            "{\"accepted\":0,\"begun\":2,\"claims\":0,\"frames\":9,\
+            \"installed\":2,\"late\":0,\"missed\":0,\"noclaims\":0,\"ticks\":12}\n",
+        ]),
+    },
+    Case {
+        name: "a line that is refused",
+        trace: &["tick 1\n"],
+        status: Status::Halted(Halt::Trace {
+            line: 1,
+            kind: Kind::Order,
+        }),
+        shown: Shown::All(&[]),
+    },
+];
 
 /// The hash FNV-1a of 64 bits.
 fn hash(octets: &[u8]) -> u64 {
@@ -18,18 +50,16 @@ fn hash(octets: &[u8]) -> u64 {
     hash
 }
 
-/// A number out of its range, a word too many, and no word at all.
+/// No such command, a number out of its range, a word too many, and no word at all.
 #[test]
 fn refuses_words_that_are_no_command(rt: HostRuntime) -> Result<(), Fail> {
     let alloc = rt.alloc();
-    let cases = [["make", "0"], ["make", "10000"], ["run", "x"], ["try", ""]];
-    for words in cases {
-        let left = ordered(alloc, &words, FIRST_KEY.as_bytes(), STEADY)?;
+    let trace = joined(alloc, &FIRST_KEY)?;
+    for words in NO_COMMANDS {
+        let left = ordered(alloc, words, &trace, STEADY)?;
         assert_eq!(rt; left.status, Status::Usage, "{words:?}");
-        assert!(rt; left.held.is_empty());
+        assert!(rt; left.held.is_empty(), "{words:?}");
     }
-    let left = ordered(alloc, &[], FIRST_KEY.as_bytes(), STEADY)?;
-    assert_eq!(rt; left.status, Status::Usage);
     Ok(())
 }
 
@@ -55,14 +85,6 @@ fn makes_and_tries_a_trace(rt: HostRuntime) -> Result<(), Fail> {
 #[test]
 fn sums_a_trace_up(rt: HostRuntime) -> Result<(), Fail> {
     let alloc = rt.alloc();
-    let cases = [
-        (FIRST_KEY, Status::Done, FIRST_KEY_SUMMARY),
-        ("tick 1\n", refused(1, Kind::Order), ""),
-    ];
-    for (text, status, shown) in cases {
-        let left = ordered(alloc, &["run", "--summary"], text.as_bytes(), STEADY)?;
-        assert_eq!(rt; left.status, status);
-        assert_eq!(rt; left.held.as_slice(), shown.as_bytes());
-    }
+    assert_eq!(rt; wrong(alloc, &["run", "--summary"], &SUMMED)?.as_str(), "");
     Ok(())
 }

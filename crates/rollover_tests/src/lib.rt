@@ -4,11 +4,19 @@
 #[cfg(test)]
 mod agreement;
 #[cfg(test)]
+mod case;
+#[cfg(test)]
 mod commands;
+#[cfg(test)]
+mod looking;
 #[cfg(test)]
 mod outside;
 #[cfg(test)]
 mod performing;
+#[cfg(test)]
+mod refusals;
+#[cfg(test)]
+mod rollovers;
 #[cfg(test)]
 mod small;
 #[cfg(test)]

@@ -1,7 +1,7 @@
 //! A source and a sink that fail, the input's limits, and how the program ends.
 
-use crate::performing::{Outside, STEADY, count, has, joined, perform, refused, run};
-use crate::worked::{FIRST_KEY, GROUP, STATION};
+use crate::performing::{Outside, STEADY, joined, perform, refused};
+use crate::worked::{FIRST, FIRST_KEY, FIRST_LIFE, GROUP};
 use rollover_program::{Halt, Kind, Status, Which};
 use std::test::Fail;
 
@@ -9,7 +9,8 @@ use std::test::Fail;
 #[test]
 fn leaves_a_front_at_a_read_fault(rt: HostRuntime) -> Result<(), Fail> {
     let alloc = rt.alloc();
-    let whole = run(alloc, &[FIRST_KEY])?;
+    let trace = joined(alloc, &FIRST_KEY)?;
+    let whole = perform(alloc, "run", &trace, STEADY)?;
     let mut before = 0;
     // 115 octets are eight reads of 16, and the ninth finds the end.
     for call in 1..10u64 {
@@ -18,7 +19,7 @@ fn leaves_a_front_at_a_read_fault(rt: HostRuntime) -> Result<(), Fail> {
             failing_read: call,
             ..STEADY
         };
-        let left = perform(alloc, "run", FIRST_KEY.as_bytes(), outside)?;
+        let left = perform(alloc, "run", &trace, outside)?;
         assert_eq!(rt; left.status, Status::Halted(Halt::ReadFault));
         assert!(rt; whole.held.as_slice().starts_with(left.held.as_slice()));
         assert!(rt; before <= left.held.len());
@@ -29,7 +30,7 @@ fn leaves_a_front_at_a_read_fault(rt: HostRuntime) -> Result<(), Fail> {
         failing_read: 10,
         ..STEADY
     };
-    let left = perform(alloc, "run", FIRST_KEY.as_bytes(), outside)?;
+    let left = perform(alloc, "run", &trace, outside)?;
     assert_eq!(rt; left.status, Status::Done);
     Ok(())
 }
@@ -38,7 +39,8 @@ fn leaves_a_front_at_a_read_fault(rt: HostRuntime) -> Result<(), Fail> {
 #[test]
 fn leaves_a_front_at_a_write_fault(rt: HostRuntime) -> Result<(), Fail> {
     let alloc = rt.alloc();
-    let whole = run(alloc, &[FIRST_KEY])?;
+    let trace = joined(alloc, &FIRST_KEY)?;
+    let whole = perform(alloc, "run", &trace, STEADY)?;
     let mut calls = 0u64;
     for call in 1..200u64 {
         let outside = Outside {
@@ -46,7 +48,7 @@ fn leaves_a_front_at_a_write_fault(rt: HostRuntime) -> Result<(), Fail> {
             failing_write: call,
             ..STEADY
         };
-        let left = perform(alloc, "run", FIRST_KEY.as_bytes(), outside)?;
+        let left = perform(alloc, "run", &trace, outside)?;
         if left.status == Status::Done {
             break;
         }
@@ -64,93 +66,149 @@ fn leaves_a_front_at_a_write_fault(rt: HostRuntime) -> Result<(), Fail> {
 #[test]
 fn stops_at_the_limit_of_the_input(rt: HostRuntime) -> Result<(), Fail> {
     let alloc = rt.alloc();
-    let mut text = joined(alloc, &[GROUP, STATION])?;
+    let mut text = joined(alloc, &[GROUP, FIRST])?;
     for _ in text.len()..4_194_305 {
         text.push(b' ')?;
     }
     let left = perform(alloc, "run", &text, STEADY)?;
     assert_eq!(rt; left.status, Status::Halted(Halt::Limit(Which::Input)));
-    assert_eq!(rt;
-        left.held.as_slice(),
-        b"life A 000000000000000000000001\n".as_slice()
-    );
+    assert_eq!(rt; left.held.as_slice(), FIRST_LIFE.as_bytes());
     text.pop();
     let left = perform(alloc, "run", &text, STEADY)?;
     assert_eq!(rt; left.status, refused(3, Kind::TooLong));
     Ok(())
 }
 
+/// A line of so many octets, its ending, and the status.
+struct Length {
+    octets: usize,
+    ending: &'static str,
+    status: Status,
+}
+
+/// The status of a first line that is too long.
+const TOO_LONG: Status = Status::Halted(Halt::Trace {
+    line: 1,
+    kind: Kind::TooLong,
+});
+
+/// The longest line, and one octet more.
+const LENGTHS: [Length; 5] = [
+    Length {
+        octets: 4096,
+        ending: "\n",
+        status: Status::Done,
+    },
+    Length {
+        octets: 4096,
+        ending: "\r\n",
+        status: Status::Done,
+    },
+    Length {
+        octets: 4096,
+        ending: "",
+        status: Status::Done,
+    },
+    Length {
+        octets: 4097,
+        ending: "\n",
+        status: TOO_LONG,
+    },
+    Length {
+        octets: 4096,
+        ending: "\r",
+        status: TOO_LONG,
+    },
+];
+
 /// Lines of 4,096 octets and of one more, with and without a carriage return.
 #[test]
 fn takes_lines_of_4096_octets(rt: HostRuntime) -> Result<(), Fail> {
     let alloc = rt.alloc();
-    let cases = [
-        (4096usize, "\n", Status::Done),
-        (4096, "\r\n", Status::Done),
-        (4096, "", Status::Done),
-        (4097, "\n", refused(1, Kind::TooLong)),
-        (4096, "\r", refused(1, Kind::TooLong)),
-    ];
-    for (count, ending, status) in cases {
+    for case in &LENGTHS {
         let mut text = Vec::new(alloc);
-        for _ in 0..count {
+        for _ in 0..case.octets {
             text.push(b'#')?;
         }
-        text.extend_from_slice(ending.as_bytes())?;
-        assert_eq!(rt; perform(alloc, "run", &text, STEADY)?.status, status);
+        text.extend_from_slice(case.ending.as_bytes())?;
+        let left = perform(alloc, "run", &text, STEADY)?;
+        assert_eq!(rt;
+            left.status,
+            case.status,
+            "{} {:?}",
+            case.octets, case.ending
+        );
     }
     Ok(())
 }
 
-/// Words that are no command, and lines that are not performed yet.
-#[test]
-fn refuses_what_is_not_there(rt: HostRuntime) -> Result<(), Fail> {
-    let alloc = rt.alloc();
-    for word in ["walk", "", "run ", "Run"] {
-        let left = perform(alloc, word, FIRST_KEY.as_bytes(), STEADY)?;
-        assert_eq!(rt; left.status, Status::Usage);
-        assert!(rt; left.held.is_empty());
-    }
-    for line in ["race\n", "while\n", "end\n", "feed 1 1 A\n"] {
-        let left = run(alloc, &[GROUP, STATION, line])?;
-        assert_eq!(rt; left.status, refused(3, Kind::Word), "{line}");
-    }
-    Ok(())
+/// A status, its number, and its line on standard error.
+struct Ending {
+    status: Status,
+    number: u8,
+    line: &'static str,
 }
+
+/// One of each status but that of success.
+const ENDINGS: [Ending; 8] = [
+    Ending {
+        status: Status::Usage,
+        number: 1,
+        line: "usage: rollover run [--summary] | make N | try N",
+    },
+    Ending {
+        status: Status::Halted(Halt::Trace {
+            line: 4,
+            kind: Kind::FrameUnknown,
+        }),
+        number: 2,
+        line: "line 4: FrameUnknown",
+    },
+    Ending {
+        status: Status::Halted(Halt::ReadFault),
+        number: 3,
+        line: "read fault",
+    },
+    Ending {
+        status: Status::Halted(Halt::WriteFault),
+        number: 4,
+        line: "write fault",
+    },
+    Ending {
+        status: Status::Halted(Halt::Memory),
+        number: 5,
+        line: "out of memory",
+    },
+    Ending {
+        status: Status::Halted(Halt::Limit(Which::Frames)),
+        number: 6,
+        line: "limit Frames",
+    },
+    Ending {
+        status: Status::Halted(Halt::RepeatedDraw {
+            first: 1,
+            second: 2,
+        }),
+        number: 7,
+        line: "draws 1 and 2 repeat",
+    },
+    Ending {
+        status: Status::Halted(Halt::Forged { line: 4 }),
+        number: 8,
+        line: "line 4: forged",
+    },
+];
 
 /// The line on standard error and the number of each status.
 #[test]
 fn names_each_status(rt: HostRuntime) -> Result<(), Fail> {
     let alloc = rt.alloc();
-    let repeated = Halt::RepeatedDraw {
-        first: 1,
-        second: 2,
-    };
-    let cases = [
-        (
-            Status::Usage,
-            1,
-            "usage: rollover run [--summary] | make N | try N",
-        ),
-        (refused(4, Kind::FrameUnknown), 2, "line 4: FrameUnknown"),
-        (Status::Halted(Halt::ReadFault), 3, "read fault"),
-        (Status::Halted(Halt::WriteFault), 4, "write fault"),
-        (Status::Halted(Halt::Memory), 5, "out of memory"),
-        (
-            Status::Halted(Halt::Limit(Which::Frames)),
-            6,
-            "limit Frames",
-        ),
-        (Status::Halted(repeated), 7, "draws 1 and 2 repeat"),
-        (
-            Status::Halted(Halt::Forged { line: 4 }),
-            8,
-            "line 4: forged",
-        ),
-    ];
-    for (status, number, line) in cases {
-        assert_eq!(rt; status.number(), number);
-        assert_eq!(rt; format!(in alloc; "{status}")?.as_str(), line);
+    for ending in &ENDINGS {
+        assert_eq!(rt; ending.status.number(), ending.number);
+        assert_eq!(rt;
+            format!(in alloc; "{}", ending.status)?.as_str(),
+            ending.line
+        );
     }
     assert_eq!(rt; Status::Done.number(), 0);
     Ok(())

@@ -1,29 +1,27 @@
-//! Worked traces and what they come to. A `frame` line is cut behind its kind.
+//! The worked group, its stations, and its first key.
 
 /// The group of each trace.
-pub const GROUP: &str = "\
-group 000102030405060708090a0b0c0d0e0f 01020304
-";
+pub const GROUP: &str = "group 000102030405060708090a0b0c0d0e0f 01020304\n";
 
 /// Its first station.
-pub const STATION: &str = "\
-station A 02000000000a0001 16
-";
+pub const FIRST: &str = "station A 02000000000a0001 16\n";
 
 /// Its second station.
-pub const SECOND: &str = "\
-station B 02000000000b0001 32
-";
+pub const SECOND: &str = "station B 02000000000b0001 32\n";
+
+/// Its third station.
+pub const THIRD: &str = "station C 02000000000c0001 64\n";
+
+/// Six flow rounds, in which two stations come to their first key.
+pub const SIX_ROUNDS: &str = "flow 6\n";
 
 /// The first key: two stations agree.
-pub const FIRST_KEY: &str = "\
-group 000102030405060708090a0b0c0d0e0f 01020304
-station A 02000000000a0001 16
-station B 02000000000b0001 32
-flow 6
-";
+pub const FIRST_KEY: [&str; 4] = [GROUP, FIRST, SECOND, SIX_ROUNDS];
 
-/// What the first key comes to.
+/// The life of the first station, where draws are counted.
+pub const FIRST_LIFE: &str = "life A 000000000000000000000001\n";
+
+/// What the first key comes to. A `frame` line is cut behind its kind.
 pub const FIRST_KEY_SHOWN: &str = "\
 life A 000000000000000000000001
 life B 000000000000000000000002

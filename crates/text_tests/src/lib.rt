@@ -1,5 +1,5 @@
-//! Tests of the lower crates of text: what the outside gives and takes, draws, lines of a trace, and
-//! made traces.
+//! Tests of the crates of text: what the outside gives and takes, draws, lines of a trace, made
+//! traces, and lines of a transcript.
 #![tactic(auto)]
 
 mod in_memory;
@@ -11,5 +11,7 @@ mod made;
 mod outside;
 #[cfg(test)]
 mod supplies;
+#[cfg(test)]
+mod transcripts;
 
 pub use in_memory::{read_whole, write_whole};

@@ -4,13 +4,15 @@ use Rattle.std.specs.Prelude.{Option, Some, None, Result, Err, codes}
 use Rattle.std.specs.Option.{ok_or}
 use Rattle.lan_base.specs.declared.key_id.KeyId.{KeyId}
 use Rattle.sak_exchange.specs.declared.change.Why.{Why}
+use Rattle.mka_station.specs.declared.verdict.DropReason.{DropReason}
 use Rattle.mka_station.specs.declared.verdict.Verdict.{Verdict}
+use Rattle.mka_station.specs.declared.verdict.Verdict.TheVariants as verdicts
 use Rattle.rx_slots.specs.declared.arrival.Arrival.{Arrival}
 use Rattle.lan_core.specs.declared.fact.Fact.{Fact}
 use Rattle.lan_core.specs.declared.fact.Fact.TheVariants.{Untaken, HeardMka, Unclaimed, Arrived}
 use Rattle.trace_text.specs.Words.{is_word}
-use Rattle.transcript.specs.declared.fault.FactFault.{FactFault}
-use Rattle.transcript.specs.declared.fault.FactFault.TheVariants.{Unread}
+use Rattle.transcript.specs.declared.fault.FactError.{FactError}
+use Rattle.transcript.specs.declared.fault.FactError.TheVariants.{Unread}
 use Rattle.transcript.specs.inside.Reading.{parted, taken, station_of, number_of, key_of, along, why_tree, seen_tree, verdict_tree, drop_tree, shape_tree, repeated_tree, old_number_tree, lack_tree, arrival_tree, accepted_tree, refused_tree, malformed_tree, missed_tree, late_tree, untaken_tree, heard_tree, noclaim_tree, data_tree}
 use Rattle.transcript.specs.inside.Taking.{Takes, Answers}
 
@@ -27,19 +29,20 @@ pub seen : (names : List (List ℕ)) (f : Why → Fact) (words left : List (List
 seen names f words left word o p t h = rw (p, t) h
 
 pub dropped : (names : List (List ℕ)) (f : Verdict → Fact) (words left : List (List ℕ)) (word : List ℕ) (o : Option Verdict) → Parts words word left
-    → is_word word (codes "drop") ≡ true → Takes f o (along names (drop_tree f) left) → Takes f o (along names (verdict_tree f) words)
+    → is_word word (codes "drop") ≡ true → Takes f o (along names (drop_tree (λ reason. f (verdicts.Dropped reason))) left)
+    → Takes f o (along names (verdict_tree f) words)
 dropped names f words left word o p t h = rw (p, t) h
 
-pub shape : (names : List (List ℕ)) (f : Verdict → Fact) (words left : List (List ℕ)) (word : List ℕ) (o : Option Verdict) → Parts words word left
+pub shape : (names : List (List ℕ)) (f : DropReason → Fact) (words left : List (List ℕ)) (word : List ℕ) (o : Option DropReason) → Parts words word left
     → is_word word (codes "shape") ≡ true → Takes f o (along names (shape_tree f) left) → Takes f o (along names (drop_tree f) words)
 shape names f words left word o p t h = rw (p, t) h
 
-pub repeated : (names : List (List ℕ)) (f : Verdict → Fact) (words left : List (List ℕ)) (word : List ℕ) (o : Option Verdict) → Parts words word left
+pub repeated : (names : List (List ℕ)) (f : DropReason → Fact) (words left : List (List ℕ)) (word : List ℕ) (o : Option DropReason) → Parts words word left
     → is_word word (codes "shape") ≡ false → is_word word (codes "repeated") ≡ true → Takes f o (along names (repeated_tree f) left)
     → Takes f o (along names (drop_tree f) words)
 repeated names f words left word o p t0 t1 h = rw (p, t0, t1) h
 
-pub old_number : (names : List (List ℕ)) (f : Verdict → Fact) (words left : List (List ℕ)) (word : List ℕ) (o : Option Verdict) → Parts words word left
+pub old_number : (names : List (List ℕ)) (f : DropReason → Fact) (words left : List (List ℕ)) (word : List ℕ) (o : Option DropReason) → Parts words word left
     → is_word word (codes "shape") ≡ false → is_word word (codes "repeated") ≡ false → is_word word (codes "oldnumber") ≡ true
     → Takes f o (along names (old_number_tree f) left) → Takes f o (along names (drop_tree f) words)
 old_number names f words left word o p t0 t1 t2 h = rw (p, t0, t1, t2) h
@@ -76,7 +79,7 @@ unclaimed names words w1 s o e1 h = rw e1 h
 pub got : {X Y : Type 0} (view : X → Y) (o : Option X) (given : Option Y) (x : X) → Takes view o given → o ≡ Some x → given ≡ Some (view x)
 got view o given x takes e = subst (λ p. Takes view p given) e takes
 
-pub accepted : (names : List (List ℕ)) (f : Arrival → Fact) (words left : List (List ℕ)) (word : List ℕ) (r : Result Arrival FactFault) → Parts words word left
+pub accepted : (names : List (List ℕ)) (f : Arrival → Fact) (words left : List (List ℕ)) (word : List ℕ) (r : Result Arrival FactError) → Parts words word left
     → is_word word (codes "accepted") ≡ true → Answers f r (along names (accepted_tree f) left) → Answers f r (along names (arrival_tree f) words)
 accepted names f words left word r p t h = rw (p, t) h
 
@@ -88,11 +91,11 @@ not_accepted : (names : List (List ℕ)) (f : Arrival → Fact) (words left : Li
     → is_word word (codes "accepted") ≡ false → along names (arrival_tree f) words ≡ along names (refused_tree f) words
 not_accepted names f words left word p t = rw (p, t) refl
 
-pub refused : (names : List (List ℕ)) (f : Arrival → Fact) (words left : List (List ℕ)) (word : List ℕ) (o : Option Arrival) (r : Result Arrival FactFault)
+pub refused : (names : List (List ℕ)) (f : Arrival → Fact) (words left : List (List ℕ)) (word : List ℕ) (o : Option Arrival) (r : Result Arrival FactError)
     → Parts words word left → is_word word (codes "accepted") ≡ false → Takes f o (along names (refused_tree f) words) → r ≡ ok_or o Unread
     → Answers f r (along names (arrival_tree f) words)
 refused names f words left word o r p t h e =
-    subst (λ (q : Result Arrival FactFault). Answers f q (along names (arrival_tree f) words)) (sym e)
+    subst (λ (q : Result Arrival FactError). Answers f q (along names (arrival_tree f) words)) (sym e)
     (subst (λ (given : Option Fact). Answers f (ok_or o Unread) given) (sym (not_accepted names f words left word p t))
     (or_unread f o (along names (refused_tree f) words) h))
 
@@ -100,7 +103,7 @@ arrived : (names words w1 w2 : List (List ℕ)) (k s : ℕ) → taken (number_of
     → along names data_tree words ≡ along names (arrival_tree (λ arrival. Arrived k s arrival)) w2
 arrived names words w1 w2 k s e1 e2 = rw (e1, e2) refl
 
-pub arrived_err : (names words w1 w2 : List (List ℕ)) (k s : ℕ) (fault : FactFault) → taken (number_of 32) words ≡ Some (k, w1)
+pub arrived_err : (names words w1 w2 : List (List ℕ)) (k s : ℕ) (fault : FactError) → taken (number_of 32) words ≡ Some (k, w1)
     → taken (station_of names) w1 ≡ Some (s, w2)
     → Answers {X = Arrival} (λ arrival. Arrived k s arrival) (Err fault) (along names (arrival_tree (λ arrival. Arrived k s arrival)) w2)
     → Answers {X = Fact} (λ x. x) (Err fault) (along names data_tree words)

@@ -4,7 +4,9 @@ use Rattle.std.specs.Prelude.{◌≢◌, false, codes, None}
 use Rattle.std.proofs.lemmas.List.Elements.{All-cons, All-nil}
 use Rattle.std.specs.Fmt.{digits}
 use Rattle.hex.specs.Hex.{encode_with}
+use Rattle.lan_base.specs.declared.association_number.AssociationNumber.TheVariants.{An1}
 use Rattle.lan_base.specs.Name.{IsName}
+use Rattle.mka_station.specs.declared.verdict.DropReason.TheVariants as Reason
 use Rattle.mka_station.specs.declared.verdict.Verdict.TheVariants as Verdict
 use Rattle.rx_slots.specs.declared.arrival.Arrival.TheVariants as Arrival
 use Rattle.lan_core.specs.declared.fact.Fact.{Fact}
@@ -22,7 +24,7 @@ abbrev ticked : Fact
 ticked = Ticked 0 9 4294967296
 
 abbrev heard : Fact
-heard = HeardMka 5 1 (Verdict.OldNumber 4)
+heard = HeardMka 5 1 (Verdict.Dropped (Reason.OldNumber 4))
 
 abbrev server : Fact
 server = Server 1 None
@@ -50,7 +52,7 @@ pub frame_line : line names frame ≡ codes "frame 13 B mka "
 unfolding line digits encode_with
 frame_line = refl
 
-pub claim_line : line names (Claimed 0 1 2 3) ≡ codes "claim A an 1 epoch 2 pn 3"
+pub claim_line : line names (Claimed 0 An1 2 3) ≡ codes "claim A an 1 epoch 2 pn 3"
 unfolding line digits
 claim_line = refl
 

@@ -5,8 +5,8 @@ use Rattle.lan_core.specs.declared.fact.Fact.{Fact}
 use Rattle.lan_core.specs.declared.fact.Fact.TheVariants.{Life, Ticked, Server, Dropped, Retired, Began, Installed, Untaken, Framed, HeardMka, Claimed, Unclaimed, Arrived}
 use Rattle.lan_core.specs.Run.{place}
 use Rattle.transcript.specs.Rendering.{IsFact, Says, AreNames}
-use Rattle.transcript.specs.declared.fault.FactFault.{FactFault}
-use Rattle.transcript.specs.declared.fault.FactFault.TheVariants.{Unread, Memory}
+use Rattle.transcript.specs.declared.fault.FactError.{FactError}
+use Rattle.transcript.specs.declared.fault.FactError.TheVariants.{Unread, Memory}
 use Rattle.transcript.specs.inside.Reading.{fact_in}
 use Rattle.transcript.specs.inside.Taking.{Answers}
 use Rattle.transcript.proofs.Said.{same_some}
@@ -23,7 +23,7 @@ some_fact : (o : Option Fact) → IsSome o → (fact : Fact) × (o ≡ Some fact
 some_fact (Some fact) some = (fact, refl)
 some_fact None some = absurd cc
 
-pub read : (names : List (List ℕ)) (line : List ℕ) (r : Result Fact FactFault) → Answers same r (fact_in names line) → IfOk r (λ fact. Says names line fact)
+pub read : (names : List (List ℕ)) (line : List ℕ) (r : Result Fact FactError) → Answers same r (fact_in names line) → IfOk r (λ fact. Says names line fact)
 read names line (Ok fact) answers = line_said names line fact answers
 read names line (Err fault) answers = tt
 
@@ -42,22 +42,22 @@ placed names (Claimed s an epoch pn) fit = fit.1.0.0
 placed names (Unclaimed s why) fit = fit.1.0.0
 placed names (Arrived k s arrival) fit = fit.1.1.0.0
 
-pub among : (names : List (List ℕ)) (line : List ℕ) (r : Result Fact FactFault) → Answers same r (fact_in names line) → IfOk r (λ fact. place fact < length names)
+pub among : (names : List (List ℕ)) (line : List ℕ) (r : Result Fact FactError) → Answers same r (fact_in names line) → IfOk r (λ fact. place fact < length names)
 among names line (Ok fact) answers = placed names fact (line_said names line fact answers).0
 among names line (Err fault) answers = tt
 
-pub found : (names : List (List ℕ)) (line : List ℕ) (r : Result Fact FactFault) → Answers same r (fact_in names line) → AreNames names → (fact : Fact)
+pub found : (names : List (List ℕ)) (line : List ℕ) (r : Result Fact FactError) → Answers same r (fact_in names line) → AreNames names → (fact : Fact)
     → Says names line fact → IfOk r (λ answer. answer ≡ fact)
 found names line (Ok answer) answers are fact says = same_some answer fact (sym answers ∙ told names line fact are says)
 found names line (Err fault) answers are fact says = tt
 
-none_says : (names : List (List ℕ)) (line : List ℕ) (r : Result Fact FactFault) → Answers same r (fact_in names line) → AreNames names → r ≡ Err Unread
+none_says : (names : List (List ℕ)) (line : List ℕ) (r : Result Fact FactError) → Answers same r (fact_in names line) → AreNames names → r ≡ Err Unread
     → (fact : Fact) → Says names line fact → ⊥
 none_says names line (Ok answer) answers are e fact says = absurd cc
 none_says names line (Err fault) (inl none) are e fact says = cc (none.1, told names line fact are says)
 none_says names line (Err fault) (inr some) are e fact says = cc (some.0, e)
 
-unsaid : (names : List (List ℕ)) (line : List ℕ) (r : Result Fact FactFault) → Answers same r (fact_in names line)
+unsaid : (names : List (List ℕ)) (line : List ℕ) (r : Result Fact FactError) → Answers same r (fact_in names line)
     → ((fact : Fact) → Says names line fact → ⊥) → r ≡ Err Unread
 unsaid names line (Ok answer) answers none = absurd (none answer (line_said names line answer answers))
 unsaid names line (Err fault) (inl here) none = ap (λ f. Err f) here.0
@@ -65,11 +65,11 @@ unsaid names line (Err fault) (inr some) none =
     let p = some_fact (fact_in names line) some.1 in
     absurd (none p.0 (line_said names line p.0 p.1))
 
-pub unread : (names : List (List ℕ)) (line : List ℕ) (r : Result Fact FactFault) → Answers same r (fact_in names line) → AreNames names
+pub unread : (names : List (List ℕ)) (line : List ℕ) (r : Result Fact FactError) → Answers same r (fact_in names line) → AreNames names
     → (r ≡ Err Unread) ↔ ((fact : Fact) → Says names line fact → ⊥)
 unread names line r answers are = (none_says names line r answers are, unsaid names line r answers)
 
-pub memory : (names : List (List ℕ)) (line : List ℕ) (r : Result Fact FactFault) → Answers same r (fact_in names line) → r ≡ Err Memory
+pub memory : (names : List (List ℕ)) (line : List ℕ) (r : Result Fact FactError) → Answers same r (fact_in names line) → r ≡ Err Memory
     → (fact : Fact) × Says names line fact
 memory names line (Ok answer) answers e = absurd cc
 memory names line (Err fault) (inl none) e = absurd (cc (none.0, e))

@@ -11,9 +11,13 @@ use Rattle.hex.specs.Hex.{encode_lower, decode_of, IsBytes}
 use Rattle.aes_block.specs.declared.secret.Secret.{Secret}
 use Rattle.aes_block.specs.declared.secret.Secret.TheVariants.{S128, S256}
 use Rattle.lan_base.specs.declared.address.Mi.{Mi}
+use Rattle.lan_base.specs.declared.association_number.AssociationNumber.{AssociationNumber}
+use Rattle.lan_base.specs.declared.association_number.AssociationNumber.TheVariants.{An0, An1, An2, An3}
+use Rattle.lan_base.specs.AssociationNumbers.{numbered}
+use Rattle.lan_base.specs.AssociationNumbers as Associations
 use Rattle.trace_text.specs.Words.{is_word}
-use Rattle.transcript.specs.Words.{Word, station, number, array, octets, spelled, Fits, server_word, secret_word}
-use Rattle.transcript.specs.inside.Reading.{kept_if, and_then, place_of, position_of, station_of, whole_of, number_of, is_pairs, octets_of, array_of, member_of, server_of, secret_from, secret_of, said_by}
+use Rattle.transcript.specs.Words.{Word, station, number, array, octets, spelled, Fits, an_word, server_word, secret_word}
+use Rattle.transcript.specs.inside.Reading.{kept_if, and_then, place_of, position_of, station_of, whole_of, number_of, an_of, is_pairs, octets_of, array_of, member_of, server_of, secret_from, secret_of, said_by}
 use Rattle.transcript.proofs.Pairs.{both, written_back}
 
 abbrev some_or : {A : Type 0} → A → Option A → A
@@ -100,6 +104,30 @@ number_tells names bits word n e =
       fits = subst (λ (m : ℕ). m < 2 ^ bits) r.1 (below p.0 (2 ^ bits) r.0);
     }
 
+count_is : (n m : ℕ) → (n == m) ≡ true → n ≡ m
+count_is n m e = grind (arith, nat_tests)
+
+a_number : (n : ℕ) (an : AssociationNumber) → numbered n ≡ Some an → n ≡ Associations.number_of an
+a_number n an e =
+    elim (chosen (n == 0) (Some An0) (if n == 1 then Some An1 else if n == 2 then Some An2 else if n == 3 then Some An3 else None) an e) [
+      | inl h ↦ count_is n 0 h.0 ∙ ap Associations.number_of (same_some An0 an h.1)
+      | inr o ↦ elim (chosen (n == 1) (Some An1) (if n == 2 then Some An2 else if n == 3 then Some An3 else None) an o.1) [
+        | inl h ↦ count_is n 1 h.0 ∙ ap Associations.number_of (same_some An1 an h.1)
+        | inr o ↦ elim (chosen (n == 2) (Some An2) (if n == 3 then Some An3 else None) an o.1) [
+          | inl h ↦ count_is n 2 h.0 ∙ ap Associations.number_of (same_some An2 an h.1)
+          | inr o ↦ elim (chosen (n == 3) (Some An3) None an o.1) [
+            | inl h ↦ count_is n 3 h.0 ∙ ap Associations.number_of (same_some An3 an h.1)
+            | inr o ↦ absurd (cc o.1)
+          ]
+        ]
+      ]
+    ]
+
+pub an_tells : (names : List (List ℕ)) (word : List ℕ) (an : AssociationNumber) → an_of word ≡ Some an → Tells names word (an_word an)
+an_tells names word an e =
+    let p = steps (number_of 2 word) numbered an e in
+    subst (λ n. Tells names word (number 2 n)) (a_number p.0 an p.2) (number_tells names 2 word p.0 p.1)
+
 read_back : (word xs : List ℕ) (r : Result (List ℕ) FromHexError) → decode_of word ≡ r → is_pairs word ≡ true → result_ok r ≡ Some xs
     → (encode_lower xs ≡ word) × IsBytes xs
 read_back word xs (Ok ys) d pairs e =
@@ -118,9 +146,6 @@ pub octets_tells : (names : List (List ℕ)) (word xs : List ℕ) → octets_of 
 octets_tells names word xs e =
     let p = octets_back word xs e in
     record { spells = p.0; fits = p.1 }
-
-count_is : (n m : ℕ) → (n == m) ≡ true → n ≡ m
-count_is n m e = grind (arith, nat_tests)
 
 pub array_tells : (names : List (List ℕ)) (count : ℕ) (word xs : List ℕ) → array_of count word ≡ Some xs → Tells names word (array count xs)
 array_tells names count word xs e =

@@ -5,18 +5,20 @@ use Rattle.std.specs.List.{list_all, slice_split}
 use Rattle.std.specs.Char.{is_ascii_lowercase}
 use Rattle.aes_block.specs.declared.secret.Secret.{Secret}
 use Rattle.lan_base.specs.declared.address.Mi.{Mi}
+use Rattle.lan_base.specs.declared.association_number.AssociationNumber.{AssociationNumber}
 use Rattle.lan_base.specs.declared.key_id.KeyId.{KeyId}
 use Rattle.sak_exchange.specs.declared.change.Cause.{Cause}
 use Rattle.sak_exchange.specs.declared.change.Why.{Why}
 use Rattle.gcm_frames.specs.declared.tag.TagRefusal.{TagRefusal}
+use Rattle.mka_station.specs.declared.verdict.DropReason.{DropReason}
 use Rattle.mka_station.specs.declared.verdict.Verdict.{Verdict}
 use Rattle.lan_core.specs.declared.fact.Fact.{Fact}
 use Rattle.trace_text.specs.Words.{is_word}
-use Rattle.transcript.specs.Words.{Word, spelled, Fits, words, key_words, server_word, secret_word, cause_text, frame_text, tag_text, why_words, verdict_words}
+use Rattle.transcript.specs.Words.{Word, spelled, Fits, words, an_word, key_words, server_word, secret_word, cause_text, frame_text, tag_text, why_words, reason_words, verdict_words}
 use Rattle.transcript.specs.Words as Words
 use Rattle.transcript.specs.Rendering.{line, joined, AllFit, Says}
-use Rattle.transcript.specs.inside.Reading.{Tree, says, text, only, station, number, member, key, server, secret, cause, sec, tag, why, vouch, reason, octets, nothing, parted, taken, after, key_of, ended, last_of, last_octets, station_of, number_of, member_of, server_of, secret_of, octets_of, said_by, causes, secs, tags, whys, vouches, reasons, and_then, kept_if, along, tick_tree, begin_tree, install_tree, untaken_tree, frame_tree, heard_tree, claim_tree, data_tree, plain_tree, fact_tree, is_space, fact_in}
-use Rattle.transcript.proofs.Said.{same_some, kept, steps, mapped, chosen, the_word, Tells, station_tells, number_tells, member_tells, server_tells, secret_tells, octets_tells, said_each}
+use Rattle.transcript.specs.inside.Reading.{Tree, says, text, only, station, number, an, member, key, server, secret, cause, sec, tag, why, vouch, reason, octets, nothing, parted, taken, after, key_of, ended, last_of, last_octets, station_of, number_of, an_of, member_of, server_of, secret_of, octets_of, said_by, causes, secs, tags, whys, vouches, reasons, and_then, kept_if, along, tick_tree, begin_tree, install_tree, untaken_tree, frame_tree, heard_tree, claim_tree, data_tree, plain_tree, fact_tree, is_space, fact_in}
+use Rattle.transcript.proofs.Said.{same_some, kept, steps, mapped, chosen, the_word, Tells, station_tells, number_tells, an_tells, member_tells, server_tells, secret_tells, octets_tells, said_each}
 use Rattle.transcript.proofs.Splitting.{joined_again}
 
 -- letters that a line may have
@@ -30,6 +32,7 @@ Sound before (text letters next other) = AreSmall letters × Sound (before ++ Wo
 Sound before (only letters next) = AreSmall letters × Sound (before ++ Words.text letters ∷ []) next
 Sound before (station next) = (s : ℕ) → Sound (before ++ Words.station s ∷ []) (next s)
 Sound before (number bits next) = (n : ℕ) → Sound (before ++ Words.number bits n ∷ []) (next n)
+Sound before (an next) = (a : AssociationNumber) → Sound (before ++ an_word a ∷ []) (next a)
 Sound before (member next) = (mi : Mi) → Sound (before ++ Words.array 12 mi.0 ∷ []) (next mi)
 Sound before (key next) = (id : KeyId) → Sound ((before ++ Words.array 12 id.server.0 ∷ []) ++ Words.number 32 id.number ∷ []) (next id)
 Sound before (server next) = (mi : Option Mi) → Sound (before ++ server_word mi ∷ []) (next mi)
@@ -40,7 +43,7 @@ Sound before (tag next) = (t : TagRefusal) → Sound (before ++ Words.text (tag_
 Sound before (why next) = (w : Why) (letters : List ℕ) → why_words w ≡ Words.text letters ∷ [] → Sound (before ++ Words.text letters ∷ []) (next w)
 Sound before (vouch next) = (v : Verdict) (letters : List ℕ) → verdict_words v ≡ Words.text letters ∷ [] → Sound (before ++ Words.text letters ∷ []) (next v)
 Sound before (reason next) =
-    (v : Verdict) (letters : List ℕ) → verdict_words v ≡ Words.text (codes "drop") ∷ Words.text letters ∷ [] → Sound (before ++ Words.text letters ∷ []) (next v)
+    (r : DropReason) (letters : List ℕ) → reason_words r ≡ Words.text letters ∷ [] → Sound (before ++ Words.text letters ∷ []) (next r)
 Sound before (octets f) = (xs : List ℕ) → words (f xs) ≡ before ++ Words.octets xs ∷ []
 Sound before nothing = Unit {0}
 
@@ -156,9 +159,9 @@ why_row word x e =
 vouch_row : (word : List ℕ) (x : Verdict) → said_by vouches word ≡ Some x → IsLast [] verdict_words word x
 vouch_row word x e = said_each (IsLast [] verdict_words) vouches word x ((refl, refl), ((refl, refl), tt)) e
 
-reason_row : (word : List ℕ) (x : Verdict) → said_by reasons word ≡ Some x → IsLast (Words.text (codes "drop") ∷ []) verdict_words word x
+reason_row : (word : List ℕ) (x : DropReason) → said_by reasons word ≡ Some x → IsLast [] reason_words word x
 reason_row word x e =
-    said_each (IsLast (Words.text (codes "drop") ∷ []) verdict_words) reasons word x
+    said_each (IsLast [] reason_words) reasons word x
     ((refl, refl), ((refl, refl), ((refl, refl), ((refl, refl), ((refl, refl), ((refl, refl), ((refl, refl), tt))))))) e
 
 -- what words say along a sound tree
@@ -197,6 +200,12 @@ tells names before (number bits next) ws fact sound fit e =
     let w = number_tells names bits t.word p.0.0 t.told in
     behind names before (Words.number bits p.0.0) (number_of bits) ws p.0.1 p.0.0 fact t w
     (tells names (before ++ Words.number bits p.0.0 ∷ []) (next p.0.0) p.0.1 fact (sound p.0.0) (all_more names before (Words.number bits p.0.0) fit w.fits) p.2)
+tells names before (an next) ws fact sound fit e =
+    let p = steps (taken an_of ws) (λ x. along names (next x.0) x.1) fact e in
+    let t = took an_of ws p.0 p.1 in
+    let w = an_tells names t.word p.0.0 t.told in
+    behind names before (an_word p.0.0) an_of ws p.0.1 p.0.0 fact t w
+    (tells names (before ++ an_word p.0.0 ∷ []) (next p.0.0) p.0.1 fact (sound p.0.0) (all_more names before (an_word p.0.0) fit w.fits) p.2)
 tells names before (member next) ws fact sound fit e =
     let p = steps (taken member_of ws) (λ x. along names (next x.0) x.1) fact e in
     let t = took member_of ws p.0 p.1 in
@@ -294,7 +303,7 @@ heard_sound = λ k s. (
       (
         refl,
         λ kept. refl,
-        λ v letters e. ap (λ ws. Words.text (codes "heard") ∷ Words.number 32 k ∷ Words.station s ∷ ws) e,
+        λ r letters e. ap (λ ws. Words.text (codes "heard") ∷ Words.number 32 k ∷ Words.station s ∷ Words.text (codes "drop") ∷ ws) e,
       ),
     ),
   ),

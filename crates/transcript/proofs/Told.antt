@@ -10,9 +10,13 @@ use Rattle.hex.proofs.HexLemmas.{decode_of-encode_lower, length-encode_with}
 use Rattle.aes_block.specs.declared.secret.Secret.{Secret}
 use Rattle.aes_block.specs.declared.secret.Secret.TheVariants.{S128, S256}
 use Rattle.lan_base.specs.declared.address.Mi.{Mi}
+use Rattle.lan_base.specs.declared.association_number.AssociationNumber.{AssociationNumber}
+use Rattle.lan_base.specs.AssociationNumbers as Associations
+use Rattle.lan_base.proofs.Public.{number_of-few, numbered-number_of}
 use Rattle.sak_exchange.specs.declared.change.Cause.TheVariants as Cause
 use Rattle.sak_exchange.specs.declared.change.Why.TheVariants as Why
 use Rattle.gcm_frames.specs.declared.tag.TagRefusal.TheVariants as Tag
+use Rattle.mka_station.specs.declared.verdict.DropReason.TheVariants as Reason
 use Rattle.mka_station.specs.declared.verdict.Verdict.TheVariants as Verdict
 use Rattle.rx_slots.specs.declared.arrival.Arrival.TheVariants as Arrival
 use Rattle.lan_core.specs.declared.fact.Fact.{Fact}
@@ -22,7 +26,7 @@ use Rattle.trace_text.specs.Words.{is_word}
 use Rattle.transcript.specs.Words.{spelled, Fits, words, server_word, secret_word}
 use Rattle.lan_base.specs.Differing.{DiffersFrom, AllDiffer}
 use Rattle.transcript.specs.Rendering.{IsFact}
-use Rattle.transcript.specs.inside.Reading.{place_of, station_of, whole_of, number_of, octets_of, array_of, member_of, server_of, secret_of, along, fact_tree}
+use Rattle.transcript.specs.inside.Reading.{place_of, station_of, whole_of, number_of, an_of, octets_of, array_of, member_of, server_of, secret_of, along, fact_tree}
 use Rattle.transcript.proofs.Pairs.{pairs_written}
 
 pub same_word : (word : List ℕ) → is_word word word ≡ true
@@ -68,6 +72,12 @@ number_said bits n small fit =
     let test : nat_lt n (2 ^ bits) ≡ true = grind (arith, nat_tests, fit) in
     rw (whole_said n small, test) refl
 
+pub an_said : (an : AssociationNumber) → an_of (decimal (Associations.number_of an)) ≡ Some an
+an_said an =
+    let few = number_of-few an in
+    rw (number_said 2 (Associations.number_of an) (omega (arith, few)) (omega (arith, few)))
+    (numbered-number_of an)
+
 pub octets_said : (xs : List ℕ) → IsBytes xs → octets_of (encode_lower xs) ≡ Some xs
 octets_said xs bytes = rw (pairs_written xs bytes, decode_of-encode_lower xs bytes) refl
 
@@ -103,12 +113,12 @@ pub fact_told : (names : List (List ℕ)) (fact : Fact) → AllDiffer names → 
 fact_told names (Life s mi) d fit = rw (station_said names s d fit.1.0, member_said mi fit.1.1.0) refl
 fact_told names (Ticked s at next) d fit = rw (station_said names s d fit.1.0, number_said 32 at (omega (arith, fit.1.1.0)) fit.1.1.0, number_said 64 next (omega (arith, fit.1.1.1.1.0)) fit.1.1.1.1.0) refl
 fact_told names (Server s mi) d fit = rw (station_said names s d fit.1.0, server_said names mi fit.1.1.0) refl
-fact_told names (Dropped s id an) d fit = rw (station_said names s d fit.1.0, member_said id.server fit.1.1.0, number_said 32 id.number (omega (arith, fit.1.1.1.0)) fit.1.1.1.0, number_said 8 an (omega (arith, fit.1.1.1.1.1.0)) fit.1.1.1.1.1.0) refl
-fact_told names (Retired s id an) d fit = rw (station_said names s d fit.1.0, member_said id.server fit.1.1.0, number_said 32 id.number (omega (arith, fit.1.1.1.0)) fit.1.1.1.0, number_said 8 an (omega (arith, fit.1.1.1.1.1.0)) fit.1.1.1.1.1.0) refl
-fact_told names (Began s id an epoch Cause.All) d fit = rw (station_said names s d fit.1.0, member_said id.server fit.1.1.0, number_said 32 id.number (omega (arith, fit.1.1.1.0)) fit.1.1.1.0, number_said 8 an (omega (arith, fit.1.1.1.1.1.0)) fit.1.1.1.1.1.0, number_said 32 epoch (omega (arith, fit.1.1.1.1.1.1.1.0)) fit.1.1.1.1.1.1.1.0) refl
-fact_told names (Began s id an epoch Cause.Timeout) d fit = rw (station_said names s d fit.1.0, member_said id.server fit.1.1.0, number_said 32 id.number (omega (arith, fit.1.1.1.0)) fit.1.1.1.0, number_said 8 an (omega (arith, fit.1.1.1.1.1.0)) fit.1.1.1.1.1.0, number_said 32 epoch (omega (arith, fit.1.1.1.1.1.1.1.0)) fit.1.1.1.1.1.1.1.0) refl
-fact_told names (Began s id an epoch Cause.Flag) d fit = rw (station_said names s d fit.1.0, member_said id.server fit.1.1.0, number_said 32 id.number (omega (arith, fit.1.1.1.0)) fit.1.1.1.0, number_said 8 an (omega (arith, fit.1.1.1.1.1.0)) fit.1.1.1.1.1.0, number_said 32 epoch (omega (arith, fit.1.1.1.1.1.1.1.0)) fit.1.1.1.1.1.1.1.0) refl
-fact_told names (Installed s id an epoch sak) d fit = rw (station_said names s d fit.1.0, member_said id.server fit.1.1.0, number_said 32 id.number (omega (arith, fit.1.1.1.0)) fit.1.1.1.0, number_said 8 an (omega (arith, fit.1.1.1.1.1.0)) fit.1.1.1.1.1.0, number_said 32 epoch (omega (arith, fit.1.1.1.1.1.1.1.0)) fit.1.1.1.1.1.1.1.0, secret_said names sak fit.1.1.1.1.1.1.1.1.1.0) refl
+fact_told names (Dropped s id an) d fit = rw (station_said names s d fit.1.0, member_said id.server fit.1.1.0, number_said 32 id.number (omega (arith, fit.1.1.1.0)) fit.1.1.1.0, an_said an) refl
+fact_told names (Retired s id an) d fit = rw (station_said names s d fit.1.0, member_said id.server fit.1.1.0, number_said 32 id.number (omega (arith, fit.1.1.1.0)) fit.1.1.1.0, an_said an) refl
+fact_told names (Began s id an epoch Cause.All) d fit = rw (station_said names s d fit.1.0, member_said id.server fit.1.1.0, number_said 32 id.number (omega (arith, fit.1.1.1.0)) fit.1.1.1.0, an_said an, number_said 32 epoch (omega (arith, fit.1.1.1.1.1.1.1.0)) fit.1.1.1.1.1.1.1.0) refl
+fact_told names (Began s id an epoch Cause.Timeout) d fit = rw (station_said names s d fit.1.0, member_said id.server fit.1.1.0, number_said 32 id.number (omega (arith, fit.1.1.1.0)) fit.1.1.1.0, an_said an, number_said 32 epoch (omega (arith, fit.1.1.1.1.1.1.1.0)) fit.1.1.1.1.1.1.1.0) refl
+fact_told names (Began s id an epoch Cause.Flag) d fit = rw (station_said names s d fit.1.0, member_said id.server fit.1.1.0, number_said 32 id.number (omega (arith, fit.1.1.1.0)) fit.1.1.1.0, an_said an, number_said 32 epoch (omega (arith, fit.1.1.1.1.1.1.1.0)) fit.1.1.1.1.1.1.1.0) refl
+fact_told names (Installed s id an epoch sak) d fit = rw (station_said names s d fit.1.0, member_said id.server fit.1.1.0, number_said 32 id.number (omega (arith, fit.1.1.1.0)) fit.1.1.1.0, an_said an, number_said 32 epoch (omega (arith, fit.1.1.1.1.1.1.1.0)) fit.1.1.1.1.1.1.1.0, secret_said names sak fit.1.1.1.1.1.1.1.1.1.0) refl
 fact_told names (Untaken s id Why.NotListed) d fit = rw (station_said names s d fit.1.0, member_said id.server fit.1.1.0, number_said 32 id.number (omega (arith, fit.1.1.1.0)) fit.1.1.1.0) refl
 fact_told names (Untaken s id Why.NotServer) d fit = rw (station_said names s d fit.1.0, member_said id.server fit.1.1.0, number_said 32 id.number (omega (arith, fit.1.1.1.0)) fit.1.1.1.0) refl
 fact_told names (Untaken s id Why.Retiring) d fit = rw (station_said names s d fit.1.0, member_said id.server fit.1.1.0, number_said 32 id.number (omega (arith, fit.1.1.1.0)) fit.1.1.1.0) refl
@@ -120,17 +130,17 @@ fact_told names (Framed k s true xs) d fit = rw (number_said 32 k (omega (arith,
 fact_told names (Framed k s false xs) d fit = rw (number_said 32 k (omega (arith, fit.1.0)) fit.1.0, station_said names s d fit.1.1.0, octets_said xs fit.1.1.1.1.0) refl
 fact_told names (HeardMka k s Verdict.Vouched) d fit = rw (number_said 32 k (omega (arith, fit.1.0)) fit.1.0, station_said names s d fit.1.1.0) refl
 fact_told names (HeardMka k s Verdict.Unvouched) d fit = rw (number_said 32 k (omega (arith, fit.1.0)) fit.1.0, station_said names s d fit.1.1.0) refl
-fact_told names (HeardMka k s Verdict.NotMka) d fit = rw (number_said 32 k (omega (arith, fit.1.0)) fit.1.0, station_said names s d fit.1.1.0) refl
-fact_told names (HeardMka k s Verdict.Short) d fit = rw (number_said 32 k (omega (arith, fit.1.0)) fit.1.0, station_said names s d fit.1.1.0) refl
-fact_told names (HeardMka k s Verdict.Agility) d fit = rw (number_said 32 k (omega (arith, fit.1.0)) fit.1.0, station_said names s d fit.1.1.0) refl
-fact_told names (HeardMka k s Verdict.CkName) d fit = rw (number_said 32 k (omega (arith, fit.1.0)) fit.1.0, station_said names s d fit.1.1.0) refl
-fact_told names (HeardMka k s Verdict.Check) d fit = rw (number_said 32 k (omega (arith, fit.1.0)) fit.1.0, station_said names s d fit.1.1.0) refl
-fact_told names (HeardMka k s Verdict.Echo) d fit = rw (number_said 32 k (omega (arith, fit.1.0)) fit.1.0, station_said names s d fit.1.1.0) refl
-fact_told names (HeardMka k s Verdict.PeersFull) d fit = rw (number_said 32 k (omega (arith, fit.1.0)) fit.1.0, station_said names s d fit.1.1.0) refl
-fact_told names (HeardMka k s (Verdict.Shape at)) d fit = rw (number_said 32 k (omega (arith, fit.1.0)) fit.1.0, station_said names s d fit.1.1.0, number_said 64 at (omega (arith, fit.1.1.1.1.1.0)) fit.1.1.1.1.1.0) refl
-fact_told names (HeardMka k s (Verdict.Repeated kind)) d fit = rw (number_said 32 k (omega (arith, fit.1.0)) fit.1.0, station_said names s d fit.1.1.0, number_said 8 kind (omega (arith, fit.1.1.1.1.1.0)) fit.1.1.1.1.1.0) refl
-fact_told names (HeardMka k s (Verdict.OldNumber kept)) d fit = rw (number_said 32 k (omega (arith, fit.1.0)) fit.1.0, station_said names s d fit.1.1.0, number_said 32 kept (omega (arith, fit.1.1.1.1.1.0)) fit.1.1.1.1.1.0) refl
-fact_told names (Claimed s an epoch pn) d fit = rw (station_said names s d fit.1.0, number_said 8 an (omega (arith, fit.1.1.1.0)) fit.1.1.1.0, number_said 32 epoch (omega (arith, fit.1.1.1.1.1.0)) fit.1.1.1.1.1.0, number_said 32 pn (omega (arith, fit.1.1.1.1.1.1.1.0)) fit.1.1.1.1.1.1.1.0) refl
+fact_told names (HeardMka k s (Verdict.Dropped Reason.NotMka)) d fit = rw (number_said 32 k (omega (arith, fit.1.0)) fit.1.0, station_said names s d fit.1.1.0) refl
+fact_told names (HeardMka k s (Verdict.Dropped Reason.Short)) d fit = rw (number_said 32 k (omega (arith, fit.1.0)) fit.1.0, station_said names s d fit.1.1.0) refl
+fact_told names (HeardMka k s (Verdict.Dropped Reason.Agility)) d fit = rw (number_said 32 k (omega (arith, fit.1.0)) fit.1.0, station_said names s d fit.1.1.0) refl
+fact_told names (HeardMka k s (Verdict.Dropped Reason.CkName)) d fit = rw (number_said 32 k (omega (arith, fit.1.0)) fit.1.0, station_said names s d fit.1.1.0) refl
+fact_told names (HeardMka k s (Verdict.Dropped Reason.Check)) d fit = rw (number_said 32 k (omega (arith, fit.1.0)) fit.1.0, station_said names s d fit.1.1.0) refl
+fact_told names (HeardMka k s (Verdict.Dropped Reason.Echo)) d fit = rw (number_said 32 k (omega (arith, fit.1.0)) fit.1.0, station_said names s d fit.1.1.0) refl
+fact_told names (HeardMka k s (Verdict.Dropped Reason.PeersFull)) d fit = rw (number_said 32 k (omega (arith, fit.1.0)) fit.1.0, station_said names s d fit.1.1.0) refl
+fact_told names (HeardMka k s (Verdict.Dropped (Reason.Shape at))) d fit = rw (number_said 32 k (omega (arith, fit.1.0)) fit.1.0, station_said names s d fit.1.1.0, number_said 64 at (omega (arith, fit.1.1.1.1.1.0)) fit.1.1.1.1.1.0) refl
+fact_told names (HeardMka k s (Verdict.Dropped (Reason.Repeated kind))) d fit = rw (number_said 32 k (omega (arith, fit.1.0)) fit.1.0, station_said names s d fit.1.1.0, number_said 8 kind (omega (arith, fit.1.1.1.1.1.0)) fit.1.1.1.1.1.0) refl
+fact_told names (HeardMka k s (Verdict.Dropped (Reason.OldNumber kept))) d fit = rw (number_said 32 k (omega (arith, fit.1.0)) fit.1.0, station_said names s d fit.1.1.0, number_said 32 kept (omega (arith, fit.1.1.1.1.1.0)) fit.1.1.1.1.1.0) refl
+fact_told names (Claimed s an epoch pn) d fit = rw (station_said names s d fit.1.0, an_said an, number_said 32 epoch (omega (arith, fit.1.1.1.1.1.0)) fit.1.1.1.1.1.0, number_said 32 pn (omega (arith, fit.1.1.1.1.1.1.1.0)) fit.1.1.1.1.1.1.1.0) refl
 fact_told names (Unclaimed s Lack.NoKey) d fit = rw (station_said names s d fit.1.0) refl
 fact_told names (Unclaimed s (Lack.Exhausted epoch)) d fit = rw (station_said names s d fit.1.0, number_said 32 epoch (omega (arith, fit.1.1.1.0)) fit.1.1.1.0) refl
 fact_told names (Arrived k s (Arrival.Accepted pn body)) d fit = rw (number_said 32 k (omega (arith, fit.1.0)) fit.1.0, station_said names s d fit.1.1.0, number_said 32 pn (omega (arith, fit.1.1.1.1.0)) fit.1.1.1.1.0, octets_said body fit.1.1.1.1.1.0) refl
@@ -140,6 +150,6 @@ fact_told names (Arrived k s (Arrival.Malformed Tag.Mode)) d fit = rw (number_sa
 fact_told names (Arrived k s (Arrival.Malformed Tag.Short)) d fit = rw (number_said 32 k (omega (arith, fit.1.0)) fit.1.0, station_said names s d fit.1.1.0) refl
 fact_told names (Arrived k s (Arrival.Malformed Tag.SlWrong)) d fit = rw (number_said 32 k (omega (arith, fit.1.0)) fit.1.0, station_said names s d fit.1.1.0) refl
 fact_told names (Arrived k s Arrival.Own) d fit = rw (number_said 32 k (omega (arith, fit.1.0)) fit.1.0, station_said names s d fit.1.1.0) refl
-fact_told names (Arrived k s (Arrival.Missed an)) d fit = rw (number_said 32 k (omega (arith, fit.1.0)) fit.1.0, station_said names s d fit.1.1.0, number_said 8 an (omega (arith, fit.1.1.1.1.0)) fit.1.1.1.1.0) refl
+fact_told names (Arrived k s (Arrival.Missed an)) d fit = rw (number_said 32 k (omega (arith, fit.1.0)) fit.1.0, station_said names s d fit.1.1.0, an_said an) refl
 fact_told names (Arrived k s Arrival.BadCheck) d fit = rw (number_said 32 k (omega (arith, fit.1.0)) fit.1.0, station_said names s d fit.1.1.0) refl
 fact_told names (Arrived k s (Arrival.Late next)) d fit = rw (number_said 32 k (omega (arith, fit.1.0)) fit.1.0, station_said names s d fit.1.1.0, number_said 64 next (omega (arith, fit.1.1.1.1.0)) fit.1.1.1.1.0) refl

@@ -6,7 +6,9 @@ use Rattle.hex.specs.Hex.{encode_lower, IsBytes}
 use Rattle.aes_block.specs.declared.secret.Secret.{Secret}
 use Rattle.aes_block.specs.declared.secret.Secret.TheVariants.{S128, S256}
 use Rattle.lan_base.specs.declared.address.Mi.{Mi}
+use Rattle.lan_base.specs.declared.association_number.AssociationNumber.{AssociationNumber}
 use Rattle.lan_base.specs.declared.key_id.KeyId.{KeyId}
+use Rattle.lan_base.specs.AssociationNumbers.{number_of}
 use Rattle.sak_exchange.specs.declared.change.Cause.{Cause}
 use Rattle.sak_exchange.specs.declared.change.Cause.TheVariants.{All, Timeout, Flag}
 use Rattle.sak_exchange.specs.declared.change.Why.{Why}
@@ -14,7 +16,9 @@ use Rattle.sak_exchange.specs.declared.change.Why.TheVariants.{NotListed, NotSer
 use Rattle.gcm_frames.specs.declared.tag.TagRefusal.{TagRefusal}
 use Rattle.gcm_frames.specs.declared.tag.TagRefusal.TheVariants as Tag
 use Rattle.mka_station.specs.declared.verdict.Verdict.{Verdict}
-use Rattle.mka_station.specs.declared.verdict.Verdict.TheVariants.{Vouched, Unvouched, NotMka, Short, Shape, Repeated, Agility, CkName, Check, Echo, OldNumber, PeersFull}
+use Rattle.mka_station.specs.declared.verdict.Verdict.TheVariants as verdicts
+use Rattle.mka_station.specs.declared.verdict.DropReason.{DropReason}
+use Rattle.mka_station.specs.declared.verdict.DropReason.TheVariants.{NotMka, Short, Shape, Repeated, Agility, CkName, Check, Echo, OldNumber, PeersFull}
 use Rattle.rx_slots.specs.declared.arrival.Arrival.{Arrival}
 use Rattle.rx_slots.specs.declared.arrival.Arrival.TheVariants.{Accepted, Malformed, Own, Missed, BadCheck, Late}
 use Rattle.lan_core.specs.declared.fact.Fact.{Fact}
@@ -46,6 +50,10 @@ Fits names (station place) = (place < length names) × (place < 256)
 Fits names (number bits n) = n < 2 ^ bits
 Fits names (array count xs) = (length xs ≡ count) × IsBytes xs
 Fits names (octets xs) = IsBytes xs
+
+-- an association number, in two bits
+abbrev pub an_word : AssociationNumber → Word
+an_word an = number 2 (number_of an)
 
 -- a key's identifier: its server, and its number
 abbrev pub key_words : KeyId → List Word → List Word
@@ -82,21 +90,24 @@ abbrev pub frame_text : Bool → List ℕ
 frame_text true = codes "sec"
 frame_text false = codes "mka"
 
+-- why a frame is dropped
+abbrev pub reason_words : DropReason → List Word
+reason_words NotMka = text (codes "notmka") ∷ []
+reason_words Short = text (codes "short") ∷ []
+reason_words (Shape at) = text (codes "shape") ∷ number 64 at ∷ []
+reason_words (Repeated kind) = text (codes "repeated") ∷ number 8 kind ∷ []
+reason_words Agility = text (codes "agility") ∷ []
+reason_words CkName = text (codes "ckname") ∷ []
+reason_words Check = text (codes "check") ∷ []
+reason_words Echo = text (codes "echo") ∷ []
+reason_words (OldNumber kept) = text (codes "oldnumber") ∷ number 32 kept ∷ []
+reason_words PeersFull = text (codes "peersfull") ∷ []
+
 -- what hearing a frame comes to
 abbrev pub verdict_words : Verdict → List Word
-verdict_words Vouched = text (codes "vouched") ∷ []
-verdict_words Unvouched = text (codes "unvouched") ∷ []
-verdict_words NotMka = text (codes "drop") ∷ text (codes "notmka") ∷ []
-verdict_words Short = text (codes "drop") ∷ text (codes "short") ∷ []
-verdict_words (Shape at) = text (codes "drop") ∷ text (codes "shape") ∷ number 64 at ∷ []
-verdict_words (Repeated kind) = text (codes "drop") ∷ text (codes "repeated") ∷ number 8 kind ∷ []
-verdict_words Agility = text (codes "drop") ∷ text (codes "agility") ∷ []
-verdict_words CkName = text (codes "drop") ∷ text (codes "ckname") ∷ []
-verdict_words Check = text (codes "drop") ∷ text (codes "check") ∷ []
-verdict_words Echo = text (codes "drop") ∷ text (codes "echo") ∷ []
-verdict_words (OldNumber kept) =
-    text (codes "drop") ∷ text (codes "oldnumber") ∷ number 32 kept ∷ []
-verdict_words PeersFull = text (codes "drop") ∷ text (codes "peersfull") ∷ []
+verdict_words verdicts.Vouched = text (codes "vouched") ∷ []
+verdict_words verdicts.Unvouched = text (codes "unvouched") ∷ []
+verdict_words (verdicts.Dropped reason) = text (codes "drop") ∷ reason_words reason
 
 -- why a station got no packet number
 abbrev pub lack_words : Lack → List Word
@@ -116,7 +127,7 @@ abbrev pub arrival_words : Arrival → List Word
 arrival_words (Accepted pn body) = text (codes "accepted") ∷ number 32 pn ∷ octets body ∷ []
 arrival_words (Malformed refusal) = text (codes "malformed") ∷ text (tag_text refusal) ∷ []
 arrival_words Own = text (codes "own") ∷ []
-arrival_words (Missed an) = text (codes "missed") ∷ number 8 an ∷ []
+arrival_words (Missed an) = text (codes "missed") ∷ an_word an ∷ []
 arrival_words BadCheck = text (codes "badcheck") ∷ []
 arrival_words (Late next) = text (codes "late") ∷ number 64 next ∷ []
 
@@ -127,16 +138,16 @@ words (Ticked s at next) =
     text (codes "tick") ∷ station s ∷ number 32 at ∷ text (codes "next") ∷ number 64 next ∷ []
 words (Server s mi) = text (codes "server") ∷ station s ∷ server_word mi ∷ []
 words (Dropped s id an) =
-    text (codes "drop") ∷ station s ∷ key_words id (text (codes "an") ∷ number 8 an ∷ [])
+    text (codes "drop") ∷ station s ∷ key_words id (text (codes "an") ∷ an_word an ∷ [])
 words (Retired s id an) =
-    text (codes "retire") ∷ station s ∷ key_words id (text (codes "an") ∷ number 8 an ∷ [])
+    text (codes "retire") ∷ station s ∷ key_words id (text (codes "an") ∷ an_word an ∷ [])
 words (Began s id an epoch cause) =
     text (codes "begin") ∷ station s
-    ∷ key_words id (text (codes "an") ∷ number 8 an ∷ text (codes "epoch") ∷ number 32 epoch
+    ∷ key_words id (text (codes "an") ∷ an_word an ∷ text (codes "epoch") ∷ number 32 epoch
     ∷ text (cause_text cause) ∷ [])
 words (Installed s id an epoch sak) =
     text (codes "install") ∷ station s
-    ∷ key_words id (text (codes "an") ∷ number 8 an ∷ text (codes "epoch") ∷ number 32 epoch
+    ∷ key_words id (text (codes "an") ∷ an_word an ∷ text (codes "epoch") ∷ number 32 epoch
     ∷ text (codes "sak") ∷ secret_word sak ∷ [])
 words (Untaken s id why) = text (codes "untaken") ∷ station s ∷ key_words id (why_words why)
 words (Framed k s sec xs) =
@@ -144,7 +155,7 @@ words (Framed k s sec xs) =
 words (HeardMka k s verdict) =
     text (codes "heard") ∷ number 32 k ∷ station s ∷ verdict_words verdict
 words (Claimed s an epoch pn) =
-    text (codes "claim") ∷ station s ∷ text (codes "an") ∷ number 8 an ∷ text (codes "epoch")
+    text (codes "claim") ∷ station s ∷ text (codes "an") ∷ an_word an ∷ text (codes "epoch")
     ∷ number 32 epoch ∷ text (codes "pn") ∷ number 32 pn ∷ []
 words (Unclaimed s why) = text (codes "noclaim") ∷ station s ∷ lack_words why
 words (Arrived k s arrival) =

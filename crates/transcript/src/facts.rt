@@ -2,21 +2,23 @@
 
 ghost use Rattle.std.specs.Prelude.{◌≡◌, ℕ, List};
 ghost use Rattle.sak_exchange.specs.declared.change.Why.{Why};
+ghost use Rattle.mka_station.specs.declared.verdict.DropReason.{DropReason};
 ghost use Rattle.mka_station.specs.declared.verdict.Verdict.{Verdict};
+ghost use Rattle.mka_station.specs.declared.verdict.Verdict.TheVariants as verdicts;
 ghost use Rattle.rx_slots.specs.declared.arrival.Arrival.{Arrival};
 ghost use Rattle.lan_core.specs.declared.fact.Fact.{Fact};
 ghost use Rattle.lan_core.specs.declared.fact.Lack.{Lack};
 ghost use Rattle.transcript.specs.inside.Reading.{along, life_tree, tick_tree, server_tree, drop_key_tree, retire_tree, begin_tree, install_tree, untaken_tree, frame_tree, heard_tree, claim_tree, noclaim_tree, data_tree, why_tree, seen_tree, verdict_tree, drop_tree, shape_tree, repeated_tree, old_number_tree, lack_tree, arrival_tree, accepted_tree, refused_tree, malformed_tree, missed_tree, late_tree, said_by, whys, vouches, reasons};
 ghost use Rattle.transcript.specs.inside.Taking.{words_behind, Takes, Answers};
 
-use crate::fault::FactFault;
+use crate::fault::FactError;
 use crate::words;
 use crate::words::{
     key, label, member, next_word, no_word, number_8, number_32, number_64, station,
 };
 use lan_base::Name;
 use lan_core::{Fact, Lack};
-use mka_station::Verdict;
+use mka_station::{DropReason, Verdict};
 use rx_slots::Arrival;
 use sak_exchange::Why;
 use std::alloc::Global;
@@ -60,7 +62,7 @@ pub fn dropped(rest: &[u8], names: &[Name]) -> Option<Fact>
     let (station, rest) = station(rest, names)?;
     let (id, rest) = key(rest)?;
     let rest = label(rest, b"an")?;
-    let (an, rest) = number_8(rest)?;
+    let (an, rest) = words::an(rest)?;
     no_word(rest)?;
     Some(Fact::Dropped { station, id, an })
 }
@@ -72,7 +74,7 @@ pub fn retired(rest: &[u8], names: &[Name]) -> Option<Fact>
     let (station, rest) = station(rest, names)?;
     let (id, rest) = key(rest)?;
     let rest = label(rest, b"an")?;
-    let (an, rest) = number_8(rest)?;
+    let (an, rest) = words::an(rest)?;
     no_word(rest)?;
     Some(Fact::Retired { station, id, an })
 }
@@ -84,7 +86,7 @@ pub fn began(rest: &[u8], names: &[Name]) -> Option<Fact>
     let (station, rest) = station(rest, names)?;
     let (id, rest) = key(rest)?;
     let rest = label(rest, b"an")?;
-    let (an, rest) = number_8(rest)?;
+    let (an, rest) = words::an(rest)?;
     let rest = label(rest, b"epoch")?;
     let (epoch, rest) = number_32(rest)?;
     let (cause, rest) = words::cause(rest)?;
@@ -105,7 +107,7 @@ pub fn installed(rest: &[u8], names: &[Name]) -> Option<Fact>
     let (station, rest) = station(rest, names)?;
     let (id, rest) = key(rest)?;
     let rest = label(rest, b"an")?;
-    let (an, rest) = number_8(rest)?;
+    let (an, rest) = words::an(rest)?;
     let rest = label(rest, b"epoch")?;
     let (epoch, rest) = number_32(rest)?;
     let rest = label(rest, b"sak")?;
@@ -131,12 +133,12 @@ pub fn untaken(rest: &[u8], names: &[Name]) -> Option<Fact>
 }
 
 /// `frame K NAME KIND HEX`.
-pub fn framed(alloc: Global, rest: &[u8], names: &[Name]) -> Result<Fact, FactFault>
+pub fn framed(alloc: Global, rest: &[u8], names: &[Name]) -> Result<Fact, FactError>
     ensures { Answers (λ x. x) result (along names.now frame_tree (words_behind rest.now)) }
 {
-    let (number, rest) = number_32(rest).ok_or(FactFault::Unread)?;
-    let (station, rest) = station(rest, names).ok_or(FactFault::Unread)?;
-    let (sec, rest) = words::sec(rest).ok_or(FactFault::Unread)?;
+    let (number, rest) = number_32(rest).ok_or(FactError::Unread)?;
+    let (station, rest) = station(rest, names).ok_or(FactError::Unread)?;
+    let (sec, rest) = words::sec(rest).ok_or(FactError::Unread)?;
     let octets = words::octets(alloc, rest)?;
     Ok(Fact::Framed {
         number,
@@ -166,7 +168,7 @@ pub fn claimed(rest: &[u8], names: &[Name]) -> Option<Fact>
 {
     let (station, rest) = station(rest, names)?;
     let rest = label(rest, b"an")?;
-    let (an, rest) = number_8(rest)?;
+    let (an, rest) = words::an(rest)?;
     let rest = label(rest, b"epoch")?;
     let (epoch, rest) = number_32(rest)?;
     let rest = label(rest, b"pn")?;
@@ -190,11 +192,11 @@ pub fn unclaimed(rest: &[u8], names: &[Name]) -> Option<Fact>
 }
 
 /// `data K NAME ARRIVAL`.
-pub fn arrived(alloc: Global, rest: &[u8], names: &[Name]) -> Result<Fact, FactFault>
+pub fn arrived(alloc: Global, rest: &[u8], names: &[Name]) -> Result<Fact, FactError>
     ensures { Answers (λ x. x) result (along names.now data_tree (words_behind rest.now)) }
 {
-    let (frame, rest) = number_32(rest).ok_or(FactFault::Unread)?;
-    let (station, rest) = station(rest, names).ok_or(FactFault::Unread)?;
+    let (frame, rest) = number_32(rest).ok_or(FactError::Unread)?;
+    let (station, rest) = station(rest, names).ok_or(FactError::Unread)?;
     let arrival = arrival(alloc, rest)?;
     Ok(Fact::Arrived {
         frame,
@@ -259,16 +261,27 @@ fn verdict(rest: &[u8]) -> Option<Verdict>
 {
     let (word, rest) = next_word(rest)?;
     if word == b"drop".as_slice() {
-        return drop_reason(rest);
+        return dropped_frame(rest);
     }
     let accepted = accepted_of(word)?;
     no_word(rest)?;
     Some(accepted)
 }
 
+/// A frame that is dropped.
+fn dropped_frame(rest: &[u8]) -> Option<Verdict>
+    ensures { (names : List (List ℕ)) (f : Verdict → Fact) → Takes f result
+        (along names (drop_tree (λ reason. f (verdicts.Dropped reason))) (words_behind rest.now)) }
+{
+    match drop_reason(rest) {
+        Some(reason) => Some(Verdict::Dropped(reason)),
+        None => None,
+    }
+}
+
 /// Why a frame is dropped.
-fn drop_reason(rest: &[u8]) -> Option<Verdict>
-    ensures { (names : List (List ℕ)) (f : Verdict → Fact)
+fn drop_reason(rest: &[u8]) -> Option<DropReason>
+    ensures { (names : List (List ℕ)) (f : DropReason → Fact)
         → Takes f result (along names (drop_tree f) (words_behind rest.now)) }
 {
     let (word, rest) = next_word(rest)?;
@@ -287,33 +300,33 @@ fn drop_reason(rest: &[u8]) -> Option<Verdict>
 }
 
 /// The octet at which a malformed parameter set starts.
-fn shape(rest: &[u8]) -> Option<Verdict>
-    ensures { (names : List (List ℕ)) (f : Verdict → Fact)
+fn shape(rest: &[u8]) -> Option<DropReason>
+    ensures { (names : List (List ℕ)) (f : DropReason → Fact)
         → Takes f result (along names (shape_tree f) (words_behind rest.now)) }
 {
     let (at, rest) = number_64(rest)?;
     no_word(rest)?;
-    Some(Verdict::Shape { at: at as usize })
+    Some(DropReason::Shape { at: at as usize })
 }
 
 /// The type of a second parameter set.
-fn repeated(rest: &[u8]) -> Option<Verdict>
-    ensures { (names : List (List ℕ)) (f : Verdict → Fact)
+fn repeated(rest: &[u8]) -> Option<DropReason>
+    ensures { (names : List (List ℕ)) (f : DropReason → Fact)
         → Takes f result (along names (repeated_tree f) (words_behind rest.now)) }
 {
     let (kind, rest) = number_8(rest)?;
     no_word(rest)?;
-    Some(Verdict::Repeated { kind })
+    Some(DropReason::Repeated { kind })
 }
 
 /// A message number that is not greater than the one that was kept.
-fn old_number(rest: &[u8]) -> Option<Verdict>
-    ensures { (names : List (List ℕ)) (f : Verdict → Fact)
+fn old_number(rest: &[u8]) -> Option<DropReason>
+    ensures { (names : List (List ℕ)) (f : DropReason → Fact)
         → Takes f result (along names (old_number_tree f) (words_behind rest.now)) }
 {
     let (kept, rest) = number_32(rest)?;
     no_word(rest)?;
-    Some(Verdict::OldNumber { kept })
+    Some(DropReason::OldNumber { kept })
 }
 
 /// Whether an accepted frame vouches for the station.
@@ -330,29 +343,29 @@ fn accepted_of(word: &[u8]) -> Option<Verdict>
 }
 
 /// Why a frame is dropped, where no number tells more.
-fn reason_of(word: &[u8]) -> Option<Verdict>
+fn reason_of(word: &[u8]) -> Option<DropReason>
     ensures { result ≡ said_by reasons word.now }
 {
     if word == b"notmka".as_slice() {
-        return Some(Verdict::NotMka);
+        return Some(DropReason::NotMka);
     }
     if word == b"short".as_slice() {
-        return Some(Verdict::Short);
+        return Some(DropReason::Short);
     }
     if word == b"agility".as_slice() {
-        return Some(Verdict::Agility);
+        return Some(DropReason::Agility);
     }
     if word == b"ckname".as_slice() {
-        return Some(Verdict::CkName);
+        return Some(DropReason::CkName);
     }
     if word == b"check".as_slice() {
-        return Some(Verdict::Check);
+        return Some(DropReason::Check);
     }
     if word == b"echo".as_slice() {
-        return Some(Verdict::Echo);
+        return Some(DropReason::Echo);
     }
     if word == b"peersfull".as_slice() {
-        return Some(Verdict::PeersFull);
+        return Some(DropReason::PeersFull);
     }
     None
 }
@@ -376,23 +389,23 @@ fn lack(rest: &[u8]) -> Option<Lack>
 }
 
 /// The answer to a protected frame.
-fn arrival(alloc: Global, rest: &[u8]) -> Result<Arrival, FactFault>
+fn arrival(alloc: Global, rest: &[u8]) -> Result<Arrival, FactError>
     ensures { (names : List (List ℕ)) (f : Arrival → Fact)
         → Answers f result (along names (arrival_tree f) (words_behind rest.now)) }
 {
-    let (word, behind) = next_word(rest).ok_or(FactFault::Unread)?;
+    let (word, behind) = next_word(rest).ok_or(FactError::Unread)?;
     if word == b"accepted".as_slice() {
         return accepted(alloc, behind);
     }
-    refused(rest).ok_or(FactFault::Unread)
+    refused(rest).ok_or(FactError::Unread)
 }
 
 /// A packet number and user data.
-fn accepted(alloc: Global, rest: &[u8]) -> Result<Arrival, FactFault>
+fn accepted(alloc: Global, rest: &[u8]) -> Result<Arrival, FactError>
     ensures { (names : List (List ℕ)) (f : Arrival → Fact)
         → Answers f result (along names (accepted_tree f) (words_behind rest.now)) }
 {
-    let (pn, rest) = number_32(rest).ok_or(FactFault::Unread)?;
+    let (pn, rest) = number_32(rest).ok_or(FactError::Unread)?;
     let body = words::octets(alloc, rest)?;
     Ok(Arrival::Accepted { pn, body })
 }
@@ -438,7 +451,7 @@ fn missed(rest: &[u8]) -> Option<Arrival>
     ensures { (names : List (List ℕ)) (f : Arrival → Fact)
         → Takes f result (along names (missed_tree f) (words_behind rest.now)) }
 {
-    let (an, rest) = number_8(rest)?;
+    let (an, rest) = words::an(rest)?;
     no_word(rest)?;
     Some(Arrival::Missed { an })
 }

@@ -1,15 +1,15 @@
 //! Why a line is not read back.
 
 ghost use Rattle.std.specs.Prelude.{◌≡◌};
-ghost use Rattle.transcript.specs.declared.fault.FactFault.TheVariants.{Memory};
+ghost use Rattle.transcript.specs.declared.fault.FactError.TheVariants.{Memory};
 
-use std::alloc::{AllocError, AllocFailed};
+use std::alloc::AllocError;
 use thiserror::Error;
 
-/// Why a line is not read back as a fact.
+/// Why a line is not read back as a fact: it is refused, or memory ran out.
 #[derive(Clone, Copy, Debug, PartialEq, Eq, Error)]
-pub enum FactFault {
-    /// The line is that of no fact.
+pub enum FactError {
+    /// The line is that of no fact. There is no other refusal.
     #[error("the line is no line of a transcript")]
     Unread,
     /// Memory ran out, which says nothing of the line.
@@ -17,10 +17,10 @@ pub enum FactFault {
     Memory,
 }
 
-impl From<AllocError> for FactFault {
+impl From<AllocError> for FactError {
     ghost from_gives = { λ _ fault. fault ≡ Memory };
 
     fn from(_: AllocError) -> Self {
-        FactFault::Memory
+        FactError::Memory
     }
 }

@@ -10,10 +10,7 @@ mod rendering;
 mod spelling;
 mod words;
 
-pub use fault::FactFault;
+pub use fault::FactError;
 pub use laws::{law_cut, law_texts_differ};
 pub use reading::read_fact;
 pub use rendering::render;
-
-#[cfg(test)]
-mod tests;

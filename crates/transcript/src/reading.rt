@@ -6,20 +6,20 @@ ghost use Rattle.lan_core.specs.Run.{place};
 ghost use Rattle.transcript.specs.Rendering.{Says, AreNames};
 ghost use Rattle.transcript.specs.inside.Reading.{along, fact_in, plain_tree};
 ghost use Rattle.transcript.specs.inside.Taking.{words_behind, Takes, Answers};
-ghost use Rattle.transcript.specs.declared.fault.FactFault.TheVariants.{Unread, Memory};
+ghost use Rattle.transcript.specs.declared.fault.FactError.TheVariants.{Unread, Memory};
 
 use crate::facts::{
     arrived, began, claimed, dropped, framed, heard, installed, life, retired, server, ticked,
     unclaimed, untaken,
 };
-use crate::fault::FactFault;
+use crate::fault::FactError;
 use crate::words::split_word;
 use lan_base::Name;
 use lan_core::Fact;
 use std::alloc::Global;
 
 /// The fact whose line this is, without its line feed, under the names of the stations by place.
-pub fn read_fact(alloc: Global, line: &[u8], names: &[Name]) -> Result<Fact, FactFault>
+pub fn read_fact(alloc: Global, line: &[u8], names: &[Name]) -> Result<Fact, FactError>
     ensures read { IfOk result (λ fact. Says names.now line.now fact) }
     ensures place { IfOk result (λ fact. place fact < length names.now) }
     ensures found { AreNames names.now → (fact : Fact) → Says names.now line.now fact
@@ -34,7 +34,7 @@ pub fn read_fact(alloc: Global, line: &[u8], names: &[Name]) -> Result<Fact, Fac
 }
 
 /// Reads a line.
-fn answer_fact(alloc: Global, line: &[u8], names: &[Name]) -> Result<Fact, FactFault>
+fn answer_fact(alloc: Global, line: &[u8], names: &[Name]) -> Result<Fact, FactError>
     ensures { Answers (λ x. x) result (fact_in names.now line.now) }
 {
     let (first, rest) = split_word(line);
@@ -44,7 +44,7 @@ fn answer_fact(alloc: Global, line: &[u8], names: &[Name]) -> Result<Fact, FactF
     if first == b"data".as_slice() {
         return arrived(alloc, rest, names);
     }
-    plain_fact(first, rest, names).ok_or(FactFault::Unread)
+    plain_fact(first, rest, names).ok_or(FactError::Unread)
 }
 
 /// The fact that a first word and the words behind it say, if it holds no list of octets.

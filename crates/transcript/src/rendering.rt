@@ -3,17 +3,18 @@
 ghost use Rattle.std.specs.Prelude.{◌≡◌, ◌<◌, ℕ, List, [], ◌∷◌, ◌++◌, length, get_or, map, codes, decimal, OnOk, OnErr};
 ghost use Rattle.hex.specs.Hex.{encode_lower};
 ghost use Rattle.aes_block.specs.Secrets.{secret_octets};
+ghost use Rattle.lan_base.specs.AssociationNumbers.{number_of};
 ghost use Rattle.lan_core.specs.Run.{place};
-ghost use Rattle.transcript.specs.Words.{spelled, server_word, why_words, verdict_words, arrival_words, lack_words, cause_text, tag_text, frame_text};
+ghost use Rattle.transcript.specs.Words.{spelled, server_word, why_words, reason_words, verdict_words, arrival_words, lack_words, cause_text, tag_text, frame_text};
 ghost use Rattle.transcript.specs.Rendering.{rendered};
 ghost use Rattle.trace_text.specs.Appending.{Grew, word_text};
 ghost use Rattle.transcript.specs.inside.Appending.{line_of};
 
 use aes_block::Secret;
 use gcm_frames::TagRefusal;
-use lan_base::{KeyId, Mi, Name, Octets};
+use lan_base::{AssociationNumber, KeyId, Mi, Name, Octets};
 use lan_core::{Fact, Lack};
-use mka_station::Verdict;
+use mka_station::{DropReason, Verdict};
 use rx_slots::Arrival;
 use sak_exchange::{Cause, Why};
 use std::alloc::AllocError;
@@ -99,17 +100,17 @@ fn put_key<'a>(
     first: &[u8],
     name: &'a Name,
     id: &'a KeyId,
-    an: u8,
+    an: AssociationNumber,
     tail: &[Word<'a>],
 ) -> Result<(), AllocError>
     ensures ok { OnOk result (into.new.items ≡ into.old.items ++ line_of first.now
         (name.now ∷ encode_lower id.now.server.0 ∷ decimal id.now.number ∷ codes "an"
-        ∷ decimal an ∷ map word_text tail.now)) }
+        ∷ decimal (number_of an) ∷ map word_text tail.now)) }
     ensures err { OnErr result (Grew into.old.items into.new.items) }
 {
     let server = Word::Octets(&id.server.0);
     let number = Word::Number(u64::from(id.number));
-    let an = Word::Number(u64::from(an));
+    let an = Word::Number(u64::from(an.number()));
     put(
         into,
         first,
@@ -123,13 +124,13 @@ fn put_began<'a>(
     into: &mut Vec<u8>,
     name: &'a Name,
     id: &'a KeyId,
-    an: u8,
+    an: AssociationNumber,
     epoch: u32,
     cause: Cause,
 ) -> Result<(), AllocError>
     ensures ok { OnOk result (into.new.items ≡ into.old.items ++ line_of (codes "begin")
         (name.now ∷ encode_lower id.now.server.0 ∷ decimal id.now.number ∷ codes "an"
-        ∷ decimal an ∷ codes "epoch" ∷ decimal epoch ∷ cause_text cause ∷ [])) }
+        ∷ decimal (number_of an) ∷ codes "epoch" ∷ decimal epoch ∷ cause_text cause ∷ [])) }
     ensures err { OnErr result (Grew into.old.items into.new.items) }
 {
     let epoch = Word::Number(u64::from(epoch));
@@ -143,13 +144,13 @@ fn put_installed<'a>(
     into: &mut Vec<u8>,
     name: &'a Name,
     id: &'a KeyId,
-    an: u8,
+    an: AssociationNumber,
     epoch: u32,
     sak: &'a Secret,
 ) -> Result<(), AllocError>
     ensures ok { OnOk result (into.new.items ≡ into.old.items ++ line_of (codes "install")
         (name.now ∷ encode_lower id.now.server.0 ∷ decimal id.now.number ∷ codes "an"
-        ∷ decimal an ∷ codes "epoch" ∷ decimal epoch ∷ codes "sak"
+        ∷ decimal (number_of an) ∷ codes "epoch" ∷ decimal epoch ∷ codes "sak"
         ∷ encode_lower (secret_octets sak.now) ∷ [])) }
     ensures err { OnErr result (Grew into.old.items into.new.items) }
 {
@@ -186,16 +187,16 @@ fn put_framed<'a>(
 fn put_claimed(
     into: &mut Vec<u8>,
     name: &Name,
-    an: u8,
+    an: AssociationNumber,
     epoch: u32,
     pn: u32,
 ) -> Result<(), AllocError>
     ensures ok { OnOk result (into.new.items ≡ into.old.items ++ line_of (codes "claim")
-        (name.now ∷ codes "an" ∷ decimal an ∷ codes "epoch" ∷ decimal epoch ∷ codes "pn"
+        (name.now ∷ codes "an" ∷ decimal (number_of an) ∷ codes "epoch" ∷ decimal epoch ∷ codes "pn"
         ∷ decimal pn ∷ [])) }
     ensures err { OnErr result (Grew into.old.items into.new.items) }
 {
-    let an = Word::Number(u64::from(an));
+    let an = Word::Number(u64::from(an.number()));
     let epoch = Word::Number(u64::from(epoch));
     let pn = Word::Number(u64::from(pn));
     let head = [
@@ -251,30 +252,48 @@ fn put_heard(
 {
     let first = b"heard";
     let head = &[Word::Number(u64::from(frame)), Word::Name(name)];
-    let dropped = Word::Text(b"drop");
     match verdict {
         Verdict::Vouched => put(into, first, head, &[Word::Text(b"vouched")]),
         Verdict::Unvouched => put(into, first, head, &[Word::Text(b"unvouched")]),
-        Verdict::NotMka => put(into, first, head, &[dropped, Word::Text(b"notmka")]),
-        Verdict::Short => put(into, first, head, &[dropped, Word::Text(b"short")]),
-        Verdict::Shape { at } => {
-            let tail = [dropped, Word::Text(b"shape"), Word::Number(at as u64)];
+        Verdict::Dropped(reason) => put_drop(into, frame, name, reason),
+    }
+}
+
+/// Appends the line of a frame that was heard and dropped.
+fn put_drop(
+    into: &mut Vec<u8>,
+    frame: u32,
+    name: &Name,
+    reason: DropReason,
+) -> Result<(), AllocError>
+    ensures ok { OnOk result ((names : List (List ℕ)) → into.new.items ≡ into.old.items
+        ++ line_of (codes "heard") (decimal frame ∷ name.now ∷ codes "drop"
+        ∷ map (spelled names) (reason_words reason))) }
+    ensures err { OnErr result (Grew into.old.items into.new.items) }
+{
+    let first = b"heard";
+    let number = Word::Number(u64::from(frame));
+    let head = &[number, Word::Name(name), Word::Text(b"drop")];
+    match reason {
+        DropReason::NotMka => put(into, first, head, &[Word::Text(b"notmka")]),
+        DropReason::Short => put(into, first, head, &[Word::Text(b"short")]),
+        DropReason::Shape { at } => {
+            let tail = [Word::Text(b"shape"), Word::Number(at as u64)];
             put(into, first, head, &tail)
         }
-        Verdict::Repeated { kind } => {
-            let kind = Word::Number(u64::from(kind));
-            put(into, first, head, &[dropped, Word::Text(b"repeated"), kind])
-        }
-        Verdict::Agility => put(into, first, head, &[dropped, Word::Text(b"agility")]),
-        Verdict::CkName => put(into, first, head, &[dropped, Word::Text(b"ckname")]),
-        Verdict::Check => put(into, first, head, &[dropped, Word::Text(b"check")]),
-        Verdict::Echo => put(into, first, head, &[dropped, Word::Text(b"echo")]),
-        Verdict::OldNumber { kept } => {
-            let kept = Word::Number(u64::from(kept));
-            let tail = [dropped, Word::Text(b"oldnumber"), kept];
+        DropReason::Repeated { kind } => {
+            let tail = [Word::Text(b"repeated"), Word::Number(u64::from(kind))];
             put(into, first, head, &tail)
         }
-        Verdict::PeersFull => put(into, first, head, &[dropped, Word::Text(b"peersfull")]),
+        DropReason::Agility => put(into, first, head, &[Word::Text(b"agility")]),
+        DropReason::CkName => put(into, first, head, &[Word::Text(b"ckname")]),
+        DropReason::Check => put(into, first, head, &[Word::Text(b"check")]),
+        DropReason::Echo => put(into, first, head, &[Word::Text(b"echo")]),
+        DropReason::OldNumber { kept } => {
+            let tail = [Word::Text(b"oldnumber"), Word::Number(u64::from(kept))];
+            put(into, first, head, &tail)
+        }
+        DropReason::PeersFull => put(into, first, head, &[Word::Text(b"peersfull")]),
     }
 }
 
@@ -321,7 +340,7 @@ fn put_arrived<'a>(
         }
         Arrival::Own => put(into, first, head, &[Word::Text(b"own")]),
         Arrival::Missed { an } => {
-            let tail = [Word::Text(b"missed"), Word::Number(u64::from(*an))];
+            let tail = [Word::Text(b"missed"), Word::Number(u64::from(an.number()))];
             put(into, first, head, &tail)
         }
         Arrival::BadCheck => put(into, first, head, &[Word::Text(b"badcheck")]),

@@ -3,15 +3,15 @@
 ghost use Rattle.std.specs.Prelude.{ℕ, ◌≡◌, ◌<◌, ◌^◌, Ok, Some, None, decimal, nat_le};
 ghost use Rattle.std.specs.List.{list_all};
 ghost use Rattle.trace_text.specs.Words.{is_word};
-ghost use Rattle.transcript.specs.inside.Reading.{and_then, kept_if, position_of, station_of, whole_of, is_small_digit, is_pairs, octets_of, array_of, member_of, server_of, secret_of, said_by, causes, secs, tags};
+ghost use Rattle.transcript.specs.inside.Reading.{and_then, kept_if, position_of, station_of, whole_of, is_small_digit, is_pairs, octets_of, array_of, an_of, member_of, server_of, secret_of, said_by, causes, secs, tags};
 ghost use Rattle.transcript.specs.inside.Taking.{Answers};
 
-use crate::fault::FactFault;
+use crate::fault::FactError;
 use aes_block::Secret;
 use gcm_frames::TagRefusal;
 use hex::FromHex;
 use itoa::Buffer;
-use lan_base::{Mi, Name, Octets};
+use lan_base::{AssociationNumber, Mi, Name, Octets};
 use sak_exchange::Cause;
 use std::alloc::Global;
 use std::str;
@@ -67,6 +67,14 @@ fn parsed(word: &[u8]) -> Option<u64>
         Ok(text) => text.parse::<u64>().ok(),
         Err(_) => None,
     }
+}
+
+/// The association number that a word spells.
+pub fn an_of(word: &[u8]) -> Option<AssociationNumber>
+    ensures { result ≡ an_of word.now }
+{
+    let number = number_of(word, 3)?;
+    AssociationNumber::of(number as u32)
 }
 
 /// The member identifier that a word spells.
@@ -159,15 +167,15 @@ fn array_of<const N: usize>(word: &[u8]) -> Option<[u8; N]>
 }
 
 /// The octets that a word spells. Memory is taken for a word that spells octets alone.
-pub fn octets_of(alloc: Global, word: &[u8]) -> Result<Octets, FactFault>
+pub fn octets_of(alloc: Global, word: &[u8]) -> Result<Octets, FactError>
     ensures { Answers (λ x. x) result (octets_of word.now) }
 {
     if !is_pairs(word) {
-        return Err(FactFault::Unread);
+        return Err(FactError::Unread);
     }
     match hex::decode(alloc, word) {
         Ok(octets) => Ok(Octets::of(octets)),
-        Err(_) => Err(FactFault::Memory),
+        Err(_) => Err(FactError::Memory),
     }
 }
 

@@ -2,16 +2,16 @@
 
 ghost use Rattle.std.specs.Prelude.{◌≡◌, ◌≤◌, ◌∷◌, length};
 ghost use Rattle.std.specs.List.{slice_split, position_or_len};
-ghost use Rattle.transcript.specs.inside.Reading.{is_space, parted, after, taken, ended, key_of, station_of, number_of, member_of, server_of, secret_of, said_by, causes, secs, tags, last_of, last_octets};
+ghost use Rattle.transcript.specs.inside.Reading.{is_space, parted, after, taken, ended, key_of, station_of, number_of, an_of, member_of, server_of, secret_of, said_by, causes, secs, tags, last_of, last_octets};
 ghost use Rattle.transcript.specs.inside.Taking.{words_behind, Takes, Answers};
 
-use crate::fault::FactFault;
+use crate::fault::FactError;
 use crate::spelling::{
-    cause_of, member_of, number_of, octets_of, place_of, sec_of, secret_of, server_of, tag_of,
+    an_of, cause_of, member_of, number_of, octets_of, place_of, sec_of, secret_of, server_of, tag_of,
 };
 use aes_block::Secret;
 use gcm_frames::TagRefusal;
-use lan_base::{KeyId, Mi, Name, Octets};
+use lan_base::{AssociationNumber, KeyId, Mi, Name, Octets};
 use sak_exchange::Cause;
 use std::alloc::Global;
 
@@ -78,6 +78,15 @@ pub fn number_8(rest: &[u8]) -> Option<(u8, &[u8])>
     let (word, rest) = next_word(rest)?;
     let number = number_of(word, u64::from(u8::MAX))?;
     Some((number as u8, rest))
+}
+
+/// An association number.
+pub fn an(rest: &[u8]) -> Option<(AssociationNumber, &[u8])>
+    ensures { Takes (λ x. (x.0, words_behind x.1.now)) result (taken an_of (words_behind rest.now)) }
+{
+    let (word, rest) = next_word(rest)?;
+    let an = an_of(word)?;
+    Some((an, rest))
 }
 
 /// A number of 32 bits.
@@ -170,10 +179,10 @@ pub fn tag(rest: &[u8]) -> Option<(TagRefusal, &[u8])>
 }
 
 /// The octets that the last word spells. Memory is taken for such a word alone.
-pub fn octets(alloc: Global, rest: &[u8]) -> Result<Octets, FactFault>
+pub fn octets(alloc: Global, rest: &[u8]) -> Result<Octets, FactError>
     ensures { Answers (λ x. x) result (last_octets (words_behind rest.now)) }
 {
-    let word = last_word(rest).ok_or(FactFault::Unread)?;
+    let word = last_word(rest).ok_or(FactError::Unread)?;
     octets_of(alloc, word)
 }
 

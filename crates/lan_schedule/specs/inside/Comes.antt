@@ -10,7 +10,7 @@ use Rattle.lan_schedule.specs.declared.halt.Halt.{Halt}
 use Rattle.lan_schedule.specs.World.{World, settings}
 use Rattle.lan_schedule.specs.Numbers.{shown_next, claimed_number}
 use Rattle.lan_schedule.specs.Acts.{Act, nothing, refuse, happen, change, seq, look, perform}
-use Rattle.lan_schedule.specs.Acts.{Outcome, Goes, Stops}
+use Rattle.lan_schedule.specs.Acts.{Course, Goes, Stops}
 use Rattle.lan_schedule.specs.Ends.{Sunk, Moment, IsReached, Ends}
 
 -- the user frame that an event names
@@ -18,7 +18,7 @@ abbrev pub named : World → Event → Option UserFrame
 named w (events.Claim s user pn) = user_at w.kept.users user
 named w _ = None
 
-abbrev pub IsGoing : Outcome → (World → Type 0) → Type 0
+abbrev pub IsGoing : Course → (World → Type 0) → Type 0
 IsGoing (Goes w) Holds = Holds w
 IsGoing (Stops w halt) Holds = Unit {0}
 

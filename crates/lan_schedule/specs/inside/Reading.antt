@@ -4,15 +4,12 @@ use Rattle.std.specs.Prelude.{Err}
 use Rattle.lan_base.specs.Faults.{Rose}
 use Rattle.lan_base.specs.Told.{before}
 use Rattle.lan_core.specs.declared.stop.Which.TheVariants.{Input}
-use Rattle.trace_text.specs.declared.fault.TextFault.{TextFault}
-use Rattle.trace_text.specs.declared.fault.TextFault.TheVariants as faults
 use Rattle.lan_schedule.specs.declared.halt.Halt.{Halt}
 use Rattle.lan_schedule.specs.declared.halt.Halt.TheVariants as halts
 use Rattle.lan_schedule.specs.declared.trace.End.{End}
 use Rattle.lan_schedule.specs.declared.trace.End.TheVariants as ends
 use Rattle.lan_schedule.specs.declared.commands.Replay.{Replay}
 use Rattle.lan_schedule.specs.Texts.{whole_lines, lines_of}
-use Rattle.lan_schedule.specs.Kinds.{kind_of_fault}
 use Rattle.lan_schedule.specs.Lines.{performed_all}
 use Rattle.lan_schedule.specs.Ends.{Moment}
 use Rattle.lan_schedule.specs.Standing.{Does}
@@ -54,7 +51,3 @@ abbrev pub halt_of_end : End → Halt
 halt_of_end (ends.Halted halt) = halt
 halt_of_end ends.ReadFault = halts.ReadFault
 halt_of_end ends.Input = halts.Limit Input
-
-abbrev pub halt_of_text : ℕ → TextFault → Halt
-halt_of_text line faults.Memory = halts.Memory
-halt_of_text line fault = halts.Trace line (kind_of_fault fault)

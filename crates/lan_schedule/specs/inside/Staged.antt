@@ -1,45 +1,19 @@
--- What a group at work stands for, and what a call on it did of an act.
-use Rattle.std.specs.Prelude.{◌≡◌, ℕ, true, List, [], length, map, Option, is_some, Result, Ok, Err}
+-- What a call on a group at work did of an act.
+use Rattle.std.specs.Prelude.{◌≡◌, ℕ, true, List, [], Option, Result, Ok, Err}
 use Rattle.std.specs.Prelude.{◌≤◌}
 use Rattle.lan_base.specs.declared.frame.UserFrame.{UserFrame}
 use Rattle.lan_base.specs.Faults.{Rose}
 use Rattle.lan_base.specs.Told.{after}
 use Rattle.lan_core.specs.declared.event.Event.{Event}
-use Rattle.lan_core.specs.Run.{stations, facts_of}
-use Rattle.lan_core.specs.Standing.{StandsFor as GroupStandsFor}
-use Rattle.group_safety.specs.Summary.{counts}
 use Rattle.lan_schedule.specs.declared.choices.Choices.{Choices}
 use Rattle.lan_schedule.specs.declared.halt.Halt.{Halt}
 use Rattle.lan_schedule.specs.declared.halt.Halt.TheVariants as halts
 use Rattle.lan_schedule.specs.declared.stage.Stage.{Stage}
-use Rattle.lan_schedule.specs.Settings.{lag_of}
-use Rattle.lan_schedule.specs.World.{World, nothing_kept, settings, names_of}
-use Rattle.lan_schedule.specs.Answers.{supply}
+use Rattle.lan_schedule.specs.World.{World, nothing_kept}
 use Rattle.lan_schedule.specs.Acts.{happen, perform}
 use Rattle.lan_schedule.specs.Ends.{Sunk, Moment, TookFront, IsReached, Ends}
-use Rattle.lan_schedule.specs.inside.Frames.{Flow}
-use Rattle.lan_schedule.specs.inside.Supplies.{supply_nth}
-use Rattle.lan_schedule.specs.inside.Counters.{TellNext}
+use Rattle.lan_schedule.specs.Stages.{StandsFor}
 use Rattle.lan_schedule.specs.inside.Comes.{Comes, named}
-
-abbrev pub flow_of : World → Flow
-flow_of w = record { frames = w.kept.frames; rounds = w.kept.rounds }
-
--- a group at work stands for a world
-pub record StandsFor (w : World) (stage : Stage) : Type 0 where
-  pub begun : w.kept.begun ≡ true
-  pub keyed : is_some w.kept.chosen.group ≡ true
-  pub line : stage.line ≡ w.kept.line
-  pub lag : stage.lag ≡ lag_of w.kept.chosen
-  pub lan : GroupStandsFor (settings w) w.kept.users stage.lan w.run
-  pub draws : (k : ℕ) → supply_nth stage.draws k ≡ supply w k
-  pub names : stage.names.items ≡ names_of w.run
-  pub scis : stage.scis.items ≡ map (λ p. p.sci) (stations w.run)
-  pub users : stage.users ≡ length w.kept.users
-  pub flow : stage.frames ≡ flow_of w
-  pub cuts : stage.cuts ≡ w.kept.cuts
-  pub numbers : TellNext (settings w) w.run stage.numbers
-  pub tally : stage.tally ≡ counts (facts_of w.run)
 
 -- an event happened, where this user frame is the one that it names
 pub record Happened (given : Option UserFrame) (event : Event) (old new : Moment Stage)

@@ -8,7 +8,9 @@ use Rattle.hex.specs.Hex.{decode_of}
 use Rattle.aes_block.specs.declared.secret.Secret.{Secret}
 use Rattle.aes_block.specs.declared.secret.Secret.TheVariants.{S128, S256}
 use Rattle.lan_base.specs.declared.address.Mi.{Mi}
+use Rattle.lan_base.specs.declared.association_number.AssociationNumber.{AssociationNumber}
 use Rattle.lan_base.specs.declared.key_id.KeyId.{KeyId}
+use Rattle.lan_base.specs.AssociationNumbers.{numbered}
 use Rattle.sak_exchange.specs.declared.change.Cause.{Cause}
 use Rattle.sak_exchange.specs.declared.change.Cause.TheVariants.{All, Timeout, Flag}
 use Rattle.sak_exchange.specs.declared.change.Why.{Why}
@@ -16,7 +18,9 @@ use Rattle.sak_exchange.specs.declared.change.Why.TheVariants.{NotListed, NotSer
 use Rattle.gcm_frames.specs.declared.tag.TagRefusal.{TagRefusal}
 use Rattle.gcm_frames.specs.declared.tag.TagRefusal.TheVariants as Tag
 use Rattle.mka_station.specs.declared.verdict.Verdict.{Verdict}
-use Rattle.mka_station.specs.declared.verdict.Verdict.TheVariants.{Vouched, Unvouched, NotMka, Short, Shape, Repeated, Agility, CkName, Check, Echo, OldNumber, PeersFull}
+use Rattle.mka_station.specs.declared.verdict.Verdict.TheVariants as verdicts
+use Rattle.mka_station.specs.declared.verdict.DropReason.{DropReason}
+use Rattle.mka_station.specs.declared.verdict.DropReason.TheVariants.{NotMka, Short, Shape, Repeated, Agility, CkName, Check, Echo, OldNumber, PeersFull}
 use Rattle.rx_slots.specs.declared.arrival.Arrival.{Arrival}
 use Rattle.rx_slots.specs.declared.arrival.Arrival.TheVariants.{Accepted, Malformed, Own, Missed, BadCheck, Late}
 use Rattle.lan_core.specs.declared.fact.Fact.{Fact}
@@ -26,8 +30,8 @@ use Rattle.lan_core.specs.declared.fact.Lack.TheVariants.{NoKey, Exhausted}
 use Rattle.trace_text.specs.Words.{is_word}
 
 -- what the words left may be: none, and the fact that was said; a word that is these letters, or
--- else something; a word that is these letters; the name of a station, a number of so many bits, a
--- member identifier, a key's identifier, an elected server, a key, a word of a table, and what is
+-- else something; a word that is these letters; the name of a station, a number of so many bits, an
+-- association number, a member identifier, a key's identifier, an elected server, a key, a word of a table, and what is
 -- left behind each; a last word of any count of octets; or nothing
 pub data Tree : Type 0 where
   says : Fact → Tree
@@ -35,6 +39,7 @@ pub data Tree : Type 0 where
   only : List ℕ → Tree → Tree
   station : (ℕ → Tree) → Tree
   number : ℕ → (ℕ → Tree) → Tree
+  an : (AssociationNumber → Tree) → Tree
   member : (Mi → Tree) → Tree
   key : (KeyId → Tree) → Tree
   server : (Option Mi → Tree) → Tree
@@ -44,7 +49,7 @@ pub data Tree : Type 0 where
   tag : (TagRefusal → Tree) → Tree
   why : (Why → Tree) → Tree
   vouch : (Verdict → Tree) → Tree
-  reason : (Verdict → Tree) → Tree
+  reason : (DropReason → Tree) → Tree
   octets : (List ℕ → Fact) → Tree
   nothing : Tree
 
@@ -80,6 +85,10 @@ whole_of word =
 -- the number of so many bits that a word spells
 abbrev pub number_of : ℕ → List ℕ → Option ℕ
 number_of bits word = and_then (whole_of word) (λ n. kept_if (nat_lt n (2 ^ bits)) n)
+
+-- the association number that a word spells
+abbrev pub an_of : List ℕ → Option AssociationNumber
+an_of word = and_then (number_of 2 word) numbered
 
 -- a hexadecimal digit, in lower case
 abbrev pub is_small_digit : ℕ → Bool
@@ -142,10 +151,11 @@ whys =
 
 -- whether an accepted frame vouches for the station
 abbrev pub vouches : List (List ℕ × Verdict)
-vouches = (codes "vouched", Vouched) ∷ (codes "unvouched", Unvouched) ∷ []
+vouches =
+    (codes "vouched", verdicts.Vouched) ∷ (codes "unvouched", verdicts.Unvouched) ∷ []
 
 -- why a frame is dropped, where no number tells more
-abbrev pub reasons : List (List ℕ × Verdict)
+abbrev pub reasons : List (List ℕ × DropReason)
 reasons =
     (codes "notmka", NotMka) ∷ (codes "short", Short) ∷ (codes "agility", Agility)
     ∷ (codes "ckname", CkName) ∷ (codes "check", Check) ∷ (codes "echo", Echo)
@@ -199,6 +209,8 @@ along names (station next) words =
     and_then (taken (station_of names) words) (λ x. along names (next x.0) x.1)
 along names (number bits next) words =
     and_then (taken (number_of bits) words) (λ x. along names (next x.0) x.1)
+along names (an next) words =
+    and_then (taken an_of words) (λ x. along names (next x.0) x.1)
 along names (member next) words =
     and_then (taken member_of words) (λ x. along names (next x.0) x.1)
 along names (key next) words = and_then (key_of words) (λ x. along names (next x.0) x.1)
@@ -221,8 +233,8 @@ along names (reason next) words =
 along names (octets f) words = option_map f (last_octets words)
 along names nothing words = None
 
-abbrev pub an_tree : (ℕ → Tree) → Tree
-an_tree next = only (codes "an") (number 8 next)
+abbrev pub an_tree : (AssociationNumber → Tree) → Tree
+an_tree next = only (codes "an") (an next)
 
 abbrev pub epoch_tree : (ℕ → Tree) → Tree
 epoch_tree next = only (codes "epoch") (number 32 next)
@@ -233,22 +245,24 @@ seen_tree f = number 32 (λ kept. says (f (Seen kept)))
 abbrev pub why_tree : (Why → Fact) → Tree
 why_tree f = text (codes "seen") (seen_tree f) (why (λ w. says (f w)))
 
-abbrev pub shape_tree : (Verdict → Fact) → Tree
+abbrev pub shape_tree : (DropReason → Fact) → Tree
 shape_tree f = number 64 (λ at. says (f (Shape at)))
 
-abbrev pub repeated_tree : (Verdict → Fact) → Tree
+abbrev pub repeated_tree : (DropReason → Fact) → Tree
 repeated_tree f = number 8 (λ kind. says (f (Repeated kind)))
 
-abbrev pub old_number_tree : (Verdict → Fact) → Tree
+abbrev pub old_number_tree : (DropReason → Fact) → Tree
 old_number_tree f = number 32 (λ kept. says (f (OldNumber kept)))
 
-abbrev pub drop_tree : (Verdict → Fact) → Tree
+abbrev pub drop_tree : (DropReason → Fact) → Tree
 drop_tree f =
     text (codes "shape") (shape_tree f) (text (codes "repeated") (repeated_tree f)
-    (text (codes "oldnumber") (old_number_tree f) (reason (λ verdict. says (f verdict)))))
+    (text (codes "oldnumber") (old_number_tree f) (reason (λ why. says (f why)))))
 
 abbrev pub verdict_tree : (Verdict → Fact) → Tree
-verdict_tree f = text (codes "drop") (drop_tree f) (vouch (λ verdict. says (f verdict)))
+verdict_tree f =
+    text (codes "drop") (drop_tree (λ reason. f (verdicts.Dropped reason)))
+    (vouch (λ verdict. says (f verdict)))
 
 abbrev pub lack_tree : (Lack → Fact) → Tree
 lack_tree f =
@@ -262,7 +276,7 @@ abbrev pub malformed_tree : (Arrival → Fact) → Tree
 malformed_tree f = tag (λ refusal. says (f (Malformed refusal)))
 
 abbrev pub missed_tree : (Arrival → Fact) → Tree
-missed_tree f = number 8 (λ an. says (f (Missed an)))
+missed_tree f = an (λ a. says (f (Missed a)))
 
 abbrev pub late_tree : (Arrival → Fact) → Tree
 late_tree f = number 64 (λ next. says (f (Late next)))
@@ -292,20 +306,20 @@ abbrev pub server_tree : Tree
 server_tree = station (λ s. server (λ mi. says (Server s mi)))
 
 abbrev pub drop_key_tree : Tree
-drop_key_tree = station (λ s. key (λ id. an_tree (λ an. says (Dropped s id an))))
+drop_key_tree = station (λ s. key (λ id. an_tree (λ a. says (Dropped s id a))))
 
 abbrev pub retire_tree : Tree
-retire_tree = station (λ s. key (λ id. an_tree (λ an. says (Retired s id an))))
+retire_tree = station (λ s. key (λ id. an_tree (λ a. says (Retired s id a))))
 
 abbrev pub begin_tree : Tree
 begin_tree =
-    station (λ s. key (λ id. an_tree (λ an. epoch_tree (λ epoch.
-    cause (λ c. says (Began s id an epoch c))))))
+    station (λ s. key (λ id. an_tree (λ a. epoch_tree (λ epoch.
+    cause (λ c. says (Began s id a epoch c))))))
 
 abbrev pub install_tree : Tree
 install_tree =
-    station (λ s. key (λ id. an_tree (λ an. epoch_tree (λ epoch.
-    only (codes "sak") (secret (λ sak. says (Installed s id an epoch sak)))))))
+    station (λ s. key (λ id. an_tree (λ a. epoch_tree (λ epoch.
+    only (codes "sak") (secret (λ sak. says (Installed s id a epoch sak)))))))
 
 abbrev pub untaken_tree : Tree
 untaken_tree = station (λ s. key (λ id. why_tree (λ why. Untaken s id why)))
@@ -319,8 +333,8 @@ heard_tree = number 32 (λ k. station (λ s. verdict_tree (λ verdict. HeardMka 
 
 abbrev pub claim_tree : Tree
 claim_tree =
-    station (λ s. an_tree (λ an. epoch_tree (λ epoch.
-    only (codes "pn") (number 32 (λ pn. says (Claimed s an epoch pn))))))
+    station (λ s. an_tree (λ a. epoch_tree (λ epoch.
+    only (codes "pn") (number 32 (λ pn. says (Claimed s a epoch pn))))))
 
 abbrev pub noclaim_tree : Tree
 noclaim_tree = station (λ s. lack_tree (λ why. Unclaimed s why))

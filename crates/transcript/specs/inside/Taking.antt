@@ -1,8 +1,8 @@
 -- What a private reader answers, beside what the definitions give.
 use Rattle.std.specs.Prelude.{ℕ, ◌≡◌, ◌⊎◌, List, [], ◌∷◌, Option, Some, None, IsSome, Result, Ok, Err}
 use Rattle.std.specs.List.{slice_split}
-use Rattle.transcript.specs.declared.fault.FactFault.{FactFault}
-use Rattle.transcript.specs.declared.fault.FactFault.TheVariants.{Unread, Memory}
+use Rattle.transcript.specs.declared.fault.FactError.{FactError}
+use Rattle.transcript.specs.declared.fault.FactError.TheVariants.{Unread, Memory}
 use Rattle.transcript.specs.inside.Reading.{is_space}
 
 -- the words behind a word: each stands behind one space
@@ -16,7 +16,7 @@ Takes view None given = given ≡ None
 Takes view (Some x) given = given ≡ Some (view x)
 
 -- what is given was answered, as the view shows it, or memory was wanting where a value is given
-abbrev pub Answers : {X Y : Type 0} → (X → Y) → Result X FactFault → Option Y → Type 0
+abbrev pub Answers : {X Y : Type 0} → (X → Y) → Result X FactError → Option Y → Type 0
 Answers view (Ok x) given = given ≡ Some (view x)
 Answers view (Err fault) given =
     ((fault ≡ Unread) × (given ≡ None)) ⊎ ((fault ≡ Memory) × IsSome given)

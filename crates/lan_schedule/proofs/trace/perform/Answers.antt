@@ -1,6 +1,6 @@
 use Rattle.std.proofs.Common.{Ok, refl, ap, ◌∙◌, arith}
 use Rattle.lan_schedule.proofs.Feeding.{memory-does}
-use Rattle.lan_schedule.proofs.Texting.{skipped-does, line-does, any-fault-does}
+use Rattle.lan_schedule.proofs.Texting.{skipped-does, line-does, fault-does}
 use Rattle.lan_schedule.proofs.trace.perform.Goals as goal
 
 pub returns-in_default : goal.returns-in_default
@@ -21,9 +21,12 @@ returns-in-Ok-Some g c =
     c.checked_add.ensures in grind (arith, at, is, counts))
     (c.in-Ok-Some.ensures.read ∙ ap (λ o. Ok o) c.in-Ok-Some.field-0-is) c.command.ensures.does
 
-pub returns-in-Err : goal.returns-in-Err
-returns-in-Err g c =
-    rw c.halt_of_text.ensures (any-fault-does c.args.text.now c.in-Some.number c.in-Err.fault _
+pub returns-in-Err-Refused : goal.returns-in-Err-Refused
+returns-in-Err-Refused g c =
+    rw c.kind_of_fault.ensures (fault-does c.args.text.now c.in-Some.number c.in-Err-Refused.fault _
     (λ w stands. let at = c.line.ensures w stands in let is = c.in-Some.is in let counts =
     c.checked_add.ensures in grind (arith, at, is, counts))
-    (λ never. (c.in-Err.ensures.refused c.in-Err.fault never).0 refl))
+    ((c.in-Err-Refused.ensures.refused c.in-Err-Refused.fault).0 refl))
+
+pub returns-in-Err-Memory : goal.returns-in-Err-Memory
+returns-in-Err-Memory g c = memory-does _ _ _ refl

@@ -1,5 +1,5 @@
 use Rattle.std.proofs.Common.{sym, ap, ◌∙◌}
-use Rattle.group_safety.specs.Summary.{Counts, line_of}
+use Rattle.fact_tally.specs.Summary.{Counts, line_of}
 use Rattle.lan_schedule.specs.Trace.{sourced}
 use Rattle.lan_schedule.specs.Ends.{sunk}
 use Rattle.lan_schedule.proofs.Reading.{read-badly, halt-is}

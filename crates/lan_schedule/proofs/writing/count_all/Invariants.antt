@@ -1,6 +1,6 @@
 use Rattle.std.proofs.Common.{◌≡◌, List, ◌++◌, take}
 use Rattle.lan_core.specs.declared.fact.Fact.{Fact}
-use Rattle.group_safety.specs.Summary.{counts}
+use Rattle.fact_tally.specs.Summary.{counts}
 use Rattle.lan_schedule.proofs.writing.count_all.Given as goal
 
 abbrev pub invariant-loop-fact : goal.invariant-loop-fact

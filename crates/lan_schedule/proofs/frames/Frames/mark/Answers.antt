@@ -1,7 +1,6 @@
 use Rattle.std.proofs.Common.{◌≡◌, ◌-◌, set, sym, ap, ◌∙◌, List, arith}
 use Rattle.lan_schedule.specs.declared.frames.Put.{Put}
-use Rattle.lan_schedule.specs.World.{marked_at, with_mark}
-use Rattle.lan_schedule.specs.inside.Frames.{Flow}
+use Rattle.lan_schedule.specs.World.{marked_at, with_mark, Flow}
 use Rattle.lan_schedule.proofs.Flowing.{mark-set, mark-past, marked-marked, order-marked}
 use Rattle.lan_schedule.proofs.frames.Frames.mark.Goals as goal
 

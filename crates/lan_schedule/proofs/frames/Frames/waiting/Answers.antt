@@ -2,7 +2,7 @@ use Rattle.std.proofs.Common.{◌≡◌, ◌+◌, ◌++◌, [], ◌∷◌, List,
 use Rattle.std.proofs.Common.{append-nil, sym, ap, ◌∙◌, subst, arith}
 use Rattle.std.specs.Prelude.{cond}
 use Rattle.lan_schedule.specs.Lines.{due_of}
-use Rattle.lan_schedule.specs.inside.Frames.{Flow}
+use Rattle.lan_schedule.specs.World.{Flow}
 use Rattle.lan_schedule.proofs.Flowing.{due-marked, due-late, due-next, due-past}
 use Rattle.lan_schedule.proofs.frames.Frames.waiting.Goals as goal
 

@@ -1,5 +1,5 @@
 use Rattle.std.proofs.Common.{◌≡◌, ◌+◌, ◌-◌, ℕ, vec_len}
-use Rattle.lan_schedule.specs.inside.Counters.{counted_next}
+use Rattle.lan_schedule.specs.Numbers.{counted_next}
 use Rattle.lan_schedule.proofs.numbers.Numbers.raise.Given as goal
 
 abbrev pub invariant-loop-alloc : goal.invariant-loop-alloc

@@ -1,11 +1,16 @@
 use Rattle.std.proofs.Common.{refl}
-use Rattle.lan_schedule.proofs.Happening.{event-did, event-stopped}
+use Rattle.lan_schedule.proofs.Happening.{event-did, event-stopped, event-wanting}
 use Rattle.lan_schedule.proofs.stage.Stage.happen.Goals as goal
 
-pub returns-in-Err : goal.returns-in-Err
-returns-in-Err g c =
-    rw (c.halt_of.ensures) (event-stopped _ c.args.event.now c.in-Err.stop c.args.self.now.line _ _
-    (λ settings users r stands may. c.in-Err.ensures.refused settings users r stands may) refl refl)
+pub returns-in-Err-Stopped : goal.returns-in-Err-Stopped
+returns-in-Err-Stopped g c =
+    rw (c.halt_of.ensures) (event-stopped _ c.args.event.now c.in-Err-Stopped.stop
+    c.args.self.now.line _ _
+    (λ settings users r stands may. c.in-Err-Stopped.ensures.refused settings users r stands may)
+    refl refl)
+
+pub returns-in-Err-Memory : goal.returns-in-Err-Memory
+returns-in-Err-Memory g c = event-wanting _ c.args.event.now _ _ refl
 
 pub returns : goal.returns
 returns g c =

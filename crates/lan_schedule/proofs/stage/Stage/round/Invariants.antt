@@ -2,7 +2,7 @@ use Rattle.std.proofs.Common.{◌-◌}
 use Rattle.lan_schedule.specs.Acts.{span}
 use Rattle.lan_schedule.specs.Lines.{tick, round}
 use Rattle.lan_schedule.specs.Ends.{moment}
-use Rattle.lan_schedule.specs.inside.Staged.{StandsFor}
+use Rattle.lan_schedule.specs.Stages.{StandsFor}
 use Rattle.lan_schedule.proofs.Doing.{Leads}
 use Rattle.lan_schedule.proofs.stage.Stage.round.Given as goal
 

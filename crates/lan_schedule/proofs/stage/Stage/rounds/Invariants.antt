@@ -2,7 +2,7 @@ use Rattle.std.proofs.Common.{◌-◌}
 use Rattle.lan_schedule.specs.Acts.{times, span}
 use Rattle.lan_schedule.specs.Lines.{round}
 use Rattle.lan_schedule.specs.Ends.{moment}
-use Rattle.lan_schedule.specs.inside.Staged.{StandsFor}
+use Rattle.lan_schedule.specs.Stages.{StandsFor}
 use Rattle.lan_schedule.proofs.Doing.{Leads}
 use Rattle.lan_schedule.proofs.stage.Stage.rounds.Given as goal
 

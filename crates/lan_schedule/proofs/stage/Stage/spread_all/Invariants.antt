@@ -2,7 +2,7 @@ use Rattle.std.proofs.Common.{drop}
 use Rattle.lan_schedule.specs.Acts.{each}
 use Rattle.lan_schedule.specs.Lines.{spread}
 use Rattle.lan_schedule.specs.Ends.{moment}
-use Rattle.lan_schedule.specs.inside.Staged.{StandsFor}
+use Rattle.lan_schedule.specs.Stages.{StandsFor}
 use Rattle.lan_schedule.proofs.Doing.{Leads}
 use Rattle.lan_schedule.proofs.stage.Stage.spread_all.Given as goal
 

@@ -1,15 +1,15 @@
 //! Facts are rendered, and lines are read back.
 
-use super::*;
 use aes_block::Secret;
 use gcm_frames::TagRefusal;
-use lan_base::{KeyId, Mi, Name, Octets};
+use lan_base::{AssociationNumber, KeyId, Mi, Name, Octets};
 use lan_core::{Fact, Lack};
-use mka_station::Verdict;
+use mka_station::{DropReason, Verdict};
 use rx_slots::Arrival;
 use sak_exchange::{Cause, Why};
 use std::alloc::{AllocError, Global};
 use std::test::Fail;
+use transcript::{FactError, read_fact, render};
 
 /// The member identifiers that the first draws give, where draws are counted.
 const FIRST: Mi = Mi([0, 0, 0, 0, 0, 0, 0, 0, 0, 0, 0, 1]);
@@ -22,130 +22,136 @@ const ID: KeyId = KeyId {
     number: 2,
 };
 
-/// Facts of worked traces without octets, and their lines: the first key, a spent key, a data
-/// frame.
-const WORKED: [(Fact, &str); 15] = [
-    (
-        Fact::Life {
+/// A fact, and its line.
+#[derive(Drop)]
+struct Worked {
+    fact: Fact,
+    line: &'static str,
+}
+
+/// Facts of worked traces without octets: the first key, a spent key, a data frame.
+const WORKED: [Worked; 15] = [
+    Worked {
+        fact: Fact::Life {
             station: 1,
             mi: SECOND,
         },
-        "life B 000000000000000000000002\n",
-    ),
-    (
-        Fact::Server {
+        line: "life B 000000000000000000000002\n",
+    },
+    Worked {
+        fact: Fact::Server {
             station: 1,
             mi: Some(FIRST),
         },
-        "server B 000000000000000000000001\n",
-    ),
-    (
-        Fact::Server {
+        line: "server B 000000000000000000000001\n",
+    },
+    Worked {
+        fact: Fact::Server {
             station: 0,
             mi: None,
         },
-        "server A none\n",
-    ),
-    (
-        Fact::Began {
+        line: "server A none\n",
+    },
+    Worked {
+        fact: Fact::Began {
             station: 0,
             id: ID,
-            an: 1,
+            an: AssociationNumber::An1,
             epoch: 2,
             cause: Cause::All,
         },
-        "begin A 000000000000000000000001 2 an 1 epoch 2 all\n",
-    ),
-    (
-        Fact::Installed {
+        line: "begin A 000000000000000000000001 2 an 1 epoch 2 all\n",
+    },
+    Worked {
+        fact: Fact::Installed {
             station: 1,
             id: ID,
-            an: 1,
+            an: AssociationNumber::An1,
             epoch: 2,
             sak: Secret::S128([0, 0, 0, 0, 0, 0, 0, 0, 0, 0, 0, 0, 0, 0, 0, 0x4a]),
         },
-        "install B 000000000000000000000001 2 an 1 epoch 2 sak 0000000000000000000000000000004a\n",
-    ),
-    (
-        Fact::Dropped {
+        line: "install B 000000000000000000000001 2 an 1 epoch 2 sak 0000000000000000000000000000004a\n",
+    },
+    Worked {
+        fact: Fact::Dropped {
             station: 1,
             id: ID,
-            an: 0,
+            an: AssociationNumber::An0,
         },
-        "drop B 000000000000000000000001 2 an 0\n",
-    ),
-    (
-        Fact::Retired {
+        line: "drop B 000000000000000000000001 2 an 0\n",
+    },
+    Worked {
+        fact: Fact::Retired {
             station: 0,
             id: ID,
-            an: 0,
+            an: AssociationNumber::An0,
         },
-        "retire A 000000000000000000000001 2 an 0\n",
-    ),
-    (
-        Fact::Untaken {
+        line: "retire A 000000000000000000000001 2 an 0\n",
+    },
+    Worked {
+        fact: Fact::Untaken {
             station: 1,
             id: ID,
             why: Why::Seen { kept: 1 },
         },
-        "untaken B 000000000000000000000001 2 seen 1\n",
-    ),
-    (
-        Fact::Ticked {
+        line: "untaken B 000000000000000000000001 2 seen 1\n",
+    },
+    Worked {
+        fact: Fact::Ticked {
             station: 0,
             at: 9,
             next: 4_294_967_296,
         },
-        "tick A 9 next 4294967296\n",
-    ),
-    (
-        Fact::HeardMka {
+        line: "tick A 9 next 4294967296\n",
+    },
+    Worked {
+        fact: Fact::HeardMka {
             frame: 0,
             station: 1,
-            verdict: Verdict::Repeated { kind: 1 },
+            verdict: Verdict::Dropped(DropReason::Repeated { kind: 1 }),
         },
-        "heard 0 B drop repeated 1\n",
-    ),
-    (
-        Fact::HeardMka {
+        line: "heard 0 B drop repeated 1\n",
+    },
+    Worked {
+        fact: Fact::HeardMka {
             frame: 5,
             station: 1,
             verdict: Verdict::Vouched,
         },
-        "heard 5 B vouched\n",
-    ),
-    (
-        Fact::Claimed {
+        line: "heard 5 B vouched\n",
+    },
+    Worked {
+        fact: Fact::Claimed {
             station: 0,
-            an: 1,
+            an: AssociationNumber::An1,
             epoch: 2,
             pn: 3,
         },
-        "claim A an 1 epoch 2 pn 3\n",
-    ),
-    (
-        Fact::Unclaimed {
+        line: "claim A an 1 epoch 2 pn 3\n",
+    },
+    Worked {
+        fact: Fact::Unclaimed {
             station: 0,
             why: Lack::Exhausted { epoch: 7 },
         },
-        "noclaim A exhausted 7\n",
-    ),
-    (
-        Fact::Arrived {
+        line: "noclaim A exhausted 7\n",
+    },
+    Worked {
+        fact: Fact::Arrived {
             frame: 0,
             station: 0,
             arrival: Arrival::Malformed(TagRefusal::SlWrong),
         },
-        "data 0 A malformed slwrong\n",
-    ),
-    (
-        Fact::Arrived {
+        line: "data 0 A malformed slwrong\n",
+    },
+    Worked {
+        fact: Fact::Arrived {
             frame: 10,
             station: 1,
             arrival: Arrival::Late { next: 2 },
         },
-        "data 10 B late 2\n",
-    ),
+        line: "data 10 B late 2\n",
+    },
 ];
 
 /// Each form of a line.
@@ -200,7 +206,7 @@ data 10 B late 4294967296
 ";
 
 /// Lines that no fact has.
-const UNREAD: [&str; 22] = [
+const UNREAD: [&str; 23] = [
     "",
     "tick A 1",
     "tick A 1 next 2 ",
@@ -214,7 +220,8 @@ const UNREAD: [&str; 22] = [
     "life A 00000000000000000000000A",
     "life A 0000000000000000000000001",
     "life A 00000000000000000000000102",
-    "drop A 000000000000000000000001 2 an 256",
+    "drop A 000000000000000000000001 2 an 4",
+    "data 10 B missed 4",
     "install A 000000000000000000000001 2 an 1 epoch 2 sak 00",
     "frame 12 B sec ff0",
     "frame 12 B sec",
@@ -270,10 +277,10 @@ fn accepted(alloc: Global, body: &[u8]) -> Result<Fact, AllocError> {
 #[test]
 fn renders_worked_facts(rt: HostRuntime) -> Result<(), Fail> {
     let alloc = rt.alloc();
-    for (fact, want) in WORKED {
+    for worked in &WORKED {
         let mut text = Vec::new(alloc);
-        put(&fact, &mut text)?;
-        assert_eq!(rt; text.as_slice(), want.as_bytes());
+        put(&worked.fact, &mut text)?;
+        assert_eq!(rt; text.as_slice(), worked.line.as_bytes());
     }
     Ok(())
 }
@@ -308,7 +315,7 @@ fn leaves_other_lines_unread(rt: HostRuntime) -> Result<(), Fail> {
     let names = names().ok_or("no name")?;
     for line in UNREAD {
         let fault = read_fact(alloc, line.as_bytes(), &names).err();
-        assert_eq!(rt; fault, Some(FactFault::Unread), "{line}");
+        assert_eq!(rt; fault, Some(FactError::Unread), "{line}");
     }
     Ok(())
 }
