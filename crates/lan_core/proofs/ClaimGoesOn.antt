@@ -27,7 +27,7 @@ use Rattle.rx_slots.specs.Histories.{Receiving}
 use Rattle.lan_core.specs.Claims.{claimed, next, user_at, waiting_under}
 use Rattle.lan_core.specs.Expected.{expected, drawn_from, claim_fact, number_fact, lack, last_number}
 use Rattle.lan_base.specs.Ranges.{most_frames, most_ticks}
-use Rattle.lan_core.specs.Order.{IsWithin, ticks, most_octets, most_stations}
+use Rattle.lan_core.specs.Order.{IsWithin, most_octets, most_stations}
 use Rattle.lan_core.specs.Stops.{IsDemanded, passed}
 use Rattle.lan_core.specs.Standing.{State, StandsFor, IsSeated, sealed_of}
 use Rattle.lan_core.specs.Answers.{GoesOn}

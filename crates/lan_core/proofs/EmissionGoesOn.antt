@@ -1,7 +1,7 @@
 -- The oldest frame that waits is put on the air.
 use Rattle.std.proofs.Common.{◌≡◌, ◌≤◌, ◌+◌, ℕ, zero, suc, true, List, [], ◌∷◌, ◌++◌, length, map, drop}
 use Rattle.std.proofs.Common.{Option, Some, None, refl, ap, subst, arith}
-use Rattle.std.specs.Prelude.{option_map, slice_get, sum}
+use Rattle.std.specs.Prelude.{option_map, slice_get}
 use Rattle.std.specs.Option.{option_or}
 use Rattle.std.proofs.lemmas.List.{append-nil, length-map}
 use Rattle.lan_base.specs.declared.frame.UserFrame.{UserFrame}

@@ -1,20 +1,16 @@
 -- Frames are numbered in the order in which they are put on the air.
-use Rattle.std.proofs.Common.{◌≡◌, ◌+◌, ℕ, Bool, true, false, cond, List, [], ◌∷◌, ◌++◌, length, map}
+use Rattle.std.proofs.Common.{◌≡◌, ◌+◌, ℕ, Bool, true, false, cond, List, [], ◌∷◌, length}
 use Rattle.std.proofs.Common.{◌≤◌, ◌↔◌, is_some, IsTrue, arith}
 use Rattle.std.proofs.lemmas.Bool.{eqb-true, eqb-false}
 use Rattle.std.specs.List.{find}
 use Rattle.std.proofs.Common.{Option, Some, None, Result, Ok, Err, refl, subst}
 use Rattle.std.specs.Prelude.{option_map, option_and_then, option_to_list}
-use Rattle.lan_base.specs.declared.address.Mi.{Mi}
 use Rattle.lan_base.specs.declared.frame.UserFrame.{UserFrame}
 use Rattle.gcm_frames.specs.Tags.{is_sec}
 use Rattle.mkpdu_codec.specs.declared.announcement.Announcement.{Announcement}
 use Rattle.rx_slots.specs.Numbers.{answer}
-use Rattle.sak_exchange.specs.declared.change.Change.{Change}
-use Rattle.sak_exchange.specs.declared.change.Change.TheVariants as changes
 use Rattle.mka_station.specs.declared.reaction.Reaction.{Reaction}
 use Rattle.mka_station.specs.declared.verdict.DropReason.{DropReason}
-use Rattle.mka_station.specs.declared.verdict.Verdict.{Verdict}
 use Rattle.mka_station.specs.Lives.{Member, Entry}
 use Rattle.mka_station.specs.Hearing.{judged, hear_turn, heard_turn, frame_turn}
 use Rattle.mka_station.specs.Restart.{ending}
@@ -27,7 +23,7 @@ use Rattle.lan_core.specs.Run.{Run, stations}
 use Rattle.lan_core.specs.Ledgers.{Frame, framed, gather, air, next_frame, frame_at, AreNumbered}
 use Rattle.lan_core.specs.Lives.{Life, life, receiving, turn_at_tick, transmitting_at}
 use Rattle.lan_core.specs.Claims.{waiting, frame_of_claim}
-use Rattle.lan_core.specs.Expected.{change_fact, reaction_facts, tick_facts, reached_facts, restart_facts}
+use Rattle.lan_core.specs.Expected.{reaction_facts, tick_facts, reached_facts, restart_facts}
 use Rattle.lan_core.specs.Expected.{claim_fact, number_fact, lack, emit_facts, expected, drawn_in, Drawn}
 use Rattle.lan_core.specs.Legal.{IsStepped}
 use Rattle.sak_exchange.specs.declared.held_key.Key.{Key}

@@ -1,5 +1,5 @@
 -- Lists, place by place.
-use Rattle.std.proofs.Common.{◌≡◌, ◌≢◌, ◌<◌, ◌+◌, ℕ, zero, suc, List, [], ◌∷◌, ◌++◌, length, map, drop, Some, None, refl, arith}
+use Rattle.std.proofs.Common.{◌≡◌, ◌≢◌, ◌<◌, ℕ, zero, suc, List, [], ◌∷◌, ◌++◌, length, map, drop, Some, None, refl, arith}
 use Rattle.std.specs.Prelude.{slice_get, set}
 
 pub set-here : {A : Type 0} (xs : List A) (s : ℕ) (old new : A) → slice_get xs s ≡ Some old

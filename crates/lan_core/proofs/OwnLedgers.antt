@@ -20,7 +20,7 @@ use Rattle.lan_core.specs.declared.fact.Fact.{Fact}
 use Rattle.lan_core.specs.declared.fact.Fact.TheVariants as facts
 use Rattle.lan_core.specs.declared.settings.Settings.{Settings}
 use Rattle.lan_core.specs.Run.{Run}
-use Rattle.lan_core.specs.Ledgers.{gather, install_of, Install, framed, Frame}
+use Rattle.lan_core.specs.Ledgers.{gather, install_of, Install}
 use Rattle.lan_core.specs.Lives.{Life, receiving, slot_change, drawn_mi, drawn_sak, turn_at_tick}
 use Rattle.lan_core.specs.Expected.{change_fact, reaction_facts, tick_facts, reached_facts, restart_facts}
 use Rattle.lan_core.specs.Ledgers.{next_frame}

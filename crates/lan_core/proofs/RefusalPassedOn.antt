@@ -8,7 +8,7 @@ use Rattle.lan_core.specs.declared.settings.Settings.{Settings}
 use Rattle.lan_core.specs.declared.stop.Stop.{Stop}
 use Rattle.lan_core.specs.declared.stop.Stop.TheVariants.{DrawsSpent}
 use Rattle.lan_core.specs.declared.stop.StepError.{StepError}
-use Rattle.lan_core.specs.declared.stop.StepError.TheVariants.{Stopped, Memory}
+use Rattle.lan_core.specs.declared.stop.StepError.TheVariants.{Stopped}
 use Rattle.mka_station.specs.declared.tick_error.TickError.{TickError}
 use Rattle.mka_station.specs.declared.tick_error.TickError.TheVariants as faults
 use Rattle.lan_core.specs.inside.Faults.{error_of_fault}

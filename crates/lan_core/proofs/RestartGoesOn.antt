@@ -15,13 +15,12 @@ use Rattle.lan_core.specs.declared.came.Came.{Came}
 use Rattle.lan_core.specs.declared.event.Event.{Event}
 use Rattle.lan_core.specs.declared.event.Event.TheVariants as events
 use Rattle.lan_core.specs.declared.fact.Fact.{Fact}
-use Rattle.lan_core.specs.declared.fact.Fact.TheVariants as facts
 use Rattle.lan_core.specs.declared.settings.Settings.{Settings}
 use Rattle.lan_core.specs.declared.stop.Stop.{Stop}
 use Rattle.lan_core.specs.declared.stop.Stop.TheVariants.{DrawsSpent, RepeatedDraw}
 use Rattle.lan_core.specs.declared.stop.Which.TheVariants.{Keys}
 use Rattle.lan_core.specs.Run.{Run, Happening, happened, Profile, stations}
-use Rattle.lan_core.specs.Ledgers.{Frame, air, installs, installs_at, framed, gather}
+use Rattle.lan_core.specs.Ledgers.{Frame, air, installs_at, framed, gather}
 use Rattle.lan_core.specs.Lives.{Life, life, receiving, setup_of, drawn_mi, slot_change}
 use Rattle.lan_core.specs.Expected.{expected, drawn_from, restart_facts, reaction_facts}
 use Rattle.lan_core.specs.Order.{ticks, most_installs}

@@ -1,9 +1,9 @@
 -- The receive slots and the counts of a station follow the changes of its keys.
-use Rattle.std.proofs.Common.{◌≡◌, ◌∙◌, ◌+◌, ◌<◌, ◌≤◌, ℕ, Bool, true, false, cond, not, List, [], ◌∷◌, ◌++◌, length, map, take, drop, get_or, zero, suc, add-one, Option, Some, None, Result, Ok, Err, refl, ap, subst, arith}
+use Rattle.std.proofs.Common.{◌≡◌, ◌∙◌, ◌+◌, ◌<◌, ◌≤◌, ℕ, Bool, true, false, cond, List, [], ◌∷◌, ◌++◌, length, map, take, drop, get_or, add-one, Option, Some, None, Result, Ok, Err, refl, ap, arith}
 use Rattle.std.proofs.Math.Seq.{take-suc}
 use Rattle.std.proofs.lemmas.List.{take-append-drop}
 use Rattle.std.specs.Prelude.{◌==◌, option_map, option_to_list}
-use Rattle.std.specs.List.{filter, find}
+use Rattle.std.specs.List.{filter}
 use Rattle.lan_base.specs.declared.address.Mi.{Mi}
 use Rattle.lan_base.specs.declared.address.Sci.{Sci}
 use Rattle.lan_base.specs.declared.association_number.AssociationNumber.TheVariants.{An0}
@@ -18,9 +18,8 @@ use Rattle.sak_exchange.specs.declared.change.Why.{Why}
 use Rattle.sak_exchange.specs.declared.due.Seen.{Seen}
 use Rattle.sak_exchange.specs.declared.offer.Offer.{Offer}
 use Rattle.sak_exchange.specs.declared.held_key.Key.{Key}
-use Rattle.sak_exchange.specs.Histories.{Keying, ticked as keys_ticked, installed as keys_installed, began as keys_began, installs, install_count, last_key, last_begun}
-use Rattle.sak_exchange.specs.Held.{latest, old, transmitting, received, ends, held, has_epoch, is_latest, is_retire_time_ago}
-use Rattle.sak_exchange.specs.Histories.{clock as keys_clock, begun_at}
+use Rattle.sak_exchange.specs.Histories.{Keying, installed as keys_installed, install_count}
+use Rattle.sak_exchange.specs.Held.{received, ends, held}
 use Rattle.sak_exchange.specs.Beginning.{Beginning, retired}
 use Rattle.sak_exchange.specs.Making.{made_roster}
 use Rattle.sak_exchange.specs.Taking.{taken}
@@ -28,8 +27,7 @@ use Rattle.sak_exchange.specs.Unwrapping.{given_sak}
 use Rattle.sak_exchange.specs.Outcomes.{beginning, installing}
 use Rattle.mka_station.specs.declared.reaction.Reaction.{Reaction}
 use Rattle.mka_station.specs.declared.verdict.DropReason.{DropReason}
-use Rattle.mka_station.specs.declared.verdict.Verdict.{Verdict}
-use Rattle.mka_station.specs.Lives.{Member, Entry, ticked, sent, heard, peers_of, keys_of}
+use Rattle.mka_station.specs.Lives.{Member, Entry, ticked, heard, peers_of, keys_of}
 use Rattle.mka_station.specs.Views.{View, view, reports}
 use Rattle.mka_station.specs.Announcing.{says_now, lowest_in}
 use Rattle.mka_station.specs.Tick.{tick_turn, led, made, ended, with_beginning, with_install, with_sent, install_changes}

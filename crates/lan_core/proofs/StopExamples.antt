@@ -1,6 +1,6 @@
 -- What stops an event, worked by hand at small runs: no draws left, a limit, a draw that repeats,
 -- foreign octets that are forged. Ciphers stay closed.
-use Rattle.std.proofs.Common.{◌≡◌, ◌≢◌, ◌∙◌, ◌≤◌, ◌+◌, ℕ, zero, suc, true, false, cond, List, [], ◌∷◌, ◌++◌, length, map}
+use Rattle.std.proofs.Common.{◌≡◌, ◌≢◌, ◌∙◌, ◌≤◌, ℕ, zero, suc, true, false, cond, List, [], ◌∷◌, ◌++◌, length, map}
 use Rattle.std.proofs.Common.{Option, Some, None, refl, ap, arith}
 use Rattle.std.specs.Prelude.{◌==◌, replicate, nat_lt, sum, is_some}
 use Rattle.std.proofs.lemmas.List.{length-replicate}

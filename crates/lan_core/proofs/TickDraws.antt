@@ -1,5 +1,5 @@
 -- What a tick draws: the SAK of the key that it makes, and nothing where it makes none.
-use Rattle.std.proofs.Common.{◌≡◌, ◌∙◌, ◌<◌, ◌+◌, ◌*◌, ℕ, Bool, true, false, cond, List, []}
+use Rattle.std.proofs.Common.{◌≡◌, ◌∙◌, ◌<◌, ◌*◌, ℕ, Bool, true, false, cond, List, []}
 use Rattle.std.proofs.Common.{◌∷◌, ◌++◌, length, map}
 use Rattle.std.proofs.Common.{Option, Some, None, refl, sym, ap, subst, arith, filter}
 use Rattle.std.specs.Prelude.{◌==◌, option_map, option_and_then, option_to_list, is_none, unwrap_or}

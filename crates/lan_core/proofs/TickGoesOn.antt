@@ -1,31 +1,19 @@
 -- A tick at a station of a group.
-use Rattle.std.proofs.Common.{◌≡◌, ◌+◌, ◌-◌, ℕ, Bool, true, false, cond, List, [], ◌∷◌, ◌++◌, length, map}
+use Rattle.std.proofs.Common.{◌≡◌, ◌+◌, ℕ, Bool, true, false, cond, List, ◌∷◌, ◌++◌, length}
 use Rattle.std.proofs.Common.{Option, Some, None, refl, ap, sym, subst, arith}
-use Rattle.std.specs.Prelude.{◌&&◌, option_map, option_and_then, option_to_list, slice_get, sum, is_none, unwrap_or}
+use Rattle.std.specs.Prelude.{◌&&◌, option_map, option_and_then, option_to_list, slice_get, is_none}
 use Rattle.std.specs.Option.{option_or}
 use Rattle.std.specs.List.{filter}
 use Rattle.std.proofs.lemmas.Bool.{ne_eqb}
 use Rattle.std.proofs.lemmas.List.{append-nil, length-map}
-use Rattle.lan_base.specs.declared.address.Mi.{Mi}
 use Rattle.lan_base.specs.declared.frame.UserFrame.{UserFrame}
 use Rattle.lan_base.specs.declared.suite.Suite.{Suite}
 use Rattle.lan_base.specs.declared.suite.Suite.TheVariants.{GcmAes128, GcmAes256}
 use Rattle.lan_base.specs.Suites.{sak_draws}
 use Rattle.aes_block.specs.declared.secret.Secret.{Secret}
 use Rattle.aes_block.specs.declared.secret.Secret.TheVariants.{S128, S256}
-use Rattle.sak_exchange.specs.declared.change.Change.{Change}
-use Rattle.sak_exchange.specs.declared.change.Change.TheVariants as changes
-use Rattle.sak_exchange.specs.declared.due.Seen.{Seen}
-use Rattle.sak_exchange.specs.declared.held_key.Key.{Key}
-use Rattle.sak_exchange.specs.Histories.{Keying}
-use Rattle.sak_exchange.specs.Held.{held, received, ends}
-use Rattle.sak_exchange.specs.Beginning.{Beginning, retired}
-use Rattle.sak_exchange.specs.Making.{made_roster}
-use Rattle.sak_exchange.specs.Outcomes.{beginning}
-use Rattle.mka_station.specs.Lives.{Member, Entry, ticked}
-use Rattle.mka_station.specs.Views.{view, reports}
-use Rattle.mka_station.specs.Announcing.{says_now, lowest_in, frame_of}
-use Rattle.mka_station.specs.Tick.{Turn, tick_turn, new_server, ended, with_beginning, led, makes_now, made, with_install, install_changes, with_sent}
+use Rattle.sak_exchange.specs.Held.{ends}
+use Rattle.mka_station.specs.Tick.{Turn}
 use Rattle.mka_station.specs.Drawing.{next_sak, sak_of, makes_next, is_short}
 use Rattle.lan_core.specs.declared.came.Came.{Came}
 use Rattle.lan_core.specs.declared.event.Event.TheVariants as events
@@ -36,8 +24,8 @@ use Rattle.lan_core.specs.declared.stop.Stop.TheVariants.{Limit, DrawsSpent, Rep
 use Rattle.lan_core.specs.declared.stop.Which.{Which}
 use Rattle.lan_core.proofs.FramesNumbered.{by_event}
 use Rattle.lan_core.specs.Run.{Run, Happening, happened, Profile, stations}
-use Rattle.lan_core.specs.Ledgers.{Frame, air, installs, framed, gather, next_frame}
-use Rattle.lan_core.specs.Lives.{Life, life, receiving, setup_of, drawn_mi, drawn_sak, sak_in, no_sak, seen_at, lived_ticking, turn_at_tick}
+use Rattle.lan_core.specs.Ledgers.{Frame, air, framed, gather, next_frame}
+use Rattle.lan_core.specs.Lives.{Life, life, receiving, setup_of, drawn_mi, drawn_sak, sak_in, seen_at, lived_ticking, turn_at_tick}
 use Rattle.lan_core.specs.Expected.{expected, drawn_from, tick_facts}
 use Rattle.lan_core.specs.Order.{ticks}
 use Rattle.lan_core.specs.Stops.{draws_needed, draws_in, is_spent, first_stop, passed, sak_of_tick, mi_number, sak_number}
@@ -47,7 +35,7 @@ use Rattle.lan_core.specs.Answers.{GoesOn}
 use Rattle.lan_core.specs.inside.Limits.{passed_with}
 use Rattle.lan_core.specs.inside.Shown.{sent_in}
 use Rattle.lan_core.specs.inside.Drawing.{stop_of, IfNoted}
-use Rattle.lan_core.proofs.OwnLedgers.{AreOf, tick-is-of, reaction-sends, reaction-begins-none, reaction-installs, installed_by}
+use Rattle.lan_core.proofs.OwnLedgers.{AreOf, tick-is-of, reaction-sends, reaction-begins-none}
 use Rattle.lan_core.proofs.Reactions.{reaction-air}
 use Rattle.lan_core.proofs.TickDraws.{sak-shown, turn-same}
 use Rattle.lan_core.proofs.LimitsPassed.{passed-is}

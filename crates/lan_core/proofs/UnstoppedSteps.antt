@@ -1,7 +1,7 @@
 -- An unstopped event is a step.
 use Rattle.std.proofs.Common.{◌≡◌, ◌∙◌, ◌⊎◌, ℕ, Bool, true, false, cond, List, [], ◌∷◌, length}
 use Rattle.std.proofs.Common.{Option, Some, None, inl, inr, refl, sym, ap, subst}
-use Rattle.std.specs.Prelude.{option_map, option_and_then, unwrap_or}
+use Rattle.std.specs.Prelude.{option_map, option_and_then}
 use Rattle.std.specs.Option.{option_or}
 use Rattle.lan_base.specs.declared.address.Mi.{Mi}
 use Rattle.lan_base.specs.declared.frame.UserFrame.{UserFrame}
@@ -21,7 +21,7 @@ use Rattle.lan_core.specs.Run.{Run, Happening, happened, stations}
 use Rattle.lan_core.specs.Lives.{Life, life, seen_at, drawn_sak, sak_in, transmitting_at}
 use Rattle.lan_core.specs.Claims.{user_at}
 use Rattle.lan_core.specs.Expected.{expected, drawn_in, tick_facts, restart_facts}
-use Rattle.lan_core.specs.Types.{IsSetting, IsMi, IfDrawn}
+use Rattle.lan_core.specs.Types.{IsMi, IfDrawn}
 use Rattle.lan_core.specs.Order.{IsAllowed, IsShown, IsClaimable, IsSendable, IsOfSuite}
 use Rattle.lan_core.specs.Legal.{IsStep, IsStepped, IsLegal}
 use Rattle.lan_core.specs.Fresh.{IsFresh, IsUnforged}

@@ -81,7 +81,7 @@ abbrev pub reached_facts : Settings → ℕ → Run → ℕ → List ℕ → Lif
 reached_facts settings s r number octets l =
     if is_sec octets
     then facts.Arrived number s
-        (answer l.member.setup.sci settings.window (receiving s r) octets) ∷ []
+    (answer l.member.setup.sci settings.window (receiving s r) octets) ∷ []
     else reaction_facts s number 0 (frame_turn l.member octets l.past).reaction
 
 -- a new life, and what the end of the one before shows

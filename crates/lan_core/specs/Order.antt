@@ -116,7 +116,8 @@ IsAllowed settings users r x (events.Claim s user pn) =
     Exists s r × ((pn ≡ 0) ⊎ (IsClaimable settings s r pn (transmitting_at settings s r)
     × IsSendable (user_at users user)))
 IsAllowed settings users r x events.Emit = is_some (waiting settings r) ≡ true
-IsAllowed settings users r x (events.Inject s octets) = Exists s r × (length octets ≤ most_frame_octets)
+IsAllowed settings users r x (events.Inject s octets) =
+    Exists s r × (length octets ≤ most_frame_octets)
 
 -- an event with its facts is in order after a run
 abbrev pub IsInOrder : Settings → List UserFrame → Run → Happening → Type 0

@@ -169,4 +169,4 @@ unfoldable pub first_stop : Settings → List UserFrame → Run → Event → (�
 first_stop settings users r event nth =
     if is_spent (draws_needed settings r event) nth then Some DrawsSpent
     else option_and_then (stop_at settings r event)
-        (expected settings users r event (drawn_from settings.suite nth))
+    (expected settings users r event (drawn_from settings.suite nth))

@@ -4,6 +4,7 @@
 
 mod air;
 mod came;
+mod claimed;
 mod drawn;
 mod event;
 mod fact;
@@ -15,6 +16,7 @@ mod limits;
 mod names;
 mod seat;
 mod seats;
+mod sender;
 mod settings;
 mod spellings;
 mod stop;

@@ -2,7 +2,9 @@
 
 ghost use Rattle.std.specs.Prelude.{◌≡◌, ◌≤◌, ◌<◌, ◌+◌, ◌^◌, ◌∷◌, [], List, ℕ, length, true, false, Err, IfOk, IfSome, OnOk, Option, option_map, option_to_list};
 ghost use Rattle.std.specs.List.{find};
+ghost use Rattle.std.specs.Option.{option_copied};
 ghost use Rattle.lan_base.specs.AssociationNumbers.{same_an};
+ghost use Rattle.lan_base.specs.declared.frame.UserFrame.{UserFrame};
 ghost use Rattle.lan_base.specs.Ranges.{IsUserData, most_frame_octets};
 ghost use Rattle.aes_block.specs.Secrets.{secret_octets};
 ghost use Rattle.gcm_frames.specs.Protected.{protected};
@@ -20,28 +22,25 @@ ghost use Rattle.lan_core.specs.Lives.{Life, keys_in, receiving, seen_at, slot_c
 ghost use Rattle.lan_core.specs.Expected.{tick_facts, reached_facts, reaction_facts, restart_facts};
 ghost use Rattle.lan_core.specs.Keys.{held_under};
 ghost use Rattle.lan_core.specs.Standing.{Sits};
-ghost use Rattle.lan_core.specs.inside.Seats.{installs_in};
+ghost use Rattle.lan_core.specs.inside.Seats.{Claims, installs_in};
 ghost use Rattle.lan_core.specs.inside.Following.{count_installed, followed, tells_sec};
 ghost use Rattle.mka_station.specs.Tick.{tick_turn};
 ghost use Rattle.mka_station.specs.Hearing.{frame_turn};
 ghost use Rattle.mka_station.specs.Restart.{ending};
 ghost use Rattle.gcm_frames.specs.Tags.{is_sec};
 
+use crate::claimed::Claimed;
 use crate::fact::{Fact, Facts};
 use crate::following::{follow, installs_after, lowest_under};
+use crate::sender::Sender;
 use crate::telling::{one, tell, told};
-use aes_block::Key;
-use gcm_core::GcmKey;
-use gcm_frames::{Tag, TagRefusal, protect, tag_of};
-use lan_base::{AssociationNumber, Draws, Octets, UserFrame};
+use gcm_frames::{Tag, TagRefusal, tag_of};
+use lan_base::{AssociationNumber, Draws, Octets, UserFrame, is_user_data};
 use mka_station::{Config, Reaction, Station, TickError, law_room, law_turns_count};
 use rx_slots::RxSlots;
-use sak_exchange::{HeldKey, Seen};
+use sak_exchange::{HeldKey, Key, Seen};
 use std::alloc::{AllocError, Global};
 use std::marker::Model;
-
-/// How many octets stand around the user data of a protected frame.
-const AROUND: usize = 44;
 
 /// A station in one of its lives, with its receive slots, which it keeps over all its lives.
 #[derive(Drop)]
@@ -49,6 +48,8 @@ pub struct Seat {
     alloc: Global,
     station: Station,
     slots: RxSlots,
+    /// The key under which the station last sent.
+    sender: Option<Sender>,
     /// How many ticks the life has.
     ticks: u32,
     /// How many keys the station installed, over all its lives.
@@ -91,13 +92,14 @@ impl Seat {
             alloc,
             station,
             slots: RxSlots::new(alloc, sci, window),
+            sender: None,
             ticks: 0,
             installs: 0,
         })
     }
 
     /// A tick at the station, which stands at this place, where the next frame of the air has this
-    /// number.
+    /// packet number.
     pub fn tick<D: Draws>(
         &mut self,
         place: u8,
@@ -372,29 +374,63 @@ impl Seat {
         self.installs
     }
 
-    /// The frame of a user, protected under the key that transmits, if one does.
-    pub fn protected(&self, pn: u32, user: &UserFrame) -> Result<Option<Octets>, AllocError>
-        requires pn { 1 ≤ pn }
-        requires user { IsUserData user.now.body }
-        ensures { (window : ℕ) (l : Life) (h : List Receiving) → Sits window l h self.now →
-            IfOk result (λ octets. octets ≡ option_map (λ k. protected (secret_octets k.sak)
-            l.member.setup.sci k.an pn k.conf user.now) (transmitting_after (keys_in l))) }
+    /// What a claim of a packet number comes to at the station, with its user frame. The key that
+    /// transmits is prepared for the first frame that is sent under it, and kept.
+    pub fn claim(&mut self, pn: u32, user: Option<&UserFrame>) -> Result<Claimed, AllocError>
+        ensures claims { (window : ℕ) (l : Life) (h : List Receiving) → Sits window l h self.old →
+            IfOk result (Claims l pn (option_copied user.entry)) }
+        ensures same { self.new ≡ self.old }
     {
-        let Some(HeldKey { key, .. }) = self.station.transmitting() else {
+        let key = self.station.transmitting();
+        let octets = self.sealed(key, pn, user)?;
+        Ok(Claimed { key, octets })
+    }
+
+    /// The frame of a user, protected under a key of the station, where there are a key and a
+    /// packet number.
+    fn sealed(
+        &mut self,
+        held: Option<HeldKey>,
+        pn: u32,
+        user: Option<&UserFrame>,
+    ) -> Result<Option<Octets>, AllocError>
+        ensures none { pn ≡ 0 → IfOk result (λ octets. octets ≡ None) }
+        ensures octets { (given : UserFrame) → 1 ≤ pn → option_copied user.entry ≡ Some given
+            → IsUserData given.body
+            → IfOk result (λ octets. octets ≡ option_map (λ h. protected
+            (secret_octets h.key.sak) self.old.station.setup.sci h.key.an pn h.key.conf given)
+            held) }
+        ensures same { self.new ≡ self.old }
+    {
+        let Some(held) = held else {
             return Ok(None);
         };
-        let mut frame = Vec::with_capacity(self.alloc, user.body.len() + AROUND)?;
+        match user {
+            Some(user) if pn > 0 && is_user_data(user.body.as_slice()) => {
+                Ok(Some(self.protected(&held.key, pn, user)?))
+            }
+            _ => Ok(None),
+        }
+    }
+
+    /// The frame of a user, protected under a key of the station.
+    fn protected(&mut self, key: &Key, pn: u32, user: &UserFrame) -> Result<Octets, AllocError>
+        requires pn { 1 ≤ pn }
+        requires user { IsUserData user.now.body }
+        ensures octets { IfOk result (λ octets. octets ≡ protected (secret_octets key.now.sak)
+            self.old.station.setup.sci key.now.an pn key.now.conf user.now) }
+        ensures same { self.new ≡ self.old }
+    {
         let sci = self.station.sci();
-        protect(
-            &GcmKey::of(Key::of(&key.sak)),
-            sci,
-            key.an,
-            pn,
-            key.conf,
-            user,
-            &mut frame,
-        );
-        Ok(Some(Octets::of(frame)))
+        match &self.sender {
+            Some(sender) if sender.is_of(&key.sak) => sender.frame(self.alloc, sci, key, pn, user),
+            _ => {
+                let sender = Sender::of(&key.sak);
+                let octets = sender.frame(self.alloc, sci, key, pn, user);
+                self.sender = Some(sender);
+                octets
+            }
+        }
     }
 }
 

@@ -1,8 +1,10 @@
 //! The stations of a group, by their places.
 
-ghost use Rattle.std.specs.Prelude.{◌≡◌, ◌≤◌, ◌++◌, ◌∷◌, ◌⊎◌, [], true, length, slice_get, Option, Some, IsSomeAnd, IfOk, IfErr, OnOk, List};
+ghost use Rattle.std.specs.Prelude.{◌≡◌, ◌≤◌, ◌++◌, ◌∷◌, ◌⊎◌, ℕ, [], true, length, slice_get, Option, Some, IsSomeAnd, IfOk, IfErr, OnOk, List};
 ghost use Rattle.std.specs.Option.{option_copied};
+ghost use Rattle.lan_base.specs.declared.frame.UserFrame.{UserFrame};
 ghost use Rattle.lan_base.specs.Ranges.{most_frame_octets};
+ghost use Rattle.rx_slots.specs.Histories.{Receiving};
 ghost use Rattle.mka_station.specs.Drawing.{is_short};
 ghost use Rattle.mka_station.specs.declared.tick_error.TickError.{TickError};
 ghost use Rattle.lan_core.specs.declared.settings.Settings.{Settings};
@@ -10,11 +12,12 @@ ghost use Rattle.lan_core.specs.Run.{Run};
 ghost use Rattle.lan_core.specs.Ledgers.{next_frame};
 ghost use Rattle.lan_core.specs.Lives.{Life, receiving, seen_at};
 ghost use Rattle.lan_core.specs.Standing.{Seat, Sits};
-ghost use Rattle.lan_core.specs.inside.Seats.{Ticks, Reaches, Restarts};
+ghost use Rattle.lan_core.specs.inside.Seats.{Claims, Ticks, Reaches, Restarts};
 
 use crate::came::Came;
+use crate::claimed::Claimed;
 use crate::seat::Seat;
-use lan_base::Draws;
+use lan_base::{Draws, UserFrame};
 use mka_station::TickError;
 use std::alloc::{AllocError, Global};
 use std::marker::Model;
@@ -126,5 +129,24 @@ impl Seats {
         let facts = seat.restart(place, draw)?;
         let installs = seat.installs();
         Ok(Some(Came { facts, installs }))
+    }
+
+    /// What a claim of a packet number comes to at a station, if it is there, with its user frame.
+    pub fn claim(
+        &mut self,
+        place: u8,
+        pn: u32,
+        user: Option<&UserFrame>,
+    ) -> Result<Option<Claimed>, AllocError>
+        ensures claimed { (window : ℕ) (h : List Receiving) (seat : Seat) (l : Life)
+            → slice_get self.old place ≡ Some seat → Sits window l h seat
+            → IfOk result (λ claimed. IsSomeAnd claimed (Claims l pn (option_copied user.entry))) }
+        ensures same { OnOk result (self.new ≡ self.old) }
+    {
+        let Some(seat) = self.seats.get_mut(place as usize) else {
+            return Ok(None);
+        };
+        let claimed = seat.claim(pn, user)?;
+        Ok(Some(claimed))
     }
 }

@@ -1,15 +1,21 @@
 -- What an event comes to at the seat of its station.
-use Rattle.std.specs.Prelude.{◌≡◌, ◌≢◌, ℕ, ◌+◌, false, List, [], ◌∷◌, slice_get, Option, Some}
+use Rattle.std.specs.Prelude.{◌≡◌, ◌≢◌, ◌≤◌, ℕ, ◌+◌, false, List, [], ◌∷◌, slice_get, Option, Some, None, option_map}
+use Rattle.lan_base.specs.declared.frame.UserFrame.{UserFrame}
+use Rattle.lan_base.specs.Ranges.{IsUserData}
+use Rattle.aes_block.specs.Secrets.{secret_octets}
+use Rattle.gcm_frames.specs.Protected.{protected}
+use Rattle.sak_exchange.specs.Held.{held, transmitting}
 use Rattle.rx_slots.specs.Histories.{Receiving}
 use Rattle.mka_station.specs.Drawing.{sak_of, is_short, draws_at}
 use Rattle.mka_station.specs.Standing.{drawn_mi, reborn}
 use Rattle.lan_core.specs.declared.came.Came.{Came}
+use Rattle.lan_core.specs.declared.claimed.Claimed.{Claimed}
 use Rattle.lan_core.specs.declared.fact.Fact.{Fact}
 use Rattle.lan_core.specs.declared.fact.Fact.TheVariants as facts
 use Rattle.lan_core.specs.declared.settings.Settings.{Settings}
 use Rattle.lan_core.specs.Run.{Run}
 use Rattle.lan_core.specs.Ledgers.{gather}
-use Rattle.lan_core.specs.Lives.{Life, receiving, seen_at, slot_change, heard_data, lived_ticking, lived_hearing}
+use Rattle.lan_core.specs.Lives.{Life, keys_in, receiving, seen_at, slot_change, heard_data, lived_ticking, lived_hearing}
 use Rattle.lan_core.specs.Expected.{tick_facts, reached_facts, restart_facts}
 use Rattle.lan_core.specs.Standing.{Seat, Sits}
 
@@ -60,3 +66,12 @@ pub record Restarts (settings : Settings) (r : Run) (s : ℕ) (seat : Seat) (l :
   pub counted : came.installs ≡ seat.installs + installs_in came.facts
   pub moved : IsMoved settings.window (record { member = reborn l.member l.past draw; past = [] })
       (gather (slot_change s) came.facts (receiving s r)) s old new came.installs
+
+-- a claim of a packet number at a station, with this user frame: the key that transmits, and, where
+-- there is a number, the frame that it protects
+pub record Claims (l : Life) (pn : ℕ) (given : Option UserFrame) (claimed : Claimed) : Type 0 where
+  pub key : claimed.key ≡ option_map (held (keys_in l)) (transmitting (keys_in l))
+  pub none : pn ≡ 0 → claimed.octets ≡ None
+  pub octets : (user : UserFrame) → 1 ≤ pn → given ≡ Some user → IsUserData user.body
+      → claimed.octets ≡ option_map (λ k. protected (secret_octets k.sak)
+      l.member.setup.sci k.an pn k.conf user) (transmitting (keys_in l))

@@ -1,5 +1,5 @@
 -- What the frames of the air spell, as it is looked up.
-use Rattle.std.specs.Prelude.{◌≡◌, ◌≤◌, ℕ, ◌+◌, nat_eq, Bool, false, ◌||◌, List, ◌++◌, map, sum, take, length, All, Option, Some, None, Result, Ok, Err}
+use Rattle.std.specs.Prelude.{◌≡◌, ◌≤◌, ℕ, nat_eq, Bool, false, ◌||◌, List, ◌++◌, map, sum, take, length, All, Option, Some, None, Result, Ok, Err}
 use Rattle.std.specs.List.{list_any}
 use Rattle.lan_base.specs.Ranges.{most_frame_octets}
 use Rattle.mkpdu_codec.specs.declared.spelled.Spelled.{Spelled}

@@ -65,13 +65,11 @@ impl Lan {
         ensures shown { OnErr result ((self.new.air ≡ self.old.air)
             × (self.new.names ≡ self.old.names)) }
     {
-        let Some(seat) = self.seats.get(station) else {
+        let Some(claimed) = self.seats.claim(station, pn, user)? else {
             return Ok(Facts::new(self.alloc));
         };
-        let key = seat.transmitting();
-        let octets = sealed(seat, pn, user)?;
-        let facts = one(self.alloc, claim_fact(station, pn, key))?;
-        wait(&mut self.waiting, station, octets)?;
+        let facts = one(self.alloc, claim_fact(station, pn, claimed.key))?;
+        wait(&mut self.waiting, station, claimed.octets)?;
         Ok(facts)
     }
 
@@ -148,21 +146,6 @@ fn claim_fact(station: u8, pn: u32, held: Option<HeldKey>) -> Fact
         an: held.key.an,
         epoch: held.key.epoch,
         pn,
-    }
-}
-
-/// The frame of a claim that got a packet number, protected under the key that transmits.
-fn sealed(seat: &Seat, pn: u32, user: Option<&UserFrame>) -> Result<Option<Octets>, AllocError>
-    ensures none { pn ≡ 0 → IfOk result (λ octets. octets ≡ None) }
-    ensures octets { (window : ℕ) (l : Life) (h : List Receiving) (given : UserFrame)
-        → Sits window l h seat.now
-        → 1 ≤ pn → option_copied user.entry ≡ Some given → IsUserData given.body
-        → IfOk result (λ octets. octets ≡ option_map (λ k. protected (secret_octets k.sak)
-        l.member.setup.sci k.an pn k.conf given) (transmitting (keys_in l))) }
-{
-    match user {
-        Some(user) if pn > 0 && is_user_data(user.body.as_slice()) => seat.protected(pn, user),
-        _ => Ok(None),
     }
 }
 

@@ -1,4 +1,4 @@
-use Rattle.std.proofs.Common.{◌≡◌, true, false, get_or, sym, arith, []}
+use Rattle.std.proofs.Common.{◌≡◌, true, get_or, sym, arith, []}
 use Rattle.std.specs.Prelude.{nat_eq}
 use lib.Pointwise.{pointwise}
 use Rattle.lan_core.proofs.NamePlaced.{placed, nowhere}

@@ -1,6 +1,5 @@
 use Rattle.std.proofs.Common.{refl, sym, subst}
 use Rattle.aes_block.specs.declared.secret.Secret.{Secret}
-use Rattle.aes_block.specs.declared.secret.Secret.TheVariants.{S128, S256}
 use Rattle.lan_core.specs.Standing.{Numbers}
 use Rattle.lan_core.specs.inside.Drawing.{SakIsKept}
 use Rattle.lan_core.proofs.DrawsLookedUp.{narrow_kept, wide_kept}

@@ -1,4 +1,4 @@
-use Rattle.std.proofs.Common.{◌≡◌, ◌+◌, ◌++◌, List, length, Option, None, rules, subst}
+use Rattle.std.proofs.Common.{◌≡◌, ◌+◌, ◌++◌, length, Option, None, rules, subst}
 use Rattle.std.specs.Prelude.{option_map, option_and_then, option_to_list}
 use Rattle.aes_block.specs.declared.secret.Secret.{Secret}
 use Rattle.lan_core.specs.declared.stop.Stop.TheVariants.{Limit}

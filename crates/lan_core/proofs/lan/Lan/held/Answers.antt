@@ -1,4 +1,4 @@
-use Rattle.std.proofs.Common.{Some, None, refl, sym, subst}
+use Rattle.std.proofs.Common.{refl, sym, subst}
 use Rattle.lan_core.specs.Lives.{receiving}
 use Rattle.lan_core.specs.Standing.{StandsFor}
 use Rattle.lan_core.proofs.CarriedOver.{no-life, its-life}

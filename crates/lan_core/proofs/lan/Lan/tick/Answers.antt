@@ -1,4 +1,4 @@
-use Rattle.std.proofs.Common.{◌≡◌, ◌+◌, length, Some, ap, sym, subst}
+use Rattle.std.proofs.Common.{◌≡◌, ◌+◌, length, ap, sym, subst}
 use Rattle.lan_base.specs.Suites.{sak_draws}
 use Rattle.lan_core.specs.declared.event.Event.TheVariants as events
 use Rattle.lan_core.specs.Ledgers.{air, next_frame}

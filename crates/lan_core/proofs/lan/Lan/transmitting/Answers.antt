@@ -1,4 +1,4 @@
-use Rattle.std.proofs.Common.{◌≡◌, Some, None, refl, ap, sym, subst}
+use Rattle.std.proofs.Common.{◌≡◌, refl, ap, sym, subst}
 use Rattle.std.specs.Prelude.{option_map}
 use Rattle.sak_exchange.specs.Held.{transmitting}
 use Rattle.lan_core.specs.Lives.{receiving, keys_in}

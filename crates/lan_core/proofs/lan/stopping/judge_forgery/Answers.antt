@@ -1,4 +1,4 @@
-use Rattle.std.proofs.Common.{true, false, refl}
+use Rattle.std.proofs.Common.{refl}
 use Rattle.std.specs.List.{list_any}
 use Rattle.lan_core.specs.inside.Spellings.{repeats_octets}
 use Rattle.lan_core.proofs.Forgery.{forged-is, are-forged, not-right, not-new}

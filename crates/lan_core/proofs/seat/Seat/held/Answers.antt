@@ -1,7 +1,6 @@
-use Rattle.std.proofs.Common.{◌≡◌, ◌∙◌, ap, subst, sym}
-use Rattle.std.specs.Prelude.{option_map}
+use Rattle.std.proofs.Common.{◌∙◌, ap, subst, sym}
 use Rattle.std.specs.Option.{option_or}
-use Rattle.sak_exchange.specs.Held.{held, latest, old}
+use Rattle.sak_exchange.specs.Held.{latest, old}
 use Rattle.lan_core.specs.Lives.{keys_in}
 use Rattle.lan_core.specs.Standing.{Seat, Sits}
 use Rattle.lan_core.proofs.HeldByNumber.{held_numbered, of-two}
