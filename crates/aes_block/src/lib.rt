@@ -14,8 +14,6 @@ mod look_ups;
 mod secret;
 mod substitution;
 mod tables;
-#[cfg(test)]
-mod tests;
 
 pub use block::xored;
 pub use key::Key;

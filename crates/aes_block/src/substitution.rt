@@ -7,7 +7,7 @@ ghost use Rattle.aes_block.specs.inside.Halves.{changed, first_half, second_half
 
 use crate::look_ups::look_up;
 use crate::tables::{
-    INV_SUB_FIRST, INV_SUB_SECOND, INVERSES, INVERSES_OVER, OTHER_BASIS_HIGH, OTHER_BASIS_LOW,
+    INV_SUB_FIRST, INV_SUB_SECOND, INVERSES, CONSTANT_OVER, OTHER_BASIS_HIGH, OTHER_BASIS_LOW,
     SUB_FIRST, SUB_SECOND, UNDONE_HIGH, UNDONE_LOW,
 };
 use std::simd::prelude::*;
@@ -29,7 +29,7 @@ pub fn inverse_halves(octets: u8x16) -> (u8x16, u8x16)
 {
     let i = octets >> u8x16::splat(4);
     let k = octets & u8x16::splat(15);
-    let ak = look_up(INVERSES_OVER, k);
+    let ak = look_up(CONSTANT_OVER, k);
     let j = i ^ k;
     let iak = look_up(INVERSES, i) ^ ak;
     let jak = look_up(INVERSES, j) ^ ak;

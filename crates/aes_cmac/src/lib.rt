@@ -3,8 +3,6 @@
 
 mod block;
 mod running;
-#[cfg(test)]
-mod tests;
 mod whole;
 
 pub use running::Running;

@@ -7,8 +7,8 @@ use crate::hash_key::HashKey;
 use aes_block::Key;
 use std::marker::Model;
 
-/// A key, prepared for sealing and unsealing: its round keys, and the rows of its hash key. Contracts
-/// see it as the key's octets.
+/// A key, prepared for sealing and unsealing: its round keys, and the rows of its hash key.
+/// Contracts see it as the key's octets.
 #[derive(Drop)]
 pub struct GcmKey {
     pub(crate) cipher: Key,

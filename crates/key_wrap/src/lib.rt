@@ -3,8 +3,6 @@
 
 mod laws;
 mod state;
-#[cfg(test)]
-mod tests;
 mod wrapping;
 
 pub use laws::law_one_key_for_one_wrap;

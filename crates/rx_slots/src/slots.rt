@@ -1,6 +1,7 @@
 //! The receive slots of a station, one for each association number.
 
 ghost use Rattle.std.specs.Prelude.{◌≡◌, ◌<◌, ◌≤◌, ◌+◌, ◌∷◌, [], List, ℕ, length, option_map, Ok, IsSome, IsOk, IfOk, OnOk, OnErr, if◌then◌else◌};
+ghost use Rattle.aes_block.specs.Secrets.{secret_octets};
 ghost use Rattle.lan_base.specs.declared.address.Sci.{Sci};
 ghost use Rattle.lan_base.specs.declared.association_number.AssociationNumber.{AssociationNumber};
 ghost use Rattle.lan_base.specs.AssociationNumbers.{same_an};
@@ -200,6 +201,18 @@ impl RxSlots {
             return Ok(());
         };
         slot.take(sci, pn)
+    }
+
+    /// The key that stands under an association number, prepared when it was installed.
+    pub fn key(&self, an: AssociationNumber) -> Option<&GcmKey>
+        ensures { (own : Sci) (window : ℕ) (h : List Receiving) → StandsFor own window self.now h →
+            option_map (λ key. key.now) result
+            ≡ option_map secret_octets (standing_key h an) }
+    {
+        match &self.slots[usize::from(an.number())] {
+            Some(slot) => Some(slot.key()),
+            None => None,
+        }
     }
 
     /// The lowest acceptable packet number under an association number.

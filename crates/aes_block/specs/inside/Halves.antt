@@ -1,7 +1,7 @@
 -- What the look-ups make of one octet.
 use Rattle.std.specs.Prelude.{ℕ, ◌/◌, bit_and, bit_xor}
 use Rattle.aes_block.specs.LookUp.{entry_at}
-use Rattle.aes_block.specs.declared.tables.TheConstants.{INVERSES, INVERSES_OVER, OTHER_BASIS_LOW, OTHER_BASIS_HIGH, UNDONE_LOW, UNDONE_HIGH, INV_SUB_FIRST, INV_SUB_SECOND}
+use Rattle.aes_block.specs.declared.tables.TheConstants.{INVERSES, CONSTANT_OVER, OTHER_BASIS_LOW, OTHER_BASIS_HIGH, UNDONE_LOW, UNDONE_HIGH, INV_SUB_FIRST, INV_SUB_SECOND}
 
 -- an octet in the other basis
 abbrev pub changed : ℕ → ℕ
@@ -12,9 +12,9 @@ changed x =
 abbrev pub both : ℕ → ℕ
 both x = bit_xor (x / 16) (bit_and x 15)
 
--- its second half over a constant
+-- a constant over its second half
 abbrev pub over : ℕ → ℕ
-over x = entry_at INVERSES_OVER (bit_and x 15)
+over x = entry_at CONSTANT_OVER (bit_and x 15)
 
 -- the first half of the inverse of an octet in the other basis
 abbrev pub first_half : ℕ → ℕ

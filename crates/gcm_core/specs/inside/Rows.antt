@@ -18,21 +18,25 @@ lanes_sum f (x ∷ xs) = sum_of (f x) (times_power 8 (lanes_sum f xs))
 -- k rows from row o on, for one octet: each row is an octet further than the one before it
 abbrev pub rows_of_octet : (ℕ → ℕ → ℕ) → ℕ → ℕ → ℕ → List Bool
 rows_of_octet rows zero o b = replicate 128 false
-rows_of_octet rows (suc k) o b = sum_of (first_octet (rows o b)) (times_power 8 (rows_of_octet rows k (suc o) b))
+rows_of_octet rows (suc k) o b =
+    sum_of (first_octet (rows o b)) (times_power 8 (rows_of_octet rows k (suc o) b))
 
 -- the same for all octets of a block at once, as the code does it: a vector for each row
 abbrev pub rows_of_block : (ℕ → ℕ → ℕ) → ℕ → ℕ → List ℕ → List Bool
 rows_of_block rows zero o xs = replicate 128 false
 rows_of_block rows (suc k) o xs =
-    sum_of (lanes_sum (λ x. first_octet (rows o x)) xs) (times_power 8 (rows_of_block rows k (suc o) xs))
+    sum_of (lanes_sum (λ x. first_octet (rows o x)) xs)
+    (times_power 8 (rows_of_block rows k (suc o) xs))
 
 -- what two tables of 16 have for an octet: one for its first four bits, one for the last
 abbrev pub row_of : List ℕ → List ℕ → ℕ → ℕ
 row_of first last x = bit_xor (entry_at first (x / 16)) (entry_at last (bit_and x 15))
 
+-- the octets of row o
 abbrev pub lanes_in : List Row → ℕ → List ℕ
 lanes_in rows o = (slice_index_or rows o (record { lanes = [] })).lanes
 
+-- what row o of two tables has for each octet
 abbrev pub rows_in : List Row → List Row → ℕ → ℕ → ℕ
 rows_in first last o = row_of (lanes_in first o) (lanes_in last o)
 
