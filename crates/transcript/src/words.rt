@@ -7,7 +7,8 @@ ghost use Rattle.transcript.specs.inside.Taking.{words_behind, Takes, Answers};
 
 use crate::fault::FactError;
 use crate::spelling::{
-    an_of, cause_of, member_of, number_of, octets_of, place_of, sec_of, secret_of, server_of, tag_of,
+    an_of, cause_of, member_of, number_of, octets_of, place_of, sec_of, secret_of, server_of,
+    tag_of,
 };
 use aes_block::Secret;
 use gcm_frames::TagRefusal;
