@@ -88,50 +88,25 @@ fn turned(blocks: &[u128; 16]) -> [Row; 16]
     ensures { (o : ℕ) → o < 16
         → lanes_in result o ≡ map (λ b. slice_index (block_octets b) o) blocks.now }
 {
-    [
-        octets_at(blocks, 0),
-        octets_at(blocks, 1),
-        octets_at(blocks, 2),
-        octets_at(blocks, 3),
-        octets_at(blocks, 4),
-        octets_at(blocks, 5),
-        octets_at(blocks, 6),
-        octets_at(blocks, 7),
-        octets_at(blocks, 8),
-        octets_at(blocks, 9),
-        octets_at(blocks, 10),
-        octets_at(blocks, 11),
-        octets_at(blocks, 12),
-        octets_at(blocks, 13),
-        octets_at(blocks, 14),
-        octets_at(blocks, 15),
-    ]
+    let mut rows = [Row {
+        lanes: u8x16::splat(0),
+    }; 16];
+    for o in 0..16usize {
+        rows[o] = Row {
+            lanes: octets_at(blocks, o),
+        };
+    }
+    rows
 }
 
 /// Octet `o` of each block.
-#[inline(always)]
-fn octets_at(blocks: &[u128; 16], o: usize) -> Row
+fn octets_at(blocks: &[u128; 16], o: usize) -> u8x16
     requires { o < 16 }
-    ensures { result.lanes ≡ map (λ b. slice_index (block_octets b) o) blocks.now }
+    ensures { result ≡ map (λ b. slice_index (block_octets b) o) blocks.now }
 {
-    Row {
-        lanes: u8x16::from_array([
-            blocks[0].to_be_bytes()[o],
-            blocks[1].to_be_bytes()[o],
-            blocks[2].to_be_bytes()[o],
-            blocks[3].to_be_bytes()[o],
-            blocks[4].to_be_bytes()[o],
-            blocks[5].to_be_bytes()[o],
-            blocks[6].to_be_bytes()[o],
-            blocks[7].to_be_bytes()[o],
-            blocks[8].to_be_bytes()[o],
-            blocks[9].to_be_bytes()[o],
-            blocks[10].to_be_bytes()[o],
-            blocks[11].to_be_bytes()[o],
-            blocks[12].to_be_bytes()[o],
-            blocks[13].to_be_bytes()[o],
-            blocks[14].to_be_bytes()[o],
-            blocks[15].to_be_bytes()[o],
-        ]),
+    let mut octets = [0; 16];
+    for n in 0..16usize {
+        octets[n] = blocks[n].to_be_bytes()[o];
     }
+    u8x16::from_array(octets)
 }
