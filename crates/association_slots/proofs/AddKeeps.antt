@@ -1,27 +1,32 @@
 -- A seat adds one to the slot that it was shown, and the rule is kept.
-use Rattle.std.proofs.Common.{◌≡◌, ◌≢◌, ◌⊎◌, ℕ, zero, suc, ◌+◌, ◌-◌, ◌%◌, ◌^◌, ◌<◌, ◌≤◌, Bool, true, false, not, cond, ◌&&◌, ◌==◌, ltb, eqb, List, [], ◌∷◌, ◌++◌, length, get_or, set, refl, sym, ap, ◌∙◌, subst, inl, inr, ⊎_elim, arith, eq-eqb, ne_eqb, get_or-set_other, get_or-set_same}
+use Rattle.std.proofs.Common.{◌≡◌, ◌≢◌, ◌⊎◌, ℕ, zero, suc, ◌+◌, ◌%◌, ◌^◌, ◌<◌, ◌≤◌, Bool, true, false, not, ◌&&◌, ◌==◌, ltb, eqb, List, [], ◌∷◌, ◌++◌, length, get_or, set, refl, sym, ap, ◌∙◌, subst, inl, inr, ⊎_elim, arith, eq-eqb, ne_eqb, get_or-set_other, get_or-set_same}
 use mathlib.Core.Logic.{dite}
 use mathlib.Core.Option.{none, some, some-ne-none}
 use native.Mathlib.Decide.{ℕ_discrete}
 use lib.ListN.{get_elem?}
-use Rattle.std.proofs.lemmas.Bool.{false≢true, eqb-true, eqb-false, ltb-true, ltb-false, and_parts, and_from, and_cases, cases_Bool, cond-true, cond-false}
+use Rattle.std.proofs.lemmas.Bool.{false≢true, eqb-true, eqb-false, ltb-true, ltb-false, and_parts, and_from, and_cases, cases_Bool, cases_lt, cond-true, cond-false}
 use Rattle.atomic_table.specs.Table.{step, keeps, Allows}
 use Rattle.atomic_table.proofs.Lists.{at_set, set_here}
+use Rattle.lan_base.specs.AssociationNumbers.{number_of}
+use Rattle.lan_base.specs.declared.association_number.AssociationNumber.{AssociationNumber}
+use Rattle.lan_base.proofs.Public.{number_of-few}
 use Rattle.association_slots.specs.Words.{epoch_of, flag_of, next_of}
 use Rattle.association_slots.specs.Views.{In, Among, slot, present_at, WasShut, weigh, adds, overs, gones, tally, one, met, lost, claimed, mark, seat_of}
 use Rattle.association_slots.specs.Steps.{addition, answer, added}
 use Rattle.association_slots.specs.Rule.{AtLeast, IsAddition, Fits, Follows, Ledger, Sums, Around, Slotted, tagged, agrees}
-use Rattle.association_slots.specs.Told.{Gives, IsAdded}
+use Rattle.association_slots.specs.Told.{Gives, IsAdded, IsAboveClaims}
 use Rattle.association_slots.specs.inside.Plays.{Adds}
 use Rattle.association_slots.specs.declared.view.Current.{Current}
 use Rattle.association_slots.specs.declared.view.NextSeen.{NextSeen}
 use Rattle.association_slots.specs.declared.view.Addition.{Addition}
 use Rattle.association_slots.specs.declared.view.Mark.{Mark}
 use Rattle.association_slots.specs.declared.view.Added.{Added}
+use Rattle.association_slots.specs.declared.view.Added.TheVariants.{Gone}
 use Rattle.association_slots.specs.declared.view.ControlView.{ControlView}
 use Rattle.association_slots.specs.declared.view.SeatView.{SeatView}
 use Rattle.association_slots.specs.declared.view.View.{View}
 use Rattle.association_slots.specs.declared.view.View.TheVariants.{Seat}
+use Rattle.association_slots.proofs.SlotNumbers.{same_or_apart}
 use Rattle.association_slots.proofs.WordParts.{added_epoch, added_flag, added_next}
 use Rattle.association_slots.proofs.Lists.{in_append, in_left, in_right, weigh-set, among_at, among_set, among_on, tally_none}
 use Rattle.association_slots.proofs.StaysSettled.{words_added, cards_else, once}
@@ -46,18 +51,18 @@ record Fair (c : ControlView) (v : SeatView) (w : ℕ) (won : Bool) (got : ℕ) 
   goes : (m : Mark) → In m gs → (m ≡ mark v) × WasShut c v.shown.an v.shown.epoch
   says : won ≡ false → In (mark v) gs ⊎ ((epoch_of w ≡ v.shown.epoch) × In (mark v) os)
 
-module _ (c : ControlView) (ws : List ℕ) (vs : List View) (a : Around c ws vs) (id : ℕ) (v : SeatView) (at : get_elem? vs id ≡ some (Seat v)) (may : May v) (fits : get_or ws v.shown.an 0 < 2 ^ 64) where
-  abbrev an : ℕ
+module _ (c : ControlView) (ws : List ℕ) (vs : List View) (a : Around c ws vs) (id : ℕ) (v : SeatView) (at : get_elem? vs id ≡ some (Seat v)) (may : May v) (fits : get_or ws (number_of v.shown.an) 0 < 2 ^ 64) where
+  abbrev an : AssociationNumber
   an = v.shown.an
 
   abbrev e : ℕ
   e = v.shown.epoch
 
   abbrev w : ℕ
-  w = get_or ws v.shown.an 0
+  w = get_or ws (number_of v.shown.an) 0
 
   abbrev us : List ℕ
-  us = set ws v.shown.an ((get_or ws v.shown.an 0 + 1) % 2 ^ 64)
+  us = set ws (number_of v.shown.an) ((get_or ws (number_of v.shown.an) 0 + 1) % 2 ^ 64)
 
   mine : Fits c ws v
   mine = (a.seats id v at).0
@@ -65,52 +70,65 @@ module _ (c : ControlView) (ws : List ℕ) (vs : List View) (a : Around c ws vs)
   waiting : Follows vs v
   waiting = (a.seats id v at).1
 
-  saw : In v.shown c.points × (an < 4) × (e ≤ (slot c an).epoch)
+  saw : In v.shown c.points × (e ≤ (slot c an).epoch)
   saw = mine.shown may.present
 
   loaded_raised : In (an, e) c.raises
   loaded_raised = (a.settled.points_low v.shown saw.0).1 may.present
 
   some_epoch : 0 < e
-  some_epoch = (a.settled.raised_once _ loaded_raised).1
+  some_epoch = (a.settled.raised_once _ loaded_raised).0
 
   here : epoch_of w ≡ (slot c an).epoch
-  here = a.words.epochs an saw.1
+  here = a.words.epochs an
 
   is_raised : In (an, epoch_of w) c.raises
-  is_raised = subst (λ (n : ℕ). In (an, n) c.raises) (sym here) (a.settled.slot_raised an saw.1 (let s = saw.2 in let z = some_epoch in omega arith))
+  is_raised = subst (λ (n : ℕ). In (an, n) c.raises) (sym here) (a.settled.slot_raised an (let s = saw.1 in let z = some_epoch in omega arith))
 
   above : 0 < (slot c an).epoch
-  above = let s = saw.2 in let z = some_epoch in omega arith
+  above = let s = saw.1 in let z = some_epoch in omega arith
 
   room : next_of w + 1 < 2 ^ 39
-  room = let b = a.sums.bound an saw.1 above in let s = sixteen c ws vs an (slot c an).epoch a.ledger in omega arith
+  room = let b = a.sums.bound an above in let s = sixteen c ws vs an (slot c an).epoch a.ledger in omega arith
 
-  next : next_of (get_or us an 0) ≡ next_of w + 1
-  next = let l = wide c ws vs a in let s = saw.1 in ap next_of (get_or-set_same ws an ((w + 1) % 2 ^ 64) 0 (omega arith)) ∙ added_next w fits room
+  next : next_of (get_or us (number_of an) 0) ≡ next_of w + 1
+  next = let l = wide c ws vs a in let few = number_of-few an in ap next_of (get_or-set_same ws (number_of an) ((w + 1) % 2 ^ 64) 0 (omega arith)) ∙ added_next w fits room
 
-  others : (j : ℕ) → j ≢ an → get_or us j 0 ≡ get_or ws j 0
-  others j ne = get_or-set_other ws an j ((w + 1) % 2 ^ 64) 0 ne
+  others : (j : AssociationNumber) → number_of j ≢ number_of an → get_or us (number_of j) 0 ≡ get_or ws (number_of j) 0
+  others j ne = get_or-set_other ws (number_of an) (number_of j) ((w + 1) % 2 ^ 64) 0 ne
 
   grows : Grown c ws c us
-  grows = grown_words c ws us (λ j l. dite (ℕ_discrete j an) (λ is. let n = next in subst (λ (i : ℕ). next_of (get_or ws i 0) ≤ next_of (get_or us i 0)) (sym is) (omega arith)) (λ ne. let o = ap next_of (others j ne) in omega arith))
+  grows = grown_words c ws us (λ j. ⊎_elim (λ is. let n = next in subst (λ (i : AssociationNumber). next_of (get_or ws (number_of i) 0) ≤ next_of (get_or us (number_of i) 0)) (sym is) (omega arith)) (λ ne. let o = ap next_of (others j ne) in omega arith) (same_or_apart j an))
 
   -- an addition that met this word's epoch stands on this slot
   same_slot : (b : Addition) → Among adds b vs → b.met ≡ epoch_of w → b.an ≡ an
   same_slot b i is = once c.raises a.settled.rise (b.an, b.met) (an, epoch_of w) (a.ledger.additions b i).raised is_raised is
 
   open_here : flag_of w ≡ false → (slot c an).shut ≡ false
-  open_here f = sym (a.words.shuts an saw.1) ∙ f
+  open_here f = sym (a.words.shuts an) ∙ f
+
+  -- a number of an open word is above all that the seat claimed of its epoch
+  above_own : flag_of w ≡ false → epoch_of w ≡ e → IsAboveClaims v v.shown.epoch (next_of w)
+  above_own flag same = (
+    let n = a.sums.sum an above in let f = a.settled.first_small.0 in omega arith,
+    λ b i bw bm.
+        let m = among_at adds b vs id (Seat v) at i in let on = same_slot b m (bm ∙ sym same) in
+        let low = ((a.ledger.additions b m).claim bw).3.now (ap (λ (k : AssociationNumber). (slot c k).shut) on ∙ open_here flag, ap (λ (k : AssociationNumber). (slot c k).epoch) on ∙ (sym here ∙ (same ∙ sym bm))) in
+        let there = subst (λ (k : AssociationNumber). b.pn + 1 ≤ next_of (get_or ws (number_of k) 0)) on low in omega arith,
+  )
+
+  not_earlier : e ≤ epoch_of w
+  not_earlier = let s = saw.1 in let h = here in omega arith
 
   module _ (won : Bool) (got : ℕ) (os gs : List Mark) (fair : Fair c v w won got os gs) where
     abbrev x : Addition
-    x = addition v (epoch_of (get_or ws v.shown.an 0)) won got
+    x = addition v (epoch_of (get_or ws (number_of v.shown.an) 0)) won got
 
     abbrev v' : SeatView
-    v' = after v (addition v (epoch_of (get_or ws v.shown.an 0)) won got) os gs
+    v' = after v (addition v (epoch_of (get_or ws (number_of v.shown.an) 0)) won got) os gs
 
     abbrev xs : List View
-    xs = set vs id (Seat (after v (addition v (epoch_of (get_or ws v.shown.an 0)) won got) os gs))
+    xs = set vs id (Seat (after v (addition v (epoch_of (get_or ws (number_of v.shown.an) 0)) won got) os gs))
 
     tallies : (h : Addition → ℕ) → tally h xs ≡ tally h vs + h x
     tallies h = let s = weigh-set (λ (u : View). weigh h (adds u)) vs id (Seat v) (Seat v') at in omega arith
@@ -132,16 +150,16 @@ module _ (c : ControlView) (ws : List ℕ) (vs : List View) (a : Around c ws vs)
     claim_at : won ≡ true → AtLeast c us an (epoch_of w) (got + 1)
     claim_at is = let f = fair.wins is in record {
       now = λ _. let n = next in let g = f.2 in omega arith;
-      then = λ q i s t. absurd (a.settled.found_gone an saw.1 (open_here f.0) q i (t ∙ here));
+      then = λ q i s t. absurd (a.settled.found_gone an (open_here f.0) q i (t ∙ here));
     }
 
     member : IsAddition c us x
     member = record {
       seat = (mine.number.0, mine.number.1);
-      order = let s = saw.2 in let h = here in (some_epoch, omega arith, omega arith);
+      order = let s = saw.1 in let h = here in (some_epoch, omega arith, omega arith);
       raised = is_raised;
       pointed = subst (λ (p : Current). In p c.points) (is_present v.shown may.present) saw.0;
-      claim = λ is. let f = fair.wins is in let s = a.sums.sum an saw.1 above in let g = f.2 in (sym f.1, omega arith, (let z = f.3 in omega arith), claim_at is);
+      claim = λ is. let f = fair.wins is in let s = a.sums.sum an above in let g = f.2 in (sym f.1, omega arith, (let z = f.3 in omega arith), claim_at is);
     }
 
     marked : (m : Mark) → In m os → In (m.an, m.epoch) c.raises × AtLeast c us m.an m.epoch (2 ^ 32 + 1) × In (present_at m.an m.epoch) c.points
@@ -149,7 +167,7 @@ module _ (c : ControlView) (ws : List ℕ) (vs : List View) (a : Around c ws vs)
       loaded_raised,
       record {
         now = λ _. let n = next in let z = f.3 in omega arith;
-        then = λ q j s t. absurd (a.settled.found_gone an saw.1 (open_here f.1) q j (t ∙ (sym f.2 ∙ here)));
+        then = λ q j s t. absurd (a.settled.found_gone an (open_here f.1) q j (t ∙ (sym f.2 ∙ here)));
       },
       member.pointed,
     )
@@ -159,8 +177,8 @@ module _ (c : ControlView) (ws : List ℕ) (vs : List View) (a : Around c ws vs)
         (λ is. let mine = and_parts _ _ is in let won_is = mine.0 in let at_q = eqb-true (epoch_of w) q (and_parts _ _ mine.1).0 in let got_p = eqb-true got p (and_parts _ _ mine.1).1 in let f = fair.wins won_is in
         let none_yet : tally (λ b. one (claimed q p b)) vs ≡ 0 = tally_none (λ b. one (claimed q p b)) vs (λ b i. ⊎_elim
         (λ has_it. let hers = and_parts _ _ has_it in let met_q = eqb-true b.met q (and_parts _ _ hers.1).0 in let got_q = eqb-true b.pn p (and_parts _ _ hers.1).1 in let on = same_slot b i (met_q ∙ sym at_q) in
-        let low = ((a.ledger.additions b i).claim hers.0).3.now ((let s = saw.1 in omega arith), ap (λ (k : ℕ). (slot c k).shut) on ∙ open_here f.0, ap (λ (k : ℕ). (slot c k).epoch) on ∙ (sym here ∙ (at_q ∙ sym met_q))) in
-        let at_an : next_of (get_or ws b.an 0) ≡ next_of w = ap (λ (k : ℕ). next_of (get_or ws k 0)) on in let g = f.2 in absurd (omega arith))
+        let low = ((a.ledger.additions b i).claim hers.0).3.now (ap (λ (k : AssociationNumber). (slot c k).shut) on ∙ open_here f.0, ap (λ (k : AssociationNumber). (slot c k).epoch) on ∙ (sym here ∙ (at_q ∙ sym met_q))) in
+        let at_an : next_of (get_or ws (number_of b.an) 0) ≡ next_of w = ap (λ (k : AssociationNumber). next_of (get_or ws (number_of k) 0)) on in let g = f.2 in absurd (omega arith))
         (λ z. ap one z) (cases_Bool (claimed q p b))) in
         let o : one (claimed q p x) ≡ 1 = ap one is in omega arith)
         (λ no. let o : one (claimed q p x) ≡ 0 = ap one no in let l = a.ledger.differ q p in omega arith) (cases_Bool (claimed q p x))
@@ -172,7 +190,7 @@ module _ (c : ControlView) (ws : List ℕ) (vs : List View) (a : Around c ws vs)
         (λ has_it. let r = and_parts _ _ has_it in let r' = and_parts _ _ r.1 in let r'' = and_parts _ _ r'.1 in
         let seat_b = eqb-true b.seat q r'.0 in let met_b = eqb-true b.met m r''.0 in let on = same_slot b i (met_b ∙ sym met_m) in
         let low = waiting.not_later may.present may.waits b i (seat_b ∙ sym seat_q) on in
-        let up = saw.2 in let h = here in
+        let up = saw.1 in let h = here in
         let e_is : e ≡ m = omega arith in
         let lo = agreed same (eqb e m) p''.1 (eq-eqb e m e_is) in
         let loaded_b : b.loaded ≡ m = eqb-true b.loaded m (agreed_back same (eqb b.loaded m) r''.1 lo) in
@@ -211,7 +229,7 @@ module _ (c : ControlView) (ws : List ℕ) (vs : List View) (a : Around c ws vs)
         old_over m i = let o = a.ledger.over m i in (o.0, grows.least _ _ _ o.0 o.1, o.2)
 
     mine_after : Fits c us v'
-    mine_after = let s = seat_grows c ws c us grows v refl (λ z. z) mine in record {
+    mine_after = let s = seat_grows c ws c us grows a.settled v refl (λ z. z) mine in record {
       number = s.number;
       own = λ b i. ⊎_elim (λ is. ap (λ (y : Addition). y.seat) (sym is)) (mine.own b) i;
       own_over = λ m i. ⊎_elim (λ j. ap (λ (y : Mark). y.seat) (fair.fills m j).0) (mine.own_over m) (in_append m os v.over i);
@@ -231,21 +249,22 @@ module _ (c : ControlView) (ws : List ℕ) (vs : List View) (a : Around c ws vs)
         -- an own claim of this epoch is below the word
         below : (b : Addition) → In b v.additions → b.claimed ≡ true → b.met ≡ epoch_of w → flag_of w ≡ false → b.pn + 1 ≤ next_of w
         below b i bw bm flag = let m = among_at adds b vs id (Seat v) at i in let on = same_slot b m bm in
-            let low = ((a.ledger.additions b m).claim bw).3.now ((let s = saw.1 in omega arith), ap (λ (k : ℕ). (slot c k).shut) on ∙ open_here flag, ap (λ (k : ℕ). (slot c k).epoch) on ∙ (sym here ∙ sym bm)) in
-            subst (λ (k : ℕ). b.pn + 1 ≤ next_of (get_or ws k 0)) on low
+            let low = ((a.ledger.additions b m).claim bw).3.now (ap (λ (k : AssociationNumber). (slot c k).shut) on ∙ open_here flag, ap (λ (k : AssociationNumber). (slot c k).epoch) on ∙ (sym here ∙ sym bm)) in
+            subst (λ (k : AssociationNumber). b.pn + 1 ≤ next_of (get_or ws (number_of k) 0)) on low
 
         from_given : (f : NextSeen) → In f v.start.given → (b : Addition) → x ≡ b → b.claimed ≡ true → b.an ≡ f.an → b.met ≡ f.epoch → f.next ≤ b.pn
         from_given f i b is bw at_slot at_epoch =
             let won_is = ap (λ (y : Addition). y.claimed) is ∙ bw in let k = fair.wins won_is in let g : got ≡ b.pn = ap (λ (y : Addition). y.pn) is in
             let slot_is : f.an ≡ an = sym (ap (λ (y : Addition). y.an) is ∙ at_slot) in let epoch_is : epoch_of w ≡ f.epoch = ap (λ (y : Addition). y.met) is ∙ at_epoch in
-            let low = (mine.given f i).2.now ((let s = saw.1 in omega arith), ap (λ (j : ℕ). (slot c j).shut) slot_is ∙ open_here k.0, ap (λ (j : ℕ). (slot c j).epoch) slot_is ∙ (sym here ∙ epoch_is)) in
-            let low' = subst (λ (j : ℕ). f.next ≤ next_of (get_or ws j 0)) slot_is low in let q = k.2 in omega arith
+            let low = (mine.given f i).2.now (ap (λ (j : AssociationNumber). (slot c j).shut) slot_is ∙ open_here k.0, ap (λ (j : AssociationNumber). (slot c j).epoch) slot_is ∙ (sym here ∙ epoch_is)) in
+            let low' = subst (λ (j : AssociationNumber). f.next ≤ next_of (get_or ws (number_of j) 0)) slot_is low in let q = k.2 in omega arith
 
     mine_waits : Follows xs v'
     mine_waits = record {
       inherits = λ m i is. ⊎_elim (λ j. j) (λ old. in_right m os v.over (waiting.inherits m old is)) (among_set overs m vs id (Seat v') i);
       not_yet = λ _ f. absurd (false≢true (sym f));
       not_later = λ _ f. absurd (false≢true (sym f));
+      not_gone = λ _ f. absurd (false≢true (sym f));
     }
 
     -- another seat has another number
@@ -254,6 +273,7 @@ module _ (c : ControlView) (ws : List ℕ) (vs : List View) (a : Around c ws vs)
       inherits = λ m i is. ⊎_elim (λ k. absurd (apart (sym is ∙ mine_after.own_over m k))) (λ old. ok.inherits m old is) (among_set overs m vs id (Seat v') i);
       not_yet = λ p n b i q. ok.not_yet p n b (old b i q) q;
       not_later = λ p n b i q. ok.not_later p n b (old b i q) q;
+      not_gone = λ p n m i q. ⊎_elim (λ k. absurd (apart (sym q ∙ mine_after.own_gone m k))) (λ k. ok.not_gone p n m k q) (among_set gones m vs id (Seat v') i);
     }
       where
         apart : u.number ≢ v.number
@@ -264,35 +284,36 @@ module _ (c : ControlView) (ws : List ℕ) (vs : List View) (a : Around c ws vs)
 
     sums : Sums c us xs
     sums = record {
-      sum = λ j l z. let t = tallies (λ b. one (met j (slot c j).epoch b)) in let s = a.sums.sum j l z in dite (ℕ_discrete j an)
-          (λ is. let n : next_of (get_or us j 0) ≡ next_of (get_or ws j 0) + 1 = subst (λ (i : ℕ). next_of (get_or us i 0) ≡ next_of (get_or ws i 0) + 1) (sym is) next in let o = counts j is in omega arith)
-          (λ ne. let n = ap next_of (others j ne) in let o : one (met j (slot c j).epoch x) ≡ 0 = ap (λ (b : Bool). one (b && (epoch_of w == (slot c j).epoch))) (ne_eqb an j (λ z. ne (sym z))) in omega arith);
-      bound = λ j l z. let t = tallies (λ b. one (lost j (slot c j).epoch b)) in let s = a.sums.bound j l z in dite (ℕ_discrete j an)
-          (λ is. let n : next_of (get_or us j 0) ≡ next_of (get_or ws j 0) + 1 = subst (λ (i : ℕ). next_of (get_or us i 0) ≡ next_of (get_or ws i 0) + 1) (sym is) next in
-          let at_w : next_of (get_or ws j 0) ≡ next_of w = ap (λ (i : ℕ). next_of (get_or ws i 0)) is in ⊎_elim
+      sum = λ j z. let t = tallies (λ b. one (met j (slot c j).epoch b)) in let s = a.sums.sum j z in ⊎_elim
+          (λ is. let n : next_of (get_or us (number_of j) 0) ≡ next_of (get_or ws (number_of j) 0) + 1 = subst (λ (i : AssociationNumber). next_of (get_or us (number_of i) 0) ≡ next_of (get_or ws (number_of i) 0) + 1) (sym is) next in let o = counts j is in omega arith)
+          (λ ne. let n = ap next_of (others j ne) in let o : one (met j (slot c j).epoch x) ≡ 0 = ap (λ (b : Bool). one (b && (epoch_of w == (slot c j).epoch))) (ne_eqb (number_of an) (number_of j) (λ z. ne (sym z))) in omega arith)
+          (same_or_apart j an);
+      bound = λ j z. let t = tallies (λ b. one (lost j (slot c j).epoch b)) in let s = a.sums.bound j z in ⊎_elim
+          (λ is. let n : next_of (get_or us (number_of j) 0) ≡ next_of (get_or ws (number_of j) 0) + 1 = subst (λ (i : AssociationNumber). next_of (get_or us (number_of i) 0) ≡ next_of (get_or ws (number_of i) 0) + 1) (sym is) next in
+          let at_w : next_of (get_or ws (number_of j) 0) ≡ next_of w = ap (λ (i : AssociationNumber). next_of (get_or ws (number_of i) 0)) is in ⊎_elim
           (λ is_won. let f = (fair.wins is_won).3 in omega arith)
           (λ is_lost. let o : one (lost j (slot c j).epoch x) ≡ 1 = ap one (and_from _ _ (is_met j is) (ap not is_lost)) in omega arith) (cases_Bool won))
-          (λ ne. let n = ap next_of (others j ne) in omega arith);
+          (λ ne. let n = ap next_of (others j ne) in omega arith) (same_or_apart j an);
       shut_sum = λ f i. let o = a.sums.shut_sum f i in let t = tallies (λ b. one (met f.an f.epoch b)) in let u = tallies (λ b. one (lost f.an f.epoch b)) in ((let p = o.0 in omega arith), (let p = o.1 in omega arith));
       loads = λ f i. let o = a.sums.loads f i in (o.0, grows.least _ _ _ o.0 o.1);
     }
       where
-        is_met : (j : ℕ) → j ≡ an → met j (slot c j).epoch x ≡ true
-        is_met j is = and_from _ _ (eq-eqb an j (sym is)) (eq-eqb (epoch_of w) (slot c j).epoch (here ∙ ap (λ (i : ℕ). (slot c i).epoch) (sym is)))
+        is_met : (j : AssociationNumber) → j ≡ an → met j (slot c j).epoch x ≡ true
+        is_met j is = and_from _ _ (eq-eqb (number_of an) (number_of j) (ap number_of (sym is))) (eq-eqb (epoch_of w) (slot c j).epoch (here ∙ ap (λ (i : AssociationNumber). (slot c i).epoch) (sym is)))
 
-        counts : (j : ℕ) → j ≡ an → one (met j (slot c j).epoch x) ≡ 1
+        counts : (j : AssociationNumber) → j ≡ an → one (met j (slot c j).epoch x) ≡ 1
         counts j is = ap one (is_met j is)
 
     around : Around c us xs
     around = record {
       at_control = control_else vs id c v v' a.at_control at;
       alone = alone_else vs id v' a.alone;
-      words = words_added c ws an ((w + 1) % 2 ^ 64) saw.1 (wide c ws vs a) a.words (added_epoch w fits room) (added_flag w fits room) (let n = added_next w fits room in omega arith);
+      words = words_added c ws an ((w + 1) % 2 ^ 64) (wide c ws vs a) a.words (added_epoch w fits room) (added_flag w fits room) (let n = added_next w fits room in omega arith);
       settled = a.settled;
       seats = λ j u at_j. ⊎_elim (λ (t : (j ≡ id) × (Seat v' ≡ Seat u)). subst (λ (y : SeatView). Fits c us y × Follows xs y) (ap seat_of t.1) (mine_after, mine_waits))
-          (λ (t : (j ≢ id) × (get_elem? vs j ≡ some (Seat u))). let s = a.seats j u t.1 in (seat_grows c ws c us grows u refl (λ z. z) s.0, others_wait j u t.0 t.1 s.1)) (at_set vs id j (Seat v') (Seat u) at_j);
+          (λ (t : (j ≢ id) × (get_elem? vs j ≡ some (Seat u))). let s = a.seats j u t.1 in (seat_grows c ws c us grows a.settled u refl (λ z. z) s.0, others_wait j u t.0 t.1 s.1)) (at_set vs id j (Seat v') (Seat u) at_j);
       numbers = numbers_from vs xs (seat_back vs id v v' at refl) a.numbers;
-      cards = cards_else c ws an ((w + 1) % 2 ^ 64) (let l = saw.1 in omega arith) a.cards;
+      cards = cards_else c ws (number_of an) ((w + 1) % 2 ^ 64) (let few = number_of-few an in omega arith) a.cards;
       ledger = ledger;
       sums = sums;
       told = a.told;
@@ -300,7 +321,7 @@ module _ (c : ControlView) (ws : List ℕ) (vs : List View) (a : Around c ws vs)
 
   -- which answer it is
   abbrev done : Added → SeatView
-  done r = added v (epoch_of (get_or ws v.shown.an 0)) r
+  done r = added v (epoch_of (get_or ws (number_of v.shown.an) 0)) r
 
   by_answer : (r : Added) → r ≡ answer v.shown.epoch w → Around c us (set vs id (Seat (done r)))
   by_answer r is = subst (λ (z : Added). Around c us (set vs id (Seat (done z)))) (sym is) (⊎_elim
@@ -317,7 +338,7 @@ module _ (c : ControlView) (ws : List ℕ) (vs : List View) (a : Around c ws vs)
       was_gone : (not (flag_of w) && (epoch_of w == e)) ≡ false → WasShut c an e
       was_gone differs = ⊎_elim
           (λ shut. dite (ℕ_discrete (epoch_of w) e)
-          (λ same. subst (WasShut c an) (sym here ∙ same) (a.settled.slot_shut an saw.1 above (sym (a.words.shuts an saw.1) ∙ is_true (flag_of w) shut)))
+          (λ same. subst (WasShut c an) (sym here ∙ same) (a.settled.slot_shut an above (sym (a.words.shuts an) ∙ is_true (flag_of w) shut)))
           other)
           (λ ne. other (λ z. eqb-false _ _ ne z))
           (and_cases _ _ differs)
@@ -327,43 +348,55 @@ module _ (c : ControlView) (ws : List ℕ) (vs : List View) (a : Around c ws vs)
           is_true false z = absurd (false≢true (sym z))
 
           other : epoch_of w ≢ e → WasShut c an e
-          other ne = ⊎_elim (λ same. absurd (ne (here ∙ same))) (λ s. s) (a.settled.raised_once _ loaded_raised).3
+          other ne = ⊎_elim (λ same. absurd (ne (here ∙ same))) (λ s. s) (a.settled.raised_once _ loaded_raised).2
+
+is_true : (b : Bool) → not b ≡ false → b ≡ true
+is_true true z = refl
+is_true false z = absurd (false≢true (sym z))
+
+-- a word that is shut, or shows another epoch
+was_gone_by : (v : SeatView) (w : ℕ) → v.shown.epoch ≤ epoch_of w → (not (flag_of w) && (epoch_of w == v.shown.epoch)) ≡ false → Gives v Gone w
+was_gone_by v w low differs = dite (ℕ_discrete (epoch_of w) v.shown.epoch)
+    (λ same. ⊎_elim (λ shut. inr (same, is_true (flag_of w) shut)) (λ ne. absurd (eqb-false _ _ ne same)) (and_cases _ _ differs))
+    (λ other. ⊎_elim (λ less. inl less) (λ high. absurd (other (omega arith))) (cases_lt v.shown.epoch (epoch_of w)))
+
+-- what the answer says of the word
+answered : (v : SeatView) (w : ℕ) → ((f : NextSeen) → In f v.start.given → f.an ≡ v.shown.an → f.epoch ≡ v.shown.epoch → flag_of w ≡ false → epoch_of w ≡ v.shown.epoch → f.next ≤ next_of w)
+    → (flag_of w ≡ false → epoch_of w ≡ v.shown.epoch → IsAboveClaims v v.shown.epoch (next_of w)) → v.shown.epoch ≤ epoch_of w → Gives v (answer v.shown.epoch w) w
+answered v w given above not_earlier = ⊎_elim
+    (λ t. let p = and_parts _ _ t in let f = not_true (flag_of w) p.0 in let same = eqb-true (epoch_of w) v.shown.epoch p.1 in ⊎_elim
+    (λ low. subst (λ (r : Added). Gives v r w) (sym (cond-true _ _ _ t ∙ cond-true _ _ _ low)) (same, f, refl, ltb-true _ _ low, (λ x i a b. given x i a b f same), above f same))
+    (λ high. subst (λ (r : Added). Gives v r w) (sym (cond-true _ _ _ t ∙ cond-false _ _ _ high)) (same, f, ltb-false _ _ high))
+    (cases_Bool (ltb (next_of w) (2 ^ 32))))
+    (λ differs. subst (λ (r : Added). Gives v r w) (sym (cond-false _ _ _ differs)) (was_gone_by v w not_earlier differs))
+    (cases_Bool (not (flag_of w) && (epoch_of w == v.shown.epoch)))
 
 -- 2. a seat adds one to the slot that it was shown
 pub adding : (n id : ℕ) (m : M) → m.0 ≡ Seat (seat_of m.0) → (seat_of m.0).shown.present ≡ true → (seat_of m.0).added ≡ false → ((x : Mark) → In x (seat_of m.0).over → x.epoch ≢ (seat_of m.0).shown.epoch)
-    → Allows Slotted n id m (seat_of m.0).shown.an (λ w. (w + 1) % 2 ^ 64) (Adds (step n (seat_of m.0).shown.an 1 0 none) m)
+    → Allows Slotted n id m (number_of (seat_of m.0).shown.an) (λ w. (w + 1) % 2 ^ 64) (Adds (step n (number_of (seat_of m.0).shown.an) 1 0 none) m)
 adding n id m is present waits free s r _ at fits =
-    let v = seat_of m.0 in let w : ℕ = get_or s.words v.shown.an 0 in (
+    let v = seat_of m.0 in let w : ℕ = get_or s.words (number_of v.shown.an) 0 in let here = at ∙ ap some is in let may : May v = record { present = present; waits = waits; free = λ i. free (mark v) i refl } in (
       Seat (added v (epoch_of w) (answer v.shown.epoch w)),
       keeps,
       tt,
-      (r.0, by_answer r.0 s.words s.views r.1 id v (at ∙ ap some is) (record { present = present; waits = waits; free = λ i. free (mark v) i refl }) fits (answer v.shown.epoch w) refl),
+      (r.0, by_answer r.0 s.words s.views r.1 id v here may fits (answer v.shown.epoch w) refl),
       (
         refl,
-        λ f i at_slot at_epoch flag same.
-            let k = (r.1.seats id v (at ∙ ap some is)).0 in let q = k.shown present in
-            let f' = (k.given f i).2 in
-            subst (λ (j : ℕ). f.next ≤ next_of (get_or s.words j 0)) at_slot (f'.now (omega (arith, q.1), ap (λ (j : ℕ). (slot r.0 j).shut) at_slot ∙ (sym (r.1.words.shuts v.shown.an q.1) ∙ flag), ap (λ (j : ℕ). (slot r.0 j).epoch) at_slot ∙ (sym (r.1.words.epochs v.shown.an q.1) ∙ (same ∙ sym at_epoch)))),
+        answered v w
+            (λ f i at_slot at_epoch flag same.
+            let f' = ((r.1.seats id v here).0.given f i).2 in
+            subst (λ (j : AssociationNumber). f.next ≤ next_of (get_or s.words (number_of j) 0)) at_slot (f'.now (ap (λ (j : AssociationNumber). (slot r.0 j).shut) at_slot ∙ (sym (r.1.words.shuts v.shown.an) ∙ flag), ap (λ (j : AssociationNumber). (slot r.0 j).epoch) at_slot ∙ (sym (r.1.words.epochs v.shown.an) ∙ (same ∙ sym at_epoch)))))
+            (above_own r.0 s.words s.views r.1 id v here may fits) (not_earlier r.0 s.words s.views r.1 id v here may fits),
       ),
     )
 
--- what the answer says of the word
-pub answered : (v : SeatView) (w : ℕ) → ((f : NextSeen) → In f v.start.given → f.an ≡ v.shown.an → f.epoch ≡ v.shown.epoch → flag_of w ≡ false → epoch_of w ≡ v.shown.epoch → f.next ≤ next_of w) → Gives v (answer v.shown.epoch w) (epoch_of w)
-answered v w given = ⊎_elim
-    (λ t. let p = and_parts _ _ t in let f = not_true (flag_of w) p.0 in let same = eqb-true (epoch_of w) v.shown.epoch p.1 in ⊎_elim
-    (λ low. subst (λ (r : Added). Gives v r (epoch_of w)) (sym (cond-true _ _ _ t ∙ cond-true _ _ _ low)) (same, ltb-true _ _ low, λ x i a b. given x i a b f same))
-    (λ high. subst (λ (r : Added). Gives v r (epoch_of w)) (sym (cond-true _ _ _ t ∙ cond-false _ _ _ high)) same)
-    (cases_Bool (ltb (next_of w) (2 ^ 32))))
-    (λ differs. subst (λ (r : Added). Gives v r (epoch_of w)) (sym (cond-false _ _ _ differs)) tt)
-    (cases_Bool (not (flag_of w) && (epoch_of w == v.shown.epoch)))
-
-pub adding_as : (n id : ℕ) (m : M) (k : ℕ) → k ≡ (seat_of m.0).shown.an → m.0 ≡ Seat (seat_of m.0) → (seat_of m.0).shown.present ≡ true → (seat_of m.0).added ≡ false → ((x : Mark) → In x (seat_of m.0).over → x.epoch ≢ (seat_of m.0).shown.epoch)
+pub adding_as : (n id : ℕ) (m : M) (k : ℕ) → k ≡ number_of (seat_of m.0).shown.an → m.0 ≡ Seat (seat_of m.0) → (seat_of m.0).shown.present ≡ true → (seat_of m.0).added ≡ false → ((x : Mark) → In x (seat_of m.0).over → x.epoch ≢ (seat_of m.0).shown.epoch)
     → Allows Slotted n id m k (λ w. (w + 1) % 2 ^ 64) (Adds (step n k 1 0 none) m)
 adding_as n id m k at is present waits free = subst (λ (j : ℕ). Allows Slotted n id m j (λ w. (w + 1) % 2 ^ 64) (Adds (step n j 1 0 none) m)) (sym at) (adding n id m is present waits free)
 
 -- what a seat has done, from what the step told
-pub did_add : (v w : SeatView) (found : ℕ) (r : Added) → w ≡ added v (epoch_of found) (answer v.shown.epoch found) → ((f : NextSeen) → In f v.start.given → f.an ≡ v.shown.an → f.epoch ≡ v.shown.epoch → flag_of found ≡ false → epoch_of found ≡ v.shown.epoch → f.next ≤ next_of found) → r ≡ answer v.shown.epoch found → IsAdded v r w
-did_add v w found r is given same = subst (λ (z : Added). IsAdded v z w) (sym same) (epoch_of found, is, answered v found given)
+pub did_add : (v w : SeatView) (found : ℕ) (r : Added) → w ≡ added v (epoch_of found) (answer v.shown.epoch found) → Gives v (answer v.shown.epoch found) found → r ≡ answer v.shown.epoch found → IsAdded v r w
+did_add v w found r is gives same = subst (λ (z : Added). IsAdded v z w) (sym same) (found, is, gives)
 
 -- the view, by the answer
 pub added_now : (m m' : M) (found : ℕ) (r : Added) → m' ≡ (Seat (added (seat_of m.0) (epoch_of found) (answer (seat_of m.0).shown.epoch found)), m.1) → m.1 ≡ [] → r ≡ answer (seat_of m.0).shown.epoch found → m' ≡ (Seat (added (seat_of m.0) (epoch_of found) r), [])

@@ -1,9 +1,10 @@
 -- A card is what its words hold.
-use Rattle.std.proofs.Common.{◌≡◌, ℕ, zero, suc, ◌+◌, ◌-◌, ◌*◌, ◌<◌, ◌≤◌, Bool, true, false, List, [], ◌∷◌, ◌++◌, length, get_or, take, drop, refl, sym, ap, ◌∙◌, subst, arith, length-drop, length-take, take-append-drop, take_all, drop-drop, get_or-drop, get_or-take, if◌then◌else◌}
+use Rattle.std.proofs.Common.{◌≡◌, ℕ, zero, suc, ◌+◌, ◌-◌, ◌*◌, ◌/◌, ◌<◌, ◌≤◌, Bool, true, false, List, [], ◌∷◌, ◌++◌, length, get_or, take, drop, refl, sym, ap, ◌∙◌, subst, arith, length-drop, length-take, take-append-drop, take_all, drop-drop, get_or-drop, get_or-take, if◌then◌else◌}
 use Rattle.std.proofs.lemmas.Nat.{be_bytes_8}
 use Rattle.std.specs.Int.{w64, from_be_bytes}
 use Rattle.aes_block.specs.declared.secret.Secret.TheVariants.{S128, S256}
-use Rattle.association_slots.specs.Cards.{word_at, octets_of, card_in, card_at}
+use Rattle.association_slots.specs.Cards.{word_at, octets_of, card_in, card_at, cards_given}
+use Rattle.association_slots.proofs.Grows.{in_front}
 use Rattle.association_slots.specs.declared.view.ControlView.{ControlView}
 use Rattle.association_slots.specs.declared.card.Card.{Card}
 
@@ -81,3 +82,10 @@ card_new c w e is = λ j. card_in (at 0 j) (at 1 j) (at 2 j) (at 3 j) (at 4 j)
   where
     at : (i : ℕ) → get_or (c.card_words ++ w) (5 * (e - 1) + i) 0 ≡ get_or w i 0
     at i = ap (λ (k : ℕ). get_or (c.card_words ++ w) (k + i) 0) is ∙ behind c.card_words w i
+
+-- the card of an epoch that has one, when more words are behind
+pub card_stays : (c : ControlView) (more : List ℕ) (epoch : ℕ) → 0 < epoch → epoch ≤ cards_given c → let d : ControlView = record c { card_words = c.card_words ++ more } in card_at d epoch ≡ card_at c epoch
+card_stays c more epoch some given = λ i. card_in (word 0 (omega arith) i) (word 1 (omega arith) i) (word 2 (omega arith) i) (word 3 (omega arith) i) (word 4 (omega arith) i)
+  where
+    word : (j : ℕ) → j < 5 → get_or (c.card_words ++ more) (5 * (epoch - 1) + j) 0 ≡ get_or c.card_words (5 * (epoch - 1) + j) 0
+    word j l = let given : epoch ≤ length c.card_words / 5 = given in in_front c.card_words more (5 * (epoch - 1) + j) (omega arith)

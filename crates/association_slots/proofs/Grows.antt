@@ -1,6 +1,9 @@
 -- What stays true as the words grow and control goes on.
-use Rattle.std.proofs.Common.{◌≡◌, ◌≢◌, ◌⊎◌, ℕ, zero, suc, ◌+◌, ◌-◌, ◌^◌, ◌<◌, ◌≤◌, Bool, true, false, List, [], ◌∷◌, ◌++◌, length, get_or, set, refl, sym, ap, ◌∙◌, subst, inl, inr, ⊎_elim, arith, length-append, get_or-set_other}
+use Rattle.std.proofs.Common.{◌≡◌, ◌⊎◌, ℕ, zero, suc, ◌+◌, ◌-◌, ◌^◌, ◌<◌, ◌≤◌, Bool, true, false, List, [], ◌∷◌, ◌++◌, length, get_or, set, refl, sym, ap, ◌∙◌, subst, inl, inr, ⊎_elim, arith, length-append, get_or-set_other}
 use Rattle.std.proofs.lemmas.Bool.{false≢true, eqb-true, and_parts, cases_Bool}
+use Rattle.lan_base.specs.AssociationNumbers.{number_of}
+use Rattle.lan_base.specs.declared.association_number.AssociationNumber.{AssociationNumber}
+use Rattle.lan_base.proofs.Public.{number_of-few}
 use Rattle.association_slots.specs.Words.{next_of}
 use Rattle.association_slots.specs.Views.{In, Among, slot, current, newest, present_at, IsOpen, WasAbsent, WasShut, top, overs, tally, one, met, lost}
 use Rattle.association_slots.specs.Steps.{wrote, raised, closed, pointed, looked, loaded}
@@ -20,18 +23,18 @@ use Rattle.association_slots.proofs.StaysSettled.{slot_set}
 pub record Grown (c : ControlView) (ws : List ℕ) (d : ControlView) (us : List ℕ) : Type 0 where
   pub first : d.first ≡ c.first
   pub limit : d.limit ≡ c.limit
-  pub epochs : (j : ℕ) → (slot c j).epoch ≤ (slot d j).epoch
-  pub raises : (r : ℕ × ℕ) → In r c.raises → In r d.raises
+  pub epochs : (j : AssociationNumber) → (slot c j).epoch ≤ (slot d j).epoch
+  pub raises : (r : AssociationNumber × ℕ) → In r c.raises → In r d.raises
   pub points : (p : Current) → In p c.points → In p d.points
   pub found : (f : NextSeen) → In f c.found → In f d.found
   pub cards : (j : ℕ) → j < length c.card_words → (j < length d.card_words) × (get_or d.card_words j 0 ≡ get_or c.card_words j 0)
-  pub least : (k e n : ℕ) → In (k, e) c.raises → AtLeast c ws k e n → AtLeast d us k e n
+  pub least : (k : AssociationNumber) (e n : ℕ) → In (k, e) c.raises → AtLeast c ws k e n → AtLeast d us k e n
 
-pub at_most : (c : ControlView) (ws : List ℕ) (k e n m : ℕ) → m ≤ n → AtLeast c ws k e n → AtLeast c ws k e m
+pub at_most : (c : ControlView) (ws : List ℕ) (k : AssociationNumber) (e n m : ℕ) → m ≤ n → AtLeast c ws k e n → AtLeast c ws k e m
 at_most c ws k e n m l ok = record { now = λ o. let z = ok.now o in omega arith; then = λ f i a b. let z = ok.then f i a b in omega arith }
 
 module _ (c : ControlView) (ws : List ℕ) (d : ControlView) (us : List ℕ) (g : Grown c ws d us) where
-  pub shut_grows : (k e : ℕ) → WasShut c k e → WasShut d k e
+  pub shut_grows : (k : AssociationNumber) (e : ℕ) → WasShut c k e → WasShut d k e
   shut_grows k e s = (s.0, g.found s.0 s.1, s.2, s.3)
 
   pub member_grows : (a : Addition) → IsAddition c ws a → IsAddition d us a
@@ -63,19 +66,19 @@ module _ (c : ControlView) (ws : List ℕ) (d : ControlView) (us : List ℕ) (g 
   }
 
   -- the points stay
-  pub seat_grows : (v : SeatView) → d.points ≡ c.points → (get_or c.out (v.number - 1) false ≡ true → get_or d.out (v.number - 1) false ≡ true) → Fits c ws v → Fits d us v
-  seat_grows v same out ok = record {
+  pub seat_grows : Settled c → (v : SeatView) → d.points ≡ c.points → (get_or c.out (v.number - 1) false ≡ true → get_or d.out (v.number - 1) false ≡ true) → Fits c ws v → Fits d us v
+  seat_grows settled v same out ok = record {
     number = let n = ok.number in (n.0, n.1, out n.2);
     own = ok.own;
     own_over = ok.own_over;
     own_gone = ok.own_gone;
     limit = ok.limit ∙ sym g.limit;
     low = subst (λ (ps : List Current). v.shown.epoch ≤ (newest ps).epoch) (sym same) ok.low;
-    shown = λ p. let s = ok.shown p in let e = g.epochs v.shown.an in (subst (In v.shown) (sym same) s.0, s.1, omega (arith, s.2));
-    loaded = λ e i. let o = ok.loaded e i in (o.0, g.points _ o.1);
+    shown = λ p. let s = ok.shown p in let e = g.epochs v.shown.an in (subst (In v.shown) (sym same) s.0, omega (arith, s.1));
+    loaded = λ p i. let o = ok.loaded p i in let e = g.epochs p.an in (o.0, g.points _ o.1, omega (arith, o.2));
     noted = subst (λ (ps : List Current). (e : ℕ) → In e v.notes → WasAbsent ps e) (sym same) ok.noted;
     start = subst (λ (ps : List Current). (v.start.last ≤ (newest ps).epoch) × (v.start.present ≡ false → (newest ps).present ≡ true → v.start.last < (newest ps).epoch)) (sym same) ok.start;
-    given = λ f i. let o = ok.given f i in (g.raises _ o.0, o.1, g.least _ _ _ o.0 o.2);
+    given = λ f i. let o = ok.given f i in (g.points _ o.0, o.1, g.least _ _ _ ((settled.points_low _ o.0).1 refl) o.2);
     claims_rise = ok.claims_rise;
     not_below = ok.not_below;
     reads = reads_grow v.reads ok.reads;
@@ -83,46 +86,46 @@ module _ (c : ControlView) (ws : List ℕ) (d : ControlView) (us : List ℕ) (g 
 
   -- the sums, where the additions stay: a slot's epoch and next stay, or the epoch is new
   pub sums_grow : (vs xs : List View) → Settled c → Ledger c ws vs → Moved vs xs
-      → ((j : ℕ) → j < 4 → 0 < (slot d j).epoch → (((slot c j).epoch ≡ (slot d j).epoch) × (next_of (get_or us j 0) ≡ next_of (get_or ws j 0))) ⊎ ((next_of (get_or us j 0) ≡ c.first) × (top c.raises < (slot d j).epoch)))
-      → ((f : NextSeen) → In f d.found → In f c.found ⊎ ((f.an < 4) × (0 < f.epoch) × ((slot c f.an).epoch ≡ f.epoch) × (f.next ≡ next_of (get_or ws f.an 0))))
+      → ((j : AssociationNumber) → 0 < (slot d j).epoch → (((slot c j).epoch ≡ (slot d j).epoch) × (next_of (get_or us (number_of j) 0) ≡ next_of (get_or ws (number_of j) 0))) ⊎ ((next_of (get_or us (number_of j) 0) ≡ c.first) × (top c.raises < (slot d j).epoch)))
+      → ((f : NextSeen) → In f d.found → In f c.found ⊎ ((0 < f.epoch) × ((slot c f.an).epoch ≡ f.epoch) × (f.next ≡ next_of (get_or ws (number_of f.an) 0))))
       → ((f : NextSeen) → In f d.loads → In f c.loads ⊎ (In (f.an, f.epoch) d.raises × AtLeast d us f.an f.epoch f.next))
       → Sums c ws vs → Sums d us xs
   sums_grow vs xs settled ledger m slots found loads ok = record {
-    sum = λ j l z. ⊎_elim (λ t. let s = sum_at j (slot d j).epoch l t.0 z in let f = g.first in let x = t.1 in let y = m.tallies (λ a. one (met j (slot d j).epoch a)) in omega arith)
-        (λ t. let x = t.0 in let f = g.first in let y = m.tallies (λ a. one (met j (slot d j).epoch a)) in let w = new_epoch j (slot d j).epoch t.1 in omega arith) (slots j l z);
-    bound = λ j l z. ⊎_elim (λ t. let s = bound_at j (slot d j).epoch l t.0 z in let x = t.1 in let y = m.tallies (λ a. one (lost j (slot d j).epoch a)) in omega arith)
-        (λ t. let x = t.0 in let f = settled.first_small.1 in omega arith) (slots j l z);
+    sum = λ j z. ⊎_elim (λ t. let s = sum_at j (slot d j).epoch t.0 z in let f = g.first in let x = t.1 in let y = m.tallies (λ a. one (met j (slot d j).epoch a)) in omega arith)
+        (λ t. let x = t.0 in let f = g.first in let y = m.tallies (λ a. one (met j (slot d j).epoch a)) in let w = new_epoch j (slot d j).epoch t.1 in omega arith) (slots j z);
+    bound = λ j z. ⊎_elim (λ t. let s = bound_at j (slot d j).epoch t.0 z in let x = t.1 in let y = m.tallies (λ a. one (lost j (slot d j).epoch a)) in omega arith)
+        (λ t. let x = t.0 in let f = settled.first_small.1 in omega arith) (slots j z);
     shut_sum = λ f i. let y = m.tallies (λ a. one (met f.an f.epoch a)) in let z = m.tallies (λ a. one (lost f.an f.epoch a)) in let e = g.first in
         ⊎_elim (λ a. let o = ok.shut_sum f a in let p = o.0 in let q = o.1 in (omega arith, omega arith))
-        (λ t. let s = sum_at f.an f.epoch t.0 t.2 t.1 in let b = bound_at f.an f.epoch t.0 t.2 t.1 in let n = t.3 in (omega arith, omega arith)) (found f i);
+        (λ t. let s = sum_at f.an f.epoch t.1 t.0 in let b = bound_at f.an f.epoch t.1 t.0 in let n = t.2 in (omega arith, omega arith)) (found f i);
     loads = λ f i. ⊎_elim (λ a. let o = ok.loads f a in (g.raises _ o.0, g.least _ _ _ o.0 o.1)) (λ t. t) (loads f i);
   }
     where
-      sum_at : (j e : ℕ) → j < 4 → (slot c j).epoch ≡ e → 0 < e → next_of (get_or ws j 0) ≡ c.first + tally (λ a. one (met j e a)) vs
-      sum_at j e l is z = subst (λ (n : ℕ). next_of (get_or ws j 0) ≡ c.first + tally (λ a. one (met j n a)) vs) is (ok.sum j l (omega arith))
+      sum_at : (j : AssociationNumber) (e : ℕ) → (slot c j).epoch ≡ e → 0 < e → next_of (get_or ws (number_of j) 0) ≡ c.first + tally (λ a. one (met j e a)) vs
+      sum_at j e is z = subst (λ (n : ℕ). next_of (get_or ws (number_of j) 0) ≡ c.first + tally (λ a. one (met j n a)) vs) is (ok.sum j (omega arith))
 
-      bound_at : (j e : ℕ) → j < 4 → (slot c j).epoch ≡ e → 0 < e → next_of (get_or ws j 0) ≤ 2 ^ 32 + tally (λ a. one (lost j e a)) vs
-      bound_at j e l is z = subst (λ (n : ℕ). next_of (get_or ws j 0) ≤ 2 ^ 32 + tally (λ a. one (lost j n a)) vs) is (ok.bound j l (omega arith))
+      bound_at : (j : AssociationNumber) (e : ℕ) → (slot c j).epoch ≡ e → 0 < e → next_of (get_or ws (number_of j) 0) ≤ 2 ^ 32 + tally (λ a. one (lost j e a)) vs
+      bound_at j e is z = subst (λ (n : ℕ). next_of (get_or ws (number_of j) 0) ≤ 2 ^ 32 + tally (λ a. one (lost j n a)) vs) is (ok.bound j (omega arith))
 
-      new_epoch : (j e : ℕ) → top c.raises < e → tally (λ a. one (met j e a)) vs ≡ 0
+      new_epoch : (j : AssociationNumber) (e : ℕ) → top c.raises < e → tally (λ a. one (met j e a)) vs ≡ 0
       new_epoch j e above = tally_none (λ a. one (met j e a)) vs (λ a i. ⊎_elim
-          (λ t. let low = (settled.raised_once _ (ledger.additions a i).raised).2 in let is = eqb-true a.met e (and_parts _ _ t).1 in absurd (omega arith))
+          (λ t. let low = (settled.raised_once _ (ledger.additions a i).raised).1 in let is = eqb-true a.met e (and_parts _ _ t).1 in absurd (omega arith))
           (λ f. ap one f) (cases_Bool (met j e a)))
 
 -- a seat's view, where the points grow
-pub seat_pointed : (c : ControlView) (ws us : List ℕ) (p : Current) (v : SeatView) → Grown c ws (pointed c p) us → (current c).epoch ≤ p.epoch → (p.present ≡ true → (current c).epoch < p.epoch) → Fits c ws v → Fits (pointed c p) us v
-seat_pointed c ws us p v g later above ok = record {
+pub seat_pointed : (c : ControlView) (ws us : List ℕ) (p : Current) (v : SeatView) → Grown c ws (pointed c p) us → Settled c → (current c).epoch ≤ p.epoch → (p.present ≡ true → (current c).epoch < p.epoch) → Fits c ws v → Fits (pointed c p) us v
+seat_pointed c ws us p v g settled later above ok = record {
   number = ok.number;
   own = ok.own;
   own_over = ok.own_over;
   own_gone = ok.own_gone;
   limit = ok.limit;
   low = let m = ok.low in omega arith;
-  shown = λ q. let s = ok.shown q in (inr s.0, s.1, s.2);
-  loaded = λ e i. let o = ok.loaded e i in (o.0, inr o.1);
+  shown = λ q. let s = ok.shown q in (inr s.0, s.1);
+  loaded = λ q i. let o = ok.loaded q i in (o.0, inr o.1, o.2);
   noted = λ e i. inr (ok.noted e i);
   start = let m = ok.start.0 in (omega arith, λ _ q. let a = above q in omega arith);
-  given = λ f i. let o = ok.given f i in (o.0, o.1, g.least _ _ _ o.0 o.2);
+  given = λ f i. let o = ok.given f i in (inr o.0, o.1, g.least _ _ _ ((settled.points_low _ o.0).1 refl) o.2);
   claims_rise = ok.claims_rise;
   not_below = ok.not_below;
   reads = ok.reads;
@@ -152,12 +155,8 @@ seat_loaded c ws v p is settled ok = record {
   own_gone = ok.own_gone;
   limit = ok.limit;
   low = omega (arith, epoch);
-  shown = λ q. let names = settled.names_open (present ∙ q) in (
-    in_points q,
-    subst (λ (n : ℕ). n < 4) (sym an) names.0,
-    subst (λ (n : ℕ). p.epoch ≤ (slot c n).epoch) (sym an) (omega (arith, names.2, epoch)),
-  );
-  loaded = λ e i. ⊎_elim (λ (t : (p.present ≡ true) × (p.epoch ≡ e)). (p.an, subst (λ (n : ℕ). In (present_at p.an n) c.points) t.1 (subst (λ (q : Current). In q c.points) (is_present p t.0) (in_points t.0)))) (ok.loaded e) (in_cons_if _ _ e v.loaded i);
+  shown = λ q. (in_points q, not_above q);
+  loaded = λ q i. ⊎_elim (λ (t : (p.present ≡ true) × (p ≡ q)). subst (λ (r : Current). (r.present ≡ true) × In r c.points × (r.epoch ≤ (slot c r.an).epoch)) t.1 (t.0, in_points t.0, not_above t.0)) (ok.loaded q) (in_cons_if _ _ q v.loaded i);
   noted = λ e i. ⊎_elim (λ (t : (_ ≡ true) × (p.epoch ≡ e)). subst (WasAbsent c.points) (sym epoch ∙ t.1) (newest_absent c.points (present ∙ not_true _ t.0))) (ok.noted e) (in_cons_if _ _ e v.notes i);
   start = ok.start;
   given = ok.given;
@@ -172,8 +171,8 @@ seat_loaded c ws v p is settled ok = record {
     present : (current c).present ≡ p.present
     present = sym (ap (λ (q : Current). q.present) is)
 
-    an : p.an ≡ (current c).an
-    an = ap (λ (q : Current). q.an) is
+    not_above : p.present ≡ true → p.epoch ≤ (slot c p.an).epoch
+    not_above q = let names = settled.names_open (present ∙ q) in subst (λ (r : Current). r.epoch ≤ (slot c r.an).epoch) (sym is) (let n = names.1 in omega arith)
 
     in_points : p.present ≡ true → In p c.points
     in_points q = subst (λ (q : Current). In q c.points) (sym is) (newest_in c.points (present ∙ q))
@@ -183,6 +182,7 @@ follows_moved vs xs v m ok = record {
   inherits = λ x i e. ok.inherits x (m.overs_back x i) e;
   not_yet = λ p n a i q w s o t. ok.not_yet p n a (m.adds_back a i) q w s o t;
   not_later = λ p n a i q s. ok.not_later p n a (m.adds_back a i) q s;
+  not_gone = λ p n x i. ok.not_gone p n x (m.gones_back x i);
 }
 
 -- a seat that has just loaded a present word may add
@@ -191,10 +191,11 @@ follows_loaded c ws vs v p is settled ledger ok = record {
   inherits = ok.inherits;
   not_yet = λ q _ a i seat lost an_is loaded_is met_is.
       let n = names q in
-      ⊎_elim (λ g. let s = (ledger.gone _ g).0 in absurd (settled.found_gone p.an n.0 n.1 s.0 s.1 (s.3 ∙ (loaded_is ∙ sym n.2))))
+      ⊎_elim (λ g. let s = (ledger.gone _ g).0 in absurd (settled.found_gone p.an n.0 s.0 s.1 (s.3 ∙ (loaded_is ∙ sym n.1))))
       (λ (o : (a.loaded ≡ a.met) × Among overs (record { seat = a.seat; an = a.an; epoch = a.met }) vs). ok.inherits _ (subst (λ (z : Mark). Among overs z vs) (the_mark a seat an_is met_is) o.1) refl)
       (ledger.cause a i lost);
-  not_later = λ q _ a i seat an_is. let n = names q in let o = (ledger.additions a i).order.2 in let e : (slot c a.an).epoch ≡ p.epoch = ap (λ (k : ℕ). (slot c k).epoch) an_is ∙ n.2 in omega arith;
+  not_later = λ q _ a i seat an_is. let n = names q in let o = (ledger.additions a i).order.2 in let e : (slot c a.an).epoch ≡ p.epoch = ap (λ (k : AssociationNumber). (slot c k).epoch) an_is ∙ n.1 in omega arith;
+  not_gone = λ q _ m i _ same. let n = names q in let s = (ledger.gone m i).0 in settled.found_gone p.an n.0 s.0 s.1 (s.3 ∙ (same ∙ sym n.1));
 }
   where
     names : p.present ≡ true → IsOpen c p.an p.epoch
@@ -205,7 +206,7 @@ follows_loaded c ws vs v p is settled ledger ok = record {
 
 -- How each step of control grows
 
-pub grown_words : (c : ControlView) (ws us : List ℕ) → ((j : ℕ) → j < 4 → next_of (get_or ws j 0) ≤ next_of (get_or us j 0)) → Grown c ws c us
+pub grown_words : (c : ControlView) (ws us : List ℕ) → ((j : AssociationNumber) → next_of (get_or ws (number_of j) 0) ≤ next_of (get_or us (number_of j) 0)) → Grown c ws c us
 grown_words c ws us grows = record {
   first = refl;
   limit = refl;
@@ -214,21 +215,21 @@ grown_words c ws us grows = record {
   points = λ p i. i;
   found = λ f i. i;
   cards = λ j l. (l, refl);
-  least = λ k e n _ ok. record { now = λ o. let a = ok.now o in let b = grows k o.0 in omega arith; then = ok.then };
+  least = λ k e n _ ok. record { now = λ o. let a = ok.now o in let b = grows k in omega arith; then = ok.then };
 }
 
-pub grown_raised : (c : ControlView) (ws : List ℕ) (k e n : ℕ) → k < 4 → top c.raises < e → Settled c → Grown c ws (raised c k e) (set ws k n)
-grown_raised c ws k e n small above ok = record {
+pub grown_raised : (c : ControlView) (ws : List ℕ) (k : AssociationNumber) (e n : ℕ) → top c.raises < e → Settled c → Grown c ws (raised c k e) (set ws (number_of k) n)
+grown_raised c ws k e n above ok = record {
   first = refl;
   limit = refl;
-  epochs = slot_set (λ j y. (slot c j).epoch ≤ y.epoch) c.slots k x long (let l = ok.slot_low k small in omega arith) (λ j _. omega arith);
+  epochs = slot_set (λ j y. (slot c j).epoch ≤ y.epoch) c.slots k x long (let l = ok.slot_low k in omega arith) (λ j _. omega arith);
   raises = λ r i. inr i;
   points = λ p i. i;
   found = λ f i. i;
   cards = λ j l. (l, refl);
   least = λ j q m was at. record {
-    now = λ open_. slot_set (λ i y. i < 4 → AtLeast c ws i q m → In (i, q) c.raises → y.shut ≡ false → y.epoch ≡ q → m ≤ next_of (get_or (set ws k n) i 0)) c.slots k x long
-        (λ _ _ r _ same. let z = (ok.raised_once _ r).2 in absurd (omega arith)) (λ i ne l' a _ o s. subst (λ (w : ℕ). m ≤ next_of w) (sym (get_or-set_other ws k i n 0 ne)) (a.now (l', o, s))) j open_.0 at was open_.1 open_.2;
+    now = λ open_. slot_set (λ i y. AtLeast c ws i q m → In (i, q) c.raises → y.shut ≡ false → y.epoch ≡ q → m ≤ next_of (get_or (set ws (number_of k) n) (number_of i) 0)) c.slots k x long
+        (λ _ r _ same. let z = (ok.raised_once _ r).1 in absurd (omega arith)) (λ i ne a _ o s. subst (λ (w : ℕ). m ≤ next_of w) (sym (get_or-set_other ws (number_of k) (number_of i) n 0 ne)) (a.now (o, s))) j at was open_.0 open_.1;
     then = at.then;
   };
 }
@@ -236,11 +237,11 @@ grown_raised c ws k e n small above ok = record {
     x : SlotView
     x = record { epoch = e; shut = false; seen = c.first }
 
-    long : k < length c.slots
-    long = let f = ok.four in omega arith
+    long : number_of k < length c.slots
+    long = let f = ok.four in let few = number_of-few k in omega arith
 
-pub grown_closed : (c : ControlView) (ws : List ℕ) (k n : ℕ) → k < 4 → (slot c k).shut ≡ false → Settled c → Grown c ws (closed c k (next_of (get_or ws k 0))) (set ws k n)
-grown_closed c ws k n small opened ok = record {
+pub grown_closed : (c : ControlView) (ws : List ℕ) (k : AssociationNumber) (n : ℕ) → (slot c k).shut ≡ false → Settled c → Grown c ws (closed c k (next_of (get_or ws (number_of k) 0))) (set ws (number_of k) n)
+grown_closed c ws k n opened ok = record {
   first = refl;
   limit = refl;
   epochs = slot_set (λ j y. (slot c j).epoch ≤ y.epoch) c.slots k x long (omega arith) (λ j _. omega arith);
@@ -249,21 +250,21 @@ grown_closed c ws k n small opened ok = record {
   found = λ f i. inr i;
   cards = λ j l. (l, refl);
   least = λ j q m was at. record {
-    now = λ open_. slot_set (λ i y. i < 4 → AtLeast c ws i q m → y.shut ≡ false → y.epoch ≡ q → m ≤ next_of (get_or (set ws k n) i 0)) c.slots k x long
-        (λ _ _ o _. absurd (false≢true (sym o))) (λ i ne l' a o s. subst (λ (w : ℕ). m ≤ next_of w) (sym (get_or-set_other ws k i n 0 ne)) (a.now (l', o, s))) j open_.0 at open_.1 open_.2;
+    now = λ open_. slot_set (λ i y. AtLeast c ws i q m → y.shut ≡ false → y.epoch ≡ q → m ≤ next_of (get_or (set ws (number_of k) n) (number_of i) 0)) c.slots k x long
+        (λ _ o _. absurd (false≢true (sym o))) (λ i ne a o s. subst (λ (w : ℕ). m ≤ next_of w) (sym (get_or-set_other ws (number_of k) (number_of i) n 0 ne)) (a.now (o, s))) j at open_.0 open_.1;
     then = λ f i a b. ⊎_elim (λ is. let here : k ≡ j = ap (λ (z : NextSeen). z.an) is ∙ a in let ep : (slot c k).epoch ≡ q = ap (λ (z : NextSeen). z.epoch) is ∙ b in
-        subst (λ (z : ℕ). m ≤ z) (ap (λ (z : NextSeen). z.next) is) ((subst (λ (z : ℕ). AtLeast c ws z q m) (sym here) at).now (small, opened, ep))) (λ old. at.then f old a b) i;
+        subst (λ (z : ℕ). m ≤ z) (ap (λ (z : NextSeen). z.next) is) ((subst (λ (z : AssociationNumber). AtLeast c ws z q m) (sym here) at).now (opened, ep))) (λ old. at.then f old a b) i;
   };
 }
   where
     x : SlotView
-    x = record { epoch = (slot c k).epoch; shut = true; seen = next_of (get_or ws k 0) }
+    x = record { epoch = (slot c k).epoch; shut = true; seen = next_of (get_or ws (number_of k) 0) }
 
-    long : k < length c.slots
-    long = let f = ok.four in omega arith
+    long : number_of k < length c.slots
+    long = let f = ok.four in let few = number_of-few k in omega arith
 
-pub grown_looked : (c : ControlView) (ws : List ℕ) (k m : ℕ) → k < 4 → Settled c → Grown c ws (looked c k m) ws
-grown_looked c ws k m small ok = record {
+pub grown_looked : (c : ControlView) (ws : List ℕ) (k : AssociationNumber) (m : ℕ) → Settled c → Grown c ws (looked c k m) ws
+grown_looked c ws k m ok = record {
   first = refl;
   limit = refl;
   epochs = slot_set (λ j y. (slot c j).epoch ≤ y.epoch) c.slots k x long (omega arith) (λ j _. omega arith);
@@ -272,7 +273,7 @@ grown_looked c ws k m small ok = record {
   found = λ f i. i;
   cards = λ j l. (l, refl);
   least = λ j q n was at. record {
-    now = λ open_. slot_set (λ i y. i < 4 → AtLeast c ws i q n → y.shut ≡ false → y.epoch ≡ q → n ≤ next_of (get_or ws i 0)) c.slots k x long (λ l' a o s. a.now (l', o, s)) (λ i _ l' a o s. a.now (l', o, s)) j open_.0 at open_.1 open_.2;
+    now = λ open_. slot_set (λ i y. AtLeast c ws i q n → y.shut ≡ false → y.epoch ≡ q → n ≤ next_of (get_or ws (number_of i) 0)) c.slots k x long (λ a o s. a.now (o, s)) (λ i _ a o s. a.now (o, s)) j at open_.0 open_.1;
     then = at.then;
   };
 }
@@ -280,8 +281,8 @@ grown_looked c ws k m small ok = record {
     x : SlotView
     x = record { epoch = (slot c k).epoch; shut = (slot c k).shut; seen = m }
 
-    long : k < length c.slots
-    long = let f = ok.four in omega arith
+    long : number_of k < length c.slots
+    long = let f = ok.four in let few = number_of-few k in omega arith
 
 pub grown_pointed : (c : ControlView) (ws : List ℕ) (p : Current) (n : ℕ) → Grown c ws (pointed c p) (set ws 4 n)
 grown_pointed c ws p n = record {
@@ -292,7 +293,7 @@ grown_pointed c ws p n = record {
   points = λ q i. inr i;
   found = λ f i. i;
   cards = λ j l. (l, refl);
-  least = λ k e m _ ok. record { now = λ o. let l = o.0 in subst (λ (w : ℕ). m ≤ next_of w) (sym (get_or-set_other ws 4 k n 0 (λ z. omega arith))) (ok.now o); then = ok.then };
+  least = λ k e m _ ok. record { now = λ o. let few = number_of-few k in subst (λ (w : ℕ). m ≤ next_of w) (sym (get_or-set_other ws 4 (number_of k) n 0 (λ z. omega arith))) (ok.now o); then = ok.then };
 }
 
 pub grown_out : (c : ControlView) (ws : List ℕ) (out : List Bool) (told : List Addition) (over gone : List Mark) (notes : List ℕ) (reads : List (ℕ × ℕ)) → Grown c ws (record c { out = out; told = told; told_over = over; told_gone = gone; told_notes = notes; told_reads = reads }) ws
@@ -312,5 +313,5 @@ grown_wrote c ws i x high = record {
   points = λ p i. i;
   found = λ f i. i;
   cards = λ j l. ((let e = length-append c.card_words (x ∷ []) in omega arith), in_front c.card_words (x ∷ []) j l);
-  least = λ k e b _ ok. record { now = λ o. let l = o.0 in subst (λ (w : ℕ). b ≤ next_of w) (sym (get_or-set_other ws i k x 0 (λ y. omega arith))) (ok.now o); then = ok.then };
+  least = λ k e b _ ok. record { now = λ o. let few = number_of-few k in subst (λ (w : ℕ). b ≤ next_of w) (sym (get_or-set_other ws i (number_of k) x 0 (λ y. omega arith))) (ok.now o); then = ok.then };
 }

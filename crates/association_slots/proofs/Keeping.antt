@@ -1,19 +1,26 @@
 -- What the fields of a `Control` keep, over its calls.
-use Rattle.std.proofs.Common.{◌≡◌, ◌≢◌, ℕ, zero, suc, ◌+◌, ◌-◌, ◌<◌, ◌≤◌, max, Bool, true, false, eqb, List, [], ◌∷◌, ◌++◌, length, get_or, set, drop, refl, sym, ap, ◌∙◌, subst, inl, inr, arith, eq-eqb, ne_eqb, get_or-set_other, get_or-set_same}
+use Rattle.std.proofs.Common.{◌≡◌, ◌≢◌, ℕ, zero, suc, ◌+◌, ◌-◌, ◌<◌, ◌≤◌, max, Bool, true, false, eqb, List, [], ◌∷◌, ◌++◌, length, get_or, set, drop, refl, sym, ap, ◌∙◌, subst, inl, inr, ⊎_elim, arith, eq-eqb, ne_eqb, get_or-set_other, get_or-set_same}
 use mathlib.Core.Logic.{dite}
 use native.Mathlib.Decide.{ℕ_discrete}
 use Rattle.std.proofs.lemmas.Bool.{false≢true}
+use Rattle.lan_base.specs.AssociationNumbers.{number_of}
+use Rattle.lan_base.specs.declared.association_number.AssociationNumber.{AssociationNumber}
 use Rattle.association_slots.specs.Views.{In, cons_if, blank_slot, free, greatest, of_seat}
 use Rattle.association_slots.specs.declared.view.SlotView.{SlotView}
 use Rattle.association_slots.specs.declared.view.Mark.{Mark}
+use Rattle.association_slots.proofs.SlotNumbers.{same_or_apart}
 
 -- no slot shows an epoch above n, after one changed to x
-pub low_set : (n : ℕ) (ss : List SlotView) (k : ℕ) (x : SlotView) → x.epoch ≤ n → ((j : ℕ) → (get_or ss j blank_slot).epoch ≤ n) → (j : ℕ) → (get_or (set ss k x) j blank_slot).epoch ≤ n
-low_set n [] k x low each j = each j
-low_set n (s ∷ ss) zero x low each zero = low
-low_set n (s ∷ ss) zero x low each (suc j) = each (suc j)
-low_set n (s ∷ ss) (suc k) x low each zero = each zero
-low_set n (s ∷ ss) (suc k) x low each (suc j) = low_set n ss k x low (λ i. each (suc i)) j
+pub low_set : (n : ℕ) (ss : List SlotView) (k : AssociationNumber) (x : SlotView) → x.epoch ≤ n → ((j : AssociationNumber) → (get_or ss (number_of j) blank_slot).epoch ≤ n) → (j : AssociationNumber) → (get_or (set ss (number_of k) x) (number_of j) blank_slot).epoch ≤ n
+low_set n ss k x low each j = ⊎_elim (λ e. subst (λ (i : AssociationNumber). (get_or (set ss (number_of k) x) (number_of i) blank_slot).epoch ≤ n) (sym e) here) (λ ne. subst (λ (y : SlotView). y.epoch ≤ n) (sym (get_or-set_other ss (number_of k) (number_of j) x blank_slot ne)) (each j)) (same_or_apart j k)
+  where
+    changed : (ys : List SlotView) (i : ℕ) → (get_or ys i blank_slot).epoch ≤ n → (get_or (set ys i x) i blank_slot).epoch ≤ n
+    changed [] i was = was
+    changed (y ∷ ys) zero was = low
+    changed (y ∷ ys) (suc i) was = changed ys i was
+
+    here : (get_or (set ss (number_of k) x) (number_of k) blank_slot).epoch ≤ n
+    here = changed ss (number_of k) (each k)
 
 -- The first free place, place by place
 

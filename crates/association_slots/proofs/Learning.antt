@@ -1,10 +1,12 @@
 -- What the rule says of control's view alone.
-use Rattle.std.proofs.Common.{◌≡◌, ◌≢◌, ◌⊎◌, ℕ, suc, ◌+◌, ◌-◌, ◌*◌, ◌^◌, ◌<◌, ◌≤◌, Bool, true, false, List, [], ◌∷◌, length, get_or, refl, sym, ap, ◌∙◌, subst, inl, inr, ⊎_elim, arith}
+use Rattle.std.proofs.Common.{◌≡◌, ℕ, suc, ◌+◌, ◌-◌, ◌*◌, ◌^◌, ◌<◌, ◌≤◌, Bool, true, false, List, [], ◌∷◌, length, get_or, set, refl, sym, ap, ◌∙◌, subst, inl, inr, ⊎_elim, arith, length-set, get_or-set_same}
 use mathlib.Core.Option.{some, some-ne-none, some-injective}
 use lib.ListN.{get_elem?}
 use Rattle.std.proofs.lemmas.Bool.{false≢true}
+use Rattle.lan_base.specs.AssociationNumbers.{number_of}
+use Rattle.lan_base.specs.declared.association_number.AssociationNumber.{AssociationNumber}
 use Rattle.association_slots.specs.Words.{next_of}
-use Rattle.association_slots.specs.Views.{In, Among, IsOpen, AllIn, weigh, adds, overs, gones, tally, one, met, lost, claimed, count, count_all}
+use Rattle.association_slots.specs.Views.{In, Among, IsOpen, AllIn, free, weigh, adds, overs, gones, tally, one, met, lost, claimed, count, count_all}
 use Rattle.association_slots.specs.Cards.{card_in, card_at, Knows}
 use Rattle.association_slots.specs.Rule.{Around, AtLeast, tagged}
 use Rattle.association_slots.specs.Learned.{IsNext, WasNext, IsTold, Learned}
@@ -16,6 +18,8 @@ use Rattle.association_slots.specs.declared.view.SeatView.{SeatView}
 use Rattle.association_slots.specs.declared.view.View.{View}
 use Rattle.association_slots.specs.declared.view.View.TheVariants.{Control, Seat, Spent}
 use Rattle.association_slots.specs.declared.card.Card.{Card}
+use Rattle.association_slots.specs.Steps.{seated}
+use Rattle.association_slots.proofs.StaysSettled.{settled_out}
 use Rattle.association_slots.proofs.Lists.{weigh_at, among_at, among_from}
 
 -- no view has additions, so there are none
@@ -73,16 +77,16 @@ module _ (c : ControlView) (ws : List ℕ) (vs : List View) (a : Around c ws vs)
   told_few : (p : Addition → Bool) → count_all p vs ≤ 1 → count p c.told ≤ 1
   told_few p few = let t = weigh_at (λ (u : View). weigh (λ b. one (p b)) (adds u)) vs 0 (Control c) a.at_control in omega arith
 
-  sum_here : (k e : ℕ) → IsOpen c k e → next_of (get_or ws k 0) ≡ c.first + count_all (met k e) vs
-  sum_here k e o = subst (λ (n : ℕ). next_of (get_or ws k 0) ≡ c.first + count_all (met k n) vs) o.2 (a.sums.sum k o.0 (a.settled.open_some k o.0 o.1))
+  sum_here : (k : AssociationNumber) (e : ℕ) → IsOpen c k e → next_of (get_or ws (number_of k) 0) ≡ c.first + count_all (met k e) vs
+  sum_here k e o = subst (λ (n : ℕ). next_of (get_or ws (number_of k) 0) ≡ c.first + count_all (met k n) vs) o.1 (a.sums.sum k (a.settled.open_some k o.0))
 
-  bound_here : (k e : ℕ) → IsOpen c k e → next_of (get_or ws k 0) ≤ 2 ^ 32 + count_all (lost k e) vs
-  bound_here k e o = subst (λ (n : ℕ). next_of (get_or ws k 0) ≤ 2 ^ 32 + count_all (lost k n) vs) o.2 (a.sums.bound k o.0 (a.settled.open_some k o.0 o.1))
+  bound_here : (k : AssociationNumber) (e : ℕ) → IsOpen c k e → next_of (get_or ws (number_of k) 0) ≤ 2 ^ 32 + count_all (lost k e) vs
+  bound_here k e o = subst (λ (n : ℕ). next_of (get_or ws (number_of k) 0) ≤ 2 ^ 32 + count_all (lost k n) vs) o.1 (a.sums.bound k (a.settled.open_some k o.0))
 
-  at_slot : (k e j d n : ℕ) → j ≡ k → d ≡ e → AtLeast c ws j d n → IsOpen c k e → n ≤ next_of (get_or ws k 0)
-  at_slot k e j d n same_k same_e ok o = (subst (λ (z : ℕ × ℕ). AtLeast c ws z.0 z.1 n) (λ i. (same_k i, same_e i)) ok).now o
+  at_slot : (k : AssociationNumber) (e : ℕ) (j : AssociationNumber) (d n : ℕ) → j ≡ k → d ≡ e → AtLeast c ws j d n → IsOpen c k e → n ≤ next_of (get_or ws (number_of k) 0)
+  at_slot k e j d n same_k same_e ok o = (subst (λ (z : AssociationNumber × ℕ). AtLeast c ws z.0 z.1 n) (λ i. (same_k i, same_e i)) ok).now o
 
-  pub is_next : (k e : ℕ) → IsOpen c k e → IsNext c k e (next_of (get_or ws k 0))
+  pub is_next : (k : AssociationNumber) (e : ℕ) → IsOpen c k e → IsNext c k e (next_of (get_or ws (number_of k) 0))
   is_next k e o = record {
     above_claims = λ b i is x y. let l = at_slot k e b.an b.met (b.pn + 1) x y ((a.ledger.additions b (told_add b i)).claim is).3 o in omega arith;
     above_loads = λ f i x y. at_slot k e f.an f.epoch f.next x y (a.sums.loads f i).1 o;
@@ -114,7 +118,7 @@ module _ (c : ControlView) (ws : List ℕ) (vs : List View) (a : Around c ws vs)
     additions = is_told;
     differ = λ e p. told_few (claimed e p) (a.ledger.differ e p);
     twice = λ q e s. told_few (tagged q e s) (a.ledger.twice q e s);
-    open_next = λ k e o. (next_of (get_or ws k 0), is_next k e o);
+    open_next = λ k e o. (next_of (get_or ws (number_of k) 0), is_next k e o);
     shut_next = was_next;
     loads = λ f i. (a.sums.loads f i).0;
     over = λ m i. (a.ledger.over m (told_over m i)).2;
@@ -122,3 +126,22 @@ module _ (c : ControlView) (ws : List ℕ) (vs : List View) (a : Around c ws vs)
     noted = a.told.noted;
     cards = card_known c c.told_reads a.told.reads;
   }
+
+-- what control has learned, when a seat goes out: then not all are in
+pub learned_out : (c : ControlView) → free c.out < 8 → Learned c → Learned (seated c)
+learned_out c room ok = record {
+  settled = settled_out c (set c.out (free c.out) true) c.told c.told_over c.told_gone c.told_notes c.told_reads (length-set c.out (free c.out) true ∙ ok.settled.eight) ok.settled;
+  additions = λ b i. let t = ok.additions b i in record { seat = t.seat; raised = t.raised; pointed = t.pointed; claim = t.claim; cause = λ all_in. absurd (one_out all_in) };
+  differ = ok.differ;
+  twice = ok.twice;
+  open_next = λ k e o. let n = ok.open_next k e o in (n.0, record { above_claims = n.1.above_claims; above_loads = n.1.above_loads; above_over = n.1.above_over; is_sum = λ all_in. absurd (one_out all_in); bound = λ all_in. absurd (one_out all_in) });
+  shut_next = λ f i. let n = ok.shut_next f i in record { above_claims = n.above_claims; above_loads = n.above_loads; above_over = n.above_over; low = λ all_in. absurd (one_out all_in) };
+  loads = ok.loads;
+  over = ok.over;
+  gone = ok.gone;
+  noted = ok.noted;
+  cards = ok.cards;
+}
+  where
+    one_out : AllIn (seated c) → ⊥
+    one_out all_in = false≢true (sym (all_in (free c.out)) ∙ get_or-set_same c.out (free c.out) true false (let e = ok.settled.eight in omega arith))

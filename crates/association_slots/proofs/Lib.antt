@@ -1,5 +1,6 @@
 pub mod WordParts
 pub mod Lists
+pub mod SlotNumbers
 pub mod StaysSettled
 pub mod Grows
 pub mod Learning

@@ -1,3 +1,4 @@
 -- What other crates may cite of the proofs.
-pub use Rattle.association_slots.proofs.Lists.{at_cons_if, behind_cons_if, in_left}
+pub use Rattle.association_slots.proofs.Grows.{is_present}
+pub use Rattle.association_slots.proofs.Lists.{at_cons_if, behind_cons_if, in_cons_if, in_left, in_right}
 pub use Rattle.association_slots.proofs.StaysSettled.{once}

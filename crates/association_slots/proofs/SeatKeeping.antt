@@ -1,5 +1,5 @@
 -- What the fields of a `WorkerSeat` keep, over its calls.
-use Rattle.std.proofs.Common.{◌≡◌, ◌⊎◌, ℕ, ◌+◌, ◌*◌, ◌<◌, ◌≤◌, max, Bool, true, false, [], Option, Some, slice_index, refl, sym, ap, subst, ⊎_elim, arith}
+use Rattle.std.proofs.Common.{◌≡◌, ℕ, ◌+◌, ◌*◌, ◌<◌, ◌≤◌, max, Bool, true, false, [], Option, Some, slice_index, refl, sym, ap, subst, ⊎_elim, arith}
 use Rattle.atomic_table.specs.Table.{Me}
 use Rattle.atomic_table.specs.Seated.{TableId}
 use Rattle.association_slots.specs.Views.{In, seat_of, greatest}
@@ -22,10 +22,10 @@ use Rattle.association_slots.proofs.KnownCards.{kept_read}
 pub record Keeps (t : TableId) (w : SeatView) (number : ℕ) (shown : Current) (overshot : ℕ) (known : Option Known) : Type 0 where
   pub number_is : (number ≡ w.number) × (0 < number) × (number < 9)
   pub limit_is : (w.limit ≤ 4096) × (t.words ≡ 5 + 5 * w.limit)
-  pub shown_is : (shown ≡ w.shown) × (shown.an < 4)
+  pub shown_is : shown ≡ w.shown
   pub over_is : overshot ≡ greatest w.over
   pub own_over : (m : Mark) → In m w.over → m.seat ≡ w.number
-  pub loaded_low : (e : ℕ) → In e w.loaded → (0 < e) × (e ≤ w.limit)
+  pub loaded_low : (p : Current) → In p w.loaded → (0 < p.epoch) × (p.epoch ≤ w.limit)
   pub known_is : IsKnown w.reads known
 
 pub of_kept : (t : TableId) (me : Me ℕ View) (number : ℕ) (shown : Current) (overshot : ℕ) (known : Option Known) → SeatKept t me number shown overshot known → Keeps t (seat_of me.0) number shown overshot known
@@ -39,10 +39,10 @@ pub keeps_loaded : (t : TableId) (v : SeatView) (number : ℕ) (shown : Current)
 keeps_loaded t v number shown overshot known p sees k = record {
   number_is = k.number_is;
   limit_is = k.limit_is;
-  shown_is = (refl, sees.an);
+  shown_is = refl;
   over_is = k.over_is;
   own_over = k.own_over;
-  loaded_low = λ e i. ⊎_elim (λ (t : (p.present ≡ true) × (p.epoch ≡ e)). let z = sees.small.1 t.0 in let l = sees.small.0 in let s = t.1 in (omega arith, omega arith)) (k.loaded_low e) (in_cons_if p.present p.epoch e v.loaded i);
+  loaded_low = λ q i. ⊎_elim (λ (t : (p.present ≡ true) × (p ≡ q)). subst (λ (r : Current). (0 < r.epoch) × (r.epoch ≤ v.limit)) t.1 (sees.small.1 t.0, sees.small.0)) (k.loaded_low q) (in_cons_if p.present p q v.loaded i);
   known_is = k.known_is;
 }
 
@@ -55,7 +55,7 @@ keeps_over t v number shown overshot high known e is k = record {
   number_is = k.number_is;
   limit_is = k.limit_is;
   shown_is = k.shown_is;
-  over_is = let o = k.over_is in let s = ap (λ (p : Current). p.epoch) k.shown_is.0 in omega arith;
+  over_is = let o = k.over_is in let s = ap (λ (p : Current). p.epoch) k.shown_is in omega arith;
   own_over = λ m. ⊎_elim (λ e. ap (λ (y : Mark). y.seat) (sym e)) (k.own_over m);
   loaded_low = k.loaded_low;
   known_is = k.known_is;

@@ -1,17 +1,25 @@
 -- A seat goes out, and comes back; and the table at the start.
-use Rattle.std.proofs.Common.{◌≡◌, ◌≢◌, ◌⊎◌, ℕ, zero, suc, ◌+◌, ◌-◌, ◌*◌, ◌^◌, ◌<◌, ◌≤◌, max, Bool, true, false, not, ◌&&◌, nat_le, cond, eqb, List, [], ◌∷◌, ◌++◌, length, get_or, set, refl, sym, ap, ◌∙◌, subst, inl, inr, ⊎_elim, arith, eq-eqb, length-set, get_or-set_other, get_or-set_same}
+use Rattle.std.proofs.Common.{◌≡◌, ◌≢◌, ◌⊎◌, ℕ, zero, suc, ◌+◌, ◌-◌, ◌*◌, ◌^◌, ◌<◌, ◌≤◌, max, Bool, true, false, not, ◌&&◌, ◌||◌, cond, eqb, List, [], ◌∷◌, ◌++◌, length, get_or, set, refl, sym, ap, ◌∙◌, subst, inl, inr, ⊎_elim, arith, eq-eqb, length-set, get_or-set_other, get_or-set_same, replicate}
+use Rattle.std.proofs.lemmas.List.{length-replicate}
 use mathlib.Core.Logic.{dite}
-use mathlib.Core.Option.{none, some, some-ne-none, some-injective}
+use mathlib.Core.Option.{some, some-ne-none, some-injective}
 use native.Mathlib.Decide.{ℕ_discrete}
 use lib.ListN.{get_elem?}
-use Rattle.std.proofs.lemmas.Bool.{false≢true, eqb-true, and_parts, leb-true}
+use Rattle.std.proofs.lemmas.Bool.{false≢true, eqb-true, and_parts}
 use Rattle.atomic_table.specs.Table.{Splits, Joins, opening}
 use Rattle.atomic_table.proofs.Lists.{at_set, set_here, set_else, at_longer}
+use Rattle.lan_base.specs.AssociationNumbers.{number_of, same_an}
+use Rattle.lan_base.specs.declared.association_number.AssociationNumber.{AssociationNumber}
+use Rattle.lan_base.specs.declared.association_number.AssociationNumber.TheVariants.{An0, An1, An2, An3}
 use Rattle.association_slots.specs.Words.{epoch_of, flag_of, next_of, shown_by}
-use Rattle.association_slots.specs.Views.{In, Among, cons_if, slot, current, weigh, adds, overs, gones, one, met, claimed, of_seat, free, control_of, seat_of}
+use Rattle.association_slots.specs.Views.{told_sum, present_at, was_pointed, In, Among, cons_if, slot, current, weigh, adds, overs, gones, one, met, of_seat, free, control_of, seat_of}
 use Rattle.association_slots.specs.Steps.{at_first, above_claims, least_next, given_of, seated, new_seat, told}
 use Rattle.association_slots.specs.Rule.{AtLeast, Fits, Follows, Around, Slotted}
+use Rattle.association_slots.specs.Learned.{Learned}
+use Rattle.association_slots.proofs.Learning.{learned}
+use Rattle.association_slots.specs.declared.view.Current.{Current}
 use Rattle.association_slots.specs.declared.view.NextSeen.{NextSeen}
+use Rattle.association_slots.proofs.SlotNumbers.{same_number}
 use Rattle.association_slots.specs.declared.view.Addition.{Addition}
 use Rattle.association_slots.specs.declared.view.Mark.{Mark}
 use Rattle.association_slots.specs.declared.view.ControlView.{ControlView}
@@ -51,8 +59,20 @@ at_end [] w v (suc j) e = absurd (some-ne-none v (sym e))
 at_end (x ∷ vs) w v zero e = inl e
 at_end (x ∷ vs) w v (suc j) e = ⊎_elim inl (λ t. inr (ap suc t.0, t.1)) (at_end vs w v j e)
 
-in_given : (c : ControlView) (k : ℕ) (f : NextSeen) (rest : List NextSeen) → In f (given_of c k rest) → (((slot c k).shut ≡ false) × ((slot c k).epoch ≤ (current c).epoch) × (least_next c k ≡ f)) ⊎ In f rest
-in_given c k f rest i = ⊎_elim (λ t. let p = and_parts _ _ t.0 in inl (not_true _ p.0, leb-true _ _ p.1, t.1)) inr (in_cons_if (not (slot c k).shut && nat_le (slot c k).epoch (current c).epoch) (least_next c k) f rest i)
+either : (a b : Bool) → (a || b) ≡ true → (a ≡ true) ⊎ (b ≡ true)
+either true b is = inl refl
+either false b is = inr is
+
+-- what was pointed at stands among the points
+in_points : (k : AssociationNumber) (e : ℕ) (ps : List Current) → was_pointed k e ps ≡ true → In (present_at k e) ps
+in_points k e [] is = absurd (false≢true is)
+in_points k e (p ∷ ps) is = ⊎_elim
+    (λ here. let q = and_parts _ _ here in let r = and_parts _ _ q.1 in inl (λ i. record { epoch = eqb-true p.epoch e r.1 i; present = q.0 i; an = same_number p.an k (eqb-true (number_of p.an) (number_of k) r.0) i }))
+    (λ more. inr (in_points k e ps more))
+    (either (p.present && (same_an p.an k && (eqb p.epoch e))) (was_pointed k e ps) is)
+
+in_given : (c : ControlView) (k : AssociationNumber) (f : NextSeen) (rest : List NextSeen) → In f (given_of c k rest) → (((slot c k).shut ≡ false) × In (present_at k (slot c k).epoch) c.points × (least_next c k ≡ f)) ⊎ In f rest
+in_given c k f rest i = ⊎_elim (λ t. let p = and_parts _ _ t.0 in inl (not_true _ p.0, in_points k (slot c k).epoch c.points p.1, t.1)) inr (in_cons_if (not (slot c k).shut && was_pointed k (slot c k).epoch c.points) (least_next c k) f rest i)
 
 max_low : (x y n : ℕ) → x ≤ n → y ≤ n → max x y ≤ n
 max_low x y n a b = omega arith
@@ -67,20 +87,27 @@ above_low e n (x ∷ xs) each = max_low _ _ n (at (x.claimed && (eqb x.met e)) r
     at false is = omega arith
 
 -- what a seat is given is no more than what the slot shows
-given_fits : (c : ControlView) (ws : List ℕ) (vs : List View) → Around c ws vs → (k : ℕ) → k < 4 → (slot c k).shut ≡ false → In (k, (slot c k).epoch) c.raises × AtLeast c ws k (slot c k).epoch (least_next c k).next
-given_fits c ws vs a k small opened = let z = a.settled.open_some k small opened in let e : ℕ = (slot c k).epoch in let next : ℕ = next_of (get_or ws k 0) in (
-  a.settled.slot_raised k small z,
+given_fits : (c : ControlView) (ws : List ℕ) (vs : List View) → Around c ws vs → (k : AssociationNumber) → (slot c k).shut ≡ false → In (k, (slot c k).epoch) c.raises × AtLeast c ws k (slot c k).epoch (least_next c k).next
+given_fits c ws vs a k opened = let z = a.settled.open_some k opened in let e : ℕ = (slot c k).epoch in let next : ℕ = next_of (get_or ws (number_of k) 0) in (
+  a.settled.slot_raised k z,
   record {
-    now = λ _. let s = a.sums.sum k small z in let t = weigh_at (λ (u : View). weigh (λ b. one (met k e b)) (adds u)) vs 0 (Control c) a.at_control in
-        max_low _ _ next (a.words.seen k small) (max_low _ _ next (omega arith) (above_low e next c.told claims_low));
-    then = λ f i _ same. absurd (a.settled.found_gone k small opened f i same);
+    now = λ _. let s = a.sums.sum k z in let t = weigh_at (λ (u : View). weigh (λ b. one (met k e b)) (adds u)) vs 0 (Control c) a.at_control in
+        max_low _ _ next (a.words.seen k) (max_low _ _ next (omega arith) (above_low e next c.told claims_low));
+    then = λ f i _ same. absurd (a.settled.found_gone k opened f i same);
   },
 )
   where
-    claims_low : (b : Addition) → In b c.told → b.claimed ≡ true → b.met ≡ (slot c k).epoch → b.pn + 1 ≤ next_of (get_or ws k 0)
+    claims_low : (b : Addition) → In b c.told → b.claimed ≡ true → b.met ≡ (slot c k).epoch → b.pn + 1 ≤ next_of (get_or ws (number_of k) 0)
     claims_low b i is at = let m = a.ledger.additions b (among_at adds b vs 0 (Control c) a.at_control i) in
-        let here : b.an ≡ k = once c.raises a.settled.rise (b.an, b.met) (k, (slot c k).epoch) m.raised (a.settled.slot_raised k small (a.settled.open_some k small opened)) at in
-        (subst (λ (t : ℕ × ℕ). AtLeast c ws t.0 t.1 (b.pn + 1)) (λ j. (here j, at j)) (m.claim is).3).now (small, opened, refl)
+        let here : b.an ≡ k = once c.raises a.settled.rise (b.an, b.met) (k, (slot c k).epoch) m.raised (a.settled.slot_raised k (a.settled.open_some k opened)) at in
+        (subst (λ (t : AssociationNumber × ℕ). AtLeast c ws t.0 t.1 (b.pn + 1)) (λ j. (here j, at j)) (m.claim is).3).now (opened, refl)
+
+-- the same in words of control alone
+pub counted_fits : (c : ControlView) (ws : List ℕ) (vs : List View) → Around c ws vs → (k : AssociationNumber) → (slot c k).shut ≡ false → (least_next c k).next ≤ next_of (get_or ws (number_of k) 0)
+counted_fits c ws vs a k opened = (given_fits c ws vs a k opened).1.now (opened, refl)
+
+pub counted_low : (c : ControlView) (k : AssociationNumber) (e : ℕ) → (slot c k).epoch ≡ e → told_sum c k e ≤ (least_next c k).next
+counted_low c k e is = subst (λ (n : ℕ). told_sum c k n ≤ (least_next c k).next) is (omega arith)
 
 pub splits : (id : ℕ) (v : View) → v ≡ Control (control_of v) → free (control_of v).out < 8 → Splits Slotted id v (Control (seated (control_of v))) (Seat (new_seat (control_of v)))
 splits id v is room s r at =
@@ -93,11 +120,11 @@ splits id v is room s r at =
       alone = λ j x e. ⊎_elim (λ t. ⊎_elim (λ u. u.0) (λ u. a.alone j x u.1) (at_set vs 0 j (Control d) (Control x) t)) (λ t. absurd (not_both x n (sym t.1))) (at_end ys (Seat n) (Control x) j e);
       words = words_out c ws d.out c.told c.told_over c.told_gone c.told_notes c.told_reads a.words;
       settled = settled_out c d.out c.told c.told_over c.told_gone c.told_notes c.told_reads (length-set c.out (free c.out) true ∙ a.settled.eight) a.settled;
-      seats = λ j u e. ⊎_elim (λ t. let o = old j u t in let s = a.seats j u o in (seat_grows c ws d ws g u refl (stays u) s.0, follows_moved vs xs u moved s.1)) (λ t. subst (λ (y : SeatView). Fits d ws y × Follows xs y) (ap seat_of t.1) (fresh, fresh_waits)) (at_end ys (Seat n) (Seat u) j e);
+      seats = λ j u e. ⊎_elim (λ t. let o = old j u t in let s = a.seats j u o in (seat_grows c ws d ws g a.settled u refl (stays u) s.0, follows_moved vs xs u moved s.1)) (λ t. subst (λ (y : SeatView). Fits d ws y × Follows xs y) (ap seat_of t.1) (fresh, fresh_waits)) (at_end ys (Seat n) (Seat u) j e);
       numbers = numbers;
       cards = same_cards c d ws refl refl a.cards;
       ledger = ledger_grows c ws d ws g vs xs moved a.ledger;
-      sums = sums_grow c ws d ws g vs xs a.settled a.ledger moved (λ j _ _. inl (refl, refl)) (λ f i. inl i) (λ f i. inl i) a.sums;
+      sums = sums_grow c ws d ws g vs xs a.settled a.ledger moved (λ j _. inl (refl, refl)) (λ f i. inl i) (λ f i. inl i) a.sums;
       told = told_grows c ws d ws g refl refl refl a.told;
     }
       where
@@ -153,20 +180,21 @@ splits id v is room s r at =
           loaded = λ e i. absurd i;
           noted = λ e i. absurd i;
           start = (omega arith, λ f t. absurd (false≢true (sym f ∙ t)));
-          given = λ f i. ⊎_elim (gift 0 (omega arith) f) (λ i. ⊎_elim (gift 1 (omega arith) f) (λ i. ⊎_elim (gift 2 (omega arith) f) (λ i. ⊎_elim (gift 3 (omega arith) f) (λ i. absurd i) (in_given c 3 f _ i)) (in_given c 2 f _ i)) (in_given c 1 f _ i)) (in_given c 0 f _ i);
+          given = λ f i. ⊎_elim (gift An0 f) (λ i. ⊎_elim (gift An1 f) (λ i. ⊎_elim (gift An2 f) (λ i. ⊎_elim (gift An3 f) (λ i. absurd i) (in_given c An3 f _ i)) (in_given c An2 f _ i)) (in_given c An1 f _ i)) (in_given c An0 f _ i);
           claims_rise = tt;
           not_below = λ f _ b i. absurd i;
           reads = λ r i. absurd i;
         }
           where
-            gift : (k : ℕ) → k < 4 → (f : NextSeen) → ((slot c k).shut ≡ false) × ((slot c k).epoch ≤ (current c).epoch) × (least_next c k ≡ f) → In (f.an, f.epoch) c.raises × (f.epoch ≤ (current c).epoch) × AtLeast d ws f.an f.epoch f.next
-            gift k l f t = let z = given_fits c ws vs a k l t.0 in subst (λ (x : NextSeen). In (x.an, x.epoch) c.raises × (x.epoch ≤ (current c).epoch) × AtLeast d ws x.an x.epoch x.next) t.2 (z.0, t.1, record { now = z.1.now; then = z.1.then })
+            gift : (k : AssociationNumber) → (f : NextSeen) → ((slot c k).shut ≡ false) × In (present_at k (slot c k).epoch) c.points × (least_next c k ≡ f) → In (present_at f.an f.epoch) c.points × (f.epoch ≤ (current c).epoch) × AtLeast d ws f.an f.epoch f.next
+            gift k f t = let z = given_fits c ws vs a k t.0 in subst (λ (x : NextSeen). In (present_at x.an x.epoch) c.points × (x.epoch ≤ (current c).epoch) × AtLeast d ws x.an x.epoch x.next) t.2 (t.1, (a.settled.points_low _ t.1).0, record { now = z.1.now; then = z.1.then })
 
         fresh_waits : Follows xs n
         fresh_waits = record {
           inherits = λ m i is. ⊎_elim (λ b. b) (λ b. let f = among_from overs m ys b in from m is f.0 f.1 f.2 f.3) (among_snoc overs m ys (Seat n) i);
           not_yet = λ p. absurd (false≢true p);
           not_later = λ p. absurd (false≢true p);
+          not_gone = λ p. absurd (false≢true p);
         }
           where
             from : (m : Mark) → m.seat ≡ n.number → (j : ℕ) (v : View) → get_elem? ys j ≡ some v → In m (overs v) → In m n.over
@@ -203,11 +231,11 @@ joins id v other w is is_seat s r at apart at_other =
       alone = λ j x e. ⊎_elim (λ t. absurd (spent_is_no_control x t.1)) (λ t. ⊎_elim (λ k. k.0) (λ k. a.alone j x k.1) (at_set vs 0 j (Control d) (Control x) t.1)) (at_set ys o j Spent (Control x) e);
       words = words_out c ws d.out d.told d.told_over d.told_gone d.told_notes d.told_reads a.words;
       settled = settled_out c d.out d.told d.told_over d.told_gone d.told_notes d.told_reads (length-set c.out (u.number - 1) false ∙ a.settled.eight) a.settled;
-      seats = λ j y e. let b = back j y e in let s = a.seats j y b.1 in (seat_grows c ws d ws g y refl (stays j y b.0 b.1) s.0, follows_moved vs xs y moved s.1);
+      seats = λ j y e. let b = back j y e in let s = a.seats j y b.1 in (seat_grows c ws d ws g a.settled y refl (stays j y b.0 b.1) s.0, follows_moved vs xs y moved s.1);
       numbers = numbers_from vs xs (λ j y e. (y, (back j y e).1, refl)) a.numbers;
       cards = same_cards c d ws refl refl a.cards;
       ledger = ledger_grows c ws d ws g vs xs moved a.ledger;
-      sums = sums_grow c ws d ws g vs xs a.settled a.ledger moved (λ j _ _. inl (refl, refl)) (λ f i. inl i) (λ f i. inl i) a.sums;
+      sums = sums_grow c ws d ws g vs xs a.settled a.ledger moved (λ j _. inl (refl, refl)) (λ f i. inl i) (λ f i. inl i) a.sums;
       told = record {
         noted = λ e i. ⊎_elim ((a.seats o u at).0.noted e) (a.told.noted e) (in_append e u.notes c.told_notes i);
         reads = λ r i. ⊎_elim ((a.seats o u at).0.reads r) (a.told.reads r) (in_append r u.reads c.told_reads i);
@@ -256,16 +284,16 @@ joins id v other w is is_seat s r at apart at_other =
         }
 
 -- the table at the start
-pub opens : (first limit : ℕ) (ws : List ℕ) → 1 ≤ first → first < 2 ^ 32 → length ws ≡ 5 + 5 * limit → ((k : ℕ) → k < 4 → get_or ws k 0 ≡ 2 ^ 39) → get_or ws 4 0 ≡ 0 → Slotted (opening ws [] (Control (at_first first limit)))
+pub opens : (first limit : ℕ) (ws : List ℕ) → 1 ≤ first → first < 2 ^ 32 → length ws ≡ 5 + 5 * limit → ((k : AssociationNumber) → get_or ws (number_of k) 0 ≡ 2 ^ 39) → get_or ws 4 0 ≡ 0 → Slotted (opening ws [] (Control (at_first first limit)))
 opens first limit ws some_first low size shut absent = (
   at_first first limit,
   record {
     at_control = refl;
     alone = λ j d e. one_view j (Control d) e;
     words = record {
-      epochs = λ j l. ap epoch_of (shut j l) ∙ sym (zero_epoch j l);
-      shuts = λ j l. ap flag_of (shut j l) ∙ sym (each (λ j. (slot C j).shut ≡ true) refl refl refl refl j l);
-      seen = λ j l. let z : (slot C j).seen ≡ 0 = each (λ j. (slot C j).seen ≡ 0) refl refl refl refl j l in omega arith;
+      epochs = λ j. ap epoch_of (shut j) ∙ sym (zero_epoch j);
+      shuts = λ j. ap flag_of (shut j) ∙ sym (each (λ j. (slot C j).shut ≡ true) refl refl refl refl j);
+      seen = λ j. let z : (slot C j).seen ≡ 0 = each (λ j. (slot C j).seen ≡ 0) refl refl refl refl j in omega arith;
       shows = ap shown_by absent;
     };
     cards = record { size = size; room = omega arith; lie = λ j l. absurd (omega arith) };
@@ -277,12 +305,12 @@ opens first limit ws some_first low size shut absent = (
       rise = tt;
       raised_once = λ q i. absurd i;
       has_card = omega arith;
-      slot_low = λ j l. let z = zero_epoch j l in omega arith;
-      slot_raised = λ j l z. let y = zero_epoch j l in absurd (omega arith);
-      open_some = λ j l o. absurd (false≢true (sym o ∙ each (λ j. (slot C j).shut ≡ true) refl refl refl refl j l));
-      slot_shut = λ j l z. let y = zero_epoch j l in absurd (omega arith);
+      slot_low = λ j. let z = zero_epoch j in omega arith;
+      slot_raised = λ j z. let y = zero_epoch j in absurd (omega arith);
+      open_some = λ j o. absurd (false≢true (sym o ∙ each (λ j. (slot C j).shut ≡ true) refl refl refl refl j));
+      slot_shut = λ j z. let y = zero_epoch j in absurd (omega arith);
       found_raised = λ f i. absurd i;
-      found_gone = λ j l o f i. absurd i;
+      found_gone = λ j o f i. absurd i;
       points_low = λ p i. absurd i;
       pointed_low = omega arith;
       absent_low = λ e z. (omega arith, λ t. absurd (false≢true t));
@@ -298,8 +326,8 @@ opens first limit ws some_first low size shut absent = (
       twice = λ q e s. omega arith;
     };
     sums = record {
-      sum = λ j l z. let y = zero_epoch j l in absurd (omega arith);
-      bound = λ j l z. let y = zero_epoch j l in absurd (omega arith);
+      sum = λ j z. let y = zero_epoch j in absurd (omega arith);
+      bound = λ j z. let y = zero_epoch j in absurd (omega arith);
       shut_sum = λ f i. absurd i;
       loads = λ f i. absurd i;
     };
@@ -310,14 +338,13 @@ opens first limit ws some_first low size shut absent = (
     C : ControlView
     C = at_first first limit
 
-    each : (P : ℕ → Type 0) → P 0 → P 1 → P 2 → P 3 → (j : ℕ) → j < 4 → P j
-    each P a b c d zero l = a
-    each P a b c d (suc zero) l = b
-    each P a b c d (suc (suc zero)) l = c
-    each P a b c d (suc (suc (suc zero))) l = d
-    each P a b c d (suc (suc (suc (suc j)))) l = absurd (omega arith)
+    each : (P : AssociationNumber → Type 0) → P An0 → P An1 → P An2 → P An3 → (j : AssociationNumber) → P j
+    each P a b c d An0 = a
+    each P a b c d An1 = b
+    each P a b c d An2 = c
+    each P a b c d An3 = d
 
-    zero_epoch : (j : ℕ) → j < 4 → (slot C j).epoch ≡ 0
+    zero_epoch : (j : AssociationNumber) → (slot C j).epoch ≡ 0
     zero_epoch = each (λ j. (slot C j).epoch ≡ 0) refl refl refl refl
 
     one_view : (j : ℕ) (d : View) → get_elem? (Control C ∷ []) j ≡ some d → j ≡ 0
@@ -331,9 +358,20 @@ opens first limit ws some_first low size shut absent = (
     nothing_among : {A : Type 0} (f : View → List A) (y : A) → In y (f (Control C)) ⊎ ⊥ → In y (f (Control C))
     nothing_among f y i = ⊎_elim (λ a. a) (λ b. absurd b) i
 
-pub each_shut : (ws : List ℕ) → get_or ws 0 0 ≡ 2 ^ 39 → get_or ws 1 0 ≡ 2 ^ 39 → get_or ws 2 0 ≡ 2 ^ 39 → get_or ws 3 0 ≡ 2 ^ 39 → (k : ℕ) → k < 4 → get_or ws k 0 ≡ 2 ^ 39
-each_shut ws a b c d zero l = a
-each_shut ws a b c d (suc zero) l = b
-each_shut ws a b c d (suc (suc zero)) l = c
-each_shut ws a b c d (suc (suc (suc zero))) l = d
-each_shut ws a b c d (suc (suc (suc (suc k)))) l = absurd (omega arith)
+pub each_shut : (ws : List ℕ) → get_or ws 0 0 ≡ 2 ^ 39 → get_or ws 1 0 ≡ 2 ^ 39 → get_or ws 2 0 ≡ 2 ^ 39 → get_or ws 3 0 ≡ 2 ^ 39 → (k : AssociationNumber) → get_or ws (number_of k) 0 ≡ 2 ^ 39
+each_shut ws a b c d An0 = a
+each_shut ws a b c d An1 = b
+each_shut ws a b c d An2 = c
+each_shut ws a b c d An3 = d
+
+-- what control has learned at the start
+pub learned_first : (first limit : ℕ) → 1 ≤ first → first < 2 ^ 32 → Learned (at_first first limit)
+unfolding opens
+learned_first first limit some_first low = let start = opens first limit (blank_words limit) some_first low (size limit) (each_shut (blank_words limit) refl refl refl refl) refl in
+    learned (at_first first limit) (blank_words limit) (Control (at_first first limit) ∷ []) start.1
+  where
+    blank_words : ℕ → List ℕ
+    blank_words n = 2 ^ 39 ∷ 2 ^ 39 ∷ 2 ^ 39 ∷ 2 ^ 39 ∷ 0 ∷ replicate (5 * n) 0
+
+    size : (n : ℕ) → length (blank_words n) ≡ 5 + 5 * n
+    size n = let zeros : List ℕ = replicate (5 * n) 0 in let l : length zeros ≡ 5 * n = length-replicate (5 * n) 0 in omega arith

@@ -1,11 +1,14 @@
 -- At most sixteen numbers of one epoch are lost: each lost addition has a seat of eight, and a load of that epoch or of a lower one.
-use Rattle.std.proofs.Common.{◌≡◌, ◌⊎◌, ℕ, zero, suc, ◌+◌, ◌*◌, ◌<◌, ◌≤◌, Bool, true, false, not, List, refl, ap, ⊎_elim, arith, eq-eqb, eqb}
+use Rattle.std.proofs.Common.{◌≡◌, ◌⊎◌, ℕ, zero, suc, ◌+◌, ◌*◌, ◌<◌, ◌≤◌, Bool, true, false, not, List, [], ◌∷◌, refl, ap, ⊎_elim, arith, eq-eqb, eqb}
 use Rattle.std.proofs.lemmas.Bool.{false≢true, eqb-true, and_parts, and_from, cases_Bool, cases_eq}
-use Rattle.association_slots.specs.Views.{tally, one, met, lost}
+use Rattle.lan_base.specs.declared.association_number.AssociationNumber.{AssociationNumber}
+use Rattle.association_slots.specs.Views.{Among, adds, tally, one, lost, count}
+use Rattle.association_slots.specs.Learned.{Learned}
 use Rattle.association_slots.specs.Rule.{Ledger, tagged}
 use Rattle.association_slots.specs.declared.view.Addition.{Addition}
 use Rattle.association_slots.specs.declared.view.ControlView.{ControlView}
 use Rattle.association_slots.specs.declared.view.View.{View}
+use Rattle.association_slots.specs.declared.view.View.TheVariants.{Control}
 use Rattle.association_slots.proofs.Lists.{tally_mono, tally_plus, tally_none}
 
 -- how many tags of the first seats the addition has
@@ -36,14 +39,22 @@ tags_few vs e few (suc q) =
     let s = tally_plus (λ a. one (tagged (suc q) e true a) + one (tagged (suc q) e false a)) (tags_below q e) vs in
     let t = tally_plus (λ a. one (tagged (suc q) e true a)) (λ a. one (tagged (suc q) e false a)) vs in omega arith
 
-pub sixteen : (c : ControlView) (ws : List ℕ) (vs : List View) (k e : ℕ) → Ledger c ws vs → tally (λ a. one (lost k e a)) vs ≤ 16
-sixteen c ws vs k e ok =
+-- of any views, where each addition has a seat of eight, and each seat got nothing at most twice
+sixteen_of : (vs : List View) (k : AssociationNumber) (e : ℕ) → ((a : Addition) → Among adds a vs → (0 < a.seat) × (a.seat < 9)) → ((q : ℕ) (same : Bool) → tally (λ a. one (tagged q e same a)) vs ≤ 1) → tally (λ a. one (lost k e a)) vs ≤ 16
+sixteen_of vs k e seats twice =
     let m = tally_mono (λ a. one (lost k e a)) (tags_below 8 e) vs (λ a i. ⊎_elim
-    (λ t. let both = and_parts _ _ t in let s = (ok.additions a i).seat in let x = one_true (lost k e a) t in
+    (λ t. let both = and_parts _ _ t in let s = seats a i in let x = one_true (lost k e a) t in
     let r = tag_below 8 e a (not_true a.claimed both.1) s.0 s.1 (eqb-true a.met e (and_parts _ _ both.0).1) in omega arith)
     (λ f. let x : one (lost k e a) ≡ 0 = ap one f in omega arith) (cases_Bool (lost k e a))) in
-    let f = tags_few vs e (λ q s. ok.twice q e s) 8 in omega arith
+    let f = tags_few vs e twice 8 in omega arith
   where
     not_true : (b : Bool) → not b ≡ true → b ≡ false
     not_true true e = absurd (false≢true e)
     not_true false e = refl
+
+pub sixteen : (c : ControlView) (ws : List ℕ) (vs : List View) (k : AssociationNumber) (e : ℕ) → Ledger c ws vs → tally (λ a. one (lost k e a)) vs ≤ 16
+sixteen c ws vs k e ok = sixteen_of vs k e (λ a i. (ok.additions a i).seat) (λ q s. ok.twice q e s)
+
+-- of what control was told
+pub sixteen_told : (c : ControlView) (k : AssociationNumber) (e : ℕ) → Learned c → count (lost k e) c.told ≤ 16
+sixteen_told c k e ok = let few = sixteen_of (Control c ∷ []) k e (λ a i. (ok.additions a (⊎_elim (λ j. j) (λ b. absurd b) i)).seat) (λ q s. let t = ok.twice q e s in omega arith) in omega arith

@@ -1,9 +1,10 @@
 -- What the rule says of control's view alone, so of all that seats told. Control learns it where a
 -- seat goes out and where one comes back.
 use Rattle.std.specs.Prelude.{◌≡◌, ◌⊎◌, ℕ, ◌+◌, ◌^◌, ◌<◌, ◌≤◌, Bool, true, false}
-use Rattle.association_slots.specs.Views.{In, present_at, IsOpen, WasShut, WasAbsent, AllIn, met, lost, claimed, count, told_sum}
+use Rattle.association_slots.specs.Views.{In, present_at, IsOpen, WasShut, WasAbsent, AllIn, lost, claimed, count, told_sum}
 use Rattle.association_slots.specs.Cards.{card_at, Knows}
 use Rattle.association_slots.specs.Rule.{Settled, tagged}
+use Rattle.lan_base.specs.declared.association_number.AssociationNumber.{AssociationNumber}
 use Rattle.association_slots.specs.declared.view.NextSeen.{NextSeen}
 use Rattle.association_slots.specs.declared.view.Addition.{Addition}
 use Rattle.association_slots.specs.declared.view.Mark.{Mark}
@@ -13,7 +14,7 @@ use Rattle.association_slots.specs.declared.card.Card.{Card}
 -- what the next number n of a slot is that shows the epoch, for control: above each number that was
 -- claimed, not below what control saw, above 2 ^ 32 where the epoch was marked as over; with no
 -- seat out the sum of what was told, above 2 ^ 32 by no more than what got nothing
-pub record IsNext (c : ControlView) (an epoch n : ℕ) : Type 0 where
+pub record IsNext (c : ControlView) (an : AssociationNumber) (epoch n : ℕ) : Type 0 where
   pub above_claims : (a : Addition) → In a c.told → a.claimed ≡ true → a.an ≡ an → a.met ≡ epoch
       → a.pn < n
   pub above_loads : (f : NextSeen) → In f c.loads → f.an ≡ an → f.epoch ≡ epoch → f.next ≤ n
@@ -53,7 +54,7 @@ pub record Learned (c : ControlView) : Type 0 where
   pub additions : (a : Addition) → In a c.told → IsTold c a
   pub differ : (epoch pn : ℕ) → count (claimed epoch pn) c.told ≤ 1
   pub twice : (number epoch : ℕ) (of_it : Bool) → count (tagged number epoch of_it) c.told ≤ 1
-  pub open_next : (an epoch : ℕ) → IsOpen c an epoch → (n : ℕ) × IsNext c an epoch n
+  pub open_next : (an : AssociationNumber) (epoch : ℕ) → IsOpen c an epoch → (n : ℕ) × IsNext c an epoch n
   pub shut_next : (f : NextSeen) → In f c.found → WasNext c f
   pub loads : (f : NextSeen) → In f c.loads → In (f.an, f.epoch) c.raises
   pub over : (m : Mark) → In m c.told_over → In (present_at m.an m.epoch) c.points

@@ -6,6 +6,8 @@ use lib.ListN.{get_elem?}
 use Rattle.atomic_table.specs.Table.{State}
 use Rattle.association_slots.specs.Words.{epoch_of, flag_of, next_of, shown_by}
 use Rattle.association_slots.specs.Views.{In, Among, slot, current, present_at, IsOpen, WasShut, WasAbsent, top, adds, overs, gones, met, lost, claimed, count_all}
+use Rattle.lan_base.specs.AssociationNumbers.{number_of}
+use Rattle.lan_base.specs.declared.association_number.AssociationNumber.{AssociationNumber}
 use Rattle.association_slots.specs.declared.view.Current.{Current}
 use Rattle.association_slots.specs.declared.view.NextSeen.{NextSeen}
 use Rattle.association_slots.specs.declared.view.Addition.{Addition}
@@ -17,9 +19,9 @@ use Rattle.association_slots.specs.declared.view.View.TheVariants.{Control, Seat
 
 -- Words 0 to 4 are as control left them, and a slot's next number is not below what control saw
 pub record IsAsLeft (c : ControlView) (words : List ℕ) : Type 0 where
-  pub epochs : (an : ℕ) → an < 4 → epoch_of (slice_index words an) ≡ (slot c an).epoch
-  pub shuts : (an : ℕ) → an < 4 → flag_of (slice_index words an) ≡ (slot c an).shut
-  pub seen : (an : ℕ) → an < 4 → (slot c an).seen ≤ next_of (slice_index words an)
+  pub epochs : (an : AssociationNumber) → epoch_of (slice_index words (number_of an)) ≡ (slot c an).epoch
+  pub shuts : (an : AssociationNumber) → flag_of (slice_index words (number_of an)) ≡ (slot c an).shut
+  pub seen : (an : AssociationNumber) → (slot c an).seen ≤ next_of (slice_index words (number_of an))
   pub shows : shown_by (slice_index words 4) ≡ current c
 
 -- the cards lie in the words from the sixth on, five words each
@@ -30,9 +32,9 @@ pub record HoldsCards (c : ControlView) (words : List ℕ) : Type 0 where
       → slice_index words (5 + i) ≡ slice_index c.card_words i
 
 -- newest first, each raised epoch is above all before
-abbrev pub Rise : List (ℕ × ℕ) → Type 0
+abbrev pub Rise : List (AssociationNumber × ℕ) → Type 0
 Rise [] = Unit {0}
-Rise (r ∷ rs) = ((q : ℕ × ℕ) → In q rs → q.1 < r.1) × Rise rs
+Rise (r ∷ rs) = ((q : AssociationNumber × ℕ) → In q rs → q.1 < r.1) × Rise rs
 
 -- What control did
 pub record Settled (c : ControlView) : Type 0 where
@@ -44,18 +46,18 @@ pub record Settled (c : ControlView) : Type 0 where
   pub names_open : (current c).present ≡ true → IsOpen c (current c).an (current c).epoch
   -- raised epochs rise, and each has a card; it stands in its slot, or was shut there
   pub rise : Rise c.raises
-  pub raised_once : (r : ℕ × ℕ) → In r c.raises → (r.0 < 4) × (0 < r.1) × (r.1 ≤ top c.raises)
+  pub raised_once : (r : AssociationNumber × ℕ) → In r c.raises → (0 < r.1) × (r.1 ≤ top c.raises)
       × (((slot c r.0).epoch ≡ r.1) ⊎ WasShut c r.0 r.1)
   pub has_card : 5 * top c.raises ≤ length c.card_words
   -- a slot shows an epoch that was raised there, or 0, and then it is shut
-  pub slot_low : (an : ℕ) → an < 4 → (slot c an).epoch ≤ top c.raises
-  pub slot_raised : (an : ℕ) → an < 4 → 0 < (slot c an).epoch → In (an, (slot c an).epoch) c.raises
-  pub open_some : (an : ℕ) → an < 4 → (slot c an).shut ≡ false → 0 < (slot c an).epoch
+  pub slot_low : (an : AssociationNumber) → (slot c an).epoch ≤ top c.raises
+  pub slot_raised : (an : AssociationNumber) → 0 < (slot c an).epoch → In (an, (slot c an).epoch) c.raises
+  pub open_some : (an : AssociationNumber) → (slot c an).shut ≡ false → 0 < (slot c an).epoch
   -- an epoch that was shut was raised there, and is open in no slot again
-  pub slot_shut : (an : ℕ) → an < 4 → 0 < (slot c an).epoch → (slot c an).shut ≡ true
+  pub slot_shut : (an : AssociationNumber) → 0 < (slot c an).epoch → (slot c an).shut ≡ true
       → WasShut c an (slot c an).epoch
   pub found_raised : (f : NextSeen) → In f c.found → In (f.an, f.epoch) c.raises
-  pub found_gone : (an : ℕ) → an < 4 → (slot c an).shut ≡ false → (f : NextSeen) → In f c.found
+  pub found_gone : (an : AssociationNumber) → (slot c an).shut ≡ false → (f : NextSeen) → In f c.found
       → f.epoch ≢ (slot c an).epoch
   -- what was pointed at was raised under that AN, and no epoch was above the last
   pub points_low : (p : Current) → In p c.points → (p.epoch ≤ (current c).epoch) × (p.present ≡ true
@@ -65,8 +67,8 @@ pub record Settled (c : ControlView) : Type 0 where
       × ((current c).present ≡ true → e < (current c).epoch)
 
 -- The slot shows at least n while it is open with the epoch, or showed it when it was shut
-pub record AtLeast (c : ControlView) (words : List ℕ) (an epoch n : ℕ) : Type 0 where
-  pub now : IsOpen c an epoch → n ≤ next_of (slice_index words an)
+pub record AtLeast (c : ControlView) (words : List ℕ) (an : AssociationNumber) (epoch n : ℕ) : Type 0 where
+  pub now : IsOpen c an epoch → n ≤ next_of (slice_index words (number_of an))
   pub then : (f : NextSeen) → In f c.found → f.an ≡ an → f.epoch ≡ epoch → n ≤ f.next
 
 -- One addition, told or not: it met an epoch that was raised there, after a load of one that was
@@ -94,20 +96,21 @@ pub record Fits (c : ControlView) (words : List ℕ) (v : SeatView) : Type 0 whe
   pub own_over : (m : Mark) → In m v.over → m.seat ≡ v.number
   pub own_gone : (m : Mark) → In m v.gone → m.seat ≡ v.number
   pub limit : v.limit ≡ c.limit
-  -- what it was shown as present was pointed at, and is above neither the current word's epoch nor
-  -- that of the slot
+  -- what its loads showed as present was pointed at, and is above neither the current word's
+  -- epoch nor that of the slot that it names
   pub low : v.shown.epoch ≤ (current c).epoch
-  pub shown : v.shown.present ≡ true → In v.shown c.points × (v.shown.an < 4)
+  pub shown : v.shown.present ≡ true → In v.shown c.points
       × (v.shown.epoch ≤ (slot c v.shown.an).epoch)
-  pub loaded : (e : ℕ) → In e v.loaded → (an : ℕ) × In (present_at an e) c.points
+  pub loaded : (p : Current) → In p v.loaded → (p.present ≡ true) × In p c.points
+      × (p.epoch ≤ (slot c p.an).epoch)
   -- a note of nothing present was made while nothing was present
   pub noted : (e : ℕ) → In e v.notes → WasAbsent c.points e
   -- the epoch pointed at last when it was made is not above the current word's, and below it where
   -- only now one is present
   pub start : (v.start.last ≤ (current c).epoch) × (v.start.present ≡ false
       → (current c).present ≡ true → v.start.last < (current c).epoch)
-  -- the least next numbers that it was given
-  pub given : (f : NextSeen) → In f v.start.given → In (f.an, f.epoch) c.raises
+  -- the least next numbers that it was given, of epochs that were pointed at
+  pub given : (f : NextSeen) → In f v.start.given → In (present_at f.an f.epoch) c.points
       × (f.epoch ≤ v.start.last) × AtLeast c words f.an f.epoch f.next
   -- its claims rise, and are not below what it was given
   pub claims_rise : ClaimsRise v.additions
@@ -119,7 +122,8 @@ pub record Fits (c : ControlView) (words : List ℕ) (v : SeatView) : Type 0 whe
 
 -- What one seat knows of the seats of its number before it: their marks; and while it may add to
 -- the slot that it was shown, no addition of its number after a load of that epoch got no number
--- there, unless the epoch is marked as over, and none met a later epoch on that slot
+-- there, unless the epoch is marked as over, none met a later epoch on that slot, and none found
+-- the epoch gone
 pub record Follows (vs : List View) (v : SeatView) : Type 0 where
   pub inherits : (m : Mark) → Among overs m vs → m.seat ≡ v.number → In m v.over
   pub not_yet : v.shown.present ≡ true → v.added ≡ false → (a : Addition) → Among adds a vs
@@ -128,6 +132,8 @@ pub record Follows (vs : List View) (v : SeatView) : Type 0 where
       → In (record { seat = v.number; an = v.shown.an; epoch = v.shown.epoch }) v.over
   pub not_later : v.shown.present ≡ true → v.added ≡ false → (a : Addition) → Among adds a vs
       → a.seat ≡ v.number → a.an ≡ v.shown.an → a.met ≤ v.shown.epoch
+  pub not_gone : v.shown.present ≡ true → v.added ≡ false → (m : Mark) → Among gones m vs
+      → m.seat ≡ v.number → m.epoch ≢ v.shown.epoch
 
 abbrev pub agrees : Bool → Bool → Bool
 agrees true b = b
@@ -160,10 +166,10 @@ pub record Ledger (c : ControlView) (words : List ℕ) (vs : List View) : Type 0
 -- above 2 ^ 32 by no more than those that got nothing. The same holds, as a bound, of what was
 -- found when a slot was shut
 pub record Sums (c : ControlView) (words : List ℕ) (vs : List View) : Type 0 where
-  pub sum : (an : ℕ) → an < 4 → 0 < (slot c an).epoch
-      → next_of (slice_index words an) ≡ c.first + count_all (met an (slot c an).epoch) vs
-  pub bound : (an : ℕ) → an < 4 → 0 < (slot c an).epoch
-      → next_of (slice_index words an) ≤ 2 ^ 32 + count_all (lost an (slot c an).epoch) vs
+  pub sum : (an : AssociationNumber) → 0 < (slot c an).epoch
+      → next_of (slice_index words (number_of an)) ≡ c.first + count_all (met an (slot c an).epoch) vs
+  pub bound : (an : AssociationNumber) → 0 < (slot c an).epoch
+      → next_of (slice_index words (number_of an)) ≤ 2 ^ 32 + count_all (lost an (slot c an).epoch) vs
   pub shut_sum : (f : NextSeen) → In f c.found
       → (f.next ≤ c.first + count_all (met f.an f.epoch) vs)
       × (f.next ≤ 2 ^ 32 + count_all (lost f.an f.epoch) vs)

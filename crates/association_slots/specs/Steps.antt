@@ -1,7 +1,10 @@
 -- How each step changes the view of the one that makes it.
-use Rattle.std.specs.Prelude.{ℕ, ◌+◌, ◌-◌, ◌^◌, max, List, [], ◌∷◌, ◌++◌, Bool, true, false, not, cond, ◌&&◌, ◌==◌, nat_lt, nat_le, replicate, slice_set}
+use Rattle.std.specs.Prelude.{ℕ, ◌+◌, ◌-◌, ◌^◌, max, List, [], ◌∷◌, ◌++◌, Bool, true, false, not, cond, ◌&&◌, ◌==◌, nat_lt, replicate, slice_set}
 use Rattle.association_slots.specs.Words.{epoch_of, flag_of, next_of}
-use Rattle.association_slots.specs.Views.{cons_if, blank_slot, slot, current, absent_after, free, free_number, of_seat, mark, told_sum}
+use Rattle.association_slots.specs.Views.{cons_if, blank_slot, slot, current, absent_after, free, free_number, of_seat, mark, told_sum, was_pointed}
+use Rattle.lan_base.specs.AssociationNumbers.{number_of}
+use Rattle.lan_base.specs.declared.association_number.AssociationNumber.{AssociationNumber}
+use Rattle.lan_base.specs.declared.association_number.AssociationNumber.TheVariants.{An0, An1, An2, An3}
 use Rattle.association_slots.specs.declared.view.Current.{Current}
 use Rattle.association_slots.specs.declared.view.NextSeen.{NextSeen}
 use Rattle.association_slots.specs.declared.view.Addition.{Addition}
@@ -37,9 +40,9 @@ abbrev pub wrote : ControlView → ℕ → ControlView
 wrote c word = record c { card_words = c.card_words ++ word ∷ [] }
 
 -- the slot is open with the epoch, at the first number
-abbrev pub raised : ControlView → ℕ → ℕ → ControlView
+abbrev pub raised : ControlView → AssociationNumber → ℕ → ControlView
 raised c an epoch = record c {
-  slots = slice_set c.slots an (record {
+  slots = slice_set c.slots (number_of an) (record {
     epoch = epoch;
     shut = false;
     seen = c.first;
@@ -48,9 +51,9 @@ raised c an epoch = record c {
 }
 
 -- the slot is shut, and its next number was then n
-abbrev pub closed : ControlView → ℕ → ℕ → ControlView
+abbrev pub closed : ControlView → AssociationNumber → ℕ → ControlView
 closed c an n = record c {
-  slots = slice_set c.slots an (record {
+  slots = slice_set c.slots (number_of an) (record {
     epoch = (slot c an).epoch;
     shut = true;
     seen = n;
@@ -63,9 +66,9 @@ closed c an n = record c {
 }
 
 -- control looked at an open slot, and its next number was n
-abbrev pub looked : ControlView → ℕ → ℕ → ControlView
+abbrev pub looked : ControlView → AssociationNumber → ℕ → ControlView
 looked c an n = record c {
-  slots = slice_set c.slots an (record {
+  slots = slice_set c.slots (number_of an) (record {
     epoch = (slot c an).epoch;
     shut = (slot c an).shut;
     seen = n;
@@ -89,24 +92,24 @@ above_claims epoch (a ∷ rest) =
     max (cond (a.claimed && (a.met == epoch)) (a.pn + 1) 0) (above_claims epoch rest)
 
 -- the least next number that the slot has, by what control saw there and was told
-abbrev pub least_next : ControlView → ℕ → NextSeen
+abbrev pub least_next : ControlView → AssociationNumber → NextSeen
 least_next c an = let epoch = (slot c an).epoch in record {
   an = an;
   epoch = epoch;
   next = max (slot c an).seen (max (told_sum c an epoch) (above_claims epoch c.told));
 }
 
--- for a slot that is open with an epoch no later than the last one pointed at
-abbrev pub given_of : ControlView → ℕ → List NextSeen → List NextSeen
+-- for a slot that is open with an epoch that was pointed at under its AN
+abbrev pub given_of : ControlView → AssociationNumber → List NextSeen → List NextSeen
 given_of c an rest =
-    cons_if (not (slot c an).shut && nat_le (slot c an).epoch (current c).epoch)
-    (least_next c an) rest
+    cons_if (not (slot c an).shut && was_pointed an (slot c an).epoch c.points) (least_next c an)
+    rest
 
 abbrev pub start_of : ControlView → Start
 start_of c = record {
   last = (current c).epoch;
   present = (current c).present;
-  given = given_of c 0 (given_of c 1 (given_of c 2 (given_of c 3 [])));
+  given = given_of c An0 (given_of c An1 (given_of c An2 (given_of c An3 [])));
 }
 
 -- it has the first free number, and the marks of the seats of that number that were told
@@ -149,7 +152,7 @@ loaded v p = record v {
   loads = v.loads + 1;
   shown = p;
   added = false;
-  loaded = cons_if p.present p.epoch v.loaded;
+  loaded = cons_if p.present p v.loaded;
   notes = cons_if (not p.present) p.epoch v.notes;
 }
 

@@ -1,8 +1,10 @@
 -- What a seat's calls tell.
-use Rattle.std.specs.Prelude.{◌≡◌, ◌≢◌, ℕ, ◌+◌, ◌^◌, ◌<◌, ◌≤◌, true, false, List, ◌++◌}
+use Rattle.std.specs.Prelude.{◌≡◌, ◌≢◌, ◌⊎◌, ℕ, ◌^◌, ◌<◌, ◌≤◌, true, false, List, ◌++◌}
+use Rattle.association_slots.specs.Words.{epoch_of, flag_of, next_of}
 use Rattle.association_slots.specs.Views.{In}
 use Rattle.association_slots.specs.Steps.{added}
 use Rattle.association_slots.specs.declared.view.Current.{Current}
+use Rattle.association_slots.specs.declared.view.Addition.{Addition}
 use Rattle.association_slots.specs.declared.view.NextSeen.{NextSeen}
 use Rattle.association_slots.specs.declared.view.Mark.{Mark}
 use Rattle.association_slots.specs.declared.view.Added.{Added}
@@ -13,10 +15,9 @@ use Rattle.association_slots.specs.declared.view.SeatView.{SeatView}
 -- was shown, was given, noted or marked, and was not found gone; where it is present, it is above
 -- those after which nothing was present
 pub record Sees (v : SeatView) (p : Current) : Type 0 where
-  pub an : p.an < 4
   pub small : (p.epoch ≤ v.limit) × (p.present ≡ true → 0 < p.epoch)
   pub later : v.shown.epoch ≤ p.epoch
-  pub later_loaded : (e : ℕ) → In e v.loaded → e ≤ p.epoch
+  pub later_loaded : (q : Current) → In q v.loaded → q.epoch ≤ p.epoch
   pub later_notes : (e : ℕ) → In e v.notes → (e ≤ p.epoch) × (p.present ≡ true → e < p.epoch)
   pub later_start : (v.start.last ≤ p.epoch) × (v.start.present ≡ false → p.present ≡ true
       → v.start.last < p.epoch)
@@ -25,16 +26,28 @@ pub record Sees (v : SeatView) (p : Current) : Type 0 where
       → m.epoch ≤ p.epoch)
   pub not_gone : p.present ≡ true → (m : Mark) → In m v.gone → m.epoch ≢ p.epoch
 
--- An addition with that answer, where the slot showed the epoch e: a number is a packet number of
--- the loaded epoch, above all that the seat claimed of it and not below what it was given
-abbrev pub Gives : SeatView → Added → ℕ → Type 0
-Gives v (Number n) e = (e ≡ v.shown.epoch) × (n < 2 ^ 32) × ((f : NextSeen) → In f v.start.given
-    → f.an ≡ v.shown.an → f.epoch ≡ v.shown.epoch → f.next ≤ n)
-Gives v Over e = e ≡ v.shown.epoch
-Gives v Gone e = Unit {0}
+-- n is a packet number, above each that the seat claimed of the epoch
+abbrev pub IsAboveClaims : SeatView → ℕ → ℕ → Type 0
+IsAboveClaims v epoch n = (1 ≤ n) × ((a : Addition) → In a v.additions → a.claimed ≡ true
+    → a.met ≡ epoch → a.pn < n)
 
+-- What the slot's word was that an addition with that answer met. A number: it was open with the
+-- loaded epoch, and the number its next one, a packet number, above all that the seat claimed of
+-- the epoch and not below what it was given. None since all were taken: it was open with that
+-- epoch, and its next number was no packet number. None since the epoch was gone: it was shut, or
+-- showed a later epoch
+abbrev pub Gives : SeatView → Added → ℕ → Type 0
+Gives v (Number n) word = (epoch_of word ≡ v.shown.epoch) × (flag_of word ≡ false)
+    × (n ≡ next_of word) × (n < 2 ^ 32) × ((f : NextSeen) → In f v.start.given → f.an ≡ v.shown.an
+    → f.epoch ≡ v.shown.epoch → f.next ≤ n) × IsAboveClaims v v.shown.epoch n
+Gives v Over word = (epoch_of word ≡ v.shown.epoch) × (flag_of word ≡ false)
+    × (2 ^ 32 ≤ next_of word)
+Gives v Gone word = (v.shown.epoch < epoch_of word)
+    ⊎ ((epoch_of word ≡ v.shown.epoch) × (flag_of word ≡ true))
+
+-- the seat made one addition more, which met a word, with that answer
 abbrev pub IsAdded : SeatView → Added → SeatView → Type 0
-IsAdded v answer w = (e : ℕ) × (w ≡ added v e answer) × Gives v answer e
+IsAdded v answer w = (word : ℕ) × (w ≡ added v (epoch_of word) answer) × Gives v answer word
 
 -- the seat has read more card words, or none
 abbrev pub ReadsMore : SeatView → SeatView → Type 0

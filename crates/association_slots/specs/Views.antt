@@ -1,6 +1,9 @@
 -- How the views are read: of control, of a seat, and of all of them together.
-use Rattle.std.specs.Prelude.{◌≡◌, ◌⊎◌, ℕ, suc, ◌+◌, ◌<◌, max, Bool, true, false, not, ◌&&◌, ◌==◌, List, [], ◌∷◌, slice_index_or}
+use Rattle.std.specs.Prelude.{◌≡◌, ◌⊎◌, ℕ, suc, ◌+◌, max, Bool, true, false, not, ◌&&◌, ◌||◌, ◌==◌, List, [], ◌∷◌, slice_index_or}
 use Rattle.atomic_table.specs.Seated.{TableId}
+use Rattle.lan_base.specs.AssociationNumbers.{number_of, same_an}
+use Rattle.lan_base.specs.declared.association_number.AssociationNumber.{AssociationNumber}
+use Rattle.lan_base.specs.declared.association_number.AssociationNumber.TheVariants.{An0}
 use Rattle.association_slots.specs.declared.view.SlotView.{SlotView}
 use Rattle.association_slots.specs.declared.view.Current.{Current}
 use Rattle.association_slots.specs.declared.view.NextSeen.{NextSeen}
@@ -35,13 +38,13 @@ cons_if false x xs = xs
 abbrev pub blank_slot : SlotView
 blank_slot = record { epoch = 0; shut = true; seen = 0 }
 
-abbrev pub slot : ControlView → ℕ → SlotView
-slot c an = slice_index_or c.slots an blank_slot
+abbrev pub slot : ControlView → AssociationNumber → SlotView
+slot c an = slice_index_or c.slots (number_of an) blank_slot
 
 abbrev pub absent_after : ℕ → Current
-absent_after epoch = record { epoch = epoch; present = false; an = 0 }
+absent_after epoch = record { epoch = epoch; present = false; an = An0 }
 
-abbrev pub present_at : ℕ → ℕ → Current
+abbrev pub present_at : AssociationNumber → ℕ → Current
 present_at an epoch = record { epoch = epoch; present = true; an = an }
 
 abbrev pub newest : List Current → Current
@@ -53,15 +56,21 @@ abbrev pub current : ControlView → Current
 current c = newest c.points
 
 -- the slot is open with that epoch
-abbrev pub IsOpen : ControlView → ℕ → ℕ → Type 0
-IsOpen c an epoch = (an < 4) × ((slot c an).shut ≡ false) × ((slot c an).epoch ≡ epoch)
+abbrev pub IsOpen : ControlView → AssociationNumber → ℕ → Type 0
+IsOpen c an epoch = ((slot c an).shut ≡ false) × ((slot c an).epoch ≡ epoch)
 
 -- the epoch was shut at that slot
-abbrev pub WasShut : ControlView → ℕ → ℕ → Type 0
+abbrev pub WasShut : ControlView → AssociationNumber → ℕ → Type 0
 WasShut c an epoch = (f : NextSeen) × In f c.found × (f.an ≡ an) × (f.epoch ≡ epoch)
 
+-- the epoch was pointed at under the AN
+abbrev pub was_pointed : AssociationNumber → ℕ → List Current → Bool
+was_pointed an epoch [] = false
+was_pointed an epoch (p ∷ ps) =
+    (p.present && (same_an p.an an && (p.epoch == epoch))) || was_pointed an epoch ps
+
 -- the greatest raised epoch
-abbrev pub top : List (ℕ × ℕ) → ℕ
+abbrev pub top : List (AssociationNumber × ℕ) → ℕ
 top [] = 0
 top (r ∷ rs) = r.1
 
@@ -69,6 +78,10 @@ top (r ∷ rs) = r.1
 abbrev pub WasAbsent : List Current → ℕ → Type 0
 WasAbsent [] e = 0 ≡ e
 WasAbsent (p ∷ ps) e = ((p.present ≡ false) × (p.epoch ≡ e)) ⊎ WasAbsent ps e
+
+-- the seat loaded the epoch as present
+abbrev pub HasLoaded : SeatView → ℕ → Type 0
+HasLoaded v epoch = (an : AssociationNumber) × In (present_at an epoch) v.loaded
 
 -- no seat is out
 abbrev pub AllIn : ControlView → Type 0
@@ -86,11 +99,11 @@ free_number c = free c.out + 1
 -- Of additions and marks
 
 -- the addition met the epoch on the slot
-abbrev pub met : ℕ → ℕ → Addition → Bool
-met an epoch a = (a.an == an) && (a.met == epoch)
+abbrev pub met : AssociationNumber → ℕ → Addition → Bool
+met an epoch a = same_an a.an an && (a.met == epoch)
 
 -- it met it, and claimed no number
-abbrev pub lost : ℕ → ℕ → Addition → Bool
+abbrev pub lost : AssociationNumber → ℕ → Addition → Bool
 lost an epoch a = met an epoch a && not a.claimed
 
 -- it claimed the number of the epoch
@@ -132,7 +145,7 @@ count p xs = weigh (λ a. one (p a)) xs
 
 -- the first number of a slot, and one for each addition that control was told of and that met the
 -- epoch there
-abbrev pub told_sum : ControlView → ℕ → ℕ → ℕ
+abbrev pub told_sum : ControlView → AssociationNumber → ℕ → ℕ
 told_sum c an epoch = c.first + count (met an epoch) c.told
 
 -- Of all views: what the seats did, those that came back too

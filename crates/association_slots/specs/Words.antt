@@ -3,6 +3,8 @@
 -- the current word: the epoch from bit 40 on, in bit 39 whether it is present, the AN in bits 1 and
 -- 0.
 use Rattle.std.specs.Prelude.{ℕ, ◌+◌, ◌*◌, ◌/◌, ◌%◌, ◌^◌, Bool, ◌==◌}
+use Rattle.lan_base.specs.AssociationNumbers.{number_of, of_bits}
+use Rattle.lan_base.specs.declared.association_number.AssociationNumber.{AssociationNumber}
 use Rattle.association_slots.specs.declared.view.Current.{Current}
 
 abbrev pub epoch_of : ℕ → ℕ
@@ -15,8 +17,9 @@ flag_of word = word / 2 ^ 39 % 2 == 1
 abbrev pub next_of : ℕ → ℕ
 next_of word = word % 2 ^ 39
 
-abbrev pub an_of : ℕ → ℕ
-an_of word = word % 4
+-- the AN of the two lowest bits
+abbrev pub an_of : ℕ → AssociationNumber
+an_of word = of_bits (word / 2 % 2 == 1) (word % 2 == 1)
 
 -- what a current word shows
 abbrev pub shown_by : ℕ → Current
@@ -27,8 +30,8 @@ abbrev pub open_word : ℕ → ℕ → ℕ
 open_word epoch next = epoch * 2 ^ 40 + next
 
 -- a current word with an epoch present under an AN
-abbrev pub present_word : ℕ → ℕ → ℕ
-present_word epoch an = epoch * 2 ^ 40 + (2 ^ 39 + an)
+abbrev pub present_word : ℕ → AssociationNumber → ℕ
+present_word epoch an = epoch * 2 ^ 40 + (2 ^ 39 + number_of an)
 
 -- a current word with nothing present, after that epoch
 abbrev pub absent_word : ℕ → ℕ

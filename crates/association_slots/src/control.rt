@@ -11,6 +11,7 @@ use crate::rule::{ComeBack, GoOut, Learn, Look, Place, PointAt, Raise, Shut, Wri
 use crate::table::SlotTable;
 use crate::words::{FLAG, absent_word, next_of, open_word, present_word};
 use crate::worker_seat::WorkerSeat;
+use lan_base::AssociationNumber;
 use std::marker::Model;
 
 /// How many seats may be out.
@@ -75,6 +76,7 @@ impl Control {
               card_words = self.old.view.card_words ++ card_words card.now;
             }) }
         ensures card { IfOk result (λ epoch. card_at self.new.view epoch ≡ card.now) }
+        ensures learned { OnOk result (Learned self.new.view) }
         ensures unchanged { OnErr result (self.new ≡ self.old) }
     {
         if self.given == self.limit {
@@ -87,27 +89,29 @@ impl Control {
     }
 
     /// Opens a shut slot with an epoch that has a card and is above every raised one.
-    pub fn raise(&mut self, table: &SlotTable, an: u8, epoch: u32)
+    pub fn raise(&mut self, table: &SlotTable, an: AssociationNumber, epoch: u32)
         requires here { self.old.table ≡ table.now }
-        requires shut { (an < 4) × ((slot self.old.view an).shut ≡ true) }
+        requires shut { (slot self.old.view an).shut ≡ true }
         requires card { epoch ≤ cards_given self.old.view }
         requires above { top self.old.view.raises < epoch }
-        ensures { self.new ≡ record self.old { view = raised self.old.view an epoch } }
+        ensures view { self.new ≡ record self.old { view = raised self.old.view an epoch } }
+        ensures learned { Learned self.new.view }
     {
         let word = open_word(epoch, self.first);
         table
             .table
             .shared
-            .swap::<Raise>(&mut self.place, usize::from(an), word);
+            .swap::<Raise>(&mut self.place, usize::from(an.number()), word);
     }
 
     /// Makes the epoch of an open slot present, which is above every epoch pointed at before.
-    pub fn point(&mut self, table: &SlotTable, an: u8, epoch: u32)
+    pub fn point(&mut self, table: &SlotTable, an: AssociationNumber, epoch: u32)
         requires here { self.old.table ≡ table.now }
         requires open { IsOpen self.old.view an epoch }
         requires above { (current self.old.view).epoch < epoch }
-        ensures { self.new
+        ensures view { self.new
             ≡ record self.old { view = pointed self.old.view (present_at an epoch) } }
+        ensures learned { Learned self.new.view }
     {
         self.last = epoch;
         let word = present_word(self.last, an);
@@ -120,9 +124,10 @@ impl Control {
     /// Nothing is present from now on.
     pub fn unpoint(&mut self, table: &SlotTable)
         requires here { self.old.table ≡ table.now }
-        ensures { self.new ≡ record self.old {
+        ensures view { self.new ≡ record self.old {
           view = pointed self.old.view (absent_after (current self.old.view).epoch);
         } }
+        ensures learned { Learned self.new.view }
     {
         let word = absent_word(self.last);
         table
@@ -133,33 +138,35 @@ impl Control {
 
     /// Shuts an open slot that the current word does not name, and answers the next number that it
     /// showed then. Every number claimed under its epoch, then or later, is below it.
-    pub fn shut(&mut self, table: &SlotTable, an: u8) -> u64
+    pub fn shut(&mut self, table: &SlotTable, an: AssociationNumber) -> u64
         requires here { self.old.table ≡ table.now }
-        requires open { (an < 4) × ((slot self.old.view an).shut ≡ false) }
+        requires open { (slot self.old.view an).shut ≡ false }
         requires away { (current self.old.view).present ≡ true → (current self.old.view).an ≢ an }
         ensures view { self.new ≡ record self.old { view = closed self.old.view an result } }
         ensures seen { (slot self.old.view an).seen ≤ result }
         ensures next { IsNext self.old.view an (slot self.old.view an).epoch result }
+        ensures learned { Learned self.new.view }
     {
         let word = table
             .table
             .shared
-            .fetch_or::<Shut>(&mut self.place, usize::from(an), FLAG);
+            .fetch_or::<Shut>(&mut self.place, usize::from(an.number()), FLAG);
         next_of(word)
     }
 
     /// The next number of an open slot, by one load.
-    pub fn next_of(&mut self, table: &SlotTable, an: u8) -> u64
+    pub fn next_of(&mut self, table: &SlotTable, an: AssociationNumber) -> u64
         requires here { self.old.table ≡ table.now }
-        requires open { (an < 4) × ((slot self.old.view an).shut ≡ false) }
+        requires open { (slot self.old.view an).shut ≡ false }
         ensures view { self.new ≡ record self.old { view = looked self.old.view an result } }
         ensures seen { (slot self.old.view an).seen ≤ result }
         ensures next { IsNext self.old.view an (slot self.old.view an).epoch result }
+        ensures learned { Learned self.new.view }
     {
         let word = table
             .table
             .shared
-            .load::<Look>(&mut self.place, usize::from(an));
+            .load::<Look>(&mut self.place, usize::from(an.number()));
         next_of(word)
     }
 
@@ -176,7 +183,8 @@ impl Control {
         requires room { free_number self.old.view ≤ 8 }
         ensures control { self.new ≡ record self.old { view = seated self.old.view } }
         ensures seat { result ≡ record { table = self.old.table; view = new_seat self.old.view } }
-        ensures learned { Learned self.old.view }
+        ensures before { Learned self.old.view }
+        ensures learned { Learned self.new.view }
     {
         table.table.shared.load::<Learn>(&mut self.place, 4);
         let free = free_place(&self.out);
@@ -217,7 +225,7 @@ fn write_card(table: &SlotTable, place: &mut Place, from: usize, words: &[u64; 5
             card_words = (control_of place.old.me.0).card_words ++ words.now;
           }),
           [],
-        )) }
+        )) × Learned (control_of place.new.me.0) }
 {
     let [a, b, c, d, flags] = *words;
     write(table, place, from, a);
@@ -235,7 +243,8 @@ fn write(table: &SlotTable, place: &mut Place, word: usize, held: u64)
         × (word < 5 + 5 * (control_of place.old.me.0).limit)
         × (table.now.words ≡ 5 + 5 * (control_of place.old.me.0).limit) }
     ensures { (place.new.table_id ≡ place.old.table_id)
-        × (place.new.me ≡ («control» (wrote (control_of place.old.me.0) held), [])) }
+        × (place.new.me ≡ («control» (wrote (control_of place.old.me.0) held), []))
+        × Learned (control_of place.new.me.0) }
 {
     table.table.shared.store::<Write>(place, word, held);
 }

@@ -1,15 +1,20 @@
 //! What the rule of a table says: each of these holds between any two steps of any number of
 //! threads.
-ghost use Rattle.std.specs.Prelude.{◌≡◌, ◌⊎◌, ℕ, ◌+◌, ◌^◌, ◌<◌, ◌≤◌, Bool, List, true, false, slice_index};
+ghost use Rattle.std.specs.Prelude.{◌≡◌, ◌≢◌, ◌⊎◌, ℕ, ◌+◌, ◌++◌, ◌^◌, ◌<◌, ◌≤◌, Bool, List, true, false, slice_index};
 ghost use mathlib.Core.Option.{some};
 ghost use lib.ListN.{get_elem?};
-ghost use Rattle.association_slots.specs.Cards.{Knows, card_at};
+ghost use Rattle.association_slots.specs.Cards.{Knows, card_at, card_words, cards_given};
+ghost use Rattle.association_slots.specs.Learned.{Learned};
+ghost use Rattle.association_slots.specs.Steps.{least_next};
 ghost use Rattle.association_slots.specs.Rule.{Around, AtLeast, ClaimsRise, HoldsCards, IsAsLeft, Rise, tagged};
-ghost use Rattle.association_slots.specs.Views.{In, Among, adds, overs, gones, slot, present_at, IsOpen, WasShut, WasAbsent, met, lost, claimed, count_all};
+ghost use Rattle.association_slots.specs.Views.{AllIn, In, Among, count, told_sum, adds, overs, gones, slot, present_at, IsOpen, WasShut, WasAbsent, met, lost, claimed, count_all};
 ghost use Rattle.association_slots.specs.Words.{epoch_of, flag_of, next_of, an_of};
+ghost use Rattle.lan_base.specs.AssociationNumbers.{number_of};
+ghost use Rattle.lan_base.specs.declared.association_number.AssociationNumber.{AssociationNumber};
 ghost use Rattle.association_slots.specs.declared.card.Card.{Card};
 ghost use Rattle.association_slots.specs.declared.view.Addition.{Addition};
 ghost use Rattle.association_slots.specs.declared.view.ControlView.{ControlView};
+ghost use Rattle.association_slots.specs.declared.view.Current.{Current};
 ghost use Rattle.association_slots.specs.declared.view.Mark.{Mark};
 ghost use Rattle.association_slots.specs.declared.view.NextSeen.{NextSeen};
 ghost use Rattle.association_slots.specs.declared.view.SeatView.{SeatView};
@@ -25,16 +30,16 @@ pub fn law_words()
 /// A present current word names an open slot with its epoch.
 pub fn law_names_an_open_slot()
     ensures { (c : ControlView) (words : List ℕ) (views : List View) → Around c words views
-        → flag_of (slice_index words 4) ≡ true → (an_of (slice_index words 4) < 4)
-        × (flag_of (slice_index words (an_of (slice_index words 4))) ≡ false)
-        × (epoch_of (slice_index words (an_of (slice_index words 4)))
+        → flag_of (slice_index words 4) ≡ true
+        → (flag_of (slice_index words (number_of (an_of (slice_index words 4)))) ≡ false)
+        × (epoch_of (slice_index words (number_of (an_of (slice_index words 4))))
         ≡ epoch_of (slice_index words 4)) }
 {}
 
 /// Raised epochs rise, and one that was shut is open in no slot again.
 pub fn law_raised_epochs_rise()
     ensures { (c : ControlView) (words : List ℕ) (views : List View) → Around c words views
-        → Rise c.raises × ((an e k : ℕ) → IsOpen c an e → WasShut c k e → ⊥) }
+        → Rise c.raises × ((an k : AssociationNumber) (e : ℕ) → IsOpen c an e → WasShut c k e → ⊥) }
 {}
 
 /// What a seat was shown as present was pointed at, and is above neither what the current word
@@ -43,16 +48,17 @@ pub fn law_loaded()
     ensures { (c : ControlView) (words : List ℕ) (views : List View) → Around c words views
         → (i : ℕ) (v : SeatView) → get_elem? views i ≡ some (Seat v) → v.shown.present ≡ true
         → In v.shown c.points × (v.shown.epoch ≤ epoch_of (slice_index words 4))
-        × (v.shown.epoch ≤ epoch_of (slice_index words v.shown.an)) }
+        × (v.shown.epoch ≤ epoch_of (slice_index words (number_of v.shown.an))) }
 {}
 
-/// What a seat loaded as present was pointed at by control, and is not above what the current word
-/// shows.
+/// What a seat loaded as present, in any of its loads, was pointed at by control under the AN
+/// loaded with it, and is above neither what the current word shows nor what the slot named with it
+/// does.
 pub fn law_loaded_was_pointed_at()
     ensures { (c : ControlView) (words : List ℕ) (views : List View) → Around c words views
-        → (i : ℕ) (v : SeatView) → get_elem? views i ≡ some (Seat v) → (e : ℕ) → In e v.loaded
-        → ((an : ℕ) × (an < 4) × In (present_at an e) c.points)
-        × (e ≤ epoch_of (slice_index words 4)) }
+        → (i : ℕ) (v : SeatView) → get_elem? views i ≡ some (Seat v) → (p : Current) → In p v.loaded
+        → (p.present ≡ true) × In p c.points × (p.epoch ≤ epoch_of (slice_index words 4))
+        × (p.epoch ≤ epoch_of (slice_index words (number_of p.an))) }
 {}
 
 /// Claims of all seats, those that came back too, differ in epoch or number.
@@ -78,12 +84,35 @@ pub fn law_claims_rise()
         → a.an ≡ f.an → a.met ≡ f.epoch → f.next ≤ a.pn) }
 {}
 
+/// At most sixteen numbers of an epoch are lost, of what control was told.
+pub fn law_few_numbers_are_lost()
+    ensures { (c : ControlView) → Learned c → (an : AssociationNumber) (epoch : ℕ)
+        → count (lost an epoch) c.told ≤ 16 }
+{}
+
+/// Of an open slot, the next number that control counts is not above the word's, also where control
+/// gives it to a new seat; with no seat out it is the word's.
+pub fn law_counted_next()
+    ensures { (c : ControlView) (words : List ℕ) (views : List View) → Around c words views
+        → (an : AssociationNumber) (epoch : ℕ) → IsOpen c an epoch
+        → (told_sum c an epoch ≤ (least_next c an).next)
+        × ((least_next c an).next ≤ next_of (slice_index words (number_of an)))
+        × (AllIn c → next_of (slice_index words (number_of an)) ≡ told_sum c an epoch) }
+{}
+
+/// The cards of earlier epochs stay when one is given.
+pub fn law_earlier_cards_stay()
+    ensures { (c : ControlView) (card : Card) (epoch : ℕ) → 0 < epoch → epoch ≤ cards_given c
+        → card_at (record c { card_words = c.card_words ++ card_words card }) epoch
+        ≡ card_at c epoch }
+{}
+
 /// A slot's next number is the first one, and one more for each addition that met its epoch. What
 /// was found when it was shut is no more than that.
 pub fn law_sums()
     ensures { (c : ControlView) (words : List ℕ) (views : List View) → Around c words views
-        → ((an : ℕ) → an < 4 → 0 < (slot c an).epoch
-        → next_of (slice_index words an) ≡ c.first + count_all (met an (slot c an).epoch) views)
+        → ((an : AssociationNumber) → 0 < (slot c an).epoch
+        → next_of (slice_index words (number_of an)) ≡ c.first + count_all (met an (slot c an).epoch) views)
         × ((f : NextSeen) → In f c.found → f.next ≤ c.first + count_all (met f.an f.epoch) views) }
 {}
 
@@ -91,17 +120,17 @@ pub fn law_sums()
 /// 2 ^ 32 by no more than these: it never reaches the bit above.
 pub fn law_next_is_low()
     ensures { (c : ControlView) (words : List ℕ) (views : List View) → Around c words views
-        → ((an epoch : ℕ) → count_all (lost an epoch) views ≤ 16)
-        × ((an : ℕ) → an < 4 → 0 < (slot c an).epoch
-        → next_of (slice_index words an) ≤ 2 ^ 32 + 16) }
+        → ((an : AssociationNumber) (epoch : ℕ) → count_all (lost an epoch) views ≤ 16)
+        × ((an : AssociationNumber) → 0 < (slot c an).epoch
+        → next_of (slice_index words (number_of an)) ≤ 2 ^ 32 + 16) }
 {}
 
 /// An addition, also one that got nothing, met an epoch that was raised on its slot and is not
 /// above what the slot shows, after a load of one that was pointed at there and is not above it.
 pub fn law_additions()
     ensures { (c : ControlView) (words : List ℕ) (views : List View) → Around c words views
-        → (a : Addition) → Among adds a views → (0 < a.loaded) × (a.loaded ≤ a.met) × (a.an < 4)
-        × (a.met ≤ epoch_of (slice_index words a.an)) × In (a.an, a.met) c.raises
+        → (a : Addition) → Among adds a views → (0 < a.loaded) × (a.loaded ≤ a.met)
+        × (a.met ≤ epoch_of (slice_index words (number_of a.an))) × In (a.an, a.met) c.raises
         × In (present_at a.an a.loaded) c.points }
 {}
 
@@ -129,6 +158,15 @@ pub fn law_before_an_addition()
         → In (record { seat = v.number; an = v.shown.an; epoch = v.shown.epoch }) v.over) }
 {}
 
+/// While a seat that was shown an epoch as present has not added yet, no seat of its number found
+/// that epoch gone.
+pub fn law_not_gone()
+    ensures { (c : ControlView) (words : List ℕ) (views : List View) → Around c words views
+        → (i : ℕ) (v : SeatView) → get_elem? views i ≡ some (Seat v) → v.shown.present ≡ true
+        → v.added ≡ false → (m : Mark) → Among gones m views → m.seat ≡ v.number
+        → m.epoch ≢ v.shown.epoch }
+{}
+
 /// A seat has the marks of an epoch as over that seats of its number made before it.
 pub fn law_marks_stay()
     ensures { (c : ControlView) (words : List ℕ) (views : List View) → Around c words views
@@ -146,12 +184,13 @@ pub fn law_start()
         → v.start.last < epoch_of (slice_index words 4)) }
 {}
 
-/// A next number that a seat was given when it was made is of an epoch that was raised on its slot
-/// and is not above the last one then; the slot shows no less, or showed no less when it was shut.
+/// A next number that a seat was given when it was made is of an epoch that was pointed at under
+/// its AN and is not above the last one then; the slot shows no less, or showed no less when it was
+/// shut.
 pub fn law_given()
     ensures { (c : ControlView) (words : List ℕ) (views : List View) → Around c words views
         → (i : ℕ) (v : SeatView) → get_elem? views i ≡ some (Seat v)
-        → (f : NextSeen) → In f v.start.given → In (f.an, f.epoch) c.raises
+        → (f : NextSeen) → In f v.start.given → In (present_at f.an f.epoch) c.points
         × (f.epoch ≤ v.start.last) × AtLeast c words f.an f.epoch f.next }
 {}
 

@@ -1,5 +1,6 @@
 //! The table of a station's transmit associations.
 ghost use Rattle.std.specs.Prelude.{◌≡◌, ◌+◌, ◌*◌, ◌^◌, ◌<◌, ◌≤◌, length, slice_index, IfOk};
+ghost use Rattle.association_slots.specs.Learned.{Learned};
 ghost use Rattle.association_slots.specs.Steps.{at_first};
 
 use crate::control::Control;
@@ -30,7 +31,8 @@ impl SlotTable {
     pub fn new(alloc: Global, cards: u16, first: u32) -> Result<(SlotTable, Control), AllocError>
         requires cards { (1 ≤ cards) × (cards ≤ 4096) }
         requires first { 1 ≤ first }
-        ensures { IfOk result (λ t. (t.1.table ≡ t.0) × (t.1.view ≡ at_first first cards)) }
+        ensures start { IfOk result (λ t. (t.1.table ≡ t.0) × (t.1.view ≡ at_first first cards)) }
+        ensures learned { IfOk result (λ t. Learned t.1.view) }
     {
         let words = blank(alloc, cards)?;
         let about = (u64::from(first), u64::from(cards));

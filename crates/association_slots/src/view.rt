@@ -1,5 +1,6 @@
 //! What the threads at a table know of it. Contracts read these types. No value of a view is made,
 //! so its numbers have no bound but the rule's.
+use lan_base::AssociationNumber;
 use std::collections::LinkedList;
 
 /// What the current word shows: an epoch that is present under an AN, or that none is present since
@@ -8,7 +9,7 @@ use std::collections::LinkedList;
 pub struct Current {
     pub epoch: u32,
     pub present: bool,
-    pub an: u8,
+    pub an: AssociationNumber,
 }
 
 /// What an addition to a slot gave.
@@ -32,7 +33,7 @@ pub struct SlotView {
 
 /// A next number that a slot showed under an epoch.
 pub struct NextSeen {
-    pub an: u64,
+    pub an: AssociationNumber,
     pub epoch: u64,
     pub next: u64,
 }
@@ -41,7 +42,7 @@ pub struct NextSeen {
 /// before, and the packet number, if one was claimed; else 0.
 pub struct Addition {
     pub seat: u64,
-    pub an: u64,
+    pub an: AssociationNumber,
     pub met: u64,
     pub loaded: u64,
     pub claimed: bool,
@@ -52,7 +53,7 @@ pub struct Addition {
 /// gone.
 pub struct Mark {
     pub seat: u64,
-    pub an: u64,
+    pub an: AssociationNumber,
     pub epoch: u64,
 }
 
@@ -66,7 +67,7 @@ pub struct ControlView {
     pub card_words: LinkedList<u64>,
     pub slots: LinkedList<SlotView>,
     /// The slots that were raised, each an AN and an epoch.
-    pub raises: LinkedList<(u64, u64)>,
+    pub raises: LinkedList<(AssociationNumber, u64)>,
     /// What the slots showed when they were shut.
     pub found: LinkedList<NextSeen>,
     /// What was stored in the current word.
@@ -108,8 +109,8 @@ pub struct SeatView {
     pub over: LinkedList<Mark>,
     /// The epochs that this seat found gone.
     pub gone: LinkedList<Mark>,
-    /// The epochs that its loads showed as present.
-    pub loaded: LinkedList<u64>,
+    /// What its loads showed as present: each an epoch and the AN under which it was.
+    pub loaded: LinkedList<Current>,
     /// The last epochs of the loads that showed nothing present.
     pub notes: LinkedList<u64>,
     /// The card words that it read: which word of the table, and what it held.

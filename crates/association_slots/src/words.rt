@@ -1,9 +1,10 @@
 //! The layout of the words: what stands in `specs/Words.antt`, on numbers of 64 bits.
 ghost use Rattle.std.specs.Prelude.{◌≡◌, ◌^◌, ◌<◌};
 ghost use Rattle.association_slots.specs.Steps.{answer};
-ghost use Rattle.association_slots.specs.Words.{next_of, shown_by, open_word, present_word, absent_word};
+ghost use Rattle.association_slots.specs.Words.{an_of, next_of, shown_by, open_word, present_word, absent_word};
 
 use crate::view::{Added, Current};
+use lan_base::AssociationNumber;
 
 /// The bit that says that a slot is shut, or that a key is present.
 pub(crate) const FLAG: u64 = 1 << 39;
@@ -28,11 +29,11 @@ pub(crate) fn open_word(epoch: u32, next: u32) -> u64
 }
 
 /// A current word with the epoch present.
-pub(crate) fn present_word(epoch: u32, an: u8) -> u64
+pub(crate) fn present_word(epoch: u32, an: AssociationNumber) -> u64
     requires { epoch < 2 ^ 24 }
     ensures { result ≡ present_word epoch an }
 {
-    u64::from(epoch) * EPOCH + (FLAG + u64::from(an))
+    u64::from(epoch) * EPOCH + (FLAG + u64::from(an.number()))
 }
 
 /// A current word with nothing present, after that epoch.
@@ -50,8 +51,15 @@ pub(crate) fn shown_by(word: u64) -> Current
     Current {
         epoch: (word / EPOCH) as u32,
         present: word / FLAG % 2 == 1,
-        an: (word % 4) as u8,
+        an: an_of(word),
     }
+}
+
+/// The AN in a current word.
+fn an_of(word: u64) -> AssociationNumber
+    ensures { result ≡ an_of word }
+{
+    AssociationNumber::of_bits(word / 2 % 2 == 1, word % 2 == 1)
 }
 
 /// What an addition gave that found this slot word, after a load of the epoch.

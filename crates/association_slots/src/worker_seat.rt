@@ -4,7 +4,7 @@ ghost use Rattle.association_slots.specs.Cards.{Knows};
 ghost use Rattle.association_slots.specs.Steps.{loaded, did_read};
 ghost use Rattle.association_slots.specs.inside.Kept.{read_five};
 ghost use Rattle.association_slots.specs.Told.{Sees, IsAdded, ReadsMore};
-ghost use Rattle.association_slots.specs.Views.{In, seat_of, greatest, absent_after};
+ghost use Rattle.association_slots.specs.Views.{In, HasLoaded, seat_of, greatest, absent_after};
 ghost use Rattle.association_slots.specs.declared.view.Mark.{Mark};
 ghost use Rattle.association_slots.specs.declared.view.View.TheVariants.{Seat as «seat»};
 
@@ -13,6 +13,7 @@ use crate::rule::{Load, Place, Plus, Read};
 use crate::table::SlotTable;
 use crate::view::{Added, Current};
 use crate::words::{answer, shown_by};
+use lan_base::AssociationNumber;
 use std::marker::Model;
 
 /// A card that a seat has read, and its words.
@@ -65,7 +66,7 @@ impl WorkerSeat {
             shown: Current {
                 epoch: 0,
                 present: false,
-                an: 0,
+                an: AssociationNumber::An0,
             },
             overshot,
             known: None,
@@ -128,7 +129,7 @@ impl WorkerSeat {
         let word = table
             .table
             .shared
-            .fetch_add::<Plus>(&mut self.place, usize::from(shown.an), 1);
+            .fetch_add::<Plus>(&mut self.place, usize::from(shown.an.number()), 1);
         let added = answer(shown.epoch, word);
         if let Added::Over = added {
             self.overshot = self.overshot.max(shown.epoch);
@@ -140,7 +141,7 @@ impl WorkerSeat {
     /// card that this call answered last.
     pub fn known(&mut self, table: &SlotTable, epoch: u32) -> Card
         requires here { self.old.table ≡ table.now }
-        requires loaded { In epoch self.old.view.loaded }
+        requires loaded { HasLoaded self.old.view epoch }
         ensures same { self.new.table ≡ self.old.table }
         ensures view { ReadsMore self.old.view self.new.view }
         ensures knows { Knows self.new.view.reads epoch result }
@@ -161,7 +162,7 @@ impl WorkerSeat {
 fn read_card(table: &SlotTable, place: &mut Place, epoch: u32) -> [u64; 5]
     requires here { place.old.table_id ≡ table.now }
     requires seat { place.old.me ≡ («seat» (seat_of place.old.me.0), []) }
-    requires loaded { In epoch (seat_of place.old.me.0).loaded }
+    requires loaded { HasLoaded (seat_of place.old.me.0) epoch }
     requires room { (epoch < 4097) × (5 * epoch + 4 < table.now.words) }
     ensures same { place.new.table_id ≡ place.old.table_id }
     ensures view { place.new.me ≡ («seat» (read_five (seat_of place.old.me.0) epoch result), []) }
@@ -181,7 +182,7 @@ fn read(table: &SlotTable, place: &mut Place, word: usize) -> u64
     requires here { (place.old.table_id ≡ table.now) × (word < table.now.words) }
     requires seat { place.old.me ≡ («seat» (seat_of place.old.me.0), []) }
     requires loaded { (e i : ℕ) × (word ≡ 5 * e + i) × (i < 5)
-        × In e (seat_of place.old.me.0).loaded }
+        × HasLoaded (seat_of place.old.me.0) e }
     ensures same { place.new.table_id ≡ place.old.table_id }
     ensures view { place.new.me ≡ («seat» (did_read (seat_of place.old.me.0) word result), []) }
 {

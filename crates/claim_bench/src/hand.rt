@@ -3,6 +3,7 @@
 ghost use Rattle.std.specs.Prelude.{◌≡◌, IfOk};
 
 use association_slots::{Card, Control, SlotTable, WorkerSeat};
+use lan_base::AssociationNumber;
 use packet_claims::{OpenGate, claim};
 use std::alloc::{AllocError, Global};
 
@@ -71,8 +72,8 @@ pub fn opened(alloc: Global, card: &Card) -> Result<(SlotTable, Control), AllocE
 {
     let (table, mut control) = SlotTable::new(alloc, 1, 1)?;
     if let Ok(epoch) = control.card(&table, card) {
-        control.raise(&table, 0, epoch);
-        control.point(&table, 0, epoch);
+        control.raise(&table, AssociationNumber::An0, epoch);
+        control.point(&table, AssociationNumber::An0, epoch);
     }
     Ok((table, control))
 }

@@ -2,7 +2,8 @@
 use Rattle.std.proofs.Common.{◌≡◌, ◌≢◌, ◌⊎◌, ℕ, ◌+◌, ◌<◌, ◌≤◌, Bool, true, false, not, List, [], ◌∷◌, ◌++◌, refl, sym, ap, ◌∙◌, subst, inl, inr, ⊎_elim, arith}
 use Rattle.std.proofs.lemmas.Bool.{false≢true, cases_lt}
 use Rattle.association_slots.specs.Cards.{Knows}
-use Rattle.association_slots.specs.Views.{In, cons_if, greatest, mark}
+use Rattle.association_slots.specs.Words.{epoch_of, flag_of}
+use Rattle.association_slots.specs.Views.{In, cons_if, greatest, mark, present_at}
 use Rattle.association_slots.specs.Steps.{loaded, addition}
 use Rattle.association_slots.specs.Told.{Sees, IsAdded, ReadsMore}
 use Rattle.association_slots.specs.declared.card.Card.{Card}
@@ -12,7 +13,7 @@ use Rattle.association_slots.specs.declared.view.Start.{Start}
 use Rattle.association_slots.specs.declared.view.Addition.{Addition}
 use Rattle.association_slots.specs.declared.view.Added.TheVariants.{Number, Over, Gone}
 use Rattle.association_slots.specs.declared.view.SeatView.{SeatView}
-use Rattle.association_slots.proofs.Public.{behind_cons_if, at_cons_if}
+use Rattle.association_slots.proofs.Public.{behind_cons_if, at_cons_if, in_cons_if, in_right, is_present}
 use Rattle.std.proofs.Common.{Result, Err}
 use Rattle.packet_claims.specs.declared.answers.Claim.{Claim}
 use Rattle.packet_claims.specs.declared.answers.NoClaim.{NoClaim}
@@ -43,7 +44,7 @@ cons_false false x xs e = refl
 pub begins : (v : SeatView) → Tries v v 0
 begins v = record {
   lost = [];
-  stays = record { number = refl; limit = refl; start = refl; lost_nothing = λ a i. absurd i; gone = refl; loaded = λ e i. i; reads = ([], refl) };
+  stays = record { number = refl; limit = refl; start = refl; lost_nothing = λ a i. absurd i; gone = refl; loaded = λ q i. i; reads = ([], refl) };
   additions = refl;
   notes = refl;
   over = refl;
@@ -53,7 +54,7 @@ begins v = record {
 module _ (v0 v : SeatView) (tried : ℕ) (t : Tries v0 v tried) (p : Current) (sees : Sees v p) where
   not_below : NotBelow v0 p.epoch
   not_below = record {
-    loaded = λ e i. sees.later_loaded e (t.stays.loaded e i);
+    loaded = λ q i. sees.later_loaded q (t.stays.loaded q i);
     notes = λ e i. (sees.later_notes e (subst (In e) (sym t.notes) i)).0;
     start = subst (λ (s : Start). s.last ≤ p.epoch) t.stays.start sees.later_start.0;
     given = λ f i. sees.later_given f (subst (λ (s : Start). In f s.given) (sym t.stays.start) i);
@@ -65,6 +66,13 @@ module _ (v0 v : SeatView) (tried : ℕ) (t : Tries v0 v tried) (p : Current) (s
     start = λ none. subst (λ (s : Start). s.present ≡ false → p.present ≡ true → s.last < p.epoch) t.stays.start sees.later_start.1 none is;
   }
 
+  loaded_it : p.present ≡ true → In (present_at p.an p.epoch) (loaded v p).loaded
+  loaded_it is = subst (λ (q : Current). In q (loaded v p).loaded) (is_present p is) (at_cons_if p.present p v.loaded is)
+
+  -- this load is the latest, and none showed a later epoch
+  latest : (q : Current) → In q (loaded v p).loaded → q.epoch ≤ p.epoch
+  latest q i = ⊎_elim (λ (z : (p.present ≡ true) × (p ≡ q)). let e = ap (λ (r : Current). r.epoch) z.1 in omega arith) (sees.later_loaded q) (in_cons_if p.present p q v.loaded i)
+
   stays_loaded : Stays v0 (loaded v p) t.lost
   stays_loaded = record {
     number = t.stays.number;
@@ -72,7 +80,7 @@ module _ (v0 v : SeatView) (tried : ℕ) (t : Tries v0 v tried) (p : Current) (s
     start = t.stays.start;
     lost_nothing = t.stays.lost_nothing;
     gone = t.stays.gone;
-    loaded = λ e i. behind_cons_if p.present p.epoch e v.loaded (t.stays.loaded e i);
+    loaded = λ q i. behind_cons_if p.present p q v.loaded (t.stays.loaded q i);
     reads = t.stays.reads;
   }
 
@@ -88,6 +96,7 @@ module _ (v0 v : SeatView) (tried : ℕ) (t : Tries v0 v tried) (p : Current) (s
     over = t.over;
     absent = (is, refl);
     not_below = not_below;
+    latest = latest;
   }
 
   pub was_over : p.present ≡ true → p.epoch ≤ greatest v.over → IsExhausted v0 (loaded v p) p.epoch
@@ -97,21 +106,27 @@ module _ (v0 v : SeatView) (tried : ℕ) (t : Tries v0 v tried) (p : Current) (s
     additions = inl t.additions;
     notes = no_note is;
     over = (g.0, g.1, l.0 ∙ t.stays.number, (let e = g.2 in let h = l.1 is in omega arith));
+    marks = λ m i. subst (In m) (sym t.over) i;
     not_below = not_below;
     above = above is;
-    loaded = at_cons_if p.present p.epoch v.loaded is;
+    shown = (is, refl);
+    loaded = (p.an, loaded_it is);
+    latest = latest;
   }
 
   pub fills : p.present ≡ true → (w : SeatView) → IsAdded (loaded v p) Over w → IsExhausted v0 w p.epoch
   fills is w a = subst (λ (z : SeatView). IsExhausted v0 z p.epoch) (sym a.1) (record {
     lost = t.lost;
     stays = record { number = stays_loaded.number; limit = stays_loaded.limit; start = stays_loaded.start; lost_nothing = stays_loaded.lost_nothing; gone = stays_loaded.gone; loaded = stays_loaded.loaded; reads = stays_loaded.reads };
-    additions = inr ((λ i. the_addition (t.stays.number i) (a.2 i)) ∙ ap (λ (xs : List Addition). the_lost ∷ xs) t.additions);
+    additions = inr ((λ i. the_addition (t.stays.number i) (a.2.0 i)) ∙ ap (λ (xs : List Addition). the_lost ∷ xs) t.additions);
     notes = no_note is;
     over = (mark (loaded v p), inl refl, t.stays.number, refl);
+    marks = λ m i. inr (subst (In m) (sym t.over) i);
     not_below = not_below;
     above = above is;
-    loaded = at_cons_if p.present p.epoch v.loaded is;
+    shown = (is, refl);
+    loaded = (p.an, loaded_it is);
+    latest = latest;
   })
     where
       the_lost : Addition
@@ -129,17 +144,17 @@ module _ (v0 v : SeatView) (tried : ℕ) (t : Tries v0 v tried) (p : Current) (s
 
   pub goes_on : p.present ≡ true → (w : SeatView) → IsAdded (loaded v p) Gone w → Tries v0 w p.epoch
   goes_on is w a = subst (λ (z : SeatView). Tries v0 z p.epoch) (sym a.1) (record {
-    lost = addition (loaded v p) a.0 false 0 ∷ t.lost;
+    lost = addition (loaded v p) (epoch_of a.0) false 0 ∷ t.lost;
     stays = record {
       number = t.stays.number;
       limit = t.stays.limit;
       start = t.stays.start;
-      lost_nothing = λ b. ⊎_elim (λ e. subst (λ (x : Addition). (x.claimed ≡ false) × (v0.start.last ≤ x.loaded)) e (refl, not_below.start)) (t.stays.lost_nothing b);
+      lost_nothing = λ b. ⊎_elim (λ e. subst (λ (x : Addition). (x.claimed ≡ false) × (v0.start.last ≤ x.loaded) × (x.loaded ≤ x.met)) e (refl, not_below.start, ⊎_elim (λ less. omega arith) (λ (z : (epoch_of a.0 ≡ p.epoch) × (flag_of a.0 ≡ true)). let e' = z.0 in omega arith) a.2)) (t.stays.lost_nothing b);
       gone = ap (λ (ms : List Mark). mark (loaded v p) ∷ ms) t.stays.gone;
       loaded = stays_loaded.loaded;
       reads = t.stays.reads;
     };
-    additions = ap (λ (xs : List Addition). addition (loaded v p) a.0 false 0 ∷ xs) t.additions;
+    additions = ap (λ (xs : List Addition). addition (loaded v p) (epoch_of a.0) false 0 ∷ xs) t.additions;
     notes = no_note is;
     over = t.over;
     last = λ _. (refl, sees.small.0, (mark (loaded v p), inl refl, refl));
@@ -162,9 +177,13 @@ module _ (v0 v : SeatView) (tried : ℕ) (t : Tries v0 v tried) (p : Current) (s
     over = t.over;
     not_below = not_below;
     above = above is;
-    loaded = at_cons_if p.present p.epoch v.loaded is;
-    number = (sees.small.1 is, a.2.1);
-    given = λ f i. a.2.2 f (subst (λ (s : Start). In f s.given) (sym t.stays.start) i);
+    shown = is_present p is;
+    loaded = loaded_it is;
+    latest = latest;
+    number = (sees.small.1 is, a.2.3);
+    first = a.2.5.0;
+    rises = λ b i. a.2.5.1 b (subst (In b) (sym t.additions) (in_right b t.lost v0.additions i));
+    given = λ f i. a.2.4 f (subst (λ (s : Start). In f s.given) (sym t.stays.start) i);
     knows = k;
   }) knows
     where

@@ -1,11 +1,12 @@
 //! What a claim answers.
 use association_slots::Card;
+use lan_base::AssociationNumber;
 
 /// A packet number of an epoch that was current, the AN under which it was, and the card of the
 /// epoch.
 #[derive(Clone, Copy, Debug, PartialEq, Eq)]
 pub struct Claim {
-    pub an: u8,
+    pub an: AssociationNumber,
     pub epoch: u32,
     pub pn: u32,
     pub card: Card,

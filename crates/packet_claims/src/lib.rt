@@ -11,6 +11,3 @@ pub use alone::claim_alone;
 pub use answers::{Claim, NoClaim};
 pub use claiming::{claim, tell};
 pub use gate::{Gate, OpenGate, Point};
-
-#[cfg(test)]
-mod tests;

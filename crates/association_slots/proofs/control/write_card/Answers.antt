@@ -19,4 +19,5 @@ returns c =
       c.write-5.ensures.0 ∙ (c.write-4.ensures.0 ∙ (c.write-3.ensures.0 ∙ (c.write-2.ensures.0 ∙ c.write.ensures.0))),
       c.write-5.ensures.1 ∙ (ap (λ (v : ControlView). let m : Me ℕ View = (Control (at 4 v), []) in m) four
           ∙ ap (λ (ws : List ℕ). let m : Me ℕ View = (Control (record old { card_words = ws }), []) in m) (stored_five old.card_words w c.told-words)),
+      c.write-5.ensures.2,
     )

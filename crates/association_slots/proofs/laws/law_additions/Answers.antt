@@ -2,5 +2,4 @@ use Rattle.std.proofs.Common.{arith}
 use Rattle.association_slots.proofs.laws.law_additions.Goals as goal
 
 pub returns : goal.returns
-returns _ c ws vs a b i = let m = a.ledger.additions b i in let an = (a.settled.raised_once _ m.raised).0 in
-    (m.order.0, m.order.1, an, omega (arith, m.order.2, a.words.epochs b.an an), m.raised, m.pointed)
+returns _ c ws vs a b i = let m = a.ledger.additions b i in (m.order.0, m.order.1, omega (arith, m.order.2, a.words.epochs b.an), m.raised, m.pointed)

@@ -4,4 +4,4 @@ use Rattle.association_slots.proofs.laws.law_loaded.Goals as goal
 
 pub returns : goal.returns
 returns _ c ws vs a i v at is = let f = (a.seats i v at).0 in let s = f.shown is in
-    (s.0, omega (arith, f.low, ap (λ (p : Current). p.epoch) a.words.shows), omega (arith, s.2, a.words.epochs v.shown.an s.1))
+    (s.0, omega (arith, f.low, ap (λ (p : Current). p.epoch) a.words.shows), omega (arith, s.1, a.words.epochs v.shown.an))

@@ -20,19 +20,19 @@ returns-clause-did g c =
 pub returns-clause-all_in : goal.returns-clause-all_in
 returns-clause-all_in g c =
     let C = c.args.control.now.view in let r = returns-clause-did g c in let back = subst Learned r.1 c.tell.ensures.learned in
-    subst (λ (d : ControlView). AllIn C → AllIn d) (sym r.1) (all_in C r.0 c.seat-seat.ensures.learned back c.requires.room (same_number (new_seat C) r.0 c.claim-answer.result r.2))
+    subst (λ (d : ControlView). AllIn C → AllIn d) (sym r.1) (all_in C r.0 c.seat-seat.ensures.before back c.requires.room (same_number (new_seat C) r.0 c.claim-answer.result r.2))
 
 pub returns-clause-next : goal.returns-clause-next
 returns-clause-next g c in_ present low =
     let C = c.args.control.now.view in let r = returns-clause-did g c in let back = subst Learned r.1 c.tell.ensures.learned in
-    subst (λ (d : ControlView). MatchResult c.claim-answer.result (IsNextClaim C d) (λ _. ⊥)) (sym r.1) (next_claim C r.0 c.seat-seat.ensures.learned back c.requires.room (same_number (new_seat C) r.0 c.claim-answer.result r.2) in_ present low c.claim-answer.result r.2)
+    subst (λ (d : ControlView). MatchResult c.claim-answer.result (IsNextClaim C d) (λ _. ⊥)) (sym r.1) (next_claim C r.0 c.seat-seat.ensures.before back c.requires.room (same_number (new_seat C) r.0 c.claim-answer.result r.2) in_ present low c.claim-answer.result r.2)
 
 pub returns-clause-exhausted : goal.returns-clause-exhausted
 returns-clause-exhausted g c in_ present full =
     let C = c.args.control.now.view in let r = returns-clause-did g c in let back = subst Learned r.1 c.tell.ensures.learned in
-    exhausted C r.0 c.seat-seat.ensures.learned back c.requires.room (same_number (new_seat C) r.0 c.claim-answer.result r.2) in_ present full c.claim-answer.result r.2
+    exhausted C r.0 c.seat-seat.ensures.before back c.requires.room (same_number (new_seat C) r.0 c.claim-answer.result r.2) in_ present full c.claim-answer.result r.2
 
 pub returns-clause-no_key : goal.returns-clause-no_key
 returns-clause-no_key g c absent =
     let C = c.args.control.now.view in let r = returns-clause-did g c in let back = subst Learned r.1 c.tell.ensures.learned in
-    no_key C r.0 c.seat-seat.ensures.learned back c.requires.room (same_number (new_seat C) r.0 c.claim-answer.result r.2) absent c.claim-answer.result r.2
+    no_key C r.0 c.seat-seat.ensures.before back c.requires.room (same_number (new_seat C) r.0 c.claim-answer.result r.2) absent c.claim-answer.result r.2

@@ -3,7 +3,6 @@ use Rattle.atomic_table.specs.Seated.{TableId}
 use Rattle.atomic_table.specs.Table.{Me}
 use Rattle.association_slots.specs.Views.{In, ControlAt, control_of, seat_of, greatest, of_seat}
 use Rattle.association_slots.proofs.Keeping.{overshot_told}
-use Rattle.association_slots.specs.Steps.{told}
 use Rattle.association_slots.specs.declared.view.View.{View}
 use Rattle.association_slots.specs.declared.view.View.TheVariants.{Control, Seat}
 use Rattle.association_slots.proofs.ControlKeeps.{learns}

@@ -1,6 +1,6 @@
-use Rattle.std.proofs.Common.{rules, arith, ℕ, ◌≡◌, ◌<◌, ◌≤◌, true, ap, ◌∙◌, sym, subst}
+use Rattle.std.proofs.Common.{arith, ◌≡◌, ◌<◌, ◌≤◌, true, ap, ◌∙◌, sym, subst}
 use Rattle.atomic_table.specs.Seated.{TableId}
-use Rattle.association_slots.specs.Views.{ControlAt, control_of, slot, top}
+use Rattle.association_slots.specs.Views.{ControlAt, slot, top}
 use Rattle.association_slots.specs.declared.view.ControlView.{ControlView}
 use Rattle.association_slots.specs.Cards.{cards_given}
 use Rattle.association_slots.specs.Words.{open_word}
@@ -11,7 +11,7 @@ pub swap-requires : goal.swap-requires
 swap-requires c = let is = ap (λ (v : ControlAt). v.view) c.self.view_is in let here = ap (λ (v : ControlAt). v.table) c.self.view_is ∙ (c.requires.here ∙ sym c.table.view_is) in
     let carded = subst (λ (d : ControlView). c.args.epoch ≤ cards_given d) (sym is) c.requires.card in (
       here,
-      omega (arith, c.requires.shut.0, c.self.invariant.limit_is.2, ap (λ (t : TableId). t.words) here),
-      raises_as _ _ _ _ c.args.epoch _ (ap (λ m. m.0) c.self.invariant.is) (search rules) (subst (λ (i : ℕ). (slot (control_of c.self.inside.place.me.0) i).shut ≡ true) (search rules) (subst (λ (d : ControlView). (slot d c.args.an).shut ≡ true) (sym is) c.requires.shut.1))
+      omega (arith, c.from.ensures, c.number.ensures, c.self.invariant.limit_is.2, ap (λ (t : TableId). t.words) here),
+      raises_as _ _ _ c.args.an _ c.args.epoch _ (c.from.ensures ∙ c.number.ensures.value) (ap (λ m. m.0) c.self.invariant.is) (subst (λ (d : ControlView). (slot d c.args.an).shut ≡ true) (sym is) c.requires.shut)
           (subst (λ (d : ControlView). top d.raises < c.args.epoch) (sym is) c.requires.above) (omega (arith, carded)) (c.open_word-word.ensures ∙ ap (open_word c.args.epoch) c.self.invariant.first_is),
     )

@@ -4,7 +4,9 @@ use Rattle.association_slots.specs.Views.{ControlAt, control_of, seat_of}
 use Rattle.association_slots.specs.declared.view.ControlView.{ControlView}
 use Rattle.association_slots.specs.Views.{In, free, free_number, greatest}
 use Rattle.atomic_table.specs.Table.{Me}
-use Rattle.association_slots.specs.Steps.{new_seat}
+use Rattle.association_slots.specs.Steps.{new_seat, seated}
+use Rattle.association_slots.specs.Learned.{Learned}
+use Rattle.association_slots.proofs.Learning.{learned_out}
 use Rattle.association_slots.specs.declared.view.Mark.{Mark}
 use Rattle.association_slots.specs.declared.view.SeatView.{SeatView}
 use Rattle.association_slots.specs.declared.view.View.{View}
@@ -34,3 +36,11 @@ new-requires-clause-overshot c =
       ap (λ (i : ℕ). get_or c.self.inside.overshot i 0) here ∙ (c.self.invariant.over_is (free (control_of c.self.inside.place.me.0).out) (omega (arith, room)) ∙ ap (λ (v : SeatView). greatest v.over) (sym view)),
       subst (λ (v : SeatView). (m : Mark) → In m v.over → m.seat ≡ v.number) (sym view) (λ m i. (in_of_seat (free_number (control_of c.self.inside.place.me.0)) m (control_of c.self.inside.place.me.0).told_over i).1),
     )
+
+pub returns-clause-before : goal.returns-clause-before
+returns-clause-before c = subst Learned (ap (λ (v : ControlAt). v.view) c.self.view_is) c.load.ensures.2.1
+
+pub returns-clause-learned : goal.returns-clause-learned
+returns-clause-learned c =
+    let room = subst (λ (d : ControlView). free_number d ≤ 8) (sym (ap (λ (v : ControlAt). v.view) c.self.view_is)) c.requires.room in
+    subst (λ (m : Me ℕ View). Learned (control_of m.0)) (sym c.split_seat-place.ensures.2) (subst (λ (m : Me ℕ View). Learned (seated (control_of m.0))) (sym c.load.ensures.2.0) (learned_out (control_of c.self.inside.place.me.0) (omega (arith, room)) c.load.ensures.2.1))

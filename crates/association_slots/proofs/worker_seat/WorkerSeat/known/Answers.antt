@@ -2,7 +2,7 @@ use Rattle.std.proofs.Common.{arith, ℕ, ◌*◌, ◌+◌, [], ◌∷◌, slice
 use Rattle.atomic_table.specs.Seated.{TableId}
 use Rattle.atomic_table.specs.Table.{Me}
 use Rattle.association_slots.specs.Cards.{Knows}
-use Rattle.association_slots.specs.Views.{In, SeatAt, seat_of}
+use Rattle.association_slots.specs.Views.{HasLoaded, SeatAt, present_at, seat_of}
 use Rattle.association_slots.specs.inside.Kept.{read_five}
 use Rattle.association_slots.specs.declared.card.Card.{Card}
 use Rattle.association_slots.specs.declared.view.SeatView.{SeatView}
@@ -17,7 +17,7 @@ returns-clause-knows c = subst (λ (v : SeatView). Knows v.reads c.args.epoch c.
 
 pub read_card-words-requires-clause-room : goal.read_card-words-requires-clause-room
 read_card-words-requires-clause-room c =
-    let low = c.self.invariant.loaded_low c.args.epoch (subst (λ (v : SeatView). In c.args.epoch v.loaded) (sym (ap (λ (s : SeatAt). s.view) c.self.view_is)) c.requires.loaded) in let k = c.self.invariant.limit_is in
+    let was = subst (λ (v : SeatView). HasLoaded v c.args.epoch) (sym (ap (λ (s : SeatAt). s.view) c.self.view_is)) c.requires.loaded in let low = c.self.invariant.loaded_low (present_at was.0 c.args.epoch) was.1 in let k = c.self.invariant.limit_is in
     let words = ap (λ (s : SeatAt). s.table.words) c.self.view_is ∙ ap (λ (t : TableId). t.words) c.requires.here in
     (omega (arith, low, k), omega (arith, low, k, words))
 
