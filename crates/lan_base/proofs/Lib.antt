@@ -1,5 +1,6 @@
 pub mod Calls
 pub mod KeyStream
+pub mod Known
 pub mod Moves
 pub mod Numbering
 pub mod Padding

@@ -2,4 +2,4 @@
 -- number.
 pub use Rattle.lan_base.proofs.Rooms.{room_in_front, room_behind, put_then, pieces}
 pub use Rattle.lan_base.proofs.Numbering.{number_of-few, numbered-number_of}
-pub use Rattle.lan_base.specs.inside.ListedEnds.{list_from-ends}
+pub use Rattle.lan_base.specs.Listed.{list_from-ends}

@@ -1,3 +1,2 @@
 -- Definitions that serve private functions alone. No public clause cites one.
-pub mod ListedEnds
 pub mod NameFields

@@ -42,11 +42,6 @@ pub use room::put;
 pub use sink::{Sink, Unwritten, write_all};
 pub use source::{Failed, ReadEnd, Source, read_all};
 pub use steady::{DropSink, SteadySink, SteadySource};
-pub use stream::{StdSink, StdSource};
+pub use stream::{KnownRead, KnownWrite, StdSink, StdSource};
 pub use suite::Suite;
 pub use timers::{HELLO_TIME, LIFE_TIME, RETIRE_TIME, law_timers};
-
-#[cfg(test)]
-mod supply_tests;
-#[cfg(test)]
-mod tests;

@@ -23,8 +23,7 @@ impl ListDraws {
 }
 
 impl Draws for ListDraws {
-    ghost use Rattle.lan_base.specs.Listed.{list_from};
-    ghost use Rattle.lan_base.specs.inside.ListedEnds.{list_from-ends};
+    ghost use Rattle.lan_base.specs.Listed.{list_from, list_from-ends};
 
     ghost nth = { λ draws. list_from draws.values draws.drawn };
 

@@ -9,14 +9,19 @@ use Rattle.hex.specs.declared.error.FromHexError.{FromHexError}
 use Rattle.hex.specs.Hex.{decode_of, decode_sized, IsBytes}
 use Rattle.hex.proofs.HexLemmas.{decode_of-ok, decode_sized-ok, decode_sized-twice}
 use Rattle.lan_base.specs.Name.{is_name}
+use Rattle.trace_text.specs.declared.fault.LineError.{LineError}
 use Rattle.trace_text.specs.declared.fault.TextFault.{TextFault}
-use Rattle.trace_text.specs.declared.fault.TextFault.TheVariants.{TooLong, Hex, Range}
+use Rattle.trace_text.specs.declared.fault.TextFault.TheVariants.{TooLong, Word, Hex, Range}
+use Rattle.trace_text.specs.declared.keyword.Keyword.{Keyword}
+use Rattle.trace_text.specs.declared.keyword.Keyword.TheVariants as keys
 use Rattle.trace_text.specs.declared.line.Line.{Line}
-use Rattle.trace_text.specs.declared.line.Line.TheVariants.{DrawsList}
+use Rattle.trace_text.specs.declared.line.Line.TheVariants.{DrawsCount, DrawsChaCha, DrawsList}
+use Rattle.trace_text.specs.Limits.{most_line}
 use Rattle.trace_text.specs.Words.{words_of, is_word}
-use Rattle.trace_text.specs.Kinds.{Kind, name, number, one_of, exactly, octets, secret, Said, said, IsFit, is_number, is_within, is_either, if_allowed, exactly_of}
-use Rattle.trace_text.specs.Forms.{Row, makes, ◌⇒◌, blocks, Form, forms, draws_forms}
-use Rattle.trace_text.specs.Reading.{◌>>=◌, blocks_of, along, by_count, beginning, by_some, draws_of, line_of, is_comment, line_of_words, line_in}
+use Rattle.trace_text.specs.Kinds.{Kind, name, number, suite, exactly, octets, secret, Said, said, IsFit, is_number, is_within, is_either, if_allowed, exactly_of}
+use Rattle.trace_text.specs.Keywords.{keyword_of}
+use Rattle.trace_text.specs.Forms.{Row, makes, ◌⇒◌, blocks, Form, form, just, some, forms_of}
+use Rattle.trace_text.specs.Reading.{◌>>=◌, blocks_of, along, by_count, by_form, draws_of, line_by, line_of, is_comment, line_of_words, line_in}
 use Rattle.trace_text.specs.Writing.{◌∶◌, AllFit, IsInForm}
 use Rattle.trace_text.specs.inside.Answering.{Answers}
 
@@ -74,7 +79,7 @@ said_fits name word x e =
     let p = passed (is_name word) word x Range e in
     subst (λ w. is_name w ≡ true) p.1 p.0
 said_fits (number low high) word x e = within_bounds low high x (number_fits word (is_within low high) x e)
-said_fits (one_of this that) word x e = one_of_two this that x (number_fits word (is_either this that) x e)
+said_fits suite word x e = tt
 said_fits (exactly count) word x e = array_fits count word (decode_sized word count) refl x e
 said_fits (octets low high) word x e =
     let p = octets_fit (is_within low high) word (decode_of word) refl x e in
@@ -125,17 +130,8 @@ count_fits (f ∷ fs) words line fits e =
       | inr later ↦ count_fits fs words line fits.1 later
     ]
 
-kept_if : (b : Bool) (f : Form) (fs : List Form) → FormFits f → FormsFit fs → FormsFit (if b then f ∷ fs else fs)
-kept_if true f fs fit fits = (fit, fits)
-kept_if false f fs fit fits = fits
-
-beginning_fit : (first : List ℕ) (fs : List Form) → FormsFit fs → FormsFit (beginning first fs)
-beginning_fit first [] fits = tt
-beginning_fit first (f ∷ fs) fits = kept_if (is_word first f.first) f (beginning first fs) fits.0 (beginning_fit first fs fits.1)
-
-some_fit : (fs : List Form) (words : List (List ℕ)) (line : Line) → FormsFit fs → by_some fs words ≡ Ok line → IsInForm line
-some_fit [] words line fits e = absurd cc
-some_fit (f ∷ fs) words line fits e = count_fits (f ∷ fs) words line fits e
+form_fits : (form : Form) (words : List (List ℕ)) (line : Line) → FormFits form → by_form (Some form) words ≡ Ok line → IsInForm line
+form_fits form words line fits e = count_fits (form ∷ []) words line (fits, tt) e
 
 blocks_fit : (words values : List (List ℕ)) → blocks_of words ≡ Ok values → AllFit (map (λ value. exactly 16 ∶ value) values) × (length values ≡ length words)
 blocks_fit [] [] e = (tt, refl)
@@ -155,94 +151,79 @@ list_fits words line some e =
     let listed : 0 < length p.0 = grind (arith, nat_tests, fit.1) in
     subst IsInForm (same_value (DrawsList p.0) line p.2) (record { fits = fit.0; listed = listed })
 
-draws_fit : FormsFit draws_forms
-draws_fit = (
-  from_row (record { fits = tt; listed = tt }),
-  (
-    from_row (λ key fit. record { fits = (fit, tt); listed = tt }),
-    (record { gives = list_fits }, tt),
-  ),
-)
+abbrev count_form : Form
+count_form = form (just 0) (makes DrawsCount)
 
-forms_fit : FormsFit forms
-forms_fit = (
-  from_row (λ a af. record { fits = (af, tt); listed = tt }),
-  (
-    from_row (λ a af. record { fits = (af, tt); listed = tt }),
-    (
-      from_row (λ a af. record { fits = (af, tt); listed = tt }),
-      (
-        from_row (λ a af. record { fits = (af, tt); listed = tt }),
-        (
-          from_row (λ a af. record { fits = (af, tt); listed = tt }),
-          (
-            from_row (λ a af b bf. record { fits = (af, (bf, tt)); listed = tt }),
-            (
-              from_row (λ a af b bf d df. record { fits = (af, (bf, (df, tt))); listed = tt }),
-              (
-                from_row (λ a af. record { fits = (af, tt); listed = tt }),
-                (
-                  from_row (λ a af b bf. record { fits = (af, (bf, tt)); listed = tt }),
-                  (
-                    from_row (λ a af. record { fits = (af, tt); listed = tt }),
-                    (
-                      from_row (λ a af b bf. record { fits = (af, (bf, tt)); listed = tt }),
-                      (
-                        from_row (λ a af. record { fits = (af, tt); listed = tt }),
-                        (
-                          from_row (λ a af. record { fits = (af, tt); listed = tt }),
-                          (
-                            from_row (λ a af b bf. record { fits = (af, (bf, tt)); listed = tt }),
-                            (
-                              from_row (λ a af b bf. record { fits = (af, (bf, tt)); listed = tt }),
-                              (
-                                from_row (λ a af. record { fits = (af, tt); listed = tt }),
-                                (
-                                  from_row (λ a af b bf d df. record { fits = (af, (bf, (df, tt))); listed = tt }),
-                                  (
-                                    from_row (record { fits = tt; listed = tt }),
-                                    (
-                                      from_row (λ a af b bf d df e ef g gf. record { fits = (af, (bf, (df, (ef, (gf, tt))))); listed = tt }),
-                                      (
-                                        from_row (record { fits = tt; listed = tt }),
-                                        (
-                                          from_row (record { fits = tt; listed = tt }),
-                                          (
-                                            from_row (λ a af b bf. record { fits = (af, (bf, tt)); listed = tt }),
-                                            (
-                                              from_row (λ a af b bf d df. record { fits = (af, (bf, (df, tt))); listed = tt }),
-                                              tt,
-                                            ),
-                                          ),
-                                        ),
-                                      ),
-                                    ),
-                                  ),
-                                ),
-                              ),
-                            ),
-                          ),
-                        ),
-                      ),
-                    ),
-                  ),
-                ),
-              ),
-            ),
-          ),
-        ),
-      ),
-    ),
-  ),
-)
+abbrev chacha_form : Form
+chacha_form = form (just 1) (exactly 32 ⇒ λ key. makes (DrawsChaCha key))
+
+abbrev list_form : Form
+list_form = form some (blocks DrawsList)
+
+second_fits : (count chacha listed : Bool) (words : List (List ℕ)) (line : Line)
+    → by_form (if count then Some count_form else if chacha then Some chacha_form else if listed then Some list_form else None) words ≡ Ok line → IsInForm line
+second_fits true chacha listed words line e = form_fits count_form words line (from_row (record { fits = tt; listed = tt })) e
+second_fits false true listed words line e = form_fits chacha_form words line (from_row (λ key fit. record { fits = (fit, tt); listed = tt })) e
+second_fits false false true words line e = form_fits list_form words line (record { gives = list_fits }) e
+second_fits false false false words line e = absurd cc
 
 draws_of_fit : (words : List (List ℕ)) (line : Line) → draws_of words ≡ Ok line → IsInForm line
 draws_of_fit [] line e = absurd cc
-draws_of_fit (second ∷ words) line e = some_fit (beginning second draws_forms) words line (beginning_fit second draws_forms draws_fit) e
+draws_of_fit (second ∷ words) line e = second_fits (is_word second (codes "count")) (is_word second (codes "chacha")) (is_word second (codes "list")) words line e
 
-first_fits : (b : Bool) (first : List ℕ) (words : List (List ℕ)) (line : Line) → (if b then draws_of words else by_some (beginning first forms) words) ≡ Ok line → IsInForm line
-first_fits true first words line e = draws_of_fit words line e
-first_fits false first words line e = some_fit (beginning first forms) words line (beginning_fit first forms forms_fit) e
+forms_fit : (k : Keyword) → FormsFit (forms_of k)
+forms_fit keys.Draws = tt
+forms_fit keys.Conf = (from_row (λ a af. record { fits = (af, tt); listed = tt }), tt)
+forms_fit keys.Window = (from_row (λ a af. record { fits = (af, tt); listed = tt }), tt)
+forms_fit keys.Rekey = (from_row (λ a af. record { fits = (af, tt); listed = tt }), tt)
+forms_fit keys.Lag = (from_row (λ a af. record { fits = (af, tt); listed = tt }), tt)
+forms_fit keys.Suite = (from_row (λ a af. record { fits = (af, tt); listed = tt }), tt)
+forms_fit keys.Group = (from_row (λ a af b bf. record { fits = (af, (bf, tt)); listed = tt }), tt)
+forms_fit keys.Station = (from_row (λ a af b bf d df. record { fits = (af, (bf, (df, tt))); listed = tt }), tt)
+forms_fit keys.Tick = (from_row (λ a af. record { fits = (af, tt); listed = tt }), (from_row (λ a af b bf. record { fits = (af, (bf, tt)); listed = tt }), tt))
+forms_fit keys.Flow = (from_row (λ a af. record { fits = (af, tt); listed = tt }), tt)
+forms_fit keys.Deliver = (from_row (λ a af b bf. record { fits = (af, (bf, tt)); listed = tt }), tt)
+forms_fit keys.Spread = (from_row (λ a af. record { fits = (af, tt); listed = tt }), tt)
+forms_fit keys.Lose = (from_row (λ a af. record { fits = (af, tt); listed = tt }), tt)
+forms_fit keys.Cut = (from_row (λ a af b bf. record { fits = (af, (bf, tt)); listed = tt }), tt)
+forms_fit keys.Mend = (from_row (λ a af b bf. record { fits = (af, (bf, tt)); listed = tt }), tt)
+forms_fit keys.Restart = (from_row (λ a af. record { fits = (af, tt); listed = tt }), tt)
+forms_fit keys.Send = (from_row (λ a af b bf d df. record { fits = (af, (bf, (df, tt))); listed = tt }), tt)
+forms_fit keys.Race = (from_row (record { fits = tt; listed = tt }), tt)
+forms_fit keys.Burst = (from_row (λ a af b bf d df e ef g gf. record { fits = (af, (bf, (df, (ef, (gf, tt))))); listed = tt }), tt)
+forms_fit keys.While = (from_row (record { fits = tt; listed = tt }), tt)
+forms_fit keys.End = (from_row (record { fits = tt; listed = tt }), tt)
+forms_fit keys.Inject = (from_row (λ a af b bf. record { fits = (af, (bf, tt)); listed = tt }), tt)
+forms_fit keys.Feed = (from_row (λ a af b bf d df. record { fits = (af, (bf, (df, tt))); listed = tt }), tt)
+
+behind_fits : (k : Keyword) (words : List (List ℕ)) (line : Line) → line_by k words ≡ Ok line → IsInForm line
+behind_fits keys.Draws words line e = draws_of_fit words line e
+behind_fits keys.Conf words line e = count_fits (forms_of keys.Conf) words line (forms_fit keys.Conf) e
+behind_fits keys.Window words line e = count_fits (forms_of keys.Window) words line (forms_fit keys.Window) e
+behind_fits keys.Rekey words line e = count_fits (forms_of keys.Rekey) words line (forms_fit keys.Rekey) e
+behind_fits keys.Lag words line e = count_fits (forms_of keys.Lag) words line (forms_fit keys.Lag) e
+behind_fits keys.Suite words line e = count_fits (forms_of keys.Suite) words line (forms_fit keys.Suite) e
+behind_fits keys.Group words line e = count_fits (forms_of keys.Group) words line (forms_fit keys.Group) e
+behind_fits keys.Station words line e = count_fits (forms_of keys.Station) words line (forms_fit keys.Station) e
+behind_fits keys.Tick words line e = count_fits (forms_of keys.Tick) words line (forms_fit keys.Tick) e
+behind_fits keys.Flow words line e = count_fits (forms_of keys.Flow) words line (forms_fit keys.Flow) e
+behind_fits keys.Deliver words line e = count_fits (forms_of keys.Deliver) words line (forms_fit keys.Deliver) e
+behind_fits keys.Spread words line e = count_fits (forms_of keys.Spread) words line (forms_fit keys.Spread) e
+behind_fits keys.Lose words line e = count_fits (forms_of keys.Lose) words line (forms_fit keys.Lose) e
+behind_fits keys.Cut words line e = count_fits (forms_of keys.Cut) words line (forms_fit keys.Cut) e
+behind_fits keys.Mend words line e = count_fits (forms_of keys.Mend) words line (forms_fit keys.Mend) e
+behind_fits keys.Restart words line e = count_fits (forms_of keys.Restart) words line (forms_fit keys.Restart) e
+behind_fits keys.Send words line e = count_fits (forms_of keys.Send) words line (forms_fit keys.Send) e
+behind_fits keys.Race words line e = count_fits (forms_of keys.Race) words line (forms_fit keys.Race) e
+behind_fits keys.Burst words line e = count_fits (forms_of keys.Burst) words line (forms_fit keys.Burst) e
+behind_fits keys.While words line e = count_fits (forms_of keys.While) words line (forms_fit keys.While) e
+behind_fits keys.End words line e = count_fits (forms_of keys.End) words line (forms_fit keys.End) e
+behind_fits keys.Inject words line e = count_fits (forms_of keys.Inject) words line (forms_fit keys.Inject) e
+behind_fits keys.Feed words line e = count_fits (forms_of keys.Feed) words line (forms_fit keys.Feed) e
+
+first_fits : (o : Option Keyword) (words : List (List ℕ)) (line : Line) → (ok_or o Word >>= (λ keyword. line_by keyword words)) ≡ Ok line → IsInForm line
+first_fits (Some keyword) words line e = behind_fits keyword words line e
+first_fits None words line e = absurd cc
 
 abbrev line_or : Line → Result (Option Line) TextFault → Line
 line_or d (Ok (Some line)) = line
@@ -260,7 +241,7 @@ comment_or false r line e = some_line r line e
 words_fit : (words : List (List ℕ)) (line : Line) → line_of_words words ≡ Ok (Some line) → IsInForm line
 words_fit [] line e = absurd cc
 words_fit (first ∷ words) line e =
-    first_fits (is_word first (codes "draws")) first words line (comment_or (is_comment first) (line_of first words) line e)
+    first_fits (keyword_of first) words line (comment_or (is_comment first) (line_of first words) line e)
 
 short_enough : (b : Bool) (r : Result (Option Line) TextFault) (said : Option Line) → (if b then Err TooLong else r) ≡ Ok said → r ≡ Ok said
 short_enough true r said e = absurd cc
@@ -268,9 +249,9 @@ short_enough false r said e = e
 
 pub read_fits : (text : List ℕ) (line : Line) → line_in text ≡ Ok (Some line) → IsInForm line
 unfolding line_in
-read_fits text line e = words_fit (words_of text) line (short_enough (nat_lt 4096 (length text)) (line_of_words (words_of text)) (Some line) e)
+read_fits text line e = words_fit (words_of text) line (short_enough (nat_lt most_line (length text)) (line_of_words (words_of text)) (Some line) e)
 
-pub answer_fits : (r : Result (Option Line) TextFault) (text : List ℕ) → Answers r (line_in text) → IfOk r (λ read. IfSome read IsInForm)
+pub answer_fits : (r : Result (Option Line) LineError) (text : List ℕ) → Answers r (line_in text) → IfOk r (λ read. IfSome read IsInForm)
 answer_fits (Ok None) text e = tt
 answer_fits (Ok (Some line)) text e = read_fits text line e
-answer_fits (Err fault) text e = tt
+answer_fits (Err error) text e = tt

@@ -3,9 +3,9 @@ pub mod Characters
 pub mod Decoding
 pub mod Digits
 pub mod Faults
+pub mod Finding
 pub mod InForm
 pub mod Listing
-pub mod NoText
 pub mod RoundTrip
 pub mod Spacing
 pub mod Spelling

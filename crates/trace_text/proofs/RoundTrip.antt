@@ -4,11 +4,15 @@ use Rattle.std.specs.Prelude.{Some, Ok, not, nat_lt, map, codes}
 use Rattle.std.specs.List.{list_all}
 use Rattle.std.specs.Result.{result_map_both}
 use Rattle.std.proofs.lemmas.Bool.Decides.{nat_tests}
+use Rattle.trace_text.specs.declared.keyword.Keyword.{Keyword}
+use Rattle.trace_text.specs.declared.keyword.Keyword.TheVariants as keys
 use Rattle.trace_text.specs.declared.line.Line.{Line}
 use Rattle.trace_text.specs.declared.line.Line.TheVariants.{DrawsList, DrawsCount, DrawsChaCha, Conf, Window, Rekey, Lag, Suite, Group, Station, Tick, TickOne, Flow, Deliver, Spread, Lose, Cut, Mend, Restart, Send, Race, Burst, While, End, Inject, Feed}
+use Rattle.trace_text.specs.Limits.{most_line}
 use Rattle.trace_text.specs.Words.{is_blank, words_of, spaced}
-use Rattle.trace_text.specs.Kinds.{name, number, one_of, exactly, octets, secret, ticks, frame, body, address, spelled}
-use Rattle.trace_text.specs.Reading.{blocks_of, draws_of, line_of, is_comment, line_in}
+use Rattle.trace_text.specs.Keywords.{keyword_of, spelling}
+use Rattle.trace_text.specs.Kinds.{spelled, name, secret, exactly, suite, bit, window, rekey, lag, key_name, priority, ticks, frame, frame_from, workers, burst, address, body, injected}
+use Rattle.trace_text.specs.Reading.{blocks_of, draws_of, line_by, line_of, is_comment, line_in}
 use Rattle.trace_text.specs.Writing.{Field, ◌∶◌, first_words, fields, AllFit, IsInForm, written}
 use Rattle.trace_text.proofs.Answering.{line_in-words}
 use Rattle.trace_text.proofs.Spacing.{IsWord, AreWords, IsWord-literal, before_space, words_of-spaced}
@@ -34,7 +38,7 @@ plain (Conf a) = (omega arith, tt)
 plain (Window a) = (omega arith, tt)
 plain (Rekey a) = (omega arith, tt)
 plain (Lag a) = (omega arith, tt)
-plain (Suite a) = ((omega arith, omega arith), tt)
+plain (Suite a) = (tt, tt)
 plain (Group a b) = (tt, (omega arith, tt))
 plain (Station a b d) = (tt, (omega arith, (omega arith, tt)))
 plain (Tick a) = (omega arith, tt)
@@ -62,19 +66,49 @@ all_words (field ∷ others) plain fit =
 abbrev whole : List ℕ → Bool
 whole word = list_all (λ octet. not (is_blank octet)) word
 
+-- a keyword's spelling is its own
+named : (k : Keyword) → keyword_of (spelling k) ≡ Some k
+unfolding keyword_of
+named keys.Draws = refl
+named keys.Conf = refl
+named keys.Window = refl
+named keys.Rekey = refl
+named keys.Lag = refl
+named keys.Suite = refl
+named keys.Group = refl
+named keys.Station = refl
+named keys.Tick = refl
+named keys.Flow = refl
+named keys.Deliver = refl
+named keys.Spread = refl
+named keys.Lose = refl
+named keys.Cut = refl
+named keys.Mend = refl
+named keys.Restart = refl
+named keys.Send = refl
+named keys.Race = refl
+named keys.Burst = refl
+named keys.While = refl
+named keys.End = refl
+named keys.Inject = refl
+named keys.Feed = refl
+
+behind : (first : List ℕ) (k : Keyword) (words : List (List ℕ)) → first ≡ spelling k → line_of first words ≡ line_by k words
+behind first k words same = rw (same, named k) refl
+
 -- a line that begins with one word
-single : (line : Line) → 0 < length (first_words line) → whole (first_words line) ≡ true → is_comment (first_words line) ≡ false
-    → IsInForm line → length (written line) ≤ 4096 → line_of (first_words line) (texts (fields line)) ≡ Ok line → line_in (written line) ≡ Ok (Some line)
+single : (line : Line) (k : Keyword) → first_words line ≡ spelling k → 0 < length (first_words line) → whole (first_words line) ≡ true → is_comment (first_words line) ≡ false
+    → IsInForm line → length (written line) ≤ most_line → line_by k (texts (fields line)) ≡ Ok line → line_in (written line) ≡ Ok (Some line)
 unfolding written
-single line some test plain_first form short e =
+single line k same some test plain_first form short e =
     let words : words_of (first_words line ++ spaced (texts (fields line))) ≡ first_words line ∷ texts (fields line)
     = words_of-spaced (first_words line) (texts (fields line)) (IsWord-literal (first_words line) some test) (all_words (fields line) (plain line) form.fits) in
     line_in-words (first_words line ++ spaced (texts (fields line))) (first_words line) (texts (fields line)) short words plain_first
-    ∙ ap (result_map_both (λ x. Some x) (λ fault. fault)) e
+    ∙ ap (result_map_both (λ x. Some x) (λ fault. fault)) (behind (first_words line) k (texts (fields line)) same ∙ e)
 
 -- a line that begins with `draws` and a second word
 double : (line : Line) (second : List ℕ) → first_words line ≡ codes "draws" ++ 32 ∷ second → 0 < length second → whole second ≡ true
-    → IsInForm line → length (written line) ≤ 4096 → draws_of (second ∷ texts (fields line)) ≡ Ok line → line_in (written line) ≡ Ok (Some line)
+    → IsInForm line → length (written line) ≤ most_line → draws_of (second ∷ texts (fields line)) ≡ Ok line → line_in (written line) ≡ Ok (Some line)
 unfolding written
 double line second begins some test form short e =
     let draws : IsWord (codes "draws") = IsWord-literal (codes "draws") (omega arith) refl in
@@ -85,7 +119,7 @@ double line second begins some test form short e =
     ∙ before_space (codes "draws") (second ++ spaced (texts (fields line))) draws
     ∙ ap (λ ws. codes "draws" ∷ ws) (words_of-spaced second (texts (fields line)) (IsWord-literal second some test) (all_words (fields line) (plain line) form.fits)) in
     line_in-words (first_words line ++ spaced (texts (fields line))) (codes "draws") (second ∷ texts (fields line)) short words refl
-    ∙ ap (result_map_both (λ x. Some x) (λ fault. fault)) e
+    ∙ ap (result_map_both (λ x. Some x) (λ fault. fault)) (behind (codes "draws") keys.Draws (second ∷ texts (fields line)) refl ∙ e)
 
 blocks_said : (values : List (List ℕ)) → AllFit (map (λ value. exactly 16 ∶ value) values) → blocks_of (texts (map (λ value. exactly 16 ∶ value) values)) ≡ Ok values
 blocks_said [] fit = refl
@@ -100,7 +134,7 @@ list_said (value ∷ values) some fit =
     let count : nat_lt 0 (length (texts (map (λ x. exactly 16 ∶ x) (value ∷ values)))) ≡ true = grind (arith, nat_tests) in
     rw (count, blocks_said (value ∷ values) fit) refl
 
-pub written_is_read : (line : Line) → IsInForm line → length (written line) ≤ 4096 → line_in (written line) ≡ Ok (Some line)
+pub written_is_read : (line : Line) → IsInForm line → length (written line) ≤ most_line → line_in (written line) ≡ Ok (Some line)
 written_is_read (DrawsList values) form short =
     double (DrawsList values) (codes "list") refl (omega arith) refl form short (list_said values form.listed form.fits)
 written_is_read DrawsCount form short =
@@ -108,48 +142,48 @@ written_is_read DrawsCount form short =
 written_is_read (DrawsChaCha a) form short =
     double (DrawsChaCha a) (codes "chacha") refl (omega arith) refl form short (rw (said_spelled (exactly 32) a (omega arith) form.fits.0) refl)
 written_is_read (Conf a) form short =
-    single (Conf a) (omega arith) refl refl form short (rw (said_spelled (number 0 1) a (omega arith) form.fits.0) refl)
+    single (Conf a) keys.Conf refl (omega arith) refl refl form short (rw (said_spelled bit a (omega arith) form.fits.0) refl)
 written_is_read (Window a) form short =
-    single (Window a) (omega arith) refl refl form short (rw (said_spelled (number 0 4294967295) a (omega arith) form.fits.0) refl)
+    single (Window a) keys.Window refl (omega arith) refl refl form short (rw (said_spelled window a (omega arith) form.fits.0) refl)
 written_is_read (Rekey a) form short =
-    single (Rekey a) (omega arith) refl refl form short (rw (said_spelled (number 2 4294967295) a (omega arith) form.fits.0) refl)
+    single (Rekey a) keys.Rekey refl (omega arith) refl refl form short (rw (said_spelled rekey a (omega arith) form.fits.0) refl)
 written_is_read (Lag a) form short =
-    single (Lag a) (omega arith) refl refl form short (rw (said_spelled (number 0 1000) a (omega arith) form.fits.0) refl)
+    single (Lag a) keys.Lag refl (omega arith) refl refl form short (rw (said_spelled lag a (omega arith) form.fits.0) refl)
 written_is_read (Suite a) form short =
-    single (Suite a) (omega arith) refl refl form short (rw (said_spelled (one_of 128 256) a (omega arith, omega arith) form.fits.0) refl)
+    single (Suite a) keys.Suite refl (omega arith) refl refl form short (rw (said_spelled suite a tt form.fits.0) refl)
 written_is_read (Group a b) form short =
-    single (Group a b) (omega arith) refl refl form short (rw (said_spelled secret a tt form.fits.0, said_spelled (octets 1 32) b (omega arith) form.fits.1.0) refl)
+    single (Group a b) keys.Group refl (omega arith) refl refl form short (rw (said_spelled secret a tt form.fits.0, said_spelled key_name b (omega arith) form.fits.1.0) refl)
 written_is_read (Station a b d) form short =
-    single (Station a b d) (omega arith) refl refl form short (rw (said_spelled name a tt form.fits.0, said_spelled (exactly 8) b.0 (omega arith) form.fits.1.0, said_spelled (number 0 255) d (omega arith) form.fits.1.1.0) refl)
+    single (Station a b d) keys.Station refl (omega arith) refl refl form short (rw (said_spelled name a tt form.fits.0, said_spelled (exactly 8) b.0 (omega arith) form.fits.1.0, said_spelled priority d (omega arith) form.fits.1.1.0) refl)
 written_is_read (Tick a) form short =
-    single (Tick a) (omega arith) refl refl form short (rw (said_spelled ticks a (omega arith) form.fits.0) refl)
+    single (Tick a) keys.Tick refl (omega arith) refl refl form short (rw (said_spelled ticks a (omega arith) form.fits.0) refl)
 written_is_read (TickOne a b) form short =
-    single (TickOne a b) (omega arith) refl refl form short (rw (said_spelled name a tt form.fits.0, said_spelled ticks b (omega arith) form.fits.1.0) refl)
+    single (TickOne a b) keys.Tick refl (omega arith) refl refl form short (rw (said_spelled name a tt form.fits.0, said_spelled ticks b (omega arith) form.fits.1.0) refl)
 written_is_read (Flow a) form short =
-    single (Flow a) (omega arith) refl refl form short (rw (said_spelled ticks a (omega arith) form.fits.0) refl)
+    single (Flow a) keys.Flow refl (omega arith) refl refl form short (rw (said_spelled ticks a (omega arith) form.fits.0) refl)
 written_is_read (Deliver a b) form short =
-    single (Deliver a b) (omega arith) refl refl form short (rw (said_spelled frame a (omega arith) form.fits.0, said_spelled name b tt form.fits.1.0) refl)
+    single (Deliver a b) keys.Deliver refl (omega arith) refl refl form short (rw (said_spelled frame a (omega arith) form.fits.0, said_spelled name b tt form.fits.1.0) refl)
 written_is_read (Spread a) form short =
-    single (Spread a) (omega arith) refl refl form short (rw (said_spelled frame a (omega arith) form.fits.0) refl)
+    single (Spread a) keys.Spread refl (omega arith) refl refl form short (rw (said_spelled frame a (omega arith) form.fits.0) refl)
 written_is_read (Lose a) form short =
-    single (Lose a) (omega arith) refl refl form short (rw (said_spelled frame a (omega arith) form.fits.0) refl)
+    single (Lose a) keys.Lose refl (omega arith) refl refl form short (rw (said_spelled frame a (omega arith) form.fits.0) refl)
 written_is_read (Cut a b) form short =
-    single (Cut a b) (omega arith) refl refl form short (rw (said_spelled name a tt form.fits.0, said_spelled name b tt form.fits.1.0) refl)
+    single (Cut a b) keys.Cut refl (omega arith) refl refl form short (rw (said_spelled name a tt form.fits.0, said_spelled name b tt form.fits.1.0) refl)
 written_is_read (Mend a b) form short =
-    single (Mend a b) (omega arith) refl refl form short (rw (said_spelled name a tt form.fits.0, said_spelled name b tt form.fits.1.0) refl)
+    single (Mend a b) keys.Mend refl (omega arith) refl refl form short (rw (said_spelled name a tt form.fits.0, said_spelled name b tt form.fits.1.0) refl)
 written_is_read (Restart a) form short =
-    single (Restart a) (omega arith) refl refl form short (rw (said_spelled name a tt form.fits.0) refl)
+    single (Restart a) keys.Restart refl (omega arith) refl refl form short (rw (said_spelled name a tt form.fits.0) refl)
 written_is_read (Send a b d) form short =
-    single (Send a b d) (omega arith) refl refl form short (rw (said_spelled name a tt form.fits.0, said_spelled address b.0 (omega arith) form.fits.1.0, said_spelled body d (omega arith) form.fits.1.1.0) refl)
+    single (Send a b d) keys.Send refl (omega arith) refl refl form short (rw (said_spelled name a tt form.fits.0, said_spelled address b.0 (omega arith) form.fits.1.0, said_spelled body d (omega arith) form.fits.1.1.0) refl)
 written_is_read Race form short =
-    single Race (omega arith) refl refl form short refl
+    single Race keys.Race refl (omega arith) refl refl form short refl
 written_is_read (Burst a b d e g) form short =
-    single (Burst a b d e g) (omega arith) refl refl form short (rw (said_spelled name a tt form.fits.0, said_spelled (number 1 8) b (omega arith) form.fits.1.0, said_spelled (number 1 100000) d (omega arith) form.fits.1.1.0, said_spelled address e.0 (omega arith) form.fits.1.1.1.0, said_spelled body g (omega arith) form.fits.1.1.1.1.0) refl)
+    single (Burst a b d e g) keys.Burst refl (omega arith) refl refl form short (rw (said_spelled name a tt form.fits.0, said_spelled workers b (omega arith) form.fits.1.0, said_spelled burst d (omega arith) form.fits.1.1.0, said_spelled address e.0 (omega arith) form.fits.1.1.1.0, said_spelled body g (omega arith) form.fits.1.1.1.1.0) refl)
 written_is_read While form short =
-    single While (omega arith) refl refl form short refl
+    single While keys.While refl (omega arith) refl refl form short refl
 written_is_read End form short =
-    single End (omega arith) refl refl form short refl
+    single End keys.End refl (omega arith) refl refl form short refl
 written_is_read (Inject a b) form short =
-    single (Inject a b) (omega arith) refl refl form short (rw (said_spelled name a tt form.fits.0, said_spelled (octets 1 1600) b (omega arith) form.fits.1.0) refl)
+    single (Inject a b) keys.Inject refl (omega arith) refl refl form short (rw (said_spelled name a tt form.fits.0, said_spelled injected b (omega arith) form.fits.1.0) refl)
 written_is_read (Feed a b d) form short =
-    single (Feed a b d) (omega arith) refl refl form short (rw (said_spelled frame a (omega arith) form.fits.0, said_spelled (number a 200000) b (omega arith) form.fits.1.0, said_spelled name d tt form.fits.1.1.0) refl)
+    single (Feed a b d) keys.Feed refl (omega arith) refl refl form short (rw (said_spelled frame a (omega arith) form.fits.0, said_spelled (frame_from a) b (omega arith) form.fits.1.0, said_spelled name d tt form.fits.1.1.0) refl)

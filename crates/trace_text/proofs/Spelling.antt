@@ -1,8 +1,9 @@
 -- A spelled word is a word, and says the same again.
 use Rattle.std.proofs.Common.{◌≡◌, ℕ, ◌<◌, ◌≤◌, ◌^◌, Bool, true, false, List, [], ◌∷◌, length, refl, sym, ap, ◌∙◌, inl, inr, arith}
-use Rattle.std.specs.Prelude.{Ok, Err, if◌then◌else◌, ◌&&◌, ◌⊎◌, nat_lt, nat_le, decimal}
+use Rattle.std.specs.Prelude.{Some, Ok, Err, if◌then◌else◌, ◌&&◌, ◌⊎◌, nat_lt, nat_le, decimal}
 use Rattle.std.specs.List.{All, AllPass, list_all}
 use Rattle.std.specs.Char.{is_ascii_digit, is_ascii_alphanumeric}
+use Rattle.std.specs.Option.{ok_or}
 use Rattle.std.specs.Str.Parse.{digits_value}
 use Rattle.std.proofs.lemmas.Bool.Decides.{nat_tests}
 use Rattle.std.proofs.lemmas.Fmt.{decimal_is_IsNumeral, length-decimal-le, decimal_nonempty}
@@ -10,10 +11,13 @@ use Rattle.std.proofs.lemmas.List.Elements.{All-weaker}
 use Rattle.std.proofs.lemmas.List.Sums.{AllPass-from_list_all}
 use Rattle.hex.specs.Hex.{encode_lower, lower_digits, is_hex_digit, IsBytes}
 use Rattle.hex.proofs.HexLemmas.{decode_of-ok, decode_of-encode_lower, decode_sized-encode_lower, length-encode_with}
+use Rattle.lan_base.specs.declared.suite.Suite.{Suite}
+use Rattle.lan_base.specs.declared.suite.Suite.TheVariants.{GcmAes128, GcmAes256}
 use Rattle.lan_base.specs.Name.{is_name}
+use Rattle.lan_base.specs.Suites.{key_bits, suite_of}
 use Rattle.trace_text.specs.declared.fault.TextFault.TheVariants.{Range}
 use Rattle.trace_text.specs.Words.{is_blank}
-use Rattle.trace_text.specs.Kinds.{Kind, name, number, one_of, exactly, octets, secret, Said, said, spelled, IsFit, is_number, number_of, is_within, is_either, octets_of, exactly_of}
+use Rattle.trace_text.specs.Kinds.{Kind, name, number, suite, exactly, octets, secret, Said, said, spelled, IsFit, is_number, number_of, suite_in, is_within, is_either, octets_of, exactly_of}
 use Rattle.trace_text.proofs.Characters.{name_characters, decimal_digits}
 use Rattle.trace_text.proofs.Spacing.{IsWord}
 
@@ -21,7 +25,7 @@ use Rattle.trace_text.proofs.Spacing.{IsWord}
 abbrev pub IsPlain : Kind → Type 0
 IsPlain name = Unit {0}
 IsPlain (number low high) = high < 10000000000
-IsPlain (one_of this that) = (this < 10000000000) × (that < 10000000000)
+IsPlain suite = Unit {0}
 IsPlain (exactly count) = 0 < count
 IsPlain (octets low high) = 0 < low
 IsPlain secret = Unit {0}
@@ -79,16 +83,29 @@ number_said allowed n small ok =
     let fits : n < 2 ^ 64 = omega arith in
     chosen (is_number (decimal n)) (digits_value 10 (decimal n)) n allowed (decimal_number n small) (decimal_is_IsNumeral n fits).1 ok
 
+suite_small : (s : Suite) → key_bits s < 10000000000
+suite_small GcmAes128 = omega arith
+suite_small GcmAes256 = omega arith
+
+suite_named : (s : Suite) → suite_of (key_bits s) ≡ Some s
+suite_named GcmAes128 = refl
+suite_named GcmAes256 = refl
+
+suite_chosen : (b : Bool) (v : ℕ) (s : Suite) → b ≡ true → v ≡ key_bits s → (if b then ok_or (suite_of v) Range else Err Range) ≡ Ok s
+suite_chosen b v s eb ev = rw (eb, ev, suite_named s) refl
+
+suite_said : (s : Suite) → suite_in (decimal (key_bits s)) ≡ Ok s
+suite_said s =
+    let small = suite_small s in
+    let fits : key_bits s < 2 ^ 64 = omega (arith, small) in
+    suite_chosen (is_number (decimal (key_bits s))) (digits_value 10 (decimal (key_bits s))) s (decimal_number (key_bits s) small) (decimal_is_IsNumeral (key_bits s) fits).1
+
 within : (low high n : ℕ) → low ≤ n → n ≤ high → is_within low high n ≡ true
 within low high n l h = grind (arith, nat_tests)
 
 either : (this that n : ℕ) → (n ≡ this) ⊎ (n ≡ that) → is_either this that n ≡ true
 either this that n (inl e) = grind (arith, nat_tests)
 either this that n (inr e) = grind (arith, nat_tests)
-
-either_small : (this that n : ℕ) → (this < 10000000000) × (that < 10000000000) → (n ≡ this) ⊎ (n ≡ that) → n < 10000000000
-either_small this that n small (inl e) = omega (arith, small.0)
-either_small this that n small (inr e) = omega (arith, small.1)
 
 hex_word : (xs : List ℕ) → 0 < length xs → IsBytes xs → IsWord (encode_lower xs)
 hex_word xs some bytes = record {
@@ -109,7 +126,7 @@ array_said count xs size bytes = rw (decode_sized-encode_lower xs count size byt
 pub spelled_word : (k : Kind) (x : Said k) → IsPlain k → IsFit k x → IsWord (spelled k x)
 spelled_word name x plain fit = name_word x fit
 spelled_word (number low high) x plain fit = number_word x (omega (arith, plain, fit.1))
-spelled_word (one_of this that) x plain fit = number_word x (either_small this that x plain fit)
+spelled_word suite x plain fit = number_word (key_bits x) (suite_small x)
 spelled_word (exactly count) x plain fit = hex_word x (omega (arith, plain, fit.0)) fit.1
 spelled_word (octets low high) x plain fit = hex_word x (omega (arith, plain, fit.0)) fit.2
 spelled_word secret x plain fit = hex_word x (key_some x fit.0) fit.1
@@ -118,8 +135,7 @@ pub said_spelled : (k : Kind) (x : Said k) → IsPlain k → IsFit k x → said 
 said_spelled name x plain fit = rw fit refl
 said_spelled (number low high) x plain fit =
     number_said (is_within low high) x (omega (arith, plain, fit.1)) (within low high x fit.0 fit.1)
-said_spelled (one_of this that) x plain fit =
-    number_said (is_either this that) x (either_small this that x plain fit) (either this that x fit)
+said_spelled suite x plain fit = suite_said x
 said_spelled (exactly count) x plain fit = array_said count x fit.0 fit.1
 said_spelled (octets low high) x plain fit = octets_said (is_within low high) x fit.2 (within low high (length x) fit.0 fit.1)
 said_spelled secret x plain fit = octets_said (is_either 16 32) x fit.1 (either 16 32 (length x) fit.0)

@@ -1,5 +1,7 @@
+pub mod Limits
 pub mod Words
 pub mod Appending
+pub mod Keywords
 pub mod Kinds
 pub mod Forms
 pub mod Reading

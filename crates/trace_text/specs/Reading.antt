@@ -1,12 +1,17 @@
 -- What a line says, or the first fault of it.
-use Rattle.std.specs.Prelude.{ℕ, nat_lt, ◌==◌, Bool, false, if◌then◌else◌, List, [], ◌∷◌, length, filter, codes, Option, Some, None, Result, Ok, Err}
+use Rattle.std.specs.Prelude.{ℕ, nat_lt, ◌==◌, Bool, false, if◌then◌else◌, List, [], ◌∷◌, length, Option, Some, None, Result, Ok, Err}
+use Rattle.std.specs.Option.{ok_or}
 use Rattle.std.specs.Result.{result_map_both}
 use Rattle.trace_text.specs.declared.fault.TextFault.{TextFault}
 use Rattle.trace_text.specs.declared.fault.TextFault.TheVariants.{TooLong, Word, Count}
+use Rattle.trace_text.specs.declared.keyword.Keyword.{Keyword}
+use Rattle.trace_text.specs.declared.keyword.Keyword.TheVariants.{Draws}
 use Rattle.trace_text.specs.declared.line.Line.{Line}
-use Rattle.trace_text.specs.Words.{words_of, is_word}
+use Rattle.trace_text.specs.Limits.{most_line}
+use Rattle.trace_text.specs.Words.{words_of}
 use Rattle.trace_text.specs.Kinds.{exactly_of, said}
-use Rattle.trace_text.specs.Forms.{Row, makes, ◌⇒◌, blocks, Form, forms, draws_forms}
+use Rattle.trace_text.specs.Keywords.{keyword_of}
+use Rattle.trace_text.specs.Forms.{Row, makes, ◌⇒◌, blocks, Form, forms_of, draws_form}
 
 -- the second step, if the first gave a value
 infixl 10 ◌>>=◌
@@ -40,24 +45,26 @@ by_count [] words = Err Count
 by_count (form ∷ others) words =
     if form.counts (length words) then along form.row words else by_count others words
 
--- of these forms those that begin with this word
-abbrev pub beginning : List ℕ → List Form → List Form
-beginning first fs = filter (λ form. is_word first form.first) fs
-
--- the line by one of these forms, all of which begin with the same word
-abbrev pub by_some : List Form → List (List ℕ) → Result Line TextFault
-by_some [] words = Err Word
-by_some (form ∷ others) words = by_count (form ∷ others) words
+-- the line of words by one form, where there is one
+abbrev pub by_form : Option Form → List (List ℕ) → Result Line TextFault
+by_form None words = Err Word
+by_form (Some form) words = by_count (form ∷ []) words
 
 -- the line of words behind `draws`
 abbrev pub draws_of : List (List ℕ) → Result Line TextFault
 draws_of [] = Err Count
-draws_of (second ∷ words) = by_some (beginning second draws_forms) words
+draws_of (second ∷ words) = by_form (draws_form second) words
+
+-- the line of words behind a keyword
+abbrev pub line_by : Keyword → List (List ℕ) → Result Line TextFault
+line_by Draws words = draws_of words
+line_by keyword words = by_count (forms_of keyword) words
 
 -- the line of a first word, and the words behind it
 abbrev pub line_of : List ℕ → List (List ℕ) → Result Line TextFault
-line_of first words =
-    if is_word first (codes "draws") then draws_of words else by_some (beginning first forms) words
+line_of first words = do
+  keyword ← ok_or (keyword_of first) Word
+  line_by keyword words
 
 -- a word that begins a comment: its first octet is `#`
 abbrev pub is_comment : List ℕ → Bool
@@ -73,7 +80,7 @@ line_of_words (first ∷ words) =
 
 -- what a text without its line ending says as a line, or its first fault
 unfoldable pub line_in : List ℕ → Result (Option Line) TextFault
-line_in text = if nat_lt 4096 (length text) then Err TooLong else line_of_words (words_of text)
+line_in text = if nat_lt most_line (length text) then Err TooLong else line_of_words (words_of text)
 
 -- the fault that was found instead of a value
 abbrev pub fault_in : {A : Type 0} → Result A TextFault → Option TextFault

@@ -1,7 +1,7 @@
 -- How a line is written.
 use Rattle.std.specs.Prelude.{ℕ, ◌<◌, List, [], ◌∷◌, ◌++◌, length, map, codes}
 use Rattle.trace_text.specs.Words.{spaced}
-use Rattle.trace_text.specs.Kinds.{Kind, name, number, one_of, exactly, octets, secret, ticks, frame, body, address, Said, spelled, IsFit}
+use Rattle.trace_text.specs.Kinds.{Kind, Said, spelled, IsFit, name, secret, exactly, suite, bit, window, rekey, lag, key_name, priority, ticks, frame, frame_from, workers, burst, address, body, injected}
 use Rattle.trace_text.specs.declared.line.Line.{Line}
 use Rattle.trace_text.specs.declared.line.Line.TheVariants.{DrawsCount, DrawsChaCha, DrawsList, Conf, Window, Rekey, Lag, Suite, Group, Station, Tick, TickOne, Flow, Deliver, Spread, Lose, Cut, Mend, Restart, Send, Race, Burst, While, End, Inject, Feed}
 
@@ -19,11 +19,11 @@ abbrev pub first_words : Line → List ℕ
 first_words DrawsCount = codes "draws count"
 first_words (DrawsChaCha key) = codes "draws chacha"
 first_words (DrawsList values) = codes "draws list"
-first_words (Conf conf) = codes "conf"
-first_words (Window window) = codes "window"
-first_words (Rekey rekey) = codes "rekey"
-first_words (Lag lag) = codes "lag"
-first_words (Suite suite) = codes "suite"
+first_words (Conf b) = codes "conf"
+first_words (Window w) = codes "window"
+first_words (Rekey r) = codes "rekey"
+first_words (Lag l) = codes "lag"
+first_words (Suite s) = codes "suite"
 first_words (Group cak ckn) = codes "group"
 first_words (Station n sci p) = codes "station"
 first_words (Tick rounds) = codes "tick"
@@ -37,7 +37,7 @@ first_words (Mend from to) = codes "mend"
 first_words (Restart n) = codes "restart"
 first_words (Send n to b) = codes "send"
 first_words Race = codes "race"
-first_words (Burst n workers frames to b) = codes "burst"
+first_words (Burst n w count to b) = codes "burst"
 first_words While = codes "while"
 first_words End = codes "end"
 first_words (Inject n xs) = codes "inject"
@@ -48,13 +48,13 @@ abbrev pub fields : Line → List Field
 fields DrawsCount = []
 fields (DrawsChaCha key) = exactly 32 ∶ key ∷ []
 fields (DrawsList values) = map (λ value. exactly 16 ∶ value) values
-fields (Conf conf) = number 0 1 ∶ conf ∷ []
-fields (Window window) = number 0 4294967295 ∶ window ∷ []
-fields (Rekey rekey) = number 2 4294967295 ∶ rekey ∷ []
-fields (Lag lag) = number 0 1000 ∶ lag ∷ []
-fields (Suite suite) = one_of 128 256 ∶ suite ∷ []
-fields (Group cak ckn) = secret ∶ cak ∷ octets 1 32 ∶ ckn ∷ []
-fields (Station n sci p) = name ∶ n ∷ exactly 8 ∶ sci.0 ∷ number 0 255 ∶ p ∷ []
+fields (Conf b) = bit ∶ b ∷ []
+fields (Window w) = window ∶ w ∷ []
+fields (Rekey r) = rekey ∶ r ∷ []
+fields (Lag l) = lag ∶ l ∷ []
+fields (Suite s) = suite ∶ s ∷ []
+fields (Group cak ckn) = secret ∶ cak ∷ key_name ∶ ckn ∷ []
+fields (Station n sci p) = name ∶ n ∷ exactly 8 ∶ sci.0 ∷ priority ∶ p ∷ []
 fields (Tick rounds) = ticks ∶ rounds ∷ []
 fields (TickOne n count) = name ∶ n ∷ ticks ∶ count ∷ []
 fields (Flow rounds) = ticks ∶ rounds ∷ []
@@ -66,12 +66,12 @@ fields (Mend from to) = name ∶ from ∷ name ∶ to ∷ []
 fields (Restart n) = name ∶ n ∷ []
 fields (Send n to b) = name ∶ n ∷ address ∶ to.0 ∷ body ∶ b ∷ []
 fields Race = []
-fields (Burst n workers frames to b) =
-    name ∶ n ∷ number 1 8 ∶ workers ∷ number 1 100000 ∶ frames ∷ address ∶ to.0 ∷ body ∶ b ∷ []
+fields (Burst n w count to b) =
+    name ∶ n ∷ workers ∶ w ∷ burst ∶ count ∷ address ∶ to.0 ∷ body ∶ b ∷ []
 fields While = []
 fields End = []
-fields (Inject n xs) = name ∶ n ∷ octets 1 1600 ∶ xs ∷ []
-fields (Feed first last n) = frame ∶ first ∷ number first 200000 ∶ last ∷ name ∶ n ∷ []
+fields (Inject n xs) = name ∶ n ∷ injected ∶ xs ∷ []
+fields (Feed first last n) = frame ∶ first ∷ frame_from first ∶ last ∷ name ∶ n ∷ []
 
 -- each of these words can say what it is to say
 abbrev pub AllFit : List Field → Type 0

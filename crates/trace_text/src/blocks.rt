@@ -5,7 +5,7 @@ ghost use Rattle.trace_text.specs.Words.{words_of};
 ghost use Rattle.trace_text.specs.Reading.{blocks_of};
 ghost use Rattle.trace_text.specs.inside.Answering.{Answers, checked};
 
-use crate::fault::TextFault;
+use crate::fault::{LineError, TextFault};
 use crate::kinds::read_array;
 use crate::words::next_word;
 use lan_base::Blocks;
@@ -24,7 +24,7 @@ pub fn expect_blocks(line: &[u8]) -> Result<(), TextFault>
 }
 
 /// The blocks of 16 octets that the words of a line spell, where each spells one.
-pub fn read_blocks(alloc: Global, line: &[u8]) -> Result<Blocks, TextFault>
+pub fn read_blocks(alloc: Global, line: &[u8]) -> Result<Blocks, LineError>
     requires { IsOk (blocks_of (words_of line.now)) }
     ensures { Answers result (blocks_of (words_of line.now)) }
 {

@@ -1,12 +1,12 @@
 //! Why a line is not read.
 
 ghost use Rattle.std.specs.Prelude.{◌≡◌};
-ghost use Rattle.trace_text.specs.declared.fault.TextFault.TheVariants.{Memory};
+ghost use Rattle.trace_text.specs.declared.fault.LineError.TheVariants.{Refused, Memory};
 
-use std::alloc::{AllocError, AllocFailed};
+use std::alloc::AllocError;
 use thiserror::Error;
 
-/// Why a line is not read: the first of these that applies, `Hex` and `Range` word by word from the
+/// Why a line is refused: the first of these that applies, `Hex` and `Range` word by word from the
 /// left.
 #[derive(Clone, Copy, Debug, PartialEq, Eq, Error)]
 pub enum TextFault {
@@ -25,15 +25,29 @@ pub enum TextFault {
     /// A word is no name, no number of 1 to 10 digits, or a number out of its range.
     #[error("a word is not the name or the number that its place asks for")]
     Range,
-    /// Memory ran out, which says nothing of the line.
+}
+
+/// Why a line is not read: it is refused, or memory ran out, which says nothing of the line.
+#[derive(Clone, Copy, Debug, PartialEq, Eq, Error)]
+pub enum LineError {
+    #[error("{0}")]
+    Refused(TextFault),
     #[error("out of memory")]
     Memory,
 }
 
-impl From<AllocError> for TextFault {
-    ghost from_gives = { λ _ fault. fault ≡ Memory };
+impl From<TextFault> for LineError {
+    ghost from_gives = { λ fault error. error ≡ Refused fault };
+
+    fn from(fault: TextFault) -> Self {
+        LineError::Refused(fault)
+    }
+}
+
+impl From<AllocError> for LineError {
+    ghost from_gives = { λ _ error. error ≡ Memory };
 
     fn from(_: AllocError) -> Self {
-        TextFault::Memory
+        LineError::Memory
     }
 }

@@ -3,83 +3,77 @@
 
 ghost use Rattle.std.specs.Prelude.{◌≡◌, [], ◌∷◌, codes};
 ghost use Rattle.trace_text.specs.Words.{words_of};
-ghost use Rattle.trace_text.specs.Reading.{line_of, draws_of};
+ghost use Rattle.trace_text.specs.Reading.{line_of, line_by, draws_of};
 ghost use Rattle.trace_text.specs.inside.Answering.{Answers};
 
 use crate::blocks::{expect_blocks, read_blocks};
-use crate::fault::TextFault;
+use crate::fault::{LineError, TextFault};
+use crate::keyword::Keyword;
 use crate::kinds::{
     decoded, expect_key, expect_octets, read_array, read_name, read_number, read_octets, read_suite,
 };
+use crate::limits::{MAX_BURST, MAX_INJECTED, MAX_LAG, MAX_PRIORITY, MAX_WORKERS, MIN_REKEY};
 use crate::line::Line;
 use crate::words::{next_word, no_word, one_word, three_words, two_words};
-use lan_base::{Mac, Sci};
+use lan_base::{CKN_MAX, FRAMES_MAX, Mac, Sci, TICKS_MAX, USER_DATA_MAX, USER_DATA_MIN};
 use std::alloc::Global;
-use std::str;
-
-/// The most ticks or rounds of one line.
-const MAX_TICKS: u32 = 1_000_000;
-
-/// The greatest number of a frame.
-const MAX_FRAME: u32 = 200_000;
 
 /// The line that a first word and the words behind it say.
-pub fn read_form(alloc: Global, first: &[u8], rest: &[u8]) -> Result<Line, TextFault>
+pub fn read_form(alloc: Global, first: &[u8], rest: &[u8]) -> Result<Line, LineError>
     ensures { Answers result (line_of first.now (words_of rest.now)) }
 {
-    match str::from_utf8(first) {
-        Ok(first) => read_known(alloc, first, rest),
-        Err(_) => Err(TextFault::Word),
+    match Keyword::of(first) {
+        Some(keyword) => read_behind(alloc, keyword, rest),
+        None => Err(LineError::Refused(TextFault::Word)),
     }
 }
 
-/// The same of a first word that is text.
-fn read_known(alloc: Global, first: &str, rest: &[u8]) -> Result<Line, TextFault>
-    ensures { Answers result (line_of first.now (words_of rest.now)) }
+/// The line that the words behind a keyword say.
+fn read_behind(alloc: Global, keyword: Keyword, rest: &[u8]) -> Result<Line, LineError>
+    ensures { Answers result (line_by keyword (words_of rest.now)) }
 {
-    match first {
-        "draws" => draws(alloc, rest),
-        "conf" => conf(rest),
-        "window" => window(rest),
-        "rekey" => rekey(rest),
-        "lag" => lag(rest),
-        "suite" => suite(rest),
-        "group" => group(alloc, rest),
-        "station" => station(rest),
-        "tick" => tick(rest),
-        "flow" => flow(rest),
-        "deliver" => deliver(rest),
-        "spread" => spread(rest),
-        "lose" => lose(rest),
-        "cut" => cut(rest),
-        "mend" => mend(rest),
-        "restart" => restart(rest),
-        "send" => send(alloc, rest),
-        "race" => race(rest),
-        "burst" => burst(alloc, rest),
-        "while" => race_control(rest),
-        "end" => race_end(rest),
-        "inject" => inject(alloc, rest),
-        "feed" => feed(rest),
-        _ => Err(TextFault::Word),
+    match keyword {
+        Keyword::Draws => draws(alloc, rest),
+        Keyword::Conf => Ok(conf(rest)?),
+        Keyword::Window => Ok(window(rest)?),
+        Keyword::Rekey => Ok(rekey(rest)?),
+        Keyword::Lag => Ok(lag(rest)?),
+        Keyword::Suite => Ok(suite(rest)?),
+        Keyword::Group => group(alloc, rest),
+        Keyword::Station => Ok(station(rest)?),
+        Keyword::Tick => Ok(tick(rest)?),
+        Keyword::Flow => Ok(flow(rest)?),
+        Keyword::Deliver => Ok(deliver(rest)?),
+        Keyword::Spread => Ok(spread(rest)?),
+        Keyword::Lose => Ok(lose(rest)?),
+        Keyword::Cut => Ok(cut(rest)?),
+        Keyword::Mend => Ok(mend(rest)?),
+        Keyword::Restart => Ok(restart(rest)?),
+        Keyword::Send => send(alloc, rest),
+        Keyword::Race => Ok(race(rest)?),
+        Keyword::Burst => burst(alloc, rest),
+        Keyword::While => Ok(race_control(rest)?),
+        Keyword::End => Ok(race_end(rest)?),
+        Keyword::Inject => inject(alloc, rest),
+        Keyword::Feed => Ok(feed(rest)?),
     }
 }
 
 /// `draws KIND ..`.
-fn draws(alloc: Global, rest: &[u8]) -> Result<Line, TextFault>
-    ensures { Answers result (line_of (codes "draws") (words_of rest.now)) }
+fn draws(alloc: Global, rest: &[u8]) -> Result<Line, LineError>
+    ensures { Answers result (line_by Keyword.Draws (words_of rest.now)) }
 {
     let (kind, rest) = next_word(rest).ok_or(TextFault::Count)?;
     if kind == b"count".as_slice() {
-        return draws_count(rest);
+        return Ok(draws_count(rest)?);
     }
     if kind == b"chacha".as_slice() {
-        return draws_chacha(rest);
+        return Ok(draws_chacha(rest)?);
     }
     if kind == b"list".as_slice() {
         return draws_list(alloc, rest);
     }
-    Err(TextFault::Word)
+    Err(LineError::Refused(TextFault::Word))
 }
 
 /// `draws count`.
@@ -101,11 +95,11 @@ fn draws_chacha(rest: &[u8]) -> Result<Line, TextFault>
 }
 
 /// `draws list D ..`.
-fn draws_list(alloc: Global, rest: &[u8]) -> Result<Line, TextFault>
+fn draws_list(alloc: Global, rest: &[u8]) -> Result<Line, LineError>
     ensures { Answers result (draws_of (codes "list" ∷ words_of rest.now)) }
 {
     if next_word(rest).is_none() {
-        return Err(TextFault::Count);
+        return Err(LineError::Refused(TextFault::Count));
     }
     expect_blocks(rest)?;
     let values = read_blocks(alloc, rest)?;
@@ -114,7 +108,7 @@ fn draws_list(alloc: Global, rest: &[u8]) -> Result<Line, TextFault>
 
 /// `conf C`.
 fn conf(rest: &[u8]) -> Result<Line, TextFault>
-    ensures { result ≡ line_of (codes "conf") (words_of rest.now) }
+    ensures { result ≡ line_by Keyword.Conf (words_of rest.now) }
 {
     let conf = read_number(one_word(rest)?, 0, 1)?;
     Ok(Line::Conf { conf })
@@ -122,7 +116,7 @@ fn conf(rest: &[u8]) -> Result<Line, TextFault>
 
 /// `window W`.
 fn window(rest: &[u8]) -> Result<Line, TextFault>
-    ensures { result ≡ line_of (codes "window") (words_of rest.now) }
+    ensures { result ≡ line_by Keyword.Window (words_of rest.now) }
 {
     let window = read_number(one_word(rest)?, 0, u32::MAX)?;
     Ok(Line::Window { window })
@@ -130,35 +124,35 @@ fn window(rest: &[u8]) -> Result<Line, TextFault>
 
 /// `rekey R`.
 fn rekey(rest: &[u8]) -> Result<Line, TextFault>
-    ensures { result ≡ line_of (codes "rekey") (words_of rest.now) }
+    ensures { result ≡ line_by Keyword.Rekey (words_of rest.now) }
 {
-    let rekey = read_number(one_word(rest)?, 2, u32::MAX)?;
+    let rekey = read_number(one_word(rest)?, MIN_REKEY, u32::MAX)?;
     Ok(Line::Rekey { rekey })
 }
 
 /// `lag L`.
 fn lag(rest: &[u8]) -> Result<Line, TextFault>
-    ensures { result ≡ line_of (codes "lag") (words_of rest.now) }
+    ensures { result ≡ line_by Keyword.Lag (words_of rest.now) }
 {
-    let lag = read_number(one_word(rest)?, 0, 1000)?;
+    let lag = read_number(one_word(rest)?, 0, MAX_LAG)?;
     Ok(Line::Lag { lag })
 }
 
 /// `suite S`.
 fn suite(rest: &[u8]) -> Result<Line, TextFault>
-    ensures { result ≡ line_of (codes "suite") (words_of rest.now) }
+    ensures { result ≡ line_by Keyword.Suite (words_of rest.now) }
 {
     let suite = read_suite(one_word(rest)?)?;
     Ok(Line::Suite { suite })
 }
 
 /// `group CAK CKN`.
-fn group(alloc: Global, rest: &[u8]) -> Result<Line, TextFault>
-    ensures { Answers result (line_of (codes "group") (words_of rest.now)) }
+fn group(alloc: Global, rest: &[u8]) -> Result<Line, LineError>
+    ensures { Answers result (line_by Keyword.Group (words_of rest.now)) }
 {
     let (cak, ckn) = two_words(rest)?;
     expect_key(cak)?;
-    expect_octets(ckn, 1, 32)?;
+    expect_octets(ckn, 1, CKN_MAX)?;
     let cak = decoded(alloc, cak)?;
     let ckn = decoded(alloc, ckn)?;
     Ok(Line::Group { cak, ckn })
@@ -166,12 +160,12 @@ fn group(alloc: Global, rest: &[u8]) -> Result<Line, TextFault>
 
 /// `station NAME SCI P`.
 fn station(rest: &[u8]) -> Result<Line, TextFault>
-    ensures { result ≡ line_of (codes "station") (words_of rest.now) }
+    ensures { result ≡ line_by Keyword.Station (words_of rest.now) }
 {
     let (name, sci, priority) = three_words(rest)?;
     let name = read_name(name)?;
     let sci = Sci(read_array(sci)?);
-    let priority = read_number(priority, 0, 255)?;
+    let priority = read_number(priority, 0, MAX_PRIORITY)?;
     Ok(Line::Station {
         name,
         sci,
@@ -181,7 +175,7 @@ fn station(rest: &[u8]) -> Result<Line, TextFault>
 
 /// `tick N`, or `tick NAME N`.
 fn tick(rest: &[u8]) -> Result<Line, TextFault>
-    ensures { result ≡ line_of (codes "tick") (words_of rest.now) }
+    ensures { result ≡ line_by Keyword.Tick (words_of rest.now) }
 {
     let (first, rest) = next_word(rest).ok_or(TextFault::Count)?;
     let Some((second, rest)) = next_word(rest) else {
@@ -189,55 +183,55 @@ fn tick(rest: &[u8]) -> Result<Line, TextFault>
     };
     no_word(rest)?;
     let name = read_name(first)?;
-    let ticks = read_number(second, 1, MAX_TICKS)?;
+    let ticks = read_number(second, 1, TICKS_MAX)?;
     Ok(Line::TickOne { name, ticks })
 }
 
 /// `tick N`.
 fn rounds(word: &[u8]) -> Result<Line, TextFault>
-    ensures { result ≡ line_of (codes "tick") (word.now ∷ []) }
+    ensures { result ≡ line_by Keyword.Tick (word.now ∷ []) }
 {
-    let rounds = read_number(word, 1, MAX_TICKS)?;
+    let rounds = read_number(word, 1, TICKS_MAX)?;
     Ok(Line::Tick { rounds })
 }
 
 /// `flow N`.
 fn flow(rest: &[u8]) -> Result<Line, TextFault>
-    ensures { result ≡ line_of (codes "flow") (words_of rest.now) }
+    ensures { result ≡ line_by Keyword.Flow (words_of rest.now) }
 {
-    let rounds = read_number(one_word(rest)?, 1, MAX_TICKS)?;
+    let rounds = read_number(one_word(rest)?, 1, TICKS_MAX)?;
     Ok(Line::Flow { rounds })
 }
 
 /// `deliver K NAME`.
 fn deliver(rest: &[u8]) -> Result<Line, TextFault>
-    ensures { result ≡ line_of (codes "deliver") (words_of rest.now) }
+    ensures { result ≡ line_by Keyword.Deliver (words_of rest.now) }
 {
     let (frame, name) = two_words(rest)?;
-    let frame = read_number(frame, 1, MAX_FRAME)?;
+    let frame = read_number(frame, 1, FRAMES_MAX)?;
     let name = read_name(name)?;
     Ok(Line::Deliver { frame, name })
 }
 
 /// `spread K`.
 fn spread(rest: &[u8]) -> Result<Line, TextFault>
-    ensures { result ≡ line_of (codes "spread") (words_of rest.now) }
+    ensures { result ≡ line_by Keyword.Spread (words_of rest.now) }
 {
-    let frame = read_number(one_word(rest)?, 1, MAX_FRAME)?;
+    let frame = read_number(one_word(rest)?, 1, FRAMES_MAX)?;
     Ok(Line::Spread { frame })
 }
 
 /// `lose K`.
 fn lose(rest: &[u8]) -> Result<Line, TextFault>
-    ensures { result ≡ line_of (codes "lose") (words_of rest.now) }
+    ensures { result ≡ line_by Keyword.Lose (words_of rest.now) }
 {
-    let frame = read_number(one_word(rest)?, 1, MAX_FRAME)?;
+    let frame = read_number(one_word(rest)?, 1, FRAMES_MAX)?;
     Ok(Line::Lose { frame })
 }
 
 /// `cut FROM TO`.
 fn cut(rest: &[u8]) -> Result<Line, TextFault>
-    ensures { result ≡ line_of (codes "cut") (words_of rest.now) }
+    ensures { result ≡ line_by Keyword.Cut (words_of rest.now) }
 {
     let (from, to) = two_words(rest)?;
     let from = read_name(from)?;
@@ -247,7 +241,7 @@ fn cut(rest: &[u8]) -> Result<Line, TextFault>
 
 /// `mend FROM TO`.
 fn mend(rest: &[u8]) -> Result<Line, TextFault>
-    ensures { result ≡ line_of (codes "mend") (words_of rest.now) }
+    ensures { result ≡ line_by Keyword.Mend (words_of rest.now) }
 {
     let (from, to) = two_words(rest)?;
     let from = read_name(from)?;
@@ -257,20 +251,20 @@ fn mend(rest: &[u8]) -> Result<Line, TextFault>
 
 /// `restart NAME`.
 fn restart(rest: &[u8]) -> Result<Line, TextFault>
-    ensures { result ≡ line_of (codes "restart") (words_of rest.now) }
+    ensures { result ≡ line_by Keyword.Restart (words_of rest.now) }
 {
     let name = read_name(one_word(rest)?)?;
     Ok(Line::Restart { name })
 }
 
 /// `send NAME DST BODY`.
-fn send(alloc: Global, rest: &[u8]) -> Result<Line, TextFault>
-    ensures { Answers result (line_of (codes "send") (words_of rest.now)) }
+fn send(alloc: Global, rest: &[u8]) -> Result<Line, LineError>
+    ensures { Answers result (line_by Keyword.Send (words_of rest.now)) }
 {
     let (name, destination, body) = three_words(rest)?;
     let name = read_name(name)?;
     let destination = Mac(read_array(destination)?);
-    let body = read_octets(alloc, body, 2, 1500)?;
+    let body = read_octets(alloc, body, USER_DATA_MIN, USER_DATA_MAX)?;
     Ok(Line::Send {
         name,
         destination,
@@ -280,24 +274,24 @@ fn send(alloc: Global, rest: &[u8]) -> Result<Line, TextFault>
 
 /// `race`.
 fn race(rest: &[u8]) -> Result<Line, TextFault>
-    ensures { result ≡ line_of (codes "race") (words_of rest.now) }
+    ensures { result ≡ line_by Keyword.Race (words_of rest.now) }
 {
     no_word(rest)?;
     Ok(Line::Race)
 }
 
 /// `burst NAME W N DST BODY`.
-fn burst(alloc: Global, rest: &[u8]) -> Result<Line, TextFault>
-    ensures { Answers result (line_of (codes "burst") (words_of rest.now)) }
+fn burst(alloc: Global, rest: &[u8]) -> Result<Line, LineError>
+    ensures { Answers result (line_by Keyword.Burst (words_of rest.now)) }
 {
     let (name, rest) = next_word(rest).ok_or(TextFault::Count)?;
     let (workers, rest) = next_word(rest).ok_or(TextFault::Count)?;
     let (frames, destination, body) = three_words(rest)?;
     let name = read_name(name)?;
-    let workers = read_number(workers, 1, 8)?;
-    let frames = read_number(frames, 1, 100_000)?;
+    let workers = read_number(workers, 1, MAX_WORKERS)?;
+    let frames = read_number(frames, 1, MAX_BURST)?;
     let destination = Mac(read_array(destination)?);
-    let body = read_octets(alloc, body, 2, 1500)?;
+    let body = read_octets(alloc, body, USER_DATA_MIN, USER_DATA_MAX)?;
     Ok(Line::Burst {
         name,
         workers,
@@ -309,7 +303,7 @@ fn burst(alloc: Global, rest: &[u8]) -> Result<Line, TextFault>
 
 /// `while`.
 fn race_control(rest: &[u8]) -> Result<Line, TextFault>
-    ensures { result ≡ line_of (codes "while") (words_of rest.now) }
+    ensures { result ≡ line_by Keyword.While (words_of rest.now) }
 {
     no_word(rest)?;
     Ok(Line::While)
@@ -317,29 +311,29 @@ fn race_control(rest: &[u8]) -> Result<Line, TextFault>
 
 /// `end`.
 fn race_end(rest: &[u8]) -> Result<Line, TextFault>
-    ensures { result ≡ line_of (codes "end") (words_of rest.now) }
+    ensures { result ≡ line_by Keyword.End (words_of rest.now) }
 {
     no_word(rest)?;
     Ok(Line::End)
 }
 
 /// `inject NAME OCTETS`.
-fn inject(alloc: Global, rest: &[u8]) -> Result<Line, TextFault>
-    ensures { Answers result (line_of (codes "inject") (words_of rest.now)) }
+fn inject(alloc: Global, rest: &[u8]) -> Result<Line, LineError>
+    ensures { Answers result (line_by Keyword.Inject (words_of rest.now)) }
 {
     let (name, octets) = two_words(rest)?;
     let name = read_name(name)?;
-    let octets = read_octets(alloc, octets, 1, 1600)?;
+    let octets = read_octets(alloc, octets, 1, MAX_INJECTED)?;
     Ok(Line::Inject { name, octets })
 }
 
 /// `feed K1 K2 NAME`.
 fn feed(rest: &[u8]) -> Result<Line, TextFault>
-    ensures { result ≡ line_of (codes "feed") (words_of rest.now) }
+    ensures { result ≡ line_by Keyword.Feed (words_of rest.now) }
 {
     let (first, last, name) = three_words(rest)?;
-    let first = read_number(first, 1, MAX_FRAME)?;
-    let last = read_number(last, first, MAX_FRAME)?;
+    let first = read_number(first, 1, FRAMES_MAX)?;
+    let last = read_number(last, first, FRAMES_MAX)?;
     let name = read_name(name)?;
     Ok(Line::Feed { first, last, name })
 }

@@ -7,12 +7,13 @@ ghost use Rattle.std.specs.Result.{result_ok};
 ghost use Rattle.std.specs.Char.{is_ascii_digit};
 ghost use Rattle.std.specs.Str.Parse.{digits_value};
 ghost use Rattle.hex.specs.Hex.{decode_of, is_hex_digit};
-ghost use Rattle.trace_text.specs.Kinds.{said, name, is_number, number_of, octets_of, exactly_of, is_within, is_either};
+ghost use Rattle.trace_text.specs.Kinds.{said, name, is_number, number_of, suite_in, octets_of, exactly_of, is_within, is_either};
 ghost use Rattle.trace_text.specs.inside.Answering.{Answers, checked};
 
-use crate::fault::TextFault;
+use crate::fault::{LineError, TextFault};
+use crate::limits::MAX_DIGITS;
 use hex::FromHex;
-use lan_base::{Name, Octets};
+use lan_base::{Name, Octets, Suite};
 use std::alloc::{AllocError, Global};
 
 /// The station's name that a word is.
@@ -21,9 +22,6 @@ pub fn read_name(word: &[u8]) -> Result<Name, TextFault>
 {
     Name::of(word).ok_or(TextFault::Range)
 }
-
-/// How many digits a number may have.
-const MAX_DIGITS: usize = 10;
 
 /// The number within bounds that a word spells.
 pub fn read_number(word: &[u8], low: u32, high: u32) -> Result<u32, TextFault>
@@ -35,15 +33,12 @@ pub fn read_number(word: &[u8], low: u32, high: u32) -> Result<u32, TextFault>
     }
 }
 
-/// The bits of the data keys that a word spells, 128 or 256.
-pub fn read_suite(word: &[u8]) -> Result<u32, TextFault>
-    ensures { result ≡ number_of (is_either 128 256) word.now }
+/// The suite whose keys have as many bits as a word spells.
+pub fn read_suite(word: &[u8]) -> Result<Suite, TextFault>
+    ensures { result ≡ suite_in word.now }
 {
-    match decimal(word) {
-        Some(128) => Ok(128),
-        Some(256) => Ok(256),
-        _ => Err(TextFault::Range),
-    }
+    let bits = read_number(word, 0, u32::MAX)?;
+    Suite::of(bits).ok_or(TextFault::Range)
 }
 
 /// The number that a word of 1 to 10 decimal digits spells.
@@ -94,7 +89,7 @@ pub fn read_array<const N: usize>(word: &[u8]) -> Result<[u8; N], TextFault>
 
 /// The octets that a word spells, whose count lies within bounds. Memory is taken for a word that
 /// spells such octets alone.
-pub fn read_octets(alloc: Global, word: &[u8], low: usize, high: usize) -> Result<Octets, TextFault>
+pub fn read_octets(alloc: Global, word: &[u8], low: usize, high: usize) -> Result<Octets, LineError>
     ensures { Answers result (octets_of (is_within low high) word.now) }
 {
     expect_octets(word, low, high)?;

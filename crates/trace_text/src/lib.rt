@@ -6,19 +6,19 @@ mod appending;
 mod blocks;
 mod fault;
 mod forms;
+mod keyword;
 mod kinds;
 mod laws;
+mod limits;
 mod line;
 mod reading;
 mod words;
 mod writing;
 
 pub use appending::{Word, put_words};
-pub use fault::TextFault;
+pub use fault::{LineError, TextFault};
 pub use laws::{law_read_or_refused, law_written_is_read};
+pub use limits::law_limits;
 pub use line::Line;
 pub use reading::read_line;
 pub use writing::write_line;
-
-#[cfg(test)]
-mod tests;

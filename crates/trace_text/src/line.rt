@@ -1,6 +1,6 @@
 //! The lines of a trace.
 
-use lan_base::{Blocks, Mac, Name, Octets, Sci};
+use lan_base::{Blocks, Mac, Name, Octets, Sci, Suite};
 
 /// One line of a trace. Its fields are the words of its form, in order, but for those that it
 /// begins with.
@@ -32,9 +32,9 @@ pub enum Line {
     Lag {
         lag: u32,
     },
-    /// `suite S`: the bits of the data keys, 128 or 256.
+    /// `suite S`: the cipher suite, by the bits of its keys, 128 or 256.
     Suite {
-        suite: u32,
+        suite: Suite,
     },
     /// `group CAK CKN`: a key of 16 or 32 octets, and its name of 1 to 32 octets.
     Group {

@@ -1,31 +1,29 @@
 //! A line is read.
 
-ghost use Rattle.std.specs.Prelude.{◌≡◌, ◌≢◌, ◌↔◌, Ok, Err, Some, None, IfOk, IfSome};
+ghost use Rattle.std.specs.Prelude.{◌≡◌, ◌↔◌, Ok, Err, Some, None, IfOk, IfSome};
 ghost use Rattle.trace_text.specs.Reading.{line_in, first_fault, is_comment};
 ghost use Rattle.trace_text.specs.Writing.{IsInForm};
 ghost use Rattle.trace_text.specs.inside.Answering.{Answers};
 ghost use Rattle.trace_text.specs.declared.fault.TextFault.{TextFault};
-ghost use Rattle.trace_text.specs.declared.fault.TextFault.TheVariants.{Memory};
+ghost use Rattle.trace_text.specs.declared.fault.LineError.TheVariants.{Refused, Memory};
 
-use crate::fault::TextFault;
+use crate::fault::{LineError, TextFault};
 use crate::forms::read_form;
+use crate::limits::MAX_LINE;
 use crate::line::Line;
 use crate::words::next_word;
 use std::alloc::Global;
 
-/// The most octets of a line, without its ending.
-const MAX_LINE: usize = 4096;
-
 /// The line that a text without its line ending says, or `None` where it has no word or is a
 /// comment.
-pub fn read_line(alloc: Global, line: &[u8]) -> Result<Option<Line>, TextFault>
+pub fn read_line(alloc: Global, line: &[u8]) -> Result<Option<Line>, LineError>
     ensures read { IfOk result (λ said. line_in line.now ≡ Ok said) }
     ensures in_form { IfOk result (λ said. IfSome said IsInForm) }
 
-    // Each fault but `Memory` comes exactly where it is the text's first, and memory is never
-    // wanting in its place.
-    ensures refused { (fault : TextFault) → fault ≢ Memory
-        → (result ≡ Err fault) ↔ (first_fault line.now ≡ Some fault) }
+    // Each fault comes exactly where it is the text's first, and memory is never wanting in its
+    // place.
+    ensures refused { (fault : TextFault)
+        → (result ≡ Err (Refused fault)) ↔ (first_fault line.now ≡ Some fault) }
     ensures memory { result ≡ Err Memory → first_fault line.now ≡ None }
 {
     answer_line(alloc, line)
@@ -33,11 +31,11 @@ pub fn read_line(alloc: Global, line: &[u8]) -> Result<Option<Line>, TextFault>
 
 /// Reads a line.
 #[tactic(auto, unfolding(crate::specs::Reading::line_in))]
-fn answer_line(alloc: Global, line: &[u8]) -> Result<Option<Line>, TextFault>
+fn answer_line(alloc: Global, line: &[u8]) -> Result<Option<Line>, LineError>
     ensures { Answers result (line_in line.now) }
 {
     if line.len() > MAX_LINE {
-        return Err(TextFault::TooLong);
+        return Err(LineError::Refused(TextFault::TooLong));
     }
     let Some((first, rest)) = next_word(line) else {
         return Ok(None);

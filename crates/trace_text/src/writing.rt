@@ -83,7 +83,7 @@ fn put_fields(line: &Line, into: &mut Vec<u8>) -> Result<(), AllocError>
         Line::Window { window } => put_words(into, &[number(*window)]),
         Line::Rekey { rekey } => put_words(into, &[number(*rekey)]),
         Line::Lag { lag } => put_words(into, &[number(*lag)]),
-        Line::Suite { suite } => put_words(into, &[number(*suite)]),
+        Line::Suite { suite } => put_words(into, &[number(suite.key_bits())]),
         Line::Group { cak, ckn } => put_words(into, &[octets(cak), octets(ckn)]),
         Line::Station {
             name,

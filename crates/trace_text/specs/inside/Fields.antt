@@ -13,6 +13,6 @@ further fs = spaced (map (λ field. spelled field.kind field.says) fs)
 -- the fields of a line that carries octets of a frame, and none of another line
 abbrev pub data_fields : Line → List Field
 data_fields (Send n to b) = fields (Send n to b)
-data_fields (Burst n workers frames to b) = fields (Burst n workers frames to b)
+data_fields (Burst n w count to b) = fields (Burst n w count to b)
 data_fields (Inject n xs) = fields (Inject n xs)
 data_fields _ = []

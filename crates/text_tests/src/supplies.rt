@@ -1,6 +1,6 @@
 //! Supplies of draws, beside published and listed values.
 
-use super::*;
+use lan_base::{Blocks, ChaChaDraws, CountDraws, Draws, ListDraws};
 use std::alloc::{AllocError, Global};
 use std::process::Abort;
 use std::test::Fail;
