@@ -1,3 +1,4 @@
 pub mod Trying
 pub mod Lonely
 pub mod Examples
+pub mod Public

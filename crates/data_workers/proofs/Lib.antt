@@ -1,0 +1,4 @@
+pub mod Growing
+pub mod NextEntry
+pub mod ToldLogs
+pub mod Public

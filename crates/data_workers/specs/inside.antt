@@ -1,0 +1,2 @@
+-- What serves the crate's private parts alone.
+pub mod Rooms
