@@ -10,6 +10,7 @@ use Rattle.aes_block.specs.Octet.{sub_octet, times}
 use Rattle.aes_block.specs.State.{last_round, mix_columns, mixed_column, round, shift_rows, sub_bytes}
 use Rattle.aes_block.proofs.Doubled.{times_2-lt, times_3}
 use Rattle.aes_block.proofs.EachOctet.{equal_at_octet, equal_at_octets}
+use Rattle.aes_block.proofs.Mixing.{xor_swap}
 use Rattle.aes_block.proofs.Octets.{AreOctets-anywhere, AreOctets-from_All}
 use Rattle.aes_block.proofs.SBox.{sub_octet-lt}
 use Rattle.aes_block.proofs.Steps.{written_out}
@@ -43,22 +44,15 @@ is_two x fits =
 pub linear : (a b : ℕ) → a < 256 → b < 256 → changed (bit_xor a b) ≡ bit_xor (changed a) (changed b)
 linear = equal_at_octets (λ a b. changed (bit_xor a b)) (λ a b. bit_xor (changed a) (changed b)) refl
 
--- two sums of two
-crossed : (a k b l : ℕ) → bit_xor (bit_xor a k) (bit_xor b l) ≡ bit_xor (bit_xor a b) (bit_xor k l)
-crossed a k b l =
-    xor_assoc a k (bit_xor b l)
-    ∙ ap (bit_xor a) (sym (xor_assoc k b l) ∙ ap (λ x. bit_xor x l) (xor_comm k b) ∙ xor_assoc b k l)
-    ∙ sym (xor_assoc a b (bit_xor k l))
-
 -- the sums without the constants, which cancel
 cancelled : (a b q v w k : ℕ)
     → bit_xor (bit_xor (bit_xor (bit_xor (bit_xor v 0x5b) (bit_xor b (changed 0xc6))) (bit_xor w 0x5b)) (bit_xor (bit_xor q 0x5b) (bit_xor a (changed 0xc6)))) (bit_xor k 0x5b)
     ≡ bit_xor (bit_xor (bit_xor (bit_xor v b) w) (bit_xor q a)) k
 cancelled a b q v w k =
-    (λ i. bit_xor (bit_xor (bit_xor (crossed v 0x5b b (changed 0xc6) i) (bit_xor w 0x5b)) (crossed q 0x5b a (changed 0xc6) i)) (bit_xor k 0x5b))
-    ∙ (λ i. bit_xor (bit_xor (crossed (bit_xor v b) (bit_xor 0x5b (changed 0xc6)) w 0x5b i) (bit_xor (bit_xor q a) (bit_xor 0x5b (changed 0xc6)))) (bit_xor k 0x5b))
-    ∙ (λ i. bit_xor (crossed (bit_xor (bit_xor v b) w) (bit_xor (bit_xor 0x5b (changed 0xc6)) 0x5b) (bit_xor q a) (bit_xor 0x5b (changed 0xc6)) i) (bit_xor k 0x5b))
-    ∙ crossed (bit_xor (bit_xor (bit_xor v b) w) (bit_xor q a)) (bit_xor (bit_xor (bit_xor 0x5b (changed 0xc6)) 0x5b) (bit_xor 0x5b (changed 0xc6))) k 0x5b
+    (λ i. bit_xor (bit_xor (bit_xor (xor_swap v 0x5b b (changed 0xc6) i) (bit_xor w 0x5b)) (xor_swap q 0x5b a (changed 0xc6) i)) (bit_xor k 0x5b))
+    ∙ (λ i. bit_xor (bit_xor (xor_swap (bit_xor v b) (bit_xor 0x5b (changed 0xc6)) w 0x5b i) (bit_xor (bit_xor q a) (bit_xor 0x5b (changed 0xc6)))) (bit_xor k 0x5b))
+    ∙ (λ i. bit_xor (xor_swap (bit_xor (bit_xor v b) w) (bit_xor (bit_xor 0x5b (changed 0xc6)) 0x5b) (bit_xor q a) (bit_xor 0x5b (changed 0xc6)) i) (bit_xor k 0x5b))
+    ∙ xor_swap (bit_xor (bit_xor (bit_xor v b) w) (bit_xor q a)) (bit_xor (bit_xor (bit_xor 0x5b (changed 0xc6)) 0x5b) (bit_xor 0x5b (changed 0xc6))) k 0x5b
     ∙ xor_zero_r _
 
 -- and in the order of the definition

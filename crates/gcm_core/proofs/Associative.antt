@@ -1,12 +1,12 @@
 -- Products modulo the polynomial of GCM are additive in the first string too, and associative.
-use Rattle.std.proofs.Common.{◌≡◌, ℕ, zero, suc, Bool, true, false, cond, List, [], ◌∷◌, ◌++◌, length, map, replicate, refl, sym, ap, ◌∙◌, arith}
+use Rattle.std.proofs.Common.{◌≡◌, ℕ, zero, suc, Bool, true, false, cond, List, [], ◌∷◌, ◌++◌, length, replicate, refl, sym, ap, ◌∙◌, arith}
 use Rattle.aes_block.specs.Product.{sum_of, moved, last_bit, times_x, product}
 use Rattle.gcm_core.specs.Ghash.{reduction}
 use Rattle.gcm_core.specs.inside.Tables.{times_power}
-use Rattle.gcm_core.proofs.Products.{length-moved, length-product, length-reduction, length-times_x, sum_of-assoc}
-use Rattle.gcm_core.proofs.Powers.{length-times_power, product-append, product-times_power, sum_of-comm, sum_of-inner}
-use Rattle.gcm_core.proofs.Folded.{folded, sum_zeros}
-use Rattle.gcm_core.proofs.ByRows.{length-sum, none, none_twice}
+use Rattle.gcm_core.proofs.Products.{length-moved, length-product, length-reduction, sum_of-assoc}
+use Rattle.gcm_core.proofs.Powers.{both, next, length-times_power, product-append, product-times_power, sum_of-comm}
+use Rattle.gcm_core.proofs.Folded.{folded}
+use Rattle.gcm_core.proofs.ByRows.{no_bits, none, none_twice}
 use Rattle.gcm_core.proofs.OctetLanes.{none_behind}
 
 -- the product with a block
@@ -16,17 +16,8 @@ by us v = product reduction us v
 pub length-by : (us v : List Bool) → length v ≡ 128 → length (by us v) ≡ 128
 length-by us v h = length-product reduction us v (length-reduction ∙ sym h) ∙ h
 
-pub next : (v : List Bool) → length v ≡ 128 → length (times_x reduction v) ≡ 128
-next v h = length-times_x reduction v (length-reduction ∙ sym h) ∙ h
-
-zeros : (v : List Bool) (n : ℕ) → length v ≡ n → map (λ (b : Bool). false) v ≡ replicate n false
-zeros [] zero h = refl
-zeros [] (suc n) h = absurd (omega arith)
-zeros (b ∷ v) zero h = absurd (omega arith)
-zeros (b ∷ v) (suc n) h = ap (λ s. false ∷ s) (zeros v n (omega arith))
-
 by-nil : (v : List Bool) → length v ≡ 128 → by [] v ≡ none
-by-nil v h = zeros v 128 h
+by-nil v h = no_bits v 128 h
 
 -- ---- additive in the first string
 
@@ -34,17 +25,8 @@ by-none : (n : ℕ) (v : List Bool) → length v ≡ 128 → by (replicate n fal
 by-none zero v h = by-nil v h
 by-none (suc n) v h = by-none n (times_x reduction v) (next v h)
 
-twice : (v : List Bool) → sum_of v v ≡ map (λ (b : Bool). false) v
-twice [] = refl
-twice (true ∷ v) = ap (λ s. false ∷ s) (twice v)
-twice (false ∷ v) = ap (λ s. false ∷ s) (twice v)
-
-before : (v : List Bool) → length v ≡ 128 → sum_of none v ≡ v
-before v h = sum_zeros 128 v h
-
 cancelled : (v p q : List Bool) → length v ≡ 128 → length p ≡ 128 → length q ≡ 128 → sum_of (sum_of v p) (sum_of v q) ≡ sum_of p q
-cancelled v p q h hp hq =
-    sum_of-inner v p v q ∙ ap (λ s. sum_of s (sum_of p q)) (twice v ∙ zeros v 128 h) ∙ before (sum_of p q) (length-sum p q hp hq)
+cancelled v p q h hp hq = both v p q (h ∙ sym hp) (h ∙ sym hq)
 
 pub by-sum : (us vs w : List Bool) → length us ≡ length vs → length w ≡ 128 → by (sum_of us vs) w ≡ sum_of (by us w) (by vs w)
 by-sum [] [] w e h = by-nil w h ∙ sym (ap (λ s. sum_of s s) (by-nil w h) ∙ none_twice)

@@ -23,7 +23,7 @@ sum_bit (suc (suc p)) q hp hq = absurd (omega arith)
 sum_bit zero (suc (suc q)) hp hq = absurd (omega arith)
 sum_bit (suc zero) (suc (suc q)) hp hq = absurd (omega arith)
 
-has_bit-xor : (a b k : ℕ) → has_bit (bit_xor a b) k ≡ bit_sum (has_bit a k) (has_bit b k)
+pub has_bit-xor : (a b k : ℕ) → has_bit (bit_xor a b) k ≡ bit_sum (has_bit a k) (has_bit b k)
 has_bit-xor a b k = ap (λ m. eqb m 1) (bit_at_xor a b k) ∙ sum_bit (bit_at a k) (bit_at b k) (bit_at-lt a k) (bit_at-lt b k)
 
 -- `a ^ b` is the sum of the strings

@@ -55,7 +55,8 @@ lanes_sum-same f g same (x ∷ xs) h = λ i. sum_of (same x h.0 i) (times_power 
 
 -- ---- a product, octet by octet
 
-no_bits : (v : List Bool) (n : ℕ) → length v ≡ n → map (λ (b : Bool). false) v ≡ replicate n false
+-- no bit of a string
+pub no_bits : (v : List Bool) (n : ℕ) → length v ≡ n → map (λ (b : Bool). false) v ≡ replicate n false
 no_bits [] zero h = refl
 no_bits [] (suc n) h = absurd (omega arith)
 no_bits (b ∷ v) zero h = absurd (omega arith)

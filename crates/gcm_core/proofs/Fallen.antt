@@ -2,10 +2,10 @@
 use Rattle.std.proofs.Common.{◌≡◌, ℕ, ◌*◌, ◌/◌, ◌%◌, ◌^◌, ◌<◌, Bool, true, false, cond, ◌&&◌, List, [], ◌∷◌, length, refl, sym, ap, ◌∙◌, arith, bit_xor}
 use Rattle.std.specs.Int.Bits.{xor_shifted, xor_zero_r}
 use Rattle.std.proofs.lemmas.Bool.{and_parts}
-use Rattle.std.proofs.lemmas.Nat.{xor_comm, xor_shr}
+use Rattle.std.proofs.lemmas.Nat.{xor_shr}
 use lib.Bits.{xor_assoc}
 use Rattle.aes_block.specs.Product.{sum_of, times_x}
-use Rattle.aes_block.proofs.Public.{at_octet}
+use Rattle.aes_block.proofs.Public.{at_octet, xor_swap}
 use Rattle.gcm_core.specs.Blocks.{block_bits, block_octets}
 use Rattle.gcm_core.specs.Ghash.{reduction}
 use Rattle.gcm_core.specs.inside.Tables.{times_power}
@@ -26,18 +26,12 @@ four_powers v = sum_of v (sum_of (times_power 1 v) (sum_of (times_power 2 v) (ti
 
 -- ---- both are additive
 
-crossed : (a k b l : ℕ) → bit_xor (bit_xor a k) (bit_xor b l) ≡ bit_xor (bit_xor a b) (bit_xor k l)
-crossed a k b l =
-    xor_assoc a k (bit_xor b l)
-    ∙ ap (bit_xor a) (sym (xor_assoc k b l) ∙ ap (λ x. bit_xor x l) (xor_comm k b) ∙ xor_assoc b k l)
-    ∙ sym (xor_assoc a b (bit_xor k l))
-
 spread-xor : (a b : ℕ) → spread (bit_xor a b) ≡ bit_xor (spread a) (spread b)
 spread-xor a b =
     (λ i. bit_xor (bit_xor a b) (bit_xor (xor_shr a b 1 i) (bit_xor (xor_shr a b 2 i) (xor_shr a b 7 i))))
-    ∙ ap (λ x. bit_xor (bit_xor a b) (bit_xor (bit_xor (a / 2 ^ 1) (b / 2 ^ 1)) x)) (crossed (a / 2 ^ 2) (b / 2 ^ 2) (a / 2 ^ 7) (b / 2 ^ 7))
-    ∙ ap (bit_xor (bit_xor a b)) (crossed (a / 2 ^ 1) (b / 2 ^ 1) (bit_xor (a / 2 ^ 2) (a / 2 ^ 7)) (bit_xor (b / 2 ^ 2) (b / 2 ^ 7)))
-    ∙ crossed a b (bit_xor (a / 2 ^ 1) (bit_xor (a / 2 ^ 2) (a / 2 ^ 7))) (bit_xor (b / 2 ^ 1) (bit_xor (b / 2 ^ 2) (b / 2 ^ 7)))
+    ∙ ap (λ x. bit_xor (bit_xor a b) (bit_xor (bit_xor (a / 2 ^ 1) (b / 2 ^ 1)) x)) (xor_swap (a / 2 ^ 2) (b / 2 ^ 2) (a / 2 ^ 7) (b / 2 ^ 7))
+    ∙ ap (bit_xor (bit_xor a b)) (xor_swap (a / 2 ^ 1) (b / 2 ^ 1) (bit_xor (a / 2 ^ 2) (a / 2 ^ 7)) (bit_xor (b / 2 ^ 2) (b / 2 ^ 7)))
+    ∙ xor_swap a b (bit_xor (a / 2 ^ 1) (bit_xor (a / 2 ^ 2) (a / 2 ^ 7))) (bit_xor (b / 2 ^ 1) (bit_xor (b / 2 ^ 2) (b / 2 ^ 7)))
 
 four_powers-sum : (u v : List Bool) → length u ≡ 128 → length v ≡ 128 → four_powers (sum_of u v) ≡ sum_of (four_powers u) (four_powers v)
 four_powers-sum u v h k =

@@ -9,7 +9,8 @@ use Rattle.gcm_core.specs.Blocks.{block_bits, block_octets}
 use Rattle.gcm_core.specs.Ghash.{ghash}
 use Rattle.gcm_core.proofs.Products.{length-block_bits, sum_of-assoc}
 use Rattle.gcm_core.proofs.ByRows.{length-sum}
-use Rattle.gcm_core.proofs.Moved.{has_bit-xor}
+use Rattle.gcm_core.proofs.BlockBits.{has_bit-xor}
+use Rattle.gcm_core.proofs.OctetLanes.{length-bits}
 use Rattle.gcm_core.specs.inside.Powers.{four_blocks, four_powers, four_products, power}
 use Rattle.gcm_core.proofs.Associative.{by, by-by, by-sum, length-by}
 use Rattle.gcm_core.proofs.OctetRows.{length-octets}
@@ -17,10 +18,6 @@ use Rattle.gcm_core.proofs.OctetRows.{length-octets}
 pub length-power : (h : List Bool) (n : ℕ) → length h ≡ 128 → length (power h n) ≡ 128
 length-power h zero l = l
 length-power h (suc n) l = length-by (power h n) h l
-
-length-bits : (xs : List ℕ) → length (bits xs) ≡ 8 * length xs
-length-bits [] = refl
-length-bits (x ∷ xs) = omega (arith, length-bits xs)
 
 pub length-block : (a : List ℕ) → length a ≡ 16 → length (bits a) ≡ 128
 length-block a e = length-bits a ∙ ap (λ n. 8 * n) e

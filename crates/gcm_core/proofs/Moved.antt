@@ -1,31 +1,17 @@
 -- 32 octets moved on by one, as the code does it.
-use Rattle.std.proofs.Common.{◌≡◌, ℕ, zero, suc, ◌+◌, ◌%◌, ◌<◌, false, eqb, List, [], ◌∷◌, ◌++◌, length, map, take, drop, get_or, replicate, refl, sym, ap, ◌∙◌, arith, bit_xor}
-use Rattle.std.specs.Int.{bit_at}
-use Rattle.std.proofs.lemmas.Nat.Bits.{bit_at_xor, bit_at-lt}
+use Rattle.std.proofs.Common.{◌≡◌, ℕ, zero, suc, false, List, [], ◌∷◌, ◌++◌, length, map, take, drop, get_or, replicate, refl, sym, ap, ◌∙◌, arith, bit_xor}
 use lib.Lanes.{pick_l, zip2}
-use Rattle.aes_block.specs.Bits.{has_bit}
-use Rattle.aes_block.specs.Product.{bit_sum, sum_of}
+use Rattle.aes_block.specs.Product.{sum_of}
 use Rattle.aes_block.proofs.Public.{written_out}
 use Rattle.gcm_core.specs.Ghash.{reduction}
 use Rattle.gcm_core.specs.inside.Tables.{times_power}
+use Rattle.gcm_core.proofs.BlockBits.{has_bit-xor}
 use Rattle.gcm_core.proofs.Powers.{sum_of-inner, times_power-sum}
 use Rattle.gcm_core.specs.inside.Rows.{first_octet, lanes_sum, value}
 use Rattle.gcm_core.proofs.ByRows.{none, none_twice}
 use Rattle.gcm_core.proofs.OctetLanes.{length-lanes, value_moved}
 
 -- ---- sums of octets
-
-sum_bit : (p q : ℕ) → p < 2 → q < 2 → eqb ((p + q) % 2) 1 ≡ bit_sum (eqb p 1) (eqb q 1)
-sum_bit zero zero hp hq = refl
-sum_bit zero (suc zero) hp hq = refl
-sum_bit (suc zero) zero hp hq = refl
-sum_bit (suc zero) (suc zero) hp hq = refl
-sum_bit (suc (suc p)) q hp hq = absurd (omega arith)
-sum_bit zero (suc (suc q)) hp hq = absurd (omega arith)
-sum_bit (suc zero) (suc (suc q)) hp hq = absurd (omega arith)
-
-pub has_bit-xor : (a b k : ℕ) → has_bit (bit_xor a b) k ≡ bit_sum (has_bit a k) (has_bit b k)
-has_bit-xor a b k = ap (λ m. eqb m 1) (bit_at_xor a b k) ∙ sum_bit (bit_at a k) (bit_at b k) (bit_at-lt a k) (bit_at-lt b k)
 
 first_octet-xor : (a b : ℕ) → first_octet (bit_xor a b) ≡ sum_of (first_octet a) (first_octet b)
 first_octet-xor a b = λ i.

@@ -1,5 +1,5 @@
 -- The bits of octets, lane by lane, and 32 octets moved on by one, which are times x ^ 8.
-use Rattle.std.proofs.Common.{◌≡◌, ℕ, zero, suc, ◌+◌, ◌*◌, Bool, true, false, cond, List, [], ◌∷◌, ◌++◌, length, replicate, refl, sym, ap, ◌∙◌, arith, length-append}
+use Rattle.std.proofs.Common.{◌≡◌, ℕ, zero, suc, ◌+◌, ◌*◌, Bool, false, cond, List, [], ◌∷◌, ◌++◌, length, replicate, refl, sym, ap, ◌∙◌, arith, length-append}
 use Rattle.std.proofs.lemmas.List.{append-nil}
 use Rattle.std.proofs.lemmas.Simd.{length-replicate}
 use Rattle.std.specs.Int.{w128, from_be_bytes}
@@ -7,10 +7,10 @@ use Rattle.aes_block.specs.Bits.{bits}
 use Rattle.aes_block.proofs.Public.{All-from_AreOctets, AreOctets-from_Fits, IsVector}
 use Rattle.gcm_core.specs.Blocks.{block_bits}
 use Rattle.gcm_core.proofs.Octets.{block_octets-read}
-use Rattle.aes_block.specs.Product.{bit_sum, sum_of, moved, last_bit, times_x}
+use Rattle.aes_block.specs.Product.{sum_of, moved, last_bit, times_x}
 use Rattle.gcm_core.specs.Ghash.{reduction}
 use Rattle.gcm_core.specs.inside.Tables.{times_power}
-use Rattle.gcm_core.proofs.Products.{sum_of-assoc}
+use Rattle.gcm_core.proofs.Products.{bit_sum-false, sum_of-assoc}
 use Rattle.gcm_core.proofs.Powers.{length-times_power, times_power-add, times_power-sum}
 use Rattle.gcm_core.specs.inside.Rows.{first_octet, lanes_sum, value}
 use Rattle.gcm_core.proofs.Folded.{sum_zeros, zero_behind}
@@ -47,13 +47,9 @@ power_end (suc n) us =
 
 -- ---- the bits of octets, lane by lane
 
-length-bits : (xs : List ℕ) → length (bits xs) ≡ 8 * length xs
+pub length-bits : (xs : List ℕ) → length (bits xs) ≡ 8 * length xs
 length-bits [] = refl
 length-bits (x ∷ xs) = omega (arith, length-bits xs)
-
-pub bit_sum-false : (a : Bool) → bit_sum a false ≡ a
-bit_sum-false true = refl
-bit_sum-false false = refl
 
 -- an octet before others
 octet_before : (a b c d e f g h : Bool) (us : List Bool) → length us ≡ 120

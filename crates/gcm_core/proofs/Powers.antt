@@ -35,14 +35,14 @@ sum_of-self [] = refl
 sum_of-self (a ∷ us) = λ i. bit_sum-self a i ∷ sum_of-self us i
 
 -- strings of zeros of one length
-zeros_same : (us vs : List Bool) → length us ≡ length vs → map (λ (b : Bool). false) us ≡ map (λ (b : Bool). false) vs
+pub zeros_same : (us vs : List Bool) → length us ≡ length vs → map (λ (b : Bool). false) us ≡ map (λ (b : Bool). false) vs
 zeros_same [] [] h = refl
 zeros_same [] (b ∷ vs) h = absurd (omega arith)
 zeros_same (a ∷ us) [] h = absurd (omega arith)
 zeros_same (a ∷ us) (b ∷ vs) h = ap (λ s. false ∷ s) (zeros_same us vs (omega arith))
 
 -- what is added to both is gone
-both : (r a b : List Bool) → length r ≡ length a → length r ≡ length b → sum_of (sum_of r a) (sum_of r b) ≡ sum_of a b
+pub both : (r a b : List Bool) → length r ≡ length a → length r ≡ length b → sum_of (sum_of r a) (sum_of r b) ≡ sum_of a b
 both r a b h k =
     let l : length (sum_of a b) ≡ length a = length-sum_of a b (omega arith) in
     sum_of-inner r a r b ∙ ap (λ s. sum_of s (sum_of a b)) (sum_of-self r ∙ zeros_same r (sum_of a b) (omega arith))
@@ -111,7 +111,8 @@ length-times_power (suc n) v h =
     let l : length (times_x reduction v) ≡ length v = length-times_x reduction v (length-reduction ∙ sym h) in
     length-times_power n (times_x reduction v) (l ∙ h)
 
-next : (v : List Bool) → length v ≡ 128 → length (times_x reduction v) ≡ 128
+-- a block times x is a block
+pub next : (v : List Bool) → length v ≡ 128 → length (times_x reduction v) ≡ 128
 next v h = length-times_x reduction v (length-reduction ∙ sym h) ∙ h
 
 pub product-times_power : (n : ℕ) (us v : List Bool) → length v ≡ 128 → product reduction us (times_power n v) ≡ times_power n (product reduction us v)
@@ -161,7 +162,3 @@ product-padded us v n h =
     let m : length (product reduction us v) ≡ length v = length-product reduction us v (length-reduction ∙ sym h) in
     product-append us (replicate n false) v h ∙ ap (sum_of (product reduction us v)) (product-zeros n w l)
     ∙ sum_of-zeros (product reduction us v) w (omega arith)
-
-pub times_power-none : (v : List Bool) → times_power 0 v ≡ v
-unfolding times_power
-times_power-none v = refl

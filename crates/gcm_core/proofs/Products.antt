@@ -40,7 +40,7 @@ sum_of-assoc (a ∷ us) [] ws = refl
 sum_of-assoc (a ∷ us) (b ∷ vs) [] = refl
 sum_of-assoc (a ∷ us) (b ∷ vs) (c ∷ ws) = λ i. bit_sum-assoc a b c i ∷ sum_of-assoc us vs ws i
 
-bit_sum-false : (a : Bool) → bit_sum a false ≡ a
+pub bit_sum-false : (a : Bool) → bit_sum a false ≡ a
 bit_sum-false true = refl
 bit_sum-false false = refl
 

@@ -12,14 +12,15 @@ loop-n-preserved c =
     let octets = c.loop-n.octets in
     let was = c.loop-n.invariant in
     let octet = get_or c.to_be_bytes.result c.args.o 0 in
-    let at = λ (k : ℕ). get_or (to_be_bytes w128 (get_or c.args.blocks.now k 0)) c.args.o 0 in
-    (length-set octets n octet ∙ was.0,
-    λ (k : ℕ) (h : k < n + 1). elim (cases_eq k n) [
-      | inl e ↦ subst (λ m. get_or (set octets n octet) m 0 ≡ at m) (sym e)
-          (get_or-set_same octets n octet 0 (omega arith) ∙ ap (λ os. get_or os c.args.o 0) c.to_be_bytes.ensures)
-      | inr other ↦ get_or-set_other octets n k octet 0 other
-          ∙ was.1 k (elim (cases_eq k n) [ inl e ↦ absurd (other e) | inr m ↦ omega arith ])
-    ])
+    let at = λ (k : ℕ). get_or (to_be_bytes w128 (get_or c.args.blocks.now k 0)) c.args.o 0 in (
+      length-set octets n octet ∙ was.0,
+      λ (k : ℕ) (h : k < n + 1). elim (cases_eq k n) [
+        | inl e ↦ subst (λ m. get_or (set octets n octet) m 0 ≡ at m) (sym e)
+            (get_or-set_same octets n octet 0 (omega arith) ∙ ap (λ os. get_or os c.args.o 0) c.to_be_bytes.ensures)
+        | inr other ↦ get_or-set_other octets n k octet 0 other
+            ∙ was.1 k (elim (cases_eq k n) [ inl e ↦ absurd (other e) | inr m ↦ omega arith ])
+      ],
+    )
 
 pub returns : goal.returns
 unfolding block_octets
