@@ -1,0 +1,9 @@
+//! Tests of workers, on one thread and on several.
+#![tactic(auto)]
+
+#[cfg(test)]
+mod crews;
+#[cfg(test)]
+mod desk;
+#[cfg(test)]
+mod frames;
