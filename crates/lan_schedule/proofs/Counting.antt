@@ -3,6 +3,7 @@ use Rattle.std.proofs.Common.{◌≡◌, ℕ, ◌==◌, Bool, true, false, List,
 use Rattle.std.proofs.Common.{None, refl, sym, ap, ◌∙◌, arith}
 use Rattle.std.specs.Prelude.{cond, max, ◌&&◌, Result, Ok, Err, OnOk, option_map}
 use Rattle.std.specs.declared.alloc.AllocError.{AllocError}
+use Rattle.lan_base.specs.declared.association_number.AssociationNumber.{AssociationNumber}
 use Rattle.sak_exchange.specs.declared.held_key.Key.{Key}
 use Rattle.lan_core.specs.declared.event.Event.{Event}
 use Rattle.lan_core.specs.declared.event.Event.TheVariants as events
@@ -91,7 +92,7 @@ told-other settings r old new event facts (Ok done) other raised tell =
 told-other settings r old new event facts (Err e) other raised tell = tt
 
 -- what transmits, by its association number and epoch
-abbrev pub by_epoch : Option Key → Option (ℕ × ℕ)
+abbrev pub by_epoch : Option Key → Option (AssociationNumber × ℕ)
 by_epoch k = option_map (λ key. (key.an, key.epoch)) k
 
 pub shown-none : (settings : Settings) (s : ℕ) (r : Run) (k : Option Key) → None ≡ by_epoch k
@@ -99,11 +100,12 @@ pub shown-none : (settings : Settings) (s : ℕ) (r : Run) (k : Option Key) → 
 shown-none settings s r None e = refl
 shown-none settings s r (Some key) e = absurd (cc e)
 
-abbrev second_of : ℕ → Option (ℕ × ℕ) → ℕ
+abbrev second_of : ℕ → Option (AssociationNumber × ℕ) → ℕ
 second_of default None = default
 second_of default (Some pair) = pair.1
 
-pub shown-some : (settings : Settings) (s an epoch n : ℕ) (r : Run) (k : Option Key)
+pub shown-some : (settings : Settings) (s : ℕ) (an : AssociationNumber) (epoch n : ℕ) (r : Run)
+    (k : Option Key)
     → Some (an, epoch) ≡ by_epoch k → n ≡ next settings s epoch r → n ≡ next_under settings s r k
 shown-some settings s an epoch n r None e is = absurd (cc e)
 shown-some settings s an epoch n r (Some key) e is = is
