@@ -7,7 +7,7 @@ ghost use Rattle.aes_block.specs.inside.Halves.{changed, first_half, second_half
 
 use crate::look_ups::look_up;
 use crate::tables::{
-    INV_SUB_FIRST, INV_SUB_SECOND, INVERSES, CONSTANT_OVER, OTHER_BASIS_HIGH, OTHER_BASIS_LOW,
+    CONSTANT_OVER, INV_SUB_FIRST, INV_SUB_SECOND, INVERSES, OTHER_BASIS_HIGH, OTHER_BASIS_LOW,
     SUB_FIRST, SUB_SECOND, UNDONE_HIGH, UNDONE_LOW,
 };
 use std::simd::prelude::*;
