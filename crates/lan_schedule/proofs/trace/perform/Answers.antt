@@ -1,4 +1,5 @@
 use Rattle.std.proofs.Common.{Ok, refl, ap, ◌∙◌, arith}
+use Rattle.std.specs.Prelude.{Err}
 use Rattle.lan_schedule.proofs.Feeding.{memory-does}
 use Rattle.lan_schedule.proofs.Texting.{skipped-does, line-does, fault-does}
 use Rattle.lan_schedule.proofs.trace.perform.Goals as goal
@@ -26,7 +27,8 @@ returns-in-Err-Refused g c =
     rw c.kind_of_fault.ensures (fault-does c.args.text.now c.in-Some.number c.in-Err-Refused.fault _
     (λ w stands. let at = c.line.ensures w stands in let is = c.in-Some.is in let counts =
     c.checked_add.ensures in grind (arith, at, is, counts))
-    ((c.in-Err-Refused.ensures.refused c.in-Err-Refused.fault).0 refl))
+    ((c.in-Err-Refused.ensures.refused c.in-Err-Refused.fault).0
+    (ap (λ e. Err e) c.in-Err-Refused.field-0-is)))
 
 pub returns-in-Err-Memory : goal.returns-in-Err-Memory
 returns-in-Err-Memory g c = memory-does _ _ _ refl

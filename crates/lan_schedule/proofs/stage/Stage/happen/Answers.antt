@@ -1,4 +1,7 @@
-use Rattle.std.proofs.Common.{refl}
+use Rattle.std.proofs.Common.{refl, subst}
+use Rattle.lan_core.specs.Answers.{IsWhy}
+use Rattle.lan_core.specs.Stops.{first_stop}
+use Rattle.lan_schedule.specs.Supply.{supply_nth}
 use Rattle.lan_schedule.proofs.Happening.{event-did, event-stopped, event-wanting}
 use Rattle.lan_schedule.proofs.stage.Stage.happen.Goals as goal
 
@@ -6,7 +9,9 @@ pub returns-in-Err-Stopped : goal.returns-in-Err-Stopped
 returns-in-Err-Stopped g c =
     rw (c.halt_of.ensures) (event-stopped _ c.args.event.now c.in-Err-Stopped.stop
     c.args.self.now.line _ _
-    (λ settings users r stands may. c.in-Err-Stopped.ensures.refused settings users r stands may)
+    (λ settings users r stands may.
+    subst (IsWhy (first_stop settings users r c.args.event.now (supply_nth c.args.self.now.draws)))
+    c.in-Err-Stopped.field-0-is (c.in-Err-Stopped.ensures.refused settings users r stands may))
     refl refl)
 
 pub returns-in-Err-Memory : goal.returns-in-Err-Memory
