@@ -11,7 +11,6 @@ use Rattle.lan_core.specs.declared.fact.Fact.TheVariants as facts
 use Rattle.lan_core.specs.declared.settings.Settings.{Settings}
 use Rattle.lan_core.specs.declared.stop.Stop.{Stop}
 use Rattle.lan_core.specs.declared.stop.Stop.TheVariants.{Limit}
-use Rattle.lan_core.specs.declared.stop.Which.{Which}
 use Rattle.lan_core.specs.declared.waiting.Sealed.{Sealed}
 use Rattle.lan_core.specs.Run.{Run, Happening, happened, stations}
 use Rattle.lan_core.specs.Ledgers.{Frame, air, emitted, installs, installs_at, next_frame}
@@ -25,7 +24,7 @@ use Rattle.lan_core.specs.Answers.{GoesOn}
 use Rattle.lan_core.specs.inside.Limits.{passed_with, passed_by}
 use Rattle.lan_core.specs.declared.limits.Extent.{Extent}
 use Rattle.lan_core.proofs.ListPlaces.{front-of, front-mapped, none-left, none-mapped}
-use Rattle.lan_core.proofs.LimitsPassed.{none-over, passed-is, within-where}
+use Rattle.lan_core.proofs.LimitsPassed.{none-over, none-passed, passed-is, within-where}
 use Rattle.lan_core.proofs.CarriedOver.{meets, draws-none, sealed-same, order-length, order-sum}
 
 -- the emission of a frame, as it happens
@@ -157,13 +156,8 @@ emits settings users r lan stands nth frame rest next within =
       in_turn = rw (append-nil (claimed settings r)) next.fewer;
       ticked = omega (arith, stands.ticked);
       drawn = draws-none settings.suite x r lan.drawn refl refl stands.drawn;
-      within = within-where (x ∷ r) (none_passed _ (emission-passes settings users r lan stands (next_frame r) frame) within);
+      within = within-where (x ∷ r) (none-passed (emission (next_frame r) frame ∷ r) _ (emission-passes settings users r lan stands (next_frame r) frame) within);
     }
-  where
-    none_passed : (o : Option Which) → passed (emission (next_frame r) frame ∷ r) ≡ o
-        → option_map Limit o ≡ None → passed (emission (next_frame r) frame ∷ r) ≡ None
-    none_passed None is none = is
-    none_passed (Some which) is none = absurd (cc none)
 
 pub emission-goes-on : (settings : Settings) (users : List UserFrame) (r : Run) (lan : State)
     → StandsFor settings users lan r → (nth : ℕ → Option (List ℕ)) (frame : Sealed) (rest : List Sealed)

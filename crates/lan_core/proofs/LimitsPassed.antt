@@ -1,9 +1,10 @@
 -- The limits that a run passes.
 use Rattle.std.proofs.Common.{◌≡◌, ◌≢◌, ◌<◌, ◌≤◌, ℕ, Bool, true, false, cond, List, [], ◌∷◌, length, map}
 use Rattle.std.proofs.Common.{Option, Some, None, refl, sym, subst, arith}
-use Rattle.std.specs.Prelude.{◌==◌, ◌&&◌, ◌||◌, nat_lt, sum}
+use Rattle.std.specs.Prelude.{◌==◌, ◌&&◌, ◌||◌, nat_lt, option_map, sum}
 use Rattle.std.specs.List.{list_any}
 use Rattle.std.proofs.lemmas.Bool.{eqb-true, eqb-false, lt-ltb, ltb-true, le-ltb, ltb-false}
+use Rattle.lan_core.specs.declared.stop.Stop.TheVariants.{Limit}
 use Rattle.lan_core.specs.declared.stop.Which.{Which}
 use Rattle.lan_core.specs.Run.{Run, stations}
 use Rattle.lan_core.specs.Ledgers.{air, Install, installs}
@@ -115,6 +116,12 @@ not_first false which later none = (refl, none)
 
 at_most : (most n : ℕ) → nat_lt most n ≡ false → n ≤ most
 at_most most n not = ltb-false most n not
+
+-- no limit is passed where none stops a group
+pub none-passed : (q : Run) (o : Option Which) → passed q ≡ o → option_map Limit o ≡ None
+    → passed q ≡ None
+none-passed q None is none = is
+none-passed q (Some which) is none = absurd (cc none)
 
 pub within-where : (q : Run) → passed q ≡ None → IsWithin q
 within-where q none =

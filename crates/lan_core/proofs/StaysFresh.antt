@@ -284,11 +284,11 @@ no_first : {A B : Type 0} (f : A → Option B) (o : Option A) → option_and_the
     → f a ≡ None
 no_first f o none a is = sym (ap (option_and_then f) is) ∙ none
 
-neither : {A : Type 0} (o p : Option A) → option_or o p ≡ None → (o ≡ None) × (p ≡ None)
+pub neither : {A : Type 0} (o p : Option A) → option_or o p ≡ None → (o ≡ None) × (p ≡ None)
 neither None p none = (refl, none)
 neither (Some a) p none = absurd (cc none)
 
-unmapped : {A B : Type 0} (f : A → B) (o : Option A) → option_map f o ≡ None → o ≡ None
+pub unmapped : {A B : Type 0} (f : A → B) (o : Option A) → option_map f o ≡ None → o ≡ None
 unmapped f None none = refl
 unmapped f (Some a) none = absurd (cc none)
 

@@ -21,7 +21,6 @@ use Rattle.lan_core.specs.declared.fact.Fact.TheVariants as facts
 use Rattle.lan_core.specs.declared.settings.Settings.{Settings}
 use Rattle.lan_core.specs.declared.stop.Stop.{Stop}
 use Rattle.lan_core.specs.declared.stop.Stop.TheVariants.{Limit, DrawsSpent, RepeatedDraw}
-use Rattle.lan_core.specs.declared.stop.Which.{Which}
 use Rattle.lan_core.proofs.FramesNumbered.{by_event}
 use Rattle.lan_core.specs.Run.{Run, Happening, happened, Profile, stations}
 use Rattle.lan_core.specs.Ledgers.{Frame, air, framed, gather, next_frame}
@@ -38,7 +37,7 @@ use Rattle.lan_core.specs.inside.Drawing.{stop_of, IfNoted}
 use Rattle.lan_core.proofs.OwnLedgers.{AreOf, tick-is-of, reaction-sends, reaction-begins-none}
 use Rattle.lan_core.proofs.Reactions.{reaction-air}
 use Rattle.lan_core.proofs.TickDraws.{sak-shown, turn-same}
-use Rattle.lan_core.proofs.LimitsPassed.{passed-is}
+use Rattle.lan_core.proofs.LimitsPassed.{none-passed, passed-is}
 use Rattle.lan_core.proofs.CarriedOver.{meets, draws-none, IsThere, order-length, order-sum}
 use Rattle.lan_core.proofs.GroupMoved.{stands-after, counted-on, same-place}
 use Rattle.lan_core.proofs.OctetsReach.{over-of}
@@ -295,12 +294,7 @@ tick-stands settings users r lan stands s next p profile there nth after new cam
     (lan.air ++ option_to_list (sent_in came.facts)) (rw stands.on_air (sym on)) (lan.ticks + 1)
     (omega (arith, stands.ticked)) drawn
     (tick-noted settings.suite r lan.drawn drawn x stands.drawn none (drawn_sak came.facts) refl noted)
-    (none_passed _ (tick-passes settings users r lan stands s next p there nth after new came did) within)
-  where
-    none_passed : (o : Option Which) → passed (ticking s next came ∷ r) ≡ o
-        → option_map Limit o ≡ None → passed (ticking s next came ∷ r) ≡ None
-    none_passed None is none = is
-    none_passed (Some which) is none = absurd (cc none)
+    (none-passed (ticking s next came ∷ r) _ (tick-passes settings users r lan stands s next p there nth after new came did) within)
 
 pub tick-goes-on : (settings : Settings) (users : List UserFrame) (r : Run) (lan : State)
     → StandsFor settings users lan r → (s next : ℕ) (p : Profile) → slice_get (stations r) s ≡ Some p

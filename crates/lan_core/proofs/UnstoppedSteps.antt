@@ -2,7 +2,6 @@
 use Rattle.std.proofs.Common.{◌≡◌, ◌∙◌, ◌⊎◌, ℕ, Bool, true, false, cond, List, [], ◌∷◌, length}
 use Rattle.std.proofs.Common.{Option, Some, None, inl, inr, refl, sym, ap, subst}
 use Rattle.std.specs.Prelude.{option_map, option_and_then}
-use Rattle.std.specs.Option.{option_or}
 use Rattle.lan_base.specs.declared.address.Mi.{Mi}
 use Rattle.lan_base.specs.declared.frame.UserFrame.{UserFrame}
 use Rattle.lan_base.specs.Suites.{sak_draws}
@@ -32,7 +31,7 @@ use Rattle.lan_core.specs.Unstopped.{IsUnstopped, AreDraws}
 use Rattle.lan_core.proofs.FramesNumbered.{mapped, chained}
 use Rattle.lan_core.proofs.LimitsPassed.{within-where}
 use Rattle.lan_core.proofs.ExcusesStay.{step-legal}
-use Rattle.lan_core.proofs.StaysFresh.{stays-fresh, stays-unforged}
+use Rattle.lan_core.proofs.StaysFresh.{neither, stays-fresh, stays-unforged, unmapped}
 use Rattle.lan_core.proofs.StaysThrifty.{needs-no-excuse}
 use Rattle.lan_core.proofs.TickDraws.{tick-draws, sak-shown, tick-same, mi-is, sak-is, suite-of}
 
@@ -46,14 +45,6 @@ pub record MeetsNoStop (settings : Settings) (r : Run) (event : Event) (nth : �
   pub limits : passed (happened event shown ∷ r) ≡ None
   pub draw : stop_of_draw settings.suite r (happened event shown) ≡ None
   pub forgery : stop_of_forgery settings r event ≡ None
-
-neither : {A : Type 0} (o p : Option A) → option_or o p ≡ None → (o ≡ None) × (p ≡ None)
-neither None p none = (refl, none)
-neither (Some a) p none = absurd (cc none)
-
-unmapped : {A B : Type 0} (f : A → B) (o : Option A) → option_map f o ≡ None → o ≡ None
-unmapped f None none = refl
-unmapped f (Some a) none = absurd (cc none)
 
 unstopped_by : (settings : Settings) (r : Run) (event : Event) (nth : ℕ → Option (List ℕ))
     (shown : List Fact) (b : Bool)

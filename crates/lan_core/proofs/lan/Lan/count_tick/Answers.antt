@@ -1,4 +1,5 @@
-use Rattle.std.proofs.Common.{◌≡◌, ◌+◌, ◌++◌, length, Option, None, rules, subst}
+use Rattle.std.proofs.Common.{◌≡◌, ◌+◌, ◌++◌, length, Option, None, arith, rules, subst}
+use Rattle.std.proofs.lemmas.Grind.{common_steps}
 use Rattle.std.specs.Prelude.{option_map, option_and_then, option_to_list}
 use Rattle.aes_block.specs.declared.secret.Secret.{Secret}
 use Rattle.lan_core.specs.declared.stop.Stop.TheVariants.{Limit}
@@ -29,3 +30,9 @@ returns-in_err-note_sak-clause-judges c =
     c.args.came.now.installs (length lan.names)))
     (stop_of lan.drawn (option_and_then (number_of_sak lan.drawn) (drawn_sak shown))) error
     c.from_residual-in_err-note_sak.result c.from_residual-in_err-note_sak.ensures.1 none why
+
+pub returns-in_err-judge-clause-judges : goal.returns-in_err-judge-clause-judges
+returns-in_err-judge-clause-judges c = grind (arith, common_steps)
+
+pub returns-clause-judges : goal.returns-clause-judges
+returns-clause-judges c = search rules
