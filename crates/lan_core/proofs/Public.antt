@@ -8,3 +8,4 @@ pub use Rattle.lan_core.proofs.SuppliedDraws.{counts-are, streamed-are}
 pub use Rattle.lan_core.proofs.EachInALife.{in-a-life}
 pub use Rattle.lan_core.proofs.StaysThrifty.{stays-thrifty}
 pub use Rattle.lan_core.proofs.UnstoppedSteps.{fresh, is-step, legal, unforged}
+pub use Rattle.lan_core.proofs.EpochsCount.{lives-count}
