@@ -23,7 +23,10 @@ pub mod OctetsLookedUp
 pub mod TickDraws
 pub mod UnstoppedSteps
 pub mod StaysFresh
+pub mod FirstFacts
 pub mod StaysThrifty
+pub mod Alike
+pub mod SettledPart
 pub mod MoreUsers
 pub mod SuppliedDraws
 pub mod Forgery

@@ -15,6 +15,7 @@ mod lan;
 mod laws;
 mod limits;
 mod names;
+mod parts;
 mod seat;
 mod seats;
 mod sender;
@@ -40,5 +41,6 @@ pub use laws::{
     law_fronts_of_unforged_runs_are_unforged, law_more_users_change_no_run,
     law_next_numbers_keep_a_run_thrifty, law_the_next_number_never_falls,
 };
+pub use parts::law_claims_tell_packet_numbers_alone;
 pub use settings::Settings;
 pub use stop::{StepError, Stop, Which};
