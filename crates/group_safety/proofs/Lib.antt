@@ -1,6 +1,7 @@
 pub mod Members
 pub mod once
 pub mod rollover
+pub mod moves
 pub mod example
 mod Examples
 mod SteadyExample
