@@ -2,6 +2,7 @@ pub mod Members
 pub mod once
 pub mod rollover
 pub mod typed
+pub mod moves
 pub mod example
 mod Examples
 mod SteadyExample
