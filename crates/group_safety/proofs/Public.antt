@@ -2,6 +2,8 @@
 
 -- What stands in a list, by recursion over it; cases of a sum, and what an option has.
 pub use Rattle.group_safety.proofs.Members.{In, contains-in, in-contains, in-left, all-in, by_sum}
+pub use Rattle.group_safety.proofs.Members.{in-from_map}
+pub use Rattle.group_safety.proofs.once.LiveHeard.{in-find}
 pub use Rattle.group_safety.proofs.once.Currents.{none-some, some-same}
 -- A run up to a moment: it is whole at its end, and one event more changes nothing before.
 pub use Rattle.group_safety.proofs.rollover.AtMoments.{upto-whole, upto-earlier}
