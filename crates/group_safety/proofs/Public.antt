@@ -2,6 +2,7 @@
 
 -- What stands in a list, by recursion over it; cases of a sum, and what an option has.
 pub use Rattle.group_safety.proofs.Members.{In, contains-in, in-contains, in-left, in-right, in-map, all-in, by_sum}
+pub use Rattle.group_safety.proofs.Members.{in-from_map}
 pub use Rattle.group_safety.proofs.once.Places.{differs-in, same-place}
 pub use Rattle.group_safety.proofs.once.LiveHeard.{in-find}
 pub use Rattle.group_safety.proofs.once.Currents.{none-some, some-same}
