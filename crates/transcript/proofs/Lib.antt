@@ -11,5 +11,6 @@ mod Branches
 mod Numbers
 mod ReadBack
 mod NamesGrow
+mod NamesRead
 mod RunFacts
 mod Examples

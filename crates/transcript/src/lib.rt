@@ -5,6 +5,7 @@
 mod facts;
 mod fault;
 mod laws;
+mod reader;
 mod reading;
 mod rendering;
 mod run_laws;
@@ -13,6 +14,7 @@ mod words;
 
 pub use fault::FactError;
 pub use laws::{law_cut, law_texts_differ};
+pub use reader::Reader;
 pub use reading::read_fact;
 pub use rendering::render;
 pub use run_laws::{
