@@ -21,9 +21,9 @@ use Rattle.sak_exchange.specs.Held.{has_epoch, may_begin}
 use Rattle.sak_exchange.specs.Beginning.{Beginning, retired}
 use Rattle.sak_exchange.specs.Outcomes.{beginning}
 use Rattle.sak_exchange.specs.Lives.{Has}
-use Rattle.sak_exchange.proofs.Public.{by_test, by_option, not-true, first-is, shape, none, one, two}
+use Rattle.sak_exchange.proofs.Public.{by_test, by_option, first-is, shape, none, one, two}
 use Rattle.sak_exchange.proofs.Public.{may-begin as may-begin-is, latest-epoch, begun-upto}
-use Rattle.sak_exchange.proofs.Public.{retired-by, ago-begun, same-an-equal, same-an-itself}
+use Rattle.sak_exchange.proofs.Public.{retired-by, ago-begun, same-an-itself}
 use Rattle.mka_station.specs.Tick.{ended as ended_by, install_changes}
 use Rattle.mka_station.specs.Hearing.{key_taken, take_changes}
 use Rattle.lan_core.specs.Order.{most_installs}

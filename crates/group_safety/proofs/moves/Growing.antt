@@ -15,7 +15,7 @@ use Rattle.lan_core.specs.declared.fact.Lack.{Lack}
 use Rattle.lan_core.specs.declared.settings.Settings.{Settings}
 use Rattle.lan_core.specs.Run.{Run, happened}
 use Rattle.lan_core.specs.Ledgers.{next_frame}
-use Rattle.lan_core.specs.Lives.{transmitting_at, turn_at_tick, sak_in}
+use Rattle.lan_core.specs.Lives.{transmitting_at}
 use Rattle.lan_core.specs.Claims.{next, shown_by, after_claim, is_epoch, frame_of_claim}
 use Rattle.lan_core.specs.Unstopped.{next_under}
 use Rattle.lan_core.specs.Expected.{number_fact, lack}

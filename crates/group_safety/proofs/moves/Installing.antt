@@ -27,7 +27,6 @@ use Rattle.mka_station.specs.Tick.{tick_turn, led, made, ended, install_changes,
 use Rattle.mka_station.specs.Hearing.{judged, hear_turn, heard_turn, frame_turn, key_taken}
 use Rattle.mka_station.specs.Hearing.{take_changes, offer_at, answer_at, taken_past, follow_at}
 use Rattle.mka_station.specs.Restart.{ending}
-use Rattle.lan_core.specs.declared.fact.Fact.{Fact}
 use Rattle.lan_core.specs.declared.fact.Fact.TheVariants as facts
 use Rattle.lan_core.specs.declared.settings.Settings.{Settings}
 use Rattle.lan_core.specs.Run.{Run, Happening}
