@@ -12,7 +12,7 @@ use Rattle.lan_schedule.specs.declared.halt.Halt.{Halt}
 use Rattle.lan_schedule.specs.declared.halt.Halt.TheVariants as halts
 use Rattle.lan_schedule.specs.declared.halt.Kind.{Kind}
 use Rattle.lan_schedule.specs.Texts.{whole_lines}
-use Rattle.lan_schedule.specs.World.{World, settings, beginning, is_racing}
+use Rattle.lan_schedule.specs.World.{World, beginning, is_racing}
 use Rattle.lan_schedule.specs.Acts.{Goes, Act}
 use Rattle.lan_schedule.specs.Ends.{Sunk, IsShown, HoldsFront, text_of}
 use Rattle.lan_schedule.specs.Trace.{course, most_input, Sourced, IsReplayed, whole, within}
