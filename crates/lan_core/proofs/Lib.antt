@@ -23,6 +23,8 @@ pub mod OctetsLookedUp
 pub mod TickDraws
 pub mod UnstoppedSteps
 pub mod StaysFresh
+pub mod FreshBeside
+pub mod DrawsShown
 pub mod StaysThrifty
 pub mod MoreUsers
 pub mod SuppliedDraws

@@ -8,3 +8,8 @@ pub use Rattle.lan_core.proofs.SuppliedDraws.{counts-are, streamed-are}
 pub use Rattle.lan_core.proofs.EachInALife.{in-a-life}
 pub use Rattle.lan_core.proofs.StaysThrifty.{stays-thrifty}
 pub use Rattle.lan_core.proofs.UnstoppedSteps.{fresh, is-step, legal, unforged}
+pub use Rattle.lan_core.proofs.DrawsShown.{mi-shown, needed-draws-count, restart-is-within, sak-shown-by}
+pub use Rattle.lan_core.proofs.DrawsShown.{tick-takes}
+pub use Rattle.lan_core.proofs.FreshBeside.{fresh-beside, step-well}
+pub use Rattle.lan_core.proofs.RestartGoesOn.{mi-noted}
+pub use Rattle.lan_core.proofs.TickGoesOn.{tick-noted}

@@ -11,7 +11,9 @@ pub mod Legal
 pub mod Fresh
 pub mod Keys
 pub mod Stops
+pub mod Suited
 pub mod Unstopped
 pub mod Standing
+pub mod Noting
 pub mod Answers
 pub mod inside
