@@ -2,6 +2,6 @@ pub mod Members
 pub mod once
 pub mod rollover
 pub mod example
-mod Examples
+pub mod Examples
 mod SteadyExample
 pub mod Public

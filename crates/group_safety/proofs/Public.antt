@@ -23,3 +23,7 @@ pub use Rattle.group_safety.proofs.example.Steps.{unwrapped-wrapped_sak}
 -- Protected frames are known by their type; a station that none reached sees no numbers.
 pub use Rattle.group_safety.proofs.once.ClaimKept.{protected-is_sec}
 pub use Rattle.group_safety.proofs.example.Scene.{IsSilent, silent-next, seen-silent}
+-- A run of the examples: alice starts, and then bob.
+pub use Rattle.group_safety.proofs.Examples.{bob_starts}
+pub use Rattle.group_safety.proofs.example.Run.{mi, alice, bob, users}
+pub use Rattle.group_safety.proofs.example.Scene.{settings}
