@@ -4,6 +4,6 @@ pub mod rollover
 pub mod typed
 pub mod moves
 pub mod example
-mod Examples
+pub mod Examples
 mod SteadyExample
 pub mod Public

@@ -28,3 +28,7 @@ pub use Rattle.group_safety.proofs.example.Scene.{IsSilent, silent-next, seen-si
 pub use Rattle.group_safety.proofs.moves.Moving.{follow-append}
 -- The next number of an account is that of the run.
 pub use Rattle.group_safety.proofs.moves.Accounting.{next-told}
+-- A run of the examples: alice starts, and then bob.
+pub use Rattle.group_safety.proofs.Examples.{bob_starts}
+pub use Rattle.group_safety.proofs.example.Run.{mi, alice, bob, users}
+pub use Rattle.group_safety.proofs.example.Scene.{settings}

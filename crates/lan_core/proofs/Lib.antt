@@ -24,6 +24,8 @@ pub mod TickDraws
 pub mod UnstoppedSteps
 pub mod StaysFresh
 pub mod FirstFacts
+pub mod FreshBeside
+pub mod DrawsShown
 pub mod StaysThrifty
 pub mod Alike
 pub mod SettledPart

@@ -15,8 +15,10 @@ pub mod TypedFacts
 pub mod Fresh
 pub mod Keys
 pub mod Stops
+pub mod Suited
 pub mod Unstopped
 pub mod Standing
 pub mod Parts
+pub mod Noting
 pub mod Answers
 pub mod inside

@@ -5,6 +5,7 @@
 mod air;
 mod came;
 mod claimed;
+mod draw_laws;
 mod drawn;
 mod event;
 mod fact;
@@ -25,6 +26,12 @@ mod stop;
 mod telling;
 mod waiting;
 
+pub use draw_laws::{
+    law_a_restart_passes_no_limit, law_a_step_stays_fresh_beside_another_run,
+    law_a_tick_draws_one_key_or_nothing, law_only_needed_draws_count, law_what_an_event_draws,
+    law_what_is_noted_is_drawn,
+};
+pub use drawn::Drawn;
 pub use event::Event;
 pub use fact::{Fact, Facts, Lack};
 pub use fact_laws::{
