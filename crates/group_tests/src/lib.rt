@@ -7,3 +7,5 @@ mod endings;
 mod playing;
 #[cfg(test)]
 mod sharing;
+#[cfg(test)]
+mod wording;
