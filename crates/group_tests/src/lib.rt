@@ -9,3 +9,5 @@ mod numbers;
 mod playing;
 #[cfg(test)]
 mod sharing;
+#[cfg(test)]
+mod wording;
