@@ -1,6 +1,6 @@
 -- What was drawn in the run of a group was drawn in both together.
-use Rattle.std.proofs.Common.{◌≡◌, ◌+◌, ◌++◌, ℕ, Bool, true, false, List, [], ◌∷◌, cond}
-use Rattle.std.proofs.Common.{Option, Some, None, refl}
+use Rattle.std.proofs.Common.{◌≡◌, ◌+◌, ◌++◌, ℕ, Bool, true, false, [], ◌∷◌, cond}
+use Rattle.std.proofs.Common.{Option, Some, refl}
 use Rattle.std.specs.Prelude.{is_some}
 use Rattle.lan_base.specs.declared.address.Mi.{Mi}
 use Rattle.lan_base.specs.declared.suite.Suite.{Suite}

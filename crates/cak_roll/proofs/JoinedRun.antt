@@ -3,20 +3,18 @@ use Rattle.std.proofs.Common.{◌≡◌, ◌≢◌, ◌<◌, ◌++◌, ℕ, zero
 use Rattle.std.proofs.Common.{◌∷◌, map, cond, length, arith}
 use Rattle.std.proofs.Common.{Option, Some, None, refl, sym, ap, ◌∙◌, subst}
 use Rattle.std.specs.Prelude.{◌==◌, slice_get, option_map, option_to_list, All}
-use Rattle.std.specs.List.{list_any}
 use Rattle.std.proofs.lemmas.List.Elements.{All-head, All-tail, All-weaker}
 use Rattle.lan_base.specs.declared.frame.UserFrame.{UserFrame}
 use Rattle.lan_base.specs.Differing.{AllDiffer, DiffersFrom}
 use Rattle.lan_core.specs.declared.event.Event.{Event}
 use Rattle.lan_core.specs.declared.event.Event.TheVariants as events
 use Rattle.lan_core.specs.Run.{Run, Profile, started, stations}
-use Rattle.lan_core.specs.Order.{IsNew}
 use Rattle.cak_roll.specs.declared.event.GroupNumber.{GroupNumber}
 use Rattle.cak_roll.specs.declared.event.GroupNumber.TheVariants.{First, Second}
 use Rattle.cak_roll.specs.declared.event.TwinEvent.{TwinEvent}
 use Rattle.cak_roll.specs.declared.event.TwinEvent.TheVariants as twins
 use Rattle.cak_roll.specs.Twin.{Pair, Twin, TwinHappening, part_of, run_of, adopters, adopted_by}
-use Rattle.cak_roll.specs.Twin.{events_of, events_in, start_of, sent_as, only, of_group, same_group}
+use Rattle.cak_roll.specs.Twin.{events_of, events_in, start_of, only, same_group}
 use Rattle.cak_roll.specs.Twin.{place_in, next_in, claimed_in, takes_part, carrier}
 use Rattle.cak_roll.specs.Twin.{MayComeTwin, IsTwinStep, IsTwinRun}
 use Rattle.cak_roll.proofs.Adopted.{map-over, joined-more, joined-one}

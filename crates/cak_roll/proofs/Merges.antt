@@ -6,7 +6,6 @@ use Rattle.lan_core.specs.declared.fact.Fact.{Fact}
 use Rattle.lan_core.specs.Run.{Run}
 use Rattle.lan_core.specs.Ledgers.{gather, with_one, born, Birth, births}
 use Rattle.lan_core.specs.Fresh.{drawn_mis, drawn_saks, sak_drawn, IsFresh}
-use Rattle.cak_roll.specs.declared.event.GroupNumber.{GroupNumber}
 use Rattle.cak_roll.specs.declared.event.GroupNumber.TheVariants.{First, Second}
 use Rattle.cak_roll.specs.Both.{AreFresh}
 use Rattle.cak_roll.specs.Twin.{Twin, run_of, merged}

@@ -1,6 +1,6 @@
 -- Two runs together: lists in which nothing stands twice, joined and taken apart; and claims of
 -- both.
-use Rattle.std.proofs.Common.{◌≡◌, ◌≢◌, refl, sym, ap, subst, ◌∙◌, ℕ, List, [], ◌∷◌, ◌++◌}
+use Rattle.std.proofs.Common.{◌≡◌, ◌≢◌, refl, sym, ap, ◌∙◌, ℕ, List, [], ◌∷◌, ◌++◌}
 use Rattle.std.proofs.Common.{inl, inr, Option, Some, None, is_some, IsTrue}
 use Rattle.std.specs.Prelude.{Contains, option_map}
 use Rattle.lan_base.specs.Differing.{DiffersFrom, AllDiffer}

@@ -1,6 +1,6 @@
 -- Events of one group that nothing stops, among the events of both: each is a step, and what both
 -- drew stays fresh.
-use Rattle.std.proofs.Common.{◌≡◌, ◌*◌, ◌++◌, ℕ, Bool, true, false, List, [], ◌∷◌, length}
+use Rattle.std.proofs.Common.{◌≡◌, ℕ, true, false, List, [], ◌∷◌}
 use Rattle.std.proofs.Common.{Option, Some, None, refl, sym, ap, ◌∙◌, subst}
 use Rattle.std.specs.Prelude.{◌+◌, is_some, option_map, option_and_then}
 use Rattle.std.specs.Option.{option_or}
@@ -9,7 +9,6 @@ use Rattle.lan_base.specs.declared.frame.UserFrame.{UserFrame}
 use Rattle.lan_base.specs.declared.suite.Suite.{Suite}
 use Rattle.lan_base.specs.Suites.{key_bits}
 use Rattle.aes_block.specs.declared.secret.Secret.{Secret}
-use Rattle.aes_block.specs.Secrets.{secret_octets}
 use Rattle.lan_core.specs.declared.event.Event.{Event}
 use Rattle.lan_core.specs.declared.event.Event.TheVariants as events
 use Rattle.lan_core.specs.declared.fact.Fact.{Fact}
@@ -22,14 +21,13 @@ use Rattle.lan_core.specs.Lives.{drawn_mi}
 use Rattle.lan_core.specs.Expected.{expected, drawn_from}
 use Rattle.lan_core.specs.Types.{IsSetting, IsTyped, IfDrawn}
 use Rattle.lan_core.specs.Order.{IsOfSuite}
-use Rattle.lan_core.specs.Legal.{IsStep, IsStepped}
-use Rattle.lan_core.specs.Fresh.{IsFresh}
+use Rattle.lan_core.specs.Legal.{IsStep}
 use Rattle.lan_core.specs.Stops.{MayCome, draws_needed, is_spent, first_stop, stop_at, passed}
 use Rattle.lan_core.specs.Stops.{stop_of_draw, stop_of_forgery, draws_in, drawn_before, mi_number}
 use Rattle.lan_core.specs.Stops.{sak_number, sak_of_tick}
 use Rattle.lan_core.specs.Suited.{IsDrawnWell, AreDrawnWell}
-use Rattle.lan_core.specs.Unstopped.{AreDraws, IsUnstopped}
-use Rattle.lan_core.proofs.Public.{mapped, is-step, fresh-beside, step-well}
+use Rattle.lan_core.specs.Unstopped.{AreDraws}
+use Rattle.lan_core.proofs.Public.{mapped, is-step}
 use Rattle.cak_roll.specs.Stepping.{Supply, shown, stop_after}
 use Rattle.cak_roll.proofs.Among.{IsAmong}
 

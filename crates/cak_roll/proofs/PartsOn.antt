@@ -1,5 +1,5 @@
 -- A part of a twin event that nothing stops: its events are steps, and what both drew stays fresh.
-use Rattle.std.proofs.Common.{◌≡◌, ◌≤◌, ◌+◌, ◌==◌, ◌++◌, ℕ, Bool, true, false, List, [], ◌∷◌, length}
+use Rattle.std.proofs.Common.{◌≡◌, ◌≤◌, ◌+◌, ◌==◌, ◌++◌, ℕ, true, false, List, [], ◌∷◌, length}
 use Rattle.std.proofs.Common.{Option, Some, None, refl, sym, ap, ◌∙◌, subst, arith}
 use Rattle.std.specs.Prelude.{is_some, option_map, option_and_then}
 use Rattle.std.specs.Option.{option_or}
@@ -7,7 +7,6 @@ use Rattle.lan_base.specs.declared.frame.UserFrame.{UserFrame}
 use Rattle.lan_core.specs.declared.event.Event.{Event}
 use Rattle.lan_core.specs.declared.event.Event.TheVariants as events
 use Rattle.lan_core.specs.declared.settings.Settings.{Settings}
-use Rattle.lan_core.specs.declared.stop.Stop.{Stop}
 use Rattle.lan_core.specs.Run.{Run, Happening, happened}
 use Rattle.lan_core.specs.Ledgers.{emitted}
 use Rattle.lan_core.specs.Claims.{claimed, waiting}
@@ -18,12 +17,12 @@ use Rattle.lan_core.specs.Fresh.{IsFresh}
 use Rattle.lan_core.specs.Stops.{MayCome, draws_needed, is_spent}
 use Rattle.lan_core.specs.Suited.{AreDrawnWell}
 use Rattle.lan_core.specs.Unstopped.{AreDraws}
-use Rattle.lan_core.proofs.Public.{mapped, fresh-beside, step-well}
+use Rattle.lan_core.proofs.Public.{fresh-beside, step-well}
 use Rattle.next_numbers.proofs.Public.{waits-then}
 use Rattle.cak_roll.specs.Twin.{AreSteps, events_of}
 use Rattle.cak_roll.specs.Stepping.{Supply, shown, performed, draws_for, stop_after, part_stop}
 use Rattle.cak_roll.proofs.Among.{IsAmong, among-both}
-use Rattle.cak_roll.proofs.PartSteps.{IsPlainly, MayBe, IsOn, one-on, well-moved, all-moved}
+use Rattle.cak_roll.proofs.PartSteps.{IsPlainly, IsOn, one-on, well-moved, all-moved}
 
 -- a part of a group goes on, among the events of both, whose settings agree in the suite
 pub record PartOn (settings other : Settings) (users : List UserFrame) (r whole : Run)

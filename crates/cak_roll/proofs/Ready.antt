@@ -1,9 +1,9 @@
 -- What a twin event is in a group may come there.
 use Rattle.std.proofs.Common.{◌≡◌, ◌⊎◌, ◌<◌, ◌≤◌, ◌==◌, ◌++◌, ℕ, zero, suc, Bool, true, false, List, []}
-use Rattle.std.proofs.Common.{◌∷◌, inl, inr, length, Option, Some, None, cond, refl, sym, ap, ◌∙◌}
+use Rattle.std.proofs.Common.{◌∷◌, inl, inr, length, Option, Some, None, cond, refl}
 use Rattle.std.proofs.Common.{subst, arith}
 use Rattle.std.proofs.lemmas.Bool.{and_parts, ltb-true, le-ltb}
-use Rattle.std.specs.Prelude.{◌&&◌, ◌^◌, is_some, nat_lt, not, option_map, option_to_list, slice_get}
+use Rattle.std.specs.Prelude.{◌^◌, is_some, nat_lt, not, option_map, option_to_list, slice_get}
 use Rattle.lan_base.specs.declared.frame.UserFrame.{UserFrame}
 use Rattle.sak_exchange.specs.declared.held_key.Key.{Key}
 use Rattle.lan_core.specs.declared.event.Event.{Event}
@@ -24,7 +24,7 @@ use Rattle.cak_roll.specs.declared.event.GroupNumber.{GroupNumber}
 use Rattle.cak_roll.specs.declared.event.GroupNumber.TheVariants.{First, Second}
 use Rattle.cak_roll.specs.declared.event.TwinEvent.{TwinEvent}
 use Rattle.cak_roll.specs.declared.event.TwinEvent.TheVariants as twins
-use Rattle.cak_roll.specs.Twin.{Pair, Twin, of_group, same_group, setting_of, run_of, adopters}
+use Rattle.cak_roll.specs.Twin.{Pair, Twin, same_group, setting_of, run_of, adopters}
 use Rattle.cak_roll.specs.Twin.{events_in, start_of, sent_as, only, place_in, has_joined, has_left}
 use Rattle.cak_roll.specs.Twin.{takes_part, next_in, claimed_in, transmits, carrier}
 use Rattle.cak_roll.specs.Twin.{MayComeTwin, IsTwinRun}

@@ -12,7 +12,6 @@ use Rattle.lan_core.specs.declared.settings.Settings.{Settings}
 use Rattle.lan_core.specs.Run.{Run, Happening, Profile, happened, stations}
 use Rattle.lan_core.specs.Ledgers.{air}
 use Rattle.lan_core.specs.Lives.{transmitting_at}
-use Rattle.lan_core.specs.Claims.{next}
 use Rattle.lan_base.specs.Ranges.{most_frames}
 use Rattle.lan_core.specs.Expected.{drawn_in, last_number}
 use Rattle.lan_core.specs.Legal.{IsStep, IsStepped}

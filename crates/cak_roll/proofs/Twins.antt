@@ -13,9 +13,9 @@ use Rattle.cak_roll.specs.declared.event.GroupNumber.{GroupNumber}
 use Rattle.cak_roll.specs.declared.event.GroupNumber.TheVariants.{First, Second}
 use Rattle.cak_roll.specs.declared.event.TwinEvent.{TwinEvent}
 use Rattle.cak_roll.specs.declared.event.TwinEvent.TheVariants as twins
-use Rattle.cak_roll.specs.Twin.{Pair, of_group, same_group, setting_of, TwinHappening, Twin, part_of, run_of}
+use Rattle.cak_roll.specs.Twin.{Pair, of_group, same_group, setting_of, Twin, part_of, run_of}
 use Rattle.cak_roll.specs.Twin.{AreSteps, events_of, events_in, start_of, sent_as, only}
-use Rattle.cak_roll.specs.Twin.{IsPart, IsTwinStep, IsTwinRun, place_in, next_in, claimed_in}
+use Rattle.cak_roll.specs.Twin.{IsTwinRun, place_in, next_in, claimed_in}
 use Rattle.cak_roll.specs.Twin.{takes_part, carrier}
 
 -- ---- stepped

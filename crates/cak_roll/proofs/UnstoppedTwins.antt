@@ -1,14 +1,13 @@
 -- An unstopped twin event is a step of a twin run, and what both groups drew stays fresh.
-use Rattle.std.proofs.Common.{◌≡◌, ◌+◌, ◌++◌, ℕ, Bool, true, false, List, [], ◌∷◌, cond}
+use Rattle.std.proofs.Common.{◌≡◌, ◌++◌, Bool, true, false, List, [], ◌∷◌, cond}
 use Rattle.std.proofs.Common.{Option, Some, None, refl, sym, ap, ◌∙◌, subst}
 use Rattle.std.specs.Prelude.{option_map, option_and_then}
 use Rattle.std.specs.Option.{option_or}
 use Rattle.lan_base.specs.declared.frame.UserFrame.{UserFrame}
-use Rattle.lan_core.specs.declared.event.Event.{Event}
 use Rattle.lan_core.specs.declared.settings.Settings.{Settings}
 use Rattle.lan_core.specs.declared.stop.Stop.{Stop}
 use Rattle.lan_core.specs.declared.stop.Stop.TheVariants.{DrawsSpent}
-use Rattle.lan_core.specs.Run.{Run, Happening}
+use Rattle.lan_core.specs.Run.{Run}
 use Rattle.lan_core.specs.Fresh.{IsFresh}
 use Rattle.lan_core.specs.Stops.{is_spent}
 use Rattle.lan_core.specs.Suited.{AreDrawnWell}
@@ -16,13 +15,13 @@ use Rattle.lan_core.proofs.Public.{mapped, chained, step-well}
 use Rattle.cak_roll.specs.declared.event.GroupNumber.{GroupNumber}
 use Rattle.cak_roll.specs.declared.event.GroupNumber.TheVariants.{First, Second}
 use Rattle.cak_roll.specs.declared.event.TwinEvent.{TwinEvent}
-use Rattle.cak_roll.specs.Twin.{Pair, Twin, TwinHappening, setting_of, run_of, merged, part_of}
+use Rattle.cak_roll.specs.Twin.{Pair, Twin, TwinHappening, run_of, merged}
 use Rattle.cak_roll.specs.Twin.{events_in, AreSteps, MayComeTwin, IsPart, IsTwinStep, IsTwinRun}
-use Rattle.cak_roll.specs.Stepping.{Supply, behind, performed, draws_for, first_draws, second_draws}
+use Rattle.cak_roll.specs.Stepping.{Supply, behind, first_draws, second_draws}
 use Rattle.cak_roll.specs.Stepping.{twin_draws, first_part, second_part, in_groups, part_stop}
 use Rattle.cak_roll.specs.Stepping.{first_stop_of, second_stop_of, twin_stop}
 use Rattle.cak_roll.specs.Unstopped.{IsUnstoppedTwin}
-use Rattle.cak_roll.proofs.Among.{IsAmong, among-merged, among-mores}
+use Rattle.cak_roll.proofs.Among.{among-merged, among-mores}
 use Rattle.cak_roll.proofs.Supplies.{behind-draws, enough-first, enough-second}
 use Rattle.cak_roll.proofs.PartSteps.{well-moved}
 use Rattle.cak_roll.proofs.PartsOn.{PartOn, part-on}

@@ -2,7 +2,7 @@
 -- is in each group (that stations go from one group to another so is this profile's own rule).
 use Rattle.std.specs.Prelude.{◌≡◌, ◌<◌, ◌⊎◌, ℕ, ◌==◌, ◌&&◌, Bool, true, false, not, nat_lt}
 use Rattle.std.specs.Prelude.{if◌then◌else◌, List, [], ◌∷◌, ◌++◌, map, length, slice_get}
-use Rattle.std.specs.Prelude.{Option, is_some, option_map, option_to_list}
+use Rattle.std.specs.Prelude.{is_some, option_map, option_to_list}
 use Rattle.std.specs.List.{list_any, position_or_len}
 use Rattle.lan_base.specs.declared.frame.UserFrame.{UserFrame}
 use Rattle.lan_core.specs.declared.event.Event.{Event}

@@ -1,5 +1,5 @@
 -- An unstopped twin event: it may come, nothing stops it, and it shows what it has to.
-use Rattle.std.specs.Prelude.{◌≡◌, ◌<◌, ◌^◌, ℕ, List, Some, None}
+use Rattle.std.specs.Prelude.{◌≡◌, ◌<◌, ◌^◌, List, Some, None}
 use Rattle.lan_base.specs.declared.frame.UserFrame.{UserFrame}
 use Rattle.lan_base.specs.Name.{IsName}
 use Rattle.gcm_frames.specs.Protected.{IsSci}

@@ -17,6 +17,10 @@ pub use Rattle.group_safety.proofs.example.Each.{frames_none, frames_none-framed
 -- Announcements that a station of the group may say: their frames are read as such by the others.
 pub use Rattle.group_safety.proofs.example.Scene.{IsSayable, sayable-unprotected, sayable-judged}
 pub use Rattle.group_safety.proofs.example.Each.{sayable-right, last-frame_says}
+-- A run of the examples: alice starts, and then bob.
+pub use Rattle.group_safety.proofs.Examples.{bob_starts}
+pub use Rattle.group_safety.proofs.example.Run.{mi, alice, bob, users}
+pub use Rattle.group_safety.proofs.example.Scene.{settings}
 -- Wrapped SAKs, under the key encrypting key of the group.
 pub use Rattle.group_safety.proofs.once.Living.{group_kek}
 pub use Rattle.group_safety.proofs.example.Good.{length-wrapped_sak}
@@ -28,7 +32,3 @@ pub use Rattle.group_safety.proofs.example.Scene.{IsSilent, silent-next, seen-si
 pub use Rattle.group_safety.proofs.moves.Moving.{follow-append}
 -- The next number of an account is that of the run.
 pub use Rattle.group_safety.proofs.moves.Accounting.{next-told}
--- A run of the examples: alice starts, and then bob.
-pub use Rattle.group_safety.proofs.Examples.{bob_starts}
-pub use Rattle.group_safety.proofs.example.Run.{mi, alice, bob, users}
-pub use Rattle.group_safety.proofs.example.Scene.{settings}
