@@ -1,6 +1,8 @@
 pub mod Members
 pub mod once
 pub mod rollover
+pub mod typed
+pub mod moves
 pub mod example
 mod Examples
 mod SteadyExample

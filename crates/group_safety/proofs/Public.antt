@@ -1,7 +1,10 @@
 -- What other crates may cite of the proofs.
 
 -- What stands in a list, by recursion over it; cases of a sum, and what an option has.
-pub use Rattle.group_safety.proofs.Members.{In, contains-in, in-contains, in-left, all-in, by_sum}
+pub use Rattle.group_safety.proofs.Members.{In, contains-in, in-contains, in-left, in-right, in-map, all-in, by_sum}
+pub use Rattle.group_safety.proofs.Members.{in-from_map}
+pub use Rattle.group_safety.proofs.once.Places.{differs-in, same-place}
+pub use Rattle.group_safety.proofs.once.LiveHeard.{in-find}
 pub use Rattle.group_safety.proofs.once.Currents.{none-some, some-same}
 -- A run up to a moment: it is whole at its end, and one event more changes nothing before.
 pub use Rattle.group_safety.proofs.rollover.AtMoments.{upto-whole, upto-earlier}
@@ -36,3 +39,7 @@ pub use Rattle.group_safety.proofs.rollover.Turns.{tick-keys, hear-keys, tick-is
 -- What the keys of a life that keeps the rules have.
 pub use Rattle.group_safety.proofs.rollover.KeyFacts.{received-installed, transmitting-last, transmits-later}
 pub use Rattle.group_safety.proofs.rollover.Leads.{one-epoch}
+-- Facts that come one after the other move what transmits one after the other.
+pub use Rattle.group_safety.proofs.moves.Moving.{follow-append}
+-- The next number of an account is that of the run.
+pub use Rattle.group_safety.proofs.moves.Accounting.{next-told}

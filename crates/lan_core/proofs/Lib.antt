@@ -38,5 +38,7 @@ pub mod SeatGoesOn
 pub mod RestartGoesOn
 pub mod StartGoesOn
 pub mod NamePlaced
+pub mod EpochsCount
+pub mod EachPlaced
 pub mod EmptyGroup
 pub mod Public

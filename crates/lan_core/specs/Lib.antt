@@ -9,6 +9,9 @@ pub mod Expected
 pub mod Types
 pub mod Order
 pub mod Legal
+pub mod Counted
+pub mod Places
+pub mod TypedFacts
 pub mod Fresh
 pub mod Keys
 pub mod Stops

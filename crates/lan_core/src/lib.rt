@@ -8,6 +8,7 @@ mod claimed;
 mod drawn;
 mod event;
 mod fact;
+mod fact_laws;
 mod following;
 mod judging;
 mod lan;
@@ -26,6 +27,9 @@ mod waiting;
 
 pub use event::Event;
 pub use fact::{Fact, Facts, Lack};
+pub use fact_laws::{
+    law_epochs_count, law_facts_have_their_stations, law_stations_have_their_names,
+};
 pub use lan::Lan;
 pub use laws::{
     law_a_claimed_number_is_passed, law_a_shown_number_is_kept, law_a_step_keeps_a_run_legal,

@@ -10,4 +10,6 @@ mod Cutting
 mod Branches
 mod Numbers
 mod ReadBack
+mod NamesGrow
+mod RunFacts
 mod Examples

@@ -1,4 +1,5 @@
 pub mod Words
 pub mod Rendering
 pub mod Cut
+pub mod Events
 pub mod inside
