@@ -43,3 +43,11 @@ pub use Rattle.group_safety.proofs.rollover.Leads.{one-epoch}
 pub use Rattle.group_safety.proofs.moves.Moving.{follow-append}
 -- The next number of an account is that of the run.
 pub use Rattle.group_safety.proofs.moves.Accounting.{next-told}
+-- A run of two stations: what holds of it once the first one transmits, and after the next event,
+-- in which the other one begins the same key. And what no next number is above.
+pub use Rattle.group_safety.proofs.example.Scene.{Scene, settings, most_next, next-most}
+pub use Rattle.group_safety.proofs.example.Run.{users, first_key, r11}
+pub use Rattle.group_safety.proofs.example.Rolling.{r12}
+pub use Rattle.group_safety.proofs.example.Rolled.{l12}
+pub use Rattle.group_safety.proofs.example.Steps.{both, a-user, l11}
+pub use Rattle.group_safety.proofs.SteadyExample.{v11, v12}

@@ -1,8 +1,8 @@
 -- What the places know of a merged list is what the run with that list behind it says.
-use Rattle.std.proofs.Common.{◌≡◌, ◌≢◌, ◌⊎◌, ◌<◌, ◌≤◌, ◌+◌, ℕ, zero, suc, max, Bool, true, false, not, cond, ◌&&◌, eqb}
-use Rattle.std.proofs.Common.{List, [], ◌∷◌, ◌++◌, length, refl, sym, ap, ◌∙◌, subst, arith, inl, inr, append-nil}
+use Rattle.std.proofs.Common.{◌≡◌, ◌≤◌, ℕ, max, Bool, true, false, cond, ◌&&◌, eqb}
+use Rattle.std.proofs.Common.{List, [], ◌∷◌, refl, sym, ap, ◌∙◌, subst, arith, inl, inr}
 use Rattle.std.proofs.Common.{Option, Some, None}
-use Rattle.std.proofs.lemmas.Bool.{eqb-true, eqb-false, eq-eqb, ne_eqb, cond-true, cond-false, cases_eq, cases_Bool}
+use Rattle.std.proofs.lemmas.Bool.{eqb-true, eq-eqb, ne_eqb, cond-true, cond-false, cases_Bool}
 use Rattle.lan_base.specs.declared.frame.UserFrame.{UserFrame}
 use Rattle.sak_exchange.specs.declared.held_key.Key.{Key}
 use Rattle.lan_core.specs.declared.event.Event.{Event}
@@ -10,22 +10,16 @@ use Rattle.lan_core.specs.declared.event.Event.TheVariants as events
 use Rattle.lan_core.specs.declared.fact.Fact.{Fact}
 use Rattle.lan_core.specs.declared.fact.Fact.TheVariants as facts
 use Rattle.lan_core.specs.declared.settings.Settings.{Settings}
-use Rattle.lan_core.specs.Run.{Run, Happening, happened, started, stations}
-use Rattle.lan_core.specs.Lives.{life, transmitting_at}
+use Rattle.lan_core.specs.Run.{Run, Happening, started}
+use Rattle.lan_core.specs.Lives.{transmitting_at}
 use Rattle.lan_core.specs.Claims.{next, shown_by, after_claim, is_epoch}
-use Rattle.lan_core.specs.Expected.{expected, drawn_in, claim_fact, number_fact, lack}
-use Rattle.lan_core.specs.Order.{Exists, IsWithin, IsShown, IsAllowed, is_event_of, settled}
-use Rattle.lan_core.specs.Legal.{IsStep, IsStepped}
-use Rattle.lan_core.proofs.Public.{others-change-none}
-use Rattle.lan_core.proofs.Public.{never-falls}
-use Rattle.race_merge.specs.Places.{Move, Attempt}
-use Rattle.race_merge.specs.Marks.{Mark, Control, Claim}
-use Rattle.race_merge.specs.Merged.{Before}
-use Rattle.race_merge.specs.inside.Ordered.{InOrder, now as now_in, next as next_in, settled as settled_in}
-use Rattle.race_merge.specs.Raced.{epoch_of, epoch_at, shown_of, IsMove, ShowsCore, before_of, claim_after, user_of}
+use Rattle.lan_core.specs.Expected.{claim_fact, number_fact, lack}
+use Rattle.lan_core.specs.Order.{IsShown, IsAllowed, is_event_of}
+use Rattle.race_merge.specs.Places.{Move}
+use Rattle.race_merge.specs.Raced.{epoch_of, epoch_at, shown_of, IsMove}
 use Rattle.lan_core.proofs.Public.{AreOther, IsClaim, is-claim}
 use Rattle.lan_core.specs.Parts.{AreAlike}
-use Rattle.lan_core.proofs.Public.{TellsClaim, alike-claim, alike-event, transmits-same, expected-same, within-same}
+use Rattle.lan_core.proofs.Public.{TellsClaim, transmits-same}
 
 -- ---- one event of a station
 

@@ -1,25 +1,24 @@
 -- What a turn of a life tells the current word, by the keys that transmit before and after it.
-use Rattle.std.proofs.Common.{◌≡◌, ◌⊎◌, ◌<◌, ◌≤◌, ◌+◌, ℕ, Bool, true, false, not, cond, ◌&&◌, ◌||◌, List, [], ◌∷◌, ◌++◌, map, refl, sym, ap, ◌∙◌, subst, arith, inl, inr, append_assoc, append-nil}
+use Rattle.std.proofs.Common.{◌≡◌, ◌<◌, ℕ, Bool, true, false, cond, List, [], ◌∷◌, ◌++◌, map, refl, sym, ap, ◌∙◌, subst, arith, inl, inr, append_assoc, append-nil}
 use Rattle.lan_base.specs.declared.association_number.AssociationNumber.{AssociationNumber}
 use Rattle.std.proofs.Common.{Option, Some, None, filter, is_some}
-use Rattle.std.specs.Prelude.{◌==◌, option_map, option_to_list}
-use Rattle.std.proofs.lemmas.Bool.{eqb-true, eqb-false, eq-eqb, ne_eqb, cases_Bool, cases_lt}
+use Rattle.std.specs.Prelude.{option_map, option_to_list}
+use Rattle.std.proofs.lemmas.Bool.{eq-eqb, cases_Bool, cases_lt}
 use Rattle.lan_base.specs.declared.address.Mi.{Mi}
 use Rattle.lan_base.specs.AssociationNumbers.{same_an}
 use Rattle.sak_exchange.specs.declared.change.Change.{Change}
-use Rattle.sak_exchange.specs.declared.change.Change.TheVariants.{Dropped, Retired, Began, Installed, Untaken}
-use Rattle.sak_exchange.specs.declared.held_key.HeldKey.{HeldKey}
+use Rattle.sak_exchange.specs.declared.change.Change.TheVariants.{Dropped, Retired, Installed}
 use Rattle.sak_exchange.specs.declared.held_key.Key.{Key}
-use Rattle.sak_exchange.specs.Histories.{Keying, ticked, installed, began, install_count, begun_at, has_begun}
+use Rattle.sak_exchange.specs.Histories.{Keying, ticked, installed, began, begun_at, has_begun}
 use Rattle.sak_exchange.specs.Held.{Kept, ends as ended_by, received, latest, old, transmitting, held, shown as seen_as}
 use Rattle.sak_exchange.specs.Beginning.{Beginning, retired}
-use Rattle.sak_exchange.specs.Outcomes.{dropping, retiring, beginning, installing}
+use Rattle.sak_exchange.specs.Outcomes.{retiring, beginning, installing}
 use Rattle.sak_exchange.specs.Lives.{Has, apart}
 use Rattle.sak_exchange.proofs.Public.{by_test, by_option}
 use Rattle.sak_exchange.proofs.Public.{begun-upto, latest-epoch, may-begin}
 use Rattle.sak_exchange.proofs.Public.{other-an, same-an-equal, shape}
 use Rattle.sak_exchange.proofs.Public as shapes
-use Rattle.sak_exchange.proofs.Public.{current, transmitting-is, current-begun, current-unbegun, current-none, keys-ticked, keys-dropped, keys-began, keys-installed}
+use Rattle.sak_exchange.proofs.Public.{transmitting-is, current-begun, current-unbegun, current-none, keys-ticked, keys-dropped, keys-began, keys-installed}
 use Rattle.group_safety.proofs.Public.{with_key, with_began}
 use Rattle.group_safety.proofs.Public.{transmitting-last}
 use Rattle.association_slots.specs.declared.view.Current.{Current}

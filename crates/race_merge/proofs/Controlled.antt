@@ -1,5 +1,5 @@
 -- What control did by itself is in order by the places, and all that a race asks of it follows.
-use Rattle.std.proofs.Common.{◌≡◌, ◌<◌, ◌≤◌, ℕ, zero, suc, max, Bool, true, false, cond, eqb, List, [], ◌∷◌, ◌++◌, map, refl, sym, ap, ◌∙◌, subst, arith}
+use Rattle.std.proofs.Common.{◌<◌, ◌≤◌, ℕ, suc, Bool, true, false, cond, eqb, List, [], ◌∷◌, ◌++◌, map, arith}
 use Rattle.lan_base.specs.declared.association_number.AssociationNumber.{AssociationNumber}
 use Rattle.std.specs.List.{AllByRecursion}
 use Rattle.std.proofs.lemmas.Bool.{cases_eq}
@@ -7,14 +7,12 @@ use Rattle.std.proofs.Common.{inl, inr}
 use Rattle.lan_base.specs.declared.frame.UserFrame.{UserFrame}
 use Rattle.lan_core.specs.declared.settings.Settings.{Settings}
 use Rattle.lan_core.specs.Run.{Run}
-use Rattle.lan_core.specs.Claims.{next}
-use Rattle.lan_core.specs.Order.{settled}
 use Rattle.lan_core.specs.Legal.{IsLegal}
 use Rattle.lan_core.proofs.Public.{stays-excused}
 use Rattle.std.specs.List.Sorted.{IsNonDecreasingBy}
 use Rattle.race_merge.specs.Places.{Move, Attempt, place}
 use Rattle.race_merge.specs.Marks.{Mark, Control, Claim}
-use Rattle.race_merge.specs.Merged.{Before, IsFit, Differ, AllPairs, InLog, numbered, merged, sooner, entries_of}
+use Rattle.race_merge.specs.Merged.{Before, IsFit, AllPairs, InLog, numbered, merged, sooner, entries_of}
 use Rattle.race_merge.specs.inside.Ordered.{AreInOrder, IsControl, next as next_in, settled as settled_in}
 use Rattle.race_merge.specs.Raced.{AreMoves, before_of, IsAttempt, IsRaced, woven}
 use Rattle.race_merge.proofs.Stable.{each-in_order}

@@ -1,7 +1,7 @@
 -- What an event of a station tells its current word, by its facts.
-use Rattle.std.proofs.Common.{◌≡◌, ◌<◌, ℕ, Bool, true, false, cond, List, [], ◌∷◌, ◌++◌, map, length, refl, sym, ap, ◌∙◌, subst, arith, inl, inr}
+use Rattle.std.proofs.Common.{◌≡◌, ℕ, true, false, List, [], ◌∷◌, ◌++◌, map, length, refl, sym, ap, ◌∙◌, subst, inl, inr}
 use Rattle.lan_base.specs.declared.association_number.AssociationNumber.{AssociationNumber}
-use Rattle.std.proofs.Common.{Option, Some, None, Result, Ok, Err, is_some}
+use Rattle.std.proofs.Common.{Option, Some, None, Result, Ok, Err}
 use Rattle.std.specs.Prelude.{◌==◌, option_map, option_and_then, option_to_list, slice_get}
 use Rattle.std.proofs.lemmas.Bool.{eqb-true, eq-eqb, cases_Bool}
 use Rattle.lan_base.specs.declared.address.Mi.{Mi}
@@ -11,7 +11,6 @@ use Rattle.rx_slots.specs.Numbers.{answer}
 use Rattle.mkpdu_codec.specs.declared.announcement.Announcement.{Announcement}
 use Rattle.sak_exchange.specs.declared.change.Change.{Change}
 use Rattle.sak_exchange.specs.declared.change.Change.TheVariants as changes
-use Rattle.sak_exchange.specs.declared.held_key.Key.{Key}
 use Rattle.sak_exchange.specs.Held.{Kept, transmitting}
 use Rattle.mka_station.specs.declared.reaction.Reaction.{Reaction}
 use Rattle.mka_station.specs.declared.verdict.DropReason.{DropReason}
@@ -34,7 +33,6 @@ use Rattle.lan_core.specs.Legal.{IsStep, IsStepped}
 use Rattle.group_safety.proofs.Public.{kind, IsReached}
 use Rattle.group_safety.proofs.Public as kinds
 use Rattle.group_safety.proofs.Public.{life-ticked}
-use Rattle.association_slots.specs.declared.view.Current.{Current}
 use Rattle.race_merge.specs.Table.{an_of, calls, words_of, IsTold}
 use Rattle.race_merge.specs.Table as told
 use Rattle.race_merge.proofs.FromRun.{kept-run, in-life, none-in}

@@ -1,16 +1,14 @@
 -- What a run itself says of its steps: how the key that transmits moves, and that its epoch is above
 -- 0. So control needs to be told nothing of that.
-use Rattle.std.proofs.Common.{◌≡◌, ◌⊎◌, ◌<◌, ◌≤◌, ◌+◌, ℕ, Bool, true, false, List, [], ◌∷◌, length, refl, sym, ap, ◌∙◌, subst, arith, inl, inr}
-use Rattle.std.proofs.Common.{Option, Some, None, is_some}
+use Rattle.std.proofs.Common.{◌≡◌, ◌⊎◌, ◌<◌, ◌≤◌, ℕ, true, List, [], ◌∷◌, length, refl, sym, ap, ◌∙◌, subst, arith, inl, inr}
+use Rattle.std.proofs.Common.{Option, Some, None}
 use Rattle.std.specs.Prelude.{◌==◌, option_and_then, option_map, slice_get}
-use Rattle.std.proofs.lemmas.Bool.{cases_lt, cases_eq}
 use Rattle.lan_base.specs.declared.frame.UserFrame.{UserFrame}
 use Rattle.sak_exchange.specs.declared.held_key.Key.{Key}
-use Rattle.sak_exchange.specs.Histories.{Keying, install_count, has_begun, installs}
+use Rattle.sak_exchange.specs.Histories.{has_begun}
 use Rattle.sak_exchange.specs.Held.{Kept, transmitting}
 use Rattle.sak_exchange.proofs.Public.{begun-upto}
 use Rattle.mka_station.specs.Lives.{keys_of}
-use Rattle.mka_station.specs.Tick.{tick_turn}
 use Rattle.mka_station.specs.Hearing.{hear_turn}
 use Rattle.lan_core.specs.declared.settings.Settings.{Settings}
 use Rattle.lan_core.specs.Run.{Run, Happening, Profile, stations}
@@ -19,9 +17,9 @@ use Rattle.lan_core.specs.Lives.{Life, life, lived, begun, keys_in, seen_at, sak
 use Rattle.lan_base.specs.declared.address.Mi.{Mi}
 use Rattle.lan_core.specs.declared.event.Event.TheVariants as events
 use Rattle.lan_core.specs.Order.{Exists, is_event_of}
-use Rattle.lan_core.proofs.Public.{in-a-life}
+use Rattle.lan_core.proofs.Public.{in-a-life, lives-count}
 use Rattle.std.proofs.lemmas.Bool.{eq-eqb}
-use Rattle.race_merge.specs.Given.{AreUnder, AreCounted, IsPast, IsGiven, AreGiven}
+use Rattle.race_merge.specs.Given.{IsPast}
 use Rattle.lan_core.specs.Legal.{IsStep, IsStepped}
 use Rattle.group_safety.proofs.Public.{part}
 use Rattle.group_safety.proofs.Public as parts
@@ -149,9 +147,9 @@ unfolding transmitting
 none-in l none = rw (keys-new l none) refl
 
 pub goes : (settings : Settings) (users : List UserFrame) (s p : ℕ) (c : Run) (x : Happening) → IsStepped settings users c
-    → IsStep settings users x c → is_event_of s x.event ≡ true → Exists s c → AreCounted settings c → IsPast settings s c p
+    → IsStep settings users x c → is_event_of s x.event ≡ true → Exists s c → IsPast settings s c p
     → Goes settings s p c x
-goes settings users s p c x stepped step own there counted past = elim (part settings users s x c step) [
+goes settings users s p c x stepped step own there past = elim (part settings users s x c step) [
   | parts.same same none ↦ keeps (rw same refl) (λ l is. past l (sym same ∙ is))
   | parts.ticks next m ev living same ↦ turns settings s p c x m _ living same refl
       (tick-is_turn m.member (seen_at settings s c m next) (sak_in x.facts) m.past) (kept-run settings users c stepped s m living) past
@@ -169,7 +167,7 @@ goes settings users s p c x stepped step own there counted past = elim (part set
         before : (o : Option Life) → life settings s c ≡ o → n.member.base ≡ length (installs_at s c) → p ≤ n.member.base
         before None living base = absurd (let some = in-a-life settings users s c stepped there in let no = rw living at some in cc no)
         before (Some m) living base =
-            let count = counted s m living in
+            let count = lives-count settings users c stepped s m living in
             elim (past m living) [
               | inl old ↦ omega (arith, old, count, base)
               | inr begun ↦ (let up = begun-upto m.member.base (keys_in m) p (kept-run settings users c stepped s m living) begun in omega (arith, up, count, base))

@@ -1,8 +1,8 @@
 -- What control gives of a race is all that a race asks of control.
-use Rattle.std.proofs.Common.{◌≡◌, ◌≢◌, ◌⊎◌, ◌<◌, ◌≤◌, ℕ, Bool, true, false, List, [], ◌∷◌, length, refl, sym, ap, ◌∙◌, subst, arith, inl, inr, append-nil}
+use Rattle.std.proofs.Common.{◌≡◌, ◌<◌, ◌≤◌, ℕ, true, false, List, [], ◌∷◌, length, refl, sym, ap, ◌∙◌, subst, arith, inl, inr, append-nil}
 use Rattle.lan_base.specs.declared.association_number.AssociationNumber.{AssociationNumber}
 use Rattle.std.proofs.Common.{Option, Some, None}
-use Rattle.std.proofs.lemmas.Bool.{cases_lt, cases_eq, cases_Bool, eqb-true, eqb-false, eq-eqb, ne_eqb}
+use Rattle.std.proofs.lemmas.Bool.{cases_lt, cases_eq, cases_Bool, eqb-true, ne_eqb}
 use Rattle.lan_base.specs.declared.frame.UserFrame.{UserFrame}
 use Rattle.sak_exchange.specs.declared.held_key.Key.{Key}
 use Rattle.lan_core.specs.declared.settings.Settings.{Settings}
@@ -11,14 +11,13 @@ use Rattle.lan_core.specs.Lives.{life, transmitting_at}
 use Rattle.lan_core.specs.declared.event.Event.{Event}
 use Rattle.lan_core.specs.declared.event.Event.TheVariants as events
 use Rattle.lan_core.specs.Order.{Exists, IsAllowed, is_event_of}
-use Rattle.lan_core.specs.Legal.{IsStep, IsStepped}
+use Rattle.lan_core.specs.Legal.{IsStepped}
 use Rattle.lan_core.proofs.Public.{others-change-none}
 use Rattle.race_merge.specs.Places.{Move, Follows, Moves, last_of}
-use Rattle.race_merge.specs.Raced.{epoch_of, epoch_at, IsMove, AreMoves, ShowsCore}
-use Rattle.race_merge.specs.Given.{AreUnder, AreCounted, IsPast, IsGiven, AreGiven}
+use Rattle.race_merge.specs.Raced.{epoch_of, epoch_at, AreMoves}
+use Rattle.race_merge.specs.Given.{IsPast, IsGiven, AreGiven}
 use Rattle.race_merge.proofs.PlaceLemmas.{last_of-cases}
 use Rattle.race_merge.proofs.Agree.{own-of, starts-none}
-use Rattle.race_merge.proofs.Stepped.{key-of}
 use Rattle.race_merge.proofs.FromRun.{Goes, goes, positive}
 use Rattle.race_merge.proofs.FromRun as from
 
@@ -47,10 +46,10 @@ module _ (settings : Settings) (users : List UserFrame) (ans : ℕ → ℕ → A
 
   -- ---- each step
 
-  one-same : (c : Run) (m : Move) → IsStepped settings users c → AreCounted settings c → IsGiven settings users c m
+  one-same : (c : Run) (m : Move) → IsStepped settings users c → IsGiven settings users c m
       → m.after ≡ m.before → transmitting_at settings m.station (m.x ∷ c) ≡ transmitting_at settings m.station c
-  one-same c m stepped counted given same =
-      elim (goes settings users m.station 0 c m.x stepped given.step given.own (own-there c m given) counted (λ l is. inl (omega arith))) [
+  one-same c m stepped given same =
+      elim (goes settings users m.station 0 c m.x stepped given.step given.own (own-there c m given) (λ l is. inl (omega arith))) [
         | from.keeps stay past ↦ stay
         | from.ends none past ↦ none ∙ sym (was-none (transmitting_at settings m.station c) refl none)
         | from.begins b sends low later past ↦ absurd (begun b sends low later (transmitting_at settings m.station c) refl)
@@ -73,21 +72,21 @@ module _ (settings : Settings) (users : List UserFrame) (ans : ℕ → ℕ → A
           let x = given.after ∙ ap epoch_of sends in let y = given.before ∙ ap epoch_of is in
           let less = later k is in omega (arith, less, x, y, same)
 
-  pub moves-given : (c : Run) (ms : List Move) → IsStepped settings users c → AreCounted settings c
+  pub moves-given : (c : Run) (ms : List Move) → IsStepped settings users c
       → AreGiven settings users ans c ms → AreMoves settings users ans c ms
-  moves-given c [] stepped counted given = tt
-  moves-given c (m ∷ ms) stepped counted given = (
+  moves-given c [] stepped given = tt
+  moves-given c (m ∷ ms) stepped given = (
     record {
       step = given.0.step;
       own = given.0.own;
       shown = given.0.shown;
       before = given.0.before;
       after = given.0.after;
-      same = one-same c m stepped counted given.0;
+      same = one-same c m stepped given.0;
       gap = λ gap. (given.0.gap gap).3;
     },
     λ s k is. (positive settings users s (m.x ∷ c) k (given.0.step, stepped) is, given.1 s k is),
-    moves-given (m.x ∷ c) ms (given.0.step, stepped) given.2 given.3,
+    moves-given (m.x ∷ c) ms (given.0.step, stepped) given.2,
   )
 
   -- ---- the steps of one station
@@ -103,10 +102,10 @@ module _ (settings : Settings) (users : List UserFrame) (ans : ℕ → ℕ → A
     past : IsPast settings m.station (m.x ∷ c) (last_of p m)
     low : m.after ≤ last_of p m
 
-  next-of : (c : Run) (m : Move) (p : ℕ) → IsStepped settings users c → AreCounted settings c → IsGiven settings users c m
+  next-of : (c : Run) (m : Move) (p : ℕ) → IsStepped settings users c → IsGiven settings users c m
       → IsPast settings m.station c p → epoch_at settings m.station c ≤ p → Next c m p
-  next-of c m p stepped counted given past low =
-      elim (goes settings users m.station p c m.x stepped given.step given.own (own-there c m given) counted past) [
+  next-of c m p stepped given past low =
+      elim (goes settings users m.station p c m.x stepped given.step given.own (own-there c m given) past) [
         | from.keeps stay then ↦ (let same : m.after ≡ m.before = given.after ∙ (ap epoch_of stay ∙ sym given.before) in
             let last = last-low p m (let b = given.before in omega (arith, same, b, low)) in
             record {
@@ -137,14 +136,14 @@ module _ (settings : Settings) (users : List UserFrame) (ans : ℕ → ℕ → A
   past-same : (s p : ℕ) (c : Run) (x : Happening) → life settings s (x ∷ c) ≡ life settings s c → IsPast settings s c p → IsPast settings s (x ∷ c) p
   past-same s p c x same past l is = past l (sym same ∙ is)
 
-  pub follows-given : (s p : ℕ) (c : Run) (ms : List Move) → IsStepped settings users c → AreCounted settings c
+  pub follows-given : (s p : ℕ) (c : Run) (ms : List Move) → IsStepped settings users c
       → AreGiven settings users ans c ms → Exists s c → IsPast settings s c p → epoch_at settings s c ≤ p
       → Follows s (epoch_at settings s c) p ms
-  follows-given s p c [] stepped counted given there past low = tt
-  follows-given s p c (m ∷ ms) stepped counted given there past low = elim (cases_eq m.station s) [
+  follows-given s p c [] stepped given there past low = tt
+  follows-given s p c (m ∷ ms) stepped given there past low = elim (cases_eq m.station s) [
     | inl own ↦ (let at = subst (λ v. IsPast settings v c p) (sym own) past in
         let low' = subst (λ v. epoch_at settings v c ≤ p) (sym own) low in
-        let next = next-of c m p stepped counted given.0 at low' in
+        let next = next-of c m p stepped given.0 at low' in
         let here : m.before ≡ epoch_at settings s c = given.0.before ∙ ap (λ v. epoch_at settings v c) own in
         let then : m.after ≡ epoch_at settings s (m.x ∷ c) = given.0.after ∙ ap (λ v. epoch_at settings v (m.x ∷ c)) own in
         inl (
@@ -152,7 +151,7 @@ module _ (settings : Settings) (users : List UserFrame) (ans : ℕ → ℕ → A
           here,
           subst (λ t. Moves t p m) here next.moves,
           subst (λ t. Follows s t (last_of p m) ms) (sym then)
-              (follows-given s (last_of p m) (m.x ∷ c) ms (given.0.step, stepped) given.2 given.3
+              (follows-given s (last_of p m) (m.x ∷ c) ms (given.0.step, stepped) given.2
               (subst (λ ps. s < length ps) (sym (same-places c m given.0)) there)
               (subst (λ v. IsPast settings v (m.x ∷ c) (last_of p m)) own next.past)
               (subst (λ t. t ≤ last_of p m) then next.low)),
@@ -162,7 +161,7 @@ module _ (settings : Settings) (users : List UserFrame) (ans : ℕ → ℕ → A
         inr (
           other,
           subst (λ t. Follows s t p ms) epoch
-              (follows-given s p (m.x ∷ c) ms (given.0.step, stepped) given.2 given.3
+              (follows-given s p (m.x ∷ c) ms (given.0.step, stepped) given.2
               (subst (λ ps. s < length ps) (sym (same-places c m given.0)) there)
               (past-same s p c m.x same past) (subst (λ t. t ≤ p) (sym epoch) low)),
         ))
@@ -173,14 +172,14 @@ module _ (settings : Settings) (users : List UserFrame) (ans : ℕ → ℕ → A
   follows-none s t p c [] given none = tt
   follows-none s t p c (m ∷ ms) given none = inr (
     λ own. none (subst (λ v. Exists v c) own (own-there c m given.0)),
-    follows-none s t p (m.x ∷ c) ms given.3 (λ there. none (subst (λ ps. s < length ps) (same-places c m given.0) there)),
+    follows-none s t p (m.x ∷ c) ms given.2 (λ there. none (subst (λ ps. s < length ps) (same-places c m given.0) there)),
   )
 
   -- the steps of a station, whether it is there or not
-  pub follows-all : (s p : ℕ) (c : Run) (ms : List Move) → IsStepped settings users c → AreCounted settings c
+  pub follows-all : (s p : ℕ) (c : Run) (ms : List Move) → IsStepped settings users c
       → AreGiven settings users ans c ms → IsPast settings s c p → epoch_at settings s c ≤ p
       → Follows s (epoch_at settings s c) p ms
-  follows-all s p c ms stepped counted given past low = elim (cases_lt s (length (stations c))) [
-    | inl there ↦ follows-given s p c ms stepped counted given there past low
+  follows-all s p c ms stepped given past low = elim (cases_lt s (length (stations c))) [
+    | inl there ↦ follows-given s p c ms stepped given there past low
     | inr not ↦ follows-none s (epoch_at settings s c) p c ms given (λ there. omega (arith, there, not))
   ]

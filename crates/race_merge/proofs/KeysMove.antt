@@ -1,14 +1,14 @@
 -- How the key that transmits moves in a turn of a life: it stays, it ends, or one begins whose epoch
 -- is above all that began.
-use Rattle.std.proofs.Common.{◌≡◌, ◌⊎◌, ◌<◌, ◌≤◌, ◌+◌, ℕ, suc, Bool, true, false, not, cond, List, [], ◌∷◌, refl, sym, ap, ◌∙◌, subst, arith, inl, inr}
-use Rattle.std.proofs.Common.{Option, Some, None, filter, is_some}
-use Rattle.std.specs.Prelude.{◌==◌, option_and_then}
+use Rattle.std.proofs.Common.{◌≡◌, ◌⊎◌, ◌<◌, ◌≤◌, ℕ, Bool, true, false, not, cond, List, [], ◌∷◌, refl, sym, ap, ◌∙◌, subst, arith, inl, inr}
+use Rattle.std.proofs.Common.{Option, Some, None, filter}
+use Rattle.std.specs.Prelude.{◌==◌}
 use Rattle.std.specs.List.{find}
-use Rattle.std.proofs.lemmas.Bool.{eqb-true, eqb-false, eq-eqb, ne_eqb, cases_Bool, cases_eq, cases_lt}
+use Rattle.std.proofs.lemmas.Bool.{eqb-true, eqb-false, eq-eqb, cases_Bool, cases_eq, cases_lt}
 use Rattle.lan_base.specs.declared.address.Mi.{Mi}
 use Rattle.sak_exchange.specs.declared.held_key.Key.{Key}
-use Rattle.sak_exchange.specs.Histories.{Keying, ticked, installed, began, installs, install_count, begun_at, has_begun, beginnings, last_begun}
-use Rattle.sak_exchange.specs.Held.{Kept, ends, with_new, received, has_epoch, transmitting}
+use Rattle.sak_exchange.specs.Histories.{Keying, ticked, installed, began, installs, install_count, has_begun, beginnings, last_begun}
+use Rattle.sak_exchange.specs.Held.{Kept, ends, received, has_epoch, transmitting}
 use Rattle.sak_exchange.specs.Lives.{Has}
 use Rattle.sak_exchange.specs.Beginning.{Beginning}
 use Rattle.sak_exchange.proofs.Public.{begun-upto}

@@ -1,39 +1,37 @@
 -- The law of a race: the run with the merged list behind it is legal.
-use Rattle.std.proofs.Common.{◌≡◌, ◌≢◌, ◌⊎◌, ◌<◌, ◌≤◌, ◌+◌, ℕ, zero, suc, Bool, true, false, not, cond, ◌&&◌, eqb}
+use Rattle.std.proofs.Common.{◌≡◌, ◌⊎◌, ◌<◌, ℕ, suc, Bool, true, false, cond}
 use Rattle.lan_base.specs.declared.association_number.AssociationNumber.{AssociationNumber}
-use Rattle.std.proofs.Common.{List, [], ◌∷◌, ◌++◌, length, map, refl, sym, ap, ◌∙◌, subst, arith, inl, inr}
+use Rattle.std.proofs.Common.{List, [], ◌∷◌, length, refl, sym, ap, ◌∙◌, subst, arith, inl, inr}
 use Rattle.std.proofs.Common.{Option, Some, None, filter}
 use Rattle.std.specs.List.{AllByRecursion}
 use Rattle.std.specs.Prelude.{nat_lt}
-use Rattle.std.proofs.lemmas.Bool.{eqb-true, eqb-false, eq-eqb, ne_eqb, cases_eq, cases_Bool, cond-true, cond-false}
+use Rattle.std.proofs.lemmas.Bool.{eq-eqb, ne_eqb, cond-true, cond-false}
 use Rattle.lan_base.specs.declared.frame.UserFrame.{UserFrame}
 use Rattle.sak_exchange.specs.declared.held_key.Key.{Key}
 use Rattle.lan_core.specs.declared.event.Event.{Event}
 use Rattle.lan_core.specs.declared.event.Event.TheVariants as events
-use Rattle.lan_core.specs.declared.fact.Fact.{Fact}
 use Rattle.lan_core.specs.declared.fact.Fact.TheVariants as facts
-use Rattle.lan_core.specs.declared.fact.Lack.{Lack}
 use Rattle.lan_core.specs.declared.fact.Lack.TheVariants.{NoKey, Exhausted}
 use Rattle.lan_core.specs.declared.settings.Settings.{Settings}
-use Rattle.lan_core.specs.Run.{Run, Happening, happened, stations}
-use Rattle.lan_core.specs.Lives.{life, transmitting_at}
+use Rattle.lan_core.specs.Run.{Run, stations}
+use Rattle.lan_core.specs.Lives.{transmitting_at}
 use Rattle.lan_core.specs.Claims.{next}
-use Rattle.lan_core.specs.Expected.{claim_fact, number_fact, lack, last_number}
+use Rattle.lan_core.specs.Expected.{lack, last_number}
 use Rattle.lan_core.specs.Types.{IsSetting}
-use Rattle.lan_core.specs.Order.{Exists, IsWithin, is_event_of, settled}
-use Rattle.lan_core.specs.Legal.{IsStep, IsStepped, IsLegal, Ahead, none_ahead, with_ahead, is_excuse, is_excused_by, is_replaced, IsExcusedBefore, IsExcused}
+use Rattle.lan_core.specs.Order.{Exists, IsWithin, is_event_of}
+use Rattle.lan_core.specs.Legal.{IsStepped, IsLegal, Ahead, none_ahead, with_ahead, is_excuse, is_excused_by, is_replaced, IsExcusedBefore}
 use Rattle.lan_core.proofs.Public.{others-change-none}
 use Rattle.lan_core.proofs.Public.{stays-excused}
 use Rattle.race_merge.specs.Places.{Move, Attempt}
 use Rattle.race_merge.specs.Marks.{Mark, Control, Claim}
-use Rattle.race_merge.specs.Merged.{Before, IsFit, AllPairs, Differ, InLog, numbered, merged, entries_of}
-use Rattle.race_merge.specs.inside.Ordered.{InOrder, AreInOrder, IsControl, is_control, replaced, now as now_in}
-use Rattle.race_merge.specs.Raced.{epoch_of, epoch_at, IsMove, AreMoves, ShowsCore, before_of, claim_after, user_of, IsAttempt, IsRaced, woven}
+use Rattle.race_merge.specs.Merged.{numbered}
+use Rattle.race_merge.specs.inside.Ordered.{InOrder, AreInOrder, is_control, replaced, now as now_in}
+use Rattle.race_merge.specs.Raced.{epoch_of, epoch_at, IsMove, AreMoves, ShowsCore, before_of, claim_after, IsAttempt, woven}
 use Rattle.lan_core.proofs.Public.{AreOther, is-claim, excused-other}
 use Rattle.lan_core.proofs.Public as first
 use Rattle.race_merge.proofs.Agree.{own-of, number-told, none-told}
 use Rattle.lan_core.proofs.Public.{transmits-same}
-use Rattle.race_merge.proofs.Stepped.{Agrees, agrees-nil, agrees-control, agrees-claim, control-step, claim-step, claim-key, key-of, move-there}
+use Rattle.race_merge.proofs.Stepped.{Agrees, agrees-nil, agrees-control, agrees-claim, control-step, claim-step, claim-key}
 
 -- what comes, by the marks that come
 abbrev pub ahead_of : List Mark → Ahead

@@ -23,6 +23,8 @@ pub mod EventTold
 pub mod Replaced
 pub mod MoveAt
 pub mod Performed
+pub mod FactsTell
 pub mod FramesTaken
 pub mod ProtectedPart
 pub mod LogsFit
+mod RaceExample

@@ -1,6 +1,6 @@
 -- The logs of workers fit a race, by what their seats did and what control knows once they were
 -- told.
-use Rattle.std.proofs.Common.{◌≡◌, ◌⊎◌, ◌<◌, ◌≤◌, ◌+◌, ◌^◌, ◌==◌, ◌&&◌, ℕ, suc, Bool, true, false, cond, eqb, List, [], ◌∷◌, ◌++◌, map, refl, sym, ap, ◌∙◌, subst, arith, inl, inr}
+use Rattle.std.proofs.Common.{◌≡◌, ◌<◌, ◌≤◌, ◌+◌, ◌^◌, ◌==◌, ◌&&◌, ℕ, suc, false, cond, List, [], ◌∷◌, ◌++◌, map, refl, sym, ◌∙◌, subst, arith, inl, inr}
 use Rattle.std.specs.List.{AllByRecursion}
 use Rattle.std.proofs.lemmas.Bool.{eq-eqb, eqb-true, cases_Bool, cases_eq, cases_lt}
 use Rattle.lan_base.specs.declared.association_number.AssociationNumber.{AssociationNumber}
@@ -8,29 +8,24 @@ use Rattle.lan_base.specs.declared.frame.Protected.{Protected}
 use Rattle.lan_base.specs.declared.frame.UserFrame.{UserFrame}
 use Rattle.association_slots.specs.declared.view.ControlView.{ControlView}
 use Rattle.association_slots.specs.declared.view.Current.{Current}
-use Rattle.association_slots.specs.declared.view.NextSeen.{NextSeen}
 use Rattle.association_slots.specs.declared.view.SeatView.{SeatView}
-use Rattle.association_slots.specs.declared.view.Start.{Start}
 use Rattle.association_slots.specs.Views.{In, WasAbsent, one, present_at}
-use Rattle.packet_claims.specs.declared.answers.NoClaim.{NoClaim}
 use Rattle.packet_claims.specs.declared.answers.NoClaim.TheVariants.{NoKey, Exhausted}
 use Rattle.data_workers.specs.declared.entry.Entry.{Entry}
 use Rattle.data_workers.specs.declared.entry.Entry.TheVariants.{Taken, Refused}
 use Rattle.data_workers.specs.declared.sender.Sender.{Sender}
-use Rattle.data_workers.specs.Entries.{epoch_of}
-use Rattle.data_workers.specs.Logs.{IsEntry, IsTaken, IsLog, InOrder, Precedes, Rises}
+use Rattle.data_workers.specs.Logs.{IsEntry, IsTaken, InOrder, Precedes}
 use Rattle.data_workers.specs.Told.{IsToldEntry, IsToldFrame, times_taken}
 use Rattle.lan_core.specs.declared.settings.Settings.{Settings}
 use Rattle.lan_core.specs.Run.{Run}
 use Rattle.lan_core.specs.Claims.{next, user_at}
-use Rattle.lan_core.specs.Expected.{last_number}
 use Rattle.lan_core.specs.Order.{Exists, IsSendable}
 use Rattle.race_merge.specs.Places.{Move, Attempt, Follows, Lives}
 use Rattle.race_merge.specs.Merged.{AllPairs, Differ, InLog, IsFit, entries_of}
 use Rattle.race_merge.specs.Raced.{IsAttempt, before_of, epoch_at}
 use Rattle.race_merge.specs.Steps.{attempt_of, logs_of}
 use Rattle.race_merge.specs.Words.{told_in}
-use Rattle.race_merge.specs.Worked.{AreAns, BeganAfter, IsGivenNext, NoneExhausted, times_in, times_in_all}
+use Rattle.race_merge.specs.Worked.{AreAns, BeganAfter, NoneExhausted, times_in, times_in_all}
 use Rattle.race_merge.proofs.Words.{lives, noted}
 
 -- ---- order in one log

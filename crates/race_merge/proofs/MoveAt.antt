@@ -1,5 +1,5 @@
 -- A step of control gives all that is asked of one, and told the current word what its move says.
-use Rattle.std.proofs.Common.{◌≡◌, ◌≢◌, ◌<◌, ℕ, Bool, true, false, cond, eqb, List, [], ◌∷◌, refl, sym, ap, ◌∙◌, subst, arith, inl, inr}
+use Rattle.std.proofs.Common.{◌≡◌, ◌≢◌, ◌<◌, ℕ, true, eqb, List, [], ◌∷◌, refl, sym, ap, ◌∙◌, arith}
 use Rattle.lan_base.specs.declared.association_number.AssociationNumber.{AssociationNumber}
 use Rattle.std.proofs.Common.{Option, Some, None}
 use Rattle.std.proofs.lemmas.Bool.{cond-true, cond-false, eq-eqb, ne_eqb}
@@ -10,7 +10,6 @@ use Rattle.lan_core.specs.Run.{Run, Happening}
 use Rattle.lan_core.specs.Lives.{transmitting_at}
 use Rattle.lan_core.specs.Order.{is_event_of}
 use Rattle.lan_core.specs.Legal.{IsStep, IsStepped, is_replaced}
-use Rattle.association_slots.specs.declared.view.Current.{Current}
 use Rattle.association_slots.specs.Views.{absent_after, present_at}
 use Rattle.race_merge.specs.Raced.{epoch_of, epoch_at}
 use Rattle.race_merge.specs.Given.{AreUnder, IsGiven}

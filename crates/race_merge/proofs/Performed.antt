@@ -1,15 +1,14 @@
 -- What control performed gives all that a race asks of control, and told each current word what the
 -- moves say.
-use Rattle.std.proofs.Common.{◌≡◌, ℕ, Bool, true, false, cond, eqb, List, [], ◌∷◌, ◌++◌, refl, sym, ap, ◌∙◌, subst, inl, inr}
+use Rattle.std.proofs.Common.{◌≡◌, ℕ, true, eqb, List, [], ◌∷◌, ◌++◌, refl, ap, ◌∙◌, subst, inl, inr}
 use Rattle.lan_base.specs.declared.association_number.AssociationNumber.{AssociationNumber}
-use Rattle.std.proofs.lemmas.Bool.{cases_Bool, eqb-true, eq-eqb}
+use Rattle.std.proofs.lemmas.Bool.{cases_Bool, eqb-true}
 use Rattle.lan_base.specs.declared.frame.UserFrame.{UserFrame}
 use Rattle.lan_core.specs.declared.settings.Settings.{Settings}
-use Rattle.lan_core.specs.Run.{Run, Happening}
+use Rattle.lan_core.specs.Run.{Run}
 use Rattle.lan_core.specs.Lives.{transmitting_at}
 use Rattle.lan_core.specs.Legal.{IsStepped}
-use Rattle.association_slots.specs.declared.view.Current.{Current}
-use Rattle.race_merge.specs.Places.{Move, last_of}
+use Rattle.race_merge.specs.Places.{last_of}
 use Rattle.race_merge.specs.Given.{AreGiven, ArePerformed}
 use Rattle.race_merge.specs.Words.{told_by, told_in}
 use Rattle.race_merge.specs.Table.{Controls, an_of, flipped, move_at, moves_at, with_top, words_in, words_of}
@@ -23,8 +22,7 @@ module _ (settings : Settings) (users : List UserFrame) (ans : ℕ → ℕ → A
   all-given tops r ((s, x) ∷ xs) stepped all = (
     given-at settings users s (tops s) r x stepped all.0 all.1,
     all.2,
-    all.3,
-    all-given (with_top s (last_of (tops s) (move_at settings s (tops s) r x)) tops) (x ∷ r) xs (all.0, stepped) all.4,
+    all-given (with_top s (last_of (tops s) (move_at settings s (tops s) r x)) tops) (x ∷ r) xs (all.0, stepped) all.3,
   )
 
   pub all-told : (s : ℕ) (tops : ℕ → ℕ) (r : Run) (xs : Controls) → IsStepped settings users r → ArePerformed settings users ans r xs
@@ -32,8 +30,8 @@ module _ (settings : Settings) (users : List UserFrame) (ans : ℕ → ℕ → A
   unfolding told_in
   all-told s tops r [] stepped all = refl
   all-told s tops r ((t, x) ∷ xs) stepped all = elim (cases_Bool (eqb t s)) [
-    | inl own ↦ (let same : t ≡ s = eqb-true t s own in mine same own (all-told s (with_top t (last_of (tops t) (move_at settings t (tops t) r x)) tops) (x ∷ r) xs (all.0, stepped) all.4))
-    | inr other ↦ (let rest = all-told s (with_top t (last_of (tops t) (move_at settings t (tops t) r x)) tops) (x ∷ r) xs (all.0, stepped) all.4 in
+    | inl own ↦ (let same : t ≡ s = eqb-true t s own in mine same own (all-told s (with_top t (last_of (tops t) (move_at settings t (tops t) r x)) tops) (x ∷ r) xs (all.0, stepped) all.3))
+    | inr other ↦ (let rest = all-told s (with_top t (last_of (tops t) (move_at settings t (tops t) r x)) tops) (x ∷ r) xs (all.0, stepped) all.3 in
         let top : with_top t (last_of (tops t) (move_at settings t (tops t) r x)) tops s ≡ tops s = rw other refl in
         rw other (subst (λ n. told_in (ans s) s n (moves_at settings (with_top t (last_of (tops t) (move_at settings t (tops t) r x)) tops) (x ∷ r) xs)
         ≡ words_in settings s n (x ∷ r) xs) top rest))

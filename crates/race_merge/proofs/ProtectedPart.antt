@@ -1,25 +1,22 @@
 -- The frames that a woven part takes from the logs are those of its claims, under the keys that
 -- transmitted: those are the keys that the stations installed with the claims' epochs.
-use Rattle.std.proofs.Common.{◌≡◌, ◌≢◌, ◌⊎◌, ◌<◌, ◌≤◌, ◌+◌, ◌-◌, ℕ, zero, suc, Bool, true, false, cond, eqb, List, [], ◌∷◌, ◌++◌, map, filter, length}
-use Rattle.std.proofs.Common.{Option, Some, None, refl, sym, ap, ◌∙◌, subst, arith, inl, inr, append-nil}
+use Rattle.std.proofs.Common.{◌≡◌, ◌+◌, ◌-◌, ℕ, zero, suc, Bool, true, false, cond, eqb, List, [], ◌∷◌, ◌++◌, map, filter}
+use Rattle.std.proofs.Common.{Option, Some, None, refl, sym, ap, ◌∙◌, subst, arith, inl, inr}
 use Rattle.std.specs.Prelude.{option_map, option_and_then, slice_get}
 use Rattle.std.specs.List.{AllByRecursion}
-use Rattle.std.proofs.lemmas.Bool.{eqb-true, eqb-false, eq-eqb, ne_eqb, cases_Bool, cond-false}
+use Rattle.std.proofs.lemmas.Bool.{eqb-true, eqb-false, ne_eqb, cases_Bool, cond-false}
 use Rattle.lan_base.specs.declared.association_number.AssociationNumber.{AssociationNumber}
 use Rattle.lan_base.specs.declared.frame.Protected.{Protected}
 use Rattle.lan_base.specs.declared.frame.UserFrame.{UserFrame}
 use Rattle.aes_block.specs.Secrets.{secret_octets}
 use Rattle.gcm_frames.specs.Protected.{protected}
 use Rattle.sak_exchange.specs.declared.held_key.Key.{Key}
-use Rattle.sak_exchange.specs.Histories.{installs}
 use Rattle.sak_exchange.specs.Held.{transmitting}
 use Rattle.association_slots.specs.declared.card.Card.{Card}
-use Rattle.packet_claims.specs.declared.answers.NoClaim.{NoClaim}
 use Rattle.data_workers.specs.declared.entry.Entry.{Entry}
 use Rattle.data_workers.specs.declared.entry.Entry.TheVariants.{Taken, Refused}
 use Rattle.lan_core.specs.declared.event.Event.{Event}
 use Rattle.lan_core.specs.declared.event.Event.TheVariants as events
-use Rattle.lan_core.specs.declared.fact.Fact.{Fact}
 use Rattle.lan_core.specs.declared.fact.Fact.TheVariants as facts
 use Rattle.lan_core.specs.declared.settings.Settings.{Settings}
 use Rattle.lan_core.specs.Run.{Run, Happening, Profile, started, stations}
@@ -30,10 +27,9 @@ use Rattle.lan_core.specs.Legal.{IsStepped}
 use Rattle.lan_core.specs.Parts.{followed_by, is_claim, without_claims, claimed_in, protected_for, AreAlike, AreProtected}
 use Rattle.lan_core.proofs.Public.{IsClaim, is-claim, alike-itself, alike-event, claim-alike, stepped-front}
 use Rattle.group_safety.proofs.Public.{received-installed, transmitting-last}
-use Rattle.race_merge.specs.Places.{Attempt}
 use Rattle.race_merge.specs.Merged.{nth_log}
 use Rattle.race_merge.specs.Steps.{attempt_of, logs_of, counted_from}
-use Rattle.race_merge.specs.Weaving.{is_claim_for, IsClaimOf, AreClaimsOf, IsOfLog, IsWoven}
+use Rattle.race_merge.specs.Weaving.{is_claim_for, AreClaimsOf, IsOfLog, IsWoven}
 use Rattle.race_merge.specs.Taking.{first_of, rest_of, frame_in, next_entry, without_next, taken_by, left_by, frames_of}
 use Rattle.race_merge.specs.Sealing.{HasInLife, HasInstalled, AreCards, IsSealedUnder, IfFrame, AreSealed}
 

@@ -1,8 +1,8 @@
 -- The events that are merged are those of the part that a race gives.
-use Rattle.std.proofs.Common.{◌≡◌, ◌<◌, ◌≤◌, ◌+◌, ℕ, zero, suc, Bool, true, false, cond, eqb, List, [], ◌∷◌, ◌++◌, length, map, get_or, refl, sym, ap, ◌∙◌, subst, arith}
+use Rattle.std.proofs.Common.{◌≡◌, ◌+◌, ℕ, zero, suc, true, List, [], ◌∷◌, ◌++◌, length, map, get_or, refl, sym, ap, ◌∙◌, subst, arith}
 use Rattle.lan_base.specs.declared.association_number.AssociationNumber.{AssociationNumber}
-use Rattle.std.proofs.Common.{Option, Some, None, append_assoc}
-use Rattle.std.specs.Prelude.{slice_get, option_map, All}
+use Rattle.std.proofs.Common.{Some, append_assoc}
+use Rattle.std.specs.Prelude.{slice_get, option_map}
 use Rattle.std.specs.List.{AllByRecursion}
 use Rattle.std.specs.List.Sorted.{IsNonDecreasingBy}
 use Rattle.std.proofs.lemmas.List.{map-append, length-append}
@@ -12,18 +12,17 @@ use Rattle.lan_base.specs.declared.frame.UserFrame.{UserFrame}
 use Rattle.lan_core.specs.declared.event.Event.{Event}
 use Rattle.lan_core.specs.declared.event.Event.TheVariants as events
 use Rattle.lan_core.specs.declared.settings.Settings.{Settings}
-use Rattle.lan_core.specs.Run.{Run, Happening}
+use Rattle.lan_core.specs.Run.{Run}
 use Rattle.lan_core.specs.Order.{is_event_of}
 use Rattle.lan_core.specs.Legal.{IsLegal}
 use Rattle.race_merge.specs.declared.step.Step.{Step}
 use Rattle.data_workers.specs.declared.entry.Entry.{Entry}
-use Rattle.race_merge.specs.declared.rank.Rank.{Rank}
 use Rattle.race_merge.specs.Places.{Move, Attempt, ends, place}
 use Rattle.race_merge.specs.Marks.{Mark, Control, Claim}
 use Rattle.race_merge.specs.Ranks.{in_order, is_sooner}
 use Rattle.race_merge.specs.Merged.{numbered, rank, merged, sooner, entries_of}
 use Rattle.race_merge.specs.Steps.{station_of, move_of, moves_of, attempt_of, logs_of, event_at, event_of_rank, IsStepOf, AreSteps, AreRising, counted_from}
-use Rattle.race_merge.specs.Raced.{shown_of, IsMove, AreMoves, IsRaced, woven, claim_after}
+use Rattle.race_merge.specs.Raced.{shown_of, IsMove, AreMoves, IsRaced, claim_after}
 use Rattle.race_merge.specs.Weaving.{part_of, IsWoven}
 use Rattle.lan_core.specs.Parts.{followed_by}
 use Rattle.race_merge.proofs.Stable.{each-in_order}

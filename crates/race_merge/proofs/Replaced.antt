@@ -58,7 +58,7 @@ use Rattle.association_slots.specs.Views.{absent_after, present_at}
 use Rattle.race_merge.specs.Table.{is_an, an_of, words_of}
 use Rattle.race_merge.proofs.KeysMove.{has-ticked}
 use Rattle.race_merge.proofs.Calls.{an-one, filter-passes, drops}
-use Rattle.race_merge.proofs.TurnsTold.{tick-changes, hear-changes, ending-changes, server-is}
+use Rattle.race_merge.proofs.TurnsTold.{tick-changes, hear-changes, ending-changes}
 use Rattle.race_merge.proofs.FromRun.{kept-run, in-life}
 
 -- ---- facts

@@ -1,24 +1,20 @@
 -- The run with the merged list behind it is legal, where the list is in order by what the places
 -- know.
-use Rattle.std.proofs.Common.{◌≡◌, ◌≢◌, ◌⊎◌, ◌<◌, ◌≤◌, ◌+◌, ◌^◌, ℕ, zero, suc, max, Bool, true, false, not, cond, ◌&&◌, eqb}
+use Rattle.std.proofs.Common.{◌≡◌, ◌≢◌, ◌⊎◌, ◌<◌, ◌≤◌, ◌+◌, ◌^◌, ℕ, suc, max, Bool, true, false, not, cond, ◌&&◌, eqb}
 use Rattle.lan_base.specs.declared.association_number.AssociationNumber.{AssociationNumber}
-use Rattle.std.proofs.Common.{List, [], ◌∷◌, ◌++◌, length, refl, sym, ap, ◌∙◌, subst, arith, inl, inr, append-nil}
-use Rattle.std.proofs.Common.{Option, Some, None, filter, true≢false}
+use Rattle.std.proofs.Common.{List, [], ◌∷◌, length, refl, sym, ap, ◌∙◌, subst, arith, inl, inr, append-nil}
+use Rattle.std.proofs.Common.{Option, Some, None}
 use Rattle.std.specs.Prelude.{option_map, is_some}
-use Rattle.std.specs.List.{AllByRecursion}
-use Rattle.std.proofs.lemmas.Bool.{eqb-true, eqb-false, eq-eqb, ne_eqb, cond-true, cond-false, cases_eq, cases_Bool}
+use Rattle.std.proofs.lemmas.Bool.{eqb-true, cond-true, cond-false, cases_eq, cases_Bool}
 use Rattle.lan_base.specs.declared.frame.UserFrame.{UserFrame}
 use Rattle.sak_exchange.specs.declared.held_key.Key.{Key}
 use Rattle.lan_core.specs.declared.event.Event.{Event}
 use Rattle.lan_core.specs.declared.event.Event.TheVariants as events
-use Rattle.lan_core.specs.declared.fact.Fact.{Fact}
-use Rattle.lan_core.specs.declared.fact.Fact.TheVariants as facts
 use Rattle.lan_core.specs.declared.settings.Settings.{Settings}
-use Rattle.lan_core.specs.Run.{Run, Happening, happened, started, stations}
-use Rattle.lan_core.specs.Ledgers.{air}
-use Rattle.lan_core.specs.Lives.{Life, life, transmitting_at}
-use Rattle.lan_core.specs.Claims.{next, shown_by, after_claim, is_epoch, user_at}
-use Rattle.lan_core.specs.Expected.{expected, drawn_in, claim_fact, number_fact, lack, last_number}
+use Rattle.lan_core.specs.Run.{Run, stations}
+use Rattle.lan_core.specs.Lives.{life, transmitting_at}
+use Rattle.lan_core.specs.Claims.{next, user_at}
+use Rattle.lan_core.specs.Expected.{expected, drawn_in, claim_fact}
 use Rattle.lan_core.specs.Types.{IsSetting}
 use Rattle.lan_core.specs.Order.{Exists, IsWithin, IsShown, IsAllowed, IsSendable, IsClaimable, is_event_of, settled}
 use Rattle.lan_core.specs.Legal.{IsStep, IsStepped}
@@ -27,11 +23,10 @@ use Rattle.lan_core.proofs.Public.{in-a-life}
 use Rattle.lan_core.proofs.Public.{never-falls}
 use Rattle.race_merge.specs.Places.{Move, Attempt}
 use Rattle.race_merge.specs.Marks.{Mark, Control, Claim}
-use Rattle.race_merge.specs.Merged.{Before, numbered}
-use Rattle.race_merge.specs.inside.Ordered.{InOrder, is_control, now as now_in, next as next_in, settled as settled_in}
-use Rattle.race_merge.specs.Raced.{epoch_of, epoch_at, shown_of, IsMove, ShowsCore, before_of, claim_after, user_of, IsAttempt}
+use Rattle.race_merge.specs.inside.Ordered.{InOrder, now as now_in, next as next_in, settled as settled_in}
+use Rattle.race_merge.specs.Raced.{epoch_of, epoch_at, shown_of, IsMove, before_of, claim_after, user_of, IsAttempt}
 use Rattle.lan_core.specs.Parts.{AreAlike}
-use Rattle.lan_core.proofs.Public.{TellsClaim, alike-itself, alike-claim, alike-event, transmits-same, expected-same, within-same}
+use Rattle.lan_core.proofs.Public.{alike-itself, alike-claim, alike-event, transmits-same, expected-same, within-same}
 use Rattle.race_merge.proofs.Agree.{own-of, starts-none, shows-next, shown-same, max-when, max-zero, tells-claim, number-told, none-told}
 
 -- What the places know after some marks is what the runs say: that with claims, and that with

@@ -1,34 +1,32 @@
 -- The run with the merged list behind it is thrifty where few numbers are unused at its end: what is
 -- claimed later is never below the next number.
-use Rattle.std.proofs.Common.{◌≡◌, ◌≢◌, ◌⊎◌, ◌<◌, ◌≤◌, ◌+◌, ◌-◌, ℕ, zero, suc, Bool, true, false, not, cond, ◌&&◌, ◌||◌, eqb}
+use Rattle.std.proofs.Common.{◌≡◌, ◌≢◌, ◌⊎◌, ◌<◌, ◌≤◌, ◌+◌, ◌-◌, ℕ, zero, suc, Bool, true, false, not, cond, ◌&&◌, eqb}
 use Rattle.lan_base.specs.declared.association_number.AssociationNumber.{AssociationNumber}
-use Rattle.std.proofs.Common.{List, [], ◌∷◌, ◌++◌, length, refl, sym, ap, ◌∙◌, subst, arith, inl, inr}
-use Rattle.std.proofs.Common.{Option, Some, None, filter}
+use Rattle.std.proofs.Common.{List, [], ◌∷◌, length, refl, sym, ◌∙◌, subst, arith, inl, inr}
+use Rattle.std.proofs.Common.{filter}
 use Rattle.std.specs.List.{AllByRecursion, list_any, range_with_len}
-use Rattle.std.proofs.lemmas.Bool.{eqb-true, eqb-false, eq-eqb, ne_eqb, cases_eq, cases_Bool, cond-true, cond-false, and_parts}
+use Rattle.std.proofs.lemmas.Bool.{eqb-true, cases_Bool, and_parts}
 use Rattle.lan_base.specs.declared.frame.UserFrame.{UserFrame}
-use Rattle.sak_exchange.specs.declared.held_key.Key.{Key}
 use Rattle.lan_core.specs.declared.event.Event.{Event}
 use Rattle.lan_core.specs.declared.event.Event.TheVariants as events
 use Rattle.lan_core.specs.declared.fact.Fact.{Fact}
 use Rattle.lan_core.specs.declared.fact.Fact.TheVariants as facts
 use Rattle.lan_core.specs.declared.settings.Settings.{Settings}
-use Rattle.lan_core.specs.Run.{Run, Happening, happened}
-use Rattle.lan_core.specs.Ledgers.{Claim as Number, claim_of, claims, gather, with_one}
+use Rattle.lan_core.specs.Run.{Run}
+use Rattle.lan_core.specs.Ledgers.{Claim as Number, claim_of, claims, gather}
 use Rattle.lan_core.specs.Lives.{transmitting_at}
 use Rattle.lan_core.specs.Claims.{next}
-use Rattle.lan_core.specs.Expected.{claim_fact, lack}
 use Rattle.lan_core.specs.Order.{is_event_of}
 use Rattle.lan_core.specs.Legal.{IsThrifty, is_unused, is_claim_of, unused}
 use Rattle.lan_core.proofs.Public.{never-falls}
 use Rattle.group_safety.proofs.Public.{In}
 use Rattle.group_safety.proofs.Public.{kind}
 use Rattle.group_safety.proofs.Public.{claims-by}
-use Rattle.race_merge.specs.Places.{Move, Attempt}
+use Rattle.race_merge.specs.Places.{Move}
 use Rattle.race_merge.specs.Marks.{Mark, Control, Claim}
-use Rattle.race_merge.specs.inside.Ordered.{InOrder, AreInOrder, is_control}
+use Rattle.race_merge.specs.inside.Ordered.{AreInOrder, is_control}
 use Rattle.race_merge.specs.Merged.{numbered}
-use Rattle.race_merge.specs.Raced.{epoch_at, IsMove, AreMoves, before_of, claim_after, user_of, IsAttempt, woven}
+use Rattle.race_merge.specs.Raced.{IsMove, AreMoves, before_of, claim_after, woven}
 use Rattle.race_merge.proofs.Agree.{number-told, none-told}
 use Rattle.race_merge.proofs.Stepped.{Agrees, agrees-control, agrees-claim, claim-key}
 use Rattle.race_merge.proofs.Lawful.{EachClaim, IsGood, head-move}

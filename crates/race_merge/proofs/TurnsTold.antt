@@ -1,5 +1,5 @@
 -- What a tick, a hearing and the end of a life tell the current word.
-use Rattle.std.proofs.Common.{◌≡◌, ℕ, Bool, true, false, cond, List, [], ◌∷◌, ◌++◌, refl, sym, ap, ◌∙◌, subst, append-nil}
+use Rattle.std.proofs.Common.{◌≡◌, ℕ, true, false, List, [], ◌∷◌, ◌++◌, refl, sym, ap, ◌∙◌, subst, append-nil}
 use Rattle.lan_base.specs.declared.association_number.AssociationNumber.{AssociationNumber}
 use Rattle.std.proofs.Common.{Option, Some, None, Result, Ok, Err, is_some}
 use Rattle.lan_base.specs.declared.address.Mi.{Mi}
@@ -10,18 +10,18 @@ use Rattle.sak_exchange.specs.declared.change.Why.{Why}
 use Rattle.sak_exchange.specs.declared.due.Seen.{Seen}
 use Rattle.sak_exchange.specs.declared.offer.Offer.{Offer}
 use Rattle.sak_exchange.specs.declared.held_key.Key.{Key}
-use Rattle.sak_exchange.specs.Histories.{Keying, ticked, installed, began}
-use Rattle.sak_exchange.specs.Held.{Kept, received, latest, transmitting, held}
+use Rattle.sak_exchange.specs.Histories.{Keying, ticked}
+use Rattle.sak_exchange.specs.Held.{Kept, received, latest, transmitting}
 use Rattle.sak_exchange.specs.Beginning.{Beginning}
-use Rattle.sak_exchange.specs.Outcomes.{dropping, beginning, installing}
+use Rattle.sak_exchange.specs.Outcomes.{beginning, installing}
 use Rattle.mka_station.specs.Lives.{Member, Entry, keys_of, elected}
 use Rattle.mka_station.specs.Lives.{ticked as tick, heard}
-use Rattle.mka_station.specs.Views.{View, view, reports}
+use Rattle.mka_station.specs.Views.{View, view}
 use Rattle.mka_station.specs.Tick.{tick_turn, ended, led, made, install_changes, roster_at}
 use Rattle.mka_station.specs.Hearing.{hear_turn, key_taken, take_changes, taken_of, answer_at, offer_at, follow_at, taken_past}
 use Rattle.mka_station.specs.Restart.{ending}
 use Rattle.group_safety.proofs.Public.{with_key, with_began, view-keys, keys-ticked, keys-heard, keys-installed}
-use Rattle.group_safety.proofs.Public.{IsTurn, kept-turn, tick-keys, hear-keys, tick-is_turn, hear-is_turn}
+use Rattle.group_safety.proofs.Public.{kept-turn, tick-keys, hear-keys, tick-is_turn, hear-is_turn}
 use Rattle.group_safety.proofs.Public.{making-is, led-is, following-is}
 use Rattle.race_merge.specs.Table.{an_of, calls, IsTold}
 use Rattle.race_merge.specs.Table as told

@@ -1,7 +1,7 @@
 -- From what the current word was told to what the places ask of the logs.
 use Rattle.std.proofs.Common.{◌≡◌, ◌⊎◌, ℕ, ◌<◌, ◌≤◌, Bool, true, false, cond, eqb, List, [], ◌∷◌, ◌++◌, refl, sym, ap, ◌∙◌, subst, arith, inl, inr, true≢false}
 use Rattle.lan_base.specs.declared.association_number.AssociationNumber.{AssociationNumber}
-use Rattle.std.proofs.lemmas.Bool.{cond-true, cond-false, cases_lt, cases_eq, cases_Bool, lt-ltb, le-ltb, eq-eqb, ne_eqb, eqb-true, eqb-false}
+use Rattle.std.proofs.lemmas.Bool.{cond-true, cond-false, cases_lt, cases_Bool, eq-eqb, ne_eqb, eqb-true}
 use Rattle.association_slots.specs.declared.view.Current.{Current}
 use Rattle.association_slots.specs.Views.{In, WasAbsent, absent_after, present_at}
 use Rattle.race_merge.specs.Places.{Move, Follows, Begun, Lives, Noted, last_of}

@@ -7,19 +7,17 @@ use Rattle.std.proofs.lemmas.Bool.{eqb-true, eqb-false, eq-eqb, ne_eqb, cases_Bo
 use Rattle.lan_base.specs.declared.frame.UserFrame.{UserFrame}
 use Rattle.lan_core.specs.declared.event.Event.{Event}
 use Rattle.lan_core.specs.declared.event.Event.TheVariants as events
-use Rattle.lan_core.specs.declared.fact.Fact.{Fact}
 use Rattle.lan_core.specs.declared.fact.Fact.TheVariants as facts
 use Rattle.lan_core.specs.declared.settings.Settings.{Settings}
-use Rattle.lan_core.specs.Run.{Run, Happening}
+use Rattle.lan_core.specs.Run.{Run}
 use Rattle.lan_core.specs.Lives.{transmitting_at}
 use Rattle.lan_core.specs.Expected.{lack}
 use Rattle.lan_core.specs.Order.{is_event_of}
-use Rattle.lan_core.specs.Legal.{IsLegal}
 use Rattle.race_merge.specs.Places.{Move, Attempt}
 use Rattle.race_merge.specs.Marks.{Mark, Control, Claim}
 use Rattle.race_merge.specs.inside.Ordered.{AreInOrder, InOrder, is_control, is_of_log}
 use Rattle.race_merge.specs.Merged.{AllPairs, InLog, AreLogged, IsFit, numbered, merged, entries_of, nth_log}
-use Rattle.race_merge.specs.Raced.{IsMove, AreMoves, ShowsCore, before_of, claim_after, user_of, IsAttempt, IsRaced, woven}
+use Rattle.race_merge.specs.Raced.{AreMoves, ShowsCore, before_of, claim_after, IsRaced, woven}
 use Rattle.race_merge.specs.Weaving.{part_of, is_claim_for, IsClaimOf, AreClaimsOf, IsOfLog, IsWoven}
 use Rattle.lan_core.specs.Parts.{followed_by, is_claim}
 use Rattle.race_merge.proofs.Stable.{filter_none, each_weaker}

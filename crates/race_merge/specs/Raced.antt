@@ -1,6 +1,7 @@
 -- What a race is, over runs: the run before it, the steps of control after that, and the logs; and
 -- the run with the merged list behind it.
-use Rattle.std.specs.Prelude.{◌≡◌, ◌<◌, ◌≤◌, ℕ, ◌+◌, ◌^◌, Bool, true, false, List, [], ◌∷◌, ◌++◌, Option, Some, None}
+use Rattle.std.specs.Prelude.{◌≡◌, ◌<◌, ◌≤◌, ℕ, ◌+◌, ◌^◌, true, false, List, [], ◌∷◌}
+use Rattle.std.specs.Prelude.{Option, Some, None}
 use Rattle.std.specs.List.{AllByRecursion}
 use Rattle.lan_base.specs.declared.association_number.AssociationNumber.{AssociationNumber}
 use Rattle.lan_base.specs.declared.frame.UserFrame.{UserFrame}
@@ -79,7 +80,8 @@ pub record IsMove (settings : Settings) (users : List UserFrame) (r : Run) (m : 
   pub gap : m.gap ≡ true → (k : Key) → transmitting_at settings m.station r ≡ Some k
       → is_replaced m.station k m.x.facts ≡ true
 
-abbrev pub AreMoves : Settings → List UserFrame → (ℕ → ℕ → AssociationNumber) → Run → List Move → Type 0
+abbrev pub AreMoves : Settings → List UserFrame → (ℕ → ℕ → AssociationNumber) → Run → List Move
+    → Type 0
 AreMoves settings users ans r [] = Unit {0}
 AreMoves settings users ans r (m ∷ ms) =
     IsMove settings users r m × ShowsCore settings ans (m.x ∷ r)
@@ -96,8 +98,8 @@ before_of settings pointed r = record {
 }
 
 -- an attempt of a station of the run, with its user frame
-pub record IsAttempt (users : List UserFrame) (base : ℕ) (ans : ℕ → ℕ → AssociationNumber) (r : Run) (x : Attempt) :
-    Type 0 where
+pub record IsAttempt (users : List UserFrame) (base : ℕ) (ans : ℕ → ℕ → AssociationNumber) (r : Run)
+    (x : Attempt) : Type 0 where
   pub there : Exists x.station r
   pub place : x.station < 2 ^ 8
   pub user : user_of base x < 2 ^ 32
@@ -107,8 +109,9 @@ pub record IsAttempt (users : List UserFrame) (base : ℕ) (ans : ℕ → ℕ �
 
 -- A race after a run: control, by what its words were told, and the logs, by what the seats and the
 -- workers say.
-pub record IsRaced (settings : Settings) (users : List UserFrame) (base : ℕ) (ans : ℕ → ℕ → AssociationNumber)
-    (pointed : ℕ → ℕ) (r : Run) (ms : List Move) (logs : List (List Attempt)) : Type 0 where
+pub record IsRaced (settings : Settings) (users : List UserFrame) (base : ℕ)
+    (ans : ℕ → ℕ → AssociationNumber) (pointed : ℕ → ℕ) (r : Run) (ms : List Move)
+    (logs : List (List Attempt)) : Type 0 where
   pub setting : IsSetting settings
   pub within : IsWithin r
   pub legal : IsLegal settings users r

@@ -1,5 +1,5 @@
 -- Frames of logs that were protected under the keys that stations installed.
-use Rattle.std.specs.Prelude.{◌≡◌, ◌⊎◌, ℕ, suc, ◌+◌, List, [], ◌∷◌, Option, Some, None, slice_get}
+use Rattle.std.specs.Prelude.{◌≡◌, ◌⊎◌, ℕ, suc, List, [], ◌∷◌, Option, Some, None, slice_get}
 use Rattle.std.specs.List.{AllByRecursion}
 use Rattle.lan_base.specs.declared.frame.Protected.{Protected}
 use Rattle.lan_base.specs.declared.frame.UserFrame.{UserFrame}

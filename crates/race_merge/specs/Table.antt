@@ -1,10 +1,12 @@
 -- What the changes of a station's keys tell its current word, oldest first: a key that begins is
 -- pointed at, and where the key that transmits is dropped the word is unpointed.
-use Rattle.std.specs.Prelude.{◌≡◌, ◌<◌, ℕ, ◌==◌, ◌&&◌, Bool, true, false, if◌then◌else◌, List, [], ◌∷◌, ◌++◌, Option, Some, None}
+use Rattle.std.specs.Prelude.{◌≡◌, ◌<◌, ℕ, ◌==◌, ◌&&◌, Bool, true, false, if◌then◌else◌, List, []}
+use Rattle.std.specs.Prelude.{◌∷◌, ◌++◌, Option, Some, None, option_map}
 use Rattle.lan_base.specs.declared.association_number.AssociationNumber.{AssociationNumber}
 use Rattle.lan_base.specs.AssociationNumbers.{same_an}
 use Rattle.sak_exchange.specs.declared.change.Change.{Change}
-use Rattle.sak_exchange.specs.declared.change.Change.TheVariants.{Dropped, Retired, Began, Installed, Untaken}
+use Rattle.sak_exchange.specs.declared.change.Change.TheVariants.{Dropped, Retired, Began}
+use Rattle.sak_exchange.specs.declared.change.Change.TheVariants.{Installed, Untaken}
 use Rattle.sak_exchange.specs.declared.held_key.Key.{Key}
 use Rattle.lan_core.specs.declared.settings.Settings.{Settings}
 use Rattle.lan_core.specs.Run.{Run, Happening}
@@ -13,6 +15,7 @@ use Rattle.race_merge.specs.Places.{Move, last_of}
 use Rattle.race_merge.specs.Raced.{epoch_at, shown_of}
 use Rattle.lan_core.specs.declared.fact.Fact.{Fact}
 use Rattle.lan_core.specs.declared.fact.Fact.TheVariants as facts
+use Rattle.group_safety.specs.Transmitting.{Sending, transmits}
 use Rattle.association_slots.specs.declared.view.Current.{Current}
 use Rattle.association_slots.specs.Views.{absent_after, present_at}
 
@@ -40,7 +43,8 @@ calls top o (Untaken id why ∷ cs) = calls top o cs
 -- key stays; an unpoint, where it ends; a point, where one begins; or both.
 pub data IsTold (top : ℕ) (before after : Option Key) (words : List Current) : Type 0 where
   stays : after ≡ before → words ≡ [] → IsTold top before after words
-  ends : (k : Key) → before ≡ Some k → after ≡ None → words ≡ absent_after top ∷ [] → IsTold top before after words
+  ends : (k : Key) → before ≡ Some k → after ≡ None → words ≡ absent_after top ∷ []
+      → IsTold top before after words
   begins : (b : Key) → after ≡ Some b → ((k : Key) → before ≡ Some k → k.epoch < b.epoch)
       → words ≡ present_at b.an b.epoch ∷ [] → IsTold top before after words
   changes : (k b : Key) → before ≡ Some k → after ≡ Some b → k.epoch < b.epoch
@@ -77,6 +81,16 @@ move_at settings s top r x = record {
 abbrev pub flipped : List Current → List Current
 flipped (w ∷ v ∷ words) = v ∷ w ∷ []
 flipped words = words
+
+-- ---- the same by what the facts move
+
+-- what transmits, as the current word shows it
+abbrev pub current_of : Sending → Current
+current_of p = record { epoch = p.epoch; present = p.present; an = p.an }
+
+-- the AN of what transmits, if anything does
+abbrev pub an_in : Sending → Option AssociationNumber
+an_in p = option_map (λ q. q.0) (transmits p)
 
 -- ---- all of control
 

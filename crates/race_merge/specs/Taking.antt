@@ -1,5 +1,6 @@
 -- The frames of a race in the order of its events.
-use Rattle.std.specs.Prelude.{ℕ, zero, suc, ◌-◌, List, [], ◌∷◌, ◌++◌, Option, Some, None, slice_get, option_and_then}
+use Rattle.std.specs.Prelude.{ℕ, zero, suc, ◌-◌, List, [], ◌∷◌, ◌++◌, Option, Some, None, slice_get}
+use Rattle.std.specs.Prelude.{option_and_then}
 use Rattle.lan_base.specs.declared.frame.Protected.{Protected}
 use Rattle.lan_core.specs.declared.event.Event.{Event}
 use Rattle.lan_core.specs.declared.event.Event.TheVariants as events

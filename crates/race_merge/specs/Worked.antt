@@ -6,7 +6,7 @@ use Rattle.association_slots.specs.declared.view.Current.{Current}
 use Rattle.association_slots.specs.declared.view.NextSeen.{NextSeen}
 use Rattle.association_slots.specs.declared.view.Start.{Start}
 use Rattle.association_slots.specs.Views.{In, WasAbsent, one, present_at}
-use Rattle.packet_claims.specs.declared.answers.NoClaim.TheVariants.{NoKey, Exhausted}
+use Rattle.packet_claims.specs.declared.answers.NoClaim.TheVariants.{Exhausted}
 use Rattle.data_workers.specs.declared.entry.Entry.{Entry}
 use Rattle.data_workers.specs.declared.entry.Entry.TheVariants.{Taken, Refused}
 use Rattle.lan_core.specs.declared.settings.Settings.{Settings}

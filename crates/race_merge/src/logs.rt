@@ -1,6 +1,7 @@
 //! Laws of the logs of workers in a race.
 
-ghost use Rattle.std.specs.Prelude.{◌≡◌, ◌≤◌, ◌<◌, ◌+◌, ◌^◌, ◌++◌, ◌==◌, ℕ, if◌then◌else◌, List, map};
+ghost use Rattle.std.specs.Prelude.{◌≡◌, ◌≤◌, ◌<◌, ◌+◌, ◌^◌, ◌++◌, ◌==◌, ℕ, if◌then◌else◌, List};
+ghost use Rattle.std.specs.Prelude.{map};
 ghost use Rattle.std.specs.List.{AllByRecursion};
 ghost use Rattle.lan_base.specs.declared.association_number.AssociationNumber.{AssociationNumber};
 ghost use Rattle.lan_base.specs.declared.frame.UserFrame.{UserFrame};
@@ -29,7 +30,8 @@ ghost use Rattle.race_merge.specs.Weaving.{IsWoven};
 ghost use Rattle.race_merge.specs.Taking.{frames_of};
 ghost use Rattle.race_merge.specs.Sealing.{AreCards, AreSealed};
 ghost use Rattle.race_merge.specs.Words.{told_in};
-ghost use Rattle.race_merge.specs.Worked.{AreAns, BeganAfter, NoneExhausted, times_in, times_in_all};
+ghost use Rattle.race_merge.specs.Worked.{AreAns, BeganAfter, NoneExhausted, times_in};
+ghost use Rattle.race_merge.specs.Worked.{times_in_all};
 
 /// The log of a worker fits a race, once its seat was told: by what the seat did since the worker
 /// was made, and by what control knows.

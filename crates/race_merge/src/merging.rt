@@ -1,6 +1,7 @@
 //! The merged list.
 
-ghost use Rattle.std.specs.Prelude.{◌≡◌, ◌++◌, ◌+◌, ◌<◌, ◌≤◌, ◌^◌, ℕ, List, Some, OnOk, IfOk, All, length, map};
+ghost use Rattle.std.specs.Prelude.{◌≡◌, ◌++◌, ◌+◌, ◌<◌, ◌≤◌, ◌^◌, ℕ, List, Some, OnOk, IfOk, All};
+ghost use Rattle.std.specs.Prelude.{length, map};
 ghost use Rattle.std.specs.List.Sorted.{IsNonDecreasingBy};
 ghost use Rattle.lan_base.specs.declared.association_number.AssociationNumber.{AssociationNumber};
 ghost use Rattle.lan_base.specs.declared.frame.UserFrame.{UserFrame};

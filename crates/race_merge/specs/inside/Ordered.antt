@@ -1,9 +1,10 @@
 -- What each prefix of a merged list says, and when the list is in order by that alone.
-use Rattle.std.specs.Prelude.{◌≡◌, ◌⊎◌, ◌<◌, ◌≤◌, ℕ, suc, max, ◌==◌, Bool, true, false, not, ◌&&◌, if◌then◌else◌, List, [], ◌∷◌}
+use Rattle.std.specs.Prelude.{◌≡◌, ◌⊎◌, ◌<◌, ◌≤◌, ℕ, suc, max, ◌==◌, Bool, true, false, not, ◌&&◌}
+use Rattle.std.specs.Prelude.{if◌then◌else◌, List, [], ◌∷◌}
 use Rattle.std.specs.List.{AllByRecursion}
-use Rattle.race_merge.specs.Places.{Move, Attempt, Follows}
+use Rattle.race_merge.specs.Places.{Move, Follows}
 use Rattle.race_merge.specs.Marks.{Mark, Control, Claim}
-use Rattle.race_merge.specs.Merged.{Before, IsFit, AllPairs, InLog, Differ, AreLogged, entries_of}
+use Rattle.race_merge.specs.Merged.{Before}
 use Rattle.race_merge.specs.inside.Moments.{AllGrow, IsAt}
 
 abbrev pub is_control : Mark → Bool

@@ -1,4 +1,4 @@
-use Rattle.std.proofs.Common.{None, arith, sym, ◌≡◌, ◌++◌, [], ◌∷◌, ap, refl, ◌∙◌, append-nil, append_assoc, get_or}
+use Rattle.std.proofs.Common.{None, arith, sym, append-nil}
 use Rattle.std.proofs.lemmas.Grind.{common_steps}
 use Rattle.lan_core.specs.declared.event.Event.TheVariants as events
 use Rattle.race_merge.specs.declared.step.Step.{Step}

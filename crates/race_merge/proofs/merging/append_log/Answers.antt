@@ -1,4 +1,4 @@
-use Rattle.std.proofs.Common.{arith, sym, ◌≡◌, ◌≤◌, ◌++◌, [], ◌∷◌, ap, refl, ◌∙◌, append_assoc, subst, take, length, get_or}
+use Rattle.std.proofs.Common.{arith, sym, ◌≡◌, ◌≤◌, ◌++◌, [], ◌∷◌, ap, ◌∙◌, append_assoc, subst, take, get_or}
 use Rattle.data_workers.specs.declared.entry.Entry.{Entry}
 use Rattle.race_merge.specs.Places.{place}
 use Rattle.race_merge.specs.Marks.{Claim}

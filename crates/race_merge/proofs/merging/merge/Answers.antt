@@ -6,7 +6,7 @@ use Rattle.race_merge.specs.declared.rank.Rank.{Rank}
 use Rattle.race_merge.specs.declared.step.Step.{Step}
 use Rattle.race_merge.specs.Places.{place}
 use Rattle.race_merge.specs.Ranks.{in_order, is_sooner}
-use Rattle.race_merge.specs.Merged.{merged, rank, entries_of}
+use Rattle.race_merge.specs.Merged.{merged, entries_of}
 use Rattle.race_merge.specs.Steps.{attempt_of, moves_of, control_ranks, ranks_of, claim_ranks, logs_of, event_at, event_of_rank, IsRankOf, AreRising}
 use Rattle.race_merge.specs.Weaving.{part_of}
 use Rattle.race_merge.proofs.Sweep.{ranks_more, sorted-ranks, events-ranked, ranks-are}
