@@ -5,5 +5,5 @@ pub mod typed
 pub mod moves
 pub mod example
 pub mod Examples
-mod SteadyExample
+pub mod SteadyExample
 pub mod Public

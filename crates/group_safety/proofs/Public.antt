@@ -28,7 +28,30 @@ pub use Rattle.group_safety.proofs.example.Steps.{unwrapped-wrapped_sak}
 -- Protected frames are known by their type; a station that none reached sees no numbers.
 pub use Rattle.group_safety.proofs.once.ClaimKept.{protected-is_sec}
 pub use Rattle.group_safety.proofs.example.Scene.{IsSilent, silent-next, seen-silent}
+
+-- What an event of a stepped run is, and what it is to each station.
+pub use Rattle.group_safety.proofs.rollover.EventKinds.{Kind, kind, IsReached, IsBirth, Part, part}
+pub use Rattle.group_safety.proofs.rollover.EventKinds.{starts, ticks, reached, restarts, claims, emits}
+pub use Rattle.group_safety.proofs.rollover.EventKinds.{delivered, injected, first, again, same, hears, born}
+pub use Rattle.group_safety.proofs.rollover.Shows.{claims-by}
+pub use Rattle.group_safety.proofs.rollover.Listeners.{life-ticked}
+-- What a turn adds to the keys of a life, by the rules of a station.
+pub use Rattle.group_safety.proofs.once.Histories.{with_key, with_began, view-keys, keys-ticked, keys-heard, keys-installed}
+pub use Rattle.group_safety.proofs.rollover.Begins.{led-is, making-is, following-is}
+pub use Rattle.group_safety.proofs.rollover.Turns.{IsTurn, with_tick, kept-turn, news, turn-new}
+pub use Rattle.group_safety.proofs.rollover.Turns.{tick-keys, hear-keys, tick-is_turn, hear-is_turn}
+-- What the keys of a life that keeps the rules have.
+pub use Rattle.group_safety.proofs.rollover.KeyFacts.{received-installed, transmitting-last, transmits-later}
+pub use Rattle.group_safety.proofs.rollover.Leads.{one-epoch}
 -- Facts that come one after the other move what transmits one after the other.
 pub use Rattle.group_safety.proofs.moves.Moving.{follow-append}
 -- The next number of an account is that of the run.
 pub use Rattle.group_safety.proofs.moves.Accounting.{next-told}
+-- A run of two stations: what holds of it once the first one transmits, and after the next event,
+-- in which the other one begins the same key. And what no next number is above.
+pub use Rattle.group_safety.proofs.example.Scene.{Scene, settings, most_next, next-most}
+pub use Rattle.group_safety.proofs.example.Run.{users, first_key, r11}
+pub use Rattle.group_safety.proofs.example.Rolling.{r12}
+pub use Rattle.group_safety.proofs.example.Rolled.{l12}
+pub use Rattle.group_safety.proofs.example.Steps.{both, a-user, l11}
+pub use Rattle.group_safety.proofs.SteadyExample.{v11, v12}

@@ -59,10 +59,10 @@ use Rattle.group_safety.proofs.Examples.{bob_starts, mis_differ, saks_differ}
 
 -- ---- the scenes
 
-v11 : Scene users both r11 l11
+pub v11 : Scene users both r11 l11
 v11 = begun bob_starts
 
-v12 : Scene users both scene.r12 l12
+pub v12 : Scene users both scene.r12 l12
 v12 = s12 v11
 
 v13 : Scene users both scene.r13 l13
