@@ -1,0 +1,6 @@
+//! Batches of received frames, whose checks are shared out among threads.
+#![tactic(auto)]
+
+mod batch;
+
+pub use batch::{Batch, check_batch};
