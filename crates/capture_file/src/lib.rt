@@ -1,0 +1,17 @@
+//! Files of captured packets in the classic pcap format: written, read in either order of octets, and
+//! each packet told in one line.
+#![tactic(auto)]
+
+mod describing;
+mod fault;
+mod laws;
+mod order;
+mod reading;
+mod writing;
+
+pub use describing::describe;
+pub use fault::CaptureFault;
+pub use laws::law_capture;
+pub use order::Order;
+pub use reading::{head, kept};
+pub use writing::{header, packet};
