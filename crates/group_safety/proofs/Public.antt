@@ -1,7 +1,10 @@
 -- What other crates may cite of the proofs.
 
 -- What stands in a list, by recursion over it; cases of a sum, and what an option has.
-pub use Rattle.group_safety.proofs.Members.{In, contains-in, in-contains, in-left, in-right, all-in, by_sum}
+pub use Rattle.group_safety.proofs.Members.{In, contains-in, in-contains, in-left, in-right, in-map, all-in, by_sum}
+pub use Rattle.group_safety.proofs.Members.{in-from_map}
+pub use Rattle.group_safety.proofs.once.Places.{differs-in, same-place}
+pub use Rattle.group_safety.proofs.once.LiveHeard.{in-find}
 pub use Rattle.group_safety.proofs.once.Currents.{none-some, some-same}
 -- A run up to a moment: it is whole at its end, and one event more changes nothing before.
 pub use Rattle.group_safety.proofs.rollover.AtMoments.{upto-whole, upto-earlier}
@@ -25,3 +28,7 @@ pub use Rattle.group_safety.proofs.example.Scene.{IsSilent, silent-next, seen-si
 pub use Rattle.group_safety.proofs.moves.Moving.{follow-append}
 -- The next number of an account is that of the run.
 pub use Rattle.group_safety.proofs.moves.Accounting.{next-told}
+-- A run of the examples: alice starts, and then bob.
+pub use Rattle.group_safety.proofs.Examples.{bob_starts}
+pub use Rattle.group_safety.proofs.example.Run.{mi, alice, bob, users}
+pub use Rattle.group_safety.proofs.example.Scene.{settings}

@@ -10,4 +10,7 @@ mod Cutting
 mod Branches
 mod Numbers
 mod ReadBack
+mod NamesGrow
+mod NamesRead
+mod RunFacts
 mod Examples

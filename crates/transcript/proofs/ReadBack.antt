@@ -19,7 +19,7 @@ same fact = fact
 pub told : (names : List (List ℕ)) (line : List ℕ) (fact : Fact) → AreNames names → Says names line fact → fact_in names line ≡ Some fact
 told names line fact are says = ap (fact_in names) (sym says.1) ∙ line_told names fact are.0 are.1 says.0
 
-some_fact : (o : Option Fact) → IsSome o → (fact : Fact) × (o ≡ Some fact)
+pub some_fact : (o : Option Fact) → IsSome o → (fact : Fact) × (o ≡ Some fact)
 some_fact (Some fact) some = (fact, refl)
 some_fact None some = absurd cc
 

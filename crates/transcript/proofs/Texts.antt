@@ -150,12 +150,17 @@ split_some : (names : List (List ℕ)) (ws : List Word) → IsSome ws → AllLac
 split_some names [] some lack = absurd cc
 split_some names (word ∷ ws) some lack = split_words (spelled names word) (map (spelled names) ws) lack.0 lack.1
 
+-- the words of a line
+pub line_words : (names : List (List ℕ)) (fact : Fact) → All IsName names → IsFact names fact
+    → slice_split is_space (line names fact) ≡ map (spelled names) (words fact)
+unfolding line
+line_words names fact named fit =
+    split_some names (words fact) (some_words fact) (all_plain 32 names fact refl refl refl refl named fit)
+
 -- a line says its fact
 pub line_told : (names : List (List ℕ)) (fact : Fact) → All IsName names → AllDiffer names → IsFact names fact → fact_in names (line names fact) ≡ Some fact
-unfolding line
 line_told names fact named d fit =
-    ap (along names fact_tree) (split_some names (words fact) (some_words fact) (all_plain 32 names fact refl refl refl refl named fit))
-    ∙ fact_told names fact d fit
+    ap (along names fact_tree) (line_words names fact named fit) ∙ fact_told names fact d fit
 
 line_lacks : (names : List (List ℕ)) (fact : Fact) → All IsName names → IsFact names fact → Lacks 10 (line names fact)
 unfolding line

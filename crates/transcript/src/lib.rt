@@ -5,12 +5,18 @@
 mod facts;
 mod fault;
 mod laws;
+mod reader;
 mod reading;
 mod rendering;
+mod run_laws;
 mod spelling;
 mod words;
 
 pub use fault::FactError;
 pub use laws::{law_cut, law_texts_differ};
+pub use reader::Reader;
 pub use reading::read_fact;
 pub use rendering::render;
+pub use run_laws::{
+    law_a_run_is_cut_into_its_events, law_more_names_change_no_line, law_typed_facts_have_lines,
+};

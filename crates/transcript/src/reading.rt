@@ -34,7 +34,7 @@ pub fn read_fact(alloc: Global, line: &[u8], names: &[Name]) -> Result<Fact, Fac
 }
 
 /// Reads a line.
-fn answer_fact(alloc: Global, line: &[u8], names: &[Name]) -> Result<Fact, FactError>
+pub fn answer_fact(alloc: Global, line: &[u8], names: &[Name]) -> Result<Fact, FactError>
     ensures { Answers (λ x. x) result (fact_in names.now line.now) }
 {
     let (first, rest) = split_word(line);

@@ -156,7 +156,7 @@ last-is key part few octets = go (length part == 16) refl
         (omega arith, zero-octets (15 - length part)))
         (doubled-block (first_subkey key))
 
-cmac-block : (key message : List ℕ) → IsKey key → AreOctets message → IsBlock (cmac key message)
+pub cmac-block : (key message : List ℕ) → IsKey key → AreOctets message → IsBlock (cmac key message)
 unfolding cmac
 cmac-block key message is_key octets =
     let n = before_last message in
@@ -245,18 +245,21 @@ ick-is-key cak ckn is named =
 
 -- ---- wraps
 
-pub wrapped-length : (kek octets : List ℕ) (n : ℕ) → IsKey kek → 8 ≤ n → length octets ≡ n
-    → All (λ octet. octet < 256) octets → length (wrapped kek octets) ≡ 8 + n
+pub wrapped-octets : (kek octets : List ℕ) (n : ℕ) → IsKey kek → 8 ≤ n → length octets ≡ n
+    → All (λ octet. octet < 256) octets → IsOctets (8 + n) (wrapped kek octets)
 unfolding wrapped
-wrapped-length kek octets n is_key room count small =
-    let start : IsOctets (8 + n) (initial_value ++ octets) = record {
+wrapped-octets kek octets n is_key room count small =
+    IsOctets-steps kek (initial_value ++ octets) (8 + n) (6 * (length octets / 8))
+    (omega (arith, room)) (λ text is. encrypts kek text is_key is) (record {
       count = length-append initial_value octets ∙ omega (arith, count);
       octets = All-append (λ octet. octet < 256) initial_value octets
           (All-replicate (λ octet. octet < 256) 8 0xa6 (omega arith)) small;
-    } in
-    (IsOctets-steps kek (initial_value ++ octets) (8 + n) (6 * (length octets / 8))
-    (omega (arith, room))
-    (λ text is. encrypts kek text is_key is) start).count
+    })
+
+pub wrapped-length : (kek octets : List ℕ) (n : ℕ) → IsKey kek → 8 ≤ n → length octets ≡ n
+    → All (λ octet. octet < 256) octets → length (wrapped kek octets) ≡ 8 + n
+wrapped-length kek octets n is_key room count small =
+    (wrapped-octets kek octets n is_key room count small).count
 
 permutes : (kek : List ℕ) → IsKey kek → Permutes kek
 permutes kek is_key = record {

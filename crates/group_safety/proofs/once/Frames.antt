@@ -90,7 +90,7 @@ fewer {X} {Y} f (x ∷ xs) = go (f x) refl (fewer f xs)
     go None e r = rw e (omega (arith, r))
     go (Some y) e r = rw e (omega (arith, r))
 
-live-few : (m : Member) (p : List Entry) → length (view m p).live ≤ most_peers
+pub live-few : (m : Member) (p : List Entry) → length (view m p).live ≤ most_peers
 unfolding view known
 live-few m p =
     let h = peers_of m p in
@@ -98,7 +98,7 @@ live-few m p =
     let b = known-at-most (own m) h in
     omega (arith, a, b)
 
-potential-few : (m : Member) (p : List Entry) → length (view m p).potential ≤ most_peers
+pub potential-few : (m : Member) (p : List Entry) → length (view m p).potential ≤ most_peers
 unfolding view known
 potential-few m p =
     let h = peers_of m p in

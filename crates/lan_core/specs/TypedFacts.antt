@@ -1,0 +1,65 @@
+-- Facts with their fields in their types: numbers in their ranges, octets of their lengths.
+use Rattle.std.specs.Prelude.{◌<◌, ◌^◌}
+use Rattle.lan_base.specs.declared.key_id.KeyId.{KeyId}
+use Rattle.sak_exchange.specs.declared.change.Why.{Why}
+use Rattle.sak_exchange.specs.declared.change.Why.TheVariants.{Seen}
+use Rattle.rx_slots.specs.declared.arrival.Arrival.{Arrival}
+use Rattle.rx_slots.specs.declared.arrival.Arrival.TheVariants.{Accepted, Late}
+use Rattle.mka_station.specs.declared.verdict.DropReason.{DropReason}
+use Rattle.mka_station.specs.declared.verdict.DropReason.TheVariants.{Shape, Repeated, OldNumber}
+use Rattle.mka_station.specs.declared.verdict.Verdict.{Verdict}
+use Rattle.mka_station.specs.declared.verdict.Verdict.TheVariants as verdicts
+use Rattle.lan_core.specs.declared.fact.Fact.{Fact}
+use Rattle.lan_core.specs.declared.fact.Fact.TheVariants as facts
+use Rattle.lan_core.specs.declared.fact.Lack.{Lack}
+use Rattle.lan_core.specs.declared.fact.Lack.TheVariants.{Exhausted}
+use Rattle.lan_core.specs.Types.{AreOctets, IsMi, IsSecret, IfDrawn}
+
+-- a key's identifier
+abbrev pub IsTypedId : KeyId → Type 0
+IsTypedId id = IsMi id.server × (id.number < 2 ^ 32)
+
+-- why a key is not taken
+abbrev pub IsTypedWhy : Why → Type 0
+IsTypedWhy (Seen kept) = kept < 2 ^ 32
+IsTypedWhy _ = Unit {0}
+
+-- why a frame is dropped
+abbrev pub IsTypedReason : DropReason → Type 0
+IsTypedReason (Shape at) = at < 2 ^ 64
+IsTypedReason (Repeated kind) = kind < 2 ^ 8
+IsTypedReason (OldNumber kept) = kept < 2 ^ 32
+IsTypedReason _ = Unit {0}
+
+-- what hearing a frame comes to
+abbrev pub IsTypedVerdict : Verdict → Type 0
+IsTypedVerdict (verdicts.Dropped reason) = IsTypedReason reason
+IsTypedVerdict _ = Unit {0}
+
+-- why a station got no packet number
+abbrev pub IsTypedLack : Lack → Type 0
+IsTypedLack (Exhausted epoch) = epoch < 2 ^ 32
+IsTypedLack _ = Unit {0}
+
+-- the answer to a protected frame
+abbrev pub IsTypedArrival : Arrival → Type 0
+IsTypedArrival (Accepted pn body) = (pn < 2 ^ 32) × AreOctets body
+IsTypedArrival (Late next) = next < 2 ^ 64
+IsTypedArrival _ = Unit {0}
+
+-- a fact, but for its station
+abbrev pub IsTypedFact : Fact → Type 0
+IsTypedFact (facts.Life s mi) = IsMi mi
+IsTypedFact (facts.Ticked s at next) = (at < 2 ^ 32) × (next < 2 ^ 64)
+IsTypedFact (facts.Server s mi) = IfDrawn IsMi mi
+IsTypedFact (facts.Dropped s id an) = IsTypedId id
+IsTypedFact (facts.Retired s id an) = IsTypedId id
+IsTypedFact (facts.Began s id an epoch cause) = IsTypedId id × (epoch < 2 ^ 32)
+IsTypedFact (facts.Installed s id an epoch sak) =
+    IsTypedId id × (epoch < 2 ^ 32) × IsSecret sak
+IsTypedFact (facts.Untaken s id why) = IsTypedId id × IsTypedWhy why
+IsTypedFact (facts.Framed k s sec octets) = (k < 2 ^ 32) × AreOctets octets
+IsTypedFact (facts.HeardMka k s verdict) = (k < 2 ^ 32) × IsTypedVerdict verdict
+IsTypedFact (facts.Claimed s an epoch pn) = (epoch < 2 ^ 32) × (pn < 2 ^ 32)
+IsTypedFact (facts.Unclaimed s why) = IsTypedLack why
+IsTypedFact (facts.Arrived k s arrival) = (k < 2 ^ 32) × IsTypedArrival arrival

@@ -1,0 +1,6 @@
+mod Least
+mod Ends
+mod Telling
+mod Clean
+mod Passing
+mod AllFit

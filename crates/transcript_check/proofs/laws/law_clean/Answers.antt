@@ -1,0 +1,30 @@
+use Rattle.std.proofs.Common.{List, ◌∷◌, []}
+use Rattle.lan_base.specs.declared.frame.UserFrame.{UserFrame}
+use Rattle.lan_core.specs.declared.settings.Settings.{Settings}
+use Rattle.transcript_check.proofs.Clean.{no-use-pair, no-key-pair, counted-differ}
+use Rattle.transcript_check.proofs.Passing.{Laws, run-passes}
+use Rattle.transcript_check.proofs.laws.law_clean.Goals as goal
+
+pub returns : goal.returns
+returns c = record {
+  lines = λ settings users r legal fresh honest.
+      run-passes settings users (laws settings users) r legal.stepped fresh honest;
+  once = λ settings users r legal fresh honest.
+      no-use-pair r (c.law_once.ensures.legal settings users r legal fresh honest)
+      (counted-differ _ (c.law_epochs_count.ensures.counted settings users r legal.stepped));
+  one_key = λ settings users r legal fresh honest.
+      no-key-pair r (c.law_one_key.ensures.legal settings users r legal fresh honest);
+}
+  where
+    laws : (settings : Settings) (users : List UserFrame) → Laws settings users
+    laws settings users = record {
+      typed = c.law_facts_are_typed.ensures settings users;
+      placed = c.law_facts_have_their_stations.ensures.step settings users;
+      starts = c.law_facts_have_their_stations.ensures.start settings users;
+      named = c.law_stations_have_their_names.ensures settings users;
+      counted = c.law_epochs_count.ensures.counted settings users;
+      known = c.law_once.ensures.known settings users;
+      fresh = λ x r fresh. c.law_fronts_of_fresh_runs_are_fresh.ensures (x ∷ []) r fresh;
+      lines = c.law_typed_facts_have_lines.ensures;
+      grow = c.law_more_names_change_no_line.ensures.same;
+    }

@@ -1,0 +1,119 @@
+-- What a list of facts is judged by: all pairs of them, numbered from 1.
+use Rattle.std.specs.Prelude.{ℕ, zero, suc, ◌≡◌, ◌<◌, ◌≤◌, ◌+◌, ◌==◌, ◌&&◌, nat_eq, Bool, true, false, cond, List, [], ◌∷◌, slice_get, Option, Some, None, option_map, option_and_then}
+use Rattle.std.specs.Option.{option_or}
+use lib.Pointwise.{pointwise}
+use Rattle.lan_base.specs.AssociationNumbers.{same_an}
+use Rattle.transcript.specs.declared.fault.FactError.{FactError}
+use Rattle.transcript.specs.declared.fault.FactError.TheVariants as readings
+use Rattle.transcript_check.specs.declared.fault.CheckError.{CheckError}
+use Rattle.transcript_check.specs.declared.fault.CheckError.TheVariants.{Refused, Memory}
+use Rattle.transcript_check.specs.declared.fault.CheckFault.TheVariants.{Unread}
+use Rattle.lan_base.specs.declared.key_id.KeyId.{KeyId}
+use Rattle.aes_block.specs.declared.secret.Secret.{Secret}
+use Rattle.rx_slots.specs.declared.arrival.Arrival.TheVariants.{Missed}
+use Rattle.lan_core.specs.declared.fact.Fact.{Fact}
+use Rattle.transcript_check.specs.declared.named.Named.{Named}
+use Rattle.lan_core.specs.declared.fact.Fact.TheVariants as shows
+
+-- the fact of a number
+abbrev pub fact_at : List Fact → ℕ → Option Fact
+fact_at facts zero = None
+fact_at facts (suc n) = slice_get facts n
+
+-- ---- pairs
+
+-- what a fact tells of a key, by its number, if it tells something
+abbrev pub Noted : Type 0 → Type 0 → Type 0
+Noted K V = ℕ → Option (K × V)
+
+-- two facts, the earlier first, that tell of one key what does not agree
+pub record Breaks (K V : Type 0) (agree : V → V → Bool) (noted : Noted K V) (earlier later : ℕ) :
+    Type 0 where
+  pub key : K
+  pub one : V
+  pub other : V
+  pub order : earlier < later
+  pub first : noted earlier ≡ Some (key, one)
+  pub second : noted later ≡ Some (key, other)
+  pub apart : agree one other ≡ false
+
+-- this pair breaks, none has a less later number, and none with this later number a less earlier
+pub record IsLeast (Broken : ℕ → ℕ → Type 0) (earlier later : ℕ) : Type 0 where
+  pub broken : Broken earlier later
+  pub least : (a b : ℕ) → Broken a b → later ≤ b
+  pub first : (a : ℕ) → Broken a later → earlier ≤ a
+
+-- no pair breaks, or this is the least one that does
+abbrev pub IsJudged : (ℕ → ℕ → Type 0) → Option (ℕ × ℕ) → Type 0
+IsJudged Broken None = (a b : ℕ) → Broken a b → ⊥
+IsJudged Broken (Some pair) = IsLeast Broken pair.0 pair.1
+
+-- ---- one use of each packet number
+
+abbrev pub sak_here : ℕ → ℕ → Fact → Option Secret
+sak_here s epoch (shows.Installed station id an e sak) =
+    cond ((station == s) && (e == epoch)) (Some sak) None
+sak_here s epoch _ = None
+
+-- the SAK that a station installed under an epoch, of the first such install
+abbrev pub sak_in : List Fact → ℕ → ℕ → Option Secret
+sak_in [] s epoch = None
+sak_in (fact ∷ later) s epoch = option_or (sak_here s epoch fact) (sak_in later s epoch)
+
+-- what a claim uses: a packet number of a station under a SAK
+pub record Use : Type 0 where
+  pub station : ℕ
+  pub sak : Secret
+  pub pn : ℕ
+
+abbrev pub use_of : List Fact → Fact → Option (Use × Unit {0})
+use_of facts (shows.Claimed s an epoch pn) =
+    option_map (λ sak. (record { station = s; sak = sak; pn = pn }, tt)) (sak_in facts s epoch)
+use_of facts _ = None
+
+abbrev pub uses : List Fact → Noted Use (Unit {0})
+uses facts number = option_and_then (use_of facts) (fact_at facts number)
+
+-- no two uses agree
+abbrev pub never : Unit {0} → Unit {0} → Bool
+never _ _ = false
+
+abbrev pub BreaksOnce : List Fact → ℕ → ℕ → Type 0
+BreaksOnce facts = Breaks Use (Unit {0}) never (uses facts)
+
+-- ---- one key under each identifier
+
+abbrev pub named_by : Fact → Option (KeyId × Named)
+named_by (shows.Installed s id an epoch sak) = Some (id, record { an = an; sak = sak })
+named_by _ = None
+
+abbrev pub names : List Fact → Noted KeyId Named
+names facts number = option_and_then named_by (fact_at facts number)
+
+abbrev pub same_secret : Secret → Secret → Bool
+same_secret (Secret.S128 a) (Secret.S128 b) = pointwise nat_eq a b
+same_secret (Secret.S256 a) (Secret.S256 b) = pointwise nat_eq a b
+same_secret _ _ = false
+
+abbrev pub same_named : Named → Named → Bool
+same_named a b = same_an a.an b.an && same_secret a.sak b.sak
+
+abbrev pub BreaksOneKey : List Fact → ℕ → ℕ → Type 0
+BreaksOneKey facts = Breaks KeyId Named same_named (names facts)
+
+-- ---- frames that no key was there for
+
+abbrev pub is_missed : Fact → Bool
+is_missed (shows.Arrived k s (Missed an)) = true
+is_missed _ = false
+
+abbrev pub missed_in : List Fact → ℕ
+missed_in [] = 0
+missed_in (fact ∷ later) = cond (is_missed fact) 1 0 + missed_in later
+
+-- ---- refusals
+
+-- why a line is not taken that is not read
+abbrev pub error_of_reading : FactError → CheckError
+error_of_reading readings.Unread = Refused Unread
+error_of_reading readings.Memory = Memory

@@ -1,0 +1,221 @@
+-- What the maps say of the facts so far.
+use Rattle.std.specs.Prelude.{ℕ, ◌≡◌, ◌≢◌, ◌≤◌, ◌+◌, true, cond, List, [], ◌∷◌, ◌++◌, length, Option, Some, None, option_map, IsTrue, is_some, Result, Ok, Err, is_ok, min, ◌⊎◌}
+use Rattle.std.specs.Map.{lookup}
+use Rattle.std.specs.BTreeMap.{is_at}
+use Rattle.std.specs.Ordering.{nat_cmp, ordering_then}
+use Rattle.std.specs.declared.cmp.Ordering.{Ordering}
+use Rattle.std.specs.Cmp.Lexicographic.{slice_cmp}
+use Rattle.lan_base.specs.declared.address.Mi.{Mi}
+use Rattle.lan_base.specs.declared.key_id.KeyId.{KeyId}
+use Rattle.lan_base.specs.Identifiers.{order}
+use Rattle.lan_base.specs.declared.name.Name.{Name}
+use Rattle.transcript.specs.Naming.{Reads}
+use Rattle.aes_block.specs.declared.secret.Secret.{Secret}
+use Rattle.aes_block.specs.declared.secret.Secret.TheVariants.{S128, S256}
+use Rattle.lan_core.specs.declared.fact.Fact.{Fact}
+use Rattle.lan_core.specs.declared.fact.Fact.TheVariants as shows
+use Rattle.transcript_check.specs.declared.named.Named.{Named}
+use Rattle.transcript_check.specs.declared.fault.CheckFault.{CheckFault}
+use Rattle.transcript_check.specs.declared.fault.CheckError.{CheckError}
+use Rattle.transcript_check.specs.declared.verdict.Verdict.{Verdict}
+use Rattle.transcript_check.specs.declared.fault.CheckFault.TheVariants.{Unread, Doubled, Orphan}
+use Rattle.transcript_check.specs.declared.fault.CheckError.TheVariants.{Refused, Memory}
+use Rattle.transcript_check.specs.Judged.{Noted, IsJudged, BreaksOnce, BreaksOneKey, Use, uses, names, sak_in, fact_at, missed_in, is_missed, same_named}
+
+-- a station and an epoch, or a station and a packet number
+abbrev pub pair_cmp : ℕ × ℕ → ℕ × ℕ → Ordering
+pair_cmp a b = ordering_then (nat_cmp a.0 b.0) (nat_cmp a.1 b.1)
+
+abbrev pub id_cmp : Mi × ℕ → Mi × ℕ → Ordering
+id_cmp a b = ordering_then (order a.0 b.0) (nat_cmp a.1 b.1)
+
+abbrev pub use_cmp : (ℕ × ℕ) × List ℕ → (ℕ × ℕ) × List ℕ → Ordering
+use_cmp a b = ordering_then (pair_cmp a.0 b.0) (slice_cmp nat_cmp a.1 b.1)
+
+-- what is kept
+pub record Maps : Type 0 where
+  pub count : ℕ
+  pub missed : ℕ
+  pub once : Option (ℕ × ℕ)
+  pub one_key : Option (ℕ × ℕ)
+  pub epochs : List ((ℕ × ℕ) × Secret)
+  pub keys : List ((Mi × ℕ) × (ℕ × Named))
+  pub narrow : List (((ℕ × ℕ) × List ℕ) × ℕ)
+  pub wide : List (((ℕ × ℕ) × List ℕ) × ℕ)
+
+abbrev pub sak_at : Maps → ℕ → ℕ → Option Secret
+sak_at m s epoch = lookup (is_at (pair_cmp (s, epoch))) m.epochs
+
+abbrev pub first_of : Maps → KeyId → Option (ℕ × Named)
+first_of m id = lookup (is_at (id_cmp (id.server, id.number))) m.keys
+
+abbrev pub line_by : Maps → ℕ → ℕ → Secret → Option ℕ
+line_by m s pn (S128 octets) = lookup (is_at (use_cmp ((s, pn), octets))) m.narrow
+line_by m s pn (S256 octets) = lookup (is_at (use_cmp ((s, pn), octets))) m.wide
+
+abbrev pub line_of : Maps → Use → Option (ℕ × Unit {0})
+line_of m u = option_map (λ n. (n, tt)) (line_by m u.station u.pn u.sak)
+
+-- what is found under a key is what the first fact of that key tells
+abbrev pub IsFound : (K V : Type 0) → Noted K V → K → Option (ℕ × V) → Type 0
+IsFound K V f k None = (m : ℕ) (v : V) → f m ≡ Some (k, v) → ⊥
+IsFound K V f k (Some nv) =
+    (f nv.0 ≡ Some (k, nv.1)) × ((m : ℕ) (w : V) → f m ≡ Some (k, w) → nv.0 ≤ m)
+
+-- a claim is of an epoch under which its station installed a key
+abbrev pub IsOfEpoch : List Fact → Fact → Type 0
+IsOfEpoch facts (shows.Claimed s an epoch pn) = IsTrue (is_some (sak_in facts s epoch))
+IsOfEpoch facts _ = Unit {0}
+
+pub record StandsFor (facts : List Fact) (m : Maps) : Type 0 where
+  pub count : m.count ≡ length facts
+  pub missed : m.missed ≡ missed_in facts
+  pub once : IsJudged (BreaksOnce facts) m.once
+  pub one_key : IsJudged (BreaksOneKey facts) m.one_key
+  pub epochs : (s epoch : ℕ) → sak_at m s epoch ≡ sak_in facts s epoch
+  pub keys : m.one_key ≡ None → (id : KeyId) → IsFound KeyId Named (names facts) id (first_of m id)
+  pub uses : m.once ≡ None → (u : Use) → IsFound Use (Unit {0}) (uses facts) u (line_of m u)
+  pub known : (number : ℕ) (fact : Fact) → fact_at facts number ≡ Some fact → IsOfEpoch facts fact
+
+-- ---- steps of the maps
+
+-- nothing but what is found under this key is changed
+pub record KeyIsPut (number : ℕ) (id : KeyId) (named : Named) (old new : Maps) : Type 0 where
+  pub count : new.count ≡ old.count
+  pub missed : new.missed ≡ old.missed
+  pub once : new.once ≡ old.once
+  pub one_key : new.one_key ≡ old.one_key
+  pub epochs : new.epochs ≡ old.epochs
+  pub narrow : new.narrow ≡ old.narrow
+  pub wide : new.wide ≡ old.wide
+  pub here : first_of new id ≡ Some (number, named)
+  pub others : (other : KeyId) → other ≢ id → first_of new other ≡ first_of old other
+
+abbrev pub IsNamed : ℕ → KeyId → Named → Maps → Maps → Option (ℕ × ℕ) → Option (ℕ × Named) → Type 0
+IsNamed number id named old new (Some pair) first = new ≡ old
+IsNamed number id named old new None None = KeyIsPut number id named old new
+IsNamed number id named old new None (Some nv) =
+    new ≡ cond (same_named nv.1 named) old (record old { one_key = Some (nv.0, number) })
+
+pub record UseIsPut (number s pn : ℕ) (sak : Secret) (old new : Maps) : Type 0 where
+  pub count : new.count ≡ old.count
+  pub missed : new.missed ≡ old.missed
+  pub once : new.once ≡ old.once
+  pub one_key : new.one_key ≡ old.one_key
+  pub epochs : new.epochs ≡ old.epochs
+  pub keys : new.keys ≡ old.keys
+  pub here : line_by new s pn sak ≡ Some number
+  pub others : (t qn : ℕ) (other : Secret) → ((t ≡ s) × (qn ≡ pn) × (other ≡ sak) → ⊥)
+      → line_by new t qn other ≡ line_by old t qn other
+
+abbrev pub IsUsed : ℕ → ℕ → ℕ → Secret → Maps → Maps → Option (ℕ × ℕ) → Option ℕ → Type 0
+IsUsed number s pn sak old new (Some pair) line = new ≡ old
+IsUsed number s pn sak old new None None = UseIsPut number s pn sak old new
+IsUsed number s pn sak old new None (Some line) = new ≡ record old { once = Some (line, number) }
+
+pub record EpochIsPut (s epoch : ℕ) (sak : Secret) (old new : Maps) : Type 0 where
+  pub count : new.count ≡ old.count
+  pub missed : new.missed ≡ old.missed
+  pub once : new.once ≡ old.once
+  pub one_key : new.one_key ≡ old.one_key
+  pub keys : new.keys ≡ old.keys
+  pub narrow : new.narrow ≡ old.narrow
+  pub wide : new.wide ≡ old.wide
+  pub here : sak_at new s epoch ≡ Some sak
+  pub others : (t e : ℕ) → ((t ≡ s) × (e ≡ epoch) → ⊥) → sak_at new t e ≡ sak_at old t e
+
+-- ---- a fact is taken
+
+-- why a fact is refused after these
+abbrev pub no_epoch : Option Secret → Option CheckFault
+no_epoch None = Some Orphan
+no_epoch (Some sak) = None
+
+abbrev pub refusal : List Fact → Fact → Option CheckFault
+refusal facts (shows.Installed s id an epoch sak) = option_map (λ _. Doubled) (sak_in facts s epoch)
+refusal facts (shows.Claimed s an epoch pn) = no_epoch (sak_in facts s epoch)
+refusal facts _ = None
+
+-- a fact is refused, or it is not and memory ran out
+abbrev pub IsFailed : List Fact → Fact → CheckError → Type 0
+IsFailed facts fact (Refused fault) = refusal facts fact ≡ Some fault
+IsFailed facts fact Memory = refusal facts fact ≡ None
+
+-- what a call says after these facts
+abbrev pub IsNoted : List Fact → Fact → Maps → Maps → Result Unit CheckError → Type 0
+IsNoted facts fact old new (Ok _) = (refusal facts fact ≡ None) × StandsFor (facts ++ fact ∷ []) new
+IsNoted facts fact old new (Err error) = IsFailed facts fact error × (new ≡ old)
+
+pub record IsInstalled (number s epoch : ℕ) (id : KeyId) (named : Named) (old new : Maps) : Type 0 where
+  pub middle : Maps
+  pub epoch_put : EpochIsPut s epoch named.sak old middle
+  pub names_it : IsNamed number id named middle new middle.one_key (first_of middle id)
+
+abbrev pub Installs : ℕ → ℕ → ℕ → KeyId → Named → Maps → Maps → Option Secret → Result Unit CheckError
+    → Type 0
+Installs number s epoch id named old new (Some sak) r = (r ≡ Err (Refused Doubled)) × (new ≡ old)
+Installs number s epoch id named old new None (Ok _) = IsInstalled number s epoch id named old new
+Installs number s epoch id named old new None (Err error) = (error ≡ Memory) × (new ≡ old)
+
+abbrev pub Claims : ℕ → ℕ → ℕ → Maps → Maps → Option Secret → Result Unit CheckError → Type 0
+Claims number s pn old new None r = (r ≡ Err (Refused Orphan)) × (new ≡ old)
+Claims number s pn old new (Some sak) (Ok _) =
+    IsUsed number s pn sak old new old.once (line_by old s pn sak)
+Claims number s pn old new (Some sak) (Err error) = (error ≡ Memory) × (new ≡ old)
+
+abbrev pub Passes : Maps → Maps → ℕ → Result Unit CheckError → Type 0
+Passes old new missed r = (is_ok r ≡ true) × (new ≡ record old { missed = missed })
+
+abbrev pub Takes : ℕ → Fact → Maps → Maps → Result Unit CheckError → Type 0
+Takes number (shows.Installed s id an epoch sak) old new r =
+    Installs number s epoch id (record { an = an; sak = sak }) old new (sak_at old s epoch) r
+Takes number (shows.Claimed s an epoch pn) old new r =
+    Claims number s pn old new (sak_at old s epoch) r
+Takes number (shows.Arrived k s arrival) old new r =
+    Passes old new (min (old.missed + cond (is_missed (shows.Arrived k s arrival)) 1 0) 18446744073709551615) r
+Takes number _ old new r = (is_ok r ≡ true) × (new ≡ old)
+
+-- ---- the verdict
+
+pub record IsVerdict (facts : List Fact) (verdict : Verdict) : Type 0 where
+  pub once : IsJudged (BreaksOnce facts) verdict.once
+  pub one_key : IsJudged (BreaksOneKey facts) verdict.one_key
+  pub missed : verdict.missed ≡ missed_in facts
+
+-- ---- lines
+
+-- the names of the stations, and what is kept of the facts
+pub record Standing : Type 0 where
+  pub names : List Name
+  pub maps : Maps
+
+-- after lines that named these stations and told these facts
+abbrev pub IsCheckOf : List Name → List Fact → Standing → Type 0
+IsCheckOf names facts check = (check.names ≡ names) × StandsFor facts check.maps
+
+-- a line was taken: it is read, its fact is not refused, and it counts from now on
+pub record IsTaken (names : List Name) (facts : List Fact) (line : List ℕ) (now : Standing) : Type 0
+  where
+    pub after : List Name
+    pub fact : Fact
+    pub reads : Reads names line after fact
+    pub free : refusal facts fact ≡ None
+    pub stands : IsCheckOf after (facts ++ fact ∷ []) now
+
+-- a line is to be refused: it is not read, or its fact is refused
+abbrev pub IsDenied : List Name → List Fact → List ℕ → CheckFault → Type 0
+IsDenied names facts line Unread =
+    (after : List Name) (fact : Fact) → Reads names line after fact → ⊥
+IsDenied names facts line Doubled =
+    (after : List Name) × (fact : Fact) × Reads names line after fact
+    × (refusal facts fact ≡ Some Doubled)
+IsDenied names facts line Orphan =
+    (after : List Name) × (fact : Fact) × Reads names line after fact
+    × (refusal facts fact ≡ Some Orphan)
+
+-- lines that are taken one after another, from these names and facts to those
+abbrev pub AreTaken : List Name → List Fact → List (List ℕ) → List Name → List Fact → Type 0
+AreTaken names facts [] names_then facts_then = (names ≡ names_then) × (facts ≡ facts_then)
+AreTaken names facts (line ∷ lines) names_then facts_then =
+    (after : List Name) × (fact : Fact) × Reads names line after fact
+    × (refusal facts fact ≡ None) × AreTaken after (facts ++ fact ∷ []) lines names_then facts_then
