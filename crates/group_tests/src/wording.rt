@@ -1,12 +1,16 @@
 //! The words of the stations follow a group: they show what the group takes, and give what it
 //! claims.
 
+ghost use Rattle.std.specs.Prelude.{◌≡◌};
+ghost use Rattle.transmit_words.specs.Ties.{tables_of};
+
 use crate::playing::Act::{Claims, Restarts, Starts, Ticks};
 use crate::playing::{A, Act, B, FAR, Step, empty, happens, supply};
 use crate::sharing::{FIRST_KEY, MEETING};
 use aes_block::Secret;
 use association_slots::{Card, SlotTable};
 use lan_base::AssociationNumber::{self, An0, An1};
+use lan_core::{Fact, Lan};
 use packet_claims::{Gate, NoClaim, OpenGate, Point};
 use std::alloc::Global;
 use std::cell::RefCell;
@@ -41,22 +45,44 @@ const BEHIND: [Step; 6] = [
     Step(B, Ticks(0), &[]),
 ];
 
-/// Takes the number of an act from the words, which is the one that the step says.
-fn takes(
-    rt: &impl Abort,
-    alloc: Global,
-    controls: &mut Controls,
-    tables: &mut Vec<SlotTable>,
-    station: u8,
-    act: Act,
-) -> Result<(), Fail> {
-    match act {
-        Starts => controls.start(alloc, tables)?,
-        Ticks(next) => assert_eq!(rt; controls.next(tables.as_slice(), station), next),
-        Claims(pn) => assert_eq!(rt; controls.claim(tables.as_slice(), station, &OpenGate), pn),
-        _ => {}
+/// The words of the stations of a group, and the hands that move them.
+#[derive(Drop)]
+struct Words {
+    tables: Vec<SlotTable>,
+    controls: Controls,
+    ghost here: { tables_of controls ≡ tables.items },
+}
+
+impl Words {
+    fn new(alloc: Global) -> Self {
+        Words {
+            tables: Vec::new(alloc),
+            controls: Controls::new(alloc),
+        }
     }
-    Ok(())
+
+    /// Takes the number of an act, which is the one that the step says.
+    fn take(&mut self, rt: &impl Abort, alloc: Global, station: u8, act: Act) -> Result<(), Fail> {
+        match act {
+            Starts => self.controls.start(alloc, &mut self.tables)?,
+            Ticks(next) => {
+                assert_eq!(rt; self.controls.next(self.tables.as_slice(), station), next);
+            }
+            Claims(pn) => {
+                let claim = self
+                    .controls
+                    .claim(self.tables.as_slice(), station, &OpenGate);
+                assert_eq!(rt; claim, pn);
+            }
+            _ => {}
+        }
+        Ok(())
+    }
+
+    fn follow<G: Gate>(&mut self, lan: &Lan, facts: &[Fact], gate: &G) {
+        self.controls
+            .follow(self.tables.as_slice(), lan, facts, gate);
+    }
 }
 
 #[test]
@@ -64,21 +90,28 @@ fn words_follow_two_stations(rt: HostRuntime) -> Result<(), Fail> {
     let alloc = rt.alloc();
     let mut lan = empty(alloc, FAR)?;
     let mut draws = supply(alloc, &[1, 2, 3, 4])?;
-    let mut tables = Vec::new(alloc);
-    let mut controls = Controls::new(alloc);
+    let mut words = Words::new(alloc);
     let gate = Moves {
         stations: RefCell::new(Vec::new(alloc)),
     };
     for steps in [&MEETING[..], &FIRST_KEY[..], &BEHIND[..]] {
         for Step(station, act, _) in steps {
-            takes(&rt, alloc, &mut controls, &mut tables, *station, *act)?;
+            words.take(&rt, alloc, *station, *act)?;
             let facts = happens(&rt, alloc, &mut lan, &mut draws, *station, *act)??;
-            controls.follow(tables.as_slice(), &lan, facts.as_slice(), &gate);
+            words.follow(&lan, facts.as_slice(), &gate);
         }
     }
     let stations = gate.stations.into_inner();
     assert!(rt; stations.as_slice() == [A, B, B].as_slice());
     Ok(())
+}
+
+/// The words of one station, and the hand that moves them.
+#[derive(Drop)]
+struct Alone {
+    table: SlotTable,
+    control: TransmitControl,
+    ghost here: { control.table ≡ table },
 }
 
 /// What is done with the words of one station.
@@ -119,21 +152,32 @@ const CARD: Card = Card {
     conf: true,
 };
 
-#[test]
-fn words_show_and_give_numbers_under_two_keys(rt: HostRuntime) -> Result<(), Fail> {
-    let (table, mut control) = TransmitControl::new(rt.alloc())?;
-    for step in ALONE {
+impl Alone {
+    fn new(alloc: Global) -> Result<Self, Fail> {
+        let (table, control) = TransmitControl::new(alloc)?;
+        Ok(Alone { table, control })
+    }
+
+    fn does(&mut self, rt: &impl Abort, step: Do) {
         match step {
-            Do::Install => control.install(&table, &CARD),
-            Do::Begin(an, epoch) => control.begin(&table, 0, an, epoch, &OpenGate),
-            Do::End(an) => control.end(&table, 0, an, &OpenGate),
-            Do::Shows(next) => assert_eq!(rt; control.next(&table), next),
+            Do::Install => self.control.install(&self.table, &CARD),
+            Do::Begin(an, epoch) => self.control.begin(&self.table, 0, an, epoch, &OpenGate),
+            Do::End(an) => self.control.end(&self.table, 0, an, &OpenGate),
+            Do::Shows(next) => assert_eq!(rt; self.control.next(&self.table), next),
             Do::Claims(answer) => {
-                let claim = control.claim(&table, &OpenGate);
+                let claim = self.control.claim(&self.table, &OpenGate);
                 assert_eq!(rt; claim.map(|claim| (claim.epoch, claim.pn)), answer);
                 assert!(rt; claim.is_err() || claim.map(|claim| claim.card) == Ok(CARD));
             }
         }
+    }
+}
+
+#[test]
+fn words_show_and_give_numbers_under_two_keys(rt: HostRuntime) -> Result<(), Fail> {
+    let mut alone = Alone::new(rt.alloc())?;
+    for step in ALONE {
+        alone.does(&rt, step);
     }
     Ok(())
 }

@@ -6,7 +6,7 @@ use Rattle.std.proofs.Common.{arith, add-one}
 use Rattle.std.proofs.lemmas.Bool.{eq-eqb, ne_eqb}
 use Rattle.std.proofs.lemmas.Option.{slice_get_within}
 use Rattle.std.proofs.Math.Seq.{take-suc}
-use Rattle.std.specs.Prelude.{◌==◌, slice_get, option_and_then, Contains}
+use Rattle.std.specs.Prelude.{◌==◌, slice_get, is_some, option_map, option_and_then, Contains}
 use Rattle.atomic_table.specs.Seated.{TableId}
 use Rattle.lan_base.specs.declared.association_number.AssociationNumber.{AssociationNumber}
 use Rattle.association_slots.specs.Views.{ControlAt, present_at}
@@ -30,7 +30,9 @@ use Rattle.group_safety.proofs.Public.{contains-in, in-contains, in-left, in-rig
 use Rattle.transmit_words.specs.Telling.{Tells, IsClaimed, word_of}
 use Rattle.transmit_words.specs.Ties.{tables_of, IsTied, AreTied, IsAhead, AreAhead, AreHeld}
 use Rattle.transmit_words.specs.Ties.{Follows, Followed}
-use Rattle.transmit_words.specs.inside.Cards.{HasCard}
+use Rattle.transmit_words.specs.inside.Cards.{HasCard, card_of_key, card_held}
+use Rattle.sak_exchange.specs.declared.held_key.HeldKey.{HeldKey}
+use Rattle.lan_core.specs.Keys.{held_at}
 
 -- what stands where one was set
 get-set : (cs : List ControlAt) (p : ℕ) (x : ControlAt) (s : ℕ) (d : ControlAt) → slice_get (set cs p x) s ≡ Some d → ((s ≡ p) × (x ≡ d)) ⊎ ((s ≢ p) × (slice_get cs s ≡ Some d))
@@ -165,6 +167,26 @@ stays : (f : Fact) (s : ℕ) (d : ControlAt) → s ≢ place f → Follows s (f 
 stays f s d ne l k tells is =
     let e : Some l.carried ≡ Some k = sym (then-some (moves s f l.carried) ∙ moves-other f s l.carried ne) ∙ is in
     let same : l.carried ≡ k = cc e in subst (λ (j : Carried). Tells (record l { carried = j }) d.view) same tells
+
+some-mapped : (o : Option HeldKey) → is_some o ≡ true → is_some (option_map card_of_key o) ≡ true
+some-mapped None some = some
+some-mapped (Some h) some = refl
+
+-- the card of a held key is there
+pub has-card : (settings : Settings) (r : Run) (f : Fact) (card : Option Card) → card ≡ card_held settings r f → AreHeld settings r (f ∷ []) → HasCard f card
+has-card settings r (facts.Installed s id an epoch sak) card is held = ap is_some is ∙ some-mapped (held_at settings s r an) (held s id an epoch sak (0, omega arith, refl))
+has-card settings r (facts.Life s mi) card is held = tt
+has-card settings r (facts.Ticked s at next) card is held = tt
+has-card settings r (facts.Server s mi) card is held = tt
+has-card settings r (facts.Dropped s id an) card is held = tt
+has-card settings r (facts.Retired s id an) card is held = tt
+has-card settings r (facts.Began s id an epoch cause) card is held = tt
+has-card settings r (facts.Untaken s id why) card is held = tt
+has-card settings r (facts.Framed n s sec octets) card is held = tt
+has-card settings r (facts.HeardMka n s verdict) card is held = tt
+has-card settings r (facts.Claimed s an epoch pn) card is held = tt
+has-card settings r (facts.Unclaimed s why) card is held = tt
+has-card settings r (facts.Arrived n s arrival) card is held = tt
 
 pub followed-one : (settings : Settings) (r : Run) (cs : List ControlAt) (f : Fact) (s : ℕ) (c d : ControlAt) (card : Option Card) → s ≡ place f → slice_get cs s ≡ Some c
     → (AreHeld settings r (f ∷ []) → HasCard f card)

@@ -8,8 +8,7 @@ ghost use Rattle.lan_core.specs.Standing.{StandsFor};
 ghost use Rattle.group_safety.specs.Transmitting.{Carried, moved};
 ghost use Rattle.group_safety.specs.Accounts.{Account};
 ghost use Rattle.transmit_words.specs.Telling.{Tells};
-ghost use Rattle.transmit_words.specs.Ties.{AreHeld};
-ghost use Rattle.transmit_words.specs.inside.Cards.{HasCard};
+ghost use Rattle.transmit_words.specs.inside.Cards.{HasCard, card_held};
 
 use crate::control::TransmitControl;
 use association_slots::{Card, SlotTable};
@@ -50,8 +49,7 @@ pub(crate) fn moved<G: Gate>(
 /// The card of the key that a fact installs: of the one that is held under its association number.
 pub(crate) fn card_of(lan: &Lan, fact: &Fact) -> Option<Card>
     ensures { (settings : Settings) (users : List UserFrame) (r : Run)
-        → StandsFor settings users lan.now r → AreHeld settings r (fact.now ∷ [])
-        → HasCard fact.now result }
+        → StandsFor settings users lan.now r → result ≡ card_held settings r fact.now }
 {
     match fact {
         Fact::Installed { station, an, .. } => match lan.held(*station, *an) {

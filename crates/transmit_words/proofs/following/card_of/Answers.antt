@@ -1,10 +1,14 @@
-use Rattle.std.proofs.Common.{sym, ap, ◌∙◌, arith}
-use Rattle.std.specs.Prelude.{is_some}
+use Rattle.std.proofs.Common.{sym, ap, ◌∙◌}
+use Rattle.std.specs.Prelude.{option_map}
+use Rattle.transmit_words.specs.inside.Cards.{card_of_key, card_held}
 use Rattle.transmit_words.proofs.following.card_of.Goals as goal
 
+pub returns-in-Some : goal.returns-in-Some
+returns-in-Some c = λ settings users r stands.
+    ap (option_map card_of_key) (sym c.in-Some.is ∙ c.held.ensures settings users r stands)
+    ∙ ap (card_held settings r) (sym c.in-Installed.is)
+
 pub returns-in-None : goal.returns-in-None
-returns-in-None c = λ settings users r stands held.
-    let i = c.in-Installed in
-    let some = held i.station i.id i.an i.epoch i.sak (0, omega arith, i.is) in
-    let none = ap is_some (sym (c.held.ensures settings users r stands) ∙ c.in-None.is) in
-    absurd (cc (sym some ∙ none))
+returns-in-None c = λ settings users r stands.
+    ap (option_map card_of_key) (sym c.in-None.is ∙ c.held.ensures settings users r stands)
+    ∙ ap (card_held settings r) (sym c.in-Installed.is)
