@@ -1,8 +1,10 @@
--- A race that meets the premises of the laws. Two stations have a key, and the first one transmits
+-- A race that meets the premises of the laws, and is thrifty. Two stations have a key, and the first one transmits
 -- under it. In the race the second one begins it too. A worker of the first claims two numbers; one
 -- of the second is refused before the key begins there, and then gets a number.
 use Rattle.std.proofs.Common.{◌≡◌, ◌⊎◌, ◌<◌, ◌≤◌, ◌+◌, ℕ, zero, suc, true, List, [], ◌∷◌, ◌++◌, length}
 use Rattle.std.proofs.Common.{refl, sym, ap, ◌∙◌, subst, arith, inl, inr, length-append, Option, Some, None}
+use Rattle.std.proofs.Common.{◌-◌, ◌==◌, Bool, false, cond, filter, if◌then◌else◌, map}
+use Rattle.std.specs.List.{AllByRecursion, range_with_len}
 use Rattle.lan_base.specs.declared.association_number.AssociationNumber.{AssociationNumber}
 use Rattle.lan_base.specs.declared.association_number.AssociationNumber.TheVariants.{An0}
 use Rattle.lan_base.specs.declared.frame.UserFrame.{UserFrame}
@@ -19,19 +21,23 @@ use Rattle.packet_claims.specs.declared.answers.NoClaim.TheVariants.{NoKey}
 use Rattle.data_workers.specs.declared.entry.Entry.{Entry}
 use Rattle.data_workers.specs.declared.entry.Entry.TheVariants.{Taken, Refused}
 use Rattle.lan_core.specs.declared.event.Event.TheVariants as events
+use Rattle.lan_core.specs.declared.fact.Fact.TheVariants as facts
 use Rattle.lan_core.specs.Run.{Run, Happening, happened, stations, started}
 use Rattle.lan_core.specs.Lives.{life, keys_in, transmitting_at}
 use Rattle.lan_core.specs.Claims.{next, user_at}
+use Rattle.lan_core.specs.Expected.{lack, number_fact}
 use Rattle.lan_core.specs.Order.{Exists, IsAllowed, IsSendable}
-use Rattle.lan_core.specs.Legal.{IsLegal, IsStepped, none_ahead}
+use Rattle.lan_core.specs.Legal.{IsLegal, IsStepped, IsThrifty, is_unused, none_ahead, unused}
 use Rattle.lan_core.proofs.Public.{legal-more}
 use Rattle.group_safety.proofs.Public.{part, transmitting-last}
 use Rattle.group_safety.proofs.Public as parts
 use Rattle.group_safety.proofs.Public.{settings, users, first_key, r11, r12, l11, l12, both, a-user}
 use Rattle.group_safety.proofs.Public.{most_next, next-most, v11, v12}
-use Rattle.race_merge.specs.Places.{Move, Lives}
-use Rattle.race_merge.specs.Merged.{AllPairs, Differ, InLog, IsFit, entries_of}
+use Rattle.race_merge.specs.Places.{Move, Attempt, Lives}
+use Rattle.race_merge.specs.Marks.{Mark, Control, Claim}
+use Rattle.race_merge.specs.Merged.{AllPairs, Differ, InLog, IsFit, entries_of, merged, numbered, sooner}
 use Rattle.race_merge.specs.Raced.{epoch_at, epoch_of, before_of, IsAttempt, IsRaced}
+use Rattle.race_merge.specs.Raced.{claim_after, user_of, woven}
 use Rattle.race_merge.specs.Steps.{attempt_of, logs_of}
 use Rattle.race_merge.specs.Given.{AreGiven, ArePerformed, AreUnder, IsPast}
 use Rattle.race_merge.specs.Table.{Controls, moves_at}
@@ -39,6 +45,7 @@ use Rattle.race_merge.proofs.FromRun.{in-life, positive}
 use Rattle.race_merge.proofs.KeysMove.{last-began}
 use Rattle.race_merge.proofs.GivenMoves.{moves-given, follows-all}
 use Rattle.race_merge.proofs.Performed.{all-given}
+use Rattle.race_merge.proofs.Stable.{each-in_order}
 
 -- ---- the race
 
@@ -277,3 +284,59 @@ raced = record {
   logged = ((refl, (refl, tt)), ((refl, (refl, tt)), tt));
   differ = all-differ;
 }
+
+-- ---- it is thrifty
+
+few-pass : (test : ℕ → Bool) (from count : ℕ) → length (filter test (range_with_len from count)) ≤ count
+few-pass test from zero = omega arith
+few-pass test from (suc count) = go (test from) (few-pass test (from + 1) count)
+  where
+    others : List ℕ
+    others = filter test (range_with_len (from + 1) count)
+
+    go : (b : Bool) → length others ≤ count → length (cond b (from ∷ others) others) ≤ suc count
+    go true less = omega (arith, less)
+    go false less = omega (arith, less)
+
+few-unused : (s epoch : ℕ) (r : Run) → most_next r ≤ 17 → unused settings s epoch r ≤ 16
+few-unused s epoch r low =
+    let most = next-most s epoch r in
+    let few = few-pass (is_unused s epoch r) 1 (next settings s epoch r - 1) in
+    omega (arith, most, low, few)
+
+thrifty-low : (r : Run) → most_next r ≤ 17 → IsThrifty settings r
+thrifty-low [] low = tt
+thrifty-low (x ∷ r) low = ((λ s epoch. few-unused s epoch (x ∷ r) low), thrifty-low r (omega (arith, low)))
+
+-- an event of control, or a claim, after which no next number is above 17
+abbrev IsLow : Mark → Type 0
+IsLow (Control n m) = most_next (m.x ∷ []) ≤ 17
+IsLow (Claim x) = x.number ≤ 16
+
+claim-low : (x : Attempt) (r : Run) → x.number ≤ 16 → most_next r ≤ 17 → most_next (claim_after settings 0 x r ∷ r) ≤ 17
+claim-low x r few low = go (x.number == 0) (transmitting_at settings x.station r)
+  where
+    go : (b : Bool) (o : Option Key)
+        → most_next (happened (events.Claim x.station (user_of 0 x) x.number)
+        ((if b then facts.Unclaimed x.station (lack settings x.station r o) else number_fact x.station x.number o) ∷ []) ∷ r) ≤ 17
+    go true o = omega (arith, low)
+    go false None = omega (arith, low)
+    go false (Some k) = omega (arith, low, few)
+
+woven-low : (zs : List Mark) (r : Run) → AllByRecursion IsLow zs → most_next r ≤ 17 → most_next (woven settings 0 zs r) ≤ 17
+woven-low [] r lows low = low
+woven-low (Control n m ∷ zs) r lows low = woven-low zs (m.x ∷ r) lows.1 (let one = lows.0 in omega (arith, low, one))
+woven-low (Claim x ∷ zs) r lows low =
+    woven-low zs (claim_after settings 0 x r ∷ r) lows.1 (claim-low x r lows.0 low)
+
+marks-low : AllByRecursion IsLow (numbered 0 moves ++ map Claim (entries_of (logs_of 0 logs)))
+unfolding numbered entries_of
+marks-low = (omega arith, (omega arith, (omega arith, (omega arith, (omega arith, tt)))))
+
+pub starts_thrifty : IsThrifty settings r11
+starts_thrifty = thrifty-low r11 (let one : most_next r11 ≡ 1 = refl in omega (arith, one))
+
+pub ends_thrifty : (s epoch : ℕ)
+    → unused settings s epoch (woven settings 0 (merged moves (entries_of (logs_of 0 logs))) r11) ≤ 16
+ends_thrifty s epoch = few-unused s epoch _ (woven-low (merged moves (entries_of (logs_of 0 logs))) r11
+    (each-in_order (sooner moves) IsLow _ marks-low) (let one : most_next r11 ≡ 1 = refl in omega (arith, one)))
