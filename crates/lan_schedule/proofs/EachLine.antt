@@ -1,8 +1,8 @@
 -- Lines that are performed from the beginning leave a tidy world.
 use Rattle.std.proofs.Common.{◌≡◌, ◌<◌, ◌≤◌, ◌+◌, ◌^◌, ◌==◌, ℕ, suc, Bool, true, false, List, []}
-use Rattle.std.proofs.Common.{◌∷◌, ◌++◌, length, length-append, length-take-le, Option, Some, None}
+use Rattle.std.proofs.Common.{◌∷◌, ◌++◌, length, length-append, Option, Some, None}
 use Rattle.std.proofs.Common.{◌⊎◌, inl, inr, refl, sym, ap, ◌∙◌, subst, arith}
-use Rattle.std.specs.Prelude.{Result, Ok, Err, cond, not, ◌&&◌, is_some, nat_le, take, unwrap_or}
+use Rattle.std.specs.Prelude.{Result, Ok, Err, cond, not, ◌&&◌, is_some, unwrap_or}
 use Rattle.std.specs.Option.{is_none}
 use Rattle.lan_base.specs.Ranges.{IsCkn}
 use Rattle.lan_base.specs.declared.frame.UserFrame.{UserFrame}
@@ -19,23 +19,21 @@ use Rattle.trace_text.proofs.Public.{read_fits}
 use Rattle.lan_schedule.specs.declared.choices.Choices.{Choices}
 use Rattle.lan_schedule.specs.declared.choices.Keyed.{Keyed}
 use Rattle.lan_schedule.specs.declared.halt.Kind.{Kind}
-use Rattle.lan_schedule.specs.Texts.{ended, open_line, whole_lines, last_line, lines_of}
-use Rattle.lan_schedule.specs.Texts.{without_return}
 use Rattle.lan_schedule.specs.Settings.{no_choice, secret_of, unkeyed, settings_of}
+use Rattle.lan_schedule.specs.Races.{Chance}
 use Rattle.lan_schedule.specs.World.{World, Kept, beginning, settings, place, mark}
 use Rattle.lan_schedule.specs.Acts.{Act, Course, Goes, Stops, happen, change}
-use Rattle.lan_schedule.specs.Acts.{perform, and_then, world_of, times}
+use Rattle.lan_schedule.specs.Acts.{perform, and_then, world_of, course, times}
 use Rattle.lan_schedule.specs.Kinds.{may_list, refusal, refusal_read}
 use Rattle.lan_schedule.specs.Lines.{deed, deed_read, chosen_by, send, unless_refused}
 use Rattle.lan_schedule.specs.Lines.{performed, performed_all, tick, round, spread, flow_round}
-use Rattle.lan_schedule.specs.Lines.{link_cut, link_mended}
-use Rattle.lan_schedule.specs.Trace.{course, lines_within, most_input}
+use Rattle.lan_schedule.specs.Lines.{cut_in, mended_in}
 use Rattle.lan_schedule.specs.Sound.{IsTidy}
 use Rattle.lan_schedule.specs.inside.Comes.{Comes}
 use Rattle.lan_schedule.proofs.Bounded.{AreBounded, bounded-first}
 use Rattle.lan_schedule.proofs.Drawing.{bytes-all}
 use Rattle.lan_schedule.proofs.LinesCome.{IsRight, is-right, deed-comes, tidy-same}
-use Rattle.lan_schedule.proofs.Limits.{tidy-beginning}
+use Rattle.lan_schedule.proofs.Beginning.{tidy-beginning}
 use Rattle.lan_schedule.proofs.Settled.{IsMild, IsOpen, HasSetting, stays-open, mild-ticks}
 use Rattle.lan_schedule.proofs.Settled.{mild-rounds, mild-mark, mild-spread, mild-flow, mild-send}
 
@@ -131,16 +129,18 @@ record IsReady (n : ℕ) (w : World) : Type 0 where
   users : length w.kept.users ≤ n
   chosen : AreChosen w.kept.chosen
   keyed : w.kept.begun ≡ true → is_some w.kept.chosen.group ≡ true
+  calm : w.kept.raced ≡ false
   bounded : AreBounded (settings w) w.run
   tidy : IsTidy w
 
-ready-first : IsReady 0 beginning
-ready-first = record {
+ready-first : (chances : List Chance) → IsReady 0 (beginning chances)
+ready-first chances = record {
   users = omega arith;
   chosen = chosen-first;
   keyed = λ e. absurd (cc e);
-  bounded = bounded-first (settings beginning);
-  tidy = tidy-beginning;
+  calm = refl;
+  bounded = bounded-first (settings (beginning chances));
+  tidy = tidy-beginning chances;
 }
 
 opened : (n : ℕ) (w : World) → IsReady n w → w.kept.begun ≡ true → IsOpen (suc n) w.kept.chosen w
@@ -148,6 +148,7 @@ opened n w ready begun = record {
   same = refl;
   users = let few = ready.users in omega (arith, few);
   begun = begun;
+  calm = ready.calm;
   bounded = ready.bounded;
   tidy = ready.tidy;
 }
@@ -158,6 +159,7 @@ ready-again n chosen w are keyed now = record {
   users = now.users;
   chosen = subst (λ (c : Choices). AreChosen c) (sym now.same) are;
   keyed = λ begun. subst (λ (c : Choices). is_some c.group ≡ true) (sym now.same) keyed;
+  calm = now.calm;
   bounded = now.bounded;
   tidy = now.tidy;
 }
@@ -180,6 +182,7 @@ chosen-ready n line b w form ready allowed tidy =
       users = let few = ready.users in omega (arith, few);
       chosen = chosen-stays line form w.kept.chosen ready.chosen;
       keyed = λ begun. absurd (let bad : true ≡ false = sym begun ∙ before in cc bad);
+      calm = ready.calm;
       bounded = subst (λ r. AreBounded later r) (sym (ready.tidy.waits before))
           (bounded-first later);
       tidy = tidy;
@@ -206,6 +209,7 @@ station-ready n act w below mild ready keyed tidy comes =
       users = ready.users;
       chosen = ready.chosen;
       keyed = λ begun. keyed;
+      calm = ready.calm;
       bounded = ready.bounded;
       tidy = tidy;
     }) refl comes
@@ -226,6 +230,7 @@ send-ready n s user w below ready begun tidy comes =
       users = let one = length-append w.kept.users (user ∷ []) in
           let few = ready.users in omega (arith, one, few);
       begun = begun;
+      calm = ready.calm;
       bounded = ready.bounded;
       tidy = tidy;
     } in
@@ -285,12 +290,12 @@ deed-ready n (lines.Lose frame) w below form ready right comes =
     mild-ready n (change (mark frame)) w below
     (mild-mark (suc n) frame) ready right.allowed comes
 deed-ready n (lines.Cut from to) w below form ready right comes =
-    mild-ready n (link_cut (place w from) (place w to)) w below
-    (λ kept. record { chosen = refl; users = refl; begun = refl }) ready
+    mild-ready n (change (cut_in (place w from) (place w to))) w below
+    (λ kept. record { chosen = refl; users = refl; begun = refl; raced = refl }) ready
     right.allowed comes
 deed-ready n (lines.Mend from to) w below form ready right comes =
-    mild-ready n (link_mended (place w from) (place w to)) w below
-    (λ kept. record { chosen = refl; users = refl; begun = refl }) ready
+    mild-ready n (change (mended_in (place w from) (place w to))) w below
+    (λ kept. record { chosen = refl; users = refl; begun = refl; raced = refl }) ready
     right.allowed comes
 deed-ready n (lines.Restart name) w below form ready right comes =
     mild-ready n (happen (Restart (place w name))) w below tt ready right.allowed comes
@@ -302,7 +307,7 @@ deed-ready n (lines.Inject name octets) w below form ready right comes =
     (bytes-all octets form.fits.1.0.2) ready right.allowed comes
 deed-ready n line w below form ready right comes =
     mild-ready n (deed line w) w below
-    (λ kept. record { chosen = refl; users = refl; begun = refl }) ready
+    (λ kept. record { chosen = refl; users = refl; begun = refl; raced = refl }) ready
     right.allowed comes
 
 more-ready : (n : ℕ) (w : World) → IsReady n w → IsReady (suc n) w
@@ -310,6 +315,7 @@ more-ready n w ready = record {
   users = let few = ready.users in omega (arith, few);
   chosen = ready.chosen;
   keyed = ready.keyed;
+  calm = ready.calm;
   bounded = ready.bounded;
   tidy = ready.tidy;
 }
@@ -343,71 +349,31 @@ text-ready n text w below ready =
       users = ready.users;
       chosen = ready.chosen;
       keyed = ready.keyed;
+      calm = ready.calm;
       bounded = ready.bounded;
-      tidy = tidy-same w kept ready.tidy refl refl refl (λ e. e);
+      tidy = tidy-same w kept ready.tidy refl refl refl refl refl (λ e. e);
     }) refl
 
-then-tidy : (n : ℕ) (out : Course) (later : Act) → IsReady n (world_of out)
-    → ((v : World) → IsReady n v → IsTidy (world_of (perform later v)))
-    → IsTidy (world_of (and_then out (λ v. perform later v)))
-then-tidy n (Goes v) later ready next = next v ready
-then-tidy n (Stops v halt) later ready next = ready.tidy
+-- a tidy world in which no race was begun
+abbrev pub IsCalm : World → Type 0
+IsCalm w = IsTidy w × (w.kept.raced ≡ false)
 
-texts-tidy : (n : ℕ) (texts : List (List ℕ)) (w : World) → n + length texts < 2 ^ 32
-    → IsReady n w → IsTidy (world_of (perform (performed_all texts) w))
-texts-tidy n [] w below ready = ready.tidy
-texts-tidy n (text ∷ texts) w below ready =
-    then-tidy (suc n) (perform (performed text) w) (performed_all texts)
+then-calm : (n : ℕ) (out : Course) (later : Act) → IsReady n (world_of out)
+    → ((v : World) → IsReady n v → IsCalm (world_of (perform later v)))
+    → IsCalm (world_of (and_then out (λ v. perform later v)))
+then-calm n (Goes v) later ready next = next v ready
+then-calm n (Stops v halt) later ready next = (ready.tidy, ready.calm)
+
+texts-calm : (n : ℕ) (texts : List (List ℕ)) (w : World) → n + length texts < 2 ^ 32
+    → IsReady n w → IsCalm (world_of (perform (performed_all texts) w))
+texts-calm n [] w below ready = (ready.tidy, ready.calm)
+texts-calm n (text ∷ texts) w below ready =
+    then-calm (suc n) (perform (performed text) w) (performed_all texts)
     (text-ready n text w (omega (arith, below)) ready)
-    (λ v later. texts-tidy (suc n) texts v (omega (arith, below)) later)
+    (λ v later. texts-calm (suc n) texts v (omega (arith, below)) later)
 
--- fewer than 2^32 lines leave a tidy world
-pub lines-tidy : (texts : List (List ℕ)) → length texts < 2 ^ 32
-    → IsTidy (world_of (course texts))
-lines-tidy texts below = texts-tidy 0 texts beginning (omega (arith, below)) ready-first
-
--- ---- the lines of a text
-
-either-few : (b : Bool) (line : List ℕ) (first later : List (List ℕ)) (n : ℕ)
-    → length first ≤ n → length later ≤ n → length (cond b (line ∷ first) later) ≤ suc n
-either-few true line first later n few more = omega (arith, few)
-either-few false line first later n few more = omega (arith, more)
-
-ended-few : (begun text : List ℕ) → length (ended begun text) ≤ length text
-ended-few begun [] = omega arith
-ended-few begun (x ∷ text) =
-    either-few (x == 10) (without_return begun) (ended [] text) (ended (begun ++ x ∷ []) text)
-    (length text) (ended-few [] text) (ended-few (begun ++ x ∷ []) text)
-
-last-few : (octets : List ℕ) → length (last_line octets) ≤ 1
-last-few [] = omega arith
-last-few (x ∷ octets) = omega arith
-
-all-few : (text : List ℕ) → length (lines_of text) ≤ length text + 1
-all-few text =
-    let both = length-append (whole_lines text) (last_line (open_line [] text)) in
-    let first = ended-few [] text in
-    let last = last-few (open_line [] text) in
-    omega (arith, both, first, last)
-
-at-most : (a b : ℕ) → nat_le a b ≡ true → a ≤ b
-at-most a b e = grind arith
-
-above : (a b : ℕ) → nat_le a b ≡ false → b ≤ a
-above a b e = grind arith
-
-within-few : (text : List ℕ) (b : Bool) → nat_le (length text) most_input ≡ b
-    → length (cond b (lines_of text) (whole_lines (take most_input text))) < 2 ^ 32
-within-few text true is =
-    let most = at-most (length text) most_input is in
-    let few = all-few text in
-    omega (arith, most, few)
-within-few text false is =
-    let few = ended-few [] (take most_input text) in
-    let most = length-take-le most_input text (above (length text) most_input is) in
-    omega (arith, few, most)
-
--- so do the lines of a text within the limit
-pub text-tidy : (text : List ℕ) → IsTidy (world_of (course (lines_within text)))
-text-tidy text =
-    lines-tidy (lines_within text) (within-few text (nat_le (length text) most_input) refl)
+-- fewer than 2^32 lines leave such a world
+pub lines-calm : (chances : List Chance) (texts : List (List ℕ)) → length texts < 2 ^ 32
+    → IsCalm (world_of (course (performed_all texts) chances))
+lines-calm chances texts below =
+    texts-calm 0 texts (beginning chances) (omega (arith, below)) (ready-first chances)

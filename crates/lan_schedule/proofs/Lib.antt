@@ -1,3 +1,5 @@
+mod Calm
+mod Racing
 mod Doing
 mod Flowing
 mod Counting
@@ -17,13 +19,10 @@ mod Sending
 mod Refusing
 mod Performing
 mod Commanding
-mod Staging
-mod Feeding
+mod Replaying
+mod Stopping
 mod Opening
-mod Limits
-mod Reading
+mod Beginning
 mod Texting
-mod Summing
-pub mod EachLine
-pub mod Returning
+mod EachLine
 pub mod Public

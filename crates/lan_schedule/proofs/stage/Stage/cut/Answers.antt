@@ -1,0 +1,16 @@
+use Rattle.std.proofs.Common.{refl}
+use Rattle.lan_schedule.proofs.Sending.{cut-changed}
+use Rattle.lan_schedule.proofs.stage.Stage.cut.Goals as goal
+
+pub returns-clause-ok : goal.returns-clause-ok
+returns-clause-ok c =
+    cut-changed c.args.from c.args.to _ _ (record {
+      lag = refl;
+      lan = refl;
+      draws = refl;
+      names = refl;
+      scis = refl;
+      frames = refl;
+      numbers = refl;
+      tally = refl;
+    }) refl refl c.in_ok-cut.ensures

@@ -1,8 +1,0 @@
-use Rattle.std.proofs.Common.{sym, ◌∙◌}
-use Rattle.lan_schedule.proofs.Feeding.{last-does}
-use Rattle.lan_schedule.proofs.trace.last.Goals as goal
-
-pub returns : goal.returns
-returns g c =
-    last-does c.args.begun.now _ _ c.perform.result (sym c.is_empty.ensures ∙ c.if-is_empty.false)
-    c.perform.ensures
