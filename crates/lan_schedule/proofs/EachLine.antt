@@ -20,20 +20,20 @@ use Rattle.lan_schedule.specs.declared.choices.Choices.{Choices}
 use Rattle.lan_schedule.specs.declared.choices.Keyed.{Keyed}
 use Rattle.lan_schedule.specs.declared.halt.Kind.{Kind}
 use Rattle.lan_schedule.specs.Settings.{no_choice, secret_of, unkeyed, settings_of}
+use Rattle.lan_schedule.specs.Races.{Chance}
 use Rattle.lan_schedule.specs.World.{World, Kept, beginning, settings, place, mark}
 use Rattle.lan_schedule.specs.Acts.{Act, Course, Goes, Stops, happen, change}
-use Rattle.lan_schedule.specs.Acts.{perform, and_then, world_of, times}
+use Rattle.lan_schedule.specs.Acts.{perform, and_then, world_of, course, times}
 use Rattle.lan_schedule.specs.Kinds.{may_list, refusal, refusal_read}
 use Rattle.lan_schedule.specs.Lines.{deed, deed_read, chosen_by, send, unless_refused}
 use Rattle.lan_schedule.specs.Lines.{performed, performed_all, tick, round, spread, flow_round}
-use Rattle.lan_schedule.specs.Lines.{link_cut, link_mended}
-use Rattle.lan_schedule.specs.Trace.{course}
+use Rattle.lan_schedule.specs.Lines.{cut_in, mended_in}
 use Rattle.lan_schedule.specs.Sound.{IsTidy}
 use Rattle.lan_schedule.specs.inside.Comes.{Comes}
 use Rattle.lan_schedule.proofs.Bounded.{AreBounded, bounded-first}
 use Rattle.lan_schedule.proofs.Drawing.{bytes-all}
 use Rattle.lan_schedule.proofs.LinesCome.{IsRight, is-right, deed-comes, tidy-same}
-use Rattle.lan_schedule.proofs.Limits.{tidy-beginning}
+use Rattle.lan_schedule.proofs.Beginning.{tidy-beginning}
 use Rattle.lan_schedule.proofs.Settled.{IsMild, IsOpen, HasSetting, stays-open, mild-ticks}
 use Rattle.lan_schedule.proofs.Settled.{mild-rounds, mild-mark, mild-spread, mild-flow, mild-send}
 
@@ -133,14 +133,14 @@ record IsReady (n : ℕ) (w : World) : Type 0 where
   bounded : AreBounded (settings w) w.run
   tidy : IsTidy w
 
-ready-first : IsReady 0 (beginning [])
-ready-first = record {
+ready-first : (chances : List Chance) → IsReady 0 (beginning chances)
+ready-first chances = record {
   users = omega arith;
   chosen = chosen-first;
   keyed = λ e. absurd (cc e);
   calm = refl;
-  bounded = bounded-first (settings (beginning []));
-  tidy = tidy-beginning [];
+  bounded = bounded-first (settings (beginning chances));
+  tidy = tidy-beginning chances;
 }
 
 opened : (n : ℕ) (w : World) → IsReady n w → w.kept.begun ≡ true → IsOpen (suc n) w.kept.chosen w
@@ -290,11 +290,11 @@ deed-ready n (lines.Lose frame) w below form ready right comes =
     mild-ready n (change (mark frame)) w below
     (mild-mark (suc n) frame) ready right.allowed comes
 deed-ready n (lines.Cut from to) w below form ready right comes =
-    mild-ready n (link_cut (place w from) (place w to)) w below
+    mild-ready n (change (cut_in (place w from) (place w to))) w below
     (λ kept. record { chosen = refl; users = refl; begun = refl; raced = refl }) ready
     right.allowed comes
 deed-ready n (lines.Mend from to) w below form ready right comes =
-    mild-ready n (link_mended (place w from) (place w to)) w below
+    mild-ready n (change (mended_in (place w from) (place w to))) w below
     (λ kept. record { chosen = refl; users = refl; begun = refl; raced = refl }) ready
     right.allowed comes
 deed-ready n (lines.Restart name) w below form ready right comes =
@@ -354,21 +354,26 @@ text-ready n text w below ready =
       tidy = tidy-same w kept ready.tidy refl refl refl refl refl (λ e. e);
     }) refl
 
-then-tidy : (n : ℕ) (out : Course) (later : Act) → IsReady n (world_of out)
-    → ((v : World) → IsReady n v → IsTidy (world_of (perform later v)))
-    → IsTidy (world_of (and_then out (λ v. perform later v)))
-then-tidy n (Goes v) later ready next = next v ready
-then-tidy n (Stops v halt) later ready next = ready.tidy
+-- a tidy world in which no race was begun
+abbrev pub IsCalm : World → Type 0
+IsCalm w = IsTidy w × (w.kept.raced ≡ false)
 
-texts-tidy : (n : ℕ) (texts : List (List ℕ)) (w : World) → n + length texts < 2 ^ 32
-    → IsReady n w → IsTidy (world_of (perform (performed_all texts) w))
-texts-tidy n [] w below ready = ready.tidy
-texts-tidy n (text ∷ texts) w below ready =
-    then-tidy (suc n) (perform (performed text) w) (performed_all texts)
+then-calm : (n : ℕ) (out : Course) (later : Act) → IsReady n (world_of out)
+    → ((v : World) → IsReady n v → IsCalm (world_of (perform later v)))
+    → IsCalm (world_of (and_then out (λ v. perform later v)))
+then-calm n (Goes v) later ready next = next v ready
+then-calm n (Stops v halt) later ready next = (ready.tidy, ready.calm)
+
+texts-calm : (n : ℕ) (texts : List (List ℕ)) (w : World) → n + length texts < 2 ^ 32
+    → IsReady n w → IsCalm (world_of (perform (performed_all texts) w))
+texts-calm n [] w below ready = (ready.tidy, ready.calm)
+texts-calm n (text ∷ texts) w below ready =
+    then-calm (suc n) (perform (performed text) w) (performed_all texts)
     (text-ready n text w (omega (arith, below)) ready)
-    (λ v later. texts-tidy (suc n) texts v (omega (arith, below)) later)
+    (λ v later. texts-calm (suc n) texts v (omega (arith, below)) later)
 
--- fewer than 2^32 lines leave a tidy world
-pub lines-tidy : (texts : List (List ℕ)) → length texts < 2 ^ 32
-    → IsTidy (world_of (course (performed_all texts) []))
-lines-tidy texts below = texts-tidy 0 texts (beginning []) (omega (arith, below)) ready-first
+-- fewer than 2^32 lines leave such a world
+pub lines-calm : (chances : List Chance) (texts : List (List ℕ)) → length texts < 2 ^ 32
+    → IsCalm (world_of (course (performed_all texts) chances))
+lines-calm chances texts below =
+    texts-calm 0 texts (beginning chances) (omega (arith, below)) (ready-first chances)

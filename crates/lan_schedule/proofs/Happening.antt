@@ -1,18 +1,16 @@
 -- What an event leaves.
 use Rattle.std.proofs.Common.{◌≡◌, ℕ, ◌+◌, List, [], ◌∷◌, ◌++◌, Option, Some, None}
-use Rattle.std.proofs.Common.{refl, sym, ap, ◌∙◌, subst, arith}
-use Rattle.std.specs.Prelude.{Result, Ok, Err, false, map, unwrap_or}
+use Rattle.std.proofs.Common.{inl, inr, refl, sym, ap, ◌∙◌, subst, arith}
+use Rattle.std.specs.Prelude.{Result, Ok, Err, MatchResult, false, map, unwrap_or}
 use Rattle.std.specs.Result.{IsErrAnd}
 use Rattle.std.proofs.lemmas.Result.{err_from_is_err_and}
 use Rattle.std.proofs.lemmas.List.{map-append}
-use Rattle.lan_base.specs.Told.{after}
 use Rattle.lan_base.specs.declared.frame.UserFrame.{UserFrame}
 use Rattle.lan_core.specs.declared.event.Event.{Event}
 use Rattle.lan_core.specs.declared.event.Event.TheVariants as events
 use Rattle.lan_core.specs.declared.fact.Fact.{Fact}
 use Rattle.lan_core.specs.declared.settings.Settings.{Settings}
 use Rattle.lan_core.specs.declared.stop.Stop.{Stop}
-use Rattle.lan_core.specs.declared.stop.Stop.TheVariants as stops
 use Rattle.lan_core.specs.declared.stop.StepError.{StepError}
 use Rattle.lan_core.specs.declared.stop.StepError.TheVariants.{Stopped}
 use Rattle.lan_core.specs.Run.{Run, Profile, happened, started, stations, facts_of}
@@ -22,29 +20,27 @@ use Rattle.lan_core.specs.Types.{IsTyped}
 use Rattle.lan_core.specs.Standing.{StandsFor as GroupStandsFor}
 use Rattle.lan_core.specs.Answers.{Answers, GoesOn}
 use Rattle.fact_tally.specs.Summary.{counts}
-use Rattle.transcript.specs.Rendering.{transcript}
 use Rattle.lan_schedule.specs.declared.halt.Halt.{Halt}
 use Rattle.lan_schedule.specs.declared.halt.Halt.TheVariants as halts
+use Rattle.lan_schedule.specs.declared.recorder.Broken.{Broken}
 use Rattle.lan_schedule.specs.declared.stage.Stage.{Stage}
-use Rattle.lan_schedule.specs.World.{World, names_of, settings, puts, Flow, is_racing}
+use Rattle.lan_schedule.specs.World.{World, names_of, settings, puts, Flow}
 use Rattle.lan_schedule.specs.Settings.{rule_of}
 use Rattle.lan_schedule.specs.Supply.{draw_at, supply_nth}
 use Rattle.lan_schedule.specs.Answers.{supply, taken_by, halt_of, answered, answer}
-use Rattle.lan_schedule.specs.Acts.{happen, Goes, Stops, shown, world_after}
+use Rattle.lan_schedule.specs.Acts.{happen, Goes, shown, world_after}
 use Rattle.lan_schedule.specs.Sound.{IsTidy}
-use Rattle.lan_schedule.specs.Ends.{Sunk, Moment, IsShown, IsReached, Ends, EndsEarly, written}
-use Rattle.lan_schedule.specs.Ends.{WasCut, TookFront, onward}
+use Rattle.lan_schedule.specs.Reports.{Report, reports}
+use Rattle.lan_schedule.specs.Ends.{Moment, Ends, halt_of_broken}
 use Rattle.lan_schedule.specs.Numbers.{TellNext}
 use Rattle.lan_schedule.specs.inside.Counters.{ShowsNext}
-use Rattle.lan_schedule.specs.World.{Flow}
-use Rattle.lan_schedule.specs.Supply.{supply_nth}
-use Rattle.lan_schedule.specs.inside.Comes.{Did, IsExact, named}
-use Rattle.lan_schedule.specs.Stages.{StandsFor}
-use Rattle.lan_schedule.specs.inside.Staged.{Happened, Writes}
+use Rattle.lan_schedule.specs.inside.Comes.{IsExact, named}
+use Rattle.lan_schedule.specs.Stages.{StandsFor, Counts}
+use Rattle.lan_schedule.specs.inside.Staged.{Did, Happened}
 use Rattle.lan_schedule.specs.Races.{Chance, behind_numbers}
 use Rattle.lan_schedule.proofs.Calm.{calm-shown, calm-chances}
-use Rattle.lan_schedule.proofs.Doing.{took-behind, took-none, after-append, rose-earlier}
-use Rattle.lan_schedule.proofs.Doing.{begins-self}
+use Rattle.lan_schedule.proofs.Racing.{begins-self}
+use Rattle.lan_schedule.proofs.Doing.{told-none, ends-memory}
 use Rattle.lan_schedule.proofs.Tidying.{tidy-after}
 
 -- what a step promises of a group
@@ -105,60 +101,10 @@ told-by w event facts old new stands goes = record {
       ≡ Some facts) (same-supply w old stands) goes.shows;
 }
 
-abbrev pub entry_text : Event → List Fact → World → List ℕ
-entry_text event facts w = transcript (names_of (happened event facts ∷ w.run)) facts
-
--- a front of what an event showed was written
-was-cut : (base : Sunk) (w : World) (event : Event) (facts : List Fact) (old new : Sunk)
-    → IsShown base w old → IsTidy (world_after w event facts)
-    → TookFront old new (entry_text event facts w)
-    → WasCut base (is_racing w.kept.phase) (Goes (world_after w event facts)) new
-was-cut base w event facts old new shown tidy took = record {
-  on_the_way = world_after w event facts;
-  tidy = tidy;
-  same = refl;
-  begins = begins-self (written (world_after w event facts).run);
-  took = took-behind base old new (written w.run) (entry_text event facts w) shown.written
-      shown.counts took;
-}
-
-written-ends : (base : Sunk) (w : World) (event : Event) (facts : List Fact) (later : List Chance)
-    (old new : Moment Stage) (r : Result (Unit {0}) Halt)
-    → (world_after w event facts).kept.chances ≡ later → IsReached StandsFor base w old → IsTidy (world_after w event facts)
-    → StandsFor (world_after w event facts) new.value
-    → Writes (entry_text event facts w) old.sink new.sink r
-    → Ends StandsFor base (onward later w) (Goes (world_after w event facts)) new r
-written-ends base w event facts later old new (Ok done) is reached tidy stands wrote = (
-  world_after w event facts,
-  refl,
-  record {
-    stands = stands;
-    shown = record {
-      tidy = tidy;
-      written = wrote.0 ∙ ap (λ (o : Option (List ℕ)). after o (entry_text event facts w))
-          reached.shown.written ∙ after-append base.held (written w.run) (entry_text event facts w);
-      counts = omega (arith, wrote.1, reached.shown.counts);
-    };
-  },
-  is,
-  refl,
-)
-written-ends base w event facts later old new (Err (halts.Trace line kind)) is reached tidy stands wrote =
-    absurd wrote
-written-ends base w event facts later old new (Err halts.ReadFault) is reached tidy stands wrote =
-    absurd wrote
-written-ends base w event facts later old new (Err halts.WriteFault) is reached tidy stands wrote = (
-  rose-earlier base.faults old.sink.faults new.sink.faults reached.shown.counts wrote.0,
-  was-cut base w event facts old.sink new.sink reached.shown tidy wrote.1,
-)
-written-ends base w event facts later old new (Err halts.Memory) is reached tidy stands wrote =
-    was-cut base w event facts old.sink new.sink reached.shown tidy wrote
-written-ends base w event facts later old new (Err (halts.Limit which)) is reached tidy stands wrote =
-    absurd wrote
-written-ends base w event facts later old new (Err (halts.RepeatedDraw first second)) is reached tidy stands
-    wrote = absurd wrote
-written-ends base w event facts later old new (Err (halts.Forged line)) is reached tidy stands wrote =
-    absurd wrote
+-- what an event answers by what its recorder answered
+abbrev pub handed : Result (Unit {0}) Broken → Result (Unit {0}) Halt
+handed (Ok done) = Ok tt
+handed (Err why) = Err (halt_of_broken why)
 
 shows-next : (w : World) (event : Event) → w.kept.raced ≡ false → IsExact w event
     → ShowsNext (settings w) w.run event
@@ -213,98 +159,142 @@ stands-after w event facts old new stands exact told keeps = record {
   tally = keeps.tally (facts_of w.run) stands.tally;
 }
 
--- the event happened, and its facts were written, or a front of them
-pub event-did : (given : Option UserFrame) (event : Event) (facts : List Fact)
-    (old new : Moment Stage) (r : Result (Unit {0}) Halt) → IsTyped event
-    → StepGoes given event old.value new.value (Ok facts) → Keeps event facts old.value new.value
-    → Writes (transcript new.value.names.items facts) old.sink new.sink r
-    → Happened given event old new r
-event-did given event facts old new r typed step keeps wrote = record {
-  chances = [];
-  ends = λ base w later left reached is comes.
-      let stands = reached.stands in
-      let goes = step (settings w) w.kept.users w.run stands.lan
-      (subst (λ (g : Option UserFrame). MayCome (settings w) w.kept.users w.run g event)
-      (sym is) comes.0) in
-      let told = told-by w event facts old.value new.value stands goes in
-      let after_it = stands-after w event facts old.value new.value stands comes.1 told keeps in
-      let tidy = tidy-after w event facts reached.shown.tidy comes typed told.lan.setting
-      told.stopless told.shows stands.begun stands.calm in
-      subst (λ (a : Result (List Fact) Halt).
-      Ends StandsFor base (onward later w) (shown w event a) new r)
-      (sym told.answers)
-      (written-ends base w event facts later old new r
-      (calm-chances w event facts stands.calm ∙ left) reached tidy after_it
-      (subst (λ (names : List (List ℕ)). Writes (transcript names facts) old.sink new.sink r)
-      after_it.names wrote));
-}
+-- what is told of an event
+abbrev pub report_of : Event → List Fact → World → Report
+report_of event facts w =
+    record { names = names_of (happened event facts ∷ w.run); facts = facts }
 
--- the group met a stop
-stopped-ends : (base : Sunk) (w : World) (later : List Chance) (line : ℕ) (stop : Stop) (new : Sunk)
-    → w.kept.chances ≡ later → IsShown base w new
-    → EndsEarly base (onward later w) (Stops w (halt_of line stop)) new (halt_of line stop)
-stopped-ends base w later line stops.DrawsSpent new is h =
-    (w, refl, h, ap (λ (c : List Chance). behind_numbers c) is, refl)
-stopped-ends base w later line (stops.Limit which) new is h =
-    (w, refl, h, ap (λ (c : List Chance). behind_numbers c) is, refl)
-stopped-ends base w later line (stops.RepeatedDraw first second) new is h =
-    (w, refl, h, ap (λ (c : List Chance). behind_numbers c) is, refl)
-stopped-ends base w later line (stops.Forged station) new is h =
-    (w, refl, h, ap (λ (c : List Chance). behind_numbers c) is, refl)
+module _ {K : Type 0} (Took : K → Report → K → Type 0) (Broke : K → Report → K → Broken → Type 0)
+  where
+    -- the facts of an event were told, or the recorder broke at them
+    told-ends : (w : World) (event : Event) (facts : List Fact) (later : List Chance)
+        (a : K) (new : Moment Stage K) (why : Result (Unit {0}) Broken)
+        → (world_after w event facts).kept.chances ≡ later → IsTidy (world_after w event facts)
+        → StandsFor (world_after w event facts) new.value
+        → MatchResult why (λ _. Took a (report_of event facts w) new.outlet)
+        (λ y. Broke a (report_of event facts w) new.outlet y)
+        → Ends StandsFor Counts Took Broke w later (Goes (world_after w event facts)) a new
+        (handed why)
+    told-ends w event facts later a new (Ok done) is tidy stands took = (
+      world_after w event facts,
+      refl,
+      record { stands = stands; tidy = tidy },
+      record {
+        told = report_of event facts w ∷ [];
+        since = refl;
+        by_one = (new.outlet, took, refl);
+      },
+      is,
+      refl,
+    )
+    told-ends w event facts later a new (Err why) is tidy stands broke = inr (record {
+      world = world_after w event facts;
+      tidy = tidy;
+      counts = stands.tally;
+      same = refl;
+      begins = begins-self (reports (world_after w event facts).run);
+      cause = inr (record {
+        told = [];
+        last = report_of event facts w;
+        behind = [];
+        since = refl;
+        prompt = λ e. refl;
+        before = a;
+        by_one = refl;
+        why = why;
+        breaks = broke;
+        is = refl;
+      });
+    })
 
-is-shown : (base : Sunk) (w : World) (old new : Moment Stage) → IsReached StandsFor base w old
-    → new.sink ≡ old.sink → IsShown base w new.sink
-is-shown base w old new reached same =
-    subst (λ (s : Sunk). IsShown base w s) (sym same) reached.shown
-
-pub event-stopped : (given : Option UserFrame) (event : Event) (stop : Stop) (line : ℕ)
-    (old new : Moment Stage)
-    → StepGoes given event old.value new.value (Err (Stopped stop)) → line ≡ old.value.line
-    → new.sink ≡ old.sink
-    → Happened given event old new (Err (halt_of line stop))
-event-stopped given event stop line old new step is_line same = record {
-  chances = [];
-  ends = λ base w later left reached is comes.
-      let stands = reached.stands in
-      let first = step (settings w) w.kept.users w.run stands.lan
-      (subst (λ (g : Option UserFrame). MayCome (settings w) w.kept.users w.run g event)
-      (sym is) comes.0) in
-      let at_line : line ≡ w.kept.line = is_line ∙ stands.line in
-      let met : answer w event ≡ Err (halt_of line stop) =
-      ap (λ (o : Option Stop). answered w event o)
-      (subst (λ (nth : ℕ → Option (List ℕ)).
-      first_stop (settings w) w.kept.users w.run event nth ≡ Some stop)
-      (same-supply w old.value stands) first)
-      ∙ ap (λ (n : ℕ). Err (halt_of n stop)) (sym at_line) in
-      subst (λ (a : Result (List Fact) Halt).
-      EndsEarly base (onward later w) (shown w event a) new.sink (halt_of line stop)) (sym met)
-      (stopped-ends base w later line stop new.sink left (is-shown base w old new reached same));
-}
-
--- an event that names no user frame
-pub plainly : (event : Event) (old new : Moment Stage) (r : Result (Unit {0}) Halt)
-    → ((w : World) → None ≡ named w event)
-    → Happened None event old new r → Did StandsFor (happen event) old new r
-plainly event old new r none h =
-    record {
-      chances = h.chances;
-      ends = λ base w later is reached comes. h.ends base w later is reached (none w) comes;
+module _ {K : Type 0} {Took : K → Report → K → Type 0} {Broke : K → Report → K → Broken → Type 0}
+  where
+    -- the event happened, and its facts were told, or the recorder broke at them
+    pub event-did : (given : Option UserFrame) (event : Event) (facts : List Fact)
+        (old new : Moment Stage K) (why : Result (Unit {0}) Broken) → IsTyped event
+        → StepGoes given event old.value new.value (Ok facts)
+        → Keeps event facts old.value new.value
+        → MatchResult why
+        (λ _. Took old.outlet (record { names = new.value.names.items; facts = facts }) new.outlet)
+        (λ y. Broke old.outlet (record { names = new.value.names.items; facts = facts }) new.outlet y)
+        → Happened Took Broke given event old new (handed why)
+    event-did given event facts old new why typed step keeps wrote = record {
+      chances = [];
+      ends = λ w later left reached is comes.
+          let stands = reached.stands in
+          let goes = step (settings w) w.kept.users w.run stands.lan
+          (subst (λ (g : Option UserFrame). MayCome (settings w) w.kept.users w.run g event)
+          (sym is) comes.0) in
+          let told = told-by w event facts old.value new.value stands goes in
+          let after_it = stands-after w event facts old.value new.value stands comes.1 told keeps in
+          let tidy = tidy-after w event facts reached.tidy comes typed told.lan.setting
+          told.stopless told.shows stands.begun stands.calm in
+          subst (λ (a : Result (List Fact) Halt).
+          Ends StandsFor Counts Took Broke w later (shown w event a) old.outlet new
+          (handed why)) (sym told.answers)
+          (told-ends Took Broke w event facts later old.outlet new why
+          (calm-chances w event facts stands.calm ∙ left) tidy after_it
+          (subst (λ (names : List (List ℕ)). MatchResult why
+          (λ _. Took old.outlet (record { names = names; facts = facts }) new.outlet)
+          (λ y. Broke old.outlet (record { names = names; facts = facts }) new.outlet y))
+          after_it.names wrote));
     }
 
--- memory was wanting, and nothing was written
-pub event-wanting : (given : Option UserFrame) (event : Event) (old new : Moment Stage)
-    → new.sink ≡ old.sink → Happened given event old new (Err halts.Memory)
-event-wanting given event old new same = record {
-  chances = [];
-  ends = λ base w later left reached named comes.
-      took-none (happen event) base w old.sink new.sink reached.shown same;
-}
+    -- the group met a stop
+    pub event-stopped : (given : Option UserFrame) (event : Event) (stop : Stop) (line : ℕ)
+        (old new : Moment Stage K)
+        → StepGoes given event old.value new.value (Err (Stopped stop)) → line ≡ old.value.line
+        → new.value.tally ≡ old.value.tally → new.outlet ≡ old.outlet
+        → Happened Took Broke given event old new (Err (halt_of line stop))
+    event-stopped given event stop line old new step is_line tally same = record {
+      chances = [];
+      ends = λ w later left reached is comes.
+          let stands = reached.stands in
+          let first = step (settings w) w.kept.users w.run stands.lan
+          (subst (λ (g : Option UserFrame). MayCome (settings w) w.kept.users w.run g event)
+          (sym is) comes.0) in
+          let at_line : line ≡ w.kept.line = is_line ∙ stands.line in
+          let met : answer w event ≡ Err (halt_of line stop) =
+          ap (λ (o : Option Stop). answered w event o)
+          (subst (λ (nth : ℕ → Option (List ℕ)).
+          first_stop (settings w) w.kept.users w.run event nth ≡ Some stop)
+          (same-supply w old.value stands) first)
+          ∙ ap (λ (n : ℕ). Err (halt_of n stop)) (sym at_line) in
+          inl (record {
+            world = w;
+            stops = ap (λ (a : Result (List Fact) Halt). shown w event a) met;
+            tidy = reached.tidy;
+            counts = tally ∙ stands.tally;
+            told = told-none w w old.outlet new.outlet refl same;
+            left = ap (λ (c : List Chance). behind_numbers c) left;
+            same = refl;
+          });
+    }
 
--- so it is where an error says so
-pub happened-memory : (given : Option UserFrame) (event : Event) (old new : Moment Stage)
-    (r : Result (Unit {0}) Halt) → new.sink ≡ old.sink → IsErrAnd r (λ y. y ≡ halts.Memory)
-    → Happened given event old new r
-happened-memory given event old new r same is =
-    let p = err_from_is_err_and r is in
-    subst (λ (r : Result (Unit {0}) Halt). Happened given event old new r)
-    (sym (p.1 ∙ ap (λ (y : Halt). Err y) p.2)) (event-wanting given event old new same)
+    -- an event that names no user frame
+    pub plainly : (event : Event) (old new : Moment Stage K) (r : Result (Unit {0}) Halt)
+        → ((w : World) → None ≡ named w event)
+        → Happened Took Broke None event old new r → Did Took Broke (happen event) old new r
+    plainly event old new r none h = record {
+      chances = h.chances;
+      ends = λ w later is reached comes. h.ends w later is reached (none w) comes;
+    }
+
+    -- memory was wanting, and nothing was told
+    pub event-wanting : (given : Option UserFrame) (event : Event) (old new : Moment Stage K)
+        → new.value.tally ≡ old.value.tally → new.outlet ≡ old.outlet
+        → Happened Took Broke given event old new (Err halts.Memory)
+    event-wanting given event old new tally same = record {
+      chances = [];
+      ends = λ w later left reached named comes. ends-memory Took Broke StandsFor Counts (happen event) w later
+          old.outlet new reached.tidy (tally ∙ reached.stands.tally) same;
+    }
+
+    -- an error that `?` hands on is the error
+    pub happened-err : (given : Option UserFrame) (event : Event) (old new : Moment Stage K)
+        (e : Halt) (r : Result (Unit {0}) Halt) → Happened Took Broke given event old new (Err e)
+        → IsErrAnd r (λ y. y ≡ e) → Happened Took Broke given event old new r
+    happened-err given event old new e r d is =
+        let p = err_from_is_err_and r is in
+        subst (λ (r : Result (Unit {0}) Halt). Happened Took Broke given event old new r)
+        (sym (p.1 ∙ ap (λ (y : Halt). Err y) p.2)) d

@@ -19,12 +19,10 @@ mod Sending
 mod Refusing
 mod Performing
 mod Commanding
-mod Staging
-mod Feeding
+mod Replaying
+mod Stopping
 mod Opening
-mod Limits
-mod Reading
+mod Beginning
 mod Texting
-mod Summing
 mod EachLine
-pub mod Returning
+pub mod Public

@@ -1,5 +1,5 @@
 -- A group opens with the first station.
-use Rattle.std.proofs.Common.{◌≡◌, ℕ, ◌+◌, true, false, List, [], Option, Some, None}
+use Rattle.std.proofs.Common.{◌≡◌, ℕ, ◌+◌, true, false, List, [], Option, Some, None, inl}
 use Rattle.std.proofs.Common.{refl, sym, ap, ◌∙◌, subst, arith}
 use Rattle.std.specs.Prelude.{Result, Ok, Err, is_some}
 use Rattle.lan_base.specs.declared.frame.UserFrame.{UserFrame}
@@ -14,25 +14,26 @@ use Rattle.lan_schedule.specs.declared.choices.Choices.{Choices}
 use Rattle.lan_schedule.specs.declared.halt.Halt.{Halt}
 use Rattle.lan_schedule.specs.declared.halt.Halt.TheVariants as halts
 use Rattle.lan_schedule.specs.declared.halt.Kind.{Kind}
+use Rattle.lan_schedule.specs.declared.recorder.Broken.{Broken}
 use Rattle.lan_schedule.specs.declared.stage.Stage.{Stage}
 use Rattle.lan_schedule.specs.declared.commands.Replay.{Replay}
 use Rattle.lan_schedule.specs.Supply.{draw_at, supply_nth}
 use Rattle.lan_schedule.specs.Settings.{settings_of, lag_of, rule_of}
 use Rattle.lan_schedule.specs.Races.{Chance, behind_numbers}
 use Rattle.lan_schedule.specs.World.{World, Kept, nothing_kept}
-use Rattle.lan_schedule.specs.Acts.{Act, look, perform, Course, Stops}
+use Rattle.lan_schedule.specs.Acts.{Act, look, perform, Stops}
 use Rattle.lan_schedule.specs.Kinds.{first_of, is_performed, is_allowed, wrong_word, refusal}
 use Rattle.lan_schedule.specs.Lines.{choose, chosen_by, deed, act_of, unless_refused}
 use Rattle.lan_schedule.specs.Sound.{IsTidy}
-use Rattle.lan_schedule.specs.Ends.{Sunk, Moment, Ends, Onward, onward}
+use Rattle.lan_schedule.specs.Reports.{Report}
+use Rattle.lan_schedule.specs.Ends.{Moment, moment}
 use Rattle.lan_schedule.specs.Standing.{IsStaged, StandsFor, Does}
 use Rattle.lan_schedule.specs.inside.Choosing.{is_choice, IsStation}
-use Rattle.lan_schedule.specs.inside.Comes.{Did}
 use Rattle.lan_schedule.specs.Stages.{StandsFor as StageStandsFor}
-use Rattle.lan_schedule.specs.inside.Staged.{IsOpening}
+use Rattle.lan_schedule.specs.inside.Staged.{Did, IsOpening}
 use Rattle.lan_schedule.proofs.LinesCome.{IsRight, deed-comes, tidy-same, tidy-unbegun}
-use Rattle.lan_schedule.proofs.Staging.{staged, unbegun-does, lift}
-use Rattle.lan_schedule.proofs.Feeding.{same-act}
+use Rattle.lan_schedule.proofs.Doing.{told-none}
+use Rattle.lan_schedule.proofs.Replaying.{same-act, stands-counts, unbegun-does, opened-does}
 use Rattle.lan_schedule.proofs.Drawing.{chosen-draws}
 
 -- what is kept when the group opens
@@ -137,33 +138,6 @@ pub refusal-waiting : (chances : List Chance) (line : Line) (replay : Replay)
 unfolding stations
 refusal-waiting chances line replay = unbegun-reason line replay.chosen
 
-pub unbegun-refused : (line : Line) (kind : Kind) (now : Moment Replay) → now.value.stage ≡ None
-    → first_of (is_performed line) (is_allowed line false now.value.chosen) None ≡ Some kind
-    → Does (act_of line) now now (Err (halts.Trace now.value.line kind))
-unbegun-refused line kind now unbegun first = record {
-  chances = [];
-  ends = λ base w later left reached.
-      let same = is-waiting w now.value reached.stands unbegun in
-      let refused : refusal line w ≡ Some kind = ap (λ (v : World). refusal line v) same
-      ∙ refusal-waiting w.kept.chances line now.value ∙ first in
-      let out : perform (act_of line) w ≡ Stops w (halts.Trace now.value.line kind) =
-      ap (λ (o : Option Kind). perform (unless_refused o (deed line w)) w) refused
-      ∙ ap (λ (n : ℕ). Stops w (halts.Trace n kind)) (ap (λ (v : World). v.kept.line) same) in
-      (w, out, reached.shown, ap (λ (c : List Chance). behind_numbers c) left, refl);
-}
-
--- a line that isn't refused does what it performs
-pub unbegun-performed : (line : Line) (old new : Moment Replay) (r : Result (Unit {0}) Halt)
-    → old.value.stage ≡ None
-    → first_of (is_performed line) (is_allowed line false old.value.chosen) None ≡ None
-    → Does (look (λ w. deed line w)) old new r → Does (act_of line) old new r
-unbegun-performed line old new r unbegun first d =
-    same-act (act_of line) (look (λ w. deed line w)) old new r (λ w stands.
-    let same = is-waiting w old.value stands unbegun in
-    let none : refusal line w ≡ None = ap (λ (v : World). refusal line v) same
-    ∙ refusal-waiting w.kept.chances line old.value ∙ first in
-    ap (λ (o : Option Kind). perform (unless_refused o (deed line w)) w) none) d
-
 -- what an allowed line chooses
 pub chosen-deed : (line : Line) (chosen : Choices) → is_allowed line false chosen ≡ true
     → ((x : _) (x' : _) (x'' : _) → line ≡ lines.Station x x' x'' → ⊥) → (w : World)
@@ -183,22 +157,6 @@ chosen-deed (lines.Send name destination body) chosen allowed other w = absurd (
 chosen-deed (lines.Inject name octets) chosen allowed other w = absurd (cc allowed)
 chosen-deed _ chosen allowed other w = refl
 
-pub chosen-does : (line : Line) → IsInForm line → (old new : Moment Replay) → old.value.stage ≡ None
-    → new.value.stage ≡ None → new.value.halted ≡ old.value.halted → new.value.line ≡ old.value.line
-    → new.value.nothing ≡ old.value.nothing
-    → new.value.chosen ≡ chosen_by line old.value.chosen → new.sink ≡ old.sink
-    → ((w : World) → deed line w ≡ choose (chosen_by line))
-    → Does (look (λ w. deed line w)) old new (Ok tt)
-chosen-does line form old new unbegun still halted is_line nothing is_chosen sink is =
-    same-act (look (λ w. deed line w)) (choose (chosen_by line)) old new (Ok tt)
-    (λ w stands. ap (λ (act : Act). perform act w) (is w))
-    (unbegun-does (λ kept. record kept { chosen = chosen_by line kept.chosen }) old new unbegun
-    still halted nothing (λ kept. (refl, refl))
-    (λ w tidy empty. tidy-unbegun w _ tidy empty refl refl refl
-    (chosen-draws line form w.kept.chosen tidy.draws))
-    (λ chances i. record (nothing_kept chances) { line = sym is_line i; chosen = sym is_chosen i })
-    sink)
-
 -- ---- the first station
 
 station-right : (line : Line) (v : World) → IsStation line → v.run ≡ []
@@ -215,47 +173,88 @@ begun-same : (line : Line) (w : World) → IsStation line
 begun-same (lines.Station name sci priority) w station = refl
 begun-same _ w station = absurd station
 
-lift-any : (base : Sunk) (rest : Onward) (out : Course) (later : Stage) (new : Moment Replay)
-    (r : Result (Unit {0}) Halt) → (r ≡ Ok tt → new.value.stage ≡ Some later)
-    → new.value.halted ≡ None → Ends StageStandsFor base rest out (staged later new.sink) r
-    → Ends StandsFor base rest out new r
-lift-any base rest out later new (Ok done) is goes h =
-    lift base rest out later new (Ok done) (is refl) goes h
-lift-any base rest out later new (Err halt) is goes h = h
+module _ {K : Type 0} {Took : K → Report → K → Type 0} {Broke : K → Report → K → Broken → Type 0}
+  where
+    pub unbegun-refused : (line : Line) (kind : Kind) (now : Moment Replay K)
+        → now.value.stage ≡ None
+        → first_of (is_performed line) (is_allowed line false now.value.chosen) None ≡ Some kind
+        → Does Took Broke (act_of line) now now (Err (halts.Trace now.value.line kind))
+    unbegun-refused line kind now unbegun first = record {
+      chances = [];
+      ends = λ w later left reached.
+          let same = is-waiting w now.value reached.stands unbegun in
+          let refused : refusal line w ≡ Some kind = ap (λ (v : World). refusal line v) same
+          ∙ refusal-waiting w.kept.chances line now.value ∙ first in
+          let out : perform (act_of line) w ≡ Stops w (halts.Trace now.value.line kind) =
+          ap (λ (o : Option Kind). perform (unless_refused o (deed line w)) w) refused
+          ∙ ap (λ (n : ℕ). Stops w (halts.Trace n kind)) (ap (λ (v : World). v.kept.line) same) in
+          inl (record {
+            world = w;
+            stops = out;
+            tidy = reached.tidy;
+            counts = stands-counts w now.value reached.stands;
+            told = told-none w w now.outlet now.outlet refl refl;
+            left = ap (λ (c : List Chance). behind_numbers c) left;
+            same = refl;
+          });
+    }
 
-pub opening-does : (line : Line) → IsInForm line
-    → (old new : Moment Replay) (stage later : Stage) (r : Result (Unit {0}) Halt) → IsStation line
-    → old.value.stage ≡ None
-    → is_some old.value.chosen.group ≡ true
-    → ((v : World) → IsTidy v → is_some old.value.chosen.group ≡ true
-    → IsOpening v old.value.chosen old.value.line → StageStandsFor v stage)
-    → Did StageStandsFor (look (λ w. deed line w)) (staged stage old.sink) (staged later new.sink) r
-    → (r ≡ Ok tt → new.value.stage ≡ Some later) → new.value.halted ≡ old.value.halted
-    → Does (look (λ w. deed line w)) old new r
-opening-does line form old new stage later r station unbegun keyed stands d is halted = record {
-  chances = d.chances;
-  ends = λ base w rest left reached.
-      let same = is-waiting w old.value reached.stands unbegun in
-      let v : World = record w { kept = record w.kept { begun = true } } in
-      let tidy = tidy-same w (record w.kept { begun = true }) reached.shown.tidy refl refl refl refl refl
-      (λ e. absurd (let bad : true ≡ false = e in cc)) in
-      let opening : IsOpening v old.value.chosen old.value.line = record {
-        empty = ap (λ (u : World). u.run) same;
-        kept = ap (λ (u : World). record u.kept { begun = true }) same;
-      } in
-      let there : is_some v.kept.chosen.group
-      ≡ true = ap (λ (u : World). is_some u.kept.chosen.group) same ∙ keyed in
-      let inner = d.ends base v rest left (record {
-        stands = stands v tidy keyed opening;
-        shown = record {
-          tidy = tidy;
-          written = reached.shown.written;
-          counts =
-              reached.shown.counts;
-        };
-      }) (deed-comes line form v tidy
-      (station-right line v station (ap (λ (u : World). u.run) same) there)) in
-      lift-any base (onward rest w) (perform (deed line w) w) later new r is (halted ∙ reached.stands.goes)
-      (subst (λ (out : Course). Ends StageStandsFor base (onward rest w) out (staged later new.sink) r)
-      (sym (begun-same line w station)) inner);
-}
+    -- a line that isn't refused does what it performs
+    pub unbegun-performed : (line : Line) (old new : Moment Replay K) (r : Result (Unit {0}) Halt)
+        → old.value.stage ≡ None
+        → first_of (is_performed line) (is_allowed line false old.value.chosen) None ≡ None
+        → Does Took Broke (look (λ w. deed line w)) old new r → Does Took Broke (act_of line) old new r
+    unbegun-performed line old new r unbegun first d =
+        same-act (act_of line) (look (λ w. deed line w)) old new r (λ w stands.
+        let same = is-waiting w old.value stands unbegun in
+        let none : refusal line w ≡ None = ap (λ (v : World). refusal line v) same
+        ∙ refusal-waiting w.kept.chances line old.value ∙ first in
+        ap (λ (o : Option Kind). perform (unless_refused o (deed line w)) w) none) d
+
+    pub chosen-does : (line : Line) → IsInForm line → (old new : Moment Replay K)
+        → old.value.stage ≡ None → new.value.stage ≡ None → new.value.halted ≡ old.value.halted
+        → new.value.line ≡ old.value.line → new.value.nothing ≡ old.value.nothing
+        → new.value.chosen ≡ chosen_by line old.value.chosen → new.outlet ≡ old.outlet
+        → ((w : World) → deed line w ≡ choose (chosen_by line))
+        → Does Took Broke (look (λ w. deed line w)) old new (Ok tt)
+    chosen-does line form old new unbegun still halted is_line nothing is_chosen outlet is =
+        same-act (look (λ w. deed line w)) (choose (chosen_by line)) old new (Ok tt)
+        (λ w stands. ap (λ (act : Act). perform act w) (is w))
+        (unbegun-does (λ kept. record kept { chosen = chosen_by line kept.chosen }) old new unbegun
+        still halted nothing (λ kept. (refl, refl))
+        (λ w tidy empty. tidy-unbegun w _ tidy empty refl refl refl
+        (chosen-draws line form w.kept.chosen tidy.draws))
+        (λ chances i. record (nothing_kept chances) { line = sym is_line i; chosen = sym is_chosen i })
+        outlet)
+
+    -- the first station starts
+    pub opening-does : (line : Line) → IsInForm line → (old new : Moment Replay K)
+        (stage later : Stage) (r : Result (Unit {0}) Halt) → IsStation line → old.value.stage ≡ None
+        → is_some old.value.chosen.group ≡ true
+        → ((v : World) → IsTidy v → is_some old.value.chosen.group ≡ true
+        → IsOpening v old.value.chosen old.value.line → StageStandsFor v stage)
+        → Did Took Broke (look (λ w. deed line w)) (moment stage old.outlet) (moment later new.outlet)
+        r
+        → new.value.stage ≡ Some later → new.value.halted ≡ old.value.halted
+        → Does Took Broke (look (λ w. deed line w)) old new r
+    opening-does line form old new stage later r station unbegun keyed stands d is halted =
+        opened-does (look (λ w. deed line w))
+        (λ w. record w { kept = record w.kept { begun = true } }) old new stage later r
+        (λ w. refl) (λ w. refl) (λ w. refl)
+        (λ w replay tidy.
+        let same = is-waiting w old.value replay unbegun in
+        let v : World = record w { kept = record w.kept { begun = true } } in
+        let tidy_v = tidy-same w (record w.kept { begun = true }) tidy refl refl refl refl refl
+        (λ e. absurd (let bad : true ≡ false = e in cc)) in
+        let opening : IsOpening v old.value.chosen old.value.line = record {
+          empty = ap (λ (u : World). u.run) same;
+          kept = ap (λ (u : World). record u.kept { begun = true }) same;
+        } in
+        let there : is_some v.kept.chosen.group
+        ≡ true = ap (λ (u : World). is_some u.kept.chosen.group) same ∙ keyed in (
+          stands v tidy_v keyed opening,
+          tidy_v,
+          deed-comes line form v tidy_v
+              (station-right line v station (ap (λ (u : World). u.run) same) there),
+          begun-same line w station,
+        )) is halted d

@@ -13,10 +13,10 @@ use Rattle.lan_schedule.specs.declared.halt.Halt.{Halt}
 use Rattle.lan_schedule.specs.declared.halt.Halt.TheVariants as halts
 use Rattle.lan_schedule.specs.declared.halt.Kind.{Kind}
 use Rattle.lan_schedule.specs.declared.halt.Kind.TheVariants.{FrameUnknown}
-use Rattle.lan_schedule.specs.Races.{Apart, Racing, Worker, Claimed, Excess, limit_of, claims_in}
+use Rattle.lan_schedule.specs.Races.{Apart, Racing, Chance, Worker, Claimed, Excess, limit_of, claims_in}
 use Rattle.lan_schedule.specs.Races.{count_numbered}
 use Rattle.lan_schedule.specs.Races.{woven_in, behind_woven}
-use Rattle.lan_schedule.specs.World.{World, Kept, settings, puts}
+use Rattle.lan_schedule.specs.World.{World, Kept, beginning, settings, puts}
 use Rattle.lan_schedule.specs.Numbers.{chances_after}
 use Rattle.lan_schedule.specs.Answers.{answer, taken_by}
 
@@ -173,3 +173,10 @@ times count act = span (λ _. act) 0 count
 -- skipped where the test holds
 abbrev pub unless : Bool → Act → Act
 unless skipped act = if skipped then nothing else act
+
+-- ---- from the beginning on
+
+-- What an act leaves where no line was performed before, and chance decides so. Without a race
+-- nothing is left to chance, and this is one course.
+abbrev pub course : Act → List Chance → Course
+course act chances = perform act (beginning chances)

@@ -1,118 +1,101 @@
--- What a call did of an act: what it wrote, what it left, and how it ended (this profile's own
--- rule).
-use Rattle.std.specs.Prelude.{◌≡◌, ℕ, ◌≤◌, Bool, false, List, [], ◌∷◌, ◌++◌, Option, Result, Ok, Err}
-use Rattle.lan_base.specs.Faults.{Rose}
-use Rattle.lan_base.specs.Told.{after}
-use Rattle.lan_core.specs.Run.{Run}
-use Rattle.transcript.specs.Rendering.{transcript}
+-- What a call did of an act: what was told, what it left, and how it ended (this profile's own
+-- rule). `Stands` and `Counts` say of each kind of value for which world it stands, and of which
+-- world it has the tally; `Took` and `Broke` what a recorder does.
+use Rattle.std.specs.Prelude.{◌≡◌, ◌⊎◌, false, List, [], ◌∷◌, ◌++◌, Result, Ok, Err}
 use Rattle.lan_schedule.specs.declared.halt.Halt.{Halt}
 use Rattle.lan_schedule.specs.declared.halt.Halt.TheVariants as halts
+use Rattle.lan_schedule.specs.declared.recorder.Broken.{Broken}
+use Rattle.lan_schedule.specs.declared.recorder.Broken.TheVariants as whys
 use Rattle.lan_schedule.specs.Races.{Chance, behind_numbers}
 use Rattle.lan_schedule.specs.Sound.{IsTidy}
-use Rattle.lan_schedule.specs.World.{World, names_of, is_racing}
+use Rattle.lan_schedule.specs.World.{World, is_racing}
 use Rattle.lan_schedule.specs.Acts.{Course, Goes, Stops, world_of}
+use Rattle.lan_schedule.specs.Reports.{Report, reports, AreTold}
 
--- the facts of a run as text, those of each event under the names that the stations have by then
-abbrev pub written : Run → List ℕ
-written [] = []
-written (x ∷ r) = written r ++ transcript (names_of (x ∷ r)) x.facts
-
--- a text begins with another
-pub record Begins (front text : List ℕ) : Type 0 where
-  pub more : List ℕ
-  pub parts : front ++ more ≡ text
-
--- the text of all that was shown, also before an act
-abbrev pub text_of : Course → List ℕ
-text_of out = written (world_of out).run
-
--- what is held is what was held, and then a front of the text
-pub record HoldsFront (old new : Option (List ℕ)) (text : List ℕ) : Type 0 where
-  pub front : List ℕ
-  pub rest : List ℕ
-  pub parts : front ++ rest ≡ text
-  pub held : new ≡ after old front
-
--- a sink at a moment: what it holds, and its count of faults
-pub record Sunk : Type 0 where
-  pub held : Option (List ℕ)
-  pub faults : ℕ
-
-abbrev pub sunk : Option (List ℕ) → ℕ → Sunk
-sunk held faults = record { held = held; faults = faults }
-
--- a sink took a front of the text, and its count didn't fall
-pub record TookFront (old new : Sunk) (text : List ℕ) : Type 0 where
-  pub holds : HoldsFront old.held new.held text
-  pub counts : old.faults ≤ new.faults
-
--- a tidy world was shown since the sink stood at the base: its run's text was written
-pub record IsShown (base : Sunk) (w : World) (now : Sunk) : Type 0 where
-  pub tidy : IsTidy w
-  pub written : now.held ≡ after base.held (written w.run)
-  pub counts : base.faults ≤ now.faults
-
--- A value that performs acts, and its sink, at a moment of a call; what the value stands for is
--- given by each kind of value.
-pub record Moment (R : Type 0) : Type 0 where
+-- a value that performs acts, and what is told, at a moment of a call
+pub record Moment (R K : Type 0) : Type 0 where
   pub value : R
-  pub sink : Sunk
+  pub outlet : K
 
-abbrev pub moment : {R : Type 0} → R → Option (List ℕ) → ℕ → Moment R
-moment value held faults = record { value = value; sink = sunk held faults }
+abbrev pub moment : {R K : Type 0} → R → K → Moment R K
+moment value outlet = record { value = value; outlet = outlet }
 
--- a world is reached at a moment: the value stands for it, and it was shown
-pub record IsReached {R : Type 0} (Stands : World → R → Type 0) (base : Sunk) (w : World)
-    (now : Moment R) : Type 0 where
-  pub stands : Stands w now.value
-  pub shown : IsShown base w now.sink
+-- a value stands for a tidy world
+pub record IsReached {R : Type 0} (Stands : World → R → Type 0) (w : World) (now : R) : Type 0 where
+  pub stands : Stands w now
+  pub tidy : IsTidy w
 
--- the act stopped in a world outside a race, all of which was shown
-abbrev pub IsStopped : Sunk → Course → Sunk → Halt → Type 0
-IsStopped base out now halt = (w : World) × (out ≡ Stops w halt) × IsShown base w now
-    × (is_racing w.kept.phase ≡ false)
+-- what events showed from one world up to another was told
+pub record WasTold {K : Type 0} (Took : K → Report → K → Type 0) (w v : World) (old new : K) :
+    Type 0 where
+  pub told : List Report
+  pub since : reports v.run ≡ reports w.run ++ told
+  pub by_one : AreTold Took old told new
 
--- On the way to this course a tidy world was reached, what it showed is a front of what the course
--- shows, and a front of that was taken.
-pub record WasCut (base : Sunk) (racing : Bool) (out : Course) (now : Sunk) : Type 0 where
-  pub on_the_way : World
-  pub tidy : IsTidy on_the_way
-  pub same : is_racing on_the_way.kept.phase ≡ racing
-  pub begins : Begins (written on_the_way.run) (text_of out)
-  pub took : TookFront base now (written on_the_way.run)
+-- why a recorder that broke ends a trace
+abbrev pub halt_of_broken : Broken → Halt
+halt_of_broken whys.Failed = halts.Broken
+halt_of_broken whys.Memory = halts.Memory
 
--- what chance decides behind a call, and whether the call was made in the midst of a race
-pub record Onward : Type 0 where
-  pub later : List Chance
-  pub racing : Bool
+-- From one world up to another all was told up to the report at which the recorder broke. It is that
+-- of the last event: only a race happens as a whole before it is told.
+pub record WasBroken {K : Type 0} (Took : K → Report → K → Type 0)
+    (Broke : K → Report → K → Broken → Type 0) (w v : World) (old new : K) (halt : Halt) :
+    Type 0 where
+  pub told : List Report
+  pub last : Report
+  pub behind : List Report
+  pub since : reports v.run ≡ reports w.run ++ (told ++ last ∷ behind)
+  pub prompt : v.kept.raced ≡ false → behind ≡ []
+  pub before : K
+  pub by_one : AreTold Took old told before
+  pub why : Broken
+  pub breaks : Broke before last new why
+  pub is : halt ≡ halt_of_broken why
 
-abbrev pub onward : List Chance → World → Onward
-onward later w = record { later = later; racing = is_racing w.kept.phase }
+-- the act stopped in a tidy world, all was told, and a number that it was to show may be left
+pub record IsStopped {R K : Type 0} (Counts : World → R → Type 0) (Took : K → Report → K → Type 0)
+    (w : World) (later : List Chance) (out : Course) (old : K) (new : Moment R K) (halt : Halt) :
+    Type 0 where
+  pub world : World
+  pub stops : out ≡ Stops world halt
+  pub tidy : IsTidy world
+  pub counts : Counts world new.value
+  pub told : WasTold Took w world old new.outlet
+  pub left : behind_numbers world.kept.chances ≡ behind_numbers later
+  pub same : is_racing world.kept.phase ≡ is_racing w.kept.phase
 
--- the act stopped, and a number that it was to show may be left
-abbrev pub EndsStopped : Sunk → Onward → Course → Sunk → Halt → Type 0
-EndsStopped base on out now halt =
-    (w : World) × (out ≡ Stops w halt) × IsShown base w now
-    × (behind_numbers w.kept.chances ≡ behind_numbers on.later)
-    × (is_racing w.kept.phase ≡ on.racing)
+-- reports begin with others
+pub record Begins (front all : List Report) : Type 0 where
+  pub more : List Report
+  pub parts : front ++ more ≡ all
 
--- how a call ends early whose course would be this one
-abbrev pub EndsEarly : Sunk → Onward → Course → Sunk → Halt → Type 0
-EndsEarly base on out now (halts.Trace line kind) =
-    EndsStopped base on out now (halts.Trace line kind)
-EndsEarly base on out now halts.ReadFault = ⊥
-EndsEarly base on out now halts.WriteFault =
-    Rose base.faults now.faults × WasCut base on.racing out now
-EndsEarly base on out now halts.Memory = WasCut base on.racing out now
-EndsEarly base on out now (halts.Limit which) = EndsStopped base on out now (halts.Limit which)
-EndsEarly base on out now (halts.RepeatedDraw first second) =
-    EndsStopped base on out now (halts.RepeatedDraw first second)
-EndsEarly base on out now (halts.Forged line) = EndsStopped base on out now (halts.Forged line)
+-- all that a course reports, also before an act
+abbrev pub reported : Course → List Report
+reported out = reports (world_of out).run
 
--- how a call ends whose course would be this one
-abbrev pub Ends : {R : Type 0} → (World → R → Type 0)
-    → Sunk → Onward → Course → Moment R → Result (Unit {0}) Halt → Type 0
-Ends Stands base on out now (Ok done) =
-    (w : World) × (out ≡ Goes w) × IsReached Stands base w now × (w.kept.chances ≡ on.later)
-    × (is_racing w.kept.phase ≡ on.racing)
-Ends Stands base on out now (Err halt) = EndsEarly base on out now.sink halt
+-- on the way to this course a tidy world was reached, where memory was wanting, or the recorder broke
+pub record WasCut {R K : Type 0} (Counts : World → R → Type 0) (Took : K → Report → K → Type 0)
+    (Broke : K → Report → K → Broken → Type 0) (w : World) (out : Course) (old : K)
+    (new : Moment R K) (halt : Halt) : Type 0 where
+  pub world : World
+  pub tidy : IsTidy world
+  pub counts : Counts world new.value
+  pub same : is_racing world.kept.phase ≡ is_racing w.kept.phase
+  pub begins : Begins (reports world.run) (reported out)
+  pub cause : ((halt ≡ halts.Memory) × WasTold Took w world old new.outlet)
+      ⊎ WasBroken Took Broke w world old new.outlet halt
+
+-- How a call ends that begins in a world, and whose course would be this one: in the midst of a race
+-- where it began there, and with the chances that come behind it. Its value then stands for the
+-- world; where it ended early it has its tally.
+abbrev pub Ends : {R K : Type 0} → (World → R → Type 0) → (World → R → Type 0)
+    → (K → Report → K → Type 0) → (K → Report → K → Broken → Type 0) → World → List Chance → Course
+    → K → Moment R K → Result (Unit {0}) Halt → Type 0
+Ends Stands Counts Took Broke w later out old new (Ok done) =
+    (v : World) × (out ≡ Goes v) × IsReached Stands v new.value
+    × WasTold Took w v old new.outlet × (v.kept.chances ≡ later)
+    × (is_racing v.kept.phase ≡ is_racing w.kept.phase)
+Ends Stands Counts Took Broke w later out old new (Err halt) =
+    IsStopped Counts Took w later out old new halt
+    ⊎ WasCut Counts Took Broke w out old new halt

@@ -1,7 +1,13 @@
--- What a reader reads, in this order: the lines of a text, where draws come from, what races are, what
--- lines have made, what can be performed, which line is refused, what a line performs, what a call did of it,
--- and a whole trace.
-pub mod Texts
+-- What a reader reads first. A *world* is what the lines so far have made: a *run* of the group and
+-- what is kept beside it. A line performs an *act*: nothing, a refusal, an *event* of the group, a
+-- change of what is kept, one act and then another, or what a look at the world asks for. An event is
+-- a start, a tick, a delivery, a restart, a claim, an emission or an injection; it shows *facts*, by
+-- which the run grows, and they are reported before the next one happens. What performing an act
+-- leaves is a *course*: it goes on from a world, or stops in one and says why. What the schedule of
+-- threads decides is a list of *chances* in the world, taken from its head. A *moment* of a call is
+-- the value that performs, and the outlet that is told the reports. The files stand in this order:
+-- where draws come from, what races are, what lines have made, what can be performed, which line is
+-- refused, what a line performs, what is sound, what is told, and what a call did of an act.
 pub mod Supply
 pub mod Settings
 pub mod Races
@@ -12,8 +18,8 @@ pub mod Acts
 pub mod Kinds
 pub mod Lines
 pub mod Sound
+pub mod Reports
 pub mod Ends
 pub mod Stages
 pub mod Standing
-pub mod Trace
 pub mod inside

@@ -16,7 +16,7 @@ use Rattle.lan_schedule.specs.declared.choices.Rule.TheVariants.{Counted, Stream
 use Rattle.lan_schedule.specs.declared.choices.Choices.{Choices}
 use Rattle.lan_schedule.specs.declared.frames.Put.{Put}
 use Rattle.lan_schedule.specs.Settings.{secret_of, lag_of}
-use Rattle.lan_schedule.specs.World.{World, count, place, sender, mark, is_cut}
+use Rattle.lan_schedule.specs.World.{World, Kept, count, place, sender, mark, is_cut}
 use Rattle.lan_schedule.specs.World.{with_link, without_link}
 use Rattle.lan_schedule.specs.Numbers.{number_shown, number_claimed}
 use Rattle.lan_schedule.specs.Acts.{Act, nothing, refuse, happen, change, seq, look, each, span}
@@ -86,11 +86,11 @@ flow_round = seq begin_round (seq round (look (λ w. each spread (due w))))
 
 -- ---- links
 
-abbrev pub link_cut : ℕ → ℕ → Act
-link_cut from to = change (λ kept. record kept { cuts = with_link from to kept.cuts })
+abbrev pub cut_in : ℕ → ℕ → Kept → Kept
+cut_in from to kept = record kept { cuts = with_link from to kept.cuts }
 
-abbrev pub link_mended : ℕ → ℕ → Act
-link_mended from to = change (λ kept. record kept { cuts = without_link from to kept.cuts })
+abbrev pub mended_in : ℕ → ℕ → Kept → Kept
+mended_in from to kept = record kept { cuts = without_link from to kept.cuts }
 
 -- ---- user data
 
@@ -132,8 +132,8 @@ deed (lines.Flow rounds) w = times rounds flow_round
 deed (lines.Deliver frame name) w = happen (Deliver frame (place w name))
 deed (lines.Spread frame) w = spread frame
 deed (lines.Lose frame) w = change (mark frame)
-deed (lines.Cut from to) w = link_cut (place w from) (place w to)
-deed (lines.Mend from to) w = link_mended (place w from) (place w to)
+deed (lines.Cut from to) w = change (cut_in (place w from) (place w to))
+deed (lines.Mend from to) w = change (mended_in (place w from) (place w to))
 deed (lines.Restart name) w = happen (Restart (place w name))
 deed (lines.Send name destination body) w =
     seq (add_user (record { destination = destination; body = body })) (send (place w name))
@@ -152,6 +152,9 @@ act_of line = look (λ w. unless_refused (refusal line w) (deed line w))
 -- the line of this number begins
 abbrev pub begin_line : ℕ → Act
 begin_line number = change (λ kept. record kept { line = number })
+
+abbrev pub at_line : ℕ → World → World
+at_line number w = record w { kept = record w.kept { line = number } }
 
 -- what the line of a number performs
 abbrev pub numbered : ℕ → Line → Act

@@ -26,3 +26,7 @@ pub record StandsFor (w : World) (stage : Stage) : Type 0 where
   pub cuts : stage.cuts ≡ w.kept.cuts
   pub numbers : TellNext (settings w) w.run stage.numbers
   pub tally : stage.tally ≡ counts (facts_of w.run)
+
+-- its tally is that of the world's run, also where an event or a line of it ended early
+abbrev pub Counts : World → Stage → Type 0
+Counts w stage = stage.tally ≡ counts (facts_of w.run)

@@ -1,14 +1,17 @@
 -- For which world a replay stands.
-use Rattle.std.specs.Prelude.{◌≡◌, [], Option, Some, None, Result, List, ◌++◌}
+use Rattle.std.specs.Prelude.{◌≡◌, List, [], ◌++◌, Option, Some, None, Result}
+use Rattle.lan_core.specs.Run.{facts_of}
 use Rattle.fact_tally.specs.Summary.{counts}
 use Rattle.lan_schedule.specs.declared.halt.Halt.{Halt}
+use Rattle.lan_schedule.specs.declared.recorder.Broken.{Broken}
 use Rattle.lan_schedule.specs.declared.stage.Stage.{Stage}
 use Rattle.lan_schedule.specs.declared.commands.Replay.{Replay}
 use Rattle.lan_schedule.specs.Races.{Chance}
 use Rattle.lan_schedule.specs.World.{World, nothing_kept}
 use Rattle.lan_schedule.specs.Acts.{Act, perform}
-use Rattle.lan_schedule.specs.Ends.{Sunk, Moment, IsReached, Ends, onward}
-use Rattle.lan_schedule.specs.Stages.{StandsFor as StageStandsFor}
+use Rattle.lan_schedule.specs.Reports.{Report}
+use Rattle.lan_schedule.specs.Ends.{Moment, IsReached, Ends}
+use Rattle.lan_schedule.specs.Stages.{StandsFor as StageStandsFor, Counts as StageCounts}
 
 -- before the first station nothing happened, and the tally is that of no facts; from then on the
 -- group at work stands for the world
@@ -27,11 +30,20 @@ pub record StandsFor (w : World) (replay : Replay) : Type 0 where
   pub goes : replay.halted ≡ None
   pub stage : IsStaged w replay replay.stage
 
--- A call does an act, in each world that its replay may stand for, where chance decides so next, and
--- anything later.
-pub record Does (act : Act) (old new : Moment Replay) (result : Result (Unit {0}) Halt) :
-    Type 0 where
+abbrev pub HasTally : World → Replay → Option Stage → Type 0
+HasTally w replay None = replay.nothing ≡ counts (facts_of w.run)
+HasTally w replay (Some stage) = StageCounts w stage
+
+-- the tally of a replay, halted or not, is that of the world's run
+abbrev pub Counts : World → Replay → Type 0
+Counts w replay = HasTally w replay replay.stage
+
+-- A call did an act, in each world for which its replay may stand, and whose chances begin with
+-- those that were decided in the call. What it told is told behind whatever was told before.
+pub record Does {K : Type 0} (Took : K → Report → K → Type 0)
+    (Broke : K → Report → K → Broken → Type 0) (act : Act) (old new : Moment Replay K)
+    (result : Result (Unit {0}) Halt) : Type 0 where
   pub chances : List Chance
-  pub ends : (base : Sunk) (w : World) (later : List Chance) → w.kept.chances ≡ chances ++ later
-      → IsReached StandsFor base w old
-      → Ends StandsFor base (onward later w) (perform act w) new result
+  pub ends : (w : World) (later : List Chance) → w.kept.chances ≡ chances ++ later
+      → IsReached StandsFor w old.value
+      → Ends StandsFor Counts Took Broke w later (perform act w) old.outlet new result

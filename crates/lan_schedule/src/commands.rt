@@ -1,34 +1,35 @@
 //! A replay performs the lines of a trace, one after the other.
 
 ghost use Rattle.std.specs.Prelude.{◌≡◌, ◌⊎◌, length, Some, None, Ok, Err, IfErr};
-ghost use Rattle.std.specs.Prelude.{OnOk, Option, is_some, true, List};
-ghost use Rattle.lan_schedule.specs.Races.{Chance};
+ghost use Rattle.std.specs.Prelude.{OnOk, List, Option, is_some, true};
 ghost use Rattle.std.specs.Prelude.{false};
 ghost use Rattle.lan_core.specs.Run.{facts_of};
 ghost use Rattle.fact_tally.specs.Summary.{counts};
 ghost use Rattle.trace_text.specs.Writing.{IsInForm};
+ghost use Rattle.lan_schedule.specs.Races.{Chance};
 ghost use Rattle.lan_schedule.specs.World.{World, beginning};
 ghost use Rattle.lan_schedule.specs.declared.halt.Halt.{Halt};
 ghost use Rattle.lan_schedule.specs.Settings.{secret_of};
-ghost use Rattle.lan_schedule.specs.Kinds.{first_of, is_performed, is_allowed};
+ghost use Rattle.lan_schedule.specs.Kinds.{first_of, is_performed, is_allowed, kind_of_fault};
 ghost use Rattle.lan_schedule.specs.Acts.{look};
-ghost use Rattle.lan_schedule.specs.Lines.{numbered, begin_line, act_of, deed, chosen_by};
-ghost use Rattle.lan_schedule.specs.Lines.{listed_after};
+ghost use Rattle.lan_schedule.specs.Lines.{numbered, at_line, act_of, deed, chosen_by};
+ghost use Rattle.lan_schedule.specs.Lines.{listed_after, performed};
 ghost use Rattle.lan_schedule.specs.Ends.{moment};
-ghost use Rattle.lan_schedule.specs.Standing.{StandsFor, Does};
+ghost use Rattle.lan_schedule.specs.Standing.{StandsFor, Counts, Does};
 ghost use Rattle.lan_schedule.specs.inside.Choosing.{IsStation};
 
 use crate::choices::{Choices, Keyed, Rule};
 use crate::halt::{Halt, Kind};
+use crate::recorder::Recorder;
 use crate::stage::Stage;
 use aes_block::Secret;
 use fact_tally::Tally;
-use lan_base::{Blocks, Sink};
+use lan_base::Blocks;
 use std::alloc::{AllocError, Global};
-use trace_text::Line;
+use trace_text::{Line, LineError, TextFault, read_line};
 
-/// What the lines so far have made. Contracts see by `StandsFor` which world that is, and whether
-/// the replay is halted.
+/// What the lines so far have made. Contracts see by `StandsFor` which world that is, and by
+/// `Counts` of which world it has the tally, whether it is halted or not.
 #[derive(Drop)]
 pub struct Replay {
     alloc: Global,
@@ -57,9 +58,11 @@ impl Replay {
         }
     }
 
-    /// The tally of all facts that the lines so far have shown.
+    /// The tally of all facts that the lines so far have shown, also those of a line that ended
+    /// early.
     pub fn tally(&self) -> &Tally
-        ensures { (w : World) → StandsFor w self.now → result.now ≡ counts (facts_of w.run) }
+        ensures goes { (w : World) → StandsFor w self.now → result.now ≡ counts (facts_of w.run) }
+        ensures halted { (w : World) → Counts w self.now → result.now ≡ counts (facts_of w.run) }
     {
         match &self.stage {
             Some(stage) => &stage.tally,
@@ -67,35 +70,103 @@ impl Replay {
         }
     }
 
-    /// Performs one line, whose number in the trace is given, and writes what its events show, that
-    /// of each before the next one happens. An error halts the replay: it answers that error from
-    /// then on.
-    pub fn command<K: Sink>(&mut self, number: u32, line: &Line, sink: &mut K) -> Result<(), Halt>
+    /// Performs one line, whose number in the trace is given, and tells what each event shows before
+    /// the next one happens. An error halts the replay: it answers that error from then on, and
+    /// keeps the tally of what had happened.
+    pub fn command<K, R: Recorder<K>>(
+        &mut self,
+        number: u32,
+        line: &Line,
+        recorder: &mut R,
+        outlet: &mut K,
+    ) -> Result<(), Halt>
         requires { IsInForm line.now }
-        ensures does { Does (numbered number line.now)
-            (moment self.old (K.held sink.old) (K.faults sink.old))
-            (moment self.new (K.held sink.new) (K.faults sink.new)) result }
+        ensures does { Does R.Took R.Broke (numbered number line.now)
+            (moment self.old outlet.old) (moment self.new outlet.new) result }
         ensures halts { IfErr result (λ halt. self.new.halted ≡ Some halt) }
         ensures again { (halt : Halt) → self.old.halted ≡ Some halt
-            → (result ≡ Err halt) × (self.new ≡ self.old)
-            × (K.held sink.new ≡ K.held sink.old) × (K.faults sink.new ≡ K.faults sink.old) }
+            → (result ≡ Err halt) × (self.new ≡ self.old) × (outlet.new ≡ outlet.old) }
     {
         if let Some(halt) = self.halted {
             return Err(halt);
         }
-        self.skip(number, sink);
-        let outcome = self.perform(line, sink);
+        let outcome = self.perform_line(number, line, recorder, outlet);
         if let Err(halt) = outcome {
             self.halted = Some(halt);
         }
         outcome
     }
 
+    /// Performs a text without its line ending, as the next line, and tells what each event shows
+    /// before the next one happens. An error halts the replay, as that of a command does.
+    pub fn text<K, R: Recorder<K>>(
+        &mut self,
+        text: &[u8],
+        recorder: &mut R,
+        outlet: &mut K,
+    ) -> Result<(), Halt>
+        ensures does { Does R.Took R.Broke (performed text.now)
+            (moment self.old outlet.old) (moment self.new outlet.new) result }
+        ensures halts { IfErr result (λ halt. self.new.halted ≡ Some halt) }
+        ensures again { (halt : Halt) → self.old.halted ≡ Some halt
+            → (result ≡ Err halt) × (self.new ≡ self.old) × (outlet.new ≡ outlet.old) }
+    {
+        if let Some(halt) = self.halted {
+            return Err(halt);
+        }
+        let outcome = self.perform_text(text, recorder, outlet);
+        if let Err(halt) = outcome {
+            self.halted = Some(halt);
+        }
+        outcome
+    }
+
+    /// Performs a text as the next line.
+    fn perform_text<K, R: Recorder<K>>(
+        &mut self,
+        text: &[u8],
+        recorder: &mut R,
+        outlet: &mut K,
+    ) -> Result<(), Halt>
+        ensures { Does R.Took R.Broke (performed text.now)
+            (moment self.old outlet.old) (moment self.new outlet.new) result }
+    {
+        let Some(number) = self.line().checked_add(1) else {
+            return Err(Halt::Memory);
+        };
+        match read_line(self.alloc, text) {
+            Ok(None) => {
+                self.begin_line(number);
+                Ok(())
+            }
+            Ok(Some(line)) => self.perform_line(number, &line, recorder, outlet),
+            Err(LineError::Refused(fault)) => Err(Halt::Trace {
+                line: number,
+                kind: kind_of_fault(fault),
+            }),
+            Err(LineError::Memory) => Err(Halt::Memory),
+        }
+    }
+
+    /// Performs the line of a number.
+    fn perform_line<K, R: Recorder<K>>(
+        &mut self,
+        number: u32,
+        line: &Line,
+        recorder: &mut R,
+        outlet: &mut K,
+    ) -> Result<(), Halt>
+        requires { IsInForm line.now }
+        ensures { Does R.Took R.Broke (numbered number line.now)
+            (moment self.old outlet.old) (moment self.new outlet.new) result }
+    {
+        self.begin_line(number);
+        self.perform(line, recorder, outlet)
+    }
+
     /// The line of a number begins, and performs nothing so far.
-    pub fn skip<K: Sink>(&mut self, number: u32, _sink: &K)
-        ensures { Does (begin_line number)
-            (moment self.old (K.held _sink.now) (K.faults _sink.now))
-            (moment self.new (K.held _sink.now) (K.faults _sink.now)) (Ok tt) }
+    fn begin_line(&mut self, number: u32)
+        ensures { (w : World) → StandsFor w self.old → StandsFor (at_line number w) self.new }
     {
         if let Some(stage) = &mut self.stage {
             stage.line = number;
@@ -105,7 +176,7 @@ impl Replay {
     }
 
     /// The number of the last line.
-    pub fn line(&self) -> u32
+    fn line(&self) -> u32
         ensures { (w : World) → StandsFor w self.now → result ≡ w.kept.line }
     {
         match &self.stage {
@@ -115,14 +186,18 @@ impl Replay {
     }
 
     /// Performs a line.
-    fn perform<K: Sink>(&mut self, line: &Line, sink: &mut K) -> Result<(), Halt>
+    fn perform<K, R: Recorder<K>>(
+        &mut self,
+        line: &Line,
+        recorder: &mut R,
+        outlet: &mut K,
+    ) -> Result<(), Halt>
         requires { IsInForm line.now }
-        ensures { Does (act_of line.now)
-            (moment self.old (K.held sink.old) (K.faults sink.old))
-            (moment self.new (K.held sink.new) (K.faults sink.new)) result }
+        ensures { Does R.Took R.Broke (act_of line.now)
+            (moment self.old outlet.old) (moment self.new outlet.new) result }
     {
         if let Some(stage) = &mut self.stage {
-            return stage.command(line, sink);
+            return stage.command(line, recorder, outlet);
         }
         if let Some(kind) = refusal(&self.chosen, line) {
             return Err(Halt::Trace {
@@ -130,20 +205,24 @@ impl Replay {
                 kind,
             });
         }
-        self.prepare(line, sink)
+        self.prepare(line, recorder, outlet)
     }
 
     /// Performs a line before the first station, which isn't refused.
-    fn prepare<K: Sink>(&mut self, line: &Line, sink: &mut K) -> Result<(), Halt>
+    fn prepare<K, R: Recorder<K>>(
+        &mut self,
+        line: &Line,
+        recorder: &mut R,
+        outlet: &mut K,
+    ) -> Result<(), Halt>
         requires form { IsInForm line.now }
         requires unbegun { self.old.stage ≡ None }
         requires allowed { is_allowed line.now false self.old.chosen ≡ true }
-        ensures { Does (look (λ w. deed line.now w))
-            (moment self.old (K.held sink.old) (K.faults sink.old))
-            (moment self.new (K.held sink.new) (K.faults sink.new)) result }
+        ensures { Does R.Took R.Broke (look (λ w. deed line.now w))
+            (moment self.old outlet.old) (moment self.new outlet.new) result }
     {
         match line {
-            Line::Station { .. } => self.open(line, sink),
+            Line::Station { .. } => self.open(line, recorder, outlet),
             _ => {
                 choose(self.alloc, &mut self.chosen, line)?;
                 Ok(())
@@ -152,19 +231,23 @@ impl Replay {
     }
 
     /// The first station starts.
-    fn open<K: Sink>(&mut self, line: &Line, sink: &mut K) -> Result<(), Halt>
+    fn open<K, R: Recorder<K>>(
+        &mut self,
+        line: &Line,
+        recorder: &mut R,
+        outlet: &mut K,
+    ) -> Result<(), Halt>
         requires form { IsInForm line.now }
         requires unbegun { self.old.stage ≡ None }
         requires keyed { is_some self.old.chosen.group ≡ true }
         requires station { IsStation line.now }
-        ensures { Does (look (λ w. deed line.now w))
-            (moment self.old (K.held sink.old) (K.faults sink.old))
-            (moment self.new (K.held sink.new) (K.faults sink.new)) result }
+        ensures { Does R.Took R.Broke (look (λ w. deed line.now w))
+            (moment self.old outlet.old) (moment self.new outlet.new) result }
     {
         let mut stage = Stage::new(self.alloc, &self.chosen, self.line)?;
-        stage.perform(line, sink)?;
+        let outcome = stage.perform(line, recorder, outlet);
         self.stage = Some(stage);
-        Ok(())
+        outcome
     }
 }
 
@@ -263,4 +346,17 @@ pub fn is_performed(line: &Line) -> bool
         line,
         Line::Race | Line::Burst { .. } | Line::While | Line::End | Line::Feed { .. }
     )
+}
+
+/// A fault of a line's text as a kind.
+fn kind_of_fault(fault: TextFault) -> Kind
+    ensures { result ≡ kind_of_fault fault }
+{
+    match fault {
+        TextFault::TooLong => Kind::TooLong,
+        TextFault::Word => Kind::Word,
+        TextFault::Count => Kind::Count,
+        TextFault::Hex => Kind::Hex,
+        TextFault::Range => Kind::Range,
+    }
 }

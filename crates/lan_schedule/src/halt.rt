@@ -2,7 +2,9 @@
 
 ghost use Rattle.std.specs.Prelude.{◌≡◌};
 ghost use Rattle.lan_schedule.specs.declared.halt.Halt.TheVariants.{Memory};
+ghost use Rattle.lan_schedule.specs.Ends.{halt_of_broken};
 
+use crate::recorder::Broken;
 use lan_core::Which;
 use std::alloc::{AllocError, AllocFailed};
 use thiserror::Error;
@@ -56,15 +58,12 @@ pub enum Halt {
     /// The line with this number, from 1, is refused.
     #[error("line {line}: {kind}")]
     Trace { line: u32, kind: Kind },
-    /// The source failed.
-    #[error("read fault")]
-    ReadFault,
-    /// The sink failed.
-    #[error("write fault")]
-    WriteFault,
     #[error("out of memory")]
     Memory,
-    /// An event would pass a limit, or an octet of the input did.
+    /// The recorder failed.
+    #[error("recorder failed")]
+    Broken,
+    /// An event would pass a limit.
     #[error("limit {0:?}")]
     Limit(Which),
     /// Two drawn member identifiers are equal, or two drawn SAKs. Draws have numbers from 1.
@@ -88,5 +87,16 @@ impl<T: Drop> From<AllocFailed<T>> for Halt {
 
     fn from(_: AllocFailed<T>) -> Self {
         Halt::Memory
+    }
+}
+
+impl From<Broken> for Halt {
+    ghost from_gives = { λ why halt. halt ≡ halt_of_broken why };
+
+    fn from(why: Broken) -> Self {
+        match why {
+            Broken::Failed => Halt::Broken,
+            Broken::Memory => Halt::Memory,
+        }
     }
 }

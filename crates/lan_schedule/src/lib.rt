@@ -1,5 +1,5 @@
 //! A trace is performed line by line: each line is read, judged and performed, and what its events
-//! show is written.
+//! show is told to a recorder, that of each before the next one happens.
 #![tactic(auto)]
 
 mod choices;
@@ -10,14 +10,13 @@ mod laws;
 mod links;
 mod moves;
 mod numbers;
+mod recorder;
 mod refusals;
 mod setup;
 mod stage;
 mod supply;
-mod trace;
-mod writing;
 
 pub use commands::Replay;
 pub use halt::{Halt, Kind};
-pub use laws::law_lines_leave_a_tidy_world;
-pub use trace::replay;
+pub use laws::{law_acts_stop_for_their_own_reasons, law_lines_leave_a_tidy_world};
+pub use recorder::{Broken, Recorder};

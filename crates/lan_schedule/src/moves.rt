@@ -3,57 +3,68 @@
 ghost use Rattle.lan_schedule.specs.Acts.{each, times};
 ghost use Rattle.lan_schedule.specs.Lines.{tick, round, to_others, spread, flow_round, pass};
 ghost use Rattle.lan_schedule.specs.Ends.{moment};
-ghost use Rattle.lan_schedule.specs.inside.Comes.{Did};
-ghost use Rattle.lan_schedule.specs.Stages.{StandsFor};
+ghost use Rattle.lan_schedule.specs.inside.Staged.{Did};
 
 use crate::halt::Halt;
+use crate::recorder::Recorder;
 use crate::stage::Stage;
-use lan_base::Sink;
 use lan_core::Event;
 
 impl Stage {
     /// A tick of one station, which shows the next packet number.
-    fn tick<K: Sink>(&mut self, station: u8, sink: &mut K) -> Result<(), Halt>
-        ensures { Did StandsFor (tick station)
-            (moment self.old (K.held sink.old) (K.faults sink.old))
-            (moment self.new (K.held sink.new) (K.faults sink.new)) result }
+    fn tick<K, R: Recorder<K>>(
+        &mut self,
+        station: u8,
+        recorder: &mut R,
+        outlet: &mut K,
+    ) -> Result<(), Halt>
+        ensures { Did R.Took R.Broke (tick station)
+            (moment self.old outlet.old) (moment self.new outlet.new) result }
     {
         let next = self.numbers.shown(&self.lan, station);
-        self.happen(&Event::Tick { station, next }, None, sink)
+        self.happen(&Event::Tick { station, next }, None, recorder, outlet)
     }
 
     /// So many ticks of one station.
-    pub fn ticks<K: Sink>(&mut self, station: u8, count: u32, sink: &mut K) -> Result<(), Halt>
-        ensures { Did StandsFor (times count (tick station))
-            (moment self.old (K.held sink.old) (K.faults sink.old))
-            (moment self.new (K.held sink.new) (K.faults sink.new)) result }
+    pub fn ticks<K, R: Recorder<K>>(
+        &mut self,
+        station: u8,
+        count: u32,
+        recorder: &mut R,
+        outlet: &mut K,
+    ) -> Result<(), Halt>
+        ensures { Did R.Took R.Broke (times count (tick station))
+            (moment self.old outlet.old) (moment self.new outlet.new) result }
     {
         for _ in 0..count {
-            self.tick(station, sink)?;
+            self.tick(station, recorder, outlet)?;
         }
         Ok(())
     }
 
     /// A tick of each station.
-    fn round<K: Sink>(&mut self, sink: &mut K) -> Result<(), Halt>
-        ensures { Did StandsFor round
-            (moment self.old (K.held sink.old) (K.faults sink.old))
-            (moment self.new (K.held sink.new) (K.faults sink.new)) result }
+    fn round<K, R: Recorder<K>>(&mut self, recorder: &mut R, outlet: &mut K) -> Result<(), Halt>
+        ensures { Did R.Took R.Broke round
+            (moment self.old outlet.old) (moment self.new outlet.new) result }
     {
         for station in 0..self.count() {
-            self.tick(station, sink)?;
+            self.tick(station, recorder, outlet)?;
         }
         Ok(())
     }
 
     /// So many rounds.
-    pub fn rounds<K: Sink>(&mut self, count: u32, sink: &mut K) -> Result<(), Halt>
-        ensures { Did StandsFor (times count round)
-            (moment self.old (K.held sink.old) (K.faults sink.old))
-            (moment self.new (K.held sink.new) (K.faults sink.new)) result }
+    pub fn rounds<K, R: Recorder<K>>(
+        &mut self,
+        count: u32,
+        recorder: &mut R,
+        outlet: &mut K,
+    ) -> Result<(), Halt>
+        ensures { Did R.Took R.Broke (times count round)
+            (moment self.old outlet.old) (moment self.new outlet.new) result }
     {
         for _ in 0..count {
-            self.round(sink)?;
+            self.round(recorder, outlet)?;
         }
         Ok(())
     }
@@ -61,73 +72,99 @@ impl Stage {
     // ---- frames
 
     /// A frame goes from one station to another, unless that sent it or the link is cut.
-    fn pass<K: Sink>(&mut self, frame: u32, from: u8, station: u8, sink: &mut K) -> Result<(), Halt>
-        ensures { Did StandsFor (pass frame from station)
-            (moment self.old (K.held sink.old) (K.faults sink.old))
-            (moment self.new (K.held sink.new) (K.faults sink.new)) result }
+    fn pass<K, R: Recorder<K>>(
+        &mut self,
+        frame: u32,
+        from: u8,
+        station: u8,
+        recorder: &mut R,
+        outlet: &mut K,
+    ) -> Result<(), Halt>
+        ensures { Did R.Took R.Broke (pass frame from station)
+            (moment self.old outlet.old) (moment self.new outlet.new) result }
     {
         if station == from || self.cuts.is_cut(from, station) {
             return Ok(());
         }
-        self.deliver(frame, station, sink)
+        self.deliver(frame, station, recorder, outlet)
     }
 
     /// A frame goes from one station to all others along the links that are whole.
-    fn to_others<K: Sink>(&mut self, frame: u32, from: u8, sink: &mut K) -> Result<(), Halt>
-        ensures { Did StandsFor (to_others frame from)
-            (moment self.old (K.held sink.old) (K.faults sink.old))
-            (moment self.new (K.held sink.new) (K.faults sink.new)) result }
+    fn to_others<K, R: Recorder<K>>(
+        &mut self,
+        frame: u32,
+        from: u8,
+        recorder: &mut R,
+        outlet: &mut K,
+    ) -> Result<(), Halt>
+        ensures { Did R.Took R.Broke (to_others frame from)
+            (moment self.old outlet.old) (moment self.new outlet.new) result }
     {
         for station in 0..self.count() {
-            self.pass(frame, from, station, sink)?;
+            self.pass(frame, from, station, recorder, outlet)?;
         }
         Ok(())
     }
 
     /// A frame goes to all others, and is marked.
-    pub fn spread<K: Sink>(&mut self, frame: u32, sink: &mut K) -> Result<(), Halt>
-        ensures { Did StandsFor (spread frame)
-            (moment self.old (K.held sink.old) (K.faults sink.old))
-            (moment self.new (K.held sink.new) (K.faults sink.new)) result }
+    pub fn spread<K, R: Recorder<K>>(
+        &mut self,
+        frame: u32,
+        recorder: &mut R,
+        outlet: &mut K,
+    ) -> Result<(), Halt>
+        ensures { Did R.Took R.Broke (spread frame)
+            (moment self.old outlet.old) (moment self.new outlet.new) result }
     {
         let from = self.frames.sender(frame);
-        self.to_others(frame, from, sink)?;
+        self.to_others(frame, from, recorder, outlet)?;
         self.frames.mark(frame);
         Ok(())
     }
 
     /// Frames are spread, one after the other.
-    fn spread_all<K: Sink>(&mut self, frames: &[u32], sink: &mut K) -> Result<(), Halt>
-        ensures { Did StandsFor (each spread frames.now)
-            (moment self.old (K.held sink.old) (K.faults sink.old))
-            (moment self.new (K.held sink.new) (K.faults sink.new)) result }
+    fn spread_all<K, R: Recorder<K>>(
+        &mut self,
+        frames: &[u32],
+        recorder: &mut R,
+        outlet: &mut K,
+    ) -> Result<(), Halt>
+        ensures { Did R.Took R.Broke (each spread frames.now)
+            (moment self.old outlet.old) (moment self.new outlet.new) result }
     {
         for frame in frames {
-            self.spread(*frame, sink)?;
+            self.spread(*frame, recorder, outlet)?;
         }
         Ok(())
     }
 
     /// A flow round: a round of ticks, and then each frame whose round has come is spread.
-    fn flow_round<K: Sink>(&mut self, sink: &mut K) -> Result<(), Halt>
-        ensures { Did StandsFor flow_round
-            (moment self.old (K.held sink.old) (K.faults sink.old))
-            (moment self.new (K.held sink.new) (K.faults sink.new)) result }
+    fn flow_round<K, R: Recorder<K>>(
+        &mut self,
+        recorder: &mut R,
+        outlet: &mut K,
+    ) -> Result<(), Halt>
+        ensures { Did R.Took R.Broke flow_round
+            (moment self.old outlet.old) (moment self.new outlet.new) result }
     {
         self.frames.begin_round()?;
-        self.round(sink)?;
+        self.round(recorder, outlet)?;
         let frames = self.frames.due(self.alloc, self.lag)?;
-        self.spread_all(&frames, sink)
+        self.spread_all(&frames, recorder, outlet)
     }
 
     /// So many flow rounds.
-    pub fn flow<K: Sink>(&mut self, count: u32, sink: &mut K) -> Result<(), Halt>
-        ensures { Did StandsFor (times count flow_round)
-            (moment self.old (K.held sink.old) (K.faults sink.old))
-            (moment self.new (K.held sink.new) (K.faults sink.new)) result }
+    pub fn flow<K, R: Recorder<K>>(
+        &mut self,
+        count: u32,
+        recorder: &mut R,
+        outlet: &mut K,
+    ) -> Result<(), Halt>
+        ensures { Did R.Took R.Broke (times count flow_round)
+            (moment self.old outlet.old) (moment self.new outlet.new) result }
     {
         for _ in 0..count {
-            self.flow_round(sink)?;
+            self.flow_round(recorder, outlet)?;
         }
         Ok(())
     }

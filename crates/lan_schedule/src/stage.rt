@@ -1,7 +1,7 @@
 //! A group at work: the lines after the first station are performed on it.
 
 ghost use Rattle.std.specs.Prelude.{◌≡◌, ◌==◌, ◌≤◌, ◌+◌, ◌++◌, true, is_some, nat_eq, length, map};
-ghost use Rattle.std.specs.Prelude.{OnOk, IfOk, IfErr, false};
+ghost use Rattle.std.specs.Prelude.{OnOk, IfOk, IfErr, List, false};
 ghost use Rattle.std.specs.List.{position_or_len};
 ghost use Rattle.std.specs.Option.{option_copied};
 ghost use Rattle.std.specs.Cmp.Lexicographic.{pointwise};
@@ -10,30 +10,31 @@ ghost use Rattle.lan_core.specs.Types.{IsTyped};
 ghost use Rattle.gcm_frames.specs.Protected.{IsSci};
 ghost use Rattle.lan_core.specs.declared.event.Event.TheVariants as events;
 ghost use Rattle.trace_text.specs.Writing.{IsInForm};
+ghost use Rattle.lan_core.specs.declared.fact.Fact.{Fact};
+ghost use Rattle.fact_tally.specs.Summary.{counts};
 ghost use Rattle.lan_schedule.specs.World.{World, mark};
 ghost use Rattle.lan_schedule.specs.declared.halt.Halt.{Halt};
 ghost use Rattle.lan_schedule.specs.Sound.{IsTidy};
-ghost use Rattle.lan_schedule.specs.Acts.{happen, change, seq, look, unless};
+ghost use Rattle.lan_schedule.specs.Acts.{happen, seq, look, unless};
 ghost use Rattle.lan_schedule.specs.inside.Choosing.{is_choice};
-ghost use Rattle.lan_schedule.specs.Lines.{send, add_user, begin, link_cut, link_mended, deed};
+ghost use Rattle.lan_schedule.specs.Lines.{send, add_user, begin, cut_in, mended_in, deed};
 ghost use Rattle.lan_schedule.specs.Lines.{act_of};
 ghost use Rattle.lan_schedule.specs.Answers.{halt_of};
 ghost use Rattle.lan_schedule.specs.Ends.{moment};
-ghost use Rattle.lan_schedule.specs.inside.Comes.{Did};
 ghost use Rattle.lan_schedule.specs.Stages.{StandsFor};
-ghost use Rattle.lan_schedule.specs.inside.Staged.{Happened, IsOpening};
+ghost use Rattle.lan_schedule.specs.inside.Staged.{Did, Happened, Changed, IsOpening};
 
 use crate::choices::Choices;
 use crate::frames::Frames;
 use crate::halt::{Halt, Kind};
 use crate::links::Links;
 use crate::numbers::Numbers;
+use crate::recorder::Recorder;
 use crate::setup::{group_of, settings_of, supply_of};
 use crate::supply::Supply;
-use crate::writing::{count_all, show};
 use fact_tally::Tally;
-use lan_base::{Mac, Name, Octets, Sci, Sink, UserFrame};
-use lan_core::{Event, Lan, StepError, Stop};
+use lan_base::{Mac, Name, Octets, Sci, UserFrame};
+use lan_core::{Event, Fact, Lan, StepError, Stop};
 use std::alloc::{AllocError, Global};
 use trace_text::Line;
 
@@ -55,8 +56,6 @@ pub struct Stage {
     pub numbers: Numbers,
     /// How many facts there were of each kind.
     pub tally: Tally,
-    /// The text of one event's facts.
-    pub out: Vec<u8>,
 }
 
 impl Stage {
@@ -82,24 +81,23 @@ impl Stage {
             cuts: Links::new(alloc),
             numbers: Numbers::new(alloc),
             tally: Tally::new(),
-            out: Vec::new(alloc),
         })
     }
 
     // ---- events
 
     /// An event happens, with the user frame that a claim names, and what it shows is counted and
-    /// written.
-    pub fn happen<K: Sink>(
+    /// told.
+    pub fn happen<K, R: Recorder<K>>(
         &mut self,
         event: &Event,
         user: Option<&UserFrame>,
-        sink: &mut K,
+        recorder: &mut R,
+        outlet: &mut K,
     ) -> Result<(), Halt>
         requires { IsTyped event.now }
-        ensures { Happened (option_copied user.entry) event.now
-            (moment self.old (K.held sink.old) (K.faults sink.old))
-            (moment self.new (K.held sink.new) (K.faults sink.new)) result }
+        ensures { Happened R.Took R.Broke (option_copied user.entry) event.now
+            (moment self.old outlet.old) (moment self.new outlet.new) result }
     {
         let facts = match self.lan.step(event, user, &mut self.draws) {
             Ok(facts) => facts,
@@ -110,16 +108,22 @@ impl Stage {
         self.numbers.follow(self.alloc, event, facts.as_slice())?;
         admit(&mut self.names, &mut self.scis, event)?;
         count_all(&mut self.tally, facts.as_slice());
-        show(facts.as_slice(), &self.names, &mut self.out, sink)
+        recorder.record(&self.names, facts, outlet)?;
+        Ok(())
     }
 
     // ---- user data
 
     /// A station sends a user frame: it claims a number, and what got one is emitted.
-    fn send<K: Sink>(&mut self, station: u8, user: &UserFrame, sink: &mut K) -> Result<(), Halt>
-        ensures { Did StandsFor (seq (add_user user.now) (send station))
-            (moment self.old (K.held sink.old) (K.faults sink.old))
-            (moment self.new (K.held sink.new) (K.faults sink.new)) result }
+    fn send<K, R: Recorder<K>>(
+        &mut self,
+        station: u8,
+        user: &UserFrame,
+        recorder: &mut R,
+        outlet: &mut K,
+    ) -> Result<(), Halt>
+        ensures { Did R.Took R.Broke (seq (add_user user.now) (send station))
+            (moment self.old outlet.old) (moment self.new outlet.new) result }
     {
         let Some(users) = self.users.checked_add(1) else {
             return Err(Halt::Memory);
@@ -131,20 +135,24 @@ impl Stage {
             user: users,
             pn,
         };
-        self.happen(&claim, Some(user), sink)?;
-        self.emit(pn, sink)
+        self.happen(&claim, Some(user), recorder, outlet)?;
+        self.emit(pn, recorder, outlet)
     }
 
     /// What was claimed is emitted, where there is a number.
-    fn emit<K: Sink>(&mut self, pn: u32, sink: &mut K) -> Result<(), Halt>
-        ensures { Did StandsFor (unless (pn == 0) (happen events.Emit))
-            (moment self.old (K.held sink.old) (K.faults sink.old))
-            (moment self.new (K.held sink.new) (K.faults sink.new)) result }
+    fn emit<K, R: Recorder<K>>(
+        &mut self,
+        pn: u32,
+        recorder: &mut R,
+        outlet: &mut K,
+    ) -> Result<(), Halt>
+        ensures { Did R.Took R.Broke (unless (pn == 0) (happen events.Emit))
+            (moment self.old outlet.old) (moment self.new outlet.new) result }
     {
         if pn == 0 {
             return Ok(());
         }
-        self.happen(&Event::Emit, None, sink)
+        self.happen(&Event::Emit, None, recorder, outlet)
     }
 
     // ---- names
@@ -167,11 +175,15 @@ impl Stage {
     // ---- lines
 
     /// Performs a line.
-    pub fn command<K: Sink>(&mut self, line: &Line, sink: &mut K) -> Result<(), Halt>
+    pub fn command<K, R: Recorder<K>>(
+        &mut self,
+        line: &Line,
+        recorder: &mut R,
+        outlet: &mut K,
+    ) -> Result<(), Halt>
         requires { IsInForm line.now }
-        ensures { Did StandsFor (act_of line.now)
-            (moment self.old (K.held sink.old) (K.faults sink.old))
-            (moment self.new (K.held sink.new) (K.faults sink.new)) result }
+        ensures { Did R.Took R.Broke (act_of line.now)
+            (moment self.old outlet.old) (moment self.new outlet.new) result }
     {
         if let Some(kind) = self.refusal(line) {
             return Err(Halt::Trace {
@@ -179,55 +191,78 @@ impl Stage {
                 kind,
             });
         }
-        self.perform(line, sink)
+        self.perform(line, recorder, outlet)
     }
 
     /// Performs a line that isn't refused.
-    pub fn perform<K: Sink>(&mut self, line: &Line, sink: &mut K) -> Result<(), Halt>
+    pub fn perform<K, R: Recorder<K>>(
+        &mut self,
+        line: &Line,
+        recorder: &mut R,
+        outlet: &mut K,
+    ) -> Result<(), Halt>
         requires form { IsInForm line.now }
         requires later { is_choice line.now ≡ false }
-        ensures { Did StandsFor (look (λ w. deed line.now w))
-            (moment self.old (K.held sink.old) (K.faults sink.old))
-            (moment self.new (K.held sink.new) (K.faults sink.new)) result }
+        ensures { Did R.Took R.Broke (look (λ w. deed line.now w))
+            (moment self.old outlet.old) (moment self.new outlet.new) result }
     {
         match line {
             Line::Station {
                 name,
                 sci,
                 priority,
-            } => self.start(*name, *sci, *priority, sink),
-            Line::Tick { rounds } => self.rounds(*rounds, sink),
-            Line::TickOne { name, ticks } => self.ticks(self.place(name), *ticks, sink),
-            Line::Flow { rounds } => self.flow(*rounds, sink),
-            Line::Deliver { frame, name } => self.deliver(*frame, self.place(name), sink),
-            Line::Spread { frame } => self.spread(*frame, sink),
-            Line::Lose { frame } => self.lose(*frame, sink),
-            Line::Cut { from, to } => self.cut(self.place(from), self.place(to), sink),
-            Line::Mend { from, to } => self.mend(self.place(from), self.place(to), sink),
-            Line::Restart { name } => self.restart(self.place(name), sink),
+            } => self.start(*name, *sci, *priority, recorder, outlet),
+            Line::Tick { rounds } => self.rounds(*rounds, recorder, outlet),
+            Line::TickOne { name, ticks } => self.ticks(self.place(name), *ticks, recorder, outlet),
+            Line::Flow { rounds } => self.flow(*rounds, recorder, outlet),
+            Line::Deliver { frame, name } => self.deliver(
+                *frame,
+                self.place(name),
+                recorder,
+                outlet,
+            ),
+            Line::Spread { frame } => self.spread(*frame, recorder, outlet),
+            Line::Lose { frame } => {
+                self.lose(*frame);
+                Ok(())
+            }
+            Line::Cut { from, to } => {
+                self.cut(self.place(from), self.place(to))?;
+                Ok(())
+            }
+            Line::Mend { from, to } => {
+                self.mend(self.place(from), self.place(to));
+                Ok(())
+            }
+            Line::Restart { name } => self.restart(self.place(name), recorder, outlet),
             Line::Send {
                 name,
                 destination,
                 body,
-            } => self.send_body(self.place(name), *destination, body, sink),
-            Line::Inject { name, octets } => self.inject(self.place(name), octets, sink),
+            } => self.send_body(self.place(name), *destination, body, recorder, outlet),
+            Line::Inject { name, octets } => self.inject(
+                self.place(name),
+                octets,
+                recorder,
+                outlet,
+            ),
             _ => Ok(()),
         }
     }
 
     /// A station starts.
-    fn start<K: Sink>(
+    fn start<K, R: Recorder<K>>(
         &mut self,
         name: Name,
         sci: Sci,
         priority: u32,
-        sink: &mut K,
+        recorder: &mut R,
+        outlet: &mut K,
     ) -> Result<(), Halt>
         requires { IsSci sci }
         ensures { priority ≤ 255
-            → Did StandsFor (seq begin (happen (events.Start name sci priority)))
-            (moment self.old (K.held sink.old) (K.faults sink.old))
-            (moment self.new (K.held sink.new) (K.faults sink.new)) result }
+            → Did R.Took R.Broke (seq begin (happen (events.Start name sci priority)))
+            (moment self.old outlet.old) (moment self.new outlet.new) result }
     {
         name.octets();
         let start = Event::Start {
@@ -235,86 +270,93 @@ impl Stage {
             sci,
             priority: few(priority as usize),
         };
-        self.happen(&start, None, sink)
+        self.happen(&start, None, recorder, outlet)
     }
 
     /// A frame reaches a station.
-    pub fn deliver<K: Sink>(&mut self, frame: u32, station: u8, sink: &mut K) -> Result<(), Halt>
-        ensures { Did StandsFor (happen (events.Deliver frame station))
-            (moment self.old (K.held sink.old) (K.faults sink.old))
-            (moment self.new (K.held sink.new) (K.faults sink.new)) result }
+    pub fn deliver<K, R: Recorder<K>>(
+        &mut self,
+        frame: u32,
+        station: u8,
+        recorder: &mut R,
+        outlet: &mut K,
+    ) -> Result<(), Halt>
+        ensures { Did R.Took R.Broke (happen (events.Deliver frame station))
+            (moment self.old outlet.old) (moment self.new outlet.new) result }
     {
-        self.happen(&Event::Deliver { frame, station }, None, sink)
+        self.happen(&Event::Deliver { frame, station }, None, recorder, outlet)
     }
 
     /// A frame waits for no round any more.
-    fn lose<K: Sink>(&mut self, frame: u32, _sink: &K) -> Result<(), Halt>
-        ensures { Did StandsFor (change (mark frame))
-            (moment self.old (K.held _sink.now) (K.faults _sink.now))
-            (moment self.new (K.held _sink.now) (K.faults _sink.now)) result }
+    fn lose(&mut self, frame: u32)
+        ensures { Changed (mark frame) self.old self.new }
     {
         self.frames.mark(frame);
-        Ok(())
     }
 
     /// A link is cut.
-    fn cut<K: Sink>(&mut self, from: u8, to: u8, _sink: &K) -> Result<(), Halt>
-        ensures { Did StandsFor (link_cut from to)
-            (moment self.old (K.held _sink.now) (K.faults _sink.now))
-            (moment self.new (K.held _sink.now) (K.faults _sink.now)) result }
+    fn cut(&mut self, from: u8, to: u8) -> Result<(), AllocError>
+        ensures ok { OnOk result (Changed (cut_in from to) self.old self.new) }
+        ensures tally { self.new.tally ≡ self.old.tally }
     {
         self.cuts.cut(from, to)?;
         Ok(())
     }
 
     /// A link is mended.
-    fn mend<K: Sink>(&mut self, from: u8, to: u8, _sink: &K) -> Result<(), Halt>
-        ensures { Did StandsFor (link_mended from to)
-            (moment self.old (K.held _sink.now) (K.faults _sink.now))
-            (moment self.new (K.held _sink.now) (K.faults _sink.now)) result }
+    fn mend(&mut self, from: u8, to: u8)
+        ensures { Changed (mended_in from to) self.old self.new }
     {
         self.cuts.mend(from, to);
-        Ok(())
     }
 
     /// A station begins a new life.
-    fn restart<K: Sink>(&mut self, station: u8, sink: &mut K) -> Result<(), Halt>
-        ensures { Did StandsFor (happen (events.Restart station))
-            (moment self.old (K.held sink.old) (K.faults sink.old))
-            (moment self.new (K.held sink.new) (K.faults sink.new)) result }
+    fn restart<K, R: Recorder<K>>(
+        &mut self,
+        station: u8,
+        recorder: &mut R,
+        outlet: &mut K,
+    ) -> Result<(), Halt>
+        ensures { Did R.Took R.Broke (happen (events.Restart station))
+            (moment self.old outlet.old) (moment self.new outlet.new) result }
     {
-        self.happen(&Event::Restart { station }, None, sink)
+        self.happen(&Event::Restart { station }, None, recorder, outlet)
     }
 
     /// A station sends user data to an address.
-    fn send_body<K: Sink>(
+    fn send_body<K, R: Recorder<K>>(
         &mut self,
         station: u8,
         destination: Mac,
         body: &Octets,
-        sink: &mut K,
+        recorder: &mut R,
+        outlet: &mut K,
     ) -> Result<(), Halt>
-        ensures { Did StandsFor (seq (add_user
+        ensures { Did R.Took R.Broke (seq (add_user
             (record { destination = destination; body = body.now })) (send station))
-            (moment self.old (K.held sink.old) (K.faults sink.old))
-            (moment self.new (K.held sink.new) (K.faults sink.new)) result }
+            (moment self.old outlet.old) (moment self.new outlet.new) result }
     {
         let user = UserFrame {
             destination,
             body: body.copied(self.alloc)?,
         };
-        self.send(station, &user, sink)
+        self.send(station, &user, recorder, outlet)
     }
 
     /// Foreign octets reach a station.
-    fn inject<K: Sink>(&mut self, station: u8, octets: &Octets, sink: &mut K) -> Result<(), Halt>
-        ensures { Did StandsFor (happen (events.Inject station octets.now))
-            (moment self.old (K.held sink.old) (K.faults sink.old))
-            (moment self.new (K.held sink.new) (K.faults sink.new)) result }
+    fn inject<K, R: Recorder<K>>(
+        &mut self,
+        station: u8,
+        octets: &Octets,
+        recorder: &mut R,
+        outlet: &mut K,
+    ) -> Result<(), Halt>
+        ensures { Did R.Took R.Broke (happen (events.Inject station octets.now))
+            (moment self.old outlet.old) (moment self.new outlet.new) result }
     {
         let octets = octets.copied(self.alloc)?;
         octets.as_slice();
-        self.happen(&Event::Inject { station, octets }, None, sink)
+        self.happen(&Event::Inject { station, octets }, None, recorder, outlet)
     }
 }
 
@@ -349,6 +391,16 @@ fn admit(names: &mut Vec<Name>, scis: &mut Vec<Sci>, event: &Event) -> Result<()
         scis.push(*sci)?;
     }
     Ok(())
+}
+
+/// Facts are counted.
+fn count_all(tally: &mut Tally, facts: &[Fact])
+    ensures { (shown : List Fact) → tally.old ≡ counts shown
+        → tally.new ≡ counts (shown ++ facts.now) }
+{
+    for fact in facts {
+        tally.add(fact);
+    }
 }
 
 /// Why a trace ends where its group stops, at the line of this number.

@@ -3,7 +3,7 @@
 #![tactic(auto)]
 
 use lan_base::{StdSink, StdSource};
-use rollover_program::{Halt, Status, rollover};
+use rollover_program::{Cause, Status, rollover};
 use std::alloc::AllocError;
 use std::process::ExitCode;
 use std::{env, io};
@@ -29,7 +29,7 @@ fn status(rt: &HostRuntime) -> Status {
             &mut StdSource::new(rt.reader()),
             &mut StdSink::new(io::writer(rt)),
         ),
-        Err(_) => Status::Halted(Halt::Memory),
+        Err(_) => Status::Halted(Cause::Memory),
     }
 }
 

@@ -1,7 +1,6 @@
-mod Commands
+mod Literals
 mod Reading
 mod Taken
 mod Ordered
-mod Replayed
-mod Summarized
+mod Carried
 mod Refused

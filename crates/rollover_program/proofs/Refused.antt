@@ -1,23 +1,29 @@
 -- How the program ends where the words order nothing.
-use Rattle.std.proofs.Common.{◌≡◌, ℕ, List, inl, inr, refl, true}
-use Rattle.std.specs.Prelude.{◌⊎◌, None}
+use Rattle.std.proofs.Common.{◌≡◌, ℕ, Bool, List, inl, inr, refl}
+use Rattle.std.specs.Prelude.{◌⊎◌}
 use Rattle.clap.specs.Words.{Text}
-use Rattle.lan_schedule.specs.declared.halt.Halt.{Halt}
-use Rattle.lan_schedule.specs.declared.halt.Halt.TheVariants as halts
-use Rattle.lan_schedule.specs.Ends.{Sunk}
-use Rattle.lan_schedule.specs.Trace.{Sourced}
+use Rattle.replay.specs.declared.cause.Cause.{Cause}
+use Rattle.replay.specs.declared.cause.Cause.TheVariants as causes
+use Rattle.replay.proofs.Public.{broke-none}
+use Rattle.text_lines.specs.Reading.{Sourced}
+use Rattle.replay.specs.Sinks.{Sunk}
+use Rattle.lan_schedule.specs.Races.{Chance}
+use Rattle.lan_schedule.specs.World.{beginning}
+use Rattle.lan_schedule.specs.Sound.{IsTidy}
 use Rattle.trace_maker.specs.Made.{made}
 use Rattle.rollover_program.specs.declared.status.Status.{Status}
-use Rattle.rollover_program.specs.declared.status.Status.TheVariants.{Done, Usage, Halted}
+use Rattle.rollover_program.specs.declared.status.Status.TheVariants.{Usage, Halted}
 use Rattle.rollover_program.specs.declared.words.Order.{Order}
 use Rattle.rollover_program.specs.declared.words.Order.TheVariants.{Run, Make, Try}
 use Rattle.rollover_program.specs.declared.words.Refusal.{Refusal}
 use Rattle.rollover_program.specs.declared.words.Refusal.TheVariants as refusals
 use Rattle.rollover_program.specs.Words.{IsNumbered, IsUsage, Orders, words_of}
-use Rattle.rollover_program.specs.Ending.{EndsSummarized, EndsMade, EndsTried}
+use Rattle.rollover_program.specs.commands.Run.{EndsAsRun}
+use Rattle.rollover_program.specs.commands.Make.{EndsMade}
+use Rattle.rollover_program.specs.commands.Try.{EndsTried}
 use Rattle.rollover_program.specs.inside.Answering.{status_of_refusal}
 use Rattle.rollover_program.proofs.Ordered.{plain_words}
-use Rattle.rollover_program.proofs.Summarized.{no_front}
+use Rattle.rollover_program.proofs.Carried.{Promise, not_run, not_tried}
 
 -- the plain words for an order
 pub plain_orders : (words : List Text) (order : Order) → IsNumbered order → words ≡ words_of order
@@ -26,7 +32,7 @@ plain_orders words order numbered is = rw is (plain_words order numbered)
 
 -- two statuses
 pub either : (f : Refusal) (s : Status) → s ≡ status_of_refusal f → (s ≡ Usage)
-    ⊎ (s ≡ Halted halts.Memory)
+    ⊎ (s ≡ Halted causes.Memory)
 either refusals.Usage s e = inl e
 either refusals.Memory s e = inr e
 
@@ -34,36 +40,34 @@ pub usage_only : (f : Refusal) → status_of_refusal f ≡ Usage → f ≡ refus
 usage_only refusals.Usage e = refl
 usage_only refusals.Memory e = absurd cc
 
-pub not_done : (f : Refusal) (P : Type 0) → status_of_refusal f ≡ Done → P
-not_done refusals.Usage P e = absurd cc
-not_done refusals.Memory P e = absurd cc
-
-pub not_halted : (f : Refusal) (halt : Halt) (P : Type 0) → (halts.Memory ≡ halt → ⊥)
-    → status_of_refusal f ≡ Halted halt → P
-not_halted refusals.Usage halt P other e = absurd cc
-not_halted refusals.Memory halt P other e =
-    let same : halts.Memory ≡ halt = cc in
+pub not_halted : (f : Refusal) (cause : Cause) (P : Type 0) → (causes.Memory ≡ cause → ⊥)
+    → status_of_refusal f ≡ Halted cause → P
+not_halted refusals.Usage cause P other e = absurd cc
+not_halted refusals.Memory cause P other e =
+    let same : causes.Memory ≡ cause = cc in
     absurd (other same)
 
 -- words that are a command order nothing for want of memory alone
 module _ (words : List Text) (f : Refusal) (usage : f ≡ refusals.Usage → IsUsage words) where
   pub memory : (s : Status) (order : Order) → s ≡ status_of_refusal f → Orders words order
-      → s ≡ Halted halts.Memory
+      → s ≡ Halted causes.Memory
   memory s order e asked = go f refl e
     where
-      go : (g : Refusal) → f ≡ g → s ≡ status_of_refusal g → s ≡ Halted halts.Memory
+      go : (g : Refusal) → f ≡ g → s ≡ status_of_refusal g → s ≡ Halted causes.Memory
       go refusals.Usage is e = absurd (usage is asked.0)
       go refusals.Memory is e = e
 
-  pub summarized : (s : Status) (text : List ℕ) (left : Sourced) (old : Sunk)
-      → s ≡ status_of_refusal f → Orders words (Run true)
-      → EndsSummarized text left left old old s
-  summarized s text left old e asked = rw (memory s (Run true) e asked) (inl refl)
+  pub ran_nothing : Promise → ((chances : List Chance) → IsTidy (beginning chances)) → (s : Status)
+      (summary : Bool) (text : List ℕ) (left : Sourced) (old : Sunk) → s ≡ status_of_refusal f
+      → Orders words (Run summary) → EndsAsRun summary text left left old old s
+  ran_nothing promise tidy s summary text left old e asked =
+      rw (memory s (Run summary) e asked) (not_run promise tidy summary text left old)
 
   pub made_nothing : (s : Status) (n : ℕ) (old : Sunk) → s ≡ status_of_refusal f
       → Orders words (Make n) → EndsMade n old old s
-  made_nothing s n old e asked = rw (memory s (Make n) e asked) (no_front old.held (made n))
+  made_nothing s n old e asked = rw (memory s (Make n) e asked) (broke-none (made n) old)
 
-  pub tried_nothing : (s : Status) (n : ℕ) (old : Sunk) → s ≡ status_of_refusal f
-      → Orders words (Try n) → EndsTried n old old s
-  tried_nothing s n old e asked = rw (memory s (Try n) e asked) (None, inl refl)
+  pub tried_nothing : Promise → ((chances : List Chance) → IsTidy (beginning chances)) → (s : Status)
+      (n : ℕ) (old : Sunk) → s ≡ status_of_refusal f → Orders words (Try n) → EndsTried n old old s
+  tried_nothing promise tidy s n old e asked =
+      rw (memory s (Try n) e asked) (not_tried promise tidy n old)

@@ -2,14 +2,15 @@
 //! comes out.
 #![tactic(auto)]
 
+mod commands;
 mod laws;
-mod orders;
 mod status;
 mod top;
 mod words;
 
 pub use lan_core::Which;
-pub use lan_schedule::{Halt, Kind};
+pub use lan_schedule::Kind;
 pub use laws::law_tidy_runs_are_promised;
+pub use replay::Cause;
 pub use status::Status;
 pub use top::rollover;

@@ -2,10 +2,11 @@
 
 ghost use Rattle.std.specs.Prelude.{◌≡◌, ℕ};
 ghost use Rattle.lan_core.specs.declared.stop.Which.{Which};
-ghost use Rattle.lan_schedule.specs.declared.halt.Halt.TheVariants as halts;
 ghost use Rattle.lan_schedule.specs.declared.halt.Kind.{Kind};
+ghost use Rattle.replay.specs.declared.cause.Cause.TheVariants as causes;
+ghost use Rattle.rollover_program.specs.inside.Answering.{status_of};
 
-use lan_schedule::Halt;
+use replay::Cause;
 use thiserror::Error;
 
 /// How the program ended. The text of a status other than `Done` is the program's line on standard
@@ -20,7 +21,7 @@ pub enum Status {
     Usage,
     /// The trace was not performed to its end.
     #[error("{0}")]
-    Halted(Halt),
+    Halted(Cause),
 }
 
 impl Status {
@@ -29,25 +30,36 @@ impl Status {
         ensures done { self ≡ Status.Done → result ≡ 0 }
         ensures usage { self ≡ Status.Usage → result ≡ 1 }
         ensures trace { (line : ℕ) (kind : Kind)
-            → self ≡ Status.Halted (halts.Trace line kind) → result ≡ 2 }
-        ensures read_fault { self ≡ Status.Halted halts.ReadFault → result ≡ 3 }
-        ensures write_fault { self ≡ Status.Halted halts.WriteFault → result ≡ 4 }
-        ensures memory { self ≡ Status.Halted halts.Memory → result ≡ 5 }
-        ensures limit { (which : Which) → self ≡ Status.Halted (halts.Limit which) → result ≡ 6 }
+            → self ≡ Status.Halted (causes.Trace line kind) → result ≡ 2 }
+        ensures read_fault { self ≡ Status.Halted causes.ReadFault → result ≡ 3 }
+        ensures write_fault { self ≡ Status.Halted causes.WriteFault → result ≡ 4 }
+        ensures memory { self ≡ Status.Halted causes.Memory → result ≡ 5 }
+        ensures input { self ≡ Status.Halted causes.Input → result ≡ 6 }
+        ensures limit { (which : Which) → self ≡ Status.Halted (causes.Limit which) → result ≡ 6 }
         ensures repeated_draw { (first second : ℕ)
-            → self ≡ Status.Halted (halts.RepeatedDraw first second) → result ≡ 7 }
-        ensures forged { (line : ℕ) → self ≡ Status.Halted (halts.Forged line) → result ≡ 8 }
+            → self ≡ Status.Halted (causes.RepeatedDraw first second) → result ≡ 7 }
+        ensures forged { (line : ℕ) → self ≡ Status.Halted (causes.Forged line) → result ≡ 8 }
     {
         match self {
             Status::Done => 0,
             Status::Usage => 1,
-            Status::Halted(Halt::Trace { .. }) => 2,
-            Status::Halted(Halt::ReadFault) => 3,
-            Status::Halted(Halt::WriteFault) => 4,
-            Status::Halted(Halt::Memory) => 5,
-            Status::Halted(Halt::Limit(_)) => 6,
-            Status::Halted(Halt::RepeatedDraw { .. }) => 7,
-            Status::Halted(Halt::Forged { .. }) => 8,
+            Status::Halted(Cause::Trace { .. }) => 2,
+            Status::Halted(Cause::ReadFault) => 3,
+            Status::Halted(Cause::WriteFault) => 4,
+            Status::Halted(Cause::Memory) => 5,
+            Status::Halted(Cause::Input | Cause::Limit(_)) => 6,
+            Status::Halted(Cause::RepeatedDraw { .. }) => 7,
+            Status::Halted(Cause::Forged { .. }) => 8,
         }
+    }
+}
+
+/// The status of a replay's answer.
+pub fn status_of(answer: Result<(), Cause>) -> Status
+    ensures { result ≡ status_of answer }
+{
+    match answer {
+        Ok(()) => Status::Done,
+        Err(cause) => Status::Halted(cause),
     }
 }

@@ -3,7 +3,7 @@
 use crate::case::{Case, Shown, wrong};
 use crate::performing::{STEADY, joined, ordered};
 use crate::worked::{FIRST, FIRST_KEY, GROUP, SECOND, SIX_ROUNDS};
-use rollover_program::{Halt, Kind, Status};
+use rollover_program::{Cause, Kind, Status};
 use std::test::Fail;
 
 /// Words that are no command.
@@ -33,7 +33,7 @@ const SUMMED: [Case; 2] = [
     Case {
         name: "a line that is refused",
         trace: &["tick 1\n"],
-        status: Status::Halted(Halt::Trace {
+        status: Status::Halted(Cause::Trace {
             line: 1,
             kind: Kind::Order,
         }),

@@ -2,7 +2,7 @@
 
 use crate::performing::{Outside, STEADY, joined, perform, refused};
 use crate::worked::{FIRST, FIRST_KEY, FIRST_LIFE, GROUP};
-use rollover_program::{Halt, Kind, Status, Which};
+use rollover_program::{Cause, Kind, Status, Which};
 use std::test::Fail;
 
 /// At each failing call of the source, what was written is a front of the transcript.
@@ -20,7 +20,7 @@ fn leaves_a_front_at_a_read_fault(rt: HostRuntime) -> Result<(), Fail> {
             ..STEADY
         };
         let left = perform(alloc, "run", &trace, outside)?;
-        assert_eq!(rt; left.status, Status::Halted(Halt::ReadFault));
+        assert_eq!(rt; left.status, Status::Halted(Cause::ReadFault));
         assert!(rt; whole.held.as_slice().starts_with(left.held.as_slice()));
         assert!(rt; before <= left.held.len());
         before = left.held.len();
@@ -53,7 +53,7 @@ fn leaves_a_front_at_a_write_fault(rt: HostRuntime) -> Result<(), Fail> {
             break;
         }
         calls = call;
-        assert_eq!(rt; left.status, Status::Halted(Halt::WriteFault));
+        assert_eq!(rt; left.status, Status::Halted(Cause::WriteFault));
         assert!(rt; whole.held.as_slice().starts_with(left.held.as_slice()));
         assert!(rt; left.held.len() < whole.held.len());
     }
@@ -71,7 +71,7 @@ fn stops_at_the_limit_of_the_input(rt: HostRuntime) -> Result<(), Fail> {
         text.push(b' ')?;
     }
     let left = perform(alloc, "run", &text, STEADY)?;
-    assert_eq!(rt; left.status, Status::Halted(Halt::Limit(Which::Input)));
+    assert_eq!(rt; left.status, Status::Halted(Cause::Input));
     assert_eq!(rt; left.held.as_slice(), FIRST_LIFE.as_bytes());
     text.pop();
     let left = perform(alloc, "run", &text, STEADY)?;
@@ -87,7 +87,7 @@ struct Length {
 }
 
 /// The status of a first line that is too long.
-const TOO_LONG: Status = Status::Halted(Halt::Trace {
+const TOO_LONG: Status = Status::Halted(Cause::Trace {
     line: 1,
     kind: Kind::TooLong,
 });
@@ -157,7 +157,7 @@ const ENDINGS: [Ending; 8] = [
         line: "usage: rollover run [--summary] | make N | try N",
     },
     Ending {
-        status: Status::Halted(Halt::Trace {
+        status: Status::Halted(Cause::Trace {
             line: 4,
             kind: Kind::FrameUnknown,
         }),
@@ -165,27 +165,27 @@ const ENDINGS: [Ending; 8] = [
         line: "line 4: FrameUnknown",
     },
     Ending {
-        status: Status::Halted(Halt::ReadFault),
+        status: Status::Halted(Cause::ReadFault),
         number: 3,
         line: "read fault",
     },
     Ending {
-        status: Status::Halted(Halt::WriteFault),
+        status: Status::Halted(Cause::WriteFault),
         number: 4,
         line: "write fault",
     },
     Ending {
-        status: Status::Halted(Halt::Memory),
+        status: Status::Halted(Cause::Memory),
         number: 5,
         line: "out of memory",
     },
     Ending {
-        status: Status::Halted(Halt::Limit(Which::Frames)),
+        status: Status::Halted(Cause::Limit(Which::Frames)),
         number: 6,
         line: "limit Frames",
     },
     Ending {
-        status: Status::Halted(Halt::RepeatedDraw {
+        status: Status::Halted(Cause::RepeatedDraw {
             first: 1,
             second: 2,
         }),
@@ -193,7 +193,7 @@ const ENDINGS: [Ending; 8] = [
         line: "draws 1 and 2 repeat",
     },
     Ending {
-        status: Status::Halted(Halt::Forged { line: 4 }),
+        status: Status::Halted(Cause::Forged { line: 4 }),
         number: 8,
         line: "line 4: forged",
     },

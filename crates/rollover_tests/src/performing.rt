@@ -1,7 +1,7 @@
 //! A trace is performed through the top call.
 
 use lan_base::{MemorySink, MemorySource, Octets};
-use rollover_program::{Halt, Kind, Status, rollover};
+use rollover_program::{Cause, Kind, Status, rollover};
 use std::alloc::{AllocError, Global};
 
 /// What a call left: its status, and what the sink holds.
@@ -81,5 +81,5 @@ pub(crate) fn joined(alloc: Global, parts: &[&str]) -> Result<Vec<u8>, AllocErro
 
 /// The status of a refused line.
 pub(crate) fn refused(line: u32, kind: Kind) -> Status {
-    Status::Halted(Halt::Trace { line, kind })
+    Status::Halted(Cause::Trace { line, kind })
 }

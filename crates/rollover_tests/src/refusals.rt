@@ -3,7 +3,7 @@
 use crate::case::{Case, Shown, wrong};
 use crate::performing::run;
 use crate::worked::{FIRST, FIRST_LIFE, GROUP, SECOND};
-use rollover_program::{Halt, Kind, Status, Which};
+use rollover_program::{Cause, Kind, Status, Which};
 use std::test::Fail;
 
 /// Lines whose words are refused.
@@ -17,7 +17,7 @@ const MISSPELLED: [Case; 7] = [
     Case {
         name: "no such word",
         trace: &["hello\n"],
-        status: Status::Halted(Halt::Trace {
+        status: Status::Halted(Cause::Trace {
             line: 1,
             kind: Kind::Word,
         }),
@@ -26,7 +26,7 @@ const MISSPELLED: [Case; 7] = [
     Case {
         name: "too few words",
         trace: &["tick\n"],
-        status: Status::Halted(Halt::Trace {
+        status: Status::Halted(Cause::Trace {
             line: 1,
             kind: Kind::Count,
         }),
@@ -35,7 +35,7 @@ const MISSPELLED: [Case; 7] = [
     Case {
         name: "a digit that is none",
         trace: &[GROUP, "station A 02 16\n"],
-        status: Status::Halted(Halt::Trace {
+        status: Status::Halted(Cause::Trace {
             line: 2,
             kind: Kind::Hex,
         }),
@@ -44,7 +44,7 @@ const MISSPELLED: [Case; 7] = [
     Case {
         name: "a number out of its range",
         trace: &[GROUP, FIRST, "tick 0\n"],
-        status: Status::Halted(Halt::Trace {
+        status: Status::Halted(Cause::Trace {
             line: 3,
             kind: Kind::Range,
         }),
@@ -59,7 +59,7 @@ group 000000000000000000000000000000000000000000000000 01020304
             FIRST,
             "tick 1\n",
         ],
-        status: Status::Halted(Halt::Trace {
+        status: Status::Halted(Cause::Trace {
             line: 1,
             kind: Kind::Hex,
         }),
@@ -68,7 +68,7 @@ group 000000000000000000000000000000000000000000000000 01020304
     Case {
         name: "a suite that is none",
         trace: &["suite 192\n"],
-        status: Status::Halted(Halt::Trace {
+        status: Status::Halted(Cause::Trace {
             line: 1,
             kind: Kind::Range,
         }),
@@ -81,7 +81,7 @@ const MISPLACED: [Case; 5] = [
     Case {
         name: "a line at the wrong place",
         trace: &[FIRST],
-        status: Status::Halted(Halt::Trace {
+        status: Status::Halted(Cause::Trace {
             line: 1,
             kind: Kind::Order,
         }),
@@ -90,7 +90,7 @@ const MISPLACED: [Case; 5] = [
     Case {
         name: "a name twice",
         trace: &[GROUP, FIRST, FIRST],
-        status: Status::Halted(Halt::Trace {
+        status: Status::Halted(Cause::Trace {
             line: 3,
             kind: Kind::NameTaken,
         }),
@@ -99,7 +99,7 @@ const MISPLACED: [Case; 5] = [
     Case {
         name: "a name that no station has",
         trace: &[GROUP, FIRST, "restart Z\n"],
-        status: Status::Halted(Halt::Trace {
+        status: Status::Halted(Cause::Trace {
             line: 3,
             kind: Kind::NameUnknown,
         }),
@@ -108,7 +108,7 @@ const MISPLACED: [Case; 5] = [
     Case {
         name: "an SCI twice",
         trace: &[GROUP, FIRST, "station D 02000000000a0001 1\n"],
-        status: Status::Halted(Halt::Trace {
+        status: Status::Halted(Cause::Trace {
             line: 3,
             kind: Kind::SciTaken,
         }),
@@ -117,7 +117,7 @@ const MISPLACED: [Case; 5] = [
     Case {
         name: "a frame that is not there",
         trace: &[GROUP, FIRST, "deliver 9 A\n"],
-        status: Status::Halted(Halt::Trace {
+        status: Status::Halted(Cause::Trace {
             line: 3,
             kind: Kind::FrameUnknown,
         }),
@@ -137,7 +137,7 @@ draws list 00000000000000000000000000000001 00000000000000000000000000000001
             FIRST,
             SECOND,
         ],
-        status: Status::Halted(Halt::RepeatedDraw {
+        status: Status::Halted(Cause::RepeatedDraw {
             first: 1,
             second: 2,
         }),
@@ -151,7 +151,7 @@ draws list 00000000000000000000000000000001 00000000000000000000000000000001
             FIRST,
             SECOND,
         ],
-        status: Status::Halted(Halt::Trace {
+        status: Status::Halted(Cause::Trace {
             line: 4,
             kind: Kind::DrawsSpent,
         }),
@@ -170,7 +170,7 @@ suite 256
             SECOND,
             "flow 3\n",
         ],
-        status: Status::Halted(Halt::Trace {
+        status: Status::Halted(Cause::Trace {
             line: 6,
             kind: Kind::DrawsSpent,
         }),
@@ -219,7 +219,7 @@ station N16 0200000000100001 16
 station N17 0200000000110001 16
 ",
         ],
-        status: Status::Halted(Halt::Limit(Which::Stations)),
+        status: Status::Halted(Cause::Limit(Which::Stations)),
         shown: Shown::All(&[
             "\
 life N1 000000000000000000000001
@@ -253,7 +253,7 @@ inject B 0180c200000302000000000d888e030500340110602002000000000d000100000000000
 00000010080c2010102030432b2a4d3e1efdf974db440aa3bfe868a
 ",
         ],
-        status: Status::Halted(Halt::Forged { line: 5 }),
+        status: Status::Halted(Cause::Forged { line: 5 }),
         shown: Shown::All(&[
             "\
 life A 000000000000000000000001
@@ -286,7 +286,7 @@ fn ends_where_the_group_stops(rt: HostRuntime) -> Result<(), Fail> {
 #[test]
 fn refuses_what_is_not_performed_yet(rt: HostRuntime) -> Result<(), Fail> {
     let alloc = rt.alloc();
-    let refused = Status::Halted(Halt::Trace {
+    let refused = Status::Halted(Cause::Trace {
         line: 3,
         kind: Kind::Word,
     });

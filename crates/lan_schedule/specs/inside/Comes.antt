@@ -1,17 +1,14 @@
 -- Which acts can be performed in a world: each of their events may come where it is reached.
-use Rattle.std.specs.Prelude.{◌≡◌, List, ◌++◌, Option, None, Result}
+use Rattle.std.specs.Prelude.{◌≡◌, Option, None}
 use Rattle.lan_base.specs.declared.frame.UserFrame.{UserFrame}
 use Rattle.lan_core.specs.declared.event.Event.{Event}
 use Rattle.lan_core.specs.declared.event.Event.TheVariants as events
 use Rattle.lan_core.specs.Claims.{user_at}
 use Rattle.lan_core.specs.Stops.{MayCome}
 use Rattle.lan_schedule.specs.Sound.{IsTidy}
-use Rattle.lan_schedule.specs.declared.halt.Halt.{Halt}
 use Rattle.lan_schedule.specs.World.{World, settings}
 use Rattle.lan_schedule.specs.Acts.{Act, nothing, refuse, happen, change, seq, look, perform}
 use Rattle.lan_schedule.specs.Acts.{Course, Goes, Stops, exceed, race, begun_race}
-use Rattle.lan_schedule.specs.Ends.{Sunk, Moment, IsReached, Ends, onward}
-use Rattle.lan_schedule.specs.Races.{Chance}
 use Rattle.lan_schedule.specs.Numbers.{number_shown, number_claimed}
 
 -- the user frame that an event names
@@ -42,12 +39,3 @@ Comes (seq first later) w =
 Comes (look act) w = Comes (act w) w
 Comes (race workers control) w =
     IsTidy (begun_race workers w) × Comes control (begun_race workers w)
-
--- a call did an act, in each world that its value may stand for and in which the act can be
--- performed, where chance decides so next, and anything later
-pub record Did {R : Type 0} (Stands : World → R → Type 0) (act : Act) (old new : Moment R)
-    (result : Result (Unit {0}) Halt) : Type 0 where
-  pub chances : List Chance
-  pub ends : (base : Sunk) (w : World) (later : List Chance) → w.kept.chances ≡ chances ++ later
-      → IsReached Stands base w old → Comes act w
-      → Ends Stands base (onward later w) (perform act w) new result

@@ -5,7 +5,7 @@ use Rattle.clap.specs.Words.{App, app_of, is_simple, subcommand_of}
 use Rattle.rollover_program.specs.declared.words.Order.{Order}
 use Rattle.rollover_program.specs.declared.words.Refusal.TheVariants.{Usage}
 use Rattle.rollover_program.specs.Words.{command}
-use Rattle.rollover_program.proofs.Commands.{is_plain}
+use Rattle.rollover_program.proofs.Literals.{is_plain}
 use Rattle.rollover_program.proofs.Ordered.{ordered, ordered_by}
 use Rattle.rollover_program.proofs.words.read_order.Goals as goal
 

@@ -2,7 +2,7 @@ use Rattle.std.proofs.Common.{refl, sym, ◌∙◌}
 use Rattle.lan_schedule.specs.Lines.{act_of}
 use Rattle.lan_schedule.proofs.LinesCome.{line-comes}
 use Rattle.lan_schedule.proofs.Commanding.{none-of}
-use Rattle.lan_schedule.proofs.Staging.{staged-does, none-stage}
+use Rattle.lan_schedule.proofs.Replaying.{staged-does, none-stage}
 use Rattle.lan_schedule.proofs.Opening.{unbegun-refused, unbegun-performed}
 use Rattle.lan_schedule.proofs.commands.Replay.perform.Goals as goal
 

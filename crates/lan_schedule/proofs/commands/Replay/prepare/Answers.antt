@@ -1,6 +1,6 @@
 use Rattle.std.proofs.Common.{refl}
 use Rattle.lan_schedule.proofs.Opening.{chosen-deed, chosen-does}
-use Rattle.lan_schedule.proofs.Feeding.{memory-does, handed-on}
+use Rattle.lan_schedule.proofs.Replaying.{memory-does, handed-on, stands-counts}
 use Rattle.lan_schedule.proofs.commands.Replay.prepare.Goals as goal
 
 pub returns-in_ok-choose-in_default : goal.returns-in_ok-choose-in_default
@@ -11,4 +11,5 @@ returns-in_ok-choose-in_default g c =
 
 pub returns-in_err-choose-in_default : goal.returns-in_err-choose-in_default
 returns-in_err-choose-in_default g c =
-    handed-on _ _ _ _ _ (memory-does _ _ _ refl) c.from_residual.ensures.1
+    handed-on _ _ _ _ _ (memory-does _ _ _ (λ w stands. stands-counts w _ stands) refl)
+    c.from_residual.ensures.1

@@ -1,14 +1,10 @@
 use Rattle.std.proofs.Common.{refl}
-use Rattle.lan_schedule.proofs.Doing.{memory-does, handed-on}
-use Rattle.lan_schedule.proofs.Sending.{cut-does}
+use Rattle.lan_schedule.proofs.Sending.{cut-changed}
 use Rattle.lan_schedule.proofs.stage.Stage.cut.Goals as goal
 
-pub returns-in_err-cut : goal.returns-in_err-cut
-returns-in_err-cut g c = handed-on _ _ _ _ _ (memory-does _ _ _ refl) c.from_residual.ensures.1
-
-pub returns : goal.returns
-returns g c =
-    cut-does c.args.from c.args.to _ _ (record {
+pub returns-clause-ok : goal.returns-clause-ok
+returns-clause-ok c =
+    cut-changed c.args.from c.args.to _ _ (record {
       lag = refl;
       lan = refl;
       draws = refl;
@@ -17,4 +13,4 @@ returns g c =
       frames = refl;
       numbers = refl;
       tally = refl;
-    }) refl refl c.in_ok-cut.ensures refl
+    }) refl refl c.in_ok-cut.ensures

@@ -2,14 +2,13 @@ use Rattle.std.proofs.Common.{◌-◌}
 use Rattle.lan_schedule.specs.Acts.{times, span}
 use Rattle.lan_schedule.specs.Lines.{flow_round}
 use Rattle.lan_schedule.specs.Ends.{moment}
-use Rattle.lan_schedule.specs.Stages.{StandsFor}
 use Rattle.lan_schedule.proofs.Doing.{Leads}
 use Rattle.lan_schedule.proofs.stage.Stage.flow.Given as goal
 
 abbrev pub invariant-loop : goal.invariant-loop
 invariant-loop g l =
-    let k = g.K.Sink in
-    Leads StandsFor (times l.count (flow_round))
-    (moment l.fn.self (k.held l.fn.sink) (k.faults l.fn.sink))
+    let r = g.R.Recorder in
+    Leads r.Took r.Broke (times l.count (flow_round))
+    (moment l.fn.self l.fn.outlet)
     (span (λ _. flow_round) l.counter (l.count - l.counter))
-    (moment l.self (k.held l.sink) (k.faults l.sink))
+    (moment l.self l.outlet)

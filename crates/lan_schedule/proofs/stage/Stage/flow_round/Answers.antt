@@ -1,68 +1,65 @@
 use Rattle.std.proofs.Common.{refl, ◌∙◌}
 use Rattle.lan_schedule.specs.Lines.{flow_round}
 use Rattle.lan_schedule.proofs.Doing.{leads-start, leads-step, leads-err, handed-on, memory-does}
-use Rattle.lan_schedule.proofs.Looking.{due-leads, begin-does}
+use Rattle.lan_schedule.proofs.Looking.{due-leads, begin-does, round-begun}
 use Rattle.lan_schedule.proofs.stage.Stage.flow_round.Goals as goal
 
 pub returns-in_err-begin_round : goal.returns-in_err-begin_round
 returns-in_err-begin_round g c =
-    handed-on _ _ _ _ _ (memory-does _ _ _ refl) c.from_residual.ensures.1
+    handed-on _ _ _ _ _ (memory-does _ _ _ refl refl) c.from_residual.ensures.1
 
 pub returns-in_err-round : goal.returns-in_err-round
 returns-in_err-round g c =
     let begun = leads-step _ _ _ _ _ _ (leads-start flow_round _) (begin-does _ _
-    (record {
+    (round-begun _ _ (record {
       line = refl;
       lag = refl;
       lan = refl;
       draws = refl;
       names = refl;
       scis = refl;
-      users =
-          refl;
+      users = refl;
       cuts = refl;
       numbers = refl;
       tally = refl;
-    }) c.in_ok-begin_round.ensures.ok refl) in
+    }) c.in_ok-begin_round.ensures.ok) refl) in
     handed-on _ _ _ _ _ (leads-err _ _ _ _ _ _ _ begun c.in_err-round.ensures)
     c.from_residual-in_err-round.ensures.1
 
 pub returns-in_err-frames : goal.returns-in_err-frames
 returns-in_err-frames g c =
     let begun = leads-step _ _ _ _ _ _ (leads-start flow_round _) (begin-does _ _
-    (record {
+    (round-begun _ _ (record {
       line = refl;
       lag = refl;
       lan = refl;
       draws = refl;
       names = refl;
       scis = refl;
-      users =
-          refl;
+      users = refl;
       cuts = refl;
       numbers = refl;
       tally = refl;
-    }) c.in_ok-begin_round.ensures.ok refl) in
+    }) c.in_ok-begin_round.ensures.ok) refl) in
     let ticked = leads-step _ _ _ _ _ _ begun c.in_ok-round.ensures in
-    handed-on _ _ _ _ _ (ticked.leads _ _ (memory-does _ _ _ refl))
+    handed-on _ _ _ _ _ (ticked.leads _ _ (memory-does _ _ _ refl refl))
     c.from_residual-in_err-frames.ensures.1
 
 pub returns : goal.returns
 returns g c =
     let begun = leads-step _ _ _ _ _ _ (leads-start flow_round _) (begin-does _ _
-    (record {
+    (round-begun _ _ (record {
       line = refl;
       lag = refl;
       lan = refl;
       draws = refl;
       names = refl;
       scis = refl;
-      users =
-          refl;
+      users = refl;
       cuts = refl;
       numbers = refl;
       tally = refl;
-    }) c.in_ok-begin_round.ensures.ok refl) in
+    }) c.in_ok-begin_round.ensures.ok) refl) in
     let ticked = leads-step _ _ _ _ _ _ begun c.in_ok-round.ensures in
     ticked.leads _ _ ((due-leads c.deref.result.now _
     (c.deref.ensures.value ∙ c.in_ok-frames.ensures.due)).leads _ _

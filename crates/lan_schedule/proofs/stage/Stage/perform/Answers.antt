@@ -1,7 +1,10 @@
 use Rattle.std.proofs.Common.{refl}
 use Rattle.lan_core.specs.declared.event.Event.TheVariants.{Start, Deliver, Restart, Inject}
-use Rattle.lan_schedule.specs.Acts.{happen, times, seq}
-use Rattle.lan_schedule.specs.Lines.{begin, tick, link_cut, link_mended, add_user, send}
+use Rattle.lan_schedule.specs.Acts.{happen, change, times, seq}
+use Rattle.lan_schedule.specs.Lines.{begin, tick, cut_in, mended_in, add_user, send}
+use Rattle.lan_schedule.specs.World.{mark}
+use Rattle.lan_schedule.proofs.Doing.{change-does, handed-on, memory-does}
+use Rattle.lan_schedule.proofs.Looking.{mark-does}
 use Rattle.lan_schedule.proofs.Drawing.{bytes-all}
 use Rattle.lan_schedule.proofs.Performing.{same-line, one-place, two-places, default-does}
 use Rattle.lan_schedule.proofs.stage.Stage.perform.Goals as goal
@@ -30,17 +33,28 @@ returns-in-Deliver g c =
     c.place-in-Deliver.result _ _ _
     (λ w. rw c.in-Deliver.is refl) c.place-in-Deliver.ensures c.deliver.ensures
 
-pub returns-in-Cut : goal.returns-in-Cut
-returns-in-Cut g c =
-    two-places c.args.line.now c.in-Cut.from c.in-Cut.to (λ s t. link_cut s t) c.place-in-Cut.result
-    c.place-in-Cut-2.result _ _ _
-    (λ w. rw c.in-Cut.is refl) c.place-in-Cut.ensures c.place-in-Cut-2.ensures c.cut.ensures
+pub returns-in-Lose : goal.returns-in-Lose
+returns-in-Lose g c =
+    same-line c.args.line.now (change (mark c.in-Lose.frame)) _ _ _ (λ w. rw c.in-Lose.is refl)
+    (mark-does c.in-Lose.frame _ _ c.lose.ensures refl)
+
+pub returns-in_ok-cut-in-Cut : goal.returns-in_ok-cut-in-Cut
+returns-in_ok-cut-in-Cut g c =
+    two-places c.args.line.now c.in-Cut.from c.in-Cut.to (λ s t. change (cut_in s t))
+    c.place-in-Cut.result c.place-in-Cut-2.result _ _ _
+    (λ w. rw c.in-Cut.is refl) c.place-in-Cut.ensures c.place-in-Cut-2.ensures
+    (change-does _ _ _ (λ kept. (refl, refl)) c.in_ok-cut-in-Cut.ensures.ok refl)
+
+pub returns-in_err-cut-in-Cut : goal.returns-in_err-cut-in-Cut
+returns-in_err-cut-in-Cut g c =
+    handed-on _ _ _ _ _ (memory-does _ _ _ c.cut.ensures.tally refl) c.from_residual.ensures.1
 
 pub returns-in-Mend : goal.returns-in-Mend
 returns-in-Mend g c =
-    two-places c.args.line.now c.in-Mend.from c.in-Mend.to (λ s t. link_mended s t)
+    two-places c.args.line.now c.in-Mend.from c.in-Mend.to (λ s t. change (mended_in s t))
     c.place-in-Mend.result c.place-in-Mend-2.result _ _ _
-    (λ w. rw c.in-Mend.is refl) c.place-in-Mend.ensures c.place-in-Mend-2.ensures c.mend.ensures
+    (λ w. rw c.in-Mend.is refl) c.place-in-Mend.ensures c.place-in-Mend-2.ensures
+    (change-does _ _ _ (λ kept. (refl, refl)) c.mend.ensures refl)
 
 pub returns-in-Restart : goal.returns-in-Restart
 returns-in-Restart g c =

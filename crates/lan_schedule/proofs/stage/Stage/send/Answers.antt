@@ -1,19 +1,18 @@
 use Rattle.std.proofs.Common.{◌≡◌, ◌+◌, refl, arith}
 use Rattle.lan_schedule.specs.World.{settings}
 use Rattle.lan_schedule.proofs.Doing.{memory-does, handed-on}
-use Rattle.lan_schedule.proofs.Sending.{send-does, user-reached, claim-err, claim-ok}
+use Rattle.lan_schedule.proofs.Sending.{send-does, user-stands, claim-err, claim-ok}
 use Rattle.lan_schedule.proofs.stage.Stage.send.Goals as goal
 
 pub returns-in_default : goal.returns-in_default
-returns-in_default g c = memory-does _ _ _ refl
+returns-in_default g c = memory-does _ _ _ refl refl
 
 pub returns-in_err-happen : goal.returns-in_err-happen
 returns-in_err-happen g c =
     let one_more : c.in-Some.users ≡ c.args.self.now.users + 1 = grind arith in
     handed-on _ _ _ _ _
-    (send-does c.args.station c.in-Some.users c.to_claim-pn.result c.args.user.now _ _ _ _ _
-    (λ base w reached tidy. user-reached c.args.user.now base w _ _ reached tidy
-    (record {
+    (send-does c.args.station c.in-Some.users c.to_claim-pn.result c.args.user.now _ _ _ _ _ refl
+    (λ w stands. user-stands c.args.user.now w _ _ stands (record {
       lag = refl;
       lan = refl;
       draws = refl;
@@ -22,11 +21,10 @@ returns-in_err-happen g c =
       frames = refl;
       numbers = refl;
       tally = refl;
-    }) refl one_more refl refl)
+    }) refl one_more refl)
     (λ w stands. (
       stands.users,
-      c.to_claim-pn.ensures (settings w) w.kept.users w.run stands.lan
-          stands.numbers,
+      c.to_claim-pn.ensures (settings w) w.kept.users w.run stands.lan stands.numbers,
     ))
     (claim-err c.args.station c.in-Some.users c.to_claim-pn.result c.args.user.now _ _ _
     c.in_err-happen.ensures))
@@ -35,9 +33,8 @@ returns-in_err-happen g c =
 pub returns : goal.returns
 returns g c =
     let one_more : c.in-Some.users ≡ c.args.self.now.users + 1 = grind arith in
-    send-does c.args.station c.in-Some.users c.to_claim-pn.result c.args.user.now _ _ _ _ _
-    (λ base w reached tidy. user-reached c.args.user.now base w _ _ reached tidy
-    (record {
+    send-does c.args.station c.in-Some.users c.to_claim-pn.result c.args.user.now _ _ _ _ _ refl
+    (λ w stands. user-stands c.args.user.now w _ _ stands (record {
       lag = refl;
       lan = refl;
       draws = refl;
@@ -46,11 +43,10 @@ returns g c =
       frames = refl;
       numbers = refl;
       tally = refl;
-    }) refl one_more refl refl)
+    }) refl one_more refl)
     (λ w stands. (
       stands.users,
-      c.to_claim-pn.ensures (settings w) w.kept.users w.run stands.lan
-          stands.numbers,
+      c.to_claim-pn.ensures (settings w) w.kept.users w.run stands.lan stands.numbers,
     ))
     (claim-ok c.args.station c.in-Some.users c.to_claim-pn.result c.args.user.now _ _ _ _
     c.in_ok-happen.ensures c.emit.ensures)

@@ -1,6 +1,6 @@
 use Rattle.std.proofs.Common.{refl}
 use Rattle.lan_schedule.proofs.Doing.{leads-step, leads-err, handed-on}
-use Rattle.lan_schedule.proofs.Looking.{spread-leads, mark-does}
+use Rattle.lan_schedule.proofs.Looking.{spread-leads, mark-does, marked}
 use Rattle.lan_schedule.proofs.stage.Stage.spread.Goals as goal
 
 pub returns-in_err-to_others : goal.returns-in_err-to_others
@@ -16,17 +16,15 @@ returns g c =
     (spread-leads c.args.frame c.sender-from.result _ c.sender-from.ensures)
     c.in_ok-to_others.ensures in
     spreads.leads _ _
-    (mark-does c.args.frame _ _ (record {
+    (mark-does c.args.frame _ _ (marked c.args.frame _ _ (record {
       line = refl;
       lag = refl;
       lan = refl;
       draws = refl;
-      names =
-          refl;
+      names = refl;
       scis = refl;
       users = refl;
       cuts = refl;
       numbers = refl;
       tally = refl;
-    }) c.mark.ensures
-    refl)
+    }) c.mark.ensures) refl)

@@ -1,0 +1,322 @@
+-- A replay does acts, one after the other, before its first station and with a group at work.
+use Rattle.std.proofs.Common.{◌≡◌, ℕ, List, [], ◌∷◌, ◌++◌, Option, Some, None, refl, sym, ap}
+use Rattle.std.proofs.Common.{◌∙◌, subst}
+use Rattle.std.specs.Prelude.{Result, Ok, Err}
+use Rattle.std.specs.Result.{IsErrAnd}
+use Rattle.std.proofs.lemmas.Result.{err_from_is_err_and}
+use Rattle.lan_core.specs.Run.{Run, facts_of}
+use Rattle.fact_tally.specs.Summary.{counts}
+use Rattle.lan_schedule.specs.declared.halt.Halt.{Halt}
+use Rattle.lan_schedule.specs.declared.halt.Halt.TheVariants as halts
+use Rattle.lan_schedule.specs.declared.recorder.Broken.{Broken}
+use Rattle.lan_schedule.specs.declared.stage.Stage.{Stage}
+use Rattle.lan_schedule.specs.declared.commands.Replay.{Replay}
+use Rattle.lan_schedule.specs.Races.{Chance}
+use Rattle.lan_schedule.specs.World.{World, Kept, nothing_kept, is_racing}
+use Rattle.lan_schedule.specs.Acts.{Act, nothing, change, seq, perform, Course, Goes, Stops}
+use Rattle.lan_schedule.specs.Acts.{and_then}
+use Rattle.lan_schedule.specs.Lines.{begin_line, at_line, performed, performed_all}
+use Rattle.lan_schedule.specs.Reports.{Report}
+use Rattle.lan_schedule.specs.Sound.{IsTidy}
+use Rattle.lan_schedule.specs.Ends.{Moment, moment, Ends}
+use Rattle.lan_schedule.specs.Standing.{IsStaged, HasTally, StandsFor, Counts, Does}
+use Rattle.lan_schedule.specs.Stages.{StandsFor as StageStandsFor, Counts as StageCounts}
+use Rattle.lan_schedule.specs.inside.Comes.{Comes}
+use Rattle.lan_schedule.specs.inside.Staged.{Did}
+use Rattle.lan_schedule.proofs.Doing.{both-chances, told-none, ends-behind, ends-early, ends-memory}
+use Rattle.lan_schedule.proofs.Doing.{ends-seen}
+use Rattle.lan_schedule.proofs.LinesCome.{tidy-same}
+
+-- a replay that stands for a world has its tally
+has-tally : (w : World) (replay : Replay) (o : Option Stage) → IsStaged w replay o
+    → HasTally w replay o
+has-tally w replay None h = h.2 ∙ ap (λ (r : Run). counts (facts_of r)) (sym h.0)
+has-tally w replay (Some stage) h = h.tally
+
+pub stands-counts : (w : World) (replay : Replay) → StandsFor w replay → Counts w replay
+stands-counts w replay stands = has-tally w replay replay.stage stands.stage
+
+-- so many lists of lines, one after the other
+and-assoc : (out : Course) (g h : World → Course)
+    → and_then out (λ v. and_then (g v) h) ≡ and_then (and_then out g) h
+and-assoc (Goes w) g h = refl
+and-assoc (Stops w why) g h = refl
+
+pub each-append : (xs ys : List (List ℕ)) (w : World)
+    → perform (performed_all (xs ++ ys)) w ≡ perform (seq (performed_all xs) (performed_all ys)) w
+each-append [] ys w = refl
+each-append (x ∷ xs) ys w =
+    ap (λ (g : World → Course). and_then (perform (performed x) w) g) (λ i v. each-append xs ys v i)
+    ∙ and-assoc (perform (performed x) w) (λ v. perform (performed_all xs) v)
+    (λ v. perform (performed_all ys) v)
+
+module _ {K : Type 0} {Took : K → Report → K → Type 0} {Broke : K → Report → K → Broken → Type 0}
+  where
+    -- an act that comes to the same
+    pub same-act : (f g : Act) (old new : Moment Replay K) (r : Result (Unit {0}) Halt)
+        → ((w : World) → StandsFor w old.value → perform f w ≡ perform g w)
+        → Does Took Broke g old new r → Does Took Broke f old new r
+    same-act f g old new r same d = record {
+      chances = d.chances;
+      ends = λ w later is reached.
+          subst (λ (out : Course). Ends StandsFor Counts Took Broke w later out old.outlet new r)
+          (sym (same w reached.stands)) (d.ends w later is reached);
+    }
+
+    -- the first act ended early
+    then-err : (f g : Act) (old new : Moment Replay K) (e : Halt) → Does Took Broke f old new (Err e)
+        → Does Took Broke (seq f g) old new (Err e)
+    then-err f g old new e d = record {
+      chances = d.chances;
+      ends = λ w later is reached.
+          ends-early Took Broke StandsFor Counts w later (perform f w) g old.outlet new e
+          (d.ends w later is reached);
+    }
+
+    -- the first act was done, and then the second ended so
+    then-ok : (f g : Act) (old mid new : Moment Replay K) (r : Result (Unit {0}) Halt)
+        → Does Took Broke f old mid (Ok tt) → Does Took Broke g mid new r
+        → Does Took Broke (seq f g) old new r
+    then-ok f g old mid new r d e = record {
+      chances = d.chances ++ e.chances;
+      ends = λ w later is reached.
+          let first = d.ends w (e.chances ++ later)
+          (both-chances w.kept.chances d.chances e.chances later is) reached in
+          subst (λ (out : Course). Ends StandsFor Counts Took Broke w later
+          (and_then out (λ v. perform g v)) old.outlet new r) (sym first.1)
+          (ends-behind Took Broke StandsFor Counts w first.0 later (perform g first.0) old.outlet mid.outlet new
+          r first.3 first.5 (e.ends first.0 later first.4 first.2));
+    }
+
+    pub does-none : (now : Moment Replay K) → Does Took Broke nothing now now (Ok tt)
+    does-none now = record {
+      chances = [];
+      ends = λ w later is reached.
+          (w, refl, reached, told-none w w now.outlet now.outlet refl refl, is, refl);
+    }
+
+    pub does-more : (a b c : Moment Replay K) (xs ys : List (List ℕ)) (r : Result (Unit {0}) Halt)
+        → Does Took Broke (performed_all xs) a b (Ok tt) → Does Took Broke (performed_all ys) b c r
+        → Does Took Broke (performed_all (xs ++ ys)) a c r
+    does-more a b c xs ys r d e =
+        same-act _ _ a c r (λ w stands. each-append xs ys w)
+        (then-ok (performed_all xs) (performed_all ys) a b c r d e)
+
+    pub does-early : (a b : Moment Replay K) (xs ys : List (List ℕ)) (e : Halt)
+        → Does Took Broke (performed_all xs) a b (Err e)
+        → Does Took Broke (performed_all (xs ++ ys)) a b (Err e)
+    does-early a b xs ys e d =
+        same-act _ _ a b (Err e) (λ w stands. each-append xs ys w)
+        (then-err (performed_all xs) (performed_all ys) a b e d)
+
+    -- one line
+    pub one-does : (text : List ℕ) (a b : Moment Replay K) (r : Result (Unit {0}) Halt)
+        → Does Took Broke (performed text) a b r → Does Took Broke (performed_all (text ∷ [])) a b r
+    one-does text a b (Ok done) d = then-ok (performed text) nothing a b b (Ok tt) d (does-none b)
+    one-does text a b (Err e) d = then-err (performed text) nothing a b e d
+
+    -- no memory, before more was told
+    pub memory-does : (act : Act) (old new : Moment Replay K)
+        → ((w : World) → StandsFor w old.value → Counts w new.value) → new.outlet ≡ old.outlet
+        → Does Took Broke act old new (Err halts.Memory)
+    memory-does act old new counted same = record {
+      chances = [];
+      ends = λ w later is reached. ends-memory Took Broke StandsFor Counts act w later old.outlet new
+          reached.tidy (counted w reached.stands) same;
+    }
+
+    -- an error that `?` hands on is the error
+    pub handed-on : (act : Act) (old new : Moment Replay K) (e : Halt) (r : Result (Unit {0}) Halt)
+        → Does Took Broke act old new (Err e) → IsErrAnd r (λ y. y ≡ e) → Does Took Broke act old new r
+    handed-on act old new e r d is =
+        let p = err_from_is_err_and r is in
+        subst (λ (r : Result (Unit {0}) Halt). Does Took Broke act old new r)
+        (sym (p.1 ∙ ap (λ (y : Halt). Err y) p.2)) d
+
+    -- an error that `?` hands on, where the error is want of memory
+    pub memory-any : (act : Act) (old new : Moment Replay K) (r : Result (Unit {0}) Halt) {e : Halt}
+        → ((w : World) → StandsFor w old.value → Counts w new.value) → new.outlet ≡ old.outlet
+        → e ≡ halts.Memory → IsErrAnd r (λ y. y ≡ e) → Does Took Broke act old new r
+    memory-any act old new r {e} counted same memory is =
+        handed-on act old new e r
+        (subst (λ (h : Halt). Does Took Broke act old new (Err h)) (sym memory)
+        (memory-does act old new counted same)) is
+
+    -- where a call ended early, the replay is halted, and keeps its tally
+    pub halted-does : (act : Act) (old : Moment Replay K) (k : K) (x y : Replay) (e : Halt)
+        → ((v : World) → Counts v x → Counts v y) → Does Took Broke act old (moment x k) (Err e)
+        → Does Took Broke act old (moment y k) (Err e)
+    halted-does act old k x y e tells d = record {
+      chances = d.chances;
+      ends = λ w later is reached.
+          ends-seen Took Broke StandsFor Counts StandsFor Counts w later (perform act w) old.outlet k x y (Err e)
+          (λ v e. absurd (cc e)) tells (d.ends w later is reached);
+    }
+
+    -- ---- a line begins
+
+    pub begun-does : (number : ℕ) (old new : Moment Replay K)
+        → ((w : World) → StandsFor w old.value → StandsFor (at_line number w) new.value)
+        → new.outlet ≡ old.outlet → Does Took Broke (begin_line number) old new (Ok tt)
+    begun-does number old new begins same = record {
+      chances = [];
+      ends = λ w later is reached. (
+        at_line number w,
+        refl,
+        record {
+          stands = begins w reached.stands;
+          tidy = tidy-same w _ reached.tidy refl refl refl refl refl (λ e. e);
+        },
+        told-none w (at_line number w) old.outlet new.outlet refl same,
+        is,
+        refl,
+      );
+    }
+
+    pub numbered-does : (number : ℕ) (act : Act) (old mid new : Moment Replay K)
+        (r : Result (Unit {0}) Halt)
+        → ((w : World) → StandsFor w old.value → StandsFor (at_line number w) mid.value)
+        → mid.outlet ≡ old.outlet → Does Took Broke act mid new r
+        → Does Took Broke (seq (begin_line number) act) old new r
+    numbered-does number act old mid new r begins same d =
+        then-ok (begin_line number) act old mid new r (begun-does number old mid begins same) d
+
+-- ---- with a group at work
+
+module _ {K : Type 0} (Took : K → Report → K → Type 0) (Broke : K → Report → K → Broken → Type 0)
+  where
+    staged-ends : (w : World) (later : List Chance) (out : Course) (a k : K) (stage : Stage)
+        (replay : Replay) (r : Result (Unit {0}) Halt) → replay.stage ≡ Some stage
+        → (r ≡ Ok tt → replay.halted ≡ None)
+        → Ends StageStandsFor StageCounts Took Broke w later out a (moment stage k) r
+        → Ends StandsFor Counts Took Broke w later out a (moment replay k) r
+    staged-ends w later out a k stage replay r is goes h =
+        ends-seen Took Broke StageStandsFor StageCounts StandsFor Counts w later out a k stage replay r
+        (λ v e stands. record {
+          goes = goes e;
+          stage = subst (λ (o : Option Stage). IsStaged v replay o) (sym is) stands;
+        })
+        (λ v tally. subst (λ (o : Option Stage). HasTally v replay o) (sym is) tally) h
+
+module _ {K : Type 0} {Took : K → Report → K → Type 0} {Broke : K → Report → K → Broken → Type 0}
+  where
+    -- what a group at work did, the replay did
+    pub staged-does : (act : Act) (old new : Moment Replay K) (stage later : Stage)
+        (r : Result (Unit {0}) Halt)
+        → ((w : World) → IsTidy w → Comes act w) → old.value.stage ≡ Some stage
+        → new.value.stage ≡ Some later → new.value.halted ≡ old.value.halted
+        → Did Took Broke act (moment stage old.outlet) (moment later new.outlet) r
+        → Does Took Broke act old new r
+    staged-does act old new stage later r comes is_old is_new halted d = record {
+      chances = d.chances;
+      ends = λ w rest left reached.
+          let inner : StageStandsFor w stage =
+          subst (λ (o : Option Stage). IsStaged w old.value o) is_old reached.stands.stage in
+          staged-ends Took Broke w rest (perform act w) old.outlet new.outlet later new.value r is_new
+          (λ e. halted ∙ reached.stands.goes)
+          (d.ends w rest left (record { stands = inner; tidy = reached.tidy })
+          (comes w reached.tidy));
+    }
+
+    -- the group opened in another world, whose run is the same
+    pub opened-does : (act : Act) (begins : World → World) (old new : Moment Replay K)
+        (stage later : Stage) (r : Result (Unit {0}) Halt)
+        → ((w : World) → (begins w).run ≡ w.run)
+        → ((w : World) → (begins w).kept.chances ≡ w.kept.chances)
+        → ((w : World) → is_racing (begins w).kept.phase ≡ is_racing w.kept.phase)
+        → ((w : World) → StandsFor w old.value → IsTidy w
+        → StageStandsFor (begins w) stage × IsTidy (begins w) × Comes act (begins w)
+        × (perform act w ≡ perform act (begins w)))
+        → new.value.stage ≡ Some later → new.value.halted ≡ old.value.halted
+        → Did Took Broke act (moment stage old.outlet) (moment later new.outlet) r
+        → Does Took Broke act old new r
+    opened-does act begins old new stage later r same_run same_chances same_phase opens is halted d =
+        record {
+          chances = d.chances;
+          ends = λ w rest left reached.
+              let o = opens w reached.stands reached.tidy in
+              subst (λ (out : Course).
+              Ends StandsFor Counts Took Broke w rest out old.outlet new r) (sym o.3)
+              (ends-behind Took Broke StandsFor Counts w (begins w) rest (perform act (begins w)) old.outlet
+              old.outlet new r (told-none w (begins w) old.outlet old.outlet (same_run w) refl)
+              (same_phase w)
+              (staged-ends Took Broke (begins w) rest (perform act (begins w)) old.outlet new.outlet later new.value
+              r is (λ e. halted ∙ reached.stands.goes)
+              (d.ends (begins w) rest (same_chances w ∙ left)
+              (record { stands = o.0; tidy = o.1 }) o.2)));
+        }
+
+    -- ---- before the first station
+
+    -- what is kept changes
+    pub unbegun-does : (f : Kept → Kept) (old new : Moment Replay K) → old.value.stage ≡ None
+        → new.value.stage ≡ None → new.value.halted ≡ old.value.halted
+        → new.value.nothing ≡ old.value.nothing
+        → ((kept : Kept) → ((f kept).chances ≡ kept.chances)
+        × (is_racing (f kept).phase ≡ is_racing kept.phase))
+        → ((w : World) → IsTidy w → w.run ≡ [] → IsTidy (record w { kept = f w.kept }))
+        → ((chances : List Chance)
+        → f (record (nothing_kept chances) { line = old.value.line; chosen = old.value.chosen })
+        ≡ record (nothing_kept chances) { line = new.value.line; chosen = new.value.chosen })
+        → new.outlet ≡ old.outlet → Does Took Broke (change f) old new (Ok tt)
+    unbegun-does f old new is_old is_new halted tally keeps tidied same outlet = record {
+      chances = [];
+      ends = λ w later left reached.
+          let before = subst (λ (o : Option Stage). IsStaged w old.value o) is_old
+          reached.stands.stage in
+          let v : World = record w { kept = f w.kept } in (
+            v,
+            refl,
+            record {
+              stands = record {
+                goes = halted ∙ reached.stands.goes;
+                stage = subst (λ (o : Option Stage). IsStaged v new.value o) (sym is_new) (
+                  before.0,
+                  ap (λ (k : Kept). f k) before.1 ∙ same w.kept.chances
+                      ∙ ap (λ (c : List Chance). record (nothing_kept c) {
+                        line = new.value.line;
+                        chosen = new.value.chosen;
+                      }) (sym (keeps w.kept).0),
+                  tally ∙ before.2,
+                );
+              };
+              tidy = tidied w reached.tidy before.0;
+            },
+            told-none w v old.outlet new.outlet refl outlet,
+            (keeps w.kept).0 ∙ left,
+            (keeps w.kept).1,
+          );
+    }
+
+-- the line of a number begins
+pub line-staged : (number : ℕ) (w : World) (old new : Replay) (stage later : Stage)
+    → old.stage ≡ Some stage → new.stage ≡ Some later → new.halted ≡ old.halted
+    → ((w : World) → StageStandsFor w stage → StageStandsFor (at_line number w) later)
+    → StandsFor w old → StandsFor (at_line number w) new
+line-staged number w old new stage later is_old is_new halted begins stands = record {
+  goes = halted ∙ stands.goes;
+  stage = subst (λ (o : Option Stage). IsStaged (at_line number w) new o) (sym is_new)
+      (begins w (subst (λ (o : Option Stage). IsStaged w old o) is_old stands.stage));
+}
+
+pub line-unbegun : (number : ℕ) (w : World) (old new : Replay) → old.stage ≡ None
+    → new.stage ≡ None → new.halted ≡ old.halted → new.line ≡ number → new.chosen ≡ old.chosen
+    → new.nothing ≡ old.nothing → StandsFor w old → StandsFor (at_line number w) new
+line-unbegun number w old new is_old is_new halted line chosen tally stands =
+    let before = subst (λ (o : Option Stage). IsStaged w old o) is_old stands.stage in
+    record {
+      goes = halted ∙ stands.goes;
+      stage = subst (λ (o : Option Stage). IsStaged (at_line number w) new o) (sym is_new) (
+        before.0,
+        ap (λ (k : Kept). record k { line = number }) before.1
+            ∙ (λ i. record (nothing_kept w.kept.chances) {
+              line = sym line i;
+              chosen = sym chosen i;
+            }),
+        tally ∙ before.2,
+      );
+    }
+
+pub none-stage : (o : Option Stage) → ((x : Stage) → o ≡ Some x → ⊥) → o ≡ None
+none-stage None other = refl
+none-stage (Some stage) other = absurd (other stage refl)

@@ -1,0 +1,21 @@
+-- What is told of what events show.
+use Rattle.std.specs.Prelude.{◌≡◌, ℕ, List, [], ◌∷◌, ◌++◌}
+use Rattle.lan_core.specs.declared.fact.Fact.{Fact}
+use Rattle.lan_core.specs.Run.{Run}
+use Rattle.lan_schedule.specs.World.{names_of}
+
+-- what is told of an event: the names that the stations have by then, and its facts
+pub record Report : Type 0 where
+  pub names : List (List ℕ)
+  pub facts : List Fact
+
+-- what is told of a run, the oldest first
+abbrev pub reports : Run → List Report
+reports [] = []
+reports (x ∷ r) = reports r ++ record { names = names_of (x ∷ r); facts = x.facts } ∷ []
+
+-- reports were told, one after the other
+abbrev pub AreTold : {K : Type 0} → (K → Report → K → Type 0) → K → List Report → K → Type 0
+AreTold Took old [] new = old ≡ new
+AreTold {K = K} Took old (report ∷ later) new =
+    (now : K) × Took old report now × AreTold Took now later new

@@ -1,0 +1,5 @@
+mod Written
+mod Telling
+mod Ending
+mod Weaker
+pub mod Public

@@ -1,0 +1,73 @@
+-- What a sink holds after a recorder was told reports.
+use Rattle.std.proofs.Common.{◌≡◌, ℕ, ◌≤◌, List, [], ◌∷◌, ◌++◌, map, refl, sym, ap, ◌∙◌, subst}
+use Rattle.std.proofs.lemmas.List.{map-append}
+use Rattle.lan_base.specs.Faults.{Rose}
+use Rattle.lan_schedule.specs.declared.recorder.Broken.{Broken}
+use Rattle.lan_schedule.specs.declared.recorder.Broken.TheVariants.{Failed, Memory}
+use Rattle.lan_schedule.specs.Reports.{Report, AreTold}
+use Rattle.replay.specs.Sinks.{Sunk, Wrote, BrokeOff}
+use Rattle.replay.specs.Shown.{text_of}
+use Rattle.replay.specs.inside.Writing.{Fails}
+use Rattle.replay.proofs.Written.{wrote-more, wrote-counts, broke-later, broke-longer, rose-earlier}
+
+-- a recorder shows reports as texts on what is seen of its outlet
+pub record Shows_on {K : Type 0} (Took : K → Report → K → Type 0)
+    (Broke : K → Report → K → Broken → Type 0) (see : K → Sunk)
+    (show : List Report → List (List ℕ)) : Type 0 where
+  pub tells : (a b : K) (xs : List Report) → AreTold Took a xs b → Wrote (show xs) (see a) (see b)
+  pub breaks : (a b c : K) (xs : List Report) (x : Report) (behind : List Report) (why : Broken)
+      → AreTold Took a xs b → Broke b x c why → Fails (show (xs ++ x ∷ behind)) (see a) (see c) why
+
+module _ {K : Type 0} (see : K → Sunk) where
+  -- the transcript
+  abbrev TookText : K → Report → K → Type 0
+  TookText old report new = Wrote (text_of report ∷ []) (see old) (see new)
+
+  abbrev BrokeText : K → Report → K → Broken → Type 0
+  BrokeText old report new why = Fails (text_of report ∷ []) (see old) (see new) why
+
+  texts-told : (a b : K) (xs : List Report) → AreTold TookText a xs b
+      → Wrote (map text_of xs) (see a) (see b)
+  texts-told a b [] told = sym (ap see told)
+  texts-told a b (x ∷ later) told = wrote-more (text_of x ∷ []) (map text_of later) (see a)
+      (see told.0) (see b) told.1 (texts-told told.0 b later told.2)
+
+  broke-in : (a b c : K) (xs : List Report) (x : Report) (behind : List Report)
+      → AreTold TookText a xs b → BrokeOff (text_of x ∷ []) (see b) (see c)
+      → BrokeOff (map text_of (xs ++ x ∷ behind)) (see a) (see c)
+  broke-in a b c xs x behind told f =
+      subst (λ (l : List (List ℕ)). BrokeOff l (see a) (see c))
+      (sym (map-append text_of xs (x ∷ behind)))
+      (broke-later (map text_of xs) (text_of x ∷ map text_of behind) (see a) (see b) (see c)
+      (texts-told a b xs told)
+      (broke-longer (text_of x ∷ []) (map text_of behind) (see b) (see c) f))
+
+  texts-broken : (a b c : K) (xs : List Report) (x : Report) (behind : List Report) (why : Broken)
+      → AreTold TookText a xs b → BrokeText b x c why
+      → Fails (map text_of (xs ++ x ∷ behind)) (see a) (see c) why
+  texts-broken a b c xs x behind Failed told f = (
+    rose-earlier (see a).faults (see b).faults (see c).faults
+        (wrote-counts (map text_of xs) (see a) (see b) (texts-told a b xs told)) f.0,
+    broke-in a b c xs x behind told f.1,
+  )
+  texts-broken a b c xs x behind Memory told f = broke-in a b c xs x behind told f
+
+  pub transcript-shows : Shows_on TookText BrokeText see (λ xs. map text_of xs)
+  transcript-shows = record { tells = texts-told; breaks = texts-broken }
+
+  -- nothing
+  abbrev TookNothing : K → Report → K → Type 0
+  TookNothing old report new = new ≡ old
+
+  abbrev NeverBroke : K → Report → K → Broken → Type 0
+  NeverBroke old report new why = ⊥
+
+  nothing-told : (a b : K) (xs : List Report) → AreTold TookNothing a xs b → see b ≡ see a
+  nothing-told a b [] told = sym (ap see told)
+  nothing-told a b (x ∷ later) told = nothing-told told.0 b later told.2 ∙ ap see told.1
+
+  pub nothing-shows : Shows_on TookNothing NeverBroke see (λ xs. [])
+  nothing-shows = record {
+    tells = nothing-told;
+    breaks = λ a b c xs x behind why told broke. absurd broke;
+  }

@@ -1,0 +1,33 @@
+-- What the ends of calls are to a trace.
+use Rattle.std.specs.Prelude.{Result, Ok, Err}
+use Rattle.text_lines.specs.declared.reading.End.{End}
+use Rattle.text_lines.specs.declared.reading.End.TheVariants as ends
+use Rattle.lan_schedule.specs.declared.halt.Halt.{Halt}
+use Rattle.lan_schedule.specs.declared.halt.Halt.TheVariants as halts
+use Rattle.lan_schedule.specs.declared.recorder.Broken.{Broken}
+use Rattle.lan_schedule.specs.declared.recorder.Broken.TheVariants as broken
+use Rattle.replay.specs.declared.cause.Cause.{Cause}
+use Rattle.replay.specs.declared.cause.Cause.TheVariants as causes
+
+abbrev pub cause_of_halt : Halt → Cause
+cause_of_halt (halts.Trace line kind) = causes.Trace line kind
+cause_of_halt halts.Memory = causes.Memory
+cause_of_halt (halts.Limit which) = causes.Limit which
+cause_of_halt (halts.RepeatedDraw first second) = causes.RepeatedDraw first second
+cause_of_halt (halts.Forged line) = causes.Forged line
+cause_of_halt halts.Broken = causes.WriteFault
+
+abbrev pub cause_of : End Halt → Cause
+cause_of (ends.Refused halt) = cause_of_halt halt
+cause_of ends.Memory = causes.Memory
+cause_of ends.ReadFault = causes.ReadFault
+cause_of ends.Limit = causes.Input
+
+abbrev pub cause_of_broken : Broken → Cause
+cause_of_broken broken.Failed = causes.WriteFault
+cause_of_broken broken.Memory = causes.Memory
+
+-- what writing a text answers, as the answer of a replay
+abbrev pub answered : Result (Unit {0}) Broken → Result (Unit {0}) Cause
+answered (Ok done) = Ok tt
+answered (Err why) = Err (cause_of_broken why)

@@ -1,0 +1,12 @@
+//! A trace is read from a source and performed, for its transcript or for its summary.
+#![tactic(auto)]
+
+mod cause;
+mod player;
+mod replaying;
+mod transcribing;
+mod unrecorded;
+mod writing;
+
+pub use cause::Cause;
+pub use replaying::replay;

@@ -1,0 +1,101 @@
+//! A whole trace is replayed.
+
+ghost use Rattle.std.specs.Prelude.{true, false};
+ghost use Rattle.text_lines.specs.Reading.{sourced};
+ghost use Rattle.replay.specs.Sinks.{sunk};
+ghost use Rattle.replay.specs.Shown.{shown_by};
+ghost use Rattle.replay.specs.Runs.{IsReplayed};
+ghost use Rattle.fact_tally.specs.Summary.{line_of};
+ghost use Rattle.std.specs.Prelude.{[], ◌∷◌, MatchResult};
+ghost use Rattle.replay.specs.Sinks.{Wrote};
+ghost use Rattle.replay.specs.inside.Writing.{Fails};
+
+use crate::cause::{Cause, answered, cause_of};
+use crate::player::Player;
+use crate::transcribing::Transcript;
+use crate::unrecorded::Unrecorded;
+use crate::writing::write;
+use fact_tally::Tally;
+use lan_base::{Sink, Source};
+use lan_schedule::{
+    Broken, Replay, law_acts_stop_for_their_own_reasons, law_lines_leave_a_tidy_world,
+};
+use std::alloc::Global;
+use text_lines::read_lines;
+
+/// The greatest count of octets of an input.
+const MAX_INPUT: usize = 4_194_304;
+
+/// Reads a trace from a source to its end, and performs each line as soon as it has ended. Without
+/// `summary` it writes what each event shows before the next one happens; with it, nothing before
+/// the end, and then the line that says how many facts there were of each kind.
+pub fn replay<S: Source, K: Sink>(
+    alloc: Global,
+    source: &mut S,
+    sink: &mut K,
+    summary: bool,
+) -> Result<(), Cause>
+    ensures { IsReplayed (shown_by summary)
+        (sourced (S.left source.old) (S.faults source.old))
+        (sourced (S.left source.new) (S.faults source.new))
+        (sunk (K.held sink.old) (K.faults sink.old))
+        (sunk (K.held sink.new) (K.faults sink.new)) result }
+{
+    if summary {
+        summarize(alloc, source, sink)
+    } else {
+        transcribe(alloc, source, sink)
+    }
+}
+
+/// Replays a trace for its transcript.
+fn transcribe<S: Source, K: Sink>(alloc: Global, source: &mut S, sink: &mut K) -> Result<(), Cause>
+    ensures { IsReplayed (shown_by false)
+        (sourced (S.left source.old) (S.faults source.old))
+        (sourced (S.left source.new) (S.faults source.new))
+        (sunk (K.held sink.old) (K.faults sink.old))
+        (sunk (K.held sink.new) (K.faults sink.new)) result }
+{
+    law_lines_leave_a_tidy_world();
+    law_acts_stop_for_their_own_reasons();
+    let mut player = Player {
+        replay: Replay::new(alloc),
+        recorder: Transcript::new(alloc),
+    };
+    match read_lines(alloc, MAX_INPUT, source, &mut player, sink) {
+        Ok(()) => Ok(()),
+        Err(end) => Err(cause_of(end)),
+    }
+}
+
+/// Replays a trace for its summary.
+fn summarize<S: Source, K: Sink>(alloc: Global, source: &mut S, sink: &mut K) -> Result<(), Cause>
+    ensures { IsReplayed (shown_by true)
+        (sourced (S.left source.old) (S.faults source.old))
+        (sourced (S.left source.new) (S.faults source.new))
+        (sunk (K.held sink.old) (K.faults sink.old))
+        (sunk (K.held sink.new) (K.faults sink.new)) result }
+{
+    law_lines_leave_a_tidy_world();
+    law_acts_stop_for_their_own_reasons();
+    let mut player = Player {
+        replay: Replay::new(alloc),
+        recorder: Unrecorded,
+    };
+    match read_lines(alloc, MAX_INPUT, source, &mut player, sink) {
+        Ok(()) => answered(write_line(alloc, player.replay.tally(), sink)),
+        Err(end) => Err(cause_of(end)),
+    }
+}
+
+/// Writes the summary line.
+fn write_line<K: Sink>(alloc: Global, tally: &Tally, sink: &mut K) -> Result<(), Broken>
+    ensures { MatchResult result
+        (λ _. Wrote (line_of tally.now ∷ []) (sunk (K.held sink.old) (K.faults sink.old))
+        (sunk (K.held sink.new) (K.faults sink.new)))
+        (λ why. Fails (line_of tally.now ∷ []) (sunk (K.held sink.old) (K.faults sink.old))
+        (sunk (K.held sink.new) (K.faults sink.new)) why) }
+{
+    let line = tally.text(alloc)?;
+    write(line.as_slice(), sink)
+}

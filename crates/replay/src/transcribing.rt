@@ -1,0 +1,59 @@
+//! The transcript of a run on any sink.
+
+ghost use Rattle.std.specs.Prelude.{◌≡◌, OnOk};
+ghost use Rattle.transcript.specs.Rendering.{transcript};
+
+use crate::writing::write;
+use lan_base::{Name, Sink};
+use lan_core::{Fact, Facts};
+use lan_schedule::{Broken, Recorder};
+use std::alloc::{AllocError, Global};
+use transcript::render;
+
+/// A recorder that writes the lines of each event's facts by one call.
+#[derive(Drop)]
+pub struct Transcript {
+    /// The lines of one event.
+    out: Vec<u8>,
+}
+
+impl Transcript {
+    /// Nothing was rendered.
+    pub fn new(alloc: Global) -> Self {
+        Transcript {
+            out: Vec::new(alloc),
+        }
+    }
+}
+
+impl<K: Sink> Recorder<K> for Transcript {
+    ghost use Rattle.std.specs.Prelude.{[], ◌∷◌};
+    ghost use Rattle.replay.specs.Sinks.{Wrote, sunk};
+    ghost use Rattle.replay.specs.Shown.{text_of};
+    ghost use Rattle.replay.specs.inside.Writing.{Fails};
+
+    ghost Took = { λ old report new. Wrote (text_of report ∷ []) (sunk (K.held old) (K.faults old))
+        (sunk (K.held new) (K.faults new)) };
+
+    ghost Broke = { λ old report new why. Fails (text_of report ∷ [])
+        (sunk (K.held old) (K.faults old)) (sunk (K.held new) (K.faults new)) why };
+
+    fn record(&mut self, names: &[Name], facts: Facts, outlet: &mut K) -> Result<(), Broken> {
+        render_all(facts.as_slice(), names, &mut self.out)?;
+        write(self.out.as_slice(), outlet)
+    }
+}
+
+/// The lines of one event's facts, in place of what the buffer had.
+fn render_all(facts: &[Fact], names: &[Name], out: &mut Vec<u8>) -> Result<(), AllocError>
+    ensures { OnOk result (out.new.items ≡ transcript names.now facts.now) }
+{
+    out.clear();
+    for fact in facts {
+        if usize::from(fact.place()) >= names.len() {
+            return Err(AllocError);
+        }
+        render(fact, out, names)?;
+    }
+    Ok(())
+}

@@ -1,0 +1,21 @@
+//! What is performed for its summary alone is told to nobody.
+
+use lan_base::Name;
+use lan_core::Facts;
+use lan_schedule::{Broken, Recorder};
+
+/// A recorder that drops what it is told.
+#[derive(Clone, Copy, Debug)]
+pub struct Unrecorded;
+
+impl<K> Recorder<K> for Unrecorded {
+    ghost use Rattle.std.specs.Prelude.{◌≡◌};
+
+    ghost Took = { λ old report new. new ≡ old };
+
+    ghost Broke = { λ old report new why. ⊥ };
+
+    fn record(&mut self, _names: &[Name], _facts: Facts, _outlet: &mut K) -> Result<(), Broken> {
+        Ok(())
+    }
+}

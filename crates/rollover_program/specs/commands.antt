@@ -1,0 +1,4 @@
+-- What each command does, a file a command.
+pub mod Run
+pub mod Make
+pub mod Try

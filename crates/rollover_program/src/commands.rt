@@ -1,0 +1,5 @@
+//! What each command does, a file a command.
+
+pub mod make;
+pub mod run;
+pub mod try_made;
