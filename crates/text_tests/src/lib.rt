@@ -1,5 +1,5 @@
 //! Tests of the crates of text: what the outside gives and takes, draws, lines of a trace, made
-//! traces, and lines of a transcript.
+//! traces, lines of a transcript, and what is judged of them.
 #![tactic(auto)]
 
 mod in_memory;
@@ -13,5 +13,7 @@ mod outside;
 mod supplies;
 #[cfg(test)]
 mod transcripts;
+#[cfg(test)]
+mod verdicts;
 
 pub use in_memory::{read_whole, write_whole};
