@@ -2,7 +2,8 @@ pub mod Members
 pub mod once
 pub mod rollover
 pub mod typed
+pub mod moves
 pub mod example
-mod Examples
+pub mod Examples
 mod SteadyExample
 pub mod Public

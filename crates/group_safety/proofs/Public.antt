@@ -1,7 +1,8 @@
 -- What other crates may cite of the proofs.
 
 -- What stands in a list, by recursion over it; cases of a sum, and what an option has.
-pub use Rattle.group_safety.proofs.Members.{In, contains-in, in-contains, in-left, in-map, all-in, by_sum}
+pub use Rattle.group_safety.proofs.Members.{In, contains-in, in-contains, in-left, in-right, in-map, all-in, by_sum}
+pub use Rattle.group_safety.proofs.Members.{in-from_map}
 pub use Rattle.group_safety.proofs.once.Places.{differs-in, same-place}
 pub use Rattle.group_safety.proofs.once.LiveHeard.{in-find}
 pub use Rattle.group_safety.proofs.once.Currents.{none-some, some-same}
@@ -23,3 +24,11 @@ pub use Rattle.group_safety.proofs.example.Steps.{unwrapped-wrapped_sak}
 -- Protected frames are known by their type; a station that none reached sees no numbers.
 pub use Rattle.group_safety.proofs.once.ClaimKept.{protected-is_sec}
 pub use Rattle.group_safety.proofs.example.Scene.{IsSilent, silent-next, seen-silent}
+-- Facts that come one after the other move what transmits one after the other.
+pub use Rattle.group_safety.proofs.moves.Moving.{follow-append}
+-- The next number of an account is that of the run.
+pub use Rattle.group_safety.proofs.moves.Accounting.{next-told}
+-- A run of the examples: alice starts, and then bob.
+pub use Rattle.group_safety.proofs.Examples.{bob_starts}
+pub use Rattle.group_safety.proofs.example.Run.{mi, alice, bob, users}
+pub use Rattle.group_safety.proofs.example.Scene.{settings}

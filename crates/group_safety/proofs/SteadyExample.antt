@@ -25,7 +25,7 @@ use Rattle.lan_core.specs.Claims.{claimed}
 use Rattle.lan_core.specs.Legal.{IsLegal, none_ahead, with_ahead}
 use Rattle.lan_core.specs.Fresh.{IsFresh, IsUnforged, drawn_saks}
 use Rattle.group_safety.specs.Moments.{upto}
-use Rattle.group_safety.specs.Rounds.{pace, rounds}
+use Rattle.group_safety.specs.Rounds.{Since, pace, rounds}
 use Rattle.group_safety.specs.Stations.{mi_at, mi_of, keys_at, keys_of_life, server_at, server_of}
 use Rattle.group_safety.specs.Steady.{Begins, IsUnbroken, Trusts, IsListener}
 use Rattle.group_safety.specs.Steady.{Rollover, IsKeeper, IsSteady}
@@ -251,33 +251,49 @@ bob_on_trusts = record {
 
 -- ---- rounds
 
-is_paced : pace 12 run ≡ Some (record { rounds = 4; waiting = [] })
+abbrev since : Since
+since = record { moment = 12; out = [] }
+
+is_paced : pace since run ≡ Some (record { rounds = 4; waiting = [] })
 unfolding pace opens
 is_paced = refl
 
 -- in an open round no station ticks twice, and nothing is delivered; claims may come
-a_second_tick_breaks_the_round : pace 12 (happened (events.Tick 0 more) [] ∷ scene.r25) ≡ None
+a_second_tick_breaks_the_round : pace since (happened (events.Tick 0 more) [] ∷ scene.r25) ≡ None
 unfolding pace opens
 a_second_tick_breaks_the_round = refl
 
-a_delivery_breaks_the_round : pace 12 (happened (events.Deliver 10 0) [] ∷ scene.r25) ≡ None
+a_delivery_breaks_the_round : pace since (happened (events.Deliver 10 0) [] ∷ scene.r25) ≡ None
 unfolding pace opens
 a_delivery_breaks_the_round = refl
 
-a_claim_does_not : pace 12 (happened (events.Claim 0 1 more) [] ∷ scene.r25)
-    ≡ pace 12 scene.r25
+a_claim_does_not : pace since (happened (events.Claim 0 1 more) [] ∷ scene.r25)
+    ≡ pace since scene.r25
 unfolding pace opens
 a_claim_does_not = refl
 
-first_round : rounds 12 (upto 13 run) ≡ 1
+-- where bob has left, alice's second tick breaks the round, unless he takes no part in rounds
+left_behind : Run
+left_behind = happened (events.Tick 0 more) [] ∷ happened (events.Tick 0 more) [] ∷ run
+
+a_station_that_left_breaks_the_round : pace since left_behind ≡ None
+unfolding pace left_behind opens
+a_station_that_left_breaks_the_round = refl
+
+without_it_they_are_rounds : pace (record { moment = 12; out = 1 ∷ [] }) left_behind
+    ≡ Some (record { rounds = 6; waiting = [] })
+unfolding pace left_behind opens
+without_it_they_are_rounds = refl
+
+first_round : rounds since (upto 13 run) ≡ 1
 unfolding rounds pace upto opens
 first_round = refl
 
-begun_in : rounds 12 (upto 20 run) ≡ 3
+begun_in : rounds since (upto 20 run) ≡ 3
 unfolding rounds pace upto opens
 begun_in = refl
 
-followed_in : rounds 12 (upto 24 run) ≡ 3
+followed_in : rounds since (upto 24 run) ≡ 3
 unfolding rounds pace upto opens
 followed_in = refl
 
@@ -291,7 +307,7 @@ second = record {
   old_id = id 1;
   new_id = id 2;
   lag = 0;
-  from = 12;
+  from = since;
 }
 
 -- ---- one listener: bob, who said so in event 17
@@ -487,6 +503,7 @@ listens = record {
   };
   mi = refl;
   mn = refl;
+  counts = refl;
 }
 
 -- bob is a keeper
@@ -498,7 +515,7 @@ keeps = record { listener = listens; keeps = refl }
 abbrev Follows : ℕ → Happening → Type 0
 Follows n x = (an : AssociationNumber) (epoch : ℕ) (cause : Cause)
     → In (facts.Began 1 (id 2) an epoch cause) x.facts
-    → (cause ≡ flagged) × (rounds 12 (upto (suc n) run) ≤ rounds 12 (upto 20 run) + 0)
+    → (cause ≡ flagged) × (rounds since (upto (suc n) run) ≤ rounds since (upto 20 run) + 0)
 
 none_of : (n : ℕ) (x : Happening) → begins_no_second x ≡ true → Follows n x
 none_of n x none an epoch cause i = absurd (no-second-begins x none an epoch cause i)
@@ -571,6 +588,7 @@ steady = record {
   served = alice_on_trusts;
   whole_rounds = rw is_paced refl;
   early = omega arith;
+  server_counts = refl;
   first_round = first_round;
   listeners_stay = λ t sent says l. unbroken t sent;
   listeners_trust = λ t sent says l. let b = is_bob t sent says l in rw (b.0, b.1) bob_on_trusts;
@@ -629,11 +647,11 @@ flight = record {
   delivered = refl;
 }
 
-claimed_in : rounds 12 (upto 21 run) ≡ 3
+claimed_in : rounds since (upto 21 run) ≡ 3
 unfolding rounds pace upto opens
 claimed_in = refl
 
-delivered_in : rounds 12 (upto 26 run) ≡ 4
+delivered_in : rounds since (upto 26 run) ≡ 4
 unfolding rounds pace upto opens
 delivered_in = refl
 
@@ -678,7 +696,7 @@ within_a_round = happened (events.Deliver 10 0) [] ∷ scene.r25
 not_steady_within_a_round : ¬ (IsSteady settings within_a_round second)
 unfolding within_a_round
 not_steady_within_a_round s =
-    let broken : is_some (pace 12 within_a_round) ≡ false =
+    let broken : is_some (pace since within_a_round) ≡ false =
     ap (λ o. is_some o) a_delivery_breaks_the_round in
     cc (broken, s.whole_rounds)
 
@@ -692,11 +710,11 @@ rounds_on (suc n) r =
 late_by : Run
 late_by = rounds_on 29 run
 
-delivered_again_in : rounds 12 (upto 85 (happened (events.Deliver 10 0) [] ∷ late_by)) ≡ 33
+delivered_again_in : rounds since (upto 85 (happened (events.Deliver 10 0) [] ∷ late_by)) ≡ 33
 unfolding rounds pace upto opens rounds_on late_by
 delivered_again_in = refl
 
-claimed_before : rounds 12 (upto 21 (happened (events.Deliver 10 0) [] ∷ late_by)) ≡ 3
+claimed_before : rounds since (upto 21 (happened (events.Deliver 10 0) [] ∷ late_by)) ≡ 3
 unfolding rounds pace upto opens rounds_on late_by
 claimed_before = refl
 
@@ -739,6 +757,7 @@ missed_listens = record {
   };
   mi = refl;
   mn = refl;
+  counts = refl;
 }
 
 abbrev IsNoBeginning : ℕ → Happening → Type 0
@@ -748,11 +767,11 @@ never_begins : Each IsNoBeginning missed
 unfolding missed rounds_on
 never_begins = each-passes IsNoBeginning begins_no_second (λ n x none. none) missed refl
 
-missed_in : rounds 12 missed ≡ 4
+missed_in : rounds since missed ≡ 4
 unfolding rounds pace opens missed rounds_on
 missed_in = refl
 
-missed_begun_in : rounds 12 (upto 20 missed) ≡ 3
+missed_begun_in : rounds since (upto 20 missed) ≡ 3
 unfolding rounds pace upto opens missed rounds_on
 missed_begun_in = refl
 

@@ -8,3 +8,5 @@ pub mod Stations
 pub mod Steady
 pub mod Time
 pub mod Hitless
+pub mod Transmitting
+pub mod Accounts

@@ -21,7 +21,7 @@ use Rattle.lan_core.specs.declared.settings.Settings.{Settings}
 use Rattle.lan_core.specs.Run.{Run, Happening, Profile, stations}
 use Rattle.lan_core.specs.Lives.{Life, life, setup_of}
 use Rattle.group_safety.specs.Moments.{upto, At}
-use Rattle.group_safety.specs.Rounds.{pace, rounds}
+use Rattle.group_safety.specs.Rounds.{Since, is_among, pace, rounds}
 use Rattle.group_safety.specs.Stations.{mi_at, keys_at, server_at}
 
 -- in the event at a moment a station begins the key of an identifier
@@ -69,8 +69,8 @@ pub record Trusts (settings : Settings) (run : Run) (station server since : ℕ)
       → server_at settings station (upto n run) ≡ mi_at settings server (upto n run)
 
 -- A rollover: which station is the server, the moments at which it makes the new key and begins it,
--- the identifiers of the old and the new key, how many rounds the members may lag, and the moment
--- from which rounds count.
+-- the identifiers of the old and the new key, how many rounds the members may lag, from which moment
+-- on rounds count, and which stations take no part in them.
 pub record Rollover : Type 0 where
   pub server : ℕ
   pub made : ℕ
@@ -78,10 +78,10 @@ pub record Rollover : Type 0 where
   pub old_id : KeyId
   pub new_id : KeyId
   pub lag : ℕ
-  pub from : ℕ
+  pub from : Since
 
--- A listener: a member that said what a live member says to the server after the event in which
--- this one begins the key, and the moment at which it sent that.
+-- A listener: a member that takes part in rounds and said what a live member says to the server
+-- after the event in which this one begins the key, and the moment at which it sent that.
 pub record IsListener (settings : Settings) (run : Run) (rollover : Rollover) (member sent : ℕ)
     (says : Accepted) : Type 0 where
   pub server_life : Life
@@ -92,6 +92,7 @@ pub record IsListener (settings : Settings) (run : Run) (rollover : Rollover) (m
   pub sends : Sends settings run sent member announcement
   pub mi : announcement.mi ≡ says.told.mi
   pub mn : announcement.mn ≡ says.told.mn
+  pub counts : is_among member rollover.from.out ≡ false
 
 -- a keeper: one that said, too, that it receives the old key as its old one
 pub record IsKeeper (settings : Settings) (run : Run) (rollover : Rollover) (member sent : ℕ)
@@ -99,8 +100,8 @@ pub record IsKeeper (settings : Settings) (run : Run) (rollover : Rollover) (mem
   pub listener : IsListener settings run rollover member sent says
   pub keeps : reports_old rollover.old_id says.told.uses ≡ true
 
--- A steady rollover of a run: the server makes the new key in one event, and begins it in another;
--- the members begin it no later than so many rounds after.
+-- A steady rollover of a run: the server takes part in rounds, makes the new key in one event, and
+-- begins it in another; the members begin it no later than so many rounds after.
 pub record IsSteady (settings : Settings) (run : Run) (rollover : Rollover) : Type 0 where
   -- the server begins the new key since all reported it, and the old one is then its old key
   pub begins : Begins run rollover.start rollover.server rollover.new_id All
@@ -115,7 +116,8 @@ pub record IsSteady (settings : Settings) (run : Run) (rollover : Rollover) : Ty
   pub served : Trusts settings run rollover.server rollover.server (suc rollover.made)
   -- from the round of the make on, ticks come in whole rounds only
   pub whole_rounds : is_some (pace rollover.from run) ≡ true
-  pub early : rollover.from ≤ rollover.made
+  pub early : rollover.from.moment ≤ rollover.made
+  pub server_counts : is_among rollover.server rollover.from.out ≡ false
   pub first_round : rounds rollover.from (upto (suc rollover.made) run) ≡ 1
   -- since it sent what it says, no listener was restarted, and its elected server is the server
   pub listeners_stay : (member sent : ℕ) (says : Accepted)

@@ -12,7 +12,7 @@ use Rattle.aes_block.specs.declared.secret.Secret.{Secret}
 use Rattle.aes_block.specs.declared.secret.Secret.TheVariants.{S128, S256}
 use Rattle.lan_core.specs.Stops.{same_secret}
 use Rattle.lan_core.specs.Standing.{Numbers, number_of_mi, number_of_sak}
-use Rattle.lan_core.specs.inside.Drawing.{MiIsNoted}
+use Rattle.lan_core.specs.Noting.{MiIsNoted}
 use Rattle.lan_core.specs.inside.Drawing.{SakIsKept}
 
 place-is : (a b : List ℕ) → is_at (slice_cmp nat_cmp a) b ≡ pointwise nat_eq b a

@@ -23,7 +23,12 @@ pub mod OctetsLookedUp
 pub mod TickDraws
 pub mod UnstoppedSteps
 pub mod StaysFresh
+pub mod FirstFacts
+pub mod FreshBeside
+pub mod DrawsShown
 pub mod StaysThrifty
+pub mod Alike
+pub mod SettledPart
 pub mod MoreUsers
 pub mod SuppliedDraws
 pub mod Forgery

@@ -23,12 +23,13 @@ use Rattle.lan_core.specs.Run.{Run, Happening, happened, Profile, stations}
 use Rattle.lan_core.specs.Ledgers.{Frame, air, installs_at, framed, gather}
 use Rattle.lan_core.specs.Lives.{Life, life, receiving, setup_of, drawn_mi, slot_change}
 use Rattle.lan_core.specs.Expected.{expected, drawn_from, restart_facts, reaction_facts}
-use Rattle.lan_core.specs.Order.{ticks, most_installs}
+use Rattle.lan_core.specs.Order.{IsWithin, ticks, most_installs}
 use Rattle.lan_core.specs.Stops.{draws_needed, draws_in, first_stop, passed, stop_of_draw, sak_of_tick, mi_number, sak_number}
 use Rattle.lan_core.specs.Standing.{Seat, State, StandsFor, Numbers, AreDrawn, number_of_mi}
 use Rattle.lan_core.specs.inside.Seats.{IsMoved, Restarts, installs_in}
 use Rattle.lan_core.specs.Answers.{GoesOn}
-use Rattle.lan_core.specs.inside.Drawing.{MiIsNoted, stop_of}
+use Rattle.lan_core.specs.Noting.{MiIsNoted}
+use Rattle.lan_core.specs.inside.Drawing.{stop_of}
 use Rattle.lan_core.proofs.OwnLedgers.{AreOf, restart-is-of}
 use Rattle.lan_core.proofs.Reactions.{reaction-air}
 use Rattle.lan_core.proofs.SlotsFollow.{in-reaction, ending-count}
@@ -110,11 +111,10 @@ quiet settings users r lan stands s mi l shown is =
       numbers = rw silent stands.numbered;
     }
 
-pub restart-passes : (settings : Settings) (users : List UserFrame) (r : Run) (lan : State)
-    → StandsFor settings users lan r → (s : ℕ) (mi : Mi) (l : Life) (shown : List Fact) → shown ≡ restart_facts s mi l
-    → passed (restarting s shown ∷ r) ≡ None
+pub restart-passes : (r : Run) → IsWithin r → (s : ℕ) (mi : Mi) (l : Life) (shown : List Fact)
+    → shown ≡ restart_facts s mi l → passed (restarting s shown ∷ r) ≡ None
 unfolding air
-restart-passes settings users r lan stands s mi l shown is =
+restart-passes r within s mi l shown is =
     let x = restarting s shown in
     let silent : gather framed shown (air r) ≡ air r = rw is (restart-air s mi l (air r)) in
     let are = subst (λ fs. AreOf s fs) (sym is) (restart-is-of s mi l) in
@@ -122,12 +122,12 @@ restart-passes settings users r lan stands s mi l shown is =
     let none : before ≡ before + installs_in shown = omega (arith, ap installs_in is, restart-installs s mi l) in
     let count = counted-on r s x are before before refl none in
     let same = no-station x r refl in
-    let few = le-ltb most_installs before (stands.within.installs s) in
+    let few = le-ltb most_installs before (within.installs s) in
     cc (
       passed-is (x ∷ r) (length (air r)) (sum (map (λ frame. length frame.octets) (air r))) (ticks r) before
           (length (stations r)) (rw silent refl) (rw silent refl) (omega arith)
-          (rw count (over-of x r s stands.within are)) (ap (λ ps. length ps) same),
-      only-keys r before stands.within,
+          (rw count (over-of x r s within are)) (ap (λ ps. length ps) same),
+      only-keys r before within,
       ap (λ b. cond b (Some Keys) None) few,
     )
 
@@ -141,7 +141,7 @@ restart-stops settings users r lan stands s l draw nth lives drawn =
     let shows = restart-expected settings users r s l draw nth lives drawn in
     rw (
       meets settings users r (events.Restart s) nth shown (rw drawn refl) shows,
-      restart-passes settings users r lan stands s mi l shown refl,
+      restart-passes r stands.within s mi l shown refl,
       mi-stop settings r lan.drawn (restarting s shown) mi stands.drawn refl refl,
     )
     (or-nothing (stop_of lan.drawn (number_of_mi lan.drawn mi)))
@@ -176,7 +176,7 @@ restart-stands settings users r lan stands s p profile there draw new came did d
     })
     lan.air (rw silent stands.on_air) lan.ticks (omega (arith, stands.ticked)) drawn
     (mi-noted settings.suite r lan.drawn drawn x mi stands.drawn shows refl noted)
-    (restart-passes settings users r lan stands s mi l came.facts did.facts)
+    (restart-passes r stands.within s mi l came.facts did.facts)
 
 pub restart-goes-on : (settings : Settings) (users : List UserFrame) (r : Run) (lan : State)
     → StandsFor settings users lan r → (s : ℕ) (p : Profile) → slice_get (stations r) s ≡ Some p

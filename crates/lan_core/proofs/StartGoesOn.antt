@@ -29,7 +29,8 @@ use Rattle.lan_core.specs.Order.{ticks, IsWithin, most_stations, most_octets, mo
 use Rattle.lan_core.specs.Stops.{first_stop, passed, is_over_installs}
 use Rattle.lan_core.specs.Standing.{Seat, Sits, State, StandsFor, IsSeated, Numbers, number_of_mi, sealed_of}
 use Rattle.lan_core.specs.Answers.{GoesOn}
-use Rattle.lan_core.specs.inside.Drawing.{MiIsNoted, stop_of}
+use Rattle.lan_core.specs.Noting.{MiIsNoted}
+use Rattle.lan_core.specs.inside.Drawing.{stop_of}
 use Rattle.lan_core.specs.inside.Limits.{passed_by}
 use Rattle.lan_core.proofs.ListPlaces.{last-here, before-last, stays}
 use Rattle.lan_core.proofs.LimitsPassed.{none-over, passed-is, within-where}

@@ -63,7 +63,7 @@ no_births (facts.Unclaimed s why ∷ fs) bs none = no_births fs bs none
 no_births (facts.Arrived frame s arrival ∷ fs) bs none = no_births fs bs none
 
 -- facts begin one life at most
-abbrev BeginsOne : List Fact → Type 0
+abbrev pub BeginsOne : List Fact → Type 0
 BeginsOne fs = (bs : List Birth)
     → map (λ b. b.mi) (gather born fs bs) ≡ with_one (drawn_mi fs) (map (λ b. b.mi) bs)
 
@@ -103,7 +103,7 @@ claim_begins settings s r pn k = go (pn == 0) k
     go false None = begins_none (facts.Unclaimed s NoKey ∷ []) refl
     go false (Some k) = begins_none (facts.Claimed s k.an k.epoch pn ∷ []) refl
 
-step_begins : (settings : Settings) (users : List UserFrame) (r : Run) (event : Event)
+pub step_begins : (settings : Settings) (users : List UserFrame) (r : Run) (event : Event)
     (shown : List Fact)
     → expected settings users r event (drawn_in shown) ≡ Some shown → BeginsOne shown
 unfolding expected
@@ -156,22 +156,22 @@ mis-next settings users x r step = step_begins settings users r x.event x.facts 
 
 -- ---- an identifier that was not drawn differs from those that were
 
-mi_itself : (a b : Mi) → same_mi a b ≡ false → a ≢ b
+pub mi_itself : (a b : Mi) → same_mi a b ≡ false → a ≢ b
 mi_itself a b differ same =
     absurd (cc (nat_list_eq_equiv.refl a.0, subst (λ b. same_mi a b ≡ false) (sym same) differ))
 
-other : {A : Type 0} (b : Bool) (a : A) (o : Option A) → cond b (Some a) o ≡ None → (b ≡ false)
+pub other : {A : Type 0} (b : Bool) (a : A) (o : Option A) → cond b (Some a) o ≡ None → (b ≡ false)
     × (o ≡ None)
 other true a o none = absurd (cc none)
 other false a o none = (refl, none)
 
-differs_more : {A : Type 0} (a : A) (o : Option A) (bs : List A) → ((b : A) → o ≡ Some b → a ≢ b)
+pub differs_more : {A : Type 0} (a : A) (o : Option A) (bs : List A) → ((b : A) → o ≡ Some b → a ≢ b)
     → DiffersFrom a bs
     → DiffersFrom a (with_one o bs)
 differs_more a None bs differs from = from
 differs_more a (Some b) bs differs from = (differs b refl, from)
 
-undrawn : {A : Type 0} (same : A → A → Bool) (a : A) (o : Option A) → is_drawn same a o ≡ false
+pub undrawn : {A : Type 0} (same : A → A → Bool) (a : A) (o : Option A) → is_drawn same a o ≡ false
     → (b : A) → o ≡ Some b
     → same a b ≡ false
 undrawn same a o differ b is = sym (ap (is_drawn same a) is) ∙ differ
@@ -191,7 +191,7 @@ mi-differs settings users suite mi (x ∷ r) (step, before) none =
 
 -- ---- and so does a SAK
 
-secrets_differ : (settings : Settings) (a b : Secret) → IsOfSuite settings a → IsOfSuite settings b
+pub secrets_differ : (settings : Settings) (a b : Secret) → IsOfSuite settings a → IsOfSuite settings b
     → same_secret a b ≡ false → secret_octets a ≢ secret_octets b
 secrets_differ settings (S128 a) (S128 b) here there differ same =
     absurd (cc (
@@ -231,7 +231,7 @@ tick_suits settings users x r (events.Claim s user pn) is step sak drew = absurd
 tick_suits settings users x r events.Emit is step sak drew = absurd (cc drew)
 tick_suits settings users x r (events.Inject s octets) is step sak drew = absurd (cc drew)
 
-suits : (settings : Settings) (users : List UserFrame) (x : Happening) (r : Run)
+pub suits : (settings : Settings) (users : List UserFrame) (x : Happening) (r : Run)
     → IsStep settings users x r
     → (sak : Secret) → sak_of_tick x.facts x.event ≡ Some sak → IsOfSuite settings sak
 suits settings users x r step = tick_suits settings users x r x.event refl step
@@ -246,7 +246,7 @@ sak-of shown (events.Claim s user pn) = refl
 sak-of shown events.Emit = refl
 sak-of shown (events.Inject s octets) = refl
 
-saks-next : (x : Happening) (r : Run)
+pub saks-next : (x : Happening) (r : Run)
     → drawn_saks (x ∷ r) ≡ with_one (option_map secret_octets (sak_of_tick x.facts x.event))
     (drawn_saks r)
 unfolding drawn_saks
@@ -273,13 +273,13 @@ sak-differs settings users suite sak is (x ∷ r) (step, before) none =
 
 -- ---- a step more
 
-all_more : {A : Type 0} (o : Option A) (bs : List A) → ((a : A) → o ≡ Some a → DiffersFrom a bs)
+pub all_more : {A : Type 0} (o : Option A) (bs : List A) → ((a : A) → o ≡ Some a → DiffersFrom a bs)
     → AllDiffer bs
     → AllDiffer (with_one o bs)
 all_more None bs differs all = all
 all_more (Some a) bs differs all = (differs a refl, all)
 
-no_first : {A B : Type 0} (f : A → Option B) (o : Option A) → option_and_then f o ≡ None → (a : A)
+pub no_first : {A B : Type 0} (f : A → Option B) (o : Option A) → option_and_then f o ≡ None → (a : A)
     → o ≡ Some a
     → f a ≡ None
 no_first f o none a is = sym (ap (option_and_then f) is) ∙ none

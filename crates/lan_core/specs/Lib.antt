@@ -1,5 +1,6 @@
 -- What a reader reads, in this order: runs, what they tell, the life of a station, packet numbers,
--- what an event shows, when it may come, and which runs are legal; then premises on runs.
+-- what an event shows, when it may come, and which runs are legal; then premises on runs, and parts
+-- of runs.
 pub mod Run
 pub mod Ledgers
 pub mod Lives
@@ -14,7 +15,10 @@ pub mod TypedFacts
 pub mod Fresh
 pub mod Keys
 pub mod Stops
+pub mod Suited
 pub mod Unstopped
 pub mod Standing
+pub mod Parts
+pub mod Noting
 pub mod Answers
 pub mod inside

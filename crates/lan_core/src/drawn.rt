@@ -2,7 +2,7 @@
 
 ghost use Rattle.std.specs.Prelude.{◌≡◌, ◌+◌, [], IfOk, OnOk};
 ghost use Rattle.lan_core.specs.Standing.{number_of_mi, number_of_sak};
-ghost use Rattle.lan_core.specs.inside.Drawing.{MiIsNoted, SakIsNoted};
+ghost use Rattle.lan_core.specs.Noting.{MiIsNoted, SakIsNoted};
 ghost use Rattle.lan_core.specs.inside.Drawing.{SakIsKept};
 
 use aes_block::Secret;

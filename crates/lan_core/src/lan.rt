@@ -1,6 +1,7 @@
 //! The group: all stations, the air, and one step for each event.
 
 mod control;
+mod settling;
 mod stopping;
 mod traffic;
 

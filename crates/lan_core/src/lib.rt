@@ -5,6 +5,7 @@
 mod air;
 mod came;
 mod claimed;
+mod draw_laws;
 mod drawn;
 mod event;
 mod fact;
@@ -15,6 +16,7 @@ mod lan;
 mod laws;
 mod limits;
 mod names;
+mod parts;
 mod seat;
 mod seats;
 mod sender;
@@ -24,6 +26,12 @@ mod stop;
 mod telling;
 mod waiting;
 
+pub use draw_laws::{
+    law_a_restart_passes_no_limit, law_a_step_stays_fresh_beside_another_run,
+    law_a_tick_draws_one_key_or_nothing, law_only_needed_draws_count, law_what_an_event_draws,
+    law_what_is_noted_is_drawn,
+};
+pub use drawn::Drawn;
 pub use event::Event;
 pub use fact::{Fact, Facts, Lack};
 pub use fact_laws::{
@@ -40,5 +48,6 @@ pub use laws::{
     law_fronts_of_unforged_runs_are_unforged, law_more_users_change_no_run,
     law_next_numbers_keep_a_run_thrifty, law_the_next_number_never_falls,
 };
+pub use parts::law_claims_tell_packet_numbers_alone;
 pub use settings::Settings;
 pub use stop::{StepError, Stop, Which};

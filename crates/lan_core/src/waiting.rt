@@ -48,6 +48,14 @@ impl Queue {
         Ok(())
     }
 
+    /// Appends all frames of another queue. An error leaves the queue as it was.
+    pub fn append(&mut self, mut frames: Queue) -> Result<(), AllocError>
+        ensures ok { OnOk result (self.new ≡ self.old ++ frames) }
+        ensures err { OnErr result (self.new ≡ self.old) }
+    {
+        self.frames.append(&mut frames.frames)
+    }
+
     /// Takes the oldest frame, if there is one.
     pub fn pop(&mut self) -> Option<Sealed>
         ensures front { self.old ≡ option_to_list result ++ self.new }

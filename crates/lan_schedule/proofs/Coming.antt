@@ -9,7 +9,7 @@ use Rattle.lan_core.specs.declared.event.Event.{Event}
 use Rattle.lan_core.specs.declared.event.Event.TheVariants as events
 use Rattle.lan_core.specs.declared.fact.Fact.{Fact}
 use Rattle.lan_core.specs.declared.settings.Settings.{Settings}
-use Rattle.lan_core.specs.Run.{Run, started, stations}
+use Rattle.lan_core.specs.Run.{Run, Happening, started, stations}
 use Rattle.lan_core.specs.Ledgers.{Frame, air, framed, gather, with_one, frame_at}
 use Rattle.lan_core.specs.Claims.{next}
 use Rattle.lan_core.specs.Stops.{IsNextShown}
@@ -19,9 +19,13 @@ use Rattle.lan_schedule.specs.declared.halt.Halt.{Halt}
 use Rattle.lan_schedule.specs.World.{World, count, settings, sender, mark, marked_at}
 use Rattle.lan_schedule.specs.Settings.{lag_of}
 use Rattle.lan_core.specs.Unstopped.{next_under}
+use Rattle.lan_schedule.specs.Races.{Worker, Claimed, claims_in, woven_in, number_in}
+use Rattle.lan_schedule.specs.Numbers.{stands}
 use Rattle.lan_schedule.specs.Answers.{answer}
 use Rattle.lan_schedule.specs.Acts.{Act, nothing, refuse, happen, change, seq, look, perform}
-use Rattle.lan_schedule.specs.Acts.{Course, Goes, Stops, shown, and_then, each, span, times}
+use Rattle.lan_schedule.specs.Acts.{Course, Goes, Stops, shown, and_then, each, span, times, exceed}
+use Rattle.lan_schedule.specs.Acts.{race, begun_race, beside, after_race, since, woven, with_claims}
+use Rattle.lan_schedule.specs.Acts.{claim_of, emitting}
 use Rattle.lan_schedule.specs.Acts.{unless, world_after}
 use Rattle.lan_schedule.specs.Lines.{tick, round, pass, to_others, spread, is_passed_by, is_due}
 use Rattle.lan_schedule.specs.Lines.{due_of, due, flow_round}
@@ -91,6 +95,66 @@ later-both : (w v : World) (out : Course) (g : World → Course)
 later-both w v (Goes u) g first second e = later-later w u v (first u refl) (second u e)
 later-both w v (Stops u halt) g first second e = absurd (cc e)
 
+-- ---- races
+
+-- what was there in a run is there still
+record IsLaterRun (r s : Run) : Type 0 where
+  count : length (stations r) ≤ length (stations s)
+  frames : (number : ℕ) → IsOnAir r number → IsOnAir s number
+
+run-self : (r : Run) → IsLaterRun r r
+run-self r = record { count = omega arith; frames = λ number there. there }
+
+run-then : (r s t : Run) → IsLaterRun r s → IsLaterRun s t → IsLaterRun r t
+run-then r s t f g = record {
+  count = omega (arith, f.count, g.count);
+  frames = λ number there. g.frames number (f.frames number there);
+}
+
+run-one : (x : Happening) (r : Run) → IsLaterRun r (x ∷ r)
+unfolding stations air
+run-one x r = record {
+  count = let e = length-append (stations r) (started x.event) in omega arith;
+  frames = λ number there. find-gather (λ f. f.number == number) framed x.facts (air r) there;
+}
+
+run-claims : (settings : Settings) (workers : List Worker) (users : ℕ) (claims : List Claimed)
+    (r : Run) → IsLaterRun r (with_claims settings workers users claims r)
+run-claims settings workers users [] r = run-self r
+run-claims settings workers users (c ∷ more) r =
+    let x = claim_of settings workers users c r in
+    run-then r (x ∷ r) _ (run-one x r) (run-claims settings workers users more (x ∷ r))
+
+run-woven : (settings : Settings) (workers : List Worker) (users : ℕ)
+    (claims : List (List Claimed)) (events : List Happening) (r : Run)
+    → IsLaterRun r (woven settings workers users claims events r)
+run-woven settings workers users claims [] r =
+    run-claims settings workers users (claims_in claims) r
+run-woven settings workers users [] (x ∷ more) r =
+    run-then r (x ∷ r) _ (run-one x r) (run-woven settings workers users [] more (x ∷ r))
+run-woven settings workers users (now ∷ claims) (x ∷ more) r =
+    let s = with_claims settings workers users now r in
+    run-then r s _ (run-claims settings workers users now r)
+    (run-then s (x ∷ s) _ (run-one x s)
+    (run-woven settings workers users claims more (x ∷ s)))
+
+later-emitting : (n : ℕ) (w v : World) → emitting n w ≡ Goes v → IsLater w v
+later-emitting zero w v e = goes-world w v e
+later-emitting (suc n) w v e =
+    later-both w v (shown w events.Emit (answer w events.Emit)) (λ u. emitting n u)
+    (λ u first. later-shown w u events.Emit (answer w events.Emit) first)
+    (λ u second. later-emitting n u v second) e
+
+later-race : (workers : List Worker) (w v : World) (out : Course) → beside workers w out ≡ Goes v
+    → IsLater w v
+later-race workers w v (Goes u) e =
+    let mid = after_race workers w u in
+    let run = run-woven (settings w) workers (length w.kept.users) (woven_in u.kept.chances)
+    (since w u) w.run in
+    later-later w mid v (record { count = run.count; frames = run.frames })
+    (later-emitting _ mid v e)
+later-race workers w v (Stops u halt) e = absurd (cc e)
+
 pub later : (act : Act) (w v : World) → perform act w ≡ Goes v → IsLater w v
 later nothing w v e = goes-world w v e
 later (refuse kind) w v e = absurd (cc e)
@@ -102,6 +166,9 @@ later (change f) w v e =
 later (seq f g) w v e = later-both w v (perform f w) (λ u. perform g u)
     (λ u first. later f w u first) (λ u second. later g u v second) e
 later (look f) w v e = later (f w) w v e
+later (exceed excess) w v e = absurd (cc e)
+later (race workers control) w v e =
+    later-race workers w v (perform control (begun_race workers w)) e
 
 -- ---- many acts
 
@@ -150,9 +217,24 @@ next-shown : (settings : Settings) (s : ℕ) (r : Run) (k : Option Key)
 next-shown settings s r None = refl
 next-shown settings s r (Some k) = (one-at-least settings s k.epoch r, omega arith)
 
+-- a number that stands isn't below the next one
+fits-shown : (settings : Settings) (s : ℕ) (r : Run) (k : Option Key) (raced b : Bool) (number : ℕ)
+    → stands raced (next_under settings s r k) number ≡ b
+    → IsNextShown settings s r (cond b number (next_under settings s r k)) k
+fits-shown settings s r k raced false number e = next-shown settings s r k
+fits-shown settings s r k false true number e = absurd (cc e)
+fits-shown settings s r None true true number e = absurd (cc e)
+fits-shown settings s r (Some k) true true number e =
+    let next : next settings s k.epoch r ≤ number = grind arith in
+    (let one = one-at-least settings s k.epoch r in omega (arith, one, next), next)
+
 pub comes-tick : (s : ℕ) (w : World) → s < count w → Comes (tick s) w
 comes-tick s w lt = (
-  (lt, next-shown (settings w) s w.run (transmitting_at (settings w) s w.run)),
+  (
+    lt,
+    fits-shown (settings w) s w.run (transmitting_at (settings w) s w.run) w.kept.raced _
+        (number_in w.kept.chances) refl,
+  ),
   refl,
 )
 
@@ -204,6 +286,7 @@ tidy-marked number w tidy = record {
   in_turn = tidy.in_turn;
   waits = tidy.waits;
   draws = tidy.draws;
+  dealt = tidy.dealt;
 }
 
 pub comes-spread : (number : ℕ) (w : World) → IsTidy w → IsOnAir w.run number
@@ -278,6 +361,7 @@ comes-flow_round w tidy = (
     in_turn = tidy.in_turn;
     waits = tidy.waits;
     draws = tidy.draws;
+    dealt = tidy.dealt;
   },
   λ tidy_v. (
     comes-round _ tidy_v,

@@ -1,5 +1,5 @@
 -- Acts are done one after the other.
-use Rattle.std.proofs.Common.{◌≡◌, ℕ, zero, suc, ◌+◌, ◌-◌, ◌<◌, ◌≤◌, List, [], ◌∷◌, ◌++◌, length}
+use Rattle.std.proofs.Common.{◌≡◌, Bool, ℕ, zero, suc, ◌+◌, ◌-◌, ◌<◌, ◌≤◌, List, [], ◌∷◌, ◌++◌, length}
 use Rattle.std.proofs.Common.{take, drop, get_or, Option, Some, None, drop-cons, inl, inr, refl}
 use Rattle.std.proofs.Common.{sym, ap, ◌∙◌, subst, append_assoc, add-one, arith}
 use Rattle.std.specs.Prelude.{Result, Ok, Err}
@@ -14,24 +14,22 @@ use Rattle.lan_core.specs.Run.{happened}
 use Rattle.transcript.specs.Rendering.{transcript}
 use Rattle.lan_schedule.specs.declared.halt.Halt.{Halt}
 use Rattle.lan_schedule.specs.declared.halt.Halt.TheVariants as halts
-use Rattle.lan_schedule.specs.World.{World, Kept, names_of}
+use Rattle.lan_schedule.specs.World.{World, Kept, names_of, is_racing}
 use Rattle.lan_schedule.specs.Answers.{answer}
 use Rattle.lan_schedule.specs.Acts.{Act, nothing, refuse, happen, change, seq, look, perform}
-use Rattle.lan_schedule.specs.Acts.{Course, Goes, Stops, shown, and_then, each, span}
-use Rattle.lan_schedule.specs.Ends.{Sunk, Moment, HoldsFront, TookFront, IsShown, IsStopped}
-use Rattle.lan_schedule.specs.Ends.{Ends, EndsEarly, written, text_of}
+use Rattle.lan_schedule.specs.Acts.{Course, Goes, Stops, shown, and_then, each, span, exceed, race}
+use Rattle.lan_schedule.specs.Acts.{begun_race}
+use Rattle.lan_schedule.specs.Ends.{Sunk, Moment, HoldsFront, TookFront, IsShown, Ends, EndsEarly}
+use Rattle.lan_schedule.specs.Ends.{written, text_of, Begins, Onward, onward, EndsStopped, WasCut}
+use Rattle.lan_schedule.specs.Races.{Chance}
 use Rattle.lan_schedule.specs.inside.Comes.{Comes, Did, IsGoing}
 use Rattle.lan_schedule.specs.Sound.{IsTidy}
+use Rattle.lan_schedule.proofs.Racing.{race-begins}
 
--- a text begins with another
-pub record Begins (front text : List ℕ) : Type 0 where
-  pub more : List ℕ
-  pub parts : front ++ more ≡ text
-
-begins-self : (text : List ℕ) → Begins text text
+pub begins-self : (text : List ℕ) → Begins text text
 begins-self text = record { more = []; parts = append-nil text }
 
-begins-then : (a b c : List ℕ) → Begins a b → Begins b c → Begins a c
+pub begins-then : (a b c : List ℕ) → Begins a b → Begins b c → Begins a c
 begins-then a b c f g = record {
   more = f.more ++ g.more;
   parts = sym (append_assoc a f.more g.more) ∙ ap (λ (t : List ℕ). t ++ g.more) f.parts ∙ g.parts;
@@ -60,73 +58,96 @@ grows (change f) w = begins-self (written w.run)
 grows (seq f g) w =
     and-begins (written w.run) (perform f w) (λ v. perform g v) (grows f w) (λ v. grows g v)
 grows (look f) w = grows (f w) w
+grows (exceed excess) w = begins-self (written w.run)
+grows (race workers control) w = race-begins workers w (perform control (begun_race workers w))
 
-holds-longer : (old new : Option (List ℕ)) (a b : List ℕ) → Begins a b → HoldsFront old new a
-    → HoldsFront old new b
-holds-longer old new a b longer h = record {
-  front = h.front;
-  rest = h.rest ++ longer.more;
-  parts = sym (append_assoc h.front h.rest longer.more)
-      ∙ ap (λ (t : List ℕ). t ++ longer.more) h.parts ∙ longer.parts;
-  held = h.held;
+-- what an course passed, a longer one passes
+cut-longer : (base now : Sunk) (racing : Bool) (out long : Course)
+    → Begins (text_of out) (text_of long)
+    → WasCut base racing out now → WasCut base racing long now
+cut-longer base now racing out long longer c = record {
+  on_the_way = c.on_the_way;
+  tidy = c.tidy;
+  same = c.same;
+  begins = begins-then (written c.on_the_way.run) (text_of out) (text_of long) c.begins longer;
+  took = c.took;
 }
-
-took-longer : (base now : Sunk) (a b : List ℕ) → Begins a b → TookFront base now a
-    → TookFront base now b
-took-longer base now a b longer t =
-    record { holds = holds-longer base.held now.held a b longer t.holds; counts = t.counts }
 
 and-longer : (out : Course) (g : Act)
     → Begins (text_of out) (text_of (and_then out (λ v. perform g v)))
 and-longer (Goes w) g = grows g w
 and-longer (Stops w halt) g = begins-self (written w.run)
 
-stopped-then : (base now : Sunk) (out : Course) (g : World → Course) (halt : Halt)
-    → IsStopped base out now halt → IsStopped base (and_then out g) now halt
-stopped-then base now out g halt h = (h.0, ap (λ (o : Course). and_then o g) h.1, h.2)
+stopped-then : (base now : Sunk) (on : Onward) (out : Course) (g : World → Course) (halt : Halt)
+    → EndsStopped base on out now halt → EndsStopped base on (and_then out g) now halt
+stopped-then base now on out g halt h =
+    (h.0, ap (λ (o : Course). and_then o g) h.1, h.2, h.3, h.4)
 
 -- the first act ended early
-pub ends-early : (base now : Sunk) (out : Course) (g : Act) (halt : Halt)
-    → EndsEarly base out now halt
-    → EndsEarly base (and_then out (λ v. perform g v)) now halt
-ends-early base now out g (halts.Trace line kind) h =
-    stopped-then base now out (λ v. perform g v) _ h
-ends-early base now out g halts.ReadFault h = h
-ends-early base now out g halts.WriteFault h =
-    (h.0, took-longer base now (text_of out) _ (and-longer out g) h.1)
-ends-early base now out g halts.Memory h = took-longer base now (text_of out) _ (and-longer out g) h
-ends-early base now out g (halts.Limit which) h = stopped-then base now out (λ v. perform g v) _ h
-ends-early base now out g (halts.RepeatedDraw first second) h =
-    stopped-then base now out (λ v. perform g v) _ h
-ends-early base now out g (halts.Forged line) h = stopped-then base now out (λ v. perform g v) _ h
+pub ends-early : (base now : Sunk) (on : Onward) (out : Course) (g : Act) (halt : Halt)
+    → EndsEarly base on out now halt
+    → EndsEarly base on (and_then out (λ v. perform g v)) now halt
+ends-early base now on out g (halts.Trace line kind) h =
+    stopped-then base now on out (λ v. perform g v) _ h
+ends-early base now on out g halts.ReadFault h = h
+ends-early base now on out g halts.WriteFault h =
+    (h.0, cut-longer base now on.racing out _ (and-longer out g) h.1)
+ends-early base now on out g halts.Memory h =
+    cut-longer base now on.racing out _ (and-longer out g) h
+ends-early base now on out g (halts.Limit which) h =
+    stopped-then base now on out (λ v. perform g v) _ h
+ends-early base now on out g (halts.RepeatedDraw first second) h =
+    stopped-then base now on out (λ v. perform g v) _ h
+ends-early base now on out g (halts.Forged line) h =
+    stopped-then base now on out (λ v. perform g v) _ h
 
 -- the first act stopped
 pub then-err : {R : Type 0} {Stands : World → R → Type 0} (f g : Act) (old new : Moment R)
     (e : Halt) → Did Stands f old new (Err e) → Did Stands (seq f g) old new (Err e)
 then-err f g old new e d = record {
-  ends = λ base w reached comes.
-      ends-early base new.sink (perform f w) g e (d.ends base w reached comes.0);
+  chances = d.chances;
+  ends = λ base w later is reached comes.
+      ends-early base new.sink (onward later w) (perform f w) g e
+      (d.ends base w later is reached comes.0);
 }
+
+-- the chances of two calls, one after the other
+pub both-chances : (all a b later : List Chance) → all ≡ (a ++ b) ++ later → all ≡ a ++ (b ++ later)
+both-chances all a b later is = is ∙ append_assoc a b later
 
 going : (out : Course) (w : World) (P : World → Type 0) → out ≡ Goes w → IsGoing out P → P w
 going out w P e h = subst (λ (o : Course). IsGoing o P) e h
+
+-- from one world to the next the phase is the same
+pub same-phase : {R : Type 0} (Stands : World → R → Type 0) (base : Sunk) (later : List Chance)
+    (out : Course) (now : Moment R) (r : Result (Unit {0}) Halt) (w v : World)
+    → is_racing v.kept.phase ≡ is_racing w.kept.phase → Ends Stands base (onward later v) out now r
+    → Ends Stands base (onward later w) out now r
+same-phase Stands base later out now r w v e h =
+    subst (λ (b : Bool). Ends Stands base (record { later = later; racing = b }) out now r) e h
 
 -- the first act was done, and then the second ended so
 pub then-ok : {R : Type 0} {Stands : World → R → Type 0} (f g : Act) (old mid new : Moment R)
     (r : Result (Unit {0}) Halt) → Did Stands f old mid (Ok tt) → Did Stands g mid new r
     → Did Stands (seq f g) old new r
 then-ok {Stands = Stands} f g old mid new r d e = record {
-  ends = λ base w reached comes.
-      let first = d.ends base w reached comes.0 in
-      let later : Comes g first.0 = going (perform f w) first.0 (λ v. IsTidy v → Comes g v) first.1
-      comes.1 first.2.shown.tidy in
-      subst (λ (out : Course). Ends Stands base (and_then out (λ v. perform g v)) new r)
-      (sym first.1) (e.ends base first.0 first.2 later);
+  chances = d.chances ++ e.chances;
+  ends = λ base w later is reached comes.
+      let first = d.ends base w (e.chances ++ later)
+      (both-chances w.kept.chances d.chances e.chances later is) reached comes.0 in
+      let comes_later : Comes g first.0 =
+      going (perform f w) first.0 (λ v. IsTidy v → Comes g v) first.1 comes.1
+      first.2.shown.tidy in
+      subst (λ (out : Course).
+      Ends Stands base (onward later w) (and_then out (λ v. perform g v)) new r) (sym first.1)
+      (same-phase Stands base later (perform g first.0) new r w first.0 first.4
+      (e.ends base first.0 later first.3 first.2 comes_later));
 }
 
 pub nothing-does : {R : Type 0} {Stands : World → R → Type 0} (now : Moment R)
     → Did Stands nothing now now (Ok tt)
-nothing-does now = record { ends = λ base w reached comes. (w, refl, reached) }
+nothing-does now =
+    record { chances = []; ends = λ base w later is reached comes. (w, refl, reached, is, refl) }
 
 -- what is left of an act, done from here, is the whole act done from the start
 pub record Leads {R : Type 0} (Stands : World → R → Type 0) (whole : Act) (old : Moment R)
@@ -163,24 +184,18 @@ span-next f i n lt =
 pub span-done : (f : ℕ → Act) (i n : ℕ) → n ≤ i → span f i (n - i) ≡ nothing
 span-done f i n le = let e : n - i ≡ 0 = omega arith in ap (λ (k : ℕ). span f i k) e
 
--- an act that depends on the world is done where it is done as it is in each world that the group
--- may stand for
-pub look-does : {R : Type 0} {Stands : World → R → Type 0} (f : World → Act) (old new : Moment R)
-    (r : Result (Unit {0}) Halt)
-    → ((w : World) → Stands w old.value → IsTidy w → Did Stands (f w) old new r)
-    → Did Stands (look f) old new r
-look-does f old new r d = record {
-  ends = λ base w reached comes.
-      (d w reached.stands reached.shown.tidy).ends base w reached comes;
-}
-
 -- what is left of an act that looks is what it is here
 pub look-leads : {R : Type 0} {Stands : World → R → Type 0} (f : World → Act) (here : Act)
     (now : Moment R) → ((w : World) → Stands w now.value → IsTidy w → here ≡ f w)
     → Leads Stands (look f) now here now
 look-leads {Stands = Stands} f here now same = record {
-  leads = λ new r d. look-does f now new r
-      (λ w stands tidy. subst (λ (a : Act). Did Stands a now new r) (same w stands tidy) d);
+  leads = λ new r d. record {
+    chances = d.chances;
+    ends = λ base w later is reached comes.
+        let e : here ≡ f w = same w reached.stands reached.shown.tidy in
+        subst (λ (a : Act). Ends Stands base (onward later w) (perform a w) new r) e
+        (d.ends base w later is reached (subst (λ (a : Act). Comes a w) (sym e) comes));
+  };
 }
 
 -- an error that `?` hands on is the error
@@ -294,38 +309,49 @@ took-behind base old new text piece e counts t = record {
   counts = omega (arith, counts, t.counts);
 }
 
+-- all that was shown was written
+pub took-all : (base : Sunk) (w : World) (now : Sunk) → IsShown base w now
+    → TookFront base now (written w.run)
+took-all base w now shown = record {
+  holds = record {
+    front = written w.run;
+    rest = [];
+    parts = append-nil (written w.run);
+    held = shown.written;
+  };
+  counts = shown.counts;
+}
+
 -- no memory, before more was written
 pub took-none : (act : Act) (base : Sunk) (w : World) (old new : Sunk) → IsShown base w old
-    → new ≡ old → TookFront base new (text_of (perform act w))
-took-none act base w old new shown same =
-    let longer = grows act w in
-    let faults : new.faults ≡ old.faults = ap (λ (s : Sunk). s.faults) same in
-    record {
-      holds = record {
-        front = written w.run;
-        rest = longer.more;
-        parts = longer.parts;
-        held =
-            ap (λ (s : Sunk). s.held) same ∙ shown.written;
-      };
-      counts = omega (arith, faults, shown.counts);
-    }
+    → new ≡ old → WasCut base (is_racing w.kept.phase) (perform act w) new
+took-none act base w old new shown same = record {
+  on_the_way = w;
+  tidy = shown.tidy;
+  same = refl;
+  begins = grows act w;
+  took = took-all base w new (subst (λ (s : Sunk). IsShown base w s) (sym same) shown);
+}
 
 pub memory-does : {R : Type 0} {Stands : World → R → Type 0} (act : Act) (old new : Moment R)
     → new.sink ≡ old.sink → Did Stands act old new (Err halts.Memory)
 memory-does act old new same =
     record {
-      ends = λ base w reached comes.
+      chances = [];
+      ends = λ base w later is reached comes.
           took-none act base w old.sink new.sink reached.shown same;
     }
 
 -- what is kept changes, and nothing is written
 pub change-does : {R : Type 0} {Stands : World → R → Type 0} (f : Kept → Kept) (old new : Moment R)
+    → ((kept : Kept) → ((f kept).chances ≡ kept.chances)
+    × (is_racing (f kept).phase ≡ is_racing kept.phase))
     → ((w : World) → Stands w old.value → IsTidy (record w { kept = f w.kept })
     → Stands (record w { kept = f w.kept }) new.value)
     → new.sink ≡ old.sink → Did Stands (change f) old new (Ok tt)
-change-does f old new stands same = record {
-  ends = λ base w reached comes. (
+change-does f old new keeps stands same = record {
+  chances = [];
+  ends = λ base w later is reached comes. (
     record w { kept = f w.kept },
     refl,
     record {
@@ -338,5 +364,7 @@ change-does f old new stands same = record {
             omega (arith, reached.shown.counts);
       };
     },
+    (keeps w.kept).0 ∙ is,
+    (keeps w.kept).1,
   );
 }

@@ -1,8 +1,8 @@
 -- Lines that are performed from the beginning leave a tidy world.
 use Rattle.std.proofs.Common.{◌≡◌, ◌<◌, ◌≤◌, ◌+◌, ◌^◌, ◌==◌, ℕ, suc, Bool, true, false, List, []}
-use Rattle.std.proofs.Common.{◌∷◌, ◌++◌, length, length-append, length-take-le, Option, Some, None}
+use Rattle.std.proofs.Common.{◌∷◌, ◌++◌, length, length-append, Option, Some, None}
 use Rattle.std.proofs.Common.{◌⊎◌, inl, inr, refl, sym, ap, ◌∙◌, subst, arith}
-use Rattle.std.specs.Prelude.{Result, Ok, Err, cond, not, ◌&&◌, is_some, nat_le, take, unwrap_or}
+use Rattle.std.specs.Prelude.{Result, Ok, Err, cond, not, ◌&&◌, is_some, unwrap_or}
 use Rattle.std.specs.Option.{is_none}
 use Rattle.lan_base.specs.Ranges.{IsCkn}
 use Rattle.lan_base.specs.declared.frame.UserFrame.{UserFrame}
@@ -19,8 +19,6 @@ use Rattle.trace_text.proofs.Public.{read_fits}
 use Rattle.lan_schedule.specs.declared.choices.Choices.{Choices}
 use Rattle.lan_schedule.specs.declared.choices.Keyed.{Keyed}
 use Rattle.lan_schedule.specs.declared.halt.Kind.{Kind}
-use Rattle.lan_schedule.specs.Texts.{ended, open_line, whole_lines, last_line, lines_of}
-use Rattle.lan_schedule.specs.Texts.{without_return}
 use Rattle.lan_schedule.specs.Settings.{no_choice, secret_of, unkeyed, settings_of}
 use Rattle.lan_schedule.specs.World.{World, Kept, beginning, settings, place, mark}
 use Rattle.lan_schedule.specs.Acts.{Act, Course, Goes, Stops, happen, change}
@@ -29,7 +27,7 @@ use Rattle.lan_schedule.specs.Kinds.{may_list, refusal, refusal_read}
 use Rattle.lan_schedule.specs.Lines.{deed, deed_read, chosen_by, send, unless_refused}
 use Rattle.lan_schedule.specs.Lines.{performed, performed_all, tick, round, spread, flow_round}
 use Rattle.lan_schedule.specs.Lines.{link_cut, link_mended}
-use Rattle.lan_schedule.specs.Trace.{course, lines_within, most_input}
+use Rattle.lan_schedule.specs.Trace.{course}
 use Rattle.lan_schedule.specs.Sound.{IsTidy}
 use Rattle.lan_schedule.specs.inside.Comes.{Comes}
 use Rattle.lan_schedule.proofs.Bounded.{AreBounded, bounded-first}
@@ -131,16 +129,18 @@ record IsReady (n : ℕ) (w : World) : Type 0 where
   users : length w.kept.users ≤ n
   chosen : AreChosen w.kept.chosen
   keyed : w.kept.begun ≡ true → is_some w.kept.chosen.group ≡ true
+  calm : w.kept.raced ≡ false
   bounded : AreBounded (settings w) w.run
   tidy : IsTidy w
 
-ready-first : IsReady 0 beginning
+ready-first : IsReady 0 (beginning [])
 ready-first = record {
   users = omega arith;
   chosen = chosen-first;
   keyed = λ e. absurd (cc e);
-  bounded = bounded-first (settings beginning);
-  tidy = tidy-beginning;
+  calm = refl;
+  bounded = bounded-first (settings (beginning []));
+  tidy = tidy-beginning [];
 }
 
 opened : (n : ℕ) (w : World) → IsReady n w → w.kept.begun ≡ true → IsOpen (suc n) w.kept.chosen w
@@ -148,6 +148,7 @@ opened n w ready begun = record {
   same = refl;
   users = let few = ready.users in omega (arith, few);
   begun = begun;
+  calm = ready.calm;
   bounded = ready.bounded;
   tidy = ready.tidy;
 }
@@ -158,6 +159,7 @@ ready-again n chosen w are keyed now = record {
   users = now.users;
   chosen = subst (λ (c : Choices). AreChosen c) (sym now.same) are;
   keyed = λ begun. subst (λ (c : Choices). is_some c.group ≡ true) (sym now.same) keyed;
+  calm = now.calm;
   bounded = now.bounded;
   tidy = now.tidy;
 }
@@ -180,6 +182,7 @@ chosen-ready n line b w form ready allowed tidy =
       users = let few = ready.users in omega (arith, few);
       chosen = chosen-stays line form w.kept.chosen ready.chosen;
       keyed = λ begun. absurd (let bad : true ≡ false = sym begun ∙ before in cc bad);
+      calm = ready.calm;
       bounded = subst (λ r. AreBounded later r) (sym (ready.tidy.waits before))
           (bounded-first later);
       tidy = tidy;
@@ -206,6 +209,7 @@ station-ready n act w below mild ready keyed tidy comes =
       users = ready.users;
       chosen = ready.chosen;
       keyed = λ begun. keyed;
+      calm = ready.calm;
       bounded = ready.bounded;
       tidy = tidy;
     }) refl comes
@@ -226,6 +230,7 @@ send-ready n s user w below ready begun tidy comes =
       users = let one = length-append w.kept.users (user ∷ []) in
           let few = ready.users in omega (arith, one, few);
       begun = begun;
+      calm = ready.calm;
       bounded = ready.bounded;
       tidy = tidy;
     } in
@@ -286,11 +291,11 @@ deed-ready n (lines.Lose frame) w below form ready right comes =
     (mild-mark (suc n) frame) ready right.allowed comes
 deed-ready n (lines.Cut from to) w below form ready right comes =
     mild-ready n (link_cut (place w from) (place w to)) w below
-    (λ kept. record { chosen = refl; users = refl; begun = refl }) ready
+    (λ kept. record { chosen = refl; users = refl; begun = refl; raced = refl }) ready
     right.allowed comes
 deed-ready n (lines.Mend from to) w below form ready right comes =
     mild-ready n (link_mended (place w from) (place w to)) w below
-    (λ kept. record { chosen = refl; users = refl; begun = refl }) ready
+    (λ kept. record { chosen = refl; users = refl; begun = refl; raced = refl }) ready
     right.allowed comes
 deed-ready n (lines.Restart name) w below form ready right comes =
     mild-ready n (happen (Restart (place w name))) w below tt ready right.allowed comes
@@ -302,7 +307,7 @@ deed-ready n (lines.Inject name octets) w below form ready right comes =
     (bytes-all octets form.fits.1.0.2) ready right.allowed comes
 deed-ready n line w below form ready right comes =
     mild-ready n (deed line w) w below
-    (λ kept. record { chosen = refl; users = refl; begun = refl }) ready
+    (λ kept. record { chosen = refl; users = refl; begun = refl; raced = refl }) ready
     right.allowed comes
 
 more-ready : (n : ℕ) (w : World) → IsReady n w → IsReady (suc n) w
@@ -310,6 +315,7 @@ more-ready n w ready = record {
   users = let few = ready.users in omega (arith, few);
   chosen = ready.chosen;
   keyed = ready.keyed;
+  calm = ready.calm;
   bounded = ready.bounded;
   tidy = ready.tidy;
 }
@@ -343,8 +349,9 @@ text-ready n text w below ready =
       users = ready.users;
       chosen = ready.chosen;
       keyed = ready.keyed;
+      calm = ready.calm;
       bounded = ready.bounded;
-      tidy = tidy-same w kept ready.tidy refl refl refl (λ e. e);
+      tidy = tidy-same w kept ready.tidy refl refl refl refl refl (λ e. e);
     }) refl
 
 then-tidy : (n : ℕ) (out : Course) (later : Act) → IsReady n (world_of out)
@@ -363,51 +370,5 @@ texts-tidy n (text ∷ texts) w below ready =
 
 -- fewer than 2^32 lines leave a tidy world
 pub lines-tidy : (texts : List (List ℕ)) → length texts < 2 ^ 32
-    → IsTidy (world_of (course texts))
-lines-tidy texts below = texts-tidy 0 texts beginning (omega (arith, below)) ready-first
-
--- ---- the lines of a text
-
-either-few : (b : Bool) (line : List ℕ) (first later : List (List ℕ)) (n : ℕ)
-    → length first ≤ n → length later ≤ n → length (cond b (line ∷ first) later) ≤ suc n
-either-few true line first later n few more = omega (arith, few)
-either-few false line first later n few more = omega (arith, more)
-
-ended-few : (begun text : List ℕ) → length (ended begun text) ≤ length text
-ended-few begun [] = omega arith
-ended-few begun (x ∷ text) =
-    either-few (x == 10) (without_return begun) (ended [] text) (ended (begun ++ x ∷ []) text)
-    (length text) (ended-few [] text) (ended-few (begun ++ x ∷ []) text)
-
-last-few : (octets : List ℕ) → length (last_line octets) ≤ 1
-last-few [] = omega arith
-last-few (x ∷ octets) = omega arith
-
-all-few : (text : List ℕ) → length (lines_of text) ≤ length text + 1
-all-few text =
-    let both = length-append (whole_lines text) (last_line (open_line [] text)) in
-    let first = ended-few [] text in
-    let last = last-few (open_line [] text) in
-    omega (arith, both, first, last)
-
-at-most : (a b : ℕ) → nat_le a b ≡ true → a ≤ b
-at-most a b e = grind arith
-
-above : (a b : ℕ) → nat_le a b ≡ false → b ≤ a
-above a b e = grind arith
-
-within-few : (text : List ℕ) (b : Bool) → nat_le (length text) most_input ≡ b
-    → length (cond b (lines_of text) (whole_lines (take most_input text))) < 2 ^ 32
-within-few text true is =
-    let most = at-most (length text) most_input is in
-    let few = all-few text in
-    omega (arith, most, few)
-within-few text false is =
-    let few = ended-few [] (take most_input text) in
-    let most = length-take-le most_input text (above (length text) most_input is) in
-    omega (arith, few, most)
-
--- so do the lines of a text within the limit
-pub text-tidy : (text : List ℕ) → IsTidy (world_of (course (lines_within text)))
-text-tidy text =
-    lines-tidy (lines_within text) (within-few text (nat_le (length text) most_input) refl)
+    → IsTidy (world_of (course (performed_all texts) []))
+lines-tidy texts below = texts-tidy 0 texts (beginning []) (omega (arith, below)) ready-first

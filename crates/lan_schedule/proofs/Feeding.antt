@@ -16,38 +16,47 @@ use Rattle.lan_schedule.specs.Texts.{lines_of}
 use Rattle.lan_schedule.specs.World.{World}
 use Rattle.lan_schedule.specs.Acts.{Act, nothing, seq, each, perform, Course, Goes, Stops, and_then}
 use Rattle.lan_schedule.specs.Lines.{performed, performed_all}
-use Rattle.lan_schedule.specs.Ends.{Sunk, Moment, Ends, EndsEarly}
+use Rattle.lan_schedule.specs.Ends.{Sunk, Moment, Ends, EndsEarly, onward}
 use Rattle.lan_schedule.specs.Standing.{StandsFor, Does}
-use Rattle.lan_schedule.specs.Trace.{most_input, lines_within}
+use Rattle.lan_schedule.specs.Trace.{most_input, whole, within}
 use Rattle.lan_schedule.specs.inside.Reading.{WasDone}
-use Rattle.lan_schedule.proofs.Doing.{ends-early, took-none}
+use Rattle.lan_schedule.proofs.Doing.{ends-early, took-none, both-chances, same-phase}
 
 -- the first act ended early
 pub then-err : (f g : Act) (old new : Moment Replay) (e : Halt) → Does f old new (Err e)
     → Does (seq f g) old new (Err e)
 then-err f g old new e d = record {
-  ends = λ base w reached.
-      ends-early base new.sink (perform f w) g e (d.ends base w reached);
+  chances = d.chances;
+  ends = λ base w later is reached.
+      ends-early base new.sink (onward later w) (perform f w) g e
+      (d.ends base w later is reached);
 }
 
 -- the first act was done, and then the second ended so
 pub then-ok : (f g : Act) (old mid new : Moment Replay) (r : Result (Unit {0}) Halt)
     → Does f old mid (Ok tt) → Does g mid new r → Does (seq f g) old new r
 then-ok f g old mid new r d e = record {
-  ends = λ base w reached.
-      let first = d.ends base w reached in
-      subst (λ (out : Course). Ends StandsFor base (and_then out (λ v. perform g v)) new r)
-      (sym first.1) (e.ends base first.0 first.2);
+  chances = d.chances ++ e.chances;
+  ends = λ base w later is reached.
+      let first = d.ends base w (e.chances ++ later)
+      (both-chances w.kept.chances d.chances e.chances later is) reached in
+      subst (λ (out : Course).
+      Ends StandsFor base (onward later w) (and_then out (λ v. perform g v)) new r) (sym first.1)
+      (same-phase StandsFor base later (perform g first.0) new r w first.0 first.4
+      (e.ends base first.0 later first.3 first.2));
 }
 
 pub nothing-does : (now : Moment Replay) → Does nothing now now (Ok tt)
-nothing-does now = record { ends = λ base w reached. (w, refl, reached) }
+nothing-does now = record { chances = []; ends = λ base w later is reached. (w, refl, reached, is, refl) }
 
 -- no memory, before more was written
 pub memory-does : (act : Act) (old new : Moment Replay) → new.sink ≡ old.sink
     → Does act old new (Err halts.Memory)
 memory-does act old new same =
-    record { ends = λ base w reached. took-none act base w old.sink new.sink reached.shown same }
+    record {
+      chances = [];
+      ends = λ base w later is reached. took-none act base w old.sink new.sink reached.shown same;
+    }
 
 -- what is left of an act, done from here, is the whole act done from the start
 pub record Leads (whole : Act) (old : Moment Replay) (left : Act) (now : Moment Replay) : Type 0
@@ -62,6 +71,13 @@ handed-on act old new e r d is =
     let p = err_from_is_err_and r is in
     subst (λ (r : Result (Unit {0}) Halt). Does act old new r)
     (sym (p.1 ∙ ap (λ (y : Halt). Err y) p.2)) d
+
+-- an error that `?` hands on, where the error is want of memory
+pub memory-any : (act : Act) (old new : Moment Replay) (r : Result (Unit {0}) Halt) {e : Halt}
+    → new.sink ≡ old.sink → e ≡ halts.Memory → IsErrAnd r (λ y. y ≡ e) → Does act old new r
+memory-any act old new r {e} same memory is =
+    handed-on act old new e r
+    (subst (λ (h : Halt). Does act old new (Err h)) (sym memory) (memory-does act old new same)) is
 
 pub leads-start : (f : Act) (now : Moment Replay) → Leads f now f now
 leads-start f now = record { leads = λ new r d. d }
@@ -85,7 +101,10 @@ pub nothing-first : (whole g : Act) (old now : Moment Replay) → Leads whole ol
 nothing-first whole g old now l =
     record {
       leads = λ new r d. l.leads new r
-          (record { ends = λ base w reached. d.ends base w reached });
+          (record {
+            chances = d.chances;
+            ends = λ base w later is reached. d.ends base w later is reached;
+          });
     }
 
 -- one octet, of which the test says whether it ends a line
@@ -164,9 +183,10 @@ same-does : (f g : Act) (old new : Moment Replay) (r : Result (Unit {0}) Halt)
     → ((w : World) → perform f w ≡ perform g w) → Does g old new r → Does f old new r
 same-does f g old new r same d =
     record {
-      ends = λ base w reached.
-          subst (λ (out : Course). Ends StandsFor base out new r) (sym (same w))
-          (d.ends base w reached);
+      chances = d.chances;
+      ends = λ base w later is reached.
+          subst (λ (out : Course). Ends StandsFor base (onward later w) out new r) (sym (same w))
+          (d.ends base w later is reached);
     }
 
 pub append-ok : (f : List ℕ → Act) (xs ys : List (List ℕ)) (a b c : Moment Replay)
@@ -302,6 +322,20 @@ extends-by xs whole other false e f = f
 whole-extend : (a b : List ℕ) → Extends (ended [] a) (whole_lines (a ++ b))
 whole-extend a b = record { more = ended (open_line [] a) b; parts = ended-append [] a b }
 
+-- the lines that count
+abbrev pub lines_within : List ℕ → List (List ℕ)
+lines_within text =
+    cond (nat_le (length text) most_input) (lines_of text) (whole_lines (take most_input text))
+
+by-size : (b : Bool) (xs ys : List (List ℕ))
+    → cond b (performed_all xs) (performed_all ys) ≡ performed_all (cond b xs ys)
+by-size true xs ys = refl
+by-size false xs ys = refl
+
+pub within-lines : (text : List ℕ) → within text ≡ performed_all (lines_within text)
+within-lines text = by-size (nat_le (length text) most_input) (lines_of text)
+    (whole_lines (take most_input text))
+
 -- so do the lines that count, within the limit
 within-extend : (a b : List ℕ) → length a ≤ most_input
     → Extends (ended [] a) (lines_within (a ++ b))
@@ -317,8 +351,8 @@ pub read-err : (text : List ℕ) (total : ℕ) (left next_left : Option (List �
     → HasRead text total left old carry now → left ≡ before piece next_left
     → total + length piece ≤ most_input
     → Does (performed_all (ended carry piece)) now next (Err e)
-    → Does (performed_all (lines_within text)) old next (Err e)
-read-err text total left next_left old carry piece now next e h moved within d =
+    → Does (within text) old next (Err e)
+read-err text total left next_left old carry piece now next e h moved fits d =
     let g = goes-on h.rest piece left next_left h.left_is moved in
     let few : length (h.front ++ piece) ≤ most_input = let l = length-append h.front piece in
     let c = h.count in omega arith in
@@ -329,7 +363,7 @@ read-err text total left next_left old carry piece now next e h moved within d =
     ++ l.more =
     ap (λ (t : List ℕ). lines_within t) (sym whole) ∙ l.parts
     ∙ ap (λ (x : List (List ℕ)). x ++ l.more) (ended-append [] h.front piece) in
-    rw lines (append-err performed _ l.more old next e
+    rw (within-lines text, lines) (append-err performed _ l.more old next e
     (append-ok performed (ended [] h.front) _ old now next (Err e) h.done (rw h.carry_is at d)))
 
 -- the end: the last line
@@ -337,7 +371,7 @@ pub read-end : (text : List ℕ) (total : ℕ) (left : Option (List ℕ)) (old :
     (carry : List ℕ) (now next : Moment Replay) (r : Result (Unit {0}) Halt)
     → HasRead text total left old carry now → IsUsedUp left
     → Does (each performed (last_line carry)) now next r
-    → Does (performed_all (lines_of text)) old next r
+    → Does (whole text) old next r
 read-end text total left old carry now next r h used d =
     let none : h.rest ≡ [] = rw h.left_is at used in
     let whole : h.front ≡ text = sym (append-nil h.front)
@@ -350,8 +384,10 @@ pub same-act : (f g : Act) (old new : Moment Replay) (r : Result (Unit {0}) Halt
     → ((w : World) → StandsFor w old.value → perform f w ≡ perform g w) → Does g old new r
     → Does f old new r
 same-act f g old new r same d = record {
-  ends = λ base w reached. subst (λ (out : Course). Ends StandsFor base out new r)
-      (sym (same w reached.stands)) (d.ends base w reached);
+  chances = d.chances;
+  ends = λ base w later is reached.
+      subst (λ (out : Course). Ends StandsFor base (onward later w) out new r)
+      (sym (same w reached.stands)) (d.ends base w later is reached);
 }
 
 -- an error says nothing of the value
@@ -359,9 +395,10 @@ pub err-any : (act : Act) (old new other : Moment Replay) (e : Halt) → other.s
     → Does act old new (Err e) → Does act old other (Err e)
 err-any act old new other e same d =
     record {
-      ends = λ base w reached.
-          subst (λ (s : Sunk). EndsEarly base (perform act w) s e) (sym same)
-          (d.ends base w reached);
+      chances = d.chances;
+      ends = λ base w later is reached.
+          subst (λ (s : Sunk). EndsEarly base (onward later w) (perform act w) s e) (sym same)
+          (d.ends base w later is reached);
     }
 
 pub then-err-late : (f g : Act) (old mid new : Moment Replay) (e : Halt) → Does f old mid (Ok tt)
@@ -371,14 +408,14 @@ then-err-late f g old mid new e d d2 = then-ok f g old mid new (Err e) d d2
 -- ---- whatever the source tells
 
 pub done-none : (now : Moment Replay) → WasDone now now (Ok tt)
-done-none now = record { lines = []; done = nothing-does now }
+done-none now = record { act = nothing; done = nothing-does now }
 
-pub done-then : (old now next : Moment Replay) (lines : List (List ℕ)) (r : Result (Unit {0}) Halt)
+pub done-then : (old now next : Moment Replay) (act : Act) (r : Result (Unit {0}) Halt)
     → WasDone old now (Ok tt)
-    → Does (performed_all lines) now next r → WasDone old next r
-done-then old now next lines r before d = record {
-  lines = before.lines ++ lines;
-  done = append-ok performed before.lines lines old now next r before.done d;
+    → Does act now next r → WasDone old next r
+done-then old now next act r before d = record {
+  act = seq before.act act;
+  done = then-ok before.act act old now next r before.done d;
 }
 
 -- ---- the last line
@@ -394,3 +431,31 @@ pub last-does : (line : List ℕ) (old new : Moment Replay) (r : Result (Unit {0
     → Does (performed_all (last_line line)) old new r
 last-does [] old new r some d = absurd (let bad : true ≡ false = some in cc bad)
 last-does (x ∷ octets) old new r some d = alone-does (performed (x ∷ octets)) old new r d
+
+-- and where none are
+pub last-none : (line : List ℕ) (now : Moment Replay) → (length line == 0) ≡ true
+    → Does (performed_all (last_line line)) now now (Ok tt)
+last-none [] now none = nothing-does now
+last-none (x ∷ octets) now none =
+    absurd (let e : length (x ∷ octets) ≡ 0 = grind arith in omega (arith, e))
+
+-- an octet that belongs to a line
+pub octet-does : (b : Bool) (carry : List ℕ) (now : Moment Replay) → b ≡ false
+    → Does (chosen b carry) now now (Ok tt)
+octet-does b carry now e =
+    subst (λ (t : Bool). Does (chosen t carry) now now (Ok tt)) (sym e) (nothing-does now)
+
+drop-past : (xs : List ℕ) (i : ℕ) → length xs ≤ i → drop i xs ≡ []
+drop-past [] zero le = refl
+drop-past [] (suc i) le = refl
+drop-past (x ∷ xs) zero le = absurd (omega arith)
+drop-past (x ∷ xs) (suc i) le = drop-past xs i (omega arith)
+
+-- a piece was read to its end
+pub feed-end : (carry piece : List ℕ) (i : ℕ) (whole : Act) (old now : Moment Replay)
+    → length piece ≤ i → Leads whole old (each performed (ended carry (drop i piece))) now
+    → Does whole old now (Ok tt)
+feed-end carry piece i whole old now past l =
+    leads-end whole old now
+    (subst (λ (t : List ℕ). Leads whole old (each performed (ended carry t)) now)
+    (drop-past piece i past) l)

@@ -1,7 +1,9 @@
 -- What an event leaves.
 use Rattle.std.proofs.Common.{◌≡◌, ℕ, ◌+◌, List, [], ◌∷◌, ◌++◌, Option, Some, None}
-use Rattle.std.proofs.Common.{inl, inr, refl, sym, ap, ◌∙◌, subst, arith}
-use Rattle.std.specs.Prelude.{Result, Ok, Err, map, unwrap_or}
+use Rattle.std.proofs.Common.{refl, sym, ap, ◌∙◌, subst, arith}
+use Rattle.std.specs.Prelude.{Result, Ok, Err, false, map, unwrap_or}
+use Rattle.std.specs.Result.{IsErrAnd}
+use Rattle.std.proofs.lemmas.Result.{err_from_is_err_and}
 use Rattle.std.proofs.lemmas.List.{map-append}
 use Rattle.lan_base.specs.Told.{after}
 use Rattle.lan_base.specs.declared.frame.UserFrame.{UserFrame}
@@ -24,19 +26,25 @@ use Rattle.transcript.specs.Rendering.{transcript}
 use Rattle.lan_schedule.specs.declared.halt.Halt.{Halt}
 use Rattle.lan_schedule.specs.declared.halt.Halt.TheVariants as halts
 use Rattle.lan_schedule.specs.declared.stage.Stage.{Stage}
-use Rattle.lan_schedule.specs.World.{World, names_of, settings, puts, Flow}
+use Rattle.lan_schedule.specs.World.{World, names_of, settings, puts, Flow, is_racing}
 use Rattle.lan_schedule.specs.Settings.{rule_of}
 use Rattle.lan_schedule.specs.Supply.{draw_at, supply_nth}
 use Rattle.lan_schedule.specs.Answers.{supply, taken_by, halt_of, answered, answer}
-use Rattle.lan_schedule.specs.Acts.{nothing, happen, perform, Goes, Stops, shown, world_after}
+use Rattle.lan_schedule.specs.Acts.{happen, Goes, Stops, shown, world_after}
 use Rattle.lan_schedule.specs.Sound.{IsTidy}
 use Rattle.lan_schedule.specs.Ends.{Sunk, Moment, IsShown, IsReached, Ends, EndsEarly, written}
+use Rattle.lan_schedule.specs.Ends.{WasCut, TookFront, onward}
 use Rattle.lan_schedule.specs.Numbers.{TellNext}
 use Rattle.lan_schedule.specs.inside.Counters.{ShowsNext}
+use Rattle.lan_schedule.specs.World.{Flow}
+use Rattle.lan_schedule.specs.Supply.{supply_nth}
 use Rattle.lan_schedule.specs.inside.Comes.{Did, IsExact, named}
 use Rattle.lan_schedule.specs.Stages.{StandsFor}
 use Rattle.lan_schedule.specs.inside.Staged.{Happened, Writes}
+use Rattle.lan_schedule.specs.Races.{Chance, behind_numbers}
+use Rattle.lan_schedule.proofs.Calm.{calm-shown, calm-chances}
 use Rattle.lan_schedule.proofs.Doing.{took-behind, took-none, after-append, rose-earlier}
+use Rattle.lan_schedule.proofs.Doing.{begins-self}
 use Rattle.lan_schedule.proofs.Tidying.{tidy-after}
 
 -- what a step promises of a group
@@ -100,13 +108,27 @@ told-by w event facts old new stands goes = record {
 abbrev pub entry_text : Event → List Fact → World → List ℕ
 entry_text event facts w = transcript (names_of (happened event facts ∷ w.run)) facts
 
-written-ends : (base : Sunk) (w : World) (event : Event) (facts : List Fact)
+-- a front of what an event showed was written
+was-cut : (base : Sunk) (w : World) (event : Event) (facts : List Fact) (old new : Sunk)
+    → IsShown base w old → IsTidy (world_after w event facts)
+    → TookFront old new (entry_text event facts w)
+    → WasCut base (is_racing w.kept.phase) (Goes (world_after w event facts)) new
+was-cut base w event facts old new shown tidy took = record {
+  on_the_way = world_after w event facts;
+  tidy = tidy;
+  same = refl;
+  begins = begins-self (written (world_after w event facts).run);
+  took = took-behind base old new (written w.run) (entry_text event facts w) shown.written
+      shown.counts took;
+}
+
+written-ends : (base : Sunk) (w : World) (event : Event) (facts : List Fact) (later : List Chance)
     (old new : Moment Stage) (r : Result (Unit {0}) Halt)
-    → IsReached StandsFor base w old → IsTidy (world_after w event facts)
+    → (world_after w event facts).kept.chances ≡ later → IsReached StandsFor base w old → IsTidy (world_after w event facts)
     → StandsFor (world_after w event facts) new.value
     → Writes (entry_text event facts w) old.sink new.sink r
-    → Ends StandsFor base (Goes (world_after w event facts)) new r
-written-ends base w event facts old new (Ok done) reached tidy stands wrote = (
+    → Ends StandsFor base (onward later w) (Goes (world_after w event facts)) new r
+written-ends base w event facts later old new (Ok done) is reached tidy stands wrote = (
   world_after w event facts,
   refl,
   record {
@@ -118,34 +140,35 @@ written-ends base w event facts old new (Ok done) reached tidy stands wrote = (
       counts = omega (arith, wrote.1, reached.shown.counts);
     };
   },
+  is,
+  refl,
 )
-written-ends base w event facts old new (Err (halts.Trace line kind)) reached tidy stands wrote =
+written-ends base w event facts later old new (Err (halts.Trace line kind)) is reached tidy stands wrote =
     absurd wrote
-written-ends base w event facts old new (Err halts.ReadFault) reached tidy stands wrote =
+written-ends base w event facts later old new (Err halts.ReadFault) is reached tidy stands wrote =
     absurd wrote
-written-ends base w event facts old new (Err halts.WriteFault) reached tidy stands wrote = (
+written-ends base w event facts later old new (Err halts.WriteFault) is reached tidy stands wrote = (
   rose-earlier base.faults old.sink.faults new.sink.faults reached.shown.counts wrote.0,
-  took-behind base old.sink new.sink (written w.run) (entry_text event facts w)
-      reached.shown.written reached.shown.counts wrote.1,
+  was-cut base w event facts old.sink new.sink reached.shown tidy wrote.1,
 )
-written-ends base w event facts old new (Err halts.Memory) reached tidy stands wrote =
-    took-behind base old.sink new.sink (written w.run) (entry_text event facts w)
-    reached.shown.written reached.shown.counts wrote
-written-ends base w event facts old new (Err (halts.Limit which)) reached tidy stands wrote =
+written-ends base w event facts later old new (Err halts.Memory) is reached tidy stands wrote =
+    was-cut base w event facts old.sink new.sink reached.shown tidy wrote
+written-ends base w event facts later old new (Err (halts.Limit which)) is reached tidy stands wrote =
     absurd wrote
-written-ends base w event facts old new (Err (halts.RepeatedDraw first second)) reached tidy stands
+written-ends base w event facts later old new (Err (halts.RepeatedDraw first second)) is reached tidy stands
     wrote = absurd wrote
-written-ends base w event facts old new (Err (halts.Forged line)) reached tidy stands wrote =
+written-ends base w event facts later old new (Err (halts.Forged line)) is reached tidy stands wrote =
     absurd wrote
 
-shows-next : (w : World) (event : Event) → IsExact w event → ShowsNext (settings w) w.run event
-shows-next w (events.Start name sci priority) exact = tt
-shows-next w (events.Tick s next) exact = exact
-shows-next w (events.Deliver frame s) exact = tt
-shows-next w (events.Restart s) exact = tt
-shows-next w (events.Claim s user pn) exact = tt
-shows-next w events.Emit exact = tt
-shows-next w (events.Inject s octets) exact = tt
+shows-next : (w : World) (event : Event) → w.kept.raced ≡ false → IsExact w event
+    → ShowsNext (settings w) w.run event
+shows-next w (events.Start name sci priority) calm exact = tt
+shows-next w (events.Tick s next) calm exact = exact ∙ calm-shown w s calm
+shows-next w (events.Deliver frame s) calm exact = tt
+shows-next w (events.Restart s) calm exact = tt
+shows-next w (events.Claim s user pn) calm exact = tt
+shows-next w events.Emit calm exact = tt
+shows-next w (events.Inject s octets) calm exact = tt
 
 -- what the group keeps beside the step
 pub record Keeps (event : Event) (facts : List Fact) (old new : Stage) : Type 0 where
@@ -171,6 +194,7 @@ stands-after : (w : World) (event : Event) (facts : List Fact) (old new : Stage)
 unfolding stations
 stands-after w event facts old new stands exact told keeps = record {
   begun = stands.begun;
+  calm = stands.calm;
   keyed = stands.keyed;
   line = keeps.line ∙ stands.line;
   lag = keeps.lag ∙ stands.lag;
@@ -185,7 +209,7 @@ stands-after w event facts old new stands exact told keeps = record {
   flow = keeps.frames ∙ ap (λ (f : Flow).
       record { frames = f.frames ++ puts f.rounds facts; rounds = f.rounds }) stands.flow;
   cuts = keeps.cuts ∙ stands.cuts;
-  numbers = keeps.numbers (settings w) w.run stands.numbers (shows-next w event exact);
+  numbers = keeps.numbers (settings w) w.run stands.numbers (shows-next w event stands.calm exact);
   tally = keeps.tally (facts_of w.run) stands.tally;
 }
 
@@ -196,7 +220,8 @@ pub event-did : (given : Option UserFrame) (event : Event) (facts : List Fact)
     → Writes (transcript new.value.names.items facts) old.sink new.sink r
     → Happened given event old new r
 event-did given event facts old new r typed step keeps wrote = record {
-  ends = λ base w reached is comes.
+  chances = [];
+  ends = λ base w later left reached is comes.
       let stands = reached.stands in
       let goes = step (settings w) w.kept.users w.run stands.lan
       (subst (λ (g : Option UserFrame). MayCome (settings w) w.kept.users w.run g event)
@@ -204,21 +229,28 @@ event-did given event facts old new r typed step keeps wrote = record {
       let told = told-by w event facts old.value new.value stands goes in
       let after_it = stands-after w event facts old.value new.value stands comes.1 told keeps in
       let tidy = tidy-after w event facts reached.shown.tidy comes typed told.lan.setting
-      told.stopless told.shows stands.begun in
-      subst (λ (a : Result (List Fact) Halt). Ends StandsFor base (shown w event a) new r)
+      told.stopless told.shows stands.begun stands.calm in
+      subst (λ (a : Result (List Fact) Halt).
+      Ends StandsFor base (onward later w) (shown w event a) new r)
       (sym told.answers)
-      (written-ends base w event facts old new r reached tidy after_it
+      (written-ends base w event facts later old new r
+      (calm-chances w event facts stands.calm ∙ left) reached tidy after_it
       (subst (λ (names : List (List ℕ)). Writes (transcript names facts) old.sink new.sink r)
       after_it.names wrote));
 }
 
 -- the group met a stop
-stopped-ends : (base : Sunk) (w : World) (line : ℕ) (stop : Stop) (new : Sunk) → IsShown base w new
-    → EndsEarly base (Stops w (halt_of line stop)) new (halt_of line stop)
-stopped-ends base w line stops.DrawsSpent new h = (w, refl, h)
-stopped-ends base w line (stops.Limit which) new h = (w, refl, h)
-stopped-ends base w line (stops.RepeatedDraw first second) new h = (w, refl, h)
-stopped-ends base w line (stops.Forged station) new h = (w, refl, h)
+stopped-ends : (base : Sunk) (w : World) (later : List Chance) (line : ℕ) (stop : Stop) (new : Sunk)
+    → w.kept.chances ≡ later → IsShown base w new
+    → EndsEarly base (onward later w) (Stops w (halt_of line stop)) new (halt_of line stop)
+stopped-ends base w later line stops.DrawsSpent new is h =
+    (w, refl, h, ap (λ (c : List Chance). behind_numbers c) is, refl)
+stopped-ends base w later line (stops.Limit which) new is h =
+    (w, refl, h, ap (λ (c : List Chance). behind_numbers c) is, refl)
+stopped-ends base w later line (stops.RepeatedDraw first second) new is h =
+    (w, refl, h, ap (λ (c : List Chance). behind_numbers c) is, refl)
+stopped-ends base w later line (stops.Forged station) new is h =
+    (w, refl, h, ap (λ (c : List Chance). behind_numbers c) is, refl)
 
 is-shown : (base : Sunk) (w : World) (old new : Moment Stage) → IsReached StandsFor base w old
     → new.sink ≡ old.sink → IsShown base w new.sink
@@ -231,7 +263,8 @@ pub event-stopped : (given : Option UserFrame) (event : Event) (stop : Stop) (li
     → new.sink ≡ old.sink
     → Happened given event old new (Err (halt_of line stop))
 event-stopped given event stop line old new step is_line same = record {
-  ends = λ base w reached is comes.
+  chances = [];
+  ends = λ base w later left reached is comes.
       let stands = reached.stands in
       let first = step (settings w) w.kept.users w.run stands.lan
       (subst (λ (g : Option UserFrame). MayCome (settings w) w.kept.users w.run g event)
@@ -244,16 +277,8 @@ event-stopped given event stop line old new step is_line same = record {
       (same-supply w old.value stands) first)
       ∙ ap (λ (n : ℕ). Err (halt_of n stop)) (sym at_line) in
       subst (λ (a : Result (List Fact) Halt).
-      EndsEarly base (shown w event a) new.sink (halt_of line stop)) (sym met)
-      (stopped-ends base w line stop new.sink (is-shown base w old new reached same));
-}
-
--- memory was wanting, and nothing was written
-pub event-wanting : (given : Option UserFrame) (event : Event) (old new : Moment Stage)
-    → new.sink ≡ old.sink → Happened given event old new (Err halts.Memory)
-event-wanting given event old new same = record {
-  ends = λ base w reached is comes.
-      took-none (happen event) base w old.sink new.sink reached.shown same;
+      EndsEarly base (onward later w) (shown w event a) new.sink (halt_of line stop)) (sym met)
+      (stopped-ends base w later line stop new.sink left (is-shown base w old new reached same));
 }
 
 -- an event that names no user frame
@@ -261,4 +286,25 @@ pub plainly : (event : Event) (old new : Moment Stage) (r : Result (Unit {0}) Ha
     → ((w : World) → None ≡ named w event)
     → Happened None event old new r → Did StandsFor (happen event) old new r
 plainly event old new r none h =
-    record { ends = λ base w reached comes. h.ends base w reached (none w) comes }
+    record {
+      chances = h.chances;
+      ends = λ base w later is reached comes. h.ends base w later is reached (none w) comes;
+    }
+
+-- memory was wanting, and nothing was written
+pub event-wanting : (given : Option UserFrame) (event : Event) (old new : Moment Stage)
+    → new.sink ≡ old.sink → Happened given event old new (Err halts.Memory)
+event-wanting given event old new same = record {
+  chances = [];
+  ends = λ base w later left reached named comes.
+      took-none (happen event) base w old.sink new.sink reached.shown same;
+}
+
+-- so it is where an error says so
+pub happened-memory : (given : Option UserFrame) (event : Event) (old new : Moment Stage)
+    (r : Result (Unit {0}) Halt) → new.sink ≡ old.sink → IsErrAnd r (λ y. y ≡ halts.Memory)
+    → Happened given event old new r
+happened-memory given event old new r same is =
+    let p = err_from_is_err_and r is in
+    subst (λ (r : Result (Unit {0}) Halt). Happened given event old new r)
+    (sym (p.1 ∙ ap (λ (y : Halt). Err y) p.2)) (event-wanting given event old new same)

@@ -1,3 +1,5 @@
+mod Calm
+mod Racing
 mod Doing
 mod Flowing
 mod Counting
@@ -24,6 +26,5 @@ mod Limits
 mod Reading
 mod Texting
 mod Summing
-pub mod EachLine
+mod EachLine
 pub mod Returning
-pub mod Public

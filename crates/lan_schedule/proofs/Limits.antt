@@ -1,5 +1,5 @@
 -- No act meets the limit of the input, and the beginning is tidy.
-use Rattle.std.proofs.Common.{◌≡◌, ℕ, ◌+◌, Bool, true, false, List, [], ◌∷◌, Option, Some, None}
+use Rattle.std.proofs.Common.{◌≡◌, ℕ, zero, suc, ◌+◌, Bool, true, false, List, [], ◌∷◌, Option, Some, None}
 use Rattle.std.proofs.Common.{refl, ap, arith}
 use Rattle.std.specs.Prelude.{Result, Ok, Err, cond, option_map, option_and_then}
 use Rattle.std.specs.Option.{option_or}
@@ -23,18 +23,21 @@ use Rattle.lan_core.specs.Stops.{drawn_before, draws_in}
 use Rattle.lan_core.specs.Stops.{is_spent, draws_needed}
 use Rattle.lan_schedule.specs.declared.halt.Halt.{Halt}
 use Rattle.lan_schedule.specs.declared.halt.Halt.TheVariants as halts
+use Rattle.lan_schedule.specs.Races.{Chance, Worker, Excess, TooManyFrames, TooManyOctets}
+use Rattle.lan_schedule.specs.Races.{limit_of}
 use Rattle.lan_schedule.specs.World.{World, beginning, settings}
 use Rattle.lan_schedule.specs.Answers.{answer, answered, supply, halt_of}
 use Rattle.lan_schedule.specs.Acts.{Act, nothing, refuse, happen, change, seq, look, perform}
-use Rattle.lan_schedule.specs.Acts.{Course, Goes, Stops, shown, and_then}
+use Rattle.lan_schedule.specs.Acts.{Course, Goes, Stops, shown, and_then, exceed, race, begun_race}
+use Rattle.lan_schedule.specs.Acts.{beside, after_race, emitting}
 use Rattle.lan_schedule.specs.Sound.{IsTidy}
 use Rattle.lan_schedule.proofs.Drawing.{counted-draws}
 use Rattle.lan_schedule.proofs.LinesCome.{sound-empty}
 
-pub tidy-beginning : IsTidy beginning
+pub tidy-beginning : (chances : List Chance) → IsTidy (beginning chances)
 unfolding air installs stations claimed
-tidy-beginning = record {
-  sound = sound-empty (settings beginning) [];
+tidy-beginning chances = record {
+  sound = sound-empty false (settings (beginning chances)) [];
   within = record {
     frames = omega arith;
     octets = omega arith;
@@ -48,6 +51,7 @@ tidy-beginning = record {
   in_turn = omega arith;
   waits = λ e. refl;
   draws = counted-draws;
+  dealt = λ k d lt. absurd (omega arith);
 }
 
 -- ---- a stop
@@ -166,6 +170,25 @@ never-both v (Goes u) g first second e = second u e
 never-both v (Stops u halt) g first second e =
     first u (let same : halt ≡ halts.Limit which.Input = cc in ap (λ (h : Halt). Stops u h) same)
 
+never-emitting : (n : ℕ) (w v : World) → emitting n w ≡ Stops v (halts.Limit which.Input) → ⊥
+never-emitting zero w v e = cc e
+never-emitting (suc n) w v e =
+    never-both v (shown w events.Emit (answer w events.Emit)) (λ u. emitting n u)
+    (λ u first. never-shown w u events.Emit (answer w events.Emit) (event-never w events.Emit)
+    first) (λ u second. never-emitting n u v second) e
+
+never-race : (workers : List Worker) (w v : World) (out : Course)
+    → ((u : World) → out ≡ Stops u (halts.Limit which.Input) → ⊥)
+    → beside workers w out ≡ Stops v (halts.Limit which.Input) → ⊥
+never-race workers w v (Goes u) never e = never-emitting _ (after_race workers w u) v e
+never-race workers w v (Stops u halt) never e =
+    never u (let same : halt ≡ halts.Limit which.Input = cc in ap (λ (h : Halt). Stops u h) same)
+
+never-exceeds : (w v : World) (excess : Excess)
+    → Stops w (halts.Limit (limit_of excess)) ≡ Stops v (halts.Limit which.Input) → ⊥
+never-exceeds w v TooManyFrames e = cc e
+never-exceeds w v TooManyOctets e = cc e
+
 pub never-input : (act : Act) (w v : World) → perform act w ≡ Stops v (halts.Limit which.Input) → ⊥
 never-input nothing w v e = cc e
 never-input (refuse kind) w v e = cc e
@@ -174,3 +197,7 @@ never-input (change f) w v e = cc e
 never-input (seq f g) w v e = never-both v (perform f w) (λ u. perform g u)
     (λ u first. never-input f w u first) (λ u second. never-input g u v second) e
 never-input (look f) w v e = never-input (f w) w v e
+never-input (exceed excess) w v e = never-exceeds w v excess e
+never-input (race workers control) w v e =
+    never-race workers w v (perform control (begun_race workers w))
+    (λ u first. never-input control (begun_race workers w) u first) e

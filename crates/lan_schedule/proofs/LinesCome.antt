@@ -1,5 +1,5 @@
 -- What each line performs can be performed.
-use Rattle.std.proofs.Common.{◌≡◌, ◌<◌, ◌≤◌, ◌≢◌, ℕ, ◌+◌, ◌-◌, ◌==◌, Bool, true, false}
+use Rattle.std.proofs.Common.{◌≡◌, ◌<◌, ◌≤◌, ◌≢◌, ℕ, ◌+◌, ◌==◌, Bool, true, false}
 use Rattle.std.proofs.Common.{List, [], ◌∷◌, ◌++◌, length, Option, Some, None, ◌⊎◌, inl, inr, refl}
 use Rattle.std.proofs.Common.{sym, ap, ◌∙◌, subst, length-append, arith}
 use Rattle.std.specs.Prelude.{cond, map, not, ◌&&◌, ◌||◌, nat_le, nat_lt, nat_eq, is_some, All}
@@ -33,13 +33,15 @@ use Rattle.lan_schedule.specs.declared.frames.Put.{Put}
 use Rattle.lan_schedule.specs.declared.halt.Kind.{Kind}
 use Rattle.lan_schedule.specs.declared.halt.Kind.TheVariants as kinds
 use Rattle.lan_schedule.specs.World.{World, Kept, count, settings, names_of, scis_of, is_in, place}
-use Rattle.lan_schedule.specs.Numbers.{in_range, claimed_number}
+use Rattle.lan_schedule.specs.World.{is_racing}
+use Rattle.lan_schedule.specs.Races.{number_in}
+use Rattle.lan_schedule.specs.Numbers.{in_range, stands, number_claimed}
 use Rattle.lan_core.specs.Unstopped.{next_under}
 use Rattle.lan_schedule.specs.Acts.{Act, happen, seq, unless, perform}
 use Rattle.lan_schedule.specs.Kinds.{or_else, where_, unknown, is_number, no_frame, is_performed}
 use Rattle.lan_schedule.specs.Kinds.{is_allowed, may_list, wrong_word, refusal}
 use Rattle.lan_schedule.specs.Lines.{add_user, send, chosen_by, deed, act_of, unless_refused}
-use Rattle.lan_schedule.specs.Sound.{IsTidy, IsSound, numbers_of}
+use Rattle.lan_schedule.specs.Sound.{IsTidy, numbers_of, IsSoundIn}
 use Rattle.lan_schedule.specs.inside.Comes.{Comes, named}
 use Rattle.lan_core.specs.Lives.{transmitting_at}
 use Rattle.lan_core.specs.Stops.{MayCome}
@@ -140,24 +142,26 @@ on-air number w tidy e =
 
 -- ---- tidy worlds
 
-pub sound-empty : (settings : Settings) (users : List UserFrame) → IsSound settings users []
+pub sound-empty : (racing : Bool) (settings : Settings) (users : List UserFrame)
+    → IsSoundIn racing settings users []
 unfolding births drawn_saks
-sound-empty settings users = record {
+sound-empty racing settings users = record {
   legal = record { stepped = tt; excused = tt };
   fresh = record { mis = tt; saks = tt };
   unforged = tt;
-  thrifty = tt;
+  thrifty = λ e. tt;
 }
 
 -- before the first station whatever is kept leaves a world tidy
 pub tidy-unbegun : (w v : World) → IsTidy w → w.run ≡ [] → v.run ≡ w.run
-    → v.kept.frames ≡ w.kept.frames → AreDraws (draw_at (rule_of v.kept.chosen)) → IsTidy v
+    → v.kept.frames ≡ w.kept.frames → v.kept.races ≡ w.kept.races
+    → AreDraws (draw_at (rule_of v.kept.chosen)) → IsTidy v
 unfolding air claimed
-tidy-unbegun w v tidy empty same frames draws =
+tidy-unbegun w v tidy empty same frames races draws =
     let none : v.run ≡ [] = same ∙ empty in
     record {
-      sound = subst (λ (r : Run). IsSound (settings v) v.kept.users r) (sym none)
-          (sound-empty (settings v) v.kept.users);
+      sound = subst (λ (r : Run). IsSoundIn (is_racing v.kept.phase) (settings v) v.kept.users r)
+          (sym none) (sound-empty (is_racing v.kept.phase) (settings v) v.kept.users);
       within = rw same tidy.within;
       frames = ap (λ l. map (λ put. put.number) l) frames ∙ tidy.frames
           ∙ ap (λ (r : Run). numbers_of (air r)) (sym same);
@@ -166,6 +170,7 @@ tidy-unbegun w v tidy empty same frames draws =
           (omega arith);
       waits = λ e. none;
       draws = draws;
+      dealt = rw races tidy.dealt;
     }
 
 unbegun-by : (a b : Bool) → (not a && b) ≡ true → a ≡ false
@@ -177,22 +182,23 @@ chosen-comes : (line : Line) → IsInForm line → (b : Bool) (w : World) → Is
     → IsTidy (record w { kept = record w.kept { chosen = chosen_by line w.kept.chosen } })
 chosen-comes line form b w tidy e =
     let unbegun : w.kept.begun ≡ false = unbegun-by w.kept.begun b e in
-    tidy-unbegun w _ tidy (tidy.waits unbegun) refl refl
+    tidy-unbegun w _ tidy (tidy.waits unbegun) refl refl refl
     (chosen-draws line form w.kept.chosen tidy.draws)
 
 -- what is kept and no world looks at leaves a world tidy
 pub tidy-same : (w : World) (kept : Kept) → IsTidy w → kept.chosen ≡ w.kept.chosen
     → kept.users ≡ w.kept.users
-    → kept.frames ≡ w.kept.frames → (kept.begun ≡ false → w.kept.begun ≡ false)
+    → kept.frames ≡ w.kept.frames → kept.phase ≡ w.kept.phase → kept.races ≡ w.kept.races → (kept.begun ≡ false → w.kept.begun ≡ false)
     → IsTidy (record w { kept = kept })
-tidy-same w kept tidy chosen users frames begun = record {
-  sound = rw (chosen, users) tidy.sound;
+tidy-same w kept tidy chosen users frames phase races begun = record {
+  sound = rw (chosen, users, phase) tidy.sound;
   within = tidy.within;
   frames = ap (λ (l : List Put). map (λ (put : Put). put.number) l) frames ∙ tidy.frames;
   numbered = tidy.numbered;
   in_turn = rw chosen tidy.in_turn;
   waits = λ e. tidy.waits (begun e);
   draws = rw chosen tidy.draws;
+  dealt = rw races tidy.dealt;
 }
 
 or-false : (a b : Bool) → (a || b) ≡ false → (a ≡ false) × (b ≡ false)
@@ -244,6 +250,7 @@ tidy-user user w tidy = record {
   in_turn = tidy.in_turn;
   waits = tidy.waits;
   draws = tidy.draws;
+  dealt = tidy.dealt;
 }
 
 lt-true : (a b : ℕ) → nat_lt a b ≡ true → a < b
@@ -270,6 +277,20 @@ demanded settings s r user (Some k) sendable =
     by-range (next settings s k.epoch r) user (nat_lt last_number (next settings s k.epoch r)) refl
     (one-at-least settings s k.epoch r) sendable
 
+-- a number that stands comes with its user frame
+fits-demanded : (settings : Settings) (s : ℕ) (r : Run) (user : Option UserFrame) (k : Option Key)
+    (raced b : Bool) (number : ℕ) → IsSendable user
+    → (stands raced (next_under settings s r k) number && nat_le number last_number) ≡ b
+    → IsDemanded settings s r (cond b number (in_range (next_under settings s r k))) user user k
+fits-demanded settings s r user k raced false number sendable e = demanded settings s r user k sendable
+fits-demanded settings s r user k false true number sendable e = absurd (cc e)
+fits-demanded settings s r user None true true number sendable e = absurd (cc e)
+fits-demanded settings s r user (Some k) true true number sendable e =
+    let next : next settings s k.epoch r ≤ number = grind arith in
+    let low : number ≤ last_number = grind arith in
+    let one = one-at-least settings s k.epoch r in
+    inr (omega (arith, one, next), next, low, refl, sendable)
+
 unless-comes : (b : Bool) (act : Act) (w : World) → (b ≡ false → Comes act w)
     → Comes (unless b act) w
 unless-comes true act w h = tt
@@ -282,15 +303,16 @@ claim-comes : (s : ℕ) (user : UserFrame) (w : World)
 claim-comes s user w tidy is_user there =
     let v : World = record w { kept = record w.kept { users = w.kept.users ++ user ∷ [] } } in
     let n = length v.kept.users in
-    let pn = claimed_number (settings v) s v.run in
+    let pn = number_claimed v s in
     let sendable : IsSendable (user_at v.kept.users n) =
     subst (λ (u : Option UserFrame). IsSendable u) (sym (user-at-end w.kept.users user))
     is_user in
     let may : MayCome (settings v) v.kept.users v.run (named v (events.Claim s n pn))
     (events.Claim s n pn) = (
       there,
-      demanded (settings v) s v.run (user_at v.kept.users n)
-          (transmitting_at (settings v) s v.run) sendable,
+      fits-demanded (settings v) s v.run (user_at v.kept.users n)
+          (transmitting_at (settings v) s v.run) v.kept.raced _ (number_in v.kept.chances)
+          sendable refl,
     ) in (
       (may, refl),
       is-going (perform (happen (events.Claim s n pn)) v)
@@ -332,7 +354,7 @@ deed-comes (lines.Suite suite) form w tidy right =
 deed-comes (lines.Group cak ckn) form w tidy right =
     chosen-comes (lines.Group cak ckn) form (is_none w.kept.chosen.group) w tidy right.allowed
 deed-comes (lines.Station name sci priority) form w tidy right = (
-  tidy-same w (record w.kept { begun = true }) tidy refl refl refl
+  tidy-same w (record w.kept { begun = true }) tidy refl refl refl refl refl
       (λ e. absurd (let bad : true ≡ false = e in cc)),
   λ tidy_v. (
     (let both = or-none (where_ (is_in name (names_of w.run)) kinds.NameTaken) _ right.words in
@@ -351,8 +373,8 @@ deed-comes (lines.Deliver frame name) form w tidy right =
 deed-comes (lines.Spread frame) form w tidy right =
     comes-spread frame w tidy (on-air frame w tidy right.words)
 deed-comes (lines.Lose frame) form w tidy right = tidy-marked frame w tidy
-deed-comes (lines.Cut from to) form w tidy right = tidy-same w _ tidy refl refl refl (λ e. e)
-deed-comes (lines.Mend from to) form w tidy right = tidy-same w _ tidy refl refl refl (λ e. e)
+deed-comes (lines.Cut from to) form w tidy right = tidy-same w _ tidy refl refl refl refl refl (λ e. e)
+deed-comes (lines.Mend from to) form w tidy right = tidy-same w _ tidy refl refl refl refl refl (λ e. e)
 deed-comes (lines.Restart name) form w tidy right = (known name w right.words, tt)
 deed-comes (lines.Send name destination body) form w tidy right =
     let user : UserFrame = record { destination = destination; body = body } in
@@ -366,7 +388,7 @@ deed-comes (lines.Inject name octets) form w tidy right = (
   (known name w right.words, (let few : length octets ≤ 1600 = form.fits.1.0.1 in omega arith)),
   tt,
 )
-deed-comes _ form w tidy right = tidy-same w _ tidy refl refl refl (λ e. e)
+deed-comes _ form w tidy right = tidy-same w _ tidy refl refl refl refl refl (λ e. e)
 
 pub line-comes : (line : Line) → IsInForm line → (w : World) → IsTidy w → Comes (act_of line) w
 line-comes line form w tidy =

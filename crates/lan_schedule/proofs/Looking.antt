@@ -1,6 +1,6 @@
 -- Acts that look at the world, begun from the group at work.
 use Rattle.std.proofs.Common.{◌≡◌, ℕ, ◌-◌, ◌≤◌, Bool, true, false, ◌==◌, List, length, ◌+◌, subst}
-use Rattle.std.proofs.Common.{sym, ap, ◌∙◌, arith}
+use Rattle.std.proofs.Common.{refl, sym, ap, ◌∙◌, arith}
 use Rattle.std.specs.Prelude.{Result, Ok, ◌||◌}
 use Rattle.std.proofs.lemmas.List.{length-map}
 use Rattle.lan_core.specs.Run.{Profile, stations}
@@ -20,7 +20,7 @@ use Rattle.lan_schedule.specs.Sound.{IsTidy}
 use Rattle.lan_schedule.specs.Ends.{Moment}
 use Rattle.lan_schedule.specs.World.{Flow}
 use Rattle.lan_schedule.specs.Stages.{StandsFor}
-use Rattle.lan_schedule.proofs.Doing.{Leads, look-leads, change-does}
+use Rattle.lan_schedule.proofs.Doing.{Leads, look-leads, change-does, nothing-does}
 
 -- how many stations there are
 pub stations-count : (w : World) (stage : Stage) → StandsFor w stage
@@ -83,8 +83,9 @@ pub mark-does : (number : ℕ) (old new : Moment Stage) → Flows old.value new.
     }
     → new.sink ≡ old.sink → Did StandsFor (change (mark number)) old new (Ok tt)
 mark-does number old new same flow sink =
-    change-does (mark number) old new (λ w stands tidy. record {
+    change-does (mark number) old new (λ kept. (refl, refl)) (λ w stands tidy. record {
       begun = stands.begun;
+      calm = stands.calm;
       keyed = stands.keyed;
       line = same.line ∙ stands.line;
       lag = same.lag ∙ stands.lag;
@@ -110,9 +111,10 @@ pub begin-does : (old new : Moment Stage) → Flows old.value new.value
     }
     → new.sink ≡ old.sink → Did StandsFor begin_round old new (Ok tt)
 begin-does old new same flow sink =
-    change-does (λ kept. record kept { rounds = kept.rounds + 1 }) old new
+    change-does (λ kept. record kept { rounds = kept.rounds + 1 }) old new (λ kept. (refl, refl))
     (λ w stands tidy. record {
       begun = stands.begun;
+      calm = stands.calm;
       keyed = stands.keyed;
       line = same.line ∙ stands.line;
       lag = same.lag ∙ stands.lag;
@@ -135,6 +137,12 @@ pub unless-does : (b : Bool) (act : Act) (old new : Moment Stage) (r : Result (U
     → b ≡ false → Did StandsFor act old new r → Did StandsFor (unless b act) old new r
 unless-does b act old new r e d =
     subst (λ (t : Bool). Did StandsFor (unless t act) old new r) (sym e) d
+
+-- an act that is skipped
+pub unless-skips : (b : Bool) (act : Act) (now : Moment Stage) → b ≡ true
+    → Did StandsFor (unless b act) now now (Ok tt)
+unless-skips b act now e =
+    subst (λ (t : Bool). Did StandsFor (unless t act) now now (Ok tt)) (sym e) (nothing-does now)
 
 pub pass-leads : (number from s : ℕ) (now : Moment Stage) → (s == from) ≡ false
     → is_cut from s now.value.cuts ≡ false

@@ -18,12 +18,13 @@ use Rattle.lan_schedule.specs.declared.stage.Stage.{Stage}
 use Rattle.lan_schedule.specs.declared.commands.Replay.{Replay}
 use Rattle.lan_schedule.specs.Supply.{draw_at, supply_nth}
 use Rattle.lan_schedule.specs.Settings.{settings_of, lag_of, rule_of}
+use Rattle.lan_schedule.specs.Races.{Chance, behind_numbers}
 use Rattle.lan_schedule.specs.World.{World, Kept, nothing_kept}
 use Rattle.lan_schedule.specs.Acts.{Act, look, perform, Course, Stops}
 use Rattle.lan_schedule.specs.Kinds.{first_of, is_performed, is_allowed, wrong_word, refusal}
 use Rattle.lan_schedule.specs.Lines.{choose, chosen_by, deed, act_of, unless_refused}
 use Rattle.lan_schedule.specs.Sound.{IsTidy}
-use Rattle.lan_schedule.specs.Ends.{Sunk, Moment, Ends}
+use Rattle.lan_schedule.specs.Ends.{Sunk, Moment, Ends, Onward, onward}
 use Rattle.lan_schedule.specs.Standing.{IsStaged, StandsFor, Does}
 use Rattle.lan_schedule.specs.inside.Choosing.{is_choice, IsStation}
 use Rattle.lan_schedule.specs.inside.Comes.{Did}
@@ -35,21 +36,23 @@ use Rattle.lan_schedule.proofs.Feeding.{same-act}
 use Rattle.lan_schedule.proofs.Drawing.{chosen-draws}
 
 -- what is kept when the group opens
-abbrev pub opened : Choices → ℕ → Kept
-opened chosen line = record nothing_kept { line = line; chosen = chosen; begun = true }
+abbrev pub opened : List Chance → Choices → ℕ → Kept
+opened chances chosen line =
+    record (nothing_kept chances) { line = line; chosen = chosen; begun = true }
 
-opens-there : (chosen : Choices) (line : ℕ) (stage : Stage) → is_some chosen.group ≡ true
+opens-there : (chances : List Chance) (chosen : Choices) (line : ℕ) (stage : Stage) → is_some chosen.group ≡ true
     → stage.line ≡ line → stage.lag ≡ lag_of chosen
     → ((users : List UserFrame) → GroupStandsFor (settings_of chosen) users stage.lan [])
     → ((k : ℕ) → supply_nth stage.draws k ≡ draw_at (rule_of chosen) k)
     → stage.names.items ≡ [] → stage.scis.items ≡ [] → stage.users ≡ 0
     → stage.frames ≡ record { frames = []; rounds = 0 } → stage.cuts ≡ [] → stage.numbers ≡ []
     → stage.tally ≡ counts []
-    → StageStandsFor (record { run = []; kept = opened chosen line }) stage
+    → StageStandsFor (record { run = []; kept = opened chances chosen line }) stage
 unfolding stations next
-opens-there chosen line stage keyed is_line lag lan draws names scis users frames cuts numbers
-    tally = record {
+opens-there chances chosen line stage keyed is_line lag lan draws names scis users frames cuts
+    numbers tally = record {
       begun = refl;
+      calm = refl;
       keyed = keyed;
       line = is_line;
       lag = lag;
@@ -75,10 +78,10 @@ pub opens : (w : World) (chosen : Choices) (line : ℕ) (stage : Stage) → is_s
     → StageStandsFor w stage
 opens w chosen line stage keyed opening is_line lag lan draws names scis users frames cuts numbers
     tally =
-    let same : w ≡ record { run = []; kept = opened chosen line } =
+    let same : w ≡ record { run = []; kept = opened w.kept.chances chosen line } =
     λ i. record { run = opening.empty i; kept = opening.kept i } in
     subst (λ (v : World). StageStandsFor v stage) (sym same)
-    (opens-there chosen line stage keyed is_line lag lan draws names scis users frames cuts
+    (opens-there w.kept.chances chosen line stage keyed is_line lag lan draws names scis users frames cuts
     numbers tally)
 
 -- ---- lines before the first station
@@ -115,37 +118,38 @@ unbegun-reason (lines.Inject name octets) chosen = refl
 unbegun-reason _ chosen = refl
 
 -- the world of a replay before the first station
-abbrev pub waiting : Replay → World
-waiting replay = record {
+abbrev pub waiting : List Chance → Replay → World
+waiting chances replay = record {
   run = [];
   kept =
-      record nothing_kept { line = replay.line; chosen = replay.chosen };
+      record (nothing_kept chances) { line = replay.line; chosen = replay.chosen };
 }
 
 pub is-waiting : (w : World) (replay : Replay) → StandsFor w replay → replay.stage ≡ None
-    → w ≡ waiting replay
+    → w ≡ waiting w.kept.chances replay
 is-waiting w replay stands unbegun =
     let before = subst (λ (o : Option Stage). IsStaged w replay o) unbegun stands.stage in
     λ i. record { run = before.0 i; kept = before.1 i }
 
-pub refusal-waiting : (line : Line) (replay : Replay)
-    → refusal line (waiting replay)
+pub refusal-waiting : (chances : List Chance) (line : Line) (replay : Replay)
+    → refusal line (waiting chances replay)
     ≡ first_of (is_performed line) (is_allowed line false replay.chosen) None
 unfolding stations
-refusal-waiting line replay = unbegun-reason line replay.chosen
+refusal-waiting chances line replay = unbegun-reason line replay.chosen
 
 pub unbegun-refused : (line : Line) (kind : Kind) (now : Moment Replay) → now.value.stage ≡ None
     → first_of (is_performed line) (is_allowed line false now.value.chosen) None ≡ Some kind
     → Does (act_of line) now now (Err (halts.Trace now.value.line kind))
 unbegun-refused line kind now unbegun first = record {
-  ends = λ base w reached.
+  chances = [];
+  ends = λ base w later left reached.
       let same = is-waiting w now.value reached.stands unbegun in
       let refused : refusal line w ≡ Some kind = ap (λ (v : World). refusal line v) same
-      ∙ refusal-waiting line now.value ∙ first in
+      ∙ refusal-waiting w.kept.chances line now.value ∙ first in
       let out : perform (act_of line) w ≡ Stops w (halts.Trace now.value.line kind) =
       ap (λ (o : Option Kind). perform (unless_refused o (deed line w)) w) refused
       ∙ ap (λ (n : ℕ). Stops w (halts.Trace n kind)) (ap (λ (v : World). v.kept.line) same) in
-      (w, out, reached.shown);
+      (w, out, reached.shown, ap (λ (c : List Chance). behind_numbers c) left, refl);
 }
 
 -- a line that isn't refused does what it performs
@@ -157,7 +161,7 @@ unbegun-performed line old new r unbegun first d =
     same-act (act_of line) (look (λ w. deed line w)) old new r (λ w stands.
     let same = is-waiting w old.value stands unbegun in
     let none : refusal line w ≡ None = ap (λ (v : World). refusal line v) same
-    ∙ refusal-waiting line old.value ∙ first in
+    ∙ refusal-waiting w.kept.chances line old.value ∙ first in
     ap (λ (o : Option Kind). perform (unless_refused o (deed line w)) w) none) d
 
 -- what an allowed line chooses
@@ -189,10 +193,11 @@ chosen-does line form old new unbegun still halted is_line nothing is_chosen sin
     same-act (look (λ w. deed line w)) (choose (chosen_by line)) old new (Ok tt)
     (λ w stands. ap (λ (act : Act). perform act w) (is w))
     (unbegun-does (λ kept. record kept { chosen = chosen_by line kept.chosen }) old new unbegun
-    still halted nothing
-    (λ w tidy empty. tidy-unbegun w _ tidy empty refl refl
+    still halted nothing (λ kept. (refl, refl))
+    (λ w tidy empty. tidy-unbegun w _ tidy empty refl refl refl
     (chosen-draws line form w.kept.chosen tidy.draws))
-    (λ i. record nothing_kept { line = sym is_line i; chosen = sym is_chosen i }) sink)
+    (λ chances i. record (nothing_kept chances) { line = sym is_line i; chosen = sym is_chosen i })
+    sink)
 
 -- ---- the first station
 
@@ -210,12 +215,13 @@ begun-same : (line : Line) (w : World) → IsStation line
 begun-same (lines.Station name sci priority) w station = refl
 begun-same _ w station = absurd station
 
-lift-any : (base : Sunk) (out : Course) (later : Stage) (new : Moment Replay)
+lift-any : (base : Sunk) (rest : Onward) (out : Course) (later : Stage) (new : Moment Replay)
     (r : Result (Unit {0}) Halt) → (r ≡ Ok tt → new.value.stage ≡ Some later)
-    → new.value.halted ≡ None → Ends StageStandsFor base out (staged later new.sink) r
-    → Ends StandsFor base out new r
-lift-any base out later new (Ok done) is goes h = lift base out later new (Ok done) (is refl) goes h
-lift-any base out later new (Err halt) is goes h = h
+    → new.value.halted ≡ None → Ends StageStandsFor base rest out (staged later new.sink) r
+    → Ends StandsFor base rest out new r
+lift-any base rest out later new (Ok done) is goes h =
+    lift base rest out later new (Ok done) (is refl) goes h
+lift-any base rest out later new (Err halt) is goes h = h
 
 pub opening-does : (line : Line) → IsInForm line
     → (old new : Moment Replay) (stage later : Stage) (r : Result (Unit {0}) Halt) → IsStation line
@@ -227,10 +233,11 @@ pub opening-does : (line : Line) → IsInForm line
     → (r ≡ Ok tt → new.value.stage ≡ Some later) → new.value.halted ≡ old.value.halted
     → Does (look (λ w. deed line w)) old new r
 opening-does line form old new stage later r station unbegun keyed stands d is halted = record {
-  ends = λ base w reached.
+  chances = d.chances;
+  ends = λ base w rest left reached.
       let same = is-waiting w old.value reached.stands unbegun in
       let v : World = record w { kept = record w.kept { begun = true } } in
-      let tidy = tidy-same w (record w.kept { begun = true }) reached.shown.tidy refl refl refl
+      let tidy = tidy-same w (record w.kept { begun = true }) reached.shown.tidy refl refl refl refl refl
       (λ e. absurd (let bad : true ≡ false = e in cc)) in
       let opening : IsOpening v old.value.chosen old.value.line = record {
         empty = ap (λ (u : World). u.run) same;
@@ -238,7 +245,7 @@ opening-does line form old new stage later r station unbegun keyed stands d is h
       } in
       let there : is_some v.kept.chosen.group
       ≡ true = ap (λ (u : World). is_some u.kept.chosen.group) same ∙ keyed in
-      let inner = d.ends base v (record {
+      let inner = d.ends base v rest left (record {
         stands = stands v tidy keyed opening;
         shown = record {
           tidy = tidy;
@@ -248,7 +255,7 @@ opening-does line form old new stage later r station unbegun keyed stands d is h
         };
       }) (deed-comes line form v tidy
       (station-right line v station (ap (λ (u : World). u.run) same) there)) in
-      lift-any base (perform (deed line w) w) later new r is (halted ∙ reached.stands.goes)
-      (subst (λ (out : Course). Ends StageStandsFor base out (staged later new.sink) r)
+      lift-any base (onward rest w) (perform (deed line w) w) later new r is (halted ∙ reached.stands.goes)
+      (subst (λ (out : Course). Ends StageStandsFor base (onward rest w) out (staged later new.sink) r)
       (sym (begun-same line w station)) inner);
 }

@@ -1,5 +1,5 @@
 -- A line is performed by the places of its names.
-use Rattle.std.proofs.Common.{◌≡◌, ◌≤◌, ℕ, false, nat_eq, List, length, refl, ap, ◌∙◌, arith}
+use Rattle.std.proofs.Common.{◌≡◌, ◌≤◌, ℕ, false, nat_eq, List, [], length, refl, ap, ◌∙◌, arith}
 use Rattle.std.specs.Prelude.{Result, Ok}
 use Rattle.std.specs.List.{position_or_len}
 use Rattle.std.specs.Cmp.Lexicographic.{pointwise}
@@ -90,4 +90,4 @@ default-does (lines.Lag lag) now later a b c d e f g h i j k l = absurd (cc late
 default-does (lines.Suite suite) now later a b c d e f g h i j k l = absurd (cc later)
 default-does (lines.Group cak ckn) now later a b c d e f g h i j k l = absurd (cc later)
 default-does _ now later a b c d e f g h i j k l =
-    record { ends = λ base w reached comes. (w, refl, reached) }
+    record { chances = []; ends = λ base w later is reached comes. (w, refl, reached, is, refl) }

@@ -1,5 +1,5 @@
 -- How reading ends.
-use Rattle.std.proofs.Common.{◌≡◌, ℕ, Bool, true, ◌+◌, ◌-◌, ◌<◌, ◌≤◌, List, [], ◌++◌, length, take}
+use Rattle.std.proofs.Common.{◌≡◌, ℕ, Bool, true, false, ◌+◌, ◌-◌, ◌<◌, ◌≤◌, List, [], ◌++◌, length, take}
 use Rattle.std.proofs.Common.{drop, Option, Some, None, refl, sym, ap, ◌∙◌, subst}
 use Rattle.std.proofs.Common.{append_assoc, length-append, arith}
 use Rattle.std.specs.Prelude.{Result, Ok, Err, cond, nat_le}
@@ -13,26 +13,28 @@ use Rattle.lan_schedule.specs.declared.halt.Halt.TheVariants as halts
 use Rattle.lan_schedule.specs.declared.trace.End.{End}
 use Rattle.lan_schedule.specs.declared.trace.End.TheVariants as ends
 use Rattle.lan_schedule.specs.declared.commands.Replay.{Replay}
-use Rattle.lan_schedule.specs.Texts.{ended, open_line, whole_lines, lines_of}
+use Rattle.lan_schedule.specs.Texts.{ended, open_line, whole_lines}
 use Rattle.lan_schedule.specs.World.{beginning}
 use Rattle.lan_schedule.specs.Lines.{performed_all}
-use Rattle.lan_schedule.specs.Ends.{Moment, IsReached}
+use Rattle.lan_schedule.specs.Races.{Chance}
+use Rattle.lan_schedule.specs.Acts.{Act}
+use Rattle.lan_schedule.specs.Ends.{Sunk, Moment, WasCut, EndsStopped, IsReached, Ends, onward}
 use Rattle.lan_schedule.specs.Standing.{StandsFor, Does}
-use Rattle.lan_schedule.specs.Trace.{Sourced, most_input, lines_within, IsReplayed}
+use Rattle.lan_schedule.specs.Trace.{Sourced, most_input, whole, within, course, WasBroken, WasHalted}
+use Rattle.lan_schedule.specs.Trace.{IsReplayed}
 use Rattle.lan_schedule.specs.inside.Reading.{Runs, WasDone, IsEnded, finished, limited}
 use Rattle.lan_schedule.specs.inside.Reading.{halt_of_end}
 use Rattle.lan_schedule.proofs.Feeding.{HasRead, goes-on, read-err, read-more}
 use Rattle.lan_schedule.proofs.Limits.{never-input, tidy-beginning}
 
-within-limit : (text : List ℕ) → length text ≤ most_input → lines_within text ≡ lines_of text
-within-limit text few = let e : nat_le (length text) most_input
-    ≡ true = grind arith in ap (λ (b : Bool). cond b (lines_of text)
-    (whole_lines (take most_input text))) e
+within-limit : (text : List ℕ) → length text ≤ most_input → within text ≡ whole text
+within-limit text few = let e : nat_le (length text) most_input ≡ true = grind arith in
+    ap (λ (b : Bool). cond b (whole text) (performed_all (whole_lines (take most_input text)))) e
 
 -- the whole text was read
 pub runs-finished : (text : List ℕ) (left now : Sourced) (old new : Moment Replay)
     (r : Result (Unit {0}) Halt)
-    → length text ≤ most_input → now.left ≡ Some [] → Does (performed_all (lines_of text)) old new r
+    → length text ≤ most_input → now.left ≡ Some [] → Does (whole text) old new r
     → Runs text left now old new (finished r)
 runs-finished text left now old new (Ok done) few used d = (few, used, d)
 runs-finished text left now old new (Err halt) few used d = rw (within-limit text few) d
@@ -88,7 +90,7 @@ pub runs-limited : (text : List ℕ) (total n count : ℕ) (old_source now_sourc
     → Does (performed_all (ended begun (take n into))) now next r
     → Runs text old_source now_source old next (limited r)
 runs-limited text total n count old_source now_source left old begun into now next (Ok done) h
-    within moved is_n more fits d =
+    below moved is_n more fits d =
     let le : n ≤ count = omega arith in
     let moved_less : left ≡ before (take n into)
     (before (drop n (take count into)) now_source.left) =
@@ -114,7 +116,7 @@ runs-limited text total n count old_source now_source left old begun into now ne
           (sym front) h2.done,
     )
 runs-limited text total n count old_source now_source left old begun into now next (Err halt) h
-    within moved is_n more fits d =
+    below moved is_n more fits d =
     let le : n ≤ count = omega arith in
     let moved_less : left ≡ before (take n into)
     (before (drop n (take count into)) now_source.left) =
@@ -144,59 +146,93 @@ pub after-none : (told : Option (List ℕ)) → told ≡ after told []
 after-none None = refl
 after-none (Some held) = ap (λ (l : List ℕ). Some l) (sym (append-nil held))
 
+-- a replay that stands for the beginning, whatever chance will decide
+abbrev pub IsFresh : Replay → Type 0
+IsFresh replay = (chances : List Chance) → StandsFor (beginning chances) replay
+
 -- a fresh replay has reached the beginning
-pub fresh : (now : Moment Replay) → StandsFor beginning now.value
-    → IsReached StandsFor now.sink beginning now
-fresh now stands = record {
-  stands = stands;
+pub fresh : (chances : List Chance) (now : Moment Replay) → IsFresh now.value
+    → IsReached StandsFor now.sink (beginning chances) now
+fresh chances now stands = record {
+  stands = stands chances;
   shown = record {
-    tidy = tidy-beginning;
+    tidy = tidy-beginning chances;
     written = after-none now.sink.held;
     counts =
         omega arith;
   };
 }
 
+-- what was done from the beginning on
+pub from-beginning : (act : Act) (old new : Moment Replay) (r : Result (Unit {0}) Halt)
+    → IsFresh old.value → (d : Does act old new r)
+    → Ends StandsFor old.sink (onward [] (beginning d.chances)) (course act d.chances) new r
+from-beginning act old new r stands d =
+    d.ends old.sink (beginning d.chances) [] (sym (append-nil d.chances))
+    (fresh d.chances old stands)
+
 abbrev pub halted : Result (Unit {0}) End → Result (Unit {0}) Halt
 halted (Ok done) = Ok tt
 halted (Err end) = Err (halt_of_end end)
 
+was-broken : (act : Act) (chances : List Chance) (old new : Sunk)
+    → WasCut old false (course act chances) new → WasBroken act old new
+was-broken act chances old new c =
+    (chances, c.on_the_way, c.tidy, c.same, c.begins, c.took.holds)
+
+was-halted : (act : Act) (chances : List Chance) (old new : Sunk) (halt : Halt)
+    → EndsStopped old (onward [] (beginning chances)) (course act chances) new halt
+    → WasHalted act old new halt
+was-halted act chances old new halt p = (chances, (p.0, p.1, p.2, p.4))
+
 pub is-replayed : (text : List ℕ) (left now : Sourced) (old new : Moment Replay)
-    (r : Result (Unit {0}) End) → StandsFor beginning old.value
+    (r : Result (Unit {0}) End) → IsFresh old.value
     → Runs text left now old new r → IsReplayed text left now old.sink new.sink (halted r)
 is-replayed text left now old new (Ok done) stands h =
-    let end = h.2.ends old.sink beginning (fresh old stands) in
-    (h.0, h.1, (end.0, end.1, end.2.shown))
+    let end = from-beginning (whole text) old new (Ok tt) stands h.2 in
+    (h.0, h.1, (h.2.chances, end.0, end.1, end.2.shown, end.4))
 is-replayed text left now old new (Err (ends.Halted (halts.Trace line kind))) stands h =
-    h.ends old.sink beginning (fresh old stands)
+    was-halted (within text) h.chances old.sink new.sink (halts.Trace line kind)
+    (from-beginning (within text) old new (Err (halts.Trace line kind)) stands h)
 is-replayed text left now old new (Err (ends.Halted halts.ReadFault)) stands h =
-    absurd (h.ends old.sink beginning (fresh old stands))
+    absurd (from-beginning (within text) old new (Err halts.ReadFault) stands h)
 is-replayed text left now old new (Err (ends.Halted halts.WriteFault)) stands h =
-    let end = h.ends old.sink beginning (fresh old stands) in (end.0, end.1.holds)
+    let end = from-beginning (within text) old new (Err halts.WriteFault) stands h in
+    (end.0, was-broken (within text) h.chances old.sink new.sink end.1)
 is-replayed text left now old new (Err (ends.Halted halts.Memory)) stands h =
-    (h.ends old.sink beginning (fresh old stands)).holds
+    was-broken (within text) h.chances old.sink new.sink
+    (from-beginning (within text) old new (Err halts.Memory) stands h)
 is-replayed text left now old new (Err (ends.Halted (halts.Limit which.Input))) stands h =
-    let end = h.ends old.sink beginning (fresh old stands) in
-    absurd (never-input (performed_all (lines_within text)) beginning end.0 end.1)
+    let end = from-beginning (within text) old new (Err (halts.Limit which.Input)) stands h in
+    absurd (never-input (within text) (beginning h.chances) end.0 end.1)
 is-replayed text left now old new (Err (ends.Halted (halts.Limit which.Frames))) stands h =
-    h.ends old.sink beginning (fresh old stands)
+    was-halted (within text) h.chances old.sink new.sink (halts.Limit which.Frames)
+    (from-beginning (within text) old new (Err (halts.Limit which.Frames)) stands h)
 is-replayed text left now old new (Err (ends.Halted (halts.Limit which.Octets))) stands h =
-    h.ends old.sink beginning (fresh old stands)
+    was-halted (within text) h.chances old.sink new.sink (halts.Limit which.Octets)
+    (from-beginning (within text) old new (Err (halts.Limit which.Octets)) stands h)
 is-replayed text left now old new (Err (ends.Halted (halts.Limit which.Ticks))) stands h =
-    h.ends old.sink beginning (fresh old stands)
+    was-halted (within text) h.chances old.sink new.sink (halts.Limit which.Ticks)
+    (from-beginning (within text) old new (Err (halts.Limit which.Ticks)) stands h)
 is-replayed text left now old new (Err (ends.Halted (halts.Limit which.Keys))) stands h =
-    h.ends old.sink beginning (fresh old stands)
+    was-halted (within text) h.chances old.sink new.sink (halts.Limit which.Keys)
+    (from-beginning (within text) old new (Err (halts.Limit which.Keys)) stands h)
 is-replayed text left now old new (Err (ends.Halted (halts.Limit which.Stations))) stands h =
-    h.ends old.sink beginning (fresh old stands)
+    was-halted (within text) h.chances old.sink new.sink (halts.Limit which.Stations)
+    (from-beginning (within text) old new (Err (halts.Limit which.Stations)) stands h)
 is-replayed text left now old new (Err (ends.Halted (halts.RepeatedDraw first second))) stands h =
-    h.ends old.sink beginning (fresh old stands)
+    was-halted (within text) h.chances old.sink new.sink (halts.RepeatedDraw first second)
+    (from-beginning (within text) old new (Err (halts.RepeatedDraw first second)) stands h)
 is-replayed text left now old new (Err (ends.Halted (halts.Forged line))) stands h =
-    h.ends old.sink beginning (fresh old stands)
+    was-halted (within text) h.chances old.sink new.sink (halts.Forged line)
+    (from-beginning (within text) old new (Err (halts.Forged line)) stands h)
 is-replayed text left now old new (Err ends.ReadFault) stands h =
-    let end = h.1.2.ends old.sink beginning (fresh old stands) in
-    (h.0, (h.1.0, h.1.1, (end.0, end.1, end.2.shown)))
+    let end = from-beginning (performed_all (whole_lines h.1.0)) old new (Ok tt) stands h.1.2 in
+    (h.0, (h.1.0, h.1.1, (h.1.2.chances, end.0, end.1, end.2.shown, end.4)))
 is-replayed text left now old new (Err ends.Input) stands h =
-    let end = h.1.ends old.sink beginning (fresh old stands) in (h.0, (end.0, end.1, end.2.shown))
+    let end = from-beginning (performed_all (whole_lines (take most_input text))) old new (Ok tt)
+    stands h.1 in
+    (h.0, (h.1.chances, end.0, end.1, end.2.shown, end.4))
 
 -- ---- whatever the source tells
 
@@ -219,11 +255,11 @@ limited-reads (Ok done) e = cc e
 limited-reads (Err halt) e = cc e
 
 -- a fault of the sink shows in its count
-pub wrote-badly : (old new : Moment Replay) (end : End) → StandsFor beginning old.value
+pub wrote-badly : (old new : Moment Replay) (end : End) → IsFresh old.value
     → IsEnded old new (Err end)
     → halt_of_end end ≡ halts.WriteFault → Rose old.sink.faults new.sink.faults
 wrote-badly old new (ends.Halted halts.WriteFault) stands was e =
-    (was.done.ends old.sink beginning (fresh old stands)).0
+    (from-beginning was.act old new (Err halts.WriteFault) stands was.done).0
 wrote-badly old new (ends.Halted (halts.Trace line kind)) stands was e = absurd (cc e)
 wrote-badly old new (ends.Halted halts.ReadFault) stands was e = absurd (cc e)
 wrote-badly old new (ends.Halted halts.Memory) stands was e = absurd (cc e)
@@ -234,29 +270,29 @@ wrote-badly old new ends.ReadFault stands was e = absurd (cc e)
 wrote-badly old new ends.Input stands was e = absurd (cc e)
 
 -- the sink's count never falls
-pub writes : (old new : Moment Replay) (r : Result (Unit {0}) End) → StandsFor beginning old.value
+pub writes : (old new : Moment Replay) (r : Result (Unit {0}) End) → IsFresh old.value
     → IsEnded old new r
     → old.sink.faults ≤ new.sink.faults
 writes old new (Ok done) stands was =
-    (was.done.ends old.sink beginning (fresh old stands)).2.shown.counts
+    (from-beginning was.act old new (Ok tt) stands was.done).2.shown.counts
 writes old new (Err (ends.Halted (halts.Trace line kind))) stands was =
-    (was.done.ends old.sink beginning (fresh old stands)).2.counts
+    (from-beginning was.act old new (Err (halts.Trace line kind)) stands was.done).2.counts
 writes old new (Err (ends.Halted halts.ReadFault)) stands was =
-    absurd (was.done.ends old.sink beginning (fresh old stands))
+    absurd (from-beginning was.act old new (Err halts.ReadFault) stands was.done)
 writes old new (Err (ends.Halted halts.WriteFault)) stands was =
-    (was.done.ends old.sink beginning (fresh old stands)).1.counts
+    (from-beginning was.act old new (Err halts.WriteFault) stands was.done).1.took.counts
 writes old new (Err (ends.Halted halts.Memory)) stands was =
-    (was.done.ends old.sink beginning (fresh old stands)).counts
+    (from-beginning was.act old new (Err halts.Memory) stands was.done).took.counts
 writes old new (Err (ends.Halted (halts.Limit which))) stands was =
-    (was.done.ends old.sink beginning (fresh old stands)).2.counts
+    (from-beginning was.act old new (Err (halts.Limit which)) stands was.done).2.counts
 writes old new (Err (ends.Halted (halts.RepeatedDraw first second))) stands was =
-    (was.done.ends old.sink beginning (fresh old stands)).2.counts
+    (from-beginning was.act old new (Err (halts.RepeatedDraw first second)) stands was.done).2.counts
 writes old new (Err (ends.Halted (halts.Forged line))) stands was =
-    (was.done.ends old.sink beginning (fresh old stands)).2.counts
+    (from-beginning was.act old new (Err (halts.Forged line)) stands was.done).2.counts
 writes old new (Err ends.ReadFault) stands was =
-    (was.done.ends old.sink beginning (fresh old stands)).2.shown.counts
+    (from-beginning was.act old new (Ok tt) stands was.done).2.shown.counts
 writes old new (Err ends.Input) stands was =
-    (was.done.ends old.sink beginning (fresh old stands)).2.shown.counts
+    (from-beginning was.act old new (Ok tt) stands was.done).2.shown.counts
 
 -- an error of either kind
 abbrev pub ending : End → Result (Unit {0}) End
@@ -267,11 +303,11 @@ halting halt = Err halt
 
 -- a fault of the source is one, and no line's
 pub read-badly : (old new : Moment Replay) (before now : ℕ) (end : End)
-    → StandsFor beginning old.value → IsEnded old new (Err end)
+    → IsFresh old.value → IsEnded old new (Err end)
     → (ending end ≡ Err ends.ReadFault → Rose before now) → halt_of_end end ≡ halts.ReadFault
     → Rose before now
 read-badly old new before now (ends.Halted halts.ReadFault) stands was rose e =
-    absurd (was.done.ends old.sink beginning (fresh old stands))
+    absurd (from-beginning was.act old new (Err halts.ReadFault) stands was.done)
 read-badly old new before now ends.ReadFault stands was rose e = rose refl
 read-badly old new before now (ends.Halted (halts.Trace line kind)) stands was rose e =
     absurd (cc e)

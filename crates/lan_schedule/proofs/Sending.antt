@@ -1,5 +1,5 @@
 -- Lines that change little, and user data that is sent.
-use Rattle.std.proofs.Common.{◌≡◌, ℕ, ◌+◌, ◌-◌, ◌==◌, Bool, true, List, []}
+use Rattle.std.proofs.Common.{◌≡◌, ℕ, ◌+◌, ◌==◌, Bool, true, List, []}
 use Rattle.std.proofs.Common.{◌∷◌, ◌++◌, length, Some, refl, sym, ap, ◌∙◌, subst}
 use Rattle.std.proofs.Common.{length-append, arith}
 use Rattle.std.specs.Prelude.{Result, Ok, Err}
@@ -11,20 +11,22 @@ use Rattle.lan_schedule.specs.declared.halt.Halt.{Halt}
 use Rattle.lan_schedule.specs.declared.links.Link.{Link}
 use Rattle.lan_schedule.specs.declared.stage.Stage.{Stage}
 use Rattle.lan_schedule.specs.World.{World, settings, with_link, without_link}
-use Rattle.lan_schedule.specs.Numbers.{claimed_number, TellNext}
-use Rattle.lan_schedule.specs.Acts.{Act, happen, change, seq, perform, Course, Goes}
+use Rattle.lan_schedule.specs.Numbers.{claimed_number, TellNext, number_claimed}
+use Rattle.lan_schedule.specs.Acts.{Act, happen, seq, perform, Course, Goes}
+use Rattle.lan_schedule.specs.Races.{Chance}
 use Rattle.lan_schedule.specs.Acts.{and_then, unless}
 use Rattle.lan_schedule.specs.Lines.{begin, begin_line, add_user, send, claim, link_cut}
 use Rattle.lan_schedule.specs.Lines.{link_mended}
 use Rattle.lan_schedule.specs.Sound.{IsTidy}
-use Rattle.lan_schedule.specs.Ends.{Sunk, Moment, IsReached, Ends}
+use Rattle.lan_schedule.specs.Ends.{Sunk, Moment, IsReached, Ends, onward}
 use Rattle.lan_schedule.specs.inside.Comes.{Comes, Did, IsGoing}
 use Rattle.lan_schedule.specs.Stages.{StandsFor}
 use Rattle.lan_schedule.specs.inside.Staged.{Happened}
 use Rattle.lan_schedule.specs.Supply.{supply_nth}
 use Rattle.lan_core.proofs.Public.{stands-more}
 use Rattle.lan_schedule.proofs.Users.{user-at-end}
-use Rattle.lan_schedule.proofs.Doing.{change-does, ends-early}
+use Rattle.lan_schedule.proofs.Calm.{calm-claimed}
+use Rattle.lan_schedule.proofs.Doing.{change-does, ends-early, both-chances, same-phase}
 
 -- all but lines, users and links is as before
 pub record IsSame (old new : Stage) : Type 0 where
@@ -61,6 +63,7 @@ pub stands-with : (w : World) (line : ℕ) (users : List UserFrame) (cuts : List
 stands-with w line users cuts begun old new stands same is_line is_users is_cuts is_begun lan =
     record {
       begun = is_begun;
+      calm = stands.calm;
       keyed = stands.keyed;
       line = is_line;
       lag = same.lag ∙ stands.lag;
@@ -80,7 +83,7 @@ pub cut-does : (from to : ℕ) (old new : Moment Stage) → IsSame old.value new
     → new.value.line ≡ old.value.line → new.value.users ≡ old.value.users
     → new.value.cuts ≡ with_link from to old.value.cuts → new.sink ≡ old.sink
     → Did StandsFor (link_cut from to) old new (Ok tt)
-cut-does from to old new same line users cuts sink = change-does _ old new (λ w stands tidy.
+cut-does from to old new same line users cuts sink = change-does _ old new (λ kept. (refl, refl)) (λ w stands tidy.
     stands-with w w.kept.line w.kept.users (with_link from to w.kept.cuts) w.kept.begun old.value
     new.value stands same (line ∙ stands.line) (users ∙ stands.users)
     (cuts ∙ ap (λ (l : List Link). with_link from to l) stands.cuts) stands.begun stands.lan) sink
@@ -89,7 +92,7 @@ pub mend-does : (from to : ℕ) (old new : Moment Stage) → IsSame old.value ne
     → new.value.line ≡ old.value.line → new.value.users ≡ old.value.users
     → new.value.cuts ≡ without_link from to old.value.cuts → new.sink ≡ old.sink
     → Did StandsFor (link_mended from to) old new (Ok tt)
-mend-does from to old new same line users cuts sink = change-does _ old new (λ w stands tidy.
+mend-does from to old new same line users cuts sink = change-does _ old new (λ kept. (refl, refl)) (λ w stands tidy.
     stands-with w w.kept.line w.kept.users (without_link from to w.kept.cuts) w.kept.begun old.value
     new.value stands same (line ∙ stands.line) (users ∙ stands.users)
     (cuts ∙ ap (λ (l : List Link). without_link from to l) stands.cuts) stands.begun stands.lan)
@@ -97,7 +100,7 @@ mend-does from to old new same line users cuts sink = change-does _ old new (λ 
 
 -- a station came already
 pub begin-does : (now : Moment Stage) → Did StandsFor begin now now (Ok tt)
-begin-does now = change-does _ now now (λ w stands tidy.
+begin-does now = change-does _ now now (λ kept. (refl, refl)) (λ w stands tidy.
     stands-with w w.kept.line w.kept.users w.kept.cuts true now.value now.value stands
     (same-self now.value) stands.line stands.users stands.cuts refl stands.lan) refl
 
@@ -105,7 +108,7 @@ pub line-does : (number : ℕ) (old new : Moment Stage) → IsSame old.value new
     → new.value.line ≡ number → new.value.users ≡ old.value.users
     → new.value.cuts ≡ old.value.cuts → new.sink ≡ old.sink
     → Did StandsFor (begin_line number) old new (Ok tt)
-line-does number old new same line users cuts sink = change-does _ old new (λ w stands tidy.
+line-does number old new same line users cuts sink = change-does _ old new (λ kept. (refl, refl)) (λ w stands tidy.
     stands-with w number w.kept.users w.kept.cuts w.kept.begun old.value new.value stands same line
     (users ∙ stands.users) (cuts ∙ stands.cuts) stands.begun stands.lan) sink
 
@@ -141,57 +144,67 @@ user-reached user base w old mid reached tidy same line users cuts sink =
     }
 
 -- what a station claims and emits, in the world in which its user frame is named
-pub send-does : (s n pn : ℕ) (user : UserFrame) (old mid new : Moment Stage)
+pub send-does : (s n pn : ℕ) (user : UserFrame) (chances : List Chance) (old mid new : Moment Stage)
     (r : Result (Unit {0}) Halt)
     → ((base : Sunk) (w : World) → IsReached StandsFor base w old → IsTidy (with_user user w)
     → IsReached StandsFor base (with_user user w) mid)
     → ((w : World) → StandsFor w mid.value → (n ≡ length w.kept.users)
     × (pn ≡ claimed_number (settings w) s w.run))
-    → ((base : Sunk) (w : World) → IsReached StandsFor base w mid
+    → ((base : Sunk) (w : World) (later : List Chance) → w.kept.chances ≡ chances ++ later
+    → IsReached StandsFor base w mid
     → Some user ≡ user_at w.kept.users n → Comes (claim s n pn) w
-    → Ends StandsFor base (perform (claim s n pn) w) new r)
+    → Ends StandsFor base (onward later w) (perform (claim s n pn) w) new r)
     → Did StandsFor (seq (add_user user) (send s)) old new r
-send-does s n pn user old mid new r reach is done = record {
-  ends = λ base w reached comes.
+send-does s n pn user chances old mid new r reach is done = record {
+  chances = chances;
+  ends = λ base w later left reached comes.
       let v = with_user user w in
       let tidy : IsTidy v = comes.0 in
       let reached_v = reach base w reached tidy in
       let same = is v reached_v.stands in
-      let now : Act = claim s (length v.kept.users) (claimed_number (settings v) s v.run) in
+      let number : pn ≡ number_claimed v s =
+      same.1 ∙ sym (calm-claimed v s reached_v.stands.calm) in
+      let now : Act = claim s (length v.kept.users) (number_claimed v s) in
       let e : claim s n pn ≡ now = ap (λ (k : ℕ). claim s k pn) same.0
-      ∙ ap (λ (k : ℕ). claim s (length v.kept.users) k) same.1 in
+      ∙ ap (λ (k : ℕ). claim s (length v.kept.users) k) number in
       let comes_v : Comes now v = comes.1 tidy in
       let named : Some user ≡ user_at v.kept.users n = sym (user-at-end w.kept.users user)
       ∙ ap (λ (k : ℕ). user_at v.kept.users k) (sym same.0) in
-      subst (λ (act : Act). Ends StandsFor base (perform act v) new r) e
-      (done base v reached_v named (subst (λ (act : Act). Comes act v) (sym e) comes_v));
+      subst (λ (act : Act). Ends StandsFor base (onward later w) (perform act v) new r) e
+      (done base v later left reached_v named
+      (subst (λ (act : Act). Comes act v) (sym e) comes_v));
 }
 
 -- the claim ended early
 pub claim-err : (s n pn : ℕ) (user : UserFrame) (mid new : Moment Stage) (e : Halt)
-    → Happened (Some user) (events.Claim s n pn) mid new (Err e)
-    → (base : Sunk) (w : World) → IsReached StandsFor base w mid
+    → (h : Happened (Some user) (events.Claim s n pn) mid new (Err e))
+    → (base : Sunk) (w : World) (later : List Chance) → w.kept.chances ≡ h.chances ++ later
+    → IsReached StandsFor base w mid
     → Some user ≡ user_at w.kept.users n → Comes (claim s n pn) w
-    → Ends StandsFor base (perform (claim s n pn) w) new (Err e)
-claim-err s n pn user mid new e h base w reached named comes =
-    ends-early base new.sink (perform (happen (events.Claim s n pn)) w)
-    (unless (pn == 0) (happen events.Emit)) e (h.ends base w reached named comes.0)
+    → Ends StandsFor base (onward later w) (perform (claim s n pn) w) new (Err e)
+claim-err s n pn user mid new e h base w later left reached named comes =
+    ends-early base new.sink (onward later w) (perform (happen (events.Claim s n pn)) w)
+    (unless (pn == 0) (happen events.Emit)) e (h.ends base w later left reached named comes.0)
 
 going : (out : Course) (w : World) (P : World → Type 0) → out ≡ Goes w → IsGoing out P → P w
 going out w P e h = subst (λ (o : Course). IsGoing o P) e h
 
 -- the claim was made, and then the emission ended so
 pub claim-ok : (s n pn : ℕ) (user : UserFrame) (mid now new : Moment Stage)
-    (r : Result (Unit {0}) Halt) → Happened (Some user) (events.Claim s n pn) mid now (Ok tt)
-    → Did StandsFor (unless (pn == 0) (happen events.Emit)) now new r
-    → (base : Sunk) (w : World) → IsReached StandsFor base w mid
+    (r : Result (Unit {0}) Halt) → (h : Happened (Some user) (events.Claim s n pn) mid now (Ok tt))
+    → (d : Did StandsFor (unless (pn == 0) (happen events.Emit)) now new r)
+    → (base : Sunk) (w : World) (later : List Chance)
+    → w.kept.chances ≡ (h.chances ++ d.chances) ++ later → IsReached StandsFor base w mid
     → Some user ≡ user_at w.kept.users n → Comes (claim s n pn) w
-    → Ends StandsFor base (perform (claim s n pn) w) new r
-claim-ok s n pn user mid now new r h d base w reached named comes =
-    let first = h.ends base w reached named comes.0 in
+    → Ends StandsFor base (onward later w) (perform (claim s n pn) w) new r
+claim-ok s n pn user mid now new r h d base w later left reached named comes =
+    let first = h.ends base w (d.chances ++ later)
+    (both-chances w.kept.chances h.chances d.chances later left) reached named comes.0 in
     let emit : Act = unless (pn == 0) (happen events.Emit) in
-    let later : Comes emit first.0 =
+    let comes_later : Comes emit first.0 =
     going (perform (happen (events.Claim s n pn)) w) first.0 (λ v. IsTidy v → Comes emit v)
     first.1 comes.1 first.2.shown.tidy in
-    subst (λ (out : Course). Ends StandsFor base (and_then out (λ v. perform emit v)) new r)
-    (sym first.1) (d.ends base first.0 first.2 later)
+    subst (λ (out : Course).
+    Ends StandsFor base (onward later w) (and_then out (λ v. perform emit v)) new r) (sym first.1)
+    (same-phase StandsFor base later (perform emit first.0) new r w first.0 first.4
+    (d.ends base first.0 later first.3 first.2 comes_later))

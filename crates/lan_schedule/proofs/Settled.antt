@@ -28,10 +28,12 @@ use Rattle.lan_core.proofs.Public.{number-frame, in-a-life}
 use Rattle.lan_schedule.specs.declared.choices.Choices.{Choices}
 use Rattle.lan_schedule.specs.Settings.{settings_of}
 use Rattle.lan_schedule.specs.World.{World, Kept, settings, count, sender, mark}
-use Rattle.lan_schedule.specs.Numbers.{shown_next, claimed_number}
+use Rattle.lan_schedule.specs.Numbers.{shown_next, number_claimed}
+use Rattle.lan_schedule.proofs.Calm.{calm-shown, calm-claimed}
 use Rattle.lan_schedule.specs.Answers.{supply, answered, facts_shown}
 use Rattle.lan_schedule.specs.Acts.{Act, nothing, refuse, happen, change, seq, look, perform, each}
 use Rattle.lan_schedule.specs.Acts.{Course, Goes, Stops, shown, and_then, span, times, unless}
+use Rattle.lan_schedule.specs.Acts.{exceed, race}
 use Rattle.lan_schedule.specs.Acts.{world_of, world_after}
 use Rattle.lan_schedule.specs.Lines.{tick, round, pass, to_others, spread, is_passed_by, due}
 use Rattle.lan_schedule.specs.Lines.{flow_round, send}
@@ -123,6 +125,7 @@ pub record IsAside (old new : Kept) : Type 0 where
   pub chosen : new.chosen ≡ old.chosen
   pub users : new.users ≡ old.users
   pub begun : new.begun ≡ old.begun
+  pub raced : new.raced ≡ old.raced
 
 -- an event has fields of their types, where at most so many user frames were sent
 abbrev pub IsFit : ℕ → Event → Type 0
@@ -139,12 +142,15 @@ IsMild n (happen event) = IsFit n event
 IsMild n (change f) = (kept : Kept) → IsAside kept (f kept)
 IsMild n (seq first later) = IsMild n first × IsMild n later
 IsMild n (look act) = (w : World) → length w.kept.users ≤ n → IsMild n (act w)
+IsMild n (exceed excess) = Unit {0}
+IsMild n (race workers control) = ⊥
 
 -- a tidy world after the first station, with these choices and at most so many user frames
 pub record IsOpen (n : ℕ) (chosen : Choices) (w : World) : Type 0 where
   pub same : w.kept.chosen ≡ chosen
   pub users : length w.kept.users ≤ n
   pub begun : w.kept.begun ≡ true
+  pub calm : w.kept.raced ≡ false
   pub bounded : AreBounded (settings w) w.run
   pub tidy : IsTidy w
 
@@ -155,16 +161,17 @@ takes-number : (n : ℕ) (b : Bool) → nat_lt last_number n ≡ b → cond b 0 
 takes-number n true e = omega arith
 takes-number n false e = not-below last_number n e
 
-takes-one : (w : World) (event : Event) → IsExact w event → TakesOne event
-takes-one w (events.Claim s user pn) exact =
+takes-one : (w : World) (event : Event) → w.kept.raced ≡ false → IsExact w event → TakesOne event
+takes-one w (events.Claim s user pn) calm exact =
     let n = shown_next (settings w) s w.run in
-    subst (λ (m : ℕ). m ≤ last_number) (sym exact) (takes-number n (nat_lt last_number n) refl)
-takes-one w (events.Start name sci priority) exact = tt
-takes-one w (events.Tick s next) exact = tt
-takes-one w (events.Deliver frame s) exact = tt
-takes-one w (events.Restart s) exact = tt
-takes-one w events.Emit exact = tt
-takes-one w (events.Inject s octets) exact = tt
+    subst (λ (m : ℕ). m ≤ last_number) (sym (exact ∙ calm-claimed w s calm))
+    (takes-number n (nat_lt last_number n) refl)
+takes-one w (events.Start name sci priority) calm exact = tt
+takes-one w (events.Tick s next) calm exact = tt
+takes-one w (events.Deliver frame s) calm exact = tt
+takes-one w (events.Restart s) calm exact = tt
+takes-one w events.Emit calm exact = tt
+takes-one w (events.Inject s octets) calm exact = tt
 
 few-stations : (s : ℕ) (w : World) → IsTidy w → Exists s w.run → s < 2 ^ 8
 few-stations s w tidy there = let few = tidy.within.stations in omega (arith, few, there)
@@ -179,7 +186,7 @@ is-typed : (n : ℕ) (chosen : Choices) (w : World) (event : Event) → n < 2 ^ 
 is-typed n chosen w (events.Start name sci priority) below fit now comes = fit
 is-typed n chosen w (events.Tick s next) below fit now comes = (
   few-stations s w now.tidy comes.0.0,
-  subst (λ (m : ℕ). m < 2 ^ 64) (sym comes.1)
+  subst (λ (m : ℕ). m < 2 ^ 64) (sym (comes.1 ∙ calm-shown w s now.calm))
       (under-fits (settings w) s w.run (transmitting_at (settings w) s w.run) now.bounded),
 )
 is-typed n chosen w (events.Deliver frame s) below fit now comes =
@@ -189,7 +196,7 @@ is-typed n chosen w (events.Deliver frame s) below fit now comes =
     (omega (arith, number.1, few), few-stations s w now.tidy comes.0.0)
 is-typed n chosen w (events.Restart s) below fit now comes = few-stations s w now.tidy comes.0
 is-typed n chosen w (events.Claim s user pn) below fit now comes =
-    let one = takes-one w (events.Claim s user pn) comes.1 in (
+    let one = takes-one w (events.Claim s user pn) now.calm comes.1 in (
       few-stations s w now.tidy comes.0.0,
       omega (arith, below, fit),
       omega (arith, one),
@@ -215,10 +222,12 @@ happened-open n chosen event w below setting fit now comes goes =
       same = now.same;
       users = now.users;
       begun = now.begun;
+      calm = now.calm;
       bounded = stays-bounded (settings w) w.kept.users w.run event
           (drawn_from (settings w).suite (supply w)) (facts_shown w event) now.bounded
-          (leaves-none w event comes.1) (takes-one w event comes.1) shows;
-      tidy = tidy-after w event (facts_shown w event) now.tidy comes typed set goes shows now.begun;
+          (leaves-none w event now.calm comes.1) (takes-one w event now.calm comes.1) shows;
+      tidy = tidy-after w event (facts_shown w event) now.tidy comes typed set goes shows now.begun
+          now.calm;
     }
 
 event-open : (n : ℕ) (chosen : Choices) (event : Event) (w : World) → n < 2 ^ 32
@@ -238,6 +247,7 @@ change-open n chosen f w aside now tidy = record {
   same = aside.chosen ∙ now.same;
   users = subst (λ (us : List UserFrame). length us ≤ n) (sym aside.users) now.users;
   begun = aside.begun ∙ now.begun;
+  calm = aside.raced ∙ now.calm;
   bounded = subst (λ (c : Choices). AreBounded (settings_of c) w.run) (sym aside.chosen)
       now.bounded;
   tidy = tidy;
@@ -267,6 +277,8 @@ stays-open n chosen below setting (seq first later) w mild now comes =
     (λ v open_v comes_v. stays-open n chosen below setting later v mild.1 open_v comes_v)
 stays-open n chosen below setting (look act) w mild now comes =
     stays-open n chosen below setting (act w) w (mild w now.users) now comes
+stays-open n chosen below setting (exceed excess) w mild now comes = now
+stays-open n chosen below setting (race workers control) w mild now comes = absurd mild
 
 -- ---- mild acts
 
@@ -305,7 +317,7 @@ mild-to_others n number from = λ w few.
     mild-span n (pass number from) 0 (count w) (λ s. mild-pass n number from s)
 
 pub mild-mark : (n number : ℕ) → IsMild n (change (mark number))
-mild-mark n number = λ kept. record { chosen = refl; users = refl; begun = refl }
+mild-mark n number = λ kept. record { chosen = refl; users = refl; begun = refl; raced = refl }
 
 pub mild-spread : (n number : ℕ) → IsMild n (spread number)
 mild-spread n number = λ w few.
@@ -313,7 +325,7 @@ mild-spread n number = λ w few.
 
 mild-flow_round : (n : ℕ) → IsMild n flow_round
 mild-flow_round n = (
-  λ kept. record { chosen = refl; users = refl; begun = refl },
+  λ kept. record { chosen = refl; users = refl; begun = refl; raced = refl },
   (mild-round n, λ w few. mild-each n spread (due w) (λ number. mild-spread n number)),
 )
 
@@ -323,5 +335,5 @@ mild-flow n rounds = mild-span n (λ _. flow_round) 0 rounds (λ k. mild-flow_ro
 pub mild-send : (n s : ℕ) → IsMild n (send s)
 mild-send n s = λ w few. (
   few,
-  mild-unless n (claimed_number (settings w) s w.run == 0) (happen events.Emit) tt,
+  mild-unless n (number_claimed w s == 0) (happen events.Emit) tt,
 )

@@ -1,14 +1,15 @@
 -- A replay before its first station, and with a group at work.
-use Rattle.std.proofs.Common.{◌≡◌, [], Option, Some, None, refl, sym}
+use Rattle.std.proofs.Common.{◌≡◌, List, [], Option, Some, None, refl, sym}
 use Rattle.std.proofs.Common.{ap, ◌∙◌, subst, arith}
 use Rattle.std.specs.Prelude.{Result, Ok, Err}
 use Rattle.lan_schedule.specs.declared.halt.Halt.{Halt}
 use Rattle.lan_schedule.specs.declared.stage.Stage.{Stage}
 use Rattle.lan_schedule.specs.declared.commands.Replay.{Replay}
-use Rattle.lan_schedule.specs.World.{World, Kept, nothing_kept}
+use Rattle.lan_schedule.specs.World.{World, Kept, nothing_kept, is_racing}
 use Rattle.lan_schedule.specs.Acts.{Act, change, perform, Course}
+use Rattle.lan_schedule.specs.Races.{Chance}
 use Rattle.lan_schedule.specs.Sound.{IsTidy}
-use Rattle.lan_schedule.specs.Ends.{Sunk, Moment, Ends}
+use Rattle.lan_schedule.specs.Ends.{Sunk, Moment, Ends, Onward, onward}
 use Rattle.lan_schedule.specs.Standing.{IsStaged, StandsFor, Does}
 use Rattle.lan_schedule.specs.inside.Comes.{Comes, Did}
 use Rattle.lan_schedule.specs.Stages.{StandsFor as StageStandsFor}
@@ -17,11 +18,11 @@ use Rattle.lan_schedule.specs.Stages.{StandsFor as StageStandsFor}
 abbrev pub staged : Stage → Sunk → Moment Stage
 staged stage sink = record { value = stage; sink = sink }
 
-pub lift : (base : Sunk) (out : Course) (stage : Stage) (new : Moment Replay)
-    (r : Result (Unit {0}) Halt) → new.value.stage ≡ Some stage
-    → new.value.halted ≡ None → Ends StageStandsFor base out (staged stage new.sink) r
-    → Ends StandsFor base out new r
-lift base out stage new (Ok done) is goes h = (
+pub lift : (base : Sunk) (later : Onward) (out : Course) (stage : Stage)
+    (new : Moment Replay) (r : Result (Unit {0}) Halt) → new.value.stage ≡ Some stage
+    → new.value.halted ≡ None → Ends StageStandsFor base later out (staged stage new.sink) r
+    → Ends StandsFor base later out new r
+lift base later out stage new (Ok done) is goes h = (
   h.0,
   h.1,
   record {
@@ -32,8 +33,10 @@ lift base out stage new (Ok done) is goes h = (
     };
     shown = h.2.shown;
   },
+  h.3,
+  h.4,
 )
-lift base out stage new (Err halt) is goes h = h
+lift base later out stage new (Err halt) is goes h = h
 
 -- what a group at work did, the replay did
 pub staged-does : (act : Act) (old new : Moment Replay) (stage later : Stage)
@@ -42,24 +45,28 @@ pub staged-does : (act : Act) (old new : Moment Replay) (stage later : Stage)
     → new.value.stage ≡ Some later → new.value.halted ≡ old.value.halted
     → Did StageStandsFor act (staged stage old.sink) (staged later new.sink) r → Does act old new r
 staged-does act old new stage later r comes is_old is_new halted d = record {
-  ends = λ base w reached.
+  chances = d.chances;
+  ends = λ base w rest left reached.
       let inner : StageStandsFor w stage =
       subst (λ (o : Option Stage). IsStaged w old.value o) is_old reached.stands.stage in
-      lift base (perform act w) later new r is_new (halted ∙ reached.stands.goes)
-      (d.ends base w (record { stands = inner; shown = reached.shown })
+      lift base (onward rest w) (perform act w) later new r is_new (halted ∙ reached.stands.goes)
+      (d.ends base w rest left (record { stands = inner; shown = reached.shown })
       (comes w reached.shown.tidy));
 }
 
 -- before the first station, what is kept changes
 pub unbegun-does : (f : Kept → Kept) (old new : Moment Replay) → old.value.stage ≡ None
     → new.value.stage ≡ None → new.value.halted ≡ old.value.halted
-    → new.value.nothing ≡ old.value.nothing
+    → new.value.nothing ≡ old.value.nothing → ((kept : Kept) → ((f kept).chances ≡ kept.chances)
+    × (is_racing (f kept).phase ≡ is_racing kept.phase))
     → ((w : World) → IsTidy w → w.run ≡ [] → IsTidy (record w { kept = f w.kept }))
-    → (f (record nothing_kept { line = old.value.line; chosen = old.value.chosen })
-    ≡ record nothing_kept { line = new.value.line; chosen = new.value.chosen })
+    → ((chances : List Chance)
+    → f (record (nothing_kept chances) { line = old.value.line; chosen = old.value.chosen })
+    ≡ record (nothing_kept chances) { line = new.value.line; chosen = new.value.chosen })
     → new.sink ≡ old.sink → Does (change f) old new (Ok tt)
-unbegun-does f old new is_old is_new halted nothing tidied same sink = record {
-  ends = λ base w reached.
+unbegun-does f old new is_old is_new halted nothing keeps tidied same sink = record {
+  chances = [];
+  ends = λ base w later left reached.
       let before = subst (λ (o : Option Stage). IsStaged w old.value o) is_old
       reached.stands.stage in
       let v : World = record w { kept = f w.kept } in (
@@ -68,8 +75,15 @@ unbegun-does f old new is_old is_new halted nothing tidied same sink = record {
         record {
           stands = record {
             goes = halted ∙ reached.stands.goes;
-            stage = subst (λ (o : Option Stage). IsStaged v new.value o) (sym is_new)
-                (before.0, ap (λ (k : Kept). f k) before.1 ∙ same, nothing ∙ before.2);
+            stage = subst (λ (o : Option Stage). IsStaged v new.value o) (sym is_new) (
+              before.0,
+              ap (λ (k : Kept). f k) before.1 ∙ same w.kept.chances
+                  ∙ ap (λ (c : List Chance). record (nothing_kept c) {
+                    line = new.value.line;
+                    chosen = new.value.chosen;
+                  }) (sym (keeps w.kept).0),
+              nothing ∙ before.2,
+            );
           };
           shown = record {
             tidy = tidied w reached.shown.tidy before.0;
@@ -79,6 +93,8 @@ unbegun-does f old new is_old is_new halted nothing tidied same sink = record {
                 omega (arith, reached.shown.counts);
           };
         },
+        (keeps w.kept).0 ∙ left,
+        (keeps w.kept).1,
       );
 }
 

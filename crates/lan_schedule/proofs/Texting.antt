@@ -1,5 +1,5 @@
 -- The text of a line is performed.
-use Rattle.std.proofs.Common.{◌≡◌, ℕ, ◌+◌, List, Option, Some, None, refl, sym, ap, ◌∙◌}
+use Rattle.std.proofs.Common.{◌≡◌, ℕ, ◌+◌, List, Option, Some, None, refl, sym, ap, ◌∙◌, []}
 use Rattle.std.specs.Prelude.{Result, Ok, Err}
 use Rattle.trace_text.specs.declared.fault.TextFault.{TextFault}
 use Rattle.trace_text.specs.declared.line.Line.{Line}
@@ -13,6 +13,7 @@ use Rattle.lan_schedule.specs.Acts.{Act, look, perform, Goes, Stops}
 use Rattle.lan_schedule.specs.Lines.{begin_line, numbered, act_of, deed_read, unless_refused}
 use Rattle.lan_schedule.specs.Lines.{performed}
 use Rattle.lan_schedule.specs.Ends.{Moment}
+use Rattle.lan_schedule.specs.Races.{Chance, behind_numbers}
 use Rattle.lan_schedule.specs.Standing.{StandsFor, Does}
 use Rattle.lan_schedule.proofs.Feeding.{same-act}
 use Rattle.lan_schedule.proofs.LinesCome.{tidy-same}
@@ -53,7 +54,8 @@ pub fault-does : (text : List ℕ) (number : ℕ) (fault : TextFault) (now : Mom
     → first_fault text ≡ Some fault
     → Does (performed text) now now (Err (halts.Trace number (kind_of_fault fault)))
 fault-does text number fault now next first = record {
-  ends = λ base w reached.
+  chances = [];
+  ends = λ base w later left reached.
       let v = at_line (w.kept.line + 1) w in
       let out : perform (performed text) w ≡ Stops v (halts.Trace number (kind_of_fault fault)) =
       ap (λ s. perform (act_read s) v) (fault-is (line_in text) fault first)
@@ -63,10 +65,12 @@ fault-does text number fault now next first = record {
         out,
         record {
           tidy = tidy-same w (record w.kept { line = w.kept.line + 1 })
-              reached.shown.tidy refl refl refl (λ e. e);
+              reached.shown.tidy refl refl refl refl refl (λ e. e);
           written = reached.shown.written;
           counts =
               reached.shown.counts;
         },
+        ap (λ (c : List Chance). behind_numbers c) left,
+        refl,
       );
 }

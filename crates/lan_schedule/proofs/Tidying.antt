@@ -15,12 +15,13 @@ use Rattle.lan_core.specs.Unstopped.{IsUnstopped, LeavesNoneOut}
 use Rattle.lan_core.proofs.Public.{is-step, legal, fresh, unforged, stays-thrifty, air-numbered}
 use Rattle.lan_core.specs.Stops.{first_stop}
 use Rattle.lan_schedule.specs.declared.frames.Put.{Put}
-use Rattle.lan_schedule.specs.World.{World, settings, puts}
+use Rattle.lan_schedule.specs.World.{World, settings, puts, is_racing}
 use Rattle.lan_schedule.specs.Answers.{supply}
 use Rattle.lan_schedule.specs.Acts.{happen, world_after}
-use Rattle.lan_schedule.specs.Sound.{IsTidy, IsSound, numbers_of}
+use Rattle.lan_schedule.specs.Sound.{IsTidy, IsSoundIn, numbers_of}
 use Rattle.lan_schedule.specs.inside.Comes.{Comes, IsExact, named}
 use Rattle.lan_schedule.specs.Numbers.{shown_next}
+use Rattle.lan_schedule.proofs.Calm.{calm-shown, calm-claimed}
 use Rattle.lan_schedule.proofs.Drawing.{supply-draws}
 use Rattle.lan_schedule.proofs.Turns.{stays-in-turn}
 
@@ -46,25 +47,27 @@ leaves-claim n true = inl refl
 leaves-claim n false = inr refl
 
 -- an exact event leaves no number out
-pub leaves-none : (w : World) (event : Event) → IsExact w event → LeavesNoneOut (settings w) w.run event
-leaves-none w (events.Start name sci priority) exact = tt
-leaves-none w (events.Tick s shown) exact = exact
-leaves-none w (events.Deliver frame s) exact = tt
-leaves-none w (events.Restart s) exact = tt
-leaves-none w (events.Claim s user pn) exact =
+pub leaves-none : (w : World) (event : Event) → w.kept.raced ≡ false → IsExact w event
+    → LeavesNoneOut (settings w) w.run event
+leaves-none w (events.Start name sci priority) calm exact = tt
+leaves-none w (events.Tick s shown) calm exact = exact ∙ calm-shown w s calm
+leaves-none w (events.Deliver frame s) calm exact = tt
+leaves-none w (events.Restart s) calm exact = tt
+leaves-none w (events.Claim s user pn) calm exact =
     let n = shown_next (settings w) s w.run in
-    subst (λ (m : ℕ). (m ≡ 0) ⊎ (m ≡ n)) (sym exact) (leaves-claim n (nat_lt last_number n))
-leaves-none w events.Emit exact = tt
-leaves-none w (events.Inject s octets) exact = tt
+    subst (λ (m : ℕ). (m ≡ 0) ⊎ (m ≡ n)) (sym (exact ∙ calm-claimed w s calm)) (leaves-claim n (nat_lt last_number n))
+leaves-none w events.Emit calm exact = tt
+leaves-none w (events.Inject s octets) calm exact = tt
 
 -- what an event shows leaves the run sound
-sound-after : (w : World) (event : Event) (facts : List Fact) → IsTidy w → Comes (happen event) w
+sound-after : (w : World) (event : Event) (facts : List Fact) → w.kept.raced ≡ false → IsTidy w
+    → Comes (happen event) w
     → IsTyped event → IsSetting (settings w)
     → first_stop (settings w) w.kept.users w.run event (supply w) ≡ None
     → expected (settings w) w.kept.users w.run event (drawn_from (settings w).suite (supply w))
     ≡ Some facts
-    → IsSound (settings w) w.kept.users (happened event facts ∷ w.run)
-sound-after w event facts tidy comes typed setting goes shows =
+    → IsSoundIn (is_racing w.kept.phase) (settings w) w.kept.users (happened event facts ∷ w.run)
+sound-after w event facts calm tidy comes typed setting goes shows =
     let on : IsUnstopped (settings w) w.kept.users w.run (named w event) event (supply w) facts =
     record {
       setting = setting;
@@ -81,9 +84,9 @@ sound-after w event facts tidy comes typed setting goes shows =
           tidy.sound.legal.stepped tidy.sound.fresh;
       unforged = unforged (settings w) w.kept.users w.run (named w event) event (supply w) facts on
           tidy.sound.unforged;
-      thrifty = stays-thrifty (settings w) w.kept.users (happened event facts) w.run
+      thrifty = λ e. stays-thrifty (settings w) w.kept.users (happened event facts) w.run
           (is-step (settings w) w.kept.users w.run (named w event) event (supply w) facts on)
-          (leaves-none w event comes.1) tidy.sound.thrifty;
+          (leaves-none w event calm comes.1) (tidy.sound.thrifty e);
     }
 
 pub tidy-after : (w : World) (event : Event) (facts : List Fact) → IsTidy w
@@ -91,11 +94,11 @@ pub tidy-after : (w : World) (event : Event) (facts : List Fact) → IsTidy w
     → first_stop (settings w) w.kept.users w.run event (supply w) ≡ None
     → expected (settings w) w.kept.users w.run event (drawn_from (settings w).suite (supply w))
     ≡ Some facts
-    → w.kept.begun ≡ true → IsTidy (world_after w event facts)
+    → w.kept.begun ≡ true → w.kept.raced ≡ false → IsTidy (world_after w event facts)
 unfolding air
-tidy-after w event facts tidy comes typed setting goes shows begun =
+tidy-after w event facts tidy comes typed setting goes shows begun calm =
     let x = happened event facts in
-    let sound = sound-after w event facts tidy comes typed setting goes shows in
+    let sound = sound-after w event facts calm tidy comes typed setting goes shows in
     let stepped = sound.legal.stepped in
     record {
       sound = sound;
@@ -108,4 +111,5 @@ tidy-after w event facts tidy comes typed setting goes shows begun =
       in_turn = stays-in-turn (settings w) w.kept.users x w.run stepped.0 tidy.in_turn;
       waits = λ e. absurd (let bad : true ≡ false = sym begun ∙ e in cc);
       draws = tidy.draws;
+      dealt = tidy.dealt;
     }

@@ -1,9 +1,10 @@
--- What a reader reads, in this order: the lines of a text, where draws come from, what lines have
--- made, what can be performed, which line is refused, what a line performs, what a call did of it,
+-- What a reader reads, in this order: the lines of a text, where draws come from, what races are, what
+-- lines have made, what can be performed, which line is refused, what a line performs, what a call did of it,
 -- and a whole trace.
 pub mod Texts
 pub mod Supply
 pub mod Settings
+pub mod Races
 pub mod World
 pub mod Numbers
 pub mod Answers

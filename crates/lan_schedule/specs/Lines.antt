@@ -16,9 +16,9 @@ use Rattle.lan_schedule.specs.declared.choices.Rule.TheVariants.{Counted, Stream
 use Rattle.lan_schedule.specs.declared.choices.Choices.{Choices}
 use Rattle.lan_schedule.specs.declared.frames.Put.{Put}
 use Rattle.lan_schedule.specs.Settings.{secret_of, lag_of}
-use Rattle.lan_schedule.specs.World.{World, settings, count, place, sender, mark, is_cut}
+use Rattle.lan_schedule.specs.World.{World, count, place, sender, mark, is_cut}
 use Rattle.lan_schedule.specs.World.{with_link, without_link}
-use Rattle.lan_schedule.specs.Numbers.{shown_next, claimed_number}
+use Rattle.lan_schedule.specs.Numbers.{number_shown, number_claimed}
 use Rattle.lan_schedule.specs.Acts.{Act, nothing, refuse, happen, change, seq, look, each, span}
 use Rattle.lan_schedule.specs.Acts.{times, unless}
 use Rattle.lan_schedule.specs.Kinds.{refusal, first_refusal}
@@ -41,7 +41,7 @@ begin = change (λ kept. record kept { begun = true })
 
 -- a tick of one station, which shows the next packet number
 abbrev pub tick : ℕ → Act
-tick s = look (λ w. happen (Tick s (shown_next (settings w) s w.run)))
+tick s = look (λ w. happen (Tick s (number_shown w s)))
 
 -- a tick of each station
 abbrev pub round : Act
@@ -100,7 +100,7 @@ claim s user pn = seq (happen (Claim s user pn)) (unless (pn == 0) (happen Emit)
 
 -- a station sends the user frame that was added last
 abbrev pub send : ℕ → Act
-send s = look (λ w. claim s (length w.kept.users) (claimed_number (settings w) s w.run))
+send s = look (λ w. claim s (length w.kept.users) (number_claimed w s))
 
 abbrev pub add_user : UserFrame → Act
 add_user frame = change (λ kept. record kept { users = kept.users ++ frame ∷ [] })

@@ -1,11 +1,18 @@
--- The packet numbers that a trace without a race shows and claims: each is the next one.
-use Rattle.std.specs.Prelude.{◌≡◌, ℕ, if◌then◌else◌, nat_lt, List, [], get_or}
+-- The packet numbers that ticks show and stations claim. Before the first race each is the next
+-- one. From then on a slot word may be ahead, by additions that got no number, and what it shows is
+-- left to chance; it is never below the next number.
+use Rattle.std.specs.Prelude.{◌≡◌, ℕ, if◌then◌else◌, nat_lt, List, [], get_or, nat_le, Bool}
+use Rattle.std.specs.Prelude.{false, ◌&&◌, drop}
 use Rattle.lan_core.specs.declared.settings.Settings.{Settings}
 use Rattle.lan_core.specs.Run.{Run}
 use Rattle.lan_core.specs.Claims.{next}
 use Rattle.lan_core.specs.Lives.{transmitting_at}
 use Rattle.lan_core.specs.Unstopped.{next_under}
 use Rattle.lan_core.specs.Expected.{last_number}
+use Rattle.lan_core.specs.declared.event.Event.{Event}
+use Rattle.lan_core.specs.declared.event.Event.TheVariants.{Tick, Claim}
+use Rattle.lan_schedule.specs.Races.{Chance, number_in}
+use Rattle.lan_schedule.specs.World.{World, settings}
 
 -- what a tick of a station shows: the next number under the key that transmits
 abbrev pub shown_next : Settings → ℕ → Run → ℕ
@@ -18,6 +25,38 @@ in_range n = if nat_lt last_number n then 0 else n
 -- what a station claims: that number, or 0 where it can claim none
 abbrev pub claimed_number : Settings → ℕ → Run → ℕ
 claimed_number settings s r = in_range (shown_next settings s r)
+
+-- ---- by chance
+
+-- whether a number that chance names stands: a race was begun, a key transmits, and the number isn't
+-- below the next one
+abbrev pub stands : Bool → ℕ → ℕ → Bool
+stands raced next number = raced && (nat_le 1 next && nat_le next number)
+
+-- what a tick of a station shows in a world
+abbrev pub number_shown : World → ℕ → ℕ
+number_shown w s =
+    let next = shown_next (settings w) s w.run in
+    let number = number_in w.kept.chances in
+    if stands w.kept.raced next number then number else next
+
+-- what a station claims in a world
+abbrev pub number_claimed : World → ℕ → ℕ
+number_claimed w s =
+    let next = shown_next (settings w) s w.run in
+    let number = number_in w.kept.chances in
+    if stands w.kept.raced next number && nat_le number last_number then number else in_range next
+
+-- whether chance names the number of an event, which has one
+abbrev pub takes_chance : Bool → Event → Bool
+takes_chance raced (Tick s next) = raced && nat_le 1 next
+takes_chance raced (Claim s user pn) = raced && nat_le 1 pn
+takes_chance raced _ = false
+
+-- what chance will decide after an event
+abbrev pub chances_after : World → Event → List Chance
+chances_after w event =
+    if takes_chance w.kept.raced event then drop 1 w.kept.chances else w.kept.chances
 
 -- ---- tables of next numbers
 

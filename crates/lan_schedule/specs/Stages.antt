@@ -1,5 +1,5 @@
 -- For which world a group at work stands.
-use Rattle.std.specs.Prelude.{◌≡◌, ℕ, true, length, map, is_some}
+use Rattle.std.specs.Prelude.{◌≡◌, ℕ, true, false, length, map, is_some}
 use Rattle.lan_core.specs.Run.{stations, facts_of}
 use Rattle.lan_core.specs.Standing.{StandsFor as GroupStandsFor}
 use Rattle.fact_tally.specs.Summary.{counts}
@@ -13,6 +13,7 @@ use Rattle.lan_schedule.specs.Answers.{supply}
 -- a group at work stands for a world
 pub record StandsFor (w : World) (stage : Stage) : Type 0 where
   pub begun : w.kept.begun ≡ true
+  pub calm : w.kept.raced ≡ false
   pub keyed : is_some w.kept.chosen.group ≡ true
   pub line : stage.line ≡ w.kept.line
   pub lag : stage.lag ≡ lag_of w.kept.chosen

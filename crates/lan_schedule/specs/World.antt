@@ -14,11 +14,13 @@ use Rattle.lan_schedule.specs.declared.choices.Choices.{Choices}
 use Rattle.lan_schedule.specs.declared.frames.Put.{Put}
 use Rattle.lan_schedule.specs.declared.links.Link.{Link}
 use Rattle.lan_schedule.specs.Settings.{no_choice, settings_of}
+use Rattle.lan_schedule.specs.Races.{Phase, Apart, Racing, Chance, Raced}
 
 -- what is kept beside the run: the number of the line that is performed; what the lines before the
 -- first station chose, and whether that station came; the user frame of each line that sends; the
--- frames of the air, by number; the links that are cut; the count of flow rounds; and how many
--- draws were taken
+-- frames of the air, by number; the links that are cut; the count of flow rounds; how many draws
+-- were taken; where in a race the lines stand, and whether one was begun; the races that were run;
+-- and what chance will decide
 pub record Kept : Type 0 where
   pub line : ℕ
   pub chosen : Choices
@@ -28,14 +30,18 @@ pub record Kept : Type 0 where
   pub cuts : List Link
   pub rounds : ℕ
   pub taken : ℕ
+  pub phase : Phase
+  pub raced : Bool
+  pub races : List Raced
+  pub chances : List Chance
 
 pub record World : Type 0 where
   pub run : Run
   pub kept : Kept
 
--- no line was performed
-abbrev pub nothing_kept : Kept
-nothing_kept = record {
+-- no line was performed, and this is what chance will decide
+abbrev pub nothing_kept : List Chance → Kept
+nothing_kept chances = record {
   line = 0;
   chosen = no_choice;
   begun = false;
@@ -44,10 +50,19 @@ nothing_kept = record {
   cuts = [];
   rounds = 0;
   taken = 0;
+  phase = Apart;
+  raced = false;
+  races = [];
+  chances = chances;
 }
 
-abbrev pub beginning : World
-beginning = record { run = []; kept = nothing_kept }
+abbrev pub beginning : List Chance → World
+beginning chances = record { run = []; kept = nothing_kept chances }
+
+-- whether control's lines are performed beside workers
+abbrev pub is_racing : Phase → Bool
+is_racing Racing = true
+is_racing _ = false
 
 -- ---- stations
 

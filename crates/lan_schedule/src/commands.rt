@@ -1,7 +1,8 @@
 //! A replay performs the lines of a trace, one after the other.
 
 ghost use Rattle.std.specs.Prelude.{◌≡◌, ◌⊎◌, length, Some, None, Ok, Err, IfErr};
-ghost use Rattle.std.specs.Prelude.{OnOk, Option, is_some, true};
+ghost use Rattle.std.specs.Prelude.{OnOk, Option, is_some, true, List};
+ghost use Rattle.lan_schedule.specs.Races.{Chance};
 ghost use Rattle.std.specs.Prelude.{false};
 ghost use Rattle.lan_core.specs.Run.{facts_of};
 ghost use Rattle.fact_tally.specs.Summary.{counts};
@@ -44,7 +45,7 @@ pub struct Replay {
 impl Replay {
     /// No line was performed.
     pub fn new(alloc: Global) -> Self
-        ensures { StandsFor beginning result }
+        ensures { (chances : List Chance) → StandsFor (beginning chances) result }
     {
         Replay {
             alloc,

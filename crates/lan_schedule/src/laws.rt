@@ -1,14 +1,17 @@
 //! A law of whole traces.
 
-ghost use Rattle.std.specs.Prelude.{◌<◌, ◌^◌, ℕ, List, length};
+ghost use Rattle.std.specs.Prelude.{◌<◌, ◌^◌, ℕ, List, [], length};
 ghost use Rattle.lan_schedule.specs.Acts.{world_of};
-ghost use Rattle.lan_schedule.specs.Trace.{course, lines_within};
+ghost use Rattle.lan_schedule.specs.Lines.{performed_all};
+ghost use Rattle.lan_schedule.specs.Races.{Chance};
+ghost use Rattle.lan_schedule.specs.World.{beginning};
+ghost use Rattle.lan_schedule.specs.Trace.{course};
 ghost use Rattle.lan_schedule.specs.Sound.{IsTidy};
 
-/// Lines that are performed from the beginning leave a tidy world, whether they stop or not, where
-/// there are fewer than 2^32 of them. So do the lines of any text within the input's limit.
+/// The world of no line is tidy. Lines that are performed from there leave a tidy world, whether
+/// they stop or not, where there are fewer than 2^32 of them.
 pub fn law_lines_leave_a_tidy_world()
+    ensures start { (chances : List Chance) → IsTidy (beginning chances) }
     ensures lines { (lines : List (List ℕ)) → length lines < 2 ^ 32
-        → IsTidy (world_of (course lines)) }
-    ensures text { (text : List ℕ) → IsTidy (world_of (course (lines_within text))) }
+        → IsTidy (world_of (course (performed_all lines) [])) }
 {}

@@ -13,7 +13,7 @@ use Rattle.lan_core.specs.declared.stop.Which.TheVariants.{Stations}
 use Rattle.lan_schedule.specs.declared.halt.Halt.{Halt}
 use Rattle.lan_schedule.specs.declared.halt.Halt.TheVariants as halts
 use Rattle.lan_schedule.specs.Ends.{Sunk, HoldsFront}
-use Rattle.lan_schedule.specs.Trace.{lines_within, most_input, Sourced, sourced, WereStopped}
+use Rattle.lan_schedule.specs.Trace.{within, most_input, Sourced, sourced, WasStopped}
 use Rattle.lan_schedule.specs.Trace.{IsSummarized, IsReplayed}
 use Rattle.rollover_program.specs.declared.status.Status.TheVariants.{Done, Halted}
 use Rattle.rollover_program.specs.declared.words.Order.{Order}
@@ -52,14 +52,18 @@ pub no_front : (old : Option (List ℕ)) (text : List ℕ) → HoldsFront old ol
 no_front old text = record { front = []; rest = text; parts = refl; held = held_nothing old }
 
 by_stop : (text : List ℕ) (old new : Sunk) (halt : Halt)
-    → WereStopped (lines_within text) old new halt → IsComplete text (Err halt)
-by_stop text old new halt p = inl (sym (ap (status_after (nat_le (length text) most_input)) p.1))
+    → WasStopped (within text) old new halt → IsComplete text (Err halt)
+by_stop text old new halt p =
+    inl (p.0, sym (ap (status_after (nat_le (length text) most_input)) p.2))
 
 complete : (text : List ℕ) (left now : Sourced) (old new : Sunk) (r : Answer)
     → IsSummarized text left now old new r
     → (Rose left.faults now.faults → ⊥) → (Rose old.faults new.faults → ⊥) → IsComplete text r
 complete text left now old new (Ok tt) summarized reads writes =
-    inl (at_end text summarized.2.0 summarized.0 summarized.2.1)
+    inl (
+      summarized.2.0,
+      at_end text summarized.2.0 summarized.2.1 summarized.0 summarized.2.2,
+    )
 complete text left now old new (Err (halts.Trace line kind)) summarized reads writes =
     by_stop text old new (halts.Trace line kind) summarized
 complete text left now old new (Err halts.ReadFault) summarized reads writes =
@@ -68,7 +72,10 @@ complete text left now old new (Err halts.WriteFault) summarized reads writes =
     absurd (writes summarized.0)
 complete text left now old new (Err halts.Memory) summarized reads writes = inr refl
 complete text left now old new (Err (halts.Limit Input)) summarized reads writes =
-    inl (past_limit text summarized.1.0 summarized.0 summarized.1.1)
+    inl (
+      summarized.1.0,
+      past_limit text summarized.1.0 summarized.1.1 summarized.0 summarized.1.2,
+    )
 complete text left now old new (Err (halts.Limit Frames)) summarized reads writes =
     by_stop text old new (halts.Limit Frames) summarized
 complete text left now old new (Err (halts.Limit Octets)) summarized reads writes =

@@ -8,21 +8,26 @@ use Rattle.lan_core.specs.declared.stop.Which.TheVariants.{Input}
 use Rattle.lan_schedule.specs.declared.halt.Halt.TheVariants as halts
 use Rattle.lan_schedule.specs.Acts.{Course, Goes, Stops}
 use Rattle.lan_schedule.specs.Ends.{Sunk, HoldsFront}
-use Rattle.lan_schedule.specs.Trace.{Sourced, IsSummarized, sourced, course, lines_within}
+use Rattle.lan_schedule.specs.Trace.{Sourced, IsSummarized, sourced, course, within}
 use Rattle.lan_schedule.specs.Trace.{most_input}
+use Rattle.lan_schedule.specs.Races.{Chance}
 use Rattle.rollover_program.specs.declared.status.Status.{Status}
 use Rattle.rollover_program.specs.declared.status.Status.TheVariants.{Done, Usage, Halted}
 
 -- the status of what performing lines leaves, and whether the text is within the limit
 abbrev pub status_after : Bool → Course → Status
-status_after within (Stops w halt) = Halted halt
+status_after fits (Stops w halt) = Halted halt
 status_after true (Goes w) = Done
 status_after false (Goes w) = Halted (halts.Limit Input)
 
--- the status of a text that is performed without a fault from outside
-abbrev pub status_within : List ℕ → Status
-status_within text =
-    status_after (nat_le (length text) most_input) (course (lines_within text))
+-- the status of a text that is performed without a fault from outside, as chance decides
+abbrev pub status_within : List ℕ → List Chance → Status
+status_within text chances =
+    status_after (nat_le (length text) most_input) (course (within text) chances)
+
+-- the call ended with such a status
+abbrev pub EndsWithin : List ℕ → Status → Type 0
+EndsWithin text status = (chances : List Chance) × (status ≡ status_within text chances)
 
 -- A text was performed for its summary: at the end the summary line of its run was written, and
 -- nothing before.

@@ -10,6 +10,6 @@ mod words;
 
 pub use lan_core::Which;
 pub use lan_schedule::{Halt, Kind};
-pub use laws::{law_each_text_is_promised, law_sound_runs_are_promised};
+pub use laws::law_tidy_runs_are_promised;
 pub use status::Status;
 pub use top::rollover;

@@ -9,22 +9,23 @@ ghost use Rattle.lan_core.specs.declared.stop.Which.{Which};
 ghost use Rattle.lan_core.specs.declared.stop.Which.TheVariants.{Input};
 ghost use Rattle.lan_schedule.specs.declared.halt.Halt.TheVariants as halts;
 ghost use Rattle.lan_schedule.specs.declared.halt.Kind.{Kind};
-ghost use Rattle.lan_schedule.specs.Texts.{whole_lines, lines_of};
+ghost use Rattle.lan_schedule.specs.Texts.{whole_lines};
+ghost use Rattle.lan_schedule.specs.Lines.{performed_all};
 ghost use Rattle.lan_schedule.specs.Ends.{sunk};
-ghost use Rattle.lan_schedule.specs.Trace.{lines_within, most_input, sourced};
+ghost use Rattle.lan_schedule.specs.Trace.{whole, within, most_input, sourced};
 ghost use Rattle.rollover_program.specs.declared.words.Order.{Order};
 ghost use Rattle.rollover_program.specs.declared.words.Order.TheVariants as orders;
 ghost use Rattle.rollover_program.specs.Words.{IsNumbered, IsUsage, Orders, words_of};
 ghost use Rattle.rollover_program.specs.Headline.{IsCutShort, IsPerformed, IsStoppedBy};
-ghost use Rattle.rollover_program.specs.Ending.{EndsMade, EndsSummarized, EndsTried, status_within};
+ghost use Rattle.rollover_program.specs.Ending.{EndsMade, EndsSummarized, EndsTried, EndsWithin};
 ghost use Rattle.rollover_program.specs.inside.Answering.{status_of, status_of_refusal};
 
-use crate::laws::{law_each_text_is_promised, law_sound_runs_are_promised};
+use crate::laws::law_tidy_runs_are_promised;
 use crate::orders::carry_out;
 use crate::status::Status;
 use crate::words::{Refusal, read_order};
 use lan_base::{Sink, Source};
-use lan_schedule::Halt;
+use lan_schedule::{Halt, law_lines_leave_a_tidy_world};
 use std::alloc::Global;
 
 /// Carries out what words order, which come without the program's name.
@@ -58,7 +59,7 @@ pub fn rollover<S: Source, K: Sink>(
     // `run`: at the end the text was performed to its end, and the whole transcript was written.
     ensures done { (text : List ℕ) → Orders (map string_bytes words.now) (orders.Run false)
         → S.left source.old ≡ Some text → result ≡ Status.Done
-        → IsPerformed (lines_of text) (K.held sink.old) (K.held sink.new) }
+        → IsPerformed (whole text) (K.held sink.old) (K.held sink.new) }
     ensures read { (text : List ℕ) → Orders (map string_bytes words.now) (orders.Run false)
         → S.left source.old ≡ Some text → result ≡ Status.Done
         → (S.left source.new ≡ Some []) × (length text ≤ most_input) }
@@ -69,25 +70,25 @@ pub fn rollover<S: Source, K: Sink>(
         → Orders (map string_bytes words.now) (orders.Run false)
         → S.left source.old ≡ Some text
         → result ≡ Status.Halted (halts.Trace line kind)
-        → IsStoppedBy (halts.Trace line kind) (lines_within text)
+        → IsStoppedBy (halts.Trace line kind) (within text)
         (K.held sink.old) (K.held sink.new) }
     ensures limit { (text : List ℕ) (which : Which)
         → Orders (map string_bytes words.now) (orders.Run false)
         → S.left source.old ≡ Some text
         → which ≢ Input → result ≡ Status.Halted (halts.Limit which)
-        → IsStoppedBy (halts.Limit which) (lines_within text)
+        → IsStoppedBy (halts.Limit which) (within text)
         (K.held sink.old) (K.held sink.new) }
     ensures repeated_draw { (text : List ℕ) (first second : ℕ)
         → Orders (map string_bytes words.now) (orders.Run false)
         → S.left source.old ≡ Some text
         → result ≡ Status.Halted (halts.RepeatedDraw first second)
-        → IsStoppedBy (halts.RepeatedDraw first second) (lines_within text)
+        → IsStoppedBy (halts.RepeatedDraw first second) (within text)
         (K.held sink.old) (K.held sink.new) }
     ensures forged { (text : List ℕ) (line : ℕ)
         → Orders (map string_bytes words.now) (orders.Run false)
         → S.left source.old ≡ Some text
         → result ≡ Status.Halted (halts.Forged line)
-        → IsStoppedBy (halts.Forged line) (lines_within text)
+        → IsStoppedBy (halts.Forged line) (within text)
         (K.held sink.old) (K.held sink.new) }
 
     // Past the input's limit, and at a fault of the source, the lines were performed that end
@@ -95,19 +96,19 @@ pub fn rollover<S: Source, K: Sink>(
     ensures input { (text : List ℕ) → Orders (map string_bytes words.now) (orders.Run false)
         → S.left source.old ≡ Some text
         → result ≡ Status.Halted (halts.Limit Input) → (most_input < length text)
-        × IsPerformed (whole_lines (take most_input text)) (K.held sink.old) (K.held sink.new) }
+        × IsPerformed (performed_all (whole_lines (take most_input text))) (K.held sink.old) (K.held sink.new) }
     ensures read_fault { (text : List ℕ) → Orders (map string_bytes words.now) (orders.Run false)
         → S.left source.old ≡ Some text
         → result ≡ Status.Halted halts.ReadFault
         → (taken : List ℕ) × (S.left source.old ≡ before taken (S.left source.new))
-        × IsPerformed (whole_lines taken) (K.held sink.old) (K.held sink.new) }
+        × IsPerformed (performed_all (whole_lines taken)) (K.held sink.old) (K.held sink.new) }
 
     // A fault of the sink, and want of memory, leave a front of the transcript of the run that
     // performing the text makes.
     ensures front { (text : List ℕ) → Orders (map string_bytes words.now) (orders.Run false)
         → S.left source.old ≡ Some text
         → (result ≡ Status.Halted halts.WriteFault) ⊎ (result ≡ Status.Halted halts.Memory)
-        → IsCutShort (lines_within text) (K.held sink.old) (K.held sink.new) }
+        → IsCutShort (within text) (K.held sink.old) (K.held sink.new) }
 
     // `run --summary`, `make N` and `try N`, whatever the end.
     ensures summary { (text : List ℕ) → Orders (map string_bytes words.now) (orders.Run true)
@@ -137,16 +138,16 @@ pub fn rollover<S: Source, K: Sink>(
         → S.left source.old ≡ Some text
         → (Rose (S.faults source.old) (S.faults source.new) → ⊥)
         → (Rose (K.faults sink.old) (K.faults sink.new) → ⊥)
-        → (result ≡ status_within text) ⊎ (result ≡ Status.Halted halts.Memory) }
+        → EndsWithin text result ⊎ (result ≡ Status.Halted halts.Memory) }
     ensures complete_make { (n : ℕ) → Orders (map string_bytes words.now) (orders.Make n)
         → (Rose (K.faults sink.old) (K.faults sink.new) → ⊥)
         → (result ≡ Status.Done) ⊎ (result ≡ Status.Halted halts.Memory) }
     ensures complete_try { (n : ℕ) → Orders (map string_bytes words.now) (orders.Try n)
         → (Rose (K.faults sink.old) (K.faults sink.new) → ⊥)
-        → (result ≡ status_within (made n)) ⊎ (result ≡ Status.Halted halts.Memory) }
+        → EndsWithin (made n) result ⊎ (result ≡ Status.Halted halts.Memory) }
 {
-    law_sound_runs_are_promised();
-    law_each_text_is_promised();
+    law_tidy_runs_are_promised();
+    law_lines_leave_a_tidy_world();
     match read_order(alloc, words) {
         Ok(order) => status_of(carry_out(alloc, order, source, sink)),
         Err(refusal) => status_of_refusal(refusal),

@@ -40,7 +40,8 @@ use Rattle.worked_rollovers.specs.Group.{settings, mi, id, sak, bob, user, first
 use Rattle.worked_rollovers.specs.Deeds.{Deed, plain, emits, carried}
 use Rattle.worked_rollovers.specs.Lives.{heard_by, life_by}
 use Rattle.worked_rollovers.specs.Script.{tick, deliver, begin, send, spread, round, flow}
-use Rattle.worked_rollovers.specs.Rows.{late_story, late_deeds, late, late_rollover, late_flight}
+use Rattle.worked_rollovers.specs.Rows.{since, late_story, late_deeds, late, late_rollover}
+use Rattle.worked_rollovers.specs.Rows.{late_flight}
 use Rattle.worked_rollovers.proofs.Framing.{is_bare}
 use Rattle.worked_rollovers.proofs.Lived.{is_readable}
 use Rattle.worked_rollovers.proofs.Steadily.{deed_at, deed-at, told_upto, trusts-from}
@@ -107,7 +108,7 @@ is_flag timed_out = false
 abbrev begins_well : ℕ → Fact → Bool
 begins_well n (facts.Began s i an epoch c) =
     not ((s == 1) && (i.number == 2)) || (is_flag c
-    && nat_le (rounds made (upto (suc n) late)) (rounds made (upto (suc start) late) + 0))
+    && nat_le (rounds since (upto (suc n) late)) (rounds since (upto (suc start) late) + 0))
 begins_well n f = true
 
 abbrev all_well : ℕ → Happening → Bool
@@ -131,11 +132,11 @@ record Computed : Type 0 where
   hushed : list_all is_hushed late_deeds ≡ true
   goes : list_all is_no_restart late ≡ true
   long : length late ≡ 162
-  paced : is_some (pace made late) ≡ true
-  first_round : rounds made (upto (suc made) late) ≡ 1
-  claimed_in : rounds made (upto claim late) ≡ 2
-  delivered_in : rounds made (upto first_delivery late) ≡ 3
-  again_in : rounds made (upto second_delivery late) ≡ 32
+  paced : is_some (pace since late) ≡ true
+  first_round : rounds since (upto (suc made) late) ≡ 1
+  claimed_in : rounds since (upto claim late) ≡ 2
+  delivered_in : rounds since (upto first_delivery late) ≡ 3
+  again_in : rounds since (upto second_delivery late) ≡ 32
   alice_trusts : is_trusting_on 0 120 late_deeds ≡ true
   bob_trusts : is_trusting_on 1 112 late_deeds ≡ true
   carol_trusts : is_trusting_on 2 111 late_deeds ≡ true
@@ -269,7 +270,7 @@ keeper-at t sent said k =
 
 bob_keeps : IsKeeper settings late late_rollover 1 bob_said word
 bob_keeps =
-    keeper-is late_rollover 1 bob_said late_deeds computed.bare computed.readable computed.bob_here
+    keeper-is late_rollover 1 bob_said late_deeds refl computed.bare computed.readable computed.bob_here
     computed.some_word computed.keeper
 
 -- ---- bob follows
@@ -285,7 +286,7 @@ bob_begins =
 
 bob-follows : (x : ℕ) (cause : Cause) → Begins late x 1 (id 2) cause
     → (cause ≡ flagged)
-    × (rounds made (upto (suc x) late) ≤ rounds made (upto (suc start) late) + 0)
+    × (rounds since (upto (suc x) late) ≤ rounds since (upto (suc start) late) + 0)
 bob-follows x cause b =
     let each = each-at (λ n y. all_well n y ≡ true) late
     (each-tested all_well late computed.well) x b.event b.at b.within in
@@ -309,6 +310,7 @@ steady = record {
   served = alice_trusts;
   whole_rounds = computed.paced;
   early = omega arith;
+  server_counts = refl;
   first_round = computed.first_round;
   listeners_stay = λ t sent said l. unbroken t sent;
   listeners_trust = listener-trusts;

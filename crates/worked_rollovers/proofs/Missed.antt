@@ -20,7 +20,7 @@ use Rattle.group_safety.proofs.Public.{no-second-begins}
 use Rattle.worked_rollovers.specs.Group.{settings, id, bob}
 use Rattle.worked_rollovers.specs.Lives.{heard_by, life_by}
 use Rattle.worked_rollovers.specs.Script.{tick, deliver, begin, send, spread, round, flow}
-use Rattle.worked_rollovers.specs.Rows.{missed_story, missed_deeds, missed, missed_rollover}
+use Rattle.worked_rollovers.specs.Rows.{since, missed_story, missed_deeds, missed, missed_rollover}
 use Rattle.worked_rollovers.proofs.Framing.{is_bare}
 use Rattle.worked_rollovers.proofs.Lived.{is_readable}
 use Rattle.worked_rollovers.proofs.Steadily.{deed_at, told_upto, words_then, is_keeper, first_word}
@@ -54,8 +54,8 @@ record Computed : Type 0 where
   keeper : is_keeper 1 bob_said (id 1) word missed_deeds ≡ true
   bob_here : In bob (stations missed)
   never : list_all begins_no_second missed ≡ true
-  begun_in : rounds made (upto (suc start) missed) ≡ 3
-  ended_in : rounds made missed ≡ 33
+  begun_in : rounds since (upto (suc start) missed) ≡ 3
+  ended_in : rounds since missed ≡ 33
 
 computed : Computed
 unfolding opens
@@ -72,7 +72,7 @@ computed = record {
 
 pub keeps : (lag : ℕ) → IsKeeper settings missed (missed_rollover lag) 1 bob_said word
 keeps lag =
-    keeper-is (missed_rollover lag) 1 bob_said missed_deeds computed.bare computed.readable
+    keeper-is (missed_rollover lag) 1 bob_said missed_deeds refl computed.bare computed.readable
     computed.bob_here computed.some_word computed.keeper
 
 abbrev IsNoBeginning : ℕ → Happening → Type 0

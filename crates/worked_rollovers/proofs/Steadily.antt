@@ -26,6 +26,7 @@ use Rattle.sak_exchange.specs.declared.change.Cause.{Cause}
 use Rattle.sak_exchange.specs.Reports.{reports_old}
 use Rattle.lan_core.specs.Lives.{Life, life, setup_of}
 use Rattle.group_safety.specs.Moments.{upto, At}
+use Rattle.group_safety.specs.Rounds.{is_among}
 use Rattle.group_safety.specs.Stations.{mi_at, mi_of, server_at, server_of}
 use Rattle.group_safety.specs.Steady.{Begins, Makes, Sends, Rollover, IsListener, IsKeeper, Trusts}
 use Rattle.group_safety.proofs.Public.{In, contains-in, in-contains, in-left, all-in, by_sum}
@@ -415,12 +416,12 @@ life-upto s n ds bare read =
 abbrev pub words_then : Rollover → List Deed → List Accepted
 words_then o ds = words_of (life_by o.server (told_upto (suc o.start) ds))
 
-pub keeper-is : (o : Rollover) (s sent : ℕ) (ds : List Deed) → list_all is_bare ds ≡ true
-    → list_all is_readable ds ≡ true → In (profile s) (stations (run_of ds))
+pub keeper-is : (o : Rollover) (s sent : ℕ) (ds : List Deed) → is_among s o.from.out ≡ false
+    → list_all is_bare ds ≡ true → list_all is_readable ds ≡ true → In (profile s) (stations (run_of ds))
     → nat_lt 0 (length (words_then o ds)) ≡ true
     → is_keeper s sent o.old_id (first_word (words_then o ds)) ds ≡ true
     → IsKeeper settings (run_of ds) o s sent (first_word (words_then o ds))
-keeper-is o s sent ds bare read here some e =
+keeper-is o s sent ds counts bare read here some e =
     let word = first_word (words_then o ds) in
     let keeps = and_parts (is_listener s sent word ds) (reports_old o.old_id word.told.uses) e in
     let says = and_parts (is_telling s (deed_at sent ds)) _ keeps.0 in
@@ -449,6 +450,7 @@ keeper-is o s sent ds bare read here some e =
       sends = sends;
       mi = mi;
       mn = mn;
+      counts = counts;
     }
 
 -- ---- what each event passes

@@ -1,6 +1,7 @@
 -- Two rollovers of three stations, each told by a few lines.
 use Rattle.std.specs.Prelude.{ℕ, ◌==◌, ◌&&◌, not, Bool, List, [], ◌∷◌}
 use Rattle.lan_core.specs.Run.{Run}
+use Rattle.group_safety.specs.Rounds.{Since}
 use Rattle.group_safety.specs.Steady.{Rollover}
 use Rattle.group_safety.specs.Time.{Flight}
 use Rattle.worked_rollovers.specs.Group.{id, first_key}
@@ -16,6 +17,10 @@ abbrev pub before : Story
 before =
     flow always all 5 (begin 2 4
     (flow always (0 ∷ 1 ∷ []) 6 (begin 1 2 (begin 0 1 (record { deeds = []; frame = 1 })))))
+
+-- rounds count from event 41 on, and all take part
+abbrev pub since : Since
+since = record { moment = 41; out = [] }
 
 -- ---- in time and too late
 
@@ -41,7 +46,7 @@ late_rollover = record {
   old_id = id 1;
   new_id = id 2;
   lag = 0;
-  from = 41;
+  from = since;
 }
 
 -- bob claimed the frame in event 55, and it reaches a station in another
@@ -81,5 +86,5 @@ missed_rollover lag = record {
   old_id = id 1;
   new_id = id 2;
   lag = lag;
-  from = 41;
+  from = since;
 }

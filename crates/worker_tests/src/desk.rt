@@ -70,7 +70,7 @@ pub fn opened(alloc: Global) -> Result<(SlotTable, Control), AllocError>
 }
 
 /// A station's sender of one user's frame.
-fn sender(alloc: Global, station: u8) -> Result<Sender, AllocError>
+pub fn sender(alloc: Global, station: u8) -> Result<Sender, AllocError>
     ensures { IfOk result (λ s. (s.station ≡ station) × IsUserData s.user.body) }
 {
     let user = UserFrame {

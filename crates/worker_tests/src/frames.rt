@@ -8,10 +8,10 @@ use std::test::Fail;
 use std::thread;
 
 /// The SCI of the station that receives.
-const RECEIVER: Sci = Sci([2, 0, 0, 0, 0, 0x0b, 0, 1]);
+pub const RECEIVER: Sci = Sci([2, 0, 0, 0, 0, 0x0b, 0, 1]);
 
 /// The packet number under which a frame is accepted with the user data of everybody, or 0.
-fn accepted(slots: &mut RxSlots, frame: &Protected) -> Result<u32, Fail> {
+pub fn accepted(slots: &mut RxSlots, frame: &Protected) -> Result<u32, Fail> {
     let octets = frame.octets.as_slice();
     if octets.len() > FRAME_MAX {
         return Ok(0);

@@ -7,3 +7,5 @@ mod crews;
 mod desk;
 #[cfg(test)]
 mod frames;
+#[cfg(test)]
+mod replacing;

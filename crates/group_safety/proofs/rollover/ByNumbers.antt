@@ -56,7 +56,7 @@ module _ (c : Course) (o : Rollover) (is : IsCourse c) (R : IsRollover c o) wher
       let order = R.order in let early = R.early in
       recent-on c o.server R.new_key.epoch (suc o.start) n (c.rounds (suc o.start))
       (lives-later c o.server (suc o.made) (suc o.start) (omega arith) R.life) low high
-      (omega arith)
+      (omega arith) R.counted
       (λ m p l. rounds-rise c (suc o.start) (suc m) (omega arith) l is)
       (λ at begun. let same : clock (c.keys o.server (suc o.start)) ≡ at = let f = sym R.begun
       ∙ begun in
@@ -222,7 +222,7 @@ module _ (c : Course) (o : Rollover) (is : IsCourse c) (R : IsRollover c o) wher
       let none = R.unbegun t o.start L.new_key (omega arith)
       (listener-installed t sent o.start L before (omega arith)) L.new_named in
       recent-on c t L.new_key.epoch o.start d (c.rounds (suc o.start))
-      (lives-later c t sent o.start before L.life) low high early
+      (lives-later c t sent o.start before L.life) low high early L.counted
       (λ m p l. rounds-rise c (suc o.start) (suc m) (omega arith) l is)
       (λ at begun. absurd (none-begun (begun_at (c.keys t o.start) L.new_key.epoch) none at begun))
 

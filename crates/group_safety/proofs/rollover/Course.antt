@@ -1,5 +1,5 @@
 -- A rollover by numbers: what stations hold at each moment of a run, and what the proof asks of it.
-use Rattle.std.specs.Prelude.{◌≡◌, ◌<◌, ◌≤◌, ◌⊎◌, ℕ, ◌+◌, suc, true, false}
+use Rattle.std.specs.Prelude.{◌≡◌, ◌<◌, ◌≤◌, ◌⊎◌, ℕ, ◌+◌, suc, Bool, true, false}
 use Rattle.std.specs.Prelude.{List, ◌∷◌, ◌++◌, Some}
 use Rattle.lan_base.specs.declared.key_id.KeyId.{KeyId}
 use Rattle.lan_base.specs.Timers.{retire_time}
@@ -10,8 +10,8 @@ use Rattle.sak_exchange.specs.Lives.{Has, IsQuiet}
 use Rattle.group_safety.specs.Steady.{Rollover}
 
 -- How many events there are; a station's keys at a moment; whether an event is a tick of a station,
--- 1 or 0; how many rounds have begun at a moment; and whether a station still has to tick in the
--- round that stands open, 1 or 0. Rounds count from a moment on.
+-- 1 or 0; how many rounds have begun at a moment; whether a station still has to tick in the round
+-- that stands open, 1 or 0; and whether rounds count it. Rounds count from a moment on.
 pub record Course : Type 0 where
   pub end : ℕ
   pub from : ℕ
@@ -19,6 +19,7 @@ pub record Course : Type 0 where
   pub ticks : ℕ → ℕ → ℕ
   pub rounds : ℕ → ℕ
   pub waits : ℕ → ℕ → ℕ
+  pub counted : ℕ → Bool
 
 -- what holds at each station
 pub record IsCourse (c : Course) : Type 0 where
@@ -36,7 +37,7 @@ pub record Step (c : Course) (u n : ℕ) : Type 0 where
   pub begins : (e at : ℕ) → begun_at (c.keys u (suc n)) e ≡ Some at
       → (begun_at (c.keys u n) e ≡ Some at)
       ⊎ ((at ≡ clock (c.keys u (suc n))) × (c.waits u (suc n) ≡ 0))
-  pub counts : c.from ≤ n
+  pub counts : c.from ≤ n → c.counted u ≡ true
       → c.ticks u n + c.waits u (suc n) + c.rounds n ≡ c.waits u n + c.rounds (suc n)
 
 -- a station stays in one life from a moment to the end
@@ -62,6 +63,7 @@ pub record IsRollover (c : Course) (o : Rollover) : Type 0 where
   pub order : suc o.made ≤ o.start
   pub within : o.start < c.end
   pub early : c.from ≤ o.start
+  pub counted : c.counted o.server ≡ true
   pub life : Lives c o.server (suc o.made)
   pub old_key : Key
   pub new_key : Key
@@ -84,6 +86,7 @@ pub record IsRollover (c : Course) (o : Rollover) : Type 0 where
 pub record IsListening (c : Course) (o : Rollover) (t sent : ℕ) : Type 0 where
   pub after : suc o.made ≤ sent
   pub before : sent ≤ o.start
+  pub counted : c.counted t ≡ true
   pub life : Lives c t sent
   pub new_key : Key
   pub new_named : new_key.id ≡ o.new_id

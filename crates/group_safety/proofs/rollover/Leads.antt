@@ -39,6 +39,7 @@ use Rattle.group_safety.proofs.rollover.KeyFacts.{latest-received, received-inst
 use Rattle.group_safety.proofs.rollover.KeyFacts.{transmitting-last}
 use Rattle.group_safety.proofs.rollover.Begins.{following-is}
 use Rattle.group_safety.proofs.rollover.Turns.{IsTurn, kept-turn, with_tick}
+use Rattle.group_safety.specs.Rounds.{Since}
 use Rattle.group_safety.proofs.rollover.Turns.{turn-past}
 use Rattle.group_safety.proofs.rollover.TicksAreRounds.{IsPaced}
 use Rattle.group_safety.proofs.rollover.Shown.{said-transmitting}
@@ -185,7 +186,7 @@ keys-when-said settings run z t a s living =
 
 module _ (settings : Settings) (users : List UserFrame) (run : Run) (is : IsSetting settings)
     (stepped : IsStepped settings users run) (unforged : IsUnforged settings run)
-    (fresh : AllDiffer (drawn_mis run)) (from : ℕ) (paced : IsPaced from run) where
+    (fresh : AllDiffer (drawn_mis run)) (from : Since) (paced : IsPaced from run) where
   -- a station's life right after it said something
   pub life-when-said : (z t : ℕ) (a : Announcement) (s : Said settings run z t a)
       → life settings t (upto (suc z) run) ≡ Some

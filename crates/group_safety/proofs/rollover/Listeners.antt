@@ -36,7 +36,7 @@ use Rattle.lan_core.specs.Legal.{IsStepped}
 use Rattle.lan_base.specs.Differing.{AllDiffer}
 use Rattle.lan_core.specs.Fresh.{IsUnforged, drawn_mis}
 use Rattle.group_safety.specs.Moments.{upto, At}
-use Rattle.group_safety.specs.Rounds.{rounds}
+use Rattle.group_safety.specs.Rounds.{Since, rounds}
 use Rattle.group_safety.specs.Stations.{mi_at, keys_at}
 use Rattle.group_safety.specs.Steady.{Begins, Rollover, IsListener, IsKeeper, IsSteady}
 use Rattle.group_safety.proofs.rollover.Course.{Course, Rests, IsListening, IsKeeping}
@@ -149,7 +149,7 @@ view-live m p = refl
 
 module _ (settings : Settings) (users : List UserFrame) (run : Run) (is : IsSetting settings)
     (stepped : IsStepped settings users run) (unforged : IsUnforged settings run)
-    (fresh : AllDiffer (drawn_mis run)) (from : ℕ) (paced : IsPaced from run) where
+    (fresh : AllDiffer (drawn_mis run)) (from : Since) (paced : IsPaced from run) where
   abbrev pub cc_ : Course
   cc_ = the-course settings users run is stepped unforged fresh from paced
 
@@ -493,6 +493,7 @@ module _ (settings : Settings) (users : List UserFrame) (run : Run) (is : IsSett
         record {
           after = listener-after t sent says l;
           before = h.before;
+          counted = let out = l.counts in rw out refl;
           life = lives-of settings users run is stepped unforged fresh from paced t
               (suc sent) h.announcement.mi (λ n p m. listener-life t sent says l n (omega arith) m);
           new_key = k.0;

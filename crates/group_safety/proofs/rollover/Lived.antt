@@ -1,7 +1,7 @@
 -- What the lives of a run keep, and how their keys go on from moment to moment.
 use Rattle.std.proofs.Common.{◌≡◌, inl, inr, ℕ, suc, ◌+◌, ◌≤◌, ◌<◌, List, [], ◌∷◌, length, refl, ap}
 use Rattle.std.proofs.Common.{sym, ◌∙◌, subst, arith}
-use Rattle.std.proofs.Common.{Option, Some, None, Ok}
+use Rattle.std.proofs.Common.{Option, Some, None, Ok, true, not}
 use Rattle.std.proofs.lemmas.Bool.{eq-eqb}
 use Rattle.lan_base.specs.declared.address.Mi.{Mi}
 use Rattle.lan_base.specs.declared.key_id.KeyId.{KeyId}
@@ -29,7 +29,7 @@ use Rattle.lan_core.specs.Legal.{IsStep, IsStepped}
 use Rattle.lan_base.specs.Differing.{AllDiffer, DiffersFrom}
 use Rattle.lan_core.specs.Fresh.{IsUnforged, drawn_mis}
 use Rattle.group_safety.specs.Moments.{upto, At}
-use Rattle.group_safety.specs.Rounds.{rounds}
+use Rattle.group_safety.specs.Rounds.{Since, is_among, rounds}
 use Rattle.group_safety.specs.Stations.{mi_of, mi_at, keys_of_life, keys_at}
 use Rattle.group_safety.proofs.rollover.Waits.{waits, tick_of, last_tick}
 use Rattle.group_safety.proofs.rollover.Course.{Course, Step, Lives}
@@ -247,15 +247,16 @@ module _ (settings : Settings) (users : List UserFrame) (run : Run) (is : IsSett
 
   -- ---- the course of the run
 
-  module _ (from : ℕ) (paced : IsPaced from run) where
+  module _ (from : Since) (paced : IsPaced from run) where
     abbrev pub course : Course
     course = record {
       end = length run;
-      from = from;
+      from = from.moment;
       keys = λ u n. keys_at settings u (upto n run);
       ticks = λ u n. last_tick u (upto (suc n) run);
       rounds = λ n. rounds from (upto n run);
       waits = λ u n. waits from u (upto n run);
+      counted = λ u. not (is_among u from.out);
     }
 
     pub tick-at : (u n : ℕ) (x : Happening) → At run n x → course.ticks u n ≡ tick_of u x.event
@@ -270,13 +271,13 @@ module _ (settings : Settings) (users : List UserFrame) (run : Run) (is : IsSett
         (subst (IsPaced from) s.1 (paced-upto from (suc n) run paced)))
 
     counts-at : (u n : ℕ) (x : Happening) (m : Mi) → n < length run → At run n x
-        → mi_at settings u (upto n run) ≡ Some m → from ≤ n
-        → course.ticks u n + course.waits u (suc n) + course.rounds n
+        → mi_at settings u (upto n run) ≡ Some m → from.moment ≤ n
+        → not (is_among u from.out) ≡ true → course.ticks u n + course.waits u (suc n) + course.rounds n
         ≡ course.waits u n + course.rounds (suc n)
-    counts-at u n x m high at here early =
+    counts-at u n x m high at here early counted =
         let there = (stands-at settings users run stepped fresh n (omega arith)).there u m here in
         let long = length-upto n run (omega arith) in
-        let c = step-counts from u x (upto n run) (omega arith) there
+        let c = step-counts from u x (upto n run) (omega arith) there counted
         (subst (IsPaced from) at (paced-upto from (suc n) run paced)) in
         let t = tick-at u n x at in
         let w = ap (waits from u) at in

@@ -42,6 +42,7 @@ use Rattle.group_safety.proofs.rollover.Spans.{from_to}
 use Rattle.group_safety.proofs.rollover.AtMoments.{event-at, upto-zero}
 use Rattle.group_safety.proofs.rollover.KeyFacts.{latest-received, received-installed}
 use Rattle.group_safety.proofs.rollover.Begins.{making-is}
+use Rattle.group_safety.specs.Rounds.{Since}
 use Rattle.group_safety.proofs.rollover.Turns.{IsTurn, with_tick}
 use Rattle.group_safety.proofs.rollover.TicksAreRounds.{IsPaced}
 use Rattle.group_safety.proofs.rollover.EventKinds as parts
@@ -151,7 +152,7 @@ pub record MadeAt (settings : Settings) (run : Run) (z s : ℕ) (k : Key) : Type
 
 module _ (settings : Settings) (users : List UserFrame) (run : Run) (is : IsSetting settings)
     (stepped : IsStepped settings users run) (unforged : IsUnforged settings run)
-    (fresh : AllDiffer (drawn_mis run)) (from : ℕ) (paced : IsPaced from run) where
+    (fresh : AllDiffer (drawn_mis run)) (from : Since) (paced : IsPaced from run) where
   -- ---- makers
 
   -- a key that is given was installed by who gives it, under the same name

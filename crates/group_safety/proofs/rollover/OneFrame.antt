@@ -28,6 +28,7 @@ use Rattle.group_safety.proofs.once.Histories.{sent-before, sent-some, sent-hear
 use Rattle.group_safety.proofs.once.Ticking.{tick_key, tick_roster, tick_lead, announced-next}
 use Rattle.group_safety.proofs.rollover.Spans.{from_to}
 use Rattle.group_safety.proofs.rollover.AtMoments.{event-at, one-event}
+use Rattle.group_safety.specs.Rounds.{Since}
 use Rattle.group_safety.proofs.rollover.Turns.{turn-past, hear-past}
 use Rattle.group_safety.proofs.rollover.TicksAreRounds.{IsPaced}
 use Rattle.group_safety.proofs.rollover.EventKinds.{part}
@@ -67,7 +68,7 @@ sent-hear m a p = ap (λ q. last_sent (peers_of m q)) (sym (hear-past m a p))
 
 module _ (settings : Settings) (users : List UserFrame) (run : Run) (is : IsSetting settings)
     (stepped : IsStepped settings users run) (unforged : IsUnforged settings run)
-    (fresh : AllDiffer (drawn_mis run)) (from : ℕ) (paced : IsPaced from run) where
+    (fresh : AllDiffer (drawn_mis run)) (from : Since) (paced : IsPaced from run) where
   -- a life's numbers never fall
   sent-on : (u : ℕ) (m : Mi) (n : ℕ) → n < length run → mi_at settings u (upto n run) ≡ Some m
       → mi_at settings u (upto (suc n) run) ≡ Some m

@@ -49,6 +49,7 @@ use Rattle.group_safety.proofs.rollover.Turns.{IsTickTurn, kept-turn}
 use Rattle.group_safety.proofs.rollover.Turns.{with_tick}
 use Rattle.group_safety.proofs.rollover.TicksAreRounds.{IsPaced}
 use Rattle.group_safety.proofs.rollover.OneLife.{step-at, one-life, unbroken-life}
+use Rattle.group_safety.specs.Rounds.{Since}
 use Rattle.group_safety.proofs.rollover.Said.{known-at}
 use Rattle.group_safety.proofs.rollover.Lived.{key-part, kept-at, life-kept, one-install-at}
 use Rattle.group_safety.proofs.rollover.Lived.{tick-turn-at, lives-of, rise-at, tick-settled}
@@ -140,7 +141,7 @@ count-tick (Some s) h = refl
 
 module _ (settings : Settings) (users : List UserFrame) (run : Run) (is : IsSetting settings)
     (stepped : IsStepped settings users run) (unforged : IsUnforged settings run)
-    (fresh : AllDiffer (drawn_mis run)) (from : ℕ) (paced : IsPaced from run) where
+    (fresh : AllDiffer (drawn_mis run)) (from : Since) (paced : IsPaced from run) where
   abbrev pub c : Course
   c = the-course settings users run is stepped unforged fresh from paced
 
@@ -541,6 +542,7 @@ module _ (settings : Settings) (users : List UserFrame) (run : Run) (is : IsSett
           order = a;
           within = begun-within;
           early = omega arith;
+          counted = rw S.server_counts refl;
           life = server-lives;
           old_key = older.0;
           new_key = new-key;

@@ -39,6 +39,7 @@ use Rattle.group_safety.proofs.once.Histories.{view-keys, keys-ticked}
 use Rattle.group_safety.proofs.rollover.AtMoments.{event-at}
 use Rattle.group_safety.proofs.rollover.Begins.{making-is}
 use Rattle.group_safety.proofs.rollover.Turns.{IsTurn, news, turn-new, news-quiet, turn-past}
+use Rattle.group_safety.specs.Rounds.{Since}
 use Rattle.group_safety.proofs.rollover.Turns.{hear-past}
 use Rattle.group_safety.proofs.rollover.TicksAreRounds.{IsPaced}
 use Rattle.group_safety.proofs.rollover.EventKinds.{IsReached}
@@ -139,7 +140,7 @@ pub data KeyTurn (settings : Settings) (run : Run) (c : Course) (u n : ℕ) : Ty
 
 module _ (settings : Settings) (users : List UserFrame) (run : Run) (is : IsSetting settings)
     (stepped : IsStepped settings users run) (unforged : IsUnforged settings run)
-    (fresh : AllDiffer (drawn_mis run)) (from : ℕ) (paced : IsPaced from run) where
+    (fresh : AllDiffer (drawn_mis run)) (from : Since) (paced : IsPaced from run) where
   abbrev pub the-course : Course
   the-course = course settings users run is stepped unforged fresh from paced
 

@@ -36,16 +36,16 @@ key_under an ks = find (λ k. same_an k.an an) ks
 abbrev pub sak_under : AssociationNumber → List Key → Option Secret
 sak_under an ks = option_map (λ k. k.sak) (key_under an ks)
 
-apart-an : (a b : AssociationNumber) → a ≢ b → same_an a b ≡ false
+pub apart-an : (a b : AssociationNumber) → a ≢ b → same_an a b ≡ false
 apart-an a b apart =
     by_test (same_an a b) (λ t. absurd (apart (same-an-equal a b t))) (λ f. f)
 
 -- no key has the number
-pub NoneHas : AssociationNumber → List Key → Type 0
+unfoldable pub NoneHas : AssociationNumber → List Key → Type 0
 NoneHas an [] = Unit {0}
 NoneHas an (k ∷ ks) = (k.an ≢ an) × NoneHas an ks
 
-pub AnsDiffer : List Key → Type 0
+unfoldable pub AnsDiffer : List Key → Type 0
 AnsDiffer [] = Unit {0}
 AnsDiffer (k ∷ ks) = NoneHas k.an ks × AnsDiffer ks
 

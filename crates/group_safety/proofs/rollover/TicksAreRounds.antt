@@ -8,7 +8,10 @@ use Rattle.lan_core.specs.declared.event.Event.{Event}
 use Rattle.lan_core.specs.declared.event.Event.TheVariants as events
 use Rattle.lan_core.specs.Run.{Run, Happening, stations}
 use Rattle.group_safety.specs.Moments.{upto}
-use Rattle.group_safety.specs.Rounds.{Pace, places, without, between_rounds, ticking, turn, pace}
+use Rattle.std.specs.Prelude.{Bool, not, if◌then◌else◌}
+use Rattle.std.specs.List.{filter}
+use Rattle.group_safety.specs.Rounds.{Pace, Since, places, is_among, counted, without}
+use Rattle.group_safety.specs.Rounds.{between_rounds, ticking, ticking_aside, turn, pace}
 use Rattle.group_safety.specs.Rounds.{rounds_in, rounds}
 use Rattle.group_safety.proofs.rollover.Waits.{bit, has, waits_in, waits, tick_of}
 use Rattle.group_safety.proofs.rollover.Spans.{by_cases}
@@ -20,6 +23,23 @@ has-place u (suc n) l =
     by_test (n == u) (λ e. rw e refl)
     (λ e. let d = eqb-false n u e in
     rw e (has-place u n (by_cases (cases_lt u n) (λ k. k) (λ k. absurd (d (omega arith))))))
+
+has-filter : (u : ℕ) (p : ℕ → Bool) (us : List ℕ) → has u us ≡ true → p u ≡ true
+    → has u (filter p us) ≡ true
+has-filter u p [] h t = h
+has-filter u p (w ∷ us) h t =
+    by_test (w == u)
+    (λ e. let same = eqb-true w u e in let f : p w ≡ true = ap p same ∙ t in rw (f, e) refl)
+    (λ e. let later = has-filter u p us (rw e at h) t in go (p w) later e)
+  where
+    go : (b : Bool) → has u (filter p us) ≡ true → (w == u) ≡ false
+        → has u (if b then w ∷ filter p us else filter p us) ≡ true
+    go true later e = rw e later
+    go false later e = later
+
+has-counted : (u n : ℕ) (out : List ℕ) → u < n → not (is_among u out) ≡ true
+    → has u (counted out n) ≡ true
+has-counted u n out l t = has-filter u (λ s. not (is_among s out)) (places n) (has-place u n l) t
 
 has-without_self : (s : ℕ) (us : List ℕ) → has s (without s us) ≡ false
 has-without_self s [] = refl
@@ -62,10 +82,23 @@ ticking-counts u all s next r (w ∷ ws) l =
     has-without_other s u (w ∷ ws) (eqb-false s u e) in rw (h, e, f) (omega arith)))
     (λ h. rw h tt)
 
+aside-counts : (u : ℕ) (all : List ℕ) (s next : ℕ) (p : Pace) → has u all ≡ true
+    → is_among s all ≡ false
+    → Counts u (tick_of u (events.Tick s next)) p.rounds p.waiting (ticking_aside s p)
+aside-counts u all s next p l out =
+    by_test (s == u)
+    (λ e. let same = eqb-true s u e in
+    let f : has u all ≡ false = subst (λ (x : ℕ). has x all ≡ false) same out in
+    absurd (cc (l, f)))
+    (λ e. let f : has u (without s p.waiting) ≡ has u p.waiting =
+    has-without_other s u p.waiting (eqb-false s u e) in rw (e, f) (omega arith))
+
 turn-counts : (u : ℕ) (all : List ℕ) (x : Event) (p : Pace) → has u all ≡ true
     → Counts u (tick_of u x) p.rounds p.waiting (turn all x p)
 turn-counts u all (events.Start name sci priority) p l = between-counts u p.rounds p.waiting
-turn-counts u all (events.Tick s next) p l = ticking-counts u all s next p.rounds p.waiting l
+turn-counts u all (events.Tick s next) p l =
+    by_test (is_among s all) (λ h. rw h (ticking-counts u all s next p.rounds p.waiting l))
+    (λ h. rw h (aside-counts u all s next p l h))
 turn-counts u all (events.Deliver frame s) p l = between-counts u p.rounds p.waiting
 turn-counts u all (events.Restart s) p l = between-counts u p.rounds p.waiting
 turn-counts u all (events.Claim s user pn) p l = omega arith
@@ -73,7 +106,7 @@ turn-counts u all events.Emit p l = between-counts u p.rounds p.waiting
 turn-counts u all (events.Inject s octets) p l = between-counts u p.rounds p.waiting
 
 -- a run that is paced from a moment on
-abbrev pub IsPaced : ℕ → Run → Type 0
+abbrev pub IsPaced : Since → Run → Type 0
 IsPaced from r = is_some (pace from r) ≡ true
 
 turned-counts : (u : ℕ) (all : List ℕ) (x : Event) (o : Option Pace) → has u all ≡ true
@@ -88,34 +121,35 @@ turned-counts u all x (Some p) l e = go (turn all x p) (turn-counts u all x p l)
     go None c k = absurd (cc (k))
     go (Some q) c k = c
 
-pace-on : (from : ℕ) (x : Happening) (r : Run) → from ≤ length r
-    → pace from (x ∷ r) ≡ option_and_then (turn (places (length (stations r))) x.event)
+pace-on : (from : Since) (x : Happening) (r : Run) → from.moment ≤ length r
+    → pace from (x ∷ r) ≡ option_and_then (turn (counted from.out (length (stations r))) x.event)
     (pace from r)
 unfolding pace
-pace-on from x r l = rw (le-ltb (length r) from l) refl
+pace-on from x r l = rw (le-ltb (length r) from.moment l) refl
 
-pace-early : (from : ℕ) (x : Happening) (r : Run) → length r < from
+pace-early : (from : Since) (x : Happening) (r : Run) → length r < from.moment
     → pace from (x ∷ r) ≡ Some (record { rounds = 0; waiting = [] })
 unfolding pace
-pace-early from x r l = rw (lt-ltb (length r) from l) refl
+pace-early from x r l = rw (lt-ltb (length r) from.moment l) refl
 
-pace-before : (from : ℕ) (r : Run) → length r ≤ from
+pace-before : (from : Since) (r : Run) → length r ≤ from.moment
     → pace from r ≡ Some (record { rounds = 0; waiting = [] })
 unfolding pace
 pace-before from [] l = refl
-pace-before from (x ∷ r) l = rw (lt-ltb (length r) from (omega arith)) refl
+pace-before from (x ∷ r) l = rw (lt-ltb (length r) from.moment (omega arith)) refl
 
 -- one event of a paced run
-pub step-counts : (from u : ℕ) (x : Happening) (r : Run) → from ≤ length r → u < length (stations r)
+pub step-counts : (from : Since) (u : ℕ) (x : Happening) (r : Run) → from.moment ≤ length r
+    → u < length (stations r) → not (is_among u from.out) ≡ true
     → IsPaced from (x ∷ r)
     → tick_of u x.event + waits from u (x ∷ r) + rounds from r ≡ waits from u r + rounds from
     (x ∷ r)
 unfolding waits rounds
-step-counts from u x r l k paced =
+step-counts from u x r l k taking paced =
     let e = pace-on from x r l in
     let p = subst (λ (o : Option Pace). is_some o ≡ true) e paced in
-    let c = turned-counts u (places (length (stations r))) x.event (pace from r)
-    (has-place u (length (stations r)) k) p in
+    let c = turned-counts u (counted from.out (length (stations r))) x.event (pace from r)
+    (has-counted u (length (stations r)) from.out k taking) p in
     rw e c
 
 chained-some : {A B : Type 0} (f : A → Option B) (o : Option A)
@@ -123,14 +157,14 @@ chained-some : {A B : Type 0} (f : A → Option B) (o : Option A)
 chained-some f None e = e
 chained-some f (Some a) e = refl
 
-pub paced-tail : (from : ℕ) (x : Happening) (r : Run) → IsPaced from (x ∷ r) → IsPaced from r
+pub paced-tail : (from : Since) (x : Happening) (r : Run) → IsPaced from (x ∷ r) → IsPaced from r
 paced-tail from x r paced =
-    by_cases (cases_lt (length r) from)
+    by_cases (cases_lt (length r) from.moment)
     (λ l. let e = pace-before from r (omega arith) in rw e refl)
-    (λ l. chained-some (turn (places (length (stations r))) x.event) (pace from r)
+    (λ l. chained-some (turn (counted from.out (length (stations r))) x.event) (pace from r)
     (subst (λ (o : Option Pace). is_some o ≡ true) (pace-on from x r l) paced))
 
-pub paced-upto : (from n : ℕ) (r : Run) → IsPaced from r → IsPaced from (upto n r)
+pub paced-upto : (from : Since) (n : ℕ) (r : Run) → IsPaced from r → IsPaced from (upto n r)
 paced-upto from n r paced = to-upto (IsPaced from) (paced-tail from) n r paced
 
 -- rounds never fall
@@ -150,21 +184,24 @@ turn-rises : (all : List ℕ) (x : Event) (o : Option Pace)
     → rounds_in o ≤ rounds_in (option_and_then (turn all x) o)
 turn-rises all x None e = omega arith
 turn-rises all (events.Start name sci priority) (Some p) e = between-rises p.rounds p.waiting e
-turn-rises all (events.Tick s next) (Some p) e = ticking-rises all s p.rounds p.waiting e
+turn-rises all (events.Tick s next) (Some p) e =
+    by_test (is_among s all)
+    (λ h. let g = rw h at e in rw h (ticking-rises all s p.rounds p.waiting g))
+    (λ h. rw h (omega arith))
 turn-rises all (events.Deliver frame s) (Some p) e = between-rises p.rounds p.waiting e
 turn-rises all (events.Restart s) (Some p) e = between-rises p.rounds p.waiting e
 turn-rises all (events.Claim s user pn) (Some p) e = omega arith
 turn-rises all events.Emit (Some p) e = between-rises p.rounds p.waiting e
 turn-rises all (events.Inject s octets) (Some p) e = between-rises p.rounds p.waiting e
 
-pub step-rises : (from : ℕ) (x : Happening) (r : Run) → IsPaced from (x ∷ r)
+pub step-rises : (from : Since) (x : Happening) (r : Run) → IsPaced from (x ∷ r)
     → rounds from r ≤ rounds from (x ∷ r)
 unfolding rounds
 step-rises from x r paced =
-    by_cases (cases_lt (length r) from)
+    by_cases (cases_lt (length r) from.moment)
     (λ l. let z = pace-before from r (omega arith) in rw z (omega arith))
     (λ l. let e = pace-on from x r l in
-    rw e (turn-rises (places (length (stations r))) x.event (pace from r)
+    rw e (turn-rises (counted from.out (length (stations r))) x.event (pace from r)
     (subst (λ (o : Option Pace). is_some o ≡ true) e paced)))
 
 -- after an event of its own that is no claim, and after each event outside rounds, a station waits
@@ -187,28 +224,30 @@ ticking-waits u all r (w ∷ ws) =
 turned-waits : (u : ℕ) (all : List ℕ) (x : Event) (o : Option Pace) → Settles u x
     → waits_in u (option_and_then (turn all x) o) ≡ 0
 turned-waits u all x None s = refl
-turned-waits u all x (Some p) (ticks next e) = rw e (ticking-waits u all p.rounds p.waiting)
+turned-waits u all x (Some p) (ticks next e) =
+    rw e (by_test (is_among u all) (λ h. rw h (ticking-waits u all p.rounds p.waiting))
+    (λ h. rw h (ap bit (has-without_self u p.waiting))))
 turned-waits u all x (Some p) (delivers frame s e) = rw e (between-waits u p.rounds p.waiting)
 turned-waits u all x (Some p) (injects s octets e) = rw e (between-waits u p.rounds p.waiting)
 
-pub settled-waits : (from u : ℕ) (x : Happening) (r : Run) → Settles u x.event
+pub settled-waits : (from : Since) (u : ℕ) (x : Happening) (r : Run) → Settles u x.event
     → waits from u (x ∷ r) ≡ 0
 unfolding waits
 settled-waits from u x r s =
-    by_cases (cases_lt (length r) from)
+    by_cases (cases_lt (length r) from.moment)
     (λ l. let e = pace-early from x r l in rw e refl)
     (λ l. let e = pace-on from x r l in
-    rw e (turned-waits u (places (length (stations r))) x.event (pace from r) s))
+    rw e (turned-waits u (counted from.out (length (stations r))) x.event (pace from r) s))
 
 -- a delivery is paced only where no station waits
-pub idle-before : (from u frame t : ℕ) (x : Happening) (r : Run) → x.event ≡ events.Deliver frame t
+pub idle-before : (from : Since) (u frame t : ℕ) (x : Happening) (r : Run) → x.event ≡ events.Deliver frame t
     → IsPaced from (x ∷ r) → waits from u r ≡ 0
 unfolding waits
 idle-before from u frame t x r e paced =
-    by_cases (cases_lt (length r) from)
+    by_cases (cases_lt (length r) from.moment)
     (λ l. let z = pace-before from r (omega arith) in rw z refl)
     (λ l. let p = subst (λ (o : Option Pace). is_some o ≡ true)
-    (pace-on from x r l ∙ ap (λ v. option_and_then (turn (places (length (stations r))) v)
+    (pace-on from x r l ∙ ap (λ v. option_and_then (turn (counted from.out (length (stations r))) v)
     (pace from r)) e) paced in go (pace from r) p)
   where
     none : (p : ℕ) (w : List ℕ) → is_some (between_rounds p w) ≡ true → bit (has u w) ≡ 0
@@ -216,7 +255,7 @@ idle-before from u frame t x r e paced =
     none p (w ∷ ws) e = absurd (cc (e))
 
     go : (o : Option Pace) → is_some
-        (option_and_then (turn (places (length (stations r))) (events.Deliver frame t)) o) ≡ true
+        (option_and_then (turn (counted from.out (length (stations r))) (events.Deliver frame t)) o) ≡ true
         → waits_in u o ≡ 0
     go None e = refl
     go (Some p) e = none p.rounds p.waiting e

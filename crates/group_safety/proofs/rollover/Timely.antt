@@ -30,7 +30,7 @@ use Rattle.lan_core.specs.Legal.{IsStepped}
 use Rattle.lan_base.specs.Differing.{AllDiffer}
 use Rattle.lan_core.specs.Fresh.{IsUnforged, drawn_mis}
 use Rattle.group_safety.specs.Moments.{upto, At}
-use Rattle.group_safety.specs.Rounds.{rounds}
+use Rattle.group_safety.specs.Rounds.{Since, rounds}
 use Rattle.group_safety.specs.Stations.{keys_at, keys_of_life}
 use Rattle.group_safety.specs.Steady.{Makes, Rollover, IsListener, IsKeeper, IsSteady}
 use Rattle.group_safety.specs.Time.{Flight, Claims, HasSaid, IsInTimeForOld}
@@ -90,7 +90,7 @@ transmitting-keys settings s r k is = go (life settings s r) refl is
 
 module _ (settings : Settings) (users : List UserFrame) (run : Run) (is : IsSetting settings)
     (stepped : IsStepped settings users run) (unforged : IsUnforged settings run)
-    (fresh : AllDiffer (drawn_mis run)) (from : ℕ) (paced : IsPaced from run) where
+    (fresh : AllDiffer (drawn_mis run)) (from : Since) (paced : IsPaced from run) where
   made-shown : (z s : ℕ) (k : Key) → MadeAt settings run z s k → Makes run z s k.id
   made-shown z s k m = record {
     event = m.event;

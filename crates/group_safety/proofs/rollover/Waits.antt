@@ -6,7 +6,7 @@ use Rattle.std.specs.List.{list_any}
 use Rattle.lan_core.specs.declared.event.Event.{Event}
 use Rattle.lan_core.specs.declared.event.Event.TheVariants as events
 use Rattle.lan_core.specs.Run.{Run}
-use Rattle.group_safety.specs.Rounds.{Pace, pace}
+use Rattle.group_safety.specs.Rounds.{Pace, Since, pace}
 
 abbrev pub bit : Bool → ℕ
 bit true = 1
@@ -19,7 +19,7 @@ abbrev pub waits_in : ℕ → Option Pace → ℕ
 waits_in u None = 0
 waits_in u (Some p) = bit (has u p.waiting)
 
-unfoldable pub waits : ℕ → ℕ → Run → ℕ
+unfoldable pub waits : Since → ℕ → Run → ℕ
 waits from u r = waits_in u (pace from r)
 
 -- an event is a tick of the station, 1, or not

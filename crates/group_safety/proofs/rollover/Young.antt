@@ -1,6 +1,6 @@
 -- How long ago a key began, in rounds.
 use Rattle.std.proofs.Common.{◌≡◌, ℕ, suc, ◌+◌, ◌≤◌, ◌<◌, Option, Some, None}
-use Rattle.std.proofs.Common.{refl, ap, ◌∙◌, arith}
+use Rattle.std.proofs.Common.{refl, ap, ◌∙◌, arith, true}
 use Rattle.lan_base.specs.Timers.{retire_time}
 use Rattle.sak_exchange.specs.Histories.{clock, begun_at}
 use Rattle.sak_exchange.specs.Lives.{IsFresh}
@@ -14,14 +14,14 @@ IsRecent c u e since n = (at : ℕ) → begun_at (c.keys u n) e ≡ Some at
 
 -- that goes on in a life
 pub recent-on : (c : Course) (u e a b since : ℕ) → Lives c u a → a ≤ b → b ≤ c.end
-    → c.from ≤ a → ((n : ℕ) → a ≤ n → n < c.end → since ≤ c.rounds (suc n))
+    → c.from ≤ a → c.counted u ≡ true → ((n : ℕ) → a ≤ n → n < c.end → since ≤ c.rounds (suc n))
     → IsRecent c u e since a → IsRecent c u e since b
-recent-on c u e a b since life low high early past begin =
+recent-on c u e a b since life low high early counted past begin =
     from_to (λ n. IsRecent c u e since n) a b low begin (λ n p q h at begun.
     let s = life.step n p (omega arith) in
     let grows = ap clock s.whole ∙ clock-append s.new (c.keys u n) in
     let timed = s.timed in
-    let counts = s.counts (omega arith) in
+    let counts = s.counts (omega arith) counted in
     by_cases (s.begins e at begun)
     (λ before. let r = h at before in omega arith)
     (λ now. let same = now.0 in let idle = now.1 in

@@ -1,23 +1,16 @@
 -- How the numbers of draws are kept with what they gave.
 use Rattle.std.specs.Prelude.{◌≡◌, ℕ, ◌+◌, if◌then◌else◌, Option, Some, None, option_map}
 use Rattle.lan_base.specs.declared.address.Mi.{Mi}
-use Rattle.lan_base.specs.Identifiers.{same_mi}
 use Rattle.aes_block.specs.declared.secret.Secret.{Secret}
 use Rattle.lan_core.specs.declared.stop.Stop.{Stop}
 use Rattle.lan_core.specs.declared.stop.Stop.TheVariants.{RepeatedDraw}
 use Rattle.lan_core.specs.Stops.{same_secret}
 use Rattle.lan_core.specs.Standing.{Numbers, number_of_mi, number_of_sak}
+use Rattle.lan_core.specs.Noting.{SakIsNoted}
 
 -- the stop of a draw whose value was given before by the draw of this number
 abbrev pub stop_of : Numbers → Option ℕ → Option Stop
 stop_of drawn before = option_map (λ first. RepeatedDraw first (drawn.count + 1)) before
-
--- a member identifier was drawn
-pub record MiIsNoted (old new : Numbers) (mi : Mi) : Type 0 where
-  pub count : new.count ≡ old.count + 1
-  pub mis : (m : Mi) → number_of_mi new m
-      ≡ (if same_mi m mi then Some (old.count + 1) else number_of_mi old m)
-  pub saks : (sak : Secret) → number_of_sak new sak ≡ number_of_sak old sak
 
 -- a key has this number now, and all else is as before
 pub record SakIsKept (number : ℕ) (old new : Numbers) (sak : Secret) : Type 0 where
@@ -25,13 +18,6 @@ pub record SakIsKept (number : ℕ) (old new : Numbers) (sak : Secret) : Type 0 
   pub mis : (m : Mi) → number_of_mi new m ≡ number_of_mi old m
   pub saks : (s : Secret) → number_of_sak new s
       ≡ (if same_secret s sak then Some number else number_of_sak old s)
-
--- a key was drawn, by so many draws
-pub record SakIsNoted (draws : ℕ) (old new : Numbers) (sak : Secret) : Type 0 where
-  pub count : new.count ≡ old.count + draws
-  pub mis : (m : Mi) → number_of_mi new m ≡ number_of_mi old m
-  pub saks : (s : Secret) → number_of_sak new s
-      ≡ (if same_secret s sak then Some (old.count + 1) else number_of_sak old s)
 
 -- a key was drawn, if any
 abbrev pub IfNoted : ℕ → Numbers → Numbers → Option Secret → Type 0

@@ -12,7 +12,8 @@ ghost use Rattle.lan_core.specs.Stops.{stop_of_forgery};
 ghost use Rattle.lan_core.specs.Standing.{in_order, number_of_mi, number_of_sak};
 ghost use Rattle.lan_core.specs.Answers.{IsWhy};
 ghost use Rattle.lan_core.specs.inside.Judging.{MayJudge};
-ghost use Rattle.lan_core.specs.inside.Drawing.{MiIsNoted, IfNoted, stop_of};
+ghost use Rattle.lan_core.specs.Noting.{MiIsNoted};
+ghost use Rattle.lan_core.specs.inside.Drawing.{IfNoted, stop_of};
 
 use super::Lan;
 use crate::air::Air;

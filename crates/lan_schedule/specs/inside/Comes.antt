@@ -1,5 +1,5 @@
 -- Which acts can be performed in a world: each of their events may come where it is reached.
-use Rattle.std.specs.Prelude.{◌≡◌, Option, None, Result}
+use Rattle.std.specs.Prelude.{◌≡◌, List, ◌++◌, Option, None, Result}
 use Rattle.lan_base.specs.declared.frame.UserFrame.{UserFrame}
 use Rattle.lan_core.specs.declared.event.Event.{Event}
 use Rattle.lan_core.specs.declared.event.Event.TheVariants as events
@@ -8,10 +8,11 @@ use Rattle.lan_core.specs.Stops.{MayCome}
 use Rattle.lan_schedule.specs.Sound.{IsTidy}
 use Rattle.lan_schedule.specs.declared.halt.Halt.{Halt}
 use Rattle.lan_schedule.specs.World.{World, settings}
-use Rattle.lan_schedule.specs.Numbers.{shown_next, claimed_number}
 use Rattle.lan_schedule.specs.Acts.{Act, nothing, refuse, happen, change, seq, look, perform}
-use Rattle.lan_schedule.specs.Acts.{Course, Goes, Stops}
-use Rattle.lan_schedule.specs.Ends.{Sunk, Moment, IsReached, Ends}
+use Rattle.lan_schedule.specs.Acts.{Course, Goes, Stops, exceed, race, begun_race}
+use Rattle.lan_schedule.specs.Ends.{Sunk, Moment, IsReached, Ends, onward}
+use Rattle.lan_schedule.specs.Races.{Chance}
+use Rattle.lan_schedule.specs.Numbers.{number_shown, number_claimed}
 
 -- the user frame that an event names
 abbrev pub named : World → Event → Option UserFrame
@@ -22,26 +23,31 @@ abbrev pub IsGoing : Course → (World → Type 0) → Type 0
 IsGoing (Goes w) Holds = Holds w
 IsGoing (Stops w halt) Holds = Unit {0}
 
--- an event shows and claims the next packet number, and no other
+-- an event shows and claims the packet number that it has to, and no other
 abbrev pub IsExact : World → Event → Type 0
-IsExact w (events.Tick s shown) = shown ≡ shown_next (settings w) s w.run
-IsExact w (events.Claim s user pn) = pn ≡ claimed_number (settings w) s w.run
+IsExact w (events.Tick s shown) = shown ≡ number_shown w s
+IsExact w (events.Claim s user pn) = pn ≡ number_claimed w s
 IsExact w _ = Unit {0}
 
 -- an act can be performed in a world
 abbrev pub Comes : Act → World → Type 0
 Comes nothing w = Unit {0}
 Comes (refuse kind) w = Unit {0}
+Comes (exceed excess) w = Unit {0}
 Comes (happen event) w =
     MayCome (settings w) w.kept.users w.run (named w event) event × IsExact w event
 Comes (change f) w = IsTidy (record w { kept = f w.kept })
 Comes (seq first later) w =
     Comes first w × IsGoing (perform first w) (λ v. IsTidy v → Comes later v)
 Comes (look act) w = Comes (act w) w
+Comes (race workers control) w =
+    IsTidy (begun_race workers w) × Comes control (begun_race workers w)
 
 -- a call did an act, in each world that its value may stand for and in which the act can be
--- performed
+-- performed, where chance decides so next, and anything later
 pub record Did {R : Type 0} (Stands : World → R → Type 0) (act : Act) (old new : Moment R)
     (result : Result (Unit {0}) Halt) : Type 0 where
-  pub ends : (base : Sunk) (w : World) → IsReached Stands base w old → Comes act w
-      → Ends Stands base (perform act w) new result
+  pub chances : List Chance
+  pub ends : (base : Sunk) (w : World) (later : List Chance) → w.kept.chances ≡ chances ++ later
+      → IsReached Stands base w old → Comes act w
+      → Ends Stands base (onward later w) (perform act w) new result

@@ -9,19 +9,20 @@ use Rattle.lan_schedule.specs.declared.halt.Halt.TheVariants as halts
 use Rattle.lan_schedule.specs.declared.trace.End.{End}
 use Rattle.lan_schedule.specs.declared.trace.End.TheVariants as ends
 use Rattle.lan_schedule.specs.declared.commands.Replay.{Replay}
-use Rattle.lan_schedule.specs.Texts.{whole_lines, lines_of}
+use Rattle.lan_schedule.specs.Texts.{whole_lines}
 use Rattle.lan_schedule.specs.Lines.{performed_all}
 use Rattle.lan_schedule.specs.Ends.{Moment}
 use Rattle.lan_schedule.specs.Standing.{Does}
-use Rattle.lan_schedule.specs.Trace.{Sourced, most_input, lines_within}
+use Rattle.lan_schedule.specs.Acts.{Act}
+use Rattle.lan_schedule.specs.Trace.{Sourced, most_input, whole, within}
 
 abbrev pub Runs : List ℕ → Sourced → Sourced → Moment Replay → Moment Replay
     → Result (Unit {0}) End → Type 0
 Runs text left now old new (Ok done) =
     (length text ≤ most_input) × (now.left ≡ Some [])
-    × Does (performed_all (lines_of text)) old new (Ok tt)
+    × Does (whole text) old new (Ok tt)
 Runs text left now old new (Err (ends.Halted halt)) =
-    Does (performed_all (lines_within text)) old new (Err halt)
+    Does (within text) old new (Err halt)
 Runs text left now old new (Err ends.ReadFault) =
     Rose left.faults now.faults × ((taken : List ℕ) × (left.left ≡ before taken now.left)
     × Does (performed_all (whole_lines taken)) old new (Ok tt))
@@ -29,10 +30,10 @@ Runs text left now old new (Err ends.Input) =
     (most_input < length text)
     × Does (performed_all (whole_lines (take most_input text))) old new (Ok tt)
 
--- some lines were performed, and the call that did so ended with this
+-- something was performed, and the call that did so ended with this
 pub record WasDone (old new : Moment Replay) (r : Result (Unit {0}) Halt) : Type 0 where
-  pub lines : List (List ℕ)
-  pub done : Does (performed_all lines) old new r
+  pub act : Act
+  pub done : Does act old new r
 
 -- whatever the source tells, some lines were performed
 abbrev pub IsEnded : Moment Replay → Moment Replay → Result (Unit {0}) End → Type 0

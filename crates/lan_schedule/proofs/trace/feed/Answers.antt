@@ -1,5 +1,6 @@
 use Rattle.std.proofs.Common.{arith}
 use Rattle.lan_schedule.proofs.Feeding.{handed-on, feed-step, feed-err, open_line-step}
+use Rattle.lan_schedule.proofs.Feeding.{feed-end}
 use Rattle.lan_schedule.proofs.trace.feed.Goals as goal
 
 pub returns-in_err-take-clause-does : goal.returns-in_err-take-clause-does
@@ -17,3 +18,8 @@ loop-octet-preserved g c = record {
       c.loop-octet.octet-index (omega arith) c.in_ok-take.ensures.begun
       c.loop-octet.invariant.begun;
 }
+
+pub returns-clause-does : goal.returns-clause-does
+returns-clause-does g c =
+    feed-end c.loop-octet.begun.items c.args.piece.now c.loop-octet.octet-index _ _ _ (omega arith)
+    c.loop-octet.invariant.does

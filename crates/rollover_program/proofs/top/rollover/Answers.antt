@@ -1,4 +1,4 @@
-use Rattle.std.proofs.Common.{◌∙◌, ap, sym, refl, inr, true, false}
+use Rattle.std.proofs.Common.{◌∙◌, ap, sym, refl, inr, true, false, []}
 use Rattle.std.specs.Prelude.{Err}
 use Rattle.lan_core.specs.declared.stop.Which.TheVariants.{Input}
 use Rattle.lan_schedule.specs.declared.halt.Halt.TheVariants as halts
@@ -8,7 +8,7 @@ use Rattle.rollover_program.proofs.Refused.{plain_orders, either, usage_only, no
 use Rattle.rollover_program.proofs.Refused.{memory, summarized, made_nothing, tried_nothing}
 use Rattle.rollover_program.proofs.Replayed.{halted, never_usage, done, read, trace, limit}
 use Rattle.rollover_program.proofs.Replayed.{repeated_draw, forged, input, read_fault, front}
-use Rattle.rollover_program.proofs.Replayed.{cut_short}
+use Rattle.rollover_program.proofs.Replayed.{cut_none}
 use Rattle.rollover_program.proofs.Summarized.{as_asked, either_order, no_front, complete_run}
 use Rattle.rollover_program.proofs.Summarized.{complete_make, complete_try}
 use Rattle.rollover_program.proofs.top.rollover.Goals as goal
@@ -34,7 +34,7 @@ returns-in-Ok-clause-named g c = λ order numbered is.
 
 pub returns-in-Ok-clause-done : goal.returns-in-Ok-clause-done
 returns-in-Ok-clause-done g c = λ text asked told e.
-    done c.law_sound_runs_are_promised.ensures text _ _ _ _ _ (as_asked _ _ (Run false) _ _ _ _ _ c.in-Ok.ensures.ok asked
+    done c.law_tidy_runs_are_promised.ensures text _ _ _ _ _ (as_asked _ _ (Run false) _ _ _ _ _ c.in-Ok.ensures.ok asked
     c.carry_out.ensures.done text told) (sym c.status_of.ensures ∙ e)
 
 pub returns-in-Ok-clause-read : goal.returns-in-Ok-clause-read
@@ -44,39 +44,39 @@ returns-in-Ok-clause-read g c = λ text asked told e.
 
 pub returns-in-Ok-clause-trace : goal.returns-in-Ok-clause-trace
 returns-in-Ok-clause-trace g c = λ text line kind asked told e.
-    trace c.law_sound_runs_are_promised.ensures text _ _ _ _ _ line kind
+    trace c.law_tidy_runs_are_promised.ensures text _ _ _ _ _ line kind
     (as_asked _ _ (Run false) _ _ _ _ _ c.in-Ok.ensures.ok asked c.carry_out.ensures.done text
     told) (sym c.status_of.ensures ∙ e)
 
 pub returns-in-Ok-clause-limit : goal.returns-in-Ok-clause-limit
 returns-in-Ok-clause-limit g c = λ text which asked told other e.
-    limit c.law_sound_runs_are_promised.ensures text _ _ _ _ _ which (as_asked _ _ (Run false) _ _ _ _ _ c.in-Ok.ensures.ok asked
+    limit c.law_tidy_runs_are_promised.ensures text _ _ _ _ _ which (as_asked _ _ (Run false) _ _ _ _ _ c.in-Ok.ensures.ok asked
     c.carry_out.ensures.done text told) other (sym c.status_of.ensures ∙ e)
 
 pub returns-in-Ok-clause-repeated_draw : goal.returns-in-Ok-clause-repeated_draw
 returns-in-Ok-clause-repeated_draw g c = λ text first second asked told e.
-    repeated_draw c.law_sound_runs_are_promised.ensures text _ _ _ _ _ first second
+    repeated_draw c.law_tidy_runs_are_promised.ensures text _ _ _ _ _ first second
     (as_asked _ _ (Run false) _ _ _ _ _ c.in-Ok.ensures.ok asked c.carry_out.ensures.done text
     told) (sym c.status_of.ensures ∙ e)
 
 pub returns-in-Ok-clause-forged : goal.returns-in-Ok-clause-forged
 returns-in-Ok-clause-forged g c = λ text line asked told e.
-    forged c.law_sound_runs_are_promised.ensures text _ _ _ _ _ line (as_asked _ _ (Run false) _ _ _ _ _ c.in-Ok.ensures.ok asked
+    forged c.law_tidy_runs_are_promised.ensures text _ _ _ _ _ line (as_asked _ _ (Run false) _ _ _ _ _ c.in-Ok.ensures.ok asked
     c.carry_out.ensures.done text told) (sym c.status_of.ensures ∙ e)
 
 pub returns-in-Ok-clause-input : goal.returns-in-Ok-clause-input
 returns-in-Ok-clause-input g c = λ text asked told e.
-    input c.law_sound_runs_are_promised.ensures text _ _ _ _ _ (as_asked _ _ (Run false) _ _ _ _ _ c.in-Ok.ensures.ok asked
+    input c.law_tidy_runs_are_promised.ensures text _ _ _ _ _ (as_asked _ _ (Run false) _ _ _ _ _ c.in-Ok.ensures.ok asked
     c.carry_out.ensures.done text told) (sym c.status_of.ensures ∙ e)
 
 pub returns-in-Ok-clause-read_fault : goal.returns-in-Ok-clause-read_fault
 returns-in-Ok-clause-read_fault g c = λ text asked told e.
-    read_fault c.law_sound_runs_are_promised.ensures text _ _ _ _ _ (as_asked _ _ (Run false) _ _ _ _ _ c.in-Ok.ensures.ok asked
+    read_fault c.law_tidy_runs_are_promised.ensures text _ _ _ _ _ (as_asked _ _ (Run false) _ _ _ _ _ c.in-Ok.ensures.ok asked
     c.carry_out.ensures.done text told) (sym c.status_of.ensures ∙ e)
 
 pub returns-in-Ok-clause-front : goal.returns-in-Ok-clause-front
 returns-in-Ok-clause-front g c = λ text asked told e.
-    front c.law_each_text_is_promised.ensures text _ _ _ _ _ (as_asked _ _ (Run false) _ _ _ _ _ c.in-Ok.ensures.ok asked
+    front c.law_tidy_runs_are_promised.ensures text _ _ _ _ _ (as_asked _ _ (Run false) _ _ _ _ _ c.in-Ok.ensures.ok asked
     c.carry_out.ensures.done text told) (rw c.status_of.ensures at e)
 
 pub returns-in-Ok-clause-summary : goal.returns-in-Ok-clause-summary
@@ -186,7 +186,8 @@ returns-in-Err-clause-read_fault g c = λ text asked told e.
 
 pub returns-in-Err-clause-front : goal.returns-in-Err-clause-front
 returns-in-Err-clause-front g c = λ text asked told e.
-    cut_short c.law_each_text_is_promised.ensures text _ _ (no_front _ _)
+    cut_none c.law_tidy_runs_are_promised.ensures text _ (c.law_lines_leave_a_tidy_world.ensures.start [])
+    (no_front _ _)
 
 pub returns-in-Err-clause-summary : goal.returns-in-Err-clause-summary
 returns-in-Err-clause-summary g c = λ text asked told.

@@ -1,6 +1,6 @@
 use Rattle.std.proofs.Common.{◌≡◌, ◌∙◌, ◌+◌, refl, sym, ap, subst}
 use Rattle.lan_core.specs.Standing.{Numbers}
-use Rattle.lan_core.specs.inside.Drawing.{MiIsNoted}
+use Rattle.lan_core.specs.Noting.{MiIsNoted}
 use Rattle.lan_core.proofs.DrawsLookedUp.{mi_kept}
 use Rattle.lan_core.proofs.drawn.Drawn.note_mi.Goals as goal
 

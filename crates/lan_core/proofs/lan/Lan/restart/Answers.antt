@@ -6,7 +6,8 @@ use Rattle.lan_core.specs.declared.event.Event.TheVariants as events
 use Rattle.lan_core.specs.declared.stop.Stop.TheVariants.{DrawsSpent}
 use Rattle.lan_core.specs.Standing.{StandsFor, number_of_mi}
 use Rattle.lan_core.specs.inside.Seats.{Restarts}
-use Rattle.lan_core.specs.inside.Drawing.{MiIsNoted, stop_of}
+use Rattle.lan_core.specs.Noting.{MiIsNoted}
+use Rattle.lan_core.specs.inside.Drawing.{stop_of}
 use Rattle.lan_core.proofs.OctetsReach.{place-of, came-so, came-not}
 use Rattle.lan_core.proofs.RefusalPassedOn.{refused, stopped, by-part}
 use Rattle.lan_core.proofs.RestartGoesOn.{no-draw, restart-goes-on, restart-stops}

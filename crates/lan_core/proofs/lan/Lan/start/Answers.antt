@@ -9,7 +9,8 @@ use Rattle.lan_core.specs.declared.stop.Stop.TheVariants.{DrawsSpent}
 use Rattle.lan_core.specs.Lives.{setup_of}
 use Rattle.lan_core.specs.Order.{most_stations}
 use Rattle.lan_core.specs.Standing.{Sits, StandsFor, number_of_mi}
-use Rattle.lan_core.specs.inside.Drawing.{MiIsNoted, stop_of}
+use Rattle.lan_core.specs.Noting.{MiIsNoted}
+use Rattle.lan_core.specs.inside.Drawing.{stop_of}
 use Rattle.lan_core.proofs.RefusalPassedOn.{refused, stopped, by-part}
 use Rattle.lan_core.proofs.RestartGoesOn.{no-draw}
 use Rattle.lan_core.proofs.StartGoesOn.{profile_of, start-fits, start-full, start-goes-on}

@@ -2,6 +2,7 @@ use Rattle.std.proofs.Common.{refl}
 use Rattle.std.specs.Prelude.{Ok}
 use Rattle.lan_schedule.proofs.Feeding.{handed-on}
 use Rattle.lan_schedule.proofs.Opening.{opening-does, station-is-later}
+use Rattle.lan_schedule.proofs.Feeding.{memory-any}
 use Rattle.lan_schedule.proofs.commands.Replay.open.Goals as goal
 
 pub perform-requires-clause-later : goal.perform-requires-clause-later
@@ -22,3 +23,7 @@ returns g c =
     c.requires.station c.requires.unbegun c.requires.keyed
     (λ v tidy keyed opening. c.in_ok-stage.ensures.stands v tidy keyed opening)
     c.in_ok-perform.ensures (λ e. refl) refl
+
+pub returns-in_err-stage : goal.returns-in_err-stage
+returns-in_err-stage g c =
+    memory-any _ _ _ _ refl c.in_err-stage.ensures.memory c.from_residual.ensures.1

@@ -1,5 +1,6 @@
 use Rattle.std.proofs.Common.{refl}
 use Rattle.lan_schedule.proofs.Opening.{chosen-deed, chosen-does}
+use Rattle.lan_schedule.proofs.Feeding.{memory-does, handed-on}
 use Rattle.lan_schedule.proofs.commands.Replay.prepare.Goals as goal
 
 pub returns-in_ok-choose-in_default : goal.returns-in_ok-choose-in_default
@@ -7,3 +8,7 @@ returns-in_ok-choose-in_default g c =
     chosen-does c.args.line.now c.requires.form _ _ c.requires.unbegun c.requires.unbegun refl refl
     refl c.in_ok-choose-in_default.ensures refl
     (chosen-deed c.args.line.now c.args.self.now.chosen c.requires.allowed c.in_default.not-Station)
+
+pub returns-in_err-choose-in_default : goal.returns-in_err-choose-in_default
+returns-in_err-choose-in_default g c =
+    handed-on _ _ _ _ _ (memory-does _ _ _ refl) c.from_residual.ensures.1

@@ -1,4 +1,4 @@
-use Rattle.std.proofs.Common.{true, sym, ap, ◌∙◌, arith}
+use Rattle.std.proofs.Common.{sym, ap, ◌∙◌, arith}
 use Rattle.lan_schedule.specs.declared.frames.Put.{Put}
 use Rattle.lan_schedule.proofs.Flowing.{marked-more}
 use Rattle.lan_schedule.proofs.frames.Frames.pass_marked.Goals as goal

@@ -2,7 +2,7 @@ use Rattle.std.proofs.Common.{refl, subst}
 use Rattle.lan_core.specs.Answers.{IsWhy}
 use Rattle.lan_core.specs.Stops.{first_stop}
 use Rattle.lan_schedule.specs.Supply.{supply_nth}
-use Rattle.lan_schedule.proofs.Happening.{event-did, event-stopped, event-wanting}
+use Rattle.lan_schedule.proofs.Happening.{event-did, event-stopped, event-wanting, happened-memory}
 use Rattle.lan_schedule.proofs.stage.Stage.happen.Goals as goal
 
 pub returns-in-Err-Stopped : goal.returns-in-Err-Stopped
@@ -39,3 +39,14 @@ returns g c =
       tally = λ shown stood. (rw c.as_slice-3.ensures at c.count_all.ensures) shown stood;
     })
     (rw (c.deref.ensures.value, c.as_slice-4.ensures) at c.show.ensures)
+
+pub returns-in_err-put : goal.returns-in_err-put
+returns-in_err-put g c = happened-memory _ _ _ _ _ refl c.from_residual.ensures.1
+
+pub returns-in_err-follow : goal.returns-in_err-follow
+returns-in_err-follow g c =
+    happened-memory _ _ _ _ _ refl c.from_residual-in_err-follow.ensures.1
+
+pub returns-in_err-admit : goal.returns-in_err-admit
+returns-in_err-admit g c =
+    happened-memory _ _ _ _ _ refl c.from_residual-in_err-admit.ensures.1

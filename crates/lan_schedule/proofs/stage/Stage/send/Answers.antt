@@ -11,7 +11,7 @@ pub returns-in_err-happen : goal.returns-in_err-happen
 returns-in_err-happen g c =
     let one_more : c.in-Some.users ≡ c.args.self.now.users + 1 = grind arith in
     handed-on _ _ _ _ _
-    (send-does c.args.station c.in-Some.users c.to_claim-pn.result c.args.user.now _ _ _ _
+    (send-does c.args.station c.in-Some.users c.to_claim-pn.result c.args.user.now _ _ _ _ _
     (λ base w reached tidy. user-reached c.args.user.now base w _ _ reached tidy
     (record {
       lag = refl;
@@ -35,7 +35,7 @@ returns-in_err-happen g c =
 pub returns : goal.returns
 returns g c =
     let one_more : c.in-Some.users ≡ c.args.self.now.users + 1 = grind arith in
-    send-does c.args.station c.in-Some.users c.to_claim-pn.result c.args.user.now _ _ _ _
+    send-does c.args.station c.in-Some.users c.to_claim-pn.result c.args.user.now _ _ _ _ _
     (λ base w reached tidy. user-reached c.args.user.now base w _ _ reached tidy
     (record {
       lag = refl;

@@ -1,5 +1,4 @@
-use Rattle.std.proofs.Common.{◌-◌, refl}
-use Rattle.lan_schedule.specs.Lines.{spread}
+use Rattle.std.proofs.Common.{refl}
 use Rattle.lan_schedule.proofs.Doing.{leads-step, leads-err, handed-on}
 use Rattle.lan_schedule.proofs.Looking.{spread-leads, mark-does}
 use Rattle.lan_schedule.proofs.stage.Stage.spread.Goals as goal

@@ -1,4 +1,4 @@
-use Rattle.std.proofs.Common.{true, false, nat_eq, sym, ◌∙◌}
+use Rattle.std.proofs.Common.{nat_eq, sym, ◌∙◌}
 use Rattle.std.specs.Cmp.Lexicographic.{pointwise}
 use Rattle.lan_schedule.proofs.Placing.{any-map, taken-none, taken-sci}
 use Rattle.lan_schedule.proofs.stage.Stage.taken.Goals as goal

@@ -1,0 +1,6 @@
+-- What a reader reads, in this order: twin runs, what holds over the runs of both groups together,
+-- what an event shows and what stops it, and when it is unstopped.
+pub mod Twin
+pub mod Both
+pub mod Stepping
+pub mod Unstopped

@@ -1,0 +1,98 @@
+-- What a race does to a world: what was written before it stays.
+use Rattle.std.proofs.Common.{ℕ, zero, suc, Bool, true, false, List, [], ◌∷◌, ◌++◌, refl, sym, ap}
+use Rattle.std.proofs.Common.{◌∙◌, append_assoc, append-nil}
+use Rattle.std.specs.Prelude.{cond, Result, Ok, Err}
+use Rattle.lan_core.specs.declared.event.Event.{Event}
+use Rattle.lan_core.specs.declared.event.Event.TheVariants as events
+use Rattle.lan_core.specs.declared.fact.Fact.{Fact}
+use Rattle.lan_core.specs.declared.settings.Settings.{Settings}
+use Rattle.lan_core.specs.Run.{Run, Happening, happened}
+use Rattle.transcript.specs.Rendering.{transcript}
+use Rattle.lan_schedule.specs.declared.halt.Halt.{Halt}
+use Rattle.lan_schedule.specs.Races.{Worker, Claimed, claims_in}
+use Rattle.lan_schedule.specs.World.{World, settings, names_of}
+use Rattle.lan_schedule.specs.Answers.{answer}
+use Rattle.lan_schedule.specs.Acts.{Course, Goes, Stops, shown, and_then, with_claims, woven}
+use Rattle.lan_schedule.specs.Acts.{claim_of, emitting, emitting_all, beside, after_race, since}
+use Rattle.lan_schedule.specs.Acts.{is_stop}
+use Rattle.lan_schedule.specs.Ends.{Begins, written, text_of}
+
+-- ---- what was written stays
+
+begins-self : (text : List ℕ) → Begins text text
+begins-self text = record { more = []; parts = append-nil text }
+
+begins-then : (a b c : List ℕ) → Begins a b → Begins b c → Begins a c
+begins-then a b c f g = record {
+  more = f.more ++ g.more;
+  parts = sym (append_assoc a f.more g.more) ∙ ap (λ (t : List ℕ). t ++ g.more) f.parts ∙ g.parts;
+}
+
+one-more : (x : Happening) (r : Run) → Begins (written r) (written (x ∷ r))
+one-more x r = record { more = transcript (names_of (x ∷ r)) x.facts; parts = refl }
+
+claims-begin : (settings : Settings) (workers : List Worker) (users : ℕ) (claims : List Claimed)
+    (r : Run) → Begins (written r) (written (with_claims settings workers users claims r))
+claims-begin settings workers users [] r = begins-self (written r)
+claims-begin settings workers users (c ∷ later) r =
+    let x = claim_of settings workers users c r in
+    begins-then (written r) (written (x ∷ r))
+    (written (with_claims settings workers users later (x ∷ r))) (one-more x r)
+    (claims-begin settings workers users later (x ∷ r))
+
+woven-begins : (settings : Settings) (workers : List Worker) (users : ℕ)
+    (claims : List (List Claimed)) (events : List Happening) (r : Run)
+    → Begins (written r) (written (woven settings workers users claims events r))
+woven-begins settings workers users claims [] r =
+    claims-begin settings workers users (claims_in claims) r
+woven-begins settings workers users [] (x ∷ later) r =
+    begins-then (written r) (written (x ∷ r))
+    (written (woven settings workers users [] later (x ∷ r))) (one-more x r)
+    (woven-begins settings workers users [] later (x ∷ r))
+woven-begins settings workers users (now ∷ claims) (x ∷ later) r =
+    let s = with_claims settings workers users now r in
+    begins-then (written r) (written s) (written (woven settings workers users claims later (x ∷ s)))
+    (claims-begin settings workers users now r)
+    (begins-then (written s) (written (x ∷ s))
+    (written (woven settings workers users claims later (x ∷ s))) (one-more x s)
+    (woven-begins settings workers users claims later (x ∷ s)))
+
+shown-begins : (w : World) (event : Event) (r : Result (List Fact) Halt)
+    → Begins (written w.run) (text_of (shown w event r))
+shown-begins w event (Ok facts) = one-more (happened event facts) w.run
+shown-begins w event (Err halt) = begins-self (written w.run)
+
+then-begins : (text : List ℕ) (out : Course) (g : World → Course) → Begins text (text_of out)
+    → ((v : World) → Begins (written v.run) (text_of (g v)))
+    → Begins text (text_of (and_then out g))
+then-begins text (Goes w) g f h = begins-then text (written w.run) (text_of (g w)) f (h w)
+then-begins text (Stops w halt) g f h = f
+
+emitting-begins : (count : ℕ) (w : World) → Begins (written w.run) (text_of (emitting count w))
+emitting-begins zero w = begins-self (written w.run)
+emitting-begins (suc count) w =
+    then-begins (written w.run) (shown w events.Emit (answer w events.Emit))
+    (λ v. emitting count v) (shown-begins w events.Emit (answer w events.Emit))
+    (λ v. emitting-begins count v)
+
+unless-begins : (b : Bool) (w : World) (out : Course) → Begins (written w.run) (text_of out)
+    → Begins (written w.run) (text_of (cond b (Goes w) out))
+unless-begins true w out h = begins-self (written w.run)
+unless-begins false w out h = h
+
+after-begins : (workers : List Worker) (w v : World)
+    → Begins (written w.run) (written (after_race workers w v).run)
+after-begins workers w v = woven-begins (settings w) workers _ _ (since w v) w.run
+
+-- a race, whatever control did, leaves what was written before it
+pub race-begins : (workers : List Worker) (w : World) (out : Course)
+    → Begins (written w.run) (text_of (beside workers w out))
+race-begins workers w (Goes v) =
+    let u = after_race workers w v in
+    begins-then (written w.run) (written u.run) (text_of (emitting_all v u))
+    (after-begins workers w v) (emitting-begins _ u)
+race-begins workers w (Stops v halt) =
+    let u = after_race workers w v in
+    begins-then (written w.run) (written u.run)
+    (text_of (cond (is_stop halt) (Goes u) (emitting_all v u))) (after-begins workers w v)
+    (unless-begins (is_stop halt) u (emitting_all v u) (emitting-begins _ u))

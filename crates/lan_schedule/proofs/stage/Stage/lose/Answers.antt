@@ -1,0 +1,17 @@
+use Rattle.std.proofs.Common.{refl}
+use Rattle.lan_schedule.proofs.Looking.{mark-does}
+use Rattle.lan_schedule.proofs.stage.Stage.lose.Goals as goal
+
+pub returns : goal.returns
+returns g c = mark-does c.args.frame _ _ (record {
+  line = refl;
+  lag = refl;
+  lan = refl;
+  draws = refl;
+  names = refl;
+  scis = refl;
+  users = refl;
+  cuts = refl;
+  numbers = refl;
+  tally = refl;
+}) c.mark.ensures refl

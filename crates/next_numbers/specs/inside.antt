@@ -1,0 +1,2 @@
+-- Definitions that serve private functions alone.
+pub mod Counters

@@ -1,0 +1,5 @@
+pub mod Handing
+pub mod Pieces
+pub mod Returning
+pub mod Few
+mod Examples

@@ -1,0 +1,5 @@
+pub mod Keeping
+pub mod Telling
+pub mod Showing
+pub mod Stations
+pub mod Onward

@@ -1,0 +1,81 @@
+-- From the words before an event to those after it.
+use Rattle.std.proofs.Common.{◌≡◌, ◌⊎◌, inl, inr, ⊎_elim, ℕ, zero, suc, ◌+◌, List, [], ◌∷◌, ◌++◌, length}
+use Rattle.std.proofs.Common.{Some, refl, sym, ap, ◌∙◌, subst}
+use Rattle.std.proofs.lemmas.List.{length-append}
+use Rattle.std.specs.Prelude.{◌==◌, slice_get, Contains, is_some}
+use Rattle.lan_base.specs.declared.name.Name.{Name}
+use Rattle.lan_base.specs.declared.address.Sci.{Sci}
+use Rattle.lan_base.specs.declared.key_id.KeyId.{KeyId}
+use Rattle.lan_base.specs.declared.association_number.AssociationNumber.{AssociationNumber}
+use Rattle.aes_block.specs.declared.secret.Secret.{Secret}
+use Rattle.association_slots.specs.Views.{ControlAt}
+use Rattle.association_slots.specs.declared.view.ControlView.{ControlView}
+use Rattle.sak_exchange.specs.declared.held_key.HeldKey.{HeldKey}
+use Rattle.sak_exchange.proofs.Public.{by_test}
+use Rattle.lan_core.specs.declared.event.Event.{Event}
+use Rattle.lan_core.specs.declared.event.Event.TheVariants as events
+use Rattle.lan_core.specs.declared.fact.Fact.TheVariants as facts
+use Rattle.lan_core.specs.declared.settings.Settings.{Settings}
+use Rattle.lan_core.specs.Run.{Run, Happening, stations, started}
+use Rattle.lan_core.specs.Keys.{held_at}
+use Rattle.group_safety.specs.Transmitting.{Carried, nothing, now, follow, CarriesAt}
+use Rattle.group_safety.specs.Accounts.{Account, blank, account_at, ahead, claiming}
+use Rattle.transmit_words.specs.Telling.{Tells}
+use Rattle.transmit_words.specs.Ties.{IsTied, AreTied, AreAhead, Followed}
+
+claiming-carried : (a : Account) → (claiming a).carried ≡ a.carried
+claiming-carried a = by_test (now a.carried).present (λ y. rw y refl) (λ y. rw y refl)
+
+-- a step that is taken carries on what was carried
+ahead-carried : (s : ℕ) (e : Event) (a : Account) → (ahead s e a).carried ≡ a.carried
+ahead-carried s (events.Start name sci priority) a = refl
+ahead-carried s (events.Tick t n) a = by_test (t == s) (λ y. rw y refl) (λ y. rw y refl)
+ahead-carried s (events.Deliver frame t) a = refl
+ahead-carried s (events.Restart t) a = refl
+ahead-carried s (events.Claim t user pn) a = by_test (t == s) (λ y. rw y (claiming-carried a)) (λ y. rw y refl)
+ahead-carried s events.Emit a = refl
+ahead-carried s (events.Inject t octets) a = refl
+
+stations-more : (x : Happening) (r : Run) → stations (x ∷ r) ≡ stations r ++ started x.event
+unfolding stations
+stations-more x r = refl
+
+-- words that tell an account tell an equal one
+tells-same : (a b : Account) (v : ControlView) → a ≡ b → Tells b v → Tells a v
+tells-same a b v same tells = subst (λ (w : Account). Tells w v) (sym same) tells
+
+-- by the laws of the run
+pub tied-on : (settings : Settings) (x : Happening) (r : Run) (cs ds : List ControlAt)
+    → ((s : ℕ) (k : Carried) → CarriesAt settings s r k → (j : Carried) × (follow s x.facts k ≡ Some j) × CarriesAt settings s (x ∷ r) j)
+    → ((s : ℕ) (id : KeyId) (an : AssociationNumber) (epoch : ℕ) (sak : Secret) → Contains x.facts (facts.Installed s id an epoch sak)
+    → (h : HeldKey) × (held_at settings s (x ∷ r) an ≡ Some h) × (h.key.epoch ≡ epoch) × (h.key.sak ≡ sak))
+    → ((s : ℕ) (k j : Carried) → CarriesAt settings s r k → account_at settings s (x ∷ r) j ≡ record (ahead s x.event (account_at settings s r k)) { carried = j })
+    → AreAhead settings r x.event cs → Followed settings (x ∷ r) x.facts cs ds → AreTied settings (x ∷ r) ds
+tied-on settings x r cs ds moves held on before followed =
+    let f = followed (λ s id an epoch sak has. ap is_some (held s id an epoch sak has).1) in record {
+      many = f.many ∙ (before.many ∙ ap length (sym (stations-more x r)));
+      each = λ s d there. let y = f.each s d there in
+          let a = before.each s y.0 y.1 in
+          let m = moves s a.0 a.1 in
+          let l : Account = ahead s x.event (account_at settings s r a.0) in
+          let at : l.carried ≡ a.0 = ahead-carried s x.event (account_at settings s r a.0) in
+          (m.0, m.2, tells-same (account_at settings s (x ∷ r) m.0) (record l { carried = m.0 }) d.view (on s a.0 m.0 a.1) (y.2 l m.0 a.2 (ap (λ (q : Carried). follow s x.facts q) at ∙ m.1)));
+    }
+
+-- one stands behind others
+at-last : (cs : List ControlAt) (c : ControlAt) (s : ℕ) (d : ControlAt) → slice_get (cs ++ c ∷ []) s ≡ Some d → (slice_get cs s ≡ Some d) ⊎ ((s ≡ length cs) × (c ≡ d))
+at-last [] c zero d is = inr (refl, cc is)
+at-last [] c (suc s) d is = absurd (cc is)
+at-last (x ∷ cs) c zero d is = inl is
+at-last (x ∷ cs) c (suc s) d is = ⊎_elim (λ (here : slice_get cs s ≡ Some d). inl here) (λ (last : (s ≡ length cs) × (c ≡ d)). inr (ap suc last.0, last.1)) (at-last cs c s d is)
+
+pub tied-new : (settings : Settings) (r : Run) (name : Name) (sci : Sci) (priority : ℕ) (cs : List ControlAt) (c : ControlAt)
+    → CarriesAt settings (length (stations r)) r nothing × (account_at settings (length (stations r)) r nothing ≡ blank) → AreTied settings r cs → Tells blank c.view
+    → AreAhead settings r (events.Start name sci priority) (cs ++ c ∷ [])
+tied-new settings r name sci priority cs c none tied tells = record {
+  many = length-append cs (c ∷ []) ∙ (ap (λ (n : ℕ). n + 1) tied.many ∙ sym (length-append (stations r) (started (events.Start name sci priority))));
+  each = λ s d there. ⊎_elim (λ (here : slice_get cs s ≡ Some d). tied.each s d here)
+      (λ (last : (s ≡ length cs) × (c ≡ d)). subst (λ (n : ℕ). IsTied settings n r d) (sym (last.0 ∙ tied.many))
+      (nothing, none.0, subst (λ (v : ControlAt). Tells (account_at settings (length (stations r)) r nothing) v.view) last.1 (subst (λ (a : Account). Tells a c.view) (sym none.1) tells)))
+      (at-last cs c s d there);
+}

@@ -1,0 +1,224 @@
+-- The words of all stations, of which one takes a step.
+use Rattle.std.proofs.Common.{◌≡◌, ◌≢◌, ◌⊎◌, inl, inr, ⊎_elim, ℕ, zero, suc, ◌+◌, ◌<◌, ◌≤◌, Bool}
+use Rattle.std.proofs.Common.{true, false, cond, List, [], ◌∷◌, ◌++◌, length, set, take, get_or}
+use Rattle.std.proofs.Common.{length-set, Option, Some, None, Result, Ok, Err, refl, ap, sym, ◌∙◌, subst}
+use Rattle.std.proofs.Common.{arith, add-one}
+use Rattle.std.proofs.lemmas.Bool.{eq-eqb, ne_eqb}
+use Rattle.std.proofs.lemmas.Option.{slice_get_within}
+use Rattle.std.proofs.Math.Seq.{take-suc}
+use Rattle.std.specs.Prelude.{◌==◌, slice_get, option_and_then, Contains}
+use Rattle.atomic_table.specs.Seated.{TableId}
+use Rattle.lan_base.specs.declared.association_number.AssociationNumber.{AssociationNumber}
+use Rattle.association_slots.specs.Views.{ControlAt, present_at}
+use Rattle.association_slots.specs.declared.card.Card.{Card}
+use Rattle.association_slots.specs.declared.view.Current.{Current}
+use Rattle.packet_claims.specs.declared.answers.Claim.{Claim}
+use Rattle.packet_claims.specs.declared.answers.NoClaim.{NoClaim}
+use Rattle.packet_claims.specs.declared.answers.NoClaim.TheVariants.{NoKey, Exhausted}
+use Rattle.sak_exchange.proofs.Public.{by_option}
+use Rattle.lan_core.specs.declared.event.Event.TheVariants as events
+use Rattle.lan_core.specs.declared.fact.Fact.{Fact}
+use Rattle.lan_core.specs.declared.fact.Fact.TheVariants as facts
+use Rattle.lan_core.specs.declared.settings.Settings.{Settings}
+use Rattle.lan_core.specs.Run.{Run, place, stations}
+use Rattle.lan_core.specs.Lives.{transmitting_at}
+use Rattle.lan_core.specs.Unstopped.{next_under}
+use Rattle.lan_core.specs.Expected.{last_number}
+use Rattle.group_safety.specs.Transmitting.{Carried, now, moved, moves, follow, CarriesAt}
+use Rattle.group_safety.specs.Accounts.{Account, next_now, looked, with_claim, claiming, account_at}
+use Rattle.group_safety.proofs.Public.{contains-in, in-contains, in-left, in-right, follow-append}
+use Rattle.transmit_words.specs.Telling.{Tells, IsClaimed, word_of}
+use Rattle.transmit_words.specs.Ties.{tables_of, IsTied, AreTied, IsAhead, AreAhead, AreHeld}
+use Rattle.transmit_words.specs.Ties.{Follows, Followed}
+use Rattle.transmit_words.specs.inside.Cards.{HasCard}
+
+-- what stands where one was set
+get-set : (cs : List ControlAt) (p : ℕ) (x : ControlAt) (s : ℕ) (d : ControlAt) → slice_get (set cs p x) s ≡ Some d → ((s ≡ p) × (x ≡ d)) ⊎ ((s ≢ p) × (slice_get cs s ≡ Some d))
+get-set [] p x s d e = absurd (cc e)
+get-set (c ∷ cs) zero x zero d e = inl (refl, cc e)
+get-set (c ∷ cs) zero x (suc s) d e = inr ((λ z. absurd (omega (arith, z))), e)
+get-set (c ∷ cs) (suc p) x zero d e = inr ((λ z. absurd (omega (arith, z))), e)
+get-set (c ∷ cs) (suc p) x (suc s) d e =
+    ⊎_elim (λ (both : (s ≡ p) × (x ≡ d)). inl (ap suc both.0, both.1)) (λ (other : (s ≢ p) × (slice_get cs s ≡ Some d)). inr ((λ z. other.0 (omega (arith, z))), other.1)) (get-set cs p x s d e)
+
+-- the tables of the hands, of which one was moved
+pub table-at : (cs : List ControlAt) (tables : List TableId) (p : ℕ) (c : ControlAt) (t : TableId) → tables_of cs ≡ tables → slice_get cs p ≡ Some c → slice_get tables p ≡ Some t → c.table ≡ t
+table-at cs tables p c t here at there = let both : Some c.table ≡ Some t = sym (at-map cs p c at) ∙ (ap (λ (ts : List TableId). slice_get ts p) here ∙ there) in cc both
+  where
+    at-map : (cs : List ControlAt) (p : ℕ) (c : ControlAt) → slice_get cs p ≡ Some c → slice_get (tables_of cs) p ≡ Some c.table
+    at-map [] p c is = absurd (cc is)
+    at-map (x ∷ cs) zero c is = let same : x ≡ c = cc is in ap (λ (v : ControlAt). Some v.table) same
+    at-map (x ∷ cs) (suc p) c is = at-map cs p c is
+
+pub tables-set : (cs : List ControlAt) (p : ℕ) (c d : ControlAt) → slice_get cs p ≡ Some c → d.table ≡ c.table → tables_of (set cs p d) ≡ tables_of cs
+tables-set [] p c d at same = refl
+tables-set (x ∷ cs) zero c d at same = let here : x ≡ c = cc at in ap (λ (t : TableId). t ∷ tables_of cs) (same ∙ ap (λ (v : ControlAt). v.table) (sym here))
+tables-set (x ∷ cs) (suc p) c d at same = ap (λ (ts : List TableId). x.table ∷ ts) (tables-set cs p c d at same)
+
+pub tables-length : (cs : List ControlAt) (tables : List TableId) → tables_of cs ≡ tables → length tables ≡ length cs
+tables-length cs tables here = ap length (sym here) ∙ length-map cs
+  where
+    length-map : (cs : List ControlAt) → length (tables_of cs) ≡ length cs
+    length-map [] = refl
+    length-map (c ∷ cs) = ap suc (length-map cs)
+
+abbrev pub number_of : Result Claim NoClaim → ℕ
+number_of (Ok x) = x.pn
+number_of (Err e) = 0
+
+-- ---- a step of one station
+
+none-more : {A : Type 0} (xs : List A) → length xs ≡ length (xs ++ [])
+none-more [] = refl
+none-more (x ∷ xs) = ap suc (none-more xs)
+
+module _ (settings : Settings) (r : Run) (cs : List ControlAt) (s : ℕ) (c d : ControlAt) (tied : AreTied settings r cs) (at : slice_get cs s ≡ Some c)
+    (told : (k : Carried) → CarriesAt settings s r k → next_now (account_at settings s r k) ≡ next_under settings s r (transmitting_at settings s r)) where
+  abbrev tie : IsTied settings s r c
+  tie = tied.each s c at
+
+  abbrev l : Account
+  l = account_at settings s r tie.0
+
+  pub next-all : (n : ℕ) → ((m : Account) → Tells m c.view → n ≡ next_now m) → ((m : Account) → Tells m c.view → Tells (looked m) d.view)
+      → (n ≡ next_under settings s r (transmitting_at settings s r)) × AreAhead settings r (events.Tick s n) (set cs s d)
+  next-all n is tells = (
+    is l tie.2 ∙ told tie.0 tie.1,
+    record { many = length-set cs s d ∙ (tied.many ∙ none-more (stations r)); each = each },
+  )
+    where
+      each : (t : ℕ) (v : ControlAt) → slice_get (set cs s d) t ≡ Some v → IsAhead settings t r (events.Tick s n) v
+      each t v there = ⊎_elim
+          (λ (both : (t ≡ s) × (d ≡ v)). subst (λ (u : ℕ). IsAhead settings u r (events.Tick s n) v) (sym both.0) (subst (λ (w : ControlAt). IsAhead settings s r (events.Tick s n) w) both.1
+          (tie.0, tie.1, subst (λ (b : Bool). Tells (cond b (looked l) l) d.view) (sym (eq-eqb s s refl)) (tells l tie.2))))
+          (λ (other : (t ≢ s) × (slice_get cs t ≡ Some v)). let a = tied.each t v other.1 in
+          (a.0, a.1, subst (λ (b : Bool). Tells (cond b (looked (account_at settings t r a.0)) (account_at settings t r a.0)) v.view) (sym (ne_eqb s t (λ e. other.0 (sym e)))) a.2))
+          (get-set cs s d t v there)
+
+  claiming-ok : (an : AssociationNumber) (epoch pn : ℕ) → word_of (now l.carried) ≡ present_at an epoch → pn ≡ next_now l → with_claim epoch pn l ≡ claiming l
+  claiming-ok an epoch pn is same = ap (λ (n : ℕ). with_claim epoch n l) same ∙ sym (ap (λ (q : Current). cond q.present (with_claim q.epoch (next_now l) l) l) is)
+
+  claiming-none : (now l.carried).present ≡ false → l ≡ claiming l
+  claiming-none is = sym (ap (λ (b : Bool). cond b (with_claim (now l.carried).epoch (next_now l) l) l) is)
+
+  claimed-by : (answer : Result Claim NoClaim) → IsClaimed l c.view answer (λ m. Tells m d.view) → (number_of answer ≡ next_now l) × Tells (claiming l) d.view
+  claimed-by (Ok x) is = (is.1, subst (λ (m : Account). Tells m d.view) (claiming-ok x.an x.epoch x.pn is.0 is.1) is.3)
+  claimed-by (Err (NoKey after)) is = (sym (ap (λ (b : Bool). cond b (l.nexts (now l.carried).epoch) 0) is.0), subst (λ (m : Account). Tells m d.view) (claiming-none is.0) is.2)
+  claimed-by (Err (Exhausted epoch)) is = absurd is
+
+  pub claim-all : (user pn : ℕ) (answer : Result Claim NoClaim) → pn ≡ number_of answer → next_under settings s r (transmitting_at settings s r) ≤ last_number
+      → ((m : Account) → Tells m c.view → next_now m ≤ last_number → IsClaimed m c.view answer (λ m. Tells m d.view))
+      → (pn ≡ next_under settings s r (transmitting_at settings s r)) × AreAhead settings r (events.Claim s user pn) (set cs s d)
+  claim-all user pn answer is low tells =
+      let this = told tie.0 tie.1 in
+      let by = claimed-by answer (tells l tie.2 (omega (arith, this, low))) in (
+        is ∙ (by.0 ∙ this),
+        record { many = length-set cs s d ∙ (tied.many ∙ none-more (stations r)); each = each by.1 },
+      )
+    where
+      each : Tells (claiming l) d.view → (t : ℕ) (v : ControlAt) → slice_get (set cs s d) t ≡ Some v → IsAhead settings t r (events.Claim s user pn) v
+      each now_tells t v there = ⊎_elim
+          (λ (both : (t ≡ s) × (d ≡ v)). subst (λ (u : ℕ). IsAhead settings u r (events.Claim s user pn) v) (sym both.0) (subst (λ (w : ControlAt). IsAhead settings s r (events.Claim s user pn) w) both.1
+          (tie.0, tie.1, subst (λ (b : Bool). Tells (cond b (claiming l) l) d.view) (sym (eq-eqb s s refl)) now_tells)))
+          (λ (other : (t ≢ s) × (slice_get cs t ≡ Some v)). let a = tied.each t v other.1 in
+          (a.0, a.1, subst (λ (b : Bool). Tells (cond b (claiming (account_at settings t r a.0)) (account_at settings t r a.0)) v.view) (sym (ne_eqb s t (λ e. other.0 (sym e)))) a.2))
+          (get-set cs s d t v there)
+
+-- ---- facts
+
+moves-own : (f : Fact) (s : ℕ) (k : Carried) → s ≡ place f → moves s f k ≡ moved f k
+moves-own (facts.Life t mi) s k e = refl
+moves-own (facts.Ticked t n next) s k e = refl
+moves-own (facts.Server t mi) s k e = refl
+moves-own (facts.Dropped t id an) s k e = let y : (t == s) ≡ true = eq-eqb t s (sym e) in rw y refl
+moves-own (facts.Retired t id an) s k e = refl
+moves-own (facts.Began t id an epoch cause) s k e = let y : (t == s) ≡ true = eq-eqb t s (sym e) in rw y refl
+moves-own (facts.Installed t id an epoch sak) s k e = let y : (t == s) ≡ true = eq-eqb t s (sym e) in rw y refl
+moves-own (facts.Untaken t id why) s k e = refl
+moves-own (facts.Framed n t sec octets) s k e = refl
+moves-own (facts.HeardMka n t verdict) s k e = refl
+moves-own (facts.Claimed t an epoch pn) s k e = refl
+moves-own (facts.Unclaimed t why) s k e = refl
+moves-own (facts.Arrived n t arrival) s k e = refl
+
+moves-other : (f : Fact) (s : ℕ) (k : Carried) → s ≢ place f → moves s f k ≡ Some k
+moves-other (facts.Life t mi) s k e = refl
+moves-other (facts.Ticked t n next) s k e = refl
+moves-other (facts.Server t mi) s k e = refl
+moves-other (facts.Dropped t id an) s k e = let y : (t == s) ≡ false = ne_eqb t s (λ z. e (sym z)) in rw y refl
+moves-other (facts.Retired t id an) s k e = refl
+moves-other (facts.Began t id an epoch cause) s k e = let y : (t == s) ≡ false = ne_eqb t s (λ z. e (sym z)) in rw y refl
+moves-other (facts.Installed t id an epoch sak) s k e = let y : (t == s) ≡ false = ne_eqb t s (λ z. e (sym z)) in rw y refl
+moves-other (facts.Untaken t id why) s k e = refl
+moves-other (facts.Framed n t sec octets) s k e = refl
+moves-other (facts.HeardMka n t verdict) s k e = refl
+moves-other (facts.Claimed t an epoch pn) s k e = refl
+moves-other (facts.Unclaimed t why) s k e = refl
+moves-other (facts.Arrived n t arrival) s k e = refl
+
+then-some : (o : Option Carried) → option_and_then (λ (k : Carried). Some k) o ≡ o
+then-some None = refl
+then-some (Some k) = refl
+
+-- the words of another station stay
+stays : (f : Fact) (s : ℕ) (d : ControlAt) → s ≢ place f → Follows s (f ∷ []) d d
+stays f s d ne l k tells is =
+    let e : Some l.carried ≡ Some k = sym (then-some (moves s f l.carried) ∙ moves-other f s l.carried ne) ∙ is in
+    let same : l.carried ≡ k = cc e in subst (λ (j : Carried). Tells (record l { carried = j }) d.view) same tells
+
+pub followed-one : (settings : Settings) (r : Run) (cs : List ControlAt) (f : Fact) (s : ℕ) (c d : ControlAt) (card : Option Card) → s ≡ place f → slice_get cs s ≡ Some c
+    → (AreHeld settings r (f ∷ []) → HasCard f card)
+    → ((l : Account) (k : Carried) → Tells l c.view → moved f l.carried ≡ Some k → HasCard f card → Tells (record l { carried = k }) d.view)
+    → Followed settings r (f ∷ []) cs (set cs s d)
+followed-one settings r cs f s c d card here at carded tells = λ held. record {
+  many = length-set cs s d;
+  each = λ t v there. ⊎_elim
+      (λ (both : (t ≡ s) × (d ≡ v)). (
+        c,
+        subst (λ (u : ℕ). slice_get cs u ≡ Some c) (sym both.0) at,
+        λ l k told is. subst (λ (w : ControlAt). Tells (record l { carried = k }) w.view) both.1
+            (tells l k told (sym (then-some (moves t f l.carried) ∙ moves-own f t l.carried (both.0 ∙ here)) ∙ is) (carded held)),
+      ))
+      (λ (other : (t ≢ s) × (slice_get cs t ≡ Some v)). (v, other.1, stays f t v (λ e. other.0 (e ∙ sym here))))
+      (get-set cs s d t v there);
+}
+
+pub followed-none : (settings : Settings) (r : Run) (cs : List ControlAt) (f : Fact) → length cs ≤ place f → Followed settings r (f ∷ []) cs cs
+followed-none settings r cs f past = λ held. record { many = refl; each = λ t v there. (v, there, stays f t v (λ e. let less = slice_get_within cs t v there in absurd (omega (arith, e, past, less)))) }
+
+pub followed-first : (settings : Settings) (r : Run) (cs : List ControlAt) → Followed settings r [] cs cs
+followed-first settings r cs = λ held. record { many = refl; each = λ t v there. (v, there, λ l k told is. let same : l.carried ≡ k = cc is in subst (λ (j : Carried). Tells (record l { carried = j }) v.view) same told) }
+
+contains-left : (xs ys : List Fact) (x : Fact) → Contains xs x → Contains (xs ++ ys) x
+contains-left xs ys x (k, less, is) = in-contains (xs ++ ys) x (in-left xs ys x (contains-in xs x (k, less, is)))
+
+contains-last : (xs : List Fact) (y x : Fact) → Contains (y ∷ []) x → Contains (xs ++ y ∷ []) x
+contains-last xs y x is = in-contains (xs ++ y ∷ []) x (in-right xs (y ∷ []) x (contains-in (y ∷ []) x is))
+
+followed-then : (settings : Settings) (r : Run) (fs : List Fact) (f : Fact) (a b c : List ControlAt) → Followed settings r fs a b → Followed settings r (f ∷ []) b c → Followed settings r (fs ++ f ∷ []) a c
+followed-then settings r fs f a b c first later = λ held.
+    let one = first (λ s id an epoch sak i. held s id an epoch sak (contains-left fs (f ∷ []) (facts.Installed s id an epoch sak) i)) in
+    let two = later (λ s id an epoch sak i. held s id an epoch sak (contains-last fs f (facts.Installed s id an epoch sak) i)) in record {
+      many = two.many ∙ one.many;
+      each = λ t v there. let y = two.each t v there in let x = one.each t y.0 y.1 in (
+        x.0,
+        x.1,
+        λ l k told is. by_option (follow t fs l.carried)
+            (λ none. let e = sym (follow-append t fs (f ∷ []) l.carried ∙ ap (option_and_then (follow t (f ∷ []))) none) ∙ is in absurd (cc e))
+            (λ j some. y.2 (record l { carried = j }) k (x.2 l j told some) (sym (follow-append t fs (f ∷ []) l.carried ∙ ap (option_and_then (follow t (f ∷ []))) some) ∙ is)),
+      );
+    }
+
+pub followed-next : (settings : Settings) (r : Run) (fs : List Fact) (i : ℕ) (f : Fact) (a b c : List ControlAt) → i < length fs → f ≡ get_or fs i f → Followed settings r (take i fs) a b → Followed settings r (f ∷ []) b c → Followed settings r (take (i + 1) fs) a c
+followed-next settings r fs i f a b c less here first later =
+    let e : take (i + 1) fs ≡ take i fs ++ f ∷ [] = ap (λ (n : ℕ). take n fs) (add-one i) ∙ (take-suc fs i f less ∙ ap (λ (g : Fact). take i fs ++ g ∷ []) (sym here)) in
+    subst (λ (gs : List Fact). Followed settings r gs a c) (sym e) (followed-then settings r (take i fs) f a b c first later)
+
+take-all : (fs : List Fact) (i : ℕ) → length fs ≤ i → take i fs ≡ fs
+take-all [] zero less = refl
+take-all [] (suc i) less = refl
+take-all (f ∷ fs) zero less = absurd (omega arith)
+take-all (f ∷ fs) (suc i) less = ap (λ (gs : List Fact). f ∷ gs) (take-all fs i (omega arith))
+
+pub followed-end : (settings : Settings) (r : Run) (fs : List Fact) (i : ℕ) (a b : List ControlAt) → length fs ≤ i → Followed settings r (take i fs) a b → Followed settings r fs a b
+followed-end settings r fs i a b past all = subst (λ (gs : List Fact). Followed settings r gs a b) (take-all fs i past) all

@@ -1,0 +1,24 @@
+use Rattle.std.proofs.Common.{◌≡◌, refl, sym, ap, ◌∙◌, subst}
+use Rattle.association_slots.specs.Learned.{Learned}
+use Rattle.association_slots.specs.Views.{ControlAt, current, absent_after}
+use Rattle.association_slots.specs.Steps.{closed, pointed}
+use Rattle.association_slots.specs.declared.view.ControlView.{ControlView}
+use Rattle.group_safety.specs.Transmitting.{ended}
+use Rattle.transmit_words.specs.Telling.{Tells}
+use Rattle.transmit_words.proofs.Keeping.{kept-ended}
+use Rattle.transmit_words.proofs.Telling.{tells-ended}
+use Rattle.transmit_words.proofs.control.TransmitControl.end.Goals as goal
+
+pub returns-clause-tells : goal.returns-clause-tells
+returns-clause-tells g c = λ a t.
+    let k = c.self.invariant in
+    let p = c.self.inside.now in
+    let c0 = c.self.inside.control.view in
+    let an = c.args.an in
+    let n = c.shut.result in
+    let is = sym c.names.ensures ∙ c.if-not-names.false in
+    let u = ap (λ (v : ControlAt). v.view) c.unpoint.ensures.view in
+    let whole : c.shut.new.self.view ≡ closed (pointed c0 (absent_after (current c0).epoch)) an n =
+    ap (λ (v : ControlAt). v.view) c.shut.ensures.view ∙ ap (λ (w : ControlView). closed w an n) u in
+    subst (Tells (record a { carried = ended an a.carried })) (sym whole)
+    (tells-ended c0 p _ k a (subst (λ (v : ControlAt). Tells a v.view) (sym c.self.view_is) t) _ an (kept-ended c0 p _ k an n is) refl refl refl (subst Learned whole c.shut.ensures.learned) is)

@@ -1,0 +1,30 @@
+use Rattle.std.proofs.Common.{◌≡◌, ℕ, Some, refl, sym, ap, ◌∙◌, subst, arith, set}
+use Rattle.std.proofs.lemmas.Option.{slice_get_read}
+use Rattle.std.specs.Prelude.{slice_get}
+use Rattle.lan_core.specs.declared.event.Event.TheVariants as events
+use Rattle.group_safety.proofs.Public.{next-told}
+use Rattle.transmit_words.specs.Ties.{tables_of, AreTied, AreAhead}
+use Rattle.transmit_words.proofs.Stations.{tables-set, next-all}
+use Rattle.transmit_words.proofs.controls.Controls.next.Goals as goal
+
+pub returns-then-place-len-clause-next : goal.returns-then-place-len-clause-next
+returns-then-place-len-clause-next c = λ settings r tied there.
+    let cs = c.self.inside.controls.items in
+    let at = slice_get_read cs _ c.from-place.result c.index_mut.result.now refl (omega arith) c.index_mut.ensures.value in
+    let at_s = subst (λ (p : ℕ). slice_get cs p ≡ Some c.index_mut.result.now) c.from-place.ensures at in
+    (next-all settings r cs c.args.station c.index_mut.result.now c.next.new.self (subst (AreTied settings r) (sym c.self.view_is) tied) at_s (next-told settings c.args.station r) c.next.result c.next.ensures.next c.next.ensures.tells).0
+
+pub returns-then-place-len-clause-ahead : goal.returns-then-place-len-clause-ahead
+returns-then-place-len-clause-ahead c = λ settings r tied there.
+    let cs = c.self.inside.controls.items in
+    let at = slice_get_read cs _ c.from-place.result c.index_mut.result.now refl (omega arith) c.index_mut.ensures.value in
+    let same : c.from-place.result ≡ c.args.station = c.from-place.ensures in
+    let at_s = subst (λ (p : ℕ). slice_get cs p ≡ Some c.index_mut.result.now) same at in
+    subst (λ (p : ℕ). AreAhead settings r (events.Tick c.args.station c.next.result) (set cs p c.next.new.self)) (sym same)
+    (next-all settings r cs c.args.station c.index_mut.result.now c.next.new.self (subst (AreTied settings r) (sym c.self.view_is) tied) at_s (next-told settings c.args.station r) c.next.result c.next.ensures.next c.next.ensures.tells).1
+
+pub returns-then-place-len-clause-same : goal.returns-then-place-len-clause-same
+returns-then-place-len-clause-same c =
+    let cs = c.self.inside.controls.items in
+    let at = slice_get_read cs _ c.from-place.result c.index_mut.result.now refl (omega arith) c.index_mut.ensures.value in
+    tables-set cs c.from-place.result c.index_mut.result.now c.next.new.self at c.next.ensures.same ∙ ap tables_of c.self.view_is

@@ -1,0 +1,6 @@
+-- How often a number is claimed; how the words of a station tell its account, and then those of all stations a run.
+pub mod Counting
+pub mod Telling
+pub mod Shown
+pub mod Ties
+pub mod inside

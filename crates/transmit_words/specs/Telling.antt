@@ -1,0 +1,54 @@
+-- How the words of a station tell its account, by what the hand that moves them knows.
+use Rattle.std.specs.Prelude.{◌≡◌, ◌≤◌, ◌<◌, ℕ, true, false, not, map, Result, Ok, Err}
+use Rattle.lan_base.specs.declared.association_number.AssociationNumber.{AssociationNumber}
+use Rattle.association_slots.specs.Cards.{card_at, cards_given}
+use Rattle.association_slots.specs.Learned.{Learned}
+use Rattle.association_slots.specs.Views.{In, slot, current, present_at, AllIn, IsOpen, count, claimed}
+use Rattle.association_slots.specs.Views.{told_sum}
+use Rattle.association_slots.specs.declared.view.Addition.{Addition}
+use Rattle.association_slots.specs.declared.view.ControlView.{ControlView}
+use Rattle.association_slots.specs.declared.view.Current.{Current}
+use Rattle.packet_claims.specs.declared.answers.Claim.{Claim}
+use Rattle.packet_claims.specs.declared.answers.NoClaim.{NoClaim}
+use Rattle.packet_claims.specs.declared.answers.NoClaim.TheVariants.{NoKey, Exhausted}
+use Rattle.group_safety.specs.Transmitting.{Sending, now, names}
+use Rattle.group_safety.specs.Accounts.{Account, next_now, with_claim}
+use Rattle.transmit_words.specs.Counting.{times_in}
+
+-- what a current word shows of what transmits, and what it shows to transmit
+abbrev pub word_of : Sending → Current
+word_of p = record { epoch = p.epoch; present = p.present; an = p.an }
+
+abbrev pub sending_of : Current → Sending
+sending_of p = record { epoch = p.epoch; present = p.present; an = p.an }
+
+-- The words of a station tell its account. No seat is out.
+pub record Tells (a : Account) (c : ControlView) : Type 0 where
+  pub all_in : AllIn c
+  pub learned : Learned c
+  -- the current word was stored for each beginning and each end of what transmitted
+  pub points : c.points ≡ map word_of a.carried.points
+  -- a slot is open exactly where the current word names it, and then has its epoch and shows the
+  -- next number
+  pub slots : (an : AssociationNumber) → (slot c an).shut ≡ not (names (now a.carried) an)
+  pub open_now : (current c).present ≡ true → IsOpen c (current c).an (current c).epoch
+  pub next : (current c).present ≡ true
+      → told_sum c (current c).an (current c).epoch ≡ a.nexts (current c).epoch
+  -- nothing is told of epochs that have not begun
+  pub later : (epoch : ℕ) → (current c).epoch < epoch → a.nexts epoch ≡ 1
+  pub low : (x : Addition) → In x c.told → x.met ≤ (current c).epoch
+  -- each installed key has a card
+  pub cards : cards_given c ≡ a.carried.installs
+  -- the claims are those that seats told, each as often; the numbers that were shown are those that
+  -- were loaded, in order
+  pub claims : (epoch pn : ℕ) → count (claimed epoch pn) c.told ≡ times_in epoch pn a.claims
+  pub shows : map (λ seen. seen.next) c.loads ≡ a.shows
+
+-- where control knew c: a claim of the next number of the key that transmits, with its card, or the
+-- answer that none does; then this account is told
+abbrev pub IsClaimed : Account → ControlView → Result Claim NoClaim → (Account → Type 0) → Type 0
+IsClaimed a c (Ok k) Told = (word_of (now a.carried) ≡ present_at k.an k.epoch) × (k.pn ≡ next_now a)
+    × (k.card ≡ card_at c k.epoch) × Told (with_claim k.epoch k.pn a)
+IsClaimed a c (Err (NoKey after)) Told =
+    ((now a.carried).present ≡ false) × (after ≡ (now a.carried).epoch) × Told a
+IsClaimed a c (Err (Exhausted epoch)) Told = ⊥

@@ -1,0 +1,61 @@
+-- How the words of all stations tell a run, before an event, on its way and after it.
+use Rattle.std.specs.Prelude.{◌≡◌, ℕ, ◌++◌, true, List, map, length, slice_get, Contains, Some, is_some}
+use Rattle.atomic_table.specs.Seated.{TableId}
+use Rattle.lan_base.specs.declared.key_id.KeyId.{KeyId}
+use Rattle.lan_base.specs.declared.association_number.AssociationNumber.{AssociationNumber}
+use Rattle.aes_block.specs.declared.secret.Secret.{Secret}
+use Rattle.association_slots.specs.Views.{ControlAt}
+use Rattle.lan_core.specs.declared.event.Event.{Event}
+use Rattle.lan_core.specs.declared.fact.Fact.{Fact}
+use Rattle.lan_core.specs.declared.fact.Fact.TheVariants as facts
+use Rattle.lan_core.specs.declared.settings.Settings.{Settings}
+use Rattle.lan_core.specs.Run.{Run, stations, started}
+use Rattle.lan_core.specs.Keys.{held_at}
+use Rattle.group_safety.specs.Transmitting.{Carried, follow, CarriesAt}
+use Rattle.group_safety.specs.Accounts.{Account, account_at, ahead}
+use Rattle.transmit_words.specs.Telling.{Tells}
+
+-- the tables that hands are of
+abbrev pub tables_of : List ControlAt → List TableId
+tables_of cs = map (λ c. c.table) cs
+
+-- the words of a station tell what a run does
+abbrev pub IsTied : Settings → ℕ → Run → ControlAt → Type 0
+IsTied settings s r c =
+    (k : Carried) × CarriesAt settings s r k × Tells (account_at settings s r k) c.view
+
+-- as many words as stations, and those of each tell the run
+pub record AreTied (settings : Settings) (r : Run) (cs : List ControlAt) : Type 0 where
+  pub many : length cs ≡ length (stations r)
+  pub each : (s : ℕ) (c : ControlAt) → slice_get cs s ≡ Some c → IsTied settings s r c
+
+-- the same, where the step of an event was taken: a number was shown or claimed, and the words of a
+-- station that starts are there
+abbrev pub IsAhead : Settings → ℕ → Run → Event → ControlAt → Type 0
+IsAhead settings s r event c = (k : Carried) × CarriesAt settings s r k
+    × Tells (ahead s event (account_at settings s r k)) c.view
+
+pub record AreAhead (settings : Settings) (r : Run) (event : Event)
+    (cs : List ControlAt) : Type 0 where
+  pub many : length cs ≡ length (stations r ++ started event)
+  pub each : (s : ℕ) (c : ControlAt) → slice_get cs s ≡ Some c → IsAhead settings s r event c
+
+-- each key that facts install is held after a run
+abbrev pub AreHeld : Settings → Run → List Fact → Type 0
+AreHeld settings r shown = (s : ℕ) (id : KeyId) (an : AssociationNumber) (epoch : ℕ) (sak : Secret)
+    → Contains shown (facts.Installed s id an epoch sak) → is_some (held_at settings s r an) ≡ true
+
+-- the words of a station tell what facts make of what they told
+abbrev pub Follows : ℕ → List Fact → ControlAt → ControlAt → Type 0
+Follows s shown c d = (a : Account) (k : Carried) → Tells a c.view
+    → follow s shown a.carried ≡ Some k → Tells (record a { carried = k }) d.view
+
+-- the words of each station followed facts
+pub record HaveFollowed (shown : List Fact) (old new : List ControlAt) : Type 0 where
+  pub many : length new ≡ length old
+  pub each : (s : ℕ) (d : ControlAt) → slice_get new s ≡ Some d
+      → (c : ControlAt) × (slice_get old s ≡ Some c) × Follows s shown c d
+
+-- the same, where each key that the facts install is held after a run
+abbrev pub Followed : Settings → Run → List Fact → List ControlAt → List ControlAt → Type 0
+Followed settings r shown old new = AreHeld settings r shown → HaveFollowed shown old new

@@ -1,0 +1,3 @@
+-- What serves the crate's private parts alone.
+pub mod Kept
+pub mod Cards

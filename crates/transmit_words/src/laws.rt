@@ -1,0 +1,66 @@
+//! What the words tell of a run.
+
+ghost use Rattle.std.specs.Prelude.{◌≡◌, ◌≤◌, ◌∷◌, ◌++◌, [], ℕ, List};
+ghost use Rattle.lan_base.specs.declared.address.Sci.{Sci};
+ghost use Rattle.lan_base.specs.declared.frame.UserFrame.{UserFrame};
+ghost use Rattle.lan_base.specs.declared.name.Name.{Name};
+ghost use Rattle.association_slots.specs.Rule.{Around};
+ghost use Rattle.association_slots.specs.Views.{ControlAt};
+ghost use Rattle.association_slots.specs.declared.view.ControlView.{ControlView};
+ghost use Rattle.association_slots.specs.declared.view.View.{View};
+ghost use Rattle.lan_core.specs.declared.event.Event.TheVariants as events;
+ghost use Rattle.lan_core.specs.declared.settings.Settings.{Settings};
+ghost use Rattle.lan_core.specs.Run.{Run, Happening};
+ghost use Rattle.lan_core.specs.Legal.{IsStep, IsStepped};
+ghost use Rattle.lan_core.specs.Standing.{State, StandsFor};
+ghost use Rattle.group_safety.specs.Accounts.{Account, blank, IsExact};
+ghost use Rattle.transmit_words.specs.Counting.{times_in};
+ghost use Rattle.transmit_words.specs.Telling.{Tells};
+ghost use Rattle.transmit_words.specs.Shown.{Show};
+ghost use Rattle.transmit_words.specs.Ties.{AreTied, AreAhead, Followed};
+
+use association_slots::{law_counted_next, law_words};
+use group_safety::{
+    law_a_place_without_a_station_is_blank, law_an_account_goes_on, law_an_installed_key_is_held,
+    law_facts_move_what_transmits,
+};
+
+/// Between any two steps the words of a station show what they tell: the current word what
+/// transmits, and the one open slot its next packet number.
+pub fn law_the_words_show_what_transmits()
+    ensures { (c : ControlView) (words : List ℕ) (views : List View) (a : Account)
+        → Around c words views → Tells a c → Show a words }
+{
+    law_words();
+    law_counted_next();
+}
+
+/// Each number of an epoch was claimed once at most.
+pub fn law_each_number_is_claimed_once()
+    ensures { (c : ControlView) (a : Account) → Tells a c
+        → (epoch pn : ℕ) → times_in epoch pn a.claims ≤ 1 }
+{}
+
+/// Words to which nothing happened are those of a station that is about to start.
+pub fn law_new_words_are_tied()
+    ensures { (settings : Settings) (users : List UserFrame) (old : State) (r : Run)
+        (name : Name) (sci : Sci) (priority : ℕ) (cs : List ControlAt) (c : ControlAt)
+        → StandsFor settings users old r → IsStepped settings users r → AreTied settings r cs
+        → Tells blank c.view → AreAhead settings r (events.Start name sci priority) (cs ++ c ∷ []) }
+{
+    law_a_place_without_a_station_is_blank();
+}
+
+/// Where the words of all stations took the step of an event, and then followed its facts, they
+/// tell the run with it.
+pub fn law_all_words_stay_tied()
+    ensures { (settings : Settings) (users : List UserFrame) (old new : State) (x : Happening)
+        (r : Run) (cs ds : List ControlAt) → StandsFor settings users old r
+        → StandsFor settings users new (x ∷ r) → IsStep settings users x r
+        → IsExact settings r x.event → AreAhead settings r x.event cs
+        → Followed settings (x ∷ r) x.facts cs ds → AreTied settings (x ∷ r) ds }
+{
+    law_facts_move_what_transmits();
+    law_an_installed_key_is_held();
+    law_an_account_goes_on();
+}
