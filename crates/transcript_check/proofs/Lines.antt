@@ -181,3 +181,18 @@ module _ (octets : List ℕ) (old : Standing) (fault : FactError)
   none-unread names facts is denied =
       ap error_of_reading (unread.1 (λ after fact reads.
       denied after fact (subst (λ ns. Reads ns octets after fact) is.0 reads)))
+
+-- ---- results that are errors
+
+abbrev failing : (T : Type 0) {E : Type 0} → E → Result T E
+failing T x = Err x
+
+pub same-error : {T E : Type 0} (a b : E) → failing T a ≡ failing T b → a ≡ b
+same-error {T} {E} a b e = ap error_in e
+  where
+    error_in : Result T E → E
+    error_in (Ok x) = a
+    error_in (Err c) = c
+
+pub of-results : {T E P : Type 0} {b : E} (a : E) → (failing T a ≡ failing T b) ↔ P → (a ≡ b) ↔ P
+of-results {T} {E} {P} {b} a both = (λ e. both.0 (ap (failing T) e), λ p. same-error a b (both.1 p))

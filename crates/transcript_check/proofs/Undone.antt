@@ -13,11 +13,11 @@ use Rattle.std.specs.Cmp.{nat_cmp_is}
 use Rattle.std.specs.declared.cmp.Ordering.{Ordering}
 use Rattle.std.specs.declared.cmp.Ordering.TheVariants.{Less, Equal, Greater}
 
-module _ {K X : Type 0} (cmp : K → K → Ordering) (k : K) (same : cmp k k ≡ Equal) where
+module _ {K : Type 0} (cmp : K → K → Ordering) (k : K) (same : cmp k k ≡ Equal) where
   at-itself : is_at (cmp k) k ≡ true
   at-itself = ap is_eq same
 
-  pub undone : (x : X) (es : List (K × X)) → lookup (is_at (cmp k)) es ≡ None
+  pub undone : {X : Type 0} (x : X) (es : List (K × X)) → lookup (is_at (cmp k)) es ≡ None
       → remove_entry (is_at (cmp k)) (insert_entry cmp es k x) ≡ es
   undone x [] absent = ap (λ b. cond b [] ((k, x) ∷ [])) at-itself
   undone x (e ∷ es) absent = go (cmp k e.0) refl (undone x es)
