@@ -1,5 +1,5 @@
 //! Tests of the crates of text: what the outside gives and takes, draws, lines of a trace, made
-//! traces, lines of a transcript, and what is judged of them.
+//! traces, and lines of a transcript.
 #![tactic(auto)]
 
 mod in_memory;
@@ -13,7 +13,5 @@ mod outside;
 mod supplies;
 #[cfg(test)]
 mod transcripts;
-#[cfg(test)]
-mod verdicts;
 
 pub use in_memory::{read_whole, write_whole};
