@@ -506,9 +506,11 @@ by-install facts old new number s epoch an id sak stands is (Some before) there 
     (ap (option_map (λ _. Doubled)) there, step.1)
 by-install facts old new number s epoch an id sak stands is None free (Ok u) step =
     (ap (option_map (λ _. Doubled)) free, installs facts old new number s epoch an id sak stands is free step)
-by-install facts old new number s epoch an id sak stands is None free (Err error) step =
-    (subst (IsFailed facts (shows.Installed s id an epoch sak)) (sym step.0)
-    (ap (option_map (λ _. Doubled)) free), step.1)
+by-install facts old new number s epoch an id sak stands is None free (Err error) step = (
+  subst (IsFailed facts (shows.Installed s id an epoch sak)) (sym step.0)
+      (ap (option_map (λ _. Doubled)) free),
+  step.1,
+)
 
 by-claim : (facts : List Fact) (old new : Maps) (number s : ℕ) (an : AssociationNumber) (epoch pn : ℕ)
     → StandsFor facts old → number ≡ suc (length facts)

@@ -121,7 +121,8 @@ impl Notes {
     fn put_epoch(&mut self, station: u8, epoch: u32, sak: Secret) -> Result<(), AllocError>
         ensures put { OnOk result (EpochIsPut station epoch sak self.old self.new) }
         ensures entries { OnOk result (self.new ≡ record self.old {
-            epochs = insert_entry pair_cmp self.old.epochs (station, epoch) sak }) }
+          epochs = insert_entry pair_cmp self.old.epochs (station, epoch) sak;
+        }) }
         ensures kept { OnErr result (self.new ≡ self.old) }
     {
         self.epochs.insert((station, epoch), sak)?;
@@ -222,7 +223,8 @@ impl Notes {
     /// The SAK of a station's epoch is kept no more.
     fn drop_epoch(&mut self, station: u8, epoch: u32)
         ensures { self.new ≡ record self.old {
-            epochs = remove_entry (is_at (pair_cmp (station, epoch))) self.old.epochs } }
+          epochs = remove_entry (is_at (pair_cmp (station, epoch))) self.old.epochs;
+        } }
     {
         self.epochs.remove(&(station, epoch));
     }
