@@ -60,9 +60,13 @@ passes-more : (n : List Name) (f : List Fact) (ls : List (List ℕ)) (m : List N
     → AreTaken n f ls m g → AreTaken m g ms k h → AreTaken n f (ls ++ ms) k h
 passes-more n f [] m g ms k h first then =
     subst (λ n. AreTaken n f ms k h) (sym first.0) (subst (λ f. AreTaken m f ms k h) (sym first.1) then)
-passes-more n f (l ∷ ls) m g ms k h first then =
-    (first.0, first.1, first.2, first.3,
-    passes-more first.0 (f ++ first.1 ∷ []) ls m g ms k h first.4 then)
+passes-more n f (l ∷ ls) m g ms k h first then = (
+  first.0,
+  first.1,
+  first.2,
+  first.3,
+  passes-more first.0 (f ++ first.1 ∷ []) ls m g ms k h first.4 then,
+)
 
 -- ---- what laws give, as premises
 
@@ -432,15 +436,18 @@ module _ (settings : Settings) (users : List UserFrame) (laws : Laws settings us
       (sym is.1) (
         after,
         fact,
-        ((fit, sym (laws.grow after more fact fit)), inr (record {
-          name = name;
-          mi = is.0;
-          grown = grown;
-          well_formed = stepped.0.in_order.0.0;
-          new = new-names (stations r) stepped.0.in_order.1.0;
-          room = omega (arith, l, room, count);
-          life = ap (λ n. shows.Life n is.0) (sym l);
-        })),
+        (
+          (fit, sym (laws.grow after more fact fit)),
+          inr (record {
+            name = name;
+            mi = is.0;
+            grown = grown;
+            well_formed = stepped.0.in_order.0.0;
+            new = new-names (stations r) stepped.0.in_order.1.0;
+            room = omega (arith, l, room, count);
+            life = ap (λ n. shows.Life n is.0) (sym l);
+          }),
+        ),
         refl,
         (refl, refl),
       )

@@ -1,13 +1,15 @@
-//! What is judged of a transcript, whoever wrote it: whether a packet number was used twice, and
-//! whether an identifier names two keys.
+//! A transcript is judged line by line, whoever wrote it: whether a packet number was used twice,
+//! and whether an identifier names two keys.
 #![tactic(auto)]
 
+mod check;
 mod fault;
 mod laws;
 mod named;
+mod notes;
 mod verdict;
 
+pub use check::Check;
 pub use fault::{CheckError, CheckFault};
 pub use laws::{law_clean, law_every_fact_has_a_line};
-pub use named::Named;
 pub use verdict::Verdict;

@@ -1,0 +1,593 @@
+-- One fact more is judged.
+use Rattle.std.proofs.Common.{◌≡◌, ◌≢◌, ◌∙◌, ◌≤◌, ◌+◌, ◌⊎◌, inl, inr, ℕ, suc, Bool, true, false, cond, List, [], ◌∷◌, ◌++◌, length, Option, Some, None, Result, Ok, Err, min, refl, sym, ap, subst, arith}
+use Rattle.std.proofs.lemmas.Bool.{and_parts, eqb-true, eq-eqb}
+use Rattle.std.specs.Option.{option_or}
+use Rattle.std.specs.Prelude.{◌==◌, ◌&&◌, option_map, is_some, is_ok, IsTrue}
+use Rattle.aes_block.specs.declared.secret.Secret.{Secret}
+use Rattle.lan_base.specs.declared.association_number.AssociationNumber.{AssociationNumber}
+use Rattle.lan_base.specs.declared.key_id.KeyId.{KeyId}
+use Rattle.lan_core.specs.declared.fact.Fact.{Fact}
+use Rattle.lan_core.specs.declared.fact.Fact.TheVariants as shows
+use Rattle.transcript_check.specs.declared.named.Named.{Named}
+use Rattle.transcript_check.specs.declared.fault.CheckError.{CheckError}
+use Rattle.transcript_check.specs.declared.fault.CheckError.TheVariants.{Refused, Memory}
+use Rattle.transcript_check.specs.declared.fault.CheckFault.TheVariants.{Doubled}
+use Rattle.transcript_check.specs.Judged.{Noted, Breaks, IsJudged, BreaksOnce, BreaksOneKey, fact_at, sak_here, sak_in, Use, use_of, uses, named_by, names, never, same_named, is_missed, missed_in}
+use Rattle.transcript_check.specs.Standing.{Maps, StandsFor, IsFound, IsOfEpoch, sak_at, first_of, line_by, line_of, EpochIsPut, KeyIsPut, UseIsPut, IsNamed, IsUsed, IsInstalled, Installs, Claims, Takes, IsFailed, refusal, no_epoch}
+use Rattle.transcript_check.proofs.Least.{some-same, nat_dec, Goes, found-stays, none-stays, broken-now, found-is, found-again, found-first}
+use Rattle.transcript_check.proofs.Ends.{at-last, at-other, goes-by, sak-more, sak-stays, sak-with, use-stays, missed-more, missed-within}
+use Rattle.transcript_check.proofs.Telling.{Told, id_dec, use_dec, pair_dec, named-itself, named-joins}
+
+-- ---- nothing new is told
+
+module _ (K V : Type 0) (agree : V → V → Bool) where
+  pub quiet : (f g : Noted K V) (n : ℕ) → Goes K V agree f g n None → (o : Option (ℕ × ℕ))
+      → IsJudged (Breaks K V agree f) o → IsJudged (Breaks K V agree g) o
+  quiet f g n go None was = none-stays K V agree f g n None go was (λ a k v w e is. absurd (cc is))
+  quiet f g n go (Some pair) was = found-stays K V agree f g n None go pair was
+
+  pub found-quiet : (f g : Noted K V) (n : ℕ) → Goes K V agree f g n None → (k : K) (o : Option (ℕ × V))
+      → IsFound K V f k o → IsFound K V g k o
+  found-quiet f g n go k o was = found-is K V agree f g n None go k (λ v is. absurd (cc is)) o was
+
+  -- the first that is told of a key
+  pub first-told : (f g : Noted K V) (n : ℕ) (k : K) (v : V) → Goes K V agree f g n (Some (k, v))
+      → IsFound K V f k None → IsJudged (Breaks K V agree f) None
+      → IsJudged (Breaks K V agree g) None
+  first-told f g n k v go none was =
+      none-stays K V agree f g n (Some (k, v)) go was
+      (λ a j u w e is.
+      let same : k ≡ j = ap (λ (p : K × V). p.0) (some-same is) in
+      absurd (none a u (e ∙ ap (λ i. Some (i, u)) (sym same))))
+
+  -- what is told agrees with the first of its key
+  pub agreeing : (joins : (u v w : V) → agree u v ≡ true → agree u w ≡ true → agree v w ≡ true)
+      → (itself : (u v : V) → u ≡ v → agree u v ≡ true)
+      → (f g : Noted K V) (n : ℕ) (k : K) (v : V) → Goes K V agree f g n (Some (k, v))
+      → (nv : ℕ × V) → IsFound K V f k (Some nv) → agree nv.1 v ≡ true
+      → IsJudged (Breaks K V agree f) None → IsJudged (Breaks K V agree g) None
+  agreeing joins itself f g n k v go nv found fits was =
+      none-stays K V agree f g n (Some (k, v)) go was
+      (λ a j u w e is.
+      let key : k ≡ j = ap (λ (p : K × V). p.0) (some-same is) in
+      let told : v ≡ w = ap (λ (p : K × V). p.1) (some-same is) in
+      let here : f a ≡ Some (k, u) = e ∙ ap (λ i. Some (i, u)) (sym key) in
+      joins nv.1 u w (first a u here (nat_dec nv.0 a) (agree nv.1 u) refl)
+      (subst (λ x. agree nv.1 x ≡ true) told fits))
+    where
+      first : (a : ℕ) (u : V) → f a ≡ Some (k, u) → (nv.0 ≡ a) ⊎ (nv.0 ≢ a) → (b : Bool)
+          → agree nv.1 u ≡ b → agree nv.1 u ≡ true
+      first a u here (inl e) b is =
+          itself nv.1 u (ap (λ (p : K × V). p.1)
+          (some-same (sym found.0 ∙ ap f e ∙ here)))
+      first a u here (inr apart) true is = is
+      first a u here (inr apart) false is =
+          let least = found.1 a u here in
+          absurd (was nv.0 a (record {
+            key = k;
+            one = nv.1;
+            other = u;
+            order = omega (arith, least, apart);
+            first = found.0;
+            second = here;
+            apart = is;
+          }))
+
+-- ---- keys
+
+-- what stands after a fact for pairs of one kind
+abbrev Kept : (K V : Type 0) → (V → V → Bool) → Noted K V → Option (ℕ × ℕ) → (K → Option (ℕ × V))
+    → Type 0
+Kept K V agree f o found =
+    IsJudged (Breaks K V agree f) o × (o ≡ None → (k : K) → IsFound K V f k (found k))
+
+still : (K V : Type 0) (agree : V → V → Bool) (f g : Noted K V) (n : ℕ) → Goes K V agree f g n None
+    → (o : Option (ℕ × ℕ)) (found : K → Option (ℕ × V)) → Kept K V agree f o found
+    → Kept K V agree g o found
+still K V agree f g n go o found was = (
+  quiet K V agree f g n go o was.0,
+  λ e k. found-quiet K V agree f g n go k (found k) (was.1 e k),
+)
+
+key-found : (number : ℕ) (id : KeyId) (named : Named) (m new : Maps) (f g : Noted KeyId Named) (n : ℕ)
+    → Goes KeyId Named same_named f g n (Some (id, named)) → number ≡ suc n
+    → KeyIsPut number id named m new → first_of m id ≡ None
+    → ((k : KeyId) → IsFound KeyId Named f k (first_of m k))
+    → (k : KeyId) → IsFound KeyId Named g k (first_of new k)
+key-found number id named m new f g n go is put none was k = by-key (id_dec k id)
+  where
+    by-key : Told k id → IsFound KeyId Named g k (first_of new k)
+    by-key (inl e) =
+        subst (λ j. IsFound KeyId Named g j (first_of new j)) (sym e)
+        (subst (λ o. IsFound KeyId Named g id o) (ap (λ j. Some (j, named)) (sym is) ∙ sym put.here)
+        (found-first KeyId Named same_named f g n id named go
+        (subst (λ o. IsFound KeyId Named f id o) none (was id))))
+    by-key (inr apart) =
+        subst (λ o. IsFound KeyId Named g k o) (sym (put.others k apart))
+        (found-is KeyId Named same_named f g n (Some (id, named)) go k
+        (λ v e. apart (sym (ap (λ (p : KeyId × Named). p.0) (some-same e)))) (first_of m k) (was k))
+
+key-same : (id : KeyId) (named : Named) (nv : ℕ × Named) (m : Maps) (f g : Noted KeyId Named) (n : ℕ)
+    → Goes KeyId Named same_named f g n (Some (id, named))
+    → first_of m id ≡ Some nv
+    → ((k : KeyId) → IsFound KeyId Named f k (first_of m k))
+    → (k : KeyId) → IsFound KeyId Named g k (first_of m k)
+key-same id named nv m f g n go there was k = by-key (id_dec k id)
+  where
+    by-key : Told k id → IsFound KeyId Named g k (first_of m k)
+    by-key (inl e) =
+        subst (λ j. IsFound KeyId Named g j (first_of m j)) (sym e)
+        (subst (λ o. IsFound KeyId Named g id o) (sym there)
+        (found-again KeyId Named same_named f g n (Some (id, named)) go id nv
+        (subst (λ o. IsFound KeyId Named f id o) there (was id))))
+    by-key (inr apart) =
+        found-is KeyId Named same_named f g n (Some (id, named)) go k
+        (λ v e. apart (sym (ap (λ (p : KeyId × Named). p.0) (some-same e)))) (first_of m k) (was k)
+
+pub key-step : (number : ℕ) (id : KeyId) (named : Named) (m new : Maps) (f g : Noted KeyId Named) (n : ℕ)
+    → Goes KeyId Named same_named f g n (Some (id, named)) → number ≡ suc n
+    → (o : Option (ℕ × ℕ)) → m.one_key ≡ o → (p : Option (ℕ × Named)) → first_of m id ≡ p
+    → IsNamed number id named m new o p
+    → Kept KeyId Named same_named f m.one_key (first_of m)
+    → Kept KeyId Named same_named g new.one_key (first_of new)
+key-step number id named m new f g n go is (Some pair) broken p there step was =
+    subst (λ (w : Maps). Kept KeyId Named same_named g w.one_key (first_of w)) (sym step) (
+      subst (λ o. IsJudged (Breaks KeyId Named same_named g) o) (sym broken)
+          (found-stays KeyId Named same_named f g n (Some (id, named)) go pair
+          (subst (λ o. IsJudged (Breaks KeyId Named same_named f) o) broken was.0)),
+      λ e. absurd (cc (e, broken)),
+    )
+key-step number id named m new f g n go is None whole None there put was = (
+  subst (λ o. IsJudged (Breaks KeyId Named same_named g) o) (sym (put.one_key ∙ whole))
+      (first-told KeyId Named same_named f g n id named go
+      (subst (λ o. IsFound KeyId Named f id o) there (was.1 whole id))
+      (subst (λ o. IsJudged (Breaks KeyId Named same_named f) o) whole was.0)),
+  λ e. key-found number id named m new f g n go is put there (was.1 whole),
+)
+key-step number id named m new f g n go is None whole (Some nv) there step was =
+    by-same (same_named nv.1 named) refl
+  where
+    found : IsFound KeyId Named f id (Some nv)
+    found = subst (λ o. IsFound KeyId Named f id o) there (was.1 whole id)
+
+    unbroken : IsJudged (Breaks KeyId Named same_named f) None
+    unbroken = subst (λ o. IsJudged (Breaks KeyId Named same_named f) o) whole was.0
+
+    after : (b : Bool) → same_named nv.1 named ≡ b
+        → new ≡ cond b m (record m { one_key = Some (nv.0, number) })
+    after b e = step ∙ ap (λ b. cond b m (record m { one_key = Some (nv.0, number) })) e
+
+    by-same : (b : Bool) → same_named nv.1 named ≡ b
+        → Kept KeyId Named same_named g new.one_key (first_of new)
+    by-same true e =
+        subst (λ (w : Maps). Kept KeyId Named same_named g w.one_key (first_of w)) (sym (after true e)) (
+          subst (λ o. IsJudged (Breaks KeyId Named same_named g) o) (sym whole)
+              (agreeing KeyId Named same_named named-joins
+              (λ u v s. subst (λ x. same_named u x ≡ true) s (named-itself u)) f g n id named go nv found e unbroken),
+          λ s. key-same id named nv m f g n go there (was.1 whole),
+        )
+    by-same false e =
+        subst (λ (w : Maps). Kept KeyId Named same_named g w.one_key (first_of w)) (sym (after false e)) (
+          subst (λ j. IsJudged (Breaks KeyId Named same_named g) (Some (nv.0, j))) (sym is)
+              (broken-now KeyId Named same_named f g n id named go unbroken nv found e),
+          λ s. absurd (cc s),
+        )
+
+-- ---- packet numbers
+
+abbrev with_unit : Option ℕ → Option (ℕ × Unit {0})
+with_unit o = option_map (λ n. (n, tt)) o
+
+abbrev the_use : ℕ → ℕ → Secret → Use
+the_use s pn sak = record { station = s; sak = sak; pn = pn }
+
+use-found : (number s pn : ℕ) (sak : Secret) (m new : Maps) (f g : Noted Use (Unit {0})) (n : ℕ)
+    → Goes Use (Unit {0}) never f g n (Some (the_use s pn sak, tt)) → number ≡ suc n
+    → UseIsPut number s pn sak m new → line_by m s pn sak ≡ None
+    → ((k : Use) → IsFound Use (Unit {0}) f k (line_of m k))
+    → (k : Use) → IsFound Use (Unit {0}) g k (line_of new k)
+use-found number s pn sak m new f g n go is put none was k = by-key (use_dec k (the_use s pn sak))
+  where
+    by-key : Told k (the_use s pn sak) → IsFound Use (Unit {0}) g k (line_of new k)
+    by-key (inl e) =
+        subst (λ j. IsFound Use (Unit {0}) g j (line_of new j)) (sym e)
+        (subst (λ o. IsFound Use (Unit {0}) g (the_use s pn sak) o)
+        (ap (λ j. Some (j, tt)) (sym is) ∙ ap with_unit (sym put.here))
+        (found-first Use (Unit {0}) never f g n (the_use s pn sak) tt go
+        (subst (λ o. IsFound Use (Unit {0}) f (the_use s pn sak) o) (ap with_unit none)
+        (was (the_use s pn sak)))))
+    by-key (inr apart) =
+        subst (λ o. IsFound Use (Unit {0}) g k o)
+        (ap with_unit (sym (put.others k.station k.pn k.sak
+        (λ p. apart (λ t. record { station = p.0 t; sak = p.2 t; pn = p.1 t })))))
+        (found-is Use (Unit {0}) never f g n (Some (the_use s pn sak, tt)) go k
+        (λ v e. apart (sym (ap (λ (p : Use × Unit {0}). p.0) (some-same e)))) (line_of m k) (was k))
+
+pub use-step : (number s pn : ℕ) (sak : Secret) (m new : Maps) (f g : Noted Use (Unit {0})) (n : ℕ)
+    → Goes Use (Unit {0}) never f g n (Some (the_use s pn sak, tt)) → number ≡ suc n
+    → (o : Option (ℕ × ℕ)) → m.once ≡ o → (p : Option ℕ) → line_by m s pn sak ≡ p
+    → IsUsed number s pn sak m new o p
+    → Kept Use (Unit {0}) never f m.once (line_of m)
+    → Kept Use (Unit {0}) never g new.once (line_of new)
+use-step number s pn sak m new f g n go is (Some pair) broken p there step was =
+    subst (λ (w : Maps). Kept Use (Unit {0}) never g w.once (line_of w)) (sym step) (
+      subst (λ o. IsJudged (Breaks Use (Unit {0}) never g) o) (sym broken)
+          (found-stays Use (Unit {0}) never f g n (Some (the_use s pn sak, tt)) go pair
+          (subst (λ o. IsJudged (Breaks Use (Unit {0}) never f) o) broken was.0)),
+      λ e. absurd (cc (e, broken)),
+    )
+use-step number s pn sak m new f g n go is None whole None there put was = (
+  subst (λ o. IsJudged (Breaks Use (Unit {0}) never g) o) (sym (put.once ∙ whole))
+      (first-told Use (Unit {0}) never f g n (the_use s pn sak) tt go
+      (subst (λ o. IsFound Use (Unit {0}) f (the_use s pn sak) o) (ap with_unit there)
+      (was.1 whole (the_use s pn sak)))
+      (subst (λ o. IsJudged (Breaks Use (Unit {0}) never f) o) whole was.0)),
+  λ e. use-found number s pn sak m new f g n go is put there (was.1 whole),
+)
+use-step number s pn sak m new f g n go is None whole (Some line) there step was =
+    subst (λ (w : Maps). Kept Use (Unit {0}) never g w.once (line_of w)) (sym step) (
+      subst (λ j. IsJudged (Breaks Use (Unit {0}) never g) (Some (line, j))) (sym is)
+          (broken-now Use (Unit {0}) never f g n (the_use s pn sak) tt go
+          (subst (λ o. IsJudged (Breaks Use (Unit {0}) never f) o) whole was.0) (line, tt)
+          (subst (λ o. IsFound Use (Unit {0}) f (the_use s pn sak) o) (ap with_unit there)
+          (was.1 whole (the_use s pn sak))) refl),
+      λ e. absurd (cc e),
+    )
+
+-- ---- a fact
+
+-- what stands for the facts, but for the count, while a fact is taken
+abbrev Uses : List Fact → Maps → Type 0
+Uses facts m = Kept Use (Unit {0}) never (uses facts) m.once (line_of m)
+
+abbrev Keys : List Fact → Maps → Type 0
+Keys facts m = Kept KeyId Named same_named (names facts) m.one_key (first_of m)
+
+abbrev pub with_count : ℕ → Maps → Maps
+with_count n m = record m { count = n }
+
+use-goes : (facts : List Fact) (fact : Fact) (m : Maps) → StandsFor facts m
+    → Goes Use (Unit {0}) never (uses facts) (uses (facts ++ fact ∷ [])) (length facts)
+    (use_of (facts ++ fact ∷ []) fact)
+use-goes facts fact m stands =
+    goes-by Use (Unit {0}) never (use_of facts) (use_of (facts ++ fact ∷ [])) facts fact
+    (λ k f e. use-stays facts fact f (stands.known k f e))
+
+key-goes : (facts : List Fact) (fact : Fact)
+    → Goes KeyId Named same_named (names facts) (names (facts ++ fact ∷ [])) (length facts) (named_by fact)
+key-goes facts fact = goes-by KeyId Named same_named named_by named_by facts fact (λ k f e. refl)
+
+of-epoch-stays : (facts : List Fact) (fact f : Fact) → IsOfEpoch facts f → IsOfEpoch (facts ++ fact ∷ []) f
+of-epoch-stays facts fact (shows.Claimed s an epoch pn) known =
+    subst (λ o. IsTrue (is_some o)) (sym (sak-stays facts fact s epoch known)) known
+of-epoch-stays facts fact (shows.Life s mi) known = tt
+of-epoch-stays facts fact (shows.Ticked s at next) known = tt
+of-epoch-stays facts fact (shows.Server s mi) known = tt
+of-epoch-stays facts fact (shows.Dropped s id an) known = tt
+of-epoch-stays facts fact (shows.Retired s id an) known = tt
+of-epoch-stays facts fact (shows.Began s id an epoch cause) known = tt
+of-epoch-stays facts fact (shows.Installed s id an epoch sak) known = tt
+of-epoch-stays facts fact (shows.Untaken s id why) known = tt
+of-epoch-stays facts fact (shows.Framed k s sec xs) known = tt
+of-epoch-stays facts fact (shows.HeardMka k s verdict) known = tt
+of-epoch-stays facts fact (shows.Unclaimed s why) known = tt
+of-epoch-stays facts fact (shows.Arrived k s arrival) known = tt
+
+known-more : (facts : List Fact) (fact : Fact) (m : Maps) → StandsFor facts m → IsOfEpoch facts fact
+    → (number : ℕ) (f : Fact) → fact_at (facts ++ fact ∷ []) number ≡ Some f
+    → IsOfEpoch (facts ++ fact ∷ []) f
+known-more facts fact m stands this number f e = go (nat_dec number (suc (length facts)))
+  where
+    go : (number ≡ suc (length facts)) ⊎ (number ≢ suc (length facts)) → IsOfEpoch (facts ++ fact ∷ []) f
+    go (inl last) =
+        let same : fact ≡ f = some-same (sym (at-last facts fact)
+        ∙ ap (fact_at (facts ++ fact ∷ [])) (sym last) ∙ e) in
+        of-epoch-stays facts fact f (subst (λ x. IsOfEpoch facts x) same this)
+    go (inr apart) =
+        of-epoch-stays facts fact f (stands.known number f (sym (at-other facts fact number apart) ∙ e))
+
+length-more : (facts : List Fact) (fact : Fact) → suc (length facts) ≡ length (facts ++ fact ∷ [])
+length-more [] fact = refl
+length-more (f ∷ facts) fact = ap suc (length-more facts fact)
+
+-- a fact that changes nothing but what was missed
+pub passes : (facts : List Fact) (fact : Fact) (old new : Maps) (number missed : ℕ)
+    → StandsFor facts old → number ≡ suc (length facts)
+    → named_by fact ≡ None → use_of (facts ++ fact ∷ []) fact ≡ None
+    → ((s epoch : ℕ) → sak_here s epoch fact ≡ None) → IsOfEpoch facts fact
+    → missed ≡ missed_in facts + cond (is_missed fact) 1 0
+    → new ≡ record old { missed = missed }
+    → StandsFor (facts ++ fact ∷ []) (with_count number new)
+passes facts fact old new number missed stands is no_key no_use no_epoch this count step =
+    subst (λ (w : Maps). StandsFor (facts ++ fact ∷ []) (with_count number w)) (sym step)
+    (record {
+      count = is ∙ length-more facts fact;
+      missed = count ∙ sym (missed-more facts fact);
+      once = kept_uses.0;
+      one_key = kept_keys.0;
+      epochs = λ s epoch. stands.epochs s epoch ∙ sym (sak-with facts fact s epoch (no_epoch s epoch));
+      keys = kept_keys.1;
+      uses = kept_uses.1;
+      known = known-more facts fact old stands this;
+    })
+  where
+    kept_uses : Uses (facts ++ fact ∷ []) old
+    kept_uses = still Use (Unit {0}) never (uses facts) (uses (facts ++ fact ∷ [])) (length facts)
+        (subst (λ o. Goes Use (Unit {0}) never (uses facts) (uses (facts ++ fact ∷ [])) (length facts) o)
+        no_use (use-goes facts fact old stands)) old.once (line_of old) (stands.once, stands.uses)
+
+    kept_keys : Keys (facts ++ fact ∷ []) old
+    kept_keys = still KeyId Named same_named (names facts) (names (facts ++ fact ∷ [])) (length facts)
+        (subst (λ o. Goes KeyId Named same_named (names facts) (names (facts ++ fact ∷ [])) (length facts) o)
+        no_key (key-goes facts fact)) old.one_key (first_of old) (stands.one_key, stands.keys)
+
+-- ---- an install
+
+lookup-same : (old m : Maps) → m.keys ≡ old.keys → (id : KeyId) → first_of m id ≡ first_of old id
+lookup-same old m same id =
+    ap (λ keys. first_of (record old { keys = keys }) id) same
+
+line-same : (old m : Maps) → m.narrow ≡ old.narrow → m.wide ≡ old.wide → (s pn : ℕ) (sak : Secret)
+    → line_by m s pn sak ≡ line_by old s pn sak
+line-same old m narrow wide s pn (Secret.S128 xs) =
+    ap (λ ns. line_by (record old { narrow = ns }) s pn (Secret.S128 xs)) narrow
+line-same old m narrow wide s pn (Secret.S256 xs) =
+    ap (λ ns. line_by (record old { wide = ns }) s pn (Secret.S256 xs)) wide
+
+-- what a naming leaves
+record Leaves (m new : Maps) : Type 0 where
+  missed : new.missed ≡ m.missed
+  once : new.once ≡ m.once
+  epochs : new.epochs ≡ m.epochs
+  narrow : new.narrow ≡ m.narrow
+  wide : new.wide ≡ m.wide
+
+leaves : (number : ℕ) (id : KeyId) (named : Named) (m new : Maps) (o : Option (ℕ × ℕ))
+    (p : Option (ℕ × Named)) → IsNamed number id named m new o p → Leaves m new
+leaves number id named m new (Some pair) p step =
+    subst (λ w. Leaves m w) (sym step)
+    (record { missed = refl; once = refl; epochs = refl; narrow = refl; wide = refl })
+leaves number id named m new None None put =
+    record { missed = put.missed; once = put.once; epochs = put.epochs; narrow = put.narrow; wide = put.wide }
+leaves number id named m new None (Some nv) step =
+    subst (λ w. Leaves m w) (sym step) (go (same_named nv.1 named))
+  where
+    go : (b : Bool) → Leaves m (cond b m (record m { one_key = Some (nv.0, number) }))
+    go true = record { missed = refl; once = refl; epochs = refl; narrow = refl; wide = refl }
+    go false = record { missed = refl; once = refl; epochs = refl; narrow = refl; wide = refl }
+
+sak-here-is : (s epoch : ℕ) (id : KeyId) (an : AssociationNumber) (sak : Secret) (t e : ℕ) → t ≡ s → e ≡ epoch
+    → sak_here t e (shows.Installed s id an epoch sak) ≡ Some sak
+sak-here-is s epoch id an sak t e same too =
+    rw (eq-eqb s t (sym same), eq-eqb epoch e (sym too)) refl
+
+sak-here-not : (s epoch : ℕ) (id : KeyId) (an : AssociationNumber) (sak : Secret) (t e : ℕ) → ((t ≡ s) × (e ≡ epoch) → ⊥)
+    → sak_here t e (shows.Installed s id an epoch sak) ≡ None
+sak-here-not s epoch id an sak t e apart = go ((s == t) && (epoch == e)) refl
+  where
+    go : (b : Bool) → ((s == t) && (epoch == e)) ≡ b → cond b (Some sak) None ≡ None
+    go true is = let both = and_parts (s == t) (epoch == e) is in
+        absurd (apart (sym (eqb-true s t both.0), sym (eqb-true epoch e both.1)))
+    go false is = refl
+
+or-nothing : (o : Option Secret) → option_or o None ≡ o
+or-nothing None = refl
+or-nothing (Some x) = refl
+
+pub installs : (facts : List Fact) (old new : Maps) (number s epoch : ℕ) (an : AssociationNumber) (id : KeyId) (sak : Secret)
+    → StandsFor facts old → number ≡ suc (length facts) → sak_in facts s epoch ≡ None
+    → IsInstalled number s epoch id (record { an = an; sak = sak }) old new
+    → StandsFor (facts ++ shows.Installed s id an epoch sak ∷ []) (with_count number new)
+installs facts old new number s epoch an id sak stands is free step = record {
+  count = is ∙ length-more facts fact;
+  missed = left.missed ∙ put.missed ∙ stands.missed ∙ more ∙ sym (missed-more facts fact);
+  once = subst (λ o. IsJudged (BreaksOnce (facts ++ fact ∷ [])) o) (sym (left.once ∙ put.once)) kept_uses.0;
+  one_key = kept_keys.0;
+  epochs = λ t e. ap (λ es. sak_at (record new { epochs = es }) t e) left.epochs ∙ at t e (pair_dec s epoch t e);
+  keys = kept_keys.1;
+  uses = λ none u. subst (λ o. IsFound Use (Unit {0}) (uses (facts ++ fact ∷ [])) u o)
+      (ap with_unit (sym (line-same old new (left.narrow ∙ put.narrow) (left.wide ∙ put.wide) u.station u.pn u.sak)))
+      (kept_uses.1 (sym (left.once ∙ put.once) ∙ none) u);
+  known = known-more facts fact old stands tt;
+}
+  where
+    fact : Fact
+    fact = shows.Installed s id an epoch sak
+
+    m : Maps
+    m = step.middle
+
+    put : EpochIsPut s epoch sak old m
+    put = step.epoch_put
+
+    left : Leaves m new
+    left = leaves number id (record { an = an; sak = sak }) m new m.one_key (first_of m id) step.names_it
+
+    more : missed_in facts ≡ missed_in facts + 0
+    more = omega arith
+
+    at : (t e : ℕ) → ((t ≡ s) × (e ≡ epoch)) ⊎ ((t ≡ s) × (e ≡ epoch) → ⊥)
+        → sak_at m t e ≡ sak_in (facts ++ fact ∷ []) t e
+    at t e (inl same) =
+        ap (λ t. sak_at m t e) same.0 ∙ ap (λ e. sak_at m s e) same.1 ∙ put.here
+        ∙ sym (sak-more facts fact t e
+        ∙ ap (option_or (sak_in facts t e)) (sak-here-is s epoch id an sak t e same.0 same.1)
+        ∙ ap (λ o. option_or o (Some sak)) (ap (λ t. sak_in facts t e) same.0 ∙ ap (λ e. sak_in facts s e) same.1 ∙ free))
+    at t e (inr apart) =
+        put.others t e apart ∙ stands.epochs t e
+        ∙ sym (sak-with facts fact t e (sak-here-not s epoch id an sak t e apart))
+
+    kept_uses : Uses (facts ++ fact ∷ []) old
+    kept_uses = still Use (Unit {0}) never (uses facts) (uses (facts ++ fact ∷ [])) (length facts)
+        (use-goes facts fact old stands) old.once (line_of old) (stands.once, stands.uses)
+
+    before : Keys facts m
+    before = (
+      subst (λ o. IsJudged (BreaksOneKey facts) o) (sym put.one_key) stands.one_key,
+      λ none k. subst (λ o. IsFound KeyId Named (names facts) k o) (sym (lookup-same old m put.keys k))
+          (stands.keys (sym put.one_key ∙ none) k),
+    )
+
+    kept_keys : Keys (facts ++ fact ∷ []) new
+    kept_keys = key-step number id (record { an = an; sak = sak }) m new (names facts)
+        (names (facts ++ fact ∷ [])) (length facts) (key-goes facts fact) is m.one_key refl
+        (first_of m id) refl step.names_it before
+
+-- ---- a claim
+
+record Spares (m new : Maps) : Type 0 where
+  missed : new.missed ≡ m.missed
+  one_key : new.one_key ≡ m.one_key
+  epochs : new.epochs ≡ m.epochs
+  keys : new.keys ≡ m.keys
+
+spares : (number s pn : ℕ) (sak : Secret) (m new : Maps) (o : Option (ℕ × ℕ)) (p : Option ℕ)
+    → IsUsed number s pn sak m new o p → Spares m new
+spares number s pn sak m new (Some pair) p step =
+    subst (λ w. Spares m w) (sym step) (record { missed = refl; one_key = refl; epochs = refl; keys = refl })
+spares number s pn sak m new None None put =
+    record { missed = put.missed; one_key = put.one_key; epochs = put.epochs; keys = put.keys }
+spares number s pn sak m new None (Some line) step =
+    subst (λ w. Spares m w) (sym step) (record { missed = refl; one_key = refl; epochs = refl; keys = refl })
+
+pub claims : (facts : List Fact) (old new : Maps) (number s : ℕ) (an : AssociationNumber) (epoch pn : ℕ) (sak : Secret)
+    → StandsFor facts old → number ≡ suc (length facts) → sak_in facts s epoch ≡ Some sak
+    → IsUsed number s pn sak old new old.once (line_by old s pn sak)
+    → StandsFor (facts ++ shows.Claimed s an epoch pn ∷ []) (with_count number new)
+claims facts old new number s an epoch pn sak stands is there step = record {
+  count = is ∙ length-more facts fact;
+  missed = left.missed ∙ stands.missed ∙ more ∙ sym (missed-more facts fact);
+  once = kept_uses.0;
+  one_key = subst (λ o. IsJudged (BreaksOneKey (facts ++ fact ∷ [])) o) (sym left.one_key) kept_keys.0;
+  epochs = λ t e. ap (λ es. sak_at (record new { epochs = es }) t e) left.epochs ∙ stands.epochs t e
+      ∙ sym (sak-with facts fact t e refl);
+  keys = λ none k. subst (λ o. IsFound KeyId Named (names (facts ++ fact ∷ [])) k o)
+      (sym (lookup-same old new left.keys k)) (kept_keys.1 (sym left.one_key ∙ none) k);
+  uses = kept_uses.1;
+  known = known-more facts fact old stands (ap (λ o. is_some o) there);
+}
+  where
+    fact : Fact
+    fact = shows.Claimed s an epoch pn
+
+    left : Spares old new
+    left = spares number s pn sak old new old.once (line_by old s pn sak) step
+
+    more : missed_in facts ≡ missed_in facts + 0
+    more = omega arith
+
+    uses_this : use_of (facts ++ fact ∷ []) fact ≡ Some (the_use s pn sak, tt)
+    uses_this = ap (option_map (λ sak. (the_use s pn sak, tt))) (sak-with facts fact s epoch refl ∙ there)
+
+    kept_uses : Uses (facts ++ fact ∷ []) new
+    kept_uses = use-step number s pn sak old new (uses facts) (uses (facts ++ fact ∷ [])) (length facts)
+        (subst (λ o. Goes Use (Unit {0}) never (uses facts) (uses (facts ++ fact ∷ [])) (length facts) o)
+        uses_this (use-goes facts fact old stands)) is old.once refl (line_by old s pn sak) refl step
+        (stands.once, stands.uses)
+
+    kept_keys : Keys (facts ++ fact ∷ []) old
+    kept_keys = still KeyId Named same_named (names facts) (names (facts ++ fact ∷ [])) (length facts)
+        (key-goes facts fact) old.one_key (first_of old) (stands.one_key, stands.keys)
+
+-- ---- any fact
+
+abbrev Noting : List Fact → Fact → ℕ → Maps → Maps → Result Unit CheckError → Type 0
+Noting facts fact number old new (Ok _) =
+    (refusal facts fact ≡ None) × StandsFor (facts ++ fact ∷ []) (with_count number new)
+Noting facts fact number old new (Err error) = IsFailed facts fact error × (new ≡ old)
+
+by-install : (facts : List Fact) (old new : Maps) (number s epoch : ℕ) (an : AssociationNumber) (id : KeyId) (sak : Secret)
+    → StandsFor facts old → number ≡ suc (length facts)
+    → (o : Option Secret) → sak_in facts s epoch ≡ o → (r : Result Unit CheckError)
+    → Installs number s epoch id (record { an = an; sak = sak }) old new o r
+    → Noting facts (shows.Installed s id an epoch sak) number old new r
+by-install facts old new number s epoch an id sak stands is (Some before) there r step =
+    subst (λ r. Noting facts (shows.Installed s id an epoch sak) number old new r) (sym step.0)
+    (ap (option_map (λ _. Doubled)) there, step.1)
+by-install facts old new number s epoch an id sak stands is None free (Ok u) step =
+    (ap (option_map (λ _. Doubled)) free, installs facts old new number s epoch an id sak stands is free step)
+by-install facts old new number s epoch an id sak stands is None free (Err error) step = (
+  subst (IsFailed facts (shows.Installed s id an epoch sak)) (sym step.0)
+      (ap (option_map (λ _. Doubled)) free),
+  step.1,
+)
+
+by-claim : (facts : List Fact) (old new : Maps) (number s : ℕ) (an : AssociationNumber) (epoch pn : ℕ)
+    → StandsFor facts old → number ≡ suc (length facts)
+    → (o : Option Secret) → sak_in facts s epoch ≡ o → (r : Result Unit CheckError)
+    → Claims number s pn old new o r
+    → Noting facts (shows.Claimed s an epoch pn) number old new r
+by-claim facts old new number s an epoch pn stands is None none r step =
+    subst (λ r. Noting facts (shows.Claimed s an epoch pn) number old new r) (sym step.0)
+    (ap no_epoch none, step.1)
+by-claim facts old new number s an epoch pn stands is (Some sak) there (Ok u) step =
+    (ap no_epoch there, claims facts old new number s an epoch pn sak stands is there step)
+by-claim facts old new number s an epoch pn stands is (Some sak) there (Err error) step =
+    (subst (IsFailed facts (shows.Claimed s an epoch pn)) (sym step.0) (ap no_epoch there), step.1)
+
+others : (facts : List Fact) (fact : Fact) (old new : Maps) (number missed : ℕ)
+    → StandsFor facts old → number ≡ suc (length facts)
+    → named_by fact ≡ None → use_of (facts ++ fact ∷ []) fact ≡ None
+    → ((s epoch : ℕ) → sak_here s epoch fact ≡ None) → IsOfEpoch facts fact → refusal facts fact ≡ None
+    → missed ≡ missed_in facts + cond (is_missed fact) 1 0
+    → (r : Result Unit CheckError) → is_ok r ≡ true → new ≡ record old { missed = missed }
+    → Noting facts fact number old new r
+others facts fact old new number missed stands is a b c d e f (Ok u) ok step =
+    (e, passes facts fact old new number missed stands is a b c d f step)
+others facts fact old new number missed stands is a b c d e f (Err error) ok step = absurd (cc ok)
+
+abbrev pub top : ℕ
+top = 18446744073709551615
+
+least-is : (a b : ℕ) → a ≤ b → min a b ≡ a
+least-is a b less = omega (arith, less)
+
+pub noted : (facts : List Fact) (fact : Fact) (old new : Maps) (number : ℕ) (r : Result Unit CheckError)
+    → StandsFor facts old → number ≡ suc (length facts) → number ≤ top
+    → Takes number fact old new r → Noting facts fact number old new r
+noted facts (shows.Installed s id an epoch sak) old new number r stands is less step =
+    by-install facts old new number s epoch an id sak stands is (sak_in facts s epoch) refl r
+    (subst (λ o. Installs number s epoch id (record { an = an; sak = sak }) old new o r) (stands.epochs s epoch) step)
+noted facts (shows.Claimed s an epoch pn) old new number r stands is less step =
+    by-claim facts old new number s an epoch pn stands is (sak_in facts s epoch) refl r
+    (subst (λ o. Claims number s pn old new o r) (stands.epochs s epoch) step)
+noted facts (shows.Arrived k s arrival) old new number r stands is less step =
+    others facts (shows.Arrived k s arrival) old new number
+    (min (old.missed + cond (is_missed (shows.Arrived k s arrival)) 1 0) top) stands is refl refl
+    (λ s epoch. refl) tt refl (room (is_missed (shows.Arrived k s arrival))) r step.0 step.1
+  where
+    room : (b : Bool) → min (old.missed + cond b 1 0) top ≡ missed_in facts + cond b 1 0
+    room true = let a = stands.missed in let w = missed-within facts in
+        least-is (old.missed + 1) top (omega (arith, a, w, is, less)) ∙ ap (λ n. n + 1) a
+    room false = let a = stands.missed in let w = missed-within facts in
+        least-is (old.missed + 0) top (omega (arith, a, w, is, less)) ∙ ap (λ n. n + 0) a
+noted facts (shows.Life s mi) old new number r stands is less step =
+    others facts (shows.Life s mi) old new number old.missed stands is refl refl (λ t e. refl) tt refl
+    (stands.missed ∙ (omega arith)) r step.0 step.1
+noted facts (shows.Ticked s at next) old new number r stands is less step =
+    others facts (shows.Ticked s at next) old new number old.missed stands is refl refl (λ t e. refl) tt refl
+    (stands.missed ∙ (omega arith)) r step.0 step.1
+noted facts (shows.Server s mi) old new number r stands is less step =
+    others facts (shows.Server s mi) old new number old.missed stands is refl refl (λ t e. refl) tt refl
+    (stands.missed ∙ (omega arith)) r step.0 step.1
+noted facts (shows.Dropped s id an) old new number r stands is less step =
+    others facts (shows.Dropped s id an) old new number old.missed stands is refl refl (λ t e. refl) tt refl
+    (stands.missed ∙ (omega arith)) r step.0 step.1
+noted facts (shows.Retired s id an) old new number r stands is less step =
+    others facts (shows.Retired s id an) old new number old.missed stands is refl refl (λ t e. refl) tt refl
+    (stands.missed ∙ (omega arith)) r step.0 step.1
+noted facts (shows.Began s id an epoch cause) old new number r stands is less step =
+    others facts (shows.Began s id an epoch cause) old new number old.missed stands is refl refl (λ t e. refl) tt refl
+    (stands.missed ∙ (omega arith)) r step.0 step.1
+noted facts (shows.Untaken s id why) old new number r stands is less step =
+    others facts (shows.Untaken s id why) old new number old.missed stands is refl refl (λ t e. refl) tt refl
+    (stands.missed ∙ (omega arith)) r step.0 step.1
+noted facts (shows.Framed k s sec xs) old new number r stands is less step =
+    others facts (shows.Framed k s sec xs) old new number old.missed stands is refl refl (λ t e. refl) tt refl
+    (stands.missed ∙ (omega arith)) r step.0 step.1
+noted facts (shows.HeardMka k s verdict) old new number r stands is less step =
+    others facts (shows.HeardMka k s verdict) old new number old.missed stands is refl refl (λ t e. refl) tt refl
+    (stands.missed ∙ (omega arith)) r step.0 step.1
+noted facts (shows.Unclaimed s why) old new number r stands is less step =
+    others facts (shows.Unclaimed s why) old new number old.missed stands is refl refl (λ t e. refl) tt refl
+    (stands.missed ∙ (omega arith)) r step.0 step.1

@@ -1,0 +1,58 @@
+use Rattle.std.proofs.Common.{◌≡◌, ◌∙◌, List, Err, sym, ap, subst}
+use Rattle.std.specs.Prelude.{◌↔◌, OnErr}
+use Rattle.std.proofs.lemmas.Result.{err_from_is_err_and}
+use Rattle.lan_base.specs.declared.name.Name.{Name}
+use Rattle.lan_core.specs.declared.fact.Fact.{Fact}
+use Rattle.transcript.specs.Naming.{Reads}
+use Rattle.transcript.specs.declared.fault.FactError.{FactError}
+use Rattle.transcript.specs.declared.fault.FactError.TheVariants as readings
+use Rattle.transcript_check.specs.Standing.{Standing, IsCheckOf}
+use Rattle.transcript_check.proofs.Lines.{standing, IsLine, IsNote, line-taken, line-refused, line-unread, line-denied, line-kept, none-refused, none-unread, of-results, same-error}
+use Rattle.transcript_check.proofs.check.Check.line.Goals as goal
+
+pub returns : goal.returns
+returns c =
+    let names = c.self.inside.reader in
+    let octets = c.args.line.now in
+    let after = c.line.new.self in
+    let fact = c.in_ok-fact.fact in
+    let before : Standing = standing names c.self.inside.notes in
+    let line : IsLine names after octets fact = record {
+      reads = c.in_ok-fact.ensures.read;
+      only = λ then other reads. c.in_ok-fact.ensures.found then other reads;
+    } in
+    let note : IsNote fact before.maps c.note.new.self c.note.result = record {
+      noted = c.note.ensures.noted;
+      kept = c.note.ensures.kept;
+      life = c.note.ensures.life;
+    } in
+    record {
+      taken = λ ns facts is. line-taken octets before after c.note.new.self fact line c.note.result note ns facts
+          (subst (λ (s : Standing). IsCheckOf ns facts s) (sym c.self.view_is) is);
+      refused = λ ns facts is. line-refused octets before after c.note.new.self fact line c.note.result note ns facts
+          (subst (λ (s : Standing). IsCheckOf ns facts s) (sym c.self.view_is) is);
+      unread = λ ns facts is. line-unread octets before after c.note.new.self fact line c.note.result ns facts
+          (subst (λ (s : Standing). IsCheckOf ns facts s) (sym c.self.view_is) is);
+      denied = λ ns facts is. line-denied octets before after c.note.new.self fact line c.note.result note ns facts
+          (subst (λ (s : Standing). IsCheckOf ns facts s) (sym c.self.view_is) is);
+      kept = subst (λ (s : Standing). OnErr c.note.result (standing after c.note.new.self ≡ s)) c.self.view_is
+          (line-kept octets before after c.note.new.self fact line c.note.result note);
+    }
+
+pub returns-in_err-fact : goal.returns-in_err-fact
+returns-in_err-fact c =
+    let octets = c.args.line.now in
+    let before : Standing = standing c.self.inside.reader c.self.inside.notes in
+    let fault : FactError = c.in_err-fact.field-0.0 in
+    let p = err_from_is_err_and c.from_residual.result c.from_residual.ensures.1 in
+    let unread : (fault ≡ readings.Unread) ↔ ((after : List Name) (fact : Fact) → Reads before.names octets after fact → ⊥) =
+    of-results fault c.in_err-fact.ensures.unread in
+    rw (p.1, p.2) (record {
+      taken = λ ns facts is. tt;
+      refused = λ ns facts is why e. none-refused octets before fault unread ns facts
+          (subst (λ (s : Standing). IsCheckOf ns facts s) (sym c.self.view_is) is) why (same-error _ _ e);
+      unread = λ ns facts is denied. ap Err (none-unread octets before fault unread ns facts
+          (subst (λ (s : Standing). IsCheckOf ns facts s) (sym c.self.view_is) is) denied);
+      denied = λ ns facts is why denied. tt;
+      kept = ap (λ (ns : List Name). standing ns c.self.inside.notes) c.in_err-fact.ensures.kept ∙ c.self.view_is;
+    })

@@ -1,0 +1,12 @@
+use Rattle.std.proofs.Common.{refl, subst}
+use Rattle.transcript_check.specs.Standing.{Maps, EpochIsPut}
+use Rattle.transcript_check.proofs.Puts.{epoch_put}
+use Rattle.transcript_check.proofs.notes.Notes.put_epoch.Goals as goal
+
+pub returns-clause-put : goal.returns-clause-put
+returns-clause-put c =
+    let d = c.self.inside in
+    let old : Maps = record { count = d.count; missed = d.missed; once = d.once; one_key = d.one_key; epochs = d.epochs.entries; keys = d.keys.entries; narrow = d.narrow.entries; wide = d.wide.entries } in
+    let new : Maps = record old { epochs = c.insert.new.self.entries } in
+    subst (λ (before : Maps). EpochIsPut c.args.station c.args.epoch c.args.sak before new) c.self.view_is
+    (epoch_put c.args.station c.args.epoch c.args.sak old new (λ q. c.in_ok-insert.ensures.updates.0 q) c.in_ok-insert.ensures.updates.1 refl refl refl refl refl refl refl)

@@ -1,0 +1,70 @@
+//! Lines are judged one by one.
+
+ghost use Rattle.std.specs.Prelude.{◌≡◌, ◌<◌, [], List, Err, IfOk, OnOk, OnErr};
+ghost use Rattle.lan_base.specs.declared.name.Name.{Name};
+ghost use Rattle.lan_core.specs.declared.fact.Fact.{Fact};
+ghost use Rattle.transcript_check.specs.Standing.{IsCheckOf, IsVerdict, IsTaken, IsDenied};
+ghost use Rattle.transcript_check.specs.declared.fault.CheckError.TheVariants.{Refused};
+ghost use Rattle.transcript_check.specs.declared.fault.CheckFault.{CheckFault};
+ghost use Rattle.transcript_check.specs.declared.fault.CheckFault.TheVariants.{Unread};
+
+use crate::fault::CheckError;
+use crate::notes::Notes;
+use crate::verdict::Verdict;
+use std::alloc::{AllocError, Global};
+use std::marker::Model;
+use transcript::Reader;
+
+/// Judges the lines of a transcript. Contracts see the names of its stations, and what is kept of
+/// its facts.
+#[derive(Drop)]
+pub struct Check {
+    reader: Reader,
+    notes: Notes,
+}
+
+impl Model for Check {
+    ghost use Rattle.transcript_check.specs.Standing.{Standing};
+
+    ghost Value = { Standing };
+
+    ghost view = { λ c. record { names = c.reader; maps = c.notes } };
+}
+
+impl Check {
+    /// No line was taken.
+    pub fn new(alloc: Global) -> Result<Check, AllocError>
+        ensures { IfOk result (λ check. IsCheckOf [] [] check) }
+    {
+        Ok(Check {
+            reader: Reader::new(alloc)?,
+            notes: Notes::new(alloc),
+        })
+    }
+
+    /// The next line, without its line feed. An error leaves the value as it was.
+    pub fn line(&mut self, alloc: Global, line: &[u8]) -> Result<(), CheckError>
+        requires { self.old.maps.count < 18446744073709551615 }
+        ensures taken { (names : List Name) (facts : List Fact) → IsCheckOf names facts self.old
+            → IfOk result (λ _. IsTaken names facts line.now self.new) }
+        ensures refused { (names : List Name) (facts : List Fact) → IsCheckOf names facts self.old
+            → (fault : CheckFault) → result ≡ Err (Refused fault)
+            → IsDenied names facts line.now fault }
+        ensures unread { (names : List Name) (facts : List Fact) → IsCheckOf names facts self.old
+            → IsDenied names facts line.now Unread → result ≡ Err (Refused Unread) }
+        ensures denied { (names : List Name) (facts : List Fact) → IsCheckOf names facts self.old
+            → (fault : CheckFault) → IsDenied names facts line.now fault → OnOk result ⊥ }
+        ensures kept { OnErr result (self.new ≡ self.old) }
+    {
+        let fact = self.reader.line(alloc, line)?;
+        self.notes.note(&fact)
+    }
+
+    /// The verdict on the lines that were taken.
+    pub fn verdict(&self) -> Verdict
+        ensures { (names : List Name) (facts : List Fact) → IsCheckOf names facts self.now
+            → IsVerdict facts result }
+    {
+        self.notes.verdict()
+    }
+}

@@ -1,0 +1,296 @@
+//! What is kept of facts, so that pairs of them are judged as they come.
+
+ghost use Rattle.lan_core.specs.declared.fact.Fact.TheVariants as shows;
+ghost use Rattle.transcript_check.specs.Judged.{is_missed};
+ghost use Rattle.std.specs.Prelude.{ℕ, cond, min, ◌≡◌, ◌+◌, ◌<◌, ◌↔◌, OnOk, OnErr, true, is_ok, List, None, [], ◌∷◌, ◌++◌};
+ghost use Rattle.aes_block.specs.declared.secret.Secret.{Secret};
+ghost use Rattle.lan_base.specs.declared.address.Mi.{Mi};
+ghost use Rattle.lan_core.specs.declared.fact.Fact.{Fact};
+ghost use Rattle.std.specs.Map.{remove_entry};
+ghost use Rattle.std.specs.BTreeMap.{insert_entry, is_at};
+ghost use Rattle.transcript_check.specs.Standing.{Maps, pair_cmp, sak_at, first_of, line_by, EpochIsPut, KeyIsPut, UseIsPut, IsNamed, IsUsed, Installs, Claims, Takes, StandsFor, IsNoted, IsVerdict};
+
+use crate::fault::{CheckError, CheckFault};
+use crate::named::Named;
+use crate::verdict::Verdict;
+use aes_block::Secret;
+use lan_base::{KeyId, Mi};
+use lan_core::Fact;
+use rx_slots::Arrival;
+use std::alloc::{AllocError, Global};
+use std::collections::BTreeMap;
+use std::marker::Model;
+
+/// What facts say, one after another. Contracts see the entries of the maps.
+#[derive(Drop)]
+pub struct Notes {
+    count: u64,
+    missed: u64,
+    once: Option<(u64, u64)>,
+    one_key: Option<(u64, u64)>,
+    epochs: BTreeMap<(u8, u32), Secret>,
+    keys: BTreeMap<(Mi, u32), (u64, Named)>,
+    narrow: BTreeMap<((u8, u32), [u8; 16]), u64>,
+    wide: BTreeMap<((u8, u32), [u8; 32]), u64>,
+}
+
+impl Model for Notes {
+    ghost use Rattle.transcript_check.specs.Standing.{Maps};
+
+    ghost Value = { Maps };
+
+    ghost view = { λ c. record {
+      count = c.count;
+      missed = c.missed;
+      once = c.once;
+      one_key = c.one_key;
+      epochs = c.epochs.entries;
+      keys = c.keys.entries;
+      narrow = c.narrow.entries;
+      wide = c.wide.entries;
+    } };
+}
+
+impl Notes {
+    /// No fact. No memory is taken.
+    pub fn new(alloc: Global) -> Notes
+        ensures { StandsFor [] result }
+    {
+        Notes {
+            count: 0,
+            missed: 0,
+            once: None,
+            one_key: None,
+            epochs: BTreeMap::new(alloc),
+            keys: BTreeMap::new(alloc),
+            narrow: BTreeMap::new(alloc),
+            wide: BTreeMap::new(alloc),
+        }
+    }
+
+    /// A fact more. An error leaves the value as it was; a life meets none.
+    pub fn note(&mut self, fact: &Fact) -> Result<(), CheckError>
+        requires { self.old.count < 18446744073709551615 }
+        ensures noted { (facts : List Fact) → StandsFor facts self.old
+            → IsNoted facts fact.now self.old self.new result }
+        ensures kept { OnErr result (self.new ≡ self.old) }
+        ensures life { (s : ℕ) (mi : Mi) → fact.now ≡ shows.Life s mi → is_ok result ≡ true }
+    {
+        let number = self.count + 1;
+        self.take(number, fact)?;
+        self.count = number;
+        Ok(())
+    }
+
+    /// The verdict on the facts so far.
+    pub fn verdict(&self) -> Verdict
+        ensures { (facts : List Fact) → StandsFor facts self.now → IsVerdict facts result }
+    {
+        Verdict {
+            once: self.once,
+            one_key: self.one_key,
+            missed: self.missed,
+        }
+    }
+
+    /// The SAK of a station's epoch.
+    fn sak_at(&self, station: u8, epoch: u32) -> Option<Secret>
+        ensures { result ≡ sak_at self.now station epoch }
+    {
+        self.epochs.get(&(station, epoch)).copied()
+    }
+
+    /// The first install of an identifier.
+    fn first_of(&self, id: KeyId) -> Option<(u64, Named)>
+        ensures { result ≡ first_of self.now id }
+    {
+        self.keys.get(&(id.server, id.number)).copied()
+    }
+
+    /// The number of the claim that used a packet number.
+    fn line_by(&self, station: u8, pn: u32, sak: &Secret) -> Option<u64>
+        ensures { result ≡ line_by self.now station pn sak.now }
+    {
+        match sak {
+            Secret::S128(octets) => self.narrow.get(&((station, pn), *octets)).copied(),
+            Secret::S256(octets) => self.wide.get(&((station, pn), *octets)).copied(),
+        }
+    }
+
+    /// The SAK of a station's epoch is kept.
+    fn put_epoch(&mut self, station: u8, epoch: u32, sak: Secret) -> Result<(), AllocError>
+        ensures put { OnOk result (EpochIsPut station epoch sak self.old self.new) }
+        ensures entries { OnOk result (self.new ≡ record self.old {
+          epochs = insert_entry pair_cmp self.old.epochs (station, epoch) sak;
+        }) }
+        ensures kept { OnErr result (self.new ≡ self.old) }
+    {
+        self.epochs.insert((station, epoch), sak)?;
+        Ok(())
+    }
+
+    /// The first install of an identifier is kept.
+    fn put_key(&mut self, number: u64, id: KeyId, named: Named) -> Result<(), AllocError>
+        ensures put { OnOk result (KeyIsPut number id named self.old self.new) }
+        ensures kept { OnErr result (self.new ≡ self.old) }
+    {
+        self.keys.insert((id.server, id.number), (number, named))?;
+        Ok(())
+    }
+
+    /// The number of the claim that used a packet number is kept.
+    fn put_use(&mut self, number: u64, station: u8, pn: u32, sak: &Secret) -> Result<(), AllocError>
+        ensures put { OnOk result (UseIsPut number station pn sak.now self.old self.new) }
+        ensures kept { OnErr result (self.new ≡ self.old) }
+    {
+        match sak {
+            Secret::S128(octets) => {
+                self.narrow.insert(((station, pn), *octets), number)?;
+            }
+            Secret::S256(octets) => {
+                self.wide.insert(((station, pn), *octets), number)?;
+            }
+        }
+        Ok(())
+    }
+
+    /// An install says something of an identifier.
+    fn name(&mut self, number: u64, id: KeyId, named: Named) -> Result<(), AllocError>
+        ensures named { OnOk result (IsNamed number id named self.old self.new self.old.one_key (first_of self.old id)) }
+        ensures kept { OnErr result (self.new ≡ self.old) }
+    {
+        if self.one_key.is_some() {
+            return Ok(());
+        }
+        match self.first_of(id) {
+            None => self.put_key(number, id, named),
+            Some((first, before)) => {
+                if !before.is_same(&named) {
+                    self.one_key = Some((first, number));
+                }
+                Ok(())
+            }
+        }
+    }
+
+    /// A claim uses a packet number.
+    fn make_use(
+        &mut self,
+        number: u64,
+        station: u8,
+        pn: u32,
+        sak: &Secret,
+    ) -> Result<(), AllocError>
+        ensures used { OnOk result (IsUsed number station pn sak.now self.old self.new self.old.once (line_by self.old station pn sak.now)) }
+        ensures kept { OnErr result (self.new ≡ self.old) }
+    {
+        if self.once.is_some() {
+            return Ok(());
+        }
+        match self.line_by(station, pn, sak) {
+            None => self.put_use(number, station, pn, sak),
+            Some(first) => {
+                self.once = Some((first, number));
+                Ok(())
+            }
+        }
+    }
+
+    /// An install is taken.
+    fn install(
+        &mut self,
+        number: u64,
+        station: u8,
+        epoch: u32,
+        id: KeyId,
+        named: Named,
+    ) -> Result<(), CheckError>
+        ensures { Installs number station epoch id named self.old self.new (sak_at self.old station epoch) result }
+    {
+        if self.sak_at(station, epoch).is_some() {
+            return Err(CheckFault::Doubled.into());
+        }
+        self.put_epoch(station, epoch, named.sak)?;
+        match self.name(number, id, named) {
+            Ok(()) => Ok(()),
+            Err(_) => {
+                self.drop_epoch(station, epoch);
+                Err(CheckError::Memory)
+            }
+        }
+    }
+
+    /// The SAK of a station's epoch is kept no more.
+    fn drop_epoch(&mut self, station: u8, epoch: u32)
+        ensures { self.new ≡ record self.old {
+          epochs = remove_entry (is_at (pair_cmp (station, epoch))) self.old.epochs;
+        } }
+    {
+        self.epochs.remove(&(station, epoch));
+    }
+
+    /// A claim is taken.
+    fn claim(&mut self, number: u64, station: u8, epoch: u32, pn: u32) -> Result<(), CheckError>
+        ensures { Claims number station pn self.old self.new (sak_at self.old station epoch) result }
+    {
+        match self.sak_at(station, epoch) {
+            None => Err(CheckFault::Orphan.into()),
+            Some(sak) => {
+                self.make_use(number, station, pn, &sak)?;
+                Ok(())
+            }
+        }
+    }
+
+    /// So many frames more were missed, as far as they can be counted.
+    fn pass(&mut self, frames: u64)
+        ensures { self.new ≡ record self.old { missed = min (self.old.missed + frames) 18446744073709551615 } }
+    {
+        self.missed = self.missed.saturating_add(frames);
+    }
+
+    /// A fact is taken, but not counted.
+    fn take(&mut self, number: u64, fact: &Fact) -> Result<(), CheckError>
+        ensures { Takes number fact.now self.old self.new result }
+    {
+        match fact {
+            Fact::Installed {
+                station,
+                id,
+                an,
+                epoch,
+                sak,
+            } => self.install(number, *station, *epoch, *id, Named { an: *an, sak: *sak }),
+            Fact::Claimed {
+                station,
+                an: _,
+                epoch,
+                pn,
+            } => self.claim(number, *station, *epoch, *pn),
+            Fact::Arrived { arrival, .. } => {
+                self.pass(missed_by(arrival));
+                Ok(())
+            }
+            Fact::Life { .. }
+            | Fact::Ticked { .. }
+            | Fact::Server { .. }
+            | Fact::Dropped { .. }
+            | Fact::Retired { .. }
+            | Fact::Began { .. }
+            | Fact::Untaken { .. }
+            | Fact::Framed { .. }
+            | Fact::HeardMka { .. }
+            | Fact::Unclaimed { .. } => Ok(()),
+        }
+    }
+}
+
+/// How many frames an answer misses.
+fn missed_by(arrival: &Arrival) -> u64
+    ensures { (k s : ℕ) → result ≡ cond (is_missed (shows.Arrived k s arrival.now)) 1 0 }
+{
+    match arrival {
+        Arrival::Missed { .. } => 1,
+        _ => 0,
+    }
+}
