@@ -222,7 +222,7 @@ by_reaction s n hearing out re is next count are =
     rw (
       gather-reaction install_of s hearing out re is (λ v. refl) (λ server. refl),
       gather-unread install_of (λ octets. facts.Framed out s false octets) re.sent
-      (gather install_of (map (change_fact s) re.changes) is) (λ octets. refl),
+          (gather install_of (map (change_fact s) re.changes) is) (λ octets. refl),
     )
     (counts_on s n re.changes is next count are)
 
@@ -293,7 +293,7 @@ at_station settings s e f r are here others counted old =
         subst (λ u. life settings u (happened e f ∷ r) ≡ Some l) place is in
         let own = installs-of-own s f are (installs r) in
         let count : l.member.base + install_count (keys_in l)
-            ≡ length (installs_at s (happened e f ∷ r)) = here l at ∙ sym own in
+        ≡ length (installs_at s (happened e f ∷ r)) = here l at ∙ sym own in
         subst (λ u. l.member.base + install_count (keys_in l)
         ≡ length (installs_at u (happened e f ∷ r))) (sym place) count
     go t l is false differ =

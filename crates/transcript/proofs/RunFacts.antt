@@ -156,12 +156,56 @@ typed-fits names (Dropped s id an) is at few =
     (refl, ((at, omega (arith, at, few)), (mi-fits names id.server is.0, (is.1, (refl, (an-fits an, tt))))))
 typed-fits names (Retired s id an) is at few =
     (refl, ((at, omega (arith, at, few)), (mi-fits names id.server is.0, (is.1, (refl, (an-fits an, tt))))))
-typed-fits names (Began s id an epoch cause) is at few =
-    (refl, ((at, omega (arith, at, few)), (mi-fits names id.server is.0.0, (is.0.1, (refl, (an-fits an, (refl, (is.1,
-    (cause-fits cause, tt)))))))))
-typed-fits names (Installed s id an epoch sak) is at few =
-    (refl, ((at, omega (arith, at, few)), (mi-fits names id.server is.0.0, (is.0.1, (refl, (an-fits an, (refl, (is.1,
-    (refl, (secret-fits names sak is.2, tt))))))))))
+typed-fits names (Began s id an epoch cause) is at few = (
+  refl,
+  (
+    (at, omega (arith, at, few)),
+    (
+      mi-fits names id.server is.0.0,
+      (
+        is.0.1,
+        (
+          refl,
+          (
+            an-fits an,
+            (
+              refl,
+              (
+                is.1,
+                (cause-fits cause, tt),
+              ),
+            ),
+          ),
+        ),
+      ),
+    ),
+  ),
+)
+typed-fits names (Installed s id an epoch sak) is at few = (
+  refl,
+  (
+    (at, omega (arith, at, few)),
+    (
+      mi-fits names id.server is.0.0,
+      (
+        is.0.1,
+        (
+          refl,
+          (
+            an-fits an,
+            (
+              refl,
+              (
+                is.1,
+                (refl, (secret-fits names sak is.2, tt)),
+              ),
+            ),
+          ),
+        ),
+      ),
+    ),
+  ),
+)
 typed-fits names (Untaken s id why) is at few =
     (refl, ((at, omega (arith, at, few)), (mi-fits names id.server is.0.0, (is.0.1, why-fits names why is.1))))
 typed-fits names (Framed k s sec octets) is at few =
@@ -287,9 +331,12 @@ event-is settings users (events.Start name sci priority) f r step =
 event-is settings users (events.Tick s next) f r step =
     let is = mapped (tick_facts settings s r next (sak_in f)) (life settings s r) f step.shows in
     let l = is.0 in
-    subst IsEvent is.2 (refl, unheard s 0 (next_frame r)
-    (tick_turn l.member (seen_at settings s r l next) (sak_in f) l.past).reaction
-    (ticks-unheard l.member (seen_at settings s r l next) (sak_in f) l.past))
+    subst IsEvent is.2 (
+      refl,
+      unheard s 0 (next_frame r)
+          (tick_turn l.member (seen_at settings s r l next) (sak_in f) l.past).reaction
+          (ticks-unheard l.member (seen_at settings s r l next) (sak_in f) l.past),
+    )
 event-is settings users (events.Deliver frame s) f r step =
     let there = chained (λ x. option_map (reached_facts settings s r frame x.octets) (life settings s r))
     (frame_at r frame) f step.shows in
@@ -299,8 +346,11 @@ event-is settings users (events.Restart s) f r step =
     let drew = chained (λ mi. option_map (restart_facts s mi) (life settings s r)) (drawn_mi f) f
     step.shows in
     let is = mapped (restart_facts s drew.0) (life settings s r) f drew.2 in
-    subst IsEvent is.2 (refl, unheard s 0 0 (ending is.0.member is.0.past)
-    (ends-unheard is.0.member is.0.past))
+    subst IsEvent is.2 (
+      refl,
+      unheard s 0 0 (ending is.0.member is.0.past)
+          (ends-unheard is.0.member is.0.past),
+    )
 event-is settings users (events.Claim s user pn) f r step =
     let is = mapped (λ l. claim_fact settings s r pn (transmitting_at settings s r) ∷ [])
     (life settings s r) f step.shows in

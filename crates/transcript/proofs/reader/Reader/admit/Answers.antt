@@ -16,8 +16,7 @@ invariant_of-self c =
     let count : length c.push_reserved.new.self.items ≡ length (before ++ name ∷ []) = ap length items in
     let one = length-append before (name ∷ []) in
     let places : length before ≡ length c.args.self.now = ap length same in
-    let room = c.requires.room in
-    (
+    let room = c.requires.room in (
       subst AreNames (sym items) (are-more before name c.self.invariant.0 c.requires.named new),
       omega (arith, count, one, places, room),
       c.push_reserved.ensures.capacity ∙ c.self.invariant.2,
