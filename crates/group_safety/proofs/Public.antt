@@ -24,7 +24,6 @@ pub use Rattle.group_safety.proofs.example.Steps.{unwrapped-wrapped_sak}
 -- Protected frames are known by their type; a station that none reached sees no numbers.
 pub use Rattle.group_safety.proofs.once.ClaimKept.{protected-is_sec}
 pub use Rattle.group_safety.proofs.example.Scene.{IsSilent, silent-next, seen-silent}
-
 -- What an event of a stepped run is, and what it is to each station.
 pub use Rattle.group_safety.proofs.rollover.EventKinds.{Kind, kind, IsReached, IsBirth, Part, part}
 pub use Rattle.group_safety.proofs.rollover.EventKinds.{starts, ticks, reached, restarts, claims, emits}

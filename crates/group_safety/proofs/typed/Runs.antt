@@ -445,14 +445,14 @@ reach-comes : Refuses → (settings : Settings) (users : List UserFrame) (s numb
     → Comes settings users e f r
 reach-comes refuses settings users s number octets e f r l stepped old small all alive shows here others
     claims starts brings = record {
-  told = subst (All IsTypedFact) shows (by-kind (is_sec octets));
-  brings = brings;
-  lives = at-one settings users s e f r old
-      (λ n there. subst (λ n. IsTypedLife n (ticks (happened e f ∷ r))) (some-same (sym here ∙ there)) after)
-      others;
-  waits = λ w i. no-wait users w (subst (λ ws. In w ws) claims i);
-  starts = λ p i. no-start p (subst (λ ps. In p ps) starts i);
-}
+      told = subst (All IsTypedFact) shows (by-kind (is_sec octets));
+      brings = brings;
+      lives = at-one settings users s e f r old
+          (λ n there. subst (λ n. IsTypedLife n (ticks (happened e f ∷ r))) (some-same (sym here ∙ there)) after)
+          others;
+      waits = λ w i. no-wait users w (subst (λ ws. In w ws) claims i);
+      starts = λ p i. no-start p (subst (λ ps. In p ps) starts i);
+    }
   where
     v : IsTypedLife l (ticks r)
     v = old.lives s l alive
