@@ -4,10 +4,6 @@
 #[cfg(test)]
 mod endings;
 #[cfg(test)]
-mod numbers;
-#[cfg(test)]
 mod playing;
 #[cfg(test)]
 mod sharing;
-#[cfg(test)]
-mod wording;

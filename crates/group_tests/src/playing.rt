@@ -81,7 +81,7 @@ fn joined(alloc: Global, parts: &[&[u8]]) -> Result<Octets, Fail> {
 }
 
 /// The event of an act at a station.
-pub fn event(rt: &impl Abort, alloc: Global, station: u8, act: Act) -> Result<Event, Fail> {
+fn event(rt: &impl Abort, alloc: Global, station: u8, act: Act) -> Result<Event, Fail> {
     Ok(match act {
         Act::Starts => Event::Start {
             name: name(rt, station),
