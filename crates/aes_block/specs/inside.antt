@@ -1,3 +1,4 @@
 pub mod Held
+pub mod Tables
 pub mod Halves
 pub mod RoundKeys
