@@ -8,6 +8,7 @@ mod judging;
 mod laws;
 mod named;
 mod notes;
+mod uses;
 mod verdict;
 
 pub use check::Check;
