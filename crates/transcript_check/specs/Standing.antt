@@ -1,5 +1,5 @@
 -- What the maps say of the facts so far.
-use Rattle.std.specs.Prelude.{ℕ, ◌≡◌, ◌≢◌, ◌≤◌, ◌+◌, true, cond, List, [], ◌∷◌, ◌++◌, length, Option, Some, None, option_map, IsTrue, is_some, Result, Ok, Err, is_ok, min, ◌⊎◌}
+use Rattle.std.specs.Prelude.{ℕ, ◌≡◌, ◌≢◌, ◌≤◌, ◌+◌, true, cond, List, [], ◌∷◌, ◌++◌, length, Option, Some, None, option_map, option_and_then, IsTrue, is_some, Result, Ok, Err, is_ok, min, ◌⊎◌}
 use Rattle.std.specs.Map.{lookup}
 use Rattle.std.specs.BTreeMap.{is_at}
 use Rattle.std.specs.Ordering.{nat_cmp, ordering_then}
@@ -22,15 +22,24 @@ use Rattle.transcript_check.specs.declared.fault.CheckFault.TheVariants.{Unread,
 use Rattle.transcript_check.specs.declared.fault.CheckError.TheVariants.{Refused, Memory}
 use Rattle.transcript_check.specs.Judged.{Noted, IsJudged, BreaksOnce, BreaksOneKey, Use, uses, names, sak_in, fact_at, missed_in, is_missed, same_named}
 
--- a station and an epoch, or a station and a packet number
+-- a station and an epoch
 abbrev pub pair_cmp : ℕ × ℕ → ℕ × ℕ → Ordering
 pair_cmp a b = ordering_then (nat_cmp a.0 b.0) (nat_cmp a.1 b.1)
 
 abbrev pub id_cmp : Mi × ℕ → Mi × ℕ → Ordering
 id_cmp a b = ordering_then (order a.0 b.0) (nat_cmp a.1 b.1)
 
-abbrev pub use_cmp : (ℕ × ℕ) × List ℕ → (ℕ × ℕ) × List ℕ → Ordering
-use_cmp a b = ordering_then (pair_cmp a.0 b.0) (slice_cmp nat_cmp a.1 b.1)
+-- a station and the octets of a SAK
+abbrev pub sak_cmp : ℕ × List ℕ → ℕ × List ℕ → Ordering
+sak_cmp a b = ordering_then (nat_cmp a.0 b.0) (slice_cmp nat_cmp a.1 b.1)
+
+-- by packet number, the number of the line that used it
+abbrev pub Lines : Type 0
+Lines = List (ℕ × ℕ)
+
+-- those of each station and each SAK of one length
+abbrev pub LinesBySak : Type 0
+LinesBySak = List ((ℕ × List ℕ) × Lines)
 
 -- what is kept
 pub record Maps : Type 0 where
@@ -40,8 +49,8 @@ pub record Maps : Type 0 where
   pub one_key : Option (ℕ × ℕ)
   pub epochs : List ((ℕ × ℕ) × Secret)
   pub keys : List ((Mi × ℕ) × (ℕ × Named))
-  pub narrow : List (((ℕ × ℕ) × List ℕ) × ℕ)
-  pub wide : List (((ℕ × ℕ) × List ℕ) × ℕ)
+  pub narrow : LinesBySak
+  pub wide : LinesBySak
 
 abbrev pub sak_at : Maps → ℕ → ℕ → Option Secret
 sak_at m s epoch = lookup (is_at (pair_cmp (s, epoch))) m.epochs
@@ -49,9 +58,15 @@ sak_at m s epoch = lookup (is_at (pair_cmp (s, epoch))) m.epochs
 abbrev pub first_of : Maps → KeyId → Option (ℕ × Named)
 first_of m id = lookup (is_at (id_cmp (id.server, id.number))) m.keys
 
+abbrev pub line_in : Lines → ℕ → Option ℕ
+line_in lines pn = lookup (is_at (nat_cmp pn)) lines
+
+abbrev pub line_at : LinesBySak → ℕ × List ℕ → ℕ → Option ℕ
+line_at lines key pn = option_and_then (λ own. line_in own pn) (lookup (is_at (sak_cmp key)) lines)
+
 abbrev pub line_by : Maps → ℕ → ℕ → Secret → Option ℕ
-line_by m s pn (S128 octets) = lookup (is_at (use_cmp ((s, pn), octets))) m.narrow
-line_by m s pn (S256 octets) = lookup (is_at (use_cmp ((s, pn), octets))) m.wide
+line_by m s pn (S128 octets) = line_at m.narrow (s, octets) pn
+line_by m s pn (S256 octets) = line_at m.wide (s, octets) pn
 
 abbrev pub line_of : Maps → Use → Option (ℕ × Unit {0})
 line_of m u = option_map (λ n. (n, tt)) (line_by m u.station u.pn u.sak)
@@ -96,6 +111,17 @@ IsNamed number id named old new (Some pair) first = new ≡ old
 IsNamed number id named old new None None = KeyIsPut number id named old new
 IsNamed number id named old new None (Some nv) =
     new ≡ cond (same_named nv.1 named) old (record old { one_key = Some (nv.0, number) })
+
+-- the line is found by this packet number, and what is found by others is as it was
+pub record LineIsPut (pn number : ℕ) (old new : Lines) : Type 0 where
+  pub here : line_in new pn ≡ Some number
+  pub others : (other : ℕ) → other ≢ pn → line_in new other ≡ line_in old other
+
+-- the same under one key
+pub record LineIsPutAt (key : ℕ × List ℕ) (pn number : ℕ) (old new : LinesBySak) : Type 0 where
+  pub here : line_at new key pn ≡ Some number
+  pub others : (other : ℕ × List ℕ) (qn : ℕ) → ((other ≡ key) × (qn ≡ pn) → ⊥)
+      → line_at new other qn ≡ line_at old other qn
 
 pub record UseIsPut (number s pn : ℕ) (sak : Secret) (old new : Maps) : Type 0 where
   pub count : new.count ≡ old.count
@@ -212,6 +238,11 @@ IsDenied names facts line Doubled =
 IsDenied names facts line Orphan =
     (after : List Name) × (fact : Fact) × Reads names line after fact
     × (refusal facts fact ≡ Some Orphan)
+
+-- a line is to be taken: it is read, and its fact is not refused
+abbrev pub IsDue : List Name → List Fact → List ℕ → Type 0
+IsDue names facts line =
+    (after : List Name) × (fact : Fact) × Reads names line after fact × (refusal facts fact ≡ None)
 
 -- lines that are taken one after another, from these names and facts to those
 abbrev pub AreTaken : List Name → List Fact → List (List ℕ) → List Name → List Fact → Type 0

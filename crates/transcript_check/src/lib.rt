@@ -4,12 +4,15 @@
 
 mod check;
 mod fault;
+mod judging;
 mod laws;
 mod named;
 mod notes;
+mod uses;
 mod verdict;
 
 pub use check::Check;
 pub use fault::{CheckError, CheckFault};
+pub use judging::{Unjudged, judge};
 pub use laws::{law_clean, law_every_fact_has_a_line};
 pub use verdict::Verdict;

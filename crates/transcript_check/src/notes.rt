@@ -12,6 +12,7 @@ ghost use Rattle.transcript_check.specs.Standing.{Maps, pair_cmp, sak_at, first_
 
 use crate::fault::{CheckError, CheckFault};
 use crate::named::Named;
+use crate::uses::{Uses, put_at};
 use crate::verdict::Verdict;
 use aes_block::Secret;
 use lan_base::{KeyId, Mi};
@@ -21,17 +22,19 @@ use std::alloc::{AllocError, Global};
 use std::collections::BTreeMap;
 use std::marker::Model;
 
-/// What facts say, one after another. Contracts see the entries of the maps.
+/// What facts say, one after another. A packet number of a claim takes some thirty octets: its SAK is
+/// kept once for all claims under it. Contracts see the entries of the maps.
 #[derive(Drop)]
 pub struct Notes {
+    alloc: Global,
     count: u64,
     missed: u64,
     once: Option<(u64, u64)>,
     one_key: Option<(u64, u64)>,
     epochs: BTreeMap<(u8, u32), Secret>,
     keys: BTreeMap<(Mi, u32), (u64, Named)>,
-    narrow: BTreeMap<((u8, u32), [u8; 16]), u64>,
-    wide: BTreeMap<((u8, u32), [u8; 32]), u64>,
+    narrow: BTreeMap<(u8, [u8; 16]), Uses>,
+    wide: BTreeMap<(u8, [u8; 32]), Uses>,
 }
 
 impl Model for Notes {
@@ -57,6 +60,7 @@ impl Notes {
         ensures { StandsFor [] result }
     {
         Notes {
+            alloc,
             count: 0,
             missed: 0,
             once: None,
@@ -80,6 +84,13 @@ impl Notes {
         self.take(number, fact)?;
         self.count = number;
         Ok(())
+    }
+
+    /// How many facts there were.
+    pub fn count(&self) -> u64
+        ensures { result ≡ self.now.count }
+    {
+        self.count
     }
 
     /// The verdict on the facts so far.
@@ -112,8 +123,8 @@ impl Notes {
         ensures { result ≡ line_by self.now station pn sak.now }
     {
         match sak {
-            Secret::S128(octets) => self.narrow.get(&((station, pn), *octets)).copied(),
-            Secret::S256(octets) => self.wide.get(&((station, pn), *octets)).copied(),
+            Secret::S128(octets) => self.narrow.get(&(station, *octets))?.line_by(pn),
+            Secret::S256(octets) => self.wide.get(&(station, *octets))?.line_by(pn),
         }
     }
 
@@ -145,13 +156,12 @@ impl Notes {
     {
         match sak {
             Secret::S128(octets) => {
-                self.narrow.insert(((station, pn), *octets), number)?;
+                put_at(self.alloc, &mut self.narrow, (station, *octets), pn, number)
             }
             Secret::S256(octets) => {
-                self.wide.insert(((station, pn), *octets), number)?;
+                put_at(self.alloc, &mut self.wide, (station, *octets), pn, number)
             }
         }
-        Ok(())
     }
 
     /// An install says something of an identifier.

@@ -1,0 +1,40 @@
+use Rattle.std.proofs.Common.{◌≡◌, ◌∙◌, ℕ, List, [], refl, ap, sym, subst}
+use Rattle.std.specs.Prelude.{IsSome, Option, option_and_then}
+use Rattle.std.specs.BTreeMap.{BTreeMap, is_at}
+use Rattle.std.specs.Map.{set_value}
+use Rattle.std.proofs.lemmas.Map.Steps.{set_value_same}
+use Rattle.transcript_check.specs.Standing.{Lines, line_in, line_at, sak_cmp, LineIsPut, LineIsPutAt}
+use Rattle.transcript_check.proofs.Puts.{put_under, on_ok, on_err}
+use Rattle.transcript_check.proofs.uses.put_at.Goals as goal
+
+pub returns-in-Some-clause-put : goal.returns-in-Some-clause-put
+returns-in-Some-clause-put g c =
+    let holds = c.get_mut.follows.holds c.put.new.self in
+    let now = holds.3 (subst (λ (o : Option Lines). IsSome o) c.in-Some.ensures.value refl) in
+    on_ok c.put.result
+    (λ put. put_under c.args.key c.args.pn c.args.number _ _ c.in-Some.uses.now c.put.new.self
+    (λ qn. ap (option_and_then (λ (lines : Lines). line_in lines qn)) (sym c.in-Some.ensures.value))
+    now.0 now.1 put)
+    c.put.ensures.put
+
+pub returns-in-Some-clause-kept : goal.returns-in-Some-clause-kept
+returns-in-Some-clause-kept g c =
+    on_err c.put.result
+    (λ kept. (c.get_mut.follows.holds c.put.new.self).0
+    ∙ ap (λ (own : Lines). set_value (is_at (sak_cmp c.args.key)) c.args.lines.now.entries own) kept
+    ∙ set_value_same (is_at (sak_cmp c.args.key)) c.args.lines.now.entries c.in-Some.uses.now
+    (sym c.in-Some.ensures.value))
+    c.put.ensures.kept
+
+pub returns-clause-put : goal.returns-clause-put
+returns-clause-put g c =
+    let left = c.get_mut.follows.lender-at-none in
+    let same : left ≡ c.args.lines.now = c.get_mut.follows.holds-at-none in
+    subst (λ (m : BTreeMap (ℕ × List ℕ) Lines).
+    LineIsPutAt c.args.key c.args.pn c.args.number m.entries c.insert.new.self.entries) same
+    (put_under c.args.key c.args.pn c.args.number left.entries c.insert.new.self.entries [] c.put-2.new.self
+    (λ qn. ap (λ (m : BTreeMap (ℕ × List ℕ) Lines). line_at m.entries c.args.key qn) same
+    ∙ ap (option_and_then (λ (lines : Lines). line_in lines qn)) (sym c.in_default.ensures.value))
+    (λ q. c.in_ok-insert.ensures.updates.0 q) c.in_ok-insert.ensures.updates.1
+    (subst (λ (lines : Lines). LineIsPut c.args.pn c.args.number lines c.put-2.new.self)
+    c.new-uses.ensures c.in_ok-put.ensures.put))
