@@ -351,7 +351,7 @@ text-ready n text w below ready =
       keyed = ready.keyed;
       calm = ready.calm;
       bounded = ready.bounded;
-      tidy = tidy-same w kept ready.tidy refl refl refl refl refl (λ e. e);
+      tidy = tidy-same w kept ready.tidy refl refl refl refl refl (λ e. e) (λ e. e);
     }) refl
 
 -- a tidy world in which no race was begun

@@ -2,7 +2,6 @@ mod Calm
 mod Racing
 mod Doing
 mod Flowing
-mod Counting
 mod Placing
 mod Looking
 mod Coming
@@ -10,6 +9,8 @@ mod Drawing
 mod Users
 mod Awaiting
 mod LinesCome
+mod Same
+mod Words
 mod Happening
 mod Bounded
 mod Turns

@@ -164,7 +164,7 @@ takes-number n false e = not-below last_number n e
 takes-one : (w : World) (event : Event) → w.kept.raced ≡ false → IsExact w event → TakesOne event
 takes-one w (events.Claim s user pn) calm exact =
     let n = shown_next (settings w) s w.run in
-    subst (λ (m : ℕ). m ≤ last_number) (sym (exact ∙ calm-claimed w s calm))
+    subst (λ (m : ℕ). m ≤ last_number) (sym (exact.0 ∙ calm-claimed w s calm))
     (takes-number n (nat_lt last_number n) refl)
 takes-one w (events.Start name sci priority) calm exact = tt
 takes-one w (events.Tick s next) calm exact = tt

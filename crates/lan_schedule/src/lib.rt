@@ -9,12 +9,12 @@ mod halt;
 mod laws;
 mod links;
 mod moves;
-mod numbers;
 mod recorder;
 mod refusals;
 mod setup;
 mod stage;
 mod supply;
+mod words;
 
 pub use commands::Replay;
 pub use halt::{Halt, Kind};
