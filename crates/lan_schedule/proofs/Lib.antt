@@ -15,6 +15,7 @@ mod Happening
 mod Bounded
 mod Turns
 mod Tidying
+mod Telling
 mod Settled
 mod Sending
 mod Refusing

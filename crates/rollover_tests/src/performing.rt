@@ -48,7 +48,7 @@ pub(crate) fn ordered(
         reads,
     );
     let mut sink = MemorySink::new(alloc, outside.write.max(1), writes);
-    let status = rollover(alloc, &owned, &mut source, &mut sink);
+    let status = rollover(alloc, &owned, &mut source, &mut sink, &OpenGate);
     Ok(Left {
         status,
         held: Octets::from_slice(alloc, sink.held())?,
