@@ -39,7 +39,7 @@ use Rattle.lan_schedule.specs.Ends.{Moment, Ends, halt_of_broken}
 use Rattle.lan_schedule.specs.Numbers.{shown_next, number_shown}
 use Rattle.lan_schedule.specs.Lines.{tick}
 use Rattle.lan_schedule.specs.inside.Comes.{Comes, named}
-use Rattle.lan_schedule.specs.inside.Words.{AreSet}
+use Rattle.lan_schedule.specs.inside.Set.{AreSet}
 use Rattle.lan_schedule.specs.Stages.{StandsWith, StandsFor, Counts}
 use Rattle.lan_schedule.specs.inside.Staged.{Did, Happened}
 use Rattle.lan_schedule.specs.Races.{Chance, behind_numbers}

@@ -10,7 +10,7 @@ mod Users
 mod Awaiting
 mod LinesCome
 mod Same
-mod Words
+mod Ahead
 mod Happening
 mod Bounded
 mod Turns

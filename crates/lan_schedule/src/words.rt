@@ -12,7 +12,7 @@ ghost use Rattle.lan_core.specs.Standing.{State, StandsFor};
 ghost use Rattle.group_safety.specs.Accounts.{IsExact};
 ghost use Rattle.transmit_words.specs.Ties.{tables_of, AreTied, AreAhead};
 ghost use Rattle.lan_schedule.specs.Numbers.{shown_next};
-ghost use Rattle.lan_schedule.specs.inside.Words.{AreSet};
+ghost use Rattle.lan_schedule.specs.inside.Set.{AreSet};
 
 use association_slots::SlotTable;
 use lan_core::{Event, Fact, Lan};

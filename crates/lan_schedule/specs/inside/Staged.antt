@@ -13,7 +13,7 @@ use Rattle.lan_schedule.specs.Reports.{Report}
 use Rattle.lan_schedule.specs.Ends.{Moment, IsReached, Ends}
 use Rattle.lan_schedule.specs.Stages.{StandsWith, StandsFor, Counts}
 use Rattle.lan_schedule.specs.inside.Comes.{Comes, named}
-use Rattle.lan_schedule.specs.inside.Words.{AreSet}
+use Rattle.lan_schedule.specs.inside.Set.{AreSet}
 
 -- a call did an act, in each world for which the group may stand, in which the act can be performed,
 -- and whose chances begin with those that were decided in the call

@@ -1,4 +1,4 @@
-use Rattle.lan_schedule.proofs.Words.{set-ahead}
+use Rattle.lan_schedule.proofs.Ahead.{set-ahead}
 use Rattle.lan_schedule.proofs.words.Words.begin.Goals as goal
 
 pub returns-in_default : goal.returns-in_default

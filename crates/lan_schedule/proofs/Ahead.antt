@@ -7,7 +7,7 @@ use Rattle.lan_core.specs.declared.event.Event.TheVariants as events
 use Rattle.lan_core.specs.declared.settings.Settings.{Settings}
 use Rattle.lan_core.specs.Run.{Run, Profile, stations}
 use Rattle.transmit_words.specs.Ties.{AreTied, AreAhead}
-use Rattle.lan_schedule.specs.inside.Words.{AreSet}
+use Rattle.lan_schedule.specs.inside.Set.{AreSet}
 
 none-more : (r : Run) (cs : List ControlAt) → length cs ≡ length (stations r)
     → length cs ≡ length (stations r ++ [])
