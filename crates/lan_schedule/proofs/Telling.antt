@@ -55,11 +55,11 @@ carries-key : (k : Carried) (o : Option Life) → CarriesIn o k
 carries-key k None nothing_is = ap (λ (j : Carried). transmits (now j)) nothing_is
 carries-key k (Some l) carries = carries.shows
 
-same-self : (an : AssociationNumber) → same_an an an ≡ true
-same-self An0 = refl
-same-self An1 = refl
-same-self An2 = refl
-same-self An3 = refl
+same-as-self : (an : AssociationNumber) → same_an an an ≡ true
+same-as-self An0 = refl
+same-as-self An1 = refl
+same-as-self An2 = refl
+same-as-self An3 = refl
 
 -- what words show of a key that is carried
 record ShowsKey (settings : Settings) (s : ℕ) (r : Run) (words : List ℕ) (p : Sending) : Type 0
@@ -73,26 +73,26 @@ record ShowsKey (settings : Settings) (s : ℕ) (r : Run) (words : List ℕ) (p 
 same-pair : (a b : AssociationNumber × ℕ) → Some a ≡ Some b → a ≡ b
 same-pair a b e = cc e
 
-by-key : (settings : Settings) (s : ℕ) (r : Run) (words : List ℕ) (epoch : ℕ) (present : Bool)
+by-key : (set : Settings) (s : ℕ) (r : Run) (words : List ℕ) (epoch : ℕ) (present : Bool)
     (an : AssociationNumber) (o : Option Key) → cond present (Some (an, epoch)) None ≡ KeyOf o
-    → ShowsKey settings s r words (record { epoch = epoch; present = present; an = an })
-    → ShowKey settings s r words o
-by-key settings s r words epoch true an None e shows = absurd (cc e)
-by-key settings s r words epoch true an (Some key) e shows =
+    → ShowsKey set s r words (record { epoch = epoch; present = present; an = an })
+    → ShowKey set s r words o
+by-key set s r words epoch true an None e shows = absurd (cc e)
+by-key set s r words epoch true an (Some key) e shows =
     let same = same-pair (an, epoch) (key.an, key.epoch) e in
     let open_now = shows.opens refl in
     subst (λ (pair : AssociationNumber × ℕ).
     (shown_by (slice_index words 4) ≡ present_at pair.0 pair.1)
     × (flag_of (slice_index words (number_of pair.0)) ≡ false)
     × (epoch_of (slice_index words (number_of pair.0)) ≡ pair.1)
-    × (next_of (slice_index words (number_of pair.0)) ≡ next settings s pair.1 r)) same
-    (shows.current, open_now.0, open_now.1.0, open_now.1.1)
-by-key settings s r words epoch false an None e shows =
+    × (next_of (slice_index words (number_of pair.0)) ≡ next set s pair.1 r)) same
+    (shows.current, open_now.0, open_now.1, open_now.2)
+by-key set s r words epoch false an None e shows =
     ap (λ (p : Current). p.present) shows.current
-by-key settings s r words epoch false an (Some key) e shows = absurd (cc e)
+by-key set s r words epoch false an (Some key) e shows = absurd (cc e)
 
 shut-names : (p : Sending) (b : Bool) → p.present ≡ true → b ≡ not (names p p.an) → b ≡ false
-shut-names p b is shut = shut ∙ rw (is, same-self p.an) refl
+shut-names p b is shut = shut ∙ rw (is, same-as-self p.an) refl
 
 -- words that tell a run show its core
 pub core-shown : (w : World) (s : ℕ) (words : List ℕ) (k : Carried)

@@ -88,7 +88,7 @@ exact-in w (events.Restart s) calm typed exact = tt
 exact-in w (events.Claim s user pn) calm typed exact =
     let room = (exact.1 calm).1 in
     let most = under-user (settings w) s w.run (transmitting_at (settings w) s w.run) user room in
-    let small : user < 2 ^ 32 = typed.1.0 in
+    let small : user < 2 ^ 32 = typed.1 in
     exact.0 ∙ calm-claimed w s calm
     ∙ in-range (shown_next (settings w) s w.run) (omega (arith, most, small))
 exact-in w events.Emit calm typed exact = tt
