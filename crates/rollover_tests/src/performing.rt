@@ -1,6 +1,7 @@
 //! A trace is performed through the top call.
 
 use lan_base::{MemorySink, MemorySource, Octets};
+use packet_claims::OpenGate;
 use rollover_program::{Cause, Kind, Status, rollover};
 use std::alloc::{AllocError, Global};
 
