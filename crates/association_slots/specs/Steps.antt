@@ -1,5 +1,5 @@
 -- How each step changes the view of the one that makes it.
-use Rattle.std.specs.Prelude.{ℕ, ◌+◌, ◌-◌, ◌^◌, max, List, [], ◌∷◌, ◌++◌, Bool, true, false, not, cond, ◌&&◌, ◌==◌, nat_lt, replicate, slice_set}
+use Rattle.std.specs.Prelude.{ℕ, ◌+◌, ◌-◌, ◌^◌, max, List, [], ◌∷◌, ◌++◌, Bool, true, false, not, if◌then◌else◌, ◌&&◌, ◌==◌, nat_lt, replicate, slice_set}
 use Rattle.association_slots.specs.Words.{epoch_of, flag_of, next_of}
 use Rattle.association_slots.specs.Views.{cons_if, blank_slot, slot, current, absent_after, free, free_number, of_seat, mark, told_sum, was_pointed}
 use Rattle.lan_base.specs.AssociationNumbers.{number_of}
@@ -89,7 +89,7 @@ pointed c p = record c { points = p ∷ c.points }
 abbrev pub above_claims : ℕ → List Addition → ℕ
 above_claims epoch [] = 0
 above_claims epoch (a ∷ rest) =
-    max (cond (a.claimed && (a.met == epoch)) (a.pn + 1) 0) (above_claims epoch rest)
+    max (if a.claimed && (a.met == epoch) then a.pn + 1 else 0) (above_claims epoch rest)
 
 -- the least next number that the slot has, by what control saw there and was told
 abbrev pub least_next : ControlView → AssociationNumber → NextSeen
@@ -160,8 +160,9 @@ loaded v p = record v {
 -- the word is open with that epoch and its next number is below 2 ^ 32
 abbrev pub answer : ℕ → ℕ → Added
 answer epoch word =
-    cond (not (flag_of word) && (epoch_of word == epoch))
-    (cond (nat_lt (next_of word) (2 ^ 32)) (Number (next_of word)) Over) Gone
+    if not (flag_of word) && (epoch_of word == epoch)
+    then (if nat_lt (next_of word) (2 ^ 32) then Number (next_of word) else Over)
+    else Gone
 
 -- an addition by a seat to the slot that it was shown, where that showed the epoch e
 abbrev pub addition : SeatView → ℕ → Bool → ℕ → Addition

@@ -121,14 +121,14 @@ shows-next settings s r None = refl
 shows-next settings s r (Some k) = (next-positive settings s k.epoch r, omega arith)
 
 demands : (settings : Settings) (s : ℕ) (r : Run) (k : Option Key) (given : Option UserFrame)
-    → next_under settings s r k ≤ last_number → IsSendable given
+    → next_under settings s r k ≤ last_number
     → IsDemanded settings s r (cond (nat_lt last_number (next_under settings s r k)) 0
     (next_under settings s r k)) given given k
-demands settings s r None given low sendable = refl
-demands settings s r (Some k) given low sendable =
+demands settings s r None given low = refl
+demands settings s r (Some k) given low =
     let some = next-positive settings s k.epoch r in
     let fits = le-ltb last_number (next settings s k.epoch r) low in
-    rw fits (inr (some, omega arith, low, refl, sendable))
+    rw fits (inr (some, omega arith, low, refl))
 
 low-claim : (b : Bool) (n : ℕ) → n ≤ last_number → cond b 0 n < 2 ^ 32
 low-claim true n low = omega arith
@@ -214,14 +214,16 @@ module _ (pair : Pair) (users : List UserFrame) (t : Twin) (run : IsTwinRun pair
       )
 
       may : Exists (place_in g s t) (run_of g t)
+          × IsSendable (user_at users user)
           × IsDemanded (setting_of pair g) (place_in g s t) (run_of g t) (claimed_in pair g s t)
           (user_at users user) (user_at users user)
           (transmitting_at (setting_of pair g) (place_in g s t) (run_of g t))
       may = (
         there,
+        sendable,
         demands (setting_of pair g) (place_in g s t) (run_of g t)
             (transmitting_at (setting_of pair g) (place_in g s t) (run_of g t))
-            (user_at users user) (next-within pair users t g s run) sendable,
+            (user_at users user) (next-within pair users t g s run),
       )
 
       go : (b : Bool) → (claimed_in pair g s t == 0) ≡ b

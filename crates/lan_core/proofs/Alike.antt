@@ -1,9 +1,8 @@
 -- Two runs that tell the same but for packet numbers: what one event more leaves, and what it
 -- shows.
-use Rattle.std.proofs.Common.{◌≡◌, ℕ, Bool, true, false, List, [], ◌∷◌, ◌++◌, refl, sym, ap, ◌∙◌, append-nil}
+use Rattle.std.proofs.Common.{◌≡◌, ℕ, Bool, true, false, List, [], ◌∷◌, refl, ap, ◌∙◌, append-nil}
 use Rattle.std.proofs.Common.{length, Option, Some, None}
 use Rattle.lan_base.specs.declared.frame.UserFrame.{UserFrame}
-use Rattle.rx_slots.specs.Histories.{Receiving}
 use Rattle.sak_exchange.specs.declared.held_key.Key.{Key}
 use Rattle.lan_core.specs.declared.event.Event.{Event}
 use Rattle.lan_core.specs.declared.event.Event.TheVariants as events
@@ -11,17 +10,15 @@ use Rattle.lan_core.specs.declared.fact.Fact.{Fact}
 use Rattle.lan_core.specs.declared.fact.Fact.TheVariants as facts
 use Rattle.lan_core.specs.declared.settings.Settings.{Settings}
 use Rattle.lan_core.specs.Run.{Run, Profile, Happening, happened, stations}
-use Rattle.lan_core.specs.Ledgers.{Frame, Install, air, installs, framed, install_of, gather, frame_at}
-use Rattle.lan_core.specs.Lives.{Life, life, life_after, begun, lived_ticking, lived_reached, sak_in, receiving, reaches, slot_change, with_data}
+use Rattle.lan_core.specs.Ledgers.{Frame, air, installs, framed, install_of, gather, frame_at}
+use Rattle.lan_core.specs.Lives.{Life, life, life_after, begun, lived_ticking, lived_reached, sak_in, receiving, reaches}
 use Rattle.std.specs.Prelude.{◌==◌, cond, option_map, option_and_then, slice_get}
 use Rattle.std.proofs.Common.{arith}
 use Rattle.lan_core.specs.Lives.{transmitting_at}
-use Rattle.lan_core.specs.declared.fact.Lack.{Lack}
 use Rattle.lan_core.specs.Expected.{claim_fact, number_fact, lack, Drawn, expected, tick_facts, reached_facts, restart_facts}
-use Rattle.lan_core.specs.Order.{ticks, is_event_of, IsWithin}
+use Rattle.lan_core.specs.Order.{is_event_of, IsWithin}
 use Rattle.lan_core.specs.Stops.{draws_in, mi_number, sak_number}
 use Rattle.lan_core.specs.Parts.{AreAlike}
-use Rattle.lan_base.specs.declared.address.Mi.{Mi}
 use Rattle.aes_block.specs.declared.secret.Secret.{Secret}
 
 pub alike-itself : (settings : Settings) (q : Run) → AreAlike settings q q

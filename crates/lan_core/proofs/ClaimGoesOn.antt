@@ -27,7 +27,7 @@ use Rattle.rx_slots.specs.Histories.{Receiving}
 use Rattle.lan_core.specs.Claims.{claimed, next, user_at, waiting_under}
 use Rattle.lan_core.specs.Expected.{expected, drawn_from, claim_fact, number_fact, lack, last_number}
 use Rattle.lan_base.specs.Ranges.{most_frames, most_ticks}
-use Rattle.lan_core.specs.Order.{IsWithin, most_octets, most_stations}
+use Rattle.lan_core.specs.Order.{IsWithin, IsSendable, most_octets, most_stations}
 use Rattle.lan_core.specs.Stops.{IsDemanded, passed}
 use Rattle.lan_core.specs.Standing.{State, StandsFor, IsSeated, sealed_of}
 use Rattle.lan_core.specs.Answers.{GoesOn}
@@ -55,7 +55,7 @@ pub claim-shown : (settings : Settings) (s : ℕ) (r : Run) (pn : ℕ) (given na
 claim-shown settings s r pn given named h None is = rw is refl
 claim-shown settings s r pn given named h (Some k) (inl (is, none)) =
     rw (is, lt-ltb last_number (next settings s k.epoch r) none) refl
-claim-shown settings s r pn given named h (Some k) (inr (least, after, most, same, sends)) =
+claim-shown settings s r pn given named h (Some k) (inr (least, after, most, same)) =
     rw (ne_eqb pn 0 (λ zero. omega (arith, zero, least))) refl
 
 pub claim-expected : (settings : Settings) (users : List UserFrame) (r : Run) (s user pn : ℕ) (l : Life)
@@ -169,25 +169,25 @@ claim-stands settings users r lan stands s user pn k key octets sealed =
 sealed_is : (settings : Settings) (users : List UserFrame) (r : Run) (s user pn : ℕ) (p : Profile) (l : Life)
     → slice_get (stations r) s ≡ Some p → l.member.setup ≡ setup_of settings p
     → (given named : Option UserFrame) → user_at users user ≡ named → (k : Option Key)
-    → IsDemanded settings s r pn given named k → (octets : Option (List ℕ))
+    → IsSendable named → IsDemanded settings s r pn given named k → (octets : Option (List ℕ))
     → (pn ≡ 0 → octets ≡ None)
     → ((u : UserFrame) → 1 ≤ pn → given ≡ Some u → IsUserData u.body → octets
     ≡ option_map (λ k. protected (secret_octets k.sak) l.member.setup.sci k.an pn k.conf u) k)
     → map Some (sealed_by s octets) ≡ map (sealed_of users r) (waiting_under s user pn k)
-sealed_is settings users r s user pn p l profile setup given named find None is octets none some =
+sealed_is settings users r s user pn p l profile setup given named find None sends is octets none some =
     rw (none is) refl
-sealed_is settings users r s user pn p l profile setup given named find (Some k) (inl (is, over)) octets none some =
+sealed_is settings users r s user pn p l profile setup given named find (Some k) sends (inl (is, over)) octets none some =
     rw (none is, is) refl
-sealed_is settings users r s user pn p l profile setup given None find (Some k) (inr (least, after, most, same, sends)) octets none some =
+sealed_is settings users r s user pn p l profile setup given None find (Some k) sends (inr (least, after, most, same)) octets none some =
     absurd sends
-sealed_is settings users r s user pn p l profile setup given (Some u) find (Some k) (inr (least, after, most, same, sends)) octets none some =
+sealed_is settings users r s user pn p l profile setup given (Some u) find (Some k) sends (inr (least, after, most, same)) octets none some =
     let is = some u least same sends.body in
     let own : l.member.setup.sci ≡ p.sci = ap (λ q. q.sci) setup in
     rw (is, ne_eqb pn 0 (λ zero. omega (arith, zero, least)), profile, find, own) refl
 
 pub claim-goes-on : (settings : Settings) (users : List UserFrame) (r : Run) (lan : State)
     → StandsFor settings users lan r → (s user pn : ℕ) (given : Option UserFrame)
-    → IsDemanded settings s r pn given (user_at users user) (transmitting_at settings s r)
+    → IsSendable (user_at users user) → IsDemanded settings s r pn given (user_at users user) (transmitting_at settings s r)
     → (p : Profile) → slice_get (stations r) s ≡ Some p → (there : IsThere settings s r lan.seats p)
     → (key : Option HeldKey)
     → key ≡ option_map (held (keys_in there.alive)) (transmitting (keys_in there.alive))
@@ -198,7 +198,7 @@ pub claim-goes-on : (settings : Settings) (users : List UserFrame) (r : Run) (la
     → (nth : ℕ → Option (List ℕ)) (shown : List Fact) → shown ≡ claim_shown s pn key ∷ []
     → (waits : List Sealed) → waits ≡ lan.waiting ++ sealed_by s octets
     → GoesOn settings users r (events.Claim s user pn) nth nth (record lan { waiting = waits }) shown
-claim-goes-on settings users r lan stands s user pn given comes p profile there key is octets none some nth shown told waits put =
+claim-goes-on settings users r lan stands s user pn given sends comes p profile there key is octets none some nth shown told waits put =
     let l = there.alive in
     let k = transmitting (keys_in l) in
     let now : transmitting_at settings s r ≡ k = rw there.lives refl in
@@ -209,7 +209,7 @@ claim-goes-on settings users r lan stands s user pn given comes p profile there 
     let shows : expected settings users r (events.Claim s user pn) (drawn_from settings.suite nth) ≡ Some shown =
     rw fact (rw (claim-expected settings users r s user pn l nth there.lives, now) refl) in
     let sealed : IsSealed settings users r s user pn k octets = record {
-      waits = sealed_is settings users r s user pn p l profile there.seated.1 given (user_at users user) refl k comes
+      waits = sealed_is settings users r s user pn p l profile there.seated.1 given (user_at users user) refl k sends comes
           octets none some;
     } in
     let within = within-passes _ (claim_within settings s user r pn k stands.within) in

@@ -1,5 +1,5 @@
 -- Each fact speaks of a station that is there, and the stations have names, each another.
-use Rattle.std.proofs.Common.{◌≡◌, ◌≢◌, ◌∙◌, ◌<◌, ◌≤◌, ◌+◌, ℕ, zero, suc, Bool, true, false, cond, List, [], ◌∷◌, ◌++◌, length, map}
+use Rattle.std.proofs.Common.{◌≡◌, ◌≢◌, ◌∙◌, ◌<◌, ◌≤◌, ℕ, zero, suc, Bool, true, false, cond, List, [], ◌∷◌, ◌++◌, length, map}
 use Rattle.std.proofs.Common.{Option, Some, None, refl, sym, ap, subst, arith}
 use Rattle.std.specs.Prelude.{◌==◌, All, option_map, slice_get}
 use Rattle.std.proofs.lemmas.List.{length-append, append-nil}
@@ -19,7 +19,7 @@ use Rattle.lan_core.specs.declared.settings.Settings.{Settings}
 use Rattle.lan_core.specs.Run.{Run, Happening, Profile, happened, place, started, stations, facts_of}
 use Rattle.lan_core.specs.Ledgers.{frame_at, next_frame}
 use Rattle.lan_core.specs.Lives.{life, drawn_mi, sak_in, transmitting_at}
-use Rattle.lan_core.specs.Claims.{Waiting, waiting, frame_of_claim, frame_by, user_at}
+use Rattle.lan_core.specs.Claims.{waiting, frame_of_claim, frame_by, user_at}
 use Rattle.lan_core.specs.Expected.{tick_facts, reached_facts, restart_facts, claim_fact, number_fact, lack, emit_facts, expected}
 use Rattle.lan_core.specs.Legal.{IsStep, IsStepped}
 use Rattle.lan_core.specs.Places.{names, ArePlaced}

@@ -23,14 +23,14 @@ use Rattle.sak_exchange.specs.Held.{received, ends, held}
 use Rattle.sak_exchange.specs.Histories.{Keying, installed, install_count}
 use Rattle.sak_exchange.specs.Making.{next_epoch, made_key}
 use Rattle.sak_exchange.specs.Outcomes.{beginning, installing}
-use Rattle.sak_exchange.specs.Taking.{taken, judged as offer_judged, provided, provided_new, unwrapped_key, number_of, is_supported, offset_of, leaves_none, greatest_of}
+use Rattle.sak_exchange.specs.Taking.{taken, provided, provided_new, unwrapped_key, number_of, is_supported, offset_of, leaves_none, greatest_of}
 use Rattle.sak_exchange.specs.Held.{allows}
 use Rattle.sak_exchange.specs.Unwrapping.{given_sak}
 use Rattle.mka_station.specs.declared.reaction.Reaction.{Reaction}
 use Rattle.mka_station.specs.declared.verdict.DropReason.{DropReason}
 use Rattle.mka_station.specs.Lives.{Member, Entry, ticked, heard, keys_of}
 use Rattle.mka_station.specs.Views.{View, view}
-use Rattle.mka_station.specs.Tick.{tick_turn, ended, led, made, makes_now, install_changes, roster_at}
+use Rattle.mka_station.specs.Tick.{tick_turn, ended, led, makes_now, install_changes, roster_at}
 use Rattle.mka_station.specs.Hearing.{judged, hear_turn, heard_turn, frame_turn, take_changes, taken_of, offer_at, answer_at, taken_past, follow_at}
 use Rattle.mka_station.specs.Restart.{ending}
 use Rattle.lan_core.specs.declared.event.Event.{Event}
@@ -40,13 +40,12 @@ use Rattle.lan_core.specs.declared.fact.Fact.TheVariants as facts
 use Rattle.lan_core.specs.declared.settings.Settings.{Settings}
 use Rattle.lan_core.specs.Run.{Run, Profile, happened, stations}
 use Rattle.lan_core.specs.Ledgers.{Install, install_of, installs, installs_at, gather, frame_at, next_frame}
-use Rattle.lan_core.specs.Lives.{Life, life, life_after, begun, keys_in, lived_hearing, lived_reached, lived_ticking, receiving, reaches, sak_in, seen_at, turn_at_tick, drawn_mi, transmitting_at}
+use Rattle.lan_core.specs.Lives.{Life, life, begun, keys_in, lived_hearing, lived_reached, lived_ticking, receiving, sak_in, seen_at, drawn_mi, transmitting_at}
 use Rattle.lan_core.specs.Claims.{waiting, frame_of_claim}
 use Rattle.lan_core.specs.Counted.{AreCounted, LivesCount}
-use Rattle.lan_core.specs.Expected.{change_fact, reaction_facts, reached_facts, tick_facts, restart_facts, claim_fact, number_fact, lack, emit_facts, expected, drawn_in}
+use Rattle.lan_core.specs.Expected.{change_fact, reaction_facts, reached_facts, tick_facts, restart_facts, claim_fact, number_fact, lack, emit_facts, expected}
 use Rattle.lan_core.specs.Legal.{IsStep, IsStepped}
 use Rattle.lan_core.specs.inside.Seats.{installs_in}
-use Rattle.lan_core.specs.inside.Following.{count_installed}
 use Rattle.lan_core.proofs.Reactions.{gather-reaction, gather-unread}
 use Rattle.lan_core.proofs.FramesNumbered.{mapped, chained}
 use Rattle.lan_core.proofs.OwnLedgers.{AreOf, installs_of, installs-of-others, installs-of-own, tick-is-of, reached-is-of, restart-is-of}

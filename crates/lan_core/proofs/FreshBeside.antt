@@ -11,7 +11,7 @@ use Rattle.aes_block.specs.Secrets.{secret_octets}
 use Rattle.lan_core.specs.declared.settings.Settings.{Settings}
 use Rattle.lan_core.specs.declared.stop.Stop.TheVariants.{RepeatedDraw}
 use Rattle.lan_core.specs.Run.{Run, Happening}
-use Rattle.lan_core.specs.Ledgers.{Birth, births, born, gather, with_one}
+use Rattle.lan_core.specs.Ledgers.{births, with_one}
 use Rattle.lan_core.specs.Lives.{drawn_mi}
 use Rattle.lan_core.specs.Types.{IfDrawn}
 use Rattle.lan_core.specs.Order.{IsOfSuite}
@@ -19,7 +19,7 @@ use Rattle.lan_core.specs.Legal.{IsStep}
 use Rattle.lan_core.specs.Fresh.{IsFresh, drawn_mis, drawn_saks}
 use Rattle.lan_core.specs.Stops.{mi_number, sak_number, sak_of_tick, same_secret, is_drawn}
 use Rattle.lan_core.specs.Stops.{draws_in, drawn_before, stop_of_draw}
-use Rattle.lan_core.specs.Suited.{AreDrawnWell, BeginOne, IsDrawnWell}
+use Rattle.lan_core.specs.Suited.{AreDrawnWell, IsDrawnWell}
 use Rattle.lan_core.proofs.FramesNumbered.{mapped}
 use Rattle.lan_core.proofs.StaysFresh.{step_begins, other, differs_more, undrawn, mi_itself}
 use Rattle.lan_core.proofs.StaysFresh.{secrets_differ, suits, saks-next, all_more, no_first}

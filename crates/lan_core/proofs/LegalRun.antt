@@ -7,6 +7,7 @@ use Rattle.std.proofs.lemmas.Bool.{and_parts, ltb-true}
 use Rattle.std.specs.Prelude.{nat_lt, slice_index, replicate}
 use Rattle.std.specs.List.{list_all}
 use Rattle.lan_base.specs.declared.address.Sci.{Sci}
+use Rattle.lan_base.specs.declared.frame.UserFrame.{UserFrame}
 use Rattle.peer_lists.specs.Acceptance.{refusal, accepted, outcome}
 use Rattle.peer_lists.specs.Peers.{says, hopes, known}
 use Rattle.sak_exchange.specs.Held.{received, latest, old, transmitting}
@@ -25,10 +26,10 @@ use Rattle.lan_core.specs.declared.fact.Lack.TheVariants.{NoKey}
 use Rattle.lan_core.specs.Run.{Run, Happening, happened, Profile, stations}
 use Rattle.lan_core.specs.Ledgers.{air, births, installs}
 use Rattle.lan_core.specs.Lives.{life, receiving}
-use Rattle.lan_core.specs.Claims.{next, claimed}
+use Rattle.lan_core.specs.Claims.{next, claimed, user_at}
 use Rattle.lan_core.specs.Expected.{expected}
 use Rattle.lan_base.specs.Ranges.{most_ticks}
-use Rattle.lan_core.specs.Order.{IsWithin, ticks, most_stations}
+use Rattle.lan_core.specs.Order.{IsWithin, IsSendable, ticks, most_stations}
 use Rattle.lan_core.specs.Types.{IsMi, IsSetting}
 use Rattle.lan_core.specs.Legal.{IsStep, IsLegal}
 use Rattle.lan_core.specs.Fresh.{IsFresh, IsUnforged, drawn_saks}
@@ -64,7 +65,7 @@ abbrev second : Happening
 second = happened (events.Start (66 ∷ []) (sci 11) 16) (facts.Life 1 (mi 2) ∷ [])
 
 abbrev refused : Happening
-refused = happened (events.Claim 0 0 0) (facts.Unclaimed 0 NoKey ∷ [])
+refused = happened (events.Claim 0 1 0) (facts.Unclaimed 0 NoKey ∷ [])
 
 abbrev injected : Happening
 injected =
@@ -72,6 +73,11 @@ injected =
 
 abbrev restarted : Happening
 restarted = happened (events.Restart 1) (facts.Life 1 (mi 3) ∷ [])
+
+-- what is sent in it
+abbrev pub users : List UserFrame
+users =
+    record { destination = record { 0 = replicate 6 255 }; body = 136 ∷ 181 ∷ 0 ∷ 1 ∷ [] } ∷ []
 
 abbrev pub run : Run
 run = restarted ∷ injected ∷ refused ∷ second ∷ first ∷ []
@@ -110,7 +116,14 @@ alice = record { name = 65 ∷ []; sci = sci 10; priority = 16 }
 alice_is_other : IsOther (66 ∷ []) (sci 11) alice
 alice_is_other = (names_differ 65 66 (λ same. omega arith), scis_differ 10 11 (λ same. omega arith))
 
-first_steps : IsStep settings [] first []
+user_is : IsSendable (user_at users 1)
+user_is = record {
+  destination = (refl, octets_of (replicate 6 255) refl);
+  body = (omega arith, omega arith);
+  octets = octets_of (136 ∷ 181 ∷ 0 ∷ 1 ∷ []) refl;
+}
+
+first_steps : IsStep settings users first []
 unfolding opens
 first_steps = record {
   setting = setting;
@@ -122,7 +135,7 @@ first_steps = record {
   within = silent (first ∷ []) refl refl (omega arith) (omega arith);
 }
 
-second_steps : IsStep settings [] second (first ∷ [])
+second_steps : IsStep settings users second (first ∷ [])
 unfolding opens
 second_steps = record {
   setting = setting;
@@ -138,16 +151,16 @@ second_steps = record {
   within = silent (second ∷ first ∷ []) refl refl (omega arith) (omega arith);
 }
 
-refused_steps : IsStep settings [] refused (second ∷ first ∷ [])
+refused_steps : IsStep settings users refused (second ∷ first ∷ [])
 unfolding opens
 refused_steps = record {
   setting = setting;
-  in_order = ((omega arith, omega arith, omega arith), (omega arith, inl refl));
+  in_order = ((omega arith, omega arith, omega arith), (omega arith, user_is, inl refl));
   shows = refl;
   within = silent (refused ∷ second ∷ first ∷ []) refl refl (omega arith) (omega arith);
 }
 
-injected_steps : IsStep settings [] injected (refused ∷ second ∷ first ∷ [])
+injected_steps : IsStep settings users injected (refused ∷ second ∷ first ∷ [])
 unfolding opens
 injected_steps = record {
   setting = setting;
@@ -156,7 +169,7 @@ injected_steps = record {
   within = silent (injected ∷ refused ∷ second ∷ first ∷ []) refl refl (omega arith) (omega arith);
 }
 
-restarted_steps : IsStep settings [] restarted (injected ∷ refused ∷ second ∷ first ∷ [])
+restarted_steps : IsStep settings users restarted (injected ∷ refused ∷ second ∷ first ∷ [])
 unfolding opens
 restarted_steps = record {
   setting = setting;
@@ -165,7 +178,7 @@ restarted_steps = record {
   within = silent run refl refl (omega arith) (omega arith);
 }
 
-pub legal : IsLegal settings [] run
+pub legal : IsLegal settings users run
 unfolding opens
 legal = record {
   stepped =

@@ -1,7 +1,7 @@
 -- More user frames change nothing of what was.
 use Rattle.std.proofs.Common.{◌≡◌, ◌∙◌, ◌-◌, ℕ, zero, suc, Bool, true, false, cond, List, [], ◌∷◌}
 use Rattle.std.proofs.Common.{◌++◌, length, map, drop}
-use Rattle.std.proofs.Common.{Option, Some, None, inl, inr, refl, sym, ap, subst}
+use Rattle.std.proofs.Common.{Option, Some, None, refl, sym, ap, subst}
 use Rattle.std.specs.Prelude.{◌==◌, option_map, option_and_then, slice_get}
 use Rattle.lan_base.specs.declared.frame.UserFrame.{UserFrame}
 use Rattle.lan_core.specs.declared.event.Event.{Event}
@@ -85,10 +85,8 @@ shows-more settings users more r (events.Inject s octets) drawn shown is = is
 allowed-more : (settings : Settings) (users more : List UserFrame) (r : Run) (x : Happening)
     (event : Event)
     → IsAllowed settings users r x event → IsAllowed settings (users ++ more) r x event
-allowed-more settings users more r x (events.Claim s user pn) (exists, inl none) =
-    (exists, inl none)
-allowed-more settings users more r x (events.Claim s user pn) (exists, inr (claimable, sendable)) =
-    (exists, inr (claimable, still-sendable users more user (user_at users user) refl sendable))
+allowed-more settings users more r x (events.Claim s user pn) (exists, sendable, numbered) =
+    (exists, still-sendable users more user (user_at users user) refl sendable, numbered)
 allowed-more settings users more r x (events.Start name sci priority) is = is
 allowed-more settings users more r x (events.Tick s next) is = is
 allowed-more settings users more r x (events.Deliver frame s) is = is

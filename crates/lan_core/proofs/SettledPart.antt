@@ -1,7 +1,7 @@
 -- A group that stands for a run with the events of a part that are no claims stands for the run
 -- with the part, once the frames of its claims wait to be emitted.
-use Rattle.std.proofs.Common.{◌≡◌, ◌≤◌, ◌+◌, ℕ, Bool, true, false, not, cond, List, [], ◌∷◌, ◌++◌, length, map, drop, filter, refl, sym, ap, ◌∙◌, subst, arith, inl, inr}
-use Rattle.std.proofs.Common.{Option, Some, None, append_assoc, append-nil}
+use Rattle.std.proofs.Common.{◌≡◌, ◌≤◌, ℕ, true, false, not, List, [], ◌∷◌, ◌++◌, length, map, drop, refl, sym, ap, ◌∙◌, subst, arith, inl, inr}
+use Rattle.std.proofs.Common.{Some, append_assoc, append-nil}
 use Rattle.std.specs.Prelude.{option_map}
 use Rattle.std.proofs.lemmas.List.{length-append, map-append, drop-append-le}
 use Rattle.std.proofs.lemmas.Bool.{cases_Bool}
@@ -9,10 +9,9 @@ use Rattle.lan_base.specs.declared.frame.Protected.{Protected}
 use Rattle.lan_base.specs.declared.frame.UserFrame.{UserFrame}
 use Rattle.lan_core.specs.declared.event.Event.{Event}
 use Rattle.lan_core.specs.declared.event.Event.TheVariants as events
-use Rattle.lan_core.specs.declared.fact.Fact.{Fact}
 use Rattle.lan_core.specs.declared.settings.Settings.{Settings}
 use Rattle.lan_core.specs.declared.waiting.Sealed.{Sealed}
-use Rattle.lan_core.specs.Run.{Run, Happening, happened, stations}
+use Rattle.lan_core.specs.Run.{Run, Happening, happened}
 use Rattle.lan_core.specs.Ledgers.{emitted}
 use Rattle.lan_core.specs.Lives.{transmitting_at}
 use Rattle.lan_core.specs.Claims.{Waiting, claimed, claimed_by, frame_of_claim}

@@ -1,21 +1,13 @@
 -- An unstopped event needs no excuse, and one that leaves no number out leaves no more unused.
 use Rattle.std.proofs.Common.{◌≡◌, ◌∙◌, ◌≤◌, ◌+◌, ◌-◌, ◌⊎◌, ℕ, zero, suc, Bool, true, false, cond}
-use Rattle.std.proofs.Common.{List, [], ◌∷◌, ◌++◌, length, map}
+use Rattle.std.proofs.Common.{List, [], ◌∷◌, ◌++◌, length}
 use Rattle.std.proofs.Common.{Option, Some, None, inl, inr, refl, sym, ap, subst, arith, filter}
 use Rattle.std.proofs.lemmas.Bool.{eqb-true, eqb-false, lt-ltb, ne_eqb}
-use Rattle.std.specs.Prelude.{◌==◌, ◌&&◌, ◌||◌, not, max, option_map, option_to_list}
+use Rattle.std.specs.Prelude.{◌==◌, ◌&&◌, ◌||◌, not, max}
 use Rattle.std.specs.List.{list_any, range_with_len}
-use Rattle.lan_base.specs.declared.address.Mi.{Mi}
 use Rattle.lan_base.specs.declared.association_number.AssociationNumber.{AssociationNumber}
 use Rattle.lan_base.specs.declared.frame.UserFrame.{UserFrame}
-use Rattle.gcm_frames.specs.Tags.{is_sec}
-use Rattle.rx_slots.specs.Numbers.{answer}
-use Rattle.sak_exchange.specs.declared.change.Change.{Change}
-use Rattle.sak_exchange.specs.declared.change.Change.TheVariants as changes
 use Rattle.sak_exchange.specs.declared.held_key.Key.{Key}
-use Rattle.mka_station.specs.declared.reaction.Reaction.{Reaction}
-use Rattle.mka_station.specs.declared.verdict.Verdict.{Verdict}
-use Rattle.mka_station.specs.Hearing.{frame_turn}
 use Rattle.lan_core.specs.declared.event.Event.{Event}
 use Rattle.lan_core.specs.declared.event.Event.TheVariants as events
 use Rattle.lan_core.specs.declared.fact.Fact.{Fact}
@@ -23,14 +15,12 @@ use Rattle.lan_core.specs.declared.fact.Fact.TheVariants as facts
 use Rattle.lan_core.specs.declared.fact.Lack.{Lack}
 use Rattle.lan_core.specs.declared.fact.Lack.TheVariants.{NoKey}
 use Rattle.lan_core.specs.declared.settings.Settings.{Settings}
-use Rattle.lan_core.specs.Run.{Run, Happening, happened, stations}
-use Rattle.lan_core.specs.Ledgers.{Claim, claim_of, claims, gather, with_one, next_frame, frame_at}
-use Rattle.lan_core.specs.Lives.{Life, life, receiving, transmitting_at, drawn_mi}
-use Rattle.lan_core.specs.Claims.{next, shown_by, after_claim, is_epoch, waiting, frame_of_claim}
+use Rattle.lan_core.specs.Run.{Run, Happening, happened}
+use Rattle.lan_core.specs.Ledgers.{Claim, claim_of, claims, gather, with_one}
+use Rattle.lan_core.specs.Lives.{transmitting_at}
+use Rattle.lan_core.specs.Claims.{next, shown_by, after_claim, is_epoch}
 use Rattle.lan_core.specs.Claims.{user_at}
-use Rattle.lan_core.specs.Expected.{expected, drawn_in, tick_facts, reached_facts, restart_facts}
-use Rattle.lan_core.specs.Expected.{reaction_facts, change_fact}
-use Rattle.lan_core.specs.Expected.{claim_fact, number_fact, lack, emit_facts, last_number}
+use Rattle.lan_core.specs.Expected.{claim_fact, number_fact, lack, last_number}
 use Rattle.lan_core.specs.Legal.{IsStep, is_excused_by, none_ahead, is_unused, is_claim_of, unused}
 use Rattle.lan_core.specs.Legal.{IsThrifty}
 use Rattle.lan_core.specs.Stops.{MayCome, IsDemanded}
@@ -46,7 +36,7 @@ excused_claim : (settings : Settings) (s : ℕ) (r : Run) (pn : ℕ) (given name
 excused_claim settings s r pn given named None is none = rw (none, is) refl
 excused_claim settings s r pn given named (Some k) is (inl (none, over)) =
     rw (none, lt-ltb last_number (next settings s k.epoch r) over) refl
-excused_claim settings s r pn given named (Some k) is (inr (some, least, most, same, sendable)) =
+excused_claim settings s r pn given named (Some k) is (inr (some, least, most, same)) =
     rw (ne_eqb pn 0 (λ none. omega (arith, some, none))) refl
 
 excused_by : (settings : Settings) (users : List UserFrame) (r : Run) (given : Option UserFrame)
@@ -56,7 +46,7 @@ excused_by : (settings : Settings) (users : List UserFrame) (r : Run) (given : O
 excused_by settings users r given (events.Claim s user pn) shown is may =
     subst (λ shown. is_excused_by settings r none_ahead shown ≡ true) is
     (excused_claim settings s r pn given (user_at users user) (transmitting_at settings s r) refl
-    may.1)
+    may.2)
 excused_by settings users r given (events.Start name sci priority) shown is may =
     excused-other settings r none_ahead shown is
 excused_by settings users r given (events.Tick s next) shown is may =

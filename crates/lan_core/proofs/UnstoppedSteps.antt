@@ -21,7 +21,7 @@ use Rattle.lan_core.specs.Lives.{Life, life, seen_at, drawn_sak, sak_in, transmi
 use Rattle.lan_core.specs.Claims.{user_at}
 use Rattle.lan_core.specs.Expected.{expected, drawn_in, tick_facts, restart_facts}
 use Rattle.lan_core.specs.Types.{IsMi, IfDrawn}
-use Rattle.lan_core.specs.Order.{IsAllowed, IsShown, IsClaimable, IsSendable, IsOfSuite}
+use Rattle.lan_core.specs.Order.{IsAllowed, IsShown, IsClaimable, IsOfSuite}
 use Rattle.lan_core.specs.Legal.{IsStep, IsStepped, IsLegal}
 use Rattle.lan_core.specs.Fresh.{IsFresh, IsUnforged}
 use Rattle.lan_core.specs.Stops.{passed, stop_of_draw, stop_of_forgery, stop_at, first_stop}
@@ -98,12 +98,11 @@ shown-in-order settings s shown x r (Some k) (some, least) = (some, inl least)
 
 claimed-in-order : (settings : Settings) (s : ℕ) (r : Run) (pn : ℕ) (given named : Option UserFrame)
     (k : Option Key)
-    → IsDemanded settings s r pn given named k → (pn ≡ 0)
-    ⊎ (IsClaimable settings s r pn k × IsSendable named)
+    → IsDemanded settings s r pn given named k → (pn ≡ 0) ⊎ IsClaimable settings s r pn k
 claimed-in-order settings s r pn given named None none = inl none
 claimed-in-order settings s r pn given named (Some k) (inl (none, over)) = inl none
-claimed-in-order settings s r pn given named (Some k) (inr (some, least, most, same, sendable)) =
-    inr ((least, most), sendable)
+claimed-in-order settings s r pn given named (Some k) (inr (some, least, most, same)) =
+    inr (least, most)
 
 tick-shows : (settings : Settings) (users : List UserFrame) (s next : ℕ) (r : Run) (l : Life)
     (sak : Secret) (b : Bool)
@@ -184,8 +183,9 @@ fits settings users r given (events.Restart s) nth shown on enough =
 fits settings users r given (events.Claim s user pn) nth shown on enough = (
   (
     on.may_come.0,
+    on.may_come.1,
     claimed-in-order settings s r pn given (user_at users user) (transmitting_at settings s r)
-        on.may_come.1,
+        on.may_come.2,
   ),
   on.shows,
 )

@@ -81,7 +81,7 @@ abbrev pub IsClaimable : Settings → ℕ → Run → ℕ → Option Key → Typ
 IsClaimable settings s r pn None = ⊥
 IsClaimable settings s r pn (Some k) = (next settings s k.epoch r ≤ pn) × (pn ≤ last_number)
 
--- a claim of a number comes with a user frame
+-- a claim comes with a user frame
 abbrev pub IsSendable : Option UserFrame → Type 0
 IsSendable None = ⊥
 IsSendable (Some frame) = IsUserFrame frame
@@ -113,8 +113,8 @@ IsAllowed settings users r x (events.Deliver frame s) =
     Exists s r × (is_some (frame_at r frame) ≡ true)
 IsAllowed settings users r x (events.Restart s) = Exists s r × IfDrawn IsMi (drawn_mi x.facts)
 IsAllowed settings users r x (events.Claim s user pn) =
-    Exists s r × ((pn ≡ 0) ⊎ (IsClaimable settings s r pn (transmitting_at settings s r)
-    × IsSendable (user_at users user)))
+    Exists s r × IsSendable (user_at users user)
+    × ((pn ≡ 0) ⊎ IsClaimable settings s r pn (transmitting_at settings s r))
 IsAllowed settings users r x events.Emit = is_some (waiting settings r) ≡ true
 IsAllowed settings users r x (events.Inject s octets) =
     Exists s r × (length octets ≤ most_frame_octets)

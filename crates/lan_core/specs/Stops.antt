@@ -39,15 +39,14 @@ abbrev pub IsNextShown : Settings → ℕ → Run → ℕ → Option Key → Typ
 IsNextShown settings s r shown None = shown ≡ 0
 IsNextShown settings s r shown (Some k) = (1 ≤ shown) × (next settings s k.epoch r ≤ shown)
 
--- A claim of a packet number comes with its user frame. One without comes only where no number is
--- left.
+-- A claim of a packet number is given its user frame. One without a number comes only where none
+-- is left.
 abbrev pub IsDemanded : Settings → ℕ → Run → ℕ → Option UserFrame → Option UserFrame → Option Key
     → Type 0
 IsDemanded settings s r pn given named None = pn ≡ 0
 IsDemanded settings s r pn given named (Some k) =
     ((pn ≡ 0) × (last_number < next settings s k.epoch r))
-    ⊎ ((1 ≤ pn) × (next settings s k.epoch r ≤ pn) × (pn ≤ last_number) × (given ≡ named)
-    × IsSendable named)
+    ⊎ ((1 ≤ pn) × (next settings s k.epoch r ≤ pn) × (pn ≤ last_number) × (given ≡ named))
 
 -- an event may come, with the user frame that is given with it
 abbrev pub MayCome : Settings → List UserFrame → Run → Option UserFrame → Event → Type 0
@@ -58,8 +57,8 @@ MayCome settings users r given (events.Deliver frame s) =
     Exists s r × (is_some (frame_at r frame) ≡ true)
 MayCome settings users r given (events.Restart s) = Exists s r
 MayCome settings users r given (events.Claim s user pn) =
-    Exists s r × IsDemanded settings s r pn given (user_at users user)
-    (transmitting_at settings s r)
+    Exists s r × IsSendable (user_at users user)
+    × IsDemanded settings s r pn given (user_at users user) (transmitting_at settings s r)
 MayCome settings users r given events.Emit = is_some (waiting settings r) ≡ true
 MayCome settings users r given (events.Inject s octets) =
     Exists s r × (length octets ≤ most_frame_octets)

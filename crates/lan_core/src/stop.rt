@@ -11,8 +11,6 @@ use thiserror::Error;
 /// A limit of the profile, in the order in which they are judged.
 #[derive(Clone, Copy, Debug, PartialEq, Eq)]
 pub enum Which {
-    /// Octets of a trace, which the group itself doesn't meet.
-    Input,
     /// Frames on the air.
     Frames,
     /// Octets on the air.

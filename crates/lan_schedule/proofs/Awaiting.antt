@@ -83,4 +83,4 @@ waits-then w v s user pn tidy e may some =
     (transmitting_at (settings w) s w.run)))
     (one-more (settings w) s w.run pn user (named w event) (named w event)
     (transmitting_at (settings w) s w.run) (length (emitted w.run)) (pn == 0)
-    (claimed (settings w) w.run) refl some tidy.in_turn may.1))
+    (claimed (settings w) w.run) refl some tidy.in_turn may.2))

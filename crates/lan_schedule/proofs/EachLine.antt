@@ -20,8 +20,8 @@ use Rattle.lan_schedule.specs.declared.choices.Choices.{Choices}
 use Rattle.lan_schedule.specs.declared.choices.Keyed.{Keyed}
 use Rattle.lan_schedule.specs.declared.halt.Kind.{Kind}
 use Rattle.lan_schedule.specs.Settings.{no_choice, secret_of, unkeyed, settings_of}
-use Rattle.lan_schedule.specs.Races.{Chance}
-use Rattle.lan_schedule.specs.World.{World, Kept, beginning, settings, place, mark}
+use Rattle.lan_schedule.specs.Races.{Chance, Phase, Apart}
+use Rattle.lan_schedule.specs.World.{World, Kept, beginning, settings, place, mark, is_racing}
 use Rattle.lan_schedule.specs.Acts.{Act, Course, Goes, Stops, happen, change}
 use Rattle.lan_schedule.specs.Acts.{perform, and_then, world_of, course, times}
 use Rattle.lan_schedule.specs.Kinds.{may_list, refusal, refusal_read}
@@ -130,6 +130,7 @@ record IsReady (n : ℕ) (w : World) : Type 0 where
   chosen : AreChosen w.kept.chosen
   keyed : w.kept.begun ≡ true → is_some w.kept.chosen.group ≡ true
   calm : w.kept.raced ≡ false
+  apart : w.kept.phase ≡ Apart
   bounded : AreBounded (settings w) w.run
   tidy : IsTidy w
 
@@ -139,6 +140,7 @@ ready-first chances = record {
   chosen = chosen-first;
   keyed = λ e. absurd (cc e);
   calm = refl;
+  apart = refl;
   bounded = bounded-first (settings (beginning chances));
   tidy = tidy-beginning chances;
 }
@@ -149,6 +151,7 @@ opened n w ready begun = record {
   users = let few = ready.users in omega (arith, few);
   begun = begun;
   calm = ready.calm;
+  apart = ready.apart;
   bounded = ready.bounded;
   tidy = ready.tidy;
 }
@@ -160,6 +163,7 @@ ready-again n chosen w are keyed now = record {
   chosen = subst (λ (c : Choices). AreChosen c) (sym now.same) are;
   keyed = λ begun. subst (λ (c : Choices). is_some c.group ≡ true) (sym now.same) keyed;
   calm = now.calm;
+  apart = now.apart;
   bounded = now.bounded;
   tidy = now.tidy;
 }
@@ -183,6 +187,7 @@ chosen-ready n line b w form ready allowed tidy =
       chosen = chosen-stays line form w.kept.chosen ready.chosen;
       keyed = λ begun. absurd (let bad : true ≡ false = sym begun ∙ before in cc bad);
       calm = ready.calm;
+      apart = ready.apart;
       bounded = subst (λ r. AreBounded later r) (sym (ready.tidy.waits before))
           (bounded-first later);
       tidy = tidy;
@@ -210,6 +215,7 @@ station-ready n act w below mild ready keyed tidy comes =
       chosen = ready.chosen;
       keyed = λ begun. keyed;
       calm = ready.calm;
+      apart = ready.apart;
       bounded = ready.bounded;
       tidy = tidy;
     }) refl comes
@@ -231,6 +237,7 @@ send-ready n s user w below ready begun tidy comes =
           let few = ready.users in omega (arith, one, few);
       begun = begun;
       calm = ready.calm;
+      apart = ready.apart;
       bounded = ready.bounded;
       tidy = tidy;
     } in
@@ -291,11 +298,11 @@ deed-ready n (lines.Lose frame) w below form ready right comes =
     (mild-mark (suc n) frame) ready right.allowed comes
 deed-ready n (lines.Cut from to) w below form ready right comes =
     mild-ready n (change (cut_in (place w from) (place w to))) w below
-    (λ kept. record { chosen = refl; users = refl; begun = refl; raced = refl }) ready
+    (λ kept. record { chosen = refl; users = refl; begun = refl; raced = refl; phase = refl }) ready
     right.allowed comes
 deed-ready n (lines.Mend from to) w below form ready right comes =
     mild-ready n (change (mended_in (place w from) (place w to))) w below
-    (λ kept. record { chosen = refl; users = refl; begun = refl; raced = refl }) ready
+    (λ kept. record { chosen = refl; users = refl; begun = refl; raced = refl; phase = refl }) ready
     right.allowed comes
 deed-ready n (lines.Restart name) w below form ready right comes =
     mild-ready n (happen (Restart (place w name))) w below tt ready right.allowed comes
@@ -307,7 +314,7 @@ deed-ready n (lines.Inject name octets) w below form ready right comes =
     (bytes-all octets form.fits.1.0.2) ready right.allowed comes
 deed-ready n line w below form ready right comes =
     mild-ready n (deed line w) w below
-    (λ kept. record { chosen = refl; users = refl; begun = refl; raced = refl }) ready
+    (λ kept. record { chosen = refl; users = refl; begun = refl; raced = refl; phase = refl }) ready
     right.allowed comes
 
 more-ready : (n : ℕ) (w : World) → IsReady n w → IsReady (suc n) w
@@ -316,6 +323,7 @@ more-ready n w ready = record {
   chosen = ready.chosen;
   keyed = ready.keyed;
   calm = ready.calm;
+  apart = ready.apart;
   bounded = ready.bounded;
   tidy = ready.tidy;
 }
@@ -350,23 +358,24 @@ text-ready n text w below ready =
       chosen = ready.chosen;
       keyed = ready.keyed;
       calm = ready.calm;
+      apart = ready.apart;
       bounded = ready.bounded;
       tidy = tidy-same w kept ready.tidy refl refl refl refl refl (λ e. e) (λ e. e);
     }) refl
 
--- a tidy world in which no race was begun
+-- a tidy world in which no race was begun, and none is performed
 abbrev pub IsCalm : World → Type 0
-IsCalm w = IsTidy w × (w.kept.raced ≡ false)
+IsCalm w = IsTidy w × (w.kept.raced ≡ false) × (is_racing w.kept.phase ≡ false)
 
 then-calm : (n : ℕ) (out : Course) (later : Act) → IsReady n (world_of out)
     → ((v : World) → IsReady n v → IsCalm (world_of (perform later v)))
     → IsCalm (world_of (and_then out (λ v. perform later v)))
 then-calm n (Goes v) later ready next = next v ready
-then-calm n (Stops v halt) later ready next = (ready.tidy, ready.calm)
+then-calm n (Stops v halt) later ready next = (ready.tidy, ready.calm, ap is_racing ready.apart)
 
 texts-calm : (n : ℕ) (texts : List (List ℕ)) (w : World) → n + length texts < 2 ^ 32
     → IsReady n w → IsCalm (world_of (perform (performed_all texts) w))
-texts-calm n [] w below ready = (ready.tidy, ready.calm)
+texts-calm n [] w below ready = (ready.tidy, ready.calm, ap is_racing ready.apart)
 texts-calm n (text ∷ texts) w below ready =
     then-calm (suc n) (perform (performed text) w) (performed_all texts)
     (text-ready n text w (omega (arith, below)) ready)

@@ -269,36 +269,33 @@ lt-false : (a b : ℕ) → nat_lt a b ≡ false → b ≤ a
 lt-false a b e = grind arith
 
 by-range : (n : ℕ) (user : Option UserFrame) (b : Bool) → nat_lt last_number n ≡ b → 1 ≤ n
-    → IsSendable user
     → ((cond b 0 n ≡ 0) × (last_number < n))
-    ⊎ ((1 ≤ cond b 0 n) × (n ≤ cond b 0 n) × (cond b 0 n ≤ last_number) × (user ≡ user)
-    × IsSendable user)
-by-range n user true e one sendable = inl (refl, lt-true last_number n e)
-by-range n user false e one sendable =
-    inr (one, omega arith, lt-false last_number n e, refl, sendable)
+    ⊎ ((1 ≤ cond b 0 n) × (n ≤ cond b 0 n) × (cond b 0 n ≤ last_number) × (user ≡ user))
+by-range n user true e one = inl (refl, lt-true last_number n e)
+by-range n user false e one =
+    inr (one, omega arith, lt-false last_number n e, refl)
 
 -- a claim of the next number comes with its user frame, or no number is left
 demanded : (settings : Settings) (s : ℕ) (r : Run) (user : Option UserFrame) (k : Option Key)
-    → IsSendable user
     → IsDemanded settings s r (in_range (next_under settings s r k)) user user k
-demanded settings s r user None sendable = refl
-demanded settings s r user (Some k) sendable =
+demanded settings s r user None = refl
+demanded settings s r user (Some k) =
     by-range (next settings s k.epoch r) user (nat_lt last_number (next settings s k.epoch r)) refl
-    (one-at-least settings s k.epoch r) sendable
+    (one-at-least settings s k.epoch r)
 
 -- a number that stands comes with its user frame
 fits-demanded : (settings : Settings) (s : ℕ) (r : Run) (user : Option UserFrame) (k : Option Key)
-    (raced b : Bool) (number : ℕ) → IsSendable user
+    (raced b : Bool) (number : ℕ)
     → (stands raced (next_under settings s r k) number && nat_le number last_number) ≡ b
     → IsDemanded settings s r (cond b number (in_range (next_under settings s r k))) user user k
-fits-demanded settings s r user k raced false number sendable e = demanded settings s r user k sendable
-fits-demanded settings s r user k false true number sendable e = absurd (cc e)
-fits-demanded settings s r user None true true number sendable e = absurd (cc e)
-fits-demanded settings s r user (Some k) true true number sendable e =
+fits-demanded settings s r user k raced false number e = demanded settings s r user k
+fits-demanded settings s r user k false true number e = absurd (cc e)
+fits-demanded settings s r user None true true number e = absurd (cc e)
+fits-demanded settings s r user (Some k) true true number e =
     let next : next settings s k.epoch r ≤ number = grind arith in
     let low : number ≤ last_number = grind arith in
     let one = one-at-least settings s k.epoch r in
-    inr (omega (arith, one, next), next, low, refl, sendable)
+    inr (omega (arith, one, next), next, low, refl)
 
 unless-comes : (b : Bool) (act : Act) (w : World) → (b ≡ false → Comes act w)
     → Comes (unless b act) w
@@ -321,9 +318,10 @@ claim-comes s user w tidy few is_user there =
     let may : MayCome (settings v) v.kept.users v.run (named v (events.Claim s n pn))
     (events.Claim s n pn) = (
       there,
+      sendable,
       fits-demanded (settings v) s v.run (user_at v.kept.users n)
           (transmitting_at (settings v) s v.run) v.kept.raced _ (number_in v.kept.chances)
-          sendable refl,
+          refl,
     ) in
     let longer : n ≡ length w.kept.users + 1 = length-append w.kept.users (user ∷ []) in
     let room : HasRoom v n = λ calm. (

@@ -27,6 +27,7 @@ use Rattle.lan_core.specs.Unstopped.{next_under}
 use Rattle.lan_core.proofs.Public.{number-frame, in-a-life}
 use Rattle.lan_schedule.specs.declared.choices.Choices.{Choices}
 use Rattle.lan_schedule.specs.Settings.{settings_of}
+use Rattle.lan_schedule.specs.Races.{Phase, Apart}
 use Rattle.lan_schedule.specs.World.{World, Kept, settings, count, sender, mark}
 use Rattle.lan_schedule.specs.Numbers.{shown_next, number_claimed}
 use Rattle.lan_schedule.proofs.Calm.{calm-shown, calm-claimed}
@@ -126,6 +127,7 @@ pub record IsAside (old new : Kept) : Type 0 where
   pub users : new.users ≡ old.users
   pub begun : new.begun ≡ old.begun
   pub raced : new.raced ≡ old.raced
+  pub phase : new.phase ≡ old.phase
 
 -- an event has fields of their types, where at most so many user frames were sent
 abbrev pub IsFit : ℕ → Event → Type 0
@@ -151,6 +153,7 @@ pub record IsOpen (n : ℕ) (chosen : Choices) (w : World) : Type 0 where
   pub users : length w.kept.users ≤ n
   pub begun : w.kept.begun ≡ true
   pub calm : w.kept.raced ≡ false
+  pub apart : w.kept.phase ≡ Apart
   pub bounded : AreBounded (settings w) w.run
   pub tidy : IsTidy w
 
@@ -223,6 +226,7 @@ happened-open n chosen event w below setting fit now comes goes =
       users = now.users;
       begun = now.begun;
       calm = now.calm;
+      apart = now.apart;
       bounded = stays-bounded (settings w) w.kept.users w.run event
           (drawn_from (settings w).suite (supply w)) (facts_shown w event) now.bounded
           (leaves-none w event now.calm comes.1) (takes-one w event now.calm comes.1) shows;
@@ -248,6 +252,7 @@ change-open n chosen f w aside now tidy = record {
   users = subst (λ (us : List UserFrame). length us ≤ n) (sym aside.users) now.users;
   begun = aside.begun ∙ now.begun;
   calm = aside.raced ∙ now.calm;
+  apart = aside.phase ∙ now.apart;
   bounded = subst (λ (c : Choices). AreBounded (settings_of c) w.run) (sym aside.chosen)
       now.bounded;
   tidy = tidy;
@@ -317,7 +322,7 @@ mild-to_others n number from = λ w few.
     mild-span n (pass number from) 0 (count w) (λ s. mild-pass n number from s)
 
 pub mild-mark : (n number : ℕ) → IsMild n (change (mark number))
-mild-mark n number = λ kept. record { chosen = refl; users = refl; begun = refl; raced = refl }
+mild-mark n number = λ kept. record { chosen = refl; users = refl; begun = refl; raced = refl; phase = refl }
 
 pub mild-spread : (n number : ℕ) → IsMild n (spread number)
 mild-spread n number = λ w few.
@@ -325,7 +330,7 @@ mild-spread n number = λ w few.
 
 mild-flow_round : (n : ℕ) → IsMild n flow_round
 mild-flow_round n = (
-  λ kept. record { chosen = refl; users = refl; begun = refl; raced = refl },
+  λ kept. record { chosen = refl; users = refl; begun = refl; raced = refl; phase = refl },
   (mild-round n, λ w few. mild-each n spread (due w) (λ number. mild-spread n number)),
 )
 

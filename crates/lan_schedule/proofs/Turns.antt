@@ -24,7 +24,7 @@ use Rattle.lan_core.specs.Claims.{frame_by, frame_of_claim}
 use Rattle.lan_core.specs.Expected.{expected, Drawn, drawn_in, tick_facts, reached_facts}
 use Rattle.lan_core.specs.Expected.{reaction_facts, restart_facts, claim_fact}
 use Rattle.lan_core.specs.Expected.{number_fact, lack, emit_facts}
-use Rattle.lan_core.specs.Order.{Exists, IsAllowed, IsClaimable, IsSendable}
+use Rattle.lan_core.specs.Order.{Exists, IsAllowed, IsSendable}
 use Rattle.lan_core.specs.Legal.{IsStep, IsStepped}
 use Rattle.lan_core.proofs.Public.{mapped, chained, reaction-air}
 use Rattle.lan_schedule.proofs.Coming.{AllHave, all-more}
@@ -47,27 +47,19 @@ have-at P (y ∷ ys) zero x all is = let same : y ≡ x = cc is in subst P same 
 have-at P (y ∷ ys) (suc n) x all is = have-at P ys n x all.1 is
 
 under-have : (users : List UserFrame) (r : Run) (s user pn : ℕ) (k : Option Key) (b : Bool)
-    → (pn == 0) ≡ b → Exists s r → (b ≡ false → IsSendable (user_at users user))
+    → (pn == 0) ≡ b → Exists s r → IsSendable (user_at users user)
     → AllHave (HasFrame users r) (waiting_under s user pn k)
 under-have users r s user pn None b is there sendable = tt
 under-have users r s user pn (Some k) true is there sendable = rw is tt
 under-have users r s user pn (Some k) false is there sendable =
-    rw is ((there, sendable refl), tt)
-
-some-number : (users : List UserFrame) (settings : Settings) (s user pn : ℕ) (r : Run)
-    (k : Option Key) → (pn == 0) ≡ false
-    → (pn ≡ 0) ⊎ (IsClaimable settings s r pn k × IsSendable (user_at users user))
-    → IsSendable (user_at users user)
-some-number users settings s user pn r k some (inl none) =
-    absurd (let bad : (0 == 0) ≡ false = subst (λ (n : ℕ). (n == 0) ≡ false) none some in cc bad)
-some-number users settings s user pn r k some (inr claimed) = claimed.1
+    rw is ((there, sendable), tt)
 
 new-have : (settings : Settings) (users : List UserFrame) (r : Run) (x : Happening) (event : Event)
     → IsAllowed settings users r x event
     → AllHave (HasFrame users r) (claimed_by settings r event)
 new-have settings users r x (events.Claim s user pn) allowed =
     under-have users r s user pn (transmitting_at settings s r) (pn == 0) refl allowed.0
-    (λ some. some-number users settings s user pn r (transmitting_at settings s r) some allowed.1)
+    allowed.1
 new-have settings users r x (events.Start name sci priority) allowed = tt
 new-have settings users r x (events.Tick s next) allowed = tt
 new-have settings users r x (events.Deliver frame s) allowed = tt

@@ -73,4 +73,4 @@ waits-then settings users r given s user pn drawn shown turn may is some =
     let still = claim-air settings users r s user pn drawn shown is in
     rw still (one-more settings s r pn user given (user_at users user)
     (transmitting_at settings s r) (length (emitted r)) (pn == 0) (claimed settings r) refl some
-    turn may.1)
+    turn may.2)

@@ -116,11 +116,11 @@ module _ (users : List UserFrame) (base : ℕ) (ans : ℕ → ℕ → Associatio
     there = subst (λ s. Exists s r) (sym is.of_station) there;
     place = subst (λ s. s < 2 ^ 8) (sym is.of_station) place;
     user = number;
+    sendable = sendable;
     taken = λ taken. (
       is.range.0,
       (let high = is.range.1 in omega (arith, high)),
       subst (λ s. p.an ≡ ans s p.epoch) (sym is.of_station) (are p.an p.epoch told.pointed),
-      sendable,
     );
     none = λ none. absurd (cc none);
   }
@@ -128,6 +128,7 @@ module _ (users : List UserFrame) (base : ℕ) (ans : ℕ → ℕ → Associatio
     there = subst (λ s. Exists s r) (sym is.0) there;
     place = subst (λ s. s < 2 ^ 8) (sym is.0) place;
     user = number;
+    sendable = sendable;
     taken = λ taken. absurd (cc taken);
     none = λ none. refl;
   }

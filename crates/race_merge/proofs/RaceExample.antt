@@ -182,7 +182,8 @@ attempt-taken s pn log there few low high sendable = record {
   there = there-before s there;
   place = omega (arith, there);
   user = omega (arith, few);
-  taken = λ t. (low, omega (arith, high), refl, sendable);
+  sendable = sendable;
+  taken = λ t. (low, omega (arith, high), refl);
   none = λ t. absurd (cc t);
 }
 
@@ -191,6 +192,7 @@ attempt-refused = record {
   there = there-before 1 (omega arith);
   place = omega arith;
   user = omega arith;
+  sendable = a-user;
   taken = λ t. absurd (cc t);
   none = λ t. refl;
 }

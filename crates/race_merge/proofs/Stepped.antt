@@ -267,7 +267,7 @@ module _ (settings : Settings) (users : List UserFrame) (base : ℕ) (ans : ℕ 
   unfolding expected
   claim-step pointed past zs q c x a setting within stepped claim some order = record {
     setting = setting;
-    in_order = (typed, (there, allowed));
+    in_order = (typed, (there, claim.sendable, allowed));
     shows = always-some (life settings x.station q) _ (in-a-life settings users x.station q stepped there);
     within = within-same settings (claim_after settings base x q ∷ q) q
         (alike-claim settings x.station (user_of base x) x.number
@@ -293,12 +293,11 @@ module _ (settings : Settings) (users : List UserFrame) (base : ℕ) (ans : ℕ 
             (claim.taken taken).1,
           )
 
-      allowed : (x.number ≡ 0) ⊎ (IsClaimable settings x.station q x.number (transmitting_at settings x.station q)
-          × IsSendable (user_at users (user_of base x)))
+      allowed : (x.number ≡ 0) ⊎ IsClaimable settings x.station q x.number (transmitting_at settings x.station q)
       allowed = elim (cases_Bool x.refused) [
         | inl refused ↦ inl (claim.none refused)
         | inr taken ↦ (let k = claim-key pointed past zs q c x a claim order taken (some taken) in
-            inr (numbered-at k.0 k.1 k.2 taken, (claim.taken taken).3))
+            inr (numbered-at k.0 k.1 k.2 taken))
       ]
 
   -- what a claim leaves

@@ -103,8 +103,9 @@ pub record IsAttempt (users : List UserFrame) (base : ℕ) (ans : ℕ → ℕ �
   pub there : Exists x.station r
   pub place : x.station < 2 ^ 8
   pub user : user_of base x < 2 ^ 32
+  pub sendable : IsSendable (user_at users (user_of base x))
   pub taken : x.refused ≡ false → (1 ≤ x.number) × (x.number ≤ last_number)
-      × (x.an ≡ ans x.station x.epoch) × IsSendable (user_at users (user_of base x))
+      × (x.an ≡ ans x.station x.epoch)
   pub none : x.refused ≡ true → x.number ≡ 0
 
 -- A race after a run: control, by what its words were told, and the logs, by what the seats and the

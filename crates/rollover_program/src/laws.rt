@@ -1,18 +1,36 @@
 //! What holds of every run that lines make.
 
-ghost use Rattle.std.specs.Prelude.{◌≡◌, false};
+ghost use Rattle.std.specs.Prelude.{◌≡◌, ℕ, false, List};
+ghost use Rattle.lan_schedule.specs.Acts.{course, world_of};
+ghost use Rattle.lan_schedule.specs.Races.{Chance};
 ghost use Rattle.lan_schedule.specs.Sound.{IsTidy};
 ghost use Rattle.lan_schedule.specs.World.{World, is_racing};
+ghost use Rattle.replay.specs.Runs.{within};
 ghost use Rattle.rollover_program.specs.Headline.{IsPromised};
 
 use group_safety::{law_hitless, law_once, law_one_key};
+use lan_schedule::law_lines_leave_a_tidy_world;
+use text_lines::law_lines_are_few;
+use transcript::law_a_run_is_cut_into_its_events;
 
 /// All that is promised holds of the run of each tidy world outside a race: one use of each packet
-/// number, one key under each identifier, and hitless rollovers.
+/// number, one key under each identifier, and hitless rollovers; and its facts tell its events.
 pub fn law_tidy_runs_are_promised()
     ensures { (w : World) → IsTidy w → is_racing w.kept.phase ≡ false → IsPromised w }
 {
     law_once();
     law_one_key();
     law_hitless();
+    law_a_run_is_cut_into_its_events();
+}
+
+/// All that is promised holds of the run of every text, whatever chance decides: of what its lines
+/// perform that end within the limit of the input.
+pub fn law_each_text_is_promised()
+    ensures { (text : List ℕ) (chances : List Chance)
+        → IsPromised (world_of (course (within text) chances)) }
+{
+    law_lines_are_few();
+    law_lines_leave_a_tidy_world();
+    law_tidy_runs_are_promised();
 }

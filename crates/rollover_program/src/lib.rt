@@ -10,7 +10,7 @@ mod words;
 
 pub use lan_core::Which;
 pub use lan_schedule::Kind;
-pub use laws::law_tidy_runs_are_promised;
+pub use laws::{law_each_text_is_promised, law_tidy_runs_are_promised};
 pub use replay::Cause;
 pub use status::Status;
 pub use top::rollover;

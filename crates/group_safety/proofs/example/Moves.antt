@@ -270,7 +270,7 @@ claim-moves users ps r ls s user pn k f v shows exists typed sends_now some leas
       plain = λ t octets e. absurd (none-some e);
       short = λ y i. v.short y (subst (λ w. In y w) on_air i);
       in_order =
-          (typed, (subst (λ w. s < length w) (sym v.there) exists, inr (claimable, sendable)));
+          (typed, (subst (λ w. s < length w) (sym v.there) exists, sendable, inr claimable));
       shows = ap (option_map (λ l. claim_fact settings s r pn (transmitting_at settings s r) ∷ []))
           (v.living s exists)
           ∙ ap (λ o. Some (claim_fact settings s r pn o ∷ [])) transmits

@@ -229,21 +229,20 @@ numbered-kept settings users s user pn key f r shows k sends least sendable clai
 claim-by : (settings : Settings) (users : List UserFrame) (s user pn : ℕ) (f : List Fact) (r : Run)
     (o : Option Key)
     → transmitting_at settings s r ≡ o → claim_fact settings s r pn o ∷ [] ≡ f
-    → (pn ≡ 0) ⊎ (IsClaimable settings s r pn o × IsSendable (user_at users user))
+    → IsSendable (user_at users user) → (pn ≡ 0) ⊎ IsClaimable settings s r pn o
     → IsKnown settings users r → IsKnown settings users (happened (events.Claim s user pn) f ∷ r)
-claim-by settings users s user pn f r o sends shows order k = go (pn == 0) refl
+claim-by settings users s user pn f r o sends shows sendable order k = go (pn == 0) refl
   where
     taken : claimed_by settings r (events.Claim s user pn) ≡ waiting_under s user pn o
     taken = ap (waiting_under s user pn) sends
 
     numbered : (q : Option Key) → o ≡ q → (pn == 0) ≡ false
-        → number_fact s pn q ∷ [] ≡ f → (pn ≡ 0)
-        ⊎ (IsClaimable settings s r pn q × IsSendable (user_at users user))
+        → number_fact s pn q ∷ [] ≡ f → (pn ≡ 0) ⊎ IsClaimable settings s r pn q
         → IsKnown settings users (happened (events.Claim s user pn) f ∷ r)
     numbered q is other shown (inl e) = absurd (eqb-false pn 0 other e)
-    numbered None is other shown (inr c) = absurd c.0
+    numbered None is other shown (inr c) = absurd c
     numbered (Some key) is other shown (inr c) =
-        numbered-kept settings users s user pn key f r shown k (sends ∙ is) c.0.0 c.1
+        numbered-kept settings users s user pn key f r shown k (sends ∙ is) c.0 sendable
         (taken ∙ ap (waiting_under s user pn) is
         ∙ ap (λ b. cond b [] (record { station = s; key = key; pn = pn; user = user } ∷ []))
         other)
@@ -274,7 +273,7 @@ claim-kept settings users s user pn f r step k =
     let found = mapped (λ l. claim_fact settings s r pn (transmitting_at settings s r) ∷ [])
     (life settings s r) f step.shows in
     claim-by settings users s user pn f r (transmitting_at settings s r) refl found.2
-    step.in_order.1.1 k
+    step.in_order.1.1 step.in_order.1.2 k
 
 -- ---- a protected frame
 

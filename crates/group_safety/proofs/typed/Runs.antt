@@ -590,12 +590,6 @@ claim-comes settings users s user pn f r step old =
         lacking false = tt
     claimed-fact (Some k) e false = (epoch-small k e, step.in_order.0.2)
 
-    sendable : (pn ≡ 0 → ⊥) → IsSendable (user_at users user)
-    sendable other = elim step.in_order.1.1 [
-      | inl none ↦ absurd (other none)
-      | inr both ↦ both.1
-    ]
-
     waits-on : (o : Option Key) → transmitting_at settings s r ≡ o
         → (w : Waiting) → In w (waiting_under s user pn o) → IsWaiting users w
     waits-on None e w i = elim i [ ]
@@ -608,7 +602,7 @@ claim-comes settings users s user pn f r step old =
         go false z j = elim j [
           | inl same ↦ subst (IsWaiting users) (sym same) (record {
             sak = (transmits-typed settings users s r k old e).sak;
-            user = sendable (eqb-false pn 0 z);
+            user = step.in_order.1.1;
           })
           | inr none ↦ no-wait users w none
         ]

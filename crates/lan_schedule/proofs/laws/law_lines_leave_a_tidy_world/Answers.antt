@@ -10,3 +10,6 @@ returns-clause-lines c = λ chances lines below. (lines-calm chances lines below
 
 pub returns-clause-calm : goal.returns-clause-calm
 returns-clause-calm c = λ chances lines below. (lines-calm chances lines below).1
+
+pub returns-clause-apart : goal.returns-clause-apart
+returns-clause-apart c = λ chances lines below. (lines-calm chances lines below).2

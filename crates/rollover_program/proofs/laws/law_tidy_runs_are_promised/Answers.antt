@@ -17,4 +17,7 @@ returns c = λ w tidy calm.
       hitless =
           c.law_hitless.ensures.legal (settings w) w.kept.users w.run s.legal s.fresh s.unforged;
       dealt = tidy.dealt;
+      cut =
+          c.law_a_run_is_cut_into_its_events.ensures.whole (settings w) w.kept.users w.run
+          s.legal.stepped;
     }

@@ -33,7 +33,7 @@ returns-clause-answers c settings users r nth number stands comes =
       drawn = now.drawn;
     }) c.in_ok-facts.facts)
     (sym c.in_ok-claimed.ensures.same)
-    (claim-goes-on settings users r _ st s number c.args.pn user comes.1 place.0 place.1.0 there
+    (claim-goes-on settings users r _ st s number c.args.pn user comes.1 comes.2 place.0 place.1.0 there
     c.in-Some.claimed.key claims.key c.in-Some.claimed.octets claims.none claims.octets
     nth c.in_ok-facts.facts told c.wait.new.waiting c.in_ok-wait.ensures)
 

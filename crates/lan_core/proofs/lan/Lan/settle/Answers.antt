@@ -1,7 +1,7 @@
-use Rattle.std.proofs.Common.{◌≡◌, ◌++◌, List, map, sym, ap, ◌∙◌, subst, Result, Ok, Err, OnOk}
+use Rattle.std.proofs.Common.{◌≡◌, ◌++◌, List, sym, ap, ◌∙◌, subst, Result, Ok, Err, OnOk}
 use Rattle.lan_core.specs.declared.waiting.Sealed.{Sealed}
 use Rattle.lan_core.specs.Standing.{StandsFor}
-use Rattle.lan_core.specs.Parts.{followed_by, without_claims, sealed_from}
+use Rattle.lan_core.specs.Parts.{followed_by, without_claims}
 use Rattle.lan_core.proofs.SettledPart.{settles-part}
 use Rattle.lan_core.proofs.lan.Lan.settle.Goals as goal
 
