@@ -1,12 +1,11 @@
 -- The words of all stations take the step of an event.
-use Rattle.std.proofs.Common.{◌≡◌, List, [], ◌∷◌, ◌++◌, length, sym, ap, ◌∙◌, append-nil, refl}
-use Rattle.lan_base.specs.declared.frame.UserFrame.{UserFrame}
+use Rattle.std.proofs.Common.{◌≡◌, List, [], ◌++◌, length, sym, ap, ◌∙◌, append-nil, refl}
 use Rattle.association_slots.specs.Views.{ControlAt}
 use Rattle.lan_core.specs.declared.event.Event.{Event}
 use Rattle.lan_core.specs.declared.event.Event.TheVariants as events
 use Rattle.lan_core.specs.declared.settings.Settings.{Settings}
 use Rattle.lan_core.specs.Run.{Run, Profile, stations}
-use Rattle.transmit_words.specs.Ties.{AreTied, AreAhead}
+use Rattle.transmit_words.specs.Ties.{AreAhead}
 use Rattle.lan_schedule.specs.inside.Set.{AreSet}
 
 none-more : (r : Run) (cs : List ControlAt) → length cs ≡ length (stations r)

@@ -20,7 +20,7 @@ use Rattle.lan_schedule.specs.declared.choices.Choices.{Choices}
 use Rattle.lan_schedule.specs.declared.choices.Keyed.{Keyed}
 use Rattle.lan_schedule.specs.declared.halt.Kind.{Kind}
 use Rattle.lan_schedule.specs.Settings.{no_choice, secret_of, unkeyed, settings_of}
-use Rattle.lan_schedule.specs.Races.{Chance, Phase, Apart}
+use Rattle.lan_schedule.specs.Races.{Chance, Apart}
 use Rattle.lan_schedule.specs.World.{World, Kept, beginning, settings, place, mark, is_racing}
 use Rattle.lan_schedule.specs.Acts.{Act, Course, Goes, Stops, happen, change}
 use Rattle.lan_schedule.specs.Acts.{perform, and_then, world_of, course, times}

@@ -191,7 +191,7 @@ chosen-comes line form b w tidy e =
 -- what is kept and no world looks at leaves a world tidy
 pub tidy-same : (w : World) (kept : Kept) → IsTidy w → kept.chosen ≡ w.kept.chosen
     → kept.users ≡ w.kept.users
-    → kept.frames ≡ w.kept.frames → kept.phase ≡ w.kept.phase → kept.races ≡ w.kept.races 
+    → kept.frames ≡ w.kept.frames → kept.phase ≡ w.kept.phase → kept.races ≡ w.kept.races
     → (kept.begun ≡ false → w.kept.begun ≡ false)
     → (kept.raced ≡ false → w.kept.raced ≡ false)
     → IsTidy (record w { kept = kept })

@@ -27,7 +27,7 @@ use Rattle.lan_core.specs.Unstopped.{next_under}
 use Rattle.lan_core.proofs.Public.{number-frame, in-a-life}
 use Rattle.lan_schedule.specs.declared.choices.Choices.{Choices}
 use Rattle.lan_schedule.specs.Settings.{settings_of}
-use Rattle.lan_schedule.specs.Races.{Phase, Apart}
+use Rattle.lan_schedule.specs.Races.{Apart}
 use Rattle.lan_schedule.specs.World.{World, Kept, settings, count, sender, mark}
 use Rattle.lan_schedule.specs.Numbers.{shown_next, number_claimed}
 use Rattle.lan_schedule.proofs.Calm.{calm-shown, calm-claimed}

@@ -107,7 +107,8 @@ impl Stage {
             Err(StepError::Memory) => return Err(Halt::Memory),
         };
         self.frames.put(facts.as_slice())?;
-        self.words.follow(self.alloc, &self.lan, event, facts.as_slice(), gate)?;
+        self.words
+            .follow(self.alloc, &self.lan, event, facts.as_slice(), gate)?;
         admit(&mut self.names, &mut self.scis, event)?;
         count_all(&mut self.tally, facts.as_slice());
         recorder.record(&self.names, facts, outlet)?;
@@ -219,7 +220,13 @@ impl Stage {
                 priority,
             } => self.start(*name, *sci, *priority, recorder, outlet, gate),
             Line::Tick { rounds } => self.rounds(*rounds, recorder, outlet, gate),
-            Line::TickOne { name, ticks } => self.ticks(self.place(name), *ticks, recorder, outlet, gate),
+            Line::TickOne { name, ticks } => self.ticks(
+                self.place(name),
+                *ticks,
+                recorder,
+                outlet,
+                gate,
+            ),
             Line::Flow { rounds } => self.flow(*rounds, recorder, outlet, gate),
             Line::Deliver { frame, name } => self.deliver(
                 *frame,
@@ -294,7 +301,8 @@ impl Stage {
         ensures { Did R.Took R.Broke (happen (events.Deliver frame station))
             (moment self.old outlet.old) (moment self.new outlet.new) result }
     {
-        self.happen(&Event::Deliver { frame, station }, None, recorder, outlet, gate)
+        let deliver = Event::Deliver { frame, station };
+        self.happen(&deliver, None, recorder, outlet, gate)
     }
 
     /// A frame waits for no round any more.
@@ -369,7 +377,8 @@ impl Stage {
     {
         let octets = octets.copied(self.alloc)?;
         octets.as_slice();
-        self.happen(&Event::Inject { station, octets }, None, recorder, outlet, gate)
+        let inject = Event::Inject { station, octets };
+        self.happen(&inject, None, recorder, outlet, gate)
     }
 }
 

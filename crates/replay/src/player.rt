@@ -21,7 +21,8 @@ impl<K, R: Recorder<K>, G: Gate> LineTaker<K> for Player<'_, R, G> {
     ghost Did = { DidLines R.Took R.Broke (λ at. at.taker.replay) };
 
     fn line(&mut self, text: &[u8], outlet: &mut K) -> Result<(), Halt> {
-        self.replay.text(text, &mut self.recorder, outlet, self.gate)
+        self.replay
+            .text(text, &mut self.recorder, outlet, self.gate)
     }
 
     ghost none = { λ a. does-none _ };
