@@ -44,8 +44,10 @@ pub use Rattle.group_safety.proofs.rollover.KeyFacts.{received-installed, transm
 pub use Rattle.group_safety.proofs.rollover.Leads.{one-epoch}
 -- Facts that come one after the other move what transmits one after the other.
 pub use Rattle.group_safety.proofs.moves.Moving.{follow-append}
--- The next number of an account is that of the run.
+-- The next number of an account is that of the run. Where events are exact, next numbers grow by
+-- claims.
 pub use Rattle.group_safety.proofs.moves.Accounting.{next-told}
+pub use Rattle.group_safety.proofs.moves.Growing.{few}
 -- A run of two stations: what holds of it once the first one transmits, and after the next event,
 -- in which the other one begins the same key. And what no next number is above.
 pub use Rattle.group_safety.proofs.example.Scene.{Scene, settings, most_next, next-most}

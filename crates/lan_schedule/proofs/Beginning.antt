@@ -3,7 +3,7 @@ use Rattle.std.proofs.Common.{List, [], refl, arith}
 use Rattle.std.specs.Prelude.{false}
 use Rattle.lan_core.specs.Run.{stations}
 use Rattle.lan_core.specs.Ledgers.{air, installs}
-use Rattle.lan_core.specs.Claims.{claimed}
+use Rattle.lan_core.specs.Claims.{claimed, next}
 use Rattle.lan_schedule.specs.Races.{Chance}
 use Rattle.lan_schedule.specs.World.{beginning, settings}
 use Rattle.lan_schedule.specs.Sound.{IsTidy}
@@ -11,7 +11,7 @@ use Rattle.lan_schedule.proofs.Drawing.{counted-draws}
 use Rattle.lan_schedule.proofs.LinesCome.{sound-empty}
 
 pub tidy-beginning : (chances : List Chance) → IsTidy (beginning chances)
-unfolding air installs stations claimed
+unfolding air installs stations claimed next
 tidy-beginning chances = record {
   sound = sound-empty false (settings (beginning chances)) [];
   within = record {
@@ -24,6 +24,7 @@ tidy-beginning chances = record {
   frames = refl;
   numbered = tt;
   in_turn = omega arith;
+  few = λ e s epoch. omega arith;
   waits = λ e. refl;
   draws = counted-draws;
   dealt = λ k d lt. absurd (omega arith);

@@ -20,7 +20,7 @@ use Rattle.lan_schedule.specs.declared.choices.Choices.{Choices}
 use Rattle.lan_schedule.specs.declared.choices.Keyed.{Keyed}
 use Rattle.lan_schedule.specs.declared.halt.Kind.{Kind}
 use Rattle.lan_schedule.specs.Settings.{no_choice, secret_of, unkeyed, settings_of}
-use Rattle.lan_schedule.specs.Races.{Chance, Phase, Apart}
+use Rattle.lan_schedule.specs.Races.{Chance, Apart}
 use Rattle.lan_schedule.specs.World.{World, Kept, beginning, settings, place, mark, is_racing}
 use Rattle.lan_schedule.specs.Acts.{Act, Course, Goes, Stops, happen, change}
 use Rattle.lan_schedule.specs.Acts.{perform, and_then, world_of, course, times}
@@ -360,7 +360,7 @@ text-ready n text w below ready =
       calm = ready.calm;
       apart = ready.apart;
       bounded = ready.bounded;
-      tidy = tidy-same w kept ready.tidy refl refl refl refl refl (λ e. e);
+      tidy = tidy-same w kept ready.tidy refl refl refl refl refl (λ e. e) (λ e. e);
     }) refl
 
 -- a tidy world in which no race was begun, and none is performed

@@ -1,7 +1,7 @@
 -- What an event leaves.
-use Rattle.std.proofs.Common.{◌≡◌, ℕ, ◌+◌, List, [], ◌∷◌, ◌++◌, Option, Some, None}
+use Rattle.std.proofs.Common.{◌≡◌, ◌<◌, ℕ, ◌+◌, length, List, [], ◌∷◌, ◌++◌, Option, Some, None}
 use Rattle.std.proofs.Common.{inl, inr, refl, sym, ap, ◌∙◌, subst, arith}
-use Rattle.std.specs.Prelude.{Result, Ok, Err, MatchResult, false, map, unwrap_or}
+use Rattle.std.specs.Prelude.{Result, Ok, Err, MatchResult, map, unwrap_or}
 use Rattle.std.specs.Result.{IsErrAnd}
 use Rattle.std.proofs.lemmas.Result.{err_from_is_err_and}
 use Rattle.std.proofs.lemmas.List.{map-append}
@@ -17,6 +17,10 @@ use Rattle.lan_core.specs.Run.{Run, Profile, happened, started, stations, facts_
 use Rattle.lan_core.specs.Expected.{expected, drawn_from}
 use Rattle.lan_core.specs.Stops.{MayCome, first_stop}
 use Rattle.lan_core.specs.Types.{IsTyped}
+use Rattle.lan_core.specs.Legal.{IsStepped}
+use Rattle.association_slots.specs.Views.{ControlAt}
+use Rattle.group_safety.specs.Accounts.{IsExact as IsExactIn}
+use Rattle.transmit_words.specs.Ties.{AreTied, AreAhead}
 use Rattle.lan_core.specs.Standing.{StandsFor as GroupStandsFor}
 use Rattle.lan_core.specs.Answers.{Answers, GoesOn}
 use Rattle.fact_tally.specs.Summary.{counts}
@@ -28,20 +32,22 @@ use Rattle.lan_schedule.specs.World.{World, names_of, settings, puts, Flow}
 use Rattle.lan_schedule.specs.Settings.{rule_of}
 use Rattle.lan_schedule.specs.Supply.{draw_at, supply_nth}
 use Rattle.lan_schedule.specs.Answers.{supply, taken_by, halt_of, answered, answer}
-use Rattle.lan_schedule.specs.Acts.{happen, Goes, shown, world_after}
+use Rattle.lan_schedule.specs.Acts.{happen, perform, Goes, shown, world_after}
 use Rattle.lan_schedule.specs.Sound.{IsTidy}
 use Rattle.lan_schedule.specs.Reports.{Report, reports}
 use Rattle.lan_schedule.specs.Ends.{Moment, Ends, halt_of_broken}
-use Rattle.lan_schedule.specs.Numbers.{TellNext}
-use Rattle.lan_schedule.specs.inside.Counters.{ShowsNext}
-use Rattle.lan_schedule.specs.inside.Comes.{IsExact, named}
-use Rattle.lan_schedule.specs.Stages.{StandsFor, Counts}
+use Rattle.lan_schedule.specs.Numbers.{shown_next, number_shown}
+use Rattle.lan_schedule.specs.Lines.{tick}
+use Rattle.lan_schedule.specs.inside.Comes.{Comes, named}
+use Rattle.lan_schedule.specs.inside.Set.{AreSet}
+use Rattle.lan_schedule.specs.Stages.{StandsWith, StandsFor, Counts}
 use Rattle.lan_schedule.specs.inside.Staged.{Did, Happened}
 use Rattle.lan_schedule.specs.Races.{Chance, behind_numbers}
 use Rattle.lan_schedule.proofs.Calm.{calm-shown, calm-chances}
+use Rattle.lan_schedule.proofs.Same.{IsSame, same-self, stands-moved}
 use Rattle.lan_schedule.proofs.Racing.{begins-self}
 use Rattle.lan_schedule.proofs.Doing.{told-none, ends-memory}
-use Rattle.lan_schedule.proofs.Tidying.{tidy-after}
+use Rattle.lan_schedule.proofs.Tidying.{tidy-after, exact-in}
 
 -- what a step promises of a group
 abbrev pub StepGoes : Option UserFrame → Event → Stage → Stage → Result (List Fact) StepError
@@ -59,7 +65,8 @@ pub record Told (w : World) (event : Event) (facts : List Fact) (new : Stage) : 
   pub shows : expected (settings w) w.kept.users w.run event
       (drawn_from (settings w).suite (supply w)) ≡ Some facts
 
-same-supply : (w : World) (old : Stage) → StandsFor w old → supply_nth old.draws ≡ supply w
+same-supply : {Tied : Settings → Run → List ControlAt → Type 0} (w : World) (old : Stage)
+    → StandsWith Tied w old → supply_nth old.draws ≡ supply w
 same-supply w old stands = λ i k. stands.draws k i
 
 answers-by : (w : World) (event : Event) (facts : List Fact) (before : ℕ → Option (List ℕ))
@@ -80,7 +87,8 @@ answers-by w event facts before same goes shows =
     ap (λ (s : Option Stop). answered w event s) none
     ∙ ap (λ (o : Option (List Fact)). Ok (unwrap_or o [])) some
 
-told-by : (w : World) (event : Event) (facts : List Fact) (old new : Stage) → StandsFor w old
+told-by : {Tied : Settings → Run → List ControlAt → Type 0} (w : World) (event : Event)
+    (facts : List Fact) (old new : Stage) → StandsWith Tied w old
     → GoesOn (settings w) w.kept.users w.run event (supply_nth old.draws) (supply_nth new.draws)
     new.lan facts
     → Told w event facts new
@@ -106,16 +114,6 @@ abbrev pub handed : Result (Unit {0}) Broken → Result (Unit {0}) Halt
 handed (Ok done) = Ok tt
 handed (Err why) = Err (halt_of_broken why)
 
-shows-next : (w : World) (event : Event) → w.kept.raced ≡ false → IsExact w event
-    → ShowsNext (settings w) w.run event
-shows-next w (events.Start name sci priority) calm exact = tt
-shows-next w (events.Tick s next) calm exact = exact ∙ calm-shown w s calm
-shows-next w (events.Deliver frame s) calm exact = tt
-shows-next w (events.Restart s) calm exact = tt
-shows-next w (events.Claim s user pn) calm exact = tt
-shows-next w events.Emit calm exact = tt
-shows-next w (events.Inject s octets) calm exact = tt
-
 -- what the group keeps beside the step
 pub record Keeps (event : Event) (facts : List Fact) (old new : Stage) : Type 0 where
   pub line : new.line ≡ old.line
@@ -129,16 +127,19 @@ pub record Keeps (event : Event) (facts : List Fact) (old new : Stage) : Type 0 
         ++ puts old.frames.rounds facts;
     rounds = old.frames.rounds;
   }
-  pub numbers : (settings : Settings) (r : Run) → TellNext settings r old.numbers
-      → ShowsNext settings r event
-      → TellNext settings (happened event facts ∷ r) new.numbers
+  pub words : (settings : Settings) (users : List UserFrame) (r : Run)
+      → GroupStandsFor settings users old.lan r
+      → GroupStandsFor settings users new.lan (happened event facts ∷ r)
+      → IsStepped settings users (happened event facts ∷ r) → IsExactIn settings r event
+      → AreSet event settings r old.words → AreTied settings (happened event facts ∷ r) new.words
   pub tally : (shown : List Fact) → old.tally ≡ counts shown → new.tally ≡ counts (shown ++ facts)
 
-stands-after : (w : World) (event : Event) (facts : List Fact) (old new : Stage) → StandsFor w old
-    → IsExact w event
+stands-after : (w : World) (event : Event) (facts : List Fact) (old new : Stage)
+    → StandsWith (AreSet event) w old → IsExactIn (settings w) w.run event
+    → IsStepped (settings w) w.kept.users (happened event facts ∷ w.run)
     → Told w event facts new → Keeps event facts old new → StandsFor (world_after w event facts) new
 unfolding stations
-stands-after w event facts old new stands exact told keeps = record {
+stands-after w event facts old new stands exact stepped told keeps = record {
   begun = stands.begun;
   calm = stands.calm;
   keyed = stands.keyed;
@@ -155,7 +156,8 @@ stands-after w event facts old new stands exact told keeps = record {
   flow = keeps.frames ∙ ap (λ (f : Flow).
       record { frames = f.frames ++ puts f.rounds facts; rounds = f.rounds }) stands.flow;
   cuts = keeps.cuts ∙ stands.cuts;
-  numbers = keeps.numbers (settings w) w.run stands.numbers (shows-next w event stands.calm exact);
+  words = keeps.words (settings w) w.kept.users w.run stands.lan told.lan stepped exact
+      stands.words;
   tally = keeps.tally (facts_of w.run) stands.tally;
 }
 
@@ -226,9 +228,10 @@ module _ {K : Type 0} {Took : K → Report → K → Type 0} {Broke : K → Repo
           (subst (λ (g : Option UserFrame). MayCome (settings w) w.kept.users w.run g event)
           (sym is) comes.0) in
           let told = told-by w event facts old.value new.value stands goes in
-          let after_it = stands-after w event facts old.value new.value stands comes.1 told keeps in
           let tidy = tidy-after w event facts reached.tidy comes typed told.lan.setting
           told.stopless told.shows stands.begun stands.calm in
+          let after_it = stands-after w event facts old.value new.value stands
+          (exact-in w event stands.calm typed comes.1) tidy.sound.legal.stepped told keeps in
           subst (λ (a : Result (List Fact) Halt).
           Ends StandsFor Counts Took Broke w later (shown w event a) old.outlet new
           (handed why)) (sym told.answers)
@@ -271,13 +274,48 @@ module _ {K : Type 0} {Took : K → Report → K → Type 0} {Broke : K → Repo
           });
     }
 
-    -- an event that names no user frame
+    -- an event that names no user frame, and finds the words as they are
     pub plainly : (event : Event) (old new : Moment Stage K) (r : Result (Unit {0}) Halt)
         → ((w : World) → None ≡ named w event)
+        → ((settings : Settings) (run : Run) (cs : List ControlAt) → AreTied settings run cs
+        → AreSet event settings run cs)
         → Happened Took Broke None event old new r → Did Took Broke (happen event) old new r
-    plainly event old new r none h = record {
+    plainly event old new r none set h = record {
       chances = h.chances;
-      ends = λ w later is reached comes. h.ends w later is reached (none w) comes;
+      ends = λ w later is reached comes. h.ends w later is (record {
+        stands = stands-moved w old.value old.value (same-self old.value) refl refl refl
+            (set (settings w) w.run old.value.words reached.stands.words) reached.stands;
+        tidy = reached.tidy;
+      }) (none w) comes;
+    }
+
+    -- a tick whose number was shown
+    pub tick-does : (s n : ℕ) (old mid new : Moment Stage K) (r : Result (Unit {0}) Halt)
+        → mid.outlet ≡ old.outlet → IsSame old.value mid.value → mid.value.line ≡ old.value.line
+        → mid.value.users ≡ old.value.users → mid.value.cuts ≡ old.value.cuts
+        → ((settings : Settings) (run : Run) → AreTied settings run old.value.words
+        → s < length (stations run) → n ≡ shown_next settings s run)
+        → ((settings : Settings) (run : Run) → AreTied settings run old.value.words
+        → s < length (stations run) → AreAhead settings run (events.Tick s n) mid.value.words)
+        → Happened Took Broke None (events.Tick s n) mid new r → Did Took Broke (tick s) old new r
+    tick-does s n old mid new r outlet same line users cuts next ahead h = record {
+      chances = h.chances;
+      ends = λ w later is reached comes.
+          let tied = reached.stands.words in
+          let there : s < length (stations w.run) = comes.0.0 in
+          let number : n ≡ number_shown w s = next (settings w) w.run tied there
+          ∙ sym (calm-shown w s reached.stands.calm) in
+          let comes_n : Comes (happen (events.Tick s n)) w =
+          subst (λ (m : ℕ). Comes (happen (events.Tick s m)) w) (sym number) comes in
+          subst (λ (m : ℕ). Ends StandsFor Counts Took Broke w later
+          (perform (happen (events.Tick s m)) w) old.outlet new r) number
+          (subst (λ (k : K). Ends StandsFor Counts Took Broke w later
+          (perform (happen (events.Tick s n)) w) k new r) outlet
+          (h.ends w later is (record {
+            stands = stands-moved w old.value mid.value same line users cuts
+                (ahead (settings w) w.run tied there) reached.stands;
+            tidy = reached.tidy;
+          }) refl comes_n));
     }
 
     -- memory was wanting, and nothing was told

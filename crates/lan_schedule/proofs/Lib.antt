@@ -2,7 +2,6 @@ mod Calm
 mod Racing
 mod Doing
 mod Flowing
-mod Counting
 mod Placing
 mod Looking
 mod Coming
@@ -10,10 +9,13 @@ mod Drawing
 mod Users
 mod Awaiting
 mod LinesCome
+mod Same
+mod Ahead
 mod Happening
 mod Bounded
 mod Turns
 mod Tidying
+mod Telling
 mod Settled
 mod Sending
 mod Refusing

@@ -42,7 +42,7 @@ use Rattle.lan_schedule.specs.Kinds.{or_else, where_, unknown, is_number, no_fra
 use Rattle.lan_schedule.specs.Kinds.{is_allowed, may_list, wrong_word, refusal}
 use Rattle.lan_schedule.specs.Lines.{add_user, send, chosen_by, deed, act_of, unless_refused}
 use Rattle.lan_schedule.specs.Sound.{IsTidy, numbers_of, IsSoundIn}
-use Rattle.lan_schedule.specs.inside.Comes.{Comes, named}
+use Rattle.lan_schedule.specs.inside.Comes.{Comes, HasRoom, named}
 use Rattle.lan_core.specs.Lives.{transmitting_at}
 use Rattle.lan_core.specs.Stops.{MayCome}
 use Rattle.lan_schedule.proofs.Drawing.{bytes-all}
@@ -156,7 +156,7 @@ sound-empty racing settings users = record {
 pub tidy-unbegun : (w v : World) → IsTidy w → w.run ≡ [] → v.run ≡ w.run
     → v.kept.frames ≡ w.kept.frames → v.kept.races ≡ w.kept.races
     → AreDraws (draw_at (rule_of v.kept.chosen)) → IsTidy v
-unfolding air claimed
+unfolding air claimed next
 tidy-unbegun w v tidy empty same frames races draws =
     let none : v.run ≡ [] = same ∙ empty in
     record {
@@ -167,6 +167,9 @@ tidy-unbegun w v tidy empty same frames races draws =
           ∙ ap (λ (r : Run). numbers_of (air r)) (sym same);
       numbered = rw same tidy.numbered;
       in_turn = subst (λ (r : Run). length (emitted r) ≤ length (claimed (settings v) r)) (sym none)
+          (omega arith);
+      few = λ e s epoch.
+          subst (λ (r : Run). next (settings v) s epoch r ≤ length v.kept.users + 1) (sym none)
           (omega arith);
       waits = λ e. none;
       draws = draws;
@@ -188,14 +191,17 @@ chosen-comes line form b w tidy e =
 -- what is kept and no world looks at leaves a world tidy
 pub tidy-same : (w : World) (kept : Kept) → IsTidy w → kept.chosen ≡ w.kept.chosen
     → kept.users ≡ w.kept.users
-    → kept.frames ≡ w.kept.frames → kept.phase ≡ w.kept.phase → kept.races ≡ w.kept.races → (kept.begun ≡ false → w.kept.begun ≡ false)
+    → kept.frames ≡ w.kept.frames → kept.phase ≡ w.kept.phase → kept.races ≡ w.kept.races
+    → (kept.begun ≡ false → w.kept.begun ≡ false)
+    → (kept.raced ≡ false → w.kept.raced ≡ false)
     → IsTidy (record w { kept = kept })
-tidy-same w kept tidy chosen users frames phase races begun = record {
+tidy-same w kept tidy chosen users frames phase races begun raced = record {
   sound = rw (chosen, users, phase) tidy.sound;
   within = tidy.within;
   frames = ap (λ (l : List Put). map (λ (put : Put). put.number) l) frames ∙ tidy.frames;
   numbered = tidy.numbered;
   in_turn = rw chosen tidy.in_turn;
+  few = λ e. rw (chosen, users) (tidy.few (raced e));
   waits = λ e. tidy.waits (begun e);
   draws = rw chosen tidy.draws;
   dealt = rw races tidy.dealt;
@@ -248,6 +254,9 @@ tidy-user user w tidy = record {
   frames = tidy.frames;
   numbered = tidy.numbered;
   in_turn = tidy.in_turn;
+  few = λ e s epoch.
+      let before = tidy.few e s epoch in
+      let longer = length-append w.kept.users (user ∷ []) in omega (arith, before, longer);
   waits = tidy.waits;
   draws = tidy.draws;
   dealt = tidy.dealt;
@@ -295,9 +304,11 @@ unless-comes false act w h = h refl
 
 claim-comes : (s : ℕ) (user : UserFrame) (w : World)
     → IsTidy (record w { kept = record w.kept { users = w.kept.users ++ user ∷ [] } })
+    → (w.kept.raced ≡ false
+    → (t epoch : ℕ) → next (settings w) t epoch w.run ≤ length w.kept.users + 1)
     → IsUserFrame user → s < count w
     → Comes (send s) (record w { kept = record w.kept { users = w.kept.users ++ user ∷ [] } })
-claim-comes s user w tidy is_user there =
+claim-comes s user w tidy few is_user there =
     let v : World = record w { kept = record w.kept { users = w.kept.users ++ user ∷ [] } } in
     let n = length v.kept.users in
     let pn = number_claimed v s in
@@ -311,8 +322,13 @@ claim-comes s user w tidy is_user there =
       fits-demanded (settings v) s v.run (user_at v.kept.users n)
           (transmitting_at (settings v) s v.run) v.kept.raced _ (number_in v.kept.chances)
           refl,
+    ) in
+    let longer : n ≡ length w.kept.users + 1 = length-append w.kept.users (user ∷ []) in
+    let room : HasRoom v n = λ calm. (
+      omega arith,
+      λ t epoch. let before = few calm t epoch in omega (arith, before, longer),
     ) in (
-      (may, refl),
+      (may, (refl, room)),
       is-going (perform (happen (events.Claim s n pn)) v)
           (λ u. IsTidy u → Comes (unless (pn == 0) (happen events.Emit)) u)
           (λ u e tidy_u. unless-comes (pn == 0) (happen events.Emit) u
@@ -322,7 +338,7 @@ claim-comes s user w tidy is_user there =
 send-comes : (s : ℕ) (user : UserFrame) (w : World) → IsTidy w → IsUserFrame user → s < count w
     → Comes (seq (add_user user) (send s)) w
 send-comes s user w tidy is_user there =
-    (tidy-user user w tidy, λ tidy_v. claim-comes s user w tidy_v is_user there)
+    (tidy-user user w tidy, λ tidy_v. claim-comes s user w tidy_v tidy.few is_user there)
 
 -- ---- lines
 
@@ -353,7 +369,7 @@ deed-comes (lines.Group cak ckn) form w tidy right =
     chosen-comes (lines.Group cak ckn) form (is_none w.kept.chosen.group) w tidy right.allowed
 deed-comes (lines.Station name sci priority) form w tidy right = (
   tidy-same w (record w.kept { begun = true }) tidy refl refl refl refl refl
-      (λ e. absurd (let bad : true ≡ false = e in cc)),
+      (λ e. absurd (let bad : true ≡ false = e in cc)) (λ e. e),
   λ tidy_v. (
     (let both = or-none (where_ (is_in name (names_of w.run)) kinds.NameTaken) _ right.words in
         new-station name sci.0 (stations w.run) (where-none _ kinds.NameTaken both.0)
@@ -371,8 +387,8 @@ deed-comes (lines.Deliver frame name) form w tidy right =
 deed-comes (lines.Spread frame) form w tidy right =
     comes-spread frame w tidy (on-air frame w tidy right.words)
 deed-comes (lines.Lose frame) form w tidy right = tidy-marked frame w tidy
-deed-comes (lines.Cut from to) form w tidy right = tidy-same w _ tidy refl refl refl refl refl (λ e. e)
-deed-comes (lines.Mend from to) form w tidy right = tidy-same w _ tidy refl refl refl refl refl (λ e. e)
+deed-comes (lines.Cut from to) form w tidy right = tidy-same w _ tidy refl refl refl refl refl (λ e. e) (λ e. e)
+deed-comes (lines.Mend from to) form w tidy right = tidy-same w _ tidy refl refl refl refl refl (λ e. e) (λ e. e)
 deed-comes (lines.Restart name) form w tidy right = (known name w right.words, tt)
 deed-comes (lines.Send name destination body) form w tidy right =
     let user : UserFrame = record { destination = destination; body = body } in
@@ -386,7 +402,7 @@ deed-comes (lines.Inject name octets) form w tidy right = (
   (known name w right.words, (let few : length octets ≤ 1600 = form.fits.1.0.1 in omega arith)),
   tt,
 )
-deed-comes _ form w tidy right = tidy-same w _ tidy refl refl refl refl refl (λ e. e)
+deed-comes _ form w tidy right = tidy-same w _ tidy refl refl refl refl refl (λ e. e) (λ e. e)
 
 pub line-comes : (line : Line) → IsInForm line → (w : World) → IsTidy w → Comes (act_of line) w
 line-comes line form w tidy =

@@ -16,7 +16,7 @@ use Rattle.lan_schedule.specs.Lines.{pass, is_passed_by, to_others, spread, due,
 use Rattle.lan_schedule.specs.Lines.{begin_round}
 use Rattle.lan_core.specs.Standing.{StandsFor as GroupStandsFor}
 use Rattle.lan_schedule.specs.Supply.{supply_nth}
-use Rattle.lan_schedule.specs.Numbers.{TellNext}
+use Rattle.transmit_words.specs.Ties.{AreTied}
 use Rattle.lan_schedule.specs.inside.Staged.{Did, Changed}
 use Rattle.lan_schedule.specs.Sound.{IsTidy}
 use Rattle.lan_schedule.specs.Reports.{Report}
@@ -49,7 +49,7 @@ pub record Flows (old new : Stage) : Type 0 where
   pub scis : new.scis ≡ old.scis
   pub users : new.users ≡ old.users
   pub cuts : new.cuts ≡ old.cuts
-  pub numbers : new.numbers ≡ old.numbers
+  pub words : new.words ≡ old.words
   pub tally : new.tally ≡ old.tally
 
 -- the frames and the count of rounds change
@@ -72,8 +72,7 @@ flowing frames rounds old new same flow = record {
     users = same.users ∙ stands.users;
     flow = flow w stands;
     cuts = same.cuts ∙ stands.cuts;
-    numbers = subst (λ numbers. TellNext (settings w) w.run numbers) (sym same.numbers)
-        stands.numbers;
+    words = subst (λ words. AreTied (settings w) w.run words) (sym same.words) stands.words;
     tally = same.tally ∙ stands.tally;
   };
 }

@@ -3,10 +3,11 @@ use Rattle.std.proofs.Common.{◌≡◌, ℕ, ◌+◌, true, false, List, [], Op
 use Rattle.std.proofs.Common.{refl, sym, ap, ◌∙◌, subst, arith}
 use Rattle.std.specs.Prelude.{Result, Ok, Err, is_some}
 use Rattle.lan_base.specs.declared.frame.UserFrame.{UserFrame}
-use Rattle.lan_core.specs.Claims.{next}
+use Rattle.association_slots.specs.Views.{ControlAt}
 use Rattle.lan_core.specs.Run.{stations}
 use Rattle.lan_core.specs.Standing.{StandsFor as GroupStandsFor}
 use Rattle.fact_tally.specs.Summary.{counts}
+use Rattle.transmit_words.specs.Ties.{AreTied}
 use Rattle.trace_text.specs.declared.line.Line.{Line}
 use Rattle.trace_text.specs.declared.line.Line.TheVariants as lines
 use Rattle.trace_text.specs.Writing.{IsInForm}
@@ -46,12 +47,12 @@ opens-there : (chances : List Chance) (chosen : Choices) (line : ℕ) (stage : S
     → ((users : List UserFrame) → GroupStandsFor (settings_of chosen) users stage.lan [])
     → ((k : ℕ) → supply_nth stage.draws k ≡ draw_at (rule_of chosen) k)
     → stage.names.items ≡ [] → stage.scis.items ≡ [] → stage.users ≡ 0
-    → stage.frames ≡ record { frames = []; rounds = 0 } → stage.cuts ≡ [] → stage.numbers ≡ []
+    → stage.frames ≡ record { frames = []; rounds = 0 } → stage.cuts ≡ [] → stage.words ≡ []
     → stage.tally ≡ counts []
     → StageStandsFor (record { run = []; kept = opened chances chosen line }) stage
-unfolding stations next
+unfolding stations
 opens-there chances chosen line stage keyed is_line lag lan draws names scis users frames cuts
-    numbers tally = record {
+    words tally = record {
       begun = refl;
       calm = refl;
       keyed = keyed;
@@ -65,7 +66,8 @@ opens-there chances chosen line stage keyed is_line lag lan draws names scis use
       users = users;
       flow = frames;
       cuts = cuts;
-      numbers = rw numbers (λ s epoch. refl);
+      words = subst (λ (cs : List ControlAt). AreTied (settings_of chosen) [] cs) (sym words)
+          (record { many = refl; each = λ s control is. absurd (cc is) });
       tally = tally;
     }
 
@@ -74,16 +76,16 @@ pub opens : (w : World) (chosen : Choices) (line : ℕ) (stage : Stage) → is_s
     → ((users : List UserFrame) → GroupStandsFor (settings_of chosen) users stage.lan [])
     → ((k : ℕ) → supply_nth stage.draws k ≡ draw_at (rule_of chosen) k)
     → stage.names.items ≡ [] → stage.scis.items ≡ [] → stage.users ≡ 0
-    → stage.frames ≡ record { frames = []; rounds = 0 } → stage.cuts ≡ [] → stage.numbers ≡ []
+    → stage.frames ≡ record { frames = []; rounds = 0 } → stage.cuts ≡ [] → stage.words ≡ []
     → stage.tally ≡ counts []
     → StageStandsFor w stage
-opens w chosen line stage keyed opening is_line lag lan draws names scis users frames cuts numbers
+opens w chosen line stage keyed opening is_line lag lan draws names scis users frames cuts words
     tally =
     let same : w ≡ record { run = []; kept = opened w.kept.chances chosen line } =
     λ i. record { run = opening.empty i; kept = opening.kept i } in
     subst (λ (v : World). StageStandsFor v stage) (sym same)
     (opens-there w.kept.chances chosen line stage keyed is_line lag lan draws names scis users frames cuts
-    numbers tally)
+    words tally)
 
 -- ---- lines before the first station
 
@@ -245,7 +247,7 @@ module _ {K : Type 0} {Took : K → Report → K → Type 0} {Broke : K → Repo
         let same = is-waiting w old.value replay unbegun in
         let v : World = record w { kept = record w.kept { begun = true } } in
         let tidy_v = tidy-same w (record w.kept { begun = true }) tidy refl refl refl refl refl
-        (λ e. absurd (let bad : true ≡ false = e in cc)) in
+        (λ e. absurd (let bad : true ≡ false = e in cc)) (λ e. e) in
         let opening : IsOpening v old.value.chosen old.value.line = record {
           empty = ap (λ (u : World). u.run) same;
           kept = ap (λ (u : World). record u.kept { begun = true }) same;

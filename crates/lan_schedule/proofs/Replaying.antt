@@ -165,7 +165,7 @@ module _ {K : Type 0} {Took : K → Report → K → Type 0} {Broke : K → Repo
         refl,
         record {
           stands = begins w reached.stands;
-          tidy = tidy-same w _ reached.tidy refl refl refl refl refl (λ e. e);
+          tidy = tidy-same w _ reached.tidy refl refl refl refl refl (λ e. e) (λ e. e);
         },
         told-none w (at_line number w) old.outlet new.outlet refl same,
         is,

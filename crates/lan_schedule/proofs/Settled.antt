@@ -27,7 +27,7 @@ use Rattle.lan_core.specs.Unstopped.{next_under}
 use Rattle.lan_core.proofs.Public.{number-frame, in-a-life}
 use Rattle.lan_schedule.specs.declared.choices.Choices.{Choices}
 use Rattle.lan_schedule.specs.Settings.{settings_of}
-use Rattle.lan_schedule.specs.Races.{Phase, Apart}
+use Rattle.lan_schedule.specs.Races.{Apart}
 use Rattle.lan_schedule.specs.World.{World, Kept, settings, count, sender, mark}
 use Rattle.lan_schedule.specs.Numbers.{shown_next, number_claimed}
 use Rattle.lan_schedule.proofs.Calm.{calm-shown, calm-claimed}
@@ -167,7 +167,7 @@ takes-number n false e = not-below last_number n e
 takes-one : (w : World) (event : Event) → w.kept.raced ≡ false → IsExact w event → TakesOne event
 takes-one w (events.Claim s user pn) calm exact =
     let n = shown_next (settings w) s w.run in
-    subst (λ (m : ℕ). m ≤ last_number) (sym (exact ∙ calm-claimed w s calm))
+    subst (λ (m : ℕ). m ≤ last_number) (sym (exact.0 ∙ calm-claimed w s calm))
     (takes-number n (nat_lt last_number n) refl)
 takes-one w (events.Start name sci priority) calm exact = tt
 takes-one w (events.Tick s next) calm exact = tt

@@ -1,26 +1,33 @@
 -- Worlds stay tidy.
-use Rattle.std.proofs.Common.{◌≡◌, ℕ, Bool, true, false, ◌⊎◌, inl, inr, subst, List, [], ◌∷◌, ◌++◌}
-use Rattle.std.proofs.Common.{Some, None, refl, sym, ap, ◌∙◌, append_assoc, append-nil}
+use Rattle.std.proofs.Common.{◌≡◌, ◌≤◌, ◌<◌, ◌+◌, ◌^◌, ℕ, Bool, true, false, ◌⊎◌, inl, inr, subst}
+use Rattle.std.proofs.Common.{List, [], ◌∷◌, ◌++◌, length, Option, Some, None, refl, sym, ap, ◌∙◌}
+use Rattle.std.proofs.Common.{append_assoc, append-nil, arith}
 use Rattle.std.specs.Prelude.{map, cond, nat_lt}
 use Rattle.std.proofs.lemmas.List.{map-append}
+use Rattle.sak_exchange.specs.declared.held_key.Key.{Key}
 use Rattle.lan_core.specs.declared.event.Event.{Event}
 use Rattle.lan_core.specs.declared.event.Event.TheVariants as events
 use Rattle.lan_core.specs.declared.fact.Fact.{Fact}
 use Rattle.lan_core.specs.declared.fact.Fact.TheVariants as facts
-use Rattle.lan_core.specs.Run.{happened}
+use Rattle.lan_core.specs.declared.settings.Settings.{Settings}
+use Rattle.lan_core.specs.Run.{Run, happened}
+use Rattle.lan_core.specs.Claims.{next}
+use Rattle.lan_core.specs.Lives.{transmitting_at}
 use Rattle.lan_core.specs.Ledgers.{Frame, air, framed, gather}
 use Rattle.lan_core.specs.Expected.{expected, drawn_from, last_number}
 use Rattle.lan_core.specs.Types.{IsTyped, IsSetting}
-use Rattle.lan_core.specs.Unstopped.{IsUnstopped, LeavesNoneOut}
+use Rattle.lan_core.specs.Unstopped.{IsUnstopped, LeavesNoneOut, next_under}
 use Rattle.lan_core.proofs.Public.{is-step, legal, fresh, unforged, stays-thrifty, air-numbered}
 use Rattle.lan_core.specs.Stops.{first_stop}
+use Rattle.group_safety.specs.Accounts.{IsExact as IsExactIn, claims_of}
+use Rattle.group_safety.proofs.Public.{few, kind}
 use Rattle.lan_schedule.specs.declared.frames.Put.{Put}
 use Rattle.lan_schedule.specs.World.{World, settings, puts, is_racing}
 use Rattle.lan_schedule.specs.Answers.{supply}
 use Rattle.lan_schedule.specs.Acts.{happen, world_after}
 use Rattle.lan_schedule.specs.Sound.{IsTidy, IsSoundIn, numbers_of}
 use Rattle.lan_schedule.specs.inside.Comes.{Comes, IsExact, named}
-use Rattle.lan_schedule.specs.Numbers.{shown_next}
+use Rattle.lan_schedule.specs.Numbers.{shown_next, in_range}
 use Rattle.lan_schedule.proofs.Calm.{calm-shown, calm-claimed}
 use Rattle.lan_schedule.proofs.Drawing.{supply-draws}
 use Rattle.lan_schedule.proofs.Turns.{stays-in-turn}
@@ -55,9 +62,58 @@ leaves-none w (events.Deliver frame s) calm exact = tt
 leaves-none w (events.Restart s) calm exact = tt
 leaves-none w (events.Claim s user pn) calm exact =
     let n = shown_next (settings w) s w.run in
-    subst (λ (m : ℕ). (m ≡ 0) ⊎ (m ≡ n)) (sym (exact ∙ calm-claimed w s calm)) (leaves-claim n (nat_lt last_number n))
+    subst (λ (m : ℕ). (m ≡ 0) ⊎ (m ≡ n)) (sym (exact.0 ∙ calm-claimed w s calm))
+    (leaves-claim n (nat_lt last_number n))
 leaves-none w events.Emit calm exact = tt
 leaves-none w (events.Inject s octets) calm exact = tt
+
+-- a number within the range is claimed as it is
+pub in-range : (n : ℕ) → n ≤ last_number → in_range n ≡ n
+in-range n most =
+    let e : nat_lt last_number n ≡ false = grind arith in ap (λ (b : Bool). cond b 0 n) e
+
+-- no next number under a key is above a user frame that has room
+pub under-user : (settings : Settings) (s : ℕ) (r : Run) (k : Option Key) (user : ℕ)
+    → ((t epoch : ℕ) → next settings t epoch r ≤ user) → next_under settings s r k ≤ user
+under-user settings s r None user room = omega arith
+under-user settings s r (Some k) user room = room s k.epoch
+
+-- an exact event shows and claims the next number of its group
+pub exact-in : (w : World) (event : Event) → w.kept.raced ≡ false → IsTyped event
+    → IsExact w event → IsExactIn (settings w) w.run event
+exact-in w (events.Start name sci priority) calm typed exact = tt
+exact-in w (events.Tick s shown) calm typed exact = exact ∙ calm-shown w s calm
+exact-in w (events.Deliver frame s) calm typed exact = tt
+exact-in w (events.Restart s) calm typed exact = tt
+exact-in w (events.Claim s user pn) calm typed exact =
+    let room = (exact.1 calm).1 in
+    let most = under-user (settings w) s w.run (transmitting_at (settings w) s w.run) user room in
+    let small : user < 2 ^ 32 = typed.1 in
+    exact.0 ∙ calm-claimed w s calm
+    ∙ in-range (shown_next (settings w) s w.run) (omega (arith, most, small))
+exact-in w events.Emit calm typed exact = tt
+exact-in w (events.Inject s octets) calm typed exact = tt
+
+-- what grows by the claims of an event stays within the count of user frames and one
+by-claims : (w : World) (event : Event) (n s epoch : ℕ) → w.kept.raced ≡ false → IsTidy w
+    → IsExact w event → n ≤ next (settings w) s epoch w.run + claims_of event
+    → n ≤ length w.kept.users + 1
+by-claims w (events.Claim t user pn) n s epoch calm tidy exact grown =
+    let room = exact.1 calm in
+    let there = room.0 in
+    let before = room.1 s epoch in omega (arith, there, before, grown)
+by-claims w (events.Start name sci priority) n s epoch calm tidy exact grown =
+    let before = tidy.few calm s epoch in omega (arith, before, grown)
+by-claims w (events.Tick t shown) n s epoch calm tidy exact grown =
+    let before = tidy.few calm s epoch in omega (arith, before, grown)
+by-claims w (events.Deliver frame t) n s epoch calm tidy exact grown =
+    let before = tidy.few calm s epoch in omega (arith, before, grown)
+by-claims w (events.Restart t) n s epoch calm tidy exact grown =
+    let before = tidy.few calm s epoch in omega (arith, before, grown)
+by-claims w events.Emit n s epoch calm tidy exact grown =
+    let before = tidy.few calm s epoch in omega (arith, before, grown)
+by-claims w (events.Inject t octets) n s epoch calm tidy exact grown =
+    let before = tidy.few calm s epoch in omega (arith, before, grown)
 
 -- what an event shows leaves the run sound
 sound-after : (w : World) (event : Event) (facts : List Fact) → w.kept.raced ≡ false → IsTidy w
@@ -109,6 +165,11 @@ tidy-after w event facts tidy comes typed setting goes shows begun calm =
           ∙ sym (numbers-gather w.kept.rounds facts (air w.run));
       numbered = air-numbered (settings w) w.kept.users (x ∷ w.run) stepped;
       in_turn = stays-in-turn (settings w) w.kept.users x w.run stepped.0 tidy.in_turn;
+      few = λ e s epoch.
+          by-claims w event (next (settings w) s epoch (x ∷ w.run)) s epoch calm tidy comes.1
+          (few (settings w) w.run s epoch w.kept.users event facts
+          (kind (settings w) w.kept.users x w.run stepped.0)
+          (exact-in w event calm typed comes.1));
       waits = λ e. absurd (let bad : true ≡ false = sym begun ∙ e in cc);
       draws = tidy.draws;
       dealt = tidy.dealt;

@@ -1,7 +1,7 @@
 -- Each claim that waits has its frame, and no more are emitted than there are.
 use Rattle.std.proofs.Common.{◌≡◌, ◌<◌, ◌≤◌, ◌+◌, ◌==◌, ℕ, zero, suc, Bool, true, false, List, []}
-use Rattle.std.proofs.Common.{◌∷◌, ◌++◌, length, length-append, Option, Some, None, ◌⊎◌, inl}
-use Rattle.std.proofs.Common.{inr, refl, ap, ◌∙◌, subst, arith}
+use Rattle.std.proofs.Common.{◌∷◌, ◌++◌, length, length-append, Option, Some, None}
+use Rattle.std.proofs.Common.{refl, ap, ◌∙◌, subst, arith}
 use Rattle.std.specs.Prelude.{cond, is_some, option_map, option_and_then, option_to_list, slice_get}
 use Rattle.std.specs.List.{filter}
 use Rattle.lan_base.specs.declared.frame.UserFrame.{UserFrame}

@@ -7,7 +7,8 @@
 -- threads decides is a list of *chances* in the world, taken from its head. A *moment* of a call is
 -- the value that performs, and the outlet that is told the reports. The files stand in this order:
 -- where draws come from, what races are, what lines have made, what can be performed, which line is
--- refused, what a line performs, what is sound, what is told, and what a call did of an act.
+-- refused, what a line performs, what is sound, what is told, what a call did of an
+-- act, and what slot words show.
 pub mod Supply
 pub mod Settings
 pub mod Races
@@ -22,4 +23,5 @@ pub mod Reports
 pub mod Ends
 pub mod Stages
 pub mod Standing
+pub mod Shown
 pub mod inside

@@ -1,11 +1,9 @@
 -- The packet numbers that ticks show and stations claim. Before the first race each is the next
 -- one. From then on a slot word may be ahead, by additions that got no number, and what it shows is
 -- left to chance; it is never below the next number.
-use Rattle.std.specs.Prelude.{◌≡◌, ℕ, if◌then◌else◌, nat_lt, List, [], get_or, nat_le, Bool}
-use Rattle.std.specs.Prelude.{false, ◌&&◌, drop}
+use Rattle.std.specs.Prelude.{ℕ, if◌then◌else◌, nat_lt, List, nat_le, Bool, false, ◌&&◌, drop}
 use Rattle.lan_core.specs.declared.settings.Settings.{Settings}
 use Rattle.lan_core.specs.Run.{Run}
-use Rattle.lan_core.specs.Claims.{next}
 use Rattle.lan_core.specs.Lives.{transmitting_at}
 use Rattle.lan_core.specs.Unstopped.{next_under}
 use Rattle.lan_core.specs.Expected.{last_number}
@@ -57,13 +55,3 @@ takes_chance raced _ = false
 abbrev pub chances_after : World → Event → List Chance
 chances_after w event =
     if takes_chance w.kept.raced event then drop 1 w.kept.chances else w.kept.chances
-
--- ---- tables of next numbers
-
--- the next number of a station under an epoch: what its table has there, else 1
-abbrev pub counted_next : List (List ℕ) → ℕ → ℕ → ℕ
-counted_next tables s epoch = get_or (get_or tables s []) epoch 1
-
--- the tables tell the next number of each station under each epoch
-abbrev pub TellNext : Settings → Run → List (List ℕ) → Type 0
-TellNext settings r tables = (s epoch : ℕ) → counted_next tables s epoch ≡ next settings s epoch r

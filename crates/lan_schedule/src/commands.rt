@@ -25,6 +25,7 @@ use crate::stage::Stage;
 use aes_block::Secret;
 use fact_tally::Tally;
 use lan_base::Blocks;
+use packet_claims::Gate;
 use std::alloc::{AllocError, Global};
 use trace_text::{Line, LineError, TextFault, read_line};
 
@@ -73,12 +74,13 @@ impl Replay {
     /// Performs one line, whose number in the trace is given, and tells what each event shows before
     /// the next one happens. An error halts the replay: it answers that error from then on, and
     /// keeps the tally of what had happened.
-    pub fn command<K, R: Recorder<K>>(
+    pub fn command<K, R: Recorder<K>, G: Gate>(
         &mut self,
         number: u32,
         line: &Line,
         recorder: &mut R,
         outlet: &mut K,
+        gate: &G,
     ) -> Result<(), Halt>
         requires { IsInForm line.now }
         ensures does { Does R.Took R.Broke (numbered number line.now)
@@ -90,7 +92,7 @@ impl Replay {
         if let Some(halt) = self.halted {
             return Err(halt);
         }
-        let outcome = self.perform_line(number, line, recorder, outlet);
+        let outcome = self.perform_line(number, line, recorder, outlet, gate);
         if let Err(halt) = outcome {
             self.halted = Some(halt);
         }
@@ -99,11 +101,12 @@ impl Replay {
 
     /// Performs a text without its line ending, as the next line, and tells what each event shows
     /// before the next one happens. An error halts the replay, as that of a command does.
-    pub fn text<K, R: Recorder<K>>(
+    pub fn text<K, R: Recorder<K>, G: Gate>(
         &mut self,
         text: &[u8],
         recorder: &mut R,
         outlet: &mut K,
+        gate: &G,
     ) -> Result<(), Halt>
         ensures does { Does R.Took R.Broke (performed text.now)
             (moment self.old outlet.old) (moment self.new outlet.new) result }
@@ -114,7 +117,7 @@ impl Replay {
         if let Some(halt) = self.halted {
             return Err(halt);
         }
-        let outcome = self.perform_text(text, recorder, outlet);
+        let outcome = self.perform_text(text, recorder, outlet, gate);
         if let Err(halt) = outcome {
             self.halted = Some(halt);
         }
@@ -122,11 +125,12 @@ impl Replay {
     }
 
     /// Performs a text as the next line.
-    fn perform_text<K, R: Recorder<K>>(
+    fn perform_text<K, R: Recorder<K>, G: Gate>(
         &mut self,
         text: &[u8],
         recorder: &mut R,
         outlet: &mut K,
+        gate: &G,
     ) -> Result<(), Halt>
         ensures { Does R.Took R.Broke (performed text.now)
             (moment self.old outlet.old) (moment self.new outlet.new) result }
@@ -139,7 +143,7 @@ impl Replay {
                 self.begin_line(number);
                 Ok(())
             }
-            Ok(Some(line)) => self.perform_line(number, &line, recorder, outlet),
+            Ok(Some(line)) => self.perform_line(number, &line, recorder, outlet, gate),
             Err(LineError::Refused(fault)) => Err(Halt::Trace {
                 line: number,
                 kind: kind_of_fault(fault),
@@ -149,19 +153,20 @@ impl Replay {
     }
 
     /// Performs the line of a number.
-    fn perform_line<K, R: Recorder<K>>(
+    fn perform_line<K, R: Recorder<K>, G: Gate>(
         &mut self,
         number: u32,
         line: &Line,
         recorder: &mut R,
         outlet: &mut K,
+        gate: &G,
     ) -> Result<(), Halt>
         requires { IsInForm line.now }
         ensures { Does R.Took R.Broke (numbered number line.now)
             (moment self.old outlet.old) (moment self.new outlet.new) result }
     {
         self.begin_line(number);
-        self.perform(line, recorder, outlet)
+        self.perform(line, recorder, outlet, gate)
     }
 
     /// The line of a number begins, and performs nothing so far.
@@ -186,18 +191,19 @@ impl Replay {
     }
 
     /// Performs a line.
-    fn perform<K, R: Recorder<K>>(
+    fn perform<K, R: Recorder<K>, G: Gate>(
         &mut self,
         line: &Line,
         recorder: &mut R,
         outlet: &mut K,
+        gate: &G,
     ) -> Result<(), Halt>
         requires { IsInForm line.now }
         ensures { Does R.Took R.Broke (act_of line.now)
             (moment self.old outlet.old) (moment self.new outlet.new) result }
     {
         if let Some(stage) = &mut self.stage {
-            return stage.command(line, recorder, outlet);
+            return stage.command(line, recorder, outlet, gate);
         }
         if let Some(kind) = refusal(&self.chosen, line) {
             return Err(Halt::Trace {
@@ -205,15 +211,16 @@ impl Replay {
                 kind,
             });
         }
-        self.prepare(line, recorder, outlet)
+        self.prepare(line, recorder, outlet, gate)
     }
 
     /// Performs a line before the first station, which isn't refused.
-    fn prepare<K, R: Recorder<K>>(
+    fn prepare<K, R: Recorder<K>, G: Gate>(
         &mut self,
         line: &Line,
         recorder: &mut R,
         outlet: &mut K,
+        gate: &G,
     ) -> Result<(), Halt>
         requires form { IsInForm line.now }
         requires unbegun { self.old.stage ≡ None }
@@ -222,7 +229,7 @@ impl Replay {
             (moment self.old outlet.old) (moment self.new outlet.new) result }
     {
         match line {
-            Line::Station { .. } => self.open(line, recorder, outlet),
+            Line::Station { .. } => self.open(line, recorder, outlet, gate),
             _ => {
                 choose(self.alloc, &mut self.chosen, line)?;
                 Ok(())
@@ -231,11 +238,12 @@ impl Replay {
     }
 
     /// The first station starts.
-    fn open<K, R: Recorder<K>>(
+    fn open<K, R: Recorder<K>, G: Gate>(
         &mut self,
         line: &Line,
         recorder: &mut R,
         outlet: &mut K,
+        gate: &G,
     ) -> Result<(), Halt>
         requires form { IsInForm line.now }
         requires unbegun { self.old.stage ≡ None }
@@ -245,7 +253,7 @@ impl Replay {
             (moment self.old outlet.old) (moment self.new outlet.new) result }
     {
         let mut stage = Stage::new(self.alloc, &self.chosen, self.line)?;
-        let outcome = stage.perform(line, recorder, outlet);
+        let outcome = stage.perform(line, recorder, outlet, gate);
         self.stage = Some(stage);
         outcome
     }

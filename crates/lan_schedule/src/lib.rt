@@ -9,14 +9,17 @@ mod halt;
 mod laws;
 mod links;
 mod moves;
-mod numbers;
 mod recorder;
 mod refusals;
 mod setup;
 mod stage;
 mod supply;
+mod words;
 
 pub use commands::Replay;
 pub use halt::{Halt, Kind};
-pub use laws::{law_acts_stop_for_their_own_reasons, law_lines_leave_a_tidy_world};
+pub use laws::{
+    law_acts_stop_for_their_own_reasons, law_control_was_told_what_the_run_claims,
+    law_lines_leave_a_tidy_world, law_no_key_is_exhausted, law_the_words_show_the_core,
+};
 pub use recorder::{Broken, Recorder};

@@ -9,62 +9,71 @@ use crate::halt::Halt;
 use crate::recorder::Recorder;
 use crate::stage::Stage;
 use lan_core::Event;
+use packet_claims::Gate;
 
 impl Stage {
     /// A tick of one station, which shows the next packet number.
-    fn tick<K, R: Recorder<K>>(
+    fn tick<K, R: Recorder<K>, G: Gate>(
         &mut self,
         station: u8,
         recorder: &mut R,
         outlet: &mut K,
+        gate: &G,
     ) -> Result<(), Halt>
         ensures { Did R.Took R.Broke (tick station)
             (moment self.old outlet.old) (moment self.new outlet.new) result }
     {
-        let next = self.numbers.shown(&self.lan, station);
-        self.happen(&Event::Tick { station, next }, None, recorder, outlet)
+        let next = self.words.next(station);
+        self.happen(&Event::Tick { station, next }, None, recorder, outlet, gate)
     }
 
     /// So many ticks of one station.
-    pub fn ticks<K, R: Recorder<K>>(
+    pub fn ticks<K, R: Recorder<K>, G: Gate>(
         &mut self,
         station: u8,
         count: u32,
         recorder: &mut R,
         outlet: &mut K,
+        gate: &G,
     ) -> Result<(), Halt>
         ensures { Did R.Took R.Broke (times count (tick station))
             (moment self.old outlet.old) (moment self.new outlet.new) result }
     {
         for _ in 0..count {
-            self.tick(station, recorder, outlet)?;
+            self.tick(station, recorder, outlet, gate)?;
         }
         Ok(())
     }
 
     /// A tick of each station.
-    fn round<K, R: Recorder<K>>(&mut self, recorder: &mut R, outlet: &mut K) -> Result<(), Halt>
+    fn round<K, R: Recorder<K>, G: Gate>(
+        &mut self,
+        recorder: &mut R,
+        outlet: &mut K,
+        gate: &G,
+    ) -> Result<(), Halt>
         ensures { Did R.Took R.Broke round
             (moment self.old outlet.old) (moment self.new outlet.new) result }
     {
         for station in 0..self.count() {
-            self.tick(station, recorder, outlet)?;
+            self.tick(station, recorder, outlet, gate)?;
         }
         Ok(())
     }
 
     /// So many rounds.
-    pub fn rounds<K, R: Recorder<K>>(
+    pub fn rounds<K, R: Recorder<K>, G: Gate>(
         &mut self,
         count: u32,
         recorder: &mut R,
         outlet: &mut K,
+        gate: &G,
     ) -> Result<(), Halt>
         ensures { Did R.Took R.Broke (times count round)
             (moment self.old outlet.old) (moment self.new outlet.new) result }
     {
         for _ in 0..count {
-            self.round(recorder, outlet)?;
+            self.round(recorder, outlet, gate)?;
         }
         Ok(())
     }
@@ -72,13 +81,14 @@ impl Stage {
     // ---- frames
 
     /// A frame goes from one station to another, unless that sent it or the link is cut.
-    fn pass<K, R: Recorder<K>>(
+    fn pass<K, R: Recorder<K>, G: Gate>(
         &mut self,
         frame: u32,
         from: u8,
         station: u8,
         recorder: &mut R,
         outlet: &mut K,
+        gate: &G,
     ) -> Result<(), Halt>
         ensures { Did R.Took R.Broke (pass frame from station)
             (moment self.old outlet.old) (moment self.new outlet.new) result }
@@ -86,85 +96,90 @@ impl Stage {
         if station == from || self.cuts.is_cut(from, station) {
             return Ok(());
         }
-        self.deliver(frame, station, recorder, outlet)
+        self.deliver(frame, station, recorder, outlet, gate)
     }
 
     /// A frame goes from one station to all others along the links that are whole.
-    fn to_others<K, R: Recorder<K>>(
+    fn to_others<K, R: Recorder<K>, G: Gate>(
         &mut self,
         frame: u32,
         from: u8,
         recorder: &mut R,
         outlet: &mut K,
+        gate: &G,
     ) -> Result<(), Halt>
         ensures { Did R.Took R.Broke (to_others frame from)
             (moment self.old outlet.old) (moment self.new outlet.new) result }
     {
         for station in 0..self.count() {
-            self.pass(frame, from, station, recorder, outlet)?;
+            self.pass(frame, from, station, recorder, outlet, gate)?;
         }
         Ok(())
     }
 
     /// A frame goes to all others, and is marked.
-    pub fn spread<K, R: Recorder<K>>(
+    pub fn spread<K, R: Recorder<K>, G: Gate>(
         &mut self,
         frame: u32,
         recorder: &mut R,
         outlet: &mut K,
+        gate: &G,
     ) -> Result<(), Halt>
         ensures { Did R.Took R.Broke (spread frame)
             (moment self.old outlet.old) (moment self.new outlet.new) result }
     {
         let from = self.frames.sender(frame);
-        self.to_others(frame, from, recorder, outlet)?;
+        self.to_others(frame, from, recorder, outlet, gate)?;
         self.frames.mark(frame);
         Ok(())
     }
 
     /// Frames are spread, one after the other.
-    fn spread_all<K, R: Recorder<K>>(
+    fn spread_all<K, R: Recorder<K>, G: Gate>(
         &mut self,
         frames: &[u32],
         recorder: &mut R,
         outlet: &mut K,
+        gate: &G,
     ) -> Result<(), Halt>
         ensures { Did R.Took R.Broke (each spread frames.now)
             (moment self.old outlet.old) (moment self.new outlet.new) result }
     {
         for frame in frames {
-            self.spread(*frame, recorder, outlet)?;
+            self.spread(*frame, recorder, outlet, gate)?;
         }
         Ok(())
     }
 
     /// A flow round: a round of ticks, and then each frame whose round has come is spread.
-    fn flow_round<K, R: Recorder<K>>(
+    fn flow_round<K, R: Recorder<K>, G: Gate>(
         &mut self,
         recorder: &mut R,
         outlet: &mut K,
+        gate: &G,
     ) -> Result<(), Halt>
         ensures { Did R.Took R.Broke flow_round
             (moment self.old outlet.old) (moment self.new outlet.new) result }
     {
         self.frames.begin_round()?;
-        self.round(recorder, outlet)?;
+        self.round(recorder, outlet, gate)?;
         let frames = self.frames.due(self.alloc, self.lag)?;
-        self.spread_all(&frames, recorder, outlet)
+        self.spread_all(&frames, recorder, outlet, gate)
     }
 
     /// So many flow rounds.
-    pub fn flow<K, R: Recorder<K>>(
+    pub fn flow<K, R: Recorder<K>, G: Gate>(
         &mut self,
         count: u32,
         recorder: &mut R,
         outlet: &mut K,
+        gate: &G,
     ) -> Result<(), Halt>
         ensures { Did R.Took R.Broke (times count flow_round)
             (moment self.old outlet.old) (moment self.new outlet.new) result }
     {
         for _ in 0..count {
-            self.flow_round(recorder, outlet)?;
+            self.flow_round(recorder, outlet, gate)?;
         }
         Ok(())
     }

@@ -28,13 +28,14 @@ use crate::choices::Choices;
 use crate::frames::Frames;
 use crate::halt::{Halt, Kind};
 use crate::links::Links;
-use crate::numbers::Numbers;
 use crate::recorder::Recorder;
 use crate::setup::{group_of, settings_of, supply_of};
 use crate::supply::Supply;
+use crate::words::Words;
 use fact_tally::Tally;
 use lan_base::{Mac, Name, Octets, Sci, UserFrame};
 use lan_core::{Event, Fact, Lan, StepError, Stop};
+use packet_claims::Gate;
 use std::alloc::{AllocError, Global};
 use trace_text::Line;
 
@@ -53,7 +54,7 @@ pub struct Stage {
     pub users: u32,
     pub frames: Frames,
     pub cuts: Links,
-    pub numbers: Numbers,
+    pub words: Words,
     /// How many facts there were of each kind.
     pub tally: Tally,
 }
@@ -79,7 +80,7 @@ impl Stage {
             users: 0,
             frames: Frames::new(alloc),
             cuts: Links::new(alloc),
-            numbers: Numbers::new(alloc),
+            words: Words::new(alloc),
             tally: Tally::new(),
         })
     }
@@ -88,12 +89,13 @@ impl Stage {
 
     /// An event happens, with the user frame that a claim names, and what it shows is counted and
     /// told.
-    pub fn happen<K, R: Recorder<K>>(
+    pub fn happen<K, R: Recorder<K>, G: Gate>(
         &mut self,
         event: &Event,
         user: Option<&UserFrame>,
         recorder: &mut R,
         outlet: &mut K,
+        gate: &G,
     ) -> Result<(), Halt>
         requires { IsTyped event.now }
         ensures { Happened R.Took R.Broke (option_copied user.entry) event.now
@@ -105,7 +107,8 @@ impl Stage {
             Err(StepError::Memory) => return Err(Halt::Memory),
         };
         self.frames.put(facts.as_slice())?;
-        self.numbers.follow(self.alloc, event, facts.as_slice())?;
+        self.words
+            .follow(self.alloc, &self.lan, event, facts.as_slice(), gate)?;
         admit(&mut self.names, &mut self.scis, event)?;
         count_all(&mut self.tally, facts.as_slice());
         recorder.record(&self.names, facts, outlet)?;
@@ -115,12 +118,13 @@ impl Stage {
     // ---- user data
 
     /// A station sends a user frame: it claims a number, and what got one is emitted.
-    fn send<K, R: Recorder<K>>(
+    fn send<K, R: Recorder<K>, G: Gate>(
         &mut self,
         station: u8,
         user: &UserFrame,
         recorder: &mut R,
         outlet: &mut K,
+        gate: &G,
     ) -> Result<(), Halt>
         ensures { Did R.Took R.Broke (seq (add_user user.now) (send station))
             (moment self.old outlet.old) (moment self.new outlet.new) result }
@@ -129,22 +133,23 @@ impl Stage {
             return Err(Halt::Memory);
         };
         self.users = users;
-        let pn = self.numbers.to_claim(&self.lan, station);
+        let pn = self.words.claim(station, gate);
         let claim = Event::Claim {
             station,
             user: users,
             pn,
         };
-        self.happen(&claim, Some(user), recorder, outlet)?;
-        self.emit(pn, recorder, outlet)
+        self.happen(&claim, Some(user), recorder, outlet, gate)?;
+        self.emit(pn, recorder, outlet, gate)
     }
 
     /// What was claimed is emitted, where there is a number.
-    fn emit<K, R: Recorder<K>>(
+    fn emit<K, R: Recorder<K>, G: Gate>(
         &mut self,
         pn: u32,
         recorder: &mut R,
         outlet: &mut K,
+        gate: &G,
     ) -> Result<(), Halt>
         ensures { Did R.Took R.Broke (unless (pn == 0) (happen events.Emit))
             (moment self.old outlet.old) (moment self.new outlet.new) result }
@@ -152,7 +157,7 @@ impl Stage {
         if pn == 0 {
             return Ok(());
         }
-        self.happen(&Event::Emit, None, recorder, outlet)
+        self.happen(&Event::Emit, None, recorder, outlet, gate)
     }
 
     // ---- names
@@ -175,11 +180,12 @@ impl Stage {
     // ---- lines
 
     /// Performs a line.
-    pub fn command<K, R: Recorder<K>>(
+    pub fn command<K, R: Recorder<K>, G: Gate>(
         &mut self,
         line: &Line,
         recorder: &mut R,
         outlet: &mut K,
+        gate: &G,
     ) -> Result<(), Halt>
         requires { IsInForm line.now }
         ensures { Did R.Took R.Broke (act_of line.now)
@@ -191,15 +197,16 @@ impl Stage {
                 kind,
             });
         }
-        self.perform(line, recorder, outlet)
+        self.perform(line, recorder, outlet, gate)
     }
 
     /// Performs a line that isn't refused.
-    pub fn perform<K, R: Recorder<K>>(
+    pub fn perform<K, R: Recorder<K>, G: Gate>(
         &mut self,
         line: &Line,
         recorder: &mut R,
         outlet: &mut K,
+        gate: &G,
     ) -> Result<(), Halt>
         requires form { IsInForm line.now }
         requires later { is_choice line.now ≡ false }
@@ -211,17 +218,24 @@ impl Stage {
                 name,
                 sci,
                 priority,
-            } => self.start(*name, *sci, *priority, recorder, outlet),
-            Line::Tick { rounds } => self.rounds(*rounds, recorder, outlet),
-            Line::TickOne { name, ticks } => self.ticks(self.place(name), *ticks, recorder, outlet),
-            Line::Flow { rounds } => self.flow(*rounds, recorder, outlet),
+            } => self.start(*name, *sci, *priority, recorder, outlet, gate),
+            Line::Tick { rounds } => self.rounds(*rounds, recorder, outlet, gate),
+            Line::TickOne { name, ticks } => self.ticks(
+                self.place(name),
+                *ticks,
+                recorder,
+                outlet,
+                gate,
+            ),
+            Line::Flow { rounds } => self.flow(*rounds, recorder, outlet, gate),
             Line::Deliver { frame, name } => self.deliver(
                 *frame,
                 self.place(name),
                 recorder,
                 outlet,
+                gate,
             ),
-            Line::Spread { frame } => self.spread(*frame, recorder, outlet),
+            Line::Spread { frame } => self.spread(*frame, recorder, outlet, gate),
             Line::Lose { frame } => {
                 self.lose(*frame);
                 Ok(())
@@ -234,30 +248,32 @@ impl Stage {
                 self.mend(self.place(from), self.place(to));
                 Ok(())
             }
-            Line::Restart { name } => self.restart(self.place(name), recorder, outlet),
+            Line::Restart { name } => self.restart(self.place(name), recorder, outlet, gate),
             Line::Send {
                 name,
                 destination,
                 body,
-            } => self.send_body(self.place(name), *destination, body, recorder, outlet),
+            } => self.send_body(self.place(name), *destination, body, recorder, outlet, gate),
             Line::Inject { name, octets } => self.inject(
                 self.place(name),
                 octets,
                 recorder,
                 outlet,
+                gate,
             ),
             _ => Ok(()),
         }
     }
 
     /// A station starts.
-    fn start<K, R: Recorder<K>>(
+    fn start<K, R: Recorder<K>, G: Gate>(
         &mut self,
         name: Name,
         sci: Sci,
         priority: u32,
         recorder: &mut R,
         outlet: &mut K,
+        gate: &G,
     ) -> Result<(), Halt>
         requires { IsSci sci }
         ensures { priority ≤ 255
@@ -270,21 +286,23 @@ impl Stage {
             sci,
             priority: few(priority as usize),
         };
-        self.happen(&start, None, recorder, outlet)
+        self.happen(&start, None, recorder, outlet, gate)
     }
 
     /// A frame reaches a station.
-    pub fn deliver<K, R: Recorder<K>>(
+    pub fn deliver<K, R: Recorder<K>, G: Gate>(
         &mut self,
         frame: u32,
         station: u8,
         recorder: &mut R,
         outlet: &mut K,
+        gate: &G,
     ) -> Result<(), Halt>
         ensures { Did R.Took R.Broke (happen (events.Deliver frame station))
             (moment self.old outlet.old) (moment self.new outlet.new) result }
     {
-        self.happen(&Event::Deliver { frame, station }, None, recorder, outlet)
+        let deliver = Event::Deliver { frame, station };
+        self.happen(&deliver, None, recorder, outlet, gate)
     }
 
     /// A frame waits for no round any more.
@@ -311,26 +329,28 @@ impl Stage {
     }
 
     /// A station begins a new life.
-    fn restart<K, R: Recorder<K>>(
+    fn restart<K, R: Recorder<K>, G: Gate>(
         &mut self,
         station: u8,
         recorder: &mut R,
         outlet: &mut K,
+        gate: &G,
     ) -> Result<(), Halt>
         ensures { Did R.Took R.Broke (happen (events.Restart station))
             (moment self.old outlet.old) (moment self.new outlet.new) result }
     {
-        self.happen(&Event::Restart { station }, None, recorder, outlet)
+        self.happen(&Event::Restart { station }, None, recorder, outlet, gate)
     }
 
     /// A station sends user data to an address.
-    fn send_body<K, R: Recorder<K>>(
+    fn send_body<K, R: Recorder<K>, G: Gate>(
         &mut self,
         station: u8,
         destination: Mac,
         body: &Octets,
         recorder: &mut R,
         outlet: &mut K,
+        gate: &G,
     ) -> Result<(), Halt>
         ensures { Did R.Took R.Broke (seq (add_user
             (record { destination = destination; body = body.now })) (send station))
@@ -340,23 +360,25 @@ impl Stage {
             destination,
             body: body.copied(self.alloc)?,
         };
-        self.send(station, &user, recorder, outlet)
+        self.send(station, &user, recorder, outlet, gate)
     }
 
     /// Foreign octets reach a station.
-    fn inject<K, R: Recorder<K>>(
+    fn inject<K, R: Recorder<K>, G: Gate>(
         &mut self,
         station: u8,
         octets: &Octets,
         recorder: &mut R,
         outlet: &mut K,
+        gate: &G,
     ) -> Result<(), Halt>
         ensures { Did R.Took R.Broke (happen (events.Inject station octets.now))
             (moment self.old outlet.old) (moment self.new outlet.new) result }
     {
         let octets = octets.copied(self.alloc)?;
         octets.as_slice();
-        self.happen(&Event::Inject { station, octets }, None, recorder, outlet)
+        let inject = Event::Inject { station, octets };
+        self.happen(&inject, None, recorder, outlet, gate)
     }
 }
 

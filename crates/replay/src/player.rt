@@ -1,16 +1,18 @@
 //! Who takes the lines of a trace: a replay, and whoever is told what it shows.
 
 use lan_schedule::{Halt, Recorder, Replay};
+use packet_claims::Gate;
 use text_lines::LineTaker;
 
-/// A replay with a recorder, which take lines together.
+/// A replay with a recorder, which take lines together, at a gate.
 #[derive(Drop)]
-pub struct Player<R> {
+pub struct Player<'g, R, G> {
     pub replay: Replay,
     pub recorder: R,
+    pub gate: &'g G,
 }
 
-impl<K, R: Recorder<K>> LineTaker<K> for Player<R> {
+impl<K, R: Recorder<K>, G: Gate> LineTaker<K> for Player<'_, R, G> {
     ghost use Rattle.replay.specs.inside.Playing.{DidLines};
     ghost use Rattle.lan_schedule.proofs.Public.{does-none, does-more, does-early};
 
@@ -19,7 +21,8 @@ impl<K, R: Recorder<K>> LineTaker<K> for Player<R> {
     ghost Did = { DidLines R.Took R.Broke (λ at. at.taker.replay) };
 
     fn line(&mut self, text: &[u8], outlet: &mut K) -> Result<(), Halt> {
-        self.replay.text(text, &mut self.recorder, outlet)
+        self.replay
+            .text(text, &mut self.recorder, outlet, self.gate)
     }
 
     ghost none = { λ a. does-none _ };

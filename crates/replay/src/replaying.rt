@@ -20,6 +20,7 @@ use lan_base::{Sink, Source};
 use lan_schedule::{
     Broken, Replay, law_acts_stop_for_their_own_reasons, law_lines_leave_a_tidy_world,
 };
+use packet_claims::Gate;
 use std::alloc::Global;
 use text_lines::read_lines;
 
@@ -28,11 +29,13 @@ const MAX_INPUT: usize = 4_194_304;
 
 /// Reads a trace from a source to its end, and performs each line as soon as it has ended. Without
 /// `summary` it writes what each event shows before the next one happens; with it, nothing before
-/// the end, and then the line that says how many facts there were of each kind.
-pub fn replay<S: Source, K: Sink>(
+/// the end, and then the line that says how many facts there were of each kind. The gate is passed
+/// after each move of a station's current word.
+pub fn replay<S: Source, K: Sink, G: Gate>(
     alloc: Global,
     source: &mut S,
     sink: &mut K,
+    gate: &G,
     summary: bool,
 ) -> Result<(), Cause>
     ensures { IsReplayed (shown_by summary)
@@ -42,14 +45,19 @@ pub fn replay<S: Source, K: Sink>(
         (sunk (K.held sink.new) (K.faults sink.new)) result }
 {
     if summary {
-        summarize(alloc, source, sink)
+        summarize(alloc, source, sink, gate)
     } else {
-        transcribe(alloc, source, sink)
+        transcribe(alloc, source, sink, gate)
     }
 }
 
 /// Replays a trace for its transcript.
-fn transcribe<S: Source, K: Sink>(alloc: Global, source: &mut S, sink: &mut K) -> Result<(), Cause>
+fn transcribe<S: Source, K: Sink, G: Gate>(
+    alloc: Global,
+    source: &mut S,
+    sink: &mut K,
+    gate: &G,
+) -> Result<(), Cause>
     ensures { IsReplayed (shown_by false)
         (sourced (S.left source.old) (S.faults source.old))
         (sourced (S.left source.new) (S.faults source.new))
@@ -61,6 +69,7 @@ fn transcribe<S: Source, K: Sink>(alloc: Global, source: &mut S, sink: &mut K) -
     let mut player = Player {
         replay: Replay::new(alloc),
         recorder: Transcript::new(alloc),
+        gate,
     };
     match read_lines(alloc, MAX_INPUT, source, &mut player, sink) {
         Ok(()) => Ok(()),
@@ -69,7 +78,12 @@ fn transcribe<S: Source, K: Sink>(alloc: Global, source: &mut S, sink: &mut K) -
 }
 
 /// Replays a trace for its summary.
-fn summarize<S: Source, K: Sink>(alloc: Global, source: &mut S, sink: &mut K) -> Result<(), Cause>
+fn summarize<S: Source, K: Sink, G: Gate>(
+    alloc: Global,
+    source: &mut S,
+    sink: &mut K,
+    gate: &G,
+) -> Result<(), Cause>
     ensures { IsReplayed (shown_by true)
         (sourced (S.left source.old) (S.faults source.old))
         (sourced (S.left source.new) (S.faults source.new))
@@ -81,6 +95,7 @@ fn summarize<S: Source, K: Sink>(alloc: Global, source: &mut S, sink: &mut K) ->
     let mut player = Player {
         replay: Replay::new(alloc),
         recorder: Unrecorded,
+        gate,
     };
     match read_lines(alloc, MAX_INPUT, source, &mut player, sink) {
         Ok(()) => answered(write_line(alloc, player.replay.tally(), sink)),

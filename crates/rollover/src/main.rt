@@ -3,6 +3,7 @@
 #![tactic(auto)]
 
 use lan_base::{StdSink, StdSource};
+use packet_claims::OpenGate;
 use rollover_program::{Cause, Status, rollover};
 use std::alloc::AllocError;
 use std::process::ExitCode;
@@ -28,6 +29,7 @@ fn status(rt: &HostRuntime) -> Status {
             &words,
             &mut StdSource::new(rt.reader()),
             &mut StdSink::new(io::writer(rt)),
+            &OpenGate,
         ),
         Err(_) => Status::Halted(Cause::Memory),
     }

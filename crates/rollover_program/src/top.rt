@@ -24,6 +24,7 @@ use crate::status::Status;
 use crate::words::{Order, Refusal, read_order};
 use lan_base::{Sink, Source};
 use lan_schedule::law_lines_leave_a_tidy_world;
+use packet_claims::Gate;
 use replay::Cause;
 use std::alloc::Global;
 
@@ -33,15 +34,16 @@ use std::alloc::Global;
 /// writes the transcript to the sink, that of each event before the next one happens. With
 /// `--summary` it writes nothing before the end, and then the line that says how many facts there
 /// were of each kind. `make N` writes the trace that is made of a number from 1 to 9999. `try N`
-/// performs that trace for its summary line. These two do not read the source. `check` reads a
-/// transcript from the source to its end, whoever wrote it, judges each line as soon as it has ended,
-/// and writes the verdict at the end. Clauses that name a text speak of a source that tells its
-/// octets.
-pub fn rollover<S: Source, K: Sink>(
+/// performs that trace for its summary line. These two do not read the source. The gate is passed
+/// after each move of a station's current word. `check` reads a transcript from the source to its
+/// end, whoever wrote it, judges each line as soon as it has ended, and writes the verdict at the
+/// end. Clauses that name a text speak of a source that tells its octets.
+pub fn rollover<S: Source, K: Sink, G: Gate>(
     alloc: Global,
     words: &[String],
     source: &mut S,
     sink: &mut K,
+    gate: &G,
 ) -> Status
     // The words are no command exactly where clap refuses them, unless memory runs out; nothing was
     // read, written or counted then. All other words order something, with a number from 1 to 9999
@@ -108,17 +110,18 @@ pub fn rollover<S: Source, K: Sink>(
     law_tidy_runs_are_promised();
     law_lines_leave_a_tidy_world();
     match read_order(alloc, words) {
-        Ok(order) => carry_out(alloc, order, source, sink),
+        Ok(order) => carry_out(alloc, order, source, sink, gate),
         Err(refusal) => status_of_refusal(refusal),
     }
 }
 
 /// Carries an order out. A run and a check read the source.
-fn carry_out<S: Source, K: Sink>(
+fn carry_out<S: Source, K: Sink, G: Gate>(
     alloc: Global,
     order: Order,
     source: &mut S,
     sink: &mut K,
+    gate: &G,
 ) -> Status
     ensures done { CarriesOut order
         (sourced (S.left source.old) (S.faults source.old))
@@ -134,9 +137,9 @@ fn carry_out<S: Source, K: Sink>(
         → Rose (K.faults sink.old) (K.faults sink.new) }
 {
     match order {
-        Order::Run { summary } => run(alloc, summary, source, sink),
+        Order::Run { summary } => run(alloc, summary, source, sink, gate),
         Order::Make { number } => make(alloc, number, sink),
-        Order::Try { number } => try_made(alloc, number, sink),
+        Order::Try { number } => try_made(alloc, number, sink, gate),
         Order::Check => check(alloc, source, sink),
     }
 }

@@ -1,6 +1,7 @@
 //! A trace is performed through the top call.
 
 use lan_base::{MemorySink, MemorySource, Octets};
+use packet_claims::OpenGate;
 use rollover_program::{Cause, Kind, Status, rollover};
 use std::alloc::{AllocError, Global};
 
@@ -48,7 +49,7 @@ pub(crate) fn ordered(
         reads,
     );
     let mut sink = MemorySink::new(alloc, outside.write.max(1), writes);
-    let status = rollover(alloc, &owned, &mut source, &mut sink);
+    let status = rollover(alloc, &owned, &mut source, &mut sink, &OpenGate);
     Ok(Left {
         status,
         held: Octets::from_slice(alloc, sink.held())?,

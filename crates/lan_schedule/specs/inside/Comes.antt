@@ -1,9 +1,9 @@
 -- Which acts can be performed in a world: each of their events may come where it is reached.
-use Rattle.std.specs.Prelude.{◌≡◌, Option, None}
+use Rattle.std.specs.Prelude.{◌≡◌, ◌≤◌, ℕ, false, length, Option, None}
 use Rattle.lan_base.specs.declared.frame.UserFrame.{UserFrame}
 use Rattle.lan_core.specs.declared.event.Event.{Event}
 use Rattle.lan_core.specs.declared.event.Event.TheVariants as events
-use Rattle.lan_core.specs.Claims.{user_at}
+use Rattle.lan_core.specs.Claims.{user_at, next}
 use Rattle.lan_core.specs.Stops.{MayCome}
 use Rattle.lan_schedule.specs.Sound.{IsTidy}
 use Rattle.lan_schedule.specs.World.{World, settings}
@@ -20,10 +20,16 @@ abbrev pub IsGoing : Course → (World → Type 0) → Type 0
 IsGoing (Goes w) Holds = Holds w
 IsGoing (Stops w halt) Holds = Unit {0}
 
--- an event shows and claims the packet number that it has to, and no other
+-- where no race was begun, there are as many user frames as the number of this one, and no next
+-- number is above it
+abbrev pub HasRoom : World → ℕ → Type 0
+HasRoom w user = w.kept.raced ≡ false
+    → (user ≤ length w.kept.users) × ((s epoch : ℕ) → next (settings w) s epoch w.run ≤ user)
+
+-- an event shows and claims the packet number that it has to, and no other; a claim finds one left
 abbrev pub IsExact : World → Event → Type 0
 IsExact w (events.Tick s shown) = shown ≡ number_shown w s
-IsExact w (events.Claim s user pn) = pn ≡ number_claimed w s
+IsExact w (events.Claim s user pn) = (pn ≡ number_claimed w s) × HasRoom w user
 IsExact w _ = Unit {0}
 
 -- an act can be performed in a world

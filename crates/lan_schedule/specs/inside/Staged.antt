@@ -11,8 +11,9 @@ use Rattle.lan_schedule.specs.World.{World, Kept, nothing_kept}
 use Rattle.lan_schedule.specs.Acts.{Act, happen, perform}
 use Rattle.lan_schedule.specs.Reports.{Report}
 use Rattle.lan_schedule.specs.Ends.{Moment, IsReached, Ends}
-use Rattle.lan_schedule.specs.Stages.{StandsFor, Counts}
+use Rattle.lan_schedule.specs.Stages.{StandsWith, StandsFor, Counts}
 use Rattle.lan_schedule.specs.inside.Comes.{Comes, named}
+use Rattle.lan_schedule.specs.inside.Set.{AreSet}
 
 -- a call did an act, in each world for which the group may stand, in which the act can be performed,
 -- and whose chances begin with those that were decided in the call
@@ -24,13 +25,14 @@ pub record Did {K : Type 0} (Took : K → Report → K → Type 0)
       → IsReached StandsFor w old.value → Comes act w
       → Ends StandsFor Counts Took Broke w later (perform act w) old.outlet new result
 
--- an event happened, where this user frame is the one that it names
+-- an event happened, where the words are set for it, and this user frame is the one that it names
 pub record Happened {K : Type 0} (Took : K → Report → K → Type 0)
     (Broke : K → Report → K → Broken → Type 0) (given : Option UserFrame) (event : Event)
     (old new : Moment Stage K) (result : Result (Unit {0}) Halt) : Type 0 where
   pub chances : List Chance
   pub ends : (w : World) (later : List Chance) → w.kept.chances ≡ chances ++ later
-      → IsReached StandsFor w old.value → given ≡ named w event → Comes (happen event) w
+      → IsReached (StandsWith (AreSet event)) w old.value → given ≡ named w event
+      → Comes (happen event) w
       → Ends StandsFor Counts Took Broke w later (perform (happen event) w) old.outlet new result
 
 -- what is kept beside the run changed so, and nothing else

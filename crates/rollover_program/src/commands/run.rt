@@ -11,10 +11,17 @@ ghost use Rattle.rollover_program.specs.commands.Run.{EndsAsRun};
 use crate::laws::law_tidy_runs_are_promised;
 use crate::status::{Status, status_of};
 use lan_base::{Sink, Source};
+use packet_claims::Gate;
 use std::alloc::Global;
 
 /// Performs a trace, for its transcript or for its summary.
-pub fn run<S: Source, K: Sink>(alloc: Global, summary: bool, source: &mut S, sink: &mut K) -> Status
+pub fn run<S: Source, K: Sink, G: Gate>(
+    alloc: Global,
+    summary: bool,
+    source: &mut S,
+    sink: &mut K,
+    gate: &G,
+) -> Status
     ensures ends { (text : List ℕ) → S.left source.old ≡ Some text → EndsAsRun summary text
         (sourced (S.left source.old) (S.faults source.old))
         (sourced (S.left source.new) (S.faults source.new))
@@ -27,5 +34,5 @@ pub fn run<S: Source, K: Sink>(alloc: Global, summary: bool, source: &mut S, sin
         → Rose (K.faults sink.old) (K.faults sink.new) }
 {
     law_tidy_runs_are_promised();
-    status_of(replay::replay(alloc, source, sink, summary))
+    status_of(replay::replay(alloc, source, sink, gate, summary))
 }

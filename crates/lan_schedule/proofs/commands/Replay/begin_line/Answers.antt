@@ -13,9 +13,8 @@ returns-in-Some c = λ w stands.
       names = refl;
       scis = refl;
       frames = refl;
-      numbers = refl;
       tally = refl;
-    }) refl refl refl at) stands
+    }) refl refl refl refl at) stands
 
 pub returns : goal.returns
 returns c = λ w stands.

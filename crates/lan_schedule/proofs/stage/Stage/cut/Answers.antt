@@ -11,6 +11,5 @@ returns-clause-ok c =
       names = refl;
       scis = refl;
       frames = refl;
-      numbers = refl;
       tally = refl;
-    }) refl refl c.in_ok-cut.ensures
+    }) refl refl refl c.in_ok-cut.ensures

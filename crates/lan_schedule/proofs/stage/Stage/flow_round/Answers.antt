@@ -20,7 +20,7 @@ returns-in_err-round g c =
       scis = refl;
       users = refl;
       cuts = refl;
-      numbers = refl;
+      words = refl;
       tally = refl;
     }) c.in_ok-begin_round.ensures.ok) refl) in
     handed-on _ _ _ _ _ (leads-err _ _ _ _ _ _ _ begun c.in_err-round.ensures)
@@ -38,7 +38,7 @@ returns-in_err-frames g c =
       scis = refl;
       users = refl;
       cuts = refl;
-      numbers = refl;
+      words = refl;
       tally = refl;
     }) c.in_ok-begin_round.ensures.ok) refl) in
     let ticked = leads-step _ _ _ _ _ _ begun c.in_ok-round.ensures in
@@ -57,7 +57,7 @@ returns g c =
       scis = refl;
       users = refl;
       cuts = refl;
-      numbers = refl;
+      words = refl;
       tally = refl;
     }) c.in_ok-begin_round.ensures.ok) refl) in
     let ticked = leads-step _ _ _ _ _ _ begun c.in_ok-round.ensures in

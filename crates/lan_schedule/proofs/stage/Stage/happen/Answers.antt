@@ -36,8 +36,9 @@ returns-in_err-record g c =
       names = c.in_ok-admit.ensures.names;
       scis = c.in_ok-admit.ensures.scis;
       frames = rw c.as_slice.ensures at c.in_ok-put.ensures;
-      numbers = λ settings r tell shows.
-          (rw c.as_slice-2.ensures at c.in_ok-follow.ensures) settings r tell shows;
+      words = λ settings users r before after stepped exact set.
+          (rw c.as_slice-2.ensures at c.in_ok-follow.ensures) settings users c.args.self.now.lan r
+          before after stepped exact set;
       tally = λ shown stood. (rw c.as_slice-3.ensures at c.count_all.ensures) shown stood;
     })
     (rw c.deref.ensures.value at c.in_err-record.ensures)) c.from_residual-in_err-record.ensures.1
@@ -59,8 +60,9 @@ returns g c =
       names = c.in_ok-admit.ensures.names;
       scis = c.in_ok-admit.ensures.scis;
       frames = rw c.as_slice.ensures at c.in_ok-put.ensures;
-      numbers = λ settings r tell shows.
-          (rw c.as_slice-2.ensures at c.in_ok-follow.ensures) settings r tell shows;
+      words = λ settings users r before after stepped exact set.
+          (rw c.as_slice-2.ensures at c.in_ok-follow.ensures) settings users c.args.self.now.lan r
+          before after stepped exact set;
       tally = λ shown stood. (rw c.as_slice-3.ensures at c.count_all.ensures) shown stood;
     })
     (rw c.deref.ensures.value at c.in_ok-record.ensures)

@@ -13,6 +13,6 @@ returns c =
       scis = refl;
       users = refl;
       cuts = refl;
-      numbers = refl;
+      words = refl;
       tally = refl;
     }) c.mark.ensures

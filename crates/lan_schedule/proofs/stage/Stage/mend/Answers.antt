@@ -11,6 +11,5 @@ returns c =
       names = refl;
       scis = refl;
       frames = refl;
-      numbers = refl;
       tally = refl;
-    }) refl refl c.mend.ensures
+    }) refl refl refl c.mend.ensures

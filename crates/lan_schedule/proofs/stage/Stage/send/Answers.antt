@@ -1,7 +1,7 @@
-use Rattle.std.proofs.Common.{◌≡◌, ◌+◌, refl, arith}
-use Rattle.lan_schedule.specs.World.{settings}
+use Rattle.std.proofs.Common.{◌≡◌, ◌≤◌, ◌+◌, refl, arith}
+use Rattle.lan_core.specs.Expected.{last_number}
 use Rattle.lan_schedule.proofs.Doing.{memory-does, handed-on}
-use Rattle.lan_schedule.proofs.Sending.{send-does, user-stands, claim-err, claim-ok}
+use Rattle.lan_schedule.proofs.Sending.{send-does, claim-err, claim-ok}
 use Rattle.lan_schedule.proofs.stage.Stage.send.Goals as goal
 
 pub returns-in_default : goal.returns-in_default
@@ -10,43 +10,39 @@ returns-in_default g c = memory-does _ _ _ refl refl
 pub returns-in_err-happen : goal.returns-in_err-happen
 returns-in_err-happen g c =
     let one_more : c.in-Some.users ≡ c.args.self.now.users + 1 = grind arith in
+    let few : c.in-Some.users ≤ last_number = grind arith in
     handed-on _ _ _ _ _
-    (send-does c.args.station c.in-Some.users c.to_claim-pn.result c.args.user.now _ _ _ _ _ refl
-    (λ w stands. user-stands c.args.user.now w _ _ stands (record {
+    (send-does c.args.station c.in-Some.users c.claim-pn.result c.args.user.now _ _ _ _ _ refl
+    (record {
       lag = refl;
       lan = refl;
       draws = refl;
       names = refl;
       scis = refl;
       frames = refl;
-      numbers = refl;
       tally = refl;
-    }) refl one_more refl)
-    (λ w stands. (
-      stands.users,
-      c.to_claim-pn.ensures (settings w) w.kept.users w.run stands.lan stands.numbers,
-    ))
-    (claim-err c.args.station c.in-Some.users c.to_claim-pn.result c.args.user.now _ _ _
+    }) refl one_more refl few refl c.claim-pn.ensures.claimed
+    (λ settings run tied there most.
+    c.claim-pn.ensures.ahead settings run c.in-Some.users tied there most)
+    (claim-err c.args.station c.in-Some.users c.claim-pn.result c.args.user.now _ _ _
     c.in_err-happen.ensures))
     c.from_residual.ensures.1
 
 pub returns : goal.returns
 returns g c =
     let one_more : c.in-Some.users ≡ c.args.self.now.users + 1 = grind arith in
-    send-does c.args.station c.in-Some.users c.to_claim-pn.result c.args.user.now _ _ _ _ _ refl
-    (λ w stands. user-stands c.args.user.now w _ _ stands (record {
+    let few : c.in-Some.users ≤ last_number = grind arith in
+    send-does c.args.station c.in-Some.users c.claim-pn.result c.args.user.now _ _ _ _ _ refl
+    (record {
       lag = refl;
       lan = refl;
       draws = refl;
       names = refl;
       scis = refl;
       frames = refl;
-      numbers = refl;
       tally = refl;
-    }) refl one_more refl)
-    (λ w stands. (
-      stands.users,
-      c.to_claim-pn.ensures (settings w) w.kept.users w.run stands.lan stands.numbers,
-    ))
-    (claim-ok c.args.station c.in-Some.users c.to_claim-pn.result c.args.user.now _ _ _ _
+    }) refl one_more refl few refl c.claim-pn.ensures.claimed
+    (λ settings run tied there most.
+    c.claim-pn.ensures.ahead settings run c.in-Some.users tied there most)
+    (claim-ok c.args.station c.in-Some.users c.claim-pn.result c.args.user.now _ _ _ _
     c.in_ok-happen.ensures c.emit.ensures)

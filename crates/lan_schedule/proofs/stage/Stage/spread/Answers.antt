@@ -25,6 +25,6 @@ returns g c =
       scis = refl;
       users = refl;
       cuts = refl;
-      numbers = refl;
+      words = refl;
       tally = refl;
     }) c.mark.ensures) refl)

@@ -1,16 +1,15 @@
-use Rattle.std.proofs.Common.{refl, ap, sym, ◌∙◌}
-use Rattle.lan_core.specs.declared.event.Event.TheVariants.{Tick}
-use Rattle.lan_schedule.specs.World.{settings}
-use Rattle.lan_schedule.specs.Acts.{happen}
-use Rattle.lan_schedule.proofs.Calm.{calm-shown}
-use Rattle.lan_schedule.proofs.Doing.{look-leads}
-use Rattle.lan_schedule.proofs.Happening.{plainly}
+use Rattle.std.proofs.Common.{refl}
+use Rattle.lan_schedule.proofs.Happening.{tick-does}
 use Rattle.lan_schedule.proofs.stage.Stage.tick.Goals as goal
 
 pub returns : goal.returns
 returns g c =
-    (look-leads _ (happen (Tick c.args.station c.shown-next.result)) _ (λ w stands tidy.
-    ap (λ n. happen (Tick c.args.station n))
-    (c.shown-next.ensures (settings w) w.kept.users w.run stands.lan stands.numbers
-    ∙ sym (calm-shown w c.args.station stands.calm)))).leads _ _
-    (plainly (Tick c.args.station c.shown-next.result) _ _ _ (λ w. refl) c.happen.ensures)
+    tick-does c.args.station c.next-next.result _ _ _ _ refl (record {
+      lag = refl;
+      lan = refl;
+      draws = refl;
+      names = refl;
+      scis = refl;
+      frames = refl;
+      tally = refl;
+    }) refl refl refl c.next-next.ensures.next c.next-next.ensures.ahead c.happen.ensures

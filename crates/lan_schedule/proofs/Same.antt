@@ -1,0 +1,68 @@
+-- A group at work stands for the same world where few of its fields changed.
+use Rattle.std.proofs.Common.{◌≡◌, ℕ, Bool, true, List, length, refl, sym, ap, ◌∙◌, subst}
+use Rattle.lan_base.specs.declared.frame.UserFrame.{UserFrame}
+use Rattle.association_slots.specs.Views.{ControlAt}
+use Rattle.lan_core.specs.declared.settings.Settings.{Settings}
+use Rattle.lan_core.specs.Run.{Run}
+use Rattle.lan_core.specs.Standing.{State, StandsFor as GroupStandsFor}
+use Rattle.lan_schedule.specs.declared.links.Link.{Link}
+use Rattle.lan_schedule.specs.declared.stage.Stage.{Stage}
+use Rattle.lan_schedule.specs.Supply.{supply_nth}
+use Rattle.lan_schedule.specs.World.{World, settings}
+use Rattle.lan_schedule.specs.Stages.{StandsWith}
+
+-- all but lines, users, links and words is as before
+pub record IsSame (old new : Stage) : Type 0 where
+  pub lag : new.lag ≡ old.lag
+  pub lan : new.lan ≡ old.lan
+  pub draws : new.draws ≡ old.draws
+  pub names : new.names ≡ old.names
+  pub scis : new.scis ≡ old.scis
+  pub frames : new.frames ≡ old.frames
+  pub tally : new.tally ≡ old.tally
+
+pub same-self : (stage : Stage) → IsSame stage stage
+same-self stage = record {
+  lag = refl;
+  lan = refl;
+  draws = refl;
+  names = refl;
+  scis = refl;
+  frames = refl;
+  tally = refl;
+}
+
+module _ {A B : Settings → Run → List ControlAt → Type 0} where
+  -- another line, other users, links and words
+  pub stands-with : (w : World) (line : ℕ) (users : List UserFrame) (cuts : List Link)
+      (begun : Bool) (old new : Stage) → StandsWith A w old → IsSame old new → new.line ≡ line
+      → new.users ≡ length users → new.cuts ≡ cuts → begun ≡ true
+      → GroupStandsFor (settings w) users old.lan w.run → B (settings w) w.run new.words
+      → StandsWith B (record w {
+        kept = record w.kept { line = line; users = users; cuts = cuts; begun = begun };
+      }) new
+  stands-with w line users cuts begun old new stands same is_line is_users is_cuts is_begun lan
+      words = record {
+        begun = is_begun;
+        calm = stands.calm;
+        keyed = stands.keyed;
+        line = is_line;
+        lag = same.lag ∙ stands.lag;
+        lan = subst (λ (l : State). GroupStandsFor (settings w) users l w.run) (sym same.lan) lan;
+        draws = λ k. ap (λ draws. supply_nth draws k) same.draws ∙ stands.draws k;
+        names = ap (λ names. names.items) same.names ∙ stands.names;
+        scis = ap (λ scis. scis.items) same.scis ∙ stands.scis;
+        users = is_users;
+        flow = same.frames ∙ stands.flow;
+        cuts = is_cuts;
+        words = words;
+        tally = same.tally ∙ stands.tally;
+      }
+
+  -- other words
+  pub stands-moved : (w : World) (old new : Stage) → IsSame old new → new.line ≡ old.line
+      → new.users ≡ old.users → new.cuts ≡ old.cuts → B (settings w) w.run new.words
+      → StandsWith A w old → StandsWith B w new
+  stands-moved w old new same line users cuts words stands =
+      stands-with w w.kept.line w.kept.users w.kept.cuts w.kept.begun old new stands same
+      (line ∙ stands.line) (users ∙ stands.users) (cuts ∙ stands.cuts) stands.begun stands.lan words

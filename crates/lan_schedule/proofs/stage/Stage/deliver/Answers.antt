@@ -1,0 +1,9 @@
+use Rattle.std.proofs.Common.{refl}
+use Rattle.lan_core.specs.declared.event.Event.TheVariants.{Deliver}
+use Rattle.lan_schedule.proofs.Happening.{plainly}
+use Rattle.lan_schedule.proofs.stage.Stage.deliver.Goals as goal
+
+pub returns : goal.returns
+returns g c =
+    plainly (Deliver c.args.frame c.args.station) _ _ _ (λ w. refl)
+    (λ settings run cs tied. tied) c.happen.ensures

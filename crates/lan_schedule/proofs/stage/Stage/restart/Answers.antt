@@ -1,0 +1,9 @@
+use Rattle.std.proofs.Common.{refl}
+use Rattle.lan_core.specs.declared.event.Event.TheVariants.{Restart}
+use Rattle.lan_schedule.proofs.Happening.{plainly}
+use Rattle.lan_schedule.proofs.stage.Stage.restart.Goals as goal
+
+pub returns : goal.returns
+returns g c =
+    plainly (Restart c.args.station) _ _ _ (λ w. refl) (λ settings run cs tied. tied)
+    c.happen.ensures

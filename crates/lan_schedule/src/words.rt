@@ -1,0 +1,113 @@
+//! The words of all stations, which show packet numbers and give them.
+
+ghost use Rattle.std.specs.Prelude.{◌≡◌, ◌≤◌, ◌<◌, ◌∷◌, [], ℕ, List, length, OnOk};
+ghost use Rattle.lan_base.specs.declared.frame.UserFrame.{UserFrame};
+ghost use Rattle.association_slots.specs.Views.{ControlAt};
+ghost use Rattle.lan_core.specs.declared.event.Event.TheVariants as events;
+ghost use Rattle.lan_core.specs.declared.settings.Settings.{Settings};
+ghost use Rattle.lan_core.specs.Run.{Run, happened, stations};
+ghost use Rattle.lan_core.specs.Expected.{last_number};
+ghost use Rattle.lan_core.specs.Legal.{IsStepped};
+ghost use Rattle.lan_core.specs.Standing.{State, StandsFor};
+ghost use Rattle.group_safety.specs.Accounts.{IsExact};
+ghost use Rattle.transmit_words.specs.Ties.{tables_of, AreTied, AreAhead};
+ghost use Rattle.lan_schedule.specs.Numbers.{shown_next};
+ghost use Rattle.lan_schedule.specs.inside.Set.{AreSet};
+
+use association_slots::SlotTable;
+use lan_core::{Event, Fact, Lan};
+use packet_claims::Gate;
+use std::alloc::{AllocError, Global};
+use std::marker::Model;
+use transmit_words::{Controls, law_all_words_stay_tied, law_new_words_are_tied};
+
+/// The words of all stations: the tables by place, and the hands that move them. Contracts see what
+/// the hands know.
+#[derive(Drop)]
+pub struct Words {
+    tables: Vec<SlotTable>,
+    controls: Controls,
+}
+
+impl Model for Words {
+    ghost use Rattle.std.specs.Prelude.{◌≡◌, List};
+    ghost use Rattle.association_slots.specs.Views.{ControlAt};
+    ghost use Rattle.transmit_words.specs.Ties.{tables_of};
+
+    ghost Value = { List ControlAt };
+
+    ghost view = { λ w. w.controls };
+
+    ghost invariant = { λ w. tables_of w.controls ≡ w.tables.items };
+}
+
+impl Words {
+    /// No station has started.
+    pub fn new(alloc: Global) -> Self
+        ensures { result ≡ [] }
+    {
+        Words {
+            tables: Vec::new(alloc),
+            controls: Controls::new(alloc),
+        }
+    }
+
+    /// The number that a tick of a station shows: the next one under the key that transmits, or 0.
+    pub fn next(&mut self, station: u8) -> u64
+        ensures next { (settings : Settings) (r : Run) → AreTied settings r self.old
+            → station < length (stations r) → result ≡ shown_next settings station r }
+        ensures ahead { (settings : Settings) (r : Run) → AreTied settings r self.old
+            → station < length (stations r)
+            → AreAhead settings r (events.Tick station result) self.new }
+    {
+        self.controls.next(&self.tables, station)
+    }
+
+    /// The number that a station claims, 0 where no key transmits.
+    pub fn claim<G: Gate>(&mut self, station: u8, gate: &G) -> u32
+        ensures claimed { (settings : Settings) (r : Run) → AreTied settings r self.old
+            → station < length (stations r) → shown_next settings station r ≤ last_number
+            → result ≡ shown_next settings station r }
+        ensures ahead { (settings : Settings) (r : Run) (user : ℕ) → AreTied settings r self.old
+            → station < length (stations r) → shown_next settings station r ≤ last_number
+            → AreAhead settings r (events.Claim station user result) self.new }
+    {
+        self.controls.claim(&self.tables, station, gate)
+    }
+
+    /// The words follow an event and its facts, after the step of the group.
+    pub fn follow<G: Gate>(
+        &mut self,
+        alloc: Global,
+        lan: &Lan,
+        event: &Event,
+        facts: &[Fact],
+        gate: &G,
+    ) -> Result<(), AllocError>
+        ensures { (settings : Settings) (users : List UserFrame) (before : State) (r : Run)
+            → StandsFor settings users before r
+            → StandsFor settings users lan.now (happened event.now facts.now ∷ r)
+            → IsStepped settings users (happened event.now facts.now ∷ r)
+            → IsExact settings r event.now → AreSet event.now settings r self.old
+            → OnOk result (AreTied settings (happened event.now facts.now ∷ r) self.new) }
+    {
+        law_all_words_stay_tied();
+        self.begin(alloc, event)?;
+        self.controls.follow(&self.tables, lan, facts, gate);
+        Ok(())
+    }
+
+    /// A station that starts gets words of its own.
+    fn begin(&mut self, alloc: Global, event: &Event) -> Result<(), AllocError>
+        ensures { (settings : Settings) (users : List UserFrame) (before : State) (r : Run)
+            → StandsFor settings users before r → IsStepped settings users r
+            → AreSet event.now settings r self.old
+            → OnOk result (AreAhead settings r event.now self.new) }
+    {
+        law_new_words_are_tied();
+        match event {
+            Event::Start { .. } => self.controls.start(alloc, &mut self.tables),
+            _ => Ok(()),
+        }
+    }
+}
