@@ -1,0 +1,4 @@
+pub mod Supplies
+pub mod Records
+pub mod Steps
+pub mod Ends
