@@ -2,3 +2,4 @@ pub mod Supplies
 pub mod Records
 pub mod Steps
 pub mod Ends
+mod Examples
