@@ -6,7 +6,7 @@ use Rattle.lan_base.specs.Told.{after}
 use Rattle.text_lines.specs.declared.reading.End.{End as LinesEnd}
 use Rattle.text_lines.specs.declared.reading.End.TheVariants as lines
 use Rattle.text_lines.specs.Moments.{Moment}
-use Rattle.text_lines.specs.Reading.{Reads, Runs, Sourced, lines_within}
+use Rattle.text_lines.specs.Reading.{Ends as EndsReading, Reads, Runs, Sourced, lines_within}
 use Rattle.text_lines.specs.Texts.{lines_of, whole_lines}
 use Rattle.lan_core.specs.declared.fact.Fact.{Fact}
 use Rattle.capture_file.specs.Pcap.{head_octets, most_input}
@@ -16,10 +16,10 @@ use Rattle.transcript_capture.specs.declared.end.End.TheVariants as ends
 use Rattle.transcript_capture.specs.declared.end.Stop.{Stop}
 use Rattle.transcript_capture.specs.declared.end.Stop.TheVariants as stops
 use Rattle.transcript_capture.specs.declared.fault.LineFault.{LineFault}
-use Rattle.transcript_capture.specs.Captures.{EndsCaptured, IsRefused, Wrote, WroteFront}
+use Rattle.transcript_capture.specs.Captures.{EndsCaptured, IsRefused, IsTaken, Wrote, WroteFront}
 use Rattle.transcript_capture.specs.Lines.{AreTaken}
 use Rattle.transcript_capture.specs.Packets.{packets}
-use Rattle.transcript_capture.specs.inside.Doing.{DidLines, IsAfter, State, TookAll, TookPart, TookTo, recorded_all}
+use Rattle.transcript_capture.specs.inside.Doing.{DidLines, IsAfter, State, Takes, TookAll, TookPart, TookTo, recorded_all}
 use Rattle.transcript_capture.specs.inside.Heading.{Heads}
 use Rattle.transcript_capture.specs.inside.Taking.{end_of}
 use Rattle.transcript_capture.specs.inside.Holding.{after-after, after-none, part-behind, rose-earlier}
@@ -213,3 +213,69 @@ same-end r a b is also = ap error (sym is ∙ also)
     error : Result (Unit {0}) End → End
     error (Ok x) = a
     error (Err end) = end
+
+-- ---- what was written before the last octets were taken
+
+-- whatever a call does, what a sink held stays in front
+grown : (names : List (List ℕ)) (earlier : List Fact) (xs : List (List ℕ)) (new : State)
+    (held then : Option (List ℕ)) (r : Result (Unit {0}) Stop) → Takes names earlier xs new held then r
+    → (more : List ℕ) × (then ≡ after held more)
+grown names earlier xs new held then (Ok done) t = (recorded_all earlier t.facts, t.written)
+grown names earlier xs new held then (Err (stops.Refused line why)) t =
+    (recorded_all earlier t.facts, t.written)
+grown names earlier xs new held then (Err stops.Failed) t =
+    (take t.0.count (recorded_all earlier t.0.facts), t.0.written)
+grown names earlier xs new held then (Err stops.Memory) t =
+    (take t.count (recorded_all earlier t.facts), t.written)
+
+module _ {T K : Type 0} (state : T → State) (outlet_held : K → Option (List ℕ)) (faults : K → ℕ)
+    (left now : Sourced) (old new : Moment T K) (held : Option (List ℕ))
+    (head : outlet_held old.outlet ≡ after held head_octets)
+    (fresh : IsAfter [] [] (state old.taker)) where
+  -- what the last lines came to
+  last-grown : (names : List (List ℕ)) (facts : List Fact) (xs : List (List ℕ)) (between : Moment T K)
+      → IsAfter names facts (state between.taker) → (r : Result (Unit {0}) Stop)
+      → DidLines state outlet_held faults xs between new r
+      → (more : List ℕ) × (outlet_held new.outlet ≡ after (outlet_held between.outlet) more)
+  last-grown names facts xs between is r d =
+      grown names facts xs (state new.taker) (outlet_held between.outlet) (outlet_held new.outlet) r
+      (d.takes names facts is)
+
+  by-end : (taken : List ℕ) (all last : List (List ℕ)) (between : Moment T K) (names : List (List ℕ))
+      (facts : List Fact) → IsAfter names facts (state between.taker)
+      → (r : Result (Unit {0}) (LinesEnd Stop))
+      → EndsReading (DidLines state outlet_held faults) most_input taken all last left now between new r
+      → (more : List ℕ) × (outlet_held new.outlet ≡ after (outlet_held between.outlet) more)
+  by-end taken all last between names facts is (Ok done) e =
+      last-grown names facts last between is (Ok tt) e.3
+  by-end taken all last between names facts is (Err (lines.Refused stop)) e =
+      last-grown names facts last between is (Err stop) e.1
+  by-end taken all last between names facts is (Err lines.Memory) e =
+      last-grown names facts e.1.front between is (Ok tt) e.1.did
+  by-end taken all last between names facts is (Err lines.ReadFault) e =
+      last-grown names facts last between is (Ok tt) e.3
+  by-end taken all last between names facts is (Err lines.Limit) e =
+      last-grown names facts last between is (Ok tt) e.2
+
+  pub taken-before : (r : Result (Unit {0}) (LinesEnd Stop))
+      → Reads (DidLines state outlet_held faults) most_input left now old new r
+      → IsTaken left now held (outlet_held new.outlet)
+  taken-before r reads =
+      let t = reads.takes in
+      let d = t.taken.takes [] [] fresh in
+      let m = by-end (t.earlier ++ t.piece) (whole_lines t.earlier ++ t.last) t.last t.between d.names_then
+      d.facts d.stands r t.ends in
+      record {
+        earlier = t.earlier;
+        piece = t.piece;
+        moved = t.moved;
+        within = t.within;
+        at_once = t.at_once;
+        facts = d.facts;
+        shown = (d.names_then, d.taken);
+        more = m.0;
+        written = m.1
+            ∙ ap (λ (h : Option (List ℕ)). after h m.0)
+            (written held (outlet_held old.outlet) (outlet_held t.between.outlet) head d.facts d.written)
+            ∙ after-after held (file_of (packets d.facts)) m.0;
+      }

@@ -1,8 +1,8 @@
 -- How capturing a transcript ends (this profile's own rule).
-use Rattle.std.specs.Prelude.{◌≡◌, ℕ, ◌+◌, ◌<◌, ◌≤◌, List, [], ◌∷◌, ◌++◌, length, take, Option, Some, Result, Ok, Err}
+use Rattle.std.specs.Prelude.{◌≡◌, ◌⊎◌, ℕ, ◌+◌, ◌<◌, ◌≤◌, List, [], ◌∷◌, ◌++◌, length, take, Option, Some, Result, Ok, Err}
 use Rattle.lan_base.specs.Faults.{Rose}
 use Rattle.lan_base.specs.Told.{after, before}
-use Rattle.text_lines.specs.Reading.{Sourced, lines_within}
+use Rattle.text_lines.specs.Reading.{Sourced, lines_within, most_at_once}
 use Rattle.text_lines.specs.Texts.{lines_of, whole_lines}
 use Rattle.lan_core.specs.declared.fact.Fact.{Fact}
 use Rattle.capture_file.specs.Pcap.{most_input}
@@ -67,3 +67,22 @@ EndsCaptured text left now held then (Err ends.WriteFault) =
     × (w.count < length (file_of (packets w.facts)))
 EndsCaptured text left now held then (Err ends.Memory) =
     WroteFront (lines_within most_input text) held then
+
+-- Octets were taken: earlier ones, within the limit, and then a piece that was asked for at once. The
+-- file of the packets of all lines that end in the earlier ones was written before that.
+pub record IsTaken (left now : Sourced) (held then : Option (List ℕ)) : Type 0 where
+  pub earlier : List ℕ
+  pub piece : List ℕ
+  pub moved : left.left ≡ before (earlier ++ piece) now.left
+  pub within : length earlier ≤ most_input
+  pub at_once : length piece ≤ most_at_once
+  pub facts : List Fact
+  pub shown : Show (whole_lines earlier) facts
+  pub more : List ℕ
+  pub written : then ≡ after held (file_of (packets facts) ++ more)
+
+-- a transcript of this text was captured, as far as anything of it was read, and it ended so
+pub record IsCaptured (text : List ℕ) (left now : Sourced) (held then : Option (List ℕ))
+    (result : Result (Unit {0}) End) : Type 0 where
+  pub taken : (now ≡ left) ⊎ IsTaken left now held then
+  pub ends : EndsCaptured text left now held then result

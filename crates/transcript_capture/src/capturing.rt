@@ -4,7 +4,7 @@ ghost use Rattle.std.specs.Prelude.{◌≡◌, ◌≤◌, ℕ, List, Err, Some};
 ghost use Rattle.lan_base.specs.Faults.{Rose};
 ghost use Rattle.text_lines.specs.Reading.{sourced};
 ghost use Rattle.transcript_capture.specs.declared.end.End.TheVariants as ends;
-ghost use Rattle.transcript_capture.specs.Captures.{EndsCaptured};
+ghost use Rattle.transcript_capture.specs.Captures.{IsCaptured};
 ghost use Rattle.transcript_capture.specs.inside.Heading.{Heads};
 
 use crate::end::{End, end_of};
@@ -17,7 +17,7 @@ use text_lines::{law_lines_are_few, read_lines};
 /// Reads a transcript from a source to its end, and writes the file of the frames that were put on the
 /// air: its head first, and each record as soon as the line has ended.
 pub fn capture<S: Source, K: Sink>(alloc: Global, source: &mut S, sink: &mut K) -> Result<(), End>
-    ensures captured { (text : List ℕ) → S.left source.old ≡ Some text → EndsCaptured text
+    ensures captured { (text : List ℕ) → S.left source.old ≡ Some text → IsCaptured text
         (sourced (S.left source.old) (S.faults source.old))
         (sourced (S.left source.new) (S.faults source.new))
         (K.held sink.old) (K.held sink.new) result }

@@ -11,7 +11,7 @@ use Rattle.transcript_capture.specs.Packets.{Fits}
 use Rattle.transcript_capture.specs.Recording.{IsClockAfter, WrotePart, recorded}
 use Rattle.transcript_capture.specs.inside.Doing.{State}
 
--- a line was read, or is refused, or no memory was left
+-- a line was read, or is refused, or no memory was left for what it reads
 abbrev pub IsRead : ℕ → List ℕ → State → State → Result Fact Stop → Type 0
 IsRead number line old new (Ok fact) =
     Reads old.names line new.names fact × (new.clock ≡ old.clock) × (new.line ≡ old.line)
@@ -19,7 +19,8 @@ IsRead number line old new (Err (Refused at Unread)) =
     (at ≡ number) × IsDenied old.names line Unread
 IsRead number line old new (Err (Refused at TooLong)) = ⊥
 IsRead number line old new (Err Failed) = ⊥
-IsRead number line old new (Err Memory) = Unit {0}
+IsRead number line old new (Err Memory) =
+    (after : List (List ℕ)) × (fact : Fact) × Reads old.names line after fact
 
 -- its fact was recorded, or its frame is too long, or its record was broken off
 abbrev pub Recorded : ℕ → List (List ℕ) → List Fact → Fact → State → Option (List ℕ)
