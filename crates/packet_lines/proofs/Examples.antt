@@ -1,11 +1,13 @@
 -- The definitions at worked files: a hello of key agreement, seen after one tick.
-use Rattle.std.proofs.Common.{◌≡◌, ◌<◌, ◌⊎◌, ℕ, List, [], ◌∷◌, ◌++◌, length, take, drop, Ok, Err, refl, inl, inr, arith}
+use Rattle.std.proofs.Common.{◌≡◌, ℕ, List, [], ◌∷◌, ◌++◌, take, drop, refl, inl, inr, arith}
 use Rattle.std.specs.Prelude.{codes}
+use Rattle.std.specs.Fmt.{digits}
+use Rattle.mkpdu_codec.specs.Reading.{parts_at, reading}
 use Rattle.capture_file.specs.declared.fault.CaptureFault.TheVariants.{Magic}
 use Rattle.capture_file.specs.declared.order.Order.TheVariants.{Big, Little}
-use Rattle.capture_file.specs.Pcap.{head_octets, header_octets, record_octets}
+use Rattle.capture_file.specs.Pcap.{head_octets, header_octets}
 use Rattle.capture_file.specs.Records.{IsFileOf}
-use Rattle.packet_lines.specs.Files.{IsBrokenOff, IsCutAt, IsFileBefore, IsRefusedAt}
+use Rattle.packet_lines.specs.Files.{IsCutAt, IsRefusedAt}
 use Rattle.packet_lines.specs.Telling.{lines}
 
 -- a frame of 70 octets
@@ -18,14 +20,9 @@ hello =
     ∷ 0x03 ∷ 0x04 ∷ 0x6a ∷ 0xfe ∷ 0xa3 ∷ 0x3c ∷ 0x19 ∷ 0x7d ∷ 0x66 ∷ 0x8f ∷ 0x2e ∷ 0xf5 ∷ 0xcc
     ∷ 0x6f ∷ 0x5a ∷ 0x3c ∷ 0xba ∷ 0xe8 ∷ []
 
--- its line
-line_is : lines (hello ∷ [])
-    ≡ codes "packet 1 mka 000000000000000000000001 mn 1 sci 02000000000a0001 priority 16 live 0 potential 0 use none given none"
-    ++ 10 ∷ []
-line_is = refl
-
--- the second line has the next number
+-- packets are numbered from 1
 lines_are : lines ([] ∷ (1 ∷ []) ∷ []) ≡ codes "packet 1 other" ++ 10 ∷ codes "packet 2 other" ++ 10 ∷ []
+unfolding digits reading parts_at
 lines_are = refl
 
 -- the head of a file alone has no packet, in either order of octets
@@ -58,13 +55,17 @@ little_alone = record {
 
 -- with another first octet the head is refused
 no_magic : IsRefusedAt [] 0 Magic (0x0a ∷ drop 1 little_head)
-no_magic = inl (refl, refl, record {
-  head = 0x0a ∷ drop 1 little_head;
-  behind = [];
-  whole = refl;
-  count = refl;
-  read = refl;
-})
+no_magic = inl (
+  refl,
+  refl,
+  record {
+    head = 0x0a ∷ drop 1 little_head;
+    behind = [];
+    whole = refl;
+    count = refl;
+    read = refl;
+  },
+)
 
 -- an empty file is cut at its head
 none_is_cut : IsCutAt [] 0 []
