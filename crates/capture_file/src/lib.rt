@@ -13,5 +13,5 @@ pub use describing::describe;
 pub use fault::CaptureFault;
 pub use laws::law_capture;
 pub use order::Order;
-pub use reading::{head, kept};
-pub use writing::{header, packet};
+pub use reading::{INPUT_MAX, head, kept};
+pub use writing::{WRITTEN_MAX, header, packet};

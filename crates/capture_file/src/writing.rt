@@ -14,7 +14,7 @@ pub(crate) const MICRO_MAGIC: u32 = 0xa1b2_c3d4;
 const VERSION: [u16; 2] = [2, 4];
 
 /// The most octets that are kept of a packet.
-pub(crate) const WRITTEN_MAX: u32 = 65_535;
+pub const WRITTEN_MAX: u32 = 65_535;
 
 /// The link type of Ethernet.
 pub(crate) const ETHERNET: u32 = 1;

@@ -1,0 +1,5 @@
+pub mod Supplies
+pub mod Records
+pub mod Steps
+pub mod Ends
+mod Examples

@@ -1,0 +1,11 @@
+//! A file of captured packets is read from a source, packet by packet, and each is told in one line
+//! before the next is read.
+#![tactic(auto)]
+
+mod end;
+mod reader;
+mod supply;
+mod telling;
+
+pub use end::End;
+pub use telling::dissect;

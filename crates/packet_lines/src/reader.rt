@@ -1,0 +1,110 @@
+//! The packets of a file, one after the other.
+
+ghost use Rattle.std.specs.Prelude.{◌≡◌, ◌<◌, ◌≤◌, ◌+◌, ℕ, List, [], Err, IfOk, OnOk, Some, length, true};
+ghost use Rattle.lan_base.specs.Faults.{Rose};
+ghost use Rattle.capture_file.specs.Pcap.{most_input};
+ghost use Rattle.packet_lines.specs.declared.end.End.TheVariants as ends;
+ghost use Rattle.packet_lines.specs.inside.Reading.{GivesCount, GivesOrder, Opens, ReadsNext, seen};
+ghost use Rattle.packet_lines.specs.inside.Supplying.{Stands};
+
+use crate::end::End;
+use crate::supply::Supply;
+use capture_file::{CaptureFault, Order, head, kept};
+use lan_base::Source;
+use std::alloc::Global;
+
+/// How many octets the head of a file has.
+const HEAD_LEN: usize = 24;
+
+/// How many octets a record has before those of its packet.
+const HEADER_LEN: usize = 16;
+
+/// Reads the packets of a file, whose head was read.
+#[derive(Drop)]
+pub struct PacketReader {
+    supply: Supply,
+    order: Order,
+}
+
+impl PacketReader {
+    /// Reads the head of a file.
+    pub fn open<S: Source>(alloc: Global, source: &mut S) -> Result<PacketReader, End>
+        ensures opens { (text : List ℕ) → S.left source.old ≡ Some text
+            → Opens text (S.left source.new) (seen result) }
+        ensures failed { result ≡ Err ends.ReadFault
+            → Rose (S.faults source.old) (S.faults source.new) }
+        ensures unwritten { result ≡ Err ends.WriteFault → ⊥ }
+        ensures counts { S.faults source.old ≤ S.faults source.new }
+    {
+        let mut supply = Supply::new(alloc);
+        let mut octets = Vec::new(alloc);
+        supply.take(HEAD_LEN, source, &mut octets)?;
+        let order = order_of(&octets)?;
+        Ok(PacketReader { supply, order })
+    }
+
+    /// Reads the octets of the next packet in place of what the vector has, if there is one.
+    pub fn read<S: Source>(&mut self, source: &mut S, packet: &mut Vec<u8>) -> Result<bool, End>
+        ensures reads { (text given : List ℕ)
+            → Stands text given self.old.supply (S.left source.old)
+            → ReadsNext text given self.old.order packet.new.items self.new.supply
+            (S.left source.new) result }
+        ensures order { self.new.order ≡ self.old.order }
+        ensures given { IfOk result (λ has. has ≡ true
+            → self.old.supply.given + 16 ≤ self.new.supply.given) }
+        ensures before { self.old.supply.given ≤ most_input }
+        ensures failed { result ≡ Err ends.ReadFault
+            → Rose (S.faults source.old) (S.faults source.new) }
+        ensures unwritten { result ≡ Err ends.WriteFault → ⊥ }
+        ensures counts { S.faults source.old ≤ S.faults source.new }
+    {
+        let at = self.supply.given() as u32;
+        packet.clear();
+        self.supply.take(HEADER_LEN, source, packet)?;
+        if packet.is_empty() {
+            return Ok(false);
+        }
+        let count = count_of(self.order, at, packet)?;
+        packet.clear();
+        self.supply.take(count, source, packet)?;
+        if packet.len() < count {
+            return Err(End::Refused {
+                at,
+                why: CaptureFault::Cut,
+            });
+        }
+        Ok(true)
+    }
+}
+
+/// The order of octets that the head of a file tells.
+fn order_of(octets: &[u8]) -> Result<Order, End>
+    ensures { GivesOrder octets.now result }
+{
+    let Some(octets) = octets.first_chunk::<HEAD_LEN>() else {
+        return Err(End::Refused {
+            at: 0,
+            why: CaptureFault::Cut,
+        });
+    };
+    match head(octets) {
+        Ok(order) => Ok(order),
+        Err(why) => Err(End::Refused { at: 0, why }),
+    }
+}
+
+/// How many octets of a packet the header of its record tells, which begins at this octet.
+fn count_of(order: Order, at: u32, octets: &[u8]) -> Result<usize, End>
+    ensures { GivesCount order at octets.now result }
+{
+    let Some(header) = octets.first_chunk::<HEADER_LEN>() else {
+        return Err(End::Refused {
+            at,
+            why: CaptureFault::Cut,
+        });
+    };
+    match kept(order, header) {
+        Ok(count) => Ok(count as usize),
+        Err(why) => Err(End::Refused { at, why }),
+    }
+}

@@ -1,0 +1,4 @@
+pub mod Times
+pub mod PacketsOf
+pub mod OneLine
+pub mod Ends

@@ -1,0 +1,53 @@
+//! A transcript is captured: its frames become a file.
+
+ghost use Rattle.std.specs.Prelude.{◌≡◌, ◌≤◌, ℕ, List, Err, Some};
+ghost use Rattle.lan_base.specs.Faults.{Rose};
+ghost use Rattle.text_lines.specs.Reading.{sourced};
+ghost use Rattle.transcript_capture.specs.declared.end.End.TheVariants as ends;
+ghost use Rattle.transcript_capture.specs.Captures.{IsCaptured};
+ghost use Rattle.transcript_capture.specs.inside.Heading.{Heads};
+
+use crate::end::{End, end_of};
+use crate::lines::LineRecorder;
+use capture_file::{INPUT_MAX, header};
+use lan_base::{Sink, Source, Unwritten, write_all};
+use std::alloc::Global;
+use text_lines::{law_lines_are_few, read_lines};
+
+/// Reads a transcript from a source to its end, and writes the file of the frames that were put on the
+/// air: its head first, and each record as soon as the line has ended.
+pub fn capture<S: Source, K: Sink>(alloc: Global, source: &mut S, sink: &mut K) -> Result<(), End>
+    ensures captured { (text : List ℕ) → S.left source.old ≡ Some text → IsCaptured text
+        (sourced (S.left source.old) (S.faults source.old))
+        (sourced (S.left source.new) (S.faults source.new))
+        (K.held sink.old) (K.held sink.new) result }
+    ensures read_fault { result ≡ Err ends.ReadFault
+        → Rose (S.faults source.old) (S.faults source.new) }
+    ensures write_fault { result ≡ Err ends.WriteFault
+        → Rose (K.faults sink.old) (K.faults sink.new) }
+    ensures reads { S.faults source.old ≤ S.faults source.new }
+    ensures writes { K.faults sink.old ≤ K.faults sink.new }
+{
+    law_lines_are_few();
+    let mut recorder = LineRecorder::new(alloc)?;
+    write_head(alloc, sink)?;
+    match read_lines(alloc, INPUT_MAX, source, &mut recorder, sink) {
+        Ok(()) => Ok(()),
+        Err(end) => Err(end_of(end)),
+    }
+}
+
+/// Writes the head of a file.
+fn write_head<K: Sink>(alloc: Global, sink: &mut K) -> Result<(), End>
+    ensures heads { Heads (K.held sink.old) (K.held sink.new) result }
+    ensures failed { result ≡ Err ends.WriteFault → Rose (K.faults sink.old) (K.faults sink.new) }
+    ensures counts { K.faults sink.old ≤ K.faults sink.new }
+{
+    let mut head = Vec::new(alloc);
+    header(&mut head)?;
+    match write_all(sink, &head) {
+        Ok(()) => Ok(()),
+        Err(Unwritten::Failed) => Err(End::WriteFault),
+        Err(Unwritten::Memory) => Err(End::Memory),
+    }
+}

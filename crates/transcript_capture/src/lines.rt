@@ -1,0 +1,107 @@
+//! Who takes the lines of a transcript, and records their frames.
+
+ghost use Rattle.std.specs.Prelude.{◌≡◌, ◌≤◌, ◌++◌, ◌∷◌, ℕ, List, [], Err, IfOk, OnOk};
+ghost use Rattle.lan_base.specs.Faults.{Rose};
+ghost use Rattle.lan_core.specs.declared.fact.Fact.{Fact};
+ghost use Rattle.transcript_capture.specs.declared.end.Stop.TheVariants as stops;
+ghost use Rattle.transcript_capture.specs.inside.Doing.{IsAfter};
+ghost use Rattle.transcript_capture.specs.inside.Lining.{IsRead, Recorded};
+
+use crate::end::Stop;
+use crate::fault::{LineFault, RecordError};
+use crate::recording::Recording;
+use lan_base::Sink;
+use lan_core::Fact;
+use std::alloc::{AllocError, Global};
+use std::marker::Model;
+use text_lines::LineTaker;
+use transcript::{FactError, Reader};
+
+/// Takes the lines of a transcript one after the other, and records their frames.
+#[derive(Drop)]
+pub struct LineRecorder {
+    alloc: Global,
+    reader: Reader,
+    recording: Recording,
+    /// The number of the last line.
+    line: u32,
+}
+
+impl Model for LineRecorder {
+    ghost use Rattle.transcript_capture.specs.inside.Doing.{State};
+
+    ghost Value = { State };
+
+    ghost view = { λ r. record { names = r.reader; clock = r.recording; line = r.line } };
+}
+
+impl LineRecorder {
+    /// No line was taken.
+    pub fn new(alloc: Global) -> Result<LineRecorder, AllocError>
+        ensures { IfOk result (λ recorder. IsAfter [] [] recorder) }
+    {
+        Ok(LineRecorder {
+            alloc,
+            reader: Reader::new(alloc)?,
+            recording: Recording::new(alloc),
+            line: 0,
+        })
+    }
+
+    /// Reads the line of this number.
+    fn read(&mut self, number: u32, text: &[u8]) -> Result<Fact, Stop>
+        ensures { IsRead number text.now self.old self.new result }
+    {
+        match self.reader.line(self.alloc, text) {
+            Ok(fact) => Ok(fact),
+            Err(FactError::Unread) => Err(Stop::Refused {
+                line: number,
+                why: LineFault::Unread,
+            }),
+            Err(FactError::Memory) => Err(Stop::Memory),
+        }
+    }
+
+    /// Records the fact of the line of this number.
+    fn record<K: Sink>(&mut self, number: u32, fact: &Fact, sink: &mut K) -> Result<(), Stop>
+        ensures recorded { (names : List (List ℕ)) (earlier : List Fact)
+            → IsAfter names earlier self.old → Recorded number names earlier fact.now self.new
+            (K.held sink.old) (K.held sink.new) result }
+        ensures failed { result ≡ Err stops.Failed → Rose (K.faults sink.old) (K.faults sink.new) }
+        ensures counts { K.faults sink.old ≤ K.faults sink.new }
+    {
+        match self.recording.take(fact, sink) {
+            Ok(()) => {
+                self.line = number;
+                Ok(())
+            }
+            Err(RecordError::TooLong) => Err(Stop::Refused {
+                line: number,
+                why: LineFault::TooLong,
+            }),
+            Err(RecordError::Failed) => Err(Stop::Failed),
+            Err(RecordError::Memory) => Err(Stop::Memory),
+        }
+    }
+}
+
+impl<K: Sink> LineTaker<K> for LineRecorder {
+    ghost use Rattle.transcript_capture.specs.inside.Doing.{DidLines};
+    ghost use Rattle.transcript_capture.specs.inside.Composing.{did-none, did-more, did-early};
+
+    type Error = Stop;
+
+    ghost Did = { DidLines (λ r. r) K.held K.faults };
+
+    fn line(&mut self, text: &[u8], outlet: &mut K) -> Result<(), Stop> {
+        let number = self.line.saturating_add(1);
+        let fact = self.read(number, text)?;
+        self.record(number, &fact, outlet)
+    }
+
+    ghost none = { λ a. did-none _ _ _ a };
+
+    ghost more = { λ a b c xs ys r d e. did-more _ _ _ a b c xs ys r d e };
+
+    ghost early = { λ a b xs ys stop d. did-early _ _ _ a b xs ys stop d };
+}
