@@ -25,7 +25,7 @@ use Rattle.replay.specs.Causes.{cause_of_halt}
 use Rattle.replay.specs.Runs.{most_input, whole, within, WasHalted, IsTaken, EndsRun, IsSettled}
 use Rattle.replay.proofs.Public.{runs-weaker, broke-one}
 use Rattle.rollover_program.specs.declared.status.Status.{Status}
-use Rattle.rollover_program.specs.declared.status.Status.TheVariants.{Done, Usage, Halted}
+use Rattle.rollover_program.specs.declared.status.Status.TheVariants.{Done, Usage, Halted, CheckInput, Refuted, Transcript}
 use Rattle.rollover_program.specs.declared.words.Order.{Order}
 use Rattle.rollover_program.specs.declared.words.Order.TheVariants.{Make, Try}
 use Rattle.rollover_program.specs.Words.{Orders}
@@ -172,6 +172,9 @@ pub complete : (summary : Bool) (text : List ℕ) (left now : Sourced) (old new 
 complete summary text left now old new Done h reads writes =
     let e = h.ends in inl (e.2.0, at_end text e.2.0 e.2.1 e.0 e.2.2)
 complete summary text left now old new Usage h reads writes = absurd h
+complete summary text left now old new CheckInput h reads writes = absurd h
+complete summary text left now old new Refuted h reads writes = absurd h
+complete summary text left now old new (Transcript line why) h reads writes = absurd h
 complete summary text left now old new (Halted (causes.Trace line kind)) h reads writes =
     by_stop summary text old new (halts.Trace line kind) h.ends
 complete summary text left now old new (Halted causes.ReadFault) h reads writes =
@@ -202,6 +205,9 @@ pub complete_make : (n : ℕ) (old new : Sunk) (status : Status) → EndsMade n 
     → (Rose old.faults new.faults → ⊥) → (status ≡ Done) ⊎ (status ≡ Halted causes.Memory)
 complete_make n old new Done ends writes = inl refl
 complete_make n old new Usage ends writes = absurd ends
+complete_make n old new CheckInput ends writes = absurd ends
+complete_make n old new Refuted ends writes = absurd ends
+complete_make n old new (Transcript line why) ends writes = absurd ends
 complete_make n old new (Halted causes.WriteFault) ends writes = absurd (writes ends.0)
 complete_make n old new (Halted causes.Memory) ends writes = inr refl
 complete_make n old new (Halted (causes.Trace line kind)) ends writes = absurd ends

@@ -3,4 +3,5 @@ mod Reading
 mod Taken
 mod Ordered
 mod Carried
+mod Judged
 mod Refused

@@ -23,10 +23,10 @@ use Rattle.clap.proofs.KindLemmas.{value_kinds-ok}
 use Rattle.clap.proofs.OnLiterals.{clap_on_literals}
 use Rattle.clap.proofs.ValueTestLemmas.{Accepts-accepts}
 use Rattle.rollover_program.specs.declared.words.Order.{Order}
-use Rattle.rollover_program.specs.declared.words.Order.TheVariants.{Run, Make, Try}
+use Rattle.rollover_program.specs.declared.words.Order.TheVariants.{Run, Make, Try, Check}
 use Rattle.rollover_program.specs.Words.{IsNumbered, IsUsage, Orders, bare, command, number_of}
 use Rattle.rollover_program.specs.Words.{order_by, order_of}
-use Rattle.rollover_program.specs.Words.{subcommand, summary, summary_in, words_of}
+use Rattle.rollover_program.specs.Words.{plain, subcommand, summary, summary_in, words_of}
 use Rattle.rollover_program.proofs.Taken.{given, gives, leaf, no_fault, taken}
 
 -- ---- without a fault
@@ -35,10 +35,14 @@ abbrev run_leaf : Shape
 run_leaf = built_leaf (inherited (bare (new_shape (codes "rollover")))
     (subcommand (codes "run") summary))
 
+abbrev check_leaf : Shape
+check_leaf = built_leaf (inherited (bare (new_shape (codes "rollover"))) (plain (codes "check")))
+
 -- the subcommand that was named
-abbrev named : Bool → Bool → Bool → Option Shape
-named run make try_ = cond run (Some run_leaf)
-    (cond make (Some (leaf (codes "make"))) (cond try_ (Some (leaf (codes "try"))) None))
+abbrev named : Bool → Bool → Bool → Bool → Option Shape
+named run make try_ check = cond run (Some run_leaf)
+    (cond make (Some (leaf (codes "make"))) (cond try_ (Some (leaf (codes "try")))
+    (cond check (Some check_leaf) None)))
 
 abbrev rows_in : Option Shape → List Text → Option (Text × List Row)
 rows_in sub words = option_map (λ s. rows_at s words) sub
@@ -47,26 +51,29 @@ rows_in sub words = option_map (λ s. rows_at s words) sub
 abbrev pub ordered_by : Option (Text × List Row) → Option Order
 ordered_by = option_and_then (λ p. order_by p.0 p.1)
 
-orders : (run make try_ : Bool) (words : List Text)
-    → option_map_or (λ s. level_fault s [] nothing_held words false []) (named run make try_) []
+orders : (run make try_ check : Bool) (words : List Text)
+    → option_map_or (λ s. level_fault s [] nothing_held words false [])
+    (named run make try_ check) []
     ≡ []
-    → is_some (rows_in (named run make try_) words) ≡ true → (o : Order)
-    × (ordered_by (rows_in (named run make try_) words) ≡ Some o) × IsNumbered o
-orders true make try_ words e h = (Run (summary_in (rows_after run_leaf.rules [] words)), refl, tt)
-orders false true try_ words e h =
+    → is_some (rows_in (named run make try_ check) words) ≡ true → (o : Order)
+    × (ordered_by (rows_in (named run make try_ check) words) ≡ Some o) × IsNumbered o
+orders true make try_ check words e h =
+    (Run (summary_in (rows_after run_leaf.rules [] words)), refl, tt)
+orders false true try_ check words e h =
     let n = taken (codes "make") words e in
     (Make n.0, ap (option_map (λ k. Make k)) n.1, (n.2, n.3))
-orders false false true words e h =
+orders false false true check words e h =
     let n = taken (codes "try") words e in
     (Try n.0, ap (option_map (λ k. Try k)) n.1, (n.2, n.3))
-orders false false false words e h = absurd cc
+orders false false false true words e h = (Check, refl, tt)
+orders false false false false words e h = absurd cc
 
 by_stop : (stop : Option (Text × List Text)) → entered_fault (built command) stop ≡ []
     → is_some (entered (built command) stop) ≡ true
     → (o : Order) × (ordered_by (entered (built command) stop) ≡ Some o) × IsNumbered o
 by_stop None e h = absurd cc
 by_stop (Some p) e h = orders (answers_to p.0 (codes "run", [])) (answers_to p.0 (codes "make", []))
-    (answers_to p.0 (codes "try", [])) p.1 e h
+    (answers_to p.0 (codes "try", [])) (answers_to p.0 (codes "check", [])) p.1 e h
 
 -- a subcommand has to be there
 needed : (rows : List Row) (has : Bool) → check_fault (built command).top rows has ≡ [] → has ≡ true
@@ -168,9 +175,14 @@ unfolding clap_on_literals
 run_plain true = (refl, refl)
 run_plain false = (refl, refl)
 
+check_plain : (fault_of command (words_of Check) ≡ []) × (order_of (words_of Check) ≡ Some Check)
+unfolding clap_on_literals
+check_plain = (refl, refl)
+
 -- the plain words for an order have no fault, and order it
 pub plain_words : (o : Order) → IsNumbered o → (fault_of command (words_of o) ≡ [])
     × (order_of (words_of o) ≡ Some o)
 plain_words (Run s) h = run_plain s
 plain_words (Make n) h = let t = text_of n h.0 h.1 in (t.made, t.make)
 plain_words (Try n) h = let t = text_of n h.0 h.1 in (t.tried, t.try_)
+plain_words Check h = check_plain

@@ -14,16 +14,18 @@ use Rattle.trace_maker.specs.Made.{made}
 use Rattle.rollover_program.specs.declared.status.Status.{Status}
 use Rattle.rollover_program.specs.declared.status.Status.TheVariants.{Usage, Halted}
 use Rattle.rollover_program.specs.declared.words.Order.{Order}
-use Rattle.rollover_program.specs.declared.words.Order.TheVariants.{Run, Make, Try}
+use Rattle.rollover_program.specs.declared.words.Order.TheVariants.{Run, Make, Try, Check}
 use Rattle.rollover_program.specs.declared.words.Refusal.{Refusal}
 use Rattle.rollover_program.specs.declared.words.Refusal.TheVariants as refusals
 use Rattle.rollover_program.specs.Words.{IsNumbered, IsUsage, Orders, words_of}
 use Rattle.rollover_program.specs.commands.Run.{EndsAsRun}
 use Rattle.rollover_program.specs.commands.Make.{EndsMade}
 use Rattle.rollover_program.specs.commands.Try.{EndsTried}
+use Rattle.rollover_program.specs.commands.Check.{EndsAsCheck}
 use Rattle.rollover_program.specs.inside.Answering.{status_of_refusal}
 use Rattle.rollover_program.proofs.Ordered.{plain_words}
 use Rattle.rollover_program.proofs.Carried.{Promise, not_run, not_tried}
+use Rattle.rollover_program.proofs.Judged.{not_checked}
 
 -- the plain words for an order
 pub plain_orders : (words : List Text) (order : Order) → IsNumbered order → words ≡ words_of order
@@ -66,6 +68,11 @@ module _ (words : List Text) (f : Refusal) (usage : f ≡ refusals.Usage → IsU
   pub made_nothing : (s : Status) (n : ℕ) (old : Sunk) → s ≡ status_of_refusal f
       → Orders words (Make n) → EndsMade n old old s
   made_nothing s n old e asked = rw (memory s (Make n) e asked) (broke-none (made n) old)
+
+  pub checked_nothing : (s : Status) (text : List ℕ) (left : Sourced) (old : Sunk)
+      → s ≡ status_of_refusal f → Orders words Check → EndsAsCheck text left left old old s
+  checked_nothing s text left old e asked =
+      rw (memory s Check e asked) (not_checked text left old)
 
   pub tried_nothing : Promise → ((chances : List Chance) → IsTidy (beginning chances)) → (s : Status)
       (n : ℕ) (old : Sunk) → s ≡ status_of_refusal f → Orders words (Try n) → EndsTried n old old s

@@ -2,3 +2,4 @@
 pub mod Run
 pub mod Make
 pub mod Try
+pub mod Check

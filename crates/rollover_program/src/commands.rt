@@ -1,5 +1,6 @@
 //! What each command does, a file a command.
 
+pub mod check;
 pub mod make;
 pub mod run;
 pub mod try_made;

@@ -14,3 +14,4 @@ pub use laws::law_tidy_runs_are_promised;
 pub use replay::Cause;
 pub use status::Status;
 pub use top::rollover;
+pub use transcript_check::CheckFault;

@@ -4,10 +4,12 @@ ghost use Rattle.std.specs.Prelude.{◌≡◌, ℕ};
 ghost use Rattle.lan_core.specs.declared.stop.Which.{Which};
 ghost use Rattle.lan_schedule.specs.declared.halt.Kind.{Kind};
 ghost use Rattle.replay.specs.declared.cause.Cause.TheVariants as causes;
+ghost use Rattle.transcript_check.specs.declared.fault.CheckFault.{CheckFault};
 ghost use Rattle.rollover_program.specs.inside.Answering.{status_of};
 
 use replay::Cause;
 use thiserror::Error;
+use transcript_check::CheckFault;
 
 /// How the program ended. The text of a status other than `Done` is the program's line on standard
 /// error, without the program's name.
@@ -17,11 +19,20 @@ pub enum Status {
     #[error("done")]
     Done,
     /// The words are no command.
-    #[error("usage: rollover run [--summary] | make N | try N")]
+    #[error("usage: rollover run [--summary] | make N | try N | check")]
     Usage,
     /// The trace was not performed to its end.
     #[error("{0}")]
     Halted(Cause),
+    /// The input of `check` has more octets than its limit.
+    #[error("limit CheckInput")]
+    CheckInput,
+    /// The transcript was judged, and a pair of its lines breaks what is judged.
+    #[error("transcript refuted")]
+    Refuted,
+    /// The line of a transcript with this number, from 1, is refused.
+    #[error("transcript line {line}: {why:?}")]
+    Transcript { line: u32, why: CheckFault },
 }
 
 impl Status {
@@ -39,6 +50,10 @@ impl Status {
         ensures repeated_draw { (first second : ℕ)
             → self ≡ Status.Halted (causes.RepeatedDraw first second) → result ≡ 7 }
         ensures forged { (line : ℕ) → self ≡ Status.Halted (causes.Forged line) → result ≡ 8 }
+        ensures check_input { self ≡ Status.CheckInput → result ≡ 6 }
+        ensures refuted { self ≡ Status.Refuted → result ≡ 9 }
+        ensures transcript { (line : ℕ) (why : CheckFault)
+            → self ≡ Status.Transcript line why → result ≡ 10 }
     {
         match self {
             Status::Done => 0,
@@ -50,6 +65,9 @@ impl Status {
             Status::Halted(Cause::Input | Cause::Limit(_)) => 6,
             Status::Halted(Cause::RepeatedDraw { .. }) => 7,
             Status::Halted(Cause::Forged { .. }) => 8,
+            Status::CheckInput => 6,
+            Status::Refuted => 9,
+            Status::Transcript { .. } => 10,
         }
     }
 }

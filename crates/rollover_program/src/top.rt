@@ -12,8 +12,10 @@ ghost use Rattle.rollover_program.specs.Words.{IsNumbered, IsUsage, Orders, word
 ghost use Rattle.rollover_program.specs.commands.Run.{EndsAsRun, EndsWithin};
 ghost use Rattle.rollover_program.specs.commands.Make.{EndsMade};
 ghost use Rattle.rollover_program.specs.commands.Try.{EndsTried};
+ghost use Rattle.rollover_program.specs.commands.Check.{EndsAsCheck};
 ghost use Rattle.rollover_program.specs.inside.Answering.{CarriesOut, status_of_refusal};
 
+use crate::commands::check::check;
 use crate::commands::make::make;
 use crate::commands::run::run;
 use crate::commands::try_made::try_made;
@@ -31,8 +33,10 @@ use std::alloc::Global;
 /// writes the transcript to the sink, that of each event before the next one happens. With
 /// `--summary` it writes nothing before the end, and then the line that says how many facts there
 /// were of each kind. `make N` writes the trace that is made of a number from 1 to 9999. `try N`
-/// performs that trace for its summary line. These two do not read the source. Clauses that name a
-/// text speak of a source that tells its octets.
+/// performs that trace for its summary line. These two do not read the source. `check` reads a
+/// transcript from the source to its end, whoever wrote it, judges each line as soon as it has ended,
+/// and writes the verdict at the end. Clauses that name a text speak of a source that tells its
+/// octets.
 pub fn rollover<S: Source, K: Sink>(
     alloc: Global,
     words: &[String],
@@ -73,6 +77,14 @@ pub fn rollover<S: Source, K: Sink>(
     ensures unread { (n : ℕ) → Orders (map string_bytes words.now) (orders.Make n)
         ⊎ Orders (map string_bytes words.now) (orders.Try n) → source.new ≡ source.old }
 
+    // `check`: how a transcript was judged, and what was written of the verdict.
+    ensures check { (text : List ℕ) → Orders (map string_bytes words.now) orders.Check
+        → S.left source.old ≡ Some text → EndsAsCheck text
+        (sourced (S.left source.old) (S.faults source.old))
+        (sourced (S.left source.new) (S.faults source.new))
+        (sunk (K.held sink.old) (K.faults sink.old))
+        (sunk (K.held sink.new) (K.faults sink.new)) result }
+
     // Faults are those of the outside, whatever it tells.
     ensures read_cause { result ≡ Status.Halted causes.ReadFault
         → Rose (S.faults source.old) (S.faults source.new) }
@@ -101,7 +113,7 @@ pub fn rollover<S: Source, K: Sink>(
     }
 }
 
-/// Carries an order out. Only a run reads the source.
+/// Carries an order out. A run and a check read the source.
 fn carry_out<S: Source, K: Sink>(
     alloc: Global,
     order: Order,
@@ -125,6 +137,7 @@ fn carry_out<S: Source, K: Sink>(
         Order::Run { summary } => run(alloc, summary, source, sink),
         Order::Make { number } => make(alloc, number, sink),
         Order::Try { number } => try_made(alloc, number, sink),
+        Order::Check => check(alloc, source, sink),
     }
 }
 

@@ -20,6 +20,8 @@ pub enum Order {
     Make { number: u32 },
     /// The trace of a number is performed, for its summary line.
     Try { number: u32 },
+    /// A transcript is judged.
+    Check,
 }
 
 /// The greatest number of which a trace is made.
@@ -57,7 +59,7 @@ pub fn read_order(alloc: Global, words: &[String]) -> Result<Order, Refusal>
     }
 }
 
-/// The one command: `run [--summary]`, `make N` or `try N`.
+/// The one command: `run [--summary]`, `make N`, `try N` or `check`.
 fn command<'a>(alloc: Global) -> Result<Command<'a>, AllocError>
     ensures { IfOk result (λ r. app_of r ≡ command) }
 {
@@ -73,7 +75,8 @@ fn command<'a>(alloc: Global) -> Result<Command<'a>, AllocError>
     rollover
         .subcommand(Command::new(alloc, "run").arg(summary)?)?
         .subcommand(Command::new(alloc, "make").arg(number(alloc))?)?
-        .subcommand(Command::new(alloc, "try").arg(number(alloc))?)
+        .subcommand(Command::new(alloc, "try").arg(number(alloc))?)?
+        .subcommand(Command::new(alloc, "check"))
 }
 
 /// A number from 1 to the greatest.
@@ -102,6 +105,7 @@ fn order_of(matches: &ArgMatches<'_>) -> Option<Order>
         "try" => Some(Order::Try {
             number: arguments.get_one("N")?,
         }),
+        "check" => Some(Order::Check),
         _ => None,
     }
 }

@@ -9,6 +9,7 @@ mod Texts
 mod Cutting
 mod Branches
 mod Numbers
+mod Framings
 mod ReadBack
 mod NamesGrow
 mod NamesRead

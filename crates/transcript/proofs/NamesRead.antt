@@ -1,6 +1,6 @@
 -- The names after a line, and what the line says under them.
 use Rattle.std.proofs.Common.{◌≡◌, ◌≢◌, ◌<◌, ◌≤◌, ◌+◌, ◌∙◌, ◌^◌, inl, inr, ℕ, zero, suc, Bool, true, false, cond, List, [], ◌∷◌, ◌++◌, length, map, get_or, refl, sym, ap, subst, arith}
-use Rattle.std.specs.Prelude.{◌⊎◌, ◌↔◌, All, nat_lt, codes, Option, Some, None, is_some, IsTrue, Result, Ok, Err, IfOk, OnErr}
+use Rattle.std.specs.Prelude.{◌⊎◌, ◌↔◌, All, nat_lt, codes, Option, Some, None, is_some, IsTrue, Result, Ok, Err, IfOk, IfErr, OnErr}
 use Rattle.std.specs.List.{slice_split}
 use Rattle.std.proofs.lemmas.Bool.{lt-ltb, ltb-true}
 use Rattle.std.proofs.lemmas.List.{length-append}
@@ -14,14 +14,14 @@ use Rattle.trace_text.specs.Words.{is_word}
 use Rattle.transcript.specs.declared.fault.FactError.{FactError}
 use Rattle.transcript.specs.declared.fault.FactError.TheVariants.{Unread, Memory}
 use Rattle.transcript.specs.Words.{array, words, spelled}
-use Rattle.transcript.specs.Rendering.{Says, AreNames}
+use Rattle.transcript.specs.Rendering.{Says, AreNames, IsOfFrame}
 use Rattle.transcript.specs.Naming.{Reads, IsNaming, most_named}
 use Rattle.transcript.specs.inside.Naming.{name_of, name_in, grown_by, Answered}
 use Rattle.transcript.specs.inside.Reading.{member, says as says_it, and_then, kept_if, after, parted, taken, ended, member_of, station_of, is_space, along, fact_tree, life_tree, fact_in}
-use Rattle.transcript.specs.inside.Taking.{Answers}
+use Rattle.transcript.specs.inside.Taking.{Answers, IsForFrame}
 use Rattle.transcript.proofs.Said.{steps, kept, the_word, same_some, station_tells}
 use Rattle.transcript.proofs.Told.{station_said}
-use Rattle.transcript.proofs.ReadBack.{told, some_fact}
+use Rattle.transcript.proofs.ReadBack.{told, some_fact, of_frame}
 use Rattle.transcript.proofs.Sound.{line_said}
 use Rattle.transcript.proofs.Texts.{line_words}
 
@@ -315,6 +315,15 @@ module _ (names : List (List ℕ)) (octets : List ℕ) (now : List (List ℕ)) (
             (then, p.0, of-reading names octets then p.0 are few g p.1)
       ]
 
+  pub frames : (r : Result Fact FactError)
+      → Answered names octets now r (grown_by names (name_in octets)) → r ≡ Err Memory
+      → (then : List (List ℕ)) (fact : Fact) → Reads names octets then fact → IsOfFrame fact
+  frames r is e then fact reads =
+      let w = reading-of names octets then fact are reads in
+      let f = subst (λ o. Answered names octets now (Err Memory) o) w.grown
+      (subst (λ r. Answered names octets now r (grown_by names (name_in octets))) e is) in
+      of_frame (fact_in then octets) fact Memory w.reads refl f.2
+
   pub kept-names : (r : Result Fact FactError)
       → Answered names octets now r (grown_by names (name_in octets)) → OnErr r (now ≡ names)
   kept-names (Ok fact) is = tt
@@ -328,9 +337,10 @@ module _ (names : List (List ℕ)) (octets : List ℕ) (now : List (List ℕ)) (
 
 pub answered-known : (names : List (List ℕ)) (octets : List ℕ) (r : Result Fact FactError)
     → Answers {X = Fact} {Y = Fact} (λ x. x) r (fact_in names octets)
+    → IfErr r (λ fault. IsForFrame fault (fact_in names octets))
     → Answered names octets names r (Some names)
-answered-known names octets (Ok fact) is = (refl, is)
-answered-known names octets (Err fault) is = (refl, is)
+answered-known names octets (Ok fact) is frame = (refl, is)
+answered-known names octets (Err fault) is frame = (refl, is, frame)
 
 pub known-by : (names : List (List ℕ)) (name : List ℕ) (o : Option ℕ) → o ≡ station_of names name
     → is_some o ≡ true → grown_by names (Some name) ≡ Some names
@@ -367,12 +377,29 @@ pub answered-at : (names : List (List ℕ)) (octets : List ℕ) (now then : List
 answered-at names octets now then r o same is =
     subst (λ now. Answered names octets now r o) (sym same) is
 
+-- a line under a name that is known
+pub answered-again : (names items seen shown : List (List ℕ)) (octets name word : List ℕ)
+    (r : Result Fact FactError) (o : Option ℕ) → items ≡ names → seen ≡ items → shown ≡ items
+    → word ≡ name → o ≡ station_of seen word → is_some o ≡ true
+    → Answers {X = Fact} {Y = Fact} (λ x. x) r (fact_in shown octets)
+    → IfErr r (λ fault. IsForFrame fault (fact_in shown octets))
+    → Answered names octets names r (grown_by names (Some name))
+answered-again names items seen shown octets name word r o same saw shows spelt is some answers frames =
+    answered-under names octets names r (Some names) (grown_by names (Some name))
+    (known-by names name o
+    (is ∙ ap (λ ns. station_of ns word) (saw ∙ same) ∙ ap (λ w. station_of names w) spelt) some)
+    (answered-known names octets r
+    (subst (λ ns. Answers {X = Fact} {Y = Fact} (λ x. x) r (fact_in ns octets)) (shows ∙ same) answers)
+    (subst (λ ns. IfErr r (λ fault. IsForFrame fault (fact_in ns octets))) (shows ∙ same) frames))
+
 pub answered-unnamed : (names items shown : List (List ℕ)) (octets : List ℕ)
     (r : Result Fact FactError) → items ≡ names → name_in octets ≡ None → shown ≡ items
     → Answers {X = Fact} {Y = Fact} (λ x. x) r (fact_in shown octets)
+    → IfErr r (λ fault. IsForFrame fault (fact_in shown octets))
     → Answered names octets names r (grown_by names (name_in octets))
-answered-unnamed names items shown octets r same none slice is =
+answered-unnamed names items shown octets r same none slice is frame =
     answered-under names octets names r (Some names) (grown_by names (name_in octets))
     (ap (grown_by names) none)
     (answered-known names octets r
-    (subst (λ ns. Answers {X = Fact} {Y = Fact} (λ x. x) r (fact_in ns octets)) (slice ∙ same) is))
+    (subst (λ ns. Answers {X = Fact} {Y = Fact} (λ x. x) r (fact_in ns octets)) (slice ∙ same) is)
+    (subst (λ ns. IfErr r (λ fault. IsForFrame fault (fact_in ns octets))) (slice ∙ same) frame))

@@ -1,14 +1,14 @@
 -- What a line that is read back says.
-use Rattle.std.proofs.Common.{◌≡◌, ℕ, ◌<◌, List, length, refl, sym, ap, ◌∙◌, inl, inr}
-use Rattle.std.specs.Prelude.{◌↔◌, Option, Some, None, IsSome, Result, Ok, Err, IfOk}
+use Rattle.std.proofs.Common.{◌≡◌, ℕ, ◌<◌, List, length, refl, sym, ap, subst, ◌∙◌, inl, inr}
+use Rattle.std.specs.Prelude.{◌↔◌, Option, Some, None, IsSome, Result, Ok, Err, IfOk, IfErr}
 use Rattle.lan_core.specs.declared.fact.Fact.{Fact}
 use Rattle.lan_core.specs.declared.fact.Fact.TheVariants.{Life, Ticked, Server, Dropped, Retired, Began, Installed, Untaken, Framed, HeardMka, Claimed, Unclaimed, Arrived}
 use Rattle.lan_core.specs.Run.{place}
-use Rattle.transcript.specs.Rendering.{IsFact, Says, AreNames}
+use Rattle.transcript.specs.Rendering.{IsFact, Says, AreNames, IsOfFrame}
 use Rattle.transcript.specs.declared.fault.FactError.{FactError}
 use Rattle.transcript.specs.declared.fault.FactError.TheVariants.{Unread, Memory}
 use Rattle.transcript.specs.inside.Reading.{fact_in}
-use Rattle.transcript.specs.inside.Taking.{Answers}
+use Rattle.transcript.specs.inside.Taking.{Answers, IsForFrame}
 use Rattle.transcript.proofs.Said.{same_some}
 use Rattle.transcript.proofs.Sound.{line_said}
 use Rattle.transcript.proofs.Texts.{line_told}
@@ -68,6 +68,20 @@ unsaid names line (Err fault) (inr some) none =
 pub unread : (names : List (List ℕ)) (line : List ℕ) (r : Result Fact FactError) → Answers same r (fact_in names line) → AreNames names
     → (r ≡ Err Unread) ↔ ((fact : Fact) → Says names line fact → ⊥)
 unread names line r answers are = (none_says names line r answers are, unsaid names line r answers)
+
+-- what memory was wanting for
+pub of_frame : (o : Option Fact) (fact : Fact) (fault : FactError) → o ≡ Some fact → fault ≡ Memory
+    → IsForFrame fault o → IsOfFrame fact
+of_frame o fact fault some e frame =
+    subst (λ (p : Option Fact). IsForFrame Memory p) some (subst (λ f. IsForFrame f o) e frame)
+
+pub frames : (names : List (List ℕ)) (line : List ℕ) (r : Result Fact FactError)
+    → IfErr r (λ fault. IsForFrame fault (fact_in names line)) → AreNames names → r ≡ Err Memory
+    → (fact : Fact) → Says names line fact → IsOfFrame fact
+frames names line (Ok answer) frame are e fact says = absurd cc
+frames names line (Err fault) frame are e fact says =
+    of_frame (fact_in names line) fact Memory (told names line fact are says) refl
+    (subst (λ (r : Result Fact FactError). IfErr r (λ fault. IsForFrame fault (fact_in names line))) e frame)
 
 pub memory : (names : List (List ℕ)) (line : List ℕ) (r : Result Fact FactError) → Answers same r (fact_in names line) → r ≡ Err Memory
     → (fact : Fact) × Says names line fact

@@ -4,6 +4,7 @@ use Rattle.std.specs.List.{All, flat_map}
 use Rattle.lan_base.specs.Name.{IsName}
 use Rattle.lan_base.specs.Differing.{AllDiffer}
 use Rattle.lan_core.specs.declared.fact.Fact.{Fact}
+use Rattle.lan_core.specs.declared.fact.Fact.TheVariants.{Framed, Arrived}
 use Rattle.trace_text.specs.Words.{spaced}
 use Rattle.transcript.specs.Words.{Word, words, spelled, Fits}
 
@@ -37,6 +38,12 @@ IsFact names fact = AllFit names (words fact)
 -- a line, without its line feed, is that of this fact
 abbrev pub Says : List (List ℕ) → List ℕ → Fact → Type 0
 Says names octets fact = IsFact names fact × (line names fact ≡ octets)
+
+-- a fact of a frame that was sent or came: no line of another fact holds octets of any count
+abbrev pub IsOfFrame : Fact → Type 0
+IsOfFrame (Framed number s sec octets) = Unit {0}
+IsOfFrame (Arrived number s arrival) = Unit {0}
+IsOfFrame fact = ⊥
 
 -- names of stations, each of another
 abbrev pub AreNames : List (List ℕ) → Type 0

@@ -4,7 +4,7 @@ ghost use Rattle.std.specs.Prelude.{ℕ, ◌≡◌, ◌<◌, ◌≤◌, ◌++◌
 ghost use Rattle.lan_base.specs.Name.{IsName};
 ghost use Rattle.lan_core.specs.declared.fact.Fact.{Fact};
 ghost use Rattle.transcript.specs.Naming.{Reads, most_named};
-ghost use Rattle.transcript.specs.Rendering.{AreNames};
+ghost use Rattle.transcript.specs.Rendering.{AreNames, IsOfFrame};
 ghost use Rattle.transcript.specs.inside.Naming.{name_in, grown_by, Answered};
 ghost use Rattle.transcript.specs.inside.Reading.{station_of};
 ghost use Rattle.transcript.specs.inside.Taking.{Takes};
@@ -70,11 +70,13 @@ impl Reader {
         ensures found { (after : List (List ℕ)) (fact : Fact) → Reads self.old line.now after fact
             → IfOk result (λ answer. (answer ≡ fact) × (self.new ≡ after)) }
 
-        // Memory is never wanting in place of `Unread`.
+        // Memory is never wanting in place of `Unread`, and only for the line of a frame.
         ensures unread { (result ≡ Err Unread) ↔ ((after : List (List ℕ)) (fact : Fact)
             → Reads self.old line.now after fact → ⊥) }
         ensures memory { result ≡ Err Memory → (after : List (List ℕ)) × (fact : Fact)
             × Reads self.old line.now after fact }
+        ensures frames { result ≡ Err Memory → (after : List (List ℕ)) (fact : Fact)
+            → Reads self.old line.now after fact → IsOfFrame fact }
         ensures kept { OnErr result (self.new ≡ self.old) }
     {
         match name_in(line) {

@@ -1,11 +1,11 @@
 //! A line is read back.
 
-ghost use Rattle.std.specs.Prelude.{◌≡◌, ◌<◌, ◌↔◌, ◌∷◌, Err, IfOk, length};
+ghost use Rattle.std.specs.Prelude.{◌≡◌, ◌<◌, ◌↔◌, ◌∷◌, Err, IfOk, IfErr, length};
 ghost use Rattle.lan_core.specs.declared.fact.Fact.{Fact};
 ghost use Rattle.lan_core.specs.Run.{place};
-ghost use Rattle.transcript.specs.Rendering.{Says, AreNames};
+ghost use Rattle.transcript.specs.Rendering.{Says, AreNames, IsOfFrame};
 ghost use Rattle.transcript.specs.inside.Reading.{along, fact_in, plain_tree};
-ghost use Rattle.transcript.specs.inside.Taking.{words_behind, Takes, Answers};
+ghost use Rattle.transcript.specs.inside.Taking.{words_behind, Takes, Answers, IsForFrame};
 ghost use Rattle.transcript.specs.declared.fault.FactError.TheVariants.{Unread, Memory};
 
 use crate::facts::{
@@ -25,17 +25,20 @@ pub fn read_fact(alloc: Global, line: &[u8], names: &[Name]) -> Result<Fact, Fac
     ensures found { AreNames names.now → (fact : Fact) → Says names.now line.now fact
         → IfOk result (λ answer. answer ≡ fact) }
 
-    // Memory is never wanting in place of `Unread`.
+    // Memory is never wanting in place of `Unread`, and only for the line of a frame.
     ensures unread { AreNames names.now
         → (result ≡ Err Unread) ↔ ((fact : Fact) → Says names.now line.now fact → ⊥) }
     ensures memory { result ≡ Err Memory → (fact : Fact) × Says names.now line.now fact }
+    ensures frames { AreNames names.now → result ≡ Err Memory
+        → (fact : Fact) → Says names.now line.now fact → IsOfFrame fact }
 {
     answer_fact(alloc, line, names)
 }
 
 /// Reads a line.
 pub fn answer_fact(alloc: Global, line: &[u8], names: &[Name]) -> Result<Fact, FactError>
-    ensures { Answers (λ x. x) result (fact_in names.now line.now) }
+    ensures answers { Answers (λ x. x) result (fact_in names.now line.now) }
+    ensures frames { IfErr result (λ fault. IsForFrame fault (fact_in names.now line.now)) }
 {
     let (first, rest) = split_word(line);
     if first == b"frame".as_slice() {

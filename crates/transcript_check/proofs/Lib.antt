@@ -8,3 +8,5 @@ mod Clean
 mod Passing
 mod AllFit
 mod Lines
+mod Reached
+pub mod Public

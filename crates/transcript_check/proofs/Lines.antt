@@ -1,16 +1,17 @@
 -- A line is read, and its fact is noted.
 use Rattle.std.proofs.Common.{◌≡◌, ◌∙◌, inl, inr, ℕ, true, List, [], ◌∷◌, ◌++◌, Option, Some, None, Result, Ok, Err, refl, sym, ap, subst}
-use Rattle.std.specs.Prelude.{◌⊎◌, ◌↔◌, is_ok, option_map, IfOk, OnOk, OnErr}
+use Rattle.std.specs.Prelude.{◌⊎◌, ◌↔◌, is_ok, option_map, IfOk, OnErr}
 use Rattle.aes_block.specs.declared.secret.Secret.{Secret}
 use Rattle.lan_base.specs.declared.address.Mi.{Mi}
 use Rattle.lan_base.specs.declared.name.Name.{Name}
 use Rattle.lan_core.specs.declared.fact.Fact.{Fact}
 use Rattle.lan_core.specs.declared.fact.Fact.TheVariants as shows
 use Rattle.transcript.specs.Naming.{Reads, IsNaming}
+use Rattle.transcript.specs.Rendering.{IsOfFrame}
 use Rattle.transcript.specs.declared.fault.FactError.{FactError}
 use Rattle.transcript.specs.declared.fault.FactError.TheVariants as readings
 use Rattle.transcript_check.specs.Judged.{sak_in, error_of_reading}
-use Rattle.transcript_check.specs.Standing.{Maps, Standing, StandsFor, IsCheckOf, IsNoted, IsTaken, IsDenied, Takes, Installs, Claims, refusal, no_epoch, sak_at}
+use Rattle.transcript_check.specs.Standing.{Maps, Standing, StandsFor, IsCheckOf, IsNoted, IsTaken, IsDenied, IsDue, Takes, Installs, Claims, refusal, no_epoch, sak_at}
 use Rattle.transcript_check.specs.declared.named.Named.{Named}
 use Rattle.lan_base.specs.declared.key_id.KeyId.{KeyId}
 use Rattle.transcript_check.specs.declared.fault.CheckError.{CheckError}
@@ -56,6 +57,12 @@ takes-life number fact old new e s mi is same =
     cc life.0
 
 -- ---- refusals of a fact
+
+none-some : {A : Type 0} {x : A} → None ≡ Some x → ⊥
+none-some e = cc e
+
+some-same : (a b : CheckFault) → Some a ≡ Some b → a ≡ b
+some-same a b e = cc e
 
 never-unread : (facts : List Fact) (fact : Fact) → refusal facts fact ≡ Some Unread → ⊥
 never-unread facts (shows.Installed s id an epoch sak) is = go (sak_in facts s epoch) is
@@ -126,28 +133,38 @@ module _ (octets : List ℕ) (old : Standing) (after : List Name) (new : Maps) (
       go Doubled f = (after, fact, reads, f)
       go Orphan f = (after, fact, reads, f)
 
-  pub line-unread : (r : Result Unit CheckError) (names : List Name) (facts : List Fact)
-      → IsCheckOf names facts old → IsDenied names facts octets Unread → r ≡ Err (Refused Unread)
-  line-unread r names facts is denied =
-      absurd (denied after fact (subst (λ ns. Reads ns octets after fact) is.0 line.reads))
-
-  pub line-denied : (r : Result Unit CheckError) → IsNote fact old.maps new r → (names : List Name)
-      (facts : List Fact) → IsCheckOf names facts old → (fault : CheckFault)
-      → IsDenied names facts octets fault → OnOk r ⊥
-  line-denied (Err e) note names facts is fault denied = tt
-  line-denied (Ok u) note names facts is fault denied = go fault denied (note.noted facts is.1).0
+  -- why the line is to be refused is why its fact is
+  denied-by : (names : List Name) (facts : List Fact) → IsCheckOf names facts old
+      → (why : CheckFault) → IsDenied names facts octets why → refusal facts fact ≡ Some why
+  denied-by names facts is why denied = go why denied
     where
       other : (then : List Name) (x : Fact) → Reads names octets then x → fact ≡ x
       other then x reads = (line.only then x (subst (λ ns. Reads ns octets then x) (sym is.0) reads)).0
 
-      go : (fault : CheckFault) → IsDenied names facts octets fault → refusal facts fact ≡ None → ⊥
-      go Unread d free = d after fact (subst (λ ns. Reads ns octets after fact) is.0 line.reads)
-      go Doubled d free =
-          let same = other d.0 d.1 d.2 in
-          let no : None ≡ Some Doubled = sym free ∙ ap (refusal facts) same ∙ d.3 in cc no
-      go Orphan d free =
-          let same = other d.0 d.1 d.2 in
-          let no : None ≡ Some Orphan = sym free ∙ ap (refusal facts) same ∙ d.3 in cc no
+      go : (why : CheckFault) → IsDenied names facts octets why → refusal facts fact ≡ Some why
+      go Unread d = absurd (d after fact (subst (λ ns. Reads ns octets after fact) is.0 line.reads))
+      go Doubled d = ap (refusal facts) (other d.0 d.1 d.2) ∙ d.3
+      go Orphan d = ap (refusal facts) (other d.0 d.1 d.2) ∙ d.3
+
+  pub line-denied : (r : Result Unit CheckError) → IsNote fact old.maps new r → (names : List Name)
+      (facts : List Fact) → IsCheckOf names facts old → (why : CheckFault)
+      → IsDenied names facts octets why → r ≡ Err (Refused why)
+  line-denied r note names facts is why denied = go r (note.noted facts is.1)
+    where
+      due : refusal facts fact ≡ Some why
+      due = denied-by names facts is why denied
+
+      go : (r : Result Unit CheckError) → IsNoted facts fact old.maps new r → r ≡ Err (Refused why)
+      go (Ok u) n = absurd (none-some (sym n.0 ∙ due))
+      go (Err Memory) n = absurd (none-some (sym n.0 ∙ due))
+      go (Err (Refused other)) n =
+          ap (λ (f : CheckFault). Err (Refused f)) (some-same other why (sym n.0 ∙ due))
+
+  pub line-due : (r : Result Unit CheckError) → IsNote fact old.maps new r → (names : List Name)
+      (facts : List Fact) → IsCheckOf names facts old → r ≡ Err Memory → IsDue names facts octets
+  line-due r note names facts is e =
+      let n = subst (λ r. IsNoted facts fact old.maps new r) e (note.noted facts is.1) in
+      (after, fact, subst (λ ns. Reads ns octets after fact) is.0 line.reads, n.0)
 
   pub line-kept : (r : Result Unit CheckError) → IsNote fact old.maps new r
       → OnErr r (standing after new ≡ old)
@@ -161,9 +178,37 @@ module _ (octets : List ℕ) (old : Standing) (after : List Name) (new : Maps) (
 
 -- ---- a line that was not read
 
+-- no fact of a frame is refused
+free-frame : (facts : List Fact) (fact : Fact) → IsOfFrame fact → refusal facts fact ≡ None
+free-frame facts (shows.Framed k s sec xs) frame = refl
+free-frame facts (shows.Arrived k s arrival) frame = refl
+free-frame facts (shows.Installed s id an epoch sak) frame = absurd frame
+free-frame facts (shows.Claimed s an epoch pn) frame = absurd frame
+free-frame facts (shows.Life s mi) frame = absurd frame
+free-frame facts (shows.Ticked s at next) frame = absurd frame
+free-frame facts (shows.Server s mi) frame = absurd frame
+free-frame facts (shows.Dropped s id an) frame = absurd frame
+free-frame facts (shows.Retired s id an) frame = absurd frame
+free-frame facts (shows.Began s id an epoch cause) frame = absurd frame
+free-frame facts (shows.Untaken s id why) frame = absurd frame
+free-frame facts (shows.HeardMka k s verdict) frame = absurd frame
+free-frame facts (shows.Unclaimed s why) frame = absurd frame
+
+-- what is known then: whether it is read as some fact, and where memory was wanting, as which
+pub record IsUnread (names : List Name) (octets : List ℕ) (fault : FactError) : Type 0 where
+  pub unread : (fault ≡ readings.Unread)
+      ↔ ((after : List Name) (fact : Fact) → Reads names octets after fact → ⊥)
+  pub memory : fault ≡ readings.Memory
+      → (after : List Name) × (fact : Fact) × Reads names octets after fact
+  pub frames : fault ≡ readings.Memory → (after : List Name) (fact : Fact)
+      → Reads names octets after fact → IsOfFrame fact
+
 module _ (octets : List ℕ) (old : Standing) (fault : FactError)
-    (unread : (fault ≡ readings.Unread)
-    ↔ ((after : List Name) (fact : Fact) → Reads old.names octets after fact → ⊥)) where
+    (is_unread : IsUnread old.names octets fault) where
+  abbrev unread : (fault ≡ readings.Unread)
+      ↔ ((after : List Name) (fact : Fact) → Reads old.names octets after fact → ⊥)
+  unread = is_unread.unread
+
   pub none-refused : (names : List Name) (facts : List Fact) → IsCheckOf names facts old
       → (why : CheckFault) → error_of_reading fault ≡ Refused why → IsDenied names facts octets why
   none-refused names facts is why e = go fault refl why e
@@ -176,15 +221,47 @@ module _ (octets : List ℕ) (old : Standing) (fault : FactError)
       go readings.Unread same Doubled g = absurd (cc g)
       go readings.Unread same Orphan g = absurd (cc g)
 
-  pub none-unread : (names : List Name) (facts : List Fact) → IsCheckOf names facts old
-      → IsDenied names facts octets Unread → error_of_reading fault ≡ Refused Unread
-  none-unread names facts is denied =
-      ap error_of_reading (unread.1 (λ after fact reads.
-      denied after fact (subst (λ ns. Reads ns octets after fact) is.0 reads)))
+  pub none-denied : (names : List Name) (facts : List Fact) → IsCheckOf names facts old
+      → (why : CheckFault) → IsDenied names facts octets why → error_of_reading fault ≡ Refused why
+  none-denied names facts is why denied = go why denied
+    where
+      never : (after : List Name) (fact : Fact) → Reads names octets after fact → (why : CheckFault)
+          → refusal facts fact ≡ Some why → ⊥
+      never after fact reads why refused = by fault refl
+        where
+          there : Reads old.names octets after fact
+          there = subst (λ ns. Reads ns octets after fact) (sym is.0) reads
+
+          by : (f : FactError) → fault ≡ f → ⊥
+          by readings.Unread same = unread.0 same after fact there
+          by readings.Memory same =
+              none-some (sym (free-frame facts fact (is_unread.frames same after fact there))
+              ∙ refused)
+
+      go : (why : CheckFault) → IsDenied names facts octets why
+          → error_of_reading fault ≡ Refused why
+      go Unread d = ap error_of_reading (unread.1 (λ after fact reads.
+          d after fact (subst (λ ns. Reads ns octets after fact) is.0 reads)))
+      go Doubled d = absurd (never d.0 d.1 d.2 Doubled d.3)
+      go Orphan d = absurd (never d.0 d.1 d.2 Orphan d.3)
+
+  pub none-due : (names : List Name) (facts : List Fact) → IsCheckOf names facts old
+      → error_of_reading fault ≡ Memory → IsDue names facts octets
+  none-due names facts is e = go fault refl e
+    where
+      go : (f : FactError) → fault ≡ f → error_of_reading f ≡ Memory → IsDue names facts octets
+      go readings.Unread same g = absurd (cc g)
+      go readings.Memory same g =
+          let p = is_unread.memory same in (
+            p.0,
+            p.1,
+            subst (λ ns. Reads ns octets p.0 p.1) is.0 p.2,
+            free-frame facts p.1 (is_unread.frames same p.0 p.1 p.2),
+          )
 
 -- ---- results that are errors
 
-abbrev failing : (T : Type 0) {E : Type 0} → E → Result T E
+abbrev pub failing : (T : Type 0) {E : Type 0} → E → Result T E
 failing T x = Err x
 
 pub same-error : {T E : Type 0} (a b : E) → failing T a ≡ failing T b → a ≡ b

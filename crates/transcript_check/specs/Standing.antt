@@ -213,6 +213,11 @@ IsDenied names facts line Orphan =
     (after : List Name) × (fact : Fact) × Reads names line after fact
     × (refusal facts fact ≡ Some Orphan)
 
+-- a line is to be taken: it is read, and its fact is not refused
+abbrev pub IsDue : List Name → List Fact → List ℕ → Type 0
+IsDue names facts line =
+    (after : List Name) × (fact : Fact) × Reads names line after fact × (refusal facts fact ≡ None)
+
 -- lines that are taken one after another, from these names and facts to those
 abbrev pub AreTaken : List Name → List Fact → List (List ℕ) → List Name → List Fact → Type 0
 AreTaken names facts [] names_then facts_then = (names ≡ names_then) × (facts ≡ facts_then)

@@ -1,12 +1,11 @@
 //! Lines are judged one by one.
 
-ghost use Rattle.std.specs.Prelude.{◌≡◌, ◌<◌, [], List, Err, IfOk, OnOk, OnErr};
+ghost use Rattle.std.specs.Prelude.{◌≡◌, ◌<◌, ◌↔◌, [], List, Err, IfOk, OnErr};
 ghost use Rattle.lan_base.specs.declared.name.Name.{Name};
 ghost use Rattle.lan_core.specs.declared.fact.Fact.{Fact};
-ghost use Rattle.transcript_check.specs.Standing.{IsCheckOf, IsVerdict, IsTaken, IsDenied};
-ghost use Rattle.transcript_check.specs.declared.fault.CheckError.TheVariants.{Refused};
+ghost use Rattle.transcript_check.specs.Standing.{IsCheckOf, IsVerdict, IsTaken, IsDenied, IsDue};
+ghost use Rattle.transcript_check.specs.declared.fault.CheckError.TheVariants.{Refused, Memory};
 ghost use Rattle.transcript_check.specs.declared.fault.CheckFault.{CheckFault};
-ghost use Rattle.transcript_check.specs.declared.fault.CheckFault.TheVariants.{Unread};
 
 use crate::fault::CheckError;
 use crate::notes::Notes;
@@ -48,16 +47,23 @@ impl Check {
         ensures taken { (names : List Name) (facts : List Fact) → IsCheckOf names facts self.old
             → IfOk result (λ _. IsTaken names facts line.now self.new) }
         ensures refused { (names : List Name) (facts : List Fact) → IsCheckOf names facts self.old
-            → (fault : CheckFault) → result ≡ Err (Refused fault)
-            → IsDenied names facts line.now fault }
-        ensures unread { (names : List Name) (facts : List Fact) → IsCheckOf names facts self.old
-            → IsDenied names facts line.now Unread → result ≡ Err (Refused Unread) }
-        ensures denied { (names : List Name) (facts : List Fact) → IsCheckOf names facts self.old
-            → (fault : CheckFault) → IsDenied names facts line.now fault → OnOk result ⊥ }
+            → (why : CheckFault)
+            → (result ≡ Err (Refused why)) ↔ IsDenied names facts line.now why }
+
+        // Memory is never wanting in place of a refusal.
+        ensures memory { (names : List Name) (facts : List Fact) → IsCheckOf names facts self.old
+            → result ≡ Err Memory → IsDue names facts line.now }
         ensures kept { OnErr result (self.new ≡ self.old) }
     {
         let fact = self.reader.line(alloc, line)?;
         self.notes.note(&fact)
+    }
+
+    /// How many lines were taken.
+    pub fn count(&self) -> u64
+        ensures { result ≡ self.now.maps.count }
+    {
+        self.notes.count()
     }
 
     /// The verdict on the lines that were taken.

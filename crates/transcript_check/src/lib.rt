@@ -4,6 +4,7 @@
 
 mod check;
 mod fault;
+mod judging;
 mod laws;
 mod named;
 mod notes;
@@ -11,5 +12,6 @@ mod verdict;
 
 pub use check::Check;
 pub use fault::{CheckError, CheckFault};
+pub use judging::{Unjudged, judge};
 pub use laws::{law_clean, law_every_fact_has_a_line};
 pub use verdict::Verdict;

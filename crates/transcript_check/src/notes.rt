@@ -82,6 +82,13 @@ impl Notes {
         Ok(())
     }
 
+    /// How many facts there were.
+    pub fn count(&self) -> u64
+        ensures { result ≡ self.now.count }
+    {
+        self.count
+    }
+
     /// The verdict on the facts so far.
     pub fn verdict(&self) -> Verdict
         ensures { (facts : List Fact) → StandsFor facts self.now → IsVerdict facts result }

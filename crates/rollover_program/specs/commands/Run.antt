@@ -10,14 +10,14 @@ use Rattle.replay.specs.Shown.{shown_by}
 use Rattle.replay.specs.Causes.{cause_of_halt}
 use Rattle.replay.specs.Runs.{EndsRun, within, most_input}
 use Rattle.rollover_program.specs.declared.status.Status.{Status}
-use Rattle.rollover_program.specs.declared.status.Status.TheVariants.{Done, Usage, Halted}
+use Rattle.rollover_program.specs.declared.status.Status.TheVariants.{Done, Halted}
 use Rattle.rollover_program.specs.Headline.{IsPromised}
 
 -- the call ended as a replay ends with this answer
 abbrev pub Answers : (Result (Unit {0}) Cause → Type 0) → Status → Type 0
 Answers Ends Done = Ends (Ok tt)
-Answers Ends Usage = ⊥
 Answers Ends (Halted cause) = Ends (Err cause)
+Answers Ends status = ⊥
 
 -- a run of this text was shown, it is promised, and it ended so
 abbrev pub EndsAsRun : Bool → List ℕ → Sourced → Sourced → Sunk → Sunk → Status → Type 0

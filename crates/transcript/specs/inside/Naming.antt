@@ -8,7 +8,7 @@ use Rattle.transcript.specs.declared.fault.FactError.TheVariants.{Unread}
 use Rattle.transcript.specs.Naming.{most_named}
 use Rattle.transcript.specs.Rendering.{AreNames}
 use Rattle.transcript.specs.inside.Reading.{and_then, kept_if, after, parted, is_space, station_of, fact_in}
-use Rattle.transcript.specs.inside.Taking.{Answers}
+use Rattle.transcript.specs.inside.Taking.{Answers, IsForFrame}
 
 -- the name that words of a `life` line give
 abbrev pub name_of : List (List ℕ) → Option (List ℕ)
@@ -33,3 +33,4 @@ Answered names line now r None = (r ≡ Err Unread) × (now ≡ names)
 Answered names line now (Ok fact) (Some after) = (now ≡ after) × (fact_in after line ≡ Some fact)
 Answered names line now (Err fault) (Some after) =
     (now ≡ names) × Answers (λ x. x) (Err fault) (fact_in after line)
+    × IsForFrame fault (fact_in after line)

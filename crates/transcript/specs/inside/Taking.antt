@@ -1,8 +1,10 @@
 -- What a private reader answers, beside what the definitions give.
-use Rattle.std.specs.Prelude.{ℕ, ◌≡◌, ◌⊎◌, List, [], ◌∷◌, Option, Some, None, IsSome, Result, Ok, Err}
+use Rattle.std.specs.Prelude.{ℕ, ◌≡◌, ◌⊎◌, List, [], ◌∷◌, Option, Some, None, IsSome, IfSome, Result, Ok, Err}
 use Rattle.std.specs.List.{slice_split}
 use Rattle.transcript.specs.declared.fault.FactError.{FactError}
 use Rattle.transcript.specs.declared.fault.FactError.TheVariants.{Unread, Memory}
+use Rattle.lan_core.specs.declared.fact.Fact.{Fact}
+use Rattle.transcript.specs.Rendering.{IsOfFrame}
 use Rattle.transcript.specs.inside.Reading.{is_space}
 
 -- the words behind a word: each stands behind one space
@@ -20,3 +22,8 @@ abbrev pub Answers : {X Y : Type 0} → (X → Y) → Result X FactError → Opt
 Answers view (Ok x) given = given ≡ Some (view x)
 Answers view (Err fault) given =
     ((fault ≡ Unread) × (given ≡ None)) ⊎ ((fault ≡ Memory) × IsSome given)
+
+-- memory is wanting for the octets of a frame alone
+abbrev pub IsForFrame : FactError → Option Fact → Type 0
+IsForFrame Unread given = Unit {0}
+IsForFrame Memory given = IfSome given IsOfFrame

@@ -1,10 +1,10 @@
 use Rattle.std.proofs.Common.{ap, sym, refl, inr, ◌∙◌}
 use Rattle.std.specs.Prelude.{Err}
 use Rattle.replay.specs.declared.cause.Cause.TheVariants as causes
-use Rattle.rollover_program.specs.declared.words.Order.TheVariants.{Run, Make, Try}
+use Rattle.rollover_program.specs.declared.words.Order.TheVariants.{Run, Make, Try, Check}
 use Rattle.rollover_program.proofs.Ordered.{by_no_usage}
 use Rattle.rollover_program.proofs.Refused.{plain_orders, either, usage_only, not_halted, memory}
-use Rattle.rollover_program.proofs.Refused.{ran_nothing, made_nothing, tried_nothing}
+use Rattle.rollover_program.proofs.Refused.{ran_nothing, made_nothing, tried_nothing, checked_nothing}
 use Rattle.rollover_program.proofs.Carried.{as_asked, either_order, complete, complete_make}
 use Rattle.rollover_program.proofs.Carried.{complete_try}
 use Rattle.rollover_program.proofs.top.rollover.Goals as goal
@@ -36,6 +36,10 @@ returns-in-Ok-clause-make g c = λ n asked.
 pub returns-in-Ok-clause-try_made : goal.returns-in-Ok-clause-try_made
 returns-in-Ok-clause-try_made g c = λ n asked.
     as_asked _ _ (Try n) _ _ _ _ _ c.in-Ok.ensures.ok asked c.carry_out.ensures.done
+
+pub returns-in-Ok-clause-check : goal.returns-in-Ok-clause-check
+returns-in-Ok-clause-check g c = λ text asked told.
+    as_asked _ _ Check _ _ _ _ _ c.in-Ok.ensures.ok asked c.carry_out.ensures.done text told
 
 pub returns-in-Ok-clause-unread : goal.returns-in-Ok-clause-unread
 returns-in-Ok-clause-unread g c = λ n asked.
@@ -95,6 +99,11 @@ pub returns-in-Err-clause-try_made : goal.returns-in-Err-clause-try_made
 returns-in-Err-clause-try_made g c = λ n asked.
     tried_nothing _ c.in-Err.refusal (λ is. c.in-Err.ensures.usage (ap (λ f. Err f) is))
     c.law_tidy_runs_are_promised.ensures c.law_lines_leave_a_tidy_world.ensures.start _ n _
+    c.status_of_refusal.ensures asked
+
+pub returns-in-Err-clause-check : goal.returns-in-Err-clause-check
+returns-in-Err-clause-check g c = λ text asked told.
+    checked_nothing _ c.in-Err.refusal (λ is. c.in-Err.ensures.usage (ap (λ f. Err f) is)) _ text _ _
     c.status_of_refusal.ensures asked
 
 pub returns-in-Err-clause-unread : goal.returns-in-Err-clause-unread

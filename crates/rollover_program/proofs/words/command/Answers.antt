@@ -4,7 +4,7 @@ use Rattle.clap.specs.Words.{App, Rule, Shape, app_of, new_app, rule_of, shape_o
 use Rattle.clap.specs.Words.{with_subcommand}
 use Rattle.clap.specs.Simple.{app_of_fields, on_top}
 use Rattle.clap.specs.declared.builder.ArgAction.TheVariants.{SetTrue}
-use Rattle.rollover_program.specs.Words.{bare, number, subcommand, summary}
+use Rattle.rollover_program.specs.Words.{bare, number, plain, subcommand, summary}
 use Rattle.rollover_program.proofs.words.command.Goals as goal
 
 pub returns : goal.returns
@@ -42,9 +42,13 @@ returns c =
     let two_is = c.in_ok-subcommand-2.ensures.shape
     (rw (c.in_ok-arg-2.ensures.globals, c.new-4.ensures.local, c.number.ensures.local) refl)
     ∙ ap₂ with_subcommand one_is make_is in
-    IfOk-weaker c.subcommand-3.result _ _
-    (λ r h. h.shape (rw (
+    let three_is = c.in_ok-subcommand-3.ensures.shape (rw (
       c.in_ok-arg-3.ensures.globals,
       c.new-5.ensures.local,
       c.number-2.ensures.local,
-    ) refl) ∙ ap₂ with_subcommand two_is try_is) c.subcommand-3.ensures
+    ) refl) ∙ ap₂ with_subcommand two_is try_is in
+    let check_is : shape_of c.new-6.result ≡ plain (codes "check") =
+    ap (λ (a : App). a.top) c.new-6.ensures.app in
+    IfOk-weaker c.subcommand-4.result _ _
+    (λ r h. h.shape (rw c.new-6.ensures.local refl) ∙ ap₂ with_subcommand three_is check_is)
+    c.subcommand-4.ensures

@@ -1,13 +1,11 @@
 use Rattle.std.proofs.Common.{◌≡◌, ◌∙◌, List, Err, sym, ap, subst}
-use Rattle.std.specs.Prelude.{◌↔◌, OnErr}
+use Rattle.std.specs.Prelude.{OnErr}
 use Rattle.std.proofs.lemmas.Result.{err_from_is_err_and}
 use Rattle.lan_base.specs.declared.name.Name.{Name}
 use Rattle.lan_core.specs.declared.fact.Fact.{Fact}
-use Rattle.transcript.specs.Naming.{Reads}
 use Rattle.transcript.specs.declared.fault.FactError.{FactError}
-use Rattle.transcript.specs.declared.fault.FactError.TheVariants as readings
 use Rattle.transcript_check.specs.Standing.{Standing, IsCheckOf}
-use Rattle.transcript_check.proofs.Lines.{standing, IsLine, IsNote, line-taken, line-refused, line-unread, line-denied, line-kept, none-refused, none-unread, of-results, same-error}
+use Rattle.transcript_check.proofs.Lines.{standing, IsLine, IsNote, line-taken, line-refused, line-denied, line-due, line-kept, IsUnread, none-refused, none-denied, none-due, failing, of-results, same-error}
 use Rattle.transcript_check.proofs.check.Check.line.Goals as goal
 
 pub returns : goal.returns
@@ -26,15 +24,20 @@ returns c =
       kept = c.note.ensures.kept;
       life = c.note.ensures.life;
     } in
+    let from : (ns : List Name) (facts : List Fact) → IsCheckOf ns facts c.args.self.now
+    → IsCheckOf ns facts before =
+    λ ns facts is. subst (λ (s : Standing). IsCheckOf ns facts s) (sym c.self.view_is) is in
     record {
-      taken = λ ns facts is. line-taken octets before after c.note.new.self fact line c.note.result note ns facts
-          (subst (λ (s : Standing). IsCheckOf ns facts s) (sym c.self.view_is) is);
-      refused = λ ns facts is. line-refused octets before after c.note.new.self fact line c.note.result note ns facts
-          (subst (λ (s : Standing). IsCheckOf ns facts s) (sym c.self.view_is) is);
-      unread = λ ns facts is. line-unread octets before after c.note.new.self fact line c.note.result ns facts
-          (subst (λ (s : Standing). IsCheckOf ns facts s) (sym c.self.view_is) is);
-      denied = λ ns facts is. line-denied octets before after c.note.new.self fact line c.note.result note ns facts
-          (subst (λ (s : Standing). IsCheckOf ns facts s) (sym c.self.view_is) is);
+      taken = λ ns facts is. line-taken octets before after c.note.new.self fact line c.note.result note
+          ns facts (from ns facts is);
+      refused = λ ns facts is why. (
+        line-refused octets before after c.note.new.self fact line c.note.result note ns facts
+            (from ns facts is) why,
+        line-denied octets before after c.note.new.self fact line c.note.result note ns facts
+            (from ns facts is) why,
+      );
+      memory = λ ns facts is. line-due octets before after c.note.new.self fact line c.note.result note
+          ns facts (from ns facts is);
       kept = subst (λ (s : Standing). OnErr c.note.result (standing after c.note.new.self ≡ s)) c.self.view_is
           (line-kept octets before after c.note.new.self fact line c.note.result note);
     }
@@ -45,14 +48,21 @@ returns-in_err-fact c =
     let before : Standing = standing c.self.inside.reader c.self.inside.notes in
     let fault : FactError = c.in_err-fact.field-0.0 in
     let p = err_from_is_err_and c.from_residual.result c.from_residual.ensures.1 in
-    let unread : (fault ≡ readings.Unread) ↔ ((after : List Name) (fact : Fact) → Reads before.names octets after fact → ⊥) =
-    of-results fault c.in_err-fact.ensures.unread in
+    let unread : IsUnread before.names octets fault = record {
+      unread = of-results fault c.in_err-fact.ensures.unread;
+      memory = λ e. c.in_err-fact.ensures.memory (ap (failing Fact) e);
+      frames = λ e. c.in_err-fact.ensures.frames (ap (failing Fact) e);
+    } in
+    let from : (ns : List Name) (facts : List Fact) → IsCheckOf ns facts c.args.self.now
+    → IsCheckOf ns facts before =
+    λ ns facts is. subst (λ (s : Standing). IsCheckOf ns facts s) (sym c.self.view_is) is in
     rw (p.1, p.2) (record {
       taken = λ ns facts is. tt;
-      refused = λ ns facts is why e. none-refused octets before fault unread ns facts
-          (subst (λ (s : Standing). IsCheckOf ns facts s) (sym c.self.view_is) is) why (same-error _ _ e);
-      unread = λ ns facts is denied. ap Err (none-unread octets before fault unread ns facts
-          (subst (λ (s : Standing). IsCheckOf ns facts s) (sym c.self.view_is) is) denied);
-      denied = λ ns facts is why denied. tt;
+      refused = λ ns facts is why. (
+        λ e. none-refused octets before fault unread ns facts (from ns facts is) why (same-error _ _ e),
+        λ denied. ap Err (none-denied octets before fault unread ns facts (from ns facts is) why denied),
+      );
+      memory = λ ns facts is e. none-due octets before fault unread ns facts (from ns facts is)
+          (same-error _ _ e);
       kept = ap (λ (ns : List Name). standing ns c.self.inside.notes) c.in_err-fact.ensures.kept ∙ c.self.view_is;
     })

@@ -1,0 +1,98 @@
+-- How the program ends after a transcript was judged.
+use Rattle.std.proofs.Common.{◌≡◌, ◌∙◌, ◌<◌, ◌≤◌, ℕ, Bool, true, false, cond, List, [], ◌∷◌, length, take, inr, refl, sym, ap, subst}
+use Rattle.lan_base.specs.Faults.{Rose}
+use Rattle.lan_base.specs.Told.{after}
+use Rattle.text_lines.specs.Reading.{Sourced}
+use Rattle.transcript_check.specs.declared.verdict.Verdict.{Verdict}
+use Rattle.transcript_check.specs.declared.judging.Unjudged.{Unjudged}
+use Rattle.transcript_check.specs.declared.judging.Unjudged.TheVariants as unjudged
+use Rattle.transcript_check.specs.Verdicts.{is_clean, text_of}
+use Rattle.transcript_check.proofs.Public.{not-judged}
+use Rattle.replay.specs.declared.cause.Cause.TheVariants as causes
+use Rattle.replay.specs.Sinks.{Sunk, Wrote, BrokeOff}
+use Rattle.replay.proofs.Public.{wrote-one, broke-one}
+use Rattle.rollover_program.specs.declared.status.Status.{Status}
+use Rattle.rollover_program.specs.declared.status.Status.TheVariants.{Done, Usage, Halted, Refuted}
+use Rattle.rollover_program.specs.commands.Check.{EndsAsCheck, Tells, status_of, told}
+
+-- nothing was done, for want of memory
+pub not_checked : (text : List ℕ) (left : Sourced) (old : Sunk)
+    → EndsAsCheck text left left old old (Halted causes.Memory)
+not_checked text left old = inr (unjudged.Memory, not-judged text left, refl, refl)
+
+-- ---- a verdict
+
+-- a verdict that was told is so
+pub told-all : (verdict : Verdict) (old new : Sunk) (status : Status) → status ≡ told verdict
+    → Wrote (text_of verdict ∷ []) old new → Tells verdict old new status
+told-all verdict old new status is wrote = go (is_clean verdict) refl
+  where
+    go : (b : Bool) → is_clean verdict ≡ b → Tells verdict old new status
+    go true e =
+        let done : status ≡ Done = is ∙ ap (λ b. cond b Done Refuted) e in
+        rw done (sym done ∙ is, wrote)
+    go false e =
+        let refuted : status ≡ Refuted = is ∙ ap (λ b. cond b Done Refuted) e in
+        rw refuted (sym refuted ∙ is, wrote)
+
+-- no verdict is another status
+other-status : (verdict : Verdict) (status : Status) → (Done ≡ status → ⊥) → (Refuted ≡ status → ⊥)
+    → status ≡ told verdict → ⊥
+other-status verdict status done refuted is = go (is_clean verdict) is
+  where
+    go : (b : Bool) → status ≡ cond b Done Refuted → ⊥
+    go true e = done (sym e)
+    go false e = refuted (sym e)
+
+pub tells_usage : (verdict : Verdict) (old new : Sunk) (status : Status)
+    → Tells verdict old new status → status ≡ Usage → ⊥
+tells_usage verdict old new status tells e =
+    let usage = subst (λ (s : Status). Tells verdict old new s) e tells in
+    other-status verdict Usage (λ is. cc is) (λ is. cc is) usage.0
+
+pub tells_read_fault : (verdict : Verdict) (old new : Sunk) (status : Status)
+    → Tells verdict old new status → status ≡ Halted causes.ReadFault → ⊥
+tells_read_fault verdict old new status tells e =
+    let fault = subst (λ (s : Status). Tells verdict old new s) e tells in
+    other-status verdict (Halted causes.ReadFault) (λ is. cc is) (λ is. cc is) fault.0
+
+pub tells_write_fault : (verdict : Verdict) (old new : Sunk) (status : Status)
+    → Tells verdict old new status → status ≡ Halted causes.WriteFault → Rose old.faults new.faults
+tells_write_fault verdict old new status tells e =
+    let fault = subst (λ (s : Status). Tells verdict old new s) e tells in fault.0
+
+-- a part of the text of a verdict was written
+pub part_told : (verdict : Verdict) (octets : List ℕ) (old new : Sunk) → octets ≡ text_of verdict
+    → ((m : ℕ) × (m < length octets) × (new.held ≡ after old.held (take m octets)))
+    → old.faults ≤ new.faults → BrokeOff (text_of verdict ∷ []) old new
+part_told verdict octets old new is part counts =
+    subst (λ (text : List ℕ). BrokeOff (text ∷ []) old new) is
+    (broke-one octets part.0 old new part.1 part.2 counts)
+
+-- all of it was
+pub all_told : (verdict : Verdict) (octets : List ℕ) (old new : Sunk) (status : Status)
+    → octets ≡ text_of verdict → new.held ≡ after old.held octets → old.faults ≤ new.faults
+    → status ≡ told verdict → Tells verdict old new status
+all_told verdict octets old new status is held counts by =
+    told-all verdict old new status by
+    (subst (λ (text : List ℕ). Wrote (text ∷ []) old new) is (wrote-one octets old new held counts))
+
+-- ---- where nothing was judged
+
+pub never_usage : (why : Unjudged) → status_of why ≡ Usage → ⊥
+never_usage (unjudged.Refused line fault) e = cc e
+never_usage unjudged.Memory e = cc e
+never_usage unjudged.ReadFault e = cc e
+never_usage unjudged.Limit e = cc e
+
+pub read_faulted : (why : Unjudged) → status_of why ≡ Halted causes.ReadFault → why ≡ unjudged.ReadFault
+read_faulted (unjudged.Refused line fault) e = absurd (cc e)
+read_faulted unjudged.Memory e = absurd (cc e)
+read_faulted unjudged.ReadFault e = refl
+read_faulted unjudged.Limit e = absurd (cc e)
+
+pub never_write_fault : (why : Unjudged) → status_of why ≡ Halted causes.WriteFault → ⊥
+never_write_fault (unjudged.Refused line fault) e = cc e
+never_write_fault unjudged.Memory e = cc e
+never_write_fault unjudged.ReadFault e = cc e
+never_write_fault unjudged.Limit e = cc e

@@ -1,0 +1,38 @@
+-- `check`: a transcript is judged.
+use Rattle.std.specs.Prelude.{◌≡◌, ◌⊎◌, ℕ, if◌then◌else◌, List, [], ◌∷◌, Ok, Err}
+use Rattle.lan_base.specs.Faults.{Rose}
+use Rattle.text_lines.specs.Reading.{Sourced}
+use Rattle.transcript_check.specs.declared.verdict.Verdict.{Verdict}
+use Rattle.transcript_check.specs.declared.judging.Unjudged.{Unjudged}
+use Rattle.transcript_check.specs.declared.judging.Unjudged.TheVariants as unjudged
+use Rattle.transcript_check.specs.Verdicts.{is_clean, text_of}
+use Rattle.transcript_check.specs.Transcripts.{EndsJudging}
+use Rattle.replay.specs.declared.cause.Cause.TheVariants as causes
+use Rattle.replay.specs.Sinks.{Sunk, Wrote, BrokeOff}
+use Rattle.rollover_program.specs.declared.status.Status.{Status}
+use Rattle.rollover_program.specs.declared.status.Status.TheVariants.{Done, Halted, CheckInput, Refuted, Transcript}
+
+-- the status of a verdict that was told: a transcript is refuted where a pair is there
+abbrev pub told : Verdict → Status
+told verdict = if is_clean verdict then Done else Refuted
+
+-- the text of a verdict was written; a fault of the sink, and want of memory, leave a part of it
+abbrev pub Tells : Verdict → Sunk → Sunk → Status → Type 0
+Tells verdict old new (Halted causes.WriteFault) =
+    Rose old.faults new.faults × BrokeOff (text_of verdict ∷ []) old new
+Tells verdict old new (Halted causes.Memory) = BrokeOff (text_of verdict ∷ []) old new
+Tells verdict old new status = (status ≡ told verdict) × Wrote (text_of verdict ∷ []) old new
+
+-- the status where a transcript was not judged
+abbrev pub status_of : Unjudged → Status
+status_of (unjudged.Refused line why) = Transcript line why
+status_of unjudged.Memory = Halted causes.Memory
+status_of unjudged.ReadFault = Halted causes.ReadFault
+status_of unjudged.Limit = CheckInput
+
+-- the transcript was judged, and then its verdict told; or it was not judged, and nothing was written
+abbrev pub EndsAsCheck : List ℕ → Sourced → Sourced → Sunk → Sunk → Status → Type 0
+EndsAsCheck text left now old new status =
+    ((verdict : Verdict) × EndsJudging text left now (Ok verdict) × Tells verdict old new status)
+    ⊎ ((why : Unjudged) × EndsJudging text left now (Err why) × (status ≡ status_of why)
+    × (new ≡ old))

@@ -1,0 +1,72 @@
+//! `check`: a transcript is judged.
+
+ghost use Rattle.std.specs.Prelude.{◌≡◌, ◌≢◌, List, ℕ, Some};
+ghost use Rattle.lan_base.specs.Faults.{Rose};
+ghost use Rattle.text_lines.specs.Reading.{sourced};
+ghost use Rattle.replay.specs.declared.cause.Cause.TheVariants as causes;
+ghost use Rattle.replay.specs.Sinks.{sunk};
+ghost use Rattle.rollover_program.specs.declared.status.Status.TheVariants as statuses;
+ghost use Rattle.rollover_program.specs.commands.Check.{EndsAsCheck, Tells, status_of, told};
+
+use crate::status::Status;
+use lan_base::{Sink, Source, Unwritten, write_all};
+use replay::Cause;
+use std::alloc::Global;
+use transcript_check::{Unjudged, Verdict, judge};
+
+/// Judges a transcript, and writes the verdict at its end.
+pub fn check<S: Source, K: Sink>(alloc: Global, source: &mut S, sink: &mut K) -> Status
+    ensures ends { (text : List ℕ) → S.left source.old ≡ Some text → EndsAsCheck text
+        (sourced (S.left source.old) (S.faults source.old))
+        (sourced (S.left source.new) (S.faults source.new))
+        (sunk (K.held sink.old) (K.faults sink.old))
+        (sunk (K.held sink.new) (K.faults sink.new)) result }
+    ensures carried { result ≢ statuses.Usage }
+    ensures read_cause { result ≡ statuses.Halted causes.ReadFault
+        → Rose (S.faults source.old) (S.faults source.new) }
+    ensures write_cause { result ≡ statuses.Halted causes.WriteFault
+        → Rose (K.faults sink.old) (K.faults sink.new) }
+{
+    match judge(alloc, source) {
+        Ok(verdict) => tell(alloc, &verdict, sink),
+        Err(why) => status_of(why),
+    }
+}
+
+/// Writes the text of a verdict.
+fn tell<K: Sink>(alloc: Global, verdict: &Verdict, sink: &mut K) -> Status
+    ensures { Tells verdict.now (sunk (K.held sink.old) (K.faults sink.old))
+        (sunk (K.held sink.new) (K.faults sink.new)) result }
+{
+    let Ok(text) = verdict.text(alloc) else {
+        return Status::Halted(Cause::Memory);
+    };
+    match write_all(sink, &text) {
+        Ok(()) => told(verdict),
+        Err(Unwritten::Failed) => Status::Halted(Cause::WriteFault),
+        Err(Unwritten::Memory) => Status::Halted(Cause::Memory),
+    }
+}
+
+/// The status of a verdict whose text was written.
+fn told(verdict: &Verdict) -> Status
+    ensures { result ≡ told verdict.now }
+{
+    if verdict.is_clean() {
+        Status::Done
+    } else {
+        Status::Refuted
+    }
+}
+
+/// The status where a transcript was not judged.
+fn status_of(why: Unjudged) -> Status
+    ensures { result ≡ status_of why }
+{
+    match why {
+        Unjudged::Refused { line, why } => Status::Transcript { line, why },
+        Unjudged::Memory => Status::Halted(Cause::Memory),
+        Unjudged::ReadFault => Status::Halted(Cause::ReadFault),
+        Unjudged::Limit => Status::CheckInput,
+    }
+}
