@@ -25,7 +25,7 @@ use Rattle.replay.specs.Causes.{cause_of_halt}
 use Rattle.replay.specs.Runs.{most_input, whole, within, WasHalted, IsTaken, EndsRun, IsSettled}
 use Rattle.replay.proofs.Public.{runs-weaker, broke-one}
 use Rattle.rollover_program.specs.declared.status.Status.{Status}
-use Rattle.rollover_program.specs.declared.status.Status.TheVariants.{Done, Usage, Halted, CheckInput, Refuted, Transcript}
+use Rattle.rollover_program.specs.declared.status.Status.TheVariants.{Done, Usage, Halted, CheckInput, Refuted, Transcript, CaptureInput, Unrecorded, Capture}
 use Rattle.rollover_program.specs.declared.words.Order.{Order}
 use Rattle.rollover_program.specs.declared.words.Order.TheVariants.{Make, Try}
 use Rattle.rollover_program.specs.Words.{Orders}
@@ -175,6 +175,9 @@ complete summary text left now old new Usage h reads writes = absurd h
 complete summary text left now old new CheckInput h reads writes = absurd h
 complete summary text left now old new Refuted h reads writes = absurd h
 complete summary text left now old new (Transcript line why) h reads writes = absurd h
+complete summary text left now old new CaptureInput h reads writes = absurd h
+complete summary text left now old new (Unrecorded line why) h reads writes = absurd h
+complete summary text left now old new (Capture at why) h reads writes = absurd h
 complete summary text left now old new (Halted (causes.Trace line kind)) h reads writes =
     by_stop summary text old new (halts.Trace line kind) h.ends
 complete summary text left now old new (Halted causes.ReadFault) h reads writes =
@@ -208,6 +211,9 @@ complete_make n old new Usage ends writes = absurd ends
 complete_make n old new CheckInput ends writes = absurd ends
 complete_make n old new Refuted ends writes = absurd ends
 complete_make n old new (Transcript line why) ends writes = absurd ends
+complete_make n old new CaptureInput ends writes = absurd ends
+complete_make n old new (Unrecorded line why) ends writes = absurd ends
+complete_make n old new (Capture at why) ends writes = absurd ends
 complete_make n old new (Halted causes.WriteFault) ends writes = absurd (writes ends.0)
 complete_make n old new (Halted causes.Memory) ends writes = inr refl
 complete_make n old new (Halted (causes.Trace line kind)) ends writes = absurd ends

@@ -4,4 +4,5 @@ mod Taken
 mod Ordered
 mod Carried
 mod Judged
+mod Captured
 mod Refused

@@ -25,5 +25,7 @@ refused : (fault_of command [] ≡ MissingSubcommand ∷ [])
     × (fault_of command (codes "make" ∷ codes "0" ∷ []) ≡ ValueValidation ∷ [])
     × (fault_of command (codes "try" ∷ codes "10000" ∷ []) ≡ ValueValidation ∷ [])
     × (fault_of command (codes "check" ∷ codes "x" ∷ []) ≡ UnknownArgument ∷ [])
+    × (fault_of command (codes "capture" ∷ codes "x" ∷ []) ≡ UnknownArgument ∷ [])
+    × (fault_of command (codes "dissect" ∷ codes "x" ∷ []) ≡ UnknownArgument ∷ [])
 unfolding clap_on_literals
-refused = (refl, refl, refl, refl, refl, refl, refl)
+refused = (refl, refl, refl, refl, refl, refl, refl, refl, refl)

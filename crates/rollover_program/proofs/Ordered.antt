@@ -23,7 +23,7 @@ use Rattle.clap.proofs.KindLemmas.{value_kinds-ok}
 use Rattle.clap.proofs.OnLiterals.{clap_on_literals}
 use Rattle.clap.proofs.ValueTestLemmas.{Accepts-accepts}
 use Rattle.rollover_program.specs.declared.words.Order.{Order}
-use Rattle.rollover_program.specs.declared.words.Order.TheVariants.{Run, Make, Try, Check}
+use Rattle.rollover_program.specs.declared.words.Order.TheVariants.{Run, Make, Try, Check, Capture, Dissect}
 use Rattle.rollover_program.specs.Words.{IsNumbered, IsUsage, Orders, bare, command, number_of}
 use Rattle.rollover_program.specs.Words.{order_by, order_of}
 use Rattle.rollover_program.specs.Words.{plain, subcommand, summary, summary_in, words_of}
@@ -38,11 +38,18 @@ run_leaf = built_leaf (inherited (bare (new_shape (codes "rollover")))
 abbrev check_leaf : Shape
 check_leaf = built_leaf (inherited (bare (new_shape (codes "rollover"))) (plain (codes "check")))
 
+abbrev capture_leaf : Shape
+capture_leaf = built_leaf (inherited (bare (new_shape (codes "rollover"))) (plain (codes "capture")))
+
+abbrev dissect_leaf : Shape
+dissect_leaf = built_leaf (inherited (bare (new_shape (codes "rollover"))) (plain (codes "dissect")))
+
 -- the subcommand that was named
-abbrev named : Bool → Bool → Bool → Bool → Option Shape
-named run make try_ check = cond run (Some run_leaf)
+abbrev named : Bool → Bool → Bool → Bool → Bool → Bool → Option Shape
+named run make try_ check capture dissect = cond run (Some run_leaf)
     (cond make (Some (leaf (codes "make"))) (cond try_ (Some (leaf (codes "try")))
-    (cond check (Some check_leaf) None)))
+    (cond check (Some check_leaf) (cond capture (Some capture_leaf)
+    (cond dissect (Some dissect_leaf) None)))))
 
 abbrev rows_in : Option Shape → List Text → Option (Text × List Row)
 rows_in sub words = option_map (λ s. rows_at s words) sub
@@ -51,29 +58,33 @@ rows_in sub words = option_map (λ s. rows_at s words) sub
 abbrev pub ordered_by : Option (Text × List Row) → Option Order
 ordered_by = option_and_then (λ p. order_by p.0 p.1)
 
-orders : (run make try_ check : Bool) (words : List Text)
+orders : (run make try_ check capture dissect : Bool) (words : List Text)
     → option_map_or (λ s. level_fault s [] nothing_held words false [])
-    (named run make try_ check) []
+    (named run make try_ check capture dissect) []
     ≡ []
-    → is_some (rows_in (named run make try_ check) words) ≡ true → (o : Order)
-    × (ordered_by (rows_in (named run make try_ check) words) ≡ Some o) × IsNumbered o
-orders true make try_ check words e h =
+    → is_some (rows_in (named run make try_ check capture dissect) words) ≡ true → (o : Order)
+    × (ordered_by (rows_in (named run make try_ check capture dissect) words) ≡ Some o)
+    × IsNumbered o
+orders true make try_ check capture dissect words e h =
     (Run (summary_in (rows_after run_leaf.rules [] words)), refl, tt)
-orders false true try_ check words e h =
+orders false true try_ check capture dissect words e h =
     let n = taken (codes "make") words e in
     (Make n.0, ap (option_map (λ k. Make k)) n.1, (n.2, n.3))
-orders false false true check words e h =
+orders false false true check capture dissect words e h =
     let n = taken (codes "try") words e in
     (Try n.0, ap (option_map (λ k. Try k)) n.1, (n.2, n.3))
-orders false false false true words e h = (Check, refl, tt)
-orders false false false false words e h = absurd cc
+orders false false false true capture dissect words e h = (Check, refl, tt)
+orders false false false false true dissect words e h = (Capture, refl, tt)
+orders false false false false false true words e h = (Dissect, refl, tt)
+orders false false false false false false words e h = absurd cc
 
 by_stop : (stop : Option (Text × List Text)) → entered_fault (built command) stop ≡ []
     → is_some (entered (built command) stop) ≡ true
     → (o : Order) × (ordered_by (entered (built command) stop) ≡ Some o) × IsNumbered o
 by_stop None e h = absurd cc
 by_stop (Some p) e h = orders (answers_to p.0 (codes "run", [])) (answers_to p.0 (codes "make", []))
-    (answers_to p.0 (codes "try", [])) (answers_to p.0 (codes "check", [])) p.1 e h
+    (answers_to p.0 (codes "try", [])) (answers_to p.0 (codes "check", []))
+    (answers_to p.0 (codes "capture", [])) (answers_to p.0 (codes "dissect", [])) p.1 e h
 
 -- a subcommand has to be there
 needed : (rows : List Row) (has : Bool) → check_fault (built command).top rows has ≡ [] → has ≡ true
@@ -179,6 +190,16 @@ check_plain : (fault_of command (words_of Check) ≡ []) × (order_of (words_of 
 unfolding clap_on_literals
 check_plain = (refl, refl)
 
+capture_plain : (fault_of command (words_of Capture) ≡ [])
+    × (order_of (words_of Capture) ≡ Some Capture)
+unfolding clap_on_literals
+capture_plain = (refl, refl)
+
+dissect_plain : (fault_of command (words_of Dissect) ≡ [])
+    × (order_of (words_of Dissect) ≡ Some Dissect)
+unfolding clap_on_literals
+dissect_plain = (refl, refl)
+
 -- the plain words for an order have no fault, and order it
 pub plain_words : (o : Order) → IsNumbered o → (fault_of command (words_of o) ≡ [])
     × (order_of (words_of o) ≡ Some o)
@@ -186,3 +207,5 @@ plain_words (Run s) h = run_plain s
 plain_words (Make n) h = let t = text_of n h.0 h.1 in (t.made, t.make)
 plain_words (Try n) h = let t = text_of n h.0 h.1 in (t.tried, t.try_)
 plain_words Check h = check_plain
+plain_words Capture h = capture_plain
+plain_words Dissect h = dissect_plain

@@ -1,5 +1,5 @@
 -- How the program ends where the words order nothing.
-use Rattle.std.proofs.Common.{◌≡◌, ℕ, Bool, List, inl, inr, refl}
+use Rattle.std.proofs.Common.{◌≡◌, ℕ, Bool, List, Option, inl, inr, refl}
 use Rattle.std.specs.Prelude.{◌⊎◌}
 use Rattle.clap.specs.Words.{Text}
 use Rattle.replay.specs.declared.cause.Cause.{Cause}
@@ -14,7 +14,7 @@ use Rattle.trace_maker.specs.Made.{made}
 use Rattle.rollover_program.specs.declared.status.Status.{Status}
 use Rattle.rollover_program.specs.declared.status.Status.TheVariants.{Usage, Halted}
 use Rattle.rollover_program.specs.declared.words.Order.{Order}
-use Rattle.rollover_program.specs.declared.words.Order.TheVariants.{Run, Make, Try, Check}
+use Rattle.rollover_program.specs.declared.words.Order.TheVariants.{Run, Make, Try, Check, Capture, Dissect}
 use Rattle.rollover_program.specs.declared.words.Refusal.{Refusal}
 use Rattle.rollover_program.specs.declared.words.Refusal.TheVariants as refusals
 use Rattle.rollover_program.specs.Words.{IsNumbered, IsUsage, Orders, words_of}
@@ -22,10 +22,13 @@ use Rattle.rollover_program.specs.commands.Run.{EndsAsRun}
 use Rattle.rollover_program.specs.commands.Make.{EndsMade}
 use Rattle.rollover_program.specs.commands.Try.{EndsTried}
 use Rattle.rollover_program.specs.commands.Check.{EndsAsCheck}
+use Rattle.rollover_program.specs.commands.Capture.{EndsAsCapture}
+use Rattle.rollover_program.specs.commands.Dissect.{EndsAsDissect}
 use Rattle.rollover_program.specs.inside.Answering.{status_of_refusal}
 use Rattle.rollover_program.proofs.Ordered.{plain_words}
 use Rattle.rollover_program.proofs.Carried.{Promise, not_run, not_tried}
 use Rattle.rollover_program.proofs.Judged.{not_checked}
+use Rattle.rollover_program.proofs.Captured.{not_captured, not_dissected}
 
 -- the plain words for an order
 pub plain_orders : (words : List Text) (order : Order) → IsNumbered order → words ≡ words_of order
@@ -73,6 +76,16 @@ module _ (words : List Text) (f : Refusal) (usage : f ≡ refusals.Usage → IsU
       → s ≡ status_of_refusal f → Orders words Check → EndsAsCheck text left left old old s
   checked_nothing s text left old e asked =
       rw (memory s Check e asked) (not_checked text left old)
+
+  pub captured_nothing : (s : Status) (text : List ℕ) (left : Sourced) (old : Sunk)
+      → s ≡ status_of_refusal f → Orders words Capture → EndsAsCapture text left left old old s
+  captured_nothing s text left old e asked =
+      rw (memory s Capture e asked) (not_captured text left old)
+
+  pub dissected_nothing : (s : Status) (file : List ℕ) (left held : Option (List ℕ))
+      → s ≡ status_of_refusal f → Orders words Dissect → EndsAsDissect file left held held s
+  dissected_nothing s file left held e asked =
+      rw (memory s Dissect e asked) (not_dissected file left held)
 
   pub tried_nothing : Promise → ((chances : List Chance) → IsTidy (beginning chances)) → (s : Status)
       (n : ℕ) (old : Sunk) → s ≡ status_of_refusal f → Orders words (Try n) → EndsTried n old old s

@@ -3,3 +3,5 @@ pub mod Run
 pub mod Make
 pub mod Try
 pub mod Check
+pub mod Capture
+pub mod Dissect

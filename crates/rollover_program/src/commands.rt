@@ -1,6 +1,8 @@
 //! What each command does, a file a command.
 
+pub mod capture;
 pub mod check;
+pub mod dissect;
 pub mod make;
 pub mod run;
 pub mod try_made;

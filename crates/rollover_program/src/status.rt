@@ -5,10 +5,14 @@ ghost use Rattle.lan_core.specs.declared.stop.Which.{Which};
 ghost use Rattle.lan_schedule.specs.declared.halt.Kind.{Kind};
 ghost use Rattle.replay.specs.declared.cause.Cause.TheVariants as causes;
 ghost use Rattle.transcript_check.specs.declared.fault.CheckFault.{CheckFault};
+ghost use Rattle.transcript_capture.specs.declared.fault.LineFault.{LineFault};
+ghost use Rattle.capture_file.specs.declared.fault.CaptureFault.{CaptureFault};
 ghost use Rattle.rollover_program.specs.inside.Answering.{status_of};
 
+use capture_file::CaptureFault;
 use replay::Cause;
 use thiserror::Error;
+use transcript_capture::LineFault;
 use transcript_check::CheckFault;
 
 /// How the program ended. The text of a status other than `Done` is the program's line on standard
@@ -19,7 +23,7 @@ pub enum Status {
     #[error("done")]
     Done,
     /// The words are no command.
-    #[error("usage: rollover run [--summary] | make N | try N | check")]
+    #[error("usage: rollover run [--summary] | make N | try N | check | capture | dissect")]
     Usage,
     /// The trace was not performed to its end.
     #[error("{0}")]
@@ -33,6 +37,15 @@ pub enum Status {
     /// The line of a transcript with this number, from 1, is refused.
     #[error("transcript line {line}: {why:?}")]
     Transcript { line: u32, why: CheckFault },
+    /// The input of `capture` or `dissect` has more octets than its limit.
+    #[error("limit CaptureInput")]
+    CaptureInput,
+    /// The line of a transcript with this number, from 1, is refused, and its frame is not recorded.
+    #[error("transcript line {line}: {why:?}")]
+    Unrecorded { line: u32, why: LineFault },
+    /// The file of captured packets is refused: its head, or the record that begins at this octet.
+    #[error("capture octet {at}: {why:?}")]
+    Capture { at: u32, why: CaptureFault },
 }
 
 impl Status {
@@ -54,6 +67,11 @@ impl Status {
         ensures refuted { self ≡ Status.Refuted → result ≡ 9 }
         ensures transcript { (line : ℕ) (why : CheckFault)
             → self ≡ Status.Transcript line why → result ≡ 10 }
+        ensures capture_input { self ≡ Status.CaptureInput → result ≡ 6 }
+        ensures unrecorded { (line : ℕ) (why : LineFault)
+            → self ≡ Status.Unrecorded line why → result ≡ 10 }
+        ensures capture { (at : ℕ) (why : CaptureFault)
+            → self ≡ Status.Capture at why → result ≡ 11 }
     {
         match self {
             Status::Done => 0,
@@ -67,7 +85,9 @@ impl Status {
             Status::Halted(Cause::Forged { .. }) => 8,
             Status::CheckInput => 6,
             Status::Refuted => 9,
-            Status::Transcript { .. } => 10,
+            Status::Transcript { .. } | Status::Unrecorded { .. } => 10,
+            Status::CaptureInput => 6,
+            Status::Capture { .. } => 11,
         }
     }
 }

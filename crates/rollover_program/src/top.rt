@@ -13,9 +13,13 @@ ghost use Rattle.rollover_program.specs.commands.Run.{EndsAsRun, EndsWithin};
 ghost use Rattle.rollover_program.specs.commands.Make.{EndsMade};
 ghost use Rattle.rollover_program.specs.commands.Try.{EndsTried};
 ghost use Rattle.rollover_program.specs.commands.Check.{EndsAsCheck};
+ghost use Rattle.rollover_program.specs.commands.Capture.{EndsAsCapture};
+ghost use Rattle.rollover_program.specs.commands.Dissect.{EndsAsDissect};
 ghost use Rattle.rollover_program.specs.inside.Answering.{CarriesOut, status_of_refusal};
 
+use crate::commands::capture::capture;
 use crate::commands::check::check;
+use crate::commands::dissect::dissect;
 use crate::commands::make::make;
 use crate::commands::run::run;
 use crate::commands::try_made::try_made;
@@ -37,7 +41,9 @@ use std::alloc::Global;
 /// performs that trace for its summary line. These two do not read the source. The gate is passed
 /// after each move of a station's current word. `check` reads a transcript from the source to its
 /// end, whoever wrote it, judges each line as soon as it has ended, and writes the verdict at the
-/// end. Clauses that name a text speak of a source that tells its octets.
+/// end. `capture` writes the file of a transcript's frames, each record as soon as its line has ended.
+/// `dissect` reads a file of captured packets, and tells each packet in one line. Clauses that name a
+/// text or a file speak of a source that tells its octets.
 pub fn rollover<S: Source, K: Sink, G: Gate>(
     alloc: Global,
     words: &[String],
@@ -87,6 +93,19 @@ pub fn rollover<S: Source, K: Sink, G: Gate>(
         (sunk (K.held sink.old) (K.faults sink.old))
         (sunk (K.held sink.new) (K.faults sink.new)) result }
 
+    // `capture`: how a transcript was captured, and what was written of its file.
+    ensures capture { (text : List ℕ) → Orders (map string_bytes words.now) orders.Capture
+        → S.left source.old ≡ Some text → EndsAsCapture text
+        (sourced (S.left source.old) (S.faults source.old))
+        (sourced (S.left source.new) (S.faults source.new))
+        (sunk (K.held sink.old) (K.faults sink.old))
+        (sunk (K.held sink.new) (K.faults sink.new)) result }
+
+    // `dissect`: how a file was told, and what was written of its lines.
+    ensures dissect { (file : List ℕ) → Orders (map string_bytes words.now) orders.Dissect
+        → S.left source.old ≡ Some file → EndsAsDissect file (S.left source.new)
+        (K.held sink.old) (K.held sink.new) result }
+
     // Faults are those of the outside, whatever it tells.
     ensures read_cause { result ≡ Status.Halted causes.ReadFault
         → Rose (S.faults source.old) (S.faults source.new) }
@@ -115,7 +134,7 @@ pub fn rollover<S: Source, K: Sink, G: Gate>(
     }
 }
 
-/// Carries an order out. A run and a check read the source.
+/// Carries an order out. Only `make` and `try` leave the source unread.
 fn carry_out<S: Source, K: Sink, G: Gate>(
     alloc: Global,
     order: Order,
@@ -141,6 +160,8 @@ fn carry_out<S: Source, K: Sink, G: Gate>(
         Order::Make { number } => make(alloc, number, sink),
         Order::Try { number } => try_made(alloc, number, sink, gate),
         Order::Check => check(alloc, source, sink),
+        Order::Capture => capture(alloc, source, sink),
+        Order::Dissect => dissect(alloc, source, sink),
     }
 }
 

@@ -22,6 +22,10 @@ pub enum Order {
     Try { number: u32 },
     /// A transcript is judged.
     Check,
+    /// The file of a transcript's frames is written.
+    Capture,
+    /// Each packet of a file of captured packets is told.
+    Dissect,
 }
 
 /// The greatest number of which a trace is made.
@@ -59,7 +63,7 @@ pub fn read_order(alloc: Global, words: &[String]) -> Result<Order, Refusal>
     }
 }
 
-/// The one command: `run [--summary]`, `make N`, `try N` or `check`.
+/// The one command: `run [--summary]`, `make N`, `try N`, `check`, `capture` or `dissect`.
 fn command<'a>(alloc: Global) -> Result<Command<'a>, AllocError>
     ensures { IfOk result (λ r. app_of r ≡ command) }
 {
@@ -76,7 +80,9 @@ fn command<'a>(alloc: Global) -> Result<Command<'a>, AllocError>
         .subcommand(Command::new(alloc, "run").arg(summary)?)?
         .subcommand(Command::new(alloc, "make").arg(number(alloc))?)?
         .subcommand(Command::new(alloc, "try").arg(number(alloc))?)?
-        .subcommand(Command::new(alloc, "check"))
+        .subcommand(Command::new(alloc, "check"))?
+        .subcommand(Command::new(alloc, "capture"))?
+        .subcommand(Command::new(alloc, "dissect"))
 }
 
 /// A number from 1 to the greatest.
@@ -106,6 +112,8 @@ fn order_of(matches: &ArgMatches<'_>) -> Option<Order>
             number: arguments.get_one("N")?,
         }),
         "check" => Some(Order::Check),
+        "capture" => Some(Order::Capture),
+        "dissect" => Some(Order::Dissect),
         _ => None,
     }
 }

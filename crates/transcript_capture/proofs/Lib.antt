@@ -2,3 +2,4 @@ pub mod Times
 pub mod PacketsOf
 pub mod OneLine
 pub mod Ends
+pub mod Public

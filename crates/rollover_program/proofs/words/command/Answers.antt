@@ -49,6 +49,14 @@ returns c =
     ) refl) ∙ ap₂ with_subcommand two_is try_is in
     let check_is : shape_of c.new-6.result ≡ plain (codes "check") =
     ap (λ (a : App). a.top) c.new-6.ensures.app in
-    IfOk-weaker c.subcommand-4.result _ _
-    (λ r h. h.shape (rw c.new-6.ensures.local refl) ∙ ap₂ with_subcommand three_is check_is)
-    c.subcommand-4.ensures
+    let four_is = c.in_ok-subcommand-4.ensures.shape (rw c.new-6.ensures.local refl)
+    ∙ ap₂ with_subcommand three_is check_is in
+    let capture_is : shape_of c.new-7.result ≡ plain (codes "capture") =
+    ap (λ (a : App). a.top) c.new-7.ensures.app in
+    let five_is = c.in_ok-subcommand-5.ensures.shape (rw c.new-7.ensures.local refl)
+    ∙ ap₂ with_subcommand four_is capture_is in
+    let dissect_is : shape_of c.new-8.result ≡ plain (codes "dissect") =
+    ap (λ (a : App). a.top) c.new-8.ensures.app in
+    IfOk-weaker c.subcommand-6.result _ _
+    (λ r h. h.shape (rw c.new-8.ensures.local refl) ∙ ap₂ with_subcommand five_is dissect_is)
+    c.subcommand-6.ensures

@@ -1,0 +1,79 @@
+-- How the program ends after a transcript was captured, and after a file was told.
+use Rattle.std.proofs.Common.{◌≡◌, ℕ, List, Option, Result, Ok, Err, inl, refl}
+use Rattle.text_lines.specs.Reading.{Sourced}
+use Rattle.transcript_capture.specs.declared.end.End.{End as CaptureEnd}
+use Rattle.transcript_capture.specs.declared.end.End.TheVariants as captures
+use Rattle.transcript_capture.proofs.Public.{not-captured}
+use Rattle.packet_lines.specs.declared.end.End.{End as TellingEnd}
+use Rattle.packet_lines.specs.declared.end.End.TheVariants as tellings
+use Rattle.replay.specs.declared.cause.Cause.TheVariants as causes
+use Rattle.replay.specs.Sinks.{Sunk}
+use Rattle.rollover_program.specs.declared.status.Status.TheVariants.{Usage, Halted}
+use Rattle.rollover_program.specs.commands.Capture.{EndsAsCapture, status_of_capture}
+use Rattle.rollover_program.specs.commands.Dissect.{EndsAsDissect, status_of_telling}
+
+-- ---- nothing was done, for want of memory
+
+pub not_captured : (text : List ℕ) (left : Sourced) (old : Sunk)
+    → EndsAsCapture text left left old old (Halted causes.Memory)
+not_captured text left old = (Err captures.Memory, not-captured text left old.held, refl)
+
+pub not_dissected : (file : List ℕ) (left held : Option (List ℕ))
+    → EndsAsDissect file left held held (Halted causes.Memory)
+not_dissected file left held = (Err tellings.Memory, inl refl, refl)
+
+-- ---- a transcript was captured
+
+pub capture_no_usage : (r : Result (Unit {0}) CaptureEnd) → status_of_capture r ≡ Usage → ⊥
+capture_no_usage (Ok done) e = cc e
+capture_no_usage (Err (captures.Refused line why)) e = cc e
+capture_no_usage (Err captures.Limit) e = cc e
+capture_no_usage (Err captures.ReadFault) e = cc e
+capture_no_usage (Err captures.WriteFault) e = cc e
+capture_no_usage (Err captures.Memory) e = cc e
+
+pub capture_read : (r : Result (Unit {0}) CaptureEnd) → status_of_capture r ≡ Halted causes.ReadFault
+    → r ≡ Err captures.ReadFault
+capture_read (Ok done) e = absurd (cc e)
+capture_read (Err (captures.Refused line why)) e = absurd (cc e)
+capture_read (Err captures.Limit) e = absurd (cc e)
+capture_read (Err captures.ReadFault) e = refl
+capture_read (Err captures.WriteFault) e = absurd (cc e)
+capture_read (Err captures.Memory) e = absurd (cc e)
+
+pub capture_write : (r : Result (Unit {0}) CaptureEnd) → status_of_capture r ≡ Halted causes.WriteFault
+    → r ≡ Err captures.WriteFault
+capture_write (Ok done) e = absurd (cc e)
+capture_write (Err (captures.Refused line why)) e = absurd (cc e)
+capture_write (Err captures.Limit) e = absurd (cc e)
+capture_write (Err captures.ReadFault) e = absurd (cc e)
+capture_write (Err captures.WriteFault) e = refl
+capture_write (Err captures.Memory) e = absurd (cc e)
+
+-- ---- a file was told
+
+pub telling_no_usage : (r : Result (Unit {0}) TellingEnd) → status_of_telling r ≡ Usage → ⊥
+telling_no_usage (Ok done) e = cc e
+telling_no_usage (Err (tellings.Refused at why)) e = cc e
+telling_no_usage (Err tellings.Limit) e = cc e
+telling_no_usage (Err tellings.ReadFault) e = cc e
+telling_no_usage (Err tellings.WriteFault) e = cc e
+telling_no_usage (Err tellings.Memory) e = cc e
+
+pub telling_read : (r : Result (Unit {0}) TellingEnd) → status_of_telling r ≡ Halted causes.ReadFault
+    → r ≡ Err tellings.ReadFault
+telling_read (Ok done) e = absurd (cc e)
+telling_read (Err (tellings.Refused at why)) e = absurd (cc e)
+telling_read (Err tellings.Limit) e = absurd (cc e)
+telling_read (Err tellings.ReadFault) e = refl
+telling_read (Err tellings.WriteFault) e = absurd (cc e)
+telling_read (Err tellings.Memory) e = absurd (cc e)
+
+pub telling_write : (r : Result (Unit {0}) TellingEnd) → status_of_telling r ≡ Halted causes.WriteFault
+    → r ≡ Err tellings.WriteFault
+telling_write (Ok done) e = absurd (cc e)
+telling_write (Err (tellings.Refused at why)) e = absurd (cc e)
+telling_write (Err tellings.Limit) e = absurd (cc e)
+telling_write (Err tellings.ReadFault) e = absurd (cc e)
+telling_write (Err tellings.WriteFault) e = refl
+telling_write (Err tellings.Memory) e = absurd (cc e)

@@ -1,0 +1,45 @@
+//! `capture`: the file of a transcript's frames is written.
+
+ghost use Rattle.std.specs.Prelude.{◌≡◌, ◌≢◌, List, ℕ, Some};
+ghost use Rattle.lan_base.specs.Faults.{Rose};
+ghost use Rattle.text_lines.specs.Reading.{sourced};
+ghost use Rattle.replay.specs.declared.cause.Cause.TheVariants as causes;
+ghost use Rattle.replay.specs.Sinks.{sunk};
+ghost use Rattle.rollover_program.specs.declared.status.Status.TheVariants as statuses;
+ghost use Rattle.rollover_program.specs.commands.Capture.{EndsAsCapture, status_of_capture};
+
+use crate::status::Status;
+use lan_base::{Sink, Source};
+use replay::Cause;
+use std::alloc::Global;
+use transcript_capture::End;
+
+/// Writes the file of a transcript's frames.
+pub fn capture<S: Source, K: Sink>(alloc: Global, source: &mut S, sink: &mut K) -> Status
+    ensures ends { (text : List ℕ) → S.left source.old ≡ Some text → EndsAsCapture text
+        (sourced (S.left source.old) (S.faults source.old))
+        (sourced (S.left source.new) (S.faults source.new))
+        (sunk (K.held sink.old) (K.faults sink.old))
+        (sunk (K.held sink.new) (K.faults sink.new)) result }
+    ensures carried { result ≢ statuses.Usage }
+    ensures read_cause { result ≡ statuses.Halted causes.ReadFault
+        → Rose (S.faults source.old) (S.faults source.new) }
+    ensures write_cause { result ≡ statuses.Halted causes.WriteFault
+        → Rose (K.faults sink.old) (K.faults sink.new) }
+{
+    status_of_capture(transcript_capture::capture(alloc, source, sink))
+}
+
+/// The status of how capturing ended.
+fn status_of_capture(answer: Result<(), End>) -> Status
+    ensures { result ≡ status_of_capture answer }
+{
+    match answer {
+        Ok(()) => Status::Done,
+        Err(End::Refused { line, why }) => Status::Unrecorded { line, why },
+        Err(End::Limit) => Status::CaptureInput,
+        Err(End::ReadFault) => Status::Halted(Cause::ReadFault),
+        Err(End::WriteFault) => Status::Halted(Cause::WriteFault),
+        Err(End::Memory) => Status::Halted(Cause::Memory),
+    }
+}

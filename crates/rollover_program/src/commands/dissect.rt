@@ -1,0 +1,40 @@
+//! `dissect`: each packet of a file of captured packets is told in one line.
+
+ghost use Rattle.std.specs.Prelude.{◌≡◌, ◌≢◌, List, ℕ, Some};
+ghost use Rattle.lan_base.specs.Faults.{Rose};
+ghost use Rattle.replay.specs.declared.cause.Cause.TheVariants as causes;
+ghost use Rattle.rollover_program.specs.declared.status.Status.TheVariants as statuses;
+ghost use Rattle.rollover_program.specs.commands.Dissect.{EndsAsDissect, status_of_telling};
+
+use crate::status::Status;
+use lan_base::{Sink, Source};
+use packet_lines::End;
+use replay::Cause;
+use std::alloc::Global;
+
+/// Tells each packet of a file of captured packets in one line.
+pub fn dissect<S: Source, K: Sink>(alloc: Global, source: &mut S, sink: &mut K) -> Status
+    ensures ends { (file : List ℕ) → S.left source.old ≡ Some file → EndsAsDissect file
+        (S.left source.new) (K.held sink.old) (K.held sink.new) result }
+    ensures carried { result ≢ statuses.Usage }
+    ensures read_cause { result ≡ statuses.Halted causes.ReadFault
+        → Rose (S.faults source.old) (S.faults source.new) }
+    ensures write_cause { result ≡ statuses.Halted causes.WriteFault
+        → Rose (K.faults sink.old) (K.faults sink.new) }
+{
+    status_of_telling(packet_lines::dissect(alloc, source, sink))
+}
+
+/// The status of how telling a file ended.
+fn status_of_telling(answer: Result<(), End>) -> Status
+    ensures { result ≡ status_of_telling answer }
+{
+    match answer {
+        Ok(()) => Status::Done,
+        Err(End::Refused { at, why }) => Status::Capture { at, why },
+        Err(End::Limit) => Status::CaptureInput,
+        Err(End::ReadFault) => Status::Halted(Cause::ReadFault),
+        Err(End::WriteFault) => Status::Halted(Cause::WriteFault),
+        Err(End::Memory) => Status::Halted(Cause::Memory),
+    }
+}
