@@ -1,5 +1,6 @@
 use Rattle.std.proofs.Common.{ap, sym, refl, inr, ◌∙◌}
 use Rattle.std.specs.Prelude.{Err}
+use Rattle.replay.specs.Sinks.{sunk}
 use Rattle.replay.specs.declared.cause.Cause.TheVariants as causes
 use Rattle.rollover_program.specs.declared.words.Order.TheVariants.{Run, Make, Try, Check, Capture, Dissect}
 use Rattle.rollover_program.proofs.Ordered.{by_no_usage}
@@ -118,7 +119,8 @@ returns-in-Err-clause-check g c = λ text asked told.
 pub returns-in-Err-clause-capture : goal.returns-in-Err-clause-capture
 returns-in-Err-clause-capture g c = λ text asked told.
     captured_nothing _ c.in-Err.refusal (λ is. c.in-Err.ensures.usage (ap (λ f. Err f) is)) _ text _
-    _ c.status_of_refusal.ensures asked
+    (sunk (g.K.Sink.held c.args.sink.now) (g.K.Sink.faults c.args.sink.now))
+    c.status_of_refusal.ensures asked
 
 pub returns-in-Err-clause-dissect : goal.returns-in-Err-clause-dissect
 returns-in-Err-clause-dissect g c = λ file asked told.
