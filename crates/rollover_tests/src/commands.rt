@@ -7,7 +7,7 @@ use rollover_program::{Cause, Kind, Status};
 use std::test::Fail;
 
 /// Words that are no command.
-const NO_COMMANDS: [&[&str]; 9] = [
+const NO_COMMANDS: [&[&str]; 10] = [
     &[],
     &["walk"],
     &[""],
@@ -17,6 +17,7 @@ const NO_COMMANDS: [&[&str]; 9] = [
     &["make", "10000"],
     &["run", "x"],
     &["try", ""],
+    &["check", "x"],
 ];
 
 /// Summaries.

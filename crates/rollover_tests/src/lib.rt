@@ -6,6 +6,8 @@ mod agreement;
 #[cfg(test)]
 mod case;
 #[cfg(test)]
+mod checking;
+#[cfg(test)]
 mod commands;
 #[cfg(test)]
 mod looking;
