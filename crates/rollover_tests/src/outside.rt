@@ -2,7 +2,7 @@
 
 use crate::performing::{Outside, STEADY, joined, perform, refused};
 use crate::worked::{FIRST, FIRST_KEY, FIRST_LIFE, GROUP};
-use rollover_program::{Cause, Kind, Status, Which};
+use rollover_program::{CaptureFault, Cause, CheckFault, Kind, LineFault, Status, Which};
 use std::test::Fail;
 
 /// At each failing call of the source, what was written is a front of the transcript.
@@ -150,11 +150,11 @@ struct Ending {
 }
 
 /// One of each status but that of success.
-const ENDINGS: [Ending; 8] = [
+const ENDINGS: [Ending; 12] = [
     Ending {
         status: Status::Usage,
         number: 1,
-        line: "usage: rollover run [--summary] | make N | try N",
+        line: "usage: rollover run [--summary] | make N | try N | check | capture | dissect",
     },
     Ending {
         status: Status::Halted(Cause::Trace {
@@ -196,6 +196,35 @@ const ENDINGS: [Ending; 8] = [
         status: Status::Halted(Cause::Forged { line: 4 }),
         number: 8,
         line: "line 4: forged",
+    },
+    Ending {
+        status: Status::Refuted,
+        number: 9,
+        line: "transcript refuted",
+    },
+    Ending {
+        status: Status::Transcript {
+            line: 2,
+            why: CheckFault::Orphan,
+        },
+        number: 10,
+        line: "transcript line 2: Orphan",
+    },
+    Ending {
+        status: Status::Unrecorded {
+            line: 1,
+            why: LineFault::TooLong,
+        },
+        number: 10,
+        line: "transcript line 1: TooLong",
+    },
+    Ending {
+        status: Status::Capture {
+            at: 24,
+            why: CaptureFault::Cut,
+        },
+        number: 11,
+        line: "capture octet 24: Cut",
     },
 ];
 
