@@ -1,7 +1,7 @@
 //! Transcripts are judged through the top call.
 
 use crate::case::{Case, Shown, wrong};
-use crate::performing::{perform, run, STEADY};
+use crate::performing::{STEADY, perform, run};
 use crate::worked::FIRST_KEY;
 use rollover_program::{Cause, CheckFault, Status};
 use std::test::Fail;
@@ -71,7 +71,10 @@ fn judges_a_transcript_of_its_own(rt: HostRuntime) -> Result<(), Fail> {
     let transcript = run(alloc, &FIRST_KEY)?;
     let left = perform(alloc, "check", transcript.held.as_slice(), STEADY)?;
     assert_eq!(rt; left.status, Status::Done);
-    assert_eq!(rt; left.held.as_slice(), b"once ok\nonekey ok\nmissed 0\n".as_slice());
+    assert_eq!(rt;
+        left.held.as_slice(),
+        b"once ok\nonekey ok\nmissed 0\n".as_slice()
+    );
     Ok(())
 }
 
