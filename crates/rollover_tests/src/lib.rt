@@ -4,6 +4,8 @@
 #[cfg(test)]
 mod agreement;
 #[cfg(test)]
+mod capturing;
+#[cfg(test)]
 mod case;
 #[cfg(test)]
 mod checking;
