@@ -1,5 +1,5 @@
 -- How telling a file comes to its end.
-use Rattle.std.proofs.Common.{◌≡◌, ℕ, ◌+◌, ◌-◌, ◌<◌, List, [], ◌∷◌, ◌++◌, length, take, Option, Ok, Err, refl, sym, ap, ◌∙◌, subst, length-append, arith, inl, inr}
+use Rattle.std.proofs.Common.{◌≡◌, ℕ, ◌+◌, ◌-◌, ◌<◌, List, [], ◌∷◌, ◌++◌, length, take, Option, Ok, Err, refl, sym, ap, ◌∙◌, subst, append_assoc, length-append, arith, inl, inr}
 use Rattle.std.proofs.lemmas.List.{take_all}
 use Rattle.lan_base.specs.Told.{after}
 use Rattle.capture_file.specs.declared.order.Order.{Order}
@@ -11,7 +11,7 @@ use Rattle.capture_file.specs.Records.{IsFileOf}
 use Rattle.packet_lines.specs.declared.end.End.{End}
 use Rattle.packet_lines.specs.declared.end.End.TheVariants.{Refused, Limit, ReadFault, WriteFault, Memory}
 use Rattle.packet_lines.specs.Files.{IsFileBefore, IsHeadCut, IsRecordCut, IsRecordRefused, IsRefusedAt}
-use Rattle.packet_lines.specs.Telling.{EndsTold, Told, ToldPart, lines}
+use Rattle.packet_lines.specs.Telling.{EndsTold, IsTakenNear, IsWithinLast, Told, ToldPart, lines}
 use Rattle.packet_lines.specs.inside.Supplying.{Held, IsAtEnd, Stands}
 use Rattle.packet_lines.specs.inside.Reading.{IsOpened, IsReadNext, Opens, ReadsNext, Writes, WritesPart}
 use Rattle.packet_lines.proofs.Records.{after-after, after-none, file-more, head-file, lines-and}
@@ -174,18 +174,19 @@ read-ends file packet order h new left left_then number held now Memory t r =
     )
 
 -- a part of the line of the packet that was read last
-record IsToldPart (file : List ℕ) (held now : Option (List ℕ)) : Type 0 where
+record IsToldPart (file : List ℕ) (left held now : Option (List ℕ)) : Type 0 where
   packets : List (List ℕ)
   behind : List ℕ
   before : IsFileBefore packets behind (take most_input file)
+  near : IsTakenNear file before.file left
   count : ℕ
-  less : count < length (lines packets)
+  last : IsWithinLast count packets
   told : ToldPart count packets held now
 
 part-told : (file packet : List ℕ) (order : Order) (h new : Held) (left left_then : Option (List ℕ))
     (number next : ℕ) (held now then : Option (List ℕ)) → (t : HasTold file order h left number held now)
     → IsReadNext file t.given order packet new left_then → next ≡ number + 1
-    → WritesPart next packet now then → IsToldPart file held then
+    → WritesPart next packet now then → IsToldPart file left_then held then
 part-told file packet order h new left left_then number next held now then t r is (n, less, w) =
     let c = t.count in
     let numbered : next ≡ length t.packets + 1 = omega (arith, is, c) in
@@ -202,8 +203,22 @@ part-told file packet order h new left left_then number next held now then t r i
         packets_are = more-read file packet order h new left left_then number held now t r;
         whole = a.front;
       };
+      near = let s = r.stands in let f = s.few in let l = length-append new.octets s.lost in (
+        new.octets ++ s.lost,
+        s.rest,
+        s.taken ∙ ap (λ (o : List ℕ). (t.given ++ (r.header ++ packet)) ++ o)
+            (sym (append_assoc new.octets s.lost s.rest)),
+        s.told,
+        omega (arith, f, l),
+      );
       count = length (lines t.packets) + n;
-      less = omega (arith, long, less);
+      last = record {
+        before = t.packets;
+        last = packet;
+        all = refl;
+        from = omega arith;
+        to = omega (arith, long, less);
+      };
       told = w ∙ ap (λ (o : Option (List ℕ)). after o (take n line)) t.told
           ∙ after-after held (lines t.packets) (take n line)
           ∙ ap (λ (k : ℕ). after held (lines t.packets ++ take k line)) (sym rest)
@@ -221,7 +236,7 @@ write-ends file packet order h new left left_then number next held now then Limi
 write-ends file packet order h new left left_then number next held now then ReadFault t r is w = absurd w
 write-ends file packet order h new left left_then number next held now then WriteFault t r is w =
     let p = part-told file packet order h new left left_then number next held now then t r is w in
-    (p.packets, p.behind, p.before, (p.count, p.less, p.told))
+    (p.packets, p.behind, p.before, p.near, (p.count, p.last, p.told))
 write-ends file packet order h new left left_then number next held now then Memory t r is w =
     let p = part-told file packet order h new left left_then number next held now then t r is w in
     inr (p.packets, p.behind, p.before, (p.count, p.told))

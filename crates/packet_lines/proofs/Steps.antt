@@ -22,6 +22,9 @@ stands-new text left told = record {
   told = told;
   count = refl;
   by = (refl, omega arith);
+  lost = [];
+  taken = refl;
+  few = omega arith;
 }
 
 -- ---- the head

@@ -7,6 +7,7 @@ use Rattle.lan_base.specs.Told.{before}
 use Rattle.lan_base.specs.declared.source.ReadEnd.{ReadEnd}
 use Rattle.lan_base.specs.declared.source.ReadEnd.TheVariants.{Limit, Failed, Memory}
 use Rattle.capture_file.specs.Pcap.{most_input}
+use Rattle.text_lines.specs.Reading.{most_at_once}
 use Rattle.packet_lines.specs.inside.Supplying.{Held, Stands, StandsBy, IsAtEnd, IsPast, IsTaken, Fills, Takes}
 
 -- the front of a list within a length that is behind a part
@@ -55,6 +56,18 @@ given-by true text given octets more held n m room rest parts by = (
   by.1 ∙ ap (λ (l : List ℕ). given ++ l) parts ∙ sym (append_assoc given more held),
 )
 
+-- what was taken is parted anew
+parted : (given octets behind : List ℕ) (n : ℕ)
+    → given ++ (octets ++ behind) ≡ (given ++ take n octets) ++ (drop n octets ++ behind)
+parted given octets behind n =
+    ap (λ (l : List ℕ). given ++ (l ++ behind)) (sym (take-append-drop n octets))
+    ∙ ap (λ (l : List ℕ). given ++ l) (append_assoc (take n octets) (drop n octets) behind)
+    ∙ sym (append_assoc given (take n octets) (drop n octets ++ behind))
+
+parts-count : (octets : List ℕ) (n : ℕ) → length (take n octets) + length (drop n octets) ≡ length octets
+parts-count octets n =
+    sym (length-append (take n octets) (drop n octets)) ∙ ap length (take-append-drop n octets)
+
 -- so many of what is held
 pub given-out : (text given : List ℕ) (old new : Held) (left : Option (List ℕ)) (n : ℕ)
     → n ≤ length old.octets
@@ -70,6 +83,9 @@ given-out text given old new left n few is s =
           omega (arith, c, l, t);
       by = given-by old.past text given old.octets (take n old.octets) (drop n old.octets) old.given
           (old.given + n) old.room s.rest (sym (take-append-drop n old.octets)) s.by;
+      lost = s.lost;
+      taken = s.taken ∙ parted given old.octets (s.lost ++ s.rest) n;
+      few = let p = parts-count old.octets n in let f = s.few in omega (arith, p, f);
     })
 
 -- ---- a supply that holds nothing, and took nothing past the limit
@@ -108,15 +124,18 @@ emptied text given h rest calm none s =
 
 -- octets that were read are held
 pub held-all : (text given octets rest : List ℕ) (old new : Held) → IsEmptied text given old (octets ++ rest)
-    → length octets ≤ old.room
+    → length octets ≤ old.room → length octets ≤ most_at_once
     → new ≡ record { octets = octets; given = old.given; room = old.room - length octets; past = false }
     → Stands text given new (Some rest)
-held-all text given octets rest old new e few is =
+held-all text given octets rest old new e few near is =
     subst (λ (h : Held). Stands text given h (Some rest)) (sym is) (record {
       rest = rest;
       told = refl;
       count = e.count;
       by = (e.whole, let r = e.room in omega (arith, r, few));
+      lost = [];
+      taken = e.whole;
+      few = omega (arith, near);
     })
 
 longer : (text given octets rest : List ℕ) (old : Held) → IsEmptied text given old (octets ++ rest)
@@ -136,15 +155,19 @@ longer text given octets rest old e past =
 
 -- as far as there is room
 pub held-some : (text given octets rest : List ℕ) (old new : Held) → IsEmptied text given old (octets ++ rest)
-    → old.room < length octets
+    → old.room < length octets → length octets ≤ most_at_once
     → new ≡ record { octets = take old.room octets; given = old.given; room = 0; past = true }
     → Stands text given new (Some rest)
-held-some text given octets rest old new e past is =
+held-some text given octets rest old new e past near is =
     subst (λ (h : Held). Stands text given h (Some rest)) (sym is) (record {
       rest = rest;
       told = refl;
       count = e.count;
       by = longer text given octets rest old e past;
+      lost = drop old.room octets;
+      taken = e.whole ∙ parted given octets rest old.room
+          ∙ append_assoc given (take old.room octets) (drop old.room octets ++ rest);
+      few = let p = parts-count octets old.room in omega (arith, p, near);
     })
 
 -- no room is left, and more came
@@ -261,38 +284,38 @@ no-octets [] few = refl
 no-octets (x ∷ xs) few = absurd (omega (arith, few))
 
 pub fills-by : (past some : Bool) (text given octets rest : List ℕ) (old new : Held) (count : ℕ)
-    → IsEmptied text given old (octets ++ rest) → (octets ≡ [] → rest ≡ [])
-    → past ≡ nat_lt old.room (length octets) → some ≡ nat_lt 0 count
+    → IsEmptied text given old (octets ++ rest) → length octets ≤ most_at_once
+    → (octets ≡ [] → rest ≡ []) → past ≡ nat_lt old.room (length octets) → some ≡ nat_lt 0 count
     → count ≡ min (length octets) old.room
     → new ≡ record { octets = take count octets; given = old.given; room = old.room - count; past = past }
     → (past ≡ true → 1 ≤ count) → Fills text given new (Some rest) (Ok some)
-fills-by true true text given octets rest old new count e end far some least is free =
+fills-by true true text given octets rest old new count e near end far some least is free =
     let wide : old.room < length octets = ltb-true old.room (length octets) (sym far) in
     let room : count ≡ old.room = omega (arith, least, wide) in
     let here : new ≡ record { octets = take old.room octets; given = old.given; room = 0; past = true } =
     is ∙ ap (λ (k : ℕ). record { octets = take k octets; given = old.given; room = old.room - k; past = true }) room
     ∙ ap (λ (k : ℕ). record { octets = take old.room octets; given = old.given; room = k; past = true })
     (let z : old.room - old.room ≡ 0 = omega arith in z) in (
-      held-some text given octets rest old new e wide here,
+      held-some text given octets rest old new e wide near here,
       subst (λ (h : Held). 1 ≤ length h.octets) (sym is)
           (let l = length-take-le count octets (omega (arith, room, wide)) in
           let f = free refl in omega (arith, l, f)),
     )
-fills-by true false text given octets rest old new count e end far some least is free =
+fills-by true false text given octets rest old new count e near end far some least is free =
     let none : count ≤ 0 = ltb-false 0 count (sym some) in
     let f = free refl in absurd (omega (arith, none, f))
-fills-by false true text given octets rest old new count e end far some least is free =
+fills-by false true text given octets rest old new count e near end far some least is free =
     let few : length octets ≤ old.room = ltb-false old.room (length octets) (sym far) in
     let all : count ≡ length octets = omega (arith, least, few) in
     let here : new ≡ record { octets = octets; given = old.given; room = old.room - length octets; past = false } =
     is ∙ ap (λ (k : ℕ). record { octets = take k octets; given = old.given; room = old.room - k; past = false }) all
     ∙ ap (λ (l : List ℕ). record { octets = l; given = old.given; room = old.room - length octets; past = false })
     (take_all (length octets) octets (omega arith)) in (
-      held-all text given octets rest old new e few here,
+      held-all text given octets rest old new e few near here,
       subst (λ (h : Held). 1 ≤ length h.octets) (sym here)
           (let s = ltb-true 0 count (sym some) in omega (arith, s, all)),
     )
-fills-by false false text given octets rest old new count e end far some least is free =
+fills-by false false text given octets rest old new count e near end far some least is free =
     let few : length octets ≤ old.room = ltb-false old.room (length octets) (sym far) in
     let none : count ≤ 0 = ltb-false 0 count (sym some) in
     let empty : octets ≡ [] = no-octets octets (omega (arith, least, few, none)) in

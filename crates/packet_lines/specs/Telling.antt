@@ -6,6 +6,7 @@ use Rattle.capture_file.specs.declared.fault.CaptureFault.TheVariants.{Magic, Li
 use Rattle.capture_file.specs.Describing.{described}
 use Rattle.capture_file.specs.Pcap.{most_input}
 use Rattle.capture_file.specs.Records.{IsFileOf}
+use Rattle.text_lines.specs.Reading.{most_at_once}
 use Rattle.packet_lines.specs.declared.end.End.{End}
 use Rattle.packet_lines.specs.declared.end.End.TheVariants as ends
 use Rattle.packet_lines.specs.Files.{IsBrokenOff, IsCutAt, IsFileBefore, IsRefusedAt}
@@ -29,6 +30,21 @@ Told packets held then = then ≡ after held (lines packets)
 abbrev pub ToldPart : ℕ → List (List ℕ) → Option (List ℕ) → Option (List ℕ) → Type 0
 ToldPart n packets held then = then ≡ after held (take n (lines packets))
 
+-- so many octets of the lines end within that of the last packet
+pub record IsWithinLast (n : ℕ) (packets : List (List ℕ)) : Type 0 where
+  pub before : List (List ℕ)
+  pub last : List ℕ
+  pub all : packets ≡ before ++ last ∷ []
+  pub from : length (lines before) ≤ n
+  pub to : n < length (lines packets)
+
+-- ---- what is taken
+
+-- a source told no more of a text than this front of it, and what is asked for at once
+abbrev pub IsTakenNear : List ℕ → List ℕ → Option (List ℕ) → Type 0
+IsTakenNear text front left = (ahead rest : List ℕ) × (text ≡ front ++ (ahead ++ rest))
+    × (left ≡ Some rest) × (length ahead ≤ most_at_once)
+
 -- ---- why reading ends
 
 -- why a file is refused that is read within the limit: it is cut where it ends within it
@@ -41,7 +57,7 @@ RefusedBy Cut file packets at = (length file ≤ most_input) × IsCutAt packets 
 -- How telling a file ends. At the end it was read, and all packets were told. Where it is refused,
 -- those before were; at a fault of the source, and where an octet past the limit was taken, those that
 -- end in what was taken, or within the limit. A fault of the sink and want of memory break off what is
--- written.
+-- written; where the sink failed at the line of a packet, nothing was asked for behind that packet.
 abbrev pub EndsTold : List ℕ → Option (List ℕ) → Option (List ℕ) → Option (List ℕ)
     → Result (Unit {0}) End → Type 0
 EndsTold file left held then (Ok done) =
@@ -57,8 +73,9 @@ EndsTold file left held then (Err ends.ReadFault) =
     × (length taken ≤ most_input)
     × ((packets : List (List ℕ)) × IsBrokenOff packets taken × Told packets held then)
 EndsTold file left held then (Err ends.WriteFault) =
-    (packets : List (List ℕ)) × (behind : List ℕ) × IsFileBefore packets behind (take most_input file)
-    × ((n : ℕ) × (n < length (lines packets)) × ToldPart n packets held then)
+    (packets : List (List ℕ)) × (behind : List ℕ)
+    × (f : IsFileBefore packets behind (take most_input file)) × IsTakenNear file f.file left
+    × ((n : ℕ) × IsWithinLast n packets × ToldPart n packets held then)
 EndsTold file left held then (Err ends.Memory) =
     (then ≡ held) ⊎ ((packets : List (List ℕ)) × (behind : List ℕ)
     × IsFileBefore packets behind (take most_input file)

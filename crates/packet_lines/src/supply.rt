@@ -5,6 +5,7 @@ ghost use Rattle.lan_base.specs.Faults.{Rose};
 ghost use Rattle.lan_base.specs.declared.source.ReadEnd.TheVariants as ends;
 ghost use Rattle.capture_file.specs.Pcap.{most_input};
 ghost use Rattle.packet_lines.specs.inside.Supplying.{Fills, Stands, Takes};
+ghost use Rattle.text_lines.specs.Reading.{most_at_once};
 
 use capture_file::INPUT_MAX;
 use lan_base::{ReadEnd, Source};
@@ -133,6 +134,7 @@ impl Supply {
     fn hold(&mut self, octets: &[u8]) -> Result<bool, ReadEnd>
         requires none { self.old.octets ≡ [] }
         requires within { self.old.past ≡ false }
+        requires few { length octets.now ≤ most_at_once }
         ensures fills { (text given rest : List ℕ)
             → Stands text given self.old (Some (octets.now ++ rest))
             → (octets.now ≡ [] → rest ≡ [])

@@ -11,7 +11,8 @@ use Rattle.transcript.specs.Rendering.{IsOfFrame}
 use Rattle.transcript.specs.declared.fault.FactError.{FactError}
 use Rattle.transcript.specs.declared.fault.FactError.TheVariants as readings
 use Rattle.transcript_check.specs.Judged.{sak_in, error_of_reading}
-use Rattle.transcript_check.specs.Standing.{Maps, Standing, StandsFor, IsCheckOf, IsNoted, IsTaken, IsDenied, IsDue, Takes, Installs, Claims, refusal, no_epoch, sak_at}
+use Rattle.transcript_check.specs.Standing.{Maps, Standing, StandsFor, IsCheckOf, IsTaken, IsDenied, IsDue, refusal, no_epoch, sak_at}
+use Rattle.transcript_check.specs.inside.Steps.{IsNoted, Takes, Installs, Claims}
 use Rattle.transcript_check.specs.declared.named.Named.{Named}
 use Rattle.lan_base.specs.declared.key_id.KeyId.{KeyId}
 use Rattle.transcript_check.specs.declared.fault.CheckError.{CheckError}

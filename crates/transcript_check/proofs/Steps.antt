@@ -13,7 +13,8 @@ use Rattle.transcript_check.specs.declared.fault.CheckError.{CheckError}
 use Rattle.transcript_check.specs.declared.fault.CheckError.TheVariants.{Refused, Memory}
 use Rattle.transcript_check.specs.declared.fault.CheckFault.TheVariants.{Doubled}
 use Rattle.transcript_check.specs.Judged.{Noted, Breaks, IsJudged, BreaksOnce, BreaksOneKey, fact_at, sak_here, sak_in, Use, use_of, uses, named_by, names, never, same_named, is_missed, missed_in}
-use Rattle.transcript_check.specs.Standing.{Maps, StandsFor, IsFound, IsOfEpoch, sak_at, first_of, line_by, line_of, EpochIsPut, KeyIsPut, UseIsPut, IsNamed, IsUsed, IsInstalled, Installs, Claims, Takes, IsFailed, refusal, no_epoch}
+use Rattle.transcript_check.specs.Standing.{Maps, StandsFor, IsFound, IsOfEpoch, sak_at, first_of, line_by, line_of, refusal, no_epoch}
+use Rattle.transcript_check.specs.inside.Steps.{EpochIsPut, KeyIsPut, UseIsPut, IsNamed, IsUsed, IsInstalled, Installs, Claims, Takes, IsFailed}
 use Rattle.transcript_check.proofs.Least.{some-same, nat_dec, Goes, found-stays, none-stays, broken-now, found-is, found-again, found-first}
 use Rattle.transcript_check.proofs.Ends.{at-last, at-other, goes-by, sak-more, sak-stays, sak-with, use-stays, missed-more, missed-within}
 use Rattle.transcript_check.proofs.Telling.{Told, id_dec, use_dec, pair_dec, named-itself, named-joins}

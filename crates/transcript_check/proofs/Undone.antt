@@ -6,7 +6,8 @@ use Rattle.aes_block.specs.declared.secret.Secret.{Secret}
 use Rattle.lan_base.specs.declared.key_id.KeyId.{KeyId}
 use Rattle.transcript_check.specs.declared.named.Named.{Named}
 use Rattle.transcript_check.specs.declared.fault.CheckError.TheVariants.{Memory}
-use Rattle.transcript_check.specs.Standing.{Maps, Installs, pair_cmp, sak_at}
+use Rattle.transcript_check.specs.Standing.{Maps, pair_cmp, sak_at}
+use Rattle.transcript_check.specs.inside.Steps.{Installs}
 use Rattle.std.specs.BTreeMap.{insert_entry, is_at}
 use Rattle.std.specs.Ordering.{is_eq, match_ordering, nat_cmp}
 use Rattle.std.specs.Cmp.{nat_cmp_is}

@@ -1,5 +1,5 @@
 -- What a list of facts is judged by: all pairs of them, numbered from 1.
-use Rattle.std.specs.Prelude.{ℕ, zero, suc, ◌≡◌, ◌<◌, ◌≤◌, ◌+◌, ◌==◌, ◌&&◌, nat_eq, Bool, true, false, cond, List, [], ◌∷◌, slice_get, Option, Some, None, option_map, option_and_then}
+use Rattle.std.specs.Prelude.{ℕ, zero, suc, ◌≡◌, ◌<◌, ◌≤◌, ◌+◌, ◌==◌, ◌&&◌, nat_eq, Bool, true, false, if◌then◌else◌, List, [], ◌∷◌, slice_get, Option, Some, None, option_map, option_and_then}
 use Rattle.std.specs.Option.{option_or}
 use lib.Pointwise.{pointwise}
 use Rattle.lan_base.specs.AssociationNumbers.{same_an}
@@ -52,7 +52,7 @@ IsJudged Broken (Some pair) = IsLeast Broken pair.0 pair.1
 
 abbrev pub sak_here : ℕ → ℕ → Fact → Option Secret
 sak_here s epoch (shows.Installed station id an e sak) =
-    cond ((station == s) && (e == epoch)) (Some sak) None
+    if (station == s) && (e == epoch) then Some sak else None
 sak_here s epoch _ = None
 
 -- the SAK that a station installed under an epoch, of the first such install
@@ -109,7 +109,7 @@ is_missed _ = false
 
 abbrev pub missed_in : List Fact → ℕ
 missed_in [] = 0
-missed_in (fact ∷ later) = cond (is_missed fact) 1 0 + missed_in later
+missed_in (fact ∷ later) = (if is_missed fact then 1 else 0) + missed_in later
 
 -- ---- refusals
 

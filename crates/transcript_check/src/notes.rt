@@ -8,7 +8,8 @@ ghost use Rattle.lan_base.specs.declared.address.Mi.{Mi};
 ghost use Rattle.lan_core.specs.declared.fact.Fact.{Fact};
 ghost use Rattle.std.specs.Map.{remove_entry};
 ghost use Rattle.std.specs.BTreeMap.{insert_entry, is_at};
-ghost use Rattle.transcript_check.specs.Standing.{Maps, pair_cmp, sak_at, first_of, line_by, EpochIsPut, KeyIsPut, UseIsPut, IsNamed, IsUsed, Installs, Claims, Takes, StandsFor, IsNoted, IsVerdict};
+ghost use Rattle.transcript_check.specs.Standing.{Maps, pair_cmp, sak_at, first_of, line_by, StandsFor, IsVerdict};
+ghost use Rattle.transcript_check.specs.inside.Steps.{EpochIsPut, KeyIsPut, UseIsPut, IsNamed, IsUsed, Installs, Claims, Takes, IsNoted};
 
 use crate::fault::{CheckError, CheckFault};
 use crate::named::Named;

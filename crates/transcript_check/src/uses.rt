@@ -1,7 +1,8 @@
 //! The lines that used packet numbers.
 
 ghost use Rattle.std.specs.Prelude.{◌≡◌, [], OnOk, OnErr};
-ghost use Rattle.transcript_check.specs.Standing.{line_in, LineIsPut, LineIsPutAt};
+ghost use Rattle.transcript_check.specs.Standing.{line_in};
+ghost use Rattle.transcript_check.specs.inside.Steps.{LineIsPut, LineIsPutAt};
 
 use std::alloc::{AllocError, Global};
 use std::collections::BTreeMap;

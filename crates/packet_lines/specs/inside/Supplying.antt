@@ -3,6 +3,7 @@ use Rattle.std.specs.Prelude.{⊤, ◌≡◌, ◌⊎◌, ℕ, ◌+◌, ◌<◌, 
 use Rattle.lan_base.specs.declared.source.ReadEnd.{ReadEnd}
 use Rattle.lan_base.specs.declared.source.ReadEnd.TheVariants.{Limit, Failed, Memory}
 use Rattle.capture_file.specs.Pcap.{most_input}
+use Rattle.text_lines.specs.Reading.{most_at_once}
 
 -- the octets that are held, how many were given out, how many the limit still allows to be taken, and
 -- whether one past it was taken
@@ -18,12 +19,16 @@ StandsBy false text given h rest =
 StandsBy true text given h rest =
     (most_input < length text) × (take most_input text ≡ given ++ h.octets)
 
--- of a text these octets were given out, and a source has what was not taken of it
+-- of a text these octets were given out, and a source has what was not taken of it: what was taken
+-- beyond them is held or lost, and no more than is asked for at once
 pub record Stands (text given : List ℕ) (h : Held) (left : Option (List ℕ)) : Type 0 where
   pub rest : List ℕ
   pub told : left ≡ Some rest
   pub count : h.given ≡ length given
   pub by : StandsBy h.past text given h rest
+  pub lost : List ℕ
+  pub taken : text ≡ given ++ (h.octets ++ (lost ++ rest))
+  pub few : length h.octets + length lost ≤ most_at_once
 
 -- a text within the limit was given out whole
 pub record IsAtEnd (text given : List ℕ) (left : Option (List ℕ)) : Type 0 where

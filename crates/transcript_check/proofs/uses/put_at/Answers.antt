@@ -3,7 +3,8 @@ use Rattle.std.specs.Prelude.{IsSome, Option, option_and_then}
 use Rattle.std.specs.BTreeMap.{BTreeMap, is_at}
 use Rattle.std.specs.Map.{set_value}
 use Rattle.std.proofs.lemmas.Map.Steps.{set_value_same}
-use Rattle.transcript_check.specs.Standing.{Lines, line_in, line_at, sak_cmp, LineIsPut, LineIsPutAt}
+use Rattle.transcript_check.specs.Standing.{Lines, line_in, line_at, sak_cmp}
+use Rattle.transcript_check.specs.inside.Steps.{LineIsPut, LineIsPutAt}
 use Rattle.transcript_check.proofs.Puts.{put_under, on_ok, on_err}
 use Rattle.transcript_check.proofs.uses.put_at.Goals as goal
 

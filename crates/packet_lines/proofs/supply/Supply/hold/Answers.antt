@@ -29,7 +29,7 @@ returns-clause-fills c = λ text given rest s none.
     c.in_ok-extend_from_slice.ensures.items ∙ ap (λ (l : List ℕ). l ++ take count octets) c.clear.ensures.items in
     fills-by past (nat_lt 0 count) text given octets rest old
     (record { octets = c.extend_from_slice.new.self.items; given = c.self.inside.given; room = c.self.inside.room - count; past = past })
-    count e none
+    count e c.requires.few none
     (ap (λ (k : ℕ). nat_lt k (length octets)) room) refl
     (omega (arith, c.min-count.ensures, room))
     (λ i. record { octets = items i; given = given_is i; room = room i - count; past = past })

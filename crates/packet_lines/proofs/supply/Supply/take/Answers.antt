@@ -1,7 +1,7 @@
 use Rattle.std.proofs.Common.{◌∙◌, ◌++◌, refl, ap, arith, length, take, length-append}
 use Rattle.std.proofs.lemmas.List.{length-take-le}
 use Rattle.std.proofs.lemmas.Result.{err_from_is_err_and}
-use Rattle.packet_lines.proofs.Supplies.{taken-all, taken-end, taken-err, taken-more}
+use Rattle.packet_lines.proofs.Supplies.{taken-all, taken-end, taken-err, taken-more, taken-none}
 use Rattle.packet_lines.proofs.supply.Supply.take.Goals as goal
 
 pub returns-in_err-has_some-clause-takes : goal.returns-in_err-has_some-clause-takes
@@ -51,3 +51,11 @@ returns-clause-takes g c = λ text given s.
     taken-all text given c.args.count c.loop-wanted.wanted c.args.into.now.items
     c.loop-wanted.into.items c.loop-wanted.self _ (c.loop-wanted.invariant.taken text given s)
     c.loop-wanted-test.false
+
+pub loop-wanted-init : goal.loop-wanted-init
+loop-wanted-init g c = record {
+  taken = λ text given s. taken-none text given _ _ _ _ s;
+  more = refl;
+  most = omega arith;
+  counts = omega arith;
+}

@@ -1,5 +1,6 @@
 use Rattle.std.proofs.Common.{refl, subst}
-use Rattle.transcript_check.specs.Standing.{Maps, EpochIsPut}
+use Rattle.transcript_check.specs.Standing.{Maps}
+use Rattle.transcript_check.specs.inside.Steps.{EpochIsPut}
 use Rattle.transcript_check.proofs.Puts.{epoch_put}
 use Rattle.transcript_check.proofs.notes.Notes.put_epoch.Goals as goal
 

@@ -1,5 +1,6 @@
 use Rattle.std.proofs.Common.{refl, subst}
-use Rattle.transcript_check.specs.Standing.{Maps, KeyIsPut}
+use Rattle.transcript_check.specs.Standing.{Maps}
+use Rattle.transcript_check.specs.inside.Steps.{KeyIsPut}
 use Rattle.transcript_check.proofs.Puts.{key_put}
 use Rattle.transcript_check.proofs.notes.Notes.put_key.Goals as goal
 

@@ -1,6 +1,7 @@
 use Rattle.std.proofs.Common.{sym, subst}
 use Rattle.aes_block.specs.declared.secret.Secret.{Secret}
-use Rattle.transcript_check.specs.Standing.{Maps, UseIsPut}
+use Rattle.transcript_check.specs.Standing.{Maps}
+use Rattle.transcript_check.specs.inside.Steps.{UseIsPut}
 use Rattle.transcript_check.proofs.Puts.{narrow_put, wide_put, on_ok}
 use Rattle.transcript_check.proofs.notes.Notes.put_use.Goals as goal
 

@@ -1,6 +1,7 @@
 use Rattle.std.proofs.Common.{refl, sym, ap, ◌∙◌, subst, ◌+◌, ℕ, min, Ok}
 use Rattle.lan_core.specs.declared.fact.Fact.{Fact}
-use Rattle.transcript_check.specs.Standing.{Maps, Takes}
+use Rattle.transcript_check.specs.Standing.{Maps}
+use Rattle.transcript_check.specs.inside.Steps.{Takes}
 use Rattle.transcript_check.proofs.notes.Notes.take.Goals as goal
 
 pub returns-in-Arrived : goal.returns-in-Arrived

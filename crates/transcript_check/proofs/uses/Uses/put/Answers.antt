@@ -1,5 +1,6 @@
 use Rattle.std.proofs.Common.{subst}
-use Rattle.transcript_check.specs.Standing.{Lines, LineIsPut}
+use Rattle.transcript_check.specs.Standing.{Lines}
+use Rattle.transcript_check.specs.inside.Steps.{LineIsPut}
 use Rattle.transcript_check.proofs.Puts.{line_put}
 use Rattle.transcript_check.proofs.uses.Uses.put.Goals as goal
 

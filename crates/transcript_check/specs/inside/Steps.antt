@@ -1,0 +1,108 @@
+-- How the maps change, one fact after the other.
+use Rattle.std.specs.Prelude.{ℕ, ◌≡◌, ◌≢◌, ◌+◌, true, if◌then◌else◌, List, [], ◌∷◌, ◌++◌, Option, Some, None, Result, Ok, Err, is_ok, min}
+use Rattle.lan_base.specs.declared.key_id.KeyId.{KeyId}
+use Rattle.aes_block.specs.declared.secret.Secret.{Secret}
+use Rattle.lan_core.specs.declared.fact.Fact.{Fact}
+use Rattle.lan_core.specs.declared.fact.Fact.TheVariants as shows
+use Rattle.transcript_check.specs.declared.named.Named.{Named}
+use Rattle.transcript_check.specs.declared.fault.CheckError.{CheckError}
+use Rattle.transcript_check.specs.declared.fault.CheckError.TheVariants.{Refused, Memory}
+use Rattle.transcript_check.specs.declared.fault.CheckFault.TheVariants.{Doubled, Orphan}
+use Rattle.transcript_check.specs.Judged.{is_missed, same_named}
+use Rattle.transcript_check.specs.Standing.{Maps, Lines, LinesBySak, StandsFor, first_of, line_in, line_at, line_by, refusal, sak_at}
+-- nothing but what is found under this key is changed
+pub record KeyIsPut (number : ℕ) (id : KeyId) (named : Named) (old new : Maps) : Type 0 where
+  pub count : new.count ≡ old.count
+  pub missed : new.missed ≡ old.missed
+  pub once : new.once ≡ old.once
+  pub one_key : new.one_key ≡ old.one_key
+  pub epochs : new.epochs ≡ old.epochs
+  pub narrow : new.narrow ≡ old.narrow
+  pub wide : new.wide ≡ old.wide
+  pub here : first_of new id ≡ Some (number, named)
+  pub others : (other : KeyId) → other ≢ id → first_of new other ≡ first_of old other
+
+abbrev pub IsNamed : ℕ → KeyId → Named → Maps → Maps → Option (ℕ × ℕ) → Option (ℕ × Named) → Type 0
+IsNamed number id named old new (Some pair) first = new ≡ old
+IsNamed number id named old new None None = KeyIsPut number id named old new
+IsNamed number id named old new None (Some nv) =
+    new ≡ (if same_named nv.1 named then old else record old { one_key = Some (nv.0, number) })
+
+-- the line is found by this packet number, and what is found by others is as it was
+pub record LineIsPut (pn number : ℕ) (old new : Lines) : Type 0 where
+  pub here : line_in new pn ≡ Some number
+  pub others : (other : ℕ) → other ≢ pn → line_in new other ≡ line_in old other
+
+-- the same under one key
+pub record LineIsPutAt (key : ℕ × List ℕ) (pn number : ℕ) (old new : LinesBySak) : Type 0 where
+  pub here : line_at new key pn ≡ Some number
+  pub others : (other : ℕ × List ℕ) (qn : ℕ) → ((other ≡ key) × (qn ≡ pn) → ⊥)
+      → line_at new other qn ≡ line_at old other qn
+
+pub record UseIsPut (number s pn : ℕ) (sak : Secret) (old new : Maps) : Type 0 where
+  pub count : new.count ≡ old.count
+  pub missed : new.missed ≡ old.missed
+  pub once : new.once ≡ old.once
+  pub one_key : new.one_key ≡ old.one_key
+  pub epochs : new.epochs ≡ old.epochs
+  pub keys : new.keys ≡ old.keys
+  pub here : line_by new s pn sak ≡ Some number
+  pub others : (t qn : ℕ) (other : Secret) → ((t ≡ s) × (qn ≡ pn) × (other ≡ sak) → ⊥)
+      → line_by new t qn other ≡ line_by old t qn other
+
+abbrev pub IsUsed : ℕ → ℕ → ℕ → Secret → Maps → Maps → Option (ℕ × ℕ) → Option ℕ → Type 0
+IsUsed number s pn sak old new (Some pair) line = new ≡ old
+IsUsed number s pn sak old new None None = UseIsPut number s pn sak old new
+IsUsed number s pn sak old new None (Some line) = new ≡ record old { once = Some (line, number) }
+
+pub record EpochIsPut (s epoch : ℕ) (sak : Secret) (old new : Maps) : Type 0 where
+  pub count : new.count ≡ old.count
+  pub missed : new.missed ≡ old.missed
+  pub once : new.once ≡ old.once
+  pub one_key : new.one_key ≡ old.one_key
+  pub keys : new.keys ≡ old.keys
+  pub narrow : new.narrow ≡ old.narrow
+  pub wide : new.wide ≡ old.wide
+  pub here : sak_at new s epoch ≡ Some sak
+  pub others : (t e : ℕ) → ((t ≡ s) × (e ≡ epoch) → ⊥) → sak_at new t e ≡ sak_at old t e
+
+-- ---- a fact is taken
+
+-- a fact is refused, or it is not and memory ran out
+abbrev pub IsFailed : List Fact → Fact → CheckError → Type 0
+IsFailed facts fact (Refused fault) = refusal facts fact ≡ Some fault
+IsFailed facts fact Memory = refusal facts fact ≡ None
+
+-- what a call says after these facts
+abbrev pub IsNoted : List Fact → Fact → Maps → Maps → Result Unit CheckError → Type 0
+IsNoted facts fact old new (Ok _) = (refusal facts fact ≡ None) × StandsFor (facts ++ fact ∷ []) new
+IsNoted facts fact old new (Err error) = IsFailed facts fact error × (new ≡ old)
+
+pub record IsInstalled (number s epoch : ℕ) (id : KeyId) (named : Named) (old new : Maps) : Type 0 where
+  pub middle : Maps
+  pub epoch_put : EpochIsPut s epoch named.sak old middle
+  pub names_it : IsNamed number id named middle new middle.one_key (first_of middle id)
+
+abbrev pub Installs : ℕ → ℕ → ℕ → KeyId → Named → Maps → Maps → Option Secret → Result Unit CheckError
+    → Type 0
+Installs number s epoch id named old new (Some sak) r = (r ≡ Err (Refused Doubled)) × (new ≡ old)
+Installs number s epoch id named old new None (Ok _) = IsInstalled number s epoch id named old new
+Installs number s epoch id named old new None (Err error) = (error ≡ Memory) × (new ≡ old)
+
+abbrev pub Claims : ℕ → ℕ → ℕ → Maps → Maps → Option Secret → Result Unit CheckError → Type 0
+Claims number s pn old new None r = (r ≡ Err (Refused Orphan)) × (new ≡ old)
+Claims number s pn old new (Some sak) (Ok _) =
+    IsUsed number s pn sak old new old.once (line_by old s pn sak)
+Claims number s pn old new (Some sak) (Err error) = (error ≡ Memory) × (new ≡ old)
+
+abbrev pub Passes : Maps → Maps → ℕ → Result Unit CheckError → Type 0
+Passes old new missed r = (is_ok r ≡ true) × (new ≡ record old { missed = missed })
+
+abbrev pub Takes : ℕ → Fact → Maps → Maps → Result Unit CheckError → Type 0
+Takes number (shows.Installed s id an epoch sak) old new r =
+    Installs number s epoch id (record { an = an; sak = sak }) old new (sak_at old s epoch) r
+Takes number (shows.Claimed s an epoch pn) old new r =
+    Claims number s pn old new (sak_at old s epoch) r
+Takes number (shows.Arrived k s arrival) old new r =
+    Passes old new (min (old.missed + (if is_missed (shows.Arrived k s arrival) then 1 else 0)) 18446744073709551615) r
+Takes number _ old new r = (is_ok r ≡ true) × (new ≡ old)
