@@ -97,6 +97,7 @@ fn station(alloc: Global, who: Who, suite: Suite) -> Result<Station, Fail> {
         priority,
         rekey: 3221225472,
         conf: true,
+        early_flag: false,
         group: group(alloc)?,
         suite,
     };

@@ -50,6 +50,7 @@ pub fn empty(alloc: Global, rekey: u32) -> Result<Lan, Fail> {
         cak: Secret::S128(CAK.to_be_bytes()),
         ckn: Octets::from_slice(alloc, &[1, 2, 3, 4])?,
         conf: true,
+        early_flag: false,
         window: 0,
         rekey,
         suite: Suite::GcmAes128,

@@ -54,6 +54,7 @@ settings = record {
   cak = S128 (replicate 16 0);
   ckn = 1 ∷ 2 ∷ 3 ∷ 4 ∷ [];
   conf = true;
+  early_flag = false;
   window = 0;
   rekey = 3221225472;
   suite = GcmAes128;

@@ -95,6 +95,7 @@ setup_of settings p =
       priority = p.priority;
       rekey = settings.rekey;
       conf = settings.conf;
+      early_flag = settings.early_flag;
       suite = settings.suite;
       ckn = settings.ckn;
       kek = kek_of cak settings.ckn;

@@ -20,6 +20,8 @@ pub struct Settings {
     pub ckn: Octets,
     /// Whether keys that are made give confidentiality.
     pub conf: bool,
+    /// Whether stations have the key server flag also while they have elected nobody.
+    pub early_flag: bool,
     /// How far below a sender's next packet number a number may lie.
     pub window: u32,
     /// The packet number from which on a key is spent.

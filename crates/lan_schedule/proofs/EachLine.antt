@@ -105,6 +105,8 @@ chosen-stays (lines.Lag lag) form chosen are =
     record { window = are.window; rekey = are.rekey; group = are.group }
 chosen-stays (lines.Suite suite) form chosen are =
     record { window = are.window; rekey = are.rekey; group = are.group }
+chosen-stays (lines.Flag early) form chosen are =
+    record { window = are.window; rekey = are.rekey; group = are.group }
 chosen-stays _ form chosen are = are
 
 named-sets : (chosen : Choices) (o : Option Keyed) → chosen.group ≡ o → is_some o ≡ true
@@ -268,6 +270,9 @@ deed-ready n (lines.Lag lag) w below form ready right comes =
     chosen-ready n (lines.Lag lag) (is_none w.kept.chosen.lag) w form ready right.allowed comes
 deed-ready n (lines.Suite suite) w below form ready right comes =
     chosen-ready n (lines.Suite suite) (is_none w.kept.chosen.suite) w form ready right.allowed comes
+deed-ready n (lines.Flag early) w below form ready right comes =
+    chosen-ready n (lines.Flag early) (is_none w.kept.chosen.early_flag) w form ready right.allowed
+    comes
 deed-ready n (lines.Group cak ckn) w below form ready right comes =
     chosen-ready n (lines.Group cak ckn) (is_none w.kept.chosen.group) w form ready right.allowed
     comes

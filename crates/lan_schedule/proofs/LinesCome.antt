@@ -365,6 +365,8 @@ deed-comes (lines.Lag lag) form w tidy right =
     chosen-comes (lines.Lag lag) form (is_none w.kept.chosen.lag) w tidy right.allowed
 deed-comes (lines.Suite suite) form w tidy right =
     chosen-comes (lines.Suite suite) form (is_none w.kept.chosen.suite) w tidy right.allowed
+deed-comes (lines.Flag early) form w tidy right =
+    chosen-comes (lines.Flag early) form (is_none w.kept.chosen.early_flag) w tidy right.allowed
 deed-comes (lines.Group cak ckn) form w tidy right =
     chosen-comes (lines.Group cak ckn) form (is_none w.kept.chosen.group) w tidy right.allowed
 deed-comes (lines.Station name sci priority) form w tidy right = (

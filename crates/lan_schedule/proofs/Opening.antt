@@ -99,6 +99,7 @@ station-later (lines.Window window) station = absurd station
 station-later (lines.Rekey rekey) station = absurd station
 station-later (lines.Lag lag) station = absurd station
 station-later (lines.Suite suite) station = absurd station
+station-later (lines.Flag early) station = absurd station
 station-later (lines.Group cak ckn) station = absurd station
 station-later _ station = refl
 

@@ -92,6 +92,7 @@ module _ {K : Type 0} {Took : K → Report → K → Type 0} {Broke : K → Repo
     default-does (lines.Rekey rekey) now later a b c d e f g h i j k l = absurd (cc later)
     default-does (lines.Lag lag) now later a b c d e f g h i j k l = absurd (cc later)
     default-does (lines.Suite suite) now later a b c d e f g h i j k l = absurd (cc later)
+    default-does (lines.Flag early) now later a b c d e f g h i j k l = absurd (cc later)
     default-does (lines.Group cak ckn) now later a b c d e f g h i j k l = absurd (cc later)
     default-does _ now later a b c d e f g h i j k l =
         record {

@@ -25,6 +25,7 @@ allowed-then (lines.Window window) chosen keyed = refl
 allowed-then (lines.Rekey rekey) chosen keyed = refl
 allowed-then (lines.Lag lag) chosen keyed = refl
 allowed-then (lines.Suite suite) chosen keyed = refl
+allowed-then (lines.Flag early) chosen keyed = refl
 allowed-then (lines.Group cak ckn) chosen keyed = refl
 allowed-then (lines.Station name sci priority) chosen keyed = keyed
 allowed-then _ chosen keyed = refl

@@ -53,6 +53,7 @@ is_allowed (lines.Window window) begun chosen = not begun && is_none chosen.wind
 is_allowed (lines.Rekey rekey) begun chosen = not begun && is_none chosen.rekey
 is_allowed (lines.Lag lag) begun chosen = not begun && is_none chosen.lag
 is_allowed (lines.Suite suite) begun chosen = not begun && is_none chosen.suite
+is_allowed (lines.Flag early) begun chosen = not begun && is_none chosen.early_flag
 is_allowed (lines.Group cak ckn) begun chosen = not begun && is_none chosen.group
 is_allowed (lines.Station name sci priority) begun chosen = is_some chosen.group
 is_allowed _ begun chosen = begun

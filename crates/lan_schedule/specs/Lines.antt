@@ -118,6 +118,7 @@ chosen_by (lines.Window window) chosen = record chosen { window = Some window }
 chosen_by (lines.Rekey rekey) chosen = record chosen { rekey = Some rekey }
 chosen_by (lines.Lag lag) chosen = record chosen { lag = Some lag }
 chosen_by (lines.Suite suite) chosen = record chosen { suite = Some suite }
+chosen_by (lines.Flag early) chosen = record chosen { early_flag = Some early }
 chosen_by (lines.Group cak ckn) chosen =
     record chosen { group = Some (record { cak = secret_of cak; ckn = ckn }) }
 chosen_by _ chosen = chosen

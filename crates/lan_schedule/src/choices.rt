@@ -34,6 +34,8 @@ pub struct Choices {
     pub lag: Option<u32>,
     /// The suite of the keys that are made.
     pub suite: Option<Suite>,
+    /// Whether stations have the key server flag also while they have elected nobody.
+    pub early_flag: Option<bool>,
     pub group: Option<Keyed>,
 }
 
@@ -49,6 +51,7 @@ impl Choices {
             rekey: None,
             lag: None,
             suite: None,
+            early_flag: None,
             group: None,
         }
     }

@@ -273,6 +273,7 @@ fn choose(alloc: Global, chosen: &mut Choices, line: &Line) -> Result<(), AllocE
         Line::Rekey { rekey } => chosen.rekey = Some(*rekey),
         Line::Lag { lag } => chosen.lag = Some(*lag),
         Line::Suite { suite } => chosen.suite = Some(*suite),
+        Line::Flag { early } => chosen.early_flag = Some(*early),
         Line::Group { cak, ckn } => {
             let cak = secret_of(cak.as_slice());
             let ckn = ckn.copied(alloc)?;
@@ -340,6 +341,7 @@ fn is_allowed(chosen: &Choices, line: &Line) -> bool
         Line::Rekey { .. } => chosen.rekey.is_none(),
         Line::Lag { .. } => chosen.lag.is_none(),
         Line::Suite { .. } => chosen.suite.is_none(),
+        Line::Flag { .. } => chosen.early_flag.is_none(),
         Line::Group { .. } => chosen.group.is_none(),
         Line::Station { .. } => chosen.group.is_some(),
         _ => false,

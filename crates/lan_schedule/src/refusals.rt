@@ -129,6 +129,7 @@ fn is_choice(line: &Line) -> bool
             | Line::Rekey { .. }
             | Line::Lag { .. }
             | Line::Suite { .. }
+            | Line::Flag { .. }
             | Line::Group { .. }
     )
 }

@@ -30,6 +30,7 @@ pub fn settings_of(alloc: Global, chosen: &Choices) -> Result<Settings, AllocErr
         cak,
         ckn,
         conf: chosen.conf.unwrap_or(1) == 1,
+        early_flag: chosen.early_flag.unwrap_or(false),
         window: chosen.window.unwrap_or(0),
         rekey: chosen.rekey.unwrap_or(USUAL_REKEY),
         suite: chosen.suite.unwrap_or(Suite::GcmAes128),

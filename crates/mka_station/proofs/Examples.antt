@@ -34,7 +34,7 @@ abbrev sci : ℕ → Sci
 sci n = record { 0 = 2 ∷ 0 ∷ 0 ∷ 0 ∷ 0 ∷ n ∷ 0 ∷ 1 ∷ [] }
 
 abbrev setup : ℕ → ℕ → Setup
-setup s priority = record { sci = sci s; priority = priority; rekey = 3221225472; conf = true; suite = GcmAes128; ckn = 1 ∷ 2 ∷ 3 ∷ 4 ∷ []; kek = replicate 16 7; ick = replicate 16 8 }
+setup s priority = record { sci = sci s; priority = priority; rekey = 3221225472; conf = true; early_flag = false; suite = GcmAes128; ckn = 1 ∷ 2 ∷ 3 ∷ 4 ∷ []; kek = replicate 16 7; ick = replicate 16 8 }
 
 abbrev alice : Member
 alice = record { setup = setup 10 16; mi = mi 1; base = 0 }
@@ -123,6 +123,36 @@ with_its_roster = refl
 third_number : (said (tick alice a4)).mn ≡ 3
 unfolding opens
 third_number = refl
+
+-- a station says that it serves once it is elected
+first_flag : (said a1).server ≡ false
+unfolding opens
+first_flag = refl
+
+flag_of_the_elected : (said (tick alice a4)).server ≡ true
+unfolding opens
+flag_of_the_elected = refl
+
+-- one that is set up so says it from its first announcement on, unless it never serves, and no more
+-- once it has elected another
+abbrev early : ℕ → ℕ → ℕ → Member
+early n s priority = record { setup = record (setup s priority) { early_flag = true }; mi = mi n; base = 0 }
+
+early_first_flag : (said (tick (early 2 11 32) [])).server ≡ true
+unfolding opens
+early_first_flag = refl
+
+never_flagged : (said (tick (early 2 11 255) [])).server ≡ false
+unfolding opens
+never_flagged = refl
+
+early_flag_of_a_member : (said (tick (early 2 11 32) b4)).server ≡ false
+unfolding opens
+early_flag_of_a_member = refl
+
+early_flag_of_the_elected : (said (tick (early 1 10 16) a4)).server ≡ true
+unfolding opens
+early_flag_of_the_elected = refl
 
 -- a frame heard again is dropped, and so is one's own
 again : (hear_turn alice (said b3) a4).reaction.heard ≡ Some (Dropped (OldNumber 2))

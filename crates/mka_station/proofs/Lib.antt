@@ -19,3 +19,4 @@ mod Lasting
 mod Drops
 mod Listed
 mod Alike
+mod Flags

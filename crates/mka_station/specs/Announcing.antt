@@ -2,7 +2,8 @@
 -- compared with the last announcement is this profile's own rule.
 use Rattle.std.specs.Prelude.{ℕ, ◌+◌, nat_le, ◌==◌, Bool, true, false, if◌then◌else◌, not, ◌&&◌}
 use Rattle.std.specs.Prelude.{◌||◌, List}
-use Rattle.std.specs.Prelude.{◌++◌, take, map, replicate, Option, Some, None, is_some, option_map}
+use Rattle.std.specs.Prelude.{◌++◌, take, map, replicate, Option, Some, None, is_some, is_none}
+use Rattle.std.specs.Prelude.{option_map}
 use Rattle.std.specs.Prelude.{option_and_then, unwrap_or}
 use Rattle.std.specs.List.{list_all, list_any}
 use lib.Pointwise.{pointwise}
@@ -34,7 +35,8 @@ use Rattle.sak_exchange.specs.Reports.{reports as is_reported}
 use Rattle.sak_exchange.specs.Making.{is_in_roster}
 use Rattle.sak_exchange.specs.Beginning.{is_latest_made}
 use Rattle.sak_exchange.specs.declared.due.Seen.{Seen}
-use Rattle.mka_station.specs.Lives.{Setup, Member, Entry, own, last_spoken}
+use Rattle.server_election.specs.Election.{may_serve}
+use Rattle.mka_station.specs.Lives.{Setup, Member, Entry, own, candidate, last_spoken}
 use Rattle.mka_station.specs.Views.{View, view, speakers, serves}
 
 -- ---- when
@@ -165,13 +167,20 @@ given m v =
     option_and_then (λ k. if gives m v k then Some (given_as m.setup.kek k k.sak) else None)
     (latest v.keys)
 
+-- whether the key server flag is set: the station serves; or, where it is set up so, it has elected
+-- nobody and may serve
+abbrev pub is_flagged : Member → View → Bool
+is_flagged m v =
+    if m.setup.early_flag && (is_none v.server && may_serve (candidate m)) then true
+    else serves m v
+
 -- the announcement, given the lowest acceptable packet number under each key
 abbrev pub announcement : Member → (Key → ℕ) → View → Announcement
 announcement m lowest v =
     record {
       source = record { 0 = take 6 m.setup.sci.0 };
       priority = m.setup.priority;
-      server = serves m v;
+      server = is_flagged m v;
       sci = m.setup.sci;
       mi = m.mi;
       mn = last_sent v.peers + 1;

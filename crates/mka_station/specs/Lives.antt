@@ -21,13 +21,14 @@ use Rattle.lan_base.specs.declared.suite.Suite.{Suite}
 
 -- What a station is set up with: its SCI and key server priority, the packet number from which on a
 -- key is spent, whether keys that it makes give confidentiality and for which cipher suite they are,
--- and what the group's connectivity association key gives: its name, the key encrypting key and the
--- integrity check key.
+-- whether it has the key server flag also while it has elected nobody, and what the group's
+-- connectivity association key gives: its name, the key encrypting key and the integrity check key.
 pub record Setup : Type 0 where
   pub sci : Sci
   pub priority : ℕ
   pub rekey : ℕ
   pub conf : Bool
+  pub early_flag : Bool
   pub suite : Suite
   pub ckn : List ℕ
   pub kek : List ℕ

@@ -14,6 +14,8 @@ pub struct Config {
     pub rekey: u32,
     /// Whether keys that the station makes give confidentiality.
     pub conf: bool,
+    /// Whether the station has the key server flag also while it has elected nobody.
+    pub early_flag: bool,
     /// The keys that the group's connectivity association key gives.
     pub group: Group,
     /// The cipher suite of the keys that the station makes.
@@ -30,6 +32,7 @@ impl Model for Config {
       priority = c.priority;
       rekey = c.rekey;
       conf = c.conf;
+      early_flag = c.early_flag;
       suite = c.suite;
       ckn = c.group.ckn;
       kek = c.group.kek;

@@ -1,15 +1,17 @@
 //! What the definitions of a station give.
 
-ghost use Rattle.std.specs.Prelude.{◌≡◌, ◌<◌, ◌≤◌, false, ◌+◌, ◌^◌, ◌||◌, ◌∷◌, ◌↔◌, ℕ, List, All, Option, Some, None, is_some, IsTrue, IsFalse};
+ghost use Rattle.std.specs.Prelude.{◌≡◌, ◌<◌, ◌≤◌, false, ◌+◌, ◌^◌, ◌||◌, ◌∷◌, ◌↔◌, ℕ, Bool, true, List, All, Option, Some, None, is_some, IsTrue, IsFalse};
 ghost use Rattle.aes_block.specs.declared.secret.Secret.{Secret};
+ghost use Rattle.lan_base.specs.declared.address.Mi.{Mi};
 ghost use Rattle.mkpdu_codec.specs.declared.announcement.Announcement.{Announcement};
 ghost use Rattle.peer_lists.specs.Histories.{last_sent};
 ghost use Rattle.sak_exchange.specs.declared.due.Seen.{Seen};
 ghost use Rattle.sak_exchange.specs.declared.held_key.Key.{Key};
 ghost use Rattle.sak_exchange.specs.Histories.{Keying, install_count};
 ghost use Rattle.sak_exchange.specs.Held.{latest, old};
-ghost use Rattle.mka_station.specs.Lives.{Member, Entry, ticked, heard, elected, keys_of, peers_of};
-ghost use Rattle.mka_station.specs.Views.{view};
+ghost use Rattle.server_election.specs.Election.{may_serve};
+ghost use Rattle.mka_station.specs.Lives.{Member, Entry, ticked, heard, candidate, elected, keys_of, peers_of};
+ghost use Rattle.mka_station.specs.Views.{View, view, serves};
 ghost use Rattle.mka_station.specs.Announcing.{id_of, use_of, uses_of, announcement};
 ghost use Rattle.mka_station.specs.Tick.{tick_turn};
 ghost use Rattle.mka_station.specs.Hearing.{hear_turn, outcome_of, is_accepted};
@@ -43,6 +45,26 @@ pub fn law_marks_what_transmits()
         IsTrue (use_of sending lowest (Some k)).tx ↔ (id_of sending ≡ Some k.id) }
     ensures none { (sending : Option Key) (lowest : Key → ℕ) →
         IsFalse (use_of sending lowest None).tx }
+{}
+
+/// An announcement has the key server flag exactly while its station serves, but that one which is
+/// set up so, and may serve, has it also while it has elected nobody.
+pub fn law_flags_the_server()
+    ensures set_up { (m : Member) (lowest : Key → ℕ) (v : View) → m.setup.early_flag ≡ false →
+        (announcement m lowest v).server ≡ serves m v }
+    ensures never { (m : Member) (lowest : Key → ℕ) (v : View) →
+        may_serve (candidate m) ≡ false → (announcement m lowest v).server ≡ serves m v }
+    ensures elected { (m : Member) (lowest : Key → ℕ) (v : View) (server : Mi) →
+        v.server ≡ Some server → (announcement m lowest v).server ≡ serves m v }
+    ensures early { (m : Member) (lowest : Key → ℕ) (v : View) → m.setup.early_flag ≡ true →
+        may_serve (candidate m) ≡ true → v.server ≡ None →
+        IsTrue (announcement m lowest v).server }
+{}
+
+/// The key server flag is not read: an announcement with another one is heard alike.
+pub fn law_no_flag_is_heard()
+    ensures { (m : Member) (flag : Bool) (a : Announcement) (p : List Entry) →
+        (hear_turn m (record a { server = flag }) p).reaction ≡ (hear_turn m a p).reaction }
 {}
 
 /// Each member that an announcement lists, as live or as potential, was heard in this life, and is

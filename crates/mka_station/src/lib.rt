@@ -20,8 +20,8 @@ mod verdict;
 pub use config::Config;
 pub use laws::{
     law_dropped_changes_no_answer, law_dropped_changes_no_view, law_elected_stays,
-    law_listed_was_heard, law_marks_what_transmits, law_room, law_turns_count,
-    law_uses_show_the_keys,
+    law_flags_the_server, law_listed_was_heard, law_marks_what_transmits, law_no_flag_is_heard,
+    law_room, law_turns_count, law_uses_show_the_keys,
 };
 pub use reaction::Reaction;
 pub use station::{Station, mi_of};

@@ -13,6 +13,9 @@ const FIRST_FRAME: &str =
 const SECOND_FRAME: &str =
     "frame 2 A mka 0180c200000302000000000a888e030500340110602002000000000a0001000000000000000000000001000000020080c2010102030418eead0904ae88a740746d927d5f7e1c\n";
 
+/// A station that never serves.
+const NEVER: &str = "station C 02000000000c0001 255\n";
+
 /// One station says hello at its first tick, and again at its 21st.
 #[test]
 fn says_hello(rt: HostRuntime) -> Result<(), Fail> {
@@ -32,8 +35,63 @@ fn says_hello(rt: HostRuntime) -> Result<(), Fail> {
     Ok(())
 }
 
+/// The lives of three stations, of which the third never serves.
+const LIVES: &str = "\
+life A 000000000000000000000001
+life B 000000000000000000000002
+life C 000000000000000000000003
+";
+
+/// Their first hellos, with check values of another implementation of AES-CMAC.
+const HELLOS: &str = "\
+tick A 1 next 0
+frame 1 A mka 0180c200000302000000000a888e030500340110602002000000000a0001000000000000000000000001000000010080c201010203046afea33c197d668f2ef5cc6f5a3cbae8
+tick B 1 next 0
+frame 2 B mka 0180c200000302000000000b888e030500340120602002000000000b0001000000000000000000000002000000010080c20101020304e3eefe3402c8f771ac2cb3d6b857ce2d
+tick C 1 next 0
+frame 3 C mka 0180c200000302000000000c888e0305003401ff602002000000000c0001000000000000000000000003000000010080c20101020304efd2d51430c4d989ad507da8098870d3
+";
+
+/// The same where a station says that it serves while it has elected nobody.
+const EARLY_HELLOS: &str = "\
+tick A 1 next 0
+frame 1 A mka 0180c200000302000000000a888e030500340110e02002000000000a0001000000000000000000000001000000010080c20101020304ddb306276c68c42a0ab85507a0bef7b6
+tick B 1 next 0
+frame 2 B mka 0180c200000302000000000b888e030500340120e02002000000000b0001000000000000000000000002000000010080c2010102030441922ce4abbb06643fe34a429e6a3d8a
+tick C 1 next 0
+frame 3 C mka 0180c200000302000000000c888e0305003401ff602002000000000c0001000000000000000000000003000000010080c20101020304efd2d51430c4d989ad507da8098870d3
+";
+
+/// Only where the line `flag 1` stands does a station say in its first hello that it serves, and
+/// not one that never serves.
+#[test]
+fn says_early_that_it_serves(rt: HostRuntime) -> Result<(), Fail> {
+    let alloc = rt.alloc();
+    let cases = [
+        ("", HELLOS),
+        ("flag 0\n", HELLOS),
+        ("flag 1\n", EARLY_HELLOS),
+    ];
+    for (flag, hellos) in cases {
+        let left = run(alloc, &[flag, GROUP, FIRST, SECOND, NEVER, "tick 1\n"])?;
+        assert_eq!(rt; left.status, Status::Done);
+        assert_eq!(rt;
+            left.held.as_slice(),
+            joined(alloc, &[LIVES, hellos])?.as_slice(),
+            "{flag}"
+        );
+    }
+    Ok(())
+}
+
 /// The first key, and what comes of it.
-const AGREED: [Case; 3] = [
+const AGREED: [Case; 4] = [
+    Case {
+        name: "two stations agree on a key, and said from the first that they serve",
+        trace: &["flag 1\n", GROUP, FIRST, SECOND, SIX_ROUNDS],
+        status: Status::Done,
+        shown: Shown::All(&[FIRST_KEY_SHOWN]),
+    },
     Case {
         name: "two stations agree on a key",
         trace: &FIRST_KEY,

@@ -77,12 +77,21 @@ group 000000000000000000000000000000000000000000000000 01020304
 ];
 
 /// Lines that are refused where they stand.
-const MISPLACED: [Case; 5] = [
+const MISPLACED: [Case; 6] = [
     Case {
         name: "a line at the wrong place",
         trace: &[FIRST],
         status: Status::Halted(Cause::Trace {
             line: 1,
+            kind: Kind::Order,
+        }),
+        shown: Shown::All(&[]),
+    },
+    Case {
+        name: "a setting twice",
+        trace: &["flag 1\n", "flag 1\n"],
+        status: Status::Halted(Cause::Trace {
+            line: 2,
             kind: Kind::Order,
         }),
         shown: Shown::All(&[]),

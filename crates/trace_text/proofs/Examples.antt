@@ -1,10 +1,10 @@
 -- Definitions at worked lines.
-use Rattle.std.proofs.Common.{◌≡◌, ◌≤◌, [], ◌∷◌, length, replicate, refl, sym, subst, arith}
+use Rattle.std.proofs.Common.{◌≡◌, ◌≤◌, true, false, [], ◌∷◌, length, replicate, refl, sym, subst, arith}
 use Rattle.std.specs.Prelude.{codes, Ok, Err, Some, None}
 use Rattle.std.specs.Fmt.{digits}
 use Rattle.hex.proofs.OnLiterals.{hex_on_literals}
 use Rattle.trace_text.specs.declared.fault.TextFault.TheVariants.{TooLong, Word, Count, Hex, Range}
-use Rattle.trace_text.specs.declared.line.Line.TheVariants.{DrawsCount, DrawsList, Station, Tick, TickOne, Feed}
+use Rattle.trace_text.specs.declared.line.Line.TheVariants.{DrawsCount, DrawsList, Flag, Station, Tick, TickOne, Feed}
 use Rattle.trace_text.specs.Words.{words_of}
 use Rattle.trace_text.specs.Keywords.{keyword_of}
 use Rattle.trace_text.specs.Reading.{line_in}
@@ -67,6 +67,18 @@ draws_of_none = refl
 other_suite : line_in (codes "suite 192") ≡ Err Range
 unfolding line_in keyword_of
 other_suite = refl
+
+flag_set : line_in (codes "flag 01") ≡ Ok (Some (Flag true))
+unfolding line_in keyword_of
+flag_set = refl
+
+flag_unset : line_in (codes "flag 0") ≡ Ok (Some (Flag false))
+unfolding line_in keyword_of
+flag_unset = refl
+
+no_flag : line_in (codes "flag 2") ≡ Err Range
+unfolding line_in keyword_of
+no_flag = refl
 
 -- the second frame is not below the first
 feeds : line_in (codes "feed 10 10 B") ≡ Ok (Some (Feed 10 10 (codes "B")))

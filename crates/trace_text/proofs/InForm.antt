@@ -1,6 +1,6 @@
 -- Each word of a line that is read is inside its form.
-use Rattle.std.proofs.Common.{◌≡◌, ℕ, ◌<◌, ◌≤◌, Bool, true, false, List, [], ◌∷◌, length, refl, sym, ap, ◌∙◌, subst, inl, inr, arith}
-use Rattle.std.specs.Prelude.{Option, Some, None, Result, Ok, Err, IfOk, IfSome, if◌then◌else◌, ◌&&◌, ◌⊎◌, nat_lt, codes, map}
+use Rattle.std.proofs.Common.{◌≡◌, ℕ, ◌<◌, ◌≤◌, ◌==◌, Bool, true, false, List, [], ◌∷◌, length, refl, sym, ap, ◌∙◌, subst, inl, inr, arith}
+use Rattle.std.specs.Prelude.{Option, Some, None, Result, Ok, Err, IfOk, IfSome, cond, if◌then◌else◌, ◌&&◌, ◌⊎◌, nat_lt, codes, map}
 use Rattle.std.specs.Result.{result_ok, result_map_both}
 use Rattle.std.specs.Option.{ok_or}
 use Rattle.std.specs.Str.Parse.{digits_value}
@@ -171,6 +171,10 @@ draws_of_fit : (words : List (List ℕ)) (line : Line) → draws_of words ≡ Ok
 draws_of_fit [] line e = absurd cc
 draws_of_fit (second ∷ words) line e = second_fits (is_word second (codes "count")) (is_word second (codes "chacha")) (is_word second (codes "list")) words line e
 
+bit_fits : (b : Bool) → IsFit (number 0 1) (cond b 1 0)
+bit_fits true = (omega arith, omega arith)
+bit_fits false = (omega arith, omega arith)
+
 forms_fit : (k : Keyword) → FormsFit (forms_of k)
 forms_fit keys.Draws = tt
 forms_fit keys.Conf = (from_row (λ a af. record { fits = (af, tt); listed = tt }), tt)
@@ -178,6 +182,7 @@ forms_fit keys.Window = (from_row (λ a af. record { fits = (af, tt); listed = t
 forms_fit keys.Rekey = (from_row (λ a af. record { fits = (af, tt); listed = tt }), tt)
 forms_fit keys.Lag = (from_row (λ a af. record { fits = (af, tt); listed = tt }), tt)
 forms_fit keys.Suite = (from_row (λ a af. record { fits = (af, tt); listed = tt }), tt)
+forms_fit keys.Flag = (from_row (λ a af. record { fits = (bit_fits (a == 1), tt); listed = tt }), tt)
 forms_fit keys.Group = (from_row (λ a af b bf. record { fits = (af, (bf, tt)); listed = tt }), tt)
 forms_fit keys.Station = (from_row (λ a af b bf d df. record { fits = (af, (bf, (df, tt))); listed = tt }), tt)
 forms_fit keys.Tick = (from_row (λ a af. record { fits = (af, tt); listed = tt }), (from_row (λ a af b bf. record { fits = (af, (bf, tt)); listed = tt }), tt))
@@ -203,6 +208,7 @@ behind_fits keys.Window words line e = count_fits (forms_of keys.Window) words l
 behind_fits keys.Rekey words line e = count_fits (forms_of keys.Rekey) words line (forms_fit keys.Rekey) e
 behind_fits keys.Lag words line e = count_fits (forms_of keys.Lag) words line (forms_fit keys.Lag) e
 behind_fits keys.Suite words line e = count_fits (forms_of keys.Suite) words line (forms_fit keys.Suite) e
+behind_fits keys.Flag words line e = count_fits (forms_of keys.Flag) words line (forms_fit keys.Flag) e
 behind_fits keys.Group words line e = count_fits (forms_of keys.Group) words line (forms_fit keys.Group) e
 behind_fits keys.Station words line e = count_fits (forms_of keys.Station) words line (forms_fit keys.Station) e
 behind_fits keys.Tick words line e = count_fits (forms_of keys.Tick) words line (forms_fit keys.Tick) e

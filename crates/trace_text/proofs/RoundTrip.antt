@@ -7,7 +7,7 @@ use Rattle.std.proofs.lemmas.Bool.Decides.{nat_tests}
 use Rattle.trace_text.specs.declared.keyword.Keyword.{Keyword}
 use Rattle.trace_text.specs.declared.keyword.Keyword.TheVariants as keys
 use Rattle.trace_text.specs.declared.line.Line.{Line}
-use Rattle.trace_text.specs.declared.line.Line.TheVariants.{DrawsList, DrawsCount, DrawsChaCha, Conf, Window, Rekey, Lag, Suite, Group, Station, Tick, TickOne, Flow, Deliver, Spread, Lose, Cut, Mend, Restart, Send, Race, Burst, While, End, Inject, Feed}
+use Rattle.trace_text.specs.declared.line.Line.TheVariants.{DrawsList, DrawsCount, DrawsChaCha, Conf, Window, Rekey, Lag, Suite, Flag, Group, Station, Tick, TickOne, Flow, Deliver, Spread, Lose, Cut, Mend, Restart, Send, Race, Burst, While, End, Inject, Feed}
 use Rattle.trace_text.specs.Limits.{most_line}
 use Rattle.trace_text.specs.Words.{is_blank, words_of, spaced}
 use Rattle.trace_text.specs.Keywords.{keyword_of, spelling}
@@ -39,6 +39,7 @@ plain (Window a) = (omega arith, tt)
 plain (Rekey a) = (omega arith, tt)
 plain (Lag a) = (omega arith, tt)
 plain (Suite a) = (tt, tt)
+plain (Flag a) = (omega arith, tt)
 plain (Group a b) = (tt, (omega arith, tt))
 plain (Station a b d) = (tt, (omega arith, (omega arith, tt)))
 plain (Tick a) = (omega arith, tt)
@@ -75,6 +76,7 @@ named keys.Window = refl
 named keys.Rekey = refl
 named keys.Lag = refl
 named keys.Suite = refl
+named keys.Flag = refl
 named keys.Group = refl
 named keys.Station = refl
 named keys.Tick = refl
@@ -151,6 +153,10 @@ written_is_read (Lag a) form short =
     single (Lag a) keys.Lag refl (omega arith) refl refl form short (rw (said_spelled lag a (omega arith) form.fits.0) refl)
 written_is_read (Suite a) form short =
     single (Suite a) keys.Suite refl (omega arith) refl refl form short (rw (said_spelled suite a tt form.fits.0) refl)
+written_is_read (Flag true) form short =
+    single (Flag true) keys.Flag refl (omega arith) refl refl form short (rw (said_spelled bit 1 (omega arith) form.fits.0) refl)
+written_is_read (Flag false) form short =
+    single (Flag false) keys.Flag refl (omega arith) refl refl form short (rw (said_spelled bit 0 (omega arith) form.fits.0) refl)
 written_is_read (Group a b) form short =
     single (Group a b) keys.Group refl (omega arith) refl refl form short (rw (said_spelled secret a tt form.fits.0, said_spelled key_name b (omega arith) form.fits.1.0) refl)
 written_is_read (Station a b d) form short =

@@ -6,7 +6,7 @@ use Rattle.trace_text.specs.declared.keyword.Keyword.{Keyword}
 use Rattle.trace_text.specs.declared.keyword.Keyword.TheVariants as keys
 use Rattle.trace_text.specs.Kinds.{Kind, Said, name, secret, exactly, suite, bit, window, rekey, lag, key_name, priority, ticks, frame, frame_from, workers, burst, address, body, injected}
 use Rattle.trace_text.specs.declared.line.Line.{Line}
-use Rattle.trace_text.specs.declared.line.Line.TheVariants.{DrawsCount, DrawsChaCha, DrawsList, Conf, Window, Rekey, Lag, Suite, Group, Station, Tick, TickOne, Flow, Deliver, Spread, Lose, Cut, Mend, Restart, Send, Race, Burst, While, End, Inject, Feed}
+use Rattle.trace_text.specs.declared.line.Line.TheVariants.{DrawsCount, DrawsChaCha, DrawsList, Conf, Window, Rekey, Lag, Suite, Flag, Group, Station, Tick, TickOne, Flow, Deliver, Spread, Lose, Cut, Mend, Restart, Send, Race, Burst, While, End, Inject, Feed}
 
 infixr 5 ◌⇒◌
 -- the words that follow, from the left: none more, and the line that is made; one word, and what
@@ -52,6 +52,7 @@ forms_of keys.Window = only 1 (window ⇒ λ w. makes (Window w))
 forms_of keys.Rekey = only 1 (rekey ⇒ λ r. makes (Rekey r))
 forms_of keys.Lag = only 1 (lag ⇒ λ l. makes (Lag l))
 forms_of keys.Suite = only 1 (suite ⇒ λ s. makes (Suite s))
+forms_of keys.Flag = only 1 (bit ⇒ λ f. makes (Flag (f == 1)))
 forms_of keys.Group = only 2 (secret ⇒ λ cak. key_name ⇒ λ ckn. makes (Group cak ckn))
 forms_of keys.Station =
     only 3

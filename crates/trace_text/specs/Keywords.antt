@@ -2,7 +2,7 @@
 use Rattle.std.specs.Prelude.{ℕ, List, [], ◌∷◌, Option, codes}
 use Rattle.std.specs.List.{find}
 use Rattle.trace_text.specs.declared.keyword.Keyword.{Keyword}
-use Rattle.trace_text.specs.declared.keyword.Keyword.TheVariants.{Draws, Conf, Window, Rekey, Lag, Suite, Group, Station, Tick, Flow, Deliver, Spread, Lose, Cut, Mend, Restart, Send, Race, Burst, While, End, Inject, Feed}
+use Rattle.trace_text.specs.declared.keyword.Keyword.TheVariants.{Draws, Conf, Window, Rekey, Lag, Suite, Flag, Group, Station, Tick, Flow, Deliver, Spread, Lose, Cut, Mend, Restart, Send, Race, Burst, While, End, Inject, Feed}
 use Rattle.trace_text.specs.Words.{is_word}
 
 -- how a keyword is spelled
@@ -13,6 +13,7 @@ spelling Window = codes "window"
 spelling Rekey = codes "rekey"
 spelling Lag = codes "lag"
 spelling Suite = codes "suite"
+spelling Flag = codes "flag"
 spelling Group = codes "group"
 spelling Station = codes "station"
 spelling Tick = codes "tick"
@@ -34,7 +35,7 @@ spelling Feed = codes "feed"
 -- all keywords
 abbrev pub keywords : List Keyword
 keywords =
-    Draws ∷ Conf ∷ Window ∷ Rekey ∷ Lag ∷ Suite ∷ Group ∷ Station ∷ Tick ∷ Flow ∷ Deliver
+    Draws ∷ Conf ∷ Window ∷ Rekey ∷ Lag ∷ Suite ∷ Flag ∷ Group ∷ Station ∷ Tick ∷ Flow ∷ Deliver
     ∷ Spread ∷ Lose ∷ Cut ∷ Mend ∷ Restart ∷ Send ∷ Race ∷ Burst ∷ While ∷ End ∷ Inject
     ∷ Feed ∷ []
 

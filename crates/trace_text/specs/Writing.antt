@@ -1,9 +1,9 @@
 -- How a line is written.
-use Rattle.std.specs.Prelude.{ℕ, ◌<◌, List, [], ◌∷◌, ◌++◌, length, map, codes}
+use Rattle.std.specs.Prelude.{ℕ, ◌<◌, if◌then◌else◌, List, [], ◌∷◌, ◌++◌, length, map, codes}
 use Rattle.trace_text.specs.Words.{spaced}
 use Rattle.trace_text.specs.Kinds.{Kind, Said, spelled, IsFit, name, secret, exactly, suite, bit, window, rekey, lag, key_name, priority, ticks, frame, frame_from, workers, burst, address, body, injected}
 use Rattle.trace_text.specs.declared.line.Line.{Line}
-use Rattle.trace_text.specs.declared.line.Line.TheVariants.{DrawsCount, DrawsChaCha, DrawsList, Conf, Window, Rekey, Lag, Suite, Group, Station, Tick, TickOne, Flow, Deliver, Spread, Lose, Cut, Mend, Restart, Send, Race, Burst, While, End, Inject, Feed}
+use Rattle.trace_text.specs.declared.line.Line.TheVariants.{DrawsCount, DrawsChaCha, DrawsList, Conf, Window, Rekey, Lag, Suite, Flag, Group, Station, Tick, TickOne, Flow, Deliver, Spread, Lose, Cut, Mend, Restart, Send, Race, Burst, While, End, Inject, Feed}
 
 -- a word of a kind, and what it says
 pub record Field : Type 0 where
@@ -24,6 +24,7 @@ first_words (Window w) = codes "window"
 first_words (Rekey r) = codes "rekey"
 first_words (Lag l) = codes "lag"
 first_words (Suite s) = codes "suite"
+first_words (Flag early) = codes "flag"
 first_words (Group cak ckn) = codes "group"
 first_words (Station n sci p) = codes "station"
 first_words (Tick rounds) = codes "tick"
@@ -53,6 +54,7 @@ fields (Window w) = window ∶ w ∷ []
 fields (Rekey r) = rekey ∶ r ∷ []
 fields (Lag l) = lag ∶ l ∷ []
 fields (Suite s) = suite ∶ s ∷ []
+fields (Flag early) = bit ∶ (if early then 1 else 0) ∷ []
 fields (Group cak ckn) = secret ∶ cak ∷ key_name ∶ ckn ∷ []
 fields (Station n sci p) = name ∶ n ∷ exactly 8 ∶ sci.0 ∷ priority ∶ p ∷ []
 fields (Tick rounds) = ticks ∶ rounds ∷ []

@@ -39,6 +39,7 @@ fn read_behind(alloc: Global, keyword: Keyword, rest: &[u8]) -> Result<Line, Lin
         Keyword::Rekey => Ok(rekey(rest)?),
         Keyword::Lag => Ok(lag(rest)?),
         Keyword::Suite => Ok(suite(rest)?),
+        Keyword::Flag => Ok(flag(rest)?),
         Keyword::Group => group(alloc, rest),
         Keyword::Station => Ok(station(rest)?),
         Keyword::Tick => Ok(tick(rest)?),
@@ -144,6 +145,14 @@ fn suite(rest: &[u8]) -> Result<Line, TextFault>
 {
     let suite = read_suite(one_word(rest)?)?;
     Ok(Line::Suite { suite })
+}
+
+/// `flag F`.
+fn flag(rest: &[u8]) -> Result<Line, TextFault>
+    ensures { result ≡ line_by Keyword.Flag (words_of rest.now) }
+{
+    let flag = read_number(one_word(rest)?, 0, 1)?;
+    Ok(Line::Flag { early: flag == 1 })
 }
 
 /// `group CAK CKN`.

@@ -12,6 +12,7 @@ pub enum Keyword {
     Rekey,
     Lag,
     Suite,
+    Flag,
     Group,
     Station,
     Tick,
@@ -32,13 +33,14 @@ pub enum Keyword {
 }
 
 /// All of them.
-const ALL: [Keyword; 23] = [
+const ALL: [Keyword; 24] = [
     Keyword::Draws,
     Keyword::Conf,
     Keyword::Window,
     Keyword::Rekey,
     Keyword::Lag,
     Keyword::Suite,
+    Keyword::Flag,
     Keyword::Group,
     Keyword::Station,
     Keyword::Tick,
@@ -82,6 +84,7 @@ impl Keyword {
             Keyword::Rekey => b"rekey",
             Keyword::Lag => b"lag",
             Keyword::Suite => b"suite",
+            Keyword::Flag => b"flag",
             Keyword::Group => b"group",
             Keyword::Station => b"station",
             Keyword::Tick => b"tick",

@@ -36,6 +36,10 @@ pub enum Line {
     Suite {
         suite: Suite,
     },
+    /// `flag F`: whether a station has the key server flag also while it has elected nobody, 0 or 1.
+    Flag {
+        early: bool,
+    },
     /// `group CAK CKN`: a key of 16 or 32 octets, and its name of 1 to 32 octets.
     Group {
         cak: Octets,

@@ -49,6 +49,7 @@ fn first_words(line: &Line) -> &'static [u8]
         Line::Rekey { .. } => b"rekey",
         Line::Lag { .. } => b"lag",
         Line::Suite { .. } => b"suite",
+        Line::Flag { .. } => b"flag",
         Line::Group { .. } => b"group",
         Line::Station { .. } => b"station",
         Line::Tick { .. } | Line::TickOne { .. } => b"tick",
@@ -84,6 +85,7 @@ fn put_fields(line: &Line, into: &mut Vec<u8>) -> Result<(), AllocError>
         Line::Rekey { rekey } => put_words(into, &[number(*rekey)]),
         Line::Lag { lag } => put_words(into, &[number(*lag)]),
         Line::Suite { suite } => put_words(into, &[number(suite.key_bits())]),
+        Line::Flag { early } => put_words(into, &[number(u32::from(*early))]),
         Line::Group { cak, ckn } => put_words(into, &[octets(cak), octets(ckn)]),
         Line::Station {
             name,

@@ -75,6 +75,7 @@ impl Lan {
             priority,
             rekey: self.settings.rekey,
             conf: self.settings.conf,
+            early_flag: self.settings.early_flag,
             group,
             suite: self.settings.suite,
         };

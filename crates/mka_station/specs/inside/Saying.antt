@@ -1,7 +1,8 @@
 -- What a station says, by what the code has.
-use Rattle.std.specs.Prelude.{ℕ, Bool, if◌then◌else◌, not, ◌&&◌, List, take, map, Option}
-use Rattle.std.specs.Prelude.{Some, None, option_and_then}
+use Rattle.std.specs.Prelude.{ℕ, ◌==◌, Bool, true, if◌then◌else◌, not, ◌&&◌, List, take, map, Option}
+use Rattle.std.specs.Prelude.{Some, None, is_none, option_and_then}
 use Rattle.std.specs.List.{list_all, list_any}
+use Rattle.lan_base.specs.declared.address.Mi.{Mi}
 use Rattle.lan_base.specs.declared.key_id.KeyId.{KeyId}
 use Rattle.mkpdu_codec.specs.declared.announcement.Announcement.{Announcement}
 use Rattle.mkpdu_codec.specs.declared.given.Given.{Given}
@@ -13,6 +14,8 @@ use Rattle.sak_exchange.specs.Held.{latest}
 use Rattle.sak_exchange.specs.Reports.{reports as is_reported}
 use Rattle.sak_exchange.specs.Making.{is_in_roster}
 use Rattle.mka_station.specs.declared.saying.Lowest.{Lowest}
+use Rattle.server_election.specs.Election.{never_serves}
+use Rattle.mka_station.specs.Lives.{Setup}
 use Rattle.mka_station.specs.Views.{is_server}
 use Rattle.mka_station.specs.Announcing.{lowest_under, given_as}
 use Rattle.mka_station.specs.Standing.{State}
@@ -34,13 +37,19 @@ given_after kek is_serving told h =
     (λ k. if is_serving && is_given_to h told k.id then Some (given_as kek k k.sak) else None)
     (latest h)
 
+-- whether the key server flag is set, where this server is elected
+abbrev pub is_flagged_by : Setup → Option Mi → Mi → Bool
+is_flagged_by setup server mi =
+    if setup.early_flag && (is_none server && not (setup.priority == never_serves)) then true
+    else is_server server mi
+
 -- the announcement
 abbrev pub announced_by : State → ℕ → Option Uses → Option Given → Announcement
 announced_by s mn uses given =
     record {
       source = record { 0 = take 6 s.setup.sci.0 };
       priority = s.setup.priority;
-      server = is_server s.coming.server s.mi;
+      server = is_flagged_by s.setup s.coming.server s.mi;
       sci = s.setup.sci;
       mi = s.mi;
       mn = mn;

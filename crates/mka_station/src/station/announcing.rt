@@ -1,6 +1,6 @@
 //! What a station says of itself at a tick, and when.
 
-ghost use Rattle.std.specs.Prelude.{◌≡◌, ◌<◌, ◌+◌, ◌^◌, ◌&&◌, nat_lt, List, ℕ, true, false, Some, None, IfOk, OnOk, IfSome, option_map, cond};
+ghost use Rattle.std.specs.Prelude.{◌≡◌, ◌==◌, ◌<◌, ◌+◌, ◌^◌, ◌&&◌, not, nat_lt, List, ℕ, true, false, Some, None, IfOk, OnOk, IfSome, option_map, cond};
 ghost use Rattle.lan_base.specs.declared.address.Mi.{Mi};
 ghost use Rattle.mkpdu_codec.specs.Written.{IsWritable, IsWritableGiven};
 ghost use Rattle.peer_lists.specs.Acceptance.{Own};
@@ -8,20 +8,22 @@ ghost use Rattle.peer_lists.specs.Histories.{Peering, last_sent, may_send};
 ghost use Rattle.peer_lists.specs.Table.{StandsFor as PeersStandFor};
 ghost use Rattle.sak_exchange.specs.Histories.{Keying};
 ghost use Rattle.sak_exchange.specs.Standing.{StandsFor as KeysStandFor};
+ghost use Rattle.server_election.specs.Election.{never_serves};
 ghost use Rattle.mka_station.specs.Views.{is_server};
 ghost use Rattle.mka_station.specs.Announcing.{frame_of, uses_of};
 ghost use Rattle.mka_station.specs.inside.Due.{is_due_after};
-ghost use Rattle.mka_station.specs.inside.Saying.{announced_by, given_after, lowest_by};
+ghost use Rattle.mka_station.specs.inside.Saying.{announced_by, given_after, is_flagged_by, lowest_by};
 ghost use Rattle.mka_station.specs.inside.Turns.{said_by, peers_with, spoken_after};
 
 use super::Station;
-use crate::rows::{is_server, live_peers, potential_peers};
+use crate::rows::{live_peers, potential_peers};
 use crate::saying::{Lowest, frame, given, uses};
 use crate::shown::{Shown, Spoken};
 use lan_base::Octets;
 use mkpdu_codec::{Announcement, Given, Uses};
 use peer_lists::PeerTable;
 use sak_exchange::{KeyState, Report};
+use server_election::NEVER;
 use std::alloc::AllocError;
 
 impl Station {
@@ -92,7 +94,7 @@ impl Station {
         Ok(Announcement {
             source: self.config.sci.source(),
             priority: self.config.priority,
-            server: is_server(self.coming.server, &self.mi),
+            server: self.is_flagged(),
             sci: self.config.sci,
             mi: self.mi,
             mn,
@@ -102,6 +104,24 @@ impl Station {
             uses,
             given,
         })
+    }
+
+    /// Whether the key server flag is set at the next tick.
+    fn is_flagged(&self) -> bool
+        ensures { result ≡ is_flagged_by self.now.setup self.now.coming.server self.now.mi }
+    {
+        if self.config.early_flag && self.coming.server.is_none() && self.may_serve() {
+            true
+        } else {
+            self.serves()
+        }
+    }
+
+    /// Whether the station's priority allows it to serve.
+    fn may_serve(&self) -> bool
+        ensures { result ≡ not (self.now.setup.priority == never_serves) }
+    {
+        self.config.priority != NEVER
     }
 
     /// A tick passes at which this is shown, and is announced or not.
