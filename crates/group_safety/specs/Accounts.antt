@@ -1,5 +1,5 @@
 -- What a run tells of the transmit associations of a station, and what an event adds to it.
-use Rattle.std.specs.Prelude.{◌≡◌, ℕ, ◌+◌, ◌==◌, if◌then◌else◌, nat_lt}
+use Rattle.std.specs.Prelude.{◌≡◌, ℕ, ◌+◌, ◌==◌, ◌&&◌, if◌then◌else◌, nat_lt, max}
 use Rattle.std.specs.Prelude.{List, [], ◌∷◌}
 use Rattle.lan_core.specs.declared.event.Event.{Event}
 use Rattle.lan_core.specs.declared.event.Event.TheVariants as events
@@ -78,6 +78,29 @@ abbrev pub ahead : ℕ → Event → Account → Account
 ahead s (events.Tick station n) a = if station == s then looked a else a
 ahead s (events.Claim station user pn) a = if station == s then claiming a else a
 ahead s _ a = a
+
+-- ---- the same, where a number that is shown or claimed may be any
+
+-- a number was shown: under the key that transmits, if one does, no next number is below it
+abbrev pub showing : ℕ → Account → Account
+showing n a = record a {
+  nexts = λ e. if (now a.carried).present && (e == (now a.carried).epoch)
+      then max n (a.nexts e) else a.nexts e;
+  shows = if nat_lt 0 n then n ∷ a.shows else a.shows;
+}
+
+-- a number was claimed, if a key transmits and the number isn't 0
+abbrev pub gaining : ℕ → Account → Account
+gaining n a = if (now a.carried).present && nat_lt 0 n then record a {
+  nexts = λ e. if e == (now a.carried).epoch then max (n + 1) (a.nexts e) else a.nexts e;
+  claims = ((now a.carried).epoch, n) ∷ a.claims;
+} else a
+
+-- what an event adds to the account of a station, whatever number it shows or claims
+abbrev pub onward : ℕ → Event → Account → Account
+onward s (events.Tick station n) a = if station == s then showing n a else a
+onward s (events.Claim station user pn) a = if station == s then gaining pn a else a
+onward s _ a = a
 
 -- an event shows and claims the next packet number, and no other
 abbrev pub IsExact : Settings → Run → Event → Type 0

@@ -17,7 +17,8 @@ ghost use Rattle.lan_core.specs.Keys.{held_at};
 ghost use Rattle.lan_core.specs.Legal.{IsStep, IsStepped};
 ghost use Rattle.lan_core.specs.Standing.{State, StandsFor};
 ghost use Rattle.group_safety.specs.Transmitting.{Carried, nothing, follow, CarriesAt};
-ghost use Rattle.group_safety.specs.Accounts.{blank, next_now, account_at, ahead, IsExact, claims_of};
+ghost use Rattle.group_safety.specs.Accounts.{blank, next_now, account_at, ahead, onward, IsExact};
+ghost use Rattle.group_safety.specs.Accounts.{claims_of};
 
 /// What is carried at a station follows the facts of one event more: none of them is refused, and
 /// what results is what transmits after the event.
@@ -46,6 +47,15 @@ pub fn law_an_account_goes_on()
         → (s : ℕ) (k j : Carried) → CarriesAt settings s r k
         → account_at settings s (x ∷ r) j
         ≡ record (ahead s x.event (account_at settings s r k)) { carried = j } }
+{}
+
+/// So it is where an event shows or claims any number: what the run told before, onward by the
+/// event, with what its facts moved.
+pub fn law_an_account_goes_onward()
+    ensures { (settings : Settings) (users : List UserFrame) (x : Happening) (r : Run)
+        → IsStep settings users x r → (s : ℕ) (k j : Carried) → CarriesAt settings s r k
+        → account_at settings s (x ∷ r) j
+        ≡ record (onward s x.event (account_at settings s r k)) { carried = j } }
 {}
 
 /// The next number of an account is the next one of the run under the key that transmits.

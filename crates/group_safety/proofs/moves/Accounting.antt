@@ -1,5 +1,5 @@
 -- The account of a station after an event is the one before it, a step ahead.
-use Rattle.std.proofs.Common.{◌≡◌, ℕ, ◌+◌, ◌≤◌, true, false, cond, List, [], ◌∷◌, ◌++◌, map, max}
+use Rattle.std.proofs.Common.{◌≡◌, ℕ, ◌+◌, ◌≤◌, Bool, true, false, ◌&&◌, cond, List, [], ◌∷◌, ◌++◌, map, max}
 use Rattle.std.proofs.Common.{Option, Some, None, refl, ap, sym, ◌∙◌, subst, arith}
 use Rattle.std.proofs.lemmas.Bool.{eqb-true, eq-eqb, ne_eqb, lt-ltb}
 use Rattle.std.specs.Prelude.{◌==◌, nat_lt, option_map, option_and_then, option_to_list}
@@ -20,6 +20,7 @@ use Rattle.lan_core.specs.declared.event.Event.TheVariants as events
 use Rattle.lan_core.specs.declared.fact.Fact.{Fact}
 use Rattle.lan_core.specs.declared.fact.Fact.TheVariants as facts
 use Rattle.lan_core.specs.declared.fact.Lack.{Lack}
+use Rattle.lan_core.specs.declared.fact.Lack.TheVariants.{NoKey}
 use Rattle.lan_core.specs.declared.settings.Settings.{Settings}
 use Rattle.lan_core.specs.Run.{Run, Happening, happened}
 use Rattle.lan_core.specs.Ledgers.{Claim, claims, claim_of, gather, next_frame}
@@ -29,7 +30,7 @@ use Rattle.lan_core.specs.Unstopped.{next_under}
 use Rattle.lan_core.specs.Expected.{change_fact, reaction_facts, reached_facts, claim_fact, lack}
 use Rattle.group_safety.specs.Transmitting.{Carried, sends, now, CarriesIn, CarriesAt}
 use Rattle.group_safety.specs.Accounts.{Account, next_now, looked, numbers_at, shows_at}
-use Rattle.group_safety.specs.Accounts.{account_at, ahead, IsExact}
+use Rattle.group_safety.specs.Accounts.{account_at, ahead, onward, IsExact}
 use Rattle.group_safety.proofs.once.Nexts.{mapped}
 use Rattle.group_safety.proofs.rollover.EventKinds.{Kind, IsReached}
 use Rattle.group_safety.proofs.rollover.EventKinds as kinds
@@ -278,6 +279,117 @@ module _ (settings : Settings) (t : ℕ) (r : Run) (k : Carried) (carries : Carr
   leaves users e f (kinds.emits w ev waits is) exact =
       let m = mapped (λ octets. facts.Framed (next_frame r) w.station true octets ∷ []) (frame_of_claim users r w) f is in
       subst (λ v. Leaves settings t r k v f) (sym ev) (quiet-leaves events.Emit f tt (subst AreOther m.2 tt))
+
+  -- ---- an event with any number
+
+  and-false : (b : Bool) → (b && false) ≡ false
+  and-false true = refl
+  and-false false = refl
+
+  record LeavesOn (e : Event) (f : List Fact) : Type 0 where
+    pub nexts : (n : ℕ) → next settings t n (happened e f ∷ r) ≡ (onward t e l).nexts n
+    pub numbers : numbers_at t (claims (happened e f ∷ r)) ≡ (onward t e l).claims
+    pub shows : shows_at t (happened e f ∷ r) ≡ (onward t e l).shows
+
+  quiet-on : (e : Event) (f : List Fact) → IsQuiet e → Leaves settings t r k e f → LeavesOn e f
+  quiet-on (events.Start name sci priority) f q is = record { nexts = is.nexts; numbers = is.numbers; shows = is.shows }
+  quiet-on (events.Tick s n) f q is = absurd q
+  quiet-on (events.Deliver frame s) f q is = record { nexts = is.nexts; numbers = is.numbers; shows = is.shows }
+  quiet-on (events.Restart s) f q is = record { nexts = is.nexts; numbers = is.numbers; shows = is.shows }
+  quiet-on (events.Claim s user pn) f q is = absurd q
+  quiet-on events.Emit f q is = record { nexts = is.nexts; numbers = is.numbers; shows = is.shows }
+  quiet-on (events.Inject s octets) f q is = record { nexts = is.nexts; numbers = is.numbers; shows = is.shows }
+
+  shown-on : (n m : ℕ) (o : Option Key) → transmitting_at settings t r ≡ o
+      → max (cond (is_epoch m o) n 0) (next settings t m r) ≡ cond ((now k).present && (m == (now k).epoch)) (max n (next settings t m r)) (next settings t m r)
+  shown-on n m None is = let absent = transmits-none is in rw absent (omega arith)
+  shown-on n m (Some key) is = let at = transmits-some key is in rw at (by_test (m == key.epoch)
+      (λ z. let back : (key.epoch == m) ≡ true = eq-eqb key.epoch m (sym (eqb-true m key.epoch z)) in rw (z, back) refl)
+      (λ z. let back : (key.epoch == m) ≡ false = ne_eqb key.epoch m (λ e. absurd (cc (sym z ∙ eq-eqb m key.epoch (sym e)))) in rw (z, back) (omega arith)))
+
+  tick-on : (s n : ℕ) (f : List Fact) → AreOther f → LeavesOn (events.Tick s n) f
+  tick-on s n f are = by_test (s == t)
+      (λ y. record {
+        nexts = λ m. next-is settings t m (happened (events.Tick s n) f) r ∙ rw y (shown-on n m (transmitting_at settings t r) refl);
+        numbers = still-numbers (events.Tick s n) f are ∙ rw y refl;
+        shows = rw y refl;
+      })
+      (λ y. record {
+        nexts = λ m. next-is settings t m (happened (events.Tick s n) f) r ∙ rw y (omega arith);
+        numbers = still-numbers (events.Tick s n) f are ∙ rw y refl;
+        shows = rw y refl;
+      })
+
+  -- a claim that got no number, as none was left to it, or as no key transmits
+  refused-on : (s user pn : ℕ) (why : Lack) → ((s == t) ≡ true → ((now k).present && nat_lt 0 pn) ≡ false) → LeavesOn (events.Claim s user pn) (facts.Unclaimed s why ∷ [])
+  refused-on s user pn why none = by_test (s == t)
+      (λ y. let no = none y in record {
+        nexts = λ m. still-next m (events.Claim s user pn) (facts.Unclaimed s why ∷ []) tt refl ∙ rw (y, no) refl;
+        numbers = still-numbers (events.Claim s user pn) (facts.Unclaimed s why ∷ []) tt ∙ rw (y, no) refl;
+        shows = rw (y, no) refl;
+      })
+      (λ y. record {
+        nexts = λ m. still-next m (events.Claim s user pn) (facts.Unclaimed s why ∷ []) tt refl ∙ rw y refl;
+        numbers = still-numbers (events.Claim s user pn) (facts.Unclaimed s why ∷ []) tt ∙ rw y refl;
+        shows = rw y refl;
+      })
+
+  claimed-on : (s user pn : ℕ) (key : Key) → transmitting_at settings s r ≡ Some key → nat_lt 0 pn ≡ true → LeavesOn (events.Claim s user pn) (facts.Claimed s key.an key.epoch pn ∷ [])
+  claimed-on s user pn key some more = by_test (s == t)
+      (λ y. let at = transmits-some key (subst (λ v. transmitting_at settings v r ≡ Some key) (eqb-true s t y) some) in record {
+        nexts = λ m. next-is settings t m (happened (events.Claim s user pn) (facts.Claimed s key.an key.epoch pn ∷ [])) r ∙ rw (y, at, more) (raised m);
+        numbers = ap (numbers_at t) (claims-are (happened (events.Claim s user pn) (facts.Claimed s key.an key.epoch pn ∷ [])) r) ∙ rw (y, at, more) refl;
+        shows = rw (y, at, more) refl;
+      })
+      (λ y. record {
+        nexts = λ m. next-is settings t m (happened (events.Claim s user pn) (facts.Claimed s key.an key.epoch pn ∷ [])) r ∙ rw y (omega arith);
+        numbers = ap (numbers_at t) (claims-are (happened (events.Claim s user pn) (facts.Claimed s key.an key.epoch pn ∷ [])) r) ∙ rw y refl;
+        shows = rw y refl;
+      })
+    where
+      raised : (m : ℕ) → max (cond (key.epoch == m) (pn + 1) 0) (next settings t m r) ≡ cond (m == key.epoch) (max (pn + 1) (next settings t m r)) (next settings t m r)
+      raised m = by_test (m == key.epoch)
+          (λ z. let back : (key.epoch == m) ≡ true = eq-eqb key.epoch m (sym (eqb-true m key.epoch z)) in rw (z, back) refl)
+          (λ z. let back : (key.epoch == m) ≡ false = ne_eqb key.epoch m (λ e. absurd (cc (sym z ∙ eq-eqb m key.epoch (sym e)))) in rw (z, back) (omega arith))
+
+  claim-on : (s user pn : ℕ) → LeavesOn (events.Claim s user pn) (claim_fact settings s r pn (transmitting_at settings s r) ∷ [])
+  claim-on s user pn = by_test (pn == 0)
+      (λ z. let zero_is = eqb-true pn 0 z in
+      let f : claim_fact settings s r pn (transmitting_at settings s r) ≡ facts.Unclaimed s (lack settings s r (transmitting_at settings s r)) = rw z refl in
+      subst (λ (fact : Fact). LeavesOn (events.Claim s user pn) (fact ∷ [])) (sym f)
+      (refused-on s user pn (lack settings s r (transmitting_at settings s r)) (λ y. ap (λ (n : ℕ). (now k).present && nat_lt 0 n) zero_is ∙ and-false (now k).present)))
+      (λ z. let more : nat_lt 0 pn ≡ true = lt-ltb 0 pn (let ne : pn ≡ 0 → ⊥ = (λ e. absurd (cc (sym z ∙ eq-eqb pn 0 e))) in omega (arith, ne)) in
+      by_option (transmitting_at settings s r)
+      (λ none. let f : claim_fact settings s r pn (transmitting_at settings s r) ≡ facts.Unclaimed s NoKey = rw (z, none) refl in
+      subst (λ (fact : Fact). LeavesOn (events.Claim s user pn) (fact ∷ [])) (sym f)
+      (refused-on s user pn NoKey (λ y. ap (λ (b : Bool). b && nat_lt 0 pn) (transmits-none (subst (λ v. transmitting_at settings v r ≡ None) (eqb-true s t y) none)))))
+      (λ key some. let f : claim_fact settings s r pn (transmitting_at settings s r) ≡ facts.Claimed s key.an key.epoch pn = rw (z, some) refl in
+      subst (λ (fact : Fact). LeavesOn (events.Claim s user pn) (fact ∷ [])) (sym f) (claimed-on s user pn key some more)))
+
+  leaves-on : (users : List UserFrame) (e : Event) (f : List Fact) → Kind settings users r e f → LeavesOn e f
+  leaves-on users e f (kinds.starts name sci priority mi ev q) =
+      subst (λ v. LeavesOn v f) (sym ev) (quiet-on (events.Start name sci priority) f tt (quiet-leaves (events.Start name sci priority) f tt (subst AreOther (sym q) tt)))
+  leaves-on users e f (kinds.ticks s n m ev living q) =
+      subst (λ v. LeavesOn v f) (sym ev) (tick-on s n f (subst AreOther (sym q) (other-reaction s 0 (next_frame r) (turn_at_tick settings s r m n (sak_in f)).reaction)))
+  leaves-on users e f (kinds.reached s number octets m (kinds.delivered g there same ev) living q) =
+      subst (λ v. LeavesOn v f) (sym ev) (quiet-on (events.Deliver number s) f tt (quiet-leaves (events.Deliver number s) f tt (subst AreOther (sym q) (other-reached settings s r number octets m))))
+  leaves-on users e f (kinds.reached s number octets m (kinds.injected zero_is ev) living q) =
+      subst (λ v. LeavesOn v f) (sym ev) (quiet-on (events.Inject s octets) f tt (quiet-leaves (events.Inject s octets) f tt (subst AreOther (sym q) (other-reached settings s r number octets m))))
+  leaves-on users e f (kinds.restarts s mi m ev drawn living q) =
+      subst (λ v. LeavesOn v f) (sym ev) (quiet-on (events.Restart s) f tt (quiet-leaves (events.Restart s) f tt (subst AreOther (sym q) (other-reaction s 0 0 (ending m.member m.past)))))
+  leaves-on users e f (kinds.claims s user pn ev q) =
+      subst (λ v. LeavesOn v f) (sym ev) (subst (λ g. LeavesOn (events.Claim s user pn) g) (sym q) (claim-on s user pn))
+  leaves-on users e f (kinds.emits w ev waits is) =
+      let m = mapped (λ octets. facts.Framed (next_frame r) w.station true octets ∷ []) (frame_of_claim users r w) f is in
+      subst (λ v. LeavesOn v f) (sym ev) (quiet-on events.Emit f tt (quiet-leaves events.Emit f tt (subst AreOther m.2 tt)))
+
+-- the account of a run with an event more is the one before, onward by the event, with what its
+-- facts moved
+pub account-onward : (settings : Settings) (users : List UserFrame) (x : Happening) (r : Run) (t : ℕ) (k j : Carried) → Kind settings users r x.event x.facts → CarriesAt settings t r k
+    → account_at settings t (x ∷ r) j ≡ record (onward t x.event (account_at settings t r k)) { carried = j }
+account-onward settings users x r t k j kind carries =
+    let a = leaves-on settings t r k carries users x.event x.facts kind in
+    λ i. record { carried = j; nexts = λ n. a.nexts n i; claims = a.numbers i; shows = a.shows i }
 
 -- the account of a run with an event more is the one before, ahead of the event, with what its facts
 -- moved
