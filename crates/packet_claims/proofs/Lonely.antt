@@ -40,7 +40,7 @@ past : (c : ControlView) (an : AssociationNumber) (f : NextSeen) (rest : List Ne
 past c an f rest i = behind_cons_if (not (slot c an).shut && was_pointed an (slot c an).epoch c.points) (least_next c an) f rest i
 
 -- the current key was pointed at
-newest_pointed : (ps : List Current) → (newest ps).present ≡ true → was_pointed (newest ps).an (newest ps).epoch ps ≡ true
+pub newest_pointed : (ps : List Current) → (newest ps).present ≡ true → was_pointed (newest ps).an (newest ps).epoch ps ≡ true
 newest_pointed [] is = absurd (false≢true is)
 newest_pointed (p ∷ ps) is = left_of _ _ (and_from _ _ is (and_from _ _ (eq-eqb (number_of p.an) (number_of p.an) refl) (eq-eqb p.epoch p.epoch refl)))
   where
@@ -48,7 +48,7 @@ newest_pointed (p ∷ ps) is = left_of _ _ (and_from _ _ is (and_from _ _ (eq-eq
     left_of true b t = refl
     left_of false b t = absurd (false≢true t)
 
-given_at : (c : ControlView) (j : AssociationNumber) → (not (slot c j).shut && was_pointed j (slot c j).epoch c.points) ≡ true → In (least_next c j) (given_of c An0 (given_of c An1 (given_of c An2 (given_of c An3 []))))
+pub given_at : (c : ControlView) (j : AssociationNumber) → (not (slot c j).shut && was_pointed j (slot c j).epoch c.points) ≡ true → In (least_next c j) (given_of c An0 (given_of c An1 (given_of c An2 (given_of c An3 []))))
 given_at c An0 o = here c An0 (given_of c An1 (given_of c An2 (given_of c An3 []))) o
 given_at c An1 o = past c An0 (least_next c An1) (given_of c An1 (given_of c An2 (given_of c An3 []))) (here c An1 (given_of c An2 (given_of c An3 [])) o)
 given_at c An2 o = past c An0 (least_next c An2) (given_of c An1 (given_of c An2 (given_of c An3 []))) (past c An1 (least_next c An2) (given_of c An2 (given_of c An3 [])) (here c An2 (given_of c An3 []) o))

@@ -2,7 +2,7 @@
 use Rattle.std.proofs.Common.{◌≡◌, ◌≢◌, ℕ, zero, suc, ◌+◌, ◌<◌, ◌≤◌, Bool, true, false, not, ◌&&◌}
 use Rattle.std.proofs.Common.{List, [], ◌∷◌, ◌++◌, length, get_or, refl, sym, ap, ◌∙◌, subst, arith}
 use Rattle.std.proofs.Common.{length-set, get_or-set_other, get_or-set_same}
-use Rattle.std.proofs.lemmas.Bool.{and_from, eq-eqb, ltb-true, leb-true}
+use Rattle.std.proofs.lemmas.Bool.{and_from, eq-eqb, ltb-true, leb-true, le-leb}
 use Rattle.std.proofs.lemmas.List.{length-append}
 use Rattle.std.specs.Prelude.{nat_lt, nat_le}
 use Rattle.lan_base.specs.declared.association_number.AssociationNumber.{AssociationNumber}
@@ -31,7 +31,7 @@ names p an = names_it (sending_of p) an
 
 -- ---- what the current word names
 
-and-false : (b : Bool) → (b && false) ≡ false
+pub and-false : (b : Bool) → (b && false) ≡ false
 and-false true = refl
 and-false false = refl
 
@@ -67,11 +67,21 @@ same-number a b e = same-an-equal a b (eq-eqb (number_of a) (number_of b) e)
 
 -- ---- at the start
 
+pub none-out : AllIn (at_first 1 4096)
+none-out zero = refl
+none-out (suc zero) = refl
+none-out (suc (suc zero)) = refl
+none-out (suc (suc (suc zero))) = refl
+none-out (suc (suc (suc (suc zero)))) = refl
+none-out (suc (suc (suc (suc (suc zero))))) = refl
+none-out (suc (suc (suc (suc (suc (suc zero)))))) = refl
+none-out (suc (suc (suc (suc (suc (suc (suc zero))))))) = refl
+none-out (suc (suc (suc (suc (suc (suc (suc (suc i)))))))) = refl
+
 pub kept-first : IsKept (at_first 1 4096) (absent_after 0) 0
 kept-first = record {
   first = refl;
   limit = refl;
-  all_in = none_out;
   four = refl;
   shown = refl;
   given = refl;
@@ -80,17 +90,6 @@ kept-first = record {
   epoch = λ is. absurd (cc is);
 }
   where
-    none_out : AllIn (at_first 1 4096)
-    none_out zero = refl
-    none_out (suc zero) = refl
-    none_out (suc (suc zero)) = refl
-    none_out (suc (suc (suc zero))) = refl
-    none_out (suc (suc (suc (suc zero)))) = refl
-    none_out (suc (suc (suc (suc (suc zero))))) = refl
-    none_out (suc (suc (suc (suc (suc (suc zero)))))) = refl
-    none_out (suc (suc (suc (suc (suc (suc (suc zero))))))) = refl
-    none_out (suc (suc (suc (suc (suc (suc (suc (suc i)))))))) = refl
-
     blank : (an : AssociationNumber) → (slot (at_first 1 4096) an).shut ≡ not (names (absent_after 0) an)
     blank An0 = refl
     blank An1 = refl
@@ -104,10 +103,14 @@ free-first [] none = refl
 free-first (false ∷ bs) none = refl
 free-first (true ∷ bs) none = absurd (cc none)
 
-module _ (c : ControlView) (p : Current) (cards : ℕ) (k : IsKept c p cards) where
-  pub has-room : free_number c ≤ 8
-  has-room = let z = free-first c.out (k.all_in 0) in omega arith
+-- where no seat is out there is room for one
+pub has-room : (c : ControlView) → AllIn c → free_number c ≤ 8
+has-room c all_in = let z = free-first c.out (all_in 0) in omega arith
 
+pub no-room : (c : ControlView) → AllIn c → nat_le (free_number c) 8 ≡ false → ⊥
+no-room c all_in none = let room = has-room c all_in in absurd (cc (sym (le-leb (free_number c) 8 room) ∙ none))
+
+module _ (c : ControlView) (p : Current) (cards : ℕ) (k : IsKept c p cards) where
   pub carded : cards_given c ≡ cards
   carded = let z = k.given in omega arith
 
@@ -121,7 +124,6 @@ module _ (c : ControlView) (p : Current) (cards : ℕ) (k : IsKept c p cards) wh
   kept-card words five = record {
     first = k.first;
     limit = k.limit;
-    all_in = k.all_in;
     four = k.four;
     shown = k.shown;
     given = let z = k.given in let l = length-append c.card_words words in omega arith;
@@ -155,7 +157,6 @@ module _ (c : ControlView) (p : Current) (cards : ℕ) (k : IsKept c p cards) wh
     kept-begun-alone absent = record {
       first = k.first;
       limit = k.limit;
-      all_in = k.all_in;
       four = length-set c.slots (number_of an) opened ∙ k.four;
       shown = refl;
       given = k.given;
@@ -172,6 +173,12 @@ module _ (c : ControlView) (p : Current) (cards : ℕ) (k : IsKept c p cards) wh
     there : p.present ≡ true → slot d p.an ≡ slot c p.an
     there is = get_or-set_other c.slots (number_of an) (number_of p.an) opened blank_slot (λ e. apart is (same-number p.an an e))
 
+    pub seen-begun-alone : (slot d an).seen ≡ c.first
+    seen-begun-alone = ap (λ (s : SlotView). s.seen) here
+
+    pub seen-begun : p.present ≡ true → (n : ℕ) → (slot (closed d p.an n) an).seen ≡ c.first
+    seen-begun is n = ap (λ (s : SlotView). s.seen) (get_or-set_other d.slots (number_of p.an) (number_of an) (record { epoch = (slot d p.an).epoch; shut = true; seen = n }) blank_slot (λ e. apart is (sym (same-number an p.an e)))) ∙ seen-begun-alone
+
     -- the slot that transmitted can be shut
     pub may-shut : p.present ≡ true → (slot d p.an).shut ≡ false
     may-shut is = ap (λ (s : SlotView). s.shut) (there is) ∙ (open-now is).0
@@ -183,7 +190,6 @@ module _ (c : ControlView) (p : Current) (cards : ℕ) (k : IsKept c p cards) wh
     kept-begun is n = record {
       first = k.first;
       limit = k.limit;
-      all_in = k.all_in;
       four = length-set d.slots (number_of p.an) shut_one ∙ (length-set c.slots (number_of an) opened ∙ k.four);
       shown = refl;
       given = k.given;
@@ -211,7 +217,6 @@ module _ (c : ControlView) (p : Current) (cards : ℕ) (k : IsKept c p cards) wh
   kept-ended an n is = record {
     first = k.first;
     limit = k.limit;
-    all_in = k.all_in;
     four = length-set c.slots (number_of an) shut_one ∙ k.four;
     shown = ap (λ (q : Current). absent_after q.epoch) k.shown;
     given = k.given;
@@ -236,7 +241,6 @@ module _ (c : ControlView) (p : Current) (cards : ℕ) (k : IsKept c p cards) wh
   kept-looked n is = record {
     first = k.first;
     limit = k.limit;
-    all_in = k.all_in;
     four = length-set c.slots (number_of p.an) seen_one ∙ k.four;
     shown = k.shown;
     given = k.given;
@@ -251,18 +255,33 @@ module _ (c : ControlView) (p : Current) (cards : ℕ) (k : IsKept c p cards) wh
       long : number_of p.an < length c.slots
       long = let z = k.four in let few = number_of-few p.an in omega arith
 
+  pub seen-looked : (n : ℕ) → (slot (looked c p.an n) p.an).seen ≡ n
+  seen-looked n = ap (λ (s : SlotView). s.seen) (get_or-set_same c.slots (number_of p.an) (record { epoch = (slot c p.an).epoch; shut = (slot c p.an).shut; seen = n }) blank_slot
+      (let z = k.four in let few = number_of-few p.an in omega arith))
+
 pub five-words : (card : Card) → length (card_words card) ≡ 5
 five-words card = by card.sak where
   by : (s : Secret) → length (sak_words s ++ flags_of card ∷ []) ≡ 5
   by (S128 o) = refl
   by (S256 o) = refl
 
--- a seat was out and came back
-pub kept-told : (c : ControlView) (p : Current) (cards : ℕ) (v : SeatView) → IsKept c p cards → AllIn (told (seated c) v) → IsKept (told (seated c) v) p cards
-kept-told c p cards v k all_in = record {
+-- a seat goes out, and comes back
+pub kept-seated : (c : ControlView) (p : Current) (cards : ℕ) → IsKept c p cards → IsKept (seated c) p cards
+kept-seated c p cards k = record {
   first = k.first;
   limit = k.limit;
-  all_in = all_in;
+  four = k.four;
+  shown = k.shown;
+  given = k.given;
+  top_is = k.top_is;
+  slots = k.slots;
+  epoch = k.epoch;
+}
+
+pub kept-told : (c : ControlView) (p : Current) (cards : ℕ) (v : SeatView) → IsKept c p cards → IsKept (told c v) p cards
+kept-told c p cards v k = record {
+  first = k.first;
+  limit = k.limit;
   four = k.four;
   shown = k.shown;
   given = k.given;

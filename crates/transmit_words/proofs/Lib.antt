@@ -1,4 +1,5 @@
 pub mod Keeping
+pub mod KeepingUp
 pub mod Telling
 pub mod Showing
 pub mod Stations

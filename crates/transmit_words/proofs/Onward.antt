@@ -2,7 +2,7 @@
 use Rattle.std.proofs.Common.{◌≡◌, ◌⊎◌, inl, inr, ⊎_elim, ℕ, zero, suc, ◌+◌, List, [], ◌∷◌, ◌++◌, length}
 use Rattle.std.proofs.Common.{Some, refl, sym, ap, ◌∙◌, subst}
 use Rattle.std.proofs.lemmas.List.{length-append}
-use Rattle.std.specs.Prelude.{◌==◌, slice_get, Contains, is_some}
+use Rattle.std.specs.Prelude.{◌==◌, ◌&&◌, nat_lt, slice_get, Contains, is_some}
 use Rattle.lan_base.specs.declared.name.Name.{Name}
 use Rattle.lan_base.specs.declared.address.Sci.{Sci}
 use Rattle.lan_base.specs.declared.key_id.KeyId.{KeyId}
@@ -19,15 +19,19 @@ use Rattle.lan_core.specs.declared.settings.Settings.{Settings}
 use Rattle.lan_core.specs.Run.{Run, Happening, stations, started}
 use Rattle.lan_core.specs.Keys.{held_at}
 use Rattle.group_safety.specs.Transmitting.{Carried, nothing, now, follow, CarriesAt}
-use Rattle.group_safety.specs.Accounts.{Account, blank, account_at, ahead, claiming}
+use Rattle.group_safety.specs.Accounts.{Account, blank, account_at, ahead, onward, claiming, gaining}
 use Rattle.transmit_words.specs.Telling.{Tells}
-use Rattle.transmit_words.specs.Ties.{IsTied, AreTied, AreAhead, Followed}
+use Rattle.transmit_words.specs.Ties.{IsTied, AreTiedBy, AreTied, AreAheadBy, AreAhead}
+use Rattle.transmit_words.specs.Ties.{FollowsBy, Follows, Followed, HaveKeptUp}
 
 claiming-carried : (a : Account) → (claiming a).carried ≡ a.carried
 claiming-carried a = by_test (now a.carried).present (λ y. rw y refl) (λ y. rw y refl)
 
+gaining-carried : (n : ℕ) (a : Account) → (gaining n a).carried ≡ a.carried
+gaining-carried n a = by_test ((now a.carried).present && nat_lt 0 n) (λ y. rw y refl) (λ y. rw y refl)
+
 -- a step that is taken carries on what was carried
-ahead-carried : (s : ℕ) (e : Event) (a : Account) → (ahead s e a).carried ≡ a.carried
+pub ahead-carried : (s : ℕ) (e : Event) (a : Account) → (ahead s e a).carried ≡ a.carried
 ahead-carried s (events.Start name sci priority) a = refl
 ahead-carried s (events.Tick t n) a = by_test (t == s) (λ y. rw y refl) (λ y. rw y refl)
 ahead-carried s (events.Deliver frame t) a = refl
@@ -40,27 +44,42 @@ stations-more : (x : Happening) (r : Run) → stations (x ∷ r) ≡ stations r 
 unfolding stations
 stations-more x r = refl
 
--- words that tell an account tell an equal one
-tells-same : (a b : Account) (v : ControlView) → a ≡ b → Tells b v → Tells a v
-tells-same a b v same tells = subst (λ (w : Account). Tells w v) (sym same) tells
+pub onward-carried : (s : ℕ) (e : Event) (a : Account) → (onward s e a).carried ≡ a.carried
+onward-carried s (events.Start name sci priority) a = refl
+onward-carried s (events.Tick t n) a = by_test (t == s) (λ y. rw y refl) (λ y. rw y refl)
+onward-carried s (events.Deliver frame t) a = refl
+onward-carried s (events.Restart t) a = refl
+onward-carried s (events.Claim t user pn) a = by_test (t == s) (λ y. rw y (gaining-carried pn a)) (λ y. rw y refl)
+onward-carried s events.Emit a = refl
+onward-carried s (events.Inject t octets) a = refl
 
 -- by the laws of the run
-pub tied-on : (settings : Settings) (x : Happening) (r : Run) (cs ds : List ControlAt)
-    → ((s : ℕ) (k : Carried) → CarriesAt settings s r k → (j : Carried) × (follow s x.facts k ≡ Some j) × CarriesAt settings s (x ∷ r) j)
-    → ((s : ℕ) (id : KeyId) (an : AssociationNumber) (epoch : ℕ) (sak : Secret) → Contains x.facts (facts.Installed s id an epoch sak)
-    → (h : HeldKey) × (held_at settings s (x ∷ r) an ≡ Some h) × (h.key.epoch ≡ epoch) × (h.key.sak ≡ sak))
-    → ((s : ℕ) (k j : Carried) → CarriesAt settings s r k → account_at settings s (x ∷ r) j ≡ record (ahead s x.event (account_at settings s r k)) { carried = j })
-    → AreAhead settings r x.event cs → Followed settings (x ∷ r) x.facts cs ds → AreTied settings (x ∷ r) ds
-tied-on settings x r cs ds moves held on before followed =
-    let f = followed (λ s id an epoch sak has. ap is_some (held s id an epoch sak has).1) in record {
-      many = f.many ∙ (before.many ∙ ap length (sym (stations-more x r)));
-      each = λ s d there. let y = f.each s d there in
-          let a = before.each s y.0 y.1 in
-          let m = moves s a.0 a.1 in
-          let l : Account = ahead s x.event (account_at settings s r a.0) in
-          let at : l.carried ≡ a.0 = ahead-carried s x.event (account_at settings s r a.0) in
-          (m.0, m.2, tells-same (account_at settings s (x ∷ r) m.0) (record l { carried = m.0 }) d.view (on s a.0 m.0 a.1) (y.2 l m.0 a.2 (ap (λ (q : Carried). follow s x.facts q) at ∙ m.1)));
-    }
+module _ (Says : Account → ControlView → Type 0) (takes : ℕ → Event → Account → Account)
+    (carried-on : (s : ℕ) (e : Event) (a : Account) → (takes s e a).carried ≡ a.carried)
+    (settings : Settings) (x : Happening) (r : Run) (cs ds : List ControlAt)
+    (says : (s : ℕ) (c d : ControlAt) → Follows s x.facts c d → FollowsBy Says s x.facts c d) where
+  pub tied-by : ((s : ℕ) (k : Carried) → CarriesAt settings s r k → (j : Carried) × (follow s x.facts k ≡ Some j) × CarriesAt settings s (x ∷ r) j)
+      → ((s : ℕ) (id : KeyId) (an : AssociationNumber) (epoch : ℕ) (sak : Secret) → Contains x.facts (facts.Installed s id an epoch sak)
+      → (h : HeldKey) × (held_at settings s (x ∷ r) an ≡ Some h) × (h.key.epoch ≡ epoch) × (h.key.sak ≡ sak))
+      → ((s : ℕ) (k j : Carried) → CarriesAt settings s r k → account_at settings s (x ∷ r) j ≡ record (takes s x.event (account_at settings s r k)) { carried = j })
+      → AreAheadBy Says takes settings r x.event cs → Followed settings (x ∷ r) x.facts cs ds → AreTiedBy Says settings (x ∷ r) ds
+  tied-by moves held on before followed =
+      let f = followed (λ s id an epoch sak has. ap is_some (held s id an epoch sak has).1) in record {
+        many = f.many ∙ (before.many ∙ ap length (sym (stations-more x r)));
+        each = λ s d there. let y = f.each s d there in
+            let a = before.each s y.0 y.1 in
+            let m = moves s a.0 a.1 in
+            let l : Account = takes s x.event (account_at settings s r a.0) in
+            let at : l.carried ≡ a.0 = carried-on s x.event (account_at settings s r a.0) in
+            (m.0, m.2, subst (λ (w : Account). Says w d.view) (sym (on s a.0 m.0 a.1)) (says s y.0 d y.2 l m.0 a.2 (ap (λ (q : Carried). follow s x.facts q) at ∙ m.1)));
+      }
+
+-- words that tell a run keep up with it
+pub tied-up : (settings : Settings) (r : Run) (cs : List ControlAt) → AreTied settings r cs → HaveKeptUp settings r cs
+tied-up settings r cs tied = record {
+  many = tied.many;
+  each = λ s c there. let a = tied.each s c there in (a.0, a.1, a.2.keep_up);
+}
 
 -- one stands behind others
 at-last : (cs : List ControlAt) (c : ControlAt) (s : ℕ) (d : ControlAt) → slice_get (cs ++ c ∷ []) s ≡ Some d → (slice_get cs s ≡ Some d) ⊎ ((s ≡ length cs) × (c ≡ d))

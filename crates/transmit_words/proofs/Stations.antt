@@ -9,7 +9,11 @@ use Rattle.std.proofs.Math.Seq.{take-suc}
 use Rattle.std.specs.Prelude.{◌==◌, slice_get, is_some, option_map, option_and_then, Contains}
 use Rattle.atomic_table.specs.Seated.{TableId}
 use Rattle.lan_base.specs.declared.association_number.AssociationNumber.{AssociationNumber}
-use Rattle.association_slots.specs.Views.{ControlAt, present_at}
+use Rattle.association_slots.specs.Views.{ControlAt, SeatAt, AllIn, current, present_at, free_number, told_sum}
+use Rattle.association_slots.specs.Steps.{new_seat, seated, told}
+use Rattle.transmit_words.specs.Seats.{WasSeated, HasJoined, AreAllIn, HasGot}
+use Rattle.transmit_words.proofs.Keeping.{and-false}
+use Rattle.std.specs.Prelude.{IfSome, IfNone, max}
 use Rattle.association_slots.specs.declared.card.Card.{Card}
 use Rattle.association_slots.specs.declared.view.Current.{Current}
 use Rattle.packet_claims.specs.declared.answers.Claim.{Claim}
@@ -25,11 +29,12 @@ use Rattle.lan_core.specs.Lives.{transmitting_at}
 use Rattle.lan_core.specs.Unstopped.{next_under}
 use Rattle.lan_core.specs.Expected.{last_number}
 use Rattle.group_safety.specs.Transmitting.{Carried, now, moved, moves, follow, CarriesAt}
-use Rattle.group_safety.specs.Accounts.{Account, next_now, looked, with_claim, claiming, account_at}
+use Rattle.group_safety.specs.Accounts.{Account, next_now, looked, showing, gaining, with_claim, claiming, account_at, ahead, onward}
 use Rattle.group_safety.proofs.Public.{contains-in, in-contains, in-left, in-right, follow-append}
-use Rattle.transmit_words.specs.Telling.{Tells, IsClaimed, word_of}
-use Rattle.transmit_words.specs.Ties.{tables_of, IsTied, AreTied, IsAhead, AreAhead, AreHeld}
-use Rattle.transmit_words.specs.Ties.{Follows, Followed}
+use Rattle.association_slots.specs.declared.view.ControlView.{ControlView}
+use Rattle.transmit_words.specs.Telling.{KeepUp, Tells, IsClaimed, HasGained, of_seats, word_of}
+use Rattle.transmit_words.specs.Ties.{tables_of, IsTiedBy, IsTied, AreTied, IsAheadBy, AreAhead, AreHeld}
+use Rattle.transmit_words.specs.Ties.{HaveKeptUp, KeepAhead, FollowsBy, Follows, Followed}
 use Rattle.transmit_words.specs.inside.Cards.{HasCard, card_of_key, card_held}
 use Rattle.sak_exchange.specs.declared.held_key.HeldKey.{HeldKey}
 use Rattle.lan_core.specs.Keys.{held_at}
@@ -42,6 +47,13 @@ get-set (c ∷ cs) zero x (suc s) d e = inr ((λ z. absurd (omega (arith, z))), 
 get-set (c ∷ cs) (suc p) x zero d e = inr ((λ z. absurd (omega (arith, z))), e)
 get-set (c ∷ cs) (suc p) x (suc s) d e =
     ⊎_elim (λ (both : (s ≡ p) × (x ≡ d)). inl (ap suc both.0, both.1)) (λ (other : (s ≢ p) × (slice_get cs s ≡ Some d)). inr ((λ z. other.0 (omega (arith, z))), other.1)) (get-set cs p x s d e)
+
+-- what holds at each place, where one was set
+set-each : (P : ℕ → ControlAt → Type 0) (cs : List ControlAt) (s : ℕ) (d : ControlAt) → ((t : ℕ) (v : ControlAt) → t ≢ s → slice_get cs t ≡ Some v → P t v) → P s d → (t : ℕ) (v : ControlAt) → slice_get (set cs s d) t ≡ Some v → P t v
+set-each P cs s d others own t v there = ⊎_elim
+    (λ (both : (t ≡ s) × (d ≡ v)). subst (λ (u : ℕ). P u v) (sym both.0) (subst (P s) both.1 own))
+    (λ (other : (t ≢ s) × (slice_get cs t ≡ Some v)). others t v other.0 other.1)
+    (get-set cs s d t v there)
 
 -- the tables of the hands, of which one was moved
 pub table-at : (cs : List ControlAt) (tables : List TableId) (p : ℕ) (c : ControlAt) (t : TableId) → tables_of cs ≡ tables → slice_get cs p ≡ Some c → slice_get tables p ≡ Some t → c.table ≡ t
@@ -89,9 +101,9 @@ module _ (settings : Settings) (r : Run) (cs : List ControlAt) (s : ℕ) (c d : 
     record { many = length-set cs s d ∙ (tied.many ∙ none-more (stations r)); each = each },
   )
     where
-      each : (t : ℕ) (v : ControlAt) → slice_get (set cs s d) t ≡ Some v → IsAhead settings t r (events.Tick s n) v
+      each : (t : ℕ) (v : ControlAt) → slice_get (set cs s d) t ≡ Some v → IsAheadBy Tells ahead settings t r (events.Tick s n) v
       each t v there = ⊎_elim
-          (λ (both : (t ≡ s) × (d ≡ v)). subst (λ (u : ℕ). IsAhead settings u r (events.Tick s n) v) (sym both.0) (subst (λ (w : ControlAt). IsAhead settings s r (events.Tick s n) w) both.1
+          (λ (both : (t ≡ s) × (d ≡ v)). subst (λ (u : ℕ). IsAheadBy Tells ahead settings u r (events.Tick s n) v) (sym both.0) (subst (λ (w : ControlAt). IsAheadBy Tells ahead settings s r (events.Tick s n) w) both.1
           (tie.0, tie.1, subst (λ (b : Bool). Tells (cond b (looked l) l) d.view) (sym (eq-eqb s s refl)) (tells l tie.2))))
           (λ (other : (t ≢ s) × (slice_get cs t ≡ Some v)). let a = tied.each t v other.1 in
           (a.0, a.1, subst (λ (b : Bool). Tells (cond b (looked (account_at settings t r a.0)) (account_at settings t r a.0)) v.view) (sym (ne_eqb s t (λ e. other.0 (sym e)))) a.2))
@@ -118,13 +130,103 @@ module _ (settings : Settings) (r : Run) (cs : List ControlAt) (s : ℕ) (c d : 
         record { many = length-set cs s d ∙ (tied.many ∙ none-more (stations r)); each = each by.1 },
       )
     where
-      each : Tells (claiming l) d.view → (t : ℕ) (v : ControlAt) → slice_get (set cs s d) t ≡ Some v → IsAhead settings t r (events.Claim s user pn) v
+      each : Tells (claiming l) d.view → (t : ℕ) (v : ControlAt) → slice_get (set cs s d) t ≡ Some v → IsAheadBy Tells ahead settings t r (events.Claim s user pn) v
       each now_tells t v there = ⊎_elim
-          (λ (both : (t ≡ s) × (d ≡ v)). subst (λ (u : ℕ). IsAhead settings u r (events.Claim s user pn) v) (sym both.0) (subst (λ (w : ControlAt). IsAhead settings s r (events.Claim s user pn) w) both.1
+          (λ (both : (t ≡ s) × (d ≡ v)). subst (λ (u : ℕ). IsAheadBy Tells ahead settings u r (events.Claim s user pn) v) (sym both.0) (subst (λ (w : ControlAt). IsAheadBy Tells ahead settings s r (events.Claim s user pn) w) both.1
           (tie.0, tie.1, subst (λ (b : Bool). Tells (cond b (claiming l) l) d.view) (sym (eq-eqb s s refl)) now_tells)))
           (λ (other : (t ≢ s) × (slice_get cs t ≡ Some v)). let a = tied.each t v other.1 in
           (a.0, a.1, subst (λ (b : Bool). Tells (cond b (claiming (account_at settings t r a.0)) (account_at settings t r a.0)) v.view) (sym (ne_eqb s t (λ e. other.0 (sym e)))) a.2))
           (get-set cs s d t v there)
+
+-- ---- words that keep up
+
+module _ (settings : Settings) (r : Run) (cs : List ControlAt) (s : ℕ) (c d : ControlAt) (up : HaveKeptUp settings r cs) (at : slice_get cs s ≡ Some c) where
+  -- where the words of one station keep up after as before
+  pub up-same : ((m : Account) → KeepUp m c.view → KeepUp m d.view) → HaveKeptUp settings r (set cs s d)
+  up-same keeps = record {
+    many = length-set cs s d ∙ up.many;
+    each = set-each (λ t v. IsTiedBy KeepUp settings t r v) cs s d (λ t v ne there. up.each t v there) (let a = up.each s c at in (a.0, a.1, keeps _ a.2));
+  }
+
+  pub up-all : ((k : Carried) → CarriesAt settings s r k → next_now (account_at settings s r k) ≡ next_under settings s r (transmitting_at settings s r))
+      → (n : ℕ) → ((m : Account) → KeepUp m c.view → (next_now m ≤ n) × (next_now m ≡ 0 → n ≡ 0)) → ((m : Account) → KeepUp m c.view → KeepUp (showing n m) d.view)
+      → ((next_under settings s r (transmitting_at settings s r) ≤ n) × (next_under settings s r (transmitting_at settings s r) ≡ 0 → n ≡ 0)) × KeepAhead settings r (events.Tick s n) (set cs s d)
+  up-all told n below keeps = (
+    let a = up.each s c at in let z = told a.0 a.1 in let y = below _ a.2 in let low = y.0 in (omega (arith, z, low), λ none. y.1 (z ∙ none)),
+    record {
+      many = length-set cs s d ∙ (up.many ∙ none-more (stations r));
+      each = set-each (λ t v. IsAheadBy KeepUp onward settings t r (events.Tick s n) v) cs s d
+          (λ t v ne there. let a = up.each t v there in (a.0, a.1, subst (λ (b : Bool). KeepUp (cond b (showing n (account_at settings t r a.0)) (account_at settings t r a.0)) v.view) (sym (ne_eqb s t (λ e. ne (sym e)))) a.2))
+          (let a = up.each s c at in (a.0, a.1, subst (λ (b : Bool). KeepUp (cond b (showing n (account_at settings s r a.0)) (account_at settings s r a.0)) d.view) (sym (eq-eqb s s refl)) (keeps _ a.2)));
+    },
+  )
+
+-- ---- a claim after workers claimed beside
+
+gaining-none : (a : Account) → gaining 0 a ≡ a
+gaining-none a = ap (λ (b : Bool). cond b (record a { nexts = λ e. cond (e == (now a.carried).epoch) (max 1 (a.nexts e)) (a.nexts e); claims = ((now a.carried).epoch, 0) ∷ a.claims }) a) (and-false (now a.carried).present)
+
+module _ (settings : Settings) (r : Run) (cs : List ControlAt) (s : ℕ) (c d : ControlAt) (up : HaveKeptUp settings r cs) (at : slice_get cs s ≡ Some c)
+    (told : (k : Carried) → CarriesAt settings s r k → next_now (account_at settings s r k) ≡ next_under settings s r (transmitting_at settings s r)) where
+  abbrev m : Account
+  m = account_at settings s r (up.each s c at).0
+
+  same-next : next_now m ≡ next_under settings s r (transmitting_at settings s r)
+  same-next = told (up.each s c at).0 (up.each s c at).1
+
+  got-by : (answer : Result Claim NoClaim) → HasGained m c.view answer (λ b. KeepUp b d.view) → HasGot settings s r cs (number_of answer) × KeepUp (gaining (number_of answer) m) d.view
+  got-by (Ok x) is = (inl (let y = same-next in let z = is.1 in omega arith, is.2, is.3), is.5)
+  got-by (Err (NoKey after)) is = (
+    inr (refl, inl (sym same-next ∙ ap (λ (b : Bool). cond b (m.nexts (now m.carried).epoch) 0) is.0)),
+    subst (λ (b : Account). KeepUp b d.view) (sym (gaining-none m)) is.2,
+  )
+  got-by (Err (Exhausted epoch)) is = (
+    inr (refl, inr (c, at, subst (λ (e : ℕ). last_number < told_sum c.view (current c.view).an e) (sym (ap (λ (q : Current). q.epoch) is.0)) is.1)),
+    subst (λ (b : Account). KeepUp b d.view) (sym (gaining-none m)) is.2,
+  )
+
+  pub gain-all : (user pn : ℕ) (answer : Result Claim NoClaim) → pn ≡ number_of answer → HasGained m c.view answer (λ b. KeepUp b d.view)
+      → HasGot settings s r cs pn × KeepAhead settings r (events.Claim s user pn) (set cs s d)
+  gain-all user pn answer is gained = let by = got-by answer gained in
+      subst (λ (n : ℕ). HasGot settings s r cs n × KeepAhead settings r (events.Claim s user n) (set cs s d)) (sym is) (
+        by.0,
+        record {
+          many = length-set cs s d ∙ (up.many ∙ none-more (stations r));
+          each = set-each (λ t v. IsAheadBy KeepUp onward settings t r (events.Claim s user (number_of answer)) v) cs s d
+              (λ t v ne there. let a = up.each t v there in (a.0, a.1, subst (λ (b : Bool). KeepUp (cond b (gaining (number_of answer) (account_at settings t r a.0)) (account_at settings t r a.0)) v.view) (sym (ne_eqb s t (λ e. ne (sym e)))) a.2))
+              (let a = up.each s c at in (a.0, a.1, subst (λ (b : Bool). KeepUp (cond b (gaining (number_of answer) m) m) d.view) (sym (eq-eqb s s refl)) by.1));
+        },
+      )
+
+pub all-in-set : (cs : List ControlAt) (s : ℕ) (c d : ControlAt) → slice_get cs s ≡ Some c → (AllIn c.view → AllIn d.view) → AreAllIn cs → AreAllIn (set cs s d)
+all-in-set cs s c d at one all = set-each (λ t v. AllIn v.view) cs s d (λ t v ne there. all t v there) (one (all s c at))
+
+-- ---- seats
+
+some-map : {A : Type 0} (o : Option A) (P Q : A → Type 0) → ((x : A) → P x → Q x) → IfSome o P → IfSome o Q
+some-map None P Q f is = is
+some-map (Some x) P Q f is = f x is
+
+none-map : {A : Type 0} (o : Option A) (P Q : Type 0) → (P → Q) → IfNone o P → IfNone o Q
+none-map None P Q f is = f is
+none-map (Some x) P Q f is = is
+
+set-back : (cs : List ControlAt) (s : ℕ) (c : ControlAt) → slice_get cs s ≡ Some c → set cs s c ≡ cs
+set-back [] s c at = refl
+set-back (x ∷ cs) zero c at = let here : x ≡ c = cc at in ap (λ (v : ControlAt). v ∷ cs) (sym here)
+set-back (x ∷ cs) (suc s) c at = ap (λ (vs : List ControlAt). x ∷ vs) (set-back cs s c at)
+
+pub was-seated : (cs : List ControlAt) (s : ℕ) (c d : ControlAt) (r : Option SeatAt) → slice_get cs s ≡ Some c
+    → IfSome r (λ seat. (seat ≡ record { table = c.table; view = new_seat c.view }) × (d ≡ record c { view = seated c.view }))
+    → IfSome r (WasSeated s cs (set cs s d))
+was-seated cs s c d r at is = some-map r _ (WasSeated s cs (set cs s d)) (λ seat both. record { control = c; there = at; seat_is = both.0; new_is = ap (set cs s) both.1 }) is
+
+pub was-full : (cs : List ControlAt) (s : ℕ) (c d : ControlAt) (r : Option SeatAt) → slice_get cs s ≡ Some c
+    → IfNone r ((8 < free_number c.view) × (d ≡ c)) → IfNone r (set cs s d ≡ cs)
+was-full cs s c d r at is = none-map r _ (set cs s d ≡ cs) (λ both. ap (set cs s) both.1 ∙ set-back cs s c at) is
+
+pub has-joined : (cs : List ControlAt) (s : ℕ) (c d : ControlAt) (seat : SeatAt) → slice_get cs s ≡ Some c → d ≡ record c { view = told c.view seat.view } → HasJoined s seat cs (set cs s d)
+has-joined cs s c d seat at is = record { control = c; there = at; new_is = ap (set cs s) is }
 
 -- ---- facts
 
@@ -163,10 +265,13 @@ then-some None = refl
 then-some (Some k) = refl
 
 -- the words of another station stay
-stays : (f : Fact) (s : ℕ) (d : ControlAt) → s ≢ place f → Follows s (f ∷ []) d d
-stays f s d ne l k tells is =
+stays-by : (Says : Account → ControlView → Type 0) (f : Fact) (s : ℕ) (d : ControlAt) → s ≢ place f → FollowsBy Says s (f ∷ []) d d
+stays-by Says f s d ne l k says is =
     let e : Some l.carried ≡ Some k = sym (then-some (moves s f l.carried) ∙ moves-other f s l.carried ne) ∙ is in
-    let same : l.carried ≡ k = cc e in subst (λ (j : Carried). Tells (record l { carried = j }) d.view) same tells
+    let same : l.carried ≡ k = cc e in subst (λ (j : Carried). Says (record l { carried = j }) d.view) same says
+
+stays : (f : Fact) (s : ℕ) (d : ControlAt) → s ≢ place f → Follows s (f ∷ []) d d
+stays f s d ne = record { tells = stays-by Tells f s d ne; keeps_up = stays-by KeepUp f s d ne; seats = refl }
 
 some-mapped : (o : Option HeldKey) → is_some o ≡ true → is_some (option_map card_of_key o) ≡ true
 some-mapped None some = some
@@ -188,34 +293,43 @@ has-card settings r (facts.Claimed s an epoch pn) card is held = tt
 has-card settings r (facts.Unclaimed s why) card is held = tt
 has-card settings r (facts.Arrived n s arrival) card is held = tt
 
+-- the words of one station by its own fact
+abbrev Moved : (Account → ControlView → Type 0) → Fact → Option Card → ControlAt → ControlAt → Type 0
+Moved Says f card c d = (l : Account) (k : Carried) → Says l c.view → moved f l.carried ≡ Some k → HasCard f card → Says (record l { carried = k }) d.view
+
+own-by : (Says : Account → ControlView → Type 0) (f : Fact) (t : ℕ) (c d : ControlAt) (card : Option Card) → t ≡ place f → HasCard f card → Moved Says f card c d → FollowsBy Says t (f ∷ []) c d
+own-by Says f t c d card here has by_own l k says is = by_own l k says (sym (then-some (moves t f l.carried) ∙ moves-own f t l.carried here) ∙ is) has
+
 pub followed-one : (settings : Settings) (r : Run) (cs : List ControlAt) (f : Fact) (s : ℕ) (c d : ControlAt) (card : Option Card) → s ≡ place f → slice_get cs s ≡ Some c
     → (AreHeld settings r (f ∷ []) → HasCard f card)
-    → ((l : Account) (k : Carried) → Tells l c.view → moved f l.carried ≡ Some k → HasCard f card → Tells (record l { carried = k }) d.view)
+    → Moved Tells f card c d → Moved KeepUp f card c d → of_seats d.view ≡ of_seats c.view
     → Followed settings r (f ∷ []) cs (set cs s d)
-followed-one settings r cs f s c d card here at carded tells = λ held. record {
+followed-one settings r cs f s c d card here at carded tells keeps seats = λ held. record {
   many = length-set cs s d;
-  each = λ t v there. ⊎_elim
-      (λ (both : (t ≡ s) × (d ≡ v)). (
-        c,
-        subst (λ (u : ℕ). slice_get cs u ≡ Some c) (sym both.0) at,
-        λ l k told is. subst (λ (w : ControlAt). Tells (record l { carried = k }) w.view) both.1
-            (tells l k told (sym (then-some (moves t f l.carried) ∙ moves-own f t l.carried (both.0 ∙ here)) ∙ is) (carded held)),
-      ))
-      (λ (other : (t ≢ s) × (slice_get cs t ≡ Some v)). (v, other.1, stays f t v (λ e. other.0 (e ∙ sym here))))
-      (get-set cs s d t v there);
+  each = set-each (λ t v. (w : ControlAt) × (slice_get cs t ≡ Some w) × Follows t (f ∷ []) w v) cs s d
+      (λ t v ne there. (v, there, stays f t v (λ e. ne (e ∙ sym here))))
+      (c, at, record { tells = own-by Tells f s c d card here (carded held) tells; keeps_up = own-by KeepUp f s c d card here (carded held) keeps; seats = seats });
 }
 
 pub followed-none : (settings : Settings) (r : Run) (cs : List ControlAt) (f : Fact) → length cs ≤ place f → Followed settings r (f ∷ []) cs cs
 followed-none settings r cs f past = λ held. record { many = refl; each = λ t v there. (v, there, stays f t v (λ e. let less = slice_get_within cs t v there in absurd (omega (arith, e, past, less)))) }
 
 pub followed-first : (settings : Settings) (r : Run) (cs : List ControlAt) → Followed settings r [] cs cs
-followed-first settings r cs = λ held. record { many = refl; each = λ t v there. (v, there, λ l k told is. let same : l.carried ≡ k = cc is in subst (λ (j : Carried). Tells (record l { carried = j }) v.view) same told) }
+followed-first settings r cs = λ held. record { many = refl; each = λ t v there. (v, there, record { tells = nothing-by Tells t v; keeps_up = nothing-by KeepUp t v; seats = refl }) }
+  where
+    nothing-by : (Says : Account → ControlView → Type 0) (t : ℕ) (v : ControlAt) → FollowsBy Says t [] v v
+    nothing-by Says t v l k says is = let same : l.carried ≡ k = cc is in subst (λ (j : Carried). Says (record l { carried = j }) v.view) same says
 
 contains-left : (xs ys : List Fact) (x : Fact) → Contains xs x → Contains (xs ++ ys) x
 contains-left xs ys x (k, less, is) = in-contains (xs ++ ys) x (in-left xs ys x (contains-in xs x (k, less, is)))
 
 contains-last : (xs : List Fact) (y x : Fact) → Contains (y ∷ []) x → Contains (xs ++ y ∷ []) x
 contains-last xs y x is = in-contains (xs ++ y ∷ []) x (in-right xs (y ∷ []) x (contains-in (y ∷ []) x is))
+
+then-by : (Says : Account → ControlView → Type 0) (t : ℕ) (fs : List Fact) (f : Fact) (a b c : ControlAt) → FollowsBy Says t fs a b → FollowsBy Says t (f ∷ []) b c → FollowsBy Says t (fs ++ f ∷ []) a c
+then-by Says t fs f a b c first later l k says is = by_option (follow t fs l.carried)
+    (λ none. let e = sym (follow-append t fs (f ∷ []) l.carried ∙ ap (option_and_then (follow t (f ∷ []))) none) ∙ is in absurd (cc e))
+    (λ j some. later (record l { carried = j }) k (first l j says some) (sym (follow-append t fs (f ∷ []) l.carried ∙ ap (option_and_then (follow t (f ∷ []))) some) ∙ is))
 
 followed-then : (settings : Settings) (r : Run) (fs : List Fact) (f : Fact) (a b c : List ControlAt) → Followed settings r fs a b → Followed settings r (f ∷ []) b c → Followed settings r (fs ++ f ∷ []) a c
 followed-then settings r fs f a b c first later = λ held.
@@ -225,9 +339,11 @@ followed-then settings r fs f a b c first later = λ held.
       each = λ t v there. let y = two.each t v there in let x = one.each t y.0 y.1 in (
         x.0,
         x.1,
-        λ l k told is. by_option (follow t fs l.carried)
-            (λ none. let e = sym (follow-append t fs (f ∷ []) l.carried ∙ ap (option_and_then (follow t (f ∷ []))) none) ∙ is in absurd (cc e))
-            (λ j some. y.2 (record l { carried = j }) k (x.2 l j told some) (sym (follow-append t fs (f ∷ []) l.carried ∙ ap (option_and_then (follow t (f ∷ []))) some) ∙ is)),
+        record {
+          tells = then-by Tells t fs f x.0 y.0 v x.2.tells y.2.tells;
+          keeps_up = then-by KeepUp t fs f x.0 y.0 v x.2.keeps_up y.2.keeps_up;
+          seats = y.2.seats ∙ x.2.seats;
+        },
       );
     }
 

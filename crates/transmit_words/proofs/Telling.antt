@@ -1,17 +1,18 @@
 -- The words tell the account, call by call.
-use Rattle.std.proofs.Common.{◌≡◌, ℕ, ◌+◌, ◌^◌, ◌<◌, ◌≤◌, ◌==◌, Bool, true, false, not, ◌&&◌, cond}
-use Rattle.std.proofs.Common.{List, [], ◌∷◌, ◌++◌, map, Some, None, Result, Ok, Err, MatchResult}
-use Rattle.std.proofs.Common.{refl, sym, ap, ◌∙◌, subst, ⊎_elim, arith, eq-eqb}
-use Rattle.std.proofs.lemmas.Bool.{ne_eqb}
+use Rattle.std.proofs.Common.{◌≡◌, ℕ, ◌+◌, ◌^◌, ◌<◌, ◌≤◌, ◌==◌, Bool, true, false, ◌&&◌, cond}
+use Rattle.std.proofs.Common.{List, [], ◌∷◌, ◌++◌, Some, Result, Ok, Err, MatchResult}
+use Rattle.std.proofs.Common.{refl, sym, ap, ◌∙◌, subst, ⊎_elim, arith, eq-eqb, get_or}
+use Rattle.std.proofs.lemmas.Bool.{ne_eqb, lt-ltb, eqb-true}
+use Rattle.std.specs.Prelude.{nat_lt}
+use Rattle.sak_exchange.proofs.Public.{by_test}
 use Rattle.lan_base.specs.declared.association_number.AssociationNumber.{AssociationNumber}
 use Rattle.lan_base.specs.AssociationNumbers.{same_an}
-use Rattle.association_slots.specs.Views.{In, current, newest, absent_after, present_at, IsOpen}
+use Rattle.association_slots.specs.Views.{In, slot, current, absent_after, present_at, AllIn}
 use Rattle.association_slots.specs.Views.{one, met, count, claimed as claims_it, told_sum}
-use Rattle.association_slots.specs.Steps.{at_first, looked as looked_at, seated, new_seat, told}
+use Rattle.association_slots.specs.Steps.{at_first, looked as looked_at, seated, new_seat, told, above_claims}
 use Rattle.association_slots.specs.Learned.{Learned}
 use Rattle.association_slots.specs.declared.view.Addition.{Addition}
 use Rattle.association_slots.specs.declared.view.Current.{Current}
-use Rattle.association_slots.specs.declared.view.NextSeen.{NextSeen}
 use Rattle.association_slots.specs.declared.view.ControlView.{ControlView}
 use Rattle.association_slots.specs.declared.view.SeatView.{SeatView}
 use Rattle.association_slots.proofs.Public.{in_append, weigh-append, weigh_none}
@@ -21,37 +22,23 @@ use Rattle.packet_claims.specs.declared.answers.Claim.{Claim}
 use Rattle.packet_claims.specs.declared.answers.NoClaim.{NoClaim}
 use Rattle.packet_claims.specs.declared.answers.NoClaim.TheVariants.{NoKey}
 use Rattle.lan_core.specs.Expected.{last_number}
-use Rattle.group_safety.specs.Transmitting.{Sending, Carried, now, newest as latest, names as names_it}
-use Rattle.group_safety.specs.Transmitting.{silent_after, installed, may_begin, begun, ended}
-use Rattle.group_safety.specs.Accounts.{Account, blank, next_now, looked}
-use Rattle.transmit_words.specs.Telling.{Tells, IsClaimed, word_of}
+use Rattle.group_safety.specs.Transmitting.{Carried, now}
+use Rattle.group_safety.specs.Transmitting.{silent_after, installed, begun, ended}
+use Rattle.group_safety.specs.Accounts.{Account, blank, next_now, looked, showing, with_claim}
+use Rattle.transmit_words.specs.Telling.{KeepUp, OfSeats, of_seats, Tells, IsClaimed, word_of}
 use Rattle.transmit_words.specs.inside.Kept.{IsKept}
-use Rattle.transmit_words.proofs.Keeping.{kept-first, open-now, carded, may-parts, names}
-
-pub some-if : {A : Type 0} (b : Bool) (x y : A) → cond b (Some x) None ≡ Some y → (b ≡ true) × (x ≡ y)
-some-if true x y e = (refl, grind arith)
-some-if false x y e = absurd (cc e)
-
-pub newest-word : (ps : List Sending) → newest (map word_of ps) ≡ word_of (latest ps)
-newest-word [] = refl
-newest-word (p ∷ ps) = refl
-
-first-parts : (an : AssociationNumber) (epoch : ℕ) (p : Sending) (installs : ℕ) → may_begin an epoch p installs ≡ true → p.epoch < epoch
-first-parts an epoch p installs is = (may-parts an epoch (word_of p) installs is).0
+use Rattle.transmit_words.proofs.Keeping.{none-out, names}
+use Rattle.transmit_words.proofs.KeepingUp.{up-first, told-now, now-is, names-are, later-now, up-installed}
+use Rattle.transmit_words.proofs.KeepingUp.{up-begun, up-ended, least-is, next-present, up-back}
+use Rattle.transmit_words.proofs.KeepingUp.{showing-other}
 
 pub tells-first : Learned (at_first 1 4096) → Tells blank (at_first 1 4096)
 tells-first learned = record {
-  all_in = kept-first.all_in;
-  learned = learned;
-  points = refl;
-  slots = kept-first.slots;
-  open_now = λ is. absurd (cc is);
+  all_in = none-out;
+  keep_up = up-first learned;
   next = λ is. absurd (cc is);
-  later = λ e lt. refl;
   low = λ a i. absurd i;
-  cards = refl;
   claims = λ e pn. refl;
-  shows = refl;
 }
 
 -- no addition met a later epoch
@@ -63,149 +50,131 @@ none-met an e f xs low lt = weigh_none (λ a. one (met an e a)) xs (λ a i. no (
     no false a l = refl
 
 module _ (c : ControlView) (p : Current) (cards : ℕ) (k : IsKept c p cards) (l : Account) (t : Tells l c) where
-  told-now : current c ≡ word_of (now l.carried)
-  told-now = ap newest t.points ∙ newest-word l.carried.points
+  abbrev u : KeepUp l c
+  u = t.keep_up
 
-  pub now-is : word_of (now l.carried) ≡ p
-  now-is = sym told-now ∙ k.shown
+  now-told : current c ≡ word_of (now l.carried)
+  now-told = told-now c p cards k l u
 
-  names-are : (an : AssociationNumber) → names_it (now l.carried) an ≡ names p an
-  names-are an = ap (λ (q : Current). names q an) now-is
-
-  pub installs-are : l.carried.installs ≡ cards
-  installs-are = sym t.cards ∙ carded c p cards k
+  now-word : word_of (now l.carried) ≡ p
+  now-word = now-is c p cards k l u
 
   pub tells-installed : (j : Carried) (words : List ℕ) → IsKept (record c { card_words = c.card_words ++ words }) p (cards + 1) → Learned (record c { card_words = c.card_words ++ words }) → installed l.carried ≡ Some j
       → Tells (record l { carried = j }) (record c { card_words = c.card_words ++ words })
-  tells-installed j words more learned is = subst (λ (q : Carried). Tells (record l { carried = q }) (record c { card_words = c.card_words ++ words })) (some-if _ _ j is).1 (record {
+  tells-installed j words more learned is = record {
     all_in = t.all_in;
-    learned = learned;
-    points = t.points;
-    slots = t.slots;
-    open_now = t.open_now;
+    keep_up = up-installed c p cards k l u j words more learned is;
     next = t.next;
-    later = t.later;
     low = t.low;
-    cards = carded _ p (cards + 1) more ∙ ap (λ (n : ℕ). n + 1) (sym installs-are);
     claims = t.claims;
-    shows = t.shows;
-  })
+  }
 
   -- a key began, and other words show it
-  pub tells-begun : (e : ControlView) (j : Carried) (an : AssociationNumber) (epoch : ℕ) → IsKept e (present_at an epoch) cards → e.points ≡ present_at an epoch ∷ c.points → e.told ≡ c.told → e.loads ≡ c.loads → Learned e → begun an epoch l.carried ≡ Some j → Tells (record l { carried = j }) e
-  tells-begun e j an epoch ke more_points same_told same_loads learned is = subst (λ (q : Carried). Tells (record l { carried = q }) e) (some-if _ _ j is).1 (record {
-    all_in = ke.all_in;
-    learned = learned;
-    points = more_points ∙ ap (λ (ps : List Current). present_at an epoch ∷ ps) t.points;
-    slots = ke.slots;
-    open_now = λ _. subst (λ (q : Current). IsOpen e q.an q.epoch) (sym ke.shown) (open-now e (present_at an epoch) cards ke refl);
+  pub tells-begun : (e : ControlView) (j : Carried) (an : AssociationNumber) (epoch : ℕ) → IsKept e (present_at an epoch) cards → e.points ≡ present_at an epoch ∷ c.points → (slot e an).seen ≡ c.first → of_seats e ≡ of_seats c → e.loads ≡ c.loads → Learned e → begun an epoch l.carried ≡ Some j → Tells (record l { carried = j }) e
+  tells-begun e j an epoch ke more_points seen same same_loads learned is = record {
+    all_in = subst (λ (out : List Bool). (i : ℕ) → get_or out i false ≡ false) (sym (ap (λ (o : OfSeats). o.out) same)) t.all_in;
+    keep_up = up-begun c p cards k l u e j an epoch ke more_points seen same_loads learned is;
     next = λ _. subst (λ (q : Current). told_sum e q.an q.epoch ≡ l.nexts q.epoch) (sym ke.shown) first_one;
-    later = λ f lt. t.later f (let z = epoch_is in let y = later_now in omega arith);
-    low = λ a i. let z = epoch_is in let y = later_now in let x = t.low a (subst (In a) same_told i) in omega arith;
-    cards = carded e (present_at an epoch) cards ke ∙ (sym (carded c p cards k) ∙ t.cards);
+    low = λ a i. let z = epoch_is in let y = after in let x = t.low a (subst (In a) same_told i) in omega arith;
     claims = λ f pn. ap (count (claims_it f pn)) same_told ∙ t.claims f pn;
-    shows = ap (map (λ (f : NextSeen). f.next)) same_loads ∙ t.shows;
-  })
+  }
     where
-      may : may_begin an epoch (now l.carried) l.carried.installs ≡ true
-      may = (some-if _ _ j is).0
+      same_told : e.told ≡ c.told
+      same_told = ap (λ (o : OfSeats). o.told) same
 
-      later_now : (current c).epoch < epoch
-      later_now = let z : (current c).epoch ≡ (now l.carried).epoch = ap (λ (q : Current). q.epoch) told-now in
-          let m = (first-parts an epoch (now l.carried) l.carried.installs may) in omega arith
+      after : (current c).epoch < epoch
+      after = later-now c p cards k l u j an epoch is
 
       epoch_is : (current e).epoch ≡ epoch
       epoch_is = ap (λ (q : Current). q.epoch) ke.shown
 
       first_one : told_sum e an epoch ≡ l.nexts epoch
-      first_one = let z = ke.first in let y = none-met an epoch (current c).epoch c.told t.low later_now in
+      first_one = let z = ke.first in let y = none-met an epoch (current c).epoch c.told t.low after in
           let x : count (met an epoch) e.told ≡ count (met an epoch) c.told = ap (count (met an epoch)) same_told in
-          let w = t.later epoch later_now in omega arith
+          let w = u.later epoch after in omega arith
 
   abbrev gone_if : Bool → Carried
   gone_if b = cond b (record l.carried { points = silent_after (now l.carried).epoch ∷ l.carried.points }) l.carried
 
   -- the key that transmitted ended, and other words show it
-  pub tells-ended : (e : ControlView) (an : AssociationNumber) → IsKept e (absent_after p.epoch) cards → e.points ≡ absent_after (current c).epoch ∷ c.points → e.told ≡ c.told → e.loads ≡ c.loads → Learned e → names p an ≡ true → Tells (record l { carried = ended an l.carried }) e
-  tells-ended e an ke more_points same_told same_loads learned is = record {
-    all_in = ke.all_in;
-    learned = learned;
-    points = more_points ∙ ((λ i. absent_after (told-now i).epoch ∷ t.points i) ∙ sym (ap (λ (b : Bool). map word_of (gone_if b).points) it_names));
-    slots = λ i. ke.slots i ∙ sym (ap (λ (b : Bool). not (names_it (now (gone_if b)) i)) it_names);
-    open_now = λ present. absurd (cc (sym present ∙ ap (λ (q : Current). q.present) ke.shown));
+  pub tells-ended : (e : ControlView) (an : AssociationNumber) → IsKept e (absent_after p.epoch) cards → e.points ≡ absent_after (current c).epoch ∷ c.points → of_seats e ≡ of_seats c → e.loads ≡ c.loads → Learned e → names p an ≡ true → Tells (record l { carried = ended an l.carried }) e
+  tells-ended e an ke more_points same same_loads learned is = record {
+    all_in = subst (λ (out : List Bool). (i : ℕ) → get_or out i false ≡ false) (sym (ap (λ (o : OfSeats). o.out) same)) t.all_in;
+    keep_up = up-ended c p cards k l u e an ke more_points same_loads learned is;
     next = λ present. absurd (cc (sym present ∙ ap (λ (q : Current). q.present) ke.shown));
-    later = λ f lt. t.later f (let z = epoch_is in omega arith);
-    low = λ a i. let z = epoch_is in let x = t.low a (subst (In a) same_told i) in omega arith;
-    cards = carded e _ cards ke ∙ (sym (carded c p cards k) ∙ (t.cards ∙ sym (ap (λ (b : Bool). (gone_if b).installs) it_names)));
-    claims = λ f pn. ap (count (claims_it f pn)) same_told ∙ t.claims f pn;
-    shows = ap (map (λ (f : NextSeen). f.next)) same_loads ∙ t.shows;
+    low = λ a i. let z = epoch_is in let x = t.low a (subst (In a) (ap (λ (o : OfSeats). o.told) same) i) in omega arith;
+    claims = λ f pn. ap (λ (o : OfSeats). count (claims_it f pn) o.told) same ∙ t.claims f pn;
   }
     where
-      it_names : names_it (now l.carried) an ≡ true
-      it_names = names-are an ∙ is
-
       epoch_is : (current e).epoch ≡ (current c).epoch
       epoch_is = ap (λ (q : Current). q.epoch) ke.shown ∙ sym (ap (λ (q : Current). q.epoch) k.shown)
 
   pub tells-unended : (an : AssociationNumber) → names p an ≡ false → Tells (record l { carried = ended an l.carried }) c
-  tells-unended an none = subst (λ (b : Bool). Tells (record l { carried = gone_if b }) c) (sym (names-are an ∙ none)) t
+  tells-unended an none = subst (λ (b : Bool). Tells (record l { carried = gone_if b }) c) (sym (names-are c p cards k l u an ∙ none)) t
 
   -- ---- packet numbers
 
-  pub next-present : p.present ≡ true → next_now l ≡ told_sum c p.an p.epoch
-  next-present is = ap (λ (b : Bool). cond b (l.nexts (now l.carried).epoch) 0) (ap (λ (q : Current). q.present) now-is ∙ is)
-      ∙ (ap (λ (q : Current). l.nexts q.epoch) now-is ∙ sym (subst (λ (q : Current). q.present ≡ true → told_sum c q.an q.epoch ≡ l.nexts q.epoch) k.shown t.next is))
+  pub sum-present : p.present ≡ true → next_now l ≡ told_sum c p.an p.epoch
+  sum-present is = next-present c p cards k l u is ∙ sym (subst (λ (q : Current). q.present ≡ true → told_sum c q.an q.epoch ≡ l.nexts q.epoch) k.shown t.next is)
 
-  pub next-absent : p.present ≡ false → next_now l ≡ 0
-  next-absent is = ap (λ (b : Bool). cond b (l.nexts (now l.carried).epoch) 0) (ap (λ (q : Current). q.present) now-is ∙ is)
+  -- a tick shows just the next number: no next number moves
+  looked-is : (n : ℕ) → p.present ≡ true → n ≡ told_sum c p.an p.epoch → showing n l ≡ looked l
+  looked-is n is sum = λ i. record {
+    carried = l.carried;
+    nexts = λ e. nexts_are e i;
+    claims = l.claims;
+    shows = shows_are i;
+  }
+    where
+      present : (now l.carried).present ≡ true
+      present = ap (λ (q : Current). q.present) now-word ∙ is
 
-  pub tells-looked : (n : ℕ) → p.present ≡ true → IsKept (looked_at c p.an n) p cards → Learned (looked_at c p.an n) → n ≡ told_sum c p.an p.epoch → Tells (looked l) (looked_at c p.an n)
-  tells-looked n is ke learned sum = record {
+      next_is : n ≡ next_now l
+      next_is = sum ∙ sym (sum-present is)
+
+      low : 1 ≤ n
+      low = let z = least-is c p cards k l u is in let y = z.0 in let x = next-present c p cards k l u is in let w = next_is in omega arith
+
+      nexts_are : (e : ℕ) → (showing n l).nexts e ≡ l.nexts e
+      nexts_are e = by_test (e == (now l.carried).epoch)
+          (λ y. let same : l.nexts e ≡ n = ap l.nexts (eqb-true e (now l.carried).epoch y) ∙ (sym (ap (λ (b : Bool). cond b (l.nexts (now l.carried).epoch) 0) present) ∙ sym next_is) in rw (y, present) (omega (arith, same)))
+          (λ y. showing-other n l e y)
+
+      shows_are : cond (nat_lt 0 n) (n ∷ l.shows) l.shows ≡ (looked l).shows
+      shows_are = ap (λ (b : Bool). cond b (n ∷ l.shows) l.shows) (lt-ltb 0 n low) ∙ ((λ i. next_is i ∷ l.shows) ∙ sym (ap (λ (b : Bool). cond b (next_now l ∷ l.shows) l.shows) present))
+
+  pub tells-looked : (n : ℕ) → p.present ≡ true → KeepUp (showing n l) (looked_at c p.an n) → n ≡ told_sum c p.an p.epoch → Tells (looked l) (looked_at c p.an n)
+  tells-looked n is up sum = record {
     all_in = t.all_in;
-    learned = learned;
-    points = t.points;
-    slots = λ i. ke.slots i ∙ ap not (sym (names-are i));
-    open_now = λ _. subst (λ (q : Current). IsOpen (looked_at c p.an n) q.an q.epoch) (sym k.shown) (open-now _ p cards ke is);
+    keep_up = subst (λ (m : Account). KeepUp m (looked_at c p.an n)) (looked-is n is sum) up;
     next = t.next;
-    later = t.later;
     low = t.low;
-    cards = t.cards;
     claims = t.claims;
-    shows = (λ i. (sum ∙ sym (next-present is)) i ∷ t.shows i) ∙ sym (ap (λ (b : Bool). cond b (next_now l ∷ l.shows) l.shows) (ap (λ (q : Current). q.present) now-is ∙ is));
   }
 
   pub tells-unlooked : p.present ≡ false → Tells (looked l) c
-  tells-unlooked is = subst (λ (b : Bool). Tells (record l { shows = cond b (next_now l ∷ l.shows) l.shows }) c) (sym (ap (λ (q : Current). q.present) now-is ∙ is)) t
+  tells-unlooked is = subst (λ (b : Bool). Tells (record l { shows = cond b (next_now l ∷ l.shows) l.shows }) c) (sym (ap (λ (q : Current). q.present) now-word ∙ is)) t
 
   -- ---- a claim
 
-  module _ (v : SeatView) (known : Learned (told (seated c) v)) (kd : IsKept (told (seated c) v) p cards) where
+  module _ (v : SeatView) (known : Learned (told (seated c) v)) (all_back : AllIn (told (seated c) v)) where
     abbrev d : ControlView
     d = told (seated c) v
 
     low-told : (a : Addition) → In a d.told → a.met ≤ (current c).epoch
     low-told a i = let r = (known.settled.raised_once _ (known.additions a i).raised).1 in let z = k.top_is in let y : (current c).epoch ≡ p.epoch = ap (λ (q : Current). q.epoch) k.shown in omega arith
 
-    open-told : (current c).present ≡ true → IsOpen d (current c).an (current c).epoch
-    open-told is = t.open_now is
-
     tells-claim : (x : Claim) → IsNextClaim c d x → (current c).present ≡ true → IsClaimed l c (Ok x) (λ m. Tells m d)
     tells-claim x n is = (
-      sym told-now ∙ here,
+      sym now-told ∙ here,
       n.2 ∙ (told_is ∙ sym next_is),
       n.3,
       record {
-        all_in = kd.all_in;
-        learned = known;
-        points = t.points;
-        slots = t.slots;
-        open_now = t.open_now;
+        all_in = all_back;
+        keep_up = claim-up;
         next = λ _. n.5 ∙ (ap (λ (m : ℕ). m + 1) (sym n.2) ∙ sym (ap (λ (b : Bool). cond b (x.pn + 1) (l.nexts (current c).epoch)) (eq-eqb (current c).epoch x.epoch (sym n.1))));
-        later = λ e lt. ap (λ (b : Bool). cond b (x.pn + 1) (l.nexts e)) (apart e lt) ∙ t.later e lt;
         low = low-told;
-        cards = t.cards;
         claims = λ e pn. ap (count (claims_it e pn)) n.4 ∙ ap (λ (m : ℕ). one ((x.epoch == e) && (x.pn == pn)) + m) (t.claims e pn);
-        shows = t.shows;
       },
     )
       where
@@ -216,24 +185,38 @@ module _ (c : ControlView) (p : Current) (cards : ℕ) (k : IsKept c p cards) (l
         told_is = t.next is
 
         next_is : next_now l ≡ l.nexts (current c).epoch
-        next_is = ap (λ (q : Current). cond q.present (l.nexts q.epoch) 0) (sym told-now) ∙ ap (λ (b : Bool). cond b (l.nexts (current c).epoch) 0) is
+        next_is = ap (λ (q : Current). cond q.present (l.nexts q.epoch) 0) (sym now-told) ∙ ap (λ (b : Bool). cond b (l.nexts (current c).epoch) 0) is
 
         apart : (e : ℕ) → (current c).epoch < e → (e == x.epoch) ≡ false
         apart e lt = ne_eqb e x.epoch (λ same. let y = n.1 in absurd (omega (arith, same)))
 
+        -- the number that was claimed is told
+        above_it : x.pn + 1 ≤ above_claims (current c).epoch d.told
+        above_it = subst (λ (xs : List Addition). x.pn + 1 ≤ above_claims (current c).epoch xs) (sym n.4)
+            (let same = eq-eqb x.epoch (current c).epoch n.1 in rw same (omega arith))
+
+        next_one : (with_claim x.epoch x.pn l).nexts (current c).epoch ≡ x.pn + 1
+        next_one = ap (λ (b : Bool). cond b (x.pn + 1) (l.nexts (current c).epoch)) (eq-eqb (current c).epoch x.epoch (sym n.1))
+
+        claim-up : KeepUp (with_claim x.epoch x.pn l) d
+        claim-up = record {
+          learned = known;
+          points = u.points;
+          slots = u.slots;
+          open_now = u.open_now;
+          least = λ _. let z = next_one in let y = above_it in (omega arith, omega arith);
+          later = λ e lt. ap (λ (b : Bool). cond b (x.pn + 1) (l.nexts e)) (apart e lt) ∙ u.later e lt;
+          cards = u.cards;
+          shows = u.shows;
+        }
+
     tells-none : (current c).present ≡ false → (after : ℕ) → IsNoKey (new_seat c) v after → Tells l d
     tells-none absent after n = record {
-      all_in = kd.all_in;
-      learned = known;
-      points = t.points;
-      slots = t.slots;
-      open_now = t.open_now;
+      all_in = all_back;
+      keep_up = up-back c p cards k l u v known;
       next = λ is. absurd (cc (sym is ∙ absent));
-      later = t.later;
       low = low-told;
-      cards = t.cards;
       claims = λ e pn. let w = weigh-append (λ a. one (claims_it e pn a)) v.additions c.told in let z = none e pn in let y = t.claims e pn in omega arith;
-      shows = t.shows;
     }
       where
         none : (e pn : ℕ) → count (claims_it e pn) v.additions ≡ 0
@@ -255,9 +238,9 @@ module _ (c : ControlView) (p : Current) (cards : ℕ) (k : IsKept c p cards) (l
         by true is = won r is (next is (let z : next_now l ≡ l.nexts (current c).epoch = next-is is in let y = t.next is in omega arith))
           where
             next-is : (current c).present ≡ true → next_now l ≡ l.nexts (current c).epoch
-            next-is present = ap (λ (q : Current). cond q.present (l.nexts q.epoch) 0) (sym told-now) ∙ ap (λ (b : Bool). cond b (l.nexts (current c).epoch) 0) present
+            next-is present = ap (λ (q : Current). cond q.present (l.nexts q.epoch) 0) (sym now-told) ∙ ap (λ (b : Bool). cond b (l.nexts (current c).epoch) 0) present
         by false is = subst (λ (q : Result Claim NoClaim). IsClaimed l c q (λ m. Tells m d)) (sym (none is)) (
-          ap (λ (q : Current). q.present) (sym told-now) ∙ is,
-          ap (λ (q : Current). q.epoch) told-now,
+          ap (λ (q : Current). q.present) (sym now-told) ∙ is,
+          ap (λ (q : Current). q.epoch) now-told,
           tells-none is (current c).epoch (subst (Did (new_seat c) v) (none is) did),
         )

@@ -12,43 +12,72 @@ use Rattle.lan_core.specs.declared.settings.Settings.{Settings}
 use Rattle.lan_core.specs.Run.{Run, stations, started}
 use Rattle.lan_core.specs.Keys.{held_at}
 use Rattle.group_safety.specs.Transmitting.{Carried, follow, CarriesAt}
-use Rattle.group_safety.specs.Accounts.{Account, account_at, ahead}
-use Rattle.transmit_words.specs.Telling.{Tells}
+use Rattle.group_safety.specs.Accounts.{Account, account_at, ahead, onward}
+use Rattle.association_slots.specs.declared.view.ControlView.{ControlView}
+use Rattle.transmit_words.specs.Telling.{KeepUp, Tells, of_seats}
 
 -- the tables that hands are of
 abbrev pub tables_of : List ControlAt → List TableId
 tables_of cs = map (λ c. c.table) cs
 
--- the words of a station tell what a run does
-abbrev pub IsTied : Settings → ℕ → Run → ControlAt → Type 0
-IsTied settings s r c =
-    (k : Carried) × CarriesAt settings s r k × Tells (account_at settings s r k) c.view
+-- the words of a station say this of its account after a run
+abbrev pub IsTiedBy : (Account → ControlView → Type 0) → Settings → ℕ → Run → ControlAt → Type 0
+IsTiedBy Says settings s r c =
+    (k : Carried) × CarriesAt settings s r k × Says (account_at settings s r k) c.view
 
--- as many words as stations, and those of each tell the run
-pub record AreTied (settings : Settings) (r : Run) (cs : List ControlAt) : Type 0 where
+-- as many words as stations, and those of each say it
+pub record AreTiedBy (Says : Account → ControlView → Type 0) (settings : Settings) (r : Run)
+    (cs : List ControlAt) : Type 0 where
   pub many : length cs ≡ length (stations r)
-  pub each : (s : ℕ) (c : ControlAt) → slice_get cs s ≡ Some c → IsTied settings s r c
+  pub each : (s : ℕ) (c : ControlAt) → slice_get cs s ≡ Some c → IsTiedBy Says settings s r c
 
--- the same, where the step of an event was taken: a number was shown or claimed, and the words of a
--- station that starts are there
-abbrev pub IsAhead : Settings → ℕ → Run → Event → ControlAt → Type 0
-IsAhead settings s r event c = (k : Carried) × CarriesAt settings s r k
-    × Tells (ahead s event (account_at settings s r k)) c.view
+-- The same, where the step of an event was taken: a number was shown or claimed, and the words of a
+-- station that starts are there.
+abbrev pub IsAheadBy : (Account → ControlView → Type 0) → (ℕ → Event → Account → Account) → Settings
+    → ℕ → Run → Event → ControlAt → Type 0
+IsAheadBy Says takes settings s r event c = (k : Carried) × CarriesAt settings s r k
+    × Says (takes s event (account_at settings s r k)) c.view
 
-pub record AreAhead (settings : Settings) (r : Run) (event : Event)
+pub record AreAheadBy (Says : Account → ControlView → Type 0)
+    (takes : ℕ → Event → Account → Account) (settings : Settings) (r : Run) (event : Event)
     (cs : List ControlAt) : Type 0 where
   pub many : length cs ≡ length (stations r ++ started event)
-  pub each : (s : ℕ) (c : ControlAt) → slice_get cs s ≡ Some c → IsAhead settings s r event c
+  pub each : (s : ℕ) (c : ControlAt) → slice_get cs s ≡ Some c
+      → IsAheadBy Says takes settings s r event c
+
+-- the words tell what a run does
+abbrev pub IsTied : Settings → ℕ → Run → ControlAt → Type 0
+IsTied settings s r c = IsTiedBy Tells settings s r c
+
+abbrev pub AreTied : Settings → Run → List ControlAt → Type 0
+AreTied settings r cs = AreTiedBy Tells settings r cs
+
+abbrev pub AreAhead : Settings → Run → Event → List ControlAt → Type 0
+AreAhead settings r event cs = AreAheadBy Tells ahead settings r event cs
+
+-- the words keep up with a run, also while seats are out
+abbrev pub HaveKeptUp : Settings → Run → List ControlAt → Type 0
+HaveKeptUp settings r cs = AreTiedBy KeepUp settings r cs
+
+abbrev pub KeepAhead : Settings → Run → Event → List ControlAt → Type 0
+KeepAhead settings r event cs = AreAheadBy KeepUp onward settings r event cs
 
 -- each key that facts install is held after a run
 abbrev pub AreHeld : Settings → Run → List Fact → Type 0
 AreHeld settings r shown = (s : ℕ) (id : KeyId) (an : AssociationNumber) (epoch : ℕ) (sak : Secret)
     → Contains shown (facts.Installed s id an epoch sak) → is_some (held_at settings s r an) ≡ true
 
--- the words of a station tell what facts make of what they told
-abbrev pub Follows : ℕ → List Fact → ControlAt → ControlAt → Type 0
-Follows s shown c d = (a : Account) (k : Carried) → Tells a c.view
-    → follow s shown a.carried ≡ Some k → Tells (record a { carried = k }) d.view
+-- where the words of a station said this of an account, they say it of what facts make of that
+abbrev pub FollowsBy : (Account → ControlView → Type 0) → ℕ → List Fact → ControlAt → ControlAt
+    → Type 0
+FollowsBy Says s shown c d = (a : Account) (k : Carried) → Says a c.view
+    → follow s shown a.carried ≡ Some k → Says (record a { carried = k }) d.view
+
+-- the words of a station followed facts; no seat came or went
+pub record Follows (s : ℕ) (shown : List Fact) (c d : ControlAt) : Type 0 where
+  pub tells : FollowsBy Tells s shown c d
+  pub keeps_up : FollowsBy KeepUp s shown c d
+  pub seats : of_seats d.view ≡ of_seats c.view
 
 -- the words of each station followed facts
 pub record HaveFollowed (shown : List Fact) (old new : List ControlAt) : Type 0 where

@@ -1,23 +1,27 @@
 //! The hand that moves the words of one station.
 
-ghost use Rattle.std.specs.Prelude.{◌≡◌, ◌≤◌, ◌<◌, ℕ, Some, IfOk, OnOk};
+ghost use Rattle.std.specs.Prelude.{◌≡◌, ◌≤◌, ◌<◌, ℕ, Some, IfOk, IfSome, IfNone};
 ghost use Rattle.association_slots.specs.Cards.{card_at};
+ghost use Rattle.association_slots.specs.Steps.{new_seat, seated, told};
+ghost use Rattle.association_slots.specs.Views.{AllIn, free_number};
 ghost use Rattle.group_safety.specs.Transmitting.{Carried, installed, begun, ended, may_begin, names};
 ghost use Rattle.group_safety.specs.Accounts.{Account, blank, next_now, looked};
+ghost use Rattle.group_safety.specs.Accounts.{showing};
 ghost use Rattle.lan_core.specs.Expected.{last_number};
-ghost use Rattle.transmit_words.specs.Telling.{Tells, IsClaimed, sending_of};
+ghost use Rattle.transmit_words.specs.Telling.{KeepUp, Tells, IsClaimed, HasGained, of_seats};
+ghost use Rattle.transmit_words.specs.Telling.{sending_of};
 
-use association_slots::{Card, Control, Current, SlotTable, law_earlier_cards_stay};
+use association_slots::{Card, Control, Current, SlotTable, WorkerSeat, law_earlier_cards_stay};
 use lan_base::AssociationNumber;
-use packet_claims::{Claim, Gate, NoClaim, Point, claim_alone};
+use packet_claims::{Claim, Gate, NoClaim, Point, claim_alone, tell};
 use std::alloc::{AllocError, Global};
 use std::marker::Model;
 
 /// How many keys a station may install.
 const CARDS: u16 = 4096;
 
-/// The hand that moves the words of a station's transmit associations. No seat is out between two
-/// calls. Each call tests before it moves, and where the test fails it does nothing. Contracts see
+/// The hand that moves the words of a station's transmit associations, and gives seats at them to
+/// workers. Each call tests before it moves, and where the test fails it does nothing. Contracts see
 /// which table it is of, and what control knows.
 #[derive(Drop)]
 pub struct TransmitControl {
@@ -65,9 +69,12 @@ impl TransmitControl {
         ensures same { self.new.table ≡ self.old.table }
         ensures tells { (a : Account) (k : Carried) → Tells a self.old.view
             → installed a.carried ≡ Some k → Tells (record a { carried = k }) self.new.view }
-        ensures card { (a : Account) (k : Carried) → Tells a self.old.view
+        ensures keeps_up { (a : Account) (k : Carried) → KeepUp a self.old.view
+            → installed a.carried ≡ Some k → KeepUp (record a { carried = k }) self.new.view }
+        ensures seats { of_seats self.new.view ≡ of_seats self.old.view }
+        ensures card { (a : Account) (k : Carried) → KeepUp a self.old.view
             → installed a.carried ≡ Some k → card_at self.new.view k.installs ≡ card.now }
-        ensures earlier { (a : Account) (epoch : ℕ) → Tells a self.old.view → 0 < epoch
+        ensures earlier { (a : Account) (epoch : ℕ) → KeepUp a self.old.view → 0 < epoch
             → epoch ≤ a.carried.installs
             → card_at self.new.view epoch ≡ card_at self.old.view epoch }
     {
@@ -90,6 +97,9 @@ impl TransmitControl {
         ensures same { self.new.table ≡ self.old.table }
         ensures tells { (a : Account) (k : Carried) → Tells a self.old.view
             → begun an epoch a.carried ≡ Some k → Tells (record a { carried = k }) self.new.view }
+        ensures keeps_up { (a : Account) (k : Carried) → KeepUp a self.old.view
+            → begun an epoch a.carried ≡ Some k → KeepUp (record a { carried = k }) self.new.view }
+        ensures seats { of_seats self.new.view ≡ of_seats self.old.view }
         ensures cards { self.new.view.card_words ≡ self.old.view.card_words }
     {
         let before = self.now;
@@ -115,6 +125,9 @@ impl TransmitControl {
         ensures same { self.new.table ≡ self.old.table }
         ensures tells { (a : Account) → Tells a self.old.view
             → Tells (record a { carried = ended an a.carried }) self.new.view }
+        ensures keeps_up { (a : Account) → KeepUp a self.old.view
+            → KeepUp (record a { carried = ended an a.carried }) self.new.view }
+        ensures seats { of_seats self.new.view ≡ of_seats self.old.view }
         ensures cards { self.new.view.card_words ≡ self.old.view.card_words }
     {
         if !names(self.now, an) {
@@ -131,11 +144,17 @@ impl TransmitControl {
     }
 
     /// The next packet number under the key that transmits, by one load, and 0 where none does.
+    /// While seats are out it may be ahead of what control was told.
     pub fn next(&mut self, table: &SlotTable) -> u64
         requires here { self.old.table ≡ table.now }
         ensures same { self.new.table ≡ self.old.table }
         ensures next { (a : Account) → Tells a self.old.view → result ≡ next_now a }
         ensures tells { (a : Account) → Tells a self.old.view → Tells (looked a) self.new.view }
+        ensures not_below { (a : Account) → KeepUp a self.old.view
+            → (next_now a ≤ result) × (next_now a ≡ 0 → result ≡ 0) }
+        ensures keeps_up { (a : Account) → KeepUp a self.old.view
+            → KeepUp (showing result a) self.new.view }
+        ensures seats { of_seats self.new.view ≡ of_seats self.old.view }
         ensures cards { self.new.view.card_words ≡ self.old.view.card_words }
     {
         if !self.now.present {
@@ -150,9 +169,47 @@ impl TransmitControl {
         ensures same { self.new.table ≡ self.old.table }
         ensures claimed { (a : Account) → Tells a self.old.view → next_now a ≤ last_number
             → IsClaimed a self.old.view result (λ b. Tells b self.new.view) }
+        ensures gained { (a : Account) → KeepUp a self.old.view → AllIn self.old.view
+            → HasGained a self.old.view result (λ b. KeepUp b self.new.view) }
+        ensures all_in { AllIn self.old.view → AllIn self.new.view }
+        ensures keeps_up { (a : Account) → KeepUp a self.old.view → KeepUp a self.new.view }
         ensures cards { self.new.view.card_words ≡ self.old.view.card_words }
     {
+        if !self.control.has_room() {
+            return Err(NoClaim::NoKey {
+                after: self.now.epoch,
+            });
+        }
         claim_alone(table, &mut self.control, gate)
+    }
+
+    // ---- seats
+
+    /// A seat for a worker that claims beside, unless eight are out.
+    pub fn seat(&mut self, table: &SlotTable) -> Option<WorkerSeat>
+        requires here { self.old.table ≡ table.now }
+        ensures same { self.new.table ≡ self.old.table }
+        ensures some { IfSome result (λ seat.
+            (seat ≡ record { table = self.old.table; view = new_seat self.old.view })
+            × (self.new ≡ record self.old { view = seated self.old.view })) }
+        ensures none { IfNone result ((8 < free_number self.old.view) × (self.new ≡ self.old)) }
+        ensures keeps_up { (a : Account) → KeepUp a self.old.view → KeepUp a self.new.view }
+    {
+        if self.control.has_room() {
+            Some(self.control.seat(table))
+        } else {
+            None
+        }
+    }
+
+    /// A seat comes back, and control is told what it did.
+    pub fn join(&mut self, table: &SlotTable, seat: WorkerSeat)
+        requires here { (self.old.table ≡ table.now) × (seat.table ≡ table.now) }
+        ensures same { self.new.table ≡ self.old.table }
+        ensures told { self.new ≡ record self.old { view = told self.old.view seat.view } }
+        ensures keeps_up { (a : Account) → KeepUp a self.old.view → KeepUp a self.new.view }
+    {
+        tell(table, seat, &mut self.control);
     }
 }
 

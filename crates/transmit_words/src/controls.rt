@@ -1,6 +1,7 @@
 //! The hands that move the words of all stations.
 
 ghost use Rattle.std.specs.Prelude.{◌≡◌, ◌≤◌, ◌<◌, ◌∷◌, ◌++◌, ℕ, List, [], length, map, OnOk, OnErr};
+ghost use Rattle.std.specs.Prelude.{IfSome, IfNone, Some, slice_get};
 ghost use Rattle.lan_base.specs.declared.frame.UserFrame.{UserFrame};
 ghost use Rattle.association_slots.specs.Views.{ControlAt};
 ghost use Rattle.lan_core.specs.declared.event.Event.TheVariants as events;
@@ -12,11 +13,13 @@ ghost use Rattle.lan_core.specs.Expected.{last_number};
 ghost use Rattle.lan_core.specs.Standing.{StandsFor};
 ghost use Rattle.group_safety.specs.Accounts.{blank};
 ghost use Rattle.transmit_words.specs.Telling.{Tells};
-ghost use Rattle.transmit_words.specs.Ties.{tables_of, AreTied, AreAhead, Followed};
+ghost use Rattle.transmit_words.specs.Ties.{tables_of, AreTied, AreAhead, HaveKeptUp};
+ghost use Rattle.transmit_words.specs.Ties.{KeepAhead, Followed};
+ghost use Rattle.transmit_words.specs.Seats.{WasSeated, HasJoined, AreAllIn, HasGot};
 
 use crate::control::TransmitControl;
 use crate::following::{card_of, moved};
-use association_slots::SlotTable;
+use association_slots::{SlotTable, WorkerSeat};
 use lan_core::{Fact, Lan};
 use packet_claims::Gate;
 use std::alloc::{AllocError, Global};
@@ -80,6 +83,15 @@ impl Controls {
         ensures ahead { (settings : Settings) (r : Run) → AreTied settings r self.old
             → station < length (stations r)
             → AreAhead settings r (events.Tick station result) self.new }
+        // also while seats are out, whose claims the run doesn't have yet
+        ensures not_below { (settings : Settings) (r : Run) → HaveKeptUp settings r self.old
+            → station < length (stations r)
+            → (next_under settings station r (transmitting_at settings station r) ≤ result)
+            × (next_under settings station r (transmitting_at settings station r) ≡ 0
+            → result ≡ 0) }
+        ensures keeps_up { (settings : Settings) (r : Run) → HaveKeptUp settings r self.old
+            → station < length (stations r)
+            → KeepAhead settings r (events.Tick station result) self.new }
     {
         let place = usize::from(station);
         if place < self.controls.len() {
@@ -101,6 +113,12 @@ impl Controls {
             → station < length (stations r)
             → next_under settings station r (transmitting_at settings station r) ≤ last_number
             → AreAhead settings r (events.Claim station user result) self.new }
+        // Also after workers claimed beside, when the words may be ahead of the run.
+        ensures gained { (settings : Settings) (r : Run) (user : ℕ) → HaveKeptUp settings r self.old
+            → AreAllIn self.old → station < length (stations r)
+            → HasGot settings station r self.old result
+            × KeepAhead settings r (events.Claim station user result) self.new }
+        ensures all_in { AreAllIn self.old → AreAllIn self.new }
     {
         let place = usize::from(station);
         if place < self.controls.len() {
@@ -112,6 +130,42 @@ impl Controls {
             0
         }
     }
+
+    // ---- seats
+
+    /// A seat for a worker that claims beside at a station, unless eight are out there.
+    pub fn seat(&mut self, tables: &[SlotTable], station: u8) -> Option<WorkerSeat>
+        requires here { tables_of self.old ≡ tables.now }
+        ensures same { tables_of self.new ≡ tables_of self.old }
+        ensures some { IfSome result (WasSeated station self.old self.new) }
+        ensures none { IfNone result (self.new ≡ self.old) }
+        ensures keeps_up { (settings : Settings) (r : Run) → HaveKeptUp settings r self.old
+            → HaveKeptUp settings r self.new }
+    {
+        let place = usize::from(station);
+        if place < self.controls.len() {
+            self.controls[place].seat(&tables[place])
+        } else {
+            None
+        }
+    }
+
+    /// A seat of a station comes back, and its words are told what it did.
+    pub fn join(&mut self, tables: &[SlotTable], station: u8, seat: WorkerSeat)
+        requires here { tables_of self.old ≡ tables.now }
+        requires of_it { slice_get (tables_of self.old) station ≡ Some seat.table }
+        ensures same { tables_of self.new ≡ tables_of self.old }
+        ensures told { HasJoined station seat self.old self.new }
+        ensures keeps_up { (settings : Settings) (r : Run) → HaveKeptUp settings r self.old
+            → HaveKeptUp settings r self.new }
+    {
+        let place = usize::from(station);
+        if place < self.controls.len() {
+            self.controls[place].join(&tables[place], seat);
+        }
+    }
+
+    // ---- facts
 
     /// The words follow facts, the first one first, in a group in which they happened.
     pub fn follow<G: Gate>(&mut self, tables: &[SlotTable], lan: &Lan, facts: &[Fact], gate: &G)

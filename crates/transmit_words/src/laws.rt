@@ -17,12 +17,13 @@ ghost use Rattle.group_safety.specs.Accounts.{Account, blank, IsExact};
 ghost use Rattle.transmit_words.specs.Counting.{times_in};
 ghost use Rattle.transmit_words.specs.Telling.{Tells};
 ghost use Rattle.transmit_words.specs.Shown.{Show};
-ghost use Rattle.transmit_words.specs.Ties.{AreTied, AreAhead, Followed};
+ghost use Rattle.transmit_words.specs.Ties.{AreTied, AreAhead, HaveKeptUp, KeepAhead};
+ghost use Rattle.transmit_words.specs.Ties.{Followed};
 
 use association_slots::{law_counted_next, law_words};
 use group_safety::{
-    law_a_place_without_a_station_is_blank, law_an_account_goes_on, law_an_installed_key_is_held,
-    law_facts_move_what_transmits,
+    law_a_place_without_a_station_is_blank, law_an_account_goes_on, law_an_account_goes_onward,
+    law_an_installed_key_is_held, law_facts_move_what_transmits,
 };
 
 /// Between any two steps the words of a station show what they tell: the current word what
@@ -49,6 +50,26 @@ pub fn law_new_words_are_tied()
         → Tells blank c.view → AreAhead settings r (events.Start name sci priority) (cs ++ c ∷ []) }
 {
     law_a_place_without_a_station_is_blank();
+}
+
+/// Where words tell a run, they keep up with it.
+pub fn law_words_that_tell_keep_up()
+    ensures { (settings : Settings) (r : Run) (cs : List ControlAt) → AreTied settings r cs
+        → HaveKeptUp settings r cs }
+{}
+
+/// Also while seats are out, where the words of all stations took the step of an event, and then
+/// followed its facts, they keep up with the run with it, whatever number the event shows.
+pub fn law_all_words_keep_up()
+    ensures { (settings : Settings) (users : List UserFrame) (old new : State) (x : Happening)
+        (r : Run) (cs ds : List ControlAt) → StandsFor settings users old r
+        → StandsFor settings users new (x ∷ r) → IsStep settings users x r
+        → KeepAhead settings r x.event cs → Followed settings (x ∷ r) x.facts cs ds
+        → HaveKeptUp settings (x ∷ r) ds }
+{
+    law_facts_move_what_transmits();
+    law_an_installed_key_is_held();
+    law_an_account_goes_onward();
 }
 
 /// Where the words of all stations took the step of an event, and then followed its facts, they

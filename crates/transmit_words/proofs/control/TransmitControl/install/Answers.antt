@@ -3,9 +3,10 @@ use Rattle.association_slots.specs.Cards.{card_at, card_words}
 use Rattle.association_slots.specs.Learned.{Learned}
 use Rattle.association_slots.specs.Views.{ControlAt}
 use Rattle.association_slots.specs.declared.view.ControlView.{ControlView}
-use Rattle.transmit_words.specs.Telling.{Tells}
+use Rattle.transmit_words.specs.Telling.{KeepUp, Tells, of_seats}
 use Rattle.transmit_words.specs.inside.Kept.{IsKept}
 use Rattle.transmit_words.proofs.Keeping.{carded, kept-card, five-words}
+use Rattle.transmit_words.proofs.KeepingUp.{up-installed}
 use Rattle.transmit_words.proofs.Telling.{tells-installed}
 use Rattle.transmit_words.proofs.control.TransmitControl.install.Goals as goal
 
@@ -25,10 +26,21 @@ returns-in-Ok-clause-tells c = λ a j t is.
     subst (Tells (record a { carried = j })) (sym c.in-Ok.ensures.view)
     (tells-installed c0 c.self.inside.now c.self.inside.cards k a (subst (λ (v : ControlAt). Tells a v.view) (sym c.self.view_is) t) j (card_words c.args.card.now) more (subst Learned c.in-Ok.ensures.view c.in-Ok.ensures.learned) is)
 
+pub returns-in-Ok-clause-keeps_up : goal.returns-in-Ok-clause-keeps_up
+returns-in-Ok-clause-keeps_up c = λ a j t is.
+    let k = c.self.invariant in
+    let c0 = c.self.inside.control.view in
+    let more = kept-card c0 c.self.inside.now c.self.inside.cards k (card_words c.args.card.now) (five-words c.args.card.now) in
+    subst (KeepUp (record a { carried = j })) (sym c.in-Ok.ensures.view)
+    (up-installed c0 c.self.inside.now c.self.inside.cards k a (subst (λ (v : ControlAt). KeepUp a v.view) (sym c.self.view_is) t) j (card_words c.args.card.now) more (subst Learned c.in-Ok.ensures.view c.in-Ok.ensures.learned) is)
+
+pub returns-in-Ok-clause-seats : goal.returns-in-Ok-clause-seats
+returns-in-Ok-clause-seats c = ap of_seats c.in-Ok.ensures.view ∙ ap (λ (v : ControlAt). of_seats v.view) c.self.view_is
+
 pub returns-in-Ok-clause-earlier : goal.returns-in-Ok-clause-earlier
 returns-in-Ok-clause-earlier c = λ a epoch t some low.
     let c0 = c.self.inside.control.view in
-    let told = (subst (λ (v : ControlAt). Tells a v.view) (sym c.self.view_is) t).cards in
+    let told = (subst (λ (v : ControlAt). KeepUp a v.view) (sym c.self.view_is) t).cards in
     subst (λ (old : ControlAt). card_at c.card.new.self.view epoch ≡ card_at old.view epoch) c.self.view_is
     (ap (λ (w : ControlView). card_at w epoch) c.in-Ok.ensures.view
     ∙ c.law_earlier_cards_stay.ensures c0 c.args.card.now epoch some (omega (arith, low, told)))

@@ -3,8 +3,8 @@ use Rattle.std.proofs.lemmas.Option.{slice_get_read}
 use Rattle.std.specs.Prelude.{slice_get}
 use Rattle.lan_core.specs.declared.event.Event.TheVariants as events
 use Rattle.group_safety.proofs.Public.{next-told}
-use Rattle.transmit_words.specs.Ties.{tables_of, AreTied, AreAhead}
-use Rattle.transmit_words.proofs.Stations.{tables-set, next-all}
+use Rattle.transmit_words.specs.Ties.{tables_of, AreTied, AreAhead, HaveKeptUp, KeepAhead}
+use Rattle.transmit_words.proofs.Stations.{tables-set, next-all, up-all}
 use Rattle.transmit_words.proofs.controls.Controls.next.Goals as goal
 
 pub returns-then-place-len-clause-next : goal.returns-then-place-len-clause-next
@@ -28,3 +28,19 @@ returns-then-place-len-clause-same c =
     let cs = c.self.inside.controls.items in
     let at = slice_get_read cs _ c.from-place.result c.index_mut.result.now refl (omega arith) c.index_mut.ensures.value in
     tables-set cs c.from-place.result c.index_mut.result.now c.next.new.self at c.next.ensures.same ∙ ap tables_of c.self.view_is
+
+pub returns-then-place-len-clause-not_below : goal.returns-then-place-len-clause-not_below
+returns-then-place-len-clause-not_below c = λ settings r up there.
+    let cs = c.self.inside.controls.items in
+    let at = slice_get_read cs _ c.from-place.result c.index_mut.result.now refl (omega arith) c.index_mut.ensures.value in
+    let at_s = subst (λ (p : ℕ). slice_get cs p ≡ Some c.index_mut.result.now) c.from-place.ensures at in
+    (up-all settings r cs c.args.station c.index_mut.result.now c.next.new.self (subst (HaveKeptUp settings r) (sym c.self.view_is) up) at_s (next-told settings c.args.station r) c.next.result c.next.ensures.not_below c.next.ensures.keeps_up).0
+
+pub returns-then-place-len-clause-keeps_up : goal.returns-then-place-len-clause-keeps_up
+returns-then-place-len-clause-keeps_up c = λ settings r up there.
+    let cs = c.self.inside.controls.items in
+    let at = slice_get_read cs _ c.from-place.result c.index_mut.result.now refl (omega arith) c.index_mut.ensures.value in
+    let same : c.from-place.result ≡ c.args.station = c.from-place.ensures in
+    let at_s = subst (λ (p : ℕ). slice_get cs p ≡ Some c.index_mut.result.now) same at in
+    subst (λ (p : ℕ). KeepAhead settings r (events.Tick c.args.station c.next.result) (set cs p c.next.new.self)) (sym same)
+    (up-all settings r cs c.args.station c.index_mut.result.now c.next.new.self (subst (HaveKeptUp settings r) (sym c.self.view_is) up) at_s (next-told settings c.args.station r) c.next.result c.next.ensures.not_below c.next.ensures.keeps_up).1

@@ -1,0 +1,39 @@
+-- How the words of all stations change as a seat goes out, and as one comes back; and what a claim
+-- got afterwards.
+use Rattle.std.specs.Prelude.{◌≡◌, ◌≤◌, ◌<◌, ◌⊎◌, ℕ, List, slice_get, slice_set, Some}
+use Rattle.association_slots.specs.Steps.{new_seat, seated, told}
+use Rattle.association_slots.specs.Views.{ControlAt, SeatAt, AllIn, current, told_sum}
+use Rattle.lan_core.specs.declared.settings.Settings.{Settings}
+use Rattle.lan_core.specs.Expected.{last_number}
+use Rattle.lan_core.specs.Lives.{transmitting_at}
+use Rattle.lan_core.specs.Run.{Run}
+use Rattle.lan_core.specs.Unstopped.{next_under}
+
+-- a seat of this station went out; nothing else changed
+pub record WasSeated (s : ℕ) (old new : List ControlAt) (seat : SeatAt) : Type 0 where
+  pub control : ControlAt
+  pub there : slice_get old s ≡ Some control
+  pub seat_is : seat ≡ record { table = control.table; view = new_seat control.view }
+  pub new_is : new ≡ slice_set old s (record control { view = seated control.view })
+
+-- it came back
+pub record HasJoined (s : ℕ) (seat : SeatAt) (old new : List ControlAt) : Type 0 where
+  pub control : ControlAt
+  pub there : slice_get old s ≡ Some control
+  pub new_is : new ≡ slice_set old s (record control { view = told control.view seat.view })
+
+-- no seat of any station is out
+abbrev pub AreAllIn : List ControlAt → Type 0
+AreAllIn cs = (s : ℕ) (c : ControlAt) → slice_get cs s ≡ Some c → AllIn c.view
+
+-- the words of a station have no packet number left under the key that transmits
+abbrev pub AreSpent : ℕ → List ControlAt → Type 0
+AreSpent s cs = (c : ControlAt) × (slice_get cs s ≡ Some c)
+    × (last_number < told_sum c.view (current c.view).an (current c.view).epoch)
+
+-- a claim after a run got a packet number that is not below the next one, or none, as no key
+-- transmits or the words have none left
+abbrev pub HasGot : Settings → ℕ → Run → List ControlAt → ℕ → Type 0
+HasGot settings s r cs n =
+    ((next_under settings s r (transmitting_at settings s r) ≤ n) × (1 ≤ n) × (n ≤ last_number))
+    ⊎ ((n ≡ 0) × ((next_under settings s r (transmitting_at settings s r) ≡ 0) ⊎ AreSpent s cs))
