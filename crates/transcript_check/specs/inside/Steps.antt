@@ -10,6 +10,7 @@ use Rattle.transcript_check.specs.declared.fault.CheckError.TheVariants.{Refused
 use Rattle.transcript_check.specs.declared.fault.CheckFault.TheVariants.{Doubled, Orphan}
 use Rattle.transcript_check.specs.Judged.{is_missed, same_named}
 use Rattle.transcript_check.specs.Standing.{Maps, Lines, LinesBySak, StandsFor, first_of, line_in, line_at, line_by, refusal, sak_at}
+
 -- nothing but what is found under this key is changed
 pub record KeyIsPut (number : ℕ) (id : KeyId) (named : Named) (old new : Maps) : Type 0 where
   pub count : new.count ≡ old.count
