@@ -1,6 +1,7 @@
 //! The words of all stations, which show packet numbers and give them.
 
-ghost use Rattle.std.specs.Prelude.{◌≡◌, ◌≤◌, ◌<◌, ◌∷◌, [], ℕ, List, length, OnOk};
+ghost use Rattle.std.specs.Prelude.{◌≡◌, ◌≤◌, ◌<◌, ◌∷◌, [], ℕ, List, length, OnOk, IfSome, IfNone};
+ghost use Rattle.std.specs.Prelude.{Some, slice_get};
 ghost use Rattle.lan_base.specs.declared.frame.UserFrame.{UserFrame};
 ghost use Rattle.association_slots.specs.Views.{ControlAt};
 ghost use Rattle.lan_core.specs.declared.event.Event.TheVariants as events;
@@ -10,16 +11,20 @@ ghost use Rattle.lan_core.specs.Expected.{last_number};
 ghost use Rattle.lan_core.specs.Legal.{IsStepped};
 ghost use Rattle.lan_core.specs.Standing.{State, StandsFor};
 ghost use Rattle.group_safety.specs.Accounts.{IsExact};
-ghost use Rattle.transmit_words.specs.Ties.{tables_of, AreTied, AreAhead};
+ghost use Rattle.transmit_words.specs.Ties.{tables_of, AreTied, AreAhead, HaveKeptUp};
+ghost use Rattle.transmit_words.specs.Ties.{KeepAhead};
+ghost use Rattle.transmit_words.specs.Seats.{WasSeated, HasJoined};
 ghost use Rattle.lan_schedule.specs.Numbers.{shown_next};
-ghost use Rattle.lan_schedule.specs.inside.Set.{AreSet};
+ghost use Rattle.lan_schedule.specs.inside.Set.{AreSet, Keeps};
 
-use association_slots::SlotTable;
+use association_slots::{SlotTable, WorkerSeat};
 use lan_core::{Event, Fact, Lan};
 use packet_claims::Gate;
 use std::alloc::{AllocError, Global};
 use std::marker::Model;
-use transmit_words::{Controls, law_all_words_stay_tied, law_new_words_are_tied};
+use transmit_words::{
+    Controls, law_all_words_keep_up, law_all_words_stay_tied, law_new_words_are_tied,
+};
 
 /// The words of all stations: the tables by place, and the hands that move them. Contracts see what
 /// the hands know.
@@ -59,6 +64,13 @@ impl Words {
         ensures ahead { (settings : Settings) (r : Run) → AreTied settings r self.old
             → station < length (stations r)
             → AreAhead settings r (events.Tick station result) self.new }
+        // Also while workers claim beside.
+        ensures not_below { (settings : Settings) (r : Run) → HaveKeptUp settings r self.old
+            → station < length (stations r) → (shown_next settings station r ≤ result)
+            × (shown_next settings station r ≡ 0 → result ≡ 0) }
+        ensures keeps_up { (settings : Settings) (r : Run) → HaveKeptUp settings r self.old
+            → station < length (stations r)
+            → KeepAhead settings r (events.Tick station result) self.new }
     {
         self.controls.next(&self.tables, station)
     }
@@ -75,6 +87,39 @@ impl Words {
         self.controls.claim(&self.tables, station, gate)
     }
 
+    // ---- seats
+
+    /// The tables of the words, by place.
+    pub fn tables(&self) -> &[SlotTable]
+        ensures { result.now ≡ tables_of self.now }
+    {
+        self.tables.as_slice()
+    }
+
+    /// A seat for a worker that claims beside at a station, unless eight are out there.
+    pub fn seat(&mut self, station: u8) -> Option<WorkerSeat>
+        ensures some { IfSome result (WasSeated station self.old self.new) }
+        ensures none { IfNone result (self.new ≡ self.old) }
+        ensures same { tables_of self.new ≡ tables_of self.old }
+        ensures keeps_up { (settings : Settings) (r : Run) → HaveKeptUp settings r self.old
+            → HaveKeptUp settings r self.new }
+    {
+        self.controls.seat(&self.tables, station)
+    }
+
+    /// A seat of a station comes back, and its words are told what it did.
+    pub fn join(&mut self, station: u8, seat: WorkerSeat)
+        requires { slice_get (tables_of self.old) station ≡ Some seat.table }
+        ensures told { HasJoined station seat self.old self.new }
+        ensures same { tables_of self.new ≡ tables_of self.old }
+        ensures keeps_up { (settings : Settings) (r : Run) → HaveKeptUp settings r self.old
+            → HaveKeptUp settings r self.new }
+    {
+        self.controls.join(&self.tables, station, seat);
+    }
+
+    // ---- events
+
     /// The words follow an event and its facts, after the step of the group.
     pub fn follow<G: Gate>(
         &mut self,
@@ -84,14 +129,22 @@ impl Words {
         facts: &[Fact],
         gate: &G,
     ) -> Result<(), AllocError>
-        ensures { (settings : Settings) (users : List UserFrame) (before : State) (r : Run)
+        ensures tied { (settings : Settings) (users : List UserFrame) (before : State) (r : Run)
             → StandsFor settings users before r
             → StandsFor settings users lan.now (happened event.now facts.now ∷ r)
             → IsStepped settings users (happened event.now facts.now ∷ r)
             → IsExact settings r event.now → AreSet event.now settings r self.old
             → OnOk result (AreTied settings (happened event.now facts.now ∷ r) self.new) }
+        // Also while workers claim beside, and whatever number the event shows.
+        ensures keeps_up { (settings : Settings) (users : List UserFrame) (before : State) (r : Run)
+            → StandsFor settings users before r
+            → StandsFor settings users lan.now (happened event.now facts.now ∷ r)
+            → IsStepped settings users (happened event.now facts.now ∷ r)
+            → Keeps event.now settings r self.old
+            → OnOk result (HaveKeptUp settings (happened event.now facts.now ∷ r) self.new) }
     {
         law_all_words_stay_tied();
+        law_all_words_keep_up();
         self.begin(alloc, event)?;
         self.controls.follow(&self.tables, lan, facts, gate);
         Ok(())
@@ -99,10 +152,12 @@ impl Words {
 
     /// A station that starts gets words of its own.
     fn begin(&mut self, alloc: Global, event: &Event) -> Result<(), AllocError>
-        ensures { (settings : Settings) (users : List UserFrame) (before : State) (r : Run)
+        ensures ahead { (settings : Settings) (users : List UserFrame) (before : State) (r : Run)
             → StandsFor settings users before r → IsStepped settings users r
             → AreSet event.now settings r self.old
             → OnOk result (AreAhead settings r event.now self.new) }
+        ensures keeps_up { (settings : Settings) (r : Run) → Keeps event.now settings r self.old
+            → OnOk result (KeepAhead settings r event.now self.new) }
     {
         law_new_words_are_tied();
         match event {

@@ -15,4 +15,4 @@ returns-clause-once c = λ w replay s control stands has epoch pn.
 
 pub returns-clause-shown : goal.returns-clause-shown
 returns-clause-shown c = λ w replay s control stands has.
-    (is-tied w replay s control stands has).2.shows
+    (is-tied w replay s control stands has).2.keep_up.shows

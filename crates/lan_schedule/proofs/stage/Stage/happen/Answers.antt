@@ -37,7 +37,7 @@ returns-in_err-record g c =
       scis = c.in_ok-admit.ensures.scis;
       frames = rw c.as_slice.ensures at c.in_ok-put.ensures;
       words = λ settings users r before after stepped exact set.
-          (rw c.as_slice-2.ensures at c.in_ok-follow.ensures) settings users c.args.self.now.lan r
+          (rw c.as_slice-2.ensures at c.in_ok-follow.ensures.tied) settings users c.args.self.now.lan r
           before after stepped exact set;
       tally = λ shown stood. (rw c.as_slice-3.ensures at c.count_all.ensures) shown stood;
     })
@@ -61,7 +61,7 @@ returns g c =
       scis = c.in_ok-admit.ensures.scis;
       frames = rw c.as_slice.ensures at c.in_ok-put.ensures;
       words = λ settings users r before after stepped exact set.
-          (rw c.as_slice-2.ensures at c.in_ok-follow.ensures) settings users c.args.self.now.lan r
+          (rw c.as_slice-2.ensures at c.in_ok-follow.ensures.tied) settings users c.args.self.now.lan r
           before after stepped exact set;
       tally = λ shown stood. (rw c.as_slice-3.ensures at c.count_all.ensures) shown stood;
     })
