@@ -1,6 +1,6 @@
 -- The definitions at small runs, worked by hand. Ciphers stay closed: a frame is shown by its kind.
-use Rattle.std.proofs.Common.{◌≡◌, ℕ, true, false, List, [], ◌∷◌, ◌++◌, None, Some, refl}
-use Rattle.std.specs.Prelude.{◌+◌, replicate, unwrap_or, map}
+use Rattle.std.proofs.Common.{◌≡◌, ℕ, true, false, List, [], ◌∷◌, ◌++◌, Option, None, Some, refl}
+use Rattle.std.specs.Prelude.{◌+◌, replicate, unwrap_or, map, is_some, option_map}
 use Rattle.lan_base.specs.declared.address.Mi.{Mi}
 use Rattle.lan_base.specs.declared.address.Sci.{Sci}
 use Rattle.lan_base.specs.declared.association_number.AssociationNumber.TheVariants.{An0, An2}
@@ -31,13 +31,14 @@ use Rattle.lan_core.specs.declared.fact.Fact.TheVariants as facts
 use Rattle.lan_core.specs.declared.fact.Lack.TheVariants.{NoKey, Exhausted}
 use Rattle.lan_core.specs.declared.settings.Settings.{Settings}
 use Rattle.lan_core.specs.Run.{Run, Happening, happened, stations, facts_of}
-use Rattle.lan_core.specs.Ledgers.{air, births, installs, claims}
-use Rattle.lan_core.specs.Lives.{life, receiving}
+use Rattle.lan_core.specs.Ledgers.{air, births, frame_at, installs, claims}
+use Rattle.lan_core.specs.Lives.{Life, life, receiving}
 use Rattle.lan_core.specs.Claims.{next, a_claim, claimed, waiting_under}
-use Rattle.lan_core.specs.Expected.{expected, drawn_in, claim_fact}
+use Rattle.lan_core.specs.Expected.{expected, drawn_in, claim_fact, reached_facts}
 use Rattle.lan_core.specs.Order.{settled}
 use Rattle.lan_core.specs.Legal.{is_excuse, unused}
 use Rattle.lan_core.specs.Fresh.{drawn_mis, drawn_saks}
+use Rattle.lan_core.specs.Batches.{BringsData, IsBatch}
 
 opens : ℕ
 unfolding refusal accepted outcome says hopes known received latest old transmitting peers_of keys_of elected view judged hear_turn tick_turn ending stations air births installs claims life receiving next claimed expected drawn_saks reading parts_at tag_fields
@@ -136,6 +137,38 @@ four_answers : facts_of (play foreign) ≡
     ∷ facts.Arrived 0 0 (Malformed refusals.Version) ∷ []
 unfolding opens play
 four_answers = refl
+
+-- ---- a batch: a protected frame of the first station reaches the second, twice
+
+abbrev sent_one : Run
+sent_one =
+    happened events.Emit (facts.Framed 1 0 true (headed 0) ∷ []) ∷ play two
+
+abbrev arrives : Happening
+arrives =
+    happened (events.Deliver 1 1) (facts.Arrived 1 1 (Malformed refusals.Mode) ∷ [])
+
+brings : (r : Run) → frame_at r 1 ≡ frame_at sent_one 1 → is_some (life settings 1 r) ≡ true
+    → BringsData settings [] r arrives
+unfolding opens play
+brings r on_air lives = record {
+  number = 1;
+  station = 1;
+  event = refl;
+  frame = record { number = 1; station = 0; sec = true; octets = headed 0 };
+  found = on_air;
+  protected = refl;
+  shows = λ drawn. rw on_air (arrived (life settings 1 r) lives);
+}
+  where
+    arrived : (l : Option Life) → is_some l ≡ true
+        → option_map (reached_facts settings 1 r 1 (headed 0)) l ≡ Some arrives.facts
+    arrived (Some l) lives = refl
+    arrived None lives = absurd (cc lives)
+
+a_batch : IsBatch settings [] sent_one (arrives ∷ arrives ∷ [])
+unfolding opens play
+a_batch = (brings (arrives ∷ sent_one) refl refl, (brings sent_one refl refl, tt))
 
 abbrev again : List Move
 again =

@@ -17,6 +17,8 @@ pub mod EmissionGoesOn
 pub mod RefusalPassedOn
 pub mod GroupMoved
 pub mod OctetsReach
+pub mod Admitted
+pub mod ChecksStay
 pub mod DrawsLookedUp
 pub mod SpellingRepeats
 pub mod OctetsLookedUp

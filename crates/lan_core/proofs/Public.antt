@@ -13,6 +13,7 @@ pub use Rattle.lan_core.proofs.SuppliedDraws.{counts-are, streamed-are}
 pub use Rattle.lan_core.proofs.EachInALife.{in-a-life}
 pub use Rattle.lan_core.proofs.StaysThrifty.{stays-thrifty}
 pub use Rattle.lan_core.proofs.UnstoppedSteps.{fresh, is-step, legal, unforged}
+pub use Rattle.lan_core.proofs.ChecksStay.{checked-later}
 pub use Rattle.lan_core.proofs.EpochsCount.{lives-count}
 pub use Rattle.lan_core.proofs.FirstFacts.{AreOther, IsClaim, is-claim, excused-other}
 pub use Rattle.lan_core.proofs.ExcusesStay.{stays-excused}

@@ -1,6 +1,6 @@
 -- The seat of a station goes on with what the station does.
 use Rattle.std.proofs.Common.{◌≡◌, ◌∙◌, ◌+◌, ◌≤◌, ℕ, Bool, true, false, cond, not, ◌&&◌, List, [], ◌∷◌, Some, None, Result, Ok, Err, refl, ap, sym, subst, arith}
-use Rattle.std.specs.Prelude.{OnOk}
+use Rattle.std.specs.Prelude.{OnErr, OnOk}
 use Rattle.aes_block.specs.declared.secret.Secret.{Secret}
 use Rattle.gcm_frames.specs.declared.tag.TagRefusal.TheVariants.{NotSec, Version, Mode, Short, SlWrong}
 use Rattle.gcm_frames.specs.Tags.{tag_fields, fields_or, is_sec, has_control, has_version, is_mode, is_short, is_length_wrong}
@@ -15,7 +15,7 @@ use Rattle.mka_station.specs.Tick.{tick_turn}
 use Rattle.mka_station.specs.Hearing.{frame_turn, hear_turn}
 use Rattle.mka_station.specs.Standing.{StandsFor as StationStandsFor}
 use Rattle.lan_core.specs.Lives.{Life, lived, lived_ticking, seen_at, slot_change, turn_at_tick}
-use Rattle.lan_core.specs.Standing.{Seat, Sits}
+use Rattle.lan_core.specs.Standing.{Seat, Sits, IsAlive}
 use Rattle.lan_core.specs.inside.Following.{followed, count_installed, tells_sec}
 use Rattle.lan_core.specs.declared.fact.Fact.{Fact}
 use Rattle.lan_core.specs.declared.fact.Fact.TheVariants as facts
@@ -44,44 +44,52 @@ pub on-ok : {A E P : Type 0} (r : Result A E) → P → OnOk r P
 on-ok (Ok a) holds = holds
 on-ok (Err e) holds = tt
 
+pub on-err : {A E P : Type 0} (r : Result A E) → P → OnErr r P
+on-err (Ok a) holds = tt
+on-err (Err e) holds = holds
+
+-- a seat that sits is alive, and one that is alive sits where its slots stand
+pub alive : (window : ℕ) (l : Life) (h : List Receiving) (seat : Seat) → Sits window l h seat → IsAlive l seat
+alive window l h seat s = record { station = s.station; ticks = s.ticks; sent = s.sent; installs = s.installs }
+
+pub sits-with : (window : ℕ) (l : Life) (h : List Receiving) (seat : Seat) → IsAlive l seat
+    → SlotsStandFor l.member.setup.sci window seat.slots h → Sits window l h seat
+sits-with window l h seat a slots = record { station = a.station; slots = slots; ticks = a.ticks; sent = a.sent; installs = a.installs }
+
 -- a life begins
-pub sits-new : (window : ℕ) (m : Member) (h : List Receiving) (seat : Seat) → StationStandsFor m seat.station []
-    → SlotsStandFor m.setup.sci window seat.slots h → seat.ticks ≡ 0 → seat.installs ≡ m.base
-    → Sits window (record { member = m; past = [] }) h seat
+pub alive-new : (m : Member) (seat : Seat) → StationStandsFor m seat.station [] → seat.ticks ≡ 0 → seat.installs ≡ m.base
+    → IsAlive (record { member = m; past = [] }) seat
 unfolding peers_of keys_of
-sits-new window m h seat stands slots ticks installs = record {
+alive-new m seat stands ticks installs = record {
   station = stands;
-  slots = slots;
   ticks = ticks;
   sent = omega (arith, ticks);
   installs = omega (arith, installs);
 }
 
 -- a life goes on with a tick
-pub sits-ticked : (window : ℕ) (l : Life) (h : List Receiving) (old new : Seat) (seen : Seen) (sak : Secret) (cs : List Change)
-    → Sits window l h old → StationStandsFor l.member new.station (tick_turn l.member seen sak l.past).past
-    → cs ≡ (tick_turn l.member seen sak l.past).reaction.changes → SlotsStandFor l.member.setup.sci window new.slots (followed cs h)
+pub alive-ticked : (l : Life) (old new : Seat) (seen : Seen) (sak : Secret) (cs : List Change)
+    → IsAlive l old → StationStandsFor l.member new.station (tick_turn l.member seen sak l.past).past
+    → cs ≡ (tick_turn l.member seen sak l.past).reaction.changes
     → new.ticks ≡ old.ticks + 1 → new.installs ≡ old.installs + count_installed cs
     → last_sent (peers_of l.member (tick_turn l.member seen sak l.past).past) ≤ last_sent (peers_of l.member l.past) + 1
-    → Sits window (lived l (tick_turn l.member seen sak l.past)) (followed cs h) new
-sits-ticked window l h old new seen sak cs s stands is slots ticks installs sent = record {
+    → IsAlive (lived l (tick_turn l.member seen sak l.past)) new
+alive-ticked l old new seen sak cs s stands is ticks installs sent = record {
   station = stands;
-  slots = slots;
   ticks = omega (arith, ticks, s.ticks, tick-clock l.member seen sak l.past);
   sent = omega (arith, ticks, s.sent, sent);
   installs = omega (arith, installs, s.installs, ap count_installed is, tick-count l.member seen sak l.past);
 }
 
 -- a life goes on with a frame that is heard
-pub sits-heard : (window : ℕ) (l : Life) (h : List Receiving) (old new : Seat) (frame : List ℕ) (cs : List Change)
-    → Sits window l h old → StationStandsFor l.member new.station (frame_turn l.member frame l.past).past
-    → cs ≡ (frame_turn l.member frame l.past).reaction.changes → SlotsStandFor l.member.setup.sci window new.slots (followed cs h)
+pub alive-heard : (l : Life) (old new : Seat) (frame : List ℕ) (cs : List Change)
+    → IsAlive l old → StationStandsFor l.member new.station (frame_turn l.member frame l.past).past
+    → cs ≡ (frame_turn l.member frame l.past).reaction.changes
     → new.ticks ≡ old.ticks → new.installs ≡ old.installs + count_installed cs
     → ((a : Announcement) → last_sent (peers_of l.member (hear_turn l.member a l.past).past) ≡ last_sent (peers_of l.member l.past))
-    → Sits window (lived l (frame_turn l.member frame l.past)) (followed cs h) new
-sits-heard window l h old new frame cs s stands is slots ticks installs silent = record {
+    → IsAlive (lived l (frame_turn l.member frame l.past)) new
+alive-heard l old new frame cs s stands is ticks installs silent = record {
   station = stands;
-  slots = slots;
   ticks = omega (arith, ticks, s.ticks, frame-clock l.member frame l.past);
   sent = omega (arith, ticks, s.sent, frame-sent l.member frame l.past silent);
   installs = omega (arith, installs, s.installs, ap count_installed is, frame-count l.member frame l.past);

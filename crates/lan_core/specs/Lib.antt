@@ -21,4 +21,5 @@ pub mod Standing
 pub mod Parts
 pub mod Noting
 pub mod Answers
+pub mod Batches
 pub mod inside

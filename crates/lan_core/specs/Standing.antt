@@ -48,9 +48,16 @@ pub record Sits (window : ℕ) (l : Life) (h : List Receiving) (seat : Seat) : T
   pub sent : last_sent (peers_of l.member l.past) ≤ seat.ticks
   pub installs : seat.installs ≡ l.member.base + install_count (keys_of l.member l.past)
 
+-- a seat stands for a life, whatever its receive slots are
+pub record IsAlive (l : Life) (seat : Seat) : Type 0 where
+  pub station : StationStandsFor l.member seat.station l.past
+  pub ticks : seat.ticks ≡ clock (peers_of l.member l.past)
+  pub sent : last_sent (peers_of l.member l.past) ≤ seat.ticks
+  pub installs : seat.installs ≡ l.member.base + install_count (keys_of l.member l.past)
+
 -- a seat stands for some life
 abbrev pub IsSeat : Seat → Type 0
-IsSeat seat = (window : ℕ) × ((l : Life) × ((h : List Receiving) × Sits window l h seat))
+IsSeat seat = (l : Life) × IsAlive l seat
 
 -- A place has a seat, a life and a profile, which agree with what its slots received and with so
 -- many installs, or none of them and nothing happened there.

@@ -5,21 +5,23 @@ mod settling;
 mod stopping;
 mod traffic;
 
-ghost use Rattle.std.specs.Prelude.{◌≡◌, ◌+◌, ◌∷◌, ◌↔◌, [], List, ℕ, Some, None, Err, option_map, IfOk, OnOk, OnErr, IfErr, IfSome};
+ghost use Rattle.std.specs.Prelude.{◌≡◌, ◌+◌, ◌∷◌, ◌↔◌, [], List, ℕ, Option, Some, None, Err, option_map, IfOk, OnOk, OnErr, IfErr, IfSome, slice_get};
 ghost use Rattle.std.specs.Option.{option_copied};
 ghost use Rattle.lan_base.specs.declared.association_number.AssociationNumber.{AssociationNumber};
 ghost use Rattle.lan_base.specs.declared.frame.UserFrame.{UserFrame};
 ghost use Rattle.mka_kdf.specs.declared.group.GroupFault.{GroupFault};
 ghost use Rattle.mka_kdf.specs.Kdf.{HasWrongLength};
 ghost use Rattle.lan_core.specs.declared.settings.Settings.{Settings};
-ghost use Rattle.lan_core.specs.Run.{Run, happened};
+ghost use Rattle.lan_core.specs.declared.event.Event.TheVariants as events;
+ghost use Rattle.lan_core.specs.Run.{Run, happened, stations};
 ghost use Rattle.lan_core.specs.Ledgers.{frame_at};
-ghost use Rattle.lan_core.specs.Lives.{transmitting_at};
+ghost use Rattle.lan_core.specs.Lives.{receiving, transmitting_at};
 ghost use Rattle.lan_core.specs.Expected.{expected, drawn_from};
 ghost use Rattle.lan_core.specs.Keys.{held_at, place_of};
 ghost use Rattle.lan_core.specs.Stops.{MayCome, draws_needed, first_stop};
 ghost use Rattle.lan_core.specs.Standing.{StandsFor, octets_at};
 ghost use Rattle.lan_core.specs.Answers.{Answers, IsWhy};
+ghost use Rattle.lan_core.specs.Batches.{HasSlots, IsChecked};
 
 use crate::air::Air;
 use crate::drawn::Drawn;
@@ -32,6 +34,7 @@ use crate::stop::StepError;
 use crate::waiting::Queue;
 use lan_base::{AssociationNumber, Draws, Name, UserFrame, is_ckn};
 use mka_kdf::GroupFault;
+use rx_slots::{Checked, RxSlots};
 use sak_exchange::HeldKey;
 use std::alloc::Global;
 use std::marker::Model;
@@ -147,6 +150,47 @@ impl Lan {
                 self.stopped = Some(error);
                 Err(error)
             }
+        }
+    }
+
+    /// A protected frame of the air reaches a station, and was checked by the station's receive
+    /// slots, under the keys that stand now: what `Deliver` does, without the check.
+    pub fn admit(&mut self, station: u8, number: u32, checked: Checked) -> Result<Facts, StepError>
+        // It answers as a delivery does, and draws nothing.
+        ensures answers { (settings : Settings) (users : List UserFrame) (r : Run)
+            (nth : ℕ → Option (List ℕ))
+            → StandsFor settings users self.old r → IsChecked r number station checked
+            → Answers settings users r (events.Deliver number station) nth nth self.new result }
+
+        // No admission changes the air or a name. Where one fails the group is stopped, and answers
+        // the same from then on.
+        ensures shown { (self.new.air ≡ self.old.air) × (self.new.names ≡ self.old.names) }
+        ensures stopped { IfErr result (λ error. self.new.stopped ≡ Some error) }
+        ensures again { IfSome self.old.stopped
+            (λ error. (result ≡ Err error) × (self.new ≡ self.old)) }
+    {
+        if let Some(error) = self.stopped {
+            return Err(error);
+        }
+        match self.admit_frame(station, number, checked) {
+            Ok(facts) => Ok(facts),
+            Err(fault) => {
+                self.stopped = Some(fault);
+                Err(fault)
+            }
+        }
+    }
+
+    /// The receive slots of a station, which check frames before they are admitted.
+    pub fn slots(&self, station: u8) -> Option<&RxSlots>
+        ensures { (settings : Settings) (users : List UserFrame) (r : Run)
+            → StandsFor settings users self.now r
+            → HasSlots settings (receiving station r) (option_copied result)
+            (slice_get (stations r) station) }
+    {
+        match self.seats.get(station) {
+            Some(seat) => Some(seat.slots()),
+            None => None,
         }
     }
 

@@ -19,6 +19,9 @@ ghost use Rattle.lan_core.specs.Legal.{is_excused_by, IsExcused, IsExcusedBefore
 ghost use Rattle.lan_core.specs.Fresh.{IsFresh, IsUnforged};
 ghost use Rattle.lan_core.specs.Unstopped.{IsUnstopped, LeavesNoneOut};
 ghost use Rattle.lan_core.specs.Standing.{State, StandsFor};
+ghost use Rattle.lan_core.specs.Batches.{IsBatch, IsChecked, checked_at};
+ghost use Rattle.lan_base.specs.declared.address.Sci.{Sci};
+ghost use Rattle.rx_slots.specs.declared.arrival.Checked.{Checked};
 
 /// A claim changes the life of no station, and neither does an emission.
 pub fn law_claims_and_emissions_change_no_life()
@@ -32,6 +35,18 @@ pub fn law_claims_and_emissions_change_no_life()
 pub fn law_events_of_others_change_no_life()
     ensures { (settings : Settings) (s : ℕ) (x : Happening) (r : Run) → Exists s r
         → is_event_of s x.event ≡ false → life settings s (x ∷ r) ≡ life settings s r }
+{}
+
+/// What a station's receive slots answer to a frame as far as its tag before a batch of protected
+/// frames is what they answer to it later in the batch: no such frame changes a key. So what may be
+/// admitted before the batch may be admitted later in it.
+pub fn law_what_was_checked_stays_checked()
+    ensures later { (settings : Settings) (users : List UserFrame) (r batch : Run)
+        → IsBatch settings users r batch → (number s : ℕ) (answer : Checked)
+        → IsChecked r number s answer → IsChecked (batch ++ r) number s answer }
+    ensures stays { (settings : Settings) (users : List UserFrame) (r batch : Run)
+        → IsBatch settings users r batch → (s : ℕ) (own : Sci) (octets : List ℕ)
+        → checked_at s (batch ++ r) own octets ≡ checked_at s r own octets }
 {}
 
 /// Each station of a stepped run is in a life.

@@ -47,6 +47,7 @@ pub use laws::{
     law_fronts_of_fresh_runs_are_fresh, law_fronts_of_stepped_runs_are_stepped,
     law_fronts_of_unforged_runs_are_unforged, law_more_users_change_no_run,
     law_next_numbers_keep_a_run_thrifty, law_the_next_number_never_falls,
+    law_what_was_checked_stays_checked,
 };
 pub use parts::law_claims_tell_packet_numbers_alone;
 pub use settings::Settings;

@@ -9,7 +9,8 @@ ghost use Rattle.lan_base.specs.Ranges.{IsUserData, most_frame_octets};
 ghost use Rattle.aes_block.specs.Secrets.{secret_octets};
 ghost use Rattle.gcm_frames.specs.Protected.{protected};
 ghost use Rattle.sak_exchange.specs.Held.{held as held_after, transmitting as transmitting_after};
-ghost use Rattle.rx_slots.specs.Histories.{Receiving, heard};
+ghost use Rattle.rx_slots.specs.Answers.{checked as checked_answer};
+ghost use Rattle.rx_slots.specs.Histories.{Receiving, heard, standing_key};
 ghost use Rattle.rx_slots.specs.Numbers.{answer};
 ghost use Rattle.lan_core.specs.declared.fact.Fact.TheVariants.{Arrived};
 ghost use Rattle.mka_station.specs.Standing.{born, reborn, drawn_mi};
@@ -37,7 +38,7 @@ use crate::telling::{one, tell, told};
 use gcm_frames::{Tag, TagRefusal, tag_of};
 use lan_base::{AssociationNumber, Draws, Octets, UserFrame, is_user_data};
 use mka_station::{Config, Reaction, Station, TickError, law_room, law_turns_count};
-use rx_slots::RxSlots;
+use rx_slots::{Checked, RxSlots};
 use sak_exchange::{HeldKey, Key, Seen};
 use std::alloc::{AllocError, Global};
 use std::marker::Model;
@@ -263,13 +264,39 @@ impl Seat {
         ensures counted { IfOk result (λ facts. self.new.installs
             ≡ self.old.installs + installs_in facts) }
     {
-        let arrival = self.slots.receive(octets)?;
+        let checked = self.slots.check(octets)?;
+        self.admit(place, number, checked)
+    }
+
+    /// A protected frame of this number reaches the station, which stands at this place, and was
+    /// answered as far as its tag under the keys that stand now.
+    pub fn admit(&mut self, place: u8, number: u32, checked: Checked) -> Result<Facts, AllocError>
+        ensures facts { (window : ℕ) (l : Life) (h : List Receiving) (octets : List ℕ)
+            → Sits window l h self.old
+            → checked ≡ checked_answer l.member.setup.sci (standing_key h) octets
+            → IfOk result (λ facts. facts ≡ Arrived number place
+            (answer l.member.setup.sci window h octets) ∷ []) }
+        ensures stands { (window : ℕ) (l : Life) (h : List Receiving) (octets : List ℕ)
+            → Sits window l h self.old
+            → checked ≡ checked_answer l.member.setup.sci (standing_key h) octets
+            → OnOk result (Sits window l (heard octets ∷ h) self.new) }
+        ensures counted { IfOk result (λ facts. self.new.installs
+            ≡ self.old.installs + installs_in facts) }
+    {
+        let arrival = self.slots.admit(checked)?;
         let arrived = Fact::Arrived {
             frame: number,
             station: place,
             arrival,
         };
         one(self.alloc, arrived)
+    }
+
+    /// The receive slots.
+    pub fn slots(&self) -> &RxSlots
+        ensures { result.now ≡ self.now.slots }
+    {
+        &self.slots
     }
 
     /// A frame that is no protected one reaches the station.

@@ -4,6 +4,7 @@ ghost use Rattle.std.specs.Prelude.{◌≡◌, ◌≤◌, ◌++◌, ◌∷◌, �
 ghost use Rattle.std.specs.Option.{option_copied};
 ghost use Rattle.lan_base.specs.declared.frame.UserFrame.{UserFrame};
 ghost use Rattle.lan_base.specs.Ranges.{most_frame_octets};
+ghost use Rattle.gcm_frames.specs.Tags.{is_sec};
 ghost use Rattle.rx_slots.specs.Histories.{Receiving};
 ghost use Rattle.mka_station.specs.Drawing.{is_short};
 ghost use Rattle.mka_station.specs.declared.tick_error.TickError.{TickError};
@@ -12,6 +13,7 @@ ghost use Rattle.lan_core.specs.Run.{Run};
 ghost use Rattle.lan_core.specs.Ledgers.{next_frame};
 ghost use Rattle.lan_core.specs.Lives.{Life, receiving, seen_at};
 ghost use Rattle.lan_core.specs.Standing.{Seat, Sits};
+ghost use Rattle.lan_core.specs.Batches.{checked_at};
 ghost use Rattle.lan_core.specs.inside.Seats.{Claims, Ticks, Reaches, Restarts};
 
 use crate::came::Came;
@@ -19,6 +21,7 @@ use crate::claimed::Claimed;
 use crate::seat::Seat;
 use lan_base::{Draws, UserFrame};
 use mka_station::TickError;
+use rx_slots::Checked;
 use std::alloc::{AllocError, Global};
 use std::marker::Model;
 
@@ -112,6 +115,29 @@ impl Seats {
             return Ok(None);
         };
         let facts = seat.reach(place, number, octets)?;
+        let installs = seat.installs();
+        Ok(Some(Came { facts, installs }))
+    }
+
+    /// A protected frame of this number reaches a station, if it is there, and was answered as far
+    /// as its tag under the keys that stand there now.
+    pub fn admit(
+        &mut self,
+        place: u8,
+        number: u32,
+        checked: Checked,
+    ) -> Result<Option<Came>, AllocError>
+        ensures { (settings : Settings) (r : Run) (seat : Seat) (l : Life) (octets : List ℕ)
+            → slice_get self.old place ≡ Some seat → Sits settings.window l (receiving place r) seat
+            → is_sec octets ≡ true
+            → checked ≡ checked_at place r l.member.setup.sci octets
+            → IfOk result (λ came. IsSomeAnd came
+            (Reaches settings r place seat l number octets self.old self.new)) }
+    {
+        let Some(seat) = self.seats.get_mut(place as usize) else {
+            return Ok(None);
+        };
+        let facts = seat.admit(place, number, checked)?;
         let installs = seat.installs();
         Ok(Some(Came { facts, installs }))
     }

@@ -15,6 +15,7 @@ ghost use Rattle.lan_core.specs.Lives.{Life, keys_in};
 ghost use Rattle.lan_core.specs.Stops.{MayCome};
 ghost use Rattle.lan_core.specs.Standing.{StandsFor, Sits};
 ghost use Rattle.lan_core.specs.Answers.{Answers};
+ghost use Rattle.lan_core.specs.Batches.{IsChecked};
 ghost use Rattle.lan_core.specs.inside.Shown.{claim_shown};
 
 use super::Lan;
@@ -26,6 +27,7 @@ use crate::stop::StepError;
 use crate::telling::one;
 use crate::waiting::{Queue, Sealed};
 use lan_base::{FRAME_MAX, Octets, UserFrame, is_user_data};
+use rx_slots::Checked;
 use sak_exchange::HeldKey;
 use std::alloc::AllocError;
 
@@ -44,6 +46,26 @@ impl Lan {
             return Ok(Facts::new(self.alloc));
         };
         let Some(came) = self.seats.reach(station, frame, octets)? else {
+            return Ok(Facts::new(self.alloc));
+        };
+        judge_installs(came.installs)?;
+        Ok(came.facts)
+    }
+
+    /// A frame of the air that was checked reaches a station.
+    pub(super) fn admit_frame(
+        &mut self,
+        station: u8,
+        number: u32,
+        checked: Checked,
+    ) -> Result<Facts, StepError>
+        ensures answers { (settings : Settings) (users : List UserFrame) (r : Run)
+            (nth : ℕ → Option (List ℕ))
+            → StandsFor settings users self.old r → IsChecked r number station checked
+            → Answers settings users r (events.Deliver number station) nth nth self.new result }
+        ensures shown { (self.new.air ≡ self.old.air) × (self.new.names ≡ self.old.names) }
+    {
+        let Some(came) = self.seats.admit(station, number, checked)? else {
             return Ok(Facts::new(self.alloc));
         };
         judge_installs(came.installs)?;

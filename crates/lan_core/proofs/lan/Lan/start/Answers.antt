@@ -8,10 +8,12 @@ use Rattle.lan_core.specs.declared.settings.Settings.{Settings}
 use Rattle.lan_core.specs.declared.stop.Stop.TheVariants.{DrawsSpent}
 use Rattle.lan_core.specs.Lives.{setup_of}
 use Rattle.lan_core.specs.Order.{most_stations}
-use Rattle.lan_core.specs.Standing.{Sits, StandsFor, number_of_mi}
+use Rattle.lan_core.specs.declared.stop.StepError.TheVariants.{Memory}
+use Rattle.lan_core.specs.Standing.{Sits, State, StandsFor, number_of_mi}
 use Rattle.lan_core.specs.Noting.{MiIsNoted}
 use Rattle.lan_core.specs.inside.Drawing.{stop_of}
 use Rattle.lan_core.proofs.RefusalPassedOn.{refused, stopped, by-part}
+use Rattle.lan_core.proofs.SeatGoesOn.{on-err}
 use Rattle.lan_core.proofs.RestartGoesOn.{no-draw}
 use Rattle.lan_core.proofs.StartGoesOn.{profile_of, start-fits, start-full, start-goes-on}
 use Rattle.lan_core.proofs.lan.Lan.start.Goals as goal
@@ -70,3 +72,13 @@ returns-clause-answers g c settings users r stands comes =
     c.in_ok-facts.ensures ∙ (λ i. facts.Life (placed i) (mi i) ∷ []) in
     start-goes-on settings users r _ st c.args.name c.args.sci c.args.priority draw room c.in_ok-seat.seat sits nth after first taken goes
     c.note_mi.new.drawn noted c.in_ok-facts.facts told c.push-2.new.self c.in_ok-push-2.ensures.ok c.push.new.self c.in_ok-push.ensures
+
+pub returns-in_err-facts-clause-answers : goal.returns-in_err-facts-clause-answers
+returns-in_err-facts-clause-answers g c settings users r stands comes =
+    refused settings users r (events.Start c.args.name c.args.sci c.args.priority)
+    (g.D.Draws.nth c.args.draws.now) _ _ _ Memory c.from_residual-in_err-facts.ensures.1 tt
+
+pub returns-in_err-facts-clause-shown : goal.returns-in_err-facts-clause-shown
+returns-in_err-facts-clause-shown g c =
+    on-err c.from_residual-in_err-facts.result
+    (ap (λ (lan : State). lan.air) c.self.view_is, ap (λ (lan : State). lan.names) c.self.view_is)

@@ -9,13 +9,13 @@ use Rattle.lan_core.specs.Lives.{lived}
 use Rattle.lan_core.specs.Standing.{Seat, Sits}
 use Rattle.lan_core.specs.inside.Following.{followed, count_installed}
 use Rattle.lan_core.proofs.SlotsFollow.{tick-count}
-use Rattle.lan_core.proofs.SeatGoesOn.{sits-ticked}
+use Rattle.lan_core.proofs.SeatGoesOn.{alive-ticked, alive, sits-with}
 use Rattle.lan_core.proofs.seat.Seat.advance.Goals as goal
 
 pub installs_after-self-inside-requires : goal.installs_after-self-inside-requires
 installs_after-self-inside-requires g c =
-    let l = c.self.invariant.1.0 in
-    let s = c.self.invariant.1.1.1 in
+    let l = c.self.invariant.0 in
+    let s = c.self.invariant.1 in
     let sak = sak_of l.member.setup.suite (g.D.Draws.nth c.args.draws.now) in
     let is = c.as_slice-changes.ensures ∙ ap (λ (r : Reaction). r.changes) (c.in_ok-reaction.ensures.reaction l.member l.past s.station) in
     omega (
@@ -29,23 +29,15 @@ installs_after-self-inside-requires g c =
 
 pub invariant_of-self-2 : goal.invariant_of-self-2
 invariant_of-self-2 g c =
-    let window = c.self.invariant.0 in
-    let l = c.self.invariant.1.0 in
-    let h = c.self.invariant.1.1.0 in
-    let s = c.self.invariant.1.1.1 in
+    let l = c.self.invariant.0 in
+    let s = c.self.invariant.1 in
     let sak = sak_of l.member.setup.suite (g.D.Draws.nth c.args.draws.now) in
     let cs = c.as_slice-changes.result.now in
     let is = c.as_slice-changes.ensures ∙ ap (λ (r : Reaction). r.changes) (c.in_ok-reaction.ensures.reaction l.member l.past s.station) in (
-      window,
-      (
-        lived l (tick_turn l.member c.args.seen.now sak l.past),
-        (
-          followed cs h,
-          sits-ticked window l h _ _ c.args.seen.now sak cs s (c.in_ok-reaction.ensures.stands l.member l.past s.station) is
-              (c.follow.ensures l.member.setup.sci window h s.slots) (c.in-Some.ensures.0 ∙ ap (λ (seat : Seat). seat.ticks + 1) (sym c.self.view_is)) c.installs_after-self-inside.ensures
-              (c.law_turns_count.ensures.sent l.member c.args.seen.now sak l.past),
-        ),
-      ),
+      lived l (tick_turn l.member c.args.seen.now sak l.past),
+      alive-ticked l _ _ c.args.seen.now sak cs s (c.in_ok-reaction.ensures.stands l.member l.past s.station) is
+          (c.in-Some.ensures.0 ∙ ap (λ (seat : Seat). seat.ticks + 1) (sym c.self.view_is)) c.installs_after-self-inside.ensures
+          (c.law_turns_count.ensures.sent l.member c.args.seen.now sak l.past),
     )
 
 pub returns-clause-stands : goal.returns-clause-stands
@@ -55,11 +47,12 @@ returns-clause-stands g c = λ window l h sits.
     let cs = c.in_ok-reaction.reaction.changes in
     let same = c.as_slice-changes.ensures in
     let is : cs ≡ (tick_turn l.member c.args.seen.now sak l.past).reaction.changes = ap (λ (r : Reaction). r.changes) (c.in_ok-reaction.ensures.reaction l.member l.past s.station) in
-    sits-ticked window l h _ _ c.args.seen.now sak cs s (c.in_ok-reaction.ensures.stands l.member l.past s.station) is
-    (subst (λ (ds : List Change). SlotsStandFor l.member.setup.sci window c.follow.new.slots (followed ds h)) same (c.follow.ensures l.member.setup.sci window h s.slots))
+    sits-with window (lived l (tick_turn l.member c.args.seen.now sak l.past)) (followed cs h) _
+    (alive-ticked l _ _ c.args.seen.now sak cs (alive window l h _ s) (c.in_ok-reaction.ensures.stands l.member l.past s.station) is
     (c.in-Some.ensures.0 ∙ ap (λ (seat : Seat). seat.ticks + 1) (sym c.self.view_is))
     (c.installs_after-self-inside.ensures ∙ ap (λ (ds : List Change). c.self.inside.installs + count_installed ds) same)
-    (c.law_turns_count.ensures.sent l.member c.args.seen.now sak l.past)
+    (c.law_turns_count.ensures.sent l.member c.args.seen.now sak l.past))
+    (subst (λ (ds : List Change). SlotsStandFor l.member.setup.sci window c.follow.new.slots (followed ds h)) same (c.follow.ensures l.member.setup.sci window h s.slots))
 
 pub returns-clause-enough : goal.returns-clause-enough
 returns-clause-enough g c = λ window l h sits.

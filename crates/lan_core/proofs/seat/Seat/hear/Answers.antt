@@ -7,13 +7,13 @@ use Rattle.lan_core.specs.Lives.{lived}
 use Rattle.lan_core.specs.Standing.{Seat, Sits}
 use Rattle.lan_core.specs.inside.Following.{followed, count_installed}
 use Rattle.lan_core.proofs.SlotsFollow.{frame-count, frame-installs}
-use Rattle.lan_core.proofs.SeatGoesOn.{sits-heard}
+use Rattle.lan_core.proofs.SeatGoesOn.{alive-heard, alive, sits-with}
 use Rattle.lan_core.proofs.seat.Seat.hear.Goals as goal
 
 pub installs_after-self-inside-requires : goal.installs_after-self-inside-requires
 installs_after-self-inside-requires c =
-    let l = c.self.invariant.1.0 in
-    let s = c.self.invariant.1.1.1 in
+    let l = c.self.invariant.0 in
+    let s = c.self.invariant.1 in
     let is = c.as_slice-changes.ensures ∙ ap (λ (r : Reaction). r.changes) (c.in_ok-reaction.ensures.reaction l.member l.past s.station) in
     omega (
       arith,
@@ -26,22 +26,14 @@ installs_after-self-inside-requires c =
 
 pub invariant_of-self-2 : goal.invariant_of-self-2
 invariant_of-self-2 c =
-    let window = c.self.invariant.0 in
-    let l = c.self.invariant.1.0 in
-    let h = c.self.invariant.1.1.0 in
-    let s = c.self.invariant.1.1.1 in
+    let l = c.self.invariant.0 in
+    let s = c.self.invariant.1 in
     let cs = c.as_slice-changes.result.now in
     let is = c.as_slice-changes.ensures ∙ ap (λ (r : Reaction). r.changes) (c.in_ok-reaction.ensures.reaction l.member l.past s.station) in (
-      window,
-      (
-        lived l (frame_turn l.member c.args.frame.now l.past),
-        (
-          followed cs h,
-          sits-heard window l h _ _ c.args.frame.now cs s (c.in_ok-reaction.ensures.stands l.member l.past s.station) is
-              (c.follow.ensures l.member.setup.sci window h s.slots) refl c.installs_after-self-inside.ensures
-              (λ a. c.law_turns_count.ensures.silent l.member a l.past),
-        ),
-      ),
+      lived l (frame_turn l.member c.args.frame.now l.past),
+      alive-heard l _ _ c.args.frame.now cs s (c.in_ok-reaction.ensures.stands l.member l.past s.station) is
+          refl c.installs_after-self-inside.ensures
+          (λ a. c.law_turns_count.ensures.silent l.member a l.past),
     )
 
 pub returns-clause-stands : goal.returns-clause-stands
@@ -50,8 +42,9 @@ returns-clause-stands c = λ window l h sits.
     let cs = c.in_ok-reaction.reaction.changes in
     let same = c.as_slice-changes.ensures in
     let is : cs ≡ (frame_turn l.member c.args.frame.now l.past).reaction.changes = ap (λ (r : Reaction). r.changes) (c.in_ok-reaction.ensures.reaction l.member l.past s.station) in
-    sits-heard window l h _ _ c.args.frame.now cs s (c.in_ok-reaction.ensures.stands l.member l.past s.station) is
-    (subst (λ (ds : List Change). SlotsStandFor l.member.setup.sci window c.follow.new.slots (followed ds h)) same (c.follow.ensures l.member.setup.sci window h s.slots))
+    sits-with window (lived l (frame_turn l.member c.args.frame.now l.past)) (followed cs h) _
+    (alive-heard l _ _ c.args.frame.now cs (alive window l h _ s) (c.in_ok-reaction.ensures.stands l.member l.past s.station) is
     refl
     (c.installs_after-self-inside.ensures ∙ ap (λ (ds : List Change). c.self.inside.installs + count_installed ds) same)
-    (λ a. c.law_turns_count.ensures.silent l.member a l.past)
+    (λ a. c.law_turns_count.ensures.silent l.member a l.past))
+    (subst (λ (ds : List Change). SlotsStandFor l.member.setup.sci window c.follow.new.slots (followed ds h)) same (c.follow.ensures l.member.setup.sci window h s.slots))
