@@ -26,7 +26,7 @@ use Rattle.sak_exchange.specs.Outcomes.{beginning}
 use Rattle.sak_exchange.proofs.Public.{by_test}
 use Rattle.mka_station.specs.declared.reaction.Reaction.{Reaction}
 use Rattle.mka_station.specs.Lives.{Member, Entry, ticked, sent, heard, installed, began, own, told, peers_of, keys_of, elected, elected_by, live_words, potential_words, last_spoken}
-use Rattle.mka_station.specs.Views.{View, view, reports, is_server, serves}
+use Rattle.mka_station.specs.Views.{View, view, reports, is_server}
 use Rattle.mka_station.specs.Announcing.{is_flagged, shown, same_shown, announces, is_due_since, says_now, announcement, uses_of, given, lowest_in, frame_of}
 use Rattle.mka_station.specs.Tick.{tick_turn, new_server, ended, led, made, install_changes, with_beginning, with_install}
 use Rattle.mka_station.specs.Hearing.{hear_turn, outcome_of, is_accepted, taken_of, key_taken, take_changes, followed, verdict_of}

@@ -7,7 +7,7 @@ use Rattle.mka_station.specs.declared.reaction.Reaction.{Reaction}
 use Rattle.mka_station.specs.Lives.{Member, Entry, heard, peers_of, keys_of, elected}
 use Rattle.mka_station.specs.Views.{View, view}
 use Rattle.mka_station.specs.Tick.{new_server, with_install}
-use Rattle.mka_station.specs.Hearing.{hear_turn, outcome_of, verdict_of, offer_at, answer_at, key_taken, take_changes, taken_past, followed}
+use Rattle.mka_station.specs.Hearing.{hear_turn, outcome_of, verdict_of, offer_at, answer_at, key_taken, take_changes, followed}
 
 -- what is seen after it was heard
 view-alike : (m : Member) (flag : Bool) (a : Announcement) (p : List Entry) (taken : Option Key)
