@@ -25,7 +25,7 @@ use Rattle.lan_schedule.specs.World.{World, Kept, beginning, settings, place, ma
 use Rattle.lan_schedule.specs.Acts.{Act, Course, Goes, Stops, happen, change}
 use Rattle.lan_schedule.specs.Acts.{perform, and_then, world_of, course, times}
 use Rattle.lan_schedule.specs.Kinds.{may_list, refusal, refusal_read}
-use Rattle.lan_schedule.specs.Lines.{deed, deed_read, chosen_by, send, unless_refused}
+use Rattle.lan_schedule.specs.Lines.{deed, deed_read, chosen_by, feed, send, unless_refused}
 use Rattle.lan_schedule.specs.Lines.{performed, performed_all, tick, round, spread, flow_round}
 use Rattle.lan_schedule.specs.Lines.{cut_in, mended_in}
 use Rattle.lan_schedule.specs.Sound.{IsTidy}
@@ -35,7 +35,7 @@ use Rattle.lan_schedule.proofs.Drawing.{bytes-all}
 use Rattle.lan_schedule.proofs.LinesCome.{IsRight, is-right, deed-comes, tidy-same}
 use Rattle.lan_schedule.proofs.Beginning.{tidy-beginning}
 use Rattle.lan_schedule.proofs.Settled.{IsMild, IsOpen, HasSetting, stays-open, mild-ticks}
-use Rattle.lan_schedule.proofs.Settled.{mild-rounds, mild-mark, mild-spread, mild-flow, mild-send}
+use Rattle.lan_schedule.proofs.Settled.{mild-feed, mild-rounds, mild-mark, mild-spread, mild-flow, mild-send}
 
 -- ---- what was chosen
 
@@ -296,6 +296,9 @@ deed-ready n (lines.Flow rounds) w below form ready right comes =
     (mild-flow (suc n) rounds) ready right.allowed comes
 deed-ready n (lines.Deliver frame name) w below form ready right comes =
     mild-ready n (happen (Deliver frame (place w name))) w below tt ready right.allowed comes
+deed-ready n (lines.Feed first last name) w below form ready right comes =
+    mild-ready n (feed first last (place w name)) w below
+    (mild-feed (suc n) first last (place w name)) ready right.allowed comes
 deed-ready n (lines.Spread frame) w below form ready right comes =
     mild-ready n (spread frame) w below (mild-spread (suc n) frame) ready right.allowed comes
 deed-ready n (lines.Lose frame) w below form ready right comes =

@@ -1,5 +1,5 @@
 -- What each line performs can be performed.
-use Rattle.std.proofs.Common.{◌≡◌, ◌<◌, ◌≤◌, ◌≢◌, ℕ, ◌+◌, ◌==◌, Bool, true, false}
+use Rattle.std.proofs.Common.{◌≡◌, ◌<◌, ◌≤◌, ◌≢◌, ℕ, ◌+◌, ◌-◌, ◌==◌, Bool, true, false}
 use Rattle.std.proofs.Common.{List, [], ◌∷◌, ◌++◌, length, Option, Some, None, ◌⊎◌, inl, inr, refl}
 use Rattle.std.proofs.Common.{sym, ap, ◌∙◌, subst, length-append, arith}
 use Rattle.std.specs.Prelude.{cond, map, not, ◌&&◌, ◌||◌, nat_le, nat_lt, nat_eq, is_some, All}
@@ -49,7 +49,7 @@ use Rattle.lan_schedule.proofs.Drawing.{bytes-all}
 use Rattle.lan_schedule.proofs.Awaiting.{waits-then}
 use Rattle.lan_schedule.proofs.Users.{user-at-end}
 use Rattle.lan_schedule.proofs.Placing.{place-there}
-use Rattle.lan_schedule.proofs.Coming.{IsOnAir, is-going, one-at-least, comes-ticks}
+use Rattle.lan_schedule.proofs.Coming.{IsOnAir, is-going, one-at-least, comes-span, comes-ticks}
 use Rattle.lan_schedule.proofs.Coming.{comes-rounds, comes-spread, comes-flow, tidy-marked}
 
 -- ---- what a line is not refused for
@@ -128,17 +128,26 @@ found-by number (f ∷ earlier) h low high =
 le-true : (a b : ℕ) → nat_le a b ≡ true → a ≤ b
 le-true a b e = grind arith
 
-on-air : (number : ℕ) (w : World) → IsTidy w → no_frame number (length w.kept.frames) ≡ None
+-- a number that the air has
+numbered-in : (number count : ℕ) → no_frame number count ≡ None → (1 ≤ number) × (number ≤ count)
+numbered-in number count e =
+    let both = and-true (nat_le 1 number) (nat_le number count)
+    (not-false (is_number number count) (where-none _ kinds.FrameUnknown e)) in
+    (le-true 1 number both.0, le-true number count both.1)
+
+within-air : (number : ℕ) (w : World) → IsTidy w → 1 ≤ number → number ≤ length w.kept.frames
     → IsOnAir w.run number
-on-air number w tidy e =
-    let both = and-true (nat_le 1 number) (nat_le number (length w.kept.frames))
-    (not-false (is_number number (length w.kept.frames)) (where-none _ kinds.FrameUnknown e)) in
+within-air number w tidy low high =
     let same : length w.kept.frames ≡ length (air w.run) =
     sym (length-map w.kept.frames (λ (put : Put). put.number))
     ∙ ap (λ (l : List ℕ). length l) tidy.frames ∙ numbers-length (air w.run) in
-    let low : 1 ≤ number = le-true 1 number both.0 in
-    let high : number ≤ length w.kept.frames = le-true number (length w.kept.frames) both.1 in
-    found-by number (air w.run) tidy.numbered low (omega arith)
+    found-by number (air w.run) tidy.numbered low (omega (arith, high))
+
+on-air : (number : ℕ) (w : World) → IsTidy w → no_frame number (length w.kept.frames) ≡ None
+    → IsOnAir w.run number
+on-air number w tidy e =
+    let in_ = numbered-in number (length w.kept.frames) e in
+    within-air number w tidy in_.0 in_.1
 
 -- ---- tidy worlds
 
@@ -386,6 +395,22 @@ deed-comes (lines.Flow rounds) form w tidy right = comes-flow rounds w tidy
 deed-comes (lines.Deliver frame name) form w tidy right =
     let both = or-none (no_frame frame (length w.kept.frames)) _ right.words in
     ((known name w both.1, on-air frame w tidy both.0), tt)
+deed-comes (lines.Feed first last name) form w tidy right =
+    let count = length w.kept.frames in
+    let outer = or-none (no_frame first count) _ right.words in
+    let inner = or-none (no_frame last count) _ outer.1 in
+    let low = (numbered-in first count outer.0).0 in
+    let high = (numbered-in last count inner.0).1 in
+    let there = known name w inner.1 in
+    comes-span (λ k. happen (events.Deliver (first + k) (place w name))) 0 (last + 1 - first) w tidy
+    (λ k v below l tidy_v. (
+      (
+        omega (arith, there, l.count),
+        l.frames (first + k)
+            (within-air (first + k) w tidy (omega (arith, low)) (omega (arith, below, high))),
+      ),
+      tt,
+    ))
 deed-comes (lines.Spread frame) form w tidy right =
     comes-spread frame w tidy (on-air frame w tidy right.words)
 deed-comes (lines.Lose frame) form w tidy right = tidy-marked frame w tidy

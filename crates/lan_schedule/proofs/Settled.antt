@@ -1,5 +1,5 @@
 -- Acts that choose nothing and add no user frame leave a tidy world.
-use Rattle.std.proofs.Common.{◌≡◌, ◌<◌, ◌≤◌, ◌^◌, ◌==◌, ℕ, zero, suc, Bool, true, false}
+use Rattle.std.proofs.Common.{◌≡◌, ◌<◌, ◌≤◌, ◌^◌, ◌+◌, ◌-◌, ◌==◌, ℕ, zero, suc, Bool, true, false}
 use Rattle.std.proofs.Common.{List, [], ◌∷◌, length, Option, Some, None, refl, sym}
 use Rattle.std.proofs.Common.{◌∙◌, subst, arith}
 use Rattle.std.specs.Prelude.{cond, is_some, is_none, nat_lt, unwrap_or, option_map}
@@ -36,7 +36,7 @@ use Rattle.lan_schedule.specs.Acts.{Act, nothing, refuse, happen, change, seq, l
 use Rattle.lan_schedule.specs.Acts.{Course, Goes, Stops, shown, and_then, span, times, unless}
 use Rattle.lan_schedule.specs.Acts.{exceed, race}
 use Rattle.lan_schedule.specs.Acts.{world_of, world_after}
-use Rattle.lan_schedule.specs.Lines.{tick, round, pass, to_others, spread, is_passed_by, due}
+use Rattle.lan_schedule.specs.Lines.{feed, tick, round, pass, to_others, spread, is_passed_by, due}
 use Rattle.lan_schedule.specs.Lines.{flow_round, send}
 use Rattle.lan_schedule.specs.Sound.{IsTidy}
 use Rattle.lan_schedule.specs.inside.Comes.{Comes, IsGoing, IsExact, named}
@@ -320,6 +320,10 @@ mild-pass n number from s = λ w few.
 mild-to_others : (n number from : ℕ) → IsMild n (to_others number from)
 mild-to_others n number from = λ w few.
     mild-span n (pass number from) 0 (count w) (λ s. mild-pass n number from s)
+
+pub mild-feed : (n first last s : ℕ) → IsMild n (feed first last s)
+mild-feed n first last s =
+    mild-span n (λ k. happen (events.Deliver (first + k) s)) 0 (last + 1 - first) (λ k. tt)
 
 pub mild-mark : (n number : ℕ) → IsMild n (change (mark number))
 mild-mark n number = λ kept. record { chosen = refl; users = refl; begun = refl; raced = refl; phase = refl }

@@ -24,13 +24,12 @@ kind_of_fault faults.Count = kinds.Count
 kind_of_fault faults.Hex = kinds.Hex
 kind_of_fault faults.Range = kinds.Range
 
--- whether lines of this form can be performed: races and feeding can't
+-- whether lines of this form can be performed: races can't
 abbrev pub is_performed : Line → Bool
 is_performed lines.Race = false
 is_performed (lines.Burst name workers frames destination body) = false
 is_performed lines.While = false
 is_performed lines.End = false
-is_performed (lines.Feed first last name) = false
 is_performed _ = true
 
 -- ---- order
@@ -89,6 +88,8 @@ wrong_word (lines.Station name sci priority) names scis frames =
 wrong_word (lines.TickOne name ticks) names scis frames = unknown name names
 wrong_word (lines.Deliver frame name) names scis frames =
     or_else (no_frame frame frames) (unknown name names)
+wrong_word (lines.Feed first last name) names scis frames =
+    or_else (no_frame first frames) (or_else (no_frame last frames) (unknown name names))
 wrong_word (lines.Spread frame) names scis frames = no_frame frame frames
 wrong_word (lines.Lose frame) names scis frames = no_frame frame frames
 wrong_word (lines.Cut from to) names scis frames = or_else (unknown from names) (unknown to names)

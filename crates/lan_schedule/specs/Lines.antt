@@ -1,5 +1,5 @@
 -- What each line of a trace performs (this profile's own rule).
-use Rattle.std.specs.Prelude.{ℕ, ◌+◌, ◌==◌, ◌||◌, ◌&&◌, nat_le, not, Bool, true, List}
+use Rattle.std.specs.Prelude.{ℕ, ◌+◌, ◌-◌, ◌==◌, ◌||◌, ◌&&◌, nat_le, not, Bool, true, List}
 use Rattle.std.specs.Prelude.{[], ◌∷◌, ◌++◌, length, map}
 use Rattle.std.specs.List.{filter}
 use Rattle.std.specs.Prelude.{Option, Some, None, Result, Ok}
@@ -84,6 +84,10 @@ begin_round = change (λ kept. record kept { rounds = kept.rounds + 1 })
 abbrev pub flow_round : Act
 flow_round = seq begin_round (seq round (look (λ w. each spread (due w))))
 
+-- the frames from one number to another reach a station, in their order
+abbrev pub feed : ℕ → ℕ → ℕ → Act
+feed first last s = span (λ k. happen (Deliver (first + k) s)) 0 (last + 1 - first)
+
 -- ---- links
 
 abbrev pub cut_in : ℕ → ℕ → Kept → Kept
@@ -131,6 +135,7 @@ deed (lines.Tick rounds) w = times rounds round
 deed (lines.TickOne name ticks) w = times ticks (tick (place w name))
 deed (lines.Flow rounds) w = times rounds flow_round
 deed (lines.Deliver frame name) w = happen (Deliver frame (place w name))
+deed (lines.Feed first last name) w = feed first last (place w name)
 deed (lines.Spread frame) w = spread frame
 deed (lines.Lose frame) w = change (mark frame)
 deed (lines.Cut from to) w = change (cut_in (place w from) (place w to))

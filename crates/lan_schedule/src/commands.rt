@@ -348,13 +348,13 @@ fn is_allowed(chosen: &Choices, line: &Line) -> bool
     }
 }
 
-/// Whether lines of this form can be performed: races and feeding can't.
+/// Whether lines of this form can be performed: races can't.
 pub fn is_performed(line: &Line) -> bool
     ensures { result ≡ is_performed line.now }
 {
     !matches!(
         line,
-        Line::Race | Line::Burst { .. } | Line::While | Line::End | Line::Feed { .. }
+        Line::Race | Line::Burst { .. } | Line::While | Line::End
     )
 }
 

@@ -1,7 +1,9 @@
 //! Time moves on, and frames go from station to station.
 
+ghost use Rattle.std.specs.Prelude.{◌≤◌};
+ghost use Rattle.lan_base.specs.Ranges.{most_frames};
 ghost use Rattle.lan_schedule.specs.Acts.{each, times};
-ghost use Rattle.lan_schedule.specs.Lines.{tick, round, to_others, spread, flow_round, pass};
+ghost use Rattle.lan_schedule.specs.Lines.{feed, tick, round, to_others, spread, flow_round, pass};
 ghost use Rattle.lan_schedule.specs.Ends.{moment};
 ghost use Rattle.lan_schedule.specs.inside.Staged.{Did};
 
@@ -79,6 +81,27 @@ impl Stage {
     }
 
     // ---- frames
+
+    /// The frames from one number to another reach a station, in their order.
+    pub fn feed<K, R: Recorder<K>, G: Gate>(
+        &mut self,
+        first: u32,
+        last: u32,
+        station: u8,
+        recorder: &mut R,
+        outlet: &mut K,
+        gate: &G,
+    ) -> Result<(), Halt>
+        requires order { first ≤ last }
+        requires few { last ≤ most_frames }
+        ensures { Did R.Took R.Broke (feed first last station)
+            (moment self.old outlet.old) (moment self.new outlet.new) result }
+    {
+        for behind in 0..last + 1 - first {
+            self.deliver(first + behind, station, recorder, outlet, gate)?;
+        }
+        Ok(())
+    }
 
     /// A frame goes from one station to another, unless that sent it or the link is cut.
     fn pass<K, R: Recorder<K>, G: Gate>(

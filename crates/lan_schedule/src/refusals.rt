@@ -44,6 +44,10 @@ impl Stage {
             | Line::Send { name, .. }
             | Line::Inject { name, .. } => self.unknown(name),
             Line::Deliver { frame, name } => self.no_frame(*frame).or(self.unknown(name)),
+            Line::Feed { first, last, name } => self
+                .no_frame(*first)
+                .or(self.no_frame(*last))
+                .or(self.unknown(name)),
             Line::Spread { frame } | Line::Lose { frame } => self.no_frame(*frame),
             Line::Cut { from, to } | Line::Mend { from, to } => {
                 self.unknown(from).or(self.unknown(to))

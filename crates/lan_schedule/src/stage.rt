@@ -235,6 +235,14 @@ impl Stage {
                 outlet,
                 gate,
             ),
+            Line::Feed { first, last, name } => self.feed(
+                *first,
+                *last,
+                self.place(name),
+                recorder,
+                outlet,
+                gate,
+            ),
             Line::Spread { frame } => self.spread(*frame, recorder, outlet, gate),
             Line::Lose { frame } => {
                 self.lose(*frame);

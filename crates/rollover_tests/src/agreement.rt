@@ -85,7 +85,7 @@ fn says_early_that_it_serves(rt: HostRuntime) -> Result<(), Fail> {
 }
 
 /// The first key, and what comes of it.
-const AGREED: [Case; 4] = [
+const AGREED: [Case; 5] = [
     Case {
         name: "two stations agree on a key, and said from the first that they serve",
         trace: &["flag 1\n", GROUP, FIRST, SECOND, SIX_ROUNDS],
@@ -153,6 +153,42 @@ frame 10 A sec
 data 10 B accepted 1 88b50001
 data 10 B late 2
 data 10 A own
+",
+        ]),
+    },
+    Case {
+        name: "frames are fed, each once, and not to their sender",
+        trace: &[
+            GROUP,
+            FIRST,
+            SECOND,
+            SIX_ROUNDS,
+            "\
+send A ffffffffffff 88b50001
+send A ffffffffffff 88b50001
+send A ffffffffffff 88b50001
+feed 10 12 B
+feed 11 12 B
+feed 9 10 B
+",
+        ],
+        status: Status::Done,
+        shown: Shown::All(&[
+            FIRST_KEY_SHOWN,
+            "\
+claim A an 0 epoch 1 pn 1
+frame 10 A sec
+claim A an 0 epoch 1 pn 2
+frame 11 A sec
+claim A an 0 epoch 1 pn 3
+frame 12 A sec
+data 10 B accepted 1 88b50001
+data 11 B accepted 2 88b50001
+data 12 B accepted 3 88b50001
+data 11 B late 4
+data 12 B late 4
+heard 9 B drop echo
+data 10 B late 4
 ",
         ]),
     },

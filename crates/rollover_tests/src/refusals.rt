@@ -77,7 +77,7 @@ group 000000000000000000000000000000000000000000000000 01020304
 ];
 
 /// Lines that are refused where they stand.
-const MISPLACED: [Case; 6] = [
+const MISPLACED: [Case; 7] = [
     Case {
         name: "a line at the wrong place",
         trace: &[FIRST],
@@ -122,6 +122,15 @@ const MISPLACED: [Case; 6] = [
             kind: Kind::SciTaken,
         }),
         shown: Shown::All(&[FIRST_LIFE]),
+    },
+    Case {
+        name: "a last frame that is not there",
+        trace: &[GROUP, FIRST, "tick 1\n", "feed 1 2 A\n"],
+        status: Status::Halted(Cause::Trace {
+            line: 4,
+            kind: Kind::FrameUnknown,
+        }),
+        shown: Shown::All(&[FIRST_LIFE, "tick A 1 next 0\nframe 1 A mka\n"]),
     },
     Case {
         name: "a frame that is not there",
@@ -291,7 +300,7 @@ fn ends_where_the_group_stops(rt: HostRuntime) -> Result<(), Fail> {
     Ok(())
 }
 
-/// Lines of races and of feeding are not performed yet.
+/// Lines of races are not performed yet.
 #[test]
 fn refuses_what_is_not_performed_yet(rt: HostRuntime) -> Result<(), Fail> {
     let alloc = rt.alloc();
@@ -299,7 +308,7 @@ fn refuses_what_is_not_performed_yet(rt: HostRuntime) -> Result<(), Fail> {
         line: 3,
         kind: Kind::Word,
     });
-    for line in ["race\n", "while\n", "end\n", "feed 1 1 A\n"] {
+    for line in ["race\n", "while\n", "end\n"] {
         let left = run(alloc, &[GROUP, FIRST, line])?;
         assert_eq!(rt; left.status, refused, "{line}");
     }

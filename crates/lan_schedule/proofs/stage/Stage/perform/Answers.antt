@@ -1,7 +1,7 @@
 use Rattle.std.proofs.Common.{refl}
 use Rattle.lan_core.specs.declared.event.Event.TheVariants.{Start, Deliver, Restart, Inject}
 use Rattle.lan_schedule.specs.Acts.{happen, change, times, seq}
-use Rattle.lan_schedule.specs.Lines.{begin, tick, cut_in, mended_in, add_user, send}
+use Rattle.lan_schedule.specs.Lines.{begin, feed, tick, cut_in, mended_in, add_user, send}
 use Rattle.lan_schedule.specs.World.{mark}
 use Rattle.lan_schedule.proofs.Doing.{change-does, handed-on, memory-does}
 use Rattle.lan_schedule.proofs.Looking.{mark-does}
@@ -32,6 +32,20 @@ returns-in-Deliver g c =
     one-place c.args.line.now c.in-Deliver.name (λ s. happen (Deliver c.in-Deliver.frame s))
     c.place-in-Deliver.result _ _ _
     (λ w. rw c.in-Deliver.is refl) c.place-in-Deliver.ensures c.deliver.ensures
+
+pub returns-in-Feed : goal.returns-in-Feed
+returns-in-Feed g c =
+    one-place c.args.line.now c.in-Feed.name (λ s. feed c.in-Feed.first c.in-Feed.last s)
+    c.place-in-Feed.result _ _ _
+    (λ w. rw c.in-Feed.is refl) c.place-in-Feed.ensures c.feed.ensures
+
+pub feed-requires-order : goal.feed-requires-order
+feed-requires-order g c =
+    let form = rw c.in-Feed.is at c.requires.form in form.fits.1.0.0
+
+pub feed-requires-few : goal.feed-requires-few
+feed-requires-few g c =
+    let form = rw c.in-Feed.is at c.requires.form in form.fits.1.0.1
 
 pub returns-in-Lose : goal.returns-in-Lose
 returns-in-Lose g c =
@@ -80,4 +94,4 @@ returns-in_default g c =
     let d = c.in_default in
     default-does c.args.line.now _ c.requires.later d.not-Station d.not-Tick d.not-TickOne
     d.not-Flow d.not-Deliver d.not-Spread d.not-Lose d.not-Cut d.not-Mend d.not-Restart
-    d.not-Send d.not-Inject
+    d.not-Send d.not-Inject d.not-Feed
