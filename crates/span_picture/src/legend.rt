@@ -1,0 +1,122 @@
+//! The identifiers of keys, and the colour of each.
+
+use crate::pieces::{Piece, put};
+use lan_base::{KeyId, Mi};
+use std::alloc::{AllocError, Global};
+use std::collections::BTreeMap;
+
+/// How many colours there are.
+const COLOURS: u32 = 10;
+/// The most identifiers that the legend explains.
+const MOST: usize = 40;
+/// How many stand side by side.
+const ABREAST: u64 = 4;
+
+/// The identifiers in the order of their first install, numbered from 1.
+#[derive(Debug, Drop)]
+pub struct Legend {
+    numbers: BTreeMap<(Mi, u32), u32>,
+    ids: Vec<KeyId>,
+}
+
+impl Legend {
+    /// No identifier. No memory is taken.
+    pub fn new(alloc: Global) -> Legend {
+        Legend {
+            numbers: BTreeMap::new(alloc),
+            ids: Vec::new(alloc),
+        }
+    }
+
+    /// An identifier is seen.
+    pub fn note(&mut self, id: KeyId) -> Result<(), AllocError> {
+        if self.numbers.get(&(id.server, id.number)).is_some() {
+            return Ok(());
+        }
+        self.ids.push(id)?;
+        let number = u32::try_from(self.ids.len()).unwrap_or(u32::MAX);
+        self.numbers.insert((id.server, id.number), number)?;
+        Ok(())
+    }
+
+    /// The number of an identifier.
+    pub fn number(&self, id: KeyId) -> u32 {
+        self.numbers
+            .get(&(id.server, id.number))
+            .copied()
+            .unwrap_or(0)
+    }
+
+    /// How high the legend is, in units.
+    pub fn height(&self) -> u64 {
+        let rows = self.shown().div_ceil(ABREAST as usize) as u64;
+        rows.saturating_mul(16).saturating_add(40)
+    }
+
+    /// How many identifiers it explains.
+    fn shown(&self) -> usize {
+        self.ids.len().min(MOST)
+    }
+
+    /// Appends the legend, whose top is so far down.
+    pub fn draw(&self, into: &mut Vec<u8>, top: u64) -> Result<(), AllocError> {
+        let mut place = 0u64;
+        for id in self.ids.iter().take(MOST) {
+            let x = (place % ABREAST) * 270 + 20;
+            let y = (place / ABREAST).saturating_mul(16).saturating_add(top);
+            self.entry(into, *id, x, y)?;
+            place = place.saturating_add(1);
+        }
+        let more = self.ids.len().saturating_sub(MOST);
+        if more > 0 {
+            let y = top.saturating_add(self.height()).saturating_sub(32);
+            put(
+                into,
+                &[
+                    Piece::Text(b"<text x=\"20\" y=\""),
+                    Piece::Number(y),
+                    Piece::Text(b"\">and "),
+                    Piece::Number(more as u64),
+                    Piece::Text(b" more keys</text>\n"),
+                ],
+            )?;
+        }
+        Ok(())
+    }
+
+    /// Appends what explains one identifier.
+    fn entry(&self, into: &mut Vec<u8>, id: KeyId, x: u64, y: u64) -> Result<(), AllocError> {
+        let number = self.number(id);
+        put(
+            into,
+            &[
+                Piece::Text(b"<g class=\"k"),
+                Piece::Number(colour(number)),
+                Piece::Text(b"\"><rect class=\"thick\" x=\""),
+                Piece::Number(x),
+                Piece::Text(b"\" y=\""),
+                Piece::Number(y),
+                Piece::Text(b"\" width=\"22\" height=\"10\"/><text class=\"label\" x=\""),
+                Piece::Number(x.saturating_add(3)),
+                Piece::Text(b"\" y=\""),
+                Piece::Number(y.saturating_add(8)),
+                Piece::Text(b"\">"),
+                Piece::Number(u64::from(number)),
+                Piece::Text(b"</text></g><text x=\""),
+                Piece::Number(x.saturating_add(28)),
+                Piece::Text(b"\" y=\""),
+                Piece::Number(y.saturating_add(9)),
+                Piece::Text(b"\">key "),
+                Piece::Number(u64::from(id.number)),
+                Piece::Text(b" of "),
+                Piece::Hex(&id.server.0),
+                Piece::Text(b"</text>\n"),
+            ],
+        )
+    }
+}
+
+/// The colour of the identifier of a number: one at all stations.
+pub fn colour(number: u32) -> u64 {
+    u64::from(number % COLOURS)
+}

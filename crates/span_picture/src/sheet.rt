@@ -1,0 +1,121 @@
+//! The picture as a whole.
+
+use crate::axis::put_axis;
+use crate::lanes::{LANE, SERVICE, put_lane, put_services};
+use crate::pieces::{Piece, put};
+use crate::scale::{Scale, WIDTH};
+use crate::scene::Scene;
+use crate::style::STYLE;
+use lan_base::Name;
+use std::alloc::{AllocError, Global};
+
+/// Where what lies below the seconds begins, in units.
+const TOP: u32 = 54;
+
+/// The picture of a scene whose stations have these names, by place: a text in SVG that stands alone,
+/// 1,200 units wide.
+pub fn picture(alloc: Global, scene: &Scene, names: &[Name]) -> Result<Vec<u8>, AllocError> {
+    let mut text = Vec::new(alloc);
+    let scale = Scale::new(scene.spans().clock());
+    let lanes = TOP.saturating_add(served(scene, names).saturating_mul(SERVICE));
+    let count = u32::try_from(names.len()).unwrap_or(u32::MAX);
+    let foot = lanes.saturating_add(count.saturating_mul(LANE));
+    let legend = foot.saturating_add(16);
+    put_head(
+        &mut text,
+        u64::from(legend).saturating_add(scene.legend().height()),
+    )?;
+    put_axis(&mut text, scale, TOP - 8, foot)?;
+    put_all_services(&mut text, scene, scale, names)?;
+    put_lanes(&mut text, scene, scale, names, lanes)?;
+    scene.legend().draw(&mut text, u64::from(legend))?;
+    put(&mut text, &[Piece::Text(b"</svg>\n")])?;
+    Ok(text)
+}
+
+/// Appends the head of a picture that is so high, with its style and what its shapes mean.
+fn put_head(into: &mut Vec<u8>, height: u64) -> Result<(), AllocError> {
+    put(
+        into,
+        &[
+            Piece::Text(b"<svg xmlns=\"http://www.w3.org/2000/svg\" width=\""),
+            Piece::Number(WIDTH),
+            Piece::Text(b"\" height=\""),
+            Piece::Number(height),
+            Piece::Text(b"\" viewBox=\"0 0 "),
+            Piece::Number(WIDTH),
+            Piece::Text(b" "),
+            Piece::Number(height),
+            Piece::Text(b"\">\n<title>Who held which key</title>\n"),
+            Piece::Text(STYLE),
+            Piece::Text(b"<rect class=\"paper\" width=\"100%\" height=\"100%\"/>\n"),
+            Piece::Text(
+                b"<text x=\"8\" y=\"18\">A thin bar: a key is received. Thick: it transmits. ",
+            ),
+            Piece::Text(
+                b"Its end: a line retired, a cross dropped, a ring replaced, a square restarted, ",
+            ),
+            Piece::Text(b"an arrow still held. A triangle: a life begins.</text>\n"),
+        ],
+    )
+}
+
+/// How many of the stations served.
+fn served(scene: &Scene, names: &[Name]) -> u32 {
+    let mut count = 0u32;
+    let mut station = 0u8;
+    for _ in names {
+        if has_served(scene, station) {
+            count = count.saturating_add(1);
+        }
+        station = station.saturating_add(1);
+    }
+    count
+}
+
+/// Whether a station served.
+fn has_served(scene: &Scene, station: u8) -> bool {
+    match scene.history(station) {
+        Some(history) => !history.services().is_empty(),
+        None => false,
+    }
+}
+
+/// Appends a line for each station that served.
+fn put_all_services(
+    into: &mut Vec<u8>,
+    scene: &Scene,
+    scale: Scale,
+    names: &[Name],
+) -> Result<(), AllocError> {
+    let mut top = TOP;
+    let mut station = 0u8;
+    for name in names {
+        if let Some(history) = scene.history(station) {
+            if !history.services().is_empty() {
+                put_services(into, history.services(), scale, name, top)?;
+                top = top.saturating_add(SERVICE);
+            }
+        }
+        station = station.saturating_add(1);
+    }
+    Ok(())
+}
+
+/// Appends the lane of each station.
+fn put_lanes(
+    into: &mut Vec<u8>,
+    scene: &Scene,
+    scale: Scale,
+    names: &[Name],
+    first: u32,
+) -> Result<(), AllocError> {
+    let mut top = first;
+    let mut station = 0u8;
+    for name in names {
+        put_lane(into, scene, scale, name, station, top)?;
+        top = top.saturating_add(LANE);
+        station = station.saturating_add(1);
+    }
+    Ok(())
+}

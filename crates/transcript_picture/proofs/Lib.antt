@@ -1,0 +1,2 @@
+mod Reached
+pub mod Public

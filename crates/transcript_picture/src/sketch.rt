@@ -1,0 +1,93 @@
+//! What is kept of the lines so far.
+
+ghost use Rattle.std.specs.Prelude.{◌≡◌, [], List, Err, IfOk};
+ghost use Rattle.lan_base.specs.declared.name.Name.{Name};
+ghost use Rattle.lan_core.specs.declared.fact.Fact.{Fact};
+ghost use Rattle.transcript.specs.declared.fault.FactError.TheVariants.{Unread};
+ghost use Rattle.transcript_picture.specs.Lines.{IsSketchOf, IsTaken, IsUnread};
+
+use span_picture::{Scene, picture};
+use std::alloc::{AllocError, Global};
+use std::marker::Model;
+use text_lines::LineTaker;
+use transcript::{FactError, Reader};
+
+/// What is kept of the lines so far. Contracts see the names of the stations, the spans, and how many
+/// lines there were.
+#[derive(Drop)]
+pub struct Sketch {
+    alloc: Global,
+    reader: Reader,
+    scene: Scene,
+    count: u64,
+}
+
+impl Model for Sketch {
+    ghost use Rattle.transcript_picture.specs.Lines.{Kept};
+
+    ghost Value = { Kept };
+
+    ghost view = { λ s. record { names = s.reader; spans = s.scene; count = s.count } };
+}
+
+impl Sketch {
+    /// No line was taken.
+    pub fn new(alloc: Global) -> Result<Sketch, AllocError>
+        ensures { IfOk result (λ sketch. IsSketchOf [] [] sketch) }
+    {
+        Ok(Sketch {
+            alloc,
+            reader: Reader::new(alloc)?,
+            scene: Scene::new(alloc),
+            count: 0,
+        })
+    }
+
+    /// How many lines were taken.
+    pub fn count(&self) -> u64
+        ensures { result ≡ self.now.count }
+    {
+        self.count
+    }
+
+    /// The picture of what the lines told.
+    pub fn picture(&self) -> Result<Vec<u8>, AllocError> {
+        picture(self.alloc, &self.scene, self.reader.names())
+    }
+
+    /// The next line, without its line feed. A line that is refused leaves the value as it was.
+    fn take(&mut self, line: &[u8]) -> Result<(), FactError>
+        ensures taken { (names : List Name) (facts : List Fact) → IsSketchOf names facts self.old
+            → IfOk result (λ _. IsTaken names facts line.now self.new) }
+        ensures refused { (names : List Name) (facts : List Fact) → IsSketchOf names facts self.old
+            → result ≡ Err Unread → IsUnread names line.now }
+        ensures kept { result ≡ Err Unread → self.new ≡ self.old }
+    {
+        if self.count == u64::MAX {
+            return Err(FactError::Memory);
+        }
+        let fact = self.reader.line(self.alloc, line)?;
+        self.scene.take(&fact)?;
+        self.count += 1;
+        Ok(())
+    }
+}
+
+impl LineTaker<()> for Sketch {
+    ghost use Rattle.transcript_picture.specs.inside.Sketching.{Sketches};
+    ghost use Rattle.transcript_picture.specs.inside.SketchedLines.{sketches-none, sketches-more, sketches-early};
+
+    type Error = FactError;
+
+    ghost Did = { λ lines old new result. Sketches lines old.taker new.taker result };
+
+    fn line(&mut self, text: &[u8], _outlet: &mut ()) -> Result<(), FactError> {
+        self.take(text)
+    }
+
+    ghost none = { λ a. sketches-none a.taker };
+
+    ghost more = { λ a b c xs ys r d e. sketches-more a.taker b.taker c.taker xs ys r d e };
+
+    ghost early = { λ a b xs ys error d. sketches-early a.taker b.taker xs ys error d };
+}

@@ -1,0 +1,4 @@
+mod Rows
+mod OneMore
+mod Apart
+mod Sending

@@ -1,0 +1,4 @@
+pub mod Spans
+pub mod Standing
+pub mod Times
+pub mod inside
