@@ -5,4 +5,5 @@ mod Ordered
 mod Carried
 mod Judged
 mod Captured
+mod Drawn
 mod Refused

@@ -14,7 +14,7 @@ use Rattle.trace_maker.specs.Made.{made}
 use Rattle.rollover_program.specs.declared.status.Status.{Status}
 use Rattle.rollover_program.specs.declared.status.Status.TheVariants.{Usage, Halted}
 use Rattle.rollover_program.specs.declared.words.Order.{Order}
-use Rattle.rollover_program.specs.declared.words.Order.TheVariants.{Run, Make, Try, Check, Capture, Dissect}
+use Rattle.rollover_program.specs.declared.words.Order.TheVariants.{Run, Make, Try, Check, Capture, Dissect, Draw}
 use Rattle.rollover_program.specs.declared.words.Refusal.{Refusal}
 use Rattle.rollover_program.specs.declared.words.Refusal.TheVariants as refusals
 use Rattle.rollover_program.specs.Words.{IsNumbered, IsUsage, Orders, words_of}
@@ -23,12 +23,14 @@ use Rattle.rollover_program.specs.commands.Make.{EndsMade}
 use Rattle.rollover_program.specs.commands.Try.{EndsTried}
 use Rattle.rollover_program.specs.commands.Check.{EndsAsCheck}
 use Rattle.rollover_program.specs.commands.Capture.{EndsAsCapture}
+use Rattle.rollover_program.specs.commands.Draw.{EndsAsDraw}
 use Rattle.rollover_program.specs.commands.Dissect.{EndsAsDissect}
 use Rattle.rollover_program.specs.inside.Answering.{status_of_refusal}
 use Rattle.rollover_program.proofs.Ordered.{plain_words}
 use Rattle.rollover_program.proofs.Carried.{Promise, not_run, not_tried}
 use Rattle.rollover_program.proofs.Judged.{not_checked}
 use Rattle.rollover_program.proofs.Captured.{not_captured, not_dissected}
+use Rattle.rollover_program.proofs.Drawn.{not_drawn}
 
 -- the plain words for an order
 pub plain_orders : (words : List Text) (order : Order) → IsNumbered order → words ≡ words_of order
@@ -86,6 +88,11 @@ module _ (words : List Text) (f : Refusal) (usage : f ≡ refusals.Usage → IsU
       → s ≡ status_of_refusal f → Orders words Dissect → EndsAsDissect file left held held s
   dissected_nothing s file left held e asked =
       rw (memory s Dissect e asked) (not_dissected file left held)
+
+  pub drew_nothing : (s : Status) (text : List ℕ) (left : Sourced) (old : Sunk)
+      → s ≡ status_of_refusal f → Orders words Draw → EndsAsDraw text left left old old s
+  drew_nothing s text left old e asked =
+      rw (memory s Draw e asked) (not_drawn text left old)
 
   pub tried_nothing : Promise → ((chances : List Chance) → IsTidy (beginning chances)) → (s : Status)
       (n : ℕ) (old : Sunk) → s ≡ status_of_refusal f → Orders words (Try n) → EndsTried n old old s

@@ -5,3 +5,4 @@ pub mod Try
 pub mod Check
 pub mod Capture
 pub mod Dissect
+pub mod Draw

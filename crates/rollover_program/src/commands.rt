@@ -3,6 +3,7 @@
 pub mod capture;
 pub mod check;
 pub mod dissect;
+pub mod draw;
 pub mod make;
 pub mod run;
 pub mod try_made;

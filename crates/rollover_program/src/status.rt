@@ -23,12 +23,12 @@ pub enum Status {
     #[error("done")]
     Done,
     /// The words are no command.
-    #[error("usage: rollover run [--summary] | make N | try N | check | capture | dissect")]
+    #[error("usage: rollover run [--summary] | make N | try N | check | capture | dissect | draw")]
     Usage,
     /// The trace was not performed to its end.
     #[error("{0}")]
     Halted(Cause),
-    /// The input of `check` has more octets than its limit.
+    /// The input of `check` or `draw` has more octets than its limit.
     #[error("limit CheckInput")]
     CheckInput,
     /// The transcript was judged, and a pair of its lines breaks what is judged.

@@ -15,11 +15,13 @@ ghost use Rattle.rollover_program.specs.commands.Try.{EndsTried};
 ghost use Rattle.rollover_program.specs.commands.Check.{EndsAsCheck};
 ghost use Rattle.rollover_program.specs.commands.Capture.{EndsAsCapture};
 ghost use Rattle.rollover_program.specs.commands.Dissect.{EndsAsDissect};
+ghost use Rattle.rollover_program.specs.commands.Draw.{EndsAsDraw};
 ghost use Rattle.rollover_program.specs.inside.Answering.{CarriesOut, status_of_refusal};
 
 use crate::commands::capture::capture;
 use crate::commands::check::check;
 use crate::commands::dissect::dissect;
+use crate::commands::draw::draw;
 use crate::commands::make::make;
 use crate::commands::run::run;
 use crate::commands::try_made::try_made;
@@ -42,8 +44,9 @@ use std::alloc::Global;
 /// after each move of a station's current word. `check` reads a transcript from the source to its
 /// end, whoever wrote it, judges each line as soon as it has ended, and writes the verdict at the
 /// end. `capture` writes the file of a transcript's frames, each record as soon as its line has ended.
-/// `dissect` reads a file of captured packets, and tells each packet in one line. Clauses that name a
-/// text or a file speak of a source that tells its octets.
+/// `dissect` reads a file of captured packets, and tells each packet in one line. `draw` reads a
+/// transcript as `check` does, and writes the picture of its keys at the end. Clauses that name a text
+/// or a file speak of a source that tells its octets.
 pub fn rollover<S: Source, K: Sink, G: Gate>(
     alloc: Global,
     words: &[String],
@@ -106,6 +109,14 @@ pub fn rollover<S: Source, K: Sink, G: Gate>(
         → S.left source.old ≡ Some file → EndsAsDissect file (S.left source.new)
         (K.held sink.old) (K.held sink.new) result }
 
+    // `draw`: how a transcript was drawn, and what was written of its picture.
+    ensures draw { (text : List ℕ) → Orders (map string_bytes words.now) orders.Draw
+        → S.left source.old ≡ Some text → EndsAsDraw text
+        (sourced (S.left source.old) (S.faults source.old))
+        (sourced (S.left source.new) (S.faults source.new))
+        (sunk (K.held sink.old) (K.faults sink.old))
+        (sunk (K.held sink.new) (K.faults sink.new)) result }
+
     // Faults are those of the outside, whatever it tells.
     ensures read_cause { result ≡ Status.Halted causes.ReadFault
         → Rose (S.faults source.old) (S.faults source.new) }
@@ -162,6 +173,7 @@ fn carry_out<S: Source, K: Sink, G: Gate>(
         Order::Check => check(alloc, source, sink),
         Order::Capture => capture(alloc, source, sink),
         Order::Dissect => dissect(alloc, source, sink),
+        Order::Draw => draw(alloc, source, sink),
     }
 }
 

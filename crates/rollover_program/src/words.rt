@@ -26,6 +26,8 @@ pub enum Order {
     Capture,
     /// Each packet of a file of captured packets is told.
     Dissect,
+    /// The picture of a transcript's keys is written.
+    Draw,
 }
 
 /// The greatest number of which a trace is made.
@@ -63,7 +65,7 @@ pub fn read_order(alloc: Global, words: &[String]) -> Result<Order, Refusal>
     }
 }
 
-/// The one command: `run [--summary]`, `make N`, `try N`, `check`, `capture` or `dissect`.
+/// The one command: `run [--summary]`, `make N`, `try N`, `check`, `capture`, `dissect` or `draw`.
 fn command<'a>(alloc: Global) -> Result<Command<'a>, AllocError>
     ensures { IfOk result (λ r. app_of r ≡ command) }
 {
@@ -82,7 +84,8 @@ fn command<'a>(alloc: Global) -> Result<Command<'a>, AllocError>
         .subcommand(Command::new(alloc, "try").arg(number(alloc))?)?
         .subcommand(Command::new(alloc, "check"))?
         .subcommand(Command::new(alloc, "capture"))?
-        .subcommand(Command::new(alloc, "dissect"))
+        .subcommand(Command::new(alloc, "dissect"))?
+        .subcommand(Command::new(alloc, "draw"))
 }
 
 /// A number from 1 to the greatest.
@@ -114,6 +117,7 @@ fn order_of(matches: &ArgMatches<'_>) -> Option<Order>
         "check" => Some(Order::Check),
         "capture" => Some(Order::Capture),
         "dissect" => Some(Order::Dissect),
+        "draw" => Some(Order::Draw),
         _ => None,
     }
 }

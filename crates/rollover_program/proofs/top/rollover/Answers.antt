@@ -2,11 +2,11 @@ use Rattle.std.proofs.Common.{ap, sym, refl, inr, ◌∙◌}
 use Rattle.std.specs.Prelude.{Err}
 use Rattle.replay.specs.Sinks.{sunk}
 use Rattle.replay.specs.declared.cause.Cause.TheVariants as causes
-use Rattle.rollover_program.specs.declared.words.Order.TheVariants.{Run, Make, Try, Check, Capture, Dissect}
+use Rattle.rollover_program.specs.declared.words.Order.TheVariants.{Run, Make, Try, Check, Capture, Dissect, Draw}
 use Rattle.rollover_program.proofs.Ordered.{by_no_usage}
 use Rattle.rollover_program.proofs.Refused.{plain_orders, either, usage_only, not_halted, memory}
 use Rattle.rollover_program.proofs.Refused.{ran_nothing, made_nothing, tried_nothing, checked_nothing}
-use Rattle.rollover_program.proofs.Refused.{captured_nothing, dissected_nothing}
+use Rattle.rollover_program.proofs.Refused.{captured_nothing, dissected_nothing, drew_nothing}
 use Rattle.rollover_program.proofs.Carried.{as_asked, either_order, complete, complete_make}
 use Rattle.rollover_program.proofs.Carried.{complete_try}
 use Rattle.rollover_program.proofs.top.rollover.Goals as goal
@@ -50,6 +50,10 @@ returns-in-Ok-clause-capture g c = λ text asked told.
 pub returns-in-Ok-clause-dissect : goal.returns-in-Ok-clause-dissect
 returns-in-Ok-clause-dissect g c = λ file asked told.
     as_asked _ _ Dissect _ _ _ _ _ c.in-Ok.ensures.ok asked c.carry_out.ensures.done file told
+
+pub returns-in-Ok-clause-draw : goal.returns-in-Ok-clause-draw
+returns-in-Ok-clause-draw g c = λ text asked told.
+    as_asked _ _ Draw _ _ _ _ _ c.in-Ok.ensures.ok asked c.carry_out.ensures.done text told
 
 pub returns-in-Ok-clause-unread : goal.returns-in-Ok-clause-unread
 returns-in-Ok-clause-unread g c = λ n asked.
@@ -126,6 +130,11 @@ pub returns-in-Err-clause-dissect : goal.returns-in-Err-clause-dissect
 returns-in-Err-clause-dissect g c = λ file asked told.
     dissected_nothing _ c.in-Err.refusal (λ is. c.in-Err.ensures.usage (ap (λ f. Err f) is)) _ file _
     _ c.status_of_refusal.ensures asked
+
+pub returns-in-Err-clause-draw : goal.returns-in-Err-clause-draw
+returns-in-Err-clause-draw g c = λ text asked told.
+    drew_nothing _ c.in-Err.refusal (λ is. c.in-Err.ensures.usage (ap (λ f. Err f) is)) _ text _ _
+    c.status_of_refusal.ensures asked
 
 pub returns-in-Err-clause-unread : goal.returns-in-Err-clause-unread
 returns-in-Err-clause-unread g c = λ n asked. refl

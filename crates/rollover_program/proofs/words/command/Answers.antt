@@ -57,6 +57,10 @@ returns c =
     ∙ ap₂ with_subcommand four_is capture_is in
     let dissect_is : shape_of c.new-8.result ≡ plain (codes "dissect") =
     ap (λ (a : App). a.top) c.new-8.ensures.app in
-    IfOk-weaker c.subcommand-6.result _ _
-    (λ r h. h.shape (rw c.new-8.ensures.local refl) ∙ ap₂ with_subcommand five_is dissect_is)
-    c.subcommand-6.ensures
+    let six_is = c.in_ok-subcommand-6.ensures.shape (rw c.new-8.ensures.local refl)
+    ∙ ap₂ with_subcommand five_is dissect_is in
+    let draw_is : shape_of c.new-9.result ≡ plain (codes "draw") =
+    ap (λ (a : App). a.top) c.new-9.ensures.app in
+    IfOk-weaker c.subcommand-7.result _ _
+    (λ r h. h.shape (rw c.new-9.ensures.local refl) ∙ ap₂ with_subcommand six_is draw_is)
+    c.subcommand-7.ensures

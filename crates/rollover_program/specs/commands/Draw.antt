@@ -1,0 +1,34 @@
+-- `draw`: the picture of a transcript's keys is written.
+use Rattle.std.specs.Prelude.{◌≡◌, ◌⊎◌, ℕ, List, [], ◌∷◌, Ok, Err}
+use Rattle.lan_base.specs.Faults.{Rose}
+use Rattle.text_lines.specs.Reading.{Sourced}
+use Rattle.transcript_check.specs.declared.fault.CheckFault.TheVariants.{Unread}
+use Rattle.transcript_picture.specs.declared.drawing.Undrawn.{Undrawn}
+use Rattle.transcript_picture.specs.declared.drawing.Undrawn.TheVariants as undrawn
+use Rattle.transcript_picture.specs.Transcripts.{EndsDrawing}
+use Rattle.replay.specs.declared.cause.Cause.TheVariants as causes
+use Rattle.replay.specs.Sinks.{Sunk, Wrote, BrokeOff}
+use Rattle.rollover_program.specs.declared.status.Status.{Status}
+use Rattle.rollover_program.specs.declared.status.Status.TheVariants.{Done, Halted, CheckInput, Transcript}
+
+-- a picture was written; a fault of the sink, and want of memory, leave a part of it
+abbrev pub Shows : List ℕ → Sunk → Sunk → Status → Type 0
+Shows picture old new (Halted causes.WriteFault) =
+    Rose old.faults new.faults × BrokeOff (picture ∷ []) old new
+Shows picture old new (Halted causes.Memory) = BrokeOff (picture ∷ []) old new
+Shows picture old new status = (status ≡ Done) × Wrote (picture ∷ []) old new
+
+-- the status where a transcript was not drawn
+abbrev pub status_of_undrawn : Undrawn → Status
+status_of_undrawn (undrawn.Refused line) = Transcript line Unread
+status_of_undrawn undrawn.Memory = Halted causes.Memory
+status_of_undrawn undrawn.ReadFault = Halted causes.ReadFault
+status_of_undrawn undrawn.Limit = CheckInput
+
+-- the transcript was read to its end, and then a picture written; or it was not drawn, and nothing was
+-- written
+abbrev pub EndsAsDraw : List ℕ → Sourced → Sourced → Sunk → Sunk → Status → Type 0
+EndsAsDraw text left now old new status =
+    ((picture : List ℕ) × EndsDrawing text left now (Ok picture) × Shows picture old new status)
+    ⊎ ((why : Undrawn) × EndsDrawing {X = List ℕ} text left now (Err why)
+    × (status ≡ status_of_undrawn why) × (new ≡ old))

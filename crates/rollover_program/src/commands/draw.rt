@@ -1,0 +1,62 @@
+//! `draw`: the picture of a transcript's keys is written.
+
+ghost use Rattle.std.specs.Prelude.{◌≡◌, ◌≢◌, List, ℕ, Some};
+ghost use Rattle.lan_base.specs.Faults.{Rose};
+ghost use Rattle.text_lines.specs.Reading.{sourced};
+ghost use Rattle.replay.specs.declared.cause.Cause.TheVariants as causes;
+ghost use Rattle.replay.specs.Sinks.{sunk};
+ghost use Rattle.rollover_program.specs.declared.status.Status.TheVariants as statuses;
+ghost use Rattle.rollover_program.specs.commands.Draw.{EndsAsDraw, Shows, status_of_undrawn};
+
+use crate::status::Status;
+use lan_base::{Sink, Source, Unwritten, write_all};
+use replay::Cause;
+use std::alloc::Global;
+use transcript_check::CheckFault;
+use transcript_picture::Undrawn;
+
+/// Reads a transcript, and writes the picture of its keys at its end.
+pub fn draw<S: Source, K: Sink>(alloc: Global, source: &mut S, sink: &mut K) -> Status
+    ensures ends { (text : List ℕ) → S.left source.old ≡ Some text → EndsAsDraw text
+        (sourced (S.left source.old) (S.faults source.old))
+        (sourced (S.left source.new) (S.faults source.new))
+        (sunk (K.held sink.old) (K.faults sink.old))
+        (sunk (K.held sink.new) (K.faults sink.new)) result }
+    ensures carried { result ≢ statuses.Usage }
+    ensures read_cause { result ≡ statuses.Halted causes.ReadFault
+        → Rose (S.faults source.old) (S.faults source.new) }
+    ensures write_cause { result ≡ statuses.Halted causes.WriteFault
+        → Rose (K.faults sink.old) (K.faults sink.new) }
+{
+    match transcript_picture::draw(alloc, source) {
+        Ok(picture) => show(picture.as_slice(), sink),
+        Err(why) => status_of_undrawn(why),
+    }
+}
+
+/// Writes a picture.
+fn show<K: Sink>(picture: &[u8], sink: &mut K) -> Status
+    ensures { Shows picture.now (sunk (K.held sink.old) (K.faults sink.old))
+        (sunk (K.held sink.new) (K.faults sink.new)) result }
+{
+    match write_all(sink, picture) {
+        Ok(()) => Status::Done,
+        Err(Unwritten::Failed) => Status::Halted(Cause::WriteFault),
+        Err(Unwritten::Memory) => Status::Halted(Cause::Memory),
+    }
+}
+
+/// The status where a transcript was not drawn.
+fn status_of_undrawn(why: Undrawn) -> Status
+    ensures { result ≡ status_of_undrawn why }
+{
+    match why {
+        Undrawn::Refused { line } => Status::Transcript {
+            line,
+            why: CheckFault::Unread,
+        },
+        Undrawn::Memory => Status::Halted(Cause::Memory),
+        Undrawn::ReadFault => Status::Halted(Cause::ReadFault),
+        Undrawn::Limit => Status::CheckInput,
+    }
+}
