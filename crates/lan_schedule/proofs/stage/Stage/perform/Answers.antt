@@ -39,12 +39,12 @@ returns-in-Feed g c =
     c.place-in-Feed.result _ _ _
     (λ w. rw c.in-Feed.is refl) c.place-in-Feed.ensures c.feed.ensures
 
-pub feed-requires-order : goal.feed-requires-order
-feed-requires-order g c =
+pub feed-requires-clause-order : goal.feed-requires-clause-order
+feed-requires-clause-order g c =
     let form = rw c.in-Feed.is at c.requires.form in form.fits.1.0.0
 
-pub feed-requires-few : goal.feed-requires-few
-feed-requires-few g c =
+pub feed-requires-clause-few : goal.feed-requires-clause-few
+feed-requires-clause-few g c =
     let form = rw c.in-Feed.is at c.requires.form in form.fits.1.0.1
 
 pub returns-in-Lose : goal.returns-in-Lose
