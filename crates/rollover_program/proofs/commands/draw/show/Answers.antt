@@ -13,7 +13,7 @@ returns-in-Err-Failed g c =
       broke-one c.args.picture.now part.0 _ _ part.1 part.2 c.write_all.ensures.counts,
     )
 
-pub returns : goal.returns
-returns g c =
+pub returns-in-Err-Memory : goal.returns-in-Err-Memory
+returns-in-Err-Memory g c =
     let part = c.in-Err-Memory.ensures.prefix in
     broke-one c.args.picture.now part.0 _ _ part.1 part.2 c.write_all.ensures.counts
