@@ -88,3 +88,22 @@ fn fails_before_it_refutes(rt: HostRuntime) -> Result<(), Fail> {
     assert!(rt; left.held.is_empty());
     Ok(())
 }
+
+/// A picture is written of any transcript whose lines are read, and nothing of another.
+#[test]
+fn draws_transcripts(rt: HostRuntime) -> Result<(), Fail> {
+    let alloc = rt.alloc();
+    let left = perform(alloc, "draw", TWICE.as_bytes(), STEADY)?;
+    assert_eq!(rt; left.status, Status::Done);
+    assert!(rt; left.held.as_slice().starts_with(b"<svg "));
+    let left = perform(alloc, "draw", b"tick A 1\n", STEADY)?;
+    assert_eq!(rt;
+        left.status,
+        Status::Transcript {
+            line: 1,
+            why: CheckFault::Unread,
+        }
+    );
+    assert!(rt; left.held.is_empty());
+    Ok(())
+}
