@@ -13,7 +13,6 @@ mod Same
 mod Ahead
 mod Happening
 mod Bounded
-mod Turns
 mod Tidying
 mod Telling
 mod Settled

@@ -341,7 +341,7 @@ claim-comes s user w tidy few is_user there =
       is-going (perform (happen (events.Claim s n pn)) v)
           (λ u. IsTidy u → Comes (unless (pn == 0) (happen events.Emit)) u)
           (λ u e tidy_u. unless-comes (pn == 0) (happen events.Emit) u
-          (λ some. (waits-then v u s n pn tidy e may some, tt))),
+          (λ some. (waits-then v u s n pn tidy e (may, (refl, room)) some, tt))),
     )
 
 send-comes : (s : ℕ) (user : UserFrame) (w : World) → IsTidy w → IsUserFrame user → s < count w

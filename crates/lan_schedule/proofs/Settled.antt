@@ -42,7 +42,7 @@ use Rattle.lan_schedule.specs.Sound.{IsTidy}
 use Rattle.lan_schedule.specs.inside.Comes.{Comes, IsGoing, IsExact, named}
 use Rattle.lan_schedule.proofs.Bounded.{AreBounded, TakesOne, stays-bounded}
 use Rattle.lan_schedule.proofs.Tidying.{tidy-after, leaves-none}
-use Rattle.lan_schedule.proofs.Turns.{waiting-framed}
+use Rattle.next_numbers.proofs.Public.{waiting-framed}
 
 -- ---- an event that no stop meets shows something
 
@@ -107,7 +107,7 @@ unwrapped None default there = absurd (cc there)
 unwrapped (Some a) default there = refl
 
 -- what an event shows that goes on is what it has to show
-shows-all : (w : World) (event : Event) → IsTidy w → Comes (happen event) w
+pub shows-all : (w : World) (event : Event) → IsTidy w → Comes (happen event) w
     → first_stop (settings w) w.kept.users w.run event (supply w) ≡ None
     → expected (settings w) w.kept.users w.run event (drawn_from (settings w).suite (supply w))
     ≡ Some (facts_shown w event)

@@ -30,7 +30,7 @@ use Rattle.lan_schedule.specs.inside.Comes.{Comes, IsExact, named}
 use Rattle.lan_schedule.specs.Numbers.{shown_next, in_range}
 use Rattle.lan_schedule.proofs.Calm.{calm-shown, calm-claimed}
 use Rattle.lan_schedule.proofs.Drawing.{supply-draws}
-use Rattle.lan_schedule.proofs.Turns.{stays-in-turn}
+use Rattle.next_numbers.proofs.Public.{stays-in-turn}
 
 -- what facts put on the air has the numbers of its frames
 numbers-gather : (rounds : ℕ) (shown : List Fact) (xs : List Frame)

@@ -1,28 +1,13 @@
 -- The packet numbers that ticks show and stations claim. Before the first race each is the next
 -- one. From then on a slot word may be ahead, by additions that got no number, and what it shows is
 -- left to chance; it is never below the next number.
-use Rattle.std.specs.Prelude.{ℕ, if◌then◌else◌, nat_lt, List, nat_le, Bool, false, ◌&&◌, drop}
-use Rattle.lan_core.specs.declared.settings.Settings.{Settings}
-use Rattle.lan_core.specs.Run.{Run}
-use Rattle.lan_core.specs.Lives.{transmitting_at}
-use Rattle.lan_core.specs.Unstopped.{next_under}
+use Rattle.std.specs.Prelude.{ℕ, if◌then◌else◌, List, nat_le, Bool, false, ◌&&◌, drop}
 use Rattle.lan_core.specs.Expected.{last_number}
 use Rattle.lan_core.specs.declared.event.Event.{Event}
 use Rattle.lan_core.specs.declared.event.Event.TheVariants.{Tick, Claim}
+pub use Rattle.next_numbers.specs.Numbers.{shown_next, in_range, claimed_number}
 use Rattle.lan_schedule.specs.Races.{Chance, number_in}
 use Rattle.lan_schedule.specs.World.{World, settings}
-
--- what a tick of a station shows: the next number under the key that transmits
-abbrev pub shown_next : Settings → ℕ → Run → ℕ
-shown_next settings s r = next_under settings s r (transmitting_at settings s r)
-
--- a packet number, and 0 for what lies behind the last one
-abbrev pub in_range : ℕ → ℕ
-in_range n = if nat_lt last_number n then 0 else n
-
--- what a station claims: that number, or 0 where it can claim none
-abbrev pub claimed_number : Settings → ℕ → Run → ℕ
-claimed_number settings s r = in_range (shown_next settings s r)
 
 -- ---- by chance
 

@@ -189,17 +189,25 @@ claim-shows settings users r t user pn drawn shown most few is =
     subst (λ (f : List Fact). ShowsBounded settings r f (events.Claim t user pn) (most + 1)) lives.2
     (claim-bounded settings t pn r k most (pn == 0) few)
 
+-- a claim of a number leaves next numbers within a bound that lies behind it
+pub claim-stays : (settings : Settings) (users : List UserFrame) (r : Run) (t user pn : ℕ)
+    (drawn : Drawn) (shown : List Fact) (most : ℕ) → AreBounded settings r (most + 1) → pn ≤ most
+    → expected settings users r (events.Claim t user pn) drawn ≡ Some shown
+    → AreBounded settings (happened (events.Claim t user pn) shown ∷ r) (most + 1)
+unfolding next
+claim-stays settings users r t user pn drawn shown most few number is = λ s epoch.
+    max-bounded (shown_by settings s epoch r shown (events.Claim t user pn))
+    (next settings s epoch r) (most + 1)
+    (claim-shows settings users r t user pn drawn shown most number is s epoch) (few s epoch)
+
 -- a claim passes no more than one number
 pub claim-passes : (settings : Settings) (users : List UserFrame) (r : Run) (t user pn : ℕ)
     (drawn : Drawn) (shown : List Fact) (most : ℕ) → AreBounded settings r most → pn ≤ most
     → expected settings users r (events.Claim t user pn) drawn ≡ Some shown
     → AreBounded settings (happened (events.Claim t user pn) shown ∷ r) (most + 1)
-unfolding next
-claim-passes settings users r t user pn drawn shown most few number is = λ s epoch.
-    max-bounded (shown_by settings s epoch r shown (events.Claim t user pn))
-    (next settings s epoch r) (most + 1)
-    (claim-shows settings users r t user pn drawn shown most number is s epoch)
-    (let f = few s epoch in omega (arith, f))
+claim-passes settings users r t user pn drawn shown most few number is =
+    claim-stays settings users r t user pn drawn shown most
+    (λ s epoch. let f = few s epoch in omega (arith, f)) number is
 
 -- one that gets none passes none
 pub no-claim-passes : (settings : Settings) (users : List UserFrame) (r : Run) (t user : ℕ)
