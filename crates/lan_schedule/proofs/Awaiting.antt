@@ -1,7 +1,6 @@
 -- A claim that got a number waits for its emission.
-use Rattle.std.proofs.Common.{◌≡◌, ℕ, ◌==◌, true, false, Option, Some, None, refl, subst, sym}
+use Rattle.std.proofs.Common.{◌≡◌, ℕ, ◌==◌, true, false, Option, Some, None, refl, subst}
 use Rattle.std.specs.Prelude.{is_some}
-use Rattle.lan_core.specs.declared.event.Event.{Event}
 use Rattle.lan_core.specs.declared.event.Event.TheVariants as events
 use Rattle.lan_core.specs.declared.stop.Stop.{Stop}
 use Rattle.lan_core.specs.Claims.{waiting}
@@ -22,9 +21,6 @@ pub waits-then : (w v : World) (s user pn : ℕ) → IsTidy w
 waits-then w v s user pn tidy goes comes some =
     by (first_stop (settings w) w.kept.users w.run (events.Claim s user pn) (supply w)) refl goes
   where
-    claim : Event
-    claim = events.Claim s user pn
-
     by : (o : Option Stop)
         → first_stop (settings w) w.kept.users w.run (events.Claim s user pn) (supply w) ≡ o
         → shown w (events.Claim s user pn) (answered w (events.Claim s user pn) o) ≡ Goes v
