@@ -1,7 +1,7 @@
 -- Races at small worlds, worked by hand: how their frames are dealt, and which of their lines are
 -- refused or kept.
 use Rattle.std.proofs.Common.{◌≡◌, ℕ, true, List, [], ◌∷◌, ◌++◌, None, Some, refl}
-use Rattle.std.specs.Prelude.{replicate, codes, map, take}
+use Rattle.std.specs.Prelude.{replicate, map, take}
 use Rattle.lan_base.specs.declared.address.Mi.{Mi}
 use Rattle.lan_base.specs.declared.address.Mac.{Mac}
 use Rattle.lan_base.specs.declared.address.Sci.{Sci}
@@ -12,7 +12,6 @@ use Rattle.lan_core.specs.declared.fact.Fact.TheVariants as facts
 use Rattle.lan_core.specs.Run.{Run, happened, stations, facts_of}
 use Rattle.trace_text.specs.declared.line.Line.{Line}
 use Rattle.trace_text.specs.declared.line.Line.TheVariants as lines
-use Rattle.trace_text.specs.Reading.{line_in}
 use Rattle.lan_schedule.specs.declared.halt.Halt.{Halt}
 use Rattle.lan_schedule.specs.declared.halt.Halt.TheVariants as halts
 use Rattle.lan_schedule.specs.declared.halt.Kind.TheVariants as kinds
@@ -22,12 +21,12 @@ use Rattle.lan_schedule.specs.declared.phase.Numbered.{Numbered}
 use Rattle.lan_schedule.specs.Settings.{no_choice}
 use Rattle.lan_schedule.specs.Races.{Phase, Apart, Bursting, Controlling, workers_of, share}
 use Rattle.lan_schedule.specs.World.{World, nothing_kept}
-use Rattle.lan_schedule.specs.Acts.{Course, Goes, Stops, perform, world_of, each}
+use Rattle.lan_schedule.specs.Acts.{Course, Goes, Stops, perform, and_then, world_of, each}
 use Rattle.lan_schedule.specs.Kinds.{refusal}
-use Rattle.lan_schedule.specs.Lines.{numbered, performed_whole}
+use Rattle.lan_schedule.specs.Lines.{numbered, close}
 
 opens : ℕ
-unfolding stations line_in
+unfolding stations
 opens = 0
 
 abbrev mi : ℕ → Mi
@@ -138,14 +137,12 @@ unfolding opens
 end_is_refused = refl
 
 -- the trace ends inside a race
-no_end : why (perform (performed_whole (codes "race" ∷ codes "# none" ∷ [])) start) ≡
-    halts.Trace 12 kinds.NoEnd ∷ []
+no_end : why (and_then (after_lines 3) (λ w. perform close w)) ≡ halts.Trace 13 kinds.NoEnd ∷ []
 unfolding opens
 no_end = refl
 
 -- and outside one
-ends : why (perform (performed_whole (codes "# none" ∷ [])) start) ≡ []
-unfolding opens
+ends : why (perform close start) ≡ []
 ends = refl
 
 -- ---- lines that are refused

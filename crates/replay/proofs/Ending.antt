@@ -412,13 +412,13 @@ module _ {P K : Type 0} (given : Given) (Took : K → Report → K → Type 0) (
   -- ---- the end of a trace
 
   -- a world for which a replay stands behind its lines
-  record Reached (new : LinesMoment P K) : Type 0 where
+  record HasWorld (new : LinesMoment P K) : Type 0 where
     world : World
     stands : StandsFor world (of new)
 
-  reached : (left now : Sourced) (old new : LinesMoment P K) → IsFresh old
-      → Takes (DidLines Took Broke of) most_input left now old new (Ok tt) → Reached new
-  reached left now old new fresh h =
+  last-world : (left now : Sourced) (old new : LinesMoment P K) → IsFresh old
+      → Takes (DidLines Took Broke of) most_input left now old new (Ok tt) → HasWorld new
+  last-world left now old new fresh h =
       let d = h.taken in
       let e = h.ends.3 in
       let c = d.chances ++ (e.chances ++ []) in
@@ -430,7 +430,7 @@ module _ {P K : Type 0} (given : Given) (Took : K → Report → K → Type 0) (
   never-broken w (inl stops) = given.never close w _ halts.Broken stops (inr refl)
   never-broken w (inr memory) = cc memory
 
-  unwritten : (new : LinesMoment P K) (halt : Halt) → Reached new
+  unwritten : (new : LinesMoment P K) (halt : Halt) → HasWorld new
       → ((w : World) → StandsFor w (of new) → Closes w (Err halt))
       → failed (cause_of_halt halt) ≡ failed causes.WriteFault → ⊥
   unwritten new halts.Broken r closes is = never-broken r.world (closes r.world r.stands)
@@ -468,7 +468,7 @@ module _ {P K : Type 0} (given : Given) (Took : K → Report → K → Type 0) (
         writes = t.1;
         read_fault = λ is. absurd (unread halt is);
         write_fault = λ is.
-            absurd (unwritten new halt (reached left now old new fresh h.takes) closes is);
+            absurd (unwritten new halt (last-world left now old new fresh h.takes) closes is);
       }
 
   -- a transcript, to the end of the source

@@ -72,13 +72,13 @@ fn transcribe<S: Source, K: Sink, G: Gate>(
         recorder: Transcript::new(alloc),
         gate,
     };
-    if let Err(end) = read_lines(alloc, MAX_INPUT, source, &mut player, sink) {
-        return Err(cause_of(end));
+    match read_lines(alloc, MAX_INPUT, source, &mut player, sink) {
+        Ok(()) => match player.replay.close() {
+            Ok(()) => Ok(()),
+            Err(halt) => Err(cause_of_halt(halt)),
+        },
+        Err(end) => Err(cause_of(end)),
     }
-    if let Err(halt) = player.replay.close() {
-        return Err(cause_of_halt(halt));
-    }
-    Ok(())
 }
 
 /// Replays a trace for its summary.
@@ -101,13 +101,13 @@ fn summarize<S: Source, K: Sink, G: Gate>(
         recorder: Unrecorded,
         gate,
     };
-    if let Err(end) = read_lines(alloc, MAX_INPUT, source, &mut player, sink) {
-        return Err(cause_of(end));
+    match read_lines(alloc, MAX_INPUT, source, &mut player, sink) {
+        Ok(()) => match player.replay.close() {
+            Ok(()) => answered(write_line(alloc, player.replay.tally(), sink)),
+            Err(halt) => Err(cause_of_halt(halt)),
+        },
+        Err(end) => Err(cause_of(end)),
     }
-    if let Err(halt) = player.replay.close() {
-        return Err(cause_of_halt(halt));
-    }
-    answered(write_line(alloc, player.replay.tally(), sink))
 }
 
 /// Writes the summary line.

@@ -11,8 +11,8 @@ use Rattle.lan_schedule.proofs.Phasing.{taken-does, same-apart, not-taken, outsi
 use Rattle.lan_schedule.proofs.Opening.{unbegun-refused, unbegun-performed}
 use Rattle.lan_schedule.proofs.commands.Replay.perform.Goals as goal
 
-pub returns-in-Some-then-takes : goal.returns-in-Some-then-takes
-returns-in-Some-then-takes g c =
+pub returns-then-takes : goal.returns-then-takes
+returns-then-takes g c =
     taken-does c.args.line.now _ _ c.in-Some.stage c.take.result c.in-Some.is refl refl refl
     c.take.ensures (sym c.takes.ensures ∙ c.if-takes.true)
 
