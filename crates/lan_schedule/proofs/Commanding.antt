@@ -9,12 +9,12 @@ use Rattle.lan_schedule.specs.declared.recorder.Broken.{Broken}
 use Rattle.lan_schedule.specs.declared.stage.Stage.{Stage}
 use Rattle.lan_schedule.specs.World.{World}
 use Rattle.lan_schedule.specs.Acts.{look, perform, Stops}
-use Rattle.lan_schedule.specs.Kinds.{refusal}
-use Rattle.lan_schedule.specs.Lines.{deed, act_of, unless_refused}
+use Rattle.lan_schedule.specs.Lines.{deed, unless_refused}
 use Rattle.lan_schedule.specs.Races.{Chance, behind_numbers}
 use Rattle.lan_schedule.specs.Reports.{Report}
 use Rattle.lan_schedule.specs.Ends.{Moment, Ends}
-use Rattle.lan_schedule.specs.inside.Choosing.{is_choice}
+use Rattle.lan_schedule.specs.inside.Choosing.{is_elsewhere}
+use Rattle.lan_schedule.specs.inside.Phased.{refusal_apart, act_apart}
 use Rattle.lan_schedule.specs.inside.Comes.{Comes}
 use Rattle.lan_schedule.specs.inside.Staged.{Did}
 use Rattle.lan_schedule.specs.Stages.{StandsFor, Counts}
@@ -23,12 +23,12 @@ use Rattle.lan_schedule.proofs.Doing.{told-none}
 module _ {K : Type 0} {Took : K → Report → K → Type 0} {Broke : K → Report → K → Broken → Type 0}
   where
     pub refused-does : (line : Line) (kind : Kind) (now : Moment Stage K)
-        → ((w : World) → StandsFor w now.value → refusal line w ≡ Some kind)
-        → Did Took Broke (act_of line) now now (Err (halts.Trace now.value.line kind))
+        → ((w : World) → StandsFor w now.value → refusal_apart line w ≡ Some kind)
+        → Did Took Broke (act_apart line) now now (Err (halts.Trace now.value.line kind))
     refused-does line kind now is = record {
       chances = [];
       ends = λ w later left reached comes.
-          let out : perform (act_of line) w ≡ Stops w (halts.Trace now.value.line kind) =
+          let out : perform (act_apart line) w ≡ Stops w (halts.Trace now.value.line kind) =
           ap (λ (o : Option Kind). perform (unless_refused o (deed line w)) w) (is w reached.stands)
           ∙ ap (λ (n : ℕ). Stops w (halts.Trace n kind)) (sym reached.stands.line) in
           inl (record {
@@ -43,8 +43,8 @@ module _ {K : Type 0} {Took : K → Report → K → Type 0} {Broke : K → Repo
     }
 
     pub performed-does : (line : Line) (old new : Moment Stage K) (r : Result (Unit {0}) Halt)
-        → ((w : World) → StandsFor w old.value → refusal line w ≡ None)
-        → Did Took Broke (look (λ w. deed line w)) old new r → Did Took Broke (act_of line) old new r
+        → ((w : World) → StandsFor w old.value → refusal_apart line w ≡ None)
+        → Did Took Broke (look (λ w. deed line w)) old new r → Did Took Broke (act_apart line) old new r
     performed-does line old new r is d = record {
       chances = d.chances;
       ends = λ w later left reached comes.
@@ -59,7 +59,7 @@ pub none-of : (o : Option Kind) → ((x : Kind) → o ≡ Some x → ⊥) → o 
 none-of None other = refl
 none-of (Some kind) other = absurd (other kind refl)
 
-pub none-later : (line : Line) (o : Option Kind) → o ≡ None → IfNone o (is_choice line ≡ false)
-    → is_choice line ≡ false
+pub none-later : (line : Line) (o : Option Kind) → o ≡ None → IfNone o (is_elsewhere line ≡ false)
+    → is_elsewhere line ≡ false
 none-later line None e h = h
 none-later line (Some kind) e h = absurd (cc e)

@@ -177,13 +177,14 @@ module _ {K : Type 0} (Took : K → Report → K → Type 0) (Broke : K → Repo
     pub ends-seen : {R S : Type 0} (Stands Tallies : World → R → Type 0)
         (Sees Tells : World → S → Type 0) (w : World) (later : List Chance) (out : Course) (a k : K)
         (x : R) (y : S) (r : Result (Unit {0}) Halt)
-        → ((v : World) → r ≡ Ok tt → Stands v x → Sees v y) → ((v : World) → Tallies v x → Tells v y)
+        → ((v : World) → out ≡ Goes v → r ≡ Ok tt → Stands v x → Sees v y)
+        → ((v : World) → Tallies v x → Tells v y)
         → Ends Stands Tallies Took Broke w later out a (moment x k) r
         → Ends Sees Tells Took Broke w later out a (moment y k) r
     ends-seen Stands Tallies Sees Tells w later out a k x y (Ok done) sees tells h = (
       h.0,
       h.1,
-      record { stands = sees h.0 refl h.2.stands; tidy = h.2.tidy },
+      record { stands = sees h.0 h.1 refl h.2.stands; tidy = h.2.tidy },
       h.3,
       h.4,
       h.5,

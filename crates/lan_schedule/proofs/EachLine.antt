@@ -20,19 +20,21 @@ use Rattle.lan_schedule.specs.declared.choices.Choices.{Choices}
 use Rattle.lan_schedule.specs.declared.choices.Keyed.{Keyed}
 use Rattle.lan_schedule.specs.declared.halt.Kind.{Kind}
 use Rattle.lan_schedule.specs.Settings.{no_choice, secret_of, unkeyed, settings_of}
-use Rattle.lan_schedule.specs.Races.{Chance, Apart}
+use Rattle.lan_schedule.specs.declared.phase.Burst.{Burst}
+use Rattle.lan_schedule.specs.Races.{Chance, Phase, Apart, Bursting, Controlling, Racing}
 use Rattle.lan_schedule.specs.World.{World, Kept, beginning, settings, place, mark, is_racing}
 use Rattle.lan_schedule.specs.Acts.{Act, Course, Goes, Stops, happen, change}
 use Rattle.lan_schedule.specs.Acts.{perform, and_then, world_of, course, times}
-use Rattle.lan_schedule.specs.Kinds.{may_list, refusal, refusal_read}
-use Rattle.lan_schedule.specs.Lines.{deed, deed_read, chosen_by, feed, send, unless_refused}
+use Rattle.lan_schedule.specs.Kinds.{may_list, refusal, refusal_read, first_of, is_performed, may_stand, wrong_at}
+use Rattle.lan_schedule.specs.Lines.{deed, deed_at, deed_read, chosen_by, feed, send, unless_refused}
+use Rattle.lan_schedule.specs.Lines.{behind_race, behind_while, close_at, performed_whole}
 use Rattle.lan_schedule.specs.Lines.{performed, performed_all, tick, round, spread, flow_round}
 use Rattle.lan_schedule.specs.Lines.{cut_in, mended_in}
 use Rattle.lan_schedule.specs.Sound.{IsTidy}
 use Rattle.lan_schedule.specs.inside.Comes.{Comes}
 use Rattle.lan_schedule.proofs.Bounded.{AreBounded, bounded-first}
 use Rattle.lan_schedule.proofs.Drawing.{bytes-all}
-use Rattle.lan_schedule.proofs.LinesCome.{IsRight, is-right, deed-comes, tidy-same}
+use Rattle.lan_schedule.proofs.LinesCome.{IsRight, is-right, deed-comes, tidy-same, tidy-entered}
 use Rattle.lan_schedule.proofs.Beginning.{tidy-beginning}
 use Rattle.lan_schedule.proofs.Settled.{IsMild, IsOpen, HasSetting, stays-open, mild-ticks}
 use Rattle.lan_schedule.proofs.Settled.{mild-feed, mild-rounds, mild-mark, mild-spread, mild-flow, mild-send}
@@ -132,7 +134,7 @@ record IsReady (n : ℕ) (w : World) : Type 0 where
   chosen : AreChosen w.kept.chosen
   keyed : w.kept.begun ≡ true → is_some w.kept.chosen.group ≡ true
   calm : w.kept.raced ≡ false
-  apart : w.kept.phase ≡ Apart
+  apart : is_racing w.kept.phase ≡ false
   bounded : AreBounded (settings w) w.run
   tidy : IsTidy w
 
@@ -246,7 +248,21 @@ send-ready n s user w below ready begun tidy comes =
     ready-again (suc n) w.kept.chosen (world_of (perform (send s) v)) ready.chosen keyed
     (stays-open (suc n) w.kept.chosen below setting (send s) v (mild-send (suc n) s) now comes)
 
--- what a line performs that isn't refused leaves such a world
+-- the lines stand elsewhere
+entered-ready : (n : ℕ) (phase : Phase) (w : World) → IsReady n w → is_racing phase ≡ false
+    → IsTidy (record w { kept = record w.kept { phase = phase } })
+    → IsReady (suc n) (record w { kept = record w.kept { phase = phase } })
+entered-ready n phase w ready apart tidy = record {
+  users = let few = ready.users in omega (arith, few);
+  chosen = ready.chosen;
+  keyed = ready.keyed;
+  calm = ready.calm;
+  apart = apart;
+  bounded = ready.bounded;
+  tidy = tidy;
+}
+
+-- what a line performs outside a race that isn't refused leaves such a world
 deed-ready : (n : ℕ) (line : Line) (w : World) → suc n < 2 ^ 32 → IsInForm line → IsReady n w
     → IsRight line w → Comes (deed line w) w
     → IsReady (suc n) (world_of (perform (deed line w) w))
@@ -320,10 +336,11 @@ deed-ready n (lines.Send name destination body) w below form ready right comes =
 deed-ready n (lines.Inject name octets) w below form ready right comes =
     mild-ready n (happen (Inject (place w name) octets)) w below
     (bytes-all octets form.fits.1.0.2) ready right.allowed comes
-deed-ready n line w below form ready right comes =
-    mild-ready n (deed line w) w below
-    (λ kept. record { chosen = refl; users = refl; begun = refl; raced = refl; phase = refl }) ready
-    right.allowed comes
+deed-ready n lines.Race w below form ready right comes = entered-ready n (Bursting []) w ready refl comes
+deed-ready n (lines.Burst name workers frames destination body) w below form ready right comes =
+    absurd (cc (right.allowed))
+deed-ready n lines.While w below form ready right comes = absurd (cc (right.allowed))
+deed-ready n lines.End w below form ready right comes = absurd (cc (right.allowed))
 
 more-ready : (n : ℕ) (w : World) → IsReady n w → IsReady (suc n) w
 more-ready n w ready = record {
@@ -343,15 +360,35 @@ unless-ready : (n : ℕ) (o : Option Kind) (act : Act) (w : World) → IsReady n
 unless-ready n None act w ready goes = goes refl
 unless-ready n (Some kind) act w ready goes = more-ready n w ready
 
+-- the lines of a race stand in none that is performed
+behind-apart : (line : Line) (w : World) (bursts : List Burst)
+    → is_racing (behind_race line w bursts) ≡ false
+behind-apart lines.While w bursts = refl
+behind-apart _ w bursts = refl
+
+-- and so does what a line performs where it stands
+at-ready : (n : ℕ) (line : Line) (w : World) (phase : Phase) → suc n < 2 ^ 32 → IsInForm line
+    → IsReady n w → first_of (is_performed line) (may_stand line w phase) (wrong_at line w phase)
+    ≡ None → IsReady (suc n) (world_of (perform (deed_at line w phase) w))
+at-ready n line w Apart below form ready none =
+    let right = is-right line w none in
+    deed-ready n line w below form ready right (deed-comes line form w ready.tidy ready.apart right)
+at-ready n line w (Bursting bursts) below form ready none =
+    let apart = behind-apart line w bursts in
+    entered-ready n (behind_race line w bursts) w ready apart
+    (tidy-entered w (behind_race line w bursts) ready.tidy (apart ∙ sym ready.apart))
+at-ready n line w (Controlling bursts control) below form ready none =
+    entered-ready n (behind_while line w bursts control) w ready refl
+    (tidy-entered w (behind_while line w bursts control) ready.tidy (sym ready.apart))
+at-ready n line w Racing below form ready none = more-ready n w ready
+
 said-ready : (n : ℕ) (text : List ℕ) (said : Result (Option Line) TextFault) (w : World)
     → suc n < 2 ^ 32 → IsReady n w → line_in text ≡ said
     → IsReady (suc n) (world_of (perform (unless_refused (refusal_read said w) (deed_read said w))
     w))
 said-ready n text (Ok (Some line)) w below ready is =
-    let form = read_fits text line is in
-    unless-ready n (refusal line w) (deed line w) w ready
-    (λ none. let right = is-right line w none in
-    deed-ready n line w below form ready right (deed-comes line form w ready.tidy right))
+    unless-ready n (refusal line w) (deed_at line w w.kept.phase) w ready
+    (λ none. at-ready n line w w.kept.phase below (read_fits text line is) ready none)
 said-ready n text (Ok None) w below ready is = more-ready n w ready
 said-ready n text (Err fault) w below ready is = more-ready n w ready
 
@@ -379,11 +416,11 @@ then-calm : (n : ℕ) (out : Course) (later : Act) → IsReady n (world_of out)
     → ((v : World) → IsReady n v → IsCalm (world_of (perform later v)))
     → IsCalm (world_of (and_then out (λ v. perform later v)))
 then-calm n (Goes v) later ready next = next v ready
-then-calm n (Stops v halt) later ready next = (ready.tidy, ready.calm, ap is_racing ready.apart)
+then-calm n (Stops v halt) later ready next = (ready.tidy, ready.calm, ready.apart)
 
 texts-calm : (n : ℕ) (texts : List (List ℕ)) (w : World) → n + length texts < 2 ^ 32
     → IsReady n w → IsCalm (world_of (perform (performed_all texts) w))
-texts-calm n [] w below ready = (ready.tidy, ready.calm, ap is_racing ready.apart)
+texts-calm n [] w below ready = (ready.tidy, ready.calm, ready.apart)
 texts-calm n (text ∷ texts) w below ready =
     then-calm (suc n) (perform (performed text) w) (performed_all texts)
     (text-ready n text w (omega (arith, below)) ready)
@@ -394,3 +431,27 @@ pub lines-calm : (chances : List Chance) (texts : List (List ℕ)) → length te
     → IsCalm (world_of (course (performed_all texts) chances))
 lines-calm chances texts below =
     texts-calm 0 texts (beginning chances) (omega (arith, below)) (ready-first chances)
+
+-- ---- the end of a trace
+
+numbered-calm : (w : World) → IsCalm w
+    → IsCalm (record w { kept = record w.kept { line = w.kept.line + 1 } })
+numbered-calm w calm =
+    (tidy-same w _ calm.0 refl refl refl refl refl (λ e. e) (λ e. e), calm.1, calm.2)
+
+close-calm : (phase : Phase) (w : World) → IsCalm w → IsCalm (world_of (perform (close_at phase) w))
+close-calm Apart w calm = calm
+close-calm (Bursting bursts) w calm = numbered-calm w calm
+close-calm (Controlling bursts control) w calm = numbered-calm w calm
+close-calm Racing w calm = numbered-calm w calm
+
+whole-calm : (out : Course) → IsCalm (world_of out)
+    → IsCalm (world_of (and_then out (λ v. perform (close_at v.kept.phase) v)))
+whole-calm (Goes v) calm = close-calm v.kept.phase v calm
+whole-calm (Stops v halt) calm = calm
+
+-- fewer than 2^32 lines that are all of a trace leave such a world
+pub trace-calm : (chances : List Chance) (texts : List (List ℕ)) → length texts < 2 ^ 32
+    → IsCalm (world_of (course (performed_whole texts) chances))
+trace-calm chances texts below =
+    whole-calm (course (performed_all texts) chances) (lines-calm chances texts below)

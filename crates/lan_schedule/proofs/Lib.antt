@@ -1,5 +1,6 @@
 mod Calm
 mod Racing
+mod RaceExamples
 mod Doing
 mod Flowing
 mod Placing
@@ -10,6 +11,7 @@ mod Users
 mod Awaiting
 mod LinesCome
 mod Same
+mod Still
 mod Ahead
 mod Happening
 mod Bounded
@@ -18,9 +20,12 @@ mod Telling
 mod Settled
 mod Sending
 mod Refusing
+mod Few
+mod Phasing
 mod Performing
 mod Commanding
 mod Replaying
+mod Closing
 mod Stopping
 mod Opening
 mod Beginning

@@ -34,13 +34,14 @@ use Rattle.lan_schedule.specs.declared.halt.Kind.{Kind}
 use Rattle.lan_schedule.specs.declared.halt.Kind.TheVariants as kinds
 use Rattle.lan_schedule.specs.World.{World, Kept, count, settings, names_of, scis_of, is_in, place}
 use Rattle.lan_schedule.specs.World.{is_racing}
-use Rattle.lan_schedule.specs.Races.{number_in}
+use Rattle.lan_schedule.specs.Races.{Phase, Bursting, number_in}
 use Rattle.lan_schedule.specs.Numbers.{in_range, stands, number_claimed}
 use Rattle.lan_core.specs.Unstopped.{next_under}
 use Rattle.lan_schedule.specs.Acts.{Act, happen, seq, unless, perform}
 use Rattle.lan_schedule.specs.Kinds.{or_else, where_, unknown, is_number, no_frame, is_performed}
-use Rattle.lan_schedule.specs.Kinds.{is_allowed, may_list, wrong_word, refusal}
-use Rattle.lan_schedule.specs.Lines.{add_user, send, chosen_by, deed, act_of, unless_refused}
+use Rattle.lan_schedule.specs.Kinds.{is_allowed, may_list, wrong_word}
+use Rattle.lan_schedule.specs.Lines.{add_user, send, chosen_by, deed, unless_refused}
+use Rattle.lan_schedule.specs.inside.Phased.{refusal_apart, act_apart}
 use Rattle.lan_schedule.specs.Sound.{IsTidy, numbers_of, IsSoundIn}
 use Rattle.lan_schedule.specs.inside.Comes.{Comes, HasRoom, named}
 use Rattle.lan_core.specs.Lives.{transmitting_at}
@@ -74,12 +75,12 @@ and-true false b e = absurd (cc e)
 abbrev pub wrong_in : Line → World → Option Kind
 wrong_in line w = wrong_word line (names_of w.run) (scis_of w.run) (length w.kept.frames)
 
--- a line that isn't refused is allowed, and its words are right
+-- a line that isn't refused outside a race is allowed, and its words are right
 pub record IsRight (line : Line) (w : World) : Type 0 where
   pub allowed : is_allowed line w.kept.begun w.kept.chosen ≡ true
   pub words : wrong_in line w ≡ None
 
-pub is-right : (line : Line) (w : World) → refusal line w ≡ None → IsRight line w
+pub is-right : (line : Line) (w : World) → refusal_apart line w ≡ None → IsRight line w
 is-right line w e =
     let allowed = is_allowed line w.kept.begun w.kept.chosen in
     let later = (or-none (where_ (not (is_performed line)) kinds.Word) _ e).1 in
@@ -247,6 +248,23 @@ new-station name sci (p ∷ ps) no_name no_sci =
     (new-station name sci ps (or-false (pointwise nat_eq name p.name) _ no_name).1
     (or-false (pointwise nat_eq sci p.sci.0) _ no_sci).1)
 
+-- the lines stand elsewhere, and are performed beside workers where they were
+pub tidy-entered : (w : World) (phase : Phase) → IsTidy w
+    → is_racing phase ≡ is_racing w.kept.phase
+    → IsTidy (record w { kept = record w.kept { phase = phase } })
+tidy-entered w phase tidy same = record {
+  sound = subst (λ (racing : Bool). IsSoundIn racing (settings w) w.kept.users w.run) (sym same)
+      tidy.sound;
+  within = tidy.within;
+  frames = tidy.frames;
+  numbered = tidy.numbered;
+  in_turn = tidy.in_turn;
+  few = tidy.few;
+  waits = tidy.waits;
+  draws = tidy.draws;
+  dealt = tidy.dealt;
+}
+
 -- ---- user data
 
 -- one user frame more leaves a world tidy
@@ -356,29 +374,29 @@ refused-comes : (o : Option Kind) (act : Act) (w : World) → (o ≡ None → Co
 refused-comes None act w h = h refl
 refused-comes (Some kind) act w h = tt
 
-pub deed-comes : (line : Line) → IsInForm line → (w : World) → IsTidy w → IsRight line w
-    → Comes (deed line w) w
-deed-comes lines.DrawsCount form w tidy right =
+pub deed-comes : (line : Line) → IsInForm line → (w : World) → IsTidy w
+    → is_racing w.kept.phase ≡ false → IsRight line w → Comes (deed line w) w
+deed-comes lines.DrawsCount form w tidy apart right =
     chosen-comes lines.DrawsCount form (is_none w.kept.chosen.draws) w tidy right.allowed
-deed-comes (lines.DrawsChaCha key) form w tidy right =
+deed-comes (lines.DrawsChaCha key) form w tidy apart right =
     chosen-comes (lines.DrawsChaCha key) form (is_none w.kept.chosen.draws) w tidy right.allowed
-deed-comes (lines.DrawsList values) form w tidy right =
+deed-comes (lines.DrawsList values) form w tidy apart right =
     chosen-comes (lines.DrawsList values) form (may_list w.kept.chosen.draws) w tidy right.allowed
-deed-comes (lines.Conf conf) form w tidy right =
+deed-comes (lines.Conf conf) form w tidy apart right =
     chosen-comes (lines.Conf conf) form (is_none w.kept.chosen.conf) w tidy right.allowed
-deed-comes (lines.Window window) form w tidy right =
+deed-comes (lines.Window window) form w tidy apart right =
     chosen-comes (lines.Window window) form (is_none w.kept.chosen.window) w tidy right.allowed
-deed-comes (lines.Rekey rekey) form w tidy right =
+deed-comes (lines.Rekey rekey) form w tidy apart right =
     chosen-comes (lines.Rekey rekey) form (is_none w.kept.chosen.rekey) w tidy right.allowed
-deed-comes (lines.Lag lag) form w tidy right =
+deed-comes (lines.Lag lag) form w tidy apart right =
     chosen-comes (lines.Lag lag) form (is_none w.kept.chosen.lag) w tidy right.allowed
-deed-comes (lines.Suite suite) form w tidy right =
+deed-comes (lines.Suite suite) form w tidy apart right =
     chosen-comes (lines.Suite suite) form (is_none w.kept.chosen.suite) w tidy right.allowed
-deed-comes (lines.Flag early) form w tidy right =
+deed-comes (lines.Flag early) form w tidy apart right =
     chosen-comes (lines.Flag early) form (is_none w.kept.chosen.early_flag) w tidy right.allowed
-deed-comes (lines.Group cak ckn) form w tidy right =
+deed-comes (lines.Group cak ckn) form w tidy apart right =
     chosen-comes (lines.Group cak ckn) form (is_none w.kept.chosen.group) w tidy right.allowed
-deed-comes (lines.Station name sci priority) form w tidy right = (
+deed-comes (lines.Station name sci priority) form w tidy apart right = (
   tidy-same w (record w.kept { begun = true }) tidy refl refl refl refl refl
       (λ e. absurd (let bad : true ≡ false = e in cc)) (λ e. e),
   λ tidy_v. (
@@ -388,14 +406,14 @@ deed-comes (lines.Station name sci priority) form w tidy right = (
     tt,
   ),
 )
-deed-comes (lines.Tick rounds) form w tidy right = comes-rounds rounds w tidy
-deed-comes (lines.TickOne name ticks) form w tidy right =
+deed-comes (lines.Tick rounds) form w tidy apart right = comes-rounds rounds w tidy
+deed-comes (lines.TickOne name ticks) form w tidy apart right =
     comes-ticks (place w name) ticks w tidy (known name w right.words)
-deed-comes (lines.Flow rounds) form w tidy right = comes-flow rounds w tidy
-deed-comes (lines.Deliver frame name) form w tidy right =
+deed-comes (lines.Flow rounds) form w tidy apart right = comes-flow rounds w tidy
+deed-comes (lines.Deliver frame name) form w tidy apart right =
     let both = or-none (no_frame frame (length w.kept.frames)) _ right.words in
     ((known name w both.1, on-air frame w tidy both.0), tt)
-deed-comes (lines.Feed first last name) form w tidy right =
+deed-comes (lines.Feed first last name) form w tidy apart right =
     let count = length w.kept.frames in
     let outer = or-none (no_frame first count) _ right.words in
     let inner = or-none (no_frame last count) _ outer.1 in
@@ -411,13 +429,13 @@ deed-comes (lines.Feed first last name) form w tidy right =
       ),
       tt,
     ))
-deed-comes (lines.Spread frame) form w tidy right =
+deed-comes (lines.Spread frame) form w tidy apart right =
     comes-spread frame w tidy (on-air frame w tidy right.words)
-deed-comes (lines.Lose frame) form w tidy right = tidy-marked frame w tidy
-deed-comes (lines.Cut from to) form w tidy right = tidy-same w _ tidy refl refl refl refl refl (λ e. e) (λ e. e)
-deed-comes (lines.Mend from to) form w tidy right = tidy-same w _ tidy refl refl refl refl refl (λ e. e) (λ e. e)
-deed-comes (lines.Restart name) form w tidy right = (known name w right.words, tt)
-deed-comes (lines.Send name destination body) form w tidy right =
+deed-comes (lines.Lose frame) form w tidy apart right = tidy-marked frame w tidy
+deed-comes (lines.Cut from to) form w tidy apart right = tidy-same w _ tidy refl refl refl refl refl (λ e. e) (λ e. e)
+deed-comes (lines.Mend from to) form w tidy apart right = tidy-same w _ tidy refl refl refl refl refl (λ e. e) (λ e. e)
+deed-comes (lines.Restart name) form w tidy apart right = (known name w right.words, tt)
+deed-comes (lines.Send name destination body) form w tidy apart right =
     let user : UserFrame = record { destination = destination; body = body } in
     let is_user : IsUserFrame user = record {
       destination = (form.fits.1.0.0, bytes-all destination.0 form.fits.1.0.1);
@@ -425,13 +443,16 @@ deed-comes (lines.Send name destination body) form w tidy right =
       octets = bytes-all body form.fits.1.1.0.2;
     } in
     send-comes (place w name) user w tidy is_user (known name w right.words)
-deed-comes (lines.Inject name octets) form w tidy right = (
+deed-comes (lines.Inject name octets) form w tidy apart right = (
   (known name w right.words, (let few : length octets ≤ 1600 = form.fits.1.0.1 in omega arith)),
   tt,
 )
-deed-comes _ form w tidy right = tidy-same w _ tidy refl refl refl refl refl (λ e. e) (λ e. e)
+deed-comes lines.Race form w tidy apart right = tidy-entered w (Bursting []) tidy (sym apart)
+deed-comes _ form w tidy apart right = tidy-same w _ tidy refl refl refl refl refl (λ e. e) (λ e. e)
 
-pub line-comes : (line : Line) → IsInForm line → (w : World) → IsTidy w → Comes (act_of line) w
-line-comes line form w tidy =
-    refused-comes (refusal line w) (deed line w) w
-    (λ e. deed-comes line form w tidy (is-right line w e))
+-- what a line performs outside a race
+pub apart-comes : (line : Line) → IsInForm line → (w : World) → IsTidy w
+    → is_racing w.kept.phase ≡ false → Comes (act_apart line) w
+apart-comes line form w tidy apart =
+    refused-comes (refusal_apart line w) (deed line w) w
+    (λ e. deed-comes line form w tidy apart (is-right line w e))

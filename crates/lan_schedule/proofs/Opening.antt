@@ -20,20 +20,21 @@ use Rattle.lan_schedule.specs.declared.stage.Stage.{Stage}
 use Rattle.lan_schedule.specs.declared.commands.Replay.{Replay}
 use Rattle.lan_schedule.specs.Supply.{draw_at, supply_nth}
 use Rattle.lan_schedule.specs.Settings.{settings_of, lag_of, rule_of}
-use Rattle.lan_schedule.specs.Races.{Chance, behind_numbers}
-use Rattle.lan_schedule.specs.World.{World, Kept, nothing_kept}
+use Rattle.lan_schedule.specs.Races.{Phase, Apart, Chance, behind_numbers}
+use Rattle.lan_schedule.specs.World.{World, Kept, nothing_kept, is_racing}
 use Rattle.lan_schedule.specs.Acts.{Act, look, perform, Stops}
 use Rattle.lan_schedule.specs.Kinds.{first_of, is_performed, is_allowed, wrong_word, refusal}
-use Rattle.lan_schedule.specs.Lines.{choose, chosen_by, deed, act_of, unless_refused}
+use Rattle.lan_schedule.specs.Lines.{choose, chosen_by, deed, deed_at, act_of, unless_refused}
 use Rattle.lan_schedule.specs.Sound.{IsTidy}
 use Rattle.lan_schedule.specs.Reports.{Report}
 use Rattle.lan_schedule.specs.Ends.{Moment, moment}
 use Rattle.lan_schedule.specs.Standing.{IsStaged, StandsFor, Does}
-use Rattle.lan_schedule.specs.inside.Choosing.{is_choice, IsStation}
+use Rattle.lan_schedule.specs.inside.Choosing.{is_elsewhere, is_race, IsStation}
 use Rattle.lan_schedule.specs.Stages.{StandsFor as StageStandsFor}
 use Rattle.lan_schedule.specs.inside.Staged.{Did, IsOpening}
 use Rattle.lan_schedule.proofs.LinesCome.{IsRight, deed-comes, tidy-same, tidy-unbegun}
 use Rattle.lan_schedule.proofs.Doing.{told-none}
+use Rattle.lan_schedule.proofs.Still.{still-deed}
 use Rattle.lan_schedule.proofs.Replaying.{same-act, stands-counts, unbegun-does, opened-does}
 use Rattle.lan_schedule.proofs.Drawing.{chosen-draws}
 
@@ -89,7 +90,7 @@ opens w chosen line stage keyed opening is_line lag lan draws names scis users f
 
 -- ---- lines before the first station
 
-station-later : (line : Line) → IsStation line → is_choice line ≡ false
+station-later : (line : Line) → IsStation line → is_elsewhere line ≡ false
 station-later (lines.Station name sci priority) station = refl
 station-later lines.DrawsCount station = absurd station
 station-later (lines.DrawsChaCha key) station = absurd station
@@ -101,9 +102,16 @@ station-later (lines.Lag lag) station = absurd station
 station-later (lines.Suite suite) station = absurd station
 station-later (lines.Flag early) station = absurd station
 station-later (lines.Group cak ckn) station = absurd station
+station-later (lines.Burst name workers frames destination body) station = absurd station
+station-later lines.While station = absurd station
+station-later lines.End station = absurd station
 station-later _ station = refl
 
-pub station-is-later : (line : Line) → IsStation line → is_choice line ≡ false
+pub station-no-race : (line : Line) → IsStation line → is_race line ≡ false
+station-no-race lines.Race station = absurd station
+station-no-race _ station = refl
+
+pub station-is-later : (line : Line) → IsStation line → is_elsewhere line ≡ false
 station-is-later line station = station-later line station
 
 -- the first reason before any station
@@ -119,6 +127,7 @@ unbegun-reason (lines.Mend from to) chosen = refl
 unbegun-reason (lines.Restart name) chosen = refl
 unbegun-reason (lines.Send name destination body) chosen = refl
 unbegun-reason (lines.Inject name octets) chosen = refl
+unbegun-reason lines.Race chosen = refl
 unbegun-reason _ chosen = refl
 
 -- the world of a replay before the first station
@@ -159,6 +168,7 @@ chosen-deed (lines.Mend from to) chosen allowed other w = absurd (cc allowed)
 chosen-deed (lines.Restart name) chosen allowed other w = absurd (cc allowed)
 chosen-deed (lines.Send name destination body) chosen allowed other w = absurd (cc allowed)
 chosen-deed (lines.Inject name octets) chosen allowed other w = absurd (cc allowed)
+chosen-deed lines.Race chosen allowed other w = absurd (cc allowed)
 chosen-deed _ chosen allowed other w = refl
 
 -- ---- the first station
@@ -190,7 +200,7 @@ module _ {K : Type 0} {Took : K → Report → K → Type 0} {Broke : K → Repo
           let refused : refusal line w ≡ Some kind = ap (λ (v : World). refusal line v) same
           ∙ refusal-waiting w.kept.chances line now.value ∙ first in
           let out : perform (act_of line) w ≡ Stops w (halts.Trace now.value.line kind) =
-          ap (λ (o : Option Kind). perform (unless_refused o (deed line w)) w) refused
+          ap (λ (o : Option Kind). perform (unless_refused o (deed_at line w w.kept.phase)) w) refused
           ∙ ap (λ (n : ℕ). Stops w (halts.Trace n kind)) (ap (λ (v : World). v.kept.line) same) in
           inl (record {
             world = w;
@@ -213,19 +223,21 @@ module _ {K : Type 0} {Took : K → Report → K → Type 0} {Broke : K → Repo
         let same = is-waiting w old.value stands unbegun in
         let none : refusal line w ≡ None = ap (λ (v : World). refusal line v) same
         ∙ refusal-waiting w.kept.chances line old.value ∙ first in
-        ap (λ (o : Option Kind). perform (unless_refused o (deed line w)) w) none) d
+        let apart : w.kept.phase ≡ Apart = ap (λ (v : World). v.kept.phase) same in
+        ap (λ (o : Option Kind). perform (unless_refused o (deed_at line w w.kept.phase)) w) none
+        ∙ ap (λ (p : Phase). perform (deed_at line w p) w) apart) d
 
     pub chosen-does : (line : Line) → IsInForm line → (old new : Moment Replay K)
         → old.value.stage ≡ None → new.value.stage ≡ None → new.value.halted ≡ old.value.halted
         → new.value.line ≡ old.value.line → new.value.nothing ≡ old.value.nothing
         → new.value.chosen ≡ chosen_by line old.value.chosen → new.outlet ≡ old.outlet
-        → ((w : World) → deed line w ≡ choose (chosen_by line))
+        → new.value.phase ≡ old.value.phase → ((w : World) → deed line w ≡ choose (chosen_by line))
         → Does Took Broke (look (λ w. deed line w)) old new (Ok tt)
-    chosen-does line form old new unbegun still halted is_line nothing is_chosen outlet is =
+    chosen-does line form old new unbegun still halted is_line nothing is_chosen outlet phase is =
         same-act (look (λ w. deed line w)) (choose (chosen_by line)) old new (Ok tt)
         (λ w stands. ap (λ (act : Act). perform act w) (is w))
         (unbegun-does (λ kept. record kept { chosen = chosen_by line kept.chosen }) old new unbegun
-        still halted nothing (λ kept. (refl, refl))
+        still halted nothing phase (λ kept. (refl, refl))
         (λ w tidy empty. tidy-unbegun w _ tidy empty refl refl refl
         (chosen-draws line form w.kept.chosen tidy.draws))
         (λ chances i. record (nothing_kept chances) { line = sym is_line i; chosen = sym is_chosen i })
@@ -240,11 +252,13 @@ module _ {K : Type 0} {Took : K → Report → K → Type 0} {Broke : K → Repo
         → Did Took Broke (look (λ w. deed line w)) (moment stage old.outlet) (moment later new.outlet)
         r
         → new.value.stage ≡ Some later → new.value.halted ≡ old.value.halted
+        → new.value.phase ≡ old.value.phase
         → Does Took Broke (look (λ w. deed line w)) old new r
-    opening-does line form old new stage later r station unbegun keyed stands d is halted =
+    opening-does line form old new stage later r station unbegun keyed stands d is halted phase =
         opened-does (look (λ w. deed line w))
         (λ w. record w { kept = record w.kept { begun = true } }) old new stage later r
         (λ w. refl) (λ w. refl) (λ w. refl)
+        (λ w. still-deed line w (station-no-race line station))
         (λ w replay tidy.
         let same = is-waiting w old.value replay unbegun in
         let v : World = record w { kept = record w.kept { begun = true } } in
@@ -258,7 +272,7 @@ module _ {K : Type 0} {Took : K → Report → K → Type 0} {Broke : K → Repo
         ≡ true = ap (λ (u : World). is_some u.kept.chosen.group) same ∙ keyed in (
           stands v tidy_v keyed opening,
           tidy_v,
-          deed-comes line form v tidy_v
+          deed-comes line form v tidy_v (ap (λ (u : World). is_racing u.kept.phase) same)
               (station-right line v station (ap (λ (u : World). u.run) same) there),
           begun-same line w station,
-        )) is halted d
+        )) is halted phase d

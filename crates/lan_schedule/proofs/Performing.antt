@@ -12,12 +12,12 @@ use Rattle.lan_schedule.specs.World.{World, place}
 use Rattle.lan_schedule.specs.Acts.{Act, look}
 use Rattle.lan_schedule.specs.Lines.{deed}
 use Rattle.lan_schedule.specs.Sound.{IsTidy}
-use Rattle.lan_schedule.specs.inside.Choosing.{is_choice}
+use Rattle.lan_schedule.specs.inside.Choosing.{is_elsewhere, is_race}
 use Rattle.lan_schedule.specs.Reports.{Report}
 use Rattle.lan_schedule.specs.Ends.{Moment}
 use Rattle.lan_schedule.specs.inside.Staged.{Did}
 use Rattle.lan_schedule.specs.Stages.{StandsFor}
-use Rattle.lan_schedule.proofs.Doing.{look-leads, told-none}
+use Rattle.lan_schedule.proofs.Doing.{look-leads}
 use Rattle.lan_schedule.proofs.Looking.{stations-few}
 
 -- the place that a name has among those of a group at work
@@ -25,7 +25,7 @@ abbrev pub Places : Stage → List ℕ → ℕ → Type 0
 Places stage name s = length stage.names.items ≤ 255
     → s ≡ position_or_len (pointwise nat_eq name) stage.names.items
 
-place-is : (w : World) (stage : Stage) (name : List ℕ) (s : ℕ) → StandsFor w stage → IsTidy w
+pub place-is : (w : World) (stage : Stage) (name : List ℕ) (s : ℕ) → StandsFor w stage → IsTidy w
     → Places stage name s → s ≡ place w name
 place-is w stage name s stands tidy is =
     let few = stations-few w stage stands tidy in
@@ -62,7 +62,8 @@ module _ {K : Type 0} {Took : K → Report → K → Type 0} {Broke : K → Repo
         (look-leads (λ w. deed line w) act old (λ w stands tidy. same w)).leads new r d
 
     -- a line that is none of the others performs nothing
-    pub default-does : (line : Line) (now : Moment Stage K) → is_choice line ≡ false
+    pub default-does : (line : Line) (now : Moment Stage K) → is_elsewhere line ≡ false
+        → is_race line ≡ false
         → ((x : _) (x' : _) (x'' : _) → line ≡ lines.Station x x' x'' → ⊥)
         → ((x : _) → line ≡ lines.Tick x → ⊥) → ((x : _) (x' : _) → line ≡ lines.TickOne x x' → ⊥)
         → ((x : _) → line ≡ lines.Flow x → ⊥) → ((x : _) (x' : _) → line ≡ lines.Deliver x x' → ⊥)
@@ -73,32 +74,30 @@ module _ {K : Type 0} {Took : K → Report → K → Type 0} {Broke : K → Repo
         → ((x : _) (x' : _) → line ≡ lines.Inject x x' → ⊥)
         → ((x : _) (x' : _) (x'' : _) → line ≡ lines.Feed x x' x'' → ⊥)
         → Did Took Broke (look (λ w. deed line w)) now now (Ok tt)
-    default-does (lines.Station x x' x'') now later a b c d e f g h i j k l m = absurd (a x x' x'' refl)
-    default-does (lines.Tick x) now later a b c d e f g h i j k l m = absurd (b x refl)
-    default-does (lines.TickOne x x') now later a b c d e f g h i j k l m = absurd (c x x' refl)
-    default-does (lines.Flow x) now later a b c d e f g h i j k l m = absurd (d x refl)
-    default-does (lines.Deliver x x') now later a b c d e f g h i j k l m = absurd (e x x' refl)
-    default-does (lines.Spread x) now later a b c d e f g h i j k l m = absurd (f x refl)
-    default-does (lines.Lose x) now later a b c d e f g h i j k l m = absurd (g x refl)
-    default-does (lines.Cut x x') now later a b c d e f g h i j k l m = absurd (h x x' refl)
-    default-does (lines.Mend x x') now later a b c d e f g h i j k l m = absurd (i x x' refl)
-    default-does (lines.Restart x) now later a b c d e f g h i j k l m = absurd (j x refl)
-    default-does (lines.Send x x' x'') now later a b c d e f g h i j k l m = absurd (k x x' x'' refl)
-    default-does (lines.Inject x x') now later a b c d e f g h i j k l m = absurd (l x x' refl)
-    default-does (lines.Feed x x' x'') now later a b c d e f g h i j k l m = absurd (m x x' x'' refl)
-    default-does lines.DrawsCount now later a b c d e f g h i j k l m = absurd (cc later)
-    default-does (lines.DrawsChaCha key) now later a b c d e f g h i j k l m = absurd (cc later)
-    default-does (lines.DrawsList values) now later a b c d e f g h i j k l m = absurd (cc later)
-    default-does (lines.Conf conf) now later a b c d e f g h i j k l m = absurd (cc later)
-    default-does (lines.Window window) now later a b c d e f g h i j k l m = absurd (cc later)
-    default-does (lines.Rekey rekey) now later a b c d e f g h i j k l m = absurd (cc later)
-    default-does (lines.Lag lag) now later a b c d e f g h i j k l m = absurd (cc later)
-    default-does (lines.Suite suite) now later a b c d e f g h i j k l m = absurd (cc later)
-    default-does (lines.Flag early) now later a b c d e f g h i j k l m = absurd (cc later)
-    default-does (lines.Group cak ckn) now later a b c d e f g h i j k l m = absurd (cc later)
-    default-does _ now later a b c d e f g h i j k l m =
-        record {
-          chances = [];
-          ends = λ w later is reached comes.
-              (w, refl, reached, told-none w w now.outlet now.outlet refl refl, is, refl);
-        }
+    default-does (lines.Station x x' x'') now later isnt a b c d e f g h i j k l m = absurd (a x x' x'' refl)
+    default-does (lines.Tick x) now later isnt a b c d e f g h i j k l m = absurd (b x refl)
+    default-does (lines.TickOne x x') now later isnt a b c d e f g h i j k l m = absurd (c x x' refl)
+    default-does (lines.Flow x) now later isnt a b c d e f g h i j k l m = absurd (d x refl)
+    default-does (lines.Deliver x x') now later isnt a b c d e f g h i j k l m = absurd (e x x' refl)
+    default-does (lines.Spread x) now later isnt a b c d e f g h i j k l m = absurd (f x refl)
+    default-does (lines.Lose x) now later isnt a b c d e f g h i j k l m = absurd (g x refl)
+    default-does (lines.Cut x x') now later isnt a b c d e f g h i j k l m = absurd (h x x' refl)
+    default-does (lines.Mend x x') now later isnt a b c d e f g h i j k l m = absurd (i x x' refl)
+    default-does (lines.Restart x) now later isnt a b c d e f g h i j k l m = absurd (j x refl)
+    default-does (lines.Send x x' x'') now later isnt a b c d e f g h i j k l m = absurd (k x x' x'' refl)
+    default-does (lines.Inject x x') now later isnt a b c d e f g h i j k l m = absurd (l x x' refl)
+    default-does (lines.Feed x x' x'') now later isnt a b c d e f g h i j k l m = absurd (m x x' x'' refl)
+    default-does lines.DrawsCount now later isnt a b c d e f g h i j k l m = absurd (cc later)
+    default-does (lines.DrawsChaCha key) now later isnt a b c d e f g h i j k l m = absurd (cc later)
+    default-does (lines.DrawsList values) now later isnt a b c d e f g h i j k l m = absurd (cc later)
+    default-does (lines.Conf conf) now later isnt a b c d e f g h i j k l m = absurd (cc later)
+    default-does (lines.Window window) now later isnt a b c d e f g h i j k l m = absurd (cc later)
+    default-does (lines.Rekey rekey) now later isnt a b c d e f g h i j k l m = absurd (cc later)
+    default-does (lines.Lag lag) now later isnt a b c d e f g h i j k l m = absurd (cc later)
+    default-does (lines.Suite suite) now later isnt a b c d e f g h i j k l m = absurd (cc later)
+    default-does (lines.Flag early) now later isnt a b c d e f g h i j k l m = absurd (cc later)
+    default-does (lines.Group cak ckn) now later isnt a b c d e f g h i j k l m = absurd (cc later)
+    default-does (lines.Burst name workers frames destination body) now later isnt a b c d e f g h i j k l m = absurd (cc later)
+    default-does lines.While now later isnt a b c d e f g h i j k l m = absurd (cc later)
+    default-does lines.End now later isnt a b c d e f g h i j k l m = absurd (cc later)
+    default-does lines.Race now later isnt a b c d e f g h i j k l m = absurd (cc isnt)

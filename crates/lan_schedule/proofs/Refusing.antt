@@ -11,12 +11,13 @@ use Rattle.lan_schedule.specs.declared.choices.Choices.{Choices}
 use Rattle.lan_schedule.specs.declared.halt.Kind.TheVariants as kinds
 use Rattle.lan_schedule.specs.declared.stage.Stage.{Stage}
 use Rattle.lan_schedule.specs.World.{World, names_of, scis_of, Flow}
-use Rattle.lan_schedule.specs.Kinds.{first_of, is_performed, is_allowed, wrong_word, refusal}
-use Rattle.lan_schedule.specs.inside.Choosing.{is_choice}
+use Rattle.lan_schedule.specs.Kinds.{first_of, is_performed, is_allowed, wrong_word}
+use Rattle.lan_schedule.specs.inside.Choosing.{is_elsewhere}
+use Rattle.lan_schedule.specs.inside.Phased.{refusal_apart}
 use Rattle.lan_schedule.specs.Stages.{StandsFor}
 
 allowed-then : (line : Line) (chosen : Choices) → is_some chosen.group ≡ true
-    → is_allowed line true chosen ≡ not (is_choice line)
+    → is_allowed line true chosen ≡ not (is_elsewhere line)
 allowed-then lines.DrawsCount chosen keyed = refl
 allowed-then (lines.DrawsChaCha key) chosen keyed = refl
 allowed-then (lines.DrawsList values) chosen keyed = refl
@@ -28,6 +29,9 @@ allowed-then (lines.Suite suite) chosen keyed = refl
 allowed-then (lines.Flag early) chosen keyed = refl
 allowed-then (lines.Group cak ckn) chosen keyed = refl
 allowed-then (lines.Station name sci priority) chosen keyed = keyed
+allowed-then (lines.Burst name workers frames destination body) chosen keyed = refl
+allowed-then lines.While chosen keyed = refl
+allowed-then lines.End chosen keyed = refl
 allowed-then _ chosen keyed = refl
 
 map-map-scis : (ps : List Profile)
@@ -36,11 +40,11 @@ map-map-scis ps = map-map (λ (s : Sci). s.0) (λ (p : Profile). p.sci) ps
 
 -- the first reason, from what the group has
 pub refusal-by : (line : Line) (w : World) (stage : Stage) → StandsFor w stage
-    → first_of (is_performed line) (not (is_choice line))
+    → first_of (is_performed line) (not (is_elsewhere line))
     (wrong_word line stage.names.items (map (λ (s : Sci). s.0) stage.scis.items)
-    (length stage.frames.frames)) ≡ refusal line w
+    (length stage.frames.frames)) ≡ refusal_apart line w
 refusal-by line w stage stands =
-    let allowed : not (is_choice line) ≡ is_allowed line w.kept.begun w.kept.chosen =
+    let allowed : not (is_elsewhere line) ≡ is_allowed line w.kept.begun w.kept.chosen =
     sym (allowed-then line w.kept.chosen stands.keyed)
     ∙ ap (λ (b : Bool). is_allowed line b w.kept.chosen) (sym stands.begun) in
     let scis : map (λ (s : Sci). s.0) stage.scis.items ≡ scis_of w.run =
@@ -59,33 +63,33 @@ refusal-by line w stage stands =
     (wrong_word line (names_of w.run) (scis_of w.run) (length f.frames))) stands.flow
 
 pub refused-word : (line : Line) (w : World) (stage : Stage) → StandsFor w stage
-    → is_performed line ≡ false → Some kinds.Word ≡ refusal line w
+    → is_performed line ≡ false → Some kinds.Word ≡ refusal_apart line w
 refused-word line w stage stands isnt =
-    ap (λ (b : Bool). first_of b (not (is_choice line))
+    ap (λ (b : Bool). first_of b (not (is_elsewhere line))
     (wrong_word line stage.names.items (map (λ (s : Sci). s.0) stage.scis.items)
     (length stage.frames.frames))) (sym isnt)
     ∙ refusal-by line w stage stands
 
 pub refused-order : (line : Line) (w : World) (stage : Stage) → StandsFor w stage
-    → is_performed line ≡ true → is_choice line ≡ true → Some kinds.Order ≡ refusal line w
+    → is_performed line ≡ true → is_elsewhere line ≡ true → Some kinds.Order ≡ refusal_apart line w
 refused-order line w stage stands can choice =
     ap (λ (b : Bool). first_of true (not b)
     (wrong_word line stage.names.items (map (λ (s : Sci). s.0) stage.scis.items)
     (length stage.frames.frames))) (sym choice)
-    ∙ ap (λ (b : Bool). first_of b (not (is_choice line))
+    ∙ ap (λ (b : Bool). first_of b (not (is_elsewhere line))
     (wrong_word line stage.names.items (map (λ (s : Sci). s.0) stage.scis.items)
     (length stage.frames.frames))) (sym can)
     ∙ refusal-by line w stage stands
 
 pub refused-words : (line : Line) (w : World) (stage : Stage) → StandsFor w stage
-    → is_performed line ≡ true → is_choice line ≡ false
+    → is_performed line ≡ true → is_elsewhere line ≡ false
     → wrong_word line stage.names.items (map (λ (s : Sci). s.0) stage.scis.items)
-    (length stage.frames.frames) ≡ refusal line w
+    (length stage.frames.frames) ≡ refusal_apart line w
 refused-words line w stage stands can isnt =
     ap (λ (b : Bool). first_of true (not b)
     (wrong_word line stage.names.items (map (λ (s : Sci). s.0) stage.scis.items)
     (length stage.frames.frames))) (sym isnt)
-    ∙ ap (λ (b : Bool). first_of b (not (is_choice line))
+    ∙ ap (λ (b : Bool). first_of b (not (is_elsewhere line))
     (wrong_word line stage.names.items (map (λ (s : Sci). s.0) stage.scis.items)
     (length stage.frames.frames))) (sym can)
     ∙ refusal-by line w stage stands

@@ -11,7 +11,8 @@ use Rattle.lan_schedule.specs.declared.halt.Halt.TheVariants as halts
 use Rattle.lan_schedule.specs.declared.recorder.Broken.{Broken}
 use Rattle.lan_schedule.specs.declared.stage.Stage.{Stage}
 use Rattle.lan_schedule.specs.declared.commands.Replay.{Replay}
-use Rattle.lan_schedule.specs.Races.{Chance}
+use Rattle.lan_schedule.specs.declared.phase.Phase.{Phase as Stood}
+use Rattle.lan_schedule.specs.Races.{Chance, Phase}
 use Rattle.lan_schedule.specs.World.{World, Kept, nothing_kept, is_racing}
 use Rattle.lan_schedule.specs.Acts.{Act, nothing, change, seq, perform, Course, Goes, Stops}
 use Rattle.lan_schedule.specs.Acts.{and_then}
@@ -19,13 +20,14 @@ use Rattle.lan_schedule.specs.Lines.{begin_line, at_line, performed, performed_a
 use Rattle.lan_schedule.specs.Reports.{Report}
 use Rattle.lan_schedule.specs.Sound.{IsTidy}
 use Rattle.lan_schedule.specs.Ends.{Moment, moment, Ends}
-use Rattle.lan_schedule.specs.Standing.{IsStaged, HasTally, StandsFor, Counts, Does}
+use Rattle.lan_schedule.specs.Standing.{phase_of, IsStaged, HasTally, StandsFor, Counts, Does}
 use Rattle.lan_schedule.specs.Stages.{StandsFor as StageStandsFor, Counts as StageCounts}
 use Rattle.lan_schedule.specs.inside.Comes.{Comes}
 use Rattle.lan_schedule.specs.inside.Staged.{Did}
 use Rattle.lan_schedule.proofs.Doing.{both-chances, told-none, ends-behind, ends-early, ends-memory}
 use Rattle.lan_schedule.proofs.Doing.{ends-seen}
 use Rattle.lan_schedule.proofs.LinesCome.{tidy-same}
+use Rattle.lan_schedule.proofs.Still.{IsStill, stays}
 
 -- a replay that stands for a world has its tally
 has-tally : (w : World) (replay : Replay) (o : Option Stage) → IsStaged w replay o
@@ -64,7 +66,7 @@ module _ {K : Type 0} {Took : K → Report → K → Type 0} {Broke : K → Repo
     }
 
     -- the first act ended early
-    then-err : (f g : Act) (old new : Moment Replay K) (e : Halt) → Does Took Broke f old new (Err e)
+    pub then-err : (f g : Act) (old new : Moment Replay K) (e : Halt) → Does Took Broke f old new (Err e)
         → Does Took Broke (seq f g) old new (Err e)
     then-err f g old new e d = record {
       chances = d.chances;
@@ -74,7 +76,7 @@ module _ {K : Type 0} {Took : K → Report → K → Type 0} {Broke : K → Repo
     }
 
     -- the first act was done, and then the second ended so
-    then-ok : (f g : Act) (old mid new : Moment Replay K) (r : Result (Unit {0}) Halt)
+    pub then-ok : (f g : Act) (old mid new : Moment Replay K) (r : Result (Unit {0}) Halt)
         → Does Took Broke f old mid (Ok tt) → Does Took Broke g mid new r
         → Does Took Broke (seq f g) old new r
     then-ok f g old mid new r d e = record {
@@ -150,7 +152,7 @@ module _ {K : Type 0} {Took : K → Report → K → Type 0} {Broke : K → Repo
       chances = d.chances;
       ends = λ w later is reached.
           ends-seen Took Broke StandsFor Counts StandsFor Counts w later (perform act w) old.outlet k x y (Err e)
-          (λ v e. absurd (cc e)) tells (d.ends w later is reached);
+          (λ v goes e. absurd (cc e)) tells (d.ends w later is reached);
     }
 
     -- ---- a line begins
@@ -188,12 +190,14 @@ module _ {K : Type 0} (Took : K → Report → K → Type 0) (Broke : K → Repo
     staged-ends : (w : World) (later : List Chance) (out : Course) (a k : K) (stage : Stage)
         (replay : Replay) (r : Result (Unit {0}) Halt) → replay.stage ≡ Some stage
         → (r ≡ Ok tt → replay.halted ≡ None)
+        → ((v : World) → out ≡ Goes v → v.kept.phase ≡ phase_of replay.phase)
         → Ends StageStandsFor StageCounts Took Broke w later out a (moment stage k) r
         → Ends StandsFor Counts Took Broke w later out a (moment replay k) r
-    staged-ends w later out a k stage replay r is goes h =
+    staged-ends w later out a k stage replay r is goes phase h =
         ends-seen Took Broke StageStandsFor StageCounts StandsFor Counts w later out a k stage replay r
-        (λ v e stands. record {
+        (λ v there e stands. record {
           goes = goes e;
+          phase = phase v there;
           stage = subst (λ (o : Option Stage). IsStaged v replay o) (sym is) stands;
         })
         (λ v tally. subst (λ (o : Option Stage). HasTally v replay o) (sym is) tally) h
@@ -203,19 +207,23 @@ module _ {K : Type 0} {Took : K → Report → K → Type 0} {Broke : K → Repo
     -- what a group at work did, the replay did
     pub staged-does : (act : Act) (old new : Moment Replay K) (stage later : Stage)
         (r : Result (Unit {0}) Halt)
-        → ((w : World) → IsTidy w → Comes act w) → old.value.stage ≡ Some stage
+        → ((w : World) → StandsFor w old.value → IsTidy w → Comes act w) → IsStill act
+        → old.value.stage ≡ Some stage
         → new.value.stage ≡ Some later → new.value.halted ≡ old.value.halted
+        → new.value.phase ≡ old.value.phase
         → Did Took Broke act (moment stage old.outlet) (moment later new.outlet) r
         → Does Took Broke act old new r
-    staged-does act old new stage later r comes is_old is_new halted d = record {
+    staged-does act old new stage later r comes still is_old is_new halted phase d = record {
       chances = d.chances;
       ends = λ w rest left reached.
           let inner : StageStandsFor w stage =
           subst (λ (o : Option Stage). IsStaged w old.value o) is_old reached.stands.stage in
           staged-ends Took Broke w rest (perform act w) old.outlet new.outlet later new.value r is_new
           (λ e. halted ∙ reached.stands.goes)
+          (λ v there. stays act w v still there ∙ reached.stands.phase
+          ∙ ap (λ (p : Stood). phase_of p) (sym phase))
           (d.ends w rest left (record { stands = inner; tidy = reached.tidy })
-          (comes w reached.tidy));
+          (comes w reached.stands reached.tidy));
     }
 
     -- the group opened in another world, whose run is the same
@@ -223,14 +231,16 @@ module _ {K : Type 0} {Took : K → Report → K → Type 0} {Broke : K → Repo
         (stage later : Stage) (r : Result (Unit {0}) Halt)
         → ((w : World) → (begins w).run ≡ w.run)
         → ((w : World) → (begins w).kept.chances ≡ w.kept.chances)
-        → ((w : World) → is_racing (begins w).kept.phase ≡ is_racing w.kept.phase)
+        → ((w : World) → (begins w).kept.phase ≡ w.kept.phase) → IsStill act
         → ((w : World) → StandsFor w old.value → IsTidy w
         → StageStandsFor (begins w) stage × IsTidy (begins w) × Comes act (begins w)
         × (perform act w ≡ perform act (begins w)))
         → new.value.stage ≡ Some later → new.value.halted ≡ old.value.halted
+        → new.value.phase ≡ old.value.phase
         → Did Took Broke act (moment stage old.outlet) (moment later new.outlet) r
         → Does Took Broke act old new r
-    opened-does act begins old new stage later r same_run same_chances same_phase opens is halted d =
+    opened-does act begins old new stage later r same_run same_chances same_phase still opens is halted
+        phase d =
         record {
           chances = d.chances;
           ends = λ w rest left reached.
@@ -239,9 +249,11 @@ module _ {K : Type 0} {Took : K → Report → K → Type 0} {Broke : K → Repo
               Ends StandsFor Counts Took Broke w rest out old.outlet new r) (sym o.3)
               (ends-behind Took Broke StandsFor Counts w (begins w) rest (perform act (begins w)) old.outlet
               old.outlet new r (told-none w (begins w) old.outlet old.outlet (same_run w) refl)
-              (same_phase w)
+              (ap (λ (p : Phase). is_racing p) (same_phase w))
               (staged-ends Took Broke (begins w) rest (perform act (begins w)) old.outlet new.outlet later new.value
               r is (λ e. halted ∙ reached.stands.goes)
+              (λ v there. stays act (begins w) v still there ∙ same_phase w ∙ reached.stands.phase
+              ∙ ap (λ (p : Stood). phase_of p) (sym phase))
               (d.ends (begins w) rest (same_chances w ∙ left)
               (record { stands = o.0; tidy = o.1 }) o.2)));
         }
@@ -251,15 +263,14 @@ module _ {K : Type 0} {Took : K → Report → K → Type 0} {Broke : K → Repo
     -- what is kept changes
     pub unbegun-does : (f : Kept → Kept) (old new : Moment Replay K) → old.value.stage ≡ None
         → new.value.stage ≡ None → new.value.halted ≡ old.value.halted
-        → new.value.nothing ≡ old.value.nothing
-        → ((kept : Kept) → ((f kept).chances ≡ kept.chances)
-        × (is_racing (f kept).phase ≡ is_racing kept.phase))
+        → new.value.nothing ≡ old.value.nothing → new.value.phase ≡ old.value.phase
+        → ((kept : Kept) → ((f kept).chances ≡ kept.chances) × ((f kept).phase ≡ kept.phase))
         → ((w : World) → IsTidy w → w.run ≡ [] → IsTidy (record w { kept = f w.kept }))
         → ((chances : List Chance)
         → f (record (nothing_kept chances) { line = old.value.line; chosen = old.value.chosen })
         ≡ record (nothing_kept chances) { line = new.value.line; chosen = new.value.chosen })
         → new.outlet ≡ old.outlet → Does Took Broke (change f) old new (Ok tt)
-    unbegun-does f old new is_old is_new halted tally keeps tidied same outlet = record {
+    unbegun-does f old new is_old is_new halted tally phase keeps tidied same outlet = record {
       chances = [];
       ends = λ w later left reached.
           let before = subst (λ (o : Option Stage). IsStaged w old.value o) is_old
@@ -270,6 +281,8 @@ module _ {K : Type 0} {Took : K → Report → K → Type 0} {Broke : K → Repo
             record {
               stands = record {
                 goes = halted ∙ reached.stands.goes;
+                phase = (keeps w.kept).1 ∙ reached.stands.phase
+                    ∙ ap (λ (p : Stood). phase_of p) (sym phase);
                 stage = subst (λ (o : Option Stage). IsStaged v new.value o) (sym is_new) (
                   before.0,
                   ap (λ (k : Kept). f k) before.1 ∙ same w.kept.chances
@@ -284,28 +297,31 @@ module _ {K : Type 0} {Took : K → Report → K → Type 0} {Broke : K → Repo
             },
             told-none w v old.outlet new.outlet refl outlet,
             (keeps w.kept).0 ∙ left,
-            (keeps w.kept).1,
+            ap (λ (p : Phase). is_racing p) (keeps w.kept).1,
           );
     }
 
 -- the line of a number begins
 pub line-staged : (number : ℕ) (w : World) (old new : Replay) (stage later : Stage)
     → old.stage ≡ Some stage → new.stage ≡ Some later → new.halted ≡ old.halted
-    → ((w : World) → StageStandsFor w stage → StageStandsFor (at_line number w) later)
+    → new.phase ≡ old.phase → ((w : World) → StageStandsFor w stage → StageStandsFor (at_line number w) later)
     → StandsFor w old → StandsFor (at_line number w) new
-line-staged number w old new stage later is_old is_new halted begins stands = record {
+line-staged number w old new stage later is_old is_new halted phase begins stands = record {
   goes = halted ∙ stands.goes;
+  phase = stands.phase ∙ ap (λ (p : Stood). phase_of p) (sym phase);
   stage = subst (λ (o : Option Stage). IsStaged (at_line number w) new o) (sym is_new)
       (begins w (subst (λ (o : Option Stage). IsStaged w old o) is_old stands.stage));
 }
 
 pub line-unbegun : (number : ℕ) (w : World) (old new : Replay) → old.stage ≡ None
     → new.stage ≡ None → new.halted ≡ old.halted → new.line ≡ number → new.chosen ≡ old.chosen
-    → new.nothing ≡ old.nothing → StandsFor w old → StandsFor (at_line number w) new
-line-unbegun number w old new is_old is_new halted line chosen tally stands =
+    → new.nothing ≡ old.nothing → new.phase ≡ old.phase → StandsFor w old
+    → StandsFor (at_line number w) new
+line-unbegun number w old new is_old is_new halted line chosen tally phase stands =
     let before = subst (λ (o : Option Stage). IsStaged w old o) is_old stands.stage in
     record {
       goes = halted ∙ stands.goes;
+      phase = stands.phase ∙ ap (λ (p : Stood). phase_of p) (sym phase);
       stage = subst (λ (o : Option Stage). IsStaged (at_line number w) new o) (sym is_new) (
         before.0,
         ap (λ (k : Kept). record k { line = number }) before.1

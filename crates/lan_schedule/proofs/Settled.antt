@@ -1,7 +1,7 @@
 -- Acts that choose nothing and add no user frame leave a tidy world.
 use Rattle.std.proofs.Common.{◌≡◌, ◌<◌, ◌≤◌, ◌^◌, ◌+◌, ◌-◌, ◌==◌, ℕ, zero, suc, Bool, true, false}
 use Rattle.std.proofs.Common.{List, [], ◌∷◌, length, Option, Some, None, refl, sym}
-use Rattle.std.proofs.Common.{◌∙◌, subst, arith}
+use Rattle.std.proofs.Common.{ap, ◌∙◌, subst, arith}
 use Rattle.std.specs.Prelude.{cond, is_some, is_none, nat_lt, unwrap_or, option_map}
 use Rattle.std.specs.Prelude.{option_and_then}
 use Rattle.lan_base.specs.declared.frame.UserFrame.{UserFrame}
@@ -27,8 +27,8 @@ use Rattle.lan_core.specs.Unstopped.{next_under}
 use Rattle.lan_core.proofs.Public.{number-frame, in-a-life}
 use Rattle.lan_schedule.specs.declared.choices.Choices.{Choices}
 use Rattle.lan_schedule.specs.Settings.{settings_of}
-use Rattle.lan_schedule.specs.Races.{Apart}
-use Rattle.lan_schedule.specs.World.{World, Kept, settings, count, sender, mark}
+use Rattle.lan_schedule.specs.Races.{Phase}
+use Rattle.lan_schedule.specs.World.{World, Kept, settings, count, sender, mark, is_racing}
 use Rattle.lan_schedule.specs.Numbers.{shown_next, number_claimed}
 use Rattle.lan_schedule.proofs.Calm.{calm-shown, calm-claimed}
 use Rattle.lan_schedule.specs.Answers.{supply, answered, facts_shown}
@@ -153,7 +153,7 @@ pub record IsOpen (n : ℕ) (chosen : Choices) (w : World) : Type 0 where
   pub users : length w.kept.users ≤ n
   pub begun : w.kept.begun ≡ true
   pub calm : w.kept.raced ≡ false
-  pub apart : w.kept.phase ≡ Apart
+  pub apart : is_racing w.kept.phase ≡ false
   pub bounded : AreBounded (settings w) w.run
   pub tidy : IsTidy w
 
@@ -252,7 +252,7 @@ change-open n chosen f w aside now tidy = record {
   users = subst (λ (us : List UserFrame). length us ≤ n) (sym aside.users) now.users;
   begun = aside.begun ∙ now.begun;
   calm = aside.raced ∙ now.calm;
-  apart = aside.phase ∙ now.apart;
+  apart = ap (λ (p : Phase). is_racing p) aside.phase ∙ now.apart;
   bounded = subst (λ (c : Choices). AreBounded (settings_of c) w.run) (sym aside.chosen)
       now.bounded;
   tidy = tidy;

@@ -1,5 +1,6 @@
 -- Which line is refused, and the first reason (this profile's own rule).
-use Rattle.std.specs.Prelude.{ℕ, nat_le, Bool, true, false, not, ◌&&◌, if◌then◌else◌, List, length}
+use Rattle.std.specs.Prelude.{ℕ, ◌+◌, nat_le, nat_lt, Bool, true, false, not, ◌&&◌, if◌then◌else◌}
+use Rattle.std.specs.Prelude.{List, length}
 use Rattle.std.specs.Prelude.{Option, Some, None, is_some, Result, Ok, Err}
 use Rattle.std.specs.Option.{is_none}
 use Rattle.trace_text.specs.declared.fault.TextFault.{TextFault}
@@ -12,7 +13,10 @@ use Rattle.lan_schedule.specs.declared.halt.Kind.TheVariants as kinds
 use Rattle.lan_schedule.specs.declared.choices.Choices.{Choices}
 use Rattle.lan_schedule.specs.declared.choices.Rule.{Rule}
 use Rattle.lan_schedule.specs.declared.choices.Rule.TheVariants.{Listed}
-use Rattle.lan_schedule.specs.World.{World, names_of, scis_of, is_in}
+use Rattle.lan_schedule.specs.declared.phase.Burst.{Burst}
+use Rattle.lan_schedule.specs.declared.phase.Numbered.{Numbered}
+use Rattle.lan_schedule.specs.Races.{Phase, Apart, Bursting, Controlling, Racing, workers_at}
+use Rattle.lan_schedule.specs.World.{World, names_of, scis_of, is_in, place}
 
 -- ---- the text alone
 
@@ -24,11 +28,8 @@ kind_of_fault faults.Count = kinds.Count
 kind_of_fault faults.Hex = kinds.Hex
 kind_of_fault faults.Range = kinds.Range
 
--- whether lines of this form can be performed: races can't
+-- whether lines of this form can be performed: the end of a race can't
 abbrev pub is_performed : Line → Bool
-is_performed lines.Race = false
-is_performed (lines.Burst name workers frames destination body) = false
-is_performed lines.While = false
 is_performed lines.End = false
 is_performed _ = true
 
@@ -40,9 +41,9 @@ may_list None = true
 may_list (Some (Listed values)) = true
 may_list (Some _) = false
 
--- whether a line may stand here, where a station came or not and the lines before it chose so: the
--- first lines before any station and at most once, but for lists of draws; a station after the
--- group; every other line after a station
+-- whether a line may stand here outside a race, where a station came or not and the lines before it
+-- chose so: the first lines before any station and at most once, but for lists of draws; a station
+-- after the group; every other line after a station, but for those that stand in a race alone
 abbrev pub is_allowed : Line → Bool → Choices → Bool
 is_allowed lines.DrawsCount begun chosen = not begun && is_none chosen.draws
 is_allowed (lines.DrawsChaCha key) begun chosen = not begun && is_none chosen.draws
@@ -55,7 +56,50 @@ is_allowed (lines.Suite suite) begun chosen = not begun && is_none chosen.suite
 is_allowed (lines.Flag early) begun chosen = not begun && is_none chosen.early_flag
 is_allowed (lines.Group cak ckn) begun chosen = not begun && is_none chosen.group
 is_allowed (lines.Station name sci priority) begun chosen = is_some chosen.group
+is_allowed (lines.Burst name workers frames destination body) begun chosen = false
+is_allowed lines.While begun chosen = false
+is_allowed lines.End begun chosen = false
 is_allowed _ begun chosen = begun
+
+-- the greatest count of bursts of a race, and of its lines of control
+abbrev pub most_bursts : ℕ
+most_bursts = 8
+
+abbrev pub most_control : ℕ
+most_control = 1000
+
+-- whether a line may stand behind `race`: a burst, where more may come, and `while` after a burst
+abbrev pub is_burst_allowed : Line → List Burst → Bool
+is_burst_allowed (lines.Burst name workers frames destination body) bursts =
+    nat_lt (length bursts) most_bursts
+is_burst_allowed lines.While bursts = nat_lt 0 (length bursts)
+is_burst_allowed _ bursts = false
+
+-- whether lines of this form are control's
+abbrev pub is_control : Line → Bool
+is_control (lines.Tick rounds) = true
+is_control (lines.TickOne name ticks) = true
+is_control (lines.Flow rounds) = true
+is_control (lines.Deliver frame name) = true
+is_control (lines.Spread frame) = true
+is_control (lines.Lose frame) = true
+is_control (lines.Cut from to) = true
+is_control (lines.Mend from to) = true
+is_control (lines.Restart name) = true
+is_control (lines.Inject name octets) = true
+is_control _ = false
+
+-- whether a line may stand behind `while`: one of control's, where more may come, and `end`
+abbrev pub is_control_allowed : Line → List Numbered → Bool
+is_control_allowed lines.End control = true
+is_control_allowed line control = is_control line && nat_lt (length control) most_control
+
+-- whether a line may stand where it does
+abbrev pub may_stand : Line → World → Phase → Bool
+may_stand line w Apart = is_allowed line w.kept.begun w.kept.chosen
+may_stand line w (Bursting bursts) = is_burst_allowed line bursts
+may_stand line w (Controlling bursts control) = is_control_allowed line control
+may_stand line w Racing = false
 
 -- ---- names, SCIs and frames
 
@@ -99,6 +143,36 @@ wrong_word (lines.Send name destination body) names scis frames = unknown name n
 wrong_word (lines.Inject name octets) names scis frames = unknown name names
 wrong_word _ names scis frames = None
 
+-- what is wrong with the names of a line of a race; its frame is looked for when it is performed
+abbrev pub wrong_name : Line → List (List ℕ) → Option Kind
+wrong_name (lines.Burst name workers frames destination body) names = unknown name names
+wrong_name (lines.TickOne name ticks) names = unknown name names
+wrong_name (lines.Deliver frame name) names = unknown name names
+wrong_name (lines.Cut from to) names = or_else (unknown from names) (unknown to names)
+wrong_name (lines.Mend from to) names = or_else (unknown from names) (unknown to names)
+wrong_name (lines.Restart name) names = unknown name names
+wrong_name (lines.Inject name octets) names = unknown name names
+wrong_name _ names = None
+
+-- the greatest count of workers of a station in a race
+abbrev pub most_workers : ℕ
+most_workers = 8
+
+-- a burst has more workers than its station may still have
+abbrev pub too_many : Line → World → List Burst → Option Kind
+too_many (lines.Burst name workers frames destination body) w bursts =
+    where_ (nat_lt most_workers (workers_at (place w name) bursts + workers)) kinds.Range
+too_many _ w bursts = None
+
+-- what is wrong with the words of a line where it stands
+abbrev pub wrong_at : Line → World → Phase → Option Kind
+wrong_at line w Apart =
+    wrong_word line (names_of w.run) (scis_of w.run) (length w.kept.frames)
+wrong_at line w (Bursting bursts) =
+    or_else (too_many line w bursts) (wrong_name line (names_of w.run))
+wrong_at line w (Controlling bursts control) = wrong_name line (names_of w.run)
+wrong_at line w Racing = None
+
 -- ---- the first reason
 
 -- the first of three reasons: no such line can be performed, none may stand here, a word is wrong
@@ -109,8 +183,7 @@ first_of performed allowed wrong =
 -- why a line is refused
 abbrev pub refusal : Line → World → Option Kind
 refusal line w =
-    first_of (is_performed line) (is_allowed line w.kept.begun w.kept.chosen)
-    (wrong_word line (names_of w.run) (scis_of w.run) (length w.kept.frames))
+    first_of (is_performed line) (may_stand line w w.kept.phase) (wrong_at line w w.kept.phase)
 
 -- why what a text says is refused
 abbrev pub refusal_read : Result (Option Line) TextFault → World → Option Kind
@@ -120,6 +193,6 @@ refusal_read (Ok (Some line)) w = refusal line w
 
 -- Why a text without its line ending is refused, before it is performed. The first of these that
 -- holds is the reason: too long; a word, a count of words, a word's octets or number that isn't
--- right; not allowed here; a name, an SCI or a frame that isn't right.
+-- right; not allowed here; too many workers; a name, an SCI or a frame that isn't right.
 abbrev pub first_refusal : List ℕ → World → Option Kind
 first_refusal text w = refusal_read (line_in text) w

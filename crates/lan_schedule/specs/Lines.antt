@@ -11,10 +11,14 @@ use Rattle.trace_text.specs.declared.line.Line.{Line}
 use Rattle.trace_text.specs.declared.line.Line.TheVariants as lines
 use Rattle.trace_text.specs.Reading.{line_in}
 use Rattle.lan_schedule.specs.declared.halt.Kind.{Kind}
+use Rattle.lan_schedule.specs.declared.halt.Kind.TheVariants.{NoEnd}
 use Rattle.lan_schedule.specs.declared.choices.Rule.{Rule}
 use Rattle.lan_schedule.specs.declared.choices.Rule.TheVariants.{Counted, Streamed, Listed}
 use Rattle.lan_schedule.specs.declared.choices.Choices.{Choices}
 use Rattle.lan_schedule.specs.declared.frames.Put.{Put}
+use Rattle.lan_schedule.specs.declared.phase.Burst.{Burst}
+use Rattle.lan_schedule.specs.declared.phase.Numbered.{Numbered}
+use Rattle.lan_schedule.specs.Races.{Phase, Apart, Bursting, Controlling, Racing}
 use Rattle.lan_schedule.specs.Settings.{secret_of, lag_of}
 use Rattle.lan_schedule.specs.World.{World, Kept, count, place, sender, mark, is_cut}
 use Rattle.lan_schedule.specs.World.{with_link, without_link}
@@ -109,6 +113,36 @@ send s = look (λ w. claim s (length w.kept.users) (number_claimed w s))
 abbrev pub add_user : UserFrame → Act
 add_user frame = change (λ kept. record kept { users = kept.users ++ frame ∷ [] })
 
+-- ---- races
+
+-- the lines stand elsewhere
+abbrev pub enter : Phase → Act
+enter phase = change (λ kept. record kept { phase = phase })
+
+-- a burst of a line
+abbrev pub burst_of : World → Line → List Burst
+burst_of w (lines.Burst name workers frames destination body) = record {
+  station = place w name;
+  workers = workers;
+  frames = frames;
+  user = record { destination = destination; body = body };
+} ∷ []
+burst_of w _ = []
+
+-- a line with the number that it has
+abbrev pub kept_line : World → Line → Numbered
+kept_line w line = record { number = w.kept.line; line = line }
+
+-- where the lines stand behind a line behind `race`, which is kept, or behind which those of control
+-- come
+abbrev pub behind_race : Line → World → List Burst → Phase
+behind_race lines.While w bursts = Controlling bursts []
+behind_race line w bursts = Bursting (bursts ++ burst_of w line)
+
+-- where they stand behind a line of control, which is kept
+abbrev pub behind_while : Line → World → List Burst → List Numbered → Phase
+behind_while line w bursts control = Controlling bursts (control ++ kept_line w line ∷ [])
+
 -- ---- lines
 
 -- what a line before the first station chooses
@@ -127,7 +161,7 @@ chosen_by (lines.Group cak ckn) chosen =
     record chosen { group = Some (record { cak = secret_of cak; ckn = ckn }) }
 chosen_by _ chosen = chosen
 
--- what a line performs that isn't refused
+-- what a line performs outside a race that isn't refused
 abbrev pub deed : Line → World → Act
 deed (lines.Station name sci priority) w =
     seq begin (happen (Start name sci priority))
@@ -144,7 +178,15 @@ deed (lines.Restart name) w = happen (Restart (place w name))
 deed (lines.Send name destination body) w =
     seq (add_user (record { destination = destination; body = body })) (send (place w name))
 deed (lines.Inject name octets) w = happen (Inject (place w name) octets)
+deed lines.Race w = enter (Bursting [])
 deed line w = choose (chosen_by line)
+
+-- what a line performs where it stands that isn't refused; the lines of a race are kept
+abbrev pub deed_at : Line → World → Phase → Act
+deed_at line w Apart = deed line w
+deed_at line w (Bursting bursts) = enter (behind_race line w bursts)
+deed_at line w (Controlling bursts control) = enter (behind_while line w bursts control)
+deed_at line w Racing = nothing
 
 -- a refused line performs nothing
 abbrev pub unless_refused : Option Kind → Act → Act
@@ -153,7 +195,7 @@ unless_refused (Some kind) act = refuse kind
 
 -- what a line performs
 abbrev pub act_of : Line → Act
-act_of line = look (λ w. unless_refused (refusal line w) (deed line w))
+act_of line = look (λ w. unless_refused (refusal line w) (deed_at line w w.kept.phase))
 
 -- the line of this number begins
 abbrev pub begin_line : ℕ → Act
@@ -170,7 +212,7 @@ numbered number line = seq (begin_line number) (act_of line)
 
 -- what a text performs that isn't refused: nothing, where it has no word or is a comment
 abbrev pub deed_read : Result (Option Line) TextFault → World → Act
-deed_read (Ok (Some line)) w = deed line w
+deed_read (Ok (Some line)) w = deed_at line w w.kept.phase
 deed_read _ w = nothing
 
 -- what a text without its line ending performs, as the next line
@@ -182,3 +224,15 @@ performed text =
 -- what lines perform
 abbrev pub performed_all : List (List ℕ) → Act
 performed_all texts = each performed texts
+
+-- a trace doesn't end inside a race: what is refused is the line that isn't there
+abbrev pub close_at : Phase → Act
+close_at Apart = nothing
+close_at _ = seq (change (λ kept. record kept { line = kept.line + 1 })) (refuse NoEnd)
+
+abbrev pub close : Act
+close = look (λ w. close_at w.kept.phase)
+
+-- what lines perform that are all of a trace
+abbrev pub performed_whole : List (List ℕ) → Act
+performed_whole texts = seq (performed_all texts) close

@@ -1,17 +1,27 @@
 -- For which world a replay stands.
-use Rattle.std.specs.Prelude.{◌≡◌, List, [], ◌++◌, Option, Some, None, Result}
+use Rattle.std.specs.Prelude.{◌≡◌, ◌⊎◌, ◌+◌, List, [], ◌++◌, Option, Some, None, Result, Ok, Err}
 use Rattle.lan_core.specs.Run.{facts_of}
 use Rattle.fact_tally.specs.Summary.{counts}
 use Rattle.lan_schedule.specs.declared.halt.Halt.{Halt}
+use Rattle.lan_schedule.specs.declared.halt.Halt.TheVariants.{Memory}
 use Rattle.lan_schedule.specs.declared.recorder.Broken.{Broken}
 use Rattle.lan_schedule.specs.declared.stage.Stage.{Stage}
+use Rattle.lan_schedule.specs.declared.phase.Phase.{Phase as Stood}
+use Rattle.lan_schedule.specs.declared.phase.Phase.TheVariants as stood
 use Rattle.lan_schedule.specs.declared.commands.Replay.{Replay}
-use Rattle.lan_schedule.specs.Races.{Chance}
+use Rattle.lan_schedule.specs.Races.{Chance, Phase, Apart, Bursting, Controlling}
 use Rattle.lan_schedule.specs.World.{World, nothing_kept}
-use Rattle.lan_schedule.specs.Acts.{Act, perform}
+use Rattle.lan_schedule.specs.Acts.{Act, Goes, Stops, perform}
+use Rattle.lan_schedule.specs.Lines.{at_line, close}
 use Rattle.lan_schedule.specs.Reports.{Report}
 use Rattle.lan_schedule.specs.Ends.{Moment, IsReached, Ends}
 use Rattle.lan_schedule.specs.Stages.{StandsFor as StageStandsFor, Counts as StageCounts}
+
+-- where the lines of a replay stand
+abbrev pub phase_of : Stood → Phase
+phase_of stood.Apart = Apart
+phase_of (stood.Bursting bursts) = Bursting bursts.items
+phase_of (stood.Controlling bursts control) = Controlling bursts.items control.items
 
 -- before the first station nothing happened, and the tally is that of no facts; from then on the
 -- group at work stands for the world
@@ -28,6 +38,7 @@ IsStaged w replay (Some stage) = StageStandsFor w stage
 -- a replay that is not halted stands for a world
 pub record StandsFor (w : World) (replay : Replay) : Type 0 where
   pub goes : replay.halted ≡ None
+  pub phase : w.kept.phase ≡ phase_of replay.phase
   pub stage : IsStaged w replay replay.stage
 
 abbrev pub HasTally : World → Replay → Option Stage → Type 0
@@ -47,3 +58,10 @@ pub record Does {K : Type 0} (Took : K → Report → K → Type 0)
   pub ends : (w : World) (later : List Chance) → w.kept.chances ≡ chances ++ later
       → IsReached StandsFor w old.value
       → Ends StandsFor Counts Took Broke w later (perform act w) old.outlet new result
+
+-- The end of a trace, whose lines made this world: nothing more comes, or it stops there. The line
+-- behind the last may also have no number.
+abbrev pub Closes : World → Result (Unit {0}) Halt → Type 0
+Closes w (Ok done) = perform close w ≡ Goes w
+Closes w (Err halt) =
+    (perform close w ≡ Stops (at_line (w.kept.line + 1) w) halt) ⊎ (halt ≡ Memory)

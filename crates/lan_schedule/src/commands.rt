@@ -15,11 +15,12 @@ ghost use Rattle.lan_schedule.specs.Acts.{look};
 ghost use Rattle.lan_schedule.specs.Lines.{numbered, at_line, act_of, deed, chosen_by};
 ghost use Rattle.lan_schedule.specs.Lines.{listed_after, performed};
 ghost use Rattle.lan_schedule.specs.Ends.{moment};
-ghost use Rattle.lan_schedule.specs.Standing.{StandsFor, Counts, Does};
+ghost use Rattle.lan_schedule.specs.Standing.{StandsFor, Counts, Does, Closes};
 ghost use Rattle.lan_schedule.specs.inside.Choosing.{IsStation};
 
 use crate::choices::{Choices, Keyed, Rule};
 use crate::halt::{Halt, Kind};
+use crate::phase::Phase;
 use crate::recorder::Recorder;
 use crate::stage::Stage;
 use aes_block::Secret;
@@ -42,6 +43,8 @@ pub struct Replay {
     nothing: Tally,
     /// The group at work, from the first station on.
     stage: Option<Stage>,
+    /// Where the lines stand.
+    phase: Phase,
 }
 
 impl Replay {
@@ -56,6 +59,7 @@ impl Replay {
             chosen: Choices::new(),
             nothing: Tally::new(),
             stage: None,
+            phase: Phase::Apart,
         }
     }
 
@@ -122,6 +126,26 @@ impl Replay {
             self.halted = Some(halt);
         }
         outcome
+    }
+
+    /// Says whether the trace may end here: not inside a race.
+    pub fn close(&self) -> Result<(), Halt>
+        ensures closes { (w : World) → StandsFor w self.now → Closes w result }
+        ensures again { (halt : Halt) → self.now.halted ≡ Some halt → result ≡ Err halt }
+    {
+        if let Some(halt) = self.halted {
+            return Err(halt);
+        }
+        if !self.phase.is_inside() {
+            return Ok(());
+        }
+        let Some(line) = self.line().checked_add(1) else {
+            return Err(Halt::Memory);
+        };
+        Err(Halt::Trace {
+            line,
+            kind: Kind::NoEnd,
+        })
     }
 
     /// Performs a text as the next line.
@@ -203,6 +227,9 @@ impl Replay {
             (moment self.old outlet.old) (moment self.new outlet.new) result }
     {
         if let Some(stage) = &mut self.stage {
+            if self.phase.takes(line) {
+                return self.phase.take(stage, line);
+            }
             return stage.command(line, recorder, outlet, gate);
         }
         if let Some(kind) = refusal(&self.chosen, line) {
@@ -348,14 +375,11 @@ fn is_allowed(chosen: &Choices, line: &Line) -> bool
     }
 }
 
-/// Whether lines of this form can be performed: races can't.
+/// Whether lines of this form can be performed: the end of a race can't.
 pub fn is_performed(line: &Line) -> bool
     ensures { result ≡ is_performed line.now }
 {
-    !matches!(
-        line,
-        Line::Race | Line::Burst { .. } | Line::While | Line::End
-    )
+    !matches!(line, Line::End)
 }
 
 /// A fault of a line's text as a kind.

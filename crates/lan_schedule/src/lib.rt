@@ -9,6 +9,7 @@ mod halt;
 mod laws;
 mod links;
 mod moves;
+mod phase;
 mod recorder;
 mod refusals;
 mod setup;

@@ -4,10 +4,11 @@ ghost use Rattle.std.specs.Prelude.{◌≡◌, nat_eq, length, map, IfNone, fals
 ghost use Rattle.std.specs.List.{list_any};
 ghost use Rattle.std.specs.Cmp.Lexicographic.{pointwise};
 ghost use Rattle.lan_schedule.specs.World.{World, is_in};
-ghost use Rattle.lan_schedule.specs.Kinds.{refusal, or_else, where_, unknown, no_frame, is_number};
-ghost use Rattle.lan_schedule.specs.Kinds.{wrong_word};
+ghost use Rattle.lan_schedule.specs.Kinds.{or_else, where_, unknown, no_frame, is_number};
+ghost use Rattle.lan_schedule.specs.Kinds.{wrong_word, wrong_name};
 ghost use Rattle.lan_schedule.specs.declared.halt.Kind.TheVariants as kinds;
-ghost use Rattle.lan_schedule.specs.inside.Choosing.{is_choice};
+ghost use Rattle.lan_schedule.specs.inside.Choosing.{is_elsewhere};
+ghost use Rattle.lan_schedule.specs.inside.Phased.{refusal_apart};
 ghost use Rattle.lan_schedule.specs.Stages.{StandsFor};
 
 use crate::commands::is_performed;
@@ -17,15 +18,15 @@ use lan_base::{Name, Sci};
 use trace_text::Line;
 
 impl Stage {
-    /// Why a line is refused.
+    /// Why a line is refused outside a race.
     pub fn refusal(&self, line: &Line) -> Option<Kind>
-        ensures first { (w : World) → StandsFor w self.now → result ≡ refusal line.now w }
-        ensures later { IfNone result (is_choice line.now ≡ false) }
+        ensures first { (w : World) → StandsFor w self.now → result ≡ refusal_apart line.now w }
+        ensures later { IfNone result (is_elsewhere line.now ≡ false) }
     {
         if !is_performed(line) {
             return Some(Kind::Word);
         }
-        if is_choice(line) {
+        if is_elsewhere(line) {
             return Some(Kind::Order);
         }
         self.wrong_word(line)
@@ -49,6 +50,23 @@ impl Stage {
                 .or(self.no_frame(*last))
                 .or(self.unknown(name)),
             Line::Spread { frame } | Line::Lose { frame } => self.no_frame(*frame),
+            Line::Cut { from, to } | Line::Mend { from, to } => {
+                self.unknown(from).or(self.unknown(to))
+            }
+            _ => None,
+        }
+    }
+
+    /// What is wrong with the names of a line of a race.
+    pub fn wrong_name(&self, line: &Line) -> Option<Kind>
+        ensures { result ≡ wrong_name line.now self.now.names.items }
+    {
+        match line {
+            Line::Burst { name, .. }
+            | Line::TickOne { name, .. }
+            | Line::Deliver { name, .. }
+            | Line::Restart { name }
+            | Line::Inject { name, .. } => self.unknown(name),
             Line::Cut { from, to } | Line::Mend { from, to } => {
                 self.unknown(from).or(self.unknown(to))
             }
@@ -119,9 +137,9 @@ impl Stage {
     }
 }
 
-/// Whether a line may only stand before the first station.
-fn is_choice(line: &Line) -> bool
-    ensures { result ≡ is_choice line.now }
+/// Whether a line may only stand before the first station, or inside a race.
+fn is_elsewhere(line: &Line) -> bool
+    ensures { result ≡ is_elsewhere line.now }
 {
     matches!(
         line,
@@ -135,5 +153,8 @@ fn is_choice(line: &Line) -> bool
             | Line::Suite { .. }
             | Line::Flag { .. }
             | Line::Group { .. }
+            | Line::Burst { .. }
+            | Line::While
+            | Line::End
     )
 }

@@ -16,9 +16,9 @@ ghost use Rattle.lan_schedule.specs.World.{World, mark};
 ghost use Rattle.lan_schedule.specs.declared.halt.Halt.{Halt};
 ghost use Rattle.lan_schedule.specs.Sound.{IsTidy};
 ghost use Rattle.lan_schedule.specs.Acts.{happen, seq, look, unless};
-ghost use Rattle.lan_schedule.specs.inside.Choosing.{is_choice};
+ghost use Rattle.lan_schedule.specs.inside.Choosing.{is_elsewhere, is_race};
+ghost use Rattle.lan_schedule.specs.inside.Phased.{act_apart};
 ghost use Rattle.lan_schedule.specs.Lines.{send, add_user, begin, cut_in, mended_in, deed};
-ghost use Rattle.lan_schedule.specs.Lines.{act_of};
 ghost use Rattle.lan_schedule.specs.Answers.{halt_of};
 ghost use Rattle.lan_schedule.specs.Ends.{moment};
 ghost use Rattle.lan_schedule.specs.Stages.{StandsFor};
@@ -170,7 +170,7 @@ impl Stage {
     }
 
     /// The place of the station of a name; where there is none, the count of stations.
-    fn place(&self, name: &Name) -> u8
+    pub fn place(&self, name: &Name) -> u8
         ensures { length self.now.names.items ≤ 255
             → result ≡ position_or_len (pointwise nat_eq name.now) self.now.names.items }
     {
@@ -179,7 +179,7 @@ impl Stage {
 
     // ---- lines
 
-    /// Performs a line.
+    /// Performs a line outside a race, which begins none.
     pub fn command<K, R: Recorder<K>, G: Gate>(
         &mut self,
         line: &Line,
@@ -187,8 +187,9 @@ impl Stage {
         outlet: &mut K,
         gate: &G,
     ) -> Result<(), Halt>
-        requires { IsInForm line.now }
-        ensures { Did R.Took R.Broke (act_of line.now)
+        requires form { IsInForm line.now }
+        requires apart { is_race line.now ≡ false }
+        ensures { Did R.Took R.Broke (act_apart line.now)
             (moment self.old outlet.old) (moment self.new outlet.new) result }
     {
         if let Some(kind) = self.refusal(line) {
@@ -209,7 +210,8 @@ impl Stage {
         gate: &G,
     ) -> Result<(), Halt>
         requires form { IsInForm line.now }
-        requires later { is_choice line.now ≡ false }
+        requires later { is_elsewhere line.now ≡ false }
+        requires apart { is_race line.now ≡ false }
         ensures { Did R.Took R.Broke (look (λ w. deed line.now w))
             (moment self.old outlet.old) (moment self.new outlet.new) result }
     {

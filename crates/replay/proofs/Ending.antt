@@ -1,7 +1,8 @@
 -- How a run of a text ends.
 use Rattle.std.proofs.Common.{◌≡◌, ◌⊎◌, ℕ, ◌≤◌, List, [], ◌∷◌, ◌++◌, Option, Some, refl, sym, ap, ◌∙◌}
 use Rattle.std.proofs.Common.{subst, append_assoc, arith, inl, inr}
-use Rattle.std.specs.Prelude.{Result, Ok, Err, MatchResult, length, true, false}
+use Rattle.std.specs.Prelude.{Result, Ok, Err, MatchResult, length, take, nat_le, cond, Bool, true, false}
+use Rattle.std.proofs.lemmas.Bool.Decides.{nat_tests}
 use Rattle.lan_base.specs.Faults.{Rose}
 use Rattle.lan_base.specs.Told.{after}
 use Rattle.lan_core.specs.Run.{Run}
@@ -18,13 +19,13 @@ use Rattle.lan_schedule.specs.declared.commands.Replay.{Replay}
 use Rattle.lan_schedule.specs.Races.{Chance}
 use Rattle.lan_schedule.specs.World.{World, beginning}
 use Rattle.lan_schedule.specs.Acts.{Act, Course, Goes, Stops, perform, and_then, course}
-use Rattle.lan_schedule.specs.Lines.{performed_all}
+use Rattle.lan_schedule.specs.Lines.{performed_all, close}
 use Rattle.lan_schedule.specs.Reports.{Report, reports, AreTold}
 use Rattle.lan_schedule.specs.Ends.{Begins, IsReached, WasTold, WasBroken as RecorderBroke, Ends}
 use Rattle.lan_schedule.specs.Ends.{halt_of_broken, reported}
 use Rattle.lan_schedule.specs.Sound.{IsTidy}
-use Rattle.lan_schedule.specs.Standing.{StandsFor, Does}
-use Rattle.lan_schedule.proofs.Public.{grows, each-append}
+use Rattle.lan_schedule.specs.Standing.{StandsFor, Does, Closes}
+use Rattle.lan_schedule.proofs.Public.{grows, each-append, does-whole, does-whole-early}
 use Rattle.replay.specs.declared.cause.Cause.{Cause}
 use Rattle.replay.specs.declared.cause.Cause.TheVariants as causes
 use Rattle.replay.specs.Sinks.{Sunk, Wrote, BrokeOff, WroteSome, joined}
@@ -32,8 +33,8 @@ use Rattle.replay.specs.Shown.{Shows, summary_of}
 use Rattle.replay.specs.Runs.{most_input, whole, within, WasPerformed, WasHalted, WasCut, WasBroken}
 use Rattle.replay.specs.Runs.{EndsBy, IsTaken, EndsRun, IsSettled, IsReplayed}
 use Rattle.replay.specs.inside.Writing.{Fails}
-use Rattle.replay.specs.Causes.{cause_of, answered}
-use Rattle.replay.specs.inside.Playing.{DidLines}
+use Rattle.replay.specs.Causes.{cause_of, cause_of_halt, answered}
+use Rattle.replay.specs.inside.Playing.{DidAct, DidLines}
 use Rattle.replay.proofs.Written.{after-after, rose-earlier, wrote-held, wrote-counts, fails-broke}
 use Rattle.replay.proofs.Written.{Grew, grew-wrote, grew-broke}
 use Rattle.replay.proofs.Telling.{Shows_on}
@@ -90,20 +91,18 @@ module _ {P K : Type 0} (given : Given) (Took : K → Report → K → Type 0) (
 
   -- ---- from the beginning
 
-  performed : (lines : List (List ℕ)) (old new : LinesMoment P K) → IsFresh old
-      → DidLines Took Broke of lines old new (Ok tt)
-      → WasPerformed IsSettled (λ t. Wrote t (see old.outlet) (see new.outlet)) texts
-      (performed_all lines)
-  performed lines old new fresh d =
+  performed : (act : Act) (old new : LinesMoment P K) → IsFresh old
+      → DidAct Took Broke of act old new (Ok tt)
+      → WasPerformed IsSettled (λ t. Wrote t (see old.outlet) (see new.outlet)) texts act
+  performed act old new fresh d =
       let c = d.chances ++ [] in
       let e = d.ends (beginning c) [] refl (begins old c fresh) in
       (c, e.0, e.1, record { tidy = e.2.tidy; apart = e.5 }, was-told c e.0 _ _ e.3)
 
-  halted : (lines : List (List ℕ)) (old new : LinesMoment P K) (halt : Halt) → IsFresh old
-      → Spares halt → DidLines Took Broke of lines old new (Err halt)
-      → WasHalted IsSettled (λ t. Wrote t (see old.outlet) (see new.outlet)) texts
-      (performed_all lines) halt
-  halted lines old new halt fresh spares d =
+  halted : (act : Act) (old new : LinesMoment P K) (halt : Halt) → IsFresh old
+      → Spares halt → DidAct Took Broke of act old new (Err halt)
+      → WasHalted IsSettled (λ t. Wrote t (see old.outlet) (see new.outlet)) texts act halt
+  halted act old new halt fresh spares d =
       let c = d.chances ++ [] in
       elim (d.ends (beginning c) [] refl (begins old c fresh)) [
         | inl s ↦ (
@@ -119,14 +118,13 @@ module _ {P K : Type 0} (given : Given) (Took : K → Report → K → Type 0) (
         ]
       ]
 
-  cut-off : (lines : List (List ℕ)) (old new : LinesMoment P K) → IsFresh old
-      → DidLines Took Broke of lines old new (Err halts.Memory)
-      → WasCut IsSettled (λ t. WroteSome t (see old.outlet) (see new.outlet)) texts
-      (performed_all lines)
-  cut-off lines old new fresh d =
+  cut-off : (act : Act) (old new : LinesMoment P K) → IsFresh old
+      → DidAct Took Broke of act old new (Err halts.Memory)
+      → WasCut IsSettled (λ t. WroteSome t (see old.outlet) (see new.outlet)) texts act
+  cut-off act old new fresh d =
       let c = d.chances ++ [] in
       elim (d.ends (beginning c) [] refl (begins old c fresh)) [
-        | inl s ↦ absurd (given.never (performed_all lines) (beginning c) s.world halts.Memory s.stops
+        | inl s ↦ absurd (given.never act (beginning c) s.world halts.Memory s.stops
             (inl refl))
         | inr cut ↦ (
           c,
@@ -140,15 +138,14 @@ module _ {P K : Type 0} (given : Given) (Took : K → Report → K → Type 0) (
         )
       ]
 
-  broke-off : (lines : List (List ℕ)) (old new : LinesMoment P K) → IsFresh old
-      → DidLines Took Broke of lines old new (Err halts.Broken)
+  broke-off : (act : Act) (old new : LinesMoment P K) → IsFresh old
+      → DidAct Took Broke of act old new (Err halts.Broken)
       → Rose (see old.outlet).faults (see new.outlet).faults
-      × WasCut IsSettled (λ t. BrokeOff t (see old.outlet) (see new.outlet)) texts
-      (performed_all lines)
-  broke-off lines old new fresh d =
+      × WasCut IsSettled (λ t. BrokeOff t (see old.outlet) (see new.outlet)) texts act
+  broke-off act old new fresh d =
       let c = d.chances ++ [] in
       elim (d.ends (beginning c) [] refl (begins old c fresh)) [
-        | inl s ↦ absurd (given.never (performed_all lines) (beginning c) s.world halts.Broken s.stops
+        | inl s ↦ absurd (given.never act (beginning c) s.world halts.Broken s.stops
             (inr refl))
         | inr cut ↦ elim cut.cause [
           | inl m ↦ absurd (cc (m.0))
@@ -164,7 +161,7 @@ module _ {P K : Type 0} (given : Given) (Took : K → Report → K → Type 0) (
       → WasCut IsSettled (λ t. WroteSome t (see old.outlet) (see new.outlet)) texts
       (performed_all lines)
   in-part front rest lines old new parts fresh d =
-      let p = performed front old new fresh d in
+      let p = performed (performed_all front) old new fresh d in
       let whole : course (performed_all lines) p.0 ≡ perform (performed_all rest) p.1 =
       ap (λ (l : List (List ℕ)). course (performed_all l) p.0) (sym parts)
       ∙ each-append front rest (beginning p.0)
@@ -177,26 +174,85 @@ module _ {P K : Type 0} (given : Given) (Took : K → Report → K → Type 0) (
         inl p.4,
       )
 
+  -- ---- within the limit
+
+  -- what the lines of a text report, all of it reports
+  begins-closed : (front : List Report) (out : Course) → Begins front (reported out)
+      → Begins front (reported (and_then out (λ v. perform close v)))
+  begins-closed front (Stops v halt) b = b
+  begins-closed front (Goes v) b = let g = grows close v in record {
+    more = b.more ++ g.more;
+    parts = sym (append_assoc front b.more g.more)
+        ∙ ap (λ (l : List Report). l ++ g.more) b.parts ∙ g.parts;
+  }
+
+  cut-within : (Did : List (List ℕ) → Type 0) (text : List ℕ)
+      → WasCut IsSettled Did texts (performed_all (lines_within most_input text))
+      → WasCut IsSettled Did texts (within text)
+  cut-within Did text h = by (nat_le (length text) most_input) h where
+    by : (b : Bool) → WasCut IsSettled Did texts
+        (performed_all (cond b (lines_of text) (whole_lines (take most_input text))))
+        → WasCut IsSettled Did texts
+        (cond b (whole text) (performed_all (whole_lines (take most_input text))))
+    by true h = (
+      h.0,
+      h.1,
+      begins-closed (reports h.1.run) (course (performed_all (lines_of text)) h.0)
+          h.2,
+      h.3,
+      h.4,
+    )
+    by false h = h
+
+  did-within : (text : List ℕ) (old new : LinesMoment P K) (e : Halt)
+      → DidLines Took Broke of (lines_within most_input text) old new (Err e)
+      → DidAct Took Broke of (within text) old new (Err e)
+  did-within text old new e d = by (nat_le (length text) most_input) d where
+    by : (b : Bool) → DidLines Took Broke of
+        (cond b (lines_of text) (whole_lines (take most_input text))) old new (Err e)
+        → DidAct Took Broke of
+        (cond b (whole text) (performed_all (whole_lines (take most_input text)))) old new (Err e)
+    by true d = does-whole-early (lines_of text) _ _ e d
+    by false d = d
+
+  fits-within : (text : List ℕ) (old new : LinesMoment P K) (e : Halt) → length text ≤ most_input
+      → DidAct Took Broke of (whole text) old new (Err e)
+      → DidAct Took Broke of (within text) old new (Err e)
+  fits-within text old new e fits d =
+      let test : nat_le (length text) most_input ≡ true = grind (arith, nat_tests, fits) in
+      rw test d
+
+  -- what a text came to that ended early
+  by-halt : (at_end : Run → List (List ℕ)) (text : List ℕ) (left now : Sourced)
+      (old new : LinesMoment P K) (halt : Halt) → IsFresh old
+      → DidAct Took Broke of (within text) old new (Err halt)
+      → EndsBy IsSettled (record { at_end = at_end; before = texts }) text left now (see old.outlet)
+      (see new.outlet) (Err (cause_of_halt halt))
+  by-halt at_end text left now old new (halts.Trace line kind) fresh h =
+      halted (within text) old new (halts.Trace line kind) fresh (other _ (λ e. cc e) (λ e. cc e)) h
+  by-halt at_end text left now old new (halts.Limit which) fresh h =
+      halted (within text) old new (halts.Limit which) fresh (other _ (λ e. cc e) (λ e. cc e)) h
+  by-halt at_end text left now old new (halts.RepeatedDraw first second) fresh h =
+      halted (within text) old new (halts.RepeatedDraw first second) fresh
+      (other _ (λ e. cc e) (λ e. cc e)) h
+  by-halt at_end text left now old new (halts.Forged line) fresh h =
+      halted (within text) old new (halts.Forged line) fresh (other _ (λ e. cc e) (λ e. cc e)) h
+  by-halt at_end text left now old new halts.Memory fresh h =
+      inl (cut-off (within text) old new fresh h)
+  by-halt at_end text left now old new halts.Broken fresh h =
+      let b = broke-off (within text) old new fresh h in (b.0, inl b.1)
+
   -- what the lines of a text came to, by the end of reading it
   ends-by : (at_end : Run → List (List ℕ)) (text : List ℕ) (left now : Sourced)
       (old new : LinesMoment P K) (end : End Halt) → IsFresh old
       → Runs (DidLines Took Broke of) most_input text left now old new (Err end)
       → EndsBy IsSettled (record { at_end = at_end; before = texts }) text left now (see old.outlet)
       (see new.outlet) (Err (cause_of end))
-  ends-by at_end text left now old new (ends.Refused (halts.Trace line kind)) fresh h =
-      halted _ old new (halts.Trace line kind) fresh (other _ (λ e. cc e) (λ e. cc e)) h
-  ends-by at_end text left now old new (ends.Refused (halts.Limit which)) fresh h =
-      halted _ old new (halts.Limit which) fresh (other _ (λ e. cc e) (λ e. cc e)) h
-  ends-by at_end text left now old new (ends.Refused (halts.RepeatedDraw first second)) fresh h =
-      halted _ old new (halts.RepeatedDraw first second) fresh (other _ (λ e. cc e) (λ e. cc e)) h
-  ends-by at_end text left now old new (ends.Refused (halts.Forged line)) fresh h =
-      halted _ old new (halts.Forged line) fresh (other _ (λ e. cc e) (λ e. cc e)) h
-  ends-by at_end text left now old new (ends.Refused halts.Memory) fresh h =
-      inl (cut-off _ old new fresh h)
-  ends-by at_end text left now old new (ends.Refused halts.Broken) fresh h =
-      let b = broke-off _ old new fresh h in (b.0, inl b.1)
+  ends-by at_end text left now old new (ends.Refused halt) fresh h =
+      by-halt at_end text left now old new halt fresh (did-within text old new halt h)
   ends-by at_end text left now old new ends.Memory fresh h =
-      inl (in-part h.front h.rest _ old new h.parts fresh h.did)
+      inl (cut-within (λ t. WroteSome t (see old.outlet) (see new.outlet)) text
+      (in-part h.front h.rest _ old new h.parts fresh h.did))
   ends-by at_end text left now old new ends.ReadFault fresh h =
       (h.0, (h.1.0, h.1.1, h.1.2, performed _ old new fresh h.1.3))
   ends-by at_end text left now old new ends.Limit fresh h = (h.0, performed _ old new fresh h.1)
@@ -353,17 +409,85 @@ module _ {P K : Type 0} (given : Given) (Took : K → Report → K → Type 0) (
       cause-is : (a b : Cause) → failed a ≡ failed b → a ≡ b
       cause-is a b e = cc e
 
+  -- ---- the end of a trace
+
+  -- a world for which a replay stands behind its lines
+  record HasWorld (new : LinesMoment P K) : Type 0 where
+    world : World
+    stands : StandsFor world (of new)
+
+  last-world : (left now : Sourced) (old new : LinesMoment P K) → IsFresh old
+      → Takes (DidLines Took Broke of) most_input left now old new (Ok tt) → HasWorld new
+  last-world left now old new fresh h =
+      let d = h.taken in
+      let e = h.ends.3 in
+      let c = d.chances ++ (e.chances ++ []) in
+      let p = d.ends (beginning c) (e.chances ++ []) refl (begins old c fresh) in
+      let q = e.ends p.0 [] p.4 p.2 in record { world = q.0; stands = q.2.stands }
+
+  -- no sink is at fault there, and no source
+  never-broken : (w : World) → Closes w (Err halts.Broken) → ⊥
+  never-broken w (inl stops) = given.never close w _ halts.Broken stops (inr refl)
+  never-broken w (inr memory) = cc memory
+
+  unwritten : (new : LinesMoment P K) (halt : Halt) → HasWorld new
+      → ((w : World) → StandsFor w (of new) → Closes w (Err halt))
+      → failed (cause_of_halt halt) ≡ failed causes.WriteFault → ⊥
+  unwritten new halts.Broken r closes is = never-broken r.world (closes r.world r.stands)
+  unwritten new (halts.Trace line kind) r closes is = cc is
+  unwritten new (halts.Limit which) r closes is = cc is
+  unwritten new (halts.RepeatedDraw a b) r closes is = cc is
+  unwritten new (halts.Forged line) r closes is = cc is
+  unwritten new halts.Memory r closes is = cc is
+
+  unread : (halt : Halt) → failed (cause_of_halt halt) ≡ failed causes.ReadFault → ⊥
+  unread halts.Broken is = cc is
+  unread (halts.Trace line kind) is = cc is
+  unread (halts.Limit which) is = cc is
+  unread (halts.RepeatedDraw a b) is = cc is
+  unread (halts.Forged line) is = cc is
+  unread halts.Memory is = cc is
+
+  -- the source ended inside a race
+  pub closed-err : (at_end : Run → List (List ℕ)) (left now : Sourced) (old new : LinesMoment P K)
+      (halt : Halt) → IsFresh old → left.faults ≤ now.faults
+      → Reads (DidLines Took Broke of) most_input left now old new (Ok tt)
+      → ((w : World) → StandsFor w (of new) → Closes w (Err halt))
+      → IsReplayed (record { at_end = at_end; before = texts }) left now (see old.outlet)
+      (see new.outlet) (Err (cause_of_halt halt))
+  closed-err at_end left now old new halt fresh counts h closes =
+      let t = took at_end left now old new (Ok tt) fresh h.takes in record {
+        told = λ text is.
+            let r = h.runs text is in record {
+              taken = t.0;
+              ends = by-halt at_end text left now old new halt fresh
+                  (fits-within text old new halt r.0
+                  (does-whole (lines_of text) _ _ (Err halt) r.2 closes));
+            };
+        reads = counts;
+        writes = t.1;
+        read_fault = λ is. absurd (unread halt is);
+        write_fault = λ is.
+            absurd (unwritten new halt (last-world left now old new fresh h.takes) closes is);
+      }
+
   -- a transcript, to the end of the source
   pub transcribed : (left now : Sourced) (old new : LinesMoment P K) → IsFresh old
       → left.faults ≤ now.faults → Reads (DidLines Took Broke of) most_input left now old new (Ok tt)
+      → ((w : World) → StandsFor w (of new) → Closes w (Ok tt))
       → IsReplayed (record { at_end = texts; before = texts }) left now (see old.outlet)
       (see new.outlet) (Ok tt)
-  transcribed left now old new fresh counts h =
+  transcribed left now old new fresh counts h closes =
       let t = took texts left now old new (Ok tt) fresh h.takes in record {
         told = λ text is.
             let r = h.runs text is in record {
               taken = t.0;
-              ends = (r.0, r.1, performed _ old new fresh r.2);
+              ends = (
+                r.0,
+                r.1,
+                performed (whole text) old new fresh
+                    (does-whole (lines_of text) _ _ (Ok tt) r.2 closes),
+              );
             };
         reads = counts;
         writes = t.1;
@@ -399,12 +523,14 @@ module _ {P K : Type 0} (given : Given) (Took : K → Report → K → Type 0)
   sums : (text line : List ℕ) (left now : Sourced) (old mid : LinesMoment P K) (new : Sunk)
       (r : Result (Unit {0}) Broken) → ((chances : List Chance) → StandsFor (beginning chances) (of old))
       → Runs (DidLines Took Broke of) most_input text left now old mid (Ok tt)
+      → ((w : World) → StandsFor w (of mid) → Closes w (Ok tt))
       → ((w : World) → StandsFor w (of mid) → line ≡ summary_of w.run)
       → MatchResult r (λ done. Wrote (line ∷ []) (see mid.outlet) new)
       (λ why. Fails (line ∷ []) (see mid.outlet) new why)
       → EndsBy IsSettled summed text left now (see old.outlet) new (answered r)
-  sums text line left now old mid new r fresh h is wrote =
-      let d = h.2 in
+  sums text line left now old mid new r fresh h closes is wrote =
+      let d : DidAct Took Broke of (whole text) old mid (Ok tt) =
+      does-whole (lines_of text) _ _ (Ok tt) h.2 closes in
       let c = d.chances ++ [] in
       let e = d.ends (beginning c) [] refl (record { stands = fresh c; tidy = given.tidy c }) in
       let settled : IsSettled e.0 = record { tidy = e.2.tidy; apart = e.5 } in
@@ -427,17 +553,18 @@ module _ {P K : Type 0} (given : Given) (Took : K → Report → K → Type 0)
   pub summarized : (line : List ℕ) (left now : Sourced) (old mid : LinesMoment P K) (new : Sunk)
       (r : Result (Unit {0}) Broken) → ((chances : List Chance) → StandsFor (beginning chances) (of old))
       → left.faults ≤ now.faults → Reads (DidLines Took Broke of) most_input left now old mid (Ok tt)
+      → ((w : World) → StandsFor w (of mid) → Closes w (Ok tt))
       → ((w : World) → StandsFor w (of mid) → line ≡ summary_of w.run)
       → MatchResult r (λ done. Wrote (line ∷ []) (see mid.outlet) new)
       (λ why. Fails (line ∷ []) (see mid.outlet) new why)
       → IsReplayed summed left now (see old.outlet) new (answered r)
-  summarized line left now old mid new r fresh counts h is wrote =
+  summarized line left now old mid new r fresh counts h closes is wrote =
       let t = took given Took Broke of see (λ xs. []) shows (λ r. summary_of r ∷ []) left now old mid
       (Ok tt) fresh h.takes in
       let g = grew-by r wrote in record {
         told = λ text told. record {
           taken = taken-then left now (see old.outlet) (see mid.outlet) new t.0 g;
-          ends = sums text line left now old mid new r fresh (h.runs text told) is wrote;
+          ends = sums text line left now old mid new r fresh (h.runs text told) closes is wrote;
         };
         reads = counts;
         writes = let one = t.1 in let two = g.counts in omega (arith, one, two);

@@ -1,17 +1,18 @@
 -- How a run of a text ends, whatever is written of it (this profile's own rule).
-use Rattle.std.specs.Prelude.{◌≡◌, ◌⊎◌, ℕ, ◌<◌, ◌≤◌, false, List, [], ◌++◌, length, take, Some}
+use Rattle.std.specs.Prelude.{◌≡◌, ◌⊎◌, ℕ, ◌<◌, ◌≤◌, nat_le, false, if◌then◌else◌, List, [], ◌++◌}
+use Rattle.std.specs.Prelude.{length, take, Some}
 use Rattle.std.specs.Prelude.{Result, Ok, Err}
 use Rattle.lan_base.specs.Faults.{Rose}
 use Rattle.lan_base.specs.Told.{before, after}
 use Rattle.text_lines.specs.Texts.{whole_lines, lines_of}
-use Rattle.text_lines.specs.Reading.{Sourced, lines_within, most_at_once}
+use Rattle.text_lines.specs.Reading.{Sourced, most_at_once}
 use Rattle.lan_core.specs.Run.{Run}
 use Rattle.lan_schedule.specs.declared.halt.Halt.{Halt}
 use Rattle.lan_schedule.specs.declared.halt.Halt.TheVariants as halts
 use Rattle.lan_schedule.specs.Races.{Chance}
 use Rattle.lan_schedule.specs.World.{World, is_racing}
 use Rattle.lan_schedule.specs.Acts.{Act, Goes, Stops, course}
-use Rattle.lan_schedule.specs.Lines.{performed_all}
+use Rattle.lan_schedule.specs.Lines.{performed_all, performed_whole}
 use Rattle.lan_schedule.specs.Sound.{IsTidy}
 use Rattle.lan_schedule.specs.Reports.{reports}
 use Rattle.lan_schedule.specs.Ends.{Begins, reported}
@@ -24,13 +25,16 @@ use Rattle.replay.specs.Shown.{Shows}
 abbrev pub most_input : ℕ
 most_input = 4194304
 
--- what all of a text performs
+-- what all of a text performs, which doesn't end inside a race
 abbrev pub whole : List ℕ → Act
-whole text = performed_all (lines_of text)
+whole text = performed_whole (lines_of text)
 
--- what the lines of a text perform that end within the limit: all of a text that isn't longer
+-- what a text performs within the limit: all of one that isn't longer, of another the lines that end
+-- there
 abbrev pub within : List ℕ → Act
-within text = performed_all (lines_within most_input text)
+within text =
+    if nat_le (length text) most_input then whole text
+    else performed_all (whole_lines (take most_input text))
 
 -- ---- which world was reached, and what was written of its run
 
@@ -62,10 +66,11 @@ WasBroken IsSuch Did shows text now =
 
 -- ---- how it ends
 
--- By the cause. At the end all of the text was performed and shown. Where a line is refused, a limit
--- reached, a draw repeated or a frame forged, performing the lines stops so. At a fault of the source,
--- and where an octet past the limit was taken, those lines were performed that end in what was taken,
--- or within the limit. A fault of the sink and want of memory break off what was shown.
+-- By the cause. At the end all of the text was performed and shown. Where a line is refused, or the
+-- text ends inside a race, a limit is reached, a draw repeated or a frame forged, performing the text
+-- stops so. At a fault of the source, and where an octet past the limit was taken, those lines were
+-- performed that end in what was taken, or within the limit. A fault of the sink and want of memory
+-- break off what was shown.
 abbrev pub EndsBy : (World → Type 0) → Shows → List ℕ → Sourced → Sourced → Sunk → Sunk
     → Result (Unit {0}) Cause → Type 0
 EndsBy IsSuch shows text left now old new (Ok done) =

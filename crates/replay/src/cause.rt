@@ -49,7 +49,7 @@ pub fn cause_of(end: End<Halt>) -> Cause
 }
 
 /// What a halt is to the trace: a recorder that failed had a sink that failed.
-fn cause_of_halt(halt: Halt) -> Cause
+pub fn cause_of_halt(halt: Halt) -> Cause
     ensures { result ≡ cause_of_halt halt }
 {
     match halt {

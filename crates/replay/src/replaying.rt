@@ -10,7 +10,7 @@ ghost use Rattle.std.specs.Prelude.{[], ◌∷◌, MatchResult};
 ghost use Rattle.replay.specs.Sinks.{Wrote};
 ghost use Rattle.replay.specs.inside.Writing.{Fails};
 
-use crate::cause::{Cause, answered, cause_of};
+use crate::cause::{Cause, answered, cause_of, cause_of_halt};
 use crate::player::Player;
 use crate::transcribing::Transcript;
 use crate::unrecorded::Unrecorded;
@@ -29,7 +29,8 @@ const MAX_INPUT: usize = 4_194_304;
 
 /// Reads a trace from a source to its end, and performs each line as soon as it has ended. Without
 /// `summary` it writes what each event shows before the next one happens; with it, nothing before
-/// the end, and then the line that says how many facts there were of each kind. The gate is passed
+/// the end, and then the line that says how many facts there were of each kind. A trace that ends
+/// inside a race is refused at the line behind its last. The gate is passed
 /// after each move of a station's current word.
 pub fn replay<S: Source, K: Sink, G: Gate>(
     alloc: Global,
@@ -72,7 +73,10 @@ fn transcribe<S: Source, K: Sink, G: Gate>(
         gate,
     };
     match read_lines(alloc, MAX_INPUT, source, &mut player, sink) {
-        Ok(()) => Ok(()),
+        Ok(()) => match player.replay.close() {
+            Ok(()) => Ok(()),
+            Err(halt) => Err(cause_of_halt(halt)),
+        },
         Err(end) => Err(cause_of(end)),
     }
 }
@@ -98,7 +102,10 @@ fn summarize<S: Source, K: Sink, G: Gate>(
         gate,
     };
     match read_lines(alloc, MAX_INPUT, source, &mut player, sink) {
-        Ok(()) => answered(write_line(alloc, player.replay.tally(), sink)),
+        Ok(()) => match player.replay.close() {
+            Ok(()) => answered(write_line(alloc, player.replay.tally(), sink)),
+            Err(halt) => Err(cause_of_halt(halt)),
+        },
         Err(end) => Err(cause_of(end)),
     }
 }

@@ -1,7 +1,6 @@
 //! Traces that end early: lines that are refused, and events at which the group stops.
 
 use crate::case::{Case, Shown, wrong};
-use crate::performing::run;
 use crate::worked::{FIRST, FIRST_LIFE, GROUP, SECOND};
 use rollover_program::{Cause, Kind, Status, Which};
 use std::test::Fail;
@@ -142,6 +141,123 @@ const MISPLACED: [Case; 7] = [
         shown: Shown::All(&[FIRST_LIFE]),
     },
 ];
+
+/// A race begins.
+const RACE: &str = "race\n";
+
+/// Lines of a race.
+const RACES: [Case; 8] = [
+    Case {
+        name: "a trace that ends inside a race",
+        trace: &[GROUP, FIRST, RACE, "# no more\n"],
+        status: Status::Halted(Cause::Trace {
+            line: 5,
+            kind: Kind::NoEnd,
+        }),
+        shown: Shown::All(&[FIRST_LIFE]),
+    },
+    Case {
+        name: "a burst outside a race",
+        trace: &[GROUP, FIRST, "burst A 4 1 ffffffffffff 88b50001\n"],
+        status: Status::Halted(Cause::Trace {
+            line: 3,
+            kind: Kind::Order,
+        }),
+        shown: Shown::All(&[FIRST_LIFE]),
+    },
+    Case {
+        name: "a ninth worker of a station",
+        trace: &[
+            GROUP,
+            FIRST,
+            SECOND,
+            RACE,
+            "\
+burst A 4 1 ffffffffffff 88b50001
+burst B 8 1 ffffffffffff 88b50001
+burst A 5 1 ffffffffffff 88b50001
+",
+        ],
+        status: Status::Halted(Cause::Trace {
+            line: 7,
+            kind: Kind::Range,
+        }),
+        shown: Shown::All(&[FIRST_LIFE, "life B 000000000000000000000002\n"]),
+    },
+    Case {
+        name: "user data in a race",
+        trace: &[GROUP, FIRST, RACE, "send A ffffffffffff 88b50001\n"],
+        status: Status::Halted(Cause::Trace {
+            line: 4,
+            kind: Kind::Order,
+        }),
+        shown: Shown::All(&[FIRST_LIFE]),
+    },
+    Case {
+        name: "no burst before control",
+        trace: &[GROUP, FIRST, RACE, "while\n"],
+        status: Status::Halted(Cause::Trace {
+            line: 4,
+            kind: Kind::Order,
+        }),
+        shown: Shown::All(&[FIRST_LIFE]),
+    },
+    Case {
+        name: "a name that no station has, in control",
+        trace: &[
+            GROUP,
+            FIRST,
+            RACE,
+            "burst A 1 1 ffffffffffff 88b50001\nwhile\n",
+            "deliver 9 Z\n",
+        ],
+        status: Status::Halted(Cause::Trace {
+            line: 6,
+            kind: Kind::NameUnknown,
+        }),
+        shown: Shown::All(&[FIRST_LIFE]),
+    },
+    Case {
+        name: "a frame that is not there, in control, which is not looked for",
+        trace: &[
+            GROUP,
+            FIRST,
+            RACE,
+            "burst A 1 1 ffffffffffff 88b50001\nwhile\n",
+            "deliver 9 A\n",
+        ],
+        status: Status::Halted(Cause::Trace {
+            line: 7,
+            kind: Kind::NoEnd,
+        }),
+        shown: Shown::All(&[FIRST_LIFE]),
+    },
+    Case {
+        name: "the end of a race, which is not run yet",
+        trace: &[
+            GROUP,
+            FIRST,
+            RACE,
+            "burst A 1 1 ffffffffffff 88b50001\nwhile\ntick 1\nend\n",
+        ],
+        status: Status::Halted(Cause::Trace {
+            line: 7,
+            kind: Kind::Word,
+        }),
+        shown: Shown::All(&[FIRST_LIFE]),
+    },
+];
+
+/// A race of which a summary is asked for.
+const SUMMED: [Case; 1] = [Case {
+    name: "a trace that ends inside a race",
+    trace: &[GROUP, FIRST, RACE],
+    status: Status::Halted(Cause::Trace {
+        line: 4,
+        kind: Kind::NoEnd,
+    }),
+    shown: Shown::All(&[]),
+}];
 
 /// Events at which the group stops.
 const STOPPED: [Case; 5] = [
@@ -300,17 +416,18 @@ fn ends_where_the_group_stops(rt: HostRuntime) -> Result<(), Fail> {
     Ok(())
 }
 
-/// Lines of races are not performed yet.
+/// Lines of a race are refused as they are read; the race is not run.
 #[test]
-fn refuses_what_is_not_performed_yet(rt: HostRuntime) -> Result<(), Fail> {
+fn refuses_lines_of_a_race(rt: HostRuntime) -> Result<(), Fail> {
     let alloc = rt.alloc();
-    let refused = Status::Halted(Cause::Trace {
-        line: 3,
-        kind: Kind::Word,
-    });
-    for line in ["race\n", "while\n", "end\n"] {
-        let left = run(alloc, &[GROUP, FIRST, line])?;
-        assert_eq!(rt; left.status, refused, "{line}");
-    }
+    assert_eq!(rt; wrong(alloc, &["run"], &RACES)?.as_str(), "");
+    Ok(())
+}
+
+/// A trace that ends inside a race has no summary.
+#[test]
+fn sums_up_no_race_that_has_no_end(rt: HostRuntime) -> Result<(), Fail> {
+    let alloc = rt.alloc();
+    assert_eq!(rt; wrong(alloc, &["run", "--summary"], &SUMMED)?.as_str(), "");
     Ok(())
 }

@@ -4,15 +4,22 @@ use Rattle.text_lines.specs.Moments.{Moment as LinesMoment}
 use Rattle.lan_schedule.specs.declared.halt.Halt.{Halt}
 use Rattle.lan_schedule.specs.declared.recorder.Broken.{Broken}
 use Rattle.lan_schedule.specs.declared.commands.Replay.{Replay}
+use Rattle.lan_schedule.specs.Acts.{Act}
 use Rattle.lan_schedule.specs.Lines.{performed_all}
 use Rattle.lan_schedule.specs.Reports.{Report}
 use Rattle.lan_schedule.specs.Ends.{moment}
 use Rattle.lan_schedule.specs.Standing.{Does}
 
--- lines were performed by the replay of a player, and told to its recorder
+-- the replay of a player did an act, and told its recorder
+abbrev pub DidAct : {P K : Type 0} → (K → Report → K → Type 0)
+    → (K → Report → K → Broken → Type 0) → (LinesMoment P K → Replay) → Act → LinesMoment P K
+    → LinesMoment P K → Result (Unit {0}) Halt → Type 0
+DidAct Took Broke of act old new result =
+    Does Took Broke act (moment (of old) old.outlet) (moment (of new) new.outlet) result
+
+-- it performed lines
 abbrev pub DidLines : {P K : Type 0} → (K → Report → K → Type 0)
     → (K → Report → K → Broken → Type 0) → (LinesMoment P K → Replay) → List (List ℕ)
     → LinesMoment P K → LinesMoment P K → Result (Unit {0}) Halt → Type 0
 DidLines Took Broke of lines old new result =
-    Does Took Broke (performed_all lines) (moment (of old) old.outlet) (moment (of new) new.outlet)
-    result
+    DidAct Took Broke of (performed_all lines) old new result

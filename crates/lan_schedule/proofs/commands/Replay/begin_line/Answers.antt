@@ -5,7 +5,7 @@ use Rattle.lan_schedule.proofs.commands.Replay.begin_line.Goals as goal
 
 pub returns-in-Some : goal.returns-in-Some
 returns-in-Some c = λ w stands.
-    line-staged c.args.number w _ _ c.in-Some.stage _ c.in-Some.is refl refl
+    line-staged c.args.number w _ _ c.in-Some.stage _ c.in-Some.is refl refl refl
     (λ v at. line-stands c.args.number v _ _ (record {
       lag = refl;
       lan = refl;
@@ -19,4 +19,4 @@ returns-in-Some c = λ w stands.
 pub returns : goal.returns
 returns c = λ w stands.
     line-unbegun c.args.number w _ _ (none-stage _ c.in_default.not-Some)
-    (none-stage _ c.in_default.not-Some) refl refl refl refl stands
+    (none-stage _ c.in_default.not-Some) refl refl refl refl refl stands

@@ -1,17 +1,20 @@
 use Rattle.std.proofs.Common.{refl}
 use Rattle.lan_schedule.proofs.Replaying.{memory-any, stands-counts}
-use Rattle.lan_schedule.proofs.Opening.{opening-does, station-is-later}
+use Rattle.lan_schedule.proofs.Opening.{opening-does, station-is-later, station-no-race}
 use Rattle.lan_schedule.proofs.commands.Replay.open.Goals as goal
 
 pub perform-outcome-requires-clause-later : goal.perform-outcome-requires-clause-later
 perform-outcome-requires-clause-later g c = station-is-later c.args.line.now c.requires.station
+
+pub perform-outcome-requires-clause-apart : goal.perform-outcome-requires-clause-apart
+perform-outcome-requires-clause-apart g c = station-no-race c.args.line.now c.requires.station
 
 pub returns : goal.returns
 returns g c =
     opening-does c.args.line.now c.requires.form _ _ c.in_ok-stage.stage c.perform-outcome.new.self
     c.perform-outcome.result c.requires.station c.requires.unbegun c.requires.keyed
     (λ v tidy keyed opening. c.in_ok-stage.ensures.stands v tidy keyed opening)
-    c.perform-outcome.ensures refl refl
+    c.perform-outcome.ensures refl refl refl
 
 pub returns-in_err-stage : goal.returns-in_err-stage
 returns-in_err-stage g c =

@@ -1,16 +1,36 @@
-use Rattle.std.proofs.Common.{refl, sym, ◌∙◌}
+use Rattle.std.proofs.Common.{refl, sym, ap, ◌∙◌}
+use Rattle.lan_schedule.specs.World.{is_racing}
+use Rattle.lan_schedule.specs.Standing.{phase_of}
 use Rattle.lan_schedule.specs.Lines.{act_of}
-use Rattle.lan_schedule.proofs.LinesCome.{line-comes}
+use Rattle.lan_schedule.specs.inside.Phased.{act_apart}
+use Rattle.lan_schedule.proofs.LinesCome.{apart-comes}
+use Rattle.lan_schedule.proofs.Still.{still-apart}
 use Rattle.lan_schedule.proofs.Commanding.{none-of}
-use Rattle.lan_schedule.proofs.Replaying.{staged-does, none-stage}
+use Rattle.lan_schedule.proofs.Replaying.{same-act, staged-does, none-stage}
+use Rattle.lan_schedule.proofs.Phasing.{taken-does, same-apart, not-taken, outside-calm}
 use Rattle.lan_schedule.proofs.Opening.{unbegun-refused, unbegun-performed}
 use Rattle.lan_schedule.proofs.commands.Replay.perform.Goals as goal
 
+pub returns-then-takes : goal.returns-then-takes
+returns-then-takes g c =
+    taken-does c.args.line.now _ _ c.in-Some.stage c.take.result c.in-Some.is refl refl refl
+    c.take.ensures (sym c.takes.ensures ∙ c.if-takes.true)
+
+pub command-requires-clause-apart : goal.command-requires-clause-apart
+command-requires-clause-apart g c =
+    (not-taken _ _ (sym c.takes.ensures ∙ c.if-takes.false)).1
+
 pub returns-in-Some : goal.returns-in-Some
 returns-in-Some g c =
-    staged-does (act_of c.args.line.now) _ _ c.in-Some.stage c.command.new.self c.command.result
-    (λ w tidy. line-comes c.args.line.now c.requires w tidy)
-    c.in-Some.is refl refl c.command.ensures
+    let not = not-taken _ _ (sym c.takes.ensures ∙ c.if-takes.false) in
+    let phase = phase_of c.args.self.now.phase in
+    same-act (act_of c.args.line.now) (act_apart c.args.line.now) _ _ c.command.result
+    (λ w stands. same-apart c.args.line.now w phase stands.phase not.0)
+    (staged-does (act_apart c.args.line.now) _ _ c.in-Some.stage c.command.new.self
+    c.command.result
+    (λ w stands tidy. apart-comes c.args.line.now c.requires w tidy
+    (ap is_racing stands.phase ∙ outside-calm phase not.0))
+    (still-apart c.args.line.now not.1) c.in-Some.is refl refl refl c.command.ensures)
 
 pub returns-in-Some-refusal : goal.returns-in-Some-refusal
 returns-in-Some-refusal g c =

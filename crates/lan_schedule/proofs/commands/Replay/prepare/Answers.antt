@@ -6,7 +6,7 @@ use Rattle.lan_schedule.proofs.commands.Replay.prepare.Goals as goal
 pub returns-in_ok-choose-in_default : goal.returns-in_ok-choose-in_default
 returns-in_ok-choose-in_default g c =
     chosen-does c.args.line.now c.requires.form _ _ c.requires.unbegun c.requires.unbegun refl refl
-    refl c.in_ok-choose-in_default.ensures refl
+    refl c.in_ok-choose-in_default.ensures refl refl
     (chosen-deed c.args.line.now c.args.self.now.chosen c.requires.allowed c.in_default.not-Station)
 
 pub returns-in_err-choose-in_default : goal.returns-in_err-choose-in_default

@@ -92,6 +92,6 @@ returns-in-Inject g c =
 pub returns-in_default : goal.returns-in_default
 returns-in_default g c =
     let d = c.in_default in
-    default-does c.args.line.now _ c.requires.later d.not-Station d.not-Tick d.not-TickOne
+    default-does c.args.line.now _ c.requires.later c.requires.apart d.not-Station d.not-Tick d.not-TickOne
     d.not-Flow d.not-Deliver d.not-Spread d.not-Lose d.not-Cut d.not-Mend d.not-Restart
     d.not-Send d.not-Inject d.not-Feed

@@ -7,14 +7,14 @@ returns-then-not-is_performed-clause-first c = λ w stands.
     refused-word c.args.line.now w c.args.self.now stands
     (sym c.is_performed.ensures ∙ c.if-not-is_performed.true)
 
-pub returns-then-is_choice-clause-first : goal.returns-then-is_choice-clause-first
-returns-then-is_choice-clause-first c = λ w stands.
+pub returns-then-is_elsewhere-clause-first : goal.returns-then-is_elsewhere-clause-first
+returns-then-is_elsewhere-clause-first c = λ w stands.
     refused-order c.args.line.now w c.args.self.now stands
     (sym c.is_performed.ensures ∙ c.if-not-is_performed.false)
-    (sym c.is_choice.ensures ∙ c.if-is_choice.true)
+    (sym c.is_elsewhere.ensures ∙ c.if-is_elsewhere.true)
 
 pub returns-clause-first : goal.returns-clause-first
 returns-clause-first c = λ w stands.
     c.wrong_word.ensures ∙ refused-words c.args.line.now w c.args.self.now stands
     (sym c.is_performed.ensures ∙ c.if-not-is_performed.false)
-    (sym c.is_choice.ensures ∙ c.if-is_choice.false)
+    (sym c.is_elsewhere.ensures ∙ c.if-is_elsewhere.false)

@@ -1,0 +1,102 @@
+-- A trace ends, unless it is inside a race.
+use Rattle.std.proofs.Common.{◌≡◌, ◌+◌, ℕ, false, true, List, [], inl, inr, refl, sym, ap, ◌∙◌, subst}
+use Rattle.std.specs.Prelude.{Result, Ok, Err}
+use Rattle.lan_schedule.specs.declared.halt.Halt.{Halt}
+use Rattle.lan_schedule.specs.declared.halt.Halt.TheVariants as halts
+use Rattle.lan_schedule.specs.declared.halt.Kind.TheVariants as kinds
+use Rattle.lan_schedule.specs.declared.recorder.Broken.{Broken}
+use Rattle.lan_schedule.specs.declared.commands.Replay.{Replay}
+use Rattle.lan_schedule.specs.Races.{Phase, Apart, Bursting, Controlling, Racing, Chance}
+use Rattle.lan_schedule.specs.Races.{behind_numbers}
+use Rattle.lan_schedule.specs.World.{World}
+use Rattle.lan_schedule.specs.Acts.{Goes, Stops, perform}
+use Rattle.lan_schedule.specs.Lines.{at_line, close, close_at, performed_all, performed_whole}
+use Rattle.lan_schedule.specs.Reports.{Report}
+use Rattle.lan_schedule.specs.Ends.{Moment, IsReached, Ends}
+use Rattle.lan_schedule.specs.Standing.{StandsFor, Counts, Does, Closes}
+use Rattle.lan_schedule.specs.inside.Phased.{is_inside}
+use Rattle.lan_schedule.proofs.Doing.{told-none, ends-memory}
+use Rattle.lan_schedule.proofs.LinesCome.{tidy-same}
+use Rattle.lan_schedule.proofs.Replaying.{stands-counts, then-ok, then-err}
+
+goes-at : (w : World) (phase : Phase) → is_inside phase ≡ false
+    → perform (close_at phase) w ≡ Goes w
+goes-at w Apart outside = refl
+goes-at w (Bursting bursts) outside = absurd (cc outside)
+goes-at w (Controlling bursts control) outside = absurd (cc outside)
+goes-at w Racing outside = absurd (cc outside)
+
+-- outside a race nothing more comes
+pub closes-outside : (w : World) (phase : Phase) → w.kept.phase ≡ phase → is_inside phase ≡ false
+    → Closes w (Ok tt)
+closes-outside w phase is outside =
+    ap (λ (p : Phase). perform (close_at p) w) is ∙ goes-at w phase outside
+
+stops-at : (w : World) (phase : Phase) → is_inside phase ≡ true → perform (close_at phase) w
+    ≡ Stops (at_line (w.kept.line + 1) w) (halts.Trace (w.kept.line + 1) kinds.NoEnd)
+stops-at w Apart inside = absurd (cc inside)
+stops-at w (Bursting bursts) inside = refl
+stops-at w (Controlling bursts control) inside = refl
+stops-at w Racing inside = refl
+
+-- inside one the line behind the last is refused
+pub closes-inside : (w : World) (phase : Phase) (number : ℕ) → w.kept.phase ≡ phase
+    → is_inside phase ≡ true → number ≡ w.kept.line + 1
+    → Closes w (Err (halts.Trace number kinds.NoEnd))
+closes-inside w phase number is inside next =
+    inl (ap (λ (p : Phase). perform (close_at p) w) is ∙ stops-at w phase inside
+    ∙ ap (λ (n : ℕ). Stops (at_line (w.kept.line + 1) w) (halts.Trace n kinds.NoEnd)) (sym next))
+
+module _ {K : Type 0} {Took : K → Report → K → Type 0} {Broke : K → Report → K → Broken → Type 0}
+  where
+    closed-early : (w : World) (later : List Chance) (now : Moment Replay K) (halt : Halt)
+        → w.kept.chances ≡ later → IsReached StandsFor w now.value → Closes w (Err halt)
+        → Ends StandsFor Counts Took Broke w later (perform close w) now.outlet now (Err halt)
+    closed-early w later now halt left reached (inl stops) = inl (record {
+      world = at_line (w.kept.line + 1) w;
+      stops = stops;
+      tidy = tidy-same w _ reached.tidy refl refl refl refl refl (λ e. e) (λ e. e);
+      counts = stands-counts w now.value reached.stands;
+      told = told-none w (at_line (w.kept.line + 1) w) now.outlet now.outlet refl refl;
+      left = ap (λ (c : List Chance). behind_numbers c) left;
+      same = refl;
+    })
+    closed-early w later now halt left reached (inr memory) =
+        subst (λ (h : Halt). Ends StandsFor Counts Took Broke w later (perform close w) now.outlet
+        now (Err h)) (sym memory)
+        (ends-memory Took Broke StandsFor Counts close w later now.outlet now reached.tidy
+        (stands-counts w now.value reached.stands) refl)
+
+    -- the end of a trace is performed
+    closed-does : (now : Moment Replay K) (r : Result (Unit {0}) Halt)
+        → ((w : World) → StandsFor w now.value → Closes w r) → Does Took Broke close now now r
+    closed-does now (Ok done) closes = record {
+      chances = [];
+      ends = λ w later left reached. (
+        w,
+        closes w reached.stands,
+        reached,
+        told-none w w now.outlet now.outlet refl refl,
+        left,
+        refl,
+      );
+    }
+    closed-does now (Err halt) closes = record {
+      chances = [];
+      ends = λ w later left reached.
+          closed-early w later now halt left reached (closes w reached.stands);
+    }
+
+    -- lines that are all of a trace were performed, and then its end came
+    pub does-whole : (lines : List (List ℕ)) (old new : Moment Replay K)
+        (r : Result (Unit {0}) Halt) → Does Took Broke (performed_all lines) old new (Ok tt)
+        → ((w : World) → StandsFor w new.value → Closes w r)
+        → Does Took Broke (performed_whole lines) old new r
+    does-whole lines old new r d closes =
+        then-ok (performed_all lines) close old new new r d (closed-does new r closes)
+
+    -- or they ended early
+    pub does-whole-early : (lines : List (List ℕ)) (old new : Moment Replay K) (e : Halt)
+        → Does Took Broke (performed_all lines) old new (Err e)
+        → Does Took Broke (performed_whole lines) old new (Err e)
+    does-whole-early lines old new e d = then-err (performed_all lines) close old new e d

@@ -1,0 +1,283 @@
+//! Where in a race the lines stand, and which lines are kept for it.
+
+ghost use Rattle.std.specs.Prelude.{◌≡◌, ◌+◌, nat_lt, true, not, IfOk};
+ghost use Rattle.lan_schedule.specs.World.{World};
+ghost use Rattle.lan_schedule.specs.declared.halt.Kind.TheVariants as kinds;
+ghost use Rattle.lan_schedule.specs.Races.{workers_at};
+ghost use Rattle.lan_schedule.specs.Kinds.{is_burst_allowed, is_control, is_control_allowed};
+ghost use Rattle.lan_schedule.specs.Kinds.{most_workers, refusal, too_many, or_else, where_};
+ghost use Rattle.lan_schedule.specs.Lines.{behind_race, behind_while};
+ghost use Rattle.lan_schedule.specs.Ends.{IsReached};
+ghost use Rattle.lan_schedule.specs.Stages.{StandsFor};
+ghost use Rattle.lan_schedule.specs.Standing.{phase_of};
+ghost use Rattle.lan_schedule.specs.inside.Phased.{is_inside, is_taken, behind, MayBeKept, Takes};
+
+use crate::commands::is_performed;
+use crate::halt::{Halt, Kind};
+use crate::stage::Stage;
+use lan_base::UserFrame;
+use std::alloc::{AllocError, Global};
+use std::mem::replace;
+use trace_text::Line;
+
+/// The greatest count of bursts of a race.
+const MAX_BURSTS: usize = 8;
+
+/// The greatest count of lines of control of a race.
+const MAX_CONTROL: usize = 1_000;
+
+/// The greatest count of workers of a station in a race.
+const MAX_WORKERS: u32 = 8;
+
+/// A burst: a station, how many workers it has there, how many frames they send in all, and of which
+/// user data.
+#[derive(Drop)]
+pub struct Burst {
+    pub station: u8,
+    pub workers: u32,
+    pub frames: u32,
+    pub user: UserFrame,
+}
+
+/// A line that is kept, with its number.
+#[derive(Drop)]
+pub struct Numbered {
+    pub number: u32,
+    pub line: Line,
+}
+
+/// Where the lines stand.
+#[derive(Drop)]
+pub enum Phase {
+    /// In no race.
+    Apart,
+    /// Behind `race`, where bursts come.
+    Bursting(Vec<Burst>),
+    /// Behind `while`, where the lines of control come.
+    Controlling(Vec<Burst>, Vec<Numbered>),
+}
+
+impl Phase {
+    /// Whether the lines stand inside a race.
+    pub fn is_inside(&self) -> bool
+        ensures { result ≡ is_inside (phase_of self.now) }
+    {
+        !matches!(self, Phase::Apart)
+    }
+
+    /// Whether a line belongs to a race: it stands inside one, or begins one.
+    pub fn takes(&self, line: &Line) -> bool
+        ensures { result ≡ is_taken (phase_of self.now) line.now }
+    {
+        self.is_inside() || matches!(line, Line::Race)
+    }
+
+    /// Takes a line that belongs to a race: it is refused, or kept for the race.
+    pub fn take(&mut self, stage: &Stage, line: &Line) -> Result<(), Halt>
+        ensures { (w : World) → IsReached StandsFor w stage.now
+            → w.kept.phase ≡ phase_of self.old → is_taken (phase_of self.old) line.now ≡ true
+            → Takes line.now w self.new result }
+    {
+        if let Some(kind) = self.refusal(stage, line) {
+            return Err(Halt::Trace {
+                line: stage.line,
+                kind,
+            });
+        }
+        let before = replace(self, Phase::Apart);
+        *self = before.behind(stage, line)?;
+        Ok(())
+    }
+
+    /// Why a line that belongs to a race is refused.
+    fn refusal(&self, stage: &Stage, line: &Line) -> Option<Kind>
+        ensures { (w : World) → IsReached StandsFor w stage.now
+            → w.kept.phase ≡ phase_of self.now → is_taken (phase_of self.now) line.now ≡ true
+            → result ≡ refusal line.now w }
+    {
+        if !is_performed(line) {
+            return Some(Kind::Word);
+        }
+        match self {
+            Phase::Apart => None,
+            Phase::Bursting(bursts) => unless_allowed(
+                is_burst_allowed(line, bursts),
+                too_many(bursts, stage, line).or(stage.wrong_name(line)),
+            ),
+            Phase::Controlling(_, control) => unless_allowed(
+                is_control_allowed(line, control),
+                stage.wrong_name(line),
+            ),
+        }
+    }
+
+    /// Where the lines stand behind a line that belongs to a race and isn't refused.
+    fn behind(self, stage: &Stage, line: &Line) -> Result<Self, AllocError>
+        ensures { (w : World) → IsReached StandsFor w stage.now → MayBeKept (phase_of self) line.now
+            → IfOk result (λ phase. phase_of phase ≡ behind line.now w (phase_of self)) }
+    {
+        match self {
+            Phase::Apart => Ok(Phase::Bursting(Vec::new(stage.alloc))),
+            Phase::Bursting(bursts) => behind_race(bursts, stage, line),
+            Phase::Controlling(bursts, control) => behind_while(bursts, control, stage, line),
+        }
+    }
+}
+
+/// What is wrong with a line, unless it isn't allowed here.
+fn unless_allowed(allowed: bool, wrong: Option<Kind>) -> Option<Kind>
+    ensures { result ≡ or_else (where_ (not allowed) kinds.Order) wrong }
+{
+    if allowed { wrong } else { Some(Kind::Order) }
+}
+
+/// Whether a line may stand behind `race`.
+fn is_burst_allowed(line: &Line, bursts: &[Burst]) -> bool
+    ensures { result ≡ is_burst_allowed line.now bursts.now }
+{
+    match line {
+        Line::Burst { .. } => bursts.len() < MAX_BURSTS,
+        Line::While => !bursts.is_empty(),
+        _ => false,
+    }
+}
+
+/// Whether a line may stand behind `while`.
+fn is_control_allowed(line: &Line, control: &[Numbered]) -> bool
+    ensures { result ≡ is_control_allowed line.now control.now }
+{
+    matches!(line, Line::End) || is_control(line) && control.len() < MAX_CONTROL
+}
+
+/// Whether lines of this form are control's.
+fn is_control(line: &Line) -> bool
+    ensures { result ≡ is_control line.now }
+{
+    matches!(
+        line,
+        Line::Tick { .. }
+            | Line::TickOne { .. }
+            | Line::Flow { .. }
+            | Line::Deliver { .. }
+            | Line::Spread { .. }
+            | Line::Lose { .. }
+            | Line::Cut { .. }
+            | Line::Mend { .. }
+            | Line::Restart { .. }
+            | Line::Inject { .. }
+    )
+}
+
+/// Whether a burst has more workers than its station may still have.
+fn too_many(bursts: &[Burst], stage: &Stage, line: &Line) -> Option<Kind>
+    ensures { (w : World) → IsReached StandsFor w stage.now
+        → result ≡ too_many line.now w bursts.now }
+{
+    let Line::Burst { name, workers, .. } = line else {
+        return None;
+    };
+    if are_few(bursts, stage.place(name), *workers) {
+        None
+    } else {
+        Some(Kind::Range)
+    }
+}
+
+/// Whether a station, which has workers in these bursts, may have so many others.
+fn are_few(bursts: &[Burst], station: u8, workers: u32) -> bool
+    ensures { result ≡ not (nat_lt most_workers (workers_at station bursts.now + workers)) }
+{
+    let mut left = MAX_WORKERS;
+    for burst in bursts {
+        if burst.station == station {
+            if left < burst.workers {
+                return false;
+            }
+            left -= burst.workers;
+        }
+    }
+    workers <= left
+}
+
+/// Where the lines stand behind a line behind `race`.
+fn behind_race(mut bursts: Vec<Burst>, stage: &Stage, line: &Line) -> Result<Phase, AllocError>
+    ensures { (w : World) → IsReached StandsFor w stage.now
+        → IfOk result (λ phase. phase_of phase ≡ behind_race line.now w bursts.items) }
+{
+    match line {
+        Line::While => Ok(Phase::Controlling(bursts, Vec::new(stage.alloc))),
+        Line::Burst {
+            name,
+            workers,
+            frames,
+            destination,
+            body,
+        } => {
+            let user = UserFrame {
+                destination: *destination,
+                body: body.copied(stage.alloc)?,
+            };
+            bursts.push(Burst {
+                station: stage.place(name),
+                workers: *workers,
+                frames: *frames,
+                user,
+            })?;
+            Ok(Phase::Bursting(bursts))
+        }
+        _ => Ok(Phase::Bursting(bursts)),
+    }
+}
+
+/// Where they stand behind a line of control, which is kept.
+fn behind_while(
+    bursts: Vec<Burst>,
+    mut control: Vec<Numbered>,
+    stage: &Stage,
+    line: &Line,
+) -> Result<Phase, AllocError>
+    ensures { (w : World) → IsReached StandsFor w stage.now → is_control line.now ≡ true
+        → IfOk result (λ phase. phase_of phase
+        ≡ behind_while line.now w bursts.items control.items) }
+{
+    let line = copied(stage.alloc, line)?;
+    control.push(Numbered {
+        number: stage.line,
+        line,
+    })?;
+    Ok(Phase::Controlling(bursts, control))
+}
+
+/// A copy of a line of control.
+fn copied(alloc: Global, line: &Line) -> Result<Line, AllocError>
+    ensures { is_control line.now ≡ true → IfOk result (λ copy. copy ≡ line.now) }
+{
+    Ok(match line {
+        Line::Tick { rounds } => Line::Tick { rounds: *rounds },
+        Line::TickOne { name, ticks } => Line::TickOne {
+            name: *name,
+            ticks: *ticks,
+        },
+        Line::Flow { rounds } => Line::Flow { rounds: *rounds },
+        Line::Deliver { frame, name } => Line::Deliver {
+            frame: *frame,
+            name: *name,
+        },
+        Line::Spread { frame } => Line::Spread { frame: *frame },
+        Line::Lose { frame } => Line::Lose { frame: *frame },
+        Line::Cut { from, to } => Line::Cut {
+            from: *from,
+            to: *to,
+        },
+        Line::Mend { from, to } => Line::Mend {
+            from: *from,
+            to: *to,
+        },
+        Line::Restart { name } => Line::Restart { name: *name },
+        Line::Inject { name, octets } => Line::Inject {
+            name: *name,
+            octets: octets.copied(alloc)?,
+        },
+        _ => Line::End,
+    })
+}
