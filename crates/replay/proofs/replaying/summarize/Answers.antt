@@ -6,8 +6,8 @@ use Rattle.replay.proofs.Telling.{nothing-shows}
 use Rattle.replay.proofs.Ending.{replayed-err, closed-err, summarized}
 use Rattle.replay.proofs.replaying.summarize.Goals as goal
 
-pub returns-in-Ok-in-Ok : goal.returns-in-Ok-in-Ok
-returns-in-Ok-in-Ok g c =
+pub returns-in-Ok-close : goal.returns-in-Ok-close
+returns-in-Ok-close g c =
     let k = g.K.Sink in
     rw c.answered.ensures (summarized (record {
       tidy = c.law_lines_leave_a_tidy_world.ensures.start;
@@ -15,19 +15,19 @@ returns-in-Ok-in-Ok g c =
     }) _ _ (λ at. at.taker.replay) (λ s. sunk (k.held s) (k.faults s))
     (nothing-shows (λ s. sunk (k.held s) (k.faults s))) (line_of c.tally.result.now) _ _ _ _ _
     c.write_line.result c.new.ensures c.in-Ok.ensures.counts c.in-Ok.ensures.reads
-    c.in-Ok-in-Ok.ensures.closes
+    c.in-Ok-close.ensures.closes
     (λ w stands. ap (λ t. line_of t) (c.tally.ensures.goes w stands)) c.write_line.ensures)
 
-pub returns-in-Err-in-Ok : goal.returns-in-Err-in-Ok
-returns-in-Err-in-Ok g c =
+pub returns-in-Ok : goal.returns-in-Ok
+returns-in-Ok g c =
     let k = g.K.Sink in
     rw c.cause_of_halt.ensures (closed-err (record {
       tidy = c.law_lines_leave_a_tidy_world.ensures.start;
       never = c.law_acts_stop_for_their_own_reasons.ensures;
     }) _ _ (λ at. at.taker.replay) (λ s. sunk (k.held s) (k.faults s)) _
     (nothing-shows (λ s. sunk (k.held s) (k.faults s))) (λ r. summary_of r ∷ []) _ _ _ _
-    c.in-Err-in-Ok.halt c.new.ensures c.in-Ok.ensures.counts c.in-Ok.ensures.reads
-    c.in-Err-in-Ok.ensures.closes)
+    c.in-Err-close.halt c.new.ensures c.in-Ok.ensures.counts c.in-Ok.ensures.reads
+    c.in-Err-close.ensures.closes)
 
 pub returns : goal.returns
 returns g c =

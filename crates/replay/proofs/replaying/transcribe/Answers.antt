@@ -4,25 +4,25 @@ use Rattle.replay.proofs.Telling.{transcript-shows}
 use Rattle.replay.proofs.Ending.{replayed-err, closed-err, transcribed}
 use Rattle.replay.proofs.replaying.transcribe.Goals as goal
 
-pub returns-in-Ok-in-Ok : goal.returns-in-Ok-in-Ok
-returns-in-Ok-in-Ok g c =
+pub returns-in-Ok-close : goal.returns-in-Ok-close
+returns-in-Ok-close g c =
     let k = g.K.Sink in
     transcribed (record {
       tidy = c.law_lines_leave_a_tidy_world.ensures.start;
       never = c.law_acts_stop_for_their_own_reasons.ensures;
     }) _ _ (λ at. at.taker.replay) (λ s. sunk (k.held s) (k.faults s)) _
     (transcript-shows (λ s. sunk (k.held s) (k.faults s))) _ _ _ _ c.new.ensures
-    c.in-Ok.ensures.counts c.in-Ok.ensures.reads c.in-Ok-in-Ok.ensures.closes
+    c.in-Ok.ensures.counts c.in-Ok.ensures.reads c.in-Ok-close.ensures.closes
 
-pub returns-in-Err-in-Ok : goal.returns-in-Err-in-Ok
-returns-in-Err-in-Ok g c =
+pub returns-in-Ok : goal.returns-in-Ok
+returns-in-Ok g c =
     let k = g.K.Sink in
     rw c.cause_of_halt.ensures (closed-err (record {
       tidy = c.law_lines_leave_a_tidy_world.ensures.start;
       never = c.law_acts_stop_for_their_own_reasons.ensures;
     }) _ _ (λ at. at.taker.replay) (λ s. sunk (k.held s) (k.faults s)) _
-    (transcript-shows (λ s. sunk (k.held s) (k.faults s))) texts_of _ _ _ _ c.in-Err-in-Ok.halt
-    c.new.ensures c.in-Ok.ensures.counts c.in-Ok.ensures.reads c.in-Err-in-Ok.ensures.closes)
+    (transcript-shows (λ s. sunk (k.held s) (k.faults s))) texts_of _ _ _ _ c.in-Err-close.halt
+    c.new.ensures c.in-Ok.ensures.counts c.in-Ok.ensures.reads c.in-Err-close.ensures.closes)
 
 pub returns : goal.returns
 returns g c =
