@@ -1,8 +1,8 @@
 -- Lines that belong to a race are taken.
-use Rattle.std.proofs.Common.{◌≡◌, ◌+◌, ◌<◌, ◌≤◌, ◌==◌, ℕ, zero, suc, Bool, true, false, nat_eq, List, []}
-use Rattle.std.proofs.Common.{◌∷◌, ◌++◌, length, drop, Option, Some, None, inl, inr, refl, sym, ap, ◌∙◌}
-use Rattle.std.proofs.Common.{subst, arith, append-nil}
-use Rattle.std.specs.Prelude.{◌⊎◌, ◌||◌, ◌&&◌, not, nat_lt, cond, Result, Ok, Err, map}
+use Rattle.std.proofs.Common.{◌≡◌, ◌+◌, ℕ, Bool, true, false, List, []}
+use Rattle.std.proofs.Common.{Option, Some, None, inl, inr, refl, sym, ap, ◌∙◌}
+use Rattle.std.proofs.Common.{subst}
+use Rattle.std.specs.Prelude.{◌||◌, ◌&&◌, not, nat_lt, Result, Ok, Err}
 use Rattle.std.specs.Result.{IsErrAnd}
 use Rattle.std.proofs.lemmas.Result.{err_from_is_err_and}
 use Rattle.lan_base.specs.declared.address.Mac.{Mac}
@@ -21,12 +21,12 @@ use Rattle.lan_schedule.specs.declared.stage.Stage.{Stage}
 use Rattle.lan_schedule.specs.declared.commands.Replay.{Replay}
 use Rattle.lan_schedule.specs.Races.{Phase, Apart, Bursting, Controlling, Racing, Chance}
 use Rattle.lan_schedule.specs.Races.{behind_numbers, workers_at}
-use Rattle.lan_schedule.specs.World.{World, Kept, is_racing, names_of, place}
-use Rattle.lan_schedule.specs.Acts.{Act, Goes, Stops, perform}
+use Rattle.lan_schedule.specs.World.{World, is_racing, place}
+use Rattle.lan_schedule.specs.Acts.{Goes, Stops, perform}
 use Rattle.lan_schedule.specs.Kinds.{or_else, where_, first_of, is_performed, may_stand, wrong_at}
-use Rattle.lan_schedule.specs.Kinds.{is_control, is_control_allowed, refusal, wrong_name, too_many}
-use Rattle.lan_schedule.specs.Kinds.{is_burst_allowed, most_workers}
-use Rattle.lan_schedule.specs.Lines.{act_of, deed, deed_at, enter, behind_race, behind_while}
+use Rattle.lan_schedule.specs.Kinds.{is_control, is_control_allowed, refusal, too_many}
+use Rattle.lan_schedule.specs.Kinds.{most_workers}
+use Rattle.lan_schedule.specs.Lines.{act_of, deed, deed_at}
 use Rattle.lan_schedule.specs.Lines.{unless_refused}
 use Rattle.lan_schedule.specs.Reports.{Report}
 use Rattle.lan_schedule.specs.Ends.{Moment, IsReached, Ends}
@@ -37,7 +37,6 @@ use Rattle.lan_schedule.specs.inside.Phased.{is_inside, is_taken, behind, MayBeK
 use Rattle.lan_schedule.proofs.Doing.{told-none, ends-memory}
 use Rattle.lan_schedule.proofs.LinesCome.{tidy-entered}
 use Rattle.lan_schedule.proofs.Performing.{Places, place-is}
-use Rattle.lan_schedule.proofs.Replaying.{stands-counts}
 
 -- ---- why a line is refused
 

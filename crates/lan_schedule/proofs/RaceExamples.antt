@@ -19,7 +19,7 @@ use Rattle.lan_schedule.specs.declared.choices.Rule.TheVariants.{Listed}
 use Rattle.lan_schedule.specs.declared.phase.Burst.{Burst}
 use Rattle.lan_schedule.specs.declared.phase.Numbered.{Numbered}
 use Rattle.lan_schedule.specs.Settings.{no_choice}
-use Rattle.lan_schedule.specs.Races.{Phase, Apart, Bursting, Controlling, workers_of, share}
+use Rattle.lan_schedule.specs.Races.{Phase, Bursting, Controlling, workers_of, share}
 use Rattle.lan_schedule.specs.World.{World, nothing_kept}
 use Rattle.lan_schedule.specs.Acts.{Course, Goes, Stops, perform, and_then, world_of, each}
 use Rattle.lan_schedule.specs.Kinds.{refusal}

@@ -9,15 +9,14 @@ use Rattle.trace_text.specs.declared.line.Line.{Line}
 use Rattle.trace_text.specs.declared.line.Line.TheVariants as lines
 use Rattle.lan_schedule.specs.declared.halt.Halt.{Halt}
 use Rattle.lan_schedule.specs.declared.halt.Kind.{Kind}
-use Rattle.lan_schedule.specs.Races.{Phase}
-use Rattle.lan_schedule.specs.World.{World, Kept, count, sender, mark, place}
+use Rattle.lan_schedule.specs.World.{World, Kept, count, sender, place}
 use Rattle.lan_schedule.specs.Numbers.{number_claimed}
 use Rattle.lan_schedule.specs.Answers.{answer}
 use Rattle.lan_schedule.specs.Acts.{Act, nothing, refuse, exceed, happen, change, seq, look, race}
 use Rattle.lan_schedule.specs.Acts.{Course, Goes, Stops, perform, shown, and_then, world_after}
-use Rattle.lan_schedule.specs.Acts.{each, span, times, unless}
-use Rattle.lan_schedule.specs.Lines.{tick, round, pass, to_others, spread, is_passed_by, due, deed}
-use Rattle.lan_schedule.specs.Lines.{flow_round, feed, send, unless_refused}
+use Rattle.lan_schedule.specs.Acts.{each, span, unless}
+use Rattle.lan_schedule.specs.Lines.{tick, round, pass, spread, is_passed_by, due, deed}
+use Rattle.lan_schedule.specs.Lines.{flow_round, send, unless_refused}
 use Rattle.lan_schedule.specs.inside.Choosing.{is_race}
 use Rattle.lan_schedule.specs.inside.Phased.{act_apart, refusal_apart}
 

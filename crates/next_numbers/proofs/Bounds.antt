@@ -1,6 +1,6 @@
 -- Next packet numbers that no event leaves out are no more than claims are.
 use Rattle.std.proofs.Common.{◌≡◌, ◌≤◌, ◌+◌, ◌==◌, ℕ, Bool, true, false, List, [], ◌∷◌, ◌++◌, map}
-use Rattle.std.proofs.Common.{suc, length, Option, Some, None, refl, sym, subst, arith}
+use Rattle.std.proofs.Common.{length, Option, Some, None, refl, sym, subst, arith}
 use Rattle.std.specs.Prelude.{◌&&◌, cond, max, option_map, option_to_list}
 use Rattle.lan_base.specs.declared.address.Mi.{Mi}
 use Rattle.lan_base.specs.declared.frame.UserFrame.{UserFrame}

@@ -1,5 +1,5 @@
 -- How a run of a text ends.
-use Rattle.std.proofs.Common.{◌≡◌, ◌⊎◌, ℕ, ◌≤◌, List, [], ◌∷◌, ◌++◌, Option, Some, refl, sym, ap, ◌∙◌}
+use Rattle.std.proofs.Common.{◌≡◌, ◌⊎◌, ℕ, ◌≤◌, List, [], ◌∷◌, ◌++◌, Option, refl, sym, ap, ◌∙◌}
 use Rattle.std.proofs.Common.{subst, append_assoc, arith, inl, inr}
 use Rattle.std.specs.Prelude.{Result, Ok, Err, MatchResult, length, take, nat_le, cond, Bool, true, false}
 use Rattle.std.proofs.lemmas.Bool.Decides.{nat_tests}
@@ -20,18 +20,18 @@ use Rattle.lan_schedule.specs.Races.{Chance}
 use Rattle.lan_schedule.specs.World.{World, beginning}
 use Rattle.lan_schedule.specs.Acts.{Act, Course, Goes, Stops, perform, and_then, course}
 use Rattle.lan_schedule.specs.Lines.{performed_all, close}
-use Rattle.lan_schedule.specs.Reports.{Report, reports, AreTold}
-use Rattle.lan_schedule.specs.Ends.{Begins, IsReached, WasTold, WasBroken as RecorderBroke, Ends}
+use Rattle.lan_schedule.specs.Reports.{Report, reports}
+use Rattle.lan_schedule.specs.Ends.{Begins, IsReached, WasTold, WasBroken as RecorderBroke}
 use Rattle.lan_schedule.specs.Ends.{halt_of_broken, reported}
 use Rattle.lan_schedule.specs.Sound.{IsTidy}
-use Rattle.lan_schedule.specs.Standing.{StandsFor, Does, Closes}
+use Rattle.lan_schedule.specs.Standing.{StandsFor, Closes}
 use Rattle.lan_schedule.proofs.Public.{grows, each-append, does-whole, does-whole-early}
 use Rattle.replay.specs.declared.cause.Cause.{Cause}
 use Rattle.replay.specs.declared.cause.Cause.TheVariants as causes
 use Rattle.replay.specs.Sinks.{Sunk, Wrote, BrokeOff, WroteSome, joined}
 use Rattle.replay.specs.Shown.{Shows, summary_of}
-use Rattle.replay.specs.Runs.{most_input, whole, within, WasPerformed, WasHalted, WasCut, WasBroken}
-use Rattle.replay.specs.Runs.{EndsBy, IsTaken, EndsRun, IsSettled, IsReplayed}
+use Rattle.replay.specs.Runs.{most_input, whole, within, WasPerformed, WasHalted, WasCut}
+use Rattle.replay.specs.Runs.{EndsBy, IsTaken, IsSettled, IsReplayed}
 use Rattle.replay.specs.inside.Writing.{Fails}
 use Rattle.replay.specs.Causes.{cause_of, cause_of_halt, answered}
 use Rattle.replay.specs.inside.Playing.{DidAct, DidLines}

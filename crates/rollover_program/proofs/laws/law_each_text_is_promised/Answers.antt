@@ -8,7 +8,6 @@ use Rattle.lan_schedule.specs.World.{World, is_racing}
 use Rattle.lan_schedule.specs.Acts.{course, world_of}
 use Rattle.lan_schedule.specs.Lines.{performed_all, performed_whole}
 use Rattle.lan_schedule.specs.Sound.{IsTidy}
-use Rattle.rollover_program.specs.Headline.{IsPromised}
 use Rattle.rollover_program.proofs.laws.law_each_text_is_promised.Goals as goal
 
 -- a tidy world, in which no race is performed

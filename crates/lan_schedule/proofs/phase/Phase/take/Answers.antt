@@ -1,6 +1,5 @@
 use Rattle.std.proofs.Common.{sym, ◌∙◌}
-use Rattle.lan_schedule.proofs.Commanding.{none-of}
-use Rattle.lan_schedule.proofs.Phasing.{takes-some, takes-none, takes-memory, kept-where}
+use Rattle.lan_schedule.proofs.Phasing.{takes-some}
 use Rattle.lan_schedule.proofs.phase.Phase.take.Goals as goal
 
 pub returns-in-Some : goal.returns-in-Some
