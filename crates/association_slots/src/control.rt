@@ -99,8 +99,7 @@ impl Control {
     {
         let word = open_word(epoch, self.first);
         table
-            .table
-            .shared
+            .shared()
             .swap::<Raise>(&mut self.place, usize::from(an.number()), word);
     }
 
@@ -115,10 +114,7 @@ impl Control {
     {
         self.last = epoch;
         let word = present_word(self.last, an);
-        table
-            .table
-            .shared
-            .store::<PointAt>(&mut self.place, 4, word);
+        table.shared().store::<PointAt>(&mut self.place, 4, word);
     }
 
     /// Nothing is present from now on.
@@ -130,10 +126,7 @@ impl Control {
         ensures learned { Learned self.new.view }
     {
         let word = absent_word(self.last);
-        table
-            .table
-            .shared
-            .store::<PointAt>(&mut self.place, 4, word);
+        table.shared().store::<PointAt>(&mut self.place, 4, word);
     }
 
     /// Shuts an open slot that the current word does not name, and answers the next number that it
@@ -148,8 +141,7 @@ impl Control {
         ensures learned { Learned self.new.view }
     {
         let word = table
-            .table
-            .shared
+            .shared()
             .fetch_or::<Shut>(&mut self.place, usize::from(an.number()), FLAG);
         next_of(word)
     }
@@ -164,8 +156,7 @@ impl Control {
         ensures learned { Learned self.new.view }
     {
         let word = table
-            .table
-            .shared
+            .shared()
             .load::<Look>(&mut self.place, usize::from(an.number()));
         next_of(word)
     }
@@ -186,9 +177,9 @@ impl Control {
         ensures before { Learned self.old.view }
         ensures learned { Learned self.new.view }
     {
-        table.table.shared.load::<Learn>(&mut self.place, 4);
+        table.shared().load::<Learn>(&mut self.place, 4);
         let free = free_place(&self.out);
-        let place = table.table.shared.split_seat::<GoOut>(&mut self.place);
+        let place = table.shared().split_seat::<GoOut>(&mut self.place);
         self.out[free] = true;
         WorkerSeat::new(place, free as u8 + 1, self.overshot[free])
     }
@@ -202,13 +193,10 @@ impl Control {
         let number = usize::from(seat.number()) - 1;
         let overshot = seat.overshot();
         let place = seat.into_place();
-        table
-            .table
-            .shared
-            .join_seat::<ComeBack>(&mut self.place, place);
+        table.shared().join_seat::<ComeBack>(&mut self.place, place);
         self.out[number] = false;
         self.overshot[number] = self.overshot[number].max(overshot);
-        table.table.shared.load::<Learn>(&mut self.place, 4);
+        table.shared().load::<Learn>(&mut self.place, 4);
     }
 }
 
@@ -246,7 +234,7 @@ fn write(table: &SlotTable, place: &mut Place, word: usize, held: u64)
         × (place.new.me ≡ («control» (wrote (control_of place.old.me.0) held), []))
         × Learned (control_of place.new.me.0) }
 {
-    table.table.shared.store::<Write>(place, word, held);
+    table.shared().store::<Write>(place, word, held);
 }
 
 /// The place of the first seat that isn't out.

@@ -7,22 +7,25 @@ use crate::control::Control;
 use crate::rule::SlotRule;
 use crate::view::View;
 use crate::words::FLAG;
-use atomic_table::Table;
+use atomic_table::{Shared, Table};
 use std::alloc::{AllocError, Global};
 use std::marker::Model;
+use std::sync::Arc;
 
-/// Four slots, a current word and the cards, which threads share. Contracts see which table it is.
+/// A handle of four slots, a current word and the cards, which threads share. Contracts see which
+/// table it is.
 #[derive(Drop)]
 pub struct SlotTable {
-    pub(crate) table: Table<u64, View, (u64, u64), SlotRule, Global>,
+    table: Arc<Table<u64, View, (u64, u64), SlotRule, Global>, Global>,
 }
 
 impl Model for SlotTable {
     ghost use Rattle.atomic_table.specs.Seated.{TableId};
+    ghost use Rattle.std.specs.Arc.{arc_value};
 
     ghost Value = { TableId };
 
-    ghost view = { λ t. t.table.shared.table_id };
+    ghost view = { λ t. (arc_value t.table).shared.table_id };
 }
 
 impl SlotTable {
@@ -37,7 +40,24 @@ impl SlotTable {
         let words = blank(alloc, cards)?;
         let about = (u64::from(first), u64::from(cards));
         let (table, place) = Table::of_words(alloc, words.as_slice(), &about)?;
+        let table = Arc::new(alloc, table)?;
         Ok((SlotTable { table }, Control::first(place, first, cards)))
+    }
+
+    /// Another handle of the same table, for a thread of its own. It takes no memory, and fails only
+    /// where 2^63 handles are out.
+    pub fn handle(&self) -> Result<SlotTable, AllocError>
+        ensures { IfOk result (λ t. t ≡ self.now) }
+    {
+        let table = Arc::try_clone(&self.table)?;
+        Ok(SlotTable { table })
+    }
+
+    /// The words, on which seats and control step.
+    pub(crate) fn shared(&self) -> &Shared<u64, View, (u64, u64), SlotRule>
+        ensures { result.now.table_id ≡ self.now }
+    {
+        &self.table.shared
     }
 }
 

@@ -110,7 +110,7 @@ impl WorkerSeat {
         ensures view { self.new ≡ record self.old { view = loaded self.old.view result } }
         ensures sees { Sees self.old.view result }
     {
-        let word = table.table.shared.load::<Load>(&mut self.place, 4);
+        let word = table.shared().load::<Load>(&mut self.place, 4);
         self.shown = shown_by(word);
         self.shown
     }
@@ -127,8 +127,7 @@ impl WorkerSeat {
     {
         let shown = self.shown;
         let word = table
-            .table
-            .shared
+            .shared()
             .fetch_add::<Plus>(&mut self.place, usize::from(shown.an.number()), 1);
         let added = answer(shown.epoch, word);
         if let Added::Over = added {
@@ -186,5 +185,5 @@ fn read(table: &SlotTable, place: &mut Place, word: usize) -> u64
     ensures same { place.new.table_id ≡ place.old.table_id }
     ensures view { place.new.me ≡ («seat» (did_read (seat_of place.old.me.0) word result), []) }
 {
-    table.table.shared.load::<Read>(place, word)
+    table.shared().load::<Read>(place, word)
 }

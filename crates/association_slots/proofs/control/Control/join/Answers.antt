@@ -10,16 +10,16 @@ use Rattle.association_slots.proofs.SeatsKeep.{joins}
 use Rattle.association_slots.proofs.control.Control.join.Goals as goal
 
 pub join_seat-requires : goal.join_seat-requires
-join_seat-requires c = let here = ap (λ (v : ControlAt). v.table) c.self.view_is ∙ (c.requires.here.0 ∙ sym c.table.view_is) in let p = c.into_place-place.ensures.place in let seat = ap (λ m. m.0) p.1 in (
+join_seat-requires c = let here = ap (λ (v : ControlAt). v.table) c.self.view_is ∙ (c.requires.here.0 ∙ sym c.shared.ensures) in let p = c.into_place-place.ensures.place in let seat = ap (λ m. m.0) p.1 in (
   here,
-  p.0 ∙ (c.requires.here.1 ∙ sym c.table.view_is),
+  p.0 ∙ (c.requires.here.1 ∙ sym c.shared.ensures),
   ap (λ m. m.1) p.1,
   omega (arith, c.self.invariant.limit_is.2, ap (λ (t : TableId). t.words) here),
   joins _ _ _ _ (ap (λ m. m.0) c.self.invariant.is) (seat ∙ ap (λ (v : View). Seat (seat_of v)) (sym seat)),
 )
 
 pub load-requires : goal.load-requires
-load-requires c = let here = ap (λ (v : ControlAt). v.table) c.self.view_is ∙ (c.requires.here.0 ∙ sym c.table.view_is) in let e = ap (λ m. m.0) c.join_seat.ensures.2 in
+load-requires c = let here = ap (λ (v : ControlAt). v.table) c.self.view_is ∙ (c.requires.here.0 ∙ sym c.shared-2.ensures) in let e = ap (λ m. m.0) c.join_seat.ensures.2 in
     (c.join_seat.ensures.0 ∙ here, omega (arith, c.self.invariant.limit_is.2, ap (λ (t : TableId). t.words) here), learns _ _ _ (e ∙ sym (ap (λ (v : View). Control (control_of v)) e)))
 
 pub invariant_of-self : goal.invariant_of-self

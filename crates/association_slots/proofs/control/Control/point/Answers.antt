@@ -10,7 +10,7 @@ present_word-word-requires c = let is = ap (λ (v : ControlAt). v.view) c.self.v
     omega (arith, low, k.given_is.1, k.limit_is.1, subst (λ (d : ControlView). IsOpen d c.args.an c.args.epoch) (sym is) c.requires.open)
 
 pub store-requires : goal.store-requires
-store-requires c = let is = ap (λ (v : ControlAt). v.view) c.self.view_is in let here = ap (λ (v : ControlAt). v.table) c.self.view_is ∙ (c.requires.here ∙ sym c.table.view_is) in (
+store-requires c = let is = ap (λ (v : ControlAt). v.view) c.self.view_is in let here = ap (λ (v : ControlAt). v.table) c.self.view_is ∙ (c.requires.here ∙ sym c.shared.ensures) in (
   here,
   omega (arith, c.self.invariant.limit_is.2, ap (λ (t : TableId). t.words) here),
   points _ _ _ c.args.an c.args.epoch _ (ap (λ m. m.0) c.self.invariant.is) (subst (λ (d : ControlView). IsOpen d c.args.an c.args.epoch) (sym is) c.requires.open) (subst (λ (d : ControlView). (current d).epoch < c.args.epoch) (sym is) c.requires.above) c.present_word-word.ensures,

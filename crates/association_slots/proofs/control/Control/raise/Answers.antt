@@ -8,7 +8,7 @@ use Rattle.association_slots.proofs.ControlKeeps.{raises_as}
 use Rattle.association_slots.proofs.control.Control.raise.Goals as goal
 
 pub swap-requires : goal.swap-requires
-swap-requires c = let is = ap (λ (v : ControlAt). v.view) c.self.view_is in let here = ap (λ (v : ControlAt). v.table) c.self.view_is ∙ (c.requires.here ∙ sym c.table.view_is) in
+swap-requires c = let is = ap (λ (v : ControlAt). v.view) c.self.view_is in let here = ap (λ (v : ControlAt). v.table) c.self.view_is ∙ (c.requires.here ∙ sym c.shared.ensures) in
     let carded = subst (λ (d : ControlView). c.args.epoch ≤ cards_given d) (sym is) c.requires.card in (
       here,
       omega (arith, c.from.ensures, c.number.ensures, c.self.invariant.limit_is.2, ap (λ (t : TableId). t.words) here),

@@ -16,12 +16,12 @@ use Rattle.association_slots.proofs.SeatsKeep.{splits, in_of_seat}
 use Rattle.association_slots.proofs.control.Control.seat.Goals as goal
 
 pub load-requires : goal.load-requires
-load-requires c = let here = ap (λ (v : ControlAt). v.table) c.self.view_is ∙ (c.requires.here ∙ sym c.table.view_is) in
+load-requires c = let here = ap (λ (v : ControlAt). v.table) c.self.view_is ∙ (c.requires.here ∙ sym c.shared.ensures) in
     (here, omega (arith, c.self.invariant.limit_is.2, ap (λ (t : TableId). t.words) here), learns _ _ _ (ap (λ m. m.0) c.self.invariant.is))
 
 pub split_seat-place-requires : goal.split_seat-place-requires
 split_seat-place-requires c =
-    let is = ap (λ (v : ControlAt). v.view) c.self.view_is in let here = ap (λ (v : ControlAt). v.table) c.self.view_is ∙ (c.requires.here ∙ sym c.table.view_is) in
+    let is = ap (λ (v : ControlAt). v.view) c.self.view_is in let here = ap (λ (v : ControlAt). v.table) c.self.view_is ∙ (c.requires.here ∙ sym c.shared-2.ensures) in
     let same = ap (λ m. m.0) c.load.ensures.2.0 in let was = ap (λ m. m.0) c.self.invariant.is in
     (c.load.ensures.0 ∙ here, omega (arith, c.self.invariant.limit_is.2, ap (λ (t : TableId). t.words) here), splits _ _ (same ∙ (was ∙ ap (λ (v : View). Control (control_of v)) (sym same))) (subst (λ (v : View). free (control_of v).out < 8) (sym same) (let room = subst (λ (d : ControlView). free_number d ≤ 8) (sym is) c.requires.room in omega (arith, room))))
 

@@ -13,7 +13,7 @@ use Rattle.association_slots.proofs.ControlKeeps.{shuts_at}
 use Rattle.association_slots.proofs.control.Control.shut.Goals as goal
 
 pub fetch_or-word-requires : goal.fetch_or-word-requires
-fetch_or-word-requires c = let is = ap (λ (v : ControlAt). v.view) c.self.view_is in let here = ap (λ (v : ControlAt). v.table) c.self.view_is ∙ (c.requires.here ∙ sym c.table.view_is) in (
+fetch_or-word-requires c = let is = ap (λ (v : ControlAt). v.view) c.self.view_is in let here = ap (λ (v : ControlAt). v.table) c.self.view_is ∙ (c.requires.here ∙ sym c.shared.ensures) in (
   here,
   omega (arith, c.from.ensures, c.number.ensures, c.self.invariant.limit_is.2, ap (λ (t : TableId). t.words) here),
   shuts_at _ _ _ c.args.an _ (c.from.ensures ∙ c.number.ensures.value) (ap (λ m. m.0) c.self.invariant.is) (subst (λ (d : ControlView). (slot d c.args.an).shut ≡ false) (sym is) c.requires.open)

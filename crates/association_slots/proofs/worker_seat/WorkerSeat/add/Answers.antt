@@ -16,7 +16,7 @@ use Rattle.association_slots.proofs.SeatKeeping.{of_kept, to_kept, keeps_over, k
 use Rattle.association_slots.proofs.worker_seat.WorkerSeat.add.Goals as goal
 
 pub fetch_add-word-requires : goal.fetch_add-word-requires
-fetch_add-word-requires c = let is = ap (λ (v : SeatAt). v.view) c.self.view_is in let here = ap (λ (v : SeatAt). v.table) c.self.view_is ∙ (c.requires.here ∙ sym c.table.view_is) in
+fetch_add-word-requires c = let is = ap (λ (v : SeatAt). v.view) c.self.view_is in let here = ap (λ (v : SeatAt). v.table) c.self.view_is ∙ (c.requires.here ∙ sym c.shared.ensures) in
     let free = subst (λ (v : SeatView). (m : Mark) → In m v.over → m.epoch ≢ v.shown.epoch) (sym is) c.requires.not_over in
     let may = subst (λ (v : SeatView). (v.shown.present ≡ true) × (v.added ≡ false)) (sym is) c.requires.loaded in
     let at = c.from.ensures ∙ (c.number.ensures.value ∙ ap (λ (p : Current). number_of p.an) c.self.invariant.shown_is) in

@@ -13,7 +13,7 @@ use Rattle.association_slots.proofs.SeatKeeping.{of_kept, to_kept, keeps_loaded}
 use Rattle.association_slots.proofs.worker_seat.WorkerSeat.load.Goals as goal
 
 pub load-word-requires : goal.load-word-requires
-load-word-requires c = let here = ap (λ (v : SeatAt). v.table) c.self.view_is ∙ (c.requires.here ∙ sym c.table.view_is) in
+load-word-requires c = let here = ap (λ (v : SeatAt). v.table) c.self.view_is ∙ (c.requires.here ∙ sym c.shared.ensures) in
     (here, omega (arith, c.self.invariant.limit_is.1, ap (λ (t : TableId). t.words) here), loads _ _ _ (ap (λ m. m.0) c.self.invariant.is))
 
 pub invariant_of-self : goal.invariant_of-self
