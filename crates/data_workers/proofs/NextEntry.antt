@@ -3,12 +3,11 @@ use Rattle.std.proofs.Common.{◌≡◌, ℕ, ◌+◌, ◌<◌, ◌≤◌, lengt
 use Rattle.std.proofs.lemmas.Bool.{false≢true}
 use Rattle.std.proofs.lemmas.List.{length-append}
 use Rattle.std.specs.List.{AllByRecursion}
-use Rattle.association_slots.specs.Views.{In, cons_if, claims, present_at}
+use Rattle.association_slots.specs.Views.{In, cons_if, claims}
 use Rattle.association_slots.specs.declared.view.Addition.{Addition}
 use Rattle.association_slots.specs.declared.view.NextSeen.{NextSeen}
 use Rattle.association_slots.specs.declared.view.Start.{Start}
 use Rattle.association_slots.specs.declared.view.SeatView.{SeatView}
-use Rattle.lan_base.specs.declared.frame.Protected.{Protected}
 use Rattle.packet_claims.specs.declared.answers.Claim.{Claim}
 use Rattle.packet_claims.specs.declared.answers.NoClaim.{NoClaim}
 use Rattle.packet_claims.specs.declared.answers.NoClaim.TheVariants.{NoKey, Exhausted}
