@@ -1,5 +1,5 @@
 -- What a seat knows only grows as it claims, and so the entries of a log stand.
-use Rattle.std.proofs.Common.{◌≡◌, ℕ, ◌<◌, ◌≤◌, false, List, ◌∷◌, sym, ◌∙◌, subst, inr, ⊎_elim}
+use Rattle.std.proofs.Common.{◌≡◌, ℕ, ◌<◌, ◌≤◌, false, List, sym, ◌∙◌, subst, inr, ⊎_elim}
 use Rattle.association_slots.specs.Cards.{Knows}
 use Rattle.association_slots.specs.Views.{In, HasLoaded, present_at}
 use Rattle.association_slots.specs.declared.card.Card.{Card}

@@ -1,13 +1,13 @@
 -- A log with the entry of one job more.
-use Rattle.std.proofs.Common.{◌≡◌, ℕ, ◌<◌, ◌≤◌, Bool, true, false, List, [], ◌∷◌, ◌++◌, Result, Ok, Err, refl, sym, ap, ◌∙◌, subst, inl, inr, ⊎_elim}
+use Rattle.std.proofs.Common.{◌≡◌, ℕ, ◌+◌, ◌<◌, ◌≤◌, length, arith, Bool, true, false, List, [], ◌∷◌, ◌++◌, Result, Ok, Err, refl, sym, ap, ◌∙◌, subst, inl, inr, ⊎_elim}
 use Rattle.std.proofs.lemmas.Bool.{false≢true}
+use Rattle.std.proofs.lemmas.List.{length-append}
 use Rattle.std.specs.List.{AllByRecursion}
-use Rattle.association_slots.specs.Views.{In, cons_if, claims, present_at}
+use Rattle.association_slots.specs.Views.{In, cons_if, claims}
 use Rattle.association_slots.specs.declared.view.Addition.{Addition}
 use Rattle.association_slots.specs.declared.view.NextSeen.{NextSeen}
 use Rattle.association_slots.specs.declared.view.Start.{Start}
 use Rattle.association_slots.specs.declared.view.SeatView.{SeatView}
-use Rattle.lan_base.specs.declared.frame.Protected.{Protected}
 use Rattle.packet_claims.specs.declared.answers.Claim.{Claim}
 use Rattle.packet_claims.specs.declared.answers.NoClaim.{NoClaim}
 use Rattle.packet_claims.specs.declared.answers.NoClaim.TheVariants.{NoKey, Exhausted}
@@ -92,6 +92,9 @@ module _ (s : Sender) (v w : SeatView) where
 -- The log u to v, and one job more, v to w
 
 module _ (s : Sender) (u v w : SeatView) (log : List Entry) (l : IsLog u v s log) where
+  more_loads : (y : Entry) → v.loads < w.loads → u.loads + length (log ++ y ∷ []) ≤ w.loads
+  more_loads y more = let before = l.loads in let one = length-append log (y ∷ []) in omega (arith, more, before, one)
+
   entries_more : (y : Entry) → Grows v w → IsEntry w s y → AllByRecursion (IsEntry w s) (log ++ y ∷ [])
   entries_more y g e = all_more (IsEntry w s) log y (all_from (IsEntry v s) (IsEntry w s) (entry_on s v w g) log l.entries) e
 
@@ -109,6 +112,7 @@ module _ (s : Sender) (u v w : SeatView) (log : List Entry) (l : IsLog u v s log
   claimed k c = let p = taken_by s k in let y = Taken p in record {
     number = c.stays.number ∙ l.number;
     start = c.stays.start ∙ l.start;
+    loads = more_loads y c.loads;
     claims_are = ap claims c.additions ∙ (ap (λ (xs : List Addition). claim_of v.number p ∷ xs) (lost_claims v w c.lost c.stays)
         ∙ ((λ i. claim_of (l.number i) p ∷ l.claims_are i) ∙ sym (claims_more u.number log (y ∷ []) (claims u.additions))));
     notes_are = same_notes y (λ before. refl) c.notes;
@@ -120,6 +124,7 @@ module _ (s : Sender) (u v w : SeatView) (log : List Entry) (l : IsLog u v s log
   noted after c = let y = Refused s.station (NoKey after) in record {
     number = c.stays.number ∙ l.number;
     start = c.stays.start ∙ l.start;
+    loads = more_loads y c.loads;
     claims_are = same_claims y (λ before. refl) (ap claims c.additions ∙ lost_claims v w c.lost c.stays);
     notes_are = c.notes ∙ (ap (λ (xs : List ℕ). after ∷ xs) l.notes_are ∙ sym (notes_more log (y ∷ []) u.notes));
     entries = entries_more y (no_key_grows v w after c) (refl, (subst (In after) (sym c.notes) (inl refl), subst (λ (b : Start). b.last ≤ after) (sym c.stays.start) c.not_below.start));
@@ -130,6 +135,7 @@ module _ (s : Sender) (u v w : SeatView) (log : List Entry) (l : IsLog u v s log
   exhausted epoch c = let y = Refused s.station (Exhausted epoch) in record {
     number = c.stays.number ∙ l.number;
     start = c.stays.start ∙ l.start;
+    loads = more_loads y c.loads;
     claims_are = same_claims y (λ before. refl) (exhausted_claims v w epoch c);
     notes_are = same_notes y (λ before. refl) c.notes;
     entries = entries_more y (exhausted_grows v w epoch c) (refl, ((c.over.0, c.over.1, c.over.2 ∙ sym c.stays.number, c.over.3), c.loaded, subst (λ (b : Start). b.last ≤ epoch) (sym c.stays.start) c.not_below.start));

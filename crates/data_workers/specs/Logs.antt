@@ -1,5 +1,5 @@
 -- What stands in the log of a worker, by what its seat knows: v when the worker was made, w now.
-use Rattle.std.specs.Prelude.{◌≡◌, ℕ, ◌^◌, ◌<◌, ◌≤◌, true, false, List, [], ◌∷◌, ⊤}
+use Rattle.std.specs.Prelude.{◌≡◌, ℕ, ◌+◌, ◌^◌, ◌<◌, ◌≤◌, true, false, List, [], ◌∷◌, length, ⊤}
 use Rattle.std.specs.List.{AllByRecursion}
 use Rattle.association_slots.specs.Cards.{Knows}
 use Rattle.association_slots.specs.Views.{In, HasLoaded, present_at, claims}
@@ -87,10 +87,12 @@ abbrev pub InOrder : List Entry → Type 0
 InOrder [] = ⊤
 InOrder (x ∷ log) = AllByRecursion (Precedes x) log × InOrder log
 
--- The log has what the seat did since it knew v, in order, and nothing else
+-- The log has what the seat did since it knew v, in order, and nothing else; the seat loaded the
+-- current word for each entry
 pub record IsLog (v w : SeatView) (s : Sender) (log : List Entry) : Type 0 where
   pub number : w.number ≡ v.number
   pub start : w.start ≡ v.start
+  pub loads : v.loads + length log ≤ w.loads
   pub claims_are : claims w.additions ≡ claims_after v.number log (claims v.additions)
   pub notes_are : w.notes ≡ notes_after log v.notes
   pub entries : AllByRecursion (IsEntry w s) log

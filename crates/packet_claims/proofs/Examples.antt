@@ -59,6 +59,7 @@ claimed = read (added shown 1 (Number 1)) 5
 claims : Did seat claimed (Ok (record { an = An1; epoch = 1; pn = 1; card = card }))
 claims = record {
   lost = [];
+  loads = omega arith;
   stays = record { number = refl; limit = refl; start = refl; lost_nothing = λ a i. absurd i; gone = refl; loaded = λ e i. absurd i; reads = (claimed.reads, refl) };
   additions = refl;
   notes = refl;
@@ -100,6 +101,7 @@ after_loss = read (added (loaded (added shown 2 Gone) (present_at An2 3)) 3 (Num
 claims_later : Did seat after_loss (Ok (record { an = An2; epoch = 3; pn = 1; card = card }))
 claims_later = record {
   lost = lost ∷ [];
+  loads = omega arith;
   stays = record { number = refl; limit = refl; start = refl; lost_nothing = λ a i. ⊎_elim (λ same. (ap (λ (b : Addition). b.claimed) (sym same), let e = ap (λ (b : Addition). b.loaded) same in omega arith, let e = ap (λ (b : Addition). b.loaded) same in let f = ap (λ (b : Addition). b.met) same in omega arith)) (λ b. absurd b) i; gone = refl; loaded = λ e i. absurd i; reads = (after_loss.reads, refl) };
   additions = refl;
   notes = refl;
@@ -120,6 +122,7 @@ claims_later = record {
 no_key : Did seat (loaded seat (absent_after 1)) (Err (NoKey 1))
 no_key = record {
   lost = [];
+  loads = omega arith;
   stays = record { number = refl; limit = refl; start = refl; lost_nothing = λ a i. absurd i; gone = refl; loaded = λ e i. absurd i; reads = ([], refl) };
   additions = refl;
   notes = refl;
@@ -133,6 +136,7 @@ no_key = record {
 exhausted : Did seat (added shown 1 Over) (Err (Exhausted 1))
 exhausted = record {
   lost = [];
+  loads = omega arith;
   stays = record { number = refl; limit = refl; start = refl; lost_nothing = λ a i. absurd i; gone = refl; loaded = λ e i. absurd i; reads = ([], refl) };
   additions = inr refl;
   notes = refl;

@@ -45,6 +45,7 @@ pub begins : (v : SeatView) → Tries v v 0
 begins v = record {
   lost = [];
   stays = record { number = refl; limit = refl; start = refl; lost_nothing = λ a i. absurd i; gone = refl; loaded = λ q i. i; reads = ([], refl) };
+  loads = omega arith;
   additions = refl;
   notes = refl;
   over = refl;
@@ -84,6 +85,9 @@ module _ (v0 v : SeatView) (tried : ℕ) (t : Tries v0 v tried) (p : Current) (s
     reads = t.stays.reads;
   }
 
+  more_loads : v0.loads < (loaded v p).loads
+  more_loads = let s = t.loads in omega (arith, s)
+
   no_note : p.present ≡ true → (loaded v p).notes ≡ v0.notes
   no_note is = cons_false (not p.present) p.epoch v.notes (ap not is) ∙ t.notes
 
@@ -91,6 +95,7 @@ module _ (v0 v : SeatView) (tried : ℕ) (t : Tries v0 v tried) (p : Current) (s
   no_key is = record {
     lost = t.lost;
     stays = stays_loaded;
+    loads = more_loads;
     additions = t.additions;
     notes = cons_true (not p.present) p.epoch v.notes (ap not is) ∙ ap (λ (ns : List ℕ). p.epoch ∷ ns) t.notes;
     over = t.over;
@@ -103,6 +108,7 @@ module _ (v0 v : SeatView) (tried : ℕ) (t : Tries v0 v tried) (p : Current) (s
   was_over is low = let s = sees.small.1 is in let g = greatest_in v.over (omega arith) in let l = sees.later_over g.0 g.1 in record {
     lost = t.lost;
     stays = stays_loaded;
+    loads = more_loads;
     additions = inl t.additions;
     notes = no_note is;
     over = (g.0, g.1, l.0 ∙ t.stays.number, (let e = g.2 in let h = l.1 is in omega arith));
@@ -117,6 +123,7 @@ module _ (v0 v : SeatView) (tried : ℕ) (t : Tries v0 v tried) (p : Current) (s
   pub fills : p.present ≡ true → (w : SeatView) → IsAdded (loaded v p) Over w → IsExhausted v0 w p.epoch
   fills is w a = subst (λ (z : SeatView). IsExhausted v0 z p.epoch) (sym a.1) (record {
     lost = t.lost;
+    loads = more_loads;
     stays = record { number = stays_loaded.number; limit = stays_loaded.limit; start = stays_loaded.start; lost_nothing = stays_loaded.lost_nothing; gone = stays_loaded.gone; loaded = stays_loaded.loaded; reads = stays_loaded.reads };
     additions = inr ((λ i. the_addition (t.stays.number i) (a.2.0 i)) ∙ ap (λ (xs : List Addition). the_lost ∷ xs) t.additions);
     notes = no_note is;
@@ -145,6 +152,7 @@ module _ (v0 v : SeatView) (tried : ℕ) (t : Tries v0 v tried) (p : Current) (s
   pub goes_on : p.present ≡ true → (w : SeatView) → IsAdded (loaded v p) Gone w → Tries v0 w p.epoch
   goes_on is w a = subst (λ (z : SeatView). Tries v0 z p.epoch) (sym a.1) (record {
     lost = addition (loaded v p) (epoch_of a.0) false 0 ∷ t.lost;
+    loads = (let s = more_loads in omega (arith, s));
     stays = record {
       number = t.stays.number;
       limit = t.stays.limit;
@@ -163,6 +171,7 @@ module _ (v0 v : SeatView) (tried : ℕ) (t : Tries v0 v tried) (p : Current) (s
   pub wins : p.present ≡ true → (u w : SeatView) (n : ℕ) (card : Card) → IsAdded (loaded v p) (Number n) u → ReadsMore u w → Knows w.reads p.epoch card → IsClaim v0 w p.an p.epoch n card
   wins is u w n card a more knows = subst (λ (z : SeatView). Knows z.reads p.epoch card → IsClaim v0 z p.an p.epoch n card) (sym (more.1 ∙ ap (λ (y : SeatView). let z : SeatView = record y { reads = more.0 ++ y.reads } in z) a.1)) (λ k. record {
     lost = t.lost;
+    loads = more_loads;
     stays = record {
       number = t.stays.number;
       limit = t.stays.limit;

@@ -42,12 +42,13 @@ pub record Above (v : SeatView) (epoch : ℕ) : Type 0 where
   pub notes : (e : ℕ) → In e v.notes → e < epoch
   pub start : v.start.present ≡ false → v.start.last < epoch
 
--- exactly one claim more and no note: a packet number of what the last load showed, above all that
+-- the current word was loaded; exactly one claim more and no note: a packet number of what the last load showed, above all that
 -- the seat claimed of its epoch, with the card of the epoch by the words that the seat read
 pub record IsClaim (v w : SeatView) (an : AssociationNumber) (epoch pn : ℕ)
     (card : Card) : Type 0 where
   pub lost : List Addition
   pub stays : Stays v w lost
+  pub loads : v.loads < w.loads
   pub additions : w.additions ≡ record {
     seat = v.number;
     an = an;
@@ -69,10 +70,12 @@ pub record IsClaim (v w : SeatView) (an : AssociationNumber) (epoch pn : ℕ)
   pub given : (f : NextSeen) → In f v.start.given → f.an ≡ an → f.epoch ≡ epoch → f.next ≤ pn
   pub knows : Knows w.reads epoch card
 
--- exactly one note more and no claim: the last load found nothing present after that epoch
+-- the current word was loaded; exactly one note more and no claim: the last load found nothing
+-- present after that epoch
 pub record IsNoKey (v w : SeatView) (after : ℕ) : Type 0 where
   pub lost : List Addition
   pub stays : Stays v w lost
+  pub loads : v.loads < w.loads
   pub additions : w.additions ≡ lost ++ v.additions
   pub notes : w.notes ≡ after ∷ v.notes
   pub over : w.over ≡ v.over
@@ -80,11 +83,12 @@ pub record IsNoKey (v w : SeatView) (after : ℕ) : Type 0 where
   pub not_below : NotBelow v after
   pub latest : (p : Current) → In p w.loaded → p.epoch ≤ after
 
--- no claim and no note: a seat of this number found no packet number left in the epoch that the
+-- the current word was loaded; no claim and no note: a seat of this number found no packet number left in the epoch that the
 -- last load showed as present, before, or now by one addition more; marks stay
 pub record IsExhausted (v w : SeatView) (epoch : ℕ) : Type 0 where
   pub lost : List Addition
   pub stays : Stays v w lost
+  pub loads : v.loads < w.loads
   pub additions : (w.additions ≡ lost ++ v.additions) ⊎ (w.additions ≡ record {
     seat = v.number;
     an = w.shown.an;

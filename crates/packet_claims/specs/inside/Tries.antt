@@ -10,6 +10,7 @@ use Rattle.packet_claims.specs.Claims.{Stays}
 pub record Tries (v w : SeatView) (tried : ℕ) : Type 0 where
   pub lost : List Addition
   pub stays : Stays v w lost
+  pub loads : v.loads ≤ w.loads
   pub additions : w.additions ≡ lost ++ v.additions
   pub notes : w.notes ≡ v.notes
   pub over : w.over ≡ v.over

@@ -1,4 +1,4 @@
-use Rattle.std.proofs.Common.{◌≡◌, sym, ◌∙◌}
+use Rattle.std.proofs.Common.{sym, ◌∙◌}
 use lib.Pointwise.{bytes_decides}
 use Rattle.data_workers.proofs.prepared.prepared_for.Goals as goal
 
