@@ -71,6 +71,23 @@ fn takes_turns_at_the_last_numbers(rt: HostRuntime) -> Result<(), Fail> {
 }
 
 #[test]
+fn claims_at_each_handle_of_a_table(rt: HostRuntime) -> Result<(), Fail> {
+    let (table, control) = opened(rt.alloc(), 1, 1, &CARD)?;
+    let other = table.handle()?;
+    let mut desk = Desk {
+        table: &table,
+        control,
+    };
+    let mut hands = [desk.sit_at(&other), desk.sit()];
+    for turn in 0..4usize {
+        let hand = hands[turn % 2].as_mut().ok_or("a seat")?;
+        let answer = hand.claim(&OpenGate);
+        assert_eq!(rt; answer.map(|claim| claim.pn), Ok(turn as u32 + 1));
+    }
+    Ok(())
+}
+
+#[test]
 fn gives_out_eight_seats(rt: HostRuntime) -> Result<(), Fail> {
     let (table, control) = opened(rt.alloc(), 1, 1, &CARD)?;
     let mut desk = Desk {

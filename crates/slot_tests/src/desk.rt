@@ -39,12 +39,19 @@ impl<'a> Desk<'a> {
 
     /// A further seat at the table, where there is room.
     pub fn sit(&mut self) -> Option<Hand<'a>> {
+        self.sit_at(self.table)
+    }
+
+    /// The same, at another handle of the table.
+    pub fn sit_at(&mut self, table: &'a SlotTable) -> Option<Hand<'a>>
+        requires { table.now ≡ self.old.table.now }
+    {
         if !self.control.has_room() {
             return None;
         }
         Some(Hand {
-            table: self.table,
-            seat: self.control.seat(self.table),
+            table,
+            seat: self.control.seat(table),
             numbers: [0; 500],
         })
     }

@@ -3,14 +3,12 @@
 ghost use Rattle.std.specs.Prelude.{◌≡◌};
 
 use crate::desk::{hired, opened};
+use crate::meeting::Meeting;
 use association_slots::SlotTable;
 use data_workers::{Entry, Worker, crew};
-use packet_claims::{Gate, NoClaim, OpenGate, Point};
+use packet_claims::{Gate, NoClaim, OpenGate};
 use std::alloc::{AllocError, Global};
-use std::sync::atomic::AtomicUsize;
-use std::sync::atomic::Ordering::SeqCst;
 use std::test::Fail;
-use std::thread;
 use std::thread::Threads;
 
 /// What came of a job, but for the octets of its frame.
@@ -90,30 +88,6 @@ fn a_crew_works_at_its_stations(rt: HostRuntime) -> Result<(), Fail> {
     Ok(())
 }
 
-/// A gate that holds whoever has loaded until two have, for a bounded time, and counts those for
-/// whom that was too short.
-#[derive(Drop)]
-struct Meeting {
-    come: AtomicUsize,
-    late: AtomicUsize,
-}
-
-impl Gate for Meeting {
-    fn at(&self, point: Point) {
-        if !matches!(point, Point::Loaded { .. }) {
-            return;
-        }
-        self.come.fetch_add(1, SeqCst);
-        for _ in 0..10_000_000u32 {
-            if self.come.load(SeqCst) >= 2 {
-                return;
-            }
-            thread::yield_now();
-        }
-        self.late.fetch_add(1, SeqCst);
-    }
-}
-
 /// Lets two workers do their jobs at one table, with a gate.
 fn at_one_station<R: Threads + Sync, G: Gate + Sync>(
     rt: &R,
@@ -139,12 +113,9 @@ fn two_of_a_crew_work_at_once(rt: HostRuntime) -> Result<(), Fail> {
     let (here, mut control) = opened(rt.alloc())?;
     let first = hired(rt.alloc(), 0, &here, &mut control, 3)?;
     let second = hired(rt.alloc(), 0, &here, &mut control, 3)?;
-    let gate = Meeting {
-        come: AtomicUsize::new(0),
-        late: AtomicUsize::new(0),
-    };
+    let gate = Meeting::of(2);
     at_one_station(&rt, rt.alloc(), here, first, second, &gate)?;
-    assert_eq!(rt; gate.late.load(SeqCst), 0);
-    assert_eq!(rt; gate.come.load(SeqCst), 6);
+    assert_eq!(rt; gate.late(), 0);
+    assert_eq!(rt; gate.come(), 6);
     Ok(())
 }

@@ -94,6 +94,7 @@ pub fn hired(
 ) -> Result<Worker, Fail>
     requires { control.old.table ≡ table.now }
     ensures same { control.new.table ≡ control.old.table }
+    ensures slots { control.new.view.slots ≡ control.old.view.slots }
     ensures worker { IfOk result (λ w. (w.sender.station ≡ station) × (w.seat.table ≡ table.now)) }
 {
     let sender = sender(alloc, station)?;

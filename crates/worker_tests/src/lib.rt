@@ -8,4 +8,8 @@ mod desk;
 #[cfg(test)]
 mod frames;
 #[cfg(test)]
+mod meeting;
+#[cfg(test)]
 mod replacing;
+#[cfg(test)]
+mod watching;
