@@ -6,3 +6,4 @@ pub mod Catching
 pub mod Showing
 pub mod Stations
 pub mod Onward
+pub mod Thrifty
