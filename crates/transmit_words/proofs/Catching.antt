@@ -1,5 +1,5 @@
 -- The words have caught up with the account: how far they are ahead, and call by call.
-use Rattle.std.proofs.Common.{◌≡◌, ◌⊎◌, ℕ, ◌+◌, ◌-◌, ◌<◌, ◌≤◌, ◌==◌, Bool, true, false, not, ◌&&◌, max}
+use Rattle.std.proofs.Common.{◌≡◌, ◌⊎◌, ℕ, ◌+◌, ◌-◌, ◌^◌, ◌<◌, ◌≤◌, ◌==◌, Bool, true, false, not, ◌&&◌, max}
 use Rattle.std.proofs.Common.{List, [], ◌∷◌, ◌++◌, map, length, filter, Result, Ok, Err, refl, sym, ap, ◌∙◌, subst}
 use Rattle.std.proofs.Common.{inl, inr, ⊎_elim, arith, get_or}
 use Rattle.std.proofs.lemmas.Bool.{eqb-true, eq-eqb, lt-ltb}
@@ -13,6 +13,7 @@ use Rattle.association_slots.specs.Steps.{looked as looked_at, seated, new_seat,
 use Rattle.association_slots.specs.Learned.{Learned}
 use Rattle.association_slots.specs.declared.view.Addition.{Addition}
 use Rattle.association_slots.specs.declared.view.Current.{Current}
+use Rattle.association_slots.specs.declared.view.Mark.{Mark}
 use Rattle.association_slots.specs.declared.view.NextSeen.{NextSeen}
 use Rattle.association_slots.specs.declared.view.ControlView.{ControlView}
 use Rattle.association_slots.specs.declared.view.SeatView.{SeatView}
@@ -38,30 +39,32 @@ both-true false b e = absurd (cc e)
 
 -- ---- what control knows of an epoch that was raised, with no seat out
 
--- its claims and what control saw are no more than the sum of what was told
+-- its claims and what control saw are no more than the sum of what was told, which is above all
+-- packet numbers where a seat marked the epoch as over
 record IsSummed (c : ControlView) (an : AssociationNumber) (e : ℕ) : Type 0 where
   pub claims : (a : Addition) → In a c.told → a.claimed ≡ true → a.an ≡ an → a.met ≡ e → a.pn < told_sum c an e
   pub loads : (f : NextSeen) → In f c.loads → f.an ≡ an → f.epoch ≡ e → f.next ≤ told_sum c an e
+  pub over : (m : Mark) → In m c.told_over → m.an ≡ an → m.epoch ≡ e → 2 ^ 32 < told_sum c an e
 
 summed : (c : ControlView) (an : AssociationNumber) (e : ℕ) → Learned c → AllIn c → In (an, e) c.raises → IsSummed c an e
 summed c an e known all_in raised = ⊎_elim
     (λ (here : (slot c an).epoch ≡ e). by_test (slot c an).shut
-    (λ shut. shut-sum (subst (WasShut c an) here (s.slot_shut an (let z = (s.raised_once (an, e) raised).0 in omega (arith, here)) shut)))
+    (λ shut. shut-sum (subst (WasShut c an) here (known.settled.slot_shut an (let z = (known.settled.raised_once (an, e) raised).0 in omega (arith, here)) shut)))
     (λ opened. let o = known.open_next an e (opened, here) in let sum = o.1.is_sum all_in in record {
-      claims = λ a i yes an_is met_is. let z = o.1.above_claims a i yes an_is met_is in omega (arith, sum);
+      claims = λ a i got an_is met_is. let z = o.1.above_claims a i got an_is met_is in omega (arith, sum);
       loads = λ f i an_is epoch_is. let z = o.1.above_loads f i an_is epoch_is in omega (arith, sum);
+      over = λ m i an_is epoch_is. let z = o.1.above_over m i an_is epoch_is in omega (arith, sum);
     }))
     shut-sum
-    (s.raised_once (an, e) raised).2
+    (known.settled.raised_once (an, e) raised).2
   where
-    s = known.settled
-
     shut-sum : WasShut c an e → IsSummed c an e
     shut-sum was =
         let w = known.shut_next was.0 was.1 in
         let low : was.0.next ≤ told_sum c an e = subst (λ (i : AssociationNumber). was.0.next ≤ told_sum c i e) was.2 (subst (λ (n : ℕ). was.0.next ≤ told_sum c was.0.an n) was.3 (w.low all_in).0) in record {
-          claims = λ a i yes an_is met_is. let z = w.above_claims a i yes (an_is ∙ sym was.2) (met_is ∙ sym was.3) in omega (arith, low);
+          claims = λ a i got an_is met_is. let z = w.above_claims a i got (an_is ∙ sym was.2) (met_is ∙ sym was.3) in omega (arith, low);
           loads = λ f i an_is epoch_is. let z = w.above_loads f i (an_is ∙ sym was.2) (epoch_is ∙ sym was.3) in omega (arith, low);
+          over = λ m i an_is epoch_is. let z = w.above_over m i (an_is ∙ sym was.2) (epoch_is ∙ sym was.3) in omega (arith, low);
         }
 
 module _ (l : Account) (c : ControlView) (t : CatchUp l c) where
@@ -126,6 +129,12 @@ module _ (l : Account) (c : ControlView) (t : CatchUp l c) where
       let low = in-claims an e in
       let high = times-in-range e l.claims 1 (l.nexts e - 1) in omega arith
 
+  -- an epoch that was marked as over has no number left
+  pub marked-over : (m : Mark) → In m c.told_over → 2 ^ 32 < told_sum c m.an m.epoch
+  marked-over m i =
+      let raised = (known.settled.points_low (present_at m.an m.epoch) (known.over m i)).1 refl in
+      (summed c m.an m.epoch known t.all_in raised).over m i refl refl
+
   -- an epoch of which a next number is above the first one was raised
   reached : (e : ℕ) → (l.nexts e ≡ 1) ⊎ ((an : AssociationNumber) × In (an, e) c.raises)
   reached e = ⊎_elim
@@ -188,10 +197,10 @@ caught-beside l m c t all_in beside counts = record {
 
     -- a claim is of an epoch that was pointed at
     none-later : (e : ℕ) (a : Addition) → (current c).epoch < e → In a c.told → a.claimed ≡ true → a.met ≡ e → ⊥
-    none-later e a lt i yes same =
+    none-later e a lt i got same =
         let it = t.learned.additions a i in
         let low = (t.learned.settled.points_low (present_at a.an a.loaded) it.pointed).0 in
-        let met_is = (it.claim yes).0 in absurd (omega (arith, low, met_is, same, lt))
+        let met_is = (it.claim got).0 in absurd (omega (arith, low, met_is, same, lt))
 
 -- ---- control's moves
 
@@ -234,13 +243,13 @@ module _ (c : ControlView) (v : SeatView) where
       (λ same. let none = none-lost e pn did.lost did.stays in ap (count (claimed e pn)) same ∙ (omega (arith, none)))
       did.additions
 
+  abbrev d : ControlView
+  d = told (seated c) v
+
   pub caught-claimed : (l : Account) → CatchUp l c → (r : Result Claim NoClaim) → AllIn (told (seated c) v) → Did (new_seat c) v r
       → HasGained l c r (λ m. KeepUp m (told (seated c) v)) → HasGained l c r (λ m. CatchUp m (told (seated c) v))
   caught-claimed l t r all_back did gained = by r did gained
     where
-      abbrev d : ControlView
-      d = told (seated c) v
-
       counts : (q : Result Claim NoClaim) → Did (new_seat c) v q → (e pn : ℕ) → count (claimed e pn) d.told ≡ times_in e pn (claims_by q) + times_in e pn l.claims
       counts q is e pn = let w = weigh-append (λ a. one (claimed e pn a)) v.additions c.told in let z = claims-by q e pn is in let y = t.claims e pn in omega arith
 

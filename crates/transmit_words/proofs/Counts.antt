@@ -177,13 +177,13 @@ claimed-is e pn a is =
     let both = and-parts a.claimed _ is in let rest = and-parts (a.met == e) (a.pn == pn) both.1 in (both.0, eqb-true a.met e rest.0, eqb-true a.pn pn rest.1)
 
 pub is-claimed : (e : ℕ) (a : Addition) → a.claimed ≡ true → a.met ≡ e → claimed e a.pn a ≡ true
-is-claimed e a yes same = let x = eq-eqb a.met e same in let y = eq-eqb a.pn a.pn refl in rw (yes, x, y) refl
+is-claimed e a got same = let x = eq-eqb a.met e same in let y = eq-eqb a.pn a.pn refl in rw (got, x, y) refl
 
 pub above-in : (e : ℕ) (a : Addition) (xs : List Addition) → In a xs → a.claimed ≡ true → a.met ≡ e → a.pn + 1 ≤ above_claims e xs
-above-in e a [] i yes same = absurd i
-above-in e a (x ∷ xs) i yes same = ⊎_elim
-    (λ (q : x ≡ a). let here : cond (x.claimed && (x.met == e)) (x.pn + 1) 0 ≡ a.pn + 1 = ap (λ (y : Addition). cond (y.claimed && (y.met == e)) (y.pn + 1) 0) q ∙ (let z = eq-eqb a.met e same in rw (yes, z) refl) in omega (arith, here))
-    (λ (j : In a xs). let r = above-in e a xs j yes same in omega (arith, r))
+above-in e a [] i got same = absurd i
+above-in e a (x ∷ xs) i got same = ⊎_elim
+    (λ (q : x ≡ a). let here : cond (x.claimed && (x.met == e)) (x.pn + 1) 0 ≡ a.pn + 1 = ap (λ (y : Addition). cond (y.claimed && (y.met == e)) (y.pn + 1) 0) q ∙ (let z = eq-eqb a.met e same in rw (got, z) refl) in omega (arith, here))
+    (λ (j : In a xs). let r = above-in e a xs j got same in omega (arith, r))
     i
 
 -- claims of an epoch among additions

@@ -21,7 +21,7 @@ use Rattle.lan_core.specs.Keys.{held_at}
 use Rattle.group_safety.specs.Transmitting.{Carried, nothing, now, follow, CarriesAt}
 use Rattle.group_safety.specs.Accounts.{Account, blank, account_at, ahead, onward, claiming, gaining}
 use Rattle.lan_core.specs.declared.fact.Fact.{Fact}
-use Rattle.transmit_words.specs.Telling.{CatchUp}
+use Rattle.transmit_words.specs.Telling.{KeepUp, CatchUp}
 use Rattle.transmit_words.specs.Ties.{IsTiedBy, AreTiedBy, AreAheadBy, FollowsBy, Follows, Followed}
 use Rattle.transmit_words.specs.Ties.{HaveKeptUp, HaveCaughtUp, HaveClaimsBeside, AreToldAll}
 use Rattle.transmit_words.specs.Seats.{AreAllIn}
@@ -118,3 +118,11 @@ tied-beside settings q r cs up all_in beside told_all = record {
   each = λ s c there. let a = up.each s c there in let b = beside.each s a.0 a.1 in
       (a.0, b.0, caught-beside (account_at settings s q a.0) (account_at settings s r a.0) c.view a.2 (all_in s c there) b.1 (told_all s c there));
 }
+
+-- words that have caught up keep up, and no seat is out
+pub caught-kept : (settings : Settings) (r : Run) (cs : List ControlAt) → HaveCaughtUp settings r cs → HaveKeptUp settings r cs × AreAllIn cs × AreToldAll r cs
+caught-kept settings r cs caught = (
+  tied-also CatchUp KeepUp settings r cs (λ a c t. t.keep_up) caught,
+  λ s c there. (caught.each s c there).2.all_in,
+  λ s c there. (caught.each s c there).2.claims,
+)

@@ -199,6 +199,18 @@ module _ (c : ControlView) (p : Current) (cards : ℕ) (k : IsKept c p cards) (l
         next_one : (with_claim x.epoch x.pn l).nexts (current c).epoch ≡ x.pn + 1
         next_one = ap (λ (b : Bool). cond b (x.pn + 1) (l.nexts (current c).epoch)) (eq-eqb (current c).epoch x.epoch (sym n.1))
 
+        seen-one : (e : ℕ) → ((e == x.epoch) ≡ true) ⊎ ((e == x.epoch) ≡ false)
+            → cond (e == x.epoch) (x.pn + 1) (l.nexts e)
+            ≡ max 1 (max (max (cond (x.epoch == e) (x.pn + 1) 0) (past_claims e l.claims)) (greatest_seen e c.loads))
+        seen-one e (inl y) =
+            let e_is : e ≡ x.epoch = eqb-true e x.epoch y in
+            let same : (x.epoch == e) ≡ true = eq-eqb x.epoch e (sym e_is) in
+            let here : x.pn ≡ l.nexts e = n.2 ∙ (told_is ∙ ap l.nexts (sym n.1 ∙ sym e_is)) in
+            let z = u.seen e in rw (y, same) (omega arith)
+        seen-one e (inr n_y) =
+            let other : (x.epoch == e) ≡ false = ne_eqb x.epoch e (λ same. absurd (cc (sym n_y ∙ eq-eqb e x.epoch (sym same)))) in
+            let z = u.seen e in rw (n_y, other) (omega arith)
+
         claim-up : KeepUp (with_claim x.epoch x.pn l) d
         claim-up = record {
           learned = known;
@@ -212,18 +224,6 @@ module _ (c : ControlView) (p : Current) (cards : ℕ) (k : IsKept c p cards) (l
           shows = u.shows;
           seen = λ e. seen-one e (by_test (e == x.epoch) (λ y. inl y) (λ y. inr y));
         }
-
-        seen-one : (e : ℕ) → ((e == x.epoch) ≡ true) ⊎ ((e == x.epoch) ≡ false)
-            → cond (e == x.epoch) (x.pn + 1) (l.nexts e)
-            ≡ max 1 (max (max (cond (x.epoch == e) (x.pn + 1) 0) (past_claims e l.claims)) (greatest_seen e c.loads))
-        seen-one e (inl y) =
-            let e_is : e ≡ x.epoch = eqb-true e x.epoch y in
-            let same : (x.epoch == e) ≡ true = eq-eqb x.epoch e (sym e_is) in
-            let here : x.pn ≡ l.nexts e = n.2 ∙ (told_is ∙ ap l.nexts (sym n.1 ∙ sym e_is)) in
-            let z = u.seen e in rw (y, same) (omega arith)
-        seen-one e (inr n_y) =
-            let other : (x.epoch == e) ≡ false = ne_eqb x.epoch e (λ same. absurd (cc (sym n_y ∙ eq-eqb e x.epoch (sym same)))) in
-            let z = u.seen e in rw (n_y, other) (omega arith)
 
     tells-none : (current c).present ≡ false → (after : ℕ) → IsNoKey (new_seat c) v after → Tells l d
     tells-none absent after n = record {

@@ -5,8 +5,9 @@ use Rattle.std.specs.Prelude.{slice_get}
 use Rattle.std.specs.List.{range_with_len}
 use Rattle.lan_base.specs.declared.association_number.AssociationNumber.{AssociationNumber}
 use Rattle.association_slots.specs.Learned.{Learned}
-use Rattle.association_slots.specs.Views.{ControlAt, count, current, lost, told_sum}
+use Rattle.association_slots.specs.Views.{In, ControlAt, count, current, lost, told_sum}
 use Rattle.association_slots.specs.declared.view.ControlView.{ControlView}
+use Rattle.association_slots.specs.declared.view.Mark.{Mark}
 use Rattle.lan_core.specs.declared.settings.Settings.{Settings}
 use Rattle.lan_core.specs.Run.{Run, stations}
 use Rattle.lan_core.specs.Ledgers.{claims}
@@ -19,7 +20,7 @@ use Rattle.transmit_words.specs.Telling.{CatchUp}
 use Rattle.transmit_words.specs.Ties.{HaveCaughtUp}
 use Rattle.transmit_words.specs.Seats.{AreSpent}
 use Rattle.transmit_words.proofs.Counts.{unclaimed-none, under-few}
-use Rattle.transmit_words.proofs.Catching.{left-over, few-unused}
+use Rattle.transmit_words.proofs.Catching.{left-over, few-unused, marked-over}
 
 there-or-past : (cs : List ControlAt) (s : ℕ) → (length cs ≤ s) ⊎ ((c : ControlAt) × (slice_get cs s ≡ Some c))
 there-or-past [] s = inl (omega arith)
@@ -55,3 +56,7 @@ module _ (settings : Settings) (r : Run) (cs : List ControlAt) (caught : HaveCau
 -- few claims of an epoch leave it a packet number
 pub words-left : (a : Account) (c : ControlView) → CatchUp a c → (an : AssociationNumber) (e : ℕ) → count (lost an e) c.told ≤ 16 → times_under e a.claims + 17 ≤ last_number → told_sum c an e ≤ last_number
 words-left a c t an e few low = let sum = left-over a c t an e few in omega (arith, low)
+
+-- so no seat found it over
+pub none-over : (a : Account) (c : ControlView) → CatchUp a c → (m : Mark) → count (lost m.an m.epoch) c.told ≤ 16 → times_under m.epoch a.claims + 17 ≤ last_number → In m c.told_over → ⊥
+none-over a c t m few low i = let sum = words-left a c t m.an m.epoch few low in let over = marked-over a c t m i in absurd (omega (arith, sum, over))
