@@ -263,7 +263,14 @@ module _ (c : ControlView) (v : SeatView) where
           let more = lt-ltb 0 n (omega arith) in rw (present, more) (ap (λ (e : ℕ). (e, n) ∷ l.claims) epoch_is)
 
       by : (q : Result Claim NoClaim) → Did (new_seat c) v q → HasGained l c q (λ m. KeepUp m d) → HasGained l c q (λ m. CatchUp m d)
-      by (Ok x) is g = (g.0, g.1, g.2, g.3, g.4, caught (Ok x) is (gaining x.pn l) g.5
-          (λ e pn. ap (times_in e pn) (gaining-claims x.pn x.epoch x.an g.0 g.2) ∙ omega arith))
+      by (Ok x) is g = (
+        g.0,
+        g.1,
+        g.2,
+        g.3,
+        g.4,
+        caught (Ok x) is (gaining x.pn l) g.5
+            (λ e pn. ap (times_in e pn) (gaining-claims x.pn x.epoch x.an g.0 g.2) ∙ omega arith),
+      )
       by (Err (NoKey after)) is g = (g.0, g.1, caught (Err (NoKey after)) is l g.2 (λ e pn. omega arith))
       by (Err (Exhausted epoch)) is g = (g.0, g.1, caught (Err (Exhausted epoch)) is l g.2 (λ e pn. omega arith))

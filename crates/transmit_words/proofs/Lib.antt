@@ -7,3 +7,5 @@ pub mod Showing
 pub mod Stations
 pub mod Onward
 pub mod Thrifty
+pub mod Beside
+pub mod Examples

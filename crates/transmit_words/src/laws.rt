@@ -10,6 +10,7 @@ ghost use Rattle.association_slots.specs.Views.{In, ControlAt, IsOpen, told_sum}
 ghost use Rattle.association_slots.specs.declared.view.ControlView.{ControlView};
 ghost use Rattle.association_slots.specs.declared.view.Mark.{Mark};
 ghost use Rattle.association_slots.specs.declared.view.View.{View};
+ghost use Rattle.lan_core.specs.declared.event.Event.{Event};
 ghost use Rattle.lan_core.specs.declared.event.Event.TheVariants as events;
 ghost use Rattle.lan_core.specs.declared.settings.Settings.{Settings};
 ghost use Rattle.lan_core.specs.Run.{Run, Happening};
@@ -17,10 +18,11 @@ ghost use Rattle.lan_core.specs.Ledgers.{claims};
 ghost use Rattle.lan_core.specs.Legal.{IsStep, IsStepped, unused};
 ghost use Rattle.lan_core.specs.Expected.{last_number};
 ghost use Rattle.lan_core.specs.Standing.{State, StandsFor};
-ghost use Rattle.group_safety.specs.Accounts.{Account, blank, IsExact};
+ghost use Rattle.group_safety.specs.Transmitting.{Carried};
+ghost use Rattle.group_safety.specs.Accounts.{Account, blank, gaining, onward, claims_of, IsExact};
 ghost use Rattle.transmit_words.specs.Counting.{times_in, times_under};
 ghost use Rattle.transmit_words.specs.Seats.{AreAllIn, AreSpent};
-ghost use Rattle.transmit_words.specs.Telling.{Tells, CatchUp};
+ghost use Rattle.transmit_words.specs.Telling.{KeepUp, Tells, CatchUp, HasClaimsBeside};
 ghost use Rattle.transmit_words.specs.Shown.{Show};
 ghost use Rattle.transmit_words.specs.Ties.{AreTied, AreAhead, HaveKeptUp, KeepAhead};
 ghost use Rattle.transmit_words.specs.Ties.{HaveCaughtUp, CaughtAhead, HaveClaimsBeside};
@@ -110,6 +112,18 @@ pub fn law_all_words_stay_tied()
 pub fn law_caught_up_words_keep_up()
     ensures { (settings : Settings) (r : Run) (cs : List ControlAt) → HaveCaughtUp settings r cs
         → HaveKeptUp settings r cs × AreAllIn cs × AreToldAll r cs }
+{}
+
+/// How claims stand beside an account: none at first; an event that both have goes on with both, and
+/// so do facts; and a claim that one has alone is one more.
+pub fn law_claims_stand_beside()
+    ensures first { (a : Account) (c : ControlView) → KeepUp a c → HasClaimsBeside a a }
+    ensures event { (a b : Account) (s : ℕ) (event : Event) → claims_of event ≡ 0
+        → HasClaimsBeside a b → HasClaimsBeside (onward s event a) (onward s event b) }
+    ensures claim { (a b : Account) (n : ℕ) → HasClaimsBeside a b
+        → HasClaimsBeside a (gaining n b) }
+    ensures facts { (a b : Account) (k : Carried) → HasClaimsBeside a b
+        → HasClaimsBeside (record a { carried = k }) (record b { carried = k }) }
 {}
 
 /// Once all seats came back, words that kept up with a run have caught up with the run that has

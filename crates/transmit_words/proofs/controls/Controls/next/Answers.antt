@@ -55,5 +55,5 @@ returns-then-place-len-clause-catches_up c = λ settings r caught there.
     let had = subst (HaveCaughtUp settings r) (sym c.self.view_is) caught in (
       said-near CatchUp settings r cs c.args.station c.index_mut.result.now c.next.new.self had at_s (next-told settings c.args.station r) c.next.result (λ m t. (c.next.ensures.catches_up m t).0),
       subst (λ (p : ℕ). CaughtAhead settings r (events.Tick c.args.station c.next.result) (set cs p c.next.new.self)) (sym same)
-      (said-shown CatchUp settings r cs c.args.station c.index_mut.result.now c.next.new.self had at_s c.next.result (λ m t. (c.next.ensures.catches_up m t).1)),
+          (said-shown CatchUp settings r cs c.args.station c.index_mut.result.now c.next.new.self had at_s c.next.result (λ m t. (c.next.ensures.catches_up m t).1)),
     )
