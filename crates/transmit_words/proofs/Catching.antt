@@ -1,8 +1,8 @@
 -- The words have caught up with the account: how far they are ahead, and call by call.
-use Rattle.std.proofs.Common.{◌≡◌, ◌⊎◌, ℕ, ◌+◌, ◌-◌, ◌^◌, ◌<◌, ◌≤◌, ◌==◌, Bool, true, false, not, ◌&&◌, max}
+use Rattle.std.proofs.Common.{◌≡◌, ◌⊎◌, ℕ, ◌+◌, ◌-◌, ◌^◌, ◌<◌, ◌≤◌, ◌==◌, Bool, true, false, not, ◌&&◌}
 use Rattle.std.proofs.Common.{List, [], ◌∷◌, ◌++◌, map, length, filter, Result, Ok, Err, refl, sym, ap, ◌∙◌, subst}
 use Rattle.std.proofs.Common.{inl, inr, ⊎_elim, arith, get_or}
-use Rattle.std.proofs.lemmas.Bool.{eqb-true, eq-eqb, lt-ltb}
+use Rattle.std.proofs.lemmas.Bool.{eqb-true, lt-ltb}
 use Rattle.std.specs.List.{range_with_len}
 use Rattle.sak_exchange.proofs.Public.{by_test}
 use Rattle.lan_base.specs.declared.association_number.AssociationNumber.{AssociationNumber}
@@ -22,7 +22,7 @@ use Rattle.packet_claims.specs.Claims.{Did, Stays}
 use Rattle.packet_claims.specs.declared.answers.Claim.{Claim}
 use Rattle.packet_claims.specs.declared.answers.NoClaim.{NoClaim}
 use Rattle.packet_claims.specs.declared.answers.NoClaim.TheVariants.{NoKey, Exhausted}
-use Rattle.group_safety.specs.Transmitting.{Sending, Carried, now, names}
+use Rattle.group_safety.specs.Transmitting.{Carried, now, names}
 use Rattle.group_safety.specs.Accounts.{Account, next_now, showing, gaining}
 use Rattle.transmit_words.specs.Counting.{times_in, times_under, past_claims, greatest_seen}
 use Rattle.transmit_words.specs.Telling.{KeepUp, Tells, CatchUp, HasClaimsBeside, HasGained, OfSeats, of_seats}

@@ -1,9 +1,9 @@
 -- Sums over a range of numbers, and what lists of claims, of additions and of loads count.
-use Rattle.std.proofs.Common.{◌≡◌, ◌⊎◌, ℕ, zero, suc, ◌+◌, ◌-◌, ◌<◌, ◌≤◌, ◌==◌, Bool, true, false, not, ◌&&◌, ◌||◌, cond, max}
+use Rattle.std.proofs.Common.{◌≡◌, ◌⊎◌, ℕ, zero, suc, ◌+◌, ◌-◌, ◌<◌, ◌≤◌, ◌==◌, Bool, true, false, not, ◌&&◌, cond}
 use Rattle.std.proofs.Common.{List, [], ◌∷◌, length, filter, refl, sym, ap, ◌∙◌, subst, inl, inr, ⊎_elim, arith, eq-eqb}
 use Rattle.std.proofs.lemmas.Bool.{ne_eqb, eqb-true}
 use Rattle.std.specs.List.{list_any, range_with_len}
-use Rattle.association_slots.specs.Views.{In, one, weigh, count, met, lost, claimed}
+use Rattle.association_slots.specs.Views.{In, one, weigh, count, met, claimed}
 use Rattle.association_slots.specs.Steps.{above_claims}
 use Rattle.association_slots.specs.declared.view.Addition.{Addition}
 use Rattle.association_slots.specs.declared.view.NextSeen.{NextSeen}

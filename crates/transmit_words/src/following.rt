@@ -1,6 +1,6 @@
 //! The words of a station follow a fact.
 
-ghost use Rattle.std.specs.Prelude.{◌≡◌, ◌∷◌, [], List, Some, IfSome};
+ghost use Rattle.std.specs.Prelude.{◌≡◌, List, Some};
 ghost use Rattle.lan_base.specs.declared.frame.UserFrame.{UserFrame};
 ghost use Rattle.lan_core.specs.declared.settings.Settings.{Settings};
 ghost use Rattle.lan_core.specs.Run.{Run};
