@@ -217,7 +217,7 @@ fn widened(alloc: Global) -> Result<Vec<u8>, AllocError> {
         if tick == 200 || tick == 202 {
             text.extend_from_slice(b"data 5 B missed 0\n")?;
         }
-        let line = format!(in alloc; "tick A {} next 0\n", tick + 1)?;
+        let line = format!(in alloc; "tick A {} next 0\n", tick.saturating_add(1))?;
         text.extend_from_slice(line.as_bytes())?;
     }
     Ok(text)
