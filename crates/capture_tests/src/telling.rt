@@ -26,6 +26,9 @@ const LITTLE: &str = "d4c3b2a1020004000000000000000000ffff000001000000";
 /// A head of times in nanoseconds.
 const NANO: &str = "a1b23c4d0002000400000000000000000000ffff00000001";
 
+/// A head that says that at most two octets are kept of a packet.
+const SHORT: &str = "a1b2c3d40002000400000000000000000000000200000001";
+
 /// The record of a hello, but for its last octet.
 const HELLO: &str = "00000000000186a000000046000000460180c200000302000000000a888e0305003401106020\
 02000000000a0001000000000000000000000001000000010080c201010203046afea33c197d668f2ef5cc6f5a3cba";
@@ -40,7 +43,7 @@ const ONE_BIG: &str = "0000000000000000000000010000000100";
 
 const ONE_LITTLE: &str = "0000000000000000010000000100000000";
 
-const CASES: [Case; 17] = [
+const CASES: [Case; 18] = [
     Case {
         name: "a hello, octet by octet",
         parts: &[BIG, HELLO, "e8"],
@@ -61,6 +64,15 @@ const CASES: [Case; 17] = [
             at: 24,
             why: CaptureFault::Cut,
         }),
+    },
+    Case {
+        name: "a hello behind a head that says that less is kept",
+        parts: &[SHORT, HELLO, "e8"],
+        piece: 4096,
+        read_fails: 0,
+        write_fails: 0,
+        lines: HELLO_LINE,
+        end: Ok(()),
     },
     Case {
         name: "a head alone",

@@ -150,8 +150,8 @@ fn put_label(
 }
 
 /// Appends the mark of a key's end: a line where it retired, a cross where it was dropped, a ring
-/// where it was replaced, a filled square where its station began again, and an arrow where it is
-/// still held.
+/// where it was replaced, a square where its station began again, and an arrow where it is still
+/// held.
 fn put_end(
     into: &mut Vec<u8>,
     ended: Option<End>,
