@@ -169,6 +169,15 @@ module _ (settings : Settings) (users : List UserFrame) (base : ℕ) (ans : ℕ 
       subst (IsLegal settings users) (sym (followed-woven settings base (merged ms (entries_of (logs_of 0 logs))) r))
       (race-legal settings users base ans pointed r ms (logs_of 0 logs) race)
 
+  pub part-thrifty : IsThrifty settings r
+      → ((s e : ℕ) → unused settings s e (followed_by (part_of settings base (merged ms (entries_of (logs_of 0 logs))) r) r) ≤ 16)
+      → IsThrifty settings (followed_by (part_of settings base (merged ms (entries_of (logs_of 0 logs))) r) r)
+  part-thrifty thrifty end =
+      let same = followed-woven settings base (merged ms (entries_of (logs_of 0 logs))) r in
+      subst (IsThrifty settings) (sym same)
+      (race-thrifty settings users base ans pointed r ms (logs_of 0 logs) race thrifty
+      (λ s e. subst (λ q. unused settings s e q ≤ 16) same (end s e)))
+
   pub part-woven : IsWoven base (part_of settings base (merged ms (entries_of (logs_of 0 logs))) r) (map (λ m. m.x) ms) (logs_of 0 logs)
   part-woven = race-woven settings users base ans pointed r ms (logs_of 0 logs) race
 
