@@ -16,7 +16,7 @@ use Rattle.packet_claims.specs.declared.answers.NoClaim.TheVariants.{NoKey, Exha
 use Rattle.group_safety.specs.Transmitting.{Sending, now, names}
 use Rattle.group_safety.specs.Accounts.{Account, next_now, with_claim, gaining}
 use Rattle.lan_core.specs.Expected.{last_number}
-use Rattle.transmit_words.specs.Counting.{times_in}
+use Rattle.transmit_words.specs.Counting.{times_in, past_claims, greatest_seen}
 
 -- what a current word shows of what transmits, and what it shows to transmit
 abbrev pub word_of : Sending → Current
@@ -52,6 +52,8 @@ least_under c p = max (slot c p.an).seen (above_claims p.epoch c.told)
 -- account may not have yet.
 pub record KeepUp (a : Account) (c : ControlView) : Type 0 where
   pub learned : Learned c
+  -- packet numbers go from 1
+  pub first : c.first ≡ 1
   -- the current word was stored for each beginning and each end of what transmitted
   pub points : c.points ≡ map word_of a.carried.points
   -- a slot is open exactly where the current word names it, and then has its epoch; control knows
@@ -66,6 +68,26 @@ pub record KeepUp (a : Account) (c : ControlView) : Type 0 where
   pub cards : cards_given c ≡ a.carried.installs
   -- the numbers that were shown are those that were loaded, in order
   pub shows : map (λ seen. seen.next) c.loads ≡ a.shows
+  -- under each epoch the account's next number is past what it claimed, and not below what control
+  -- saw; nothing else raised it
+  pub seen : (epoch : ℕ)
+      → a.nexts epoch ≡ max 1 (max (past_claims epoch a.claims) (greatest_seen epoch c.loads))
+
+-- The words of a station have caught up with its account, after workers claimed beside: no seat is
+-- out, and the account has the claims that seats told, each as often. The words may be ahead of it,
+-- by additions that got no number.
+pub record CatchUp (a : Account) (c : ControlView) : Type 0 where
+  pub all_in : AllIn c
+  pub keep_up : KeepUp a c
+  pub claims : (epoch pn : ℕ) → count (claimed epoch pn) c.told ≡ times_in epoch pn a.claims
+
+-- An account has claims that another has not, and is past them; what transmits and what was shown
+-- is the same.
+pub record HasClaimsBeside (a b : Account) : Type 0 where
+  pub carried : b.carried ≡ a.carried
+  pub shows : b.shows ≡ a.shows
+  pub claims : (epoch : ℕ) → past_claims epoch a.claims ≤ past_claims epoch b.claims
+  pub nexts : (epoch : ℕ) → b.nexts epoch ≡ max (a.nexts epoch) (past_claims epoch b.claims)
 
 -- The words of a station tell its account. No seat is out.
 pub record Tells (a : Account) (c : ControlView) : Type 0 where

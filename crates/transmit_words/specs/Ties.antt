@@ -4,17 +4,19 @@ use Rattle.atomic_table.specs.Seated.{TableId}
 use Rattle.lan_base.specs.declared.key_id.KeyId.{KeyId}
 use Rattle.lan_base.specs.declared.association_number.AssociationNumber.{AssociationNumber}
 use Rattle.aes_block.specs.declared.secret.Secret.{Secret}
-use Rattle.association_slots.specs.Views.{ControlAt}
+use Rattle.association_slots.specs.Views.{ControlAt, count, claimed}
 use Rattle.lan_core.specs.declared.event.Event.{Event}
 use Rattle.lan_core.specs.declared.fact.Fact.{Fact}
 use Rattle.lan_core.specs.declared.fact.Fact.TheVariants as facts
 use Rattle.lan_core.specs.declared.settings.Settings.{Settings}
 use Rattle.lan_core.specs.Run.{Run, stations, started}
+use Rattle.lan_core.specs.Ledgers.{claims}
 use Rattle.lan_core.specs.Keys.{held_at}
 use Rattle.group_safety.specs.Transmitting.{Carried, follow, CarriesAt}
-use Rattle.group_safety.specs.Accounts.{Account, account_at, ahead, onward}
+use Rattle.group_safety.specs.Accounts.{Account, account_at, numbers_at, ahead, onward}
 use Rattle.association_slots.specs.declared.view.ControlView.{ControlView}
-use Rattle.transmit_words.specs.Telling.{KeepUp, Tells, of_seats}
+use Rattle.transmit_words.specs.Counting.{times_in}
+use Rattle.transmit_words.specs.Telling.{KeepUp, Tells, CatchUp, HasClaimsBeside, of_seats}
 
 -- the tables that hands are of
 abbrev pub tables_of : List ControlAt → List TableId
@@ -61,6 +63,25 @@ HaveKeptUp settings r cs = AreTiedBy KeepUp settings r cs
 
 abbrev pub KeepAhead : Settings → Run → Event → List ControlAt → Type 0
 KeepAhead settings r event cs = AreAheadBy KeepUp onward settings r event cs
+
+-- the words have caught up with a run, after workers claimed beside
+abbrev pub HaveCaughtUp : Settings → Run → List ControlAt → Type 0
+HaveCaughtUp settings r cs = AreTiedBy CatchUp settings r cs
+
+abbrev pub CaughtAhead : Settings → Run → Event → List ControlAt → Type 0
+CaughtAhead settings r event cs = AreAheadBy CatchUp onward settings r event cs
+
+-- At each station a run has claims that another run has not, and is past them; what transmits and
+-- what was shown there is the same.
+pub record HaveClaimsBeside (settings : Settings) (q r : Run) : Type 0 where
+  pub many : length (stations r) ≡ length (stations q)
+  pub each : (s : ℕ) (k : Carried) → CarriesAt settings s q k → CarriesAt settings s r k
+      × HasClaimsBeside (account_at settings s q k) (account_at settings s r k)
+
+-- the claims of a run are those that seats told, each as often
+abbrev pub AreToldAll : Run → List ControlAt → Type 0
+AreToldAll r cs = (s : ℕ) (c : ControlAt) → slice_get cs s ≡ Some c → (epoch pn : ℕ)
+    → count (claimed epoch pn) c.view.told ≡ times_in epoch pn (numbers_at s (claims r))
 
 -- each key that facts install is held after a run
 abbrev pub AreHeld : Settings → Run → List Fact → Type 0

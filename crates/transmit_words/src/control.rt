@@ -1,6 +1,6 @@
 //! The hand that moves the words of one station.
 
-ghost use Rattle.std.specs.Prelude.{◌≡◌, ◌≤◌, ◌<◌, ℕ, Some, IfOk, IfSome, IfNone};
+ghost use Rattle.std.specs.Prelude.{◌≡◌, ◌+◌, ◌≤◌, ◌<◌, ℕ, Some, IfOk, IfSome, IfNone};
 ghost use Rattle.association_slots.specs.Cards.{card_at};
 ghost use Rattle.association_slots.specs.Steps.{new_seat, seated, told};
 ghost use Rattle.association_slots.specs.Views.{AllIn, free_number};
@@ -8,7 +8,7 @@ ghost use Rattle.group_safety.specs.Transmitting.{Carried, installed, begun, end
 ghost use Rattle.group_safety.specs.Accounts.{Account, blank, next_now, looked};
 ghost use Rattle.group_safety.specs.Accounts.{showing};
 ghost use Rattle.lan_core.specs.Expected.{last_number};
-ghost use Rattle.transmit_words.specs.Telling.{KeepUp, Tells, IsClaimed, HasGained, of_seats};
+ghost use Rattle.transmit_words.specs.Telling.{KeepUp, Tells, CatchUp, IsClaimed, HasGained, of_seats};
 ghost use Rattle.transmit_words.specs.Telling.{sending_of};
 
 use association_slots::{Card, Control, Current, SlotTable, WorkerSeat, law_earlier_cards_stay};
@@ -71,6 +71,8 @@ impl TransmitControl {
             → installed a.carried ≡ Some k → Tells (record a { carried = k }) self.new.view }
         ensures keeps_up { (a : Account) (k : Carried) → KeepUp a self.old.view
             → installed a.carried ≡ Some k → KeepUp (record a { carried = k }) self.new.view }
+        ensures catches_up { (a : Account) (k : Carried) → CatchUp a self.old.view
+            → installed a.carried ≡ Some k → CatchUp (record a { carried = k }) self.new.view }
         ensures seats { of_seats self.new.view ≡ of_seats self.old.view }
         ensures card { (a : Account) (k : Carried) → KeepUp a self.old.view
             → installed a.carried ≡ Some k → card_at self.new.view k.installs ≡ card.now }
@@ -99,6 +101,8 @@ impl TransmitControl {
             → begun an epoch a.carried ≡ Some k → Tells (record a { carried = k }) self.new.view }
         ensures keeps_up { (a : Account) (k : Carried) → KeepUp a self.old.view
             → begun an epoch a.carried ≡ Some k → KeepUp (record a { carried = k }) self.new.view }
+        ensures catches_up { (a : Account) (k : Carried) → CatchUp a self.old.view
+            → begun an epoch a.carried ≡ Some k → CatchUp (record a { carried = k }) self.new.view }
         ensures seats { of_seats self.new.view ≡ of_seats self.old.view }
         ensures cards { self.new.view.card_words ≡ self.old.view.card_words }
     {
@@ -127,6 +131,8 @@ impl TransmitControl {
             → Tells (record a { carried = ended an a.carried }) self.new.view }
         ensures keeps_up { (a : Account) → KeepUp a self.old.view
             → KeepUp (record a { carried = ended an a.carried }) self.new.view }
+        ensures catches_up { (a : Account) → CatchUp a self.old.view
+            → CatchUp (record a { carried = ended an a.carried }) self.new.view }
         ensures seats { of_seats self.new.view ≡ of_seats self.old.view }
         ensures cards { self.new.view.card_words ≡ self.old.view.card_words }
     {
@@ -144,7 +150,8 @@ impl TransmitControl {
     }
 
     /// The next packet number under the key that transmits, by one load, and 0 where none does.
-    /// While seats are out it may be ahead of what control was told.
+    /// While seats are out it may be ahead of what control was told, and afterwards by a few numbers
+    /// that were lost.
     pub fn next(&mut self, table: &SlotTable) -> u64
         requires here { self.old.table ≡ table.now }
         ensures same { self.new.table ≡ self.old.table }
@@ -154,6 +161,8 @@ impl TransmitControl {
             → (next_now a ≤ result) × (next_now a ≡ 0 → result ≡ 0) }
         ensures keeps_up { (a : Account) → KeepUp a self.old.view
             → KeepUp (showing result a) self.new.view }
+        ensures catches_up { (a : Account) → CatchUp a self.old.view
+            → (result ≤ next_now a + 16) × CatchUp (showing result a) self.new.view }
         ensures seats { of_seats self.new.view ≡ of_seats self.old.view }
         ensures cards { self.new.view.card_words ≡ self.old.view.card_words }
     {
@@ -171,6 +180,8 @@ impl TransmitControl {
             → IsClaimed a self.old.view result (λ b. Tells b self.new.view) }
         ensures gained { (a : Account) → KeepUp a self.old.view → AllIn self.old.view
             → HasGained a self.old.view result (λ b. KeepUp b self.new.view) }
+        ensures catches_up { (a : Account) → CatchUp a self.old.view
+            → HasGained a self.old.view result (λ b. CatchUp b self.new.view) }
         ensures all_in { AllIn self.old.view → AllIn self.new.view }
         ensures keeps_up { (a : Account) → KeepUp a self.old.view → KeepUp a self.new.view }
         ensures cards { self.new.view.card_words ≡ self.old.view.card_words }

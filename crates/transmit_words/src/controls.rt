@@ -1,6 +1,6 @@
 //! The hands that move the words of all stations.
 
-ghost use Rattle.std.specs.Prelude.{◌≡◌, ◌≤◌, ◌<◌, ◌∷◌, ◌++◌, ℕ, List, [], length, map, OnOk, OnErr};
+ghost use Rattle.std.specs.Prelude.{◌≡◌, ◌+◌, ◌≤◌, ◌<◌, ◌∷◌, ◌++◌, ℕ, List, [], length, map, OnOk, OnErr};
 ghost use Rattle.std.specs.Prelude.{IfSome, IfNone, Some, slice_get};
 ghost use Rattle.lan_base.specs.declared.frame.UserFrame.{UserFrame};
 ghost use Rattle.association_slots.specs.Views.{ControlAt};
@@ -14,7 +14,7 @@ ghost use Rattle.lan_core.specs.Standing.{StandsFor};
 ghost use Rattle.group_safety.specs.Accounts.{blank};
 ghost use Rattle.transmit_words.specs.Telling.{Tells};
 ghost use Rattle.transmit_words.specs.Ties.{tables_of, AreTied, AreAhead, HaveKeptUp};
-ghost use Rattle.transmit_words.specs.Ties.{KeepAhead, Followed};
+ghost use Rattle.transmit_words.specs.Ties.{KeepAhead, HaveCaughtUp, CaughtAhead, Followed};
 ghost use Rattle.transmit_words.specs.Seats.{WasSeated, HasJoined, AreAllIn, HasGot};
 
 use crate::control::TransmitControl;
@@ -92,6 +92,11 @@ impl Controls {
         ensures keeps_up { (settings : Settings) (r : Run) → HaveKeptUp settings r self.old
             → station < length (stations r)
             → KeepAhead settings r (events.Tick station result) self.new }
+        // after workers claimed beside, the words may be ahead of the run by a few numbers
+        ensures catches_up { (settings : Settings) (r : Run) → HaveCaughtUp settings r self.old
+            → station < length (stations r)
+            → (result ≤ next_under settings station r (transmitting_at settings station r) + 16)
+            × CaughtAhead settings r (events.Tick station result) self.new }
     {
         let place = usize::from(station);
         if place < self.controls.len() {
@@ -118,6 +123,10 @@ impl Controls {
             → AreAllIn self.old → station < length (stations r)
             → HasGot settings station r self.old result
             × KeepAhead settings r (events.Claim station user result) self.new }
+        ensures catches_up { (settings : Settings) (r : Run) (user : ℕ)
+            → HaveCaughtUp settings r self.old → station < length (stations r)
+            → HasGot settings station r self.old result
+            × CaughtAhead settings r (events.Claim station user result) self.new }
         ensures all_in { AreAllIn self.old → AreAllIn self.new }
     {
         let place = usize::from(station);

@@ -7,7 +7,7 @@ ghost use Rattle.lan_core.specs.Run.{Run};
 ghost use Rattle.lan_core.specs.Standing.{StandsFor};
 ghost use Rattle.group_safety.specs.Transmitting.{Carried, moved};
 ghost use Rattle.group_safety.specs.Accounts.{Account};
-ghost use Rattle.transmit_words.specs.Telling.{KeepUp, Tells, of_seats};
+ghost use Rattle.transmit_words.specs.Telling.{KeepUp, Tells, CatchUp, of_seats};
 ghost use Rattle.transmit_words.specs.inside.Cards.{HasCard, card_held};
 
 use crate::control::TransmitControl;
@@ -31,6 +31,9 @@ pub(crate) fn moved<G: Gate>(
     ensures keeps_up { (a : Account) (k : Carried) → KeepUp a control.old.view
         → moved fact.now a.carried ≡ Some k → HasCard fact.now card
         → KeepUp (record a { carried = k }) control.new.view }
+    ensures catches_up { (a : Account) (k : Carried) → CatchUp a control.old.view
+        → moved fact.now a.carried ≡ Some k → HasCard fact.now card
+        → CatchUp (record a { carried = k }) control.new.view }
     ensures seats { of_seats control.new.view ≡ of_seats control.old.view }
 {
     match fact {

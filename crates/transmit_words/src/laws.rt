@@ -1,26 +1,31 @@
 //! What the words tell of a run.
 
-ghost use Rattle.std.specs.Prelude.{◌≡◌, ◌≤◌, ◌∷◌, ◌++◌, [], ℕ, List};
+ghost use Rattle.std.specs.Prelude.{◌≡◌, ◌+◌, ◌≤◌, ◌∷◌, ◌++◌, [], ℕ, List, length};
 ghost use Rattle.lan_base.specs.declared.address.Sci.{Sci};
+ghost use Rattle.lan_base.specs.declared.association_number.AssociationNumber.{AssociationNumber};
 ghost use Rattle.lan_base.specs.declared.frame.UserFrame.{UserFrame};
 ghost use Rattle.lan_base.specs.declared.name.Name.{Name};
 ghost use Rattle.association_slots.specs.Rule.{Around};
-ghost use Rattle.association_slots.specs.Views.{ControlAt};
+ghost use Rattle.association_slots.specs.Views.{ControlAt, IsOpen, told_sum};
 ghost use Rattle.association_slots.specs.declared.view.ControlView.{ControlView};
 ghost use Rattle.association_slots.specs.declared.view.View.{View};
 ghost use Rattle.lan_core.specs.declared.event.Event.TheVariants as events;
 ghost use Rattle.lan_core.specs.declared.settings.Settings.{Settings};
 ghost use Rattle.lan_core.specs.Run.{Run, Happening};
-ghost use Rattle.lan_core.specs.Legal.{IsStep, IsStepped};
+ghost use Rattle.lan_core.specs.Ledgers.{claims};
+ghost use Rattle.lan_core.specs.Legal.{IsStep, IsStepped, unused};
+ghost use Rattle.lan_core.specs.Expected.{last_number};
 ghost use Rattle.lan_core.specs.Standing.{State, StandsFor};
 ghost use Rattle.group_safety.specs.Accounts.{Account, blank, IsExact};
-ghost use Rattle.transmit_words.specs.Counting.{times_in};
-ghost use Rattle.transmit_words.specs.Telling.{Tells};
+ghost use Rattle.transmit_words.specs.Counting.{times_in, times_under};
+ghost use Rattle.transmit_words.specs.Seats.{AreAllIn, AreSpent};
+ghost use Rattle.transmit_words.specs.Telling.{Tells, CatchUp};
 ghost use Rattle.transmit_words.specs.Shown.{Show};
 ghost use Rattle.transmit_words.specs.Ties.{AreTied, AreAhead, HaveKeptUp, KeepAhead};
-ghost use Rattle.transmit_words.specs.Ties.{Followed};
+ghost use Rattle.transmit_words.specs.Ties.{HaveCaughtUp, CaughtAhead, HaveClaimsBeside};
+ghost use Rattle.transmit_words.specs.Ties.{AreToldAll, Followed};
 
-use association_slots::{law_counted_next, law_words};
+use association_slots::{law_counted_next, law_few_numbers_are_lost, law_words};
 use group_safety::{
     law_a_place_without_a_station_is_blank, law_an_account_goes_on, law_an_account_goes_onward,
     law_an_installed_key_is_held, law_facts_move_what_transmits,
@@ -44,18 +49,29 @@ pub fn law_each_number_is_claimed_once()
 
 /// Words to which nothing happened are those of a station that is about to start.
 pub fn law_new_words_are_tied()
-    ensures { (settings : Settings) (users : List UserFrame) (old : State) (r : Run)
+    ensures tied { (settings : Settings) (users : List UserFrame) (old : State) (r : Run)
         (name : Name) (sci : Sci) (priority : ℕ) (cs : List ControlAt) (c : ControlAt)
         → StandsFor settings users old r → IsStepped settings users r → AreTied settings r cs
         → Tells blank c.view → AreAhead settings r (events.Start name sci priority) (cs ++ c ∷ []) }
+    ensures kept_up { (settings : Settings) (users : List UserFrame) (old : State) (r : Run)
+        (name : Name) (sci : Sci) (priority : ℕ) (cs : List ControlAt) (c : ControlAt)
+        → StandsFor settings users old r → IsStepped settings users r → HaveKeptUp settings r cs
+        → Tells blank c.view → KeepAhead settings r (events.Start name sci priority) (cs ++ c ∷ []) }
+    ensures caught_up { (settings : Settings) (users : List UserFrame) (old : State) (r : Run)
+        (name : Name) (sci : Sci) (priority : ℕ) (cs : List ControlAt) (c : ControlAt)
+        → StandsFor settings users old r → IsStepped settings users r → HaveCaughtUp settings r cs
+        → Tells blank c.view
+        → CaughtAhead settings r (events.Start name sci priority) (cs ++ c ∷ []) }
 {
     law_a_place_without_a_station_is_blank();
 }
 
-/// Where words tell a run, they keep up with it.
+/// Where words tell a run, they keep up with it, and have caught up with it.
 pub fn law_words_that_tell_keep_up()
-    ensures { (settings : Settings) (r : Run) (cs : List ControlAt) → AreTied settings r cs
+    ensures kept_up { (settings : Settings) (r : Run) (cs : List ControlAt) → AreTied settings r cs
         → HaveKeptUp settings r cs }
+    ensures caught_up { (settings : Settings) (r : Run) (cs : List ControlAt)
+        → AreTied settings r cs → HaveCaughtUp settings r cs }
 {}
 
 /// Also while seats are out, where the words of all stations took the step of an event, and then
@@ -84,4 +100,59 @@ pub fn law_all_words_stay_tied()
     law_facts_move_what_transmits();
     law_an_installed_key_is_held();
     law_an_account_goes_on();
+}
+
+// ---- after workers claimed beside
+
+/// Once all seats came back, words that kept up with a run have caught up with the run that has
+/// their claims beside.
+pub fn law_words_catch_up()
+    ensures { (settings : Settings) (q r : Run) (cs : List ControlAt) → HaveKeptUp settings q cs
+        → AreAllIn cs → HaveClaimsBeside settings q r → AreToldAll r cs
+        → HaveCaughtUp settings r cs }
+{}
+
+/// Where the words of all stations took the step of an event after that, and then followed its
+/// facts, they have caught up with the run with it, whatever number the event shows.
+pub fn law_all_words_stay_caught_up()
+    ensures { (settings : Settings) (users : List UserFrame) (old new : State) (x : Happening)
+        (r : Run) (cs ds : List ControlAt) → StandsFor settings users old r
+        → StandsFor settings users new (x ∷ r) → IsStep settings users x r
+        → CaughtAhead settings r x.event cs → Followed settings (x ∷ r) x.facts cs ds
+        → HaveCaughtUp settings (x ∷ r) ds }
+{
+    law_facts_move_what_transmits();
+    law_an_installed_key_is_held();
+    law_an_account_goes_onward();
+}
+
+/// Words that have caught up are not behind their account, and ahead of it by sixteen numbers at
+/// most.
+pub fn law_words_are_little_ahead()
+    ensures { (a : Account) (c : ControlView) → CatchUp a c → (an : AssociationNumber) (epoch : ℕ)
+        → (IsOpen c an epoch → a.nexts epoch ≤ told_sum c an epoch)
+        × (told_sum c an epoch ≤ a.nexts epoch + 16) }
+{
+    law_few_numbers_are_lost();
+}
+
+/// A run with whose numbers the words have caught up leaves out few of them.
+pub fn law_words_keep_a_run_thrifty()
+    ensures { (settings : Settings) (users : List UserFrame) (state : State) (r : Run)
+        (cs : List ControlAt) → StandsFor settings users state r → IsStepped settings users r
+        → HaveCaughtUp settings r cs → (s epoch : ℕ) → unused settings s epoch r ≤ 16 }
+{
+    law_few_numbers_are_lost();
+    law_a_place_without_a_station_is_blank();
+}
+
+/// Where few numbers were claimed, the words have packet numbers left.
+pub fn law_few_claims_spend_no_words()
+    ensures words { (a : Account) (c : ControlView) → CatchUp a c
+        → (an : AssociationNumber) (epoch : ℕ) → times_under epoch a.claims + 17 ≤ last_number
+        → told_sum c an epoch ≤ last_number }
+    ensures stations { (settings : Settings) (r : Run) (cs : List ControlAt) (s : ℕ)
+        → HaveCaughtUp settings r cs → length (claims r) + 17 ≤ last_number → AreSpent s cs → ⊥ }
+{
+    law_few_numbers_are_lost();
 }
