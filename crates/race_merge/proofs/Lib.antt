@@ -28,3 +28,4 @@ pub mod FramesTaken
 pub mod ProtectedPart
 pub mod LogsFit
 mod RaceExample
+pub mod Public

@@ -91,7 +91,8 @@ pub record WereBeside (race : Race) : Type 0 where
   pub told : WereTold race.settings race.run race.performed race.shared race.moved
   pub keep_up : HaveKeptUp race.settings (run_after race.performed race.run) race.moved
   -- after
-  pub joined : HaveJoined race.ended race.moved race.after
+  pub joined : HaveJoined race.settings (run_after race.performed race.run) race.ended race.moved
+      race.after
   pub all_in : AreAllIn race.after
   -- users and claims are few
   pub users_few : length race.users < 2 ^ 32
