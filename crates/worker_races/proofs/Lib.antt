@@ -1,1 +1,9 @@
--- Laws of races.
+pub mod Seating
+pub mod Hands
+pub mod Spent
+pub mod Pointing
+pub mod Words
+pub mod Races
+pub mod Claims
+pub mod CaughtUp
+pub mod Sealed

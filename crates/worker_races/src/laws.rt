@@ -19,12 +19,15 @@ ghost use Rattle.worker_races.specs.Beside.{ans_in, attempts_in, cards_in, logs_
 ghost use Rattle.worker_races.specs.Beside.{pointed_in};
 ghost use Rattle.worker_races.specs.Performed.{happenings, run_after};
 
+use association_slots::law_few_numbers_are_lost;
 use transmit_words::{law_words_catch_up, law_words_keep_a_run_thrifty};
 
 /// No worker of a race found an epoch without a packet number left.
 pub fn law_no_log_of_a_race_is_exhausted()
     ensures { (race : Race) → WereBeside race → AllByRecursion NoneExhausted (logs_in race) }
-{}
+{
+    law_few_numbers_are_lost();
+}
 
 /// What control performed beside workers, and their logs, are a race after the run before, with all
 /// that `merge` asks.
@@ -37,7 +40,9 @@ pub fn law_a_race_of_workers_is_a_race()
         → AreRising (moves_of race.steps) (logs_in race) }
     ensures few { (race : Race) → WereBeside race → length (logs_in race) + 1 < 2 ^ 32 }
     ensures control { (race : Race) → map (λ m. m.x) (moves_in race) ≡ happenings race.performed }
-{}
+{
+    law_few_numbers_are_lost();
+}
 
 /// With a part that is woven of control and the logs, the words have caught up with the run.
 pub fn law_words_catch_up_with_a_race()
