@@ -2,7 +2,7 @@
 
 -- What control performed, and the key that transmits has an epoch above 0.
 pub use Rattle.race_merge.proofs.Agree.{own-of, starts-none}
-pub use Rattle.race_merge.proofs.FromRun.{in-life, positive}
+pub use Rattle.race_merge.proofs.FromRun.{Goes, goes, keeps, ends, begins, in-life, positive}
 pub use Rattle.race_merge.proofs.NoStation.{none-there}
 pub use Rattle.race_merge.proofs.GivenMoves.{moves-given, follows-all}
 pub use Rattle.race_merge.proofs.EventTold.{event-told}

@@ -42,6 +42,10 @@ next-is : (settings : Settings) (s e : ℕ) (x : Happening) (q : Run)
 unfolding next
 next-is settings s e x q = refl
 
+past-first : (s e : ℕ) → past_claims e (numbers_at s (claims [])) ≡ 0
+unfolding claims
+past-first s e = refl
+
 -- an event that is no claim tells of none
 none-told : (settings : Settings) (users : List UserFrame) (x : Happening) (q : Run) → IsStep settings users x q
     → is_claim x.event ≡ false → (cs : List Claim) → gather claim_of x.facts cs ≡ cs
@@ -96,8 +100,8 @@ times-fact s e pn (facts.Claimed t an epoch n) cs tells = go (t == s)
     go : (a : Bool) → times_in e pn (cond a ((epoch, n) ∷ numbers_at s cs) (numbers_at s cs))
         ≡ times_in e pn (cond a ((epoch, n) ∷ []) []) + times_in e pn (numbers_at s cs)
     go true = omega arith
-    go false = refl
-times-fact s e pn (facts.Unclaimed t why) cs tells = refl
+    go false = omega arith
+times-fact s e pn (facts.Unclaimed t why) cs tells = omega arith
 times-fact s e pn fact cs tells = absurd tells
 
 module _ (settings : Settings) (users : List UserFrame) where
@@ -129,8 +133,7 @@ module _ (settings : Settings) (users : List UserFrame) where
 
   -- what is past the claims is not above the next number
   pub past-low : (s e : ℕ) (q : Run) → IsStepped settings users q → past_claims e (numbers_at s (claims q)) ≤ next settings s e q
-  unfolding claims next
-  past-low s e [] stepped = omega arith
+  past-low s e [] stepped = let none = past-first s e in omega (arith, none)
   past-low s e (x ∷ q) stepped =
       let rest = past-low s e q stepped.1 in
       let more = next-is settings s e x q in
@@ -206,7 +209,7 @@ module _ (settings : Settings) (users : List UserFrame) where
     times-part : (part : List Happening) (q : Run) → IsStepped settings users (followed_by part q)
         → times_in e pn (numbers_at s (claims (followed_by part q))) ≡ weigh got part + times_in e pn (numbers_at s (claims q))
     unfolding got
-    times-part [] q stepped = refl
+    times-part [] q stepped = omega arith
     times-part (x ∷ part) q stepped =
         let rest = times-part part (x ∷ q) stepped in
         let here = times-one s e pn x q (stepped-front settings users part (x ∷ q) stepped).0 in
@@ -231,7 +234,7 @@ module _ (settings : Settings) (users : List UserFrame) where
 
     total-more : (u n : ℕ) (h : Happening) (part : List Happening) → total u n (h ∷ part) ≡ extra u n h + total u n part
     unfolding total extra
-    total-more u zero h part = refl
+    total-more u zero h part = omega arith
     total-more u (suc n) h part = go (is_claim_for (base + u + 1) h.event) (total-more (suc u) n h part)
       where
         go : (b : Bool) → total (suc u) n (h ∷ part) ≡ extra (suc u) n h + total (suc u) n part
@@ -373,5 +376,9 @@ module _ (settings : Settings) (users : List UserFrame) where
         let all = times-part part q stepped in
         let sum = total-is (length logs) part q stepped of
         (λ v high. none-of (of_log v part) (subst (λ xs. AreClaimsOf base xs (of_log v part)) (no-log v 0 logs high) (claims v))) in
-        let each = total-logs 0 logs part claims in
+        let each = total-logs 0 logs part
+        (λ k. subst (λ n. AreClaimsOf base (nth_log k (logs_of 0 logs)) (of_log n part)) (plus k) (claims k)) in
         omega (arith, all, sum, each)
+      where
+        plus : (k : ℕ) → k ≡ 0 + k
+        plus k = omega arith

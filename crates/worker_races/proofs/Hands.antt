@@ -60,7 +60,7 @@ are-hands users r before after number (w ∷ ws) (d ∷ ds) done new took sender
 
 -- ---- as many entries as jobs
 
-pub entries_count : List WorkerAt → ℕ
+unfoldable pub entries_count : List WorkerAt → ℕ
 entries_count [] = 0
 entries_count (d ∷ ds) = length d.log + entries_count ds
 

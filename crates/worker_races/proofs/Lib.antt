@@ -3,6 +3,7 @@ pub mod Hands
 pub mod Spent
 pub mod Pointing
 pub mod Words
+pub mod Gone
 pub mod Races
 pub mod Claims
 pub mod CaughtUp

@@ -55,16 +55,12 @@ use Rattle.worker_races.specs.Beside.{Race, WereBeside, ans_in, attempts_in, log
 use Rattle.worker_races.specs.Performed.{happenings, run_after}
 use Rattle.worker_races.specs.Reading.{view_in, view_at}
 use Rattle.worker_races.specs.Senders.{IsNew}
-use Rattle.worker_races.proofs.Seating.{Grown, Shares, added, all-came, all-took, grown-all, joined-all, kept-joined, shares-all, told-counts, told_all}
+use Rattle.worker_races.proofs.Gone.{gone-at, some-at}
+use Rattle.worker_races.proofs.Seating.{Grown, Shares, added, all-came, all-took, grown-all, joined-all, kept-joined, seated-many, shares-all, told-counts, told_all}
 use Rattle.worker_races.proofs.Hands.{AreHands, Hand, are-hands, entries-are, entries_count, hands-many}
 use Rattle.worker_races.proofs.Pointing.{are-ans, epoch-low, epoch-none, epoch-shown, is-past, key-pointed, shows-key}
 use Rattle.worker_races.proofs.Spent.{added-few, none-over, numbers-few, told-few, took}
 use Rattle.worker_races.proofs.Words.{given-for, moves-happen, performed-places, performed-stepped, performed-steps}
-
-some-at : {A : Type 0} (xs : List A) (n : ℕ) → n < length xs → (x : A) × (slice_get xs n ≡ Some x)
-some-at [] n less = absurd (omega (arith, less))
-some-at (x ∷ xs) zero less = (x, refl)
-some-at (x ∷ xs) (suc n) less = some-at xs n (omega (arith, less))
 
 logged-one : (u : ℕ) (log : List Entry) → AllByRecursion (λ (x : Attempt). x.log ≡ u) (map (attempt_of u) log)
 logged-one u [] = tt
@@ -151,21 +147,22 @@ module _ (race : Race) (is : WereBeside race) where
 
   pub between-at : (s : ℕ) → s < length (stations r) → Between s
   between-at s there =
-      let some = some-at race.moved s (let many = is.keep_up.many in let same = ap length same-stations in omega (arith, there, many, same)) in
-      let told = is.told.each s some.0 some.1 in
-      let moved : view_at race.moved s ≡ some.0.view = ap view_in some.1 in
-      let shared : view_at race.shared s ≡ told.0.view = ap view_in told.1 in
-      let shares : Shares (old s) told.0.view =
-      subst (Shares (old s)) shared (shares-all race.began race.before race.shared is.seated s) in
-      let joined : new s ≡ told_all s ended some.0.view =
-      joined-all settings on ended race.moved race.after is.joined s ∙ ap (told_all s ended) moved in
-      let grown = grown-all s ended some.0.view in
+      let before = before-at s there in
+      let keep = before.up.keep_up in
+      let shares : Shares (old s) (view_at race.shared s) = shares-all race.began race.before race.shared is.seated s in
+      let top : (current (view_at race.shared s)).epoch ≡ pointed_in race s = ap (λ (v : ControlView). (current v).epoch) shares in
+      let gone = gone-at settings race.users s r race.performed race.steps race.shared race.moved there
+      (seated-many race.began race.before race.shared is.seated ∙ is.caught_up.many) stepped is.performed
+      (subst (IsPast settings s r) (sym top) (is-past settings s r before.carried (old s) before.carries keep))
+      (subst (λ n. epoch_at settings s r ≤ n) (sym top) (epoch-low settings s r before.carried (old s) before.carries keep)) is.gone in
+      let joined : new s ≡ told_all s ended (view_at race.moved s) = joined-all settings on ended race.moved race.after is.joined s in
+      let grown = grown-all s ended (view_at race.moved s) in
       record {
-        points = ap (λ (v : ControlView). v.points) joined ∙ (grown.points ∙ (told.2.points
+        points = ap (λ (v : ControlView). v.points) joined ∙ (grown.points ∙ (gone.points
             ∙ (λ i. words_in settings s (current (shares i)).epoch r race.performed ++ (shares i).points)));
-        counts = λ p. ap (λ (v : ControlView). count p v.told) joined ∙ (told-counts p s ended some.0.view
+        counts = λ p. ap (λ (v : ControlView). count p v.told) joined ∙ (told-counts p s ended (view_at race.moved s)
             ∙ ap (λ (xs : List Addition). added p s ended + count p xs)
-            (ap (λ (o : OfSeats). o.told) told.2.seats ∙ ap (λ (v : ControlView). v.told) shares));
+            (ap (λ (o : OfSeats). o.told) gone.seats ∙ ap (λ (v : ControlView). v.told) shares));
       }
 
   -- ---- the workers
@@ -263,8 +260,8 @@ module _ (race : Race) (is : WereBeside race) where
   abbrev moves : List Move
   moves = moves_in race
 
-  pub are : (s : ℕ) → s < length (stations r) → AreAns (ans s) (new s).points
-  are s there = are-ans (new s) (after-at s there).up.learned.settled
+  pub are-ans-at : (s : ℕ) → s < length (stations r) → AreAns (ans s) (new s).points
+  are-ans-at s there = are-ans (new s) (after-at s there).up.learned.settled
 
   no-key : (s : ℕ) → length (stations r) ≤ s → transmitting_at settings s r ≡ None
   no-key s past = ap (option_and_then (λ l. transmitting (keys_in l))) (none-there settings race.users s r stepped past)
@@ -273,13 +270,13 @@ module _ (race : Race) (is : WereBeside race) where
   under-before s k sends = elim (cases_lt s (length (stations r))) [
     | inr past ↦ absurd (cc (sym sends ∙ no-key s past))
     | inl there ↦ (let before = before-at s there in
-        are s there k.an k.epoch (subst (In (present_at k.an k.epoch)) (sym (between-at s there).points)
+        are-ans-at s there k.an k.epoch (subst (In (present_at k.an k.epoch)) (sym (between-at s there).points)
         (in_right (present_at k.an k.epoch) (words_in settings s (pointed_in race s) r race.performed) (old s).points
         (key-pointed settings s r before.carried (old s) before.carries before.up.keep_up k sends))))
   ]
 
   given-for-all : AreGivenFor settings race.users ans r race.performed
-  given-for-all = given-for settings race.users ans (λ s. (new s).points) (length (stations r)) are (pointed_in race) r
+  given-for-all = given-for settings race.users ans (λ s. (new s).points) (length (stations r)) are-ans-at (pointed_in race) r
       race.performed race.steps refl stepped is.performed
       (λ s there p i. subst (In p) (sym (between-at s there).points) (in_left p _ (old s).points i)) under-before
 
@@ -330,7 +327,7 @@ module _ (race : Race) (is : WereBeside race) where
       inr (
         least_next c an,
         given_at c an both,
-        are s there an (current c).epoch (subst (In (present_at an (current c).epoch)) (sym (between-at s there).points)
+        are-ans-at s there an (current c).epoch (subst (In (present_at an (current c).epoch)) (sym (between-at s there).points)
             (in_right (present_at an (current c).epoch) (words_in settings s (pointed_in race s) r race.performed) c.points (newest-in c.points present))),
         opened.1,
         omega (arith, least, above),
@@ -371,8 +368,8 @@ module _ (race : Race) (is : WereBeside race) where
   user-low : (n : ℕ) (u : UserFrame) → user_at race.users n ≡ Some u → n ≤ length race.users
   user-low n u is = elim (cases_Bool (n == 0)) [
     | inl zero_is ↦ (let none = eqb-true n 0 zero_is in omega (arith, none))
-    | inr some ↦ (let at : slice_get race.users (n - 1) ≡ Some u = rw some at is in
-        let less = slice_get_within race.users (n - 1) u at in omega (arith, less))
+    | inr some ↦ (let there : slice_get race.users (n - 1) ≡ Some u = rw some at is in
+        let less = slice_get_within race.users (n - 1) u there in omega (arith, less))
   ]
 
   same-start : (number : ℕ) (d : WorkerAt) (hand : Hand race.users r race.before race.after number d)
@@ -400,17 +397,17 @@ module _ (race : Race) (is : WereBeside race) where
 
       log-attempts : AllByRecursion (IsAttempt race.users race.base ans r) (map (attempt_of u) d.log)
       log-attempts = are-attempts race.users race.base ans r u d.seat.view d.sender c there
-          (let few = is.within.stations in let less = there in omega (arith, few, less))
+          (let few : length (stations r) ≤ 16 = is.within.stations in let less = there in omega (arith, few, less))
           (let low = user-low number d.sender.user hand.sender.user in let few = is.users_few in omega (arith, low, few, at))
           (subst (λ n. IsSendable (user_at race.users n)) at (subst IsSendable (sym hand.sender.user) hand.sender.sendable))
-          (subst (AreAns (ans s)) (sym same-points) (are s there)) d.log hand.log.entries known
+          (subst (AreAns (ans s)) (sym same-points) (are-ans-at s there)) d.log hand.log.entries known
 
       log-fits : AllByRecursion (IsFit (before_of settings (pointed_in race) r) moves) (map (attempt_of u) d.log)
       log-fits = are-fit settings (ans s) (pointed_in race) r moves (old s).points u d.seat.view d.sender c
           (subst (BeganAfter settings (ans s) s (pointed_in race s) r (old s).points) (sym (same-start number d hand)) (began-after s there))
           (same-points ∙ ((between-at s there).points ∙ ap (λ ws. ws ++ (old s).points)
           (sym (all-told settings race.users ans s (pointed_in race) r race.performed stepped given-for-all))))
-          (subst (AreAns (ans s)) (sym same-points) (are s there)) (goes s) d.log (none number d hand) hand.log.entries known
+          (subst (AreAns (ans s)) (sym same-points) (are-ans-at s there)) (goes s) d.log (none number d hand) hand.log.entries known
 
       log-in-log : AllPairs InLog (map (attempt_of u) d.log)
       log-in-log = log-in-order u d.seat.view d.sender d.log (none number d hand) hand.log.entries hand.log.in_order

@@ -1,6 +1,6 @@
 -- The words of the stations as seats go out and come back.
 use Rattle.std.proofs.Common.{◌≡◌, ℕ, zero, suc, ◌+◌, Bool, true, false, cond, List, [], ◌∷◌, ◌++◌}
-use Rattle.std.proofs.Common.{Option, Some, None, refl, sym, ap, ◌∙◌, subst, arith, eqb, eq-eqb, inl, inr}
+use Rattle.std.proofs.Common.{Option, Some, None, refl, sym, ap, ◌∙◌, subst, arith, inl, inr, length, length-set}
 use Rattle.std.proofs.lemmas.Bool.{cases_Bool, eqb-true}
 use Rattle.std.specs.List.{AllByRecursion}
 use Rattle.std.specs.Prelude.{◌==◌, slice_get, slice_set}
@@ -84,6 +84,11 @@ shares-all (w ∷ ws) old new were t =
     shares-then (view_at old t) (view_at were.0 t) (view_at new t)
     (shares-one w.sender.station old were.0 w.seat were.1 t) (shares-all ws were.0 new were.2 t)
 
+pub seated-many : (ws : List WorkerAt) (old new : List ControlAt) → WereSeated ws old new → length new ≡ length old
+seated-many [] old new were = ap length were
+seated-many (w ∷ ws) old new were =
+    seated-many ws were.0 new were.2 ∙ (ap length were.1.new_is ∙ length-set old w.sender.station _)
+
 -- the seat that a worker took, when the words were these but for seats
 pub record Took (cs : List ControlAt) (w : WorkerAt) : Type 0 where
   pub view : ControlView
@@ -107,7 +112,7 @@ all-took cs (w ∷ ws) old new shares were = (
 
 -- ---- seats come back
 
-pub told_all : ℕ → List WorkerAt → ControlView → ControlView
+unfoldable pub told_all : ℕ → List WorkerAt → ControlView → ControlView
 told_all t [] c = c
 told_all t (w ∷ ws) c = told_all t ws (cond (w.sender.station == t) (told c w.seat.view) c)
 
@@ -154,14 +159,14 @@ grown-all t (w ∷ ws) c =
     grown-then c d (told_all t ws d) (grown-one (w.sender.station == t) c w.seat.view) (grown-all t ws d)
 
 -- how many additions of the seats of a station meet p
-pub added : (Addition → Bool) → ℕ → List WorkerAt → ℕ
+unfoldable pub added : (Addition → Bool) → ℕ → List WorkerAt → ℕ
 added p t [] = 0
 added p t (w ∷ ws) = cond (w.sender.station == t) (count p w.seat.view.additions) 0 + added p t ws
 
 pub told-counts : (p : Addition → Bool) (t : ℕ) (ws : List WorkerAt) (c : ControlView)
     → count p (told_all t ws c).told ≡ added p t ws + count p c.told
 unfolding told_all added
-told-counts p t [] c = refl
+told-counts p t [] c = omega arith
 told-counts p t (w ∷ ws) c =
     go (w.sender.station == t) (told-counts p t ws (cond (w.sender.station == t) (told c w.seat.view) c))
   where

@@ -19,7 +19,7 @@ use Rattle.race_merge.specs.Steps.{logs_of}
 use Rattle.race_merge.specs.Table.{Controls, moves_at}
 use Rattle.transmit_words.specs.Seats.{AreAllIn}
 use Rattle.transmit_words.specs.Ties.{HaveCaughtUp, HaveKeptUp}
-use Rattle.worker_races.specs.Going.{HaveJoined, WereSeated, WereTold}
+use Rattle.worker_races.specs.Going.{HaveGone, HaveJoined, WereSeated}
 use Rattle.worker_races.specs.Performed.{ArePerformed, run_after}
 use Rattle.worker_races.specs.Reading.{an_pointed, card_given, last_pointed}
 use Rattle.worker_races.specs.Senders.{AreSenders, IsNew, jobs_of}
@@ -88,12 +88,12 @@ pub record WereBeside (race : Race) : Type 0 where
   pub done : AreDone race.began race.ended
   -- control
   pub performed : ArePerformed race.settings race.users race.run race.performed race.steps
-  pub told : WereTold race.settings race.run race.performed race.shared race.moved
+  pub gone : HaveGone race.settings race.run race.performed race.shared race.moved
   pub keep_up : HaveKeptUp race.settings (run_after race.performed race.run) race.moved
   -- after
   pub joined : HaveJoined race.settings (run_after race.performed race.run) race.ended race.moved
       race.after
   pub all_in : AreAllIn race.after
   -- users and claims are few
-  pub users_few : length race.users < 2 ^ 32
+  pub users_few : length race.users + 1 < 2 ^ 32
   pub claims_few : length (claims race.run) + jobs_of race.began + 16 < 2 ^ 32
