@@ -8,3 +8,4 @@ pub mod Races
 pub mod Claims
 pub mod CaughtUp
 pub mod Sealed
+pub mod GoesOn

@@ -45,7 +45,13 @@ pub record WereTold (settings : Settings) (r : Run) (t : ℕ) (x : Happening)
   pub each : (s : ℕ) (d : ControlAt) → slice_get new s ≡ Some d → (c : ControlAt)
       × (slice_get old s ≡ Some c) × WasTold (words_by settings r t x s c.view) c.view d.view
 
--- and so of all that control performed, one event after the other
+-- no word was told anything, and no seat came or went
+pub record WereLooked (old new : List ControlAt) : Type 0 where
+  pub many : length new ≡ length old
+  pub each : (s : ℕ) (d : ControlAt) → slice_get new s ≡ Some d → (c : ControlAt)
+      × (slice_get old s ≡ Some c) × WasTold [] c.view d.view
+
+-- each word was told what all events say that control performed, one after the other
 abbrev pub HaveGone : Settings → Run → Controls → List ControlAt → List ControlAt → Type 0
 HaveGone settings r [] old new = new ≡ old
 HaveGone settings r ((t, x) ∷ xs) old new = (cs : List ControlAt) × WereTold settings r t x old cs
