@@ -1,6 +1,6 @@
 -- The words keep up with the account, call by call.
 use Rattle.std.proofs.Common.{◌≡◌, ℕ, ◌+◌, ◌^◌, Result, Ok, Err, MatchResult, ◌<◌, ◌≤◌, ◌==◌, Bool, true, false, not, ◌&&◌, cond, max}
-use Rattle.std.proofs.Common.{List, [], ◌∷◌, ◌++◌, map, Some, None, refl, sym, ap, ◌∙◌, subst, arith, eq-eqb, inl, inr}
+use Rattle.std.proofs.Common.{List, [], ◌∷◌, ◌++◌, map, Some, None, refl, sym, ap, ◌∙◌, subst, arith, eq-eqb, ◌⊎◌, inl, inr}
 use Rattle.std.proofs.lemmas.Bool.{ne_eqb, lt-ltb, eqb-true, ltb-true, ltb-false}
 use Rattle.std.specs.Prelude.{nat_lt}
 use Rattle.sak_exchange.proofs.Public.{by_test}
@@ -25,6 +25,7 @@ use Rattle.packet_claims.proofs.Public.{given_at, newest_pointed}
 use Rattle.group_safety.specs.Transmitting.{Sending, Carried, now, newest as latest, names as names_it}
 use Rattle.group_safety.specs.Transmitting.{silent_after, installed, may_begin, begun, ended}
 use Rattle.group_safety.specs.Accounts.{Account, blank, next_now, showing, gaining}
+use Rattle.transmit_words.specs.Counting.{past_claims, greatest_seen}
 use Rattle.transmit_words.specs.Telling.{KeepUp, HasGained, word_of, sending_of, least_under}
 use Rattle.transmit_words.specs.inside.Kept.{IsKept}
 use Rattle.transmit_words.proofs.Keeping.{kept-first, open-now, carded, may-parts, names, and-false, seen-looked}
@@ -43,6 +44,7 @@ first-parts an epoch p installs is = (may-parts an epoch (word_of p) installs is
 pub up-first : Learned (at_first 1 4096) → KeepUp blank (at_first 1 4096)
 up-first learned = record {
   learned = learned;
+  first = refl;
   points = refl;
   slots = kept-first.slots;
   open_now = λ is. absurd (cc is);
@@ -50,6 +52,7 @@ up-first learned = record {
   later = λ e lt. refl;
   cards = refl;
   shows = refl;
+  seen = λ e. omega arith;
 }
 
 -- ---- what was claimed
@@ -108,6 +111,7 @@ module _ (c : ControlView) (p : Current) (cards : ℕ) (k : IsKept c p cards) (l
       → KeepUp (record l { carried = j }) (record c { card_words = c.card_words ++ words })
   up-installed j words more learned is = subst (λ (q : Carried). KeepUp (record l { carried = q }) (record c { card_words = c.card_words ++ words })) (some-if _ _ j is).1 (record {
     learned = learned;
+    first = more.first;
     points = t.points;
     slots = t.slots;
     open_now = t.open_now;
@@ -115,6 +119,7 @@ module _ (c : ControlView) (p : Current) (cards : ℕ) (k : IsKept c p cards) (l
     later = t.later;
     cards = carded _ p (cards + 1) more ∙ ap (λ (n : ℕ). n + 1) (sym installs-are);
     shows = t.shows;
+    seen = t.seen;
   })
 
   -- a key may begin that is later than what transmitted last
@@ -134,6 +139,7 @@ module _ (c : ControlView) (p : Current) (cards : ℕ) (k : IsKept c p cards) (l
   pub up-begun : (e : ControlView) (j : Carried) (an : AssociationNumber) (epoch : ℕ) → IsKept e (present_at an epoch) cards → e.points ≡ present_at an epoch ∷ c.points → (slot e an).seen ≡ c.first → e.loads ≡ c.loads → Learned e → begun an epoch l.carried ≡ Some j → KeepUp (record l { carried = j }) e
   up-begun e j an epoch ke more_points seen same_loads learned is = subst (λ (q : Carried). KeepUp (record l { carried = q }) e) (some-if _ _ j is).1 (record {
     learned = learned;
+    first = ke.first;
     points = more_points ∙ ap (λ (ps : List Current). present_at an epoch ∷ ps) t.points;
     slots = ke.slots;
     open_now = λ _. subst (λ (q : Current). IsOpen e q.an q.epoch) (sym ke.shown) (open-now e (present_at an epoch) cards ke refl);
@@ -141,6 +147,7 @@ module _ (c : ControlView) (p : Current) (cards : ℕ) (k : IsKept c p cards) (l
     later = λ f lt. t.later f (let z = epoch_is in let y = later-now j an epoch is in omega arith);
     cards = carded e (present_at an epoch) cards ke ∙ (sym (carded c p cards k) ∙ t.cards);
     shows = ap (map (λ (f : NextSeen). f.next)) same_loads ∙ t.shows;
+    seen = λ f. t.seen f ∙ ap (λ (fs : List NextSeen). max 1 (max (past_claims f l.claims) (greatest_seen f fs))) (sym same_loads);
   })
     where
       epoch_is : (current e).epoch ≡ epoch
@@ -156,6 +163,7 @@ module _ (c : ControlView) (p : Current) (cards : ℕ) (k : IsKept c p cards) (l
   pub up-ended : (e : ControlView) (an : AssociationNumber) → IsKept e (absent_after p.epoch) cards → e.points ≡ absent_after (current c).epoch ∷ c.points → e.loads ≡ c.loads → Learned e → names p an ≡ true → KeepUp (record l { carried = ended an l.carried }) e
   up-ended e an ke more_points same_loads learned is = record {
     learned = learned;
+    first = ke.first;
     points = more_points ∙ ((λ i. absent_after (told-now i).epoch ∷ t.points i) ∙ sym (ap (λ (b : Bool). map word_of (gone_if b).points) it_names));
     slots = λ i. ke.slots i ∙ sym (ap (λ (b : Bool). not (names_it (now (gone_if b)) i)) it_names);
     open_now = λ present. absurd (cc (sym present ∙ ap (λ (q : Current). q.present) ke.shown));
@@ -163,6 +171,7 @@ module _ (c : ControlView) (p : Current) (cards : ℕ) (k : IsKept c p cards) (l
     later = λ f lt. t.later f (let z = epoch_is in omega arith);
     cards = carded e _ cards ke ∙ (sym (carded c p cards k) ∙ (t.cards ∙ sym (ap (λ (b : Bool). (gone_if b).installs) it_names)));
     shows = ap (map (λ (f : NextSeen). f.next)) same_loads ∙ t.shows;
+    seen = λ f. t.seen f ∙ ap (λ (fs : List NextSeen). max 1 (max (past_claims f l.claims) (greatest_seen f fs))) (sym same_loads);
   }
     where
       it_names : names_it (now l.carried) an ≡ true
@@ -183,6 +192,7 @@ module _ (c : ControlView) (p : Current) (cards : ℕ) (k : IsKept c p cards) (l
   pub up-looked : (n : ℕ) → p.present ≡ true → (slot c p.an).seen ≤ n → above_claims p.epoch c.told ≤ n → IsKept (looked_at c p.an n) p cards → Learned (looked_at c p.an n) → KeepUp (showing n l) (looked_at c p.an n)
   up-looked n is seen above ke learned = record {
     learned = learned;
+    first = ke.first;
     points = t.points;
     slots = λ i. ke.slots i ∙ ap not (sym (names-are i));
     open_now = λ _. subst (λ (q : Current). IsOpen (looked_at c p.an n) q.an q.epoch) (sym k.shown) (open-now _ p cards ke is);
@@ -190,10 +200,26 @@ module _ (c : ControlView) (p : Current) (cards : ℕ) (k : IsKept c p cards) (l
     later = λ e lt. showing-other n l e (ne_eqb e (now l.carried).epoch (λ same. let z = epoch_is in absurd (omega (arith, same)))) ∙ t.later e lt;
     cards = t.cards;
     shows = (λ i. n ∷ t.shows i) ∙ sym (ap (λ (b : Bool). cond b (n ∷ l.shows) l.shows) (lt-ltb 0 n (let z = least-is is in let y = z.0 in let x = z.1 in let w = seen in let v = above in omega arith)));
+    seen = λ e. seen-one e (by_test (e == (now l.carried).epoch) (λ y. inl y) (λ y. inr y));
   }
     where
       epoch_is : (current c).epoch ≡ (now l.carried).epoch
       epoch_is = ap (λ (q : Current). q.epoch) told-now
+
+      present : (now l.carried).present ≡ true
+      present = ap (λ (q : Current). q.present) now-is ∙ is
+
+      slot-epoch : (slot c p.an).epoch ≡ (now l.carried).epoch
+      slot-epoch = k.epoch is ∙ sym (ap (λ (q : Current). q.epoch) now-is)
+
+      seen-one : (e : ℕ) → ((e == (now l.carried).epoch) ≡ true) ⊎ ((e == (now l.carried).epoch) ≡ false)
+          → (showing n l).nexts e ≡ max 1 (max (past_claims e l.claims) (max (cond ((slot c p.an).epoch == e) n 0) (greatest_seen e c.loads)))
+      seen-one e (inl y) =
+          let same : ((slot c p.an).epoch == e) ≡ true = eq-eqb (slot c p.an).epoch e (slot-epoch ∙ sym (eqb-true e (now l.carried).epoch y)) in
+          let z = t.seen e in rw (y, present, same) (omega arith)
+      seen-one e (inr n_y) =
+          let other : ((slot c p.an).epoch == e) ≡ false = ne_eqb (slot c p.an).epoch e (λ same. absurd (cc (sym n_y ∙ eq-eqb e (now l.carried).epoch (sym same ∙ slot-epoch)))) in
+          let z = t.seen e in let q = showing-other n l e n_y in rw other (omega arith)
 
       nexts_are : (showing n l).nexts p.epoch ≡ max n (l.nexts p.epoch)
       nexts_are = subst (λ (q : Current). q.present ≡ true → (showing n l).nexts q.epoch ≡ max n (l.nexts q.epoch)) now-is (showing-here n l) is
@@ -205,6 +231,7 @@ module _ (c : ControlView) (p : Current) (cards : ℕ) (k : IsKept c p cards) (l
   pub up-unlooked : p.present ≡ false → KeepUp (showing 0 l) c
   up-unlooked none = record {
     learned = t.learned;
+    first = t.first;
     points = t.points;
     slots = t.slots;
     open_now = t.open_now;
@@ -212,6 +239,7 @@ module _ (c : ControlView) (p : Current) (cards : ℕ) (k : IsKept c p cards) (l
     later = λ e lt. showing-none 0 l e absent ∙ t.later e lt;
     cards = t.cards;
     shows = t.shows;
+    seen = λ e. showing-none 0 l e absent ∙ t.seen e;
   }
     where
       absent : (now l.carried).present ≡ false
@@ -233,6 +261,7 @@ module _ (c : ControlView) (p : Current) (cards : ℕ) (k : IsKept c p cards) (l
   pub up-seated : Learned (seated c) → KeepUp l (seated c)
   up-seated learned = record {
     learned = learned;
+    first = t.first;
     points = t.points;
     slots = t.slots;
     open_now = t.open_now;
@@ -240,11 +269,13 @@ module _ (c : ControlView) (p : Current) (cards : ℕ) (k : IsKept c p cards) (l
     later = t.later;
     cards = t.cards;
     shows = t.shows;
+    seen = t.seen;
   }
 
   pub up-told : (v : SeatView) → Learned (told c v) → KeepUp l (told c v)
   up-told v learned = record {
     learned = learned;
+    first = t.first;
     points = t.points;
     slots = t.slots;
     open_now = t.open_now;
@@ -252,6 +283,7 @@ module _ (c : ControlView) (p : Current) (cards : ℕ) (k : IsKept c p cards) (l
     later = t.later;
     cards = t.cards;
     shows = t.shows;
+    seen = t.seen;
   }
     where
       more : (1 ≤ l.nexts (current c).epoch) × (l.nexts (current c).epoch ≤ least_under c (current c)) → (1 ≤ l.nexts (current c).epoch) × (l.nexts (current c).epoch ≤ least_under (told c v) (current c))
@@ -261,6 +293,7 @@ module _ (c : ControlView) (p : Current) (cards : ℕ) (k : IsKept c p cards) (l
   pub up-back : (v : SeatView) → Learned (told (seated c) v) → KeepUp l (told (seated c) v)
   up-back v learned = record {
     learned = learned;
+    first = t.first;
     points = t.points;
     slots = t.slots;
     open_now = t.open_now;
@@ -268,6 +301,7 @@ module _ (c : ControlView) (p : Current) (cards : ℕ) (k : IsKept c p cards) (l
     later = t.later;
     cards = t.cards;
     shows = t.shows;
+    seen = t.seen;
   }
     where
       more : (1 ≤ l.nexts (current c).epoch) × (l.nexts (current c).epoch ≤ least_under c (current c)) → (1 ≤ l.nexts (current c).epoch) × (l.nexts (current c).epoch ≤ least_under (told (seated c) v) (current c))
@@ -304,6 +338,7 @@ module _ (c : ControlView) (p : Current) (cards : ℕ) (k : IsKept c p cards) (l
       n.3,
       subst (λ (m : Account). KeepUp m d) (sym (gaining-is x.pn present claim.first)) (record {
         learned = known;
+        first = t.first;
         points = t.points;
         slots = t.slots;
         open_now = t.open_now;
@@ -311,9 +346,20 @@ module _ (c : ControlView) (p : Current) (cards : ℕ) (k : IsKept c p cards) (l
         later = λ e lt. ap (λ (b : Bool). cond b (max (x.pn + 1) (l.nexts e)) (l.nexts e)) (apart e lt) ∙ t.later e lt;
         cards = t.cards;
         shows = t.shows;
+        seen = λ e. seen-one e (by_test (e == (now l.carried).epoch) (λ y. inl y) (λ y. inr y));
       }),
     )
       where
+        seen-one : (e : ℕ) → ((e == (now l.carried).epoch) ≡ true) ⊎ ((e == (now l.carried).epoch) ≡ false)
+            → cond (e == (now l.carried).epoch) (max (x.pn + 1) (l.nexts e)) (l.nexts e)
+            ≡ max 1 (max (max (cond ((now l.carried).epoch == e) (x.pn + 1) 0) (past_claims e l.claims)) (greatest_seen e c.loads))
+        seen-one e (inl y) =
+            let same : ((now l.carried).epoch == e) ≡ true = eq-eqb (now l.carried).epoch e (sym (eqb-true e (now l.carried).epoch y)) in
+            let z = t.seen e in rw (y, same) (omega arith)
+        seen-one e (inr n_y) =
+            let other : ((now l.carried).epoch == e) ≡ false = ne_eqb (now l.carried).epoch e (λ same. absurd (cc (sym n_y ∙ eq-eqb e (now l.carried).epoch (sym same)))) in
+            let z = t.seen e in rw (n_y, other) (omega arith)
+
         here : current c ≡ present_at x.an x.epoch
         here = λ i. record { epoch = sym n.1 i; present = is i; an = sym n.0 i }
 

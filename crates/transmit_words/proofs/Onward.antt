@@ -20,9 +20,12 @@ use Rattle.lan_core.specs.Run.{Run, Happening, stations, started}
 use Rattle.lan_core.specs.Keys.{held_at}
 use Rattle.group_safety.specs.Transmitting.{Carried, nothing, now, follow, CarriesAt}
 use Rattle.group_safety.specs.Accounts.{Account, blank, account_at, ahead, onward, claiming, gaining}
-use Rattle.transmit_words.specs.Telling.{Tells}
-use Rattle.transmit_words.specs.Ties.{IsTied, AreTiedBy, AreTied, AreAheadBy, AreAhead}
-use Rattle.transmit_words.specs.Ties.{FollowsBy, Follows, Followed, HaveKeptUp}
+use Rattle.lan_core.specs.declared.fact.Fact.{Fact}
+use Rattle.transmit_words.specs.Telling.{KeepUp, CatchUp}
+use Rattle.transmit_words.specs.Ties.{IsTiedBy, AreTiedBy, AreAheadBy, FollowsBy, Follows, Followed}
+use Rattle.transmit_words.specs.Ties.{HaveKeptUp, HaveCaughtUp, HaveClaimsBeside, AreToldAll}
+use Rattle.transmit_words.specs.Seats.{AreAllIn}
+use Rattle.transmit_words.proofs.Catching.{caught-still, caught-beside}
 
 claiming-carried : (a : Account) → (claiming a).carried ≡ a.carried
 claiming-carried a = by_test (now a.carried).present (λ y. rw y refl) (λ y. rw y refl)
@@ -74,11 +77,11 @@ module _ (Says : Account → ControlView → Type 0) (takes : ℕ → Event → 
             (m.0, m.2, subst (λ (w : Account). Says w d.view) (sym (on s a.0 m.0 a.1)) (says s y.0 d y.2 l m.0 a.2 (ap (λ (q : Carried). follow s x.facts q) at ∙ m.1)));
       }
 
--- words that tell a run keep up with it
-pub tied-up : (settings : Settings) (r : Run) (cs : List ControlAt) → AreTied settings r cs → HaveKeptUp settings r cs
-tied-up settings r cs tied = record {
+-- words that say one thing of a run say another of it
+pub tied-also : (Says Means : Account → ControlView → Type 0) (settings : Settings) (r : Run) (cs : List ControlAt) → ((a : Account) (c : ControlView) → Says a c → Means a c) → AreTiedBy Says settings r cs → AreTiedBy Means settings r cs
+tied-also Says Means settings r cs so tied = record {
   many = tied.many;
-  each = λ s c there. let a = tied.each s c there in (a.0, a.1, a.2.keep_up);
+  each = λ s c there. let a = tied.each s c there in (a.0, a.1, so _ c.view a.2);
 }
 
 -- one stands behind others
@@ -88,13 +91,38 @@ at-last [] c (suc s) d is = absurd (cc is)
 at-last (x ∷ cs) c zero d is = inl is
 at-last (x ∷ cs) c (suc s) d is = ⊎_elim (λ (here : slice_get cs s ≡ Some d). inl here) (λ (last : (s ≡ length cs) × (c ≡ d)). inr (ap suc last.0, last.1)) (at-last cs c s d is)
 
-pub tied-new : (settings : Settings) (r : Run) (name : Name) (sci : Sci) (priority : ℕ) (cs : List ControlAt) (c : ControlAt)
-    → CarriesAt settings (length (stations r)) r nothing × (account_at settings (length (stations r)) r nothing ≡ blank) → AreTied settings r cs → Tells blank c.view
-    → AreAhead settings r (events.Start name sci priority) (cs ++ c ∷ [])
-tied-new settings r name sci priority cs c none tied tells = record {
+-- words for a station that is about to start
+pub tied-new : (Says : Account → ControlView → Type 0) (takes : ℕ → Event → Account → Account) (settings : Settings) (r : Run) (name : Name) (sci : Sci) (priority : ℕ) (cs : List ControlAt) (c : ControlAt)
+    → ((s : ℕ) (a : Account) → takes s (events.Start name sci priority) a ≡ a)
+    → CarriesAt settings (length (stations r)) r nothing × (account_at settings (length (stations r)) r nothing ≡ blank) → AreTiedBy Says settings r cs → Says blank c.view
+    → AreAheadBy Says takes settings r (events.Start name sci priority) (cs ++ c ∷ [])
+tied-new Says takes settings r name sci priority cs c takes_none none tied says = record {
   many = length-append cs (c ∷ []) ∙ (ap (λ (n : ℕ). n + 1) tied.many ∙ sym (length-append (stations r) (started (events.Start name sci priority))));
-  each = λ s d there. ⊎_elim (λ (here : slice_get cs s ≡ Some d). tied.each s d here)
-      (λ (last : (s ≡ length cs) × (c ≡ d)). subst (λ (n : ℕ). IsTied settings n r d) (sym (last.0 ∙ tied.many))
-      (nothing, none.0, subst (λ (v : ControlAt). Tells (account_at settings (length (stations r)) r nothing) v.view) last.1 (subst (λ (a : Account). Tells a c.view) (sym none.1) tells)))
-      (at-last cs c s d there);
+  each = λ s d there. let k = here s d (at-last cs c s d there) in
+      (k.0, k.1, subst (λ (a : Account). Says a d.view) (sym (takes_none s (account_at settings s r k.0))) k.2);
 }
+  where
+    here : (s : ℕ) (d : ControlAt) → (slice_get cs s ≡ Some d) ⊎ ((s ≡ length cs) × (c ≡ d)) → IsTiedBy Says settings s r d
+    here s d (inl there) = tied.each s d there
+    here s d (inr last) = subst (λ (n : ℕ). IsTiedBy Says settings n r d) (sym (last.0 ∙ tied.many))
+        (nothing, none.0, subst (λ (v : ControlAt). Says (account_at settings (length (stations r)) r nothing) v.view) last.1 (subst (λ (a : Account). Says a c.view) (sym none.1) says))
+
+-- where words follow facts, they stay caught up
+pub follows-caught : (s : ℕ) (shown : List Fact) (c d : ControlAt) → Follows s shown c d → FollowsBy CatchUp s shown c d
+follows-caught s shown c d f l k caught is = caught-still l (record l { carried = k }) c.view d.view caught (f.keeps_up l k caught.keep_up is) f.seats refl
+
+-- once all seats came back
+pub tied-beside : (settings : Settings) (q r : Run) (cs : List ControlAt) → HaveKeptUp settings q cs → AreAllIn cs → HaveClaimsBeside settings q r → AreToldAll r cs → HaveCaughtUp settings r cs
+tied-beside settings q r cs up all_in beside told_all = record {
+  many = up.many ∙ sym beside.many;
+  each = λ s c there. let a = up.each s c there in let b = beside.each s a.0 a.1 in
+      (a.0, b.0, caught-beside (account_at settings s q a.0) (account_at settings s r a.0) c.view a.2 (all_in s c there) b.1 (told_all s c there));
+}
+
+-- words that have caught up keep up, and no seat is out
+pub caught-kept : (settings : Settings) (r : Run) (cs : List ControlAt) → HaveCaughtUp settings r cs → HaveKeptUp settings r cs × AreAllIn cs × AreToldAll r cs
+caught-kept settings r cs caught = (
+  tied-also CatchUp KeepUp settings r cs (λ a c t. t.keep_up) caught,
+  λ s c there. (caught.each s c there).2.all_in,
+  λ s c there. (caught.each s c there).2.claims,
+)

@@ -33,8 +33,8 @@ use Rattle.group_safety.specs.Accounts.{Account, next_now, looked, showing, gain
 use Rattle.group_safety.proofs.Public.{contains-in, in-contains, in-left, in-right, follow-append}
 use Rattle.association_slots.specs.declared.view.ControlView.{ControlView}
 use Rattle.transmit_words.specs.Telling.{KeepUp, Tells, IsClaimed, HasGained, of_seats, word_of}
-use Rattle.transmit_words.specs.Ties.{tables_of, IsTiedBy, IsTied, AreTied, IsAheadBy, AreAhead, AreHeld}
-use Rattle.transmit_words.specs.Ties.{HaveKeptUp, KeepAhead, FollowsBy, Follows, Followed}
+use Rattle.transmit_words.specs.Ties.{tables_of, IsTiedBy, AreTiedBy, IsTied, AreTied, IsAheadBy, AreAheadBy}
+use Rattle.transmit_words.specs.Ties.{AreAhead, AreHeld, FollowsBy, Follows, Followed}
 use Rattle.transmit_words.specs.inside.Cards.{HasCard, card_of_key, card_held}
 use Rattle.sak_exchange.specs.declared.held_key.HeldKey.{HeldKey}
 use Rattle.lan_core.specs.Keys.{held_at}
@@ -138,65 +138,69 @@ module _ (settings : Settings) (r : Run) (cs : List ControlAt) (s : ℕ) (c d : 
           (a.0, a.1, subst (λ (b : Bool). Tells (cond b (claiming (account_at settings t r a.0)) (account_at settings t r a.0)) v.view) (sym (ne_eqb s t (λ e. other.0 (sym e)))) a.2))
           (get-set cs s d t v there)
 
--- ---- words that keep up
-
-module _ (settings : Settings) (r : Run) (cs : List ControlAt) (s : ℕ) (c d : ControlAt) (up : HaveKeptUp settings r cs) (at : slice_get cs s ≡ Some c) where
-  -- where the words of one station keep up after as before
-  pub up-same : ((m : Account) → KeepUp m c.view → KeepUp m d.view) → HaveKeptUp settings r (set cs s d)
-  up-same keeps = record {
-    many = length-set cs s d ∙ up.many;
-    each = set-each (λ t v. IsTiedBy KeepUp settings t r v) cs s d (λ t v ne there. up.each t v there) (let a = up.each s c at in (a.0, a.1, keeps _ a.2));
-  }
-
-  pub up-all : ((k : Carried) → CarriesAt settings s r k → next_now (account_at settings s r k) ≡ next_under settings s r (transmitting_at settings s r))
-      → (n : ℕ) → ((m : Account) → KeepUp m c.view → (next_now m ≤ n) × (next_now m ≡ 0 → n ≡ 0)) → ((m : Account) → KeepUp m c.view → KeepUp (showing n m) d.view)
-      → ((next_under settings s r (transmitting_at settings s r) ≤ n) × (next_under settings s r (transmitting_at settings s r) ≡ 0 → n ≡ 0)) × KeepAhead settings r (events.Tick s n) (set cs s d)
-  up-all told n below keeps = (
-    let a = up.each s c at in let z = told a.0 a.1 in let y = below _ a.2 in let low = y.0 in (omega (arith, z, low), λ none. y.1 (z ∙ none)),
-    record {
-      many = length-set cs s d ∙ (up.many ∙ none-more (stations r));
-      each = set-each (λ t v. IsAheadBy KeepUp onward settings t r (events.Tick s n) v) cs s d
-          (λ t v ne there. let a = up.each t v there in (a.0, a.1, subst (λ (b : Bool). KeepUp (cond b (showing n (account_at settings t r a.0)) (account_at settings t r a.0)) v.view) (sym (ne_eqb s t (λ e. ne (sym e)))) a.2))
-          (let a = up.each s c at in (a.0, a.1, subst (λ (b : Bool). KeepUp (cond b (showing n (account_at settings s r a.0)) (account_at settings s r a.0)) d.view) (sym (eq-eqb s s refl)) (keeps _ a.2)));
-    },
-  )
-
--- ---- a claim after workers claimed beside
+-- ---- words that say this of their account, where one station takes a step
 
 gaining-none : (a : Account) → gaining 0 a ≡ a
 gaining-none a = ap (λ (b : Bool). cond b (record a { nexts = λ e. cond (e == (now a.carried).epoch) (max 1 (a.nexts e)) (a.nexts e); claims = ((now a.carried).epoch, 0) ∷ a.claims }) a) (and-false (now a.carried).present)
 
-module _ (settings : Settings) (r : Run) (cs : List ControlAt) (s : ℕ) (c d : ControlAt) (up : HaveKeptUp settings r cs) (at : slice_get cs s ≡ Some c)
-    (told : (k : Carried) → CarriesAt settings s r k → next_now (account_at settings s r k) ≡ next_under settings s r (transmitting_at settings s r)) where
-  abbrev m : Account
-  m = account_at settings s r (up.each s c at).0
+module _ (Says : Account → ControlView → Type 0) (settings : Settings) (r : Run) (cs : List ControlAt) (s : ℕ) (c d : ControlAt) (tied : AreTiedBy Says settings r cs) (at : slice_get cs s ≡ Some c) where
+  -- those of one station say after as before
+  pub said-same : ((m : Account) → Says m c.view → Says m d.view) → AreTiedBy Says settings r (set cs s d)
+  said-same keeps = record {
+    many = length-set cs s d ∙ tied.many;
+    each = set-each (λ t v. IsTiedBy Says settings t r v) cs s d (λ t v ne there. tied.each t v there) (let a = tied.each s c at in (a.0, a.1, keeps _ a.2));
+  }
 
-  same-next : next_now m ≡ next_under settings s r (transmitting_at settings s r)
-  same-next = told (up.each s c at).0 (up.each s c at).1
+  -- a number was shown
+  pub said-shown : (n : ℕ) → ((m : Account) → Says m c.view → Says (showing n m) d.view) → AreAheadBy Says onward settings r (events.Tick s n) (set cs s d)
+  said-shown n keeps = record {
+    many = length-set cs s d ∙ (tied.many ∙ none-more (stations r));
+    each = set-each (λ t v. IsAheadBy Says onward settings t r (events.Tick s n) v) cs s d
+        (λ t v ne there. let a = tied.each t v there in (a.0, a.1, subst (λ (b : Bool). Says (cond b (showing n (account_at settings t r a.0)) (account_at settings t r a.0)) v.view) (sym (ne_eqb s t (λ e. ne (sym e)))) a.2))
+        (let a = tied.each s c at in (a.0, a.1, subst (λ (b : Bool). Says (cond b (showing n (account_at settings s r a.0)) (account_at settings s r a.0)) d.view) (sym (eq-eqb s s refl)) (keeps _ a.2)));
+  }
 
-  got-by : (answer : Result Claim NoClaim) → HasGained m c.view answer (λ b. KeepUp b d.view) → HasGot settings s r cs (number_of answer) × KeepUp (gaining (number_of answer) m) d.view
-  got-by (Ok x) is = (inl (let y = same-next in let z = is.1 in omega arith, is.2, is.3), is.5)
-  got-by (Err (NoKey after)) is = (
-    inr (refl, inl (sym same-next ∙ ap (λ (b : Bool). cond b (m.nexts (now m.carried).epoch) 0) is.0)),
-    subst (λ (b : Account). KeepUp b d.view) (sym (gaining-none m)) is.2,
-  )
-  got-by (Err (Exhausted epoch)) is = (
-    inr (refl, inr (c, at, subst (λ (e : ℕ). last_number < told_sum c.view (current c.view).an e) (sym (ap (λ (q : Current). q.epoch) is.0)) is.1)),
-    subst (λ (b : Account). KeepUp b d.view) (sym (gaining-none m)) is.2,
-  )
+  -- a number was claimed
+  said-claimed : (user n : ℕ) → Says (gaining n (account_at settings s r (tied.each s c at).0)) d.view → AreAheadBy Says onward settings r (events.Claim s user n) (set cs s d)
+  said-claimed user n says = record {
+    many = length-set cs s d ∙ (tied.many ∙ none-more (stations r));
+    each = set-each (λ t v. IsAheadBy Says onward settings t r (events.Claim s user n) v) cs s d
+        (λ t v ne there. let a = tied.each t v there in (a.0, a.1, subst (λ (b : Bool). Says (cond b (gaining n (account_at settings t r a.0)) (account_at settings t r a.0)) v.view) (sym (ne_eqb s t (λ e. ne (sym e)))) a.2))
+        (let a = tied.each s c at in (a.0, a.1, subst (λ (b : Bool). Says (cond b (gaining n (account_at settings s r a.0)) (account_at settings s r a.0)) d.view) (sym (eq-eqb s s refl)) says));
+  }
 
-  pub gain-all : (user pn : ℕ) (answer : Result Claim NoClaim) → pn ≡ number_of answer → HasGained m c.view answer (λ b. KeepUp b d.view)
-      → HasGot settings s r cs pn × KeepAhead settings r (events.Claim s user pn) (set cs s d)
-  gain-all user pn answer is gained = let by = got-by answer gained in
-      subst (λ (n : ℕ). HasGot settings s r cs n × KeepAhead settings r (events.Claim s user n) (set cs s d)) (sym is) (
-        by.0,
-        record {
-          many = length-set cs s d ∙ (up.many ∙ none-more (stations r));
-          each = set-each (λ t v. IsAheadBy KeepUp onward settings t r (events.Claim s user (number_of answer)) v) cs s d
-              (λ t v ne there. let a = up.each t v there in (a.0, a.1, subst (λ (b : Bool). KeepUp (cond b (gaining (number_of answer) (account_at settings t r a.0)) (account_at settings t r a.0)) v.view) (sym (ne_eqb s t (λ e. ne (sym e)))) a.2))
-              (let a = up.each s c at in (a.0, a.1, subst (λ (b : Bool). KeepUp (cond b (gaining (number_of answer) m) m) d.view) (sym (eq-eqb s s refl)) by.1));
-        },
-      )
+  module _ (told : (k : Carried) → CarriesAt settings s r k → next_now (account_at settings s r k) ≡ next_under settings s r (transmitting_at settings s r)) where
+    -- what is shown is not below the next number
+    pub said-ahead : (n : ℕ) → ((m : Account) → Says m c.view → (next_now m ≤ n) × (next_now m ≡ 0 → n ≡ 0))
+        → (next_under settings s r (transmitting_at settings s r) ≤ n) × (next_under settings s r (transmitting_at settings s r) ≡ 0 → n ≡ 0)
+    said-ahead n below = let a = tied.each s c at in let z = told a.0 a.1 in let y = below _ a.2 in let low = y.0 in (omega (arith, z, low), λ none. y.1 (z ∙ none))
+
+    -- nor far above it
+    pub said-near : (n : ℕ) → ((m : Account) → Says m c.view → n ≤ next_now m + 16) → n ≤ next_under settings s r (transmitting_at settings s r) + 16
+    said-near n near = let a = tied.each s c at in let z = told a.0 a.1 in let y = near _ a.2 in omega (arith, z, y)
+
+    abbrev m : Account
+    m = account_at settings s r (tied.each s c at).0
+
+    same-next : next_now m ≡ next_under settings s r (transmitting_at settings s r)
+    same-next = told (tied.each s c at).0 (tied.each s c at).1
+
+    got-by : (answer : Result Claim NoClaim) → HasGained m c.view answer (λ b. Says b d.view) → HasGot settings s r cs (number_of answer) × Says (gaining (number_of answer) m) d.view
+    got-by (Ok x) is = (inl (let y = same-next in let z = is.1 in omega arith, is.2, is.3), is.5)
+    got-by (Err (NoKey after)) is = (
+      inr (refl, inl (sym same-next ∙ ap (λ (b : Bool). cond b (m.nexts (now m.carried).epoch) 0) is.0)),
+      subst (λ (b : Account). Says b d.view) (sym (gaining-none m)) is.2,
+    )
+    got-by (Err (Exhausted epoch)) is = (
+      inr (refl, inr (c, at, subst (λ (e : ℕ). last_number < told_sum c.view (current c.view).an e) (sym (ap (λ (q : Current). q.epoch) is.0)) is.1)),
+      subst (λ (b : Account). Says b d.view) (sym (gaining-none m)) is.2,
+    )
+
+    pub said-gained : (user pn : ℕ) (answer : Result Claim NoClaim) → pn ≡ number_of answer → HasGained m c.view answer (λ b. Says b d.view)
+        → HasGot settings s r cs pn × AreAheadBy Says onward settings r (events.Claim s user pn) (set cs s d)
+    said-gained user pn answer is gained = let by = got-by answer gained in
+        subst (λ (n : ℕ). HasGot settings s r cs n × AreAheadBy Says onward settings r (events.Claim s user n) (set cs s d)) (sym is)
+        (by.0, said-claimed user (number_of answer) by.1)
 
 pub all-in-set : (cs : List ControlAt) (s : ℕ) (c d : ControlAt) → slice_get cs s ≡ Some c → (AllIn c.view → AllIn d.view) → AreAllIn cs → AreAllIn (set cs s d)
 all-in-set cs s c d at one all = set-each (λ t v. AllIn v.view) cs s d (λ t v ne there. all t v there) (one (all s c at))

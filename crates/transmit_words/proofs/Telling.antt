@@ -1,7 +1,7 @@
 -- The words tell the account, call by call.
 use Rattle.std.proofs.Common.{◌≡◌, ℕ, ◌+◌, ◌^◌, ◌<◌, ◌≤◌, ◌==◌, Bool, true, false, ◌&&◌, cond}
 use Rattle.std.proofs.Common.{List, [], ◌∷◌, ◌++◌, Some, Result, Ok, Err, MatchResult}
-use Rattle.std.proofs.Common.{refl, sym, ap, ◌∙◌, subst, ⊎_elim, arith, eq-eqb, get_or}
+use Rattle.std.proofs.Common.{refl, sym, ap, ◌∙◌, subst, ◌⊎◌, inl, inr, ⊎_elim, arith, eq-eqb, get_or, max}
 use Rattle.std.proofs.lemmas.Bool.{ne_eqb, lt-ltb, eqb-true}
 use Rattle.std.specs.Prelude.{nat_lt}
 use Rattle.sak_exchange.proofs.Public.{by_test}
@@ -25,6 +25,7 @@ use Rattle.lan_core.specs.Expected.{last_number}
 use Rattle.group_safety.specs.Transmitting.{Carried, now}
 use Rattle.group_safety.specs.Transmitting.{silent_after, installed, begun, ended}
 use Rattle.group_safety.specs.Accounts.{Account, blank, next_now, looked, showing, with_claim}
+use Rattle.transmit_words.specs.Counting.{past_claims, greatest_seen}
 use Rattle.transmit_words.specs.Telling.{KeepUp, OfSeats, of_seats, Tells, IsClaimed, word_of}
 use Rattle.transmit_words.specs.inside.Kept.{IsKept}
 use Rattle.transmit_words.proofs.Keeping.{none-out, names}
@@ -198,9 +199,22 @@ module _ (c : ControlView) (p : Current) (cards : ℕ) (k : IsKept c p cards) (l
         next_one : (with_claim x.epoch x.pn l).nexts (current c).epoch ≡ x.pn + 1
         next_one = ap (λ (b : Bool). cond b (x.pn + 1) (l.nexts (current c).epoch)) (eq-eqb (current c).epoch x.epoch (sym n.1))
 
+        seen-one : (e : ℕ) → ((e == x.epoch) ≡ true) ⊎ ((e == x.epoch) ≡ false)
+            → cond (e == x.epoch) (x.pn + 1) (l.nexts e)
+            ≡ max 1 (max (max (cond (x.epoch == e) (x.pn + 1) 0) (past_claims e l.claims)) (greatest_seen e c.loads))
+        seen-one e (inl y) =
+            let e_is : e ≡ x.epoch = eqb-true e x.epoch y in
+            let same : (x.epoch == e) ≡ true = eq-eqb x.epoch e (sym e_is) in
+            let here : x.pn ≡ l.nexts e = n.2 ∙ (told_is ∙ ap l.nexts (sym n.1 ∙ sym e_is)) in
+            let z = u.seen e in rw (y, same) (omega arith)
+        seen-one e (inr n_y) =
+            let other : (x.epoch == e) ≡ false = ne_eqb x.epoch e (λ same. absurd (cc (sym n_y ∙ eq-eqb e x.epoch (sym same)))) in
+            let z = u.seen e in rw (n_y, other) (omega arith)
+
         claim-up : KeepUp (with_claim x.epoch x.pn l) d
         claim-up = record {
           learned = known;
+          first = u.first;
           points = u.points;
           slots = u.slots;
           open_now = u.open_now;
@@ -208,6 +222,7 @@ module _ (c : ControlView) (p : Current) (cards : ℕ) (k : IsKept c p cards) (l
           later = λ e lt. ap (λ (b : Bool). cond b (x.pn + 1) (l.nexts e)) (apart e lt) ∙ u.later e lt;
           cards = u.cards;
           shows = u.shows;
+          seen = λ e. seen-one e (by_test (e == x.epoch) (λ y. inl y) (λ y. inr y));
         }
 
     tells-none : (current c).present ≡ false → (after : ℕ) → IsNoKey (new_seat c) v after → Tells l d

@@ -11,7 +11,9 @@ ghost use Rattle.lan_core.specs.Expected.{last_number};
 ghost use Rattle.transmit_words.specs.Telling.{KeepUp, Tells, CatchUp, IsClaimed, HasGained, of_seats};
 ghost use Rattle.transmit_words.specs.Telling.{sending_of};
 
-use association_slots::{Card, Control, Current, SlotTable, WorkerSeat, law_earlier_cards_stay};
+use association_slots::{
+    Card, Control, Current, SlotTable, WorkerSeat, law_earlier_cards_stay, law_few_numbers_are_lost,
+};
 use lan_base::AssociationNumber;
 use packet_claims::{Claim, Gate, NoClaim, Point, claim_alone, tell};
 use std::alloc::{AllocError, Global};
@@ -166,6 +168,7 @@ impl TransmitControl {
         ensures seats { of_seats self.new.view ≡ of_seats self.old.view }
         ensures cards { self.new.view.card_words ≡ self.old.view.card_words }
     {
+        law_few_numbers_are_lost();
         if !self.now.present {
             return 0;
         }

@@ -6,8 +6,9 @@ ghost use Rattle.lan_base.specs.declared.association_number.AssociationNumber.{A
 ghost use Rattle.lan_base.specs.declared.frame.UserFrame.{UserFrame};
 ghost use Rattle.lan_base.specs.declared.name.Name.{Name};
 ghost use Rattle.association_slots.specs.Rule.{Around};
-ghost use Rattle.association_slots.specs.Views.{ControlAt, IsOpen, told_sum};
+ghost use Rattle.association_slots.specs.Views.{In, ControlAt, IsOpen, told_sum};
 ghost use Rattle.association_slots.specs.declared.view.ControlView.{ControlView};
+ghost use Rattle.association_slots.specs.declared.view.Mark.{Mark};
 ghost use Rattle.association_slots.specs.declared.view.View.{View};
 ghost use Rattle.lan_core.specs.declared.event.Event.TheVariants as events;
 ghost use Rattle.lan_core.specs.declared.settings.Settings.{Settings};
@@ -104,6 +105,13 @@ pub fn law_all_words_stay_tied()
 
 // ---- after workers claimed beside
 
+/// Words that have caught up with a run keep up with it, so that workers may claim beside again: no
+/// seat is out, and the run has the claims that seats told.
+pub fn law_caught_up_words_keep_up()
+    ensures { (settings : Settings) (r : Run) (cs : List ControlAt) → HaveCaughtUp settings r cs
+        → HaveKeptUp settings r cs × AreAllIn cs × AreToldAll r cs }
+{}
+
 /// Once all seats came back, words that kept up with a run have caught up with the run that has
 /// their claims beside.
 pub fn law_words_catch_up()
@@ -146,11 +154,14 @@ pub fn law_words_keep_a_run_thrifty()
     law_a_place_without_a_station_is_blank();
 }
 
-/// Where few numbers were claimed, the words have packet numbers left.
+/// Where few numbers were claimed, the words have packet numbers left, and no seat found an epoch
+/// over.
 pub fn law_few_claims_spend_no_words()
     ensures words { (a : Account) (c : ControlView) → CatchUp a c
         → (an : AssociationNumber) (epoch : ℕ) → times_under epoch a.claims + 17 ≤ last_number
         → told_sum c an epoch ≤ last_number }
+    ensures marks { (a : Account) (c : ControlView) (m : Mark) → CatchUp a c
+        → times_under m.epoch a.claims + 17 ≤ last_number → In m c.told_over → ⊥ }
     ensures stations { (settings : Settings) (r : Run) (cs : List ControlAt) (s : ℕ)
         → HaveCaughtUp settings r cs → length (claims r) + 17 ≤ last_number → AreSpent s cs → ⊥ }
 {

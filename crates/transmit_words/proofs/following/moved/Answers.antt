@@ -14,3 +14,9 @@ returns-in-Some-clause-keeps_up g c = λ a k t is has. c.install.ensures.keeps_u
 
 pub returns-in-Began-clause-keeps_up : goal.returns-in-Began-clause-keeps_up
 returns-in-Began-clause-keeps_up g c = λ a k t is has. c.begin.ensures.keeps_up a k t (ap (λ (f : Fact). moved f a.carried) (sym c.in-Began.is) ∙ is)
+
+pub returns-in-Some-clause-catches_up : goal.returns-in-Some-clause-catches_up
+returns-in-Some-clause-catches_up g c = λ a k t is has. c.install.ensures.catches_up a k t (ap (λ (f : Fact). moved f a.carried) (sym c.in-Installed.is) ∙ is)
+
+pub returns-in-Began-clause-catches_up : goal.returns-in-Began-clause-catches_up
+returns-in-Began-clause-catches_up g c = λ a k t is has. c.begin.ensures.catches_up a k t (ap (λ (f : Fact). moved f a.carried) (sym c.in-Began.is) ∙ is)

@@ -6,6 +6,7 @@ use Rattle.transmit_words.specs.Telling.{KeepUp, Tells, of_seats}
 use Rattle.transmit_words.proofs.Keeping.{kept-begun, kept-begun-alone, seen-begun, seen-begun-alone, may-parts}
 use Rattle.transmit_words.proofs.KeepingUp.{up-begun, not-begun}
 use Rattle.transmit_words.proofs.Telling.{tells-begun}
+use Rattle.transmit_words.proofs.Catching.{caught-still}
 use Rattle.association_slots.specs.Learned.{Learned}
 use Rattle.transmit_words.proofs.control.TransmitControl.begin.Goals as goal
 
@@ -86,3 +87,15 @@ returns-then-not-may_begin-clause-tells g c = λ a j t is.
 pub returns-then-not-may_begin-clause-keeps_up : goal.returns-then-not-may_begin-clause-keeps_up
 returns-then-not-may_begin-clause-keeps_up g c = λ a j t is.
     absurd (not-begun _ c.self.inside.now _ c.self.invariant a (subst (λ (v : ControlAt). KeepUp a v.view) (sym c.self.view_is) t) j c.args.an c.args.epoch is (sym c.may_begin.ensures ∙ c.if-not-may_begin.true))
+
+pub returns-then-before-clause-catches_up : goal.returns-then-before-clause-catches_up
+returns-then-before-clause-catches_up g c = λ a j t is.
+    caught-still a (record a { carried = j }) _ _ t (returns-then-before-clause-keeps_up g c a j t.keep_up is) (returns-then-before-clause-seats g c) refl
+
+pub returns-else-before-clause-catches_up : goal.returns-else-before-clause-catches_up
+returns-else-before-clause-catches_up g c = λ a j t is.
+    caught-still a (record a { carried = j }) _ _ t (returns-else-before-clause-keeps_up g c a j t.keep_up is) (returns-else-before-clause-seats g c) refl
+
+pub returns-then-not-may_begin-clause-catches_up : goal.returns-then-not-may_begin-clause-catches_up
+returns-then-not-may_begin-clause-catches_up g c = λ a j t is.
+    absurd (not-begun _ c.self.inside.now _ c.self.invariant a (subst (λ (v : ControlAt). KeepUp a v.view) (sym c.self.view_is) t.keep_up) j c.args.an c.args.epoch is (sym c.may_begin.ensures ∙ c.if-not-may_begin.true))

@@ -3,11 +3,12 @@ use Rattle.association_slots.specs.Learned.{Learned}
 use Rattle.association_slots.specs.Views.{AllIn, ControlAt}
 use Rattle.association_slots.specs.declared.view.ControlView.{ControlView}
 use Rattle.packet_claims.specs.Alone.{IsNextClaim}
-use Rattle.transmit_words.specs.Telling.{KeepUp, Tells, IsClaimed, HasGained}
+use Rattle.transmit_words.specs.Telling.{KeepUp, Tells, CatchUp, IsClaimed, HasGained}
 use Rattle.transmit_words.specs.inside.Kept.{IsKept}
 use Rattle.transmit_words.proofs.Keeping.{kept-told, kept-seated, no-room}
 use Rattle.transmit_words.proofs.KeepingUp.{up-back, up-claimed}
 use Rattle.transmit_words.proofs.Telling.{tells-claimed}
+use Rattle.transmit_words.proofs.Catching.{caught-claimed}
 use Rattle.transmit_words.proofs.control.TransmitControl.claim.Goals as goal
 
 pub invariant_of-self : goal.invariant_of-self
@@ -55,3 +56,20 @@ returns-then-not-has_room-clause-claimed g c = λ l t low.
 pub returns-then-not-has_room-clause-gained : goal.returns-then-not-has_room-clause-gained
 returns-then-not-has_room-clause-gained g c = λ l t all_in.
     absurd (no-room c.self.inside.control.view (subst (λ (v : ControlAt). AllIn v.view) (sym c.self.view_is) all_in) (sym c.has_room.ensures ∙ c.if-not-has_room.true))
+
+pub returns-clause-catches_up : goal.returns-clause-catches_up
+returns-clause-catches_up g c = λ l t.
+    let a = c.claim_alone.ensures in
+    let d = a.did in
+    let c0 = c.self.inside.control.view in
+    let caught = subst (λ (v : ControlAt). CatchUp l v.view) (sym c.self.view_is) t in
+    let gained = returns-clause-gained g c l t.keep_up t.all_in in
+    subst (λ (old : ControlAt). HasGained l old.view c.claim_alone.result (λ m. CatchUp m c.claim_alone.new.control.view)) c.self.view_is
+    (subst (λ (w : ControlView). HasGained l c0 c.claim_alone.result (λ m. CatchUp m w)) (sym d.1)
+    (caught-claimed c0 d.0 l caught c.claim_alone.result (subst AllIn d.1 (a.all_in caught.all_in)) d.2
+    (subst (λ (w : ControlView). HasGained l c0 c.claim_alone.result (λ m. KeepUp m w)) d.1
+    (subst (λ (old : ControlAt). HasGained l old.view c.claim_alone.result (λ m. KeepUp m c.claim_alone.new.control.view)) (sym c.self.view_is) gained))))
+
+pub returns-then-not-has_room-clause-catches_up : goal.returns-then-not-has_room-clause-catches_up
+returns-then-not-has_room-clause-catches_up g c = λ l t.
+    absurd (no-room c.self.inside.control.view (subst (λ (v : ControlAt). CatchUp l v.view) (sym c.self.view_is) t).all_in (sym c.has_room.ensures ∙ c.if-not-has_room.true))

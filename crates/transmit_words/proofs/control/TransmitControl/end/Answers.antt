@@ -8,6 +8,7 @@ use Rattle.transmit_words.specs.Telling.{KeepUp, Tells, of_seats}
 use Rattle.transmit_words.proofs.Keeping.{kept-ended}
 use Rattle.transmit_words.proofs.KeepingUp.{up-ended}
 use Rattle.transmit_words.proofs.Telling.{tells-ended}
+use Rattle.transmit_words.proofs.Catching.{caught-still}
 use Rattle.transmit_words.proofs.control.TransmitControl.end.Goals as goal
 
 pub returns-clause-tells : goal.returns-clause-tells
@@ -43,3 +44,7 @@ returns-clause-seats g c =
     let an = c.args.an in
     let u = ap (λ (v : ControlAt). v.view) c.unpoint.ensures.view in
     ap of_seats (ap (λ (v : ControlAt). v.view) c.shut.ensures.view ∙ ap (λ (w : ControlView). closed w an c.shut.result) u) ∙ ap (λ (v : ControlAt). of_seats v.view) c.self.view_is
+
+pub returns-clause-catches_up : goal.returns-clause-catches_up
+returns-clause-catches_up g c = λ a t.
+    caught-still a (record a { carried = ended c.args.an a.carried }) _ _ t (returns-clause-keeps_up g c a t.keep_up) (returns-clause-seats g c) refl

@@ -1,4 +1,4 @@
-use Rattle.std.proofs.Common.{◌≡◌, ℕ, ◌+◌, ◌++◌, sym, ap, ◌∙◌, subst, arith}
+use Rattle.std.proofs.Common.{◌≡◌, refl, ℕ, ◌+◌, ◌++◌, sym, ap, ◌∙◌, subst, arith}
 use Rattle.association_slots.specs.Cards.{card_at, card_words}
 use Rattle.association_slots.specs.Learned.{Learned}
 use Rattle.association_slots.specs.Views.{ControlAt}
@@ -8,6 +8,7 @@ use Rattle.transmit_words.specs.inside.Kept.{IsKept}
 use Rattle.transmit_words.proofs.Keeping.{carded, kept-card, five-words}
 use Rattle.transmit_words.proofs.KeepingUp.{up-installed}
 use Rattle.transmit_words.proofs.Telling.{tells-installed}
+use Rattle.transmit_words.proofs.Catching.{caught-still}
 use Rattle.transmit_words.proofs.control.TransmitControl.install.Goals as goal
 
 pub invariant_of-self : goal.invariant_of-self
@@ -44,3 +45,7 @@ returns-in-Ok-clause-earlier c = λ a epoch t some low.
     subst (λ (old : ControlAt). card_at c.card.new.self.view epoch ≡ card_at old.view epoch) c.self.view_is
     (ap (λ (w : ControlView). card_at w epoch) c.in-Ok.ensures.view
     ∙ c.law_earlier_cards_stay.ensures c0 c.args.card.now epoch some (omega (arith, low, told)))
+
+pub returns-in-Ok-clause-catches_up : goal.returns-in-Ok-clause-catches_up
+returns-in-Ok-clause-catches_up c = λ a j t is.
+    caught-still a (record a { carried = j }) _ _ t (returns-in-Ok-clause-keeps_up c a j t.keep_up is) (returns-in-Ok-clause-seats c) refl

@@ -4,9 +4,10 @@ use Rattle.std.specs.Prelude.{slice_get}
 use Rattle.lan_core.specs.declared.event.Event.TheVariants as events
 use Rattle.association_slots.specs.Views.{ControlAt}
 use Rattle.group_safety.proofs.Public.{next-told}
-use Rattle.transmit_words.specs.Ties.{tables_of, AreTied, AreAhead, HaveKeptUp, KeepAhead}
+use Rattle.transmit_words.specs.Telling.{KeepUp, CatchUp}
+use Rattle.transmit_words.specs.Ties.{tables_of, AreTied, AreAhead, HaveKeptUp, KeepAhead, HaveCaughtUp, CaughtAhead}
 use Rattle.transmit_words.specs.Seats.{AreAllIn, HasGot}
-use Rattle.transmit_words.proofs.Stations.{tables-set, claim-all, gain-all, all-in-set, number_of}
+use Rattle.transmit_words.proofs.Stations.{tables-set, claim-all, said-gained, all-in-set, number_of}
 use Rattle.transmit_words.proofs.controls.Controls.claim.Goals.{in-Ok, in-Err}
 use Rattle.transmit_words.proofs.controls.Controls.claim.Goals as goal
 
@@ -52,10 +53,27 @@ returns-after-claim-clause-gained g c = λ settings r user up all_in there.
     ] in
     let kept = subst (HaveKeptUp settings r) (sym c.self.view_is) up in
     let ins = subst AreAllIn (sym c.self.view_is) all_in in
-    let by = gain-all settings r cs c.args.station c.index_mut.result.now c.claim.new.self kept at_s (next-told settings c.args.station r) user c.match-claim.result c.claim.result number
+    let by = said-gained KeepUp settings r cs c.args.station c.index_mut.result.now c.claim.new.self kept at_s (next-told settings c.args.station r) user c.match-claim.result c.claim.result number
     (c.claim.ensures.gained _ (kept.each c.args.station c.index_mut.result.now at_s).2 (ins c.args.station c.index_mut.result.now at_s)) in (
       subst (λ (old : List ControlAt). HasGot settings c.args.station r old c.match-claim.result) c.self.view_is by.0,
       subst (λ (p : ℕ). KeepAhead settings r (events.Claim c.args.station user c.match-claim.result) (set cs p c.claim.new.self)) (sym same) by.1,
+    )
+
+pub returns-after-claim-clause-catches_up : goal.returns-after-claim-clause-catches_up
+returns-after-claim-clause-catches_up g c = λ settings r user up there.
+    let cs = c.self.inside.controls.items in
+    let at = slice_get_read cs _ c.from-place.result c.index_mut.result.now refl (omega arith) c.index_mut.ensures.value in
+    let same : c.from-place.result ≡ c.args.station = c.from-place.ensures in
+    let at_s = subst (λ (p : ℕ). slice_get cs p ≡ Some c.index_mut.result.now) same at in
+    let number : c.match-claim.result ≡ number_of c.claim.result = elim c.match-claim.branch [
+      | in-Ok w ↦ w.result-is ∙ sym (ap number_of w.in-Ok.is)
+      | in-Err w ↦ w.result-is ∙ sym (ap number_of w.in-Err.is)
+    ] in
+    let kept = subst (HaveCaughtUp settings r) (sym c.self.view_is) up in
+    let by = said-gained CatchUp settings r cs c.args.station c.index_mut.result.now c.claim.new.self kept at_s (next-told settings c.args.station r) user c.match-claim.result c.claim.result number
+    (c.claim.ensures.catches_up _ (kept.each c.args.station c.index_mut.result.now at_s).2) in (
+      subst (λ (old : List ControlAt). HasGot settings c.args.station r old c.match-claim.result) c.self.view_is by.0,
+      subst (λ (p : ℕ). CaughtAhead settings r (events.Claim c.args.station user c.match-claim.result) (set cs p c.claim.new.self)) (sym same) by.1,
     )
 
 pub returns-after-claim-clause-all_in : goal.returns-after-claim-clause-all_in

@@ -1,9 +1,10 @@
 use Rattle.std.proofs.Common.{◌≡◌, ℕ, refl, sym, ap, ◌∙◌, subst, arith, set, List}
 use Rattle.std.proofs.lemmas.Option.{slice_get_read}
 use Rattle.association_slots.specs.Views.{ControlAt}
+use Rattle.transmit_words.specs.Telling.{KeepUp}
 use Rattle.transmit_words.specs.Ties.{tables_of, HaveKeptUp}
 use Rattle.transmit_words.specs.Seats.{HasJoined}
-use Rattle.transmit_words.proofs.Stations.{tables-set, up-same, has-joined}
+use Rattle.transmit_words.proofs.Stations.{tables-set, said-same, has-joined}
 use Rattle.transmit_words.proofs.controls.Controls.join.Goals as goal
 
 pub returns-then-place-len-clause-same : goal.returns-then-place-len-clause-same
@@ -25,4 +26,4 @@ pub returns-then-place-len-clause-keeps_up : goal.returns-then-place-len-clause-
 returns-then-place-len-clause-keeps_up c = λ settings r up.
     let cs = c.self.inside.controls.items in
     let at = slice_get_read cs _ c.from-place.result c.index_mut.result.now refl (omega arith) c.index_mut.ensures.value in
-    up-same settings r cs c.from-place.result c.index_mut.result.now c.join.new.self (subst (HaveKeptUp settings r) (sym c.self.view_is) up) at c.join.ensures.keeps_up
+    said-same KeepUp settings r cs c.from-place.result c.index_mut.result.now c.join.new.self (subst (HaveKeptUp settings r) (sym c.self.view_is) up) at c.join.ensures.keeps_up

@@ -3,8 +3,9 @@ use Rattle.std.proofs.lemmas.Option.{slice_get_read}
 use Rattle.std.specs.Prelude.{slice_get}
 use Rattle.lan_core.specs.declared.event.Event.TheVariants as events
 use Rattle.group_safety.proofs.Public.{next-told}
-use Rattle.transmit_words.specs.Ties.{tables_of, AreTied, AreAhead, HaveKeptUp, KeepAhead}
-use Rattle.transmit_words.proofs.Stations.{tables-set, next-all, up-all}
+use Rattle.transmit_words.specs.Telling.{KeepUp, CatchUp}
+use Rattle.transmit_words.specs.Ties.{tables_of, AreTied, AreAhead, HaveKeptUp, KeepAhead, HaveCaughtUp, CaughtAhead}
+use Rattle.transmit_words.proofs.Stations.{tables-set, next-all, said-shown, said-ahead, said-near}
 use Rattle.transmit_words.proofs.controls.Controls.next.Goals as goal
 
 pub returns-then-place-len-clause-next : goal.returns-then-place-len-clause-next
@@ -34,7 +35,7 @@ returns-then-place-len-clause-not_below c = λ settings r up there.
     let cs = c.self.inside.controls.items in
     let at = slice_get_read cs _ c.from-place.result c.index_mut.result.now refl (omega arith) c.index_mut.ensures.value in
     let at_s = subst (λ (p : ℕ). slice_get cs p ≡ Some c.index_mut.result.now) c.from-place.ensures at in
-    (up-all settings r cs c.args.station c.index_mut.result.now c.next.new.self (subst (HaveKeptUp settings r) (sym c.self.view_is) up) at_s (next-told settings c.args.station r) c.next.result c.next.ensures.not_below c.next.ensures.keeps_up).0
+    said-ahead KeepUp settings r cs c.args.station c.index_mut.result.now c.next.new.self (subst (HaveKeptUp settings r) (sym c.self.view_is) up) at_s (next-told settings c.args.station r) c.next.result c.next.ensures.not_below
 
 pub returns-then-place-len-clause-keeps_up : goal.returns-then-place-len-clause-keeps_up
 returns-then-place-len-clause-keeps_up c = λ settings r up there.
@@ -43,4 +44,16 @@ returns-then-place-len-clause-keeps_up c = λ settings r up there.
     let same : c.from-place.result ≡ c.args.station = c.from-place.ensures in
     let at_s = subst (λ (p : ℕ). slice_get cs p ≡ Some c.index_mut.result.now) same at in
     subst (λ (p : ℕ). KeepAhead settings r (events.Tick c.args.station c.next.result) (set cs p c.next.new.self)) (sym same)
-    (up-all settings r cs c.args.station c.index_mut.result.now c.next.new.self (subst (HaveKeptUp settings r) (sym c.self.view_is) up) at_s (next-told settings c.args.station r) c.next.result c.next.ensures.not_below c.next.ensures.keeps_up).1
+    (said-shown KeepUp settings r cs c.args.station c.index_mut.result.now c.next.new.self (subst (HaveKeptUp settings r) (sym c.self.view_is) up) at_s c.next.result c.next.ensures.keeps_up)
+
+pub returns-then-place-len-clause-catches_up : goal.returns-then-place-len-clause-catches_up
+returns-then-place-len-clause-catches_up c = λ settings r caught there.
+    let cs = c.self.inside.controls.items in
+    let at = slice_get_read cs _ c.from-place.result c.index_mut.result.now refl (omega arith) c.index_mut.ensures.value in
+    let same : c.from-place.result ≡ c.args.station = c.from-place.ensures in
+    let at_s = subst (λ (p : ℕ). slice_get cs p ≡ Some c.index_mut.result.now) same at in
+    let had = subst (HaveCaughtUp settings r) (sym c.self.view_is) caught in (
+      said-near CatchUp settings r cs c.args.station c.index_mut.result.now c.next.new.self had at_s (next-told settings c.args.station r) c.next.result (λ m t. (c.next.ensures.catches_up m t).0),
+      subst (λ (p : ℕ). CaughtAhead settings r (events.Tick c.args.station c.next.result) (set cs p c.next.new.self)) (sym same)
+      (said-shown CatchUp settings r cs c.args.station c.index_mut.result.now c.next.new.self had at_s c.next.result (λ m t. (c.next.ensures.catches_up m t).1)),
+    )

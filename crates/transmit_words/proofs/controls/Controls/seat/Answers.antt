@@ -2,9 +2,10 @@ use Rattle.std.proofs.Common.{◌≡◌, ℕ, refl, sym, ap, ◌∙◌, subst, a
 use Rattle.std.proofs.lemmas.Option.{slice_get_read}
 use Rattle.std.specs.Prelude.{IfSome, IfNone}
 use Rattle.association_slots.specs.Views.{ControlAt}
+use Rattle.transmit_words.specs.Telling.{KeepUp}
 use Rattle.transmit_words.specs.Ties.{tables_of, HaveKeptUp}
 use Rattle.transmit_words.specs.Seats.{WasSeated}
-use Rattle.transmit_words.proofs.Stations.{tables-set, up-same, was-seated, was-full}
+use Rattle.transmit_words.proofs.Stations.{tables-set, said-same, was-seated, was-full}
 use Rattle.transmit_words.proofs.controls.Controls.seat.Goals as goal
 
 pub returns-then-place-len-clause-same : goal.returns-then-place-len-clause-same
@@ -33,4 +34,4 @@ pub returns-then-place-len-clause-keeps_up : goal.returns-then-place-len-clause-
 returns-then-place-len-clause-keeps_up c = λ settings r up.
     let cs = c.self.inside.controls.items in
     let at = slice_get_read cs _ c.from-place.result c.index_mut.result.now refl (omega arith) c.index_mut.ensures.value in
-    up-same settings r cs c.from-place.result c.index_mut.result.now c.seat.new.self (subst (HaveKeptUp settings r) (sym c.self.view_is) up) at c.seat.ensures.keeps_up
+    said-same KeepUp settings r cs c.from-place.result c.index_mut.result.now c.seat.new.self (subst (HaveKeptUp settings r) (sym c.self.view_is) up) at c.seat.ensures.keeps_up
