@@ -9,3 +9,4 @@ pub mod Claims
 pub mod CaughtUp
 pub mod Sealed
 pub mod GoesOn
+mod Examples
