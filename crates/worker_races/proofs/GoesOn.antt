@@ -193,9 +193,12 @@ module _ (settings : Settings) (users : List UserFrame) (r : Run) (t : ℕ) (x :
             let follows : follow s x.facts (onward s x.event (account_at settings s r tie.0)).carried ≡ Some j.0 =
             ap (follow s x.facts) (onward-carried s t x.event (account_at settings s r tie.0) own) ∙ j.1 in
             let up = mid.2.keeps_up (onward s x.event (account_at settings s r tie.0)) j.0 tie.2 follows in
-            let same : mid.0.view.points ≡ look.0.view.points = look.2.points in
-            (look.0, look.1, record {
-              points = up.points ∙ said s tie.0 j.0 look.0.view tie.1 j.1 (sym same ∙ before);
-              seats = mid.2.seats ∙ look.2.seats;
-            });
+            let same : mid.0.view.points ≡ look.0.view.points = look.2.points in (
+              look.0,
+              look.1,
+              record {
+                points = up.points ∙ said s tie.0 j.0 look.0.view tie.1 j.1 (sym same ∙ before);
+                seats = mid.2.seats ∙ look.2.seats;
+              },
+            );
       }

@@ -63,15 +63,15 @@ module _ (settings : Settings) (users : List UserFrame) where
   one-on s r x ps stepped step own there past low =
       elim (goes settings users s top r x stepped step own there past) [
         | races.keeps stay then ↦ (let same : last ≡ top = last-low top now (let e = ap epoch_of stay in omega (arith, e, low)) in record {
-            last = kept told stay ∙ sym same;
-            past = subst (IsPast settings s (x ∷ r)) (sym same) then;
-            low = (let e = ap epoch_of stay in omega (arith, e, low, same));
-          })
+          last = kept told stay ∙ sym same;
+          past = subst (IsPast settings s (x ∷ r)) (sym same) then;
+          low = (let e = ap epoch_of stay in omega (arith, e, low, same));
+        })
         | races.ends none then ↦ (let same : last ≡ top = last-low top now (let e = ap epoch_of none in omega (arith, e)) in record {
-            last = ended told none ∙ sym same;
-            past = subst (IsPast settings s (x ∷ r)) (sym same) then;
-            low = (let e = ap epoch_of none in omega (arith, e));
-          })
+          last = ended told none ∙ sym same;
+          past = subst (IsPast settings s (x ∷ r)) (sym same) then;
+          low = (let e = ap epoch_of none in omega (arith, e));
+        })
         | races.begins b sends high later then ↦ (let is : now ≡ b.epoch = ap epoch_of sends in
             let same : last ≡ now = last-high top now (omega (arith, is, high)) in record {
               last = begun b high told sends ∙ sym (same ∙ is);
