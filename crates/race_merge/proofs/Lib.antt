@@ -27,4 +27,6 @@ pub mod FactsTell
 pub mod FramesTaken
 pub mod ProtectedPart
 pub mod LogsFit
+pub mod NoStation
 mod RaceExample
+pub mod Public

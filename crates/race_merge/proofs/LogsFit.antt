@@ -161,7 +161,8 @@ module _ (settings : Settings) (ans : ℕ → AssociationNumber) (pointed : ℕ 
           (subst (In (present_at p.an p.epoch)) words told.pointed)),
     );
     above = λ taken. subst (λ s. next settings s p.epoch r ≤ p.pn) (sym station)
-        (elim (begins.nexts p.epoch (subst (λ n. n ≤ p.epoch) begins.last is.start.0)) [
+        (elim (begins.nexts p.epoch (subst (λ n. n ≤ p.epoch) begins.last is.start.0)
+        (λ absent. subst (λ n. n < p.epoch) begins.last (is.start.1 absent))) [
           | inl first ↦ (let one = is.range.0 in omega (arith, first, one))
           | inr given ↦ (let f = given.0 in
               let not_below = (is.given f given.1).1 (given.2 ∙ sym (are p.an p.epoch told.pointed)) given.3 in

@@ -2,7 +2,7 @@
 -- under it. In the race the second one begins it too. A worker of the first claims two numbers; one
 -- of the second is refused before the key begins there, and then gets a number.
 use Rattle.std.proofs.Common.{◌≡◌, ◌⊎◌, ◌<◌, ◌≤◌, ◌+◌, ℕ, zero, suc, true, List, [], ◌∷◌, ◌++◌, length}
-use Rattle.std.proofs.Common.{refl, sym, ap, ◌∙◌, subst, arith, inl, inr, length-append, Option, Some, None}
+use Rattle.std.proofs.Common.{refl, sym, ap, ◌∙◌, subst, arith, inl, inr, Option, Some, None}
 use Rattle.std.proofs.Common.{◌-◌, ◌==◌, Bool, false, cond, filter, if◌then◌else◌, map}
 use Rattle.std.specs.List.{AllByRecursion, range_with_len}
 use Rattle.lan_base.specs.declared.association_number.AssociationNumber.{AssociationNumber}
@@ -22,15 +22,14 @@ use Rattle.data_workers.specs.declared.entry.Entry.{Entry}
 use Rattle.data_workers.specs.declared.entry.Entry.TheVariants.{Taken, Refused}
 use Rattle.lan_core.specs.declared.event.Event.TheVariants as events
 use Rattle.lan_core.specs.declared.fact.Fact.TheVariants as facts
-use Rattle.lan_core.specs.Run.{Run, Happening, happened, stations, started}
-use Rattle.lan_core.specs.Lives.{life, keys_in, transmitting_at}
+use Rattle.lan_core.specs.Run.{Run, Happening, happened, stations}
+use Rattle.lan_core.specs.Lives.{keys_in, transmitting_at}
 use Rattle.lan_core.specs.Claims.{next, user_at}
 use Rattle.lan_core.specs.Expected.{lack, number_fact}
-use Rattle.lan_core.specs.Order.{Exists, IsAllowed, IsSendable}
+use Rattle.lan_core.specs.Order.{Exists, IsSendable}
 use Rattle.lan_core.specs.Legal.{IsLegal, IsStepped, IsThrifty, is_unused, none_ahead, unused}
 use Rattle.lan_core.proofs.Public.{legal-more}
-use Rattle.group_safety.proofs.Public.{part, transmitting-last}
-use Rattle.group_safety.proofs.Public as parts
+use Rattle.group_safety.proofs.Public.{transmitting-last}
 use Rattle.group_safety.proofs.Public.{settings, users, first_key, r11, r12, l11, l12, both, a-user}
 use Rattle.group_safety.proofs.Public.{most_next, next-most, v11, v12}
 use Rattle.race_merge.specs.Places.{Move, Attempt, Lives}
@@ -42,6 +41,7 @@ use Rattle.race_merge.specs.Steps.{attempt_of, logs_of}
 use Rattle.race_merge.specs.Given.{AreGiven, ArePerformed, AreUnder, IsPast}
 use Rattle.race_merge.specs.Table.{Controls, moves_at}
 use Rattle.race_merge.proofs.FromRun.{in-life, positive}
+use Rattle.race_merge.proofs.NoStation.{none-there}
 use Rattle.race_merge.proofs.KeysMove.{last-began}
 use Rattle.race_merge.proofs.GivenMoves.{moves-given, follows-all}
 use Rattle.race_merge.proofs.Performed.{all-given}
@@ -76,35 +76,6 @@ frame s pn = Taken (record { station = s; an = An0; epoch = 1; pn = pn; octets =
 abbrev logs : List (List Entry)
 logs = (frame 0 1 ∷ frame 0 2 ∷ []) ∷ (Refused 1 (NoKey 0) ∷ frame 1 1 ∷ []) ∷ []
 
--- ---- places without a station
-
-none-there : (users : List UserFrame) (s : ℕ) (r : Run) → IsStepped settings users r → length (stations r) ≤ s
-    → life settings s r ≡ None
-unfolding life stations
-none-there users s [] stepped past = refl
-none-there users s (x ∷ r) stepped past =
-    let none = none-there users s r stepped.1 fewer in
-    elim (part settings users s x r stepped.0) [
-      | parts.same same still ↦ same ∙ none
-      | parts.ticks n m ev living same ↦ absurd (cc (sym none ∙ living))
-      | parts.hears number octets m a came living sec right same ↦ absurd (cc (sym none ∙ living))
-      | parts.born l empty birth same fact ↦ absurd (unborn birth)
-    ]
-  where
-    whole : length (stations (x ∷ r)) ≡ length (stations r) + length (started x.event)
-    whole = length-append (stations r) (started x.event)
-
-    fewer : length (stations r) ≤ s
-    fewer = let all = whole in omega (arith, all, past)
-
-    unborn : parts.IsBirth s r x.event → ⊥
-    unborn (parts.first name sci priority ev at) =
-        let one : length (started x.event) ≡ 1 = ap (λ e. length (started e)) ev in
-        let all = whole in omega (arith, all, one, at, past)
-    unborn (parts.again ev) =
-        let there = (subst (IsAllowed settings users r x) ev stepped.0.in_order.1).0 in
-        let less = fewer in omega (arith, there, less)
-
 -- ---- what transmits
 
 unfoldable open_histories : ℕ
@@ -131,7 +102,7 @@ bob-sends = in-life settings 1 r12 (l12 1) (v12.living 1 (omega arith))
 nobody-else : (n : ℕ) (r : Run) → IsStepped settings users r → stations r ≡ both
     → transmitting_at settings (suc (suc n)) r ≡ None
 nobody-else n r stepped there =
-    rw (none-there users (suc (suc n)) r stepped
+    rw (none-there settings users (suc (suc n)) r stepped
     (subst (λ ps. length ps ≤ suc (suc n)) (sym there) (omega arith))) refl
 
 an-of-first : (k : Key) → Some first_key ≡ Some k → k.an ≡ An0

@@ -1,5 +1,5 @@
 -- The events that are merged are those of the part that a race gives.
-use Rattle.std.proofs.Common.{◌≡◌, ◌+◌, ℕ, zero, suc, true, List, [], ◌∷◌, ◌++◌, length, map, get_or, refl, sym, ap, ◌∙◌, subst, arith}
+use Rattle.std.proofs.Common.{◌≡◌, ◌≤◌, ◌+◌, ℕ, zero, suc, true, List, [], ◌∷◌, ◌++◌, length, map, get_or, refl, sym, ap, ◌∙◌, subst, arith}
 use Rattle.lan_base.specs.declared.association_number.AssociationNumber.{AssociationNumber}
 use Rattle.std.proofs.Common.{Some, append_assoc}
 use Rattle.std.specs.Prelude.{slice_get, option_map}
@@ -14,7 +14,7 @@ use Rattle.lan_core.specs.declared.event.Event.TheVariants as events
 use Rattle.lan_core.specs.declared.settings.Settings.{Settings}
 use Rattle.lan_core.specs.Run.{Run}
 use Rattle.lan_core.specs.Order.{is_event_of}
-use Rattle.lan_core.specs.Legal.{IsLegal}
+use Rattle.lan_core.specs.Legal.{IsLegal, IsThrifty, unused}
 use Rattle.race_merge.specs.declared.step.Step.{Step}
 use Rattle.data_workers.specs.declared.entry.Entry.{Entry}
 use Rattle.race_merge.specs.Places.{Move, Attempt, ends, place}
@@ -28,6 +28,7 @@ use Rattle.lan_core.specs.Parts.{followed_by}
 use Rattle.race_merge.proofs.Stable.{each-in_order}
 use Rattle.race_merge.proofs.Sweep.{in_order-map, events-ranked, place-log}
 use Rattle.race_merge.proofs.Controlled.{race-legal, race-rises}
+use Rattle.race_merge.proofs.Raced.{race-thrifty}
 use Rattle.race_merge.proofs.WovenRun.{race-woven, followed-woven}
 
 -- ---- a move of a step has its place
@@ -168,6 +169,15 @@ module _ (settings : Settings) (users : List UserFrame) (base : ℕ) (ans : ℕ 
   part-legal =
       subst (IsLegal settings users) (sym (followed-woven settings base (merged ms (entries_of (logs_of 0 logs))) r))
       (race-legal settings users base ans pointed r ms (logs_of 0 logs) race)
+
+  pub part-thrifty : IsThrifty settings r
+      → ((s e : ℕ) → unused settings s e (followed_by (part_of settings base (merged ms (entries_of (logs_of 0 logs))) r) r) ≤ 16)
+      → IsThrifty settings (followed_by (part_of settings base (merged ms (entries_of (logs_of 0 logs))) r) r)
+  part-thrifty thrifty end =
+      let same = followed-woven settings base (merged ms (entries_of (logs_of 0 logs))) r in
+      subst (IsThrifty settings) (sym same)
+      (race-thrifty settings users base ans pointed r ms (logs_of 0 logs) race thrifty
+      (λ s e. subst (λ q. unused settings s e q ≤ 16) same (end s e)))
 
   pub part-woven : IsWoven base (part_of settings base (merged ms (entries_of (logs_of 0 logs))) r) (map (λ m. m.x) ms) (logs_of 0 logs)
   part-woven = race-woven settings users base ans pointed r ms (logs_of 0 logs) race

@@ -75,7 +75,7 @@ unused-low settings s e q w low stays =
 -- ---- claims of one event more
 
 -- facts that tell of no claim add none
-adds-none : (shown : List Fact) (cs : List Number) → ((s : ℕ) (an : AssociationNumber) (epoch pn : ℕ) → In (facts.Claimed s an epoch pn) shown → ⊥)
+pub adds-none : (shown : List Fact) (cs : List Number) → ((s : ℕ) (an : AssociationNumber) (epoch pn : ℕ) → In (facts.Claimed s an epoch pn) shown → ⊥)
     → gather claim_of shown cs ≡ cs
 adds-none [] cs none = refl
 adds-none (facts.Claimed s an epoch pn ∷ later) cs none = absurd (none s an epoch pn (inl refl))

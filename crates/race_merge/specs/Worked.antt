@@ -33,7 +33,8 @@ pub record BeganAfter (settings : Settings) (ans : ℕ → AssociationNumber) (s
   pub points_low : (an : AssociationNumber) (e : ℕ) → In (present_at an e) old → e ≤ top
   pub absent_low : (e : ℕ) → WasAbsent old e
       → (e ≤ top) × (0 < epoch_at settings s r → e < top)
-  pub nexts : (e : ℕ) → top ≤ e → IsGivenNext settings ans s r start e
+  pub nexts : (e : ℕ) → top ≤ e → (start.present ≡ false → top < e)
+      → IsGivenNext settings ans s r start e
 
 -- each epoch was pointed at under its association number
 abbrev pub AreAns : (ℕ → AssociationNumber) → List Current → Type 0

@@ -7,7 +7,7 @@ ghost use Rattle.lan_base.specs.declared.association_number.AssociationNumber.{A
 ghost use Rattle.lan_base.specs.declared.frame.UserFrame.{UserFrame};
 ghost use Rattle.lan_core.specs.declared.settings.Settings.{Settings};
 ghost use Rattle.lan_core.specs.Run.{Happening, Run};
-ghost use Rattle.lan_core.specs.Legal.{IsLegal};
+ghost use Rattle.lan_core.specs.Legal.{IsLegal, IsThrifty, unused};
 ghost use Rattle.lan_core.specs.Parts.{followed_by};
 ghost use Rattle.race_merge.specs.Places.{Move, place};
 ghost use Rattle.race_merge.specs.Ranks.{is_sooner, in_order};
@@ -189,7 +189,8 @@ pub fn merge(alloc: Global, control: &[Step], logs: &[Log]) -> Result<Vec<Event>
         → IfOk result (λ v. map Some v.items ≡ map (event_at control.now)
         (merged (moves_of control.now) (entries_of (logs_of 0 logs.now)))) }
     // Of a race after a run: they are those of a part that is woven of control and the logs, and
-    // with which the run is legal.
+    // with which the run is legal, and thrifty where it was so and few numbers are unused at the
+    // end.
     ensures legal { (settings : Settings) (users : List UserFrame) (base : ℕ)
         (ans : ℕ → ℕ → AssociationNumber) (pointed : ℕ → ℕ) (r : Run) (moves : List Move)
         → length logs.now + 1 < 2 ^ 32 → AreSteps control.now moves
@@ -197,7 +198,10 @@ pub fn merge(alloc: Global, control: &[Step], logs: &[Log]) -> Result<Vec<Event>
         → IfOk result (λ v. (part : List Happening)
         × (map (λ h. h.event) part ≡ map (counted_from base) v.items)
         × IsWoven base part (map (λ m. m.x) moves) (logs_of 0 logs.now)
-        × IsLegal settings users (followed_by part r)) }
+        × IsLegal settings users (followed_by part r)
+        × (IsThrifty settings r
+        → ((s epoch : ℕ) → unused settings s epoch (followed_by part r) ≤ 16)
+        → IsThrifty settings (followed_by part r))) }
 {
     let mut ranks = Vec::new(alloc);
     append_control(control, &mut ranks)?;

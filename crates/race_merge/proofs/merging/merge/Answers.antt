@@ -10,7 +10,7 @@ use Rattle.race_merge.specs.Merged.{merged, entries_of}
 use Rattle.race_merge.specs.Steps.{attempt_of, moves_of, control_ranks, ranks_of, claim_ranks, logs_of, event_at, event_of_rank, IsRankOf, AreRising}
 use Rattle.race_merge.specs.Weaving.{part_of}
 use Rattle.race_merge.proofs.Sweep.{ranks_more, sorted-ranks, events-ranked, ranks-are}
-use Rattle.race_merge.proofs.Recount.{part-is, part-woven, part-legal, rising}
+use Rattle.race_merge.proofs.Recount.{part-is, part-woven, part-legal, part-thrifty, rising}
 use Rattle.race_merge.proofs.merging.merge.Goals as goal
 
 pub loop-number-preserved : goal.loop-number-preserved
@@ -68,6 +68,7 @@ returns c =
                 (exact steps logs c.as_slice-2.result.now v.items (built up) h),
             part-woven settings users base ans pointed r steps moves logs are race,
             part-legal settings users base ans pointed r steps moves logs are race,
+            part-thrifty settings users base ans pointed r steps moves logs are race,
           ))
           (told few up);
     }

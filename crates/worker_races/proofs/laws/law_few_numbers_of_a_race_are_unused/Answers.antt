@@ -1,0 +1,11 @@
+use Rattle.lan_core.specs.Parts.{followed_by}
+use Rattle.worker_races.specs.Performed.{run_after}
+use Rattle.worker_races.proofs.CaughtUp.{claims-beside, told-all}
+use Rattle.worker_races.proofs.Races.{up-after}
+use Rattle.worker_races.proofs.laws.law_few_numbers_of_a_race_are_unused.Goals as goal
+
+pub returns : goal.returns
+returns c race is part state woven whole stands =
+    c.law_words_keep_a_run_thrifty.ensures race.settings race.users state (followed_by part race.run) race.after stands whole
+    (c.law_words_catch_up.ensures race.settings (run_after race.performed race.run) (followed_by part race.run) race.after
+    (up-after race is) is.all_in (claims-beside race is part woven whole) (told-all race is part woven whole))
