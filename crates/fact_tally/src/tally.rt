@@ -73,6 +73,13 @@ impl Tally {
         self.count(fact);
     }
 
+    /// How many packet numbers were claimed.
+    pub fn claims(&self) -> u64
+        ensures { result ≡ self.now.claims }
+    {
+        self.claims
+    }
+
     /// The counts as one line: an object of JSON without blanks, and a line feed.
     pub fn text(&self, alloc: Global) -> Result<Octets, AllocError>
         ensures { IfOk result (λ text. text ≡ line_of self.now) }

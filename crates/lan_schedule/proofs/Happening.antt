@@ -1,5 +1,5 @@
 -- What an event leaves.
-use Rattle.std.proofs.Common.{◌≡◌, ◌<◌, ℕ, ◌+◌, length, List, [], ◌∷◌, ◌++◌, Option, Some, None}
+use Rattle.std.proofs.Common.{◌≡◌, ◌<◌, ◌≤◌, ℕ, ◌+◌, Bool, true, false, length, List, [], ◌∷◌, ◌++◌, Option, Some, None}
 use Rattle.std.proofs.Common.{inl, inr, refl, sym, ap, ◌∙◌, subst, arith}
 use Rattle.std.specs.Prelude.{Result, Ok, Err, MatchResult, map, unwrap_or}
 use Rattle.std.specs.Result.{IsErrAnd}
@@ -17,18 +17,18 @@ use Rattle.lan_core.specs.Run.{Run, Profile, happened, started, stations, facts_
 use Rattle.lan_core.specs.Expected.{expected, drawn_from}
 use Rattle.lan_core.specs.Stops.{MayCome, first_stop}
 use Rattle.lan_core.specs.Types.{IsTyped}
-use Rattle.lan_core.specs.Legal.{IsStepped}
+use Rattle.lan_core.specs.Legal.{IsStepped, IsThrifty, unused}
 use Rattle.association_slots.specs.Views.{ControlAt}
 use Rattle.group_safety.specs.Accounts.{IsExact as IsExactIn}
-use Rattle.transmit_words.specs.Ties.{AreTied, AreAhead}
-use Rattle.lan_core.specs.Standing.{StandsFor as GroupStandsFor}
+use Rattle.transmit_words.specs.Ties.{HaveCaughtUp}
+use Rattle.lan_core.specs.Standing.{State, StandsFor as GroupStandsFor}
 use Rattle.lan_core.specs.Answers.{Answers, GoesOn}
 use Rattle.fact_tally.specs.Summary.{counts}
 use Rattle.lan_schedule.specs.declared.halt.Halt.{Halt}
 use Rattle.lan_schedule.specs.declared.halt.Halt.TheVariants as halts
 use Rattle.lan_schedule.specs.declared.recorder.Broken.{Broken}
 use Rattle.lan_schedule.specs.declared.stage.Stage.{Stage}
-use Rattle.lan_schedule.specs.World.{World, names_of, settings, puts, Flow}
+use Rattle.lan_schedule.specs.World.{World, names_of, settings, puts, Flow, is_racing}
 use Rattle.lan_schedule.specs.Settings.{rule_of}
 use Rattle.lan_schedule.specs.Supply.{draw_at, supply_nth}
 use Rattle.lan_schedule.specs.Answers.{supply, taken_by, halt_of, answered, answer}
@@ -36,18 +36,20 @@ use Rattle.lan_schedule.specs.Acts.{happen, perform, Goes, shown, world_after}
 use Rattle.lan_schedule.specs.Sound.{IsTidy}
 use Rattle.lan_schedule.specs.Reports.{Report, reports}
 use Rattle.lan_schedule.specs.Ends.{Moment, Ends, halt_of_broken}
-use Rattle.lan_schedule.specs.Numbers.{shown_next, number_shown}
+use Rattle.lan_schedule.specs.Numbers.{shown_next, number_shown, decided}
 use Rattle.lan_schedule.specs.Lines.{tick}
 use Rattle.lan_schedule.specs.inside.Comes.{Comes, named}
-use Rattle.lan_schedule.specs.inside.Set.{AreSet}
-use Rattle.lan_schedule.specs.Stages.{StandsWith, StandsFor, Counts}
+use Rattle.lan_schedule.specs.inside.Set.{SaysAhead, AreSet, IsGiven}
+use Rattle.lan_schedule.specs.Stages.{Says, StandsWith, StandsFor, Counts}
 use Rattle.lan_schedule.specs.inside.Staged.{Did, Happened}
 use Rattle.lan_schedule.specs.Races.{Chance, behind_numbers}
-use Rattle.lan_schedule.proofs.Calm.{calm-shown, calm-chances}
+use Rattle.lan_schedule.proofs.Claiming.{caught-up}
+use Rattle.lan_schedule.proofs.Chances.{chances-used, behind-decided, shown-is}
 use Rattle.lan_schedule.proofs.Same.{IsSame, same-self, stands-moved}
 use Rattle.lan_schedule.proofs.Racing.{begins-self}
 use Rattle.lan_schedule.proofs.Doing.{told-none, ends-memory}
-use Rattle.lan_schedule.proofs.Tidying.{tidy-after, exact-in}
+use Rattle.lan_schedule.proofs.Tidying.{Proceeds, event-proceeds, legal-after, thrifty-calm, tidy-after}
+use Rattle.lan_schedule.proofs.Tidying.{exact-in}
 
 -- what a step promises of a group
 abbrev pub StepGoes : Option UserFrame → Event → Stage → Stage → Result (List Fact) StepError
@@ -65,7 +67,8 @@ pub record Told (w : World) (event : Event) (facts : List Fact) (new : Stage) : 
   pub shows : expected (settings w) w.kept.users w.run event
       (drawn_from (settings w).suite (supply w)) ≡ Some facts
 
-same-supply : {Tied : Settings → Run → List ControlAt → Type 0} (w : World) (old : Stage)
+same-supply : {Tied : Bool → Bool → Settings → Run → List ControlAt → Type 0} (w : World)
+    (old : Stage)
     → StandsWith Tied w old → supply_nth old.draws ≡ supply w
 same-supply w old stands = λ i k. stands.draws k i
 
@@ -87,8 +90,8 @@ answers-by w event facts before same goes shows =
     ap (λ (s : Option Stop). answered w event s) none
     ∙ ap (λ (o : Option (List Fact)). Ok (unwrap_or o [])) some
 
-told-by : {Tied : Settings → Run → List ControlAt → Type 0} (w : World) (event : Event)
-    (facts : List Fact) (old new : Stage) → StandsWith Tied w old
+told-by : {Tied : Bool → Bool → Settings → Run → List ControlAt → Type 0} (w : World)
+    (event : Event) (facts : List Fact) (old new : Stage) → StandsWith Tied w old
     → GoesOn (settings w) w.kept.users w.run event (supply_nth old.draws) (supply_nth new.draws)
     new.lan facts
     → Told w event facts new
@@ -127,21 +130,25 @@ pub record Keeps (event : Event) (facts : List Fact) (old new : Stage) : Type 0 
         ++ puts old.frames.rounds facts;
     rounds = old.frames.rounds;
   }
-  pub words : (settings : Settings) (users : List UserFrame) (r : Run)
+  pub raced : new.raced ≡ old.raced
+  pub words : (raced racing : Bool) (settings : Settings) (users : List UserFrame) (r : Run)
       → GroupStandsFor settings users old.lan r
       → GroupStandsFor settings users new.lan (happened event facts ∷ r)
-      → IsStepped settings users (happened event facts ∷ r) → IsExactIn settings r event
-      → AreSet event settings r old.words → AreTied settings (happened event facts ∷ r) new.words
+      → IsStepped settings users (happened event facts ∷ r)
+      → (raced ≡ false → IsExactIn settings r event)
+      → AreSet event raced racing settings r old.words
+      → Says raced racing settings (happened event facts ∷ r) new.words
   pub tally : (shown : List Fact) → old.tally ≡ counts shown → new.tally ≡ counts (shown ++ facts)
 
 stands-after : (w : World) (event : Event) (facts : List Fact) (old new : Stage)
-    → StandsWith (AreSet event) w old → IsExactIn (settings w) w.run event
+    → StandsWith (AreSet event) w old
+    → (w.kept.raced ≡ false → IsExactIn (settings w) w.run event)
     → IsStepped (settings w) w.kept.users (happened event facts ∷ w.run)
     → Told w event facts new → Keeps event facts old new → StandsFor (world_after w event facts) new
 unfolding stations
 stands-after w event facts old new stands exact stepped told keeps = record {
   begun = stands.begun;
-  calm = stands.calm;
+  raced = keeps.raced ∙ stands.raced;
   keyed = stands.keyed;
   line = keeps.line ∙ stands.line;
   lag = keeps.lag ∙ stands.lag;
@@ -156,10 +163,33 @@ stands-after w event facts old new stands exact stepped told keeps = record {
   flow = keeps.frames ∙ ap (λ (f : Flow).
       record { frames = f.frames ++ puts f.rounds facts; rounds = f.rounds }) stands.flow;
   cuts = keeps.cuts ∙ stands.cuts;
-  words = keeps.words (settings w) w.kept.users w.run stands.lan told.lan stepped exact
-      stands.words;
+  words = keeps.words w.kept.raced (is_racing w.kept.phase) (settings w) w.kept.users w.run
+      stands.lan told.lan stepped exact stands.words;
   tally = keeps.tally (facts_of w.run) stands.tally;
 }
+
+-- ---- thrift
+
+-- words that have caught up with a run leave few of its numbers out
+abbrev pub KeepsThrift : Type 0
+KeepsThrift = (settings : Settings) (users : List UserFrame) (state : State) (r : Run)
+    (cs : List ControlAt) → GroupStandsFor settings users state r → IsStepped settings users r
+    → HaveCaughtUp settings r cs → (s epoch : ℕ) → unused settings s epoch r ≤ 16
+
+thrifty-after : (w : World) (event : Event) (facts : List Fact) (new : Stage) → Proceeds w event facts
+    → KeepsThrift → StandsFor (world_after w event facts) new → is_racing w.kept.phase ≡ false
+    → IsThrifty (settings w) (happened event facts ∷ w.run)
+thrifty-after w event facts new on thrift stands apart = by w.kept.raced refl where
+  by : (raced : Bool) → w.kept.raced ≡ raced
+      → IsThrifty (settings w) (happened event facts ∷ w.run)
+  by false calm = thrifty-calm w event facts calm on apart
+  by true raced = (
+    thrift (settings w) w.kept.users new.lan (happened event facts ∷ w.run) new.words stands.lan
+        (legal-after w event facts on).stepped
+        (caught-up w.kept.raced (is_racing w.kept.phase) (settings w)
+        (happened event facts ∷ w.run) new.words raced apart stands.words),
+    on.tidy.sound.thrifty apart,
+  )
 
 -- what is told of an event
 abbrev pub report_of : Event → List Fact → World → Report
@@ -209,34 +239,44 @@ module _ {K : Type 0} (Took : K → Report → K → Type 0) (Broke : K → Repo
       });
     })
 
+-- what was decided of an event is what the world has next
+decided-here : {Tied : Bool → Bool → Settings → Run → List ControlAt → Type 0} (w : World)
+    (event : Event) (stage : Stage) (later : List Chance) → StandsWith Tied w stage
+    → decided stage.raced event ++ later ≡ decided w.kept.raced event ++ later
+decided-here w event stage later stands =
+    ap (λ (b : Bool). decided b event ++ later) stands.raced
+
 module _ {K : Type 0} {Took : K → Report → K → Type 0} {Broke : K → Report → K → Broken → Type 0}
   where
     -- the event happened, and its facts were told, or the recorder broke at them
     pub event-did : (given : Option UserFrame) (event : Event) (facts : List Fact)
         (old new : Moment Stage K) (why : Result (Unit {0}) Broken) → IsTyped event
         → StepGoes given event old.value new.value (Ok facts)
-        → Keeps event facts old.value new.value
+        → Keeps event facts old.value new.value → KeepsThrift
         → MatchResult why
         (λ _. Took old.outlet (record { names = new.value.names.items; facts = facts }) new.outlet)
         (λ y. Broke old.outlet (record { names = new.value.names.items; facts = facts }) new.outlet y)
         → Happened Took Broke given event old new (handed why)
-    event-did given event facts old new why typed step keeps wrote = record {
-      chances = [];
+    event-did given event facts old new why typed step keeps thrift wrote = record {
       ends = λ w later left reached is comes.
           let stands = reached.stands in
           let goes = step (settings w) w.kept.users w.run stands.lan
           (subst (λ (g : Option UserFrame). MayCome (settings w) w.kept.users w.run g event)
           (sym is) comes.0) in
           let told = told-by w event facts old.value new.value stands goes in
-          let tidy = tidy-after w event facts reached.tidy comes typed told.lan.setting
-          told.stopless told.shows stands.begun stands.calm in
+          let on = event-proceeds w event facts reached.tidy comes typed told.lan.setting told.stopless
+          told.shows in
           let after_it = stands-after w event facts old.value new.value stands
-          (exact-in w event stands.calm typed comes.1) tidy.sound.legal.stepped told keeps in
+          (λ calm. exact-in w event calm typed comes.1) (legal-after w event facts on).stepped told
+          keeps in
+          let tidy = tidy-after w event facts on stands.begun
+          (λ apart. thrifty-after w event facts new.value on thrift after_it apart) in
           subst (λ (a : Result (List Fact) Halt).
           Ends StandsFor Counts Took Broke w later (shown w event a) old.outlet new
           (handed why)) (sym told.answers)
           (told-ends Took Broke w event facts later old.outlet new why
-          (calm-chances w event facts stands.calm ∙ left) tidy after_it
+          (chances-used w event facts later (left ∙ decided-here w event old.value later stands)) tidy
+          after_it
           (subst (λ (names : List (List ℕ)). MatchResult why
           (λ _. Took old.outlet (record { names = names; facts = facts }) new.outlet)
           (λ y. Broke old.outlet (record { names = names; facts = facts }) new.outlet y))
@@ -250,7 +290,6 @@ module _ {K : Type 0} {Took : K → Report → K → Type 0} {Broke : K → Repo
         → new.value.tally ≡ old.value.tally → new.outlet ≡ old.outlet
         → Happened Took Broke given event old new (Err (halt_of line stop))
     event-stopped given event stop line old new step is_line tally same = record {
-      chances = [];
       ends = λ w later left reached is comes.
           let stands = reached.stands in
           let first = step (settings w) w.kept.users w.run stands.lan
@@ -269,7 +308,8 @@ module _ {K : Type 0} {Took : K → Report → K → Type 0} {Broke : K → Repo
             tidy = reached.tidy;
             counts = tally ∙ stands.tally;
             told = told-none w w old.outlet new.outlet refl same;
-            left = ap (λ (c : List Chance). behind_numbers c) left;
+            left = ap (λ (c : List Chance). behind_numbers c) left
+                ∙ behind-decided old.value.raced event later;
             same = refl;
           });
     }
@@ -277,14 +317,15 @@ module _ {K : Type 0} {Took : K → Report → K → Type 0} {Broke : K → Repo
     -- an event that names no user frame, and finds the words as they are
     pub plainly : (event : Event) (old new : Moment Stage K) (r : Result (Unit {0}) Halt)
         → ((w : World) → None ≡ named w event)
-        → ((settings : Settings) (run : Run) (cs : List ControlAt) → AreTied settings run cs
-        → AreSet event settings run cs)
+        → ((raced racing : Bool) (settings : Settings) (run : Run) (cs : List ControlAt)
+        → Says raced racing settings run cs → AreSet event raced racing settings run cs)
         → Happened Took Broke None event old new r → Did Took Broke (happen event) old new r
     plainly event old new r none set h = record {
-      chances = h.chances;
+      chances = decided old.value.raced event;
       ends = λ w later is reached comes. h.ends w later is (record {
         stands = stands-moved w old.value old.value (same-self old.value) refl refl refl
-            (set (settings w) w.run old.value.words reached.stands.words) reached.stands;
+            (set w.kept.raced (is_racing w.kept.phase) (settings w) w.run old.value.words
+            reached.stands.words) reached.stands;
         tidy = reached.tidy;
       }) (none w) comes;
     }
@@ -293,18 +334,24 @@ module _ {K : Type 0} {Took : K → Report → K → Type 0} {Broke : K → Repo
     pub tick-does : (s n : ℕ) (old mid new : Moment Stage K) (r : Result (Unit {0}) Halt)
         → mid.outlet ≡ old.outlet → IsSame old.value mid.value → mid.value.line ≡ old.value.line
         → mid.value.users ≡ old.value.users → mid.value.cuts ≡ old.value.cuts
-        → ((settings : Settings) (run : Run) → AreTied settings run old.value.words
-        → s < length (stations run) → n ≡ shown_next settings s run)
-        → ((settings : Settings) (run : Run) → AreTied settings run old.value.words
-        → s < length (stations run) → AreAhead settings run (events.Tick s n) mid.value.words)
+        → ((raced racing : Bool) (settings : Settings) (run : Run)
+        → Says raced racing settings run old.value.words → s < length (stations run)
+        → IsGiven raced (shown_next settings s run) n)
+        → ((raced racing : Bool) (settings : Settings) (run : Run)
+        → Says raced racing settings run old.value.words → s < length (stations run)
+        → SaysAhead raced racing settings run (events.Tick s n) mid.value.words)
         → Happened Took Broke None (events.Tick s n) mid new r → Did Took Broke (tick s) old new r
     tick-does s n old mid new r outlet same line users cuts next ahead h = record {
-      chances = h.chances;
+      chances = decided mid.value.raced (events.Tick s n);
       ends = λ w later is reached comes.
-          let tied = reached.stands.words in
+          let racing = is_racing w.kept.phase in
+          let says = reached.stands.words in
           let there : s < length (stations w.run) = comes.0.0 in
-          let number : n ≡ number_shown w s = next (settings w) w.run tied there
-          ∙ sym (calm-shown w s reached.stands.calm) in
+          let decides : w.kept.chances ≡ decided w.kept.raced (events.Tick s n) ++ later =
+          is ∙ ap (λ (b : Bool). decided b (events.Tick s n) ++ later)
+          (same.raced ∙ reached.stands.raced) in
+          let number : n ≡ number_shown w s = shown-is w s n later decides
+          (next w.kept.raced racing (settings w) w.run says there) in
           let comes_n : Comes (happen (events.Tick s n)) w =
           subst (λ (m : ℕ). Comes (happen (events.Tick s m)) w) (sym number) comes in
           subst (λ (m : ℕ). Ends StandsFor Counts Took Broke w later
@@ -313,7 +360,7 @@ module _ {K : Type 0} {Took : K → Report → K → Type 0} {Broke : K → Repo
           (perform (happen (events.Tick s n)) w) k new r) outlet
           (h.ends w later is (record {
             stands = stands-moved w old.value mid.value same line users cuts
-                (ahead (settings w) w.run tied there) reached.stands;
+                (ahead w.kept.raced racing (settings w) w.run says there) reached.stands;
             tidy = reached.tidy;
           }) refl comes_n));
     }
@@ -323,7 +370,6 @@ module _ {K : Type 0} {Took : K → Report → K → Type 0} {Broke : K → Repo
         → new.value.tally ≡ old.value.tally → new.outlet ≡ old.outlet
         → Happened Took Broke given event old new (Err halts.Memory)
     event-wanting given event old new tally same = record {
-      chances = [];
       ends = λ w later left reached named comes. ends-memory Took Broke StandsFor Counts (happen event) w later
           old.outlet new reached.tidy (tally ∙ reached.stands.tally) same;
     }

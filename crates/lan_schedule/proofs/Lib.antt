@@ -13,6 +13,8 @@ mod LinesCome
 mod Same
 mod Still
 mod Ahead
+mod Claiming
+mod Chances
 mod Happening
 mod Bounded
 mod Tidying

@@ -333,9 +333,9 @@ claim-comes : (s : ℕ) (user : UserFrame) (w : World)
     → IsTidy (record w { kept = record w.kept { users = w.kept.users ++ user ∷ [] } })
     → (w.kept.raced ≡ false
     → (t epoch : ℕ) → next (settings w) t epoch w.run ≤ length w.kept.users + 1)
-    → IsUserFrame user → s < count w
+    → IsUserFrame user → is_racing w.kept.phase ≡ false → s < count w
     → Comes (send s) (record w { kept = record w.kept { users = w.kept.users ++ user ∷ [] } })
-claim-comes s user w tidy few is_user there =
+claim-comes s user w tidy few is_user apart there =
     let v : World = record w { kept = record w.kept { users = w.kept.users ++ user ∷ [] } } in
     let n = length v.kept.users in
     let pn = number_claimed v s in
@@ -355,17 +355,17 @@ claim-comes s user w tidy few is_user there =
       omega arith,
       λ t epoch. let before = few calm t epoch in omega (arith, before, longer),
     ) in (
-      (may, (refl, room)),
+      (may, (refl, room, apart)),
       is-going (perform (happen (events.Claim s n pn)) v)
           (λ u. IsTidy u → Comes (unless (pn == 0) (happen events.Emit)) u)
           (λ u e tidy_u. unless-comes (pn == 0) (happen events.Emit) u
-          (λ some. (waits-then v u s n pn tidy e (may, (refl, room)) some, tt))),
+          (λ some. (waits-then v u s n pn tidy e (may, (refl, room, apart)) some, tt))),
     )
 
-send-comes : (s : ℕ) (user : UserFrame) (w : World) → IsTidy w → IsUserFrame user → s < count w
-    → Comes (seq (add_user user) (send s)) w
-send-comes s user w tidy is_user there =
-    (tidy-user user w tidy, λ tidy_v. claim-comes s user w tidy_v tidy.few is_user there)
+send-comes : (s : ℕ) (user : UserFrame) (w : World) → IsTidy w → IsUserFrame user
+    → is_racing w.kept.phase ≡ false → s < count w → Comes (seq (add_user user) (send s)) w
+send-comes s user w tidy is_user apart there =
+    (tidy-user user w tidy, λ tidy_v. claim-comes s user w tidy_v tidy.few is_user apart there)
 
 -- ---- lines
 
@@ -442,7 +442,7 @@ deed-comes (lines.Send name destination body) form w tidy apart right =
       body = (form.fits.1.1.0.0, form.fits.1.1.0.1);
       octets = bytes-all body form.fits.1.1.0.2;
     } in
-    send-comes (place w name) user w tidy is_user (known name w right.words)
+    send-comes (place w name) user w tidy is_user apart (known name w right.words)
 deed-comes (lines.Inject name octets) form w tidy apart right = (
   (known name w right.words, (let few : length octets ≤ 1600 = form.fits.1.0.1 in omega arith)),
   tt,

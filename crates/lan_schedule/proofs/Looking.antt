@@ -11,18 +11,18 @@ use Rattle.lan_schedule.specs.declared.links.Link.{Link}
 use Rattle.lan_schedule.specs.declared.recorder.Broken.{Broken}
 use Rattle.lan_schedule.specs.declared.stage.Stage.{Stage}
 use Rattle.lan_schedule.specs.World.{World, Kept, count, settings, sender_at, mark, marked_at, is_cut}
+use Rattle.lan_schedule.specs.World.{is_racing}
 use Rattle.lan_schedule.specs.Acts.{Act, nothing, happen, look, seq, change, span, each, unless}
 use Rattle.lan_schedule.specs.Lines.{pass, is_passed_by, to_others, spread, due, due_of}
 use Rattle.lan_schedule.specs.Lines.{begin_round}
 use Rattle.lan_core.specs.Standing.{StandsFor as GroupStandsFor}
 use Rattle.lan_schedule.specs.Supply.{supply_nth}
-use Rattle.transmit_words.specs.Ties.{AreTied}
 use Rattle.lan_schedule.specs.inside.Staged.{Did, Changed}
 use Rattle.lan_schedule.specs.Sound.{IsTidy}
 use Rattle.lan_schedule.specs.Reports.{Report}
 use Rattle.lan_schedule.specs.Ends.{Moment}
 use Rattle.lan_schedule.specs.World.{Flow}
-use Rattle.lan_schedule.specs.Stages.{StandsFor}
+use Rattle.lan_schedule.specs.Stages.{Says, StandsFor}
 use Rattle.lan_schedule.proofs.Doing.{Leads, look-leads, change-does, nothing-does}
 
 -- how many stations there are
@@ -51,6 +51,7 @@ pub record Flows (old new : Stage) : Type 0 where
   pub cuts : new.cuts ≡ old.cuts
   pub words : new.words ≡ old.words
   pub tally : new.tally ≡ old.tally
+  pub raced : new.raced ≡ old.raced
 
 -- the frames and the count of rounds change
 flowing : (frames : Kept → List Put) (rounds : Kept → ℕ) (old new : Stage) → Flows old new
@@ -60,7 +61,7 @@ flowing : (frames : Kept → List Put) (rounds : Kept → ℕ) (old new : Stage)
 flowing frames rounds old new same flow = record {
   stands = λ w stands. record {
     begun = stands.begun;
-    calm = stands.calm;
+    raced = same.raced ∙ stands.raced;
     keyed = stands.keyed;
     line = same.line ∙ stands.line;
     lag = same.lag ∙ stands.lag;
@@ -72,7 +73,8 @@ flowing frames rounds old new same flow = record {
     users = same.users ∙ stands.users;
     flow = flow w stands;
     cuts = same.cuts ∙ stands.cuts;
-    words = subst (λ words. AreTied (settings w) w.run words) (sym same.words) stands.words;
+    words = subst (λ words. Says w.kept.raced (is_racing w.kept.phase) (settings w) w.run words)
+        (sym same.words) stands.words;
     tally = same.tally ∙ stands.tally;
   };
 }

@@ -49,13 +49,13 @@ opens-there : (chances : List Chance) (chosen : Choices) (line : ℕ) (stage : S
     → ((k : ℕ) → supply_nth stage.draws k ≡ draw_at (rule_of chosen) k)
     → stage.names.items ≡ [] → stage.scis.items ≡ [] → stage.users ≡ 0
     → stage.frames ≡ record { frames = []; rounds = 0 } → stage.cuts ≡ [] → stage.words ≡ []
-    → stage.tally ≡ counts []
+    → stage.tally ≡ counts [] → stage.raced ≡ false
     → StageStandsFor (record { run = []; kept = opened chances chosen line }) stage
 unfolding stations
 opens-there chances chosen line stage keyed is_line lag lan draws names scis users frames cuts
-    words tally = record {
+    words tally fresh = record {
       begun = refl;
-      calm = refl;
+      raced = fresh;
       keyed = keyed;
       line = is_line;
       lag = lag;
@@ -78,15 +78,15 @@ pub opens : (w : World) (chosen : Choices) (line : ℕ) (stage : Stage) → is_s
     → ((k : ℕ) → supply_nth stage.draws k ≡ draw_at (rule_of chosen) k)
     → stage.names.items ≡ [] → stage.scis.items ≡ [] → stage.users ≡ 0
     → stage.frames ≡ record { frames = []; rounds = 0 } → stage.cuts ≡ [] → stage.words ≡ []
-    → stage.tally ≡ counts []
+    → stage.tally ≡ counts [] → stage.raced ≡ false
     → StageStandsFor w stage
 opens w chosen line stage keyed opening is_line lag lan draws names scis users frames cuts words
-    tally =
+    tally fresh =
     let same : w ≡ record { run = []; kept = opened w.kept.chances chosen line } =
     λ i. record { run = opening.empty i; kept = opening.kept i } in
     subst (λ (v : World). StageStandsFor v stage) (sym same)
     (opens-there w.kept.chances chosen line stage keyed is_line lag lan draws names scis users frames cuts
-    words tally)
+    words tally fresh)
 
 -- ---- lines before the first station
 

@@ -21,7 +21,7 @@ use Rattle.lan_schedule.specs.declared.stage.Stage.{Stage}
 use Rattle.lan_schedule.specs.declared.commands.Replay.{Replay}
 use Rattle.lan_schedule.specs.Races.{Phase, Apart, Bursting, Controlling, Racing, Chance}
 use Rattle.lan_schedule.specs.Races.{behind_numbers, workers_at}
-use Rattle.lan_schedule.specs.World.{World, is_racing, place}
+use Rattle.lan_schedule.specs.World.{World, settings, is_racing, place}
 use Rattle.lan_schedule.specs.Acts.{Goes, Stops, perform}
 use Rattle.lan_schedule.specs.Kinds.{or_else, where_, first_of, is_performed, may_stand, wrong_at}
 use Rattle.lan_schedule.specs.Kinds.{is_control, is_control_allowed, refusal, too_many}
@@ -31,7 +31,7 @@ use Rattle.lan_schedule.specs.Lines.{unless_refused}
 use Rattle.lan_schedule.specs.Reports.{Report}
 use Rattle.lan_schedule.specs.Ends.{Moment, IsReached, Ends}
 use Rattle.lan_schedule.specs.Standing.{phase_of, IsStaged, HasTally, StandsFor, Counts, Does}
-use Rattle.lan_schedule.specs.Stages.{StandsFor as StageStandsFor}
+use Rattle.lan_schedule.specs.Stages.{Says, StandsFor as StageStandsFor}
 use Rattle.lan_schedule.specs.inside.Choosing.{is_race}
 use Rattle.lan_schedule.specs.inside.Phased.{is_inside, is_taken, behind, MayBeKept, Takes, act_apart}
 use Rattle.lan_schedule.proofs.Doing.{told-none, ends-memory}
@@ -134,7 +134,7 @@ deed-enters line w (Bursting bursts) taken calm = refl
 deed-enters line w (Controlling bursts control) taken calm = refl
 deed-enters line w Racing taken calm = absurd (cc calm)
 
-stood-calm : (phase : Stood) → is_racing (phase_of phase) ≡ false
+pub stood-calm : (phase : Stood) → is_racing (phase_of phase) ≡ false
 stood-calm stood.Apart = refl
 stood-calm (stood.Bursting bursts) = refl
 stood-calm (stood.Controlling bursts control) = refl
@@ -158,11 +158,12 @@ takes-some line w now stage kind stands some =
 -- ---- a replay takes such a line
 
 -- the group at work stands as it did
-stage-entered : (w : World) (phase : Phase) (stage : Stage) → StageStandsFor w stage
+stage-entered : (w : World) (phase : Phase) (stage : Stage)
+    → is_racing phase ≡ is_racing w.kept.phase → StageStandsFor w stage
     → StageStandsFor (record w { kept = record w.kept { phase = phase } }) stage
-stage-entered w phase stage stands = record {
+stage-entered w phase stage same stands = record {
   begun = stands.begun;
-  calm = stands.calm;
+  raced = stands.raced;
   keyed = stands.keyed;
   line = stands.line;
   lag = stands.lag;
@@ -173,7 +174,8 @@ stage-entered w phase stage stands = record {
   users = stands.users;
   flow = stands.flow;
   cuts = stands.cuts;
-  words = stands.words;
+  words = subst (λ (racing : Bool). Says w.kept.raced racing (settings w) w.run stage.words)
+      (sym same) stands.words;
   tally = stands.tally;
 }
 
@@ -229,7 +231,7 @@ module _ {K : Type 0} {Took : K → Report → K → Type 0} {Broke : K → Repo
                 goes = halted ∙ reached.stands.goes;
                 phase = refl;
                 stage = subst (λ (o : Option Stage). IsStaged v new.value o) (sym is_new)
-                    (stage-entered w phase stage inner);
+                    (stage-entered w phase stage racing inner);
               };
               tidy = tidy-entered w phase reached.tidy racing;
             },

@@ -1,6 +1,6 @@
 -- Races at small worlds, worked by hand: how their frames are dealt, and which of their lines are
 -- refused or kept.
-use Rattle.std.proofs.Common.{◌≡◌, ℕ, true, List, [], ◌∷◌, ◌++◌, None, Some, refl}
+use Rattle.std.proofs.Common.{◌≡◌, ℕ, true, false, List, [], ◌∷◌, ◌++◌, None, Some, refl}
 use Rattle.std.specs.Prelude.{replicate, map, take}
 use Rattle.lan_base.specs.declared.address.Mi.{Mi}
 use Rattle.lan_base.specs.declared.address.Mac.{Mac}
@@ -19,8 +19,9 @@ use Rattle.lan_schedule.specs.declared.choices.Rule.TheVariants.{Listed}
 use Rattle.lan_schedule.specs.declared.phase.Burst.{Burst}
 use Rattle.lan_schedule.specs.declared.phase.Numbered.{Numbered}
 use Rattle.lan_schedule.specs.Settings.{no_choice}
-use Rattle.lan_schedule.specs.Races.{Phase, Bursting, Controlling, workers_of, share}
+use Rattle.lan_schedule.specs.Races.{Phase, Bursting, Controlling, Shown, workers_of, share}
 use Rattle.lan_schedule.specs.World.{World, nothing_kept}
+use Rattle.lan_schedule.specs.Numbers.{decided, stands}
 use Rattle.lan_schedule.specs.Acts.{Course, Goes, Stops, perform, and_then, world_of, each}
 use Rattle.lan_schedule.specs.Kinds.{refusal}
 use Rattle.lan_schedule.specs.Lines.{numbered, close}
@@ -200,3 +201,28 @@ burst_outside = refl
 
 while_outside : refusal lines.While start ≡ Some kinds.Order
 while_outside = refl
+
+-- ---- what chance decides
+
+-- before the first race nothing; from then on the number of a tick and of a claim, where there is one
+before_a_race : decided false (events.Tick 0 7) ≡ []
+before_a_race = refl
+
+shown_after_a_race : decided true (events.Tick 0 7) ≡ Shown 7 ∷ []
+shown_after_a_race = refl
+
+claimed_after_a_race : decided true (events.Claim 1 3 8) ≡ Shown 8 ∷ []
+claimed_after_a_race = refl
+
+none_without_a_key : decided true (events.Tick 0 0) ≡ []
+none_without_a_key = refl
+
+none_of_others : decided true (events.Deliver 4 1) ≡ []
+none_of_others = refl
+
+-- a number stands that isn't below the next one
+not_below : stands true 7 9 ≡ true
+not_below = refl
+
+below : stands true 7 6 ≡ false
+below = refl

@@ -8,7 +8,7 @@ use Rattle.lan_core.specs.Standing.{State, StandsFor as GroupStandsFor}
 use Rattle.lan_schedule.specs.declared.links.Link.{Link}
 use Rattle.lan_schedule.specs.declared.stage.Stage.{Stage}
 use Rattle.lan_schedule.specs.Supply.{supply_nth}
-use Rattle.lan_schedule.specs.World.{World, settings}
+use Rattle.lan_schedule.specs.World.{World, settings, is_racing}
 use Rattle.lan_schedule.specs.Stages.{StandsWith}
 
 -- all but lines, users, links and words is as before
@@ -20,6 +20,7 @@ pub record IsSame (old new : Stage) : Type 0 where
   pub scis : new.scis ≡ old.scis
   pub frames : new.frames ≡ old.frames
   pub tally : new.tally ≡ old.tally
+  pub raced : new.raced ≡ old.raced
 
 pub same-self : (stage : Stage) → IsSame stage stage
 same-self stage = record {
@@ -30,21 +31,23 @@ same-self stage = record {
   scis = refl;
   frames = refl;
   tally = refl;
+  raced = refl;
 }
 
-module _ {A B : Settings → Run → List ControlAt → Type 0} where
+module _ {A B : Bool → Bool → Settings → Run → List ControlAt → Type 0} where
   -- another line, other users, links and words
   pub stands-with : (w : World) (line : ℕ) (users : List UserFrame) (cuts : List Link)
       (begun : Bool) (old new : Stage) → StandsWith A w old → IsSame old new → new.line ≡ line
       → new.users ≡ length users → new.cuts ≡ cuts → begun ≡ true
-      → GroupStandsFor (settings w) users old.lan w.run → B (settings w) w.run new.words
+      → GroupStandsFor (settings w) users old.lan w.run
+      → B w.kept.raced (is_racing w.kept.phase) (settings w) w.run new.words
       → StandsWith B (record w {
         kept = record w.kept { line = line; users = users; cuts = cuts; begun = begun };
       }) new
   stands-with w line users cuts begun old new stands same is_line is_users is_cuts is_begun lan
       words = record {
         begun = is_begun;
-        calm = stands.calm;
+        raced = same.raced ∙ stands.raced;
         keyed = stands.keyed;
         line = is_line;
         lag = same.lag ∙ stands.lag;
@@ -61,7 +64,8 @@ module _ {A B : Settings → Run → List ControlAt → Type 0} where
 
   -- other words
   pub stands-moved : (w : World) (old new : Stage) → IsSame old new → new.line ≡ old.line
-      → new.users ≡ old.users → new.cuts ≡ old.cuts → B (settings w) w.run new.words
+      → new.users ≡ old.users → new.cuts ≡ old.cuts
+      → B w.kept.raced (is_racing w.kept.phase) (settings w) w.run new.words
       → StandsWith A w old → StandsWith B w new
   stands-moved w old new same line users cuts words stands =
       stands-with w w.kept.line w.kept.users w.kept.cuts w.kept.begun old new stands same

@@ -1,7 +1,7 @@
 -- Lines that change little, and user data that is sent.
-use Rattle.std.proofs.Common.{◌≡◌, ◌<◌, ◌≤◌, ℕ, ◌+◌, ◌==◌, true, List, []}
+use Rattle.std.proofs.Common.{◌≡◌, ◌<◌, ◌≤◌, ℕ, ◌+◌, ◌==◌, Bool, true, List, []}
 use Rattle.std.proofs.Common.{◌∷◌, ◌++◌, length, Some, refl, sym, ap, ◌∙◌, subst}
-use Rattle.std.proofs.Common.{length-append, arith}
+use Rattle.std.proofs.Common.{length-append, append-nil, arith}
 use Rattle.std.specs.Prelude.{Result, Ok, Err}
 use Rattle.lan_base.specs.declared.frame.UserFrame.{UserFrame}
 use Rattle.association_slots.specs.Views.{ControlAt}
@@ -11,13 +11,12 @@ use Rattle.lan_core.specs.Run.{Run, stations}
 use Rattle.lan_core.specs.Claims.{user_at}
 use Rattle.lan_core.specs.Expected.{last_number}
 use Rattle.lan_core.specs.Lives.{transmitting_at}
-use Rattle.transmit_words.specs.Ties.{AreTied, AreAhead}
 use Rattle.lan_schedule.specs.declared.halt.Halt.{Halt}
 use Rattle.lan_schedule.specs.declared.links.Link.{Link}
 use Rattle.lan_schedule.specs.declared.recorder.Broken.{Broken}
 use Rattle.lan_schedule.specs.declared.stage.Stage.{Stage}
-use Rattle.lan_schedule.specs.World.{World, settings, with_link, without_link}
-use Rattle.lan_schedule.specs.Numbers.{shown_next, number_claimed}
+use Rattle.lan_schedule.specs.World.{World, settings, with_link, without_link, is_racing}
+use Rattle.lan_schedule.specs.Numbers.{number_claimed, decided}
 use Rattle.lan_schedule.specs.Acts.{Act, happen, seq, perform, Course}
 use Rattle.lan_schedule.specs.Races.{Chance}
 use Rattle.lan_schedule.specs.Acts.{and_then, unless}
@@ -27,21 +26,23 @@ use Rattle.lan_schedule.specs.Reports.{Report}
 use Rattle.lan_schedule.specs.Ends.{Moment, IsReached, Ends}
 use Rattle.lan_schedule.specs.inside.Comes.{Comes}
 use Rattle.lan_schedule.specs.inside.Set.{AreSet}
-use Rattle.lan_schedule.specs.Stages.{StandsWith, StandsFor, Counts}
+use Rattle.lan_schedule.specs.Stages.{Says, StandsWith, StandsFor, Counts}
 use Rattle.lan_schedule.specs.inside.Staged.{Did, Happened, Changed}
 use Rattle.lan_core.proofs.Public.{stands-more}
 use Rattle.lan_schedule.proofs.Same.{IsSame, same-self, stands-with}
-use Rattle.lan_schedule.proofs.Tidying.{in-range, under-user}
+use Rattle.lan_schedule.proofs.Tidying.{under-user}
+use Rattle.lan_schedule.proofs.Claiming.{Gives, gives-taken}
+use Rattle.lan_schedule.proofs.Chances.{claimed-is}
 use Rattle.lan_schedule.proofs.Users.{user-at-end}
-use Rattle.lan_schedule.proofs.Calm.{calm-claimed}
 use Rattle.lan_schedule.proofs.Doing.{change-does, ends-early, ends-behind, both-chances, going}
 use Rattle.lan_schedule.proofs.Doing.{told-none}
 
 -- the words are as before
 still : (w : World) (old new : Stage) → new.words ≡ old.words → StandsFor w old
-    → AreTied (settings w) w.run new.words
+    → Says w.kept.raced (is_racing w.kept.phase) (settings w) w.run new.words
 still w old new words stands =
-    subst (λ (cs : List ControlAt). AreTied (settings w) w.run cs) (sym words) stands.words
+    subst (λ (cs : List ControlAt). Says w.kept.raced (is_racing w.kept.phase) (settings w) w.run cs)
+    (sym words) stands.words
 
 pub cut-changed : (from to : ℕ) (old new : Stage) → IsSame old new → new.line ≡ old.line
     → new.users ≡ old.users → new.words ≡ old.words → new.cuts ≡ with_link from to old.cuts
@@ -86,9 +87,10 @@ abbrev pub with_user : UserFrame → World → World
 with_user user w = record w { kept = record w.kept { users = w.kept.users ++ user ∷ [] } }
 
 -- and the words are moved
-user-stands : {B : Settings → Run → List ControlAt → Type 0} (user : UserFrame) (w : World)
-    (old mid : Stage) → StandsFor w old → IsSame old mid → mid.line ≡ old.line
-    → mid.users ≡ old.users + 1 → mid.cuts ≡ old.cuts → B (settings w) w.run mid.words
+user-stands : {B : Bool → Bool → Settings → Run → List ControlAt → Type 0} (user : UserFrame)
+    (w : World) (old mid : Stage) → StandsFor w old → IsSame old mid → mid.line ≡ old.line
+    → mid.users ≡ old.users + 1 → mid.cuts ≡ old.cuts
+    → B w.kept.raced (is_racing w.kept.phase) (settings w) w.run mid.words
     → StandsWith B (with_user user w) mid
 user-stands user w old mid stands same line users cuts words =
     let longer : length (w.kept.users ++ user ∷ [])
@@ -104,25 +106,20 @@ module _ {K : Type 0} {Took : K → Report → K → Type 0} {Broke : K → Repo
     begin-does now = change-does _ now now (λ kept. (refl, refl)) (begun-again now.value) refl
 
     -- what a station claims and emits, in the world in which its user frame is named
-    pub send-does : (s n pn : ℕ) (user : UserFrame) (chances : List Chance)
+    pub send-does : (s n pn : ℕ) (user : UserFrame) (more : List Chance)
         (old mid new : Moment Stage K) (r : Result (Unit {0}) Halt) → mid.outlet ≡ old.outlet
         → IsSame old.value mid.value → mid.value.line ≡ old.value.line
         → n ≡ old.value.users + 1 → mid.value.users ≡ n → n ≤ last_number
-        → mid.value.cuts ≡ old.value.cuts
-        → ((settings : Settings) (run : Run) → AreTied settings run old.value.words
-        → s < length (stations run) → shown_next settings s run ≤ last_number
-        → pn ≡ shown_next settings s run)
-        → ((settings : Settings) (run : Run) → AreTied settings run old.value.words
-        → s < length (stations run) → shown_next settings s run ≤ last_number
-        → AreAhead settings run (events.Claim s n pn) mid.value.words)
-        → ((w : World) (later : List Chance) → w.kept.chances ≡ chances ++ later
+        → mid.value.cuts ≡ old.value.cuts → Gives s n pn old.value mid.value
+        → ((w : World) (later : List Chance)
+        → w.kept.chances ≡ (decided mid.value.raced (events.Claim s n pn) ++ more) ++ later
         → IsReached (StandsWith (AreSet (events.Claim s n pn))) w mid.value
         → Some user ≡ user_at w.kept.users n → Comes (claim s n pn) w
         → Ends StandsFor Counts Took Broke w later (perform (claim s n pn) w) mid.outlet new r)
         → Did Took Broke (seq (add_user user) (send s)) old new r
-    send-does s n pn user chances old mid new r outlet same line one_more users most cuts claimed
-        ahead done = record {
-          chances = chances;
+    send-does s n pn user more old mid new r outlet same line one_more users most cuts gives done =
+        let event = events.Claim s n pn in record {
+          chances = decided mid.value.raced event ++ more;
           ends = λ w later left reached comes.
               let v = with_user user w in
               let tidy : IsTidy v = comes.0 in
@@ -134,15 +131,17 @@ module _ {K : Type 0} {Took : K → Report → K → Type 0} {Broke : K → Repo
               let now : Act = claim s (length v.kept.users) (number_claimed v s) in
               let comes_v : Comes now v = comes.1 tidy in
               let there : s < length (stations w.run) = comes_v.0.0.0 in
-              let room = (comes_v.0.1.1 stands.calm).1 in
-              let under = under-user (settings w) s w.run (transmitting_at (settings w) s w.run)
-              (length v.kept.users) room in
-              let few : shown_next (settings w) s w.run ≤ last_number =
-              omega (arith, under, place, most) in
-              let next = claimed (settings w) w.run stands.words there few in
-              let number : pn ≡ number_claimed v s = next
-              ∙ sym (in-range (shown_next (settings w) s w.run) few)
-              ∙ sym (calm-claimed v s stands.calm) in
+              let room = comes_v.0.1.1 in
+              let taken = gives-taken w s n pn old.value mid.value stands
+              comes_v.0.1.2 there gives
+              (λ calm. let under = under-user (settings w) s w.run
+              (transmitting_at (settings w) s w.run) (length v.kept.users) (room calm).1 in
+              omega (arith, under, place, most)) in
+              let decides : v.kept.chances ≡ decided v.kept.raced event ++ (more ++ later) =
+              both-chances w.kept.chances (decided mid.value.raced event) more later left
+              ∙ ap (λ (b : Bool). decided b event ++ (more ++ later)) (same.raced ∙ stands.raced) in
+              let number : pn ≡ number_claimed v s =
+              claimed-is v s n pn (more ++ later) decides taken.0 in
               let e : claim s n pn ≡ now = ap (λ (k : ℕ). claim s k pn) place
               ∙ ap (λ (k : ℕ). claim s (length v.kept.users) k) number in
               let named : Some user ≡ user_at v.kept.users n =
@@ -154,44 +153,50 @@ module _ {K : Type 0} {Took : K → Report → K → Type 0} {Broke : K → Repo
               old.outlet mid.outlet new r (told-none w v old.outlet mid.outlet refl outlet) refl
               (done v later left (record {
                 stands = user-stands user w old.value mid.value stands same line
-                    (users ∙ one_more) cuts (ahead (settings w) w.run stands.words there few);
+                    (users ∙ one_more) cuts taken.1;
                 tidy = tidy;
               }) named (subst (λ (act : Act). Comes act v) (sym e) comes_v)));
         }
 
     -- the claim ended early
     pub claim-err : (s n pn : ℕ) (user : UserFrame) (mid new : Moment Stage K) (e : Halt)
-        → (h : Happened Took Broke (Some user) (events.Claim s n pn) mid new (Err e))
-        → (w : World) (later : List Chance) → w.kept.chances ≡ h.chances ++ later
+        → Happened Took Broke (Some user) (events.Claim s n pn) mid new (Err e)
+        → (w : World) (later : List Chance)
+        → w.kept.chances ≡ (decided mid.value.raced (events.Claim s n pn) ++ []) ++ later
         → IsReached (StandsWith (AreSet (events.Claim s n pn))) w mid.value
         → Some user ≡ user_at w.kept.users n → Comes (claim s n pn) w
         → Ends StandsFor Counts Took Broke w later (perform (claim s n pn) w) mid.outlet new (Err e)
     claim-err s n pn user mid new e h w later left reached named comes =
-        ends-early Took Broke StandsFor Counts w later (perform (happen (events.Claim s n pn)) w)
+        let event = events.Claim s n pn in
+        ends-early Took Broke StandsFor Counts w later (perform (happen event) w)
         (unless (pn == 0) (happen events.Emit)) mid.outlet new e
-        (h.ends w later left reached named comes.0)
+        (h.ends w later
+        (left ∙ ap (λ (c : List Chance). c ++ later) (append-nil (decided mid.value.raced event)))
+        reached named comes.0)
 
     -- the claim was made, and then the emission ended so
     pub claim-ok : (s n pn : ℕ) (user : UserFrame) (mid now new : Moment Stage K)
         (r : Result (Unit {0}) Halt)
-        → (h : Happened Took Broke (Some user) (events.Claim s n pn) mid now (Ok tt))
+        → Happened Took Broke (Some user) (events.Claim s n pn) mid now (Ok tt)
         → (d : Did Took Broke (unless (pn == 0) (happen events.Emit)) now new r)
         → (w : World) (later : List Chance)
-        → w.kept.chances ≡ (h.chances ++ d.chances) ++ later
+        → w.kept.chances ≡ (decided mid.value.raced (events.Claim s n pn) ++ d.chances) ++ later
         → IsReached (StandsWith (AreSet (events.Claim s n pn))) w mid.value
         → Some user ≡ user_at w.kept.users n → Comes (claim s n pn) w
         → Ends StandsFor Counts Took Broke w later (perform (claim s n pn) w) mid.outlet new r
     claim-ok s n pn user mid now new r h d w later left reached named comes =
+        let event = events.Claim s n pn in
         let first = h.ends w (d.chances ++ later)
-        (both-chances w.kept.chances h.chances d.chances later left) reached named comes.0 in
+        (both-chances w.kept.chances (decided mid.value.raced event) d.chances later left) reached
+        named comes.0 in
         let emit : Act = unless (pn == 0) (happen events.Emit) in
         let comes_later : Comes emit first.0 =
-        going (perform (happen (events.Claim s n pn)) w) first.0 (λ v. IsTidy v → Comes emit v)
-        first.1 comes.1 first.2.tidy in
+        going (perform (happen event) w) first.0 (λ v. IsTidy v → Comes emit v) first.1 comes.1
+        first.2.tidy in
         subst (λ (out : Course). Ends StandsFor Counts Took Broke w later
         (and_then out (λ v. perform emit v)) mid.outlet new r) (sym first.1)
-        (ends-behind Took Broke StandsFor Counts w first.0 later (perform emit first.0) mid.outlet now.outlet new
-        r first.3 first.5 (d.ends first.0 later first.4 first.2 comes_later))
+        (ends-behind Took Broke StandsFor Counts w first.0 later (perform emit first.0) mid.outlet
+        now.outlet new r first.3 first.5 (d.ends first.0 later first.4 first.2 comes_later))
 
     -- the same act, told of another value that is the same
     pub same-did : {A : Type 0} (f : A → Act) (a b : A) (old new : Moment Stage K)

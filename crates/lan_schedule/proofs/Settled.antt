@@ -41,7 +41,7 @@ use Rattle.lan_schedule.specs.Lines.{flow_round, send}
 use Rattle.lan_schedule.specs.Sound.{IsTidy}
 use Rattle.lan_schedule.specs.inside.Comes.{Comes, IsGoing, IsExact, named}
 use Rattle.lan_schedule.proofs.Bounded.{AreBounded, TakesOne, stays-bounded}
-use Rattle.lan_schedule.proofs.Tidying.{tidy-after, leaves-none}
+use Rattle.lan_schedule.proofs.Tidying.{Proceeds, event-proceeds, tidy-after, thrifty-calm, leaves-none}
 use Rattle.next_numbers.proofs.Public.{waiting-framed}
 
 -- ---- an event that no stop meets shows something
@@ -221,6 +221,8 @@ happened-open n chosen event w below setting fit now comes goes =
     let typed = is-typed n chosen w event below fit now comes in
     let set : IsSetting (settings w) =
     subst (λ (c : Choices). IsSetting (settings_of c)) (sym now.same) setting in
+    let on : Proceeds w event (facts_shown w event) =
+    event-proceeds w event (facts_shown w event) now.tidy comes typed set goes shows in
     record {
       same = now.same;
       users = now.users;
@@ -230,8 +232,8 @@ happened-open n chosen event w below setting fit now comes goes =
       bounded = stays-bounded (settings w) w.kept.users w.run event
           (drawn_from (settings w).suite (supply w)) (facts_shown w event) now.bounded
           (leaves-none w event now.calm comes.1) (takes-one w event now.calm comes.1) shows;
-      tidy = tidy-after w event (facts_shown w event) now.tidy comes typed set goes shows now.begun
-          now.calm;
+      tidy = tidy-after w event (facts_shown w event) on now.begun
+          (λ apart. thrifty-calm w event (facts_shown w event) now.calm on apart);
     }
 
 event-open : (n : ℕ) (chosen : Choices) (event : Event) (w : World) → n < 2 ^ 32

@@ -16,6 +16,7 @@ use Rattle.lan_core.specs.Lives.{transmitting_at}
 use Rattle.lan_core.specs.Ledgers.{Frame, air, framed, gather}
 use Rattle.lan_core.specs.Expected.{expected, drawn_from, last_number}
 use Rattle.lan_core.specs.Types.{IsTyped, IsSetting}
+use Rattle.lan_core.specs.Legal.{IsLegal, IsThrifty}
 use Rattle.lan_core.specs.Unstopped.{IsUnstopped, LeavesNoneOut, next_under}
 use Rattle.lan_core.proofs.Public.{is-step, legal, fresh, unforged, stays-thrifty, air-numbered}
 use Rattle.lan_core.specs.Stops.{first_stop}
@@ -115,46 +116,70 @@ by-claims w events.Emit n s epoch calm tidy exact grown =
 by-claims w (events.Inject t octets) n s epoch calm tidy exact grown =
     let before = tidy.few calm s epoch in omega (arith, before, grown)
 
--- what an event shows leaves the run sound
-sound-after : (w : World) (event : Event) (facts : List Fact) → w.kept.raced ≡ false → IsTidy w
-    → Comes (happen event) w
+-- an event that goes on in a tidy world, and shows these facts
+pub record Proceeds (w : World) (event : Event) (facts : List Fact) : Type 0 where
+  pub tidy : IsTidy w
+  pub comes : Comes (happen event) w
+  pub typed : IsTyped event
+  pub on : IsUnstopped (settings w) w.kept.users w.run (named w event) event (supply w) facts
+
+pub event-proceeds : (w : World) (event : Event) (facts : List Fact) → IsTidy w → Comes (happen event) w
     → IsTyped event → IsSetting (settings w)
     → first_stop (settings w) w.kept.users w.run event (supply w) ≡ None
     → expected (settings w) w.kept.users w.run event (drawn_from (settings w).suite (supply w))
-    ≡ Some facts
-    → IsSoundIn (is_racing w.kept.phase) (settings w) w.kept.users (happened event facts ∷ w.run)
-sound-after w event facts calm tidy comes typed setting goes shows =
-    let on : IsUnstopped (settings w) w.kept.users w.run (named w event) event (supply w) facts =
-    record {
-      setting = setting;
-      typed = typed;
-      draws = supply-draws w tidy;
-      may_come = comes.0;
-      shows = shows;
-      goes = goes;
-    } in
-    record {
-      legal = legal (settings w) w.kept.users w.run (named w event) event (supply w) facts on
-          tidy.sound.legal;
-      fresh = fresh (settings w) w.kept.users w.run (named w event) event (supply w) facts on
-          tidy.sound.legal.stepped tidy.sound.fresh;
-      unforged = unforged (settings w) w.kept.users w.run (named w event) event (supply w) facts on
-          tidy.sound.unforged;
-      thrifty = λ e. stays-thrifty (settings w) w.kept.users (happened event facts) w.run
-          (is-step (settings w) w.kept.users w.run (named w event) event (supply w) facts on)
-          (leaves-none w event calm comes.1) (tidy.sound.thrifty e);
-    }
+    ≡ Some facts → Proceeds w event facts
+event-proceeds w event facts tidy comes typed setting goes shows = record {
+  tidy = tidy;
+  comes = comes;
+  typed = typed;
+  on = record {
+    setting = setting;
+    typed = typed;
+    draws = supply-draws w tidy;
+    may_come = comes.0;
+    shows = shows;
+    goes = goes;
+  };
+}
 
-pub tidy-after : (w : World) (event : Event) (facts : List Fact) → IsTidy w
-    → Comes (happen event) w → IsTyped event → IsSetting (settings w)
-    → first_stop (settings w) w.kept.users w.run event (supply w) ≡ None
-    → expected (settings w) w.kept.users w.run event (drawn_from (settings w).suite (supply w))
-    ≡ Some facts
-    → w.kept.begun ≡ true → w.kept.raced ≡ false → IsTidy (world_after w event facts)
+-- it leaves the run legal
+pub legal-after : (w : World) (event : Event) (facts : List Fact) → Proceeds w event facts
+    → IsLegal (settings w) w.kept.users (happened event facts ∷ w.run)
+legal-after w event facts g =
+    legal (settings w) w.kept.users w.run (named w event) event (supply w) facts g.on
+    g.tidy.sound.legal
+
+-- before the first race it leaves no number out
+pub thrifty-calm : (w : World) (event : Event) (facts : List Fact) → w.kept.raced ≡ false
+    → Proceeds w event facts → is_racing w.kept.phase ≡ false
+    → IsThrifty (settings w) (happened event facts ∷ w.run)
+thrifty-calm w event facts calm g apart =
+    stays-thrifty (settings w) w.kept.users (happened event facts) w.run
+    (is-step (settings w) w.kept.users w.run (named w event) event (supply w) facts g.on)
+    (leaves-none w event calm g.comes.1) (g.tidy.sound.thrifty apart)
+
+-- it leaves the run sound, where that is thrifty
+sound-after : (w : World) (event : Event) (facts : List Fact) → Proceeds w event facts
+    → (is_racing w.kept.phase ≡ false → IsThrifty (settings w) (happened event facts ∷ w.run))
+    → IsSoundIn (is_racing w.kept.phase) (settings w) w.kept.users (happened event facts ∷ w.run)
+sound-after w event facts g thrifty = record {
+  legal = legal-after w event facts g;
+  fresh = fresh (settings w) w.kept.users w.run (named w event) event (supply w) facts g.on
+      g.tidy.sound.legal.stepped g.tidy.sound.fresh;
+  unforged = unforged (settings w) w.kept.users w.run (named w event) event (supply w) facts g.on
+      g.tidy.sound.unforged;
+  thrifty = thrifty;
+}
+
+pub tidy-after : (w : World) (event : Event) (facts : List Fact) → Proceeds w event facts
+    → w.kept.begun ≡ true
+    → (is_racing w.kept.phase ≡ false → IsThrifty (settings w) (happened event facts ∷ w.run))
+    → IsTidy (world_after w event facts)
 unfolding air
-tidy-after w event facts tidy comes typed setting goes shows begun calm =
+tidy-after w event facts g begun thrifty =
     let x = happened event facts in
-    let sound = sound-after w event facts calm tidy comes typed setting goes shows in
+    let tidy = g.tidy in
+    let sound = sound-after w event facts g thrifty in
     let stepped = sound.legal.stepped in
     record {
       sound = sound;
@@ -166,10 +191,10 @@ tidy-after w event facts tidy comes typed setting goes shows begun calm =
       numbered = air-numbered (settings w) w.kept.users (x ∷ w.run) stepped;
       in_turn = stays-in-turn (settings w) w.kept.users x w.run stepped.0 tidy.in_turn;
       few = λ e s epoch.
-          by-claims w event (next (settings w) s epoch (x ∷ w.run)) s epoch calm tidy comes.1
+          by-claims w event (next (settings w) s epoch (x ∷ w.run)) s epoch e tidy g.comes.1
           (few (settings w) w.run s epoch w.kept.users event facts
           (kind (settings w) w.kept.users x w.run stepped.0)
-          (exact-in w event calm typed comes.1));
+          (exact-in w event e g.typed g.comes.1));
       waits = λ e. absurd (let bad : true ≡ false = sym begun ∙ e in cc);
       draws = tidy.draws;
       dealt = tidy.dealt;

@@ -1,22 +1,30 @@
 -- For which world a group at work stands.
-use Rattle.std.specs.Prelude.{◌≡◌, ℕ, true, false, List, length, map, is_some}
+use Rattle.std.specs.Prelude.{◌≡◌, ℕ, Bool, true, false, List, length, map, is_some}
 use Rattle.association_slots.specs.Views.{ControlAt}
 use Rattle.lan_core.specs.declared.settings.Settings.{Settings}
 use Rattle.lan_core.specs.Run.{Run, stations, facts_of}
 use Rattle.lan_core.specs.Standing.{StandsFor as GroupStandsFor}
 use Rattle.fact_tally.specs.Summary.{counts}
-use Rattle.transmit_words.specs.Ties.{AreTied}
+use Rattle.transmit_words.specs.Ties.{AreTied, HaveCaughtUp, HaveKeptUp}
 use Rattle.lan_schedule.specs.declared.stage.Stage.{Stage}
 use Rattle.lan_schedule.specs.Settings.{lag_of}
 use Rattle.lan_schedule.specs.Supply.{supply_nth}
-use Rattle.lan_schedule.specs.World.{World, settings, names_of, flow_of}
+use Rattle.lan_schedule.specs.World.{World, settings, names_of, flow_of, is_racing}
 use Rattle.lan_schedule.specs.Answers.{supply}
 
--- a group at work stands for a world, with whose run its words are tied so
-pub record StandsWith (Tied : Settings → Run → List ControlAt → Type 0) (w : World)
+-- What the words of all stations say of a run, where a race was begun or not, and where control's
+-- lines are performed beside workers or not: before the first race they tell it, in the midst of one
+-- they keep up with it, and afterwards they have caught up with it.
+abbrev pub Says : Bool → Bool → Settings → Run → List ControlAt → Type 0
+Says false racing settings r cs = AreTied settings r cs
+Says true false settings r cs = HaveCaughtUp settings r cs
+Says true true settings r cs = HaveKeptUp settings r cs
+
+-- a group at work stands for a world, of whose run its words say this
+pub record StandsWith (Tied : Bool → Bool → Settings → Run → List ControlAt → Type 0) (w : World)
     (stage : Stage) : Type 0 where
   pub begun : w.kept.begun ≡ true
-  pub calm : w.kept.raced ≡ false
+  pub raced : stage.raced ≡ w.kept.raced
   pub keyed : is_some w.kept.chosen.group ≡ true
   pub line : stage.line ≡ w.kept.line
   pub lag : stage.lag ≡ lag_of w.kept.chosen
@@ -27,12 +35,12 @@ pub record StandsWith (Tied : Settings → Run → List ControlAt → Type 0) (w
   pub users : stage.users ≡ length w.kept.users
   pub flow : stage.frames ≡ flow_of w
   pub cuts : stage.cuts ≡ w.kept.cuts
-  pub words : Tied (settings w) w.run stage.words
+  pub words : Tied w.kept.raced (is_racing w.kept.phase) (settings w) w.run stage.words
   pub tally : stage.tally ≡ counts (facts_of w.run)
 
--- the same, where its words tell what the run does
+-- the same, between two events
 abbrev pub StandsFor : World → Stage → Type 0
-StandsFor w stage = StandsWith AreTied w stage
+StandsFor w stage = StandsWith Says w stage
 
 -- its tally is that of the world's run, also where an event or a line of it ended early
 abbrev pub Counts : World → Stage → Type 0

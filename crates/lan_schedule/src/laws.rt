@@ -20,7 +20,7 @@ ghost use Rattle.lan_schedule.specs.Sound.{IsTidy};
 ghost use Rattle.lan_schedule.specs.Standing.{StandsFor};
 ghost use Rattle.lan_schedule.specs.Shown.{words_of, HasWords, ShowTheCore};
 
-use transmit_words::{law_each_number_is_claimed_once, law_the_words_show_what_transmits};
+use transmit_words::{law_the_words_are_not_behind, law_the_words_show_what_transmits};
 
 /// Whatever chance decides, the world of no line is tidy. Lines that are performed from there leave
 /// a tidy world, whether they stop or not, where there are fewer than 2^32 of them, and so do those
@@ -45,7 +45,7 @@ pub fn law_acts_stop_for_their_own_reasons()
 {}
 
 /// Each station of a replay has words. Between any two steps on them they show the key that
-/// transmits there, and its next packet number.
+/// transmits there, and its next packet number; after a race the number may be ahead of the next.
 pub fn law_the_words_show_the_core()
     ensures many { (w : World) (replay : Replay) → StandsFor w replay
         → length (words_of replay) ≡ count w }
@@ -54,6 +54,7 @@ pub fn law_the_words_show_the_core()
         → Around control.view words views → ShowTheCore w s words }
 {
     law_the_words_show_what_transmits();
+    law_the_words_are_not_behind();
 }
 
 /// The numbers that a station claimed in a run are those that control was told, each once; and the
@@ -69,9 +70,7 @@ pub fn law_control_was_told_what_the_run_claims()
     ensures shown { (w : World) (replay : Replay) (s : ℕ) (control : ControlAt)
         → StandsFor w replay → HasWords replay s control
         → map (λ seen. seen.next) control.view.loads ≡ shows_at s w.run }
-{
-    law_each_number_is_claimed_once();
-}
+{}
 
 /// Before the first race a station claims the next number, and none of its keys is ever exhausted.
 pub fn law_no_key_is_exhausted()

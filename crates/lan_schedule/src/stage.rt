@@ -22,6 +22,7 @@ ghost use Rattle.lan_schedule.specs.Lines.{send, add_user, begin, cut_in, mended
 ghost use Rattle.lan_schedule.specs.Answers.{halt_of};
 ghost use Rattle.lan_schedule.specs.Ends.{moment};
 ghost use Rattle.lan_schedule.specs.Stages.{StandsFor};
+ghost use Rattle.lan_schedule.specs.inside.Set.{most_claims};
 ghost use Rattle.lan_schedule.specs.inside.Staged.{Did, Happened, Changed, IsOpening};
 
 use crate::choices::Choices;
@@ -38,6 +39,10 @@ use lan_core::{Event, Fact, Lan, StepError, Stop};
 use packet_claims::Gate;
 use std::alloc::{AllocError, Global};
 use trace_text::Line;
+use transmit_words::{law_few_claims_spend_no_words, law_words_keep_a_run_thrifty};
+
+/// The greatest count of claims before one more, from the first race on.
+const MAX_CLAIMS: u64 = 4_294_967_278;
 
 /// A group, and what is kept beside it.
 #[derive(Drop)]
@@ -55,6 +60,8 @@ pub struct Stage {
     pub frames: Frames,
     pub cuts: Links,
     pub words: Words,
+    /// Whether a race was begun.
+    pub raced: bool,
     /// How many facts there were of each kind.
     pub tally: Tally,
 }
@@ -81,6 +88,7 @@ impl Stage {
             frames: Frames::new(alloc),
             cuts: Links::new(alloc),
             words: Words::new(alloc),
+            raced: false,
             tally: Tally::new(),
         })
     }
@@ -101,6 +109,7 @@ impl Stage {
         ensures { Happened R.Took R.Broke (option_copied user.entry) event.now
             (moment self.old outlet.old) (moment self.new outlet.new) result }
     {
+        law_words_keep_a_run_thrifty();
         let facts = match self.lan.step(event, user, &mut self.draws) {
             Ok(facts) => facts,
             Err(StepError::Stopped(stop)) => return Err(halt_of(stop, self.line)),
@@ -132,6 +141,10 @@ impl Stage {
         let Some(users) = self.users.checked_add(1) else {
             return Err(Halt::Memory);
         };
+        if !self.has_numbers() {
+            return Err(Halt::Memory);
+        }
+        law_few_claims_spend_no_words();
         self.users = users;
         let pn = self.words.claim(station, gate);
         let claim = Event::Claim {
@@ -141,6 +154,13 @@ impl Stage {
         };
         self.happen(&claim, Some(user), recorder, outlet, gate)?;
         self.emit(pn, recorder, outlet, gate)
+    }
+
+    /// Whether each key has a packet number left: a race may have lost some.
+    fn has_numbers(&self) -> bool
+        ensures { result ≡ true → self.now.raced ≡ true → self.now.tally.claims ≤ most_claims }
+    {
+        !self.raced || self.tally.claims() <= MAX_CLAIMS
     }
 
     /// What was claimed is emitted, where there is a number.

@@ -1,7 +1,7 @@
 //! The words of all stations, which show packet numbers and give them.
 
-ghost use Rattle.std.specs.Prelude.{◌≡◌, ◌≤◌, ◌<◌, ◌∷◌, [], ℕ, List, length, OnOk, IfSome, IfNone};
-ghost use Rattle.std.specs.Prelude.{Some, slice_get};
+ghost use Rattle.std.specs.Prelude.{◌≡◌, ◌≤◌, ◌<◌, ◌∷◌, [], ℕ, Bool, false, List, length, OnOk};
+ghost use Rattle.std.specs.Prelude.{IfSome, IfNone, Some, slice_get};
 ghost use Rattle.lan_base.specs.declared.frame.UserFrame.{UserFrame};
 ghost use Rattle.association_slots.specs.Views.{ControlAt};
 ghost use Rattle.lan_core.specs.declared.event.Event.TheVariants as events;
@@ -12,10 +12,11 @@ ghost use Rattle.lan_core.specs.Legal.{IsStepped};
 ghost use Rattle.lan_core.specs.Standing.{State, StandsFor};
 ghost use Rattle.group_safety.specs.Accounts.{IsExact};
 ghost use Rattle.transmit_words.specs.Ties.{tables_of, AreTied, AreAhead, HaveKeptUp};
-ghost use Rattle.transmit_words.specs.Ties.{KeepAhead};
-ghost use Rattle.transmit_words.specs.Seats.{WasSeated, HasJoined};
+ghost use Rattle.transmit_words.specs.Ties.{HaveCaughtUp, CaughtAhead};
+ghost use Rattle.transmit_words.specs.Seats.{WasSeated, HasJoined, HasGot};
 ghost use Rattle.lan_schedule.specs.Numbers.{shown_next};
-ghost use Rattle.lan_schedule.specs.inside.Set.{AreSet, Keeps};
+ghost use Rattle.lan_schedule.specs.Stages.{Says};
+ghost use Rattle.lan_schedule.specs.inside.Set.{SaysAhead, AreSet, IsGiven};
 
 use association_slots::{SlotTable, WorkerSeat};
 use lan_core::{Event, Fact, Lan};
@@ -23,7 +24,8 @@ use packet_claims::Gate;
 use std::alloc::{AllocError, Global};
 use std::marker::Model;
 use transmit_words::{
-    Controls, law_all_words_keep_up, law_all_words_stay_tied, law_new_words_are_tied,
+    Controls, law_all_words_keep_up, law_all_words_stay_caught_up, law_all_words_stay_tied,
+    law_new_words_are_tied,
 };
 
 /// The words of all stations: the tables by place, and the hands that move them. Contracts see what
@@ -57,20 +59,15 @@ impl Words {
         }
     }
 
-    /// The number that a tick of a station shows: the next one under the key that transmits, or 0.
+    /// The number that a tick of a station shows: before the first race the next one under the key
+    /// that transmits, and 0 without one; from then on it may be ahead.
     pub fn next(&mut self, station: u8) -> u64
-        ensures next { (settings : Settings) (r : Run) → AreTied settings r self.old
-            → station < length (stations r) → result ≡ shown_next settings station r }
-        ensures ahead { (settings : Settings) (r : Run) → AreTied settings r self.old
-            → station < length (stations r)
-            → AreAhead settings r (events.Tick station result) self.new }
-        // Also while workers claim beside.
-        ensures not_below { (settings : Settings) (r : Run) → HaveKeptUp settings r self.old
-            → station < length (stations r) → (shown_next settings station r ≤ result)
-            × (shown_next settings station r ≡ 0 → result ≡ 0) }
-        ensures keeps_up { (settings : Settings) (r : Run) → HaveKeptUp settings r self.old
-            → station < length (stations r)
-            → KeepAhead settings r (events.Tick station result) self.new }
+        ensures next { (raced racing : Bool) (settings : Settings) (r : Run)
+            → Says raced racing settings r self.old → station < length (stations r)
+            → IsGiven raced (shown_next settings station r) result }
+        ensures ahead { (raced racing : Bool) (settings : Settings) (r : Run)
+            → Says raced racing settings r self.old → station < length (stations r)
+            → SaysAhead raced racing settings r (events.Tick station result) self.new }
     {
         self.controls.next(&self.tables, station)
     }
@@ -83,6 +80,10 @@ impl Words {
         ensures ahead { (settings : Settings) (r : Run) (user : ℕ) → AreTied settings r self.old
             → station < length (stations r) → shown_next settings station r ≤ last_number
             → AreAhead settings r (events.Claim station user result) self.new }
+        // After a race it may be ahead of the next one.
+        ensures gained { (settings : Settings) (r : Run) (user : ℕ) → HaveCaughtUp settings r self.old
+            → station < length (stations r) → HasGot settings station r self.old result
+            × CaughtAhead settings r (events.Claim station user result) self.new }
     {
         self.controls.claim(&self.tables, station, gate)
     }
@@ -129,21 +130,16 @@ impl Words {
         facts: &[Fact],
         gate: &G,
     ) -> Result<(), AllocError>
-        ensures tied { (settings : Settings) (users : List UserFrame) (before : State) (r : Run)
-            → StandsFor settings users before r
+        ensures { (raced racing : Bool) (settings : Settings) (users : List UserFrame)
+            (before : State) (r : Run) → StandsFor settings users before r
             → StandsFor settings users lan.now (happened event.now facts.now ∷ r)
             → IsStepped settings users (happened event.now facts.now ∷ r)
-            → IsExact settings r event.now → AreSet event.now settings r self.old
-            → OnOk result (AreTied settings (happened event.now facts.now ∷ r) self.new) }
-        // Also while workers claim beside, and whatever number the event shows.
-        ensures keeps_up { (settings : Settings) (users : List UserFrame) (before : State) (r : Run)
-            → StandsFor settings users before r
-            → StandsFor settings users lan.now (happened event.now facts.now ∷ r)
-            → IsStepped settings users (happened event.now facts.now ∷ r)
-            → Keeps event.now settings r self.old
-            → OnOk result (HaveKeptUp settings (happened event.now facts.now ∷ r) self.new) }
+            → (raced ≡ false → IsExact settings r event.now)
+            → AreSet event.now raced racing settings r self.old
+            → OnOk result (Says raced racing settings (happened event.now facts.now ∷ r) self.new) }
     {
         law_all_words_stay_tied();
+        law_all_words_stay_caught_up();
         law_all_words_keep_up();
         self.begin(alloc, event)?;
         self.controls.follow(&self.tables, lan, facts, gate);
@@ -152,12 +148,10 @@ impl Words {
 
     /// A station that starts gets words of its own.
     fn begin(&mut self, alloc: Global, event: &Event) -> Result<(), AllocError>
-        ensures ahead { (settings : Settings) (users : List UserFrame) (before : State) (r : Run)
-            → StandsFor settings users before r → IsStepped settings users r
-            → AreSet event.now settings r self.old
-            → OnOk result (AreAhead settings r event.now self.new) }
-        ensures keeps_up { (settings : Settings) (r : Run) → Keeps event.now settings r self.old
-            → OnOk result (KeepAhead settings r event.now self.new) }
+        ensures { (raced racing : Bool) (settings : Settings) (users : List UserFrame)
+            (before : State) (r : Run) → StandsFor settings users before r
+            → IsStepped settings users r → AreSet event.now raced racing settings r self.old
+            → OnOk result (SaysAhead raced racing settings r event.now self.new) }
     {
         law_new_words_are_tied();
         match event {

@@ -9,10 +9,11 @@ use Rattle.std.proofs.Math.Seq.{take-suc}
 use Rattle.std.specs.Prelude.{◌==◌, slice_get, is_some, option_map, option_and_then, Contains}
 use Rattle.atomic_table.specs.Seated.{TableId}
 use Rattle.lan_base.specs.declared.association_number.AssociationNumber.{AssociationNumber}
-use Rattle.association_slots.specs.Views.{ControlAt, SeatAt, AllIn, current, present_at, free_number, told_sum}
+use Rattle.association_slots.specs.Views.{ControlAt, SeatAt, AllIn, current, newest, present_at, free_number, told_sum}
 use Rattle.association_slots.specs.Steps.{new_seat, seated, told}
 use Rattle.transmit_words.specs.Seats.{WasSeated, HasJoined, AreAllIn, HasGot}
 use Rattle.transmit_words.proofs.Keeping.{and-false}
+use Rattle.transmit_words.proofs.KeepingUp.{newest-word}
 use Rattle.std.specs.Prelude.{IfSome, IfNone, max}
 use Rattle.association_slots.specs.declared.card.Card.{Card}
 use Rattle.association_slots.specs.declared.view.Current.{Current}
@@ -185,20 +186,29 @@ module _ (Says : Account → ControlView → Type 0) (settings : Settings) (r : 
     same-next : next_now m ≡ next_under settings s r (transmitting_at settings s r)
     same-next = told (tied.each s c at).0 (tied.each s c at).1
 
-    got-by : (answer : Result Claim NoClaim) → HasGained m c.view answer (λ b. Says b d.view) → HasGot settings s r cs (number_of answer) × Says (gaining (number_of answer) m) d.view
-    got-by (Ok x) is = (inl (let y = same-next in let z = is.1 in omega arith, is.2, is.3), is.5)
-    got-by (Err (NoKey after)) is = (
+    -- a key that transmits has a next number
+    some-next : KeepUp m c.view → (an : AssociationNumber) (epoch : ℕ) → word_of (now m.carried) ≡ present_at an epoch → 1 ≤ next_now m
+    some-next u an epoch is =
+        let here : current c.view ≡ word_of (now m.carried) = ap newest u.points ∙ newest-word m.carried.points in
+        let one = (u.least (ap (λ (q : Current). q.present) (here ∙ is))).0 in
+        let same : m.nexts (current c.view).epoch ≡ m.nexts (now m.carried).epoch = ap (λ (q : Current). m.nexts q.epoch) here in
+        let next : next_now m ≡ m.nexts (now m.carried).epoch = ap (λ (q : Current). cond q.present (m.nexts (now m.carried).epoch) 0) is in
+        omega (arith, one, same, next)
+
+    got-by : KeepUp m c.view → (answer : Result Claim NoClaim) → HasGained m c.view answer (λ b. Says b d.view) → HasGot settings s r cs (number_of answer) × Says (gaining (number_of answer) m) d.view
+    got-by u (Ok x) is = let y = same-next in let z = is.1 in let one = some-next u x.an x.epoch is.0 in (inl (omega arith, omega arith, is.3), is.5)
+    got-by u (Err (NoKey after)) is = (
       inr (refl, inl (sym same-next ∙ ap (λ (b : Bool). cond b (m.nexts (now m.carried).epoch) 0) is.0)),
       subst (λ (b : Account). Says b d.view) (sym (gaining-none m)) is.2,
     )
-    got-by (Err (Exhausted epoch)) is = (
+    got-by u (Err (Exhausted epoch)) is = (
       inr (refl, inr (c, at, subst (λ (e : ℕ). last_number < told_sum c.view (current c.view).an e) (sym (ap (λ (q : Current). q.epoch) is.0)) is.1)),
       subst (λ (b : Account). Says b d.view) (sym (gaining-none m)) is.2,
     )
 
-    pub said-gained : (user pn : ℕ) (answer : Result Claim NoClaim) → pn ≡ number_of answer → HasGained m c.view answer (λ b. Says b d.view)
+    pub said-gained : ((a : Account) → Says a c.view → KeepUp a c.view) → (user pn : ℕ) (answer : Result Claim NoClaim) → pn ≡ number_of answer → HasGained m c.view answer (λ b. Says b d.view)
         → HasGot settings s r cs pn × AreAheadBy Says onward settings r (events.Claim s user pn) (set cs s d)
-    said-gained user pn answer is gained = let by = got-by answer gained in
+    said-gained keeps user pn answer is gained = let by = got-by (keeps m (tied.each s c at).2) answer gained in
         subst (λ (n : ℕ). HasGot settings s r cs n × AreAheadBy Says onward settings r (events.Claim s user n) (set cs s d)) (sym is)
         (by.0, said-claimed user (number_of answer) by.1)
 

@@ -31,9 +31,10 @@ abbrev pub AreSpent : ℕ → List ControlAt → Type 0
 AreSpent s cs = (c : ControlAt) × (slice_get cs s ≡ Some c)
     × (last_number < told_sum c.view (current c.view).an (current c.view).epoch)
 
--- a claim after a run got a packet number that is not below the next one, or none, as no key
--- transmits or the words have none left
+-- a claim after a run got a packet number under the key that transmits, not below the next one, or
+-- none, as no key transmits or the words have none left
 abbrev pub HasGot : Settings → ℕ → Run → List ControlAt → ℕ → Type 0
 HasGot settings s r cs n =
-    ((next_under settings s r (transmitting_at settings s r) ≤ n) × (1 ≤ n) × (n ≤ last_number))
+    ((1 ≤ next_under settings s r (transmitting_at settings s r))
+    × (next_under settings s r (transmitting_at settings s r) ≤ n) × (n ≤ last_number))
     ⊎ ((n ≡ 0) × ((next_under settings s r (transmitting_at settings s r) ≡ 0) ⊎ AreSpent s cs))

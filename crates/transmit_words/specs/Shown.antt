@@ -1,5 +1,5 @@
 -- What the words of a table show of an account.
-use Rattle.std.specs.Prelude.{◌≡◌, ℕ, true, not, List, slice_index}
+use Rattle.std.specs.Prelude.{◌≡◌, ◌≤◌, ℕ, true, not, List, slice_index}
 use Rattle.lan_base.specs.declared.association_number.AssociationNumber.{AssociationNumber}
 use Rattle.lan_base.specs.AssociationNumbers.{number_of}
 use Rattle.association_slots.specs.Words.{epoch_of, flag_of, next_of, shown_by}
@@ -17,3 +17,13 @@ pub record Show (a : Account) (words : List ℕ) : Type 0 where
       → (epoch_of (slice_index words (number_of (now a.carried).an)) ≡ (now a.carried).epoch)
       × (next_of (slice_index words (number_of (now a.carried).an))
       ≡ a.nexts (now a.carried).epoch)
+
+-- The same where the words keep up with an account: the slot's next number is not below it.
+pub record ShowAtLeast (a : Account) (words : List ℕ) : Type 0 where
+  pub current : shown_by (slice_index words 4) ≡ word_of (now a.carried)
+  pub shut : (an : AssociationNumber)
+      → flag_of (slice_index words (number_of an)) ≡ not (names (now a.carried) an)
+  pub opens : (now a.carried).present ≡ true
+      → (epoch_of (slice_index words (number_of (now a.carried).an)) ≡ (now a.carried).epoch)
+      × (a.nexts (now a.carried).epoch
+      ≤ next_of (slice_index words (number_of (now a.carried).an)))

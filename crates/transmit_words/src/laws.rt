@@ -23,7 +23,7 @@ ghost use Rattle.group_safety.specs.Accounts.{Account, blank, gaining, onward, c
 ghost use Rattle.transmit_words.specs.Counting.{times_in, times_under};
 ghost use Rattle.transmit_words.specs.Seats.{AreAllIn, AreSpent};
 ghost use Rattle.transmit_words.specs.Telling.{KeepUp, Tells, CatchUp, HasClaimsBeside};
-ghost use Rattle.transmit_words.specs.Shown.{Show};
+ghost use Rattle.transmit_words.specs.Shown.{Show, ShowAtLeast};
 ghost use Rattle.transmit_words.specs.Ties.{AreTied, AreAhead, HaveKeptUp, KeepAhead};
 ghost use Rattle.transmit_words.specs.Ties.{HaveCaughtUp, CaughtAhead, HaveClaimsBeside};
 ghost use Rattle.transmit_words.specs.Ties.{AreToldAll, Followed};
@@ -39,6 +39,15 @@ use group_safety::{
 pub fn law_the_words_show_what_transmits()
     ensures { (c : ControlView) (words : List ℕ) (views : List View) (a : Account)
         → Around c words views → Tells a c → Show a words }
+{
+    law_words();
+    law_counted_next();
+}
+
+/// Also where they only keep up with it, but for the packet number, which isn't below the next one.
+pub fn law_the_words_are_not_behind()
+    ensures { (c : ControlView) (words : List ℕ) (views : List View) (a : Account)
+        → Around c words views → KeepUp a c → ShowAtLeast a words }
 {
     law_words();
     law_counted_next();

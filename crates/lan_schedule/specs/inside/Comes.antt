@@ -6,7 +6,7 @@ use Rattle.lan_core.specs.declared.event.Event.TheVariants as events
 use Rattle.lan_core.specs.Claims.{user_at, next}
 use Rattle.lan_core.specs.Stops.{MayCome}
 use Rattle.lan_schedule.specs.Sound.{IsTidy}
-use Rattle.lan_schedule.specs.World.{World, settings}
+use Rattle.lan_schedule.specs.World.{World, settings, is_racing}
 use Rattle.lan_schedule.specs.Acts.{Act, nothing, refuse, happen, change, seq, look, perform}
 use Rattle.lan_schedule.specs.Acts.{Course, Goes, Stops, exceed, race, begun_race}
 use Rattle.lan_schedule.specs.Numbers.{number_shown, number_claimed}
@@ -26,10 +26,12 @@ abbrev pub HasRoom : World → ℕ → Type 0
 HasRoom w user = w.kept.raced ≡ false
     → (user ≤ length w.kept.users) × ((s epoch : ℕ) → next (settings w) s epoch w.run ≤ user)
 
--- an event shows and claims the packet number that it has to, and no other; a claim finds one left
+-- an event shows and claims the packet number that it has to, and no other; a claim finds one left,
+-- and in the midst of a race none but workers claim
 abbrev pub IsExact : World → Event → Type 0
 IsExact w (events.Tick s shown) = shown ≡ number_shown w s
-IsExact w (events.Claim s user pn) = (pn ≡ number_claimed w s) × HasRoom w user
+IsExact w (events.Claim s user pn) =
+    (pn ≡ number_claimed w s) × HasRoom w user × (is_racing w.kept.phase ≡ false)
 IsExact w _ = Unit {0}
 
 -- an act can be performed in a world

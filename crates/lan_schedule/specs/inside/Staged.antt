@@ -8,6 +8,7 @@ use Rattle.lan_schedule.specs.declared.recorder.Broken.{Broken}
 use Rattle.lan_schedule.specs.declared.stage.Stage.{Stage}
 use Rattle.lan_schedule.specs.Races.{Chance}
 use Rattle.lan_schedule.specs.World.{World, Kept, nothing_kept}
+use Rattle.lan_schedule.specs.Numbers.{decided}
 use Rattle.lan_schedule.specs.Acts.{Act, happen, perform}
 use Rattle.lan_schedule.specs.Reports.{Report}
 use Rattle.lan_schedule.specs.Ends.{Moment, IsReached, Ends}
@@ -25,12 +26,13 @@ pub record Did {K : Type 0} (Took : K → Report → K → Type 0)
       → IsReached StandsFor w old.value → Comes act w
       → Ends StandsFor Counts Took Broke w later (perform act w) old.outlet new result
 
--- an event happened, where the words are set for it, and this user frame is the one that it names
+-- an event happened, where the words are set for it, this user frame is the one that it names, and
+-- chance decides its number
 pub record Happened {K : Type 0} (Took : K → Report → K → Type 0)
     (Broke : K → Report → K → Broken → Type 0) (given : Option UserFrame) (event : Event)
     (old new : Moment Stage K) (result : Result (Unit {0}) Halt) : Type 0 where
-  pub chances : List Chance
-  pub ends : (w : World) (later : List Chance) → w.kept.chances ≡ chances ++ later
+  pub ends : (w : World) (later : List Chance)
+      → w.kept.chances ≡ decided old.value.raced event ++ later
       → IsReached (StandsWith (AreSet event)) w old.value → given ≡ named w event
       → Comes (happen event) w
       → Ends StandsFor Counts Took Broke w later (perform (happen event) w) old.outlet new result

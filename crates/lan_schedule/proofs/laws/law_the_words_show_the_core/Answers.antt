@@ -1,14 +1,11 @@
-use Rattle.lan_schedule.specs.World.{settings}
-use Rattle.group_safety.specs.Accounts.{account_at}
-use Rattle.lan_schedule.proofs.Telling.{are-tied, is-tied, core-shown}
+use Rattle.lan_schedule.proofs.Telling.{are-many, was-told, core-shown}
 use Rattle.lan_schedule.proofs.laws.law_the_words_show_the_core.Goals as goal
 
 pub returns-clause-many : goal.returns-clause-many
-returns-clause-many c = λ w replay stands. (are-tied w replay stands).many
+returns-clause-many c = are-many
 
 pub returns-clause-shown : goal.returns-clause-shown
 returns-clause-shown c = λ w replay s control words views stands has around.
-    let tied = is-tied w replay s control stands has in
-    core-shown w s words tied.0 tied.1
-    (c.law_the_words_show_what_transmits.ensures control.view words views
-    (account_at (settings w) s w.run tied.0) around tied.2)
+    core-shown w s control words (was-told w replay s control stands has)
+    (λ a tells. c.law_the_words_show_what_transmits.ensures control.view words views a around tells)
+    (λ a up. c.law_the_words_are_not_behind.ensures control.view words views a around up)

@@ -14,6 +14,7 @@ returns-in-Some c = λ w stands.
       scis = refl;
       frames = refl;
       tally = refl;
+      raced = refl;
     }) refl refl refl refl at) stands
 
 pub returns : goal.returns

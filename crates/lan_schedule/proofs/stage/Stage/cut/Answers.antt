@@ -12,4 +12,5 @@ returns-clause-ok c =
       scis = refl;
       frames = refl;
       tally = refl;
+      raced = refl;
     }) refl refl refl c.in_ok-cut.ensures

@@ -22,6 +22,7 @@ returns-in_err-round g c =
       cuts = refl;
       words = refl;
       tally = refl;
+      raced = refl;
     }) c.in_ok-begin_round.ensures.ok) refl) in
     handed-on _ _ _ _ _ (leads-err _ _ _ _ _ _ _ begun c.in_err-round.ensures)
     c.from_residual-in_err-round.ensures.1
@@ -40,6 +41,7 @@ returns-in_err-frames g c =
       cuts = refl;
       words = refl;
       tally = refl;
+      raced = refl;
     }) c.in_ok-begin_round.ensures.ok) refl) in
     let ticked = leads-step _ _ _ _ _ _ begun c.in_ok-round.ensures in
     handed-on _ _ _ _ _ (ticked.leads _ _ (memory-does _ _ _ refl refl))
@@ -59,6 +61,7 @@ returns g c =
       cuts = refl;
       words = refl;
       tally = refl;
+      raced = refl;
     }) c.in_ok-begin_round.ensures.ok) refl) in
     let ticked = leads-step _ _ _ _ _ _ begun c.in_ok-round.ensures in
     ticked.leads _ _ ((due-leads c.deref.result.now _

@@ -36,11 +36,13 @@ returns-in_err-record g c =
       names = c.in_ok-admit.ensures.names;
       scis = c.in_ok-admit.ensures.scis;
       frames = rw c.as_slice.ensures at c.in_ok-put.ensures;
-      words = λ settings users r before after stepped exact set.
-          (rw c.as_slice-2.ensures at c.in_ok-follow.ensures.tied) settings users c.args.self.now.lan r
-          before after stepped exact set;
+      raced = refl;
+      words = λ raced racing settings users r before after stepped exact set.
+          (rw c.as_slice-2.ensures at c.in_ok-follow.ensures) raced racing settings users
+          c.args.self.now.lan r before after stepped exact set;
       tally = λ shown stood. (rw c.as_slice-3.ensures at c.count_all.ensures) shown stood;
     })
+    c.law_words_keep_a_run_thrifty.ensures
     (rw c.deref.ensures.value at c.in_err-record.ensures)) c.from_residual-in_err-record.ensures.1
 
 pub returns : goal.returns
@@ -60,11 +62,13 @@ returns g c =
       names = c.in_ok-admit.ensures.names;
       scis = c.in_ok-admit.ensures.scis;
       frames = rw c.as_slice.ensures at c.in_ok-put.ensures;
-      words = λ settings users r before after stepped exact set.
-          (rw c.as_slice-2.ensures at c.in_ok-follow.ensures.tied) settings users c.args.self.now.lan r
-          before after stepped exact set;
+      raced = refl;
+      words = λ raced racing settings users r before after stepped exact set.
+          (rw c.as_slice-2.ensures at c.in_ok-follow.ensures) raced racing settings users
+          c.args.self.now.lan r before after stepped exact set;
       tally = λ shown stood. (rw c.as_slice-3.ensures at c.count_all.ensures) shown stood;
     })
+    c.law_words_keep_a_run_thrifty.ensures
     (rw c.deref.ensures.value at c.in_ok-record.ensures)
 
 pub returns-in_err-put : goal.returns-in_err-put

@@ -15,4 +15,5 @@ returns c =
       cuts = refl;
       words = refl;
       tally = refl;
+      raced = refl;
     }) c.mark.ensures

@@ -12,4 +12,5 @@ returns c =
       scis = refl;
       frames = refl;
       tally = refl;
+      raced = refl;
     }) refl refl refl c.mend.ensures

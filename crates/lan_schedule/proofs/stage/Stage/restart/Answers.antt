@@ -5,5 +5,5 @@ use Rattle.lan_schedule.proofs.stage.Stage.restart.Goals as goal
 
 pub returns : goal.returns
 returns g c =
-    plainly (Restart c.args.station) _ _ _ (λ w. refl) (λ settings run cs tied. tied)
+    plainly (Restart c.args.station) _ _ _ (λ w. refl) (λ raced racing settings run cs says. says)
     c.happen.ensures

@@ -7,6 +7,9 @@ use Rattle.lan_schedule.proofs.stage.Stage.send.Goals as goal
 pub returns-in_default : goal.returns-in_default
 returns-in_default g c = memory-does _ _ _ refl refl
 
+pub returns-then-not-has_numbers : goal.returns-then-not-has_numbers
+returns-then-not-has_numbers g c = memory-does _ _ _ refl refl
+
 pub returns-in_err-happen : goal.returns-in_err-happen
 returns-in_err-happen g c =
     let one_more : c.in-Some.users ≡ c.args.self.now.users + 1 = grind arith in
@@ -21,9 +24,17 @@ returns-in_err-happen g c =
       scis = refl;
       frames = refl;
       tally = refl;
-    }) refl one_more refl few refl c.claim-pn.ensures.claimed
-    (λ settings run tied there most.
-    c.claim-pn.ensures.ahead settings run c.in-Some.users tied there most)
+      raced = refl;
+    }) refl one_more refl few refl (record {
+      calm = λ settings run tied there most. (
+        c.claim-pn.ensures.claimed settings run tied there most,
+        c.claim-pn.ensures.ahead settings run c.in-Some.users tied there most,
+      );
+      raced = λ settings run caught there.
+          c.claim-pn.ensures.gained settings run c.in-Some.users caught there;
+      few = λ raced. c.has_numbers.ensures c.if-not-has_numbers.false raced;
+      spends = c.law_few_claims_spend_no_words.ensures.stations;
+    })
     (claim-err c.args.station c.in-Some.users c.claim-pn.result c.args.user.now _ _ _
     c.in_err-happen.ensures))
     c.from_residual.ensures.1
@@ -41,8 +52,16 @@ returns g c =
       scis = refl;
       frames = refl;
       tally = refl;
-    }) refl one_more refl few refl c.claim-pn.ensures.claimed
-    (λ settings run tied there most.
-    c.claim-pn.ensures.ahead settings run c.in-Some.users tied there most)
+      raced = refl;
+    }) refl one_more refl few refl (record {
+      calm = λ settings run tied there most. (
+        c.claim-pn.ensures.claimed settings run tied there most,
+        c.claim-pn.ensures.ahead settings run c.in-Some.users tied there most,
+      );
+      raced = λ settings run caught there.
+          c.claim-pn.ensures.gained settings run c.in-Some.users caught there;
+      few = λ raced. c.has_numbers.ensures c.if-not-has_numbers.false raced;
+      spends = c.law_few_claims_spend_no_words.ensures.stations;
+    })
     (claim-ok c.args.station c.in-Some.users c.claim-pn.result c.args.user.now _ _ _ _
     c.in_ok-happen.ensures c.emit.ensures)

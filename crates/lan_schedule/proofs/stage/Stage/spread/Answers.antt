@@ -27,4 +27,5 @@ returns g c =
       cuts = refl;
       words = refl;
       tally = refl;
+      raced = refl;
     }) c.mark.ensures) refl)

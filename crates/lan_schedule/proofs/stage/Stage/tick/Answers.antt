@@ -12,4 +12,5 @@ returns g c =
       scis = refl;
       frames = refl;
       tally = refl;
+      raced = refl;
     }) refl refl refl c.next-next.ensures.next c.next-next.ensures.ahead c.happen.ensures

@@ -53,7 +53,7 @@ returns-after-claim-clause-gained g c = λ settings r user up all_in there.
     ] in
     let kept = subst (HaveKeptUp settings r) (sym c.self.view_is) up in
     let ins = subst AreAllIn (sym c.self.view_is) all_in in
-    let by = said-gained KeepUp settings r cs c.args.station c.index_mut.result.now c.claim.new.self kept at_s (next-told settings c.args.station r) user c.match-claim.result c.claim.result number
+    let by = said-gained KeepUp settings r cs c.args.station c.index_mut.result.now c.claim.new.self kept at_s (next-told settings c.args.station r) (λ a u. u) user c.match-claim.result c.claim.result number
     (c.claim.ensures.gained _ (kept.each c.args.station c.index_mut.result.now at_s).2 (ins c.args.station c.index_mut.result.now at_s)) in (
       subst (λ (old : List ControlAt). HasGot settings c.args.station r old c.match-claim.result) c.self.view_is by.0,
       subst (λ (p : ℕ). KeepAhead settings r (events.Claim c.args.station user c.match-claim.result) (set cs p c.claim.new.self)) (sym same) by.1,
@@ -70,7 +70,7 @@ returns-after-claim-clause-catches_up g c = λ settings r user up there.
       | in-Err w ↦ w.result-is ∙ sym (ap number_of w.in-Err.is)
     ] in
     let kept = subst (HaveCaughtUp settings r) (sym c.self.view_is) up in
-    let by = said-gained CatchUp settings r cs c.args.station c.index_mut.result.now c.claim.new.self kept at_s (next-told settings c.args.station r) user c.match-claim.result c.claim.result number
+    let by = said-gained CatchUp settings r cs c.args.station c.index_mut.result.now c.claim.new.self kept at_s (next-told settings c.args.station r) (λ a u. u.keep_up) user c.match-claim.result c.claim.result number
     (c.claim.ensures.catches_up _ (kept.each c.args.station c.index_mut.result.now at_s).2) in (
       subst (λ (old : List ControlAt). HasGot settings c.args.station r old c.match-claim.result) c.self.view_is by.0,
       subst (λ (p : ℕ). CaughtAhead settings r (events.Claim c.args.station user c.match-claim.result) (set cs p c.claim.new.self)) (sym same) by.1,
