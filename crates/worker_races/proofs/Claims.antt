@@ -230,7 +230,7 @@ module _ (settings : Settings) (users : List UserFrame) where
     total-none : (u n : ℕ) → total u n [] ≡ 0
     unfolding total
     total-none u zero = refl
-    total-none u (suc n) = total-none (suc u) n
+    total-none u (suc n) = let rest = total-none (suc u) n in omega (arith, rest)
 
     total-more : (u n : ℕ) (h : Happening) (part : List Happening) → total u n (h ∷ part) ≡ extra u n h + total u n part
     unfolding total extra
@@ -263,7 +263,7 @@ module _ (settings : Settings) (users : List UserFrame) where
       | inr other ↦ (let apart = eqb-false u v other in
           let here = others u apart in
           let rest = extra-one (suc u) n v h (more apart) (omega (arith, high)) is others in
-          rw here rest)
+          rw here (omega (arith, rest)))
     ]
       where
         more : (u ≡ v → ⊥) → suc u ≤ v

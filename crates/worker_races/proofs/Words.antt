@@ -30,7 +30,7 @@ use Rattle.worker_races.specs.Performed.{ArePerformed, IsPerformed, happenings, 
 
 -- ---- one event
 
-same-places : (t : ℕ) (x : Happening) (r : Run) → is_event_of t x.event ≡ true → stations (x ∷ r) ≡ stations r
+pub same-places : (t : ℕ) (x : Happening) (r : Run) → is_event_of t x.event ≡ true → stations (x ∷ r) ≡ stations r
 unfolding stations
 same-places t x r own = rw (starts-none t x.event own) (append-nil (stations r))
 
