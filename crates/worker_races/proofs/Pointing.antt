@@ -1,12 +1,12 @@
 -- The association number of each epoch, by what the current word was told; and what was told of the
 -- keys that transmit.
-use Rattle.std.proofs.Common.{◌≡◌, ◌⊎◌, ◌<◌, ◌≤◌, ℕ, ◌==◌, ◌&&◌, Bool, true, false, cond, List, [], ◌∷◌, ◌++◌, map}
+use Rattle.std.proofs.Common.{◌≡◌, ◌⊎◌, ◌<◌, ◌≤◌, ℕ, ◌==◌, ◌&&◌, Bool, true, false, cond, List, [], ◌∷◌, map}
 use Rattle.std.proofs.Common.{Option, Some, None, refl, sym, ap, ◌∙◌, subst, arith, inl, inr, eq-eqb}
 use Rattle.std.proofs.lemmas.Bool.{cases_Bool, and_from, and_parts, eqb-true}
 use Rattle.std.specs.Prelude.{option_and_then, option_map}
 use Rattle.lan_base.specs.declared.association_number.AssociationNumber.{AssociationNumber}
 use Rattle.association_slots.specs.Rule.{Rise, Settled}
-use Rattle.association_slots.specs.Views.{In, WasAbsent, current, newest, present_at}
+use Rattle.association_slots.specs.Views.{In, current, newest, present_at}
 use Rattle.association_slots.specs.declared.view.ControlView.{ControlView}
 use Rattle.association_slots.specs.declared.view.Current.{Current}
 use Rattle.sak_exchange.specs.declared.held_key.Key.{Key}
@@ -15,7 +15,7 @@ use Rattle.sak_exchange.specs.Held.{transmitting}
 use Rattle.lan_core.specs.declared.settings.Settings.{Settings}
 use Rattle.lan_core.specs.Run.{Run}
 use Rattle.lan_core.specs.Lives.{Life, life, keys_in, transmitting_at}
-use Rattle.group_safety.specs.Accounts.{Account, account_at}
+use Rattle.group_safety.specs.Accounts.{account_at}
 use Rattle.group_safety.specs.Transmitting.{Carried, CarriesAt, CarriesIn, Sending, now, transmits}
 use Rattle.group_safety.specs.Transmitting.{newest as newest_sending}
 use Rattle.race_merge.specs.Given.{IsPast}
