@@ -1,18 +1,13 @@
 -- The words have caught up with the run that has a part woven of control and of the logs.
-use Rattle.std.proofs.Common.{◌≡◌, ◌≤◌, ◌<◌, ◌+◌, ℕ, List, length, map, Some, refl, sym, ap, ◌∙◌, subst, arith}
+use Rattle.std.proofs.Common.{◌≡◌, ◌<◌, ◌+◌, ℕ, List, length, refl, sym, ap, subst, arith}
 use Rattle.std.proofs.lemmas.Option.{slice_get_within}
-use Rattle.std.specs.Prelude.{slice_get}
-use Rattle.association_slots.specs.Views.{ControlAt, claimed, count}
+use Rattle.association_slots.specs.Views.{claimed, count}
 use Rattle.lan_core.specs.Run.{Run, Happening, stations}
 use Rattle.lan_core.specs.Legal.{IsStepped}
-use Rattle.lan_core.specs.Ledgers.{claims}
 use Rattle.lan_core.specs.Parts.{AreAlike, followed_by, without_claims}
 use Rattle.lan_core.proofs.Public.{alike-itself, alike-part}
-use Rattle.group_safety.specs.Accounts.{account_at, numbers_at}
-use Rattle.group_safety.specs.Transmitting.{Carried, CarriesAt, CarriesIn}
+use Rattle.group_safety.specs.Transmitting.{CarriesIn}
 use Rattle.race_merge.specs.Weaving.{IsWoven}
-use Rattle.transmit_words.specs.Counting.{times_in}
-use Rattle.transmit_words.specs.Telling.{HasClaimsBeside}
 use Rattle.transmit_words.specs.Ties.{AreToldAll, HaveClaimsBeside}
 use Rattle.worker_races.specs.Beside.{Race, WereBeside, attempts_in, logs_in}
 use Rattle.worker_races.specs.Performed.{happenings, run_after}

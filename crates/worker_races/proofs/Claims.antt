@@ -1,10 +1,9 @@
 -- The packet numbers that a run with a part tells of a station: those before, and those that the
 -- part's claims got, which are those of the logs.
-use Rattle.std.proofs.Common.{◌≡◌, ◌≤◌, ◌<◌, ◌+◌, ◌==◌, ◌&&◌, ℕ, zero, suc, max, Bool, true, false, not, cond, List, [], ◌∷◌, ◌++◌, length, map, filter}
-use Rattle.std.proofs.Common.{Option, Some, None, refl, sym, ap, ◌∙◌, subst, arith, inl, inr, eq-eqb}
+use Rattle.std.proofs.Common.{◌≡◌, ◌≤◌, ◌<◌, ◌+◌, ◌==◌, ◌&&◌, ℕ, zero, suc, max, Bool, true, false, cond, List, [], ◌∷◌, length, map, filter}
+use Rattle.std.proofs.Common.{refl, sym, ap, ◌∙◌, subst, arith, inl, inr}
 use Rattle.std.proofs.lemmas.Bool.{cases_Bool, cases_lt, eqb-true, eqb-false, ne_eqb}
 use Rattle.std.specs.List.{AllByRecursion}
-use Rattle.lan_base.specs.declared.association_number.AssociationNumber.{AssociationNumber}
 use Rattle.lan_base.specs.declared.frame.UserFrame.{UserFrame}
 use Rattle.association_slots.specs.Views.{one, weigh}
 use Rattle.data_workers.specs.declared.entry.Entry.{Entry}
@@ -15,19 +14,19 @@ use Rattle.lan_core.specs.declared.fact.Fact.{Fact}
 use Rattle.lan_core.specs.declared.fact.Fact.TheVariants as facts
 use Rattle.lan_core.specs.declared.settings.Settings.{Settings}
 use Rattle.lan_core.specs.Run.{Run, Happening}
-use Rattle.lan_core.specs.Ledgers.{Claim, claim_of, claims, gather, with_one}
+use Rattle.lan_core.specs.Ledgers.{Claim, claim_of, claims, gather}
 use Rattle.lan_core.specs.Lives.{transmitting_at}
 use Rattle.lan_core.specs.Claims.{after_claim, next, shown_by}
 use Rattle.lan_core.specs.Expected.{claim_fact}
 use Rattle.lan_core.specs.Legal.{IsStep, IsStepped}
 use Rattle.lan_core.specs.Parts.{AreAlike, followed_by, is_claim, without_claims}
-use Rattle.lan_core.proofs.Public.{IsClaim, TellsClaim, is-claim, tells-claim, alike-itself, alike-event, claim-alike, stepped-front}
+use Rattle.lan_core.proofs.Public.{IsClaim, TellsClaim, is-claim, tells-claim, alike-event, claim-alike, stepped-front}
 use Rattle.group_safety.specs.Accounts.{numbers_at, shows_at, shown_at}
 use Rattle.group_safety.proofs.Public.{claims-by, kind}
 use Rattle.transmit_words.specs.Counting.{past_claims, times_in}
 use Rattle.race_merge.specs.Merged.{nth_log}
 use Rattle.race_merge.specs.Steps.{attempt_of, logs_of}
-use Rattle.race_merge.specs.Weaving.{AreClaimsOf, IsClaimOf, IsOfLog, is_claim_for}
+use Rattle.race_merge.specs.Weaving.{AreClaimsOf, IsOfLog, is_claim_for}
 use Rattle.race_merge.specs.Worked.{times_in as times_in_log, times_in_all}
 use Rattle.race_merge.proofs.Public.{adds-none, shown-same}
 
@@ -230,7 +229,7 @@ module _ (settings : Settings) (users : List UserFrame) where
     total-none : (u n : ℕ) → total u n [] ≡ 0
     unfolding total
     total-none u zero = refl
-    total-none u (suc n) = total-none (suc u) n
+    total-none u (suc n) = let rest = total-none (suc u) n in omega (arith, rest)
 
     total-more : (u n : ℕ) (h : Happening) (part : List Happening) → total u n (h ∷ part) ≡ extra u n h + total u n part
     unfolding total extra
@@ -263,7 +262,7 @@ module _ (settings : Settings) (users : List UserFrame) where
       | inr other ↦ (let apart = eqb-false u v other in
           let here = others u apart in
           let rest = extra-one (suc u) n v h (more apart) (omega (arith, high)) is others in
-          rw here rest)
+          rw here (omega (arith, rest)))
     ]
       where
         more : (u ≡ v → ⊥) → suc u ≤ v

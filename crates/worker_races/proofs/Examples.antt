@@ -1,15 +1,13 @@
 -- The definitions on worked values, by computing: alice transmits epoch 1 under AN 0, and bob begins
 -- it while a worker of alice is out. And a race that meets its premises: of nobody, while control
 -- performs nothing.
-use Rattle.std.proofs.Common.{◌≡◌, ◌<◌, ◌+◌, ◌^◌, ◌∷◌, [], ℕ, List, length, refl, arith}
+use Rattle.std.proofs.Common.{◌≡◌, ◌<◌, ◌+◌, ◌^◌, ◌∷◌, [], List, length, refl, arith}
 use Rattle.std.proofs.lemmas.List.Elements.{All-nil}
-use Rattle.std.specs.Prelude.{slice_index_or}
 use Rattle.atomic_table.specs.Seated.{TableId}
-use Rattle.lan_base.specs.declared.association_number.AssociationNumber.TheVariants.{An0, An1}
+use Rattle.lan_base.specs.declared.association_number.AssociationNumber.TheVariants.{An0}
 use Rattle.lan_base.specs.declared.frame.UserFrame.{UserFrame}
-use Rattle.association_slots.specs.Steps.{at_first, new_seat, pointed, raised, seated, told}
+use Rattle.association_slots.specs.Steps.{at_first, new_seat, pointed, raised, seated}
 use Rattle.association_slots.specs.Views.{ControlAt, present_at}
-use Rattle.association_slots.specs.declared.view.ControlView.{ControlView}
 use Rattle.data_workers.specs.Workers.{WorkerAt}
 use Rattle.data_workers.specs.declared.sender.Sender.{Sender}
 use Rattle.lan_core.specs.Ledgers.{claims}
@@ -21,9 +19,9 @@ use Rattle.lan_core.specs.declared.event.Event.TheVariants as events
 use Rattle.lan_core.specs.declared.settings.Settings.{Settings}
 use Rattle.group_safety.proofs.Public.{settings, r11, r12}
 use Rattle.transmit_words.specs.Ties.{HaveCaughtUp}
-use Rattle.worker_races.specs.Beside.{Race, WereBeside, moves_in}
-use Rattle.worker_races.specs.Going.{HaveGone, WasTold, WereSeated, WereTold, words_by}
-use Rattle.worker_races.specs.Performed.{happenings, run_after}
+use Rattle.worker_races.specs.Beside.{Race, WereBeside}
+use Rattle.worker_races.specs.Going.{WereSeated, words_by}
+use Rattle.worker_races.specs.Performed.{run_after}
 use Rattle.worker_races.specs.Reading.{an_pointed, last_pointed, view_at}
 use Rattle.worker_races.specs.Senders.{jobs_of}
 

@@ -1,8 +1,8 @@
 -- Control performed one event more; and what an event tells the words.
-use Rattle.std.proofs.Common.{◌≡◌, ◌<◌, ℕ, ◌==◌, Bool, true, false, cond, List, [], ◌∷◌, ◌++◌, map, length, reverse}
+use Rattle.std.proofs.Common.{◌≡◌, ℕ, ◌==◌, true, false, List, [], ◌∷◌, ◌++◌, map, reverse}
 use Rattle.std.proofs.Common.{Option, Some, None, refl, sym, ap, ◌∙◌, subst, inl, inr}
 use Rattle.std.proofs.lemmas.Bool.{cases_Bool, eqb-true}
-use Rattle.std.specs.Prelude.{Contains, is_some, option_map, option_to_list, slice_get}
+use Rattle.std.specs.Prelude.{Contains, is_some, option_map, option_to_list}
 use Rattle.lan_base.specs.declared.address.Mi.{Mi}
 use Rattle.lan_base.specs.declared.association_number.AssociationNumber.{AssociationNumber}
 use Rattle.lan_base.specs.declared.frame.UserFrame.{UserFrame}
@@ -12,7 +12,6 @@ use Rattle.gcm_frames.specs.Tags.{is_sec}
 use Rattle.association_slots.specs.Views.{ControlAt, current}
 use Rattle.association_slots.specs.Views.{newest as newest_word}
 use Rattle.association_slots.specs.declared.view.ControlView.{ControlView}
-use Rattle.association_slots.specs.declared.view.Current.{Current}
 use Rattle.sak_exchange.specs.declared.change.Change.{Change}
 use Rattle.sak_exchange.specs.declared.change.Change.TheVariants as changes
 use Rattle.sak_exchange.specs.declared.held_key.HeldKey.{HeldKey}
@@ -31,7 +30,6 @@ use Rattle.lan_core.specs.Ledgers.{next_frame}
 use Rattle.lan_core.specs.Legal.{IsStep, IsStepped}
 use Rattle.lan_core.specs.Lives.{Life, sak_in, transmitting_at, turn_at_tick}
 use Rattle.lan_core.specs.Order.{is_event_of}
-use Rattle.lan_core.specs.Parts.{followed_by}
 use Rattle.lan_core.specs.Run.{Run, Happening}
 use Rattle.group_safety.specs.Accounts.{Account, account_at, onward}
 use Rattle.group_safety.specs.Transmitting.{Carried, CarriesAt, Sending, follow, newest}
@@ -40,9 +38,9 @@ use Rattle.group_safety.proofs.Public as kinds
 use Rattle.sak_exchange.proofs.Public.{by_test}
 use Rattle.race_merge.specs.declared.step.Step.{Step}
 use Rattle.race_merge.specs.Table.{Controls, an_in, an_of, current_of, flipped, words_of}
-use Rattle.transmit_words.specs.Telling.{KeepUp, word_of}
+use Rattle.transmit_words.specs.Telling.{word_of}
 use Rattle.transmit_words.specs.Ties.{AreHeld, Followed, KeepAhead}
-use Rattle.worker_races.specs.Going.{HaveGone, WasTold, WereLooked, WereTold, words_by}
+use Rattle.worker_races.specs.Going.{HaveGone, WereLooked, WereTold, words_by}
 use Rattle.worker_races.specs.Performed.{ArePerformed, IsPerformed, run_after}
 
 -- ---- one event more

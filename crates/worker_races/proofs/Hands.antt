@@ -1,14 +1,12 @@
 -- The workers of a race when they are done: what their logs say, by what control knew when they
 -- began, and what it knows in the end.
-use Rattle.std.proofs.Common.{◌≡◌, ◌<◌, ◌≤◌, ℕ, zero, suc, ◌+◌, List, [], ◌∷◌, length, map, All}
-use Rattle.std.proofs.Common.{refl, sym, ap, ◌∙◌, subst, arith}
+use Rattle.std.proofs.Common.{◌≡◌, ℕ, suc, ◌+◌, List, [], ◌∷◌, length}
+use Rattle.std.proofs.Common.{refl, sym, ap, subst, arith}
 use Rattle.std.specs.List.{AllByRecursion}
 use Rattle.lan_base.specs.declared.frame.UserFrame.{UserFrame}
 use Rattle.association_slots.specs.Views.{ControlAt}
-use Rattle.association_slots.specs.declared.view.SeatView.{SeatView}
 use Rattle.data_workers.specs.Logs.{IsLog}
-use Rattle.data_workers.specs.Workers.{AreDone, IsDone, Logged, WorkerAt}
-use Rattle.data_workers.specs.declared.sender.Sender.{Sender}
+use Rattle.data_workers.specs.Workers.{AreDone, IsDone, WorkerAt}
 use Rattle.lan_core.specs.Run.{Run}
 use Rattle.worker_races.specs.Senders.{AreSenders, IsNew, IsSender, jobs_of}
 use Rattle.worker_races.proofs.Seating.{Came, Took}

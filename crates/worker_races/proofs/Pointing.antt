@@ -1,12 +1,12 @@
 -- The association number of each epoch, by what the current word was told; and what was told of the
 -- keys that transmit.
-use Rattle.std.proofs.Common.{◌≡◌, ◌⊎◌, ◌<◌, ◌≤◌, ℕ, ◌==◌, ◌&&◌, Bool, true, false, cond, List, [], ◌∷◌, ◌++◌, map}
+use Rattle.std.proofs.Common.{◌≡◌, ◌⊎◌, ◌<◌, ◌≤◌, ℕ, ◌==◌, ◌&&◌, Bool, true, false, cond, List, [], ◌∷◌, map}
 use Rattle.std.proofs.Common.{Option, Some, None, refl, sym, ap, ◌∙◌, subst, arith, inl, inr, eq-eqb}
 use Rattle.std.proofs.lemmas.Bool.{cases_Bool, and_from, and_parts, eqb-true}
 use Rattle.std.specs.Prelude.{option_and_then, option_map}
 use Rattle.lan_base.specs.declared.association_number.AssociationNumber.{AssociationNumber}
 use Rattle.association_slots.specs.Rule.{Rise, Settled}
-use Rattle.association_slots.specs.Views.{In, WasAbsent, current, newest, present_at}
+use Rattle.association_slots.specs.Views.{In, current, newest, present_at}
 use Rattle.association_slots.specs.declared.view.ControlView.{ControlView}
 use Rattle.association_slots.specs.declared.view.Current.{Current}
 use Rattle.sak_exchange.specs.declared.held_key.Key.{Key}
@@ -15,7 +15,7 @@ use Rattle.sak_exchange.specs.Held.{transmitting}
 use Rattle.lan_core.specs.declared.settings.Settings.{Settings}
 use Rattle.lan_core.specs.Run.{Run}
 use Rattle.lan_core.specs.Lives.{Life, life, keys_in, transmitting_at}
-use Rattle.group_safety.specs.Accounts.{Account, account_at}
+use Rattle.group_safety.specs.Accounts.{account_at}
 use Rattle.group_safety.specs.Transmitting.{Carried, CarriesAt, CarriesIn, Sending, now, transmits}
 use Rattle.group_safety.specs.Transmitting.{newest as newest_sending}
 use Rattle.race_merge.specs.Given.{IsPast}
@@ -52,15 +52,16 @@ an-first [] one an e i = absurd i
 an-first (p ∷ ps) one an e i = elim (cases_Bool (p.present && (p.epoch == e))) [
   | inl here ↦ (let parts = and_parts p.present (p.epoch == e) here in
       rw here (one (present_at an e) p i (inl refl) refl parts.0 (sym (eqb-true p.epoch e parts.1))))
-  | inr other ↦ rw other (later i other)
+  | inr other ↦ rw other (later i other (an-first ps tail an e))
 ]
   where
     tail : OneEach ps
     tail a b j k = one a b (inr j) (inr k)
 
-    later : In (present_at an e) (p ∷ ps) → (p.present && (p.epoch == e)) ≡ false → an ≡ an_under e ps
-    later (inr j) other = an-first ps tail an e j
-    later (inl same) other =
+    later : In (present_at an e) (p ∷ ps) → (p.present && (p.epoch == e)) ≡ false
+        → (In (present_at an e) ps → an ≡ an_under e ps) → an ≡ an_under e ps
+    later (inr j) other rest = rest j
+    later (inl same) other rest =
         absurd (cc (sym other ∙ and_from p.present (p.epoch == e) (ap (λ (q : Current). q.present) same) (eq-eqb p.epoch e (ap (λ (q : Current). q.epoch) same))))
 
 pub are-ans : (c : ControlView) → Settled c → AreAns (λ e. an_under e c.points) c.points
@@ -72,7 +73,7 @@ pub some-sends : (p : Sending) (an : AssociationNumber) (e : ℕ) → transmits 
     → (p.present ≡ true) × (p.an ≡ an) × (p.epoch ≡ e)
 some-sends p an e is = go p.present refl is
   where
-    go : (b : Bool) → p.present ≡ b → cond b (Some (p.an, p.epoch)) None ≡ Some (an, e)
+    go : (b : Bool) → p.present ≡ b → cond {A = Option (AssociationNumber × ℕ)} b (Some (p.an, p.epoch)) None ≡ Some (an, e)
         → (p.present ≡ true) × (p.an ≡ an) × (p.epoch ≡ e)
     go false at is = absurd (cc is)
     go true at is = let both : (p.an, p.epoch) ≡ (an, e) = cc is in
@@ -81,7 +82,7 @@ some-sends p an e is = go p.present refl is
 pub none-sends : (p : Sending) → transmits p ≡ None → p.present ≡ false
 none-sends p is = go p.present is
   where
-    go : (b : Bool) → cond b (Some (p.an, p.epoch)) None ≡ None → b ≡ false
+    go : (b : Bool) → cond {A = Option (AssociationNumber × ℕ)} b (Some (p.an, p.epoch)) None ≡ None → b ≡ false
     go true is = absurd (cc is)
     go false is = refl
 

@@ -1,6 +1,6 @@
 -- What control performed beside workers, and their logs, are a race.
-use Rattle.std.proofs.Common.{◌≡◌, ◌⊎◌, ◌<◌, ◌≤◌, ◌+◌, ◌-◌, ◌^◌, ◌==◌, ◌&&◌, ℕ, zero, suc, Bool, true, false, not, cond, List, [], ◌∷◌, ◌++◌, length, map}
-use Rattle.std.proofs.Common.{Option, Some, None, refl, sym, ap, ◌∙◌, subst, arith, inl, inr, eq-eqb}
+use Rattle.std.proofs.Common.{◌≡◌, ◌<◌, ◌≤◌, ◌+◌, ◌-◌, ◌^◌, ◌==◌, ◌&&◌, ℕ, zero, suc, Bool, true, not, cond, List, [], ◌∷◌, ◌++◌, length, map}
+use Rattle.std.proofs.Common.{Some, None, refl, sym, ap, ◌∙◌, subst, arith, inl, inr}
 use Rattle.std.proofs.lemmas.Bool.{cases_Bool, cases_lt, eqb-true, eqb-false, ne_eqb}
 use Rattle.std.proofs.lemmas.List.Elements.{recursion_from_All}
 use Rattle.std.proofs.lemmas.Option.{slice_get_within}
@@ -8,16 +8,14 @@ use Rattle.std.specs.List.{AllByRecursion}
 use Rattle.std.specs.Prelude.{slice_get, max, option_and_then}
 use Rattle.lan_base.specs.declared.association_number.AssociationNumber.{AssociationNumber}
 use Rattle.lan_base.specs.declared.frame.UserFrame.{UserFrame}
-use Rattle.sak_exchange.specs.declared.held_key.Key.{Key}
 use Rattle.sak_exchange.specs.Held.{transmitting}
 use Rattle.association_slots.specs.Learned.{Learned}
-use Rattle.association_slots.specs.Steps.{above_claims, least_next, new_seat, start_of, told}
+use Rattle.association_slots.specs.Steps.{above_claims, least_next, start_of, told}
 use Rattle.association_slots.specs.Views.{AllIn, ControlAt, In, count, claimed, current, lost, newest, present_at, slot, was_pointed}
 use Rattle.association_slots.specs.declared.view.Addition.{Addition}
 use Rattle.association_slots.specs.declared.view.ControlView.{ControlView}
 use Rattle.association_slots.specs.declared.view.Current.{Current}
 use Rattle.association_slots.specs.declared.view.Mark.{Mark}
-use Rattle.association_slots.specs.declared.view.NextSeen.{NextSeen}
 use Rattle.association_slots.specs.declared.view.SeatView.{SeatView}
 use Rattle.association_slots.proofs.Public.{in_left, in_right}
 use Rattle.packet_claims.proofs.Public.{given_at, newest_pointed}
@@ -25,19 +23,18 @@ use Rattle.packet_claims.specs.declared.answers.NoClaim.TheVariants.{NoKey, Exha
 use Rattle.data_workers.specs.declared.entry.Entry.{Entry}
 use Rattle.data_workers.specs.declared.entry.Entry.TheVariants.{Taken, Refused}
 use Rattle.data_workers.specs.declared.sender.Sender.{Sender}
-use Rattle.data_workers.specs.Logs.{IsLog}
-use Rattle.data_workers.specs.Told.{IsToldEntry, times_taken}
+use Rattle.data_workers.specs.Told.{IsToldEntry}
 use Rattle.data_workers.specs.Workers.{WorkerAt}
 use Rattle.data_workers.proofs.Public.{log_counts, told_log}
 use Rattle.lan_core.specs.declared.settings.Settings.{Settings}
 use Rattle.lan_core.specs.Run.{Run, stations}
 use Rattle.lan_core.specs.Ledgers.{claims}
 use Rattle.lan_core.specs.Lives.{keys_in, transmitting_at}
-use Rattle.lan_core.specs.Claims.{next, user_at}
+use Rattle.lan_core.specs.Claims.{user_at}
 use Rattle.lan_core.specs.Legal.{IsStepped}
-use Rattle.lan_core.specs.Order.{Exists, IsSendable, most_stations}
+use Rattle.lan_core.specs.Order.{Exists, IsSendable}
 use Rattle.group_safety.specs.Accounts.{account_at, numbers_at}
-use Rattle.group_safety.specs.Transmitting.{Carried, CarriesAt, now}
+use Rattle.group_safety.specs.Transmitting.{Carried, CarriesAt}
 use Rattle.race_merge.specs.Given.{AreGiven, AreUnder, IsPast}
 use Rattle.race_merge.specs.Given.{ArePerformed as AreGivenFor}
 use Rattle.race_merge.specs.Merged.{AllPairs, AreLogged, InLog, IsFit}
@@ -45,20 +42,19 @@ use Rattle.race_merge.specs.Places.{Attempt, Follows, Move}
 use Rattle.race_merge.specs.Raced.{IsAttempt, IsRaced, before_of, epoch_at, epoch_of}
 use Rattle.race_merge.specs.Steps.{AreRising, AreSteps, attempt_of, logs_of, moves_of}
 use Rattle.race_merge.specs.Table.{words_in}
-use Rattle.race_merge.specs.Words.{told_in}
 use Rattle.race_merge.specs.Worked.{AreAns, BeganAfter, IsGivenNext, NoneExhausted, times_in, times_in_all}
 use Rattle.race_merge.proofs.Public.{all-given, all-told, are-attempts, are-fit, follows-all, log-in-order}
 use Rattle.race_merge.proofs.Public.{logs-differ, moves-given, none-there, positive, rising, times-other, times-own}
-use Rattle.transmit_words.specs.Telling.{CatchUp, KeepUp, OfSeats, least_under, of_seats}
+use Rattle.transmit_words.specs.Telling.{CatchUp, KeepUp, OfSeats, least_under}
 use Rattle.transmit_words.specs.Ties.{HaveKeptUp}
 use Rattle.worker_races.specs.Beside.{Race, WereBeside, ans_in, attempts_in, logs_in, moves_in, pointed_in}
 use Rattle.worker_races.specs.Performed.{happenings, run_after}
 use Rattle.worker_races.specs.Reading.{view_in, view_at}
 use Rattle.worker_races.specs.Senders.{IsNew}
 use Rattle.worker_races.proofs.Gone.{gone-at, some-at}
-use Rattle.worker_races.proofs.Seating.{Grown, Shares, added, all-came, all-took, grown-all, joined-all, kept-joined, seated-many, shares-all, told-counts, told_all}
-use Rattle.worker_races.proofs.Hands.{AreHands, Hand, are-hands, entries-are, entries_count, hands-many}
-use Rattle.worker_races.proofs.Pointing.{are-ans, epoch-low, epoch-none, epoch-shown, is-past, key-pointed, shows-key}
+use Rattle.worker_races.proofs.Seating.{Shares, added, all-came, all-took, grown-all, joined-all, kept-joined, seated-many, shares-all, told-counts, told_all}
+use Rattle.worker_races.proofs.Hands.{AreHands, Hand, are-hands, entries-are}
+use Rattle.worker_races.proofs.Pointing.{are-ans, epoch-low, epoch-none, epoch-shown, is-past, key-pointed}
 use Rattle.worker_races.proofs.Spent.{added-few, none-over, numbers-few, told-few, took}
 use Rattle.worker_races.proofs.Words.{given-for, moves-happen, performed-places, performed-stepped, performed-steps}
 

@@ -1,7 +1,7 @@
 -- The words of the stations as seats go out and come back.
-use Rattle.std.proofs.Common.{◌≡◌, ℕ, zero, suc, ◌+◌, Bool, true, false, cond, List, [], ◌∷◌, ◌++◌}
-use Rattle.std.proofs.Common.{Option, Some, None, refl, sym, ap, ◌∙◌, subst, arith, inl, inr, length, length-set}
-use Rattle.std.proofs.lemmas.Bool.{cases_Bool, eqb-true}
+use Rattle.std.proofs.Common.{◌≡◌, ℕ, zero, suc, ◌+◌, Bool, true, false, cond, List, [], ◌∷◌}
+use Rattle.std.proofs.Common.{Some, refl, sym, ap, ◌∙◌, subst, arith, inl, inr, length, length-set}
+use Rattle.std.proofs.lemmas.Bool.{cases_Bool, eqb-false, eqb-true}
 use Rattle.std.specs.List.{AllByRecursion}
 use Rattle.std.specs.Prelude.{◌==◌, slice_get, slice_set}
 use Rattle.association_slots.specs.Learned.{Learned}
@@ -22,19 +22,26 @@ use Rattle.worker_races.specs.Reading.{view_in, view_at}
 
 -- ---- where one was set
 
-view-set : (cs : List ControlAt) (s : ℕ) (c d : ControlAt) → slice_get cs s ≡ Some c → (t : ℕ)
-    → view_at (slice_set cs s d) t ≡ cond (s == t) d.view (view_at cs t)
-view-set [] s c d at t = absurd (cc at)
-view-set (x ∷ cs) zero c d at zero = refl
-view-set (x ∷ cs) zero c d at (suc t) = refl
-view-set (x ∷ cs) (suc s) c d at zero = refl
-view-set (x ∷ cs) (suc s) c d at (suc t) = view-set cs s c d at t
-
 get-set : (cs : List ControlAt) (s : ℕ) (c d : ControlAt) → slice_get cs s ≡ Some c
     → slice_get (slice_set cs s d) s ≡ Some d
 get-set [] s c d at = absurd (cc at)
 get-set (x ∷ cs) zero c d at = refl
 get-set (x ∷ cs) (suc s) c d at = get-set cs s c d at
+
+get-other : (cs : List ControlAt) (s t : ℕ) (d : ControlAt) → (s ≡ t → ⊥)
+    → slice_get (slice_set cs s d) t ≡ slice_get cs t
+get-other [] s t d apart = refl
+get-other (x ∷ cs) zero zero d apart = absurd (apart refl)
+get-other (x ∷ cs) zero (suc t) d apart = refl
+get-other (x ∷ cs) (suc s) zero d apart = refl
+get-other (x ∷ cs) (suc s) (suc t) d apart = get-other cs s t d (λ e. apart (ap suc e))
+
+view-set : (cs : List ControlAt) (s : ℕ) (c d : ControlAt) → slice_get cs s ≡ Some c → (t : ℕ)
+    → view_at (slice_set cs s d) t ≡ cond (s == t) d.view (view_at cs t)
+view-set cs s c d at t = elim (cases_Bool (s == t)) [
+  | inl same ↦ rw same (subst (λ n. view_at (slice_set cs s d) n ≡ d.view) (eqb-true s t same) (ap view_in (get-set cs s c d at)))
+  | inr other ↦ rw other (ap view_in (get-other cs s t d (eqb-false s t other)))
+]
 
 seated-view : (s : ℕ) (old new : List ControlAt) (seat : SeatAt) → WasSeated s old new seat → (t : ℕ)
     → view_at new t ≡ cond (s == t) (seated (view_at old t)) (view_at old t)

@@ -1,18 +1,18 @@
 -- No epoch of a race can have come near its last packet number: as few numbers were claimed.
-use Rattle.std.proofs.Common.{◌≡◌, ◌⊎◌, ◌<◌, ◌≤◌, ◌+◌, ◌^◌, ◌==◌, ◌&&◌, ℕ, suc, Bool, true, false, not, cond, List, [], ◌∷◌, ◌++◌, length}
-use Rattle.std.proofs.Common.{refl, sym, ap, ◌∙◌, subst, arith, inl, inr, eq-eqb}
-use Rattle.std.proofs.lemmas.Bool.{cases_Bool, eqb-true, and_parts, and_from}
+use Rattle.std.proofs.Common.{◌≡◌, ◌<◌, ◌≤◌, ◌+◌, ◌^◌, ◌==◌, ◌&&◌, ℕ, suc, Bool, true, false, not, cond, List, [], ◌∷◌, length}
+use Rattle.std.proofs.Common.{refl, sym, ap, subst, arith, inl, inr, eq-eqb}
+use Rattle.std.proofs.lemmas.Bool.{cases_Bool, eqb-true, and_parts}
 use Rattle.lan_base.specs.declared.association_number.AssociationNumber.{AssociationNumber}
 use Rattle.lan_base.specs.AssociationNumbers.{same_an}
-use Rattle.association_slots.specs.Learned.{IsNext, Learned, WasNext}
-use Rattle.association_slots.specs.Views.{AllIn, ControlAt, In, IsOpen, WasShut, claimed, claims, cons_if, count, lost, met, one, present_at, slot, told_sum}
+use Rattle.association_slots.specs.Learned.{Learned}
+use Rattle.association_slots.specs.Views.{AllIn, ControlAt, In, WasShut, claimed, claims, cons_if, count, lost, met, one, present_at, slot, told_sum}
 use Rattle.association_slots.specs.declared.view.Addition.{Addition}
 use Rattle.association_slots.specs.declared.view.ControlView.{ControlView}
 use Rattle.association_slots.specs.declared.view.Mark.{Mark}
 use Rattle.association_slots.specs.declared.view.SeatView.{SeatView}
 use Rattle.data_workers.specs.declared.entry.Entry.{Entry}
 use Rattle.data_workers.specs.declared.entry.Entry.TheVariants.{Taken, Refused}
-use Rattle.data_workers.specs.Logs.{IsLog, claim_of, claims_after}
+use Rattle.data_workers.specs.Logs.{claim_of, claims_after}
 use Rattle.data_workers.specs.Workers.{WorkerAt}
 use Rattle.lan_core.specs.Ledgers.{Claim}
 use Rattle.lan_core.specs.Run.{Run}

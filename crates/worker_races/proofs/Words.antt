@@ -1,36 +1,35 @@
 -- What control performed, with the association numbers under which the words were told its epochs.
-use Rattle.std.proofs.Common.{◌≡◌, ◌<◌, ◌≤◌, ℕ, suc, ◌==◌, Bool, true, false, cond, List, [], ◌∷◌, ◌++◌, map, length}
-use Rattle.std.proofs.Common.{Option, Some, None, refl, sym, ap, ◌∙◌, subst, arith, inl, inr, append-nil, length-append}
+use Rattle.std.proofs.Common.{◌≡◌, ◌<◌, ◌≤◌, ℕ, ◌==◌, true, cond, List, [], ◌∷◌, ◌++◌, map, length}
+use Rattle.std.proofs.Common.{Option, Some, None, refl, sym, ap, ◌∙◌, subst, arith, inl, inr, append-nil}
 use Rattle.std.proofs.lemmas.Bool.{cases_Bool, cases_lt, eqb-true}
-use Rattle.std.specs.Prelude.{option_and_then, unwrap_or}
+use Rattle.std.specs.Prelude.{option_and_then}
 use Rattle.lan_base.specs.declared.association_number.AssociationNumber.{AssociationNumber}
 use Rattle.lan_base.specs.declared.frame.UserFrame.{UserFrame}
-use Rattle.association_slots.specs.Views.{In, absent_after, present_at}
+use Rattle.association_slots.specs.Views.{In, present_at}
 use Rattle.association_slots.specs.declared.view.Current.{Current}
 use Rattle.association_slots.proofs.Public.{in_left, in_right}
 use Rattle.sak_exchange.specs.declared.held_key.Key.{Key}
 use Rattle.sak_exchange.specs.Held.{transmitting}
 use Rattle.lan_core.specs.declared.settings.Settings.{Settings}
-use Rattle.lan_core.specs.Run.{Run, Happening, stations, started}
-use Rattle.lan_core.specs.Lives.{life, keys_in, transmitting_at}
+use Rattle.lan_core.specs.Run.{Run, Happening, stations}
+use Rattle.lan_core.specs.Lives.{keys_in, transmitting_at}
 use Rattle.lan_core.specs.Legal.{IsStep, IsStepped}
-use Rattle.lan_core.specs.Order.{Exists, is_event_of}
+use Rattle.lan_core.specs.Order.{is_event_of}
 use Rattle.lan_core.proofs.Public.{others-change-none}
 use Rattle.race_merge.specs.declared.step.Step.{Step}
 use Rattle.race_merge.specs.Given.{AreUnder}
 use Rattle.race_merge.specs.Given.{ArePerformed as AreGivenFor}
 use Rattle.race_merge.specs.Places.{last_of}
-use Rattle.race_merge.specs.Raced.{epoch_at}
 use Rattle.race_merge.specs.Steps.{AreSteps}
 use Rattle.race_merge.specs.Table.{Controls, IsTold, an_of, flipped, move_at, moves_at, with_top, words_in, words_of}
 use Rattle.race_merge.specs.Table as table
 use Rattle.race_merge.specs.Worked.{AreAns}
 use Rattle.race_merge.proofs.Public.{event-told, none-there, own-of, starts-none}
-use Rattle.worker_races.specs.Performed.{ArePerformed, IsPerformed, happenings, run_after}
+use Rattle.worker_races.specs.Performed.{ArePerformed, happenings, run_after}
 
 -- ---- one event
 
-same-places : (t : ℕ) (x : Happening) (r : Run) → is_event_of t x.event ≡ true → stations (x ∷ r) ≡ stations r
+pub same-places : (t : ℕ) (x : Happening) (r : Run) → is_event_of t x.event ≡ true → stations (x ∷ r) ≡ stations r
 unfolding stations
 same-places t x r own = rw (starts-none t x.event own) (append-nil (stations r))
 
