@@ -1,0 +1,132 @@
+//! How an event happens in both groups.
+
+ghost use Rattle.std.specs.Prelude.{◌≡◌, ◌⊎◌, ◌<◌, ◌+◌, ℕ, List, true, false, IfOk, IfErr, OnOk};
+ghost use Rattle.std.specs.Option.{option_copied};
+ghost use Rattle.lan_base.specs.declared.frame.UserFrame.{UserFrame};
+ghost use Rattle.lan_core.specs.declared.stop.Stop.TheVariants.{DrawsSpent};
+ghost use Rattle.lan_core.specs.declared.stop.StepError.TheVariants.{Memory, Stopped};
+ghost use Rattle.lan_core.specs.Stops.{is_spent};
+ghost use Rattle.lan_core.specs.Unstopped.{AreDraws};
+ghost use Rattle.cak_roll.specs.declared.event.GroupNumber.TheVariants.{First, Second};
+ghost use Rattle.cak_roll.specs.declared.event.TwinEvent.{TwinEvent};
+ghost use Rattle.cak_roll.specs.Twin.{Pair, Twin as TwinRun, run_of, merged, events_in};
+ghost use Rattle.cak_roll.specs.Standing.{StandsFor, StandBoth};
+ghost use Rattle.cak_roll.specs.Answers.{MayHappen, AnswersTwin};
+ghost use Rattle.cak_roll.specs.inside.Parts.{events_of_part, IsReadyPart};
+ghost use Rattle.cak_roll.specs.inside.Turns.{Turns, BothPerform};
+
+use super::Twin;
+use crate::event::{GroupNumber, TwinEvent};
+use crate::part::Part;
+use crate::told::TwinFacts;
+use lan_base::{Blocks, Draws, ListDraws, UserFrame};
+use lan_core::{StepError, Stop};
+use std::alloc::Global;
+
+impl Twin {
+    /// An event happens to a twin that is not stopped.
+    pub(super) fn perform<D: Draws>(
+        &mut self,
+        event: &TwinEvent,
+        user: Option<&UserFrame>,
+        draws: &mut D,
+    ) -> Result<TwinFacts, StepError>
+        ensures { (pair : Pair) (users : List UserFrame) (t : TwinRun)
+            → StandsFor pair users self.old t
+            → MayHappen users t (option_copied user.entry) event.now (D.nth draws.old)
+            → AnswersTwin pair users t event.now (D.nth draws.old) (D.nth draws.new) self.new result }
+    {
+        let first = self.part(GroupNumber::First, event);
+        let second = self.part(GroupNumber::Second, event);
+        let told = self.perform_parts(&first, &second, user, draws)?;
+        self.members.follow(event)?;
+        Ok(told)
+    }
+
+    /// The parts of an event happen. Where both draw, the draws of both come first.
+    fn perform_parts<D: Draws>(
+        &mut self,
+        first: &Part,
+        second: &Part,
+        user: Option<&UserFrame>,
+        draws: &mut D,
+    ) -> Result<TwinFacts, StepError>
+        ensures turns { (pair : Pair) (users : List UserFrame) (t : TwinRun) (event : TwinEvent)
+            → StandBoth pair users (run_of First t) (run_of Second t) (merged t) self.old
+            → pair.second.suite ≡ pair.first.suite
+            → events_of_part first.now ≡ events_in pair First t event
+            → events_of_part second.now ≡ events_in pair Second t event
+            → IsReadyPart pair.first users (run_of First t) (option_copied user.entry) first.now
+            → IsReadyPart pair.second users (run_of Second t) (option_copied user.entry) second.now
+            → AreDraws (D.nth draws.old)
+            → BothPerform pair users t event (D.nth draws.old) (D.nth draws.new) self.new result }
+        ensures same { OnOk result ((self.new.settings ≡ self.old.settings)
+            × (self.new.stopped ≡ self.old.stopped) × (self.new.members ≡ self.old.members)) }
+    {
+        if first.is_nothing() || second.is_nothing() {
+            return self.turn(first, second, user, draws);
+        }
+        let mut taken = two_of(self.alloc, draws)?;
+        self.turn(first, second, user, &mut taken)
+    }
+
+    /// The part of an event in the first group happens, and then that in the second.
+    fn turn<D: Draws>(
+        &mut self,
+        first: &Part,
+        second: &Part,
+        user: Option<&UserFrame>,
+        draws: &mut D,
+    ) -> Result<TwinFacts, StepError>
+        ensures turns { (pair : Pair) (users : List UserFrame) (t : TwinRun) (event : TwinEvent)
+            → StandBoth pair users (run_of First t) (run_of Second t) (merged t) self.old
+            → pair.second.suite ≡ pair.first.suite
+            → events_of_part first.now ≡ events_in pair First t event
+            → events_of_part second.now ≡ events_in pair Second t event
+            → IsReadyPart pair.first users (run_of First t) (option_copied user.entry) first.now
+            → IsReadyPart pair.second users (run_of Second t) (option_copied user.entry) second.now
+            → Turns pair users t event (D.nth draws.old) (D.nth draws.new) self.new result }
+        ensures same { OnOk result ((self.new.settings ≡ self.old.settings)
+            × (self.new.stopped ≡ self.old.stopped) × (self.new.members ≡ self.old.members)) }
+    {
+        let mut told = TwinFacts::new(self.alloc);
+        self.first.run(
+            GroupNumber::First,
+            first,
+            user,
+            draws,
+            &mut self.drawn,
+            &mut told,
+        )?;
+        if second.is_nothing() {
+            return Ok(told);
+        }
+        let Some(side) = &mut self.second else {
+            return Err(StepError::Memory);
+        };
+        side.run(
+            GroupNumber::Second,
+            second,
+            user,
+            draws,
+            &mut self.drawn,
+            &mut told,
+        )?;
+        Ok(told)
+    }
+}
+
+/// A supply of the next two draws of another.
+fn two_of<D: Draws>(alloc: Global, draws: &mut D) -> Result<ListDraws, StepError>
+    ensures next { IfOk result (λ two. (k : ℕ) → k < 2
+        → ⟦<ListDraws as Draws>⟧.nth two k ≡ D.nth draws.old k) }
+    ensures taken { OnOk result ((k : ℕ) → D.nth draws.new k ≡ D.nth draws.old (k + 2)) }
+    ensures enough { OnOk result (is_spent 2 (D.nth draws.old) ≡ false) }
+    ensures spent { IfErr result (λ error. (error ≡ Memory)
+        ⊎ ((error ≡ Stopped DrawsSpent) × (is_spent 2 (D.nth draws.old) ≡ true))) }
+{
+    let mut values = Blocks::new(alloc);
+    values.push(draws.draw().ok_or(Stop::DrawsSpent)?)?;
+    values.push(draws.draw().ok_or(Stop::DrawsSpent)?)?;
+    Ok(ListDraws::of(values))
+}
