@@ -13,4 +13,7 @@ pub mod PartSteps
 pub mod PartsOn
 pub mod Ready
 pub mod UnstoppedTwins
+pub mod Traced
+pub mod SideStops
+pub mod SideGoes
 mod Examples

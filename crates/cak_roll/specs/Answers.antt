@@ -60,7 +60,7 @@ IsGiven users given _ = Unit {0}
 pub record MayHappen (users : List UserFrame) (t : Twin) (given : Option UserFrame)
     (event : TwinEvent) (nth : Supply) : Type 0 where
   pub may_come : MayComeTwin users t event
-  pub given : IsGiven users given event
+  pub gives : IsGiven users given event
   pub draws : AreDraws nth
 
 -- a step goes on with this happening, and leaves this twin and this supply

@@ -91,10 +91,10 @@ IfThere settings users r whole None = r ≡ []
 IfThere settings users r whole (Some side) = StandsIn settings users r whole side
 
 -- Both groups stand for runs, and what was drawn in both is noted.
-pub record StandBoth (pair : Pair) (users : List UserFrame) (first second whole : Run)
-    (held : Held) : Type 0 where
-  pub first : StandsIn pair.first users first whole held.first
-  pub second : IfThere pair.second users second whole held.second
+pub record StandBoth (pair : Pair) (users : List UserFrame) (r s whole : Run) (held : Held) :
+    Type 0 where
+  pub first : StandsIn pair.first users r whole held.first
+  pub second : IfThere pair.second users s whole held.second
   pub drawn : AreDrawn pair.first.suite whole held.drawn
 
 -- What is set up may be: the second group differs from the first in its CAK and CKN at most.

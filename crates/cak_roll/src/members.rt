@@ -138,7 +138,5 @@ fn position(stations: &[u8], station: u8) -> u8
 fn has_left(leavers: &[Leaver], group: GroupNumber, station: u8) -> bool
     ensures { result ≡ list_any (is_leaver group station) leavers.now }
 {
-    leavers
-        .iter()
-        .any(|leaver| leaver.group == group && leaver.station == station)
+    leavers.iter().any(|leaver| leaver.group == group && leaver.station == station)
 }

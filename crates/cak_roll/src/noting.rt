@@ -1,6 +1,6 @@
 //! What an event of a group drew, judged and noted among the draws of both groups.
 
-ghost use Rattle.std.specs.Prelude.{◌≡◌, Some, OnOk};
+ghost use Rattle.std.specs.Prelude.{◌≡◌, ◌+◌, Some, OnOk};
 ghost use Rattle.lan_core.specs.declared.stop.Stop.TheVariants.{RepeatedDraw};
 ghost use Rattle.lan_core.specs.Lives.{drawn_mi, drawn_sak};
 ghost use Rattle.lan_core.specs.Stops.{sak_of_tick};

@@ -65,18 +65,18 @@ Happens settings users r both event before after side drawn (Err error) =
 
 pub record EventsGo (g : GroupNumber) (settings : Settings) (users : List UserFrame) (r both : Run)
     (events : List Event) (before after : Supply) (side : Side) (drawn : Numbers)
-    (told then : List Told) (ys : Run) : Type 0 where
+    (told more : List Told) (ys : Run) : Type 0 where
   pub goes : events_stop settings users r both events before ≡ None
   pub shows : performed settings users r events before ≡ Some ys
-  pub tells : then ≡ told ++ told_of g ys
+  pub tells : more ≡ told ++ told_of g ys
   pub stands : StandsIn settings users (ys ++ r) (ys ++ both) side
   pub noted : AreDrawn settings.suite (ys ++ both) drawn
   pub taken : (k : ℕ) → after k ≡ before (k + draws_for settings r events)
 
 abbrev pub Happen : GroupNumber → Settings → List UserFrame → Run → Run → List Event → Supply
     → Supply → Side → Numbers → List Told → List Told → Result Unit StepError → Type 0
-Happen g settings users r both events before after side drawn told then (Ok _) =
+Happen g settings users r both events before after side drawn told more (Ok _) =
     (ys : Run)
-    × EventsGo g settings users r both events before after side drawn told then ys
-Happen g settings users r both events before after side drawn told then (Err error) =
+    × EventsGo g settings users r both events before after side drawn told more ys
+Happen g settings users r both events before after side drawn told more (Err error) =
     IsWhy (events_stop settings users r both events before) error

@@ -1,0 +1,194 @@
+-- What stops an event of a group among the events of both, by what the group itself answers.
+use Rattle.std.proofs.Common.{◌≡◌, ◌⊎◌, inl, inr, ◌+◌, ◌-◌, ◌==◌, ℕ, Bool, true, false, List, [], ◌∷◌, cond}
+use Rattle.std.proofs.Common.{Option, Some, None, refl, sym, ap, ◌∙◌, subst}
+use Rattle.std.specs.Prelude.{slice_get, option_map, option_and_then}
+use Rattle.std.specs.Option.{option_or}
+use Rattle.lan_base.specs.declared.address.Mi.{Mi}
+use Rattle.lan_base.specs.declared.frame.UserFrame.{UserFrame}
+use Rattle.lan_base.specs.declared.suite.Suite.{Suite}
+use Rattle.aes_block.specs.declared.secret.Secret.{Secret}
+use Rattle.lan_core.specs.declared.event.Event.{Event}
+use Rattle.lan_core.specs.declared.event.Event.TheVariants as events
+use Rattle.lan_core.specs.declared.fact.Fact.{Fact}
+use Rattle.lan_core.specs.declared.settings.Settings.{Settings}
+use Rattle.lan_core.specs.declared.stop.Stop.{Stop}
+use Rattle.lan_core.specs.declared.stop.Stop.TheVariants as stops
+use Rattle.lan_core.specs.declared.stop.Which.{Which}
+use Rattle.lan_core.specs.Run.{Run, Happening, happened}
+use Rattle.lan_core.specs.Lives.{drawn_mi}
+use Rattle.lan_core.specs.Expected.{expected, drawn_from}
+use Rattle.lan_core.specs.Stops.{draws_needed, is_spent, first_stop, stop_at, passed, stop_of_draw}
+use Rattle.lan_core.specs.Stops.{stop_of_forgery, draws_in, drawn_before, mi_number, sak_number}
+use Rattle.lan_core.specs.Stops.{sak_of_tick}
+use Rattle.lan_core.specs.Standing.{Numbers, AreDrawn, number_of_mi, number_of_sak}
+use Rattle.lan_core.proofs.Public.{mi-shown, sak-shown-by}
+use Rattle.cak_roll.specs.Stepping.{Supply, shown, stop_after}
+use Rattle.cak_roll.specs.Standing.{AreTraced}
+use Rattle.cak_roll.specs.inside.Noting.{repeating, given_before, over_both, DrawsOne}
+use Rattle.cak_roll.specs.inside.Parts.{IsHomely}
+use Rattle.cak_roll.specs.inside.Sides.{unless_spent, event_stop}
+use Rattle.cak_roll.proofs.Traced.{traced-before}
+
+-- ---- what is drawn
+
+-- an event draws one value at most
+pub draws-one : (settings : Settings) (users : List UserFrame) (r : Run) (event : Event)
+    (nth : Supply) (facts : List Fact)
+    → expected settings users r event (drawn_from settings.suite nth) ≡ Some facts
+    → DrawsOne event facts
+draws-one settings users r (events.Start name sci priority) nth facts shows = inr refl
+draws-one settings users r (events.Tick s next) nth facts shows =
+    inl (mi-shown settings users r (events.Tick s next) (drawn_from settings.suite nth) facts shows)
+draws-one settings users r (events.Deliver frame s) nth facts shows = inr refl
+draws-one settings users r (events.Restart s) nth facts shows = inr refl
+draws-one settings users r (events.Claim s user pn) nth facts shows = inr refl
+draws-one settings users r events.Emit nth facts shows = inr refl
+draws-one settings users r (events.Inject s octets) nth facts shows = inr refl
+
+-- ---- what a table of draws says
+
+pub given-is : (suite : Suite) (both : Run) (drawn : Numbers) (y : Happening)
+    → AreDrawn suite both drawn
+    → given_before drawn (drawn_mi y.facts) (sak_of_tick y.facts y.event)
+    ≡ drawn_before suite both y
+given-is suite both drawn y are = go (drawn_mi y.facts) (sak_of_tick y.facts y.event)
+  where
+    later : (k : Option Secret) → option_and_then (number_of_sak drawn) k
+        ≡ option_and_then (sak_number suite both) k
+    later None = refl
+    later (Some sak) = are.saks sak
+
+    go : (m : Option Mi) (k : Option Secret) → given_before drawn m k
+        ≡ option_or (option_and_then (mi_number suite both) m)
+        (option_and_then (sak_number suite both) k)
+    go None k = ap (λ o. option_or None o) (later k)
+    go (Some mi) k =
+        ap (λ o. option_or o (option_and_then (number_of_sak drawn) k)) (are.mis mi)
+        ∙ ap (λ o. option_or (mi_number suite both mi) o) (later k)
+
+pub repeats-is : (suite : Suite) (both : Run) (drawn : Numbers) (y : Happening) (o : Option ℕ)
+    → AreDrawn suite both drawn → o ≡ drawn_before suite both y
+    → repeating drawn o ≡ stop_of_draw suite both y
+repeats-is suite both drawn y o are is =
+    ap (repeating drawn) is
+    ∙ ap (λ n. option_map (λ first. stops.RepeatedDraw first (n + 1)) (drawn_before suite both y))
+    are.count
+
+-- ---- stops
+
+no-forgery : (settings : Settings) (r : Run) (event : Event) → IsHomely event
+    → stop_of_forgery settings r event ≡ None
+no-forgery settings r (events.Inject s octets) homely = absurd homely
+no-forgery settings r (events.Start name sci priority) homely = refl
+no-forgery settings r (events.Tick s next) homely = refl
+no-forgery settings r (events.Deliver frame s) homely = refl
+no-forgery settings r (events.Restart s) homely = refl
+no-forgery settings r (events.Claim s user pn) homely = refl
+no-forgery settings r events.Emit homely = refl
+
+module _ (settings : Settings) (users : List UserFrame) (r both : Run) (event : Event)
+    (nth : Supply) (draws : List ℕ) (drawn : Numbers) (homely : IsHomely event)
+    (traced : AreTraced settings.suite r both draws) (are : AreDrawn settings.suite both drawn) where
+  -- by what an event shows, where its draws are there
+  shows-stop : (facts : List Fact) (stop : Stop)
+      → expected settings users r event (drawn_from settings.suite nth) ≡ Some facts
+      → stop_at settings r event facts ≡ Some stop
+      → over_both draws drawn stop ≡ stop_after settings.suite r both (happened event facts)
+  shows-stop facts stop shows is = go (passed (y ∷ r)) refl is
+    where
+      y : Happening
+      y = happened event facts
+
+      some-same : {A : Type 0} {a b : A} → Some a ≡ Some b → a ≡ b
+      some-same e = cc e
+
+      drew : (o : Option ℕ) → drawn_before settings.suite r y ≡ o
+          → option_or (option_map (λ first. stops.RepeatedDraw first (draws_in settings.suite r + 1)) o)
+          (stop_of_forgery settings r event) ≡ Some stop
+          → over_both draws drawn stop ≡ stop_of_draw settings.suite both y
+      drew None is stops =
+          let none = no-forgery settings r event homely in absurd (cc (stops, none))
+      drew (Some own) is stops =
+          ap (over_both draws drawn) (sym (some-same stops))
+          ∙ repeats-is settings.suite both drawn y (slice_get draws (own - 1)) are
+          (traced-before settings.suite y r both draws own traced
+          (draws-one settings users r event nth facts shows) is)
+
+      go : (o : Option Which) → passed (y ∷ r) ≡ o
+          → option_or (option_map stops.Limit o)
+          (option_or (stop_of_draw settings.suite r y) (stop_of_forgery settings r event)) ≡ Some stop
+          → over_both draws drawn stop
+          ≡ option_or (option_map stops.Limit (passed (y ∷ r))) (stop_of_draw settings.suite both y)
+      go (Some which) passes stops =
+          ap (over_both draws drawn) (sym (some-same stops))
+          ∙ sym (ap (λ o. option_or (option_map stops.Limit o) (stop_of_draw settings.suite both y))
+          passes)
+      go None passes stops =
+          drew (drawn_before settings.suite r y) refl stops
+          ∙ sym (ap (λ o. option_or (option_map stops.Limit o) (stop_of_draw settings.suite both y))
+          passes)
+
+  pub group-stops : (stop : Stop) → first_stop settings users r event nth ≡ Some stop
+      → over_both draws drawn stop ≡ event_stop settings users r both event nth
+  unfolding first_stop
+  group-stops stop is = go (is_spent (draws_needed settings r event) nth) is
+    where
+      some-same : {A : Type 0} {a b : A} → Some a ≡ Some b → a ≡ b
+      some-same e = cc e
+
+      within : (o : Option (List Fact))
+          → expected settings users r event (drawn_from settings.suite nth) ≡ o
+          → option_and_then (stop_at settings r event) o ≡ Some stop
+          → over_both draws drawn stop
+          ≡ option_and_then (stop_after settings.suite r both)
+          (option_map (λ facts. happened event facts) o)
+      within None shows stops = absurd (cc stops)
+      within (Some facts) shows stops = shows-stop facts stop shows stops
+
+      go : (b : Bool) → cond b (Some stops.DrawsSpent)
+          (option_and_then (stop_at settings r event)
+          (expected settings users r event (drawn_from settings.suite nth))) ≡ Some stop
+          → over_both draws drawn stop ≡ cond b (Some stops.DrawsSpent)
+          (option_and_then (stop_after settings.suite r both) (shown settings users r event nth))
+      go true stops = ap (over_both draws drawn) (sym (some-same stops))
+      go false stops =
+          within (expected settings users r event (drawn_from settings.suite nth)) refl stops
+
+module _ (settings : Settings) (users : List UserFrame) (r both : Run) (event : Event)
+    (nth : Supply) where
+  -- an event that the group lets go on is judged by the draws of both alone
+  pub others-stop : (facts : List Fact) → first_stop settings users r event nth ≡ None
+      → expected settings users r event (drawn_from settings.suite nth) ≡ Some facts
+      → event_stop settings users r both event nth
+      ≡ stop_of_draw settings.suite both (happened event facts)
+  unfolding first_stop
+  others-stop facts none shows = go (is_spent (draws_needed settings r event) nth) none
+    where
+      y : Happening
+      y = happened event facts
+
+      limits : (o : Option Which) (p : Option Stop)
+          → option_or (option_map stops.Limit o) p ≡ None
+          → option_or (option_map stops.Limit o) (stop_of_draw settings.suite both y)
+          ≡ stop_of_draw settings.suite both y
+      limits None p none = refl
+      limits (Some which) p none = absurd (cc none)
+
+      here : option_and_then (stop_at settings r event)
+          (expected settings users r event (drawn_from settings.suite nth)) ≡ None
+          → stop_after settings.suite r both y ≡ stop_of_draw settings.suite both y
+      here none =
+          limits (passed (y ∷ r))
+          (option_or (stop_of_draw settings.suite r y) (stop_of_forgery settings r event))
+          (sym (ap (option_and_then (stop_at settings r event)) shows) ∙ none)
+
+      go : (b : Bool) → cond b (Some stops.DrawsSpent)
+          (option_and_then (stop_at settings r event)
+          (expected settings users r event (drawn_from settings.suite nth))) ≡ None
+          → cond b (Some stops.DrawsSpent)
+          (option_and_then (stop_after settings.suite r both) (shown settings users r event nth))
+          ≡ stop_of_draw settings.suite both y
+      go true none = absurd (cc none)
+      go false none =
+          ap (λ o. option_and_then (stop_after settings.suite r both)
+          (option_map (λ facts. happened event facts) o)) shows ∙ here none

@@ -1,0 +1,6 @@
+use Rattle.std.proofs.Common.{◌≡◌, drop}
+use Rattle.lan_core.specs.Lives.{drawn_sak}
+use Rattle.cak_roll.proofs.noting.installed.Given as goal
+
+abbrev pub invariant-loop-fact : goal.invariant-loop-fact
+invariant-loop-fact l = drawn_sak (drop l.fact-index l.facts.now) ≡ drawn_sak l.fn.facts.now
