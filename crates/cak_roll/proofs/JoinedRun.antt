@@ -53,7 +53,7 @@ sent-none true false place user pn = refl
 sent-none false c place user pn = refl
 
 -- the stations that start in a group, and adopt the second
-abbrev started_in : GroupNumber → Twin → TwinEvent → List Profile
+abbrev pub started_in : GroupNumber → Twin → TwinEvent → List Profile
 started_in First t (twins.Start name sci priority) =
     record { name = name; sci = sci; priority = priority } ∷ []
 started_in Second t (twins.Adopt station) =
@@ -96,7 +96,7 @@ events-start pair Second t (twins.Send station user) =
     (claimed_in pair Second station t == 0)
     (place_in Second station t) user (claimed_in pair Second station t)
 
-stations-then : (pair : Pair) (users : List UserFrame) (x : TwinHappening) (t : Twin)
+pub stations-then : (pair : Pair) (users : List UserFrame) (x : TwinHappening) (t : Twin)
     (g : GroupNumber) → IsTwinStep pair users x t
     → stations (run_of g (x ∷ t)) ≡ stations (run_of g t) ++ started_in g t x.event
 unfolding run_of

@@ -16,4 +16,12 @@ pub mod UnstoppedTwins
 pub mod Traced
 pub mod SideStops
 pub mod SideGoes
+pub mod TurnStops
+pub mod TurnGoes
+pub mod Restarts
+pub mod ReadyParts
+pub mod TwinGoes
+pub mod Lone
+pub mod TwinBegins
+pub mod MembersFollow
 mod Examples

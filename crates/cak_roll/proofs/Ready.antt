@@ -37,7 +37,7 @@ use Rattle.cak_roll.proofs.PartsOn.{AreReady, nothing, single, sending}
 
 -- ---- stations
 
-few-stations : (settings : Settings) (users : List UserFrame) (r : Run)
+pub few-stations : (settings : Settings) (users : List UserFrame) (r : Run)
     → IsStepped settings users r → length (stations r) ≤ most_stations
 unfolding stations
 few-stations settings users [] stepped = omega arith

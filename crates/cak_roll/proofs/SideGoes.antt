@@ -1,6 +1,6 @@
 -- What an event of a group leaves among the events of both, and events one after the other.
 use Rattle.std.proofs.Common.{◌≡◌, ◌≤◌, ◌⊎◌, inl, inr, ◌+◌, ◌==◌, ◌++◌, ℕ, Bool, true, false, List, [], ◌∷◌}
-use Rattle.std.proofs.Common.{cond, length, replicate, append_assoc, append-nil, Result, Ok, Err}
+use Rattle.std.proofs.Common.{cond, zero, suc, get_or, length, replicate, append_assoc, append-nil, Result, Ok, Err, IsErrAnd}
 use Rattle.std.proofs.Common.{Option, Some, None, refl, sym, ap, ◌∙◌, subst, arith}
 use Rattle.std.specs.Prelude.{is_some, option_map, option_and_then}
 use Rattle.std.specs.Option.{option_or}
@@ -28,7 +28,7 @@ use Rattle.lan_core.specs.Standing.{State, StandsFor, Numbers, AreDrawn}
 use Rattle.lan_core.specs.Noting.{MiIsNoted, SakIsNoted}
 use Rattle.lan_core.specs.Answers.{IsWhy}
 use Rattle.lan_core.proofs.Public.{mapped, mi-noted, tick-noted}
-use Rattle.next_numbers.proofs.Public.{waits-more}
+use Rattle.next_numbers.proofs.Public.{waits-then}
 use Rattle.next_numbers.specs.Numbers.{TellNext, ShowsNext}
 use Rattle.cak_roll.specs.declared.event.GroupNumber.{GroupNumber}
 use Rattle.cak_roll.specs.declared.told.Told.{Told}
@@ -40,7 +40,8 @@ use Rattle.cak_roll.specs.inside.Noting.{over_both}
 use Rattle.cak_roll.specs.inside.Parts.{IsHomely, IsReadyEvent}
 use Rattle.cak_roll.specs.inside.Sides.{unless_spent, event_stop, events_stop, EventGoes, Happens}
 use Rattle.cak_roll.specs.inside.Sides.{EventsGo, Happen}
-use Rattle.cak_roll.proofs.Traced.{traced-both}
+use Rattle.lan_core.specs.Claims.{next}
+use Rattle.cak_roll.proofs.Traced.{traced-both, traced-none}
 use Rattle.cak_roll.proofs.SideStops.{draws-one, given-is, repeats-is, group-stops, others-stop}
 
 -- ---- what is noted
@@ -192,10 +193,10 @@ one-stops settings users r both event before error why =
 
 module _ (g : GroupNumber) (settings : Settings) (users : List UserFrame) (r both : Run)
     (s user pn : ℕ) (before : Supply) where
-  claim : Event
+  abbrev claim : Event
   claim = events.Claim s user pn
 
-  sent : List Event
+  abbrev sent : List Event
   sent = events.Emit ∷ events.Claim s user pn ∷ []
 
   pub sent-goes : (between after : Supply) (side new : Side) (noted drawn : Numbers)
@@ -231,14 +232,16 @@ module _ (g : GroupNumber) (settings : Settings) (users : List UserFrame) (r bot
         stands = subst (λ ws. StandsIn settings users (ws ++ (ys ++ r)) (ws ++ (ys ++ both)) new)
             (sym m.2) two.stands;
         noted = subst (λ ws. AreDrawn settings.suite (ws ++ (ys ++ both)) drawn) (sym m.2) two.noted;
-        taken = λ k. two.taken k ∙ one.taken (k + 0) ∙ ap before (omega arith);
+        taken = λ k.
+            let same : (k + 0) + 0 ≡ k + 0 = omega arith in
+            two.taken k ∙ one.taken (k + 0) ∙ ap before same;
       })
 
   pub sent-stops : (error : StepError)
       → IsWhy (events_stop settings users r both (events.Claim s user pn ∷ []) before) error
       → IsWhy (events_stop settings users r both (events.Emit ∷ events.Claim s user pn ∷ []) before)
       error
-  unfolding part_stop
+  unfolding performed part_stop
   sent-stops errors.Memory why = tt
   sent-stops (errors.Stopped stop) why =
       ap (λ o. option_or o (option_and_then
@@ -286,3 +289,75 @@ module _ (g : GroupNumber) (settings : Settings) (users : List UserFrame) (r bot
         homely = tt;
         next = tt;
       }
+
+  -- a claim and its emission are a part
+  pub sent-happens : (between after : Supply) (side new : Side) (noted drawn : Numbers)
+      (told later more : List Told) (ys : Run) (result : Result (Unit {0}) StepError)
+      → EventsGo g settings users r both (events.Claim s user pn ∷ []) before between side noted told
+      later ys
+      → Happen g settings users (ys ++ r) (ys ++ both) (events.Emit ∷ []) between after new drawn
+      later more result
+      → Happen g settings users r both (events.Emit ∷ events.Claim s user pn ∷ []) before after new
+      drawn told more result
+  sent-happens between after side new noted drawn told later more ys (Ok done) one (zs, two) =
+      (zs ++ ys, sent-goes between after side new noted drawn told later more ys zs one two)
+  sent-happens between after side new noted drawn told later more ys (Err error) one why =
+      emission-stops between after side noted told later ys error one why
+
+-- ---- no event
+
+pub nothing-happens : (g : GroupNumber) (settings : Settings) (users : List UserFrame)
+    (r both : Run) (before : Supply) (side : Side) (drawn : Numbers) (told : List Told)
+    → StandsIn settings users r both side → AreDrawn settings.suite both drawn
+    → EventsGo g settings users r both [] before before side drawn told told []
+unfolding performed part_stop
+nothing-happens g settings users r both before side drawn told stands are = record {
+  goes = refl;
+  shows = refl;
+  tells = sym (append-nil told);
+  stands = stands;
+  noted = are;
+  taken = λ k. let same : k ≡ k + 0 = omega arith in ap before same;
+}
+
+-- ---- an error is passed on
+
+pub event-refused : (settings : Settings) (users : List UserFrame) (r both : Run) (event : Event)
+    (before after : Supply) (side : Side) (drawn : Numbers)
+    (result : Result (List Fact) StepError) (error : StepError)
+    → IsErrAnd result (λ given. given ≡ error)
+    → IsWhy (event_stop settings users r both event before) error
+    → Happens settings users r both event before after side drawn result
+event-refused settings users r both event before after side drawn (Ok facts) error is why = absurd is
+event-refused settings users r both event before after side drawn (Err given) error is why =
+    subst (IsWhy (event_stop settings users r both event before)) (sym is) why
+
+pub part-refused : (g : GroupNumber) (settings : Settings) (users : List UserFrame) (r both : Run)
+    (es : List Event) (before after : Supply) (side : Side) (drawn : Numbers)
+    (told more : List Told) (result : Result (Unit {0}) StepError) (error : StepError)
+    → IsErrAnd result (λ given. given ≡ error)
+    → IsWhy (events_stop settings users r both es before) error
+    → Happen g settings users r both es before after side drawn told more result
+part-refused g settings users r both es before after side drawn told more (Ok done) error is why =
+    absurd is
+part-refused g settings users r both es before after side drawn told more (Err given) error is why =
+    subst (IsWhy (events_stop settings users r both es before)) (sym is) why
+
+-- ---- a group in which nothing happened
+
+get-nothing : {A : Type 0} (i : ℕ) (a : A) → get_or [] i a ≡ a
+get-nothing zero a = refl
+get-nothing (suc i) a = refl
+
+pub side-begins : (settings : Settings) (users : List UserFrame) (whole : Run) (side : Side)
+    → side.suite ≡ settings.suite → StandsFor settings users side.lan [] → side.numbers ≡ []
+    → side.draws ≡ [] → StandsIn settings users [] whole side
+unfolding next
+side-begins settings users whole side suite lan numbers draws = record {
+  suite = suite;
+  lan = lan;
+  numbers = subst (TellNext settings []) (sym numbers)
+      (λ s epoch. ap (λ ns. get_or ns epoch 1) (get-nothing s []) ∙ get-nothing epoch 1);
+  draws = subst (AreTraced settings.suite [] whole) (sym draws)
+      (traced-none settings.suite whole);
+}

@@ -106,10 +106,10 @@ module _ (settings : Settings) (users : List UserFrame) (r both : Run) (event : 
           → option_or (option_map (λ first. stops.RepeatedDraw first (draws_in settings.suite r + 1)) o)
           (stop_of_forgery settings r event) ≡ Some stop
           → over_both draws drawn stop ≡ stop_of_draw settings.suite both y
-      drew None is stops =
-          let none = no-forgery settings r event homely in absurd (cc (stops, none))
-      drew (Some own) is stops =
-          ap (over_both draws drawn) (sym (some-same stops))
+      drew None is halts =
+          let none = no-forgery settings r event homely in absurd (cc (halts, none))
+      drew (Some own) is halts =
+          ap (over_both draws drawn) (sym (some-same halts))
           ∙ repeats-is settings.suite both drawn y (slice_get draws (own - 1)) are
           (traced-before settings.suite y r both draws own traced
           (draws-one settings users r event nth facts shows) is)
@@ -119,12 +119,12 @@ module _ (settings : Settings) (users : List UserFrame) (r both : Run) (event : 
           (option_or (stop_of_draw settings.suite r y) (stop_of_forgery settings r event)) ≡ Some stop
           → over_both draws drawn stop
           ≡ option_or (option_map stops.Limit (passed (y ∷ r))) (stop_of_draw settings.suite both y)
-      go (Some which) passes stops =
-          ap (over_both draws drawn) (sym (some-same stops))
+      go (Some which) passes halts =
+          ap (over_both draws drawn) (sym (some-same halts))
           ∙ sym (ap (λ o. option_or (option_map stops.Limit o) (stop_of_draw settings.suite both y))
           passes)
-      go None passes stops =
-          drew (drawn_before settings.suite r y) refl stops
+      go None passes halts =
+          drew (drawn_before settings.suite r y) refl halts
           ∙ sym (ap (λ o. option_or (option_map stops.Limit o) (stop_of_draw settings.suite both y))
           passes)
 
@@ -142,17 +142,17 @@ module _ (settings : Settings) (users : List UserFrame) (r both : Run) (event : 
           → over_both draws drawn stop
           ≡ option_and_then (stop_after settings.suite r both)
           (option_map (λ facts. happened event facts) o)
-      within None shows stops = absurd (cc stops)
-      within (Some facts) shows stops = shows-stop facts stop shows stops
+      within None shows halts = absurd (cc halts)
+      within (Some facts) shows halts = shows-stop facts stop shows halts
 
       go : (b : Bool) → cond b (Some stops.DrawsSpent)
           (option_and_then (stop_at settings r event)
           (expected settings users r event (drawn_from settings.suite nth))) ≡ Some stop
           → over_both draws drawn stop ≡ cond b (Some stops.DrawsSpent)
           (option_and_then (stop_after settings.suite r both) (shown settings users r event nth))
-      go true stops = ap (over_both draws drawn) (sym (some-same stops))
-      go false stops =
-          within (expected settings users r event (drawn_from settings.suite nth)) refl stops
+      go true halts = ap (over_both draws drawn) (sym (some-same halts))
+      go false halts =
+          within (expected settings users r event (drawn_from settings.suite nth)) refl halts
 
 module _ (settings : Settings) (users : List UserFrame) (r both : Run) (event : Event)
     (nth : Supply) where

@@ -25,7 +25,10 @@ use Rattle.cak_roll.proofs.Adopted.{get-more}
 -- ---- values that are the same
 
 same-mi : (m n : Mi) → same_mi m n ≡ true → m ≡ n
-same-mi m n same = ap (λ octets. record { 0 = octets }) ((bytes_eq-Decides m.0 n.0).0 same)
+same-mi m n same = ap mi_of ((bytes_eq-Decides m.0 n.0).0 same)
+  where
+    mi_of : List ℕ → Mi
+    mi_of octets = record { 0 = octets }
 
 same-secret : (s k : Secret) → same_secret s k ≡ true → s ≡ k
 same-secret (S128 a) (S128 b) same = ap S128 ((bytes_eq-Decides a b).0 same)
@@ -35,11 +38,11 @@ same-secret (S256 a) (S128 b) same = absurd (cc same)
 
 -- ---- a value that repeats nothing
 
-no-repeat : (n : ℕ) (o : Option ℕ) → option_map (λ first. RepeatedDraw first n) o ≡ None → o ≡ None
+pub no-repeat : (n : ℕ) (o : Option ℕ) → option_map (λ first. RepeatedDraw first n) o ≡ None → o ≡ None
 no-repeat n None none = refl
 no-repeat n (Some first) none = absurd (cc none)
 
-neither : {A : Type 0} (o p : Option A) → option_or o p ≡ None → (o ≡ None) × (p ≡ None)
+pub neither : {A : Type 0} (o p : Option A) → option_or o p ≡ None → (o ≡ None) × (p ≡ None)
 neither None p none = (refl, none)
 neither (Some a) p none = absurd (cc none)
 
@@ -77,8 +80,7 @@ traced-beside suite y r whole draws none traced =
       mis = λ mi own is.
           let t = traced.mis mi own is in
           let other = apart same_mi same-mi (mi_number suite whole) mi (drawn_mi y.facts) t.0 t.2
-          parts.0 in
-          (
+          parts.0 in (
             t.0,
             t.1,
             ap (λ b. cond b (Some (draws_in suite whole + 1)) (mi_number suite whole mi)) other ∙ t.2,
@@ -86,8 +88,7 @@ traced-beside suite y r whole draws none traced =
       saks = λ sak own is.
           let t = traced.saks sak own is in
           let other = apart same_secret same-secret (sak_number suite whole) sak
-          (sak_of_tick y.facts y.event) t.0 t.2 parts.1 in
-          (
+          (sak_of_tick y.facts y.event) t.0 t.2 parts.1 in (
             t.0,
             t.1,
             ap (λ b. cond b (Some (draws_in suite whole + 1)) (sak_number suite whole sak)) other
@@ -117,6 +118,9 @@ is-there : {A : Type 0} (same : A → A → Bool) (a : A) (o : Option A)
 is-there same a None drawn = absurd (cc drawn)
 is-there same a (Some b) drawn = refl
 
+some-same : {A : Type 0} {a b : A} → Some a ≡ Some b → a ≡ b
+some-same e = cc e
+
 -- the number of a value, and that over both, before and after one more draw
 more-traced : (b : Bool) (count over own : ℕ) (draws : List ℕ) (n : ℕ) (mine whole : Option ℕ)
     → length draws ≡ count → (b ≡ true → 1 ≤ n)
@@ -127,15 +131,11 @@ more-traced : (b : Bool) (count over own : ℕ) (draws : List ℕ) (n : ℕ) (mi
     × (cond b (Some over) whole ≡ Some o)
 more-traced true count over own draws n mine whole len some before is =
     let next : own ≡ count + 1 = sym (some-same is) in
-    let place : own - 1 ≡ length draws = omega (arith, next, len) in
-    (
+    let place : own - 1 ≡ length draws = omega (arith, next, len) in (
       over,
       ap (λ i. slice_get (draws ++ replicate n over) i) place ∙ get-end draws n over (some refl),
       refl,
     )
-  where
-    some-same : {a c : ℕ} → Some a ≡ Some c → a ≡ c
-    some-same e = cc e
 more-traced false count over own draws n mine whole len some before is =
     let t = before own is in
     (t.0, get-more draws (replicate n over) (own - 1) t.0 t.1, t.2)

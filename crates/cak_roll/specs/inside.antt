@@ -1,4 +1,5 @@
 -- Definitions that serve private functions alone.
+pub mod Following
 pub mod Parts
 pub mod Noting
 pub mod Sides

@@ -1,5 +1,9 @@
 //! Events at stations that may take part in two groups.
 
+ghost use Rattle.std.specs.Prelude.{◌<◌, All};
+ghost use Rattle.gcm_frames.specs.Protected.{IsSci};
+ghost use Rattle.cak_roll.specs.Unstopped.{IsTypedTwin};
+
 use lan_base::{Name, Sci};
 
 /// One of the two groups.
@@ -9,6 +13,22 @@ pub enum GroupNumber {
     First,
     /// The group with the other CAK and CKN.
     Second,
+}
+
+impl GroupNumber {
+    ghost use Rattle.std.specs.Prelude.{◌≡◌};
+    ghost use Rattle.cak_roll.specs.Twin.{same_group};
+
+    /// Whether two groups are one.
+    pub(crate) fn is(self, other: GroupNumber) -> bool
+        ensures { result ≡ same_group self other }
+    {
+        match (self, other) {
+            (GroupNumber::First, GroupNumber::First) => true,
+            (GroupNumber::Second, GroupNumber::Second) => true,
+            _ => false,
+        }
+    }
 }
 
 /// One event at stations that may take part in two groups. A station is named by its place in the
@@ -52,3 +72,39 @@ pub enum TwinEvent {
         user: u32,
     },
 }
+
+/// The fields of an event lie in their types. Nothing runs.
+pub(crate) fn law_fields_are_typed(event: &TwinEvent)
+    ensures { IsTypedTwin event.now }
+{
+    match event {
+        TwinEvent::Start {
+            name,
+            sci,
+            priority,
+        } => {
+            name.octets();
+            law_channels_are_whole(sci);
+            let _priority = *priority;
+        }
+        TwinEvent::Deliver { frame, .. } => {
+            let _frame = *frame;
+        }
+        TwinEvent::Send { user, .. } => {
+            let _user = *user;
+        }
+        _ => {}
+    }
+}
+
+/// A secure channel identifier has its 8 octets. Nothing runs.
+fn law_channels_are_whole(sci: &Sci)
+    ensures { IsSci sci.now }
+{
+    law_octets_are_small(&sci.0);
+}
+
+/// Each octet is below 256. Nothing runs.
+fn law_octets_are_small(octets: &[u8])
+    ensures { All (λ octet. octet < 256) octets.now }
+{}

@@ -1,12 +1,15 @@
 //! Who is where: the stations, which of them adopted the second group, and who left a group.
 
-ghost use Rattle.std.specs.Prelude.{◌≡◌, ◌∷◌, ℕ, List, [], length, slice_get, option_map, OnOk};
+ghost use Rattle.std.specs.Prelude.{◌≡◌, ◌≤◌, List, [], length, slice_get, OnOk};
+ghost use Rattle.std.specs.Option.{option_copied};
 ghost use Rattle.std.specs.List.{list_any};
 ghost use Rattle.lan_base.specs.declared.frame.UserFrame.{UserFrame};
 ghost use Rattle.lan_core.specs.Run.{stations};
-ghost use Rattle.cak_roll.specs.Twin.{Pair, Twin, TwinHappening, IsTwinRun, IsTwinStep};
-ghost use Rattle.cak_roll.specs.Twin.{run_of, place_in, takes_part, has_left};
-ghost use Rattle.cak_roll.specs.Standing.{AreMembers, is_leaver, profile_of};
+ghost use Rattle.cak_roll.specs.Twin.{Pair, Twin, IsTwinRun};
+ghost use Rattle.cak_roll.specs.Twin.{run_of, place_in, takes_part};
+ghost use Rattle.cak_roll.specs.Twin.{place_among};
+ghost use Rattle.cak_roll.specs.Standing.{AreMembers, is_leaver};
+ghost use Rattle.cak_roll.specs.inside.Following.{with_event};
 
 use crate::event::{GroupNumber, TwinEvent};
 use lan_base::{Name, Sci};
@@ -100,9 +103,7 @@ impl Members {
 
     /// Stations start, adopt the second group, and leave a group.
     pub fn follow(&mut self, event: &TwinEvent) -> Result<(), AllocError>
-        ensures { (pair : Pair) (users : List UserFrame) (t : Twin) (x : TwinHappening)
-            → IsTwinStep pair users x t → x.event ≡ event.now → AreMembers t self.old
-            → OnOk result (AreMembers (x ∷ t) self.new) }
+        ensures { OnOk result (self.new ≡ with_event self.old event.now) }
     {
         match event {
             TwinEvent::Start {

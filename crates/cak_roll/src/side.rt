@@ -205,22 +205,24 @@ impl Side {
         let mi = mi_in(facts);
         let sak = sak_in(event, facts);
         judge(drawn, mi, sak)?;
-        self.count_on(draws_of(self.suite, mi, sak), drawn.count())?;
+        count_on(
+            &mut self.draws,
+            draws_of(self.suite, mi, sak),
+            drawn.count(),
+        )?;
         note(drawn, self.suite, mi, sak)?;
         self.numbers.follow(self.alloc, event, facts)?;
         Ok(())
     }
+}
 
-    /// So many draws more, of which the first comes after so many of both.
-    fn count_on(&mut self, more: u64, count: u64) -> Result<(), AllocError>
-        ensures { OnOk result (self.new ≡ record self.old {
-          draws = self.old.draws ++ replicate more (count + 1);
-        }) }
-    {
-        let first = count.checked_add(1).ok_or(AllocError)?;
-        for _ in 0..more {
-            self.draws.push(first)?;
-        }
-        Ok(())
+/// So many draws more of both, which begin behind so many.
+fn count_on(draws: &mut Vec<u64>, more: u64, count: u64) -> Result<(), AllocError>
+    ensures { OnOk result (draws.new.items ≡ draws.old.items ++ replicate more (count + 1)) }
+{
+    let first = count.checked_add(1).ok_or(AllocError)?;
+    for _ in 0..more {
+        draws.push(first)?;
     }
+    Ok(())
 }

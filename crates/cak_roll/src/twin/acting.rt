@@ -6,7 +6,7 @@ ghost use Rattle.lan_base.specs.declared.frame.UserFrame.{UserFrame};
 ghost use Rattle.lan_core.specs.Lives.{transmitting_at};
 ghost use Rattle.cak_roll.specs.declared.event.GroupNumber.TheVariants.{Second};
 ghost use Rattle.cak_roll.specs.declared.event.TwinEvent.TheVariants as twins;
-ghost use Rattle.cak_roll.specs.Twin.{Pair, Twin as TwinRun, events_in, same_group, of_group};
+ghost use Rattle.cak_roll.specs.Twin.{Pair, Twin as TwinRun, events_in, of_group};
 ghost use Rattle.cak_roll.specs.Twin.{carrier, transmits, next_in, claimed_in, setting_of, run_of};
 ghost use Rattle.cak_roll.specs.Twin.{sent_as};
 ghost use Rattle.cak_roll.specs.Standing.{StandsFor};
@@ -76,7 +76,7 @@ impl Twin {
             → StandsFor pair users self.now t
             → events_of_part result ≡ events_in pair group t (twins.Tick station of) }
     {
-        if !is_same(of, group) {
+        if !of.is(group) {
             return Part::Nothing;
         }
         Part::One(Event::Tick {
@@ -91,7 +91,7 @@ impl Twin {
             → StandsFor pair users self.now t
             → events_of_part result ≡ events_in pair group t (twins.Deliver of frame station) }
     {
-        if !is_same(of, group) {
+        if !of.is(group) {
             return Part::Nothing;
         }
         Part::One(Event::Deliver {
@@ -120,7 +120,7 @@ impl Twin {
             → StandsFor pair users self.now t
             → events_of_part result ≡ events_in pair group t (twins.Send station user) }
     {
-        if !is_same(self.carrier(station), group) {
+        if !self.carrier(station).is(group) {
             return Part::Nothing;
         }
         sent(
@@ -202,16 +202,5 @@ fn sent(station: u8, user: u32, pn: u32) -> Part
         Part::One(Event::Claim { station, user, pn })
     } else {
         Part::Sent { station, user, pn }
-    }
-}
-
-/// Whether two groups are one.
-fn is_same(group: GroupNumber, other: GroupNumber) -> bool
-    ensures { result ≡ same_group group other }
-{
-    match (group, other) {
-        (GroupNumber::First, GroupNumber::First) => true,
-        (GroupNumber::Second, GroupNumber::Second) => true,
-        _ => false,
     }
 }

@@ -3,4 +3,4 @@ use Rattle.lan_core.specs.Lives.{drawn_sak}
 use Rattle.cak_roll.proofs.noting.installed.Given as goal
 
 abbrev pub invariant-loop-fact : goal.invariant-loop-fact
-invariant-loop-fact l = drawn_sak (drop l.fact-index l.facts.now) ≡ drawn_sak l.fn.facts.now
+invariant-loop-fact l = drawn_sak (drop l.fact-index l.facts) ≡ drawn_sak l.fn.facts

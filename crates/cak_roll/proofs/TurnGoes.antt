@@ -1,0 +1,188 @@
+-- What both groups stand for once the part in the first and then that in the second were performed.
+use Rattle.std.proofs.Common.{◌≡◌, ◌+◌, ◌++◌, ℕ, Bool, true, false, List, [], ◌∷◌, cond, append-nil}
+use Rattle.std.proofs.Common.{Option, Some, None, refl, sym, ap, ◌∙◌, subst, arith}
+use Rattle.std.specs.Prelude.{option_map, option_and_then}
+use Rattle.std.specs.Option.{option_or}
+use Rattle.std.proofs.Math.Path.{fun_ext}
+use Rattle.lan_base.specs.declared.frame.UserFrame.{UserFrame}
+use Rattle.lan_base.specs.declared.suite.Suite.{Suite}
+use Rattle.lan_core.specs.declared.event.Event.{Event}
+use Rattle.lan_core.specs.declared.settings.Settings.{Settings}
+use Rattle.lan_core.specs.declared.stop.Stop.{Stop}
+use Rattle.lan_core.specs.declared.stop.Stop.TheVariants.{DrawsSpent}
+use Rattle.lan_core.specs.declared.stop.StepError.{StepError}
+use Rattle.lan_core.specs.declared.stop.StepError.TheVariants as errors
+use Rattle.lan_core.specs.Run.{Run}
+use Rattle.lan_core.specs.Stops.{is_spent}
+use Rattle.lan_core.specs.Standing.{Numbers, AreDrawn}
+use Rattle.lan_core.specs.Answers.{IsWhy}
+use Rattle.cak_roll.specs.declared.event.GroupNumber.TheVariants.{First, Second}
+use Rattle.cak_roll.specs.declared.event.TwinEvent.{TwinEvent}
+use Rattle.cak_roll.specs.declared.told.Told.{Told}
+use Rattle.cak_roll.specs.Twin.{Pair, Twin, TwinHappening, run_of, merged, events_in}
+use Rattle.cak_roll.specs.Stepping.{Supply, behind, performed, draws_for, part_stop}
+use Rattle.cak_roll.specs.Stepping.{first_draws, second_draws, twin_draws, first_part, second_part}
+use Rattle.cak_roll.specs.Stepping.{in_groups, happening}
+use Rattle.cak_roll.specs.Standing.{Side, StandsIn, Held, IfThere, StandBoth, AreTraced}
+use Rattle.cak_roll.specs.Answers.{told_of, told_in}
+use Rattle.cak_roll.specs.inside.Sides.{unless_spent, events_stop, EventsGo}
+use Rattle.cak_roll.specs.inside.Turns.{turn_stop, TurnGoes}
+use Rattle.cak_roll.proofs.TurnStops.{traced-beside-part}
+
+-- a part that nothing stops meets no stop of its own
+unspent : (b : Bool) (o : Option Stop) → cond b (Some DrawsSpent) o ≡ None → o ≡ None
+unspent true o none = absurd (cc none)
+unspent false o none = none
+
+-- a side goes on beside a part of the other one
+pub beside : (settings other : Settings) (users : List UserFrame) (r s both : Run)
+    (es : List Event) (nth : Supply) (ys : Run) (side : Side)
+    → other.suite ≡ settings.suite
+    → performed other users s es nth ≡ Some ys → events_stop other users s both es nth ≡ None
+    → StandsIn settings users r both side → StandsIn settings users r (ys ++ both) side
+beside settings other users r s both es nth ys side same there none stands =
+    let stop = unspent (is_spent (draws_for other s es) nth)
+    (part_stop other.suite other users s both es nth) none in
+    record {
+      suite = stands.suite;
+      lan = stands.lan;
+      numbers = stands.numbers;
+      draws = subst (λ suite. AreTraced suite r (ys ++ both) side.draws) same
+          (traced-beside-part other users s both es nth ys r side.draws there stop
+          (subst (λ suite. AreTraced suite r both side.draws) (sym same) stands.draws));
+    }
+
+pub beside-there : (settings other : Settings) (users : List UserFrame) (r s both : Run)
+    (es : List Event) (nth : Supply) (ys : Run) (o : Option Side)
+    → other.suite ≡ settings.suite
+    → performed other users s es nth ≡ Some ys → events_stop other users s both es nth ≡ None
+    → IfThere settings users r both o → IfThere settings users r (ys ++ both) o
+beside-there settings other users r s both es nth ys None same there none is = is
+beside-there settings other users r s both es nth ys (Some side) same there none stands =
+    beside settings other users r s both es nth ys side same there none stands
+
+module _ (pair : Pair) (users : List UserFrame) (t : Twin) (event : TwinEvent)
+    (before between after : Supply) (suites : pair.second.suite ≡ pair.first.suite) where
+  -- what the part in the second group leaves, behind that in the first
+  pub record SecondGoes (ys : Run) (second : Option Side) (drawn : Numbers)
+      (told more : List Told) (zs : Run) : Type 0 where
+    pub goes : events_stop pair.second users (run_of Second t) (ys ++ merged t)
+        (events_in pair Second t event) between ≡ None
+    pub shows : performed pair.second users (run_of Second t) (events_in pair Second t event)
+        between ≡ Some zs
+    pub tells : more ≡ told ++ told_of Second zs
+    pub stands : IfThere pair.second users (zs ++ run_of Second t) (zs ++ (ys ++ merged t)) second
+    pub noted : AreDrawn pair.first.suite (zs ++ (ys ++ merged t)) drawn
+    pub taken : (k : ℕ) → after k ≡ between (k + second_draws pair t event)
+
+  -- the supply that the first part leaves
+  left-is : ((k : ℕ) → between k ≡ before (k + first_draws pair t event))
+      → between ≡ behind (first_draws pair t event) before
+  left-is taken = fun_ext taken
+
+  pub turn-goes : (old new : Held) (told more : List Told) (ys zs : Run) (noted : Numbers)
+      → EventsGo First pair.first users (run_of First t) (merged t) (events_in pair First t event)
+      before between new.first noted [] told ys
+      → SecondGoes ys new.second new.drawn told more zs
+      → TurnGoes pair users t event (turn_stop pair users t event before) before after new more
+      (in_groups event ys zs)
+  turn-goes old new told more ys zs noted one two =
+      let left = left-is one.taken in
+      record {
+        goes = ap (λ o. option_or o (option_and_then
+            (λ first. events_stop pair.second users (run_of Second t) (first ++ merged t)
+            (events_in pair Second t event) (behind (first_draws pair t event) before))
+            (first_part pair users t event before))) one.goes
+            ∙ ap (option_and_then
+            (λ first. events_stop pair.second users (run_of Second t) (first ++ merged t)
+            (events_in pair Second t event) (behind (first_draws pair t event) before))) one.shows
+            ∙ ap (events_stop pair.second users (run_of Second t) (ys ++ merged t)
+            (events_in pair Second t event)) (sym left)
+            ∙ two.goes;
+        shows = ap (option_and_then
+            (λ first. option_map (in_groups event first) (second_part pair users t event before)))
+            one.shows
+            ∙ ap (λ nth. option_map (in_groups event ys)
+            (performed pair.second users (run_of Second t) (events_in pair Second t event) nth))
+            (sym left)
+            ∙ ap (option_map (in_groups event ys)) two.shows;
+        tells = two.tells ∙ ap (λ ts. ts ++ told_of Second zs) one.tells;
+        stands = record {
+          first = beside pair.first pair.second users (ys ++ run_of First t) (run_of Second t)
+              (ys ++ merged t) (events_in pair Second t event) between zs new.first suites two.shows
+              two.goes one.stands;
+          second = two.stands;
+          drawn = two.noted;
+        };
+        drawn = λ k. two.taken k ∙ one.taken (k + second_draws pair t event)
+            ∙ ap before (omega arith);
+      }
+
+  -- the second group is not asked
+  pub second-rests : (old : Held) (told : List Told) (ys : Run) (side : Side) (noted : Numbers)
+      → StandBoth pair users (run_of First t) (run_of Second t) (merged t) old
+      → EventsGo First pair.first users (run_of First t) (merged t) (events_in pair First t event)
+      before between side noted [] told ys
+      → events_in pair Second t event ≡ [] → ((k : ℕ) → after k ≡ between k)
+      → SecondGoes ys old.second noted told told []
+  unfolding performed part_stop
+  second-rests old told ys side noted both one none same = record {
+    goes = rw none refl;
+    shows = rw none refl;
+    tells = sym (append-nil told);
+    stands = beside-there pair.second pair.first users (run_of Second t) (run_of First t)
+        (merged t) (events_in pair First t event) before ys old.second (sym suites) one.shows one.goes
+        both.second;
+    noted = one.noted;
+    taken = λ k. same k ∙ ap between
+        (let count : second_draws pair t event ≡ 0 =
+        ap (draws_for pair.second (run_of Second t)) none in omega (arith, count));
+  }
+
+  -- the second group performs its part
+  pub second-goes : (old : Held) (was side : Side) (told more : List Told) (ys zs : Run)
+      (noted drawn : Numbers)
+      → EventsGo Second pair.second users (run_of Second t) (ys ++ merged t)
+      (events_in pair Second t event) between after side drawn told more zs
+      → SecondGoes ys (Some side) drawn told more zs
+  second-goes old was side told more ys zs noted drawn go = record {
+    goes = go.goes;
+    shows = go.shows;
+    tells = go.tells;
+    stands = go.stands;
+    noted = subst (λ suite. AreDrawn suite (zs ++ (ys ++ merged t)) drawn) suites go.noted;
+    taken = go.taken;
+  }
+
+  -- ---- stops
+
+  pub first-fails : (error : StepError)
+      → IsWhy (events_stop pair.first users (run_of First t) (merged t)
+      (events_in pair First t event) before) error
+      → IsWhy (turn_stop pair users t event before) error
+  first-fails errors.Memory why = tt
+  first-fails (errors.Stopped stop) why =
+      ap (λ o. option_or o (option_and_then
+      (λ first. events_stop pair.second users (run_of Second t) (first ++ merged t)
+      (events_in pair Second t event) (behind (first_draws pair t event) before))
+      (first_part pair users t event before))) why
+
+  pub second-fails : (side : Side) (noted : Numbers) (told : List Told) (ys : Run)
+      (error : StepError)
+      → EventsGo First pair.first users (run_of First t) (merged t) (events_in pair First t event)
+      before between side noted [] told ys
+      → IsWhy (events_stop pair.second users (run_of Second t) (ys ++ merged t)
+      (events_in pair Second t event) between) error
+      → IsWhy (turn_stop pair users t event before) error
+  second-fails side noted told ys errors.Memory one why = tt
+  second-fails side noted told ys (errors.Stopped stop) one why =
+      ap (λ o. option_or o (option_and_then
+      (λ first. events_stop pair.second users (run_of Second t) (first ++ merged t)
+      (events_in pair Second t event) (behind (first_draws pair t event) before))
+      (first_part pair users t event before))) one.goes
+      ∙ ap (option_and_then
+      (λ first. events_stop pair.second users (run_of Second t) (first ++ merged t)
+      (events_in pair Second t event) (behind (first_draws pair t event) before))) one.shows
+      ∙ ap (events_stop pair.second users (run_of Second t) (ys ++ merged t)
+      (events_in pair Second t event)) (sym (left-is one.taken))
+      ∙ why
