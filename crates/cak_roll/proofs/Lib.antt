@@ -24,4 +24,6 @@ pub mod TwinGoes
 pub mod Lone
 pub mod TwinBegins
 pub mod MembersFollow
+pub mod Acts
+pub mod Performing
 mod Examples

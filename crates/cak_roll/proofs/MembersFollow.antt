@@ -1,5 +1,5 @@
 -- The members after an event are those of the twin run with it.
-use Rattle.std.proofs.Common.{◌≡◌, ◌≤◌, ◌==◌, ◌++◌, ◌&&◌, ◌||◌, ℕ, zero, suc, Bool, true, false, List, [], ◌∷◌, map, length}
+use Rattle.std.proofs.Common.{◌≡◌, ◌≤◌, ◌==◌, ◌+◌, ◌++◌, cond, not, ◌&&◌, ◌||◌, ℕ, zero, suc, Bool, true, false, List, [], ◌∷◌, map, length}
 use Rattle.std.proofs.Common.{Option, Some, None, refl, sym, ap, ◌∙◌, subst, arith, append-nil}
 use Rattle.std.specs.Prelude.{slice_get, option_map, option_to_list}
 use Rattle.std.specs.List.{list_any}
@@ -12,7 +12,7 @@ use Rattle.cak_roll.specs.declared.event.TwinEvent.TheVariants as twins
 use Rattle.cak_roll.specs.declared.members.Station.{Station}
 use Rattle.cak_roll.specs.declared.members.Leaver.{Leaver}
 use Rattle.cak_roll.specs.Twin.{Pair, setting_of, Twin, TwinHappening, run_of, adopters, adopted_by}
-use Rattle.cak_roll.specs.Twin.{is_leave, has_left, same_group, start_of, IsTwinStep, IsTwinRun}
+use Rattle.cak_roll.specs.Twin.{place_among, is_leave, has_left, same_group, start_of, IsTwinStep, IsTwinRun}
 use Rattle.cak_roll.specs.Standing.{Members, AreMembers, profile_of, is_leaver}
 use Rattle.cak_roll.specs.inside.Following.{with_event}
 use Rattle.cak_roll.proofs.Twins.{twin-stepped}
@@ -46,6 +46,15 @@ pub as-many-start : (t : Twin) (m : Members) → AreMembers t m
     → length m.stations ≡ length (stations (run_of First t))
 as-many-start t m are =
     sym (length-map profile_of m.stations) ∙ ap (λ ps. length ps) are.stations
+
+pub place-within : (s : ℕ) (xs : List ℕ) → place_among s xs ≤ length xs
+place-within s [] = omega arith
+place-within s (x ∷ xs) = by (x == s) (place-within s xs)
+  where
+    by : (b : Bool) → place_among s xs ≤ length xs
+        → cond (not b) (1 + place_among s xs) 0 ≤ length (x ∷ xs)
+    by true le = omega arith
+    by false le = omega (arith, le)
 
 -- ---- an adoption is a start
 

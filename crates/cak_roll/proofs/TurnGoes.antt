@@ -1,5 +1,5 @@
 -- What both groups stand for once the part in the first and then that in the second were performed.
-use Rattle.std.proofs.Common.{◌≡◌, ◌+◌, ◌++◌, ℕ, Bool, true, false, List, [], ◌∷◌, cond, append-nil}
+use Rattle.std.proofs.Common.{◌≡◌, ◌+◌, ◌++◌, ℕ, Bool, true, false, List, [], ◌∷◌, cond, append-nil, Result, Ok, Err, OnOk, IfErr}
 use Rattle.std.proofs.Common.{Option, Some, None, refl, sym, ap, ◌∙◌, subst, arith}
 use Rattle.std.specs.Prelude.{option_map, option_and_then}
 use Rattle.std.specs.Option.{option_or}
@@ -25,8 +25,8 @@ use Rattle.cak_roll.specs.Stepping.{first_draws, second_draws, twin_draws, first
 use Rattle.cak_roll.specs.Stepping.{in_groups, happening}
 use Rattle.cak_roll.specs.Standing.{Side, StandsIn, Held, IfThere, StandBoth, AreTraced}
 use Rattle.cak_roll.specs.Answers.{told_of, told_in}
-use Rattle.cak_roll.specs.inside.Sides.{unless_spent, events_stop, EventsGo}
-use Rattle.cak_roll.specs.inside.Turns.{turn_stop, TurnGoes}
+use Rattle.cak_roll.specs.inside.Sides.{unless_spent, events_stop, EventsGo, Happen}
+use Rattle.cak_roll.specs.inside.Turns.{turn_stop, ThereGo, HappenThere, TurnGoes}
 use Rattle.cak_roll.proofs.TurnStops.{traced-beside-part}
 
 -- a part that nothing stops meets no stop of its own
@@ -61,32 +61,64 @@ beside-there settings other users r s both es nth ys None same there none is = i
 beside-there settings other users r s both es nth ys (Some side) same there none stands =
     beside settings other users r s both es nth ys side same there none stands
 
+-- ---- the second group
+
+pub there-some : (settings : Settings) (users : List UserFrame) (r both : Run) (es : List Event)
+    (before after : Supply) (side : Side) (drawn : Numbers) (told more : List Told)
+    (result : Result (Unit {0}) StepError)
+    → Happen Second settings users r both es before after side drawn told more result
+    → HappenThere settings users r both es before after (Some side) drawn told more result
+there-some settings users r both es before after side drawn told more (Ok done) (ys, go) = (
+  ys,
+  record {
+    goes = go.goes;
+    shows = go.shows;
+    tells = go.tells;
+    stands = go.stands;
+    noted = go.noted;
+    taken = go.taken;
+  },
+)
+there-some settings users r both es before after side drawn told more (Err error) why = why
+
+pub there-none : (settings : Settings) (users : List UserFrame) (r both : Run) (es : List Event)
+    (before : Supply) (drawn : Numbers) (told : List Told) (result : Result (Unit {0}) StepError)
+    → r ≡ [] → AreDrawn settings.suite both drawn → OnOk result (es ≡ [])
+    → IfErr result (λ error. error ≡ errors.Memory)
+    → HappenThere settings users r both es before before None drawn told told result
+unfolding performed part_stop
+there-none settings users r both es before drawn told (Ok done) empty are none memory = (
+  [],
+  subst (λ es. ThereGo settings users r both es before before None drawn told told []) (sym none)
+      (record {
+        goes = refl;
+        shows = refl;
+        tells = sym (append-nil told);
+        stands = empty;
+        noted = are;
+        taken = λ k. let same : k ≡ k + 0 = omega arith in ap before same;
+      }),
+)
+there-none settings users r both es before drawn told (Err error) empty are none memory =
+    subst (IsWhy (events_stop settings users r both es before)) (sym memory) tt
+
+-- ---- both
+
 module _ (pair : Pair) (users : List UserFrame) (t : Twin) (event : TwinEvent)
     (before between after : Supply) (suites : pair.second.suite ≡ pair.first.suite) where
-  -- what the part in the second group leaves, behind that in the first
-  pub record SecondGoes (ys : Run) (second : Option Side) (drawn : Numbers)
-      (told more : List Told) (zs : Run) : Type 0 where
-    pub goes : events_stop pair.second users (run_of Second t) (ys ++ merged t)
-        (events_in pair Second t event) between ≡ None
-    pub shows : performed pair.second users (run_of Second t) (events_in pair Second t event)
-        between ≡ Some zs
-    pub tells : more ≡ told ++ told_of Second zs
-    pub stands : IfThere pair.second users (zs ++ run_of Second t) (zs ++ (ys ++ merged t)) second
-    pub noted : AreDrawn pair.first.suite (zs ++ (ys ++ merged t)) drawn
-    pub taken : (k : ℕ) → after k ≡ between (k + second_draws pair t event)
-
   -- the supply that the first part leaves
   left-is : ((k : ℕ) → between k ≡ before (k + first_draws pair t event))
       → between ≡ behind (first_draws pair t event) before
   left-is taken = fun_ext taken
 
-  pub turn-goes : (old new : Held) (told more : List Told) (ys zs : Run) (noted : Numbers)
+  pub turn-goes : (new : Held) (told more : List Told) (ys zs : Run) (noted : Numbers)
       → EventsGo First pair.first users (run_of First t) (merged t) (events_in pair First t event)
       before between new.first noted [] told ys
-      → SecondGoes ys new.second new.drawn told more zs
+      → ThereGo pair.second users (run_of Second t) (ys ++ merged t)
+      (events_in pair Second t event) between after new.second new.drawn told more zs
       → TurnGoes pair users t event (turn_stop pair users t event before) before after new more
       (in_groups event ys zs)
-  turn-goes old new told more ys zs noted one two =
+  turn-goes new told more ys zs noted one two =
       let left = left-is one.taken in
       record {
         goes = ap (λ o. option_or o (option_and_then
@@ -112,47 +144,11 @@ module _ (pair : Pair) (users : List UserFrame) (t : Twin) (event : TwinEvent)
               (ys ++ merged t) (events_in pair Second t event) between zs new.first suites two.shows
               two.goes one.stands;
           second = two.stands;
-          drawn = two.noted;
+          drawn = subst (λ suite. AreDrawn suite (zs ++ (ys ++ merged t)) new.drawn) suites two.noted;
         };
         drawn = λ k. two.taken k ∙ one.taken (k + second_draws pair t event)
             ∙ ap before (omega arith);
       }
-
-  -- the second group is not asked
-  pub second-rests : (old : Held) (told : List Told) (ys : Run) (side : Side) (noted : Numbers)
-      → StandBoth pair users (run_of First t) (run_of Second t) (merged t) old
-      → EventsGo First pair.first users (run_of First t) (merged t) (events_in pair First t event)
-      before between side noted [] told ys
-      → events_in pair Second t event ≡ [] → ((k : ℕ) → after k ≡ between k)
-      → SecondGoes ys old.second noted told told []
-  unfolding performed part_stop
-  second-rests old told ys side noted both one none same = record {
-    goes = rw none refl;
-    shows = rw none refl;
-    tells = sym (append-nil told);
-    stands = beside-there pair.second pair.first users (run_of Second t) (run_of First t)
-        (merged t) (events_in pair First t event) before ys old.second (sym suites) one.shows one.goes
-        both.second;
-    noted = one.noted;
-    taken = λ k. same k ∙ ap between
-        (let count : second_draws pair t event ≡ 0 =
-        ap (draws_for pair.second (run_of Second t)) none in omega (arith, count));
-  }
-
-  -- the second group performs its part
-  pub second-goes : (old : Held) (was side : Side) (told more : List Told) (ys zs : Run)
-      (noted drawn : Numbers)
-      → EventsGo Second pair.second users (run_of Second t) (ys ++ merged t)
-      (events_in pair Second t event) between after side drawn told more zs
-      → SecondGoes ys (Some side) drawn told more zs
-  second-goes old was side told more ys zs noted drawn go = record {
-    goes = go.goes;
-    shows = go.shows;
-    tells = go.tells;
-    stands = go.stands;
-    noted = subst (λ suite. AreDrawn suite (zs ++ (ys ++ merged t)) drawn) suites go.noted;
-    taken = go.taken;
-  }
 
   -- ---- stops
 
@@ -167,15 +163,15 @@ module _ (pair : Pair) (users : List UserFrame) (t : Twin) (event : TwinEvent)
       (events_in pair Second t event) (behind (first_draws pair t event) before))
       (first_part pair users t event before))) why
 
-  pub second-fails : (side : Side) (noted : Numbers) (told : List Told) (ys : Run)
+  pub second-fails : (side : Side) (noted : Numbers) (start told : List Told) (ys : Run)
       (error : StepError)
       → EventsGo First pair.first users (run_of First t) (merged t) (events_in pair First t event)
-      before between side noted [] told ys
+      before between side noted start told ys
       → IsWhy (events_stop pair.second users (run_of Second t) (ys ++ merged t)
       (events_in pair Second t event) between) error
       → IsWhy (turn_stop pair users t event before) error
-  second-fails side noted told ys errors.Memory one why = tt
-  second-fails side noted told ys (errors.Stopped stop) one why =
+  second-fails side noted start told ys errors.Memory one why = tt
+  second-fails side noted start told ys (errors.Stopped stop) one why =
       ap (λ o. option_or o (option_and_then
       (λ first. events_stop pair.second users (run_of Second t) (first ++ merged t)
       (events_in pair Second t event) (behind (first_draws pair t event) before))
@@ -186,3 +182,63 @@ module _ (pair : Pair) (users : List UserFrame) (t : Twin) (event : TwinEvent)
       ∙ ap (events_stop pair.second users (run_of Second t) (ys ++ merged t)
       (events_in pair Second t event)) (sym (left-is one.taken))
       ∙ why
+
+  -- ---- as the calls answer
+
+  -- the second group, before its part
+  pub second-starts : (es : List Event) (old mid : Held) (start told : List Told) (ys : Run)
+      → StandBoth pair users (run_of First t) (run_of Second t) (merged t) old
+      → mid ≡ record old { first = mid.first; drawn = mid.drawn }
+      → EventsGo First pair.first users (run_of First t) (merged t) es before between mid.first
+      mid.drawn start told ys
+      → IfThere pair.second users (run_of Second t) (ys ++ merged t) mid.second
+      × AreDrawn pair.second.suite (ys ++ merged t) mid.drawn
+  second-starts es old mid start told ys both same one = (
+    subst (IfThere pair.second users (run_of Second t) (ys ++ merged t))
+        (sym (ap (λ (h : Held). h.second) same))
+        (beside-there pair.second pair.first users (run_of Second t) (run_of First t) (merged t) es
+        before ys old.second (sym suites) one.shows one.goes both.second),
+    subst (λ suite. AreDrawn suite (ys ++ merged t) mid.drawn) (sym suites) one.noted,
+  )
+
+  pub turned : (es fs : List Event) (mid new : Held) (start told more : List Told) (ys zs : Run)
+      → es ≡ events_in pair First t event → fs ≡ events_in pair Second t event → start ≡ []
+      → new ≡ record mid { second = new.second; drawn = new.drawn }
+      → EventsGo First pair.first users (run_of First t) (merged t) es before between mid.first
+      mid.drawn start told ys
+      → ThereGo pair.second users (run_of Second t) (ys ++ merged t) fs between after new.second
+      new.drawn told more zs
+      → TurnGoes pair users t event (turn_stop pair users t event before) before after new more
+      (in_groups event ys zs)
+  turned es fs mid new start told more ys zs first second none same one two =
+      turn-goes new told more ys zs mid.drawn
+      (subst (λ side. EventsGo First pair.first users (run_of First t) (merged t)
+      (events_in pair First t event) before between side mid.drawn [] told ys)
+      (sym (ap (λ (h : Held). h.first) same))
+      (subst (λ from. EventsGo First pair.first users (run_of First t) (merged t)
+      (events_in pair First t event) before between mid.first mid.drawn from told ys) none
+      (subst (λ es. EventsGo First pair.first users (run_of First t) (merged t) es before between
+      mid.first mid.drawn start told ys) first one)))
+      (subst (λ fs. ThereGo pair.second users (run_of Second t) (ys ++ merged t) fs between after
+      new.second new.drawn told more zs) second two)
+
+  pub one-fails : (es : List Event) (error : StepError) → es ≡ events_in pair First t event
+      → IsWhy (events_stop pair.first users (run_of First t) (merged t) es before) error
+      → IsWhy (turn_stop pair users t event before) error
+  one-fails es error first why =
+      first-fails error (subst (λ es. IsWhy (events_stop pair.first users (run_of First t) (merged t)
+      es before) error) first why)
+
+  pub two-fails : (es fs : List Event) (side : Side) (noted : Numbers) (start told : List Told)
+      (ys : Run) (error : StepError) → es ≡ events_in pair First t event
+      → fs ≡ events_in pair Second t event
+      → EventsGo First pair.first users (run_of First t) (merged t) es before between side noted start
+      told ys
+      → IsWhy (events_stop pair.second users (run_of Second t) (ys ++ merged t) fs between) error
+      → IsWhy (turn_stop pair users t event before) error
+  two-fails es fs side noted start told ys error first second one why =
+      second-fails side noted start told ys error
+      (subst (λ es. EventsGo First pair.first users (run_of First t) (merged t) es before between side
+      noted start told ys) first one)
+      (subst (λ fs. IsWhy (events_stop pair.second users (run_of Second t) (ys ++ merged t) fs
+      between) error) second why)

@@ -27,7 +27,6 @@ none-drawn suite = record { count = refl; mis = λ mi. refl; saks = none }
   where
     none : (sak : Secret) → number_of_sak (record { count = 0; mis = []; narrow = []; wide = [] }) sak
         ≡ sak_number suite [] sak
-    unfolding sak_number
     none (S128 octets) = refl
     none (S256 octets) = refl
 

@@ -1,7 +1,10 @@
 -- What a twin stands for after an event that nothing stops.
-use Rattle.std.proofs.Common.{◌≡◌, List, [], ◌∷◌, ◌++◌, Option, Some, None, refl, sym, ap, ◌∙◌, subst}
+use Rattle.std.proofs.Common.{◌≡◌, List, [], ◌∷◌, ◌++◌, Option, Some, None, Result, Ok, Err}
+use Rattle.std.proofs.Common.{IsErrAnd, refl, sym, ap, ◌∙◌, subst}
 use Rattle.std.specs.Prelude.{option_map, option_and_then}
 use Rattle.lan_base.specs.declared.frame.UserFrame.{UserFrame}
+use Rattle.lan_core.specs.declared.stop.StepError.{StepError}
+use Rattle.lan_core.specs.Answers.{IsWhy}
 use Rattle.lan_core.specs.Run.{Run}
 use Rattle.lan_core.specs.Fresh.{IsFresh}
 use Rattle.lan_core.proofs.Public.{mapped, chained}
@@ -12,9 +15,19 @@ use Rattle.cak_roll.specs.Twin.{Pair, Twin, TwinHappening, run_of, merged, IsTwi
 use Rattle.cak_roll.specs.Stepping.{Supply, first_part, second_part, in_groups, happening, twin_stop}
 use Rattle.cak_roll.specs.Unstopped.{IsTypedTwin, IsUnstoppedTwin}
 use Rattle.cak_roll.specs.Standing.{Members, AreMembers, Held, StandBoth, StandsFor}
-use Rattle.cak_roll.specs.Answers.{MayHappen, GoesOnWith}
+use Rattle.cak_roll.specs.Answers.{MayHappen, GoesOnWith, AnswersTwin}
 use Rattle.cak_roll.specs.inside.Turns.{TurnGoes}
 use Rattle.cak_roll.proofs.UnstoppedTwins.{twin-step, twin-fresh}
+
+-- an error is passed on
+pub answer-refused : (pair : Pair) (users : List UserFrame) (t : Twin) (event : TwinEvent)
+    (before after : Supply) (held : Held) (result : Result (List Told) StepError)
+    (error : StepError) → IsErrAnd result (λ given. given ≡ error)
+    → IsWhy (twin_stop pair users t event before) error
+    → AnswersTwin pair users t event before after held result
+answer-refused pair users t event before after held (Ok told) error is why = absurd is
+answer-refused pair users t event before after held (Err given) error is why =
+    subst (IsWhy (twin_stop pair users t event before)) (sym is) why
 
 module _ (pair : Pair) (users : List UserFrame) (t : Twin) (event : TwinEvent)
     (before after : Supply) (old turned : Held) (told : List Told) (x : TwinHappening)

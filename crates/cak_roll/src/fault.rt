@@ -1,5 +1,6 @@
 //! Why there is no second group.
 
+ghost use Rattle.std.specs.Prelude.{◌≡◌};
 ghost use Rattle.cak_roll.specs.declared.fault.SecondError.TheVariants.{Memory};
 
 use std::alloc::AllocError;

@@ -77,7 +77,7 @@ impl Members {
     {
         match group {
             GroupNumber::First => station,
-            GroupNumber::Second => position(&self.adopters, station),
+            GroupNumber::Second => few(position(&self.adopters, station)),
         }
     }
 
@@ -126,18 +126,28 @@ impl Members {
     }
 }
 
-/// The place of a station among others, and how many there are where it is not there, if that is not
-/// above 255.
-fn position(stations: &[u8], station: u8) -> u8
-    ensures { length stations.now ≤ 255 → result ≡ place_among station stations.now }
+/// The place of a station among others, and how many there are where it is not there.
+fn position(stations: &[u8], station: u8) -> usize
+    ensures { result ≡ place_among station stations.now }
 {
-    let place = stations.iter().position(|other| *other == station);
-    u8::try_from(place.unwrap_or(stations.len())).unwrap_or(u8::MAX)
+    for place in 0..stations.len() {
+        if stations[place] == station {
+            return place;
+        }
+    }
+    stations.len()
+}
+
+/// A number of stations.
+fn few(count: usize) -> u8
+    ensures { count ≤ 255 → result ≡ count }
+{
+    u8::try_from(count).unwrap_or(u8::MAX)
 }
 
 /// Whether a station left a group.
 fn has_left(leavers: &[Leaver], group: GroupNumber, station: u8) -> bool
     ensures { result ≡ list_any (is_leaver group station) leavers.now }
 {
-    leavers.iter().any(|leaver| leaver.group == group && leaver.station == station)
+    leavers.iter().any(|leaver| leaver.group.is(group) && leaver.station == station)
 }

@@ -3,19 +3,44 @@ use Rattle.std.specs.Prelude.{◌≡◌, ℕ, ◌+◌, List, ◌++◌, Option, S
 use Rattle.std.specs.Prelude.{Result, Ok, Err}
 use Rattle.std.specs.Option.{option_or}
 use Rattle.lan_base.specs.declared.frame.UserFrame.{UserFrame}
+use Rattle.lan_core.specs.declared.event.Event.{Event}
+use Rattle.lan_core.specs.declared.settings.Settings.{Settings}
 use Rattle.lan_core.specs.declared.stop.Stop.{Stop}
 use Rattle.lan_core.specs.declared.stop.StepError.{StepError}
 use Rattle.lan_core.specs.Run.{Run}
+use Rattle.lan_core.specs.Standing.{Numbers, AreDrawn}
 use Rattle.lan_core.specs.Answers.{IsWhy}
 use Rattle.cak_roll.specs.declared.event.GroupNumber.TheVariants.{First, Second}
 use Rattle.cak_roll.specs.declared.event.TwinEvent.{TwinEvent}
 use Rattle.cak_roll.specs.declared.told.Told.{Told}
 use Rattle.cak_roll.specs.Twin.{Pair, Twin, TwinHappening, run_of, merged, events_in}
-use Rattle.cak_roll.specs.Stepping.{Supply, behind, happening, first_draws, first_part}
+use Rattle.cak_roll.specs.Stepping.{Supply, behind, performed, draws_for, happening, first_draws, first_part}
 use Rattle.cak_roll.specs.Stepping.{twin_draws, twin_stop}
-use Rattle.cak_roll.specs.Standing.{Held, StandBoth}
-use Rattle.cak_roll.specs.Answers.{told_in}
+use Rattle.cak_roll.specs.Standing.{Side, IfThere, Held, StandBoth}
+use Rattle.cak_roll.specs.Answers.{told_of, told_in}
 use Rattle.cak_roll.specs.inside.Sides.{events_stop}
+
+-- ---- the second group, if it is there
+
+-- events of a part go on, and leave this second group, if it is there
+pub record ThereGo (settings : Settings) (users : List UserFrame) (r both : Run)
+    (events : List Event) (before after : Supply) (second : Option Side) (drawn : Numbers)
+    (told more : List Told) (ys : Run) : Type 0 where
+  pub goes : events_stop settings users r both events before ≡ None
+  pub shows : performed settings users r events before ≡ Some ys
+  pub tells : more ≡ told ++ told_of Second ys
+  pub stands : IfThere settings users (ys ++ r) (ys ++ both) second
+  pub noted : AreDrawn settings.suite (ys ++ both) drawn
+  pub taken : (k : ℕ) → after k ≡ before (k + draws_for settings r events)
+
+abbrev pub HappenThere : Settings → List UserFrame → Run → Run → List Event → Supply → Supply
+    → Option Side → Numbers → List Told → List Told → Result Unit StepError → Type 0
+HappenThere settings users r both events before after second drawn told more (Ok _) =
+    (ys : Run) × ThereGo settings users r both events before after second drawn told more ys
+HappenThere settings users r both events before after second drawn told more (Err error) =
+    IsWhy (events_stop settings users r both events before) error
+
+-- ---- both
 
 -- the first stop of an event whose part in the second group draws after that in the first
 abbrev pub turn_stop : Pair → List UserFrame → Twin → TwinEvent → Supply → Option Stop

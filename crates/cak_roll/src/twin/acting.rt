@@ -4,6 +4,7 @@ ghost use Rattle.std.specs.Prelude.{◌≡◌, List, Some, is_some};
 ghost use Rattle.std.specs.Option.{option_copied};
 ghost use Rattle.lan_base.specs.declared.frame.UserFrame.{UserFrame};
 ghost use Rattle.lan_core.specs.Lives.{transmitting_at};
+ghost use Rattle.next_numbers.specs.Numbers.{in_range};
 ghost use Rattle.cak_roll.specs.declared.event.GroupNumber.TheVariants.{Second};
 ghost use Rattle.cak_roll.specs.declared.event.TwinEvent.TheVariants as twins;
 ghost use Rattle.cak_roll.specs.Twin.{Pair, Twin as TwinRun, events_in, of_group};
@@ -180,7 +181,7 @@ impl Twin {
         ensures { (pair : Pair) (users : List UserFrame) (t : TwinRun)
             → StandsFor pair users self.now t → result ≡ claimed_in pair group station t }
     {
-        u32::try_from(self.next(group, station)).unwrap_or(0)
+        in_range(self.next(group, station))
     }
 
     /// A group, if it is there.
@@ -203,4 +204,11 @@ fn sent(station: u8, user: u32, pn: u32) -> Part
     } else {
         Part::Sent { station, user, pn }
     }
+}
+
+/// A packet number, and 0 for what lies behind the last one.
+fn in_range(next: u64) -> u32
+    ensures { result ≡ in_range next }
+{
+    u32::try_from(next).unwrap_or(0)
 }

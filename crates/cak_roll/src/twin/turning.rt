@@ -1,22 +1,26 @@
 //! How an event happens in both groups.
 
-ghost use Rattle.std.specs.Prelude.{◌≡◌, ◌⊎◌, ◌<◌, ◌+◌, ℕ, List, true, false, IfOk, IfErr, OnOk};
+ghost use Rattle.std.specs.Prelude.{◌≡◌, ◌↔◌, ◌⊎◌, ◌<◌, ◌+◌, ℕ, List, [], true, false, IsTrue, IfOk, IfErr, OnOk};
 ghost use Rattle.std.specs.Option.{option_copied};
 ghost use Rattle.lan_base.specs.declared.frame.UserFrame.{UserFrame};
 ghost use Rattle.lan_core.specs.declared.stop.Stop.TheVariants.{DrawsSpent};
 ghost use Rattle.lan_core.specs.declared.stop.StepError.TheVariants.{Memory, Stopped};
+ghost use Rattle.lan_core.specs.declared.settings.Settings.{Settings};
+ghost use Rattle.lan_core.specs.Run.{Run};
 ghost use Rattle.lan_core.specs.Stops.{is_spent};
+ghost use Rattle.lan_core.specs.Standing.{AreDrawn};
 ghost use Rattle.lan_core.specs.Unstopped.{AreDraws};
 ghost use Rattle.cak_roll.specs.declared.event.GroupNumber.TheVariants.{First, Second};
 ghost use Rattle.cak_roll.specs.declared.event.TwinEvent.{TwinEvent};
 ghost use Rattle.cak_roll.specs.Twin.{Pair, Twin as TwinRun, run_of, merged, events_in};
-ghost use Rattle.cak_roll.specs.Standing.{StandsFor, StandBoth};
+ghost use Rattle.cak_roll.specs.Standing.{StandsIn, IfThere, StandsFor, StandBoth};
 ghost use Rattle.cak_roll.specs.Answers.{MayHappen, AnswersTwin};
 ghost use Rattle.cak_roll.specs.inside.Parts.{events_of_part, IsReadyPart};
-ghost use Rattle.cak_roll.specs.inside.Turns.{Turns, BothPerform};
+ghost use Rattle.cak_roll.specs.inside.Sides.{Happen};
+ghost use Rattle.cak_roll.specs.inside.Turns.{HappenThere, Turns, BothPerform};
 
 use super::Twin;
-use crate::event::{GroupNumber, TwinEvent};
+use crate::event::{GroupNumber, TwinEvent, law_fields_are_typed};
 use crate::part::Part;
 use crate::told::TwinFacts;
 use lan_base::{Blocks, Draws, ListDraws, UserFrame};
@@ -36,6 +40,7 @@ impl Twin {
             → MayHappen users t (option_copied user.entry) event.now (D.nth draws.old)
             → AnswersTwin pair users t event.now (D.nth draws.old) (D.nth draws.new) self.new result }
     {
+        law_fields_are_typed(event);
         let first = self.part(GroupNumber::First, event);
         let second = self.part(GroupNumber::Second, event);
         let told = self.perform_parts(&first, &second, user, draws)?;
@@ -63,7 +68,7 @@ impl Twin {
         ensures same { OnOk result ((self.new.settings ≡ self.old.settings)
             × (self.new.stopped ≡ self.old.stopped) × (self.new.members ≡ self.old.members)) }
     {
-        if first.is_nothing() || second.is_nothing() {
+        if is_alone(first, second) {
             return self.turn(first, second, user, draws);
         }
         let mut taken = two_of(self.alloc, draws)?;
@@ -90,29 +95,83 @@ impl Twin {
             × (self.new.stopped ≡ self.old.stopped) × (self.new.members ≡ self.old.members)) }
     {
         let mut told = TwinFacts::new(self.alloc);
-        self.first.run(
-            GroupNumber::First,
-            first,
-            user,
-            draws,
-            &mut self.drawn,
-            &mut told,
-        )?;
-        if second.is_nothing() {
-            return Ok(told);
-        }
-        let Some(side) = &mut self.second else {
-            return Err(StepError::Memory);
-        };
-        side.run(
-            GroupNumber::Second,
-            second,
-            user,
-            draws,
-            &mut self.drawn,
-            &mut told,
-        )?;
+        self.run_first(first, user, draws, &mut told)?;
+        self.run_second(second, user, draws, &mut told)?;
         Ok(told)
+    }
+
+    /// A part of an event happens in the first group.
+    fn run_first<D: Draws>(
+        &mut self,
+        part: &Part,
+        user: Option<&UserFrame>,
+        draws: &mut D,
+        told: &mut TwinFacts,
+    ) -> Result<(), StepError>
+        ensures happens { (settings : Settings) (users : List UserFrame) (r both : Run)
+            → StandsIn settings users r both self.old.first
+            → AreDrawn settings.suite both self.old.drawn
+            → IsReadyPart settings users r (option_copied user.entry) part.now
+            → Happen First settings users r both (events_of_part part.now) (D.nth draws.old)
+            (D.nth draws.new) self.new.first self.new.drawn told.old told.new result }
+        ensures same { self.new ≡ record self.old {
+          first = self.new.first;
+          drawn = self.new.drawn;
+        } }
+    {
+        self.first.run(GroupNumber::First, part, user, draws, &mut self.drawn, told)
+    }
+
+    /// A part of an event happens in the second group, if it is there.
+    fn run_second<D: Draws>(
+        &mut self,
+        part: &Part,
+        user: Option<&UserFrame>,
+        draws: &mut D,
+        told: &mut TwinFacts,
+    ) -> Result<(), StepError>
+        ensures happens { (settings : Settings) (users : List UserFrame) (r both : Run)
+            → IfThere settings users r both self.old.second
+            → AreDrawn settings.suite both self.old.drawn
+            → IsReadyPart settings users r (option_copied user.entry) part.now
+            → HappenThere settings users r both (events_of_part part.now) (D.nth draws.old)
+            (D.nth draws.new) self.new.second self.new.drawn told.old told.new result }
+        ensures same { self.new ≡ record self.old {
+          second = self.new.second;
+          drawn = self.new.drawn;
+        } }
+    {
+        match &mut self.second {
+            Some(side) => side.run(
+                GroupNumber::Second,
+                part,
+                user,
+                draws,
+                &mut self.drawn,
+                told,
+            ),
+            None => rests(part),
+        }
+    }
+}
+
+/// Whether there is no event in one group or the other.
+fn is_alone(first: &Part, second: &Part) -> bool
+    ensures { IsTrue result
+        ↔ ((events_of_part first.now ≡ []) ⊎ (events_of_part second.now ≡ [])) }
+{
+    first.is_nothing() || second.is_nothing()
+}
+
+/// Where a group is not there, there is nothing to perform in it.
+fn rests(part: &Part) -> Result<(), StepError>
+    ensures nothing { OnOk result (events_of_part part.now ≡ []) }
+    ensures memory { IfErr result (λ error. error ≡ Memory) }
+{
+    if part.is_nothing() {
+        Ok(())
+    } else {
+        Err(StepError::Memory)
     }
 }
 

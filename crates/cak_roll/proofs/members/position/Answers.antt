@@ -1,0 +1,10 @@
+use Rattle.std.proofs.Common.{◌≡◌, ◌==◌, ℕ, true, get_or, length, sym, arith}
+use Rattle.std.proofs.lemmas.Bool.{eq-eqb}
+use Rattle.std.proofs.lemmas.List.Sums.{position_or_len_is}
+use Rattle.cak_roll.proofs.members.position.Goals as goal
+
+pub returns : goal.returns
+returns c =
+    sym (position_or_len_is (λ u. u == c.args.station) c.args.stations.now
+    (length c.args.stations.now) 0 (omega arith)
+    (λ k lt. c.loop-place.invariant k 0 (omega arith)) (λ lt. absurd (omega arith)))

@@ -1,0 +1,14 @@
+use Rattle.std.proofs.Common.{Some, None, sym, ap, ◌∙◌}
+use Rattle.std.specs.Option.{option_copied}
+use Rattle.cak_roll.proofs.Acts.{adopts}
+use Rattle.cak_roll.proofs.twin.Twin.adoption.Goals as goal
+
+pub returns-in-Some : goal.returns-in-Some
+returns-in-Some c = λ pair users t stands.
+    sym (adopts pair users t c.args.self.now stands c.args.station (Some c.in-Some.started.now)
+    (sym c.station.ensures ∙ ap option_copied c.in-Some.is))
+
+pub returns-in-None : goal.returns-in-None
+returns-in-None c = λ pair users t stands.
+    sym (adopts pair users t c.args.self.now stands c.args.station None
+    (sym c.station.ensures ∙ ap option_copied c.in-None.is))
