@@ -2,6 +2,7 @@
 use Rattle.std.proofs.Common.{◌≡◌, ◌==◌, ◌<◌, ◌++◌, ℕ, zero, suc, Bool, true, false, List, [], ◌∷◌, cond, length}
 use Rattle.std.proofs.Common.{◌&&◌, map, Option, Some, None, refl, sym, ap, ◌∙◌, subst, arith}
 use Rattle.std.specs.Prelude.{is_some, nat_lt, not}
+use Rattle.std.proofs.lemmas.Bool.{le-ltb}
 use Rattle.lan_base.specs.declared.frame.UserFrame.{UserFrame}
 use Rattle.lan_core.specs.declared.event.Event.{Event}
 use Rattle.lan_core.specs.declared.event.Event.TheVariants as events
@@ -18,8 +19,7 @@ use Rattle.cak_roll.specs.Twin.{transmits, carrier, next_in, claimed_in, AreStep
 use Rattle.cak_roll.specs.Twin.{IsTwinRun}
 
 none-below : (n : ℕ) → nat_lt n 0 ≡ false
-none-below zero = refl
-none-below (suc n) = refl
+none-below n = le-ltb n 0 (omega arith)
 
 absent : (s : ℕ) (t : Twin) → run_of Second t ≡ [] → takes_part Second s t ≡ false
 unfolding stations
@@ -94,10 +94,10 @@ pub lone-run : (pair : Pair) (second : Settings) (users : List UserFrame) (t : T
 unfolding run_of
 lone-run pair second users [] run none = tt
 lone-run pair second users (x ∷ t) (step, before) none =
-    let parts = both-nothing x.second (run_of Second t) none in
+    let none-there = both-nothing x.second (run_of Second t) none in
     let other : Pair = record pair { second = second } in (
-      record { may_come = step.may_come; parts = λ g. part parts.0 parts.1 g },
-      lone-run pair second users t before parts.1,
+      record { may_come = step.may_come; parts = λ g. part none-there.0 none-there.1 g },
+      lone-run pair second users t before none-there.1,
     )
   where
     part : x.second ≡ [] → run_of Second t ≡ [] → (g : GroupNumber)

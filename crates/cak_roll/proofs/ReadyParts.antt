@@ -139,7 +139,7 @@ part-ready settings users r given (Sent s user pn) es nothing fit is = absurd (c
 part-ready settings users r given (Sent s user pn) es (single f old typed may plain) fit is =
     absurd (cc is)
 part-ready settings users r given (Sent s user pn) es (sending s' user' pn' old typed may some turn)
-    (none, (fit, no)) is =
+    (none, (fit, rest)) is =
     subst (λ e. IsReadyPart settings users r given (part_of e)) (sym claim) (
       ready-event settings users r old given (events.Claim s' user' pn') may tt fit,
       some,

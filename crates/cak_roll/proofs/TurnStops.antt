@@ -69,7 +69,7 @@ traced-beside-part settings users r both (e ∷ es) nth ys other draws there non
 -- ---- stops
 
 -- the parts draw in time
-pub TakeInTime : Pair → Twin → TwinEvent → Supply → Type 0
+abbrev pub TakeInTime : Pair → Twin → TwinEvent → Supply → Type 0
 TakeInTime pair t event nth =
     (events_in pair First t event ≡ []) ⊎ ((events_in pair Second t event ≡ [])
     ⊎ (is_spent (twin_draws pair t event) nth ≡ false))
@@ -78,9 +78,10 @@ or-none : {A : Type 0} (o : Option A) → option_or o None ≡ o
 or-none None = refl
 or-none (Some a) = refl
 
-then-none : {A B : Type 0} (o : Option A) → option_and_then (λ (a : A). None {B}) o ≡ None
-then-none None = refl
-then-none (Some a) = refl
+then-none : {A B : Type 0} (f : A → Option B) → ((a : A) → f a ≡ None) → (o : Option A)
+    → option_and_then f o ≡ None
+then-none f none None = refl
+then-none f none (Some a) = none a
 
 spent-behind : (b : ℕ) (nth : Supply) → is_spent b (behind 0 nth) ≡ is_spent (0 + b) nth
 spent-behind b nth =
@@ -92,7 +93,7 @@ spent-behind b nth =
 module _ (pair : Pair) (users : List UserFrame) (t : Twin) (event : TwinEvent) (nth : Supply)
     (suites : pair.second.suite ≡ pair.first.suite) where
   -- the part in the second group, judged by the suite of either
-  second_of : Suite → List Event → ℕ → Run → Option Stop
+  abbrev second_of : Suite → List Event → ℕ → Run → Option Stop
   second_of suite es a first =
       part_stop suite pair.second users (run_of Second t) (first ++ merged t) es (behind a nth)
 
@@ -123,12 +124,12 @@ module _ (pair : Pair) (users : List UserFrame) (t : Twin) (event : TwinEvent) (
       let stop = part_stop pair.first.suite pair.first users (run_of First t) (merged t) es nth in
       let part = performed pair.first users (run_of First t) es nth in
       let count : a + 0 ≡ a = omega arith in
-      ap (option_or (unless_spent a nth stop)) (then-none part)
+      let rests = then-none (second_of pair.first.suite [] a) (λ first. refl) part in
+      ap (option_or (unless_spent a nth stop)) rests
       ∙ or-none (unless_spent a nth stop)
-      ∙ ap (λ o. unless_spent a nth o)
-      (sym (ap (option_or stop) (then-none part) ∙ or-none stop))
-      ∙ ap (λ n. unless_spent n nth (option_or stop (option_and_then (λ (first : Run). None {Stop}) part)))
-      (sym count))
+      ∙ ap (λ o. unless_spent a nth o) (sym (ap (option_or stop) rests ∙ or-none stop))
+      ∙ ap (λ n. unless_spent n nth (option_or stop
+      (option_and_then (second_of pair.first.suite [] a) part))) (sym count))
   by-parts es fs (inr (inr enough)) draws =
       let a = draws_for pair.first (run_of First t) es in
       let b = draws_for pair.second (run_of Second t) fs in

@@ -1,5 +1,9 @@
 -- A twin to which nothing happened, and one that gets a second group.
-use Rattle.std.proofs.Common.{◌≡◌, ℕ, List, [], Option, Some, None, refl, sym, ap, ◌∙◌, subst}
+use Rattle.std.proofs.Common.{◌≡◌, ◌==◌, ◌||◌, ℕ, Bool, true, false, List, [], cond, length}
+use Rattle.std.proofs.Common.{Option, Some, None, refl, sym, ap, ◌∙◌, subst}
+use Rattle.std.specs.Prelude.{nat_eq, nat_lt, is_some}
+use lib.Pointwise.{pointwise}
+use Rattle.lan_base.specs.Ranges.{most_ckn_octets}
 use Rattle.lan_base.specs.declared.address.Mi.{Mi}
 use Rattle.lan_base.specs.declared.frame.UserFrame.{UserFrame}
 use Rattle.lan_base.specs.declared.suite.Suite.{Suite}
@@ -17,7 +21,8 @@ use Rattle.cak_roll.specs.declared.event.GroupNumber.TheVariants.{First, Second}
 use Rattle.cak_roll.specs.Twin.{Pair, setting_of, Twin, run_of, merged, IsTwinRun}
 use Rattle.cak_roll.specs.Standing.{Side, StandsIn, Held, IfThere, StandBoth, AreMembers, IsSetUp}
 use Rattle.cak_roll.specs.Standing.{StandsFor}
-use Rattle.cak_roll.specs.Answers.{another}
+use Rattle.cak_roll.specs.declared.fault.SecondFault.TheVariants.{CknLength, SameCkn, Twice}
+use Rattle.cak_roll.specs.Answers.{another, second_fault}
 use Rattle.cak_roll.proofs.Lone.{lone-run}
 
 none-drawn : (suite : Suite)
@@ -86,3 +91,23 @@ begins-second pair users old new t cak ckn side stands none second is =
         → IsSetting (setting_of (record pair { second = another pair.first cak ckn }) g)
     each First = stands.set_up.settings First
     each Second = (second []).lan.setting
+
+-- where nothing is refused, there was no second group
+pub no-fault : (held : Held) (ckn : List ℕ) → second_fault held ckn ≡ None → held.second ≡ None
+no-fault held ckn none =
+    go ((length ckn == 0) || nat_lt most_ckn_octets (length ckn))
+    (pointwise nat_eq ckn held.settings.ckn) held.second none
+  where
+    go : (b c : Bool) (o : Option Side) → cond b (Some CknLength)
+        (cond c (Some SameCkn) (cond (is_some o) (Some Twice) None)) ≡ None → o ≡ None
+    go true c o none = absurd (cc none)
+    go false true o none = absurd (cc none)
+    go false false None none = refl
+    go false false (Some side) none = absurd (cc none)
+
+-- what a group with no station stands for, by what its settings are
+pub stands-alone : (settings other : Settings) (users : List UserFrame) (side : Side)
+    → settings ≡ other → ((whole : Run) → StandsIn settings users [] whole side)
+    → (whole : Run) → StandsIn other users [] whole side
+stands-alone settings other users side same stands whole =
+    subst (λ s. StandsIn s users [] whole side) same (stands whole)

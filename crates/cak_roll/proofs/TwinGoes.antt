@@ -29,6 +29,17 @@ answer-refused pair users t event before after held (Ok told) error is why = abs
 answer-refused pair users t event before after held (Err given) error is why =
     subst (IsWhy (twin_stop pair users t event before)) (sym is) why
 
+-- an event shows one happening
+pub one-happening : (pair : Pair) (users : List UserFrame) (t : Twin) (event : TwinEvent)
+    (before after : Supply) (held : Held) (told : List Told) (x y : TwinHappening)
+    → GoesOnWith pair users t event before after held told x
+    → happening pair users t event before ≡ Some y → StandsFor pair users held (y ∷ t)
+one-happening pair users t event before after held told x y go is =
+    subst (λ z. StandsFor pair users held (z ∷ t)) (some-same (sym go.shows ∙ is)) go.stands
+  where
+    some-same : {A : Type 0} {a b : A} → Some a ≡ Some b → a ≡ b
+    some-same e = cc e
+
 module _ (pair : Pair) (users : List UserFrame) (t : Twin) (event : TwinEvent)
     (before after : Supply) (old turned : Held) (told : List Told) (x : TwinHappening)
     (given : Option UserFrame) (stands : StandsFor pair users old t)

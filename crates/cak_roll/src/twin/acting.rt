@@ -17,6 +17,7 @@ use super::Twin;
 use crate::event::{GroupNumber, TwinEvent};
 use crate::part::Part;
 use crate::side::Side;
+use lan_base::{Name, Sci};
 use lan_core::Event;
 
 impl Twin {
@@ -31,18 +32,8 @@ impl Twin {
                 name,
                 sci,
                 priority,
-            } => match group {
-                GroupNumber::First => Part::One(Event::Start {
-                    name: *name,
-                    sci: *sci,
-                    priority: *priority,
-                }),
-                GroupNumber::Second => Part::Nothing,
-            },
-            TwinEvent::Adopt { station } => match group {
-                GroupNumber::First => Part::Nothing,
-                GroupNumber::Second => self.adoption(*station),
-            },
+            } => start(group, *name, *sci, *priority),
+            TwinEvent::Adopt { station } => self.adoption(group, *station),
             TwinEvent::Leave { .. } => Part::Nothing,
             TwinEvent::Tick { station, group: of } => self.tick(group, *of, *station),
             TwinEvent::Deliver {
@@ -55,8 +46,20 @@ impl Twin {
         }
     }
 
+    /// What an adoption is in a group.
+    fn adoption(&self, group: GroupNumber, station: u8) -> Part
+        ensures { (pair : Pair) (users : List UserFrame) (t : TwinRun)
+            → StandsFor pair users self.now t
+            → events_of_part result ≡ events_in pair group t (twins.Adopt station) }
+    {
+        match group {
+            GroupNumber::First => Part::Nothing,
+            GroupNumber::Second => self.second_start(station),
+        }
+    }
+
     /// What an adoption is in the second group: a start, as that in the first.
-    fn adoption(&self, station: u8) -> Part
+    fn second_start(&self, station: u8) -> Part
         ensures { (pair : Pair) (users : List UserFrame) (t : TwinRun)
             → StandsFor pair users self.now t
             → events_of_part result ≡ events_in pair Second t (twins.Adopt station) }
@@ -77,13 +80,13 @@ impl Twin {
             → StandsFor pair users self.now t
             → events_of_part result ≡ events_in pair group t (twins.Tick station of) }
     {
-        if !of.is(group) {
-            return Part::Nothing;
+        if of.is(group) {
+            return Part::One(Event::Tick {
+                station: self.members.place(group, station),
+                next: self.next(group, station),
+            });
         }
-        Part::One(Event::Tick {
-            station: self.members.place(group, station),
-            next: self.next(group, station),
-        })
+        Part::Nothing
     }
 
     /// What a delivery in a group is in this one.
@@ -92,13 +95,13 @@ impl Twin {
             → StandsFor pair users self.now t
             → events_of_part result ≡ events_in pair group t (twins.Deliver of frame station) }
     {
-        if !of.is(group) {
-            return Part::Nothing;
+        if of.is(group) {
+            return Part::One(Event::Deliver {
+                frame,
+                station: self.members.place(group, station),
+            });
         }
-        Part::One(Event::Deliver {
-            frame,
-            station: self.members.place(group, station),
-        })
+        Part::Nothing
     }
 
     /// What a restart is in a group.
@@ -107,12 +110,12 @@ impl Twin {
             → StandsFor pair users self.now t
             → events_of_part result ≡ events_in pair group t (twins.Restart station) }
     {
-        if !self.takes_part(group, station) {
-            return Part::Nothing;
+        if self.takes_part(group, station) {
+            return Part::One(Event::Restart {
+                station: self.members.place(group, station),
+            });
         }
-        Part::One(Event::Restart {
-            station: self.members.place(group, station),
-        })
+        Part::Nothing
     }
 
     /// What a send is in a group: a claim, and its emission where it gets a packet number.
@@ -121,14 +124,11 @@ impl Twin {
             → StandsFor pair users self.now t
             → events_of_part result ≡ events_in pair group t (twins.Send station user) }
     {
-        if !self.carrier(station).is(group) {
-            return Part::Nothing;
+        if self.carrier(station).is(group) {
+            let place = self.members.place(group, station);
+            return sent(place, user, self.to_claim(group, station));
         }
-        sent(
-            self.members.place(group, station),
-            user,
-            self.to_claim(group, station),
-        )
+        Part::Nothing
     }
 
     /// The group that carries what a station sends.
@@ -137,12 +137,12 @@ impl Twin {
             → StandsFor pair users self.now t → result ≡ carrier pair station t }
     {
         if self.transmits(GroupNumber::Second, station) {
-            GroupNumber::Second
-        } else if self.takes_part(GroupNumber::First, station) {
-            GroupNumber::First
-        } else {
-            GroupNumber::Second
+            return GroupNumber::Second;
         }
+        if self.takes_part(GroupNumber::First, station) {
+            return GroupNumber::First;
+        }
+        GroupNumber::Second
     }
 
     /// Whether a key transmits at a station that takes part in a group.
@@ -150,7 +150,10 @@ impl Twin {
         ensures { (pair : Pair) (users : List UserFrame) (t : TwinRun)
             → StandsFor pair users self.now t → result ≡ transmits pair group station t }
     {
-        self.takes_part(group, station) && self.has_key(group, self.members.place(group, station))
+        if self.takes_part(group, station) {
+            return self.has_key(group, self.members.place(group, station));
+        }
+        false
     }
 
     /// Whether a key transmits at a place of a group.
@@ -192,6 +195,21 @@ impl Twin {
             GroupNumber::First => Some(&self.first),
             GroupNumber::Second => self.second.as_ref(),
         }
+    }
+}
+
+/// What a start is in a group.
+fn start(group: GroupNumber, name: Name, sci: Sci, priority: u8) -> Part
+    ensures { (pair : Pair) (t : TwinRun)
+        → events_of_part result ≡ events_in pair group t (twins.Start name sci priority) }
+{
+    match group {
+        GroupNumber::First => Part::One(Event::Start {
+            name,
+            sci,
+            priority,
+        }),
+        GroupNumber::Second => Part::Nothing,
     }
 }
 

@@ -36,4 +36,4 @@ returns-clause-turns g c pair users t event both suites first second one two dra
     in
     performs-by-two pair users t event before suites draws restarts.0 restarts.1 _ _ _ _ _
     c.in_ok-taken.ensures.next c.in_ok-taken.ensures.taken c.in_ok-taken.ensures.enough
-    (c.turn.ensures.turns pair users t event both suites first second one two)
+    (c.turn-2.ensures.turns pair users t event both suites first second one two)

@@ -2,6 +2,7 @@ use Rattle.std.proofs.Common.{Some, None, sym, subst}
 use Rattle.lan_core.specs.Standing.{AreDrawn}
 use Rattle.cak_roll.specs.Standing.{Held, IfThere}
 use Rattle.cak_roll.specs.inside.Parts.{events_of_part}
+use Rattle.cak_roll.specs.inside.Turns.{HappenThere}
 use Rattle.cak_roll.proofs.TurnGoes.{there-some, there-none}
 use Rattle.cak_roll.proofs.twin.Twin.run_second.Goals as goal
 
@@ -15,8 +16,12 @@ returns-in-Some-clause-happens g c settings users r both stands are ready =
 
 pub returns-in-None-clause-happens : goal.returns-in-None-clause-happens
 returns-in-None-clause-happens g c settings users r both stands are ready =
-    there-none settings users r both (events_of_part c.args.part.now) _ _ _ _
+    let before = g.D.Draws.nth c.args.draws.now in
+    subst (λ o. HappenThere settings users r both (events_of_part c.args.part.now) before before o
+    c.self.inside.drawn c.args.told.now c.args.told.now c.rests.result) (sym c.in-None.is)
+    (there-none settings users r both (events_of_part c.args.part.now) before c.self.inside.drawn
+    c.args.told.now c.rests.result
     (subst (IfThere settings users r both) c.in-None.is
     (subst (λ (h : Held). IfThere settings users r both h.second) (sym c.self.view_is) stands))
     (subst (λ (h : Held). AreDrawn settings.suite both h.drawn) (sym c.self.view_is) are)
-    c.rests.ensures.nothing c.rests.ensures.memory
+    c.rests.ensures.nothing c.rests.ensures.memory)

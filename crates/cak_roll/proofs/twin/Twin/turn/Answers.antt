@@ -24,13 +24,13 @@ returns-in_err-run_second-clause-turns g c pair users t event both suites first 
     let done = c.in_ok-run_first.ensures.happens pair.first users (run_of First t) (merged t)
     both.first both.drawn one in
     let next = second-starts pair users t event before between between suites
-    (events_of_part c.args.first.now) c.args.self.now c.run_first.new.self c.new.result
+    (events_of_part c.args.first.now) c.args.self.now c.run_first.new.self c.new-told.result
     c.run_first.new.told done.0 both c.in_ok-run_first.ensures.same done.1 in
     turn-refused (turn_stop pair users t event before) pair users t event before _ _ _ _
     c.from_residual-in_err-run_second.ensures.1
     (two-fails pair users t event before between between suites (events_of_part c.args.first.now)
     (events_of_part c.args.second.now) c.run_first.new.self.first c.run_first.new.self.drawn
-    c.new.result c.run_first.new.told done.0 _ first second done.1
+    c.new-told.result c.run_first.new.told done.0 _ first second done.1
     (c.in_err-run_second.ensures.happens pair.second users (run_of Second t) (done.0 ++ merged t)
     next.0 next.1 two))
 
@@ -42,13 +42,13 @@ returns-clause-turns g c pair users t event both suites first second one two =
     let done = c.in_ok-run_first.ensures.happens pair.first users (run_of First t) (merged t)
     both.first both.drawn one in
     let next = second-starts pair users t event before between after suites
-    (events_of_part c.args.first.now) c.args.self.now c.run_first.new.self c.new.result
+    (events_of_part c.args.first.now) c.args.self.now c.run_first.new.self c.new-told.result
     c.run_first.new.told done.0 both c.in_ok-run_first.ensures.same done.1 in
     let then-done = c.in_ok-run_second.ensures.happens pair.second users (run_of Second t)
     (done.0 ++ merged t) next.0 next.1 two in (
       in_groups event done.0 then-done.0,
       turned pair users t event before between after suites (events_of_part c.args.first.now)
-          (events_of_part c.args.second.now) c.run_first.new.self c.run_second.new.self c.new.result
-          c.run_first.new.told c.run_second.new.told done.0 then-done.0 first second c.new.ensures
+          (events_of_part c.args.second.now) c.run_first.new.self c.run_second.new.self c.new-told.result
+          c.run_first.new.told c.run_second.new.told done.0 then-done.0 first second c.new-told.ensures
           c.in_ok-run_second.ensures.same done.1 then-done.1,
     )
