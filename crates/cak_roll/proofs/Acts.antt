@@ -1,11 +1,9 @@
 -- What a twin knows of its groups: their next numbers, and whether a key transmits.
-use Rattle.std.proofs.Common.{◌≡◌, ◌&&◌, ℕ, Bool, true, false, List, [], ◌∷◌, cond, length}
-use Rattle.std.proofs.Common.{Option, Some, None, refl, sym, ap, ◌∙◌, subst}
+use Rattle.std.proofs.Common.{◌≡◌, ℕ, true, false, List, [], ◌∷◌}
+use Rattle.std.proofs.Common.{Option, Some, None, sym, ap, ◌∙◌, subst}
 use Rattle.std.specs.Prelude.{is_some, slice_get, option_map, option_to_list}
 use Rattle.lan_base.specs.declared.frame.UserFrame.{UserFrame}
-use Rattle.lan_core.specs.declared.settings.Settings.{Settings}
 use Rattle.lan_core.specs.declared.event.Event.TheVariants as events
-use Rattle.lan_core.specs.Run.{Run, stations}
 use Rattle.lan_core.specs.Lives.{life, transmitting_at}
 use Rattle.lan_core.specs.Unstopped.{next_under}
 use Rattle.cak_roll.specs.declared.event.GroupNumber.{GroupNumber}

@@ -1,21 +1,21 @@
 -- As long as nothing happened in the second group, its settings count for nothing.
-use Rattle.std.proofs.Common.{◌≡◌, ◌==◌, ◌<◌, ◌++◌, ℕ, zero, suc, Bool, true, false, List, [], ◌∷◌, cond, length}
-use Rattle.std.proofs.Common.{◌&&◌, map, Option, Some, None, refl, sym, ap, ◌∙◌, subst, arith}
+use Rattle.std.proofs.Common.{◌≡◌, ◌==◌, ◌++◌, ℕ, Bool, true, false, List, [], ◌∷◌, cond, length}
+use Rattle.std.proofs.Common.{◌&&◌, refl, sym, ap, ◌∙◌, subst, arith}
 use Rattle.std.specs.Prelude.{is_some, nat_lt, not}
 use Rattle.std.proofs.lemmas.Bool.{le-ltb}
 use Rattle.lan_base.specs.declared.frame.UserFrame.{UserFrame}
 use Rattle.lan_core.specs.declared.event.Event.{Event}
 use Rattle.lan_core.specs.declared.event.Event.TheVariants as events
 use Rattle.lan_core.specs.declared.settings.Settings.{Settings}
-use Rattle.lan_core.specs.Run.{Run, stations}
+use Rattle.lan_core.specs.Run.{stations}
 use Rattle.lan_core.specs.Lives.{transmitting_at}
 use Rattle.cak_roll.specs.declared.event.GroupNumber.{GroupNumber}
 use Rattle.cak_roll.specs.declared.event.GroupNumber.TheVariants.{First, Second}
 use Rattle.cak_roll.specs.declared.event.TwinEvent.{TwinEvent}
 use Rattle.cak_roll.specs.declared.event.TwinEvent.TheVariants as twins
-use Rattle.cak_roll.specs.Twin.{Pair, setting_of, Twin, TwinHappening, run_of, part_of, only, same_group}
-use Rattle.cak_roll.specs.Twin.{events_in, events_of, sent_as, takes_part, has_left, has_joined, place_in}
-use Rattle.cak_roll.specs.Twin.{transmits, carrier, next_in, claimed_in, AreSteps, IsPart, IsTwinStep}
+use Rattle.cak_roll.specs.Twin.{Pair, Twin, run_of, only, same_group}
+use Rattle.cak_roll.specs.Twin.{events_in, events_of, sent_as, takes_part, has_left, place_in}
+use Rattle.cak_roll.specs.Twin.{carrier, next_in, claimed_in, AreSteps, IsPart}
 use Rattle.cak_roll.specs.Twin.{IsTwinRun}
 
 none-below : (n : ℕ) → nat_lt n 0 ≡ false

@@ -1,18 +1,16 @@
 -- The members after an event are those of the twin run with it.
 use Rattle.std.proofs.Common.{◌≡◌, ◌≤◌, ◌==◌, ◌+◌, ◌++◌, cond, not, ◌&&◌, ◌||◌, ℕ, zero, suc, Bool, true, false, List, [], ◌∷◌, map, length}
-use Rattle.std.proofs.Common.{Option, Some, None, refl, sym, ap, ◌∙◌, subst, arith, append-nil}
-use Rattle.std.specs.Prelude.{slice_get, option_map, option_to_list}
+use Rattle.std.proofs.Common.{refl, sym, ap, ◌∙◌, subst, arith, append-nil}
+use Rattle.std.specs.Prelude.{slice_get, option_map}
 use Rattle.std.specs.List.{list_any}
 use Rattle.lan_base.specs.declared.frame.UserFrame.{UserFrame}
-use Rattle.lan_core.specs.Run.{Profile, stations}
+use Rattle.lan_core.specs.Run.{stations}
 use Rattle.cak_roll.specs.declared.event.GroupNumber.{GroupNumber}
 use Rattle.cak_roll.specs.declared.event.GroupNumber.TheVariants.{First, Second}
 use Rattle.cak_roll.specs.declared.event.TwinEvent.{TwinEvent}
 use Rattle.cak_roll.specs.declared.event.TwinEvent.TheVariants as twins
-use Rattle.cak_roll.specs.declared.members.Station.{Station}
-use Rattle.cak_roll.specs.declared.members.Leaver.{Leaver}
-use Rattle.cak_roll.specs.Twin.{Pair, setting_of, Twin, TwinHappening, run_of, adopters, adopted_by}
-use Rattle.cak_roll.specs.Twin.{place_among, is_leave, has_left, same_group, start_of, IsTwinStep, IsTwinRun}
+use Rattle.cak_roll.specs.Twin.{Pair, Twin, TwinHappening, run_of, adopters, adopted_by}
+use Rattle.cak_roll.specs.Twin.{place_among, is_leave, has_left, same_group, IsTwinStep, IsTwinRun}
 use Rattle.cak_roll.specs.Standing.{Members, AreMembers, profile_of, is_leaver}
 use Rattle.cak_roll.specs.inside.Following.{with_event}
 use Rattle.cak_roll.proofs.Twins.{twin-stepped}

@@ -1,26 +1,24 @@
 -- Both parts of an event are performed, with the draws of both before either.
-use Rattle.std.proofs.Common.{◌≡◌, ◌⊎◌, inl, inr, ◌+◌, ◌++◌, ◌<◌, ℕ, Bool, true, false, List, [], ◌∷◌, cond}
-use Rattle.std.proofs.Common.{Option, Some, None, Result, Ok, Err, IsErrAnd, refl, sym, ap, ◌∙◌, subst}
+use Rattle.std.proofs.Common.{◌≡◌, ◌⊎◌, inl, inr, ◌+◌, ◌<◌, ℕ, true, false, List, [], cond}
+use Rattle.std.proofs.Common.{Option, Some, Result, Ok, Err, IsErrAnd, refl, sym, ap, ◌∙◌, subst}
 use Rattle.lan_base.specs.declared.frame.UserFrame.{UserFrame}
 use Rattle.lan_core.specs.declared.event.Event.{Event}
 use Rattle.lan_core.specs.declared.stop.Stop.{Stop}
 use Rattle.lan_core.specs.declared.stop.Stop.TheVariants.{DrawsSpent}
 use Rattle.lan_core.specs.declared.stop.StepError.{StepError}
 use Rattle.lan_core.specs.declared.stop.StepError.TheVariants as errors
-use Rattle.lan_core.specs.Run.{Run}
 use Rattle.lan_core.specs.Stops.{is_spent}
 use Rattle.lan_core.specs.Unstopped.{AreDraws}
-use Rattle.lan_core.specs.Standing.{Numbers}
 use Rattle.lan_core.specs.Answers.{IsWhy}
 use Rattle.cak_roll.specs.declared.event.GroupNumber.TheVariants.{First, Second}
 use Rattle.cak_roll.specs.declared.event.TwinEvent.{TwinEvent}
 use Rattle.cak_roll.specs.declared.told.Told.{Told}
-use Rattle.cak_roll.specs.Twin.{Pair, Twin, TwinHappening, run_of, merged, events_in}
-use Rattle.cak_roll.specs.Stepping.{Supply, happening, twin_draws, twin_stop, first_stop_of}
+use Rattle.cak_roll.specs.Twin.{Pair, Twin, events_in}
+use Rattle.cak_roll.specs.Stepping.{Supply, twin_draws, twin_stop, first_stop_of}
 use Rattle.cak_roll.specs.Stepping.{second_stop_of}
 use Rattle.std.specs.Option.{option_or}
 use Rattle.cak_roll.specs.Standing.{Held}
-use Rattle.cak_roll.specs.inside.Turns.{turn_stop, TurnGoes, TurnsUnless, Turns, BothPerform}
+use Rattle.cak_roll.specs.inside.Turns.{turn_stop, TurnsUnless, Turns, BothPerform}
 use Rattle.cak_roll.proofs.TurnStops.{TakeInTime, turn-stops}
 use Rattle.cak_roll.proofs.Restarts.{IsRestart, two-draws, agree-happening, agree-turn}
 

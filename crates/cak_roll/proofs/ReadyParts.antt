@@ -1,6 +1,6 @@
 -- What an event of both groups is in one of them is ready to be performed there.
-use Rattle.std.proofs.Common.{◌≡◌, ◌⊎◌, inl, inr, ◌==◌, ℕ, Bool, true, false, List, [], ◌∷◌, cond}
-use Rattle.std.proofs.Common.{Option, Some, None, refl, sym, ap, ◌∙◌, subst}
+use Rattle.std.proofs.Common.{◌≡◌, inl, inr, ◌==◌, ℕ, Bool, true, false, List, [], ◌∷◌, cond}
+use Rattle.std.proofs.Common.{Option, Some, None, refl, sym, subst}
 use Rattle.std.specs.Prelude.{slice_get, option_map, option_to_list}
 use Rattle.lan_base.specs.declared.frame.UserFrame.{UserFrame}
 use Rattle.sak_exchange.specs.declared.held_key.Key.{Key}
@@ -18,12 +18,12 @@ use Rattle.cak_roll.specs.declared.event.TwinEvent.{TwinEvent}
 use Rattle.cak_roll.specs.declared.event.TwinEvent.TheVariants as twins
 use Rattle.cak_roll.specs.declared.part.Part.{Part}
 use Rattle.cak_roll.specs.declared.part.Part.TheVariants.{Nothing, One, Sent}
-use Rattle.cak_roll.specs.Twin.{Pair, Twin, setting_of, run_of, events_in, only, same_group, sent_as}
+use Rattle.cak_roll.specs.Twin.{Pair, Twin, setting_of, run_of, events_in, only, same_group}
 use Rattle.cak_roll.specs.Twin.{takes_part, place_in, next_in, claimed_in, carrier, start_of, IsTwinRun}
 use Rattle.cak_roll.specs.Unstopped.{IsTypedTwin}
 use Rattle.cak_roll.specs.Answers.{MayHappen, IsGiven}
 use Rattle.cak_roll.specs.Stepping.{Supply}
-use Rattle.cak_roll.specs.inside.Parts.{events_of_part, IsHomely, IsReadyEvent, IsReadyPart}
+use Rattle.cak_roll.specs.inside.Parts.{events_of_part, IsReadyEvent, IsReadyPart}
 use Rattle.cak_roll.proofs.PartSteps.{IsPlainly}
 use Rattle.cak_roll.proofs.PartsOn.{AreReady, nothing, single, sending}
 use Rattle.cak_roll.proofs.Ready.{ready}

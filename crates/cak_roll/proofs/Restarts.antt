@@ -1,6 +1,6 @@
 -- Where an event is one in both groups, it is a restart: each part takes one draw.
-use Rattle.std.proofs.Common.{◌≡◌, ◌⊎◌, inl, inr, ◌+◌, ◌-◌, ◌==◌, ◌++◌, ◌<◌, ℕ, zero, suc, Bool, true, false, List}
-use Rattle.std.proofs.Common.{[], ◌∷◌, cond, Option, Some, None, refl, sym, ap, ◌∙◌, subst, arith}
+use Rattle.std.proofs.Common.{◌≡◌, ◌+◌, ◌++◌, ◌<◌, ℕ, zero, suc, Bool, true, false, List}
+use Rattle.std.proofs.Common.{[], ◌∷◌, cond, Some, refl, ap, ◌∙◌, arith}
 use Rattle.std.proofs.Math.Path.{fun_ext}
 use Rattle.std.specs.Prelude.{is_none, option_map, option_and_then}
 use Rattle.std.specs.Option.{option_or}
@@ -8,10 +8,8 @@ use Rattle.lan_base.specs.declared.frame.UserFrame.{UserFrame}
 use Rattle.lan_core.specs.declared.event.Event.{Event}
 use Rattle.lan_core.specs.declared.event.Event.TheVariants as events
 use Rattle.lan_core.specs.declared.settings.Settings.{Settings}
-use Rattle.lan_core.specs.declared.stop.Stop.{Stop}
 use Rattle.lan_core.specs.declared.stop.Stop.TheVariants.{DrawsSpent}
-use Rattle.lan_core.specs.Run.{Run, Happening, happened}
-use Rattle.lan_core.specs.Stops.{draws_needed, is_spent}
+use Rattle.lan_core.specs.Run.{Run, happened}
 use Rattle.lan_core.proofs.Public.{needed-draws-count}
 use Rattle.cak_roll.specs.declared.event.GroupNumber.{GroupNumber}
 use Rattle.cak_roll.specs.declared.event.GroupNumber.TheVariants.{First, Second}
@@ -22,7 +20,7 @@ use Rattle.cak_roll.specs.Twin.{takes_part, place_in, next_in, claimed_in, carri
 use Rattle.cak_roll.specs.Stepping.{Supply, behind, shown, performed, draws_for, stop_after, part_stop}
 use Rattle.cak_roll.specs.Stepping.{first_draws, second_draws, twin_draws, first_part, second_part}
 use Rattle.cak_roll.specs.Stepping.{in_groups, happening}
-use Rattle.cak_roll.specs.inside.Sides.{unless_spent, events_stop}
+use Rattle.cak_roll.specs.inside.Sides.{events_stop}
 use Rattle.cak_roll.specs.inside.Turns.{turn_stop}
 
 -- one restart

@@ -1,42 +1,36 @@
 -- What an event of a group leaves among the events of both, and events one after the other.
-use Rattle.std.proofs.Common.{◌≡◌, ◌≤◌, ◌⊎◌, inl, inr, ◌+◌, ◌==◌, ◌++◌, ℕ, Bool, true, false, List, [], ◌∷◌}
-use Rattle.std.proofs.Common.{cond, zero, suc, get_or, length, replicate, append_assoc, append-nil, Result, Ok, Err, IsErrAnd}
+use Rattle.std.proofs.Common.{◌≡◌, ◌⊎◌, inl, inr, ◌+◌, ◌==◌, ◌++◌, ℕ, true, false, List, [], ◌∷◌}
+use Rattle.std.proofs.Common.{zero, suc, get_or, replicate, append_assoc, append-nil, Result, Ok, Err, IsErrAnd}
 use Rattle.std.proofs.Common.{Option, Some, None, refl, sym, ap, ◌∙◌, subst, arith}
 use Rattle.std.specs.Prelude.{is_some, option_map, option_and_then}
 use Rattle.std.specs.Option.{option_or}
 use Rattle.lan_base.specs.declared.address.Mi.{Mi}
 use Rattle.lan_base.specs.declared.frame.UserFrame.{UserFrame}
 use Rattle.lan_base.specs.declared.suite.Suite.{Suite}
-use Rattle.lan_base.specs.Suites.{sak_draws}
 use Rattle.aes_block.specs.declared.secret.Secret.{Secret}
 use Rattle.lan_core.specs.declared.event.Event.{Event}
 use Rattle.lan_core.specs.declared.event.Event.TheVariants as events
 use Rattle.lan_core.specs.declared.fact.Fact.{Fact}
 use Rattle.lan_core.specs.declared.settings.Settings.{Settings}
-use Rattle.lan_core.specs.declared.stop.Stop.{Stop}
-use Rattle.lan_core.specs.declared.stop.Stop.TheVariants.{DrawsSpent}
 use Rattle.lan_core.specs.declared.stop.StepError.{StepError}
 use Rattle.lan_core.specs.declared.stop.StepError.TheVariants as errors
 use Rattle.lan_core.specs.Run.{Run, Happening, happened}
-use Rattle.lan_core.specs.Ledgers.{emitted}
 use Rattle.lan_core.specs.Lives.{drawn_mi}
-use Rattle.lan_core.specs.Claims.{claimed, waiting}
+use Rattle.lan_core.specs.Claims.{waiting}
 use Rattle.lan_core.specs.Expected.{expected, drawn_from}
-use Rattle.lan_core.specs.Stops.{MayCome, draws_needed, is_spent, first_stop, draws_by, draws_in}
+use Rattle.lan_core.specs.Stops.{draws_needed, first_stop, draws_in}
 use Rattle.lan_core.specs.Stops.{sak_of_tick}
 use Rattle.lan_core.specs.Standing.{State, StandsFor, Numbers, AreDrawn}
-use Rattle.lan_core.specs.Noting.{MiIsNoted, SakIsNoted}
 use Rattle.lan_core.specs.Answers.{IsWhy}
 use Rattle.lan_core.proofs.Public.{mapped, mi-noted, tick-noted}
 use Rattle.next_numbers.proofs.Public.{waits-then}
-use Rattle.next_numbers.specs.Numbers.{TellNext, ShowsNext}
+use Rattle.next_numbers.specs.Numbers.{TellNext}
 use Rattle.cak_roll.specs.declared.event.GroupNumber.{GroupNumber}
 use Rattle.cak_roll.specs.declared.told.Told.{Told}
-use Rattle.cak_roll.specs.Stepping.{Supply, shown, performed, draws_for, stop_after, part_stop}
+use Rattle.cak_roll.specs.Stepping.{Supply, shown, performed, stop_after, part_stop}
 use Rattle.cak_roll.specs.Standing.{Side, StandsIn, AreTraced}
 use Rattle.cak_roll.specs.Answers.{told_of}
 use Rattle.cak_roll.specs.inside.Noting.{repeating, given_before, draws_of, IsNoted, IsOver, DrawsOne}
-use Rattle.cak_roll.specs.inside.Noting.{over_both}
 use Rattle.cak_roll.specs.inside.Parts.{IsHomely, IsReadyEvent}
 use Rattle.cak_roll.specs.inside.Sides.{unless_spent, event_stop, events_stop, EventGoes, Happens}
 use Rattle.cak_roll.specs.inside.Sides.{EventsGo, Happen}

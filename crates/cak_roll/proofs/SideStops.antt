@@ -1,6 +1,6 @@
 -- What stops an event of a group among the events of both, by what the group itself answers.
-use Rattle.std.proofs.Common.{◌≡◌, ◌⊎◌, inl, inr, ◌+◌, ◌-◌, ◌==◌, ℕ, Bool, true, false, List, [], ◌∷◌, cond}
-use Rattle.std.proofs.Common.{Option, Some, None, refl, sym, ap, ◌∙◌, subst}
+use Rattle.std.proofs.Common.{◌≡◌, inl, inr, ◌+◌, ◌-◌, ℕ, Bool, true, false, List, ◌∷◌, cond}
+use Rattle.std.proofs.Common.{Option, Some, None, refl, sym, ap, ◌∙◌}
 use Rattle.std.specs.Prelude.{slice_get, option_map, option_and_then}
 use Rattle.std.specs.Option.{option_or}
 use Rattle.lan_base.specs.declared.address.Mi.{Mi}
@@ -20,13 +20,13 @@ use Rattle.lan_core.specs.Expected.{expected, drawn_from}
 use Rattle.lan_core.specs.Stops.{draws_needed, is_spent, first_stop, stop_at, passed, stop_of_draw}
 use Rattle.lan_core.specs.Stops.{stop_of_forgery, draws_in, drawn_before, mi_number, sak_number}
 use Rattle.lan_core.specs.Stops.{sak_of_tick}
-use Rattle.lan_core.specs.Standing.{Numbers, AreDrawn, number_of_mi, number_of_sak}
-use Rattle.lan_core.proofs.Public.{mi-shown, sak-shown-by}
+use Rattle.lan_core.specs.Standing.{Numbers, AreDrawn, number_of_sak}
+use Rattle.lan_core.proofs.Public.{mi-shown}
 use Rattle.cak_roll.specs.Stepping.{Supply, shown, stop_after}
 use Rattle.cak_roll.specs.Standing.{AreTraced}
 use Rattle.cak_roll.specs.inside.Noting.{repeating, given_before, over_both, DrawsOne}
 use Rattle.cak_roll.specs.inside.Parts.{IsHomely}
-use Rattle.cak_roll.specs.inside.Sides.{unless_spent, event_stop}
+use Rattle.cak_roll.specs.inside.Sides.{event_stop}
 use Rattle.cak_roll.proofs.Traced.{traced-before}
 
 -- ---- what is drawn

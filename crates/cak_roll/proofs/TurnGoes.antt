@@ -1,11 +1,10 @@
 -- What both groups stand for once the part in the first and then that in the second were performed.
-use Rattle.std.proofs.Common.{◌≡◌, ◌+◌, ◌++◌, ℕ, Bool, true, false, List, [], ◌∷◌, cond, append-nil, Result, Ok, Err, OnOk, IfErr}
+use Rattle.std.proofs.Common.{◌≡◌, ◌+◌, ◌++◌, ℕ, Bool, true, false, List, [], cond, append-nil, Result, Ok, Err, OnOk, IfErr}
 use Rattle.std.proofs.Common.{Option, Some, None, refl, sym, ap, ◌∙◌, subst, arith}
 use Rattle.std.specs.Prelude.{option_map, option_and_then}
 use Rattle.std.specs.Option.{option_or}
 use Rattle.std.proofs.Math.Path.{fun_ext}
 use Rattle.lan_base.specs.declared.frame.UserFrame.{UserFrame}
-use Rattle.lan_base.specs.declared.suite.Suite.{Suite}
 use Rattle.lan_core.specs.declared.event.Event.{Event}
 use Rattle.lan_core.specs.declared.settings.Settings.{Settings}
 use Rattle.lan_core.specs.declared.stop.Stop.{Stop}
@@ -19,13 +18,13 @@ use Rattle.lan_core.specs.Answers.{IsWhy}
 use Rattle.cak_roll.specs.declared.event.GroupNumber.TheVariants.{First, Second}
 use Rattle.cak_roll.specs.declared.event.TwinEvent.{TwinEvent}
 use Rattle.cak_roll.specs.declared.told.Told.{Told}
-use Rattle.cak_roll.specs.Twin.{Pair, Twin, TwinHappening, run_of, merged, events_in}
+use Rattle.cak_roll.specs.Twin.{Pair, Twin, run_of, merged, events_in}
 use Rattle.cak_roll.specs.Stepping.{Supply, behind, performed, draws_for, part_stop}
-use Rattle.cak_roll.specs.Stepping.{first_draws, second_draws, twin_draws, first_part, second_part}
-use Rattle.cak_roll.specs.Stepping.{in_groups, happening}
+use Rattle.cak_roll.specs.Stepping.{first_draws, second_draws, first_part, second_part}
+use Rattle.cak_roll.specs.Stepping.{in_groups}
 use Rattle.cak_roll.specs.Standing.{Side, StandsIn, Held, IfThere, StandBoth, AreTraced}
-use Rattle.cak_roll.specs.Answers.{told_of, told_in}
-use Rattle.cak_roll.specs.inside.Sides.{unless_spent, events_stop, EventsGo, Happen}
+use Rattle.cak_roll.specs.Answers.{told_of}
+use Rattle.cak_roll.specs.inside.Sides.{events_stop, EventsGo, Happen}
 use Rattle.cak_roll.specs.inside.Turns.{turn_stop, ThereGo, HappenThere, TurnGoes}
 use Rattle.cak_roll.proofs.TurnStops.{traced-beside-part}
 

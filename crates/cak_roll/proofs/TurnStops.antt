@@ -1,6 +1,6 @@
 -- One after the other, parts of an event meet the stop that comes first where the draws of both come
 -- before: at most one of them draws, or the draws of both are there.
-use Rattle.std.proofs.Common.{◌≡◌, ◌⊎◌, inl, inr, ◌+◌, ◌-◌, ◌==◌, ◌++◌, ◌<◌, ℕ, zero, suc, Bool, true, false, List}
+use Rattle.std.proofs.Common.{◌≡◌, ◌⊎◌, inl, inr, ◌+◌, ◌-◌, ◌==◌, ◌++◌, ℕ, false, List}
 use Rattle.std.proofs.Common.{[], ◌∷◌, cond, Option, Some, None, refl, sym, ap, ◌∙◌, subst, arith}
 use Rattle.std.specs.Prelude.{is_none, option_map, option_and_then}
 use Rattle.std.specs.Option.{option_or}
@@ -19,8 +19,8 @@ use Rattle.cak_roll.specs.declared.event.GroupNumber.TheVariants.{First, Second}
 use Rattle.cak_roll.specs.declared.event.TwinEvent.{TwinEvent}
 use Rattle.cak_roll.specs.Twin.{Pair, Twin, run_of, merged, events_in}
 use Rattle.cak_roll.specs.Stepping.{Supply, behind, shown, performed, draws_for, stop_after, part_stop}
-use Rattle.cak_roll.specs.Stepping.{first_draws, second_draws, twin_draws, first_part, first_stop_of}
-use Rattle.cak_roll.specs.Stepping.{second_stop_of, twin_stop}
+use Rattle.cak_roll.specs.Stepping.{first_draws, second_draws, twin_draws, first_part}
+use Rattle.cak_roll.specs.Stepping.{twin_stop}
 use Rattle.cak_roll.specs.Standing.{AreTraced}
 use Rattle.cak_roll.specs.inside.Sides.{unless_spent, events_stop}
 use Rattle.cak_roll.specs.inside.Turns.{turn_stop}

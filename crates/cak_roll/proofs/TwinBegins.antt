@@ -1,10 +1,9 @@
 -- A twin to which nothing happened, and one that gets a second group.
 use Rattle.std.proofs.Common.{◌≡◌, ◌==◌, ◌||◌, ℕ, Bool, true, false, List, [], cond, length}
-use Rattle.std.proofs.Common.{Option, Some, None, refl, sym, ap, ◌∙◌, subst}
+use Rattle.std.proofs.Common.{Option, Some, None, refl, sym, subst}
 use Rattle.std.specs.Prelude.{nat_eq, nat_lt, is_some}
 use lib.Pointwise.{pointwise}
 use Rattle.lan_base.specs.Ranges.{most_ckn_octets}
-use Rattle.lan_base.specs.declared.address.Mi.{Mi}
 use Rattle.lan_base.specs.declared.frame.UserFrame.{UserFrame}
 use Rattle.lan_base.specs.declared.suite.Suite.{Suite}
 use Rattle.aes_block.specs.declared.secret.Secret.{Secret}
@@ -15,11 +14,11 @@ use Rattle.lan_core.specs.Ledgers.{births}
 use Rattle.lan_core.specs.Types.{IsSetting}
 use Rattle.lan_core.specs.Fresh.{IsFresh, drawn_saks}
 use Rattle.lan_core.specs.Stops.{draws_in, mi_number, sak_number}
-use Rattle.lan_core.specs.Standing.{Numbers, AreDrawn, number_of_mi, number_of_sak}
+use Rattle.lan_core.specs.Standing.{AreDrawn, number_of_sak}
 use Rattle.cak_roll.specs.declared.event.GroupNumber.{GroupNumber}
 use Rattle.cak_roll.specs.declared.event.GroupNumber.TheVariants.{First, Second}
-use Rattle.cak_roll.specs.Twin.{Pair, setting_of, Twin, run_of, merged, IsTwinRun}
-use Rattle.cak_roll.specs.Standing.{Side, StandsIn, Held, IfThere, StandBoth, AreMembers, IsSetUp}
+use Rattle.cak_roll.specs.Twin.{Pair, setting_of, Twin, run_of, merged}
+use Rattle.cak_roll.specs.Standing.{Side, StandsIn, Held, IfThere, AreMembers}
 use Rattle.cak_roll.specs.Standing.{StandsFor}
 use Rattle.cak_roll.specs.declared.fault.SecondFault.TheVariants.{CknLength, SameCkn, Twice}
 use Rattle.cak_roll.specs.Answers.{another, second_fault}

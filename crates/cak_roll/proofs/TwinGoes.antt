@@ -1,12 +1,10 @@
 -- What a twin stands for after an event that nothing stops.
-use Rattle.std.proofs.Common.{◌≡◌, List, [], ◌∷◌, ◌++◌, Option, Some, None, Result, Ok, Err}
-use Rattle.std.proofs.Common.{IsErrAnd, refl, sym, ap, ◌∙◌, subst}
-use Rattle.std.specs.Prelude.{option_map, option_and_then}
+use Rattle.std.proofs.Common.{◌≡◌, List, ◌∷◌, ◌++◌, Option, Some, Result, Ok, Err}
+use Rattle.std.proofs.Common.{IsErrAnd, sym, ap, ◌∙◌, subst}
+use Rattle.std.specs.Prelude.{option_map}
 use Rattle.lan_base.specs.declared.frame.UserFrame.{UserFrame}
 use Rattle.lan_core.specs.declared.stop.StepError.{StepError}
 use Rattle.lan_core.specs.Answers.{IsWhy}
-use Rattle.lan_core.specs.Run.{Run}
-use Rattle.lan_core.specs.Fresh.{IsFresh}
 use Rattle.lan_core.proofs.Public.{mapped, chained}
 use Rattle.cak_roll.specs.declared.event.GroupNumber.TheVariants.{First, Second}
 use Rattle.cak_roll.specs.declared.event.TwinEvent.{TwinEvent}
@@ -14,7 +12,7 @@ use Rattle.cak_roll.specs.declared.told.Told.{Told}
 use Rattle.cak_roll.specs.Twin.{Pair, Twin, TwinHappening, run_of, merged, IsTwinStep}
 use Rattle.cak_roll.specs.Stepping.{Supply, first_part, second_part, in_groups, happening, twin_stop}
 use Rattle.cak_roll.specs.Unstopped.{IsTypedTwin, IsUnstoppedTwin}
-use Rattle.cak_roll.specs.Standing.{Members, AreMembers, Held, StandBoth, StandsFor}
+use Rattle.cak_roll.specs.Standing.{AreMembers, Held, StandBoth, StandsFor}
 use Rattle.cak_roll.specs.Answers.{MayHappen, GoesOnWith, AnswersTwin}
 use Rattle.cak_roll.specs.inside.Turns.{TurnGoes}
 use Rattle.cak_roll.proofs.UnstoppedTwins.{twin-step, twin-fresh}

@@ -1,4 +1,3 @@
-use Rattle.cak_roll.specs.Standing.{AreMembers}
 use Rattle.cak_roll.proofs.MembersFollow.{none-are}
 use Rattle.cak_roll.proofs.members.Members.new.Goals as goal
 

@@ -1,8 +1,7 @@
-use Rattle.std.proofs.Common.{[], ◌∷◌, ◌++◌, sym, subst}
+use Rattle.std.proofs.Common.{[], ◌++◌, sym, subst}
 use Rattle.std.specs.Option.{option_copied}
 use Rattle.lan_core.specs.Answers.{IsWhy}
 use Rattle.lan_core.specs.Run.{Run}
-use Rattle.lan_core.specs.declared.event.Event.TheVariants as events
 use Rattle.cak_roll.specs.inside.Parts.{events_of_part, IsReadyPart}
 use Rattle.cak_roll.specs.inside.Sides.{EventsGo, Happen, events_stop}
 use Rattle.cak_roll.proofs.SideGoes.{sent-stops, sent-happens, emission-ready, nothing-happens}

@@ -1,8 +1,5 @@
-use Rattle.std.proofs.Common.{◌≡◌, ◌⊎◌, inl, inr, [], sym, subst, ◌∙◌}
-use Rattle.cak_roll.specs.declared.event.GroupNumber.TheVariants.{First, Second}
-use Rattle.cak_roll.specs.Twin.{events_in}
+use Rattle.std.proofs.Common.{inl, inr, ◌∙◌}
 use Rattle.cak_roll.specs.Stepping.{twin_stop}
-use Rattle.cak_roll.proofs.TurnStops.{TakeInTime}
 use Rattle.cak_roll.proofs.Performing.{performs-in-time, performs-by-two, spent-by-two, turn-refused}
 use Rattle.cak_roll.proofs.Performing.{alone-in-time}
 use Rattle.cak_roll.proofs.Restarts.{both-restart}

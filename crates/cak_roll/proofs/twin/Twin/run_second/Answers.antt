@@ -1,4 +1,4 @@
-use Rattle.std.proofs.Common.{Some, None, sym, subst}
+use Rattle.std.proofs.Common.{sym, subst}
 use Rattle.lan_core.specs.Standing.{AreDrawn}
 use Rattle.cak_roll.specs.Standing.{Held, IfThere}
 use Rattle.cak_roll.specs.inside.Parts.{events_of_part}

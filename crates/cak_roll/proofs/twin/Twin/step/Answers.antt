@@ -1,6 +1,5 @@
 use Rattle.std.proofs.Common.{Some, sym, ap, ◌∙◌, subst}
 use Rattle.std.specs.Prelude.{option_map}
-use Rattle.cak_roll.specs.Twin.{TwinHappening}
 use Rattle.cak_roll.specs.Standing.{StandsFor}
 use Rattle.cak_roll.specs.Answers.{told_in}
 use Rattle.cak_roll.proofs.TwinGoes.{one-happening}
