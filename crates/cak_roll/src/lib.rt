@@ -1,5 +1,5 @@
-//! From one connectivity association key to the next without a break: laws of runs of two groups in
-//! which the same stations take part.
+//! From one connectivity association key to the next without a break: two groups in which the same
+//! stations take part, stepped as one, and laws of their runs.
 #![tactic(auto)]
 
 mod event;
