@@ -97,7 +97,7 @@ pub record StandBoth (pair : Pair) (users : List UserFrame) (r s whole : Run) (h
   pub second : IfThere pair.second users s whole held.second
   pub drawn : AreDrawn pair.first.suite whole held.drawn
 
--- What is set up may be: the second group differs from the first in its CAK and CKN at most.
+-- what is set up may be, and both groups have one cipher suite
 pub record IsSetUp (pair : Pair) (held : Held) : Type 0 where
   pub first : held.settings ≡ pair.first
   pub suites : pair.second.suite ≡ pair.first.suite
