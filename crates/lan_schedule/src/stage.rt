@@ -1,7 +1,7 @@
 //! A group at work: the lines after the first station are performed on it.
 
 ghost use Rattle.std.specs.Prelude.{◌≡◌, ◌==◌, ◌≤◌, ◌+◌, ◌++◌, true, is_some, nat_eq, length, map};
-ghost use Rattle.std.specs.Prelude.{OnOk, IfOk, IfErr, List, false};
+ghost use Rattle.std.specs.Prelude.{OnOk, IfOk, IfErr, List, false, option_map};
 ghost use Rattle.std.specs.List.{position_or_len};
 ghost use Rattle.std.specs.Option.{option_copied};
 ghost use Rattle.std.specs.Cmp.Lexicographic.{pointwise};
@@ -23,6 +23,12 @@ ghost use Rattle.lan_schedule.specs.Answers.{halt_of};
 ghost use Rattle.lan_schedule.specs.Ends.{moment};
 ghost use Rattle.lan_schedule.specs.Stages.{StandsFor};
 ghost use Rattle.lan_schedule.specs.inside.Set.{most_claims};
+ghost use Rattle.lan_base.specs.declared.frame.UserFrame.{UserFrame};
+ghost use Rattle.lan_core.specs.declared.settings.Settings.{Settings};
+ghost use Rattle.lan_core.specs.Run.{Run};
+ghost use Rattle.lan_core.specs.Standing.{StandsFor as GroupStandsFor};
+ghost use Rattle.lan_schedule.specs.inside.Recording.{station_in, epoch_of, octets_put};
+ghost use Rattle.lan_schedule.specs.inside.Recording.{octets_in, KeepsStep, KeepTables};
 ghost use Rattle.lan_schedule.specs.inside.Staged.{Did, Happened, Changed, IsOpening};
 
 use crate::choices::Choices;
@@ -37,9 +43,11 @@ use fact_tally::Tally;
 use lan_base::{Mac, Name, Octets, Sci, UserFrame};
 use lan_core::{Event, Fact, Lan, StepError, Stop};
 use packet_claims::Gate;
+use race_merge::Step;
 use std::alloc::{AllocError, Global};
 use trace_text::Line;
 use transmit_words::{law_few_claims_spend_no_words, law_words_keep_a_run_thrifty};
+use worker_races::{law_an_event_tells_the_words, law_control_goes_on};
 
 /// The greatest count of claims before one more, from the first race on.
 const MAX_CLAIMS: u64 = 4_294_967_278;
@@ -64,6 +72,10 @@ pub struct Stage {
     pub raced: bool,
     /// How many facts there were of each kind.
     pub tally: Tally,
+    /// How many octets the frames of the air have.
+    pub octets: u64,
+    /// In the midst of a race, what control performed so far.
+    pub steps: Option<Vec<Step>>,
 }
 
 impl Stage {
@@ -90,6 +102,8 @@ impl Stage {
             words: Words::new(alloc),
             raced: false,
             tally: Tally::new(),
+            octets: 0,
+            steps: None,
         })
     }
 
@@ -110,6 +124,9 @@ impl Stage {
             (moment self.old outlet.old) (moment self.new outlet.new) result }
     {
         law_words_keep_a_run_thrifty();
+        law_an_event_tells_the_words();
+        law_control_goes_on();
+        let before = self.epoch(event);
         let facts = match self.lan.step(event, user, &mut self.draws) {
             Ok(facts) => facts,
             Err(StepError::Stopped(stop)) => return Err(halt_of(stop, self.line)),
@@ -119,9 +136,22 @@ impl Stage {
         self.words
             .follow(self.alloc, &self.lan, event, facts.as_slice(), gate)?;
         admit(&mut self.names, &mut self.scis, event)?;
+        put_octets(&mut self.octets, facts.as_slice())?;
+        let after = self.epoch(event);
+        keep(&mut self.steps, self.alloc, event, before, after)?;
         count_all(&mut self.tally, facts.as_slice());
         recorder.record(&self.names, facts, outlet)?;
         Ok(())
+    }
+
+    /// The epoch of the key that transmits at the station of an event.
+    fn epoch(&self, event: &Event) -> Option<u32>
+        ensures { (settings : Settings) (users : List UserFrame) (r : Run)
+            → GroupStandsFor settings users self.now.lan r
+            → result ≡ epoch_of settings r event.now }
+    {
+        let (_, epoch) = self.lan.transmitting(station_of(event)?)?;
+        Some(epoch)
     }
 
     // ---- user data
@@ -346,6 +376,7 @@ impl Stage {
     fn cut(&mut self, from: u8, to: u8) -> Result<(), AllocError>
         ensures ok { OnOk result (Changed (cut_in from to) self.old self.new) }
         ensures tally { self.new.tally ≡ self.old.tally }
+        ensures tables { KeepTables self.old.words self.new.words }
     {
         self.cuts.cut(from, to)?;
         Ok(())
@@ -445,8 +476,64 @@ fn admit(names: &mut Vec<Name>, scis: &mut Vec<Sci>, event: &Event) -> Result<()
     Ok(())
 }
 
+/// The station of an event; a start, a claim and an emission have none here.
+fn station_of(event: &Event) -> Option<u8>
+    ensures { result ≡ station_in event.now }
+{
+    match event {
+        Event::Tick { station, .. }
+        | Event::Deliver { station, .. }
+        | Event::Restart { station }
+        | Event::Inject { station, .. } => Some(*station),
+        Event::Start { .. } | Event::Claim { .. } | Event::Emit => None,
+    }
+}
+
+/// In the midst of a race an event is kept, with the epoch that transmitted at its station before it
+/// and the one that does now.
+fn keep(
+    steps: &mut Option<Vec<Step>>,
+    alloc: Global,
+    event: &Event,
+    before: Option<u32>,
+    after: Option<u32>,
+) -> Result<(), AllocError>
+    ensures { OnOk result (KeepsStep event.now before after
+        (option_map (λ steps. steps.items) steps.old)
+        (option_map (λ steps. steps.items) steps.new)) }
+{
+    let Some(steps) = steps else {
+        return Ok(());
+    };
+    steps.push(Step::of(alloc, event, before, after)?)?;
+    Ok(())
+}
+
+/// The octets of the frames that facts put on the air are counted. No trace has so many.
+fn put_octets(octets: &mut u64, facts: &[Fact]) -> Result<(), AllocError>
+    ensures { OnOk result (octets.new ≡ octets.old + octets_put facts.now) }
+{
+    for fact in facts {
+        let Some(sum) = octets.checked_add(octets_of(fact)) else {
+            return Err(AllocError);
+        };
+        *octets = sum;
+    }
+    Ok(())
+}
+
+/// The octets of the frame that a fact puts on the air, if there is one.
+fn octets_of(fact: &Fact) -> u64
+    ensures { result ≡ octets_in fact.now }
+{
+    match fact {
+        Fact::Framed { octets, .. } => octets.len() as u64,
+        _ => 0,
+    }
+}
+
 /// Facts are counted.
-fn count_all(tally: &mut Tally, facts: &[Fact])
+pub fn count_all(tally: &mut Tally, facts: &[Fact])
     ensures { (shown : List Fact) → tally.old ≡ counts shown
         → tally.new ≡ counts (shown ++ facts.now) }
 {

@@ -2,27 +2,32 @@
 
 use lan_schedule::{Halt, Recorder, Replay};
 use packet_claims::Gate;
+use std::thread::Threads;
 use text_lines::LineTaker;
 
-/// A replay with a recorder, which take lines together, at a gate.
+/// A replay with a recorder, which take lines together, at a gate; its races start threads.
 #[derive(Drop)]
-pub struct Player<'g, R, G> {
+pub struct Player<'g, T, R, G> {
+    pub rt: &'g T,
     pub replay: Replay,
     pub recorder: R,
     pub gate: &'g G,
 }
 
-impl<K, R: Recorder<K>, G: Gate> LineTaker<K> for Player<'_, R, G> {
+impl<T: Threads + Sync, K, R: Recorder<K>, G: Gate + Sync> LineTaker<K> for Player<'_, T, R, G> {
+    ghost use Rattle.std.specs.Thread.{IsSync};
     ghost use Rattle.replay.specs.inside.Playing.{DidLines};
     ghost use Rattle.lan_schedule.proofs.Public.{does-none, does-more, does-early};
 
     type Error = Halt;
 
+    ghost Asks = { IsSync T.row × IsSync G.row };
+
     ghost Did = { DidLines R.Took R.Broke (λ at. at.taker.replay) };
 
     fn line(&mut self, text: &[u8], outlet: &mut K) -> Result<(), Halt> {
         self.replay
-            .text(text, &mut self.recorder, outlet, self.gate)
+            .text(self.rt, text, &mut self.recorder, outlet, self.gate)
     }
 
     ghost none = { λ a. does-none _ };

@@ -22,6 +22,7 @@ use lan_schedule::{
 };
 use packet_claims::Gate;
 use std::alloc::Global;
+use std::thread::Threads;
 use text_lines::read_lines;
 
 /// The greatest count of octets of an input.
@@ -30,9 +31,11 @@ const MAX_INPUT: usize = 4_194_304;
 /// Reads a trace from a source to its end, and performs each line as soon as it has ended. Without
 /// `summary` it writes what each event shows before the next one happens; with it, nothing before
 /// the end, and then the line that says how many facts there were of each kind. A trace that ends
-/// inside a race is refused at the line behind its last. The gate is passed
-/// after each move of a station's current word.
-pub fn replay<S: Source, K: Sink, G: Gate>(
+/// inside a race is refused at the line behind its last. The workers
+/// of a race run on threads; the gate is passed at each of their steps, and after each move of a
+/// station's current word.
+pub fn replay<T: Threads + Sync, S: Source, K: Sink, G: Gate + Sync>(
+    rt: &T,
     alloc: Global,
     source: &mut S,
     sink: &mut K,
@@ -46,14 +49,15 @@ pub fn replay<S: Source, K: Sink, G: Gate>(
         (sunk (K.held sink.new) (K.faults sink.new)) result }
 {
     if summary {
-        summarize(alloc, source, sink, gate)
+        summarize(rt, alloc, source, sink, gate)
     } else {
-        transcribe(alloc, source, sink, gate)
+        transcribe(rt, alloc, source, sink, gate)
     }
 }
 
 /// Replays a trace for its transcript.
-fn transcribe<S: Source, K: Sink, G: Gate>(
+fn transcribe<T: Threads + Sync, S: Source, K: Sink, G: Gate + Sync>(
+    rt: &T,
     alloc: Global,
     source: &mut S,
     sink: &mut K,
@@ -68,6 +72,7 @@ fn transcribe<S: Source, K: Sink, G: Gate>(
     law_lines_leave_a_tidy_world();
     law_acts_stop_for_their_own_reasons();
     let mut player = Player {
+        rt,
         replay: Replay::new(alloc),
         recorder: Transcript::new(alloc),
         gate,
@@ -82,7 +87,8 @@ fn transcribe<S: Source, K: Sink, G: Gate>(
 }
 
 /// Replays a trace for its summary.
-fn summarize<S: Source, K: Sink, G: Gate>(
+fn summarize<T: Threads + Sync, S: Source, K: Sink, G: Gate + Sync>(
+    rt: &T,
     alloc: Global,
     source: &mut S,
     sink: &mut K,
@@ -97,6 +103,7 @@ fn summarize<S: Source, K: Sink, G: Gate>(
     law_lines_leave_a_tidy_world();
     law_acts_stop_for_their_own_reasons();
     let mut player = Player {
+        rt,
         replay: Replay::new(alloc),
         recorder: Unrecorded,
         gate,

@@ -38,6 +38,10 @@ impl<K: Sink> Recorder<K> for Transcript {
     ghost Broke = { λ old report new why. Fails (text_of report ∷ [])
         (sunk (K.held old) (K.faults old)) (sunk (K.held new) (K.faults new)) why };
 
+    fn prepare(&mut self, names: &[Name], facts: &[Fact]) -> Result<(), AllocError> {
+        render_all(facts, names, &mut self.out)
+    }
+
     fn record(&mut self, names: &[Name], facts: Facts, outlet: &mut K) -> Result<(), Broken> {
         render_all(facts.as_slice(), names, &mut self.out)?;
         write(self.out.as_slice(), outlet)

@@ -21,23 +21,19 @@ fn words(rt: &HostRuntime) -> Result<Vec<String>, AllocError> {
     Ok(words)
 }
 
-/// How the program ends.
-fn status(rt: &HostRuntime) -> Status {
-    match words(rt) {
+/// Ends with the status of the call, and tells on standard error why it is none of success.
+fn main(rt: HostRuntime) -> ExitCode {
+    let status = match words(&rt) {
         Ok(words) => rollover(
+            &rt,
             rt.alloc(),
             &words,
             &mut StdSource::new(rt.reader()),
-            &mut StdSink::new(io::writer(rt)),
+            &mut StdSink::new(io::writer(&rt)),
             &OpenGate,
         ),
         Err(_) => Status::Halted(Cause::Memory),
-    }
-}
-
-/// Ends with the status of the call, and tells on standard error why it is none of success.
-fn main(rt: HostRuntime) -> ExitCode {
-    let status = status(&rt);
+    };
     if status != Status::Done {
         // Where standard error fails too, the number is all that is left to tell.
         let _ = eprintln!(rt; "rollover: {status}");

@@ -1,0 +1,142 @@
+//! Threads that have to be at work at once, since a gate holds one until another has come.
+
+use crate::looking::count;
+use crate::performing::{STEADY, joined, passing};
+use crate::worked::{FIRST, GROUP, SECOND, SIX_ROUNDS, THIRD};
+use packet_claims::{Gate, Point};
+use rollover_program::Status;
+use std::sync::atomic::AtomicUsize;
+use std::sync::atomic::Ordering::SeqCst;
+use std::test::Fail;
+use std::thread;
+
+/// How often a thread looks for another before it gives up.
+const TURNS: u32 = 10_000_000;
+
+/// So many threads have come to a place.
+#[derive(Drop)]
+struct Come {
+    count: AtomicUsize,
+    late: AtomicUsize,
+}
+
+impl Come {
+    /// Nobody has come.
+    fn new() -> Self {
+        Come {
+            count: AtomicUsize::new(0),
+            late: AtomicUsize::new(0),
+        }
+    }
+
+    /// Another has come.
+    fn come(&self) {
+        self.count.fetch_add(1, SeqCst);
+    }
+
+    /// Waits until so many have come, for a bounded time; counts whom that was too short for.
+    fn wait_for(&self, wanted: usize) {
+        for _ in 0..TURNS {
+            if self.count.load(SeqCst) >= wanted {
+                return;
+            }
+            thread::yield_now();
+        }
+        self.late.fetch_add(1, SeqCst);
+    }
+
+    fn count(&self) -> usize {
+        self.count.load(SeqCst)
+    }
+
+    fn late(&self) -> usize {
+        self.late.load(SeqCst)
+    }
+}
+
+/// A gate that holds each worker until two have loaded.
+#[derive(Drop)]
+struct Pair {
+    loaded: Come,
+}
+
+impl Gate for Pair {
+    fn at(&self, point: Point) {
+        if matches!(point, Point::Loaded { .. }) {
+            self.loaded.come();
+            self.loaded.wait_for(2);
+        }
+    }
+}
+
+/// A gate that holds the worker until control has moved the first station's word a second time, and
+/// control there until the worker has loaded. It counts the moves, and the claims.
+#[derive(Drop)]
+struct Crossing {
+    moved: Come,
+    loaded: Come,
+    taken: Come,
+}
+
+impl Gate for Crossing {
+    fn at(&self, point: Point) {
+        match point {
+            Point::Loaded { .. } => {
+                self.loaded.come();
+                self.moved.wait_for(2);
+            }
+            Point::Pointed { station: 0 } => {
+                self.moved.come();
+                if self.moved.count() == 2 {
+                    self.loaded.wait_for(1);
+                }
+            }
+            Point::Taken { .. } => self.taken.come(),
+            _ => {}
+        }
+    }
+}
+
+/// Two workers are at work at once.
+#[test]
+fn two_workers_meet(rt: HostRuntime) -> Result<(), Fail> {
+    let alloc = rt.alloc();
+    let race = "race\nburst A 2 1000 ffffffffffff 88b50001\nwhile\nend\n";
+    let trace = joined(alloc, &[GROUP, FIRST, SECOND, SIX_ROUNDS, race])?;
+    let gate = Pair {
+        loaded: Come::new(),
+    };
+    let left = passing(&rt, alloc, &["run"], &trace, STEADY, &gate)?;
+    assert_eq!(rt; left.status, Status::Done);
+    assert_eq!(rt; gate.loaded.late(), 0);
+    assert_eq!(rt;
+        count(left.held.as_slice(), "claim A an 0 epoch 1 pn "),
+        1000
+    );
+    Ok(())
+}
+
+/// A worker is at work while control begins the next key: it loads the word that shows the earlier
+/// one, and adds once that is replaced.
+#[test]
+fn a_worker_meets_control(rt: HostRuntime) -> Result<(), Fail> {
+    let alloc = rt.alloc();
+    let race = "race\nburst A 1 10 ffffffffffff 88b50001\nwhile\nflow 36\nend\n";
+    let trace = joined(alloc, &[GROUP, FIRST, SECOND, SIX_ROUNDS, THIRD, race])?;
+    let gate = Crossing {
+        moved: Come::new(),
+        loaded: Come::new(),
+        taken: Come::new(),
+    };
+    let left = passing(&rt, alloc, &["run"], &trace, STEADY, &gate)?;
+    assert_eq!(rt; left.status, Status::Done);
+    assert_eq!(rt; gate.moved.late(), 0);
+    assert_eq!(rt; gate.loaded.late(), 0);
+    assert_eq!(rt; gate.taken.count(), 10);
+    assert_eq!(rt; count(left.held.as_slice(), "claim A an * epoch * pn "), 10);
+    assert_eq!(rt;
+        count(left.held.as_slice(), "claim A an 1 epoch 2 pn 10"),
+        1
+    );
+    Ok(())
+}
