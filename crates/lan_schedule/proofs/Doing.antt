@@ -54,14 +54,14 @@ pub going : (out : Course) (w : World) (P : World → Type 0) → out ≡ Goes w
 going out w P e h = subst (λ (o : Course). IsGoing o P) e h
 
 -- a span begins with its first
-span-next : (f : ℕ → Act) (i n : ℕ) → i < n
+pub span-next : (f : ℕ → Act) (i n : ℕ) → i < n
     → span f i (n - i) ≡ seq (f i) (span f (i + 1) (n - (i + 1)))
 span-next f i n lt =
     let e : n - i ≡ suc (n - (i + 1)) = omega arith in
     ap (λ (k : ℕ). span f i k) e ∙ ap (λ (k : ℕ). seq (f i) (span f k (n - (i + 1))))
     (sym (add-one i))
 
-span-done : (f : ℕ → Act) (i n : ℕ) → n ≤ i → span f i (n - i) ≡ nothing
+pub span-done : (f : ℕ → Act) (i n : ℕ) → n ≤ i → span f i (n - i) ≡ nothing
 span-done f i n le = let e : n - i ≡ 0 = omega arith in ap (λ (k : ℕ). span f i k) e
 
 drop-past : (xs : List ℕ) (i : ℕ) → length xs ≤ i → drop i xs ≡ []

@@ -30,6 +30,8 @@ use Rattle.worker_races.specs.Going.{WereTold}
 use Rattle.worker_races.proofs.Public.{carded-kept, looked-kept}
 use Rattle.lan_core.specs.Standing.{State, StandsFor as GroupStandsFor}
 use Rattle.lan_core.specs.Answers.{Answers, GoesOn}
+use Rattle.lan_core.specs.Batches.{IsChecked}
+use Rattle.rx_slots.specs.declared.arrival.Checked.{Checked}
 use Rattle.fact_tally.specs.Summary.{counts}
 use Rattle.lan_schedule.specs.declared.halt.Halt.{Halt}
 use Rattle.lan_schedule.specs.declared.halt.Halt.TheVariants as halts
@@ -42,13 +44,13 @@ use Rattle.lan_schedule.specs.Answers.{supply, taken_by, halt_of, answered, answ
 use Rattle.lan_schedule.specs.Acts.{happen, perform, Goes, shown, world_after}
 use Rattle.lan_schedule.specs.Sound.{IsTidy}
 use Rattle.lan_schedule.specs.Reports.{Report, reports}
-use Rattle.lan_schedule.specs.Ends.{Moment, Ends, halt_of_broken}
+use Rattle.lan_schedule.specs.Ends.{Moment, moment, IsReached, Ends, halt_of_broken}
 use Rattle.lan_schedule.specs.Numbers.{shown_next, number_shown, decided}
 use Rattle.lan_schedule.specs.Lines.{tick}
 use Rattle.lan_schedule.specs.inside.Comes.{Comes, named}
 use Rattle.lan_schedule.specs.inside.Set.{SaysAhead, AreSet, IsGiven}
 use Rattle.lan_schedule.specs.Stages.{Says, StandsWith, StandsFor, Counts}
-use Rattle.lan_schedule.specs.inside.Staged.{Did, Happened, IsSetSince}
+use Rattle.lan_schedule.specs.inside.Staged.{Did, DidWhere, Happened, IsSetSince, WentOn}
 use Rattle.lan_schedule.specs.inside.Recording.{Mark, StandsSince, LeavesAt, HasLooked, HasRecorded}
 use Rattle.lan_schedule.specs.inside.Recording.{HasStopped}
 use Rattle.lan_schedule.specs.inside.Recording.{KeepTables, KeepsStep, epoch_of, is_start, octets_put}
@@ -345,6 +347,14 @@ stop-leaves mark w line (stops.Limit which) stage has = has
 stop-leaves mark w line (stops.RepeatedDraw first second) stage has = has
 stop-leaves mark w line (stops.Forged station) stage has = has
 
+-- the group before a step, by what the step left of it
+abbrev pub before_step : Stage → Stage → Stage
+before_step earlier mid = record mid { lan = earlier.lan; draws = earlier.draws }
+
+step-back : (earlier mid : Stage) → mid ≡ record earlier { lan = mid.lan; draws = mid.draws }
+    → before_step earlier mid ≡ earlier
+step-back earlier mid same = ap (λ (s : Stage). before_step earlier s) same
+
 module _ {K : Type 0} (Took : K → Report → K → Type 0) (Broke : K → Report → K → Broken → Type 0)
   where
     -- the facts of an event were told, or the recorder broke at them
@@ -395,23 +405,45 @@ decided-here : {Tied : Bool → Bool → Settings → Run → List ControlAt →
 decided-here w event stage later stands =
     ap (λ (b : Bool). decided b event ++ later) stands.raced
 
+same-tables : (old new : List ControlAt) → new ≡ old → KeepTables old new
+same-tables old new words = subst (λ (cs : List ControlAt). KeepTables old cs) (sym words)
+    (λ s table at. at)
+
+-- an event that finds the words as they are
+plain-set : (event : Event) (mark : Mark) (w : World) (stage : Stage)
+    → ((raced racing : Bool) (settings : Settings) (run : Run) (cs : List ControlAt)
+    → Says raced racing settings run cs → AreSet event raced racing settings run cs)
+    → IsReached (StandsSince mark) w stage → IsReached (IsSetSince event mark) w stage
+plain-set event mark w stage set reached = record {
+  stands = record {
+    stands = stands-moved w stage stage (same-self stage) refl refl refl
+        (set w.kept.raced (is_racing w.kept.phase) (settings w) w.run stage.words
+        reached.stands.stands.words) reached.stands.stands.cards reached.stands.stands;
+    looked = looked-none mark w stage reached.stands;
+  };
+  tidy = reached.tidy;
+}
+
 module _ {K : Type 0} {Took : K → Report → K → Type 0} {Broke : K → Report → K → Broken → Type 0}
   where
-    -- the event happened, and its facts were told, or the recorder broke at them
-    pub event-did : (given : Option UserFrame) (event : Event) (facts : List Fact)
-        (old new : Moment Stage K) (why : Result (Unit {0}) Broken) → IsTyped event
-        → StepGoes given event old.value new.value (Ok facts)
+    -- what follows a step was done, and its facts were told, or the recorder broke at them
+    pub event-went : (event : Event) (facts : List Fact) (mid : Stage) (old new : Moment Stage K)
+        (why : Result (Unit {0}) Broken) → IsTyped event → mid.lan ≡ new.value.lan
+        → mid.draws ≡ new.value.draws
         → Keeps event facts old.value new.value → KeepsThrift → Beside
         → MatchResult why
         (λ _. Took old.outlet (record { names = new.value.names.items; facts = facts }) new.outlet)
         (λ y. Broke old.outlet (record { names = new.value.names.items; facts = facts }) new.outlet y)
-        → Happened Took Broke given event old new (handed why)
-    event-did given event facts old new why typed step keeps thrift laws wrote = record {
-      ends = λ mark w later left reached is comes.
+        → WentOn Took Broke event facts mid old new (handed why)
+    event-went event facts mid old new why typed lan draws keeps thrift laws wrote = record {
+      ends = λ mark w later left reached comes went.
           let stands = reached.stands.stands in
-          let goes = step (settings w) w.kept.users w.run stands.lan
-          (subst (λ (g : Option UserFrame). MayCome (settings w) w.kept.users w.run g event)
-          (sym is) comes.0) in
+          let goes : GoesOn (settings w) w.kept.users w.run event (supply_nth old.value.draws)
+          (supply_nth new.value.draws) new.value.lan facts =
+          subst (λ d. GoesOn (settings w) w.kept.users w.run event (supply_nth old.value.draws)
+          (supply_nth d) new.value.lan facts) draws
+          (subst (λ (lan : State). GoesOn (settings w) w.kept.users w.run event
+          (supply_nth old.value.draws) (supply_nth mid.draws) lan facts) lan went) in
           let told = told-by w event facts old.value new.value stands goes in
           let on = event-proceeds w event facts reached.tidy comes typed told.lan.setting told.stopless
           told.shows in
@@ -439,6 +471,90 @@ module _ {K : Type 0} {Took : K → Report → K → Type 0} {Broke : K → Repo
       tables = keeps.tables;
     }
 
+    -- what followed a step, by what the group was before it
+    pub from-earlier : (event : Event) (facts : List Fact) (mid earlier : Stage) (a : K)
+        (new : Moment Stage K) (r : Result (Unit {0}) Halt)
+        → mid ≡ record earlier { lan = mid.lan; draws = mid.draws }
+        → WentOn Took Broke event facts mid (moment (before_step earlier mid) a) new r
+        → WentOn Took Broke event facts mid (moment earlier a) new r
+    from-earlier event facts mid earlier a new r same went =
+        subst (λ (s : Stage). WentOn Took Broke event facts mid (moment s a) new r)
+        (step-back earlier mid same) went
+
+    -- memory was wanting behind a step, and nothing was told
+    pub went-wanting : (event : Event) (facts : List Fact) (mid : Stage) (old new : Moment Stage K)
+        → new.value.tally ≡ old.value.tally → new.outlet ≡ old.outlet
+        → KeepTables old.value.words new.value.words
+        → WentOn Took Broke event facts mid old new (Err halts.Memory)
+    went-wanting event facts mid old new tally same tables = record {
+      ends = λ mark w later left reached comes went. ends-memory Took Broke (StandsSince mark)
+          (LeavesAt mark) Counts (happen event) w later old.outlet new reached.tidy
+          (tally ∙ reached.stands.stands.tally) same;
+      tables = tables;
+    }
+
+    -- an error that `?` hands on behind a step is the error
+    pub went-err : (event : Event) (facts : List Fact) (mid : Stage) (old new : Moment Stage K)
+        (e : Halt) (r : Result (Unit {0}) Halt) → WentOn Took Broke event facts mid old new (Err e)
+        → IsErrAnd r (λ y. y ≡ e) → WentOn Took Broke event facts mid old new r
+    went-err event facts mid old new e r d is =
+        let p = err_from_is_err_and r is in
+        subst (λ (r : Result (Unit {0}) Halt). WentOn Took Broke event facts mid old new r)
+        (sym (p.1 ∙ ap (λ (y : Halt). Err y) p.2)) d
+
+    -- the event of a step happened
+    pub event-did : (given : Option UserFrame) (event : Event) (facts : List Fact) (mid : Stage)
+        (old new : Moment Stage K) (r : Result (Unit {0}) Halt)
+        → StepGoes given event old.value mid (Ok facts)
+        → WentOn Took Broke event facts mid old new r → Happened Took Broke given event old new r
+    event-did given event facts mid old new r step went = record {
+      ends = λ mark w later left reached is comes. went.ends mark w later left reached comes
+          (step (settings w) w.kept.users w.run reached.stands.stands.lan
+          (subst (λ (g : Option UserFrame). MayCome (settings w) w.kept.users w.run g event)
+          (sym is) comes.0));
+      tables = went.tables;
+    }
+
+    -- the group met a stop in a world
+    pub stopped-ends : (event : Event) (stop : Stop) (line : ℕ) (old new : Moment Stage K)
+        (mark : Mark) (w : World) (later : List Chance) → line ≡ old.value.line
+        → new.value.tally ≡ old.value.tally → new.outlet ≡ old.outlet
+        → new.value.words ≡ old.value.words → new.value.steps ≡ old.value.steps
+        → new.value.names ≡ old.value.names
+        → w.kept.chances ≡ decided old.value.raced event ++ later
+        → IsReached (IsSetSince event mark) w old.value
+        → first_stop (settings w) w.kept.users w.run event (supply_nth old.value.draws) ≡ Some stop
+        → Ends (StandsSince mark) (LeavesAt mark) Counts Took Broke w later (perform (happen event) w)
+        old.outlet new (Err (halt_of line stop))
+    stopped-ends event stop line old new mark w later is_line tally same words steps names left reached
+        first =
+        let stands = reached.stands.stands in
+        let at_line : line ≡ w.kept.line = is_line ∙ stands.line in
+        let met : answer w event ≡ Err (halt_of line stop) =
+        ap (λ (o : Option Stop). answered w event o)
+        (subst (λ (nth : ℕ → Option (List ℕ)).
+        first_stop (settings w) w.kept.users w.run event nth ≡ Some stop)
+        (same-supply w old.value stands) first)
+        ∙ ap (λ (n : ℕ). Err (halt_of n stop)) (sym at_line) in
+        inl (record {
+          world = w;
+          stops = ap (λ (a : Result (List Fact) Halt). shown w event a) met;
+          tidy = reached.tidy;
+          leaves = stop-leaves mark w line stop new.value (record {
+            counts = tally ∙ stands.tally;
+            looked = subst (λ (cs : List ControlAt). HasLooked mark w cs (steps_of new.value))
+                (sym words)
+                (subst (λ o. HasLooked mark w old.value.words (option_map (λ steps. steps.items) o))
+                (sym steps) reached.stands.looked);
+            names = ap (λ names. names.items) names ∙ stands.names;
+            steps = ap (λ o. is_some o) steps ∙ stands.steps;
+          });
+          told = told-none w w old.outlet new.outlet refl same;
+          left = ap (λ (c : List Chance). behind_numbers c) left
+              ∙ behind-decided old.value.raced event later;
+          same = refl;
+        })
+
     -- the group met a stop
     pub event-stopped : (given : Option UserFrame) (event : Event) (stop : Stop) (line : ℕ)
         (old new : Moment Stage K)
@@ -448,38 +564,52 @@ module _ {K : Type 0} {Took : K → Report → K → Type 0} {Broke : K → Repo
         → new.value.names ≡ old.value.names
         → Happened Took Broke given event old new (Err (halt_of line stop))
     event-stopped given event stop line old new step is_line tally same words steps names = record {
-      ends = λ mark w later left reached is comes.
-          let stands = reached.stands.stands in
-          let first = step (settings w) w.kept.users w.run stands.lan
+      ends = λ mark w later left reached is comes. stopped-ends event stop line old new mark w later
+          is_line tally same words steps names left reached
+          (step (settings w) w.kept.users w.run reached.stands.stands.lan
           (subst (λ (g : Option UserFrame). MayCome (settings w) w.kept.users w.run g event)
-          (sym is) comes.0) in
-          let at_line : line ≡ w.kept.line = is_line ∙ stands.line in
-          let met : answer w event ≡ Err (halt_of line stop) =
-          ap (λ (o : Option Stop). answered w event o)
-          (subst (λ (nth : ℕ → Option (List ℕ)).
-          first_stop (settings w) w.kept.users w.run event nth ≡ Some stop)
-          (same-supply w old.value stands) first)
-          ∙ ap (λ (n : ℕ). Err (halt_of n stop)) (sym at_line) in
-          inl (record {
-            world = w;
-            stops = ap (λ (a : Result (List Fact) Halt). shown w event a) met;
-            tidy = reached.tidy;
-            leaves = stop-leaves mark w line stop new.value (record {
-              counts = tally ∙ stands.tally;
-              looked = subst (λ (cs : List ControlAt). HasLooked mark w cs (steps_of new.value))
-                  (sym words)
-                  (subst (λ o. HasLooked mark w old.value.words (option_map (λ steps. steps.items) o))
-                  (sym steps) reached.stands.looked);
-              names = ap (λ names. names.items) names ∙ stands.names;
-              steps = ap (λ o. is_some o) steps ∙ stands.steps;
-            });
-            told = told-none w w old.outlet new.outlet refl same;
-            left = ap (λ (c : List Chance). behind_numbers c) left
-                ∙ behind-decided old.value.raced event later;
-            same = refl;
-          });
-      tables = subst (λ (cs : List ControlAt). KeepTables old.value.words cs) (sym words)
-          (λ s table at. at);
+          (sym is) comes.0));
+      tables = same-tables old.value.words new.value.words words;
+    }
+
+    -- a frame was admitted that its station had checked
+    pub admit-did : (n s : ℕ) (a : Checked) (facts : List Fact) (mid : Stage)
+        (old new : Moment Stage K) (r : Result (Unit {0}) Halt)
+        → ((settings : Settings) (users : List UserFrame) (r : Run)
+        → GroupStandsFor settings users old.value.lan r → IsChecked r n s a
+        → Answers settings users r (events.Deliver n s) (supply_nth old.value.draws)
+        (supply_nth mid.draws) mid.lan (Ok facts))
+        → WentOn Took Broke (events.Deliver n s) facts mid old new r
+        → DidWhere (λ w. IsChecked w.run n s a) Took Broke (happen (events.Deliver n s)) old new r
+    admit-did n s a facts mid old new r goes went = record {
+      chances = decided old.value.raced (events.Deliver n s);
+      ends = λ mark w later is reached checked comes. went.ends mark w later is
+          (plain-set (events.Deliver n s) mark w old.value (λ raced racing settings run cs says. says)
+          reached) comes
+          (goes (settings w) w.kept.users w.run reached.stands.stands.lan checked);
+      tables = went.tables;
+    }
+
+    -- the group met a stop at it
+    pub admit-stopped : (n s : ℕ) (a : Checked) (stop : Stop) (line : ℕ) (old new : Moment Stage K)
+        → ((settings : Settings) (users : List UserFrame) (r : Run)
+        → GroupStandsFor settings users old.value.lan r → IsChecked r n s a
+        → first_stop settings users r (events.Deliver n s) (supply_nth old.value.draws) ≡ Some stop)
+        → line ≡ old.value.line
+        → new.value.tally ≡ old.value.tally → new.outlet ≡ old.outlet
+        → new.value.words ≡ old.value.words → new.value.steps ≡ old.value.steps
+        → new.value.names ≡ old.value.names
+        → DidWhere (λ w. IsChecked w.run n s a) Took Broke (happen (events.Deliver n s)) old new
+        (Err (halt_of line stop))
+    admit-stopped n s a stop line old new first is_line tally same words steps names = record {
+      chances = decided old.value.raced (events.Deliver n s);
+      ends = λ mark w later is reached checked comes.
+          stopped-ends (events.Deliver n s) stop line old new mark w later is_line tally same words
+          steps names is
+          (plain-set (events.Deliver n s) mark w old.value (λ raced racing settings run cs says. says)
+          reached)
+          (first (settings w) w.kept.users w.run reached.stands.stands.lan checked);
+      tables = same-tables old.value.words new.value.words words;
     }
 
     -- an event that names no user frame, and finds the words as they are
@@ -490,15 +620,8 @@ module _ {K : Type 0} {Took : K → Report → K → Type 0} {Broke : K → Repo
         → Happened Took Broke None event old new r → Did Took Broke (happen event) old new r
     plainly event old new r none set h = record {
       chances = decided old.value.raced event;
-      ends = λ mark w later is reached comes. h.ends mark w later is (record {
-        stands = record {
-          stands = stands-moved w old.value old.value (same-self old.value) refl refl refl
-              (set w.kept.raced (is_racing w.kept.phase) (settings w) w.run old.value.words
-              reached.stands.stands.words) reached.stands.stands.cards reached.stands.stands;
-          looked = looked-none mark w old.value reached.stands;
-        };
-        tidy = reached.tidy;
-      }) (none w) comes;
+      ends = λ mark w later is reached comes. h.ends mark w later is
+          (plain-set event mark w old.value set reached) (none w) comes;
       tables = h.tables;
     }
 

@@ -29,6 +29,7 @@ mod RaceRuns
 mod Exceeding
 mod Doing
 mod Flowing
+mod Batching
 mod Placing
 mod Looking
 mod Coming

@@ -244,7 +244,7 @@ impl Replay {
             if self.phase.takes(line) {
                 return self.phase.take(stage, line);
             }
-            return stage.command(line, recorder, outlet, gate);
+            return stage.command(rt, line, recorder, outlet, gate);
         }
         if let Some(kind) = refusal(&self.chosen, line) {
             return Err(Halt::Trace {

@@ -2,6 +2,7 @@
 //! show is told to a recorder, that of each before the next one happens.
 #![tactic(auto)]
 
+mod batches;
 mod choices;
 mod commands;
 mod frames;

@@ -29,7 +29,10 @@ ghost use Rattle.lan_core.specs.Run.{Run};
 ghost use Rattle.lan_core.specs.Standing.{StandsFor as GroupStandsFor};
 ghost use Rattle.lan_schedule.specs.inside.Recording.{station_in, epoch_of, octets_put};
 ghost use Rattle.lan_schedule.specs.inside.Recording.{octets_in, KeepsStep, KeepTables};
-ghost use Rattle.lan_schedule.specs.inside.Staged.{Did, Happened, Changed, IsOpening};
+ghost use Rattle.lan_schedule.specs.declared.stage.Stage.{Stage};
+ghost use Rattle.lan_core.specs.Batches.{IsChecked};
+ghost use Rattle.lan_schedule.specs.inside.Staged.{Did, DidWhere, Happened, HasStepped, WentOn};
+ghost use Rattle.lan_schedule.specs.inside.Staged.{Changed, IsOpening};
 
 use crate::choices::Choices;
 use crate::frames::Frames;
@@ -41,10 +44,12 @@ use crate::supply::Supply;
 use crate::words::Words;
 use fact_tally::Tally;
 use lan_base::{Mac, Name, Octets, Sci, UserFrame};
-use lan_core::{Event, Fact, Lan, StepError, Stop};
+use lan_core::{Event, Fact, Facts, Lan, StepError, Stop};
 use packet_claims::Gate;
 use race_merge::Step;
+use rx_slots::Checked;
 use std::alloc::{AllocError, Global};
+use std::thread::Threads;
 use trace_text::Line;
 use transmit_words::{law_few_claims_spend_no_words, law_words_keep_a_run_thrifty};
 use worker_races::{law_an_event_tells_the_words, law_control_goes_on};
@@ -123,15 +128,58 @@ impl Stage {
         ensures { Happened R.Took R.Broke (option_copied user.entry) event.now
             (moment self.old outlet.old) (moment self.new outlet.new) result }
     {
-        law_words_keep_a_run_thrifty();
-        law_an_event_tells_the_words();
-        law_control_goes_on();
         let before = self.epoch(event);
         let facts = match self.lan.step(event, user, &mut self.draws) {
             Ok(facts) => facts,
             Err(StepError::Stopped(stop)) => return Err(halt_of(stop, self.line)),
             Err(StepError::Memory) => return Err(Halt::Memory),
         };
+        self.go_on(event, before, facts, recorder, outlet, gate)
+    }
+
+    /// A protected frame reaches a station that checked it, and what it shows is counted and told.
+    pub fn admit<K, R: Recorder<K>, G: Gate>(
+        &mut self,
+        frame: u32,
+        station: u8,
+        checked: Checked,
+        recorder: &mut R,
+        outlet: &mut K,
+        gate: &G,
+    ) -> Result<(), Halt>
+        ensures { DidWhere (λ w. IsChecked w.run frame station checked) R.Took R.Broke
+            (happen (events.Deliver frame station))
+            (moment self.old outlet.old) (moment self.new outlet.new) result }
+    {
+        let deliver = Event::Deliver { frame, station };
+        let before = self.epoch(&deliver);
+        let facts = match self.lan.admit(station, frame, checked) {
+            Ok(facts) => facts,
+            Err(StepError::Stopped(stop)) => return Err(halt_of(stop, self.line)),
+            Err(StepError::Memory) => return Err(Halt::Memory),
+        };
+        self.go_on(&deliver, before, facts, recorder, outlet, gate)
+    }
+
+    /// An event happened to the group: the rest follows it, and what it showed is counted and told.
+    /// The epoch is that of before.
+    fn go_on<K, R: Recorder<K>, G: Gate>(
+        &mut self,
+        event: &Event,
+        before: Option<u32>,
+        facts: Facts,
+        recorder: &mut R,
+        outlet: &mut K,
+        gate: &G,
+    ) -> Result<(), Halt>
+        requires { IsTyped event.now }
+        ensures { (earlier : Stage) → HasStepped event.now before earlier self.old
+            → WentOn R.Took R.Broke event.now facts self.old (moment earlier outlet.old)
+            (moment self.new outlet.new) result }
+    {
+        law_words_keep_a_run_thrifty();
+        law_an_event_tells_the_words();
+        law_control_goes_on();
         self.frames.put(facts.as_slice())?;
         self.words
             .follow(self.alloc, &self.lan, event, facts.as_slice(), gate)?;
@@ -230,8 +278,9 @@ impl Stage {
     // ---- lines
 
     /// Performs a line outside a race, which begins none.
-    pub fn command<K, R: Recorder<K>, G: Gate>(
+    pub fn command<T: Threads + Sync, K, R: Recorder<K>, G: Gate>(
         &mut self,
+        rt: &T,
         line: &Line,
         recorder: &mut R,
         outlet: &mut K,
@@ -247,6 +296,17 @@ impl Stage {
                 line: self.line,
                 kind,
             });
+        }
+        if let Line::Feed { first, last, name } = line {
+            return self.feed_in_batches(
+                rt,
+                *first,
+                *last,
+                self.place(name),
+                recorder,
+                outlet,
+                gate,
+            );
         }
         self.perform(line, recorder, outlet, gate)
     }

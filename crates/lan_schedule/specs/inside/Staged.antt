@@ -2,6 +2,11 @@
 use Rattle.std.specs.Prelude.{◌≡◌, ℕ, true, List, [], ◌++◌, Option, Result}
 use Rattle.lan_base.specs.declared.frame.UserFrame.{UserFrame}
 use Rattle.lan_core.specs.declared.event.Event.{Event}
+use Rattle.lan_core.specs.declared.fact.Fact.{Fact}
+use Rattle.lan_core.specs.declared.settings.Settings.{Settings}
+use Rattle.lan_core.specs.Run.{Run}
+use Rattle.lan_core.specs.Answers.{GoesOn}
+use Rattle.lan_core.specs.Standing.{StandsFor as GroupStandsFor}
 use Rattle.lan_schedule.specs.declared.choices.Choices.{Choices}
 use Rattle.lan_schedule.specs.declared.halt.Halt.{Halt}
 use Rattle.lan_schedule.specs.declared.recorder.Broken.{Broken}
@@ -9,13 +14,14 @@ use Rattle.lan_schedule.specs.declared.stage.Stage.{Stage}
 use Rattle.lan_schedule.specs.Races.{Chance}
 use Rattle.lan_schedule.specs.World.{World, Kept, nothing_kept, settings}
 use Rattle.lan_schedule.specs.Numbers.{decided}
+use Rattle.lan_schedule.specs.Supply.{supply_nth}
 use Rattle.lan_schedule.specs.Acts.{Act, happen, perform}
 use Rattle.lan_schedule.specs.Reports.{Report}
 use Rattle.lan_schedule.specs.Ends.{Moment, IsReached, Ends}
 use Rattle.lan_schedule.specs.Stages.{StandsWith, StandsFor, Counts}
 use Rattle.lan_schedule.specs.inside.Comes.{Comes, named}
 use Rattle.lan_schedule.specs.inside.Recording.{Mark, StandsSince, LeavesAt, HasLooked, KeepTables}
-use Rattle.lan_schedule.specs.inside.Recording.{steps_of}
+use Rattle.lan_schedule.specs.inside.Recording.{epoch_of, steps_of}
 use Rattle.lan_schedule.specs.inside.Set.{AreSet}
 
 -- A call did an act, in each world for which the group may stand, in which the act can be performed,
@@ -27,6 +33,17 @@ pub record Did {K : Type 0} (Took : K → Report → K → Type 0)
   pub chances : List Chance
   pub ends : (mark : Mark) (w : World) (later : List Chance) → w.kept.chances ≡ chances ++ later
       → IsReached (StandsSince mark) w old.value → Comes act w
+      → Ends (StandsSince mark) (LeavesAt mark) Counts Took Broke w later (perform act w) old.outlet
+      new result
+  pub tables : KeepTables old.value.words new.value.words
+
+-- the same in the worlds of which this holds
+pub record DidWhere {K : Type 0} (Holds : World → Type 0) (Took : K → Report → K → Type 0)
+    (Broke : K → Report → K → Broken → Type 0) (act : Act) (old new : Moment Stage K)
+    (result : Result (Unit {0}) Halt) : Type 0 where
+  pub chances : List Chance
+  pub ends : (mark : Mark) (w : World) (later : List Chance) → w.kept.chances ≡ chances ++ later
+      → IsReached (StandsSince mark) w old.value → Holds w → Comes act w
       → Ends (StandsSince mark) (LeavesAt mark) Counts Took Broke w later (perform act w) old.outlet
       new result
   pub tables : KeepTables old.value.words new.value.words
@@ -45,6 +62,26 @@ pub record Happened {K : Type 0} (Took : K → Report → K → Type 0)
       → w.kept.chances ≡ decided old.value.raced event ++ later
       → IsReached (IsSetSince event mark) w old.value → given ≡ named w event
       → Comes (happen event) w
+      → Ends (StandsSince mark) (LeavesAt mark) Counts Took Broke w later (perform (happen event) w)
+      old.outlet new result
+  pub tables : KeepTables old.value.words new.value.words
+
+-- The group made a step, and nothing beside it changed yet. The epoch is that of the key that
+-- transmitted before at the station of the event.
+pub record HasStepped (event : Event) (before : Option ℕ) (old mid : Stage) : Type 0 where
+  pub same : mid ≡ record old { lan = mid.lan; draws = mid.draws }
+  pub epoch : (settings : Settings) (users : List UserFrame) (r : Run)
+      → GroupStandsFor settings users old.lan r → before ≡ epoch_of settings r event
+
+-- what follows such a step was done, in the worlds in which the group went on with these facts
+pub record WentOn {K : Type 0} (Took : K → Report → K → Type 0)
+    (Broke : K → Report → K → Broken → Type 0) (event : Event) (facts : List Fact) (mid : Stage)
+    (old new : Moment Stage K) (result : Result (Unit {0}) Halt) : Type 0 where
+  pub ends : (mark : Mark) (w : World) (later : List Chance)
+      → w.kept.chances ≡ decided old.value.raced event ++ later
+      → IsReached (IsSetSince event mark) w old.value → Comes (happen event) w
+      → GoesOn (settings w) w.kept.users w.run event (supply_nth old.value.draws)
+      (supply_nth mid.draws) mid.lan facts
       → Ends (StandsSince mark) (LeavesAt mark) Counts Took Broke w later (perform (happen event) w)
       old.outlet new result
   pub tables : KeepTables old.value.words new.value.words
