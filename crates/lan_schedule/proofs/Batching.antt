@@ -1,6 +1,6 @@
 -- Frames next to each other reach a station, which checked them in batches.
 use Rattle.std.proofs.Common.{◌≡◌, ℕ, ◌+◌, ◌-◌, ◌<◌, ◌≤◌, List, [], ◌∷◌, ◌++◌, sym, subst, refl}
-use Rattle.std.proofs.Common.{length, ap, ◌∙◌, true, arith}
+use Rattle.std.proofs.Common.{length, ap, true, arith}
 use Rattle.std.specs.Prelude.{Result, Ok, Err, Option, Some, None, IfSome, map, option_map, slice_get}
 use Rattle.std.specs.Result.{IsErrAnd}
 use Rattle.lan_base.specs.declared.frame.UserFrame.{UserFrame}

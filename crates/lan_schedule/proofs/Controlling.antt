@@ -11,7 +11,7 @@ use Rattle.lan_schedule.specs.declared.recorder.Broken.{Broken}
 use Rattle.lan_schedule.specs.declared.stage.Stage.{Stage}
 use Rattle.trace_text.specs.declared.line.Line.{Line}
 use Rattle.lan_schedule.specs.Races.{Numbered, Chance, behind_numbers}
-use Rattle.lan_schedule.specs.World.{World, Kept, Flow}
+use Rattle.lan_schedule.specs.World.{World, Flow}
 use Rattle.lan_schedule.specs.Acts.{Act, Stops, each, look, perform}
 use Rattle.lan_schedule.specs.Kinds.{is_control, wrong_frame}
 use Rattle.trace_text.specs.declared.line.Line.TheVariants as lines

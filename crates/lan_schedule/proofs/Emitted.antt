@@ -12,8 +12,8 @@ use Rattle.lan_core.specs.declared.settings.Settings.{Settings}
 use Rattle.lan_core.specs.declared.stop.Stop.{Stop}
 use Rattle.lan_core.specs.Claims.{Waiting, claimed, frame_of_claim, waiting}
 use Rattle.lan_core.specs.Expected.{Drawn, drawn_from, emit_facts, expected}
-use Rattle.lan_core.specs.Ledgers.{Frame, air, emitted, framed, gather, with_one}
-use Rattle.lan_core.specs.Run.{Happening, Run, happened, stations}
+use Rattle.lan_core.specs.Ledgers.{Frame, air, emitted, framed, with_one}
+use Rattle.lan_core.specs.Run.{Run, happened, stations}
 use Rattle.lan_core.specs.Stops.{first_stop}
 use Rattle.lan_schedule.specs.declared.halt.Halt.{Halt}
 use Rattle.lan_schedule.specs.World.{World, is_racing, names_of, settings}

@@ -1,19 +1,19 @@
 -- Which limit bursts would pass first.
 use Rattle.std.proofs.Common.{◌≡◌, ◌<◌, ◌≤◌, ℕ, zero, suc, ◌+◌, ◌-◌, Bool, true, false, List, [], ◌∷◌, length, Some, None}
 use Rattle.std.proofs.Common.{refl, sym, ap, ◌∙◌, inl, inr, arith, drop, get_or, drop-cons, add-one}
-use Rattle.std.specs.Prelude.{Option, option_map, not, nat_lt, if◌then◌else◌, map, sum}
+use Rattle.std.specs.Prelude.{option_map, not, nat_lt, map, sum}
 use Rattle.std.proofs.lemmas.Bool.{cases_Bool}
 use Rattle.std.proofs.lemmas.List.{length-map}
 use Rattle.std.proofs.lemmas.List.Sums.{sum-map, sum_by-cons}
 use Rattle.data_workers.specs.Workers.{WorkerAt}
 use Rattle.lan_base.specs.Ranges.{most_frames}
-use Rattle.lan_core.specs.Ledgers.{Frame, air}
+use Rattle.lan_core.specs.Ledgers.{air}
 use Rattle.lan_core.specs.Order.{most_octets}
 use Rattle.lan_core.specs.declared.stop.Which.TheVariants.{Frames, Octets}
 use Rattle.worker_races.specs.Senders.{jobs_of}
 use Rattle.lan_schedule.specs.declared.frames.Put.{Put}
 use Rattle.lan_schedule.specs.declared.stage.Stage.{Stage}
-use Rattle.lan_schedule.specs.Races.{Burst, Excess, TooManyFrames, TooManyOctets, frames_asked}
+use Rattle.lan_schedule.specs.Races.{Burst, frames_asked}
 use Rattle.lan_schedule.specs.Races.{limit_of, octets_asked}
 use Rattle.lan_schedule.specs.World.{Flow, World, air_octets}
 use Rattle.lan_schedule.specs.Lines.{excess_of}

@@ -1,9 +1,9 @@
 -- Where few numbers were claimed and few are unused, no next number is past the last one.
 use Rattle.std.proofs.Common.{◌≡◌, ◌<◌, ◌≤◌, ℕ, zero, suc, ◌+◌, ◌-◌, ◌^◌, ◌==◌, ◌&&◌, ◌||◌, Bool, true, false}
-use Rattle.std.proofs.Common.{List, [], ◌∷◌, length, refl, sym, ap, ◌∙◌, inl, inr, arith}
+use Rattle.std.proofs.Common.{List, [], ◌∷◌, length, refl, sym, inl, inr, arith}
 use Rattle.std.specs.Prelude.{cond, not}
 use Rattle.std.specs.List.{filter, list_any, range_with_len}
-use Rattle.std.proofs.lemmas.Bool.{and_parts, cases_Bool, cases_lt, eqb-true, ne_eqb, or_cases}
+use Rattle.std.proofs.lemmas.Bool.{and_parts, cases_Bool, eqb-true}
 use Rattle.std.proofs.lemmas.List.Filters.{length-filter_both}
 use Rattle.std.proofs.lemmas.List.FromFn.{length-range_with_len}
 use Rattle.lan_core.specs.declared.settings.Settings.{Settings}

@@ -1,9 +1,9 @@
 -- Workers are hired, one behind the other, and their race begins.
-use Rattle.std.proofs.Common.{◌≡◌, ◌<◌, ◌≤◌, ◌+◌, ◌-◌, ◌^◌, ◌==◌, ℕ, zero, suc, Bool, true, false, List, []}
-use Rattle.std.proofs.Common.{◌∷◌, ◌++◌, length, map, take, drop, get_or, cond, Some, None, refl, sym, ap}
-use Rattle.std.proofs.Common.{◌∙◌, subst, append_assoc, append-nil, length-append, add-one, arith, set, length-set}
-use Rattle.std.specs.Prelude.{Option, option_map, slice_get, slice_set, slice_index_or, is_some, All}
-use Rattle.std.specs.List.{AllByRecursion, flat_map, range_with_len}
+use Rattle.std.proofs.Common.{◌≡◌, ◌<◌, ◌+◌, ◌-◌, ◌^◌, ◌==◌, ℕ, zero, suc, Bool, true, false, List, []}
+use Rattle.std.proofs.Common.{◌∷◌, ◌++◌, length, map, take, get_or, cond, Some, None, refl, sym, ap}
+use Rattle.std.proofs.Common.{◌∙◌, subst, append_assoc, append-nil, length-append, add-one, arith}
+use Rattle.std.specs.Prelude.{Option, option_map, slice_get, is_some, All}
+use Rattle.std.specs.List.{AllByRecursion, range_with_len}
 use Rattle.std.proofs.lemmas.List.{length-map, map-append, take_more}
 use Rattle.std.proofs.lemmas.List.Concat.{flat_map-append}
 use Rattle.std.proofs.lemmas.List.Elements.{All-nil, All-push, recursion_from_All}
@@ -29,7 +29,7 @@ use Rattle.transmit_words.specs.Ties.{tables_of, AreTied, AreToldAll, HaveCaught
 use Rattle.transmit_words.specs.Seats.{AreAllIn}
 use Rattle.worker_races.specs.Carded.{AreCarded}
 use Rattle.worker_races.specs.Going.{HaveJoined, WereSeated}
-use Rattle.worker_races.specs.Senders.{AreSenders, IsNew, IsSender, jobs_of}
+use Rattle.worker_races.specs.Senders.{AreSenders, IsNew, jobs_of}
 use Rattle.worker_races.proofs.Public.{carded-kept, seated-kept}
 use Rattle.lan_schedule.specs.declared.halt.Halt.TheVariants as halts
 use Rattle.lan_schedule.specs.declared.stage.Stage.{Stage}
@@ -44,7 +44,7 @@ use Rattle.lan_schedule.specs.Supply.{supply_nth}
 use Rattle.lan_schedule.specs.inside.Beside.{AreHired, BeginsRace, HasEnlisted, HasMoved, HaveRoom}
 use Rattle.lan_schedule.specs.inside.Beside.{HiredAll, WasHired}
 use Rattle.lan_schedule.specs.inside.Beside.{mark_of, worker_of}
-use Rattle.lan_schedule.specs.inside.Recording.{HasRecorded, Mark, StandsSince, steps_of}
+use Rattle.lan_schedule.specs.inside.Recording.{HasRecorded, StandsSince}
 use Rattle.lan_schedule.proofs.Claiming.{claims-tallied}
 use Rattle.lan_schedule.proofs.RaceComes.{tidy-begun}
 use Rattle.lan_schedule.proofs.Recorded.{same-some}

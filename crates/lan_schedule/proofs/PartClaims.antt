@@ -1,9 +1,9 @@
 -- The claims of a part: how many packet numbers they tell of, and that one without a number shows
 -- that no key transmits.
-use Rattle.std.proofs.Common.{◌≡◌, ◌<◌, ◌≤◌, ℕ, zero, suc, ◌+◌, ◌-◌, ◌^◌, ◌==◌, Bool, true, false, cond}
-use Rattle.std.proofs.Common.{List, [], ◌∷◌, ◌++◌, length, refl, sym, ap, ◌∙◌, subst, inl, inr, arith}
+use Rattle.std.proofs.Common.{◌≡◌, ◌<◌, ◌≤◌, ℕ, zero, suc, ◌+◌, ◌-◌, ◌==◌, Bool, true, false}
+use Rattle.std.proofs.Common.{List, [], ◌∷◌, length, refl, sym, ap, ◌∙◌, subst, inl, inr, arith}
 use Rattle.std.specs.Prelude.{◌⊎◌, Option, Some, None, nat_lt, reverse}
-use Rattle.std.specs.List.{AllByRecursion, filter}
+use Rattle.std.specs.List.{AllByRecursion}
 use Rattle.std.proofs.lemmas.Bool.{cases_Bool, eqb-false, eqb-true, le-ltb, lt-ltb}
 use Rattle.std.proofs.lemmas.List.{length-append}
 use Rattle.lan_base.specs.declared.frame.UserFrame.{UserFrame}
@@ -12,12 +12,12 @@ use Rattle.lan_core.specs.declared.event.Event.{Event}
 use Rattle.lan_core.specs.declared.event.Event.TheVariants as events
 use Rattle.lan_core.specs.declared.fact.Fact.{Fact}
 use Rattle.lan_core.specs.declared.fact.Fact.TheVariants as facts
-use Rattle.lan_core.specs.declared.fact.Lack.TheVariants.{NoKey, Exhausted}
+use Rattle.lan_core.specs.declared.fact.Lack.TheVariants.{NoKey}
 use Rattle.lan_core.specs.declared.settings.Settings.{Settings}
 use Rattle.lan_core.specs.Claims.{claimed_by, next, waiting_under}
 use Rattle.lan_core.specs.Order.{IsAllowed, IsClaimable}
-use Rattle.lan_core.specs.Expected.{claim_fact, lack, last_number, number_fact}
-use Rattle.lan_core.specs.Ledgers.{Claim, claim_of, claims, gather, with_one}
+use Rattle.lan_core.specs.Expected.{claim_fact, last_number, number_fact}
+use Rattle.lan_core.specs.Ledgers.{Claim, claim_of, claims, gather}
 use Rattle.lan_core.specs.Legal.{IsStep, IsStepped}
 use Rattle.lan_core.specs.Lives.{transmitting_at}
 use Rattle.lan_core.specs.Parts.{claimed_in, followed_by, is_claim}

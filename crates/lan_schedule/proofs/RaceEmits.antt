@@ -4,10 +4,8 @@ use Rattle.std.proofs.Common.{ap, ◌∙◌, subst, inl, inr, arith, append_asso
 use Rattle.std.specs.Prelude.{◌⊎◌, None, Some, Result, Ok, Err}
 use Rattle.std.proofs.lemmas.List.{length-map, map-append}
 use Rattle.std.specs.Result.{result_and}
-use Rattle.std.specs.declared.alloc.AllocError.{AllocError}
 use Rattle.lan_base.specs.declared.frame.Protected.{Protected}
 use Rattle.lan_base.specs.declared.frame.UserFrame.{UserFrame}
-use Rattle.data_workers.specs.declared.entry.Entry.{Entry}
 use Rattle.lan_core.specs.declared.event.Event.{Event}
 use Rattle.lan_core.specs.declared.event.Event.TheVariants.{Emit}
 use Rattle.lan_core.specs.declared.fact.Fact.{Fact}
@@ -17,7 +15,6 @@ use Rattle.lan_core.specs.Legal.{IsStepped}
 use Rattle.lan_core.specs.Parts.{AreProtected, claimed_in, followed_by, protected_for, without_claims}
 use Rattle.lan_core.specs.Run.{Happening, Run, facts_of}
 use Rattle.lan_core.specs.Standing.{StandsFor as GroupStandsFor}
-use Rattle.lan_core.proofs.Public.{stands-more}
 use Rattle.fact_tally.specs.Summary.{counts}
 use Rattle.race_merge.specs.Steps.{counted_from}
 use Rattle.race_merge.specs.Taking.{frames_of}
@@ -31,8 +28,8 @@ use Rattle.lan_schedule.specs.declared.halt.Halt.{Halt}
 use Rattle.lan_schedule.specs.declared.halt.Halt.TheVariants as halts
 use Rattle.lan_schedule.specs.declared.race.Ran.{Ran}
 use Rattle.lan_schedule.specs.declared.stage.Stage.{Stage}
-use Rattle.lan_schedule.specs.Races.{Chance, Claimed, Numbered, Woven, Worker, behind_numbers}
-use Rattle.lan_schedule.specs.Races.{behind_woven, claims_in, count_numbered, woven_in}
+use Rattle.lan_schedule.specs.Races.{Chance, Numbered, Woven, Worker, behind_numbers}
+use Rattle.lan_schedule.specs.Races.{claims_in, count_numbered, woven_in}
 use Rattle.lan_schedule.specs.Settings.{settings_of}
 use Rattle.lan_schedule.specs.World.{World, is_racing, names_of, settings}
 use Rattle.lan_schedule.specs.Acts.{Course, Goes, Stops, after_race, begun_race, beside, emitting}
@@ -43,20 +40,20 @@ use Rattle.lan_schedule.specs.Reports.{Report, reports}
 use Rattle.lan_schedule.specs.Ends.{Ends, IsReached, WasBroken, WasCut, WasTold, moment}
 use Rattle.lan_schedule.specs.Sound.{IsTidy}
 use Rattle.lan_schedule.specs.Stages.{Counts}
-use Rattle.lan_schedule.specs.inside.Beside.{HasRun, IsLeft, Leaves, Weaves, has_stopped, is_memory}
+use Rattle.lan_schedule.specs.inside.Beside.{HasRun, IsLeft, Leaves, Weaves, has_stopped}
 use Rattle.lan_schedule.specs.inside.Beside.{mark_of}
 use Rattle.lan_schedule.specs.inside.Comes.{IsSteady}
 use Rattle.lan_schedule.specs.inside.Recording.{LeavesAt, Mark, StandsSince}
 use Rattle.lan_schedule.specs.inside.Staged.{Did}
-use Rattle.lan_schedule.specs.inside.Weaves.{KeepsNoMore, KeepsReport, facts_in, reports_with, shown_in}
+use Rattle.lan_schedule.specs.inside.Weaves.{KeepsNoMore, KeepsReport, reports_with}
 use Rattle.lan_schedule.proofs.Emitted.{ShowsMore, comes-emits, emits-more}
 use Rattle.lan_schedule.proofs.Emitting.{emitting-times}
-use Rattle.lan_schedule.proofs.PartReports.{facts-with, facts_by, same-rest}
+use Rattle.lan_schedule.proofs.PartReports.{facts-with, same-rest}
 use Rattle.lan_schedule.proofs.RaceOf.{race, were-beside}
-use Rattle.lan_schedule.proofs.RacePart.{AreMerged, IsPart, RaceLaws, behind-behind, claims_from}
-use Rattle.lan_schedule.proofs.RacePart.{race-part, woven-behind}
-use Rattle.lan_schedule.proofs.RaceWoven.{after-run, facts-after, many-after, names-after, names-on}
-use Rattle.lan_schedule.proofs.RaceWoven.{reports-after, shown-after, stands-after, tidy-after}
+use Rattle.lan_schedule.proofs.RacePart.{IsPart, RaceLaws, claims_from}
+use Rattle.lan_schedule.proofs.RacePart.{woven-behind}
+use Rattle.lan_schedule.proofs.RaceWoven.{many-after, names-after}
+use Rattle.lan_schedule.proofs.RaceWoven.{stands-after, tidy-after}
 use Rattle.lan_schedule.proofs.RaceWoven.{wait-after}
 use Rattle.lan_schedule.proofs.Recorded.{leaves-counts, leaves-names, since-apart}
 use Rattle.lan_schedule.proofs.Steered.{IsSteered, broken-memory, kept-told, steered-err, steered-ok}

@@ -1,6 +1,5 @@
 -- Control and the workers were beside one another, wherever control came to: the race that they were.
-use Rattle.std.proofs.Common.{◌≡◌, ℕ, Bool, true, false, List, [], ◌∷◌, map, length, refl, sym, ap, ◌∙◌, subst}
-use Rattle.std.specs.List.{AllByRecursion}
+use Rattle.std.proofs.Common.{◌≡◌, Bool, true, false, List, length, ap, subst}
 use Rattle.lan_base.specs.declared.frame.UserFrame.{UserFrame}
 use Rattle.association_slots.specs.Views.{ControlAt}
 use Rattle.lan_core.specs.declared.settings.Settings.{Settings}

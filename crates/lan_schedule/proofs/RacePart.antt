@@ -1,18 +1,14 @@
 -- The part that a race gives, which is woven of control and of the logs: the chance that it is woven so
 -- makes it the run of the world behind the race, and what its events show is what it shows.
-use Rattle.std.proofs.Common.{◌≡◌, ◌<◌, ◌≤◌, ◌^◌, ℕ, zero, suc, ◌+◌, ◌-◌, Bool, true, false, List, [], ◌∷◌, ◌++◌}
-use Rattle.std.proofs.Common.{length, map, refl, sym, ap, ◌∙◌, subst, arith}
+use Rattle.std.proofs.Common.{◌≡◌, ◌<◌, ◌≤◌, ◌^◌, ℕ, ◌+◌, ◌-◌, List, [], ◌∷◌}
+use Rattle.std.proofs.Common.{length, map, refl, ap, ◌∙◌, subst, arith}
 use Rattle.std.specs.List.{AllByRecursion}
-use Rattle.std.proofs.lemmas.List.{length-map}
-use Rattle.std.proofs.lemmas.List.Elements.{All-push, recursion_from_All}
+use Rattle.std.proofs.lemmas.List.Elements.{recursion_from_All}
 use Rattle.lan_base.specs.declared.association_number.AssociationNumber.{AssociationNumber}
-use Rattle.lan_base.specs.declared.frame.Protected.{Protected}
 use Rattle.lan_base.specs.declared.frame.UserFrame.{UserFrame}
 use Rattle.data_workers.specs.declared.entry.Entry.{Entry}
-use Rattle.data_workers.specs.Workers.{WorkerAt}
 use Rattle.lan_core.specs.declared.event.Event.{Event}
 use Rattle.lan_core.specs.declared.event.Event.TheVariants as events
-use Rattle.lan_core.specs.declared.fact.Fact.{Fact}
 use Rattle.lan_core.specs.declared.settings.Settings.{Settings}
 use Rattle.lan_core.specs.Expected.{last_number}
 use Rattle.lan_core.specs.Claims.{next}
@@ -30,9 +26,9 @@ use Rattle.race_merge.specs.Weaving.{IsWoven}
 use Rattle.worker_races.specs.Beside.{Race, WereBeside, ans_in, attempts_in, logs_in, moves_in}
 use Rattle.worker_races.specs.Beside.{pointed_in}
 use Rattle.worker_races.specs.Performed.{happenings}
-use Rattle.worker_races.specs.Senders.{IsNew, jobs_of}
+use Rattle.worker_races.specs.Senders.{IsNew}
 use Rattle.lan_schedule.specs.Races.{Chance, Claimed, Shown, Woven, behind_numbers, behind_woven}
-use Rattle.lan_schedule.specs.Races.{claims_in, count_numbered, woven_in}
+use Rattle.lan_schedule.specs.Races.{woven_in}
 use Rattle.lan_schedule.specs.inside.Weaves.{facts_in, shown_in}
 use Rattle.lan_schedule.proofs.Dealt.{claims-jobs}
 use Rattle.lan_schedule.proofs.FewNext.{next-few}

@@ -1,23 +1,21 @@
 -- A race is run: its workers have the tables of the words still, and what its parts did is what the
 -- whole race does.
-use Rattle.std.proofs.Common.{◌≡◌, ◌<◌, ◌+◌, ℕ, List, [], ◌∷◌, ◌++◌, length, Some, None, refl, sym, ap}
+use Rattle.std.proofs.Common.{◌≡◌, ◌<◌, ◌+◌, ℕ, List, [], ◌++◌, length, Some, None, refl, sym, ap}
 use Rattle.std.proofs.Common.{◌∙◌, subst, inl, inr, arith, take, drop, append-nil}
 use Rattle.std.proofs.lemmas.List.{take_all, drop_all}
-use Rattle.std.specs.Prelude.{◌⊎◌, All, IfSome, Option, Result, Ok, Err, option_map, slice_get, slice_index_or}
+use Rattle.std.specs.Prelude.{All, IfSome, Option, Result, Err, option_map, slice_get, slice_index_or}
 use Rattle.atomic_table.specs.Seated.{TableId}
 use Rattle.association_slots.specs.Views.{ControlAt}
 use Rattle.data_workers.specs.Workers.{AreDone, HasTable, WorkerAt}
-use Rattle.lan_core.specs.declared.fact.Fact.{Fact}
 use Rattle.transmit_words.specs.Ties.{tables_of}
 use Rattle.lan_schedule.specs.declared.halt.Halt.{Halt}
-use Rattle.lan_schedule.specs.declared.halt.Halt.TheVariants as halts
 use Rattle.lan_schedule.specs.declared.race.Before.{Before}
 use Rattle.lan_schedule.specs.declared.race.Ran.{Ran}
 use Rattle.lan_schedule.specs.declared.recorder.Broken.{Broken}
 use Rattle.lan_schedule.specs.declared.stage.Stage.{Stage}
 use Rattle.lan_schedule.specs.Races.{Burst, Chance, Excess, Numbered, behind_numbers, workers_of}
 use Rattle.lan_schedule.specs.World.{World}
-use Rattle.lan_schedule.specs.Acts.{Act, Stops, perform, race}
+use Rattle.lan_schedule.specs.Acts.{Act, perform, race}
 use Rattle.lan_schedule.specs.Lines.{control_act, excess_of, run_race, unless_exceeded}
 use Rattle.lan_schedule.specs.Reports.{Report}
 use Rattle.lan_schedule.specs.Ends.{Ends, IsReached, Moment, moment}

@@ -1,6 +1,6 @@
 -- What was woven is told, event by event, and so a race ends.
-use Rattle.std.proofs.Common.{◌≡◌, ℕ, ◌+◌, true, false, List, [], ◌∷◌, ◌++◌, length, map, refl, sym, ap, ◌∙◌}
-use Rattle.std.proofs.Common.{subst, inl, inr, append_assoc, append-nil, arith}
+use Rattle.std.proofs.Common.{◌≡◌, ℕ, ◌+◌, true, false, List, [], ◌∷◌, ◌++◌, refl, sym, ap, ◌∙◌}
+use Rattle.std.proofs.Common.{subst, inl, inr, append_assoc, append-nil}
 use Rattle.std.specs.Prelude.{MatchResult, Result, Ok, Err}
 use Rattle.std.specs.Result.{IsErrAnd}
 use Rattle.std.proofs.lemmas.Result.{err_from_is_err_and}
@@ -14,14 +14,14 @@ use Rattle.lan_schedule.specs.declared.race.Before.{Before}
 use Rattle.lan_schedule.specs.declared.race.Ran.{Ran}
 use Rattle.lan_schedule.specs.declared.recorder.Broken.{Broken}
 use Rattle.lan_schedule.specs.declared.stage.Stage.{Stage}
-use Rattle.lan_schedule.specs.Races.{Chance, Numbered, Worker, behind_numbers}
+use Rattle.lan_schedule.specs.Races.{Chance}
 use Rattle.lan_schedule.specs.World.{World, is_racing}
-use Rattle.lan_schedule.specs.Acts.{Course, Goes, Stops, perform, race}
+use Rattle.lan_schedule.specs.Acts.{Course, perform, race}
 use Rattle.lan_schedule.specs.Lines.{control_act}
 use Rattle.lan_schedule.specs.Reports.{AreTold, Report, reports}
 use Rattle.lan_schedule.specs.Ends.{Begins, Ends, Moment, halt_of_broken, moment, reported}
 use Rattle.lan_schedule.specs.Stages.{Counts, StandsFor}
-use Rattle.lan_schedule.specs.inside.Beside.{EndsRace, HasRun, IsLeft, Leaves, Weaves}
+use Rattle.lan_schedule.specs.inside.Beside.{EndsRace, IsLeft, Leaves, Weaves}
 use Rattle.lan_schedule.specs.inside.Weaves.{WereToldUpTo, reports_with}
 use Rattle.lan_schedule.proofs.Doing.{ends-memory, told-both}
 use Rattle.lan_schedule.proofs.Racing.{begins-self}

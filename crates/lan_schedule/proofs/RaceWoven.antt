@@ -1,6 +1,6 @@
 -- The world behind a race is tidy, and the group at work stands for it once the claims' frames wait.
-use Rattle.std.proofs.Common.{◌≡◌, ◌≤◌, ℕ, ◌+◌, Bool, true, false, List, [], ◌∷◌, ◌++◌, length, map, filter}
-use Rattle.std.proofs.Common.{refl, sym, ap, ◌∙◌, subst, arith}
+use Rattle.std.proofs.Common.{◌≡◌, ◌≤◌, ℕ, ◌+◌, Bool, true, false, List, ◌++◌, length, map, filter}
+use Rattle.std.proofs.Common.{sym, ap, ◌∙◌, subst, arith}
 use Rattle.std.specs.Prelude.{None, is_some, sum}
 use Rattle.std.specs.List.{AllByRecursion}
 use Rattle.std.proofs.lemmas.List.Elements.{All-push, recursion_from_All}
@@ -12,7 +12,7 @@ use Rattle.lan_core.specs.declared.fact.Fact.{Fact}
 use Rattle.lan_core.specs.declared.settings.Settings.{Settings}
 use Rattle.lan_core.specs.Claims.{claimed}
 use Rattle.lan_core.specs.Fresh.{IsFresh, IsUnforged}
-use Rattle.lan_core.specs.Ledgers.{AreNumbered, Frame, air, emitted}
+use Rattle.lan_core.specs.Ledgers.{AreNumbered, Frame, emitted}
 use Rattle.lan_core.specs.Legal.{IsLegal, IsThrifty}
 use Rattle.lan_core.specs.Parts.{AreAlike, claimed_in, followed_by, without_claims}
 use Rattle.lan_core.specs.Run.{Happening, Profile, Run, facts_of, stations}
@@ -23,13 +23,13 @@ use Rattle.race_merge.specs.Merged.{nth_log}
 use Rattle.race_merge.specs.Places.{Attempt}
 use Rattle.race_merge.specs.Taking.{frames_of}
 use Rattle.transmit_words.specs.Ties.{HaveCaughtUp}
-use Rattle.worker_races.specs.Beside.{Race, attempts_in, logs_in}
+use Rattle.worker_races.specs.Beside.{Race, attempts_in}
 use Rattle.worker_races.specs.Carded.{AreCarded}
 use Rattle.worker_races.specs.Performed.{happenings}
 use Rattle.worker_races.specs.Senders.{IsNew}
 use Rattle.lan_schedule.specs.declared.race.Ran.{Ran}
 use Rattle.lan_schedule.specs.declared.stage.Stage.{Stage}
-use Rattle.lan_schedule.specs.Races.{Apart, Chance, Claimed, IsDealt, Numbered, Raced, Worker}
+use Rattle.lan_schedule.specs.Races.{Chance, Claimed, IsDealt, Numbered, Worker}
 use Rattle.lan_schedule.specs.Races.{claims_in, count_numbered, woven_in}
 use Rattle.lan_schedule.specs.Supply.{supply_nth}
 use Rattle.lan_schedule.specs.World.{World, air_octets, names_of, settings}

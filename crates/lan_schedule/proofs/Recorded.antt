@@ -19,7 +19,7 @@ use Rattle.lan_core.specs.Order.{is_event_of}
 use Rattle.lan_core.specs.Run.{Run, Happening, happened}
 use Rattle.lan_core.specs.declared.fact.Fact.{Fact}
 use Rattle.race_merge.specs.declared.step.Step.{Step}
-use Rattle.race_merge.specs.Raced.{epoch_at, epoch_of as epoch_in}
+use Rattle.race_merge.specs.Raced.{epoch_of as epoch_in}
 use Rattle.race_merge.specs.Table.{Controls}
 use Rattle.worker_races.specs.Going.{HaveGone, WereTold}
 use Rattle.worker_races.specs.Performed.{ArePerformed, IsPerformed, run_after}

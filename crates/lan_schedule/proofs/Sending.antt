@@ -27,7 +27,6 @@ use Rattle.lan_schedule.specs.Sound.{IsTidy}
 use Rattle.lan_schedule.specs.Reports.{Report}
 use Rattle.lan_schedule.specs.Ends.{Moment, IsReached, Ends}
 use Rattle.lan_schedule.specs.inside.Comes.{Comes}
-use Rattle.lan_schedule.specs.inside.Set.{AreSet}
 use Rattle.lan_schedule.specs.Stages.{Says, StandsWith, StandsFor, Counts}
 use Rattle.lan_schedule.specs.inside.Recording.{Mark, StandsSince, LeavesAt, KeepTables}
 use Rattle.lan_schedule.specs.inside.Staged.{IsSetSince}

@@ -1,11 +1,10 @@
 -- What events of a race show, event by event.
 use Rattle.std.proofs.Common.{◌≡◌, ◌<◌, ◌≤◌, ◌+◌, ℕ, zero, suc, List, [], ◌∷◌, ◌++◌, drop, get_or, length}
 use Rattle.std.proofs.Common.{refl, sym, ap, ◌∙◌, subst, arith, append_assoc, append-nil, add-one, drop-cons}
-use Rattle.std.specs.Prelude.{Option, Some, None}
+use Rattle.std.specs.Prelude.{Some, None}
 use Rattle.lan_base.specs.declared.frame.Protected.{Protected}
 use Rattle.lan_core.specs.declared.event.Event.{Event}
 use Rattle.lan_core.specs.declared.fact.Fact.{Fact}
-use Rattle.fact_tally.specs.Summary.{counts}
 use Rattle.lan_schedule.specs.inside.Weaves.{facts_in, first_kept, frames_behind, kept_behind}
 use Rattle.lan_schedule.specs.inside.Weaves.{rest_kept, shown_in, shown_of}
 

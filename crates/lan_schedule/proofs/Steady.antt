@@ -1,8 +1,7 @@
 -- Lines of control leave what was chosen, and the user frames.
 use Rattle.std.proofs.Common.{◌≡◌, ℕ, zero, suc, Bool, true, false, List, [], ◌∷◌, refl, ◌∙◌}
-use Rattle.std.specs.Prelude.{Option, Some, None, Result, Ok, Err, cond}
+use Rattle.std.specs.Prelude.{Option, Some, None, Result, Ok, Err}
 use Rattle.std.specs.List.{AllByRecursion}
-use Rattle.lan_base.specs.declared.frame.UserFrame.{UserFrame}
 use Rattle.lan_core.specs.declared.event.Event.{Event}
 use Rattle.lan_core.specs.declared.fact.Fact.{Fact}
 use Rattle.trace_text.specs.declared.line.Line.{Line}
@@ -10,14 +9,14 @@ use Rattle.trace_text.specs.declared.line.Line.TheVariants as lines
 use Rattle.lan_schedule.specs.declared.halt.Halt.{Halt}
 use Rattle.lan_schedule.specs.declared.halt.Kind.{Kind}
 use Rattle.lan_schedule.specs.Races.{Numbered}
-use Rattle.lan_schedule.specs.World.{World, Kept, count, sender, is_cut, place}
+use Rattle.lan_schedule.specs.World.{World, Kept, count, sender, place}
 use Rattle.lan_schedule.specs.Answers.{answer}
 use Rattle.lan_schedule.specs.Acts.{Act, nothing, refuse, exceed, happen, change, seq, look, race}
-use Rattle.lan_schedule.specs.Acts.{Course, Goes, Stops, and_then, each, perform, shown, span, times}
+use Rattle.lan_schedule.specs.Acts.{Course, Goes, Stops, and_then, each, perform, shown, span}
 use Rattle.lan_schedule.specs.Acts.{unless, world_of}
 use Rattle.lan_schedule.specs.Kinds.{is_control, wrong_frame}
 use Rattle.lan_schedule.specs.Lines.{controlled, control_act, deed, due, flow_round, is_passed_by}
-use Rattle.lan_schedule.specs.Lines.{pass, round, spread, tick, to_others, unless_refused}
+use Rattle.lan_schedule.specs.Lines.{pass, round, spread, tick, unless_refused}
 use Rattle.lan_schedule.specs.inside.Comes.{IsSteady}
 
 -- ---- acts that change neither

@@ -1,5 +1,5 @@
 -- What control did beside workers, wherever it came to: but for want of memory it is known.
-use Rattle.std.proofs.Common.{◌≡◌, ℕ, Bool, true, false, List, [], ◌∷◌, ◌++◌, map, refl, sym, ap, ◌∙◌}
+use Rattle.std.proofs.Common.{◌≡◌, Bool, true, false, List, [], ◌∷◌, ◌++◌, map, refl, sym, ap, ◌∙◌}
 use Rattle.std.proofs.Common.{subst, inl, inr, append_assoc, append-nil}
 use Rattle.std.specs.Prelude.{◌⊎◌, Option, Some, None, is_some, option_map, Ok, Err}
 use Rattle.association_slots.specs.Views.{ControlAt}
@@ -19,7 +19,7 @@ use Rattle.lan_schedule.specs.Sound.{IsTidy}
 use Rattle.lan_schedule.specs.Stages.{Counts, Says, StandsFor}
 use Rattle.lan_schedule.specs.inside.Beside.{mark_of}
 use Rattle.lan_schedule.specs.inside.Recording.{HasLooked, HasRecorded, HasStopped, IsRecorded}
-use Rattle.lan_schedule.specs.inside.Recording.{LeavesAt, LeavesBy, Mark, StandsSince, steps_of}
+use Rattle.lan_schedule.specs.inside.Recording.{LeavesAt, LeavesBy, StandsSince, steps_of}
 use Rattle.lan_schedule.specs.inside.Weaves.{KeepsNoMore, KeepsReport}
 
 -- ---- what was kept of reports

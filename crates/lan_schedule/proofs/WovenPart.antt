@@ -1,8 +1,8 @@
 -- A part of a run that is woven of control and of the logs of workers is what claims make that are
 -- woven in between control's events.
-use Rattle.std.proofs.Common.{◌≡◌, ℕ, zero, suc, ◌+◌, ◌-◌, ◌==◌, Bool, true, false, List, [], ◌∷◌, ◌++◌}
-use Rattle.std.proofs.Common.{length, take, map, Some, None, refl, sym, ap, ◌∙◌, subst, inl, inr, arith}
-use Rattle.std.proofs.Common.{append_assoc, append-nil}
+use Rattle.std.proofs.Common.{◌≡◌, ℕ, ◌+◌, ◌-◌, Bool, true, false, List, [], ◌∷◌, ◌++◌}
+use Rattle.std.proofs.Common.{length, take, Some, None, refl, sym, ap, ◌∙◌, subst, inl, inr, arith}
+use Rattle.std.proofs.Common.{append_assoc}
 use Rattle.std.specs.Prelude.{Option, option_map, reverse, not, cond}
 use Rattle.std.specs.List.{AllByRecursion, filter}
 use Rattle.std.proofs.lemmas.Bool.{cases_Bool, eqb-true}
@@ -24,7 +24,7 @@ use Rattle.race_merge.specs.Merged.{nth_log}
 use Rattle.race_merge.specs.Weaving.{AreClaimsOf, IsClaimOf, IsOfLog, IsWoven, is_claim_for}
 use Rattle.lan_schedule.specs.Races.{Claimed, Worker, woven_in}
 use Rattle.lan_schedule.specs.World.{World, settings}
-use Rattle.lan_schedule.specs.Acts.{after_race, claim_of, since, station_of, with_claims, woven}
+use Rattle.lan_schedule.specs.Acts.{after_race, claim_of, since, station_of, woven}
 
 -- ---- the claims of a part
 

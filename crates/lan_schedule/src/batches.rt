@@ -1,7 +1,7 @@
 //! Frames next to each other reach a station: of those that are protected ones a batch is checked
 //! side by side, and then they are admitted one after the other.
 
-ghost use Rattle.std.specs.Prelude.{◌≡◌, ◌≤◌, ◌↔◌, ℕ, List, [], IfOk, OnOk, IfSome, IsTrue, length};
+ghost use Rattle.std.specs.Prelude.{◌≡◌, ◌≤◌, ◌↔◌, List, [], IfOk, OnOk, IfSome, IsTrue, length};
 ghost use Rattle.std.specs.Prelude.{All};
 ghost use Rattle.lan_base.specs.Ranges.{most_frames, most_frame_octets};
 ghost use Rattle.lan_base.specs.declared.frame.UserFrame.{UserFrame};

@@ -1,8 +1,8 @@
 //! A race is run, once its end came: its lines of control are performed beside the workers of its
 //! bursts, and what both did stands in one run.
 
-ghost use Rattle.std.specs.Prelude.{◌≡◌, ◌≤◌, ◌<◌, ◌+◌, ◌*◌, ◌^◌, [], not, nat_lt, true, length, map};
-ghost use Rattle.std.specs.Prelude.{List, IfOk, IfErr, IfSome, OnOk, OnErr, None, option_map, All};
+ghost use Rattle.std.specs.Prelude.{◌≡◌, ◌<◌, ◌+◌, ◌*◌, ◌^◌, [], not, nat_lt, true, map};
+ghost use Rattle.std.specs.Prelude.{List, IfOk, IfErr, IfSome, OnOk, OnErr, None, option_map};
 ghost use Rattle.std.specs.Prelude.{slice_get, vec_capacity};
 ghost use Rattle.std.specs.Option.{option_copied};
 ghost use Rattle.data_workers.specs.Workers.{HasTable};

@@ -1,6 +1,6 @@
 //! What a race shows, in the order of its events, and that it is told.
 
-ghost use Rattle.std.specs.Prelude.{◌≡◌, ◌∷◌, [], List, IfOk, OnOk, MatchResult};
+ghost use Rattle.std.specs.Prelude.{◌≡◌, List, IfOk, OnOk, MatchResult};
 ghost use Rattle.lan_core.specs.declared.fact.Fact.{Fact};
 ghost use Rattle.fact_tally.specs.Summary.{counts};
 ghost use Rattle.lan_schedule.specs.Reports.{AreTold};

@@ -11,6 +11,7 @@ ghost use Rattle.replay.specs.Sinks.{Wrote};
 ghost use Rattle.replay.specs.inside.Writing.{Fails};
 
 use crate::cause::{Cause, answered, cause_of, cause_of_halt};
+use crate::gate::AnyGate;
 use crate::player::Player;
 use crate::transcribing::Transcript;
 use crate::unrecorded::Unrecorded;
@@ -20,7 +21,6 @@ use lan_base::{Sink, Source};
 use lan_schedule::{
     Broken, Replay, law_acts_stop_for_their_own_reasons, law_lines_leave_a_tidy_world,
 };
-use packet_claims::Gate;
 use std::alloc::Global;
 use std::thread::Threads;
 use text_lines::read_lines;
@@ -34,12 +34,12 @@ const MAX_INPUT: usize = 4_194_304;
 /// inside a race is refused at the line behind its last. The workers
 /// of a race run on threads; the gate is passed at each of their steps, and after each move of a
 /// station's current word.
-pub fn replay<T: Threads + Sync, S: Source, K: Sink, G: Gate + Sync>(
+pub fn replay<T: Threads + Sync, S: Source, K: Sink>(
     rt: &T,
     alloc: Global,
     source: &mut S,
     sink: &mut K,
-    gate: &G,
+    gate: &AnyGate,
     summary: bool,
 ) -> Result<(), Cause>
     ensures { IsReplayed (shown_by summary)
@@ -56,12 +56,12 @@ pub fn replay<T: Threads + Sync, S: Source, K: Sink, G: Gate + Sync>(
 }
 
 /// Replays a trace for its transcript.
-fn transcribe<T: Threads + Sync, S: Source, K: Sink, G: Gate + Sync>(
+fn transcribe<T: Threads + Sync, S: Source, K: Sink>(
     rt: &T,
     alloc: Global,
     source: &mut S,
     sink: &mut K,
-    gate: &G,
+    gate: &AnyGate,
 ) -> Result<(), Cause>
     ensures { IsReplayed (shown_by false)
         (sourced (S.left source.old) (S.faults source.old))
@@ -87,12 +87,12 @@ fn transcribe<T: Threads + Sync, S: Source, K: Sink, G: Gate + Sync>(
 }
 
 /// Replays a trace for its summary.
-fn summarize<T: Threads + Sync, S: Source, K: Sink, G: Gate + Sync>(
+fn summarize<T: Threads + Sync, S: Source, K: Sink>(
     rt: &T,
     alloc: Global,
     source: &mut S,
     sink: &mut K,
-    gate: &G,
+    gate: &AnyGate,
 ) -> Result<(), Cause>
     ensures { IsReplayed (shown_by true)
         (sourced (S.left source.old) (S.faults source.old))

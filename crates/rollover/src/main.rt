@@ -3,8 +3,7 @@
 #![tactic(auto)]
 
 use lan_base::{StdSink, StdSource};
-use packet_claims::OpenGate;
-use rollover_program::{Cause, Status, rollover};
+use rollover_program::{AnyGate, Cause, Status, rollover};
 use std::alloc::AllocError;
 use std::process::ExitCode;
 use std::{env, io};
@@ -30,7 +29,7 @@ fn main(rt: HostRuntime) -> ExitCode {
             &words,
             &mut StdSource::new(rt.reader()),
             &mut StdSink::new(io::writer(&rt)),
-            &OpenGate,
+            &AnyGate::Open,
         ),
         Err(_) => Status::Halted(Cause::Memory),
     };

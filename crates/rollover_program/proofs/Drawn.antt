@@ -1,17 +1,15 @@
 -- How the program ends after a transcript was drawn.
-use Rattle.std.proofs.Common.{◌≡◌, ◌<◌, ◌≤◌, ℕ, List, [], ◌∷◌, length, take, Result, Ok, Err, inl, inr, refl, subst}
+use Rattle.std.proofs.Common.{◌≡◌, ℕ, List, Ok, Err, inr, refl, subst}
 use Rattle.lan_base.specs.Faults.{Rose}
-use Rattle.lan_base.specs.Told.{after}
 use Rattle.text_lines.specs.Reading.{Sourced}
 use Rattle.transcript_picture.specs.declared.drawing.Undrawn.{Undrawn}
 use Rattle.transcript_picture.specs.declared.drawing.Undrawn.TheVariants as undrawn
 use Rattle.transcript_picture.specs.Transcripts.{EndsDrawing}
 use Rattle.transcript_picture.proofs.Public.{not-drawn}
 use Rattle.replay.specs.declared.cause.Cause.TheVariants as causes
-use Rattle.replay.specs.Sinks.{Sunk, Wrote, BrokeOff}
-use Rattle.replay.proofs.Public.{wrote-one, broke-one}
+use Rattle.replay.specs.Sinks.{Sunk}
 use Rattle.rollover_program.specs.declared.status.Status.{Status}
-use Rattle.rollover_program.specs.declared.status.Status.TheVariants.{Done, Usage, Halted}
+use Rattle.rollover_program.specs.declared.status.Status.TheVariants.{Usage, Halted}
 use Rattle.rollover_program.specs.commands.Draw.{EndsAsDraw, Shows, status_of_undrawn}
 
 -- nothing was done, for want of memory

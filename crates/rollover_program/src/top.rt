@@ -30,8 +30,7 @@ use crate::status::Status;
 use crate::words::{Order, Refusal, read_order};
 use lan_base::{Sink, Source};
 use lan_schedule::law_lines_leave_a_tidy_world;
-use packet_claims::Gate;
-use replay::Cause;
+use replay::{AnyGate, Cause};
 use std::alloc::Global;
 use std::thread::Threads;
 
@@ -49,13 +48,13 @@ use std::thread::Threads;
 /// `dissect` reads a file of captured packets, and tells each packet in one line. `draw` reads a
 /// transcript as `check` does, and writes the picture of its keys at the end. Clauses that name a text
 /// or a file speak of a source that tells its octets.
-pub fn rollover<T: Threads + Sync, S: Source, K: Sink, G: Gate + Sync>(
+pub fn rollover<T: Threads + Sync, S: Source, K: Sink>(
     rt: &T,
     alloc: Global,
     words: &[String],
     source: &mut S,
     sink: &mut K,
-    gate: &G,
+    gate: &AnyGate,
 ) -> Status
     // The words are no command exactly where clap refuses them, unless memory runs out; nothing was
     // read, written or counted then. All other words order something, with a number from 1 to 9999
@@ -149,13 +148,13 @@ pub fn rollover<T: Threads + Sync, S: Source, K: Sink, G: Gate + Sync>(
 }
 
 /// Carries an order out. Only `make` and `try` leave the source unread.
-fn carry_out<T: Threads + Sync, S: Source, K: Sink, G: Gate + Sync>(
+fn carry_out<T: Threads + Sync, S: Source, K: Sink>(
     rt: &T,
     alloc: Global,
     order: Order,
     source: &mut S,
     sink: &mut K,
-    gate: &G,
+    gate: &AnyGate,
 ) -> Status
     ensures done { CarriesOut order
         (sourced (S.left source.old) (S.faults source.old))

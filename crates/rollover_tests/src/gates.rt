@@ -4,7 +4,9 @@ use crate::looking::count;
 use crate::performing::{STEADY, joined, passing};
 use crate::worked::{FIRST, GROUP, SECOND, SIX_ROUNDS, THIRD};
 use packet_claims::{Gate, Point};
-use rollover_program::Status;
+use rollover_program::{AnyGate, Status};
+use std::alloc::{AllocError, Global};
+use std::sync::Arc;
 use std::sync::atomic::AtomicUsize;
 use std::sync::atomic::Ordering::SeqCst;
 use std::test::Fail;
@@ -22,11 +24,14 @@ struct Come {
 
 impl Come {
     /// Nobody has come.
-    fn new() -> Self {
-        Come {
-            count: AtomicUsize::new(0),
-            late: AtomicUsize::new(0),
-        }
+    fn new(alloc: Global) -> Result<Arc<Self>, AllocError> {
+        Arc::new(
+            alloc,
+            Come {
+                count: AtomicUsize::new(0),
+                late: AtomicUsize::new(0),
+            },
+        )
     }
 
     /// Another has come.
@@ -57,7 +62,7 @@ impl Come {
 /// A gate that holds each worker until two have loaded.
 #[derive(Drop)]
 struct Pair {
-    loaded: Come,
+    loaded: Arc<Come>,
 }
 
 impl Gate for Pair {
@@ -73,9 +78,9 @@ impl Gate for Pair {
 /// control there until the worker has loaded. It counts the moves, and the claims.
 #[derive(Drop)]
 struct Crossing {
-    moved: Come,
-    loaded: Come,
-    taken: Come,
+    moved: Arc<Come>,
+    loaded: Arc<Come>,
+    taken: Arc<Come>,
 }
 
 impl Gate for Crossing {
@@ -103,12 +108,16 @@ fn two_workers_meet(rt: HostRuntime) -> Result<(), Fail> {
     let alloc = rt.alloc();
     let race = "race\nburst A 2 1000 ffffffffffff 88b50001\nwhile\nend\n";
     let trace = joined(alloc, &[GROUP, FIRST, SECOND, SIX_ROUNDS, race])?;
-    let gate = Pair {
-        loaded: Come::new(),
-    };
+    let loaded = Come::new(alloc)?;
+    let gate = AnyGate::Other(Box::new(
+        alloc,
+        Pair {
+            loaded: loaded.clone(),
+        },
+    )?);
     let left = passing(&rt, alloc, &["run"], &trace, STEADY, &gate)?;
     assert_eq!(rt; left.status, Status::Done);
-    assert_eq!(rt; gate.loaded.late(), 0);
+    assert_eq!(rt; loaded.late(), 0);
     assert_eq!(rt;
         count(left.held.as_slice(), "claim A an 0 epoch 1 pn "),
         1000
@@ -123,16 +132,22 @@ fn a_worker_meets_control(rt: HostRuntime) -> Result<(), Fail> {
     let alloc = rt.alloc();
     let race = "race\nburst A 1 10 ffffffffffff 88b50001\nwhile\nflow 36\nend\n";
     let trace = joined(alloc, &[GROUP, FIRST, SECOND, SIX_ROUNDS, THIRD, race])?;
-    let gate = Crossing {
-        moved: Come::new(),
-        loaded: Come::new(),
-        taken: Come::new(),
-    };
+    let moved = Come::new(alloc)?;
+    let loaded = Come::new(alloc)?;
+    let taken = Come::new(alloc)?;
+    let gate = AnyGate::Other(Box::new(
+        alloc,
+        Crossing {
+            moved: moved.clone(),
+            loaded: loaded.clone(),
+            taken: taken.clone(),
+        },
+    )?);
     let left = passing(&rt, alloc, &["run"], &trace, STEADY, &gate)?;
     assert_eq!(rt; left.status, Status::Done);
-    assert_eq!(rt; gate.moved.late(), 0);
-    assert_eq!(rt; gate.loaded.late(), 0);
-    assert_eq!(rt; gate.taken.count(), 10);
+    assert_eq!(rt; moved.late(), 0);
+    assert_eq!(rt; loaded.late(), 0);
+    assert_eq!(rt; taken.count(), 10);
     assert_eq!(rt; count(left.held.as_slice(), "claim A an * epoch * pn "), 10);
     assert_eq!(rt;
         count(left.held.as_slice(), "claim A an 1 epoch 2 pn 10"),

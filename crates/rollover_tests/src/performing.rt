@@ -1,8 +1,7 @@
 //! A trace is performed through the top call.
 
 use lan_base::{MemorySink, MemorySource, Octets};
-use packet_claims::{Gate, OpenGate};
-use rollover_program::{Cause, Kind, Status, rollover};
+use rollover_program::{AnyGate, Cause, Kind, Status, rollover};
 use std::alloc::{AllocError, Global};
 use std::thread::Threads;
 
@@ -39,17 +38,17 @@ pub(crate) fn ordered<R: Threads + Sync>(
     text: &[u8],
     outside: Outside,
 ) -> Result<Left, AllocError> {
-    passing(rt, alloc, words, text, outside, &OpenGate)
+    passing(rt, alloc, words, text, outside, &AnyGate::Open)
 }
 
 /// The top call with these words, at a gate.
-pub(crate) fn passing<R: Threads + Sync, G: Gate + Sync>(
+pub(crate) fn passing<R: Threads + Sync>(
     rt: &R,
     alloc: Global,
     words: &[&str],
     text: &[u8],
     outside: Outside,
-    gate: &G,
+    gate: &AnyGate,
 ) -> Result<Left, AllocError> {
     let mut owned = Vec::new(alloc);
     for word in words {

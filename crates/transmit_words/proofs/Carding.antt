@@ -1,9 +1,8 @@
 -- What words do of cards as they follow facts.
-use Rattle.std.proofs.Common.{◌≡◌, ◌≢◌, ◌⊎◌, inl, inr, ℕ, zero, suc, ◌+◌, ◌<◌, ◌≤◌, Bool, true, false, cond}
-use Rattle.std.proofs.Common.{List, [], ◌∷◌, ◌++◌, length, set, Option, Some, None, refl, ap, sym, ◌∙◌, subst, arith}
+use Rattle.std.proofs.Common.{◌≡◌, ◌≢◌, ◌⊎◌, inl, inr, ℕ, ◌+◌, ◌<◌, ◌≤◌, true}
+use Rattle.std.proofs.Common.{List, [], ◌∷◌, ◌++◌, Option, Some, None, refl, ap, sym, ◌∙◌, subst, arith}
 use Rattle.std.proofs.lemmas.Bool.{cases_Bool, eq-eqb}
-use Rattle.std.proofs.lemmas.Option.{slice_get_within}
-use Rattle.std.specs.Prelude.{◌==◌, nat_lt, slice_get, option_map, option_and_then, Contains}
+use Rattle.std.specs.Prelude.{◌==◌, nat_lt, option_map, option_and_then, Contains}
 use Rattle.lan_base.specs.declared.association_number.AssociationNumber.{AssociationNumber}
 use Rattle.lan_base.specs.declared.key_id.KeyId.{KeyId}
 use Rattle.aes_block.specs.declared.secret.Secret.{Secret}
@@ -23,7 +22,7 @@ use Rattle.group_safety.specs.Accounts.{Account}
 use Rattle.group_safety.specs.Transmitting.{Carried, begun, ended, follow, installed, may_begin, moved, moves, names, now}
 use Rattle.group_safety.proofs.Public.{In, contains-in, in-contains, follow-append}
 use Rattle.transmit_words.specs.Telling.{KeepUp}
-use Rattle.transmit_words.specs.Ties.{CardsFollow, FollowsBy, HasCarded}
+use Rattle.transmit_words.specs.Ties.{CardsFollow, FollowsBy}
 use Rattle.transmit_words.specs.inside.Cards.{GivesCard, HasCard, IsCarded, card_held, card_of_key}
 
 -- ---- how many keys were installed

@@ -1,5 +1,5 @@
 -- What the words show, by the rule.
-use Rattle.std.proofs.Common.{◌≡◌, ◌≤◌, ℕ, max, true, List, get_or, sym, ap, ◌∙◌, subst, arith}
+use Rattle.std.proofs.Common.{◌≡◌, ◌≤◌, ℕ, true, List, get_or, sym, ap, ◌∙◌, subst, arith}
 use Rattle.lan_base.specs.declared.association_number.AssociationNumber.{AssociationNumber}
 use Rattle.lan_base.specs.AssociationNumbers.{number_of}
 use Rattle.association_slots.specs.Rule.{IsAsLeft}

@@ -1,6 +1,6 @@
 -- The cards of all words stay right.
-use Rattle.std.proofs.Common.{◌≡◌, ℕ, List, ◌∷◌, Some, sym, ap, ◌∙◌, subst}
-use Rattle.std.specs.Prelude.{slice_get, Contains, is_some}
+use Rattle.std.proofs.Common.{◌≡◌, ℕ, List, ◌∷◌, Some, ap}
+use Rattle.std.specs.Prelude.{Contains, is_some}
 use Rattle.lan_base.specs.declared.association_number.AssociationNumber.{AssociationNumber}
 use Rattle.lan_base.specs.declared.frame.UserFrame.{UserFrame}
 use Rattle.lan_base.specs.declared.key_id.KeyId.{KeyId}

@@ -1,13 +1,12 @@
 -- With an event the cards of a station's words stay those of the keys that it installed.
-use Rattle.std.proofs.Common.{◌≡◌, ◌≤◌, ◌<◌, ◌+◌, ℕ, zero, suc, ◌==◌, Bool, true, false, cond, List, [], ◌∷◌, ◌++◌, length, filter}
+use Rattle.std.proofs.Common.{◌≡◌, ◌≤◌, ◌<◌, ◌+◌, ℕ, ◌==◌, List, [], ◌∷◌, length, filter}
 use Rattle.std.proofs.Common.{Option, Some, None, refl, sym, ap, ◌∙◌, subst, arith, inl, inr}
-use Rattle.std.specs.Prelude.{◌⊎◌, Contains}
+use Rattle.std.specs.Prelude.{Contains}
 use Rattle.std.proofs.lemmas.Bool.{cases_Bool}
 use Rattle.lan_base.specs.declared.association_number.AssociationNumber.{AssociationNumber}
 use Rattle.lan_base.specs.declared.key_id.KeyId.{KeyId}
 use Rattle.lan_base.specs.declared.frame.UserFrame.{UserFrame}
 use Rattle.aes_block.specs.declared.secret.Secret.{Secret}
-use Rattle.association_slots.specs.declared.card.Card.{Card}
 use Rattle.sak_exchange.specs.declared.held_key.HeldKey.{HeldKey}
 use Rattle.sak_exchange.specs.declared.held_key.Key.{Key}
 use Rattle.sak_exchange.specs.Histories.{Keying, began, install_count, installed, installs, ticked}
@@ -25,7 +24,7 @@ use Rattle.lan_core.specs.Legal.{IsStep, IsStepped}
 use Rattle.lan_core.specs.Lives.{Life, keys_in, life, lived, sak_in, seen_at, turn_at_tick}
 use Rattle.lan_core.specs.Run.{Happening, Run}
 use Rattle.lan_core.proofs.Public.{lives-count}
-use Rattle.group_safety.proofs.Public.{In, hear-is_turn, in-contains, kept-turn, part, tick-is_turn}
+use Rattle.group_safety.proofs.Public.{hear-is_turn, in-contains, kept-turn, part, tick-is_turn}
 use Rattle.group_safety.proofs.Public as parts
 use Rattle.group_safety.specs.Transmitting.{Carried, CarriesAt, CarriesIn}
 use Rattle.association_slots.specs.Cards.{card_at}
@@ -33,7 +32,7 @@ use Rattle.association_slots.specs.declared.view.ControlView.{ControlView}
 use Rattle.sak_exchange.proofs.Public.{by_option}
 use Rattle.transmit_words.specs.Ties.{HasCarded}
 use Rattle.race_merge.specs.Sealing.{HasInLife, HasInstalled}
-use Rattle.worker_races.proofs.KeysNew.{IsNewAt, new-held, new-or-old, new-shown}
+use Rattle.worker_races.proofs.KeysNew.{new-held, new-or-old, new-shown}
 
 -- ---- the rules on keys are kept in each life
 

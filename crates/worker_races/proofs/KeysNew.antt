@@ -1,8 +1,8 @@
 -- A key that a station has installed after an event was installed before it; or it is the one whose
 -- install the event's facts show, and it is held under the association number that they show.
-use Rattle.std.proofs.Common.{◌≡◌, ◌≤◌, ◌+◌, ℕ, zero, suc, ◌==◌, Bool, true, false, cond, List, [], ◌∷◌, ◌++◌, length, filter}
+use Rattle.std.proofs.Common.{◌≡◌, ◌+◌, ℕ, ◌==◌, Bool, List, [], ◌∷◌, ◌++◌, length, filter}
 use Rattle.std.proofs.Common.{Option, Some, None, refl, sym, ap, ◌∙◌, subst, arith, inl, inr}
-use Rattle.std.specs.Prelude.{◌⊎◌, Contains, option_and_then, option_map, option_to_list}
+use Rattle.std.specs.Prelude.{◌⊎◌, option_and_then, option_map, option_to_list}
 use Rattle.std.specs.List.{find}
 use Rattle.std.proofs.lemmas.Bool.{cases_Bool, eqb-true}
 use Rattle.lan_base.specs.declared.association_number.AssociationNumber.{AssociationNumber}
@@ -29,7 +29,7 @@ use Rattle.lan_core.specs.Legal.{IsStep, IsStepped}
 use Rattle.lan_core.specs.Lives.{Life, keys_in, life, lived, sak_in, seen_at, turn_at_tick}
 use Rattle.lan_core.specs.Run.{Happening, Run}
 use Rattle.lan_core.proofs.Public.{lives-count}
-use Rattle.group_safety.proofs.Public.{In, IsTurn, hear-is_turn, in-contains, kept-turn, one-epoch, part}
+use Rattle.group_safety.proofs.Public.{In, IsTurn, hear-is_turn, one-epoch, part}
 use Rattle.group_safety.proofs.Public.{received-installed, tick-is_turn, with_began, with_key, with_tick}
 use Rattle.group_safety.proofs.Public as parts
 use Rattle.race_merge.specs.Sealing.{HasInLife}

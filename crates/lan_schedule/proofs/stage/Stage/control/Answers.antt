@@ -1,5 +1,4 @@
 use Rattle.std.proofs.Common.{arith}
-use Rattle.lan_schedule.specs.Lines.{controlled}
 use Rattle.lan_schedule.proofs.Controlling.{control-step, control-err, control-end}
 use Rattle.lan_schedule.proofs.stage.Stage.control.Goals as goal
 

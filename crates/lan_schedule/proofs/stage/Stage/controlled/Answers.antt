@@ -6,7 +6,6 @@ use Rattle.lan_schedule.specs.Kinds.{wrong_frame}
 use Rattle.lan_schedule.specs.Lines.{deed}
 use Rattle.lan_schedule.proofs.Commanding.{none-of}
 use Rattle.lan_schedule.proofs.Controlling.{control-apart, control-later, frame-wrong, frame-right}
-use Rattle.lan_schedule.proofs.Same.{IsSame}
 use Rattle.lan_schedule.proofs.Sending.{same-did}
 use Rattle.lan_schedule.proofs.stage.Stage.controlled.Goals as goal
 

@@ -1,5 +1,5 @@
 -- The seats of the first workers came back, and their logs are there.
-use Rattle.std.proofs.Common.{◌≡◌, map, length}
+use Rattle.std.proofs.Common.{◌≡◌, map}
 use Rattle.std.specs.Vec.{vec_capacity}
 use Rattle.lan_schedule.specs.inside.Beside.{WereJoined}
 use Rattle.transmit_words.specs.Ties.{tables_of}
