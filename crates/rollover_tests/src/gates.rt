@@ -112,7 +112,7 @@ fn two_workers_meet(rt: HostRuntime) -> Result<(), Fail> {
     let gate = AnyGate::Other(Box::new(
         alloc,
         Pair {
-            loaded: loaded.clone(),
+            loaded: loaded.clone()?,
         },
     )?);
     let left = passing(&rt, alloc, &["run"], &trace, STEADY, &gate)?;
@@ -138,9 +138,9 @@ fn a_worker_meets_control(rt: HostRuntime) -> Result<(), Fail> {
     let gate = AnyGate::Other(Box::new(
         alloc,
         Crossing {
-            moved: moved.clone(),
-            loaded: loaded.clone(),
-            taken: taken.clone(),
+            moved: moved.clone()?,
+            loaded: loaded.clone()?,
+            taken: taken.clone()?,
         },
     )?);
     let left = passing(&rt, alloc, &["run"], &trace, STEADY, &gate)?;
