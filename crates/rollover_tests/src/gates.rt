@@ -25,13 +25,14 @@ struct Come {
 impl Come {
     /// Nobody has come.
     fn new(alloc: Global) -> Result<Arc<Self>, AllocError> {
-        Arc::new(
+        let come = Arc::new(
             alloc,
             Come {
                 count: AtomicUsize::new(0),
                 late: AtomicUsize::new(0),
             },
-        )
+        )?;
+        Ok(come)
     }
 
     /// Another has come.
