@@ -103,6 +103,27 @@ impl Gate for Crossing {
     }
 }
 
+/// A gate that holds nobody, and counts who comes: control at the first station and at the second,
+/// and workers before their addition and behind their claim.
+#[derive(Drop)]
+struct Counting {
+    first: Arc<Come>,
+    second: Arc<Come>,
+    loaded: Arc<Come>,
+    taken: Arc<Come>,
+}
+
+impl Gate for Counting {
+    fn at(&self, point: Point) {
+        match point {
+            Point::Pointed { station: 0 } => self.first.come(),
+            Point::Pointed { .. } => self.second.come(),
+            Point::Loaded { .. } => self.loaded.come(),
+            Point::Taken { .. } => self.taken.come(),
+        }
+    }
+}
+
 /// Two workers are at work at once.
 #[test]
 fn two_workers_meet(rt: HostRuntime) -> Result<(), Fail> {
@@ -154,5 +175,38 @@ fn a_worker_meets_control(rt: HostRuntime) -> Result<(), Fail> {
         count(left.held.as_slice(), "claim A an 1 epoch 2 pn 10"),
         1
     );
+    Ok(())
+}
+
+/// The gate is passed before each addition and behind each claim, of a line that sends and of a
+/// worker, and where a station's current word has moved: as its key begins, and as a restart drops it.
+#[test]
+fn each_move_and_each_claim_passes_the_gate(rt: HostRuntime) -> Result<(), Fail> {
+    let alloc = rt.alloc();
+    let sends = "send A ffffffffffff 88b50001\n";
+    let race = "race\nburst B 2 4 ffffffffffff 88b50001\nwhile\nend\nrestart A\n";
+    let trace = joined(
+        alloc,
+        &[GROUP, FIRST, SECOND, SIX_ROUNDS, sends, sends, sends, race],
+    )?;
+    let first = Come::new(alloc)?;
+    let second = Come::new(alloc)?;
+    let loaded = Come::new(alloc)?;
+    let taken = Come::new(alloc)?;
+    let gate = AnyGate::Other(Box::new(
+        alloc,
+        Counting {
+            first: first.clone()?,
+            second: second.clone()?,
+            loaded: loaded.clone()?,
+            taken: taken.clone()?,
+        },
+    )?);
+    let left = passing(&rt, alloc, &["run"], &trace, STEADY, &gate)?;
+    assert_eq!(rt; left.status, Status::Done);
+    assert_eq!(rt; first.count(), 2);
+    assert_eq!(rt; second.count(), 1);
+    assert_eq!(rt; loaded.count(), 7);
+    assert_eq!(rt; taken.count(), 7);
     Ok(())
 }
