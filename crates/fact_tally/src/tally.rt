@@ -65,6 +65,23 @@ impl Tally {
         }
     }
 
+    /// The same counts once more.
+    pub fn copied(&self) -> Tally
+        ensures { result ≡ self.now }
+    {
+        Tally {
+            accepted: self.accepted,
+            begun: self.begun,
+            claims: self.claims,
+            frames: self.frames,
+            installed: self.installed,
+            late: self.late,
+            missed: self.missed,
+            noclaims: self.noclaims,
+            ticks: self.ticks,
+        }
+    }
+
     /// A fact is counted, if it is of a kind that is.
     pub fn add(&mut self, fact: &Fact)
         ensures { (shown : List Fact) → self.old ≡ counts shown

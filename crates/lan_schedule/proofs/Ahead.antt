@@ -11,9 +11,12 @@ use Rattle.lan_core.specs.declared.event.Event.TheVariants as events
 use Rattle.lan_core.specs.declared.settings.Settings.{Settings}
 use Rattle.lan_core.specs.Run.{Run, Profile, stations, started}
 use Rattle.group_safety.specs.Accounts.{Account, blank, account_at, ahead, onward}
+use Rattle.group_safety.specs.Transmitting.{Carried, CarriesAt}
 use Rattle.transmit_words.specs.Telling.{KeepUp, CatchUp, Tells}
 use Rattle.transmit_words.specs.Ties.{AreTiedBy, AreTied, AreAheadBy, AreAhead, HaveCaughtUp}
 use Rattle.transmit_words.specs.Ties.{CaughtAhead, HaveKeptUp, KeepAhead}
+use Rattle.transmit_words.proofs.Public.{ahead-carried, onward-carried}
+use Rattle.worker_races.specs.Carded.{AreCarded, KeepCarried}
 use Rattle.lan_schedule.specs.Numbers.{shown_next}
 use Rattle.lan_schedule.specs.Stages.{Says}
 use Rattle.lan_schedule.specs.inside.Set.{SaysAhead, AreSet, IsGiven}
@@ -59,7 +62,55 @@ behind-by false racing settings r q event cs ds tied caught kept says = tied ref
 behind-by true false settings r q event cs ds tied caught kept says = caught says
 behind-by true true settings r q event cs ds tied caught kept says = kept says
 
+-- where the step of an event was taken, the words keep up with what is carried
+carried-by : (Say : Account → ControlView → Type 0) (takes : ℕ → Event → Account → Account)
+    (settings : Settings) (r : Run) (event : Event) (cs : List ControlAt)
+    → ((s : ℕ) (a : Account) → (takes s event a).carried ≡ a.carried)
+    → ((a : Account) (c : ControlView) → Say a c → KeepUp a c)
+    → AreAheadBy Say takes settings r event cs → KeepCarried settings r cs
+carried-by Say takes settings r event cs same keeps says s c there =
+    let t = says.each s c there in
+    let a : Account = takes s event (account_at settings s r t.0) in (
+      a,
+      subst (λ (k : Carried). CarriesAt settings s r k)
+          (sym (same s (account_at settings s r t.0))) t.1,
+      keeps a c.view t.2,
+    )
+
+pub carries-ahead : (raced racing : Bool) (settings : Settings) (r : Run) (event : Event)
+    (cs : List ControlAt) → SaysAhead raced racing settings r event cs → KeepCarried settings r cs
+carries-ahead false racing settings r event cs says =
+    carried-by Tells ahead settings r event cs (λ s a. ahead-carried s event a)
+    (λ a c tells. tells.keep_up) says
+carries-ahead true false settings r event cs says =
+    carried-by CatchUp onward settings r event cs (λ s a. onward-carried s event a)
+    (λ a c caught. caught.keep_up) says
+carries-ahead true true settings r event cs says =
+    carried-by KeepUp onward settings r event cs (λ s a. onward-carried s event a)
+    (λ a c kept. kept) says
+
 -- ---- a station that starts
+
+-- as many words as stations
+said-many : (raced racing : Bool) (settings : Settings) (r : Run) (cs : List ControlAt)
+    → Says raced racing settings r cs → length cs ≡ length (stations r)
+said-many false racing settings r cs says = says.many
+said-many true false settings r cs says = says.many
+said-many true true settings r cs says = says.many
+
+-- its words owe no card
+pub start-cards : (raced racing : Bool) (settings : Settings) (r : Run) (event : Event)
+    (name : Name) (sci : Sci) (priority : ℕ) (cs ds : List ControlAt)
+    → event ≡ events.Start name sci priority
+    → ((c : ControlAt) → length cs ≡ length (stations r) → AreCarded settings r cs
+    → AreCarded settings r (cs ++ c ∷ []))
+    → AreSet event raced racing settings r cs → AreCarded settings r cs
+    → (c : ControlAt) × (ds ≡ cs ++ c ∷ []) × Tells blank c.view → AreCarded settings r ds
+start-cards raced racing settings r event name sci priority cs ds is more set carded made =
+    let says : Says raced racing settings r cs =
+    subst (λ (e : Event). AreSet e raced racing settings r cs) is set in
+    subst (λ (es : List ControlAt). AreCarded settings r es) (sym made.1)
+    (more made.0 (said-many raced racing settings r cs says) carded)
 
 pub on-ok : {E : Type 0} (r : Result (Unit {0}) E) (P Q : Type 0) → (P → Q) → OnOk r P → OnOk r Q
 on-ok (Ok done) P Q f is = f is

@@ -1,5 +1,5 @@
 -- What the words give to a claim of a station, and what they say afterwards.
-use Rattle.std.proofs.Common.{◌≡◌, ◌≤◌, ◌<◌, ◌⊎◌, inl, inr, ⊎_elim, ℕ, ◌+◌, Bool, true, false, cond}
+use Rattle.std.proofs.Common.{◌≡◌, ◌≤◌, ◌<◌, ◌⊎◌, inl, inr, ⊎_elim, ℕ, ◌+◌, ◌^◌, Bool, true, false, cond}
 use Rattle.std.proofs.Common.{List, [], ◌∷◌, ◌++◌, length, min, refl, ◌∙◌, subst, arith}
 use Rattle.std.proofs.lemmas.List.Sums.{sum_by-cons, sum_by-append}
 use Rattle.std.specs.List.{count_by}
@@ -13,7 +13,7 @@ use Rattle.lan_core.specs.Run.{Run, stations, facts_of}
 use Rattle.lan_core.specs.Ledgers.{Claim, claims, claim_of, collect, gather, with_one}
 use Rattle.lan_core.specs.Expected.{last_number}
 use Rattle.fact_tally.specs.Summary.{Counts, counts, is_claim, most}
-use Rattle.transmit_words.specs.Ties.{AreTied, AreAhead, HaveCaughtUp, CaughtAhead}
+use Rattle.transmit_words.specs.Ties.{AreTied, AreAhead, HaveCaughtUp, CaughtAhead, KeepCards}
 use Rattle.transmit_words.specs.Seats.{HasGot, AreSpent}
 use Rattle.lan_schedule.specs.declared.stage.Stage.{Stage}
 use Rattle.lan_schedule.specs.World.{World, settings, is_racing}
@@ -74,6 +74,16 @@ few-claims r few =
     let low : min (count_by is_claim (facts_of r)) most ≤ most_claims = few in
     omega (arith, n, low)
 
+-- where they were few, the tally has as many
+pub claims-tallied : (r : Run) → (counts (facts_of r)).claims < 2 ^ 32
+    → length (claims r) ≡ (counts (facts_of r)).claims
+unfolding counts
+claims-tallied r few =
+    let n = claims-counted r in
+    let low : min (count_by is_claim (facts_of r)) most < 2 ^ 32 = few in
+    let same : (counts (facts_of r)).claims ≡ min (count_by is_claim (facts_of r)) most = refl in
+    omega (arith, n, low, same)
+
 -- ---- a claim
 
 -- words that have caught up with a run of few claims have a number left
@@ -90,6 +100,7 @@ pub record Gives (s n pn : ℕ) (old mid : Stage) : Type 0 where
       → s < length (stations r)
       → HasGot settings s r old.words pn × CaughtAhead settings r (events.Claim s n pn) mid.words
   pub few : old.raced ≡ true → old.tally.claims ≤ most_claims
+  pub cards : KeepCards old.words mid.words
   pub spends : SpendsNone
 
 got-taken : (settings : Settings) (s : ℕ) (r : Run) (cs : List ControlAt) (n : ℕ)

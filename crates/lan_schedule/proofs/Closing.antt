@@ -1,5 +1,5 @@
 -- A trace ends, unless it is inside a race.
-use Rattle.std.proofs.Common.{◌≡◌, ◌+◌, ℕ, false, true, List, [], inl, inr, refl, sym, ap, ◌∙◌, subst}
+use Rattle.std.proofs.Common.{◌≡◌, ◌+◌, ℕ, true, List, [], inl, inr, refl, sym, ap, ◌∙◌, subst}
 use Rattle.std.specs.Prelude.{Result, Ok, Err}
 use Rattle.lan_schedule.specs.declared.halt.Halt.{Halt}
 use Rattle.lan_schedule.specs.declared.halt.Halt.TheVariants as halts
@@ -9,7 +9,7 @@ use Rattle.lan_schedule.specs.declared.commands.Replay.{Replay}
 use Rattle.lan_schedule.specs.Races.{Phase, Apart, Bursting, Controlling, Racing, Chance}
 use Rattle.lan_schedule.specs.Races.{behind_numbers}
 use Rattle.lan_schedule.specs.World.{World}
-use Rattle.lan_schedule.specs.Acts.{Goes, Stops, perform}
+use Rattle.lan_schedule.specs.Acts.{Stops, perform}
 use Rattle.lan_schedule.specs.Lines.{at_line, close, close_at, performed_all, performed_whole}
 use Rattle.lan_schedule.specs.Reports.{Report}
 use Rattle.lan_schedule.specs.Ends.{Moment, IsReached, Ends}
@@ -18,19 +18,6 @@ use Rattle.lan_schedule.specs.inside.Phased.{is_inside}
 use Rattle.lan_schedule.proofs.Doing.{told-none, ends-memory}
 use Rattle.lan_schedule.proofs.LinesCome.{tidy-same}
 use Rattle.lan_schedule.proofs.Replaying.{stands-counts, then-ok, then-err}
-
-goes-at : (w : World) (phase : Phase) → is_inside phase ≡ false
-    → perform (close_at phase) w ≡ Goes w
-goes-at w Apart outside = refl
-goes-at w (Bursting bursts) outside = absurd (cc outside)
-goes-at w (Controlling bursts control) outside = absurd (cc outside)
-goes-at w Racing outside = absurd (cc outside)
-
--- outside a race nothing more comes
-pub closes-outside : (w : World) (phase : Phase) → w.kept.phase ≡ phase → is_inside phase ≡ false
-    → Closes w (Ok tt)
-closes-outside w phase is outside =
-    ap (λ (p : Phase). perform (close_at p) w) is ∙ goes-at w phase outside
 
 stops-at : (w : World) (phase : Phase) → is_inside phase ≡ true → perform (close_at phase) w
     ≡ Stops (at_line (w.kept.line + 1) w) (halts.Trace (w.kept.line + 1) kinds.NoEnd)
@@ -51,20 +38,20 @@ module _ {K : Type 0} {Took : K → Report → K → Type 0} {Broke : K → Repo
   where
     closed-early : (w : World) (later : List Chance) (now : Moment Replay K) (halt : Halt)
         → w.kept.chances ≡ later → IsReached StandsFor w now.value → Closes w (Err halt)
-        → Ends StandsFor Counts Took Broke w later (perform close w) now.outlet now (Err halt)
+        → Ends StandsFor (λ halt. Counts) Counts Took Broke w later (perform close w) now.outlet now (Err halt)
     closed-early w later now halt left reached (inl stops) = inl (record {
       world = at_line (w.kept.line + 1) w;
       stops = stops;
       tidy = tidy-same w _ reached.tidy refl refl refl refl refl (λ e. e) (λ e. e);
-      counts = stands-counts w now.value reached.stands;
+      leaves = stands-counts w now.value reached.stands;
       told = told-none w (at_line (w.kept.line + 1) w) now.outlet now.outlet refl refl;
       left = ap (λ (c : List Chance). behind_numbers c) left;
       same = refl;
     })
     closed-early w later now halt left reached (inr memory) =
-        subst (λ (h : Halt). Ends StandsFor Counts Took Broke w later (perform close w) now.outlet
+        subst (λ (h : Halt). Ends StandsFor (λ halt. Counts) Counts Took Broke w later (perform close w) now.outlet
         now (Err h)) (sym memory)
-        (ends-memory Took Broke StandsFor Counts close w later now.outlet now reached.tidy
+        (ends-memory Took Broke StandsFor (λ halt. Counts) Counts close w later now.outlet now reached.tidy
         (stands-counts w now.value reached.stands) refl)
 
     -- the end of a trace is performed

@@ -2,21 +2,24 @@
 use Rattle.std.proofs.Common.{◌≡◌, ◌<◌, ◌≤◌, ℕ, zero, suc, ◌+◌, ◌-◌, ◌==◌, Bool, true, false}
 use Rattle.std.proofs.Common.{List, [], ◌∷◌, ◌++◌, length, Option, Some, None, refl, sym}
 use Rattle.std.proofs.Common.{ap, ◌∙◌, subst, length-append, arith}
-use Rattle.std.specs.Prelude.{Result, Ok, Err, cond, map, is_some}
-use Rattle.std.specs.List.{find, filter}
+use Rattle.std.specs.Prelude.{Result, Ok, Err, cond, map, is_some, nat_eq, ◌||◌}
+use Rattle.std.specs.List.{find, filter, list_any}
+use Rattle.std.specs.Cmp.Lexicographic.{pointwise}
+use Rattle.std.proofs.lemmas.List.{map-append}
 use Rattle.sak_exchange.specs.declared.held_key.Key.{Key}
 use Rattle.lan_core.specs.declared.event.Event.{Event}
 use Rattle.lan_core.specs.declared.event.Event.TheVariants as events
 use Rattle.lan_core.specs.declared.fact.Fact.{Fact}
 use Rattle.lan_core.specs.declared.settings.Settings.{Settings}
-use Rattle.lan_core.specs.Run.{Run, Happening, started, stations}
+use Rattle.lan_core.specs.Run.{Run, Happening, Profile, started, stations}
 use Rattle.lan_core.specs.Ledgers.{Frame, air, framed, gather, with_one, frame_at}
 use Rattle.lan_core.specs.Claims.{next}
 use Rattle.lan_core.specs.Stops.{IsNextShown}
 use Rattle.lan_core.specs.Lives.{transmitting_at}
 use Rattle.lan_schedule.specs.declared.frames.Put.{Put}
 use Rattle.lan_schedule.specs.declared.halt.Halt.{Halt}
-use Rattle.lan_schedule.specs.World.{World, count, settings, sender, mark, marked_at}
+use Rattle.lan_schedule.specs.World.{World, count, settings, sender, mark, marked_at, is_in}
+use Rattle.lan_schedule.specs.World.{names_of}
 use Rattle.lan_schedule.specs.Settings.{lag_of}
 use Rattle.lan_core.specs.Unstopped.{next_under}
 use Rattle.lan_schedule.specs.Races.{Worker, Claimed, claims_in, woven_in, number_in}
@@ -41,14 +44,18 @@ IsOnAir r number = is_some (frame_at r number) ≡ true
 -- what was there is there still
 pub record IsLater (w v : World) : Type 0 where
   pub count : count w ≤ count v
+  pub names : (name : List ℕ) → is_in name (names_of w.run) ≡ true
+      → is_in name (names_of v.run) ≡ true
   pub frames : (number : ℕ) → IsOnAir w.run number → IsOnAir v.run number
 
 pub later-self : (w : World) → IsLater w w
-later-self w = record { count = omega arith; frames = λ number there. there }
+later-self w =
+    record { count = omega arith; names = λ name there. there; frames = λ number there. there }
 
 pub later-later : (w v u : World) → IsLater w v → IsLater v u → IsLater w u
 later-later w v u f g = record {
   count = omega (arith, f.count, g.count);
+  names = λ name there. g.names name (f.names name there);
   frames =
       λ number there. g.frames number (f.frames number there);
 }
@@ -71,11 +78,28 @@ find-gather p read [] xs there = there
 find-gather p read (fact ∷ others) xs there =
     find-gather p read others (with_one (read fact) xs) (find-one p (read fact) xs there)
 
+any-more : {A : Type 0} (p : A → Bool) (xs ys : List A) → list_any p xs ≡ true
+    → list_any p (xs ++ ys) ≡ true
+any-more p [] ys there = absurd (let bad : false ≡ true = there in cc bad)
+any-more p (x ∷ xs) ys there = by (p x) (λ f. any-more p xs ys f) there where
+  by : (b : Bool) → (list_any p xs ≡ true → list_any p (xs ++ ys) ≡ true)
+      → (b || list_any p xs) ≡ true → (b || list_any p (xs ++ ys)) ≡ true
+  by true f there = refl
+  by false f there = f there
+
+names-more : (r : Run) (more : List Profile) (name : List ℕ) → is_in name (names_of r) ≡ true
+    → is_in name (map (λ (p : Profile). p.name) (stations r ++ more)) ≡ true
+names-more r more name there =
+    subst (λ (names : List (List ℕ)). is_in name names ≡ true)
+    (sym (map-append (λ (p : Profile). p.name) (stations r) more))
+    (any-more (pointwise nat_eq name) (names_of r) _ there)
+
 later-event : (w : World) (event : Event) (facts : List Fact)
     → IsLater w (world_after w event facts)
 unfolding stations air
 later-event w event facts = record {
   count = let e = length-append (stations w.run) (started event) in omega arith;
+  names = names-more w.run (started event);
   frames = λ number there. find-gather (λ f. f.number == number) framed facts (air w.run) there;
 }
 
@@ -100,14 +124,17 @@ later-both w v (Stops u halt) g first second e = absurd (cc e)
 -- what was there in a run is there still
 record IsLaterRun (r s : Run) : Type 0 where
   count : length (stations r) ≤ length (stations s)
+  names : (name : List ℕ) → is_in name (names_of r) ≡ true → is_in name (names_of s) ≡ true
   frames : (number : ℕ) → IsOnAir r number → IsOnAir s number
 
 run-self : (r : Run) → IsLaterRun r r
-run-self r = record { count = omega arith; frames = λ number there. there }
+run-self r =
+    record { count = omega arith; names = λ name there. there; frames = λ number there. there }
 
 run-then : (r s t : Run) → IsLaterRun r s → IsLaterRun s t → IsLaterRun r t
 run-then r s t f g = record {
   count = omega (arith, f.count, g.count);
+  names = λ name there. g.names name (f.names name there);
   frames = λ number there. g.frames number (f.frames number there);
 }
 
@@ -115,6 +142,7 @@ run-one : (x : Happening) (r : Run) → IsLaterRun r (x ∷ r)
 unfolding stations air
 run-one x r = record {
   count = let e = length-append (stations r) (started x.event) in omega arith;
+  names = names-more r (started x.event);
   frames = λ number there. find-gather (λ f. f.number == number) framed x.facts (air r) there;
 }
 
@@ -151,7 +179,7 @@ later-race workers w v (Goes u) e =
     let mid = after_race workers w u in
     let run = run-woven (settings w) workers (length w.kept.users) (woven_in u.kept.chances)
     (since w u) w.run in
-    later-later w mid v (record { count = run.count; frames = run.frames })
+    later-later w mid v (record { count = run.count; names = run.names; frames = run.frames })
     (later-emitting _ mid v e)
 later-race workers w v (Stops u halt) e = absurd (cc e)
 
@@ -162,7 +190,7 @@ later (happen event) w v e = later-shown w v event (answer w event) e
 later (change f) w v e =
     let same : record w { kept = f w.kept } ≡ v = cc in
     subst (λ (u : World). IsLater w u) same
-    (record { count = omega arith; frames = λ number there. there })
+    (record { count = omega arith; names = λ name there. there; frames = λ number there. there })
 later (seq f g) w v e = later-both w v (perform f w) (λ u. perform g u)
     (λ u first. later f w u first) (λ u second. later g u v second) e
 later (look f) w v e = later (f w) w v e

@@ -18,7 +18,10 @@ use Rattle.lan_schedule.specs.inside.Phased.{refusal_apart, act_apart}
 use Rattle.lan_schedule.specs.inside.Comes.{Comes}
 use Rattle.lan_schedule.specs.inside.Staged.{Did}
 use Rattle.lan_schedule.specs.Stages.{StandsFor, Counts}
+use Rattle.lan_schedule.specs.inside.Recording.{StandsSince, LeavesAt}
 use Rattle.lan_schedule.proofs.Doing.{told-none}
+use Rattle.lan_schedule.proofs.Happening.{looked-none}
+use Rattle.lan_schedule.proofs.Recorded.{leaves-so}
 
 module _ {K : Type 0} {Took : K → Report → K → Type 0} {Broke : K → Report → K → Broken → Type 0}
   where
@@ -27,19 +30,21 @@ module _ {K : Type 0} {Took : K → Report → K → Type 0} {Broke : K → Repo
         → Did Took Broke (act_apart line) now now (Err (halts.Trace now.value.line kind))
     refused-does line kind now is = record {
       chances = [];
-      ends = λ w later left reached comes.
+      ends = λ mark w later left reached comes.
           let out : perform (act_apart line) w ≡ Stops w (halts.Trace now.value.line kind) =
-          ap (λ (o : Option Kind). perform (unless_refused o (deed line w)) w) (is w reached.stands)
-          ∙ ap (λ (n : ℕ). Stops w (halts.Trace n kind)) (sym reached.stands.line) in
+          ap (λ (o : Option Kind). perform (unless_refused o (deed line w)) w) (is w reached.stands.stands)
+          ∙ ap (λ (n : ℕ). Stops w (halts.Trace n kind)) (sym reached.stands.stands.line) in
           inl (record {
             world = w;
             stops = out;
             tidy = reached.tidy;
-            counts = reached.stands.tally;
+            leaves = leaves-so mark (halts.Trace now.value.line kind) w now.value reached.stands
+                (λ stop. looked-none mark w now.value reached.stands);
             told = told-none w w now.outlet now.outlet refl refl;
             left = ap (λ (c : List Chance). behind_numbers c) left;
             same = refl;
           });
+      tables = λ s table at. at;
     }
 
     pub performed-does : (line : Line) (old new : Moment Stage K) (r : Result (Unit {0}) Halt)
@@ -47,12 +52,13 @@ module _ {K : Type 0} {Took : K → Report → K → Type 0} {Broke : K → Repo
         → Did Took Broke (look (λ w. deed line w)) old new r → Did Took Broke (act_apart line) old new r
     performed-does line old new r is d = record {
       chances = d.chances;
-      ends = λ w later left reached comes.
-          let none = is w reached.stands in
+      ends = λ mark w later left reached comes.
+          let none = is w reached.stands.stands in
           subst (λ (o : Option Kind). Comes (unless_refused o (deed line w)) w
-          → Ends StandsFor Counts Took Broke w later (perform (unless_refused o (deed line w)) w)
+          → Ends (StandsSince mark) (LeavesAt mark) Counts Took Broke w later (perform (unless_refused o (deed line w)) w)
           old.outlet new r) (sym none)
-          (λ comes_deed. d.ends w later left reached comes_deed) comes;
+          (λ comes_deed. d.ends mark w later left reached comes_deed) comes;
+      tables = d.tables;
     }
 
 pub none-of : (o : Option Kind) → ((x : Kind) → o ≡ Some x → ⊥) → o ≡ None

@@ -2,15 +2,19 @@
 use Rattle.std.proofs.Common.{◌≡◌, ℕ, zero, suc, ◌+◌, ◌-◌, ◌<◌, ◌≤◌, List, [], ◌∷◌, ◌++◌, length}
 use Rattle.std.proofs.Common.{drop, get_or, drop-cons, inl, inr, refl, sym, ap, ◌∙◌, subst}
 use Rattle.std.proofs.Common.{append_assoc, append-nil, add-one, arith}
-use Rattle.std.specs.Prelude.{◌⊎◌, Result, Ok, Err}
+use Rattle.std.specs.Prelude.{◌⊎◌, Result, Ok, Err, Option, Some, None}
 use Rattle.std.specs.Result.{IsErrAnd}
 use Rattle.std.proofs.lemmas.Result.{err_from_is_err_and}
+use Rattle.lan_base.specs.declared.frame.UserFrame.{UserFrame}
+use Rattle.association_slots.specs.Views.{ControlAt}
+use Rattle.lan_core.specs.declared.settings.Settings.{Settings}
+use Rattle.race_merge.specs.declared.step.Step.{Step}
 use Rattle.lan_schedule.specs.declared.halt.Halt.{Halt}
 use Rattle.lan_schedule.specs.declared.halt.Halt.TheVariants as halts
 use Rattle.lan_schedule.specs.declared.recorder.Broken.{Broken}
 use Rattle.lan_schedule.specs.declared.stage.Stage.{Stage}
 use Rattle.lan_schedule.specs.Races.{Chance}
-use Rattle.lan_schedule.specs.World.{World, Kept, is_racing}
+use Rattle.lan_schedule.specs.World.{World, Kept, is_racing, settings}
 use Rattle.lan_schedule.specs.Answers.{answer}
 use Rattle.lan_schedule.specs.Acts.{Act, nothing, refuse, exceed, happen, change, seq, look, race}
 use Rattle.lan_schedule.specs.Acts.{perform, begun_race, Course, Goes, Stops, and_then, each, span}
@@ -19,6 +23,8 @@ use Rattle.lan_schedule.specs.Ends.{Moment, moment, Begins, reported, WasTold, W
 use Rattle.lan_schedule.specs.inside.Comes.{Comes, IsGoing}
 use Rattle.lan_schedule.specs.Sound.{IsTidy}
 use Rattle.lan_schedule.specs.Stages.{StandsFor, Counts}
+use Rattle.lan_schedule.specs.inside.Recording.{Mark, StandsSince, LeavesAt, HasRecorded, IsRecorded}
+use Rattle.lan_schedule.specs.inside.Recording.{KeepTables, steps_of}
 use Rattle.lan_schedule.specs.inside.Staged.{Did, Changed}
 use Rattle.lan_schedule.proofs.Racing.{begins-self, begins-then, shown-begins, then-begins}
 use Rattle.lan_schedule.proofs.Racing.{race-begins}
@@ -48,14 +54,14 @@ pub going : (out : Course) (w : World) (P : World → Type 0) → out ≡ Goes w
 going out w P e h = subst (λ (o : Course). IsGoing o P) e h
 
 -- a span begins with its first
-span-next : (f : ℕ → Act) (i n : ℕ) → i < n
+pub span-next : (f : ℕ → Act) (i n : ℕ) → i < n
     → span f i (n - i) ≡ seq (f i) (span f (i + 1) (n - (i + 1)))
 span-next f i n lt =
     let e : n - i ≡ suc (n - (i + 1)) = omega arith in
     ap (λ (k : ℕ). span f i k) e ∙ ap (λ (k : ℕ). seq (f i) (span f k (n - (i + 1))))
     (sym (add-one i))
 
-span-done : (f : ℕ → Act) (i n : ℕ) → n ≤ i → span f i (n - i) ≡ nothing
+pub span-done : (f : ℕ → Act) (i n : ℕ) → n ≤ i → span f i (n - i) ≡ nothing
 span-done f i n le = let e : n - i ≡ 0 = omega arith in ap (λ (k : ℕ). span f i k) e
 
 drop-past : (xs : List ℕ) (i : ℕ) → length xs ≤ i → drop i xs ≡ []
@@ -124,24 +130,25 @@ module _ {K : Type 0} {Took : K → Report → K → Type 0} {Broke : K → Repo
 module _ {K : Type 0} (Took : K → Report → K → Type 0) (Broke : K → Report → K → Broken → Type 0)
   where
     -- a call that begins where another ended
-    pub ends-behind : {R : Type 0} (Stands Tallies : World → R → Type 0) (w v : World)
+    pub ends-behind : {R : Type 0} (Stands : World → R → Type 0) (Leaves : Halt → World → R → Type 0)
+        (Tallies : World → R → Type 0) (w v : World)
         (later : List Chance) (out : Course) (a b : K) (new : Moment R K)
         (r : Result (Unit {0}) Halt) → WasTold Took w v a b
         → is_racing v.kept.phase ≡ is_racing w.kept.phase
-        → Ends Stands Tallies Took Broke v later out b new r
-        → Ends Stands Tallies Took Broke w later out a new r
-    ends-behind Stands Tallies w v later out a b new (Ok done) f same h =
+        → Ends Stands Leaves Tallies Took Broke v later out b new r
+        → Ends Stands Leaves Tallies Took Broke w later out a new r
+    ends-behind Stands Leaves Tallies w v later out a b new (Ok done) f same h =
         (h.0, h.1, h.2, told-then w v h.0 a b new.outlet f h.3, h.4, h.5 ∙ same)
-    ends-behind Stands Tallies w v later out a b new (Err halt) f same (inl h) = inl (record {
+    ends-behind Stands Leaves Tallies w v later out a b new (Err halt) f same (inl h) = inl (record {
       world = h.world;
       stops = h.stops;
       tidy = h.tidy;
-      counts = h.counts;
+      leaves = h.leaves;
       told = told-then w v h.world a b new.outlet f h.told;
       left = h.left;
       same = h.same ∙ same;
     })
-    ends-behind Stands Tallies w v later out a b new (Err halt) f same (inr h) = inr (record {
+    ends-behind Stands Leaves Tallies w v later out a b new (Err halt) f same (inr h) = inr (record {
       world = h.world;
       tidy = h.tidy;
       counts = h.counts;
@@ -151,20 +158,21 @@ module _ {K : Type 0} (Took : K → Report → K → Type 0) (Broke : K → Repo
     })
 
     -- the first act ended early
-    pub ends-early : {R : Type 0} (Stands Tallies : World → R → Type 0) (w : World)
+    pub ends-early : {R : Type 0} (Stands : World → R → Type 0) (Leaves : Halt → World → R → Type 0)
+        (Tallies : World → R → Type 0) (w : World)
         (later : List Chance) (out : Course) (g : Act) (a : K) (new : Moment R K) (halt : Halt)
-        → Ends Stands Tallies Took Broke w later out a new (Err halt)
-        → Ends Stands Tallies Took Broke w later (and_then out (λ v. perform g v)) a new (Err halt)
-    ends-early Stands Tallies w later out g a new halt (inl h) = inl (record {
+        → Ends Stands Leaves Tallies Took Broke w later out a new (Err halt)
+        → Ends Stands Leaves Tallies Took Broke w later (and_then out (λ v. perform g v)) a new (Err halt)
+    ends-early Stands Leaves Tallies w later out g a new halt (inl h) = inl (record {
       world = h.world;
       stops = ap (λ (o : Course). and_then o (λ v. perform g v)) h.stops;
       tidy = h.tidy;
-      counts = h.counts;
+      leaves = h.leaves;
       told = h.told;
       left = h.left;
       same = h.same;
     })
-    ends-early Stands Tallies w later out g a new halt (inr h) = inr (record {
+    ends-early Stands Leaves Tallies w later out g a new halt (inr h) = inr (record {
       world = h.world;
       tidy = h.tidy;
       counts = h.counts;
@@ -174,14 +182,16 @@ module _ {K : Type 0} (Took : K → Report → K → Type 0) (Broke : K → Repo
     })
 
     -- what one value did, another did in which it stands
-    pub ends-seen : {R S : Type 0} (Stands Tallies : World → R → Type 0)
-        (Sees Tells : World → S → Type 0) (w : World) (later : List Chance) (out : Course) (a k : K)
+    pub ends-seen : {R S : Type 0} (Stands : World → R → Type 0) (Leaves : Halt → World → R → Type 0)
+        (Tallies : World → R → Type 0) (Sees : World → S → Type 0)
+        (Shows : Halt → World → S → Type 0) (Tells : World → S → Type 0) (w : World) (later : List Chance) (out : Course) (a k : K)
         (x : R) (y : S) (r : Result (Unit {0}) Halt)
         → ((v : World) → out ≡ Goes v → r ≡ Ok tt → Stands v x → Sees v y)
+        → ((v : World) (halt : Halt) → Leaves halt v x → Shows halt v y)
         → ((v : World) → Tallies v x → Tells v y)
-        → Ends Stands Tallies Took Broke w later out a (moment x k) r
-        → Ends Sees Tells Took Broke w later out a (moment y k) r
-    ends-seen Stands Tallies Sees Tells w later out a k x y (Ok done) sees tells h = (
+        → Ends Stands Leaves Tallies Took Broke w later out a (moment x k) r
+        → Ends Sees Shows Tells Took Broke w later out a (moment y k) r
+    ends-seen Stands Leaves Tallies Sees Shows Tells w later out a k x y (Ok done) sees shows tells h = (
       h.0,
       h.1,
       record { stands = sees h.0 h.1 refl h.2.stands; tidy = h.2.tidy },
@@ -189,17 +199,17 @@ module _ {K : Type 0} (Took : K → Report → K → Type 0) (Broke : K → Repo
       h.4,
       h.5,
     )
-    ends-seen Stands Tallies Sees Tells w later out a k x y (Err halt) sees tells (inl h) =
+    ends-seen Stands Leaves Tallies Sees Shows Tells w later out a k x y (Err halt) sees shows tells (inl h) =
         inl (record {
           world = h.world;
           stops = h.stops;
           tidy = h.tidy;
-          counts = tells h.world h.counts;
+          leaves = shows h.world halt h.leaves;
           told = h.told;
           left = h.left;
           same = h.same;
         })
-    ends-seen Stands Tallies Sees Tells w later out a k x y (Err halt) sees tells (inr h) =
+    ends-seen Stands Leaves Tallies Sees Shows Tells w later out a k x y (Err halt) sees shows tells (inr h) =
         inr (record {
           world = h.world;
           tidy = h.tidy;
@@ -210,11 +220,12 @@ module _ {K : Type 0} (Took : K → Report → K → Type 0) (Broke : K → Repo
         })
 
     -- no memory, before more was told
-    pub ends-memory : {R : Type 0} (Stands Tallies : World → R → Type 0) (act : Act) (w : World)
+    pub ends-memory : {R : Type 0} (Stands : World → R → Type 0) (Leaves : Halt → World → R → Type 0)
+        (Tallies : World → R → Type 0) (act : Act) (w : World)
         (later : List Chance) (a : K) (new : Moment R K) → IsTidy w → Tallies w new.value
         → new.outlet ≡ a
-        → Ends Stands Tallies Took Broke w later (perform act w) a new (Err halts.Memory)
-    ends-memory Stands Tallies act w later a new tidy counts same = inr (record {
+        → Ends Stands Leaves Tallies Took Broke w later (perform act w) a new (Err halts.Memory)
+    ends-memory Stands Leaves Tallies act w later a new tidy counts same = inr (record {
       world = w;
       tidy = tidy;
       counts = counts;
@@ -225,6 +236,33 @@ module _ {K : Type 0} (Took : K → Report → K → Type 0) (Broke : K → Repo
 
 -- ---- what a group at work does
 
+-- what was kept since a mark is so still where only what is kept beside the run changed
+pub changed-since : (f : Kept → Kept) (mark : Mark) (w : World) (old new : Stage)
+    → Changed f old new → StandsSince mark w old
+    → StandsSince mark (record w { kept = f w.kept }) new
+changed-since f mark w old new changed since = record {
+  stands = changed.stands w since.stands;
+  recorded = subst (λ (cs : List ControlAt).
+      HasRecorded mark (record w { kept = f w.kept }) cs (steps_of new)) (sym changed.words)
+      (subst (λ (o : Option (List Step)).
+      HasRecorded mark (record w { kept = f w.kept }) old.words o) (sym changed.steps)
+      (recorded-so mark w f old.words (steps_of old) (changed.same w) since.recorded));
+} where
+  recorded-so : (mark : Mark) (w : World) (f : Kept → Kept) (words : List ControlAt)
+      (o : Option (List Step))
+      → (settings (record w { kept = f w.kept }) ≡ settings w) × ((f w.kept).users ≡ w.kept.users)
+      × ((f w.kept).raced ≡ w.kept.raced)
+      → HasRecorded mark w words o → HasRecorded mark (record w { kept = f w.kept }) words o
+  recorded-so mark w f words None same is = tt
+  recorded-so mark w f words (Some steps) same is = (
+    same.2 ∙ is.0,
+    subst (λ (users : List UserFrame).
+        IsRecorded mark (settings (record w { kept = f w.kept })) users w.run words steps)
+        (sym same.1)
+        (subst (λ (settings : Settings). IsRecorded mark settings w.kept.users w.run words steps)
+        (sym same.0) is.1),
+  )
+
 module _ {K : Type 0} {Took : K → Report → K → Type 0} {Broke : K → Report → K → Broken → Type 0}
   where
     -- the first act stopped
@@ -232,9 +270,10 @@ module _ {K : Type 0} {Took : K → Report → K → Type 0} {Broke : K → Repo
         → Did Took Broke f old new (Err e) → Did Took Broke (seq f g) old new (Err e)
     then-err f g old new e d = record {
       chances = d.chances;
-      ends = λ w later is reached comes.
-          ends-early Took Broke StandsFor Counts w later (perform f w) g old.outlet new e
-          (d.ends w later is reached comes.0);
+      ends = λ mark w later is reached comes.
+          ends-early Took Broke (StandsSince mark) (LeavesAt mark) Counts w later (perform f w) g old.outlet new e
+          (d.ends mark w later is reached comes.0);
+      tables = d.tables;
     }
 
     -- the first act was done, and then the second ended so
@@ -243,32 +282,36 @@ module _ {K : Type 0} {Took : K → Report → K → Type 0} {Broke : K → Repo
         → Did Took Broke (seq f g) old new r
     then-ok f g old mid new r d e = record {
       chances = d.chances ++ e.chances;
-      ends = λ w later is reached comes.
-          let first = d.ends w (e.chances ++ later)
+      ends = λ mark w later is reached comes.
+          let first = d.ends mark w (e.chances ++ later)
           (both-chances w.kept.chances d.chances e.chances later is) reached comes.0 in
           let comes_later : Comes g first.0 =
           going (perform f w) first.0 (λ v. IsTidy v → Comes g v) first.1 comes.1 first.2.tidy in
-          subst (λ (out : Course). Ends StandsFor Counts Took Broke w later
+          subst (λ (out : Course). Ends (StandsSince mark) (LeavesAt mark) Counts Took Broke w later
           (and_then out (λ v. perform g v)) old.outlet new r) (sym first.1)
-          (ends-behind Took Broke StandsFor Counts w first.0 later (perform g first.0) old.outlet mid.outlet new
-          r first.3 first.5 (e.ends first.0 later first.4 first.2 comes_later));
+          (ends-behind Took Broke (StandsSince mark) (LeavesAt mark) Counts w first.0 later (perform g first.0) old.outlet mid.outlet new
+          r first.3 first.5 (e.ends mark first.0 later first.4 first.2 comes_later));
+      tables = λ s table at. e.tables s table (d.tables s table at);
     }
 
     pub nothing-does : (now : Moment Stage K) → Did Took Broke nothing now now (Ok tt)
     nothing-does now = record {
       chances = [];
-      ends = λ w later is reached comes.
+      ends = λ mark w later is reached comes.
           (w, refl, reached, told-none w w now.outlet now.outlet refl refl, is, refl);
+      tables = λ s table at. at;
     }
 
     -- no memory, before more was told
     pub memory-does : (act : Act) (old new : Moment Stage K) → new.value.tally ≡ old.value.tally
-        → new.outlet ≡ old.outlet → Did Took Broke act old new (Err halts.Memory)
-    memory-does act old new tally same = record {
+        → new.outlet ≡ old.outlet → KeepTables old.value.words new.value.words
+        → Did Took Broke act old new (Err halts.Memory)
+    memory-does act old new tally same tables = record {
       chances = [];
-      ends = λ w later is reached comes.
-          ends-memory Took Broke StandsFor Counts act w later old.outlet new reached.tidy
-          (tally ∙ reached.stands.tally) same;
+      ends = λ mark w later is reached comes.
+          ends-memory Took Broke (StandsSince mark) (LeavesAt mark) Counts act w later old.outlet new reached.tidy
+          (tally ∙ reached.stands.stands.tally) same;
+      tables = tables;
     }
 
     -- what is kept changes, and nothing is told
@@ -279,15 +322,17 @@ module _ {K : Type 0} {Took : K → Report → K → Type 0} {Broke : K → Repo
         → Did Took Broke (change f) old new (Ok tt)
     change-does f old new keeps changed same = record {
       chances = [];
-      ends = λ w later is reached comes.
+      ends = λ mark w later is reached comes.
           let v : World = record w { kept = f w.kept } in (
             v,
             refl,
-            record { stands = changed.stands w reached.stands; tidy = comes },
+            record { stands = changed-since f mark w old.value new.value changed reached.stands; tidy = comes },
             told-none w v old.outlet new.outlet refl same,
             (keeps w.kept).0 ∙ is,
             (keeps w.kept).1,
           );
+      tables = subst (λ (cs : List ControlAt). KeepTables old.value.words cs) (sym changed.words)
+          (λ s table at. at);
     }
 
     -- an error that `?` hands on is the error
@@ -322,7 +367,7 @@ module _ {K : Type 0} {Took : K → Report → K → Type 0} {Broke : K → Repo
         → Did Took Broke f old next (Err e)
     leads-err f g h old now next e l d = l.leads next (Err e) (then-err h g now next e d)
 
-    leads-end : (f : Act) (old now : Moment Stage K) → Leads Took Broke f old nothing now
+    pub leads-end : (f : Act) (old now : Moment Stage K) → Leads Took Broke f old nothing now
         → Did Took Broke f old now (Ok tt)
     leads-end f old now l = l.leads now (Ok tt) (nothing-does now)
 
@@ -333,11 +378,12 @@ module _ {K : Type 0} {Took : K → Report → K → Type 0} {Broke : K → Repo
     look-leads f here now same = record {
       leads = λ new r d. record {
         chances = d.chances;
-        ends = λ w later is reached comes.
-            let e : here ≡ f w = same w reached.stands reached.tidy in
+        ends = λ mark w later is reached comes.
+            let e : here ≡ f w = same w reached.stands.stands reached.tidy in
             subst (λ (a : Act).
-            Ends StandsFor Counts Took Broke w later (perform a w) now.outlet new r) e
-            (d.ends w later is reached (subst (λ (a : Act). Comes a w) (sym e) comes));
+            Ends (StandsSince mark) (LeavesAt mark) Counts Took Broke w later (perform a w) now.outlet new r) e
+            (d.ends mark w later is reached (subst (λ (a : Act). Comes a w) (sym e) comes));
+        tables = d.tables;
       };
     }
 

@@ -20,22 +20,24 @@ use Rattle.lan_schedule.specs.declared.choices.Choices.{Choices}
 use Rattle.lan_schedule.specs.declared.choices.Keyed.{Keyed}
 use Rattle.lan_schedule.specs.declared.halt.Kind.{Kind}
 use Rattle.lan_schedule.specs.Settings.{no_choice, secret_of, unkeyed, settings_of}
-use Rattle.lan_schedule.specs.declared.phase.Burst.{Burst}
+use Rattle.lan_schedule.specs.Races.{Burst, Numbered}
 use Rattle.lan_schedule.specs.Races.{Chance, Phase, Apart, Bursting, Controlling, Racing}
 use Rattle.lan_schedule.specs.World.{World, Kept, beginning, settings, place, mark, is_racing}
 use Rattle.lan_schedule.specs.Acts.{Act, Course, Goes, Stops, happen, change}
 use Rattle.lan_schedule.specs.Acts.{perform, and_then, world_of, course, times}
-use Rattle.lan_schedule.specs.Kinds.{may_list, refusal, refusal_read, first_of, is_performed, may_stand, wrong_at}
+use Rattle.lan_schedule.specs.Kinds.{may_list, refusal, refusal_read, first_of, may_stand, wrong_at}
 use Rattle.lan_schedule.specs.Lines.{deed, deed_at, deed_read, chosen_by, feed, send, unless_refused}
+use Rattle.lan_schedule.specs.Lines.{deed_controlling, excess_of}
 use Rattle.lan_schedule.specs.Lines.{behind_race, behind_while, close_at, performed_whole}
 use Rattle.lan_schedule.specs.Lines.{performed, performed_all, tick, round, spread, flow_round}
 use Rattle.lan_schedule.specs.Lines.{cut_in, mended_in}
-use Rattle.lan_schedule.specs.Sound.{IsTidy}
+use Rattle.lan_schedule.specs.Sound.{IsTidy, HasRunNone}
 use Rattle.lan_schedule.specs.inside.Comes.{Comes}
 use Rattle.lan_schedule.proofs.Bounded.{AreBounded, bounded-first}
 use Rattle.lan_schedule.proofs.Drawing.{bytes-all}
 use Rattle.lan_schedule.proofs.LinesCome.{IsRight, is-right, deed-comes, tidy-same, tidy-entered}
 use Rattle.lan_schedule.proofs.Beginning.{tidy-beginning}
+use Rattle.lan_schedule.proofs.RunNone.{HasNone, run-none, behind-bursting, behind-lines, behind-close}
 use Rattle.lan_schedule.proofs.Settled.{IsMild, IsOpen, HasSetting, stays-open, mild-ticks}
 use Rattle.lan_schedule.proofs.Settled.{mild-feed, mild-rounds, mild-mark, mild-spread, mild-flow, mild-send}
 
@@ -355,47 +357,55 @@ more-ready n w ready = record {
 
 -- what is refused leaves the world as it was
 unless-ready : (n : ℕ) (o : Option Kind) (act : Act) (w : World) → IsReady n w
-    → (o ≡ None → IsReady (suc n) (world_of (perform act w)))
+    → HasNone (world_of (perform (unless_refused o act) w))
+    → (o ≡ None → HasNone (world_of (perform act w)) → IsReady (suc n) (world_of (perform act w)))
     → IsReady (suc n) (world_of (perform (unless_refused o act) w))
-unless-ready n None act w ready goes = goes refl
-unless-ready n (Some kind) act w ready goes = more-ready n w ready
+unless-ready n None act w ready never goes = goes refl never
+unless-ready n (Some kind) act w ready never goes = more-ready n w ready
 
--- the lines of a race stand in none that is performed
-behind-apart : (line : Line) (w : World) (bursts : List Burst)
-    → is_racing (behind_race line w bursts) ≡ false
-behind-apart lines.While w bursts = refl
-behind-apart _ w bursts = refl
+-- the end of a race leaves such a world where it asks for too much, and so runs none
+control-ready : (n : ℕ) (line : Line) (w : World) (bursts : List Burst) (control : List Numbered)
+    → IsReady n w → HasNone (world_of (perform (deed_controlling line w bursts control) w))
+    → IsReady (suc n) (world_of (perform (deed_controlling line w bursts control) w))
+control-ready n lines.End w bursts control ready never =
+    subst (λ (v : World). IsReady (suc n) v) (sym (run-none bursts control w (excess_of bursts w) never))
+    (more-ready n w ready)
+control-ready n line w bursts control ready never =
+    entered-ready n (behind_while line w bursts control) w ready refl
+    (tidy-entered w (behind_while line w bursts control) ready.tidy (sym ready.apart))
 
 -- and so does what a line performs where it stands
 at-ready : (n : ℕ) (line : Line) (w : World) (phase : Phase) → suc n < 2 ^ 32 → IsInForm line
-    → IsReady n w → first_of (is_performed line) (may_stand line w phase) (wrong_at line w phase)
-    ≡ None → IsReady (suc n) (world_of (perform (deed_at line w phase) w))
-at-ready n line w Apart below form ready none =
+    → IsReady n w → first_of (may_stand line w phase) (wrong_at line w phase)
+    ≡ None → HasNone (world_of (perform (deed_at line w phase) w))
+    → IsReady (suc n) (world_of (perform (deed_at line w phase) w))
+at-ready n line w Apart below form ready none never =
     let right = is-right line w none in
     deed-ready n line w below form ready right (deed-comes line form w ready.tidy ready.apart right)
-at-ready n line w (Bursting bursts) below form ready none =
-    let apart = behind-apart line w bursts in
+at-ready n line w (Bursting bursts) below form ready none never =
+    let apart = behind-bursting line w bursts in
     entered-ready n (behind_race line w bursts) w ready apart
     (tidy-entered w (behind_race line w bursts) ready.tidy (apart ∙ sym ready.apart))
-at-ready n line w (Controlling bursts control) below form ready none =
-    entered-ready n (behind_while line w bursts control) w ready refl
-    (tidy-entered w (behind_while line w bursts control) ready.tidy (sym ready.apart))
-at-ready n line w Racing below form ready none = more-ready n w ready
+at-ready n line w (Controlling bursts control) below form ready none never =
+    control-ready n line w bursts control ready never
+at-ready n line w Racing below form ready none never = more-ready n w ready
 
 said-ready : (n : ℕ) (text : List ℕ) (said : Result (Option Line) TextFault) (w : World)
     → suc n < 2 ^ 32 → IsReady n w → line_in text ≡ said
+    → HasNone (world_of (perform (unless_refused (refusal_read said w) (deed_read said w)) w))
     → IsReady (suc n) (world_of (perform (unless_refused (refusal_read said w) (deed_read said w))
     w))
-said-ready n text (Ok (Some line)) w below ready is =
-    unless-ready n (refusal line w) (deed_at line w w.kept.phase) w ready
-    (λ none. at-ready n line w w.kept.phase below (read_fits text line is) ready none)
-said-ready n text (Ok None) w below ready is = more-ready n w ready
-said-ready n text (Err fault) w below ready is = more-ready n w ready
+said-ready n text (Ok (Some line)) w below ready is never =
+    unless-ready n (refusal line w) (deed_at line w w.kept.phase) w ready never
+    (λ none calm. at-ready n line w w.kept.phase below (read_fits text line is) ready none calm)
+said-ready n text (Ok None) w below ready is never = more-ready n w ready
+said-ready n text (Err fault) w below ready is never = more-ready n w ready
 
--- a text leaves such a world
+-- a text that runs no race leaves such a world
 text-ready : (n : ℕ) (text : List ℕ) (w : World) → suc n < 2 ^ 32 → IsReady n w
+    → HasNone (world_of (perform (performed text) w))
     → IsReady (suc n) (world_of (perform (performed text) w))
-text-ready n text w below ready =
+text-ready n text w below ready never =
     let kept : Kept = record w.kept { line = w.kept.line + 1 } in
     said-ready n text (line_in text) (record w { kept = kept }) below
     (record {
@@ -406,31 +416,43 @@ text-ready n text w below ready =
       apart = ready.apart;
       bounded = ready.bounded;
       tidy = tidy-same w kept ready.tidy refl refl refl refl refl (λ e. e) (λ e. e);
-    }) refl
+    }) refl never
 
 -- a tidy world in which no race was begun, and none is performed
 abbrev pub IsCalm : World → Type 0
 IsCalm w = IsTidy w × (w.kept.raced ≡ false) × (is_racing w.kept.phase ≡ false)
 
-then-calm : (n : ℕ) (out : Course) (later : Act) → IsReady n (world_of out)
-    → ((v : World) → IsReady n v → IsCalm (world_of (perform later v)))
-    → IsCalm (world_of (and_then out (λ v. perform later v)))
-then-calm n (Goes v) later ready next = next v ready
-then-calm n (Stops v halt) later ready next = (ready.tidy, ready.calm, ready.apart)
+then-calm : (n : ℕ) (out : Course) (texts : List (List ℕ))
+    → HasNone (world_of (and_then out (λ v. perform (performed_all texts) v)))
+    → (HasNone (world_of out) → IsReady n (world_of out))
+    → ((v : World) → IsReady n v → HasNone (world_of (perform (performed_all texts) v))
+    → IsCalm (world_of (perform (performed_all texts) v)))
+    → IsCalm (world_of (and_then out (λ v. perform (performed_all texts) v)))
+then-calm n (Goes v) texts never ready next =
+    next v (ready ((behind-lines texts v).none never)) never
+then-calm n (Stops v halt) texts never ready next =
+    let last = ready never in (last.tidy, last.calm, last.apart)
 
 texts-calm : (n : ℕ) (texts : List (List ℕ)) (w : World) → n + length texts < 2 ^ 32
-    → IsReady n w → IsCalm (world_of (perform (performed_all texts) w))
-texts-calm n [] w below ready = (ready.tidy, ready.calm, ready.apart)
-texts-calm n (text ∷ texts) w below ready =
-    then-calm (suc n) (perform (performed text) w) (performed_all texts)
-    (text-ready n text w (omega (arith, below)) ready)
-    (λ v later. texts-calm (suc n) texts v (omega (arith, below)) later)
+    → IsReady n w → HasNone (world_of (perform (performed_all texts) w))
+    → IsCalm (world_of (perform (performed_all texts) w))
+texts-calm n [] w below ready never = (ready.tidy, ready.calm, ready.apart)
+texts-calm n (text ∷ texts) w below ready never =
+    then-calm (suc n) (perform (performed text) w) texts never
+    (λ none. text-ready n text w (omega (arith, below)) ready none)
+    (λ v later none. texts-calm (suc n) texts v (omega (arith, below)) later none)
 
--- fewer than 2^32 lines leave such a world
+-- fewer than 2^32 lines that run no race leave such a world
 pub lines-calm : (chances : List Chance) (texts : List (List ℕ)) → length texts < 2 ^ 32
+    → HasRunNone (course (performed_all texts) chances)
     → IsCalm (world_of (course (performed_all texts) chances))
-lines-calm chances texts below =
-    texts-calm 0 texts (beginning chances) (omega (arith, below)) (ready-first chances)
+lines-calm chances texts below never =
+    texts-calm 0 texts (beginning chances) (omega (arith, below)) (ready-first chances) never
+
+-- whatever they run, none is performed where they end
+pub lines-apart : (chances : List Chance) (texts : List (List ℕ))
+    → is_racing (world_of (course (performed_all texts) chances)).kept.phase ≡ false
+lines-apart chances texts = (behind-lines texts (beginning chances)).apart refl
 
 -- ---- the end of a trace
 
@@ -445,13 +467,18 @@ close-calm (Bursting bursts) w calm = numbered-calm w calm
 close-calm (Controlling bursts control) w calm = numbered-calm w calm
 close-calm Racing w calm = numbered-calm w calm
 
-whole-calm : (out : Course) → IsCalm (world_of out)
+whole-calm : (out : Course)
+    → HasNone (world_of (and_then out (λ v. perform (close_at v.kept.phase) v)))
+    → (HasNone (world_of out) → IsCalm (world_of out))
     → IsCalm (world_of (and_then out (λ v. perform (close_at v.kept.phase) v)))
-whole-calm (Goes v) calm = close-calm v.kept.phase v calm
-whole-calm (Stops v halt) calm = calm
+whole-calm (Goes v) never calm =
+    close-calm v.kept.phase v (calm ((behind-close v.kept.phase v).none never))
+whole-calm (Stops v halt) never calm = calm never
 
--- fewer than 2^32 lines that are all of a trace leave such a world
+-- fewer than 2^32 lines that are all of a trace, and run no race, leave such a world
 pub trace-calm : (chances : List Chance) (texts : List (List ℕ)) → length texts < 2 ^ 32
+    → HasRunNone (course (performed_whole texts) chances)
     → IsCalm (world_of (course (performed_whole texts) chances))
-trace-calm chances texts below =
-    whole-calm (course (performed_all texts) chances) (lines-calm chances texts below)
+trace-calm chances texts below never =
+    whole-calm (course (performed_all texts) chances) never
+    (λ none. lines-calm chances texts below none)

@@ -1,6 +1,6 @@
 -- How many workers a station may still have.
 use Rattle.std.proofs.Common.{◌≡◌, ◌+◌, ℕ, List, drop}
-use Rattle.lan_schedule.specs.declared.phase.Burst.{Burst}
+use Rattle.lan_schedule.specs.Races.{Burst}
 use Rattle.lan_schedule.specs.Races.{workers_at}
 
 -- so many, where the bursts before a place are counted

@@ -38,7 +38,7 @@ use Rattle.lan_schedule.specs.Races.{Phase, Bursting, number_in}
 use Rattle.lan_schedule.specs.Numbers.{in_range, stands, number_claimed}
 use Rattle.lan_core.specs.Unstopped.{next_under}
 use Rattle.lan_schedule.specs.Acts.{Act, happen, seq, unless, perform}
-use Rattle.lan_schedule.specs.Kinds.{or_else, where_, unknown, is_number, no_frame, is_performed}
+use Rattle.lan_schedule.specs.Kinds.{or_else, where_, unknown, is_number, no_frame}
 use Rattle.lan_schedule.specs.Kinds.{is_allowed, may_list, wrong_word}
 use Rattle.lan_schedule.specs.Lines.{add_user, send, chosen_by, deed, unless_refused}
 use Rattle.lan_schedule.specs.inside.Phased.{refusal_apart, act_apart}
@@ -50,20 +50,21 @@ use Rattle.lan_schedule.proofs.Drawing.{bytes-all}
 use Rattle.lan_schedule.proofs.Awaiting.{waits-then}
 use Rattle.lan_schedule.proofs.Users.{user-at-end}
 use Rattle.lan_schedule.proofs.Placing.{place-there}
+use Rattle.lan_schedule.proofs.Still.{stays}
 use Rattle.lan_schedule.proofs.Coming.{IsOnAir, is-going, one-at-least, comes-span, comes-ticks}
 use Rattle.lan_schedule.proofs.Coming.{comes-rounds, comes-spread, comes-flow, tidy-marked}
 
 -- ---- what a line is not refused for
 
-or-none : (a b : Option Kind) → or_else a b ≡ None → (a ≡ None) × (b ≡ None)
+pub or-none : (a b : Option Kind) → or_else a b ≡ None → (a ≡ None) × (b ≡ None)
 or-none None b e = (refl, e)
 or-none (Some kind) b e = absurd (cc e)
 
-where-none : (test : Bool) (kind : Kind) → where_ test kind ≡ None → test ≡ false
+pub where-none : (test : Bool) (kind : Kind) → where_ test kind ≡ None → test ≡ false
 where-none true kind e = absurd (cc e)
 where-none false kind e = refl
 
-not-false : (b : Bool) → not b ≡ false → b ≡ true
+pub not-false : (b : Bool) → not b ≡ false → b ≡ true
 not-false true e = refl
 not-false false e = absurd (cc e)
 
@@ -83,8 +84,7 @@ pub record IsRight (line : Line) (w : World) : Type 0 where
 pub is-right : (line : Line) (w : World) → refusal_apart line w ≡ None → IsRight line w
 is-right line w e =
     let allowed = is_allowed line w.kept.begun w.kept.chosen in
-    let later = (or-none (where_ (not (is_performed line)) kinds.Word) _ e).1 in
-    let both = or-none (where_ (not allowed) kinds.Order) (wrong_in line w) later in
+    let both = or-none (where_ (not allowed) kinds.Order) (wrong_in line w) e in
     record {
       allowed = not-false allowed (where-none (not allowed) kinds.Order both.0);
       words =
@@ -93,7 +93,7 @@ is-right line w e =
 
 -- ---- names and frames
 
-known : (name : List ℕ) (w : World) → unknown name (names_of w.run) ≡ None → place w name < count w
+pub known : (name : List ℕ) (w : World) → unknown name (names_of w.run) ≡ None → place w name < count w
 known name w e =
     let there : is_in name (names_of w.run)
     ≡ true = not-false (is_in name (names_of w.run)) (where-none _ kinds.NameUnknown e) in
@@ -103,7 +103,7 @@ known name w e =
     ≡ count w = length-map (stations w.run) (λ (p : Profile). p.name) in
     omega arith
 
-numbers-length : (xs : List Frame) → length (numbers_of xs) ≡ length xs
+pub numbers-length : (xs : List Frame) → length (numbers_of xs) ≡ length xs
 numbers-length [] = refl
 numbers-length (f ∷ earlier) = let e = numbers-length earlier in
     length-append (numbers_of earlier) (f.number ∷ []) ∙ omega arith
@@ -144,7 +144,7 @@ within-air number w tidy low high =
     ∙ ap (λ (l : List ℕ). length l) tidy.frames ∙ numbers-length (air w.run) in
     found-by number (air w.run) tidy.numbered low (omega (arith, high))
 
-on-air : (number : ℕ) (w : World) → IsTidy w → no_frame number (length w.kept.frames) ≡ None
+pub on-air : (number : ℕ) (w : World) → IsTidy w → no_frame number (length w.kept.frames) ≡ None
     → IsOnAir w.run number
 on-air number w tidy e =
     let in_ = numbered-in number (length w.kept.frames) e in
@@ -289,10 +289,10 @@ tidy-user user w tidy = record {
   dealt = tidy.dealt;
 }
 
-lt-true : (a b : ℕ) → nat_lt a b ≡ true → a < b
+pub lt-true : (a b : ℕ) → nat_lt a b ≡ true → a < b
 lt-true a b e = grind arith
 
-lt-false : (a b : ℕ) → nat_lt a b ≡ false → b ≤ a
+pub lt-false : (a b : ℕ) → nat_lt a b ≡ false → b ≤ a
 lt-false a b e = grind arith
 
 by-range : (n : ℕ) (user : Option UserFrame) (b : Bool) → nat_lt last_number n ≡ b → 1 ≤ n
@@ -358,8 +358,10 @@ claim-comes s user w tidy few is_user apart there =
       (may, (refl, room, apart)),
       is-going (perform (happen (events.Claim s n pn)) v)
           (λ u. IsTidy u → Comes (unless (pn == 0) (happen events.Emit)) u)
-          (λ u e tidy_u. unless-comes (pn == 0) (happen events.Emit) u
-          (λ some. (waits-then v u s n pn tidy e (may, (refl, room, apart)) some, tt))),
+          (λ u e tidy_u. unless-comes (pn == 0) (happen events.Emit) u (λ some. (
+            waits-then v u s n pn tidy e (may, (refl, room, apart)) some,
+            ap is_racing (stays (happen (events.Claim s n pn)) v u tt e) ∙ apart,
+          ))),
     )
 
 send-comes : (s : ℕ) (user : UserFrame) (w : World) → IsTidy w → IsUserFrame user
@@ -369,7 +371,7 @@ send-comes s user w tidy is_user apart there =
 
 -- ---- lines
 
-refused-comes : (o : Option Kind) (act : Act) (w : World) → (o ≡ None → Comes act w)
+pub refused-comes : (o : Option Kind) (act : Act) (w : World) → (o ≡ None → Comes act w)
     → Comes (unless_refused o act) w
 refused-comes None act w h = h refl
 refused-comes (Some kind) act w h = tt
@@ -403,7 +405,7 @@ deed-comes (lines.Station name sci priority) form w tidy apart right = (
     (let both = or-none (where_ (is_in name (names_of w.run)) kinds.NameTaken) _ right.words in
         new-station name sci.0 (stations w.run) (where-none _ kinds.NameTaken both.0)
         (where-none _ kinds.SciTaken both.1)),
-    tt,
+    apart,
   ),
 )
 deed-comes (lines.Tick rounds) form w tidy apart right = comes-rounds rounds w tidy

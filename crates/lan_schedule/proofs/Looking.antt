@@ -1,10 +1,11 @@
 -- Acts that look at the world, begun from the group at work.
 use Rattle.std.proofs.Common.{◌≡◌, ℕ, ◌-◌, ◌≤◌, Bool, true, false, ◌==◌, List, length, ◌+◌, subst}
 use Rattle.std.proofs.Common.{refl, sym, ap, ◌∙◌, arith}
-use Rattle.std.specs.Prelude.{Result, Ok, ◌||◌}
+use Rattle.std.specs.Prelude.{Result, Ok, ◌||◌, is_some, option_map}
 use Rattle.std.proofs.lemmas.List.{length-map}
 use Rattle.lan_core.specs.Run.{Profile, stations}
 use Rattle.lan_core.specs.declared.event.Event.TheVariants as events
+use Rattle.worker_races.specs.Carded.{AreCarded}
 use Rattle.lan_schedule.specs.declared.halt.Halt.{Halt}
 use Rattle.lan_schedule.specs.declared.frames.Put.{Put}
 use Rattle.lan_schedule.specs.declared.links.Link.{Link}
@@ -52,6 +53,8 @@ pub record Flows (old new : Stage) : Type 0 where
   pub words : new.words ≡ old.words
   pub tally : new.tally ≡ old.tally
   pub raced : new.raced ≡ old.raced
+  pub octets : new.octets ≡ old.octets
+  pub steps : new.steps ≡ old.steps
 
 -- the frames and the count of rounds change
 flowing : (frames : Kept → List Put) (rounds : Kept → ℕ) (old new : Stage) → Flows old new
@@ -75,8 +78,14 @@ flowing frames rounds old new same flow = record {
     cuts = same.cuts ∙ stands.cuts;
     words = subst (λ words. Says w.kept.raced (is_racing w.kept.phase) (settings w) w.run words)
         (sym same.words) stands.words;
+    cards = subst (λ words. AreCarded (settings w) w.run words) (sym same.words) stands.cards;
     tally = same.tally ∙ stands.tally;
+    octets = same.octets ∙ stands.octets;
+    steps = ap (λ steps. is_some steps) same.steps ∙ stands.steps;
   };
+  same = λ w. (refl, refl, refl);
+  words = same.words;
+  steps = ap (λ o. option_map (λ steps. steps.items) o) same.steps;
 }
 
 pub marked : (number : ℕ) (old new : Stage) → Flows old new

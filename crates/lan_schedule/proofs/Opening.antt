@@ -5,6 +5,7 @@ use Rattle.std.specs.Prelude.{Result, Ok, Err, is_some}
 use Rattle.lan_base.specs.declared.frame.UserFrame.{UserFrame}
 use Rattle.association_slots.specs.Views.{ControlAt}
 use Rattle.lan_core.specs.Run.{stations}
+use Rattle.lan_core.specs.Ledgers.{air}
 use Rattle.lan_core.specs.Standing.{StandsFor as GroupStandsFor}
 use Rattle.fact_tally.specs.Summary.{counts}
 use Rattle.transmit_words.specs.Ties.{AreTied}
@@ -23,7 +24,7 @@ use Rattle.lan_schedule.specs.Settings.{settings_of, lag_of, rule_of}
 use Rattle.lan_schedule.specs.Races.{Phase, Apart, Chance, behind_numbers}
 use Rattle.lan_schedule.specs.World.{World, Kept, nothing_kept, is_racing}
 use Rattle.lan_schedule.specs.Acts.{Act, look, perform, Stops}
-use Rattle.lan_schedule.specs.Kinds.{first_of, is_performed, is_allowed, wrong_word, refusal}
+use Rattle.lan_schedule.specs.Kinds.{first_of, is_allowed, wrong_word, refusal}
 use Rattle.lan_schedule.specs.Lines.{choose, chosen_by, deed, deed_at, act_of, unless_refused}
 use Rattle.lan_schedule.specs.Sound.{IsTidy}
 use Rattle.lan_schedule.specs.Reports.{Report}
@@ -49,11 +50,11 @@ opens-there : (chances : List Chance) (chosen : Choices) (line : ℕ) (stage : S
     → ((k : ℕ) → supply_nth stage.draws k ≡ draw_at (rule_of chosen) k)
     → stage.names.items ≡ [] → stage.scis.items ≡ [] → stage.users ≡ 0
     → stage.frames ≡ record { frames = []; rounds = 0 } → stage.cuts ≡ [] → stage.words ≡ []
-    → stage.tally ≡ counts [] → stage.raced ≡ false
+    → stage.tally ≡ counts [] → stage.raced ≡ false → stage.octets ≡ 0 → is_some stage.steps ≡ false
     → StageStandsFor (record { run = []; kept = opened chances chosen line }) stage
-unfolding stations
+unfolding stations air
 opens-there chances chosen line stage keyed is_line lag lan draws names scis users frames cuts
-    words tally fresh = record {
+    words tally fresh octets none = record {
       begun = refl;
       raced = fresh;
       keyed = keyed;
@@ -69,7 +70,10 @@ opens-there chances chosen line stage keyed is_line lag lan draws names scis use
       cuts = cuts;
       words = subst (λ (cs : List ControlAt). AreTied (settings_of chosen) [] cs) (sym words)
           (record { many = refl; each = λ s control is. absurd (cc is) });
+      cards = λ s control is k has. absurd has;
       tally = tally;
+      octets = octets;
+      steps = none;
     }
 
 pub opens : (w : World) (chosen : Choices) (line : ℕ) (stage : Stage) → is_some chosen.group ≡ true
@@ -78,15 +82,15 @@ pub opens : (w : World) (chosen : Choices) (line : ℕ) (stage : Stage) → is_s
     → ((k : ℕ) → supply_nth stage.draws k ≡ draw_at (rule_of chosen) k)
     → stage.names.items ≡ [] → stage.scis.items ≡ [] → stage.users ≡ 0
     → stage.frames ≡ record { frames = []; rounds = 0 } → stage.cuts ≡ [] → stage.words ≡ []
-    → stage.tally ≡ counts [] → stage.raced ≡ false
+    → stage.tally ≡ counts [] → stage.raced ≡ false → stage.octets ≡ 0 → is_some stage.steps ≡ false
     → StageStandsFor w stage
 opens w chosen line stage keyed opening is_line lag lan draws names scis users frames cuts words
-    tally fresh =
+    tally fresh octets none =
     let same : w ≡ record { run = []; kept = opened w.kept.chances chosen line } =
     λ i. record { run = opening.empty i; kept = opening.kept i } in
     subst (λ (v : World). StageStandsFor v stage) (sym same)
     (opens-there w.kept.chances chosen line stage keyed is_line lag lan draws names scis users frames cuts
-    words tally fresh)
+    words tally fresh octets none)
 
 -- ---- lines before the first station
 
@@ -116,8 +120,8 @@ station-is-later line station = station-later line station
 
 -- the first reason before any station
 unbegun-reason : (line : Line) (chosen : Choices)
-    → first_of (is_performed line) (is_allowed line false chosen) (wrong_word line [] [] 0)
-    ≡ first_of (is_performed line) (is_allowed line false chosen) None
+    → first_of (is_allowed line false chosen) (wrong_word line [] [] 0)
+    ≡ first_of (is_allowed line false chosen) None
 unbegun-reason (lines.TickOne name ticks) chosen = refl
 unbegun-reason (lines.Deliver frame name) chosen = refl
 unbegun-reason (lines.Spread frame) chosen = refl
@@ -146,7 +150,7 @@ is-waiting w replay stands unbegun =
 
 pub refusal-waiting : (chances : List Chance) (line : Line) (replay : Replay)
     → refusal line (waiting chances replay)
-    ≡ first_of (is_performed line) (is_allowed line false replay.chosen) None
+    ≡ first_of (is_allowed line false replay.chosen) None
 unfolding stations
 refusal-waiting chances line replay = unbegun-reason line replay.chosen
 
@@ -191,7 +195,7 @@ module _ {K : Type 0} {Took : K → Report → K → Type 0} {Broke : K → Repo
   where
     pub unbegun-refused : (line : Line) (kind : Kind) (now : Moment Replay K)
         → now.value.stage ≡ None
-        → first_of (is_performed line) (is_allowed line false now.value.chosen) None ≡ Some kind
+        → first_of (is_allowed line false now.value.chosen) None ≡ Some kind
         → Does Took Broke (act_of line) now now (Err (halts.Trace now.value.line kind))
     unbegun-refused line kind now unbegun first = record {
       chances = [];
@@ -206,7 +210,7 @@ module _ {K : Type 0} {Took : K → Report → K → Type 0} {Broke : K → Repo
             world = w;
             stops = out;
             tidy = reached.tidy;
-            counts = stands-counts w now.value reached.stands;
+            leaves = stands-counts w now.value reached.stands;
             told = told-none w w now.outlet now.outlet refl refl;
             left = ap (λ (c : List Chance). behind_numbers c) left;
             same = refl;
@@ -216,7 +220,7 @@ module _ {K : Type 0} {Took : K → Report → K → Type 0} {Broke : K → Repo
     -- a line that isn't refused does what it performs
     pub unbegun-performed : (line : Line) (old new : Moment Replay K) (r : Result (Unit {0}) Halt)
         → old.value.stage ≡ None
-        → first_of (is_performed line) (is_allowed line false old.value.chosen) None ≡ None
+        → first_of (is_allowed line false old.value.chosen) None ≡ None
         → Does Took Broke (look (λ w. deed line w)) old new r → Does Took Broke (act_of line) old new r
     unbegun-performed line old new r unbegun first d =
         same-act (act_of line) (look (λ w. deed line w)) old new r (λ w stands.
@@ -275,4 +279,5 @@ module _ {K : Type 0} {Took : K → Report → K → Type 0} {Broke : K → Repo
           deed-comes line form v tidy_v (ap (λ (u : World). is_racing u.kept.phase) same)
               (station-right line v station (ap (λ (u : World). u.run) same) there),
           begun-same line w station,
-        )) is halted phase d
+        )) is halted phase
+        (λ w replay. ap (λ (u : World). u.kept.phase) (is-waiting w old.value replay unbegun)) d

@@ -2,9 +2,9 @@
 use Rattle.std.proofs.Common.{◌≡◌, ◌+◌, ℕ, Bool, true, false, List, []}
 use Rattle.std.proofs.Common.{Option, Some, None, inl, inr, refl, sym, ap, ◌∙◌}
 use Rattle.std.proofs.Common.{subst}
-use Rattle.std.specs.Prelude.{◌||◌, ◌&&◌, not, nat_lt, Result, Ok, Err}
-use Rattle.std.specs.Result.{IsErrAnd}
-use Rattle.std.proofs.lemmas.Result.{err_from_is_err_and}
+use Rattle.std.specs.Prelude.{◌||◌, not, nat_lt, nat_eq, ◌<◌, ◌∷◌, ◌++◌, length, Result, Ok, Err}
+use Rattle.std.specs.List.{AllByRecursion}
+use Rattle.std.specs.Cmp.Lexicographic.{pointwise}
 use Rattle.lan_base.specs.declared.address.Mac.{Mac}
 use Rattle.trace_text.specs.declared.line.Line.{Line}
 use Rattle.trace_text.specs.declared.line.Line.TheVariants as lines
@@ -12,67 +12,45 @@ use Rattle.lan_schedule.specs.declared.halt.Halt.{Halt}
 use Rattle.lan_schedule.specs.declared.halt.Halt.TheVariants as halts
 use Rattle.lan_schedule.specs.declared.halt.Kind.{Kind}
 use Rattle.lan_schedule.specs.declared.halt.Kind.TheVariants as kinds
-use Rattle.lan_schedule.specs.declared.phase.Burst.{Burst}
-use Rattle.lan_schedule.specs.declared.phase.Numbered.{Numbered}
 use Rattle.lan_schedule.specs.declared.phase.Phase.{Phase as Stood}
-use Rattle.lan_schedule.specs.declared.phase.Phase.TheVariants as stood
 use Rattle.lan_schedule.specs.declared.recorder.Broken.{Broken}
 use Rattle.lan_schedule.specs.declared.stage.Stage.{Stage}
 use Rattle.lan_schedule.specs.declared.commands.Replay.{Replay}
 use Rattle.lan_schedule.specs.Races.{Phase, Apart, Bursting, Controlling, Racing, Chance}
-use Rattle.lan_schedule.specs.Races.{behind_numbers, workers_at}
-use Rattle.lan_schedule.specs.World.{World, settings, is_racing, place}
-use Rattle.lan_schedule.specs.Acts.{Goes, Stops, perform}
-use Rattle.lan_schedule.specs.Kinds.{or_else, where_, first_of, is_performed, may_stand, wrong_at}
+use Rattle.lan_schedule.specs.Races.{Burst, Numbered, behind_numbers, workers_at}
+use Rattle.lan_schedule.specs.World.{World, settings, is_racing, place, names_of, is_in}
+use Rattle.lan_schedule.specs.Acts.{Act, Goes, Stops, look, perform}
+use Rattle.lan_schedule.specs.Kinds.{or_else, where_, first_of, may_stand, wrong_at}
 use Rattle.lan_schedule.specs.Kinds.{is_control, is_control_allowed, refusal, too_many}
-use Rattle.lan_schedule.specs.Kinds.{most_workers}
-use Rattle.lan_schedule.specs.Lines.{act_of, deed, deed_at}
-use Rattle.lan_schedule.specs.Lines.{unless_refused}
+use Rattle.lan_schedule.specs.Kinds.{most_workers, is_burst_allowed, unknown, wrong_name}
+use Rattle.lan_schedule.specs.Lines.{act_of, deed, deed_at, deed_controlling, enter}
+use Rattle.lan_schedule.specs.Lines.{unless_refused, behind_while, behind_race, burst_of, kept_line}
 use Rattle.lan_schedule.specs.Reports.{Report}
 use Rattle.lan_schedule.specs.Ends.{Moment, IsReached, Ends}
-use Rattle.lan_schedule.specs.Standing.{phase_of, IsStaged, HasTally, StandsFor, Counts, Does}
+use Rattle.lan_schedule.specs.Standing.{phase_of, AreFit, IsBurst, IsControl, IsStaged, HasTally, StandsFor, Counts, Does}
 use Rattle.lan_schedule.specs.Stages.{Says, StandsFor as StageStandsFor}
 use Rattle.lan_schedule.specs.inside.Choosing.{is_race}
-use Rattle.lan_schedule.specs.inside.Phased.{is_inside, is_taken, behind, MayBeKept, Takes, act_apart}
+use Rattle.lan_schedule.specs.inside.Phased.{is_inside, is_taken, is_end, behind, MayBeKept, Takes}
+use Rattle.lan_schedule.specs.inside.Phased.{act_apart, is_controlling}
+use Rattle.lan_schedule.specs.inside.Beside.{race_in}
+use Rattle.lan_core.specs.Types.{IsUserFrame}
+use Rattle.trace_text.specs.Writing.{IsInForm}
+use Rattle.lan_schedule.proofs.Drawing.{bytes-all}
+use Rattle.lan_schedule.proofs.Placing.{place-there}
 use Rattle.lan_schedule.proofs.Doing.{told-none, ends-memory}
 use Rattle.lan_schedule.proofs.LinesCome.{tidy-entered}
+use Rattle.lan_schedule.proofs.Replaying.{stood-apart}
 use Rattle.lan_schedule.proofs.Performing.{Places, place-is}
 
 -- ---- why a line is refused
 
 -- the first reason where the lines stand so
 abbrev pub refusal_at : Line → World → Phase → Option Kind
-refusal_at line w phase = first_of (is_performed line) (may_stand line w phase) (wrong_at line w phase)
+refusal_at line w phase = first_of (may_stand line w phase) (wrong_at line w phase)
 
-pub refused-where : (line : Line) (w : World) (phase : Phase) → w.kept.phase ≡ phase
+refused-where : (line : Line) (w : World) (phase : Phase) → w.kept.phase ≡ phase
     → refusal_at line w phase ≡ refusal line w
 refused-where line w phase is = ap (λ (p : Phase). refusal_at line w p) (sym is)
-
--- a line that can't be performed
-pub refused-first : (line : Line) (w : World) → is_performed line ≡ false
-    → Some kinds.Word ≡ refusal line w
-refused-first line w isnt = rw isnt refl
-
--- a race begins
-race-begun : (w : World) → w.kept.begun ≡ true → None ≡ refusal_at lines.Race w Apart
-race-begun w begun = rw begun refl
-
-pub race-right : (line : Line) (w : World) (stage : Stage) → StageStandsFor w stage
-    → is_race line ≡ true → w.kept.phase ≡ Apart → None ≡ refusal line w
-race-right lines.Race w stage stands is apart =
-    race-begun w stands.begun ∙ refused-where lines.Race w Apart apart
-race-right _ w stage stands is apart = absurd (cc is)
-
--- inside a race a line isn't allowed, or something is wrong with its words
-pub refused-inside : (line : Line) (w : World) (phase : Phase) (allowed : Bool)
-    (wrong : Option Kind) → w.kept.phase ≡ phase → is_performed line ≡ true
-    → allowed ≡ may_stand line w phase → wrong ≡ wrong_at line w phase
-    → or_else (where_ (not allowed) kinds.Order) wrong ≡ refusal line w
-refused-inside line w phase allowed wrong is can may words =
-    ap (λ (b : Bool). first_of b allowed wrong) (sym can)
-    ∙ ap (λ (b : Bool). first_of (is_performed line) b wrong) may
-    ∙ ap (λ (o : Option Kind). first_of (is_performed line) (may_stand line w phase) o) words
-    ∙ refused-where line w phase is
 
 or-none : (a b : Option Kind) → or_else a b ≡ None → (a ≡ None) × (b ≡ None)
 or-none None b e = (refl, e)
@@ -82,40 +60,36 @@ where-none : (test : Bool) (kind : Kind) → where_ (not test) kind ≡ None →
 where-none true kind e = refl
 where-none false kind e = absurd (cc e)
 
-and-first : (a b : Bool) → (a && b) ≡ true → a ≡ true
-and-first true b e = refl
-and-first false b e = absurd (cc e)
-
-allowed-control : (line : Line) (control : List Numbered) → is_performed line ≡ true
-    → is_control_allowed line control ≡ true → is_control line ≡ true
-allowed-control lines.End control can allowed = absurd (cc can)
-allowed-control (lines.Tick rounds) control can allowed = refl
-allowed-control (lines.TickOne name ticks) control can allowed = refl
-allowed-control (lines.Flow rounds) control can allowed = refl
-allowed-control (lines.Deliver frame name) control can allowed = refl
-allowed-control (lines.Spread frame) control can allowed = refl
-allowed-control (lines.Lose frame) control can allowed = refl
-allowed-control (lines.Cut from to) control can allowed = refl
-allowed-control (lines.Mend from to) control can allowed = refl
-allowed-control (lines.Restart name) control can allowed = refl
-allowed-control (lines.Inject name octets) control can allowed = refl
-allowed-control _ control can allowed = absurd (cc allowed)
+allowed-control : (line : Line) (bursts : List Burst) (control : List Numbered)
+    → is_end (Controlling bursts control) line ≡ false → is_control_allowed line control ≡ true → is_control line ≡ true
+allowed-control lines.End bursts control can allowed = absurd (cc can)
+allowed-control (lines.Tick rounds) bursts control can allowed = refl
+allowed-control (lines.TickOne name ticks) bursts control can allowed = refl
+allowed-control (lines.Flow rounds) bursts control can allowed = refl
+allowed-control (lines.Deliver frame name) bursts control can allowed = refl
+allowed-control (lines.Spread frame) bursts control can allowed = refl
+allowed-control (lines.Lose frame) bursts control can allowed = refl
+allowed-control (lines.Cut from to) bursts control can allowed = refl
+allowed-control (lines.Mend from to) bursts control can allowed = refl
+allowed-control (lines.Restart name) bursts control can allowed = refl
+allowed-control (lines.Inject name octets) bursts control can allowed = refl
+allowed-control _ bursts control can allowed = absurd (cc allowed)
 
 -- what isn't refused may be kept
-may-be-kept : (line : Line) (w : World) (phase : Phase) → refusal_at line w phase ≡ None
-    → MayBeKept phase line
-may-be-kept line w Apart none = tt
-may-be-kept line w (Bursting bursts) none = tt
-may-be-kept line w (Controlling bursts control) none =
-    let both = or-none (where_ (not (is_performed line)) kinds.Word) _ none in
-    let later = or-none (where_ (not (is_control_allowed line control)) kinds.Order) _ both.1 in
-    allowed-control line control (where-none (is_performed line) kinds.Word both.0)
-    (where-none (is_control_allowed line control) kinds.Order later.0)
-may-be-kept line w Racing none = tt
+may-be-kept : (line : Line) (w : World) (phase : Phase) → is_end phase line ≡ false
+    → refusal_at line w phase ≡ None → MayBeKept phase line
+may-be-kept line w Apart goes none = tt
+may-be-kept line w (Bursting bursts) goes none = tt
+may-be-kept line w (Controlling bursts control) goes none =
+    let both = or-none (where_ (not (is_control_allowed line control)) kinds.Order) _ none in
+    allowed-control line bursts control goes
+    (where-none (is_control_allowed line control) kinds.Order both.0)
+may-be-kept line w Racing goes none = tt
 
 pub kept-where : (line : Line) (w : World) (phase : Phase) → w.kept.phase ≡ phase
-    → refusal line w ≡ None → MayBeKept phase line
-kept-where line w phase is none = may-be-kept line w phase (refused-where line w phase is ∙ none)
+    → is_end phase line ≡ false → refusal line w ≡ None → MayBeKept phase line
+kept-where line w phase is goes none =
+    may-be-kept line w phase goes (refused-where line w phase is ∙ none)
 
 -- ---- where the lines stand behind it
 
@@ -125,28 +99,92 @@ race-enters : (line : Line) (w : World) → is_race line ≡ true → perform (d
 race-enters lines.Race w is = refl
 race-enters _ w is = absurd (cc is)
 
+-- a line of control is kept
+control-enters : (line : Line) (w : World) (bursts : List Burst) (control : List Numbered)
+    → is_end (Controlling bursts control) line ≡ false
+    → deed_controlling line w bursts control ≡ enter (behind_while line w bursts control)
+control-enters lines.End w bursts control goes = absurd (cc goes)
+control-enters _ w bursts control goes = refl
+
 deed-enters : (line : Line) (w : World) (phase : Phase) → is_taken phase line ≡ true
-    → is_racing phase ≡ false
+    → is_end phase line ≡ false → is_racing phase ≡ false
     → perform (deed_at line w phase) w
     ≡ Goes (record w { kept = record w.kept { phase = behind line w phase } })
-deed-enters line w Apart taken calm = race-enters line w taken
-deed-enters line w (Bursting bursts) taken calm = refl
-deed-enters line w (Controlling bursts control) taken calm = refl
-deed-enters line w Racing taken calm = absurd (cc calm)
+deed-enters line w Apart taken goes calm = race-enters line w taken
+deed-enters line w (Bursting bursts) taken goes calm = refl
+deed-enters line w (Controlling bursts control) taken goes calm =
+    ap (λ (a : Act). perform a w) (control-enters line w bursts control goes)
+deed-enters line w Racing taken goes calm = absurd (cc calm)
 
-pub stood-calm : (phase : Stood) → is_racing (phase_of phase) ≡ false
-stood-calm stood.Apart = refl
-stood-calm (stood.Bursting bursts) = refl
-stood-calm (stood.Controlling bursts control) = refl
+-- what is kept behind a line names stations that there are
+all-more : {X : Type 0} (P : X → Type 0) (xs ys : List X) → AllByRecursion P xs
+    → AllByRecursion P ys → AllByRecursion P (xs ++ ys)
+all-more P [] ys all more = more
+all-more P (x ∷ xs) ys all more = (all.0, all-more P xs ys all.1 more)
+
+burst-user : (name : List ℕ) (workers frames : ℕ) (destination : Mac) (body : List ℕ)
+    → IsInForm (lines.Burst name workers frames destination body)
+    → IsUserFrame (record { destination = destination; body = body })
+burst-user name workers frames destination body form = record {
+  destination = (form.fits.1.1.1.0.0, bytes-all destination.0 form.fits.1.1.1.0.1);
+  body = (form.fits.1.1.1.1.0.0, form.fits.1.1.1.1.0.1);
+  octets = bytes-all body form.fits.1.1.1.1.0.2;
+}
+
+named-there : (w : World) (name : List ℕ) → unknown name (names_of w.run) ≡ None
+    → place w name < length (names_of w.run)
+named-there w name none = place-there (pointwise nat_eq name) (names_of w.run)
+    (where-none (is_in name (names_of w.run)) kinds.NameUnknown none)
+
+burst-fit : (line : Line) (w : World) → IsInForm line → wrong_name line (names_of w.run) ≡ None
+    → AllByRecursion (IsBurst (names_of w.run)) (burst_of w line)
+burst-fit (lines.Burst name workers frames destination body) w form none =
+    (record { station = named-there w name none; user = burst-user _ _ _ _ _ form }, tt)
+burst-fit _ w form none = tt
+
+race-fit : (line : Line) (w : World) (bursts : List Burst) → IsInForm line
+    → wrong_name line (names_of w.run) ≡ None → AreFit (names_of w.run) (Bursting bursts)
+    → AreFit (names_of w.run) (behind_race line w bursts)
+race-fit lines.While w bursts form none fit = (fit, tt)
+race-fit line w bursts form none fit =
+    all-more (IsBurst (names_of w.run)) bursts (burst_of w line) fit (burst-fit line w form none)
+
+behind-fit : (line : Line) (w : World) (phase : Phase) → IsInForm line
+    → is_end phase line ≡ false → refusal_at line w phase ≡ None
+    → AreFit (names_of w.run) phase → AreFit (names_of w.run) (behind line w phase)
+behind-fit line w Apart form goes none fit = tt
+behind-fit line w (Bursting bursts) form goes none fit =
+    let words = (or-none (where_ (not (is_burst_allowed line bursts)) kinds.Order) _ none).1 in
+    race-fit line w bursts form (or-none (too_many line w bursts) _ words).1 fit
+behind-fit line w (Controlling bursts control) form goes none fit =
+    let both = or-none (where_ (not (is_control_allowed line control)) kinds.Order) _ none in (
+      fit.0,
+      all-more (IsControl (names_of w.run)) control (kept_line w line ∷ []) fit.1 (
+        record {
+          form = form;
+          control = allowed-control line bursts control goes
+              (where-none (is_control_allowed line control) kinds.Order both.0);
+          named = both.1;
+        },
+        tt,
+      ),
+    )
+behind-fit line w Racing form goes none fit = tt
 
 pub takes-none : (line : Line) (w : World) (old now : Stood) → w.kept.phase ≡ phase_of old
-    → is_taken (phase_of old) line ≡ true → refusal line w ≡ None
+    → IsInForm line → is_taken (phase_of old) line ≡ true → is_end (phase_of old) line ≡ false
+    → refusal line w ≡ None
     → phase_of now ≡ behind line w (phase_of old) → Takes line w now (Ok tt)
-takes-none line w old now stands taken none is =
-    ap (λ (o : Option Kind). perform (unless_refused o (deed_at line w w.kept.phase)) w) none
-    ∙ ap (λ (p : Phase). perform (deed_at line w p) w) stands
-    ∙ deed-enters line w (phase_of old) taken (stood-calm old)
-    ∙ ap (λ (p : Phase). Goes (record w { kept = record w.kept { phase = p } })) (sym is)
+takes-none line w old now stands form taken goes none is = (
+  ap (λ (o : Option Kind). perform (unless_refused o (deed_at line w w.kept.phase)) w) none
+      ∙ ap (λ (p : Phase). perform (deed_at line w p) w) stands
+      ∙ deed-enters line w (phase_of old) taken goes (stood-apart old)
+      ∙ ap (λ (p : Phase). Goes (record w { kept = record w.kept { phase = p } })) (sym is),
+  λ fit. subst (λ (p : Phase). AreFit (names_of w.run) p) (sym is)
+      (behind-fit line w (phase_of old) form goes
+      (refused-where line w (phase_of old) stands ∙ none)
+      (subst (λ (p : Phase). AreFit (names_of w.run) p) stands fit)),
+)
 
 pub takes-some : (line : Line) (w : World) (now : Stood) (stage : Stage) (kind : Kind)
     → StageStandsFor w stage → refusal line w ≡ Some kind
@@ -176,7 +214,10 @@ stage-entered w phase stage same stands = record {
   cuts = stands.cuts;
   words = subst (λ (racing : Bool). Says w.kept.raced racing (settings w) w.run stage.words)
       (sym same) stands.words;
+  cards = stands.cards;
   tally = stands.tally;
+  octets = stands.octets;
+  steps = stands.steps ∙ sym same;
 }
 
 staged-in : (w : World) (replay : Replay) (stage : Stage) → replay.stage ≡ Some stage
@@ -190,20 +231,20 @@ module _ {K : Type 0} {Took : K → Report → K → Type 0} {Broke : K → Repo
         (old new : Moment Replay K) → IsReached StandsFor w old.value → Counts w new.value
         → new.outlet ≡ old.outlet → w.kept.chances ≡ later
         → Takes line w new.value.phase (Err halt)
-        → Ends StandsFor Counts Took Broke w later (perform (act_of line) w) old.outlet new (Err halt)
+        → Ends StandsFor (λ halt. Counts) Counts Took Broke w later (perform (act_of line) w) old.outlet new (Err halt)
     taken-early line w later halt old new reached counts same left (inl stops) = inl (record {
       world = w;
       stops = stops;
       tidy = reached.tidy;
-      counts = counts;
+      leaves = counts;
       told = told-none w w old.outlet new.outlet refl same;
       left = ap (λ (c : List Chance). behind_numbers c) left;
       same = refl;
     })
     taken-early line w later halt old new reached counts same left (inr memory) =
-        subst (λ (h : Halt). Ends StandsFor Counts Took Broke w later (perform (act_of line) w)
+        subst (λ (h : Halt). Ends StandsFor (λ halt. Counts) Counts Took Broke w later (perform (act_of line) w)
         old.outlet new (Err h)) (sym memory)
-        (ends-memory Took Broke StandsFor Counts (act_of line) w later old.outlet new reached.tidy
+        (ends-memory Took Broke StandsFor (λ halt. Counts) Counts (act_of line) w later old.outlet new reached.tidy
         counts same)
 
     pub taken-does : (line : Line) (old new : Moment Replay K) (stage : Stage)
@@ -212,24 +253,29 @@ module _ {K : Type 0} {Took : K → Report → K → Type 0} {Broke : K → Repo
         → new.outlet ≡ old.outlet
         → ((w : World) → IsReached StageStandsFor w stage
         → w.kept.phase ≡ phase_of old.value.phase
-        → is_taken (phase_of old.value.phase) line ≡ true → Takes line w new.value.phase r)
         → is_taken (phase_of old.value.phase) line ≡ true
+        → is_end (phase_of old.value.phase) line ≡ false → Takes line w new.value.phase r)
+        → is_taken (phase_of old.value.phase) line ≡ true
+        → is_end (phase_of old.value.phase) line ≡ false
         → Does Took Broke (act_of line) old new r
-    taken-does line old new stage (Ok done) is_old is_new halted same takes taken = record {
+    taken-does line old new stage (Ok done) is_old is_new halted same takes taken goes = record {
       chances = [];
       ends = λ w later left reached.
           let inner = staged-in w old.value stage is_old reached.stands in
           let phase = phase_of new.value.phase in
           let v : World = record w { kept = record w.kept { phase = phase } } in
-          let racing : is_racing phase ≡ is_racing w.kept.phase = stood-calm new.value.phase
-          ∙ sym (stood-calm old.value.phase)
-          ∙ ap (λ (p : Phase). is_racing p) (sym reached.stands.phase) in (
+          let racing : is_racing phase ≡ is_racing w.kept.phase = stood-apart new.value.phase
+          ∙ sym (stood-apart old.value.phase)
+          ∙ ap (λ (p : Phase). is_racing p) (sym reached.stands.phase) in
+          let did = takes w (record { stands = inner; tidy = reached.tidy }) reached.stands.phase taken
+          goes in (
             v,
-            takes w (record { stands = inner; tidy = reached.tidy }) reached.stands.phase taken,
+            did.0,
             record {
               stands = record {
                 goes = halted ∙ reached.stands.goes;
                 phase = refl;
+                fit = did.1 reached.stands.fit;
                 stage = subst (λ (o : Option Stage). IsStaged v new.value o) (sym is_new)
                     (stage-entered w phase stage racing inner);
               };
@@ -240,14 +286,33 @@ module _ {K : Type 0} {Took : K → Report → K → Type 0} {Broke : K → Repo
             racing,
           );
     }
-    taken-does line old new stage (Err halt) is_old is_new halted same takes taken = record {
+    taken-does line old new stage (Err halt) is_old is_new halted same takes taken goes = record {
       chances = [];
       ends = λ w later left reached.
           let inner = staged-in w old.value stage is_old reached.stands in
           taken-early line w later halt old new reached
           (subst (λ (o : Option Stage). HasTally w new.value o) (sym is_new) inner.tally) same left
-          (takes w (record { stands = inner; tidy = reached.tidy }) reached.stands.phase taken);
+          (takes w (record { stands = inner; tidy = reached.tidy }) reached.stands.phase taken goes);
     }
+
+-- a line that ends a race runs it
+pub ends-race : (line : Line) (w : World) (phase : Phase) → w.kept.phase ≡ phase
+    → is_end phase line ≡ true
+    → perform (act_of line) w ≡ perform (look (λ w. race_in w.kept.phase w)) w
+ends-race lines.End w (Controlling bursts control) is ends =
+    ap (λ (p : Phase). perform (unless_refused (refusal_at lines.End w p) (deed_at lines.End w p)) w) is
+    ∙ ap (λ (p : Phase). perform (race_in p w) w) (sym is)
+ends-race _ w (Controlling bursts control) is ends = absurd (cc ends)
+ends-race line w Apart is ends = absurd (cc ends)
+ends-race line w (Bursting bursts) is ends = absurd (cc ends)
+ends-race line w Racing is ends = absurd (cc ends)
+
+pub end-controls : (line : Line) (phase : Phase) → is_end phase line ≡ true
+    → is_controlling phase ≡ true
+end-controls line (Controlling bursts control) ends = refl
+end-controls line Apart ends = absurd (cc ends)
+end-controls line (Bursting bursts) ends = absurd (cc ends)
+end-controls line Racing ends = absurd (cc ends)
 
 -- a line outside a race is performed by the group at work
 pub same-apart : (line : Line) (w : World) (phase : Phase) → w.kept.phase ≡ phase
@@ -263,20 +328,17 @@ pub not-taken : (a b : Bool) → (a || b) ≡ false → (a ≡ false) × (b ≡ 
 not-taken true b e = absurd (cc e)
 not-taken false b e = (refl, e)
 
+pub outside-apart : (phase : Phase) → is_inside phase ≡ false → phase ≡ Apart
+outside-apart Apart e = refl
+outside-apart (Bursting bursts) e = absurd (cc e)
+outside-apart (Controlling bursts control) e = absurd (cc e)
+outside-apart Racing e = absurd (cc e)
+
 pub outside-calm : (phase : Phase) → is_inside phase ≡ false → is_racing phase ≡ false
 outside-calm Apart e = refl
 outside-calm (Bursting bursts) e = absurd (cc e)
 outside-calm (Controlling bursts control) e = absurd (cc e)
 outside-calm Racing e = absurd (cc e)
-
--- ---- keeping
-
-pub takes-memory : (line : Line) (w : World) (now : Stood) (r : Result (Unit {0}) Halt)
-    → IsErrAnd r (λ y. y ≡ halts.Memory) → Takes line w now r
-takes-memory line w now r is =
-    let p = err_from_is_err_and r is in
-    subst (λ (r : Result (Unit {0}) Halt). Takes line w now r)
-    (sym (p.1 ∙ ap (λ (y : Halt). Err y) p.2)) (inr refl)
 
 -- ---- workers
 

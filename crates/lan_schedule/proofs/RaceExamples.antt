@@ -10,24 +10,37 @@ use Rattle.aes_block.specs.declared.secret.Secret.TheVariants.{S128}
 use Rattle.lan_core.specs.declared.event.Event.TheVariants as events
 use Rattle.lan_core.specs.declared.fact.Fact.TheVariants as facts
 use Rattle.lan_core.specs.Run.{Run, happened, stations, facts_of}
+use Rattle.lan_core.specs.Ledgers.{air, births, installs, claims}
+use Rattle.lan_core.specs.Lives.{life, receiving}
+use Rattle.lan_core.specs.Claims.{next, claimed}
+use Rattle.lan_core.specs.Expected.{expected}
+use Rattle.lan_core.specs.Stops.{first_stop, mi_number, sak_number, draws_in}
+use Rattle.lan_core.specs.Fresh.{drawn_saks}
+use Rattle.peer_lists.specs.Acceptance.{refusal as refused, accepted, outcome}
+use Rattle.peer_lists.specs.Peers.{says, hopes, known}
+use Rattle.sak_exchange.specs.Held.{received, latest, old, transmitting}
+use Rattle.mka_station.specs.Lives.{peers_of, keys_of, elected}
+use Rattle.mka_station.specs.Views.{view}
+use Rattle.mka_station.specs.Restart.{ending}
 use Rattle.trace_text.specs.declared.line.Line.{Line}
 use Rattle.trace_text.specs.declared.line.Line.TheVariants as lines
 use Rattle.lan_schedule.specs.declared.halt.Halt.{Halt}
 use Rattle.lan_schedule.specs.declared.halt.Halt.TheVariants as halts
 use Rattle.lan_schedule.specs.declared.halt.Kind.TheVariants as kinds
 use Rattle.lan_schedule.specs.declared.choices.Rule.TheVariants.{Listed}
-use Rattle.lan_schedule.specs.declared.phase.Burst.{Burst}
-use Rattle.lan_schedule.specs.declared.phase.Numbered.{Numbered}
 use Rattle.lan_schedule.specs.Settings.{no_choice}
-use Rattle.lan_schedule.specs.Races.{Phase, Bursting, Controlling, Shown, workers_of, share}
+use Rattle.lan_core.specs.declared.fact.Lack.TheVariants.{NoKey}
+use Rattle.lan_core.specs.declared.stop.Which.TheVariants as which
+use Rattle.lan_schedule.specs.Races.{Phase, Apart, Bursting, Controlling, Chance, Shown, Woven}
+use Rattle.lan_schedule.specs.Races.{Burst, Numbered, Claimed, count_of, workers_of, share}
 use Rattle.lan_schedule.specs.World.{World, nothing_kept}
 use Rattle.lan_schedule.specs.Numbers.{decided, stands}
 use Rattle.lan_schedule.specs.Acts.{Course, Goes, Stops, perform, and_then, world_of, each}
 use Rattle.lan_schedule.specs.Kinds.{refusal}
-use Rattle.lan_schedule.specs.Lines.{numbered, close}
+use Rattle.lan_schedule.specs.Lines.{numbered, close, run_race}
 
 opens : ℕ
-unfolding stations
+unfolding refused accepted outcome says hopes known received latest old transmitting peers_of keys_of elected view ending stations air births installs claims life receiving next claimed expected drawn_saks first_stop mi_number sak_number draws_in
 opens = 0
 
 abbrev mi : ℕ → Mi
@@ -52,10 +65,10 @@ two =
     ∷ happened (events.Start (65 ∷ []) (sci 10) 16) (facts.Life 0 (mi 1) ∷ []) ∷ []
 
 -- behind line 9
-abbrev start : World
-start = record {
+abbrev started : List Chance → World
+started chances = record {
   run = two;
-  kept = record (nothing_kept []) {
+  kept = record (nothing_kept chances) {
     line = 9;
     begun = true;
     taken = 2;
@@ -65,6 +78,10 @@ start = record {
     };
   };
 }
+
+-- where nothing is left to chance
+abbrev start : World
+start = started []
 
 -- ---- shares
 
@@ -87,11 +104,94 @@ three_workers : workers_of (burst 0 2 3 2 ∷ burst 1 1 5 4 ∷ []) ≡
     ∷ record { station = 1; jobs = 5; user = user 4 } ∷ []
 three_workers = refl
 
--- ---- lines that are kept
-
 abbrev why : Course → List Halt
 why (Goes w) = []
 why (Stops w halt) = halt ∷ []
+
+-- ---- two workers, and one line of control
+
+abbrev claimed_by : ℕ → Claimed
+claimed_by worker = record { worker = worker; pn = 0 }
+
+abbrev by_chance : List Chance
+by_chance = Woven ((claimed_by 1 ∷ []) ∷ (claimed_by 0 ∷ []) ∷ (claimed_by 0 ∷ []) ∷ []) ∷ []
+
+abbrev restart_b : Numbered
+restart_b = record { number = 8; line = lines.Restart (66 ∷ []) }
+
+abbrev raced : Numbered → Course
+raced line = perform (run_race (burst 0 2 3 2 ∷ []) (line ∷ []) (started by_chance)) (started by_chance)
+
+-- The second worker's claim stands before the restart, the first one's two behind it: one for the
+-- place behind the only event, one that is left.
+woven_run : facts_of (world_of (raced restart_b)).run ≡
+    facts.Life 0 (mi 1) ∷ facts.Life 1 (mi 2) ∷ facts.Unclaimed 0 NoKey ∷ facts.Life 1 (mi 3)
+    ∷ facts.Unclaimed 0 NoKey ∷ facts.Unclaimed 0 NoKey ∷ []
+unfolding opens
+woven_run = refl
+
+-- each claim names its worker's user frame
+woven_events : map (λ x. x.event) (world_of (raced restart_b)).run ≡
+    events.Claim 0 1 0 ∷ events.Claim 0 1 0 ∷ events.Restart 1 ∷ events.Claim 0 2 0
+    ∷ map (λ x. x.event) two
+unfolding opens
+woven_events = refl
+
+-- behind it the lines stand in no race, and the last line is its end
+abbrev where_after : Course → List ℕ
+where_after (Goes w) = w.kept.line ∷ []
+where_after (Stops w halt) = []
+
+goes_on : where_after (raced restart_b) ≡ 9 ∷ []
+unfolding opens
+goes_on = refl
+
+apart_again : (world_of (raced restart_b)).kept.phase ≡ Apart
+unfolding opens
+apart_again = refl
+
+-- ---- control that ends early
+
+abbrev deliver_nine : Numbered
+deliver_nine = record { number = 8; line = lines.Deliver 9 (65 ∷ []) }
+
+-- the workers do all their jobs, and the line of control is named
+refused_late : why (raced deliver_nine) ≡ halts.Trace 8 kinds.FrameUnknown ∷ []
+unfolding opens
+refused_late = refl
+
+claimed_all : facts_of (world_of (raced deliver_nine)).run ≡
+    facts.Life 0 (mi 1) ∷ facts.Life 1 (mi 2)
+    ∷ facts.Unclaimed 0 NoKey ∷ facts.Unclaimed 0 NoKey ∷ facts.Unclaimed 0 NoKey ∷ []
+unfolding opens
+claimed_all = refl
+
+-- each worker claimed what it was dealt
+are_dealt : map (count_of (claimed_by 1 ∷ claimed_by 0 ∷ claimed_by 0 ∷ [])) (0 ∷ 1 ∷ [])
+    ≡ map (λ w. w.jobs) (workers_of (burst 0 2 3 2 ∷ []))
+are_dealt = refl
+
+-- ---- limits at the end
+
+abbrev limited : List Burst → List Halt
+limited bursts = why (perform (run_race bursts [] start) start)
+
+too_many_frames : limited (burst 0 8 100000 2 ∷ burst 1 8 100000 2 ∷ burst 1 1 1 2 ∷ []) ≡
+    halts.Limit which.Frames ∷ []
+unfolding opens
+too_many_frames = refl
+
+too_many_octets : limited (burst 0 8 50000 1500 ∷ []) ≡ halts.Limit which.Octets ∷ []
+unfolding opens
+too_many_octets = refl
+
+-- both: the limit that stands first
+frames_first : limited (burst 0 8 100000 1500 ∷ burst 1 8 100000 1500 ∷ burst 1 1 1 2 ∷ []) ≡
+    halts.Limit which.Frames ∷ []
+unfolding opens
+frames_first = refl
+
+-- ---- lines that are kept
 
 abbrev a_burst : ℕ → List ℕ → Line
 a_burst workers name = lines.Burst name workers 3 all (0 ∷ 0 ∷ [])
@@ -132,10 +232,20 @@ kept_alone : facts_of (world_of (after_lines 4)).run ≡
 unfolding opens
 kept_alone = refl
 
--- the race isn't run yet
-end_is_refused : why (after_lines 5) ≡ halts.Trace 14 kinds.Word ∷ []
+-- until the race ends: it is run, and its line of control is refused
+end_runs_it : why (after_lines 5) ≡ halts.Trace 13 kinds.FrameUnknown ∷ []
 unfolding opens
-end_is_refused = refl
+end_runs_it = refl
+
+-- the line that was read last is its end
+end_is_last : (world_of (after_lines 5)).kept.line ≡ 14
+unfolding opens
+end_is_last = refl
+
+races_kept : map (λ r. map (λ w. w.jobs) r.workers) (world_of (after_lines 5)).kept.races ≡
+    (2 ∷ 1 ∷ []) ∷ []
+unfolding opens
+races_kept = refl
 
 -- the trace ends inside a race
 no_end : why (and_then (after_lines 3) (λ w. perform close w)) ≡ halts.Trace 13 kinds.NoEnd ∷ []
@@ -201,6 +311,15 @@ burst_outside = refl
 
 while_outside : refusal lines.While start ≡ Some kinds.Order
 while_outside = refl
+
+end_outside : refusal lines.End start ≡ Some kinds.Order
+end_outside = refl
+
+end_before_while : refusal lines.End (inside (Bursting (bursts 1))) ≡ Some kinds.Order
+end_before_while = refl
+
+end_behind_while : refusal lines.End (inside (Controlling (bursts 1) [])) ≡ None
+end_behind_while = refl
 
 -- ---- what chance decides
 

@@ -11,7 +11,7 @@ use Rattle.lan_schedule.specs.declared.choices.Choices.{Choices}
 use Rattle.lan_schedule.specs.declared.halt.Kind.TheVariants as kinds
 use Rattle.lan_schedule.specs.declared.stage.Stage.{Stage}
 use Rattle.lan_schedule.specs.World.{World, names_of, scis_of, Flow}
-use Rattle.lan_schedule.specs.Kinds.{first_of, is_performed, is_allowed, wrong_word}
+use Rattle.lan_schedule.specs.Kinds.{first_of, is_allowed, wrong_word}
 use Rattle.lan_schedule.specs.inside.Choosing.{is_elsewhere}
 use Rattle.lan_schedule.specs.inside.Phased.{refusal_apart}
 use Rattle.lan_schedule.specs.Stages.{StandsFor}
@@ -40,7 +40,7 @@ map-map-scis ps = map-map (λ (s : Sci). s.0) (λ (p : Profile). p.sci) ps
 
 -- the first reason, from what the group has
 pub refusal-by : (line : Line) (w : World) (stage : Stage) → StandsFor w stage
-    → first_of (is_performed line) (not (is_elsewhere line))
+    → first_of (not (is_elsewhere line))
     (wrong_word line stage.names.items (map (λ (s : Sci). s.0) stage.scis.items)
     (length stage.frames.frames)) ≡ refusal_apart line w
 refusal-by line w stage stands =
@@ -49,47 +49,33 @@ refusal-by line w stage stands =
     ∙ ap (λ (b : Bool). is_allowed line b w.kept.chosen) (sym stands.begun) in
     let scis : map (λ (s : Sci). s.0) stage.scis.items ≡ scis_of w.run =
     ap (λ l. map (λ (s : Sci). s.0) l) stands.scis ∙ map-map-scis (stations w.run) in
-    ap (λ (b : Bool). first_of (is_performed line) b
+    ap (λ (b : Bool). first_of b
     (wrong_word line stage.names.items (map (λ (s : Sci). s.0) stage.scis.items)
     (length stage.frames.frames))) allowed
-    ∙ ap (λ (l : List (List ℕ)). first_of (is_performed line)
+    ∙ ap (λ (l : List (List ℕ)). first_of
     (is_allowed line w.kept.begun w.kept.chosen)
     (wrong_word line l (map (λ (s : Sci). s.0) stage.scis.items) (length stage.frames.frames)))
     stands.names
-    ∙ ap (λ (l : List (List ℕ)). first_of (is_performed line)
+    ∙ ap (λ (l : List (List ℕ)). first_of
     (is_allowed line w.kept.begun w.kept.chosen)
     (wrong_word line (names_of w.run) l (length stage.frames.frames))) scis
-    ∙ ap (λ (f : Flow). first_of (is_performed line) (is_allowed line w.kept.begun w.kept.chosen)
+    ∙ ap (λ (f : Flow). first_of (is_allowed line w.kept.begun w.kept.chosen)
     (wrong_word line (names_of w.run) (scis_of w.run) (length f.frames))) stands.flow
 
-pub refused-word : (line : Line) (w : World) (stage : Stage) → StandsFor w stage
-    → is_performed line ≡ false → Some kinds.Word ≡ refusal_apart line w
-refused-word line w stage stands isnt =
-    ap (λ (b : Bool). first_of b (not (is_elsewhere line))
-    (wrong_word line stage.names.items (map (λ (s : Sci). s.0) stage.scis.items)
-    (length stage.frames.frames))) (sym isnt)
-    ∙ refusal-by line w stage stands
-
 pub refused-order : (line : Line) (w : World) (stage : Stage) → StandsFor w stage
-    → is_performed line ≡ true → is_elsewhere line ≡ true → Some kinds.Order ≡ refusal_apart line w
-refused-order line w stage stands can choice =
-    ap (λ (b : Bool). first_of true (not b)
+    → is_elsewhere line ≡ true → Some kinds.Order ≡ refusal_apart line w
+refused-order line w stage stands choice =
+    ap (λ (b : Bool). first_of (not b)
     (wrong_word line stage.names.items (map (λ (s : Sci). s.0) stage.scis.items)
     (length stage.frames.frames))) (sym choice)
-    ∙ ap (λ (b : Bool). first_of b (not (is_elsewhere line))
-    (wrong_word line stage.names.items (map (λ (s : Sci). s.0) stage.scis.items)
-    (length stage.frames.frames))) (sym can)
     ∙ refusal-by line w stage stands
 
 pub refused-words : (line : Line) (w : World) (stage : Stage) → StandsFor w stage
-    → is_performed line ≡ true → is_elsewhere line ≡ false
+    → is_elsewhere line ≡ false
     → wrong_word line stage.names.items (map (λ (s : Sci). s.0) stage.scis.items)
     (length stage.frames.frames) ≡ refusal_apart line w
-refused-words line w stage stands can isnt =
-    ap (λ (b : Bool). first_of true (not b)
+refused-words line w stage stands isnt =
+    ap (λ (b : Bool). first_of (not b)
     (wrong_word line stage.names.items (map (λ (s : Sci). s.0) stage.scis.items)
     (length stage.frames.frames))) (sym isnt)
-    ∙ ap (λ (b : Bool). first_of b (not (is_elsewhere line))
-    (wrong_word line stage.names.items (map (λ (s : Sci). s.0) stage.scis.items)
-    (length stage.frames.frames))) (sym can)
     ∙ refusal-by line w stage stands

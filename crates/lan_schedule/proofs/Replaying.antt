@@ -1,5 +1,5 @@
 -- A replay does acts, one after the other, before its first station and with a group at work.
-use Rattle.std.proofs.Common.{◌≡◌, ℕ, List, [], ◌∷◌, ◌++◌, Option, Some, None, refl, sym, ap}
+use Rattle.std.proofs.Common.{◌≡◌, ℕ, true, false, List, [], ◌∷◌, ◌++◌, Option, Some, None, refl, sym, ap}
 use Rattle.std.proofs.Common.{◌∙◌, subst}
 use Rattle.std.specs.Prelude.{Result, Ok, Err}
 use Rattle.std.specs.Result.{IsErrAnd}
@@ -12,21 +12,31 @@ use Rattle.lan_schedule.specs.declared.recorder.Broken.{Broken}
 use Rattle.lan_schedule.specs.declared.stage.Stage.{Stage}
 use Rattle.lan_schedule.specs.declared.commands.Replay.{Replay}
 use Rattle.lan_schedule.specs.declared.phase.Phase.{Phase as Stood}
-use Rattle.lan_schedule.specs.Races.{Chance, Phase}
-use Rattle.lan_schedule.specs.World.{World, Kept, nothing_kept, is_racing}
+use Rattle.lan_schedule.specs.Races.{Apart, Burst, Chance, Numbered, Phase, Controlling}
+use Rattle.lan_schedule.specs.World.{World, Kept, names_of, nothing_kept, is_racing}
 use Rattle.lan_schedule.specs.Acts.{Act, nothing, change, seq, perform, Course, Goes, Stops}
 use Rattle.lan_schedule.specs.Acts.{and_then}
 use Rattle.lan_schedule.specs.Lines.{begin_line, at_line, performed, performed_all}
 use Rattle.lan_schedule.specs.Reports.{Report}
 use Rattle.lan_schedule.specs.Sound.{IsTidy}
 use Rattle.lan_schedule.specs.Ends.{Moment, moment, Ends}
-use Rattle.lan_schedule.specs.Standing.{phase_of, IsStaged, HasTally, StandsFor, Counts, Does}
+use Rattle.lan_schedule.specs.Standing.{phase_of, AreFit, IsStaged, HasTally, StandsFor, Counts, Does}
 use Rattle.lan_schedule.specs.Stages.{StandsFor as StageStandsFor, Counts as StageCounts}
 use Rattle.lan_schedule.specs.inside.Comes.{Comes}
+use Rattle.lan_schedule.specs.inside.Phased.{is_controlling}
 use Rattle.lan_schedule.specs.inside.Staged.{Did}
 use Rattle.lan_schedule.proofs.Doing.{both-chances, told-none, ends-behind, ends-early, ends-memory}
+use Rattle.lan_schedule.specs.declared.phase.Phase.TheVariants as stood
+use Rattle.lan_schedule.specs.inside.Recording.{Mark, StandsSince, LeavesAt}
 use Rattle.lan_schedule.proofs.Doing.{ends-seen}
+use Rattle.lan_schedule.specs.declared.halt.Halt.TheVariants.{Limit}
+use Rattle.lan_schedule.specs.Races.{Excess, workers_of, limit_of}
+use Rattle.lan_schedule.specs.Acts.{begun_race, race, world_of, look}
+use Rattle.lan_schedule.specs.Lines.{control_act, excess_of, run_race, unless_exceeded}
+use Rattle.lan_schedule.specs.inside.Beside.{DidRace, race_in}
+use Rattle.lan_schedule.proofs.Recorded.{since-apart, leaves-counts}
 use Rattle.lan_schedule.proofs.LinesCome.{tidy-same}
+use Rattle.lan_schedule.proofs.RunNone.{race-raced}
 use Rattle.lan_schedule.proofs.Still.{IsStill, stays}
 
 -- a replay that stands for a world has its tally
@@ -61,7 +71,7 @@ module _ {K : Type 0} {Took : K → Report → K → Type 0} {Broke : K → Repo
     same-act f g old new r same d = record {
       chances = d.chances;
       ends = λ w later is reached.
-          subst (λ (out : Course). Ends StandsFor Counts Took Broke w later out old.outlet new r)
+          subst (λ (out : Course). Ends StandsFor (λ halt. Counts) Counts Took Broke w later out old.outlet new r)
           (sym (same w reached.stands)) (d.ends w later is reached);
     }
 
@@ -71,7 +81,7 @@ module _ {K : Type 0} {Took : K → Report → K → Type 0} {Broke : K → Repo
     then-err f g old new e d = record {
       chances = d.chances;
       ends = λ w later is reached.
-          ends-early Took Broke StandsFor Counts w later (perform f w) g old.outlet new e
+          ends-early Took Broke StandsFor (λ halt. Counts) Counts w later (perform f w) g old.outlet new e
           (d.ends w later is reached);
     }
 
@@ -84,9 +94,9 @@ module _ {K : Type 0} {Took : K → Report → K → Type 0} {Broke : K → Repo
       ends = λ w later is reached.
           let first = d.ends w (e.chances ++ later)
           (both-chances w.kept.chances d.chances e.chances later is) reached in
-          subst (λ (out : Course). Ends StandsFor Counts Took Broke w later
+          subst (λ (out : Course). Ends StandsFor (λ halt. Counts) Counts Took Broke w later
           (and_then out (λ v. perform g v)) old.outlet new r) (sym first.1)
-          (ends-behind Took Broke StandsFor Counts w first.0 later (perform g first.0) old.outlet mid.outlet new
+          (ends-behind Took Broke StandsFor (λ halt. Counts) Counts w first.0 later (perform g first.0) old.outlet mid.outlet new
           r first.3 first.5 (e.ends first.0 later first.4 first.2));
     }
 
@@ -123,7 +133,7 @@ module _ {K : Type 0} {Took : K → Report → K → Type 0} {Broke : K → Repo
         → Does Took Broke act old new (Err halts.Memory)
     memory-does act old new counted same = record {
       chances = [];
-      ends = λ w later is reached. ends-memory Took Broke StandsFor Counts act w later old.outlet new
+      ends = λ w later is reached. ends-memory Took Broke StandsFor (λ halt. Counts) Counts act w later old.outlet new
           reached.tidy (counted w reached.stands) same;
     }
 
@@ -151,8 +161,8 @@ module _ {K : Type 0} {Took : K → Report → K → Type 0} {Broke : K → Repo
     halted-does act old k x y e tells d = record {
       chances = d.chances;
       ends = λ w later is reached.
-          ends-seen Took Broke StandsFor Counts StandsFor Counts w later (perform act w) old.outlet k x y (Err e)
-          (λ v goes e. absurd (cc e)) tells (d.ends w later is reached);
+          ends-seen Took Broke StandsFor (λ halt. Counts) Counts StandsFor (λ halt. Counts) Counts w later (perform act w) old.outlet k x y (Err e)
+          (λ v goes e. absurd (cc e)) (λ v halt. tells v) tells (d.ends w later is reached);
     }
 
     -- ---- a line begins
@@ -185,21 +195,40 @@ module _ {K : Type 0} {Took : K → Report → K → Type 0} {Broke : K → Repo
 
 -- ---- with a group at work
 
+-- outside of a race nothing is kept for one
+pub fit-apart : (w : World) → w.kept.phase ≡ Apart → AreFit (names_of w.run) w.kept.phase
+fit-apart w apart = subst (λ (p : Phase). AreFit (names_of w.run) p) (sym apart) tt
+
+-- since nothing was kept
+nowhere : Mark
+nowhere = record { run = []; words = [] }
+
+-- no line stands where control's are performed
+pub stood-apart : (phase : Stood) → is_racing (phase_of phase) ≡ false
+stood-apart stood.Apart = refl
+stood-apart (stood.Bursting bursts) = refl
+stood-apart (stood.Controlling bursts control) = refl
+
 module _ {K : Type 0} (Took : K → Report → K → Type 0) (Broke : K → Report → K → Broken → Type 0)
   where
-    staged-ends : (w : World) (later : List Chance) (out : Course) (a k : K) (stage : Stage)
+    staged-ends : (mark : Mark) (w : World) (later : List Chance) (out : Course) (a k : K) (stage : Stage)
         (replay : Replay) (r : Result (Unit {0}) Halt) → replay.stage ≡ Some stage
         → (r ≡ Ok tt → replay.halted ≡ None)
         → ((v : World) → out ≡ Goes v → v.kept.phase ≡ phase_of replay.phase)
-        → Ends StageStandsFor StageCounts Took Broke w later out a (moment stage k) r
-        → Ends StandsFor Counts Took Broke w later out a (moment replay k) r
-    staged-ends w later out a k stage replay r is goes phase h =
-        ends-seen Took Broke StageStandsFor StageCounts StandsFor Counts w later out a k stage replay r
+        → ((v : World) → out ≡ Goes v → v.kept.phase ≡ Apart)
+        → Ends (StandsSince mark) (LeavesAt mark) StageCounts Took Broke w later out a (moment stage k) r
+        → Ends StandsFor (λ halt. Counts) Counts Took Broke w later out a (moment replay k) r
+    staged-ends mark w later out a k stage replay r is goes phase apart h =
+        ends-seen Took Broke (StandsSince mark) (LeavesAt mark) StageCounts StandsFor
+        (λ halt. Counts) Counts w later out a k stage replay r
         (λ v there e stands. record {
           goes = goes e;
           phase = phase v there;
-          stage = subst (λ (o : Option Stage). IsStaged v replay o) (sym is) stands;
+          fit = fit-apart v (apart v there);
+          stage = subst (λ (o : Option Stage). IsStaged v replay o) (sym is) stands.stands;
         })
+        (λ v halt leaves. subst (λ (o : Option Stage). HasTally v replay o) (sym is)
+        (leaves-counts mark halt v stage leaves))
         (λ v tally. subst (λ (o : Option Stage). HasTally v replay o) (sym is) tally) h
 
 module _ {K : Type 0} {Took : K → Report → K → Type 0} {Broke : K → Report → K → Broken → Type 0}
@@ -210,19 +239,24 @@ module _ {K : Type 0} {Took : K → Report → K → Type 0} {Broke : K → Repo
         → ((w : World) → StandsFor w old.value → IsTidy w → Comes act w) → IsStill act
         → old.value.stage ≡ Some stage
         → new.value.stage ≡ Some later → new.value.halted ≡ old.value.halted
-        → new.value.phase ≡ old.value.phase
+        → new.value.phase ≡ old.value.phase → phase_of old.value.phase ≡ Apart
         → Did Took Broke act (moment stage old.outlet) (moment later new.outlet) r
         → Does Took Broke act old new r
-    staged-does act old new stage later r comes still is_old is_new halted phase d = record {
+    staged-does act old new stage later r comes still is_old is_new halted phase outside d = record {
       chances = d.chances;
       ends = λ w rest left reached.
           let inner : StageStandsFor w stage =
           subst (λ (o : Option Stage). IsStaged w old.value o) is_old reached.stands.stage in
-          staged-ends Took Broke w rest (perform act w) old.outlet new.outlet later new.value r is_new
+          staged-ends Took Broke nowhere w rest (perform act w) old.outlet new.outlet later new.value r is_new
           (λ e. halted ∙ reached.stands.goes)
           (λ v there. stays act w v still there ∙ reached.stands.phase
           ∙ ap (λ (p : Stood). phase_of p) (sym phase))
-          (d.ends w rest left (record { stands = inner; tidy = reached.tidy })
+          (λ v there. stays act w v still there ∙ reached.stands.phase ∙ outside)
+          (d.ends nowhere w rest left (record {
+            stands = since-apart nowhere w stage inner
+                (ap is_racing reached.stands.phase ∙ stood-apart old.value.phase);
+            tidy = reached.tidy;
+          })
           (comes w reached.stands reached.tidy));
     }
 
@@ -237,25 +271,32 @@ module _ {K : Type 0} {Took : K → Report → K → Type 0} {Broke : K → Repo
         × (perform act w ≡ perform act (begins w)))
         → new.value.stage ≡ Some later → new.value.halted ≡ old.value.halted
         → new.value.phase ≡ old.value.phase
+        → ((w : World) → StandsFor w old.value → w.kept.phase ≡ Apart)
         → Did Took Broke act (moment stage old.outlet) (moment later new.outlet) r
         → Does Took Broke act old new r
     opened-does act begins old new stage later r same_run same_chances same_phase still opens is halted
-        phase d =
+        phase outside d =
         record {
           chances = d.chances;
           ends = λ w rest left reached.
               let o = opens w reached.stands reached.tidy in
               subst (λ (out : Course).
-              Ends StandsFor Counts Took Broke w rest out old.outlet new r) (sym o.3)
-              (ends-behind Took Broke StandsFor Counts w (begins w) rest (perform act (begins w)) old.outlet
+              Ends StandsFor (λ halt. Counts) Counts Took Broke w rest out old.outlet new r) (sym o.3)
+              (ends-behind Took Broke StandsFor (λ halt. Counts) Counts w (begins w) rest (perform act (begins w)) old.outlet
               old.outlet new r (told-none w (begins w) old.outlet old.outlet (same_run w) refl)
               (ap (λ (p : Phase). is_racing p) (same_phase w))
-              (staged-ends Took Broke (begins w) rest (perform act (begins w)) old.outlet new.outlet later new.value
+              (staged-ends Took Broke nowhere (begins w) rest (perform act (begins w)) old.outlet new.outlet later new.value
               r is (λ e. halted ∙ reached.stands.goes)
               (λ v there. stays act (begins w) v still there ∙ same_phase w ∙ reached.stands.phase
               ∙ ap (λ (p : Stood). phase_of p) (sym phase))
-              (d.ends (begins w) rest (same_chances w ∙ left)
-              (record { stands = o.0; tidy = o.1 }) o.2)));
+              (λ v there. stays act (begins w) v still there ∙ same_phase w
+              ∙ outside w reached.stands)
+              (d.ends nowhere (begins w) rest (same_chances w ∙ left) (record {
+                stands = since-apart nowhere (begins w) stage o.0
+                    (ap is_racing (same_phase w ∙ reached.stands.phase)
+                    ∙ stood-apart old.value.phase);
+                tidy = o.1;
+              }) o.2)));
         }
 
     -- ---- before the first station
@@ -281,6 +322,7 @@ module _ {K : Type 0} {Took : K → Report → K → Type 0} {Broke : K → Repo
             record {
               stands = record {
                 goes = halted ∙ reached.stands.goes;
+                fit = fit-apart v ((keeps w.kept).1 ∙ ap (λ (k : Kept). k.phase) before.1);
                 phase = (keeps w.kept).1 ∙ reached.stands.phase
                     ∙ ap (λ (p : Stood). phase_of p) (sym phase);
                 stage = subst (λ (o : Option Stage). IsStaged v new.value o) (sym is_new) (
@@ -309,6 +351,7 @@ pub line-staged : (number : ℕ) (w : World) (old new : Replay) (stage later : S
 line-staged number w old new stage later is_old is_new halted phase begins stands = record {
   goes = halted ∙ stands.goes;
   phase = stands.phase ∙ ap (λ (p : Stood). phase_of p) (sym phase);
+  fit = stands.fit;
   stage = subst (λ (o : Option Stage). IsStaged (at_line number w) new o) (sym is_new)
       (begins w (subst (λ (o : Option Stage). IsStaged w old o) is_old stands.stage));
 }
@@ -322,6 +365,7 @@ line-unbegun number w old new is_old is_new halted line chosen tally phase stand
     record {
       goes = halted ∙ stands.goes;
       phase = stands.phase ∙ ap (λ (p : Stood). phase_of p) (sym phase);
+      fit = stands.fit;
       stage = subst (λ (o : Option Stage). IsStaged (at_line number w) new o) (sym is_new) (
         before.0,
         ap (λ (k : Kept). record k { line = number }) before.1
@@ -336,3 +380,70 @@ line-unbegun number w old new is_old is_new halted line chosen tally phase stand
 pub none-stage : (o : Option Stage) → ((x : Stage) → o ≡ Some x → ⊥) → o ≡ None
 none-stage None other = refl
 none-stage (Some stage) other = absurd (other stage refl)
+
+-- ---- a race
+
+-- no race ends before the first station
+pub unbegun-never : (w : World) (replay : Replay) → StandsFor w replay → replay.stage ≡ None
+    → is_controlling (phase_of replay.phase) ≡ true → ⊥
+unbegun-never w replay stands unbegun controls =
+    let before = subst (λ (o : Option Stage). IsStaged w replay o) unbegun stands.stage in
+    let apart : Apart ≡ phase_of replay.phase =
+    sym (ap (λ (k : Kept). k.phase) before.1) ∙ stands.phase in
+    let bad : false ≡ true = ap is_controlling apart ∙ controls in cc bad
+
+-- behind a race the lines stand in none
+apart-behind : (bursts : List Burst) (control : List Numbered) (w v : World) (o : Option Excess)
+    → perform (unless_exceeded o (race (workers_of bursts) (control_act control))) w ≡ Goes v
+    → v.kept.phase ≡ Apart
+apart-behind bursts control w v None e =
+    ap (λ (o : Course). (world_of o).kept.phase) (sym e)
+    ∙ (race-raced (workers_of bursts) w
+    (perform (control_act control) (begun_race (workers_of bursts) w))).apart
+apart-behind bursts control w v (Some excess) e =
+    absurd (let bad : Stops w (Limit (limit_of excess)) ≡ Goes v = e in cc bad)
+
+race-apart : (bursts : List Burst) (control : List Numbered) (w v : World)
+    → perform (run_race bursts control w) w ≡ Goes v → v.kept.phase ≡ Apart
+race-apart bursts control w v e = apart-behind bursts control w v (excess_of bursts w) e
+
+module _ {K : Type 0} {Took : K → Report → K → Type 0} {Broke : K → Report → K → Broken → Type 0}
+  where
+    -- what stands for no world
+    pub never-does : (act : Act) (old new : Moment Replay K) (r : Result (Unit {0}) Halt)
+        → ((w : World) → StandsFor w old.value → ⊥) → Does Took Broke act old new r
+    never-does act old new r never = record {
+      chances = [];
+      ends = λ w later is reached. absurd (never w reached.stands);
+    }
+
+    -- the race of a group at work is that of the replay
+    pub raced-does : (bursts : List Burst) (control : List Numbered) (old new : Moment Replay K)
+        (stage later : Stage) (r : Result (Unit {0}) Halt) → old.value.stage ≡ Some stage
+        → phase_of old.value.phase ≡ Controlling bursts control → new.value.stage ≡ Some later
+        → new.value.halted ≡ old.value.halted → phase_of new.value.phase ≡ Apart
+        → ((w : World) → StandsFor w old.value → IsTidy w → Comes (run_race bursts control w) w)
+        → DidRace Took Broke bursts control (moment stage old.outlet) (moment later new.outlet) r
+        → Does Took Broke (look (λ w. race_in w.kept.phase w)) old new r
+    raced-does bursts control old new stage later r is_old stood is_new halted apart comes d = record {
+      chances = d.chances;
+      ends = λ w rest left reached.
+          let inner : StageStandsFor w stage =
+          subst (λ (o : Option Stage). IsStaged w old.value o) is_old reached.stands.stage in
+          let at : w.kept.phase ≡ Controlling bursts control = reached.stands.phase ∙ stood in
+          subst (λ (p : Phase). Ends StandsFor (λ halt. Counts) Counts Took Broke w rest
+          (perform (race_in p w) w) old.outlet new r) (sym at)
+          (ends-seen Took Broke StageStandsFor (λ halt. StageCounts) StageCounts StandsFor
+          (λ halt. Counts) Counts w rest (perform (run_race bursts control w) w) old.outlet
+          new.outlet later new.value r
+          (λ v there e stands. record {
+            goes = halted ∙ reached.stands.goes;
+            phase = race-apart bursts control w v there ∙ sym apart;
+            fit = fit-apart v (race-apart bursts control w v there);
+            stage = subst (λ (o : Option Stage). IsStaged v new.value o) (sym is_new) stands;
+          })
+          (λ v halt tally. subst (λ (o : Option Stage). HasTally v new.value o) (sym is_new) tally)
+          (λ v tally. subst (λ (o : Option Stage). HasTally v new.value o) (sym is_new) tally)
+          (d.ends w rest left (record { stands = inner; tidy = reached.tidy })
+          (ap is_racing at) (comes w reached.stands reached.tidy)));
+    }

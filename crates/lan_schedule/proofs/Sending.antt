@@ -11,6 +11,8 @@ use Rattle.lan_core.specs.Run.{Run, stations}
 use Rattle.lan_core.specs.Claims.{user_at}
 use Rattle.lan_core.specs.Expected.{last_number}
 use Rattle.lan_core.specs.Lives.{transmitting_at}
+use Rattle.worker_races.specs.Carded.{AreCarded}
+use Rattle.worker_races.proofs.Public.{carded-kept}
 use Rattle.lan_schedule.specs.declared.halt.Halt.{Halt}
 use Rattle.lan_schedule.specs.declared.links.Link.{Link}
 use Rattle.lan_schedule.specs.declared.recorder.Broken.{Broken}
@@ -25,8 +27,11 @@ use Rattle.lan_schedule.specs.Sound.{IsTidy}
 use Rattle.lan_schedule.specs.Reports.{Report}
 use Rattle.lan_schedule.specs.Ends.{Moment, IsReached, Ends}
 use Rattle.lan_schedule.specs.inside.Comes.{Comes}
-use Rattle.lan_schedule.specs.inside.Set.{AreSet}
 use Rattle.lan_schedule.specs.Stages.{Says, StandsWith, StandsFor, Counts}
+use Rattle.lan_schedule.specs.inside.Recording.{Mark, StandsSince, LeavesAt, KeepTables}
+use Rattle.lan_schedule.specs.inside.Staged.{IsSetSince}
+use Rattle.lan_schedule.proofs.Recorded.{looked-apart}
+use Rattle.std.specs.Prelude.{is_some, option_map}
 use Rattle.lan_schedule.specs.inside.Staged.{Did, Happened, Changed}
 use Rattle.lan_core.proofs.Public.{stands-more}
 use Rattle.lan_schedule.proofs.Same.{IsSame, same-self, stands-with}
@@ -44,6 +49,11 @@ still w old new words stands =
     subst (λ (cs : List ControlAt). Says w.kept.raced (is_racing w.kept.phase) (settings w) w.run cs)
     (sym words) stands.words
 
+same-cards : (w : World) (old new : Stage) → new.words ≡ old.words → StandsFor w old
+    → AreCarded (settings w) w.run new.words
+same-cards w old new words stands =
+    subst (λ (cs : List ControlAt). AreCarded (settings w) w.run cs) (sym words) stands.cards
+
 pub cut-changed : (from to : ℕ) (old new : Stage) → IsSame old new → new.line ≡ old.line
     → new.users ≡ old.users → new.words ≡ old.words → new.cuts ≡ with_link from to old.cuts
     → Changed (cut_in from to) old new
@@ -51,7 +61,10 @@ cut-changed from to old new same line users words cuts = record {
   stands = λ w stands. stands-with w w.kept.line w.kept.users (with_link from to w.kept.cuts)
       w.kept.begun old new stands same (line ∙ stands.line) (users ∙ stands.users)
       (cuts ∙ ap (λ (l : List Link). with_link from to l) stands.cuts) stands.begun stands.lan
-      (still w old new words stands);
+      (still w old new words stands) (same-cards w old new words stands);
+  same = λ w. (refl, refl, refl);
+  words = words;
+  steps = ap (λ o. option_map (λ steps. steps.items) o) same.steps;
 }
 
 pub mend-changed : (from to : ℕ) (old new : Stage) → IsSame old new → new.line ≡ old.line
@@ -61,14 +74,21 @@ mend-changed from to old new same line users words cuts = record {
   stands = λ w stands. stands-with w w.kept.line w.kept.users (without_link from to w.kept.cuts)
       w.kept.begun old new stands same (line ∙ stands.line) (users ∙ stands.users)
       (cuts ∙ ap (λ (l : List Link). without_link from to l) stands.cuts) stands.begun stands.lan
-      (still w old new words stands);
+      (still w old new words stands) (same-cards w old new words stands);
+  same = λ w. (refl, refl, refl);
+  words = words;
+  steps = ap (λ o. option_map (λ steps. steps.items) o) same.steps;
 }
 
 -- a station came already
 begun-again : (now : Stage) → Changed (λ kept. record kept { begun = true }) now now
 begun-again now = record {
   stands = λ w stands. stands-with w w.kept.line w.kept.users w.kept.cuts true now now stands
-      (same-self now) stands.line stands.users stands.cuts refl stands.lan stands.words;
+      (same-self now) stands.line stands.users stands.cuts refl stands.lan stands.words
+      stands.cards;
+  same = λ w. (refl, refl, refl);
+  words = refl;
+  steps = refl;
 }
 
 pub line-stands : (number : ℕ) (w : World) (old new : Stage) → IsSame old new
@@ -78,7 +98,7 @@ pub line-stands : (number : ℕ) (w : World) (old new : Stage) → IsSame old ne
 line-stands number w old new same line users words cuts stands =
     stands-with w number w.kept.users w.kept.cuts w.kept.begun old new stands same line
     (users ∙ stands.users) (cuts ∙ stands.cuts) stands.begun stands.lan
-    (still w old new words stands)
+    (still w old new words stands) (same-cards w old new words stands)
 
 -- ---- user data
 
@@ -91,14 +111,14 @@ user-stands : {B : Bool → Bool → Settings → Run → List ControlAt → Typ
     (w : World) (old mid : Stage) → StandsFor w old → IsSame old mid → mid.line ≡ old.line
     → mid.users ≡ old.users + 1 → mid.cuts ≡ old.cuts
     → B w.kept.raced (is_racing w.kept.phase) (settings w) w.run mid.words
-    → StandsWith B (with_user user w) mid
-user-stands user w old mid stands same line users cuts words =
+    → AreCarded (settings w) w.run mid.words → StandsWith B (with_user user w) mid
+user-stands user w old mid stands same line users cuts words cards =
     let longer : length (w.kept.users ++ user ∷ [])
     ≡ length w.kept.users + 1 = length-append w.kept.users (user ∷ []) in
     stands-with w w.kept.line (w.kept.users ++ user ∷ []) w.kept.cuts w.kept.begun old mid stands
     same (line ∙ stands.line) (users ∙ ap (λ (n : ℕ). n + 1) stands.users ∙ sym longer)
     (cuts ∙ stands.cuts) stands.begun
-    (stands-more (settings w) w.kept.users (user ∷ []) old.lan w.run stands.lan) words
+    (stands-more (settings w) w.kept.users (user ∷ []) old.lan w.run stands.lan) words cards
 
 module _ {K : Type 0} {Took : K → Report → K → Type 0} {Broke : K → Report → K → Broken → Type 0}
   where
@@ -111,19 +131,20 @@ module _ {K : Type 0} {Took : K → Report → K → Type 0} {Broke : K → Repo
         → IsSame old.value mid.value → mid.value.line ≡ old.value.line
         → n ≡ old.value.users + 1 → mid.value.users ≡ n → n ≤ last_number
         → mid.value.cuts ≡ old.value.cuts → Gives s n pn old.value mid.value
-        → ((w : World) (later : List Chance)
+        → KeepTables old.value.words new.value.words
+        → ((mark : Mark) (w : World) (later : List Chance)
         → w.kept.chances ≡ (decided mid.value.raced (events.Claim s n pn) ++ more) ++ later
-        → IsReached (StandsWith (AreSet (events.Claim s n pn))) w mid.value
+        → IsReached (IsSetSince (events.Claim s n pn) mark) w mid.value
         → Some user ≡ user_at w.kept.users n → Comes (claim s n pn) w
-        → Ends StandsFor Counts Took Broke w later (perform (claim s n pn) w) mid.outlet new r)
+        → Ends (StandsSince mark) (LeavesAt mark) Counts Took Broke w later (perform (claim s n pn) w) mid.outlet new r)
         → Did Took Broke (seq (add_user user) (send s)) old new r
-    send-does s n pn user more old mid new r outlet same line one_more users most cuts gives done =
+    send-does s n pn user more old mid new r outlet same line one_more users most cuts gives tables done =
         let event = events.Claim s n pn in record {
           chances = decided mid.value.raced event ++ more;
-          ends = λ w later left reached comes.
+          ends = λ mark w later left reached comes.
               let v = with_user user w in
               let tidy : IsTidy v = comes.0 in
-              let stands = reached.stands in
+              let stands = reached.stands.stands in
               let longer : length v.kept.users
               ≡ length w.kept.users + 1 = length-append w.kept.users (user ∷ []) in
               let place : n ≡ length v.kept.users = one_more
@@ -148,29 +169,36 @@ module _ {K : Type 0} {Took : K → Report → K → Type 0} {Broke : K → Repo
               sym (user-at-end w.kept.users user)
               ∙ ap (λ (k : ℕ). user_at v.kept.users k) (sym place) in
               subst (λ (act : Act).
-              Ends StandsFor Counts Took Broke w later (perform act v) old.outlet new r) e
-              (ends-behind Took Broke StandsFor Counts w v later (perform (claim s n pn) v)
+              Ends (StandsSince mark) (LeavesAt mark) Counts Took Broke w later (perform act v) old.outlet new r) e
+              (ends-behind Took Broke (StandsSince mark) (LeavesAt mark) Counts w v later (perform (claim s n pn) v)
               old.outlet mid.outlet new r (told-none w v old.outlet mid.outlet refl outlet) refl
-              (done v later left (record {
-                stands = user-stands user w old.value mid.value stands same line
-                    (users ∙ one_more) cuts taken.1;
+              (done mark v later left (record {
+                stands = record {
+                  stands = user-stands user w old.value mid.value stands same line
+                      (users ∙ one_more) cuts taken.1
+                      (carded-kept (settings w) w.run old.value.words mid.value.words gives.cards
+                      stands.cards);
+                  looked = looked-apart mark v mid.value (ap (λ o. is_some o) same.steps
+                      ∙ stands.steps ∙ comes_v.0.1.2);
+                };
                 tidy = tidy;
               }) named (subst (λ (act : Act). Comes act v) (sym e) comes_v)));
+          tables = tables;
         }
 
     -- the claim ended early
     pub claim-err : (s n pn : ℕ) (user : UserFrame) (mid new : Moment Stage K) (e : Halt)
         → Happened Took Broke (Some user) (events.Claim s n pn) mid new (Err e)
-        → (w : World) (later : List Chance)
+        → (mark : Mark) (w : World) (later : List Chance)
         → w.kept.chances ≡ (decided mid.value.raced (events.Claim s n pn) ++ []) ++ later
-        → IsReached (StandsWith (AreSet (events.Claim s n pn))) w mid.value
+        → IsReached (IsSetSince (events.Claim s n pn) mark) w mid.value
         → Some user ≡ user_at w.kept.users n → Comes (claim s n pn) w
-        → Ends StandsFor Counts Took Broke w later (perform (claim s n pn) w) mid.outlet new (Err e)
-    claim-err s n pn user mid new e h w later left reached named comes =
+        → Ends (StandsSince mark) (LeavesAt mark) Counts Took Broke w later (perform (claim s n pn) w) mid.outlet new (Err e)
+    claim-err s n pn user mid new e h mark w later left reached named comes =
         let event = events.Claim s n pn in
-        ends-early Took Broke StandsFor Counts w later (perform (happen event) w)
+        ends-early Took Broke (StandsSince mark) (LeavesAt mark) Counts w later (perform (happen event) w)
         (unless (pn == 0) (happen events.Emit)) mid.outlet new e
-        (h.ends w later
+        (h.ends mark w later
         (left ∙ ap (λ (c : List Chance). c ++ later) (append-nil (decided mid.value.raced event)))
         reached named comes.0)
 
@@ -179,24 +207,24 @@ module _ {K : Type 0} {Took : K → Report → K → Type 0} {Broke : K → Repo
         (r : Result (Unit {0}) Halt)
         → Happened Took Broke (Some user) (events.Claim s n pn) mid now (Ok tt)
         → (d : Did Took Broke (unless (pn == 0) (happen events.Emit)) now new r)
-        → (w : World) (later : List Chance)
+        → (mark : Mark) (w : World) (later : List Chance)
         → w.kept.chances ≡ (decided mid.value.raced (events.Claim s n pn) ++ d.chances) ++ later
-        → IsReached (StandsWith (AreSet (events.Claim s n pn))) w mid.value
+        → IsReached (IsSetSince (events.Claim s n pn) mark) w mid.value
         → Some user ≡ user_at w.kept.users n → Comes (claim s n pn) w
-        → Ends StandsFor Counts Took Broke w later (perform (claim s n pn) w) mid.outlet new r
-    claim-ok s n pn user mid now new r h d w later left reached named comes =
+        → Ends (StandsSince mark) (LeavesAt mark) Counts Took Broke w later (perform (claim s n pn) w) mid.outlet new r
+    claim-ok s n pn user mid now new r h d mark w later left reached named comes =
         let event = events.Claim s n pn in
-        let first = h.ends w (d.chances ++ later)
+        let first = h.ends mark w (d.chances ++ later)
         (both-chances w.kept.chances (decided mid.value.raced event) d.chances later left) reached
         named comes.0 in
         let emit : Act = unless (pn == 0) (happen events.Emit) in
         let comes_later : Comes emit first.0 =
         going (perform (happen event) w) first.0 (λ v. IsTidy v → Comes emit v) first.1 comes.1
         first.2.tidy in
-        subst (λ (out : Course). Ends StandsFor Counts Took Broke w later
+        subst (λ (out : Course). Ends (StandsSince mark) (LeavesAt mark) Counts Took Broke w later
         (and_then out (λ v. perform emit v)) mid.outlet new r) (sym first.1)
-        (ends-behind Took Broke StandsFor Counts w first.0 later (perform emit first.0) mid.outlet
-        now.outlet new r first.3 first.5 (d.ends first.0 later first.4 first.2 comes_later))
+        (ends-behind Took Broke (StandsSince mark) (LeavesAt mark) Counts w first.0 later (perform emit first.0) mid.outlet
+        now.outlet new r first.3 first.5 (d.ends mark first.0 later first.4 first.2 comes_later))
 
     -- the same act, told of another value that is the same
     pub same-did : {A : Type 0} (f : A → Act) (a b : A) (old new : Moment Stage K)

@@ -20,13 +20,14 @@ use Rattle.lan_schedule.specs.Lines.{flow_round, send, unless_refused}
 use Rattle.lan_schedule.specs.inside.Choosing.{is_race}
 use Rattle.lan_schedule.specs.inside.Phased.{act_apart, refusal_apart}
 
--- no part of an act says where the lines stand, and none is a race
+-- no part of an act says where the lines stand or which races were run, and none is a race
 abbrev pub IsStill : Act → Type 0
 IsStill nothing = Unit {0}
 IsStill (refuse kind) = Unit {0}
 IsStill (exceed excess) = Unit {0}
 IsStill (happen event) = Unit {0}
-IsStill (change f) = (kept : Kept) → (f kept).phase ≡ kept.phase
+IsStill (change f) = (kept : Kept)
+    → ((f kept).phase ≡ kept.phase) × ((f kept).races ≡ kept.races)
 IsStill (seq first later) = IsStill first × IsStill later
 IsStill (look act) = (w : World) → IsStill (act w)
 IsStill (race workers control) = ⊥
@@ -55,7 +56,7 @@ stays nothing w v still e = goes-there w v e
 stays (refuse kind) w v still e = absurd (cc e)
 stays (exceed excess) w v still e = absurd (cc e)
 stays (happen event) w v still e = shown-there w v event (answer w event) e
-stays (change f) w v still e = goes-there (record w { kept = f w.kept }) v e ∙ still w.kept
+stays (change f) w v still e = goes-there (record w { kept = f w.kept }) v e ∙ (still w.kept).0
 stays (seq f g) w v still e = both-there w v (perform f w) (λ u. perform g u)
     (λ u first. stays f w u still.0 first) (λ u second. stays g u v still.1 second) e
 stays (look f) w v still e = stays (f w) w v (still w) e
@@ -97,18 +98,18 @@ still-spread : (number : ℕ) → IsStill (spread number)
 still-spread number = λ w. (
   λ v. still-span (pass number (sender w number)) 0 (count v)
       (λ s. still-pass number (sender w number) s),
-  λ kept. refl,
+  λ kept. (refl, refl),
 )
 
 still-flow_round : IsStill flow_round
-still-flow_round = (λ kept. refl, (still-round, λ w. still-each spread (due w) still-spread))
+still-flow_round = (λ kept. (refl, refl), (still-round, λ w. still-each spread (due w) still-spread))
 
 still-send : (s : ℕ) → IsStill (send s)
 still-send s = λ w. (tt, still-unless (number_claimed w s == 0) (happen events.Emit) tt)
 
 -- what a line performs outside a race that begins none
 pub still-deed : (line : Line) (w : World) → is_race line ≡ false → IsStill (deed line w)
-still-deed (lines.Station name sci priority) w isnt = (λ kept. refl, tt)
+still-deed (lines.Station name sci priority) w isnt = (λ kept. (refl, refl), tt)
 still-deed (lines.Tick rounds) w isnt = still-span (λ _. round) 0 rounds (λ k. still-round)
 still-deed (lines.TickOne name ticks) w isnt =
     still-span (λ _. tick (place w name)) 0 ticks (λ k. still-tick (place w name))
@@ -119,14 +120,14 @@ still-deed (lines.Feed first last name) w isnt =
     still-span (λ k. happen (events.Deliver (first + k) (place w name))) 0 (last + 1 - first)
     (λ k. tt)
 still-deed (lines.Spread frame) w isnt = still-spread frame
-still-deed (lines.Lose frame) w isnt = λ kept. refl
-still-deed (lines.Cut from to) w isnt = λ kept. refl
-still-deed (lines.Mend from to) w isnt = λ kept. refl
+still-deed (lines.Lose frame) w isnt = λ kept. (refl, refl)
+still-deed (lines.Cut from to) w isnt = λ kept. (refl, refl)
+still-deed (lines.Mend from to) w isnt = λ kept. (refl, refl)
 still-deed (lines.Restart name) w isnt = tt
-still-deed (lines.Send name destination body) w isnt = (λ kept. refl, still-send (place w name))
+still-deed (lines.Send name destination body) w isnt = (λ kept. (refl, refl), still-send (place w name))
 still-deed (lines.Inject name octets) w isnt = tt
 still-deed lines.Race w isnt = absurd (cc isnt)
-still-deed _ w isnt = λ kept. refl
+still-deed _ w isnt = λ kept. (refl, refl)
 
 pub still-apart : (line : Line) → is_race line ≡ false → IsStill (act_apart line)
 still-apart line isnt = λ w.

@@ -35,7 +35,7 @@ use Rattle.lan_schedule.specs.Standing.{IsStaged, StandsFor}
 use Rattle.lan_schedule.specs.Shown.{words_in, words_of, HasWords, IsShownNext, ShowKey}
 use Rattle.lan_schedule.specs.Shown.{ShowTheCore}
 use Rattle.lan_schedule.proofs.Tidying.{in-range, under-user}
-use Rattle.lan_schedule.proofs.Phasing.{stood-calm}
+use Rattle.lan_schedule.proofs.Replaying.{stood-apart}
 
 -- ---- what the words say
 
@@ -65,7 +65,7 @@ says-of w replay stands = says-in w replay replay.stage stands.stage
 -- a replay stands between two lines
 outside : (w : World) (replay : Replay) → StandsFor w replay → is_racing w.kept.phase ≡ false
 outside w replay stands =
-    ap (λ (p : Phase). is_racing p) stands.phase ∙ stood-calm replay.phase
+    ap (λ (p : Phase). is_racing p) stands.phase ∙ stood-apart replay.phase
 
 says-many : (raced racing : Bool) (settings : Settings) (r : Run) (cs : List ControlAt)
     → Says raced racing settings r cs → length cs ≡ length (stations r)

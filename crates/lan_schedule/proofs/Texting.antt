@@ -68,7 +68,7 @@ module _ {K : Type 0} {Took : K → Report → K → Type 0} {Broke : K → Repo
             stops = out;
             tidy = tidy-same w (record w.kept { line = w.kept.line + 1 }) reached.tidy refl refl refl
                 refl refl (λ e. e) (λ e. e);
-            counts = stands-counts w now.value reached.stands;
+            leaves = stands-counts w now.value reached.stands;
             told = told-none w v now.outlet now.outlet refl refl;
             left = ap (λ (c : List Chance). behind_numbers c) left;
             same = refl;

@@ -53,14 +53,15 @@ pub record WasBroken {K : Type 0} (Took : K → Report → K → Type 0)
   pub breaks : Broke before last new why
   pub is : halt ≡ halt_of_broken why
 
--- the act stopped in a tidy world, all was told, and a number that it was to show may be left
-pub record IsStopped {R K : Type 0} (Counts : World → R → Type 0) (Took : K → Report → K → Type 0)
-    (w : World) (later : List Chance) (out : Course) (old : K) (new : Moment R K) (halt : Halt) :
+-- The act stopped in a tidy world, of which the value has what such a halt leaves; all was told, and a
+-- number that the act was to show may be left.
+pub record IsStopped {R K : Type 0} (Leaves : Halt → World → R → Type 0)
+    (Took : K → Report → K → Type 0) (w : World) (later : List Chance) (out : Course) (old : K) (new : Moment R K) (halt : Halt) :
     Type 0 where
   pub world : World
   pub stops : out ≡ Stops world halt
   pub tidy : IsTidy world
-  pub counts : Counts world new.value
+  pub leaves : Leaves halt world new.value
   pub told : WasTold Took w world old new.outlet
   pub left : behind_numbers world.kept.chances ≡ behind_numbers later
   pub same : is_racing world.kept.phase ≡ is_racing w.kept.phase
@@ -88,14 +89,14 @@ pub record WasCut {R K : Type 0} (Counts : World → R → Type 0) (Took : K →
 
 -- How a call ends that begins in a world, and whose course would be this one: in the midst of a race
 -- where it began there, and with the chances that come behind it. Its value then stands for the
--- world; where it ended early it has its tally.
-abbrev pub Ends : {R K : Type 0} → (World → R → Type 0) → (World → R → Type 0)
-    → (K → Report → K → Type 0) → (K → Report → K → Broken → Type 0) → World → List Chance → Course
+-- world; where it ended early it has its tally, and at a stop what the halt leaves.
+abbrev pub Ends : {R K : Type 0} → (World → R → Type 0) → (Halt → World → R → Type 0)
+    → (World → R → Type 0) → (K → Report → K → Type 0) → (K → Report → K → Broken → Type 0) → World → List Chance → Course
     → K → Moment R K → Result (Unit {0}) Halt → Type 0
-Ends Stands Counts Took Broke w later out old new (Ok done) =
+Ends Stands Leaves Counts Took Broke w later out old new (Ok done) =
     (v : World) × (out ≡ Goes v) × IsReached Stands v new.value
     × WasTold Took w v old new.outlet × (v.kept.chances ≡ later)
     × (is_racing v.kept.phase ≡ is_racing w.kept.phase)
-Ends Stands Counts Took Broke w later out old new (Err halt) =
-    IsStopped Counts Took w later out old new halt
+Ends Stands Leaves Counts Took Broke w later out old new (Err halt) =
+    IsStopped Leaves Took w later out old new halt
     ⊎ WasCut Counts Took Broke w out old new halt

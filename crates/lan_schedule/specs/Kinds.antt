@@ -13,9 +13,8 @@ use Rattle.lan_schedule.specs.declared.halt.Kind.TheVariants as kinds
 use Rattle.lan_schedule.specs.declared.choices.Choices.{Choices}
 use Rattle.lan_schedule.specs.declared.choices.Rule.{Rule}
 use Rattle.lan_schedule.specs.declared.choices.Rule.TheVariants.{Listed}
-use Rattle.lan_schedule.specs.declared.phase.Burst.{Burst}
-use Rattle.lan_schedule.specs.declared.phase.Numbered.{Numbered}
-use Rattle.lan_schedule.specs.Races.{Phase, Apart, Bursting, Controlling, Racing, workers_at}
+use Rattle.lan_schedule.specs.Races.{Phase, Apart, Bursting, Controlling, Racing, Burst, Numbered}
+use Rattle.lan_schedule.specs.Races.{workers_at}
 use Rattle.lan_schedule.specs.World.{World, names_of, scis_of, is_in, place}
 
 -- ---- the text alone
@@ -27,11 +26,6 @@ kind_of_fault faults.Word = kinds.Word
 kind_of_fault faults.Count = kinds.Count
 kind_of_fault faults.Hex = kinds.Hex
 kind_of_fault faults.Range = kinds.Range
-
--- whether lines of this form can be performed: the end of a race can't
-abbrev pub is_performed : Line → Bool
-is_performed lines.End = false
-is_performed _ = true
 
 -- ---- order
 
@@ -143,6 +137,13 @@ wrong_word (lines.Send name destination body) names scis frames = unknown name n
 wrong_word (lines.Inject name octets) names scis frames = unknown name names
 wrong_word _ names scis frames = None
 
+-- what is wrong with the frame of a line of control, where the air has so many
+abbrev pub wrong_frame : Line → ℕ → Option Kind
+wrong_frame (lines.Deliver frame name) frames = no_frame frame frames
+wrong_frame (lines.Spread frame) frames = no_frame frame frames
+wrong_frame (lines.Lose frame) frames = no_frame frame frames
+wrong_frame _ frames = None
+
 -- what is wrong with the names of a line of a race; its frame is looked for when it is performed
 abbrev pub wrong_name : Line → List (List ℕ) → Option Kind
 wrong_name (lines.Burst name workers frames destination body) names = unknown name names
@@ -175,15 +176,13 @@ wrong_at line w Racing = None
 
 -- ---- the first reason
 
--- the first of three reasons: no such line can be performed, none may stand here, a word is wrong
-abbrev pub first_of : Bool → Bool → Option Kind → Option Kind
-first_of performed allowed wrong =
-    or_else (where_ (not performed) kinds.Word) (or_else (where_ (not allowed) kinds.Order) wrong)
+-- the first of two reasons: no such line may stand here, or a word is wrong
+abbrev pub first_of : Bool → Option Kind → Option Kind
+first_of allowed wrong = or_else (where_ (not allowed) kinds.Order) wrong
 
 -- why a line is refused
 abbrev pub refusal : Line → World → Option Kind
-refusal line w =
-    first_of (is_performed line) (may_stand line w w.kept.phase) (wrong_at line w w.kept.phase)
+refusal line w = first_of (may_stand line w w.kept.phase) (wrong_at line w w.kept.phase)
 
 -- why what a text says is refused
 abbrev pub refusal_read : Result (Option Line) TextFault → World → Option Kind

@@ -1,11 +1,14 @@
 -- What each line of a trace performs (this profile's own rule).
 use Rattle.std.specs.Prelude.{ℕ, ◌+◌, ◌-◌, ◌==◌, ◌||◌, ◌&&◌, nat_le, not, Bool, true, List}
-use Rattle.std.specs.Prelude.{[], ◌∷◌, ◌++◌, length, map}
+use Rattle.std.specs.Prelude.{[], ◌∷◌, ◌++◌, length, map, nat_lt, if◌then◌else◌}
 use Rattle.std.specs.List.{filter}
 use Rattle.std.specs.Prelude.{Option, Some, None, Result, Ok}
 use Rattle.lan_base.specs.declared.frame.UserFrame.{UserFrame}
 use Rattle.lan_core.specs.declared.event.Event.TheVariants.{Start, Tick, Deliver, Restart, Claim}
 use Rattle.lan_core.specs.declared.event.Event.TheVariants.{Emit, Inject}
+use Rattle.lan_core.specs.Ledgers.{air}
+use Rattle.lan_base.specs.Ranges.{most_frames}
+use Rattle.lan_core.specs.Order.{most_octets}
 use Rattle.trace_text.specs.declared.fault.TextFault.{TextFault}
 use Rattle.trace_text.specs.declared.line.Line.{Line}
 use Rattle.trace_text.specs.declared.line.Line.TheVariants as lines
@@ -16,16 +19,16 @@ use Rattle.lan_schedule.specs.declared.choices.Rule.{Rule}
 use Rattle.lan_schedule.specs.declared.choices.Rule.TheVariants.{Counted, Streamed, Listed}
 use Rattle.lan_schedule.specs.declared.choices.Choices.{Choices}
 use Rattle.lan_schedule.specs.declared.frames.Put.{Put}
-use Rattle.lan_schedule.specs.declared.phase.Burst.{Burst}
-use Rattle.lan_schedule.specs.declared.phase.Numbered.{Numbered}
-use Rattle.lan_schedule.specs.Races.{Phase, Apart, Bursting, Controlling, Racing}
+use Rattle.lan_schedule.specs.Races.{Phase, Apart, Bursting, Controlling, Racing, Burst, Numbered}
+use Rattle.lan_schedule.specs.Races.{Excess, TooManyFrames, TooManyOctets, frames_asked, octets_asked}
+use Rattle.lan_schedule.specs.Races.{workers_of}
 use Rattle.lan_schedule.specs.Settings.{secret_of, lag_of}
-use Rattle.lan_schedule.specs.World.{World, Kept, count, place, sender, mark, is_cut}
+use Rattle.lan_schedule.specs.World.{World, Kept, count, place, sender, mark, is_cut, air_octets}
 use Rattle.lan_schedule.specs.World.{with_link, without_link}
 use Rattle.lan_schedule.specs.Numbers.{number_shown, number_claimed}
 use Rattle.lan_schedule.specs.Acts.{Act, nothing, refuse, happen, change, seq, look, each, span}
-use Rattle.lan_schedule.specs.Acts.{times, unless}
-use Rattle.lan_schedule.specs.Kinds.{refusal, first_refusal}
+use Rattle.lan_schedule.specs.Acts.{times, unless, exceed, race}
+use Rattle.lan_schedule.specs.Kinds.{refusal, first_refusal, wrong_frame}
 
 -- ---- settings
 
@@ -181,25 +184,55 @@ deed (lines.Inject name octets) w = happen (Inject (place w name) octets)
 deed lines.Race w = enter (Bursting [])
 deed line w = choose (chosen_by line)
 
--- what a line performs where it stands that isn't refused; the lines of a race are kept
-abbrev pub deed_at : Line → World → Phase → Act
-deed_at line w Apart = deed line w
-deed_at line w (Bursting bursts) = enter (behind_race line w bursts)
-deed_at line w (Controlling bursts control) = enter (behind_while line w bursts control)
-deed_at line w Racing = nothing
-
 -- a refused line performs nothing
 abbrev pub unless_refused : Option Kind → Act → Act
 unless_refused None act = act
 unless_refused (Some kind) act = refuse kind
 
--- what a line performs
-abbrev pub act_of : Line → Act
-act_of line = look (λ w. unless_refused (refusal line w) (deed_at line w w.kept.phase))
-
 -- the line of this number begins
 abbrev pub begin_line : ℕ → Act
 begin_line number = change (λ kept. record kept { line = number })
+
+-- a line of control is performed beside the workers; that its frame isn't there shows only now
+abbrev pub controlled : Numbered → Act
+controlled kept = seq (begin_line kept.number) (look (λ w.
+    unless_refused (wrong_frame kept.line (length w.kept.frames)) (deed kept.line w)))
+
+-- the lines of control, one after the other
+abbrev pub control_act : List Numbered → Act
+control_act control = each controlled control
+
+-- the first limit of which bursts ask for more than the air leaves
+abbrev pub excess_of : List Burst → World → Option Excess
+excess_of bursts w =
+    if nat_lt most_frames (length (air w.run) + frames_asked bursts) then Some TooManyFrames
+    else if nat_lt most_octets (air_octets w.run + octets_asked bursts) then Some TooManyOctets
+    else None
+
+abbrev pub unless_exceeded : Option Excess → Act → Act
+unless_exceeded None act = act
+unless_exceeded (Some excess) act = exceed excess
+
+-- a race is run
+abbrev pub run_race : List Burst → List Numbered → World → Act
+run_race bursts control w =
+    unless_exceeded (excess_of bursts w) (race (workers_of bursts) (control_act control))
+
+-- what a line performs behind `while`: the race is run, or a line of control is kept
+abbrev pub deed_controlling : Line → World → List Burst → List Numbered → Act
+deed_controlling lines.End w bursts control = run_race bursts control w
+deed_controlling line w bursts control = enter (behind_while line w bursts control)
+
+-- what a line performs where it stands that isn't refused; the lines of a race are kept until it ends
+abbrev pub deed_at : Line → World → Phase → Act
+deed_at line w Apart = deed line w
+deed_at line w (Bursting bursts) = enter (behind_race line w bursts)
+deed_at line w (Controlling bursts control) = deed_controlling line w bursts control
+deed_at line w Racing = nothing
+
+-- what a line performs
+abbrev pub act_of : Line → Act
+act_of line = look (λ w. unless_refused (refusal line w) (deed_at line w w.kept.phase))
 
 abbrev pub at_line : ℕ → World → World
 at_line number w = record w { kept = record w.kept { line = number } }

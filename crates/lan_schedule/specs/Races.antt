@@ -6,8 +6,20 @@ use Rattle.std.specs.List.{filter, flat_map, range_with_len}
 use Rattle.lan_base.specs.declared.frame.UserFrame.{UserFrame}
 use Rattle.lan_core.specs.declared.stop.Which.{Which}
 use Rattle.lan_core.specs.declared.stop.Which.TheVariants.{Frames, Octets}
-use Rattle.lan_schedule.specs.declared.phase.Burst.{Burst}
-use Rattle.lan_schedule.specs.declared.phase.Numbered.{Numbered}
+use Rattle.trace_text.specs.declared.line.Line.{Line}
+
+-- a burst: a station, how many workers it has there, how many frames they send in all, and of which
+-- user data
+pub record Burst : Type 0 where
+  pub station : ℕ
+  pub workers : ℕ
+  pub frames : ℕ
+  pub user : UserFrame
+
+-- a line that is kept, with its number
+pub record Numbered : Type 0 where
+  pub number : ℕ
+  pub line : Line
 
 -- where the lines stand: in no race; behind `race`, where bursts come; behind `while`, where the
 -- lines of control come; or in a race whose lines of control are performed

@@ -6,10 +6,12 @@ use Rattle.lan_core.specs.Run.{Run, stations, facts_of}
 use Rattle.lan_core.specs.Standing.{StandsFor as GroupStandsFor}
 use Rattle.fact_tally.specs.Summary.{counts}
 use Rattle.transmit_words.specs.Ties.{AreTied, HaveCaughtUp, HaveKeptUp}
+use Rattle.worker_races.specs.Carded.{AreCarded}
 use Rattle.lan_schedule.specs.declared.stage.Stage.{Stage}
 use Rattle.lan_schedule.specs.Settings.{lag_of}
 use Rattle.lan_schedule.specs.Supply.{supply_nth}
-use Rattle.lan_schedule.specs.World.{World, settings, names_of, flow_of, is_racing}
+use Rattle.lan_schedule.specs.World.{World, settings, names_of, flow_of, air_octets}
+use Rattle.lan_schedule.specs.World.{is_racing}
 use Rattle.lan_schedule.specs.Answers.{supply}
 
 -- What the words of all stations say of a run, where a race was begun or not, and where control's
@@ -36,7 +38,13 @@ pub record StandsWith (Tied : Bool → Bool → Settings → Run → List Contro
   pub flow : stage.frames ≡ flow_of w
   pub cuts : stage.cuts ≡ w.kept.cuts
   pub words : Tied w.kept.raced (is_racing w.kept.phase) (settings w) w.run stage.words
+  -- the cards of the words are those of the keys that the stations installed, in whatever part of a
+  -- trace
+  pub cards : AreCarded (settings w) w.run stage.words
   pub tally : stage.tally ≡ counts (facts_of w.run)
+  pub octets : stage.octets ≡ air_octets w.run
+  -- what control performs is kept in the midst of a race alone
+  pub steps : is_some stage.steps ≡ is_racing w.kept.phase
 
 -- the same, between two events
 abbrev pub StandsFor : World → Stage → Type 0

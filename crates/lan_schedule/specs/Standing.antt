@@ -1,6 +1,10 @@
 -- For which world a replay stands.
-use Rattle.std.specs.Prelude.{◌≡◌, ◌⊎◌, ◌+◌, List, [], ◌++◌, Option, Some, None, Result, Ok, Err}
+use Rattle.std.specs.Prelude.{◌≡◌, ◌⊎◌, ◌<◌, ◌+◌, ℕ, true, List, [], ◌++◌, length, Option, Some, None}
+use Rattle.std.specs.Prelude.{Result, Ok, Err}
+use Rattle.std.specs.List.{AllByRecursion}
 use Rattle.lan_core.specs.Run.{facts_of}
+use Rattle.lan_core.specs.Types.{IsUserFrame}
+use Rattle.trace_text.specs.Writing.{IsInForm}
 use Rattle.fact_tally.specs.Summary.{counts}
 use Rattle.lan_schedule.specs.declared.halt.Halt.{Halt}
 use Rattle.lan_schedule.specs.declared.halt.Halt.TheVariants.{Memory}
@@ -9,9 +13,10 @@ use Rattle.lan_schedule.specs.declared.stage.Stage.{Stage}
 use Rattle.lan_schedule.specs.declared.phase.Phase.{Phase as Stood}
 use Rattle.lan_schedule.specs.declared.phase.Phase.TheVariants as stood
 use Rattle.lan_schedule.specs.declared.commands.Replay.{Replay}
-use Rattle.lan_schedule.specs.Races.{Chance, Phase, Apart, Bursting, Controlling}
-use Rattle.lan_schedule.specs.World.{World, nothing_kept}
+use Rattle.lan_schedule.specs.Races.{Chance, Phase, Apart, Bursting, Controlling, Burst, Numbered}
+use Rattle.lan_schedule.specs.World.{World, names_of, nothing_kept}
 use Rattle.lan_schedule.specs.Acts.{Act, Goes, Stops, perform}
+use Rattle.lan_schedule.specs.Kinds.{is_control, wrong_name}
 use Rattle.lan_schedule.specs.Lines.{at_line, close}
 use Rattle.lan_schedule.specs.Reports.{Report}
 use Rattle.lan_schedule.specs.Ends.{Moment, IsReached, Ends}
@@ -22,6 +27,24 @@ abbrev pub phase_of : Stood → Phase
 phase_of stood.Apart = Apart
 phase_of (stood.Bursting bursts) = Bursting bursts.items
 phase_of (stood.Controlling bursts control) = Controlling bursts.items control.items
+
+-- a burst of a station that there is, whose user frame can be sent
+pub record IsBurst (names : List (List ℕ)) (burst : Burst) : Type 0 where
+  pub station : burst.station < length names
+  pub user : IsUserFrame burst.user
+
+-- a line of control in its form, which names stations that there are
+pub record IsControl (names : List (List ℕ)) (kept : Numbered) : Type 0 where
+  pub form : IsInForm kept.line
+  pub control : is_control kept.line ≡ true
+  pub named : wrong_name kept.line names ≡ None
+
+-- what is kept for a race can be performed, where the stations have these names
+abbrev pub AreFit : List (List ℕ) → Phase → Type 0
+AreFit names (Bursting bursts) = AllByRecursion (IsBurst names) bursts
+AreFit names (Controlling bursts control) =
+    AllByRecursion (IsBurst names) bursts × AllByRecursion (IsControl names) control
+AreFit names _ = Unit {0}
 
 -- before the first station nothing happened, and the tally is that of no facts; from then on the
 -- group at work stands for the world
@@ -39,6 +62,7 @@ IsStaged w replay (Some stage) = StageStandsFor w stage
 pub record StandsFor (w : World) (replay : Replay) : Type 0 where
   pub goes : replay.halted ≡ None
   pub phase : w.kept.phase ≡ phase_of replay.phase
+  pub fit : AreFit (names_of w.run) w.kept.phase
   pub stage : IsStaged w replay replay.stage
 
 abbrev pub HasTally : World → Replay → Option Stage → Type 0
@@ -57,7 +81,8 @@ pub record Does {K : Type 0} (Took : K → Report → K → Type 0)
   pub chances : List Chance
   pub ends : (w : World) (later : List Chance) → w.kept.chances ≡ chances ++ later
       → IsReached StandsFor w old.value
-      → Ends StandsFor Counts Took Broke w later (perform act w) old.outlet new result
+      → Ends StandsFor (λ halt. Counts) Counts Took Broke w later (perform act w) old.outlet new
+      result
 
 -- The end of a trace, whose lines made this world: nothing more comes, or it stops there. The line
 -- behind the last may also have no number.

@@ -2,7 +2,7 @@
 use Rattle.std.specs.Prelude.{ℕ, ◌==◌, ◌&&◌, ◌-◌, Bool, true}
 use Rattle.std.specs.Prelude.{false, if◌then◌else◌, nat_eq, zero, suc}
 use Rattle.std.specs.Prelude.{List, [], ◌∷◌, ◌++◌, map, length, not, slice_get, option_map}
-use Rattle.std.specs.Prelude.{unwrap_or}
+use Rattle.std.specs.Prelude.{unwrap_or, sum}
 use Rattle.std.specs.List.{list_any, filter, flat_map, position_or_len}
 use Rattle.std.specs.Cmp.Lexicographic.{pointwise}
 use Rattle.lan_base.specs.declared.frame.UserFrame.{UserFrame}
@@ -10,6 +10,7 @@ use Rattle.lan_core.specs.declared.fact.Fact.{Fact}
 use Rattle.lan_core.specs.declared.fact.Fact.TheVariants as facts
 use Rattle.lan_core.specs.declared.settings.Settings.{Settings}
 use Rattle.lan_core.specs.Run.{Run, stations}
+use Rattle.lan_core.specs.Ledgers.{air}
 use Rattle.lan_schedule.specs.declared.choices.Choices.{Choices}
 use Rattle.lan_schedule.specs.declared.frames.Put.{Put}
 use Rattle.lan_schedule.specs.declared.links.Link.{Link}
@@ -119,6 +120,10 @@ sender_at n frames = unwrap_or (option_map (λ put. put.sender) (slice_get frame
 -- the sender of the frame of a number, from 1
 abbrev pub sender : World → ℕ → ℕ
 sender w number = sender_at (number - 1) w.kept.frames
+
+-- how many octets the frames of the air have
+abbrev pub air_octets : Run → ℕ
+air_octets r = sum (map (λ frame. length frame.octets) (air r))
 
 -- the frames by number, and the count of flow rounds
 pub record Flow : Type 0 where

@@ -10,17 +10,20 @@ ghost use Rattle.lan_schedule.specs.Races.{Chance};
 ghost use Rattle.lan_schedule.specs.World.{World, beginning};
 ghost use Rattle.lan_schedule.specs.declared.halt.Halt.{Halt};
 ghost use Rattle.lan_schedule.specs.Settings.{secret_of};
-ghost use Rattle.lan_schedule.specs.Kinds.{first_of, is_performed, is_allowed, kind_of_fault};
+ghost use Rattle.lan_schedule.specs.Kinds.{first_of, is_allowed, kind_of_fault};
 ghost use Rattle.lan_schedule.specs.Acts.{look};
 ghost use Rattle.lan_schedule.specs.Lines.{numbered, at_line, act_of, deed, chosen_by};
 ghost use Rattle.lan_schedule.specs.Lines.{listed_after, performed};
 ghost use Rattle.lan_schedule.specs.Ends.{moment};
-ghost use Rattle.lan_schedule.specs.Standing.{StandsFor, Counts, Does, Closes};
+ghost use Rattle.lan_schedule.specs.Standing.{StandsFor, Counts, Does, Closes, phase_of};
+ghost use Rattle.lan_schedule.specs.inside.Beside.{race_in};
 ghost use Rattle.lan_schedule.specs.inside.Choosing.{IsStation};
+ghost use Rattle.lan_schedule.specs.inside.Phased.{is_controlling};
 
 use crate::choices::{Choices, Keyed, Rule};
 use crate::halt::{Halt, Kind};
 use crate::phase::Phase;
+use crate::race::run_race;
 use crate::recorder::Recorder;
 use crate::stage::Stage;
 use aes_block::Secret;
@@ -28,6 +31,8 @@ use fact_tally::Tally;
 use lan_base::Blocks;
 use packet_claims::Gate;
 use std::alloc::{AllocError, Global};
+use std::mem::replace;
+use std::thread::Threads;
 use trace_text::{Line, LineError, TextFault, read_line};
 
 /// What the lines so far have made. Contracts see by `StandsFor` which world that is, and by
@@ -76,10 +81,12 @@ impl Replay {
     }
 
     /// Performs one line, whose number in the trace is given, and tells what each event shows before
-    /// the next one happens. An error halts the replay: it answers that error from then on, and
-    /// keeps the tally of what had happened.
-    pub fn command<K, R: Recorder<K>, G: Gate>(
+    /// the next one happens, but for a race: its end runs it whole, and then tells what it showed. An
+    /// error halts the replay: it answers that error from then on, and keeps the tally of what had
+    /// happened.
+    pub fn command<T: Threads + Sync, K, R: Recorder<K>, G: Gate + Sync>(
         &mut self,
+        rt: &T,
         number: u32,
         line: &Line,
         recorder: &mut R,
@@ -96,7 +103,7 @@ impl Replay {
         if let Some(halt) = self.halted {
             return Err(halt);
         }
-        let outcome = self.perform_line(number, line, recorder, outlet, gate);
+        let outcome = self.perform_line(rt, number, line, recorder, outlet, gate);
         if let Err(halt) = outcome {
             self.halted = Some(halt);
         }
@@ -105,8 +112,9 @@ impl Replay {
 
     /// Performs a text without its line ending, as the next line, and tells what each event shows
     /// before the next one happens. An error halts the replay, as that of a command does.
-    pub fn text<K, R: Recorder<K>, G: Gate>(
+    pub fn text<T: Threads + Sync, K, R: Recorder<K>, G: Gate + Sync>(
         &mut self,
+        rt: &T,
         text: &[u8],
         recorder: &mut R,
         outlet: &mut K,
@@ -121,7 +129,7 @@ impl Replay {
         if let Some(halt) = self.halted {
             return Err(halt);
         }
-        let outcome = self.perform_text(text, recorder, outlet, gate);
+        let outcome = self.perform_text(rt, text, recorder, outlet, gate);
         if let Err(halt) = outcome {
             self.halted = Some(halt);
         }
@@ -149,8 +157,9 @@ impl Replay {
     }
 
     /// Performs a text as the next line.
-    fn perform_text<K, R: Recorder<K>, G: Gate>(
+    fn perform_text<T: Threads + Sync, K, R: Recorder<K>, G: Gate + Sync>(
         &mut self,
+        rt: &T,
         text: &[u8],
         recorder: &mut R,
         outlet: &mut K,
@@ -167,7 +176,7 @@ impl Replay {
                 self.begin_line(number);
                 Ok(())
             }
-            Ok(Some(line)) => self.perform_line(number, &line, recorder, outlet, gate),
+            Ok(Some(line)) => self.perform_line(rt, number, &line, recorder, outlet, gate),
             Err(LineError::Refused(fault)) => Err(Halt::Trace {
                 line: number,
                 kind: kind_of_fault(fault),
@@ -177,8 +186,9 @@ impl Replay {
     }
 
     /// Performs the line of a number.
-    fn perform_line<K, R: Recorder<K>, G: Gate>(
+    fn perform_line<T: Threads + Sync, K, R: Recorder<K>, G: Gate + Sync>(
         &mut self,
+        rt: &T,
         number: u32,
         line: &Line,
         recorder: &mut R,
@@ -190,7 +200,7 @@ impl Replay {
             (moment self.old outlet.old) (moment self.new outlet.new) result }
     {
         self.begin_line(number);
-        self.perform(line, recorder, outlet, gate)
+        self.perform(rt, line, recorder, outlet, gate)
     }
 
     /// The line of a number begins, and performs nothing so far.
@@ -215,8 +225,9 @@ impl Replay {
     }
 
     /// Performs a line.
-    fn perform<K, R: Recorder<K>, G: Gate>(
+    fn perform<T: Threads + Sync, K, R: Recorder<K>, G: Gate + Sync>(
         &mut self,
+        rt: &T,
         line: &Line,
         recorder: &mut R,
         outlet: &mut K,
@@ -226,11 +237,14 @@ impl Replay {
         ensures { Does R.Took R.Broke (act_of line.now)
             (moment self.old outlet.old) (moment self.new outlet.new) result }
     {
+        if self.phase.is_end(line) {
+            return self.race(rt, recorder, outlet, gate);
+        }
         if let Some(stage) = &mut self.stage {
             if self.phase.takes(line) {
                 return self.phase.take(stage, line);
             }
-            return stage.command(line, recorder, outlet, gate);
+            return stage.command(rt, line, recorder, outlet, gate);
         }
         if let Some(kind) = refusal(&self.chosen, line) {
             return Err(Halt::Trace {
@@ -239,6 +253,30 @@ impl Replay {
             });
         }
         self.prepare(line, recorder, outlet, gate)
+    }
+
+    /// The end of a race came: the race is run.
+    fn race<T: Threads + Sync, K, R: Recorder<K>, G: Gate + Sync>(
+        &mut self,
+        rt: &T,
+        recorder: &mut R,
+        outlet: &mut K,
+        gate: &G,
+    ) -> Result<(), Halt>
+        requires controls { is_controlling (phase_of self.old.phase) ≡ true }
+        ensures { Does R.Took R.Broke (look (λ w. race_in w.kept.phase w))
+            (moment self.old outlet.old) (moment self.new outlet.new) result }
+    {
+        let Some(stage) = self.stage.take() else {
+            return Ok(());
+        };
+        let Phase::Controlling(bursts, control) = replace(&mut self.phase, Phase::Apart) else {
+            self.stage = Some(stage);
+            return Ok(());
+        };
+        let (stage, outcome) = run_race(rt, stage, &bursts, control, recorder, outlet, gate);
+        self.stage = Some(stage);
+        outcome
     }
 
     /// Performs a line before the first station, which isn't refused.
@@ -344,11 +382,8 @@ fn secret_of(octets: &[u8]) -> Secret
 /// Why a line before the first station is refused.
 fn refusal(chosen: &Choices, line: &Line) -> Option<Kind>
     ensures { result
-        ≡ first_of (is_performed line.now) (is_allowed line.now false chosen.now) None }
+        ≡ first_of (is_allowed line.now false chosen.now) None }
 {
-    if !is_performed(line) {
-        return Some(Kind::Word);
-    }
     if is_allowed(chosen, line) {
         None
     } else {
@@ -373,13 +408,6 @@ fn is_allowed(chosen: &Choices, line: &Line) -> bool
         Line::Station { .. } => chosen.group.is_some(),
         _ => false,
     }
-}
-
-/// Whether lines of this form can be performed: the end of a race can't.
-pub fn is_performed(line: &Line) -> bool
-    ensures { result ≡ is_performed line.now }
-{
-    !matches!(line, Line::End)
 }
 
 /// A fault of a line's text as a kind.

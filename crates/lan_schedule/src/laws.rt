@@ -16,24 +16,28 @@ ghost use Rattle.lan_schedule.specs.World.{World, beginning, count, settings, is
 ghost use Rattle.lan_schedule.specs.Numbers.{shown_next, claimed_number};
 ghost use Rattle.lan_schedule.specs.Acts.{Act, Stops, perform, world_of, course};
 ghost use Rattle.lan_schedule.specs.Lines.{performed_all, performed_whole};
-ghost use Rattle.lan_schedule.specs.Sound.{IsTidy};
+ghost use Rattle.lan_schedule.specs.Sound.{IsTidy, HasRunNone};
 ghost use Rattle.lan_schedule.specs.Standing.{StandsFor};
 ghost use Rattle.lan_schedule.specs.Shown.{words_of, HasWords, ShowTheCore};
 
 use transmit_words::{law_the_words_are_not_behind, law_the_words_show_what_transmits};
 
 /// Whatever chance decides, the world of no line is tidy. Lines that are performed from there leave
-/// a tidy world, whether they stop or not, where there are fewer than 2^32 of them, and so do those
-/// that are all of a trace; none of them runs a race, and so none is performed there.
+/// a tidy world, whether they stop or not, where there are fewer than 2^32 of them and they run no
+/// race, and so do those that are all of a trace. What a race leaves is tidy where its workers claimed
+/// as they were dealt: that is not chance alone, and so a clause of each call.
 pub fn law_lines_leave_a_tidy_world()
     ensures start { (chances : List Chance) → IsTidy (beginning chances) }
     ensures lines { (chances : List Chance) (lines : List (List ℕ)) → length lines < 2 ^ 32
+        → HasRunNone (course (performed_all lines) chances)
         → IsTidy (world_of (course (performed_all lines) chances)) }
     ensures calm { (chances : List Chance) (lines : List (List ℕ)) → length lines < 2 ^ 32
+        → HasRunNone (course (performed_all lines) chances)
         → (world_of (course (performed_all lines) chances)).kept.raced ≡ false }
     ensures apart { (chances : List Chance) (lines : List (List ℕ)) → length lines < 2 ^ 32
         → is_racing (world_of (course (performed_all lines) chances)).kept.phase ≡ false }
     ensures whole { (chances : List Chance) (lines : List (List ℕ)) → length lines < 2 ^ 32
+        → HasRunNone (course (performed_whole lines) chances)
         → let w = world_of (course (performed_whole lines) chances) in
         IsTidy w × (is_racing w.kept.phase ≡ false) }
 {}

@@ -2,19 +2,24 @@
 //! show is told to a recorder, that of each before the next one happens.
 #![tactic(auto)]
 
+mod batches;
 mod choices;
 mod commands;
 mod frames;
 mod halt;
+mod keeping;
 mod laws;
 mod links;
 mod moves;
 mod phase;
+mod race;
 mod recorder;
 mod refusals;
 mod setup;
 mod stage;
+mod steering;
 mod supply;
+mod weaving;
 mod words;
 
 pub use commands::Replay;

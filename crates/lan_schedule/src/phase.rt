@@ -1,6 +1,8 @@
 //! Where in a race the lines stand, and which lines are kept for it.
 
-ghost use Rattle.std.specs.Prelude.{◌≡◌, ◌+◌, nat_lt, true, not, IfOk};
+ghost use Rattle.std.specs.Prelude.{◌≡◌, ◌+◌, nat_lt, true, false, not, IfOk, IfSome, Some};
+ghost use Rattle.lan_core.specs.Types.{IsUserFrame};
+ghost use Rattle.trace_text.specs.Writing.{IsInForm};
 ghost use Rattle.lan_schedule.specs.World.{World};
 ghost use Rattle.lan_schedule.specs.declared.halt.Kind.TheVariants as kinds;
 ghost use Rattle.lan_schedule.specs.Races.{workers_at};
@@ -10,13 +12,15 @@ ghost use Rattle.lan_schedule.specs.Lines.{behind_race, behind_while};
 ghost use Rattle.lan_schedule.specs.Ends.{IsReached};
 ghost use Rattle.lan_schedule.specs.Stages.{StandsFor};
 ghost use Rattle.lan_schedule.specs.Standing.{phase_of};
-ghost use Rattle.lan_schedule.specs.inside.Phased.{is_inside, is_taken, behind, MayBeKept, Takes};
+ghost use Rattle.lan_schedule.specs.inside.Phased.{is_inside, is_taken, is_end, behind};
+ghost use Rattle.lan_schedule.specs.inside.Phased.{MayBeKept, Takes};
+ghost use Rattle.lan_schedule.specs.inside.Choosing.{MayControl};
 
-use crate::commands::is_performed;
 use crate::halt::{Halt, Kind};
 use crate::stage::Stage;
 use lan_base::UserFrame;
 use std::alloc::{AllocError, Global};
+use std::marker::Model;
 use std::mem::replace;
 use trace_text::Line;
 
@@ -30,20 +34,96 @@ const MAX_CONTROL: usize = 1_000;
 const MAX_WORKERS: u32 = 8;
 
 /// A burst: a station, how many workers it has there, how many frames they send in all, and of which
-/// user data.
+/// user data, which can be sent. Contracts see all four.
 #[derive(Drop)]
 pub struct Burst {
-    pub station: u8,
-    pub workers: u32,
-    pub frames: u32,
-    pub user: UserFrame,
+    station: u8,
+    workers: u32,
+    frames: u32,
+    user: UserFrame,
 }
 
-/// A line that is kept, with its number.
+impl Model for Burst {
+    ghost use Rattle.lan_core.specs.Types.{IsUserFrame};
+    ghost use Rattle.lan_schedule.specs.Races.{Burst as BurstAt};
+
+    ghost Value = { BurstAt };
+
+    ghost view = { λ b. record {
+      station = b.station;
+      workers = b.workers;
+      frames = b.frames;
+      user = b.user;
+    } };
+
+    ghost invariant = { λ b. IsUserFrame b.user };
+}
+
+impl Burst {
+    /// The place of its station.
+    pub fn station(&self) -> u8
+        ensures { result ≡ self.now.station }
+    {
+        self.station
+    }
+
+    /// How many workers it has.
+    pub fn workers(&self) -> u32
+        ensures { result ≡ self.now.workers }
+    {
+        self.workers
+    }
+
+    /// How many frames they send in all.
+    pub fn frames(&self) -> u32
+        ensures { result ≡ self.now.frames }
+    {
+        self.frames
+    }
+
+    /// What each of them sends.
+    pub fn user(&self) -> &UserFrame
+        ensures value { result.now ≡ self.now.user }
+        ensures fits { IsUserFrame result.now }
+    {
+        &self.user
+    }
+}
+
+/// A line of control that is kept, with its number. Contracts see both.
 #[derive(Drop)]
 pub struct Numbered {
-    pub number: u32,
-    pub line: Line,
+    number: u32,
+    line: Line,
+}
+
+impl Model for Numbered {
+    ghost use Rattle.lan_schedule.specs.Races.{Numbered as NumberedAt};
+
+    ghost Value = { NumberedAt };
+
+    ghost use Rattle.lan_schedule.specs.inside.Choosing.{MayControl};
+
+    ghost view = { λ k. record { number = k.number; line = k.line } };
+
+    ghost invariant = { λ k. MayControl k.line };
+}
+
+impl Numbered {
+    /// Its number.
+    pub fn number(&self) -> u32
+        ensures { result ≡ self.now.number }
+    {
+        self.number
+    }
+
+    /// The line.
+    pub fn line(&self) -> &Line
+        ensures value { result.now ≡ self.now.line }
+        ensures fits { MayControl result.now }
+    {
+        &self.line
+    }
 }
 
 /// Where the lines stand.
@@ -72,11 +152,19 @@ impl Phase {
         self.is_inside() || matches!(line, Line::Race)
     }
 
-    /// Takes a line that belongs to a race: it is refused, or kept for the race.
+    /// Whether a line ends a race, which is run then.
+    pub fn is_end(&self, line: &Line) -> bool
+        ensures { result ≡ is_end (phase_of self.now) line.now }
+    {
+        matches!(self, Phase::Controlling(..)) && matches!(line, Line::End)
+    }
+
+    /// Takes a line that belongs to a race and doesn't end it: it is refused, or kept for the race.
     pub fn take(&mut self, stage: &Stage, line: &Line) -> Result<(), Halt>
+        requires { IsInForm line.now }
         ensures { (w : World) → IsReached StandsFor w stage.now
             → w.kept.phase ≡ phase_of self.old → is_taken (phase_of self.old) line.now ≡ true
-            → Takes line.now w self.new result }
+            → is_end (phase_of self.old) line.now ≡ false → Takes line.now w self.new result }
     {
         if let Some(kind) = self.refusal(stage, line) {
             return Err(Halt::Trace {
@@ -95,9 +183,6 @@ impl Phase {
             → w.kept.phase ≡ phase_of self.now → is_taken (phase_of self.now) line.now ≡ true
             → result ≡ refusal line.now w }
     {
-        if !is_performed(line) {
-            return Some(Kind::Word);
-        }
         match self {
             Phase::Apart => None,
             Phase::Bursting(bursts) => unless_allowed(
@@ -111,8 +196,9 @@ impl Phase {
         }
     }
 
-    /// Where the lines stand behind a line that belongs to a race and isn't refused.
+    /// Where the lines stand behind a line that belongs to a race, and neither is refused nor ends it.
     fn behind(self, stage: &Stage, line: &Line) -> Result<Self, AllocError>
+        requires { IsInForm line.now }
         ensures { (w : World) → IsReached StandsFor w stage.now → MayBeKept (phase_of self) line.now
             → IfOk result (λ phase. phase_of phase ≡ behind line.now w (phase_of self)) }
     {
@@ -201,6 +287,7 @@ fn are_few(bursts: &[Burst], station: u8, workers: u32) -> bool
 
 /// Where the lines stand behind a line behind `race`.
 fn behind_race(mut bursts: Vec<Burst>, stage: &Stage, line: &Line) -> Result<Phase, AllocError>
+    requires { IsInForm line.now }
     ensures { (w : World) → IsReached StandsFor w stage.now
         → IfOk result (λ phase. phase_of phase ≡ behind_race line.now w bursts.items) }
 {
@@ -236,23 +323,27 @@ fn behind_while(
     stage: &Stage,
     line: &Line,
 ) -> Result<Phase, AllocError>
+    requires { IsInForm line.now }
     ensures { (w : World) → IsReached StandsFor w stage.now → is_control line.now ≡ true
         → IfOk result (λ phase. phase_of phase
         ≡ behind_while line.now w bursts.items control.items) }
 {
-    let line = copied(stage.alloc, line)?;
-    control.push(Numbered {
-        number: stage.line,
-        line,
-    })?;
+    if let Some(line) = copied(stage.alloc, line)? {
+        control.push(Numbered {
+            number: stage.line,
+            line,
+        })?;
+    }
     Ok(Phase::Controlling(bursts, control))
 }
 
-/// A copy of a line of control.
-fn copied(alloc: Global, line: &Line) -> Result<Line, AllocError>
-    ensures { is_control line.now ≡ true → IfOk result (λ copy. copy ≡ line.now) }
+/// A copy of a line of control; no other line is copied.
+fn copied(alloc: Global, line: &Line) -> Result<Option<Line>, AllocError>
+    requires { IsInForm line.now }
+    ensures copy { is_control line.now ≡ true → IfOk result (λ copy. copy ≡ Some line.now) }
+    ensures fits { IfOk result (λ copy. IfSome copy MayControl) }
 {
-    Ok(match line {
+    Ok(Some(match line {
         Line::Tick { rounds } => Line::Tick { rounds: *rounds },
         Line::TickOne { name, ticks } => Line::TickOne {
             name: *name,
@@ -278,6 +369,6 @@ fn copied(alloc: Global, line: &Line) -> Result<Line, AllocError>
             name: *name,
             octets: octets.copied(alloc)?,
         },
-        _ => Line::End,
-    })
+        _ => return Ok(None),
+    }))
 }

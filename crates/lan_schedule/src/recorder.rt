@@ -5,7 +5,7 @@ ghost use Rattle.lan_schedule.specs.Reports.{Report};
 ghost use Rattle.lan_schedule.specs.declared.recorder.Broken.{Broken};
 
 use lan_base::Name;
-use lan_core::Facts;
+use lan_core::{Fact, Facts};
 use std::alloc::AllocError;
 use thiserror::Error;
 
@@ -40,6 +40,9 @@ pub trait Recorder<K> {
     /// From one value it came to another as it was to be told a report, of which it took a front at
     /// most, for this reason.
     ghost Broke: { K → Report → K → Broken → Type 0 };
+
+    /// Takes the memory that telling these facts will need, before anything of a race is told.
+    fn prepare(&mut self, names: &[Name], facts: &[Fact]) -> Result<(), AllocError>;
 
     /// Tells what an event showed, under the names that the stations have by then.
     fn record(&mut self, names: &[Name], facts: Facts, outlet: &mut K) -> Result<(), Broken>

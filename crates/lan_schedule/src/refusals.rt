@@ -5,13 +5,12 @@ ghost use Rattle.std.specs.List.{list_any};
 ghost use Rattle.std.specs.Cmp.Lexicographic.{pointwise};
 ghost use Rattle.lan_schedule.specs.World.{World, is_in};
 ghost use Rattle.lan_schedule.specs.Kinds.{or_else, where_, unknown, no_frame, is_number};
-ghost use Rattle.lan_schedule.specs.Kinds.{wrong_word, wrong_name};
+ghost use Rattle.lan_schedule.specs.Kinds.{wrong_word, wrong_name, wrong_frame};
 ghost use Rattle.lan_schedule.specs.declared.halt.Kind.TheVariants as kinds;
 ghost use Rattle.lan_schedule.specs.inside.Choosing.{is_elsewhere};
 ghost use Rattle.lan_schedule.specs.inside.Phased.{refusal_apart};
 ghost use Rattle.lan_schedule.specs.Stages.{StandsFor};
 
-use crate::commands::is_performed;
 use crate::halt::Kind;
 use crate::stage::Stage;
 use lan_base::{Name, Sci};
@@ -23,9 +22,6 @@ impl Stage {
         ensures first { (w : World) → StandsFor w self.now → result ≡ refusal_apart line.now w }
         ensures later { IfNone result (is_elsewhere line.now ≡ false) }
     {
-        if !is_performed(line) {
-            return Some(Kind::Word);
-        }
         if is_elsewhere(line) {
             return Some(Kind::Order);
         }
@@ -52,6 +48,18 @@ impl Stage {
             Line::Spread { frame } | Line::Lose { frame } => self.no_frame(*frame),
             Line::Cut { from, to } | Line::Mend { from, to } => {
                 self.unknown(from).or(self.unknown(to))
+            }
+            _ => None,
+        }
+    }
+
+    /// What is wrong with the frame of a line of control.
+    pub fn wrong_frame(&self, line: &Line) -> Option<Kind>
+        ensures { result ≡ wrong_frame line.now (length self.now.frames.frames) }
+    {
+        match line {
+            Line::Deliver { frame, .. } | Line::Spread { frame } | Line::Lose { frame } => {
+                self.no_frame(*frame)
             }
             _ => None,
         }

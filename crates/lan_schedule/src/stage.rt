@@ -1,7 +1,7 @@
 //! A group at work: the lines after the first station are performed on it.
 
 ghost use Rattle.std.specs.Prelude.{◌≡◌, ◌==◌, ◌≤◌, ◌+◌, ◌++◌, true, is_some, nat_eq, length, map};
-ghost use Rattle.std.specs.Prelude.{OnOk, IfOk, IfErr, List, false};
+ghost use Rattle.std.specs.Prelude.{OnOk, IfOk, IfErr, List, false, option_map};
 ghost use Rattle.std.specs.List.{position_or_len};
 ghost use Rattle.std.specs.Option.{option_copied};
 ghost use Rattle.std.specs.Cmp.Lexicographic.{pointwise};
@@ -23,7 +23,16 @@ ghost use Rattle.lan_schedule.specs.Answers.{halt_of};
 ghost use Rattle.lan_schedule.specs.Ends.{moment};
 ghost use Rattle.lan_schedule.specs.Stages.{StandsFor};
 ghost use Rattle.lan_schedule.specs.inside.Set.{most_claims};
-ghost use Rattle.lan_schedule.specs.inside.Staged.{Did, Happened, Changed, IsOpening};
+ghost use Rattle.lan_base.specs.declared.frame.UserFrame.{UserFrame};
+ghost use Rattle.lan_core.specs.declared.settings.Settings.{Settings};
+ghost use Rattle.lan_core.specs.Run.{Run};
+ghost use Rattle.lan_core.specs.Standing.{StandsFor as GroupStandsFor};
+ghost use Rattle.lan_schedule.specs.inside.Recording.{station_in, epoch_of, octets_put};
+ghost use Rattle.lan_schedule.specs.inside.Recording.{octets_in, KeepsStep, KeepTables};
+ghost use Rattle.lan_schedule.specs.declared.stage.Stage.{Stage};
+ghost use Rattle.lan_core.specs.Batches.{IsChecked};
+ghost use Rattle.lan_schedule.specs.inside.Staged.{Did, DidWhere, Happened, HasStepped, WentOn};
+ghost use Rattle.lan_schedule.specs.inside.Staged.{Changed, IsOpening};
 
 use crate::choices::Choices;
 use crate::frames::Frames;
@@ -35,11 +44,15 @@ use crate::supply::Supply;
 use crate::words::Words;
 use fact_tally::Tally;
 use lan_base::{Mac, Name, Octets, Sci, UserFrame};
-use lan_core::{Event, Fact, Lan, StepError, Stop};
+use lan_core::{Event, Fact, Facts, Lan, StepError, Stop};
 use packet_claims::Gate;
+use race_merge::Step;
+use rx_slots::Checked;
 use std::alloc::{AllocError, Global};
+use std::thread::Threads;
 use trace_text::Line;
 use transmit_words::{law_few_claims_spend_no_words, law_words_keep_a_run_thrifty};
+use worker_races::{law_an_event_tells_the_words, law_control_goes_on};
 
 /// The greatest count of claims before one more, from the first race on.
 const MAX_CLAIMS: u64 = 4_294_967_278;
@@ -64,6 +77,10 @@ pub struct Stage {
     pub raced: bool,
     /// How many facts there were of each kind.
     pub tally: Tally,
+    /// How many octets the frames of the air have.
+    pub octets: u64,
+    /// In the midst of a race, what control performed so far.
+    pub steps: Option<Vec<Step>>,
 }
 
 impl Stage {
@@ -90,6 +107,8 @@ impl Stage {
             words: Words::new(alloc),
             raced: false,
             tally: Tally::new(),
+            octets: 0,
+            steps: None,
         })
     }
 
@@ -109,19 +128,78 @@ impl Stage {
         ensures { Happened R.Took R.Broke (option_copied user.entry) event.now
             (moment self.old outlet.old) (moment self.new outlet.new) result }
     {
-        law_words_keep_a_run_thrifty();
+        let before = self.epoch(event);
         let facts = match self.lan.step(event, user, &mut self.draws) {
             Ok(facts) => facts,
             Err(StepError::Stopped(stop)) => return Err(halt_of(stop, self.line)),
             Err(StepError::Memory) => return Err(Halt::Memory),
         };
+        self.go_on(event, before, facts, recorder, outlet, gate)
+    }
+
+    /// A protected frame reaches a station that checked it, and what it shows is counted and told.
+    pub fn admit<K, R: Recorder<K>, G: Gate>(
+        &mut self,
+        frame: u32,
+        station: u8,
+        checked: Checked,
+        recorder: &mut R,
+        outlet: &mut K,
+        gate: &G,
+    ) -> Result<(), Halt>
+        ensures { DidWhere (λ w. IsChecked w.run frame station checked) R.Took R.Broke
+            (happen (events.Deliver frame station))
+            (moment self.old outlet.old) (moment self.new outlet.new) result }
+    {
+        let deliver = Event::Deliver { frame, station };
+        let before = self.epoch(&deliver);
+        let facts = match self.lan.admit(station, frame, checked) {
+            Ok(facts) => facts,
+            Err(StepError::Stopped(stop)) => return Err(halt_of(stop, self.line)),
+            Err(StepError::Memory) => return Err(Halt::Memory),
+        };
+        self.go_on(&deliver, before, facts, recorder, outlet, gate)
+    }
+
+    /// An event happened to the group: the rest follows it, and what it showed is counted and told.
+    /// The epoch is that of before.
+    fn go_on<K, R: Recorder<K>, G: Gate>(
+        &mut self,
+        event: &Event,
+        before: Option<u32>,
+        facts: Facts,
+        recorder: &mut R,
+        outlet: &mut K,
+        gate: &G,
+    ) -> Result<(), Halt>
+        requires { IsTyped event.now }
+        ensures { (earlier : Stage) → HasStepped event.now before earlier self.old
+            → WentOn R.Took R.Broke event.now facts self.old (moment earlier outlet.old)
+            (moment self.new outlet.new) result }
+    {
+        law_words_keep_a_run_thrifty();
+        law_an_event_tells_the_words();
+        law_control_goes_on();
         self.frames.put(facts.as_slice())?;
         self.words
             .follow(self.alloc, &self.lan, event, facts.as_slice(), gate)?;
         admit(&mut self.names, &mut self.scis, event)?;
+        put_octets(&mut self.octets, facts.as_slice())?;
+        let after = self.epoch(event);
+        keep(&mut self.steps, self.alloc, event, before, after)?;
         count_all(&mut self.tally, facts.as_slice());
         recorder.record(&self.names, facts, outlet)?;
         Ok(())
+    }
+
+    /// The epoch of the key that transmits at the station of an event.
+    fn epoch(&self, event: &Event) -> Option<u32>
+        ensures { (settings : Settings) (users : List UserFrame) (r : Run)
+            → GroupStandsFor settings users self.now.lan r
+            → result ≡ epoch_of settings r event.now }
+    {
+        let (_, epoch) = self.lan.transmitting(station_of(event)?)?;
+        Some(epoch)
     }
 
     // ---- user data
@@ -200,8 +278,9 @@ impl Stage {
     // ---- lines
 
     /// Performs a line outside a race, which begins none.
-    pub fn command<K, R: Recorder<K>, G: Gate>(
+    pub fn command<T: Threads + Sync, K, R: Recorder<K>, G: Gate>(
         &mut self,
+        rt: &T,
         line: &Line,
         recorder: &mut R,
         outlet: &mut K,
@@ -217,6 +296,17 @@ impl Stage {
                 line: self.line,
                 kind,
             });
+        }
+        if let Line::Feed { first, last, name } = line {
+            return self.feed_in_batches(
+                rt,
+                *first,
+                *last,
+                self.place(name),
+                recorder,
+                outlet,
+                gate,
+            );
         }
         self.perform(line, recorder, outlet, gate)
     }
@@ -346,6 +436,7 @@ impl Stage {
     fn cut(&mut self, from: u8, to: u8) -> Result<(), AllocError>
         ensures ok { OnOk result (Changed (cut_in from to) self.old self.new) }
         ensures tally { self.new.tally ≡ self.old.tally }
+        ensures tables { KeepTables self.old.words self.new.words }
     {
         self.cuts.cut(from, to)?;
         Ok(())
@@ -445,8 +536,64 @@ fn admit(names: &mut Vec<Name>, scis: &mut Vec<Sci>, event: &Event) -> Result<()
     Ok(())
 }
 
+/// The station of an event; a start, a claim and an emission have none here.
+fn station_of(event: &Event) -> Option<u8>
+    ensures { result ≡ station_in event.now }
+{
+    match event {
+        Event::Tick { station, .. }
+        | Event::Deliver { station, .. }
+        | Event::Restart { station }
+        | Event::Inject { station, .. } => Some(*station),
+        Event::Start { .. } | Event::Claim { .. } | Event::Emit => None,
+    }
+}
+
+/// In the midst of a race an event is kept, with the epoch that transmitted at its station before it
+/// and the one that does now.
+fn keep(
+    steps: &mut Option<Vec<Step>>,
+    alloc: Global,
+    event: &Event,
+    before: Option<u32>,
+    after: Option<u32>,
+) -> Result<(), AllocError>
+    ensures { OnOk result (KeepsStep event.now before after
+        (option_map (λ steps. steps.items) steps.old)
+        (option_map (λ steps. steps.items) steps.new)) }
+{
+    let Some(steps) = steps else {
+        return Ok(());
+    };
+    steps.push(Step::of(alloc, event, before, after)?)?;
+    Ok(())
+}
+
+/// The octets of the frames that facts put on the air are counted. No trace has so many.
+fn put_octets(octets: &mut u64, facts: &[Fact]) -> Result<(), AllocError>
+    ensures { OnOk result (octets.new ≡ octets.old + octets_put facts.now) }
+{
+    for fact in facts {
+        let Some(sum) = octets.checked_add(octets_of(fact)) else {
+            return Err(AllocError);
+        };
+        *octets = sum;
+    }
+    Ok(())
+}
+
+/// The octets of the frame that a fact puts on the air, if there is one.
+fn octets_of(fact: &Fact) -> u64
+    ensures { result ≡ octets_in fact.now }
+{
+    match fact {
+        Fact::Framed { octets, .. } => octets.len() as u64,
+        _ => 0,
+    }
+}
+
 /// Facts are counted.
-fn count_all(tally: &mut Tally, facts: &[Fact])
+pub fn count_all(tally: &mut Tally, facts: &[Fact])
     ensures { (shown : List Fact) → tally.old ≡ counts shown
         → tally.new ≡ counts (shown ++ facts.now) }
 {

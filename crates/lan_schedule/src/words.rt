@@ -1,7 +1,7 @@
 //! The words of all stations, which show packet numbers and give them.
 
 ghost use Rattle.std.specs.Prelude.{◌≡◌, ◌≤◌, ◌<◌, ◌∷◌, [], ℕ, Bool, false, List, length, OnOk};
-ghost use Rattle.std.specs.Prelude.{IfSome, IfNone, Some, slice_get};
+ghost use Rattle.std.specs.Prelude.{IfSome, IfNone, IfOk, Some, slice_get};
 ghost use Rattle.lan_base.specs.declared.frame.UserFrame.{UserFrame};
 ghost use Rattle.association_slots.specs.Views.{ControlAt};
 ghost use Rattle.lan_core.specs.declared.event.Event.TheVariants as events;
@@ -12,10 +12,13 @@ ghost use Rattle.lan_core.specs.Legal.{IsStepped};
 ghost use Rattle.lan_core.specs.Standing.{State, StandsFor};
 ghost use Rattle.group_safety.specs.Accounts.{IsExact};
 ghost use Rattle.transmit_words.specs.Ties.{tables_of, AreTied, AreAhead, HaveKeptUp};
-ghost use Rattle.transmit_words.specs.Ties.{HaveCaughtUp, CaughtAhead};
+ghost use Rattle.transmit_words.specs.Ties.{HaveCaughtUp, CaughtAhead, Followed, HaveLooked};
+ghost use Rattle.transmit_words.specs.Ties.{KeepCards};
 ghost use Rattle.transmit_words.specs.Seats.{WasSeated, HasJoined, HasGot};
+ghost use Rattle.worker_races.specs.Carded.{AreCarded};
 ghost use Rattle.lan_schedule.specs.Numbers.{shown_next};
 ghost use Rattle.lan_schedule.specs.Stages.{Says};
+ghost use Rattle.lan_schedule.specs.inside.Recording.{KeepTables, is_start};
 ghost use Rattle.lan_schedule.specs.inside.Set.{SaysAhead, AreSet, IsGiven};
 
 use association_slots::{SlotTable, WorkerSeat};
@@ -27,6 +30,7 @@ use transmit_words::{
     Controls, law_all_words_keep_up, law_all_words_stay_caught_up, law_all_words_stay_tied,
     law_new_words_are_tied,
 };
+use worker_races::{law_cards_stay_right, law_new_words_owe_no_card};
 
 /// The words of all stations: the tables by place, and the hands that move them. Contracts see what
 /// the hands know.
@@ -68,6 +72,8 @@ impl Words {
         ensures ahead { (raced racing : Bool) (settings : Settings) (r : Run)
             → Says raced racing settings r self.old → station < length (stations r)
             → SaysAhead raced racing settings r (events.Tick station result) self.new }
+        ensures looked { HaveLooked self.old self.new }
+        ensures same { tables_of self.new ≡ tables_of self.old }
     {
         self.controls.next(&self.tables, station)
     }
@@ -84,6 +90,8 @@ impl Words {
         ensures gained { (settings : Settings) (r : Run) (user : ℕ) → HaveCaughtUp settings r self.old
             → station < length (stations r) → HasGot settings station r self.old result
             × CaughtAhead settings r (events.Claim station user result) self.new }
+        ensures cards { KeepCards self.old self.new }
+        ensures same { tables_of self.new ≡ tables_of self.old }
     {
         self.controls.claim(&self.tables, station, gate)
     }
@@ -95,6 +103,17 @@ impl Words {
         ensures { result.now ≡ tables_of self.now }
     {
         self.tables.as_slice()
+    }
+
+    /// A handle of each table, by place, for threads that claim beside.
+    pub fn handles(&self, alloc: Global) -> Result<Vec<SlotTable>, AllocError>
+        ensures { IfOk result (λ handles. handles.items ≡ tables_of self.now) }
+    {
+        let mut handles = Vec::with_capacity(alloc, self.tables.len())?;
+        for table in &self.tables {
+            handles.push_reserved(table.handle()?);
+        }
+        Ok(handles)
     }
 
     /// A seat for a worker that claims beside at a station, unless eight are out there.
@@ -130,17 +149,31 @@ impl Words {
         facts: &[Fact],
         gate: &G,
     ) -> Result<(), AllocError>
-        ensures { (raced racing : Bool) (settings : Settings) (users : List UserFrame)
+        ensures says { (raced racing : Bool) (settings : Settings) (users : List UserFrame)
             (before : State) (r : Run) → StandsFor settings users before r
             → StandsFor settings users lan.now (happened event.now facts.now ∷ r)
             → IsStepped settings users (happened event.now facts.now ∷ r)
             → (raced ≡ false → IsExact settings r event.now)
             → AreSet event.now raced racing settings r self.old
             → OnOk result (Says raced racing settings (happened event.now facts.now ∷ r) self.new) }
+        ensures cards { (raced racing : Bool) (settings : Settings) (users : List UserFrame)
+            (before : State) (r : Run) → StandsFor settings users before r
+            → StandsFor settings users lan.now (happened event.now facts.now ∷ r)
+            → IsStepped settings users (happened event.now facts.now ∷ r)
+            → AreSet event.now raced racing settings r self.old → AreCarded settings r self.old
+            → OnOk result (AreCarded settings (happened event.now facts.now ∷ r) self.new) }
+        // No other station's words come.
+        ensures followed { is_start event.now ≡ false → (settings : Settings)
+            (users : List UserFrame) (r : Run)
+            → StandsFor settings users lan.now (happened event.now facts.now ∷ r)
+            → OnOk result (Followed settings (happened event.now facts.now ∷ r) facts.now self.old
+            self.new) }
+        ensures tables { KeepTables self.old self.new }
     {
         law_all_words_stay_tied();
         law_all_words_stay_caught_up();
         law_all_words_keep_up();
+        law_cards_stay_right();
         self.begin(alloc, event)?;
         self.controls.follow(&self.tables, lan, facts, gate);
         Ok(())
@@ -148,12 +181,19 @@ impl Words {
 
     /// A station that starts gets words of its own.
     fn begin(&mut self, alloc: Global, event: &Event) -> Result<(), AllocError>
-        ensures { (raced racing : Bool) (settings : Settings) (users : List UserFrame)
+        ensures tables { KeepTables self.old self.new }
+        ensures same { is_start event.now ≡ false → self.new ≡ self.old }
+        ensures ahead { (raced racing : Bool) (settings : Settings) (users : List UserFrame)
             (before : State) (r : Run) → StandsFor settings users before r
             → IsStepped settings users r → AreSet event.now raced racing settings r self.old
             → OnOk result (SaysAhead raced racing settings r event.now self.new) }
+        ensures cards { (raced racing : Bool) (settings : Settings) (users : List UserFrame)
+            (r : Run) → IsStepped settings users r
+            → AreSet event.now raced racing settings r self.old → AreCarded settings r self.old
+            → OnOk result (AreCarded settings r self.new) }
     {
         law_new_words_are_tied();
+        law_new_words_owe_no_card();
         match event {
             Event::Start { .. } => self.controls.start(alloc, &mut self.tables),
             _ => Ok(()),

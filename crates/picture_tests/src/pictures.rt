@@ -5,6 +5,7 @@ use lan_base::{Octets, SteadySource};
 use span_picture::{Piece, put};
 use std::alloc::{AllocError, Global};
 use std::test::Fail;
+use transcript_check::CheckFault;
 use transcript_picture::{Undrawn, draw};
 
 /// A transcript, what its picture has to have, and how often.
@@ -35,7 +36,7 @@ data 1 B missed 0
 data 2 B missed 0
 tick A 4 next 1
 begin A 000000000000000000000001 2 an 1 epoch 2 all
-install B 000000000000000000000001 2 an 1 epoch 1 sak 00000000000000000000000000000004
+install B 000000000000000000000001 2 an 1 epoch 2 sak 00000000000000000000000000000004
 tick A 5 next 1
 retire A 000000000000000000000001 1 an 0
 data 3 B accepted 1 88b50001
@@ -127,7 +128,7 @@ const DRAWN: [Drawn; 5] = [
             ),
             ("epoch 1, tick 1, transmits from 2 to 3, restarted", 1),
             ("epoch 2, tick 3, transmits from 4, still held", 1),
-            ("epoch 1, tick 4, still held", 1),
+            ("epoch 2, tick 4, still held", 1),
 
             // The marks at their ends: a line, a square, and two arrows.
             ("m0 -6v12\"/>", 1),
@@ -190,10 +191,19 @@ const WIDENED: [(&str, usize); 9] = [
 
 /// Transcripts that are not drawn.
 const UNDRAWN: [(&str, Undrawn); 2] = [
-    ("life A\n", Undrawn::Refused { line: 1 }),
+    (
+        "life A\n",
+        Undrawn::Refused {
+            line: 1,
+            why: CheckFault::Unread,
+        },
+    ),
     (
         "life A 000000000000000000000001\ntick A 1 next 0\ntick B 1 next 0\n",
-        Undrawn::Refused { line: 3 },
+        Undrawn::Refused {
+            line: 3,
+            why: CheckFault::Unread,
+        },
     ),
 ];
 

@@ -13,10 +13,10 @@ use Rattle.lan_core.specs.declared.event.Event.TheVariants as events
 use Rattle.lan_core.specs.declared.settings.Settings.{Settings}
 use Rattle.lan_core.specs.Run.{Run, stations}
 use Rattle.lan_core.specs.Lives.{life, transmitting_at}
-use Rattle.lan_core.specs.Claims.{next, user_at}
+use Rattle.lan_core.specs.Claims.{next}
 use Rattle.lan_core.specs.Expected.{expected, drawn_in, claim_fact}
 use Rattle.lan_core.specs.Types.{IsSetting}
-use Rattle.lan_core.specs.Order.{Exists, IsWithin, IsShown, IsAllowed, IsSendable, IsClaimable, is_event_of, settled}
+use Rattle.lan_core.specs.Order.{Exists, IsWithin, IsShown, IsAllowed, IsClaimable, is_event_of, settled}
 use Rattle.lan_core.specs.Legal.{IsStep, IsStepped}
 use Rattle.lan_core.proofs.Public.{others-change-none}
 use Rattle.lan_core.proofs.Public.{in-a-life}

@@ -19,7 +19,7 @@ ghost use Rattle.race_merge.specs.Steps.{logs_of, claim_ranks, control_ranks, Ar
 ghost use Rattle.race_merge.specs.Steps.{counted_from};
 
 use crate::rank::Rank;
-use crate::step::{Step, epoch_of, is_end};
+use crate::step::{Step, copied, epoch_of, is_end};
 use data_workers::{Entry, Log};
 use lan_core::Event;
 use std::alloc::{AllocError, Global};
@@ -108,42 +108,6 @@ fn sort(ranks: &mut Vec<Rank>) -> Result<(), AllocError>
 {
     ranks.sort_by_key(|rank| *rank)?;
     Ok(())
-}
-
-/// A copy of an event.
-fn copied(alloc: Global, event: &Event) -> Result<Event, AllocError>
-    ensures { IfOk result (λ e. e ≡ event.now) }
-{
-    Ok(match event {
-        Event::Start {
-            name,
-            sci,
-            priority,
-        } => Event::Start {
-            name: *name,
-            sci: *sci,
-            priority: *priority,
-        },
-        Event::Tick { station, next } => Event::Tick {
-            station: *station,
-            next: *next,
-        },
-        Event::Deliver { frame, station } => Event::Deliver {
-            frame: *frame,
-            station: *station,
-        },
-        Event::Restart { station } => Event::Restart { station: *station },
-        Event::Claim { station, user, pn } => Event::Claim {
-            station: *station,
-            user: *user,
-            pn: *pn,
-        },
-        Event::Emit => Event::Emit,
-        Event::Inject { station, octets } => Event::Inject {
-            station: *station,
-            octets: octets.copied(alloc)?,
-        },
-    })
 }
 
 /// The number of a log's user frame, from 1.

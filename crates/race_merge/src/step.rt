@@ -1,6 +1,6 @@
 //! A step of control, and whether an entry of a log stands before it.
 
-ghost use Rattle.std.specs.Prelude.{◌≡◌, ◌==◌, ℕ, true, false};
+ghost use Rattle.std.specs.Prelude.{◌≡◌, ◌==◌, ℕ, true, false, IfOk};
 ghost use Rattle.lan_base.specs.declared.association_number.AssociationNumber.{AssociationNumber};
 ghost use Rattle.data_workers.specs.Entries.{epoch_in};
 ghost use Rattle.race_merge.specs.Places.{ends};
@@ -10,6 +10,7 @@ ghost use Rattle.race_merge.specs.Steps.{attempt_of, move_of, station_of};
 use data_workers::Entry;
 use lan_core::Event;
 use packet_claims::NoClaim;
+use std::alloc::{AllocError, Global};
 
 /// An event of control, with the epochs of the keys that transmit at its station before and after
 /// it, which are at least 1.
@@ -18,6 +19,62 @@ pub struct Step {
     pub event: Event,
     pub before: Option<u32>,
     pub after: Option<u32>,
+}
+
+impl Step {
+    /// An event of control, with those epochs.
+    pub fn of(
+        alloc: Global,
+        event: &Event,
+        before: Option<u32>,
+        after: Option<u32>,
+    ) -> Result<Step, AllocError>
+        ensures { IfOk result (λ step. step
+            ≡ record { event = event.now; before = before; after = after }) }
+    {
+        let event = copied(alloc, event)?;
+        Ok(Step {
+            event,
+            before,
+            after,
+        })
+    }
+}
+
+/// A copy of an event.
+pub(crate) fn copied(alloc: Global, event: &Event) -> Result<Event, AllocError>
+    ensures { IfOk result (λ e. e ≡ event.now) }
+{
+    Ok(match event {
+        Event::Start {
+            name,
+            sci,
+            priority,
+        } => Event::Start {
+            name: *name,
+            sci: *sci,
+            priority: *priority,
+        },
+        Event::Tick { station, next } => Event::Tick {
+            station: *station,
+            next: *next,
+        },
+        Event::Deliver { frame, station } => Event::Deliver {
+            frame: *frame,
+            station: *station,
+        },
+        Event::Restart { station } => Event::Restart { station: *station },
+        Event::Claim { station, user, pn } => Event::Claim {
+            station: *station,
+            user: *user,
+            pn: *pn,
+        },
+        Event::Emit => Event::Emit,
+        Event::Inject { station, octets } => Event::Inject {
+            station: *station,
+            octets: octets.copied(alloc)?,
+        },
+    })
 }
 
 /// Whether an event is one of the station, and no claim.

@@ -2,6 +2,7 @@
 #![tactic(auto)]
 
 mod cause;
+mod gate;
 mod player;
 mod replaying;
 mod transcribing;
@@ -9,4 +10,5 @@ mod unrecorded;
 mod writing;
 
 pub use cause::Cause;
+pub use gate::AnyGate;
 pub use replaying::replay;

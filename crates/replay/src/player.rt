@@ -1,28 +1,33 @@
 //! Who takes the lines of a trace: a replay, and whoever is told what it shows.
 
+use crate::gate::AnyGate;
 use lan_schedule::{Halt, Recorder, Replay};
-use packet_claims::Gate;
+use std::thread::Threads;
 use text_lines::LineTaker;
 
-/// A replay with a recorder, which take lines together, at a gate.
+/// A replay with a recorder, which take lines together, at a gate; its races start threads.
 #[derive(Drop)]
-pub struct Player<'g, R, G> {
+pub struct Player<'g, T, R> {
+    pub rt: &'g T,
     pub replay: Replay,
     pub recorder: R,
-    pub gate: &'g G,
+    pub gate: &'g AnyGate,
 }
 
-impl<K, R: Recorder<K>, G: Gate> LineTaker<K> for Player<'_, R, G> {
+impl<T: Threads + Sync, K, R: Recorder<K>> LineTaker<K> for Player<'_, T, R> {
+    ghost use Rattle.std.specs.Thread.{IsSync};
     ghost use Rattle.replay.specs.inside.Playing.{DidLines};
     ghost use Rattle.lan_schedule.proofs.Public.{does-none, does-more, does-early};
 
     type Error = Halt;
 
+    ghost Asks = { IsSync T.row };
+
     ghost Did = { DidLines R.Took R.Broke (λ at. at.taker.replay) };
 
     fn line(&mut self, text: &[u8], outlet: &mut K) -> Result<(), Halt> {
         self.replay
-            .text(text, &mut self.recorder, outlet, self.gate)
+            .text(self.rt, text, &mut self.recorder, outlet, self.gate)
     }
 
     ghost none = { λ a. does-none _ };

@@ -11,6 +11,7 @@ ghost use Rattle.replay.specs.Sinks.{Wrote};
 ghost use Rattle.replay.specs.inside.Writing.{Fails};
 
 use crate::cause::{Cause, answered, cause_of, cause_of_halt};
+use crate::gate::AnyGate;
 use crate::player::Player;
 use crate::transcribing::Transcript;
 use crate::unrecorded::Unrecorded;
@@ -20,8 +21,8 @@ use lan_base::{Sink, Source};
 use lan_schedule::{
     Broken, Replay, law_acts_stop_for_their_own_reasons, law_lines_leave_a_tidy_world,
 };
-use packet_claims::Gate;
 use std::alloc::Global;
+use std::thread::Threads;
 use text_lines::read_lines;
 
 /// The greatest count of octets of an input.
@@ -30,13 +31,15 @@ const MAX_INPUT: usize = 4_194_304;
 /// Reads a trace from a source to its end, and performs each line as soon as it has ended. Without
 /// `summary` it writes what each event shows before the next one happens; with it, nothing before
 /// the end, and then the line that says how many facts there were of each kind. A trace that ends
-/// inside a race is refused at the line behind its last. The gate is passed
-/// after each move of a station's current word.
-pub fn replay<S: Source, K: Sink, G: Gate>(
+/// inside a race is refused at the line behind its last. The workers
+/// of a race run on threads; the gate is passed at each of their steps, and after each move of a
+/// station's current word.
+pub fn replay<T: Threads + Sync, S: Source, K: Sink>(
+    rt: &T,
     alloc: Global,
     source: &mut S,
     sink: &mut K,
-    gate: &G,
+    gate: &AnyGate,
     summary: bool,
 ) -> Result<(), Cause>
     ensures { IsReplayed (shown_by summary)
@@ -46,18 +49,19 @@ pub fn replay<S: Source, K: Sink, G: Gate>(
         (sunk (K.held sink.new) (K.faults sink.new)) result }
 {
     if summary {
-        summarize(alloc, source, sink, gate)
+        summarize(rt, alloc, source, sink, gate)
     } else {
-        transcribe(alloc, source, sink, gate)
+        transcribe(rt, alloc, source, sink, gate)
     }
 }
 
 /// Replays a trace for its transcript.
-fn transcribe<S: Source, K: Sink, G: Gate>(
+fn transcribe<T: Threads + Sync, S: Source, K: Sink>(
+    rt: &T,
     alloc: Global,
     source: &mut S,
     sink: &mut K,
-    gate: &G,
+    gate: &AnyGate,
 ) -> Result<(), Cause>
     ensures { IsReplayed (shown_by false)
         (sourced (S.left source.old) (S.faults source.old))
@@ -68,6 +72,7 @@ fn transcribe<S: Source, K: Sink, G: Gate>(
     law_lines_leave_a_tidy_world();
     law_acts_stop_for_their_own_reasons();
     let mut player = Player {
+        rt,
         replay: Replay::new(alloc),
         recorder: Transcript::new(alloc),
         gate,
@@ -82,11 +87,12 @@ fn transcribe<S: Source, K: Sink, G: Gate>(
 }
 
 /// Replays a trace for its summary.
-fn summarize<S: Source, K: Sink, G: Gate>(
+fn summarize<T: Threads + Sync, S: Source, K: Sink>(
+    rt: &T,
     alloc: Global,
     source: &mut S,
     sink: &mut K,
-    gate: &G,
+    gate: &AnyGate,
 ) -> Result<(), Cause>
     ensures { IsReplayed (shown_by true)
         (sourced (S.left source.old) (S.faults source.old))
@@ -97,6 +103,7 @@ fn summarize<S: Source, K: Sink, G: Gate>(
     law_lines_leave_a_tidy_world();
     law_acts_stop_for_their_own_reasons();
     let mut player = Player {
+        rt,
         replay: Replay::new(alloc),
         recorder: Unrecorded,
         gate,

@@ -1,8 +1,9 @@
 //! What is performed for its summary alone is told to nobody.
 
 use lan_base::Name;
-use lan_core::Facts;
+use lan_core::{Fact, Facts};
 use lan_schedule::{Broken, Recorder};
+use std::alloc::AllocError;
 
 /// A recorder that drops what it is told.
 #[derive(Clone, Copy, Debug)]
@@ -14,6 +15,10 @@ impl<K> Recorder<K> for Unrecorded {
     ghost Took = { λ old report new. new ≡ old };
 
     ghost Broke = { λ old report new why. ⊥ };
+
+    fn prepare(&mut self, _names: &[Name], _facts: &[Fact]) -> Result<(), AllocError> {
+        Ok(())
+    }
 
     fn record(&mut self, _names: &[Name], _facts: Facts, _outlet: &mut K) -> Result<(), Broken> {
         Ok(())

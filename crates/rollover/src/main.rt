@@ -3,8 +3,7 @@
 #![tactic(auto)]
 
 use lan_base::{StdSink, StdSource};
-use packet_claims::OpenGate;
-use rollover_program::{Cause, Status, rollover};
+use rollover_program::{AnyGate, Cause, Status, rollover};
 use std::alloc::AllocError;
 use std::process::ExitCode;
 use std::{env, io};
@@ -21,23 +20,19 @@ fn words(rt: &HostRuntime) -> Result<Vec<String>, AllocError> {
     Ok(words)
 }
 
-/// How the program ends.
-fn status(rt: &HostRuntime) -> Status {
-    match words(rt) {
+/// Ends with the status of the call, and tells on standard error why it is none of success.
+fn main(rt: HostRuntime) -> ExitCode {
+    let status = match words(&rt) {
         Ok(words) => rollover(
+            &rt,
             rt.alloc(),
             &words,
             &mut StdSource::new(rt.reader()),
-            &mut StdSink::new(io::writer(rt)),
-            &OpenGate,
+            &mut StdSink::new(io::writer(&rt)),
+            &AnyGate::Open,
         ),
         Err(_) => Status::Halted(Cause::Memory),
-    }
-}
-
-/// Ends with the status of the call, and tells on standard error why it is none of success.
-fn main(rt: HostRuntime) -> ExitCode {
-    let status = status(&rt);
+    };
     if status != Status::Done {
         // Where standard error fails too, the number is all that is left to tell.
         let _ = eprintln!(rt; "rollover: {status}");

@@ -1,17 +1,15 @@
 -- How the program ends after a transcript was drawn.
-use Rattle.std.proofs.Common.{◌≡◌, ◌<◌, ◌≤◌, ℕ, List, [], ◌∷◌, length, take, Result, Ok, Err, inl, inr, refl, subst}
+use Rattle.std.proofs.Common.{◌≡◌, ℕ, List, Ok, Err, inr, refl, subst}
 use Rattle.lan_base.specs.Faults.{Rose}
-use Rattle.lan_base.specs.Told.{after}
 use Rattle.text_lines.specs.Reading.{Sourced}
 use Rattle.transcript_picture.specs.declared.drawing.Undrawn.{Undrawn}
 use Rattle.transcript_picture.specs.declared.drawing.Undrawn.TheVariants as undrawn
 use Rattle.transcript_picture.specs.Transcripts.{EndsDrawing}
 use Rattle.transcript_picture.proofs.Public.{not-drawn}
 use Rattle.replay.specs.declared.cause.Cause.TheVariants as causes
-use Rattle.replay.specs.Sinks.{Sunk, Wrote, BrokeOff}
-use Rattle.replay.proofs.Public.{wrote-one, broke-one}
+use Rattle.replay.specs.Sinks.{Sunk}
 use Rattle.rollover_program.specs.declared.status.Status.{Status}
-use Rattle.rollover_program.specs.declared.status.Status.TheVariants.{Done, Usage, Halted}
+use Rattle.rollover_program.specs.declared.status.Status.TheVariants.{Usage, Halted}
 use Rattle.rollover_program.specs.commands.Draw.{EndsAsDraw, Shows, status_of_undrawn}
 
 -- nothing was done, for want of memory
@@ -29,7 +27,7 @@ pub as-refused : {X Y : Type 0} (text : List ℕ) (left now : Sourced) (why : Un
 as-refused {X} {Y} text left now why d = go why d
   where
     go : (why : Undrawn) → EndsDrawing {X = X} text left now (Err why) → EndsDrawing {X = Y} text left now (Err why)
-    go (undrawn.Refused line) d = record { taken = d.taken; ends = d.ends }
+    go (undrawn.Refused line fault) d = record { taken = d.taken; ends = d.ends }
     go undrawn.Memory d = record { taken = d.taken; ends = d.ends }
     go undrawn.ReadFault d = record { taken = d.taken; ends = d.ends }
     go undrawn.Limit d = record { taken = d.taken; ends = d.ends }
@@ -54,20 +52,20 @@ shows_write_fault picture old new status shows e =
 -- ---- where nothing was drawn
 
 pub undrawn_usage : (why : Undrawn) → status_of_undrawn why ≡ Usage → ⊥
-undrawn_usage (undrawn.Refused line) e = cc e
+undrawn_usage (undrawn.Refused line fault) e = cc e
 undrawn_usage undrawn.Memory e = cc e
 undrawn_usage undrawn.ReadFault e = cc e
 undrawn_usage undrawn.Limit e = cc e
 
 pub undrawn_read : (why : Undrawn) → status_of_undrawn why ≡ Halted causes.ReadFault
     → why ≡ undrawn.ReadFault
-undrawn_read (undrawn.Refused line) e = absurd (cc e)
+undrawn_read (undrawn.Refused line fault) e = absurd (cc e)
 undrawn_read undrawn.Memory e = absurd (cc e)
 undrawn_read undrawn.ReadFault e = refl
 undrawn_read undrawn.Limit e = absurd (cc e)
 
 pub undrawn_write : (why : Undrawn) → status_of_undrawn why ≡ Halted causes.WriteFault → ⊥
-undrawn_write (undrawn.Refused line) e = cc e
+undrawn_write (undrawn.Refused line fault) e = cc e
 undrawn_write undrawn.Memory e = cc e
 undrawn_write undrawn.ReadFault e = cc e
 undrawn_write undrawn.Limit e = cc e

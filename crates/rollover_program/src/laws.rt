@@ -3,7 +3,7 @@
 ghost use Rattle.std.specs.Prelude.{◌≡◌, ℕ, false, List};
 ghost use Rattle.lan_schedule.specs.Acts.{course, world_of};
 ghost use Rattle.lan_schedule.specs.Races.{Chance};
-ghost use Rattle.lan_schedule.specs.Sound.{IsTidy};
+ghost use Rattle.lan_schedule.specs.Sound.{HasRunNone, IsTidy};
 ghost use Rattle.lan_schedule.specs.World.{World, is_racing};
 ghost use Rattle.replay.specs.Runs.{within};
 ghost use Rattle.rollover_program.specs.Headline.{IsPromised};
@@ -24,10 +24,12 @@ pub fn law_tidy_runs_are_promised()
     law_a_run_is_cut_into_its_events();
 }
 
-/// All that is promised holds of the run of every text, whatever chance decides: of what its lines
-/// perform that end within the limit of the input.
+/// All that is promised holds of the run of every text that runs no race, whatever chance decides: of
+/// what its lines perform that end within the limit of the input. Of a text with races it holds by
+/// the clauses of the call that performs it.
 pub fn law_each_text_is_promised()
     ensures { (text : List ℕ) (chances : List Chance)
+        → HasRunNone (course (within text) chances)
         → IsPromised (world_of (course (within text) chances)) }
 {
     law_lines_are_few();

@@ -12,7 +12,7 @@ pub use capture_file::CaptureFault;
 pub use lan_core::Which;
 pub use lan_schedule::Kind;
 pub use laws::{law_each_text_is_promised, law_tidy_runs_are_promised};
-pub use replay::Cause;
+pub use replay::{AnyGate, Cause};
 pub use status::Status;
 pub use top::rollover;
 pub use transcript_capture::LineFault;

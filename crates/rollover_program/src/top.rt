@@ -30,9 +30,9 @@ use crate::status::Status;
 use crate::words::{Order, Refusal, read_order};
 use lan_base::{Sink, Source};
 use lan_schedule::law_lines_leave_a_tidy_world;
-use packet_claims::Gate;
-use replay::Cause;
+use replay::{AnyGate, Cause};
 use std::alloc::Global;
+use std::thread::Threads;
 
 /// Carries out what words order, which come without the program's name.
 ///
@@ -40,19 +40,21 @@ use std::alloc::Global;
 /// writes the transcript to the sink, that of each event before the next one happens. With
 /// `--summary` it writes nothing before the end, and then the line that says how many facts there
 /// were of each kind. `make N` writes the trace that is made of a number from 1 to 9999. `try N`
-/// performs that trace for its summary line. These two do not read the source. The gate is passed
-/// after each move of a station's current word. `check` reads a transcript from the source to its
+/// performs that trace for its summary line. These two do not read the source. The workers of a race
+/// run on threads. The gate is passed at each step of a worker, and after each move of a station's
+/// current word. `check` reads a transcript from the source to its
 /// end, whoever wrote it, judges each line as soon as it has ended, and writes the verdict at the
 /// end. `capture` writes the file of a transcript's frames, each record as soon as its line has ended.
 /// `dissect` reads a file of captured packets, and tells each packet in one line. `draw` reads a
 /// transcript as `check` does, and writes the picture of its keys at the end. Clauses that name a text
 /// or a file speak of a source that tells its octets.
-pub fn rollover<S: Source, K: Sink, G: Gate>(
+pub fn rollover<T: Threads + Sync, S: Source, K: Sink>(
+    rt: &T,
     alloc: Global,
     words: &[String],
     source: &mut S,
     sink: &mut K,
-    gate: &G,
+    gate: &AnyGate,
 ) -> Status
     // The words are no command exactly where clap refuses them, unless memory runs out; nothing was
     // read, written or counted then. All other words order something, with a number from 1 to 9999
@@ -140,18 +142,19 @@ pub fn rollover<S: Source, K: Sink, G: Gate>(
     law_tidy_runs_are_promised();
     law_lines_leave_a_tidy_world();
     match read_order(alloc, words) {
-        Ok(order) => carry_out(alloc, order, source, sink, gate),
+        Ok(order) => carry_out(rt, alloc, order, source, sink, gate),
         Err(refusal) => status_of_refusal(refusal),
     }
 }
 
 /// Carries an order out. Only `make` and `try` leave the source unread.
-fn carry_out<S: Source, K: Sink, G: Gate>(
+fn carry_out<T: Threads + Sync, S: Source, K: Sink>(
+    rt: &T,
     alloc: Global,
     order: Order,
     source: &mut S,
     sink: &mut K,
-    gate: &G,
+    gate: &AnyGate,
 ) -> Status
     ensures done { CarriesOut order
         (sourced (S.left source.old) (S.faults source.old))
@@ -167,9 +170,9 @@ fn carry_out<S: Source, K: Sink, G: Gate>(
         → Rose (K.faults sink.old) (K.faults sink.new) }
 {
     match order {
-        Order::Run { summary } => run(alloc, summary, source, sink, gate),
+        Order::Run { summary } => run(rt, alloc, summary, source, sink, gate),
         Order::Make { number } => make(alloc, number, sink),
-        Order::Try { number } => try_made(alloc, number, sink, gate),
+        Order::Try { number } => try_made(rt, alloc, number, sink, gate),
         Order::Check => check(alloc, source, sink),
         Order::Capture => capture(alloc, source, sink),
         Order::Dissect => dissect(alloc, source, sink),

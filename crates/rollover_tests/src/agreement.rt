@@ -21,7 +21,7 @@ const NEVER: &str = "station C 02000000000c0001 255\n";
 fn says_hello(rt: HostRuntime) -> Result<(), Fail> {
     let alloc = rt.alloc();
     let mut shown = joined(alloc, &[FIRST_LIFE, "tick A 1 next 0\n", FIRST_FRAME])?;
-    let left = run(alloc, &[GROUP, FIRST, "tick 1\n"])?;
+    let left = run(&rt, alloc, &[GROUP, FIRST, "tick 1\n"])?;
     assert_eq!(rt; left.status, Status::Done);
     assert_eq!(rt; left.held.as_slice(), shown.as_slice());
     for at in 2..22u32 {
@@ -29,7 +29,7 @@ fn says_hello(rt: HostRuntime) -> Result<(), Fail> {
         shown.extend_from_slice(line.as_bytes())?;
     }
     shown.extend_from_slice(SECOND_FRAME.as_bytes())?;
-    let left = run(alloc, &[GROUP, FIRST, "tick 21"])?;
+    let left = run(&rt, alloc, &[GROUP, FIRST, "tick 21"])?;
     assert_eq!(rt; left.status, Status::Done);
     assert_eq!(rt; left.held.as_slice(), shown.as_slice());
     Ok(())
@@ -73,7 +73,7 @@ fn says_early_that_it_serves(rt: HostRuntime) -> Result<(), Fail> {
         ("flag 1\n", EARLY_HELLOS),
     ];
     for (flag, hellos) in cases {
-        let left = run(alloc, &[flag, GROUP, FIRST, SECOND, NEVER, "tick 1\n"])?;
+        let left = run(&rt, alloc, &[flag, GROUP, FIRST, SECOND, NEVER, "tick 1\n"])?;
         assert_eq!(rt; left.status, Status::Done);
         assert_eq!(rt;
             left.held.as_slice(),
@@ -293,7 +293,7 @@ begin A 000000000000000000000001 2 an 1 epoch 2 all",
 #[test]
 fn agrees_on_a_key(rt: HostRuntime) -> Result<(), Fail> {
     let alloc = rt.alloc();
-    assert_eq!(rt; wrong(alloc, &["run"], &AGREED)?.as_str(), "");
+    assert_eq!(rt; wrong(&rt, alloc, &["run"], &AGREED)?.as_str(), "");
     Ok(())
 }
 
@@ -301,6 +301,6 @@ fn agrees_on_a_key(rt: HostRuntime) -> Result<(), Fail> {
 #[test]
 fn elects_and_renews(rt: HostRuntime) -> Result<(), Fail> {
     let alloc = rt.alloc();
-    assert_eq!(rt; wrong(alloc, &["run"], &ELECTED)?.as_str(), "");
+    assert_eq!(rt; wrong(&rt, alloc, &["run"], &ELECTED)?.as_str(), "");
     Ok(())
 }

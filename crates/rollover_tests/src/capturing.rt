@@ -5,6 +5,7 @@ use crate::performing::{Left, STEADY, perform};
 use rollover_program::{CaptureFault, Cause, LineFault, Status};
 use std::alloc::Global;
 use std::test::Fail;
+use std::thread::Threads;
 
 /// A first hello.
 const HELLO: &str = "\
@@ -98,10 +99,10 @@ const FILES: [Told; 6] = [
 ];
 
 /// What `dissect` leaves of the first octets of a file.
-fn told_of(alloc: Global, case: &Told) -> Result<Left, Fail> {
+fn told_of<R: Threads + Sync>(rt: &R, alloc: Global, case: &Told) -> Result<Left, Fail> {
     let file = hex::decode(alloc, case.file)?;
     let count = case.count.min(file.len());
-    Ok(perform(alloc, "dissect", &file[..count], STEADY)?)
+    Ok(perform(rt, alloc, "dissect", &file[..count], STEADY)?)
 }
 
 /// A file is told up to the record that is refused.
@@ -109,7 +110,7 @@ fn told_of(alloc: Global, case: &Told) -> Result<Left, Fail> {
 fn tells_files(rt: HostRuntime) -> Result<(), Fail> {
     let alloc = rt.alloc();
     for case in &FILES {
-        let left = told_of(alloc, case)?;
+        let left = told_of(&rt, alloc, case)?;
         assert_eq!(rt; left.status, case.status, "{}", case.name);
         assert_eq!(rt;
             left.held.as_slice(),
@@ -126,11 +127,11 @@ fn tells_files(rt: HostRuntime) -> Result<(), Fail> {
 fn captures_a_transcript(rt: HostRuntime) -> Result<(), Fail> {
     let alloc = rt.alloc();
     let file = hex::decode(alloc, FILE)?;
-    let left = perform(alloc, "capture", HELLO.as_bytes(), STEADY)?;
+    let left = perform(&rt, alloc, "capture", HELLO.as_bytes(), STEADY)?;
     assert_eq!(rt; left.status, Status::Done);
     assert_eq!(rt; left.held.as_slice(), file.as_slice());
     let more = format!(in alloc; "{HELLO}tick A\n")?;
-    let left = perform(alloc, "capture", more.as_bytes(), STEADY)?;
+    let left = perform(&rt, alloc, "capture", more.as_bytes(), STEADY)?;
     assert_eq!(rt;
         left.status,
         Status::Unrecorded {
@@ -147,7 +148,7 @@ fn captures_a_transcript(rt: HostRuntime) -> Result<(), Fail> {
 fn leaves_whole_records_at_a_write_fault(rt: HostRuntime) -> Result<(), Fail> {
     let mut outside = STEADY;
     outside.failing_write = 2;
-    let left = perform(rt.alloc(), "capture", HELLO.as_bytes(), outside)?;
+    let left = perform(&rt, rt.alloc(), "capture", HELLO.as_bytes(), outside)?;
     assert_eq!(rt; left.status, Status::Halted(Cause::WriteFault));
     assert_eq!(rt; left.held.len(), HEAD_LEN);
     Ok(())

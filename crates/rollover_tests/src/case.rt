@@ -4,6 +4,7 @@ use crate::looking::{count, cut, lacks};
 use crate::performing::{STEADY, joined, ordered};
 use rollover_program::Status;
 use std::alloc::{AllocError, Global};
+use std::thread::Threads;
 
 /// A trace, how the program ends, and what it writes.
 pub struct Case {
@@ -29,10 +30,15 @@ pub enum Shown {
 
 /// The first case that does not come out under the words of a command, with its status and what was
 /// written; nothing where each does.
-pub(crate) fn wrong(alloc: Global, words: &[&str], cases: &[Case]) -> Result<String, AllocError> {
+pub(crate) fn wrong<R: Threads + Sync>(
+    rt: &R,
+    alloc: Global,
+    words: &[&str],
+    cases: &[Case],
+) -> Result<String, AllocError> {
     for case in cases {
         let trace = joined(alloc, case.trace)?;
-        let left = ordered(alloc, words, &trace, STEADY)?;
+        let left = ordered(rt, alloc, words, &trace, STEADY)?;
         let held = cut(alloc, left.held.as_slice())?;
         if left.status != case.status || !shows(alloc, &held, &case.shown)? {
             let held = String::from_utf8_lossy(alloc, &held)?;

@@ -60,7 +60,7 @@ const CHECKED: [Case; 5] = [
 /// Nothing is written of a transcript that is refused.
 #[test]
 fn judges_transcripts(rt: HostRuntime) -> Result<(), Fail> {
-    assert_eq!(rt; wrong(rt.alloc(), &["check"], &CHECKED)?.as_str(), "");
+    assert_eq!(rt; wrong(&rt, rt.alloc(), &["check"], &CHECKED)?.as_str(), "");
     Ok(())
 }
 
@@ -68,8 +68,8 @@ fn judges_transcripts(rt: HostRuntime) -> Result<(), Fail> {
 #[test]
 fn judges_a_transcript_of_its_own(rt: HostRuntime) -> Result<(), Fail> {
     let alloc = rt.alloc();
-    let transcript = run(alloc, &FIRST_KEY)?;
-    let left = perform(alloc, "check", transcript.held.as_slice(), STEADY)?;
+    let transcript = run(&rt, alloc, &FIRST_KEY)?;
+    let left = perform(&rt, alloc, "check", transcript.held.as_slice(), STEADY)?;
     assert_eq!(rt; left.status, Status::Done);
     assert_eq!(rt;
         left.held.as_slice(),
@@ -83,27 +83,60 @@ fn judges_a_transcript_of_its_own(rt: HostRuntime) -> Result<(), Fail> {
 fn fails_before_it_refutes(rt: HostRuntime) -> Result<(), Fail> {
     let mut outside = STEADY;
     outside.failing_write = 1;
-    let left = perform(rt.alloc(), "check", TWICE.as_bytes(), outside)?;
+    let left = perform(&rt, rt.alloc(), "check", TWICE.as_bytes(), outside)?;
     assert_eq!(rt; left.status, Status::Halted(Cause::WriteFault));
     assert!(rt; left.held.is_empty());
     Ok(())
 }
 
-/// A picture is written of any transcript whose lines are read, and nothing of another.
+/// Transcripts that `draw` refuses, and `check` too: the line, and why.
+const UNDRAWN: [(&str, u32, CheckFault); 3] = [
+    ("tick A 1\n", 1, CheckFault::Unread),
+    (
+        "\
+life A 000000000000000000000001
+install A 000000000000000000000001 1 an 0 epoch 1 sak 00000000000000000000000000000003
+install A 000000000000000000000001 2 an 1 epoch 1 sak 00000000000000000000000000000004
+",
+        3,
+        CheckFault::Doubled,
+    ),
+    (
+        "\
+life A 000000000000000000000001
+life B 000000000000000000000002
+install A 000000000000000000000001 1 an 0 epoch 1 sak 00000000000000000000000000000003
+claim B an 0 epoch 1 pn 1
+",
+        4,
+        CheckFault::Orphan,
+    ),
+];
+
+/// A picture is written of a transcript of which no line is refused, also where a pair breaks, and
+/// nothing of another: it is refused as `check` refuses it.
 #[test]
 fn draws_transcripts(rt: HostRuntime) -> Result<(), Fail> {
     let alloc = rt.alloc();
-    let left = perform(alloc, "draw", TWICE.as_bytes(), STEADY)?;
+    let left = perform(&rt, alloc, "draw", TWICE.as_bytes(), STEADY)?;
     assert_eq!(rt; left.status, Status::Done);
     assert!(rt; left.held.as_slice().starts_with(b"<svg "));
-    let left = perform(alloc, "draw", b"tick A 1\n", STEADY)?;
-    assert_eq!(rt;
-        left.status,
-        Status::Transcript {
-            line: 1,
-            why: CheckFault::Unread,
+    for (transcript, line, why) in &UNDRAWN {
+        for command in ["draw", "check"] {
+            let left = perform(&rt, alloc, command, transcript.as_bytes(), STEADY)?;
+            assert_eq!(rt;
+                left.status,
+                Status::Transcript {
+                    line: *line,
+                    why: *why,
+                },
+                "{}: {}",
+                command,
+                transcript
+            );
+            assert_eq!(rt; left.status.number(), 10);
+            assert!(rt; left.held.is_empty());
         }
-    );
-    assert!(rt; left.held.is_empty());
+    }
     Ok(())
 }

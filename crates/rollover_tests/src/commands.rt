@@ -57,7 +57,7 @@ fn refuses_words_that_are_no_command(rt: HostRuntime) -> Result<(), Fail> {
     let alloc = rt.alloc();
     let trace = joined(alloc, &FIRST_KEY)?;
     for words in NO_COMMANDS {
-        let left = ordered(alloc, words, &trace, STEADY)?;
+        let left = ordered(&rt, alloc, words, &trace, STEADY)?;
         assert_eq!(rt; left.status, Status::Usage, "{words:?}");
         assert!(rt; left.held.is_empty(), "{words:?}");
     }
@@ -69,12 +69,18 @@ fn refuses_words_that_are_no_command(rt: HostRuntime) -> Result<(), Fail> {
 #[test]
 fn makes_and_tries_a_trace(rt: HostRuntime) -> Result<(), Fail> {
     let alloc = rt.alloc();
-    let made = ordered(alloc, &["make", "1"], b"", STEADY)?;
+    let made = ordered(&rt, alloc, &["make", "1"], b"", STEADY)?;
     assert_eq!(rt; made.status, Status::Done);
     assert_eq!(rt; made.held.len(), 5730);
     assert_eq!(rt; hash(made.held.as_slice()), 0x6c2b_5265_6e0b_f582);
-    let tried = ordered(alloc, &["try", "1"], b"", STEADY)?;
-    let run = ordered(alloc, &["run", "--summary"], made.held.as_slice(), STEADY)?;
+    let tried = ordered(&rt, alloc, &["try", "1"], b"", STEADY)?;
+    let run = ordered(
+        &rt,
+        alloc,
+        &["run", "--summary"],
+        made.held.as_slice(),
+        STEADY,
+    )?;
     assert_eq!(rt; tried.status, Status::Done);
     assert_eq!(rt; run.status, Status::Done);
     assert!(rt; !tried.held.is_empty());
@@ -86,6 +92,9 @@ fn makes_and_tries_a_trace(rt: HostRuntime) -> Result<(), Fail> {
 #[test]
 fn sums_a_trace_up(rt: HostRuntime) -> Result<(), Fail> {
     let alloc = rt.alloc();
-    assert_eq!(rt; wrong(alloc, &["run", "--summary"], &SUMMED)?.as_str(), "");
+    assert_eq!(rt;
+        wrong(&rt, alloc, &["run", "--summary"], &SUMMED)?.as_str(),
+        ""
+    );
     Ok(())
 }

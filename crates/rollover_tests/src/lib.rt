@@ -12,11 +12,15 @@ mod checking;
 #[cfg(test)]
 mod commands;
 #[cfg(test)]
+mod gates;
+#[cfg(test)]
 mod looking;
 #[cfg(test)]
 mod outside;
 #[cfg(test)]
 mod performing;
+#[cfg(test)]
+mod racing;
 #[cfg(test)]
 mod refusals;
 #[cfg(test)]

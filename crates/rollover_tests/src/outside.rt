@@ -10,7 +10,7 @@ use std::test::Fail;
 fn leaves_a_front_at_a_read_fault(rt: HostRuntime) -> Result<(), Fail> {
     let alloc = rt.alloc();
     let trace = joined(alloc, &FIRST_KEY)?;
-    let whole = perform(alloc, "run", &trace, STEADY)?;
+    let whole = perform(&rt, alloc, "run", &trace, STEADY)?;
     let mut before = 0;
     // 115 octets are eight reads of 16, and the ninth finds the end.
     for call in 1..10u64 {
@@ -19,7 +19,7 @@ fn leaves_a_front_at_a_read_fault(rt: HostRuntime) -> Result<(), Fail> {
             failing_read: call,
             ..STEADY
         };
-        let left = perform(alloc, "run", &trace, outside)?;
+        let left = perform(&rt, alloc, "run", &trace, outside)?;
         assert_eq!(rt; left.status, Status::Halted(Cause::ReadFault));
         assert!(rt; whole.held.as_slice().starts_with(left.held.as_slice()));
         assert!(rt; before <= left.held.len());
@@ -30,7 +30,7 @@ fn leaves_a_front_at_a_read_fault(rt: HostRuntime) -> Result<(), Fail> {
         failing_read: 10,
         ..STEADY
     };
-    let left = perform(alloc, "run", &trace, outside)?;
+    let left = perform(&rt, alloc, "run", &trace, outside)?;
     assert_eq!(rt; left.status, Status::Done);
     Ok(())
 }
@@ -40,7 +40,7 @@ fn leaves_a_front_at_a_read_fault(rt: HostRuntime) -> Result<(), Fail> {
 fn leaves_a_front_at_a_write_fault(rt: HostRuntime) -> Result<(), Fail> {
     let alloc = rt.alloc();
     let trace = joined(alloc, &FIRST_KEY)?;
-    let whole = perform(alloc, "run", &trace, STEADY)?;
+    let whole = perform(&rt, alloc, "run", &trace, STEADY)?;
     let mut calls = 0u64;
     for call in 1..200u64 {
         let outside = Outside {
@@ -48,7 +48,7 @@ fn leaves_a_front_at_a_write_fault(rt: HostRuntime) -> Result<(), Fail> {
             failing_write: call,
             ..STEADY
         };
-        let left = perform(alloc, "run", &trace, outside)?;
+        let left = perform(&rt, alloc, "run", &trace, outside)?;
         if left.status == Status::Done {
             break;
         }
@@ -70,11 +70,11 @@ fn stops_at_the_limit_of_the_input(rt: HostRuntime) -> Result<(), Fail> {
     for _ in text.len()..4_194_305 {
         text.push(b' ')?;
     }
-    let left = perform(alloc, "run", &text, STEADY)?;
+    let left = perform(&rt, alloc, "run", &text, STEADY)?;
     assert_eq!(rt; left.status, Status::Halted(Cause::Input));
     assert_eq!(rt; left.held.as_slice(), FIRST_LIFE.as_bytes());
     text.pop();
-    let left = perform(alloc, "run", &text, STEADY)?;
+    let left = perform(&rt, alloc, "run", &text, STEADY)?;
     assert_eq!(rt; left.status, refused(3, Kind::TooLong));
     Ok(())
 }
@@ -131,7 +131,7 @@ fn takes_lines_of_4096_octets(rt: HostRuntime) -> Result<(), Fail> {
             text.push(b'#')?;
         }
         text.extend_from_slice(case.ending.as_bytes())?;
-        let left = perform(alloc, "run", &text, STEADY)?;
+        let left = perform(&rt, alloc, "run", &text, STEADY)?;
         assert_eq!(rt;
             left.status,
             case.status,

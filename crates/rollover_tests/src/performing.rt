@@ -1,9 +1,9 @@
 //! A trace is performed through the top call.
 
 use lan_base::{MemorySink, MemorySource, Octets};
-use packet_claims::OpenGate;
-use rollover_program::{Cause, Kind, Status, rollover};
+use rollover_program::{AnyGate, Cause, Kind, Status, rollover};
 use std::alloc::{AllocError, Global};
+use std::thread::Threads;
 
 /// What a call left: its status, and what the sink holds.
 #[derive(Drop)]
@@ -31,11 +31,24 @@ pub const STEADY: Outside = Outside {
 };
 
 /// The top call with these words.
-pub(crate) fn ordered(
+pub(crate) fn ordered<R: Threads + Sync>(
+    rt: &R,
     alloc: Global,
     words: &[&str],
     text: &[u8],
     outside: Outside,
+) -> Result<Left, AllocError> {
+    passing(rt, alloc, words, text, outside, &AnyGate::Open)
+}
+
+/// The top call with these words, at a gate.
+pub(crate) fn passing<R: Threads + Sync>(
+    rt: &R,
+    alloc: Global,
+    words: &[&str],
+    text: &[u8],
+    outside: Outside,
+    gate: &AnyGate,
 ) -> Result<Left, AllocError> {
     let mut owned = Vec::new(alloc);
     for word in words {
@@ -49,7 +62,7 @@ pub(crate) fn ordered(
         reads,
     );
     let mut sink = MemorySink::new(alloc, outside.write.max(1), writes);
-    let status = rollover(alloc, &owned, &mut source, &mut sink, &OpenGate);
+    let status = rollover(rt, alloc, &owned, &mut source, &mut sink, gate);
     Ok(Left {
         status,
         held: Octets::from_slice(alloc, sink.held())?,
@@ -57,18 +70,23 @@ pub(crate) fn ordered(
 }
 
 /// The top call with one word.
-pub(crate) fn perform(
+pub(crate) fn perform<R: Threads + Sync>(
+    rt: &R,
     alloc: Global,
     word: &str,
     text: &[u8],
     outside: Outside,
 ) -> Result<Left, AllocError> {
-    ordered(alloc, &[word], text, outside)
+    ordered(rt, alloc, &[word], text, outside)
 }
 
 /// A trace, whose parts are these texts.
-pub(crate) fn run(alloc: Global, parts: &[&str]) -> Result<Left, AllocError> {
-    perform(alloc, "run", &joined(alloc, parts)?, STEADY)
+pub(crate) fn run<R: Threads + Sync>(
+    rt: &R,
+    alloc: Global,
+    parts: &[&str],
+) -> Result<Left, AllocError> {
+    perform(rt, alloc, "run", &joined(alloc, parts)?, STEADY)
 }
 
 /// Texts, one after the other.

@@ -146,7 +146,7 @@ const MISPLACED: [Case; 7] = [
 const RACE: &str = "race\n";
 
 /// Lines of a race.
-const RACES: [Case; 8] = [
+const RACES: [Case; 7] = [
     Case {
         name: "a trace that ends inside a race",
         trace: &[GROUP, FIRST, RACE, "# no more\n"],
@@ -229,20 +229,6 @@ burst A 5 1 ffffffffffff 88b50001
         status: Status::Halted(Cause::Trace {
             line: 7,
             kind: Kind::NoEnd,
-        }),
-        shown: Shown::All(&[FIRST_LIFE]),
-    },
-    Case {
-        name: "the end of a race, which is not run yet",
-        trace: &[
-            GROUP,
-            FIRST,
-            RACE,
-            "burst A 1 1 ffffffffffff 88b50001\nwhile\ntick 1\nend\n",
-        ],
-        status: Status::Halted(Cause::Trace {
-            line: 7,
-            kind: Kind::Word,
         }),
         shown: Shown::All(&[FIRST_LIFE]),
     },
@@ -403,8 +389,8 @@ frame 1 A mka
 #[test]
 fn ends_where_a_line_is_refused(rt: HostRuntime) -> Result<(), Fail> {
     let alloc = rt.alloc();
-    assert_eq!(rt; wrong(alloc, &["run"], &MISSPELLED)?.as_str(), "");
-    assert_eq!(rt; wrong(alloc, &["run"], &MISPLACED)?.as_str(), "");
+    assert_eq!(rt; wrong(&rt, alloc, &["run"], &MISSPELLED)?.as_str(), "");
+    assert_eq!(rt; wrong(&rt, alloc, &["run"], &MISPLACED)?.as_str(), "");
     Ok(())
 }
 
@@ -412,7 +398,7 @@ fn ends_where_a_line_is_refused(rt: HostRuntime) -> Result<(), Fail> {
 #[test]
 fn ends_where_the_group_stops(rt: HostRuntime) -> Result<(), Fail> {
     let alloc = rt.alloc();
-    assert_eq!(rt; wrong(alloc, &["run"], &STOPPED)?.as_str(), "");
+    assert_eq!(rt; wrong(&rt, alloc, &["run"], &STOPPED)?.as_str(), "");
     Ok(())
 }
 
@@ -420,7 +406,7 @@ fn ends_where_the_group_stops(rt: HostRuntime) -> Result<(), Fail> {
 #[test]
 fn refuses_lines_of_a_race(rt: HostRuntime) -> Result<(), Fail> {
     let alloc = rt.alloc();
-    assert_eq!(rt; wrong(alloc, &["run"], &RACES)?.as_str(), "");
+    assert_eq!(rt; wrong(&rt, alloc, &["run"], &RACES)?.as_str(), "");
     Ok(())
 }
 
@@ -428,6 +414,9 @@ fn refuses_lines_of_a_race(rt: HostRuntime) -> Result<(), Fail> {
 #[test]
 fn sums_up_no_race_that_has_no_end(rt: HostRuntime) -> Result<(), Fail> {
     let alloc = rt.alloc();
-    assert_eq!(rt; wrong(alloc, &["run", "--summary"], &SUMMED)?.as_str(), "");
+    assert_eq!(rt;
+        wrong(&rt, alloc, &["run", "--summary"], &SUMMED)?.as_str(),
+        ""
+    );
     Ok(())
 }

@@ -175,6 +175,6 @@ retire A 000000000000000000000001 1 an 0",
 #[test]
 fn rolls_over(rt: HostRuntime) -> Result<(), Fail> {
     let alloc = rt.alloc();
-    assert_eq!(rt; wrong(alloc, &["run"], &ROLLED)?.as_str(), "");
+    assert_eq!(rt; wrong(&rt, alloc, &["run"], &ROLLED)?.as_str(), "");
     Ok(())
 }

@@ -7,6 +7,7 @@ use crate::worked::{FIRST, FIRST_LIFE, GROUP, SECOND, SIX_ROUNDS};
 use rollover_program::Status;
 use std::alloc::{AllocError, Global};
 use std::test::Fail;
+use std::thread::Threads;
 
 /// The first hello of the first station, with a check value of another implementation of AES-CMAC.
 const HELLO: &str = "\
@@ -166,7 +167,7 @@ data 10 B accepted 1 88b50001
 #[test]
 fn performs_to_the_end(rt: HostRuntime) -> Result<(), Fail> {
     let alloc = rt.alloc();
-    assert_eq!(rt; wrong(alloc, &["run"], &PERFORMED)?.as_str(), "");
+    assert_eq!(rt; wrong(&rt, alloc, &["run"], &PERFORMED)?.as_str(), "");
     Ok(())
 }
 
@@ -184,29 +185,34 @@ fn drops_mutated_hellos(rt: HostRuntime) -> Result<(), Fail> {
         for digit in HELLO.as_bytes().iter().take(octets.saturating_mul(2)) {
             front.push(*digit)?;
         }
-        assert!(rt; has(&injected(alloc, &front, "B")?, want), "{octets}");
+        assert!(rt; has(&injected(&rt, alloc, &front, "B")?, want), "{octets}");
     }
     for digit in 108..140usize {
         let mut changed = Vec::from_slice(alloc, HELLO.as_bytes())?;
         if let Some(one) = changed.get_mut(digit) {
             *one = if *one == b'0' { b'1' } else { b'0' };
         }
-        let shown = injected(alloc, &changed, "B")?;
+        let shown = injected(&rt, alloc, &changed, "B")?;
         assert!(rt; has(&shown, "heard 0 B drop check"), "{digit}");
     }
-    let shown = injected(alloc, HELLO.as_bytes(), "A")?;
+    let shown = injected(&rt, alloc, HELLO.as_bytes(), "A")?;
     assert!(rt; has(&shown, "heard 0 A drop echo"));
     Ok(())
 }
 
 /// What a trace shows in which the first station says its hello, and then these octets reach a
 /// station.
-fn injected(alloc: Global, digits: &[u8], name: &str) -> Result<Vec<u8>, AllocError> {
+fn injected<R: Threads + Sync>(
+    rt: &R,
+    alloc: Global,
+    digits: &[u8],
+    name: &str,
+) -> Result<Vec<u8>, AllocError> {
     let mut text = joined(
         alloc,
         &[GROUP, FIRST, SECOND, "tick A 1\ninject ", name, " "],
     )?;
     text.extend_from_slice(digits)?;
-    let left = perform(alloc, "run", &text, STEADY)?;
+    let left = perform(rt, alloc, "run", &text, STEADY)?;
     cut(alloc, left.held.as_slice())
 }

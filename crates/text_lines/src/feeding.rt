@@ -15,6 +15,7 @@ pub fn feed<K, T: LineTaker<K>>(
     piece: &[u8],
     outlet: &mut K,
 ) -> Result<(), End<T::Error>>
+    requires { T.Asks }
     ensures does { Fed T.Did (ended begun.old.items piece.now) (moment taker.old outlet.old)
         (moment taker.new outlet.new) result }
     ensures begun { OnOk result (begun.new.items ≡ open_line begun.old.items piece.now) }
@@ -32,6 +33,7 @@ fn take<K, T: LineTaker<K>>(
     octet: u8,
     outlet: &mut K,
 ) -> Result<(), End<T::Error>>
+    requires { T.Asks }
     ensures does { Fed T.Did (if octet == 10 then without_return begun.old.items ∷ [] else [])
         (moment taker.old outlet.old) (moment taker.new outlet.new) result }
     ensures begun { OnOk result (begun.new.items
@@ -62,6 +64,7 @@ pub fn last<K, T: LineTaker<K>>(
     begun: &[u8],
     outlet: &mut K,
 ) -> Result<(), End<T::Error>>
+    requires { T.Asks }
     ensures { Fed T.Did (last_line begun.now) (moment taker.old outlet.old)
         (moment taker.new outlet.new) result }
 {
@@ -77,6 +80,7 @@ fn hand_on<K, T: LineTaker<K>>(
     line: &[u8],
     outlet: &mut K,
 ) -> Result<(), End<T::Error>>
+    requires { T.Asks }
     ensures { Fed T.Did (line.now ∷ []) (moment taker.old outlet.old)
         (moment taker.new outlet.new) result }
 {

@@ -36,6 +36,7 @@ pub fn read_lines<S: Source, K, T: LineTaker<K>>(
     taker: &mut T,
     outlet: &mut K,
 ) -> Result<(), End<T::Error>>
+    requires { T.Asks }
     ensures reads { Reads T.Did limit
         (sourced (S.left source.old) (S.faults source.old))
         (sourced (S.left source.new) (S.faults source.new))

@@ -9,11 +9,15 @@ pub trait LineTaker<K> {
     /// Why a line is refused.
     type Error: Drop;
 
+    /// What has to hold where lines are taken, as that what a taker lends to threads may be shared.
+    ghost Asks: { Type 0 };
+
     /// From one moment to another these lines were taken, or the last of them was refused.
     ghost Did: { List (List ℕ) → Moment Self K → Moment Self K → Result (Unit {0}) Self.Error → Type 0 };
 
     /// Takes the next line, without its ending.
     fn line(&mut self, text: &[u8], outlet: &mut K) -> Result<(), Self::Error>
+        requires { Asks }
         ensures { Did (text.now ∷ [])
             (moment self.old outlet.old) (moment self.new outlet.new) result };
 

@@ -187,6 +187,25 @@ reading-of names octets then fact are (says, inr new) =
           (told after octets fact are_after says_after);
     }
 
+-- a line is read as one fact, under names that follow from it
+pub one-fact : (names : List (List ℕ)) (line : List ℕ) (after then : List (List ℕ)) (this that : Fact)
+    → AreNames names → Reads names line after this → Reads names line then that
+    → (after ≡ then) × (this ≡ that)
+one-fact names line after then this that are reads again =
+    let a = reading-of names line after this are reads in
+    let b = reading-of names line then that are again in
+    let same : after ≡ then = some-names (sym a.grown ∙ b.grown) in
+    (same, same_some this that (sym a.reads ∙ ap (λ ns. fact_in ns line) same ∙ b.reads))
+  where
+    some-names : {these those : List (List ℕ)} → Some these ≡ Some those → these ≡ those
+    some-names e = cc e
+
+pub are-after : (names : List (List ℕ)) (line : List ℕ) (after : List (List ℕ)) (fact : Fact)
+    → AreNames names → Reads names line after fact → AreNames after
+are-after names line after fact are (says, inl same) = subst AreNames (sym same) are
+are-after names line after fact are (says, inr new) =
+    subst AreNames (sym new.grown) (are-more names new.name are new.well_formed new.new)
+
 pub of-reading : (names : List (List ℕ)) (line : List ℕ) (then : List (List ℕ)) (fact : Fact)
     → AreNames names → length names ≤ most_named → grown_by names (name_in line) ≡ Some then
     → fact_in then line ≡ Some fact → Reads names line then fact

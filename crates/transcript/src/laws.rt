@@ -5,7 +5,8 @@ ghost use Rattle.std.specs.List.{All, flat_map};
 ghost use Rattle.lan_base.specs.Name.{IsName};
 ghost use Rattle.lan_core.specs.declared.fact.Fact.{Fact};
 ghost use Rattle.lan_base.specs.Differing.{AllDiffer};
-ghost use Rattle.transcript.specs.Rendering.{IsFact, transcript};
+ghost use Rattle.transcript.specs.Naming.{Reads};
+ghost use Rattle.transcript.specs.Rendering.{AreNames, IsFact, transcript};
 ghost use Rattle.transcript.specs.Cut.{cut, is_first, IsEvent};
 
 /// Different lists of facts have different texts, under names that differ.
@@ -13,6 +14,16 @@ pub fn law_texts_differ()
     ensures { (names : List (List ℕ)) (these those : List Fact) → All IsName names → AllDiffer names
         → All (IsFact names) these → All (IsFact names) those
         → transcript names these ≡ transcript names those → these ≡ those }
+{}
+
+/// Under names of stations a line is that of one fact at most, and the names after it are those of
+/// stations.
+pub fn law_a_line_is_one_fact()
+    ensures one { (names : List (List ℕ)) (line : List ℕ) (after then : List (List ℕ))
+        (this that : Fact) → AreNames names → Reads names line after this
+        → Reads names line then that → (after ≡ then) × (this ≡ that) }
+    ensures named { (names : List (List ℕ)) (line : List ℕ) (after : List (List ℕ)) (fact : Fact)
+        → AreNames names → Reads names line after fact → AreNames after }
 {}
 
 /// The facts of events tell where each event ends.

@@ -91,6 +91,8 @@ impl<K: Sink> LineTaker<K> for LineRecorder {
 
     type Error = Stop;
 
+    ghost Asks = { Unit {0} };
+
     ghost Did = { DidLines (λ r. r) K.held K.faults };
 
     fn line(&mut self, text: &[u8], outlet: &mut K) -> Result<(), Stop> {

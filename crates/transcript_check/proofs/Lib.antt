@@ -3,10 +3,12 @@ mod Puts
 mod Undone
 mod Ends
 mod Telling
+mod Saks
 mod Steps
 mod Clean
 mod Passing
 mod AllFit
 mod Lines
+mod OneRefusal
 mod Reached
 pub mod Public

@@ -1,5 +1,5 @@
 -- A line is read, and its fact is noted.
-use Rattle.std.proofs.Common.{◌≡◌, ◌∙◌, inl, inr, ℕ, true, List, [], ◌∷◌, ◌++◌, Option, Some, None, Result, Ok, Err, refl, sym, ap, subst}
+use Rattle.std.proofs.Common.{◌≡◌, ◌∙◌, inl, inr, ℕ, true, List, Option, Some, None, Result, Ok, Err, refl, sym, ap, subst}
 use Rattle.std.specs.Prelude.{◌⊎◌, ◌↔◌, is_ok, option_map, IfOk, OnErr}
 use Rattle.aes_block.specs.declared.secret.Secret.{Secret}
 use Rattle.lan_base.specs.declared.address.Mi.{Mi}
@@ -88,6 +88,25 @@ never-unread facts (shows.HeardMka k s verdict) is = cc is
 never-unread facts (shows.Unclaimed s why) is = cc is
 never-unread facts (shows.Arrived k s arrival) is = cc is
 
+-- ---- what denies a line
+
+-- it is read, and its fact is refused
+pub fact-denies : (names : List Name) (facts : List Fact) (octets : List ℕ) (after : List Name)
+    (fact : Fact) → Reads names octets after fact → (why : CheckFault)
+    → refusal facts fact ≡ Some why → IsDenied names facts octets why
+fact-denies names facts octets after fact reads Unread f = absurd (never-unread facts fact f)
+fact-denies names facts octets after fact reads Doubled f = (after, fact, reads, f)
+fact-denies names facts octets after fact reads Orphan f = (after, fact, reads, f)
+
+-- it is not read
+reading-denies : (names : List Name) (facts : List Fact) (octets : List ℕ) (fault : FactError)
+    → (fault ≡ readings.Unread → (after : List Name) (fact : Fact) → Reads names octets after fact → ⊥)
+    → (why : CheckFault) → error_of_reading fault ≡ Refused why → IsDenied names facts octets why
+reading-denies names facts octets readings.Memory never why e = absurd (cc e)
+reading-denies names facts octets readings.Unread never Unread e = never refl
+reading-denies names facts octets readings.Unread never Doubled e = absurd (cc e)
+reading-denies names facts octets readings.Unread never Orphan e = absurd (cc e)
+
 -- ---- a line that was read
 
 -- what is known then: the fact, and that no other is read
@@ -123,16 +142,10 @@ module _ (octets : List ℕ) (old : Standing) (after : List Name) (new : Maps) (
   pub line-refused : (r : Result Unit CheckError) → IsNote fact old.maps new r → (names : List Name)
       (facts : List Fact) → IsCheckOf names facts old → (fault : CheckFault)
       → r ≡ Err (Refused fault) → IsDenied names facts octets fault
-  line-refused r note names facts is fault e = go fault
+  line-refused r note names facts is fault e =
+      fact-denies names facts octets after fact
+      (subst (λ ns. Reads ns octets after fact) is.0 line.reads) fault
       (subst (λ r. IsNoted facts fact old.maps new r) e (note.noted facts is.1)).0
-    where
-      reads : Reads names octets after fact
-      reads = subst (λ ns. Reads ns octets after fact) is.0 line.reads
-
-      go : (fault : CheckFault) → refusal facts fact ≡ Some fault → IsDenied names facts octets fault
-      go Unread f = absurd (never-unread facts fact f)
-      go Doubled f = (after, fact, reads, f)
-      go Orphan f = (after, fact, reads, f)
 
   -- why the line is to be refused is why its fact is
   denied-by : (names : List Name) (facts : List Fact) → IsCheckOf names facts old
@@ -212,15 +225,10 @@ module _ (octets : List ℕ) (old : Standing) (fault : FactError)
 
   pub none-refused : (names : List Name) (facts : List Fact) → IsCheckOf names facts old
       → (why : CheckFault) → error_of_reading fault ≡ Refused why → IsDenied names facts octets why
-  none-refused names facts is why e = go fault refl why e
-    where
-      go : (f : FactError) → fault ≡ f → (why : CheckFault) → error_of_reading f ≡ Refused why
-          → IsDenied names facts octets why
-      go readings.Memory same why g = absurd (cc g)
-      go readings.Unread same Unread g = λ after fact reads.
-          unread.0 same after fact (subst (λ ns. Reads ns octets after fact) (sym is.0) reads)
-      go readings.Unread same Doubled g = absurd (cc g)
-      go readings.Unread same Orphan g = absurd (cc g)
+  none-refused names facts is why e =
+      reading-denies names facts octets fault
+      (λ same after fact reads.
+      unread.0 same after fact (subst (λ ns. Reads ns octets after fact) (sym is.0) reads)) why e
 
   pub none-denied : (names : List Name) (facts : List Fact) → IsCheckOf names facts old
       → (why : CheckFault) → IsDenied names facts octets why → error_of_reading fault ≡ Refused why

@@ -1,7 +1,6 @@
 -- The lines of a legal run are taken, one after another.
-use Rattle.std.proofs.Common.{◌≡◌, ◌≢◌, ◌∙◌, ◌<◌, ◌≤◌, ◌+◌, ◌⊎◌, inl, inr, ℕ, Bool, true, false, cond, List, [], ◌∷◌, ◌++◌, map, length, Option, Some, None, Result, Ok, Err, refl, sym, ap, subst, arith, append_assoc}
+use Rattle.std.proofs.Common.{◌≡◌, ◌≢◌, ◌∙◌, ◌<◌, ◌≤◌, ◌⊎◌, inl, inr, ℕ, Bool, true, false, cond, List, [], ◌∷◌, ◌++◌, map, length, Option, Some, None, refl, sym, ap, subst, arith, append_assoc}
 use Rattle.std.specs.Prelude.{All, ◌==◌, ◌&&◌, option_map, option_to_list, is_some, IsTrue, Contains}
-use Rattle.std.specs.List.{find}
 use Rattle.std.specs.Option.{option_or}
 use Rattle.std.proofs.lemmas.Bool.{and_parts, eqb-true, eq-eqb}
 use Rattle.std.proofs.lemmas.List.{append-nil, length-append, length-map, map-append}
@@ -12,7 +11,6 @@ use Rattle.lan_base.specs.declared.address.Mi.{Mi}
 use Rattle.lan_base.specs.declared.address.Sci.{Sci}
 use Rattle.lan_base.specs.declared.association_number.AssociationNumber.{AssociationNumber}
 use Rattle.lan_base.specs.declared.frame.UserFrame.{UserFrame}
-use Rattle.lan_base.specs.declared.key_id.KeyId.{KeyId}
 use Rattle.lan_base.specs.declared.name.Name.{Name}
 use Rattle.lan_base.specs.Differing.{AllDiffer}
 use Rattle.lan_base.specs.Name.{IsName}
@@ -23,7 +21,6 @@ use Rattle.sak_exchange.specs.declared.change.Change.TheVariants as changes
 use Rattle.sak_exchange.specs.declared.held_key.Key.{Key}
 use Rattle.sak_exchange.proofs.Public.{find-passes}
 use Rattle.mka_station.specs.declared.reaction.Reaction.{Reaction}
-use Rattle.mka_station.specs.declared.verdict.Verdict.{Verdict}
 use Rattle.mka_station.specs.Hearing.{frame_turn}
 use Rattle.mka_station.specs.Restart.{ending}
 use Rattle.mka_station.specs.Tick.{tick_turn}
@@ -33,7 +30,7 @@ use Rattle.lan_core.specs.declared.fact.Fact.{Fact}
 use Rattle.lan_core.specs.declared.fact.Fact.TheVariants as shows
 use Rattle.lan_core.specs.declared.settings.Settings.{Settings}
 use Rattle.lan_core.specs.Run.{Run, Happening, Profile, happened, facts_of, place, started, stations}
-use Rattle.lan_core.specs.Ledgers.{collect, gather, with_one, Install, install_of, installs, install_at, Claim, claim_of, claims, frame_at, next_frame}
+use Rattle.lan_core.specs.Ledgers.{gather, with_one, Install, install_of, installs, install_at, Claim, claim_of, claims, frame_at, next_frame}
 use Rattle.lan_core.specs.Lives.{Life, life, drawn_mi, sak_in as drawn_sak_in, seen_at, transmitting_at, receiving}
 use Rattle.lan_core.specs.Claims.{waiting, frame_of_claim}
 use Rattle.lan_core.specs.Counted.{AreCounted}
@@ -45,10 +42,8 @@ use Rattle.lan_core.specs.TypedFacts.{IsTypedFact}
 use Rattle.lan_core.proofs.Public.{mapped, chained}
 use Rattle.group_safety.specs.Once.{sak_of, sci_of}
 use Rattle.group_safety.proofs.Public.{In, in-contains, in-find}
-use Rattle.transcript.specs.Naming.{Reads, IsNaming, most_named}
 use Rattle.transcript.specs.Rendering.{line, IsFact}
 use Rattle.transcript_check.specs.Judged.{sak_here, sak_in}
-use Rattle.transcript_check.specs.declared.fault.CheckFault.{CheckFault}
 use Rattle.transcript_check.specs.declared.fault.CheckFault.TheVariants.{Doubled}
 use Rattle.transcript_check.specs.Standing.{AreTaken, refusal, no_epoch}
 use Rattle.transcript_check.proofs.Clean.{counted-differ, collected, in-ledger, not-doubled}

@@ -9,16 +9,15 @@ use Rattle.lan_core.specs.declared.fact.Fact.{Fact}
 use Rattle.text_lines.specs.declared.reading.End.{End}
 use Rattle.text_lines.specs.declared.reading.End.TheVariants as reading
 use Rattle.text_lines.specs.Moments.{Moment}
-use Rattle.text_lines.specs.Texts.{whole_lines, lines_of}
+use Rattle.text_lines.specs.Texts.{whole_lines}
 use Rattle.text_lines.specs.Reading.{Sourced, Takes, Reads as ReadsText, Runs, lines_within}
 use Rattle.transcript_check.specs.declared.fault.CheckFault.{CheckFault}
 use Rattle.transcript_check.specs.declared.fault.CheckError.{CheckError}
 use Rattle.transcript_check.specs.declared.fault.CheckError.TheVariants.{Refused, Memory}
 use Rattle.transcript_check.specs.declared.verdict.Verdict.{Verdict}
-use Rattle.transcript_check.specs.declared.judging.Unjudged.{Unjudged}
 use Rattle.transcript_check.specs.declared.judging.Unjudged.TheVariants as ends
 use Rattle.transcript_check.specs.Standing.{Standing, AreTaken, IsCheckOf, IsTaken, IsDenied, IsVerdict}
-use Rattle.transcript_check.specs.Transcripts.{most_octets, AreRead, IsRefused, IsFrontRead, EndsBy, IsTakenFrom, EndsJudging}
+use Rattle.transcript_check.specs.Transcripts.{most_octets, AreRead, IsRefused, EndsBy, IsTakenFrom, EndsJudging}
 use Rattle.transcript_check.specs.inside.Judging.{Stopped, Comes, Judges, number_after, why_unjudged}
 use Rattle.transcript_check.specs.inside.JudgedLines.{nothing}
 

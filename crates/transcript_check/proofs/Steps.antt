@@ -1,8 +1,6 @@
 -- One fact more is judged.
 use Rattle.std.proofs.Common.{◌≡◌, ◌≢◌, ◌∙◌, ◌≤◌, ◌+◌, ◌⊎◌, inl, inr, ℕ, suc, Bool, true, false, cond, List, [], ◌∷◌, ◌++◌, length, Option, Some, None, Result, Ok, Err, min, refl, sym, ap, subst, arith}
-use Rattle.std.proofs.lemmas.Bool.{and_parts, eqb-true, eq-eqb}
-use Rattle.std.specs.Option.{option_or}
-use Rattle.std.specs.Prelude.{◌==◌, ◌&&◌, option_map, is_some, is_ok, IsTrue}
+use Rattle.std.specs.Prelude.{option_map, is_some, is_ok, IsTrue}
 use Rattle.aes_block.specs.declared.secret.Secret.{Secret}
 use Rattle.lan_base.specs.declared.association_number.AssociationNumber.{AssociationNumber}
 use Rattle.lan_base.specs.declared.key_id.KeyId.{KeyId}
@@ -10,14 +8,14 @@ use Rattle.lan_core.specs.declared.fact.Fact.{Fact}
 use Rattle.lan_core.specs.declared.fact.Fact.TheVariants as shows
 use Rattle.transcript_check.specs.declared.named.Named.{Named}
 use Rattle.transcript_check.specs.declared.fault.CheckError.{CheckError}
-use Rattle.transcript_check.specs.declared.fault.CheckError.TheVariants.{Refused, Memory}
 use Rattle.transcript_check.specs.declared.fault.CheckFault.TheVariants.{Doubled}
 use Rattle.transcript_check.specs.Judged.{Noted, Breaks, IsJudged, BreaksOnce, BreaksOneKey, fact_at, sak_here, sak_in, Use, use_of, uses, named_by, names, never, same_named, is_missed, missed_in}
-use Rattle.transcript_check.specs.Standing.{Maps, StandsFor, IsFound, IsOfEpoch, sak_at, first_of, line_by, line_of, refusal, no_epoch}
-use Rattle.transcript_check.specs.inside.Steps.{EpochIsPut, KeyIsPut, UseIsPut, IsNamed, IsUsed, IsInstalled, Installs, Claims, Takes, IsFailed}
+use Rattle.transcript_check.specs.Standing.{Maps, StandsFor, AreSaksOf, IsFound, IsOfEpoch, first_of, line_by, line_of, refusal, no_epoch}
+use Rattle.transcript_check.specs.inside.Steps.{KeyIsPut, UseIsPut, IsNamed, IsUsed, IsInstalled, Installs, Claims, Takes, IsFailed}
 use Rattle.transcript_check.proofs.Least.{some-same, nat_dec, Goes, found-stays, none-stays, broken-now, found-is, found-again, found-first}
-use Rattle.transcript_check.proofs.Ends.{at-last, at-other, goes-by, sak-more, sak-stays, sak-with, use-stays, missed-more, missed-within}
-use Rattle.transcript_check.proofs.Telling.{Told, id_dec, use_dec, pair_dec, named-itself, named-joins}
+use Rattle.transcript_check.proofs.Ends.{at-last, at-other, goes-by, sak-stays, sak-with, use-stays, missed-more, missed-within}
+use Rattle.transcript_check.proofs.Saks.{saks-put, saks-stay}
+use Rattle.transcript_check.proofs.Telling.{Told, id_dec, use_dec, named-itself, named-joins}
 
 -- ---- nothing new is told
 
@@ -306,7 +304,7 @@ passes facts fact old new number missed stands is no_key no_use no_epoch this co
       missed = count ∙ sym (missed-more facts fact);
       once = kept_uses.0;
       one_key = kept_keys.0;
-      epochs = λ s epoch. stands.epochs s epoch ∙ sym (sak-with facts fact s epoch (no_epoch s epoch));
+      epochs = saks-stay facts fact old.epochs stands.epochs no_epoch;
       keys = kept_keys.1;
       uses = kept_uses.1;
       known = known-more facts fact old stands this;
@@ -357,38 +355,21 @@ leaves number id named m new None (Some nv) step =
     go true = record { missed = refl; once = refl; epochs = refl; narrow = refl; wide = refl }
     go false = record { missed = refl; once = refl; epochs = refl; narrow = refl; wide = refl }
 
-sak-here-is : (s epoch : ℕ) (id : KeyId) (an : AssociationNumber) (sak : Secret) (t e : ℕ) → t ≡ s → e ≡ epoch
-    → sak_here t e (shows.Installed s id an epoch sak) ≡ Some sak
-sak-here-is s epoch id an sak t e same too =
-    rw (eq-eqb s t (sym same), eq-eqb epoch e (sym too)) refl
-
-sak-here-not : (s epoch : ℕ) (id : KeyId) (an : AssociationNumber) (sak : Secret) (t e : ℕ) → ((t ≡ s) × (e ≡ epoch) → ⊥)
-    → sak_here t e (shows.Installed s id an epoch sak) ≡ None
-sak-here-not s epoch id an sak t e apart = go ((s == t) && (epoch == e)) refl
-  where
-    go : (b : Bool) → ((s == t) && (epoch == e)) ≡ b → cond b (Some sak) None ≡ None
-    go true is = let both = and_parts (s == t) (epoch == e) is in
-        absurd (apart (sym (eqb-true s t both.0), sym (eqb-true epoch e both.1)))
-    go false is = refl
-
-or-nothing : (o : Option Secret) → option_or o None ≡ o
-or-nothing None = refl
-or-nothing (Some x) = refl
-
 pub installs : (facts : List Fact) (old new : Maps) (number s epoch : ℕ) (an : AssociationNumber) (id : KeyId) (sak : Secret)
     → StandsFor facts old → number ≡ suc (length facts) → sak_in facts s epoch ≡ None
     → IsInstalled number s epoch id (record { an = an; sak = sak }) old new
     → StandsFor (facts ++ shows.Installed s id an epoch sak ∷ []) (with_count number new)
 installs facts old new number s epoch an id sak stands is free step = record {
   count = is ∙ length-more facts fact;
-  missed = left.missed ∙ put.missed ∙ stands.missed ∙ more ∙ sym (missed-more facts fact);
-  once = subst (λ o. IsJudged (BreaksOnce (facts ++ fact ∷ [])) o) (sym (left.once ∙ put.once)) kept_uses.0;
+  missed = left.missed ∙ stands.missed ∙ more ∙ sym (missed-more facts fact);
+  once = subst (λ o. IsJudged (BreaksOnce (facts ++ fact ∷ [])) o) (sym left.once) kept_uses.0;
   one_key = kept_keys.0;
-  epochs = λ t e. ap (λ es. sak_at (record new { epochs = es }) t e) left.epochs ∙ at t e (pair_dec s epoch t e);
+  epochs = subst (λ es. AreSaksOf (facts ++ fact ∷ []) es) (sym left.epochs)
+      (saks-put facts old.epochs step.saks s epoch an id sak stands.epochs free step.epoch_put);
   keys = kept_keys.1;
   uses = λ none u. subst (λ o. IsFound Use (Unit {0}) (uses (facts ++ fact ∷ [])) u o)
-      (ap with_unit (sym (line-same old new (left.narrow ∙ put.narrow) (left.wide ∙ put.wide) u.station u.pn u.sak)))
-      (kept_uses.1 (sym (left.once ∙ put.once) ∙ none) u);
+      (ap with_unit (sym (line-same old new left.narrow left.wide u.station u.pn u.sak)))
+      (kept_uses.1 (sym left.once ∙ none) u);
   known = known-more facts fact old stands tt;
 }
   where
@@ -396,43 +377,22 @@ installs facts old new number s epoch an id sak stands is free step = record {
     fact = shows.Installed s id an epoch sak
 
     m : Maps
-    m = step.middle
-
-    put : EpochIsPut s epoch sak old m
-    put = step.epoch_put
+    m = record old { epochs = step.saks }
 
     left : Leaves m new
-    left = leaves number id (record { an = an; sak = sak }) m new m.one_key (first_of m id) step.names_it
+    left = leaves number id (record { an = an; sak = sak }) m new old.one_key (first_of old id) step.names_it
 
     more : missed_in facts ≡ missed_in facts + 0
     more = omega arith
-
-    at : (t e : ℕ) → ((t ≡ s) × (e ≡ epoch)) ⊎ ((t ≡ s) × (e ≡ epoch) → ⊥)
-        → sak_at m t e ≡ sak_in (facts ++ fact ∷ []) t e
-    at t e (inl same) =
-        ap (λ t. sak_at m t e) same.0 ∙ ap (λ e. sak_at m s e) same.1 ∙ put.here
-        ∙ sym (sak-more facts fact t e
-        ∙ ap (option_or (sak_in facts t e)) (sak-here-is s epoch id an sak t e same.0 same.1)
-        ∙ ap (λ o. option_or o (Some sak)) (ap (λ t. sak_in facts t e) same.0 ∙ ap (λ e. sak_in facts s e) same.1 ∙ free))
-    at t e (inr apart) =
-        put.others t e apart ∙ stands.epochs t e
-        ∙ sym (sak-with facts fact t e (sak-here-not s epoch id an sak t e apart))
 
     kept_uses : Uses (facts ++ fact ∷ []) old
     kept_uses = still Use (Unit {0}) never (uses facts) (uses (facts ++ fact ∷ [])) (length facts)
         (use-goes facts fact old stands) old.once (line_of old) (stands.once, stands.uses)
 
-    before : Keys facts m
-    before = (
-      subst (λ o. IsJudged (BreaksOneKey facts) o) (sym put.one_key) stands.one_key,
-      λ none k. subst (λ o. IsFound KeyId Named (names facts) k o) (sym (lookup-same old m put.keys k))
-          (stands.keys (sym put.one_key ∙ none) k),
-    )
-
     kept_keys : Keys (facts ++ fact ∷ []) new
     kept_keys = key-step number id (record { an = an; sak = sak }) m new (names facts)
-        (names (facts ++ fact ∷ [])) (length facts) (key-goes facts fact) is m.one_key refl
-        (first_of m id) refl step.names_it before
+        (names (facts ++ fact ∷ [])) (length facts) (key-goes facts fact) is old.one_key refl
+        (first_of old id) refl step.names_it (stands.one_key, stands.keys)
 
 -- ---- a claim
 
@@ -460,8 +420,8 @@ claims facts old new number s an epoch pn sak stands is there step = record {
   missed = left.missed ∙ stands.missed ∙ more ∙ sym (missed-more facts fact);
   once = kept_uses.0;
   one_key = subst (λ o. IsJudged (BreaksOneKey (facts ++ fact ∷ [])) o) (sym left.one_key) kept_keys.0;
-  epochs = λ t e. ap (λ es. sak_at (record new { epochs = es }) t e) left.epochs ∙ stands.epochs t e
-      ∙ sym (sak-with facts fact t e refl);
+  epochs = subst (λ es. AreSaksOf (facts ++ fact ∷ []) es) (sym left.epochs)
+      (saks-stay facts fact old.epochs stands.epochs (λ t e. refl));
   keys = λ none k. subst (λ o. IsFound KeyId Named (names (facts ++ fact ∷ [])) k o)
       (sym (lookup-same old new left.keys k)) (kept_keys.1 (sym left.one_key ∙ none) k);
   uses = kept_uses.1;

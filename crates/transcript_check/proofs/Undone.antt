@@ -1,13 +1,12 @@
 -- An entry that is put into a map and taken out again leaves the map as it was.
-use Rattle.std.proofs.Common.{◌≡◌, ◌∙◌, ℕ, Bool, true, false, cond, List, [], ◌∷◌, Option, Some, None, Err, refl, sym, ap, subst}
-use Rattle.std.specs.Prelude.{is_some}
+use Rattle.std.proofs.Common.{◌≡◌, ◌∙◌, ℕ, true, cond, List, [], ◌∷◌, Option, Some, None, Ok, Err, refl, sym, ap, subst}
 use Rattle.std.specs.Map.{lookup, remove_entry}
 use Rattle.aes_block.specs.declared.secret.Secret.{Secret}
 use Rattle.lan_base.specs.declared.key_id.KeyId.{KeyId}
 use Rattle.transcript_check.specs.declared.named.Named.{Named}
 use Rattle.transcript_check.specs.declared.fault.CheckError.TheVariants.{Memory}
-use Rattle.transcript_check.specs.Standing.{Maps, pair_cmp, sak_at}
-use Rattle.transcript_check.specs.inside.Steps.{Installs}
+use Rattle.transcript_check.specs.Standing.{Maps, Saks, pair_cmp, sak_at, sak_under}
+use Rattle.transcript_check.specs.inside.Steps.{Installs, Opens, SakIsPut}
 use Rattle.std.specs.BTreeMap.{insert_entry, is_at}
 use Rattle.std.specs.Ordering.{is_eq, match_ordering, nat_cmp}
 use Rattle.std.specs.Cmp.{nat_cmp_is}
@@ -47,26 +46,25 @@ nat-itself n = sym (nat_cmp_is n n Equal refl)
 pair-itself : (s epoch : ℕ) → pair_cmp (s, epoch) (s, epoch) ≡ Equal
 pair-itself s epoch = rw (nat-itself s, nat-itself epoch) refl
 
--- an epoch that was kept, and then no more
-pub epoch-undone : (s epoch : ℕ) (sak : Secret) (old first second last : Maps)
-    → sak_at old s epoch ≡ None
-    → first ≡ record old { epochs = insert_entry pair_cmp old.epochs (s, epoch) sak }
-    → second ≡ first
-    → last ≡ record second { epochs = remove_entry (is_at (pair_cmp (s, epoch))) second.epochs }
-    → last ≡ old
-epoch-undone s epoch sak old first second last absent put same taken =
-    taken
-    ∙ ap (λ (m : Maps). record m { epochs = remove_entry (is_at (pair_cmp (s, epoch))) m.epochs }) (same ∙ put)
-    ∙ ap (λ (es : List ((ℕ × ℕ) × Secret)). record old { epochs = es })
-    (undone pair_cmp (s, epoch) (pair-itself s epoch) sak old.epochs absent)
+-- what was found where a SAK was put
+opened : (s epoch : ℕ) (sak : Secret) (old new : Saks) (o : Option Secret) (u : Unit {0})
+    → Opens s epoch sak old new o (Ok u) → (o ≡ None) × SakIsPut s epoch sak old new
+opened s epoch sak old new (Some before) u step = absurd (cc step.0)
+opened s epoch sak old new None u step = (refl, step)
 
--- so an install that wants memory leaves all as it was
-pub install-failed : (number s epoch : ℕ) (id : KeyId) (named : Named) (old new : Maps)
-    → sak_at old s epoch ≡ None → new ≡ old
-    → Installs number s epoch id named old new (sak_at old s epoch) (Err Memory)
-install-failed number s epoch id named old new none same =
-    subst (λ o. Installs number s epoch id named old new o (Err Memory)) (sym none) (refl, same)
-
-pub no-sak : (o : Option Secret) → is_some o ≡ false → o ≡ None
-no-sak None e = refl
-no-sak (Some x) e = absurd (cc e)
+-- a SAK was put, and then, for want of memory, taken out again: so the install leaves all as it was
+pub install-undone : (number s epoch : ℕ) (id : KeyId) (named : Named) (old middle : Maps) (put out : Saks)
+    (u : Unit {0}) → Opens s epoch named.sak old.epochs put (sak_under old.epochs s epoch) (Ok u)
+    → middle ≡ record old { epochs = put }
+    → out ≡ remove_entry (is_at (pair_cmp (s, epoch))) middle.epochs
+    → Installs number s epoch id named old (record middle { epochs = out }) (sak_at old s epoch) (Err Memory)
+install-undone number s epoch id named old middle put out u step same taken =
+    let was = opened s epoch named.sak old.epochs put (sak_under old.epochs s epoch) u step in
+    let back : record middle { epochs = out } ≡ old =
+    ap (λ (es : Saks). record middle { epochs = es }) taken
+    ∙ ap (λ (m : Maps). record m { epochs = remove_entry (is_at (pair_cmp (s, epoch))) m.epochs }) same
+    ∙ ap (λ (es : Saks). record old { epochs = remove_entry (is_at (pair_cmp (s, epoch))) es }) was.1.entries
+    ∙ ap (λ (es : Saks). record old { epochs = es })
+    (undone pair_cmp (s, epoch) (pair-itself s epoch) named.sak old.epochs was.0) in
+    subst (λ o. Installs number s epoch id named old (record middle { epochs = out }) o (Err Memory))
+    (sym was.0) (refl, back)

@@ -1,5 +1,5 @@
 -- What the maps say of the facts so far.
-use Rattle.std.specs.Prelude.{ℕ, ◌≡◌, ◌≢◌, ◌≤◌, ◌+◌, List, [], ◌∷◌, ◌++◌, length, Option, Some, None, option_map, option_and_then, IsTrue, is_some, Result, Ok, Err, ◌⊎◌}
+use Rattle.std.specs.Prelude.{ℕ, ◌≡◌, ◌≤◌, List, [], ◌∷◌, ◌++◌, length, Option, Some, None, option_map, option_and_then, IsTrue, is_some}
 use Rattle.std.specs.Map.{lookup}
 use Rattle.std.specs.BTreeMap.{is_at}
 use Rattle.std.specs.Ordering.{nat_cmp, ordering_then}
@@ -16,11 +16,9 @@ use Rattle.lan_core.specs.declared.fact.Fact.{Fact}
 use Rattle.lan_core.specs.declared.fact.Fact.TheVariants as shows
 use Rattle.transcript_check.specs.declared.named.Named.{Named}
 use Rattle.transcript_check.specs.declared.fault.CheckFault.{CheckFault}
-use Rattle.transcript_check.specs.declared.fault.CheckError.{CheckError}
 use Rattle.transcript_check.specs.declared.verdict.Verdict.{Verdict}
 use Rattle.transcript_check.specs.declared.fault.CheckFault.TheVariants.{Unread, Doubled, Orphan}
-use Rattle.transcript_check.specs.declared.fault.CheckError.TheVariants.{Refused, Memory}
-use Rattle.transcript_check.specs.Judged.{Noted, IsJudged, BreaksOnce, BreaksOneKey, Use, uses, names, sak_in, fact_at, missed_in, is_missed, same_named}
+use Rattle.transcript_check.specs.Judged.{Noted, IsJudged, BreaksOnce, BreaksOneKey, Use, uses, names, sak_in, fact_at, missed_in}
 
 -- a station and an epoch
 abbrev pub pair_cmp : ℕ × ℕ → ℕ × ℕ → Ordering
@@ -41,19 +39,30 @@ Lines = List (ℕ × ℕ)
 abbrev pub LinesBySak : Type 0
 LinesBySak = List ((ℕ × List ℕ) × Lines)
 
+-- by station and epoch, the SAK that the station installed
+abbrev pub Saks : Type 0
+Saks = List ((ℕ × ℕ) × Secret)
+
+abbrev pub sak_under : Saks → ℕ → ℕ → Option Secret
+sak_under saks s epoch = lookup (is_at (pair_cmp (s, epoch))) saks
+
+-- under each station and epoch there is the SAK of the first install that these facts tell
+abbrev pub AreSaksOf : List Fact → Saks → Type 0
+AreSaksOf facts saks = (s epoch : ℕ) → sak_under saks s epoch ≡ sak_in facts s epoch
+
 -- what is kept
 pub record Maps : Type 0 where
   pub count : ℕ
   pub missed : ℕ
   pub once : Option (ℕ × ℕ)
   pub one_key : Option (ℕ × ℕ)
-  pub epochs : List ((ℕ × ℕ) × Secret)
+  pub epochs : Saks
   pub keys : List ((Mi × ℕ) × (ℕ × Named))
   pub narrow : LinesBySak
   pub wide : LinesBySak
 
 abbrev pub sak_at : Maps → ℕ → ℕ → Option Secret
-sak_at m s epoch = lookup (is_at (pair_cmp (s, epoch))) m.epochs
+sak_at m s epoch = sak_under m.epochs s epoch
 
 abbrev pub first_of : Maps → KeyId → Option (ℕ × Named)
 first_of m id = lookup (is_at (id_cmp (id.server, id.number))) m.keys
@@ -87,7 +96,7 @@ pub record StandsFor (facts : List Fact) (m : Maps) : Type 0 where
   pub missed : m.missed ≡ missed_in facts
   pub once : IsJudged (BreaksOnce facts) m.once
   pub one_key : IsJudged (BreaksOneKey facts) m.one_key
-  pub epochs : (s epoch : ℕ) → sak_at m s epoch ≡ sak_in facts s epoch
+  pub epochs : AreSaksOf facts m.epochs
   pub keys : m.one_key ≡ None → (id : KeyId) → IsFound KeyId Named (names facts) id (first_of m id)
   pub uses : m.once ≡ None → (u : Use) → IsFound Use (Unit {0}) (uses facts) u (line_of m u)
   pub known : (number : ℕ) (fact : Fact) → fact_at facts number ≡ Some fact → IsOfEpoch facts fact

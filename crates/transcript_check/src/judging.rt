@@ -43,6 +43,8 @@ impl LineTaker<()> for LineJudge {
 
     type Error = CheckError;
 
+    ghost Asks = { Unit {0} };
+
     ghost Did = { λ lines old new result. Judges lines old.taker.check new.taker.check result };
 
     fn line(&mut self, text: &[u8], _outlet: &mut ()) -> Result<(), CheckError> {

@@ -1,6 +1,6 @@
 //! What is judged of the transcripts of runs.
 
-ghost use Rattle.std.specs.Prelude.{[], List, map, None};
+ghost use Rattle.std.specs.Prelude.{ℕ, ◌≡◌, [], List, map, None};
 ghost use Rattle.std.specs.List.{All};
 ghost use Rattle.lan_base.specs.declared.frame.UserFrame.{UserFrame};
 ghost use Rattle.lan_core.specs.declared.settings.Settings.{Settings};
@@ -9,8 +9,10 @@ ghost use Rattle.lan_core.specs.Legal.{IsLegal, IsStepped};
 ghost use Rattle.lan_core.specs.Places.{names};
 ghost use Rattle.lan_core.specs.Run.{Run, facts_of};
 ghost use Rattle.transcript.specs.Rendering.{line, IsFact};
+ghost use Rattle.transcript_check.specs.declared.fault.CheckFault.{CheckFault};
 ghost use Rattle.transcript_check.specs.Judged.{IsJudged, BreaksOnce, BreaksOneKey};
 ghost use Rattle.transcript_check.specs.Standing.{AreTaken};
+ghost use Rattle.transcript_check.specs.Transcripts.{AreRead, IsRefused};
 
 use group_safety::{law_facts_are_typed, law_once, law_one_key};
 use lan_core::{
@@ -18,7 +20,9 @@ use lan_core::{
     law_fronts_of_stepped_runs_are_stepped, law_fronts_of_unforged_runs_are_unforged,
     law_stations_have_their_names,
 };
-use transcript::{law_more_names_change_no_line, law_typed_facts_have_lines};
+use transcript::{
+    law_a_line_is_one_fact, law_more_names_change_no_line, law_typed_facts_have_lines,
+};
 
 /// Of the lines of every run that is legal, fresh and unforged, none is refused, and no pair of its
 /// facts breaks what is judged. A run has at most 16 stations, so that each of them is named.
@@ -44,6 +48,19 @@ pub fn law_clean()
     law_stations_have_their_names();
     law_more_names_change_no_line();
     law_typed_facts_have_lines();
+}
+
+/// At most one line of a transcript is the first that is refused, for one reason, and then not all lines
+/// are taken: so whoever refuses a transcript by this definition names the same line, and the same
+/// reason.
+pub fn law_one_line_is_refused()
+    ensures one { (lines : List (List ℕ)) (number again : ℕ) (why other : CheckFault)
+        → IsRefused lines number why → IsRefused lines again other
+        → (number ≡ again) × (why ≡ other) }
+    ensures none { (lines : List (List ℕ)) (number : ℕ) (why : CheckFault)
+        → IsRefused lines number why → AreRead lines → ⊥ }
+{
+    law_a_line_is_one_fact();
 }
 
 /// Each fact of a stepped run has a line under the names of its stations, so that the laws of texts

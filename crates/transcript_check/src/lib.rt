@@ -3,6 +3,7 @@
 #![tactic(auto)]
 
 mod check;
+mod epochs;
 mod fault;
 mod judging;
 mod laws;
@@ -12,7 +13,8 @@ mod uses;
 mod verdict;
 
 pub use check::Check;
+pub use epochs::Epochs;
 pub use fault::{CheckError, CheckFault};
 pub use judging::{Unjudged, judge};
-pub use laws::{law_clean, law_every_fact_has_a_line};
+pub use laws::{law_clean, law_every_fact_has_a_line, law_one_line_is_refused};
 pub use verdict::Verdict;

@@ -6,12 +6,11 @@ ghost use Rattle.std.specs.Prelude.{ℕ, cond, min, ◌≡◌, ◌+◌, ◌<◌,
 ghost use Rattle.aes_block.specs.declared.secret.Secret.{Secret};
 ghost use Rattle.lan_base.specs.declared.address.Mi.{Mi};
 ghost use Rattle.lan_core.specs.declared.fact.Fact.{Fact};
-ghost use Rattle.std.specs.Map.{remove_entry};
-ghost use Rattle.std.specs.BTreeMap.{insert_entry, is_at};
-ghost use Rattle.transcript_check.specs.Standing.{Maps, pair_cmp, sak_at, first_of, line_by, StandsFor, IsVerdict};
-ghost use Rattle.transcript_check.specs.inside.Steps.{EpochIsPut, KeyIsPut, UseIsPut, IsNamed, IsUsed, Installs, Claims, Takes, IsNoted};
+ghost use Rattle.transcript_check.specs.Standing.{Maps, sak_at, first_of, line_by, StandsFor, IsVerdict};
+ghost use Rattle.transcript_check.specs.inside.Steps.{KeyIsPut, UseIsPut, IsNamed, IsUsed, Installs, Claims, Takes, IsNoted};
 
-use crate::fault::{CheckError, CheckFault};
+use crate::epochs::Epochs;
+use crate::fault::CheckError;
 use crate::named::Named;
 use crate::uses::{Uses, put_at};
 use crate::verdict::Verdict;
@@ -32,7 +31,7 @@ pub struct Notes {
     missed: u64,
     once: Option<(u64, u64)>,
     one_key: Option<(u64, u64)>,
-    epochs: BTreeMap<(u8, u32), Secret>,
+    epochs: Epochs,
     keys: BTreeMap<(Mi, u32), (u64, Named)>,
     narrow: BTreeMap<(u8, [u8; 16]), Uses>,
     wide: BTreeMap<(u8, [u8; 32]), Uses>,
@@ -48,7 +47,7 @@ impl Model for Notes {
       missed = c.missed;
       once = c.once;
       one_key = c.one_key;
-      epochs = c.epochs.entries;
+      epochs = c.epochs;
       keys = c.keys.entries;
       narrow = c.narrow.entries;
       wide = c.wide.entries;
@@ -66,7 +65,7 @@ impl Notes {
             missed: 0,
             once: None,
             one_key: None,
-            epochs: BTreeMap::new(alloc),
+            epochs: Epochs::new(alloc),
             keys: BTreeMap::new(alloc),
             narrow: BTreeMap::new(alloc),
             wide: BTreeMap::new(alloc),
@@ -105,13 +104,6 @@ impl Notes {
         }
     }
 
-    /// The SAK of a station's epoch.
-    fn sak_at(&self, station: u8, epoch: u32) -> Option<Secret>
-        ensures { result ≡ sak_at self.now station epoch }
-    {
-        self.epochs.get(&(station, epoch)).copied()
-    }
-
     /// The first install of an identifier.
     fn first_of(&self, id: KeyId) -> Option<(u64, Named)>
         ensures { result ≡ first_of self.now id }
@@ -127,18 +119,6 @@ impl Notes {
             Secret::S128(octets) => self.narrow.get(&(station, *octets))?.line_by(pn),
             Secret::S256(octets) => self.wide.get(&(station, *octets))?.line_by(pn),
         }
-    }
-
-    /// The SAK of a station's epoch is kept.
-    fn put_epoch(&mut self, station: u8, epoch: u32, sak: Secret) -> Result<(), AllocError>
-        ensures put { OnOk result (EpochIsPut station epoch sak self.old self.new) }
-        ensures entries { OnOk result (self.new ≡ record self.old {
-          epochs = insert_entry pair_cmp self.old.epochs (station, epoch) sak;
-        }) }
-        ensures kept { OnErr result (self.new ≡ self.old) }
-    {
-        self.epochs.insert((station, epoch), sak)?;
-        Ok(())
     }
 
     /// The first install of an identifier is kept.
@@ -218,39 +198,23 @@ impl Notes {
     ) -> Result<(), CheckError>
         ensures { Installs number station epoch id named self.old self.new (sak_at self.old station epoch) result }
     {
-        if self.sak_at(station, epoch).is_some() {
-            return Err(CheckFault::Doubled.into());
-        }
-        self.put_epoch(station, epoch, named.sak)?;
+        self.epochs.install(station, epoch, named.sak)?;
         match self.name(number, id, named) {
             Ok(()) => Ok(()),
             Err(_) => {
-                self.drop_epoch(station, epoch);
+                self.epochs.forget(station, epoch);
                 Err(CheckError::Memory)
             }
         }
-    }
-
-    /// The SAK of a station's epoch is kept no more.
-    fn drop_epoch(&mut self, station: u8, epoch: u32)
-        ensures { self.new ≡ record self.old {
-          epochs = remove_entry (is_at (pair_cmp (station, epoch))) self.old.epochs;
-        } }
-    {
-        self.epochs.remove(&(station, epoch));
     }
 
     /// A claim is taken.
     fn claim(&mut self, number: u64, station: u8, epoch: u32, pn: u32) -> Result<(), CheckError>
         ensures { Claims number station pn self.old self.new (sak_at self.old station epoch) result }
     {
-        match self.sak_at(station, epoch) {
-            None => Err(CheckFault::Orphan.into()),
-            Some(sak) => {
-                self.make_use(number, station, pn, &sak)?;
-                Ok(())
-            }
-        }
+        let sak = self.epochs.sak(station, epoch)?;
+        self.make_use(number, station, pn, &sak)?;
+        Ok(())
     }
 
     /// So many frames more were missed, as far as they can be counted.

@@ -1,2 +1,4 @@
 mod Reached
+mod Taking
+mod Alike
 pub mod Public

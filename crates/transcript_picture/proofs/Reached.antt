@@ -1,6 +1,6 @@
 -- Lines are taken one after another.
-use Rattle.std.proofs.Common.{◌≡◌, ◌∙◌, ◌+◌, ◌≤◌, ℕ, Bool, true, false, List, [], ◌∷◌, ◌++◌, length, Option, Some, None, Result, Ok, Err, refl, sym, ap, subst, arith}
-use Rattle.std.specs.Prelude.{IfErr, IfOk, nat_le, if◌then◌else◌, take}
+use Rattle.std.proofs.Common.{◌≡◌, ◌∙◌, ◌+◌, ◌≤◌, ℕ, Bool, List, [], ◌∷◌, ◌++◌, length, Option, Some, None, Result, Ok, Err, refl, sym, ap, subst, arith}
+use Rattle.std.specs.Prelude.{IfErr, IfOk, if◌then◌else◌, take}
 use Rattle.std.proofs.Math.Nat.{min-eq_left}
 use Rattle.std.proofs.lemmas.Bool.{le-leb}
 use Rattle.std.proofs.lemmas.List.{length-append, append-nil}
@@ -12,13 +12,16 @@ use Rattle.text_lines.specs.declared.reading.End.TheVariants as reading
 use Rattle.text_lines.specs.Moments.{Moment}
 use Rattle.text_lines.specs.Texts.{whole_lines, lines_of}
 use Rattle.text_lines.specs.Reading.{Sourced, Takes, Reads as ReadsText, Runs, lines_within}
-use Rattle.transcript.specs.declared.fault.FactError.{FactError}
-use Rattle.transcript.specs.declared.fault.FactError.TheVariants.{Unread, Memory}
+use Rattle.transcript_check.specs.declared.fault.CheckFault.{CheckFault}
+use Rattle.transcript_check.specs.declared.fault.CheckError.{CheckError}
+use Rattle.transcript_check.specs.declared.fault.CheckError.TheVariants.{Refused, Memory}
+use Rattle.transcript_check.specs.Standing.{AreTaken, IsDenied}
+use Rattle.transcript_check.specs.Transcripts.{most_octets, AreRead, IsRefused, IsTakenFrom}
 use Rattle.transcript_picture.specs.declared.drawing.Undrawn.{Undrawn}
 use Rattle.transcript_picture.specs.declared.drawing.Undrawn.TheVariants as ends
-use Rattle.transcript_picture.specs.Lines.{AreTaken, IsSketchOf, IsTaken, IsUnread, Kept}
-use Rattle.transcript_picture.specs.Transcripts.{most_octets, AreRead, IsRefused, IsFrontRead, EndsBy, IsTakenFrom, EndsDrawing}
-use Rattle.transcript_picture.specs.inside.Sketching.{Broke, Stopped, Took, Comes, Sketches, number_after, why_undrawn}
+use Rattle.transcript_picture.specs.Lines.{IsSketchOf, IsTaken, Kept}
+use Rattle.transcript_picture.specs.Transcripts.{EndsBy, EndsDrawing}
+use Rattle.transcript_picture.specs.inside.Sketching.{Stopped, Sketches, number_after, why_undrawn}
 use Rattle.transcript_picture.specs.inside.SketchedLines.{nothing}
 
 -- ---- one line
@@ -29,30 +32,30 @@ taken-length names facts [] last all t =
     let same : length facts ≡ length all = ap (λ (fs : List Fact). length fs) t.1 in
     omega (arith, same)
 taken-length names facts (x ∷ xs) last all t =
-    let rest = taken-length t.0 (facts ++ t.1 ∷ []) xs last all t.3 in
+    let rest = taken-length t.0 (facts ++ t.1 ∷ []) xs last all t.4 in
     let one = length-append facts (t.1 ∷ []) in
     omega (arith, rest, one)
 
-pub sketched-line : (line : List ℕ) (old new : Kept) (r : Result (Unit {0}) FactError)
+pub sketched-line : (line : List ℕ) (old new : Kept) (r : Result (Unit {0}) CheckError)
     → ((names : List Name) (facts : List Fact) → IsSketchOf names facts old
     → IfOk r (λ _. IsTaken names facts line new))
-    → ((names : List Name) (facts : List Fact) → IsSketchOf names facts old
-    → r ≡ Err Unread → IsUnread names line)
-    → (r ≡ Err Unread → new ≡ old) → Sketches (line ∷ []) old new r
+    → ((names : List Name) (facts : List Fact) → IsSketchOf names facts old → (why : CheckFault)
+    → r ≡ Err (Refused why) → IsDenied names facts line why)
+    → ((why : CheckFault) → r ≡ Err (Refused why) → new ≡ old) → Sketches (line ∷ []) old new r
 sketched-line line old new (Ok tt) taken refused kept names facts is =
     let t = taken names facts is in record {
       after = t.after;
       told = facts ++ t.fact ∷ [];
-      taken = (t.after, t.fact, t.reads, (refl, refl));
+      taken = (t.after, t.fact, t.reads, t.free, (refl, refl));
       stands = t.stands;
     }
-sketched-line line old new (Err Unread) taken refused kept names facts is = record {
+sketched-line line old new (Err (Refused why)) taken refused kept names facts is = record {
   earlier = [];
   line = line;
   later = [];
   parts = refl;
-  took = nothing names facts new (subst (λ (s : Kept). IsSketchOf names facts s) (sym (kept refl)) is);
-  denied = refused names facts is refl;
+  took = nothing names facts new (subst (λ (s : Kept). IsSketchOf names facts s) (sym (kept why refl)) is);
+  denied = refused names facts is why refl;
 }
 sketched-line line old new (Err Memory) taken refused kept names facts is = record {
   front = [];
@@ -93,13 +96,13 @@ counted : (count few : ℕ) → count + 1 ≤ few → few ≤ most_octets + 1 �
 counted count few less most = min-eq_left (omega (arith, less, most))
 
 -- a text within the limit has all of its lines within it
-all-within : (text : List ℕ) → length text ≤ most_octets → lines_within most_octets text ≡ lines_of text
+pub all-within : (text : List ℕ) → length text ≤ most_octets → lines_within most_octets text ≡ lines_of text
 all-within text few =
     ap (λ (b : Bool). if b then lines_of text else whole_lines (take most_octets text))
     (le-leb (length text) most_octets few)
 
 module _ {P K : Type 0} (of : Moment P K → Kept) where
-  abbrev Did : List (List ℕ) → Moment P K → Moment P K → Result (Unit {0}) FactError → Type 0
+  abbrev Did : List (List ℕ) → Moment P K → Moment P K → Result (Unit {0}) CheckError → Type 0
   Did lines old new result = Sketches lines (of old) (of new) result
 
   module _ (left now : Sourced) (old new : Moment P K) (fresh : IsSketchOf [] [] (of old)) where
@@ -107,7 +110,7 @@ module _ {P K : Type 0} (of : Moment P K → Kept) where
     read lines at d =
         let t = d [] [] fresh in record { names = t.after; facts = t.told; taken = t.taken }
 
-    taken-from : (r : Result (Unit {0}) (End FactError)) → Takes Did most_octets left now old new r
+    taken-from : (r : Result (Unit {0}) (End CheckError)) → Takes Did most_octets left now old new r
         → IsTakenFrom left now
     taken-from r t = record {
       earlier = t.earlier;
@@ -150,10 +153,10 @@ module _ {P K : Type 0} (of : Moment P K → Kept) where
 
     module _ (text : List ℕ)
         (few : length (lines_within most_octets text) ≤ most_octets + 1) where
-      refused : (count : ℕ) → count ≡ (of new).count
-          → Stopped [] [] (lines_within most_octets text) (of new)
-          → IsRefused (lines_within most_octets text) (number_after count)
-      refused count is s =
+      refused : (count : ℕ) (why : CheckFault) → count ≡ (of new).count
+          → Stopped [] [] (lines_within most_octets text) (of new) why
+          → IsRefused (lines_within most_octets text) (number_after count) why
+      refused count why is s =
           let many = taken-length [] [] s.earlier s.took.after s.took.told s.took.taken in
           let stands = s.took.stands.counted in
           let parts : length (s.earlier ++ s.line ∷ s.later) ≡ length (lines_within most_octets text) =
@@ -172,10 +175,10 @@ module _ {P K : Type 0} (of : Moment P K → Kept) where
             denied = s.denied;
           }
 
-      by-end : (X : Type 0) (end : End FactError) (count : ℕ) → count ≡ (of new).count
+      by-end : (X : Type 0) (end : End CheckError) (count : ℕ) → count ≡ (of new).count
           → Runs Did most_octets text left now old new (Err end)
           → EndsBy {X = X} text left now (Err (why_undrawn end count))
-      by-end X (reading.Refused Unread) count is runs = refused count is (runs [] [] fresh)
+      by-end X (reading.Refused (Refused why)) count is runs = refused count why is (runs [] [] fresh)
       by-end X (reading.Refused Memory) count is runs =
           let b = runs [] [] fresh in record {
             front = b.front;
@@ -194,7 +197,7 @@ module _ {P K : Type 0} (of : Moment P K → Kept) where
           (runs.0, (t.0, t.1, t.2, read (whole_lines t.0) new t.3))
       by-end X reading.Limit count is runs = (runs.0, read _ new runs.1)
 
-      pub drawn-err : {X : Type 0} (end : End FactError) (count : ℕ) → count ≡ (of new).count
+      pub drawn-err : {X : Type 0} (end : End CheckError) (count : ℕ) → count ≡ (of new).count
           → ReadsText Did most_octets left now old new (Err end)
           → left.left ≡ Some text → EndsDrawing {X = X} text left now (Err (why_undrawn end count))
       drawn-err {X} end count is reads told = record {

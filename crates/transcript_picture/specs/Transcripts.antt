@@ -1,65 +1,29 @@
--- How a transcript is read from a source and drawn (this profile's own rule).
-use Rattle.std.specs.Prelude.{ℕ, ◌≡◌, ◌<◌, ◌≤◌, ◌+◌, List, [], ◌∷◌, ◌++◌, length, take, Some, Result, Ok, Err}
+-- How a transcript is read from a source and drawn (this profile's own rule). A line is refused as where
+-- a transcript is judged.
+use Rattle.std.specs.Prelude.{ℕ, ◌≡◌, ◌<◌, ◌≤◌, List, [], length, take, Some, Result, Ok, Err}
 use Rattle.lan_base.specs.Faults.{Rose}
 use Rattle.lan_base.specs.Told.{before}
-use Rattle.lan_base.specs.declared.name.Name.{Name}
 use Rattle.text_lines.specs.Texts.{whole_lines, lines_of}
-use Rattle.text_lines.specs.Reading.{Sourced, lines_within, most_at_once}
-use Rattle.lan_core.specs.declared.fact.Fact.{Fact}
+use Rattle.text_lines.specs.Reading.{Sourced, lines_within}
+use Rattle.transcript_check.specs.Transcripts.{most_octets, AreRead, IsRefused, IsFrontRead, IsTakenFrom}
 use Rattle.transcript_picture.specs.declared.drawing.Undrawn.{Undrawn}
 use Rattle.transcript_picture.specs.declared.drawing.Undrawn.TheVariants as ends
-use Rattle.transcript_picture.specs.Lines.{AreTaken, IsUnread}
 
--- a transcript has at most so many octets
-abbrev pub most_octets : ℕ
-most_octets = 268435456
-
--- these lines are taken, from the first one on
-pub record AreRead (lines : List (List ℕ)) : Type 0 where
-  pub names : List Name
-  pub facts : List Fact
-  pub taken : AreTaken [] [] lines names facts
-
--- the lines before this number are taken, and the line of this number is that of no fact
-pub record IsRefused (lines : List (List ℕ)) (number : ℕ) : Type 0 where
-  pub earlier : List (List ℕ)
-  pub line : List ℕ
-  pub later : List (List ℕ)
-  pub parts : earlier ++ line ∷ later ≡ lines
-  pub number_is : number ≡ length earlier + 1
-  pub read : AreRead earlier
-  pub denied : IsUnread read.names line
-
--- some of the lines, from the first one on, are taken
-pub record IsFrontRead (lines : List (List ℕ)) : Type 0 where
-  pub front : List (List ℕ)
-  pub later : List (List ℕ)
-  pub parts : front ++ later ≡ lines
-  pub read : AreRead front
-
--- By the answer. All lines were taken, and they were drawn; or this is the first that is refused; or a
--- front of them was taken, and no memory was left. At a fault of the source, and where an octet past
--- the limit was taken, those lines were taken that end in what was taken, or within the limit.
+-- By the answer. All lines were taken, and they were drawn; or this is the first that is refused, and
+-- why; or a front of them was taken, and no memory was left. At a fault of the source, and where an
+-- octet past the limit was taken, those lines were taken that end in what was taken, or within the
+-- limit.
 abbrev pub EndsBy : {X : Type 0} → List ℕ → Sourced → Sourced → Result X Undrawn → Type 0
 EndsBy text left now (Ok picture) =
     (length text ≤ most_octets) × (now.left ≡ Some []) × AreRead (lines_of text)
-EndsBy text left now (Err (ends.Refused number)) = IsRefused (lines_within most_octets text) number
+EndsBy text left now (Err (ends.Refused number why)) =
+    IsRefused (lines_within most_octets text) number why
 EndsBy text left now (Err ends.Memory) = IsFrontRead (lines_within most_octets text)
 EndsBy text left now (Err ends.ReadFault) =
     Rose left.faults now.faults × ((octets : List ℕ) × (left.left ≡ before octets now.left)
     × (length octets ≤ most_octets) × AreRead (whole_lines octets))
 EndsBy text left now (Err ends.Limit) =
     (most_octets < length text) × AreRead (whole_lines (take most_octets text))
-
--- Octets were taken: earlier ones, within the limit, and then a piece that was asked for at once. All
--- lines that end in the earlier ones were taken before that.
-pub record IsTakenFrom (left now : Sourced) : Type 0 where
-  pub earlier : List ℕ
-  pub piece : List ℕ
-  pub moved : left.left ≡ before (earlier ++ piece) now.left
-  pub within : length earlier ≤ most_octets
-  pub at_once : length piece ≤ most_at_once
-  pub read : AreRead (whole_lines earlier)
 
 -- a transcript of this text was read and drawn, and it ended so
 pub record EndsDrawing {X : Type 0} (text : List ℕ) (left now : Sourced) (result : Result X Undrawn)

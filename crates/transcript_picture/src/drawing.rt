@@ -11,7 +11,7 @@ use crate::sketch::Sketch;
 use lan_base::Source;
 use std::alloc::Global;
 use text_lines::{End, law_lines_are_few, read_lines};
-use transcript::FactError;
+use transcript_check::{CheckError, CheckFault};
 
 /// The greatest count of octets of a transcript.
 const MAX_TRANSCRIPT: usize = 268_435_456;
@@ -19,8 +19,8 @@ const MAX_TRANSCRIPT: usize = 268_435_456;
 /// Why a transcript was not drawn.
 #[derive(Clone, Copy, Debug, PartialEq, Eq)]
 pub enum Undrawn {
-    /// The line with this number, from 1, is that of no fact.
-    Refused { line: u32 },
+    /// The line with this number, from 1, is refused.
+    Refused { line: u32, why: CheckFault },
     /// Memory ran out.
     Memory,
     /// The source failed.
@@ -61,14 +61,15 @@ fn finished(sketch: &Sketch) -> Result<Vec<u8>, Undrawn>
 }
 
 /// Why a transcript was not drawn, of which so many lines were taken.
-fn why_undrawn(end: End<FactError>, count: u64) -> Undrawn
+fn why_undrawn(end: End<CheckError>, count: u64) -> Undrawn
     ensures { result ≡ why_undrawn end count }
 {
     match end {
-        End::Refused(FactError::Unread) => Undrawn::Refused {
+        End::Refused(CheckError::Refused(why)) => Undrawn::Refused {
             line: number_after(count),
+            why,
         },
-        End::Refused(FactError::Memory) | End::Memory => Undrawn::Memory,
+        End::Refused(CheckError::Memory) | End::Memory => Undrawn::Memory,
         End::ReadFault => Undrawn::ReadFault,
         End::Limit => Undrawn::Limit,
     }

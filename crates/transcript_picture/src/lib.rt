@@ -3,6 +3,8 @@
 #![tactic(auto)]
 
 mod drawing;
+mod laws;
 mod sketch;
 
 pub use drawing::{Undrawn, draw};
+pub use laws::law_drawing_refuses_as_judging_does;

@@ -3,21 +3,25 @@
 ghost use Rattle.std.specs.Prelude.{◌≡◌, [], List, Err, IfOk};
 ghost use Rattle.lan_base.specs.declared.name.Name.{Name};
 ghost use Rattle.lan_core.specs.declared.fact.Fact.{Fact};
-ghost use Rattle.transcript.specs.declared.fault.FactError.TheVariants.{Unread};
-ghost use Rattle.transcript_picture.specs.Lines.{IsSketchOf, IsTaken, IsUnread};
+ghost use Rattle.transcript_check.specs.declared.fault.CheckError.TheVariants.{Refused};
+ghost use Rattle.transcript_check.specs.declared.fault.CheckFault.{CheckFault};
+ghost use Rattle.transcript_check.specs.Standing.{IsDenied};
+ghost use Rattle.transcript_picture.specs.Lines.{IsSketchOf, IsTaken};
 
 use span_picture::{Scene, picture};
 use std::alloc::{AllocError, Global};
 use std::marker::Model;
 use text_lines::LineTaker;
-use transcript::{FactError, Reader};
+use transcript::Reader;
+use transcript_check::{CheckError, Epochs};
 
-/// What is kept of the lines so far. Contracts see the names of the stations, the spans, and how many
-/// lines there were.
+/// What is kept of the lines so far. Contracts see the names of the stations, the SAKs that they
+/// installed, the spans, and how many lines there were.
 #[derive(Drop)]
 pub struct Sketch {
     alloc: Global,
     reader: Reader,
+    epochs: Epochs,
     scene: Scene,
     count: u64,
 }
@@ -27,7 +31,7 @@ impl Model for Sketch {
 
     ghost Value = { Kept };
 
-    ghost view = { λ s. record { names = s.reader; spans = s.scene; count = s.count } };
+    ghost view = { λ s. record { names = s.reader; saks = s.epochs; spans = s.scene; count = s.count } };
 }
 
 impl Sketch {
@@ -38,6 +42,7 @@ impl Sketch {
         Ok(Sketch {
             alloc,
             reader: Reader::new(alloc)?,
+            epochs: Epochs::new(alloc),
             scene: Scene::new(alloc),
             count: 0,
         })
@@ -56,17 +61,18 @@ impl Sketch {
     }
 
     /// The next line, without its line feed. A line that is refused leaves the value as it was.
-    fn take(&mut self, line: &[u8]) -> Result<(), FactError>
+    fn take(&mut self, line: &[u8]) -> Result<(), CheckError>
         ensures taken { (names : List Name) (facts : List Fact) → IsSketchOf names facts self.old
             → IfOk result (λ _. IsTaken names facts line.now self.new) }
         ensures refused { (names : List Name) (facts : List Fact) → IsSketchOf names facts self.old
-            → result ≡ Err Unread → IsUnread names line.now }
-        ensures kept { result ≡ Err Unread → self.new ≡ self.old }
+            → (why : CheckFault) → result ≡ Err (Refused why) → IsDenied names facts line.now why }
+        ensures kept { (why : CheckFault) → result ≡ Err (Refused why) → self.new ≡ self.old }
     {
         if self.count == u64::MAX {
-            return Err(FactError::Memory);
+            return Err(CheckError::Memory);
         }
         let fact = self.reader.line(self.alloc, line)?;
+        self.epochs.take(&fact)?;
         self.scene.take(&fact)?;
         self.count += 1;
         Ok(())
@@ -77,11 +83,13 @@ impl LineTaker<()> for Sketch {
     ghost use Rattle.transcript_picture.specs.inside.Sketching.{Sketches};
     ghost use Rattle.transcript_picture.specs.inside.SketchedLines.{sketches-none, sketches-more, sketches-early};
 
-    type Error = FactError;
+    type Error = CheckError;
+
+    ghost Asks = { Unit {0} };
 
     ghost Did = { λ lines old new result. Sketches lines old.taker new.taker result };
 
-    fn line(&mut self, text: &[u8], _outlet: &mut ()) -> Result<(), FactError> {
+    fn line(&mut self, text: &[u8], _outlet: &mut ()) -> Result<(), CheckError> {
         self.take(text)
     }
 

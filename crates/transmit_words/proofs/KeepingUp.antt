@@ -62,6 +62,24 @@ above-more : (epoch : ℕ) (xs ys : List Addition) → above_claims epoch ys ≤
 above-more epoch [] ys = omega arith
 above-more epoch (x ∷ xs) ys = let z = above-more epoch xs ys in omega arith
 
+-- control was told of a seat, and learned of it
+pub told-more : (l : Account) (c : ControlView) (v : SeatView) → KeepUp l c → Learned (told c v) → KeepUp l (told c v)
+told-more l c v t learned = record {
+  learned = learned;
+  first = t.first;
+  points = t.points;
+  slots = t.slots;
+  open_now = t.open_now;
+  least = λ is. more (t.least is);
+  later = t.later;
+  cards = t.cards;
+  shows = t.shows;
+  seen = t.seen;
+}
+  where
+    more : (1 ≤ l.nexts (current c).epoch) × (l.nexts (current c).epoch ≤ least_under c (current c)) → (1 ≤ l.nexts (current c).epoch) × (l.nexts (current c).epoch ≤ least_under (told c v) (current c))
+    more low = let z = above-more (current c).epoch v.additions c.told in let high = low.1 in (low.0, omega arith)
+
 -- a number that is above each claim of an epoch
 above-by : (epoch n : ℕ) (xs : List Addition) → ((a : Addition) → In a xs → a.claimed ≡ true → a.met ≡ epoch → a.pn < n) → above_claims epoch xs ≤ n
 above-by epoch n [] all = omega arith
@@ -273,21 +291,7 @@ module _ (c : ControlView) (p : Current) (cards : ℕ) (k : IsKept c p cards) (l
   }
 
   pub up-told : (v : SeatView) → Learned (told c v) → KeepUp l (told c v)
-  up-told v learned = record {
-    learned = learned;
-    first = t.first;
-    points = t.points;
-    slots = t.slots;
-    open_now = t.open_now;
-    least = λ is. more (t.least is);
-    later = t.later;
-    cards = t.cards;
-    shows = t.shows;
-    seen = t.seen;
-  }
-    where
-      more : (1 ≤ l.nexts (current c).epoch) × (l.nexts (current c).epoch ≤ least_under c (current c)) → (1 ≤ l.nexts (current c).epoch) × (l.nexts (current c).epoch ≤ least_under (told c v) (current c))
-      more low = let z = above-more (current c).epoch v.additions c.told in let high = low.1 in (low.0, omega arith)
+  up-told v learned = told-more l c v t learned
 
   -- a seat went out and came back
   pub up-back : (v : SeatView) → Learned (told (seated c) v) → KeepUp l (told (seated c) v)

@@ -4,8 +4,10 @@ pub mod Telling
 pub mod Counts
 pub mod Catching
 pub mod Showing
+pub mod Carding
 pub mod Stations
 pub mod Onward
 pub mod Thrifty
 pub mod Beside
+pub mod Public
 pub mod Examples

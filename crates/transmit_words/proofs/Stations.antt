@@ -10,6 +10,7 @@ use Rattle.std.specs.Prelude.{◌==◌, slice_get, is_some, option_map, option_a
 use Rattle.atomic_table.specs.Seated.{TableId}
 use Rattle.lan_base.specs.declared.association_number.AssociationNumber.{AssociationNumber}
 use Rattle.association_slots.specs.Views.{ControlAt, SeatAt, AllIn, current, newest, present_at, free_number, told_sum}
+use Rattle.association_slots.specs.Learned.{Learned}
 use Rattle.association_slots.specs.Steps.{new_seat, seated, told}
 use Rattle.transmit_words.specs.Seats.{WasSeated, HasJoined, AreAllIn, HasGot}
 use Rattle.transmit_words.proofs.Keeping.{and-false}
@@ -34,9 +35,11 @@ use Rattle.group_safety.specs.Accounts.{Account, next_now, looked, showing, gain
 use Rattle.group_safety.proofs.Public.{contains-in, in-contains, in-left, in-right, follow-append}
 use Rattle.association_slots.specs.declared.view.ControlView.{ControlView}
 use Rattle.transmit_words.specs.Telling.{KeepUp, Tells, IsClaimed, HasGained, of_seats, word_of}
+use Rattle.transmit_words.specs.Ties.{HaveKeptUp, HaveLooked, KeepAhead, KeepCards}
 use Rattle.transmit_words.specs.Ties.{tables_of, IsTiedBy, AreTiedBy, IsTied, AreTied, IsAheadBy, AreAheadBy}
-use Rattle.transmit_words.specs.Ties.{AreAhead, AreHeld, FollowsBy, Follows, Followed}
-use Rattle.transmit_words.specs.inside.Cards.{HasCard, card_of_key, card_held}
+use Rattle.transmit_words.specs.Ties.{AreAhead, AreHeld, FollowsBy, Follows, Followed, CardsFollow}
+use Rattle.transmit_words.specs.inside.Cards.{GivesCard, HasCard, card_of_key, card_held}
+use Rattle.transmit_words.proofs.Carding.{cards-none, cards-other, cards-own, cards-then}
 use Rattle.sak_exchange.specs.declared.held_key.HeldKey.{HeldKey}
 use Rattle.lan_core.specs.Keys.{held_at}
 
@@ -77,15 +80,59 @@ tables-length cs tables here = ap length (sym here) ∙ length-map cs
     length-map [] = refl
     length-map (c ∷ cs) = ap suc (length-map cs)
 
+none-more : {A : Type 0} (xs : List A) → length xs ≡ length (xs ++ [])
+none-more [] = refl
+none-more (x ∷ xs) = ap suc (none-more xs)
+
+-- a look at the words of one station
+pub looked-set : (cs : List ControlAt) (p : ℕ) (c d : ControlAt) → slice_get cs p ≡ Some c → d.view.points ≡ c.view.points → of_seats d.view ≡ of_seats c.view → d.view.card_words ≡ c.view.card_words
+    → ((settings : Settings) (r : Run) → HaveKeptUp settings r cs → (s : ℕ) × (n : ℕ) × KeepAhead settings r (events.Tick s n) (set cs p d)) → HaveLooked cs (set cs p d)
+looked-set cs p c d at points seats cards shown = record {
+  many = length-set cs p d;
+  each = λ t v there. ⊎_elim
+      (λ (both : (t ≡ p) × (d ≡ v)). (
+        c,
+        subst (λ (n : ℕ). slice_get cs n ≡ Some c) (sym both.0) at,
+        ap (λ (w : ControlAt). w.view.points) (sym both.1) ∙ points,
+        ap (λ (w : ControlAt). of_seats w.view) (sym both.1) ∙ seats,
+        ap (λ (w : ControlAt). w.view.card_words) (sym both.1) ∙ cards,
+      ))
+      (λ (other : (t ≢ p) × (slice_get cs t ≡ Some v)). (v, other.1, refl, refl, refl))
+      (get-set cs p d t v there);
+  shown = shown;
+}
+
+-- where no station is, no number is shown
+none-shown : (settings : Settings) (r : Run) (cs : List ControlAt) → HaveKeptUp settings r cs → KeepAhead settings r (events.Tick (length cs) 0) cs
+none-shown settings r cs up = record {
+  many = up.many ∙ none-more (stations r);
+  each = λ s c at. let a = up.each s c at in
+      let apart : length cs ≢ s = λ same. (let less = slice_get_within cs s c at in omega (arith, less, same)) in
+      (a.0, a.1, subst (λ (b : Bool). KeepUp (cond b (showing 0 (account_at settings s r a.0)) (account_at settings s r a.0)) c.view) (sym (ne_eqb (length cs) s apart)) a.2);
+}
+
+-- the cards stay where the words of one station keep theirs
+pub cards-set : (cs : List ControlAt) (p : ℕ) (c d : ControlAt) → slice_get cs p ≡ Some c
+    → d.view.card_words ≡ c.view.card_words → KeepCards cs (set cs p d)
+cards-set cs p c d at cards = set-each
+    (λ t v. (u : ControlAt) × (slice_get cs t ≡ Some u) × (v.view.card_words ≡ u.view.card_words)) cs p d
+    (λ t v ne there. (v, there, refl)) (c, at, cards)
+
+pub cards-kept : (cs : List ControlAt) → KeepCards cs cs
+cards-kept cs t v there = (v, there, refl)
+
+pub looked-none : (cs : List ControlAt) → HaveLooked cs cs
+looked-none cs = record {
+  many = refl;
+  each = λ s d at. (d, at, refl, refl, refl);
+  shown = λ settings r up. (length cs, 0, none-shown settings r cs up);
+}
+
 abbrev pub number_of : Result Claim NoClaim → ℕ
 number_of (Ok x) = x.pn
 number_of (Err e) = 0
 
 -- ---- a step of one station
-
-none-more : {A : Type 0} (xs : List A) → length xs ≡ length (xs ++ [])
-none-more [] = refl
-none-more (x ∷ xs) = ap suc (none-more xs)
 
 module _ (settings : Settings) (r : Run) (cs : List ControlAt) (s : ℕ) (c d : ControlAt) (tied : AreTied settings r cs) (at : slice_get cs s ≡ Some c)
     (told : (k : Carried) → CarriesAt settings s r k → next_now (account_at settings s r k) ≡ next_under settings s r (transmitting_at settings s r)) where
@@ -239,8 +286,13 @@ pub was-full : (cs : List ControlAt) (s : ℕ) (c d : ControlAt) (r : Option Sea
     → IfNone r ((8 < free_number c.view) × (d ≡ c)) → IfNone r (set cs s d ≡ cs)
 was-full cs s c d r at is = none-map r _ (set cs s d ≡ cs) (λ both. ap (set cs s) both.1 ∙ set-back cs s c at) is
 
-pub has-joined : (cs : List ControlAt) (s : ℕ) (c d : ControlAt) (seat : SeatAt) → slice_get cs s ≡ Some c → d ≡ record c { view = told c.view seat.view } → HasJoined s seat cs (set cs s d)
-has-joined cs s c d seat at is = record { control = c; there = at; new_is = ap (set cs s) is }
+pub has-joined : (cs : List ControlAt) (s : ℕ) (c d : ControlAt) (seat : SeatAt) → slice_get cs s ≡ Some c → d ≡ record c { view = told c.view seat.view } → Learned d.view → HasJoined s seat cs (set cs s d)
+has-joined cs s c d seat at is learned = record {
+  control = c;
+  there = at;
+  new_is = ap (set cs s) is;
+  learned = subst (λ (v : ControlAt). Learned v.view) is learned;
+}
 
 -- ---- facts
 
@@ -317,19 +369,40 @@ own-by Says f t c d card here has by_own l k says is = by_own l k says (sym (the
 pub followed-one : (settings : Settings) (r : Run) (cs : List ControlAt) (f : Fact) (s : ℕ) (c d : ControlAt) (card : Option Card) → s ≡ place f → slice_get cs s ≡ Some c
     → (AreHeld settings r (f ∷ []) → HasCard f card)
     → Moved Tells f card c d → Moved KeepUp f card c d → of_seats d.view ≡ of_seats c.view
+    → card ≡ card_held settings r f
+    → ((a : Account) (k : Carried) → KeepUp a c.view → moved f a.carried ≡ Some k → HasCard f card
+    → GivesCard f card a.carried.installs c.view d.view)
     → Followed settings r (f ∷ []) cs (set cs s d)
-followed-one settings r cs f s c d card here at carded tells keeps seats = λ held. record {
+followed-one settings r cs f s c d card here at carded tells keeps seats is gives = λ held. record {
   many = length-set cs s d;
   each = set-each (λ t v. (w : ControlAt) × (slice_get cs t ≡ Some w) × Follows t (f ∷ []) w v) cs s d
       (λ t v ne there. (v, there, stays f t v (λ e. ne (e ∙ sym here))))
       (c, at, record { tells = own-by Tells f s c d card here (carded held) tells; keeps_up = own-by KeepUp f s c d card here (carded held) keeps; seats = seats });
+  cards = λ t u v was there. set-each (λ t v. (u : ControlAt) → slice_get cs t ≡ Some u → CardsFollow settings r t (f ∷ []) u v) cs s d
+      (λ t v ne now u old. let same : Some v ≡ Some u = sym now ∙ old in let one : v ≡ u = cc same in
+      subst (λ (w : ControlAt). CardsFollow settings r t (f ∷ []) w v) one (cards-other settings r t f v (λ e. ne (e ∙ sym here))))
+      (λ u old. let same : Some c ≡ Some u = sym at ∙ old in let one : c ≡ u = cc same in
+      subst (λ (w : ControlAt). CardsFollow settings r s (f ∷ []) w d) one
+      (cards-own settings r s f c d card (λ k j. λ e. sym (moves-own f s k here) ∙ e) is (carded held) gives))
+      t v there u was;
 }
 
 pub followed-none : (settings : Settings) (r : Run) (cs : List ControlAt) (f : Fact) → length cs ≤ place f → Followed settings r (f ∷ []) cs cs
-followed-none settings r cs f past = λ held. record { many = refl; each = λ t v there. (v, there, stays f t v (λ e. let less = slice_get_within cs t v there in absurd (omega (arith, e, past, less)))) }
+followed-none settings r cs f past = λ held. record {
+  many = refl;
+  each = λ t v there. (v, there, stays f t v (λ e. let less = slice_get_within cs t v there in absurd (omega (arith, e, past, less))));
+  cards = λ t u v was there. let same : Some v ≡ Some u = sym there ∙ was in let one : v ≡ u = cc same in let less = slice_get_within cs t v there in
+      subst (λ (w : ControlAt). CardsFollow settings r t (f ∷ []) w v) one
+      (cards-other settings r t f v (λ e. absurd (omega (arith, e, past, less))));
+}
 
 pub followed-first : (settings : Settings) (r : Run) (cs : List ControlAt) → Followed settings r [] cs cs
-followed-first settings r cs = λ held. record { many = refl; each = λ t v there. (v, there, record { tells = nothing-by Tells t v; keeps_up = nothing-by KeepUp t v; seats = refl }) }
+followed-first settings r cs = λ held. record {
+  many = refl;
+  each = λ t v there. (v, there, record { tells = nothing-by Tells t v; keeps_up = nothing-by KeepUp t v; seats = refl });
+  cards = λ t u v was there. let same : Some v ≡ Some u = sym there ∙ was in let one : v ≡ u = cc same in
+      subst (λ (w : ControlAt). CardsFollow settings r t [] w v) one (cards-none settings r t v);
+}
   where
     nothing-by : (Says : Account → ControlView → Type 0) (t : ℕ) (v : ControlAt) → FollowsBy Says t [] v v
     nothing-by Says t v l k says is = let same : l.carried ≡ k = cc is in subst (λ (j : Carried). Says (record l { carried = j }) v.view) same says
@@ -359,6 +432,11 @@ followed-then settings r fs f a b c first later = λ held.
           seats = y.2.seats ∙ x.2.seats;
         },
       );
+      cards = λ t u v was there. let y = two.each t v there in let x = one.each t y.0 y.1 in
+          let same : Some x.0 ≡ Some u = sym x.1 ∙ was in let equal : x.0 ≡ u = cc same in
+          subst (λ (w : ControlAt). CardsFollow settings r t (fs ++ f ∷ []) w v) equal
+          (cards-then settings r t fs f x.0 y.0 v x.2.keeps_up
+          (one.cards t x.0 y.0 x.1 y.1) (two.cards t y.0 v y.1 there));
     }
 
 pub followed-next : (settings : Settings) (r : Run) (fs : List Fact) (i : ℕ) (f : Fact) (a b c : List ControlAt) → i < length fs → f ≡ get_or fs i f → Followed settings r (take i fs) a b → Followed settings r (f ∷ []) b c → Followed settings r (take (i + 1) fs) a c

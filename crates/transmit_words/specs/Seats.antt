@@ -1,6 +1,7 @@
 -- How the words of all stations change as a seat goes out, and as one comes back; and what a claim
 -- got afterwards.
 use Rattle.std.specs.Prelude.{◌≡◌, ◌≤◌, ◌<◌, ◌⊎◌, ℕ, List, slice_get, slice_set, Some}
+use Rattle.association_slots.specs.Learned.{Learned}
 use Rattle.association_slots.specs.Steps.{new_seat, seated, told}
 use Rattle.association_slots.specs.Views.{ControlAt, SeatAt, AllIn, current, told_sum}
 use Rattle.lan_core.specs.declared.settings.Settings.{Settings}
@@ -16,11 +17,12 @@ pub record WasSeated (s : ℕ) (old new : List ControlAt) (seat : SeatAt) : Type
   pub seat_is : seat ≡ record { table = control.table; view = new_seat control.view }
   pub new_is : new ≡ slice_set old s (record control { view = seated control.view })
 
--- it came back
+-- it came back, and control learned of it
 pub record HasJoined (s : ℕ) (seat : SeatAt) (old new : List ControlAt) : Type 0 where
   pub control : ControlAt
   pub there : slice_get old s ≡ Some control
   pub new_is : new ≡ slice_set old s (record control { view = told control.view seat.view })
+  pub learned : Learned (told control.view seat.view)
 
 -- no seat of any station is out
 abbrev pub AreAllIn : List ControlAt → Type 0

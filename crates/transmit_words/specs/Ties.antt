@@ -1,11 +1,14 @@
 -- How the words of all stations tell a run, before an event, on its way and after it.
-use Rattle.std.specs.Prelude.{◌≡◌, ℕ, ◌++◌, true, List, map, length, slice_get, Contains, Some, is_some}
+use Rattle.std.specs.Prelude.{◌≡◌, ◌+◌, ◌≤◌, ◌<◌, ℕ, ◌++◌, true, List, map, length, slice_get, Contains, Some, is_some}
 use Rattle.atomic_table.specs.Seated.{TableId}
 use Rattle.lan_base.specs.declared.key_id.KeyId.{KeyId}
 use Rattle.lan_base.specs.declared.association_number.AssociationNumber.{AssociationNumber}
 use Rattle.aes_block.specs.declared.secret.Secret.{Secret}
+use Rattle.association_slots.specs.Cards.{card_at}
 use Rattle.association_slots.specs.Views.{ControlAt, count, claimed}
+use Rattle.sak_exchange.specs.declared.held_key.HeldKey.{HeldKey}
 use Rattle.lan_core.specs.declared.event.Event.{Event}
+use Rattle.lan_core.specs.declared.event.Event.TheVariants as events
 use Rattle.lan_core.specs.declared.fact.Fact.{Fact}
 use Rattle.lan_core.specs.declared.fact.Fact.TheVariants as facts
 use Rattle.lan_core.specs.declared.settings.Settings.{Settings}
@@ -100,12 +103,48 @@ pub record Follows (s : ℕ) (shown : List Fact) (c d : ControlAt) : Type 0 wher
   pub keeps_up : FollowsBy KeepUp s shown c d
   pub seats : of_seats d.view ≡ of_seats c.view
 
+-- No word was told anything, no seat came or went, and the cards are the same. Where the words kept up
+-- with a run, they do so where some tick showed a number.
+pub record HaveLooked (old new : List ControlAt) : Type 0 where
+  pub many : length new ≡ length old
+  pub each : (s : ℕ) (d : ControlAt) → slice_get new s ≡ Some d → (c : ControlAt)
+      × (slice_get old s ≡ Some c) × (d.view.points ≡ c.view.points)
+      × (of_seats d.view ≡ of_seats c.view) × (d.view.card_words ≡ c.view.card_words)
+  pub shown : (settings : Settings) (r : Run) → HaveKeptUp settings r old → (s : ℕ) × (n : ℕ)
+      × KeepAhead settings r (events.Tick s n) new
+
+-- each station has the cards that it had
+abbrev pub KeepCards : List ControlAt → List ControlAt → Type 0
+KeepCards old new = (s : ℕ) (d : ControlAt) → slice_get new s ≡ Some d → (c : ControlAt)
+    × (slice_get old s ≡ Some c) × (d.view.card_words ≡ c.view.card_words)
+
+-- What the words of a station did of cards, where so many keys were installed before and after: the
+-- cards before stay, and where one more was installed, its card is that of the key which is held after
+-- a run under the association number of the install that the facts show.
+pub record HasCarded (settings : Settings) (r : Run) (s : ℕ) (shown : List Fact) (count many : ℕ)
+    (old new : ControlView) : Type 0 where
+  pub earlier : (epoch : ℕ) → 0 < epoch → epoch ≤ count → card_at new epoch ≡ card_at old epoch
+  pub given : many ≡ count + 1 → (id : KeyId) (an : AssociationNumber) (epoch : ℕ) (sak : Secret)
+      (held : HeldKey) → Contains shown (facts.Installed s id an epoch sak)
+      → held_at settings s r an ≡ Some held
+      → card_at new (count + 1) ≡ record { sak = held.key.sak; conf = held.key.conf }
+
+-- where the words of a station kept up with an account, they did so of its cards
+abbrev pub CardsFollow : Settings → Run → ℕ → List Fact → ControlAt → ControlAt → Type 0
+CardsFollow settings r s shown c d = (a : Account) (k : Carried) → KeepUp a c.view
+    → follow s shown a.carried ≡ Some k
+    → HasCarded settings r s shown a.carried.installs k.installs c.view d.view
+
 -- the words of each station followed facts
-pub record HaveFollowed (shown : List Fact) (old new : List ControlAt) : Type 0 where
+pub record HaveFollowed (settings : Settings) (r : Run) (shown : List Fact) (old new : List ControlAt)
+    : Type 0 where
   pub many : length new ≡ length old
   pub each : (s : ℕ) (d : ControlAt) → slice_get new s ≡ Some d
       → (c : ControlAt) × (slice_get old s ≡ Some c) × Follows s shown c d
+  pub cards : (s : ℕ) (c d : ControlAt) → slice_get old s ≡ Some c → slice_get new s ≡ Some d
+      → CardsFollow settings r s shown c d
 
 -- the same, where each key that the facts install is held after a run
 abbrev pub Followed : Settings → Run → List Fact → List ControlAt → List ControlAt → Type 0
-Followed settings r shown old new = AreHeld settings r shown → HaveFollowed shown old new
+Followed settings r shown old new =
+    AreHeld settings r shown → HaveFollowed settings r shown old new

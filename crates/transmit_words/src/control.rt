@@ -2,6 +2,7 @@
 
 ghost use Rattle.std.specs.Prelude.{◌≡◌, ◌+◌, ◌≤◌, ◌<◌, ℕ, Some, IfOk, IfSome, IfNone};
 ghost use Rattle.association_slots.specs.Cards.{card_at};
+ghost use Rattle.association_slots.specs.Learned.{Learned};
 ghost use Rattle.association_slots.specs.Steps.{new_seat, seated, told};
 ghost use Rattle.association_slots.specs.Views.{AllIn, free_number};
 ghost use Rattle.group_safety.specs.Transmitting.{Carried, installed, begun, ended, may_begin, names};
@@ -165,6 +166,7 @@ impl TransmitControl {
             → KeepUp (showing result a) self.new.view }
         ensures catches_up { (a : Account) → CatchUp a self.old.view
             → (result ≤ next_now a + 16) × CatchUp (showing result a) self.new.view }
+        ensures points { self.new.view.points ≡ self.old.view.points }
         ensures seats { of_seats self.new.view ≡ of_seats self.old.view }
         ensures cards { self.new.view.card_words ≡ self.old.view.card_words }
     {
@@ -221,6 +223,7 @@ impl TransmitControl {
         requires here { (self.old.table ≡ table.now) × (seat.table ≡ table.now) }
         ensures same { self.new.table ≡ self.old.table }
         ensures told { self.new ≡ record self.old { view = told self.old.view seat.view } }
+        ensures learned { Learned self.new.view }
         ensures keeps_up { (a : Account) → KeepUp a self.old.view → KeepUp a self.new.view }
     {
         tell(table, seat, &mut self.control);

@@ -15,6 +15,7 @@ ghost use Rattle.group_safety.specs.Accounts.{blank};
 ghost use Rattle.transmit_words.specs.Telling.{Tells};
 ghost use Rattle.transmit_words.specs.Ties.{tables_of, AreTied, AreAhead, HaveKeptUp};
 ghost use Rattle.transmit_words.specs.Ties.{KeepAhead, HaveCaughtUp, CaughtAhead, Followed};
+ghost use Rattle.transmit_words.specs.Ties.{HaveLooked, KeepCards};
 ghost use Rattle.transmit_words.specs.Seats.{WasSeated, HasJoined, AreAllIn, HasGot};
 
 use crate::control::TransmitControl;
@@ -77,6 +78,8 @@ impl Controls {
     pub fn next(&mut self, tables: &[SlotTable], station: u8) -> u64
         requires here { tables_of self.old ≡ tables.now }
         ensures same { tables_of self.new ≡ tables_of self.old }
+        // no word is told anything
+        ensures looked { HaveLooked self.old self.new }
         ensures next { (settings : Settings) (r : Run) → AreTied settings r self.old
             → station < length (stations r)
             → result ≡ next_under settings station r (transmitting_at settings station r) }
@@ -128,6 +131,7 @@ impl Controls {
             → HasGot settings station r self.old result
             × CaughtAhead settings r (events.Claim station user result) self.new }
         ensures all_in { AreAllIn self.old → AreAllIn self.new }
+        ensures cards { KeepCards self.old self.new }
     {
         let place = usize::from(station);
         if place < self.controls.len() {

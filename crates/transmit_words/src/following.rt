@@ -8,7 +8,7 @@ ghost use Rattle.lan_core.specs.Standing.{StandsFor};
 ghost use Rattle.group_safety.specs.Transmitting.{Carried, moved};
 ghost use Rattle.group_safety.specs.Accounts.{Account};
 ghost use Rattle.transmit_words.specs.Telling.{KeepUp, Tells, CatchUp, of_seats};
-ghost use Rattle.transmit_words.specs.inside.Cards.{HasCard, card_held};
+ghost use Rattle.transmit_words.specs.inside.Cards.{GivesCard, HasCard, card_held};
 
 use crate::control::TransmitControl;
 use association_slots::{Card, SlotTable};
@@ -35,6 +35,9 @@ pub(crate) fn moved<G: Gate>(
         → moved fact.now a.carried ≡ Some k → HasCard fact.now card
         → CatchUp (record a { carried = k }) control.new.view }
     ensures seats { of_seats control.new.view ≡ of_seats control.old.view }
+    ensures cards { (a : Account) (k : Carried) → KeepUp a control.old.view
+        → moved fact.now a.carried ≡ Some k → HasCard fact.now card
+        → GivesCard fact.now card a.carried.installs control.old.view control.new.view }
 {
     match fact {
         Fact::Installed { .. } => {

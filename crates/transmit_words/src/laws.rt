@@ -13,7 +13,8 @@ ghost use Rattle.association_slots.specs.declared.view.View.{View};
 ghost use Rattle.lan_core.specs.declared.event.Event.{Event};
 ghost use Rattle.lan_core.specs.declared.event.Event.TheVariants as events;
 ghost use Rattle.lan_core.specs.declared.settings.Settings.{Settings};
-ghost use Rattle.lan_core.specs.Run.{Run, Happening};
+ghost use Rattle.lan_core.specs.Run.{Run, Happening, stations};
+ghost use Rattle.lan_core.specs.Claims.{next};
 ghost use Rattle.lan_core.specs.Ledgers.{claims};
 ghost use Rattle.lan_core.specs.Legal.{IsStep, IsStepped, unused};
 ghost use Rattle.lan_core.specs.Expected.{last_number};
@@ -175,6 +176,18 @@ pub fn law_words_keep_a_run_thrifty()
 {
     law_few_numbers_are_lost();
     law_a_place_without_a_station_is_blank();
+}
+
+/// The same, where some tick showed a number that the run hasn't, before all seats came back, and no
+/// number was told of a place without a station.
+pub fn law_looked_words_keep_a_run_thrifty()
+    ensures { (settings : Settings) (q r : Run) (cs : List ControlAt) (t n : ℕ)
+        → KeepAhead settings q (events.Tick t n) cs → AreAllIn cs → HaveClaimsBeside settings q r
+        → AreToldAll r cs
+        → ((s epoch : ℕ) → length (stations r) ≤ s → next settings s epoch r ≡ 1)
+        → (s epoch : ℕ) → unused settings s epoch r ≤ 16 }
+{
+    law_few_numbers_are_lost();
 }
 
 /// Where few numbers were claimed, the words have packet numbers left, and no seat found an epoch

@@ -1,5 +1,5 @@
 -- The words have caught up with the run that has a part woven of control and of the logs.
-use Rattle.std.proofs.Common.{◌≡◌, ◌<◌, ◌+◌, ℕ, List, length, refl, sym, ap, subst, arith}
+use Rattle.std.proofs.Common.{◌≡◌, ◌<◌, ◌≤◌, ◌+◌, ℕ, List, length, refl, sym, ap, subst, arith}
 use Rattle.std.proofs.lemmas.Option.{slice_get_within}
 use Rattle.association_slots.specs.Views.{claimed, count}
 use Rattle.lan_core.specs.Run.{Run, Happening, stations}
@@ -13,7 +13,7 @@ use Rattle.worker_races.specs.Beside.{Race, WereBeside, attempts_in, logs_in}
 use Rattle.worker_races.specs.Performed.{happenings, run_after}
 use Rattle.worker_races.specs.Reading.{view_in}
 use Rattle.worker_races.proofs.Claims.{Beside, beside-itself, beside-part, times-woven}
-use Rattle.worker_races.proofs.Races.{before-at, between-at, hands, same-stations, stepped, times-all, up-after}
+use Rattle.worker_races.proofs.Races.{before-at, between-at, hands, many-after, same-stations, stepped, times-all}
 
 module _ (race : Race) (is : WereBeside race) (part : List Happening)
     (woven : IsWoven race.base part (happenings race.performed) (attempts_in race))
@@ -36,6 +36,10 @@ module _ (race : Race) (is : WereBeside race) (part : List Happening)
       (beside-part race.settings race.users s part race.run race.run whole (alike-itself race.settings race.run)
       (beside-itself race.settings race.users s race.run (stepped race is)))
 
+  -- no station starts in the part
+  pub places-after : (s : ℕ) → length (stations w) ≤ s → length (stations race.run) ≤ s
+  places-after s past = let all = ap length alike.places in let before = ap length (same-stations race is) in omega (arith, past, all, before)
+
   pub claims-beside : HaveClaimsBeside race.settings on w
   claims-beside = record {
     many = ap length alike.places;
@@ -48,8 +52,7 @@ module _ (race : Race) (is : WereBeside race) (part : List Happening)
   pub told-all : AreToldAll w race.after
   told-all s c at epoch pn =
       let there : s < length (stations race.run) =
-      (let less = slice_get_within race.after s c at in let many = (up-after race is).many in
-      let same = ap length (same-stations race is) in omega (arith, less, many, same)) in
+      (let less = slice_get_within race.after s c at in let many = many-after race is in omega (arith, less, many)) in
       let counts = (between-at race is s there).counts (claimed epoch pn) in
       let view = ap (λ v. count (claimed epoch pn) v.told) (ap view_in at) in
       let all = times-all race is (race.base + 1) s epoch pn race.ended (hands race is) in

@@ -19,6 +19,7 @@ use Rattle.lan_core.specs.declared.event.Event.TheVariants as events
 use Rattle.lan_core.specs.declared.settings.Settings.{Settings}
 use Rattle.group_safety.proofs.Public.{settings, r11, r12}
 use Rattle.transmit_words.specs.Ties.{HaveCaughtUp}
+use Rattle.transmit_words.proofs.Public.{looked-none}
 use Rattle.worker_races.specs.Beside.{Race, WereBeside}
 use Rattle.worker_races.specs.Going.{WereSeated, words_by}
 use Rattle.worker_races.specs.Performed.{run_after}
@@ -100,6 +101,7 @@ nobody s users r cs = record {
   before = cs;
   shared = cs;
   moved = cs;
+  looked = cs;
   after = cs;
 }
 
@@ -121,8 +123,8 @@ of-nobody s users r cs setting within legal caught few_users few_claims = record
     many = caught.many;
     each = λ t c at. (let tie = caught.each t c at in (tie.0, tie.1, tie.2.keep_up));
   };
+  looked = looked-none cs;
   joined = refl;
-  all_in = λ t c at. (caught.each t c at).2.all_in;
   users_few = few_users;
   claims_few = omega (arith, few_claims);
 }

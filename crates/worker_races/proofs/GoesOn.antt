@@ -39,8 +39,8 @@ use Rattle.sak_exchange.proofs.Public.{by_test}
 use Rattle.race_merge.specs.declared.step.Step.{Step}
 use Rattle.race_merge.specs.Table.{Controls, an_in, an_of, current_of, flipped, words_of}
 use Rattle.transmit_words.specs.Telling.{word_of}
-use Rattle.transmit_words.specs.Ties.{AreHeld, Followed, KeepAhead}
-use Rattle.worker_races.specs.Going.{HaveGone, WereLooked, WereTold, words_by}
+use Rattle.transmit_words.specs.Ties.{AreHeld, Followed, HaveLooked, KeepAhead}
+use Rattle.worker_races.specs.Going.{HaveGone, WereTold, words_by}
 use Rattle.worker_races.specs.Performed.{ArePerformed, IsPerformed, run_after}
 
 -- ---- one event more
@@ -175,7 +175,7 @@ module _ (settings : Settings) (users : List UserFrame) (r : Run) (t : ℕ) (x :
         ∙ sym points))
   ]
 
-  pub event-tells : (cs ds es : List ControlAt) → WereLooked cs ds → KeepAhead settings r x.event ds
+  pub event-tells : (cs ds es : List ControlAt) → HaveLooked cs ds → KeepAhead settings r x.event ds
       → Followed settings (x ∷ r) x.facts ds es → WereTold settings r t x cs es
   event-tells cs ds es looked ahead followed =
       let have = followed are-held in
@@ -191,12 +191,12 @@ module _ (settings : Settings) (users : List UserFrame) (r : Run) (t : ℕ) (x :
             let follows : follow s x.facts (onward s x.event (account_at settings s r tie.0)).carried ≡ Some j.0 =
             ap (follow s x.facts) (onward-carried s t x.event (account_at settings s r tie.0) own) ∙ j.1 in
             let up = mid.2.keeps_up (onward s x.event (account_at settings s r tie.0)) j.0 tie.2 follows in
-            let same : mid.0.view.points ≡ look.0.view.points = look.2.points in (
+            let same : mid.0.view.points ≡ look.0.view.points = look.2 in (
               look.0,
               look.1,
               record {
                 points = up.points ∙ said s tie.0 j.0 look.0.view tie.1 j.1 (sym same ∙ before);
-                seats = mid.2.seats ∙ look.2.seats;
+                seats = mid.2.seats ∙ look.3;
               },
             );
       }

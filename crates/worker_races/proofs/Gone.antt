@@ -22,7 +22,7 @@ use Rattle.race_merge.specs.Places.{last_of}
 use Rattle.race_merge.specs.Raced.{epoch_at, epoch_of}
 use Rattle.race_merge.specs.Table.{Controls, IsTold, an_of, flipped, move_at, words_in, words_of}
 use Rattle.race_merge.specs.Table as table
-use Rattle.race_merge.proofs.Public.{event-told, goes, own-of, positive}
+use Rattle.race_merge.proofs.Public.{event-told, goes, own-of}
 use Rattle.race_merge.proofs.Public as races
 use Rattle.transmit_words.specs.Telling.{of_seats}
 use Rattle.worker_races.specs.Going.{HaveGone, WasTold, WereTold, words_by}

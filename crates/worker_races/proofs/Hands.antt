@@ -28,10 +28,10 @@ AreHands users r before after number (d ∷ ds) =
 
 -- ---- workers that began, and are done
 
-first-done : (w d : WorkerAt) (ws ds : List WorkerAt) → AreDone (w ∷ ws) (d ∷ ds) → IsDone w d
+pub first-done : (w d : WorkerAt) (ws ds : List WorkerAt) → AreDone (w ∷ ws) (d ∷ ds) → IsDone w d
 first-done w d ws ds done = done.each 0 w (omega arith)
 
-others-done : (w d : WorkerAt) (ws ds : List WorkerAt) → AreDone (w ∷ ws) (d ∷ ds) → AreDone ws ds
+pub others-done : (w d : WorkerAt) (ws ds : List WorkerAt) → AreDone (w ∷ ws) (d ∷ ds) → AreDone ws ds
 others-done w d ws ds done = record {
   count = (let all = done.count in omega (arith, all));
   each = λ i x less. done.each (suc i) x (omega (arith, less));

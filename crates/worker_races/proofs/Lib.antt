@@ -4,9 +4,16 @@ pub mod Spent
 pub mod Pointing
 pub mod Words
 pub mod Gone
+pub mod BackIn
 pub mod Races
 pub mod Claims
 pub mod CaughtUp
+pub mod NoNumber
 pub mod Sealed
 pub mod GoesOn
+pub mod KeysNew
+pub mod CardsOn
+pub mod Carded
+pub mod CardsBehind
+pub mod Public
 mod Examples

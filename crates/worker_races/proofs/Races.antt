@@ -1,11 +1,11 @@
 -- What control performed beside workers, and their logs, are a race.
-use Rattle.std.proofs.Common.{◌≡◌, ◌<◌, ◌≤◌, ◌+◌, ◌-◌, ◌^◌, ◌==◌, ◌&&◌, ℕ, zero, suc, Bool, true, not, cond, List, [], ◌∷◌, ◌++◌, length, map}
-use Rattle.std.proofs.Common.{Some, None, refl, sym, ap, ◌∙◌, subst, arith, inl, inr}
+use Rattle.std.proofs.Common.{false, ◌≡◌, ◌<◌, ◌≤◌, ◌+◌, ◌-◌, ◌^◌, ◌==◌, ◌&&◌, ℕ, zero, suc, Bool, true, not, cond, List, [], ◌∷◌, ◌++◌, length, map}
+use Rattle.std.proofs.Common.{Some, None, refl, sym, ap, ◌∙◌, subst, arith, inl, inr, append-nil}
 use Rattle.std.proofs.lemmas.Bool.{cases_Bool, cases_lt, eqb-true, eqb-false, ne_eqb}
 use Rattle.std.proofs.lemmas.List.Elements.{recursion_from_All}
 use Rattle.std.proofs.lemmas.Option.{slice_get_within}
 use Rattle.std.specs.List.{AllByRecursion}
-use Rattle.std.specs.Prelude.{slice_get, max, option_and_then}
+use Rattle.std.specs.Prelude.{slice_get, max, option_and_then, slice_index_or}
 use Rattle.lan_base.specs.declared.association_number.AssociationNumber.{AssociationNumber}
 use Rattle.lan_base.specs.declared.frame.UserFrame.{UserFrame}
 use Rattle.sak_exchange.specs.Held.{transmitting}
@@ -26,6 +26,8 @@ use Rattle.data_workers.specs.declared.sender.Sender.{Sender}
 use Rattle.data_workers.specs.Told.{IsToldEntry}
 use Rattle.data_workers.specs.Workers.{WorkerAt}
 use Rattle.data_workers.proofs.Public.{log_counts, told_log}
+use Rattle.lan_core.specs.declared.event.Event.{Event}
+use Rattle.lan_core.specs.declared.event.Event.TheVariants as events
 use Rattle.lan_core.specs.declared.settings.Settings.{Settings}
 use Rattle.lan_core.specs.Run.{Run, stations}
 use Rattle.lan_core.specs.Ledgers.{claims}
@@ -33,7 +35,7 @@ use Rattle.lan_core.specs.Lives.{keys_in, transmitting_at}
 use Rattle.lan_core.specs.Claims.{user_at}
 use Rattle.lan_core.specs.Legal.{IsStepped}
 use Rattle.lan_core.specs.Order.{Exists, IsSendable}
-use Rattle.group_safety.specs.Accounts.{account_at, numbers_at}
+use Rattle.group_safety.specs.Accounts.{account_at, numbers_at, onward}
 use Rattle.group_safety.specs.Transmitting.{Carried, CarriesAt}
 use Rattle.race_merge.specs.Given.{AreGiven, AreUnder, IsPast}
 use Rattle.race_merge.specs.Given.{ArePerformed as AreGivenFor}
@@ -45,14 +47,16 @@ use Rattle.race_merge.specs.Table.{words_in}
 use Rattle.race_merge.specs.Worked.{AreAns, BeganAfter, IsGivenNext, NoneExhausted, times_in, times_in_all}
 use Rattle.race_merge.proofs.Public.{all-given, all-told, are-attempts, are-fit, follows-all, log-in-order}
 use Rattle.race_merge.proofs.Public.{logs-differ, moves-given, none-there, positive, rising, times-other, times-own}
-use Rattle.transmit_words.specs.Telling.{CatchUp, KeepUp, OfSeats, least_under}
-use Rattle.transmit_words.specs.Ties.{HaveKeptUp}
+use Rattle.transmit_words.specs.Seats.{AreAllIn}
+use Rattle.transmit_words.specs.Telling.{CatchUp, KeepUp, OfSeats, least_under, of_seats}
+use Rattle.transmit_words.specs.Ties.{HaveKeptUp, KeepAhead}
 use Rattle.worker_races.specs.Beside.{Race, WereBeside, ans_in, attempts_in, logs_in, moves_in, pointed_in}
 use Rattle.worker_races.specs.Performed.{happenings, run_after}
 use Rattle.worker_races.specs.Reading.{view_in, view_at}
 use Rattle.worker_races.specs.Senders.{IsNew}
+use Rattle.worker_races.proofs.BackIn.{is_out, out-joined, out-seated, same-number}
 use Rattle.worker_races.proofs.Gone.{gone-at, some-at}
-use Rattle.worker_races.proofs.Seating.{Shares, added, all-came, all-took, grown-all, joined-all, kept-joined, seated-many, shares-all, told-counts, told_all}
+use Rattle.worker_races.proofs.Seating.{Shares, added, ahead-joined, all-came, all-took, grown-all, joined-all, kept-joined, seated-many, shares-all, told-counts, told_all}
 use Rattle.worker_races.proofs.Hands.{AreHands, Hand, are-hands, entries-are}
 use Rattle.worker_races.proofs.Pointing.{are-ans, epoch-low, epoch-none, epoch-shown, is-past, key-pointed}
 use Rattle.worker_races.proofs.Spent.{added-few, none-over, numbers-few, told-few, took}
@@ -114,32 +118,58 @@ module _ (race : Race) (is : WereBeside race) where
         up = subst (CatchUp (account_at settings s r tie.0)) (sym (ap view_in some.1)) tie.2;
       }
 
-  pub up-after : HaveKeptUp settings on race.after
-  up-after = kept-joined settings on ended race.moved race.after is.joined is.keep_up
+  pub up-after : race.looked ≡ race.moved → HaveKeptUp settings on race.after
+  up-after same = kept-joined settings on ended race.looked race.after is.joined (subst (HaveKeptUp settings on) (sym same) is.keep_up)
+
+  -- the tick with which the words were looked at last, if they were
+  pub shown-last : (s : ℕ) × (n : ℕ) × KeepAhead settings on (events.Tick s n) race.looked
+  shown-last = is.looked.shown settings on is.keep_up
+
+  abbrev last : Event
+  last = events.Tick shown-last.0 shown-last.1
+
+  pub ahead-after : KeepAhead settings on (events.Tick shown-last.0 shown-last.1) race.after
+  ahead-after = ahead-joined settings on on (events.Tick shown-last.0 shown-last.1) ended race.looked race.after is.joined shown-last.2
+
+  pub many-after : length race.after ≡ length (stations r)
+  many-after = ahead-after.many ∙ (ap length (append-nil (stations on)) ∙ ap length same-stations)
 
   -- and in the end
   pub record After (s : ℕ) : Type 0 where
     pub carried : Carried
     pub carries : CarriesAt settings s on carried
-    pub up : KeepUp (account_at settings s on carried) (new s)
-    pub all_in : AllIn (new s)
+    pub up : KeepUp (onward s last (account_at settings s on carried)) (new s)
 
   pub after-at : (s : ℕ) → s < length (stations r) → After s
   after-at s there =
-      let some = some-at race.after s (let many = up-after.many in let same = ap length same-stations in omega (arith, there, many, same)) in
-      let tie = up-after.each s some.0 some.1 in
+      let some = some-at race.after s (let many = many-after in omega (arith, there, many)) in
+      let tie = ahead-after.each s some.0 some.1 in
       let view = sym (ap view_in some.1) in
       record {
         carried = tie.0;
         carries = tie.1;
-        up = subst (KeepUp (account_at settings s on tie.0)) view tie.2;
-        all_in = subst AllIn view (is.all_in s some.0 some.1);
+        up = subst (KeepUp (onward s last (account_at settings s on tie.0))) view tie.2;
+      }
+
+  -- the last look told no word anything
+  record Looked (s : ℕ) : Type 0 where
+    pub points : (view_at race.looked s).points ≡ (view_at race.moved s).points
+    pub seats : of_seats (view_at race.looked s) ≡ of_seats (view_at race.moved s)
+
+  looked-at : (s : ℕ) → s < length (stations r) → Looked s
+  looked-at s there =
+      let some = some-at race.looked s (let many = is.looked.many in let up = is.keep_up.many in let same = ap length same-stations in omega (arith, there, many, up, same)) in
+      let look = is.looked.each s some.0 some.1 in
+      record {
+        points = ap (λ o. (view_in o).points) some.1 ∙ (look.2 ∙ sym (ap (λ o. (view_in o).points) look.1));
+        seats = ap (λ o. of_seats (view_in o)) some.1 ∙ (look.3 ∙ sym (ap (λ o. of_seats (view_in o)) look.1));
       }
 
   -- what the words were told, and what control was told of additions
   pub record Between (s : ℕ) : Type 0 where
     pub points : (new s).points ≡ words_in settings s (pointed_in race s) r race.performed ++ (old s).points
     pub counts : (p : Addition → Bool) → count p (new s).told ≡ added p s ended + count p (old s).told
+    pub all_in : AllIn (new s)
 
   pub between-at : (s : ℕ) → s < length (stations r) → Between s
   between-at s there =
@@ -151,15 +181,32 @@ module _ (race : Race) (is : WereBeside race) where
       (seated-many race.began race.before race.shared is.seated ∙ is.caught_up.many) stepped is.performed
       (subst (IsPast settings s r) (sym top) (is-past settings s r before.carried (old s) before.carries keep))
       (subst (λ n. epoch_at settings s r ≤ n) (sym top) (epoch-low settings s r before.carried (old s) before.carries keep)) is.gone in
-      let joined : new s ≡ told_all s ended (view_at race.moved s) = joined-all settings on ended race.moved race.after is.joined s in
-      let grown = grown-all s ended (view_at race.moved s) in
+      let look = looked-at s there in
+      let seats : of_seats (view_at race.looked s) ≡ of_seats (view_at race.shared s) = look.seats ∙ gone.seats in
+      let joined : new s ≡ told_all s ended (view_at race.looked s) = joined-all settings on ended race.looked race.after is.joined s in
+      let grown = grown-all s ended (view_at race.looked s) in
       record {
-        points = ap (λ (v : ControlView). v.points) joined ∙ (grown.points ∙ (gone.points
-            ∙ (λ i. words_in settings s (current (shares i)).epoch r race.performed ++ (shares i).points)));
-        counts = λ p. ap (λ (v : ControlView). count p v.told) joined ∙ (told-counts p s ended (view_at race.moved s)
+        points = ap (λ (v : ControlView). v.points) joined ∙ (grown.points ∙ (look.points ∙ (gone.points
+            ∙ (λ i. words_in settings s (current (shares i)).epoch r race.performed ++ (shares i).points))));
+        counts = λ p. ap (λ (v : ControlView). count p v.told) joined ∙ (told-counts p s ended (view_at race.looked s)
             ∙ ap (λ (xs : List Addition). added p s ended + count p xs)
-            (ap (λ (o : OfSeats). o.told) gone.seats ∙ ap (λ (v : ControlView). v.told) shares));
+            (ap (λ (o : OfSeats). o.told) seats ∙ ap (λ (v : ControlView). v.told) shares));
+        all_in = λ i. elim (cases_Bool (is_out (new s) i)) [
+          | inr back ↦ back
+          | inl out ↦ absurd (let back = out-joined s i ended (view_at race.looked s) (sym (ap (λ (v : ControlView). is_out v i) joined) ∙ out) in
+              let then = sym (ap (λ (o : OfSeats). slice_index_or o.out i false) seats) ∙ back.1 in
+              elim (out-seated s i race.began race.before race.shared is.seated then) [
+                | inl has ↦ back.0 (same-number s i race.began ended is.done (recursion_from_All IsNew race.began is.new) has)
+                | inr was ↦ cc (sym was ∙ before.up.all_in i)
+              ])
+        ];
       }
+
+  pub all-back : AreAllIn race.after
+  all-back s c at =
+      let there : s < length (stations r) =
+      (let less = slice_get_within race.after s c at in let many = many-after in omega (arith, less, many)) in
+      subst AllIn (ap view_in at) (between-at s there).all_in
 
   -- ---- the workers
 
@@ -167,7 +214,7 @@ module _ (race : Race) (is : WereBeside race) where
   hands = are-hands race.users r race.before race.after (race.base + 1) race.began ended is.done
       (recursion_from_All IsNew race.began is.new)
       (all-took race.before race.began race.before race.shared (λ t. refl) is.seated) is.senders
-      (all-came settings on ended race.moved race.after is.joined)
+      (all-came settings on ended race.looked race.after is.joined)
 
   pub hand-there : (number : ℕ) (d : WorkerAt) → Hand race.users r race.before race.after number d → Exists d.sender.station r
   hand-there number d hand = slice_get_within (stations r) d.sender.station hand.sender.profile hand.sender.placed
@@ -223,7 +270,7 @@ module _ (race : Race) (is : WereBeside race) where
         (λ q. let same = before.up.claims m.epoch q in omega (arith, same)) in
         let numbers = numbers-few s m.epoch (claims r) in
         let all = is.claims_few in
-        none-over (new s) m after.up.learned after.all_in after.up.first
+        none-over (new s) m after.up.learned (between-at s there).all_in after.up.first
         (lost_few (new s) after.up.learned m.an m.epoch)
         (omega (arith, counts, logs, jobs, few, numbers, all)) told
 

@@ -22,7 +22,7 @@ use Rattle.worker_races.proofs.Hands.{AreHands, Hand}
 use Rattle.worker_races.proofs.Races.{hands}
 
 -- a card is what its words say
-same-cards : (c d : ControlView) → d.card_words ≡ c.card_words → (epoch : ℕ) → card_at d epoch ≡ card_at c epoch
+pub same-cards : (c d : ControlView) → d.card_words ≡ c.card_words → (epoch : ℕ) → card_at d epoch ≡ card_at c epoch
 same-cards c d same epoch = ap (λ ws. card_at (record c { card_words = ws }) epoch) same
 
 module _ (race : Race) (is : WereBeside race) where

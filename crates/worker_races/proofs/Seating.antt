@@ -13,10 +13,14 @@ use Rattle.association_slots.specs.declared.view.Mark.{Mark}
 use Rattle.association_slots.specs.declared.view.SeatView.{SeatView}
 use Rattle.association_slots.proofs.Public.{in_right, weigh-append}
 use Rattle.data_workers.specs.Workers.{WorkerAt}
+use Rattle.lan_core.specs.declared.event.Event.{Event}
 use Rattle.lan_core.specs.declared.settings.Settings.{Settings}
 use Rattle.lan_core.specs.Run.{Run}
+use Rattle.group_safety.specs.Accounts.{account_at, onward}
 use Rattle.transmit_words.specs.Seats.{HasJoined, WasSeated}
-use Rattle.transmit_words.specs.Ties.{HaveKeptUp}
+use Rattle.transmit_words.specs.Telling.{KeepUp}
+use Rattle.transmit_words.specs.Ties.{HaveKeptUp, IsAheadBy, KeepAhead}
+use Rattle.transmit_words.proofs.Public.{told-more}
 use Rattle.worker_races.specs.Going.{HaveJoined, WereSeated}
 use Rattle.worker_races.specs.Reading.{view_in, view_at}
 
@@ -43,7 +47,7 @@ view-set cs s c d at t = elim (cases_Bool (s == t)) [
   | inr other ↦ rw other (ap view_in (get-other cs s t d (eqb-false s t other)))
 ]
 
-seated-view : (s : ℕ) (old new : List ControlAt) (seat : SeatAt) → WasSeated s old new seat → (t : ℕ)
+pub seated-view : (s : ℕ) (old new : List ControlAt) (seat : SeatAt) → WasSeated s old new seat → (t : ℕ)
     → view_at new t ≡ cond (s == t) (seated (view_at old t)) (view_at old t)
 seated-view s old new seat was t =
     ap (λ cs. view_at cs t) was.new_is
@@ -134,7 +138,44 @@ joined-all settings r (w ∷ ws) old new have t =
 pub kept-joined : (settings : Settings) (r : Run) (ws : List WorkerAt) (old new : List ControlAt)
     → HaveJoined settings r ws old new → HaveKeptUp settings r old → HaveKeptUp settings r new
 kept-joined settings r [] old new have up = subst (HaveKeptUp settings r) (sym have) up
-kept-joined settings r (w ∷ ws) old new have up = kept-joined settings r ws have.0 new have.3 have.2
+kept-joined settings r (w ∷ ws) old new have up = kept-joined settings r ws have.0 new have.3 (have.2 up)
+
+-- so do words with the step of an event
+ahead-one : (settings : Settings) (q : Run) (event : Event) (s : ℕ) (seat : SeatAt) (old new : List ControlAt)
+    → HasJoined s seat old new → KeepAhead settings q event old → KeepAhead settings q event new
+ahead-one settings q event s seat old new has ahead = record {
+  many = ap length has.new_is ∙ (length-set old s d ∙ ahead.many);
+  each = λ t v at.
+      let now : slice_get (slice_set old s d) t ≡ Some v = subst (λ cs. slice_get cs t ≡ Some v) has.new_is at in
+      elim (cases_Bool (s == t)) [
+        | inl same ↦ mine t v (eqb-true s t same) now
+        | inr other ↦ ahead.each t v (sym (get-other old s t d (eqb-false s t other)) ∙ now)
+      ];
+}
+  where
+    d : ControlAt
+    d = record has.control { view = told has.control.view seat.view }
+
+    there : slice_get (slice_set old s d) s ≡ Some d
+    there = get-set old s has.control d has.there
+
+    told-one : IsAheadBy KeepUp onward settings s q event d
+    told-one = let tie = ahead.each s has.control has.there in
+        (tie.0, tie.1, told-more (onward s event (account_at settings s q tie.0)) has.control.view seat.view tie.2 has.learned)
+
+    mine : (t : ℕ) (v : ControlAt) → s ≡ t → slice_get (slice_set old s d) t ≡ Some v → IsAheadBy KeepUp onward settings t q event v
+    mine t v same now =
+        let here : slice_get (slice_set old s d) s ≡ Some v = subst (λ n. slice_get (slice_set old s d) n ≡ Some v) (sym same) now in
+        let is : d ≡ v = cc (sym there ∙ here) in
+        subst (λ n. IsAheadBy KeepUp onward settings n q event v) same
+        (subst (λ x. IsAheadBy KeepUp onward settings s q event x) is told-one)
+
+pub ahead-joined : (settings : Settings) (r q : Run) (event : Event) (ws : List WorkerAt) (old new : List ControlAt)
+    → HaveJoined settings r ws old new → KeepAhead settings q event old → KeepAhead settings q event new
+ahead-joined settings r q event [] old new have ahead = subst (KeepAhead settings q event) (sym have) ahead
+ahead-joined settings r q event (w ∷ ws) old new have ahead =
+    ahead-joined settings r q event ws have.0 new have.3
+    (ahead-one settings q event w.sender.station w.seat old have.0 have.1 ahead)
 
 -- control was told more by seats
 pub record Grown (c d : ControlView) : Type 0 where
@@ -196,7 +237,7 @@ all-came settings r [] old new have = tt
 all-came settings r (w ∷ ws) old new have = (
   record {
     view = have.1.control.view;
-    learned = (have.2.each w.sender.station d at).2.learned;
+    learned = have.1.learned;
     grown = subst (λ v. Grown d.view v) (sym (joined-all settings r ws have.0 new have.3 w.sender.station ∙ ap (told_all w.sender.station ws) (ap view_in at)))
         (grown-all w.sender.station ws d.view);
   },

@@ -17,8 +17,7 @@ use Rattle.race_merge.specs.declared.step.Step.{Step}
 use Rattle.race_merge.specs.Places.{Attempt, Move}
 use Rattle.race_merge.specs.Steps.{logs_of}
 use Rattle.race_merge.specs.Table.{Controls, moves_at}
-use Rattle.transmit_words.specs.Seats.{AreAllIn}
-use Rattle.transmit_words.specs.Ties.{HaveCaughtUp, HaveKeptUp}
+use Rattle.transmit_words.specs.Ties.{HaveCaughtUp, HaveKeptUp, HaveLooked}
 use Rattle.worker_races.specs.Going.{HaveGone, HaveJoined, WereSeated}
 use Rattle.worker_races.specs.Performed.{ArePerformed, run_after}
 use Rattle.worker_races.specs.Reading.{an_pointed, card_given, last_pointed}
@@ -37,11 +36,12 @@ pub record Race : Type 0 where
   -- the workers as they began, and when they were done
   pub began : List WorkerAt
   pub ended : List WorkerAt
-  -- the words of the stations: before, with all seats out, after what control performed, and with
-  -- all seats back
+  -- the words of the stations: before, with all seats out, after what control performed, after the
+  -- last look at them, and with all seats back
   pub before : List ControlAt
   pub shared : List ControlAt
   pub moved : List ControlAt
+  pub looked : List ControlAt
   pub after : List ControlAt
 
 -- ---- what the merged list is made of
@@ -73,8 +73,8 @@ cards_in race s epoch = card_given race.after s epoch
 
 -- The run before is legal, and the words had caught up with it. Each worker took a seat, sends the
 -- next user frame, and is done. Control performed its events; the words were told what these say,
--- and kept up with them. The seats came back, and none is out. No epoch can have come near its last
--- packet number.
+-- and kept up with them; then they were looked at once more at most, by an event that was not performed.
+-- The seats came back. No epoch can have come near its last packet number.
 pub record WereBeside (race : Race) : Type 0 where
   -- before
   pub setting : IsSetting race.settings
@@ -90,10 +90,10 @@ pub record WereBeside (race : Race) : Type 0 where
   pub performed : ArePerformed race.settings race.users race.run race.performed race.steps
   pub gone : HaveGone race.settings race.run race.performed race.shared race.moved
   pub keep_up : HaveKeptUp race.settings (run_after race.performed race.run) race.moved
+  pub looked : HaveLooked race.moved race.looked
   -- after
-  pub joined : HaveJoined race.settings (run_after race.performed race.run) race.ended race.moved
+  pub joined : HaveJoined race.settings (run_after race.performed race.run) race.ended race.looked
       race.after
-  pub all_in : AreAllIn race.after
   -- users and claims are few
   pub users_few : length race.users + 1 < 2 ^ 32
   pub claims_few : length (claims race.run) + jobs_of race.began + 16 < 2 ^ 32

@@ -20,11 +20,13 @@ WereSeated [] old new = new ≡ old
 WereSeated (w ∷ ws) old new = (cs : List ControlAt) × WasSeated w.sender.station old cs w.seat
     × WereSeated ws cs new
 
--- The seats came back, in their order; control learned of each, and the words kept up with a run.
+-- The seats came back, in their order; control learned of each, and words that kept up with a run do so
+-- still.
 abbrev pub HaveJoined : Settings → Run → List WorkerAt → List ControlAt → List ControlAt → Type 0
 HaveJoined settings r [] old new = new ≡ old
 HaveJoined settings r (w ∷ ws) old new = (cs : List ControlAt)
-    × HasJoined w.sender.station w.seat old cs × HaveKeptUp settings r cs
+    × HasJoined w.sender.station w.seat old cs
+    × (HaveKeptUp settings r old → HaveKeptUp settings r cs)
     × HaveJoined settings r ws cs new
 
 -- what an event of a station says to the current word of one, newest first
@@ -44,12 +46,6 @@ pub record WereTold (settings : Settings) (r : Run) (t : ℕ) (x : Happening)
   pub many : length new ≡ length old
   pub each : (s : ℕ) (d : ControlAt) → slice_get new s ≡ Some d → (c : ControlAt)
       × (slice_get old s ≡ Some c) × WasTold (words_by settings r t x s c.view) c.view d.view
-
--- no word was told anything, and no seat came or went
-pub record WereLooked (old new : List ControlAt) : Type 0 where
-  pub many : length new ≡ length old
-  pub each : (s : ℕ) (d : ControlAt) → slice_get new s ≡ Some d → (c : ControlAt)
-      × (slice_get old s ≡ Some c) × WasTold [] c.view d.view
 
 -- each word was told what all events say that control performed, one after the other
 abbrev pub HaveGone : Settings → Run → Controls → List ControlAt → List ControlAt → Type 0

@@ -5,3 +5,4 @@ pub mod Going
 pub mod Performed
 pub mod Senders
 pub mod Beside
+pub mod Carded

@@ -1,6 +1,7 @@
 -- What a line performs outside a race, and what one does that belongs to a race.
 use Rattle.std.specs.Prelude.{◌≡◌, ◌⊎◌, ◌||◌, Bool, true, false, [], length, Option, Result, Ok, Err}
 use Rattle.trace_text.specs.declared.line.Line.{Line}
+use Rattle.trace_text.specs.declared.line.Line.TheVariants as lines
 use Rattle.lan_schedule.specs.declared.halt.Halt.{Halt}
 use Rattle.lan_schedule.specs.declared.halt.Halt.TheVariants.{Memory}
 use Rattle.lan_schedule.specs.declared.halt.Kind.{Kind}
@@ -8,15 +9,15 @@ use Rattle.lan_schedule.specs.declared.phase.Phase.{Phase as Stood}
 use Rattle.lan_schedule.specs.Races.{Phase, Apart, Bursting, Controlling, Racing}
 use Rattle.lan_schedule.specs.World.{World, names_of, scis_of}
 use Rattle.lan_schedule.specs.Acts.{Act, Goes, Stops, look, perform}
-use Rattle.lan_schedule.specs.Kinds.{first_of, is_performed, is_allowed, is_control, wrong_word}
+use Rattle.lan_schedule.specs.Kinds.{first_of, is_allowed, is_control, wrong_word}
 use Rattle.lan_schedule.specs.Lines.{deed, act_of, behind_race, behind_while, unless_refused}
-use Rattle.lan_schedule.specs.Standing.{phase_of}
+use Rattle.lan_schedule.specs.Standing.{phase_of, AreFit}
 use Rattle.lan_schedule.specs.inside.Choosing.{is_race}
 
 -- why a line is refused outside a race
 abbrev pub refusal_apart : Line → World → Option Kind
 refusal_apart line w =
-    first_of (is_performed line) (is_allowed line w.kept.begun w.kept.chosen)
+    first_of (is_allowed line w.kept.begun w.kept.chosen)
     (wrong_word line (names_of w.run) (scis_of w.run) (length w.kept.frames))
 
 -- what it performs there
@@ -34,7 +35,17 @@ is_inside _ = true
 abbrev pub is_taken : Phase → Line → Bool
 is_taken phase line = is_inside phase || is_race line
 
--- where the lines stand behind such a line
+-- whether lines of control come
+abbrev pub is_controlling : Phase → Bool
+is_controlling (Controlling bursts control) = true
+is_controlling _ = false
+
+-- whether a line is the end of a race, which is run then
+abbrev pub is_end : Phase → Line → Bool
+is_end (Controlling bursts control) lines.End = true
+is_end _ line = false
+
+-- where the lines stand behind a line that belongs to a race and doesn't end it
 abbrev pub behind : Line → World → Phase → Phase
 behind line w Apart = Bursting []
 behind line w (Bursting bursts) = behind_race line w bursts
@@ -48,6 +59,7 @@ MayBeKept _ line = Unit {0}
 
 -- such a line is kept, or refused; or there is no memory
 abbrev pub Takes : Line → World → Stood → Result (Unit {0}) Halt → Type 0
-Takes line w now (Ok done) = perform (act_of line) w
-    ≡ Goes (record w { kept = record w.kept { phase = phase_of now } })
+Takes line w now (Ok done) = (perform (act_of line) w
+    ≡ Goes (record w { kept = record w.kept { phase = phase_of now } }))
+    × (AreFit (names_of w.run) w.kept.phase → AreFit (names_of w.run) (phase_of now))
 Takes line w now (Err halt) = (perform (act_of line) w ≡ Stops w halt) ⊎ (halt ≡ Memory)

@@ -2,44 +2,98 @@
 use Rattle.std.specs.Prelude.{◌≡◌, ℕ, true, List, [], ◌++◌, Option, Result}
 use Rattle.lan_base.specs.declared.frame.UserFrame.{UserFrame}
 use Rattle.lan_core.specs.declared.event.Event.{Event}
+use Rattle.lan_core.specs.declared.fact.Fact.{Fact}
+use Rattle.lan_core.specs.declared.settings.Settings.{Settings}
+use Rattle.lan_core.specs.Run.{Run}
+use Rattle.lan_core.specs.Answers.{GoesOn}
+use Rattle.lan_core.specs.Standing.{StandsFor as GroupStandsFor}
 use Rattle.lan_schedule.specs.declared.choices.Choices.{Choices}
 use Rattle.lan_schedule.specs.declared.halt.Halt.{Halt}
 use Rattle.lan_schedule.specs.declared.recorder.Broken.{Broken}
 use Rattle.lan_schedule.specs.declared.stage.Stage.{Stage}
 use Rattle.lan_schedule.specs.Races.{Chance}
-use Rattle.lan_schedule.specs.World.{World, Kept, nothing_kept}
+use Rattle.lan_schedule.specs.World.{World, Kept, nothing_kept, settings}
 use Rattle.lan_schedule.specs.Numbers.{decided}
+use Rattle.lan_schedule.specs.Supply.{supply_nth}
 use Rattle.lan_schedule.specs.Acts.{Act, happen, perform}
 use Rattle.lan_schedule.specs.Reports.{Report}
 use Rattle.lan_schedule.specs.Ends.{Moment, IsReached, Ends}
 use Rattle.lan_schedule.specs.Stages.{StandsWith, StandsFor, Counts}
 use Rattle.lan_schedule.specs.inside.Comes.{Comes, named}
+use Rattle.lan_schedule.specs.inside.Recording.{Mark, StandsSince, LeavesAt, HasLooked, KeepTables}
+use Rattle.lan_schedule.specs.inside.Recording.{epoch_of, steps_of}
 use Rattle.lan_schedule.specs.inside.Set.{AreSet}
 
--- a call did an act, in each world for which the group may stand, in which the act can be performed,
--- and whose chances begin with those that were decided in the call
+-- A call did an act, in each world for which the group may stand, in which the act can be performed,
+-- and whose chances begin with those that were decided in the call. In the midst of a race it keeps
+-- what control performs, since whenever the race began. Each station keeps its table.
 pub record Did {K : Type 0} (Took : K → Report → K → Type 0)
     (Broke : K → Report → K → Broken → Type 0) (act : Act) (old new : Moment Stage K)
     (result : Result (Unit {0}) Halt) : Type 0 where
   pub chances : List Chance
-  pub ends : (w : World) (later : List Chance) → w.kept.chances ≡ chances ++ later
-      → IsReached StandsFor w old.value → Comes act w
-      → Ends StandsFor Counts Took Broke w later (perform act w) old.outlet new result
+  pub ends : (mark : Mark) (w : World) (later : List Chance) → w.kept.chances ≡ chances ++ later
+      → IsReached (StandsSince mark) w old.value → Comes act w
+      → Ends (StandsSince mark) (LeavesAt mark) Counts Took Broke w later (perform act w) old.outlet
+      new result
+  pub tables : KeepTables old.value.words new.value.words
+
+-- the same in the worlds of which this holds
+pub record DidWhere {K : Type 0} (Holds : World → Type 0) (Took : K → Report → K → Type 0)
+    (Broke : K → Report → K → Broken → Type 0) (act : Act) (old new : Moment Stage K)
+    (result : Result (Unit {0}) Halt) : Type 0 where
+  pub chances : List Chance
+  pub ends : (mark : Mark) (w : World) (later : List Chance) → w.kept.chances ≡ chances ++ later
+      → IsReached (StandsSince mark) w old.value → Holds w → Comes act w
+      → Ends (StandsSince mark) (LeavesAt mark) Counts Took Broke w later (perform act w) old.outlet
+      new result
+  pub tables : KeepTables old.value.words new.value.words
+
+-- the words are set for an event, and looked at no more than it asks since what was kept
+pub record IsSetSince (event : Event) (mark : Mark) (w : World) (stage : Stage) : Type 0 where
+  pub stands : StandsWith (AreSet event) w stage
+  pub looked : HasLooked mark w stage.words (steps_of stage)
 
 -- an event happened, where the words are set for it, this user frame is the one that it names, and
 -- chance decides its number
 pub record Happened {K : Type 0} (Took : K → Report → K → Type 0)
     (Broke : K → Report → K → Broken → Type 0) (given : Option UserFrame) (event : Event)
     (old new : Moment Stage K) (result : Result (Unit {0}) Halt) : Type 0 where
-  pub ends : (w : World) (later : List Chance)
+  pub ends : (mark : Mark) (w : World) (later : List Chance)
       → w.kept.chances ≡ decided old.value.raced event ++ later
-      → IsReached (StandsWith (AreSet event)) w old.value → given ≡ named w event
+      → IsReached (IsSetSince event mark) w old.value → given ≡ named w event
       → Comes (happen event) w
-      → Ends StandsFor Counts Took Broke w later (perform (happen event) w) old.outlet new result
+      → Ends (StandsSince mark) (LeavesAt mark) Counts Took Broke w later (perform (happen event) w)
+      old.outlet new result
+  pub tables : KeepTables old.value.words new.value.words
 
--- what is kept beside the run changed so, and nothing else
+-- The group made a step, and nothing beside it changed yet. The epoch is that of the key that
+-- transmitted before at the station of the event.
+pub record HasStepped (event : Event) (before : Option ℕ) (old mid : Stage) : Type 0 where
+  pub same : mid ≡ record old { lan = mid.lan; draws = mid.draws }
+  pub epoch : (settings : Settings) (users : List UserFrame) (r : Run)
+      → GroupStandsFor settings users old.lan r → before ≡ epoch_of settings r event
+
+-- what follows such a step was done, in the worlds in which the group went on with these facts
+pub record WentOn {K : Type 0} (Took : K → Report → K → Type 0)
+    (Broke : K → Report → K → Broken → Type 0) (event : Event) (facts : List Fact) (mid : Stage)
+    (old new : Moment Stage K) (result : Result (Unit {0}) Halt) : Type 0 where
+  pub ends : (mark : Mark) (w : World) (later : List Chance)
+      → w.kept.chances ≡ decided old.value.raced event ++ later
+      → IsReached (IsSetSince event mark) w old.value → Comes (happen event) w
+      → GoesOn (settings w) w.kept.users w.run event (supply_nth old.value.draws)
+      (supply_nth mid.draws) mid.lan facts
+      → Ends (StandsSince mark) (LeavesAt mark) Counts Took Broke w later (perform (happen event) w)
+      old.outlet new result
+  pub tables : KeepTables old.value.words new.value.words
+
+-- what is kept beside the run changed so, and nothing else: neither what was chosen, nor user frames,
+-- nor whether a race was begun, nor words
 pub record Changed (f : Kept → Kept) (old new : Stage) : Type 0 where
   pub stands : (w : World) → StandsFor w old → StandsFor (record w { kept = f w.kept }) new
+  pub same : (w : World) → (settings (record w { kept = f w.kept }) ≡ settings w)
+      × ((f w.kept).users ≡ w.kept.users) × ((f w.kept).raced ≡ w.kept.raced)
+  pub words : new.words ≡ old.words
+  pub steps : steps_of new ≡ steps_of old
 
 -- before the first station: a world that a group opens by these choices, with its first line
 pub record IsOpening (w : World) (chosen : Choices) (line : ℕ) : Type 0 where

@@ -2,7 +2,6 @@
 use Rattle.std.specs.Prelude.{◌≡◌, ◌⊎◌, ℕ, List, [], ◌∷◌, Ok, Err}
 use Rattle.lan_base.specs.Faults.{Rose}
 use Rattle.text_lines.specs.Reading.{Sourced}
-use Rattle.transcript_check.specs.declared.fault.CheckFault.TheVariants.{Unread}
 use Rattle.transcript_picture.specs.declared.drawing.Undrawn.{Undrawn}
 use Rattle.transcript_picture.specs.declared.drawing.Undrawn.TheVariants as undrawn
 use Rattle.transcript_picture.specs.Transcripts.{EndsDrawing}
@@ -20,13 +19,13 @@ Shows picture old new status = (status ≡ Done) × Wrote (picture ∷ []) old n
 
 -- the status where a transcript was not drawn
 abbrev pub status_of_undrawn : Undrawn → Status
-status_of_undrawn (undrawn.Refused line) = Transcript line Unread
+status_of_undrawn (undrawn.Refused line why) = Transcript line why
 status_of_undrawn undrawn.Memory = Halted causes.Memory
 status_of_undrawn undrawn.ReadFault = Halted causes.ReadFault
 status_of_undrawn undrawn.Limit = CheckInput
 
--- the transcript was read to its end, and then a picture written; or it was not drawn, and nothing was
--- written
+-- the transcript was read to its end, and then a picture written; or it was not drawn, as where a line
+-- is refused, and nothing was written
 abbrev pub EndsAsDraw : List ℕ → Sourced → Sourced → Sunk → Sunk → Status → Type 0
 EndsAsDraw text left now old new status =
     ((picture : List ℕ) × EndsDrawing text left now (Ok picture) × Shows picture old new status)

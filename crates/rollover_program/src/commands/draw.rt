@@ -12,7 +12,6 @@ use crate::status::Status;
 use lan_base::{Sink, Source, Unwritten, write_all};
 use replay::Cause;
 use std::alloc::Global;
-use transcript_check::CheckFault;
 use transcript_picture::Undrawn;
 
 /// Reads a transcript, and writes the picture of its keys at its end.
@@ -51,10 +50,7 @@ fn status_of_undrawn(why: Undrawn) -> Status
     ensures { result ≡ status_of_undrawn why }
 {
     match why {
-        Undrawn::Refused { line } => Status::Transcript {
-            line,
-            why: CheckFault::Unread,
-        },
+        Undrawn::Refused { line, why } => Status::Transcript { line, why },
         Undrawn::Memory => Status::Halted(Cause::Memory),
         Undrawn::ReadFault => Status::Halted(Cause::ReadFault),
         Undrawn::Limit => Status::CheckInput,

@@ -11,16 +11,18 @@ ghost use Rattle.rollover_program.specs.commands.Run.{EndsAsRun};
 use crate::laws::law_tidy_runs_are_promised;
 use crate::status::{Status, status_of};
 use lan_base::{Sink, Source};
-use packet_claims::Gate;
+use replay::AnyGate;
 use std::alloc::Global;
+use std::thread::Threads;
 
 /// Performs a trace, for its transcript or for its summary.
-pub fn run<S: Source, K: Sink, G: Gate>(
+pub fn run<T: Threads + Sync, S: Source, K: Sink>(
+    rt: &T,
     alloc: Global,
     summary: bool,
     source: &mut S,
     sink: &mut K,
-    gate: &G,
+    gate: &AnyGate,
 ) -> Status
     ensures ends { (text : List ℕ) → S.left source.old ≡ Some text → EndsAsRun summary text
         (sourced (S.left source.old) (S.faults source.old))
@@ -34,5 +36,5 @@ pub fn run<S: Source, K: Sink, G: Gate>(
         → Rose (K.faults sink.old) (K.faults sink.new) }
 {
     law_tidy_runs_are_promised();
-    status_of(replay::replay(alloc, source, sink, gate, summary))
+    status_of(replay::replay(rt, alloc, source, sink, gate, summary))
 }

@@ -13,12 +13,18 @@ use crate::laws::law_tidy_runs_are_promised;
 use crate::status::Status;
 use lan_base::{Octets, Sink, SteadySource};
 use lan_schedule::law_lines_leave_a_tidy_world;
-use packet_claims::Gate;
-use replay::Cause;
+use replay::{AnyGate, Cause};
 use std::alloc::Global;
+use std::thread::Threads;
 
 /// Performs the trace that is made of a number, for its summary.
-pub fn try_made<K: Sink, G: Gate>(alloc: Global, number: u32, sink: &mut K, gate: &G) -> Status
+pub fn try_made<T: Threads + Sync, K: Sink>(
+    rt: &T,
+    alloc: Global,
+    number: u32,
+    sink: &mut K,
+    gate: &AnyGate,
+) -> Status
     ensures ends { EndsTried number (sunk (K.held sink.old) (K.faults sink.old))
         (sunk (K.held sink.new) (K.faults sink.new)) result }
     ensures carried { result ≢ statuses.Usage }
@@ -31,5 +37,5 @@ pub fn try_made<K: Sink, G: Gate>(alloc: Global, number: u32, sink: &mut K, gate
         return Status::Halted(Cause::Memory);
     };
     let mut source = SteadySource::new(Octets::of(text));
-    run(alloc, true, &mut source, sink, gate)
+    run(rt, alloc, true, &mut source, sink, gate)
 }

@@ -1,5 +1,6 @@
 -- How the maps change, one fact after the other.
 use Rattle.std.specs.Prelude.{ℕ, ◌≡◌, ◌≢◌, ◌+◌, true, if◌then◌else◌, List, [], ◌∷◌, ◌++◌, Option, Some, None, Result, Ok, Err, is_ok, min}
+use Rattle.std.specs.BTreeMap.{insert_entry}
 use Rattle.lan_base.specs.declared.key_id.KeyId.{KeyId}
 use Rattle.aes_block.specs.declared.secret.Secret.{Secret}
 use Rattle.lan_core.specs.declared.fact.Fact.{Fact}
@@ -9,7 +10,7 @@ use Rattle.transcript_check.specs.declared.fault.CheckError.{CheckError}
 use Rattle.transcript_check.specs.declared.fault.CheckError.TheVariants.{Refused, Memory}
 use Rattle.transcript_check.specs.declared.fault.CheckFault.TheVariants.{Doubled, Orphan}
 use Rattle.transcript_check.specs.Judged.{is_missed, same_named}
-use Rattle.transcript_check.specs.Standing.{Maps, Lines, LinesBySak, StandsFor, first_of, line_in, line_at, line_by, refusal, sak_at}
+use Rattle.transcript_check.specs.Standing.{Maps, Lines, LinesBySak, Saks, StandsFor, first_of, line_in, line_at, line_by, pair_cmp, refusal, sak_at, sak_under}
 
 -- nothing but what is found under this key is changed
 pub record KeyIsPut (number : ℕ) (id : KeyId) (named : Named) (old new : Maps) : Type 0 where
@@ -56,16 +57,30 @@ IsUsed number s pn sak old new (Some pair) line = new ≡ old
 IsUsed number s pn sak old new None None = UseIsPut number s pn sak old new
 IsUsed number s pn sak old new None (Some line) = new ≡ record old { once = Some (line, number) }
 
-pub record EpochIsPut (s epoch : ℕ) (sak : Secret) (old new : Maps) : Type 0 where
-  pub count : new.count ≡ old.count
-  pub missed : new.missed ≡ old.missed
-  pub once : new.once ≡ old.once
-  pub one_key : new.one_key ≡ old.one_key
-  pub keys : new.keys ≡ old.keys
-  pub narrow : new.narrow ≡ old.narrow
-  pub wide : new.wide ≡ old.wide
-  pub here : sak_at new s epoch ≡ Some sak
-  pub others : (t e : ℕ) → ((t ≡ s) × (e ≡ epoch) → ⊥) → sak_at new t e ≡ sak_at old t e
+-- a SAK is found under a station and an epoch, and what is found under others is as it was
+pub record SakIsPut (s epoch : ℕ) (sak : Secret) (old new : Saks) : Type 0 where
+  pub entries : new ≡ insert_entry pair_cmp old (s, epoch) sak
+  pub here : sak_under new s epoch ≡ Some sak
+  pub others : (t e : ℕ) → ((t ≡ s) × (e ≡ epoch) → ⊥) → sak_under new t e ≡ sak_under old t e
+
+-- ---- installs and claims by station and epoch
+
+-- a station installs a SAK under an epoch, under which this one or none was found before
+abbrev pub Opens : ℕ → ℕ → Secret → Saks → Saks → Option Secret → Result Unit CheckError → Type 0
+Opens s epoch sak old new (Some before) r = (r ≡ Err (Refused Doubled)) × (new ≡ old)
+Opens s epoch sak old new None (Ok _) = SakIsPut s epoch sak old new
+Opens s epoch sak old new None (Err error) = (error ≡ Memory) × (new ≡ old)
+
+-- a station claims under an epoch, under which this SAK or none was found
+abbrev pub Finds : Option Secret → Result Unit CheckError → Type 0
+Finds None r = r ≡ Err (Refused Orphan)
+Finds (Some sak) r = is_ok r ≡ true
+
+abbrev pub Enters : Fact → Saks → Saks → Result Unit CheckError → Type 0
+Enters (shows.Installed s id an epoch sak) old new r =
+    Opens s epoch sak old new (sak_under old s epoch) r
+Enters (shows.Claimed s an epoch pn) old new r = Finds (sak_under old s epoch) r × (new ≡ old)
+Enters _ old new r = (is_ok r ≡ true) × (new ≡ old)
 
 -- ---- a fact is taken
 
@@ -80,9 +95,9 @@ IsNoted facts fact old new (Ok _) = (refusal facts fact ≡ None) × StandsFor (
 IsNoted facts fact old new (Err error) = IsFailed facts fact error × (new ≡ old)
 
 pub record IsInstalled (number s epoch : ℕ) (id : KeyId) (named : Named) (old new : Maps) : Type 0 where
-  pub middle : Maps
-  pub epoch_put : EpochIsPut s epoch named.sak old middle
-  pub names_it : IsNamed number id named middle new middle.one_key (first_of middle id)
+  pub saks : Saks
+  pub epoch_put : SakIsPut s epoch named.sak old.epochs saks
+  pub names_it : IsNamed number id named (record old { epochs = saks }) new old.one_key (first_of old id)
 
 abbrev pub Installs : ℕ → ℕ → ℕ → KeyId → Named → Maps → Maps → Option Secret → Result Unit CheckError
     → Type 0

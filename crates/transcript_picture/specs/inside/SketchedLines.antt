@@ -1,12 +1,13 @@
 -- That lines are taken one after another.
-use Rattle.std.specs.Prelude.{ℕ, ◌≡◌, List, [], ◌∷◌, ◌++◌, Result, Ok, Err}
+use Rattle.std.specs.Prelude.{ℕ, List, [], ◌∷◌, ◌++◌, Result, Ok, Err}
 use Rattle.std.proofs.Common.{◌∙◌, refl, sym, ap, subst}
 use Rattle.std.proofs.lemmas.List.{append_assoc}
 use Rattle.lan_base.specs.declared.name.Name.{Name}
 use Rattle.lan_core.specs.declared.fact.Fact.{Fact}
-use Rattle.transcript.specs.declared.fault.FactError.{FactError}
-use Rattle.transcript.specs.declared.fault.FactError.TheVariants.{Unread, Memory}
-use Rattle.transcript_picture.specs.Lines.{AreTaken, IsSketchOf, Kept}
+use Rattle.transcript_check.specs.declared.fault.CheckError.{CheckError}
+use Rattle.transcript_check.specs.declared.fault.CheckError.TheVariants.{Refused, Memory}
+use Rattle.transcript_check.specs.Standing.{AreTaken}
+use Rattle.transcript_picture.specs.Lines.{IsSketchOf, Kept}
 use Rattle.transcript_picture.specs.inside.Sketching.{Took, Comes, Sketches}
 
 taken-append : (names : List Name) (facts : List Fact) (xs ys : List (List ℕ)) (mid : List Name)
@@ -16,7 +17,7 @@ taken-append names facts [] ys mid told last all t u =
     subst (λ (ns : List Name). AreTaken ns facts ys last all) (sym t.0)
     (subst (λ (fs : List Fact). AreTaken mid fs ys last all) (sym t.1) u)
 taken-append names facts (x ∷ xs) ys mid told last all t u =
-    (t.0, t.1, t.2, taken-append t.0 (facts ++ t.1 ∷ []) xs ys mid told last all t.3 u)
+    (t.0, t.1, t.2, t.3, taken-append t.0 (facts ++ t.1 ∷ []) xs ys mid told last all t.4 u)
 
 -- nothing was taken
 abbrev pub nothing : (names : List Name) (facts : List Fact) (s : Kept) → IsSketchOf names facts s
@@ -35,17 +36,17 @@ took-then names facts xs ys b c t u = record {
 pub sketches-none : (s : Kept) → Sketches [] s s (Ok tt)
 sketches-none s names facts is = nothing names facts s is
 
-pub sketches-more : (a b c : Kept) (xs ys : List (List ℕ)) (r : Result (Unit {0}) FactError)
+pub sketches-more : (a b c : Kept) (xs ys : List (List ℕ)) (r : Result (Unit {0}) CheckError)
     → Sketches xs a b (Ok tt) → Sketches ys b c r → Sketches (xs ++ ys) a c r
 sketches-more a b c xs ys r d e names facts is = go r (e t.after t.told t.stands)
   where
     t : Took names facts xs b
     t = d names facts is
 
-    go : (r : Result (Unit {0}) FactError) → Comes t.after t.told ys c r
+    go : (r : Result (Unit {0}) CheckError) → Comes t.after t.told ys c r
         → Comes names facts (xs ++ ys) c r
     go (Ok done) u = took-then names facts xs ys b c t u
-    go (Err Unread) u = record {
+    go (Err (Refused why)) u = record {
       earlier = xs ++ u.earlier;
       line = u.line;
       later = u.later;
@@ -62,12 +63,12 @@ sketches-more a b c xs ys r d e names facts is = go r (e t.after t.told t.stands
       taken = taken-append names facts xs u.front t.after t.told u.after u.told t.taken u.taken;
     }
 
-pub sketches-early : (a b : Kept) (xs ys : List (List ℕ)) (e : FactError)
+pub sketches-early : (a b : Kept) (xs ys : List (List ℕ)) (e : CheckError)
     → Sketches xs a b (Err e) → Sketches (xs ++ ys) a b (Err e)
 sketches-early a b xs ys e d names facts is = go e (d names facts is)
   where
-    go : (e : FactError) → Comes names facts xs b (Err e) → Comes names facts (xs ++ ys) b (Err e)
-    go Unread u = record {
+    go : (e : CheckError) → Comes names facts xs b (Err e) → Comes names facts (xs ++ ys) b (Err e)
+    go (Refused why) u = record {
       earlier = u.earlier;
       line = u.line;
       later = u.later ++ ys;

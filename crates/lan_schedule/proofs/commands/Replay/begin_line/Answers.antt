@@ -15,6 +15,8 @@ returns-in-Some c = λ w stands.
       frames = refl;
       tally = refl;
       raced = refl;
+      octets = refl;
+      steps = refl;
     }) refl refl refl refl at) stands
 
 pub returns : goal.returns

@@ -7,17 +7,33 @@ use Rattle.lan_schedule.proofs.LinesCome.{apart-comes}
 use Rattle.lan_schedule.proofs.Still.{still-apart}
 use Rattle.lan_schedule.proofs.Commanding.{none-of}
 use Rattle.lan_schedule.proofs.Replaying.{same-act, staged-does, none-stage}
+use Rattle.lan_schedule.specs.Acts.{look}
+use Rattle.lan_schedule.specs.inside.Beside.{race_in}
 use Rattle.lan_schedule.proofs.Phasing.{taken-does, same-apart, not-taken, outside-calm}
+use Rattle.lan_schedule.proofs.Phasing.{ends-race, end-controls, outside-apart}
 use Rattle.lan_schedule.proofs.Opening.{unbegun-refused, unbegun-performed}
 use Rattle.lan_schedule.proofs.commands.Replay.perform.Goals as goal
+
+pub returns-then-is_end : goal.returns-then-is_end
+returns-then-is_end g c =
+    let phase = phase_of c.args.self.now.phase in
+    let ends = sym c.is_end.ensures ∙ c.if-is_end.true in
+    same-act (act_of c.args.line.now) (look (λ w. race_in w.kept.phase w)) _ _ c.race.result
+    (λ w stands. ends-race c.args.line.now w phase stands.phase ends) c.race.ensures
+
+pub race-requires-clause-controls : goal.race-requires-clause-controls
+race-requires-clause-controls g c = λ lifetimes outlive.
+    end-controls c.args.line.now (phase_of c.args.self.now.phase)
+    (sym c.is_end.ensures ∙ c.if-is_end.true)
 
 pub returns-then-takes : goal.returns-then-takes
 returns-then-takes g c =
     taken-does c.args.line.now _ _ c.in-Some.stage c.take.result c.in-Some.is refl refl refl
     c.take.ensures (sym c.takes.ensures ∙ c.if-takes.true)
+    (sym c.is_end.ensures ∙ c.if-is_end.false)
 
 pub command-requires-clause-apart : goal.command-requires-clause-apart
-command-requires-clause-apart g c =
+command-requires-clause-apart g c = λ lifetimes outlive.
     (not-taken _ _ (sym c.takes.ensures ∙ c.if-takes.false)).1
 
 pub returns-in-Some : goal.returns-in-Some
@@ -30,7 +46,8 @@ returns-in-Some g c =
     c.command.result
     (λ w stands tidy. apart-comes c.args.line.now c.requires w tidy
     (ap is_racing stands.phase ∙ outside-calm phase not.0))
-    (still-apart c.args.line.now not.1) c.in-Some.is refl refl refl c.command.ensures)
+    (still-apart c.args.line.now not.1) c.in-Some.is refl refl refl
+    (outside-apart phase not.0) c.command.ensures)
 
 pub returns-in-Some-refusal : goal.returns-in-Some-refusal
 returns-in-Some-refusal g c =

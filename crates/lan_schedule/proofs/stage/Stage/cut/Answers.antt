@@ -13,4 +13,6 @@ returns-clause-ok c =
       frames = refl;
       tally = refl;
       raced = refl;
+      octets = refl;
+      steps = refl;
     }) refl refl refl c.in_ok-cut.ensures

@@ -6,7 +6,7 @@ use Rattle.lan_schedule.proofs.stage.Stage.flow_round.Goals as goal
 
 pub returns-in_err-begin_round : goal.returns-in_err-begin_round
 returns-in_err-begin_round g c =
-    handed-on _ _ _ _ _ (memory-does _ _ _ refl refl) c.from_residual.ensures.1
+    handed-on _ _ _ _ _ (memory-does _ _ _ refl refl (λ s table at. at)) c.from_residual.ensures.1
 
 pub returns-in_err-round : goal.returns-in_err-round
 returns-in_err-round g c =
@@ -23,6 +23,8 @@ returns-in_err-round g c =
       words = refl;
       tally = refl;
       raced = refl;
+      octets = refl;
+      steps = refl;
     }) c.in_ok-begin_round.ensures.ok) refl) in
     handed-on _ _ _ _ _ (leads-err _ _ _ _ _ _ _ begun c.in_err-round.ensures)
     c.from_residual-in_err-round.ensures.1
@@ -42,9 +44,11 @@ returns-in_err-frames g c =
       words = refl;
       tally = refl;
       raced = refl;
+      octets = refl;
+      steps = refl;
     }) c.in_ok-begin_round.ensures.ok) refl) in
     let ticked = leads-step _ _ _ _ _ _ begun c.in_ok-round.ensures in
-    handed-on _ _ _ _ _ (ticked.leads _ _ (memory-does _ _ _ refl refl))
+    handed-on _ _ _ _ _ (ticked.leads _ _ (memory-does _ _ _ refl refl (λ s table at. at)))
     c.from_residual-in_err-frames.ensures.1
 
 pub returns : goal.returns
@@ -62,6 +66,8 @@ returns g c =
       words = refl;
       tally = refl;
       raced = refl;
+      octets = refl;
+      steps = refl;
     }) c.in_ok-begin_round.ensures.ok) refl) in
     let ticked = leads-step _ _ _ _ _ _ begun c.in_ok-round.ensures in
     ticked.leads _ _ ((due-leads c.deref.result.now _

@@ -7,7 +7,7 @@ use Rattle.lan_schedule.proofs.Sending.{same-did}
 use Rattle.lan_schedule.proofs.stage.Stage.inject.Goals as goal
 
 pub returns-in_err-octets : goal.returns-in_err-octets
-returns-in_err-octets g c = handed-on _ _ _ _ _ (memory-does _ _ _ refl refl) c.from_residual.ensures.1
+returns-in_err-octets g c = handed-on _ _ _ _ _ (memory-does _ _ _ refl refl (λ s table at. at)) c.from_residual.ensures.1
 
 pub returns : goal.returns
 returns g c =

@@ -16,4 +16,6 @@ returns c =
       words = refl;
       tally = refl;
       raced = refl;
+      octets = refl;
+      steps = refl;
     }) c.mark.ensures

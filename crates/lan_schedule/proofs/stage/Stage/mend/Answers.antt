@@ -13,4 +13,6 @@ returns c =
       frames = refl;
       tally = refl;
       raced = refl;
+      octets = refl;
+      steps = refl;
     }) refl refl refl c.mend.ensures

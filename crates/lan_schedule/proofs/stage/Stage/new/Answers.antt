@@ -10,4 +10,4 @@ returns-clause-stands c = λ w tidy keyed opening.
     (λ users. subst (λ (s : Settings). GroupStandsFor s users c.in_ok-lan.lan [])
     c.in_ok-settings.ensures (c.in_ok-lan.ensures.stands users))
     c.in_ok-draws.ensures c.new.ensures.items c.new-2.ensures.items refl c.new-3.ensures
-    c.new-4.ensures c.new-5.ensures c.new-6.ensures refl
+    c.new-4.ensures c.new-5.ensures c.new-6.ensures refl refl refl

@@ -1,7 +1,8 @@
 use Rattle.std.proofs.Common.{refl}
 use Rattle.lan_core.specs.declared.event.Event.TheVariants.{Start, Deliver, Restart, Inject}
 use Rattle.lan_schedule.specs.Acts.{happen, change, times, seq}
-use Rattle.lan_schedule.specs.Lines.{begin, feed, tick, cut_in, mended_in, add_user, send}
+use Rattle.lan_schedule.specs.Lines.{begin, feed, tick, round, flow_round, spread, cut_in}
+use Rattle.lan_schedule.specs.Lines.{mended_in, add_user, send}
 use Rattle.lan_schedule.specs.World.{mark}
 use Rattle.lan_schedule.proofs.Doing.{change-does, handed-on, memory-does}
 use Rattle.lan_schedule.proofs.Looking.{mark-does}
@@ -20,6 +21,21 @@ pub start-requires : goal.start-requires
 start-requires g c =
     let form = rw c.in-Station.is at c.requires.form in
     record { count = form.fits.1.0.0; octets = bytes-all c.in-Station.sci.0 form.fits.1.0.1 }
+
+pub returns-in-Tick : goal.returns-in-Tick
+returns-in-Tick g c =
+    same-line c.args.line.now (times c.in-Tick.rounds round) _ _ _ (λ w. rw c.in-Tick.is refl)
+    c.rounds.ensures
+
+pub returns-in-Flow : goal.returns-in-Flow
+returns-in-Flow g c =
+    same-line c.args.line.now (times c.in-Flow.rounds flow_round) _ _ _
+    (λ w. rw c.in-Flow.is refl) c.flow.ensures
+
+pub returns-in-Spread : goal.returns-in-Spread
+returns-in-Spread g c =
+    same-line c.args.line.now (spread c.in-Spread.frame) _ _ _ (λ w. rw c.in-Spread.is refl)
+    c.spread.ensures
 
 pub returns-in-TickOne : goal.returns-in-TickOne
 returns-in-TickOne g c =
@@ -61,7 +77,7 @@ returns-in_ok-cut-in-Cut g c =
 
 pub returns-in_err-cut-in-Cut : goal.returns-in_err-cut-in-Cut
 returns-in_err-cut-in-Cut g c =
-    handed-on _ _ _ _ _ (memory-does _ _ _ c.cut.ensures.tally refl) c.from_residual.ensures.1
+    handed-on _ _ _ _ _ (memory-does _ _ _ c.cut.ensures.tally refl c.cut.ensures.tables) c.from_residual.ensures.1
 
 pub returns-in-Mend : goal.returns-in-Mend
 returns-in-Mend g c =

@@ -1,14 +1,15 @@
 use Rattle.std.proofs.Common.{◌≡◌, ◌≤◌, ◌+◌, refl, arith}
 use Rattle.lan_core.specs.Expected.{last_number}
 use Rattle.lan_schedule.proofs.Doing.{memory-does, handed-on}
+use Rattle.lan_schedule.proofs.Recorded.{tables-same}
 use Rattle.lan_schedule.proofs.Sending.{send-does, claim-err, claim-ok}
 use Rattle.lan_schedule.proofs.stage.Stage.send.Goals as goal
 
 pub returns-in_default : goal.returns-in_default
-returns-in_default g c = memory-does _ _ _ refl refl
+returns-in_default g c = memory-does _ _ _ refl refl (λ s table at. at)
 
 pub returns-then-not-has_numbers : goal.returns-then-not-has_numbers
-returns-then-not-has_numbers g c = memory-does _ _ _ refl refl
+returns-then-not-has_numbers g c = memory-does _ _ _ refl refl (λ s table at. at)
 
 pub returns-in_err-happen : goal.returns-in_err-happen
 returns-in_err-happen g c =
@@ -25,6 +26,8 @@ returns-in_err-happen g c =
       frames = refl;
       tally = refl;
       raced = refl;
+      octets = refl;
+      steps = refl;
     }) refl one_more refl few refl (record {
       calm = λ settings run tied there most. (
         c.claim-pn.ensures.claimed settings run tied there most,
@@ -33,8 +36,10 @@ returns-in_err-happen g c =
       raced = λ settings run caught there.
           c.claim-pn.ensures.gained settings run c.in-Some.users caught there;
       few = λ raced. c.has_numbers.ensures c.if-not-has_numbers.false raced;
+      cards = c.claim-pn.ensures.cards;
       spends = c.law_few_claims_spend_no_words.ensures.stations;
     })
+    (λ s table at. c.in_err-happen.ensures.tables s table (tables-same _ _ c.claim-pn.ensures.same s table at))
     (claim-err c.args.station c.in-Some.users c.claim-pn.result c.args.user.now _ _ _
     c.in_err-happen.ensures))
     c.from_residual.ensures.1
@@ -53,6 +58,8 @@ returns g c =
       frames = refl;
       tally = refl;
       raced = refl;
+      octets = refl;
+      steps = refl;
     }) refl one_more refl few refl (record {
       calm = λ settings run tied there most. (
         c.claim-pn.ensures.claimed settings run tied there most,
@@ -61,7 +68,9 @@ returns g c =
       raced = λ settings run caught there.
           c.claim-pn.ensures.gained settings run c.in-Some.users caught there;
       few = λ raced. c.has_numbers.ensures c.if-not-has_numbers.false raced;
+      cards = c.claim-pn.ensures.cards;
       spends = c.law_few_claims_spend_no_words.ensures.stations;
     })
+    (λ s table at. c.emit.ensures.tables s table (c.in_ok-happen.ensures.tables s table (tables-same _ _ c.claim-pn.ensures.same s table at)))
     (claim-ok c.args.station c.in-Some.users c.claim-pn.result c.args.user.now _ _ _ _
     c.in_ok-happen.ensures c.emit.ensures)

@@ -3,4 +3,4 @@ use Rattle.lan_schedule.proofs.Doing.{memory-does, handed-on}
 use Rattle.lan_schedule.proofs.stage.Stage.send_body.Goals as goal
 
 pub returns-in_err-copied : goal.returns-in_err-copied
-returns-in_err-copied g c = handed-on _ _ _ _ _ (memory-does _ _ _ refl refl) c.from_residual.ensures.1
+returns-in_err-copied g c = handed-on _ _ _ _ _ (memory-does _ _ _ refl refl (λ s table at. at)) c.from_residual.ensures.1

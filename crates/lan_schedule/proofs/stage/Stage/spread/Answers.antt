@@ -28,4 +28,6 @@ returns g c =
       words = refl;
       tally = refl;
       raced = refl;
+      octets = refl;
+      steps = refl;
     }) c.mark.ensures) refl)

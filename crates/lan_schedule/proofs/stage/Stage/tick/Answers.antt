@@ -1,5 +1,6 @@
 use Rattle.std.proofs.Common.{refl}
 use Rattle.lan_schedule.proofs.Happening.{tick-does}
+use Rattle.lan_schedule.proofs.Recorded.{tables-same}
 use Rattle.lan_schedule.proofs.stage.Stage.tick.Goals as goal
 
 pub returns : goal.returns
@@ -13,4 +14,7 @@ returns g c =
       frames = refl;
       tally = refl;
       raced = refl;
-    }) refl refl refl c.next-next.ensures.next c.next-next.ensures.ahead c.happen.ensures
+      octets = refl;
+      steps = refl;
+    }) refl refl refl c.next-next.ensures.next c.next-next.ensures.ahead
+    c.next-next.ensures.looked (tables-same _ _ c.next-next.ensures.same) c.happen.ensures

@@ -1,12 +1,16 @@
-use Rattle.std.proofs.Common.{List, ◌∷◌, sym, subst}
+use Rattle.std.proofs.Common.{List, ◌∷◌, sym, ◌∙◌, subst}
+use Rattle.transmit_words.specs.Ties.{Followed}
+use Rattle.worker_races.specs.Carded.{AreCarded}
+use Rattle.lan_schedule.specs.inside.Recording.{KeepTables}
+use Rattle.lan_schedule.proofs.Recorded.{tables-same}
 use Rattle.association_slots.specs.Views.{ControlAt}
 use Rattle.lan_core.specs.Run.{happened}
 use Rattle.lan_schedule.specs.inside.Set.{SaysAhead}
-use Rattle.lan_schedule.proofs.Ahead.{behind-by}
+use Rattle.lan_schedule.proofs.Ahead.{behind-by, carries-ahead}
 use Rattle.lan_schedule.proofs.words.Words.follow.Goals as goal
 
-pub returns : goal.returns
-returns g c = λ raced racing settings users before r stood stands stepped exact set.
+pub returns-clause-says : goal.returns-clause-says
+returns-clause-says g c = λ raced racing settings users before r stood stands stepped exact set.
     let x = happened c.args.event.now c.args.facts.now in
     let followed = c.follow.ensures.followed settings users (x ∷ r) stands in
     behind-by raced racing settings r (x ∷ r) c.args.event.now _ _
@@ -18,4 +22,32 @@ returns g c = λ raced racing settings users before r stood stands stepped exact
     stood stands stepped.0 taken followed)
     (subst (λ (cs : List ControlAt). SaysAhead raced racing settings r c.args.event.now cs)
     (sym c.self.view_is)
-    (c.in_ok-begin.ensures raced racing settings users before r stood stepped.1 set))
+    (c.in_ok-begin.ensures.ahead raced racing settings users before r stood stepped.1 set))
+
+pub returns-clause-cards : goal.returns-clause-cards
+returns-clause-cards g c = λ raced racing settings users before r stood stands stepped set carded.
+    let x = happened c.args.event.now c.args.facts.now in
+    c.law_cards_stay_right.ensures settings users before c.args.lan.now x r _ _ stood stands
+    stepped.1 stepped.0
+    (carries-ahead raced racing settings r c.args.event.now _
+    (subst (λ (cs : List ControlAt). SaysAhead raced racing settings r c.args.event.now cs)
+    (sym c.self.view_is)
+    (c.in_ok-begin.ensures.ahead raced racing settings users before r stood stepped.1 set)))
+    (c.follow.ensures.followed settings users (x ∷ r) stands)
+    (subst (λ (cs : List ControlAt). AreCarded settings r cs) (sym c.self.view_is)
+    (c.in_ok-begin.ensures.cards raced racing settings users r stepped.1 set carded))
+
+pub returns-clause-followed : goal.returns-clause-followed
+returns-clause-followed g c = λ goes settings users r stands.
+    let x = happened c.args.event.now c.args.facts.now in
+    subst (λ (cs : List ControlAt). Followed settings (x ∷ r) c.args.facts.now cs c.follow.new.self)
+    (c.self.view_is ∙ c.in_ok-begin.ensures.same goes)
+    (c.follow.ensures.followed settings users (x ∷ r) stands)
+
+pub returns-clause-tables : goal.returns-clause-tables
+returns-clause-tables g c = λ s table at.
+    (subst (λ (cs : List ControlAt). KeepTables cs c.follow.new.self) c.self.view_is
+    (tables-same _ _ c.follow.ensures.same)) s table (c.in_ok-begin.ensures.tables s table at)
+
+pub returns-in_err-begin-clause-tables : goal.returns-in_err-begin-clause-tables
+returns-in_err-begin-clause-tables g c = c.in_err-begin.ensures.tables

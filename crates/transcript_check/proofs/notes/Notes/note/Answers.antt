@@ -1,4 +1,4 @@
-use Rattle.std.proofs.Common.{◌≡◌, ◌+◌, ◌∙◌, ◌≤◌, suc, length, ◌∷◌, [], ◌++◌, Result, Ok, Err, true, refl, sym, ap, subst, arith}
+use Rattle.std.proofs.Common.{◌≡◌, ◌+◌, ◌∙◌, ◌≤◌, suc, length, ◌∷◌, [], ◌++◌, Ok, Err, refl, sym, ap, subst, arith}
 use Rattle.std.proofs.lemmas.Result.{err_from_is_err_and}
 use Rattle.transcript_check.specs.Standing.{Maps, StandsFor}
 use Rattle.transcript_check.proofs.Lines.{takes-kept, takes-life}

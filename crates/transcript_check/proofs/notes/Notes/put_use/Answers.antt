@@ -8,7 +8,7 @@ use Rattle.transcript_check.proofs.notes.Notes.put_use.Goals as goal
 pub returns-in-S128-clause-put : goal.returns-in-S128-clause-put
 returns-in-S128-clause-put c =
     let d = c.self.inside in
-    let old : Maps = record { count = d.count; missed = d.missed; once = d.once; one_key = d.one_key; epochs = d.epochs.entries; keys = d.keys.entries; narrow = d.narrow.entries; wide = d.wide.entries } in
+    let old : Maps = record { count = d.count; missed = d.missed; once = d.once; one_key = d.one_key; epochs = d.epochs; keys = d.keys.entries; narrow = d.narrow.entries; wide = d.wide.entries } in
     let new : Maps = record old { narrow = c.put_at.new.lines.entries } in
     on_ok c.put_at.result
     (λ put. subst (λ (before : Maps). UseIsPut c.args.number c.args.station c.args.pn c.args.sak.now before new) c.self.view_is
@@ -19,7 +19,7 @@ returns-in-S128-clause-put c =
 pub returns-in-S256-clause-put : goal.returns-in-S256-clause-put
 returns-in-S256-clause-put c =
     let d = c.self.inside in
-    let old : Maps = record { count = d.count; missed = d.missed; once = d.once; one_key = d.one_key; epochs = d.epochs.entries; keys = d.keys.entries; narrow = d.narrow.entries; wide = d.wide.entries } in
+    let old : Maps = record { count = d.count; missed = d.missed; once = d.once; one_key = d.one_key; epochs = d.epochs; keys = d.keys.entries; narrow = d.narrow.entries; wide = d.wide.entries } in
     let new : Maps = record old { wide = c.put_at-in-S256.new.lines.entries } in
     on_ok c.put_at-in-S256.result
     (λ put. subst (λ (before : Maps). UseIsPut c.args.number c.args.station c.args.pn c.args.sak.now before new) c.self.view_is

@@ -5,9 +5,9 @@ use Rattle.lan_core.specs.declared.event.Event.TheVariants as events
 use Rattle.association_slots.specs.Views.{ControlAt}
 use Rattle.group_safety.proofs.Public.{next-told}
 use Rattle.transmit_words.specs.Telling.{KeepUp, CatchUp}
-use Rattle.transmit_words.specs.Ties.{tables_of, AreTied, AreAhead, HaveKeptUp, KeepAhead, HaveCaughtUp, CaughtAhead}
+use Rattle.transmit_words.specs.Ties.{tables_of, AreTied, AreAhead, HaveKeptUp, KeepAhead, HaveCaughtUp, CaughtAhead, KeepCards}
 use Rattle.transmit_words.specs.Seats.{AreAllIn, HasGot}
-use Rattle.transmit_words.proofs.Stations.{tables-set, claim-all, said-gained, all-in-set, number_of}
+use Rattle.transmit_words.proofs.Stations.{tables-set, claim-all, said-gained, all-in-set, cards-set, cards-kept, number_of}
 use Rattle.transmit_words.proofs.controls.Controls.claim.Goals.{in-Ok, in-Err}
 use Rattle.transmit_words.proofs.controls.Controls.claim.Goals as goal
 
@@ -81,3 +81,14 @@ returns-after-claim-clause-all_in g c = λ all_in.
     let cs = c.self.inside.controls.items in
     let at = slice_get_read cs _ c.from-place.result c.index_mut.result.now refl (omega arith) c.index_mut.ensures.value in
     all-in-set cs c.from-place.result c.index_mut.result.now c.claim.new.self at c.claim.ensures.all_in (subst AreAllIn (sym c.self.view_is) all_in)
+
+pub returns-after-claim-clause-cards : goal.returns-after-claim-clause-cards
+returns-after-claim-clause-cards g c =
+    let cs = c.self.inside.controls.items in
+    let at = slice_get_read cs _ c.from-place.result c.index_mut.result.now refl (omega arith) c.index_mut.ensures.value in
+    subst (λ (old : List ControlAt). KeepCards old (set cs c.from-place.result c.claim.new.self)) c.self.view_is
+    (cards-set cs c.from-place.result c.index_mut.result.now c.claim.new.self at c.claim.ensures.cards)
+
+pub returns-else-place-len-clause-cards : goal.returns-else-place-len-clause-cards
+returns-else-place-len-clause-cards g c =
+    subst (λ (old : List ControlAt). KeepCards old old) c.self.view_is (cards-kept c.self.inside.controls.items)

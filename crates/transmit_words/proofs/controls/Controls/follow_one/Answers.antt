@@ -11,7 +11,8 @@ returns-then-place-len-clause-followed g c = λ settings users r stands.
     let at = slice_get_read cs _ c.from-place.result c.index_mut.result.now refl (omega arith) c.index_mut.ensures.value in
     subst (λ (old : List ControlAt). Followed settings r (c.args.fact.now ∷ []) old (set cs c.from-place.result c.moved.new.control)) c.self.view_is
     (followed-one settings r cs c.args.fact.now c.from-place.result c.index_mut.result.now c.moved.new.control c.card_of-card.result (c.from-place.ensures ∙ c.place.ensures) at
-    (has-card settings r c.args.fact.now c.card_of-card.result (c.card_of-card.ensures settings users r stands)) c.moved.ensures.tells c.moved.ensures.keeps_up c.moved.ensures.seats)
+    (has-card settings r c.args.fact.now c.card_of-card.result (c.card_of-card.ensures settings users r stands)) c.moved.ensures.tells c.moved.ensures.keeps_up c.moved.ensures.seats
+    (c.card_of-card.ensures settings users r stands) c.moved.ensures.cards)
 
 pub returns-else-place-len-clause-followed : goal.returns-else-place-len-clause-followed
 returns-else-place-len-clause-followed g c = λ settings users r stands.

@@ -20,7 +20,7 @@ returns-then-place-len-clause-told c =
     let same : c.from-place.result ≡ c.args.station = c.from-place.ensures in
     subst (λ (old : List ControlAt). HasJoined c.args.station c.args.seat old (set cs c.from-place.result c.join.new.self)) c.self.view_is
     (subst (λ (s : ℕ). HasJoined s c.args.seat cs (set cs c.from-place.result c.join.new.self)) same
-    (has-joined cs c.from-place.result c.index_mut.result.now c.join.new.self c.args.seat at c.join.ensures.told))
+    (has-joined cs c.from-place.result c.index_mut.result.now c.join.new.self c.args.seat at c.join.ensures.told c.join.ensures.learned))
 
 pub returns-then-place-len-clause-keeps_up : goal.returns-then-place-len-clause-keeps_up
 returns-then-place-len-clause-keeps_up c = λ settings r up.

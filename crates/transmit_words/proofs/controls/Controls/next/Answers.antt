@@ -1,11 +1,13 @@
-use Rattle.std.proofs.Common.{◌≡◌, ℕ, Some, refl, sym, ap, ◌∙◌, subst, arith, set}
+use Rattle.std.proofs.Common.{◌≡◌, ℕ, List, Some, refl, sym, ap, ◌∙◌, subst, arith, set}
 use Rattle.std.proofs.lemmas.Option.{slice_get_read}
 use Rattle.std.specs.Prelude.{slice_get}
+use Rattle.association_slots.specs.Views.{ControlAt}
+use Rattle.transmit_words.specs.Ties.{HaveLooked}
 use Rattle.lan_core.specs.declared.event.Event.TheVariants as events
 use Rattle.group_safety.proofs.Public.{next-told}
 use Rattle.transmit_words.specs.Telling.{KeepUp, CatchUp}
 use Rattle.transmit_words.specs.Ties.{tables_of, AreTied, AreAhead, HaveKeptUp, KeepAhead, HaveCaughtUp, CaughtAhead}
-use Rattle.transmit_words.proofs.Stations.{tables-set, next-all, said-shown, said-ahead, said-near}
+use Rattle.transmit_words.proofs.Stations.{looked-none, looked-set, tables-set, next-all, said-shown, said-ahead, said-near}
 use Rattle.transmit_words.proofs.controls.Controls.next.Goals as goal
 
 pub returns-then-place-len-clause-next : goal.returns-then-place-len-clause-next
@@ -57,3 +59,19 @@ returns-then-place-len-clause-catches_up c = λ settings r caught there.
       subst (λ (p : ℕ). CaughtAhead settings r (events.Tick c.args.station c.next.result) (set cs p c.next.new.self)) (sym same)
           (said-shown CatchUp settings r cs c.args.station c.index_mut.result.now c.next.new.self had at_s c.next.result (λ m t. (c.next.ensures.catches_up m t).1)),
     )
+
+pub returns-then-place-len-clause-looked : goal.returns-then-place-len-clause-looked
+returns-then-place-len-clause-looked c =
+    let cs = c.self.inside.controls.items in
+    let at = slice_get_read cs _ c.from-place.result c.index_mut.result.now refl (omega arith) c.index_mut.ensures.value in
+    subst (λ (old : List ControlAt). HaveLooked old (set cs c.from-place.result c.next.new.self)) c.self.view_is
+    (looked-set cs c.from-place.result c.index_mut.result.now c.next.new.self at c.next.ensures.points c.next.ensures.seats c.next.ensures.cards
+    (λ settings r up. (
+      c.from-place.result,
+      c.next.result,
+      said-shown KeepUp settings r cs c.from-place.result c.index_mut.result.now c.next.new.self up at c.next.result c.next.ensures.keeps_up,
+    )))
+
+pub returns-else-place-len-clause-looked : goal.returns-else-place-len-clause-looked
+returns-else-place-len-clause-looked c =
+    subst (λ (old : List ControlAt). HaveLooked old old) c.self.view_is (looked-none c.self.inside.controls.items)

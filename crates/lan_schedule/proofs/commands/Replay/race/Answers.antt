@@ -1,0 +1,29 @@
+use Rattle.std.proofs.Common.{◌≡◌, refl, sym, ap, ◌∙◌, subst}
+use Rattle.lan_schedule.specs.Races.{Controlling, Phase}
+use Rattle.lan_schedule.specs.World.{names_of}
+use Rattle.lan_schedule.specs.Ends.{moment}
+use Rattle.lan_schedule.specs.Standing.{AreFit, phase_of}
+use Rattle.lan_schedule.specs.declared.phase.Phase.{Phase as Stood}
+use Rattle.lan_schedule.proofs.Replaying.{raced-does, never-does, unbegun-never, none-stage}
+use Rattle.lan_schedule.proofs.RaceComes.{race-comes}
+use Rattle.lan_schedule.proofs.commands.Replay.race.Goals as goal
+
+pub returns-in_default : goal.returns-in_default
+returns-in_default g c =
+    never-does _ (moment c.args.self.now c.args.outlet.now) _ _ (λ w stands.
+    unbegun-never w c.args.self.now stands
+    (sym c.take.ensures.value ∙ none-stage _ c.in_default.not-Some) c.requires.controls)
+
+pub returns : goal.returns
+returns g c =
+    let bursts = c.in-Controlling.bursts.items in
+    let control = c.in-Controlling.control.items in
+    let stood : phase_of c.args.self.now.phase ≡ Controlling bursts control =
+    ap (λ (p : Stood). phase_of p) (sym c.replace.ensures.value ∙ c.in-Controlling.is) in
+    raced-does bursts control (moment c.args.self.now c.args.outlet.now) _ c.in-Some.stage
+    c.run_race-stage.result.0 c.run_race-stage.result.1
+    (sym c.take.ensures.value ∙ c.in-Some.is) stood refl refl
+    (ap (λ (p : Stood). phase_of p) c.replace.ensures.after)
+    (λ w stands tidy. race-comes bursts control w tidy
+    (subst (λ (p : Phase). AreFit (names_of w.run) p) (stands.phase ∙ stood) stands.fit).1)
+    (rw c.deref.ensures.value at c.run_race-stage.ensures)

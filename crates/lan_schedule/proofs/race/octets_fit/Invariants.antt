@@ -1,0 +1,8 @@
+-- So many are left for the bursts that were not asked yet.
+use Rattle.std.proofs.Common.{◌≡◌, ◌+◌, drop}
+use Rattle.lan_schedule.specs.Races.{octets_asked}
+use Rattle.lan_schedule.proofs.race.octets_fit.Given as goal
+
+abbrev pub invariant-loop-burst : goal.invariant-loop-burst
+invariant-loop-burst l = octets_asked l.bursts + l.left
+    ≡ octets_asked (drop l.burst-index l.bursts) + l.initial.left

@@ -1,0 +1,113 @@
+use Rattle.std.proofs.Common.{Ok, ◌∷◌, refl}
+use Rattle.std.specs.Prelude.{Err}
+use Rattle.lan_core.specs.Run.{happened}
+use Rattle.lan_schedule.specs.Ends.{moment}
+use Rattle.lan_schedule.proofs.Happening.{before_step, from-earlier, event-went, went-wanting, went-err}
+use Rattle.lan_schedule.proofs.Recorded.{kept-so}
+use Rattle.lan_schedule.proofs.stage.Stage.go_on.Goals as goal
+
+pub returns : goal.returns
+returns g c = λ earlier step.
+    from-earlier c.args.event.now c.args.facts c.args.self.now earlier c.args.outlet.now _ _ step.same
+    (event-went c.args.event.now c.args.facts c.args.self.now
+    (moment (before_step earlier c.args.self.now) c.args.outlet.now) _ (Ok tt) c.requires refl refl
+    (record {
+      line = refl;
+      lag = refl;
+      users = refl;
+      cuts = refl;
+      names = c.in_ok-admit.ensures.names;
+      scis = c.in_ok-admit.ensures.scis;
+      frames = rw c.as_slice.ensures at c.in_ok-put.ensures;
+      raced = refl;
+      words = λ raced racing settings users r before after stepped exact set.
+          (rw c.as_slice-2.ensures at c.in_ok-follow.ensures.says) raced racing settings users
+          earlier.lan r before after stepped exact set;
+      cards = λ raced racing settings users r before after stepped set carded.
+          (rw c.as_slice-2.ensures at c.in_ok-follow.ensures.cards) raced racing settings users
+          earlier.lan r before after stepped set carded;
+      tally = λ shown stood. (rw c.as_slice-4.ensures at c.count_all.ensures) shown stood;
+      octets = rw c.as_slice-3.ensures at c.in_ok-put_octets.ensures;
+      kept = λ settings users r before after.
+          kept-so _ _ _ _ _ _ _ (step.epoch settings users r before)
+          (c.epoch-after.ensures settings users (happened c.args.event.now c.args.facts ∷ r) after)
+          c.in_ok-keep.ensures;
+      followed = λ goes settings users r after.
+          (rw c.as_slice-2.ensures at c.in_ok-follow.ensures.followed) goes settings users r after;
+      tables = c.in_ok-follow.ensures.tables;
+    })
+    c.law_words_keep_a_run_thrifty.ensures (record {
+      goes_on = record {
+        run = c.law_control_goes_on.ensures.run;
+        performed = c.law_control_goes_on.ensures.performed;
+        gone = c.law_control_goes_on.ensures.gone;
+      };
+      tells = c.law_an_event_tells_the_words.ensures;
+    })
+    (rw c.deref.ensures.value at c.in_ok-record.ensures))
+
+pub returns-in_err-record : goal.returns-in_err-record
+returns-in_err-record g c = λ earlier step.
+    from-earlier c.args.event.now c.args.facts c.args.self.now earlier c.args.outlet.now _ _ step.same
+    (went-err _ _ _ _ _ _ _
+    (event-went c.args.event.now c.args.facts c.args.self.now
+    (moment (before_step earlier c.args.self.now) c.args.outlet.now) _ (Err c.in_err-record.field-0.0) c.requires refl refl
+    (record {
+      line = refl;
+      lag = refl;
+      users = refl;
+      cuts = refl;
+      names = c.in_ok-admit.ensures.names;
+      scis = c.in_ok-admit.ensures.scis;
+      frames = rw c.as_slice.ensures at c.in_ok-put.ensures;
+      raced = refl;
+      words = λ raced racing settings users r before after stepped exact set.
+          (rw c.as_slice-2.ensures at c.in_ok-follow.ensures.says) raced racing settings users
+          earlier.lan r before after stepped exact set;
+      cards = λ raced racing settings users r before after stepped set carded.
+          (rw c.as_slice-2.ensures at c.in_ok-follow.ensures.cards) raced racing settings users
+          earlier.lan r before after stepped set carded;
+      tally = λ shown stood. (rw c.as_slice-4.ensures at c.count_all.ensures) shown stood;
+      octets = rw c.as_slice-3.ensures at c.in_ok-put_octets.ensures;
+      kept = λ settings users r before after.
+          kept-so _ _ _ _ _ _ _ (step.epoch settings users r before)
+          (c.epoch-after.ensures settings users (happened c.args.event.now c.args.facts ∷ r) after)
+          c.in_ok-keep.ensures;
+      followed = λ goes settings users r after.
+          (rw c.as_slice-2.ensures at c.in_ok-follow.ensures.followed) goes settings users r after;
+      tables = c.in_ok-follow.ensures.tables;
+    })
+    c.law_words_keep_a_run_thrifty.ensures (record {
+      goes_on = record {
+        run = c.law_control_goes_on.ensures.run;
+        performed = c.law_control_goes_on.ensures.performed;
+        gone = c.law_control_goes_on.ensures.gone;
+      };
+      tells = c.law_an_event_tells_the_words.ensures;
+    })
+    (rw c.deref.ensures.value at c.in_err-record.ensures)) c.from_residual-in_err-record.ensures.1)
+
+pub returns-in_err-put : goal.returns-in_err-put
+returns-in_err-put g c = λ earlier step.
+    from-earlier c.args.event.now c.args.facts c.args.self.now earlier c.args.outlet.now _ _ step.same
+    (went-err _ _ _ _ _ _ _ (went-wanting _ _ _ _ _ refl refl (λ s table at. at)) c.from_residual.ensures.1)
+
+pub returns-in_err-follow : goal.returns-in_err-follow
+returns-in_err-follow g c = λ earlier step.
+    from-earlier c.args.event.now c.args.facts c.args.self.now earlier c.args.outlet.now _ _ step.same
+    (went-err _ _ _ _ _ _ _ (went-wanting _ _ _ _ _ refl refl c.in_err-follow.ensures.tables) c.from_residual-in_err-follow.ensures.1)
+
+pub returns-in_err-admit : goal.returns-in_err-admit
+returns-in_err-admit g c = λ earlier step.
+    from-earlier c.args.event.now c.args.facts c.args.self.now earlier c.args.outlet.now _ _ step.same
+    (went-err _ _ _ _ _ _ _ (went-wanting _ _ _ _ _ refl refl c.in_ok-follow.ensures.tables) c.from_residual-in_err-admit.ensures.1)
+
+pub returns-in_err-put_octets : goal.returns-in_err-put_octets
+returns-in_err-put_octets g c = λ earlier step.
+    from-earlier c.args.event.now c.args.facts c.args.self.now earlier c.args.outlet.now _ _ step.same
+    (went-err _ _ _ _ _ _ _ (went-wanting _ _ _ _ _ refl refl c.in_ok-follow.ensures.tables) c.from_residual-in_err-put_octets.ensures.1)
+
+pub returns-in_err-keep : goal.returns-in_err-keep
+returns-in_err-keep g c = λ earlier step.
+    from-earlier c.args.event.now c.args.facts c.args.self.now earlier c.args.outlet.now _ _ step.same
+    (went-err _ _ _ _ _ _ _ (went-wanting _ _ _ _ _ refl refl c.in_ok-follow.ensures.tables) c.from_residual-in_err-keep.ensures.1)

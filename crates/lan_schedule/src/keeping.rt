@@ -1,0 +1,85 @@
+//! What events show is kept, to be told later.
+
+ghost use Rattle.std.specs.Prelude.{◌≡◌, ◌++◌, ◌∷◌, [], OnOk};
+ghost use Rattle.lan_schedule.specs.inside.Weaves.{first_kept, rest_kept};
+
+use crate::recorder::{Broken, Recorder};
+use lan_base::Name;
+use lan_core::{Fact, Facts};
+use std::alloc::{AllocError, Global};
+use std::collections::VecDeque;
+use std::marker::Model;
+
+/// The facts of events, the oldest first. Contracts see a list for each event.
+#[derive(Drop)]
+pub struct Kept {
+    shown: VecDeque<Facts>,
+}
+
+impl Model for Kept {
+    ghost use Rattle.std.specs.Prelude.{List};
+    ghost use Rattle.lan_core.specs.declared.fact.Fact.{Fact};
+
+    ghost Value = { List (List Fact) };
+
+    ghost view = { λ k. k.shown.items };
+}
+
+impl Kept {
+    /// Nothing happened.
+    pub fn new(alloc: Global) -> Self
+        ensures { result ≡ [] }
+    {
+        Kept {
+            shown: VecDeque::new(alloc),
+        }
+    }
+
+    /// One event more showed facts.
+    pub fn keep(&mut self, facts: Facts) -> Result<(), AllocError>
+        ensures { OnOk result (self.new ≡ self.old ++ facts ∷ []) }
+    {
+        self.shown.push_back(facts)?;
+        Ok(())
+    }
+
+    /// A recorder takes the memory that telling all of this will need.
+    pub fn prepare<K, R: Recorder<K>>(
+        &self,
+        names: &[Name],
+        recorder: &mut R,
+    ) -> Result<(), AllocError> {
+        for facts in &self.shown {
+            recorder.prepare(names, facts.as_slice())?;
+        }
+        Ok(())
+    }
+
+    /// Takes out what the oldest event showed, if there is one.
+    pub fn next(&mut self) -> Option<Facts>
+        ensures { (result ≡ first_kept self.old) × (self.new ≡ rest_kept self.old) }
+    {
+        self.shown.pop_front()
+    }
+}
+
+/// A recorder that keeps what it is told, whatever the names.
+#[derive(Clone, Copy, Debug)]
+pub struct Keeping;
+
+impl Recorder<Kept> for Keeping {
+    ghost use Rattle.lan_schedule.specs.inside.Weaves.{KeepsReport, KeepsNoMore};
+
+    ghost Took = { KeepsReport };
+
+    ghost Broke = { KeepsNoMore };
+
+    fn prepare(&mut self, _names: &[Name], _facts: &[Fact]) -> Result<(), AllocError> {
+        Ok(())
+    }
+
+    fn record(&mut self, _names: &[Name], facts: Facts, outlet: &mut Kept) -> Result<(), Broken> {
+        outlet.keep(facts)?;
+        Ok(())
+    }
+}

@@ -1,0 +1,31 @@
+//! Control of a race: its lines are performed while the workers claim.
+
+use crate::halt::Halt;
+use crate::keeping::{Keeping, Kept};
+use crate::phase::Numbered;
+use crate::stage::Stage;
+use data_workers::Steering;
+use packet_claims::Gate;
+
+/// A group at work with the lines of control, what these show, and how they end.
+#[derive(Drop)]
+pub struct Runner<'g, G> {
+    pub stage: Stage,
+    pub lines: Vec<Numbered>,
+    pub kept: Kept,
+    pub came: Result<(), Halt>,
+    pub gate: &'g G,
+}
+
+impl<G: Gate> Steering for Runner<'_, G> {
+    ghost use Rattle.lan_schedule.specs.inside.Beside.{Controlled};
+
+    ghost Steers = { λ before after. Controlled before.lines.items before.stage before.kept
+        after.stage after.kept after.came };
+
+    fn run(&mut self) {
+        self.came = self
+            .stage
+            .control(&self.lines, &mut Keeping, &mut self.kept, self.gate);
+    }
+}

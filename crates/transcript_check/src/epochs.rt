@@ -1,0 +1,117 @@
+//! Which installs were told so far, and so which facts are refused.
+
+ghost use Rattle.std.specs.Prelude.{◌≡◌, ◌++◌, ◌∷◌, ◌↔◌, [], List, Some, Ok, Err, OnOk, OnErr, is_ok, ok_or, true, ℕ};
+ghost use Rattle.lan_base.specs.declared.address.Mi.{Mi};
+ghost use Rattle.lan_core.specs.declared.fact.Fact.{Fact};
+ghost use Rattle.lan_core.specs.declared.fact.Fact.TheVariants as shows;
+ghost use Rattle.std.specs.Map.{remove_entry};
+ghost use Rattle.std.specs.BTreeMap.{is_at};
+ghost use Rattle.transcript_check.specs.declared.fault.CheckError.TheVariants.{Refused};
+ghost use Rattle.transcript_check.specs.declared.fault.CheckFault.{CheckFault};
+ghost use Rattle.transcript_check.specs.declared.fault.CheckFault.TheVariants.{Orphan};
+ghost use Rattle.transcript_check.specs.Standing.{AreSaksOf, pair_cmp, refusal, sak_under};
+ghost use Rattle.transcript_check.specs.inside.Steps.{Enters, Opens};
+
+use crate::fault::{CheckError, CheckFault};
+use aes_block::Secret;
+use lan_core::Fact;
+use std::alloc::Global;
+use std::collections::BTreeMap;
+use std::marker::Model;
+
+/// The SAK that each station installed under each epoch, which decides whether a fact is refused.
+/// Contracts see the entries.
+#[derive(Drop)]
+pub struct Epochs {
+    saks: BTreeMap<(u8, u32), Secret>,
+}
+
+impl Model for Epochs {
+    ghost use Rattle.transcript_check.specs.Standing.{Saks};
+
+    ghost Value = { Saks };
+
+    ghost view = { λ e. e.saks.entries };
+}
+
+impl Epochs {
+    /// No install. No memory is taken.
+    pub fn new(alloc: Global) -> Epochs
+        ensures { AreSaksOf [] result }
+    {
+        Epochs {
+            saks: BTreeMap::new(alloc),
+        }
+    }
+
+    /// A fact more, unless it is refused. An error leaves the value as it was; a life meets none.
+    pub fn take(&mut self, fact: &Fact) -> Result<(), CheckError>
+        ensures taken { (facts : List Fact) → AreSaksOf facts self.old
+            → OnOk result (AreSaksOf (facts ++ fact.now ∷ []) self.new) }
+        ensures refused { (facts : List Fact) → AreSaksOf facts self.old → (why : CheckFault)
+            → (result ≡ Err (Refused why)) ↔ (refusal facts fact.now ≡ Some why) }
+        ensures kept { OnErr result (self.new ≡ self.old) }
+        ensures life { (s : ℕ) (mi : Mi) → fact.now ≡ shows.Life s mi → is_ok result ≡ true }
+    {
+        self.enter(fact)
+    }
+
+    /// The SAK that a station installed under an epoch.
+    pub(crate) fn sak(&self, station: u8, epoch: u32) -> Result<Secret, CheckFault>
+        ensures { result ≡ ok_or (sak_under self.now station epoch) Orphan }
+    {
+        self.saks
+            .get(&(station, epoch))
+            .copied()
+            .ok_or(CheckFault::Orphan)
+    }
+
+    /// A station installs a SAK under an epoch.
+    pub(crate) fn install(&mut self, station: u8, epoch: u32, sak: Secret) -> Result<(), CheckError>
+        ensures { Opens station epoch sak self.old self.new (sak_under self.old station epoch) result }
+    {
+        if self.saks.contains_key(&(station, epoch)) {
+            return Err(CheckFault::Doubled.into());
+        }
+        match self.saks.insert((station, epoch), sak) {
+            Ok(_) => Ok(()),
+            Err(_) => Err(CheckError::Memory),
+        }
+    }
+
+    /// The SAK of a station's epoch is kept no more.
+    pub(crate) fn forget(&mut self, station: u8, epoch: u32)
+        ensures { self.new ≡ remove_entry (is_at (pair_cmp (station, epoch))) self.old }
+    {
+        self.saks.remove(&(station, epoch));
+    }
+
+    /// A fact is taken.
+    fn enter(&mut self, fact: &Fact) -> Result<(), CheckError>
+        ensures { Enters fact.now self.old self.new result }
+    {
+        match fact {
+            Fact::Installed {
+                station,
+                epoch,
+                sak,
+                ..
+            } => self.install(*station, *epoch, *sak),
+            Fact::Claimed { station, epoch, .. } => {
+                self.sak(*station, *epoch)?;
+                Ok(())
+            }
+            Fact::Life { .. }
+            | Fact::Ticked { .. }
+            | Fact::Server { .. }
+            | Fact::Dropped { .. }
+            | Fact::Retired { .. }
+            | Fact::Began { .. }
+            | Fact::Untaken { .. }
+            | Fact::Framed { .. }
+            | Fact::HeardMka { .. }
+            | Fact::Arrived { .. }
+            | Fact::Unclaimed { .. } => Ok(()),
+        }
+    }
+}

@@ -1,0 +1,148 @@
+-- The cards of words that a race leaves, and of those of a station that is about to start.
+use Rattle.std.proofs.Common.{◌≡◌, ◌<◌, ℕ, zero, suc, List, [], ◌∷◌, ◌++◌, length, Some, refl, sym, ap, ◌∙◌, subst, arith}
+use Rattle.std.proofs.Common.{inl, inr}
+use Rattle.std.proofs.lemmas.Bool.{cases_Bool, cases_lt}
+use Rattle.std.specs.Prelude.{slice_get}
+use Rattle.lan_base.specs.declared.frame.UserFrame.{UserFrame}
+use Rattle.sak_exchange.specs.declared.held_key.Key.{Key}
+use Rattle.association_slots.specs.Cards.{card_at}
+use Rattle.association_slots.specs.Steps.{seated, told}
+use Rattle.association_slots.specs.Views.{ControlAt, SeatAt}
+use Rattle.association_slots.specs.declared.view.ControlView.{ControlView}
+use Rattle.data_workers.specs.Workers.{WorkerAt}
+use Rattle.lan_core.specs.declared.settings.Settings.{Settings}
+use Rattle.lan_core.specs.Legal.{IsStepped}
+use Rattle.lan_core.specs.Lives.{life}
+use Rattle.lan_core.specs.Parts.{AreAlike, followed_by, is_claim, without_claims}
+use Rattle.lan_core.specs.Run.{Happening, Run, stations}
+use Rattle.lan_core.proofs.Public.{alike-event, alike-itself, claim-alike, stepped-front}
+use Rattle.race_merge.specs.Sealing.{AreCards, HasInLife, HasInstalled}
+use Rattle.race_merge.specs.Weaving.{IsWoven}
+use Rattle.race_merge.proofs.Public.{none-there}
+use Rattle.transmit_words.specs.Seats.{HasJoined, WasSeated}
+use Rattle.transmit_words.specs.Ties.{HaveLooked, KeepCards}
+use Rattle.transmit_words.proofs.Public.{cards-set}
+use Rattle.worker_races.specs.Beside.{Race, WereBeside, attempts_in, cards_in}
+use Rattle.worker_races.specs.Carded.{AreCarded}
+use Rattle.worker_races.specs.Going.{HaveJoined, WereSeated}
+use Rattle.worker_races.specs.Performed.{happenings, run_after}
+use Rattle.worker_races.specs.Reading.{view_in}
+use Rattle.worker_races.proofs.CardsOn.{none-installed}
+use Rattle.worker_races.proofs.Gone.{some-at}
+use Rattle.worker_races.proofs.Races.{many-after, same-stations, stepped-on}
+use Rattle.worker_races.proofs.Sealed.{same-cards}
+
+-- ---- words whose cards stay
+
+pub carded-kept : (settings : Settings) (r : Run) (old new : List ControlAt) → KeepCards old new
+    → AreCarded settings r old → AreCarded settings r new
+carded-kept settings r old new kept carded s d there k has =
+    let y = kept s d there in same-cards y.0.view d.view y.2 k.epoch ∙ carded s y.0 y.1 k has
+
+kept-then : (a b c : List ControlAt) → KeepCards a b → KeepCards b c → KeepCards a c
+kept-then a b c first second s d there =
+    let y = second s d there in let x = first s y.0 y.1 in (x.0, x.1, y.2 ∙ x.2)
+
+pub looked-kept : (old new : List ControlAt) → HaveLooked old new → KeepCards old new
+looked-kept old new look s d there = let y = look.each s d there in (y.0, y.1, y.4)
+
+seated-one : (s : ℕ) (old new : List ControlAt) (seat : SeatAt) → WasSeated s old new seat → KeepCards old new
+seated-one s old new seat was = subst (λ cs. KeepCards old cs) (sym was.new_is)
+    (cards-set old s was.control (record was.control { view = seated was.control.view }) was.there refl)
+
+pub seated-kept : (ws : List WorkerAt) (old new : List ControlAt) → WereSeated ws old new → KeepCards old new
+seated-kept [] old new were = subst (λ cs. KeepCards old cs) (sym were) (λ s d there. (d, there, refl))
+seated-kept (w ∷ ws) old new were =
+    kept-then old were.0 new (seated-one w.sender.station old were.0 w.seat were.1) (seated-kept ws were.0 new were.2)
+
+joined-one : (s : ℕ) (seat : SeatAt) (old new : List ControlAt) → HasJoined s seat old new → KeepCards old new
+joined-one s seat old new has = subst (λ cs. KeepCards old cs) (sym has.new_is)
+    (cards-set old s has.control (record has.control { view = told has.control.view seat.view }) has.there refl)
+
+joined-kept : (settings : Settings) (r : Run) (ws : List WorkerAt) (old new : List ControlAt)
+    → HaveJoined settings r ws old new → KeepCards old new
+joined-kept settings r [] old new have = subst (λ cs. KeepCards old cs) (sym have) (λ s d there. (d, there, refl))
+joined-kept settings r (w ∷ ws) old new have =
+    kept-then old have.0 new (joined-one w.sender.station w.seat old have.0 have.1) (joined-kept settings r ws have.0 new have.3)
+
+-- ---- who installed a key
+
+placed : (settings : Settings) (users : List UserFrame) (s : ℕ) (k : Key) (r : Run) → IsStepped settings users r
+    → HasInstalled settings s k r → s < length (stations r)
+placed settings users s k r stepped has = elim (cases_lt s (length (stations r))) [
+  | inl there ↦ there
+  | inr past ↦ absurd (none-installed settings users s k r stepped (none-there settings users s r stepped past) has)
+]
+
+installed-now : (settings : Settings) (s : ℕ) (k : Key) (q : Run) → HasInLife k (life settings s q) → HasInstalled settings s k q
+unfolding life
+installed-now settings s k [] has = absurd has
+installed-now settings s k (x ∷ q) has = inl has
+
+-- what was installed with claims beside was so without them
+installed-alone : (settings : Settings) (users : List UserFrame) (s : ℕ) (k : Key) (part : List Happening) (q c : Run)
+    → IsStepped settings users (followed_by part q) → AreAlike settings q c
+    → (HasInstalled settings s k q → HasInstalled settings s k c)
+    → HasInstalled settings s k (followed_by part q) → HasInstalled settings s k (followed_by (without_claims part) c)
+installed-alone settings users s k [] q c stepped alike on has = on has
+installed-alone settings users s k (x ∷ part) q c stepped alike on has = elim (cases_Bool (is_claim x.event)) [
+  | inl claim ↦ (let then = claim-alike settings users x q c (stepped-front settings users part (x ∷ q) stepped).0 claim alike in
+      rw claim (installed-alone settings users s k part (x ∷ q) c stepped then
+      (λ h. elim h [
+        | inl now ↦ installed-now settings s k c (subst (HasInLife k) (then.lives s) now)
+        | inr before ↦ on before
+      ]) has))
+  | inr other ↦ (let then = alike-event settings q c alike x in
+      rw other (installed-alone settings users s k part (x ∷ q) (x ∷ c) stepped then
+      (λ h. elim h [
+        | inl now ↦ inl (subst (HasInLife k) (then.lives s) now)
+        | inr before ↦ inr (on before)
+      ]) has))
+]
+
+-- ---- a station that is about to start
+
+front-stays : {A : Type 0} (xs ys : List A) (n : ℕ) (a : A) → slice_get xs n ≡ Some a → slice_get (xs ++ ys) n ≡ Some a
+front-stays [] ys n a is = absurd (cc is)
+front-stays (x ∷ xs) ys zero a is = is
+front-stays (x ∷ xs) ys (suc n) a is = front-stays xs ys n a is
+
+pub carded-more : (settings : Settings) (users : List UserFrame) (r : Run) (cs : List ControlAt) (c : ControlAt)
+    → IsStepped settings users r → length cs ≡ length (stations r) → AreCarded settings r cs
+    → AreCarded settings r (cs ++ c ∷ [])
+carded-more settings users r cs c stepped many carded s d there k has =
+    let less = placed settings users s k r stepped has in
+    let some = some-at cs s (omega (arith, less, many)) in
+    let both : Some some.0 ≡ Some d = sym (front-stays cs (c ∷ []) s some.0 some.1) ∙ there in
+    let same : some.0 ≡ d = cc both in
+    subst (λ (e : ControlAt). card_at e.view k.epoch ≡ record { sak = k.sak; conf = k.conf }) same
+    (carded s some.0 some.1 k has)
+
+-- ---- behind a race
+
+module _ (race : Race) (is : WereBeside race)
+    (carded : AreCarded race.settings (run_after race.performed race.run) race.moved) where
+  abbrev on : Run
+  on = run_after race.performed race.run
+
+  after : AreCarded race.settings on race.after
+  after = carded-kept race.settings on race.moved race.after
+      (kept-then race.moved race.looked race.after (looked-kept race.moved race.looked is.looked)
+      (joined-kept race.settings on race.ended race.looked race.after is.joined)) carded
+
+  pub cards-known : AreCards race.settings (cards_in race) on
+  cards-known s k has =
+      let less = placed race.settings race.users s k on (stepped-on race is) has in
+      let some = some-at race.after s
+      (let many = many-after race is in let same = ap length (same-stations race is) in omega (arith, less, many, same)) in
+      ap (λ (c : ControlView). card_at c k.epoch) (ap view_in some.1) ∙ after s some.0 some.1 k has
+
+  pub cards-behind : (part : List Happening)
+      → IsWoven race.base part (happenings race.performed) (attempts_in race)
+      → IsStepped race.settings race.users (followed_by part race.run)
+      → AreCarded race.settings (followed_by part race.run) race.after
+  cards-behind part woven whole s c there k has =
+      after s c there k
+      (subst (λ hs. HasInstalled race.settings s k (followed_by hs race.run)) woven.control
+      (installed-alone race.settings race.users s k part race.run race.run whole
+      (alike-itself race.settings race.run) (λ h. h) has))

@@ -1,0 +1,2 @@
+-- What other crates may cite of the proofs.
+pub use Rattle.worker_races.proofs.CardsBehind.{carded-kept, looked-kept, seated-kept}
