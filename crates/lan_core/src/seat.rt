@@ -451,13 +451,29 @@ impl Seat {
         let sci = self.station.sci();
         match &self.sender {
             Some(sender) if sender.is_of(&key.sak) => sender.frame(self.alloc, sci, key, pn, user),
-            _ => {
-                let sender = Sender::of(&key.sak);
-                let octets = sender.frame(self.alloc, sci, key, pn, user);
-                self.sender = Some(sender);
-                octets
-            }
+            _ => self.first_protected(key, pn, user),
         }
+    }
+
+    /// The same, where the key has to be prepared first. A prepared key is large: this keeps the
+    /// room for it out of those who call this seldom.
+    #[inline(never)]
+    fn first_protected(
+        &mut self,
+        key: &Key,
+        pn: u32,
+        user: &UserFrame,
+    ) -> Result<Octets, AllocError>
+        requires pn { 1 ≤ pn }
+        requires user { IsUserData user.now.body }
+        ensures octets { IfOk result (λ octets. octets ≡ protected (secret_octets key.now.sak)
+            self.old.station.setup.sci key.now.an pn key.now.conf user.now) }
+        ensures same { self.new ≡ self.old }
+    {
+        let sender = Sender::of(&key.sak);
+        let octets = sender.frame(self.alloc, self.station.sci(), key, pn, user);
+        self.sender = Some(sender);
+        octets
     }
 }
 

@@ -34,7 +34,9 @@ use mka_station::{Config, mi_of};
 use std::alloc::AllocError;
 
 impl Lan {
-    /// A station begins its first life.
+    /// A station begins its first life. A station is large: this keeps the room for it out of the
+    /// steps that start none.
+    #[inline(never)]
     pub(super) fn start<D: Draws>(
         &mut self,
         name: Name,
@@ -134,6 +136,7 @@ impl Lan {
     }
 
     /// A station starts again.
+    #[inline(never)]
     pub(super) fn restart<D: Draws>(
         &mut self,
         station: u8,
