@@ -6,7 +6,6 @@ use Rattle.trace_text.specs.Answering.{Answers}
 use Rattle.trace_text.specs.declared.fault.LineError.{LineError}
 use Rattle.trace_text.specs.declared.fault.TextFault.{TextFault}
 use Rattle.trace_text.specs.declared.fault.TextFault.TheVariants.{TooLong, Word}
-use Rattle.trace_text.specs.declared.line.Line.{Line}
 use Rattle.trace_text.specs.Limits.{most_line}
 use Rattle.trace_text.specs.Words.{words_of, is_word}
 use Rattle.trace_text.specs.Kinds.{said, name, secret, key_name}
