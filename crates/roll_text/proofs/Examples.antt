@@ -6,7 +6,9 @@ use Rattle.trace_text.specs.declared.fault.TextFault.TheVariants.{TooLong, Word,
 use Rattle.trace_text.specs.declared.line.Line.TheVariants.{DrawsCount, Tick, TickOne, Restart}
 use Rattle.trace_text.specs.Keywords.{keyword_of}
 use Rattle.roll_text.specs.declared.line.RollLine.TheVariants.{Plain, Group2, Adopt, Leave}
+use Rattle.roll_text.specs.InForm.{IsInFormRoll}
 use Rattle.roll_text.specs.Reading.{roll_line_in}
+use Rattle.roll_text.proofs.InForm.{roll_read_fits}
 
 empty : roll_line_in (codes " \t") ≡ Ok None
 unfolding roll_line_in keyword_of
@@ -20,6 +22,9 @@ comment = refl
 restarts : roll_line_in (codes "restart A") ≡ Ok (Some (Plain (Restart (codes "A"))))
 unfolding roll_line_in keyword_of
 restarts = refl
+
+restart_fits : IsInFormRoll (Plain (Restart (codes "A")))
+restart_fits = roll_read_fits (codes "restart A") (Plain (Restart (codes "A"))) restarts
 
 counted : roll_line_in (codes "draws count") ≡ Ok (Some (Plain DrawsCount))
 unfolding roll_line_in keyword_of
@@ -88,6 +93,9 @@ adopts_no_name = refl
 leaves : roll_line_in (codes "leave 3 B") ≡ Ok (Some (Leave 3 (codes "B")))
 unfolding roll_line_in keyword_of
 leaves = refl
+
+leave_fits : IsInFormRoll (Leave 3 (codes "B"))
+leave_fits = roll_read_fits (codes "leave 3 B") (Leave 3 (codes "B")) leaves
 
 leaves_the_greatest : roll_line_in (codes "leave 4294967295 B") ≡ Ok (Some (Leave 4294967295 (codes "B")))
 unfolding roll_line_in keyword_of

@@ -22,11 +22,11 @@ use Rattle.roll_text.proofs.Shared.{first_shared}
 group2_fits : (words : List (List ℕ)) (line : RollLine) → group2_of words ≡ Ok line → IsInFormRoll line
 group2_fits [] line e = absurd cc
 group2_fits (key ∷ []) line e = absurd cc
-group2_fits (key ∷ of_key ∷ []) line e =
-    let p = both_steps (said secret key) (λ cak. said key_name of_key >>= (λ ckn. Ok (Group2 cak ckn))) line e in
-    let q = both_steps (said key_name of_key) (λ ckn. Ok (Group2 p.0 ckn)) line p.2 in
-    subst IsInFormRoll (same_value (Group2 p.0 q.0) line q.2) (said_fits secret key p.0 p.1, said_fits key_name of_key q.0 q.1)
-group2_fits (key ∷ of_key ∷ word ∷ words) line e = absurd cc
+group2_fits (key ∷ its_name ∷ []) line e =
+    let p = both_steps (said secret key) (λ cak. said key_name its_name >>= (λ ckn. Ok (Group2 cak ckn))) line e in
+    let q = both_steps (said key_name its_name) (λ ckn. Ok (Group2 p.0 ckn)) line p.2 in
+    subst IsInFormRoll (same_value (Group2 p.0 q.0) line q.2) (said_fits secret key p.0 p.1, said_fits key_name its_name q.0 q.1)
+group2_fits (key ∷ its_name ∷ word ∷ words) line e = absurd cc
 
 adopt_fits : (words : List (List ℕ)) (line : RollLine) → adopt_of words ≡ Ok line → IsInFormRoll line
 adopt_fits [] line e = absurd cc

@@ -19,11 +19,11 @@ use Rattle.roll_text.proofs.InForm.{some_line}
 group2_other : (words : List (List ℕ)) (line : Line) → group2_of words ≡ Ok (Plain line) → ⊥
 group2_other [] line e = cc
 group2_other (key ∷ []) line e = cc
-group2_other (key ∷ of_key ∷ []) line e =
-    let p = both_steps (said secret key) (λ cak. said key_name of_key >>= (λ ckn. Ok (Group2 cak ckn))) (Plain line) e in
-    let q = both_steps (said key_name of_key) (λ ckn. Ok (Group2 p.0 ckn)) (Plain line) p.2 in
+group2_other (key ∷ its_name ∷ []) line e =
+    let p = both_steps (said secret key) (λ cak. said key_name its_name >>= (λ ckn. Ok (Group2 cak ckn))) (Plain line) e in
+    let q = both_steps (said key_name its_name) (λ ckn. Ok (Group2 p.0 ckn)) (Plain line) p.2 in
     cc q.2
-group2_other (key ∷ of_key ∷ word ∷ words) line e = cc
+group2_other (key ∷ its_name ∷ word ∷ words) line e = cc
 
 adopt_other : (words : List (List ℕ)) (line : Line) → adopt_of words ≡ Ok (Plain line) → ⊥
 adopt_other [] line e = cc

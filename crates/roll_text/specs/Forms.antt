@@ -13,9 +13,9 @@ group_number = number 0 (2 ^ 32 - 1)
 
 -- behind `group2`: a key and its name, as behind `group`
 abbrev pub group2_of : List (List ℕ) → Result RollLine TextFault
-group2_of (key ∷ of_key ∷ []) = do
+group2_of (key ∷ its_name ∷ []) = do
   cak ← said secret key
-  ckn ← said key_name of_key
+  ckn ← said key_name its_name
   Ok (Group2 cak ckn)
 group2_of words = Err Count
 

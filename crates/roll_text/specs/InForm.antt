@@ -7,7 +7,7 @@ use Rattle.roll_text.specs.declared.line.RollLine.{RollLine}
 use Rattle.roll_text.specs.declared.line.RollLine.TheVariants.{Plain, Group2, Adopt, Leave}
 use Rattle.roll_text.specs.Forms.{group_number}
 
--- a line of one group that a trace of two groups has too: no frame goes by itself, and nothing races
+-- a line of one group that a trace of two groups has too: none that says how frames go, or of a race
 abbrev pub IsShared : Line → Type 0
 IsShared (Lag l) = ⊥
 IsShared (Deliver k n) = ⊥
