@@ -164,6 +164,15 @@ impl Facts {
         Ok(Facts { facts })
     }
 
+    /// One fact, in memory for just that one.
+    pub fn one(alloc: Global, fact: Fact) -> Result<Self, AllocError>
+        ensures { IfOk result (λ facts. facts ≡ fact ∷ []) }
+    {
+        let mut facts = Facts::with_capacity(alloc, 1)?;
+        facts.push(fact)?;
+        Ok(facts)
+    }
+
     /// The facts.
     pub fn as_slice(&self) -> &[Fact]
         ensures { result.now ≡ self.now }

@@ -34,7 +34,7 @@ use crate::claimed::Claimed;
 use crate::fact::{Fact, Facts};
 use crate::following::{follow, installs_after, lowest_under};
 use crate::sender::Sender;
-use crate::telling::{one, tell, told};
+use crate::telling::{tell, told};
 use gcm_frames::{Tag, TagRefusal, tag_of};
 use lan_base::{AssociationNumber, Draws, Octets, UserFrame, is_user_data};
 use mka_station::{Config, Reaction, Station, TickError, law_room, law_turns_count};
@@ -289,7 +289,7 @@ impl Seat {
             station: place,
             arrival,
         };
-        one(self.alloc, arrived)
+        Facts::one(self.alloc, arrived)
     }
 
     /// The receive slots.

@@ -63,15 +63,6 @@ pub fn told(
     Ok(facts)
 }
 
-/// One fact.
-pub fn one(alloc: Global, fact: Fact) -> Result<Facts, AllocError>
-    ensures { IfOk result (λ facts. facts ≡ fact ∷ []) }
-{
-    let mut facts = Facts::with_capacity(alloc, 1)?;
-    facts.push(fact)?;
-    Ok(facts)
-}
-
 /// Appends what changes of the keys show.
 fn tell_changes(facts: &mut Facts, station: u8, changes: &[Change]) -> Result<(), AllocError>
     ensures { OnOk result (facts.new ≡ facts.old ++ map (change_fact station) changes.now) }

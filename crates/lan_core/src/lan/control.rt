@@ -28,7 +28,6 @@ use crate::limits::STATIONS_MAX;
 use crate::seat::Seat;
 use crate::settings::group_of;
 use crate::stop::{StepError, Stop, Which};
-use crate::telling::one;
 use lan_base::{Draws, Name, Sci};
 use mka_station::{Config, mi_of};
 use std::alloc::AllocError;
@@ -57,7 +56,7 @@ impl Lan {
         let mi = mi_of(draw);
         note_mi(&mut self.drawn, mi)?;
         let seat = self.seat(sci, priority, draw)?;
-        let facts = one(self.alloc, Fact::Life { station: place, mi })?;
+        let facts = Facts::one(self.alloc, Fact::Life { station: place, mi })?;
         self.seats.push(seat)?;
         self.names.push(name)?;
         Ok(facts)
