@@ -162,7 +162,7 @@ impl Stage {
     }
 
     /// An event happened to the group: the rest follows it, and what it showed is counted and told.
-    /// The epoch is that of before.
+    /// The epoch is that of before, in the midst of a race.
     fn go_on<K, R: Recorder<K>, G: Gate>(
         &mut self,
         event: &Event,
@@ -192,12 +192,16 @@ impl Stage {
         Ok(())
     }
 
-    /// The epoch of the key that transmits at the station of an event.
+    /// The epoch of the key that transmits at the station of an event, which only a race asks for.
     fn epoch(&self, event: &Event) -> Option<u32>
-        ensures { (settings : Settings) (users : List UserFrame) (r : Run)
+        ensures { is_some self.now.steps ≡ true
+            → (settings : Settings) (users : List UserFrame) (r : Run)
             → GroupStandsFor settings users self.now.lan r
             → result ≡ epoch_of settings r event.now }
     {
+        if self.steps.is_none() {
+            return None;
+        }
         let (_, epoch) = self.lan.transmitting(station_of(event)?)?;
         Some(epoch)
     }
