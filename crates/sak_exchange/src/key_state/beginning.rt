@@ -37,7 +37,7 @@ impl KeyState {
     }
 
     /// The latest key, if the station leads with it, and why.
-    fn leads(&self, live: &[Report]) -> Option<(Latest, Cause)>
+    pub(super) fn leads(&self, live: &[Report]) -> Option<(Latest, Cause)>
         ensures { result ≡ leads_now self.now live.now }
     {
         let latest = self.latest?;

@@ -5,7 +5,7 @@ ghost use Rattle.lan_base.specs.declared.address.Mi.{Mi};
 ghost use Rattle.sak_exchange.specs.Histories.{Keying};
 ghost use Rattle.sak_exchange.specs.Outcomes.{dropping, retiring};
 ghost use Rattle.sak_exchange.specs.Standing.{StandsFor};
-ghost use Rattle.sak_exchange.specs.inside.States.{ticked_now, retired_now, retires_now, drops_now};
+ghost use Rattle.sak_exchange.specs.inside.States.{ticked_now, retired_now, retires_now, after_retiring, drops_now};
 
 use super::KeyState;
 use crate::change::{Change, Changes};
@@ -34,6 +34,17 @@ impl KeyState {
             Some(ticks) => Some(ticks.saturating_add(1)),
             None => None,
         };
+    }
+
+    /// A tick passes at which a key server is elected: one more is counted, and the old key goes
+    /// where its time is over.
+    pub(super) fn pass(&mut self)
+        ensures { self.new ≡ after_retiring (ticked_now self.old) }
+    {
+        self.count();
+        if self.retires() {
+            self.former = None;
+        }
     }
 
     /// After a tick at which no key server is elected: every key is dropped.
