@@ -16,8 +16,9 @@ use std::alloc::AllocError;
 impl KeyState {
     /// A tick is counted.
     pub fn tick(&mut self)
-        ensures { (base : ℕ) (own : Mi) (h : List Keying) → StandsFor base own false self.old h →
+        ensures stands { (base : ℕ) (own : Mi) (h : List Keying) → StandsFor base own false self.old h →
             StandsFor base own true self.new h }
+        ensures epochs { self.new.epochs ≡ self.old.epochs }
     {
         self.count();
     }
@@ -58,6 +59,7 @@ impl KeyState {
         ensures prompt { (base : ℕ) (own : Mi) (h : List Keying)
             → StandsFor base own true self.old h →
             (dropping h).changes ≡ [] → IsOk result }
+        ensures epochs { self.new.epochs ≡ self.old.epochs }
         ensures unchanged { OnErr result (self.new ≡ self.old) }
     {
         let changes = self.drops()?;
@@ -93,6 +95,7 @@ impl KeyState {
         ensures prompt { (base : ℕ) (own : Mi) (h : List Keying)
             → StandsFor base own true self.old h →
             (retiring h).changes ≡ [] → IsOk result }
+        ensures epochs { self.new.epochs ≡ self.old.epochs }
         ensures unchanged { OnErr result (self.new ≡ self.old) }
     {
         let Some(key) = self.retired() else {
