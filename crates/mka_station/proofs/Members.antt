@@ -16,22 +16,6 @@ are_of test rows ms = pointwise same_mi (map (λ r. r.mi) (filter test rows)) ms
 next : {X : Type 0} (xs : List X) (i : ℕ) (d : X) → i < length xs → drop i xs ≡ get_or xs i d ∷ drop (i + 1) xs
 next xs i d l = rw add-one (drop-cons xs i d l)
 
-pub row-skipped : (test : Row → Bool) (rows : List Row) (i : ℕ) (d : Row) (ms : List Mi) → i < length rows → test (get_or rows i d) ≡ false
-    → are_of test (drop i rows) ms ≡ are_of test (drop (i + 1) rows) ms
-row-skipped test rows i d ms l is = rw (next rows i d l, is) refl
-
-pub row-same : (test : Row → Bool) (rows : List Row) (i : ℕ) (d : Row) (ms : List Mi) (at : ℕ) (e : Mi) → i < length rows → test (get_or rows i d) ≡ true → at < length ms
-    → same_mi (get_or rows i d).mi (get_or ms at e) ≡ true → are_of test (drop i rows) (drop at ms) ≡ are_of test (drop (i + 1) rows) (drop (at + 1) ms)
-row-same test rows i d ms at e l is k same = rw (next rows i d l, is, next ms at e k, same) refl
-
-pub row-other : (test : Row → Bool) (rows : List Row) (i : ℕ) (d : Row) (ms : List Mi) (at : ℕ) (e : Mi) → i < length rows → test (get_or rows i d) ≡ true → at < length ms
-    → same_mi (get_or rows i d).mi (get_or ms at e) ≡ false → are_of test (drop i rows) (drop at ms) ≡ false
-row-other test rows i d ms at e l is k other = rw (next rows i d l, is, next ms at e k, other) refl
-
-pub row-past : (test : Row → Bool) (rows : List Row) (i : ℕ) (d : Row) (ms : List Mi) (at : ℕ) → i < length rows → test (get_or rows i d) ≡ true → length ms ≤ at
-    → are_of test (drop i rows) (drop at ms) ≡ false
-row-past test rows i d ms at l is k = rw (next rows i d l, is, drop_all at ms k) refl
-
 pub rows-end : (test : Row → Bool) (rows : List Row) (i : ℕ) (ms : List Mi) (at : ℕ) → length rows ≤ i → length ms ≤ at → are_of test (drop i rows) (drop at ms) ≡ true
 rows-end test rows i ms at l k = rw (drop_all i rows l, drop_all at ms k) refl
 

@@ -112,8 +112,7 @@ impl Station {
     {
         let outcome = hear_in(&mut self.spare, &self.peers, &self.mi, announcement);
         let server = self.coming.elect(&self.config, &self.mi, &self.spare);
-        let now = &*self;
-        let heard = now.after_hearing(&now.spare, outcome, server, announcement)?;
+        let heard = self.after_hearing(&self.spare, outcome, server, announcement)?;
         let Hearing {
             keys,
             server,
