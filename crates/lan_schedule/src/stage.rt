@@ -504,7 +504,7 @@ impl Stage {
 }
 
 /// The place of a name; where there is none, the count of names.
-fn position(names: &[Name], name: &Name) -> usize
+pub fn position(names: &[Name], name: &Name) -> usize
     ensures { result ≡ position_or_len (pointwise nat_eq name.now) names.now }
 {
     for (place, other) in names.iter().enumerate() {
@@ -516,7 +516,7 @@ fn position(names: &[Name], name: &Name) -> usize
 }
 
 /// A count or a place of stations, of which there are fewer than 256.
-fn few(count: usize) -> u8
+pub fn few(count: usize) -> u8
     ensures { count ≤ 255 → result ≡ count }
 {
     u8::try_from(count).unwrap_or(u8::MAX)
@@ -603,7 +603,7 @@ pub fn count_all(tally: &mut Tally, facts: &[Fact])
 }
 
 /// Why a trace ends where its group stops, at the line of this number.
-fn halt_of(stop: Stop, line: u32) -> Halt
+pub fn halt_of(stop: Stop, line: u32) -> Halt
     ensures { result ≡ halt_of line stop }
 {
     match stop {
