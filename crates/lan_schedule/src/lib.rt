@@ -32,5 +32,5 @@ pub use laws::{
 pub use links::{Link, Links};
 pub use recorder::{Broken, Recorder};
 pub use setup::{settings_of, supply_of};
-pub use stage::{few, halt_of, position};
+pub use stage::{halt_of, position};
 pub use supply::Supply;

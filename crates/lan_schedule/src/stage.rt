@@ -516,7 +516,7 @@ pub fn position(names: &[Name], name: &Name) -> usize
 }
 
 /// A count or a place of stations, of which there are fewer than 256.
-pub fn few(count: usize) -> u8
+fn few(count: usize) -> u8
     ensures { count ≤ 255 → result ≡ count }
 {
     u8::try_from(count).unwrap_or(u8::MAX)
