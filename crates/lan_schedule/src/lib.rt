@@ -31,6 +31,7 @@ pub use laws::{
 };
 pub use links::{Link, Links};
 pub use recorder::{Broken, Recorder};
+pub use refusals::is_elsewhere;
 pub use setup::{settings_of, supply_of};
 pub use stage::{halt_of, position};
 pub use supply::Supply;
