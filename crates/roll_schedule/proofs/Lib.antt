@@ -1,3 +1,4 @@
+mod Lent
 mod Doing
 mod Told
 mod Looking
@@ -5,9 +6,3 @@ mod Users
 mod Coming
 mod LinesCome
 mod Happening
-mod Stays
-mod Performing
-mod Replaying
-mod Opening
-mod Texting
-pub mod Public

@@ -1,10 +1,10 @@
 //! Time moves on, and frames go from station to station.
 
-ghost use Rattle.std.specs.Prelude.{◌≡◌, IfOk, OnOk};
+ghost use Rattle.std.specs.Prelude.{◌≡◌, ◌+◌, ◌-◌, IfOk};
 ghost use Rattle.cak_roll.specs.Twin.{of_group};
 ghost use Rattle.std.specs.List.{range_with_len};
 ghost use Rattle.roll_schedule.specs.World.{World, joined, sender, has_spread};
-ghost use Rattle.roll_schedule.specs.Acts.{each, times};
+ghost use Rattle.roll_schedule.specs.Acts.{each, span, times};
 ghost use Rattle.roll_schedule.specs.Lines.{tick_in, tick_both, round, pass, spread, spread_group};
 ghost use Rattle.roll_schedule.specs.Lines.{flow_round, is_passed_by};
 ghost use Rattle.roll_schedule.specs.Ends.{moment, IsReached};
@@ -200,10 +200,27 @@ impl Stage {
         let Ok(count) = u32::try_from(self.party(group).senders.len()) else {
             return Err(Halt::Memory);
         };
-        for place in self.party(group).spread..count {
+        let first = self.party(group).spread;
+        self.spread_between(group, first, count, recorder, outlet)?;
+        self.set_spread(group, count);
+        Ok(())
+    }
+
+    /// The frames of a group behind the first so many, up to a count, are spread.
+    fn spread_between<K, R: TwinRecorder<K>>(
+        &mut self,
+        group: GroupNumber,
+        first: u32,
+        count: u32,
+        recorder: &mut R,
+        outlet: &mut K,
+    ) -> Result<(), Halt>
+        ensures { Did R.Took R.Broke (span (λ place. spread group (place + 1)) first (count - first))
+            (moment self.old outlet.old) (moment self.new outlet.new) result }
+    {
+        for place in first..count {
             self.spread(group, place + 1, recorder, outlet)?;
         }
-        self.set_spread(group, count);
         Ok(())
     }
 

@@ -47,8 +47,8 @@ pub fn put_all(first: &mut Vec<u8>, second: &mut Vec<u8>, told: &[Told]) -> Resu
 {
     for one in told {
         match one.group {
-            GroupNumber::First => put(first, told.facts.as_slice())?,
-            GroupNumber::Second => put(second, told.facts.as_slice())?,
+            GroupNumber::First => put(first, one.facts.as_slice())?,
+            GroupNumber::Second => put(second, one.facts.as_slice())?,
         }
     }
     Ok(())
@@ -70,7 +70,7 @@ pub fn tell<K, R: TwinRecorder<K>>(
             GroupNumber::First => first,
             GroupNumber::Second => second,
         };
-        recorder.record(told.group, names, told.facts.as_slice(), outlet)?;
+        recorder.record(one.group, names, one.facts.as_slice(), outlet)?;
     }
     Ok(())
 }
