@@ -1,4 +1,4 @@
--- What a private function answers, beside what the definitions give.
+-- What a step of reading answers, beside what the definitions give.
 use Rattle.std.specs.Prelude.{ℕ, ◌≡◌, ◌==◌, false, List, length, Result, Ok, Err, IsOk}
 use Rattle.std.specs.Result.{result_map_both}
 use Rattle.trace_text.specs.declared.fault.LineError.{LineError}
