@@ -411,7 +411,7 @@ fn is_allowed(chosen: &Choices, line: &Line) -> bool
 }
 
 /// A fault of a line's text as a kind.
-fn kind_of_fault(fault: TextFault) -> Kind
+pub fn kind_of_fault(fault: TextFault) -> Kind
     ensures { result ≡ kind_of_fault fault }
 {
     match fault {

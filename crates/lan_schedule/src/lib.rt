@@ -23,7 +23,7 @@ mod weaving;
 mod words;
 
 pub use choices::{Choices, Keyed, Rule};
-pub use commands::{Replay, choose, refusal, secret_of};
+pub use commands::{Replay, choose, kind_of_fault, refusal, secret_of};
 pub use halt::{Halt, Kind};
 pub use laws::{
     law_acts_stop_for_their_own_reasons, law_control_was_told_what_the_run_claims,

@@ -143,53 +143,53 @@ module _ {K : Type 0} {Took : K → Report → K → Type 0} {Broke : K → Repo
 -- ---- how calls end
 
 module _ {R K : Type 0} (Stands : World → R → Type 0) (Took : K → Report → K → Type 0)
-  (Broke : K → Report → K → Broken → Type 0) where
-    -- a call that begins where another ended
-    pub ends-behind : (w v : World) (out : Course) (a b : K) (new : Moment R K)
-        (r : Result (Unit {0}) Halt) → WasTold Took w v a b
-        → Ends Stands Took Broke v out b new r → Ends Stands Took Broke w out a new r
-    ends-behind w v out a b new (Ok done) f h =
-        (h.0, h.1, h.2, told-then w v h.0 a b new.outlet f h.3)
-    ends-behind w v out a b new (Err halt) f (inl h) = inl (record {
-      world = h.world;
-      stops = h.stops;
-      tidy = h.tidy;
-      told = told-then w v h.world a b new.outlet f h.told;
-    })
-    ends-behind w v out a b new (Err halt) f (inr h) = inr (record {
-      world = h.world;
-      tidy = h.tidy;
-      begins = h.begins;
-      cause = cause-then w v h.world a b new.outlet halt f h.cause;
-    })
+    (Broke : K → Report → K → Broken → Type 0) where
+  -- a call that begins where another ended
+  pub ends-behind : (w v : World) (out : Course) (a b : K) (new : Moment R K)
+      (r : Result (Unit {0}) Halt) → WasTold Took w v a b
+      → Ends Stands Took Broke v out b new r → Ends Stands Took Broke w out a new r
+  ends-behind w v out a b new (Ok done) f h =
+      (h.0, h.1, h.2, told-then w v h.0 a b new.outlet f h.3)
+  ends-behind w v out a b new (Err halt) f (inl h) = inl (record {
+    world = h.world;
+    stops = h.stops;
+    tidy = h.tidy;
+    told = told-then w v h.world a b new.outlet f h.told;
+  })
+  ends-behind w v out a b new (Err halt) f (inr h) = inr (record {
+    world = h.world;
+    tidy = h.tidy;
+    begins = h.begins;
+    cause = cause-then w v h.world a b new.outlet halt f h.cause;
+  })
 
-    -- the first act ended early
-    pub ends-early : (w : World) (out : Course) (g : Act) (a : K) (new : Moment R K) (halt : Halt)
-        → Ends Stands Took Broke w out a new (Err halt)
-        → Ends Stands Took Broke w (and_then out (λ v. perform g v)) a new (Err halt)
-    ends-early w out g a new halt (inl h) = inl (record {
-      world = h.world;
-      stops = ap (λ (o : Course). and_then o (λ v. perform g v)) h.stops;
-      tidy = h.tidy;
-      told = h.told;
-    })
-    ends-early w out g a new halt (inr h) = inr (record {
-      world = h.world;
-      tidy = h.tidy;
-      begins = begins-then (reports h.world.run) (reported out) _ h.begins (and-longer out g);
-      cause = h.cause;
-    })
+  -- the first act ended early
+  pub ends-early : (w : World) (out : Course) (g : Act) (a : K) (new : Moment R K) (halt : Halt)
+      → Ends Stands Took Broke w out a new (Err halt)
+      → Ends Stands Took Broke w (and_then out (λ v. perform g v)) a new (Err halt)
+  ends-early w out g a new halt (inl h) = inl (record {
+    world = h.world;
+    stops = ap (λ (o : Course). and_then o (λ v. perform g v)) h.stops;
+    tidy = h.tidy;
+    told = h.told;
+  })
+  ends-early w out g a new halt (inr h) = inr (record {
+    world = h.world;
+    tidy = h.tidy;
+    begins = begins-then (reports h.world.run) (reported out) _ h.begins (and-longer out g);
+    cause = h.cause;
+  })
 
-    -- no memory, before more was told
-    pub ends-memory : (act : Act) (w : World) (a : K) (new : Moment R K) → IsTidy w
-        → new.outlet ≡ a
-        → Ends Stands Took Broke w (perform act w) a new (Err halts.Memory)
-    ends-memory act w a new tidy same = inr (record {
-      world = w;
-      tidy = tidy;
-      begins = grows act w;
-      cause = inl (refl, told-none w w a new.outlet refl same);
-    })
+  -- no memory, before more was told
+  pub ends-memory : (act : Act) (w : World) (a : K) (new : Moment R K) → IsTidy w
+      → new.outlet ≡ a
+      → Ends Stands Took Broke w (perform act w) a new (Err halts.Memory)
+  ends-memory act w a new tidy same = inr (record {
+    world = w;
+    tidy = tidy;
+    begins = grows act w;
+    cause = inl (refl, told-none w w a new.outlet refl same);
+  })
 
 -- what one value did, another did that stands where it stands
 pub ends-seen : {R S K : Type 0} (Stands : World → R → Type 0) (Sees : World → S → Type 0)
@@ -204,111 +204,111 @@ ends-seen Stands Sees Took Broke w out a k x y (Err halt) sees h = h
 -- ---- what calls do
 
 module _ {R K : Type 0} {Stands : World → R → Type 0} {Took : K → Report → K → Type 0}
-  {Broke : K → Report → K → Broken → Type 0} where
-    -- an act that is another in each world for which the value stands
-    pub same-act : (f g : Act) (old new : Moment R K) (r : Result (Unit {0}) Halt)
-        → ((w : World) → IsReached Stands w old.value → perform f w ≡ perform g w)
-        → ((w : World) → IsReached Stands w old.value → Comes f w → Comes g w)
-        → DidAs Stands Took Broke g old new r → DidAs Stands Took Broke f old new r
-    same-act f g old new r same comes d = record {
-      ends = λ w reached may.
-          subst (λ (out : Course). Ends Stands Took Broke w out old.outlet new r)
-          (sym (same w reached)) (d.ends w reached (comes w reached may));
-    }
+    {Broke : K → Report → K → Broken → Type 0} where
+  -- an act that is another in each world for which the value stands
+  pub same-act : (f g : Act) (old new : Moment R K) (r : Result (Unit {0}) Halt)
+      → ((w : World) → IsReached Stands w old.value → perform f w ≡ perform g w)
+      → ((w : World) → IsReached Stands w old.value → Comes f w → Comes g w)
+      → DidAs Stands Took Broke g old new r → DidAs Stands Took Broke f old new r
+  same-act f g old new r same comes d = record {
+    ends = λ w reached may.
+        subst (λ (out : Course). Ends Stands Took Broke w out old.outlet new r)
+        (sym (same w reached)) (d.ends w reached (comes w reached may));
+  }
 
-    -- the first act ended early
-    pub then-err : (f g : Act) (old new : Moment R K) (e : Halt)
-        → DidAs Stands Took Broke f old new (Err e) → DidAs Stands Took Broke (seq f g) old new (Err e)
-    then-err f g old new e d = record {
-      ends = λ w reached may.
-          ends-early Stands Took Broke w (perform f w) g old.outlet new e (d.ends w reached may.0);
-    }
+  -- the first act ended early
+  pub then-err : (f g : Act) (old new : Moment R K) (e : Halt)
+      → DidAs Stands Took Broke f old new (Err e) → DidAs Stands Took Broke (seq f g) old new (Err e)
+  then-err f g old new e d = record {
+    ends = λ w reached may.
+        ends-early Stands Took Broke w (perform f w) g old.outlet new e (d.ends w reached may.0);
+  }
 
-    -- the first act was done, and then the second ended so
-    pub then-ok : (f g : Act) (old mid new : Moment R K) (r : Result (Unit {0}) Halt)
-        → DidAs Stands Took Broke f old mid (Ok tt) → DidAs Stands Took Broke g mid new r
-        → DidAs Stands Took Broke (seq f g) old new r
-    then-ok f g old mid new r d e = record {
-      ends = λ w reached may.
-          let first = d.ends w reached may.0 in
-          let later : Comes g first.0 =
-          going (perform f w) first.0 (λ v. IsTidy v → Comes g v) first.1 may.1 first.2.tidy in
-          subst (λ (out : Course). Ends Stands Took Broke w (and_then out (λ v. perform g v))
-          old.outlet new r) (sym first.1)
-          (ends-behind Stands Took Broke w first.0 (perform g first.0) old.outlet mid.outlet new r
-          first.3 (e.ends first.0 first.2 later));
-    }
+  -- the first act was done, and then the second ended so
+  pub then-ok : (f g : Act) (old mid new : Moment R K) (r : Result (Unit {0}) Halt)
+      → DidAs Stands Took Broke f old mid (Ok tt) → DidAs Stands Took Broke g mid new r
+      → DidAs Stands Took Broke (seq f g) old new r
+  then-ok f g old mid new r d e = record {
+    ends = λ w reached may.
+        let first = d.ends w reached may.0 in
+        let later : Comes g first.0 =
+        going (perform f w) first.0 (λ v. IsTidy v → Comes g v) first.1 may.1 first.2.tidy in
+        subst (λ (out : Course). Ends Stands Took Broke w (and_then out (λ v. perform g v))
+        old.outlet new r) (sym first.1)
+        (ends-behind Stands Took Broke w first.0 (perform g first.0) old.outlet mid.outlet new r
+        first.3 (e.ends first.0 first.2 later));
+  }
 
-    pub nothing-does : (now : Moment R K) → DidAs Stands Took Broke nothing now now (Ok tt)
-    nothing-does now = record {
-      ends = λ w reached may. (w, refl, reached, told-none w w now.outlet now.outlet refl refl);
-    }
+  pub nothing-does : (now : Moment R K) → DidAs Stands Took Broke nothing now now (Ok tt)
+  nothing-does now = record {
+    ends = λ w reached may. (w, refl, reached, told-none w w now.outlet now.outlet refl refl);
+  }
 
-    -- no memory, before more was told
-    pub memory-does : (act : Act) (old new : Moment R K) → new.outlet ≡ old.outlet
-        → DidAs Stands Took Broke act old new (Err halts.Memory)
-    memory-does act old new same = record {
-      ends = λ w reached may. ends-memory Stands Took Broke act w old.outlet new reached.tidy same;
-    }
+  -- no memory, before more was told
+  pub memory-does : (act : Act) (old new : Moment R K) → new.outlet ≡ old.outlet
+      → DidAs Stands Took Broke act old new (Err halts.Memory)
+  memory-does act old new same = record {
+    ends = λ w reached may. ends-memory Stands Took Broke act w old.outlet new reached.tidy same;
+  }
 
-    -- what is kept changes, and nothing is told
-    pub change-does : (f : Kept → Kept) (old new : Moment R K)
-        → ((w : World) → Stands w old.value → Stands (record w { kept = f w.kept }) new.value)
-        → new.outlet ≡ old.outlet → DidAs Stands Took Broke (change f) old new (Ok tt)
-    change-does f old new changed same = record {
-      ends = λ w reached may.
-          let v : World = record w { kept = f w.kept } in (
-            v,
-            refl,
-            record { stands = changed w reached.stands; tidy = may },
-            told-none w v old.outlet new.outlet refl same,
-          );
-    }
+  -- what is kept changes, and nothing is told
+  pub change-does : (f : Kept → Kept) (old new : Moment R K)
+      → ((w : World) → Stands w old.value → Stands (record w { kept = f w.kept }) new.value)
+      → new.outlet ≡ old.outlet → DidAs Stands Took Broke (change f) old new (Ok tt)
+  change-does f old new changed same = record {
+    ends = λ w reached may.
+        let v : World = record w { kept = f w.kept } in (
+          v,
+          refl,
+          record { stands = changed w reached.stands; tidy = may },
+          told-none w v old.outlet new.outlet refl same,
+        );
+  }
 
-    -- an error that `?` hands on is the error
-    pub handed-on : (act : Act) (old new : Moment R K) (e : Halt) (r : Result (Unit {0}) Halt)
-        → DidAs Stands Took Broke act old new (Err e) → IsErrAnd r (λ y. y ≡ e)
-        → DidAs Stands Took Broke act old new r
-    handed-on act old new e r d is =
-        let p = err_from_is_err_and r is in
-        subst (λ (r : Result (Unit {0}) Halt). DidAs Stands Took Broke act old new r)
-        (sym (p.1 ∙ ap (λ (y : Halt). Err y) p.2)) d
+  -- an error that `?` hands on is the error
+  pub handed-on : (act : Act) (old new : Moment R K) (e : Halt) (r : Result (Unit {0}) Halt)
+      → DidAs Stands Took Broke act old new (Err e) → IsErrAnd r (λ y. y ≡ e)
+      → DidAs Stands Took Broke act old new r
+  handed-on act old new e r d is =
+      let p = err_from_is_err_and r is in
+      subst (λ (r : Result (Unit {0}) Halt). DidAs Stands Took Broke act old new r)
+      (sym (p.1 ∙ ap (λ (y : Halt). Err y) p.2)) d
 
-    -- an error that `?` hands on, where the error is want of memory
-    pub memory-any : (act : Act) (old new : Moment R K) (r : Result (Unit {0}) Halt) {e : Halt}
-        → new.outlet ≡ old.outlet → e ≡ halts.Memory → IsErrAnd r (λ y. y ≡ e)
-        → DidAs Stands Took Broke act old new r
-    memory-any act old new r {e} same memory is =
-        handed-on act old new e r
-        (subst (λ (h : Halt). DidAs Stands Took Broke act old new (Err h)) (sym memory)
-        (memory-does act old new same)) is
+  -- an error that `?` hands on, where the error is want of memory
+  pub memory-any : (act : Act) (old new : Moment R K) (r : Result (Unit {0}) Halt) {e : Halt}
+      → new.outlet ≡ old.outlet → e ≡ halts.Memory → IsErrAnd r (λ y. y ≡ e)
+      → DidAs Stands Took Broke act old new r
+  memory-any act old new r {e} same memory is =
+      handed-on act old new e r
+      (subst (λ (h : Halt). DidAs Stands Took Broke act old new (Err h)) (sym memory)
+      (memory-does act old new same)) is
 
-    -- an act that looks is what it is here
-    pub look-does : (f : World → Act) (here : Act) (old new : Moment R K)
-        (r : Result (Unit {0}) Halt)
-        → ((w : World) → IsReached Stands w old.value → here ≡ f w)
-        → DidAs Stands Took Broke here old new r → DidAs Stands Took Broke (look f) old new r
-    look-does f here old new r same d =
-        same-act (look f) here old new r
-        (λ w reached. ap (λ (act : Act). perform act w) (sym (same w reached)))
-        (λ w reached may. subst (λ (act : Act). Comes act w) (sym (same w reached)) may) d
+  -- an act that looks is what it is here
+  pub look-does : (f : World → Act) (here : Act) (old new : Moment R K)
+      (r : Result (Unit {0}) Halt)
+      → ((w : World) → IsReached Stands w old.value → here ≡ f w)
+      → DidAs Stands Took Broke here old new r → DidAs Stands Took Broke (look f) old new r
+  look-does f here old new r same d =
+      same-act (look f) here old new r
+      (λ w reached. ap (λ (act : Act). perform act w) (sym (same w reached)))
+      (λ w reached may. subst (λ (act : Act). Comes act w) (sym (same w reached)) may) d
 
-    -- an act that is skipped where a test holds
-    pub unless-skips : (test : World → Bool) (act : World → Act) (now : Moment R K)
-        → ((w : World) → Stands w now.value → test w ≡ true)
-        → DidAs Stands Took Broke (look (λ w. unless (test w) (act w))) now now (Ok tt)
-    unless-skips test act now holds =
-        look-does (λ w. unless (test w) (act w)) nothing now now (Ok tt)
-        (λ w reached. ap (λ (b : Bool). unless b (act w)) (sym (holds w reached.stands)))
-        (nothing-does now)
+  -- an act that is skipped where a test holds
+  pub unless-skips : (test : World → Bool) (act : World → Act) (now : Moment R K)
+      → ((w : World) → Stands w now.value → test w ≡ true)
+      → DidAs Stands Took Broke (look (λ w. unless (test w) (act w))) now now (Ok tt)
+  unless-skips test act now holds =
+      look-does (λ w. unless (test w) (act w)) nothing now now (Ok tt)
+      (λ w reached. ap (λ (b : Bool). unless b (act w)) (sym (holds w reached.stands)))
+      (nothing-does now)
 
-    pub unless-does : (test : World → Bool) (act : Act) (old new : Moment R K)
-        (r : Result (Unit {0}) Halt) → ((w : World) → Stands w old.value → test w ≡ false)
-        → DidAs Stands Took Broke act old new r
-        → DidAs Stands Took Broke (look (λ w. unless (test w) act)) old new r
-    unless-does test act old new r never d =
-        look-does (λ w. unless (test w) act) act old new r
-        (λ w reached. ap (λ (b : Bool). unless b act) (sym (never w reached.stands))) d
+  pub unless-does : (test : World → Bool) (act : Act) (old new : Moment R K)
+      (r : Result (Unit {0}) Halt) → ((w : World) → Stands w old.value → test w ≡ false)
+      → DidAs Stands Took Broke act old new r
+      → DidAs Stands Took Broke (look (λ w. unless (test w) act)) old new r
+  unless-does test act old new r never d =
+      look-does (λ w. unless (test w) act) act old new r
+      (λ w reached. ap (λ (b : Bool). unless b act) (sym (never w reached.stands))) d
 
 -- what is left of an act, done from here, is the whole act done from the start
 pub record Leads {R K : Type 0} (Stands : World → R → Type 0) (Took : K → Report → K → Type 0)
@@ -318,86 +318,86 @@ pub record Leads {R K : Type 0} (Stands : World → R → Type 0) (Took : K → 
       → DidAs Stands Took Broke left now new r → DidAs Stands Took Broke whole old new r
 
 module _ {R K : Type 0} {Stands : World → R → Type 0} {Took : K → Report → K → Type 0}
-  {Broke : K → Report → K → Broken → Type 0} where
-    pub leads-start : (f : Act) (now : Moment R K) → Leads Stands Took Broke f now f now
-    leads-start f now = record { leads = λ new r d. d }
+    {Broke : K → Report → K → Broken → Type 0} where
+  pub leads-start : (f : Act) (now : Moment R K) → Leads Stands Took Broke f now f now
+  leads-start f now = record { leads = λ new r d. d }
 
-    pub leads-step : (f g h : Act) (old now next : Moment R K)
-        → Leads Stands Took Broke f old (seq h g) now
-        → DidAs Stands Took Broke h now next (Ok tt) → Leads Stands Took Broke f old g next
-    leads-step f g h old now next l d =
-        record { leads = λ new r e. l.leads new r (then-ok h g now next new r d e) }
+  pub leads-step : (f g h : Act) (old now next : Moment R K)
+      → Leads Stands Took Broke f old (seq h g) now
+      → DidAs Stands Took Broke h now next (Ok tt) → Leads Stands Took Broke f old g next
+  leads-step f g h old now next l d =
+      record { leads = λ new r e. l.leads new r (then-ok h g now next new r d e) }
 
-    pub leads-err : (f g h : Act) (old now next : Moment R K) (e : Halt)
-        → Leads Stands Took Broke f old (seq h g) now
-        → DidAs Stands Took Broke h now next (Err e) → DidAs Stands Took Broke f old next (Err e)
-    leads-err f g h old now next e l d = l.leads next (Err e) (then-err h g now next e d)
+  pub leads-err : (f g h : Act) (old now next : Moment R K) (e : Halt)
+      → Leads Stands Took Broke f old (seq h g) now
+      → DidAs Stands Took Broke h now next (Err e) → DidAs Stands Took Broke f old next (Err e)
+  leads-err f g h old now next e l d = l.leads next (Err e) (then-err h g now next e d)
 
-    pub leads-end : (f : Act) (old now : Moment R K) → Leads Stands Took Broke f old nothing now
-        → DidAs Stands Took Broke f old now (Ok tt)
-    leads-end f old now l = l.leads now (Ok tt) (nothing-does now)
+  pub leads-end : (f : Act) (old now : Moment R K) → Leads Stands Took Broke f old nothing now
+      → DidAs Stands Took Broke f old now (Ok tt)
+  leads-end f old now l = l.leads now (Ok tt) (nothing-does now)
 
-    -- what is left of an act that looks is what it is here
-    pub look-leads : (f : World → Act) (here : Act) (now : Moment R K)
-        → ((w : World) → IsReached Stands w now.value → here ≡ f w)
-        → Leads Stands Took Broke (look f) now here now
-    look-leads f here now same =
-        record { leads = λ new r d. look-does f here now new r same d }
+  -- what is left of an act that looks is what it is here
+  pub look-leads : (f : World → Act) (here : Act) (now : Moment R K)
+      → ((w : World) → IsReached Stands w now.value → here ≡ f w)
+      → Leads Stands Took Broke (look f) now here now
+  look-leads f here now same =
+      record { leads = λ new r d. look-does f here now new r same d }
 
-    pub span-step : (f : ℕ → Act) (i n : ℕ) (whole : Act) (old now next : Moment R K) → i < n
-        → Leads Stands Took Broke whole old (span f i (n - i)) now
-        → DidAs Stands Took Broke (f i) now next (Ok tt)
-        → Leads Stands Took Broke whole old (span f (i + 1) (n - (i + 1))) next
-    span-step f i n whole old now next lt l d =
-        leads-step whole _ (f i) old now next
-        (subst (λ (a : Act). Leads Stands Took Broke whole old a now) (span-next f i n lt) l) d
+  pub span-step : (f : ℕ → Act) (i n : ℕ) (whole : Act) (old now next : Moment R K) → i < n
+      → Leads Stands Took Broke whole old (span f i (n - i)) now
+      → DidAs Stands Took Broke (f i) now next (Ok tt)
+      → Leads Stands Took Broke whole old (span f (i + 1) (n - (i + 1))) next
+  span-step f i n whole old now next lt l d =
+      leads-step whole _ (f i) old now next
+      (subst (λ (a : Act). Leads Stands Took Broke whole old a now) (span-next f i n lt) l) d
 
-    -- the exit of a `?`
-    pub span-exit : (f : ℕ → Act) (i n : ℕ) (whole : Act) (old now next : Moment R K) (e : Halt)
-        (r : Result (Unit {0}) Halt) → i < n
-        → Leads Stands Took Broke whole old (span f i (n - i)) now
-        → DidAs Stands Took Broke (f i) now next (Err e) → IsErrAnd r (λ y. y ≡ e)
-        → DidAs Stands Took Broke whole old next r
-    span-exit f i n whole old now next e r lt l d is =
-        handed-on whole old next e r (leads-err whole _ (f i) old now next e
-        (subst (λ (a : Act). Leads Stands Took Broke whole old a now) (span-next f i n lt) l) d) is
+  -- the exit of a `?`
+  pub span-exit : (f : ℕ → Act) (i n : ℕ) (whole : Act) (old now next : Moment R K) (e : Halt)
+      (r : Result (Unit {0}) Halt) → i < n
+      → Leads Stands Took Broke whole old (span f i (n - i)) now
+      → DidAs Stands Took Broke (f i) now next (Err e) → IsErrAnd r (λ y. y ≡ e)
+      → DidAs Stands Took Broke whole old next r
+  span-exit f i n whole old now next e r lt l d is =
+      handed-on whole old next e r (leads-err whole _ (f i) old now next e
+      (subst (λ (a : Act). Leads Stands Took Broke whole old a now) (span-next f i n lt) l) d) is
 
-    pub span-end : (f : ℕ → Act) (i n : ℕ) (whole : Act) (old now : Moment R K) → n ≤ i
-        → Leads Stands Took Broke whole old (span f i (n - i)) now
-        → DidAs Stands Took Broke whole old now (Ok tt)
-    span-end f i n whole old now le l =
-        leads-end whole old now
-        (subst (λ (a : Act). Leads Stands Took Broke whole old a now) (span-done f i n le) l)
+  pub span-end : (f : ℕ → Act) (i n : ℕ) (whole : Act) (old now : Moment R K) → n ≤ i
+      → Leads Stands Took Broke whole old (span f i (n - i)) now
+      → DidAs Stands Took Broke whole old now (Ok tt)
+  span-end f i n whole old now le l =
+      leads-end whole old now
+      (subst (λ (a : Act). Leads Stands Took Broke whole old a now) (span-done f i n le) l)
 
-    pub span-start : (f : ℕ → Act) (n : ℕ) (now : Moment R K)
-        → Leads Stands Took Broke (span f 0 n) now (span f 0 (n - 0)) now
-    span-start f n now = let e : n - 0 ≡ n = omega arith in rw e (leads-start (span f 0 n) now)
+  pub span-start : (f : ℕ → Act) (n : ℕ) (now : Moment R K)
+      → Leads Stands Took Broke (span f 0 n) now (span f 0 (n - 0)) now
+  span-start f n now = let e : n - 0 ≡ n = omega arith in rw e (leads-start (span f 0 n) now)
 
-    -- each begins with its first
-    pub each-step : (f : ℕ → Act) (xs : List ℕ) (i : ℕ) (whole : Act)
-        (old now next : Moment R K) → i < length xs
-        → Leads Stands Took Broke whole old (each f (drop i xs)) now
-        → DidAs Stands Took Broke (f (get_or xs i 0)) now next (Ok tt)
-        → Leads Stands Took Broke whole old (each f (drop (i + 1) xs)) next
-    each-step f xs i whole old now next lt l d =
-        leads-step whole _ (f (get_or xs i 0)) old now next
-        (subst (λ (ys : List ℕ). Leads Stands Took Broke whole old (each f ys) now)
-        (drop-one xs i lt) l) d
+  -- each begins with its first
+  pub each-step : (f : ℕ → Act) (xs : List ℕ) (i : ℕ) (whole : Act)
+      (old now next : Moment R K) → i < length xs
+      → Leads Stands Took Broke whole old (each f (drop i xs)) now
+      → DidAs Stands Took Broke (f (get_or xs i 0)) now next (Ok tt)
+      → Leads Stands Took Broke whole old (each f (drop (i + 1) xs)) next
+  each-step f xs i whole old now next lt l d =
+      leads-step whole _ (f (get_or xs i 0)) old now next
+      (subst (λ (ys : List ℕ). Leads Stands Took Broke whole old (each f ys) now)
+      (drop-one xs i lt) l) d
 
-    pub each-err : (f : ℕ → Act) (xs : List ℕ) (i : ℕ) (whole : Act) (old now next : Moment R K)
-        (e : Halt) (r : Result (Unit {0}) Halt) → i < length xs
-        → Leads Stands Took Broke whole old (each f (drop i xs)) now
-        → DidAs Stands Took Broke (f (get_or xs i 0)) now next (Err e) → IsErrAnd r (λ y. y ≡ e)
-        → DidAs Stands Took Broke whole old next r
-    each-err f xs i whole old now next e r lt l d is =
-        handed-on whole old next e r (leads-err whole _ (f (get_or xs i 0)) old now next e
-        (subst (λ (ys : List ℕ). Leads Stands Took Broke whole old (each f ys) now)
-        (drop-one xs i lt) l) d) is
+  pub each-err : (f : ℕ → Act) (xs : List ℕ) (i : ℕ) (whole : Act) (old now next : Moment R K)
+      (e : Halt) (r : Result (Unit {0}) Halt) → i < length xs
+      → Leads Stands Took Broke whole old (each f (drop i xs)) now
+      → DidAs Stands Took Broke (f (get_or xs i 0)) now next (Err e) → IsErrAnd r (λ y. y ≡ e)
+      → DidAs Stands Took Broke whole old next r
+  each-err f xs i whole old now next e r lt l d is =
+      handed-on whole old next e r (leads-err whole _ (f (get_or xs i 0)) old now next e
+      (subst (λ (ys : List ℕ). Leads Stands Took Broke whole old (each f ys) now)
+      (drop-one xs i lt) l) d) is
 
-    pub each-end : (f : ℕ → Act) (xs : List ℕ) (i : ℕ) (whole : Act) (old now : Moment R K)
-        → length xs ≤ i → Leads Stands Took Broke whole old (each f (drop i xs)) now
-        → DidAs Stands Took Broke whole old now (Ok tt)
-    each-end f xs i whole old now le l =
-        leads-end whole old now
-        (subst (λ (ys : List ℕ). Leads Stands Took Broke whole old (each f ys) now)
-        (drop-past xs i le) l)
+  pub each-end : (f : ℕ → Act) (xs : List ℕ) (i : ℕ) (whole : Act) (old now : Moment R K)
+      → length xs ≤ i → Leads Stands Took Broke whole old (each f (drop i xs)) now
+      → DidAs Stands Took Broke whole old now (Ok tt)
+  each-end f xs i whole old now le l =
+      leads-end whole old now
+      (subst (λ (ys : List ℕ). Leads Stands Took Broke whole old (each f ys) now)
+      (drop-past xs i le) l)

@@ -1,4 +1,3 @@
-mod Lent
 mod Doing
 mod Told
 mod Looking

@@ -42,8 +42,8 @@ use Rattle.roll_schedule.specs.Lines.{deed_read, at_line, performed}
 use Rattle.roll_schedule.specs.Sound.{IsTidy}
 use Rattle.roll_schedule.specs.inside.Choosing.{with_second}
 use Rattle.roll_schedule.specs.inside.Comes.{Comes}
-use Rattle.roll_schedule.proofs.Lent.{and-true, bytes-all, chosen-draws, new-station, or-none}
-use Rattle.roll_schedule.proofs.Lent.{place-there, unbegun-by, user-at-end, where-none}
+use Rattle.lan_schedule.proofs.Public.{and-true, bytes-all, chosen-draws, new-station, or-none}
+use Rattle.lan_schedule.proofs.Public.{place-there, unbegun-by, user-at-end, where-none}
 use Rattle.roll_schedule.proofs.Coming.{comes-flow, comes-rounds, comes-ticks, comes-unless, is-going}
 use Rattle.roll_schedule.proofs.Coming.{not-false, tidy-same}
 use Rattle.roll_schedule.proofs.Users.{AreLegal, run-more}

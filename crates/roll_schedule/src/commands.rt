@@ -6,7 +6,7 @@ ghost use Rattle.trace_text.specs.Writing.{IsInForm};
 ghost use Rattle.roll_text.specs.InForm.{IsInFormRoll};
 ghost use Rattle.lan_schedule.specs.declared.halt.Halt.{Halt};
 ghost use Rattle.lan_schedule.specs.declared.halt.Kind.TheVariants as kinds;
-ghost use Rattle.lan_schedule.specs.Kinds.{first_of, is_allowed, kind_of_fault};
+ghost use Rattle.lan_schedule.specs.Kinds.{first_of, is_allowed};
 ghost use Rattle.lan_schedule.specs.inside.Choosing.{IsStation};
 ghost use Rattle.roll_schedule.specs.World.{World, beginning};
 ghost use Rattle.roll_schedule.specs.Acts.{look};
@@ -23,10 +23,12 @@ use crate::refusals::order_where;
 use crate::stage::Stage;
 use cak_roll::law_group_runs_are_sound;
 use lan_base::Octets;
-use lan_schedule::{Choices, Halt, Keyed, Kind, choose, is_elsewhere, refusal, secret_of};
+use lan_schedule::{
+    Choices, Halt, Keyed, Kind, choose, is_elsewhere, kind_of_fault, refusal, secret_of,
+};
 use roll_text::{RollLine, read_roll_line};
 use std::alloc::Global;
-use trace_text::{Line, LineError, TextFault};
+use trace_text::{Line, LineError};
 
 /// What the lines so far have made. Contracts see by `StandsFor` which world that is.
 #[derive(Drop)]
@@ -304,18 +306,5 @@ fn unknown_where(allowed: bool) -> Kind
         Kind::NameUnknown
     } else {
         Kind::Order
-    }
-}
-
-/// A fault of the text as a kind.
-fn kind_of_fault(fault: TextFault) -> Kind
-    ensures { result ≡ kind_of_fault fault }
-{
-    match fault {
-        TextFault::TooLong => Kind::TooLong,
-        TextFault::Word => Kind::Word,
-        TextFault::Count => Kind::Count,
-        TextFault::Hex => Kind::Hex,
-        TextFault::Range => Kind::Range,
     }
 }

@@ -33,7 +33,7 @@ returns-then-takes g c =
     (sym c.is_end.ensures ∙ c.if-is_end.false)
 
 pub command-requires-clause-apart : goal.command-requires-clause-apart
-command-requires-clause-apart g c =
+command-requires-clause-apart g c = λ lifetimes outlive.
     (not-taken _ _ (sym c.takes.ensures ∙ c.if-takes.false)).1
 
 pub returns-in-Some : goal.returns-in-Some
