@@ -5,6 +5,7 @@ use Rattle.std.specs.Prelude.{Result, Ok, Err, is_some, option_map}
 use Rattle.std.specs.Result.{IsErrAnd}
 use Rattle.std.proofs.lemmas.Result.{err_from_is_err_and}
 use Rattle.lan_base.specs.declared.frame.UserFrame.{UserFrame}
+use Rattle.lan_core.specs.Ledgers.{air}
 use Rattle.lan_core.specs.Run.{stations}
 use Rattle.lan_core.specs.declared.stop.Stop.{Stop}
 use Rattle.lan_core.specs.Unstopped.{AreDraws}
@@ -60,12 +61,12 @@ same-supply w stage stands = λ i k. stands.draws k i
 -- ---- a step
 
 -- what a step promises of the groups that go on
-abbrev pub StepGoes : Option UserFrame → TwinEvent → Stage → Stage → List Told → Type 0
-StepGoes given event old new told = (pair : Pair) (users : List UserFrame) (t : Twin)
-    → TwinStandsFor pair users old.twin t
-    → MayHappen users t given event (supply_nth old.draws)
-    → (x : TwinHappening)
-    × GoesOnWith pair users t event (supply_nth old.draws) (supply_nth new.draws) new.twin told x
+pub record StepGoes (given : Option UserFrame) (event : TwinEvent) (old new : Stage)
+    (told : List Told) : Type 0 where
+  pub goes : (pair : Pair) (users : List UserFrame) (t : Twin) → TwinStandsFor pair users old.twin t
+      → MayHappen users t given event (supply_nth old.draws)
+      → (x : TwinHappening)
+      × GoesOnWith pair users t event (supply_nth old.draws) (supply_nth new.draws) new.twin told x
 
 -- what its clauses say
 pub step-goes : (given : Option UserFrame) (event : TwinEvent) (old new : Stage) (told : List Told)
@@ -83,22 +84,26 @@ pub step-goes : (given : Option UserFrame) (event : TwinEvent) (old new : Stage)
     → MayHappen users t given event (supply_nth old.draws)
     → twin_stop pair users t event (supply_nth old.draws) ≡ None)
     → StepGoes given event old new told
-step-goes given event old new told shows stands drawn goes = λ pair users t at may.
-    let m = mapped told_in (happening pair users t event (supply_nth old.draws)) told
-    (shows pair users t at may) in (
-      m.0,
-      record {
-        goes = goes pair users t at may;
-        shows = m.1;
-        tells = sym m.2;
-        stands = stands pair users t m.0 at may m.1;
-        drawn = drawn pair users t at may;
-      },
-    )
+step-goes given event old new told shows stands drawn goes = record {
+  goes = λ pair users t at may.
+      let m = mapped told_in (happening pair users t event (supply_nth old.draws)) told
+      (shows pair users t at may) in (
+        m.0,
+        record {
+          goes = goes pair users t at may;
+          shows = m.1;
+          tells = sym m.2;
+          stands = stands pair users t m.0 at may m.1;
+          drawn = drawn pair users t at may;
+        },
+      );
+}
 
 -- what is kept beside the step
 pub record Keeps (event : TwinEvent) (told : List Told) (old new : Stage) : Type 0 where
   pub line : new.line ≡ old.line
+  pub chosen : new.chosen ≡ old.chosen
+  pub keyed : new.keyed ≡ old.keyed
   pub users : new.users ≡ old.users
   pub cuts : new.cuts ≡ old.cuts
   pub scis : new.scis.items ≡ old.scis.items ++ started_sci event
@@ -158,7 +163,9 @@ stands-after : (w : World) (event : TwinEvent) (old new : Stage) (told : List To
     → Keeps event told old new → StandsFor (world_after w event x) new
 stands-after w event old new told x stands goes keeps = record {
   begun = stands.begun;
-  keyed = stands.keyed;
+  named = stands.named;
+  chosen = keeps.chosen ∙ stands.chosen;
+  keyed = keeps.keyed ∙ stands.keyed;
   line = keeps.line ∙ stands.line;
   twin = goes.twin;
   draws = goes.draws;
@@ -171,7 +178,7 @@ stands-after w event old new told x stands goes keeps = record {
         ∙ sym (names-first (pair_of w) w.kept.users x w.run event goes.step goes.event_is);
     senders = keeps.first_senders
         ∙ ap (λ l. l ++ sent_in First told) stands.first_party.senders
-        ∙ ap (λ l. senders_of _ ++ sent_in First l) goes.tells
+        ∙ ap (λ l. senders_of (air (run_of First w.run)) ++ sent_in First l) goes.tells
         ∙ sym (senders-then First x w.run);
     spread = keeps.first_spread ∙ stands.first_party.spread;
   };
@@ -182,7 +189,7 @@ stands-after w event old new told x stands goes keeps = record {
         ∙ sym (names-second (pair_of w) w.kept.users x w.run event goes.step goes.event_is);
     senders = keeps.second_senders
         ∙ ap (λ l. l ++ sent_in Second told) stands.second_party.senders
-        ∙ ap (λ l. senders_of _ ++ sent_in Second l) goes.tells
+        ∙ ap (λ l. senders_of (air (run_of Second w.run)) ++ sent_in Second l) goes.tells
         ∙ sym (senders-then Second x w.run);
     spread = keeps.second_spread ∙ stands.second_party.spread;
   };
@@ -247,18 +254,18 @@ module _ {K : Type 0} (Took : K → Report → K → Type 0) (Broke : K → Repo
       });
     })
 
+may-happen : (given : Option UserFrame) (event : TwinEvent) (w : World) (stage : Stage)
+    → IsReached StandsFor w stage → IsGiven w.kept.users given event → Comes (happen event) w
+    → MayHappen w.kept.users w.run given event (supply_nth stage.draws)
+may-happen given event w stage reached is comes = record {
+  may_come = comes.0;
+  gives = is;
+  draws = subst (λ (nth : Supply). AreDraws nth) (sym (same-supply w stage reached.stands))
+      (supply-draws w reached.tidy);
+}
+
 module _ {K : Type 0} {Took : K → Report → K → Type 0} {Broke : K → Report → K → Broken → Type 0}
   where
-    may-happen : (given : Option UserFrame) (event : TwinEvent) (w : World) (stage : Stage)
-        → IsReached StandsFor w stage → IsGiven w.kept.users given event → Comes (happen event) w
-        → MayHappen w.kept.users w.run given event (supply_nth stage.draws)
-    may-happen given event w stage reached is comes = record {
-      may_come = comes.0;
-      gives = is;
-      draws = subst (λ (nth : Supply). AreDraws nth) (sym (same-supply w stage reached.stands))
-          (supply-draws w reached.tidy);
-    }
-
     -- the event of a step happened, and what it shows was told, or the recorder broke at it
     pub event-did : (given : Option UserFrame) (event : TwinEvent) (told : List Told)
         (old new : Moment Stage K) (why : Result (Unit {0}) Broken)
@@ -269,7 +276,7 @@ module _ {K : Type 0} {Took : K → Report → K → Type 0} {Broke : K → Repo
         → Happened Took Broke given event old new (handed why)
     event-did given event told old new why step keeps wrote = record {
       ends = λ w reached is comes.
-          let went = step (pair_of w) w.kept.users w.run reached.stands.twin
+          let went = step.goes (pair_of w) w.kept.users w.run reached.stands.twin
           (may-happen given event w old.value reached is comes) in
           let x = went.0 in
           let goes = goes-in w event old.value new.value told x reached.stands went.1 in

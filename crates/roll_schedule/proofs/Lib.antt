@@ -5,3 +5,5 @@ mod Users
 mod Coming
 mod LinesCome
 mod Happening
+mod Moving
+mod Replaying

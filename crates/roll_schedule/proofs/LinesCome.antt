@@ -106,7 +106,7 @@ first-time ckn (Some first) (Some second) e = absurd (cc e)
 first-time ckn None second e = absurd (cc e)
 
 second-comes : (cak ckn : List ℕ) (w : World) → IsTidy w → w.kept.second ≡ None
-    → IsTidy (with_second (secret_of cak) ckn w)
+    → IsTidy (with_second cak ckn w)
 second-comes cak ckn w tidy none = record {
   legal = lone-run (pair_of w) (another (settings_of w.kept.chosen) (secret_of cak) ckn)
       w.kept.users w.run tidy.legal (tidy.lone none);

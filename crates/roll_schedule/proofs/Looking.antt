@@ -16,9 +16,11 @@ use Rattle.lan_schedule.specs.declared.recorder.Broken.{Broken}
 use Rattle.roll_schedule.specs.declared.party.Party.{Party}
 use Rattle.roll_schedule.specs.declared.stage.Stage.{Stage}
 use Rattle.roll_schedule.specs.World.{World, Kept, pair_of, count, place, names, frames, spread_in}
-use Rattle.roll_schedule.specs.World.{joined, sender, senders_of}
-use Rattle.roll_schedule.specs.Acts.{Act, look, span, each}
-use Rattle.roll_schedule.specs.Lines.{pass, spread}
+use Rattle.cak_roll.specs.Standing.{StandsFor as TwinStandsFor}
+use Rattle.lan_schedule.specs.Supply.{supply_nth}
+use Rattle.roll_schedule.specs.World.{has_spread}
+use Rattle.roll_schedule.specs.Acts.{Act, change, look, seq, span}
+use Rattle.roll_schedule.specs.Lines.{spread}
 use Rattle.roll_schedule.specs.Reports.{Report}
 use Rattle.roll_schedule.specs.Ends.{Moment, IsReached}
 use Rattle.roll_schedule.specs.Stages.{StandsFor, IsParty}
@@ -91,3 +93,20 @@ pub party-of : (g : GroupNumber) (w : World) (stage : Stage) → StandsFor w sta
     → IsParty g w (of_group g stage.first stage.second)
 party-of First w stage stands = stands.first_party
 party-of Second w stage stands = stands.second_party
+
+-- what a group has to spread is what is asked for
+pub spreads-here : (g : GroupNumber) (w : World) (stage : Stage) (first some : ℕ)
+    → StandsFor w stage → first ≡ (of_group g stage.first stage.second).spread
+    → some ≡ length (of_group g stage.first stage.second).senders.items
+    → seq (span (λ place. spread g (place + 1)) first (some - first)) (change (has_spread g some))
+    ≡ seq (span (λ place. spread g (place + 1)) (spread_in g w.kept)
+    (frames g w.run - spread_in g w.kept)) (change (has_spread g (frames g w.run)))
+spreads-here g w stage first some stands is_first is_some =
+    let party = party-of g w stage stands in
+    let a : first ≡ spread_in g w.kept = is_first ∙ party.spread in
+    let b : some ≡ frames g w.run =
+    is_some ∙ frames-count g w (of_group g stage.first stage.second) party in
+    ap (λ (n : ℕ). seq (span (λ place. spread g (place + 1)) n (some - n)) (change (has_spread g some)))
+    a
+    ∙ ap (λ (n : ℕ). seq (span (λ place. spread g (place + 1)) (spread_in g w.kept)
+    (n - spread_in g w.kept)) (change (has_spread g n))) b

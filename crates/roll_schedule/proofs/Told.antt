@@ -1,10 +1,13 @@
 -- What is kept and told of an event, and of a run with it.
-use Rattle.std.proofs.Common.{◌≡◌, ℕ, suc, Bool, true, false, cond, List, [], ◌∷◌, ◌++◌, map, length}
+use Rattle.std.proofs.Common.{◌≡◌, ℕ, zero, suc, Bool, true, false, cond, List, [], ◌∷◌, ◌++◌, map, length}
 use Rattle.std.proofs.Common.{Option, Some, None, refl, sym, ap, ◌∙◌, subst, append_assoc, append-nil}
-use Rattle.std.proofs.Common.{length-append, add-one, arith}
+use Rattle.std.proofs.Common.{◌<◌, take, drop, get_or, length-append, arith}
 use Rattle.std.specs.Prelude.{◌+◌, slice_get, option_map, option_to_list, option_and_then}
 use Rattle.std.specs.List.{flat_map}
-use Rattle.std.proofs.lemmas.List.{map-append}
+use Rattle.std.specs.Prelude.{Result, Ok, Err}
+use Rattle.std.specs.Result.{IsErrAnd}
+use Rattle.std.proofs.lemmas.List.{map-append, take_more}
+use Rattle.std.proofs.lemmas.Result.{err_from_is_err_and}
 use Rattle.lan_base.specs.declared.address.Sci.{Sci}
 use Rattle.lan_base.specs.declared.frame.UserFrame.{UserFrame}
 use Rattle.lan_core.specs.declared.fact.Fact.{Fact}
@@ -23,9 +26,11 @@ use Rattle.cak_roll.specs.Stepping.{Supply, happening, in_groups, first_part, se
 use Rattle.cak_roll.specs.Answers.{told_of, told_in}
 use Rattle.cak_roll.proofs.Public.{started_in, stations-then}
 use Rattle.roll_schedule.specs.World.{names_in, senders_of}
-use Rattle.roll_schedule.specs.Reports.{Report, report_of, last_reports}
+use Rattle.lan_schedule.specs.declared.recorder.Broken.{Broken}
+use Rattle.roll_schedule.specs.Reports.{AreTold, Report, report_of}
 use Rattle.roll_schedule.specs.inside.Telling.{started_name, started_sci, adopted_name, sender_in}
-use Rattle.roll_schedule.specs.inside.Telling.{senders_in, sent_in, report_with}
+use Rattle.roll_schedule.specs.inside.Telling.{senders_in, sent_in, report_with, AreTelling}
+use Rattle.roll_schedule.proofs.Doing.{told-both}
 
 -- ---- the event of a happening
 
@@ -69,7 +74,7 @@ sci-first t (twins.Send station user) = refl
 name-at : (ps : List Profile) (s : ℕ)
     → map name_of (option_to_list (slice_get ps s)) ≡ option_to_list (slice_get (map name_of ps) s)
 name-at [] s = refl
-name-at (p ∷ ps) 0 = refl
+name-at (p ∷ ps) zero = refl
 name-at (p ∷ ps) (suc s) = name-at ps s
 
 name-second : (t : Twin) (event : TwinEvent)
@@ -210,3 +215,57 @@ reports-are first second t (told ∷ later) is_first is_second =
     ap (λ r. r ∷ map (report_with first second) later)
     (report-is first second t told is_first is_second)
     ∙ ap (λ rs. report_of t told ∷ rs) (reports-are first second t later is_first is_second)
+
+-- ---- one by one
+
+-- an item at a place, between those before it and those behind it
+split-at : {A : Type 0} (xs : List A) (i : ℕ) (x : A) → i < length xs → x ≡ get_or xs i x
+    → xs ≡ take i xs ++ x ∷ drop (i + 1) xs
+split-at [] i x lt is = absurd (omega (arith, lt))
+split-at (y ∷ ys) zero x lt is = ap (λ z. z ∷ ys) (sym is)
+split-at (y ∷ ys) (suc i) x lt is =
+    let e : suc i + 1 ≡ suc (i + 1) = omega arith in
+    rw e (ap (λ zs. y ∷ zs) (split-at ys i x (omega (arith, lt)) is))
+
+take-one : {A : Type 0} (xs : List A) (i : ℕ) (x : A) → i < length xs → x ≡ get_or xs i x
+    → take (i + 1) xs ≡ take i xs ++ x ∷ []
+take-one xs i x lt is =
+    take_more xs i x lt ∙ ap (λ z. take i xs ++ z ∷ []) (sym is)
+
+pub sent-more : (g : GroupNumber) (told : List Told) (i : ℕ) (x : Told) (old now new : List ℕ)
+    → i < length told → x ≡ get_or told i x → now ≡ old ++ sent_in g (take i told)
+    → new ≡ now ++ sent_in g (x ∷ []) → new ≡ old ++ sent_in g (take (i + 1) told)
+sent-more g told i x old now new lt is before more =
+    more ∙ ap (λ l. l ++ sent_in g (x ∷ [])) before
+    ∙ append_assoc old (sent_in g (take i told)) (sent_in g (x ∷ []))
+    ∙ ap (λ l. old ++ l) (sym (ap (λ l. sent_in g l) (take-one told i x lt is)
+    ∙ sent-append g (take i told) (x ∷ [])))
+
+module _ {K : Type 0} (Took : K → Report → K → Type 0) where
+  pub told-more : (f : Told → Report) (told : List Told) (i : ℕ) (x : Told) (a b c : K)
+      → i < length told → x ≡ get_or told i x → AreTold Took a (map f (take i told)) b
+      → Took b (f x) c → AreTold Took a (map f (take (i + 1) told)) c
+  told-more f told i x a b c lt is before took =
+      subst (λ (l : List Report). AreTold Took a l c)
+      (sym (ap (λ l. map f l) (take-one told i x lt is) ∙ map-append f (take i told) (x ∷ [])))
+      (told-both Took a b c (map f (take i told)) (f x ∷ []) before (c, took, refl))
+
+-- the recorder broke at a report
+pub told-upto : {K : Type 0} (Took : K → Report → K → Type 0)
+    (Broke : K → Report → K → Broken → Type 0) (f : Told → Report) (told : List Told) (i : ℕ)
+    (x : Told) (a b c : K) (why : Broken) (r : Result (Unit {0}) Broken) → i < length told
+    → x ≡ get_or told i x → AreTold Took a (map f (take i told)) b → Broke b (f x) c why
+    → IsErrAnd r (λ y. y ≡ why) → AreTelling Took Broke (map f told) a c r
+told-upto Took Broke f told i x a b c why r lt is before broke err =
+    let p = err_from_is_err_and r err in
+    subst (λ (r : Result (Unit {0}) Broken). AreTelling Took Broke (map f told) a c r)
+    (sym (p.1 ∙ ap (λ (y : Broken). Err y) p.2)) (record {
+      told = map f (take i told);
+      last = f x;
+      behind = map f (drop (i + 1) told);
+      parts = ap (λ l. map f l) (split-at told i x lt is)
+          ∙ map-append f (take i told) (x ∷ drop (i + 1) told);
+      before = b;
+      by_one = before;
+      breaks = broke;
+    })

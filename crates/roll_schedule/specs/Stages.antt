@@ -21,7 +21,9 @@ pub record IsParty (g : GroupNumber) (w : World) (party : Party) : Type 0 where
 -- two groups at work stand for a world
 pub record StandsFor (w : World) (stage : Stage) : Type 0 where
   pub begun : w.kept.begun ≡ true
-  pub keyed : is_some w.kept.chosen.group ≡ true
+  pub named : is_some w.kept.chosen.group ≡ true
+  pub chosen : stage.chosen ≡ w.kept.chosen
+  pub keyed : stage.keyed ≡ w.kept.second
   pub line : stage.line ≡ w.kept.line
   pub twin : TwinStandsFor (pair_of w) w.kept.users stage.twin w.run
   pub draws : (k : ℕ) → supply_nth stage.draws k ≡ supply w k

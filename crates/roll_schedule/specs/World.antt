@@ -53,6 +53,13 @@ nothing_kept = record {
 abbrev pub beginning : World
 beginning = record { run = []; kept = nothing_kept }
 
+-- so far lines chose, and the last has this number
+abbrev pub waiting : ℕ → Choices → Option Keyed → World
+waiting line chosen second = record {
+  run = [];
+  kept = record nothing_kept { line = line; chosen = chosen; second = second };
+}
+
 -- ---- the groups
 
 -- as long as there is no second group, it counts as the first

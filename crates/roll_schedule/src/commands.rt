@@ -8,26 +8,25 @@ ghost use Rattle.lan_schedule.specs.declared.halt.Halt.{Halt};
 ghost use Rattle.lan_schedule.specs.declared.halt.Kind.TheVariants as kinds;
 ghost use Rattle.lan_schedule.specs.Kinds.{first_of, is_allowed};
 ghost use Rattle.lan_schedule.specs.inside.Choosing.{IsStation};
-ghost use Rattle.roll_schedule.specs.World.{World, beginning};
+ghost use Rattle.roll_schedule.specs.World.{World, beginning, waiting};
 ghost use Rattle.roll_schedule.specs.Acts.{look};
-ghost use Rattle.roll_schedule.specs.Kinds.{may_stand, may_be_second, refusal};
-ghost use Rattle.roll_schedule.specs.Lines.{numbered, at_line, act_of, deed_plain, performed, take_second};
+ghost use Rattle.roll_schedule.specs.Kinds.{refusal};
+ghost use Rattle.roll_schedule.specs.Lines.{numbered, at_line, act_of, deed_plain, performed};
 ghost use Rattle.roll_schedule.specs.Ends.{moment, IsReached};
 ghost use Rattle.roll_schedule.specs.Standing.{StandsFor, Does};
 ghost use Rattle.lan_schedule.specs.Settings.{secret_of};
-ghost use Rattle.roll_schedule.specs.inside.Choosing.{is_later, MayPrepare, with_second};
+ghost use Rattle.roll_schedule.specs.inside.Choosing.{is_later, MayPrepare};
 ghost use Rattle.roll_schedule.specs.inside.Doing.{DidSo};
 
 use crate::recorder::TwinRecorder;
-use crate::refusals::order_where;
+use crate::refusals::{is_group, may_be_second, order_where};
 use crate::stage::Stage;
 use cak_roll::law_group_runs_are_sound;
 use lan_base::Octets;
-use lan_schedule::{
-    Choices, Halt, Keyed, Kind, choose, is_elsewhere, kind_of_fault, refusal, secret_of,
-};
+use lan_schedule::{Choices, Halt, Keyed, Kind, choose, kind_of_fault, refusal, secret_of};
 use roll_text::{RollLine, read_roll_line};
 use std::alloc::Global;
+use std::mem::replace;
 use trace_text::{Line, LineError};
 
 /// What the lines so far have made. Contracts see by `StandsFor` which world that is.
@@ -166,92 +165,41 @@ impl TwinReplay {
                 kind,
             });
         }
-        if let RollLine::Group2 { cak, ckn } = line {
-            return self.take_second(cak, ckn);
-        }
         if let Some(stage) = &mut self.stage {
             return stage.perform(line, recorder, outlet);
         }
         match line {
             RollLine::Plain(line) => self.prepare(line, recorder, outlet),
-            _ => Ok(()),
+            RollLine::Group2 { cak, ckn } => self.take_second(cak, ckn),
+            RollLine::Adopt { .. } | RollLine::Leave { .. } => Ok(()),
         }
     }
-
-    // ---- refusals
 
     /// Why a line is refused.
     fn refusal(&self, line: &RollLine) -> Option<Kind>
         ensures first { (w : World) → IsReached StandsFor w self.now → result ≡ refusal line.now w }
-        ensures before { self.now.stage ≡ None → IfNone result (MayPrepare line.now self.now.chosen) }
+        ensures before { self.now.stage ≡ None
+            → IfNone result (MayPrepare line.now self.now.chosen) }
         ensures later { is_some self.now.stage ≡ true → IfNone result (is_later line.now ≡ true) }
     {
-        let Some(stage) = &self.stage else {
-            return self.refusal_before(line);
-        };
-        if self.may_stand(line) {
-            stage.wrong(line)
-        } else {
-            Some(Kind::Order)
+        match &self.stage {
+            Some(stage) => stage.refusal(line),
+            None => refusal_before(&self.chosen, &self.second, line),
         }
     }
 
-    /// Why a line is refused before the first station.
-    fn refusal_before(&self, line: &RollLine) -> Option<Kind>
-        ensures first { self.now.stage ≡ None → (w : World) → StandsFor w self.now
-            → result ≡ refusal line.now w }
-        ensures before { IfNone result (MayPrepare line.now self.now.chosen) }
-    {
-        match line {
-            RollLine::Plain(line) => refusal(&self.chosen, line),
-            RollLine::Group2 { ckn, .. } => order_where(!self.may_be_second(ckn)),
-            RollLine::Adopt { .. } => Some(unknown_where(self.second.is_some())),
-            RollLine::Leave { group, .. } => Some(unknown_where(*group == 1 || *group == 2)),
-        }
-    }
-
-    /// Whether a line may stand after the first station.
-    fn may_stand(&self, line: &RollLine) -> bool
-        ensures stands { is_some self.now.stage ≡ true → (w : World) → StandsFor w self.now
-            → result ≡ may_stand line.now w }
-        ensures later { result ≡ true → is_later line.now ≡ true }
-    {
-        match line {
-            RollLine::Plain(line) => !is_elsewhere(line),
-            RollLine::Group2 { ckn, .. } => self.may_be_second(ckn),
-            RollLine::Adopt { .. } => self.second.is_some(),
-            RollLine::Leave { group, .. } => *group == 1 || *group == 2,
-        }
-    }
-
-    /// Whether a second group of this name may come.
-    fn may_be_second(&self, ckn: &Octets) -> bool
-        ensures { result ≡ may_be_second ckn.now self.now.chosen.group self.now.second }
-    {
-        match (&self.chosen.group, &self.second) {
-            (Some(first), None) => ckn.as_slice() != first.ckn.as_slice(),
-            _ => false,
-        }
-    }
-
-    // ---- lines
-
-    /// The second group comes.
+    /// The second group comes before the first station.
     fn take_second(&mut self, cak: &Octets, ckn: &Octets) -> Result<(), Halt>
         requires { (length cak.now ≡ 16) ⊎ (length cak.now ≡ 32) }
-        ensures ok { OnOk result ((w : World) → StandsFor w self.old
-            → StandsFor (with_second (secret_of cak.now) ckn.now w) self.new) }
+        ensures second { OnOk result (self.new ≡ record self.old {
+          second = Some (record { cak = secret_of cak.now; ckn = ckn.now });
+        }) }
         ensures memory { IfErr result (λ halt. halt ≡ Halt.Memory) }
     {
-        let cak = secret_of(cak.as_slice());
-        let keyed = Keyed {
-            cak,
+        self.second = Some(Keyed {
+            cak: secret_of(cak.as_slice()),
             ckn: ckn.copied(self.alloc)?,
-        };
-        if let Some(stage) = &mut self.stage {
-            stage.take_second(cak, ckn.copied(self.alloc)?)?;
-        }
-        self.second = Some(keyed);
+        });
         Ok(())
     }
 
@@ -291,10 +239,24 @@ impl TwinReplay {
         ensures { DidSo R.Took R.Broke (look (λ w. deed_plain line.now w))
             (moment self.old outlet.old) (moment self.new outlet.new) result }
     {
-        let mut stage = Stage::new(self.alloc, &self.chosen, &self.second, self.line)?;
+        let chosen = replace(&mut self.chosen, Choices::new());
+        let mut stage = Stage::new(self.alloc, chosen, self.second.take(), self.line)?;
         let outcome = stage.perform_plain(line, recorder, outlet);
         self.stage = Some(stage);
         outcome
+    }
+}
+
+/// Why a line is refused before the first station.
+fn refusal_before(chosen: &Choices, second: &Option<Keyed>, line: &RollLine) -> Option<Kind>
+    ensures first { result ≡ refusal line.now (waiting 0 chosen.now second.now) }
+    ensures before { IfNone result (MayPrepare line.now chosen.now) }
+{
+    match line {
+        RollLine::Plain(line) => refusal(chosen, line),
+        RollLine::Group2 { ckn, .. } => { order_where(!may_be_second(ckn, &chosen.group, second)) }
+        RollLine::Adopt { .. } => Some(unknown_where(second.is_some())),
+        RollLine::Leave { group, .. } => Some(unknown_where(is_group(*group))),
     }
 }
 

@@ -1,26 +1,51 @@
-//! Why a line is refused after the first station.
+//! Why a line is refused.
 
-ghost use Rattle.std.specs.Prelude.{◌≡◌, nat_eq, map, IfNone, false, not};
+ghost use Rattle.std.specs.Prelude.{◌≡◌, ◌==◌, ◌||◌, nat_eq, map, IfNone, true};
 ghost use Rattle.std.specs.List.{list_any};
 ghost use Rattle.std.specs.Cmp.Lexicographic.{pointwise};
 ghost use Rattle.lan_schedule.specs.World.{is_in};
 ghost use Rattle.lan_schedule.specs.Kinds.{or_else, where_, unknown};
-ghost use Rattle.lan_schedule.specs.declared.halt.Kind.{Kind};
 ghost use Rattle.lan_schedule.specs.declared.halt.Kind.TheVariants as kinds;
 ghost use Rattle.roll_schedule.specs.World.{World, has_adopted};
-ghost use Rattle.roll_schedule.specs.Kinds.{wrong, wrong_plain};
+ghost use Rattle.roll_schedule.specs.Kinds.{may_be_second, may_stand, refusal, wrong, wrong_plain};
+ghost use Rattle.roll_schedule.specs.inside.Choosing.{is_later};
 ghost use Rattle.roll_schedule.specs.Ends.{IsReached};
 ghost use Rattle.roll_schedule.specs.Stages.{StandsFor};
 
 use crate::stage::{Stage, group_of};
-use lan_base::{Name, Sci};
-use lan_schedule::Kind;
+use lan_base::{Name, Octets, Sci};
+use lan_schedule::{Keyed, Kind, is_elsewhere};
 use roll_text::RollLine;
 use trace_text::Line;
 
 impl Stage {
+    /// Why a line is refused.
+    pub fn refusal(&self, line: &RollLine) -> Option<Kind>
+        ensures first { (w : World) → IsReached StandsFor w self.now → result ≡ refusal line.now w }
+        ensures later { IfNone result (is_later line.now ≡ true) }
+    {
+        if self.may_stand(line) {
+            self.wrong(line)
+        } else {
+            Some(Kind::Order)
+        }
+    }
+
+    /// Whether a line may stand here.
+    fn may_stand(&self, line: &RollLine) -> bool
+        ensures stands { (w : World) → StandsFor w self.now → result ≡ may_stand line.now w }
+        ensures later { result ≡ true → is_later line.now ≡ true }
+    {
+        match line {
+            RollLine::Plain(line) => !is_elsewhere(line),
+            RollLine::Group2 { ckn, .. } => may_be_second(ckn, &self.chosen.group, &self.keyed),
+            RollLine::Adopt { .. } => self.keyed.is_some(),
+            RollLine::Leave { group, .. } => is_group(*group),
+        }
+    }
+
     /// What is wrong with the words of a line, from the left.
-    pub fn wrong(&self, line: &RollLine) -> Option<Kind>
+    fn wrong(&self, line: &RollLine) -> Option<Kind>
         ensures { (w : World) → IsReached StandsFor w self.now → result ≡ wrong line.now w }
     {
         match line {
@@ -109,4 +134,21 @@ pub fn order_where(test: bool) -> Option<Kind>
     ensures { result ≡ where_ test kinds.Order }
 {
     if test { Some(Kind::Order) } else { None }
+}
+
+/// Whether a second group of this name may come: behind the first one, once, and not of its name.
+pub fn may_be_second(ckn: &Octets, first: &Option<Keyed>, second: &Option<Keyed>) -> bool
+    ensures { result ≡ may_be_second ckn.now first.now second.now }
+{
+    match (first, second) {
+        (Some(first), None) => ckn.as_slice() != first.ckn.as_slice(),
+        _ => false,
+    }
+}
+
+/// Whether a number is that of a group.
+pub fn is_group(number: u32) -> bool
+    ensures { result ≡ ((number == 1) || (number == 2)) }
+{
+    number == 1 || number == 2
 }

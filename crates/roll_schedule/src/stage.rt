@@ -1,7 +1,7 @@
 //! Two groups at work: the lines after the first station are performed on them.
 
 ghost use Rattle.std.specs.Prelude.{◌≡◌, ◌≤◌, ◌+◌, ◌++◌, ◌∷◌, [], length, is_some, nat_eq, true, false, Some};
-ghost use Rattle.std.specs.Prelude.{OnOk, IfOk, IfErr};
+ghost use Rattle.std.specs.Prelude.{◌⊎◌, OnOk, IfOk, IfErr};
 ghost use Rattle.std.specs.List.{position_or_len};
 ghost use Rattle.std.specs.Option.{option_copied};
 ghost use Rattle.std.specs.Cmp.Lexicographic.{pointwise};
@@ -19,19 +19,18 @@ ghost use Rattle.roll_schedule.specs.Lines.{begin, restart, send, add_user, cut_
 ghost use Rattle.roll_schedule.specs.Lines.{deed, deed_plain};
 ghost use Rattle.roll_schedule.specs.Ends.{moment, IsReached};
 ghost use Rattle.roll_schedule.specs.Stages.{StandsFor};
-ghost use Rattle.roll_schedule.specs.inside.Choosing.{is_before, IsOpening, with_second};
+ghost use Rattle.roll_schedule.specs.inside.Choosing.{is_later, IsOpening, with_second};
 ghost use Rattle.roll_schedule.specs.inside.Doing.{Did, Happened};
 
 use crate::choosing::twin_of;
 use crate::party::Party;
 use crate::recorder::TwinRecorder;
 use crate::telling::{admit, put_all, tell};
-use aes_block::Secret;
 use cak_roll::{GroupNumber, Twin, TwinEvent};
 use lan_base::{Mac, Name, Octets, Sci, UserFrame};
 use lan_core::StepError;
 use lan_schedule::{
-    Choices, Halt, Keyed, Links, Supply, halt_of, position, settings_of, supply_of,
+    Choices, Halt, Keyed, Links, Supply, halt_of, position, secret_of, settings_of, supply_of,
 };
 use roll_text::RollLine;
 use std::alloc::{AllocError, Global};
@@ -43,6 +42,10 @@ pub struct Stage {
     pub alloc: Global,
     pub twin: Twin,
     pub draws: Supply,
+    /// What was chosen before the first station.
+    pub chosen: Choices,
+    /// The key and the name of the second group, if it came.
+    pub keyed: Option<Keyed>,
     /// The number of the line that is performed.
     pub line: u32,
     pub scis: Vec<Sci>,
@@ -57,21 +60,23 @@ impl Stage {
     /// Two groups by what was chosen, in which nothing happened yet. The line of this number begins.
     pub fn new(
         alloc: Global,
-        chosen: &Choices,
-        second: &Option<Keyed>,
+        chosen: Choices,
+        keyed: Option<Keyed>,
         line: u32,
     ) -> Result<Self, Halt>
-        ensures stands { (w : World) → is_some chosen.now.group ≡ true
-            → IsOpening w chosen.now second.now line → IfOk result (StandsFor w) }
+        ensures stands { (w : World) → is_some chosen.group ≡ true → IsOpening w chosen keyed line
+            → IfOk result (StandsFor w) }
         ensures memory { IfErr result (λ halt. halt ≡ Halt.Memory) }
     {
-        let settings = settings_of(alloc, chosen)?;
-        let draws = supply_of(alloc, chosen)?;
-        let twin = twin_of(alloc, settings, second)?;
+        let settings = settings_of(alloc, &chosen)?;
+        let draws = supply_of(alloc, &chosen)?;
+        let twin = twin_of(alloc, settings, &keyed)?;
         Ok(Stage {
             alloc,
             twin,
             draws,
+            chosen,
+            keyed,
             line,
             scis: Vec::new(alloc),
             users: 0,
@@ -82,15 +87,22 @@ impl Stage {
     }
 
     /// The second group comes.
-    pub fn take_second(&mut self, cak: Secret, ckn: Octets) -> Result<(), Halt>
-        ensures stands { (w : World) → StandsFor w self.old
-            → OnOk result (StandsFor (with_second cak ckn w) self.new) }
+    fn take_second(&mut self, cak: &Octets, ckn: &Octets) -> Result<(), Halt>
+        requires { (length cak.now ≡ 16) ⊎ (length cak.now ≡ 32) }
+        ensures stands { OnOk result ((w : World) → StandsFor w self.old
+            → StandsFor (with_second cak.now ckn.now w) self.new) }
         ensures memory { IfErr result (λ halt. halt ≡ Halt.Memory) }
     {
-        match self.twin.second(cak, ckn) {
-            Ok(()) => Ok(()),
-            Err(_) => Err(Halt::Memory),
+        let cak = secret_of(cak.as_slice());
+        match self.twin.second(cak, ckn.copied(self.alloc)?) {
+            Ok(()) => {}
+            Err(_) => return Err(Halt::Memory),
         }
+        self.keyed = Some(Keyed {
+            cak,
+            ckn: ckn.copied(self.alloc)?,
+        });
+        Ok(())
     }
 
     // ---- events
@@ -276,13 +288,13 @@ impl Stage {
         outlet: &mut K,
     ) -> Result<(), Halt>
         requires form { IsInFormRoll line.now }
-        requires later { is_before line.now ≡ false }
+        requires later { is_later line.now ≡ true }
         ensures { Did R.Took R.Broke (look (λ w. deed line.now w))
             (moment self.old outlet.old) (moment self.new outlet.new) result }
     {
         match line {
             RollLine::Plain(line) => self.perform_plain(line, recorder, outlet),
-            RollLine::Group2 { .. } => Ok(()),
+            RollLine::Group2 { cak, ckn } => self.take_second(cak, ckn),
             RollLine::Adopt { name } => self.adopt(self.place(name), recorder, outlet),
             RollLine::Leave { group, name } => self.leave(
                 self.place(name),

@@ -1,6 +1,7 @@
 //! What an event showed in both groups is kept and told.
 
-ghost use Rattle.std.specs.Prelude.{◌≡◌, ◌++◌, map, OnOk};
+ghost use Rattle.std.specs.Prelude.{◌≡◌, ◌++◌, ◌∷◌, [], map, OnOk};
+ghost use Rattle.cak_roll.specs.Twin.{of_group};
 ghost use Rattle.cak_roll.specs.declared.event.GroupNumber.TheVariants as groups;
 ghost use Rattle.roll_schedule.specs.inside.Telling.{started_name, started_sci, adopted_name};
 ghost use Rattle.roll_schedule.specs.inside.Telling.{sent_in, report_with, AreTelling};
@@ -46,12 +47,22 @@ pub fn put_all(first: &mut Vec<u8>, second: &mut Vec<u8>, told: &[Told]) -> Resu
         ≡ second.old.items ++ sent_in groups.Second told.now) }
 {
     for one in told {
-        match one.group {
-            GroupNumber::First => put(first, one.facts.as_slice())?,
-            GroupNumber::Second => put(second, one.facts.as_slice())?,
-        }
+        put_told(first, second, one)?;
     }
     Ok(())
+}
+
+/// The senders of the frames that were put on the air of one group come.
+fn put_told(first: &mut Vec<u8>, second: &mut Vec<u8>, told: &Told) -> Result<(), AllocError>
+    ensures first { OnOk result (first.new.items
+        ≡ first.old.items ++ sent_in groups.First (told.now ∷ [])) }
+    ensures second { OnOk result (second.new.items
+        ≡ second.old.items ++ sent_in groups.Second (told.now ∷ [])) }
+{
+    match told.group {
+        GroupNumber::First => put(first, told.facts.as_slice()),
+        GroupNumber::Second => put(second, told.facts.as_slice()),
+    }
 }
 
 /// What an event showed in both groups is told, under the names that the stations have in each.
@@ -66,11 +77,18 @@ pub fn tell<K, R: TwinRecorder<K>>(
         outlet.new result }
 {
     for one in told {
-        let names = match one.group {
-            GroupNumber::First => first,
-            GroupNumber::Second => second,
-        };
+        let names = names_in(one.group, first, second);
         recorder.record(one.group, names, one.facts.as_slice(), outlet)?;
     }
     Ok(())
+}
+
+/// The names of the stations of a group.
+fn names_in<'a>(group: GroupNumber, first: &'a [Name], second: &'a [Name]) -> &'a [Name]
+    ensures { result.now ≡ of_group group first.now second.now }
+{
+    match group {
+        GroupNumber::First => first,
+        GroupNumber::Second => second,
+    }
 }

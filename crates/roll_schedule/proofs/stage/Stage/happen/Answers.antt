@@ -10,7 +10,7 @@ use Rattle.roll_schedule.proofs.stage.Stage.happen.Goals as goal
 
 pub returns-in-Err-Stopped : goal.returns-in-Err-Stopped
 returns-in-Err-Stopped g c =
-    rw (c.halt_of.ensures, c.in-Err-Stopped.field-0-is) (event-stopped _ c.args.event.now
+    rw c.halt_of.ensures (event-stopped _ c.args.event.now
     c.in-Err-Stopped.stop c.args.self.now.line (moment c.args.self.now c.args.outlet.now) _
     (λ pair users t stands may.
     subst (IsWhy (twin_stop pair users t c.args.event.now (supply_nth c.args.self.now.draws)))
@@ -38,6 +38,8 @@ returns-in_err-tell g c =
     c.in-Ok.ensures.stands c.in-Ok.ensures.drawn c.in-Ok.ensures.goes)
     (record {
       line = refl;
+      chosen = refl;
+      keyed = refl;
       users = refl;
       cuts = refl;
       scis = c.in_ok-admit.ensures.scis;
@@ -58,6 +60,8 @@ returns g c =
     c.in-Ok.ensures.stands c.in-Ok.ensures.drawn c.in-Ok.ensures.goes)
     (record {
       line = refl;
+      chosen = refl;
+      keyed = refl;
       users = refl;
       cuts = refl;
       scis = c.in_ok-admit.ensures.scis;
