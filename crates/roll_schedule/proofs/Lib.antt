@@ -7,3 +7,8 @@ mod LinesCome
 mod Happening
 mod Moving
 mod Replaying
+mod Opening
+mod EachLine
+mod TidyWorlds
+mod Examples
+pub mod Public

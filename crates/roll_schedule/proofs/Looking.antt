@@ -1,8 +1,7 @@
 -- Acts that look at the world, begun from the groups at work.
-use Rattle.std.proofs.Common.{◌≡◌, ◌≤◌, ◌<◌, ℕ, ◌+◌, ◌-◌, Bool, true, false, List, [], length, refl}
+use Rattle.std.proofs.Common.{◌≡◌, ◌≤◌, ℕ, zero, suc, ◌+◌, ◌-◌, List, [], ◌∷◌, ◌++◌, length, refl}
 use Rattle.std.proofs.Common.{sym, ap, ◌∙◌, subst, nat_eq, arith}
-use Rattle.std.specs.Prelude.{Result, Ok, ◌||◌, not}
-use Rattle.std.specs.List.{position_or_len}
+use Rattle.std.specs.List.{position_or_len, range_with_len}
 use Rattle.std.specs.Cmp.Lexicographic.{pointwise}
 use Rattle.std.proofs.lemmas.List.{length-map}
 use Rattle.lan_core.specs.Ledgers.{air}
@@ -11,7 +10,6 @@ use Rattle.cak_roll.specs.declared.event.GroupNumber.{GroupNumber}
 use Rattle.cak_roll.specs.declared.event.GroupNumber.TheVariants.{First, Second}
 use Rattle.cak_roll.specs.Twin.{of_group, run_of}
 use Rattle.cak_roll.proofs.Public.{few-stations, twin-stepped}
-use Rattle.lan_schedule.specs.declared.halt.Halt.{Halt}
 use Rattle.lan_schedule.specs.declared.recorder.Broken.{Broken}
 use Rattle.roll_schedule.specs.declared.party.Party.{Party}
 use Rattle.roll_schedule.specs.declared.stage.Stage.{Stage}
@@ -110,3 +108,17 @@ spreads-here g w stage first some stands is_first is_some =
     a
     ∙ ap (λ (n : ℕ). seq (span (λ place. spread g (place + 1)) (spread_in g w.kept)
     (n - spread_in g w.kept)) (change (has_spread g n))) b
+
+-- so many numbers, and one more
+range-more : (a n : ℕ) → range_with_len a (n + 1) ≡ range_with_len a n ++ (a + n) ∷ []
+range-more a zero = let e : a ≡ a + 0 = omega arith in ap (λ k. k ∷ []) e
+range-more a (suc n) =
+    let e : suc n + 1 ≡ suc (n + 1) = omega arith in
+    let f : a + 1 + n ≡ a + suc n = omega arith in
+    ap (λ k. range_with_len a k) e
+    ∙ ap (λ l. a ∷ l) (range-more (a + 1) n ∙ ap (λ k. range_with_len (a + 1) n ++ k ∷ []) f)
+
+pub places-more : (n : ℕ) → range_with_len 0 (n + 1) ≡ range_with_len 0 n ++ n ∷ []
+places-more n =
+    let e : 0 + n ≡ n = omega arith in
+    range-more 0 n ∙ ap (λ k. range_with_len 0 n ++ k ∷ []) e

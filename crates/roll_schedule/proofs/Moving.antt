@@ -129,6 +129,12 @@ module _ {K : Type 0} {Took : K → Report → K → Type 0} {Broke : K → Repo
         stands.named stands.chosen stands.keyed stands.line stands.twin stands.draws refl
         stands.users stands.cuts stands.first_party stands.second_party refl refl) refl
 
+    -- an act of a number that is another
+    pub same-did : (act : ℕ → Act) (m n : ℕ) (old new : Moment Stage K) (r : Result (Unit {0}) Halt)
+        → m ≡ n → Did Took Broke (act m) old new r → Did Took Broke (act n) old new r
+    same-did act m n old new r same d =
+        subst (λ (k : ℕ). Did Took Broke (act k) old new r) same d
+
     -- ---- user data
 
     -- a user frame is added, and sent

@@ -1,8 +1,8 @@
 -- What is kept and told of an event, and of a run with it.
 use Rattle.std.proofs.Common.{◌≡◌, ℕ, zero, suc, Bool, true, false, cond, List, [], ◌∷◌, ◌++◌, map, length}
 use Rattle.std.proofs.Common.{Option, Some, None, refl, sym, ap, ◌∙◌, subst, append_assoc, append-nil}
-use Rattle.std.proofs.Common.{◌<◌, take, drop, get_or, length-append, arith}
-use Rattle.std.specs.Prelude.{◌+◌, slice_get, option_map, option_to_list, option_and_then}
+use Rattle.std.proofs.Common.{◌<◌, ◌≤◌, take, drop, get_or, length-append, arith}
+use Rattle.std.specs.Prelude.{◌+◌, nat_lt, slice_get, option_map, option_to_list, option_and_then}
 use Rattle.std.specs.List.{flat_map}
 use Rattle.std.specs.Prelude.{Result, Ok, Err}
 use Rattle.std.specs.Result.{IsErrAnd}
@@ -86,6 +86,26 @@ name-second t (twins.Tick station group) = refl
 name-second t (twins.Deliver group frame station) = refl
 name-second t (twins.Restart station) = refl
 name-second t (twins.Send station user) = refl
+
+get-past : (xs : List (List ℕ)) (n : ℕ) → length xs ≤ n → slice_get xs n ≡ None
+get-past [] n le = refl
+get-past (x ∷ xs) zero le = absurd (omega (arith, le))
+get-past (x ∷ xs) (suc n) le = get-past xs n (omega (arith, le))
+
+not-below : (n m : ℕ) → false ≡ nat_lt n m → m ≤ n
+not-below n m e = grind arith
+
+-- nobody adopts who isn't there
+pub adopted-none : (names seen xs : List (List ℕ)) (event : TwinEvent) (station n : ℕ)
+    → event ≡ twins.Adopt station → n ≡ station → seen ≡ names → false ≡ nat_lt n (length seen)
+    → xs ≡ xs ++ adopted_name names event
+adopted-none names seen xs event station n is same at past =
+    let low = not-below n (length seen) past in
+    let none : slice_get names station ≡ None =
+    subst (λ (k : ℕ). slice_get names k ≡ None) same
+    (subst (λ (l : List (List ℕ)). slice_get l n ≡ None) at (get-past seen n low)) in
+    sym (ap (λ e. xs ++ adopted_name names e) is
+    ∙ ap (λ o. xs ++ option_to_list o) none ∙ append-nil xs)
 
 names-then : (pair : Pair) (users : List UserFrame) (x : TwinHappening) (t : Twin)
     (g : GroupNumber) → IsTwinStep pair users x t

@@ -4,6 +4,7 @@
 
 mod choosing;
 mod commands;
+mod laws;
 mod moves;
 mod party;
 mod recorder;
@@ -12,4 +13,5 @@ mod stage;
 mod telling;
 
 pub use commands::TwinReplay;
+pub use laws::{law_both_groups_of_tidy_worlds_are_sound, law_groups_of_tidy_worlds_are_sound};
 pub use recorder::TwinRecorder;

@@ -19,4 +19,4 @@ pub returns : goal.returns
 returns g c =
     then-ok round (seq (spread_group First) (spread_group Second)) _ _ _ _ c.in_ok-round.ensures
     (then-ok (spread_group First) (spread_group Second) _ _ _ _ c.in_ok-spread_group.ensures
-    c.spread_group.ensures)
+    c.spread_group-2.ensures)

@@ -5,8 +5,8 @@ use Rattle.roll_schedule.specs.Lines.{pass}
 use Rattle.roll_schedule.proofs.Doing.{look-does, memory-any}
 use Rattle.roll_schedule.proofs.stage.Stage.spread.Goals as goal
 
-pub returns-in_err-joined-stations : goal.returns-in_err-joined-stations
-returns-in_err-joined-stations g c = memory-any _ _ _ _ refl refl c.from_residual.ensures.1
+pub returns-in_err-stations : goal.returns-in_err-stations
+returns-in_err-stations g c = memory-any _ _ _ _ refl refl c.from_residual.ensures.1
 
 pub returns : goal.returns
 returns g c =

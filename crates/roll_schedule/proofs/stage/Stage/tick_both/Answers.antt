@@ -11,4 +11,4 @@ returns-in_err-tick_in g c =
 pub returns : goal.returns
 returns g c =
     then-ok (tick_in First c.args.station) (tick_in Second c.args.station) _ _ _ _
-    c.in_ok-tick_in.ensures c.tick_in.ensures
+    c.in_ok-tick_in.ensures c.tick_in-2.ensures
