@@ -7,6 +7,7 @@ mod LinesCome
 mod Happening
 mod Moving
 mod Replaying
+mod Refusing
 mod Opening
 mod EachLine
 mod TidyWorlds

@@ -1,7 +1,7 @@
 -- Lines before the first station, and the groups that open with it.
 use Rattle.std.proofs.Common.{◌≡◌, ◌<◌, ℕ, ◌+◌, Bool, true, false, List, [], length, Option, Some, None}
 use Rattle.std.proofs.Common.{refl, sym, ap, ◌∙◌, subst, arith}
-use Rattle.std.specs.Prelude.{Result, Ok, is_some, not, nat_lt, ◌&&◌, ◌||◌, ◌==◌}
+use Rattle.std.specs.Prelude.{IfNone, Result, Ok, is_some, not, nat_lt, ◌&&◌, ◌||◌, ◌==◌}
 use Rattle.std.proofs.lemmas.Bool.{le-ltb}
 use Rattle.lan_base.specs.declared.frame.UserFrame.{UserFrame}
 use Rattle.lan_core.specs.Run.{stations}
@@ -20,7 +20,7 @@ use Rattle.lan_schedule.specs.declared.halt.Halt.{Halt}
 use Rattle.lan_schedule.specs.declared.halt.Kind.{Kind}
 use Rattle.lan_schedule.specs.declared.halt.Kind.TheVariants as kinds
 use Rattle.lan_schedule.specs.declared.recorder.Broken.{Broken}
-use Rattle.lan_schedule.specs.Kinds.{first_of, is_allowed}
+use Rattle.lan_schedule.specs.Kinds.{first_of, is_allowed, where_}
 use Rattle.lan_schedule.specs.Lines.{chosen_by}
 use Rattle.lan_schedule.specs.Settings.{rule_of, settings_of}
 use Rattle.lan_schedule.specs.Supply.{draw_at, supply_nth}
@@ -78,6 +78,22 @@ leave-before group name chosen second allowed is =
 pub first-allows : (b : Bool) (o : Option Kind) → first_of b o ≡ None → b ≡ true
 first-allows true o e = refl
 first-allows false o e = absurd (cc e)
+
+pub none-allows : (o : Option Kind) (b : Bool) → o ≡ first_of b None → IfNone o (b ≡ true)
+none-allows None b is = first-allows b None (sym is)
+none-allows (Some kind) b is = tt
+
+pub order-first : (b : Bool) (o : Option Kind) → o ≡ where_ (not b) kinds.Order → o ≡ first_of b None
+order-first true o is = is
+order-first false o is = is
+
+-- no line is refused by its number
+pub refusal-waits : (line : RollLine) (n : ℕ) (chosen : Choices) (second : Option Keyed)
+    → refusal line (waiting 0 chosen second) ≡ refusal line (waiting n chosen second)
+refusal-waits (Plain line) n chosen second = refl
+refusal-waits (Group2 cak ckn) n chosen second = refl
+refusal-waits (Adopt name) n chosen second = refl
+refusal-waits (Leave group name) n chosen second = refl
 
 -- ---- what cannot come
 
@@ -156,6 +172,10 @@ module _ {K : Type 0} {Took : K → Report → K → Type 0} {Broke : K → Repo
         is_new halted (λ i. waiting (sym number i) (sym chosen i) (sym second i)) outlet)
 
 -- ---- the first station
+
+pub no-second : (o : Option Keyed) → ((x : Keyed) → o ≡ Some x → ⊥) → o ≡ None
+no-second None other = refl
+no-second (Some keyed) other = absurd (other keyed refl)
 
 pub station-later : (line : Line) → IsStation line → is_elsewhere line ≡ false
 station-later (lines.Station name sci priority) station = refl

@@ -81,7 +81,7 @@ impl Stage {
     fn has_adopted(&self, station: u8) -> bool
         ensures { (w : World) → StandsFor w self.now → result ≡ has_adopted station w.run }
     {
-        self.twin.adopters().iter().any(|other| *other == station)
+        contains(self.twin.adopters(), station)
     }
 
     /// Whether the name or the SCI of a station that is to start is taken.
@@ -127,6 +127,13 @@ impl Stage {
     {
         self.scis.iter().any(|other| sci.0 == other.0)
     }
+}
+
+/// Whether a station is among others.
+fn contains(stations: &[u8], station: u8) -> bool
+    ensures { result ≡ list_any (λ u. u == station) stations.now }
+{
+    stations.iter().any(|other| *other == station)
 }
 
 /// The line is not allowed where the test holds.
