@@ -2,7 +2,7 @@
 use Rattle.std.proofs.Common.{◌≡◌, ◌<◌, ◌≤◌, ℕ, zero, suc, ◌+◌, ◌-◌, ◌==◌, Bool, true, false}
 use Rattle.std.proofs.Common.{List, [], ◌∷◌, ◌++◌, length, Option, Some, None, refl, sym}
 use Rattle.std.proofs.Common.{ap, ◌∙◌, subst, length-append, arith}
-use Rattle.std.specs.Prelude.{cond, is_some, not, ◌||◌, IsTrue}
+use Rattle.std.specs.Prelude.{cond, is_some, not, ◌||◌}
 use Rattle.std.specs.List.{find}
 use Rattle.lan_core.specs.declared.fact.Fact.{Fact}
 use Rattle.lan_core.specs.declared.stop.Stop.{Stop}
@@ -189,16 +189,12 @@ comes-spread g number w tidy there =
     comes-each (pass g number (sender g number w.run)) (joined g w.run) w tidy
     (λ s v l tidy_v. comes-pass g number (sender g number w.run) s v (l.frames g number there))
 
-is-true : (b : Bool) → IsTrue b → b ≡ true
-is-true true h = refl
-is-true false h = absurd h
-
 within-air : (g : GroupNumber) (number : ℕ) (w : World) → IsTidy w → 1 ≤ number
     → number ≤ frames g w.run → IsOnAir g w.run number
 within-air g number w tidy low high =
     let found = number-frame (setting_of (pair_of w) g) w.kept.users (run_of g w.run) number
     (twin-stepped (pair_of w) w.kept.users w.run g tidy.legal) in
-    is-true _ (found.1 (low, high))
+    found.1 (low, high)
 
 -- what no world looks at leaves a world tidy
 pub tidy-same : (w : World) (kept : Kept) → IsTidy w → kept.chosen ≡ w.kept.chosen

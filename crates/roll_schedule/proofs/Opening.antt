@@ -25,7 +25,6 @@ use Rattle.lan_schedule.specs.Lines.{chosen_by}
 use Rattle.lan_schedule.specs.Settings.{rule_of, settings_of}
 use Rattle.lan_schedule.specs.Supply.{draw_at, supply_nth}
 use Rattle.lan_schedule.specs.inside.Choosing.{is_elsewhere, IsStation}
-use Rattle.lan_schedule.proofs.Public.{unbegun-reason}
 use Rattle.roll_schedule.specs.declared.stage.Stage.{Stage}
 use Rattle.roll_schedule.specs.declared.commands.TwinReplay.{TwinReplay}
 use Rattle.roll_schedule.specs.World.{World, pair_by, pair_of, second_of, waiting}
@@ -44,34 +43,34 @@ use Rattle.roll_schedule.proofs.Replaying.{is-waiting, never-does, stands-at, wa
 
 -- ---- refusals
 
-pub plain-before : (line : Line) (chosen : Choices) (second : Option Keyed)
-    → refusal (Plain line) (waiting 0 chosen second) ≡ first_of (is_allowed line false chosen) None
+pub plain-before : (line : Line) (n : ℕ) (chosen : Choices) (second : Option Keyed)
+    → refusal (Plain line) (waiting n chosen second) ≡ first_of (is_allowed line false chosen) None
 unfolding run_of stations
-plain-before (lines.Send name destination body) chosen second = refl
-plain-before (lines.TickOne name ticks) chosen second = refl
-plain-before (lines.Deliver frame name) chosen second = refl
-plain-before (lines.Feed first last name) chosen second = refl
-plain-before (lines.Spread frame) chosen second = refl
-plain-before (lines.Lose frame) chosen second = refl
-plain-before (lines.Cut from to) chosen second = refl
-plain-before (lines.Mend from to) chosen second = refl
-plain-before (lines.Restart name) chosen second = refl
-plain-before (lines.Inject name octets) chosen second = refl
-plain-before (lines.Station name sci priority) chosen second = refl
-plain-before _ chosen second = refl
+plain-before (lines.Send name destination body) n chosen second = refl
+plain-before (lines.TickOne name ticks) n chosen second = refl
+plain-before (lines.Deliver frame name) n chosen second = refl
+plain-before (lines.Feed first last name) n chosen second = refl
+plain-before (lines.Spread frame) n chosen second = refl
+plain-before (lines.Lose frame) n chosen second = refl
+plain-before (lines.Cut from to) n chosen second = refl
+plain-before (lines.Mend from to) n chosen second = refl
+plain-before (lines.Restart name) n chosen second = refl
+plain-before (lines.Inject name octets) n chosen second = refl
+plain-before (lines.Station name sci priority) n chosen second = refl
+plain-before _ n chosen second = refl
 
-pub adopt-before : (name : List ℕ) (chosen : Choices) (second : Option Keyed)
-    → refusal (Adopt name) (waiting 0 chosen second)
+pub adopt-before : (name : List ℕ) (n : ℕ) (chosen : Choices) (second : Option Keyed)
+    → refusal (Adopt name) (waiting n chosen second)
     ≡ first_of (is_some second) (Some kinds.NameUnknown)
 unfolding run_of stations
-adopt-before name chosen second = refl
+adopt-before name n chosen second = refl
 
-pub leave-before : (group : ℕ) (name : List ℕ) (chosen : Choices) (second : Option Keyed)
+pub leave-before : (group : ℕ) (name : List ℕ) (n : ℕ) (chosen : Choices) (second : Option Keyed)
     (allowed : Bool) → allowed ≡ ((group == 1) || (group == 2))
-    → refusal (Leave group name) (waiting 0 chosen second)
+    → refusal (Leave group name) (waiting n chosen second)
     ≡ first_of allowed (Some kinds.NameUnknown)
 unfolding run_of stations
-leave-before group name chosen second allowed is =
+leave-before group name n chosen second allowed is =
     ap (λ (b : Bool). first_of b (Some kinds.NameUnknown)) (sym is)
 
 -- what isn't refused is allowed
@@ -86,14 +85,6 @@ none-allows (Some kind) b is = tt
 pub order-first : (b : Bool) (o : Option Kind) → o ≡ where_ (not b) kinds.Order → o ≡ first_of b None
 order-first true o is = is
 order-first false o is = is
-
--- no line is refused by its number
-pub refusal-waits : (line : RollLine) (n : ℕ) (chosen : Choices) (second : Option Keyed)
-    → refusal line (waiting 0 chosen second) ≡ refusal line (waiting n chosen second)
-refusal-waits (Plain line) n chosen second = refl
-refusal-waits (Group2 cak ckn) n chosen second = refl
-refusal-waits (Adopt name) n chosen second = refl
-refusal-waits (Leave group name) n chosen second = refl
 
 -- ---- what cannot come
 
@@ -123,18 +114,18 @@ never-leaves line chosen second group name comes = never-part (group_of group) _
 
 module _ {K : Type 0} {Took : K → Report → K → Type 0} {Broke : K → Report → K → Broken → Type 0}
   where
-    pub adopt-never : (name : List ℕ) (old new : Moment TwinReplay K) (r : Result (Unit {0}) Halt)
-        → old.value.stage ≡ None → DidSo Took Broke (look (λ w. deed (Adopt name) w)) old new r
-    adopt-never name old new r is =
+    -- nobody joins or leaves before the first station
+    pub joins-never : (line : RollLine) (old new : Moment TwinReplay K) (r : Result (Unit {0}) Halt)
+        → ((x : _) → line ≡ Plain x → ⊥) → ((x : _) (x' : _) → line ≡ Group2 x x' → ⊥)
+        → old.value.stage ≡ None → DidSo Took Broke (look (λ w. deed line w)) old new r
+    joins-never (Plain line) old new r a b is = absurd (a line refl)
+    joins-never (Group2 cak ckn) old new r a b is = absurd (b cak ckn refl)
+    joins-never (Adopt name) old new r a b is =
         never-does (look (λ w. deed (Adopt name) w)) old new r (λ w stands comes.
         never-adopts old.value.line old.value.chosen old.value.second name
         (subst (λ (v : World). Comes (deed (Adopt name) v) v) (is-waiting w old.value is stands)
         comes))
-
-    pub leave-never : (group : ℕ) (name : List ℕ) (old new : Moment TwinReplay K)
-        (r : Result (Unit {0}) Halt) → old.value.stage ≡ None
-        → DidSo Took Broke (look (λ w. deed (Leave group name) w)) old new r
-    leave-never group name old new r is =
+    joins-never (Leave group name) old new r a b is =
         never-does (look (λ w. deed (Leave group name) w)) old new r (λ w stands comes.
         never-leaves old.value.line old.value.chosen old.value.second group name
         (subst (λ (v : World). Comes (deed (Leave group name) v) v)
@@ -201,18 +192,19 @@ station-keyed (lines.Station name sci priority) chosen station allowed = allowed
 station-keyed _ chosen station allowed = absurd station
 
 -- what is kept of two groups in which nothing happened
-pub opens : (chosen : Choices) (keyed : Option Keyed) (line : ℕ) (stage : Stage)
-    → is_some chosen.group ≡ true → stage.chosen ≡ chosen → stage.keyed ≡ keyed
+pub opens : (w : World) (chosen : Choices) (keyed : Option Keyed) (line : ℕ) (stage : Stage)
+    → w ≡ begun_in (waiting line chosen keyed) → is_some chosen.group ≡ true → stage.chosen ≡ chosen → stage.keyed ≡ keyed
     → stage.line ≡ line
     → ((users : List UserFrame) → TwinStandsFor (pair_by chosen keyed) users stage.twin [])
     → ((k : ℕ) → supply_nth stage.draws k ≡ draw_at (rule_of chosen) k)
     → stage.scis.items ≡ [] → stage.users ≡ 0 → stage.cuts ≡ [] → stage.first.names.items ≡ []
     → stage.first.senders.items ≡ [] → stage.first.spread ≡ 0 → stage.second.names.items ≡ []
     → stage.second.senders.items ≡ [] → stage.second.spread ≡ 0
-    → StageStandsFor (begun_in (waiting line chosen keyed)) stage
+    → StageStandsFor w stage
 unfolding run_of stations air
-opens chosen keyed line stage named is_chosen is_keyed is_line twin draws scis users cuts first_names
-    first_senders first_spread second_names second_senders second_spread = record {
+opens w chosen keyed line stage opening named is_chosen is_keyed is_line twin draws scis users cuts
+    first_names first_senders first_spread second_names second_senders second_spread =
+    subst (λ (v : World). StageStandsFor v stage) (sym opening) (record {
       begun = refl;
       named = named;
       chosen = is_chosen;
@@ -228,7 +220,7 @@ opens chosen keyed line stage named is_chosen is_keyed is_line twin draws scis u
           record { names = first_names; senders = first_senders; spread = first_spread };
       second_party =
           record { names = second_names; senders = second_senders; spread = second_spread };
-    }
+    })
 
 module _ {K : Type 0} {Took : K → Report → K → Type 0} {Broke : K → Report → K → Broken → Type 0}
   where

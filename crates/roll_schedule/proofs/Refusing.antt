@@ -88,11 +88,12 @@ unknown-or name test w stage s r a b t is first second holds places reached =
     ∙ ap test (place-is w stage name s reached places)))
 
 -- a station's name or SCI is taken
-pub taken-is : (name : List ℕ) (sci : Sci) (priority : ℕ) (w : World) (stage : Stage)
+pub taken-is : (name : List ℕ) (sci : Sci) (w : World) (stage : Stage)
     (o : Option Kind) → o ≡ or_else (where_ (is_in name stage.first.names.items) kinds.NameTaken)
     (where_ (is_in sci.0 (map (λ (s : Sci). s.0) stage.scis.items)) kinds.SciTaken)
-    → StandsFor w stage → o ≡ wrong_plain (lines.Station name sci priority) w
-taken-is name sci priority w stage o is stands =
+    → StandsFor w stage → o ≡ or_else (where_ (is_in name (names w)) kinds.NameTaken)
+    (where_ (is_in sci.0 (scis w)) kinds.SciTaken)
+taken-is name sci w stage o is stands =
     is ∙ ap (λ l. or_else (where_ (is_in name l) kinds.NameTaken)
     (where_ (is_in sci.0 (map (λ (s : Sci). s.0) stage.scis.items)) kinds.SciTaken))
     stands.first_party.names

@@ -7,15 +7,16 @@ use Rattle.cak_roll.specs.declared.event.GroupNumber.TheVariants.{First, Second}
 use Rattle.cak_roll.specs.Twin.{takes_part}
 use Rattle.trace_text.specs.declared.fault.TextFault.{TextFault}
 use Rattle.trace_text.specs.declared.line.Line.{Line}
-use Rattle.trace_text.specs.declared.line.Line.TheVariants.{Send}
+use Rattle.trace_text.specs.declared.line.Line.TheVariants.{Cut, Mend, Restart, Send, Station, TickOne}
 use Rattle.roll_text.specs.declared.line.RollLine.{RollLine}
 use Rattle.roll_text.specs.declared.line.RollLine.TheVariants.{Plain, Group2, Adopt, Leave}
 use Rattle.roll_text.specs.Reading.{roll_line_in}
 use Rattle.lan_schedule.specs.declared.halt.Kind.{Kind}
-use Rattle.lan_schedule.specs.declared.halt.Kind.TheVariants.{Order}
+use Rattle.lan_schedule.specs.declared.halt.Kind.TheVariants.{NameTaken, Order, SciTaken}
 use Rattle.lan_schedule.specs.declared.choices.Keyed.{Keyed}
 use Rattle.lan_schedule.specs.Kinds.{kind_of_fault, is_allowed, or_else, where_, unknown}
-use Rattle.lan_schedule.specs.Kinds.{wrong_word, first_of}
+use Rattle.lan_schedule.specs.Kinds.{first_of}
+use Rattle.lan_schedule.specs.World.{is_in}
 use Rattle.roll_schedule.specs.World.{World, names, scis, place, has_adopted, is_out}
 
 -- the group of a number, 1 or 2
@@ -37,9 +38,15 @@ may_stand (Leave group name) w = (group == 1) || (group == 2)
 
 -- what is wrong with the words of a line of one group: who sends takes part in a group
 abbrev pub wrong_plain : Line → World → Option Kind
+wrong_plain (Station name sci priority) w =
+    or_else (where_ (is_in name (names w)) NameTaken) (where_ (is_in sci.0 (scis w)) SciTaken)
+wrong_plain (TickOne name ticks) w = unknown name (names w)
+wrong_plain (Cut from to) w = or_else (unknown from (names w)) (unknown to (names w))
+wrong_plain (Mend from to) w = or_else (unknown from (names w)) (unknown to (names w))
+wrong_plain (Restart name) w = unknown name (names w)
 wrong_plain (Send name destination body) w =
     or_else (unknown name (names w)) (where_ (is_out (place w name) w.run) Order)
-wrong_plain line w = wrong_word line (names w) (scis w) 0
+wrong_plain _ w = None
 
 -- what is wrong with the words of a line: who adopts the second group has not done so before, and who
 -- leaves a group takes part in it

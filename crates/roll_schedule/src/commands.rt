@@ -1,6 +1,6 @@
 //! A replay performs the lines of a trace of two groups, one after the other.
 
-ghost use Rattle.std.specs.Prelude.{◌≡◌, ◌⊎◌, length, Some, None, Ok, Err, IfErr, IfNone};
+ghost use Rattle.std.specs.Prelude.{◌≡◌, ◌⊎◌, ℕ, length, Some, None, Ok, Err, IfErr, IfNone};
 ghost use Rattle.std.specs.Prelude.{OnOk, is_some, true, false, not};
 ghost use Rattle.trace_text.specs.Writing.{IsInForm};
 ghost use Rattle.roll_text.specs.InForm.{IsInFormRoll};
@@ -171,7 +171,7 @@ impl TwinReplay {
         match line {
             RollLine::Plain(line) => self.prepare(line, recorder, outlet),
             RollLine::Group2 { cak, ckn } => self.take_second(cak, ckn),
-            RollLine::Adopt { .. } | RollLine::Leave { .. } => Ok(()),
+            _ => Ok(()),
         }
     }
 
@@ -249,7 +249,7 @@ impl TwinReplay {
 
 /// Why a line is refused before the first station.
 fn refusal_before(chosen: &Choices, second: &Option<Keyed>, line: &RollLine) -> Option<Kind>
-    ensures first { result ≡ refusal line.now (waiting 0 chosen.now second.now) }
+    ensures first { (n : ℕ) → result ≡ refusal line.now (waiting n chosen.now second.now) }
     ensures before { IfNone result (MayPrepare line.now chosen.now) }
 {
     match line {

@@ -197,7 +197,7 @@ impl Stage {
         ensures { Did R.Took R.Broke (spread_group group)
             (moment self.old outlet.old) (moment self.new outlet.new) result }
     {
-        let Ok(count) = u32::try_from(self.party(group).senders.len()) else {
+        let Ok(count) = u32::try_from(self.party(group).count()) else {
             return Err(Halt::Memory);
         };
         let first = self.party(group).spread;

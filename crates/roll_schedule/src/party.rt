@@ -1,6 +1,6 @@
 //! What is kept of one group beside its run.
 
-ghost use Rattle.std.specs.Prelude.{◌≡◌, ◌-◌, ◌++◌, [], OnOk};
+ghost use Rattle.std.specs.Prelude.{◌≡◌, ◌-◌, ◌++◌, [], length, OnOk};
 ghost use Rattle.roll_schedule.specs.World.{item};
 ghost use Rattle.roll_schedule.specs.inside.Telling.{sender_in, senders_in};
 
@@ -29,6 +29,13 @@ impl Party {
             senders: Vec::new(alloc),
             spread: 0,
         }
+    }
+
+    /// How many frames the air of the group has.
+    pub fn count(&self) -> usize
+        ensures { result ≡ length self.now.senders.items }
+    {
+        self.senders.len()
     }
 
     /// The place of the sender of a frame's number, from 1.

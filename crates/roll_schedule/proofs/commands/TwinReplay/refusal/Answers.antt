@@ -1,6 +1,5 @@
 use Rattle.std.proofs.Common.{sym, ap, ◌∙◌}
 use Rattle.roll_schedule.specs.Kinds.{refusal}
-use Rattle.roll_schedule.proofs.Opening.{refusal-waits}
 use Rattle.roll_schedule.proofs.Replaying.{is-waiting, staged-at}
 use Rattle.roll_schedule.proofs.commands.TwinReplay.refusal.Goals as goal
 
@@ -13,8 +12,6 @@ returns-in-Some-clause-first c = λ w reached.
 
 pub returns-in-None-clause-first : goal.returns-in-None-clause-first
 returns-in-None-clause-first c = λ w reached.
-    c.refusal_before.ensures.first
-    ∙ refusal-waits c.args.line.now c.args.self.now.line c.args.self.now.chosen
-    c.args.self.now.second
+    c.refusal_before.ensures.first c.args.self.now.line
     ∙ sym (ap (λ v. refusal c.args.line.now v)
     (is-waiting w c.args.self.now c.in-None.is reached.stands))

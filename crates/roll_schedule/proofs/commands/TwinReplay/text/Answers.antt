@@ -13,8 +13,8 @@ returns-in-Err-clause-does g c =
     roll_read_fits c.args.text.now)
     (halted-does _ _ _ _ _ c.in-Err.halt c.in-Err.ensures)
 
-pub returns-clause-does : goal.returns-clause-does
-returns-clause-does g c =
+pub returns-in_default-outcome-clause-does : goal.returns-in_default-outcome-clause-does
+returns-in_default-outcome-clause-does g c =
     does-by _ _ _ _
     (text-comes (λ pair users t h run. c.law_group_runs_are_sound.ensures.legal pair users t h run)
     roll_read_fits c.args.text.now) c.perform_text-outcome.ensures

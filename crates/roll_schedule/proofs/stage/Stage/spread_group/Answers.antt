@@ -15,7 +15,7 @@ pub returns-in_err-spread_between : goal.returns-in_err-spread_between
 returns-in_err-spread_between g c =
     let is_some : c.in-Ok.count
     ≡ length (of_group c.args.group c.args.self.now.first c.args.self.now.second).senders.items =
-    c.in-Ok.ensures.1 ∙ c.len.ensures ∙ ap (λ p. length p.senders.items) c.party.ensures in
+    c.in-Ok.ensures.1 ∙ c.count.ensures ∙ ap (λ p. length p.senders.items) c.party.ensures in
     handed-on _ _ _ _ _ (look-does
     (λ w. seq (span (λ place. spread c.args.group (place + 1)) (spread_in c.args.group w.kept)
     (frames c.args.group w.run - spread_in c.args.group w.kept))
@@ -31,7 +31,7 @@ pub returns : goal.returns
 returns g c =
     let is_some : c.in-Ok.count
     ≡ length (of_group c.args.group c.args.self.now.first c.args.self.now.second).senders.items =
-    c.in-Ok.ensures.1 ∙ c.len.ensures ∙ ap (λ p. length p.senders.items) c.party.ensures in
+    c.in-Ok.ensures.1 ∙ c.count.ensures ∙ ap (λ p. length p.senders.items) c.party.ensures in
     look-does
     (λ w. seq (span (λ place. spread c.args.group (place + 1)) (spread_in c.args.group w.kept)
     (frames c.args.group w.run - spread_in c.args.group w.kept))
