@@ -1,12 +1,12 @@
 -- What can be performed in a tidy world.
 use Rattle.std.proofs.Common.{◌≡◌, ◌<◌, ◌≤◌, ℕ, zero, suc, ◌+◌, ◌-◌, ◌==◌, Bool, true, false}
-use Rattle.std.proofs.Common.{List, [], ◌∷◌, ◌++◌, length, Option, Some, None, refl, sym}
-use Rattle.std.proofs.Common.{ap, ◌∙◌, subst, length-append, arith}
+use Rattle.std.proofs.Common.{List, [], ◌∷◌, ◌++◌, Option, Some, None, refl, sym}
+use Rattle.std.proofs.Common.{◌∙◌, subst, arith}
 use Rattle.std.specs.Prelude.{cond, is_some, not, ◌||◌}
 use Rattle.std.specs.List.{find}
 use Rattle.lan_core.specs.declared.fact.Fact.{Fact}
 use Rattle.lan_core.specs.declared.stop.Stop.{Stop}
-use Rattle.lan_core.specs.Run.{Run, Happening, started, stations}
+use Rattle.lan_core.specs.Run.{Run}
 use Rattle.lan_core.specs.Ledgers.{air, framed, gather, with_one, frame_at}
 use Rattle.lan_core.proofs.Public.{number-frame}
 use Rattle.cak_roll.specs.declared.event.GroupNumber.{GroupNumber}

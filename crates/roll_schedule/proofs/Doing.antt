@@ -15,7 +15,7 @@ use Rattle.lan_schedule.specs.declared.recorder.Broken.{Broken}
 use Rattle.roll_schedule.specs.World.{World, Kept, pair_of}
 use Rattle.roll_schedule.specs.Acts.{Act, nothing, refuse, happen, change, seq, look, perform}
 use Rattle.roll_schedule.specs.Acts.{Course, Goes, Stops, and_then, each, span, supply, answered}
-use Rattle.roll_schedule.specs.Acts.{unless, world_after}
+use Rattle.roll_schedule.specs.Acts.{unless}
 use Rattle.roll_schedule.specs.Reports.{Report, last_reports, reports, AreTold}
 use Rattle.roll_schedule.specs.Sound.{IsTidy}
 use Rattle.roll_schedule.specs.Ends.{Moment, moment, Begins, IsReached, reported, WasTold}

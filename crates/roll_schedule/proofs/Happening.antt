@@ -1,21 +1,19 @@
 -- What an event leaves.
-use Rattle.std.proofs.Common.{◌≡◌, ℕ, ◌+◌, Bool, true, false, length, List, [], ◌∷◌, ◌++◌, map}
+use Rattle.std.proofs.Common.{◌≡◌, ℕ, ◌+◌, true, false, List, ◌∷◌, ◌++◌, map}
 use Rattle.std.proofs.Common.{Option, Some, None, inl, inr, refl, sym, ap, ◌∙◌, subst, arith}
 use Rattle.std.specs.Prelude.{Result, Ok, Err, is_some, option_map}
 use Rattle.std.specs.Result.{IsErrAnd}
 use Rattle.std.proofs.lemmas.Result.{err_from_is_err_and}
 use Rattle.lan_base.specs.declared.frame.UserFrame.{UserFrame}
 use Rattle.lan_core.specs.Ledgers.{air}
-use Rattle.lan_core.specs.Run.{stations}
 use Rattle.lan_core.specs.declared.stop.Stop.{Stop}
 use Rattle.lan_core.specs.Unstopped.{AreDraws}
 use Rattle.lan_core.proofs.Public.{mapped}
-use Rattle.cak_roll.specs.declared.event.GroupNumber.{GroupNumber}
 use Rattle.cak_roll.specs.declared.event.GroupNumber.TheVariants.{First, Second}
 use Rattle.cak_roll.specs.declared.event.TwinEvent.{TwinEvent}
 use Rattle.cak_roll.specs.declared.event.TwinEvent.TheVariants as twins
 use Rattle.cak_roll.specs.declared.told.Told.{Told}
-use Rattle.cak_roll.specs.Twin.{Pair, Twin, TwinHappening, run_of, MayComeTwin, IsTwinStep}
+use Rattle.cak_roll.specs.Twin.{Pair, Twin, TwinHappening, run_of, IsTwinStep}
 use Rattle.cak_roll.specs.Stepping.{Supply, happening, twin_stop, twin_draws}
 use Rattle.cak_roll.specs.Standing.{StandsFor as TwinStandsFor}
 use Rattle.cak_roll.specs.Answers.{IsGiven, MayHappen, GoesOnWith, told_in}
@@ -33,8 +31,8 @@ use Rattle.roll_schedule.specs.Acts.{happen, perform, Course, Goes, Stops, suppl
 use Rattle.roll_schedule.specs.Acts.{world_after}
 use Rattle.roll_schedule.specs.Sound.{IsTidy}
 use Rattle.roll_schedule.specs.Reports.{Report, report_of, last_reports, reports}
-use Rattle.roll_schedule.specs.Ends.{Moment, moment, IsReached, Ends}
-use Rattle.roll_schedule.specs.Stages.{StandsFor, IsParty}
+use Rattle.roll_schedule.specs.Ends.{Moment, IsReached, Ends}
+use Rattle.roll_schedule.specs.Stages.{StandsFor}
 use Rattle.roll_schedule.specs.inside.Comes.{Comes, IsReady}
 use Rattle.roll_schedule.specs.inside.Doing.{Did, Happened}
 use Rattle.roll_schedule.specs.inside.Telling.{started_name, started_sci, adopted_name, sent_in}

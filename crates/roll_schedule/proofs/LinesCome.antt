@@ -1,20 +1,18 @@
 -- What each line performs can be performed.
-use Rattle.std.proofs.Common.{◌≡◌, ◌<◌, ◌≢◌, ℕ, Bool, true, false, List, [], ◌∷◌, ◌++◌, length}
-use Rattle.std.proofs.Common.{Option, Some, None, ◌⊎◌, inl, inr, refl, sym, ap, ◌∙◌, subst, arith}
-use Rattle.std.specs.Prelude.{cond, map, not, ◌&&◌, nat_eq, is_some, Result, Ok, Err}
+use Rattle.std.proofs.Common.{◌≡◌, ◌<◌, ℕ, Bool, true, false, List, [], ◌∷◌, ◌++◌, length}
+use Rattle.std.proofs.Common.{Option, Some, None, ◌⊎◌, inl, inr, refl, sym, ap, subst, arith}
+use Rattle.std.specs.Prelude.{not, ◌&&◌, nat_eq, Result, Ok, Err}
 use Rattle.std.specs.Option.{is_none}
 use Rattle.std.specs.Cmp.Lexicographic.{pointwise}
 use Rattle.std.proofs.lemmas.List.{length-map}
 use Rattle.lan_base.specs.declared.frame.UserFrame.{UserFrame}
 use Rattle.lan_core.specs.Run.{Profile, stations}
-use Rattle.lan_core.specs.Claims.{user_at}
-use Rattle.lan_core.specs.Fresh.{IsFresh}
 use Rattle.lan_core.specs.Order.{IsSendable}
 use Rattle.lan_core.specs.Types.{IsUserFrame}
 use Rattle.lan_core.specs.Unstopped.{AreDraws}
 use Rattle.cak_roll.specs.declared.event.GroupNumber.TheVariants.{First, Second}
 use Rattle.cak_roll.specs.declared.event.TwinEvent.TheVariants as twins
-use Rattle.cak_roll.specs.Twin.{Twin, run_of, merged, takes_part, IsTwinRun}
+use Rattle.cak_roll.specs.Twin.{Twin, run_of, takes_part, IsTwinRun}
 use Rattle.cak_roll.specs.Answers.{another}
 use Rattle.cak_roll.proofs.Public.{lone-run}
 use Rattle.trace_text.specs.declared.fault.TextFault.{TextFault}
@@ -28,23 +26,23 @@ use Rattle.roll_text.specs.Reading.{roll_line_in}
 use Rattle.lan_schedule.specs.declared.choices.Keyed.{Keyed}
 use Rattle.lan_schedule.specs.declared.halt.Kind.{Kind}
 use Rattle.lan_schedule.specs.declared.halt.Kind.TheVariants as kinds
-use Rattle.lan_schedule.specs.Kinds.{or_else, where_, unknown, is_allowed, may_list}
+use Rattle.lan_schedule.specs.Kinds.{where_, unknown, may_list}
 use Rattle.lan_schedule.specs.Lines.{chosen_by}
 use Rattle.lan_schedule.specs.Settings.{rule_of, secret_of, settings_of}
 use Rattle.lan_schedule.specs.Supply.{draw_at}
 use Rattle.lan_schedule.specs.World.{is_in}
-use Rattle.roll_schedule.specs.World.{World, Kept, pair_of, pair_by, count, names, scis, place, is_out, has_adopted}
-use Rattle.roll_schedule.specs.Acts.{Act, happen, seq, look, perform, unless}
-use Rattle.roll_schedule.specs.Kinds.{group_of, may_be_second, may_stand, wrong, wrong_plain, refusal}
+use Rattle.roll_schedule.specs.World.{World, Kept, pair_of, pair_by, count, names, place, is_out, has_adopted}
+use Rattle.roll_schedule.specs.Acts.{Act, happen}
+use Rattle.roll_schedule.specs.Kinds.{group_of, may_be_second, may_stand, wrong, refusal}
 use Rattle.roll_schedule.specs.Kinds.{refusal_read}
-use Rattle.roll_schedule.specs.Lines.{send, add_user, deed, deed_plain, unless_refused, act_of}
-use Rattle.roll_schedule.specs.Lines.{deed_read, at_line, performed}
+use Rattle.roll_schedule.specs.Lines.{send, deed, deed_plain, unless_refused, act_of}
+use Rattle.roll_schedule.specs.Lines.{deed_read, performed}
 use Rattle.roll_schedule.specs.Sound.{IsTidy}
 use Rattle.roll_schedule.specs.inside.Choosing.{with_second}
 use Rattle.roll_schedule.specs.inside.Comes.{Comes}
-use Rattle.lan_schedule.proofs.Public.{and-true, bytes-all, chosen-draws, new-station, or-none}
+use Rattle.lan_schedule.proofs.Public.{bytes-all, chosen-draws, new-station, or-none}
 use Rattle.lan_schedule.proofs.Public.{place-there, unbegun-by, user-at-end, where-none}
-use Rattle.roll_schedule.proofs.Coming.{comes-flow, comes-rounds, comes-ticks, comes-unless, is-going}
+use Rattle.roll_schedule.proofs.Coming.{comes-flow, comes-rounds, comes-ticks, comes-unless}
 use Rattle.roll_schedule.proofs.Coming.{not-false, tidy-same}
 use Rattle.roll_schedule.proofs.Users.{AreLegal, run-more}
 

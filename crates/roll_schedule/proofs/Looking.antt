@@ -1,6 +1,6 @@
 -- Acts that look at the world, begun from the groups at work.
-use Rattle.std.proofs.Common.{◌≡◌, ◌≤◌, ℕ, zero, suc, ◌+◌, ◌-◌, List, [], ◌∷◌, ◌++◌, length, refl}
-use Rattle.std.proofs.Common.{sym, ap, ◌∙◌, subst, nat_eq, arith}
+use Rattle.std.proofs.Common.{◌≡◌, ◌≤◌, ℕ, zero, suc, ◌+◌, ◌-◌, List, [], ◌∷◌, ◌++◌, length}
+use Rattle.std.proofs.Common.{sym, ap, ◌∙◌, nat_eq, arith}
 use Rattle.std.specs.Prelude.{Err, IfOk, Ok, Result}
 use Rattle.std.specs.List.{position_or_len, range_with_len}
 use Rattle.std.specs.Cmp.Lexicographic.{pointwise}
@@ -14,9 +14,7 @@ use Rattle.cak_roll.proofs.Public.{few-stations, twin-stepped}
 use Rattle.lan_schedule.specs.declared.recorder.Broken.{Broken}
 use Rattle.roll_schedule.specs.declared.party.Party.{Party}
 use Rattle.roll_schedule.specs.declared.stage.Stage.{Stage}
-use Rattle.roll_schedule.specs.World.{World, Kept, pair_of, count, place, names, frames, spread_in}
-use Rattle.cak_roll.specs.Standing.{StandsFor as TwinStandsFor}
-use Rattle.lan_schedule.specs.Supply.{supply_nth}
+use Rattle.roll_schedule.specs.World.{World, Kept, pair_of, count, place, frames, spread_in}
 use Rattle.roll_schedule.specs.World.{has_spread}
 use Rattle.roll_schedule.specs.Acts.{Act, change, look, seq, span}
 use Rattle.roll_schedule.specs.Lines.{spread}

@@ -1,11 +1,10 @@
 -- What is kept beside the groups changes; user data is sent; lines are performed by the places of
 -- their names.
-use Rattle.std.proofs.Common.{◌≡◌, ◌≤◌, ℕ, ◌+◌, true, false, nat_eq, List, [], ◌∷◌, ◌++◌, length}
-use Rattle.std.proofs.Common.{Option, Some, None, refl, sym, ap, ◌∙◌, subst, length-append, arith}
-use Rattle.std.specs.Prelude.{Result, Ok, is_some, not}
+use Rattle.std.proofs.Common.{◌≡◌, ℕ, ◌+◌, true, false, List, [], ◌∷◌, ◌++◌, length}
+use Rattle.std.proofs.Common.{Some, refl, sym, ap, ◌∙◌, subst, length-append}
+use Rattle.std.specs.Prelude.{Result, Ok, is_some}
 use Rattle.lan_base.specs.declared.frame.UserFrame.{UserFrame}
 use Rattle.lan_core.specs.Claims.{user_at}
-use Rattle.cak_roll.specs.declared.event.GroupNumber.{GroupNumber}
 use Rattle.cak_roll.specs.declared.event.GroupNumber.TheVariants.{First, Second}
 use Rattle.cak_roll.specs.declared.event.TwinEvent.TheVariants.{Send}
 use Rattle.cak_roll.specs.Standing.{StandsFor as TwinStandsFor}
@@ -19,14 +18,13 @@ use Rattle.lan_schedule.specs.Settings.{rule_of}
 use Rattle.lan_schedule.specs.Supply.{draws_after, supply_nth}
 use Rattle.lan_schedule.specs.inside.Choosing.{is_elsewhere}
 use Rattle.lan_schedule.proofs.Public.{user-at-end}
-use Rattle.roll_schedule.specs.declared.party.Party.{Party}
 use Rattle.roll_schedule.specs.declared.stage.Stage.{Stage}
-use Rattle.roll_schedule.specs.World.{World, Kept, pair_by, pair_of, place, spread_in, has_spread}
-use Rattle.roll_schedule.specs.Acts.{Act, change, happen, look, nothing, perform, seq, supply}
-use Rattle.roll_schedule.specs.Lines.{add_user, begin, choose, deed_plain, send}
+use Rattle.roll_schedule.specs.World.{World, Kept, pair_by, pair_of, place, has_spread}
+use Rattle.roll_schedule.specs.Acts.{Act, happen, look, perform}
+use Rattle.roll_schedule.specs.Lines.{begin, choose, deed_plain, send}
 use Rattle.roll_schedule.specs.Reports.{Report}
 use Rattle.roll_schedule.specs.Sound.{IsTidy}
-use Rattle.roll_schedule.specs.Ends.{Moment, moment, Ends, IsReached}
+use Rattle.roll_schedule.specs.Ends.{Moment, Ends}
 use Rattle.roll_schedule.specs.Stages.{StandsFor, IsParty}
 use Rattle.roll_schedule.specs.inside.Comes.{Comes}
 use Rattle.roll_schedule.specs.inside.Doing.{Did, Happened}

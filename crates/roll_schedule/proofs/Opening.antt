@@ -1,5 +1,5 @@
 -- Lines before the first station, and the groups that open with it.
-use Rattle.std.proofs.Common.{◌≡◌, ◌<◌, ℕ, ◌+◌, Bool, true, false, List, [], length, Option, Some, None}
+use Rattle.std.proofs.Common.{◌≡◌, ◌<◌, ℕ, ◌+◌, Bool, true, false, List, [], Option, Some, None}
 use Rattle.std.proofs.Common.{refl, sym, ap, ◌∙◌, subst, arith}
 use Rattle.std.specs.Prelude.{IfNone, Result, Ok, is_some, not, nat_lt, ◌&&◌, ◌||◌, ◌==◌}
 use Rattle.std.proofs.lemmas.Bool.{le-ltb}
@@ -8,7 +8,7 @@ use Rattle.lan_core.specs.Run.{stations}
 use Rattle.lan_core.specs.Ledgers.{air}
 use Rattle.cak_roll.specs.declared.event.GroupNumber.{GroupNumber}
 use Rattle.cak_roll.specs.declared.event.GroupNumber.TheVariants.{First, Second}
-use Rattle.cak_roll.specs.Twin.{adopters, has_left, place_in, run_of, takes_part}
+use Rattle.cak_roll.specs.Twin.{has_left, place_in, run_of, takes_part}
 use Rattle.cak_roll.specs.Standing.{StandsFor as TwinStandsFor}
 use Rattle.trace_text.specs.declared.line.Line.{Line}
 use Rattle.trace_text.specs.declared.line.Line.TheVariants as lines
@@ -22,20 +22,20 @@ use Rattle.lan_schedule.specs.declared.halt.Kind.TheVariants as kinds
 use Rattle.lan_schedule.specs.declared.recorder.Broken.{Broken}
 use Rattle.lan_schedule.specs.Kinds.{first_of, is_allowed, where_}
 use Rattle.lan_schedule.specs.Lines.{chosen_by}
-use Rattle.lan_schedule.specs.Settings.{rule_of, settings_of}
+use Rattle.lan_schedule.specs.Settings.{rule_of}
 use Rattle.lan_schedule.specs.Supply.{draw_at, supply_nth}
 use Rattle.lan_schedule.specs.inside.Choosing.{is_elsewhere, IsStation}
 use Rattle.roll_schedule.specs.declared.stage.Stage.{Stage}
 use Rattle.roll_schedule.specs.declared.commands.TwinReplay.{TwinReplay}
-use Rattle.roll_schedule.specs.World.{World, pair_by, pair_of, second_of, waiting}
-use Rattle.roll_schedule.specs.Acts.{Act, Course, look, perform}
-use Rattle.roll_schedule.specs.Kinds.{group_of, may_be_second, refusal}
+use Rattle.roll_schedule.specs.World.{World, pair_by, waiting}
+use Rattle.roll_schedule.specs.Acts.{look, perform}
+use Rattle.roll_schedule.specs.Kinds.{group_of, refusal}
 use Rattle.roll_schedule.specs.Lines.{choose, deed, deed_plain}
 use Rattle.roll_schedule.specs.Reports.{Report}
-use Rattle.roll_schedule.specs.Ends.{Moment, moment, Ends, IsReached}
+use Rattle.roll_schedule.specs.Ends.{Moment, moment}
 use Rattle.roll_schedule.specs.Stages.{StandsFor as StageStandsFor}
 use Rattle.roll_schedule.specs.Standing.{StandsFor}
-use Rattle.roll_schedule.specs.inside.Choosing.{begun_in, is_later, MayPrepare}
+use Rattle.roll_schedule.specs.inside.Choosing.{begun_in}
 use Rattle.roll_schedule.specs.inside.Comes.{Comes}
 use Rattle.roll_schedule.specs.inside.Doing.{Did, DidSo}
 use Rattle.roll_schedule.proofs.Doing.{ends-behind, ends-seen, look-does, told-none}

@@ -1,29 +1,27 @@
 -- Which lines the groups at work refuse.
-use Rattle.std.proofs.Common.{◌≡◌, ℕ, Bool, true, false, List, [], length, Option, Some, None, refl}
-use Rattle.std.proofs.Common.{sym, ap, ◌∙◌, subst}
-use Rattle.std.specs.Prelude.{IfNone, is_some, map, not, ◌||◌, ◌==◌}
+use Rattle.std.proofs.Common.{◌≡◌, ℕ, Bool, List, Option, Some, None, refl}
+use Rattle.std.proofs.Common.{◌⊎◌, inl, inr, sym, ap, ◌∙◌}
+use Rattle.std.specs.Prelude.{IfNone, is_some, map, not}
 use Rattle.std.specs.Option.{option_or}
 use Rattle.lan_base.specs.declared.address.Sci.{Sci}
-use Rattle.lan_core.specs.Run.{Profile, stations}
+use Rattle.lan_core.specs.Run.{stations}
 use Rattle.cak_roll.specs.declared.event.GroupNumber.TheVariants.{First}
-use Rattle.cak_roll.specs.Twin.{run_of, takes_part}
+use Rattle.cak_roll.specs.Twin.{run_of}
 use Rattle.trace_text.specs.declared.line.Line.{Line}
 use Rattle.trace_text.specs.declared.line.Line.TheVariants as lines
 use Rattle.roll_text.specs.declared.line.RollLine.{RollLine}
-use Rattle.roll_text.specs.declared.line.RollLine.TheVariants.{Plain, Group2, Adopt, Leave}
-use Rattle.lan_schedule.specs.declared.choices.Choices.{Choices}
+use Rattle.roll_text.specs.declared.line.RollLine.TheVariants.{Plain}
 use Rattle.lan_schedule.specs.declared.halt.Kind.{Kind}
 use Rattle.lan_schedule.specs.declared.halt.Kind.TheVariants as kinds
-use Rattle.lan_schedule.specs.Kinds.{first_of, is_allowed, or_else, unknown, where_, wrong_word}
+use Rattle.lan_schedule.specs.Kinds.{first_of, is_allowed, or_else, unknown, where_}
 use Rattle.lan_schedule.specs.World.{is_in}
 use Rattle.lan_schedule.specs.inside.Choosing.{is_elsewhere}
 use Rattle.lan_schedule.proofs.Public.{allowed-then, map-map-scis}
 use Rattle.roll_schedule.specs.declared.stage.Stage.{Stage}
-use Rattle.roll_schedule.specs.World.{has_adopted, is_out, names, place, scis, World}
-use Rattle.roll_schedule.specs.Kinds.{group_of, may_be_second, may_stand, refusal, wrong, wrong_plain}
+use Rattle.roll_schedule.specs.World.{names, place, scis, World}
+use Rattle.roll_schedule.specs.Kinds.{may_be_second, may_stand, refusal, wrong, wrong_plain}
 use Rattle.roll_schedule.specs.Ends.{IsReached}
 use Rattle.roll_schedule.specs.Stages.{StandsFor}
-use Rattle.roll_schedule.specs.inside.Choosing.{is_later}
 use Rattle.roll_schedule.proofs.Looking.{Places, place-is}
 
 pub if-none : (o : Option Kind) (A : Type 0) → A → IfNone o A
@@ -101,3 +99,10 @@ taken-is name sci w stage o is stands =
     (where_ (is_in sci.0 l) kinds.SciTaken))
     (ap (λ l. map (λ (s : Sci). s.0) l) stands.scis
     ∙ map-map-scis (stations (run_of First w.run)))
+
+-- the same is wrong with a link that is cut and with one that is mended
+pub link-wrong : (line : Line) (from to : List ℕ) (w : World) (o : Option Kind)
+    → (line ≡ lines.Cut from to) ⊎ (line ≡ lines.Mend from to)
+    → o ≡ or_else (unknown from (names w)) (unknown to (names w)) → o ≡ wrong_plain line w
+link-wrong line from to w o (inl is) wrong_so = rw is wrong_so
+link-wrong line from to w o (inr is) wrong_so = rw is wrong_so

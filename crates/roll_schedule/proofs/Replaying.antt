@@ -1,13 +1,11 @@
 -- A replay does acts, before its first station and with groups at work.
-use Rattle.std.proofs.Common.{◌≡◌, ℕ, ◌+◌, Bool, true, false, List, [], ◌∷◌, ◌++◌, Option, Some, None}
+use Rattle.std.proofs.Common.{◌≡◌, ℕ, ◌+◌, List, Option, Some, None}
 use Rattle.std.proofs.Common.{inl, refl, sym, ap, ◌∙◌, subst}
-use Rattle.std.specs.Prelude.{Result, Ok, Err, is_some}
+use Rattle.std.specs.Prelude.{Result, Ok, Err}
 use Rattle.trace_text.specs.declared.fault.TextFault.{TextFault}
 use Rattle.trace_text.specs.Reading.{fault_in}
 use Rattle.roll_text.specs.declared.line.RollLine.{RollLine}
 use Rattle.roll_text.specs.Reading.{roll_line_in, first_roll_fault}
-use Rattle.lan_schedule.specs.declared.choices.Choices.{Choices}
-use Rattle.lan_schedule.specs.declared.choices.Keyed.{Keyed}
 use Rattle.lan_schedule.specs.declared.halt.Halt.{Halt}
 use Rattle.lan_schedule.specs.declared.halt.Halt.TheVariants as halts
 use Rattle.lan_schedule.specs.declared.halt.Kind.{Kind}
@@ -16,19 +14,19 @@ use Rattle.lan_schedule.specs.Kinds.{kind_of_fault}
 use Rattle.roll_schedule.specs.declared.stage.Stage.{Stage}
 use Rattle.roll_schedule.specs.declared.commands.TwinReplay.{TwinReplay}
 use Rattle.roll_schedule.specs.World.{World, Kept, waiting}
-use Rattle.roll_schedule.specs.Acts.{Act, and_then, change, Course, Goes, look, nothing, perform, seq, Stops}
+use Rattle.roll_schedule.specs.Acts.{Act, change, look, nothing, perform, seq, Stops}
 use Rattle.roll_schedule.specs.Kinds.{refusal, refusal_read}
 use Rattle.roll_schedule.specs.Lines.{act_of, at_line, begin_line, deed, deed_read, numbered}
-use Rattle.roll_schedule.specs.Lines.{performed, performed_all, unless_refused}
+use Rattle.roll_schedule.specs.Lines.{performed, unless_refused}
 use Rattle.roll_schedule.specs.Reports.{Report}
 use Rattle.roll_schedule.specs.Sound.{IsTidy}
-use Rattle.roll_schedule.specs.Ends.{Moment, moment, Ends, IsReached}
+use Rattle.roll_schedule.specs.Ends.{Moment, moment, IsReached}
 use Rattle.roll_schedule.specs.Stages.{StandsFor as StageStandsFor}
 use Rattle.roll_schedule.specs.Standing.{IsStaged, StandsFor, Does}
 use Rattle.roll_schedule.specs.inside.Comes.{Comes}
-use Rattle.roll_schedule.specs.inside.Doing.{DidAs, Did, DidSo}
+use Rattle.roll_schedule.specs.inside.Doing.{Did, DidSo}
 use Rattle.roll_schedule.proofs.Coming.{tidy-same}
-use Rattle.roll_schedule.proofs.Doing.{change-does, ends-behind, ends-early, ends-seen, look-does}
+use Rattle.roll_schedule.proofs.Doing.{change-does, ends-seen, look-does}
 use Rattle.roll_schedule.proofs.Doing.{nothing-does, same-act, then-ok, told-none}
 
 pub none-stage : (o : Option Stage) → ((x : Stage) → o ≡ Some x → ⊥) → o ≡ None

@@ -1,5 +1,5 @@
 -- What holds in tidy worlds, by the laws of twin runs.
-use Rattle.std.proofs.Common.{◌≡◌, ◌++◌, List, [], ◌∷◌, refl, subst}
+use Rattle.std.proofs.Common.{◌++◌, List, [], ◌∷◌, refl}
 use Rattle.lan_base.specs.declared.frame.UserFrame.{UserFrame}
 use Rattle.lan_core.specs.Fresh.{drawn_saks}
 use Rattle.lan_core.specs.Ledgers.{births}

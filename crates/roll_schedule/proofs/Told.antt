@@ -1,10 +1,9 @@
 -- What is kept and told of an event, and of a run with it.
-use Rattle.std.proofs.Common.{◌≡◌, ℕ, zero, suc, Bool, true, false, cond, List, [], ◌∷◌, ◌++◌, map, length}
-use Rattle.std.proofs.Common.{Option, Some, None, refl, sym, ap, ◌∙◌, subst, append_assoc, append-nil}
+use Rattle.std.proofs.Common.{◌≡◌, ℕ, zero, suc, true, false, cond, List, [], ◌∷◌, ◌++◌, map, length}
+use Rattle.std.proofs.Common.{Some, None, refl, sym, ap, ◌∙◌, subst, append_assoc, append-nil}
 use Rattle.std.proofs.Common.{◌<◌, ◌≤◌, take, drop, get_or, length-append, arith}
-use Rattle.std.specs.Prelude.{◌+◌, nat_lt, slice_get, option_map, option_to_list, option_and_then}
-use Rattle.std.specs.List.{flat_map}
-use Rattle.std.specs.Prelude.{Result, Ok, Err}
+use Rattle.std.specs.Prelude.{◌+◌, nat_lt, slice_get, option_map, option_to_list}
+use Rattle.std.specs.Prelude.{Result, Err}
 use Rattle.std.specs.Result.{IsErrAnd}
 use Rattle.std.proofs.lemmas.List.{map-append, take_more}
 use Rattle.std.proofs.lemmas.Result.{err_from_is_err_and}
@@ -20,7 +19,7 @@ use Rattle.cak_roll.specs.declared.event.GroupNumber.TheVariants.{First, Second}
 use Rattle.cak_roll.specs.declared.event.TwinEvent.{TwinEvent}
 use Rattle.cak_roll.specs.declared.event.TwinEvent.TheVariants as twins
 use Rattle.cak_roll.specs.declared.told.Told.{Told}
-use Rattle.cak_roll.specs.Twin.{Pair, Twin, TwinHappening, of_group, part_of, run_of, same_group}
+use Rattle.cak_roll.specs.Twin.{Pair, Twin, TwinHappening, part_of, run_of, same_group}
 use Rattle.cak_roll.specs.Twin.{IsTwinStep}
 use Rattle.cak_roll.specs.Stepping.{Supply, happening, in_groups, first_part, second_part}
 use Rattle.cak_roll.specs.Answers.{told_of, told_in}

@@ -1,6 +1,6 @@
 -- More user frames change nothing of what was.
-use Rattle.std.proofs.Common.{◌≡◌, ◌-◌, ◌⊎◌, ℕ, zero, suc, Bool, true, false, cond, List, [], ◌∷◌}
-use Rattle.std.proofs.Common.{◌++◌, length, Option, Some, None, refl, sym, ap, subst}
+use Rattle.std.proofs.Common.{◌≡◌, ◌-◌, ℕ, zero, suc, Bool, true, false, cond, List, [], ◌∷◌}
+use Rattle.std.proofs.Common.{◌++◌, Option, Some, None, refl, sym, subst}
 use Rattle.std.specs.Prelude.{◌==◌, slice_get}
 use Rattle.lan_base.specs.declared.frame.UserFrame.{UserFrame}
 use Rattle.lan_core.specs.declared.settings.Settings.{Settings}
@@ -13,7 +13,7 @@ use Rattle.cak_roll.specs.declared.event.GroupNumber.{GroupNumber}
 use Rattle.cak_roll.specs.declared.event.GroupNumber.TheVariants.{First, Second}
 use Rattle.cak_roll.specs.declared.event.TwinEvent.{TwinEvent}
 use Rattle.cak_roll.specs.declared.event.TwinEvent.TheVariants as twins
-use Rattle.cak_roll.specs.Twin.{Pair, setting_of, Twin, TwinHappening, part_of, run_of, merged}
+use Rattle.cak_roll.specs.Twin.{Pair, setting_of, Twin, part_of, run_of, merged}
 use Rattle.cak_roll.specs.Twin.{AreSteps, MayComeTwin, IsPart, IsTwinRun}
 use Rattle.cak_roll.specs.Standing.{Side, StandsIn, Held, IfThere, StandsFor}
 

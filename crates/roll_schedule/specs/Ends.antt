@@ -1,6 +1,6 @@
 -- What a call did of an act: what was told, what it left, and how it ended (this profile's own
 -- rule). `Stands` says for which world a value stands; `Took` and `Broke` what a recorder does.
-use Rattle.std.specs.Prelude.{◌≡◌, ◌⊎◌, List, [], ◌∷◌, ◌++◌, Result, Ok, Err}
+use Rattle.std.specs.Prelude.{◌≡◌, ◌⊎◌, List, ◌∷◌, ◌++◌, Result, Ok, Err}
 use Rattle.lan_schedule.specs.declared.halt.Halt.{Halt}
 use Rattle.lan_schedule.specs.declared.halt.Halt.TheVariants as halts
 use Rattle.lan_schedule.specs.declared.recorder.Broken.{Broken}

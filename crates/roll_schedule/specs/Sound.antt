@@ -1,11 +1,9 @@
 -- What holds of each world that lines make.
-use Rattle.std.specs.Prelude.{◌≡◌, false, true, All, [], Option, None, is_some}
-use Rattle.lan_core.specs.Types.{IsUserFrame, IsSetting}
+use Rattle.std.specs.Prelude.{◌≡◌, false, [], None}
 use Rattle.lan_core.specs.Fresh.{IsFresh}
 use Rattle.lan_core.specs.Unstopped.{AreDraws}
-use Rattle.cak_roll.specs.declared.event.GroupNumber.{GroupNumber}
 use Rattle.cak_roll.specs.declared.event.GroupNumber.TheVariants.{Second}
-use Rattle.cak_roll.specs.Twin.{merged, run_of, setting_of, IsTwinRun}
+use Rattle.cak_roll.specs.Twin.{merged, run_of, IsTwinRun}
 use Rattle.lan_schedule.specs.Settings.{rule_of}
 use Rattle.lan_schedule.specs.Supply.{draw_at}
 use Rattle.roll_schedule.specs.World.{World, pair_of}

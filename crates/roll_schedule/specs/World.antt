@@ -1,11 +1,11 @@
 -- What the lines so far have made: a twin run, and what is kept beside it.
 use Rattle.std.specs.Prelude.{ℕ, ◌==◌, ◌-◌, ◌&&◌, Bool, false, not, nat_eq, List, [], ◌∷◌, ◌++◌}
-use Rattle.std.specs.Prelude.{map, length, slice_get, unwrap_or, Option, Some, None}
+use Rattle.std.specs.Prelude.{length, slice_get, unwrap_or, Option, Some, None}
 use Rattle.std.specs.List.{list_any, position_or_len, range_with_len}
 use Rattle.std.specs.Cmp.Lexicographic.{pointwise}
 use Rattle.lan_base.specs.declared.frame.UserFrame.{UserFrame}
 use Rattle.lan_core.specs.declared.settings.Settings.{Settings}
-use Rattle.lan_core.specs.Run.{Run, stations}
+use Rattle.lan_core.specs.Run.{stations}
 use Rattle.lan_core.specs.Ledgers.{Frame, air}
 use Rattle.cak_roll.specs.declared.event.GroupNumber.{GroupNumber}
 use Rattle.cak_roll.specs.declared.event.GroupNumber.TheVariants.{First, Second}

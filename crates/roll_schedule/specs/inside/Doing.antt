@@ -1,5 +1,5 @@
 -- What a call did of an act that can be performed.
-use Rattle.std.specs.Prelude.{◌≡◌, Option, Some, None, Result}
+use Rattle.std.specs.Prelude.{Option, Result}
 use Rattle.lan_base.specs.declared.frame.UserFrame.{UserFrame}
 use Rattle.cak_roll.specs.declared.event.TwinEvent.{TwinEvent}
 use Rattle.cak_roll.specs.Answers.{IsGiven}

@@ -1,4 +1,4 @@
-use Rattle.std.proofs.Common.{None, Option, Some, [], sym, subst}
+use Rattle.std.proofs.Common.{[], sym, subst}
 use Rattle.cak_roll.specs.Standing.{StandsFor as TwinStandsFor}
 use Rattle.roll_schedule.specs.World.{second_of}
 use Rattle.roll_schedule.proofs.Opening.{no-second}

@@ -1,4 +1,4 @@
-use Rattle.std.proofs.Common.{refl, sym, ap, subst, ◌∙◌}
+use Rattle.std.proofs.Common.{refl, ap, subst, ◌∙◌}
 use Rattle.std.specs.Prelude.{is_some}
 use Rattle.roll_schedule.specs.World.{waiting}
 use Rattle.roll_schedule.specs.Stages.{StandsFor as StageStandsFor}

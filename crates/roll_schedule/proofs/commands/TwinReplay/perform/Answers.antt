@@ -17,8 +17,8 @@ returns-in-Some-stage g c =
     (staged-does (look (λ w. deed c.args.line.now w)) _ _ c.in-Some-stage.stage c.perform.new.self
     c.perform.result c.in-Some-stage.is refl refl c.perform.ensures)
 
-pub returns-in_default : goal.returns-in_default
-returns-in_default g c =
+pub returns-in_default-line : goal.returns-in_default-line
+returns-in_default-line g c =
     allowed-does c.args.line.now _ _ _
     (λ w reached. sym (none-of _ c.in_default.not-Some) ∙ c.refusal.ensures.first w reached)
     (joins-never c.args.line.now _ _ _ c.in_default-line.not-Plain c.in_default-line.not-Group2

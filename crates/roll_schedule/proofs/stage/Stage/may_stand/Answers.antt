@@ -1,4 +1,3 @@
-use Rattle.std.proofs.Common.{refl, sym, ap, ◌∙◌}
 use Rattle.roll_schedule.proofs.Refusing.{adopt-stands, plain-stands, second-stands}
 use Rattle.roll_schedule.proofs.stage.Stage.may_stand.Goals as goal
 

@@ -1,8 +1,7 @@
-use Rattle.std.proofs.Common.{refl, sym, ap, ◌∙◌, subst}
+use Rattle.std.proofs.Common.{refl}
 use Rattle.cak_roll.specs.declared.event.TwinEvent.TheVariants as twins
-use Rattle.roll_text.specs.declared.line.RollLine.TheVariants.{Plain, Group2, Adopt, Leave}
-use Rattle.roll_schedule.specs.Acts.{happen, look}
-use Rattle.roll_schedule.specs.Lines.{deed, deed_plain}
+use Rattle.roll_schedule.specs.Acts.{happen}
+use Rattle.roll_schedule.specs.Lines.{deed}
 use Rattle.roll_schedule.proofs.Moving.{one-place}
 use Rattle.roll_schedule.proofs.stage.Stage.perform.Goals as goal
 

@@ -1,4 +1,4 @@
-use Rattle.std.proofs.Common.{refl, sym, ap, ◌∙◌}
+use Rattle.std.proofs.Common.{refl, ap, ◌∙◌}
 use Rattle.roll_schedule.specs.World.{joined, sender}
 use Rattle.roll_schedule.specs.Acts.{each}
 use Rattle.roll_schedule.specs.Lines.{pass}

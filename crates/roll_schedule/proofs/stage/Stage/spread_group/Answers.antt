@@ -1,4 +1,4 @@
-use Rattle.std.proofs.Common.{◌≡◌, ◌+◌, ◌-◌, length, refl, sym, ap, ◌∙◌, arith}
+use Rattle.std.proofs.Common.{◌≡◌, ◌+◌, ◌-◌, length, refl, ap, ◌∙◌}
 use Rattle.cak_roll.specs.Twin.{of_group}
 use Rattle.roll_schedule.specs.World.{frames, has_spread, spread_in}
 use Rattle.roll_schedule.specs.Acts.{change, seq, span}

@@ -1,6 +1,5 @@
-use Rattle.std.proofs.Common.{◌∙◌}
 use Rattle.roll_schedule.specs.World.{is_out}
-use Rattle.roll_schedule.proofs.Refusing.{taken-is, two-unknown, unknown-or}
+use Rattle.roll_schedule.proofs.Refusing.{link-wrong, taken-is, two-unknown, unknown-or}
 use Rattle.roll_schedule.proofs.stage.Stage.wrong_plain.Goals as goal
 
 pub returns-in-Station : goal.returns-in-Station
@@ -16,5 +15,5 @@ returns-in-Send c = λ w reached.
 
 pub returns-in-Cut : goal.returns-in-Cut
 returns-in-Cut c = λ w reached.
-    rw c.in-Cut.is (two-unknown c.in-Cut.from c.in-Cut.to w c.args.self.now _ _ _ c.or-in-Cut.ensures
+    link-wrong c.args.line.now c.in-Cut.from c.in-Cut.to w _ c.in-Cut.is (two-unknown c.in-Cut.from c.in-Cut.to w c.args.self.now _ _ _ c.or-in-Cut.ensures
     c.unknown-in-Cut.ensures c.unknown-in-Cut-2.ensures reached.stands)
