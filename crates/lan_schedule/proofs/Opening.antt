@@ -119,7 +119,7 @@ pub station-is-later : (line : Line) → IsStation line → is_elsewhere line �
 station-is-later line station = station-later line station
 
 -- the first reason before any station
-unbegun-reason : (line : Line) (chosen : Choices)
+pub unbegun-reason : (line : Line) (chosen : Choices)
     → first_of (is_allowed line false chosen) (wrong_word line [] [] 0)
     ≡ first_of (is_allowed line false chosen) None
 unbegun-reason (lines.TickOne name ticks) chosen = refl

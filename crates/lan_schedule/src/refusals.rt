@@ -146,7 +146,7 @@ impl Stage {
 }
 
 /// Whether a line may only stand before the first station, or inside a race.
-fn is_elsewhere(line: &Line) -> bool
+pub fn is_elsewhere(line: &Line) -> bool
     ensures { result ≡ is_elsewhere line.now }
 {
     matches!(

@@ -508,7 +508,7 @@ impl Stage {
 }
 
 /// The place of a name; where there is none, the count of names.
-fn position(names: &[Name], name: &Name) -> usize
+pub fn position(names: &[Name], name: &Name) -> usize
     ensures { result ≡ position_or_len (pointwise nat_eq name.now) names.now }
 {
     for (place, other) in names.iter().enumerate() {
@@ -607,7 +607,7 @@ pub fn count_all(tally: &mut Tally, facts: &[Fact])
 }
 
 /// Why a trace ends where its group stops, at the line of this number.
-fn halt_of(stop: Stop, line: u32) -> Halt
+pub fn halt_of(stop: Stop, line: u32) -> Halt
     ensures { result ≡ halt_of line stop }
 {
     match stop {
