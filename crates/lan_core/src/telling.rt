@@ -1,6 +1,6 @@
 //! A station's reaction as facts.
 
-ghost use Rattle.std.specs.Prelude.{◌≡◌, ◌++◌, ◌∷◌, [], map, IfOk, OnOk};
+ghost use Rattle.std.specs.Prelude.{◌≡◌, ◌++◌, ◌∷◌, map, IfOk, OnOk};
 ghost use Rattle.lan_core.specs.Expected.{change_fact, reaction_facts};
 
 use crate::fact::{Fact, Facts};
