@@ -1,7 +1,7 @@
 //! A replay performs the lines of a trace of two groups, one after the other.
 
 ghost use Rattle.std.specs.Prelude.{◌≡◌, ◌⊎◌, ℕ, length, Some, None, Ok, Err, IfErr, IfNone};
-ghost use Rattle.std.specs.Prelude.{OnOk, is_some, true, false, not};
+ghost use Rattle.std.specs.Prelude.{OnOk, is_some, true, false};
 ghost use Rattle.trace_text.specs.Writing.{IsInForm};
 ghost use Rattle.roll_text.specs.InForm.{IsInFormRoll};
 ghost use Rattle.lan_schedule.specs.declared.halt.Halt.{Halt};

@@ -1,6 +1,6 @@
 //! Two groups at work: the lines after the first station are performed on them.
 
-ghost use Rattle.std.specs.Prelude.{◌≡◌, ◌≤◌, ◌+◌, ◌++◌, ◌∷◌, [], length, is_some, nat_eq, true, false, Some};
+ghost use Rattle.std.specs.Prelude.{◌≡◌, ◌≤◌, length, is_some, nat_eq, true, false, Some};
 ghost use Rattle.std.specs.Prelude.{◌⊎◌, OnOk, IfOk, IfErr};
 ghost use Rattle.std.specs.List.{position_or_len};
 ghost use Rattle.std.specs.Option.{option_copied};
@@ -11,13 +11,12 @@ ghost use Rattle.trace_text.specs.Writing.{IsInForm};
 ghost use Rattle.roll_text.specs.InForm.{IsInFormRoll};
 ghost use Rattle.lan_schedule.specs.declared.halt.Halt.{Halt};
 ghost use Rattle.lan_schedule.specs.inside.Choosing.{is_elsewhere};
-ghost use Rattle.gcm_frames.specs.Protected.{IsSci};
-ghost use Rattle.roll_schedule.specs.World.{World, Kept, joined, sender, place, is_out};
-ghost use Rattle.roll_schedule.specs.Acts.{happen, change, seq, look};
+ghost use Rattle.roll_schedule.specs.World.{World, place, is_out};
+ghost use Rattle.roll_schedule.specs.Acts.{happen, seq, look};
 ghost use Rattle.roll_schedule.specs.Kinds.{group_of};
-ghost use Rattle.roll_schedule.specs.Lines.{begin, restart, send, add_user, cut_in, mended_in};
+ghost use Rattle.roll_schedule.specs.Lines.{begin, restart, send, cut_in, mended_in};
 ghost use Rattle.roll_schedule.specs.Lines.{deed, deed_plain};
-ghost use Rattle.roll_schedule.specs.Ends.{moment, IsReached};
+ghost use Rattle.roll_schedule.specs.Ends.{moment};
 ghost use Rattle.roll_schedule.specs.Stages.{StandsFor};
 ghost use Rattle.roll_schedule.specs.inside.Choosing.{is_later, IsOpening, with_second};
 ghost use Rattle.roll_schedule.specs.inside.Doing.{Did, Happened};
