@@ -1,0 +1,15 @@
+mod Doing
+mod Told
+mod Looking
+mod Users
+mod Coming
+mod LinesCome
+mod Happening
+mod Moving
+mod Replaying
+mod Refusing
+mod Opening
+mod EachLine
+mod TidyWorlds
+mod Examples
+pub mod Public
