@@ -2,3 +2,4 @@
 -- performed. How a run of it ends is `Runs` of `replay`.
 pub mod Written
 pub mod TwoGroups
+pub mod inside
