@@ -1,5 +1,5 @@
 -- How a run of a text ends, whoever performs it.
-use Rattle.std.proofs.Common.{◌≡◌, ◌⊎◌, ℕ, ◌≤◌, List, [], ◌++◌, Option, refl, ap, ◌∙◌, subst}
+use Rattle.std.proofs.Common.{◌≡◌, ◌⊎◌, ℕ, ◌≤◌, List, ◌++◌, Option, refl, ap, ◌∙◌, subst}
 use Rattle.std.proofs.Common.{arith, inl, inr}
 use Rattle.std.specs.Prelude.{Result, Ok, Err, length, take, nat_le, cond, Bool, true, false}
 use Rattle.std.proofs.lemmas.Bool.Decides.{nat_tests}

@@ -137,7 +137,7 @@ module _ {P K : Type 0} (given : Given) (of : LinesMoment P K → TwinReplay) (s
   in-part front rest old new fresh d =
       let p = performed (performed_all front) old new fresh d in
       let all : perform (performed_all (front ++ rest)) beginning
-          ≡ perform (performed_all rest) p.0 =
+      ≡ perform (performed_all rest) p.0 =
       each-append front rest beginning
       ∙ ap (λ (out : Course). and_then out (λ v. perform (performed_all rest) v)) p.1 in (
         p.0,
