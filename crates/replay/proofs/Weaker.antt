@@ -11,7 +11,8 @@ use Rattle.replay.specs.Sinks.{Sunk, Wrote, BrokeOff, WroteSome}
 use Rattle.replay.specs.Runs.{most_input, Performing, Shows, within, WasPerformed, WasHalted}
 use Rattle.replay.specs.Runs.{WasBroken, EndsBy, EndsRun}
 
-module _ {Act World : Type 0} (p : Performing Act World) (IsSuch IsOther : World → Type 0) (weaker : (w : World) → IsSuch w → IsOther w) where
+module _ {Act World : Type 0} (p : Performing Act World) (IsSuch IsOther : World → Type 0)
+    (weaker : (w : World) → IsSuch w → IsOther w) where
   performed : (Did : List (List ℕ) → Type 0) (texts : World → List (List ℕ)) (act : Act)
       → WasPerformed p IsSuch Did texts act → WasPerformed p IsOther Did texts act
   performed Did texts act h = (h.0, h.1, weaker h.0 h.2, h.3)
