@@ -4,7 +4,6 @@ use Rattle.std.proofs.Common.{subst, append_assoc, arith, inl, inr}
 use Rattle.std.specs.Prelude.{Result, Ok, Err, MatchResult}
 use Rattle.lan_base.specs.Faults.{Rose}
 use Rattle.lan_base.specs.Told.{after}
-use Rattle.lan_core.specs.Run.{Run}
 use Rattle.text_lines.specs.Texts.{lines_of}
 use Rattle.text_lines.specs.Moments.{Moment as LinesMoment}
 use Rattle.text_lines.specs.Reading.{Sourced, Takes, Runs, Reads}

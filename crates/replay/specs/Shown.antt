@@ -1,5 +1,5 @@
 -- What is written of a run (this profile's own rule).
-use Rattle.std.specs.Prelude.{ℕ, Bool, true, false, List, [], ◌∷◌, map}
+use Rattle.std.specs.Prelude.{ℕ, List, map}
 use Rattle.lan_core.specs.Run.{Run, facts_of}
 use Rattle.fact_tally.specs.Summary.{summary}
 use Rattle.transcript.specs.Rendering.{transcript}

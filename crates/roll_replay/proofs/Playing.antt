@@ -1,5 +1,5 @@
 -- How a trace of two groups is performed by a player, and ends.
-use Rattle.std.proofs.Common.{◌≡◌, ◌⊎◌, ℕ, ◌≤◌, List, ◌∷◌, ◌++◌, map, sym, ap, ◌∙◌, subst}
+use Rattle.std.proofs.Common.{◌≡◌, ◌⊎◌, ℕ, List, ◌∷◌, ◌++◌, map, sym, ap, ◌∙◌, subst}
 use Rattle.std.proofs.Common.{refl, inl, inr}
 use Rattle.std.specs.Prelude.{Result, Ok, Err}
 use Rattle.lan_base.specs.Faults.{Rose}
@@ -20,7 +20,7 @@ use Rattle.replay.proofs.Public.{Spares, spared, fails-rose, Plays}
 use Rattle.replay.proofs.Public.{rose-earlier, wrote-counts, fails-broke, Grew, grew-wrote, grew-broke}
 use Rattle.roll_schedule.specs.declared.commands.TwinReplay.{TwinReplay}
 use Rattle.roll_schedule.specs.World.{World, beginning}
-use Rattle.roll_schedule.specs.Acts.{Act, Course, Goes, Stops, perform, and_then}
+use Rattle.roll_schedule.specs.Acts.{Act, Course, Stops, perform, and_then}
 use Rattle.roll_schedule.specs.Lines.{performed_all}
 use Rattle.roll_schedule.specs.Reports.{Report, reports}
 use Rattle.roll_schedule.specs.Ends.{Begins, IsReached, WasTold, WasBroken as RecorderBroke}

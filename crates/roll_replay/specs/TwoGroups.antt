@@ -1,5 +1,5 @@
 -- How a trace of two groups is performed, and what is shown of it.
-use Rattle.std.specs.Prelude.{◌≡◌, ℕ, List}
+use Rattle.std.specs.Prelude.{◌≡◌}
 use Rattle.text_lines.specs.Texts.{lines_of}
 use Rattle.roll_schedule.specs.World.{World, beginning}
 use Rattle.roll_schedule.specs.Acts.{Act, Goes, Stops, perform}
