@@ -17,7 +17,8 @@ use Rattle.replay.specs.Sinks.{Sunk, Wrote, BrokeOff, WroteSome, Fails}
 use Rattle.replay.specs.Causes.{cause_of}
 use Rattle.replay.specs.Runs.{most_input, WasPerformed, WasHalted, WasCut}
 use Rattle.replay.proofs.Public.{Spares, spared, fails-rose, Plays}
-use Rattle.replay.proofs.Public.{rose-earlier, wrote-counts, fails-broke, Grew, grew-wrote, grew-broke}
+use Rattle.replay.proofs.Public.{rose-earlier, wrote-counts, fails-broke}
+use Rattle.replay.proofs.Public.{Grew, grew-wrote, grew-broke}
 use Rattle.roll_schedule.specs.declared.commands.TwinReplay.{TwinReplay}
 use Rattle.roll_schedule.specs.World.{World, beginning}
 use Rattle.roll_schedule.specs.Acts.{Act, Course, Stops, perform, and_then}
@@ -38,7 +39,8 @@ pub record Given : Type 0 where
   pub tidy : IsTidy beginning
   pub never : (act : Act) (w v : World) (halt : Halt) → perform act w ≡ Stops v halt
       → (halt ≡ halts.Memory) ⊎ (halt ≡ halts.Broken) → ⊥
-  pub unforged : (act : Act) (w v : World) (line : ℕ) → perform act w ≡ Stops v (halts.Forged line) → ⊥
+  pub unforged : (act : Act) (w v : World) (line : ℕ) → perform act w ≡ Stops v (halts.Forged line)
+      → ⊥
 
 module _ {P K : Type 0} (given : Given) (of : LinesMoment P K → TwinReplay) (see : K → Sunk) where
   abbrev Took : K → Report → K → Type 0
