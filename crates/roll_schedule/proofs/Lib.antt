@@ -11,5 +11,6 @@ mod Refusing
 mod Opening
 mod EachLine
 mod TidyWorlds
+mod Stopping
 mod Examples
 pub mod Public

@@ -1,6 +1,6 @@
 //! Laws of the worlds that lines make.
 
-ghost use Rattle.std.specs.Prelude.{◌≡◌, ◌++◌, ◌∷◌, ℕ, false, Contains};
+ghost use Rattle.std.specs.Prelude.{◌≡◌, ◌⊎◌, ◌++◌, ◌∷◌, ℕ, false, Contains};
 ghost use Rattle.lan_core.specs.Run.{facts_of};
 ghost use Rattle.lan_core.specs.Legal.{IsLegal};
 ghost use Rattle.lan_core.specs.Fresh.{IsUnforged};
@@ -13,7 +13,10 @@ ghost use Rattle.cak_roll.specs.declared.event.GroupNumber.TheVariants.{First, S
 ghost use Rattle.cak_roll.specs.declared.event.TwinEvent.TheVariants.{Send};
 ghost use Rattle.cak_roll.specs.Both.{OnceOver};
 ghost use Rattle.cak_roll.specs.Twin.{part_of, run_of, setting_of, transmits, Twin, TwinHappening};
+ghost use Rattle.lan_schedule.specs.declared.halt.Halt.{Halt};
+ghost use Rattle.lan_schedule.specs.declared.halt.Halt.TheVariants as halts;
 ghost use Rattle.roll_schedule.specs.World.{World, beginning, pair_of};
+ghost use Rattle.roll_schedule.specs.Acts.{Act, Stops, perform};
 ghost use Rattle.roll_schedule.specs.Sound.{IsTidy};
 
 use cak_roll::{
@@ -50,3 +53,12 @@ pub fn law_both_groups_of_tidy_worlds_are_sound()
     law_each_packet_number_is_used_once_over_both();
     law_a_send_is_refused_only_in_silence();
 }
+
+/// An act stops for a reason of its own: never for want of memory, nor since a recorder failed, nor
+/// at a forged frame, since nothing is injected.
+pub fn law_acts_stop_for_their_own_reasons()
+    ensures own { (act : Act) (w v : World) (halt : Halt) → perform act w ≡ Stops v halt
+        → (halt ≡ halts.Memory) ⊎ (halt ≡ halts.Broken) → ⊥ }
+    ensures unforged { (act : Act) (w v : World) (line : ℕ)
+        → perform act w ≡ Stops v (halts.Forged line) → ⊥ }
+{}

@@ -13,5 +13,8 @@ mod stage;
 mod telling;
 
 pub use commands::TwinReplay;
-pub use laws::{law_both_groups_of_tidy_worlds_are_sound, law_groups_of_tidy_worlds_are_sound};
+pub use laws::{
+    law_acts_stop_for_their_own_reasons, law_both_groups_of_tidy_worlds_are_sound,
+    law_groups_of_tidy_worlds_are_sound,
+};
 pub use recorder::TwinRecorder;
