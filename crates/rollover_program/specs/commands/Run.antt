@@ -27,8 +27,7 @@ EndsAsRun summary text left now old new status =
     Answers (λ result. EndsRun one_group IsPromised (shown_by summary) text left now old new result)
     status
 
--- the status where performing a text stopped for this reason, or for none, and whether the text is
--- within the limit
+-- the status, by whether the text is within the limit, and why performing it stopped, if it did
 abbrev pub status_after : Bool → Option Halt → Status
 status_after fits (Some halt) = Halted (cause_of_halt halt)
 status_after true None = Done
