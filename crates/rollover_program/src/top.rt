@@ -139,6 +139,10 @@ pub fn rollover<T: Threads + Sync, S: Source, K: Sink>(
     ensures write_cause { result ≡ Status.Halted causes.WriteFault
         → Rose (K.faults sink.old) (K.faults sink.new) }
 
+    // No line of two groups injects a frame.
+    ensures unforged { (line : ℕ) → Orders (map string_bytes words.now) orders.Roll
+        → result ≢ Status.Halted (causes.Forged line) }
+
     // Without a fault a trace ends as its lines do, and making one is done, unless memory runs out.
     ensures complete { (text : List ℕ) (summary : Bool)
         → Orders (map string_bytes words.now) (orders.Run summary)
@@ -189,6 +193,8 @@ fn carry_out<T: Threads + Sync, S: Source, K: Sink>(
         → Rose (S.faults source.old) (S.faults source.new) }
     ensures write_cause { result ≡ Status.Halted causes.WriteFault
         → Rose (K.faults sink.old) (K.faults sink.new) }
+    ensures unforged { (line : ℕ) → order ≡ orders.Roll
+        → result ≢ Status.Halted (causes.Forged line) }
 {
     match order {
         Order::Run { summary } => run(rt, alloc, summary, source, sink, gate),

@@ -26,6 +26,7 @@ pub fn roll<S: Source, K: Sink>(alloc: Global, source: &mut S, sink: &mut K) -> 
         → Rose (S.faults source.old) (S.faults source.new) }
     ensures write_cause { result ≡ statuses.Halted causes.WriteFault
         → Rose (K.faults sink.old) (K.faults sink.new) }
+    ensures unforged { (line : ℕ) → result ≢ statuses.Halted (causes.Forged line) }
 {
     law_tidy_worlds_of_two_groups_are_promised();
     status_of(replay_two(alloc, source, sink))

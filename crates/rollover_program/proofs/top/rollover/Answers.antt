@@ -9,7 +9,7 @@ use Rattle.rollover_program.proofs.Refused.{ran_nothing, made_nothing, tried_not
 use Rattle.rollover_program.proofs.Refused.{captured_nothing, dissected_nothing, rolled_nothing}
 use Rattle.rollover_program.proofs.Refused.{drew_nothing}
 use Rattle.rollover_program.proofs.Carried.{as_asked, either_order, complete, complete_make}
-use Rattle.rollover_program.proofs.Carried.{complete_try}
+use Rattle.rollover_program.proofs.Carried.{complete_try, one_order}
 use Rattle.rollover_program.proofs.Rolled.{complete_roll}
 use Rattle.rollover_program.proofs.top.rollover.Goals as goal
 
@@ -64,6 +64,10 @@ returns-in-Ok-clause-draw g c = λ text asked told.
 pub returns-in-Ok-clause-unread : goal.returns-in-Ok-clause-unread
 returns-in-Ok-clause-unread g c = λ n asked.
     c.carry_out.ensures.unread n (either_order _ _ n c.in-Ok.ensures.ok asked)
+
+pub returns-in-Ok-clause-unforged : goal.returns-in-Ok-clause-unforged
+returns-in-Ok-clause-unforged g c = λ line asked.
+    c.carry_out.ensures.unforged line (one_order _ _ Roll c.in-Ok.ensures.ok asked)
 
 pub returns-in-Ok-clause-complete : goal.returns-in-Ok-clause-complete
 returns-in-Ok-clause-complete g c = λ text summary asked told reads writes.
@@ -164,6 +168,10 @@ returns-in-Err-clause-read_cause g c = λ e.
 pub returns-in-Err-clause-write_cause : goal.returns-in-Err-clause-write_cause
 returns-in-Err-clause-write_cause g c = λ e.
     not_halted c.in-Err.refusal causes.WriteFault _ (λ m. cc) (sym c.status_of_refusal.ensures ∙ e)
+
+pub returns-in-Err-clause-unforged : goal.returns-in-Err-clause-unforged
+returns-in-Err-clause-unforged g c = λ line asked e.
+    not_halted c.in-Err.refusal (causes.Forged line) _ (λ m. cc) (sym c.status_of_refusal.ensures ∙ e)
 
 pub returns-in-Err-clause-complete : goal.returns-in-Err-clause-complete
 returns-in-Err-clause-complete g c = λ text summary asked told reads writes.

@@ -19,3 +19,7 @@ returns-clause-read_cause g c = λ e. c.replay_two.ensures.replayed.read_fault
 pub returns-clause-write_cause : goal.returns-clause-write_cause
 returns-clause-write_cause g c = λ e. c.replay_two.ensures.replayed.write_fault
     (caused c.replay_two.result causes.WriteFault (sym c.status_of.ensures ∙ e))
+
+pub returns-clause-unforged : goal.returns-clause-unforged
+returns-clause-unforged g c = λ line e. c.replay_two.ensures.unforged line
+    (caused c.replay_two.result (causes.Forged line) (sym c.status_of.ensures ∙ e))
