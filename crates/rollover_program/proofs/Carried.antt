@@ -201,8 +201,11 @@ run_status : (text : List ℕ) → IsStatus one_group text (EndsWithin text)
 run_status text = record {
   at_end = λ fits w r. (r.0, at_end text r.0 w fits r.1);
   past_limit = λ past w r. (r.0, past_limit text r.0 w past r.1);
-  by_stop = λ w halt r. (r.0, sym (ap
-      (λ (out : Course). status_after (nat_le (length text) most_input) (halt_in out)) r.1));
+  by_stop = λ w halt r. (
+    r.0,
+    sym (ap
+        (λ (out : Course). status_after (nat_le (length text) most_input) (halt_in out)) r.1),
+  );
 }
 
 -- the status is what performing the text leaves, or memory was wanting
