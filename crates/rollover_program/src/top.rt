@@ -139,7 +139,7 @@ pub fn rollover<T: Threads + Sync, S: Source, K: Sink>(
     ensures write_cause { result ≡ Status.Halted causes.WriteFault
         → Rose (K.faults sink.old) (K.faults sink.new) }
 
-    // No line of two groups injects a frame.
+    // `roll` finds no frame forged, since no line of a trace of two groups injects one.
     ensures unforged { (line : ℕ) → Orders (map string_bytes words.now) orders.Roll
         → result ≢ Status.Halted (causes.Forged line) }
 
