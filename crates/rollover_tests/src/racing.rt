@@ -1,7 +1,7 @@
 //! Workers of a race.
 
 use crate::case::{Case, Shown, wrong};
-use crate::performing::{Outside, STEADY, joined, perform, refused, run};
+use crate::performing::{Outside, STEADY, joined, perform, run};
 use crate::worked::{FIRST, FIRST_KEY_SHOWN, FIRST_LIFE, GROUP, SECOND, SIX_ROUNDS};
 use rollover_program::{Cause, Kind, Status};
 use std::test::Fail;
