@@ -42,7 +42,11 @@ pub(crate) fn of_group(alloc: Global, transcript: &[u8], digit: u8) -> Result<Ve
         if is_of && at > 1 {
             all.push(*octet)?;
         }
-        at = if *octet == b'\n' { 0 } else { at.saturating_add(1) };
+        at = if *octet == b'\n' {
+            0
+        } else {
+            at.saturating_add(1)
+        };
     }
     Ok(all)
 }

@@ -103,13 +103,7 @@ fn rolls_from_group_to_group(rt: HostRuntime) -> Result<(), Fail> {
 const ROLLED: [Case; 5] = [
     Case {
         name: "a station ticks in both groups before the next one does",
-        trace: &[
-            GROUP,
-            GROUP2,
-            FIRST,
-            SECOND,
-            "adopt A\nadopt B\ntick 1\n",
-        ],
+        trace: &[GROUP, GROUP2, FIRST, SECOND, "adopt A\nadopt B\ntick 1\n"],
         status: Status::Done,
         shown: Shown::All(&[
             "\
@@ -130,13 +124,7 @@ const ROLLED: [Case; 5] = [
     },
     Case {
         name: "a frame of one group is not shown to the other, whose stations joined in another order",
-        trace: &[
-            GROUP,
-            FIRST,
-            SECOND,
-            GROUP2,
-            "adopt B\nadopt A\nflow 1\n",
-        ],
+        trace: &[GROUP, FIRST, SECOND, GROUP2, "adopt B\nadopt A\nflow 1\n"],
         status: Status::Done,
         shown: Shown::Among {
             groups: "\
@@ -213,10 +201,7 @@ const ROLLED: [Case; 5] = [
 const REFUSED: [Case; 9] = [
     Case {
         name: "a second group of the first one's name",
-        trace: &[
-            GROUP,
-            "group2 101112131415161718191a1b1c1d1e1f 01020304\n",
-        ],
+        trace: &[GROUP, "group2 101112131415161718191a1b1c1d1e1f 01020304\n"],
         status: Status::Halted(Cause::Trace {
             line: 2,
             kind: Kind::Order,
@@ -238,11 +223,7 @@ const REFUSED: [Case; 9] = [
     },
     Case {
         name: "a station of no group sends",
-        trace: &[
-            GROUP,
-            FIRST,
-            "leave 1 A\nsend A ffffffffffff 88b50001\n",
-        ],
+        trace: &[GROUP, FIRST, "leave 1 A\nsend A ffffffffffff 88b50001\n"],
         status: Status::Halted(Cause::Trace {
             line: 4,
             kind: Kind::Order,
