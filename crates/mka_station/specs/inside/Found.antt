@@ -26,8 +26,8 @@ abbrev pub candidate_by : Setup → Mi → Candidate
 candidate_by setup mi = record { mi = mi; sci = setup.sci; priority = setup.priority }
 
 -- this is what a station that is this candidate finds in these rows
-pub record IsIn (own : Candidate) (rows : List Row) (c : Found) : Type 0 where
-  pub rows : c.rows ≡ rows
+pub record IsIn (own : Candidate) (seen : List Row) (c : Found) : Type 0 where
+  pub rows : c.rows ≡ seen
   pub reports : c.reports ≡ map report_of (live_rows c.rows)
   pub server : c.server ≡ elected own (map candidate_in (live_rows c.rows))
 
