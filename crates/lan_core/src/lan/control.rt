@@ -70,17 +70,18 @@ impl Lan {
           past = [];
         }) []) }
     {
-        let group = group_of(self.alloc, &self.settings)?;
+        let settings = self.judge.settings();
+        let group = group_of(self.alloc, settings)?;
         let config = Config {
             sci,
             priority,
-            rekey: self.settings.rekey,
-            conf: self.settings.conf,
-            early_flag: self.settings.early_flag,
+            rekey: settings.rekey,
+            conf: settings.conf,
+            early_flag: settings.early_flag,
             group,
-            suite: self.settings.suite,
+            suite: settings.suite,
         };
-        Seat::start(self.alloc, config, self.settings.window, draw)
+        Seat::start(self.alloc, config, settings.window, draw)
     }
 
     /// A tick at a station.
@@ -128,7 +129,8 @@ impl Lan {
         let sent = came.sent();
         let ticks = self.ticks.checked_add(1).ok_or(AllocError)?;
         self.extent(sent, ticks, came.installs)?.judge()?;
-        note_sak(&mut self.drawn, self.settings.suite, came.installed())?;
+        let suite = self.judge.settings().suite;
+        note_sak(&mut self.drawn, suite, came.installed())?;
         self.ticks = ticks;
         self.air.put(sent)?;
         Ok(())
