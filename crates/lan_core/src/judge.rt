@@ -1,10 +1,10 @@
 //! What the stations of a group hear is judged once for all of them.
 
-ghost use Rattle.std.specs.Prelude.{◌≡◌, [], IfSome, IsTrue, OnOk};
-ghost use Rattle.lan_core.specs.inside.Judge.{IsJudged, HasKeys};
+ghost use Rattle.std.specs.Prelude.{◌≡◌, OnOk};
+ghost use Rattle.lan_core.specs.inside.Judge.{IsJudged};
 
 use crate::settings::{Settings, group_of};
-use lan_base::Octets;
+use lan_base::{Octets, Suite};
 use mka_kdf::Group;
 use mka_station::{DropReason, judge};
 use mkpdu_codec::Announcement;
@@ -53,6 +53,13 @@ impl Judge {
         ensures { result.now ≡ self.now.settings }
     {
         &self.settings
+    }
+
+    /// The cipher suite of the keys that are made.
+    pub fn suite(&self) -> Suite
+        ensures { result ≡ self.now.settings.suite }
+    {
+        self.settings.suite
     }
 
     /// The octets are judged, if they are not those that were judged last. An error leaves the
