@@ -1,6 +1,6 @@
 //! What live members say of keys.
 
-ghost use Rattle.std.specs.Prelude.{◌≡◌};
+ghost use Rattle.std.specs.Prelude.{◌≡◌, ◌&&◌, nat_le};
 ghost use Rattle.sak_exchange.specs.Reports.{names, reports_latest, reports, reaches, transmits};
 
 use lan_base::{KeyId, Mi};
@@ -42,10 +42,21 @@ impl Report {
         ensures { result ≡ reaches limit id.now self.now.uses }
     {
         match &self.uses {
-            Some(uses) => names(&uses.latest, id) && limit <= uses.latest.lowest,
+            Some(uses) => reaches(&uses.latest, limit, id),
             None => false,
         }
     }
+}
+
+/// Whether a use names the key and says a lowest acceptable packet number that isn't below the
+/// limit. Mostly that number decides.
+fn reaches(used: &KeyUse, limit: u32, id: &KeyId) -> bool
+    ensures { result ≡ (names id.now used.now && nat_le limit used.now.lowest) }
+{
+    if used.lowest < limit {
+        return false;
+    }
+    names(used, id)
 }
 
 /// Whether a use names the key.
