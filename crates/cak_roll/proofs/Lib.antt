@@ -27,3 +27,4 @@ pub mod MembersFollow
 pub mod Acts
 pub mod Performing
 mod Examples
+pub mod Public

@@ -1,6 +1,6 @@
 -- As long as nothing happened in the second group, its settings count for nothing.
 use Rattle.std.proofs.Common.{◌≡◌, ◌==◌, ◌++◌, ℕ, Bool, true, false, List, [], ◌∷◌, cond, length}
-use Rattle.std.proofs.Common.{◌&&◌, refl, sym, ap, ◌∙◌, subst, arith}
+use Rattle.std.proofs.Common.{◌&&◌, ◌⊎◌, inl, inr, refl, sym, ap, ◌∙◌, subst, arith}
 use Rattle.std.specs.Prelude.{is_some, nat_lt, not}
 use Rattle.std.proofs.lemmas.Bool.{le-ltb}
 use Rattle.lan_base.specs.declared.frame.UserFrame.{UserFrame}
@@ -13,10 +13,11 @@ use Rattle.cak_roll.specs.declared.event.GroupNumber.{GroupNumber}
 use Rattle.cak_roll.specs.declared.event.GroupNumber.TheVariants.{First, Second}
 use Rattle.cak_roll.specs.declared.event.TwinEvent.{TwinEvent}
 use Rattle.cak_roll.specs.declared.event.TwinEvent.TheVariants as twins
-use Rattle.cak_roll.specs.Twin.{Pair, Twin, run_of, only, same_group}
+use Rattle.cak_roll.specs.Twin.{Pair, Twin, TwinHappening, run_of, only, same_group, IsTwinStep}
 use Rattle.cak_roll.specs.Twin.{events_in, events_of, sent_as, takes_part, has_left, place_in}
 use Rattle.cak_roll.specs.Twin.{carrier, next_in, claimed_in, AreSteps, IsPart}
-use Rattle.cak_roll.specs.Twin.{IsTwinRun}
+use Rattle.cak_roll.specs.Twin.{IsTwinRun, MayComeTwin}
+use Rattle.cak_roll.proofs.Sends.{none-there}
 
 none-below : (n : ℕ) → nat_lt n 0 ≡ false
 none-below n = le-ltb n 0 (omega arith)
@@ -112,3 +113,43 @@ lone-run pair second users (x ∷ t) (step, before) none =
           (sym (step.parts Second).events ∙ ap events_of none));
       steps = subst (λ ys. AreSteps second users ys (run_of Second t)) (sym none) tt;
     }
+
+-- ---- nothing happens in the second group before an adoption
+
+never-there : (s : ℕ) (t : Twin) → run_of Second t ≡ [] → takes_part Second s t ≡ true → ⊥
+never-there s t none there = let bad : false ≡ true = sym (absent s t none) ∙ there in cc bad
+
+who-sends : (s : ℕ) (t : Twin) → run_of Second t ≡ []
+    → (takes_part First s t ≡ true) ⊎ (takes_part Second s t ≡ true) → takes_part First s t ≡ true
+who-sends s t none (inl there) = there
+who-sends s t none (inr there) = absurd (never-there s t none there)
+
+pub lone-stays : (pair : Pair) (users : List UserFrame) (t : Twin) (e : TwinEvent)
+    → MayComeTwin users t e → run_of Second t ≡ []
+    → ((station : ℕ) → e ≡ twins.Adopt station → ⊥) → events_in pair Second t e ≡ []
+lone-stays pair users t (twins.Start name sci priority) may none other = refl
+lone-stays pair users t (twins.Adopt station) may none other = absurd (other station refl)
+lone-stays pair users t (twins.Leave station group) may none other = refl
+lone-stays pair users t (twins.Tick station First) may none other = refl
+lone-stays pair users t (twins.Tick station Second) may none other =
+    absurd (never-there station t none may)
+lone-stays pair users t (twins.Deliver First frame station) may none other = refl
+lone-stays pair users t (twins.Deliver Second frame station) may none other =
+    absurd (never-there station t none may.0)
+lone-stays pair users t (twins.Restart station) may none other =
+    ap (λ b. only b (events.Restart (place_in Second station t) ∷ [])) (absent station t none)
+lone-stays pair users t (twins.Send station user) may none other =
+    ap (λ g. only (same_group g Second) (sent_as (place_in Second station t) user
+    (claimed_in pair Second station t)))
+    (carrier-is pair station t none
+    ∙ ap (λ b. cond b First Second) (who-sends station t none may.0))
+
+-- so the second group stays empty
+pub lone-then : (pair : Pair) (users : List UserFrame) (x : TwinHappening) (t : Twin)
+    → IsTwinStep pair users x t → run_of Second t ≡ []
+    → ((station : ℕ) → x.event ≡ twins.Adopt station → ⊥) → run_of Second (x ∷ t) ≡ []
+unfolding run_of
+lone-then pair users x t step none other =
+    let first = none-there x.second ((step.parts Second).events
+    ∙ lone-stays pair users t x.event step.may_come none other) in
+    ap (λ ys. ys ++ run_of Second t) first ∙ none

@@ -7,7 +7,7 @@ ghost use Rattle.lan_base.specs.declared.frame.UserFrame.{UserFrame};
 ghost use Rattle.lan_core.specs.Run.{stations};
 ghost use Rattle.cak_roll.specs.Twin.{Pair, Twin, IsTwinRun};
 ghost use Rattle.cak_roll.specs.Twin.{run_of, place_in, takes_part};
-ghost use Rattle.cak_roll.specs.Twin.{place_among};
+ghost use Rattle.cak_roll.specs.Twin.{place_among, adopters};
 ghost use Rattle.cak_roll.specs.Standing.{AreMembers, is_leaver};
 ghost use Rattle.cak_roll.specs.inside.Following.{with_event};
 
@@ -79,6 +79,13 @@ impl Members {
             GroupNumber::First => station,
             GroupNumber::Second => few(position(&self.adopters, station)),
         }
+    }
+
+    /// The stations that began in the second group, in that order.
+    pub fn adopters(&self) -> &[u8]
+        ensures { (t : Twin) → AreMembers t self.now → result.now ≡ adopters t }
+    {
+        self.adopters.as_slice()
     }
 
     /// Whether a station takes part in a group.

@@ -12,7 +12,7 @@ ghost use Rattle.mka_kdf.specs.Kdf.{HasWrongLength};
 ghost use Rattle.lan_core.specs.Answers.{IsWhy};
 ghost use Rattle.cak_roll.specs.declared.fault.SecondError.TheVariants.{Refused};
 ghost use Rattle.cak_roll.specs.declared.fault.SecondFault.{SecondFault};
-ghost use Rattle.cak_roll.specs.Twin.{Pair, Twin as TwinRun, TwinHappening, takes_part};
+ghost use Rattle.cak_roll.specs.Twin.{Pair, Twin as TwinRun, TwinHappening, takes_part, adopters};
 ghost use Rattle.cak_roll.specs.Stepping.{happening, twin_stop, twin_draws};
 ghost use Rattle.cak_roll.specs.Standing.{StandsFor};
 ghost use Rattle.cak_roll.specs.Answers.{another, second_fault, told_in, MayHappen};
@@ -169,6 +169,14 @@ impl Twin {
             → StandsFor pair users self.now t → result ≡ takes_part group station t }
     {
         self.members.takes_part(group, station)
+    }
+
+    /// The stations that began in the second group, in that order.
+    pub fn adopters(&self) -> &[u8]
+        ensures { (pair : Pair) (users : List UserFrame) (t : TwinRun)
+            → StandsFor pair users self.now t → result.now ≡ adopters t }
+    {
+        self.members.adopters()
     }
 
     /// Why a second group is refused.

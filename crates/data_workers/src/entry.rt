@@ -5,7 +5,7 @@ ghost use Rattle.data_workers.specs.Entries.{entry_of, taken_by};
 ghost use Rattle.gcm_frames.specs.Protected.{protection_octets};
 ghost use Rattle.lan_base.specs.Ranges.{IsUserData};
 
-use crate::prepared::{PreparedKey, prepared_for};
+use crate::prepared::{PreparedKey, key_for};
 use crate::sender::Sender;
 use gcm_frames::protect;
 use lan_base::{Octets, Protected};
@@ -58,9 +58,8 @@ fn protected_frame(
         × (length sender.now.user.body + protection_octets ≤ vec_capacity room) }
     ensures { result ≡ taken_by sender.now claim }
 {
-    let prepared = prepared_for(last.take(), claim.card.sak);
     protect(
-        prepared.key(),
+        key_for(last, claim.card.sak),
         sender.sci,
         claim.an,
         claim.pn,
@@ -68,7 +67,6 @@ fn protected_frame(
         &sender.user,
         &mut room,
     );
-    *last = Some(prepared);
     Protected {
         station: sender.station,
         an: claim.an,

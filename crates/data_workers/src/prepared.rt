@@ -1,6 +1,6 @@
 //! A key that is prepared once for the frames that come under it one after the other.
 
-ghost use Rattle.std.specs.Prelude.{◌≡◌};
+ghost use Rattle.std.specs.Prelude.{◌≡◌, true, IfSome};
 ghost use Rattle.aes_block.specs.Secrets.{secret_octets};
 
 use aes_block::{Key, Secret};
@@ -42,19 +42,23 @@ impl PreparedKey {
     }
 }
 
-/// The prepared key of a SAK: the last one that was prepared, where it is that SAK's, and else a
-/// new one.
-pub(crate) fn prepared_for(last: Option<PreparedKey>, sak: Secret) -> PreparedKey
-    ensures { result ≡ secret_octets sak }
+/// The key of a SAK, ready for frames: the one that was prepared last, where it is that SAK's, and
+/// else a new one, which is kept in its place.
+pub(crate) fn key_for(last: &mut Option<PreparedKey>, sak: Secret) -> &GcmKey
+    ensures { result.now ≡ secret_octets sak }
+{
+    if !is_for(last, sak) {
+        *last = None;
+    }
+    last.get_or_insert_with(|| PreparedKey::of(sak)).key()
+}
+
+/// Whether the key that was prepared last is that of a SAK.
+fn is_for(last: &Option<PreparedKey>, sak: Secret) -> bool
+    ensures { result ≡ true → IfSome last.now (λ key. key ≡ secret_octets sak) }
 {
     match last {
-        Some(prepared) => {
-            if prepared.sak.octets() == sak.octets() {
-                prepared
-            } else {
-                PreparedKey::of(sak)
-            }
-        }
-        None => PreparedKey::of(sak),
+        Some(prepared) => prepared.sak.octets() == sak.octets(),
+        None => false,
     }
 }

@@ -29,7 +29,7 @@ abbrev pub Keeps : ℕ → List ℕ → List (List ℕ × ℕ) → List (List �
 Keeps number octets old new =
     (q : List ℕ) → number_at new q ≡ cond (is_at (slice_cmp nat_cmp octets) q) (Some number) (number_at old q)
 
-here : (number : ℕ) (octets : List ℕ) (old new : List (List ℕ × ℕ)) → Keeps number octets old new → (q : List ℕ)
+pub here : (number : ℕ) (octets : List ℕ) (old new : List (List ℕ × ℕ)) → Keeps number octets old new → (q : List ℕ)
     → number_at new q ≡ cond (pointwise nat_eq q octets) (Some number) (number_at old q)
 here number octets old new keeps q = keeps q ∙ ap (λ b. cond b (Some number) (number_at old q)) (place-is octets q)
 

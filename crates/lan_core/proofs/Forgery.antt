@@ -26,7 +26,7 @@ use Rattle.lan_core.specs.Fresh.{is_forged}
 use Rattle.lan_core.specs.Stops.{stop_of_forgery}
 use Rattle.lan_core.specs.Standing.{in_order}
 use Rattle.lan_core.specs.inside.Judging.{is_of_group}
-use Rattle.lan_core.specs.inside.Spellings.{repeats_octets}
+use Rattle.lan_core.specs.inside.Repeats.{repeats_octets}
 
 -- ---- right
 

@@ -21,7 +21,7 @@ pub mod Admitted
 pub mod ChecksStay
 pub mod DrawsLookedUp
 pub mod SpellingRepeats
-pub mod OctetsLookedUp
+pub mod CheckPlaced
 pub mod TickDraws
 pub mod UnstoppedSteps
 pub mod StaysFresh

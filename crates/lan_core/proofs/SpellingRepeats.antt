@@ -1,8 +1,9 @@
--- What frames spell decides which of them are repeated: two frames spell the same exactly where they have the same covered octets and the same check values.
+-- Octets repeat a frame exactly where it begins with what they spell, up to the end of the check value.
 use Rattle.std.proofs.Common.{◌≡◌, ◌∙◌, ℕ, ◌+◌, ◌-◌, ◌%◌, ◌≤◌, Bool, true, false, ◌||◌, List, [], ◌∷◌, ◌++◌, length, take, drop, refl, sym, ap, subst, arith}
 use Rattle.std.proofs.lemmas.Bool.Decides.{nat_tests}
-use Rattle.std.proofs.lemmas.List.{take_at, drop_at, length-drop, length-take-le}
-use Rattle.std.specs.Prelude.{◌&&◌, ◌==◌, nat_eq, nat_le, not, if◌then◌else◌, Option, Some, None, Result, Ok, Err}
+use Rattle.std.proofs.Math.Seq.{take-add}
+use Rattle.std.proofs.lemmas.List.{append_assoc, take_at, take-append-drop, length-take-le}
+use Rattle.std.specs.Prelude.{◌&&◌, ◌==◌, nat_eq, nat_le, not, if◌then◌else◌, Some, None, Result, Ok, Err}
 use Rattle.std.specs.List.{list_any}
 use lib.Pointwise.{pointwise, bytes_decides}
 use Rattle.mkpdu_codec.specs.declared.announcement.Announcement.{Announcement}
@@ -13,7 +14,7 @@ use Rattle.mkpdu_codec.specs.Refusals.{is_mka, is_long_enough, body_length, chec
 use Rattle.mkpdu_codec.specs.Fields.{Basics, basic_at}
 use Rattle.mkpdu_codec.specs.Reading.{◌>>=◌, Inner, Gathered, parts_at, basic_or, gathered, nothing, announcement_of, reading}
 use Rattle.lan_core.specs.Fresh.{same_spelling}
-use Rattle.lan_core.specs.inside.Spellings.{repeats_octets, spelling_of, spelling, is_this}
+use Rattle.lan_core.specs.inside.Repeats.{begins, check_value, repeats_octets}
 
 -- ---- a frame reaches to the end of its check value
 
@@ -34,12 +35,17 @@ value_or d (Err refusal) = d
 same_value : {A : Type 0} (x y : A) (r : Result A Refusal) → r ≡ Ok x → r ≡ Ok y → x ≡ y
 same_value x y r a b = sym (ap (value_or x) a) ∙ ap (value_or x) b
 
+both : (a b : Bool) → a && b ≡ true → (a ≡ true) × (b ≡ true)
+both true true e = (refl, refl)
+both true false e = absurd cc
+both false b e = absurd cc
+
 -- a test let something through
 record Passed {A : Type 0} (b : Bool) (x y : A) : Type 0 where
   test : b ≡ true
   same : x ≡ y
 
-two_tests : (a b : Bool) (x y : Inner) → (if not a then Err NotMka else if not b then Err Short else Ok x) ≡ Ok y → Passed b x y
+two_tests : (a b : Bool) (x y : Inner) → (if not a then Err NotMka else if not b then Err Short else Ok x) ≡ Ok y → Passed (a && b) x y
 two_tests true true x y e = record { test = refl; same = ap (value_or x) e }
 two_tests true false x y e = absurd cc
 two_tests false b x y e = absurd cc
@@ -52,6 +58,7 @@ one_test false x y e = absurd cc
 pub record Stands (frame : List ℕ) (covered : ℕ) (check : List ℕ) : Type 0 where
   pub fits : covered + 16 ≤ length frame
   pub stands : check ≡ take 16 (drop covered frame)
+  pub valued : check_value frame ≡ Some check
 
 long : (body frame : ℕ) → (nat_le 32 body && (body % 4 == 0) && nat_le (18 + body) frame) ≡ true → (18 + (body - 16)) + 16 ≤ frame
 long body frame e = grind (arith, nat_tests)
@@ -62,7 +69,11 @@ parts_stand frame p e =
     let x : Inner = record { source = record { 0 = take 6 (drop 6 frame) }; sets = sets_of frame; covered = check_place frame; check = take 16 (drop (check_place frame) frame) } in
     let passed = two_tests (is_mka frame) (is_long_enough frame) x p e in
     subst (λ (q : Inner). Stands frame q.covered q.check) passed.same
-    (record { fits = long (body_length frame) (length frame) passed.test; stands = refl })
+    (record {
+      fits = long (body_length frame) (length frame) (both (is_mka frame) (is_long_enough frame) passed.test).1;
+      stands = refl;
+      valued = ap (λ b. if b then Some (take 16 (drop (check_place frame) frame)) else None) passed.test;
+    })
 
 -- what is read of the parts
 abbrev read_by : Inner → Basics × List ℕ → Gathered → Result Spelled Refusal
@@ -85,74 +96,78 @@ read_stands frame s e =
     let g = others.value in
     stands_so frame p s (parts_stand frame p parts.there) (announcement_of p.source b.0 g) (one_test (is_known b.0.agility) (record { announcement = announcement_of p.source b.0 g; covered = p.covered; check = p.check }) s others.gives)
 
--- ---- repeating is spelling the same
-
--- so many octets of a frame stand behind the covered ones
-behind : (frame : List ℕ) (n : ℕ) → n + 16 ≤ length frame → 16 ≤ length (drop n frame)
-behind frame n fits = let l : length (drop n frame) ≡ length frame - n = length-drop n frame in omega (arith, l, fits)
-
-check_length : (frame : List ℕ) (n : ℕ) (check : List ℕ) → Stands frame n check → length check ≡ 16
-check_length frame n check p = ap length p.stands ∙ length-take-le 16 (drop n frame) (behind frame n p.fits)
-
-both : (a b : Bool) → a && b ≡ true → (a ≡ true) × (b ≡ true)
-both true true e = (refl, refl)
-both true false e = absurd cc
-both false b e = absurd cc
-
 same_tests : (a b : Bool) → (a ≡ true → b ≡ true) → (b ≡ true → a ≡ true) → a ≡ b
 same_tests true b f g = sym (f refl)
 same_tests false true f g = g refl
 same_tests false false f g = refl
 
--- the covered octets and the check value are those of another frame exactly where the check value with the covered octets behind it is
-parts_are_whole : (a b c d : List ℕ) (m n : ℕ) → Stands a m c → Stands b n d
-    → (pointwise nat_eq (take m a) (take n b) && pointwise nat_eq c d) ≡ pointwise nat_eq (c ++ take m a) (d ++ take n b)
-parts_are_whole a b c d m n p q =
-    same_tests (pointwise nat_eq (take m a) (take n b) && pointwise nat_eq c d) (pointwise nat_eq (c ++ take m a) (d ++ take n b))
+-- ---- repeating is beginning with the same
+
+-- what a frame spells stands at its front, up to the end of its check value
+told_is : (frame : List ℕ) (covered : ℕ) (check : List ℕ) → Stands frame covered check → take (covered + 16) frame ≡ take covered frame ++ check
+told_is frame covered check p = take-add covered 16 frame ∙ ap (λ xs. take covered frame ++ xs) (sym p.stands)
+
+covered_length : (frame : List ℕ) (covered : ℕ) (check : List ℕ) → Stands frame covered check → length (take covered frame) ≡ covered
+covered_length frame covered check p = length-take-le covered frame (omega (arith, p.fits))
+
+-- a frame that begins with octets goes on behind them
+pub goes_on : (octets frame : List ℕ) → begins octets frame ≡ true → frame ≡ octets ++ drop (length octets) frame
+goes_on octets frame e =
+    let front : octets ≡ take (length octets) frame = (bytes_decides octets (take (length octets) frame)).0 e in
+    sym (ap (λ xs. xs ++ drop (length octets) frame) front ∙ take-append-drop (length octets) frame)
+
+begun_by : (octets frame rest : List ℕ) → frame ≡ octets ++ rest → begins octets frame ≡ true
+begun_by octets frame rest e =
+    (bytes_decides octets (take (length octets) frame)).1 (sym (ap (take (length octets)) e ∙ take_at octets rest (length octets) refl))
+
+-- a frame that spells the same begins with it
+same_begins : (octets frame : List ℕ) (s t : Spelled) → Stands octets s.covered s.check → Stands frame t.covered t.check
+    → (pointwise nat_eq (take s.covered octets) (take t.covered frame) && pointwise nat_eq s.check t.check) ≡ true
+    → begins (take (s.covered + 16) octets) frame ≡ true
+same_begins octets frame s t p q e =
+    let two = both (pointwise nat_eq (take s.covered octets) (take t.covered frame)) (pointwise nat_eq s.check t.check) e in
+    let covered : take s.covered octets ≡ take t.covered frame = (bytes_decides (take s.covered octets) (take t.covered frame)).0 two.0 in
+    let check : s.check ≡ t.check = (bytes_decides s.check t.check).0 two.1 in
+    let told : take (s.covered + 16) octets ≡ take (t.covered + 16) frame =
+    told_is octets s.covered s.check p ∙ ap (λ xs. xs ++ s.check) covered ∙ ap (λ xs. take t.covered frame ++ xs) check ∙ sym (told_is frame t.covered t.check q) in
+    begun_by (take (s.covered + 16) octets) frame (drop (t.covered + 16) frame)
+    (sym (ap (λ xs. xs ++ drop (t.covered + 16) frame) told ∙ take-append-drop (t.covered + 16) frame))
+
+-- a frame that begins with all that octets spell spells the same
+same_again : (octets frame : List ℕ) (s : Spelled) → Stands octets s.covered s.check → reading frame ≡ Ok s → begins (take (s.covered + 16) octets) frame ≡ true
+    → same_spelling octets frame (Ok s) (reading frame) ≡ true
+same_again octets frame s p again e =
+    let rest = drop (length (take (s.covered + 16) octets)) frame in
+    let whole : frame ≡ take s.covered octets ++ (s.check ++ rest) =
+    goes_on (take (s.covered + 16) octets) frame e ∙ ap (λ xs. xs ++ rest) (told_is octets s.covered s.check p)
+    ∙ append_assoc (take s.covered octets) s.check rest in
+    let covered : take s.covered frame ≡ take s.covered octets =
+    ap (take s.covered) whole ∙ take_at (take s.covered octets) (s.check ++ rest) s.covered (covered_length octets s.covered s.check p) in
+    ap (same_spelling octets frame (Ok s)) again
+    ∙ ap (λ b. b && pointwise nat_eq s.check s.check) ((bytes_decides (take s.covered octets) (take s.covered frame)).1 (sym covered))
+    ∙ (bytes_decides s.check s.check).1 refl
+
+pub repeats_begins : (octets frame : List ℕ) (s : Spelled) → reading octets ≡ Ok s → ((rest : List ℕ) → reading (take (s.covered + 16) octets ++ rest) ≡ Ok s)
+    → begins (take (s.covered + 16) octets) frame ≡ repeats_octets octets frame
+repeats_begins octets frame s is again =
+    let told = take (s.covered + 16) octets in
+    let stands = read_stands octets s is in
+    same_tests (begins told frame) (repeats_octets octets frame)
     (λ e.
-    let two = both (pointwise nat_eq (take m a) (take n b)) (pointwise nat_eq c d) e in
-    let covered : take m a ≡ take n b = (bytes_decides (take m a) (take n b)).0 two.0 in
-    let check : c ≡ d = (bytes_decides c d).0 two.1 in
-    (bytes_decides (c ++ take m a) (d ++ take n b)).1 (ap (λ xs. xs ++ take m a) check ∙ ap (λ xs. d ++ xs) covered))
-    (λ e.
-    let whole : c ++ take m a ≡ d ++ take n b = (bytes_decides (c ++ take m a) (d ++ take n b)).0 e in
-    let check : c ≡ d = sym (take_at c (take m a) 16 (check_length a m c p)) ∙ ap (take 16) whole ∙ take_at d (take n b) 16 (check_length b n d q) in
-    let covered : take m a ≡ take n b = sym (drop_at c (take m a) 16 (check_length a m c p)) ∙ ap (drop 16) whole ∙ drop_at d (take n b) 16 (check_length b n d q) in
-    ap (λ t. t && pointwise nat_eq c d) ((bytes_decides (take m a) (take n b)).1 covered) ∙ (bytes_decides c d).1 check)
+    let other : reading frame ≡ Ok s = ap reading (goes_on told frame e) ∙ again (drop (length told) frame) in
+    ap (λ r. same_spelling octets frame r (reading frame)) is ∙ same_again octets frame s stands other e)
+    (λ e. go (reading frame) refl (sym (ap (λ r. same_spelling octets frame r (reading frame)) is) ∙ e))
+  where
+    go : (r : Result Spelled Refusal) → reading frame ≡ r → same_spelling octets frame (Ok s) r ≡ true → begins (take (s.covered + 16) octets) frame ≡ true
+    go (Ok t) there e = same_begins octets frame s t (read_stands octets s is) (read_stands frame t there) e
+    go (Err refusal) there e = absurd cc
 
--- ---- repeating is looked up
+-- octets that spell nothing repeat no frame
+pub repeats_none : (octets : List ℕ) (refusal : Refusal) (frames : List (List ℕ)) → reading octets ≡ Err refusal → list_any (repeats_octets octets) frames ≡ false
+repeats_none octets refusal [] is = refl
+repeats_none octets refusal (frame ∷ frames) is =
+    ap (λ r. same_spelling octets frame r (reading frame) || list_any (repeats_octets octets) frames) is ∙ repeats_none octets refusal frames is
 
-same_is : (octets frame : List ℕ) (s : Spelled) (r : Result Spelled Refusal) → Stands octets s.covered s.check → reading frame ≡ r
-    → same_spelling octets frame (Ok s) r ≡ is_this (s.check ++ take s.covered octets) (spelling_of frame r)
-same_is octets frame s (Ok t) stands e = parts_are_whole octets frame s.check t.check s.covered t.covered stands (read_stands frame t e)
-same_is octets frame s (Err refusal) stands e = refl
-
-abbrev octets_or : List ℕ → Option (List ℕ) → List ℕ
-octets_or d None = d
-octets_or d (Some xs) = xs
-
-found_by : (octets key frame : List ℕ) (r : Result Spelled Refusal) → reading octets ≡ r → spelling_of octets r ≡ Some key
-    → same_spelling octets frame r (reading frame) ≡ is_this key (spelling frame)
-found_by octets key frame (Ok s) e is =
-    same_is octets frame s (reading frame) (read_stands octets s e) refl ∙ ap (λ (k : List ℕ). is_this k (spelling frame)) (ap (octets_or key) is)
-found_by octets key frame (Err refusal) e is = absurd cc
-
-lost_by : (octets frame : List ℕ) (r : Result Spelled Refusal) → spelling_of octets r ≡ None → same_spelling octets frame r (reading frame) ≡ false
-lost_by octets frame (Ok s) is = absurd cc
-lost_by octets frame (Err refusal) is = refl
-
-any_same : (f g : List ℕ → Bool) → ((xs : List ℕ) → f xs ≡ g xs) → (lists : List (List ℕ)) → list_any f lists ≡ list_any g lists
+pub any_same : (f g : List ℕ → Bool) → ((xs : List ℕ) → f xs ≡ g xs) → (lists : List (List ℕ)) → list_any f lists ≡ list_any g lists
 any_same f g same [] = refl
 any_same f g same (xs ∷ lists) = ap (λ b. b || list_any f lists) (same xs) ∙ ap (λ b. g xs || b) (any_same f g same lists)
-
-any_none : (f : List ℕ → Bool) → ((xs : List ℕ) → f xs ≡ false) → (lists : List (List ℕ)) → list_any f lists ≡ false
-any_none f none [] = refl
-any_none f none (xs ∷ lists) = ap (λ b. b || list_any f lists) (none xs) ∙ any_none f none lists
-
-pub repeats_found : (octets key : List ℕ) (frames : List (List ℕ)) → Some key ≡ spelling octets
-    → list_any (λ frame. is_this key (spelling frame)) frames ≡ list_any (repeats_octets octets) frames
-repeats_found octets key frames is =
-    sym (any_same (repeats_octets octets) (λ frame. is_this key (spelling frame)) (λ frame. found_by octets key frame (reading octets) refl (sym is)) frames)
-
-pub repeats_none : (octets : List ℕ) (frames : List (List ℕ)) → None ≡ spelling octets → false ≡ list_any (repeats_octets octets) frames
-repeats_none octets frames is = sym (any_none (repeats_octets octets) (λ frame. lost_by octets frame (reading octets) (sym is)) frames)

@@ -1,5 +1,5 @@
 -- Definitions that serve private functions alone.
-pub mod Spellings
+pub mod Repeats
 pub mod Drawing
 pub mod Seats
 pub mod Shown

@@ -1,18 +1,22 @@
 //! The air: every frame that was ever put there.
 
-ghost use Rattle.std.specs.Prelude.{◌≡◌, ◌≤◌, ◌+◌, ◌++◌, ◌∷◌, [], map, sum, length, option_to_list, IfOk, OnOk, OnErr, IfSome};
+ghost use Rattle.std.specs.Prelude.{◌≡◌, ◌≤◌, ◌<◌, ◌+◌, ◌^◌, ◌++◌, ◌∷◌, [], ℕ, true, List, Some, map, sum, length, option_to_list, IfOk, OnOk, OnErr, IfSome};
 ghost use Rattle.std.specs.Option.{option_copied};
 ghost use Rattle.std.specs.List.{list_any};
 ghost use Rattle.lan_base.specs.Ranges.{most_frame_octets};
 ghost use Rattle.lan_core.specs.Standing.{octets_at};
-ghost use Rattle.lan_core.specs.inside.Spellings.{repeats_octets};
+ghost use Rattle.lan_core.specs.inside.Repeats.{begins, begins_at, check_value, repeats_octets};
 
-use crate::spellings::{Spellings, spelling};
+use crate::check_value::{CHECK_LEN, check_value};
+use crate::checks::Checks;
 use lan_base::{FRAME_MAX, Octets};
+use mkpdu_codec::{
+    ReadError, law_octets_behind_are_ignored, law_reading_refuses, law_spelled_is_read, read,
+};
 use std::alloc::{AllocError, Global};
 use std::marker::Model;
 
-/// Every frame that was ever put on the air, oldest first, and an index of what they spell.
+/// Every frame that was ever put on the air, oldest first, and where those of key agreement are.
 /// Contracts see the list of the frames' octets.
 #[derive(Drop)]
 pub struct Air {
@@ -20,19 +24,19 @@ pub struct Air {
     frames: Vec<Octets>,
     /// How many octets the frames have together.
     octets: u64,
-    /// What the frames spell.
-    spelled: Spellings,
+    /// The frames of key agreement, by their check values.
+    checks: Checks,
 }
 
 impl Model for Air {
     ghost use Rattle.std.specs.Prelude.{ℕ, List};
-    ghost use Rattle.lan_core.specs.inside.Spellings.{IsIndex};
+    ghost use Rattle.lan_core.specs.inside.Repeats.{IsIndex};
 
     ghost Value = { List (List ℕ) };
 
     ghost view = { λ a. a.frames.items };
 
-    ghost invariant = { λ a. IsIndex a.frames.items a.octets a.spelled };
+    ghost invariant = { λ a. IsIndex a.frames.items a.octets a.checks };
 }
 
 impl Air {
@@ -44,7 +48,7 @@ impl Air {
             alloc,
             frames: Vec::new(alloc),
             octets: 0,
-            spelled: Spellings::new(alloc),
+            checks: Checks::new(alloc),
         }
     }
 
@@ -76,9 +80,18 @@ impl Air {
     pub fn next_number(&self) -> Result<u32, AllocError>
         ensures { IfOk result (λ number. number ≡ length self.now + 1) }
     {
+        let place = self.next_place()?;
+        Ok(place + 1)
+    }
+
+    /// The place of that frame, from 0.
+    fn next_place(&self) -> Result<u32, AllocError>
+        ensures place { IfOk result (λ place. place ≡ length self.now) }
+        ensures small { IfOk result (λ place. place + 1 < 2 ^ 32) }
+    {
         let frames = self.frames.len();
         if frames < u32::MAX as usize {
-            Ok(frames as u32 + 1)
+            Ok(frames as u32)
         } else {
             Err(AllocError)
         }
@@ -88,9 +101,49 @@ impl Air {
     pub fn repeats(&self, octets: &[u8]) -> Result<bool, AllocError>
         ensures { IfOk result (λ repeats. repeats ≡ list_any (repeats_octets octets.now) self.now) }
     {
-        match spelling(self.alloc, octets)? {
-            Some(spelling) => Ok(self.spelled.has(&spelling)),
-            None => Ok(false),
+        law_spelled_is_read();
+        law_reading_refuses();
+        law_octets_behind_are_ignored();
+        match read(self.alloc, octets) {
+            Ok(spelled) => Ok(self.has(&spelled.check, &octets[..spelled.covered + CHECK_LEN])),
+            Err(ReadError::Refused(_)) => Ok(false),
+            Err(ReadError::Memory) => Err(AllocError),
+        }
+    }
+
+    /// Whether a frame begins with these octets, which end in its check value.
+    fn has(&self, check: &[u8; CHECK_LEN], octets: &[u8]) -> bool
+        ensures { ((frame : List ℕ) → begins octets.now frame ≡ true
+            → check_value frame ≡ Some check.now)
+            → result ≡ list_any (begins octets.now) self.now }
+    {
+        let first = self.checks.first(check);
+        self.begins(first, octets) || self.any_begins(self.checks.others(), octets)
+    }
+
+    /// Whether a frame at one of these places begins with octets.
+    fn any_begins(&self, places: &[u32], octets: &[u8]) -> bool
+        ensures { result ≡ list_any (λ place. begins_at self.now octets.now (Some place))
+            places.now }
+    {
+        for place in places {
+            if self.begins(Some(*place), octets) {
+                return true;
+            }
+        }
+        false
+    }
+
+    /// Whether the frame at a place begins with octets.
+    fn begins(&self, place: Option<u32>, octets: &[u8]) -> bool
+        ensures { result ≡ begins_at self.now octets.now place }
+    {
+        let Some(place) = place else {
+            return false;
+        };
+        match self.frames.get(place as usize) {
+            Some(frame) => frame.as_slice().starts_with(octets),
+            None => false,
         }
     }
 
@@ -101,9 +154,9 @@ impl Air {
         ensures err { OnErr result (self.new ≡ self.old) }
     {
         let total = self.octets_with(octets.len())?;
-        let spelling = spelling(self.alloc, octets.as_slice())?;
+        let place = self.next_place()?;
         self.frames.reserve(1)?;
-        self.spelled.add(spelling)?;
+        self.checks.add(check_value(octets.as_slice()), place)?;
         self.frames.push(octets)?;
         self.octets = total;
         Ok(())

@@ -145,7 +145,7 @@ impl Model for Facts {
 }
 
 impl Facts {
-    ghost use Rattle.std.specs.Prelude.{◌≡◌, ◌++◌, ◌∷◌, [], OnOk, OnErr};
+    ghost use Rattle.std.specs.Prelude.{◌≡◌, ◌++◌, ◌∷◌, [], IfOk, OnOk, OnErr};
 
     /// No fact, which takes no memory.
     pub fn new(alloc: Global) -> Self
@@ -154,6 +154,23 @@ impl Facts {
         Facts {
             facts: Vec::new(alloc),
         }
+    }
+
+    /// No fact, with memory for so many.
+    pub(crate) fn with_capacity(alloc: Global, facts: usize) -> Result<Self, AllocError>
+        ensures { IfOk result (λ facts. facts ≡ []) }
+    {
+        let facts = Vec::with_capacity(alloc, facts)?;
+        Ok(Facts { facts })
+    }
+
+    /// One fact, in memory for just that one.
+    pub fn one(alloc: Global, fact: Fact) -> Result<Self, AllocError>
+        ensures { IfOk result (λ facts. facts ≡ fact ∷ []) }
+    {
+        let mut facts = Facts::with_capacity(alloc, 1)?;
+        facts.push(fact)?;
+        Ok(facts)
     }
 
     /// The facts.

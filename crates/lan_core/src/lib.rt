@@ -4,6 +4,8 @@
 
 mod air;
 mod came;
+mod check_value;
+mod checks;
 mod claimed;
 mod draw_laws;
 mod drawn;
@@ -21,7 +23,6 @@ mod seat;
 mod seats;
 mod sender;
 mod settings;
-mod spellings;
 mod stop;
 mod telling;
 mod waiting;

@@ -34,7 +34,7 @@ use crate::claimed::Claimed;
 use crate::fact::{Fact, Facts};
 use crate::following::{follow, installs_after, lowest_under};
 use crate::sender::Sender;
-use crate::telling::{one, tell, told};
+use crate::telling::{tell, told};
 use gcm_frames::{Tag, TagRefusal, tag_of};
 use lan_base::{AssociationNumber, Draws, Octets, UserFrame, is_user_data};
 use mka_station::{Config, Reaction, Station, TickError, law_room, law_turns_count};
@@ -289,7 +289,7 @@ impl Seat {
             station: place,
             arrival,
         };
-        one(self.alloc, arrived)
+        Facts::one(self.alloc, arrived)
     }
 
     /// The receive slots.
@@ -451,13 +451,29 @@ impl Seat {
         let sci = self.station.sci();
         match &self.sender {
             Some(sender) if sender.is_of(&key.sak) => sender.frame(self.alloc, sci, key, pn, user),
-            _ => {
-                let sender = Sender::of(&key.sak);
-                let octets = sender.frame(self.alloc, sci, key, pn, user);
-                self.sender = Some(sender);
-                octets
-            }
+            _ => self.first_protected(key, pn, user),
         }
+    }
+
+    /// The same, where the key has to be prepared first. A prepared key is large: this keeps the
+    /// room for it out of those who call this seldom.
+    #[inline(never)]
+    fn first_protected(
+        &mut self,
+        key: &Key,
+        pn: u32,
+        user: &UserFrame,
+    ) -> Result<Octets, AllocError>
+        requires pn { 1 ≤ pn }
+        requires user { IsUserData user.now.body }
+        ensures octets { IfOk result (λ octets. octets ≡ protected (secret_octets key.now.sak)
+            self.old.station.setup.sci key.now.an pn key.now.conf user.now) }
+        ensures same { self.new ≡ self.old }
+    {
+        let sender = Sender::of(&key.sak);
+        let octets = sender.frame(self.alloc, self.station.sci(), key, pn, user);
+        self.sender = Some(sender);
+        octets
     }
 }
 

@@ -1,6 +1,6 @@
 //! A station's reaction as facts.
 
-ghost use Rattle.std.specs.Prelude.{◌≡◌, ◌++◌, ◌∷◌, [], map, IfOk, OnOk};
+ghost use Rattle.std.specs.Prelude.{◌≡◌, ◌++◌, ◌∷◌, map, IfOk, OnOk};
 ghost use Rattle.lan_core.specs.Expected.{change_fact, reaction_facts};
 
 use crate::fact::{Fact, Facts};
@@ -57,17 +57,9 @@ pub fn told(
 ) -> Result<Facts, AllocError>
     ensures { IfOk result (λ facts. facts ≡ first ∷ reaction_facts station 0 number reaction) }
 {
-    let mut facts = one(alloc, first)?;
+    let mut facts = Facts::with_capacity(alloc, reaction.changes.as_slice().len() + 1)?;
+    facts.push(first)?;
     tell(&mut facts, station, 0, number, reaction)?;
-    Ok(facts)
-}
-
-/// One fact.
-pub fn one(alloc: Global, fact: Fact) -> Result<Facts, AllocError>
-    ensures { IfOk result (λ facts. facts ≡ fact ∷ []) }
-{
-    let mut facts = Facts::new(alloc);
-    facts.push(fact)?;
     Ok(facts)
 }
 

@@ -13,7 +13,7 @@ use Rattle.lan_schedule.specs.Lines.{deed, unless_refused}
 use Rattle.lan_schedule.specs.Races.{Chance, behind_numbers}
 use Rattle.lan_schedule.specs.Reports.{Report}
 use Rattle.lan_schedule.specs.Ends.{Moment, Ends}
-use Rattle.lan_schedule.specs.inside.Choosing.{is_elsewhere}
+use Rattle.lan_schedule.specs.Places.{is_elsewhere}
 use Rattle.lan_schedule.specs.inside.Phased.{refusal_apart, act_apart}
 use Rattle.lan_schedule.specs.inside.Comes.{Comes}
 use Rattle.lan_schedule.specs.inside.Staged.{Did}

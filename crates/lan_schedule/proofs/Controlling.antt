@@ -15,7 +15,7 @@ use Rattle.lan_schedule.specs.World.{World, Flow}
 use Rattle.lan_schedule.specs.Acts.{Act, Stops, each, look, perform}
 use Rattle.lan_schedule.specs.Kinds.{is_control, wrong_frame}
 use Rattle.trace_text.specs.declared.line.Line.TheVariants as lines
-use Rattle.lan_schedule.specs.inside.Choosing.{is_elsewhere, is_race}
+use Rattle.lan_schedule.specs.Places.{is_elsewhere, is_race}
 use Rattle.lan_schedule.specs.Lines.{controlled, deed, unless_refused}
 use Rattle.lan_schedule.specs.Reports.{Report}
 use Rattle.lan_schedule.specs.Ends.{Moment, Ends}

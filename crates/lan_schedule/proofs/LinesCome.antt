@@ -68,7 +68,7 @@ pub not-false : (b : Bool) → not b ≡ false → b ≡ true
 not-false true e = refl
 not-false false e = absurd (cc e)
 
-and-true : (a b : Bool) → (a && b) ≡ true → (a ≡ true) × (b ≡ true)
+pub and-true : (a b : Bool) → (a && b) ≡ true → (a ≡ true) × (b ≡ true)
 and-true true b e = (refl, e)
 and-true false b e = absurd (cc e)
 
@@ -186,7 +186,7 @@ tidy-unbegun w v tidy empty same frames races draws =
       dealt = rw races tidy.dealt;
     }
 
-unbegun-by : (a b : Bool) → (not a && b) ≡ true → a ≡ false
+pub unbegun-by : (a b : Bool) → (not a && b) ≡ true → a ≡ false
 unbegun-by true b e = absurd (cc e)
 unbegun-by false b e = refl
 
@@ -235,7 +235,7 @@ other-sci sci other never e = let bad : true ≡ false = sym (same-octets sci)
     ∙ ap (λ (s : Sci). pointwise nat_eq sci s.0) (sym e) ∙ never in cc bad
 
 -- no station has a name or an SCI that is not taken
-new-station : (name sci : List ℕ) (ps : List Profile)
+pub new-station : (name sci : List ℕ) (ps : List Profile)
     → is_in name (map (λ (p : Profile). p.name) ps) ≡ false
     → is_in sci (map (λ (p : Profile). p.sci.0) ps) ≡ false
     → All (λ (p : Profile). (p.name ≢ name) × (p.sci ≢ (record { 0 = sci }))) ps

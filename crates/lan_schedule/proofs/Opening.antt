@@ -30,7 +30,7 @@ use Rattle.lan_schedule.specs.Sound.{IsTidy}
 use Rattle.lan_schedule.specs.Reports.{Report}
 use Rattle.lan_schedule.specs.Ends.{Moment, moment}
 use Rattle.lan_schedule.specs.Standing.{IsStaged, StandsFor, Does}
-use Rattle.lan_schedule.specs.inside.Choosing.{is_elsewhere, is_race, IsStation}
+use Rattle.lan_schedule.specs.Places.{is_elsewhere, is_race, IsStation}
 use Rattle.lan_schedule.specs.Stages.{StandsFor as StageStandsFor}
 use Rattle.lan_schedule.specs.inside.Staged.{Did, IsOpening}
 use Rattle.lan_schedule.proofs.LinesCome.{IsRight, deed-comes, tidy-same, tidy-unbegun}
@@ -119,7 +119,7 @@ pub station-is-later : (line : Line) → IsStation line → is_elsewhere line �
 station-is-later line station = station-later line station
 
 -- the first reason before any station
-unbegun-reason : (line : Line) (chosen : Choices)
+pub unbegun-reason : (line : Line) (chosen : Choices)
     → first_of (is_allowed line false chosen) (wrong_word line [] [] 0)
     ≡ first_of (is_allowed line false chosen) None
 unbegun-reason (lines.TickOne name ticks) chosen = refl

@@ -12,7 +12,7 @@ use Rattle.lan_schedule.specs.World.{World, place}
 use Rattle.lan_schedule.specs.Acts.{Act, look}
 use Rattle.lan_schedule.specs.Lines.{deed}
 use Rattle.lan_schedule.specs.Sound.{IsTidy}
-use Rattle.lan_schedule.specs.inside.Choosing.{is_elsewhere, is_race}
+use Rattle.lan_schedule.specs.Places.{is_elsewhere, is_race}
 use Rattle.lan_schedule.specs.Reports.{Report}
 use Rattle.lan_schedule.specs.Ends.{Moment}
 use Rattle.lan_schedule.specs.inside.Staged.{Did}

@@ -29,7 +29,7 @@ use Rattle.lan_schedule.specs.Reports.{Report}
 use Rattle.lan_schedule.specs.Ends.{Moment, IsReached, Ends}
 use Rattle.lan_schedule.specs.Standing.{phase_of, AreFit, IsBurst, IsControl, IsStaged, HasTally, StandsFor, Counts, Does}
 use Rattle.lan_schedule.specs.Stages.{Says, StandsFor as StageStandsFor}
-use Rattle.lan_schedule.specs.inside.Choosing.{is_race}
+use Rattle.lan_schedule.specs.Places.{is_race}
 use Rattle.lan_schedule.specs.inside.Phased.{is_inside, is_taken, is_end, behind, MayBeKept, Takes}
 use Rattle.lan_schedule.specs.inside.Phased.{act_apart, is_controlling}
 use Rattle.lan_schedule.specs.inside.Beside.{race_in}

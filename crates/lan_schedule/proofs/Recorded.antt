@@ -213,12 +213,22 @@ tables-same old new same s table at = subst (λ (ts : List TableId). slice_get t
 
 -- ---- what an event keeps
 
-pub kept-so : (event : Event) (before known after seen : Option ℕ) (old new : Option (List Step))
+kept-so : (event : Event) (before known after seen : Option ℕ) (old new : Option (List Step))
     → before ≡ known → after ≡ seen → KeepsStep event before after old new
     → KeepsStep event known seen old new
 kept-so event before known after seen old new first then_ keeps =
     subst (λ (o : Option ℕ). KeepsStep event known o old new) then_
     (subst (λ (o : Option ℕ). KeepsStep event o after old new) first keeps)
+
+-- an event that is not kept needs no epoch
+pub kept-when : {S : Type 0} (items : S → List Step) (event : Event) (before known after seen : Option ℕ)
+    (steps : Option S) (new : Option (List Step))
+    → (is_some steps ≡ true → before ≡ known) → (is_some steps ≡ true → after ≡ seen)
+    → KeepsStep event before after (option_map items steps) new
+    → KeepsStep event known seen (option_map items steps) new
+kept-when items event before known after seen None new first then_ keeps = keeps
+kept-when items event before known after seen (Some own) new first then_ keeps =
+    kept-so event before known after seen (Some (items own)) new (first refl) (then_ refl) keeps
 
 -- ---- the words of a station that starts
 

@@ -12,11 +12,11 @@ use Rattle.lan_schedule.specs.declared.halt.Kind.TheVariants as kinds
 use Rattle.lan_schedule.specs.declared.stage.Stage.{Stage}
 use Rattle.lan_schedule.specs.World.{World, names_of, scis_of, Flow}
 use Rattle.lan_schedule.specs.Kinds.{first_of, is_allowed, wrong_word}
-use Rattle.lan_schedule.specs.inside.Choosing.{is_elsewhere}
+use Rattle.lan_schedule.specs.Places.{is_elsewhere}
 use Rattle.lan_schedule.specs.inside.Phased.{refusal_apart}
 use Rattle.lan_schedule.specs.Stages.{StandsFor}
 
-allowed-then : (line : Line) (chosen : Choices) → is_some chosen.group ≡ true
+pub allowed-then : (line : Line) (chosen : Choices) → is_some chosen.group ≡ true
     → is_allowed line true chosen ≡ not (is_elsewhere line)
 allowed-then lines.DrawsCount chosen keyed = refl
 allowed-then (lines.DrawsChaCha key) chosen keyed = refl
@@ -34,7 +34,7 @@ allowed-then lines.While chosen keyed = refl
 allowed-then lines.End chosen keyed = refl
 allowed-then _ chosen keyed = refl
 
-map-map-scis : (ps : List Profile)
+pub map-map-scis : (ps : List Profile)
     → map (λ (s : Sci). s.0) (map (λ (p : Profile). p.sci) ps) ≡ map (λ (p : Profile). p.sci.0) ps
 map-map-scis ps = map-map (λ (s : Sci). s.0) (λ (p : Profile). p.sci) ps
 

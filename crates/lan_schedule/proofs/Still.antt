@@ -17,7 +17,7 @@ use Rattle.lan_schedule.specs.Acts.{Course, Goes, Stops, perform, shown, and_the
 use Rattle.lan_schedule.specs.Acts.{each, span, unless}
 use Rattle.lan_schedule.specs.Lines.{tick, round, pass, spread, is_passed_by, due, deed}
 use Rattle.lan_schedule.specs.Lines.{flow_round, send, unless_refused}
-use Rattle.lan_schedule.specs.inside.Choosing.{is_race}
+use Rattle.lan_schedule.specs.Places.{is_race}
 use Rattle.lan_schedule.specs.inside.Phased.{act_apart, refusal_apart}
 
 -- no part of an act says where the lines stand or which races were run, and none is a race

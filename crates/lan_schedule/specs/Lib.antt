@@ -17,6 +17,7 @@ pub mod Numbers
 pub mod Answers
 pub mod Acts
 pub mod Kinds
+pub mod Places
 pub mod Lines
 pub mod Sound
 pub mod Reports

@@ -1,7 +1,7 @@
 //! Frames next to each other reach a station: of those that are protected ones a batch is checked
 //! side by side, and then they are admitted one after the other.
 
-ghost use Rattle.std.specs.Prelude.{◌≡◌, ◌≤◌, ◌↔◌, List, [], IfOk, OnOk, IfSome, IsTrue, length};
+ghost use Rattle.std.specs.Prelude.{◌≡◌, ◌≤◌, ◌↔◌, List, [], IfOk, OnOk, IfSome, IsTrue, length, map};
 ghost use Rattle.std.specs.Prelude.{All};
 ghost use Rattle.lan_base.specs.Ranges.{most_frames, most_frame_octets};
 ghost use Rattle.lan_base.specs.declared.frame.UserFrame.{UserFrame};
@@ -21,18 +21,18 @@ ghost use Rattle.lan_schedule.specs.inside.Staged.{Did, DidWhere};
 use crate::halt::Halt;
 use crate::recorder::Recorder;
 use crate::stage::Stage;
-use lan_base::{FRAME_MAX, Octets, law_ranges};
+use lan_base::{FRAME_MAX, law_ranges};
 use lan_core::law_what_was_checked_stays_checked;
 use packet_claims::Gate;
 use rx_slots::Checked;
-use rx_workers::check_batch;
+use rx_workers::{check_batch, is_worth_threads};
 use std::alloc::{AllocError, Global};
 use std::collections::VecDeque;
 use std::marker::Model;
 use std::thread::Threads;
 
 /// How many frames a batch has at most.
-const MOST: u32 = 1_024;
+const MOST: u32 = 4_096;
 
 /// What a station answered to frames that did not reach it yet, the next one first. Contracts see
 /// the list.
@@ -85,7 +85,8 @@ impl Ahead {
 }
 
 impl Stage {
-    /// The frames from one number to another reach a station, in their order, checked in batches.
+    /// The frames from one number to another reach a station, in their order, checked in batches where
+    /// threads are worth it.
     pub fn feed_in_batches<T: Threads + Sync, K, R: Recorder<K>, G: Gate>(
         &mut self,
         rt: &T,
@@ -101,6 +102,9 @@ impl Stage {
         ensures { Did R.Took R.Broke (feed first last station)
             (moment self.old outlet.old) (moment self.new outlet.new) result }
     {
+        if !is_worth_threads(rt, last + 1 - first) {
+            return self.feed(first, last, station, recorder, outlet, gate);
+        }
         law_what_was_checked_stays_checked();
         let mut ahead = Ahead::new(self.alloc);
         for behind in 0..last + 1 - first {
@@ -177,18 +181,18 @@ impl Stage {
     }
 
     /// The octets of the protected frames from one number on, before another kind of frame comes.
-    fn batch(&self, first: u32, last: u32) -> Result<Vec<Octets>, AllocError>
+    fn batch(&self, first: u32, last: u32) -> Result<Vec<&[u8]>, AllocError>
         requires order { first ≤ last }
         requires few { last ≤ most_frames }
         ensures short { IfOk result
-            (λ frames. All (λ frame. length frame ≤ most_frame_octets) frames.items) }
+            (λ frames. All (λ frame. length frame.now ≤ most_frame_octets) frames.items) }
         ensures frames { (settings : Settings) (users : List UserFrame) (r : Run)
             → GroupStandsFor settings users self.now.lan r
-            → IfOk result (λ frames. AreData r first frames.items) }
+            → IfOk result (λ frames. AreData r first (map (λ frame. frame.now) frames.items)) }
     {
         let mut frames = Vec::new(self.alloc);
         for behind in 0..MOST.min(last + 1 - first) {
-            let Some(octets) = self.protected(first + behind)? else {
+            let Some(octets) = self.protected(first + behind) else {
                 return Ok(frames);
             };
             frames.push(octets)?;
@@ -197,21 +201,18 @@ impl Stage {
     }
 
     /// The octets of the frame of a number, if that is a protected one.
-    fn protected(&self, number: u32) -> Result<Option<Octets>, AllocError>
-        ensures short { IfOk result
-            (λ found. IfSome found (λ octets. length octets ≤ most_frame_octets)) }
+    fn protected(&self, number: u32) -> Option<&[u8]>
+        ensures short { IfSome result (λ octets. length octets.now ≤ most_frame_octets) }
         ensures frames { (settings : Settings) (users : List UserFrame) (r : Run)
             → GroupStandsFor settings users self.now.lan r
-            → IfOk result (λ found. IfSome found (IsData r number)) }
+            → IfSome result (λ octets. IsData r number octets.now) }
     {
         law_ranges();
-        let Some(octets) = self.lan.frame(number) else {
-            return Ok(None);
-        };
+        let octets = self.lan.frame(number)?;
         if !is_sec(octets) || octets.len() > FRAME_MAX {
-            return Ok(None);
+            return None;
         }
-        Ok(Some(Octets::from_slice(self.alloc, octets)?))
+        Some(octets)
     }
 }
 

@@ -17,7 +17,7 @@ ghost use Rattle.lan_schedule.specs.Lines.{listed_after, performed};
 ghost use Rattle.lan_schedule.specs.Ends.{moment};
 ghost use Rattle.lan_schedule.specs.Standing.{StandsFor, Counts, Does, Closes, phase_of};
 ghost use Rattle.lan_schedule.specs.inside.Beside.{race_in};
-ghost use Rattle.lan_schedule.specs.inside.Choosing.{IsStation};
+ghost use Rattle.lan_schedule.specs.Places.{IsStation};
 ghost use Rattle.lan_schedule.specs.inside.Phased.{is_controlling};
 
 use crate::choices::{Choices, Keyed, Rule};
@@ -325,7 +325,7 @@ impl Replay {
 }
 
 /// A line before the first station chooses something for the group.
-fn choose(alloc: Global, chosen: &mut Choices, line: &Line) -> Result<(), AllocError>
+pub fn choose(alloc: Global, chosen: &mut Choices, line: &Line) -> Result<(), AllocError>
     requires { IsInForm line.now }
     ensures { OnOk result (chosen.new ≡ chosen_by line.now chosen.old) }
 {
@@ -364,7 +364,7 @@ fn list(alloc: Global, chosen: &mut Choices, values: &Blocks) -> Result<(), Allo
 }
 
 /// A key of 16 octets, or of 32.
-fn secret_of(octets: &[u8]) -> Secret
+pub fn secret_of(octets: &[u8]) -> Secret
     requires { (length octets.now ≡ 16) ⊎ (length octets.now ≡ 32) }
     ensures { result ≡ secret_of octets.now }
 {
@@ -380,7 +380,7 @@ fn secret_of(octets: &[u8]) -> Secret
 }
 
 /// Why a line before the first station is refused.
-fn refusal(chosen: &Choices, line: &Line) -> Option<Kind>
+pub fn refusal(chosen: &Choices, line: &Line) -> Option<Kind>
     ensures { result
         ≡ first_of (is_allowed line.now false chosen.now) None }
 {
@@ -411,7 +411,7 @@ fn is_allowed(chosen: &Choices, line: &Line) -> bool
 }
 
 /// A fault of a line's text as a kind.
-fn kind_of_fault(fault: TextFault) -> Kind
+pub fn kind_of_fault(fault: TextFault) -> Kind
     ensures { result ≡ kind_of_fault fault }
 {
     match fault {

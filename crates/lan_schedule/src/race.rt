@@ -455,8 +455,9 @@ impl Stage {
         if is_stop(came) {
             return Ok((shown, came));
         }
-        self.lan.settle(&frames)?;
-        let emitted = self.emit_all(frames.len(), &mut Keeping, &mut shown, gate);
+        let count = frames.len();
+        self.lan.settle(frames)?;
+        let emitted = self.emit_all(count, &mut Keeping, &mut shown, gate);
         if is_memory(emitted) {
             return Err(AllocError);
         }

@@ -7,7 +7,7 @@ ghost use Rattle.lan_schedule.specs.World.{World, is_in};
 ghost use Rattle.lan_schedule.specs.Kinds.{or_else, where_, unknown, no_frame, is_number};
 ghost use Rattle.lan_schedule.specs.Kinds.{wrong_word, wrong_name, wrong_frame};
 ghost use Rattle.lan_schedule.specs.declared.halt.Kind.TheVariants as kinds;
-ghost use Rattle.lan_schedule.specs.inside.Choosing.{is_elsewhere};
+ghost use Rattle.lan_schedule.specs.Places.{is_elsewhere};
 ghost use Rattle.lan_schedule.specs.inside.Phased.{refusal_apart};
 ghost use Rattle.lan_schedule.specs.Stages.{StandsFor};
 
@@ -146,7 +146,7 @@ impl Stage {
 }
 
 /// Whether a line may only stand before the first station, or inside a race.
-fn is_elsewhere(line: &Line) -> bool
+pub fn is_elsewhere(line: &Line) -> bool
     ensures { result ≡ is_elsewhere line.now }
 {
     matches!(

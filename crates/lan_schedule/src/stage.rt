@@ -16,7 +16,7 @@ ghost use Rattle.lan_schedule.specs.World.{World, mark};
 ghost use Rattle.lan_schedule.specs.declared.halt.Halt.{Halt};
 ghost use Rattle.lan_schedule.specs.Sound.{IsTidy};
 ghost use Rattle.lan_schedule.specs.Acts.{happen, seq, look, unless};
-ghost use Rattle.lan_schedule.specs.inside.Choosing.{is_elsewhere, is_race};
+ghost use Rattle.lan_schedule.specs.Places.{is_elsewhere, is_race};
 ghost use Rattle.lan_schedule.specs.inside.Phased.{act_apart};
 ghost use Rattle.lan_schedule.specs.Lines.{send, add_user, begin, cut_in, mended_in, deed};
 ghost use Rattle.lan_schedule.specs.Answers.{halt_of};
@@ -162,7 +162,7 @@ impl Stage {
     }
 
     /// An event happened to the group: the rest follows it, and what it showed is counted and told.
-    /// The epoch is that of before.
+    /// The epoch is that of before, in the midst of a race.
     fn go_on<K, R: Recorder<K>, G: Gate>(
         &mut self,
         event: &Event,
@@ -192,12 +192,16 @@ impl Stage {
         Ok(())
     }
 
-    /// The epoch of the key that transmits at the station of an event.
+    /// The epoch of the key that transmits at the station of an event, which only a race asks for.
     fn epoch(&self, event: &Event) -> Option<u32>
-        ensures { (settings : Settings) (users : List UserFrame) (r : Run)
+        ensures { is_some self.now.steps ≡ true
+            → (settings : Settings) (users : List UserFrame) (r : Run)
             → GroupStandsFor settings users self.now.lan r
             → result ≡ epoch_of settings r event.now }
     {
+        if self.steps.is_none() {
+            return None;
+        }
         let (_, epoch) = self.lan.transmitting(station_of(event)?)?;
         Some(epoch)
     }
@@ -504,7 +508,7 @@ impl Stage {
 }
 
 /// The place of a name; where there is none, the count of names.
-fn position(names: &[Name], name: &Name) -> usize
+pub fn position(names: &[Name], name: &Name) -> usize
     ensures { result ≡ position_or_len (pointwise nat_eq name.now) names.now }
 {
     for (place, other) in names.iter().enumerate() {
@@ -603,7 +607,7 @@ pub fn count_all(tally: &mut Tally, facts: &[Fact])
 }
 
 /// Why a trace ends where its group stops, at the line of this number.
-fn halt_of(stop: Stop, line: u32) -> Halt
+pub fn halt_of(stop: Stop, line: u32) -> Halt
     ensures { result ≡ halt_of line stop }
 {
     match stop {

@@ -67,21 +67,22 @@ fn claim_shown(
 ) -> Result<Facts, AllocError>
     ensures { IfOk result (λ facts. facts ≡ claim_shown station pn frames.now) }
 {
-    let mut facts = Facts::new(alloc);
     if pn == 0 {
-        facts.push(Fact::Unclaimed {
-            station,
-            why: Lack::NoKey,
-        })?;
-    } else if let Some(frame) = frames.first() {
-        facts.push(Fact::Claimed {
-            station: frame.station,
-            an: frame.an,
-            epoch: frame.epoch,
-            pn: frame.pn,
-        })?;
+        let why = Lack::NoKey;
+        return Facts::one(alloc, Fact::Unclaimed { station, why });
     }
-    Ok(facts)
+    match frames.first() {
+        Some(frame) => Facts::one(
+            alloc,
+            Fact::Claimed {
+                station: frame.station,
+                an: frame.an,
+                epoch: frame.epoch,
+                pn: frame.pn,
+            },
+        ),
+        None => Ok(Facts::new(alloc)),
+    }
 }
 
 /// The frames that are left behind an event.

@@ -1,42 +1,34 @@
 -- A hearing, put together.
-use Rattle.std.proofs.Common.{◌≡◌, ◌∙◌, ℕ, ◌+◌, ◌<◌, Bool, true, false, cond, ◌||◌, nat_lt, List, [], ◌∷◌, ◌++◌, map, slice_get, Option, Some, None, is_some, option_map, refl, ap, sym, subst, arith}
-use Rattle.std.specs.Prelude.{Result, Ok, Err, IfSome}
+use Rattle.std.proofs.Common.{◌≡◌, ◌∙◌, ℕ, ◌+◌, Bool, false, cond, ◌||◌, List, [], ◌∷◌, ◌++◌, map, Option, Some, None, is_some, option_map, refl, ap, sym, subst, arith}
+use Rattle.std.specs.Prelude.{Result, Ok, Err}
 use Rattle.std.specs.List.{filter, list_any}
 use Rattle.lan_base.specs.declared.address.Mi.{Mi}
 use Rattle.lan_base.specs.Identifiers.{same_mi}
-use Rattle.aes_block.specs.declared.secret.Secret.{Secret}
 use Rattle.mkpdu_codec.specs.declared.announcement.Announcement.{Announcement}
 use Rattle.peer_lists.specs.declared.heard.Outcome.{Outcome}
-use Rattle.peer_lists.specs.declared.heard.Row.{Row}
 use Rattle.peer_lists.specs.Histories.{Peering, clock}
-use Rattle.peer_lists.specs.Peers.{row_at}
 use Rattle.peer_lists.specs.Table.{StandsFor as PeersStandFor}
-use Rattle.server_election.specs.Election.{elected as elected_among}
 use Rattle.sak_exchange.specs.declared.change.Change.{Change}
 use Rattle.sak_exchange.specs.declared.change.Change.TheVariants.{Dropped}
 use Rattle.sak_exchange.specs.declared.change.Why.{Why}
 use Rattle.sak_exchange.specs.declared.offer.Offer.{Offer}
 use Rattle.sak_exchange.specs.declared.held_key.Key.{Key}
-use Rattle.sak_exchange.specs.Histories.{Keying, install_count, installs, installed}
-use Rattle.sak_exchange.specs.Held.{received, held, ends, allows}
-use Rattle.sak_exchange.specs.Making.{next_epoch}
+use Rattle.sak_exchange.specs.Histories.{Keying, install_count, installed}
+use Rattle.sak_exchange.specs.Held.{received, held, ends}
 use Rattle.sak_exchange.specs.Beginning.{Beginning}
 use Rattle.sak_exchange.specs.Outcomes.{beginning, judging}
 use Rattle.sak_exchange.specs.Standing.{StandsFor as KeysStandFor, ticks_since}
-use Rattle.sak_exchange.specs.Taking.{taken, an_of, offset_of, number_of, is_supported, greatest_of, provided, provided_new, unwrapped_key, offered_key}
+use Rattle.sak_exchange.specs.Taking.{taken}
 use Rattle.sak_exchange.specs.Unwrapping.{given_sak}
-use Rattle.sak_exchange.proofs.Public.{by_test, by_option}
-use Rattle.mka_station.specs.declared.reaction.Reaction.{Reaction}
-use Rattle.mka_station.specs.Lives.{Member, Entry, heard, own, candidate, peers_of, keys_of, last_spoken}
-use Rattle.mka_station.specs.Views.{View, view, is_server}
+use Rattle.sak_exchange.proofs.Public.{by_test}
+use Rattle.mka_station.specs.Lives.{Member, Entry, heard, own, peers_of, keys_of, last_spoken}
+use Rattle.mka_station.specs.Views.{View, view}
 use Rattle.mka_station.specs.Announcing.{same_option, shown}
 use Rattle.mka_station.specs.Tick.{new_server}
 use Rattle.mka_station.specs.Hearing.{hear_turn, outcome_of, offer_at, answer_at, taken_past, follow_at, heard_past, key_taken, take_changes, verdict_of}
-use Rattle.mka_station.specs.Standing.{State, Comes, StandsFor, spoken_at}
-use Rattle.mka_station.specs.inside.Rows.{live_rows, candidate_in, IsShown}
+use Rattle.mka_station.specs.Standing.{State, StandsFor, spoken_at}
 use Rattle.mka_station.specs.inside.Turns.{is_install, offered_by, answered, keys_with, followed_by}
-use Rattle.mka_station.proofs.RowsShown.{rows-show}
-use Rattle.mka_station.proofs.Pasts.{peers-heard, peers-begun, peers-installed, keys-heard, keys-begun, keys-taken, spoken-begun, spoken-installed, view-peers, view-keys, view-server, view-elected, view-same, elected-same}
+use Rattle.mka_station.proofs.Pasts.{peers-heard, peers-begun, peers-installed, keys-heard, keys-begun, keys-taken, spoken-begun, spoken-installed, view-peers, view-keys, view-server, view-same, elected-same}
 
 pub hear-past : (m : Member) (a : Announcement) (p : List Entry) → heard_past m a p ≡ (hear_turn m a p).past
 unfolding hear_turn
@@ -57,13 +49,6 @@ heard-keys : (m : Member) (a : Announcement) (p : List Entry) → (view m (heard
 heard-keys m a p = view-keys m (heard a ∷ p) ∙ keys-heard m a p
 
 -- ---- what is elected, offered, taken and followed
-
--- the server by the rows then
-pub heard-server : (m : Member) (a : Announcement) (p : List Entry) (rows : List Row) (h : List Peering) (server : Option Mi) → h ≡ peers_of m (heard a ∷ p) → ((at : ℕ) → slice_get rows at ≡ row_at (own m) h at)
-    → server ≡ elected_among (candidate m) (map candidate_in (live_rows rows)) → server ≡ (view m (heard a ∷ p)).server
-heard-server m a p rows h server same each is =
-    let shows : IsShown m (view m (heard a ∷ p)) rows = rows-show m (heard a ∷ p) h rows (sym same) each in
-    is ∙ ap (elected_among (candidate m)) shows.live_candidates ∙ sym (view-elected m (heard a ∷ p))
 
 pub offer-is : (m : Member) (a : Announcement) (p : List Entry) (h : List Peering) (server : Option Mi) (o : Outcome) → h ≡ peers_of m (heard a ∷ p) → server ≡ (view m (heard a ∷ p)).server → o ≡ outcome_of m p a
     → offered_by o h m.mi server a ≡ offer_at m a p
@@ -159,9 +144,8 @@ pub stands-heard : (m : Member) (s t : State) (a : Announcement) (p : List Entry
     → PeersStandFor (own m) t.peers (peers_of m (heard a ∷ p))
     → KeysStandFor m.base m.mi false t.keys (keys_of m (heard_past m a p))
     → t.server ≡ server → t.spoken ≡ s.spoken
-    → Comes m (heard_past m a p) t.coming
     → StandsFor m t (hear_turn m a p).past
-stands-heard m s t a p server stands server_is setup mi epochs peers keys elects spoken coming =
+stands-heard m s t a p server stands server_is setup mi epochs peers keys elects spoken =
     let q = taken_past m a p in
     let r = heard_past m a p in
     let key = key_taken (answer_at m a p) in
@@ -175,6 +159,5 @@ stands-heard m s t a p server stands server_is setup mi epochs peers keys elects
       keys = keys;
       server = elects ∙ server_is ∙ view-server m (heard a ∷ p) ∙ sym (elected-same m (heard a ∷ p) r (heard-peers m a p));
       spoken = spoken ∙ stands.spoken ∙ spoken-kept m p r (last_spoken p) (heard-clock m a p) ∙ ap (option_map (spoken_at m r)) (sym (heard-spoken m a p));
-      coming = coming;
     } in
     subst (λ (x : List Entry). StandsFor m t x) (hear-past m a p) whole

@@ -21,7 +21,7 @@ use Rattle.mka_station.specs.Standing.{State, StandsFor, HasRoom}
 use Rattle.mka_station.specs.Tick.{ticked_past, says_at}
 use Rattle.mka_station.specs.Hearing.{heard_past}
 use Rattle.mka_station.proofs.Pasts.{elected-same, elected-said, peers-ticked}
-use Rattle.mka_station.proofs.Ticks.{turn-past, past-peers, begun-count}
+use Rattle.mka_station.proofs.Ticks.{turn-past, past-peers}
 use Rattle.mka_station.proofs.Hears.{hear-past, heard-peers}
 
 pub elected-ticked : (m : Member) (seen : Seen) (any : Secret) (p : List Entry) → elected m (tick_turn m seen any p).past ≡ elected m (ticked ∷ p)
@@ -60,8 +60,6 @@ tx-none sending lowest = refl
 
 pub has-room : (m : Member) (s : State) (p : List Entry) → StandsFor m s p → (m.base + install_count (keys_of m p)) + 1 < 4294967296 → last_sent (peers_of m p) + 1 < 4294967296 → HasRoom s
 has-room m s p stands few sent =
-    let count = begun-count m p in
-    let coming = stands.coming.keys.epochs in
     let keys = stands.keys.epochs in
     let last = stands.peers.last in
-    record { installs = omega (arith, stands.epochs); keys = omega arith; coming = omega arith; sent = omega arith }
+    record { installs = omega (arith, stands.epochs); keys = omega arith; sent = omega arith }

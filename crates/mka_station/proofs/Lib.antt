@@ -8,7 +8,9 @@ mod Uses
 mod Pasts
 mod Comings
 mod Says
+mod Members
 mod Makes
+mod Drawn
 mod Ticks
 mod Tells
 mod Judges

@@ -24,9 +24,10 @@ use Rattle.mka_station.specs.declared.saying.Lowest.{Lowest}
 use Rattle.mka_station.specs.declared.shown.Spoken.{Spoken}
 use Rattle.mka_station.specs.Lives.{Member, Entry, peers_of, last_spoken}
 use Rattle.mka_station.specs.Views.{View, view, speakers, reports, is_server, serves}
-use Rattle.mka_station.specs.Announcing.{Shown, shown, same_shown, is_due_since, announces, use_of, uses_of, gives, given, given_as, announcement, says_now}
+use Rattle.mka_station.specs.Announcing.{shown, same_shown, is_due_since, announces, use_of, uses_of, gives, given, given_as, announcement, says_now}
 use Rattle.mka_station.specs.Standing.{State, spoken_at}
 use Rattle.mka_station.specs.inside.Rows.{IsShown}
+use Rattle.mka_station.specs.inside.Found.{Found}
 use Rattle.mka_station.specs.inside.Due.{shown_by, one_later, is_due_after}
 use Rattle.mka_station.specs.inside.Saying.{lowest_by, is_given_to, given_after, announced_by}
 use Rattle.mka_station.specs.inside.Turns.{said_by}
@@ -102,12 +103,12 @@ given-is m v (Some k) = ap (λ (b : Bool). cond b (Some (given_as m.setup.kek k 
 -- ---- the announcement
 
 -- what the code has is what the view has
-pub record Sees (m : Member) (s : State) (v : View) (mn : ℕ) (h : List Keying) : Type 0 where
+pub record Sees (m : Member) (s : State) (c : Found) (v : View) (mn : ℕ) (h : List Keying) : Type 0 where
   pub setup : s.setup ≡ m.setup
   pub mi : s.mi ≡ m.mi
-  pub shows : IsShown m v s.coming.rows
-  pub told : s.coming.reports ≡ reports v.live
-  pub server : s.coming.server ≡ v.server
+  pub shows : IsShown m v c.rows
+  pub told : c.reports ≡ reports v.live
+  pub server : c.server ≡ v.server
   pub number : mn ≡ last_sent v.peers + 1
   pub keys : h ≡ v.keys
 
@@ -118,29 +119,29 @@ use-lowest sending f g same (Some k) = rw (same k) refl
 uses-lowest : (h : List Keying) (f g : Key → ℕ) → ((k : Key) → f k ≡ g k) → uses_of f h ≡ uses_of g h
 uses-lowest h f g same = rw (use-lowest (transmitting h) f g same (latest h), use-lowest (transmitting h) f g same (old h)) refl
 
-given-seen : (m : Member) (s : State) (v : View) (mn : ℕ) (h : List Keying) → Sees m s v mn h
-    → given_after s.setup.kek (is_server s.coming.server s.mi) s.coming.reports h ≡ given m v
-given-seen m s v mn h e =
+given-seen : (m : Member) (s : State) (c : Found) (v : View) (mn : ℕ) (h : List Keying) → Sees m s c v mn h
+    → given_after s.setup.kek (is_server c.server s.mi) c.reports h ≡ given m v
+given-seen m s c v mn h e =
     rw (e.setup, e.mi, e.told, e.server, e.keys) (given-is m v (latest v.keys))
 
-pub announced-is : (m : Member) (s : State) (v : View) (mn : ℕ) (h : List Keying) (l : Lowest) (lowest : Key → ℕ) → ((k : Key) → lowest_by l k ≡ lowest k) → Sees m s v mn h
-    → announced_by s mn (uses_of (lowest_by l) h) (given_after s.setup.kek (is_server s.coming.server s.mi) s.coming.reports h) ≡ announcement m lowest v
-announced-is m s v mn h l lowest same e =
+pub announced-is : (m : Member) (s : State) (c : Found) (v : View) (mn : ℕ) (h : List Keying) (l : Lowest) (lowest : Key → ℕ) → ((k : Key) → lowest_by l k ≡ lowest k) → Sees m s c v mn h
+    → announced_by s c mn (uses_of (lowest_by l) h) (given_after s.setup.kek (is_server c.server s.mi) c.reports h) ≡ announcement m lowest v
+announced-is m s c v mn h l lowest same e =
     let u : uses_of (lowest_by l) h ≡ uses_of lowest v.keys = uses-lowest h (lowest_by l) lowest same ∙ ap (uses_of lowest) e.keys in
-    let g = given-seen m s v mn h e in
-    ap (λ (x : Option Uses). announced_by s mn x (given_after s.setup.kek (is_server s.coming.server s.mi) s.coming.reports h)) u
-    ∙ ap (announced_by s mn (uses_of lowest v.keys)) g
+    let g = given-seen m s c v mn h e in
+    ap (λ (x : Option Uses). announced_by s c mn x (given_after s.setup.kek (is_server c.server s.mi) c.reports h)) u
+    ∙ ap (announced_by s c mn (uses_of lowest v.keys)) g
     ∙ rw (e.setup, e.mi, e.server, e.number, e.shows.live_peers, e.shows.potential_peers) refl
 
 -- what a station says
-pub said-is : (m : Member) (p q : List Entry) (s : State) (shows : Shown) (mn : ℕ) (l : Lowest) (h : List Keying) (lowest : Key → ℕ) → ((k : Key) → lowest_by l k ≡ lowest k)
-    → Sees m s (view m q) mn h → shows ≡ shown (view m q) → s.spoken ≡ option_map (spoken_at m p) (last_spoken p) → last_spoken q ≡ last_spoken p → peers_of m q ≡ peers_ticked ∷ peers_of m p
-    → said_by s shows mn l h ≡ says_now m lowest q (view m q)
-said-is m p q s shows mn l h lowest same e is kept spoke peers =
+pub said-is : (m : Member) (p q : List Entry) (s : State) (c : Found) (mn : ℕ) (l : Lowest) (h : List Keying) (lowest : Key → ℕ) → ((k : Key) → lowest_by l k ≡ lowest k)
+    → Sees m s c (view m q) mn h → shown_by c.rows c.server h ≡ shown (view m q) → s.spoken ≡ option_map (spoken_at m p) (last_spoken p) → last_spoken q ≡ last_spoken p → peers_of m q ≡ peers_ticked ∷ peers_of m p
+    → said_by s c mn l h ≡ says_now m lowest q (view m q)
+said-is m p q s c mn l h lowest same e is kept spoke peers =
     let v = view m q in
     let now : clock v.peers ≡ clock (peers_of m p) + 1 = ap clock (view-peers m q ∙ peers) in
-    let due : is_due_after s.spoken shows ≡ announces m v q =
-    ap (λ (k : Option Spoken). is_due_after k shows) kept ∙ ap (is_due_after (option_map (spoken_at m p) (last_spoken p))) is
+    let due : is_due_after s.spoken (shown_by c.rows c.server h) ≡ announces m v q =
+    ap (λ (k : Option Spoken). is_due_after k (shown_by c.rows c.server h)) kept ∙ ap (is_due_after (option_map (spoken_at m p) (last_spoken p))) is
     ∙ due-is m p v (last_spoken p) (spoken-before m p) now ∙ ap (is_due_since m v) (sym spoke) in
-    ap (λ (b : Bool). cond b (Some (announced_by s mn (uses_of (lowest_by l) h) (given_after s.setup.kek (is_server s.coming.server s.mi) s.coming.reports h))) None) due
-    ∙ ap (λ (a : Announcement). cond (announces m v q) (Some a) None) (announced-is m s v mn h l lowest same e)
+    ap (λ (b : Bool). cond b (Some (announced_by s c mn (uses_of (lowest_by l) h) (given_after s.setup.kek (is_server c.server s.mi) c.reports h))) None) due
+    ∙ ap (λ (a : Announcement). cond (announces m v q) (Some a) None) (announced-is m s c v mn h l lowest same e)

@@ -12,7 +12,7 @@ use Rattle.sak_exchange.specs.Standing.{StandsFor as KeysStandFor}
 use Rattle.mka_station.specs.Lives.{Setup, Member, Entry, own, peers_of, keys_of, elected}
 use Rattle.mka_station.specs.Views.{view}
 use Rattle.mka_station.specs.Restart.{ending, lost_server}
-use Rattle.mka_station.specs.Standing.{State, Comes, StandsFor, drawn_mi, born}
+use Rattle.mka_station.specs.Standing.{State, StandsFor, drawn_mi, born}
 use Rattle.mka_station.proofs.Pasts.{keys-none, peers-none, view-keys, view-server}
 
 none-elected : (m : Member) → None ≡ elected m []
@@ -22,9 +22,8 @@ none-elected m = refl
 pub stands-born : (setup : Setup) (epochs : ℕ) (draw : List ℕ) (s : State) → s.setup ≡ setup → s.mi ≡ drawn_mi draw → s.epochs ≡ epochs
     → PeersStandFor (record { mi = drawn_mi draw; sci = setup.sci }) s.peers [] → KeysStandFor epochs (drawn_mi draw) false s.keys []
     → s.server ≡ None → s.spoken ≡ None
-    → (PeersStandFor (own (born setup epochs draw)) s.peers (peers_of (born setup epochs draw) []) → KeysStandFor epochs (drawn_mi draw) false s.keys (keys_of (born setup epochs draw) []) → Comes (born setup epochs draw) [] s.coming)
     → StandsFor (born setup epochs draw) s []
-stands-born setup epochs draw s setup_is mi_is epochs_is peers keys server spoken coming =
+stands-born setup epochs draw s setup_is mi_is epochs_is peers keys server spoken =
     let m = born setup epochs draw in
     let p = subst (λ (h : List Peering). PeersStandFor (own m) s.peers h) (sym (peers-none m)) peers in
     let k = subst (λ (h : List Keying). KeysStandFor epochs (drawn_mi draw) false s.keys h) (sym (keys-none m)) keys in
@@ -37,7 +36,6 @@ stands-born setup epochs draw s setup_is mi_is epochs_is peers keys server spoke
       keys = k;
       server = server ∙ none-elected m;
       spoken = spoken;
-      coming = coming p k;
     }
 
 ends-is : (m : Member) (p : List Entry) → record { heard = None; server = lost_server (view m p).server; changes = (dropping (view m p).keys).changes; sent = None } ≡ ending m p

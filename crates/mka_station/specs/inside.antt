@@ -1,4 +1,5 @@
 pub mod Rows
+pub mod Found
 pub mod Due
 pub mod Saying
 pub mod Turns

@@ -1,33 +1,25 @@
-//! What stands behind an event, before the station takes it over.
+//! What an event comes to, before the station takes it over.
 
-use crate::coming::Coming;
 use crate::reaction::Reaction;
 use crate::shown::Shown;
 use lan_base::Mi;
-use peer_lists::PeerTable;
 use sak_exchange::KeyState;
 
-/// Peer lists, keys and server behind an event, and what is prepared for the next tick.
-#[derive(Drop)]
-pub struct Next {
-    pub peers: PeerTable,
-    pub keys: KeyState,
-    pub server: Option<Mi>,
-    pub coming: Coming,
-}
-
-/// What a tick comes to.
+/// What a tick comes to: the keys and the server behind it, and what is shown where an announcement
+/// is sent.
 #[derive(Drop)]
 pub struct Ticked {
-    pub next: Next,
-    pub shown: Shown,
+    pub keys: KeyState,
+    pub server: Option<Mi>,
+    pub shown: Option<Shown>,
     pub reaction: Reaction,
 }
 
-/// What a hearing comes to.
+/// What a hearing comes to: the keys and the server behind it, and whether a key was installed.
 #[derive(Drop)]
 pub struct Hearing {
-    pub next: Next,
+    pub keys: KeyState,
+    pub server: Option<Mi>,
     pub installs: bool,
     pub reaction: Reaction,
 }

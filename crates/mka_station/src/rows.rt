@@ -1,79 +1,53 @@
 //! What a station makes of the rows of its peer lists.
 
-ghost use Rattle.std.specs.Prelude.{◌≡◌, ◌≤◌, ◌∷◌, ℕ, List, length, map, slice_get, IfOk};
+ghost use Rattle.std.specs.Prelude.{◌≡◌, ◌≤◌, List, length, map, vec_capacity, IfOk};
 ghost use Rattle.std.specs.List.{list_any};
+ghost use lib.Pointwise.{pointwise};
+ghost use Rattle.lan_base.specs.Identifiers.{same_mi};
 ghost use Rattle.mka_station.specs.Views.{is_server};
-ghost use Rattle.peer_lists.specs.Acceptance.{Own, most_peers};
-ghost use Rattle.peer_lists.specs.Histories.{Peering, ticked};
-ghost use Rattle.peer_lists.specs.Peers.{row_at};
-ghost use Rattle.peer_lists.specs.Table.{StandsFor};
 ghost use Rattle.server_election.specs.Election.{elected};
 ghost use Rattle.mka_station.specs.inside.Rows.{live_rows, potential_rows, report_of, candidate_in, peer_in};
 
 use lan_base::Mi;
 use mkpdu_codec::{Peer, Peers};
-use peer_lists::{PEERS, PeerTable, Row};
+use peer_lists::Row;
 use sak_exchange::Report;
 use server_election::{Candidate, elect};
 use std::alloc::{AllocError, Global};
 
-/// The rows as they stand.
-pub fn rows_now(alloc: Global, peers: &PeerTable) -> Result<Vec<Row>, AllocError>
-    ensures { IfOk result (λ rows. (own : Own) (h : List Peering) → StandsFor own peers.now h →
-        (at : ℕ) → slice_get rows.items at ≡ row_at own h at) }
+/// What the live members say of their keys, in place of what the vector has. There is room for it.
+pub fn note_reports(reports: &mut Vec<Report>, rows: &[Row])
+    requires { length rows.now ≤ vec_capacity reports.old }
+    ensures reports { reports.new.items ≡ map report_of (live_rows rows.now) }
+    ensures capacity { vec_capacity reports.new ≡ vec_capacity reports.old }
 {
-    let mut rows = Vec::with_capacity(alloc, PEERS)?;
-    for at in 0..peers.len() {
-        if let Some(row) = peers.row(at) {
-            rows.push(row)?;
-        }
-    }
-    Ok(rows)
-}
-
-/// The rows as they will be after the next tick.
-pub fn rows_after_tick(alloc: Global, peers: &PeerTable) -> Result<Vec<Row>, AllocError>
-    ensures rows { IfOk result (λ rows. (own : Own) (h : List Peering) → StandsFor own peers.now h →
-        (at : ℕ) → slice_get rows.items at ≡ row_at own (ticked ∷ h) at) }
-    ensures few { IfOk result (λ rows. length rows.items ≤ most_peers) }
-{
-    let mut rows = Vec::with_capacity(alloc, PEERS)?;
-    peers.rows_after_tick(&mut rows);
-    rows.truncate(PEERS);
-    Ok(rows)
-}
-
-/// What the live members say of their keys.
-pub fn live_reports(alloc: Global, rows: &[Row]) -> Result<Vec<Report>, AllocError>
-    ensures { IfOk result (λ reports. reports.items ≡ map report_of (live_rows rows.now)) }
-{
-    let mut reports = Vec::with_capacity(alloc, rows.len())?;
+    reports.clear();
     for row in rows {
         if row.live {
-            reports.push(Report {
+            reports.push_reserved(Report {
                 mi: row.mi,
                 uses: row.uses,
-            })?;
+            });
         }
     }
-    Ok(reports)
 }
 
-/// The live members as candidates.
-pub fn live_candidates(alloc: Global, rows: &[Row]) -> Result<Vec<Candidate>, AllocError>
-    ensures { IfOk result (λ candidates. candidates.items ≡ map candidate_in (live_rows rows.now)) }
+/// The live members as candidates, in place of what the vector has. There is room for them.
+fn note_candidates(candidates: &mut Vec<Candidate>, rows: &[Row])
+    requires { length rows.now ≤ vec_capacity candidates.old }
+    ensures candidates { candidates.new.items ≡ map candidate_in (live_rows rows.now) }
+    ensures capacity { vec_capacity candidates.new ≡ vec_capacity candidates.old }
 {
-    let mut candidates = Vec::with_capacity(alloc, rows.len())?;
+    candidates.clear();
     for row in rows {
         if row.live {
-            candidates.push(Candidate {
+            candidates.push_reserved(Candidate {
                 mi: row.mi,
                 sci: row.sci,
                 priority: row.priority,
-            })?;
+            });
         }
     }
-    Ok(candidates)
 }
 
 /// The live members.
@@ -143,13 +117,46 @@ pub fn potential_peers(alloc: Global, rows: &[Row]) -> Result<Peers, AllocError>
     Ok(peers)
 }
 
-/// The server that a station elects among itself and the live members.
-pub fn elected(alloc: Global, own: &Candidate, rows: &[Row]) -> Result<Option<Mi>, AllocError>
-    ensures { IfOk result (λ server. server
-        ≡ elected own.now (map candidate_in (live_rows rows.now))) }
+/// The server that a station elects among itself and the live members. There is room for these.
+pub fn elected(candidates: &mut Vec<Candidate>, own: &Candidate, rows: &[Row]) -> Option<Mi>
+    requires { length rows.now ≤ vec_capacity candidates.old }
+    ensures server { result ≡ elected own.now (map candidate_in (live_rows rows.now)) }
+    ensures capacity { vec_capacity candidates.new ≡ vec_capacity candidates.old }
 {
-    let candidates = live_candidates(alloc, rows)?;
-    Ok(elect(own, &candidates))
+    note_candidates(candidates, rows);
+    elect(own, candidates)
+}
+
+/// Whether these are the live members.
+pub fn are_live(members: &[Mi], rows: &[Row]) -> bool
+    ensures { result ≡ pointwise same_mi (map (λ r. r.mi) (live_rows rows.now)) members.now }
+{
+    let mut at = 0;
+    for row in rows {
+        if row.live {
+            if at >= members.len() || row.mi != members[at] {
+                return false;
+            }
+            at += 1;
+        }
+    }
+    at == members.len()
+}
+
+/// Whether these are the potential members.
+pub fn are_potential(members: &[Mi], rows: &[Row]) -> bool
+    ensures { result ≡ pointwise same_mi (map (λ r. r.mi) (potential_rows rows.now)) members.now }
+{
+    let mut at = 0;
+    for row in rows {
+        if row.potential {
+            if at >= members.len() || row.mi != members[at] {
+                return false;
+            }
+            at += 1;
+        }
+    }
+    at == members.len()
 }
 
 /// Whether a member is the server.

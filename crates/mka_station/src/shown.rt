@@ -1,15 +1,15 @@
 //! What a change of calls for an announcement.
 
-ghost use Rattle.std.specs.Prelude.{◌≡◌, ℕ, List, true, false, map, option_map, ◌||◌, IfOk};
+ghost use Rattle.std.specs.Prelude.{◌≡◌, ◌&&◌, ℕ, List, true, false, map, option_map, ◌||◌, IfOk};
 ghost use Rattle.lan_base.specs.declared.address.Mi.{Mi};
 ghost use Rattle.lan_base.specs.Identifiers.{same_mi};
 ghost use Rattle.sak_exchange.specs.Histories.{Keying};
 ghost use Rattle.sak_exchange.specs.Held.{latest, old, transmitting};
 ghost use Rattle.sak_exchange.specs.Standing.{StandsFor};
 ghost use Rattle.mka_station.specs.Announcing.{Shown, id_of, same_option, same_key, same_shown};
-ghost use Rattle.mka_station.specs.inside.Due.{shown_by, same_members, same_keys, is_due_now};
+ghost use Rattle.mka_station.specs.inside.Due.{shown_by, same_keys, is_due_now};
 
-use crate::rows::{live_members, potential_members};
+use crate::rows::{are_live, are_potential, live_members, potential_members};
 use lan_base::{HELLO_TIME, KeyId, Mi};
 use peer_lists::Row;
 use sak_exchange::{HeldKey, Key, KeyState};
@@ -64,29 +64,42 @@ impl Shown {
         })
     }
 
-    /// Whether both show the same.
-    pub fn is_same(&self, other: &Shown) -> bool
-        ensures { result ≡ same_shown self.now other.now }
+    /// Whether rows, a server and keys show this.
+    fn is_of(&self, rows: &[Row], server: Option<Mi>, keys: &KeyState) -> bool
+        ensures { (base : ℕ) (own : Mi) (h : List Keying) → StandsFor base own false keys.now h →
+            result ≡ same_shown (shown_by rows.now server h) self.now }
     {
-        self.has_same_members(other) && self.has_same_keys(other)
+        are_live(&self.live, rows)
+            && are_potential(&self.potential, rows)
+            && is_same_server(server, self.server)
+            && self.is_of_keys(keys)
     }
 
-    /// Whether the lists of members and the server are the same.
-    fn has_same_members(&self, other: &Shown) -> bool
-        ensures { result ≡ same_members self.now other.now }
+    /// Whether these keys are shown.
+    fn is_of_keys(&self, keys: &KeyState) -> bool
+        ensures { (base : ℕ) (own : Mi) (h : List Keying) → StandsFor base own false keys.now h →
+            result ≡ same_keys h self.now }
     {
-        self.live.as_slice() == other.live.as_slice()
-            && self.potential.as_slice() == other.potential.as_slice()
-            && is_same_server(self.server, other.server)
+        let latest = id_of(key_of(keys.latest()));
+        let old = id_of(key_of(keys.old()));
+        let transmitting = id_of(key_of(keys.transmitting()));
+        self.is_of_ids(latest, old, transmitting)
     }
 
-    /// Whether the keys are the same.
-    fn has_same_keys(&self, other: &Shown) -> bool
-        ensures { result ≡ same_keys self.now other.now }
+    /// Whether the keys of these identifiers are shown.
+    fn is_of_ids(
+        &self,
+        latest: Option<KeyId>,
+        old: Option<KeyId>,
+        transmitting: Option<KeyId>,
+    ) -> bool
+        ensures { result ≡ (same_option same_key latest self.now.latest
+            && (same_option same_key old self.now.old
+            && same_option same_key transmitting self.now.transmitting)) }
     {
-        is_same_key(self.latest, other.latest)
-            && is_same_key(self.old, other.old)
-            && is_same_key(self.transmitting, other.transmitting)
+        is_same_key(latest, self.latest)
+            && is_same_key(old, self.old)
+            && is_same_key(transmitting, self.transmitting)
     }
 }
 
@@ -100,10 +113,11 @@ pub struct Spoken {
 
 impl Spoken {
     /// Whether a station that shows this a tick later announces itself.
-    pub fn is_due(&self, shown: &Shown) -> bool
-        ensures { result ≡ is_due_now self.now shown.now }
+    pub fn is_due(&self, rows: &[Row], server: Option<Mi>, keys: &KeyState) -> bool
+        ensures { (base : ℕ) (own : Mi) (h : List Keying) → StandsFor base own false keys.now h →
+            result ≡ is_due_now self.now (shown_by rows.now server h) }
     {
-        self.since.saturating_add(1) >= HELLO_TIME || !shown.is_same(&self.shown)
+        self.since.saturating_add(1) >= HELLO_TIME || !self.shown.is_of(rows, server, keys)
     }
 }
 

@@ -1,13 +1,12 @@
 //! One station in one of its lives.
 
-ghost use Rattle.std.specs.Prelude.{◌≡◌, ◌+◌, ◌↔◌, [], List, false, Some, None, IsTrue, IfOk, min, option_map, cond};
+ghost use Rattle.std.specs.Prelude.{◌≡◌, ◌+◌, ◌↔◌, [], List, Some, None, IsTrue, IfOk, min, option_map, cond};
 ghost use Rattle.lan_base.specs.Identifiers.{same_mi};
-ghost use Rattle.peer_lists.specs.Table.{StandsFor as PeersStandFor};
 ghost use Rattle.sak_exchange.specs.Held.{held, latest as latest_after, old as old_after, transmitting as transmitting_after};
-ghost use Rattle.sak_exchange.specs.Standing.{StandsFor as KeysStandFor, most_ticks};
-ghost use Rattle.mka_station.specs.Lives.{Member, Entry, own, peers_of, keys_of};
+ghost use Rattle.sak_exchange.specs.Standing.{most_ticks};
+ghost use Rattle.mka_station.specs.Lives.{Member, Entry, keys_of};
 ghost use Rattle.mka_station.specs.Announcing.{same_option};
-ghost use Rattle.mka_station.specs.Standing.{StandsFor, Comes, HasRoom, drawn_mi, born};
+ghost use Rattle.mka_station.specs.Standing.{StandsFor, HasRoom, drawn_mi, born};
 
 mod announcing;
 mod hearing;
@@ -16,11 +15,10 @@ mod ticking;
 
 use crate::coming::Coming;
 use crate::config::Config;
-use crate::next::Next;
 use crate::shown::{Spoken, is_same_server};
 use aes_block::Key;
 use lan_base::{Mi, Sci};
-use peer_lists::{PeerTable, Row};
+use peer_lists::PeerTable;
 use sak_exchange::{HeldKey, KeyState};
 use std::alloc::{AllocError, Global};
 use std::marker::Model;
@@ -39,6 +37,9 @@ pub struct Station {
     server: Option<Mi>,
     /// What was shown at its last announcement.
     spoken: Option<Spoken>,
+    /// Room for the peer lists as they are behind a hearing.
+    spare: PeerTable,
+    /// Room for what an event finds in the peer lists.
     coming: Coming,
 }
 
@@ -55,7 +56,6 @@ impl Model for Station {
       keys = s.keys;
       server = s.server;
       spoken = s.spoken;
-      coming = s.coming;
     } };
 }
 
@@ -73,7 +73,8 @@ impl Station {
         let mi = mi_of(draw);
         let peers = PeerTable::new(alloc, mi, config.sci)?;
         let keys = KeyState::new(alloc, mi, epochs)?;
-        let coming = Coming::of(alloc, &config, mi, &peers, &keys)?;
+        let spare = PeerTable::new(alloc, mi, config.sci)?;
+        let coming = Coming::new(alloc)?;
         Ok(Station {
             alloc,
             config,
@@ -83,6 +84,7 @@ impl Station {
             keys,
             server: None,
             spoken: None,
+            spare,
             coming,
         })
     }
@@ -92,13 +94,6 @@ impl Station {
         ensures { result.now ≡ self.now.setup.kek }
     {
         &self.config.group.kek
-    }
-
-    /// The keys at the next tick, before one is made.
-    fn coming_keys(&self) -> &KeyState
-        ensures { result.now ≡ self.now.coming.keys }
-    {
-        &self.coming.keys
     }
 
     /// The keys.
@@ -146,32 +141,20 @@ impl Station {
         self.keys().transmitting()
     }
 
-    /// The station goes on with what stands behind an event, in which a key was installed or none.
-    fn settle(&mut self, next: Next, installs: bool)
+    /// The station goes on with these keys and this server behind an event, in which a key was
+    /// installed or none.
+    fn settle(&mut self, keys: KeyState, server: Option<Mi>, installs: bool)
         ensures { self.new ≡ record self.old {
-          peers = next.peers;
-          keys = next.keys;
-          server = next.server;
-          coming = next.coming;
+          keys = keys;
+          server = server;
           epochs = cond installs (min (self.old.epochs + 1) most_ticks) self.old.epochs;
         } }
     {
         if installs {
             self.epochs = self.epochs.saturating_add(1);
         }
-        self.peers = next.peers;
-        self.keys = next.keys;
-        self.server = next.server;
-        self.coming = next.coming;
-    }
-
-    /// What is prepared for the tick after peer lists and keys of a life stand so.
-    fn prepare(&self, mi: Mi, peers: &PeerTable, keys: &KeyState) -> Result<Coming, AllocError>
-        ensures { (m : Member) (p : List Entry) → m.setup ≡ self.now.setup → m.mi ≡ mi →
-            PeersStandFor (own m) peers.now (peers_of m p) →
-            KeysStandFor m.base m.mi false keys.now (keys_of m p) → IfOk result (Comes m p) }
-    {
-        Coming::of(self.alloc, &self.config, mi, peers, keys)
+        self.keys = keys;
+        self.server = server;
     }
 
     /// The SCI.
@@ -195,27 +178,13 @@ impl Station {
         self.server
     }
 
-    /// The server that is elected at the next tick.
-    fn next_server(&self) -> Option<Mi>
-        ensures { result ≡ self.now.coming.server }
-    {
-        self.coming.server
-    }
-
-    /// The rows of the peer lists at the next tick.
-    fn rows(&self) -> &[Row]
-        ensures { result.now ≡ self.now.coming.rows }
-    {
-        &self.coming.rows
-    }
-
     /// Whether one more install and one more announcement can be counted, which a tick and a
     /// hearing ask for.
     pub fn has_room(&self) -> bool
         ensures { IsTrue result ↔ HasRoom self.now }
     {
         let few = self.epochs() < u32::MAX && self.peers().last_sent() < u32::MAX;
-        few && self.keys().epochs() < u32::MAX && self.coming_keys().epochs() < u32::MAX
+        few && self.keys().epochs() < u32::MAX
     }
 
     /// The member identifier of the life.

@@ -1,6 +1,6 @@
 //! What an announcement tells a member.
 
-ghost use Rattle.std.specs.Prelude.{◌≡◌, ◌++◌, ◌&&◌, List, unwrap_or, IfOk, OnOk};
+ghost use Rattle.std.specs.Prelude.{◌≡◌, ◌&&◌, List, Some, None, unwrap_or, if◌then◌else◌};
 ghost use Rattle.std.specs.Option.{option_or};
 ghost use Rattle.peer_lists.specs.Acceptance.{first_number};
 ghost use Rattle.std.specs.List.{find, list_any};
@@ -14,54 +14,34 @@ ghost use Rattle.mka_station.specs.Lives.{told};
 use lan_base::Mi;
 use mkpdu_codec::{Announcement, Peer};
 use peer_lists::{Heard, PeerTable};
-use std::alloc::{AllocError, Global};
+
+/// The message numbers under which a member is named: the first one, and the first one that was
+/// sent less than the life time ago.
+#[derive(Clone, Copy, Debug)]
+struct Naming {
+    first: Option<u32>,
+    recent: Option<u32>,
+}
 
 /// What an announcement tells a member that has these peer lists.
-pub fn told(
-    alloc: Global,
-    mi: &Mi,
-    peers: &PeerTable,
-    announcement: &Announcement,
-) -> Result<Heard, AllocError>
+pub fn told(mi: &Mi, peers: &PeerTable, announcement: &Announcement) -> Heard
     ensures { (own : Own) (h : List Peering) → StandsFor own peers.now h →
-        IfOk result (λ heard. heard ≡ told mi.now (recent h) announcement.now) }
+        result ≡ told mi.now (recent h) announcement.now }
 {
-    let numbers = numbers_naming(alloc, mi, announcement)?;
-    let first = first_of(&numbers);
-    Ok(Heard {
+    let none = Naming {
+        first: None,
+        recent: None,
+    };
+    let live = named(none, mi, peers, announcement.live.as_slice());
+    let naming = named(live, mi, peers, announcement.potential.as_slice());
+    Heard {
         mi: announcement.mi,
         sci: announcement.sci,
         priority: announcement.priority,
         mn: announcement.mn,
-        lists: first.is_some(),
-        listed: listed_under(first_recent(peers, &numbers), first),
+        lists: naming.first.is_some(),
+        listed: listed_under(naming.recent, naming.first),
         uses: announcement.uses,
-    })
-}
-
-/// The message numbers under which an announcement names a member.
-fn numbers_naming(
-    alloc: Global,
-    mi: &Mi,
-    announcement: &Announcement,
-) -> Result<Vec<u32>, AllocError>
-    ensures { IfOk result (λ numbers. numbers.items
-        ≡ numbers_of mi.now announcement.now.live ++ numbers_of mi.now announcement.now.potential) }
-{
-    let mut numbers = Vec::new(alloc);
-    note_numbers(&mut numbers, mi, announcement.live.as_slice())?;
-    note_numbers(&mut numbers, mi, announcement.potential.as_slice())?;
-    Ok(numbers)
-}
-
-/// The first of these numbers.
-fn first_of(numbers: &[u32]) -> Option<u32>
-    ensures { result ≡ first_number numbers.now }
-{
-    if numbers.is_empty() {
-        None
-    } else {
-        Some(numbers[0])
     }
 }
 
@@ -75,29 +55,35 @@ fn listed_under(recent: Option<u32>, first: Option<u32>) -> u32
     }
 }
 
-/// Appends the message numbers under which these pairs name a member.
-fn note_numbers(numbers: &mut Vec<u32>, mi: &Mi, pairs: &[Peer]) -> Result<(), AllocError>
-    ensures { OnOk result (numbers.new.items ≡ numbers.old.items ++ numbers_of mi.now pairs.now) }
+/// The same with the numbers under which these pairs name the member.
+fn named(before: Naming, mi: &Mi, peers: &PeerTable, pairs: &[Peer]) -> Naming
+    ensures first { result.first
+        ≡ option_or before.first (first_number (numbers_of mi.now pairs.now)) }
+    ensures recent { (own : Own) (h : List Peering) → StandsFor own peers.now h →
+        result.recent ≡ option_or before.recent (find (recent h) (numbers_of mi.now pairs.now)) }
 {
+    let mut naming = before;
     for pair in pairs {
         if pair.mi == *mi {
-            numbers.push(pair.mn)?;
+            naming = named_under(naming, pair.mn, peers);
         }
     }
-    Ok(())
+    naming
 }
 
-/// The first of these message numbers that was sent less than the life time ago.
-fn first_recent(peers: &PeerTable, numbers: &[u32]) -> Option<u32>
-    ensures { (own : Own) (h : List Peering) → StandsFor own peers.now h →
-        result ≡ find (recent h) numbers.now }
+/// The same with this number.
+fn named_under(before: Naming, mn: u32, peers: &PeerTable) -> Naming
+    ensures first { result.first ≡ option_or before.first (Some mn) }
+    ensures recent { (own : Own) (h : List Peering) → StandsFor own peers.now h →
+        result.recent ≡ option_or before.recent (if recent h mn then Some mn else None) }
 {
-    for number in numbers {
-        if peers.recent(*number) {
-            return Some(*number);
-        }
+    Naming {
+        first: before.first.or(Some(mn)),
+        recent: match before.recent {
+            None if peers.recent(mn) => Some(mn),
+            kept => kept,
+        },
     }
-    None
 }
 
 /// Whether one of these pairs names a member under a number that was sent less than the life time

@@ -79,10 +79,24 @@ pub fn shown_at(rows: &[Remembered], at: usize) -> Option<Row>
     }
 }
 
+/// What is shown of the rows, in place of what the vector has. There is room for it.
+pub fn show(rows: &[Remembered], into: &mut Vec<Row>)
+    requires { length rows.now ≤ vec_capacity into.old }
+    ensures rows { into.new.items ≡ map shown rows.now }
+    ensures few { length into.new.items ≤ length rows.now }
+    ensures capacity { vec_capacity into.new ≡ vec_capacity into.old }
+{
+    into.clear();
+    for row in rows {
+        into.push_reserved(row.row());
+    }
+}
+
 /// What is shown of the rows after a tick, in place of what the vector has. There is room for it.
 pub fn show_after_tick(rows: &[Remembered], into: &mut Vec<Row>)
     requires { length rows.now ≤ vec_capacity into.old }
     ensures rows { into.new.items ≡ map shown (aged_rows rows.now) }
+    ensures few { length into.new.items ≤ length rows.now }
     ensures capacity { vec_capacity into.new ≡ vec_capacity into.old }
 {
     into.clear();

@@ -12,7 +12,7 @@ ghost use Rattle.peer_lists.specs.inside.Countdowns.{is_number_recent};
 
 use crate::PEERS;
 use crate::heard::{Heard, Outcome, PeerRefusal, Row};
-use crate::places::{age, displace, place_of, remember, show_after_tick, shown_at};
+use crate::places::{age, displace, place_of, remember, show, show_after_tick, shown_at};
 use crate::remembered::Remembered;
 use crate::sent_numbers::SentNumbers;
 use lan_base::{Mi, Sci};
@@ -73,6 +73,17 @@ impl PeerTable {
             rows,
             sent: self.sent,
         })
+    }
+
+    /// The table comes to hold what another one holds, in the memory that it has.
+    pub fn copy_from(&mut self, other: &PeerTable)
+        ensures { self.new ≡ other.now }
+    {
+        self.mi = other.mi;
+        self.sci = other.sci;
+        self.sent = other.sent;
+        self.rows.clear();
+        let _ = self.rows.extend_from_slice(&other.rows);
     }
 
     /// A tick passes.
@@ -191,12 +202,25 @@ impl PeerTable {
         shown_at(self.rows.as_slice(), at)
     }
 
+    /// The rows as they stand, in the same order. They take the place of what the vector has, and
+    /// there is room for them, so no memory is taken.
+    pub fn rows_now(&self, into: &mut Vec<Row>)
+        requires { most_peers ≤ vec_capacity into.old }
+        ensures rows { (own : Own) (h : List Peering) → StandsFor own self.now h → (at : ℕ) →
+            slice_get into.new.items at ≡ row_at own h at }
+        ensures few { length into.new.items ≤ most_peers }
+        ensures capacity { vec_capacity into.new ≡ vec_capacity into.old }
+    {
+        show(self.rows.as_slice(), into);
+    }
+
     /// The rows as they will be after the next tick, in the same order. They take the place of what
     /// the vector has, and there is room for them, so no memory is taken.
     pub fn rows_after_tick(&self, into: &mut Vec<Row>)
         requires { most_peers ≤ vec_capacity into.old }
         ensures rows { (own : Own) (h : List Peering) → StandsFor own self.now h → (at : ℕ) →
             slice_get into.new.items at ≡ row_at own (ticked ∷ h) at }
+        ensures few { length into.new.items ≤ most_peers }
         ensures capacity { vec_capacity into.new ≡ vec_capacity into.old }
     {
         show_after_tick(self.rows.as_slice(), into);

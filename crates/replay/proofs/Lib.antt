@@ -1,5 +1,6 @@
 mod Written
 mod Telling
 mod Ending
+mod Playing
 mod Weaker
 pub mod Public

@@ -1,14 +1,11 @@
 -- What a sink holds after a recorder was told reports.
-use Rattle.std.proofs.Common.{◌≡◌, ℕ, ◌≤◌, List, [], ◌∷◌, ◌++◌, map, refl, sym, ap, ◌∙◌, subst}
+use Rattle.std.proofs.Common.{◌≡◌, ℕ, List, [], ◌∷◌, ◌++◌, map, sym, ap, ◌∙◌, subst}
 use Rattle.std.proofs.lemmas.List.{map-append}
-use Rattle.lan_base.specs.Faults.{Rose}
 use Rattle.lan_schedule.specs.declared.recorder.Broken.{Broken}
-use Rattle.lan_schedule.specs.declared.recorder.Broken.TheVariants.{Failed, Memory}
 use Rattle.lan_schedule.specs.Reports.{Report, AreTold}
-use Rattle.replay.specs.Sinks.{Sunk, Wrote, BrokeOff}
+use Rattle.replay.specs.Sinks.{Sunk, Wrote, Fails}
 use Rattle.replay.specs.Shown.{text_of}
-use Rattle.replay.specs.inside.Writing.{Fails}
-use Rattle.replay.proofs.Written.{wrote-more, wrote-counts, broke-later, broke-longer, rose-earlier}
+use Rattle.replay.proofs.Written.{wrote-more, fails-behind}
 
 -- a recorder shows reports as texts on what is seen of its outlet
 pub record Shows_on {K : Type 0} (Took : K → Report → K → Type 0)
@@ -32,25 +29,14 @@ module _ {K : Type 0} (see : K → Sunk) where
   texts-told a b (x ∷ later) told = wrote-more (text_of x ∷ []) (map text_of later) (see a)
       (see told.0) (see b) told.1 (texts-told told.0 b later told.2)
 
-  broke-in : (a b c : K) (xs : List Report) (x : Report) (behind : List Report)
-      → AreTold TookText a xs b → BrokeOff (text_of x ∷ []) (see b) (see c)
-      → BrokeOff (map text_of (xs ++ x ∷ behind)) (see a) (see c)
-  broke-in a b c xs x behind told f =
-      subst (λ (l : List (List ℕ)). BrokeOff l (see a) (see c))
-      (sym (map-append text_of xs (x ∷ behind)))
-      (broke-later (map text_of xs) (text_of x ∷ map text_of behind) (see a) (see b) (see c)
-      (texts-told a b xs told)
-      (broke-longer (text_of x ∷ []) (map text_of behind) (see b) (see c) f))
-
   texts-broken : (a b c : K) (xs : List Report) (x : Report) (behind : List Report) (why : Broken)
       → AreTold TookText a xs b → BrokeText b x c why
       → Fails (map text_of (xs ++ x ∷ behind)) (see a) (see c) why
-  texts-broken a b c xs x behind Failed told f = (
-    rose-earlier (see a).faults (see b).faults (see c).faults
-        (wrote-counts (map text_of xs) (see a) (see b) (texts-told a b xs told)) f.0,
-    broke-in a b c xs x behind told f.1,
-  )
-  texts-broken a b c xs x behind Memory told f = broke-in a b c xs x behind told f
+  texts-broken a b c xs x behind why told f =
+      subst (λ (l : List (List ℕ)). Fails l (see a) (see c) why)
+      (sym (map-append text_of xs (x ∷ behind)))
+      (fails-behind (map text_of xs) (text_of x) (map text_of behind) (see a) (see b) (see c) why
+      (texts-told a b xs told) f)
 
   pub transcript-shows : Shows_on TookText BrokeText see (λ xs. map text_of xs)
   transcript-shows = record { tells = texts-told; breaks = texts-broken }

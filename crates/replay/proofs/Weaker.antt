@@ -3,49 +3,46 @@ use Rattle.std.proofs.Common.{ℕ, List, take, inl, inr}
 use Rattle.std.specs.Prelude.{Result, Ok, Err}
 use Rattle.text_lines.specs.Texts.{whole_lines}
 use Rattle.text_lines.specs.Reading.{Sourced}
-use Rattle.lan_core.specs.Run.{Run}
 use Rattle.lan_schedule.specs.declared.halt.Halt.{Halt}
 use Rattle.lan_schedule.specs.declared.halt.Halt.TheVariants as halts
-use Rattle.lan_schedule.specs.World.{World}
-use Rattle.lan_schedule.specs.Acts.{Act}
-use Rattle.lan_schedule.specs.Lines.{performed_all}
 use Rattle.replay.specs.declared.cause.Cause.{Cause}
 use Rattle.replay.specs.declared.cause.Cause.TheVariants as causes
 use Rattle.replay.specs.Sinks.{Sunk, Wrote, BrokeOff, WroteSome}
-use Rattle.replay.specs.Shown.{Shows}
-use Rattle.replay.specs.Runs.{most_input, whole, within, WasPerformed, WasHalted, WasBroken, EndsBy, EndsRun}
+use Rattle.replay.specs.Runs.{most_input, Performing, Shows, within, WasPerformed, WasHalted}
+use Rattle.replay.specs.Runs.{WasBroken, EndsBy, EndsRun}
 
-module _ (IsSuch IsOther : World → Type 0) (weaker : (w : World) → IsSuch w → IsOther w) where
-  performed : (Did : List (List ℕ) → Type 0) (texts : Run → List (List ℕ)) (act : Act)
-      → WasPerformed IsSuch Did texts act → WasPerformed IsOther Did texts act
-  performed Did texts act h = (h.0, h.1, h.2, weaker h.1 h.3, h.4)
+module _ {Act World : Type 0} (p : Performing Act World) (IsSuch IsOther : World → Type 0)
+    (weaker : (w : World) → IsSuch w → IsOther w) where
+  performed : (Did : List (List ℕ) → Type 0) (texts : World → List (List ℕ)) (act : Act)
+      → WasPerformed p IsSuch Did texts act → WasPerformed p IsOther Did texts act
+  performed Did texts act h = (h.0, h.1, weaker h.0 h.2, h.3)
 
-  halted : (Did : List (List ℕ) → Type 0) (texts : Run → List (List ℕ)) (act : Act) (halt : Halt)
-      → WasHalted IsSuch Did texts act halt → WasHalted IsOther Did texts act halt
-  halted Did texts act halt h = (h.0, h.1, h.2, weaker h.1 h.3, h.4)
+  halted : (Did : List (List ℕ) → Type 0) (texts : World → List (List ℕ)) (act : Act) (halt : Halt)
+      → WasHalted p IsSuch Did texts act halt → WasHalted p IsOther Did texts act halt
+  halted Did texts act halt h = (h.0, h.1, weaker h.0 h.2, h.3)
 
-  broken : (Did : List (List ℕ) → Type 0) (shows : Shows) (text : List ℕ) (now : Sourced)
-      → WasBroken IsSuch Did shows text now → WasBroken IsOther Did shows text now
-  broken Did shows text now (inl h) = inl (h.0, h.1, h.2, weaker h.1 h.3, h.4)
-  broken Did shows text now (inr h) = inr (h.0, h.1, performed Did shows.at_end (whole text) h.2)
+  broken : (Did : List (List ℕ) → Type 0) (shows : Shows World) (text : List ℕ) (now : Sourced)
+      → WasBroken p IsSuch Did shows text now → WasBroken p IsOther Did shows text now
+  broken Did shows text now (inl h) = inl (h.0, h.1, weaker h.0 h.2, h.3)
+  broken Did shows text now (inr h) = inr (h.0, h.1, performed Did shows.at_end (p.whole text) h.2)
 
-  by-cause : (shows : Shows) (text : List ℕ) (left now : Sourced) (old new : Sunk)
-      (r : Result (Unit {0}) Cause) → EndsBy IsSuch shows text left now old new r
-      → EndsBy IsOther shows text left now old new r
+  by-cause : (shows : Shows World) (text : List ℕ) (left now : Sourced) (old new : Sunk)
+      (r : Result (Unit {0}) Cause) → EndsBy p IsSuch shows text left now old new r
+      → EndsBy p IsOther shows text left now old new r
   by-cause shows text left now old new (Ok done) h =
-      (h.0, h.1, performed (λ t. Wrote t old new) shows.at_end (whole text) h.2)
+      (h.0, h.1, performed (λ t. Wrote t old new) shows.at_end (p.whole text) h.2)
   by-cause shows text left now old new (Err (causes.Trace line kind)) h =
-      halted (λ t. Wrote t old new) shows.before (within text) (halts.Trace line kind) h
+      halted (λ t. Wrote t old new) shows.before (within p text) (halts.Trace line kind) h
   by-cause shows text left now old new (Err (causes.Limit which)) h =
-      halted (λ t. Wrote t old new) shows.before (within text) (halts.Limit which) h
+      halted (λ t. Wrote t old new) shows.before (within p text) (halts.Limit which) h
   by-cause shows text left now old new (Err (causes.RepeatedDraw first second)) h =
-      halted (λ t. Wrote t old new) shows.before (within text) (halts.RepeatedDraw first second) h
+      halted (λ t. Wrote t old new) shows.before (within p text) (halts.RepeatedDraw first second) h
   by-cause shows text left now old new (Err (causes.Forged line)) h =
-      halted (λ t. Wrote t old new) shows.before (within text) (halts.Forged line) h
+      halted (λ t. Wrote t old new) shows.before (within p text) (halts.Forged line) h
   by-cause shows text left now old new (Err causes.Input) h = (
     h.0,
     performed (λ t. Wrote t old new) shows.before
-        (performed_all (whole_lines (take most_input text))) h.1,
+        (p.lines (whole_lines (take most_input text))) h.1,
   )
   by-cause shows text left now old new (Err causes.ReadFault) h = (
     h.0,
@@ -53,7 +50,7 @@ module _ (IsSuch IsOther : World → Type 0) (weaker : (w : World) → IsSuch w 
       h.1.0,
       h.1.1,
       h.1.2,
-      performed (λ t. Wrote t old new) shows.before (performed_all (whole_lines h.1.0)) h.1.3,
+      performed (λ t. Wrote t old new) shows.before (p.lines (whole_lines h.1.0)) h.1.3,
     ),
   )
   by-cause shows text left now old new (Err causes.WriteFault) h =
@@ -61,8 +58,8 @@ module _ (IsSuch IsOther : World → Type 0) (weaker : (w : World) → IsSuch w 
   by-cause shows text left now old new (Err causes.Memory) h =
       broken (λ t. WroteSome t old new) shows text now h
 
-  pub runs-weaker : (shows : Shows) (text : List ℕ) (left now : Sourced) (old new : Sunk)
-      (r : Result (Unit {0}) Cause) → EndsRun IsSuch shows text left now old new r
-      → EndsRun IsOther shows text left now old new r
+  pub runs-weaker : (shows : Shows World) (text : List ℕ) (left now : Sourced) (old new : Sunk)
+      (r : Result (Unit {0}) Cause) → EndsRun p IsSuch shows text left now old new r
+      → EndsRun p IsOther shows text left now old new r
   runs-weaker shows text left now old new r h =
       record { taken = h.taken; ends = by-cause shows text left now old new r h.ends }

@@ -3,15 +3,14 @@ use Rattle.std.proofs.Common.{◌≡◌, ℕ, ◌≤◌, ◌<◌, List, [], ◌�
 use Rattle.std.proofs.Common.{refl, sym, ap, ◌∙◌, subst, append_assoc, arith, inl, inr}
 use Rattle.std.proofs.lemmas.List.{append-nil}
 use Rattle.std.proofs.lemmas.Grind.{flat_map-append}
-use Rattle.std.specs.Prelude.{Result, Ok, Err, MatchResult}
+use Rattle.std.specs.Prelude.{Result, Err, MatchResult}
 use Rattle.std.specs.Result.{IsErrAnd}
 use Rattle.std.proofs.lemmas.Result.{err_from_is_err_and}
 use Rattle.lan_base.specs.Faults.{Rose}
 use Rattle.lan_base.specs.Told.{after}
 use Rattle.lan_schedule.specs.declared.recorder.Broken.{Broken}
 use Rattle.lan_schedule.specs.declared.recorder.Broken.TheVariants.{Failed, Memory}
-use Rattle.replay.specs.Sinks.{Sunk, Wrote, BrokeOff, joined}
-use Rattle.replay.specs.inside.Writing.{Fails}
+use Rattle.replay.specs.Sinks.{Sunk, Wrote, BrokeOff, Fails, joined}
 
 pub after-none : (told : Option (List ℕ)) → told ≡ after told []
 after-none None = refl
@@ -121,6 +120,16 @@ pub fails-broke : (texts : List (List ℕ)) (old new : Sunk) (why : Broken) → 
     → BrokeOff texts old new
 fails-broke texts old new Failed f = f.1
 fails-broke texts old new Memory f = f
+
+-- texts were written up to one at which it failed, and those behind it were not
+pub fails-behind : (xs : List (List ℕ)) (text : List ℕ) (behind : List (List ℕ)) (a b c : Sunk)
+    (why : Broken) → Wrote xs a b → Fails (text ∷ []) b c why → Fails (xs ++ text ∷ behind) a c why
+fails-behind xs text behind a b c Failed wrote f = (
+  rose-earlier a.faults b.faults c.faults (wrote-counts xs a b wrote) f.0,
+  broke-later xs (text ∷ behind) a b c wrote (broke-longer (text ∷ []) behind b c f.1),
+)
+fails-behind xs text behind a b c Memory wrote f =
+    broke-later xs (text ∷ behind) a b c wrote (broke-longer (text ∷ []) behind b c f)
 
 -- a text of which nothing was written, for want of memory
 pub none-fails : (text : List ℕ) (now : Sunk) (r : Result (Unit {0}) Broken)

@@ -1,7 +1,8 @@
--- What a reader reads, in this order: what a sink holds after calls, what is shown to it of a run, and
--- how a run of a text ends.
+-- What a reader reads, in this order: what a sink holds after calls, what is shown to it of a run, how
+-- a run of a text ends, whoever performs it, and how a trace of one group is performed.
 pub mod Sinks
 pub mod Shown
 pub mod Causes
 pub mod Runs
+pub mod OneGroup
 pub mod inside

@@ -1,5 +1,5 @@
 -- What is written of a run (this profile's own rule).
-use Rattle.std.specs.Prelude.{ℕ, Bool, true, false, List, [], ◌∷◌, map}
+use Rattle.std.specs.Prelude.{ℕ, List, map}
 use Rattle.lan_core.specs.Run.{Run, facts_of}
 use Rattle.fact_tally.specs.Summary.{summary}
 use Rattle.transcript.specs.Rendering.{transcript}
@@ -21,13 +21,3 @@ written r = joined (texts_of r)
 -- the summary line of all facts of a run
 abbrev pub summary_of : Run → List ℕ
 summary_of r = summary (facts_of r)
-
--- which texts are written of a run, where all of a trace was performed, and where it was not
-pub record Shows : Type 0 where
-  pub at_end : Run → List (List ℕ)
-  pub before : Run → List (List ℕ)
-
--- the transcript; or the summary, and nothing before the end
-abbrev pub shown_by : Bool → Shows
-shown_by false = record { at_end = texts_of; before = texts_of }
-shown_by true = record { at_end = λ r. summary_of r ∷ []; before = λ r. [] }

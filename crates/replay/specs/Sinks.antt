@@ -1,7 +1,10 @@
--- What a sink holds after texts were written to it, each by one call.
+-- What a sink holds after texts were written to it, each by one call, and how that fails.
 use Rattle.std.specs.Prelude.{◌≡◌, ◌⊎◌, ℕ, ◌≤◌, ◌-◌, List, [], ◌∷◌, ◌++◌, length, take, Option}
 use Rattle.std.specs.List.{flat_map}
+use Rattle.lan_base.specs.Faults.{Rose}
 use Rattle.lan_base.specs.Told.{after}
+use Rattle.lan_schedule.specs.declared.recorder.Broken.{Broken}
+use Rattle.lan_schedule.specs.declared.recorder.Broken.TheVariants.{Failed, Memory}
 
 -- a sink at a moment: what it holds, and its count of faults
 pub record Sunk : Type 0 where
@@ -36,3 +39,8 @@ pub record BrokeOff (texts : List (List ℕ)) (old new : Sunk) : Type 0 where
 -- all of these texts were written, or they were up to a part of one
 abbrev pub WroteSome : List (List ℕ) → Sunk → Sunk → Type 0
 WroteSome texts old new = Wrote texts old new ⊎ BrokeOff texts old new
+
+-- these texts were not all written, for this reason
+abbrev pub Fails : List (List ℕ) → Sunk → Sunk → Broken → Type 0
+Fails texts old new Failed = Rose old.faults new.faults × BrokeOff texts old new
+Fails texts old new Memory = BrokeOff texts old new

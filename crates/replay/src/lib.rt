@@ -9,6 +9,7 @@ mod transcribing;
 mod unrecorded;
 mod writing;
 
-pub use cause::Cause;
+pub use cause::{Cause, cause_of};
 pub use gate::AnyGate;
-pub use replaying::replay;
+pub use replaying::{MAX_INPUT, replay};
+pub use writing::write;

@@ -2,13 +2,11 @@
 
 ghost use Rattle.std.specs.Prelude.{true, false};
 ghost use Rattle.text_lines.specs.Reading.{sourced};
-ghost use Rattle.replay.specs.Sinks.{sunk};
-ghost use Rattle.replay.specs.Shown.{shown_by};
+ghost use Rattle.replay.specs.Sinks.{Fails, Wrote, sunk};
+ghost use Rattle.replay.specs.OneGroup.{IsSettled, one_group, shown_by};
 ghost use Rattle.replay.specs.Runs.{IsReplayed};
 ghost use Rattle.fact_tally.specs.Summary.{line_of};
 ghost use Rattle.std.specs.Prelude.{[], ◌∷◌, MatchResult};
-ghost use Rattle.replay.specs.Sinks.{Wrote};
-ghost use Rattle.replay.specs.inside.Writing.{Fails};
 
 use crate::cause::{Cause, answered, cause_of, cause_of_halt};
 use crate::gate::AnyGate;
@@ -26,7 +24,7 @@ use std::thread::Threads;
 use text_lines::read_lines;
 
 /// The greatest count of octets of an input.
-const MAX_INPUT: usize = 4_194_304;
+pub const MAX_INPUT: usize = 4_194_304;
 
 /// Reads a trace from a source to its end, and performs each line as soon as it has ended. Without
 /// `summary` it writes what each event shows before the next one happens; with it, nothing before
@@ -42,7 +40,7 @@ pub fn replay<T: Threads + Sync, S: Source, K: Sink>(
     gate: &AnyGate,
     summary: bool,
 ) -> Result<(), Cause>
-    ensures { IsReplayed (shown_by summary)
+    ensures { IsReplayed one_group IsSettled (shown_by summary)
         (sourced (S.left source.old) (S.faults source.old))
         (sourced (S.left source.new) (S.faults source.new))
         (sunk (K.held sink.old) (K.faults sink.old))
@@ -63,7 +61,7 @@ fn transcribe<T: Threads + Sync, S: Source, K: Sink>(
     sink: &mut K,
     gate: &AnyGate,
 ) -> Result<(), Cause>
-    ensures { IsReplayed (shown_by false)
+    ensures { IsReplayed one_group IsSettled (shown_by false)
         (sourced (S.left source.old) (S.faults source.old))
         (sourced (S.left source.new) (S.faults source.new))
         (sunk (K.held sink.old) (K.faults sink.old))
@@ -94,7 +92,7 @@ fn summarize<T: Threads + Sync, S: Source, K: Sink>(
     sink: &mut K,
     gate: &AnyGate,
 ) -> Result<(), Cause>
-    ensures { IsReplayed (shown_by true)
+    ensures { IsReplayed one_group IsSettled (shown_by true)
         (sourced (S.left source.old) (S.faults source.old))
         (sourced (S.left source.new) (S.faults source.new))
         (sunk (K.held sink.old) (K.faults sink.old))

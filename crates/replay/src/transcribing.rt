@@ -29,9 +29,8 @@ impl Transcript {
 
 impl<K: Sink> Recorder<K> for Transcript {
     ghost use Rattle.std.specs.Prelude.{[], ◌∷◌};
-    ghost use Rattle.replay.specs.Sinks.{Wrote, sunk};
+    ghost use Rattle.replay.specs.Sinks.{Fails, Wrote, sunk};
     ghost use Rattle.replay.specs.Shown.{text_of};
-    ghost use Rattle.replay.specs.inside.Writing.{Fails};
 
     ghost Took = { λ old report new. Wrote (text_of report ∷ []) (sunk (K.held old) (K.faults old))
         (sunk (K.held new) (K.faults new)) };

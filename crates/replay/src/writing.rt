@@ -1,8 +1,7 @@
 //! A text is written to a sink.
 
 ghost use Rattle.std.specs.Prelude.{[], ◌∷◌, MatchResult};
-ghost use Rattle.replay.specs.Sinks.{Wrote, sunk};
-ghost use Rattle.replay.specs.inside.Writing.{Fails};
+ghost use Rattle.replay.specs.Sinks.{Fails, Wrote, sunk};
 
 use lan_base::{Sink, Unwritten, write_all};
 use lan_schedule::Broken;

@@ -12,17 +12,17 @@ use Rattle.text_lines.specs.Reading.{Sourced, sourced}
 use Rattle.lan_schedule.specs.declared.halt.Halt.{Halt}
 use Rattle.lan_schedule.specs.declared.halt.Halt.TheVariants as halts
 use Rattle.lan_schedule.specs.Races.{Chance}
-use Rattle.lan_schedule.specs.World.{World, beginning, is_racing}
-use Rattle.lan_schedule.specs.Acts.{Goes, course}
+use Rattle.lan_schedule.specs.World.{World as LanWorld, beginning, is_racing}
+use Rattle.lan_schedule.specs.Acts.{Course, Goes, course}
 use Rattle.lan_schedule.specs.Lines.{performed_all}
 use Rattle.lan_schedule.specs.Sound.{IsTidy}
 use Rattle.lan_schedule.specs.Ends.{reported}
 use Rattle.replay.specs.declared.cause.Cause.{Cause}
 use Rattle.replay.specs.declared.cause.Cause.TheVariants as causes
-use Rattle.replay.specs.Sinks.{Sunk, Wrote, BrokeOff}
-use Rattle.replay.specs.Shown.{Shows, shown_by}
+use Rattle.replay.specs.Sinks.{Sunk, BrokeOff}
 use Rattle.replay.specs.Causes.{cause_of_halt}
-use Rattle.replay.specs.Runs.{most_input, whole, within, WasHalted, IsTaken, EndsRun, IsSettled}
+use Rattle.replay.specs.Runs.{most_input, Performing, Shows, within, EndsRun}
+use Rattle.replay.specs.OneGroup.{one_group, shown_by, whole, IsSettled}
 use Rattle.replay.proofs.Public.{runs-weaker, broke-one}
 use Rattle.rollover_program.specs.declared.status.Status.{Status}
 use Rattle.rollover_program.specs.declared.status.Status.TheVariants.{Done, Usage, Halted, CheckInput, Refuted, Transcript, CaptureInput, Unrecorded, Capture}
@@ -30,8 +30,8 @@ use Rattle.rollover_program.specs.declared.words.Order.{Order}
 use Rattle.rollover_program.specs.declared.words.Order.TheVariants.{Make, Try}
 use Rattle.rollover_program.specs.Words.{Orders}
 use Rattle.rollover_program.specs.Headline.{IsPromised}
-use Rattle.rollover_program.specs.commands.Run.{Answers, EndsAsRun, EndsWithin, status_after}
-use Rattle.rollover_program.specs.commands.Run.{status_within}
+use Rattle.rollover_program.specs.commands.Run.{Answers, EndsAsRun, EndsWithin, halt_in}
+use Rattle.rollover_program.specs.commands.Run.{status_after, status_within}
 use Rattle.rollover_program.specs.commands.Make.{EndsMade}
 use Rattle.rollover_program.specs.commands.Try.{EndsTried}
 use Rattle.rollover_program.specs.inside.Answering.{CarriesOut, status_of}
@@ -55,17 +55,26 @@ answers : (Ends : Answer → Type 0) (r : Answer) → Ends r → Answers Ends (s
 answers Ends (Ok tt) e = e
 answers Ends (Err cause) e = e
 
+-- a run of which more is known ended as its answer says
+pub ran_as : {Act World : Type 0} (p : Performing Act World) (IsSuch IsOther : World → Type 0)
+    → ((w : World) → IsSuch w → IsOther w) → (shows : Shows World) (text : List ℕ)
+    (left now : Sourced) (old new : Sunk) (r : Answer)
+    → EndsRun p IsSuch shows text left now old new r
+    → Answers (λ r. EndsRun p IsOther shows text left now old new r) (status_of r)
+ran_as p IsSuch IsOther weaker shows text left now old new r h =
+    answers (λ r. EndsRun p IsOther shows text left now old new r) r
+    (runs-weaker p IsSuch IsOther weaker shows text left now old new r h)
+
 -- all is promised of each tidy world outside a race
 abbrev pub Promise : Type 0
-Promise = (w : World) → IsTidy w → is_racing w.kept.phase ≡ false → IsPromised w
+Promise = (w : LanWorld) → IsTidy w → is_racing w.kept.phase ≡ false → IsPromised w
 
 pub ran : Promise → (summary : Bool) (text : List ℕ) (left now : Sourced) (old new : Sunk) (r : Answer)
-    → EndsRun IsSettled (shown_by summary) text left now old new r
+    → EndsRun one_group IsSettled (shown_by summary) text left now old new r
     → EndsAsRun summary text left now old new (status_of r)
 ran promise summary text left now old new r h =
-    answers (λ r. EndsRun IsPromised (shown_by summary) text left now old new r) r
-    (runs-weaker IsSettled IsPromised (λ w settled. promise w settled.tidy settled.apart)
-    (shown_by summary) text left now old new r h)
+    ran_as one_group IsSettled IsPromised (λ w settled. promise w settled.tidy settled.apart)
+    (shown_by summary) text left now old new r h
 
 -- ---- nothing was done, for want of memory
 
@@ -77,44 +86,37 @@ held_nothing : (held : Option (List ℕ)) → held ≡ after held []
 held_nothing None = refl
 held_nothing (Some octets) = ap (λ (o : List ℕ). Some o) (sym (append-nil octets))
 
-abbrev none_taken : (shows : Shows) (left : Sourced) (old : Sunk) → shows.before [] ≡ []
-    → IsTaken shows left left old old
-none_taken shows left old none = record {
-  earlier = [];
-  piece = [];
-  moved = before_none left.left;
-  within = omega arith;
-  at_once = omega arith;
-  chances = [];
-  world = beginning [];
-  performed = refl;
-  more = [];
-  held = rw none (held_nothing old.held);
+-- no line was performed, and so nothing shown
+pub none_done : {Act World : Type 0} (p : Performing Act World) (IsSuch : World → Type 0)
+    (shows : Shows World) (w : World) (text : List ℕ) (left : Sourced) (old : Sunk)
+    → p.Reaches (p.lines []) w → p.Passes (within p text) w → IsSuch w → shows.before w ≡ []
+    → EndsRun p IsSuch shows text left left old old (Err causes.Memory)
+none_done p IsSuch shows w text left old reached passed such none = record {
+  taken = record {
+    earlier = [];
+    piece = [];
+    moved = before_none left.left;
+    within = omega arith;
+    at_once = omega arith;
+    world = w;
+    performed = reached;
+    more = [];
+    held = rw none (held_nothing old.held);
+  };
+  ends = inl (w, passed, such, rw none (inl refl));
 }
 
 pub not_run : Promise → ((chances : List Chance) → IsTidy (beginning chances)) → (summary : Bool)
     (text : List ℕ) (left : Sourced) (old : Sunk)
     → EndsAsRun summary text left left old old (Halted causes.Memory)
-not_run promise tidy false text left old = record {
-  taken = none_taken (shown_by false) left old refl;
-  ends = inl (
-    [],
-    beginning [],
-    record { more = reported (course (within text) []); parts = refl },
-    promise (beginning []) (tidy []) refl,
-    inl refl,
-  );
-}
-not_run promise tidy true text left old = record {
-  taken = none_taken (shown_by true) left old refl;
-  ends = inl (
-    [],
-    beginning [],
-    record { more = reported (course (within text) []); parts = refl },
-    promise (beginning []) (tidy []) refl,
-    inl refl,
-  );
-}
+not_run promise tidy summary text left old =
+    none_done one_group IsPromised (shown_by summary) (beginning []) text left old ([], refl)
+    ([], record { more = reported (course (within one_group text) []); parts = refl })
+    (promise (beginning []) (tidy []) refl) (none summary)
+  where
+    none : (summary : Bool) → (shown_by summary).before (beginning []) ≡ []
+    none false = refl
+    none true = refl
 
 pub not_tried : Promise → ((chances : List Chance) → IsTidy (beginning chances)) → (n : ℕ) (old : Sunk)
     → EndsTried n old old (Halted causes.Memory)
@@ -143,56 +145,79 @@ part_made n octets old new is part counts =
 
 -- ---- without a fault
 
--- the status is what performing the text leaves, or memory was wanting
-abbrev pub IsComplete : List ℕ → Status → Type 0
-IsComplete text status = EndsWithin text status ⊎ (status ≡ Halted causes.Memory)
+-- what performing a text leaves has these statuses
+pub record IsStatus {Act World : Type 0} (p : Performing Act World) (text : List ℕ)
+    (Is : Status → Type 0) : Type 0 where
+  pub at_end : length text ≤ most_input → (w : World) → p.Reaches (p.whole text) w → Is Done
+  pub past_limit : most_input < length text → (w : World)
+      → p.Reaches (p.lines (whole_lines (take most_input text))) w → Is (Halted causes.Input)
+  pub by_stop : (w : World) (halt : Halt) → p.Stops (within p text) w halt
+      → Is (Halted (cause_of_halt halt))
 
-at_end : (text : List ℕ) (chances : List Chance) (w : World) → length text ≤ most_input
+module _ {Act World : Type 0} (p : Performing Act World) (IsSuch : World → Type 0)
+    (shows : Shows World) (text : List ℕ) (left now : Sourced) (old new : Sunk)
+    (Is : Status → Type 0) (is : IsStatus p text Is) where
+  -- a run ended with such a status, or memory was wanting
+  pub without_fault : (status : Status)
+      → Answers (λ r. EndsRun p IsSuch shows text left now old new r) status
+      → (Rose left.faults now.faults → ⊥) → (Rose old.faults new.faults → ⊥)
+      → Is status ⊎ (status ≡ Halted causes.Memory)
+  without_fault Done h reads writes = let e = h.ends in inl (is.at_end e.0 e.2.0 e.2.1)
+  without_fault Usage h reads writes = absurd h
+  without_fault CheckInput h reads writes = absurd h
+  without_fault Refuted h reads writes = absurd h
+  without_fault (Transcript line why) h reads writes = absurd h
+  without_fault CaptureInput h reads writes = absurd h
+  without_fault (Unrecorded line why) h reads writes = absurd h
+  without_fault (Capture at why) h reads writes = absurd h
+  without_fault (Halted (causes.Trace line kind)) h reads writes =
+      let e = h.ends in inl (is.by_stop e.0 (halts.Trace line kind) e.1)
+  without_fault (Halted causes.ReadFault) h reads writes = absurd (reads h.ends.0)
+  without_fault (Halted causes.WriteFault) h reads writes = absurd (writes h.ends.0)
+  without_fault (Halted causes.Memory) h reads writes = inr refl
+  without_fault (Halted causes.Input) h reads writes =
+      let e = h.ends in inl (is.past_limit e.0 e.1.0 e.1.1)
+  without_fault (Halted (causes.Limit which)) h reads writes =
+      let e = h.ends in inl (is.by_stop e.0 (halts.Limit which) e.1)
+  without_fault (Halted (causes.RepeatedDraw first second)) h reads writes =
+      let e = h.ends in inl (is.by_stop e.0 (halts.RepeatedDraw first second) e.1)
+  without_fault (Halted (causes.Forged line)) h reads writes =
+      let e = h.ends in inl (is.by_stop e.0 (halts.Forged line) e.1)
+
+at_end : (text : List ℕ) (chances : List Chance) (w : LanWorld) → length text ≤ most_input
     → course (whole text) chances ≡ Goes w → Done ≡ status_within text chances
 at_end text chances w fits e =
     let test : nat_le (length text) most_input ≡ true = grind (arith, nat_tests, fits) in
     rw (test, e) refl
 
-past_limit : (text : List ℕ) (chances : List Chance) (w : World) → most_input < length text
+past_limit : (text : List ℕ) (chances : List Chance) (w : LanWorld) → most_input < length text
     → course (performed_all (whole_lines (take most_input text))) chances ≡ Goes w
     → Halted causes.Input ≡ status_within text chances
 past_limit text chances w past e =
     let test : nat_le (length text) most_input ≡ false = grind (arith, nat_tests, past) in
     rw (test, e) refl
 
-by_stop : (summary : Bool) (text : List ℕ) (old new : Sunk) (halt : Halt)
-    → WasHalted IsPromised (λ texts. Wrote texts old new) (shown_by summary).before (within text) halt
-    → IsComplete text (Halted (cause_of_halt halt))
-by_stop summary text old new halt p =
-    inl (p.0, sym (ap (status_after (nat_le (length text) most_input)) p.2))
+run_status : (text : List ℕ) → IsStatus one_group text (EndsWithin text)
+run_status text = record {
+  at_end = λ fits w r. (r.0, at_end text r.0 w fits r.1);
+  past_limit = λ past w r. (r.0, past_limit text r.0 w past r.1);
+  by_stop = λ w halt r. (
+    r.0,
+    sym (ap
+        (λ (out : Course). status_after (nat_le (length text) most_input) (halt_in out)) r.1),
+  );
+}
+
+-- the status is what performing the text leaves, or memory was wanting
+abbrev pub IsComplete : List ℕ → Status → Type 0
+IsComplete text status = EndsWithin text status ⊎ (status ≡ Halted causes.Memory)
 
 pub complete : (summary : Bool) (text : List ℕ) (left now : Sourced) (old new : Sunk) (status : Status)
     → EndsAsRun summary text left now old new status → (Rose left.faults now.faults → ⊥)
     → (Rose old.faults new.faults → ⊥) → IsComplete text status
-complete summary text left now old new Done h reads writes =
-    let e = h.ends in inl (e.2.0, at_end text e.2.0 e.2.1 e.0 e.2.2)
-complete summary text left now old new Usage h reads writes = absurd h
-complete summary text left now old new CheckInput h reads writes = absurd h
-complete summary text left now old new Refuted h reads writes = absurd h
-complete summary text left now old new (Transcript line why) h reads writes = absurd h
-complete summary text left now old new CaptureInput h reads writes = absurd h
-complete summary text left now old new (Unrecorded line why) h reads writes = absurd h
-complete summary text left now old new (Capture at why) h reads writes = absurd h
-complete summary text left now old new (Halted (causes.Trace line kind)) h reads writes =
-    by_stop summary text old new (halts.Trace line kind) h.ends
-complete summary text left now old new (Halted causes.ReadFault) h reads writes =
-    absurd (reads h.ends.0)
-complete summary text left now old new (Halted causes.WriteFault) h reads writes =
-    absurd (writes h.ends.0)
-complete summary text left now old new (Halted causes.Memory) h reads writes = inr refl
-complete summary text left now old new (Halted causes.Input) h reads writes =
-    let e = h.ends in inl (e.1.0, past_limit text e.1.0 e.1.1 e.0 e.1.2)
-complete summary text left now old new (Halted (causes.Limit which)) h reads writes =
-    by_stop summary text old new (halts.Limit which) h.ends
-complete summary text left now old new (Halted (causes.RepeatedDraw first second)) h reads writes =
-    by_stop summary text old new (halts.RepeatedDraw first second) h.ends
-complete summary text left now old new (Halted (causes.Forged line)) h reads writes =
-    by_stop summary text old new (halts.Forged line) h.ends
+complete summary text left now old new status h reads writes =
+    without_fault one_group IsPromised (shown_by summary) text left now old new (EndsWithin text)
+    (run_status text) status h reads writes
 
 -- a count that stays at nothing did not rise
 steady : Rose 0 0 → ⊥

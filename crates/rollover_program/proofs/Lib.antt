@@ -3,6 +3,7 @@ mod Reading
 mod Taken
 mod Ordered
 mod Carried
+mod Rolled
 mod Judged
 mod Captured
 mod Drawn

@@ -27,6 +27,7 @@ refused : (fault_of command [] ≡ MissingSubcommand ∷ [])
     × (fault_of command (codes "check" ∷ codes "x" ∷ []) ≡ UnknownArgument ∷ [])
     × (fault_of command (codes "capture" ∷ codes "x" ∷ []) ≡ UnknownArgument ∷ [])
     × (fault_of command (codes "dissect" ∷ codes "x" ∷ []) ≡ UnknownArgument ∷ [])
+    × (fault_of command (codes "roll" ∷ codes "x" ∷ []) ≡ UnknownArgument ∷ [])
     × (fault_of command (codes "draw" ∷ codes "x" ∷ []) ≡ UnknownArgument ∷ [])
 unfolding clap_on_literals
-refused = (refl, refl, refl, refl, refl, refl, refl, refl, refl, refl)
+refused = (refl, refl, refl, refl, refl, refl, refl, refl, refl, refl, refl)

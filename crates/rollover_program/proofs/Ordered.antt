@@ -23,7 +23,7 @@ use Rattle.clap.proofs.KindLemmas.{value_kinds-ok}
 use Rattle.clap.proofs.OnLiterals.{clap_on_literals}
 use Rattle.clap.proofs.ValueTestLemmas.{Accepts-accepts}
 use Rattle.rollover_program.specs.declared.words.Order.{Order}
-use Rattle.rollover_program.specs.declared.words.Order.TheVariants.{Run, Make, Try, Check, Capture, Dissect, Draw}
+use Rattle.rollover_program.specs.declared.words.Order.TheVariants.{Run, Make, Try, Check, Capture, Dissect, Roll, Draw}
 use Rattle.rollover_program.specs.Words.{IsNumbered, IsUsage, Orders, bare, command, number_of}
 use Rattle.rollover_program.specs.Words.{order_by, order_of}
 use Rattle.rollover_program.specs.Words.{plain, subcommand, summary, summary_in, words_of}
@@ -44,15 +44,19 @@ capture_leaf = built_leaf (inherited (bare (new_shape (codes "rollover"))) (plai
 abbrev dissect_leaf : Shape
 dissect_leaf = built_leaf (inherited (bare (new_shape (codes "rollover"))) (plain (codes "dissect")))
 
+abbrev roll_leaf : Shape
+roll_leaf = built_leaf (inherited (bare (new_shape (codes "rollover"))) (plain (codes "roll")))
+
 abbrev draw_leaf : Shape
 draw_leaf = built_leaf (inherited (bare (new_shape (codes "rollover"))) (plain (codes "draw")))
 
 -- the subcommand that was named
-abbrev named : Bool → Bool → Bool → Bool → Bool → Bool → Bool → Option Shape
-named run make try_ check capture dissect draw = cond run (Some run_leaf)
+abbrev named : Bool → Bool → Bool → Bool → Bool → Bool → Bool → Bool → Option Shape
+named run make try_ check capture dissect roll draw = cond run (Some run_leaf)
     (cond make (Some (leaf (codes "make"))) (cond try_ (Some (leaf (codes "try")))
     (cond check (Some check_leaf) (cond capture (Some capture_leaf)
-    (cond dissect (Some dissect_leaf) (cond draw (Some draw_leaf) None))))))
+    (cond dissect (Some dissect_leaf) (cond roll (Some roll_leaf)
+    (cond draw (Some draw_leaf) None)))))))
 
 abbrev rows_in : Option Shape → List Text → Option (Text × List Row)
 rows_in sub words = option_map (λ s. rows_at s words) sub
@@ -61,26 +65,27 @@ rows_in sub words = option_map (λ s. rows_at s words) sub
 abbrev pub ordered_by : Option (Text × List Row) → Option Order
 ordered_by = option_and_then (λ p. order_by p.0 p.1)
 
-orders : (run make try_ check capture dissect draw : Bool) (words : List Text)
+orders : (run make try_ check capture dissect roll draw : Bool) (words : List Text)
     → option_map_or (λ s. level_fault s [] nothing_held words false [])
-    (named run make try_ check capture dissect draw) []
+    (named run make try_ check capture dissect roll draw) []
     ≡ []
-    → is_some (rows_in (named run make try_ check capture dissect draw) words) ≡ true → (o : Order)
-    × (ordered_by (rows_in (named run make try_ check capture dissect draw) words) ≡ Some o)
+    → is_some (rows_in (named run make try_ check capture dissect roll draw) words) ≡ true → (o : Order)
+    × (ordered_by (rows_in (named run make try_ check capture dissect roll draw) words) ≡ Some o)
     × IsNumbered o
-orders true make try_ check capture dissect draw words e h =
+orders true make try_ check capture dissect roll draw words e h =
     (Run (summary_in (rows_after run_leaf.rules [] words)), refl, tt)
-orders false true try_ check capture dissect draw words e h =
+orders false true try_ check capture dissect roll draw words e h =
     let n = taken (codes "make") words e in
     (Make n.0, ap (option_map (λ k. Make k)) n.1, (n.2, n.3))
-orders false false true check capture dissect draw words e h =
+orders false false true check capture dissect roll draw words e h =
     let n = taken (codes "try") words e in
     (Try n.0, ap (option_map (λ k. Try k)) n.1, (n.2, n.3))
-orders false false false true capture dissect draw words e h = (Check, refl, tt)
-orders false false false false true dissect draw words e h = (Capture, refl, tt)
-orders false false false false false true draw words e h = (Dissect, refl, tt)
-orders false false false false false false true words e h = (Draw, refl, tt)
-orders false false false false false false false words e h = absurd cc
+orders false false false true capture dissect roll draw words e h = (Check, refl, tt)
+orders false false false false true dissect roll draw words e h = (Capture, refl, tt)
+orders false false false false false true roll draw words e h = (Dissect, refl, tt)
+orders false false false false false false true draw words e h = (Roll, refl, tt)
+orders false false false false false false false true words e h = (Draw, refl, tt)
+orders false false false false false false false false words e h = absurd cc
 
 by_stop : (stop : Option (Text × List Text)) → entered_fault (built command) stop ≡ []
     → is_some (entered (built command) stop) ≡ true
@@ -89,7 +94,7 @@ by_stop None e h = absurd cc
 by_stop (Some p) e h = orders (answers_to p.0 (codes "run", [])) (answers_to p.0 (codes "make", []))
     (answers_to p.0 (codes "try", [])) (answers_to p.0 (codes "check", []))
     (answers_to p.0 (codes "capture", [])) (answers_to p.0 (codes "dissect", []))
-    (answers_to p.0 (codes "draw", [])) p.1 e h
+    (answers_to p.0 (codes "roll", [])) (answers_to p.0 (codes "draw", [])) p.1 e h
 
 -- a subcommand has to be there
 needed : (rows : List Row) (has : Bool) → check_fault (built command).top rows has ≡ [] → has ≡ true
@@ -205,6 +210,10 @@ dissect_plain : (fault_of command (words_of Dissect) ≡ [])
 unfolding clap_on_literals
 dissect_plain = (refl, refl)
 
+roll_plain : (fault_of command (words_of Roll) ≡ []) × (order_of (words_of Roll) ≡ Some Roll)
+unfolding clap_on_literals
+roll_plain = (refl, refl)
+
 draw_plain : (fault_of command (words_of Draw) ≡ []) × (order_of (words_of Draw) ≡ Some Draw)
 unfolding clap_on_literals
 draw_plain = (refl, refl)
@@ -218,4 +227,5 @@ plain_words (Try n) h = let t = text_of n h.0 h.1 in (t.tried, t.try_)
 plain_words Check h = check_plain
 plain_words Capture h = capture_plain
 plain_words Dissect h = dissect_plain
+plain_words Roll h = roll_plain
 plain_words Draw h = draw_plain

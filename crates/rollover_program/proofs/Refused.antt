@@ -10,11 +10,13 @@ use Rattle.replay.specs.Sinks.{Sunk}
 use Rattle.lan_schedule.specs.Races.{Chance}
 use Rattle.lan_schedule.specs.World.{beginning}
 use Rattle.lan_schedule.specs.Sound.{IsTidy}
+use Rattle.roll_schedule.specs.World.{beginning as twin_beginning}
+use Rattle.roll_schedule.specs.Sound.{IsTidy as IsTidyTwin}
 use Rattle.trace_maker.specs.Made.{made}
 use Rattle.rollover_program.specs.declared.status.Status.{Status}
 use Rattle.rollover_program.specs.declared.status.Status.TheVariants.{Usage, Halted}
 use Rattle.rollover_program.specs.declared.words.Order.{Order}
-use Rattle.rollover_program.specs.declared.words.Order.TheVariants.{Run, Make, Try, Check, Capture, Dissect, Draw}
+use Rattle.rollover_program.specs.declared.words.Order.TheVariants.{Run, Make, Try, Check, Capture, Dissect, Roll, Draw}
 use Rattle.rollover_program.specs.declared.words.Refusal.{Refusal}
 use Rattle.rollover_program.specs.declared.words.Refusal.TheVariants as refusals
 use Rattle.rollover_program.specs.Words.{IsNumbered, IsUsage, Orders, words_of}
@@ -25,9 +27,11 @@ use Rattle.rollover_program.specs.commands.Check.{EndsAsCheck}
 use Rattle.rollover_program.specs.commands.Capture.{EndsAsCapture}
 use Rattle.rollover_program.specs.commands.Draw.{EndsAsDraw}
 use Rattle.rollover_program.specs.commands.Dissect.{EndsAsDissect}
+use Rattle.rollover_program.specs.commands.Roll.{EndsAsRoll}
 use Rattle.rollover_program.specs.inside.Answering.{status_of_refusal}
 use Rattle.rollover_program.proofs.Ordered.{plain_words}
 use Rattle.rollover_program.proofs.Carried.{Promise, not_run, not_tried}
+use Rattle.rollover_program.proofs.Rolled.{TwinPromise, not_rolled}
 use Rattle.rollover_program.proofs.Judged.{not_checked}
 use Rattle.rollover_program.proofs.Captured.{not_captured, not_dissected}
 use Rattle.rollover_program.proofs.Drawn.{not_drawn}
@@ -88,6 +92,12 @@ module _ (words : List Text) (f : Refusal) (usage : f ≡ refusals.Usage → IsU
       → s ≡ status_of_refusal f → Orders words Dissect → EndsAsDissect file left held held s
   dissected_nothing s file left held e asked =
       rw (memory s Dissect e asked) (not_dissected file left held)
+
+  pub rolled_nothing : TwinPromise → IsTidyTwin twin_beginning → (s : Status) (text : List ℕ)
+      (left : Sourced) (old : Sunk) → s ≡ status_of_refusal f → Orders words Roll
+      → EndsAsRoll text left left old old s
+  rolled_nothing promise tidy s text left old e asked =
+      rw (memory s Roll e asked) (not_rolled promise tidy text left old)
 
   pub drew_nothing : (s : Status) (text : List ℕ) (left : Sourced) (old : Sunk)
       → s ≡ status_of_refusal f → Orders words Draw → EndsAsDraw text left left old old s

@@ -5,4 +5,5 @@ pub mod Try
 pub mod Check
 pub mod Capture
 pub mod Dissect
+pub mod Roll
 pub mod Draw

@@ -5,5 +5,6 @@ pub mod check;
 pub mod dissect;
 pub mod draw;
 pub mod make;
+pub mod roll;
 pub mod run;
 pub mod try_made;

@@ -5,11 +5,18 @@ ghost use Rattle.lan_schedule.specs.Acts.{course, world_of};
 ghost use Rattle.lan_schedule.specs.Races.{Chance};
 ghost use Rattle.lan_schedule.specs.Sound.{HasRunNone, IsTidy};
 ghost use Rattle.lan_schedule.specs.World.{World, is_racing};
+ghost use Rattle.roll_schedule.specs.World.{World as TwinWorld};
+ghost use Rattle.roll_schedule.specs.Sound.{IsTidy as IsTidyTwin};
 ghost use Rattle.replay.specs.Runs.{within};
+ghost use Rattle.replay.specs.OneGroup.{one_group};
 ghost use Rattle.rollover_program.specs.Headline.{IsPromised};
+ghost use Rattle.rollover_program.specs.TwoGroups.{ArePromised};
 
 use group_safety::{law_hitless, law_once, law_one_key};
 use lan_schedule::law_lines_leave_a_tidy_world;
+use roll_schedule::{
+    law_both_groups_of_tidy_worlds_are_sound, law_groups_of_tidy_worlds_are_sound,
+};
 use text_lines::law_lines_are_few;
 use transcript::law_a_run_is_cut_into_its_events;
 
@@ -29,10 +36,21 @@ pub fn law_tidy_runs_are_promised()
 /// the clauses of the call that performs it.
 pub fn law_each_text_is_promised()
     ensures { (text : List ℕ) (chances : List Chance)
-        → HasRunNone (course (within text) chances)
-        → IsPromised (world_of (course (within text) chances)) }
+        → HasRunNone (course (within one_group text) chances)
+        → IsPromised (world_of (course (within one_group text) chances)) }
 {
     law_lines_are_few();
     law_lines_leave_a_tidy_world();
     law_tidy_runs_are_promised();
+}
+
+/// All that is promised of two groups holds in each tidy world of them: one use of each packet number
+/// over both, one key under each identifier and hitless rollovers in each, no number refused to a
+/// station at which a key transmits; and each group's facts tell its events.
+pub fn law_tidy_worlds_of_two_groups_are_promised()
+    ensures { (w : TwinWorld) → IsTidyTwin w → ArePromised w }
+{
+    law_groups_of_tidy_worlds_are_sound();
+    law_both_groups_of_tidy_worlds_are_sound();
+    law_a_run_is_cut_into_its_events();
 }

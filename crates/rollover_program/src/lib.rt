@@ -11,7 +11,10 @@ mod words;
 pub use capture_file::CaptureFault;
 pub use lan_core::Which;
 pub use lan_schedule::Kind;
-pub use laws::{law_each_text_is_promised, law_tidy_runs_are_promised};
+pub use laws::{
+    law_each_text_is_promised, law_tidy_runs_are_promised,
+    law_tidy_worlds_of_two_groups_are_promised,
+};
 pub use replay::{AnyGate, Cause};
 pub use status::Status;
 pub use top::rollover;

@@ -23,7 +23,7 @@ pub enum Status {
     #[error("done")]
     Done,
     /// The words are no command.
-    #[error("usage: rollover run [--summary] | make N | try N | check | capture | dissect | draw")]
+    #[error("usage: rollover run [--summary] | make N | try N | check | capture | dissect | roll | draw")]
     Usage,
     /// The trace was not performed to its end.
     #[error("{0}")]

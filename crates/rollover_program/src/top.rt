@@ -15,6 +15,7 @@ ghost use Rattle.rollover_program.specs.commands.Try.{EndsTried};
 ghost use Rattle.rollover_program.specs.commands.Check.{EndsAsCheck};
 ghost use Rattle.rollover_program.specs.commands.Capture.{EndsAsCapture};
 ghost use Rattle.rollover_program.specs.commands.Dissect.{EndsAsDissect};
+ghost use Rattle.rollover_program.specs.commands.Roll.{EndsAsRoll, EndsRollWithin};
 ghost use Rattle.rollover_program.specs.commands.Draw.{EndsAsDraw};
 ghost use Rattle.rollover_program.specs.inside.Answering.{CarriesOut, status_of_refusal};
 
@@ -23,14 +24,16 @@ use crate::commands::check::check;
 use crate::commands::dissect::dissect;
 use crate::commands::draw::draw;
 use crate::commands::make::make;
+use crate::commands::roll::roll;
 use crate::commands::run::run;
 use crate::commands::try_made::try_made;
-use crate::laws::law_tidy_runs_are_promised;
+use crate::laws::{law_tidy_runs_are_promised, law_tidy_worlds_of_two_groups_are_promised};
 use crate::status::Status;
 use crate::words::{Order, Refusal, read_order};
 use lan_base::{Sink, Source};
 use lan_schedule::law_lines_leave_a_tidy_world;
 use replay::{AnyGate, Cause};
+use roll_schedule::law_groups_of_tidy_worlds_are_sound;
 use std::alloc::Global;
 use std::thread::Threads;
 
@@ -45,9 +48,11 @@ use std::thread::Threads;
 /// current word. `check` reads a transcript from the source to its
 /// end, whoever wrote it, judges each line as soon as it has ended, and writes the verdict at the
 /// end. `capture` writes the file of a transcript's frames, each record as soon as its line has ended.
-/// `dissect` reads a file of captured packets, and tells each packet in one line. `draw` reads a
-/// transcript as `check` does, and writes the picture of its keys at the end. Clauses that name a text
-/// or a file speak of a source that tells its octets.
+/// `dissect` reads a file of captured packets, and tells each packet in one line. `roll` reads a trace
+/// of two groups, and performs it as `run` does one of a single group. It writes the transcript of
+/// both, each line behind the number of its group. `draw` reads a transcript as `check` does, and
+/// writes the picture of its keys at the end. Clauses that name a text or a file speak of a source
+/// that tells its octets.
 pub fn rollover<T: Threads + Sync, S: Source, K: Sink>(
     rt: &T,
     alloc: Global,
@@ -111,6 +116,15 @@ pub fn rollover<T: Threads + Sync, S: Source, K: Sink>(
         → S.left source.old ≡ Some file → EndsAsDissect file (S.left source.new)
         (K.held sink.old) (K.held sink.new) result }
 
+    // `roll`: whatever the end, which octets were taken, what of the text was performed, what is
+    // promised of both groups, and what was written of them.
+    ensures roll { (text : List ℕ) → Orders (map string_bytes words.now) orders.Roll
+        → S.left source.old ≡ Some text → EndsAsRoll text
+        (sourced (S.left source.old) (S.faults source.old))
+        (sourced (S.left source.new) (S.faults source.new))
+        (sunk (K.held sink.old) (K.faults sink.old))
+        (sunk (K.held sink.new) (K.faults sink.new)) result }
+
     // `draw`: how a transcript was drawn, and what was written of its picture.
     ensures draw { (text : List ℕ) → Orders (map string_bytes words.now) orders.Draw
         → S.left source.old ≡ Some text → EndsAsDraw text
@@ -125,6 +139,10 @@ pub fn rollover<T: Threads + Sync, S: Source, K: Sink>(
     ensures write_cause { result ≡ Status.Halted causes.WriteFault
         → Rose (K.faults sink.old) (K.faults sink.new) }
 
+    // `roll` finds no frame forged, since no line of a trace of two groups injects one.
+    ensures unforged { (line : ℕ) → Orders (map string_bytes words.now) orders.Roll
+        → result ≢ Status.Halted (causes.Forged line) }
+
     // Without a fault a trace ends as its lines do, and making one is done, unless memory runs out.
     ensures complete { (text : List ℕ) (summary : Bool)
         → Orders (map string_bytes words.now) (orders.Run summary)
@@ -138,9 +156,16 @@ pub fn rollover<T: Threads + Sync, S: Source, K: Sink>(
     ensures complete_try { (n : ℕ) → Orders (map string_bytes words.now) (orders.Try n)
         → (Rose (K.faults sink.old) (K.faults sink.new) → ⊥)
         → EndsWithin (made n) result ⊎ (result ≡ Status.Halted causes.Memory) }
+    ensures complete_roll { (text : List ℕ) → Orders (map string_bytes words.now) orders.Roll
+        → S.left source.old ≡ Some text
+        → (Rose (S.faults source.old) (S.faults source.new) → ⊥)
+        → (Rose (K.faults sink.old) (K.faults sink.new) → ⊥)
+        → EndsRollWithin text result ⊎ (result ≡ Status.Halted causes.Memory) }
 {
     law_tidy_runs_are_promised();
     law_lines_leave_a_tidy_world();
+    law_tidy_worlds_of_two_groups_are_promised();
+    law_groups_of_tidy_worlds_are_sound();
     match read_order(alloc, words) {
         Ok(order) => carry_out(rt, alloc, order, source, sink, gate),
         Err(refusal) => status_of_refusal(refusal),
@@ -168,6 +193,8 @@ fn carry_out<T: Threads + Sync, S: Source, K: Sink>(
         → Rose (S.faults source.old) (S.faults source.new) }
     ensures write_cause { result ≡ Status.Halted causes.WriteFault
         → Rose (K.faults sink.old) (K.faults sink.new) }
+    ensures unforged { (line : ℕ) → order ≡ orders.Roll
+        → result ≢ Status.Halted (causes.Forged line) }
 {
     match order {
         Order::Run { summary } => run(rt, alloc, summary, source, sink, gate),
@@ -176,6 +203,7 @@ fn carry_out<T: Threads + Sync, S: Source, K: Sink>(
         Order::Check => check(alloc, source, sink),
         Order::Capture => capture(alloc, source, sink),
         Order::Dissect => dissect(alloc, source, sink),
+        Order::Roll => roll(alloc, source, sink),
         Order::Draw => draw(alloc, source, sink),
     }
 }

@@ -26,6 +26,8 @@ pub enum Order {
     Capture,
     /// Each packet of a file of captured packets is told.
     Dissect,
+    /// A trace of two groups is performed, for its transcript.
+    Roll,
     /// The picture of a transcript's keys is written.
     Draw,
 }
@@ -65,7 +67,8 @@ pub fn read_order(alloc: Global, words: &[String]) -> Result<Order, Refusal>
     }
 }
 
-/// The one command: `run [--summary]`, `make N`, `try N`, `check`, `capture`, `dissect` or `draw`.
+/// The one command: `run [--summary]`, `make N`, `try N`, `check`, `capture`, `dissect`, `roll` or
+/// `draw`.
 fn command<'a>(alloc: Global) -> Result<Command<'a>, AllocError>
     ensures { IfOk result (λ r. app_of r ≡ command) }
 {
@@ -85,6 +88,7 @@ fn command<'a>(alloc: Global) -> Result<Command<'a>, AllocError>
         .subcommand(Command::new(alloc, "check"))?
         .subcommand(Command::new(alloc, "capture"))?
         .subcommand(Command::new(alloc, "dissect"))?
+        .subcommand(Command::new(alloc, "roll"))?
         .subcommand(Command::new(alloc, "draw"))
 }
 
@@ -117,6 +121,7 @@ fn order_of(matches: &ArgMatches<'_>) -> Option<Order>
         "check" => Some(Order::Check),
         "capture" => Some(Order::Capture),
         "dissect" => Some(Order::Dissect),
+        "roll" => Some(Order::Roll),
         "draw" => Some(Order::Draw),
         _ => None,
     }

@@ -36,14 +36,14 @@ fn says_hello(rt: HostRuntime) -> Result<(), Fail> {
 }
 
 /// The lives of three stations, of which the third never serves.
-const LIVES: &str = "\
+pub const LIVES: &str = "\
 life A 000000000000000000000001
 life B 000000000000000000000002
 life C 000000000000000000000003
 ";
 
 /// Their first hellos, with check values of another implementation of AES-CMAC.
-const HELLOS: &str = "\
+pub const HELLOS: &str = "\
 tick A 1 next 0
 frame 1 A mka 0180c200000302000000000a888e030500340110602002000000000a0001000000000000000000000001000000010080c201010203046afea33c197d668f2ef5cc6f5a3cbae8
 tick B 1 next 0
@@ -53,7 +53,7 @@ frame 3 C mka 0180c200000302000000000c888e0305003401ff602002000000000c0001000000
 ";
 
 /// The same where a station says that it serves while it has elected nobody.
-const EARLY_HELLOS: &str = "\
+pub const EARLY_HELLOS: &str = "\
 tick A 1 next 0
 frame 1 A mka 0180c200000302000000000a888e030500340110e02002000000000a0001000000000000000000000001000000010080c20101020304ddb306276c68c42a0ab85507a0bef7b6
 tick B 1 next 0

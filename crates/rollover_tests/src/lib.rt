@@ -24,6 +24,8 @@ mod racing;
 #[cfg(test)]
 mod refusals;
 #[cfg(test)]
+mod rolling;
+#[cfg(test)]
 mod rollovers;
 #[cfg(test)]
 mod small;

@@ -2,24 +2,51 @@
 
 use std::alloc::{AllocError, Global};
 
-/// A transcript, each `frame` line cut behind its kind.
+/// A transcript, each `frame` line cut behind its kind. A line may stand behind the number of a
+/// group.
 pub(crate) fn cut(alloc: Global, transcript: &[u8]) -> Result<Vec<u8>, AllocError> {
     let mut all = Vec::new(alloc);
-    let mut begins = true;
+    let mut at = 0u32;
+    let mut kept = 4u32;
     let mut is_frame = false;
     let mut spaces = 0u32;
     for octet in transcript {
-        if begins {
-            is_frame = *octet == b'f';
+        if at == 0 {
+            kept = if octet.is_ascii_digit() { 5 } else { 4 };
             spaces = 0;
         }
-        begins = *octet == b'\n';
+        if at == 0 || at == 2 && kept == 5 {
+            is_frame = *octet == b'f';
+        }
         if *octet == b' ' {
             spaces = spaces.saturating_add(1);
         }
-        if begins || !is_frame || spaces < 4 {
+        let ends = *octet == b'\n';
+        if ends || !is_frame || spaces < kept {
             all.push(*octet)?;
         }
+        at = if ends { 0 } else { at.saturating_add(1) };
+    }
+    Ok(all)
+}
+
+/// The lines of a transcript that stand behind this digit and a space, without these.
+pub(crate) fn of_group(alloc: Global, transcript: &[u8], digit: u8) -> Result<Vec<u8>, AllocError> {
+    let mut all = Vec::new(alloc);
+    let mut at = 0u32;
+    let mut is_of = false;
+    for octet in transcript {
+        if at == 0 {
+            is_of = *octet == digit;
+        }
+        if is_of && at > 1 {
+            all.push(*octet)?;
+        }
+        at = if *octet == b'\n' {
+            0
+        } else {
+            at.saturating_add(1)
+        };
     }
     Ok(all)
 }

@@ -154,7 +154,7 @@ const ENDINGS: [Ending; 12] = [
     Ending {
         status: Status::Usage,
         number: 1,
-        line: "usage: rollover run [--summary] | make N | try N | check | capture | dissect | draw",
+        line: "usage: rollover run [--summary] | make N | try N | check | capture | dissect | roll | draw",
     },
     Ending {
         status: Status::Halted(Cause::Trace {

@@ -1,7 +1,7 @@
 //! Workers of a race.
 
 use crate::case::{Case, Shown, wrong};
-use crate::performing::{Outside, STEADY, joined, perform, refused};
+use crate::performing::{Outside, STEADY, joined, perform, run};
 use crate::worked::{FIRST, FIRST_KEY_SHOWN, FIRST_LIFE, GROUP, SECOND, SIX_ROUNDS};
 use rollover_program::{Cause, Kind, Status};
 use std::test::Fail;
@@ -166,5 +166,33 @@ fn leaves_a_front_of_a_race_at_a_write_fault(rt: HostRuntime) -> Result<(), Fail
     }
     // 28 events before the race, ten claims and ten frames are written.
     assert!(rt; 28 < calls && calls < 199);
+    Ok(())
+}
+
+/// A run of frames that is worth threads is fed: each is shown in its place, and a frame of key
+/// agreement behind them, too.
+#[test]
+fn feeds_a_long_run_of_frames(rt: HostRuntime) -> Result<(), Fail> {
+    let alloc = rt.alloc();
+    let left = run(
+        &rt,
+        alloc,
+        &[
+            GROUP,
+            FIRST,
+            SECOND,
+            SIX_ROUNDS,
+            "race\nburst A 1 300 ffffffffffff 88b50001\nwhile\nend\ntick A 20\nfeed 10 310 B\n",
+        ],
+    )?;
+    assert_eq!(rt; left.status, Status::Done);
+    let mut shown = Vec::new(alloc);
+    for number in 1..301u32 {
+        let frame = number.saturating_add(9);
+        let line = format!(in alloc; "data {frame} B accepted {number} 88b50001\n")?;
+        shown.extend_from_slice(line.as_bytes())?;
+    }
+    shown.extend_from_slice(b"heard 310 B vouched\n")?;
+    assert!(rt; left.held.as_slice().ends_with(shown.as_slice()));
     Ok(())
 }

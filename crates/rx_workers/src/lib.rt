@@ -3,4 +3,4 @@
 
 mod batch;
 
-pub use batch::{Batch, check_batch};
+pub use batch::{Batch, check_batch, is_worth_threads};

@@ -1,5 +1,5 @@
 -- A key that begins, where the station leads or follows.
-use Rattle.std.proofs.Common.{◌≡◌, ℕ, ◌-◌, Bool, true, false, cond, not, ◌&&◌, List, [], ◌∷◌, Option, Some, None, is_some, min, nat_le, refl, ap, sym, ◌∙◌, arith}
+use Rattle.std.proofs.Common.{◌≡◌, ℕ, ◌-◌, Bool, true, false, cond, not, ◌&&◌, List, [], ◌∷◌, Option, Some, None, is_some, is_none, min, nat_le, refl, ap, sym, ◌∙◌, arith}
 use Rattle.std.proofs.lemmas.Bool.{eq-eqb, and_parts}
 use Rattle.std.specs.Prelude.{◌==◌}
 use Rattle.std.specs.Option.{option_map, option_map_or, option_and_then}
@@ -51,6 +51,21 @@ made-is roster o k is = rw is refl
 pub leads-told : (base : ℕ) (own : Mi) (s : State) (h : List Keying) (live : List Report) → StandsFor base own false s h → leads_now s live ≡ option_map (told h) (leads h live)
 leads-told base own s h live t =
     rw (t.latest, t.roster) (leads-is h live (last_roster h) (lead_cause_now s live) (is_latest_made h) (latest h) (λ k is. cause-told base own s h live k t) (λ k is. made-is (last_roster h) (latest h) k is))
+
+none-mapped : {A B : Type 0} (f : A → B) (o : Option A) → is_none (option_map f o) ≡ is_none o
+none-mapped f None = refl
+none-mapped f (Some a) = refl
+
+-- an option that is tested
+pub none-tested : {A : Type 0} (o : Option A) (b : Bool) → is_some o ≡ not b → b ≡ is_none o
+none-tested None true is = refl
+none-tested None false is = absurd (cc (is))
+none-tested (Some a) true is = absurd (cc (is))
+none-tested (Some a) false is = refl
+
+-- a station leads with none exactly where the code finds none
+pub none-led : (base : ℕ) (own : Mi) (s : State) (h : List Keying) (live : List Report) → StandsFor base own false s h → is_none (leads_now s live) ≡ is_none (leads h live)
+none-led base own s h live t = ap is_none (leads-told base own s h live t) ∙ none-mapped (told h) (leads h live)
 
 followed : (h : List Keying) (b : Bool) (k : Key)
     → cond b (Some (kept_of false h k, Flag)) None ≡ option_map (told h) (cond b (Some (let x : Beginning = record { key = k; cause = Flag } in x)) None)

@@ -12,6 +12,7 @@ pub mod Begins
 pub mod Unwrapping
 pub mod Members
 pub mod Installs
+pub mod Rosters
 pub mod Makes
 pub mod NextAn
 pub mod Numbers

@@ -14,7 +14,7 @@ use Rattle.sak_exchange.specs.Held.{is_retire_time_ago, latest, old, Kept, held}
 use Rattle.sak_exchange.specs.Beginning.{is_long_ago, retired}
 use Rattle.sak_exchange.specs.Outcomes.{dropping, retiring}
 use Rattle.sak_exchange.specs.Standing.{State, StandsFor, ticks_since, ticks_since_any, most_ticks, kept_of}
-use Rattle.sak_exchange.specs.inside.States.{counted, aged, ticked_now, retires_now, retired_now, drops_now}
+use Rattle.sak_exchange.specs.inside.States.{counted, aged, ticked_now, retires_now, retired_now, after_retiring, drops_now}
 use Rattle.sak_exchange.proofs.Cases.{by_test}
 use Rattle.sak_exchange.proofs.Shape.{none, one, two, shape, latest-none, latest-one, latest-two}
 use Rattle.sak_exchange.proofs.Entries.{is_over, keys-ticked, keys-dropped}
@@ -104,10 +104,6 @@ retired-changes base own s h t = ap (λ (o : Option HeldKey). option_to_list (op
 left-held : (h : List Keying) (b : Bool) (o : Option Key) → cond b None (option_map (held h) o) ≡ option_map (held h) (cond b None o)
 left-held h true o = refl
 left-held h false o = refl
-
--- the state without the old key, where that is retired
-abbrev pub after_retiring : State → State
-after_retiring s = record s { former = cond (retires_now s) None s.former }
 
 pub stands-retired : (base : ℕ) (own : Mi) (s : State) (h : List Keying) → StandsFor base own true s h → StandsFor base own false (after_retiring s) (ticked true ∷ h)
 stands-retired base own s h t =

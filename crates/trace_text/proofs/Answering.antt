@@ -10,7 +10,7 @@ use Rattle.trace_text.specs.declared.line.Line.{Line}
 use Rattle.trace_text.specs.Limits.{most_line}
 use Rattle.trace_text.specs.Words.{words_of}
 use Rattle.trace_text.specs.Reading.{line_of, is_comment, line_in}
-use Rattle.trace_text.specs.inside.Answering.{Answers}
+use Rattle.trace_text.specs.Answering.{Answers}
 use Rattle.trace_text.specs.Appending.{Grew}
 
 some_refused : (error : LineError) (r : Result Line TextFault) → Answers {X = Line} (Err error) r

@@ -9,7 +9,7 @@ use Rattle.hex.proofs.HexLemmas.{decode_of-ok}
 use Rattle.trace_text.specs.declared.fault.TextFault.{TextFault}
 use Rattle.trace_text.specs.declared.fault.TextFault.TheVariants.{Hex}
 use Rattle.trace_text.specs.Kinds.{if_allowed, octets_of}
-use Rattle.trace_text.specs.inside.Answering.{checked}
+use Rattle.trace_text.specs.Answering.{checked}
 
 -- a test that was passed, or the fault
 abbrev pub passes : Bool → Result (Unit {0}) TextFault

@@ -6,7 +6,7 @@ use Rattle.trace_text.specs.declared.fault.LineError.TheVariants.{Memory}
 use Rattle.trace_text.specs.declared.fault.TextFault.{TextFault}
 use Rattle.trace_text.specs.declared.line.Line.{Line}
 use Rattle.trace_text.specs.Reading.{line_in, first_fault}
-use Rattle.trace_text.specs.inside.Answering.{Answers}
+use Rattle.trace_text.specs.Answering.{Answers}
 
 one_of_both : (text : List ℕ) (r : Result (Option Line) TextFault) → line_in text ≡ r
     → ((said : Option Line) × (line_in text ≡ Ok said)) ⊎ ((fault : TextFault) × (first_fault text ≡ Some fault))

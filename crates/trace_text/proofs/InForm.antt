@@ -23,7 +23,7 @@ use Rattle.trace_text.specs.Keywords.{keyword_of}
 use Rattle.trace_text.specs.Forms.{Row, makes, ◌⇒◌, blocks, Form, form, just, some, forms_of}
 use Rattle.trace_text.specs.Reading.{◌>>=◌, blocks_of, along, by_count, by_form, draws_of, line_by, line_of, is_comment, line_of_words, line_in}
 use Rattle.trace_text.specs.Writing.{◌∶◌, AllFit, IsInForm}
-use Rattle.trace_text.specs.inside.Answering.{Answers}
+use Rattle.trace_text.specs.Answering.{Answers}
 
 abbrev value_or : {A : Type 0} → A → Result A TextFault → A
 value_or d (Ok x) = x
@@ -32,7 +32,7 @@ value_or d (Err fault) = d
 abbrev fine : {A : Type 0} → A → Result A TextFault
 fine x = Ok x
 
-same_value : {A : Type 0} (x y : A) → fine x ≡ fine y → x ≡ y
+pub same_value : {A : Type 0} (x y : A) → fine x ≡ fine y → x ≡ y
 same_value x y e = ap (value_or x) e
 
 -- what a test let through
@@ -74,7 +74,7 @@ array_fits count word (Ok decoded) d xs e =
     (subst (λ ys. length ys ≡ count) same size, subst IsBytes same ok.3)
 array_fits count word (Err fault) d xs e = absurd cc
 
-said_fits : (k : Kind) (word : List ℕ) (x : Said k) → said k word ≡ Ok x → IsFit k x
+pub said_fits : (k : Kind) (word : List ℕ) (x : Said k) → said k word ≡ Ok x → IsFit k x
 said_fits name word x e =
     let p = passed (is_name word) word x Range e in
     subst (λ w. is_name w ≡ true) p.1 p.0
@@ -90,7 +90,7 @@ said_fits secret word x e =
     (one_of_two 16 32 (length x) p.0, p.1)
 
 -- the parts of two steps that gave a value
-both_steps : {A B : Type 0} (r : Result A TextFault) (f : A → Result B TextFault) (y : B) → (r >>= f) ≡ Ok y → (x : A) × (r ≡ Ok x) × (f x ≡ Ok y)
+pub both_steps : {A B : Type 0} (r : Result A TextFault) (f : A → Result B TextFault) (y : B) → (r >>= f) ≡ Ok y → (x : A) × (r ≡ Ok x) × (f x ≡ Ok y)
 both_steps (Ok x) f y e = (x, refl, e)
 both_steps (Err fault) f y e = absurd cc
 
@@ -118,7 +118,7 @@ abbrev FormsFit : List Form → Type 0
 FormsFit [] = Unit {0}
 FormsFit (f ∷ fs) = FormFits f × FormsFit fs
 
-by_test : {A : Type 0} (b : Bool) (r s : Result A TextFault) (x : A) → (if b then r else s) ≡ Ok x → ((b ≡ true) × (r ≡ Ok x)) ⊎ (s ≡ Ok x)
+pub by_test : {A : Type 0} (b : Bool) (r s : Result A TextFault) (x : A) → (if b then r else s) ≡ Ok x → ((b ≡ true) × (r ≡ Ok x)) ⊎ (s ≡ Ok x)
 by_test true r s x e = inl (refl, e)
 by_test false r s x e = inr e
 
@@ -227,7 +227,7 @@ behind_fits keys.End words line e = count_fits (forms_of keys.End) words line (f
 behind_fits keys.Inject words line e = count_fits (forms_of keys.Inject) words line (forms_fit keys.Inject) e
 behind_fits keys.Feed words line e = count_fits (forms_of keys.Feed) words line (forms_fit keys.Feed) e
 
-first_fits : (o : Option Keyword) (words : List (List ℕ)) (line : Line) → (ok_or o Word >>= (λ keyword. line_by keyword words)) ≡ Ok line → IsInForm line
+pub first_fits : (o : Option Keyword) (words : List (List ℕ)) (line : Line) → (ok_or o Word >>= (λ keyword. line_by keyword words)) ≡ Ok line → IsInForm line
 first_fits (Some keyword) words line e = behind_fits keyword words line e
 first_fits None words line e = absurd cc
 

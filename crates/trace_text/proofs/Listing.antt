@@ -5,7 +5,7 @@ use Rattle.std.proofs.lemmas.List.{append-nil}
 use Rattle.trace_text.specs.declared.fault.TextFault.{TextFault}
 use Rattle.trace_text.specs.Kinds.{exactly_of}
 use Rattle.trace_text.specs.Reading.{◌>>=◌, blocks_of}
-use Rattle.trace_text.specs.inside.Answering.{checked}
+use Rattle.trace_text.specs.Answering.{checked}
 
 -- these blocks, and those that are read behind them
 abbrev pub onto : List (List ℕ) → Result (List (List ℕ)) TextFault → Result (List (List ℕ)) TextFault

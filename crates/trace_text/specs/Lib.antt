@@ -6,4 +6,5 @@ pub mod Kinds
 pub mod Forms
 pub mod Reading
 pub mod Writing
+pub mod Answering
 pub mod inside

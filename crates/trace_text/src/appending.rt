@@ -57,7 +57,10 @@ fn put_octets(into: &mut Vec<u8>, octets: &[u8]) -> Result<(), AllocError>
     ensures ok { OnOk result (into.new.items ≡ into.old.items ++ encode_lower octets.now) }
     ensures err { OnErr result (into.new.items ≡ into.old.items) }
 {
-    let alloc = *into.allocator();
-    let digits = hex::encode(alloc, octets)?;
-    into.extend_from_slice(digits.as_bytes())
+    let start = into.len();
+    let digits = 2 * octets.len();
+    into.reserve(digits)?;
+    into.resize(start + digits, 0)?;
+    let _ = hex::encode_to_slice(octets, &mut into[start..]);
+    Ok(())
 }

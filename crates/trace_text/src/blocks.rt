@@ -3,7 +3,7 @@
 ghost use Rattle.std.specs.Prelude.{◌≡◌, Ok, IsOk};
 ghost use Rattle.trace_text.specs.Words.{words_of};
 ghost use Rattle.trace_text.specs.Reading.{blocks_of};
-ghost use Rattle.trace_text.specs.inside.Answering.{Answers, checked};
+ghost use Rattle.trace_text.specs.Answering.{Answers, checked};
 
 use crate::fault::{LineError, TextFault};
 use crate::kinds::read_array;

@@ -4,7 +4,7 @@
 ghost use Rattle.std.specs.Prelude.{◌≡◌, [], ◌∷◌, codes};
 ghost use Rattle.trace_text.specs.Words.{words_of};
 ghost use Rattle.trace_text.specs.Reading.{line_of, line_by, draws_of};
-ghost use Rattle.trace_text.specs.inside.Answering.{Answers};
+ghost use Rattle.trace_text.specs.Answering.{Answers};
 
 use crate::blocks::{expect_blocks, read_blocks};
 use crate::fault::{LineError, TextFault};

@@ -8,7 +8,7 @@ ghost use Rattle.hex.specs.Hex.{decode_of};
 ghost use Rattle.trace_text.specs.Kinds.{said, name, is_number, number_of, suite_in, octets_of, exactly_of, is_within, is_either};
 ghost use Rattle.trace_text.specs.Limits.{most_injected};
 ghost use Rattle.trace_text.specs.declared.fault.TextFault.TheVariants.{Hex};
-ghost use Rattle.trace_text.specs.inside.Answering.{Answers, checked};
+ghost use Rattle.trace_text.specs.Answering.{Answers, checked};
 
 use crate::fault::{LineError, TextFault};
 use crate::limits::{MAX_DIGITS, MAX_INJECTED};

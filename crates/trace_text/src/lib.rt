@@ -17,8 +17,12 @@ mod writing;
 
 pub use appending::{Word, put_words};
 pub use fault::{LineError, TextFault};
+pub use forms::read_form;
+pub use keyword::Keyword;
+pub use kinds::{decoded, expect_key, expect_octets, read_name, read_number};
 pub use laws::{law_read_or_refused, law_written_is_read};
-pub use limits::law_limits;
+pub use limits::{MAX_LINE, law_limits};
 pub use line::Line;
-pub use reading::read_line;
+pub use reading::{is_comment, read_line};
+pub use words::{next_word, one_word, two_words};
 pub use writing::write_line;

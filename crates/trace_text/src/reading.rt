@@ -3,7 +3,7 @@
 ghost use Rattle.std.specs.Prelude.{◌≡◌, ◌↔◌, Ok, Err, Some, None, IfOk, IfSome};
 ghost use Rattle.trace_text.specs.Reading.{line_in, first_fault, is_comment};
 ghost use Rattle.trace_text.specs.Writing.{IsInForm};
-ghost use Rattle.trace_text.specs.inside.Answering.{Answers};
+ghost use Rattle.trace_text.specs.Answering.{Answers};
 ghost use Rattle.trace_text.specs.declared.fault.TextFault.{TextFault};
 ghost use Rattle.trace_text.specs.declared.fault.LineError.TheVariants.{Refused, Memory};
 
@@ -48,7 +48,7 @@ fn answer_line(alloc: Global, line: &[u8]) -> Result<Option<Line>, LineError>
 }
 
 /// Whether a word begins a comment.
-fn is_comment(word: &[u8]) -> bool
+pub fn is_comment(word: &[u8]) -> bool
     ensures { result ≡ is_comment word.now }
 {
     match word {

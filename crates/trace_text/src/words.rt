@@ -3,7 +3,7 @@
 ghost use Rattle.std.specs.Prelude.{◌≡◌, ◌<◌, ◌≤◌, [], ◌∷◌, IfNone, IfSome, length, not};
 ghost use Rattle.std.specs.List.{position_or_len};
 ghost use Rattle.trace_text.specs.Words.{words_of, is_blank};
-ghost use Rattle.trace_text.specs.inside.Answering.{Takes};
+ghost use Rattle.trace_text.specs.Answering.{Takes};
 
 use crate::fault::TextFault;
 

@@ -28,13 +28,14 @@ use crate::limits::STATIONS_MAX;
 use crate::seat::Seat;
 use crate::settings::group_of;
 use crate::stop::{StepError, Stop, Which};
-use crate::telling::one;
 use lan_base::{Draws, Name, Sci};
 use mka_station::{Config, mi_of};
 use std::alloc::AllocError;
 
 impl Lan {
-    /// A station begins its first life.
+    /// A station begins its first life. A station is large: this keeps the room for it out of the
+    /// steps that start none.
+    #[inline(never)]
     pub(super) fn start<D: Draws>(
         &mut self,
         name: Name,
@@ -55,7 +56,7 @@ impl Lan {
         let mi = mi_of(draw);
         note_mi(&mut self.drawn, mi)?;
         let seat = self.seat(sci, priority, draw)?;
-        let facts = one(self.alloc, Fact::Life { station: place, mi })?;
+        let facts = Facts::one(self.alloc, Fact::Life { station: place, mi })?;
         self.seats.push(seat)?;
         self.names.push(name)?;
         Ok(facts)
@@ -134,6 +135,7 @@ impl Lan {
     }
 
     /// A station starts again.
+    #[inline(never)]
     pub(super) fn restart<D: Draws>(
         &mut self,
         station: u8,

@@ -16,16 +16,16 @@ use std::alloc::{AllocError, Global};
 impl Lan {
     /// Protected frames wait to be put on the air, behind those that wait. An error leaves the group
     /// as it was.
-    pub fn settle(&mut self, taken: &[Protected]) -> Result<(), AllocError>
+    pub fn settle(&mut self, taken: Vec<Protected>) -> Result<(), AllocError>
         // They are the frames of claims that workers made while the events without them happened.
         ensures stands { (settings : Settings) (users : List UserFrame) (part : List Happening)
             (r : Run)
             → StandsFor settings users self.old (followed_by (without_claims part) r)
             → IsStepped settings users (followed_by part r)
-            → AreProtected settings users taken.now part r
+            → AreProtected settings users taken.items part r
             → OnOk result (StandsFor settings users self.new (followed_by part r)) }
         ensures ok { OnOk result (self.new ≡ record self.old {
-          waiting = self.old.waiting ++ map sealed_from taken.now;
+          waiting = self.old.waiting ++ map sealed_from taken.items;
         }) }
         ensures err { OnErr result (self.new ≡ self.old) }
     {
@@ -35,15 +35,17 @@ impl Lan {
 }
 
 /// Protected frames as they wait for their emission.
-fn sealed_frames(alloc: Global, taken: &[Protected]) -> Result<Queue, AllocError>
-    ensures { IfOk result (λ frames. frames ≡ map sealed_from taken.now) }
+fn sealed_frames(alloc: Global, taken: Vec<Protected>) -> Result<Queue, AllocError>
+    ensures { IfOk result (λ frames. frames ≡ map sealed_from taken.items) }
 {
     let mut frames = Queue::new(alloc);
     for frame in taken {
-        frames.push(Sealed {
-            station: frame.station,
-            octets: frame.octets.copied(alloc)?,
-        })?;
+        let Protected {
+            station,
+            octets,
+            ..
+        } = frame;
+        frames.push(Sealed { station, octets })?;
     }
     Ok(frames)
 }

@@ -24,7 +24,6 @@ use crate::fact::{Fact, Facts, Lack};
 use crate::limits::judge_installs;
 use crate::seat::Seat;
 use crate::stop::StepError;
-use crate::telling::one;
 use crate::waiting::{Queue, Sealed};
 use lan_base::{FRAME_MAX, Octets, UserFrame, is_user_data};
 use rx_slots::Checked;
@@ -90,7 +89,7 @@ impl Lan {
         let Some(claimed) = self.seats.claim(station, pn, user)? else {
             return Ok(Facts::new(self.alloc));
         };
-        let facts = one(self.alloc, claim_fact(station, pn, claimed.key))?;
+        let facts = Facts::one(self.alloc, claim_fact(station, pn, claimed.key))?;
         wait(&mut self.waiting, station, claimed.octets)?;
         Ok(facts)
     }
@@ -110,7 +109,7 @@ impl Lan {
         };
         self.extent(Some(&frame.octets), self.ticks, 0)?.judge()?;
         let octets = frame.octets.copied(self.alloc)?;
-        let facts = one(
+        let facts = Facts::one(
             self.alloc,
             Fact::Framed {
                 number,

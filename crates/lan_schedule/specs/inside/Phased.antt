@@ -12,7 +12,7 @@ use Rattle.lan_schedule.specs.Acts.{Act, Goes, Stops, look, perform}
 use Rattle.lan_schedule.specs.Kinds.{first_of, is_allowed, is_control, wrong_word}
 use Rattle.lan_schedule.specs.Lines.{deed, act_of, behind_race, behind_while, unless_refused}
 use Rattle.lan_schedule.specs.Standing.{phase_of, AreFit}
-use Rattle.lan_schedule.specs.inside.Choosing.{is_race}
+use Rattle.lan_schedule.specs.Places.{is_race}
 
 -- why a line is refused outside a race
 abbrev pub refusal_apart : Line → World → Option Kind

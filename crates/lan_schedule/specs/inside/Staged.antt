@@ -1,5 +1,5 @@
 -- What a call on a group at work did of an act.
-use Rattle.std.specs.Prelude.{◌≡◌, ℕ, true, List, [], ◌++◌, Option, Result}
+use Rattle.std.specs.Prelude.{◌≡◌, ℕ, true, List, [], ◌++◌, Option, is_some, Result}
 use Rattle.lan_base.specs.declared.frame.UserFrame.{UserFrame}
 use Rattle.lan_core.specs.declared.event.Event.{Event}
 use Rattle.lan_core.specs.declared.fact.Fact.{Fact}
@@ -66,11 +66,11 @@ pub record Happened {K : Type 0} (Took : K → Report → K → Type 0)
       old.outlet new result
   pub tables : KeepTables old.value.words new.value.words
 
--- The group made a step, and nothing beside it changed yet. The epoch is that of the key that
--- transmitted before at the station of the event.
+-- The group made a step, and nothing beside it changed yet. In the midst of a race the epoch is that
+-- of the key that transmitted before at the station of the event.
 pub record HasStepped (event : Event) (before : Option ℕ) (old mid : Stage) : Type 0 where
   pub same : mid ≡ record old { lan = mid.lan; draws = mid.draws }
-  pub epoch : (settings : Settings) (users : List UserFrame) (r : Run)
+  pub epoch : is_some old.steps ≡ true → (settings : Settings) (users : List UserFrame) (r : Run)
       → GroupStandsFor settings users old.lan r → before ≡ epoch_of settings r event
 
 -- what follows such a step was done, in the worlds in which the group went on with these facts

@@ -10,7 +10,8 @@ use Rattle.mkpdu_codec.specs.declared.key_use.Uses.{Uses}
 use Rattle.sak_exchange.specs.declared.report.Report.{Report}
 use Rattle.sak_exchange.specs.declared.held_key.Key.{Key}
 use Rattle.sak_exchange.specs.Histories.{Keying}
-use Rattle.sak_exchange.specs.Held.{latest}
+use Rattle.sak_exchange.specs.Held.{latest, old}
+use Rattle.sak_exchange.specs.declared.due.Seen.{Seen}
 use Rattle.sak_exchange.specs.Reports.{reports as is_reported}
 use Rattle.sak_exchange.specs.Making.{is_in_roster}
 use Rattle.mka_station.specs.declared.saying.Lowest.{Lowest}
@@ -20,6 +21,11 @@ use Rattle.mka_station.specs.Views.{is_server}
 use Rattle.mka_station.specs.Announcing.{lowest_under, given_as}
 use Rattle.mka_station.specs.Standing.{State}
 use Rattle.mka_station.specs.inside.Rows.{live_rows, potential_rows, peer_in}
+use Rattle.mka_station.specs.inside.Found.{Found}
+
+-- the lowest acceptable packet numbers that a tick is shown behind this history of the keys
+abbrev pub lowest_of : List Keying → Seen → Lowest
+lowest_of h seen = record { latest = latest h; old = old h; seen = seen }
 
 -- the lowest acceptable packet number under a key
 abbrev pub lowest_by : Lowest → Key → ℕ
@@ -44,18 +50,18 @@ is_flagged_by setup server mi =
     else is_server server mi
 
 -- the announcement
-abbrev pub announced_by : State → ℕ → Option Uses → Option Given → Announcement
-announced_by s mn uses given =
+abbrev pub announced_by : State → Found → ℕ → Option Uses → Option Given → Announcement
+announced_by s c mn uses given =
     record {
       source = record { 0 = take 6 s.setup.sci.0 };
       priority = s.setup.priority;
-      server = is_flagged_by s.setup s.coming.server s.mi;
+      server = is_flagged_by s.setup c.server s.mi;
       sci = s.setup.sci;
       mi = s.mi;
       mn = mn;
       ckn = s.setup.ckn;
-      live = map peer_in (live_rows s.coming.rows);
-      potential = map peer_in (potential_rows s.coming.rows);
+      live = map peer_in (live_rows c.rows);
+      potential = map peer_in (potential_rows c.rows);
       uses = uses;
       given = given;
     }

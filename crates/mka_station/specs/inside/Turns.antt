@@ -29,7 +29,8 @@ use Rattle.mka_station.specs.Views.{is_server}
 use Rattle.mka_station.specs.Announcing.{Shown, uses_of}
 use Rattle.mka_station.specs.Hearing.{is_accepted, is_vouched, reason_of_refusal}
 use Rattle.mka_station.specs.Standing.{State}
-use Rattle.mka_station.specs.inside.Due.{is_due_after, one_later}
+use Rattle.mka_station.specs.inside.Due.{shown_by, is_due_after, one_later}
+use Rattle.mka_station.specs.inside.Found.{Found}
 use Rattle.mka_station.specs.inside.Saying.{lowest_by, given_after, announced_by}
 use Rattle.sak_exchange.specs.declared.change.Change.{Change}
 use Rattle.sak_exchange.specs.declared.change.Change.TheVariants.{Dropped, Retired, Began}
@@ -43,13 +44,13 @@ is_install (Began k cause) = false
 is_install (Installed k) = true
 is_install (Untaken id why) = false
 
--- what a station says that shows this, given the lowest acceptable packet numbers and the history
--- of its keys
-abbrev pub said_by : State → Shown → ℕ → Lowest → List Keying → Option Announcement
-said_by s shown mn lowest h =
-    if is_due_after s.spoken shown
-    then Some (announced_by s mn (uses_of (lowest_by lowest) h)
-    (given_after s.setup.kek (is_server s.coming.server s.mi) s.coming.reports h))
+-- what a station says at a tick that finds this, given the lowest acceptable packet numbers and the
+-- history of its keys
+abbrev pub said_by : State → Found → ℕ → Lowest → List Keying → Option Announcement
+said_by s c mn lowest h =
+    if is_due_after s.spoken (shown_by c.rows c.server h)
+    then Some (announced_by s c mn (uses_of (lowest_by lowest) h)
+    (given_after s.setup.kek (is_server c.server s.mi) c.reports h))
     else None
 
 -- the history of the peer lists, with an announcement where one is sent
@@ -96,10 +97,10 @@ abbrev pub spoken_later : Option Spoken → Option Spoken
 spoken_later None = None
 spoken_later (Some s) = Some (record s { since = one_later s.since })
 
--- what is kept after a tick
-abbrev pub spoken_after : Option Spoken → Shown → Bool → Option Spoken
-spoken_after before shown true = Some (record { shown = shown; since = 0 })
-spoken_after before shown false = spoken_later before
+-- what is kept after a tick, at which this is shown in an announcement, or none is sent
+abbrev pub spoken_after : Option Spoken → Option Shown → Option Spoken
+spoken_after before (Some shown) = Some (record { shown = shown; since = 0 })
+spoken_after before None = spoken_later before
 
 -- a SAK is there only where a key is due
 abbrev pub IsDue : Option Secret → Bool → Type 0

@@ -1,6 +1,6 @@
 //! A frame is heard: it is judged, and what it says is taken.
 
-ghost use Rattle.std.specs.Prelude.{◌≡◌, ◌≤◌, ◌<◌, ◌+◌, ◌^◌, List, ℕ, false, Ok, Err, IfOk, OnOk, OnErr, IfErr, length, take};
+ghost use Rattle.std.specs.Prelude.{◌≡◌, ◌≤◌, ◌<◌, ◌+◌, ◌^◌, ◌∷◌, List, ℕ, false, Ok, Err, IfOk, OnOk, OnErr, IfErr, length, take};
 ghost use Rattle.lan_base.specs.declared.address.Mi.{Mi};
 ghost use Rattle.mkpdu_codec.specs.Reading.{reading};
 ghost use Rattle.peer_lists.specs.Acceptance.{Own};
@@ -10,18 +10,18 @@ ghost use Rattle.sak_exchange.specs.Histories.{Keying};
 ghost use Rattle.sak_exchange.specs.Outcomes.{beginning};
 ghost use Rattle.sak_exchange.specs.Standing.{StandsFor as KeysStandFor};
 ghost use Rattle.mka_station.specs.declared.verdict.DropReason.{DropReason};
-ghost use Rattle.mka_station.specs.Lives.{Member, Entry};
-ghost use Rattle.mka_station.specs.Hearing.{judged, hear_turn, frame_turn, take_changes, key_taken, is_accepted, verdict_of, reason_of_refusal, reason_of_peers};
+ghost use Rattle.mka_station.specs.Lives.{Member, Entry, heard, own, peers_of};
+ghost use Rattle.mka_station.specs.Views.{view};
+ghost use Rattle.mka_station.specs.Hearing.{judged, hear_turn, frame_turn, outcome_of, take_changes, key_taken, is_accepted, verdict_of, reason_of_refusal, reason_of_peers};
 ghost use Rattle.mka_station.specs.Standing.{StandsFor, HasRoom};
 ghost use Rattle.mka_station.specs.inside.Reached.{IsHeard};
 ghost use Rattle.mka_station.specs.inside.Turns.{offered_by, answered, keys_with, followed_by, IsRefused, fault_of};
 
 use super::{Station, new_server};
 use crate::changes::{joined, one_installs};
-use crate::coming::candidate;
-use crate::next::{Hearing, Next};
+use crate::next::Hearing;
 use crate::reaction::Reaction;
-use crate::rows::{elected, is_server, rows_now};
+use crate::rows::is_server;
 use crate::telling::{is_listed, told};
 use crate::verdict::{DropReason, Verdict};
 use aes_block::Key;
@@ -32,8 +32,8 @@ use mkpdu_codec::{
 };
 use peer_lists::{Outcome, PeerRefusal, PeerTable};
 use sak_exchange::{Changes, KeyState, Offer};
-use server_election::Candidate;
 use std::alloc::{AllocError, Global};
+use std::mem::swap;
 
 impl Station {
     /// A frame is heard. One that is dropped by its form, its group's name or its check value
@@ -110,41 +110,44 @@ impl Station {
             OnOk result (StandsFor m self.new (hear_turn m announcement.now p).past) }
         ensures unchanged { OnErr result (self.new ≡ self.old) }
     {
-        let heard = self.after_hearing(announcement)?;
+        let outcome = hear_in(&mut self.spare, &self.peers, &self.mi, announcement);
+        let server = self.coming.elect(&self.config, &self.mi, &self.spare);
+        let heard = self.after_hearing(&self.spare, outcome, server, announcement)?;
         let Hearing {
-            next,
+            keys,
+            server,
             installs,
             reaction,
         } = heard;
-        self.settle(next, installs);
+        swap(&mut self.peers, &mut self.spare);
+        self.settle(keys, server, installs);
         Ok(reaction)
     }
 
-    /// What a hearing comes to.
-    fn after_hearing(&self, announcement: &Announcement) -> Result<Hearing, AllocError>
+    /// What a hearing comes to, behind which peer lists and server are these.
+    fn after_hearing(
+        &self,
+        peers: &PeerTable,
+        outcome: Outcome,
+        server: Option<Mi>,
+        announcement: &Announcement,
+    ) -> Result<Hearing, AllocError>
         requires room { HasRoom self.now }
         ensures { (m : Member) (p : List Entry) → StandsFor m self.now p →
+            PeersStandFor (own m) peers.now (peers_of m (heard announcement.now ∷ p)) →
+            outcome ≡ outcome_of m p announcement.now →
+            server ≡ (view m (heard announcement.now ∷ p)).server →
             IfOk result (IsHeard m p announcement.now) }
     {
-        let heard = told(self.alloc, self.mi(), self.peers(), announcement)?;
-        let mut peers = self.peers().copied(self.alloc)?;
-        let outcome = peers.hear(&heard);
-        let rows = rows_now(self.alloc, &peers)?;
-        let server = elected(self.alloc, &self.candidate(), &rows)?;
         let mut keys = self.keys().copied(self.alloc)?;
-        let offer = offered(outcome, &peers, self.mi(), server, announcement);
+        let offer = offered(outcome, peers, self.mi(), server, announcement);
         let taken = take(self.alloc, self.kek(), &mut keys, offer)?;
         let followed = follow(self.alloc, &mut keys, outcome, server, announcement)?;
         let installs = one_installs(&taken);
         let changes = joined(taken, &followed)?;
-        let coming = self.prepare(*self.mi(), &peers, &keys)?;
         Ok(Hearing {
-            next: Next {
-                peers,
-                keys,
-                server,
-                coming,
-            },
+            keys,
+            server,
             installs,
             reaction: Reaction {
                 heard: Some(verdict_of(outcome)),
@@ -154,17 +157,24 @@ impl Station {
             },
         })
     }
+}
 
-    /// The station as a candidate.
-    fn candidate(&self) -> Candidate
-        ensures { result ≡ record {
-          mi = self.now.mi;
-          sci = self.now.setup.sci;
-          priority = self.now.setup.priority;
-        } }
-    {
-        candidate(&self.config, self.mi)
-    }
+/// An announcement is heard in peer lists that become the same as these first.
+fn hear_in(
+    spare: &mut PeerTable,
+    peers: &PeerTable,
+    mi: &Mi,
+    announcement: &Announcement,
+) -> Outcome
+    ensures answer { (m : Member) (p : List Entry) → m.mi ≡ mi.now →
+        PeersStandFor (own m) peers.now (peers_of m p) →
+        result ≡ outcome_of m p announcement.now }
+    ensures stands { (m : Member) (p : List Entry) → m.mi ≡ mi.now →
+        PeersStandFor (own m) peers.now (peers_of m p) →
+        PeersStandFor (own m) spare.new (peers_of m (heard announcement.now ∷ p)) }
+{
+    spare.copy_from(peers);
+    spare.hear(&told(mi, peers, announcement))
 }
 
 /// What a frame spells, or why it is dropped.

@@ -30,14 +30,12 @@ impl Station {
         let mi = mi_of(draw);
         let peers = PeerTable::new(self.alloc, mi, self.sci())?;
         let keys = KeyState::new(self.alloc, mi, self.epochs())?;
-        let coming = self.prepare(mi, &peers, &keys)?;
         let server = lost(self.server());
         self.mi = mi;
         self.peers = peers;
         self.keys = keys;
         self.server = None;
         self.spoken = None;
-        self.coming = coming;
         Ok(Reaction {
             heard: None,
             server,

@@ -1,33 +1,37 @@
 //! A tick: the server is elected, keys end, begin or are made, and the station announces itself.
 
-ghost use Rattle.std.specs.Prelude.{◌≡◌, ◌<◌, ◌+◌, ◌^◌, ◌↔◌, ◌&&◌, ◌++◌, List, ℕ, false, Some, None, Err, IsTrue, IfOk, OnOk, OnErr, OnSome, not, cond};
+ghost use Rattle.std.specs.Prelude.{◌≡◌, ◌<◌, ◌+◌, ◌^◌, ◌↔◌, ◌&&◌, ◌++◌, ◌∷◌, List, ℕ, true, false, Some, None, Err, IsTrue, IfOk, OnOk, OnErr, OnSome, IfErr, is_none, cond, if◌then◌else◌};
 ghost use Rattle.std.specs.List.{list_any};
 ghost use Rattle.lan_base.specs.declared.address.Mi.{Mi};
+ghost use Rattle.lan_base.specs.Suites.{sak_draws};
 ghost use Rattle.aes_block.specs.declared.secret.Secret.{Secret};
-ghost use Rattle.sak_exchange.specs.Histories.{Keying};
+ghost use Rattle.peer_lists.specs.Table.{StandsFor as PeersStandFor};
+ghost use Rattle.sak_exchange.specs.declared.due.Seen.{Seen};
+ghost use Rattle.sak_exchange.specs.Histories.{Keying, ticked};
+ghost use Rattle.sak_exchange.specs.Beginning.{leads};
 ghost use Rattle.sak_exchange.specs.Making.{makes, made_roster};
 ghost use Rattle.sak_exchange.specs.Standing.{StandsFor as KeysStandFor};
 ghost use Rattle.mka_station.specs.declared.tick_error.TickError.{TickError};
-ghost use Rattle.lan_base.specs.Suites.{sak_draws};
-ghost use Rattle.mka_station.specs.Lives.{Member, Entry};
-ghost use Rattle.mka_station.specs.Views.{is_server};
+ghost use Rattle.mka_station.specs.Lives.{Member, Entry, own, peers_of, keys_of};
 ghost use Rattle.mka_station.specs.Tick.{tick_turn, install_changes};
 ghost use Rattle.mka_station.specs.Drawing.{next_sak, sak_of, draws_at, makes_next, is_short};
 ghost use Rattle.mka_station.specs.Standing.{StandsFor, HasRoom};
-ghost use Rattle.mka_station.specs.inside.Due.{shown_by};
+ghost use Rattle.mka_station.specs.inside.Found.{Comes};
 ghost use Rattle.mka_station.specs.inside.Reached.{IsTicked};
 ghost use Rattle.mka_station.specs.inside.Turns.{made_by, keys_made, IsDue};
 
+use super::announcing::pass_peers;
 use super::{Station, new_server};
 use crate::changes::joined;
-use crate::next::{Next, Ticked};
+use crate::coming::{Coming, pass_keys};
+use crate::config::Config;
+use crate::next::Ticked;
 use crate::reaction::Reaction;
 use crate::rows::{is_one_potential, is_server};
-use crate::saying::Lowest;
-use crate::shown::Shown;
 use crate::tick_error::TickError;
 use aes_block::Secret;
-use lan_base::{Draws, Suite};
+use lan_base::{Draws, Mi, Suite};
+use peer_lists::PeerTable;
 use sak_exchange::{Changes, Due, KeyState, Seen};
 use std::alloc::{AllocError, Global};
 
@@ -56,100 +60,42 @@ impl Station {
             ↔ IsTrue (is_short m p seen.now (D.nth draws.old)) }
         ensures unchanged { OnErr result (self.new ≡ self.old) }
     {
-        let sak = if self.makes(seen) {
-            Some(drawn_sak(self.config.suite, draws).ok_or(TickError::DrawsSpent)?)
-        } else {
-            None
-        };
-        Ok(self.advance(seen, sak)?)
+        let makes = foresee(
+            &mut self.coming,
+            &self.config,
+            &self.mi,
+            &self.peers,
+            &mut self.keys,
+            seen,
+        );
+        let sak = sak_for(makes, &self.config, draws)?;
+        let ticked = self.after_tick(&self.coming, seen, sak)?;
+        Ok(self.pass(ticked, makes))
     }
 
-    /// Whether the station is its own elected server at the next tick.
-    pub(super) fn serves(&self) -> bool
-        ensures { result ≡ is_server self.now.coming.server self.now.mi }
-    {
-        is_server(self.coming.server, &self.mi)
-    }
-
-    /// Whether a key begins at the next tick.
-    fn leads(&self) -> bool
-        ensures { result ≡ self.now.coming.leads }
-    {
-        self.coming.leads
-    }
-
-    /// Whether the next tick makes a key. This takes no memory.
-    fn makes(&self, seen: &Seen) -> bool
-        ensures { (m : Member) (p : List Entry) → StandsFor m self.now p →
-            result ≡ makes_next m p seen.now }
-    {
-        let due = self.coming_keys().makes(&self.due(seen));
-        is_made(self.serves(), self.leads(), due)
-    }
-
-    /// What decides at the next tick whether a key is made.
-    fn due(&self, seen: &Seen) -> Due<'_>
-        ensures live { result.live.now ≡ self.now.coming.reports }
-        ensures potential { result.potential ≡ list_any (λ r. r.potential) self.now.coming.rows }
-        ensures seen { result.seen ≡ seen.now }
-        ensures rekey { result.rekey ≡ self.now.setup.rekey }
-        ensures conf { result.conf ≡ self.now.setup.conf }
-    {
-        Due {
-            live: &self.coming.reports,
-            potential: is_one_potential(&self.coming.rows),
-            seen: *seen,
-            rekey: self.config.rekey,
-            conf: self.config.conf,
-        }
-    }
-
-    /// A tick, with the SAK of the key that it makes, if it makes one.
-    fn advance(&mut self, seen: &Seen, sak: Option<Secret>) -> Result<Reaction, AllocError>
-        requires room { HasRoom self.old }
-        ensures reaction { (m : Member) (p : List Entry) (any : Secret) → StandsFor m self.old p →
-            sak ≡ cond (makes_next m p seen.now) (Some any) None →
-            IfOk result (λ r. r ≡ (tick_turn m seen.now any p).reaction) }
-        ensures stands { (m : Member) (p : List Entry) (any : Secret) → StandsFor m self.old p →
-            sak ≡ cond (makes_next m p seen.now) (Some any) None →
-            OnOk result (StandsFor m self.new (tick_turn m seen.now any p).past) }
-        ensures unchanged { OnErr result (self.new ≡ self.old) }
-    {
-        let ticked = self.after_tick(seen, sak)?;
-        let Ticked {
-            next,
-            shown,
-            reaction,
-        } = ticked;
-        self.settle(next, sak.is_some());
-        self.note_spoken(shown, reaction.sent.is_some());
-        Ok(reaction)
-    }
-
-    /// What a tick comes to.
-    fn after_tick(&self, seen: &Seen, sak: Option<Secret>) -> Result<Ticked, AllocError>
+    /// What a tick comes to that finds this, with the SAK of the key that it makes, if it makes one.
+    fn after_tick(
+        &self,
+        coming: &Coming,
+        seen: &Seen,
+        sak: Option<Secret>,
+    ) -> Result<Ticked, AllocError>
         requires room { HasRoom self.now }
         ensures { (m : Member) (p : List Entry) (any : Secret) → StandsFor m self.now p →
-            sak ≡ cond (makes_next m p seen.now) (Some any) None →
-            IfOk result (IsTicked m p seen.now any self.now) }
+            Comes m p coming.now → sak ≡ cond (makes_next m p seen.now) (Some any) None →
+            IfOk result (IsTicked m p seen.now any) }
     {
-        let lowest = Lowest::of(self.keys(), seen);
-        let mut keys = self.coming_keys().copied(self.alloc)?;
-        let installed = make(self.alloc, &mut keys, &self.due(seen), sak)?;
-        let mut peers = self.peers().copied(self.alloc)?;
-        peers.tick();
-        let shown = self.shown(&keys)?;
-        let sent = self.say(&mut peers, &keys, &lowest, &shown)?;
-        let changes = self.changes_with(&installed)?;
-        let coming = self.prepare(*self.mi(), &peers, &keys)?;
-        let server = self.next_server();
+        let server = coming.server;
+        let serves = is_server(server, self.mi());
+        let mut keys = self.keys().copied(self.alloc)?;
+        let passed = pass_keys(self.alloc, &mut keys, server, serves, &coming.reports)?;
+        let due = due(&self.config, coming, seen);
+        let installed = make(self.alloc, &mut keys, &due, sak)?;
+        let changes = joined(passed, &installed)?;
+        let (sent, shown) = self.say(coming, &keys, seen)?;
         Ok(Ticked {
-            next: Next {
-                peers,
-                keys,
-                server,
-                coming,
-            },
+            keys,
+            server,
             shown,
             reaction: Reaction {
                 heard: None,
@@ -160,20 +106,86 @@ impl Station {
         })
     }
 
-    /// What the station shows at the next tick, where it holds these keys then.
-    fn shown(&self, keys: &KeyState) -> Result<Shown, AllocError>
-        ensures { (base : ℕ) (own : Mi) (h : List Keying) → KeysStandFor base own false keys.now h →
-            IfOk result (λ s. s ≡ shown_by self.now.coming.rows self.now.coming.server h) }
+    /// The tick passes, in which a key is installed or none.
+    fn pass(&mut self, ticked: Ticked, installs: bool) -> Reaction
+        requires room { HasRoom self.old }
+        ensures reaction { result ≡ ticked.reaction }
+        ensures stands { (m : Member) (p : List Entry) (any : Secret) (seen : Seen) →
+            StandsFor m self.old p → installs ≡ makes_next m p seen →
+            IsTicked m p seen any ticked →
+            StandsFor m self.new (tick_turn m seen any p).past }
     {
-        Shown::of(self.alloc, self.rows(), self.next_server(), keys)
+        let Ticked {
+            keys,
+            server,
+            shown,
+            reaction,
+        } = ticked;
+        pass_peers(&mut self.peers, shown.is_some());
+        self.settle(keys, server, installs);
+        self.note_spoken(shown);
+        reaction
     }
+}
 
-    /// What changes at the next tick, and then these changes.
-    fn changes_with(&self, more: &Changes) -> Result<Changes, AllocError>
-        ensures { IfOk result (λ c. c ≡ self.now.coming.changes ++ more.now) }
-    {
-        let earlier = joined(Changes::new(self.alloc), &self.coming.changes)?;
-        joined(earlier, more)
+/// What the next tick finds, and whether it makes a key. This takes no memory.
+fn foresee(
+    coming: &mut Coming,
+    config: &Config,
+    mi: &Mi,
+    peers: &PeerTable,
+    keys: &mut KeyState,
+    seen: &Seen,
+) -> bool
+    ensures comes { (m : Member) (p : List Entry) → m.setup ≡ config.now → m.mi ≡ mi.now →
+        PeersStandFor (own m) peers.now (peers_of m p) → Comes m p coming.new }
+    ensures makes { (m : Member) (p : List Entry) → m.setup ≡ config.now → m.mi ≡ mi.now →
+        PeersStandFor (own m) peers.now (peers_of m p) →
+        KeysStandFor m.base m.mi false keys.old (keys_of m p) →
+        result ≡ makes_next m p seen.now }
+    ensures unchanged { keys.new ≡ keys.old }
+{
+    coming.look_ahead(config, mi, peers);
+    let serves = is_server(coming.server, mi);
+    let due = due(config, coming, seen);
+    is_made(serves, keys, &due)
+}
+
+/// The SAK of a key that is made, if one is.
+fn sak_for<D: Draws>(
+    makes: bool,
+    config: &Config,
+    draws: &mut D,
+) -> Result<Option<Secret>, TickError>
+    ensures value { IfOk result (λ s. s
+        ≡ (if makes then Some (sak_of config.now.suite (D.nth draws.old)) else None)) }
+    ensures taken { OnOk result ((k : ℕ) → D.nth draws.new k
+        ≡ D.nth draws.old (k + (if makes then sak_draws config.now.suite else 0))) }
+    ensures spent { (result ≡ Err TickError.DrawsSpent)
+        ↔ IsTrue (makes && is_none (next_sak config.now.suite (D.nth draws.old))) }
+    ensures only { IfErr result (λ e. e ≡ TickError.DrawsSpent) }
+{
+    if makes {
+        Ok(Some(drawn_sak(config.suite, draws).ok_or(TickError::DrawsSpent)?))
+    } else {
+        Ok(None)
+    }
+}
+
+/// What decides whether a tick makes a key that finds this.
+fn due<'a>(config: &Config, coming: &'a Coming, seen: &Seen) -> Due<'a>
+    ensures live { result.live.now ≡ coming.now.reports }
+    ensures potential { result.potential ≡ list_any (λ r. r.potential) coming.now.rows }
+    ensures seen { result.seen ≡ seen.now }
+    ensures rekey { result.rekey ≡ config.now.rekey }
+    ensures conf { result.conf ≡ config.now.conf }
+{
+    Due {
+        live: &coming.reports,
+        potential: is_one_potential(&coming.rows),
+        seen: *seen,
+        rekey: config.rekey,
+        conf: config.conf,
     }
 }
 
@@ -229,9 +241,12 @@ fn make(
     }
 }
 
-/// A station that serves, and begins no key, makes one that is due.
-fn is_made(serves: bool, leads: bool, due: bool) -> bool
-    ensures { result ≡ (serves && (not leads && due)) }
+/// Whether the next tick makes a key. This takes no memory.
+fn is_made(serves: bool, keys: &mut KeyState, due: &Due<'_>) -> bool
+    ensures value { (base : ℕ) (own : Mi) (h : List Keying) → KeysStandFor base own false keys.old h →
+        result ≡ (serves && (is_none (leads (ticked true ∷ h) due.now.live.now)
+        && makes (ticked true ∷ h) due.now.live.now due.now.potential due.now.seen due.now.rekey)) }
+    ensures unchanged { keys.new ≡ keys.old }
 {
-    serves && !leads && due
+    serves && keys.makes_next(due)
 }

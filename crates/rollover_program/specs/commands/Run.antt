@@ -1,14 +1,16 @@
 -- `run [--summary]`: a trace is performed, for its transcript or for its summary.
-use Rattle.std.specs.Prelude.{◌≡◌, ℕ, nat_le, Bool, true, false, List, length, Result, Ok, Err}
+use Rattle.std.specs.Prelude.{◌≡◌, ℕ, nat_le, Bool, true, false, List, length, Option, Some, None}
+use Rattle.std.specs.Prelude.{Result, Ok, Err}
 use Rattle.text_lines.specs.Reading.{Sourced}
+use Rattle.lan_schedule.specs.declared.halt.Halt.{Halt}
 use Rattle.lan_schedule.specs.Races.{Chance}
 use Rattle.lan_schedule.specs.Acts.{Course, Goes, Stops, course}
 use Rattle.replay.specs.declared.cause.Cause.{Cause}
 use Rattle.replay.specs.declared.cause.Cause.TheVariants.{Input}
 use Rattle.replay.specs.Sinks.{Sunk}
-use Rattle.replay.specs.Shown.{shown_by}
 use Rattle.replay.specs.Causes.{cause_of_halt}
 use Rattle.replay.specs.Runs.{EndsRun, within, most_input}
+use Rattle.replay.specs.OneGroup.{one_group, shown_by}
 use Rattle.rollover_program.specs.declared.status.Status.{Status}
 use Rattle.rollover_program.specs.declared.status.Status.TheVariants.{Done, Halted}
 use Rattle.rollover_program.specs.Headline.{IsPromised}
@@ -22,18 +24,25 @@ Answers Ends status = ⊥
 -- a run of this text was shown, it is promised, and it ended so
 abbrev pub EndsAsRun : Bool → List ℕ → Sourced → Sourced → Sunk → Sunk → Status → Type 0
 EndsAsRun summary text left now old new status =
-    Answers (λ result. EndsRun IsPromised (shown_by summary) text left now old new result) status
+    Answers (λ result. EndsRun one_group IsPromised (shown_by summary) text left now old new result)
+    status
 
--- the status of what performing lines leaves, and whether the text is within the limit
-abbrev pub status_after : Bool → Course → Status
-status_after fits (Stops w halt) = Halted (cause_of_halt halt)
-status_after true (Goes w) = Done
-status_after false (Goes w) = Halted Input
+-- the status, by whether the text is within the limit, and why performing it stopped, if it did
+abbrev pub status_after : Bool → Option Halt → Status
+status_after fits (Some halt) = Halted (cause_of_halt halt)
+status_after true None = Done
+status_after false None = Halted Input
+
+-- why performing lines stopped, if it did
+abbrev pub halt_in : Course → Option Halt
+halt_in (Goes w) = None
+halt_in (Stops w halt) = Some halt
 
 -- the status of a text that is performed without a fault from outside, if chance decides so
 abbrev pub status_within : List ℕ → List Chance → Status
 status_within text chances =
-    status_after (nat_le (length text) most_input) (course (within text) chances)
+    status_after (nat_le (length text) most_input)
+    (halt_in (course (within one_group text) chances))
 
 -- the call ended with such a status
 abbrev pub EndsWithin : List ℕ → Status → Type 0

@@ -58,6 +58,10 @@ retires_now s = is_latest_now s (λ l. l.held.begun && l.since_begun == retire_t
 abbrev pub retired_now : State → Option HeldKey
 retired_now s = if retires_now s then s.former else None
 
+-- the state without the old key, where that is retired
+abbrev pub after_retiring : State → State
+after_retiring s = record s { former = if retires_now s then None else s.former }
+
 -- the keys that are held, dropped
 abbrev pub drops_now : State → List Change
 drops_now s =

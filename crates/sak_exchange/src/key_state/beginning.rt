@@ -31,13 +31,14 @@ impl KeyState {
         ensures prompt { (base : ℕ) (own : Mi) (h : List Keying)
             → StandsFor base own false self.old h →
             (leading h reports.now).changes ≡ [] → IsOk result }
+        ensures epochs { self.new.epochs ≡ self.old.epochs }
         ensures unchanged { OnErr result (self.new ≡ self.old) }
     {
         self.begin(self.leads(reports))
     }
 
     /// The latest key, if the station leads with it, and why.
-    fn leads(&self, live: &[Report]) -> Option<(Latest, Cause)>
+    pub(super) fn leads(&self, live: &[Report]) -> Option<(Latest, Cause)>
         ensures { result ≡ leads_now self.now live.now }
     {
         let latest = self.latest?;
@@ -94,6 +95,7 @@ impl KeyState {
         ensures changes { IfOk result (λ c. c ≡ beginning_changes beginning) }
         ensures state { OnOk result (self.new ≡ beginning_state self.old beginning) }
         ensures prompt { IsNone beginning → IsOk result }
+        ensures epochs { self.new.epochs ≡ self.old.epochs }
         ensures unchanged { OnErr result (self.new ≡ self.old) }
     {
         let Some((latest, cause)) = beginning else {

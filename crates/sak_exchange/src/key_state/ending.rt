@@ -5,7 +5,7 @@ ghost use Rattle.lan_base.specs.declared.address.Mi.{Mi};
 ghost use Rattle.sak_exchange.specs.Histories.{Keying};
 ghost use Rattle.sak_exchange.specs.Outcomes.{dropping, retiring};
 ghost use Rattle.sak_exchange.specs.Standing.{StandsFor};
-ghost use Rattle.sak_exchange.specs.inside.States.{ticked_now, retired_now, retires_now, drops_now};
+ghost use Rattle.sak_exchange.specs.inside.States.{ticked_now, retired_now, retires_now, after_retiring, drops_now};
 
 use super::KeyState;
 use crate::change::{Change, Changes};
@@ -16,8 +16,9 @@ use std::alloc::AllocError;
 impl KeyState {
     /// A tick is counted.
     pub fn tick(&mut self)
-        ensures { (base : ℕ) (own : Mi) (h : List Keying) → StandsFor base own false self.old h →
+        ensures stands { (base : ℕ) (own : Mi) (h : List Keying) → StandsFor base own false self.old h →
             StandsFor base own true self.new h }
+        ensures epochs { self.new.epochs ≡ self.old.epochs }
     {
         self.count();
     }
@@ -36,6 +37,17 @@ impl KeyState {
         };
     }
 
+    /// A tick passes at which a key server is elected: one more is counted, and the old key goes
+    /// where its time is over.
+    pub(super) fn pass(&mut self)
+        ensures { self.new ≡ after_retiring (ticked_now self.old) }
+    {
+        self.count();
+        if self.retires() {
+            self.former = None;
+        }
+    }
+
     /// After a tick at which no key server is elected: every key is dropped.
     pub fn drop_all(&mut self) -> Result<Changes, AllocError>
         ensures changes { (base : ℕ) (own : Mi) (h : List Keying)
@@ -47,6 +59,7 @@ impl KeyState {
         ensures prompt { (base : ℕ) (own : Mi) (h : List Keying)
             → StandsFor base own true self.old h →
             (dropping h).changes ≡ [] → IsOk result }
+        ensures epochs { self.new.epochs ≡ self.old.epochs }
         ensures unchanged { OnErr result (self.new ≡ self.old) }
     {
         let changes = self.drops()?;
@@ -82,6 +95,7 @@ impl KeyState {
         ensures prompt { (base : ℕ) (own : Mi) (h : List Keying)
             → StandsFor base own true self.old h →
             (retiring h).changes ≡ [] → IsOk result }
+        ensures epochs { self.new.epochs ≡ self.old.epochs }
         ensures unchanged { OnErr result (self.new ≡ self.old) }
     {
         let Some(key) = self.retired() else {

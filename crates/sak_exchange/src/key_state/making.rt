@@ -1,16 +1,18 @@
 //! A key is made, where one is due.
 
-ghost use Rattle.std.specs.Prelude.{◌≡◌, ◌+◌, ◌<◌, ◌^◌, not, List, ℕ, false, IsTrue, IfOk, OnOk, OnErr};
+ghost use Rattle.std.specs.Prelude.{◌≡◌, ◌+◌, ◌<◌, ◌^◌, ◌&&◌, ◌∷◌, not, List, ℕ, true, false, is_none, length, IsTrue, IfOk, IfSome, OnOk, OnErr};
 ghost use Rattle.std.specs.List.{list_any};
 ghost use Rattle.lan_base.specs.declared.address.Mi.{Mi};
-ghost use Rattle.sak_exchange.specs.Histories.{Keying};
+ghost use Rattle.lan_base.specs.Identifiers.{has};
+ghost use Rattle.sak_exchange.specs.Histories.{Keying, ticked};
+ghost use Rattle.sak_exchange.specs.Beginning.{leads};
 ghost use Rattle.sak_exchange.specs.Reports.{reports, reaches};
 ghost use Rattle.sak_exchange.specs.Making.{makes, made_roster, is_spent};
 ghost use Rattle.sak_exchange.specs.Outcomes.{making};
 ghost use Rattle.sak_exchange.specs.Standing.{StandsFor};
 ghost use Rattle.sak_exchange.specs.inside.States.{is_latest_made_now, is_one_left_out_now, is_latest_spent_now, is_one_behind_now, is_key_due_now, is_rested_now, makes_now, is_used_now, next_an_now, made_key_now};
 
-use super::KeyState;
+use super::{KeyState, has};
 use crate::change::Changes;
 use crate::due::Due;
 use crate::held_key::Key;
@@ -28,6 +30,25 @@ impl KeyState {
             result ≡ makes h due.now.live.now due.now.potential due.now.seen due.now.rekey }
     {
         self.makes_now(due)
+    }
+
+    /// Whether a station that is its own elected server at the next tick makes a key then, which
+    /// it does only where it begins none.
+    pub fn makes_next(&mut self, due: &Due) -> bool
+        ensures value { (base : ℕ) (own : Mi) (h : List Keying)
+            → StandsFor base own false self.old h →
+            result ≡ (is_none (leads (ticked true ∷ h) due.now.live.now)
+            && makes (ticked true ∷ h) due.now.live.now due.now.potential due.now.seen
+            due.now.rekey) }
+        ensures unchanged { self.new ≡ self.old }
+    {
+        let (latest, former, since_made) = (self.latest, self.former, self.since_made);
+        self.pass();
+        let makes = self.leads(due.live).is_none() && self.makes_now(due);
+        self.latest = latest;
+        self.former = former;
+        self.since_made = since_made;
+        makes
     }
 
     /// Whether a station that is its own elected server makes a key now.
@@ -59,7 +80,10 @@ impl KeyState {
     fn is_one_left_out(&self, live: &[Report]) -> bool
         ensures { result ≡ is_one_left_out_now self.now live.now }
     {
-        live.iter().any(|report| !self.lists(&report.mi))
+        match &self.roster {
+            Some(roster) if self.latest.is_some() => one_is_missing(roster.as_slice(), live),
+            _ => live.iter().any(|report| !self.lists(&report.mi)),
+        }
     }
 
     /// Whether the latest key has begun and is spent.
@@ -179,6 +203,38 @@ impl KeyState {
         };
         latest || former
     }
+}
+
+/// Whether one of them isn't in a roster. Mostly they stand in one order, so each is looked for
+/// behind the one before.
+fn one_is_missing(roster: &[Mi], live: &[Report]) -> bool
+    ensures { result ≡ list_any (λ r. not (has r.mi roster.now)) live.now }
+{
+    let mut from = 0;
+    for report in live {
+        match place_from(roster, from, &report.mi) {
+            Some(at) => from = at + 1,
+            None => {
+                if !has(roster, &report.mi) {
+                    return true;
+                }
+            }
+        }
+    }
+    false
+}
+
+/// Where a member stands in a roster, from this place on.
+fn place_from(roster: &[Mi], from: usize, mi: &Mi) -> Option<usize>
+    ensures bound { IfSome result (λ at. at < length roster.now) }
+    ensures found { IfSome result (λ at. IsTrue (has mi.now roster.now)) }
+{
+    for at in from..roster.len() {
+        if roster[at] == *mi {
+            return Some(at);
+        }
+    }
+    None
 }
 
 /// Whether one of them doesn't report the key.

@@ -2,7 +2,8 @@ use Rattle.std.proofs.Common.{◌≡◌, ◌<◌, ◌^◌, ℕ, Bool, true, fals
 use Rattle.std.specs.Prelude.{nat_le, cond}
 use Rattle.text_lines.specs.Texts.{whole_lines, lines_of}
 use Rattle.text_lines.specs.Reading.{lines_within}
-use Rattle.replay.specs.Runs.{most_input, whole, within}
+use Rattle.replay.specs.Runs.{most_input, within}
+use Rattle.replay.specs.OneGroup.{one_group, whole}
 use Rattle.lan_schedule.specs.Races.{Chance}
 use Rattle.lan_schedule.specs.World.{World, is_racing}
 use Rattle.lan_schedule.specs.Acts.{course, world_of}
@@ -24,8 +25,9 @@ record AreCalm (chances : List Chance) : Type 0 where
       → IsCalm (world_of (course (performed_whole texts) chances))
 
 calm-within : (chances : List Chance) (text : List ℕ) → AreCalm chances
-    → length (lines_within most_input text) < 2 ^ 32 → HasRunNone (course (within text) chances)
-    → IsCalm (world_of (course (within text) chances))
+    → length (lines_within most_input text) < 2 ^ 32
+    → HasRunNone (course (within one_group text) chances)
+    → IsCalm (world_of (course (within one_group text) chances))
 calm-within chances text are few none = by (nat_le (length text) most_input) few none where
   by : (b : Bool)
       → length (cond b (lines_of text) (whole_lines (take most_input text))) < 2 ^ 32
@@ -44,4 +46,5 @@ returns c = λ text chances none.
       lines = λ texts lt none. (leaves.lines chances texts lt none, leaves.apart chances texts lt);
       whole = leaves.whole chances;
     }) below none in
-    c.law_tidy_runs_are_promised.ensures (world_of (course (within text) chances)) calm.0 calm.1
+    c.law_tidy_runs_are_promised.ensures (world_of (course (within one_group text) chances)) calm.0
+    calm.1

@@ -2,13 +2,15 @@ use Rattle.std.proofs.Common.{ap, sym, refl, inr, ◌∙◌}
 use Rattle.std.specs.Prelude.{Err}
 use Rattle.replay.specs.Sinks.{sunk}
 use Rattle.replay.specs.declared.cause.Cause.TheVariants as causes
-use Rattle.rollover_program.specs.declared.words.Order.TheVariants.{Run, Make, Try, Check, Capture, Dissect, Draw}
+use Rattle.rollover_program.specs.declared.words.Order.TheVariants.{Run, Make, Try, Check, Capture, Dissect, Roll, Draw}
 use Rattle.rollover_program.proofs.Ordered.{by_no_usage}
 use Rattle.rollover_program.proofs.Refused.{plain_orders, either, usage_only, not_halted, memory}
 use Rattle.rollover_program.proofs.Refused.{ran_nothing, made_nothing, tried_nothing, checked_nothing}
-use Rattle.rollover_program.proofs.Refused.{captured_nothing, dissected_nothing, drew_nothing}
+use Rattle.rollover_program.proofs.Refused.{captured_nothing, dissected_nothing, rolled_nothing}
+use Rattle.rollover_program.proofs.Refused.{drew_nothing}
 use Rattle.rollover_program.proofs.Carried.{as_asked, either_order, complete, complete_make}
-use Rattle.rollover_program.proofs.Carried.{complete_try}
+use Rattle.rollover_program.proofs.Carried.{complete_try, one_order}
+use Rattle.rollover_program.proofs.Rolled.{complete_roll}
 use Rattle.rollover_program.proofs.top.rollover.Goals as goal
 
 pub returns-in-Ok-clause-usage : goal.returns-in-Ok-clause-usage
@@ -51,6 +53,10 @@ pub returns-in-Ok-clause-dissect : goal.returns-in-Ok-clause-dissect
 returns-in-Ok-clause-dissect g c = λ file asked told.
     as_asked _ _ Dissect _ _ _ _ _ c.in-Ok.ensures.ok asked c.carry_out.ensures.done file told
 
+pub returns-in-Ok-clause-roll : goal.returns-in-Ok-clause-roll
+returns-in-Ok-clause-roll g c = λ text asked told.
+    as_asked _ _ Roll _ _ _ _ _ c.in-Ok.ensures.ok asked c.carry_out.ensures.done text told
+
 pub returns-in-Ok-clause-draw : goal.returns-in-Ok-clause-draw
 returns-in-Ok-clause-draw g c = λ text asked told.
     as_asked _ _ Draw _ _ _ _ _ c.in-Ok.ensures.ok asked c.carry_out.ensures.done text told
@@ -58,6 +64,10 @@ returns-in-Ok-clause-draw g c = λ text asked told.
 pub returns-in-Ok-clause-unread : goal.returns-in-Ok-clause-unread
 returns-in-Ok-clause-unread g c = λ n asked.
     c.carry_out.ensures.unread n (either_order _ _ n c.in-Ok.ensures.ok asked)
+
+pub returns-in-Ok-clause-unforged : goal.returns-in-Ok-clause-unforged
+returns-in-Ok-clause-unforged g c = λ line asked.
+    c.carry_out.ensures.unforged line (one_order _ _ Roll c.in-Ok.ensures.ok asked)
 
 pub returns-in-Ok-clause-complete : goal.returns-in-Ok-clause-complete
 returns-in-Ok-clause-complete g c = λ text summary asked told reads writes.
@@ -73,6 +83,11 @@ pub returns-in-Ok-clause-complete_try : goal.returns-in-Ok-clause-complete_try
 returns-in-Ok-clause-complete_try g c = λ n asked writes.
     complete_try n _ _ _ (as_asked _ _ (Try n) _ _ _ _ _ c.in-Ok.ensures.ok asked
     c.carry_out.ensures.done) writes
+
+pub returns-in-Ok-clause-complete_roll : goal.returns-in-Ok-clause-complete_roll
+returns-in-Ok-clause-complete_roll g c = λ text asked told reads writes.
+    complete_roll text _ _ _ _ c.carry_out.result (as_asked _ _ Roll _ _ _ _ _
+    c.in-Ok.ensures.ok asked c.carry_out.ensures.done text told) reads writes
 
 pub returns-in-Err-clause-usage : goal.returns-in-Err-clause-usage
 returns-in-Err-clause-usage g c = λ e.
@@ -131,6 +146,13 @@ returns-in-Err-clause-dissect g c = λ file asked told.
     dissected_nothing _ c.in-Err.refusal (λ is. c.in-Err.ensures.usage (ap (λ f. Err f) is)) _ file _
     _ c.status_of_refusal.ensures asked
 
+pub returns-in-Err-clause-roll : goal.returns-in-Err-clause-roll
+returns-in-Err-clause-roll g c = λ text asked told.
+    rolled_nothing _ c.in-Err.refusal (λ is. c.in-Err.ensures.usage (ap (λ f. Err f) is))
+    c.law_tidy_worlds_of_two_groups_are_promised.ensures
+    c.law_groups_of_tidy_worlds_are_sound.ensures.start _ text _ _
+    c.status_of_refusal.ensures asked
+
 pub returns-in-Err-clause-draw : goal.returns-in-Err-clause-draw
 returns-in-Err-clause-draw g c = λ text asked told.
     drew_nothing _ c.in-Err.refusal (λ is. c.in-Err.ensures.usage (ap (λ f. Err f) is)) _ text _ _
@@ -147,6 +169,10 @@ pub returns-in-Err-clause-write_cause : goal.returns-in-Err-clause-write_cause
 returns-in-Err-clause-write_cause g c = λ e.
     not_halted c.in-Err.refusal causes.WriteFault _ (λ m. cc) (sym c.status_of_refusal.ensures ∙ e)
 
+pub returns-in-Err-clause-unforged : goal.returns-in-Err-clause-unforged
+returns-in-Err-clause-unforged g c = λ line asked e.
+    not_halted c.in-Err.refusal (causes.Forged line) _ (λ m. cc) (sym c.status_of_refusal.ensures ∙ e)
+
 pub returns-in-Err-clause-complete : goal.returns-in-Err-clause-complete
 returns-in-Err-clause-complete g c = λ text summary asked told reads writes.
     inr (memory _ c.in-Err.refusal (λ is. c.in-Err.ensures.usage (ap (λ f. Err f) is)) _
@@ -160,4 +186,9 @@ returns-in-Err-clause-complete_make g c = λ n asked writes.
 pub returns-in-Err-clause-complete_try : goal.returns-in-Err-clause-complete_try
 returns-in-Err-clause-complete_try g c = λ n asked writes.
     inr (memory _ c.in-Err.refusal (λ is. c.in-Err.ensures.usage (ap (λ f. Err f) is)) _ (Try n)
+    c.status_of_refusal.ensures asked)
+
+pub returns-in-Err-clause-complete_roll : goal.returns-in-Err-clause-complete_roll
+returns-in-Err-clause-complete_roll g c = λ text asked told reads writes.
+    inr (memory _ c.in-Err.refusal (λ is. c.in-Err.ensures.usage (ap (λ f. Err f) is)) _ Roll
     c.status_of_refusal.ensures asked)

@@ -59,8 +59,12 @@ returns c =
     ap (λ (a : App). a.top) c.new-8.ensures.app in
     let six_is = c.in_ok-subcommand-6.ensures.shape (rw c.new-8.ensures.local refl)
     ∙ ap₂ with_subcommand five_is dissect_is in
-    let draw_is : shape_of c.new-9.result ≡ plain (codes "draw") =
+    let roll_is : shape_of c.new-9.result ≡ plain (codes "roll") =
     ap (λ (a : App). a.top) c.new-9.ensures.app in
-    IfOk-weaker c.subcommand-7.result _ _
-    (λ r h. h.shape (rw c.new-9.ensures.local refl) ∙ ap₂ with_subcommand six_is draw_is)
-    c.subcommand-7.ensures
+    let seven_is = c.in_ok-subcommand-7.ensures.shape (rw c.new-9.ensures.local refl)
+    ∙ ap₂ with_subcommand six_is roll_is in
+    let draw_is : shape_of c.new-10.result ≡ plain (codes "draw") =
+    ap (λ (a : App). a.top) c.new-10.ensures.app in
+    IfOk-weaker c.subcommand-8.result _ _
+    (λ r h. h.shape (rw c.new-10.ensures.local refl) ∙ ap₂ with_subcommand seven_is draw_is)
+    c.subcommand-8.ensures

@@ -1,5 +1,6 @@
 use Rattle.std.proofs.Common.{◌≡◌, ◌∙◌, List, subst}
 use Rattle.std.specs.Prelude.{ℕ, IfOk}
+use Rattle.std.specs.Borrow.{Bor}
 use Rattle.std.specs.List.{AllZip}
 use Rattle.std.specs.declared.alloc.AllocError.{AllocError}
 use Rattle.std.proofs.Crossing.{crosses, frees}
@@ -38,7 +39,7 @@ collect-requires g c κs = (
 pub returns-in-Ok : goal.returns-in-Ok
 returns-in-Ok g c own window h stands =
     let frames = c.args.frames.now in
-    let answer = λ (frame : List ℕ). checked own (standing_key h) frame in
+    let answer = λ (frame : Bor (List ℕ)). checked own (standing_key h) frame.now in
     let told = c.in_ok-collected.ensures in
     let chain = rw (c.map.ensures.base, c.map.ensures.f, c.with_min_len.ensures.base) at told.1 in
     let each = slice-AllZip chain.0 frames (chain.1 ∙ c.par_iter.ensures) (λ frame r. IfOk r (λ found. found ≡ answer frame)) told.0

@@ -1,7 +1,7 @@
 use Rattle.std.proofs.Common.{◌≡◌, length}
 use Rattle.trace_text.specs.Words.{words_of}
 use Rattle.trace_text.specs.Reading.{blocks_of}
-use Rattle.trace_text.specs.inside.Answering.{checked}
+use Rattle.trace_text.specs.Answering.{checked}
 use Rattle.trace_text.proofs.blocks.expect_blocks.Given as goal
 
 -- what is left decides

@@ -13,7 +13,7 @@ pub returns-clause-stands : goal.returns-clause-stands
 returns-clause-stands c settings users part r stands stepped are =
     let now = c.self.inside in
     let st = subst (λ lan. StandsFor settings users lan (followed_by (without_claims part) r)) (sym c.self.view_is) stands in
-    let settled = settles-part settings users part r _ c.args.taken.now st stepped are in
+    let settled = settles-part settings users part r _ c.args.taken.items st stepped are in
     on-ok c.append.result (c.append.new.self ≡ now.waiting ++ c.in_ok-frames.frames) _
     (λ is. subst (λ (ws : List Sealed). StandsFor settings users (record {
       settings = now.settings;

@@ -1,6 +1,6 @@
 use Rattle.std.proofs.Common.{refl}
 use Rattle.std.specs.List.{list_any}
-use Rattle.lan_core.specs.inside.Spellings.{repeats_octets}
+use Rattle.lan_core.specs.inside.Repeats.{repeats_octets}
 use Rattle.lan_core.proofs.Forgery.{forged-is, are-forged, not-right, not-new}
 use Rattle.lan_core.proofs.lan.stopping.judge_forgery.Goals as goal
 

@@ -1,9 +1,10 @@
-use Rattle.std.proofs.Common.{Ok, ◌∷◌, refl}
-use Rattle.std.specs.Prelude.{Err}
+use Rattle.std.proofs.Common.{Ok, ◌∷◌, ◌∙◌, refl, sym, ap}
+use Rattle.std.specs.Prelude.{Err, is_some}
 use Rattle.lan_core.specs.Run.{happened}
+use Rattle.lan_schedule.specs.declared.stage.Stage.{Stage}
 use Rattle.lan_schedule.specs.Ends.{moment}
 use Rattle.lan_schedule.proofs.Happening.{before_step, from-earlier, event-went, went-wanting, went-err}
-use Rattle.lan_schedule.proofs.Recorded.{kept-so}
+use Rattle.lan_schedule.proofs.Recorded.{kept-when}
 use Rattle.lan_schedule.proofs.stage.Stage.go_on.Goals as goal
 
 pub returns : goal.returns
@@ -29,8 +30,9 @@ returns g c = λ earlier step.
       tally = λ shown stood. (rw c.as_slice-4.ensures at c.count_all.ensures) shown stood;
       octets = rw c.as_slice-3.ensures at c.in_ok-put_octets.ensures;
       kept = λ settings users r before after.
-          kept-so _ _ _ _ _ _ _ (step.epoch settings users r before)
-          (c.epoch-after.ensures settings users (happened c.args.event.now c.args.facts ∷ r) after)
+          kept-when (λ steps. steps.items) c.args.event.now _ _ _ _ c.args.self.now.steps _
+          (λ raced. step.epoch (sym (ap (λ (stage : Stage). is_some stage.steps) step.same) ∙ raced) settings users r before)
+          (λ raced. c.epoch-after.ensures raced settings users (happened c.args.event.now c.args.facts ∷ r) after)
           c.in_ok-keep.ensures;
       followed = λ goes settings users r after.
           (rw c.as_slice-2.ensures at c.in_ok-follow.ensures.followed) goes settings users r after;
@@ -70,8 +72,9 @@ returns-in_err-record g c = λ earlier step.
       tally = λ shown stood. (rw c.as_slice-4.ensures at c.count_all.ensures) shown stood;
       octets = rw c.as_slice-3.ensures at c.in_ok-put_octets.ensures;
       kept = λ settings users r before after.
-          kept-so _ _ _ _ _ _ _ (step.epoch settings users r before)
-          (c.epoch-after.ensures settings users (happened c.args.event.now c.args.facts ∷ r) after)
+          kept-when (λ steps. steps.items) c.args.event.now _ _ _ _ c.args.self.now.steps _
+          (λ raced. step.epoch (sym (ap (λ (stage : Stage). is_some stage.steps) step.same) ∙ raced) settings users r before)
+          (λ raced. c.epoch-after.ensures raced settings users (happened c.args.event.now c.args.facts ∷ r) after)
           c.in_ok-keep.ensures;
       followed = λ goes settings users r after.
           (rw c.as_slice-2.ensures at c.in_ok-follow.ensures.followed) goes settings users r after;

@@ -1,4 +1,4 @@
-use Rattle.std.proofs.Common.{length, sym, ap, ◌∙◌, refl}
+use Rattle.std.proofs.Common.{sym, ◌∙◌, refl}
 use Rattle.lan_schedule.proofs.RaceEmits.{weaves-emitted}
 use Rattle.lan_schedule.proofs.RaceEnds.{some-memory, weaves-nothing, weaves-stopped}
 use Rattle.lan_schedule.proofs.stage.Stage.weave.Goals as goal
@@ -37,7 +37,7 @@ returns g c =
     (weaves-emitted c.args.ran c.args.self.now (record c.args.self.now { tally = c.shown_in.new.tally })
     (record c.args.self.now { tally = c.shown_in.new.tally; lan = c.settle.new.self })
     c.emit_all-emitted.new.self c.in_ok-events.events.items c.in_ok-frames.frames.items
-    c.len.result c.in_ok-shown.shown c.emit_all-emitted.new.outlet c.emit_all-emitted.result
+    c.len-count.result c.in_ok-shown.shown c.emit_all-emitted.new.outlet c.emit_all-emitted.result
     (record {
       raced = c.law_a_race_of_workers_is_a_race.ensures.raced;
       steps = c.law_a_race_of_workers_is_a_race.ensures.steps;
@@ -63,9 +63,8 @@ returns g c =
       same = refl;
     })
     (record {
-      settled = rw c.deref-6.ensures.value at c.in_ok-settle.ensures.stands;
+      settled = c.in_ok-settle.ensures.stands;
       same = refl;
-      many = c.len.ensures ∙ sym c.deref-6.ensures.len
-          ∙ ap (λ frames. length frames) c.deref-6.ensures.value;
+      many = c.len-count.ensures ∙ c.in_ok-frames.frames.ok.0;
       did = c.emit_all-emitted.ensures;
     }))

@@ -6,7 +6,7 @@ use Rattle.sak_exchange.specs.Histories.{install_count}
 use Rattle.sak_exchange.specs.Standing.{StandsFor as KeysStandFor}
 use Rattle.mka_station.specs.Lives.{Setup, keys_of}
 use Rattle.mka_station.specs.Restart.{lost_server}
-use Rattle.mka_station.specs.Standing.{State, StandsFor, drawn_mi, reborn}
+use Rattle.mka_station.specs.Standing.{State, StandsFor, drawn_mi}
 use Rattle.mka_station.proofs.Starts.{stands-born, life-ends}
 use Rattle.mka_station.proofs.station.Station.restart.Goals as goal
 
@@ -26,4 +26,3 @@ returns-clause-stands c = λ m p s.
     (subst (λ (o : Own). PeersStandFor o c.in_ok-peers.peers []) identity c.in_ok-peers.ensures)
     (subst (λ (n : ℕ). KeysStandFor n (drawn_mi c.args.draw) false c.in_ok-keys.keys []) count (subst (λ (x : Mi). KeysStandFor c.epochs.result x false c.in_ok-keys.keys []) mi c.in_ok-keys.ensures.stands))
     refl refl
-    (λ ps ks. c.in_ok-coming.ensures (reborn m p c.args.draw) [] (sym s.setup) (sym mi) ps ks)

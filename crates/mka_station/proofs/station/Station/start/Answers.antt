@@ -1,10 +1,10 @@
-use Rattle.std.proofs.Common.{◌≡◌, false, [], ap, sym, refl, subst}
+use Rattle.std.proofs.Common.{◌≡◌, false, [], ap, refl, subst}
 use Rattle.lan_base.specs.declared.address.Mi.{Mi}
 use Rattle.peer_lists.specs.Acceptance.{Own}
 use Rattle.mka_station.specs.Lives.{Setup}
 use Rattle.peer_lists.specs.Table.{StandsFor as PeersStandFor}
 use Rattle.sak_exchange.specs.Standing.{StandsFor as KeysStandFor}
-use Rattle.mka_station.specs.Standing.{born, drawn_mi}
+use Rattle.mka_station.specs.Standing.{drawn_mi}
 use Rattle.mka_station.proofs.Starts.{stands-born}
 use Rattle.mka_station.proofs.station.Station.start.Goals as goal
 
@@ -18,4 +18,3 @@ returns c =
     (subst (λ (o : Own). PeersStandFor o c.in_ok-peers.peers []) identity c.in_ok-peers.ensures)
     (subst (λ (x : Mi). KeysStandFor c.args.epochs x false c.in_ok-keys.keys []) mi c.in_ok-keys.ensures.stands)
     refl refl
-    (λ p k. c.in_ok-coming.ensures (born config c.args.epochs c.args.draw) [] refl (sym mi) p k)

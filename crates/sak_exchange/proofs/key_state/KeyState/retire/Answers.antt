@@ -2,8 +2,8 @@ use Rattle.std.proofs.Common.{◌∷◌, ◌≡◌, ◌∙◌, false, true, ap, 
 use Rattle.sak_exchange.specs.declared.held_key.HeldKey.{HeldKey}
 use Rattle.sak_exchange.specs.Histories.{ticked}
 use Rattle.sak_exchange.specs.Standing.{State, StandsFor}
-use Rattle.sak_exchange.specs.inside.States.{retires_now}
-use Rattle.sak_exchange.proofs.Ticks.{stands-retired, after_retiring, retires-none, retires-some, stands-same}
+use Rattle.sak_exchange.specs.inside.States.{retires_now, after_retiring}
+use Rattle.sak_exchange.proofs.Ticks.{stands-retired, retires-none, retires-some, stands-same}
 use Rattle.sak_exchange.proofs.key_state.KeyState.retire.Goals as goal
 
 pub returns-in_default-clause-stands : goal.returns-in_default-clause-stands

@@ -1,0 +1,6 @@
+use Rattle.std.proofs.Common.{◌≡◌, ◌≤◌, map, take, length, vec_capacity}
+use Rattle.peer_lists.specs.inside.RowChanges.{shown}
+use Rattle.peer_lists.proofs.places.show.Given as goal
+
+abbrev pub invariant-loop-row : goal.invariant-loop-row
+invariant-loop-row l = (l.into.items ≡ map shown (take l.row-index l.rows)) × (length l.into.items ≤ l.row-index) × (vec_capacity l.into ≡ vec_capacity l.initial.into)

@@ -1,0 +1,28 @@
+use Rattle.std.proofs.Common.{refl, ap, subst, ◌∙◌}
+use Rattle.std.specs.Prelude.{is_some}
+use Rattle.roll_schedule.specs.World.{waiting}
+use Rattle.roll_schedule.specs.Stages.{StandsFor as StageStandsFor}
+use Rattle.roll_schedule.specs.inside.Choosing.{begun_in}
+use Rattle.roll_schedule.proofs.Doing.{memory-any}
+use Rattle.roll_schedule.proofs.Opening.{opening-does, station-later}
+use Rattle.roll_schedule.proofs.commands.TwinReplay.open.Goals as goal
+
+pub perform_plain-outcome-requires-clause-later : goal.perform_plain-outcome-requires-clause-later
+perform_plain-outcome-requires-clause-later g c = station-later c.args.line.now c.requires.station
+
+pub returns : goal.returns
+returns g c =
+    let named = ap (λ chosen. is_some chosen.group) c.replace-chosen.ensures.value
+    ∙ c.requires.keyed in
+    opening-does c.args.line.now _ _ c.in_ok-stage.stage c.perform_plain-outcome.new.self
+    c.perform_plain-outcome.result c.requires.station c.requires.unbegun
+    (subst (λ chosen. StageStandsFor (begun_in (waiting c.args.self.now.line chosen
+    c.args.self.now.second)) c.in_ok-stage.stage) c.replace-chosen.ensures.value
+    (subst (λ second. StageStandsFor (begun_in (waiting c.args.self.now.line
+    c.replace-chosen.result second)) c.in_ok-stage.stage) c.take.ensures.value
+    (c.in_ok-stage.ensures.stands _ named refl)))
+    c.perform_plain-outcome.ensures refl refl
+
+pub returns-in_err-stage : goal.returns-in_err-stage
+returns-in_err-stage g c =
+    memory-any _ _ _ _ refl c.in_err-stage.ensures.memory c.from_residual.ensures.1

@@ -1,0 +1,17 @@
+use Rattle.std.proofs.Common.{sym, ap, ◌∙◌}
+use Rattle.roll_schedule.specs.Kinds.{refusal}
+use Rattle.roll_schedule.proofs.Replaying.{is-waiting, staged-at}
+use Rattle.roll_schedule.proofs.commands.TwinReplay.refusal.Goals as goal
+
+pub returns-in-Some-clause-first : goal.returns-in-Some-clause-first
+returns-in-Some-clause-first c = λ w reached.
+    c.refusal.ensures.first w (record {
+      stands = staged-at w c.args.self.now c.in-Some.stage c.in-Some.is reached.stands;
+      tidy = reached.tidy;
+    })
+
+pub returns-in-None-clause-first : goal.returns-in-None-clause-first
+returns-in-None-clause-first c = λ w reached.
+    c.refusal_before.ensures.first c.args.self.now.line
+    ∙ sym (ap (λ v. refusal c.args.line.now v)
+    (is-waiting w c.args.self.now c.in-None.is reached.stands))

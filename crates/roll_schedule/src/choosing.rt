@@ -1,0 +1,32 @@
+//! What was chosen before the first station sets up two groups.
+
+ghost use Rattle.std.specs.Prelude.{◌≡◌, List, [], IfOk, IfErr, Option};
+ghost use Rattle.lan_base.specs.declared.frame.UserFrame.{UserFrame};
+ghost use Rattle.cak_roll.specs.Standing.{StandsFor as TwinStandsFor};
+ghost use Rattle.lan_schedule.specs.declared.halt.Halt.{Halt};
+ghost use Rattle.roll_schedule.specs.World.{second_of};
+
+use cak_roll::Twin;
+use lan_core::Settings;
+use lan_schedule::{Halt, Keyed};
+use std::alloc::Global;
+
+/// Two groups to which nothing happened; the second one counts as the first until it comes.
+pub fn twin_of(alloc: Global, settings: Settings, second: &Option<Keyed>) -> Result<Twin, Halt>
+    ensures stands { IfOk result (λ twin. (users : List UserFrame)
+        → TwinStandsFor
+        (record { first = settings; second = second_of settings second.now }) users twin []) }
+    ensures memory { IfErr result (λ halt. halt ≡ Halt.Memory) }
+{
+    let Ok(mut twin) = Twin::new(alloc, settings) else {
+        return Err(Halt::Memory);
+    };
+    let Some(keyed) = second else {
+        return Ok(twin);
+    };
+    let ckn = keyed.ckn.copied(alloc)?;
+    match twin.second(keyed.cak, ckn) {
+        Ok(()) => Ok(twin),
+        Err(_) => Err(Halt::Memory),
+    }
+}
