@@ -49,7 +49,7 @@ use Rattle.lan_core.specs.inside.Seats.{installs_in}
 use Rattle.lan_core.proofs.Reactions.{gather-reaction, gather-unread}
 use Rattle.lan_core.proofs.FramesNumbered.{mapped, chained}
 use Rattle.lan_core.proofs.OwnLedgers.{AreOf, installs_of, installs-of-others, installs-of-own, tick-is-of, reached-is-of, restart-is-of}
-use Rattle.lan_core.proofs.SlotsFollow.{in-reaction, tick-count, heard-count, ending-count}
+use Rattle.lan_core.proofs.SlotsFollow.{in-reaction, tick-count, frame-count, ending-count}
 
 -- ---- changes of keys
 
@@ -259,7 +259,7 @@ reach-goes settings s r number octets l is = go (is_sec octets)
     go false = record {
       count = omega (
         arith,
-        heard-count l.member (judged l.member.setup octets) l.past,
+        frame-count l.member octets l.past,
         in-reaction s number 0 (frame_turn l.member octets l.past).reaction,
       );
       counted = by_reaction s _ number 0 (frame_turn l.member octets l.past).reaction is

@@ -31,7 +31,7 @@ use Rattle.mka_station.specs.Lives.{Member, Entry, ticked, heard, peers_of, keys
 use Rattle.mka_station.specs.Views.{View, view, reports}
 use Rattle.mka_station.specs.Announcing.{says_now, lowest_in}
 use Rattle.mka_station.specs.Tick.{tick_turn, led, made, ended, with_beginning, with_install, with_sent, install_changes}
-use Rattle.mka_station.specs.Hearing.{hear_turn, heard_turn, outcome_of, offered, taken_of, key_taken, take_changes, followed as followed_by}
+use Rattle.mka_station.specs.Hearing.{hear_turn, frame_turn, heard_turn, judged, outcome_of, offered, taken_of, key_taken, take_changes, followed as followed_by}
 use Rattle.mka_station.specs.Restart.{ending}
 use Rattle.lan_core.specs.declared.fact.Fact.{Fact}
 use Rattle.lan_core.specs.declared.fact.Fact.TheVariants as facts
@@ -296,6 +296,10 @@ pub heard-count : (m : Member) (j : Result Announcement DropReason) (p : List En
     → install_count (keys_of m (heard_turn m j p).past) ≡ install_count (keys_of m p) + count_installed (heard_turn m j p).reaction.changes
 heard-count m (Ok a) p = hear-count m a p
 heard-count m (Err v) p = omega arith
+
+pub frame-count : (m : Member) (frame : List ℕ) (p : List Entry)
+    → install_count (keys_of m (frame_turn m frame p).past) ≡ install_count (keys_of m p) + count_installed (frame_turn m frame p).reaction.changes
+frame-count m frame p = heard-count m (judged m.setup frame) p
 
 pub heard-clock : (m : Member) (j : Result Announcement DropReason) (p : List Entry) → clock (peers_of m (heard_turn m j p).past) ≡ clock (peers_of m p)
 heard-clock m (Ok a) p = hear-clock m a p
