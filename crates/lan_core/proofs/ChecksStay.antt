@@ -1,6 +1,6 @@
 -- What the receive slots of a station answered to a frame as far as its tag stays, while protected
 -- frames reach stations.
-use Rattle.std.proofs.Common.{◌≡◌, ◌∙◌, ℕ, Bool, true, false, cond, List, [], ◌∷◌, ◌++◌, Option, Some, None, refl, ap, sym, subst}
+use Rattle.std.proofs.Common.{◌≡◌, ◌∙◌, ℕ, Bool, true, false, cond, List, [], ◌∷◌, ◌++◌, Option, Some, None, refl, ap, sym}
 use Rattle.std.specs.Prelude.{◌==◌, option_map, option_and_then, slice_get}
 use Rattle.std.specs.List.{find}
 use Rattle.lan_base.specs.declared.address.Sci.{Sci}

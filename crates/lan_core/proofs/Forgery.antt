@@ -1,18 +1,13 @@
 -- Whether foreign octets are forged.
-use Rattle.std.proofs.Common.{◌≡◌, ◌<◌, ℕ, Bool, true, false, cond, List, [], ◌∷◌, length}
-use Rattle.std.proofs.Common.{Some, None, Ok, Err, refl, ap, sym, arith}
-use Rattle.std.specs.Prelude.{◌&&◌, ◌||◌, not, nat_eq, is_some, take}
+use Rattle.std.proofs.Common.{◌≡◌, ◌∙◌, ◌<◌, ℕ, Bool, true, false, cond, List, [], ◌∷◌, length}
+use Rattle.std.proofs.Common.{Some, None, Ok, Err, Result, refl, ap, sym, arith}
+use Rattle.std.specs.Prelude.{◌&&◌, ◌||◌, not, is_some, is_ok}
 use Rattle.std.specs.List.{list_any}
 use Rattle.std.proofs.lemmas.List.Folds.{list_any-append}
-use lib.Pointwise.{pointwise}
-use Rattle.aes_cmac.specs.Cmac.{cmac}
 use Rattle.mkpdu_codec.specs.declared.announcement.Announcement.{Announcement}
-use Rattle.mkpdu_codec.specs.declared.refusal.Refusal.{Refusal}
-use Rattle.mkpdu_codec.specs.declared.spelled.Spelled.{Spelled}
-use Rattle.mkpdu_codec.specs.Reading.{reading}
-use Rattle.mka_station.specs.declared.verdict.DropReason.TheVariants as reasons
+use Rattle.mka_station.specs.declared.verdict.DropReason.{DropReason}
 use Rattle.mka_station.specs.Lives.{Setup}
-use Rattle.mka_station.specs.Hearing.{judged, read_as, right}
+use Rattle.mka_station.specs.Hearing.{right}
 use Rattle.mka_kdf.specs.Kdf.{ick_of}
 use Rattle.aes_block.specs.Secrets.{secret_octets}
 use Rattle.lan_core.specs.declared.event.Event.TheVariants as events
@@ -25,33 +20,24 @@ use Rattle.lan_core.specs.Order.{Exists}
 use Rattle.lan_core.specs.Fresh.{is_forged}
 use Rattle.lan_core.specs.Stops.{stop_of_forgery}
 use Rattle.lan_core.specs.Standing.{in_order}
-use Rattle.lan_core.specs.inside.Judging.{is_of_group}
+use Rattle.lan_core.specs.inside.Judge.{IsJudged}
 use Rattle.lan_core.specs.inside.Repeats.{repeats_octets}
 
 -- ---- right
 
-both : (a b : Bool) (an : Announcement)
-    → is_some (elim (cond (not a) (Err reasons.CkName) (cond (not b) (Err reasons.Check) (Ok an)))
-    [ Ok a ↦ Some a | Err v ↦ None ]) ≡ (a && b)
-both true true an = refl
-both true false an = refl
-both false b an = refl
+is_some_where : (j : Result Announcement DropReason)
+    → is_some (elim j [ Ok a ↦ Some a | Err reason ↦ None ]) ≡ is_ok j
+is_some_where (Ok a) = refl
+is_some_where (Err reason) = refl
 
-pub right-where : (setup : Setup) (octets : List ℕ) (s : Spelled) → reading octets ≡ Ok s
-    → is_some (right setup octets) ≡ is_of_group setup.ckn setup.ick octets s
-unfolding judged
-right-where setup octets s is =
-    cc (
-      ap (λ j. is_some (elim (read_as setup octets j) [ Ok a ↦ Some a | Err v ↦ None ])) is,
-      both (pointwise nat_eq s.announcement.ckn setup.ckn)
-          (pointwise nat_eq s.check (cmac setup.ick (take s.covered octets))) s.announcement,
-    )
-
-pub wrong-where : (setup : Setup) (octets : List ℕ) (e : Refusal) → reading octets ≡ Err e
-    → is_some (right setup octets) ≡ false
-unfolding judged
-wrong-where setup octets e is =
-    ap (λ j. is_some (elim (read_as setup octets j) [ Ok a ↦ Some a | Err v ↦ None ])) is
+-- octets are right where the stations of the group take them for an announcement
+pub right-is : (settings : Settings) (octets : List ℕ) (j : Result Announcement DropReason)
+    → IsJudged settings octets j → (setup : Setup) → setup.ckn ≡ settings.ckn
+    → setup.ick ≡ ick_of (secret_octets settings.cak) settings.ckn
+    → is_ok j ≡ is_some (right setup octets)
+right-is settings octets j judged setup ckn ick =
+    sym (is_some_where j) ∙ ap (λ j. is_some (elim j [ Ok a ↦ Some a | Err reason ↦ None ]))
+    (judged setup (record { ckn = ckn; ick = ick }))
 
 -- ---- forged
 

@@ -34,6 +34,7 @@ pub mod SettledPart
 pub mod MoreUsers
 pub mod SuppliedDraws
 pub mod Forgery
+pub mod JudgedAlike
 pub mod TickGoesOn
 pub mod ClaimGoesOn
 pub mod SlotsFollow

@@ -12,7 +12,8 @@ use Rattle.sak_exchange.specs.declared.change.Change.{Change}
 use Rattle.sak_exchange.specs.declared.due.Seen.{Seen}
 use Rattle.mka_station.specs.Lives.{Member, peers_of, keys_of}
 use Rattle.mka_station.specs.Tick.{tick_turn}
-use Rattle.mka_station.specs.Hearing.{frame_turn, hear_turn}
+use Rattle.mka_station.specs.Hearing.{heard_turn, hear_turn}
+use Rattle.mka_station.specs.declared.verdict.DropReason.{DropReason}
 use Rattle.mka_station.specs.Standing.{StandsFor as StationStandsFor}
 use Rattle.lan_core.specs.Lives.{Life, lived, lived_ticking, seen_at, slot_change, turn_at_tick}
 use Rattle.lan_core.specs.Standing.{Seat, Sits, IsAlive}
@@ -24,7 +25,7 @@ use Rattle.lan_core.specs.Run.{Run}
 use Rattle.lan_core.specs.Ledgers.{gather, next_frame}
 use Rattle.lan_core.specs.Expected.{reaction_facts, tick_facts}
 use Rattle.mka_station.specs.declared.reaction.Reaction.{Reaction}
-use Rattle.lan_core.proofs.SlotsFollow.{slots-follow, tick-count, tick-clock, frame-count, frame-clock, frame-sent}
+use Rattle.lan_core.proofs.SlotsFollow.{slots-follow, tick-count, tick-clock, heard-count, heard-clock, heard-sent}
 
 -- reading finds the EtherType where it stands
 pub sec-told : (frame : List ℕ) → tells_sec (tag_fields frame) ≡ is_sec frame
@@ -82,17 +83,17 @@ alive-ticked l old new seen sak cs s stands is ticks installs sent = record {
 }
 
 -- a life goes on with a frame that is heard
-pub alive-heard : (l : Life) (old new : Seat) (frame : List ℕ) (cs : List Change)
-    → IsAlive l old → StationStandsFor l.member new.station (frame_turn l.member frame l.past).past
-    → cs ≡ (frame_turn l.member frame l.past).reaction.changes
+pub alive-heard : (l : Life) (old new : Seat) (j : Result Announcement DropReason) (cs : List Change)
+    → IsAlive l old → StationStandsFor l.member new.station (heard_turn l.member j l.past).past
+    → cs ≡ (heard_turn l.member j l.past).reaction.changes
     → new.ticks ≡ old.ticks → new.installs ≡ old.installs + count_installed cs
     → ((a : Announcement) → last_sent (peers_of l.member (hear_turn l.member a l.past).past) ≡ last_sent (peers_of l.member l.past))
-    → IsAlive (lived l (frame_turn l.member frame l.past)) new
-alive-heard l old new frame cs s stands is ticks installs silent = record {
+    → IsAlive (lived l (heard_turn l.member j l.past)) new
+alive-heard l old new j cs s stands is ticks installs silent = record {
   station = stands;
-  ticks = omega (arith, ticks, s.ticks, frame-clock l.member frame l.past);
-  sent = omega (arith, ticks, s.sent, frame-sent l.member frame l.past silent);
-  installs = omega (arith, installs, s.installs, ap count_installed is, frame-count l.member frame l.past);
+  ticks = omega (arith, ticks, s.ticks, heard-clock l.member j l.past);
+  sent = omega (arith, ticks, s.sent, heard-sent l.member j l.past silent);
+  installs = omega (arith, installs, s.installs, ap count_installed is, heard-count l.member j l.past);
 }
 
 -- what a tick shows

@@ -292,37 +292,29 @@ hear-clock m a p =
     let p2 = with_install None (key_taken answer) (heard a ∷ p) in
     clock-begun m (followed_by (view m p2) o a) p2 ∙ (clock-with m None (key_taken answer) (heard a ∷ p) ∙ clock-heard m a p)
 
+pub heard-count : (m : Member) (j : Result Announcement DropReason) (p : List Entry)
+    → install_count (keys_of m (heard_turn m j p).past) ≡ install_count (keys_of m p) + count_installed (heard_turn m j p).reaction.changes
+heard-count m (Ok a) p = hear-count m a p
+heard-count m (Err v) p = omega arith
+
 pub frame-count : (m : Member) (frame : List ℕ) (p : List Entry)
     → install_count (keys_of m (frame_turn m frame p).past) ≡ install_count (keys_of m p) + count_installed (frame_turn m frame p).reaction.changes
-frame-count m frame p = go (judged m.setup frame)
-  where
-    go : (j : Result Announcement DropReason) → install_count (keys_of m (heard_turn m j p).past) ≡ install_count (keys_of m p) + count_installed (heard_turn m j p).reaction.changes
-    go (Ok a) = hear-count m a p
-    go (Err v) = omega arith
+frame-count m frame p = heard-count m (judged m.setup frame) p
 
-pub frame-clock : (m : Member) (frame : List ℕ) (p : List Entry) → clock (peers_of m (frame_turn m frame p).past) ≡ clock (peers_of m p)
-frame-clock m frame p = go (judged m.setup frame)
-  where
-    go : (j : Result Announcement DropReason) → clock (peers_of m (heard_turn m j p).past) ≡ clock (peers_of m p)
-    go (Ok a) = hear-clock m a p
-    go (Err v) = refl
+pub heard-clock : (m : Member) (j : Result Announcement DropReason) (p : List Entry) → clock (peers_of m (heard_turn m j p).past) ≡ clock (peers_of m p)
+heard-clock m (Ok a) p = hear-clock m a p
+heard-clock m (Err v) p = refl
 
 -- what a hearing counts, by what hearing an announcement does
-pub frame-installs : (m : Member) (frame : List ℕ) (p : List Entry) → ((a : Announcement) → install_count (keys_of m (hear_turn m a p).past) ≤ install_count (keys_of m p) + 1)
-    → install_count (keys_of m (frame_turn m frame p).past) ≤ install_count (keys_of m p) + 1
-frame-installs m frame p law = go (judged m.setup frame)
-  where
-    go : (j : Result Announcement DropReason) → install_count (keys_of m (heard_turn m j p).past) ≤ install_count (keys_of m p) + 1
-    go (Ok a) = law a
-    go (Err v) = omega arith
+pub heard-installs : (m : Member) (j : Result Announcement DropReason) (p : List Entry) → ((a : Announcement) → install_count (keys_of m (hear_turn m a p).past) ≤ install_count (keys_of m p) + 1)
+    → install_count (keys_of m (heard_turn m j p).past) ≤ install_count (keys_of m p) + 1
+heard-installs m (Ok a) p law = law a
+heard-installs m (Err v) p law = omega arith
 
-pub frame-sent : (m : Member) (frame : List ℕ) (p : List Entry) → ((a : Announcement) → last_sent (peers_of m (hear_turn m a p).past) ≡ last_sent (peers_of m p))
-    → last_sent (peers_of m (frame_turn m frame p).past) ≡ last_sent (peers_of m p)
-frame-sent m frame p law = go (judged m.setup frame)
-  where
-    go : (j : Result Announcement DropReason) → last_sent (peers_of m (heard_turn m j p).past) ≡ last_sent (peers_of m p)
-    go (Ok a) = law a
-    go (Err v) = refl
+pub heard-sent : (m : Member) (j : Result Announcement DropReason) (p : List Entry) → ((a : Announcement) → last_sent (peers_of m (hear_turn m a p).past) ≡ last_sent (peers_of m p))
+    → last_sent (peers_of m (heard_turn m j p).past) ≡ last_sent (peers_of m p)
+heard-sent m (Ok a) p law = law a
+heard-sent m (Err v) p law = refl
 
 -- ---- an ending
 

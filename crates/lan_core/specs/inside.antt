@@ -5,5 +5,6 @@ pub mod Seats
 pub mod Shown
 pub mod Faults
 pub mod Judging
+pub mod Judge
 pub mod Limits
 pub mod Following

@@ -27,6 +27,7 @@ use crate::air::Air;
 use crate::drawn::Drawn;
 use crate::event::Event;
 use crate::fact::Facts;
+use crate::judge::Judge;
 use crate::names::Names;
 use crate::seats::Seats;
 use crate::settings::{Settings, law_types_are_kept};
@@ -44,7 +45,7 @@ use std::marker::Model;
 #[derive(Drop)]
 pub struct Lan {
     alloc: Global,
-    settings: Settings,
+    judge: Judge,
     stopped: Option<StepError>,
     names: Names,
     air: Air,
@@ -60,7 +61,7 @@ impl Model for Lan {
     ghost Value = { State };
 
     ghost view = { λ l. record {
-      settings = l.settings;
+      settings = l.judge.settings;
       stopped = l.stopped;
       names = l.names;
       air = l.air;
@@ -84,7 +85,7 @@ impl Lan {
         law_types_are_kept(&settings);
         Ok(Lan {
             alloc,
-            settings,
+            judge: Judge::new(alloc, settings),
             stopped: None,
             names: Names::new(alloc),
             air: Air::new(alloc),

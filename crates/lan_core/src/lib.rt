@@ -13,7 +13,7 @@ mod event;
 mod fact;
 mod fact_laws;
 mod following;
-mod judging;
+mod judge;
 mod lan;
 mod laws;
 mod limits;

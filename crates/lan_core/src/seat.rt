@@ -23,21 +23,24 @@ ghost use Rattle.lan_core.specs.Lives.{Life, keys_in, receiving, seen_at, slot_c
 ghost use Rattle.lan_core.specs.Expected.{tick_facts, reached_facts, reaction_facts, restart_facts};
 ghost use Rattle.lan_core.specs.Keys.{held_under};
 ghost use Rattle.lan_core.specs.Standing.{Sits};
+ghost use Rattle.lan_core.specs.inside.Judge.{IsOf};
 ghost use Rattle.lan_core.specs.inside.Seats.{Claims, installs_in};
 ghost use Rattle.lan_core.specs.inside.Following.{count_installed, followed, tells_sec};
 ghost use Rattle.mka_station.specs.Tick.{tick_turn};
-ghost use Rattle.mka_station.specs.Hearing.{frame_turn};
+ghost use Rattle.mka_station.specs.Hearing.{frame_turn, heard_turn};
 ghost use Rattle.mka_station.specs.Restart.{ending};
 ghost use Rattle.gcm_frames.specs.Tags.{is_sec};
 
 use crate::claimed::Claimed;
 use crate::fact::{Fact, Facts};
 use crate::following::{follow, installs_after, lowest_under};
+use crate::judge::Judge;
 use crate::sender::Sender;
 use crate::telling::{tell, told};
 use gcm_frames::{Tag, TagRefusal, tag_of};
 use lan_base::{AssociationNumber, Draws, Octets, UserFrame, is_user_data};
-use mka_station::{Config, Reaction, Station, TickError, law_room, law_turns_count};
+use mka_station::{Config, DropReason, Reaction, Station, TickError, law_room, law_turns_count};
+use mkpdu_codec::Announcement;
 use rx_slots::{Checked, RxSlots};
 use sak_exchange::{HeldKey, Key, Seen};
 use std::alloc::{AllocError, Global};
@@ -232,24 +235,33 @@ impl Seat {
     }
 
     /// The frame of this number, or foreign octets under the number 0, reach the station, which
-    /// stands at this place.
-    pub fn reach(&mut self, place: u8, number: u32, octets: &[u8]) -> Result<Facts, AllocError>
+    /// stands at this place. The judge is that of its group.
+    pub fn reach(
+        &mut self,
+        place: u8,
+        number: u32,
+        octets: &[u8],
+        judge: &mut Judge,
+    ) -> Result<Facts, AllocError>
         requires { length octets.now ≤ most_frame_octets }
         ensures facts { (settings : Settings) (r : Run) (l : Life)
             → Sits settings.window l (receiving place r) self.old →
+            IsOf judge.old.settings l.member.setup →
             IfOk result (λ facts. facts ≡ reached_facts settings place r number octets.now l) }
         ensures stands { (settings : Settings) (r : Run) (l : Life)
             → Sits settings.window l (receiving place r) self.old →
+            IsOf judge.old.settings l.member.setup →
             OnOk result (Sits settings.window (lived_hearing l octets.now)
             (gather (slot_change place) (reached_facts settings place r number octets.now l)
             (heard_data octets.now (receiving place r))) self.new) }
         ensures counted { IfOk result (λ facts. self.new.installs
             ≡ self.old.installs + installs_in facts) }
+        ensures kept { judge.new.settings ≡ judge.old.settings }
     {
         if is_protected(octets) {
             self.receive(place, number, octets)
         } else {
-            self.hear_frame(place, number, octets)
+            self.hear_frame(place, number, octets, judge)
         }
     }
 
@@ -299,31 +311,42 @@ impl Seat {
         &self.slots
     }
 
-    /// A frame that is no protected one reaches the station.
-    fn hear_frame(&mut self, place: u8, number: u32, octets: &[u8]) -> Result<Facts, AllocError>
+    /// A frame that is no protected one reaches the station, and is judged by the judge of its
+    /// group.
+    fn hear_frame(
+        &mut self,
+        place: u8,
+        number: u32,
+        octets: &[u8],
+        judge: &mut Judge,
+    ) -> Result<Facts, AllocError>
         ensures facts { (window : ℕ) (l : Life) (h : List Receiving) → Sits window l h self.old →
+            IsOf judge.old.settings l.member.setup →
             IfOk result (λ facts. facts ≡ reaction_facts place number 0
             (frame_turn l.member octets.now l.past).reaction) }
         ensures stands { (window : ℕ) (l : Life) (h : List Receiving) → Sits window l h self.old →
+            IsOf judge.old.settings l.member.setup →
             OnOk result (Sits window (lived l (frame_turn l.member octets.now l.past))
             (gather (slot_change place) (reaction_facts place number 0
             (frame_turn l.member octets.now l.past).reaction) h)
             self.new) }
         ensures counted { IfOk result (λ facts. self.new.installs
             ≡ self.old.installs + installs_in facts) }
+        ensures kept { judge.new.settings ≡ judge.old.settings }
     {
-        let reaction = self.hear(octets)?;
+        judge.turn_to(octets)?;
+        let reaction = self.hear(judge.judgement())?;
         let mut facts = Facts::new(self.alloc);
         tell(&mut facts, place, number, 0, reaction)?;
         Ok(facts)
     }
 
-    /// A frame of key agreement is heard, and the receive slots follow.
-    fn hear(&mut self, frame: &[u8]) -> Result<Reaction, AllocError>
+    /// A frame is heard that was judged, and the receive slots follow.
+    fn hear(&mut self, judgement: &Result<Announcement, DropReason>) -> Result<Reaction, AllocError>
         ensures reaction { (window : ℕ) (l : Life) (h : List Receiving) → Sits window l h self.old →
-            IfOk result (λ r. r ≡ (frame_turn l.member frame.now l.past).reaction) }
+            IfOk result (λ r. r ≡ (heard_turn l.member judgement.now l.past).reaction) }
         ensures stands { (window : ℕ) (l : Life) (h : List Receiving) → Sits window l h self.old →
-            IfOk result (λ r. Sits window (lived l (frame_turn l.member frame.now l.past))
+            IfOk result (λ r. Sits window (lived l (heard_turn l.member judgement.now l.past))
             (followed r.changes h) self.new) }
         ensures counted { IfOk result (λ r. self.new.installs
             ≡ self.old.installs + count_installed r.changes) }
@@ -333,7 +356,7 @@ impl Seat {
         let Some(_ticks) = self.next_tick() else {
             return Err(AllocError);
         };
-        let reaction = self.station.hear(frame)?;
+        let reaction = self.station.hear_judged(judgement)?;
         let changes = reaction.changes.as_slice();
         self.installs = installs_after(self.installs, changes);
         follow(&mut self.slots, changes);

@@ -14,10 +14,12 @@ ghost use Rattle.lan_core.specs.Ledgers.{next_frame};
 ghost use Rattle.lan_core.specs.Lives.{Life, receiving, seen_at};
 ghost use Rattle.lan_core.specs.Standing.{Seat, Sits};
 ghost use Rattle.lan_core.specs.Batches.{checked_at};
+ghost use Rattle.lan_core.specs.inside.Judge.{IsOf};
 ghost use Rattle.lan_core.specs.inside.Seats.{Claims, Ticks, Reaches, Restarts};
 
 use crate::came::Came;
 use crate::claimed::Claimed;
+use crate::judge::Judge;
 use crate::seat::Seat;
 use lan_base::{Draws, UserFrame};
 use mka_station::TickError;
@@ -98,23 +100,26 @@ impl Seats {
     }
 
     /// A frame of this number, or foreign octets under the number 0, reach a station, if it is
-    /// there.
+    /// there. The judge is that of its group.
     pub fn reach(
         &mut self,
         place: u8,
         number: u32,
         octets: &[u8],
+        judge: &mut Judge,
     ) -> Result<Option<Came>, AllocError>
         requires { length octets.now ≤ most_frame_octets }
-        ensures { (settings : Settings) (r : Run) (seat : Seat) (l : Life)
+        ensures came { (settings : Settings) (r : Run) (seat : Seat) (l : Life)
             → slice_get self.old place ≡ Some seat → Sits settings.window l (receiving place r) seat
+            → IsOf judge.old.settings l.member.setup
             → IfOk result (λ came. IsSomeAnd came
             (Reaches settings r place seat l number octets.now self.old self.new)) }
+        ensures kept { judge.new.settings ≡ judge.old.settings }
     {
         let Some(seat) = self.seats.get_mut(place as usize) else {
             return Ok(None);
         };
-        let facts = seat.reach(place, number, octets)?;
+        let facts = seat.reach(place, number, octets, judge)?;
         let installs = seat.installs();
         Ok(Some(Came { facts, installs }))
     }

@@ -48,9 +48,9 @@ module _ {K : Type 0} {Took : K → Report → K → Type 0} {Broke : K → Repo
       left = ap (λ (c : List Chance). behind_numbers c) left;
       same = refl;
     })
-    closed-early w later now halt left reached (inr memory) =
+    closed-early w later now halt left reached (inr without) =
         subst (λ (h : Halt). Ends StandsFor (λ halt. Counts) Counts Took Broke w later (perform close w) now.outlet
-        now (Err h)) (sym memory)
+        now (Err h)) (sym without.0)
         (ends-memory Took Broke StandsFor (λ halt. Counts) Counts close w later now.outlet now reached.tidy
         (stands-counts w now.value reached.stands) refl)
 

@@ -1,5 +1,5 @@
 -- For which world a replay stands.
-use Rattle.std.specs.Prelude.{◌≡◌, ◌⊎◌, ◌<◌, ◌+◌, ℕ, true, List, [], ◌++◌, length, Option, Some, None}
+use Rattle.std.specs.Prelude.{◌≡◌, ◌⊎◌, ◌<◌, ◌≤◌, ◌+◌, ℕ, true, List, [], ◌++◌, length, Option, Some, None}
 use Rattle.std.specs.Prelude.{Result, Ok, Err}
 use Rattle.std.specs.List.{AllByRecursion}
 use Rattle.lan_core.specs.Run.{facts_of}
@@ -84,9 +84,10 @@ pub record Does {K : Type 0} (Took : K → Report → K → Type 0)
       → Ends StandsFor (λ halt. Counts) Counts Took Broke w later (perform act w) old.outlet new
       result
 
--- The end of a trace, whose lines made this world: nothing more comes, or it stops there. The line
--- behind the last may also have no number.
+-- The end of a trace, whose lines made this world: nothing more comes, or it stops there. Where the
+-- last line has the greatest number of 32 bits, the line behind it may also have none.
 abbrev pub Closes : World → Result (Unit {0}) Halt → Type 0
 Closes w (Ok done) = perform close w ≡ Goes w
 Closes w (Err halt) =
-    (perform close w ≡ Stops (at_line (w.kept.line + 1) w) halt) ⊎ (halt ≡ Memory)
+    (perform close w ≡ Stops (at_line (w.kept.line + 1) w) halt)
+    ⊎ ((halt ≡ Memory) × (4294967295 ≤ w.kept.line))

@@ -14,7 +14,7 @@ ghost use Rattle.group_safety.specs.Accounts.{IsExact};
 ghost use Rattle.transmit_words.specs.Ties.{tables_of, AreTied, AreAhead, HaveKeptUp};
 ghost use Rattle.transmit_words.specs.Ties.{HaveCaughtUp, CaughtAhead, Followed, HaveLooked};
 ghost use Rattle.transmit_words.specs.Ties.{KeepCards};
-ghost use Rattle.transmit_words.specs.Seats.{WasSeated, HasJoined, HasGot};
+ghost use Rattle.transmit_words.specs.Seats.{WasSeated, HasNoSeat, HasJoined, HasGot};
 ghost use Rattle.worker_races.specs.Carded.{AreCarded};
 ghost use Rattle.lan_schedule.specs.Numbers.{shown_next};
 ghost use Rattle.lan_schedule.specs.Stages.{Says};
@@ -120,6 +120,7 @@ impl Words {
     pub fn seat(&mut self, station: u8) -> Option<WorkerSeat>
         ensures some { IfSome result (WasSeated station self.old self.new) }
         ensures none { IfNone result (self.new ≡ self.old) }
+        ensures full { IfNone result (HasNoSeat station self.old) }
         ensures same { tables_of self.new ≡ tables_of self.old }
         ensures keeps_up { (settings : Settings) (r : Run) → HaveKeptUp settings r self.old
             → HaveKeptUp settings r self.new }

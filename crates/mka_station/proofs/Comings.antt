@@ -1,18 +1,22 @@
 -- What is found for the next tick is what the next tick comes to.
-use Rattle.std.proofs.Common.{◌≡◌, ◌∙◌, ℕ, Bool, cond, List, ◌∷◌, ◌++◌, map, slice_get, Option, None, is_some, refl, ap, sym}
+use Rattle.std.proofs.Common.{◌≡◌, ◌∙◌, ℕ, Bool, cond, List, ◌∷◌, ◌++◌, map, slice_get, Option, None, is_some, IsTrue, refl, ap, sym}
 use Rattle.lan_base.specs.declared.address.Mi.{Mi}
 use Rattle.peer_lists.specs.Histories.{ticked as peers_ticked}
 use Rattle.peer_lists.specs.Peers.{row_at}
+use Rattle.peer_lists.specs.Table.{Table, StandsFor as PeersStandFor}
+use Rattle.peer_lists.specs.Showing.{rows_shown, rows_shown_later}
+use Rattle.peer_lists.proofs.Public.{later-stands}
+use Rattle.server_election.specs.declared.candidate.Candidate.{Candidate}
 use Rattle.server_election.specs.Election.{elected as elected_among}
 use Rattle.sak_exchange.specs.declared.change.Change.{Change}
 use Rattle.sak_exchange.specs.declared.report.Report.{Report}
 use Rattle.sak_exchange.specs.Histories.{Keying, ticked as keys_ticked}
 use Rattle.sak_exchange.specs.Beginning.{Beginning, leads}
 use Rattle.sak_exchange.specs.Outcomes.{Effect, beginning}
-use Rattle.mka_station.specs.Lives.{Member, Entry, ticked, own, candidate, peers_of, keys_of}
+use Rattle.mka_station.specs.Lives.{Setup, Member, Entry, ticked, own, candidate, peers_of, keys_of}
 use Rattle.mka_station.specs.Views.{view, reports, is_server}
 use Rattle.mka_station.specs.Tick.{ended, led, begun_past}
-use Rattle.mka_station.specs.inside.Found.{Found, Comes}
+use Rattle.mka_station.specs.inside.Found.{Found, candidate_by, IsIn, IsAhead, Comes}
 use Rattle.peer_lists.specs.declared.heard.Row.{Row}
 use Rattle.mka_station.specs.inside.Rows.{live_rows, report_of, candidate_in, IsShown}
 use Rattle.mka_station.proofs.RowsShown.{rows-show}
@@ -36,6 +40,20 @@ comes m p c rows told server =
       told = told ∙ shows.live_reports;
       server = server ∙ ap (elected_among (candidate m)) shows.live_candidates ∙ sym (view-elected m q);
     }
+
+-- what is found in the rows that the peer lists will show
+pub comes-in : (m : Member) (p : List Entry) (setup : Setup) (mi : Mi) (t : Table) (c : Found) → m.setup ≡ setup → m.mi ≡ mi → PeersStandFor (own m) t (peers_of m p)
+    → IsIn (candidate_by setup mi) (rows_shown_later t) c → Comes m p c
+comes-in m p setup mi t c setup_is mi_is stands found =
+    comes m p c (λ at. ap (λ (rs : List Row). slice_get rs at) found.rows ∙ later-stands (own m) t (peers_of m p) stands at) found.reports
+    (found.server ∙ ap (λ (x : Candidate). elected_among x (map candidate_in (live_rows c.rows))) (rw (setup_is, mi_is) refl))
+
+-- what was ahead of a tick is there behind it
+pub ahead-passed : (setup : Setup) (mi : Mi) (before after : Table) (c : Found) → IsAhead setup mi before c → rows_shown after ≡ rows_shown_later before
+    → IsTrue c.ahead → IsIn (candidate_by setup mi) (rows_shown after) c
+ahead-passed setup mi before after c ahead same is =
+    let f = ahead.found is in
+    record { rows = f.rows ∙ sym same; reports = f.reports; server = f.server }
 
 pub keys-come : (m : Member) (p : List Entry) (c : Found) → Comes m p c → ticked_with m p c ≡ keys_of m (ticked ∷ p)
 keys-come m p c f = ap (λ (o : Option Mi). keys_ticked (is_some o) ∷ keys_of m p) (f.server ∙ view-server m (ticked ∷ p)) ∙ sym (keys-ticked m p)

@@ -20,7 +20,7 @@ abbrev verdict-of : Option DropReason → Announcement → Result Announcement D
 verdict-of None a = Ok a
 verdict-of (Some v) a = Err v
 
-by-fault : (setup : Setup) (frame : List ℕ) (s : Spelled) → of_group setup frame s ≡ verdict-of (fault_of setup s.announcement (take s.covered frame) s.check) s.announcement
+by-fault : (setup : Setup) (frame : List ℕ) (s : Spelled) → of_group setup frame s ≡ verdict-of (fault_of setup.ckn setup.ick s.announcement (take s.covered frame) s.check) s.announcement
 by-fault setup frame s =
     by_test (not (pointwise nat_eq s.announcement.ckn setup.ckn))
     (λ e. rw e refl)
@@ -30,8 +30,8 @@ judged-read : (setup : Setup) (frame : List ℕ) (s : Spelled) → reading frame
 unfolding judged
 judged-read setup frame s is = rw is refl
 
-pub judged-fault : (setup : Setup) (frame : List ℕ) (s : Spelled) (v : DropReason) → reading frame ≡ Ok s → fault_of setup s.announcement (take s.covered frame) s.check ≡ Some v → Err v ≡ judged setup frame
+pub judged-fault : (setup : Setup) (frame : List ℕ) (s : Spelled) (v : DropReason) → reading frame ≡ Ok s → fault_of setup.ckn setup.ick s.announcement (take s.covered frame) s.check ≡ Some v → Err v ≡ judged setup frame
 judged-fault setup frame s v is why = sym (judged-read setup frame s is ∙ by-fault setup frame s ∙ ap (λ o. verdict-of o s.announcement) why)
 
-pub judged-right : (setup : Setup) (frame : List ℕ) (s : Spelled) → reading frame ≡ Ok s → fault_of setup s.announcement (take s.covered frame) s.check ≡ None → Ok s.announcement ≡ judged setup frame
+pub judged-right : (setup : Setup) (frame : List ℕ) (s : Spelled) → reading frame ≡ Ok s → fault_of setup.ckn setup.ick s.announcement (take s.covered frame) s.check ≡ None → Ok s.announcement ≡ judged setup frame
 judged-right setup frame s is why = sym (judged-read setup frame s is ∙ by-fault setup frame s ∙ ap (λ o. verdict-of o s.announcement) why)

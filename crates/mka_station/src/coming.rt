@@ -1,16 +1,17 @@
 //! What an event finds in the peer lists.
 
-ghost use Rattle.std.specs.Prelude.{◌≡◌, ◌∷◌, ◌++◌, ℕ, List, true, false, cond, None, is_some, IfOk, OnOk};
+ghost use Rattle.std.specs.Prelude.{◌≡◌, ◌∷◌, ◌++◌, ℕ, List, true, false, cond, None, is_some, IsTrue, IfOk, OnOk};
 ghost use Rattle.lan_base.specs.declared.address.Mi.{Mi};
-ghost use Rattle.peer_lists.specs.Table.{StandsFor as PeersStandFor};
+ghost use Rattle.peer_lists.specs.Table.{Table, StandsFor as PeersStandFor};
+ghost use Rattle.peer_lists.specs.Showing.{rows_shown, rows_shown_later};
 ghost use Rattle.sak_exchange.specs.Histories.{Keying, ticked};
 ghost use Rattle.sak_exchange.specs.Beginning.{leads};
 ghost use Rattle.sak_exchange.specs.Outcomes.{beginning};
 ghost use Rattle.sak_exchange.specs.Standing.{StandsFor as KeysStandFor};
-ghost use Rattle.mka_station.specs.Lives.{Member, Entry, own, peers_of};
+ghost use Rattle.mka_station.specs.Lives.{Setup, Member, Entry, own, peers_of};
 ghost use Rattle.mka_station.specs.Views.{view};
 ghost use Rattle.mka_station.specs.Tick.{ended};
-ghost use Rattle.mka_station.specs.inside.Found.{Comes};
+ghost use Rattle.mka_station.specs.inside.Found.{candidate_by, IsIn, IsAhead};
 
 use crate::changes::joined;
 use crate::config::Config;
@@ -31,6 +32,8 @@ pub struct Coming {
     pub reports: Vec<Report>,
     candidates: Vec<Candidate>,
     pub server: Option<Mi>,
+    /// Whether it is known that the next tick finds this. Nothing need be looked up then.
+    ahead: bool,
 }
 
 impl Model for Coming {
@@ -44,6 +47,7 @@ impl Model for Coming {
       rows = c.rows.items;
       reports = c.reports.items;
       server = c.server;
+      ahead = c.ahead;
     } };
 
     ghost invariant = { λ c. (length c.rows.items ≤ most_peers)
@@ -54,30 +58,75 @@ impl Model for Coming {
 
 impl Coming {
     /// Room for what is found, which has nothing yet.
-    pub fn new(alloc: Global) -> Result<Coming, AllocError> {
+    pub fn new(alloc: Global) -> Result<Coming, AllocError>
+        ensures { IfOk result (λ c. (setup : Setup) (mi : Mi) (peers : Table) →
+            IsAhead setup mi peers c) }
+    {
         Ok(Coming {
             rows: Vec::with_capacity(alloc, PEERS)?,
             reports: Vec::with_capacity(alloc, PEERS)?,
             candidates: Vec::with_capacity(alloc, PEERS)?,
             server: None,
+            ahead: false,
         })
     }
 
     /// What a station of this member identifier finds at the next tick.
     pub fn look_ahead(&mut self, config: &Config, mi: &Mi, peers: &PeerTable)
-        ensures { (m : Member) (p : List Entry) → m.setup ≡ config.now → m.mi ≡ mi.now →
-            PeersStandFor (own m) peers.now (peers_of m p) → Comes m p self.new }
+        requires { IsAhead config.now mi.now peers.now self.old }
+        ensures { IsIn (candidate_by config.now mi.now) (rows_shown_later peers.now) self.new }
+    {
+        if self.is_ahead() {
+            return;
+        }
+        self.look(config, mi, peers);
+    }
+
+    /// Whether it is known that the next tick finds this.
+    fn is_ahead(&self) -> bool
+        ensures { result ≡ self.now.ahead }
+    {
+        self.ahead
+    }
+
+    /// What the next tick finds is looked up.
+    fn look(&mut self, config: &Config, mi: &Mi, peers: &PeerTable)
+        ensures { IsIn (candidate_by config.now mi.now) (rows_shown_later peers.now) self.new }
     {
         peers.rows_after_tick(&mut self.rows);
         note_reports(&mut self.reports, &self.rows);
         self.server = elected(&mut self.candidates, &candidate(config, mi), &self.rows);
+        self.ahead = true;
+    }
+
+    /// The tick passed at which this was found, and behind it the peer lists are these. The next
+    /// one finds the same where it changes nothing of what they show.
+    pub fn pass(&mut self, peers: &PeerTable)
+        ensures { (setup : Setup) (mi : Mi) → (IsTrue self.old.ahead →
+            IsIn (candidate_by setup mi) (rows_shown peers.now) self.old) →
+            IsAhead setup mi peers.now self.new }
+    {
+        if peers.stays() {
+            return;
+        }
+        self.forget();
+    }
+
+    /// The peer lists become others, of whatever station.
+    pub fn forget(&mut self)
+        ensures { (setup : Setup) (mi : Mi) (peers : Table) → IsAhead setup mi peers self.new }
+    {
+        self.ahead = false;
     }
 
     /// The server that it elects now.
     pub fn elect(&mut self, config: &Config, mi: &Mi, peers: &PeerTable) -> Option<Mi>
-        ensures { (m : Member) (p : List Entry) → m.setup ≡ config.now → m.mi ≡ mi.now →
+        ensures server { (m : Member) (p : List Entry) → m.setup ≡ config.now → m.mi ≡ mi.now →
             PeersStandFor (own m) peers.now (peers_of m p) → result ≡ (view m p).server }
+        ensures forgotten { (setup : Setup) (mi : Mi) (peers : Table) →
+            IsAhead setup mi peers self.new }
     {
+        self.ahead = false;
         peers.rows_now(&mut self.rows);
         elected(&mut self.candidates, &candidate(config, mi), &self.rows)
     }
@@ -85,8 +134,7 @@ impl Coming {
 
 /// The station as a candidate.
 fn candidate(config: &Config, mi: &Mi) -> Candidate
-    ensures { result ≡
-        record { mi = mi.now; sci = config.now.sci; priority = config.now.priority } }
+    ensures { result ≡ candidate_by config.now mi.now }
 {
     Candidate {
         mi: *mi,

@@ -6,6 +6,7 @@
 mod changes;
 mod coming;
 mod config;
+mod judging;
 mod laws;
 mod next;
 mod reaction;
@@ -18,6 +19,7 @@ mod tick_error;
 mod verdict;
 
 pub use config::Config;
+pub use judging::judge;
 pub use laws::{
     law_dropped_changes_no_answer, law_dropped_changes_no_view, law_elected_stays,
     law_flags_the_server, law_listed_was_heard, law_marks_what_transmits, law_no_flag_is_heard,

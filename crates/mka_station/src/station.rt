@@ -45,6 +45,7 @@ pub struct Station {
 
 impl Model for Station {
     ghost use Rattle.mka_station.specs.Standing.{State};
+    ghost use Rattle.mka_station.specs.inside.Found.{IsAhead};
 
     ghost Value = { State };
 
@@ -57,6 +58,8 @@ impl Model for Station {
       server = s.server;
       spoken = s.spoken;
     } };
+
+    ghost invariant = { λ s. IsAhead s.config s.mi s.peers s.coming };
 }
 
 impl Station {

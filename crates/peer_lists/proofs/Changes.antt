@@ -14,7 +14,8 @@ use Rattle.peer_lists.specs.Histories.{Peering, ticked, sent, heard, clock, is_y
 use Rattle.peer_lists.specs.Acceptance.{Own, Accepted, accepted, vouches, is_young_of}
 use Rattle.peer_lists.specs.Peers.{is_of, is_vouched_of, newer, is_displaced}
 use Rattle.peer_lists.specs.Table.{words_of, remembered}
-use Rattle.peer_lists.specs.inside.RowChanges.{aged, kept_words, aged_peer, fresh, displaced_under, displaced_peer}
+use Rattle.peer_lists.specs.Showing.{aged, kept_words, aged_peer}
+use Rattle.peer_lists.specs.inside.RowChanges.{fresh, displaced_under, displaced_peer}
 use Rattle.peer_lists.proofs.Identifiers.{by_test, same_mi-equal, same_mi-itself}
 use Rattle.peer_lists.proofs.Ascending.{same_mi-sym}
 use Rattle.peer_lists.proofs.TableRows.{passing, row_heard}

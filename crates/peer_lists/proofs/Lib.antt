@@ -9,6 +9,7 @@ pub mod Changes
 pub mod Shown
 pub mod Numbers
 pub mod Stands
+pub mod Staying
 pub mod EveryHistory
 pub mod AtMost
 pub mod Public

@@ -6,3 +6,4 @@ pub use Rattle.peer_lists.proofs.Identifiers.{by_test, same_mi-equal, same_mi-it
 pub use Rattle.peer_lists.proofs.Pasts.{accepted-dropped, accepted-new, accepted-sent, accepted-ticked, by_option, entered}
 pub use Rattle.peer_lists.proofs.Refusals.{has-known, known-is, remembered-is}
 pub use Rattle.peer_lists.proofs.Shown.{hopes-is, says-is}
+pub use Rattle.peer_lists.proofs.Stands.{later-stands}

@@ -13,7 +13,7 @@ use Rattle.peer_lists.specs.Acceptance.{Own, Accepted, accepted}
 use Rattle.peer_lists.specs.Peers.{is_of, is_vouched_of, is_displaced, standing, says, hopes, known, row_of, row_at}
 use Rattle.peer_lists.specs.Table.{words_of, remembered, look_up, member}
 use Rattle.lan_base.specs.Identifiers.{IsAscending, IsBefore}
-use Rattle.peer_lists.specs.inside.RowChanges.{shown}
+use Rattle.peer_lists.specs.Showing.{shown}
 use Rattle.peer_lists.proofs.Identifiers.{by_test, same_mi-itself}
 use Rattle.peer_lists.proofs.Ascending.{same_mi-apart}
 use Rattle.peer_lists.proofs.TableRows.{look_up-head, look_up-tail}

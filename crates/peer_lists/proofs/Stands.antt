@@ -17,7 +17,8 @@ use Rattle.peer_lists.specs.Acceptance.{Own, accepted, refusal, echo, old_number
 use Rattle.peer_lists.specs.Peers.{known, row_at}
 use Rattle.peer_lists.specs.Table.{Table, StandsFor, member, look_up, remembered}
 use Rattle.lan_base.specs.Identifiers.{IsAscending}
-use Rattle.peer_lists.specs.inside.RowChanges.{put, aged_peer, aged_rows, displaced_peer, displaced_rows, rows_heard, reason_at, shown}
+use Rattle.peer_lists.specs.Showing.{aged_peer, aged_rows, shown}
+use Rattle.peer_lists.specs.inside.RowChanges.{put, displaced_peer, displaced_rows, rows_heard, reason_at}
 use Rattle.peer_lists.specs.inside.Countdowns.{no_numbers, numbers_after_tick, numbers_after_sent, is_number_recent}
 use Rattle.peer_lists.proofs.Identifiers.{by_test, same_mi-equal, same_mi-itself}
 use Rattle.peer_lists.proofs.TableRows.{look_up-put, look_up-put_other, put-ascending, map-change, look_up-change, filter-ascending, look_up-filter, passing, row_heard, heard_at-is, reason_at-is}

@@ -1,10 +1,12 @@
 //! The rows of the table, in ascending order of member identifier.
 
 ghost use Rattle.std.specs.Prelude.{◌≡◌, ◌<◌, ◌≤◌, OnErr, length, map, slice_get, option_map, vec_capacity};
+ghost use Rattle.std.specs.List.{list_all};
 ghost use Rattle.std.specs.List.Sorted.{IsBinarySearchResult, IsSearchInRange};
 ghost use Rattle.lan_base.specs.Identifiers.{order};
 ghost use Rattle.peer_lists.specs.Table.{member};
-ghost use Rattle.peer_lists.specs.inside.RowChanges.{aged_peer, aged_rows, displaced_rows, heard_at, shown};
+ghost use Rattle.peer_lists.specs.Showing.{aged_peer, aged_rows, shown};
+ghost use Rattle.peer_lists.specs.inside.RowChanges.{displaced_rows, heard_at, stays};
 
 use crate::heard::{Heard, Row};
 use crate::remembered::Remembered;
@@ -67,6 +69,13 @@ pub fn remember(
             let _ = rows.insert(at, Remembered::introduced(heard, vouched));
         }
     }
+}
+
+/// Whether a tick changes nothing of what is shown of the rows.
+pub fn stay(rows: &[Remembered]) -> bool
+    ensures { result ≡ list_all stays rows.now }
+{
+    rows.iter().all(|row| row.stays())
 }
 
 /// What is shown of the row at a place.

@@ -2,7 +2,8 @@
 //! the ticks that it has left and with whether a later announcement displaced it.
 
 ghost use Rattle.std.specs.Prelude.{◌≡◌};
-ghost use Rattle.peer_lists.specs.inside.RowChanges.{aged, displaced_under, fresh, aged_peer, displaced_peer, has_sci, renewed, introduced, shown};
+ghost use Rattle.peer_lists.specs.Showing.{aged, aged_peer, shown};
+ghost use Rattle.peer_lists.specs.inside.RowChanges.{displaced_under, fresh, displaced_peer, has_more, has_sci, renewed, introduced, stays};
 
 use crate::heard::{Heard, Row};
 use crate::sent_numbers::WHOLE_LIFE;
@@ -35,6 +36,13 @@ impl Words {
         ensures { self.new ≡ aged self.old }
     {
         self.left = self.left.saturating_sub(1);
+    }
+
+    /// Whether it is young after the next tick too.
+    fn has_more(&self) -> bool
+        ensures { result ≡ has_more self.now }
+    {
+        self.left > 1
     }
 
     /// Another member's vouched announcement has this SCI.
@@ -87,6 +95,16 @@ impl Remembered {
             if words.left == 0 {
                 self.vouched = None;
             }
+        }
+    }
+
+    /// Whether a tick changes nothing of what is shown of it.
+    pub fn stays(&self) -> bool
+        ensures { result ≡ stays self.now }
+    {
+        match &self.vouched {
+            Some(words) => self.last.has_more() && words.has_more(),
+            None => self.last.has_more(),
         }
     }
 

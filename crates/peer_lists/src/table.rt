@@ -7,12 +7,13 @@ ghost use Rattle.peer_lists.specs.Histories.{Peering, ticked, sent, heard as hea
 ghost use Rattle.peer_lists.specs.Acceptance.{Own, IsDropped, echo, outcome, most_peers};
 ghost use Rattle.peer_lists.specs.Peers.{known, row_at};
 ghost use Rattle.peer_lists.specs.Table.{StandsFor};
+ghost use Rattle.peer_lists.specs.Showing.{rows_shown, rows_shown_later};
 ghost use Rattle.peer_lists.specs.inside.RowChanges.{reason_at, rows_heard};
 ghost use Rattle.peer_lists.specs.inside.Countdowns.{is_number_recent};
 
 use crate::PEERS;
 use crate::heard::{Heard, Outcome, PeerRefusal, Row};
-use crate::places::{age, displace, place_of, remember, show, show_after_tick, shown_at};
+use crate::places::{age, displace, place_of, remember, show, show_after_tick, shown_at, stay};
 use crate::remembered::Remembered;
 use crate::sent_numbers::SentNumbers;
 use lan_base::{Mi, Sci};
@@ -88,8 +89,9 @@ impl PeerTable {
 
     /// A tick passes.
     pub fn tick(&mut self)
-        ensures { (own : Own) (h : List Peering) → StandsFor own self.old h →
+        ensures stands { (own : Own) (h : List Peering) → StandsFor own self.old h →
             StandsFor own self.new (ticked ∷ h) }
+        ensures shown { rows_shown self.new ≡ rows_shown_later self.old }
     {
         self.sent.tick();
         age(&mut self.rows);
@@ -119,8 +121,9 @@ impl PeerTable {
             mn ≡ last_sent_in h + 1 }
         requires once { (own : Own) (h : List Peering) → StandsFor own self.old h →
             IsTrue (may_send_after h) }
-        ensures { (own : Own) (h : List Peering) → StandsFor own self.old h →
+        ensures stands { (own : Own) (h : List Peering) → StandsFor own self.old h →
             StandsFor own self.new (sent mn ∷ h) }
+        ensures shown { rows_shown self.new ≡ rows_shown self.old }
     {
         self.sent.send(mn);
     }
@@ -220,10 +223,18 @@ impl PeerTable {
         requires { most_peers ≤ vec_capacity into.old }
         ensures rows { (own : Own) (h : List Peering) → StandsFor own self.now h → (at : ℕ) →
             slice_get into.new.items at ≡ row_at own (ticked ∷ h) at }
+        ensures shown { into.new.items ≡ rows_shown_later self.now }
         ensures few { length into.new.items ≤ most_peers }
         ensures capacity { vec_capacity into.new ≡ vec_capacity into.old }
     {
         show_after_tick(self.rows.as_slice(), into);
+    }
+
+    /// Whether the next tick changes nothing of the rows. It may answer no where it changes none.
+    pub fn stays(&self) -> bool
+        ensures { IsTrue result → rows_shown_later self.now ≡ rows_shown self.now }
+    {
+        stay(self.rows.as_slice())
     }
 }
 

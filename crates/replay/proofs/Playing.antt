@@ -283,7 +283,7 @@ module _ {P K : Type 0} (given : Given) (Took : K → Report → K → Type 0)
   -- no sink is at fault there
   never-broken : (w : World) (halt : Halt) → Closes w (Err halt) → halt ≡ halts.Broken → ⊥
   never-broken w halt (inl stops) is = given.never close w _ halt stops (inr is)
-  never-broken w halt (inr memory) is = cc (memory, is)
+  never-broken w halt (inr without) is = let memory = without.0 in cc (memory, is)
 
   -- the source ended inside a race
   pub ended-badly : (at_end : World → List (List ℕ)) (left now : Sourced)

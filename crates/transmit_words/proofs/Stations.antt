@@ -4,7 +4,7 @@ use Rattle.std.proofs.Common.{true, false, cond, List, [], ◌∷◌, ◌++◌, 
 use Rattle.std.proofs.Common.{length-set, Option, Some, None, Result, Ok, Err, refl, ap, sym, ◌∙◌, subst}
 use Rattle.std.proofs.Common.{arith, add-one}
 use Rattle.std.proofs.lemmas.Bool.{eq-eqb, ne_eqb}
-use Rattle.std.proofs.lemmas.Option.{slice_get_within}
+use Rattle.std.proofs.lemmas.Option.{slice_get_within, slice_get_past}
 use Rattle.std.proofs.Math.Seq.{take-suc}
 use Rattle.std.specs.Prelude.{◌==◌, slice_get, is_some, option_map, option_and_then, Contains}
 use Rattle.atomic_table.specs.Seated.{TableId}
@@ -12,7 +12,7 @@ use Rattle.lan_base.specs.declared.association_number.AssociationNumber.{Associa
 use Rattle.association_slots.specs.Views.{ControlAt, SeatAt, AllIn, current, newest, present_at, free_number, told_sum}
 use Rattle.association_slots.specs.Learned.{Learned}
 use Rattle.association_slots.specs.Steps.{new_seat, seated, told}
-use Rattle.transmit_words.specs.Seats.{WasSeated, HasJoined, AreAllIn, HasGot}
+use Rattle.transmit_words.specs.Seats.{WasSeated, HasNoSeat, HasJoined, AreAllIn, HasGot}
 use Rattle.transmit_words.proofs.Keeping.{and-false}
 use Rattle.transmit_words.proofs.KeepingUp.{newest-word}
 use Rattle.std.specs.Prelude.{IfSome, IfNone, max}
@@ -285,6 +285,15 @@ was-seated cs s c d r at is = some-map r _ (WasSeated s cs (set cs s d)) (λ sea
 pub was-full : (cs : List ControlAt) (s : ℕ) (c d : ControlAt) (r : Option SeatAt) → slice_get cs s ≡ Some c
     → IfNone r ((8 < free_number c.view) × (d ≡ c)) → IfNone r (set cs s d ≡ cs)
 was-full cs s c d r at is = none-map r _ (set cs s d ≡ cs) (λ both. ap (set cs s) both.1 ∙ set-back cs s c at) is
+
+pub no-seat : (cs : List ControlAt) (s : ℕ) (c d : ControlAt) (r : Option SeatAt) → slice_get cs s ≡ Some c
+    → IfNone r ((8 < free_number c.view) × (d ≡ c)) → IfNone r (HasNoSeat s cs)
+no-seat cs s c d r at is =
+    none-map r _ (HasNoSeat s cs) (λ both. subst (λ o. IfSome o (λ (x : ControlAt). 8 < free_number x.view)) (sym at) both.0) is
+
+-- behind the last station there is none
+pub no-seat-behind : (cs : List ControlAt) (s : ℕ) → length cs ≤ s → HasNoSeat s cs
+no-seat-behind cs s le = rw (slice_get_past cs s le) tt
 
 pub has-joined : (cs : List ControlAt) (s : ℕ) (c d : ControlAt) (seat : SeatAt) → slice_get cs s ≡ Some c → d ≡ record c { view = told c.view seat.view } → Learned d.view → HasJoined s seat cs (set cs s d)
 has-joined cs s c d seat at is learned = record {

@@ -1,9 +1,9 @@
 -- How the words of all stations change as a seat goes out, and as one comes back; and what a claim
 -- got afterwards.
-use Rattle.std.specs.Prelude.{◌≡◌, ◌≤◌, ◌<◌, ◌⊎◌, ℕ, List, slice_get, slice_set, Some}
+use Rattle.std.specs.Prelude.{◌≡◌, ◌≤◌, ◌<◌, ◌⊎◌, ℕ, List, slice_get, slice_set, Some, IfSome}
 use Rattle.association_slots.specs.Learned.{Learned}
 use Rattle.association_slots.specs.Steps.{new_seat, seated, told}
-use Rattle.association_slots.specs.Views.{ControlAt, SeatAt, AllIn, current, told_sum}
+use Rattle.association_slots.specs.Views.{ControlAt, SeatAt, AllIn, current, free_number, told_sum}
 use Rattle.lan_core.specs.declared.settings.Settings.{Settings}
 use Rattle.lan_core.specs.Expected.{last_number}
 use Rattle.lan_core.specs.Lives.{transmitting_at}
@@ -23,6 +23,10 @@ pub record HasJoined (s : ℕ) (seat : SeatAt) (old new : List ControlAt) : Type
   pub there : slice_get old s ≡ Some control
   pub new_is : new ≡ slice_set old s (record control { view = told control.view seat.view })
   pub learned : Learned (told control.view seat.view)
+
+-- no seat is left at a station: eight are out, or there is no such station
+abbrev pub HasNoSeat : ℕ → List ControlAt → Type 0
+HasNoSeat s cs = IfSome (slice_get cs s) (λ c. 8 < free_number c.view)
 
 -- no seat of any station is out
 abbrev pub AreAllIn : List ControlAt → Type 0

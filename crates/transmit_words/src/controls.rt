@@ -16,7 +16,7 @@ ghost use Rattle.transmit_words.specs.Telling.{Tells};
 ghost use Rattle.transmit_words.specs.Ties.{tables_of, AreTied, AreAhead, HaveKeptUp};
 ghost use Rattle.transmit_words.specs.Ties.{KeepAhead, HaveCaughtUp, CaughtAhead, Followed};
 ghost use Rattle.transmit_words.specs.Ties.{HaveLooked, KeepCards};
-ghost use Rattle.transmit_words.specs.Seats.{WasSeated, HasJoined, AreAllIn, HasGot};
+ghost use Rattle.transmit_words.specs.Seats.{WasSeated, HasNoSeat, HasJoined, AreAllIn, HasGot};
 
 use crate::control::TransmitControl;
 use crate::following::{card_of, moved};
@@ -152,6 +152,7 @@ impl Controls {
         ensures same { tables_of self.new ≡ tables_of self.old }
         ensures some { IfSome result (WasSeated station self.old self.new) }
         ensures none { IfNone result (self.new ≡ self.old) }
+        ensures full { IfNone result (HasNoSeat station self.old) }
         ensures keeps_up { (settings : Settings) (r : Run) → HaveKeptUp settings r self.old
             → HaveKeptUp settings r self.new }
     {

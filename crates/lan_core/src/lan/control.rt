@@ -26,11 +26,11 @@ use crate::came::Came;
 use crate::fact::{Fact, Facts};
 use crate::limits::STATIONS_MAX;
 use crate::seat::Seat;
-use crate::settings::group_of;
+use crate::settings::{Settings, group_of};
 use crate::stop::{StepError, Stop, Which};
 use lan_base::{Draws, Name, Sci};
 use mka_station::{Config, mi_of};
-use std::alloc::AllocError;
+use std::alloc::{AllocError, Global};
 
 impl Lan {
     /// A station begins its first life. A station is large: this keeps the room for it out of the
@@ -55,32 +55,11 @@ impl Lan {
         let place = free_place(self.names.len())?;
         let mi = mi_of(draw);
         note_mi(&mut self.drawn, mi)?;
-        let seat = self.seat(sci, priority, draw)?;
+        let seat = first_seat(self.alloc, self.judge.settings(), sci, priority, draw)?;
         let facts = Facts::one(self.alloc, Fact::Life { station: place, mi })?;
         self.seats.push(seat)?;
         self.names.push(name)?;
         Ok(facts)
-    }
-
-    /// The seat of a station in its first life, which begins with this draw.
-    fn seat(&self, sci: Sci, priority: u8, draw: [u8; 16]) -> Result<Seat, AllocError>
-        ensures { IfOk result (Sits self.now.settings.window (record {
-          member = born (setup_of self.now.settings
-              (record { name = []; sci = sci; priority = priority })) 0 draw;
-          past = [];
-        }) []) }
-    {
-        let group = group_of(self.alloc, &self.settings)?;
-        let config = Config {
-            sci,
-            priority,
-            rekey: self.settings.rekey,
-            conf: self.settings.conf,
-            early_flag: self.settings.early_flag,
-            group,
-            suite: self.settings.suite,
-        };
-        Seat::start(self.alloc, config, self.settings.window, draw)
     }
 
     /// A tick at a station.
@@ -128,7 +107,7 @@ impl Lan {
         let sent = came.sent();
         let ticks = self.ticks.checked_add(1).ok_or(AllocError)?;
         self.extent(sent, ticks, came.installs)?.judge()?;
-        note_sak(&mut self.drawn, self.settings.suite, came.installed())?;
+        note_sak(&mut self.drawn, self.judge.suite(), came.installed())?;
         self.ticks = ticks;
         self.air.put(sent)?;
         Ok(())
@@ -156,6 +135,33 @@ impl Lan {
         };
         Ok(came.facts)
     }
+}
+
+/// The seat of a station of a group in its first life, which begins with this draw.
+fn first_seat(
+    alloc: Global,
+    settings: &Settings,
+    sci: Sci,
+    priority: u8,
+    draw: [u8; 16],
+) -> Result<Seat, AllocError>
+    ensures { IfOk result (Sits settings.now.window (record {
+      member = born (setup_of settings.now
+          (record { name = []; sci = sci; priority = priority })) 0 draw;
+      past = [];
+    }) []) }
+{
+    let group = group_of(alloc, settings)?;
+    let config = Config {
+        sci,
+        priority,
+        rekey: settings.rekey,
+        conf: settings.conf,
+        early_flag: settings.early_flag,
+        group,
+        suite: settings.suite,
+    };
+    Seat::start(alloc, config, settings.window, draw)
 }
 
 /// The place of the next station, where there are so many.

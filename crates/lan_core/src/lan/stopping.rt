@@ -18,13 +18,12 @@ ghost use Rattle.lan_core.specs.inside.Drawing.{IfNoted, stop_of};
 use super::Lan;
 use crate::air::Air;
 use crate::drawn::Drawn;
-use crate::judging::is_right;
+use crate::judge::Judge;
 use crate::limits::Extent;
-use crate::settings::{Settings, group_of};
 use crate::stop::{StepError, Stop};
 use aes_block::Secret;
 use lan_base::{Mi, Octets, Suite};
-use std::alloc::{AllocError, Global};
+use std::alloc::AllocError;
 
 impl Lan {
     /// How far the group comes with a frame more, if there is one, with so many ticks, and with so
@@ -60,17 +59,18 @@ impl Lan {
 
 /// Foreign octets that are forged stop the group, where there is a station that they reached.
 pub fn judge_forgery(
-    alloc: Global,
-    settings: &Settings,
+    judge: &mut Judge,
     air: &Air,
     station: u8,
     octets: &[u8],
 ) -> Result<(), StepError>
-    ensures { (r : Run) → air.now ≡ in_order (air_after r) → Exists station r
-        → MayJudge (stop_of_forgery settings.now r (events.Inject station octets.now)) result }
+    ensures judges { (r : Run) → air.now ≡ in_order (air_after r) → Exists station r
+        → MayJudge (stop_of_forgery judge.old.settings r
+        (events.Inject station octets.now)) result }
+    ensures kept { judge.new.settings ≡ judge.old.settings }
 {
-    let group = group_of(alloc, settings)?;
-    if !is_right(alloc, &group, octets)? {
+    judge.turn_to(octets)?;
+    if judge.judgement().is_err() {
         return Ok(());
     }
     if air.repeats(octets)? {

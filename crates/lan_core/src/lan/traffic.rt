@@ -44,7 +44,7 @@ impl Lan {
         let Some(octets) = self.air.frame(frame) else {
             return Ok(Facts::new(self.alloc));
         };
-        let Some(came) = self.seats.reach(station, frame, octets)? else {
+        let Some(came) = self.seats.reach(station, frame, octets, &mut self.judge)? else {
             return Ok(Facts::new(self.alloc));
         };
         judge_installs(came.installs)?;
@@ -135,11 +135,11 @@ impl Lan {
         if octets.len() > FRAME_MAX {
             return Ok(Facts::new(self.alloc));
         }
-        let Some(came) = self.seats.reach(station, 0, octets)? else {
+        let Some(came) = self.seats.reach(station, 0, octets, &mut self.judge)? else {
             return Ok(Facts::new(self.alloc));
         };
         judge_installs(came.installs)?;
-        judge_forgery(self.alloc, &self.settings, &self.air, station, octets)?;
+        judge_forgery(&mut self.judge, &self.air, station, octets)?;
         Ok(came.facts)
     }
 }

@@ -5,7 +5,6 @@ use Rattle.mkpdu_codec.specs.declared.refusal.Refusal.{Refusal}
 use Rattle.mkpdu_codec.specs.Reading.{reading}
 use Rattle.mka_station.specs.declared.verdict.DropReason.{DropReason}
 use Rattle.mka_station.specs.declared.verdict.DropReason.TheVariants.{CkName, Check}
-use Rattle.mka_station.specs.Lives.{Setup}
 use Rattle.std.specs.Prelude.{◌≡◌, nat_eq, not, Err, ℕ, Bool, true, false, if◌then◌else◌, ◌&&◌, List, ◌∷◌}
 use Rattle.std.specs.Prelude.{Option, Some, None, option_map, option_and_then, Result, IsTrue}
 use Rattle.std.specs.List.{list_any}
@@ -107,11 +106,12 @@ abbrev pub IsDue : Option Secret → Bool → Type 0
 IsDue None due = Unit {0}
 IsDue (Some sak) due = IsTrue due
 
--- why an announcement that octets spell is not of the group, if it is not
-abbrev pub fault_of : Setup → Announcement → List ℕ → List ℕ → Option DropReason
-fault_of setup a covered check =
-    if not (pointwise nat_eq a.ckn setup.ckn) then Some CkName
-    else if not (pointwise nat_eq check (cmac setup.ick covered)) then Some Check
+-- why an announcement that octets spell is not of the group of this name and integrity check key, if
+-- it is not
+abbrev pub fault_of : List ℕ → List ℕ → Announcement → List ℕ → List ℕ → Option DropReason
+fault_of ckn ick a covered check =
+    if not (pointwise nat_eq a.ckn ckn) then Some CkName
+    else if not (pointwise nat_eq check (cmac ick covered)) then Some Check
     else None
 
 -- a frame is refused in reading, and this is why

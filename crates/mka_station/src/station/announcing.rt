@@ -6,6 +6,7 @@ ghost use Rattle.mkpdu_codec.specs.Written.{IsWritable, IsWritableGiven};
 ghost use Rattle.peer_lists.specs.Acceptance.{Own};
 ghost use Rattle.peer_lists.specs.Histories.{Peering, ticked, sent, last_sent, may_send};
 ghost use Rattle.peer_lists.specs.Table.{StandsFor as PeersStandFor};
+ghost use Rattle.peer_lists.specs.Showing.{rows_shown, rows_shown_later};
 ghost use Rattle.sak_exchange.specs.Histories.{Keying};
 ghost use Rattle.sak_exchange.specs.Standing.{StandsFor as KeysStandFor};
 ghost use Rattle.server_election.specs.Election.{never_serves};
@@ -146,9 +147,10 @@ impl Station {
 
 /// A tick passes in the peer lists, and an announcement is sent then or none.
 pub(super) fn pass_peers(peers: &mut PeerTable, announced: bool)
-    ensures { (own : Own) (h : List Peering) → PeersStandFor own peers.old h →
+    ensures stands { (own : Own) (h : List Peering) → PeersStandFor own peers.old h →
         last_sent h + 1 < 2 ^ 32 → PeersStandFor own peers.new
         (if announced then sent (last_sent h + 1) ∷ ticked ∷ h else ticked ∷ h) }
+    ensures shown { rows_shown peers.new ≡ rows_shown_later peers.old }
 {
     peers.tick();
     if announced {

@@ -1,8 +1,7 @@
 //! A frame is heard: it is judged, and what it says is taken.
 
-ghost use Rattle.std.specs.Prelude.{◌≡◌, ◌≤◌, ◌<◌, ◌+◌, ◌^◌, ◌∷◌, List, ℕ, false, Ok, Err, IfOk, OnOk, OnErr, IfErr, length, take};
+ghost use Rattle.std.specs.Prelude.{◌≡◌, ◌<◌, ◌+◌, ◌^◌, ◌∷◌, List, ℕ, false, Ok, Err, IfOk, OnOk, OnErr};
 ghost use Rattle.lan_base.specs.declared.address.Mi.{Mi};
-ghost use Rattle.mkpdu_codec.specs.Reading.{reading};
 ghost use Rattle.peer_lists.specs.Acceptance.{Own};
 ghost use Rattle.peer_lists.specs.Histories.{Peering};
 ghost use Rattle.peer_lists.specs.Table.{StandsFor as PeersStandFor};
@@ -12,24 +11,22 @@ ghost use Rattle.sak_exchange.specs.Standing.{StandsFor as KeysStandFor};
 ghost use Rattle.mka_station.specs.declared.verdict.DropReason.{DropReason};
 ghost use Rattle.mka_station.specs.Lives.{Member, Entry, heard, own, peers_of};
 ghost use Rattle.mka_station.specs.Views.{view};
-ghost use Rattle.mka_station.specs.Hearing.{judged, hear_turn, frame_turn, outcome_of, take_changes, key_taken, is_accepted, verdict_of, reason_of_refusal, reason_of_peers};
+ghost use Rattle.mka_station.specs.Hearing.{judged, hear_turn, heard_turn, frame_turn, outcome_of, take_changes, key_taken, is_accepted, verdict_of, reason_of_peers};
 ghost use Rattle.mka_station.specs.Standing.{StandsFor, HasRoom};
 ghost use Rattle.mka_station.specs.inside.Reached.{IsHeard};
-ghost use Rattle.mka_station.specs.inside.Turns.{offered_by, answered, keys_with, followed_by, IsRefused, fault_of};
+ghost use Rattle.mka_station.specs.inside.Turns.{offered_by, answered, keys_with, followed_by};
 
 use super::{Station, new_server};
 use crate::changes::{joined, one_installs};
+use crate::judging::judge;
 use crate::next::Hearing;
 use crate::reaction::Reaction;
 use crate::rows::is_server;
 use crate::telling::{is_listed, told};
 use crate::verdict::{DropReason, Verdict};
 use aes_block::Key;
-use aes_cmac::cmac;
 use lan_base::Mi;
-use mkpdu_codec::{
-    Announcement, ReadError, Refusal, Spelled, law_reading_refuses, law_spelled_is_read, read,
-};
+use mkpdu_codec::Announcement;
 use peer_lists::{Outcome, PeerRefusal, PeerTable};
 use sak_exchange::{Changes, KeyState, Offer};
 use std::alloc::{AllocError, Global};
@@ -48,57 +45,32 @@ impl Station {
             self.new ≡ self.old }
         ensures unchanged { OnErr result (self.new ≡ self.old) }
     {
-        match self.judged(frame)? {
-            Ok(announcement) => self.hear_announcement(&announcement),
+        let judgement = judge(self.alloc, &self.config.group, frame)?;
+        self.hear_judged(&judgement)
+    }
+
+    /// A frame is heard that was judged for the station's group.
+    pub fn hear_judged(
+        &mut self,
+        judgement: &Result<Announcement, DropReason>,
+    ) -> Result<Reaction, AllocError>
+        requires room { HasRoom self.old }
+        ensures reaction { (m : Member) (p : List Entry) → StandsFor m self.old p →
+            IfOk result (λ r. r ≡ (heard_turn m judgement.now p).reaction) }
+        ensures stands { (m : Member) (p : List Entry) → StandsFor m self.old p →
+            OnOk result (StandsFor m self.new (heard_turn m judgement.now p).past) }
+        ensures dropped { (r : DropReason) → judgement.now ≡ Err r → self.new ≡ self.old }
+        ensures unchanged { OnErr result (self.new ≡ self.old) }
+    {
+        match judgement {
+            Ok(announcement) => self.hear_announcement(announcement),
             Err(reason) => Ok(Reaction {
-                heard: Some(Verdict::Dropped(reason)),
+                heard: Some(Verdict::Dropped(*reason)),
                 server: None,
                 changes: Changes::new(self.alloc),
                 sent: None,
             }),
         }
-    }
-
-    /// The announcement of a frame of the group, or why the frame is dropped before anything is
-    /// known of its member.
-    fn judged(&self, frame: &[u8]) -> Result<Result<Announcement, DropReason>, AllocError>
-        ensures { IfOk result (λ j. j ≡ judged self.now.setup frame.now) }
-    {
-        let spelled = match read_frame(self.alloc, frame)? {
-            Ok(spelled) => spelled,
-            Err(reason) => return Ok(Err(reason)),
-        };
-        let Spelled {
-            announcement,
-            covered,
-            check,
-        } = spelled;
-        match self.fault(&announcement, frame, covered, &check) {
-            Some(reason) => Ok(Err(reason)),
-            None => Ok(Ok(announcement)),
-        }
-    }
-
-    /// Why an announcement is dropped that a frame spells, with this check value over so many of
-    /// its octets: it is not of the group.
-    fn fault(
-        &self,
-        announcement: &Announcement,
-        frame: &[u8],
-        covered: usize,
-        check: &[u8; 16],
-    ) -> Option<DropReason>
-        requires { covered ≤ length frame.now }
-        ensures { result
-            ≡ fault_of self.now.setup announcement.now (take covered frame.now) check.now }
-    {
-        if announcement.ckn != self.config.group.ckn {
-            return Some(DropReason::CkName);
-        }
-        if cmac(self.ick(), &frame[..covered]) != *check {
-            return Some(DropReason::Check);
-        }
-        None
     }
 
     /// An announcement is heard in a frame that is right.
@@ -175,34 +147,6 @@ fn hear_in(
 {
     spare.copy_from(peers);
     spare.hear(&told(mi, peers, announcement))
-}
-
-/// What a frame spells, or why it is dropped.
-fn read_frame(alloc: Global, frame: &[u8]) -> Result<Result<Spelled, DropReason>, AllocError>
-    ensures ok { IfOk result (λ r. IfOk r (λ s. reading frame.now ≡ Ok s)) }
-    ensures covered { IfOk result (λ r. IfOk r (λ s. s.covered ≤ length frame.now)) }
-    ensures err { IfOk result (λ r. IfErr r (λ reason. IsRefused frame.now reason)) }
-{
-    law_spelled_is_read();
-    law_reading_refuses();
-    match read(alloc, frame) {
-        Ok(spelled) => Ok(Ok(spelled)),
-        Err(ReadError::Refused(refusal)) => Ok(Err(reason_of_refusal(refusal))),
-        Err(ReadError::Memory) => Err(AllocError),
-    }
-}
-
-/// Why a frame is dropped that is not read.
-fn reason_of_refusal(refusal: Refusal) -> DropReason
-    ensures { result ≡ reason_of_refusal refusal }
-{
-    match refusal {
-        Refusal::NotMka => DropReason::NotMka,
-        Refusal::Short => DropReason::Short,
-        Refusal::Shape { at } => DropReason::Shape { at },
-        Refusal::Repeated { kind } => DropReason::Repeated { kind },
-        Refusal::Agility => DropReason::Agility,
-    }
 }
 
 /// What hearing comes to, by what the peer lists answer.

@@ -16,7 +16,7 @@ ghost use Rattle.mka_station.specs.Lives.{Member, Entry, own, peers_of, keys_of}
 ghost use Rattle.mka_station.specs.Tick.{tick_turn, install_changes};
 ghost use Rattle.mka_station.specs.Drawing.{next_sak, sak_of, draws_at, makes_next, is_short};
 ghost use Rattle.mka_station.specs.Standing.{StandsFor, HasRoom};
-ghost use Rattle.mka_station.specs.inside.Found.{Comes};
+ghost use Rattle.mka_station.specs.inside.Found.{IsAhead, Comes};
 ghost use Rattle.mka_station.specs.inside.Reached.{IsTicked};
 ghost use Rattle.mka_station.specs.inside.Turns.{made_by, keys_made, IsDue};
 
@@ -122,6 +122,7 @@ impl Station {
             reaction,
         } = ticked;
         pass_peers(&mut self.peers, shown.is_some());
+        self.coming.pass(&self.peers);
         self.settle(keys, server, installs);
         self.note_spoken(shown);
         reaction
@@ -137,6 +138,8 @@ fn foresee(
     keys: &mut KeyState,
     seen: &Seen,
 ) -> bool
+    requires { IsAhead config.now mi.now peers.now coming.old }
+    ensures ahead { IsAhead config.now mi.now peers.now coming.new }
     ensures comes { (m : Member) (p : List Entry) → m.setup ≡ config.now → m.mi ≡ mi.now →
         PeersStandFor (own m) peers.now (peers_of m p) → Comes m p coming.new }
     ensures makes { (m : Member) (p : List Entry) → m.setup ≡ config.now → m.mi ≡ mi.now →

@@ -1,10 +1,9 @@
 -- How the rows of the table change with each call (this profile's own rule).
-use Rattle.std.specs.Prelude.{ℕ, ◌-◌, Bool, false, if◌then◌else◌, not, ◌&&◌, ◌||◌, List, [], ◌∷◌, Option, Some, None, is_some, is_none, option_map, option_and_then, unwrap_or, map, nat_lt, nat_le, slice_index_or, slice_set, length, Result, Ok, Err}
-use Rattle.std.specs.List.{filter, insert}
+use Rattle.std.specs.Prelude.{ℕ, Bool, false, if◌then◌else◌, ◌&&◌, ◌||◌, List, [], ◌∷◌, Option, Some, None, option_map, map, nat_lt, nat_le, slice_index_or, slice_set, length, Result, Ok, Err}
+use Rattle.std.specs.List.{insert}
 use Rattle.std.specs.declared.cmp.Ordering.TheVariants.{Less, Equal, Greater}
 use Rattle.lan_base.specs.declared.address.Sci.{Sci}
 use Rattle.peer_lists.specs.declared.heard.Heard.{Heard}
-use Rattle.peer_lists.specs.declared.heard.Row.{Row}
 use Rattle.peer_lists.specs.declared.remembered.Words.{Words}
 use Rattle.peer_lists.specs.declared.remembered.Remembered.{Remembered}
 use Rattle.lan_base.specs.Identifiers.{same_mi, same_sci, order}
@@ -18,22 +17,9 @@ use Rattle.peer_lists.specs.Table.{member}
 abbrev pub fresh : Heard → Words
 fresh x = record { told = x; left = life_time; displaced = false }
 
--- the same words a tick later
-abbrev pub aged : Words → Words
-aged w = record w { left = w.left - 1 }
-
 -- the same words after a vouched announcement of another member under an SCI
 abbrev pub displaced_under : Sci → Words → Words
 displaced_under s w = record w { displaced = same_sci s w.told.sci || w.displaced }
-
--- the words, if they have ticks left
-abbrev pub kept_words : Words → Option Words
-kept_words w = if nat_lt 0 w.left then Some w else None
-
--- a peer a tick later
-abbrev pub aged_peer : Remembered → Remembered
-aged_peer p =
-    record { last = aged p.last; vouched = option_and_then (λ w. kept_words (aged w)) p.vouched }
 
 -- a peer after a vouched announcement
 abbrev pub displaced_peer : Heard → Remembered → Remembered
@@ -61,24 +47,6 @@ abbrev pub renewed : Bool → Heard → Remembered → Remembered
 renewed vouched x p =
     record { last = fresh x; vouched = if vouched then Some (fresh x) else p.vouched }
 
--- the words of a peer that is live
-abbrev pub live_words : Remembered → Option Words
-live_words p = option_and_then (λ w. if w.displaced then None else Some w) p.vouched
-
--- what is shown of a peer
-abbrev pub shown : Remembered → Row
-shown p =
-    let words = (unwrap_or (live_words p) p.last).told in
-    record {
-      mi = p.last.told.mi;
-      mn = p.last.told.mn;
-      sci = words.sci;
-      priority = words.priority;
-      live = is_some (live_words p);
-      potential = is_none (live_words p) && not p.last.displaced;
-      uses = words.uses;
-    }
-
 -- the rows with this one in its place, which that of its member gives up
 abbrev pub put : Remembered → List Remembered → List Remembered
 put r [] = r ∷ []
@@ -88,10 +56,6 @@ put r (p ∷ ps) =
       | Equal ↦ r ∷ ps
       | Greater ↦ p ∷ put r ps
     ]
-
--- the rows a tick later: those whose last words are still young
-abbrev pub aged_rows : List Remembered → List Remembered
-aged_rows ps = filter (λ p. nat_lt 0 p.last.left) (map aged_peer ps)
 
 -- the rows after a vouched announcement
 abbrev pub displaced_rows : Heard → List Remembered → List Remembered
@@ -116,3 +80,11 @@ abbrev pub rows_heard : Result ℕ ℕ → Bool → Heard → List Remembered �
 rows_heard place vouched x ps =
     let rows = heard_at place vouched x ps in
     if vouched then displaced_rows x rows else rows
+
+-- whether words are young after the next tick too
+abbrev pub has_more : Words → Bool
+has_more w = nat_lt 1 w.left
+
+-- whether a tick changes nothing of what is shown of a peer
+abbrev pub stays : Remembered → Bool
+stays p = elim p.vouched [ Some w ↦ has_more p.last && has_more w | None ↦ has_more p.last ]

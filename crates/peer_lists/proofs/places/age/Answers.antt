@@ -2,7 +2,7 @@ use Rattle.std.proofs.Common.{◌≤◌, ◌∙◌, ap, sym, subst, length, List
 use Rattle.std.specs.List.{filter}
 use Rattle.std.proofs.lemmas.Fn.{filter_same}
 use Rattle.peer_lists.specs.declared.remembered.Remembered.{Remembered}
-use Rattle.peer_lists.specs.inside.RowChanges.{aged_peer}
+use Rattle.peer_lists.specs.Showing.{aged_peer}
 use Rattle.peer_lists.proofs.TableRows.{filter-fewer}
 use Rattle.peer_lists.proofs.places.age.Goals as goal
 

@@ -1,5 +1,5 @@
 use Rattle.std.proofs.Common.{◌≡◌, ◌++◌, map, take, drop}
-use Rattle.peer_lists.specs.inside.RowChanges.{aged_peer}
+use Rattle.peer_lists.specs.Showing.{aged_peer}
 use Rattle.peer_lists.proofs.places.age_each.Given as goal
 
 abbrev pub invariant-loop-row : goal.invariant-loop-row

@@ -1,5 +1,5 @@
 use Rattle.std.proofs.Common.{◌≡◌, ◌≤◌, map, take, length, vec_capacity}
-use Rattle.peer_lists.specs.inside.RowChanges.{shown}
+use Rattle.peer_lists.specs.Showing.{shown}
 use Rattle.peer_lists.proofs.places.show.Given as goal
 
 abbrev pub invariant-loop-row : goal.invariant-loop-row

@@ -1,6 +1,5 @@
-use Rattle.std.proofs.Common.{◌≡◌, ◌∙◌, refl, ap, sym, subst}
+use Rattle.std.proofs.Common.{◌∙◌, refl, sym, subst}
 use Rattle.lan_core.specs.declared.event.Event.TheVariants as events
-use Rattle.lan_core.specs.Batches.{checked_at}
 use Rattle.lan_core.specs.Standing.{StandsFor}
 use Rattle.lan_core.specs.inside.Seats.{Reaches}
 use Rattle.lan_core.proofs.Admitted.{its-check}

@@ -23,7 +23,7 @@ returns-clause-answers c settings users r nth number stands comes =
     let told : c.in_ok-facts.facts ≡ claim_shown s c.args.pn c.in-Some.claimed.key ∷ [] =
     cc (c.in_ok-facts.ensures, c.claim_fact.ensures) in
     subst (λ (seats : List Seat). GoesOn settings users r (events.Claim s number c.args.pn) nth nth (record {
-      settings = now.settings;
+      settings = now.judge.settings;
       stopped = now.stopped;
       names = now.names;
       air = now.air;

@@ -16,7 +16,7 @@ returns-clause-stands c settings users part r stands stepped are =
     let settled = settles-part settings users part r _ c.args.taken.items st stepped are in
     on-ok c.append.result (c.append.new.self ≡ now.waiting ++ c.in_ok-frames.frames) _
     (λ is. subst (λ (ws : List Sealed). StandsFor settings users (record {
-      settings = now.settings;
+      settings = now.judge.settings;
       stopped = now.stopped;
       names = now.names;
       air = now.air;

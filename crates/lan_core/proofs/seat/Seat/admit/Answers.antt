@@ -1,6 +1,5 @@
 use Rattle.std.proofs.Common.{◌≡◌, ◌∷◌, [], subst, sym}
 use Rattle.std.specs.Prelude.{IfOk}
-use Rattle.rx_slots.specs.Histories.{heard}
 use Rattle.rx_slots.specs.declared.arrival.Arrival.{Arrival}
 use Rattle.lan_core.specs.declared.fact.Fact.TheVariants.{Arrived}
 use Rattle.lan_core.specs.Standing.{Seat, Sits}

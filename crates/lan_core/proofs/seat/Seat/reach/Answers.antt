@@ -12,16 +12,16 @@ use Rattle.lan_core.specs.Standing.{Sits}
 use Rattle.lan_core.proofs.seat.Seat.reach.Goals as goal
 
 pub returns-else-is_protected-clause-facts : goal.returns-else-is_protected-clause-facts
-returns-else-is_protected-clause-facts c = λ settings r l s.
+returns-else-is_protected-clause-facts c = λ settings r l s of.
     let h = receiving c.args.place r in
     let plain : is_sec c.args.octets.now ≡ false = sym c.is_protected.ensures ∙ c.if-is_protected.false in
     subst (λ (b : Bool). IfOk c.hear_frame.result (λ shown. shown ≡ cond b
     (facts.Arrived c.args.number c.args.place (answer l.member.setup.sci settings.window h c.args.octets.now) ∷ [])
     (reaction_facts c.args.place c.args.number 0 (frame_turn l.member c.args.octets.now l.past).reaction)))
-    (sym plain) (c.hear_frame.ensures.facts settings.window l h s)
+    (sym plain) (c.hear_frame.ensures.facts settings.window l h s of)
 
 pub returns-else-is_protected-clause-stands : goal.returns-else-is_protected-clause-stands
-returns-else-is_protected-clause-stands c = λ settings r l s.
+returns-else-is_protected-clause-stands c = λ settings r l s of.
     let h = receiving c.args.place r in
     let turn = frame_turn l.member c.args.octets.now l.past in
     let plain : is_sec c.args.octets.now ≡ false = sym c.is_protected.ensures ∙ c.if-is_protected.false in
@@ -29,4 +29,4 @@ returns-else-is_protected-clause-stands c = λ settings r l s.
     (gather (slot_change c.args.place) (cond b
     (facts.Arrived c.args.number c.args.place (answer l.member.setup.sci settings.window h c.args.octets.now) ∷ [])
     (reaction_facts c.args.place c.args.number 0 turn.reaction)) (cond b (heard c.args.octets.now ∷ h) h)) c.hear_frame.new.self))
-    (sym plain) (c.hear_frame.ensures.stands settings.window l h s)
+    (sym plain) (c.hear_frame.ensures.stands settings.window l h s of)

@@ -7,8 +7,11 @@ use Rattle.mka_station.specs.inside.Rows.{live_rows, candidate_in}
 use Rattle.mka_station.proofs.Comings.{elected-now}
 use Rattle.mka_station.proofs.coming.Coming.elect.Goals as goal
 
-pub returns : goal.returns
-returns c = λ m p setup mi peers.
+pub returns-clause-server : goal.returns-clause-server
+returns-clause-server c = λ m p setup mi peers.
     let rows = c.rows_now.new.into.items in
     elected-now m p rows c.elected.result (c.rows_now.ensures.rows (own m) (peers_of m p) peers)
     (c.elected.ensures.server ∙ ap (λ (rs : List Row). elected_among c.candidate.result (map candidate_in (live_rows rs))) c.deref.ensures.value ∙ ap (λ (x : Candidate). elected_among x (map candidate_in (live_rows rows))) (c.candidate.ensures ∙ rw (setup, mi) refl))
+
+pub returns-clause-forgotten : goal.returns-clause-forgotten
+returns-clause-forgotten c = λ setup mi peers. record { found = λ is. absurd (cc (is)) }

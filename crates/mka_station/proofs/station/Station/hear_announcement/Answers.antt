@@ -14,7 +14,7 @@ returns-clause-reaction c = λ m p s.
     let t = subst (λ (x : State). StandsFor m x p) (sym c.self.view_is) s in
     let out = c.hear_in-outcome.ensures.answer m p (sym t.mi) t.peers in
     let after = c.hear_in-outcome.ensures.stands m p (sym t.mi) t.peers in
-    let server = c.elect-server.ensures m (heard a ∷ p) (sym t.setup) (sym t.mi) after in
+    let server = c.elect-server.ensures.server m (heard a ∷ p) (sym t.setup) (sym t.mi) after in
     (c.in_ok-heard.ensures m p t after out server).reaction
 
 pub returns-clause-stands : goal.returns-clause-stands
@@ -25,7 +25,7 @@ returns-clause-stands c = λ m p s.
     let t = subst (λ (x : State). StandsFor m x p) (sym was) s in
     let out = c.hear_in-outcome.ensures.answer m p (sym t.mi) t.peers in
     let after = c.hear_in-outcome.ensures.stands m p (sym t.mi) t.peers in
-    let server = c.elect-server.ensures m (heard a ∷ p) (sym t.setup) (sym t.mi) after in
+    let server = c.elect-server.ensures.server m (heard a ∷ p) (sym t.setup) (sym t.mi) after in
     let h = c.in_ok-heard.ensures m p t after out server in
     let two = c.settle.ensures in
     let installs = c.in_ok-heard.heard.installs in

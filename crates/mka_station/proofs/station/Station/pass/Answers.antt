@@ -8,9 +8,15 @@ use Rattle.mka_station.specs.Announcing.{shown}
 use Rattle.mka_station.specs.Tick.{with_sent, ticked_past, says_at}
 use Rattle.mka_station.specs.Standing.{State}
 use Rattle.mka_station.specs.inside.Turns.{spoken_after}
+use Rattle.mka_station.proofs.Comings.{ahead-passed}
 use Rattle.mka_station.proofs.Counts.{counted-epochs}
 use Rattle.mka_station.proofs.Ticks.{sent-peers, some-framed, stands-ticked}
 use Rattle.mka_station.proofs.station.Station.pass.Goals as goal
+
+pub invariant_of-self : goal.invariant_of-self
+invariant_of-self c =
+    let i = c.self.inside in
+    c.pass.ensures i.config i.mi (ahead-passed i.config i.mi i.peers c.pass_peers.new.peers i.coming c.self.invariant c.pass_peers.ensures.shown)
 
 pub returns-clause-stands : goal.returns-clause-stands
 returns-clause-stands c = λ m p any seen s made t.
@@ -25,7 +31,7 @@ returns-clause-stands c = λ m p any seen s made t.
     let few : last_sent (peers_of m p) + 1 < 4294967296 = omega (arith, last, c.requires.room.sent) in
     let sent : c.is_some.result ≡ is_some said = c.is_some.ensures ∙ some-framed (λ a. shown (view m q)) said shows t.shown in
     let p0 = subst (λ (x : Table). PeersStandFor (own m) x (peers_of m p)) (sym (ap (λ (x : State). x.peers) was)) s.peers in
-    let p1 = subst (λ (h : List Peering). PeersStandFor (own m) c.pass_peers.new.peers h) (sent-peers m seen any p c.is_some.result sent) (c.pass_peers.ensures (own m) (peers_of m p) p0 few) in
+    let p1 = subst (λ (h : List Peering). PeersStandFor (own m) c.pass_peers.new.peers h) (sent-peers m seen any p c.is_some.result sent) (c.pass_peers.ensures.stands (own m) (peers_of m p) p0 few) in
     stands-ticked m now c.note_spoken.new.self p seen any c.args.installs s made
     (ap (λ (x : State). x.setup) one ∙ ap (λ (x : State). x.setup) two ∙ ap (λ (x : State). x.setup) was)
     (ap (λ (x : State). x.mi) one ∙ ap (λ (x : State). x.mi) two ∙ ap (λ (x : State). x.mi) was)

@@ -3,7 +3,7 @@ use Rattle.std.proofs.Common.{◌∙◌, ap, List, slice_get}
 use Rattle.std.specs.Option.{option_map}
 use Rattle.peer_lists.specs.declared.remembered.Remembered.{Remembered}
 use Rattle.peer_lists.specs.Table.{Table}
-use Rattle.peer_lists.specs.inside.RowChanges.{shown}
+use Rattle.peer_lists.specs.Showing.{shown}
 use Rattle.peer_lists.proofs.Stands.{row-stands, past-told}
 use Rattle.peer_lists.proofs.table.PeerTable.row.Goals as goal
 

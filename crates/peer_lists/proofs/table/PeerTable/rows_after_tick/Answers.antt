@@ -3,7 +3,7 @@ use Rattle.std.proofs.Common.{◌∙◌, ap, List, map, slice_get}
 use Rattle.peer_lists.specs.declared.heard.Row.{Row}
 use Rattle.peer_lists.specs.declared.remembered.Remembered.{Remembered}
 use Rattle.peer_lists.specs.Table.{Table}
-use Rattle.peer_lists.specs.inside.RowChanges.{aged_rows, shown}
+use Rattle.peer_lists.specs.Showing.{aged_rows, shown}
 use Rattle.peer_lists.proofs.Stands.{later-stands}
 use Rattle.peer_lists.proofs.table.PeerTable.rows_after_tick.Goals as goal
 
@@ -14,3 +14,8 @@ returns-clause-rows c =
     ap (λ (l : List Row). slice_get l at) c.show_after_tick.ensures.rows
     ∙ ap (λ (ps : List Remembered). slice_get (map shown (aged_rows ps)) at) rows
     ∙ later-stands own c.args.self.now h s at
+
+pub returns-clause-shown : goal.returns-clause-shown
+returns-clause-shown c =
+    let rows = c.as_slice.ensures.value ∙ ap (λ (t : Table). t.rows) c.self.view_is in
+    c.show_after_tick.ensures.rows ∙ ap (λ (ps : List Remembered). map shown (aged_rows ps)) rows

@@ -4,7 +4,7 @@ use Rattle.std.proofs.lemmas.Option.{slice_get-map}
 use Rattle.peer_lists.specs.declared.heard.Row.{Row}
 use Rattle.peer_lists.specs.declared.remembered.Remembered.{Remembered}
 use Rattle.peer_lists.specs.Table.{Table}
-use Rattle.peer_lists.specs.inside.RowChanges.{shown}
+use Rattle.peer_lists.specs.Showing.{shown}
 use Rattle.peer_lists.proofs.Stands.{row-stands}
 use Rattle.peer_lists.proofs.table.PeerTable.rows_now.Goals as goal
 

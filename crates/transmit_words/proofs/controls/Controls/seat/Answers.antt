@@ -4,8 +4,8 @@ use Rattle.std.specs.Prelude.{IfSome, IfNone}
 use Rattle.association_slots.specs.Views.{ControlAt}
 use Rattle.transmit_words.specs.Telling.{KeepUp}
 use Rattle.transmit_words.specs.Ties.{tables_of, HaveKeptUp}
-use Rattle.transmit_words.specs.Seats.{WasSeated}
-use Rattle.transmit_words.proofs.Stations.{tables-set, said-same, was-seated, was-full}
+use Rattle.transmit_words.specs.Seats.{WasSeated, HasNoSeat}
+use Rattle.transmit_words.proofs.Stations.{tables-set, said-same, was-seated, was-full, no-seat}
 use Rattle.transmit_words.proofs.controls.Controls.seat.Goals as goal
 
 pub returns-then-place-len-clause-same : goal.returns-then-place-len-clause-same
@@ -35,3 +35,11 @@ returns-then-place-len-clause-keeps_up c = λ settings r up.
     let cs = c.self.inside.controls.items in
     let at = slice_get_read cs _ c.from-place.result c.index_mut.result.now refl (omega arith) c.index_mut.ensures.value in
     said-same KeepUp settings r cs c.from-place.result c.index_mut.result.now c.seat.new.self (subst (HaveKeptUp settings r) (sym c.self.view_is) up) at c.seat.ensures.keeps_up
+
+pub returns-then-place-len-clause-full : goal.returns-then-place-len-clause-full
+returns-then-place-len-clause-full c =
+    let cs = c.self.inside.controls.items in
+    let at = slice_get_read cs _ c.from-place.result c.index_mut.result.now refl (omega arith) c.index_mut.ensures.value in
+    subst (λ (old : List ControlAt). IfNone c.seat.result (HasNoSeat c.args.station old)) c.self.view_is
+    (subst (λ (s : ℕ). IfNone c.seat.result (HasNoSeat s cs)) c.from-place.ensures
+    (no-seat cs c.from-place.result c.index_mut.result.now c.seat.new.self c.seat.result at c.seat.ensures.none))
