@@ -6,6 +6,7 @@ use Rattle.lan_base.specs.Faults.{Rose}
 use Rattle.lan_base.specs.Told.{after}
 use Rattle.text_lines.specs.Texts.{lines_of}
 use Rattle.text_lines.specs.Moments.{Moment as LinesMoment}
+use Rattle.text_lines.specs.declared.reading.End.{End}
 use Rattle.text_lines.specs.Reading.{Sourced, Takes, Runs, Reads}
 use Rattle.lan_schedule.specs.declared.halt.Halt.{Halt}
 use Rattle.lan_schedule.specs.declared.halt.Halt.TheVariants as halts
@@ -25,15 +26,18 @@ use Rattle.lan_schedule.proofs.Public.{grows, each-append, does-whole, does-whol
 use Rattle.replay.specs.declared.cause.Cause.TheVariants as causes
 use Rattle.replay.specs.Sinks.{Sunk, Wrote, BrokeOff, WroteSome, Fails}
 use Rattle.replay.specs.Shown.{summary_of}
-use Rattle.replay.specs.Causes.{answered, cause_of_halt}
+use Rattle.replay.specs.Causes.{answered, cause_of, cause_of_halt, ended}
 use Rattle.replay.specs.Runs.{most_input, WasPerformed, WasHalted, WasCut, EndsBy, IsTaken}
 use Rattle.replay.specs.Runs.{IsReplayed, Shows}
 use Rattle.replay.specs.OneGroup.{one_group, whole, IsSettled}
+use Rattle.replay.specs.declared.cause.Cause.{Cause}
 use Rattle.replay.specs.inside.Playing.{DidAct, DidLines}
+use Rattle.replay.specs.inside.Summing.{SumsUp}
 use Rattle.replay.proofs.Written.{after-after, rose-earlier, wrote-counts, fails-broke}
 use Rattle.replay.proofs.Written.{Grew, grew-wrote, grew-broke}
 use Rattle.replay.proofs.Telling.{Shows_on}
 use Rattle.replay.proofs.Ending.{Spares, spared, fails-rose, Plays, took, closed-err}
+use Rattle.replay.proofs.Ending.{replayed-err, transcribed}
 
 -- what the laws of lan_schedule give
 pub record Given : Type 0 where
@@ -299,6 +303,22 @@ module _ {P K : Type 0} (given : Given) (Took : K → Report → K → Type 0)
       (never-broken at.world halt (closes at.world at.stands))
       (λ text d. does-whole (lines_of text) _ _ (Err halt) d closes)
 
+  -- how a transcript ends, whichever way its lines were read, and whether it may end there
+  pub ended-as : (left now : Sourced) (old new : LinesMoment P K)
+      (read : Result (Unit {0}) (End Halt)) (may : Result (Unit {0}) Halt) → IsFresh old
+      → left.faults ≤ now.faults → Reads (DidLines Took Broke of) most_input left now old new read
+      → ((w : World) → StandsFor w (of new) → Closes w may)
+      → IsReplayed one_group IsSettled (record { at_end = texts; before = texts }) left now
+      (seen old) (seen new) (ended read may)
+  ended-as left now old new (Ok done) (Ok may) fresh counts h closes =
+      transcribed one_group IsSettled texts IsFresh seen (DidAct Took Broke of) plays left now
+      old new fresh counts h (λ text d. does-whole (lines_of text) _ _ (Ok tt) d closes)
+  ended-as left now old new (Ok done) (Err halt) fresh counts h closes =
+      ended-badly texts left now old new halt fresh counts h closes
+  ended-as left now old new (Err end) may fresh counts h closes =
+      replayed-err one_group IsSettled texts IsFresh seen (DidAct Took Broke of) plays texts left now
+      old new end fresh counts h
+
 -- ---- a summary
 
 abbrev summed : Shows World
@@ -394,3 +414,50 @@ module _ {P K : Type 0} (given : Given) (Took : K → Report → K → Type 0)
       rises (Ok done) f e = absurd (cc e)
       rises (Err broken.Failed) f e = f.0
       rises (Err broken.Memory) f e = absurd (cc e)
+
+  -- nothing is written behind a run that ended badly
+  unwritten : (left now : Sourced) (old mid : LinesMoment P K) (new : Sunk)
+      (result bad : Result (Unit {0}) Cause) → new ≡ see mid.outlet → result ≡ bad
+      → IsReplayed one_group IsSettled summed left now (see old.outlet) (see mid.outlet) bad
+      → IsReplayed one_group IsSettled summed left now (see old.outlet) new result
+  unwritten left now old mid new result bad same is r =
+      subst (λ (s : Sunk). IsReplayed one_group IsSettled summed left now (see old.outlet) s result)
+      (sym same)
+      (subst (λ (x : Result (Unit {0}) Cause). IsReplayed one_group IsSettled summed left now
+      (see old.outlet) (see mid.outlet) x) (sym is) r)
+
+  summed-by : (line : List ℕ) (left now : Sourced) (old mid : LinesMoment P K) (new : Sunk)
+      (read : Result (Unit {0}) (End Halt)) (may : Result (Unit {0}) Halt)
+      (result : Result (Unit {0}) Cause)
+      → ((chances : List Chance) → StandsFor (beginning chances) (of old))
+      → left.faults ≤ now.faults → Reads (DidLines Took Broke of) most_input left now old mid read
+      → ((w : World) → StandsFor w (of mid) → Closes w may)
+      → ((w : World) → StandsFor w (of mid) → line ≡ summary_of w.run)
+      → SumsUp (ended read may) line (see mid.outlet) new result
+      → IsReplayed one_group IsSettled summed left now (see old.outlet) new result
+  summed-by line left now old mid new (Ok done) (Ok may) result fresh counts h closes is s =
+      subst (λ (x : Result (Unit {0}) Cause). IsReplayed one_group IsSettled summed left now
+      (see old.outlet) new x) (sym s.2)
+      (summarized line left now old mid new s.0 fresh counts h closes is s.1)
+  summed-by line left now old mid new (Ok done) (Err halt) result fresh counts h closes is s =
+      unwritten left now old mid new result (Err (cause_of_halt halt)) s.0 s.1
+      (ended-badly given Took Broke of see (λ xs. []) shows (λ w. summary_of w.run ∷ []) left now
+      old mid halt fresh counts h closes)
+  summed-by line left now old mid new (Err end) may result fresh counts h closes is s =
+      unwritten left now old mid new result (Err (cause_of end)) s.0 s.1
+      (replayed-err one_group IsSettled _ _ _ _ (plays given Took Broke of see (λ xs. []) shows)
+      (λ w. summary_of w.run ∷ []) left now old mid end fresh counts h)
+
+  -- how a run for its summary ends, whichever way its lines were read, and whether it may end there
+  pub summed-as : (line : List ℕ) (left now : Sourced) (old mid : LinesMoment P K) (new : Sunk)
+      (read : Result (Unit {0}) (End Halt)) (may : Result (Unit {0}) Halt)
+      (out result : Result (Unit {0}) Cause)
+      → ((chances : List Chance) → StandsFor (beginning chances) (of old))
+      → left.faults ≤ now.faults → Reads (DidLines Took Broke of) most_input left now old mid read
+      → ((w : World) → StandsFor w (of mid) → Closes w may)
+      → ((w : World) → StandsFor w (of mid) → line ≡ summary_of w.run)
+      → out ≡ ended read may → SumsUp out line (see mid.outlet) new result
+      → IsReplayed one_group IsSettled summed left now (see old.outlet) new result
+  summed-as line left now old mid new read may out result fresh counts h closes is same s =
+      summed-by line left now old mid new read may result fresh counts h closes is
+      (subst (λ (x : Result (Unit {0}) Cause). SumsUp x line (see mid.outlet) new result) same s)

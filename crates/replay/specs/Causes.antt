@@ -31,3 +31,9 @@ cause_of_broken broken.Memory = causes.Memory
 abbrev pub answered : Result (Unit {0}) Broken → Result (Unit {0}) Cause
 answered (Ok done) = Ok tt
 answered (Err why) = Err (cause_of_broken why)
+
+-- how a run ends, by how its lines were read and whether its text may end there
+abbrev pub ended : Result (Unit {0}) (End Halt) → Result (Unit {0}) Halt → Result (Unit {0}) Cause
+ended (Ok done) (Ok may) = Ok tt
+ended (Ok done) (Err halt) = Err (cause_of_halt halt)
+ended (Err end) may = Err (cause_of end)

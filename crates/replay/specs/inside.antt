@@ -1,2 +1,3 @@
 -- What serves private functions alone.
 pub mod Playing
+pub mod Summing

@@ -1,7 +1,7 @@
 //! Why a trace was not performed to its end.
 
 ghost use Rattle.std.specs.Prelude.{◌≡◌};
-ghost use Rattle.replay.specs.Causes.{answered, cause_of, cause_of_halt, cause_of_broken};
+ghost use Rattle.replay.specs.Causes.{answered, cause_of, cause_of_halt, cause_of_broken, ended};
 
 use lan_core::Which;
 use lan_schedule::{Broken, Halt, Kind};
@@ -34,6 +34,19 @@ pub enum Cause {
     /// The line with this number injects a right frame that repeats none on the air.
     #[error("line {line}: forged")]
     Forged { line: u32 },
+}
+
+/// How a run ends, by how its lines were read and whether its text may end there.
+pub fn ended(read: Result<(), End<Halt>>, may: Result<(), Halt>) -> Result<(), Cause>
+    ensures { result ≡ ended read may }
+{
+    match read {
+        Ok(()) => match may {
+            Ok(()) => Ok(()),
+            Err(halt) => Err(cause_of_halt(halt)),
+        },
+        Err(end) => Err(cause_of(end)),
+    }
 }
 
 /// What the end of reading lines is to the trace.

@@ -9,7 +9,7 @@ mod transcribing;
 mod unrecorded;
 mod writing;
 
-pub use cause::{Cause, cause_of};
+pub use cause::{Cause, ended};
 pub use gate::AnyGate;
 pub use replaying::{MAX_INPUT, replay};
 pub use writing::write;

@@ -5,10 +5,11 @@ ghost use Rattle.text_lines.specs.Reading.{sourced};
 ghost use Rattle.replay.specs.Sinks.{Fails, Wrote, sunk};
 ghost use Rattle.replay.specs.OneGroup.{IsSettled, one_group, shown_by};
 ghost use Rattle.replay.specs.Runs.{IsReplayed};
+ghost use Rattle.replay.specs.inside.Summing.{SumsUp};
 ghost use Rattle.fact_tally.specs.Summary.{line_of};
 ghost use Rattle.std.specs.Prelude.{[], ◌∷◌, MatchResult};
 
-use crate::cause::{Cause, answered, cause_of, cause_of_halt};
+use crate::cause::{Cause, answered, ended};
 use crate::gate::AnyGate;
 use crate::player::Player;
 use crate::transcribing::Transcript;
@@ -75,13 +76,9 @@ fn transcribe<T: Threads + Sync, S: Source, K: Sink>(
         recorder: Transcript::new(alloc),
         gate,
     };
-    match read_lines(alloc, MAX_INPUT, source, &mut player, sink) {
-        Ok(()) => match player.replay.close() {
-            Ok(()) => Ok(()),
-            Err(halt) => Err(cause_of_halt(halt)),
-        },
-        Err(end) => Err(cause_of(end)),
-    }
+    let read = read_lines(alloc, MAX_INPUT, source, &mut player, sink);
+    let may = player.replay.close();
+    ended(read, may)
 }
 
 /// Replays a trace for its summary.
@@ -106,13 +103,23 @@ fn summarize<T: Threads + Sync, S: Source, K: Sink>(
         recorder: Unrecorded,
         gate,
     };
-    match read_lines(alloc, MAX_INPUT, source, &mut player, sink) {
-        Ok(()) => match player.replay.close() {
-            Ok(()) => answered(write_line(alloc, player.replay.tally(), sink)),
-            Err(halt) => Err(cause_of_halt(halt)),
-        },
-        Err(end) => Err(cause_of(end)),
-    }
+    let read = read_lines(alloc, MAX_INPUT, source, &mut player, sink);
+    let may = player.replay.close();
+    sum_up(alloc, ended(read, may), player.replay.tally(), sink)
+}
+
+/// Writes the summary line of a run that ended well, and else nothing.
+fn sum_up<K: Sink>(
+    alloc: Global,
+    ended: Result<(), Cause>,
+    tally: &Tally,
+    sink: &mut K,
+) -> Result<(), Cause>
+    ensures { SumsUp ended (line_of tally.now) (sunk (K.held sink.old) (K.faults sink.old))
+        (sunk (K.held sink.new) (K.faults sink.new)) result }
+{
+    ended?;
+    answered(write_line(alloc, tally, sink))
 }
 
 /// Writes the summary line.

@@ -1,12 +1,12 @@
 -- How a trace of two groups is performed by a player, and ends.
-use Rattle.std.proofs.Common.{◌≡◌, ◌⊎◌, ℕ, List, ◌∷◌, ◌++◌, map, sym, ap, ◌∙◌, subst}
+use Rattle.std.proofs.Common.{◌≡◌, ◌⊎◌, ℕ, ◌≤◌, List, ◌∷◌, ◌++◌, map, sym, ap, ◌∙◌, subst}
 use Rattle.std.proofs.Common.{refl, inl, inr}
 use Rattle.std.specs.Prelude.{Result, Ok, Err}
 use Rattle.lan_base.specs.Faults.{Rose}
 use Rattle.text_lines.specs.declared.reading.End.{End}
 use Rattle.text_lines.specs.declared.reading.End.TheVariants as ends
 use Rattle.text_lines.specs.Moments.{Moment as LinesMoment}
-use Rattle.text_lines.specs.Reading.{Sourced, Takes}
+use Rattle.text_lines.specs.Reading.{Sourced, Takes, Reads}
 use Rattle.lan_schedule.specs.declared.halt.Halt.{Halt}
 use Rattle.lan_schedule.specs.declared.halt.Halt.TheVariants as halts
 use Rattle.lan_schedule.specs.declared.recorder.Broken.{Broken}
@@ -14,9 +14,9 @@ use Rattle.lan_schedule.specs.declared.recorder.Broken.TheVariants as broken
 use Rattle.lan_schedule.specs.Ends.{halt_of_broken}
 use Rattle.replay.specs.declared.cause.Cause.TheVariants as causes
 use Rattle.replay.specs.Sinks.{Sunk, Wrote, BrokeOff, WroteSome, Fails}
-use Rattle.replay.specs.Causes.{cause_of}
-use Rattle.replay.specs.Runs.{most_input, WasPerformed, WasHalted, WasCut}
-use Rattle.replay.proofs.Public.{Spares, spared, fails-rose, Plays}
+use Rattle.replay.specs.Causes.{cause_of, ended}
+use Rattle.replay.specs.Runs.{most_input, WasPerformed, WasHalted, WasCut, IsReplayed}
+use Rattle.replay.proofs.Public.{Spares, spared, fails-rose, Plays, replayed-err, transcribed}
 use Rattle.replay.proofs.Public.{rose-earlier, wrote-counts, fails-broke}
 use Rattle.replay.proofs.Public.{Grew, grew-wrote, grew-broke}
 use Rattle.roll_schedule.specs.declared.commands.TwinReplay.{TwinReplay}
@@ -217,6 +217,21 @@ module _ {P K : Type 0} (given : Given) (of : LinesMoment P K → TwinReplay) (s
     whole_passes = λ text w h. h;
   }
 
+  -- ---- the end of a trace
+
+  -- how it ends, whichever way its lines were read
+  pub ended-as : (left now : Sourced) (old new : LinesMoment P K)
+      (read : Result (Unit {0}) (End Halt)) → IsFresh old → left.faults ≤ now.faults
+      → Reads (DidLines Took Broke of) most_input left now old new read
+      → IsReplayed two_groups IsTidy (record { at_end = texts; before = texts }) left now
+      (seen old) (seen new) (ended read (Ok tt))
+  ended-as left now old new (Ok done) fresh counts h =
+      transcribed two_groups IsTidy texts IsFresh seen (DidAct Took Broke of) plays left now old new
+      fresh counts h (λ text d. d)
+  ended-as left now old new (Err end) fresh counts h =
+      replayed-err two_groups IsTidy texts IsFresh seen (DidAct Took Broke of) plays texts left now
+      old new end fresh counts h
+
   -- ---- no frame is forged
 
   not-forged : (line : ℕ) (why : Broken) → halts.Forged line ≡ halt_of_broken why → ⊥
@@ -234,7 +249,7 @@ module _ {P K : Type 0} (given : Given) (of : LinesMoment P K → TwinReplay) (s
         ]
       ]
 
-  pub none-forged : (left now : Sourced) (old new : LinesMoment P K) (end : End Halt) (line : ℕ)
+  none-forged : (left now : Sourced) (old new : LinesMoment P K) (end : End Halt) (line : ℕ)
       → IsFresh old → Takes (DidLines Took Broke of) most_input left now old new (Err end)
       → cause_of end ≡ causes.Forged line → ⊥
   none-forged left now old new (ends.Refused (halts.Forged other)) line fresh h is =
@@ -248,3 +263,11 @@ module _ {P K : Type 0} (given : Given) (of : LinesMoment P K → TwinReplay) (s
   none-forged left now old new ends.Memory line fresh h is = cc is
   none-forged left now old new ends.ReadFault line fresh h is = cc is
   none-forged left now old new ends.Limit line fresh h is = cc is
+
+  pub never-forged : (left now : Sourced) (old new : LinesMoment P K)
+      (read : Result (Unit {0}) (End Halt)) (line : ℕ) → IsFresh old
+      → Takes (DidLines Took Broke of) most_input left now old new read
+      → ended read (Ok tt) ≡ Err (causes.Forged line) → ⊥
+  never-forged left now old new (Ok done) line fresh h is = cc is
+  never-forged left now old new (Err end) line fresh h is =
+      none-forged left now old new end line fresh h (cc is)

@@ -11,7 +11,7 @@ ghost use Rattle.roll_replay.specs.TwoGroups.{transcript, two_groups};
 use crate::player::Player;
 use crate::transcribing::Transcript;
 use lan_base::{Sink, Source};
-use replay::{Cause, MAX_INPUT, cause_of};
+use replay::{Cause, MAX_INPUT, ended};
 use roll_schedule::{
     TwinReplay, law_acts_stop_for_their_own_reasons, law_groups_of_tidy_worlds_are_sound,
 };
@@ -39,8 +39,6 @@ pub fn replay_two<S: Source, K: Sink>(
         replay: TwinReplay::new(alloc),
         recorder: Transcript::new(alloc),
     };
-    match read_lines(alloc, MAX_INPUT, source, &mut player, sink) {
-        Ok(()) => Ok(()),
-        Err(end) => Err(cause_of(end)),
-    }
+    let read = read_lines(alloc, MAX_INPUT, source, &mut player, sink);
+    ended(read, Ok(()))
 }

@@ -184,7 +184,7 @@ fn a_worker_meets_control(rt: HostRuntime) -> Result<(), Fail> {
 fn each_move_and_each_claim_passes_the_gate(rt: HostRuntime) -> Result<(), Fail> {
     let alloc = rt.alloc();
     let sends = "send A ffffffffffff 88b50001\n";
-    let race = "race\nburst B 2 4 ffffffffffff 88b50001\nwhile\nend\nrestart A\n";
+    let race = "race\nburst B 2 4 ffffffffffff 88b50001\nwhile\nend\nrestart A\nrestart B\n";
     let trace = joined(
         alloc,
         &[GROUP, FIRST, SECOND, SIX_ROUNDS, sends, sends, sends, race],
@@ -205,7 +205,7 @@ fn each_move_and_each_claim_passes_the_gate(rt: HostRuntime) -> Result<(), Fail>
     let left = passing(&rt, alloc, &["run"], &trace, STEADY, &gate)?;
     assert_eq!(rt; left.status, Status::Done);
     assert_eq!(rt; first.count(), 2);
-    assert_eq!(rt; second.count(), 1);
+    assert_eq!(rt; second.count(), 2);
     assert_eq!(rt; loaded.count(), 7);
     assert_eq!(rt; taken.count(), 7);
     Ok(())
