@@ -164,10 +164,6 @@ module _ {K : Type 0} {Took : K → Report → K → Type 0} {Broke : K → Repo
 
 -- ---- the first station
 
-pub no-second : (o : Option Keyed) → ((x : Keyed) → o ≡ Some x → ⊥) → o ≡ None
-no-second None other = refl
-no-second (Some keyed) other = absurd (other keyed refl)
-
 pub station-later : (line : Line) → IsStation line → is_elsewhere line ≡ false
 station-later (lines.Station name sci priority) station = refl
 station-later lines.DrawsCount station = absurd station

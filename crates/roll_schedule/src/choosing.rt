@@ -1,7 +1,8 @@
 //! What was chosen before the first station sets up two groups.
 
-ghost use Rattle.std.specs.Prelude.{◌≡◌, List, [], IfOk, IfErr, Option};
+ghost use Rattle.std.specs.Prelude.{◌≡◌, List, [], IfOk, OnOk, IfErr, Option};
 ghost use Rattle.lan_base.specs.declared.frame.UserFrame.{UserFrame};
+ghost use Rattle.lan_core.specs.declared.settings.Settings.{Settings};
 ghost use Rattle.cak_roll.specs.Standing.{StandsFor as TwinStandsFor};
 ghost use Rattle.lan_schedule.specs.declared.halt.Halt.{Halt};
 ghost use Rattle.roll_schedule.specs.World.{second_of};
@@ -21,12 +22,26 @@ pub fn twin_of(alloc: Global, settings: Settings, second: &Option<Keyed>) -> Res
     let Ok(mut twin) = Twin::new(alloc, settings) else {
         return Err(Halt::Memory);
     };
+    match take_second(alloc, &mut twin, second) {
+        Ok(()) => Ok(twin),
+        Err(halt) => Err(halt),
+    }
+}
+
+/// The second group comes to two groups to which nothing happened, if it was chosen.
+fn take_second(alloc: Global, twin: &mut Twin, second: &Option<Keyed>) -> Result<(), Halt>
+    ensures stands { (first : Settings) (users : List UserFrame)
+        → TwinStandsFor (record { first = first; second = first }) users twin.old []
+        → OnOk result (TwinStandsFor
+        (record { first = first; second = second_of first second.now }) users twin.new []) }
+    ensures memory { IfErr result (λ halt. halt ≡ Halt.Memory) }
+{
     let Some(keyed) = second else {
-        return Ok(twin);
+        return Ok(());
     };
     let ckn = keyed.ckn.copied(alloc)?;
     match twin.second(keyed.cak, ckn) {
-        Ok(()) => Ok(twin),
+        Ok(()) => Ok(()),
         Err(_) => Err(Halt::Memory),
     }
 }
