@@ -13,8 +13,6 @@ mod keys;
 #[cfg(test)]
 mod receiving;
 #[cfg(test)]
-mod results;
-#[cfg(test)]
 mod sealings;
 #[cfg(test)]
 mod values;

@@ -1,6 +1,0 @@
-use Rattle.std.proofs.Common.{◌≡◌}
-use Rattle.cipher_work.specs.Work.{block_after}
-use Rattle.cipher_work.proofs.work.last_block.Given as goal
-
-abbrev pub invariant-loop-done : goal.invariant-loop-done
-invariant-loop-done l = l.block ≡ block_after l.key l._done

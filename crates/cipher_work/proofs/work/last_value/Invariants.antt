@@ -1,9 +1,0 @@
-use Rattle.std.proofs.Common.{◌≡◌}
-use Rattle.cipher_work.specs.Work.{message_after, value_after}
-use Rattle.cipher_work.proofs.work.last_value.Given as goal
-
-abbrev pub invariant-loop-done : goal.invariant-loop-done
-invariant-loop-done l = record {
-  message : l.message ≡ message_after l._done;
-  value : l.value ≡ value_after l._done;
-}
