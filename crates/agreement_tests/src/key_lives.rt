@@ -11,10 +11,9 @@ use mkpdu_codec::{ConfidentialityOffset, Given, KeyUse, Uses};
 use sak_exchange::{Cause, Change, Changes, Due, KeyState, Offer, Report, Seen, Why};
 use std::alloc::Global;
 use std::process::Abort;
-use std::test::Fail;
 
 /// A change, by the key's number.
-#[derive(Clone, Copy, Debug, PartialEq, Eq)]
+#[derive(Clone, Copy, PartialEq, Eq)]
 enum Told {
     Dropped(u32),
     Retired(u32),
@@ -145,9 +144,9 @@ fn kek() -> Key {
 }
 
 /// A key that the station can count is offered.
-fn takes(rt: &impl Abort, keys: &mut KeyState, offer: &Offer, kek: &Key) -> Result<Changes, Fail> {
+fn takes(rt: &impl Abort, keys: &mut KeyState, offer: &Offer, kek: &Key) -> Changes {
     assert!(rt; keys.epochs() < u32::MAX);
-    Ok(keys.take(offer, kek)?)
+    keys.take(offer, kek).expect(rt, "memory")
 }
 
 /// A key is made, if one is due.
@@ -157,7 +156,7 @@ fn makes(
     keys: &mut KeyState,
     live: &[Report],
     potential: bool,
-) -> Result<Changes, Fail> {
+) -> Changes {
     assert!(rt; keys.epochs() < u32::MAX);
     let due = Due {
         live,
@@ -171,62 +170,64 @@ fn makes(
         conf: true,
     };
     if keys.makes(&due) {
-        return Ok(keys.make(&due, Secret::S128(SAK.to_be_bytes()))?);
+        return keys
+            .make(&due, Secret::S128(SAK.to_be_bytes()))
+            .expect(rt, "memory");
     }
-    Ok(Changes::new(alloc))
+    Changes::new(alloc)
 }
 
 /// What the live members report.
-fn reports(alloc: Global, live: &[Live]) -> Result<Vec<Report>, Fail> {
+fn reports(rt: &impl Abort, alloc: Global, live: &[Live]) -> Vec<Report> {
     let mut reports = Vec::new(alloc);
     for member in live {
-        reports.push(report(member))?;
+        reports.push(report(member)).expect(rt, "memory");
     }
-    Ok(reports)
+    reports
 }
 
 /// A tick at which a key server is elected.
-fn tick(keys: &mut KeyState) -> Result<Changes, Fail> {
+fn tick(rt: &impl Abort, keys: &mut KeyState) -> Changes {
     keys.tick();
-    Ok(keys.retire()?)
-}
-
-/// A tick at which none is.
-fn tick_alone(keys: &mut KeyState) -> Result<Changes, Fail> {
-    keys.tick();
-    Ok(keys.drop_all()?)
+    keys.retire().expect(rt, "memory")
 }
 
 /// So many ticks at which a key server is elected, and what the last one changes.
-fn ticks(rt: &impl Abort, keys: &mut KeyState, count: u8) -> Result<Changes, Fail> {
+fn ticks(rt: &impl Abort, keys: &mut KeyState, count: u8) -> Changes {
     for _ in 1..count {
-        assert!(rt; tick(keys)?.is_empty());
+        assert!(rt; tick(rt, keys).is_empty());
     }
-    tick(keys)
+    tick(rt, keys)
+}
+
+/// A tick at which none is.
+fn tick_alone(rt: &impl Abort, keys: &mut KeyState) -> Changes {
+    keys.tick();
+    keys.drop_all().expect(rt, "memory")
 }
 
 /// Live members report these keys as their latest ones.
-fn leads(alloc: Global, keys: &mut KeyState, live: &[Live]) -> Result<Changes, Fail> {
-    Ok(keys.lead(&reports(alloc, live)?)?)
+fn leads(rt: &impl Abort, alloc: Global, keys: &mut KeyState, live: &[Live]) -> Changes {
+    keys.lead(&reports(rt, alloc, live)).expect(rt, "memory")
 }
 
 /// The server transmits under its key of this number as its old one.
-fn follows(keys: &mut KeyState, number: u32) -> Result<Changes, Fail> {
+fn follows(rt: &impl Abort, keys: &mut KeyState, number: u32) -> Changes {
     let uses = Uses {
         latest: use_of(0),
         old: use_of(number),
     };
-    Ok(keys.follow(&uses)?)
+    keys.follow(&uses).expect(rt, "memory")
 }
 
 /// What a step changes.
-fn play(rt: &impl Abort, alloc: Global, keys: &mut KeyState, step: &Step) -> Result<Changes, Fail> {
+fn play(rt: &impl Abort, alloc: Global, keys: &mut KeyState, step: &Step) -> Changes {
     match *step {
         Ticks(count, _) => ticks(rt, keys, count),
-        Drops(_) => tick_alone(keys),
-        Leads(live, _) => leads(alloc, keys, live),
-        Makes(live, potential, _) => makes(rt, alloc, keys, &reports(alloc, live)?, potential),
-        Follows(number, _) => follows(keys, number),
+        Drops(_) => tick_alone(rt, keys),
+        Leads(live, _) => leads(rt, alloc, keys, live),
+        Makes(live, potential, _) => makes(rt, alloc, keys, &reports(rt, alloc, live), potential),
+        Follows(number, _) => follows(rt, keys, number),
         Takes(gift, _) => takes(rt, keys, &offer(&gift), &kek()),
     }
 }
@@ -244,17 +245,16 @@ fn expected(step: &Step) -> &'static [Told] {
 }
 
 /// Plays the steps of a life; each tells what it says.
-fn plays(rt: &impl Abort, alloc: Global, case: &Case) -> Result<(), Fail> {
-    let mut keys = KeyState::new(alloc, mi(case.own), case.epochs)?;
+fn plays(rt: &impl Abort, alloc: Global, case: &Case) {
+    let mut keys = KeyState::new(alloc, mi(case.own), case.epochs).expect(rt, "memory");
     for (at, step) in case.steps.iter().enumerate() {
-        let changes = play(rt, alloc, &mut keys, step)?;
+        let changes = play(rt, alloc, &mut keys, step);
         assert!(rt;
             is_told(&changes, expected(step)),
             "{}: step {at}",
             case.name
         );
     }
-    Ok(())
 }
 
 /// A gift that the station takes.
@@ -296,11 +296,6 @@ const SERVER: Case = Case {
         Drops(&[Dropped(6), Dropped(5)]),
     ],
 };
-
-#[test]
-fn a_server_makes_and_leads(rt: HostRuntime) -> Result<(), Fail> {
-    plays(&rt, rt.alloc(), &SERVER)
-}
 
 /// The second gift, and the next ones under the numbers 1 and 2.
 const SECOND: Gift = Gift { number: 2, ..GIFT };
@@ -360,83 +355,8 @@ const MEMBER: Case = Case {
 };
 
 #[test]
-fn a_member_takes_and_follows(rt: HostRuntime) -> Result<(), Fail> {
-    plays(&rt, rt.alloc(), &MEMBER)
-}
-
-/// A wrap of a key of 256 bits in NIST's validation suite for key wrap.
-fn wrapped_longer() -> [u8; 40] {
-    let mut octets = [0; 40];
-    octets[..8].copy_from_slice(&0x60b9f8ac797c56e0_u64.to_be_bytes());
-    octets[8..24].copy_from_slice(&0x1e9b5f84d65816a980777869f67991a0_u128.to_be_bytes());
-    octets[24..].copy_from_slice(&0xe6dc19b8cd75c9b54db4a38456bbd6f3_u128.to_be_bytes());
-    octets
-}
-
-/// The key of 256 bits that the longer of the tried wraps holds.
-fn longer_sak() -> [u8; 32] {
-    let mut octets = [0; 32];
-    octets[..16].copy_from_slice(&0x7f604e9b8d39d3c91e193fe6f196c1e3_u128.to_be_bytes());
-    octets[16..].copy_from_slice(&0xda6211a7c9a33b8873b64b138d1803e4_u128.to_be_bytes());
-    octets
-}
-
-/// The elected server gives a key, and lists the station; what that changes.
-fn given(
-    rt: &impl Abort,
-    keys: &mut KeyState,
-    given: Given,
-    expected: &[Told],
-) -> Result<bool, Fail> {
-    let kek = Key::k128(&0xe5d058e7f1c22c016c4e1cc9b26b9f8f_u128.to_be_bytes());
-    let offer = Offer {
-        given,
-        server: mi(1),
-        listed: true,
-        elected: true,
-    };
-    Ok(is_told(&takes(rt, keys, &offer, &kek)?, expected))
-}
-
-/// The wrap of another key, a wrap of another length, and the longer key.
-fn gives(rt: &impl Abort, keys: &mut KeyState) -> Result<(), Fail> {
-    let other = Given::Other {
-        an: An3,
-        offset: ConfidentialityOffset::None,
-        number: 1,
-    };
-    let longer = Given::Aes256 {
-        an: An3,
-        offset: ConfidentialityOffset::None,
-        number: 1,
-        wrapped: wrapped_longer(),
-    };
-    assert!(rt; given(rt, keys, offer(&GIFT).given, &[Untaken(1, Why::Wrap)])?);
-    assert!(rt; given(rt, keys, other, &[Untaken(1, Why::Suite)])?);
-    assert!(rt; given(rt, keys, longer, &[Installed(1, An3, 1)])?);
-    Ok(())
-}
-
-/// The longer key is held, has not begun, and was made by no roster.
-fn holds(rt: &impl Abort, keys: &KeyState) {
-    let held = keys.latest().expect(rt, "the key that was installed");
-    assert_eq!(rt; held.key.sak, Secret::S256(longer_sak()));
-    assert!(rt; !held.key.conf && !held.begun);
-    assert!(rt; keys.old().is_none() && keys.transmitting().is_none());
-    assert!(rt; !keys.in_roster(&mi(2)));
-}
-
-#[test]
-fn a_key_of_256_bits_is_held(rt: HostRuntime) -> Result<(), Fail> {
-    let mut keys = KeyState::new(rt.alloc(), mi(2), 0)?;
-    gives(&rt, &mut keys)?;
-    holds(&rt, &keys);
-    Ok(())
-}
-
-#[test]
-fn a_copy_holds_the_same(rt: HostRuntime) -> Result<(), Fail> {
-    let keys = KeyState::new(rt.alloc(), mi(2), 5)?;
-    assert_eq!(&rt; keys.copied(rt.alloc())?.epochs(), 5);
-    Ok(())
+fn keys_come_and_go(rt: HostRuntime) {
+    for case in [&SERVER, &MEMBER] {
+        plays(&rt, rt.alloc(), case);
+    }
 }

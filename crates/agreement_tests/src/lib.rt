@@ -1,20 +1,16 @@
-//! Tests of the wire and of key agreement: frames that are read and written, lives of a station's
-//! peer lists and keys, elections, and two stations of a group, with what they come to worked out by
-//! hand.
+//! Tests of key agreement and of received frames that no command can show: lives of a station's peer
+//! lists and keys, two stations of a group, receive slots, and what is told of secrets, with what
+//! they come to by other programs or worked out by hand.
 #![tactic(auto)]
 
-#[cfg(test)]
-mod announcing;
-#[cfg(test)]
-mod elections;
-#[cfg(test)]
-mod frames_read;
-#[cfg(test)]
-mod frames_written;
 #[cfg(test)]
 mod key_lives;
 #[cfg(test)]
 mod peers;
+#[cfg(test)]
+mod receiving;
+#[cfg(test)]
+mod secrets;
 #[cfg(test)]
 mod station_frames;
 #[cfg(test)]

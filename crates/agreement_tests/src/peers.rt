@@ -8,7 +8,6 @@ use lan_base::{Mi, Sci};
 use peer_lists::{Heard, Outcome, PeerRefusal, PeerTable, Row};
 use std::alloc::Global;
 use std::process::Abort;
-use std::test::Fail;
 
 /// How a member stands among those that are remembered.
 #[derive(Clone, Copy, PartialEq, Eq)]
@@ -51,7 +50,7 @@ struct Case {
     steps: &'static [Step],
 }
 
-const FORGETTING: [Case; 4] = [
+const LIVES: [Case; 7] = [
     Case {
         name: "a member is forgotten after the life time",
         steps: &[
@@ -107,9 +106,6 @@ const FORGETTING: [Case; 4] = [
             Recent(121, false),
         ],
     },
-];
-
-const OTHERS: [Case; 3] = [
     Case {
         name: "two members of one SCI alternate",
         steps: &[
@@ -171,13 +167,12 @@ fn heard(member: u8, channel: u8, mn: u32, listed: Option<u32>) -> Heard {
     }
 }
 
-/// The table after these steps.
-fn played(rt: &impl Abort, alloc: Global, case: &Case) -> Result<PeerTable, Fail> {
-    let mut table = PeerTable::new(alloc, mi(9), sci(90))?;
+/// Plays the steps of a life.
+fn plays(rt: &impl Abort, alloc: Global, case: &Case) {
+    let mut table = PeerTable::new(alloc, mi(9), sci(90)).expect(rt, "memory");
     for step in case.steps {
         play(rt, &mut table, *step, case.name);
     }
-    Ok(table)
 }
 
 /// Plays one step, which gives what it says.
@@ -244,38 +239,8 @@ fn shows(rt: &impl Abort, table: &PeerTable, rows: &[Shown], name: &str) {
 }
 
 #[test]
-fn forgets(rt: HostRuntime) -> Result<(), Fail> {
-    for case in &FORGETTING {
-        played(&rt, rt.alloc(), case)?;
+fn hears_and_forgets(rt: HostRuntime) {
+    for case in &LIVES {
+        plays(&rt, rt.alloc(), case);
     }
-    Ok(())
-}
-
-#[test]
-fn tells_others_apart(rt: HostRuntime) -> Result<(), Fail> {
-    for case in &OTHERS {
-        played(&rt, rt.alloc(), case)?;
-    }
-    Ok(())
-}
-
-/// The rows of the next tick are shown while those of now stay.
-#[test]
-fn shows_the_rows_after_a_tick(rt: HostRuntime) -> Result<(), Fail> {
-    const CASE: Case = Case {
-        name: "one of two goes at the next tick",
-        steps: &[
-            Plain(2, 20, 1, Unvouched),
-            Ticks(59),
-            Plain(1, 10, 1, Unvouched),
-        ],
-    };
-    let table = played(&rt, rt.alloc(), &CASE)?;
-    let mut rows = Vec::with_capacity(rt.alloc(), 64)?;
-    table.copied(rt.alloc())?.rows_after_tick(&mut rows);
-    assert_eq!(rt; rows.len(), 1);
-    assert_eq!(rt; rows[0].mi, mi(1));
-    let now = [Shown(1, 1, 10, Potential), Shown(2, 1, 20, Potential)];
-    shows(&rt, &table, &now, CASE.name);
-    Ok(())
 }

@@ -19,7 +19,6 @@ use mka_station::{Config, DropReason, Reaction, Station, TickError, Verdict};
 use sak_exchange::{Cause, Change, HeldKey, Key, Seen, Why};
 use std::alloc::Global;
 use std::process::Abort;
-use std::test::Fail;
 
 /// A station, with the identifier 1 or 2.
 #[derive(Clone, Copy)]
@@ -81,13 +80,13 @@ fn mi(number: u8) -> Mi {
 }
 
 /// The group of the frames.
-fn group(alloc: Global) -> Result<Group, Fail> {
+fn group(rt: &impl Abort, alloc: Global) -> Group {
     let cak: u128 = 0x000102030405060708090a0b0c0d0e0f;
-    Ok(Group::of(alloc, Secret::S128(cak.to_be_bytes()), &[1, 2, 3, 4])?)
+    Group::of(alloc, Secret::S128(cak.to_be_bytes()), &[1, 2, 3, 4]).expect(rt, "a group")
 }
 
 /// A station that makes keys of this suite.
-fn station(alloc: Global, who: Who, suite: Suite) -> Result<Station, Fail> {
+fn station(rt: &impl Abort, alloc: Global, who: Who, suite: Suite) -> Station {
     let (number, channel, priority) = match who {
         A => (1, 0x0a, 16),
         B => (2, 0x0b, 32),
@@ -98,10 +97,10 @@ fn station(alloc: Global, who: Who, suite: Suite) -> Result<Station, Fail> {
         rekey: 3221225472,
         conf: true,
         early_flag: false,
-        group: group(alloc)?,
+        group: group(rt, alloc),
         suite,
     };
-    Ok(Station::start(alloc, config, 0, drawn(number))?)
+    Station::start(alloc, config, 0, drawn(number)).expect(rt, "memory")
 }
 
 /// What is told of a key.
@@ -116,28 +115,34 @@ fn summary(change: &Change) -> Told {
 }
 
 /// The server, where it changes, and then the keys.
-fn facts(alloc: Global, reaction: &Reaction) -> Result<Vec<Told>, Fail> {
+fn facts(rt: &impl Abort, alloc: Global, reaction: &Reaction) -> Vec<Told> {
     let mut told = Vec::new(alloc);
     match &reaction.server {
-        Some(Some(mi)) => told.push(Elected(mi.0[11]))?,
-        Some(None) => told.push(Lost)?,
+        Some(Some(mi)) => told.push(Elected(mi.0[11])).expect(rt, "memory"),
+        Some(None) => told.push(Lost).expect(rt, "memory"),
         None => {}
     }
     for change in reaction.changes.as_slice() {
-        told.push(summary(change))?;
+        told.push(summary(change)).expect(rt, "memory");
     }
-    Ok(told)
+    told
 }
 
 /// Whether the station told this, and sent this frame, or none.
-fn is_told(alloc: Global, reaction: &Reaction, wanted: &[Told], frame: &str) -> Result<bool, Fail> {
-    let told = facts(alloc, reaction)?;
-    let octets = hex::decode(alloc, frame)?;
+fn is_told(
+    rt: &impl Abort,
+    alloc: Global,
+    reaction: &Reaction,
+    wanted: &[Told],
+    frame: &str,
+) -> bool {
+    let told = facts(rt, alloc, reaction);
+    let octets = hex::decode(alloc, frame).expect(rt, "octets");
     let sent = match &reaction.sent {
         Some(sent) => sent.as_slice(),
         None => &[],
     };
-    Ok(told.as_slice() == wanted && sent == octets.as_slice())
+    told.as_slice() == wanted && sent == octets.as_slice()
 }
 
 /// What frames were seen at a tick.
@@ -150,26 +155,26 @@ fn seen(next: u64) -> Seen {
 }
 
 /// A tick, where 3 is drawn next.
-fn tick(rt: &impl Abort, station: &mut Station, next: u64) -> Result<Reaction, Fail> {
+fn tick(rt: &impl Abort, station: &mut Station, next: u64) -> Reaction {
     let mut draws = CountDraws::new();
     assert!(rt; draws.draw().is_some() && draws.draw().is_some());
     assert!(rt; station.has_room());
-    Ok(station.tick(&seen(next), &mut draws)?)
+    station.tick(&seen(next), &mut draws).expect(rt, "memory")
 }
 
 /// Whether a tick is refused where one draw is left.
-fn is_refused(rt: &impl Abort, alloc: Global, station: &mut Station) -> Result<bool, Fail> {
+fn is_refused(rt: &impl Abort, alloc: Global, station: &mut Station) -> bool {
     let mut values = Blocks::new(alloc);
-    values.push(drawn(3))?;
+    values.push(drawn(3)).expect(rt, "memory");
     assert!(rt; station.has_room());
     let ticked = station.tick(&seen(0), &mut ListDraws::of(values));
-    Ok(matches!(ticked, Err(TickError::DrawsSpent)))
+    matches!(ticked, Err(TickError::DrawsSpent))
 }
 
 /// A frame is heard.
-fn hear(rt: &impl Abort, station: &mut Station, frame: &[u8]) -> Result<Reaction, Fail> {
+fn hear(rt: &impl Abort, station: &mut Station, frame: &[u8]) -> Reaction {
     assert!(rt; station.has_room());
-    Ok(station.hear(frame)?)
+    station.hear(frame).expect(rt, "memory")
 }
 
 /// Whether a tick comes to this.
@@ -180,9 +185,9 @@ fn ticks(
     next: u64,
     wanted: &[Told],
     frame: &str,
-) -> Result<bool, Fail> {
-    let reaction = tick(rt, station, next)?;
-    Ok(reaction.heard.is_none() && is_told(alloc, &reaction, wanted, frame)?)
+) -> bool {
+    let reaction = tick(rt, station, next);
+    reaction.heard.is_none() && is_told(rt, alloc, &reaction, wanted, frame)
 }
 
 /// Whether the hearing of a frame comes to this.
@@ -193,22 +198,23 @@ fn hears(
     frame: &str,
     verdict: Verdict,
     wanted: &[Told],
-) -> Result<bool, Fail> {
-    let octets = hex::decode(alloc, frame)?;
-    let reaction = hear(rt, station, &octets)?;
-    Ok(reaction.heard == Some(verdict) && is_told(alloc, &reaction, wanted, "")?)
+) -> bool {
+    let octets = hex::decode(alloc, frame).expect(rt, "octets");
+    let reaction = hear(rt, station, &octets);
+    reaction.heard == Some(verdict) && is_told(rt, alloc, &reaction, wanted, "")
 }
 
 /// Whether a restart under this identifier comes to this.
 fn restarts(
+    rt: &impl Abort,
     alloc: Global,
     station: &mut Station,
     number: u8,
     wanted: &[Told],
-) -> Result<bool, Fail> {
-    let reaction = station.restart(drawn(number))?;
-    let told = reaction.heard.is_none() && is_told(alloc, &reaction, wanted, "")?;
-    Ok(told && *station.mi() == mi(number))
+) -> bool {
+    let reaction = station.restart(drawn(number)).expect(rt, "memory");
+    let told = reaction.heard.is_none() && is_told(rt, alloc, &reaction, wanted, "");
+    told && *station.mi() == mi(number)
 }
 
 /// Whether the station holds these keys, and transmits under the last one.
@@ -217,90 +223,73 @@ fn holds(station: &Station, keys: &[Option<HeldKey>; 3]) -> bool {
     station.latest() == *latest && station.old() == *old && station.transmitting() == *transmitting
 }
 
+/// A1 with its member, its channel and its check value left out.
+const HELLO: [u8; 70] = [
+    0x01, 0x80, 0xc2, 0, 0, 3, 2, 0, 0, 0, 0, 0x0a, 0x88, 0x8e, 3, 5, 0, 0x34, 1, 0x10, 0x60, 0x20,
+    2, 0, 0, 0, 0, 0, 0, 1, 0, 0, 0, 0, 0, 0, 0, 0, 0, 0, 0, 0, 0, 0, 0, 1, 0, 0x80, 0xc2, 1, 1, 2,
+    3, 4, 0, 0, 0, 0, 0, 0, 0, 0, 0, 0, 0, 0, 0, 0, 0, 0,
+];
+
 /// A1 from another member, under a channel of its own.
-fn hello(alloc: Global, ick: &aes_block::Key, member: u8) -> Result<Vec<u8>, Fail> {
-    let front = "0180c200000302000000000a888e03050034011060200200000000";
-    let mut octets = hex::decode(alloc, front)?;
-    octets.push(member)?;
-    octets.extend_from_slice(&[0, 1, 0, 0, 0, 0, 0, 0, 0, 0, 0, 0, 0])?;
-    octets.push(member)?;
-    octets.extend_from_slice(&[0, 0, 0, 1, 0, 0x80, 0xc2, 1, 1, 2, 3, 4])?;
-    let check = cmac(ick, &octets);
-    octets.extend_from_slice(&check)?;
-    Ok(octets)
+fn hello(ick: &aes_block::Key, member: u8) -> [u8; 70] {
+    let mut octets = HELLO;
+    octets[27] = member;
+    octets[41] = member;
+    let check = cmac(ick, &octets[..54]);
+    octets[54..].copy_from_slice(&check);
+    octets
 }
 
 /// What becomes of the first announcement of a member.
 fn meets(
     rt: &impl Abort,
-    alloc: Global,
     station: &mut Station,
     ick: &aes_block::Key,
     member: u8,
-) -> Result<Option<Verdict>, Fail> {
-    Ok(hear(rt, station, &hello(alloc, ick, member)?)?.heard)
+) -> Option<Verdict> {
+    hear(rt, station, &hello(ick, member)).heard
 }
 
 /// Whether the station, which knows one other member, remembers 64 and no more.
-fn fills(rt: &impl Abort, alloc: Global, station: &mut Station) -> Result<bool, Fail> {
-    let group = group(alloc)?;
-    for member in 100..164 {
-        let wanted = if member < 163 {
-            Unvouched
-        } else {
-            Verdict::Dropped(PeersFull)
-        };
-        if meets(rt, alloc, station, &group.ick, member)? != Some(wanted) {
-            return Ok(false);
+fn fills(rt: &impl Abort, alloc: Global, station: &mut Station) -> bool {
+    let Group { ick, .. } = group(rt, alloc);
+    for member in 100..163 {
+        if meets(rt, station, &ick, member) != Some(Unvouched) {
+            return false;
         }
     }
-    Ok(true)
+    meets(rt, station, &ick, 163) == Some(Verdict::Dropped(PeersFull))
 }
 
 /// Whether a step comes to what it tells.
-fn play(rt: &impl Abort, alloc: Global, station: &mut Station, step: &Step) -> Result<bool, Fail> {
+fn play(rt: &impl Abort, alloc: Global, station: &mut Station, step: &Step) -> bool {
     match step {
         Ticks(next, told, frame) => ticks(rt, alloc, station, *next, told, frame),
         Spends => is_refused(rt, alloc, station),
         Hears(frame, verdict, told) => hears(rt, alloc, station, frame, *verdict, told),
         Drops(frame, why) => hears(rt, alloc, station, frame, Verdict::Dropped(*why), &[]),
-        Restarts(number, told) => restarts(alloc, station, *number, told),
-        Holds(keys) => Ok(holds(station, keys)),
+        Restarts(number, told) => restarts(rt, alloc, station, *number, told),
+        Holds(keys) => holds(station, keys),
         Fills => fills(rt, alloc, station),
     }
 }
 
 /// Plays the steps of a part of a life; each gives what it says.
-fn plays(
-    rt: &impl Abort,
-    alloc: Global,
-    station: &mut Station,
-    name: &str,
-    steps: &[Step],
-) -> Result<(), Fail> {
+fn plays(rt: &impl Abort, alloc: Global, station: &mut Station, name: &str, steps: &[Step]) {
     for (at, step) in steps.iter().enumerate() {
-        assert!(rt; play(rt, alloc, station, step)?, "{name}: step {at}");
+        assert!(rt; play(rt, alloc, station, step), "{name}: step {at}");
     }
-    Ok(())
 }
 
 /// Plays the life of a station that meets the other one first.
-fn lives(rt: &impl Abort, alloc: Global, case: &Case) -> Result<(), Fail> {
-    let mut station = station(alloc, case.who, case.suite)?;
+fn lives(rt: &impl Abort, alloc: Global, case: &Case) {
+    let mut station = station(rt, alloc, case.who, case.suite);
     let meeting: &[Step] = match case.who {
         A => &A_MEETS,
         B => &B_MEETS,
     };
-    plays(rt, alloc, &mut station, "meeting", meeting)?;
-    plays(rt, alloc, &mut station, case.name, case.steps)
-}
-
-/// Plays lives of several stations.
-fn all_live(rt: &impl Abort, alloc: Global, cases: &[Case]) -> Result<(), Fail> {
-    for case in cases {
-        lives(rt, alloc, case)?;
-    }
-    Ok(())
+    plays(rt, alloc, &mut station, "meeting", meeting);
+    plays(rt, alloc, &mut station, case.name, case.steps);
 }
 
 /// A hears B and is elected.
@@ -368,11 +357,6 @@ const SHARING: [Case; 2] = [
     },
 ];
 
-#[test]
-fn two_stations_share_a_key(rt: HostRuntime) -> Result<(), Fail> {
-    all_live(&rt, rt.alloc(), &SHARING)
-}
-
 /// Nothing that A said before gives B a key.
 const STARTING_AGAIN: Case = Case {
     name: "B takes the first key, begins it and starts again",
@@ -392,11 +376,6 @@ const STARTING_AGAIN: Case = Case {
         Holds([None; 3]),
     ],
 };
-
-#[test]
-fn a_restarted_station_takes_nothing(rt: HostRuntime) -> Result<(), Fail> {
-    lives(&rt, rt.alloc(), &STARTING_AGAIN)
-}
 
 const DROPPING: Case = Case {
     name: "B drops frames for the first reason",
@@ -418,11 +397,6 @@ const DROPPING: Case = Case {
         Drops(A2, OldNumber { kept: 2 }),
     ],
 };
-
-#[test]
-fn drops_for_the_first_reason(rt: HostRuntime) -> Result<(), Fail> {
-    lives(&rt, rt.alloc(), &DROPPING)
-}
 
 const TAKING: Case = Case {
     name: "B is offered keys that it does not take, and some that it takes",
@@ -451,11 +425,6 @@ const TAKING: Case = Case {
         Hears(KEY_4, Vouched, &[Untaken(4, Why::Retiring)]),
     ],
 };
-
-#[test]
-fn takes_a_key_or_says_why_not(rt: HostRuntime) -> Result<(), Fail> {
-    lives(&rt, rt.alloc(), &TAKING)
-}
 
 /// The first key, where it is one of 256 bits.
 const LONG: HeldKey = HeldKey {
@@ -487,11 +456,6 @@ const LONG_KEYS: [Case; 2] = [
     },
 ];
 
-#[test]
-fn a_key_of_256_bits_takes_two_draws(rt: HostRuntime) -> Result<(), Fail> {
-    all_live(&rt, rt.alloc(), &LONG_KEYS)
-}
-
 const FULL: Case = Case {
     name: "B remembers 64 other members and no more",
     who: B,
@@ -500,6 +464,14 @@ const FULL: Case = Case {
 };
 
 #[test]
-fn remembers_64_members(rt: HostRuntime) -> Result<(), Fail> {
-    lives(&rt, rt.alloc(), &FULL)
+fn stations_hear_and_tick(rt: HostRuntime) {
+    for case in &SHARING {
+        lives(&rt, rt.alloc(), case);
+    }
+    for case in &LONG_KEYS {
+        lives(&rt, rt.alloc(), case);
+    }
+    for case in [&STARTING_AGAIN, &DROPPING, &TAKING, &FULL] {
+        lives(&rt, rt.alloc(), case);
+    }
 }

@@ -1,21 +1,28 @@
-//! Tables, and workers with seats at them.
+//! Tables, workers with seats at them, and what they work for.
 
-ghost use Rattle.std.specs.Prelude.{◌≡◌, IfOk};
+ghost use Rattle.std.specs.Prelude.{◌≡◌, ◌≤◌, length, true};
+ghost use Rattle.association_slots.specs.Cards.{cards_given};
+ghost use Rattle.association_slots.specs.Steps.{seated};
+ghost use Rattle.association_slots.specs.Views.{IsOpen, current, slot, top};
 ghost use Rattle.lan_base.specs.Ranges.{IsUserData};
+ghost use Rattle.lan_base.specs.declared.association_number.AssociationNumber.TheVariants.{An1, An2};
 
 use aes_block::Secret;
-use association_slots::{Card, Control, SlotTable, WorkerSeat};
+use association_slots::{Card, Control, SlotTable};
 use data_workers::{Log, Sender, Worker, work};
 use lan_base::{AssociationNumber, Mac, Octets, Sci, UserFrame};
 use packet_claims::Gate;
-use std::alloc::{AllocError, Global};
-use std::test::Fail;
+use std::alloc::Global;
+use std::process::Abort;
 
 /// The card that comes first at each table.
 pub const CARD: Card = Card {
     sak: Secret::S128([7; 16]),
     conf: true,
 };
+
+/// The user data of everybody.
+pub const BODY: [u8; 64] = [0x5a; 64];
 
 /// The SCI that a station sends under.
 pub fn sci(station: u8) -> Sci {
@@ -31,44 +38,30 @@ pub struct Hand<'a> {
 }
 
 impl<'a> Hand<'a> {
-    /// A worker of a station, with a seat at a table and so many jobs.
-    pub fn of(
-        alloc: Global,
-        station: u8,
-        table: &'a SlotTable,
-        seat: WorkerSeat,
-        jobs: u32,
-    ) -> Result<Hand<'a>, Fail>
-        requires { seat.table ≡ table.now }
+    /// A worker with a seat at this table.
+    pub fn of(table: &'a SlotTable, worker: Worker) -> Hand<'a>
+        requires { worker.seat.table ≡ table.now }
     {
-        match Worker::new(alloc, sender(alloc, station)?, seat, jobs) {
-            Ok(worker) => Ok(Hand { table, worker }),
-            Err((_, err)) => Err(Fail::from(err)),
-        }
+        Hand { table, worker }
+    }
+
+    /// Does every job, with a gate.
+    pub fn work<G: Gate>(&mut self, gate: &G) {
+        work(self.table, &mut self.worker, gate);
+    }
+
+    /// What came of its jobs.
+    pub fn finish(self) -> Log {
+        let (_, log) = self.worker.finish();
+        log
     }
 
     /// What comes of every job, with a gate.
     pub fn log<G: Gate>(self, gate: &G) -> Log {
-        let Hand { table, mut worker } = self;
-        work(table, &mut worker, gate);
-        let (_, log) = worker.finish();
-        log
+        let mut hand = self;
+        hand.work(gate);
+        hand.finish()
     }
-}
-
-/// What a station sends.
-fn sender(alloc: Global, station: u8) -> Result<Sender, AllocError>
-    ensures { IfOk result (λ s. IsUserData s.user.body) }
-{
-    let user = UserFrame {
-        destination: Mac([0xff; 6]),
-        body: Octets::from_slice(alloc, &[0x88, 0xb5, 0, 1])?,
-    };
-    Ok(Sender {
-        station,
-        sci: sci(station),
-        user,
-    })
 }
 
 /// A table, and the control of it.
@@ -81,12 +74,9 @@ pub struct Desk<'a> {
 
 impl<'a> Desk<'a> {
     /// A worker of a station, with so many jobs. Eight seats may be out.
-    pub fn hire(&mut self, alloc: Global, station: u8, jobs: u32) -> Result<Hand<'a>, Fail> {
-        if !self.control.has_room() {
-            return Err(Fail::from("a seat"));
-        }
-        let seat = self.control.seat(self.table);
-        Hand::of(alloc, station, self.table, seat, jobs)
+    pub fn hire(&mut self, rt: &impl Abort, alloc: Global, station: u8, jobs: u32) -> Hand<'a> {
+        let worker = hired(rt, alloc, station, self.table, &mut self.control, jobs);
+        Hand::of(self.table, worker)
     }
 
     /// Nothing is present from now on.
@@ -95,21 +85,57 @@ impl<'a> Desk<'a> {
     }
 }
 
-/// A table at which nothing is present, and the control of it.
-pub fn empty(alloc: Global) -> Result<(SlotTable, Control), AllocError>
-    ensures { IfOk result (λ t. t.1.table ≡ t.0) }
+/// A table whose first card's epoch is current under AN 1, with room for so many cards and this
+/// first number.
+pub fn opened(rt: &impl Abort, alloc: Global, cards: u16, first: u32) -> (SlotTable, Control)
+    requires { (1 ≤ cards) × (cards ≤ 4096) × (1 ≤ first) }
+    ensures here { result.1.table ≡ result.0 }
+    ensures four { length result.1.view.slots ≡ 4 }
+    ensures first { IsOpen result.1.view An1 1 }
+    ensures second { (slot result.1.view An2).shut ≡ true }
+    ensures only { (cards_given result.1.view ≡ 1) × (top result.1.view.raises ≡ 1)
+        × ((current result.1.view).epoch ≡ 1) }
 {
-    SlotTable::new(alloc, 1, 1)
+    let (table, mut control) = SlotTable::new(alloc, cards, first).expect(rt, "a table");
+    let epoch = control.card(&table, &CARD).ok().expect(rt, "a card");
+    control.raise(&table, AssociationNumber::An1, epoch);
+    control.point(&table, AssociationNumber::An1, epoch);
+    (table, control)
 }
 
-/// A table whose first card's epoch is current under AN 0.
-pub fn opened(alloc: Global) -> Result<(SlotTable, Control), AllocError>
-    ensures { IfOk result (λ t. t.1.table ≡ t.0) }
+/// A station's sender of one user's frame.
+fn sender(rt: &impl Abort, alloc: Global, station: u8) -> Sender
+    ensures station { result.station ≡ station }
+    ensures user { IsUserData result.user.body }
 {
-    let (table, mut control) = SlotTable::new(alloc, 1, 1)?;
-    if let Ok(epoch) = control.card(&table, &CARD) {
-        control.raise(&table, AssociationNumber::An0, epoch);
-        control.point(&table, AssociationNumber::An0, epoch);
+    let user = UserFrame {
+        destination: Mac([0xff; 6]),
+        body: Octets::from_slice(alloc, &BODY).expect(rt, "memory"),
+    };
+    Sender {
+        station,
+        sci: sci(station),
+        user,
     }
-    Ok((table, control))
+}
+
+/// A worker of a station, with so many jobs. Eight seats may be out.
+pub fn hired(
+    rt: &impl Abort,
+    alloc: Global,
+    station: u8,
+    table: &SlotTable,
+    control: &mut Control,
+    jobs: u32,
+) -> Worker
+    requires { control.old.table ≡ table.now }
+    ensures control { control.new ≡ record control.old { view = seated control.old.view } }
+    ensures station { result.sender.station ≡ station }
+    ensures seat { result.seat.table ≡ table.now }
+{
+    let sender = sender(rt, alloc, station);
+    assert!(rt; control.has_room());
+    let seat = control.seat(table);
+    let worker = Worker::new(alloc, sender, seat, jobs);
+    worker.ok().expect(rt, "memory")
 }

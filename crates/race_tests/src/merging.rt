@@ -5,13 +5,12 @@ use Mark::{Claims, Delivers, Restarts, Ticks};
 use data_workers::Log;
 use lan_core::Event;
 use race_merge::{Step, merge};
-use std::alloc::{AllocError, Global};
+use std::alloc::Global;
 use std::process::Abort;
-use std::test::Fail;
 
 /// An event of a race.
 #[derive(Clone, Copy, Debug, PartialEq, Eq)]
-pub enum Mark {
+enum Mark {
     /// The station, and the number that it shows.
     Ticks(u8, u64),
     /// The frame, and the station.
@@ -46,10 +45,10 @@ fn event_of(mark: Mark) -> Event {
 
 /// A step of control: its event, and the epochs that transmit before and after it.
 #[derive(Clone, Copy)]
-pub struct Moves(Mark, Option<u32>, Option<u32>);
+struct Moves(Mark, Option<u32>, Option<u32>);
 
 /// What control does: A begins epoch 1 and then epoch 2, B begins epoch 1 and loses it.
-pub const CONTROL: [Moves; 9] = [
+const CONTROL: [Moves; 9] = [
     Moves(Ticks(A, 0), None, Some(1)),
     Moves(Ticks(B, 0), None, None),
     Moves(Ticks(B, 0), None, Some(1)),
@@ -62,7 +61,7 @@ pub const CONTROL: [Moves; 9] = [
 ];
 
 /// The list of the whole race.
-pub const WHOLE: [Mark; 23] = [
+const WHOLE: [Mark; 23] = [
     // Refusals from before A's first key, before the step that begins it; log before log.
     Claims(A, 4, 0),
     Claims(A, 4, 0),
@@ -116,40 +115,32 @@ const CUT: [Mark; 17] = [
 ];
 
 /// The steps of control.
-pub fn steps_of(alloc: Global, moves: &[Moves]) -> Result<Vec<Step>, AllocError> {
+fn steps_of(rt: &impl Abort, alloc: Global, moves: &[Moves]) -> Vec<Step> {
     let mut steps = Vec::new(alloc);
     for Moves(mark, before, after) in moves {
-        steps.push(Step {
+        let step = Step {
             event: event_of(*mark),
             before: *before,
             after: *after,
-        })?;
+        };
+        steps.push(step).expect(rt, "memory");
     }
-    Ok(steps)
+    steps
 }
 
 /// The events of these logs and these steps are, in their order, those of the marks.
-fn merges(
-    rt: &impl Abort,
-    alloc: Global,
-    moves: &[Moves],
-    logs: &[Log],
-    marks: &[Mark],
-) -> Result<(), Fail> {
-    let steps = steps_of(alloc, moves)?;
-    let events = merge(alloc, steps.as_slice(), logs)?;
+fn merges(rt: &impl Abort, alloc: Global, moves: &[Moves], logs: &[Log], marks: &[Mark]) {
+    let steps = steps_of(rt, alloc, moves);
+    let events = merge(alloc, steps.as_slice(), logs).expect(rt, "memory");
     assert_eq!(rt; events.len(), marks.len());
-    let mut marks = marks.iter();
-    for event in &events {
-        assert_eq!(rt; Some(&mark_of(event)), marks.next());
+    for (event, mark) in events.iter().zip(marks) {
+        assert_eq!(rt; mark_of(event), *mark);
     }
-    Ok(())
 }
 
 #[test]
-fn merges_the_claims_of_a_race(rt: HostRuntime) -> Result<(), Fail> {
-    let logs = logs_of_both(rt.alloc())?;
-    merges(&rt, rt.alloc(), &CONTROL, logs.as_slice(), &WHOLE)?;
-    merges(&rt, rt.alloc(), &CONTROL[..3], logs.as_slice(), &CUT)?;
-    Ok(())
+fn merges_the_claims_of_a_race(rt: HostRuntime) {
+    let logs = logs_of_both(&rt, rt.alloc());
+    merges(&rt, rt.alloc(), &CONTROL, &logs, &WHOLE);
+    merges(&rt, rt.alloc(), &CONTROL[..3], &logs, &CUT);
 }

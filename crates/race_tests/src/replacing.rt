@@ -5,14 +5,17 @@ ghost use Rattle.association_slots.specs.Cards.{cards_given};
 ghost use Rattle.association_slots.specs.Views.{current, slot, top};
 ghost use Rattle.lan_base.specs.declared.association_number.AssociationNumber.TheVariants.{An1, An2};
 
-use crate::desk::Hand;
+use crate::desk::{CARD, Hand, hired, opened, sci};
+use crate::frames::{RECEIVER, accepted};
 use aes_block::Secret;
 use association_slots::{Card, Control, SlotTable};
-use lan_base::AssociationNumber;
+use data_workers::Entry;
+use lan_base::{AssociationNumber, Protected};
 use packet_claims::{Gate, Point};
+use rx_slots::RxSlots;
 use std::alloc::Global;
 use std::cell::RefCell;
-use std::test::Fail;
+use std::process::Abort;
 
 /// The card that comes second.
 const NEXT: Card = Card {
@@ -35,12 +38,9 @@ pub struct Replacing<'a> {
 
 impl<'a> Replacing<'a> {
     /// A worker of a station, with so many jobs. Eight seats may be out.
-    pub fn hire(&mut self, alloc: Global, station: u8, jobs: u32) -> Result<Hand<'a>, Fail> {
-        if !self.control.has_room() {
-            return Err(Fail::from("a seat"));
-        }
-        let seat = self.control.seat(self.table);
-        Hand::of(alloc, station, self.table, seat, jobs)
+    pub fn hire(&mut self, rt: &impl Abort, alloc: Global, station: u8, jobs: u32) -> Hand<'a> {
+        let worker = hired(rt, alloc, station, self.table, &mut self.control, jobs);
+        Hand::of(self.table, worker)
     }
 
     /// Gives the second card, raises AN 2 with its epoch, points at it, and shuts AN 1.
@@ -79,5 +79,66 @@ impl Gate for ReplacingGate<'_> {
         {
             ready.replace();
         }
+    }
+}
+
+/// What a frame is protected under.
+#[derive(Clone, Copy, Debug, PartialEq, Eq)]
+struct Under {
+    an: AssociationNumber,
+    epoch: u32,
+    pn: u32,
+}
+
+impl Under {
+    /// What this frame is protected under.
+    fn of(frame: &Protected) -> Under {
+        Under {
+            an: frame.an,
+            epoch: frame.epoch,
+            pn: frame.pn,
+        }
+    }
+}
+
+/// The frames of three jobs, of which the first comes before the key is replaced.
+const FRAMES: [Under; 3] = [
+    Under {
+        an: AssociationNumber::An1,
+        epoch: 1,
+        pn: 1,
+    },
+    Under {
+        an: AssociationNumber::An2,
+        epoch: 2,
+        pn: 1,
+    },
+    Under {
+        an: AssociationNumber::An2,
+        epoch: 2,
+        pn: 2,
+    },
+];
+
+#[test]
+fn protects_under_the_key_that_a_claim_shows(rt: HostRuntime) {
+    let (table, control) = opened(&rt, rt.alloc(), 2, 1);
+    let mut replacing = Replacing {
+        table: &table,
+        control,
+    };
+    let hand = replacing.hire(&rt, rt.alloc(), 0, 3);
+    let log = hand.log(&ReplacingGate::of(replacing));
+    let mut slots = RxSlots::new(rt.alloc(), sci(RECEIVER), 1);
+    slots.install(AssociationNumber::An1, &CARD.sak);
+    slots.install(AssociationNumber::An2, &NEXT.sak);
+    assert_eq!(rt; log.len(), FRAMES.len());
+    for (entry, under) in log.as_slice().iter().zip(&FRAMES) {
+        let Entry::Taken(frame) = entry else {
+            assert!(rt; false);
+            continue;
+        };
+        assert_eq!(rt; Under::of(frame), *under);
+        assert_eq!(rt; accepted(&rt, &mut slots, frame), under.pn);
     }
 }
