@@ -4,10 +4,10 @@ use Rattle.std.specs.Prelude.{false}
 use Rattle.lan_core.specs.Run.{stations}
 use Rattle.lan_core.specs.Ledgers.{air, installs}
 use Rattle.lan_core.specs.Claims.{claimed, next}
+use Rattle.trace_acts.proofs.Public.{counted-draws}
 use Rattle.lan_schedule.specs.Races.{Chance}
 use Rattle.lan_schedule.specs.World.{beginning, settings}
 use Rattle.lan_schedule.specs.Sound.{IsTidy}
-use Rattle.lan_schedule.proofs.Drawing.{counted-draws}
 use Rattle.lan_schedule.proofs.LinesCome.{sound-empty}
 
 pub tidy-beginning : (chances : List Chance) → IsTidy (beginning chances)

@@ -16,11 +16,11 @@ use Rattle.lan_core.specs.Ledgers.{Frame, air, framed, gather, with_one, frame_a
 use Rattle.lan_core.specs.Claims.{next}
 use Rattle.lan_core.specs.Stops.{IsNextShown}
 use Rattle.lan_core.specs.Lives.{transmitting_at}
+use Rattle.trace_acts.specs.declared.halt.Halt.{Halt}
+use Rattle.trace_acts.specs.Names.{is_in, names_of}
+use Rattle.trace_acts.specs.Settings.{lag_of}
 use Rattle.lan_schedule.specs.declared.frames.Put.{Put}
-use Rattle.lan_schedule.specs.declared.halt.Halt.{Halt}
-use Rattle.lan_schedule.specs.World.{World, count, settings, sender, mark, marked_at, is_in}
-use Rattle.lan_schedule.specs.World.{names_of}
-use Rattle.lan_schedule.specs.Settings.{lag_of}
+use Rattle.lan_schedule.specs.World.{World, count, settings, sender, mark, marked_at}
 use Rattle.lan_core.specs.Unstopped.{next_under}
 use Rattle.lan_schedule.specs.Races.{Worker, Claimed, claims_in, woven_in, number_in}
 use Rattle.lan_schedule.specs.Numbers.{stands}

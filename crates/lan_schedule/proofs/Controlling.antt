@@ -4,10 +4,11 @@ use Rattle.std.proofs.Common.{true, false, None, Some, refl, sym, ap, ◌∙◌,
 use Rattle.std.proofs.Common.{inl, add-one}
 use Rattle.std.specs.Prelude.{Option, option_map, Result, Ok, Err}
 use Rattle.std.specs.Result.{IsErrAnd}
-use Rattle.lan_schedule.specs.declared.halt.Halt.{Halt}
-use Rattle.lan_schedule.specs.declared.halt.Halt.TheVariants as halts
-use Rattle.lan_schedule.specs.declared.halt.Kind.{Kind}
-use Rattle.lan_schedule.specs.declared.recorder.Broken.{Broken}
+use Rattle.trace_acts.specs.declared.halt.Halt.{Halt}
+use Rattle.trace_acts.specs.declared.halt.Halt.TheVariants as halts
+use Rattle.trace_acts.specs.declared.halt.Kind.{Kind}
+use Rattle.trace_acts.specs.declared.broken.Broken.{Broken}
+use Rattle.trace_acts.specs.Places.{is_elsewhere, is_race}
 use Rattle.lan_schedule.specs.declared.stage.Stage.{Stage}
 use Rattle.trace_text.specs.declared.line.Line.{Line}
 use Rattle.lan_schedule.specs.Races.{Numbered, Chance, behind_numbers}
@@ -15,7 +16,6 @@ use Rattle.lan_schedule.specs.World.{World, Flow}
 use Rattle.lan_schedule.specs.Acts.{Act, Stops, each, look, perform}
 use Rattle.lan_schedule.specs.Kinds.{is_control, wrong_frame}
 use Rattle.trace_text.specs.declared.line.Line.TheVariants as lines
-use Rattle.lan_schedule.specs.Places.{is_elsewhere, is_race}
 use Rattle.lan_schedule.specs.Lines.{controlled, deed, unless_refused}
 use Rattle.lan_schedule.specs.Reports.{Report}
 use Rattle.lan_schedule.specs.Ends.{Moment, Ends}

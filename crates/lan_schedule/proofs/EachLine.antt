@@ -16,17 +16,20 @@ use Rattle.trace_text.specs.declared.line.Line.TheVariants as lines
 use Rattle.trace_text.specs.Reading.{line_in}
 use Rattle.trace_text.specs.Writing.{IsInForm}
 use Rattle.trace_text.proofs.Public.{read_fits}
-use Rattle.lan_schedule.specs.declared.choices.Choices.{Choices}
-use Rattle.lan_schedule.specs.declared.choices.Keyed.{Keyed}
-use Rattle.lan_schedule.specs.declared.halt.Kind.{Kind}
-use Rattle.lan_schedule.specs.Settings.{no_choice, secret_of, unkeyed, settings_of}
+use Rattle.trace_acts.specs.declared.choices.Choices.{Choices}
+use Rattle.trace_acts.specs.declared.choices.Keyed.{Keyed}
+use Rattle.trace_acts.specs.declared.halt.Kind.{Kind}
+use Rattle.trace_acts.specs.Settings.{no_choice, secret_of, unkeyed, settings_of}
+use Rattle.trace_acts.specs.Kinds.{may_list, first_of}
+use Rattle.trace_acts.specs.Choosing.{chosen_by}
+use Rattle.trace_acts.proofs.Public.{bytes-all}
 use Rattle.lan_schedule.specs.Races.{Burst, Numbered}
 use Rattle.lan_schedule.specs.Races.{Chance, Phase, Apart, Bursting, Controlling, Racing}
 use Rattle.lan_schedule.specs.World.{World, Kept, beginning, settings, place, mark, is_racing}
 use Rattle.lan_schedule.specs.Acts.{Act, Course, Goes, Stops, happen, change}
 use Rattle.lan_schedule.specs.Acts.{perform, and_then, world_of, course, times}
-use Rattle.lan_schedule.specs.Kinds.{may_list, refusal, refusal_read, first_of, may_stand, wrong_at}
-use Rattle.lan_schedule.specs.Lines.{deed, deed_at, deed_read, chosen_by, feed, send, unless_refused}
+use Rattle.lan_schedule.specs.Kinds.{refusal, refusal_read, may_stand, wrong_at}
+use Rattle.lan_schedule.specs.Lines.{deed, deed_at, deed_read, feed, send, unless_refused}
 use Rattle.lan_schedule.specs.Lines.{deed_controlling, excess_of}
 use Rattle.lan_schedule.specs.Lines.{behind_race, behind_while, close_at, performed_whole}
 use Rattle.lan_schedule.specs.Lines.{performed, performed_all, tick, round, spread, flow_round}
@@ -34,7 +37,6 @@ use Rattle.lan_schedule.specs.Lines.{cut_in, mended_in}
 use Rattle.lan_schedule.specs.Sound.{IsTidy, HasRunNone}
 use Rattle.lan_schedule.specs.inside.Comes.{Comes}
 use Rattle.lan_schedule.proofs.Bounded.{AreBounded, bounded-first}
-use Rattle.lan_schedule.proofs.Drawing.{bytes-all}
 use Rattle.lan_schedule.proofs.LinesCome.{IsRight, is-right, deed-comes, tidy-same, tidy-entered}
 use Rattle.lan_schedule.proofs.Beginning.{tidy-beginning}
 use Rattle.lan_schedule.proofs.RunNone.{HasNone, run-none, behind-bursting, behind-lines, behind-close}

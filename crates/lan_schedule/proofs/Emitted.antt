@@ -15,8 +15,9 @@ use Rattle.lan_core.specs.Expected.{Drawn, drawn_from, emit_facts, expected}
 use Rattle.lan_core.specs.Ledgers.{Frame, air, emitted, framed, with_one}
 use Rattle.lan_core.specs.Run.{Run, happened, stations}
 use Rattle.lan_core.specs.Stops.{first_stop}
-use Rattle.lan_schedule.specs.declared.halt.Halt.{Halt}
-use Rattle.lan_schedule.specs.World.{World, is_racing, names_of, settings}
+use Rattle.trace_acts.specs.declared.halt.Halt.{Halt}
+use Rattle.trace_acts.specs.Names.{names_of}
+use Rattle.lan_schedule.specs.World.{World, is_racing, settings}
 use Rattle.lan_schedule.specs.Answers.{answer, answered, facts_shown, supply}
 use Rattle.lan_schedule.specs.Acts.{Course, Goes, Stops, and_then, happen, perform, shown, span, times}
 use Rattle.lan_schedule.specs.Acts.{world_after, world_of}

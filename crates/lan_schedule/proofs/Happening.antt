@@ -33,18 +33,20 @@ use Rattle.lan_core.specs.Answers.{Answers, GoesOn}
 use Rattle.lan_core.specs.Batches.{IsChecked}
 use Rattle.rx_slots.specs.declared.arrival.Checked.{Checked}
 use Rattle.fact_tally.specs.Summary.{counts}
-use Rattle.lan_schedule.specs.declared.halt.Halt.{Halt}
-use Rattle.lan_schedule.specs.declared.halt.Halt.TheVariants as halts
-use Rattle.lan_schedule.specs.declared.recorder.Broken.{Broken}
+use Rattle.trace_acts.specs.declared.halt.Halt.{Halt}
+use Rattle.trace_acts.specs.declared.halt.Halt.TheVariants as halts
+use Rattle.trace_acts.specs.declared.broken.Broken.{Broken}
+use Rattle.trace_acts.specs.Names.{names_of}
+use Rattle.trace_acts.specs.Settings.{rule_of}
+use Rattle.trace_acts.specs.Supply.{draw_at, supply_nth}
+use Rattle.trace_acts.specs.Halts.{halt_of, halt_of_broken}
 use Rattle.lan_schedule.specs.declared.stage.Stage.{Stage}
-use Rattle.lan_schedule.specs.World.{World, names_of, settings, puts, Flow, is_racing}
-use Rattle.lan_schedule.specs.Settings.{rule_of}
-use Rattle.lan_schedule.specs.Supply.{draw_at, supply_nth}
-use Rattle.lan_schedule.specs.Answers.{supply, taken_by, halt_of, answered, answer}
+use Rattle.lan_schedule.specs.World.{World, settings, puts, Flow, is_racing}
+use Rattle.lan_schedule.specs.Answers.{supply, taken_by, answered, answer}
 use Rattle.lan_schedule.specs.Acts.{happen, perform, Goes, shown, world_after}
 use Rattle.lan_schedule.specs.Sound.{IsTidy}
 use Rattle.lan_schedule.specs.Reports.{Report, reports}
-use Rattle.lan_schedule.specs.Ends.{Moment, moment, IsReached, Ends, halt_of_broken}
+use Rattle.lan_schedule.specs.Ends.{Moment, moment, IsReached, Ends}
 use Rattle.lan_schedule.specs.Numbers.{shown_next, number_shown, decided}
 use Rattle.lan_schedule.specs.Lines.{tick}
 use Rattle.lan_schedule.specs.inside.Comes.{Comes, named}

@@ -31,7 +31,8 @@ use Rattle.worker_races.specs.Carded.{AreCarded}
 use Rattle.worker_races.specs.Going.{HaveJoined, WereSeated}
 use Rattle.worker_races.specs.Senders.{AreSenders, IsNew, jobs_of}
 use Rattle.worker_races.proofs.Public.{carded-kept, seated-kept}
-use Rattle.lan_schedule.specs.declared.halt.Halt.TheVariants as halts
+use Rattle.trace_acts.specs.declared.halt.Halt.TheVariants as halts
+use Rattle.trace_acts.specs.Supply.{supply_nth}
 use Rattle.lan_schedule.specs.declared.stage.Stage.{Stage}
 use Rattle.lan_schedule.specs.Races.{Burst, Excess, Worker, limit_of, worker_at, workers_of}
 use Rattle.lan_schedule.specs.World.{World, is_racing, settings}
@@ -40,7 +41,6 @@ use Rattle.lan_schedule.specs.Lines.{unless_exceeded}
 use Rattle.lan_schedule.specs.Ends.{IsReached}
 use Rattle.lan_schedule.specs.Sound.{IsTidy}
 use Rattle.lan_schedule.specs.Stages.{Says, StandsFor}
-use Rattle.lan_schedule.specs.Supply.{supply_nth}
 use Rattle.lan_schedule.specs.inside.Beside.{AreHired, BeginsRace, HasEnlisted, HasMoved, HaveRoom}
 use Rattle.lan_schedule.specs.inside.Beside.{HiredAll, WasHired}
 use Rattle.lan_schedule.specs.inside.Beside.{mark_of, worker_of}

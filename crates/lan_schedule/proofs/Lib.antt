@@ -30,11 +30,9 @@ mod Exceeding
 mod Doing
 mod Flowing
 mod Batching
-mod Placing
 mod Looking
 mod Coming
 mod Drawing
-mod Users
 mod Awaiting
 mod LinesCome
 mod Same

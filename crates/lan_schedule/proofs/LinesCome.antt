@@ -2,14 +2,12 @@
 use Rattle.std.proofs.Common.{◌≡◌, ◌<◌, ◌≤◌, ◌≢◌, ℕ, ◌+◌, ◌-◌, ◌==◌, Bool, true, false}
 use Rattle.std.proofs.Common.{List, [], ◌∷◌, ◌++◌, length, Option, Some, None, ◌⊎◌, inl, inr, refl}
 use Rattle.std.proofs.Common.{sym, ap, ◌∙◌, subst, length-append, arith}
-use Rattle.std.specs.Prelude.{cond, map, not, ◌&&◌, ◌||◌, nat_le, nat_lt, nat_eq, is_some, All}
+use Rattle.std.specs.Prelude.{cond, map, not, ◌&&◌, nat_le, nat_lt, nat_eq, is_some}
 use Rattle.std.specs.List.{find}
 use Rattle.std.specs.Option.{is_none}
 use Rattle.std.specs.Cmp.Lexicographic.{pointwise}
 use Rattle.std.proofs.lemmas.List.{length-map}
-use Rattle.std.proofs.lemmas.List.Elements.{All-cons}
 use Rattle.lan_base.specs.declared.frame.UserFrame.{UserFrame}
-use Rattle.lan_base.specs.declared.address.Sci.{Sci}
 use Rattle.sak_exchange.specs.declared.held_key.Key.{Key}
 use Rattle.lan_core.specs.declared.event.Event.TheVariants as events
 use Rattle.lan_core.specs.declared.settings.Settings.{Settings}
@@ -23,50 +21,39 @@ use Rattle.lan_core.specs.Stops.{IsDemanded}
 use Rattle.lan_core.specs.Types.{IsUserFrame}
 use Rattle.lan_core.specs.Unstopped.{AreDraws}
 use Rattle.lan_core.proofs.Public.{legal-more}
-use Rattle.lan_schedule.specs.Supply.{draw_at}
-use Rattle.lan_schedule.specs.Settings.{rule_of}
-use Rattle.lan_schedule.proofs.Drawing.{chosen-draws}
+use Rattle.trace_acts.specs.Supply.{draw_at}
+use Rattle.trace_acts.specs.Settings.{rule_of}
+use Rattle.trace_acts.proofs.Public.{bytes-all, chosen-draws, new-station, not-false, or-none}
+use Rattle.trace_acts.proofs.Public.{place-there, unbegun-by, user-at-end, where-none}
+use Rattle.trace_acts.specs.declared.halt.Kind.{Kind}
+use Rattle.trace_acts.specs.declared.halt.Kind.TheVariants as kinds
+use Rattle.trace_acts.specs.Names.{names_of, scis_of, is_in}
+use Rattle.trace_acts.specs.Kinds.{where_, unknown, is_allowed, may_list}
+use Rattle.trace_acts.specs.Choosing.{chosen_by}
 use Rattle.trace_text.specs.declared.line.Line.{Line}
 use Rattle.trace_text.specs.declared.line.Line.TheVariants as lines
 use Rattle.trace_text.specs.Writing.{IsInForm}
 use Rattle.lan_schedule.specs.declared.frames.Put.{Put}
-use Rattle.lan_schedule.specs.declared.halt.Kind.{Kind}
-use Rattle.lan_schedule.specs.declared.halt.Kind.TheVariants as kinds
-use Rattle.lan_schedule.specs.World.{World, Kept, count, settings, names_of, scis_of, is_in, place}
+use Rattle.lan_schedule.specs.World.{World, Kept, count, settings, place}
 use Rattle.lan_schedule.specs.World.{is_racing}
 use Rattle.lan_schedule.specs.Races.{Phase, Bursting, number_in}
 use Rattle.lan_schedule.specs.Numbers.{in_range, stands, number_claimed}
 use Rattle.lan_core.specs.Unstopped.{next_under}
 use Rattle.lan_schedule.specs.Acts.{Act, happen, seq, unless, perform}
-use Rattle.lan_schedule.specs.Kinds.{or_else, where_, unknown, is_number, no_frame}
-use Rattle.lan_schedule.specs.Kinds.{is_allowed, may_list, wrong_word}
-use Rattle.lan_schedule.specs.Lines.{add_user, send, chosen_by, deed, unless_refused}
+use Rattle.lan_schedule.specs.Kinds.{is_number, no_frame}
+use Rattle.lan_schedule.specs.Kinds.{wrong_word}
+use Rattle.lan_schedule.specs.Lines.{add_user, send, deed, unless_refused}
 use Rattle.lan_schedule.specs.inside.Phased.{refusal_apart, act_apart}
 use Rattle.lan_schedule.specs.Sound.{IsTidy, numbers_of, IsSoundIn}
 use Rattle.lan_schedule.specs.inside.Comes.{Comes, HasRoom, named}
 use Rattle.lan_core.specs.Lives.{transmitting_at}
 use Rattle.lan_core.specs.Stops.{MayCome}
-use Rattle.lan_schedule.proofs.Drawing.{bytes-all}
 use Rattle.lan_schedule.proofs.Awaiting.{waits-then}
-use Rattle.lan_schedule.proofs.Users.{user-at-end}
-use Rattle.lan_schedule.proofs.Placing.{place-there}
 use Rattle.lan_schedule.proofs.Still.{stays}
 use Rattle.lan_schedule.proofs.Coming.{IsOnAir, is-going, one-at-least, comes-span, comes-ticks}
 use Rattle.lan_schedule.proofs.Coming.{comes-rounds, comes-spread, comes-flow, tidy-marked}
 
 -- ---- what a line is not refused for
-
-pub or-none : (a b : Option Kind) → or_else a b ≡ None → (a ≡ None) × (b ≡ None)
-or-none None b e = (refl, e)
-or-none (Some kind) b e = absurd (cc e)
-
-pub where-none : (test : Bool) (kind : Kind) → where_ test kind ≡ None → test ≡ false
-where-none true kind e = absurd (cc e)
-where-none false kind e = refl
-
-pub not-false : (b : Bool) → not b ≡ false → b ≡ true
-not-false true e = refl
-not-false false e = absurd (cc e)
 
 pub and-true : (a b : Bool) → (a && b) ≡ true → (a ≡ true) × (b ≡ true)
 and-true true b e = (refl, e)
@@ -186,10 +173,6 @@ tidy-unbegun w v tidy empty same frames races draws =
       dealt = rw races tidy.dealt;
     }
 
-pub unbegun-by : (a b : Bool) → (not a && b) ≡ true → a ≡ false
-unbegun-by true b e = absurd (cc e)
-unbegun-by false b e = refl
-
 chosen-comes : (line : Line) → IsInForm line → (b : Bool) (w : World) → IsTidy w
     → (not w.kept.begun && b) ≡ true
     → IsTidy (record w { kept = record w.kept { chosen = chosen_by line w.kept.chosen } })
@@ -216,37 +199,6 @@ tidy-same w kept tidy chosen users frames phase races begun raced = record {
   draws = rw chosen tidy.draws;
   dealt = rw races tidy.dealt;
 }
-
-or-false : (a b : Bool) → (a || b) ≡ false → (a ≡ false) × (b ≡ false)
-or-false true b e = absurd (cc e)
-or-false false b e = (refl, e)
-
-same-octets : (xs : List ℕ) → pointwise nat_eq xs xs ≡ true
-same-octets [] = refl
-same-octets (x ∷ xs) = let e : nat_eq x x ≡ true = grind arith in rw e (same-octets xs)
-
-other-name : (name other : List ℕ) → pointwise nat_eq name other ≡ false → other ≢ name
-other-name name other never e = let bad : true ≡ false = sym (same-octets name)
-    ∙ ap (λ (xs : List ℕ). pointwise nat_eq name xs) (sym e) ∙ never in cc bad
-
-other-sci : (sci : List ℕ) (other : Sci) → pointwise nat_eq sci other.0 ≡ false
-    → other ≢ (record { 0 = sci })
-other-sci sci other never e = let bad : true ≡ false = sym (same-octets sci)
-    ∙ ap (λ (s : Sci). pointwise nat_eq sci s.0) (sym e) ∙ never in cc bad
-
--- no station has a name or an SCI that is not taken
-pub new-station : (name sci : List ℕ) (ps : List Profile)
-    → is_in name (map (λ (p : Profile). p.name) ps) ≡ false
-    → is_in sci (map (λ (p : Profile). p.sci.0) ps) ≡ false
-    → All (λ (p : Profile). (p.name ≢ name) × (p.sci ≢ (record { 0 = sci }))) ps
-new-station name sci [] no_name no_sci = λ k d lt. absurd (omega arith)
-new-station name sci (p ∷ ps) no_name no_sci =
-    All-cons (λ (q : Profile). (q.name ≢ name) × (q.sci ≢ (record { 0 = sci }))) p ps (
-      other-name name p.name (or-false (pointwise nat_eq name p.name) _ no_name).0,
-      other-sci sci p.sci (or-false (pointwise nat_eq sci p.sci.0) _ no_sci).0,
-    )
-    (new-station name sci ps (or-false (pointwise nat_eq name p.name) _ no_name).1
-    (or-false (pointwise nat_eq sci p.sci.0) _ no_sci).1)
 
 -- the lines stand elsewhere, and are performed beside workers where they were
 pub tidy-entered : (w : World) (phase : Phase) → IsTidy w

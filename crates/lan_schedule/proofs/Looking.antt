@@ -6,18 +6,19 @@ use Rattle.std.proofs.lemmas.List.{length-map}
 use Rattle.lan_core.specs.Run.{Profile, stations}
 use Rattle.lan_core.specs.declared.event.Event.TheVariants as events
 use Rattle.worker_races.specs.Carded.{AreCarded}
-use Rattle.lan_schedule.specs.declared.halt.Halt.{Halt}
+use Rattle.trace_acts.specs.declared.halt.Halt.{Halt}
+use Rattle.trace_acts.specs.declared.links.Link.{Link}
+use Rattle.trace_acts.specs.declared.broken.Broken.{Broken}
+use Rattle.trace_acts.specs.Links.{is_cut}
+use Rattle.trace_acts.specs.Supply.{supply_nth}
 use Rattle.lan_schedule.specs.declared.frames.Put.{Put}
-use Rattle.lan_schedule.specs.declared.links.Link.{Link}
-use Rattle.lan_schedule.specs.declared.recorder.Broken.{Broken}
 use Rattle.lan_schedule.specs.declared.stage.Stage.{Stage}
-use Rattle.lan_schedule.specs.World.{World, Kept, count, settings, sender_at, mark, marked_at, is_cut}
+use Rattle.lan_schedule.specs.World.{World, Kept, count, settings, sender_at, mark, marked_at}
 use Rattle.lan_schedule.specs.World.{is_racing}
 use Rattle.lan_schedule.specs.Acts.{Act, nothing, happen, look, seq, change, span, each, unless}
 use Rattle.lan_schedule.specs.Lines.{pass, is_passed_by, to_others, spread, due, due_of}
 use Rattle.lan_schedule.specs.Lines.{begin_round}
 use Rattle.lan_core.specs.Standing.{StandsFor as GroupStandsFor}
-use Rattle.lan_schedule.specs.Supply.{supply_nth}
 use Rattle.lan_schedule.specs.inside.Staged.{Did, Changed}
 use Rattle.lan_schedule.specs.Sound.{IsTidy}
 use Rattle.lan_schedule.specs.Reports.{Report}

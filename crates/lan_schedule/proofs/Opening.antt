@@ -12,32 +12,34 @@ use Rattle.transmit_words.specs.Ties.{AreTied}
 use Rattle.trace_text.specs.declared.line.Line.{Line}
 use Rattle.trace_text.specs.declared.line.Line.TheVariants as lines
 use Rattle.trace_text.specs.Writing.{IsInForm}
-use Rattle.lan_schedule.specs.declared.choices.Choices.{Choices}
-use Rattle.lan_schedule.specs.declared.halt.Halt.{Halt}
-use Rattle.lan_schedule.specs.declared.halt.Halt.TheVariants as halts
-use Rattle.lan_schedule.specs.declared.halt.Kind.{Kind}
-use Rattle.lan_schedule.specs.declared.recorder.Broken.{Broken}
+use Rattle.trace_acts.specs.declared.choices.Choices.{Choices}
+use Rattle.trace_acts.specs.declared.halt.Halt.{Halt}
+use Rattle.trace_acts.specs.declared.halt.Halt.TheVariants as halts
+use Rattle.trace_acts.specs.declared.halt.Kind.{Kind}
+use Rattle.trace_acts.specs.declared.broken.Broken.{Broken}
+use Rattle.trace_acts.specs.Supply.{draw_at, supply_nth}
+use Rattle.trace_acts.specs.Settings.{settings_of, lag_of, rule_of}
+use Rattle.trace_acts.specs.Kinds.{first_of, is_allowed}
+use Rattle.trace_acts.specs.Choosing.{chosen_by}
+use Rattle.trace_acts.specs.Places.{is_elsewhere, is_race, IsStation}
+use Rattle.trace_acts.proofs.Public.{chosen-draws}
 use Rattle.lan_schedule.specs.declared.stage.Stage.{Stage}
 use Rattle.lan_schedule.specs.declared.commands.Replay.{Replay}
-use Rattle.lan_schedule.specs.Supply.{draw_at, supply_nth}
-use Rattle.lan_schedule.specs.Settings.{settings_of, lag_of, rule_of}
 use Rattle.lan_schedule.specs.Races.{Phase, Apart, Chance, behind_numbers}
 use Rattle.lan_schedule.specs.World.{World, Kept, nothing_kept, is_racing}
 use Rattle.lan_schedule.specs.Acts.{Act, look, perform, Stops}
-use Rattle.lan_schedule.specs.Kinds.{first_of, is_allowed, wrong_word, refusal}
-use Rattle.lan_schedule.specs.Lines.{choose, chosen_by, deed, deed_at, act_of, unless_refused}
+use Rattle.lan_schedule.specs.Kinds.{wrong_word, refusal}
+use Rattle.lan_schedule.specs.Lines.{choose, deed, deed_at, act_of, unless_refused}
 use Rattle.lan_schedule.specs.Sound.{IsTidy}
 use Rattle.lan_schedule.specs.Reports.{Report}
 use Rattle.lan_schedule.specs.Ends.{Moment, moment}
 use Rattle.lan_schedule.specs.Standing.{IsStaged, StandsFor, Does}
-use Rattle.lan_schedule.specs.Places.{is_elsewhere, is_race, IsStation}
 use Rattle.lan_schedule.specs.Stages.{StandsFor as StageStandsFor}
 use Rattle.lan_schedule.specs.inside.Staged.{Did, IsOpening}
 use Rattle.lan_schedule.proofs.LinesCome.{IsRight, deed-comes, tidy-same, tidy-unbegun}
 use Rattle.lan_schedule.proofs.Doing.{told-none}
 use Rattle.lan_schedule.proofs.Still.{still-deed}
 use Rattle.lan_schedule.proofs.Replaying.{same-act, stands-counts, unbegun-does, opened-does}
-use Rattle.lan_schedule.proofs.Drawing.{chosen-draws}
 
 -- what is kept when the group opens
 abbrev pub opened : List Chance → Choices → ℕ → Kept

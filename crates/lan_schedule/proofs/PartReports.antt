@@ -15,7 +15,7 @@ use Rattle.race_merge.specs.declared.step.Step.{Step}
 use Rattle.race_merge.specs.Table.{Controls}
 use Rattle.race_merge.proofs.Public.{starts-none}
 use Rattle.worker_races.specs.Performed.{ArePerformed, happenings}
-use Rattle.lan_schedule.specs.World.{names_of}
+use Rattle.trace_acts.specs.Names.{names_of}
 use Rattle.lan_schedule.specs.Reports.{Report, reports}
 use Rattle.lan_schedule.specs.inside.Weaves.{reports_with}
 

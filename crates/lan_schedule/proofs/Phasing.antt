@@ -8,35 +8,36 @@ use Rattle.std.specs.Cmp.Lexicographic.{pointwise}
 use Rattle.lan_base.specs.declared.address.Mac.{Mac}
 use Rattle.trace_text.specs.declared.line.Line.{Line}
 use Rattle.trace_text.specs.declared.line.Line.TheVariants as lines
-use Rattle.lan_schedule.specs.declared.halt.Halt.{Halt}
-use Rattle.lan_schedule.specs.declared.halt.Halt.TheVariants as halts
-use Rattle.lan_schedule.specs.declared.halt.Kind.{Kind}
-use Rattle.lan_schedule.specs.declared.halt.Kind.TheVariants as kinds
+use Rattle.trace_acts.specs.declared.halt.Halt.{Halt}
+use Rattle.trace_acts.specs.declared.halt.Halt.TheVariants as halts
+use Rattle.trace_acts.specs.declared.halt.Kind.{Kind}
+use Rattle.trace_acts.specs.declared.halt.Kind.TheVariants as kinds
+use Rattle.trace_acts.specs.declared.broken.Broken.{Broken}
+use Rattle.trace_acts.specs.Names.{names_of, is_in}
+use Rattle.trace_acts.specs.Kinds.{or_else, where_, first_of, unknown}
+use Rattle.trace_acts.specs.Places.{is_race}
+use Rattle.trace_acts.proofs.Public.{bytes-all, place-there}
 use Rattle.lan_schedule.specs.declared.phase.Phase.{Phase as Stood}
-use Rattle.lan_schedule.specs.declared.recorder.Broken.{Broken}
 use Rattle.lan_schedule.specs.declared.stage.Stage.{Stage}
 use Rattle.lan_schedule.specs.declared.commands.Replay.{Replay}
 use Rattle.lan_schedule.specs.Races.{Phase, Apart, Bursting, Controlling, Racing, Chance}
 use Rattle.lan_schedule.specs.Races.{Burst, Numbered, behind_numbers, workers_at}
-use Rattle.lan_schedule.specs.World.{World, settings, is_racing, place, names_of, is_in}
+use Rattle.lan_schedule.specs.World.{World, settings, is_racing, place}
 use Rattle.lan_schedule.specs.Acts.{Act, Goes, Stops, look, perform}
-use Rattle.lan_schedule.specs.Kinds.{or_else, where_, first_of, may_stand, wrong_at}
+use Rattle.lan_schedule.specs.Kinds.{may_stand, wrong_at}
 use Rattle.lan_schedule.specs.Kinds.{is_control, is_control_allowed, refusal, too_many}
-use Rattle.lan_schedule.specs.Kinds.{most_workers, is_burst_allowed, unknown, wrong_name}
+use Rattle.lan_schedule.specs.Kinds.{most_workers, is_burst_allowed, wrong_name}
 use Rattle.lan_schedule.specs.Lines.{act_of, deed, deed_at, deed_controlling, enter}
 use Rattle.lan_schedule.specs.Lines.{unless_refused, behind_while, behind_race, burst_of, kept_line}
 use Rattle.lan_schedule.specs.Reports.{Report}
 use Rattle.lan_schedule.specs.Ends.{Moment, IsReached, Ends}
 use Rattle.lan_schedule.specs.Standing.{phase_of, AreFit, IsBurst, IsControl, IsStaged, HasTally, StandsFor, Counts, Does}
 use Rattle.lan_schedule.specs.Stages.{Says, StandsFor as StageStandsFor}
-use Rattle.lan_schedule.specs.Places.{is_race}
 use Rattle.lan_schedule.specs.inside.Phased.{is_inside, is_taken, is_end, behind, MayBeKept, Takes}
 use Rattle.lan_schedule.specs.inside.Phased.{act_apart, is_controlling}
 use Rattle.lan_schedule.specs.inside.Beside.{race_in}
 use Rattle.lan_core.specs.Types.{IsUserFrame}
 use Rattle.trace_text.specs.Writing.{IsInForm}
-use Rattle.lan_schedule.proofs.Drawing.{bytes-all}
-use Rattle.lan_schedule.proofs.Placing.{place-there}
 use Rattle.lan_schedule.proofs.Doing.{told-none, ends-memory}
 use Rattle.lan_schedule.proofs.LinesCome.{tidy-entered}
 use Rattle.lan_schedule.proofs.Replaying.{stood-apart}

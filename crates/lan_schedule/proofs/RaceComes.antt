@@ -6,12 +6,15 @@ use Rattle.std.specs.List.{AllByRecursion}
 use Rattle.lan_core.proofs.Public.{legal-more}
 use Rattle.trace_text.specs.declared.line.Line.{Line}
 use Rattle.trace_text.specs.declared.line.Line.TheVariants as lines
-use Rattle.lan_schedule.specs.declared.halt.Kind.{Kind}
-use Rattle.lan_schedule.specs.declared.halt.Kind.TheVariants as kinds
+use Rattle.trace_acts.specs.declared.halt.Kind.{Kind}
+use Rattle.trace_acts.specs.declared.halt.Kind.TheVariants as kinds
+use Rattle.trace_acts.specs.Names.{is_in, names_of}
+use Rattle.trace_acts.specs.Kinds.{or_else, unknown, where_}
+use Rattle.trace_acts.proofs.Public.{not-false, or-none, where-none}
 use Rattle.lan_schedule.specs.Races.{Burst, Excess, Numbered, Worker, workers_of}
-use Rattle.lan_schedule.specs.World.{World, is_in, names_of, place, settings}
+use Rattle.lan_schedule.specs.World.{World, place, settings}
 use Rattle.lan_schedule.specs.Acts.{begun_race, race}
-use Rattle.lan_schedule.specs.Kinds.{is_control, or_else, unknown, where_, wrong_frame, wrong_name}
+use Rattle.lan_schedule.specs.Kinds.{is_control, wrong_frame, wrong_name}
 use Rattle.lan_schedule.specs.Lines.{control_act, controlled, deed, excess_of, run_race}
 use Rattle.lan_schedule.specs.Lines.{at_line, unless_exceeded}
 use Rattle.lan_schedule.specs.Sound.{IsTidy}
@@ -20,8 +23,7 @@ use Rattle.lan_schedule.specs.inside.Comes.{Comes}
 use Rattle.lan_schedule.specs.inside.Choosing.{MayControl}
 use Rattle.lan_schedule.proofs.Coming.{AllHave, IsLater, comes-each, comes-flow, comes-rounds}
 use Rattle.lan_schedule.proofs.Coming.{comes-spread, comes-ticks, tidy-marked}
-use Rattle.lan_schedule.proofs.LinesCome.{known, not-false, on-air, or-none, refused-comes, tidy-same}
-use Rattle.lan_schedule.proofs.LinesCome.{where-none}
+use Rattle.lan_schedule.proofs.LinesCome.{known, on-air, refused-comes, tidy-same}
 use Rattle.lan_schedule.proofs.Steady.{control-steady}
 
 -- ---- names stay

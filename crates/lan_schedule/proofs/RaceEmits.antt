@@ -24,14 +24,15 @@ use Rattle.transmit_words.specs.Ties.{HaveCaughtUp}
 use Rattle.worker_races.specs.Beside.{Race, WereBeside, attempts_in, logs_in}
 use Rattle.worker_races.specs.Carded.{AreCarded}
 use Rattle.worker_races.specs.Performed.{happenings, run_after}
-use Rattle.lan_schedule.specs.declared.halt.Halt.{Halt}
-use Rattle.lan_schedule.specs.declared.halt.Halt.TheVariants as halts
+use Rattle.trace_acts.specs.declared.halt.Halt.{Halt}
+use Rattle.trace_acts.specs.declared.halt.Halt.TheVariants as halts
+use Rattle.trace_acts.specs.Settings.{settings_of}
+use Rattle.trace_acts.specs.Names.{names_of}
 use Rattle.lan_schedule.specs.declared.race.Ran.{Ran}
 use Rattle.lan_schedule.specs.declared.stage.Stage.{Stage}
 use Rattle.lan_schedule.specs.Races.{Chance, Numbered, Woven, Worker, behind_numbers}
 use Rattle.lan_schedule.specs.Races.{claims_in, count_numbered, woven_in}
-use Rattle.lan_schedule.specs.Settings.{settings_of}
-use Rattle.lan_schedule.specs.World.{World, is_racing, names_of, settings}
+use Rattle.lan_schedule.specs.World.{World, is_racing, settings}
 use Rattle.lan_schedule.specs.Acts.{Course, Goes, Stops, after_race, begun_race, beside, emitting}
 use Rattle.lan_schedule.specs.Acts.{emitting_all, ends_with, happen, is_stop, perform, race as race_act}
 use Rattle.lan_schedule.specs.Acts.{times, world_of}

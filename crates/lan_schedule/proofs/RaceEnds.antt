@@ -12,13 +12,14 @@ use Rattle.lan_core.proofs.Public.{stands-more}
 use Rattle.fact_tally.specs.Summary.{counts}
 use Rattle.race_merge.specs.Taking.{frames_of}
 use Rattle.worker_races.specs.Beside.{Race, WereBeside}
-use Rattle.lan_schedule.specs.declared.halt.Halt.{Halt}
-use Rattle.lan_schedule.specs.declared.halt.Halt.TheVariants as halts
+use Rattle.trace_acts.specs.declared.halt.Halt.{Halt}
+use Rattle.trace_acts.specs.declared.halt.Halt.TheVariants as halts
+use Rattle.trace_acts.specs.Names.{names_of}
 use Rattle.lan_schedule.specs.declared.race.Ran.{Ran}
 use Rattle.lan_schedule.specs.declared.stage.Stage.{Stage}
 use Rattle.lan_schedule.specs.Races.{Chance, Numbered, Woven, Worker, behind_numbers}
 use Rattle.lan_schedule.specs.Races.{behind_woven, woven_in}
-use Rattle.lan_schedule.specs.World.{World, names_of, settings}
+use Rattle.lan_schedule.specs.World.{World, settings}
 use Rattle.lan_schedule.specs.Acts.{Course, Goes, Stops, after_race, begun_race, beside}
 use Rattle.lan_schedule.specs.Acts.{emitting_all, ends_with, is_stop, perform, race as race_act}
 use Rattle.lan_schedule.specs.Acts.{world_of}

@@ -24,11 +24,11 @@ use Rattle.mka_station.specs.Views.{view}
 use Rattle.mka_station.specs.Restart.{ending}
 use Rattle.trace_text.specs.declared.line.Line.{Line}
 use Rattle.trace_text.specs.declared.line.Line.TheVariants as lines
-use Rattle.lan_schedule.specs.declared.halt.Halt.{Halt}
-use Rattle.lan_schedule.specs.declared.halt.Halt.TheVariants as halts
-use Rattle.lan_schedule.specs.declared.halt.Kind.TheVariants as kinds
-use Rattle.lan_schedule.specs.declared.choices.Rule.TheVariants.{Listed}
-use Rattle.lan_schedule.specs.Settings.{no_choice}
+use Rattle.trace_acts.specs.declared.halt.Halt.{Halt}
+use Rattle.trace_acts.specs.declared.halt.Halt.TheVariants as halts
+use Rattle.trace_acts.specs.declared.halt.Kind.TheVariants as kinds
+use Rattle.trace_acts.specs.declared.choices.Rule.TheVariants.{Listed}
+use Rattle.trace_acts.specs.Settings.{no_choice}
 use Rattle.lan_core.specs.declared.fact.Lack.TheVariants.{NoKey}
 use Rattle.lan_core.specs.declared.stop.Which.TheVariants as which
 use Rattle.lan_schedule.specs.Races.{Phase, Apart, Bursting, Controlling, Chance, Shown, Woven}

@@ -8,10 +8,10 @@ use Rattle.transmit_words.specs.Ties.{AreTied, HaveCaughtUp, HaveKeptUp}
 use Rattle.worker_races.specs.Beside.{Race, WereBeside}
 use Rattle.worker_races.specs.Going.{HaveGone}
 use Rattle.worker_races.specs.Performed.{ArePerformed, run_after}
+use Rattle.trace_acts.specs.Settings.{settings_of}
 use Rattle.lan_schedule.specs.declared.race.Ran.{Ran}
 use Rattle.lan_schedule.specs.declared.stage.Stage.{Stage}
 use Rattle.lan_schedule.specs.Races.{Chance, Numbered, Worker}
-use Rattle.lan_schedule.specs.Settings.{settings_of}
 use Rattle.lan_schedule.specs.World.{World, is_racing, settings}
 use Rattle.lan_schedule.specs.Acts.{begun_race}
 use Rattle.lan_schedule.specs.Stages.{Says}

@@ -8,10 +8,10 @@ use Rattle.atomic_table.specs.Seated.{TableId}
 use Rattle.association_slots.specs.Views.{ControlAt}
 use Rattle.data_workers.specs.Workers.{AreDone, HasTable, WorkerAt}
 use Rattle.transmit_words.specs.Ties.{tables_of}
-use Rattle.lan_schedule.specs.declared.halt.Halt.{Halt}
+use Rattle.trace_acts.specs.declared.halt.Halt.{Halt}
+use Rattle.trace_acts.specs.declared.broken.Broken.{Broken}
 use Rattle.lan_schedule.specs.declared.race.Before.{Before}
 use Rattle.lan_schedule.specs.declared.race.Ran.{Ran}
-use Rattle.lan_schedule.specs.declared.recorder.Broken.{Broken}
 use Rattle.lan_schedule.specs.declared.stage.Stage.{Stage}
 use Rattle.lan_schedule.specs.Races.{Burst, Chance, Excess, Numbered, behind_numbers, workers_of}
 use Rattle.lan_schedule.specs.World.{World}

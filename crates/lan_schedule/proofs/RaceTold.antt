@@ -8,18 +8,19 @@ use Rattle.std.proofs.lemmas.List.{map-append}
 use Rattle.lan_core.specs.declared.fact.Fact.{Fact}
 use Rattle.lan_core.specs.Run.{facts_of}
 use Rattle.fact_tally.specs.Summary.{counts}
-use Rattle.lan_schedule.specs.declared.halt.Halt.{Halt}
-use Rattle.lan_schedule.specs.declared.halt.Halt.TheVariants as halts
+use Rattle.trace_acts.specs.declared.halt.Halt.{Halt}
+use Rattle.trace_acts.specs.declared.halt.Halt.TheVariants as halts
+use Rattle.trace_acts.specs.declared.broken.Broken.{Broken}
+use Rattle.trace_acts.specs.Halts.{halt_of_broken}
 use Rattle.lan_schedule.specs.declared.race.Before.{Before}
 use Rattle.lan_schedule.specs.declared.race.Ran.{Ran}
-use Rattle.lan_schedule.specs.declared.recorder.Broken.{Broken}
 use Rattle.lan_schedule.specs.declared.stage.Stage.{Stage}
 use Rattle.lan_schedule.specs.Races.{Chance}
 use Rattle.lan_schedule.specs.World.{World, is_racing}
 use Rattle.lan_schedule.specs.Acts.{Course, perform, race}
 use Rattle.lan_schedule.specs.Lines.{control_act}
 use Rattle.lan_schedule.specs.Reports.{AreTold, Report, reports}
-use Rattle.lan_schedule.specs.Ends.{Begins, Ends, Moment, halt_of_broken, moment, reported}
+use Rattle.lan_schedule.specs.Ends.{Begins, Ends, Moment, moment, reported}
 use Rattle.lan_schedule.specs.Stages.{Counts, StandsFor}
 use Rattle.lan_schedule.specs.inside.Beside.{EndsRace, IsLeft, Leaves, Weaves}
 use Rattle.lan_schedule.specs.inside.Weaves.{WereToldUpTo, reports_with}

@@ -27,12 +27,13 @@ use Rattle.worker_races.specs.Beside.{Race, attempts_in}
 use Rattle.worker_races.specs.Carded.{AreCarded}
 use Rattle.worker_races.specs.Performed.{happenings}
 use Rattle.worker_races.specs.Senders.{IsNew}
+use Rattle.trace_acts.specs.Supply.{supply_nth}
+use Rattle.trace_acts.specs.Names.{names_of}
 use Rattle.lan_schedule.specs.declared.race.Ran.{Ran}
 use Rattle.lan_schedule.specs.declared.stage.Stage.{Stage}
 use Rattle.lan_schedule.specs.Races.{Chance, Claimed, IsDealt, Numbered, Worker}
 use Rattle.lan_schedule.specs.Races.{claims_in, count_numbered, woven_in}
-use Rattle.lan_schedule.specs.Supply.{supply_nth}
-use Rattle.lan_schedule.specs.World.{World, air_octets, names_of, settings}
+use Rattle.lan_schedule.specs.World.{World, air_octets, settings}
 use Rattle.lan_schedule.specs.Acts.{after_race, begun_race, station_of}
 use Rattle.lan_schedule.specs.Reports.{reports}
 use Rattle.lan_schedule.specs.Sound.{IsTidy, numbers_of}

@@ -7,9 +7,10 @@ use Rattle.lan_core.specs.declared.event.Event.TheVariants as events
 use Rattle.lan_core.specs.declared.fact.Fact.{Fact}
 use Rattle.lan_core.specs.declared.settings.Settings.{Settings}
 use Rattle.lan_core.specs.Run.{Run, Happening, happened}
-use Rattle.lan_schedule.specs.declared.halt.Halt.{Halt}
+use Rattle.trace_acts.specs.declared.halt.Halt.{Halt}
+use Rattle.trace_acts.specs.Names.{names_of}
 use Rattle.lan_schedule.specs.Races.{Worker, Claimed, claims_in}
-use Rattle.lan_schedule.specs.World.{World, settings, names_of}
+use Rattle.lan_schedule.specs.World.{World, settings}
 use Rattle.lan_schedule.specs.Answers.{answer}
 use Rattle.lan_schedule.specs.Acts.{Course, Goes, Stops, shown, and_then, with_claims, woven, claim_of}
 use Rattle.lan_schedule.specs.Acts.{emitting, emitting_all, beside, after_race, since, is_stop}

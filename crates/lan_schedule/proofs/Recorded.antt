@@ -23,9 +23,10 @@ use Rattle.race_merge.specs.Raced.{epoch_of as epoch_in}
 use Rattle.race_merge.specs.Table.{Controls}
 use Rattle.worker_races.specs.Going.{HaveGone, WereTold}
 use Rattle.worker_races.specs.Performed.{ArePerformed, IsPerformed, run_after}
-use Rattle.lan_schedule.specs.declared.halt.Halt.{Halt}
+use Rattle.trace_acts.specs.declared.halt.Halt.{Halt}
+use Rattle.trace_acts.specs.Names.{names_of}
 use Rattle.lan_schedule.specs.declared.stage.Stage.{Stage}
-use Rattle.lan_schedule.specs.World.{World, is_racing, names_of}
+use Rattle.lan_schedule.specs.World.{World, is_racing}
 use Rattle.lan_schedule.specs.Acts.{is_stop}
 use Rattle.lan_schedule.specs.Stages.{StandsFor, Counts}
 use Rattle.lan_schedule.specs.inside.Recording.{Mark, IsRecorded, HasRecorded, HasLooked, StandsSince}

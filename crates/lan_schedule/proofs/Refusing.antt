@@ -1,42 +1,21 @@
 -- Which lines a group at work refuses.
-use Rattle.std.proofs.Common.{◌≡◌, ℕ, Bool, true, false, List, length, Some, refl}
+use Rattle.std.proofs.Common.{◌≡◌, ℕ, Bool, true, false, List, length, Some}
 use Rattle.std.proofs.Common.{sym, ap, ◌∙◌}
-use Rattle.std.specs.Prelude.{map, not, is_some}
-use Rattle.std.proofs.lemmas.Simd.{map-map}
+use Rattle.std.specs.Prelude.{map, not}
 use Rattle.lan_base.specs.declared.address.Sci.{Sci}
-use Rattle.lan_core.specs.Run.{Profile, stations}
+use Rattle.lan_core.specs.Run.{stations}
 use Rattle.trace_text.specs.declared.line.Line.{Line}
 use Rattle.trace_text.specs.declared.line.Line.TheVariants as lines
-use Rattle.lan_schedule.specs.declared.choices.Choices.{Choices}
-use Rattle.lan_schedule.specs.declared.halt.Kind.TheVariants as kinds
+use Rattle.trace_acts.specs.declared.halt.Kind.TheVariants as kinds
+use Rattle.trace_acts.specs.Names.{names_of, scis_of}
+use Rattle.trace_acts.specs.Kinds.{first_of, is_allowed}
+use Rattle.trace_acts.specs.Places.{is_elsewhere}
+use Rattle.trace_acts.proofs.Public.{allowed-then, map-map-scis}
 use Rattle.lan_schedule.specs.declared.stage.Stage.{Stage}
-use Rattle.lan_schedule.specs.World.{World, names_of, scis_of, Flow}
-use Rattle.lan_schedule.specs.Kinds.{first_of, is_allowed, wrong_word}
-use Rattle.lan_schedule.specs.Places.{is_elsewhere}
+use Rattle.lan_schedule.specs.World.{World, Flow}
+use Rattle.lan_schedule.specs.Kinds.{wrong_word}
 use Rattle.lan_schedule.specs.inside.Phased.{refusal_apart}
 use Rattle.lan_schedule.specs.Stages.{StandsFor}
-
-pub allowed-then : (line : Line) (chosen : Choices) → is_some chosen.group ≡ true
-    → is_allowed line true chosen ≡ not (is_elsewhere line)
-allowed-then lines.DrawsCount chosen keyed = refl
-allowed-then (lines.DrawsChaCha key) chosen keyed = refl
-allowed-then (lines.DrawsList values) chosen keyed = refl
-allowed-then (lines.Conf conf) chosen keyed = refl
-allowed-then (lines.Window window) chosen keyed = refl
-allowed-then (lines.Rekey rekey) chosen keyed = refl
-allowed-then (lines.Lag lag) chosen keyed = refl
-allowed-then (lines.Suite suite) chosen keyed = refl
-allowed-then (lines.Flag early) chosen keyed = refl
-allowed-then (lines.Group cak ckn) chosen keyed = refl
-allowed-then (lines.Station name sci priority) chosen keyed = keyed
-allowed-then (lines.Burst name workers frames destination body) chosen keyed = refl
-allowed-then lines.While chosen keyed = refl
-allowed-then lines.End chosen keyed = refl
-allowed-then _ chosen keyed = refl
-
-pub map-map-scis : (ps : List Profile)
-    → map (λ (s : Sci). s.0) (map (λ (p : Profile). p.sci) ps) ≡ map (λ (p : Profile). p.sci.0) ps
-map-map-scis ps = map-map (λ (s : Sci). s.0) (λ (p : Profile). p.sci) ps
 
 -- the first reason, from what the group has
 pub refusal-by : (line : Line) (w : World) (stage : Stage) → StandsFor w stage

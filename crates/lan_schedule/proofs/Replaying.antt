@@ -6,14 +6,16 @@ use Rattle.std.specs.Result.{IsErrAnd}
 use Rattle.std.proofs.lemmas.Result.{err_from_is_err_and}
 use Rattle.lan_core.specs.Run.{Run, facts_of}
 use Rattle.fact_tally.specs.Summary.{counts}
-use Rattle.lan_schedule.specs.declared.halt.Halt.{Halt}
-use Rattle.lan_schedule.specs.declared.halt.Halt.TheVariants as halts
-use Rattle.lan_schedule.specs.declared.recorder.Broken.{Broken}
+use Rattle.trace_acts.specs.declared.halt.Halt.{Halt}
+use Rattle.trace_acts.specs.declared.halt.Halt.TheVariants as halts
+use Rattle.trace_acts.specs.declared.broken.Broken.{Broken}
+use Rattle.trace_acts.specs.Names.{names_of}
+use Rattle.trace_acts.specs.declared.halt.Halt.TheVariants.{Limit}
 use Rattle.lan_schedule.specs.declared.stage.Stage.{Stage}
 use Rattle.lan_schedule.specs.declared.commands.Replay.{Replay}
 use Rattle.lan_schedule.specs.declared.phase.Phase.{Phase as Stood}
 use Rattle.lan_schedule.specs.Races.{Apart, Burst, Chance, Numbered, Phase, Controlling}
-use Rattle.lan_schedule.specs.World.{World, Kept, names_of, nothing_kept, is_racing}
+use Rattle.lan_schedule.specs.World.{World, Kept, nothing_kept, is_racing}
 use Rattle.lan_schedule.specs.Acts.{Act, nothing, change, seq, perform, Course, Goes, Stops}
 use Rattle.lan_schedule.specs.Acts.{and_then}
 use Rattle.lan_schedule.specs.Lines.{begin_line, at_line, performed, performed_all}
@@ -29,7 +31,6 @@ use Rattle.lan_schedule.proofs.Doing.{both-chances, told-none, ends-behind, ends
 use Rattle.lan_schedule.specs.declared.phase.Phase.TheVariants as stood
 use Rattle.lan_schedule.specs.inside.Recording.{Mark, StandsSince, LeavesAt}
 use Rattle.lan_schedule.proofs.Doing.{ends-seen}
-use Rattle.lan_schedule.specs.declared.halt.Halt.TheVariants.{Limit}
 use Rattle.lan_schedule.specs.Races.{Excess, workers_of, limit_of}
 use Rattle.lan_schedule.specs.Acts.{begun_race, race, world_of, look}
 use Rattle.lan_schedule.specs.Lines.{control_act, excess_of, run_race, unless_exceeded}

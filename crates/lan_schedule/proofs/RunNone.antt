@@ -10,8 +10,8 @@ use Rattle.trace_text.specs.declared.fault.TextFault.{TextFault}
 use Rattle.trace_text.specs.declared.line.Line.{Line}
 use Rattle.trace_text.specs.declared.line.Line.TheVariants as lines
 use Rattle.trace_text.specs.Reading.{line_in}
-use Rattle.lan_schedule.specs.declared.halt.Halt.{Halt}
-use Rattle.lan_schedule.specs.declared.halt.Kind.{Kind}
+use Rattle.trace_acts.specs.declared.halt.Halt.{Halt}
+use Rattle.trace_acts.specs.declared.halt.Kind.{Kind}
 use Rattle.lan_schedule.specs.Races.{Phase, Apart, Bursting, Controlling, Racing, Burst, Numbered}
 use Rattle.lan_schedule.specs.Races.{Excess, Raced, Worker, workers_of}
 use Rattle.lan_schedule.specs.World.{World, is_racing}

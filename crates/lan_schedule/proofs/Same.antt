@@ -7,9 +7,9 @@ use Rattle.lan_core.specs.declared.settings.Settings.{Settings}
 use Rattle.lan_core.specs.Run.{Run}
 use Rattle.lan_core.specs.Standing.{State, StandsFor as GroupStandsFor}
 use Rattle.worker_races.specs.Carded.{AreCarded}
-use Rattle.lan_schedule.specs.declared.links.Link.{Link}
+use Rattle.trace_acts.specs.declared.links.Link.{Link}
+use Rattle.trace_acts.specs.Supply.{supply_nth}
 use Rattle.lan_schedule.specs.declared.stage.Stage.{Stage}
-use Rattle.lan_schedule.specs.Supply.{supply_nth}
 use Rattle.lan_schedule.specs.World.{World, settings, is_racing}
 use Rattle.lan_schedule.specs.Stages.{StandsWith}
 

@@ -13,11 +13,13 @@ use Rattle.lan_core.specs.Expected.{last_number}
 use Rattle.lan_core.specs.Lives.{transmitting_at}
 use Rattle.worker_races.specs.Carded.{AreCarded}
 use Rattle.worker_races.proofs.Public.{carded-kept}
-use Rattle.lan_schedule.specs.declared.halt.Halt.{Halt}
-use Rattle.lan_schedule.specs.declared.links.Link.{Link}
-use Rattle.lan_schedule.specs.declared.recorder.Broken.{Broken}
+use Rattle.trace_acts.specs.declared.halt.Halt.{Halt}
+use Rattle.trace_acts.specs.declared.links.Link.{Link}
+use Rattle.trace_acts.specs.declared.broken.Broken.{Broken}
+use Rattle.trace_acts.specs.Links.{with_link, without_link}
+use Rattle.trace_acts.proofs.Public.{user-at-end}
 use Rattle.lan_schedule.specs.declared.stage.Stage.{Stage}
-use Rattle.lan_schedule.specs.World.{World, settings, with_link, without_link, is_racing}
+use Rattle.lan_schedule.specs.World.{World, settings, is_racing}
 use Rattle.lan_schedule.specs.Numbers.{number_claimed, decided}
 use Rattle.lan_schedule.specs.Acts.{Act, happen, seq, perform, Course}
 use Rattle.lan_schedule.specs.Races.{Chance}
@@ -38,7 +40,6 @@ use Rattle.lan_schedule.proofs.Same.{IsSame, same-self, stands-with}
 use Rattle.lan_schedule.proofs.Tidying.{under-user}
 use Rattle.lan_schedule.proofs.Claiming.{Gives, gives-taken}
 use Rattle.lan_schedule.proofs.Chances.{claimed-is}
-use Rattle.lan_schedule.proofs.Users.{user-at-end}
 use Rattle.lan_schedule.proofs.Doing.{change-does, ends-early, ends-behind, both-chances, going}
 use Rattle.lan_schedule.proofs.Doing.{told-none}
 

@@ -25,8 +25,8 @@ use Rattle.lan_core.specs.Stops.{MayCome, draws_needed, is_spent, first_stop}
 use Rattle.lan_core.specs.Types.{IsTyped, IsSetting, AreOctets}
 use Rattle.lan_core.specs.Unstopped.{next_under}
 use Rattle.lan_core.proofs.Public.{number-frame, in-a-life}
-use Rattle.lan_schedule.specs.declared.choices.Choices.{Choices}
-use Rattle.lan_schedule.specs.Settings.{settings_of}
+use Rattle.trace_acts.specs.declared.choices.Choices.{Choices}
+use Rattle.trace_acts.specs.Settings.{settings_of}
 use Rattle.lan_schedule.specs.Races.{Phase}
 use Rattle.lan_schedule.specs.World.{World, Kept, settings, count, sender, mark, is_racing}
 use Rattle.lan_schedule.specs.Numbers.{shown_next, number_claimed}

@@ -6,8 +6,8 @@ use Rattle.lan_core.specs.declared.event.Event.{Event}
 use Rattle.lan_core.specs.declared.fact.Fact.{Fact}
 use Rattle.trace_text.specs.declared.line.Line.{Line}
 use Rattle.trace_text.specs.declared.line.Line.TheVariants as lines
-use Rattle.lan_schedule.specs.declared.halt.Halt.{Halt}
-use Rattle.lan_schedule.specs.declared.halt.Kind.{Kind}
+use Rattle.trace_acts.specs.declared.halt.Halt.{Halt}
+use Rattle.trace_acts.specs.declared.halt.Kind.{Kind}
 use Rattle.lan_schedule.specs.Races.{Numbered}
 use Rattle.lan_schedule.specs.World.{World, Kept, count, sender, place}
 use Rattle.lan_schedule.specs.Answers.{answer}

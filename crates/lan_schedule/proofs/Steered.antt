@@ -7,14 +7,16 @@ use Rattle.lan_core.specs.declared.fact.Fact.{Fact}
 use Rattle.race_merge.specs.declared.step.Step.{Step}
 use Rattle.transmit_words.specs.Ties.{HaveKeptUp, HaveLooked}
 use Rattle.transmit_words.proofs.Public.{looked-none}
-use Rattle.lan_schedule.specs.declared.halt.Halt.{Halt}
-use Rattle.lan_schedule.specs.declared.halt.Halt.TheVariants as halts
+use Rattle.trace_acts.specs.declared.halt.Halt.{Halt}
+use Rattle.trace_acts.specs.declared.halt.Halt.TheVariants as halts
+use Rattle.trace_acts.specs.Names.{names_of}
+use Rattle.trace_acts.specs.Halts.{halt_of_broken}
 use Rattle.lan_schedule.specs.declared.stage.Stage.{Stage}
 use Rattle.lan_schedule.specs.Races.{Chance, Worker, behind_numbers}
-use Rattle.lan_schedule.specs.World.{World, is_racing, names_of, settings}
+use Rattle.lan_schedule.specs.World.{World, is_racing, settings}
 use Rattle.lan_schedule.specs.Acts.{Course, Goes, Stops, begun_race, is_stop}
 use Rattle.lan_schedule.specs.Reports.{AreTold, Report, reports}
-use Rattle.lan_schedule.specs.Ends.{Ends, WasBroken, WasTold, halt_of_broken, moment}
+use Rattle.lan_schedule.specs.Ends.{Ends, WasBroken, WasTold, moment}
 use Rattle.lan_schedule.specs.Sound.{IsTidy}
 use Rattle.lan_schedule.specs.Stages.{Counts, Says, StandsFor}
 use Rattle.lan_schedule.specs.inside.Beside.{mark_of}

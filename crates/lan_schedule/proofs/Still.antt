@@ -7,8 +7,9 @@ use Rattle.lan_core.specs.declared.event.Event.TheVariants as events
 use Rattle.lan_core.specs.declared.fact.Fact.{Fact}
 use Rattle.trace_text.specs.declared.line.Line.{Line}
 use Rattle.trace_text.specs.declared.line.Line.TheVariants as lines
-use Rattle.lan_schedule.specs.declared.halt.Halt.{Halt}
-use Rattle.lan_schedule.specs.declared.halt.Kind.{Kind}
+use Rattle.trace_acts.specs.declared.halt.Halt.{Halt}
+use Rattle.trace_acts.specs.declared.halt.Kind.{Kind}
+use Rattle.trace_acts.specs.Places.{is_race}
 use Rattle.lan_schedule.specs.World.{World, Kept, count, sender, place}
 use Rattle.lan_schedule.specs.Numbers.{number_claimed}
 use Rattle.lan_schedule.specs.Answers.{answer}
@@ -17,7 +18,6 @@ use Rattle.lan_schedule.specs.Acts.{Course, Goes, Stops, perform, shown, and_the
 use Rattle.lan_schedule.specs.Acts.{each, span, unless}
 use Rattle.lan_schedule.specs.Lines.{tick, round, pass, spread, is_passed_by, due, deed}
 use Rattle.lan_schedule.specs.Lines.{flow_round, send, unless_refused}
-use Rattle.lan_schedule.specs.Places.{is_race}
 use Rattle.lan_schedule.specs.inside.Phased.{act_apart, refusal_apart}
 
 -- no part of an act says where the lines stand or which races were run, and none is a race

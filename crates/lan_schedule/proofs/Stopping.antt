@@ -6,11 +6,12 @@ use Rattle.lan_core.specs.declared.event.Event.TheVariants.{Emit}
 use Rattle.lan_core.specs.declared.stop.Stop.{Stop}
 use Rattle.lan_core.specs.declared.stop.Stop.TheVariants as stops
 use Rattle.lan_core.specs.Stops.{first_stop}
-use Rattle.lan_schedule.specs.declared.halt.Halt.{Halt}
-use Rattle.lan_schedule.specs.declared.halt.Halt.TheVariants as halts
+use Rattle.trace_acts.specs.declared.halt.Halt.{Halt}
+use Rattle.trace_acts.specs.declared.halt.Halt.TheVariants as halts
+use Rattle.trace_acts.specs.Halts.{halt_of}
 use Rattle.lan_schedule.specs.Races.{Worker}
 use Rattle.lan_schedule.specs.World.{World, settings}
-use Rattle.lan_schedule.specs.Answers.{supply, answered, halt_of}
+use Rattle.lan_schedule.specs.Answers.{supply, answered}
 use Rattle.lan_schedule.specs.Acts.{Act, nothing, refuse, exceed, happen, change, seq, look, race}
 use Rattle.lan_schedule.specs.Acts.{Course, Goes, Stops, shown, and_then, perform, begun_race}
 use Rattle.lan_schedule.specs.Acts.{emitting, beside}

@@ -4,13 +4,14 @@ use Rattle.std.specs.Prelude.{Result, Ok, Err}
 use Rattle.trace_text.specs.declared.fault.TextFault.{TextFault}
 use Rattle.trace_text.specs.declared.line.Line.{Line}
 use Rattle.trace_text.specs.Reading.{line_in, fault_in, first_fault}
-use Rattle.lan_schedule.specs.declared.halt.Halt.{Halt}
-use Rattle.lan_schedule.specs.declared.halt.Halt.TheVariants as halts
-use Rattle.lan_schedule.specs.declared.recorder.Broken.{Broken}
+use Rattle.trace_acts.specs.declared.halt.Halt.{Halt}
+use Rattle.trace_acts.specs.declared.halt.Halt.TheVariants as halts
+use Rattle.trace_acts.specs.declared.broken.Broken.{Broken}
+use Rattle.trace_acts.specs.Kinds.{kind_of_fault}
 use Rattle.lan_schedule.specs.declared.commands.Replay.{Replay}
 use Rattle.lan_schedule.specs.Races.{Chance, behind_numbers}
 use Rattle.lan_schedule.specs.World.{World}
-use Rattle.lan_schedule.specs.Kinds.{kind_of_fault, refusal_read}
+use Rattle.lan_schedule.specs.Kinds.{refusal_read}
 use Rattle.lan_schedule.specs.Acts.{Act, look, perform, Goes, Stops}
 use Rattle.lan_schedule.specs.Lines.{begin_line, at_line, numbered, act_of, deed_read}
 use Rattle.lan_schedule.specs.Lines.{unless_refused, performed}

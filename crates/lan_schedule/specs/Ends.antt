@@ -2,10 +2,10 @@
 -- rule). `Stands` and `Counts` say of each kind of value for which world it stands, and of which
 -- world it has the tally; `Took` and `Broke` what a recorder does.
 use Rattle.std.specs.Prelude.{◌≡◌, ◌⊎◌, false, List, [], ◌∷◌, ◌++◌, Result, Ok, Err}
-use Rattle.lan_schedule.specs.declared.halt.Halt.{Halt}
-use Rattle.lan_schedule.specs.declared.halt.Halt.TheVariants as halts
-use Rattle.lan_schedule.specs.declared.recorder.Broken.{Broken}
-use Rattle.lan_schedule.specs.declared.recorder.Broken.TheVariants as whys
+use Rattle.trace_acts.specs.declared.halt.Halt.{Halt}
+use Rattle.trace_acts.specs.declared.halt.Halt.TheVariants as halts
+use Rattle.trace_acts.specs.declared.broken.Broken.{Broken}
+use Rattle.trace_acts.specs.Halts.{halt_of_broken}
 use Rattle.lan_schedule.specs.Races.{Chance, behind_numbers}
 use Rattle.lan_schedule.specs.Sound.{IsTidy}
 use Rattle.lan_schedule.specs.World.{World, is_racing}
@@ -31,11 +31,6 @@ pub record WasTold {K : Type 0} (Took : K → Report → K → Type 0) (w v : Wo
   pub told : List Report
   pub since : reports v.run ≡ reports w.run ++ told
   pub by_one : AreTold Took old told new
-
--- why a recorder that broke ends a trace
-abbrev pub halt_of_broken : Broken → Halt
-halt_of_broken whys.Failed = halts.Broken
-halt_of_broken whys.Memory = halts.Memory
 
 -- From one world up to another all was told up to the report at which the recorder broke. It is that
 -- of the last event: only a race happens as a whole before it is told.

@@ -1,59 +1,20 @@
 -- Which line is refused, and the first reason (this profile's own rule).
-use Rattle.std.specs.Prelude.{ℕ, ◌+◌, nat_le, nat_lt, Bool, true, false, not, ◌&&◌, if◌then◌else◌}
+use Rattle.std.specs.Prelude.{ℕ, ◌+◌, nat_le, nat_lt, Bool, true, false, not, ◌&&◌}
 use Rattle.std.specs.Prelude.{List, length}
-use Rattle.std.specs.Prelude.{Option, Some, None, is_some, Result, Ok, Err}
-use Rattle.std.specs.Option.{is_none}
+use Rattle.std.specs.Prelude.{Option, Some, None, Result, Ok, Err}
 use Rattle.trace_text.specs.declared.fault.TextFault.{TextFault}
-use Rattle.trace_text.specs.declared.fault.TextFault.TheVariants as faults
 use Rattle.trace_text.specs.declared.line.Line.{Line}
 use Rattle.trace_text.specs.declared.line.Line.TheVariants as lines
 use Rattle.trace_text.specs.Reading.{line_in}
-use Rattle.lan_schedule.specs.declared.halt.Kind.{Kind}
-use Rattle.lan_schedule.specs.declared.halt.Kind.TheVariants as kinds
-use Rattle.lan_schedule.specs.declared.choices.Choices.{Choices}
-use Rattle.lan_schedule.specs.declared.choices.Rule.{Rule}
-use Rattle.lan_schedule.specs.declared.choices.Rule.TheVariants.{Listed}
+use Rattle.trace_acts.specs.declared.halt.Kind.{Kind}
+use Rattle.trace_acts.specs.declared.halt.Kind.TheVariants as kinds
+use Rattle.trace_acts.specs.Names.{names_of, scis_of, is_in}
+use Rattle.trace_acts.specs.Kinds.{kind_of_fault, is_allowed, or_else, where_, unknown, first_of}
 use Rattle.lan_schedule.specs.Races.{Phase, Apart, Bursting, Controlling, Racing, Burst, Numbered}
 use Rattle.lan_schedule.specs.Races.{workers_at}
-use Rattle.lan_schedule.specs.World.{World, names_of, scis_of, is_in, place}
-
--- ---- the text alone
-
--- a fault of the text as a kind
-abbrev pub kind_of_fault : TextFault → Kind
-kind_of_fault faults.TooLong = kinds.TooLong
-kind_of_fault faults.Word = kinds.Word
-kind_of_fault faults.Count = kinds.Count
-kind_of_fault faults.Hex = kinds.Hex
-kind_of_fault faults.Range = kinds.Range
+use Rattle.lan_schedule.specs.World.{World, place}
 
 -- ---- order
-
--- whether more draws can be listed
-abbrev pub may_list : Option Rule → Bool
-may_list None = true
-may_list (Some (Listed values)) = true
-may_list (Some _) = false
-
--- whether a line may stand here outside a race, where a station came or not and the lines before it
--- chose so: the first lines before any station and at most once, but for lists of draws; a station
--- after the group; every other line after a station, but for those that stand in a race alone
-abbrev pub is_allowed : Line → Bool → Choices → Bool
-is_allowed lines.DrawsCount begun chosen = not begun && is_none chosen.draws
-is_allowed (lines.DrawsChaCha key) begun chosen = not begun && is_none chosen.draws
-is_allowed (lines.DrawsList values) begun chosen = not begun && may_list chosen.draws
-is_allowed (lines.Conf conf) begun chosen = not begun && is_none chosen.conf
-is_allowed (lines.Window window) begun chosen = not begun && is_none chosen.window
-is_allowed (lines.Rekey rekey) begun chosen = not begun && is_none chosen.rekey
-is_allowed (lines.Lag lag) begun chosen = not begun && is_none chosen.lag
-is_allowed (lines.Suite suite) begun chosen = not begun && is_none chosen.suite
-is_allowed (lines.Flag early) begun chosen = not begun && is_none chosen.early_flag
-is_allowed (lines.Group cak ckn) begun chosen = not begun && is_none chosen.group
-is_allowed (lines.Station name sci priority) begun chosen = is_some chosen.group
-is_allowed (lines.Burst name workers frames destination body) begun chosen = false
-is_allowed lines.While begun chosen = false
-is_allowed lines.End begun chosen = false
-is_allowed _ begun chosen = begun
 
 -- the greatest count of bursts of a race, and of its lines of control
 abbrev pub most_bursts : ℕ
@@ -96,19 +57,6 @@ may_stand line w (Controlling bursts control) = is_control_allowed line control
 may_stand line w Racing = false
 
 -- ---- names, SCIs and frames
-
--- the first of two reasons
-abbrev pub or_else : Option Kind → Option Kind → Option Kind
-or_else None later = later
-or_else (Some kind) later = Some kind
-
--- a reason, where the test holds
-abbrev pub where_ : Bool → Kind → Option Kind
-where_ test kind = if test then Some kind else None
-
--- no station has this name
-abbrev pub unknown : List ℕ → List (List ℕ) → Option Kind
-unknown name names = where_ (not (is_in name names)) kinds.NameUnknown
 
 -- whether the air, which has so many frames, has one of this number
 abbrev pub is_number : ℕ → ℕ → Bool
@@ -175,10 +123,6 @@ wrong_at line w (Controlling bursts control) = wrong_name line (names_of w.run)
 wrong_at line w Racing = None
 
 -- ---- the first reason
-
--- the first of two reasons: no such line may stand here, or a word is wrong
-abbrev pub first_of : Bool → Option Kind → Option Kind
-first_of allowed wrong = or_else (where_ (not allowed) kinds.Order) wrong
 
 -- why a line is refused
 abbrev pub refusal : Line → World → Option Kind

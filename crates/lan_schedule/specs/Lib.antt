@@ -5,19 +5,16 @@
 -- which the run grows, and they are reported before the next one happens. What performing an act
 -- leaves is a *course*: it goes on from a world, or stops in one and says why. What the schedule of
 -- threads decides is a list of *chances* in the world, taken from its head. A *moment* of a call is
--- the value that performs, and the outlet that is told the reports. The files stand in this order:
--- where draws come from, what races are, what lines have made, what can be performed, which line is
--- refused, what a line performs, what is sound, what is told, what a call did of an
--- act, and what slot words show.
-pub mod Supply
-pub mod Settings
+-- the value that performs, and the outlet that is told the reports. What lines choose and name, the
+-- draws and the links stand in `trace_acts`. The files stand in this order: what races are, what lines
+-- have made, what can be performed, which line is refused, what a line performs, what is sound, what
+-- is told, what a call did of an act, and what slot words show.
 pub mod Races
 pub mod World
 pub mod Numbers
 pub mod Answers
 pub mod Acts
 pub mod Kinds
-pub mod Places
 pub mod Lines
 pub mod Sound
 pub mod Reports

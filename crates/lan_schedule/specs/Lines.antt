@@ -13,18 +13,17 @@ use Rattle.trace_text.specs.declared.fault.TextFault.{TextFault}
 use Rattle.trace_text.specs.declared.line.Line.{Line}
 use Rattle.trace_text.specs.declared.line.Line.TheVariants as lines
 use Rattle.trace_text.specs.Reading.{line_in}
-use Rattle.lan_schedule.specs.declared.halt.Kind.{Kind}
-use Rattle.lan_schedule.specs.declared.halt.Kind.TheVariants.{NoEnd}
-use Rattle.lan_schedule.specs.declared.choices.Rule.{Rule}
-use Rattle.lan_schedule.specs.declared.choices.Rule.TheVariants.{Counted, Streamed, Listed}
-use Rattle.lan_schedule.specs.declared.choices.Choices.{Choices}
+use Rattle.trace_acts.specs.declared.halt.Kind.{Kind}
+use Rattle.trace_acts.specs.declared.halt.Kind.TheVariants.{NoEnd}
+use Rattle.trace_acts.specs.declared.choices.Choices.{Choices}
+use Rattle.trace_acts.specs.Settings.{lag_of}
+use Rattle.trace_acts.specs.Choosing.{chosen_by}
+use Rattle.trace_acts.specs.Links.{is_cut, with_link, without_link}
 use Rattle.lan_schedule.specs.declared.frames.Put.{Put}
 use Rattle.lan_schedule.specs.Races.{Phase, Apart, Bursting, Controlling, Racing, Burst, Numbered}
 use Rattle.lan_schedule.specs.Races.{Excess, TooManyFrames, TooManyOctets, frames_asked, octets_asked}
 use Rattle.lan_schedule.specs.Races.{workers_of}
-use Rattle.lan_schedule.specs.Settings.{secret_of, lag_of}
-use Rattle.lan_schedule.specs.World.{World, Kept, count, place, sender, mark, is_cut, air_octets}
-use Rattle.lan_schedule.specs.World.{with_link, without_link}
+use Rattle.lan_schedule.specs.World.{World, Kept, count, place, sender, mark, air_octets}
 use Rattle.lan_schedule.specs.Numbers.{number_shown, number_claimed}
 use Rattle.lan_schedule.specs.Acts.{Act, nothing, refuse, happen, change, seq, look, each, span}
 use Rattle.lan_schedule.specs.Acts.{times, unless, exceed, race}
@@ -34,11 +33,6 @@ use Rattle.lan_schedule.specs.Kinds.{refusal, first_refusal, wrong_frame}
 
 abbrev pub choose : (Choices → Choices) → Act
 choose f = change (λ kept. record kept { chosen = f kept.chosen })
-
--- listed draws, behind those that were listed before
-abbrev pub listed_after : Option Rule → List (List ℕ) → Rule
-listed_after (Some (Listed before)) values = Listed (before ++ values)
-listed_after _ values = Listed values
 
 -- a station came
 abbrev pub begin : Act
@@ -147,22 +141,6 @@ abbrev pub behind_while : Line → World → List Burst → List Numbered → Ph
 behind_while line w bursts control = Controlling bursts (control ++ kept_line w line ∷ [])
 
 -- ---- lines
-
--- what a line before the first station chooses
-abbrev pub chosen_by : Line → Choices → Choices
-chosen_by lines.DrawsCount chosen = record chosen { draws = Some Counted }
-chosen_by (lines.DrawsChaCha key) chosen = record chosen { draws = Some (Streamed key) }
-chosen_by (lines.DrawsList values) chosen =
-    record chosen { draws = Some (listed_after chosen.draws values) }
-chosen_by (lines.Conf conf) chosen = record chosen { conf = Some conf }
-chosen_by (lines.Window window) chosen = record chosen { window = Some window }
-chosen_by (lines.Rekey rekey) chosen = record chosen { rekey = Some rekey }
-chosen_by (lines.Lag lag) chosen = record chosen { lag = Some lag }
-chosen_by (lines.Suite suite) chosen = record chosen { suite = Some suite }
-chosen_by (lines.Flag early) chosen = record chosen { early_flag = Some early }
-chosen_by (lines.Group cak ckn) chosen =
-    record chosen { group = Some (record { cak = secret_of cak; ckn = ckn }) }
-chosen_by _ chosen = chosen
 
 -- what a line performs outside a race that isn't refused
 abbrev pub deed : Line → World → Act

@@ -2,7 +2,7 @@
 use Rattle.std.specs.Prelude.{◌≡◌, ℕ, List, [], ◌∷◌, ◌++◌}
 use Rattle.lan_core.specs.declared.fact.Fact.{Fact}
 use Rattle.lan_core.specs.Run.{Run}
-use Rattle.lan_schedule.specs.World.{names_of}
+use Rattle.trace_acts.specs.Names.{names_of}
 
 -- what is told of an event: the names that the stations have by then, and its facts
 pub record Report : Type 0 where

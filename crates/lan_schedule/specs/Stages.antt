@@ -7,10 +7,11 @@ use Rattle.lan_core.specs.Standing.{StandsFor as GroupStandsFor}
 use Rattle.fact_tally.specs.Summary.{counts}
 use Rattle.transmit_words.specs.Ties.{AreTied, HaveCaughtUp, HaveKeptUp}
 use Rattle.worker_races.specs.Carded.{AreCarded}
+use Rattle.trace_acts.specs.Settings.{lag_of}
+use Rattle.trace_acts.specs.Supply.{supply_nth}
+use Rattle.trace_acts.specs.Names.{names_of}
 use Rattle.lan_schedule.specs.declared.stage.Stage.{Stage}
-use Rattle.lan_schedule.specs.Settings.{lag_of}
-use Rattle.lan_schedule.specs.Supply.{supply_nth}
-use Rattle.lan_schedule.specs.World.{World, settings, names_of, flow_of, air_octets}
+use Rattle.lan_schedule.specs.World.{World, settings, flow_of, air_octets}
 use Rattle.lan_schedule.specs.World.{is_racing}
 use Rattle.lan_schedule.specs.Answers.{supply}
 

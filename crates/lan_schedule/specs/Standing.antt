@@ -6,15 +6,16 @@ use Rattle.lan_core.specs.Run.{facts_of}
 use Rattle.lan_core.specs.Types.{IsUserFrame}
 use Rattle.trace_text.specs.Writing.{IsInForm}
 use Rattle.fact_tally.specs.Summary.{counts}
-use Rattle.lan_schedule.specs.declared.halt.Halt.{Halt}
-use Rattle.lan_schedule.specs.declared.halt.Halt.TheVariants.{Memory}
-use Rattle.lan_schedule.specs.declared.recorder.Broken.{Broken}
+use Rattle.trace_acts.specs.declared.halt.Halt.{Halt}
+use Rattle.trace_acts.specs.declared.halt.Halt.TheVariants.{Memory}
+use Rattle.trace_acts.specs.declared.broken.Broken.{Broken}
+use Rattle.trace_acts.specs.Names.{names_of}
 use Rattle.lan_schedule.specs.declared.stage.Stage.{Stage}
 use Rattle.lan_schedule.specs.declared.phase.Phase.{Phase as Stood}
 use Rattle.lan_schedule.specs.declared.phase.Phase.TheVariants as stood
 use Rattle.lan_schedule.specs.declared.commands.Replay.{Replay}
 use Rattle.lan_schedule.specs.Races.{Chance, Phase, Apart, Bursting, Controlling, Burst, Numbered}
-use Rattle.lan_schedule.specs.World.{World, names_of, nothing_kept}
+use Rattle.lan_schedule.specs.World.{World, nothing_kept}
 use Rattle.lan_schedule.specs.Acts.{Act, Goes, Stops, perform}
 use Rattle.lan_schedule.specs.Kinds.{is_control, wrong_name}
 use Rattle.lan_schedule.specs.Lines.{at_line, close}

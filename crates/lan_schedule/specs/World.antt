@@ -1,9 +1,9 @@
 -- What the lines so far have made: a run, and what is kept beside it.
-use Rattle.std.specs.Prelude.{ℕ, ◌==◌, ◌&&◌, ◌-◌, Bool, true}
-use Rattle.std.specs.Prelude.{false, if◌then◌else◌, nat_eq, zero, suc}
-use Rattle.std.specs.Prelude.{List, [], ◌∷◌, ◌++◌, map, length, not, slice_get, option_map}
+use Rattle.std.specs.Prelude.{ℕ, ◌-◌, Bool, true}
+use Rattle.std.specs.Prelude.{false, nat_eq, zero, suc}
+use Rattle.std.specs.Prelude.{List, [], ◌∷◌, map, length, slice_get, option_map}
 use Rattle.std.specs.Prelude.{unwrap_or, sum}
-use Rattle.std.specs.List.{list_any, filter, flat_map, position_or_len}
+use Rattle.std.specs.List.{flat_map, position_or_len}
 use Rattle.std.specs.Cmp.Lexicographic.{pointwise}
 use Rattle.lan_base.specs.declared.frame.UserFrame.{UserFrame}
 use Rattle.lan_core.specs.declared.fact.Fact.{Fact}
@@ -11,10 +11,11 @@ use Rattle.lan_core.specs.declared.fact.Fact.TheVariants as facts
 use Rattle.lan_core.specs.declared.settings.Settings.{Settings}
 use Rattle.lan_core.specs.Run.{Run, stations}
 use Rattle.lan_core.specs.Ledgers.{air}
-use Rattle.lan_schedule.specs.declared.choices.Choices.{Choices}
+use Rattle.trace_acts.specs.declared.choices.Choices.{Choices}
+use Rattle.trace_acts.specs.declared.links.Link.{Link}
+use Rattle.trace_acts.specs.Settings.{no_choice, settings_of}
+use Rattle.trace_acts.specs.Names.{names_of}
 use Rattle.lan_schedule.specs.declared.frames.Put.{Put}
-use Rattle.lan_schedule.specs.declared.links.Link.{Link}
-use Rattle.lan_schedule.specs.Settings.{no_choice, settings_of}
 use Rattle.lan_schedule.specs.Races.{Phase, Apart, Racing, Chance, Raced}
 
 -- what is kept beside the run: the number of the line that is performed; what the lines before the
@@ -71,16 +72,6 @@ is_racing _ = false
 abbrev pub count : World → ℕ
 count w = length (stations w.run)
 
-abbrev pub names_of : Run → List (List ℕ)
-names_of r = map (λ p. p.name) (stations r)
-
-abbrev pub scis_of : Run → List (List ℕ)
-scis_of r = map (λ p. p.sci.0) (stations r)
-
--- whether this is one of the names, or of the SCIs
-abbrev pub is_in : List ℕ → List (List ℕ) → Bool
-is_in octets others = list_any (pointwise nat_eq octets) others
-
 -- the place of the station of this name; where there is none, the count of stations
 abbrev pub place : World → List ℕ → ℕ
 place w name = position_or_len (pointwise nat_eq name) (names_of w.run)
@@ -132,21 +123,3 @@ pub record Flow : Type 0 where
 
 abbrev pub flow_of : World → Flow
 flow_of w = record { frames = w.kept.frames; rounds = w.kept.rounds }
-
--- ---- links
-
-abbrev pub is_link : ℕ → ℕ → Link → Bool
-is_link from to link = (link.from == from) && (link.to == to)
-
--- whether a link is cut
-abbrev pub is_cut : ℕ → ℕ → List Link → Bool
-is_cut from to cuts = list_any (is_link from to) cuts
-
--- a link is cut; one that is cut already stays so
-abbrev pub with_link : ℕ → ℕ → List Link → List Link
-with_link from to cuts =
-    if is_cut from to cuts then cuts else cuts ++ record { from = from; to = to } ∷ []
-
--- a link is whole again
-abbrev pub without_link : ℕ → ℕ → List Link → List Link
-without_link from to cuts = filter (λ link. not (is_link from to link)) cuts

@@ -18,7 +18,6 @@ ghost use Rattle.lan_schedule.specs.inside.Batching.{IsData, AreData, AreChecked
 ghost use Rattle.lan_schedule.specs.inside.Batching.{first_answer, rest_answers};
 ghost use Rattle.lan_schedule.specs.inside.Staged.{Did, DidWhere};
 
-use crate::halt::Halt;
 use crate::recorder::Recorder;
 use crate::stage::Stage;
 use lan_base::{FRAME_MAX, law_ranges};
@@ -30,6 +29,7 @@ use std::alloc::{AllocError, Global};
 use std::collections::VecDeque;
 use std::marker::Model;
 use std::thread::Threads;
+use trace_acts::Halt;
 
 /// How many frames a batch has at most.
 const MOST: u32 = 4_096;

@@ -1,39 +1,35 @@
 //! A replay performs the lines of a trace, one after the other.
 
-ghost use Rattle.std.specs.Prelude.{◌≡◌, ◌⊎◌, length, Some, None, Ok, Err, IfErr};
-ghost use Rattle.std.specs.Prelude.{OnOk, List, Option, is_some, true};
+ghost use Rattle.std.specs.Prelude.{◌≡◌, Some, None, Ok, Err, IfErr};
+ghost use Rattle.std.specs.Prelude.{List, Option, is_some, true};
 ghost use Rattle.std.specs.Prelude.{false};
 ghost use Rattle.lan_core.specs.Run.{facts_of};
 ghost use Rattle.fact_tally.specs.Summary.{counts};
 ghost use Rattle.trace_text.specs.Writing.{IsInForm};
+ghost use Rattle.trace_acts.specs.declared.halt.Halt.{Halt};
+ghost use Rattle.trace_acts.specs.Kinds.{is_allowed};
+ghost use Rattle.trace_acts.specs.Places.{IsStation};
 ghost use Rattle.lan_schedule.specs.Races.{Chance};
 ghost use Rattle.lan_schedule.specs.World.{World, beginning};
-ghost use Rattle.lan_schedule.specs.declared.halt.Halt.{Halt};
-ghost use Rattle.lan_schedule.specs.Settings.{secret_of};
-ghost use Rattle.lan_schedule.specs.Kinds.{first_of, is_allowed, kind_of_fault};
 ghost use Rattle.lan_schedule.specs.Acts.{look};
-ghost use Rattle.lan_schedule.specs.Lines.{numbered, at_line, act_of, deed, chosen_by};
-ghost use Rattle.lan_schedule.specs.Lines.{listed_after, performed};
+ghost use Rattle.lan_schedule.specs.Lines.{numbered, at_line, act_of, deed};
+ghost use Rattle.lan_schedule.specs.Lines.{performed};
 ghost use Rattle.lan_schedule.specs.Ends.{moment};
 ghost use Rattle.lan_schedule.specs.Standing.{StandsFor, Counts, Does, Closes, phase_of};
 ghost use Rattle.lan_schedule.specs.inside.Beside.{race_in};
-ghost use Rattle.lan_schedule.specs.Places.{IsStation};
 ghost use Rattle.lan_schedule.specs.inside.Phased.{is_controlling};
 
-use crate::choices::{Choices, Keyed, Rule};
-use crate::halt::{Halt, Kind};
 use crate::phase::Phase;
 use crate::race::run_race;
 use crate::recorder::Recorder;
 use crate::stage::Stage;
-use aes_block::Secret;
 use fact_tally::Tally;
-use lan_base::Blocks;
 use packet_claims::Gate;
-use std::alloc::{AllocError, Global};
+use std::alloc::Global;
 use std::mem::replace;
 use std::thread::Threads;
-use trace_text::{Line, LineError, TextFault, read_line};
+use trace_acts::{Choices, Halt, Kind, choose, kind_of_fault, put, refusal};
+use trace_text::{Line, LineError, read_line};
 
 /// What the lines so far have made. Contracts see by `StandsFor` which world that is, and by
 /// `Counts` of which world it has the tally, whether it is halted or not.
@@ -271,11 +267,11 @@ impl Replay {
             return Ok(());
         };
         let Phase::Controlling(bursts, control) = replace(&mut self.phase, Phase::Apart) else {
-            self.stage = Some(stage);
+            put(&mut self.stage, stage);
             return Ok(());
         };
         let (stage, outcome) = run_race(rt, stage, &bursts, control, recorder, outlet, gate);
-        self.stage = Some(stage);
+        put(&mut self.stage, stage);
         outcome
     }
 
@@ -319,106 +315,7 @@ impl Replay {
     {
         let mut stage = Stage::new(self.alloc, &self.chosen, self.line)?;
         let outcome = stage.perform(line, recorder, outlet, gate);
-        self.stage = Some(stage);
+        put(&mut self.stage, stage);
         outcome
-    }
-}
-
-/// A line before the first station chooses something for the group.
-pub fn choose(alloc: Global, chosen: &mut Choices, line: &Line) -> Result<(), AllocError>
-    requires { IsInForm line.now }
-    ensures { OnOk result (chosen.new ≡ chosen_by line.now chosen.old) }
-{
-    match line {
-        Line::DrawsCount => chosen.draws = Some(Rule::Counted),
-        Line::DrawsChaCha { key } => chosen.draws = Some(Rule::Streamed(*key)),
-        Line::DrawsList { values } => return list(alloc, chosen, values),
-        Line::Conf { conf } => chosen.conf = Some(*conf),
-        Line::Window { window } => chosen.window = Some(*window),
-        Line::Rekey { rekey } => chosen.rekey = Some(*rekey),
-        Line::Lag { lag } => chosen.lag = Some(*lag),
-        Line::Suite { suite } => chosen.suite = Some(*suite),
-        Line::Flag { early } => chosen.early_flag = Some(*early),
-        Line::Group { cak, ckn } => {
-            let cak = secret_of(cak.as_slice());
-            let ckn = ckn.copied(alloc)?;
-            chosen.group = Some(Keyed { cak, ckn });
-        }
-        _ => {}
-    }
-    Ok(())
-}
-
-/// Draws are listed, behind those that were listed before.
-fn list(alloc: Global, chosen: &mut Choices, values: &Blocks) -> Result<(), AllocError>
-    ensures { OnOk result (chosen.new
-        ≡ record chosen.old { draws = Some (listed_after chosen.old.draws values.now) }) }
-{
-    if let Some(Rule::Listed(listed)) = &mut chosen.draws {
-        return listed.extend(values.as_slice());
-    }
-    let mut listed = Blocks::new(alloc);
-    listed.extend(values.as_slice())?;
-    chosen.draws = Some(Rule::Listed(listed));
-    Ok(())
-}
-
-/// A key of 16 octets, or of 32.
-pub fn secret_of(octets: &[u8]) -> Secret
-    requires { (length octets.now ≡ 16) ⊎ (length octets.now ≡ 32) }
-    ensures { result ≡ secret_of octets.now }
-{
-    if octets.len() == 16 {
-        let mut key = [0; 16];
-        key.copy_from_slice(octets);
-        Secret::S128(key)
-    } else {
-        let mut key = [0; 32];
-        key.copy_from_slice(octets);
-        Secret::S256(key)
-    }
-}
-
-/// Why a line before the first station is refused.
-pub fn refusal(chosen: &Choices, line: &Line) -> Option<Kind>
-    ensures { result
-        ≡ first_of (is_allowed line.now false chosen.now) None }
-{
-    if is_allowed(chosen, line) {
-        None
-    } else {
-        Some(Kind::Order)
-    }
-}
-
-/// Whether a line may stand before the first station.
-fn is_allowed(chosen: &Choices, line: &Line) -> bool
-    ensures { result ≡ is_allowed line.now false chosen.now }
-{
-    match line {
-        Line::DrawsCount | Line::DrawsChaCha { .. } => chosen.draws.is_none(),
-        Line::DrawsList { .. } => matches!(chosen.draws, None | Some(Rule::Listed(_))),
-        Line::Conf { .. } => chosen.conf.is_none(),
-        Line::Window { .. } => chosen.window.is_none(),
-        Line::Rekey { .. } => chosen.rekey.is_none(),
-        Line::Lag { .. } => chosen.lag.is_none(),
-        Line::Suite { .. } => chosen.suite.is_none(),
-        Line::Flag { .. } => chosen.early_flag.is_none(),
-        Line::Group { .. } => chosen.group.is_none(),
-        Line::Station { .. } => chosen.group.is_some(),
-        _ => false,
-    }
-}
-
-/// A fault of a line's text as a kind.
-pub fn kind_of_fault(fault: TextFault) -> Kind
-    ensures { result ≡ kind_of_fault fault }
-{
-    match fault {
-        TextFault::TooLong => Kind::TooLong,
-        TextFault::Word => Kind::Word,
-        TextFault::Count => Kind::Count,
-        TextFault::Hex => Kind::Hex,
-        TextFault::Range => Kind::Range,
     }
 }

@@ -3,12 +3,13 @@
 ghost use Rattle.std.specs.Prelude.{◌≡◌, ◌++◌, ◌∷◌, [], OnOk};
 ghost use Rattle.lan_schedule.specs.inside.Weaves.{first_kept, rest_kept};
 
-use crate::recorder::{Broken, Recorder};
+use crate::recorder::Recorder;
 use lan_base::Name;
 use lan_core::{Fact, Facts};
 use std::alloc::{AllocError, Global};
 use std::collections::VecDeque;
 use std::marker::Model;
+use trace_acts::Broken;
 
 /// The facts of events, the oldest first. Contracts see a list for each event.
 #[derive(Drop)]

@@ -7,11 +7,11 @@ ghost use Rattle.lan_schedule.specs.Lines.{feed, tick, round, to_others, spread,
 ghost use Rattle.lan_schedule.specs.Ends.{moment};
 ghost use Rattle.lan_schedule.specs.inside.Staged.{Did};
 
-use crate::halt::Halt;
 use crate::recorder::Recorder;
 use crate::stage::Stage;
 use lan_core::Event;
 use packet_claims::Gate;
+use trace_acts::Halt;
 
 impl Stage {
     /// A tick of one station, which shows the next packet number.

@@ -3,11 +3,12 @@
 ghost use Rattle.std.specs.Prelude.{◌≡◌, ◌+◌, nat_lt, true, false, not, IfOk, IfSome, Some};
 ghost use Rattle.lan_core.specs.Types.{IsUserFrame};
 ghost use Rattle.trace_text.specs.Writing.{IsInForm};
+ghost use Rattle.trace_acts.specs.declared.halt.Kind.TheVariants as kinds;
+ghost use Rattle.trace_acts.specs.Kinds.{or_else, where_};
 ghost use Rattle.lan_schedule.specs.World.{World};
-ghost use Rattle.lan_schedule.specs.declared.halt.Kind.TheVariants as kinds;
 ghost use Rattle.lan_schedule.specs.Races.{workers_at};
 ghost use Rattle.lan_schedule.specs.Kinds.{is_burst_allowed, is_control, is_control_allowed};
-ghost use Rattle.lan_schedule.specs.Kinds.{most_workers, refusal, too_many, or_else, where_};
+ghost use Rattle.lan_schedule.specs.Kinds.{most_workers, refusal, too_many};
 ghost use Rattle.lan_schedule.specs.Lines.{behind_race, behind_while};
 ghost use Rattle.lan_schedule.specs.Ends.{IsReached};
 ghost use Rattle.lan_schedule.specs.Stages.{StandsFor};
@@ -16,12 +17,12 @@ ghost use Rattle.lan_schedule.specs.inside.Phased.{is_inside, is_taken, is_end, 
 ghost use Rattle.lan_schedule.specs.inside.Phased.{MayBeKept, Takes};
 ghost use Rattle.lan_schedule.specs.inside.Choosing.{MayControl};
 
-use crate::halt::{Halt, Kind};
 use crate::stage::Stage;
 use lan_base::UserFrame;
 use std::alloc::{AllocError, Global};
 use std::marker::Model;
 use std::mem::replace;
+use trace_acts::{Halt, Kind};
 use trace_text::Line;
 
 /// The greatest count of bursts of a race.

@@ -23,7 +23,6 @@ ghost use Rattle.lan_schedule.specs.inside.Beside.{HasEnlisted, HasMoved, HaveRo
 ghost use Rattle.lan_schedule.specs.inside.Beside.{DidRace, EndsRace, Weaves, has_stopped, is_memory};
 ghost use Rattle.lan_schedule.specs.inside.Staged.{Did};
 
-use crate::halt::{Halt, Kind};
 use crate::keeping::{Keeping, Kept};
 use crate::phase::{Burst, Numbered};
 use crate::recorder::Recorder;
@@ -39,6 +38,7 @@ use packet_claims::Gate;
 use race_merge::{Step, merge, taken_frames};
 use std::alloc::{AllocError, Global};
 use std::thread::Threads;
+use trace_acts::{Halt, Kind};
 use transmit_words::{law_caught_up_words_keep_up, law_words_that_tell_keep_up};
 use worker_races::{
     law_a_race_of_workers_is_a_race, law_cards_of_a_race_are_right,

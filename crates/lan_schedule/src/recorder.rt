@@ -1,34 +1,13 @@
 //! Who is told what events show.
 
 ghost use Rattle.std.specs.Prelude.{MatchResult};
+ghost use Rattle.trace_acts.specs.declared.broken.Broken.{Broken};
 ghost use Rattle.lan_schedule.specs.Reports.{Report};
-ghost use Rattle.lan_schedule.specs.declared.recorder.Broken.{Broken};
 
 use lan_base::Name;
 use lan_core::{Fact, Facts};
 use std::alloc::AllocError;
-use thiserror::Error;
-
-/// Why a recorder told no more.
-#[derive(Clone, Copy, Debug, PartialEq, Eq, Error)]
-pub enum Broken {
-    /// The outlet failed.
-    #[error("the outlet failed")]
-    Failed,
-    #[error("out of memory")]
-    Memory,
-}
-
-impl From<AllocError> for Broken {
-    ghost use Rattle.std.specs.Prelude.{◌≡◌};
-    ghost use Rattle.lan_schedule.specs.declared.recorder.Broken.{Broken};
-
-    ghost from_gives = { λ _ why. why ≡ Broken.Memory };
-
-    fn from(_: AllocError) -> Self {
-        Broken::Memory
-    }
-}
+use trace_acts::Broken;
 
 /// Tells an outlet what events show, each before the next one happens. The outlet is passed beside
 /// the recorder, since a value that lends it would hide what it holds; of the recorder itself, which

@@ -3,17 +3,19 @@
 ghost use Rattle.std.specs.Prelude.{◌≡◌, nat_eq, length, map, IfNone, false};
 ghost use Rattle.std.specs.List.{list_any};
 ghost use Rattle.std.specs.Cmp.Lexicographic.{pointwise};
-ghost use Rattle.lan_schedule.specs.World.{World, is_in};
-ghost use Rattle.lan_schedule.specs.Kinds.{or_else, where_, unknown, no_frame, is_number};
+ghost use Rattle.trace_acts.specs.Names.{is_in};
+ghost use Rattle.trace_acts.specs.Kinds.{or_else, where_, unknown};
+ghost use Rattle.trace_acts.specs.declared.halt.Kind.TheVariants as kinds;
+ghost use Rattle.trace_acts.specs.Places.{is_elsewhere};
+ghost use Rattle.lan_schedule.specs.World.{World};
+ghost use Rattle.lan_schedule.specs.Kinds.{no_frame, is_number};
 ghost use Rattle.lan_schedule.specs.Kinds.{wrong_word, wrong_name, wrong_frame};
-ghost use Rattle.lan_schedule.specs.declared.halt.Kind.TheVariants as kinds;
-ghost use Rattle.lan_schedule.specs.Places.{is_elsewhere};
 ghost use Rattle.lan_schedule.specs.inside.Phased.{refusal_apart};
 ghost use Rattle.lan_schedule.specs.Stages.{StandsFor};
 
-use crate::halt::Kind;
 use crate::stage::Stage;
 use lan_base::{Name, Sci};
+use trace_acts::{Kind, is_elsewhere};
 use trace_text::Line;
 
 impl Stage {
@@ -143,26 +145,4 @@ impl Stage {
     {
         1 <= number && number as usize <= self.frames.len()
     }
-}
-
-/// Whether a line may only stand before the first station, or inside a race.
-pub fn is_elsewhere(line: &Line) -> bool
-    ensures { result ≡ is_elsewhere line.now }
-{
-    matches!(
-        line,
-        Line::DrawsCount
-            | Line::DrawsChaCha { .. }
-            | Line::DrawsList { .. }
-            | Line::Conf { .. }
-            | Line::Window { .. }
-            | Line::Rekey { .. }
-            | Line::Lag { .. }
-            | Line::Suite { .. }
-            | Line::Flag { .. }
-            | Line::Group { .. }
-            | Line::Burst { .. }
-            | Line::While
-            | Line::End
-    )
 }

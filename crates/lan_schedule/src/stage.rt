@@ -1,7 +1,7 @@
 //! A group at work: the lines after the first station are performed on it.
 
 ghost use Rattle.std.specs.Prelude.{◌≡◌, ◌==◌, ◌≤◌, ◌+◌, ◌++◌, true, is_some, nat_eq, length, map};
-ghost use Rattle.std.specs.Prelude.{OnOk, IfOk, IfErr, List, false, option_map};
+ghost use Rattle.std.specs.Prelude.{OnOk, IfOk, IfErr, List, [], false, option_map};
 ghost use Rattle.std.specs.List.{position_or_len};
 ghost use Rattle.std.specs.Option.{option_copied};
 ghost use Rattle.std.specs.Cmp.Lexicographic.{pointwise};
@@ -12,14 +12,13 @@ ghost use Rattle.lan_core.specs.declared.event.Event.TheVariants as events;
 ghost use Rattle.trace_text.specs.Writing.{IsInForm};
 ghost use Rattle.lan_core.specs.declared.fact.Fact.{Fact};
 ghost use Rattle.fact_tally.specs.Summary.{counts};
+ghost use Rattle.trace_acts.specs.declared.halt.Halt.{Halt};
+ghost use Rattle.trace_acts.specs.Places.{is_elsewhere, is_race};
 ghost use Rattle.lan_schedule.specs.World.{World, mark};
-ghost use Rattle.lan_schedule.specs.declared.halt.Halt.{Halt};
 ghost use Rattle.lan_schedule.specs.Sound.{IsTidy};
 ghost use Rattle.lan_schedule.specs.Acts.{happen, seq, look, unless};
-ghost use Rattle.lan_schedule.specs.Places.{is_elsewhere, is_race};
 ghost use Rattle.lan_schedule.specs.inside.Phased.{act_apart};
 ghost use Rattle.lan_schedule.specs.Lines.{send, add_user, begin, cut_in, mended_in, deed};
-ghost use Rattle.lan_schedule.specs.Answers.{halt_of};
 ghost use Rattle.lan_schedule.specs.Ends.{moment};
 ghost use Rattle.lan_schedule.specs.Stages.{StandsFor};
 ghost use Rattle.lan_schedule.specs.inside.Set.{most_claims};
@@ -34,22 +33,18 @@ ghost use Rattle.lan_core.specs.Batches.{IsChecked};
 ghost use Rattle.lan_schedule.specs.inside.Staged.{Did, DidWhere, Happened, HasStepped, WentOn};
 ghost use Rattle.lan_schedule.specs.inside.Staged.{Changed, IsOpening};
 
-use crate::choices::Choices;
 use crate::frames::Frames;
-use crate::halt::{Halt, Kind};
-use crate::links::Links;
 use crate::recorder::Recorder;
-use crate::setup::{group_of, settings_of, supply_of};
-use crate::supply::Supply;
 use crate::words::Words;
 use fact_tally::Tally;
 use lan_base::{Mac, Name, Octets, Sci, UserFrame};
-use lan_core::{Event, Fact, Facts, Lan, StepError, Stop};
+use lan_core::{Event, Fact, Facts, Lan, Settings, StepError};
 use packet_claims::Gate;
 use race_merge::Step;
 use rx_slots::Checked;
 use std::alloc::{AllocError, Global};
 use std::thread::Threads;
+use trace_acts::{Choices, Halt, Links, Supply, halt_of, position, settings_of, supply_of};
 use trace_text::Line;
 use transmit_words::{law_few_claims_spend_no_words, law_words_keep_a_run_thrifty};
 use worker_races::{law_an_event_tells_the_words, law_control_goes_on};
@@ -507,16 +502,16 @@ impl Stage {
     }
 }
 
-/// The place of a name; where there is none, the count of names.
-pub fn position(names: &[Name], name: &Name) -> usize
-    ensures { result ≡ position_or_len (pointwise nat_eq name.now) names.now }
+/// A group to which nothing happened.
+fn group_of(alloc: Global, settings: Settings) -> Result<Lan, Halt>
+    ensures stands { IfOk result (λ lan. (users : List UserFrame)
+        → GroupStandsFor settings users lan []) }
+    ensures memory { IfErr result (λ halt. halt ≡ Halt.Memory) }
 {
-    for (place, other) in names.iter().enumerate() {
-        if name.octets() == other.octets() {
-            return place;
-        }
+    match Lan::new(alloc, settings) {
+        Ok(lan) => Ok(lan),
+        Err(_) => Err(Halt::Memory),
     }
-    names.len()
 }
 
 /// A count or a place of stations, of which there are fewer than 256.
@@ -603,20 +598,5 @@ pub fn count_all(tally: &mut Tally, facts: &[Fact])
 {
     for fact in facts {
         tally.add(fact);
-    }
-}
-
-/// Why a trace ends where its group stops, at the line of this number.
-pub fn halt_of(stop: Stop, line: u32) -> Halt
-    ensures { result ≡ halt_of line stop }
-{
-    match stop {
-        Stop::DrawsSpent => Halt::Trace {
-            line,
-            kind: Kind::DrawsSpent,
-        },
-        Stop::Limit(which) => Halt::Limit(which),
-        Stop::RepeatedDraw { first, second } => Halt::RepeatedDraw { first, second },
-        Stop::Forged { .. } => Halt::Forged { line },
     }
 }

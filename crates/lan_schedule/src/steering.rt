@@ -1,11 +1,11 @@
 //! Control of a race: its lines are performed while the workers claim.
 
-use crate::halt::Halt;
 use crate::keeping::{Keeping, Kept};
 use crate::phase::Numbered;
 use crate::stage::Stage;
 use data_workers::Steering;
 use packet_claims::Gate;
+use trace_acts::Halt;
 
 /// A group at work with the lines of control, what these show, and how they end.
 #[derive(Drop)]

@@ -8,12 +8,13 @@ ghost use Rattle.lan_schedule.specs.inside.Weaves.{shown_in, shown_of, kept_behi
 ghost use Rattle.lan_schedule.specs.inside.Weaves.{claim_shown, facts_in, reports_with, WereToldUpTo};
 
 use crate::keeping::Kept;
-use crate::recorder::{Broken, Recorder};
+use crate::recorder::Recorder;
 use crate::stage::count_all;
 use fact_tally::Tally;
 use lan_base::{Name, Protected};
 use lan_core::{Event, Fact, Facts, Lack};
 use std::alloc::{AllocError, Global};
+use trace_acts::Broken;
 
 /// What the events of a race show, in their order, by what was kept of those of control, and by the
 /// frames of the claims that got a number; all of it is counted.

@@ -9,11 +9,11 @@ use Rattle.text_lines.specs.declared.reading.End.{End}
 use Rattle.text_lines.specs.declared.reading.End.TheVariants as ends
 use Rattle.text_lines.specs.Texts.{whole_lines, lines_of}
 use Rattle.text_lines.specs.Reading.{Sourced, Takes, Runs, Reads, Ends, lines_within}
-use Rattle.lan_schedule.specs.declared.halt.Halt.{Halt}
-use Rattle.lan_schedule.specs.declared.halt.Halt.TheVariants as halts
-use Rattle.lan_schedule.specs.declared.recorder.Broken.{Broken}
-use Rattle.lan_schedule.specs.declared.recorder.Broken.TheVariants as broken
-use Rattle.lan_schedule.specs.Ends.{halt_of_broken}
+use Rattle.trace_acts.specs.declared.halt.Halt.{Halt}
+use Rattle.trace_acts.specs.declared.halt.Halt.TheVariants as halts
+use Rattle.trace_acts.specs.declared.broken.Broken.{Broken}
+use Rattle.trace_acts.specs.declared.broken.Broken.TheVariants as broken
+use Rattle.trace_acts.specs.Halts.{halt_of_broken}
 use Rattle.replay.specs.declared.cause.Cause.{Cause}
 use Rattle.replay.specs.declared.cause.Cause.TheVariants as causes
 use Rattle.replay.specs.Sinks.{Sunk, Wrote, BrokeOff, WroteSome, Fails, joined}

@@ -8,10 +8,10 @@ use Rattle.text_lines.specs.Texts.{lines_of}
 use Rattle.text_lines.specs.Moments.{Moment as LinesMoment}
 use Rattle.text_lines.specs.declared.reading.End.{End}
 use Rattle.text_lines.specs.Reading.{Sourced, Takes, Runs, Reads}
-use Rattle.lan_schedule.specs.declared.halt.Halt.{Halt}
-use Rattle.lan_schedule.specs.declared.halt.Halt.TheVariants as halts
-use Rattle.lan_schedule.specs.declared.recorder.Broken.{Broken}
-use Rattle.lan_schedule.specs.declared.recorder.Broken.TheVariants as broken
+use Rattle.trace_acts.specs.declared.halt.Halt.{Halt}
+use Rattle.trace_acts.specs.declared.halt.Halt.TheVariants as halts
+use Rattle.trace_acts.specs.declared.broken.Broken.{Broken}
+use Rattle.trace_acts.specs.declared.broken.Broken.TheVariants as broken
 use Rattle.lan_schedule.specs.declared.commands.Replay.{Replay}
 use Rattle.lan_schedule.specs.Races.{Chance}
 use Rattle.lan_schedule.specs.World.{World, beginning}

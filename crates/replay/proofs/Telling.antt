@@ -1,7 +1,7 @@
 -- What a sink holds after a recorder was told reports.
 use Rattle.std.proofs.Common.{◌≡◌, ℕ, List, [], ◌∷◌, ◌++◌, map, sym, ap, ◌∙◌, subst}
 use Rattle.std.proofs.lemmas.List.{map-append}
-use Rattle.lan_schedule.specs.declared.recorder.Broken.{Broken}
+use Rattle.trace_acts.specs.declared.broken.Broken.{Broken}
 use Rattle.lan_schedule.specs.Reports.{Report, AreTold}
 use Rattle.replay.specs.Sinks.{Sunk, Wrote, Fails}
 use Rattle.replay.specs.Shown.{text_of}

@@ -8,8 +8,8 @@ use Rattle.std.specs.Result.{IsErrAnd}
 use Rattle.std.proofs.lemmas.Result.{err_from_is_err_and}
 use Rattle.lan_base.specs.Faults.{Rose}
 use Rattle.lan_base.specs.Told.{after}
-use Rattle.lan_schedule.specs.declared.recorder.Broken.{Broken}
-use Rattle.lan_schedule.specs.declared.recorder.Broken.TheVariants.{Failed, Memory}
+use Rattle.trace_acts.specs.declared.broken.Broken.{Broken}
+use Rattle.trace_acts.specs.declared.broken.Broken.TheVariants.{Failed, Memory}
 use Rattle.replay.specs.Sinks.{Sunk, Wrote, BrokeOff, Fails, joined}
 
 pub after-none : (told : Option (List ℕ)) → told ≡ after told []

@@ -7,8 +7,8 @@ use Rattle.lan_base.specs.Faults.{Rose}
 use Rattle.lan_base.specs.Told.{before, after}
 use Rattle.text_lines.specs.Texts.{whole_lines}
 use Rattle.text_lines.specs.Reading.{Sourced, most_at_once}
-use Rattle.lan_schedule.specs.declared.halt.Halt.{Halt}
-use Rattle.lan_schedule.specs.declared.halt.Halt.TheVariants as halts
+use Rattle.trace_acts.specs.declared.halt.Halt.{Halt}
+use Rattle.trace_acts.specs.declared.halt.Halt.TheVariants as halts
 use Rattle.replay.specs.declared.cause.Cause.{Cause}
 use Rattle.replay.specs.declared.cause.Cause.TheVariants as causes
 use Rattle.replay.specs.Sinks.{Sunk, Wrote, BrokeOff, WroteSome, joined}

@@ -4,9 +4,9 @@ ghost use Rattle.std.specs.Prelude.{◌≡◌};
 ghost use Rattle.replay.specs.Causes.{answered, cause_of, cause_of_halt, cause_of_broken, ended};
 
 use lan_core::Which;
-use lan_schedule::{Broken, Halt, Kind};
 use text_lines::End;
 use thiserror::Error;
+use trace_acts::{Broken, Halt, Kind};
 
 /// Why a trace was not read, performed and shown to its end.
 #[derive(Clone, Copy, Debug, PartialEq, Eq, Error)]

@@ -1,9 +1,10 @@
 //! Who takes the lines of a trace: a replay, and whoever is told what it shows.
 
 use crate::gate::AnyGate;
-use lan_schedule::{Halt, Recorder, Replay};
+use lan_schedule::{Recorder, Replay};
 use std::thread::Threads;
 use text_lines::LineTaker;
+use trace_acts::Halt;
 
 /// A replay with a recorder, which take lines together, at a gate; its races start threads.
 #[derive(Drop)]

@@ -17,12 +17,11 @@ use crate::unrecorded::Unrecorded;
 use crate::writing::write;
 use fact_tally::Tally;
 use lan_base::{Sink, Source};
-use lan_schedule::{
-    Broken, Replay, law_acts_stop_for_their_own_reasons, law_lines_leave_a_tidy_world,
-};
+use lan_schedule::{Replay, law_acts_stop_for_their_own_reasons, law_lines_leave_a_tidy_world};
 use std::alloc::Global;
 use std::thread::Threads;
 use text_lines::read_lines;
+use trace_acts::Broken;
 
 /// The greatest count of octets of an input.
 pub const MAX_INPUT: usize = 4_194_304;

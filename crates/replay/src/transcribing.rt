@@ -6,9 +6,10 @@ ghost use Rattle.transcript.specs.Rendering.{transcript};
 use crate::writing::write;
 use lan_base::{Name, Sink};
 use lan_core::{Fact, Facts};
-use lan_schedule::{Broken, Recorder};
+use lan_schedule::Recorder;
 use rx_slots::Arrival;
 use std::alloc::{AllocError, Global};
+use trace_acts::Broken;
 use transcript::render;
 
 /// A recorder that writes the lines of each event's facts by one call.

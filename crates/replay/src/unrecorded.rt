@@ -2,8 +2,9 @@
 
 use lan_base::Name;
 use lan_core::{Fact, Facts};
-use lan_schedule::{Broken, Recorder};
+use lan_schedule::Recorder;
 use std::alloc::AllocError;
+use trace_acts::Broken;
 
 /// A recorder that drops what it is told.
 #[derive(Clone, Copy, Debug)]

@@ -4,7 +4,7 @@ ghost use Rattle.std.specs.Prelude.{[], ◌∷◌, MatchResult};
 ghost use Rattle.replay.specs.Sinks.{Fails, Wrote, sunk};
 
 use lan_base::{Sink, Unwritten, write_all};
-use lan_schedule::Broken;
+use trace_acts::Broken;
 
 /// Writes a text whole, or a part of it.
 pub fn write<K: Sink>(text: &[u8], sink: &mut K) -> Result<(), Broken>

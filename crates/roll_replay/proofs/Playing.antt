@@ -7,11 +7,11 @@ use Rattle.text_lines.specs.declared.reading.End.{End}
 use Rattle.text_lines.specs.declared.reading.End.TheVariants as ends
 use Rattle.text_lines.specs.Moments.{Moment as LinesMoment}
 use Rattle.text_lines.specs.Reading.{Sourced, Takes, Reads}
-use Rattle.lan_schedule.specs.declared.halt.Halt.{Halt}
-use Rattle.lan_schedule.specs.declared.halt.Halt.TheVariants as halts
-use Rattle.lan_schedule.specs.declared.recorder.Broken.{Broken}
-use Rattle.lan_schedule.specs.declared.recorder.Broken.TheVariants as broken
-use Rattle.lan_schedule.specs.Ends.{halt_of_broken}
+use Rattle.trace_acts.specs.declared.halt.Halt.{Halt}
+use Rattle.trace_acts.specs.declared.halt.Halt.TheVariants as halts
+use Rattle.trace_acts.specs.declared.broken.Broken.{Broken}
+use Rattle.trace_acts.specs.declared.broken.Broken.TheVariants as broken
+use Rattle.trace_acts.specs.Halts.{halt_of_broken}
 use Rattle.replay.specs.declared.cause.Cause.TheVariants as causes
 use Rattle.replay.specs.Sinks.{Sunk, Wrote, BrokeOff, WroteSome, Fails}
 use Rattle.replay.specs.Causes.{cause_of, ended}

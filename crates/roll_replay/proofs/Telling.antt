@@ -1,7 +1,7 @@
 -- What a sink holds after reports of two groups were told.
 use Rattle.std.proofs.Common.{ℕ, List, [], ◌∷◌, ◌++◌, map, sym, ap, subst}
 use Rattle.std.proofs.lemmas.List.{map-append}
-use Rattle.lan_schedule.specs.declared.recorder.Broken.{Broken}
+use Rattle.trace_acts.specs.declared.broken.Broken.{Broken}
 use Rattle.roll_schedule.specs.Reports.{Report, AreTold}
 use Rattle.replay.specs.Sinks.{Sunk, Wrote, Fails}
 use Rattle.replay.proofs.Public.{wrote-more, fails-behind}

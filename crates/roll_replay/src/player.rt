@@ -1,8 +1,8 @@
 //! Who takes the lines of a trace of two groups: a replay, and whoever is told what it shows.
 
-use lan_schedule::Halt;
 use roll_schedule::{TwinRecorder, TwinReplay};
 use text_lines::LineTaker;
+use trace_acts::Halt;
 
 /// A replay with a recorder, which take lines together.
 #[derive(Drop)]

@@ -7,10 +7,10 @@ ghost use Rattle.roll_replay.specs.Written.{digit, marked};
 use cak_roll::GroupNumber;
 use lan_base::{Name, Sink};
 use lan_core::Fact;
-use lan_schedule::Broken;
 use replay::write;
 use roll_schedule::TwinRecorder;
 use std::alloc::{AllocError, Global};
+use trace_acts::Broken;
 use transcript::render;
 
 /// A recorder that writes the lines of what each event shows in a group by one call.

@@ -9,9 +9,9 @@ use Rattle.lan_core.specs.declared.stop.Stop.{Stop}
 use Rattle.cak_roll.specs.declared.event.TwinEvent.{TwinEvent}
 use Rattle.cak_roll.specs.Twin.{TwinHappening}
 use Rattle.cak_roll.specs.Stepping.{happening, twin_stop}
-use Rattle.lan_schedule.specs.declared.halt.Halt.{Halt}
-use Rattle.lan_schedule.specs.declared.halt.Halt.TheVariants as halts
-use Rattle.lan_schedule.specs.declared.recorder.Broken.{Broken}
+use Rattle.trace_acts.specs.declared.halt.Halt.{Halt}
+use Rattle.trace_acts.specs.declared.halt.Halt.TheVariants as halts
+use Rattle.trace_acts.specs.declared.broken.Broken.{Broken}
 use Rattle.roll_schedule.specs.World.{World, Kept, pair_of}
 use Rattle.roll_schedule.specs.Acts.{Act, nothing, refuse, happen, change, seq, look, perform}
 use Rattle.roll_schedule.specs.Acts.{Course, Goes, Stops, and_then, each, span, supply, answered}

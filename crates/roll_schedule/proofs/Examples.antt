@@ -13,8 +13,8 @@ use Rattle.cak_roll.specs.declared.event.TwinEvent.TheVariants as twins
 use Rattle.cak_roll.specs.Twin.{adopters, run_of, Twin}
 use Rattle.trace_text.specs.declared.line.Line.TheVariants as lines
 use Rattle.roll_text.specs.declared.line.RollLine.TheVariants.{Plain, Group2, Adopt, Leave}
-use Rattle.lan_schedule.specs.declared.halt.Kind.TheVariants as kinds
-use Rattle.lan_schedule.specs.Settings.{no_choice}
+use Rattle.trace_acts.specs.declared.halt.Kind.TheVariants as kinds
+use Rattle.trace_acts.specs.Settings.{no_choice}
 use Rattle.roll_schedule.specs.World.{joined, nothing_kept, waiting, World}
 use Rattle.roll_schedule.specs.Acts.{Goes, perform}
 use Rattle.roll_schedule.specs.Kinds.{refusal}

@@ -18,13 +18,12 @@ use Rattle.cak_roll.specs.Stepping.{Supply, happening, twin_stop, twin_draws}
 use Rattle.cak_roll.specs.Standing.{StandsFor as TwinStandsFor}
 use Rattle.cak_roll.specs.Answers.{IsGiven, MayHappen, GoesOnWith, told_in}
 use Rattle.cak_roll.proofs.Public.{lone-then}
-use Rattle.lan_schedule.specs.declared.halt.Halt.{Halt}
-use Rattle.lan_schedule.specs.declared.halt.Halt.TheVariants as halts
-use Rattle.lan_schedule.specs.declared.recorder.Broken.{Broken}
-use Rattle.lan_schedule.specs.Ends.{halt_of_broken}
-use Rattle.lan_schedule.specs.Answers.{halt_of}
-use Rattle.lan_schedule.specs.Settings.{rule_of}
-use Rattle.lan_schedule.specs.Supply.{draw_at, supply_nth}
+use Rattle.trace_acts.specs.declared.halt.Halt.{Halt}
+use Rattle.trace_acts.specs.declared.halt.Halt.TheVariants as halts
+use Rattle.trace_acts.specs.declared.broken.Broken.{Broken}
+use Rattle.trace_acts.specs.Halts.{halt_of_broken, halt_of}
+use Rattle.trace_acts.specs.Settings.{rule_of}
+use Rattle.trace_acts.specs.Supply.{draw_at, supply_nth}
 use Rattle.roll_schedule.specs.declared.stage.Stage.{Stage}
 use Rattle.roll_schedule.specs.World.{World, pair_of, names_in, senders_of}
 use Rattle.roll_schedule.specs.Acts.{happen, perform, Course, Goes, Stops, supply, answered}

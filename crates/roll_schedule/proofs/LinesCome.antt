@@ -23,14 +23,16 @@ use Rattle.roll_text.specs.declared.line.RollLine.{RollLine}
 use Rattle.roll_text.specs.declared.line.RollLine.TheVariants.{Plain, Group2, Adopt, Leave}
 use Rattle.roll_text.specs.InForm.{IsInFormRoll}
 use Rattle.roll_text.specs.Reading.{roll_line_in}
-use Rattle.lan_schedule.specs.declared.choices.Keyed.{Keyed}
-use Rattle.lan_schedule.specs.declared.halt.Kind.{Kind}
-use Rattle.lan_schedule.specs.declared.halt.Kind.TheVariants as kinds
-use Rattle.lan_schedule.specs.Kinds.{where_, unknown, may_list}
-use Rattle.lan_schedule.specs.Lines.{chosen_by}
-use Rattle.lan_schedule.specs.Settings.{rule_of, secret_of, settings_of}
-use Rattle.lan_schedule.specs.Supply.{draw_at}
-use Rattle.lan_schedule.specs.World.{is_in}
+use Rattle.trace_acts.specs.declared.choices.Keyed.{Keyed}
+use Rattle.trace_acts.specs.declared.halt.Kind.{Kind}
+use Rattle.trace_acts.specs.declared.halt.Kind.TheVariants as kinds
+use Rattle.trace_acts.specs.Kinds.{where_, unknown, may_list}
+use Rattle.trace_acts.specs.Choosing.{chosen_by}
+use Rattle.trace_acts.specs.Settings.{rule_of, secret_of, settings_of}
+use Rattle.trace_acts.specs.Supply.{draw_at}
+use Rattle.trace_acts.specs.Names.{is_in}
+use Rattle.trace_acts.proofs.Public.{bytes-all, chosen-draws, new-station, or-none, place-there}
+use Rattle.trace_acts.proofs.Public.{unbegun-by, user-at-end, where-none}
 use Rattle.roll_schedule.specs.World.{World, Kept, pair_of, pair_by, count, names, place, is_out, has_adopted}
 use Rattle.roll_schedule.specs.Acts.{Act, happen}
 use Rattle.roll_schedule.specs.Kinds.{group_of, may_be_second, may_stand, wrong, refusal}
@@ -40,8 +42,6 @@ use Rattle.roll_schedule.specs.Lines.{deed_read, performed}
 use Rattle.roll_schedule.specs.Sound.{IsTidy}
 use Rattle.roll_schedule.specs.inside.Choosing.{with_second}
 use Rattle.roll_schedule.specs.inside.Comes.{Comes}
-use Rattle.lan_schedule.proofs.Public.{bytes-all, chosen-draws, new-station, or-none}
-use Rattle.lan_schedule.proofs.Public.{place-there, unbegun-by, user-at-end, where-none}
 use Rattle.roll_schedule.proofs.Coming.{comes-flow, comes-rounds, comes-ticks, comes-unless}
 use Rattle.roll_schedule.proofs.Coming.{not-false, tidy-same}
 use Rattle.roll_schedule.proofs.Users.{AreLegal, run-more}

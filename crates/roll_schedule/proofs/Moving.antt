@@ -10,14 +10,14 @@ use Rattle.cak_roll.specs.declared.event.TwinEvent.TheVariants.{Send}
 use Rattle.cak_roll.specs.Standing.{StandsFor as TwinStandsFor}
 use Rattle.trace_text.specs.declared.line.Line.{Line}
 use Rattle.trace_text.specs.declared.line.Line.TheVariants as lines
-use Rattle.lan_schedule.specs.declared.choices.Choices.{Choices}
-use Rattle.lan_schedule.specs.declared.halt.Halt.{Halt}
-use Rattle.lan_schedule.specs.declared.recorder.Broken.{Broken}
-use Rattle.lan_schedule.specs.Lines.{chosen_by}
-use Rattle.lan_schedule.specs.Settings.{rule_of}
-use Rattle.lan_schedule.specs.Supply.{draws_after, supply_nth}
-use Rattle.lan_schedule.specs.Places.{is_elsewhere}
-use Rattle.lan_schedule.proofs.Public.{user-at-end}
+use Rattle.trace_acts.specs.declared.choices.Choices.{Choices}
+use Rattle.trace_acts.specs.declared.halt.Halt.{Halt}
+use Rattle.trace_acts.specs.declared.broken.Broken.{Broken}
+use Rattle.trace_acts.specs.Choosing.{chosen_by}
+use Rattle.trace_acts.specs.Settings.{rule_of}
+use Rattle.trace_acts.specs.Supply.{draws_after, supply_nth}
+use Rattle.trace_acts.specs.Places.{is_elsewhere}
+use Rattle.trace_acts.proofs.Public.{user-at-end}
 use Rattle.roll_schedule.specs.declared.stage.Stage.{Stage}
 use Rattle.roll_schedule.specs.World.{World, Kept, pair_by, pair_of, place, has_spread}
 use Rattle.roll_schedule.specs.Acts.{Act, happen, look, perform}

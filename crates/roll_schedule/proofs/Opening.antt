@@ -14,17 +14,17 @@ use Rattle.trace_text.specs.declared.line.Line.{Line}
 use Rattle.trace_text.specs.declared.line.Line.TheVariants as lines
 use Rattle.roll_text.specs.declared.line.RollLine.{RollLine}
 use Rattle.roll_text.specs.declared.line.RollLine.TheVariants.{Plain, Group2, Adopt, Leave}
-use Rattle.lan_schedule.specs.declared.choices.Choices.{Choices}
-use Rattle.lan_schedule.specs.declared.choices.Keyed.{Keyed}
-use Rattle.lan_schedule.specs.declared.halt.Halt.{Halt}
-use Rattle.lan_schedule.specs.declared.halt.Kind.{Kind}
-use Rattle.lan_schedule.specs.declared.halt.Kind.TheVariants as kinds
-use Rattle.lan_schedule.specs.declared.recorder.Broken.{Broken}
-use Rattle.lan_schedule.specs.Kinds.{first_of, is_allowed, where_}
-use Rattle.lan_schedule.specs.Lines.{chosen_by}
-use Rattle.lan_schedule.specs.Settings.{rule_of}
-use Rattle.lan_schedule.specs.Supply.{draw_at, supply_nth}
-use Rattle.lan_schedule.specs.Places.{is_elsewhere, IsStation}
+use Rattle.trace_acts.specs.declared.choices.Choices.{Choices}
+use Rattle.trace_acts.specs.declared.choices.Keyed.{Keyed}
+use Rattle.trace_acts.specs.declared.halt.Halt.{Halt}
+use Rattle.trace_acts.specs.declared.halt.Kind.{Kind}
+use Rattle.trace_acts.specs.declared.halt.Kind.TheVariants as kinds
+use Rattle.trace_acts.specs.declared.broken.Broken.{Broken}
+use Rattle.trace_acts.specs.Kinds.{first_of, is_allowed, where_}
+use Rattle.trace_acts.specs.Choosing.{chosen_by}
+use Rattle.trace_acts.specs.Settings.{rule_of}
+use Rattle.trace_acts.specs.Supply.{draw_at, supply_nth}
+use Rattle.trace_acts.specs.Places.{is_elsewhere, IsStation}
 use Rattle.roll_schedule.specs.declared.stage.Stage.{Stage}
 use Rattle.roll_schedule.specs.declared.commands.TwinReplay.{TwinReplay}
 use Rattle.roll_schedule.specs.World.{World, pair_by, waiting}
@@ -163,10 +163,6 @@ module _ {K : Type 0} {Took : K → Report → K → Type 0} {Broke : K → Repo
         is_new halted (λ i. waiting (sym number i) (sym chosen i) (sym second i)) outlet)
 
 -- ---- the first station
-
-pub no-second : (o : Option Keyed) → ((x : Keyed) → o ≡ Some x → ⊥) → o ≡ None
-no-second None other = refl
-no-second (Some keyed) other = absurd (other keyed refl)
 
 pub station-later : (line : Line) → IsStation line → is_elsewhere line ≡ false
 station-later (lines.Station name sci priority) station = refl

@@ -11,12 +11,12 @@ use Rattle.trace_text.specs.declared.line.Line.{Line}
 use Rattle.trace_text.specs.declared.line.Line.TheVariants as lines
 use Rattle.roll_text.specs.declared.line.RollLine.{RollLine}
 use Rattle.roll_text.specs.declared.line.RollLine.TheVariants.{Plain}
-use Rattle.lan_schedule.specs.declared.halt.Kind.{Kind}
-use Rattle.lan_schedule.specs.declared.halt.Kind.TheVariants as kinds
-use Rattle.lan_schedule.specs.Kinds.{first_of, is_allowed, or_else, unknown, where_}
-use Rattle.lan_schedule.specs.World.{is_in}
-use Rattle.lan_schedule.specs.Places.{is_elsewhere}
-use Rattle.lan_schedule.proofs.Public.{allowed-then, map-map-scis}
+use Rattle.trace_acts.specs.declared.halt.Kind.{Kind}
+use Rattle.trace_acts.specs.declared.halt.Kind.TheVariants as kinds
+use Rattle.trace_acts.specs.Kinds.{first_of, is_allowed, or_else, unknown, where_}
+use Rattle.trace_acts.specs.Names.{is_in}
+use Rattle.trace_acts.specs.Places.{is_elsewhere}
+use Rattle.trace_acts.proofs.Public.{allowed-then, map-map-scis}
 use Rattle.roll_schedule.specs.declared.stage.Stage.{Stage}
 use Rattle.roll_schedule.specs.World.{names, place, scis, World}
 use Rattle.roll_schedule.specs.Kinds.{may_be_second, may_stand, refusal, wrong, wrong_plain}

@@ -18,9 +18,9 @@ use Rattle.cak_roll.specs.Twin.{Pair, Twin, TwinHappening, run_of, merged, event
 use Rattle.cak_roll.specs.Stepping.{Supply, behind, performed, shown, stop_after, part_stop}
 use Rattle.cak_roll.specs.Stepping.{first_draws, twin_draws, first_part, first_stop_of}
 use Rattle.cak_roll.specs.Stepping.{second_stop_of, twin_stop, happening}
-use Rattle.lan_schedule.specs.declared.halt.Halt.{Halt}
-use Rattle.lan_schedule.specs.declared.halt.Halt.TheVariants as halts
-use Rattle.lan_schedule.specs.Answers.{halt_of}
+use Rattle.trace_acts.specs.declared.halt.Halt.{Halt}
+use Rattle.trace_acts.specs.declared.halt.Halt.TheVariants as halts
+use Rattle.trace_acts.specs.Halts.{halt_of}
 use Rattle.roll_schedule.specs.World.{World, pair_of}
 use Rattle.roll_schedule.specs.Acts.{Act, nothing, refuse, happen, change, seq, look, Course, Goes}
 use Rattle.roll_schedule.specs.Acts.{Stops, answered, and_then, perform, supply}

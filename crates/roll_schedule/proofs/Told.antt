@@ -25,7 +25,7 @@ use Rattle.cak_roll.specs.Stepping.{Supply, happening, in_groups, first_part, se
 use Rattle.cak_roll.specs.Answers.{told_of, told_in}
 use Rattle.cak_roll.proofs.Public.{started_in, stations-then}
 use Rattle.roll_schedule.specs.World.{names_in, senders_of}
-use Rattle.lan_schedule.specs.declared.recorder.Broken.{Broken}
+use Rattle.trace_acts.specs.declared.broken.Broken.{Broken}
 use Rattle.roll_schedule.specs.Reports.{AreTold, Report, report_of}
 use Rattle.roll_schedule.specs.inside.Telling.{started_name, started_sci, adopted_name, sender_in}
 use Rattle.roll_schedule.specs.inside.Telling.{senders_in, sent_in, report_with, AreTelling}

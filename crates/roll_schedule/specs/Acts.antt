@@ -5,12 +5,12 @@ use Rattle.lan_core.specs.declared.stop.Stop.{Stop}
 use Rattle.cak_roll.specs.declared.event.TwinEvent.{TwinEvent}
 use Rattle.cak_roll.specs.Twin.{TwinHappening}
 use Rattle.cak_roll.specs.Stepping.{Supply, happening, twin_stop, twin_draws}
-use Rattle.lan_schedule.specs.declared.halt.Halt.{Halt}
-use Rattle.lan_schedule.specs.declared.halt.Halt.TheVariants.{Trace}
-use Rattle.lan_schedule.specs.declared.halt.Kind.{Kind}
-use Rattle.lan_schedule.specs.Settings.{rule_of}
-use Rattle.lan_schedule.specs.Supply.{draws_after}
-use Rattle.lan_schedule.specs.Answers.{halt_of}
+use Rattle.trace_acts.specs.declared.halt.Halt.{Halt}
+use Rattle.trace_acts.specs.declared.halt.Halt.TheVariants.{Trace}
+use Rattle.trace_acts.specs.declared.halt.Kind.{Kind}
+use Rattle.trace_acts.specs.Settings.{rule_of}
+use Rattle.trace_acts.specs.Supply.{draws_after}
+use Rattle.trace_acts.specs.Halts.{halt_of}
 use Rattle.roll_schedule.specs.World.{World, Kept, pair_of}
 
 -- nothing; the line is refused; an event happens; what is kept changes; one act and then another; or

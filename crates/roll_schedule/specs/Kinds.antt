@@ -11,12 +11,11 @@ use Rattle.trace_text.specs.declared.line.Line.TheVariants.{Cut, Mend, Restart, 
 use Rattle.roll_text.specs.declared.line.RollLine.{RollLine}
 use Rattle.roll_text.specs.declared.line.RollLine.TheVariants.{Plain, Group2, Adopt, Leave}
 use Rattle.roll_text.specs.Reading.{roll_line_in}
-use Rattle.lan_schedule.specs.declared.halt.Kind.{Kind}
-use Rattle.lan_schedule.specs.declared.halt.Kind.TheVariants.{NameTaken, Order, SciTaken}
-use Rattle.lan_schedule.specs.declared.choices.Keyed.{Keyed}
-use Rattle.lan_schedule.specs.Kinds.{kind_of_fault, is_allowed, or_else, where_, unknown}
-use Rattle.lan_schedule.specs.Kinds.{first_of}
-use Rattle.lan_schedule.specs.World.{is_in}
+use Rattle.trace_acts.specs.declared.halt.Kind.{Kind}
+use Rattle.trace_acts.specs.declared.halt.Kind.TheVariants.{NameTaken, Order, SciTaken}
+use Rattle.trace_acts.specs.declared.choices.Keyed.{Keyed}
+use Rattle.trace_acts.specs.Kinds.{kind_of_fault, is_allowed, or_else, where_, unknown, first_of}
+use Rattle.trace_acts.specs.Names.{is_in}
 use Rattle.roll_schedule.specs.World.{World, names, scis, place, has_adopted, is_out}
 
 -- the group of a number, 1 or 2

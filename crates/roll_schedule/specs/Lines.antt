@@ -12,11 +12,11 @@ use Rattle.trace_text.specs.declared.line.Line.TheVariants as lines
 use Rattle.roll_text.specs.declared.line.RollLine.{RollLine}
 use Rattle.roll_text.specs.declared.line.RollLine.TheVariants.{Plain, Group2, Adopt, Leave}
 use Rattle.roll_text.specs.Reading.{roll_line_in}
-use Rattle.lan_schedule.specs.declared.halt.Kind.{Kind}
-use Rattle.lan_schedule.specs.declared.choices.Choices.{Choices}
-use Rattle.lan_schedule.specs.Settings.{secret_of}
-use Rattle.lan_schedule.specs.World.{is_cut, with_link, without_link}
-use Rattle.lan_schedule.specs.Lines.{chosen_by}
+use Rattle.trace_acts.specs.declared.halt.Kind.{Kind}
+use Rattle.trace_acts.specs.declared.choices.Choices.{Choices}
+use Rattle.trace_acts.specs.Settings.{secret_of}
+use Rattle.trace_acts.specs.Links.{is_cut, with_link, without_link}
+use Rattle.trace_acts.specs.Choosing.{chosen_by}
 use Rattle.roll_schedule.specs.World.{World, Kept, count, place, joined, is_out, frames, sender}
 use Rattle.roll_schedule.specs.World.{spread_in, has_spread}
 use Rattle.roll_schedule.specs.Acts.{Act, nothing, refuse, happen, change, seq, look, each, span}

@@ -4,8 +4,8 @@ use Rattle.lan_core.specs.Fresh.{IsFresh}
 use Rattle.lan_core.specs.Unstopped.{AreDraws}
 use Rattle.cak_roll.specs.declared.event.GroupNumber.TheVariants.{Second}
 use Rattle.cak_roll.specs.Twin.{merged, run_of, IsTwinRun}
-use Rattle.lan_schedule.specs.Settings.{rule_of}
-use Rattle.lan_schedule.specs.Supply.{draw_at}
+use Rattle.trace_acts.specs.Settings.{rule_of}
+use Rattle.trace_acts.specs.Supply.{draw_at}
 use Rattle.roll_schedule.specs.World.{World, pair_of}
 
 -- a world's run is a twin run, and what was drawn in it differs; nothing happened before the first

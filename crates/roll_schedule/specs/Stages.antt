@@ -6,7 +6,7 @@ use Rattle.cak_roll.specs.declared.event.GroupNumber.{GroupNumber}
 use Rattle.cak_roll.specs.declared.event.GroupNumber.TheVariants.{First, Second}
 use Rattle.cak_roll.specs.Twin.{run_of}
 use Rattle.cak_roll.specs.Standing.{StandsFor as TwinStandsFor}
-use Rattle.lan_schedule.specs.Supply.{supply_nth}
+use Rattle.trace_acts.specs.Supply.{supply_nth}
 use Rattle.roll_schedule.specs.declared.party.Party.{Party}
 use Rattle.roll_schedule.specs.declared.stage.Stage.{Stage}
 use Rattle.roll_schedule.specs.World.{World, pair_of, names_in, senders_of, spread_in}

@@ -1,7 +1,7 @@
 -- For which world a replay of two groups stands.
 use Rattle.std.specs.Prelude.{◌≡◌, Option, Some, None, Result}
-use Rattle.lan_schedule.specs.declared.halt.Halt.{Halt}
-use Rattle.lan_schedule.specs.declared.recorder.Broken.{Broken}
+use Rattle.trace_acts.specs.declared.halt.Halt.{Halt}
+use Rattle.trace_acts.specs.declared.broken.Broken.{Broken}
 use Rattle.roll_schedule.specs.declared.stage.Stage.{Stage}
 use Rattle.roll_schedule.specs.declared.commands.TwinReplay.{TwinReplay}
 use Rattle.roll_schedule.specs.World.{World, waiting}

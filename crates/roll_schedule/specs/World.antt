@@ -11,11 +11,11 @@ use Rattle.cak_roll.specs.declared.event.GroupNumber.{GroupNumber}
 use Rattle.cak_roll.specs.declared.event.GroupNumber.TheVariants.{First, Second}
 use Rattle.cak_roll.specs.Twin.{Pair, Twin, of_group, run_of, adopters, takes_part}
 use Rattle.cak_roll.specs.Answers.{another}
-use Rattle.lan_schedule.specs.declared.choices.Choices.{Choices}
-use Rattle.lan_schedule.specs.declared.choices.Keyed.{Keyed}
-use Rattle.lan_schedule.specs.declared.links.Link.{Link}
-use Rattle.lan_schedule.specs.Settings.{no_choice, settings_of}
-use Rattle.lan_schedule.specs.World.{names_of, scis_of}
+use Rattle.trace_acts.specs.declared.choices.Choices.{Choices}
+use Rattle.trace_acts.specs.declared.choices.Keyed.{Keyed}
+use Rattle.trace_acts.specs.declared.links.Link.{Link}
+use Rattle.trace_acts.specs.Settings.{no_choice, settings_of}
+use Rattle.trace_acts.specs.Names.{names_of, scis_of}
 
 -- what is kept beside the run: the number of the line that is performed; what the lines before the
 -- first station chose; the second group's key and name, if it came; whether a station came; the user

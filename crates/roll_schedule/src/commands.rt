@@ -4,17 +4,17 @@ ghost use Rattle.std.specs.Prelude.{◌≡◌, ◌⊎◌, ℕ, length, Some, Non
 ghost use Rattle.std.specs.Prelude.{OnOk, is_some, true, false};
 ghost use Rattle.trace_text.specs.Writing.{IsInForm};
 ghost use Rattle.roll_text.specs.InForm.{IsInFormRoll};
-ghost use Rattle.lan_schedule.specs.declared.halt.Halt.{Halt};
-ghost use Rattle.lan_schedule.specs.declared.halt.Kind.TheVariants as kinds;
-ghost use Rattle.lan_schedule.specs.Kinds.{first_of, is_allowed};
-ghost use Rattle.lan_schedule.specs.Places.{IsStation};
+ghost use Rattle.trace_acts.specs.declared.halt.Halt.{Halt};
+ghost use Rattle.trace_acts.specs.declared.halt.Kind.TheVariants as kinds;
+ghost use Rattle.trace_acts.specs.Kinds.{first_of, is_allowed};
+ghost use Rattle.trace_acts.specs.Places.{IsStation};
+ghost use Rattle.trace_acts.specs.Settings.{secret_of};
 ghost use Rattle.roll_schedule.specs.World.{World, beginning, waiting};
 ghost use Rattle.roll_schedule.specs.Acts.{look};
 ghost use Rattle.roll_schedule.specs.Kinds.{refusal};
 ghost use Rattle.roll_schedule.specs.Lines.{numbered, at_line, act_of, deed_plain, performed};
 ghost use Rattle.roll_schedule.specs.Ends.{moment, IsReached};
 ghost use Rattle.roll_schedule.specs.Standing.{StandsFor, Does};
-ghost use Rattle.lan_schedule.specs.Settings.{secret_of};
 ghost use Rattle.roll_schedule.specs.inside.Choosing.{is_later, MayPrepare};
 ghost use Rattle.roll_schedule.specs.inside.Doing.{DidSo};
 
@@ -23,10 +23,10 @@ use crate::refusals::{is_group, may_be_second, order_where};
 use crate::stage::Stage;
 use cak_roll::law_group_runs_are_sound;
 use lan_base::Octets;
-use lan_schedule::{Choices, Halt, Keyed, Kind, choose, kind_of_fault, refusal, secret_of};
 use roll_text::{RollLine, read_roll_line};
 use std::alloc::Global;
 use std::mem::replace;
+use trace_acts::{Choices, Halt, Keyed, Kind, choose, kind_of_fault, put, refusal, secret_of};
 use trace_text::{Line, LineError};
 
 /// What the lines so far have made. Contracts see by `StandsFor` which world that is.
@@ -242,7 +242,7 @@ impl TwinReplay {
         let chosen = replace(&mut self.chosen, Choices::new());
         let mut stage = Stage::new(self.alloc, chosen, self.second.take(), self.line)?;
         let outcome = stage.perform_plain(line, recorder, outlet);
-        self.stage = Some(stage);
+        put(&mut self.stage, stage);
         outcome
     }
 }

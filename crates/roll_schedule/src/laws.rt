@@ -13,8 +13,8 @@ ghost use Rattle.cak_roll.specs.declared.event.GroupNumber.TheVariants.{First, S
 ghost use Rattle.cak_roll.specs.declared.event.TwinEvent.TheVariants.{Send};
 ghost use Rattle.cak_roll.specs.Both.{OnceOver};
 ghost use Rattle.cak_roll.specs.Twin.{part_of, run_of, setting_of, transmits, Twin, TwinHappening};
-ghost use Rattle.lan_schedule.specs.declared.halt.Halt.{Halt};
-ghost use Rattle.lan_schedule.specs.declared.halt.Halt.TheVariants as halts;
+ghost use Rattle.trace_acts.specs.declared.halt.Halt.{Halt};
+ghost use Rattle.trace_acts.specs.declared.halt.Halt.TheVariants as halts;
 ghost use Rattle.roll_schedule.specs.World.{World, beginning, pair_of};
 ghost use Rattle.roll_schedule.specs.Acts.{Act, Stops, perform};
 ghost use Rattle.roll_schedule.specs.Sound.{IsTidy};

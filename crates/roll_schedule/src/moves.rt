@@ -15,8 +15,8 @@ use crate::party::{Party, item};
 use crate::recorder::TwinRecorder;
 use crate::stage::Stage;
 use cak_roll::{GroupNumber, TwinEvent};
-use lan_schedule::Halt;
 use std::alloc::{AllocError, Global};
+use trace_acts::Halt;
 
 impl Stage {
     /// A tick of a station in a group, where it takes part.

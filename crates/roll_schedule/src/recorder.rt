@@ -1,13 +1,13 @@
 //! Who is told what events of two groups show.
 
 ghost use Rattle.std.specs.Prelude.{MatchResult};
-ghost use Rattle.lan_schedule.specs.declared.recorder.Broken.{Broken};
+ghost use Rattle.trace_acts.specs.declared.broken.Broken.{Broken};
 ghost use Rattle.roll_schedule.specs.Reports.{Report};
 
 use cak_roll::GroupNumber;
 use lan_base::Name;
 use lan_core::Fact;
-use lan_schedule::Broken;
+use trace_acts::Broken;
 
 /// Tells an outlet what events show in each group, each before the next one happens. The outlet is
 /// passed beside the recorder, since a value that lends it would hide what it holds; of the recorder

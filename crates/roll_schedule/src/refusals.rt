@@ -3,9 +3,9 @@
 ghost use Rattle.std.specs.Prelude.{◌≡◌, ◌==◌, ◌||◌, nat_eq, map, IfNone, true};
 ghost use Rattle.std.specs.List.{list_any};
 ghost use Rattle.std.specs.Cmp.Lexicographic.{pointwise};
-ghost use Rattle.lan_schedule.specs.World.{is_in};
-ghost use Rattle.lan_schedule.specs.Kinds.{or_else, where_, unknown};
-ghost use Rattle.lan_schedule.specs.declared.halt.Kind.TheVariants as kinds;
+ghost use Rattle.trace_acts.specs.Names.{is_in};
+ghost use Rattle.trace_acts.specs.Kinds.{or_else, where_, unknown};
+ghost use Rattle.trace_acts.specs.declared.halt.Kind.TheVariants as kinds;
 ghost use Rattle.roll_schedule.specs.World.{World, has_adopted};
 ghost use Rattle.roll_schedule.specs.Kinds.{may_be_second, may_stand, refusal, wrong, wrong_plain};
 ghost use Rattle.roll_schedule.specs.inside.Choosing.{is_later};
@@ -14,8 +14,8 @@ ghost use Rattle.roll_schedule.specs.Stages.{StandsFor};
 
 use crate::stage::{Stage, group_of};
 use lan_base::{Name, Octets, Sci};
-use lan_schedule::{Keyed, Kind, is_elsewhere};
 use roll_text::RollLine;
+use trace_acts::{Keyed, Kind, is_elsewhere};
 use trace_text::Line;
 
 impl Stage {

@@ -9,8 +9,8 @@ ghost use Rattle.cak_roll.specs.declared.event.TwinEvent.TheVariants as twins;
 ghost use Rattle.cak_roll.specs.declared.event.GroupNumber.{GroupNumber};
 ghost use Rattle.trace_text.specs.Writing.{IsInForm};
 ghost use Rattle.roll_text.specs.InForm.{IsInFormRoll};
-ghost use Rattle.lan_schedule.specs.declared.halt.Halt.{Halt};
-ghost use Rattle.lan_schedule.specs.Places.{is_elsewhere};
+ghost use Rattle.trace_acts.specs.declared.halt.Halt.{Halt};
+ghost use Rattle.trace_acts.specs.Places.{is_elsewhere};
 ghost use Rattle.roll_schedule.specs.World.{World, place, is_out};
 ghost use Rattle.roll_schedule.specs.Acts.{happen, seq, look};
 ghost use Rattle.roll_schedule.specs.Kinds.{group_of};
@@ -21,18 +21,16 @@ ghost use Rattle.roll_schedule.specs.Stages.{StandsFor};
 ghost use Rattle.roll_schedule.specs.inside.Choosing.{is_later, IsOpening, with_second};
 ghost use Rattle.roll_schedule.specs.inside.Doing.{Did, Happened};
 
-use crate::choosing::twin_of;
+use crate::choosing::opening_of;
 use crate::party::Party;
 use crate::recorder::TwinRecorder;
 use crate::telling::{admit, put_all, tell};
 use cak_roll::{GroupNumber, Twin, TwinEvent};
 use lan_base::{Mac, Name, Octets, Sci, UserFrame};
 use lan_core::StepError;
-use lan_schedule::{
-    Choices, Halt, Keyed, Links, Supply, halt_of, position, secret_of, settings_of, supply_of,
-};
 use roll_text::RollLine;
 use std::alloc::{AllocError, Global};
+use trace_acts::{Choices, Halt, Keyed, Links, Supply, halt_of, position, secret_of};
 use trace_text::Line;
 
 /// Two groups, and what is kept beside them.
@@ -67,22 +65,22 @@ impl Stage {
             → IfOk result (StandsFor w) }
         ensures memory { IfErr result (λ halt. halt ≡ Halt.Memory) }
     {
-        let settings = settings_of(alloc, &chosen)?;
-        let draws = supply_of(alloc, &chosen)?;
-        let twin = twin_of(alloc, settings, &keyed)?;
-        Ok(Stage {
-            alloc,
-            twin,
-            draws,
-            chosen,
-            keyed,
-            line,
-            scis: Vec::new(alloc),
-            users: 0,
-            cuts: Links::new(alloc),
-            first: Party::new(alloc),
-            second: Party::new(alloc),
-        })
+        match opening_of(alloc, &chosen, &keyed) {
+            Ok((draws, twin)) => Ok(Stage {
+                alloc,
+                twin,
+                draws,
+                chosen,
+                keyed,
+                line,
+                scis: Vec::new(alloc),
+                users: 0,
+                cuts: Links::new(alloc),
+                first: Party::new(alloc),
+                second: Party::new(alloc),
+            }),
+            Err(halt) => Err(halt),
+        }
     }
 
     /// The second group comes.

@@ -10,8 +10,8 @@ use crate::party::put;
 use crate::recorder::TwinRecorder;
 use cak_roll::{GroupNumber, Told, TwinEvent};
 use lan_base::{Name, Sci};
-use lan_schedule::Broken;
 use std::alloc::AllocError;
+use trace_acts::Broken;
 
 /// A station that starts has a name and an SCI, and one that adopts the second group its name there.
 pub fn admit(

@@ -9,8 +9,8 @@ use Rattle.trace_maker.specs.Made.{made}
 use Rattle.clap.specs.Words.{Text}
 use Rattle.text_lines.specs.Texts.{whole_lines}
 use Rattle.text_lines.specs.Reading.{Sourced, sourced}
-use Rattle.lan_schedule.specs.declared.halt.Halt.{Halt}
-use Rattle.lan_schedule.specs.declared.halt.Halt.TheVariants as halts
+use Rattle.trace_acts.specs.declared.halt.Halt.{Halt}
+use Rattle.trace_acts.specs.declared.halt.Halt.TheVariants as halts
 use Rattle.lan_schedule.specs.Races.{Chance}
 use Rattle.lan_schedule.specs.World.{World as LanWorld, beginning, is_racing}
 use Rattle.lan_schedule.specs.Acts.{Course, Goes, course}

@@ -10,7 +10,6 @@ mod words;
 
 pub use capture_file::CaptureFault;
 pub use lan_core::Which;
-pub use lan_schedule::Kind;
 pub use laws::{
     law_each_text_is_promised, law_tidy_runs_are_promised,
     law_tidy_worlds_of_two_groups_are_promised,
@@ -18,5 +17,6 @@ pub use laws::{
 pub use replay::{AnyGate, Cause};
 pub use status::Status;
 pub use top::rollover;
+pub use trace_acts::Kind;
 pub use transcript_capture::LineFault;
 pub use transcript_check::CheckFault;

@@ -2,7 +2,7 @@
 
 ghost use Rattle.std.specs.Prelude.{◌≡◌, ℕ};
 ghost use Rattle.lan_core.specs.declared.stop.Which.{Which};
-ghost use Rattle.lan_schedule.specs.declared.halt.Kind.{Kind};
+ghost use Rattle.trace_acts.specs.declared.halt.Kind.{Kind};
 ghost use Rattle.replay.specs.declared.cause.Cause.TheVariants as causes;
 ghost use Rattle.transcript_check.specs.declared.fault.CheckFault.{CheckFault};
 ghost use Rattle.transcript_capture.specs.declared.fault.LineFault.{LineFault};

@@ -18,12 +18,12 @@ use Rattle.race_merge.specs.declared.step.Step.{Step}
 use Rattle.transmit_words.specs.Ties.{tables_of, HaveKeptUp}
 use Rattle.worker_races.specs.Going.{HaveJoined, WereSeated}
 use Rattle.worker_races.specs.Senders.{AreSenders, IsNew, jobs_of}
-use Rattle.lan_schedule.specs.declared.halt.Halt.{Halt}
-use Rattle.lan_schedule.specs.declared.halt.Halt.TheVariants as halts
+use Rattle.trace_acts.specs.declared.halt.Halt.{Halt}
+use Rattle.trace_acts.specs.declared.halt.Halt.TheVariants as halts
+use Rattle.trace_acts.specs.declared.broken.Broken.{Broken}
 use Rattle.lan_schedule.specs.declared.race.Before.{Before}
 use Rattle.lan_schedule.specs.declared.race.Crew.{Crew}
 use Rattle.lan_schedule.specs.declared.race.Ran.{Ran}
-use Rattle.lan_schedule.specs.declared.recorder.Broken.{Broken}
 use Rattle.lan_schedule.specs.declared.stage.Stage.{Stage}
 use Rattle.lan_schedule.specs.Races.{Phase, Controlling, Burst, Numbered, Worker, Chance}
 use Rattle.lan_schedule.specs.Races.{behind_numbers}

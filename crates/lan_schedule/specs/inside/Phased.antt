@@ -2,17 +2,19 @@
 use Rattle.std.specs.Prelude.{◌≡◌, ◌⊎◌, ◌||◌, Bool, true, false, [], length, Option, Result, Ok, Err}
 use Rattle.trace_text.specs.declared.line.Line.{Line}
 use Rattle.trace_text.specs.declared.line.Line.TheVariants as lines
-use Rattle.lan_schedule.specs.declared.halt.Halt.{Halt}
-use Rattle.lan_schedule.specs.declared.halt.Halt.TheVariants.{Memory}
-use Rattle.lan_schedule.specs.declared.halt.Kind.{Kind}
+use Rattle.trace_acts.specs.declared.halt.Halt.{Halt}
+use Rattle.trace_acts.specs.declared.halt.Halt.TheVariants.{Memory}
+use Rattle.trace_acts.specs.declared.halt.Kind.{Kind}
+use Rattle.trace_acts.specs.Names.{names_of, scis_of}
+use Rattle.trace_acts.specs.Kinds.{first_of, is_allowed}
+use Rattle.trace_acts.specs.Places.{is_race}
 use Rattle.lan_schedule.specs.declared.phase.Phase.{Phase as Stood}
 use Rattle.lan_schedule.specs.Races.{Phase, Apart, Bursting, Controlling, Racing}
-use Rattle.lan_schedule.specs.World.{World, names_of, scis_of}
+use Rattle.lan_schedule.specs.World.{World}
 use Rattle.lan_schedule.specs.Acts.{Act, Goes, Stops, look, perform}
-use Rattle.lan_schedule.specs.Kinds.{first_of, is_allowed, is_control, wrong_word}
+use Rattle.lan_schedule.specs.Kinds.{is_control, wrong_word}
 use Rattle.lan_schedule.specs.Lines.{deed, act_of, behind_race, behind_while, unless_refused}
 use Rattle.lan_schedule.specs.Standing.{phase_of, AreFit}
-use Rattle.lan_schedule.specs.Places.{is_race}
 
 -- why a line is refused outside a race
 abbrev pub refusal_apart : Line → World → Option Kind

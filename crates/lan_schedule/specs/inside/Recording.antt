@@ -16,9 +16,10 @@ use Rattle.race_merge.specs.Table.{Controls}
 use Rattle.transmit_words.specs.Ties.{tables_of, HaveKeptUp, HaveLooked}
 use Rattle.worker_races.specs.Going.{HaveGone}
 use Rattle.worker_races.specs.Performed.{ArePerformed, run_after}
-use Rattle.lan_schedule.specs.declared.halt.Halt.{Halt}
+use Rattle.trace_acts.specs.declared.halt.Halt.{Halt}
+use Rattle.trace_acts.specs.Names.{names_of}
 use Rattle.lan_schedule.specs.declared.stage.Stage.{Stage}
-use Rattle.lan_schedule.specs.World.{World, is_racing, names_of, settings}
+use Rattle.lan_schedule.specs.World.{World, is_racing, settings}
 use Rattle.lan_schedule.specs.Acts.{is_stop}
 use Rattle.lan_schedule.specs.Stages.{StandsFor, Counts}
 

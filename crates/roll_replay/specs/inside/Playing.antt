@@ -1,8 +1,8 @@
 -- What it is to take lines of two groups.
 use Rattle.std.specs.Prelude.{ℕ, List, Result}
 use Rattle.text_lines.specs.Moments.{Moment as LinesMoment}
-use Rattle.lan_schedule.specs.declared.halt.Halt.{Halt}
-use Rattle.lan_schedule.specs.declared.recorder.Broken.{Broken}
+use Rattle.trace_acts.specs.declared.halt.Halt.{Halt}
+use Rattle.trace_acts.specs.declared.broken.Broken.{Broken}
 use Rattle.roll_schedule.specs.declared.commands.TwinReplay.{TwinReplay}
 use Rattle.roll_schedule.specs.Acts.{Act}
 use Rattle.roll_schedule.specs.Lines.{performed_all}

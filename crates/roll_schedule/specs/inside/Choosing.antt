@@ -2,11 +2,11 @@
 use Rattle.std.specs.Prelude.{◌≡◌, ℕ, Bool, true, false, not, List, Option, Some}
 use Rattle.roll_text.specs.declared.line.RollLine.{RollLine}
 use Rattle.roll_text.specs.declared.line.RollLine.TheVariants.{Plain}
-use Rattle.lan_schedule.specs.declared.choices.Choices.{Choices}
-use Rattle.lan_schedule.specs.declared.choices.Keyed.{Keyed}
-use Rattle.lan_schedule.specs.Kinds.{is_allowed}
-use Rattle.lan_schedule.specs.Places.{is_elsewhere}
-use Rattle.lan_schedule.specs.Settings.{secret_of}
+use Rattle.trace_acts.specs.declared.choices.Choices.{Choices}
+use Rattle.trace_acts.specs.declared.choices.Keyed.{Keyed}
+use Rattle.trace_acts.specs.Kinds.{is_allowed}
+use Rattle.trace_acts.specs.Places.{is_elsewhere}
+use Rattle.trace_acts.specs.Settings.{secret_of}
 use Rattle.roll_schedule.specs.World.{World, waiting}
 
 -- whether a line may stand only before the first station, but for that of a second group

@@ -3,8 +3,8 @@ use Rattle.std.specs.Prelude.{Option, Result}
 use Rattle.lan_base.specs.declared.frame.UserFrame.{UserFrame}
 use Rattle.cak_roll.specs.declared.event.TwinEvent.{TwinEvent}
 use Rattle.cak_roll.specs.Answers.{IsGiven}
-use Rattle.lan_schedule.specs.declared.halt.Halt.{Halt}
-use Rattle.lan_schedule.specs.declared.recorder.Broken.{Broken}
+use Rattle.trace_acts.specs.declared.halt.Halt.{Halt}
+use Rattle.trace_acts.specs.declared.broken.Broken.{Broken}
 use Rattle.roll_schedule.specs.World.{World}
 use Rattle.roll_schedule.specs.Acts.{Act, happen, perform}
 use Rattle.roll_schedule.specs.Reports.{Report}

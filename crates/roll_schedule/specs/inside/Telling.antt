@@ -10,7 +10,7 @@ use Rattle.cak_roll.specs.declared.event.TwinEvent.{TwinEvent}
 use Rattle.cak_roll.specs.declared.event.TwinEvent.TheVariants as twins
 use Rattle.cak_roll.specs.declared.told.Told.{Told}
 use Rattle.cak_roll.specs.Twin.{of_group, same_group}
-use Rattle.lan_schedule.specs.declared.recorder.Broken.{Broken}
+use Rattle.trace_acts.specs.declared.broken.Broken.{Broken}
 use Rattle.roll_schedule.specs.Reports.{Report, AreTold}
 
 -- ---- who joins

@@ -1,7 +1,7 @@
 -- `roll`: a trace of two groups is performed, for its transcript.
 use Rattle.std.specs.Prelude.{◌≡◌, ℕ, nat_le, List, length, Option, Some, None}
 use Rattle.text_lines.specs.Reading.{Sourced}
-use Rattle.lan_schedule.specs.declared.halt.Halt.{Halt}
+use Rattle.trace_acts.specs.declared.halt.Halt.{Halt}
 use Rattle.roll_schedule.specs.World.{beginning}
 use Rattle.roll_schedule.specs.Acts.{Course, Goes, Stops, perform}
 use Rattle.replay.specs.Sinks.{Sunk}

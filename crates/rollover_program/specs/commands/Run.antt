@@ -2,7 +2,7 @@
 use Rattle.std.specs.Prelude.{◌≡◌, ℕ, nat_le, Bool, true, false, List, length, Option, Some, None}
 use Rattle.std.specs.Prelude.{Result, Ok, Err}
 use Rattle.text_lines.specs.Reading.{Sourced}
-use Rattle.lan_schedule.specs.declared.halt.Halt.{Halt}
+use Rattle.trace_acts.specs.declared.halt.Halt.{Halt}
 use Rattle.lan_schedule.specs.Races.{Chance}
 use Rattle.lan_schedule.specs.Acts.{Course, Goes, Stops, course}
 use Rattle.replay.specs.declared.cause.Cause.{Cause}

@@ -1,7 +1,7 @@
 use Rattle.std.proofs.Common.{Some, sym, ap, ◌∙◌}
 use Rattle.std.specs.Prelude.{not}
-use Rattle.lan_schedule.specs.declared.halt.Kind.TheVariants as kinds
-use Rattle.lan_schedule.specs.Kinds.{first_of, where_}
+use Rattle.trace_acts.specs.declared.halt.Kind.TheVariants as kinds
+use Rattle.trace_acts.specs.Kinds.{first_of, where_}
 use Rattle.roll_schedule.proofs.Opening.{adopt-before, leave-before, none-allows, order-first}
 use Rattle.roll_schedule.proofs.Opening.{plain-before}
 use Rattle.roll_schedule.proofs.commands.refusal_before.Goals as goal

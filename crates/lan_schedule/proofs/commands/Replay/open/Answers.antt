@@ -14,7 +14,7 @@ returns g c =
     opening-does c.args.line.now c.requires.form _ _ c.in_ok-stage.stage c.perform-outcome.new.self
     c.perform-outcome.result c.requires.station c.requires.unbegun c.requires.keyed
     (λ v tidy keyed opening. c.in_ok-stage.ensures.stands v tidy keyed opening)
-    c.perform-outcome.ensures refl refl refl
+    c.perform-outcome.ensures c.put.ensures refl refl
 
 pub returns-in_err-stage : goal.returns-in_err-stage
 returns-in_err-stage g c =

@@ -1,6 +1,6 @@
 use Rattle.std.proofs.Common.{◌≡◌, refl, sym, ap, ◌∙◌, subst}
+use Rattle.trace_acts.specs.Names.{names_of}
 use Rattle.lan_schedule.specs.Races.{Controlling, Phase}
-use Rattle.lan_schedule.specs.World.{names_of}
 use Rattle.lan_schedule.specs.Ends.{moment}
 use Rattle.lan_schedule.specs.Standing.{AreFit, phase_of}
 use Rattle.lan_schedule.specs.declared.phase.Phase.{Phase as Stood}
@@ -22,7 +22,7 @@ returns g c =
     ap (λ (p : Stood). phase_of p) (sym c.replace.ensures.value ∙ c.in-Controlling.is) in
     raced-does bursts control (moment c.args.self.now c.args.outlet.now) _ c.in-Some.stage
     c.run_race-stage.result.0 c.run_race-stage.result.1
-    (sym c.take.ensures.value ∙ c.in-Some.is) stood refl refl
+    (sym c.take.ensures.value ∙ c.in-Some.is) stood c.put-2.ensures refl
     (ap (λ (p : Stood). phase_of p) c.replace.ensures.after)
     (λ w stands tidy. race-comes bursts control w tidy
     (subst (λ (p : Phase). AreFit (names_of w.run) p) (stands.phase ∙ stood) stands.fit).1)

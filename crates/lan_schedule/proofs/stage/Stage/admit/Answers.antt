@@ -3,8 +3,8 @@ use Rattle.lan_core.specs.declared.event.Event.TheVariants.{Deliver}
 use Rattle.lan_core.specs.Answers.{IsWhy}
 use Rattle.lan_core.specs.Stops.{first_stop}
 use Rattle.lan_core.specs.Batches.{IsChecked}
+use Rattle.trace_acts.specs.Supply.{supply_nth}
 use Rattle.lan_schedule.specs.Acts.{happen}
-use Rattle.lan_schedule.specs.Supply.{supply_nth}
 use Rattle.lan_schedule.specs.Ends.{moment}
 use Rattle.lan_schedule.proofs.Doing.{memory-does}
 use Rattle.lan_schedule.proofs.Batching.{did-where}

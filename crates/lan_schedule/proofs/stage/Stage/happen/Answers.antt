@@ -1,7 +1,7 @@
 use Rattle.std.proofs.Common.{refl, subst}
 use Rattle.lan_core.specs.Answers.{IsWhy}
 use Rattle.lan_core.specs.Stops.{first_stop}
-use Rattle.lan_schedule.specs.Supply.{supply_nth}
+use Rattle.trace_acts.specs.Supply.{supply_nth}
 use Rattle.lan_schedule.specs.Ends.{moment}
 use Rattle.lan_schedule.proofs.Happening.{event-did, event-stopped, event-wanting}
 use Rattle.lan_schedule.proofs.stage.Stage.happen.Goals as goal

@@ -1,12 +1,12 @@
 use Rattle.std.proofs.Common.{refl}
 use Rattle.lan_core.specs.declared.event.Event.TheVariants.{Start, Deliver, Restart, Inject}
+use Rattle.trace_acts.proofs.Public.{bytes-all}
 use Rattle.lan_schedule.specs.Acts.{happen, change, times, seq}
 use Rattle.lan_schedule.specs.Lines.{begin, feed, tick, round, flow_round, spread, cut_in}
 use Rattle.lan_schedule.specs.Lines.{mended_in, add_user, send}
 use Rattle.lan_schedule.specs.World.{mark}
 use Rattle.lan_schedule.proofs.Doing.{change-does, handed-on, memory-does}
 use Rattle.lan_schedule.proofs.Looking.{mark-does}
-use Rattle.lan_schedule.proofs.Drawing.{bytes-all}
 use Rattle.lan_schedule.proofs.Performing.{same-line, one-place, two-places, default-does}
 use Rattle.lan_schedule.proofs.stage.Stage.perform.Goals as goal
 

@@ -1,7 +1,7 @@
 use Rattle.std.proofs.Common.{◌≡◌, nat_eq, ◌∙◌, arith}
 use Rattle.std.specs.Cmp.Lexicographic.{pointwise}
 use Rattle.std.specs.List.{position_or_len}
-use Rattle.lan_schedule.proofs.Placing.{place-within}
+use Rattle.trace_acts.proofs.Public.{place-within}
 use Rattle.lan_schedule.proofs.stage.Stage.place.Goals as goal
 
 pub returns : goal.returns

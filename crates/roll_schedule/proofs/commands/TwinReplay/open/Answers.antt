@@ -21,7 +21,7 @@ returns g c =
     (subst (λ second. StageStandsFor (begun_in (waiting c.args.self.now.line
     c.replace-chosen.result second)) c.in_ok-stage.stage) c.take.ensures.value
     (c.in_ok-stage.ensures.stands _ named refl)))
-    c.perform_plain-outcome.ensures refl refl
+    c.perform_plain-outcome.ensures c.put.ensures refl
 
 pub returns-in_err-stage : goal.returns-in_err-stage
 returns-in_err-stage g c =

@@ -2,7 +2,7 @@ use Rattle.std.proofs.Common.{refl, subst}
 use Rattle.std.specs.Prelude.{Ok, Err}
 use Rattle.lan_core.specs.Answers.{IsWhy}
 use Rattle.cak_roll.specs.Stepping.{twin_stop}
-use Rattle.lan_schedule.specs.Supply.{supply_nth}
+use Rattle.trace_acts.specs.Supply.{supply_nth}
 use Rattle.roll_schedule.specs.Ends.{moment}
 use Rattle.roll_schedule.proofs.Happening.{event-did, event-stopped, event-wanting, happened-err}
 use Rattle.roll_schedule.proofs.Happening.{step-goes}

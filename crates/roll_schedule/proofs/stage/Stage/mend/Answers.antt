@@ -1,5 +1,5 @@
 use Rattle.std.proofs.Common.{refl, ap, ◌∙◌}
-use Rattle.lan_schedule.specs.World.{without_link}
+use Rattle.trace_acts.specs.Links.{without_link}
 use Rattle.roll_schedule.specs.Lines.{mended_in}
 use Rattle.roll_schedule.proofs.Moving.{stands-kept}
 use Rattle.roll_schedule.proofs.stage.Stage.mend.Goals as goal

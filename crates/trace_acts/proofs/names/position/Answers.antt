@@ -2,7 +2,7 @@ use Rattle.std.proofs.Common.{◌≡◌, [], true, nat_eq, get_or, length, sym, 
 use Rattle.std.proofs.Common.{arith}
 use Rattle.std.specs.Cmp.Lexicographic.{pointwise}
 use Rattle.std.proofs.lemmas.List.Sums.{position_or_len_is}
-use Rattle.lan_schedule.proofs.stage.position.Goals as goal
+use Rattle.trace_acts.proofs.names.position.Goals as goal
 
 pub returns-then-eq : goal.returns-then-eq
 returns-then-eq c =

@@ -1,7 +1,7 @@
 //! Where a trace's draws come from.
 
 ghost use Rattle.std.specs.Prelude.{◌≡◌, ℕ, IfOk};
-ghost use Rattle.lan_schedule.specs.Supply.{draw_at};
+ghost use Rattle.trace_acts.specs.Supply.{draw_at};
 
 use crate::choices::Rule;
 use lan_base::{Blocks, ChaChaDraws, CountDraws, Draws, ListDraws};
@@ -34,8 +34,8 @@ impl Supply {
 }
 
 impl Draws for Supply {
-    ghost use Rattle.lan_schedule.specs.Supply.{supply_nth};
-    ghost use Rattle.lan_schedule.specs.inside.Supplies.{supply-ends};
+    ghost use Rattle.trace_acts.specs.Supply.{supply_nth};
+    ghost use Rattle.trace_acts.specs.inside.Supplies.{supply-ends};
 
     ghost nth = { supply_nth };
 

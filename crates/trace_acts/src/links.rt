@@ -1,7 +1,7 @@
 //! The links that are cut.
 
 ghost use Rattle.std.specs.Prelude.{◌≡◌, [], OnOk};
-ghost use Rattle.lan_schedule.specs.World.{is_link, is_cut, with_link, without_link};
+ghost use Rattle.trace_acts.specs.Links.{is_link, is_cut, with_link, without_link};
 
 use std::alloc::{AllocError, Global};
 use std::marker::Model;
@@ -21,7 +21,7 @@ pub struct Links {
 
 impl Model for Links {
     ghost use Rattle.std.specs.Prelude.{List};
-    ghost use Rattle.lan_schedule.specs.declared.links.Link.{Link};
+    ghost use Rattle.trace_acts.specs.declared.links.Link.{Link};
 
     ghost Value = { List Link };
 

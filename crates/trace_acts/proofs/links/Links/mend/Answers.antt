@@ -1,7 +1,7 @@
 use Rattle.std.proofs.Common.{◌∙◌, ap, rules}
 use Rattle.std.proofs.lemmas.Fn.{filter_same}
-use Rattle.lan_schedule.specs.World.{without_link}
-use Rattle.lan_schedule.proofs.links.Links.mend.Goals as goal
+use Rattle.trace_acts.specs.Links.{without_link}
+use Rattle.trace_acts.proofs.links.Links.mend.Goals as goal
 
 pub returns : goal.returns
 returns c =

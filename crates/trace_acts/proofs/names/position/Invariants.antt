@@ -1,6 +1,6 @@
 use Rattle.std.proofs.Common.{◌≡◌, ◌<◌, ℕ, List, false, nat_eq, get_or}
 use Rattle.std.specs.Cmp.Lexicographic.{pointwise}
-use Rattle.lan_schedule.proofs.stage.position.Given as goal
+use Rattle.trace_acts.proofs.names.position.Given as goal
 
 abbrev pub invariant-loop-place : goal.invariant-loop-place
 invariant-loop-place l = (k : ℕ) (d : List ℕ) → k < l.place

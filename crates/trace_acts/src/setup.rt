@@ -1,18 +1,14 @@
-//! What was chosen before the first station opens a group.
+//! What holds for a group, and where its draws come from, by what was chosen.
 
-ghost use Rattle.std.specs.Prelude.{◌≡◌, ℕ, List, [], IfOk, IfErr};
-ghost use Rattle.lan_base.specs.declared.frame.UserFrame.{UserFrame};
-ghost use Rattle.lan_core.specs.Standing.{StandsFor as GroupStandsFor};
-ghost use Rattle.lan_schedule.specs.declared.halt.Halt.{Halt};
-ghost use Rattle.lan_schedule.specs.Settings.{settings_of, rule_of};
-ghost use Rattle.lan_schedule.specs.Supply.{draw_at, supply_nth};
+ghost use Rattle.std.specs.Prelude.{◌≡◌, ℕ, IfOk};
+ghost use Rattle.trace_acts.specs.Settings.{settings_of, rule_of};
+ghost use Rattle.trace_acts.specs.Supply.{draw_at, supply_nth};
 
 use crate::choices::{Choices, Rule};
-use crate::halt::Halt;
 use crate::supply::Supply;
 use aes_block::Secret;
 use lan_base::{Octets, Suite};
-use lan_core::{Lan, Settings};
+use lan_core::Settings;
 use std::alloc::{AllocError, Global};
 
 /// The packet number from which a key is spent, where no line says so: three quarters of all.
@@ -45,17 +41,5 @@ pub fn supply_of(alloc: Global, chosen: &Choices) -> Result<Supply, AllocError>
     match &chosen.draws {
         Some(rule) => Supply::of(alloc, rule),
         None => Supply::of(alloc, &Rule::Counted),
-    }
-}
-
-/// A group to which nothing happened.
-pub fn group_of(alloc: Global, settings: Settings) -> Result<Lan, Halt>
-    ensures stands { IfOk result (λ lan. (users : List UserFrame)
-        → GroupStandsFor settings users lan []) }
-    ensures memory { IfErr result (λ halt. halt ≡ Halt.Memory) }
-{
-    match Lan::new(alloc, settings) {
-        Ok(lan) => Ok(lan),
-        Err(_) => Err(Halt::Memory),
     }
 }

@@ -1,11 +1,11 @@
 //! Why a trace is not performed to its end.
 
 ghost use Rattle.std.specs.Prelude.{◌≡◌};
-ghost use Rattle.lan_schedule.specs.declared.halt.Halt.TheVariants.{Memory};
-ghost use Rattle.lan_schedule.specs.Ends.{halt_of_broken};
+ghost use Rattle.trace_acts.specs.declared.halt.Halt.TheVariants.{Memory};
+ghost use Rattle.trace_acts.specs.Halts.{halt_of, halt_of_broken};
 
-use crate::recorder::Broken;
-use lan_core::Which;
+use crate::broken::Broken;
+use lan_core::{Stop, Which};
 use std::alloc::{AllocError, AllocFailed};
 use thiserror::Error;
 
@@ -98,5 +98,20 @@ impl From<Broken> for Halt {
             Broken::Failed => Halt::Broken,
             Broken::Memory => Halt::Memory,
         }
+    }
+}
+
+/// Why a trace ends where its group stops, at the line of this number.
+pub fn halt_of(stop: Stop, line: u32) -> Halt
+    ensures { result ≡ halt_of line stop }
+{
+    match stop {
+        Stop::DrawsSpent => Halt::Trace {
+            line,
+            kind: Kind::DrawsSpent,
+        },
+        Stop::Limit(which) => Halt::Limit(which),
+        Stop::RepeatedDraw { first, second } => Halt::RepeatedDraw { first, second },
+        Stop::Forged { .. } => Halt::Forged { line },
     }
 }

@@ -4,8 +4,8 @@ use Rattle.std.proofs.Common.{Some, None, refl, ap, arith}
 use Rattle.std.specs.Prelude.{cond, not, map, ◌||◌}
 use Rattle.std.specs.List.{list_any, position_or_len}
 use Rattle.lan_base.specs.declared.address.Sci.{Sci}
-use Rattle.lan_schedule.specs.declared.halt.Kind.TheVariants as kinds
-use Rattle.lan_schedule.specs.Kinds.{or_else, where_}
+use Rattle.trace_acts.specs.declared.halt.Kind.TheVariants as kinds
+use Rattle.trace_acts.specs.Kinds.{or_else, where_}
 
 pub place-within : {X : Type 0} (p : X → Bool) (xs : List X) → position_or_len p xs ≤ length xs
 place-within p [] = omega arith

@@ -1,7 +1,7 @@
 //! What the lines before the first station choose for the group.
 
 ghost use Rattle.std.specs.Prelude.{◌≡◌};
-ghost use Rattle.lan_schedule.specs.Settings.{no_choice};
+ghost use Rattle.trace_acts.specs.Settings.{no_choice};
 
 use aes_block::Secret;
 use lan_base::{Blocks, Octets, Suite};

@@ -1,0 +1,6 @@
+mod Drawing
+mod Placing
+mod Users
+mod Refusing
+mod Stations
+pub mod Public

@@ -1,0 +1,21 @@
+-- Why a trace ends where its group stops, or where who is told breaks.
+use Rattle.std.specs.Prelude.{ℕ}
+use Rattle.lan_core.specs.declared.stop.Stop.{Stop}
+use Rattle.lan_core.specs.declared.stop.Stop.TheVariants as stops
+use Rattle.trace_acts.specs.declared.halt.Halt.{Halt}
+use Rattle.trace_acts.specs.declared.halt.Halt.TheVariants as halts
+use Rattle.trace_acts.specs.declared.halt.Kind.TheVariants.{DrawsSpent}
+use Rattle.trace_acts.specs.declared.broken.Broken.{Broken}
+use Rattle.trace_acts.specs.declared.broken.Broken.TheVariants as whys
+
+-- why a trace ends where its group stops, at the line of this number
+abbrev pub halt_of : ℕ → Stop → Halt
+halt_of line stops.DrawsSpent = halts.Trace line DrawsSpent
+halt_of line (stops.Limit which) = halts.Limit which
+halt_of line (stops.RepeatedDraw first second) = halts.RepeatedDraw first second
+halt_of line (stops.Forged station) = halts.Forged line
+
+-- why a recorder that broke ends a trace
+abbrev pub halt_of_broken : Broken → Halt
+halt_of_broken whys.Failed = halts.Broken
+halt_of_broken whys.Memory = halts.Memory
