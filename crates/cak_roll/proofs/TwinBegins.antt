@@ -1,6 +1,6 @@
 -- A twin to which nothing happened, and one that gets a second group.
 use Rattle.std.proofs.Common.{◌≡◌, ◌==◌, ◌||◌, ℕ, Bool, true, false, List, [], cond, length}
-use Rattle.std.proofs.Common.{Option, Some, None, refl, sym, subst}
+use Rattle.std.proofs.Common.{Option, Some, None, refl, sym, ap, ◌∙◌, subst}
 use Rattle.std.specs.Prelude.{nat_eq, nat_lt, is_some}
 use lib.Pointwise.{pointwise}
 use Rattle.lan_base.specs.Ranges.{most_ckn_octets}
@@ -62,13 +62,14 @@ begins settings users held kept still first second members drawn = record {
     each Second = first.lan.setting
 
 pub begins-second : (pair : Pair) (users : List UserFrame) (old new : Held) (t : Twin)
-    (cak : Secret) (ckn : List ℕ) (side : Side) → StandsFor pair users old t
+    (cak : Secret) (ckn : List ℕ) (side : Side) (there : Option Side) → StandsFor pair users old t
     → old.second ≡ None
     → ((whole : Run) → StandsIn (another pair.first cak ckn) users [] whole side)
-    → new ≡ record old { second = Some side }
+    → there ≡ Some side → new ≡ record old { second = there }
     → StandsFor (record pair { second = another pair.first cak ckn }) users new t
-begins-second pair users old new t cak ckn side stands none second is =
-    subst (λ h. StandsFor (record pair { second = another pair.first cak ckn }) users h t) (sym is)
+begins-second pair users old new t cak ckn side there stands none second at is =
+    subst (λ h. StandsFor (record pair { second = another pair.first cak ckn }) users h t)
+    (sym (is ∙ ap (λ o. record old { second = o }) at))
     (record {
       set_up = record { first = stands.set_up.first; suites = refl; settings = λ g. each g };
       goes = stands.goes;

@@ -33,7 +33,7 @@ impl GroupNumber {
 
 /// One event at stations that may take part in two groups. A station is named by its place in the
 /// order of the starts, from 0, a frame of a group's air and a user frame by its number, from 1.
-#[derive(Debug, Drop)]
+#[derive(Drop)]
 pub enum TwinEvent {
     /// A station begins its first life in the first group.
     Start {

@@ -3,7 +3,7 @@
 use lan_core::Event;
 
 /// What an event of both groups is in one of them.
-#[derive(Debug, Drop)]
+#[derive(Drop)]
 pub enum Part {
     /// No event.
     Nothing,

@@ -8,7 +8,7 @@ use std::alloc::{AllocError, Global};
 use std::marker::Model;
 
 /// What an event of one group showed there.
-#[derive(Debug, Drop)]
+#[derive(Drop)]
 pub struct Told {
     pub group: GroupNumber,
     pub facts: Facts,
@@ -16,7 +16,7 @@ pub struct Told {
 
 /// What an event of two groups showed, event by event of the groups, in their order. Contracts see
 /// the list.
-#[derive(Debug, Drop)]
+#[derive(Drop)]
 pub struct TwinFacts {
     told: Vec<Told>,
 }

@@ -71,19 +71,18 @@ impl Twin {
             return Err(GroupError::Refused(GroupFault::CknLength));
         }
         let kept = with_key(&settings, settings.cak, settings.ckn.copied(alloc)?);
-        let first = match Side::new(alloc, settings) {
-            Ok(first) => first,
-            Err(fault) => return Err(GroupError::Refused(fault)),
-        };
-        Ok(Twin {
-            alloc,
-            settings: kept,
-            stopped: None,
-            first,
-            second: None,
-            members: Members::new(alloc),
-            drawn: Drawn::new(alloc),
-        })
+        match Side::new(alloc, settings) {
+            Ok(first) => Ok(Twin {
+                alloc,
+                settings: kept,
+                stopped: None,
+                first,
+                second: None,
+                members: Members::new(alloc),
+                drawn: Drawn::new(alloc),
+            }),
+            Err(fault) => Err(GroupError::Refused(fault)),
+        }
     }
 
     /// A second group with no station, under another CAK and CKN.
@@ -100,11 +99,13 @@ impl Twin {
             return Err(SecondError::Refused(fault));
         }
         let settings = with_key(&self.settings, cak, ckn);
-        let Ok(second) = Side::new(self.alloc, settings) else {
-            return Err(SecondError::Memory);
-        };
-        self.second = Some(second);
-        Ok(())
+        match Side::new(self.alloc, settings) {
+            Ok(second) => {
+                put(&mut self.second, second);
+                Ok(())
+            }
+            Err(_) => Err(SecondError::Memory),
+        }
     }
 
     /// One event happens at stations of both groups. What is sent comes with its user frame, and an
@@ -193,6 +194,13 @@ impl Twin {
             None
         }
     }
+}
+
+/// A value comes into a place. What was there is let go here, where its type is any.
+fn put<T: Drop>(place: &mut Option<T>, value: T)
+    ensures { place.new ≡ Some value }
+{
+    *place = Some(value);
 }
 
 /// The same settings under another key.

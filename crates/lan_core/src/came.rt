@@ -11,7 +11,7 @@ use lan_base::Octets;
 
 /// What an event comes to at its station: its facts, and how many keys the station then installed,
 /// over all its lives.
-#[derive(Debug, Drop)]
+#[derive(Drop)]
 pub struct Came {
     pub facts: Facts,
     pub installs: u32,

@@ -4,7 +4,7 @@ use lan_base::{Name, Octets, Sci};
 
 /// One atomic action of one actor. A station is named by its place in the order of the starts, from
 /// 0, a frame of the air and a user frame by its number, from 1.
-#[derive(Debug, Drop)]
+#[derive(Drop)]
 pub enum Event {
     /// A station begins its first life.
     Start { name: Name, sci: Sci, priority: u8 },

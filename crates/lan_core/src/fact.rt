@@ -9,7 +9,7 @@ use std::alloc::{AllocError, Global};
 use std::marker::Model;
 
 /// Why a station got no packet number.
-#[derive(Clone, Copy, Debug, PartialEq, Eq)]
+#[derive(Clone, Copy, PartialEq, Eq)]
 pub enum Lack {
     /// No key transmits.
     NoKey,
@@ -18,7 +18,7 @@ pub enum Lack {
 }
 
 /// One line of the transcript. `station` is the station's place.
-#[derive(Debug, Drop)]
+#[derive(Drop)]
 pub enum Fact {
     /// A life of the station begins, with this member identifier.
     Life {
@@ -130,7 +130,7 @@ impl Fact {
 }
 
 /// The facts of one event, in their order. Contracts see it as the list.
-#[derive(Debug, Drop)]
+#[derive(Drop)]
 pub struct Facts {
     facts: Vec<Fact>,
 }

@@ -12,7 +12,7 @@ use mka_kdf::Group;
 use std::alloc::{AllocError, Global};
 
 /// What holds for the whole group.
-#[derive(Debug, Drop)]
+#[derive(Drop)]
 pub struct Settings {
     /// The connectivity association key.
     pub cak: Secret,

@@ -8,7 +8,7 @@ use std::collections::VecDeque;
 use std::marker::Model;
 
 /// A protected frame, and the place of the station that sends it.
-#[derive(Debug, Drop)]
+#[derive(Drop)]
 pub struct Sealed {
     pub station: u8,
     pub octets: Octets,

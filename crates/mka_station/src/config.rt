@@ -5,7 +5,7 @@ use mka_kdf::Group;
 use std::marker::Model;
 
 /// What a station is set up with, for all its lives. Contracts see it as a `Setup`.
-#[derive(Debug, Drop)]
+#[derive(Drop)]
 pub struct Config {
     pub sci: Sci,
     /// The key server priority: the least one serves, 255 never does.

@@ -5,7 +5,7 @@ use lan_base::{Mi, Octets};
 use sak_exchange::Changes;
 
 /// What a station does in one event, in this order.
-#[derive(Debug, Drop)]
+#[derive(Drop)]
 pub struct Reaction {
     /// What became of the frame that was heard, if one was.
     pub heard: Option<Verdict>,

@@ -23,7 +23,7 @@ use sak_exchange::{Key, KeyState, Report, Seen};
 use std::alloc::{AllocError, Global};
 
 /// The lowest acceptable packet numbers that a tick is shown, and the keys that they are of.
-#[derive(Clone, Copy, Debug)]
+#[derive(Clone, Copy)]
 pub struct Lowest {
     pub latest: Option<Key>,
     pub old: Option<Key>,

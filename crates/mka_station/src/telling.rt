@@ -17,7 +17,7 @@ use peer_lists::{Heard, PeerTable};
 
 /// The message numbers under which a member is named: the first one, and the first one that was
 /// sent less than the life time ago.
-#[derive(Clone, Copy, Debug)]
+#[derive(Clone, Copy)]
 struct Naming {
     first: Option<u32>,
     recent: Option<u32>,

@@ -4,7 +4,7 @@ use lan_base::{Mi, Sci};
 use mkpdu_codec::Uses;
 
 /// What an announcement tells the peer lists of its announcer.
-#[derive(Clone, Copy, Debug, PartialEq, Eq)]
+#[derive(Clone, Copy)]
 pub struct Heard {
     pub mi: Mi,
     pub sci: Sci,

@@ -10,7 +10,7 @@ use crate::sent_numbers::WHOLE_LIFE;
 use lan_base::Sci;
 
 /// An accepted announcement that is younger than the life time.
-#[derive(Clone, Copy, Debug)]
+#[derive(Clone, Copy)]
 pub struct Words {
     pub told: Heard,
     /// In how many ticks it is as old as the life time.
@@ -56,7 +56,7 @@ impl Words {
 }
 
 /// A peer with a young accepted announcement.
-#[derive(Clone, Copy, Debug)]
+#[derive(Clone, Copy)]
 pub struct Remembered {
     pub last: Words,
     pub vouched: Option<Words>,

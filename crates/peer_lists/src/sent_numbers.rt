@@ -12,7 +12,7 @@ const SENT: usize = LIFE_TIME as usize;
 pub const WHOLE_LIFE: u8 = LIFE_TIME as u8;
 
 /// The message numbers of a life, which rise by one and of which at most one is sent in a tick.
-#[derive(Clone, Copy, Debug)]
+#[derive(Clone, Copy)]
 pub struct SentNumbers {
     /// The number that was sent last, 0 before the first.
     pub last: u32,

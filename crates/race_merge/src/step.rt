@@ -14,7 +14,7 @@ use std::alloc::{AllocError, Global};
 
 /// An event of control, with the epochs of the keys that transmit at its station before and after
 /// it, which are at least 1.
-#[derive(Debug, Drop)]
+#[derive(Drop)]
 pub struct Step {
     pub event: Event,
     pub before: Option<u32>,

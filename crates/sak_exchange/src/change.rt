@@ -6,7 +6,7 @@ use std::alloc::{AllocError, Global};
 use std::marker::Model;
 
 /// Why a key begins.
-#[derive(Clone, Copy, Debug, PartialEq, Eq)]
+#[derive(Clone, Copy, PartialEq, Eq)]
 pub enum Cause {
     /// All live members report it as their latest key.
     All,
@@ -17,7 +17,7 @@ pub enum Cause {
 }
 
 /// Why an offered key is not taken: the first of these that holds.
-#[derive(Clone, Copy, Debug, PartialEq, Eq)]
+#[derive(Clone, Copy, PartialEq, Eq)]
 pub enum Why {
     /// The announcement doesn't list the station as live under a recent number.
     NotListed,
@@ -37,7 +37,7 @@ pub enum Why {
 }
 
 /// One change.
-#[derive(Clone, Copy, Debug, PartialEq, Eq)]
+#[derive(Clone, Copy)]
 pub enum Change {
     /// A key is held no more: none is, or another was installed.
     Dropped(HeldKey),
@@ -52,7 +52,7 @@ pub enum Change {
 }
 
 /// A list of changes, in their order. Contracts see it as the list.
-#[derive(Debug, Drop)]
+#[derive(Drop)]
 pub struct Changes {
     changes: Vec<Change>,
 }

@@ -3,7 +3,7 @@
 use crate::report::Report;
 
 /// What a tick shows of the packet numbers.
-#[derive(Clone, Copy, Debug, PartialEq, Eq)]
+#[derive(Clone, Copy)]
 pub struct Seen {
     /// The next packet number of the association that transmits, 0 where none does.
     pub next: u64,
@@ -14,7 +14,7 @@ pub struct Seen {
 }
 
 /// What decides at a tick whether a station that is its own elected server makes a key.
-#[derive(Clone, Copy, Debug)]
+#[derive(Clone, Copy)]
 pub struct Due<'a> {
     /// What the live members say.
     pub live: &'a [Report],

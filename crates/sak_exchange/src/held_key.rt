@@ -4,7 +4,7 @@ use aes_block::Secret;
 use lan_base::{AssociationNumber, KeyId};
 
 /// A secure association key as it was installed (IEEE Std 802.1X, clause 9).
-#[derive(Clone, Copy, Debug, PartialEq, Eq)]
+#[derive(Clone, Copy, PartialEq, Eq)]
 pub struct Key {
     pub id: KeyId,
     /// The association number, under which the key's frames are found.
@@ -17,7 +17,7 @@ pub struct Key {
 }
 
 /// A key that a station holds.
-#[derive(Clone, Copy, Debug, PartialEq, Eq)]
+#[derive(Clone, Copy, PartialEq, Eq)]
 pub struct HeldKey {
     pub key: Key,
     /// Whether the station has begun to transmit under it.

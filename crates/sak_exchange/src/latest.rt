@@ -6,7 +6,7 @@ ghost use Rattle.sak_exchange.specs.inside.States.{aged, begun_now};
 use crate::held_key::HeldKey;
 
 /// The latest key.
-#[derive(Clone, Copy, Debug)]
+#[derive(Clone, Copy)]
 pub struct Latest {
     pub held: HeldKey,
     /// How many ticks ago it began, as far as they can be counted; 0 where it hasn't begun.

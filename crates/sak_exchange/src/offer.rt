@@ -9,7 +9,7 @@ use lan_base::{AssociationNumber, KeyId, Mi};
 use mkpdu_codec::{ConfidentialityOffset, Given};
 
 /// A key that an accepted announcement gives.
-#[derive(Clone, Copy, Debug, PartialEq, Eq)]
+#[derive(Clone, Copy)]
 pub struct Offer {
     pub given: Given,
     /// The announcer's member identifier.

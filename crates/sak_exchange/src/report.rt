@@ -7,7 +7,7 @@ use lan_base::{KeyId, Mi};
 use mkpdu_codec::{KeyUse, Uses};
 
 /// What a live member says of its keys, if anything.
-#[derive(Clone, Copy, Debug, PartialEq, Eq)]
+#[derive(Clone, Copy)]
 pub struct Report {
     pub mi: Mi,
     pub uses: Option<Uses>,

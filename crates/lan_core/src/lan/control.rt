@@ -55,8 +55,8 @@ impl Lan {
         let place = free_place(self.names.len())?;
         let mi = mi_of(draw);
         note_mi(&mut self.drawn, mi)?;
-        let seat = first_seat(self.alloc, self.judge.settings(), sci, priority, draw)?;
         let facts = Facts::one(self.alloc, Fact::Life { station: place, mi })?;
+        let seat = first_seat(self.alloc, self.judge.settings(), sci, priority, draw)?;
         self.seats.push(seat)?;
         self.names.push(name)?;
         Ok(facts)
