@@ -16,7 +16,7 @@ use crate::set::{ParameterSet, put_header, put_padding, read_set, set_len};
 use lan_base::{CKN_MAX, Mi, Sci, put};
 
 /// What the set says.
-#[derive(Clone, Copy, Debug)]
+#[derive(Clone, Copy)]
 pub struct Basic<'a> {
     pub priority: u8,
     pub server: bool,

@@ -10,7 +10,7 @@ use crate::refusal::Refusal;
 use crate::set::{ParameterSet, read_set};
 
 /// The sets that are read, at most one of each type.
-#[derive(Clone, Copy, Debug)]
+#[derive(Clone, Copy)]
 pub struct Found<'a> {
     pub live: Option<ParameterSet<'a>>,
     pub potential: Option<ParameterSet<'a>>,

@@ -25,7 +25,7 @@ use std::alloc::{AllocError, Global};
 
 /// The parts of a frame that are read: source address, the octets of the parameter sets, and check
 /// value.
-#[derive(Clone, Copy, Debug)]
+#[derive(Clone, Copy)]
 pub struct Parts<'a> {
     pub source: Mac,
     pub sets: &'a [u8],
@@ -89,7 +89,7 @@ fn read_parts(frame: &[u8]) -> Result<Parts<'_>, Refusal>
 }
 
 /// What a frame says, in the frame's own memory.
-#[derive(Clone, Copy, Debug)]
+#[derive(Clone, Copy)]
 pub struct Borrowed<'a> {
     pub parts: Parts<'a>,
     pub basic: Basic<'a>,

@@ -10,7 +10,7 @@ use lan_base::put;
 
 /// A parameter set as it stands in a frame: its type, its second octet, the four flags of its
 /// third, and its body.
-#[derive(Clone, Copy, Debug)]
+#[derive(Clone, Copy)]
 pub struct ParameterSet<'a> {
     pub kind: u8,
     pub second: u8,

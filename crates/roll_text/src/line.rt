@@ -4,7 +4,7 @@ use lan_base::{Name, Octets};
 use trace_text::Line;
 
 /// One line of a trace of two groups.
-#[derive(Debug, Drop)]
+#[derive(Drop)]
 pub enum RollLine {
     /// A line that a trace of one group has too.
     Plain(Line),

@@ -37,7 +37,7 @@ fn step_of(seconds: u64) -> u64 {
     500_000_000
 }
 
-/// Appends one line.
+/// Appends one line, and its seconds.
 fn put_line(
     into: &mut Vec<u8>,
     second: u64,
@@ -54,10 +54,20 @@ fn put_line(
             Piece::Number(u64::from(top)),
             Piece::Text(b"V"),
             Piece::Number(u64::from(bottom)),
+        ],
+    )?;
+    put_seconds(into, second, x, u64::from(top).saturating_sub(4))
+}
+
+/// Appends what ends a line, and its seconds at this height.
+fn put_seconds(into: &mut Vec<u8>, second: u64, x: u64, y: u64) -> Result<(), AllocError> {
+    put(
+        into,
+        &[
             Piece::Text(b"\"/><text class=\"small\" text-anchor=\"middle\" x=\""),
             Piece::Tenths(x),
             Piece::Text(b"\" y=\""),
-            Piece::Number(u64::from(top).saturating_sub(4)),
+            Piece::Number(y),
             Piece::Text(b"\">"),
             Piece::Number(second),
             Piece::Text(b" s</text>\n"),

@@ -116,6 +116,11 @@ fn put_rect(
             Piece::Tenths(across.x),
             Piece::Text(b"\" y=\""),
             Piece::Number(top),
+        ],
+    )?;
+    put(
+        into,
+        &[
             Piece::Text(b"\" width=\""),
             Piece::Tenths(across.width),
             Piece::Text(b"\" height=\""),

@@ -7,7 +7,7 @@ use std::alloc::{AllocError, Global};
 const MOST: u32 = 202;
 
 /// What arrived within one column.
-#[derive(Clone, Copy, Debug, Default, PartialEq, Eq)]
+#[derive(Clone, Copy)]
 pub struct Tally {
     pub accepted: u64,
     pub late: u64,
@@ -59,7 +59,7 @@ impl Tally {
 }
 
 /// What arrived at each station, in columns of as many ticks each as make them few.
-#[derive(Debug, Drop)]
+#[derive(Drop)]
 pub struct Columns {
     alloc: Global,
     ticks: u32,

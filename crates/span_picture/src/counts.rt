@@ -2,7 +2,7 @@
 
 use crate::columns::{Columns, Tally};
 use crate::pieces::{Piece, put};
-use crate::scale::Scale;
+use crate::scale::{Scale, Stretch};
 use std::alloc::AllocError;
 
 /// How high the strip of one kind is, in units.
@@ -72,16 +72,7 @@ fn put_strip(
     let most = greatest(kind, tallies);
     let mut all = 0u64;
     let mut from = 0u64;
-    put(
-        into,
-        &[
-            Piece::Text(b"<text class=\"small\" x=\"62\" y=\""),
-            Piece::Number(u64::from(foot)),
-            Piece::Text(b"\">"),
-            Piece::Text(kind.word()),
-            Piece::Text(b"</text>"),
-        ],
-    )?;
+    put_word(into, kind, foot)?;
     for tally in tallies {
         let count = kind.of(tally);
         let to = from.saturating_add(u64::from(ticks));
@@ -91,6 +82,25 @@ fn put_strip(
         all = all.saturating_add(count);
         from = to;
     }
+    put_sum(into, all, foot)
+}
+
+/// Appends the word of a kind, before its strip.
+fn put_word(into: &mut Vec<u8>, kind: Kind, foot: u32) -> Result<(), AllocError> {
+    put(
+        into,
+        &[
+            Piece::Text(b"<text class=\"small\" x=\"62\" y=\""),
+            Piece::Number(u64::from(foot)),
+            Piece::Text(b"\">"),
+            Piece::Text(kind.word()),
+            Piece::Text(b"</text>"),
+        ],
+    )
+}
+
+/// Appends how many arrivals of a kind there were, behind its strip.
+fn put_sum(into: &mut Vec<u8>, all: u64, foot: u32) -> Result<(), AllocError> {
     put(
         into,
         &[
@@ -129,6 +139,18 @@ fn put_column(
         .checked_div(most)
         .unwrap_or(0)
         .saturating_add(3);
+    put_bar(into, kind, across, foot, height)?;
+    put_title(into, kind, count, from, to)
+}
+
+/// Appends the front of the bar of a column.
+fn put_bar(
+    into: &mut Vec<u8>,
+    kind: Kind,
+    across: Stretch,
+    foot: u32,
+    height: u64,
+) -> Result<(), AllocError> {
     put(
         into,
         &[
@@ -138,10 +160,35 @@ fn put_column(
             Piece::Tenths(across.x),
             Piece::Text(b"\" y=\""),
             Piece::Number(u64::from(foot).saturating_sub(height)),
+        ],
+    )?;
+    put_measures(into, across.width, height)
+}
+
+/// Appends the width and the height of a bar.
+fn put_measures(into: &mut Vec<u8>, width: u64, height: u64) -> Result<(), AllocError> {
+    put(
+        into,
+        &[
             Piece::Text(b"\" width=\""),
-            Piece::Tenths(across.width),
+            Piece::Tenths(width),
             Piece::Text(b"\" height=\""),
             Piece::Number(height),
+        ],
+    )
+}
+
+/// Appends the title of the bar of a column, and what ends the bar.
+fn put_title(
+    into: &mut Vec<u8>,
+    kind: Kind,
+    count: u64,
+    from: u64,
+    to: u64,
+) -> Result<(), AllocError> {
+    put(
+        into,
+        &[
             Piece::Text(b"\"><title>"),
             Piece::Number(count),
             Piece::Text(b" "),

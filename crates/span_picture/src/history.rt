@@ -4,21 +4,21 @@ use lan_base::Mi;
 use std::alloc::{AllocError, Global};
 
 /// A life began at this tick.
-#[derive(Clone, Copy, Debug, PartialEq, Eq)]
+#[derive(Clone, Copy)]
 pub struct Birth {
     pub at: u32,
     pub mi: Mi,
 }
 
 /// The station elected itself at this tick, and no more from another one on.
-#[derive(Clone, Copy, Debug, PartialEq, Eq)]
+#[derive(Clone, Copy)]
 pub struct Service {
     pub from: u32,
     pub to: Option<u32>,
 }
 
 /// The lives of one station, and when it served, the earliest first.
-#[derive(Debug, Drop)]
+#[derive(Drop)]
 pub struct History {
     births: Vec<Birth>,
     services: Vec<Service>,

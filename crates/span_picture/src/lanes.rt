@@ -87,10 +87,20 @@ fn put_life(into: &mut Vec<u8>, birth: Birth, x: u64, top: u32) -> Result<(), Al
             Piece::Tenths(x),
             Piece::Text(b" "),
             Piece::Number(u64::from(top)),
+        ],
+    )?;
+    put_triangle(into, x, u64::from(top) + 7)
+}
+
+/// Appends what ends the line of a life, and its triangle, which begins at this height.
+fn put_triangle(into: &mut Vec<u8>, x: u64, y: u64) -> Result<(), AllocError> {
+    put(
+        into,
+        &[
             Piece::Text(b"v62\"/><path class=\"ink\" d=\"M"),
             Piece::Tenths(x),
             Piece::Text(b" "),
-            Piece::Number(u64::from(top) + 7),
+            Piece::Number(y),
             Piece::Text(b"l-4 -7h8z\"/></g>\n"),
         ],
     )

@@ -13,7 +13,7 @@ const MOST: usize = 40;
 const ABREAST: u64 = 4;
 
 /// The identifiers in the order of their first install, numbered from 1.
-#[derive(Debug, Drop)]
+#[derive(Drop)]
 pub struct Legend {
     numbers: BTreeMap<(Mi, u32), u32>,
     ids: Vec<KeyId>,
@@ -68,52 +68,84 @@ impl Legend {
             place = place.saturating_add(1);
         }
         let more = self.ids.len().saturating_sub(MOST);
-        if more > 0 {
-            let y = top.saturating_add(self.height()).saturating_sub(32);
-            put(
-                into,
-                &[
-                    Piece::Text(b"<text x=\"20\" y=\""),
-                    Piece::Number(y),
-                    Piece::Text(b"\">and "),
-                    Piece::Number(more as u64),
-                    Piece::Text(b" more keys</text>\n"),
-                ],
-            )?;
+        if more == 0 {
+            return Ok(());
         }
-        Ok(())
+        let y = top.saturating_add(self.height()).saturating_sub(32);
+        put_more(into, more as u64, y)
     }
 
     /// Appends what explains one identifier.
     fn entry(&self, into: &mut Vec<u8>, id: KeyId, x: u64, y: u64) -> Result<(), AllocError> {
         let number = self.number(id);
-        put(
-            into,
-            &[
-                Piece::Text(b"<g class=\"k"),
-                Piece::Number(colour(number)),
-                Piece::Text(b"\"><rect class=\"thick\" x=\""),
-                Piece::Number(x),
-                Piece::Text(b"\" y=\""),
-                Piece::Number(y),
-                Piece::Text(b"\" width=\"22\" height=\"10\"/><text class=\"label\" x=\""),
-                Piece::Number(x.saturating_add(3)),
-                Piece::Text(b"\" y=\""),
-                Piece::Number(y.saturating_add(8)),
-                Piece::Text(b"\">"),
-                Piece::Number(u64::from(number)),
-                Piece::Text(b"</text></g><text x=\""),
-                Piece::Number(x.saturating_add(28)),
-                Piece::Text(b"\" y=\""),
-                Piece::Number(y.saturating_add(9)),
-                Piece::Text(b"\">key "),
-                Piece::Number(u64::from(id.number)),
-                Piece::Text(b" of "),
-                Piece::Hex(&id.server.0),
-                Piece::Text(b"</text>\n"),
-            ],
-        )
+        put_box(into, number, x, y)?;
+        put_label(into, number, x, y)?;
+        put_identifier(into, id, x, y)
     }
+}
+
+/// Appends how many identifiers more there are than are explained.
+fn put_more(into: &mut Vec<u8>, more: u64, y: u64) -> Result<(), AllocError> {
+    put(
+        into,
+        &[
+            Piece::Text(b"<text x=\"20\" y=\""),
+            Piece::Number(y),
+            Piece::Text(b"\">and "),
+            Piece::Number(more),
+            Piece::Text(b" more keys</text>\n"),
+        ],
+    )
+}
+
+/// Appends the front of the coloured box of an identifier.
+fn put_box(into: &mut Vec<u8>, number: u32, x: u64, y: u64) -> Result<(), AllocError> {
+    put(
+        into,
+        &[
+            Piece::Text(b"<g class=\"k"),
+            Piece::Number(colour(number)),
+            Piece::Text(b"\"><rect class=\"thick\" x=\""),
+            Piece::Number(x),
+            Piece::Text(b"\" y=\""),
+            Piece::Number(y),
+            Piece::Text(b"\" width=\"22\" height=\"10\"/>"),
+        ],
+    )
+}
+
+/// Appends the number in the coloured box of an identifier, and what ends the box.
+fn put_label(into: &mut Vec<u8>, number: u32, x: u64, y: u64) -> Result<(), AllocError> {
+    put(
+        into,
+        &[
+            Piece::Text(b"<text class=\"label\" x=\""),
+            Piece::Number(x.saturating_add(3)),
+            Piece::Text(b"\" y=\""),
+            Piece::Number(y.saturating_add(8)),
+            Piece::Text(b"\">"),
+            Piece::Number(u64::from(number)),
+            Piece::Text(b"</text></g>"),
+        ],
+    )
+}
+
+/// Appends an identifier, behind its box.
+fn put_identifier(into: &mut Vec<u8>, id: KeyId, x: u64, y: u64) -> Result<(), AllocError> {
+    put(
+        into,
+        &[
+            Piece::Text(b"<text x=\""),
+            Piece::Number(x.saturating_add(28)),
+            Piece::Text(b"\" y=\""),
+            Piece::Number(y.saturating_add(9)),
+            Piece::Text(b"\">key "),
+            Piece::Number(u64::from(id.number)),
+            Piece::Text(b" of "),
+            Piece::Hex(&id.server.0),
+            Piece::Text(b"</text>\n"),
+        ],
+    )
 }
 
 /// The colour of the identifier of a number: one at all stations.

@@ -10,13 +10,13 @@ pub const BREADTH: u64 = 10_100;
 const LEAST: u64 = 12;
 
 /// Where ticks lie.
-#[derive(Clone, Copy, Debug, PartialEq, Eq)]
+#[derive(Clone, Copy)]
 pub struct Scale {
     ticks: u64,
 }
 
 /// Where something begins, and how wide it is.
-#[derive(Clone, Copy, Debug, PartialEq, Eq)]
+#[derive(Clone, Copy)]
 pub struct Stretch {
     pub x: u64,
     pub width: u64,

@@ -14,7 +14,7 @@ use std::marker::Model;
 use transcript_spans::Spans;
 
 /// The spans of the facts so far, what arrived, the lives, and who served. Contracts see the spans.
-#[derive(Debug, Drop)]
+#[derive(Drop)]
 pub struct Scene {
     spans: Spans,
     columns: Columns,

@@ -46,6 +46,16 @@ fn put_head(into: &mut Vec<u8>, height: u64) -> Result<(), AllocError> {
             Piece::Number(WIDTH),
             Piece::Text(b" "),
             Piece::Number(height),
+        ],
+    )?;
+    put_meaning(into)
+}
+
+/// Appends what ends the head: its title, its style, and what its shapes mean.
+fn put_meaning(into: &mut Vec<u8>) -> Result<(), AllocError> {
+    put(
+        into,
+        &[
             Piece::Text(b"\">\n<title>Who held which key</title>\n"),
             Piece::Text(STYLE),
             Piece::Text(b"<rect class=\"paper\" width=\"100%\" height=\"100%\"/>\n"),

@@ -38,9 +38,9 @@ fn put_lines(alloc: Global, number: u32, into: &mut Vec<u8>) -> Result<(), Alloc
     };
     put_head(alloc, into)?;
     put_stations(&mut generator, into)?;
-    put(into, &Line::Flow { rounds: 40 })?;
+    put(into, Line::Flow { rounds: 40 })?;
     put_choices(alloc, &mut generator, into)?;
-    put(into, &Line::Flow { rounds: 100 })
+    put(into, Line::Flow { rounds: 100 })
 }
 
 /// Appends the lines that stand first.
@@ -48,10 +48,9 @@ fn put_head(alloc: Global, into: &mut Vec<u8>) -> Result<(), AllocError>
     ensures ok { OnOk result (into.new.items ≡ into.old.items ++ text_of head) }
     ensures err { OnErr result (Grew into.old.items into.new.items) }
 {
-    let group = group_line(alloc)?;
-    put(into, &Line::DrawsCount)?;
-    put(into, &group)?;
-    put(into, &Line::Rekey { rekey: 40 })
+    put(into, Line::DrawsCount)?;
+    put(into, group_line(alloc)?)?;
+    put(into, Line::Rekey { rekey: 40 })
 }
 
 /// Appends the six stations' lines.
@@ -63,7 +62,7 @@ fn put_stations(generator: &mut Generator, into: &mut Vec<u8>) -> Result<(), All
 {
     for i in 0..6u8 {
         let value = generator.value();
-        put(into, &station_line(i + 1, value))?;
+        put(into, station_line(i + 1, value))?;
     }
     Ok(())
 }
@@ -80,13 +79,21 @@ fn put_choices(
 {
     for i in 0..CHOICES {
         let line = chosen_line(alloc, generator.value())?;
-        put(into, &line)?;
+        put(into, line)?;
     }
     Ok(())
 }
 
-/// Appends a line and its line feed.
-fn put(into: &mut Vec<u8>, line: &Line) -> Result<(), AllocError>
+/// Appends a line and its line feed. The line is let go here, so that those who make lines don't.
+fn put(into: &mut Vec<u8>, line: Line) -> Result<(), AllocError>
+    ensures ok { OnOk result (into.new.items ≡ into.old.items ++ (written line ++ 10 ∷ [])) }
+    ensures err { OnErr result (Grew into.old.items into.new.items) }
+{
+    put_text(into, &line)
+}
+
+/// Appends the text of a line and its line feed.
+fn put_text(into: &mut Vec<u8>, line: &Line) -> Result<(), AllocError>
     ensures ok { OnOk result (into.new.items ≡ into.old.items ++ (written line.now ++ 10 ∷ [])) }
     ensures err { OnErr result (Grew into.old.items into.new.items) }
 {

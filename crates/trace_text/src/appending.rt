@@ -10,7 +10,7 @@ use lan_base::Name;
 use std::alloc::AllocError;
 
 /// A word behind a line's first.
-#[derive(Clone, Copy, Debug)]
+#[derive(Clone, Copy)]
 pub enum Word<'a> {
     /// Letters as they stand.
     Text(&'a [u8]),

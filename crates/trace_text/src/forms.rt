@@ -34,29 +34,39 @@ fn read_behind(alloc: Global, keyword: Keyword, rest: &[u8]) -> Result<Line, Lin
 {
     match keyword {
         Keyword::Draws => draws(alloc, rest),
-        Keyword::Conf => Ok(conf(rest)?),
-        Keyword::Window => Ok(window(rest)?),
-        Keyword::Rekey => Ok(rekey(rest)?),
-        Keyword::Lag => Ok(lag(rest)?),
-        Keyword::Suite => Ok(suite(rest)?),
-        Keyword::Flag => Ok(flag(rest)?),
+        Keyword::Conf => answered(conf(rest)),
+        Keyword::Window => answered(window(rest)),
+        Keyword::Rekey => answered(rekey(rest)),
+        Keyword::Lag => answered(lag(rest)),
+        Keyword::Suite => answered(suite(rest)),
+        Keyword::Flag => answered(flag(rest)),
         Keyword::Group => group(alloc, rest),
-        Keyword::Station => Ok(station(rest)?),
-        Keyword::Tick => Ok(tick(rest)?),
-        Keyword::Flow => Ok(flow(rest)?),
-        Keyword::Deliver => Ok(deliver(rest)?),
-        Keyword::Spread => Ok(spread(rest)?),
-        Keyword::Lose => Ok(lose(rest)?),
-        Keyword::Cut => Ok(cut(rest)?),
-        Keyword::Mend => Ok(mend(rest)?),
-        Keyword::Restart => Ok(restart(rest)?),
+        Keyword::Station => answered(station(rest)),
+        Keyword::Tick => answered(tick(rest)),
+        Keyword::Flow => answered(flow(rest)),
+        Keyword::Deliver => answered(deliver(rest)),
+        Keyword::Spread => answered(spread(rest)),
+        Keyword::Lose => answered(lose(rest)),
+        Keyword::Cut => answered(cut(rest)),
+        Keyword::Mend => answered(mend(rest)),
+        Keyword::Restart => answered(restart(rest)),
         Keyword::Send => send(alloc, rest),
-        Keyword::Race => Ok(race(rest)?),
+        Keyword::Race => answered(race(rest)),
         Keyword::Burst => burst(alloc, rest),
-        Keyword::While => Ok(race_control(rest)?),
-        Keyword::End => Ok(race_end(rest)?),
+        Keyword::While => answered(race_control(rest)),
+        Keyword::End => answered(race_end(rest)),
         Keyword::Inject => inject(alloc, rest),
-        Keyword::Feed => Ok(feed(rest)?),
+        Keyword::Feed => answered(feed(rest)),
+    }
+}
+
+/// What a form that takes no memory says.
+fn answered(said: Result<Line, TextFault>) -> Result<Line, LineError>
+    ensures { Answers result said }
+{
+    match said {
+        Ok(line) => Ok(line),
+        Err(fault) => Err(LineError::Refused(fault)),
     }
 }
 
@@ -66,10 +76,10 @@ fn draws(alloc: Global, rest: &[u8]) -> Result<Line, LineError>
 {
     let (kind, rest) = next_word(rest).ok_or(TextFault::Count)?;
     if kind == b"count".as_slice() {
-        return Ok(draws_count(rest)?);
+        return answered(draws_count(rest));
     }
     if kind == b"chacha".as_slice() {
-        return Ok(draws_chacha(rest)?);
+        return answered(draws_chacha(rest));
     }
     if kind == b"list".as_slice() {
         return draws_list(alloc, rest);
@@ -187,12 +197,19 @@ fn tick(rest: &[u8]) -> Result<Line, TextFault>
     ensures { result ≡ line_by Keyword.Tick (words_of rest.now) }
 {
     let (first, rest) = next_word(rest).ok_or(TextFault::Count)?;
-    let Some((second, rest)) = next_word(rest) else {
-        return rounds(first);
-    };
+    match next_word(rest) {
+        None => rounds(first),
+        Some((second, rest)) => ticks(first, second, rest),
+    }
+}
+
+/// `tick NAME N`.
+fn ticks(name: &[u8], ticks: &[u8], rest: &[u8]) -> Result<Line, TextFault>
+    ensures { result ≡ line_by Keyword.Tick (name.now ∷ ticks.now ∷ words_of rest.now) }
+{
     no_word(rest)?;
-    let name = read_name(first)?;
-    let ticks = read_number(second, 1, TICKS_MAX)?;
+    let name = read_name(name)?;
+    let ticks = read_number(ticks, 1, TICKS_MAX)?;
     Ok(Line::TickOne { name, ticks })
 }
 
@@ -296,6 +313,21 @@ fn burst(alloc: Global, rest: &[u8]) -> Result<Line, LineError>
     let (name, rest) = next_word(rest).ok_or(TextFault::Count)?;
     let (workers, rest) = next_word(rest).ok_or(TextFault::Count)?;
     let (frames, destination, body) = three_words(rest)?;
+    burst_of(alloc, name, workers, frames, destination, body)
+}
+
+/// `burst NAME W N DST BODY`, of these words.
+fn burst_of(
+    alloc: Global,
+    name: &[u8],
+    workers: &[u8],
+    frames: &[u8],
+    destination: &[u8],
+    body: &[u8],
+) -> Result<Line, LineError>
+    ensures { Answers result (line_by Keyword.Burst
+        (name.now ∷ workers.now ∷ frames.now ∷ destination.now ∷ body.now ∷ [])) }
+{
     let name = read_name(name)?;
     let workers = read_number(workers, 1, MAX_WORKERS)?;
     let frames = read_number(frames, 1, MAX_BURST)?;

@@ -4,7 +4,7 @@ use lan_base::{Blocks, Mac, Name, Octets, Sci, Suite};
 
 /// One line of a trace. Its fields are the words of its form, in order, but for those that it
 /// begins with.
-#[derive(Debug, Drop)]
+#[derive(Drop)]
 pub enum Line {
     /// `draws count`: the draws count from 1.
     DrawsCount,

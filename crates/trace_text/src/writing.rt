@@ -1,15 +1,16 @@
 //! A line is written.
 
-ghost use Rattle.std.specs.Prelude.{◌≡◌, ◌++◌, OnOk, OnErr, decimal};
+ghost use Rattle.std.specs.Prelude.{◌≡◌, ◌++◌, ◌∷◌, [], OnOk, OnErr, decimal};
 ghost use Rattle.hex.specs.Hex.{encode_lower};
 ghost use Rattle.trace_text.specs.declared.line.Line.TheVariants.{DrawsList};
 ghost use Rattle.trace_text.specs.Writing.{written, first_words, fields};
 ghost use Rattle.trace_text.specs.Appending.{Grew, word_text};
-ghost use Rattle.trace_text.specs.inside.Fields.{further, data_fields};
+ghost use Rattle.trace_text.specs.Words.{spaced};
+ghost use Rattle.trace_text.specs.inside.Fields.{further};
 
 use crate::appending::{Word, put_words};
 use crate::line::Line;
-use lan_base::Octets;
+use lan_base::{Mac, Name, Octets, Sci};
 use std::alloc::AllocError;
 
 /// Appends a line's text, without a line ending. An `Err` leaves what was there.
@@ -71,76 +72,167 @@ fn first_words(line: &Line) -> &'static [u8]
 }
 
 /// Appends the further words of a line. An `Err` leaves what was there, and may leave a front of
-/// the words behind it.
+/// the words behind it, as in the functions behind this one.
 fn put_fields(line: &Line, into: &mut Vec<u8>) -> Result<(), AllocError>
     ensures ok { OnOk result (into.new.items ≡ into.old.items ++ further (fields line.now)) }
     ensures err { OnErr result (Grew into.old.items into.new.items) }
 {
     match line {
         Line::DrawsCount | Line::Race | Line::While | Line::End => Ok(()),
-        Line::DrawsChaCha { key } => put_words(into, &[Word::Octets(key)]),
+        Line::DrawsChaCha { key } => put_octets(key, into),
         Line::DrawsList { values } => put_blocks(values.as_slice(), into),
-        Line::Conf { conf } => put_words(into, &[number(*conf)]),
-        Line::Window { window } => put_words(into, &[number(*window)]),
-        Line::Rekey { rekey } => put_words(into, &[number(*rekey)]),
-        Line::Lag { lag } => put_words(into, &[number(*lag)]),
-        Line::Suite { suite } => put_words(into, &[number(suite.key_bits())]),
-        Line::Flag { early } => put_words(into, &[number(u32::from(*early))]),
-        Line::Group { cak, ckn } => put_words(into, &[octets(cak), octets(ckn)]),
+        Line::Conf { conf } => put_number(*conf, into),
+        Line::Window { window } => put_number(*window, into),
+        Line::Rekey { rekey } => put_number(*rekey, into),
+        Line::Lag { lag } => put_number(*lag, into),
+        Line::Suite { suite } => put_number(suite.key_bits(), into),
+        Line::Flag { early } => put_number(u32::from(*early), into),
+        Line::Group { cak, ckn } => put_group(cak, ckn, into),
         Line::Station {
             name,
             sci,
             priority,
-        } => {
-            let sci = Word::Octets(&sci.0);
-            put_words(into, &[Word::Name(name), sci, number(*priority)])
-        }
-        Line::Tick { rounds } | Line::Flow { rounds } => put_words(into, &[number(*rounds)]),
-        Line::TickOne { name, ticks } => put_words(into, &[Word::Name(name), number(*ticks)]),
-        Line::Deliver { frame, name } => put_words(into, &[number(*frame), Word::Name(name)]),
-        Line::Spread { frame } | Line::Lose { frame } => put_words(into, &[number(*frame)]),
-        Line::Cut { from, to } | Line::Mend { from, to } => {
-            put_words(into, &[Word::Name(from), Word::Name(to)])
-        }
+        } => put_station(name, *sci, *priority, into),
+        Line::Tick { rounds } | Line::Flow { rounds } => put_number(*rounds, into),
+        Line::TickOne { name, ticks } => put_ticks(name, *ticks, into),
+        Line::Deliver { frame, name } => put_delivery(*frame, name, into),
+        Line::Spread { frame } | Line::Lose { frame } => put_number(*frame, into),
+        Line::Cut { from, to } | Line::Mend { from, to } => put_link(from, to, into),
         Line::Restart { name } => put_words(into, &[Word::Name(name)]),
-        Line::Feed { first, last, name } => {
-            put_words(into, &[number(*first), number(*last), Word::Name(name)])
-        }
-        Line::Send { .. } | Line::Burst { .. } | Line::Inject { .. } => put_data(line, into),
-    }
-}
-
-/// Appends the further words of a line that carries octets of a frame, and none of another line. An
-/// `Err` leaves what was there, and may leave a front of the words behind it.
-fn put_data(line: &Line, into: &mut Vec<u8>) -> Result<(), AllocError>
-    ensures ok { OnOk result (into.new.items ≡ into.old.items ++ further (data_fields line.now)) }
-    ensures err { OnErr result (Grew into.old.items into.new.items) }
-{
-    match line {
+        Line::Feed { first, last, name } => put_feed(*first, *last, name, into),
         Line::Send {
             name,
             destination,
             body,
-        } => {
-            let destination = Word::Octets(&destination.0);
-            put_words(into, &[Word::Name(name), destination, octets(body)])
-        }
+        } => put_send(name, *destination, body, into),
         Line::Burst {
             name,
             workers,
             frames,
             destination,
             body,
-        } => {
-            let workers = number(*workers);
-            let frames = number(*frames);
-            let destination = Word::Octets(&destination.0);
-            let words = [Word::Name(name), workers, frames, destination, octets(body)];
-            put_words(into, &words)
-        }
-        Line::Inject { name, octets: body } => put_words(into, &[Word::Name(name), octets(body)]),
-        _ => Ok(()),
+        } => put_burst(name, *workers, *frames, *destination, body, into),
+        Line::Inject { name, octets } => put_injected(name, octets, into),
     }
+}
+
+/// Appends a number behind a space.
+fn put_number(number: u32, into: &mut Vec<u8>) -> Result<(), AllocError>
+    ensures ok { OnOk result (into.new.items ≡ into.old.items ++ spaced (decimal number ∷ [])) }
+    ensures err { OnErr result (Grew into.old.items into.new.items) }
+{
+    put_words(into, &[Word::Number(u64::from(number))])
+}
+
+/// Appends octets behind a space.
+fn put_octets(octets: &[u8], into: &mut Vec<u8>) -> Result<(), AllocError>
+    ensures ok { OnOk result (into.new.items
+        ≡ into.old.items ++ spaced (encode_lower octets.now ∷ [])) }
+    ensures err { OnErr result (Grew into.old.items into.new.items) }
+{
+    put_words(into, &[Word::Octets(octets)])
+}
+
+/// Appends a key and its name.
+fn put_group(cak: &Octets, ckn: &Octets, into: &mut Vec<u8>) -> Result<(), AllocError>
+    ensures ok { OnOk result (into.new.items
+        ≡ into.old.items ++ spaced (encode_lower cak.now ∷ encode_lower ckn.now ∷ [])) }
+    ensures err { OnErr result (Grew into.old.items into.new.items) }
+{
+    put_words(into, &[octets(cak), octets(ckn)])
+}
+
+/// Appends a station's name, its SCI and its priority.
+fn put_station(name: &Name, sci: Sci, priority: u32, into: &mut Vec<u8>) -> Result<(), AllocError>
+    ensures ok { OnOk result (into.new.items
+        ≡ into.old.items ++ spaced (name.now ∷ encode_lower sci.0 ∷ decimal priority ∷ [])) }
+    ensures err { OnErr result (Grew into.old.items into.new.items) }
+{
+    let sci = Word::Octets(&sci.0);
+    put_words(into, &[Word::Name(name), sci, number(priority)])
+}
+
+/// Appends a station's name, and how often it ticks.
+fn put_ticks(name: &Name, ticks: u32, into: &mut Vec<u8>) -> Result<(), AllocError>
+    ensures ok { OnOk result (into.new.items
+        ≡ into.old.items ++ spaced (name.now ∷ decimal ticks ∷ [])) }
+    ensures err { OnErr result (Grew into.old.items into.new.items) }
+{
+    put_words(into, &[Word::Name(name), number(ticks)])
+}
+
+/// Appends a frame's number, and whom the frame reaches.
+fn put_delivery(frame: u32, name: &Name, into: &mut Vec<u8>) -> Result<(), AllocError>
+    ensures ok { OnOk result (into.new.items
+        ≡ into.old.items ++ spaced (decimal frame ∷ name.now ∷ [])) }
+    ensures err { OnErr result (Grew into.old.items into.new.items) }
+{
+    put_words(into, &[number(frame), Word::Name(name)])
+}
+
+/// Appends the names of a link's ends.
+fn put_link(from: &Name, to: &Name, into: &mut Vec<u8>) -> Result<(), AllocError>
+    ensures ok { OnOk result (into.new.items
+        ≡ into.old.items ++ spaced (from.now ∷ to.now ∷ [])) }
+    ensures err { OnErr result (Grew into.old.items into.new.items) }
+{
+    put_words(into, &[Word::Name(from), Word::Name(to)])
+}
+
+/// Appends the numbers of the first frame and the last one, and whom the frames reach.
+fn put_feed(first: u32, last: u32, name: &Name, into: &mut Vec<u8>) -> Result<(), AllocError>
+    ensures ok { OnOk result (into.new.items
+        ≡ into.old.items ++ spaced (decimal first ∷ decimal last ∷ name.now ∷ [])) }
+    ensures err { OnErr result (Grew into.old.items into.new.items) }
+{
+    put_words(into, &[number(first), number(last), Word::Name(name)])
+}
+
+/// Appends a station's name, a destination and user data.
+fn put_send(
+    name: &Name,
+    destination: Mac,
+    body: &Octets,
+    into: &mut Vec<u8>,
+) -> Result<(), AllocError>
+    ensures ok { OnOk result (into.new.items ≡ into.old.items
+        ++ spaced (name.now ∷ encode_lower destination.0 ∷ encode_lower body.now ∷ [])) }
+    ensures err { OnErr result (Grew into.old.items into.new.items) }
+{
+    let destination = Word::Octets(&destination.0);
+    put_words(into, &[Word::Name(name), destination, octets(body)])
+}
+
+/// Appends a station's name, its counts of workers and of frames, a destination and user data.
+fn put_burst(
+    name: &Name,
+    workers: u32,
+    frames: u32,
+    destination: Mac,
+    body: &Octets,
+    into: &mut Vec<u8>,
+) -> Result<(), AllocError>
+    ensures ok { OnOk result (into.new.items ≡ into.old.items
+        ++ spaced (name.now ∷ decimal workers ∷ decimal frames ∷ encode_lower destination.0
+        ∷ encode_lower body.now ∷ [])) }
+    ensures err { OnErr result (Grew into.old.items into.new.items) }
+{
+    let workers = number(workers);
+    let frames = number(frames);
+    let destination = Word::Octets(&destination.0);
+    put_words(
+        into,
+        &[Word::Name(name), workers, frames, destination, octets(body)],
+    )
+}
+
+/// Appends a station's name, and octets that reach it.
+fn put_injected(name: &Name, injected: &Octets, into: &mut Vec<u8>) -> Result<(), AllocError>
+    ensures ok { OnOk result (into.new.items
+        ≡ into.old.items ++ spaced (name.now ∷ encode_lower injected.now ∷ [])) }
+    ensures err { OnErr result (Grew into.old.items into.new.items) }
+{
+    put_words(into, &[Word::Name(name), octets(injected)])
 }
 
 /// Appends the values of a list of draws, each behind a space. An `Err` leaves what was there, and

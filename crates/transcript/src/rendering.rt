@@ -8,7 +8,7 @@ ghost use Rattle.lan_core.specs.Run.{place};
 ghost use Rattle.transcript.specs.Words.{spelled, server_word, why_words, reason_words, verdict_words, arrival_words, lack_words, cause_text, tag_text, frame_text};
 ghost use Rattle.transcript.specs.Rendering.{rendered};
 ghost use Rattle.trace_text.specs.Appending.{Grew, word_text};
-ghost use Rattle.transcript.specs.inside.Appending.{line_of};
+ghost use Rattle.transcript.specs.inside.Appending.{line_of, told};
 
 use aes_block::Secret;
 use gcm_frames::TagRefusal;
@@ -19,6 +19,13 @@ use rx_slots::Arrival;
 use sak_exchange::{Cause, Why};
 use std::alloc::AllocError;
 use trace_text::{Word, put_words};
+
+/// What a line's last words tell: a word, or a word and a number.
+#[derive(Clone, Copy)]
+pub enum Told {
+    Word(&'static [u8]),
+    WordAndNumber(&'static [u8], u64),
+}
 
 /// Appends a fact's line with its line feed, under the names of the stations by place. An `Err`
 /// leaves what was there.
@@ -45,9 +52,9 @@ fn put_fact<'a>(fact: &'a Fact, into: &mut Vec<u8>, names: &'a [Name]) -> Result
 {
     let name = name_at(names, fact.place());
     match fact {
-        Fact::Life { mi, .. } => put(into, b"life", &[Word::Name(name), Word::Octets(&mi.0)], &[]),
+        Fact::Life { mi, .. } => put_life(into, name, mi),
         Fact::Ticked { at, next, .. } => put_ticked(into, name, *at, *next),
-        Fact::Server { mi, .. } => put(into, b"server", &[Word::Name(name), server_word(mi)], &[]),
+        Fact::Server { mi, .. } => put_server(into, name, mi),
         Fact::Dropped { id, an, .. } => put_key(into, b"drop", name, id, *an, &[]),
         Fact::Retired { id, an, .. } => put_key(into, b"retire", name, id, *an, &[]),
         Fact::Began {
@@ -76,6 +83,24 @@ fn put_fact<'a>(fact: &'a Fact, into: &mut Vec<u8>, names: &'a [Name]) -> Result
         Fact::Unclaimed { why, .. } => put_unclaimed(into, name, *why),
         Fact::Arrived { frame, arrival, .. } => put_arrived(into, *frame, name, arrival),
     }
+}
+
+/// Appends the line of a life of the station that is named.
+fn put_life(into: &mut Vec<u8>, name: &Name, mi: &Mi) -> Result<(), AllocError>
+    ensures ok { OnOk result (into.new.items ≡ into.old.items ++ line_of (codes "life")
+        (name.now ∷ encode_lower mi.now.0 ∷ [])) }
+    ensures err { OnErr result (Grew into.old.items into.new.items) }
+{
+    put(into, b"life", &[Word::Name(name), Word::Octets(&mi.0)], &[])
+}
+
+/// Appends the line of the server that the station elected, or of none.
+fn put_server(into: &mut Vec<u8>, name: &Name, mi: &Option<Mi>) -> Result<(), AllocError>
+    ensures ok { OnOk result ((names : List (List ℕ)) → into.new.items ≡ into.old.items
+        ++ line_of (codes "server") (name.now ∷ spelled names (server_word mi.now) ∷ [])) }
+    ensures err { OnErr result (Grew into.old.items into.new.items) }
+{
+    put(into, b"server", &[Word::Name(name), server_word(mi)], &[])
 }
 
 /// Appends the line of a tick of the station that is named.
@@ -221,20 +246,24 @@ fn put_untaken<'a>(
         ∷ decimal id.now.number ∷ map (spelled names) (why_words why))) }
     ensures err { OnErr result (Grew into.old.items into.new.items) }
 {
-    let first = b"untaken";
+    let told = why_told(why);
     let server = Word::Octets(&id.server.0);
-    let head = &[Word::Name(name), server, Word::Number(u64::from(id.number))];
+    let head = [Word::Name(name), server, Word::Number(u64::from(id.number))];
+    put_told(into, b"untaken", &head, told)
+}
+
+/// What tells why a key is not taken.
+fn why_told(why: Why) -> Told
+    ensures { (names : List (List ℕ)) → map (spelled names) (why_words why) ≡ told result }
+{
     match why {
-        Why::NotListed => put(into, first, head, &[Word::Text(b"notlisted")]),
-        Why::NotServer => put(into, first, head, &[Word::Text(b"notserver")]),
-        Why::Seen { kept } => {
-            let tail = [Word::Text(b"seen"), Word::Number(u64::from(kept))];
-            put(into, first, head, &tail)
-        }
-        Why::Retiring => put(into, first, head, &[Word::Text(b"retiring")]),
-        Why::Suite => put(into, first, head, &[Word::Text(b"suite")]),
-        Why::Offset => put(into, first, head, &[Word::Text(b"offset")]),
-        Why::Wrap => put(into, first, head, &[Word::Text(b"wrap")]),
+        Why::NotListed => Told::Word(b"notlisted"),
+        Why::NotServer => Told::Word(b"notserver"),
+        Why::Seen { kept } => Told::WordAndNumber(b"seen", u64::from(kept)),
+        Why::Retiring => Told::Word(b"retiring"),
+        Why::Suite => Told::Word(b"suite"),
+        Why::Offset => Told::Word(b"offset"),
+        Why::Wrap => Told::Word(b"wrap"),
     }
 }
 
@@ -271,29 +300,27 @@ fn put_drop(
         ∷ map (spelled names) (reason_words reason))) }
     ensures err { OnErr result (Grew into.old.items into.new.items) }
 {
-    let first = b"heard";
+    let told = reason_told(reason);
     let number = Word::Number(u64::from(frame));
-    let head = &[number, Word::Name(name), Word::Text(b"drop")];
+    let head = [number, Word::Name(name), Word::Text(b"drop")];
+    put_told(into, b"heard", &head, told)
+}
+
+/// What tells why a frame is dropped.
+fn reason_told(reason: DropReason) -> Told
+    ensures { (names : List (List ℕ)) → map (spelled names) (reason_words reason) ≡ told result }
+{
     match reason {
-        DropReason::NotMka => put(into, first, head, &[Word::Text(b"notmka")]),
-        DropReason::Short => put(into, first, head, &[Word::Text(b"short")]),
-        DropReason::Shape { at } => {
-            let tail = [Word::Text(b"shape"), Word::Number(at as u64)];
-            put(into, first, head, &tail)
-        }
-        DropReason::Repeated { kind } => {
-            let tail = [Word::Text(b"repeated"), Word::Number(u64::from(kind))];
-            put(into, first, head, &tail)
-        }
-        DropReason::Agility => put(into, first, head, &[Word::Text(b"agility")]),
-        DropReason::CkName => put(into, first, head, &[Word::Text(b"ckname")]),
-        DropReason::Check => put(into, first, head, &[Word::Text(b"check")]),
-        DropReason::Echo => put(into, first, head, &[Word::Text(b"echo")]),
-        DropReason::OldNumber { kept } => {
-            let tail = [Word::Text(b"oldnumber"), Word::Number(u64::from(kept))];
-            put(into, first, head, &tail)
-        }
-        DropReason::PeersFull => put(into, first, head, &[Word::Text(b"peersfull")]),
+        DropReason::NotMka => Told::Word(b"notmka"),
+        DropReason::Short => Told::Word(b"short"),
+        DropReason::Shape { at } => Told::WordAndNumber(b"shape", at as u64),
+        DropReason::Repeated { kind } => Told::WordAndNumber(b"repeated", u64::from(kind)),
+        DropReason::Agility => Told::Word(b"agility"),
+        DropReason::CkName => Told::Word(b"ckname"),
+        DropReason::Check => Told::Word(b"check"),
+        DropReason::Echo => Told::Word(b"echo"),
+        DropReason::OldNumber { kept } => Told::WordAndNumber(b"oldnumber", u64::from(kept)),
+        DropReason::PeersFull => Told::Word(b"peersfull"),
     }
 }
 
@@ -326,27 +353,94 @@ fn put_arrived<'a>(
         ∷ map (spelled names) (arrival_words arrival.now))) }
     ensures err { OnErr result (Grew into.old.items into.new.items) }
 {
-    let first = b"data";
-    let head = &[Word::Number(u64::from(frame)), Word::Name(name)];
     match arrival {
-        Arrival::Accepted { pn, body } => {
-            let pn = Word::Number(u64::from(*pn));
-            let body = Word::Octets(body.as_slice());
-            put(into, first, head, &[Word::Text(b"accepted"), pn, body])
-        }
-        Arrival::Malformed(refusal) => {
-            let tail = [Word::Text(b"malformed"), Word::Text(tag_text(*refusal))];
-            put(into, first, head, &tail)
-        }
-        Arrival::Own => put(into, first, head, &[Word::Text(b"own")]),
-        Arrival::Missed { an } => {
-            let tail = [Word::Text(b"missed"), Word::Number(u64::from(an.number()))];
-            put(into, first, head, &tail)
-        }
-        Arrival::BadCheck => put(into, first, head, &[Word::Text(b"badcheck")]),
-        Arrival::Late { next } => {
-            let tail = [Word::Text(b"late"), Word::Number(*next)];
-            put(into, first, head, &tail)
+        Arrival::Accepted { pn, body } => put_accepted(into, frame, name, *pn, body),
+        Arrival::Malformed(refusal) => put_malformed(into, frame, name, tag_text(*refusal)),
+        Arrival::Own => put_refused(into, frame, name, Told::Word(b"own")),
+        Arrival::Missed { an } => put_missed(into, frame, name, *an),
+        Arrival::BadCheck => put_refused(into, frame, name, Told::Word(b"badcheck")),
+        Arrival::Late { next } => put_refused(
+            into,
+            frame,
+            name,
+            Told::WordAndNumber(b"late", *next),
+        ),
+    }
+}
+
+/// Appends the line of a protected frame that is accepted.
+fn put_accepted<'a>(
+    into: &mut Vec<u8>,
+    frame: u32,
+    name: &'a Name,
+    pn: u32,
+    body: &'a Octets,
+) -> Result<(), AllocError>
+    ensures ok { OnOk result (into.new.items ≡ into.old.items ++ line_of (codes "data")
+        (decimal frame ∷ name.now ∷ codes "accepted" ∷ decimal pn ∷ encode_lower body.now ∷ [])) }
+    ensures err { OnErr result (Grew into.old.items into.new.items) }
+{
+    let head = [Word::Number(u64::from(frame)), Word::Name(name)];
+    let pn = Word::Number(u64::from(pn));
+    let body = Word::Octets(body.as_slice());
+    put(into, b"data", &head, &[Word::Text(b"accepted"), pn, body])
+}
+
+/// Appends the line of a frame that arrived and is no protected frame, for what this word says.
+fn put_malformed<'a>(
+    into: &mut Vec<u8>,
+    frame: u32,
+    name: &'a Name,
+    why: &'a [u8],
+) -> Result<(), AllocError>
+    ensures ok { OnOk result (into.new.items ≡ into.old.items ++ line_of (codes "data")
+        (decimal frame ∷ name.now ∷ codes "malformed" ∷ why.now ∷ [])) }
+    ensures err { OnErr result (Grew into.old.items into.new.items) }
+{
+    let head = [Word::Number(u64::from(frame)), Word::Name(name)];
+    put(
+        into,
+        b"data",
+        &head,
+        &[Word::Text(b"malformed"), Word::Text(why)],
+    )
+}
+
+/// Appends the line of a protected frame that arrived under a key that is missing.
+fn put_missed(
+    into: &mut Vec<u8>,
+    frame: u32,
+    name: &Name,
+    an: AssociationNumber,
+) -> Result<(), AllocError>
+    ensures ok { OnOk result (into.new.items ≡ into.old.items ++ line_of (codes "data")
+        (decimal frame ∷ name.now ∷ codes "missed" ∷ decimal (number_of an) ∷ [])) }
+    ensures err { OnErr result (Grew into.old.items into.new.items) }
+{
+    let told = Told::WordAndNumber(b"missed", u64::from(an.number()));
+    put_refused(into, frame, name, told)
+}
+
+/// Appends the line of a protected frame that arrived, and what tells why it is not accepted.
+fn put_refused(into: &mut Vec<u8>, frame: u32, name: &Name, why: Told) -> Result<(), AllocError>
+    ensures ok { OnOk result (into.new.items ≡ into.old.items ++ line_of (codes "data")
+        (decimal frame ∷ name.now ∷ told why)) }
+    ensures err { OnErr result (Grew into.old.items into.new.items) }
+{
+    let head = [Word::Number(u64::from(frame)), Word::Name(name)];
+    put_told(into, b"data", &head, why)
+}
+
+/// Appends a line whose last words are those that tell something.
+fn put_told(into: &mut Vec<u8>, first: &[u8], head: &[Word], last: Told) -> Result<(), AllocError>
+    ensures ok { OnOk result (into.new.items ≡ into.old.items
+        ++ line_of first.now (map word_text head.now ++ told last)) }
+    ensures err { OnErr result (Grew into.old.items into.new.items) }
+{
+    match last {
+        Told::Word(word) => put(into, first, head, &[Word::Text(word)]),
+        Told::WordAndNumber(word, number) => {
+            put(into, first, head, &[Word::Text(word), Word::Number(number)])
         }
     }
 }

@@ -15,7 +15,7 @@ use std::alloc::{AllocError, Global};
 use std::marker::Model;
 
 /// The keys of one station, a row under each of the four association numbers.
-#[derive(Debug, Drop)]
+#[derive(Drop)]
 pub struct Lane {
     an0: Row,
     an1: Row,

@@ -9,7 +9,7 @@ use std::alloc::{AllocError, Global};
 use std::marker::Model;
 
 /// The keys that a station held under one association number. Only the latest may still be held.
-#[derive(Debug, Drop)]
+#[derive(Drop)]
 pub struct Row {
     earlier: Vec<Span>,
     latest: Option<Span>,

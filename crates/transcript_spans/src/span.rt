@@ -10,7 +10,7 @@ use lan_base::{AssociationNumber, KeyId};
 use lan_core::Fact;
 
 /// Why a key is held no more.
-#[derive(Clone, Copy, Debug, PartialEq, Eq)]
+#[derive(Clone, Copy)]
 pub enum Why {
     /// Its station installed a key under its number.
     Replaced,
@@ -23,14 +23,14 @@ pub enum Why {
 }
 
 /// When a key was held no more, in ticks of the first station, and why.
-#[derive(Clone, Copy, Debug, PartialEq, Eq)]
+#[derive(Clone, Copy)]
 pub struct End {
     pub at: u32,
     pub why: Why,
 }
 
 /// A key that a station holds under an association number. Times are ticks of the first station.
-#[derive(Clone, Copy, Debug, PartialEq, Eq)]
+#[derive(Clone, Copy)]
 pub struct Span {
     /// The place of the station.
     pub station: u8,
@@ -48,7 +48,7 @@ pub struct Span {
 }
 
 /// What a fact is to a key that is held.
-#[derive(Clone, Copy, Debug, PartialEq, Eq)]
+#[derive(Clone, Copy)]
 pub enum Turn {
     /// It is held no more.
     Ends(Why),

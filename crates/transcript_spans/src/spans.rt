@@ -16,7 +16,7 @@ use std::alloc::{AllocError, Global};
 use std::marker::Model;
 
 /// The spans of the facts so far. Contracts see the rows of all stations, and the clock.
-#[derive(Debug, Drop)]
+#[derive(Drop)]
 pub struct Spans {
     alloc: Global,
     clock: u32,

@@ -28,3 +28,8 @@ pub returns-in-Arrived-clause-ok : goal.returns-in-Arrived-clause-ok
 unfolding line
 returns-in-Arrived-clause-ok c =
     on_ok_weaker c.put_arrived.result (λ e. rw c.in-Arrived.is (rw (c.name_at-name.ensures, c.place.ensures, c.in-Arrived.is) at (e c.args.names.now))) c.put_arrived.ensures.ok
+
+pub returns-in-Server-clause-ok : goal.returns-in-Server-clause-ok
+unfolding line
+returns-in-Server-clause-ok c =
+    on_ok_weaker c.put_server.result (λ e. rw c.in-Server.is (rw (c.name_at-name.ensures, c.place.ensures, c.in-Server.is) at (e c.args.names.now))) c.put_server.ensures.ok
