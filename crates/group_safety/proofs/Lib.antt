@@ -6,4 +6,5 @@ pub mod moves
 pub mod example
 pub mod Examples
 pub mod SteadyExample
+pub mod told
 pub mod Public

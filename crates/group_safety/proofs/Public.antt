@@ -1,33 +1,14 @@
 -- What other crates may cite of the proofs.
 
--- What stands in a list, by recursion over it; cases of a sum, and what an option has.
-pub use Rattle.group_safety.proofs.Members.{In, contains-in, in-contains, in-left, in-right, in-map, all-in, by_sum}
+-- What stands in a list, by recursion over it.
+pub use Rattle.group_safety.proofs.Members.{In, contains-in, in-contains, in-left, in-right, in-map}
 pub use Rattle.group_safety.proofs.Members.{in-from_map}
 pub use Rattle.group_safety.proofs.once.Places.{differs-in, same-place}
 pub use Rattle.group_safety.proofs.once.LiveHeard.{in-find}
-pub use Rattle.group_safety.proofs.once.Currents.{none-some, some-same}
--- A run up to a moment: it is whole at its end, and one event more changes nothing before.
-pub use Rattle.group_safety.proofs.rollover.AtMoments.{upto-whole, upto-earlier}
--- What holds of each event of a run, and along its last moments.
-pub use Rattle.group_safety.proofs.example.Each.{Each, each-at, each-passes, Along, along-at}
--- Events that restart no station, begin no second key, put no frame of key agreement on the air.
-pub use Rattle.group_safety.proofs.example.Each.{IsNoRestart, is_no_restart, is_no_restart-event}
-pub use Rattle.group_safety.proofs.example.Each.{begins_no_second, no-second-begins}
-pub use Rattle.group_safety.proofs.example.Each.{frames_none, frames_none-framed}
--- Announcements that a station of the group may say: their frames are read as such by the others.
-pub use Rattle.group_safety.proofs.example.Scene.{IsSayable, sayable-unprotected, sayable-judged}
-pub use Rattle.group_safety.proofs.example.Each.{sayable-right, last-frame_says}
 -- A run of the examples: alice starts, and then bob.
 pub use Rattle.group_safety.proofs.Examples.{bob_starts}
 pub use Rattle.group_safety.proofs.example.Run.{mi, alice, bob, users}
 pub use Rattle.group_safety.proofs.example.Scene.{settings}
--- Wrapped SAKs, under the key encrypting key of the group.
-pub use Rattle.group_safety.proofs.once.Living.{group_kek}
-pub use Rattle.group_safety.proofs.example.Good.{length-wrapped_sak}
-pub use Rattle.group_safety.proofs.example.Steps.{unwrapped-wrapped_sak}
--- Protected frames are known by their type; a station that none reached sees no numbers.
-pub use Rattle.group_safety.proofs.once.ClaimKept.{protected-is_sec}
-pub use Rattle.group_safety.proofs.example.Scene.{IsSilent, silent-next, seen-silent}
 -- What an event of a stepped run is, and what it is to each station.
 pub use Rattle.group_safety.proofs.rollover.EventKinds.{Kind, kind, IsReached, IsBirth, Part, part}
 pub use Rattle.group_safety.proofs.rollover.EventKinds.{starts, ticks, reached, restarts, claims, emits}

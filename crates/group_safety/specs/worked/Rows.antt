@@ -4,9 +4,9 @@ use Rattle.lan_core.specs.Run.{Run}
 use Rattle.group_safety.specs.Rounds.{Since}
 use Rattle.group_safety.specs.Steady.{Rollover}
 use Rattle.group_safety.specs.Time.{Flight}
-use Rattle.worked_rollovers.specs.Group.{id, first_key}
-use Rattle.worked_rollovers.specs.Deeds.{Deed, run_of}
-use Rattle.worked_rollovers.specs.Script.{Story, begin, send, deliver, flow, always}
+use Rattle.group_safety.specs.worked.Group.{id, first_key}
+use Rattle.group_safety.specs.worked.Deeds.{Deed, run_of}
+use Rattle.group_safety.specs.worked.Script.{Story, begin, send, deliver, flow, always}
 
 abbrev pub all : List ℕ
 all = 0 ∷ 1 ∷ 2 ∷ []

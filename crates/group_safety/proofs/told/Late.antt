@@ -34,22 +34,23 @@ use Rattle.group_safety.specs.Rounds.{pace, rounds}
 use Rattle.group_safety.specs.Stations.{keys_at, keys_of_life}
 use Rattle.group_safety.specs.Steady.{Begins, IsUnbroken, Trusts, IsListener, IsKeeper, IsSteady}
 use Rattle.group_safety.specs.Time.{IsFlight, IsInTime, IsFound}
-use Rattle.group_safety.proofs.Public.{In, contains-in, in-contains, all-in, by_sum, each-at}
-use Rattle.group_safety.proofs.Public.{each-passes, IsNoRestart, is_no_restart-event, is_no_restart}
-use Rattle.worked_rollovers.specs.Group.{settings, mi, id, sak, bob, user, first_key}
-use Rattle.worked_rollovers.specs.Deeds.{Deed, plain, emits, carried}
-use Rattle.worked_rollovers.specs.Lives.{heard_by, life_by}
-use Rattle.worked_rollovers.specs.Script.{tick, deliver, begin, send, spread, round, flow}
-use Rattle.worked_rollovers.specs.Rows.{since, late_story, late_deeds, late, late_rollover}
-use Rattle.worked_rollovers.specs.Rows.{late_flight}
-use Rattle.worked_rollovers.proofs.Framing.{is_bare}
-use Rattle.worked_rollovers.proofs.Lived.{is_readable}
-use Rattle.worked_rollovers.proofs.Steadily.{deed_at, deed-at, told_upto, trusts-from}
-use Rattle.worked_rollovers.proofs.Steadily.{is_trusting_on}
-use Rattle.worked_rollovers.proofs.Steadily.{is_hushed, Place, is_said_at, sender-is, words_then}
-use Rattle.worked_rollovers.proofs.Steadily.{listener-word, all-upto, life-upto, happening}
-use Rattle.worked_rollovers.proofs.Steadily.{facts_in, begins-at, makes-at, is_keeper}
-use Rattle.worked_rollovers.proofs.Steadily.{first_word, keeper-is, is_tested, each-tested}
+use Rattle.group_safety.proofs.Members.{In, contains-in, in-contains, all-in, by_sum}
+use Rattle.group_safety.proofs.example.Each.{each-at, each-passes, IsNoRestart, is_no_restart-event}
+use Rattle.group_safety.proofs.example.Each.{is_no_restart}
+use Rattle.group_safety.specs.worked.Group.{settings, mi, id, sak, bob, user, first_key}
+use Rattle.group_safety.specs.worked.Deeds.{Deed, plain, emits, carried}
+use Rattle.group_safety.specs.worked.Lives.{heard_by, life_by}
+use Rattle.group_safety.specs.worked.Script.{tick, deliver, begin, send, spread, round, flow}
+use Rattle.group_safety.specs.worked.Rows.{since, late_story, late_deeds, late, late_rollover}
+use Rattle.group_safety.specs.worked.Rows.{late_flight}
+use Rattle.group_safety.proofs.told.Framing.{is_bare}
+use Rattle.group_safety.proofs.told.Lived.{is_readable}
+use Rattle.group_safety.proofs.told.Steadily.{deed_at, deed-at, told_upto, trusts-from}
+use Rattle.group_safety.proofs.told.Steadily.{is_trusting_on}
+use Rattle.group_safety.proofs.told.Steadily.{is_hushed, Place, is_said_at, sender-is, words_then}
+use Rattle.group_safety.proofs.told.Steadily.{listener-word, all-upto, life-upto, happening}
+use Rattle.group_safety.proofs.told.Steadily.{facts_in, begins-at, makes-at, is_keeper}
+use Rattle.group_safety.proofs.told.Steadily.{first_word, keeper-is, is_tested, each-tested}
 
 unfoldable opens : ℕ
 unfolding refusal accepted outcome says hopes known received latest old transmitting peers_of

@@ -16,9 +16,9 @@ use Rattle.mka_station.specs.Hearing.{outcome_of, offered, key_taken, followed}
 use Rattle.lan_core.specs.declared.event.Event.TheVariants as events
 use Rattle.lan_core.specs.declared.fact.Fact.{Fact}
 use Rattle.lan_core.specs.Lives.{Life, life_after, lived, sak_in, seen_at}
-use Rattle.worked_rollovers.specs.Group.{settings, sak, draw_of}
-use Rattle.worked_rollovers.specs.Deeds.{Deed, tells, emits, plain, happens, run_of, Gift, whole}
-use Rattle.worked_rollovers.specs.Deeds.{Paper, says, carries, on_air}
+use Rattle.group_safety.specs.worked.Group.{settings, sak, draw_of}
+use Rattle.group_safety.specs.worked.Deeds.{Deed, tells, emits, plain, happens, run_of, Gift, whole}
+use Rattle.group_safety.specs.worked.Deeds.{Paper, says, carries, on_air}
 
 -- the SAK that a gift hides
 abbrev pub hidden_in : Option Gift → Option Secret

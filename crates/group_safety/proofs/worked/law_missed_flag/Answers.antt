@@ -1,5 +1,5 @@
-use Rattle.worked_rollovers.proofs.Missed.{bob_said, word, keeps, never-begins, not-steady}
-use Rattle.worked_rollovers.proofs.law_missed_flag.Goals as goal
+use Rattle.group_safety.proofs.told.Missed.{bob_said, word, keeps, never-begins, not-steady}
+use Rattle.group_safety.proofs.worked.law_missed_flag.Goals as goal
 
 pub returns-clause-keeps : goal.returns-clause-keeps
 returns-clause-keeps c = λ lag. (bob_said, word, keeps lag)

@@ -1,6 +1,6 @@
-use Rattle.worked_rollovers.proofs.Late.{steady, first_way, in_time, found, second_way, too_late}
-use Rattle.worked_rollovers.proofs.Late.{way_to_carol, not_at_carol}
-use Rattle.worked_rollovers.proofs.law_late.Goals as goal
+use Rattle.group_safety.proofs.told.Late.{steady, first_way, in_time, found, second_way, too_late}
+use Rattle.group_safety.proofs.told.Late.{way_to_carol, not_at_carol}
+use Rattle.group_safety.proofs.worked.law_late.Goals as goal
 
 pub returns-clause-steady : goal.returns-clause-steady
 returns-clause-steady c = steady

@@ -15,16 +15,17 @@ use Rattle.lan_core.specs.Ledgers.{installs}
 use Rattle.group_safety.specs.Moments.{upto}
 use Rattle.group_safety.specs.Rounds.{pace, rounds}
 use Rattle.group_safety.specs.Steady.{Begins, IsKeeper, IsSteady}
-use Rattle.group_safety.proofs.Public.{In, contains-in, each-at, each-passes, begins_no_second}
-use Rattle.group_safety.proofs.Public.{no-second-begins}
-use Rattle.worked_rollovers.specs.Group.{settings, id, bob}
-use Rattle.worked_rollovers.specs.Lives.{heard_by, life_by}
-use Rattle.worked_rollovers.specs.Script.{tick, deliver, begin, send, spread, round, flow}
-use Rattle.worked_rollovers.specs.Rows.{since, missed_story, missed_deeds, missed, missed_rollover}
-use Rattle.worked_rollovers.proofs.Framing.{is_bare}
-use Rattle.worked_rollovers.proofs.Lived.{is_readable}
-use Rattle.worked_rollovers.proofs.Steadily.{deed_at, told_upto, words_then, is_keeper, first_word}
-use Rattle.worked_rollovers.proofs.Steadily.{keeper-is}
+use Rattle.group_safety.proofs.Members.{In, contains-in}
+use Rattle.group_safety.proofs.example.Each.{each-at, each-passes, begins_no_second}
+use Rattle.group_safety.proofs.example.Each.{no-second-begins}
+use Rattle.group_safety.specs.worked.Group.{settings, id, bob}
+use Rattle.group_safety.specs.worked.Lives.{heard_by, life_by}
+use Rattle.group_safety.specs.worked.Script.{tick, deliver, begin, send, spread, round, flow}
+use Rattle.group_safety.specs.worked.Rows.{since, missed_story, missed_deeds, missed, missed_rollover}
+use Rattle.group_safety.proofs.told.Framing.{is_bare}
+use Rattle.group_safety.proofs.told.Lived.{is_readable}
+use Rattle.group_safety.proofs.told.Steadily.{deed_at, told_upto, words_then, is_keeper, first_word}
+use Rattle.group_safety.proofs.told.Steadily.{keeper-is}
 
 unfoldable opens : ℕ
 unfolding refusal accepted outcome says hopes known received latest old transmitting peers_of

@@ -29,17 +29,18 @@ use Rattle.group_safety.specs.Moments.{upto, At}
 use Rattle.group_safety.specs.Rounds.{is_among}
 use Rattle.group_safety.specs.Stations.{mi_at, mi_of, server_at, server_of}
 use Rattle.group_safety.specs.Steady.{Begins, Makes, Sends, Rollover, IsListener, IsKeeper, Trusts}
-use Rattle.group_safety.proofs.Public.{In, contains-in, in-contains, in-left, all-in, by_sum}
-use Rattle.group_safety.proofs.Public.{some-same, upto-whole, upto-earlier, Each, each-at, Along}
-use Rattle.group_safety.proofs.Public.{along-at, frames_none, frames_none-framed, last-frame_says}
-use Rattle.group_safety.proofs.Public.{sayable-right}
-use Rattle.worked_rollovers.specs.Group.{settings, profile}
-use Rattle.worked_rollovers.specs.Deeds.{Deed, tells, emits, plain, happens, run_of, whole}
-use Rattle.worked_rollovers.specs.Deeds.{told, framed_by}
-use Rattle.worked_rollovers.specs.Lives.{life_by}
-use Rattle.worked_rollovers.proofs.Framing.{is_bare}
-use Rattle.worked_rollovers.proofs.Readable.{is_good, is_gift, good-is}
-use Rattle.worked_rollovers.proofs.Lived.{life-is, is_readable}
+use Rattle.group_safety.proofs.Members.{In, contains-in, in-contains, in-left, all-in, by_sum}
+use Rattle.group_safety.proofs.once.Currents.{some-same}
+use Rattle.group_safety.proofs.rollover.AtMoments.{upto-whole, upto-earlier}
+use Rattle.group_safety.proofs.example.Each.{Each, each-at, Along, along-at, frames_none}
+use Rattle.group_safety.proofs.example.Each.{frames_none-framed, last-frame_says, sayable-right}
+use Rattle.group_safety.specs.worked.Group.{settings, profile}
+use Rattle.group_safety.specs.worked.Deeds.{Deed, tells, emits, plain, happens, run_of, whole}
+use Rattle.group_safety.specs.worked.Deeds.{told, framed_by}
+use Rattle.group_safety.specs.worked.Lives.{life_by}
+use Rattle.group_safety.proofs.told.Framing.{is_bare}
+use Rattle.group_safety.proofs.told.Readable.{is_good, is_gift, good-is}
+use Rattle.group_safety.proofs.told.Lived.{life-is, is_readable}
 
 -- ---- moments
 

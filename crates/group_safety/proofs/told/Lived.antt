@@ -26,15 +26,17 @@ use Rattle.lan_core.specs.Ledgers.{Frame, frame_at, installs_at}
 use Rattle.lan_core.specs.Lives.{Life, life, life_after, lived, lived_hearing, lived_reached}
 use Rattle.lan_core.specs.Lives.{setup_of}
 use Rattle.lan_core.specs.Lives.{begun, drawn_mi, sak_in, lived_ticking, receiving, reaches}
-use Rattle.group_safety.proofs.Public.{group_kek, some-same, none-some, sayable-unprotected}
-use Rattle.group_safety.proofs.Public.{sayable-judged, IsSilent, silent-next, seen-silent}
-use Rattle.worked_rollovers.specs.Group.{settings, profile}
-use Rattle.worked_rollovers.specs.Deeds.{Deed, tells, emits, plain, happens, run_of}
-use Rattle.worked_rollovers.specs.Deeds.{whole, framed_by, carried, Paper, says, carries, on_air}
-use Rattle.worked_rollovers.specs.Lives.{hidden_in, answered, heard_by, is_carried, is_silent}
-use Rattle.worked_rollovers.specs.Lives.{ticked_by, reads, life_on, life_by}
-use Rattle.worked_rollovers.proofs.Framing.{is_bare, octets_in, frame-octets}
-use Rattle.worked_rollovers.proofs.Readable.{is_good, is_gift, good-is, hidden-is, carried-is-sec}
+use Rattle.group_safety.proofs.once.Currents.{some-same, none-some}
+use Rattle.group_safety.proofs.once.Living.{group_kek}
+use Rattle.group_safety.proofs.example.Scene.{sayable-unprotected, sayable-judged, IsSilent}
+use Rattle.group_safety.proofs.example.Scene.{silent-next, seen-silent}
+use Rattle.group_safety.specs.worked.Group.{settings, profile}
+use Rattle.group_safety.specs.worked.Deeds.{Deed, tells, emits, plain, happens, run_of}
+use Rattle.group_safety.specs.worked.Deeds.{whole, framed_by, carried, Paper, says, carries, on_air}
+use Rattle.group_safety.specs.worked.Lives.{hidden_in, answered, heard_by, is_carried, is_silent}
+use Rattle.group_safety.specs.worked.Lives.{ticked_by, reads, life_on, life_by}
+use Rattle.group_safety.proofs.told.Framing.{is_bare, octets_in, frame-octets}
+use Rattle.group_safety.proofs.told.Readable.{is_good, is_gift, good-is, hidden-is, carried-is-sec}
 
 -- ---- hearing an announcement, given the SAK that it unwrapped-wrapped_sak
 

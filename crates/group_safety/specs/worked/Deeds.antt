@@ -16,7 +16,7 @@ use Rattle.lan_core.specs.declared.fact.Fact.{Fact}
 use Rattle.lan_core.specs.declared.fact.Fact.TheVariants as facts
 use Rattle.lan_core.specs.Run.{Run, Happening, happened, Profile}
 use Rattle.lan_core.specs.Lives.{setup_of}
-use Rattle.worked_rollovers.specs.Group.{settings, profile, octets_of_sak, draw_of, bob, user}
+use Rattle.group_safety.specs.worked.Group.{settings, profile, octets_of_sak, draw_of, bob, user}
 
 -- a key that is given: its association number and its key number
 pub record Gift : Type 0 where

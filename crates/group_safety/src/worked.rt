@@ -1,15 +1,14 @@
 //! Two rollovers of three stations, worked out: in one a frame is in time and too late, in the
 //! other a station misses the flag.
-#![tactic(auto)]
 
 ghost use Rattle.std.specs.Prelude.{ℕ};
 ghost use Rattle.peer_lists.specs.Acceptance.{Accepted};
 ghost use Rattle.sak_exchange.specs.declared.change.Cause.{Cause};
 ghost use Rattle.group_safety.specs.Steady.{Begins, IsKeeper, IsSteady};
 ghost use Rattle.group_safety.specs.Time.{IsFlight, IsInTime, IsFound};
-ghost use Rattle.worked_rollovers.specs.Group.{settings, id};
-ghost use Rattle.worked_rollovers.specs.Rows.{late, late_rollover, late_flight};
-ghost use Rattle.worked_rollovers.specs.Rows.{missed, missed_rollover};
+ghost use Rattle.group_safety.specs.worked.Group.{settings, id};
+ghost use Rattle.group_safety.specs.worked.Rows.{late, late_rollover, late_flight};
+ghost use Rattle.group_safety.specs.worked.Rows.{missed, missed_rollover};
 
 /// In time and too late. Alice (station 0) makes the second key in event 41 and begins it in event
 /// 57. The rollover is steady, with a lag of 0 rounds. The frame that bob (station 1) claimed in

@@ -7,9 +7,9 @@ use Rattle.std.proofs.lemmas.Bool.{and_parts}
 use Rattle.sak_exchange.proofs.Public.{by_test}
 use Rattle.lan_core.specs.declared.fact.Fact.{Fact}
 use Rattle.lan_core.specs.Ledgers.{Frame, framed, gather, with_one, air, frame_at}
-use Rattle.worked_rollovers.specs.Group.{profile}
-use Rattle.worked_rollovers.specs.Deeds.{whole, framed_by, carried, Deed, tells, emits, plain}
-use Rattle.worked_rollovers.specs.Deeds.{told, run_of, Paper, says, carries, on_air}
+use Rattle.group_safety.specs.worked.Group.{profile}
+use Rattle.group_safety.specs.worked.Deeds.{whole, framed_by, carried, Deed, tells, emits, plain}
+use Rattle.group_safety.specs.worked.Deeds.{told, run_of, Paper, says, carries, on_air}
 
 -- the octets of a frame
 abbrev pub octets_in : Paper → List ℕ

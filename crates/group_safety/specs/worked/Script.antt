@@ -28,10 +28,10 @@ use Rattle.lan_core.specs.declared.fact.Fact.{Fact}
 use Rattle.lan_core.specs.declared.fact.Fact.TheVariants as facts
 use Rattle.lan_core.specs.Lives.{Life, keys_in}
 use Rattle.lan_core.specs.Expected.{reaction_facts}
-use Rattle.worked_rollovers.specs.Group.{mi, sak, draw_of, profile, user}
-use Rattle.worked_rollovers.specs.Deeds.{Deed, tells, emits, plain, Gift, whole, Paper, says}
-use Rattle.worked_rollovers.specs.Deeds.{carries, on_air}
-use Rattle.worked_rollovers.specs.Lives.{hidden_in, answered, is_silent, life_by}
+use Rattle.group_safety.specs.worked.Group.{mi, sak, draw_of, profile, user}
+use Rattle.group_safety.specs.worked.Deeds.{Deed, tells, emits, plain, Gift, whole, Paper, says}
+use Rattle.group_safety.specs.worked.Deeds.{carries, on_air}
+use Rattle.group_safety.specs.worked.Lives.{hidden_in, answered, is_silent, life_by}
 
 -- a run so far, and the number of the next frame
 pub record Story : Type 0 where

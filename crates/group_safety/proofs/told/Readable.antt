@@ -20,11 +20,15 @@ use Rattle.mkpdu_codec.specs.Sets.{IsPeer, IsKey}
 use Rattle.mkpdu_codec.specs.Frames.{IsGiven}
 use Rattle.mkpdu_codec.specs.Written.{IsWritableGiven}
 use Rattle.sak_exchange.specs.Unwrapping.{given_sak}
-use Rattle.group_safety.proofs.Public.{protected-is_sec, some-same, group_kek, IsSayable}
-use Rattle.group_safety.proofs.Public.{length-wrapped_sak, unwrapped-wrapped_sak}
-use Rattle.worked_rollovers.specs.Group.{settings, bob, octets_of_sak, draw_of, user}
-use Rattle.worked_rollovers.specs.Deeds.{Gift, given_of, whole, carried}
-use Rattle.worked_rollovers.specs.Lives.{hidden_in}
+use Rattle.group_safety.proofs.once.Currents.{some-same}
+use Rattle.group_safety.proofs.once.Living.{group_kek}
+use Rattle.group_safety.proofs.once.ClaimKept.{protected-is_sec}
+use Rattle.group_safety.proofs.example.Scene.{IsSayable}
+use Rattle.group_safety.proofs.example.Good.{length-wrapped_sak}
+use Rattle.group_safety.proofs.example.Steps.{unwrapped-wrapped_sak}
+use Rattle.group_safety.specs.worked.Group.{settings, bob, octets_of_sak, draw_of, user}
+use Rattle.group_safety.specs.worked.Deeds.{Gift, given_of, whole, carried}
+use Rattle.group_safety.specs.worked.Lives.{hidden_in}
 
 abbrev pub is_peer : Peer → Bool
 is_peer p = (length p.mi.0 == 12) && nat_lt p.mn (2 ^ 32)
