@@ -27,9 +27,10 @@ use Rattle.group_safety.specs.Once.{sak_of, sci_of, Once, OneKey, Drawn, makes}
 use Rattle.group_safety.proofs.Members.{contains-in}
 use Rattle.group_safety.proofs.once.StartKept.{begins}
 use Rattle.group_safety.proofs.once.RunLaws.{known, run-once, run-one_key, run-drawn}
-use Rattle.group_safety.proofs.example.Scene.{settings, Lives, with_one_life, Scene}
+use Rattle.group_safety.specs.worked.Group.{settings, mi, sci, alice, bob, octets_of_sak, sak, id}
+use Rattle.group_safety.proofs.example.Scene.{Lives, with_one_life, Scene}
 use Rattle.group_safety.proofs.example.Moves.{start-moves}
-use Rattle.group_safety.proofs.example.Run.{mi, sci, alice, bob, users, octets_of_sak, sak, id, r2}
+use Rattle.group_safety.proofs.example.Run.{users, r2}
 use Rattle.group_safety.proofs.example.Run.{a2, b2, r7, r12, run}
 use Rattle.group_safety.proofs.example.Good.{mi_is, sci_is}
 use Rattle.group_safety.proofs.example.Steps.{both, l2, l13, l16, l21, whole}

@@ -5,10 +5,10 @@ pub use Rattle.group_safety.proofs.Members.{In, contains-in, in-contains, in-lef
 pub use Rattle.group_safety.proofs.Members.{in-from_map}
 pub use Rattle.group_safety.proofs.once.Places.{differs-in, same-place}
 pub use Rattle.group_safety.proofs.once.LiveHeard.{in-find}
--- A run of the examples: alice starts, and then bob.
+-- The stations of the examples, and a run of them: alice starts, and then bob.
+pub use Rattle.group_safety.specs.worked.Group.{settings, mi, alice, bob}
+pub use Rattle.group_safety.proofs.example.Run.{users}
 pub use Rattle.group_safety.proofs.Examples.{bob_starts}
-pub use Rattle.group_safety.proofs.example.Run.{mi, alice, bob, users}
-pub use Rattle.group_safety.proofs.example.Scene.{settings}
 -- What an event of a stepped run is, and what it is to each station.
 pub use Rattle.group_safety.proofs.rollover.EventKinds.{Kind, kind, IsReached, IsBirth, Part, part}
 pub use Rattle.group_safety.proofs.rollover.EventKinds.{starts, ticks, reached, restarts, claims, emits}
@@ -31,8 +31,8 @@ pub use Rattle.group_safety.proofs.moves.Accounting.{next-told}
 pub use Rattle.group_safety.proofs.moves.Growing.{few}
 -- A run of two stations: what holds of it once the first one transmits, and after the next event,
 -- in which the other one begins the same key. And what no next number is above.
-pub use Rattle.group_safety.proofs.example.Scene.{Scene, settings, most_next, next-most}
-pub use Rattle.group_safety.proofs.example.Run.{users, first_key, r11}
+pub use Rattle.group_safety.proofs.example.Scene.{Scene, most_next, next-most}
+pub use Rattle.group_safety.proofs.example.Run.{first_key, r11}
 pub use Rattle.group_safety.proofs.example.Rolling.{r12}
 pub use Rattle.group_safety.proofs.example.Rolled.{l12}
 pub use Rattle.group_safety.proofs.example.Steps.{both, a-user, l11}

@@ -33,8 +33,9 @@ use Rattle.group_safety.specs.Time.{Flight, IsFlight, IsInTime, IsFound}
 use Rattle.group_safety.proofs.Members.{In, contains-in, by_sum}
 use Rattle.group_safety.proofs.rollover.Found.{run-hitless}
 use Rattle.group_safety.proofs.once.Currents.{some-same}
-use Rattle.group_safety.proofs.example.Scene.{settings, IsSayable, Lives, Scene}
-use Rattle.group_safety.proofs.example.Run.{mi, alice, bob, users, id, sak, frames, a1, b1, a2, b2}
+use Rattle.group_safety.specs.worked.Group.{settings, mi, alice, bob, id, sak}
+use Rattle.group_safety.proofs.example.Scene.{IsSayable, Lives, Scene}
+use Rattle.group_safety.proofs.example.Run.{users, frames, a1, b1, a2, b2}
 use Rattle.group_safety.proofs.example.Run.{a3}
 use Rattle.group_safety.proofs.example.Run.{r11, first_key}
 use Rattle.group_safety.proofs.example.Run as first

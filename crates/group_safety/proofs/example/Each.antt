@@ -18,9 +18,11 @@ use Rattle.lan_core.specs.Lives.{setup_of}
 use Rattle.group_safety.specs.Moments.{upto, At}
 use Rattle.group_safety.proofs.Members.{In, in-either, all-in, by_sum}
 use Rattle.group_safety.proofs.rollover.AtMoments.{upto-whole, upto-earlier}
-use Rattle.group_safety.proofs.example.Scene.{settings, IsSayable, framed_by, sayable-judged}
+use Rattle.group_safety.specs.worked.Group.{settings, id}
+use Rattle.group_safety.specs.worked.Deeds.{framed_by}
+use Rattle.group_safety.proofs.example.Scene.{IsSayable, sayable-judged}
 use Rattle.group_safety.proofs.once.Currents.{some-same}
-use Rattle.group_safety.proofs.example.Run.{id, frames}
+use Rattle.group_safety.proofs.example.Run.{frames}
 
 -- ---- each event, with its moment
 

@@ -9,8 +9,9 @@ use Rattle.mkpdu_codec.specs.Sets.{IsPeer}
 use Rattle.lan_core.specs.Types.{IsMi, IsSecret}
 use Rattle.group_safety.proofs.once.Ciphers.{wrapped-length}
 use Rattle.group_safety.proofs.once.Living.{group_kek, kek-key}
-use Rattle.group_safety.proofs.example.Scene.{settings, octets_of, set_up, IsSayable}
-use Rattle.group_safety.proofs.example.Run.{mi, sci, octets_of_sak, sak, a1, b1, a2, b2, a3, c1, a4}
+use Rattle.group_safety.specs.worked.Group.{settings, mi, sci, octets_of_sak, sak}
+use Rattle.group_safety.proofs.example.Scene.{octets_of, set_up, IsSayable}
+use Rattle.group_safety.proofs.example.Run.{a1, b1, a2, b2, a3, c1, a4}
 use Rattle.group_safety.proofs.example.Run.{c2, a5}
 
 pub mi_is : (n : ℕ) → nat_lt n 256 ≡ true → IsMi (mi n)

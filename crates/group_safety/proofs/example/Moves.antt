@@ -36,9 +36,12 @@ use Rattle.group_safety.proofs.Members.{In, in-either}
 use Rattle.group_safety.proofs.once.Currents.{some-same, none-some}
 use Rattle.group_safety.proofs.once.Nexts.{life-next, stations-next}
 use Rattle.group_safety.proofs.once.StartKept.{begins}
-use Rattle.group_safety.proofs.example.Scene.{settings, IsSayable, framed_by, sayable-unprotected}
+use Rattle.group_safety.specs.worked.Group.{settings}
+use Rattle.group_safety.specs.worked.Deeds.{framed_by}
+use Rattle.group_safety.specs.worked.Lives.{seen}
+use Rattle.group_safety.proofs.example.Scene.{IsSayable, sayable-unprotected}
 use Rattle.group_safety.proofs.example.Scene.{sayable-judged}
-use Rattle.group_safety.proofs.example.Scene.{good-short, seen, seen-silent, IsPlainTo}
+use Rattle.group_safety.proofs.example.Scene.{good-short, seen-silent, IsPlainTo}
 use Rattle.group_safety.proofs.example.Scene.{is_few, most_next, next-most, Lives, with_one_life}
 use Rattle.group_safety.proofs.example.Scene.{Scene, goes-on}
 

@@ -25,11 +25,12 @@ use Rattle.group_safety.proofs.once.Ciphers.{encrypts as encrypts_block}
 use Rattle.group_safety.proofs.once.ClaimKept.{protected-is_sec}
 use Rattle.group_safety.proofs.once.Currents.{none-some}
 use Rattle.group_safety.proofs.once.Nexts.{life-next}
-use Rattle.group_safety.proofs.example.Scene.{settings, set_up, IsSayable, Lives, Scene, goes-on}
+use Rattle.group_safety.specs.worked.Group.{settings, alice, bob, user, id, sak, octets_of_sak}
+use Rattle.group_safety.proofs.example.Scene.{set_up, IsSayable, Lives, Scene, goes-on}
 use Rattle.group_safety.proofs.example.Scene.{few-within}
 use Rattle.group_safety.proofs.example.Moves.{Hears, sends, sends-short, none-short}
 use Rattle.group_safety.proofs.example.Moves.{tick-moves, hear-moves, claim-moves, new-short}
-use Rattle.group_safety.proofs.example.Run.{alice, bob, user, users, a3, id, sak, octets_of_sak}
+use Rattle.group_safety.proofs.example.Run.{users, a3}
 use Rattle.group_safety.proofs.example.Run.{first_key, r11}
 use Rattle.group_safety.proofs.example.Good.{one, length-wrapped_sak, sci_is, sak_is, good_a3}
 use Rattle.group_safety.proofs.example.Steps.{opens, goes, both, l11, unwrapped-wrapped_sak, drawn}

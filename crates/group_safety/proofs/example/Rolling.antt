@@ -7,8 +7,7 @@ use Rattle.lan_base.specs.declared.association_number.AssociationNumber.TheVaria
 use Rattle.gcm_frames.specs.Protected.{protected}
 use Rattle.rx_slots.specs.Numbers.{answer}
 use Rattle.lan_core.specs.Lives.{receiving}
-use Rattle.group_safety.proofs.example.Scene.{settings}
-use Rattle.group_safety.proofs.example.Run.{octets_of_sak, user}
+use Rattle.group_safety.specs.worked.Group.{settings, octets_of_sak, user, mi, alice, bob, sak, id}
 use Rattle.mkpdu_codec.specs.declared.announcement.Announcement.{Announcement}
 use Rattle.mka_station.specs.Lives.{Entry, ticked, sent, heard, installed, began}
 use Rattle.mka_station.specs.declared.verdict.Verdict.TheVariants.{Vouched}
@@ -16,7 +15,7 @@ use Rattle.sak_exchange.specs.declared.change.Cause.TheVariants.{All as all_repo
 use Rattle.lan_core.specs.declared.event.Event.TheVariants as events
 use Rattle.lan_core.specs.declared.fact.Fact.TheVariants as facts
 use Rattle.lan_core.specs.Run.{Run, Happening, happened}
-use Rattle.group_safety.proofs.example.Run.{mi, alice, bob, sak, id, second_key, peers}
+use Rattle.group_safety.proofs.example.Run.{second_key, peers}
 use Rattle.group_safety.proofs.example.Run.{use_of, one_use, gives, says, frames, a3, alice5, bob4}
 use Rattle.group_safety.proofs.example.Run.{r11}
 

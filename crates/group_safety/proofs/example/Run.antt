@@ -1,16 +1,11 @@
 -- Two stations find each other, and one of them makes a key; the other starts again, and gets a
 -- second key. Under each key a packet number is claimed.
 use Rattle.std.proofs.Common.{ℕ, List, []}
-use Rattle.std.proofs.Common.{◌∷◌, ◌++◌, replicate, Bool, true, false, Option, Some, None}
+use Rattle.std.proofs.Common.{◌∷◌, Bool, true, false, Option, Some, None}
 use Rattle.std.specs.Prelude.{slice_index}
 use Rattle.lan_base.specs.declared.association_number.AssociationNumber.{AssociationNumber}
 use Rattle.lan_base.specs.declared.association_number.AssociationNumber.TheVariants.{An0, An1}
-use Rattle.lan_base.specs.declared.address.Mi.{Mi}
-use Rattle.lan_base.specs.declared.address.Sci.{Sci}
-use Rattle.lan_base.specs.declared.key_id.KeyId.{KeyId}
 use Rattle.lan_base.specs.declared.frame.UserFrame.{UserFrame}
-use Rattle.aes_block.specs.declared.secret.Secret.{Secret}
-use Rattle.aes_block.specs.declared.secret.Secret.TheVariants.{S128}
 use Rattle.key_wrap.specs.Wrap.{wrapped}
 use Rattle.mkpdu_codec.specs.declared.announcement.Announcement.{Announcement}
 use Rattle.mkpdu_codec.specs.declared.given.Given.{Given}
@@ -29,28 +24,8 @@ use Rattle.lan_core.specs.declared.fact.Fact.{Fact}
 use Rattle.lan_core.specs.declared.fact.Fact.TheVariants as facts
 use Rattle.lan_core.specs.Run.{Run, happened, Profile}
 use Rattle.group_safety.proofs.once.Living.{group_kek}
-use Rattle.group_safety.proofs.example.Scene.{settings, framed_by}
-
-abbrev pub mi : ℕ → Mi
-mi n = record { 0 = replicate 11 0 ++ n ∷ [] }
-
-abbrev pub sci : ℕ → Sci
-sci n = record { 0 = 2 ∷ 0 ∷ 0 ∷ 0 ∷ 0 ∷ n ∷ 0 ∷ 1 ∷ [] }
-
-abbrev pub alice : Profile
-alice = record { name = 65 ∷ []; sci = sci 10; priority = 16 }
-
-abbrev pub bob : Profile
-bob = record { name = 66 ∷ []; sci = sci 11; priority = 32 }
-
-abbrev pub octets_of_sak : ℕ → List ℕ
-octets_of_sak n = replicate 15 0 ++ n ∷ []
-
-abbrev pub sak : ℕ → Secret
-sak n = S128 (octets_of_sak n)
-
-abbrev pub id : ℕ → KeyId
-id n = record { server = mi 1; number = n }
+use Rattle.group_safety.specs.worked.Group.{settings, mi, alice, bob, octets_of_sak, sak, id, user}
+use Rattle.group_safety.specs.worked.Deeds.{framed_by}
 
 -- the two keys: both are made by the first life of alice
 abbrev pub key : ℕ → AssociationNumber → Key
@@ -176,9 +151,6 @@ abbrev pub alice9 : List Entry
 alice9 = sent a5 ∷ began 2 ∷ ticked ∷ alice8
 
 -- ---- the run
-
-abbrev pub user : UserFrame
-user = record { destination = record { 0 = replicate 6 1 }; body = 8 ∷ 0 ∷ 1 ∷ [] }
 
 abbrev pub users : List UserFrame
 users = user ∷ []

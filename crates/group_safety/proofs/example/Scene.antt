@@ -11,8 +11,6 @@ use Rattle.std.proofs.lemmas.Bool.{and_parts, leb-true, ltb-true}
 use lib.Pointwise.{pointwise, bytes_decides}
 use Rattle.lan_base.specs.declared.address.Sci.{Sci}
 use Rattle.lan_base.specs.declared.frame.UserFrame.{UserFrame}
-use Rattle.lan_base.specs.declared.suite.Suite.TheVariants.{GcmAes128}
-use Rattle.aes_block.specs.declared.secret.Secret.TheVariants.{S128}
 use Rattle.aes_cmac.specs.Cmac.{cmac}
 use Rattle.gcm_frames.specs.Tags.{is_sec}
 use Rattle.gcm_frames.proofs.Public.{take_front}
@@ -25,16 +23,13 @@ use Rattle.mkpdu_codec.proofs.Public.{read_again, length-covered, written_spells
 use Rattle.rx_slots.specs.Histories.{Receiving}
 use Rattle.rx_slots.specs.Histories as slots
 use Rattle.rx_slots.specs.Numbers.{accepted, is_under}
-use Rattle.sak_exchange.specs.declared.due.Seen.{Seen}
 use Rattle.sak_exchange.specs.declared.held_key.Key.{Key}
 use Rattle.sak_exchange.specs.Held.{latest, old}
-use Rattle.mka_station.specs.Announcing.{frame_of}
 use Rattle.mka_station.specs.Hearing.{judged}
 use Rattle.lan_core.specs.declared.event.Event.{Event}
 use Rattle.lan_core.specs.declared.event.Event.TheVariants as events
 use Rattle.lan_core.specs.declared.fact.Fact.{Fact}
 use Rattle.lan_core.specs.declared.fact.Fact.TheVariants as facts
-use Rattle.lan_core.specs.declared.settings.Settings.{Settings}
 use Rattle.lan_core.specs.Run.{Run, Happening, Profile, stations}
 use Rattle.lan_core.specs.Ledgers.{Install, installs, Frame, air, gather}
 use Rattle.lan_core.specs.Ledgers.{with_one}
@@ -49,23 +44,15 @@ use Rattle.lan_core.specs.Types.{IsSetting}
 use Rattle.lan_core.specs.Legal.{IsStepped, IsExcusedBefore, Ahead, with_ahead}
 use Rattle.lan_core.specs.Legal.{is_excused_by}
 use Rattle.lan_core.specs.Fresh.{IsUnforgedBy, IsUnforged}
+use Rattle.group_safety.specs.worked.Group.{settings}
+use Rattle.group_safety.specs.worked.Deeds.{framed_by}
+use Rattle.group_safety.specs.worked.Lives.{seen}
 use Rattle.group_safety.proofs.Members.{In}
 use Rattle.group_safety.proofs.once.Ciphers.{cmac-length}
 use Rattle.group_safety.proofs.once.Carried.{sec-unread}
 use Rattle.group_safety.proofs.once.Living.{ick-key}
 
 -- ---- the group
-
-abbrev pub settings : Settings
-settings = record {
-  cak = S128 (replicate 16 0);
-  ckn = 1 ∷ 2 ∷ 3 ∷ 4 ∷ [];
-  conf = true;
-  early_flag = false;
-  window = 0;
-  rekey = 3221225472;
-  suite = GcmAes128;
-}
 
 pub octets_of : (octets : List ℕ) → list_all (λ octet. nat_lt octet 256) octets ≡ true
     → All (λ octet. octet < 256) octets
@@ -90,9 +77,6 @@ pub record IsSayable (a : Announcement) : Type 0 where
   pub writable : IsWritable a
   pub typed : IsOfItsTypes a
   pub named : a.ckn ≡ settings.ckn
-
-abbrev pub framed_by : Profile → Announcement → List ℕ
-framed_by p a = frame_of (setup_of settings p) a
 
 good-spells : (p : Profile) (a : Announcement) → IsSayable a
     → Spells (framed_by p a) a (length (written a)) (cmac (setup_of settings p).ick (written a))
@@ -155,10 +139,6 @@ silent-lowest : (own : Sci) (h : List Receiving) (o : Option Key) → IsSilent h
     → lowest_under settings own h o ≡ 1
 silent-lowest own h None silent = refl
 silent-lowest own h (Some k) silent = rw (silent-accepted own settings.window h silent) refl
-
--- what a tick sees then
-abbrev pub seen : ℕ → Seen
-seen next = record { next = next; latest = 1; old = 1 }
 
 pub seen-silent : (s : ℕ) (r : Run) (l : Life) (next : ℕ) → IsSilent (receiving s r)
     → seen_at settings s r l next ≡ seen next

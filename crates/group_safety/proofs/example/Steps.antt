@@ -18,14 +18,15 @@ use Rattle.lan_core.specs.Ledgers.{air, installs}
 use Rattle.group_safety.proofs.once.Ciphers.{hidden}
 use Rattle.group_safety.proofs.once.Living.{group_kek, kek-key}
 use Rattle.group_safety.proofs.once.StartKept.{begins}
-use Rattle.group_safety.proofs.example.Scene.{settings, octets_of, set_up, Lives, with_one_life}
+use Rattle.group_safety.specs.worked.Group.{settings, mi, alice, bob, octets_of_sak, sak}
+use Rattle.group_safety.proofs.example.Scene.{octets_of, set_up, Lives, with_one_life}
 use Rattle.group_safety.proofs.example.Scene.{Scene}
 use Rattle.lan_core.specs.Claims.{user_at}
 use Rattle.lan_core.specs.Order.{IsOfSuite, IsSendable}
 use Rattle.group_safety.proofs.example.Moves.{Hears, sends, sends-short, tick-moves}
 use Rattle.group_safety.proofs.example.Moves.{hear-moves, claim-moves, restart-moves}
 use Rattle.group_safety.proofs.example.Run as scene
-use Rattle.group_safety.proofs.example.Run.{mi, alice, bob, users, octets_of_sak, sak}
+use Rattle.group_safety.proofs.example.Run.{users}
 use Rattle.group_safety.proofs.example.Run.{first_key, second_key}
 use Rattle.group_safety.proofs.example.Good.{mi_is, sak_is, good_a1, good_b1, good_a2}
 use Rattle.group_safety.proofs.example.Good.{good_b2, good_a3, good_c1, good_a4, good_c2, good_a5}
