@@ -11,7 +11,7 @@ use Rattle.transcript_check.specs.declared.fault.CheckFault.{CheckFault}
 use Rattle.transcript_check.specs.Standing.{Saks, AreSaksOf, IsDenied, refusal}
 use Rattle.transcript_check.proofs.Public.{fact-denies}
 use Rattle.transcript_spans.specs.Standing.{Kept as Spans}
-use Rattle.span_picture.specs.Standing.{Shows}
+use Rattle.transcript_picture.specs.Standing.{Shows}
 use Rattle.transcript_picture.specs.Lines.{IsSketchOf, IsTaken, Kept}
 
 abbrev answered : Result (Unit {0}) CheckError → Result (Unit {0}) CheckError

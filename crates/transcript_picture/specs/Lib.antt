@@ -1,3 +1,5 @@
+pub mod Pieces
+pub mod Standing
 pub mod Lines
 pub mod Transcripts
 pub mod inside

@@ -1,10 +1,24 @@
-//! From a transcript to the picture of its keys: lines are read as they come, and nothing is told
-//! before the end.
+//! From a transcript to the picture of its keys, a text in SVG that stands alone: lines are read as
+//! they come, and nothing is told before the end.
 #![tactic(auto)]
 
+mod axis;
+mod bars;
+mod columns;
+mod counts;
 mod drawing;
+mod history;
+mod lanes;
 mod laws;
+mod legend;
+mod pieces;
+mod scale;
+mod scene;
+mod sheet;
 mod sketch;
+mod style;
 
 pub use drawing::{Undrawn, draw};
 pub use laws::law_drawing_refuses_as_judging_does;
+pub use pieces::{Piece, put};
+pub use scene::Scene;

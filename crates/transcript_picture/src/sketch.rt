@@ -8,7 +8,8 @@ ghost use Rattle.transcript_check.specs.declared.fault.CheckFault.{CheckFault};
 ghost use Rattle.transcript_check.specs.Standing.{IsDenied};
 ghost use Rattle.transcript_picture.specs.Lines.{IsSketchOf, IsTaken};
 
-use span_picture::{Scene, picture};
+use crate::scene::Scene;
+use crate::sheet::picture;
 use std::alloc::{AllocError, Global};
 use std::marker::Model;
 use text_lines::LineTaker;

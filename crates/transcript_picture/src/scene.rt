@@ -2,7 +2,7 @@
 
 ghost use Rattle.std.specs.Prelude.{◌≡◌, ◌++◌, ◌∷◌, [], List, OnOk};
 ghost use Rattle.lan_core.specs.declared.fact.Fact.{Fact};
-ghost use Rattle.span_picture.specs.Standing.{Shows};
+ghost use Rattle.transcript_picture.specs.Standing.{Shows};
 
 use crate::columns::Columns;
 use crate::history::History;
