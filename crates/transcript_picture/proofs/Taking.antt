@@ -10,7 +10,7 @@ use Rattle.transcript_check.specs.declared.fault.CheckError.TheVariants.{Refused
 use Rattle.transcript_check.specs.declared.fault.CheckFault.{CheckFault}
 use Rattle.transcript_check.specs.Standing.{Saks, AreSaksOf, IsDenied, refusal}
 use Rattle.transcript_check.proofs.Public.{fact-denies}
-use Rattle.transcript_spans.specs.Standing.{Kept as Spans}
+use Rattle.key_spans.specs.Standing.{Kept as Spans}
 use Rattle.transcript_picture.specs.Standing.{Shows}
 use Rattle.transcript_picture.specs.Lines.{IsSketchOf, IsTaken, Kept}
 

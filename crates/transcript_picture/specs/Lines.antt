@@ -4,7 +4,7 @@ use Rattle.lan_base.specs.declared.name.Name.{Name}
 use Rattle.lan_core.specs.declared.fact.Fact.{Fact}
 use Rattle.transcript.specs.Naming.{Reads}
 use Rattle.transcript_check.specs.Standing.{Saks, AreSaksOf, refusal}
-use Rattle.transcript_spans.specs.Standing.{Kept as Spans}
+use Rattle.key_spans.specs.Standing.{Kept as Spans}
 use Rattle.transcript_picture.specs.Standing.{Shows}
 
 -- the names of the stations, the SAKs that they installed, the spans of the facts, and how many lines

@@ -3,9 +3,9 @@
 use crate::legend::{Legend, colour};
 use crate::pieces::{Piece, put};
 use crate::scale::{Scale, Stretch};
+use key_spans::{End, Span, Spans, Why};
 use lan_base::AssociationNumber;
 use std::alloc::AllocError;
-use transcript_spans::{End, Span, Spans, Why};
 
 /// How high a row is, in units.
 pub const ROW: u32 = 14;

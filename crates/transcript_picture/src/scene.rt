@@ -7,11 +7,11 @@ ghost use Rattle.transcript_picture.specs.Standing.{Shows};
 use crate::columns::Columns;
 use crate::history::History;
 use crate::legend::Legend;
+use key_spans::Spans;
 use lan_base::Mi;
 use lan_core::Fact;
 use std::alloc::{AllocError, Global};
 use std::marker::Model;
-use transcript_spans::Spans;
 
 /// The spans of the facts so far, what arrived, the lives, and who served. Contracts see the spans.
 #[derive(Drop)]
@@ -24,7 +24,7 @@ pub struct Scene {
 }
 
 impl Model for Scene {
-    ghost use Rattle.transcript_spans.specs.Standing.{Kept};
+    ghost use Rattle.key_spans.specs.Standing.{Kept};
 
     ghost Value = { Kept };
 

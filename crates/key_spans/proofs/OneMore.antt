@@ -1,0 +1,224 @@
+-- One fact more at the end of facts, and what it does to the rows.
+use Rattle.std.proofs.Common.{◌≡◌, ◌∙◌, ◌⊎◌, ℕ, Bool, true, false, List, [], ◌∷◌, ◌++◌, Option, Some, None, refl, sym, ap, subst, inl, inr, append_assoc}
+use Rattle.std.specs.Prelude.{Result, Ok, Err, OnOk, ◌==◌, ◌&&◌, if◌then◌else◌, map, is_some, IsTrue, option_map, option_to_list}
+use Rattle.std.proofs.lemmas.List.{append-nil}
+use Rattle.lan_base.specs.AssociationNumbers.{same_an}
+use Rattle.lan_base.specs.declared.association_number.AssociationNumber.{AssociationNumber}
+use Rattle.lan_core.specs.declared.fact.Fact.{Fact}
+use Rattle.lan_core.specs.declared.fact.Fact.TheVariants as shows
+use Rattle.key_spans.specs.declared.span.Span.{Span}
+use Rattle.key_spans.specs.declared.span.End.{End}
+use Rattle.key_spans.specs.declared.span.Turn.{Turn}
+use Rattle.key_spans.specs.declared.span.Turn.TheVariants.{Ends}
+use Rattle.key_spans.specs.declared.span.Why.{Why}
+use Rattle.key_spans.specs.declared.span.Why.TheVariants.{Replaced}
+use Rattle.key_spans.specs.Spans.{clock, clock_after, lived, opened, spans, spans_from, touched, turn_by, turned}
+use Rattle.key_spans.specs.Standing.{AllEnded, HasEnded, Keys, Kept, StandsFor, keys, row_at}
+use Rattle.key_spans.specs.inside.Taking.{IsTaken, grown_row, row_after, touched_row, with_opened}
+
+pub by_sum : {A B P : Type 0} → A ⊎ B → (A → P) → (B → P) → P
+by_sum (inl a) f g = f a
+by_sum (inr b) f g = g b
+
+pub clock-more : (at : ℕ) (facts : List Fact) (f : Fact)
+    → clock at (facts ++ f ∷ []) ≡ clock_after (clock at facts) f
+clock-more at [] f = refl
+clock-more at (fact ∷ later) f = clock-more (clock_after at fact) later f
+
+module _ (s : ℕ) (an : AssociationNumber) (f : Fact) where
+  lived-more : (at : ℕ) (facts : List Fact) (span : Span)
+      → lived s an at (facts ++ f ∷ []) span
+      ≡ touched (clock at facts) (turn_by s an f) (lived s an at facts span)
+  lived-more at [] span = refl
+  lived-more at (fact ∷ later) span =
+      lived-more (clock_after at fact) later (touched at (turn_by s an fact) span)
+
+  all-lived : (at : ℕ) (facts : List Fact) (xs : List Span)
+      → map (lived s an at (facts ++ f ∷ [])) xs
+      ≡ map (touched (clock at facts) (turn_by s an f)) (map (lived s an at facts) xs)
+  all-lived at facts [] = refl
+  all-lived at facts (x ∷ xs) =
+      ap (λ (y : Span). y ∷ map (lived s an at (facts ++ f ∷ [])) xs) (lived-more at facts x)
+      ∙ ap (λ (ys : List Span). touched (clock at facts) (turn_by s an f) (lived s an at facts x) ∷ ys)
+      (all-lived at facts xs)
+
+  none-lived : (at : ℕ) (xs : List Span) → map (lived s an at []) xs ≡ xs
+  none-lived at [] = refl
+  none-lived at (x ∷ xs) = ap (λ (ys : List Span). x ∷ ys) (none-lived at xs)
+
+  pub spans-more : (at : ℕ) (facts : List Fact)
+      → spans_from s an at (facts ++ f ∷ [])
+      ≡ map (touched (clock at facts) (turn_by s an f)) (spans_from s an at facts)
+      ++ opened s an (clock at facts) f
+  spans-more at [] =
+      append-nil (map (lived s an (clock_after at f) []) (opened s an at f))
+      ∙ none-lived (clock_after at f) (opened s an at f)
+  spans-more at (fact ∷ later) =
+      let now = clock_after at fact in
+      let t = touched (clock now later) (turn_by s an f) in
+      let own = map (lived s an now later) (opened s an at fact) in
+      ap (λ (ys : List Span). ys ++ spans_from s an now (later ++ f ∷ []))
+      (all-lived now later (opened s an at fact))
+      ∙ ap (λ (ys : List Span). map t own ++ ys) (spans-more now later)
+      ∙ sym (append_assoc (map t own) (map t (spans_from s an now later)) (opened s an (clock now later) f))
+      ∙ ap (λ (ys : List Span). ys ++ opened s an (clock now later) f)
+      (sym (both t own (spans_from s an now later)))
+    where
+      both : (t : Span → Span) (xs ys : List Span) → map t (xs ++ ys) ≡ map t xs ++ map t ys
+      both t [] ys = refl
+      both t (x ∷ xs) ys = ap (λ (zs : List Span). t x ∷ zs) (both t xs ys)
+
+-- ---- rows
+
+pub stays : (at : ℕ) (t : Option Turn) (x : Span) → HasEnded x → touched at t x ≡ x
+stays at None x ended = refl
+stays at (Some t) x ended = go x.ended refl ended
+  where
+    go : (e : Option End) → x.ended ≡ e → IsTrue (is_some e) → touched at (Some t) x ≡ x
+    go None is there = absurd (cc there)
+    go (Some e) is there = ap (λ (o : Option End). if is_some o then x else turned at t x) is
+
+all-stay : (at : ℕ) (t : Option Turn) (xs : List Span) → AllEnded xs → map (touched at t) xs ≡ xs
+all-stay at t [] ended = refl
+all-stay at t (x ∷ xs) ended =
+    ap (λ (y : Span). y ∷ map (touched at t) xs) (stays at t x ended.0)
+    ∙ ap (λ (ys : List Span). x ∷ ys) (all-stay at t xs ended.1)
+
+apart : (t : Span → Span) (xs : List Span) (last : Option Span)
+    → map t (xs ++ option_to_list last) ≡ map t xs ++ option_to_list (option_map t last)
+apart t [] None = refl
+apart t [] (Some x) = refl
+apart t (x ∷ xs) last = ap (λ (ys : List Span). t x ∷ ys) (apart t xs last)
+
+touched-keys : (at : ℕ) (t : Option Turn) (row : Keys) → AllEnded row.earlier
+    → map (touched at t) (keys row) ≡ row.earlier ++ option_to_list (option_map (touched at t) row.latest)
+touched-keys at t row ended =
+    apart (touched at t) row.earlier row.latest
+    ∙ ap (λ (ys : List Span). ys ++ option_to_list (option_map (touched at t) row.latest))
+    (all-stay at t row.earlier ended)
+
+-- a fact opens nothing, or one key, and then the one before it is replaced
+pub opens : (s : ℕ) (an : AssociationNumber) (at : ℕ) (f : Fact)
+    → (opened s an at f ≡ [])
+    ⊎ ((span : Span) × (opened s an at f ≡ span ∷ []) × (turn_by s an f ≡ Some (Ends Replaced))
+    × (span.installed ≡ at) × (span.began ≡ None) × (span.ended ≡ None))
+opens s an at (shows.Installed t id a epoch sak) = go ((t == s) && same_an a an) refl
+  where
+    new : Span
+    new = record {
+      station = t;
+      number = a;
+      id = id;
+      epoch = epoch;
+      installed = at;
+      began = None;
+      relieved = None;
+      ended = None;
+    }
+
+    go : (b : Bool) → ((t == s) && same_an a an) ≡ b
+        → (opened s an at (shows.Installed t id a epoch sak) ≡ [])
+        ⊎ ((span : Span) × (opened s an at (shows.Installed t id a epoch sak) ≡ span ∷ [])
+        × (turn_by s an (shows.Installed t id a epoch sak) ≡ Some (Ends Replaced))
+        × (span.installed ≡ at) × (span.began ≡ None) × (span.ended ≡ None))
+    go true e = inr (
+      new,
+      ap (λ (b : Bool). if b then new ∷ [] else []) e,
+      ap (λ (b : Bool). if b then Some (Ends Replaced) else None) e,
+      refl,
+      refl,
+      refl,
+    )
+    go false e = inl (ap (λ (b : Bool). if b then new ∷ [] else []) e)
+opens s an at (shows.Life t mi) = inl refl
+opens s an at (shows.Ticked t now next) = inl refl
+opens s an at (shows.Server t mi) = inl refl
+opens s an at (shows.Dropped t id a) = inl refl
+opens s an at (shows.Retired t id a) = inl refl
+opens s an at (shows.Began t id a epoch cause) = inl refl
+opens s an at (shows.Untaken t id why) = inl refl
+opens s an at (shows.Framed k t sec xs) = inl refl
+opens s an at (shows.HeardMka k t verdict) = inl refl
+opens s an at (shows.Claimed t a epoch pn) = inl refl
+opens s an at (shows.Unclaimed t why) = inl refl
+opens s an at (shows.Arrived k t arrival) = inl refl
+
+pub ends : (at : ℕ) (why : Why) (x : Span) → HasEnded (touched at (Some (Ends why)) x)
+ends at why x = go x.ended refl
+  where
+    t : Span → Span
+    t x = touched at (Some (Ends why)) x
+
+    go : (e : Option End) → x.ended ≡ e → HasEnded (t x)
+    go None is =
+        subst (λ (b : Bool). HasEnded (if b then x else turned at (Ends why) x))
+        (sym (ap is_some is)) refl
+    go (Some e) is =
+        subst (λ (b : Bool). HasEnded (if b then x else turned at (Ends why) x))
+        (sym (ap is_some is)) (subst (λ (o : Option End). IsTrue (is_some o)) (sym is) refl)
+
+with-last : (at : ℕ) (xs : List Span) (last : Option Span) → AllEnded xs
+    → AllEnded (xs ++ option_to_list (option_map (touched at (Some (Ends Replaced))) last))
+with-last at [] None ended = tt
+with-last at [] (Some x) ended = (ends at Replaced x, tt)
+with-last at (x ∷ xs) last ended = (ended.0, with-last at xs last ended.1)
+
+module _ (s : ℕ) (an : AssociationNumber) (at : ℕ) (f : Fact) (row : Keys) (ended : AllEnded row.earlier) where
+  abbrev pub t : Option Turn
+  t = turn_by s an f
+
+  pub keys-after : keys (row_after s an at f row) ≡ map (touched at t) (keys row) ++ opened s an at f
+  keys-after = by_sum (opens s an at f) go-none go-one
+    where
+      go-none : opened s an at f ≡ [] → keys (row_after s an at f row) ≡ map (touched at t) (keys row) ++ opened s an at f
+      go-none none =
+          ap (λ (o : List Span). keys (with_opened at o row t)) none
+          ∙ sym (touched-keys at t row ended)
+          ∙ sym (append-nil (map (touched at t) (keys row)))
+          ∙ ap (λ (o : List Span). map (touched at t) (keys row) ++ o) (sym none)
+
+      go-one : (span : Span) × (opened s an at f ≡ span ∷ []) × (t ≡ Some (Ends Replaced))
+          × (span.installed ≡ at) × (span.began ≡ None) × (span.ended ≡ None)
+          → keys (row_after s an at f row) ≡ map (touched at t) (keys row) ++ opened s an at f
+      go-one one =
+          ap (λ (o : List Span). keys (with_opened at o row t)) one.1
+          ∙ ap (λ (ys : List Span). ys ++ one.0 ∷ [])
+          (sym (touched-keys at (Some (Ends Replaced)) row ended))
+          ∙ ap (λ (o : Option Turn). map (touched at o) (keys row) ++ one.0 ∷ []) (sym one.2)
+          ∙ ap (λ (o : List Span). map (touched at t) (keys row) ++ o) (sym one.1)
+
+  pub ended-after : AllEnded (row_after s an at f row).earlier
+  ended-after = by_sum (opens s an at f) go-none go-one
+    where
+      go-none : opened s an at f ≡ [] → AllEnded (row_after s an at f row).earlier
+      go-none none =
+          subst (λ (o : List Span). AllEnded (with_opened at o row t).earlier) (sym none) ended
+
+      go-one : (span : Span) × (opened s an at f ≡ span ∷ []) × (t ≡ Some (Ends Replaced))
+          × (span.installed ≡ at) × (span.began ≡ None) × (span.ended ≡ None)
+          → AllEnded (row_after s an at f row).earlier
+      go-one one =
+          subst (λ (o : List Span). AllEnded (with_opened at o row t).earlier) (sym one.1)
+          (with-last at row.earlier row.latest ended)
+
+-- ---- all rows
+
+pub one_more : (facts : List Fact) (f : Fact) (old new : Kept) → StandsFor facts old → IsTaken f old new
+    → StandsFor (facts ++ f ∷ []) new
+one_more facts f old new stands taken = record {
+  clock_is = taken.clock_is ∙ ap (λ (at : ℕ). clock_after at f) stands.clock_is ∙ sym (clock-more 0 facts f);
+  keys_are = λ s an.
+      ap keys (taken.rows_are s an)
+      ∙ keys-after s an old.clock f (row_at old.lanes s an) (stands.ended s an)
+      ∙ ap (λ (ys : List Span). map (touched old.clock (turn_by s an f)) ys ++ opened s an old.clock f)
+      (stands.keys_are s an)
+      ∙ ap (λ (at : ℕ). map (touched at (turn_by s an f)) (spans s an facts) ++ opened s an at f) stands.clock_is
+      ∙ sym (spans-more s an f 0 facts);
+  ended = λ s an.
+      subst (λ (row : Keys). AllEnded row.earlier) (sym (taken.rows_are s an))
+      (ended-after s an old.clock f (row_at old.lanes s an) (stands.ended s an));
+}
+
+pub on_ok : {T E P Q : Type 0} (r : Result T E) → (P → Q) → OnOk r P → OnOk r Q
+on_ok (Ok x) f p = f p
+on_ok (Err e) f p = tt

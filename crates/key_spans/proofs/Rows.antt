@@ -1,0 +1,69 @@
+-- Rows of stations, by place.
+use Rattle.std.proofs.Common.{◌≡◌, ◌≢◌, ◌<◌, ℕ, zero, suc, List, [], ◌∷◌, ◌++◌, length, Some, Result, Ok, Err, ◌∙◌, refl, sym, ap, subst, arith}
+use Rattle.std.specs.Prelude.{slice_get, set, OnOk, OnErr}
+use Rattle.lan_base.specs.declared.association_number.AssociationNumber.{AssociationNumber}
+use Rattle.lan_base.specs.declared.association_number.AssociationNumber.TheVariants.{An0, An1, An2, An3}
+use Rattle.std.specs.declared.alloc.AllocError.{AllocError}
+use Rattle.lan_core.specs.declared.fact.Fact.{Fact}
+use Rattle.lan_core.specs.Run.{place}
+use Rattle.key_spans.specs.Standing.{Kept, Rows, no_rows, row_at}
+use Rattle.key_spans.specs.inside.Taking.{IsLaneAfter, TakesAt}
+
+-- rows of nothing behind others change no row
+pub row-pushed : (lanes : List Rows) (s : ℕ) (an : AssociationNumber)
+    → row_at (lanes ++ no_rows ∷ []) s an ≡ row_at lanes s an
+row-pushed [] zero An0 = refl
+row-pushed [] zero An1 = refl
+row-pushed [] zero An2 = refl
+row-pushed [] zero An3 = refl
+row-pushed [] (suc s) an = refl
+row-pushed (x ∷ lanes) zero an = refl
+row-pushed (x ∷ lanes) (suc s) an = row-pushed lanes s an
+
+pub set-here : {A : Type 0} (xs : List A) (s : ℕ) (x y : A) → slice_get xs s ≡ Some x
+    → slice_get (set xs s y) s ≡ Some y
+set-here [] s x y e = absurd (cc e)
+set-here (z ∷ xs) zero x y e = refl
+set-here (z ∷ xs) (suc s) x y e = set-here xs s x y e
+
+pub set-others : {A : Type 0} (xs : List A) (s t : ℕ) (y : A) → t ≢ s
+    → slice_get (set xs s y) t ≡ slice_get xs t
+set-others [] s t y apart = refl
+set-others (z ∷ xs) zero zero y apart = absurd (apart refl)
+set-others (z ∷ xs) zero (suc t) y apart = refl
+set-others (z ∷ xs) (suc s) zero y apart = refl
+set-others (z ∷ xs) (suc s) (suc t) y apart = set-others xs s t y (λ e. apart (ap suc e))
+
+pub set-same : {A : Type 0} (xs : List A) (s : ℕ) (x : A) → slice_get xs s ≡ Some x → set xs s x ≡ xs
+set-same [] s x e = refl
+set-same {A} (z ∷ xs) zero x e = ap (λ (y : A). y ∷ xs) (some-same e)
+  where
+    some-same : Some z ≡ Some x → x ≡ z
+    some-same e = cc e
+set-same {A} (z ∷ xs) (suc s) x e = ap (λ (ys : List A). z ∷ ys) (set-same xs s x e)
+
+-- rows at a place become others
+pub taken-at : (fact : Fact) (old : Kept) (clock s : ℕ) (xs : List Rows) (given new : Rows)
+    (result : Result (Unit {0}) AllocError) → record { clock = clock; lanes = xs } ≡ old → s ≡ place fact
+    → slice_get xs s ≡ Some given → OnOk result (IsLaneAfter (place fact) clock fact given new)
+    → OnErr result (new ≡ given)
+    → TakesAt fact old (record { clock = clock; lanes = set xs s new }) (slice_get old.lanes (place fact)) result
+taken-at fact old clock s xs given new result view at found ok err =
+    rw (sym view, sym at, found) (go result (subst (λ p. OnOk result (IsLaneAfter p clock fact given new)) (sym at) ok) err)
+  where
+    go : (result : Result (Unit {0}) AllocError) → OnOk result (IsLaneAfter s clock fact given new)
+        → OnErr result (new ≡ given)
+        → TakesAt fact (record { clock = clock; lanes = xs }) (record { clock = clock; lanes = set xs s new })
+        (Some given) result
+    go (Ok done) lane none = record {
+      then = new;
+      lane = subst (λ p. IsLaneAfter p clock fact given new) at lane;
+      clock_is = refl;
+      here = subst (λ p. slice_get (set xs s new) p ≡ Some new) at (set-here xs s given new found);
+      others = λ t apart. set-others xs s t new (λ e. apart (e ∙ at));
+    }
+    go (Err error) none same = record {
+      clock_is = refl;
+      rows_are = λ t an. ap (λ (ys : List Rows). row_at ys t an)
+          (ap (λ (x : Rows). set xs s x) same ∙ set-same xs s given found);
+    }

@@ -1,0 +1,14 @@
+//! The spans of the keys that facts tell of: what each station held under each association number,
+//! from the install of a key to its end.
+#![tactic(auto)]
+
+mod lane;
+mod laws;
+mod row;
+mod span;
+mod spans;
+
+pub use laws::{law_one_key_transmits, law_spans_do_not_overlap};
+pub use row::Row;
+pub use span::{End, Span, Why};
+pub use spans::Spans;

@@ -1,0 +1,125 @@
+//! The spans of facts that come one after another.
+
+ghost use Rattle.std.specs.Prelude.{◌≡◌, ◌++◌, ◌∷◌, ◌<◌, [], List, length, slice_get, OnOk, OnErr};
+ghost use Rattle.std.specs.Option.{option_copied};
+ghost use Rattle.lan_core.specs.declared.fact.Fact.{Fact};
+ghost use Rattle.lan_core.specs.Run.{place};
+ghost use Rattle.key_spans.specs.Spans.{clock, spans};
+ghost use Rattle.key_spans.specs.Standing.{StandsFor, keys, shown};
+ghost use Rattle.key_spans.specs.inside.Taking.{IsReached, IsTaken, TakesAt};
+
+use crate::lane::Lane;
+use crate::row::Row;
+use lan_base::AssociationNumber;
+use lan_core::Fact;
+use std::alloc::{AllocError, Global};
+use std::marker::Model;
+
+/// The spans of the facts so far. Contracts see the rows of all stations, and the clock.
+#[derive(Drop)]
+pub struct Spans {
+    alloc: Global,
+    clock: u32,
+    lanes: Vec<Lane>,
+}
+
+impl Model for Spans {
+    ghost use Rattle.key_spans.specs.Standing.{Kept};
+
+    ghost Value = { Kept };
+
+    ghost view = { λ s. record { clock = s.clock; lanes = s.lanes.items } };
+}
+
+impl Spans {
+    /// No fact. No memory is taken.
+    pub fn new(alloc: Global) -> Spans
+        ensures { StandsFor [] result }
+    {
+        Spans {
+            alloc,
+            clock: 0,
+            lanes: Vec::new(alloc),
+        }
+    }
+
+    /// A fact more. After an error the value stands for the facts before.
+    pub fn take(&mut self, fact: &Fact) -> Result<(), AllocError>
+        ensures taken { (facts : List Fact) → StandsFor facts self.old
+            → OnOk result (StandsFor (facts ++ fact.now ∷ []) self.new) }
+        ensures kept { (facts : List Fact) → StandsFor facts self.old
+            → OnErr result (StandsFor facts self.new) }
+    {
+        self.take_in(fact)
+    }
+
+    /// The clock of the first station, in ticks.
+    pub fn clock(&self) -> u32
+        ensures { (facts : List Fact) → StandsFor facts self.now → result ≡ clock 0 facts }
+    {
+        self.clock
+    }
+
+    /// How many stations have rows: those of further places have none.
+    pub fn stations(&self) -> usize
+        ensures { result ≡ length self.now.lanes }
+    {
+        self.lanes.len()
+    }
+
+    /// The keys that a station held under a number, if it has rows.
+    pub fn row(&self, station: u8, number: AssociationNumber) -> Option<&Row>
+        ensures { (facts : List Fact) → StandsFor facts self.now
+            → keys (shown (option_copied result)) ≡ spans station number facts }
+    {
+        Some(self.lanes.get(station as usize)?.row(number))
+    }
+
+    /// A fact is taken.
+    fn take_in(&mut self, fact: &Fact) -> Result<(), AllocError>
+        ensures taken { OnOk result (IsTaken fact.now self.old self.new) }
+        ensures kept { OnErr result (IsReached self.old self.new) }
+    {
+        match fact {
+            Fact::Ticked { station: 0, .. } => {
+                self.clock = self.clock.saturating_add(1);
+                Ok(())
+            }
+            Fact::Installed { station, .. } => {
+                self.reach(*station)?;
+                self.take_at(fact)
+            }
+            Fact::Life { .. } | Fact::Dropped { .. } | Fact::Retired { .. } | Fact::Began { .. } =>
+                { self.take_at(fact) }
+            Fact::Ticked { .. }
+            | Fact::Server { .. }
+            | Fact::Untaken { .. }
+            | Fact::Framed { .. }
+            | Fact::HeardMka { .. }
+            | Fact::Claimed { .. }
+            | Fact::Unclaimed { .. }
+            | Fact::Arrived { .. } => Ok(()),
+        }
+    }
+
+    /// A fact is taken at its station, if that has rows.
+    fn take_at(&mut self, fact: &Fact) -> Result<(), AllocError>
+        ensures { TakesAt fact.now self.old self.new (slice_get self.old.lanes (place fact.now)) result }
+    {
+        let Some(lane) = self.lanes.get_mut(fact.place() as usize) else {
+            return Ok(());
+        };
+        lane.take(self.clock, fact)
+    }
+
+    /// The station of a place has rows from now on, and so have those before it.
+    fn reach(&mut self, station: u8) -> Result<(), AllocError>
+        ensures same { IsReached self.old self.new }
+        ensures there { OnOk result (station < length self.new.lanes) }
+    {
+        for _ in self.lanes.len()..station as usize + 1 {
+            self.lanes.push(Lane::new(self.alloc))?;
+        }
+        Ok(())
+    }
+}

@@ -1,5 +1,0 @@
-use Rattle.transcript_spans.proofs.Sending.{one-number}
-use Rattle.transcript_spans.proofs.laws.law_one_key_transmits.Goals as goal
-
-pub returns : goal.returns
-returns c = one-number

@@ -1,5 +1,0 @@
-use Rattle.transcript_spans.proofs.Apart.{no-overlap}
-use Rattle.transcript_spans.proofs.laws.law_spans_do_not_overlap.Goals as goal
-
-pub returns : goal.returns
-returns c = no-overlap
