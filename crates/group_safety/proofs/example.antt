@@ -2,6 +2,7 @@
 pub mod Scene
 pub mod Moves
 pub mod Run
+pub mod Sayable
 pub mod Good
 pub mod Steps
 pub mod Rolling

@@ -2,12 +2,10 @@
 use Rattle.std.proofs.Common.{◌≡◌, ◌<◌, ◌≤◌, ℕ, refl, sym, ap, ◌∙◌, subst, inl, inr, length, true}
 use Rattle.std.proofs.Common.{List, [], ◌∷◌, cond, Some, is_some, arith, length-append}
 use Rattle.std.specs.Prelude.{option_map, option_and_then, slice_get}
-use Rattle.std.proofs.lemmas.List.Elements.{All-nil}
 use Rattle.lan_base.specs.declared.association_number.AssociationNumber.TheVariants.{An0, An1}
 use Rattle.gcm_frames.specs.Tags.{is_sec}
 use Rattle.gcm_frames.specs.Protected.{iv}
 use Rattle.gcm_frames.proofs.Public.{Encrypts, encrypts, length-gcm_text, length-gcm_tag}
-use Rattle.mkpdu_codec.specs.Sets.{IsPeer}
 use Rattle.rx_slots.specs.Numbers.{answer}
 use Rattle.sak_exchange.specs.Held.{transmitting}
 use Rattle.mka_station.specs.declared.verdict.Verdict.TheVariants.{Vouched}
@@ -32,7 +30,8 @@ use Rattle.group_safety.proofs.example.Moves.{Hears, sends, sends-short, none-sh
 use Rattle.group_safety.proofs.example.Moves.{tick-moves, hear-moves, claim-moves, new-short}
 use Rattle.group_safety.proofs.example.Run.{users, a3}
 use Rattle.group_safety.proofs.example.Run.{first_key, r11}
-use Rattle.group_safety.proofs.example.Good.{one, length-wrapped_sak, sci_is, sak_is, good_a3}
+use Rattle.group_safety.proofs.example.Sayable.{sayable}
+use Rattle.group_safety.proofs.example.Good.{length-wrapped_sak, sci_is, sak_is, good_a3}
 use Rattle.group_safety.proofs.example.Steps.{opens, goes, both, l11, unwrapped-wrapped_sak, drawn}
 use Rattle.group_safety.proofs.example.Steps.{a-user}
 use Rattle.group_safety.proofs.example.Rolling as scene
@@ -41,124 +40,19 @@ use Rattle.group_safety.proofs.example.Rolling.{many, more, carried}
 -- ---- the announcements
 
 pub good_d4 : IsSayable scene.d4
-good_d4 = record {
-  writable = record {
-    source = refl;
-    named = (omega arith, omega arith);
-    live = omega arith;
-    potential = omega arith;
-    given = tt;
-  };
-  typed = record {
-    sci = refl;
-    mi = refl;
-    mn = omega arith;
-    live = one 2 2 (omega arith);
-    potential = All-nil IsPeer;
-    uses = (
-      record { server = refl; number = omega arith; lowest = omega arith },
-      record { server = refl; number = omega arith; lowest = omega arith },
-    );
-    given = (omega arith, length-wrapped_sak 2 refl);
-  };
-  named = refl;
-}
+good_d4 = sayable scene.d4 refl (tt, (omega arith, length-wrapped_sak 2 refl))
 
 pub good_e3 : IsSayable scene.e3
-good_e3 = record {
-  writable = record {
-    source = refl;
-    named = (omega arith, omega arith);
-    live = omega arith;
-    potential = omega arith;
-    given = tt;
-  };
-  typed = record {
-    sci = refl;
-    mi = refl;
-    mn = omega arith;
-    live = one 1 3 (omega arith);
-    potential = All-nil IsPeer;
-    uses = (
-      record { server = refl; number = omega arith; lowest = omega arith },
-      record { server = refl; number = omega arith; lowest = omega arith },
-    );
-    given = tt;
-  };
-  named = refl;
-}
+good_e3 = sayable scene.e3 refl (tt, tt)
 
 pub good_e4 : IsSayable scene.e4
-good_e4 = record {
-  writable = record {
-    source = refl;
-    named = (omega arith, omega arith);
-    live = omega arith;
-    potential = omega arith;
-    given = tt;
-  };
-  typed = record {
-    sci = refl;
-    mi = refl;
-    mn = omega arith;
-    live = one 1 4 (omega arith);
-    potential = All-nil IsPeer;
-    uses = (
-      record { server = refl; number = omega arith; lowest = omega arith },
-      record { server = refl; number = omega arith; lowest = omega arith },
-    );
-    given = tt;
-  };
-  named = refl;
-}
+good_e4 = sayable scene.e4 refl (tt, tt)
 
 pub good_d5 : IsSayable scene.d5
-good_d5 = record {
-  writable = record {
-    source = refl;
-    named = (omega arith, omega arith);
-    live = omega arith;
-    potential = omega arith;
-    given = tt;
-  };
-  typed = record {
-    sci = refl;
-    mi = refl;
-    mn = omega arith;
-    live = one 2 4 (omega arith);
-    potential = All-nil IsPeer;
-    uses = (
-      record { server = refl; number = omega arith; lowest = omega arith },
-      record { server = refl; number = omega arith; lowest = omega arith },
-    );
-    given = tt;
-  };
-  named = refl;
-}
+good_d5 = sayable scene.d5 refl (tt, tt)
 
 pub good_e5 : IsSayable scene.e5
-good_e5 = record {
-  writable = record {
-    source = refl;
-    named = (omega arith, omega arith);
-    live = omega arith;
-    potential = omega arith;
-    given = tt;
-  };
-  typed = record {
-    sci = refl;
-    mi = refl;
-    mn = omega arith;
-    live = one 1 5 (omega arith);
-    potential = All-nil IsPeer;
-    uses = (
-      record { server = refl; number = omega arith; lowest = omega arith },
-      record { server = refl; number = omega arith; lowest = omega arith },
-    );
-    given = tt;
-  };
-  named = refl;
-}
+good_e5 = sayable scene.e5 refl (tt, tt)
 
 -- ---- the lives
 

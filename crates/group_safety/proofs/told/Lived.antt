@@ -36,7 +36,8 @@ use Rattle.group_safety.specs.worked.Deeds.{whole, framed_by, carried, Paper, sa
 use Rattle.group_safety.specs.worked.Lives.{hidden_in, answered, heard_by, is_carried, is_silent}
 use Rattle.group_safety.specs.worked.Lives.{ticked_by, reads, life_on, life_by}
 use Rattle.group_safety.proofs.told.Framing.{is_bare, octets_in, frame-octets}
-use Rattle.group_safety.proofs.told.Readable.{is_good, is_gift, good-is, hidden-is, carried-is-sec}
+use Rattle.group_safety.proofs.example.Sayable.{is_good}
+use Rattle.group_safety.proofs.told.Readable.{is_gift, good-is, hidden-is, carried-is-sec}
 
 -- ---- hearing an announcement, given the SAK that it unwrapped-wrapped_sak
 

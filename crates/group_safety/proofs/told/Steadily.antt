@@ -39,7 +39,8 @@ use Rattle.group_safety.specs.worked.Deeds.{Deed, tells, emits, plain, happens, 
 use Rattle.group_safety.specs.worked.Deeds.{told, framed_by}
 use Rattle.group_safety.specs.worked.Lives.{life_by}
 use Rattle.group_safety.proofs.told.Framing.{is_bare}
-use Rattle.group_safety.proofs.told.Readable.{is_good, is_gift, good-is}
+use Rattle.group_safety.proofs.example.Sayable.{is_good}
+use Rattle.group_safety.proofs.told.Readable.{is_gift, good-is}
 use Rattle.group_safety.proofs.told.Lived.{life-is, is_readable}
 
 -- ---- moments
