@@ -50,6 +50,18 @@ pub record Follows (b c : Book) (s : ℕ) (l : Deeds) (is ms : List Install) (ss
     pub here : c.life s ≡ Some l
     pub there : (t : ℕ) → s ≢ t → c.life t ≡ b.life t
 
+-- the same book
+pub follows-itself : (b : Book) (s : ℕ) (l : Deeds) → b.life s ≡ Some l → Follows b b s l [] [] []
+follows-itself b s l living = record {
+  births = refl;
+  spoken = refl;
+  installs = refl;
+  makes = refl;
+  claims = refl;
+  here = living;
+  there = λ t other. refl;
+}
+
 -- ---- a key is made, or none
 
 abbrev pub changes_made : ℕ → Deeds → List Mi → Option Key → List Change → List Change
@@ -60,15 +72,7 @@ pub made-follows : (s : ℕ) (d : Deeds) (ms : List Mi) (k : Option Key) (cs : L
     → (book cs).life s ≡ Some d
     → Follows (book cs) (book (changes_made s d ms k cs)) s (having_made ms k d) (installed_at s k)
     (installed_at s k) []
-made-follows s d ms None cs living = record {
-  births = refl;
-  spoken = refl;
-  installs = refl;
-  makes = refl;
-  claims = refl;
-  here = living;
-  there = λ t other. refl;
-}
+made-follows s d ms None cs living = follows-itself (book cs) s d living
 made-follows s d ms (Some k) cs living = record {
   births = refl;
   spoken = refl;
@@ -99,15 +103,7 @@ one_said (Some a) = a ∷ []
 pub said-follows : (s : ℕ) (d : Deeds) (a : Option Said) (cs : List Change)
     → (book cs).life s ≡ Some d
     → Follows (book cs) (book (changes_said s d a cs)) s d [] [] (one_said a)
-said-follows s d None cs living = record {
-  births = refl;
-  spoken = refl;
-  installs = refl;
-  makes = refl;
-  claims = refl;
-  here = living;
-  there = λ t other. refl;
-}
+said-follows s d None cs living = follows-itself (book cs) s d living
 said-follows s d (Some a) cs living = record {
   births = refl;
   spoken = refl;

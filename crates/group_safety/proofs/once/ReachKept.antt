@@ -53,12 +53,13 @@ use Rattle.group_safety.proofs.once.Gists.{quiet-none}
 use Rattle.group_safety.proofs.once.Nexts.{makes-same, births-next, installs-next, claims-next}
 use Rattle.group_safety.proofs.once.Nexts.{drawn-next, stations-next, life-next, get-more, in-get}
 use Rattle.group_safety.proofs.once.Nexts.{mapped, chained}
-use Rattle.group_safety.proofs.once.Books.{Follows, changes_heard, heard-follows, heard-allowed}
+use Rattle.group_safety.proofs.once.Books.{Follows, follows-itself, changes_heard, heard-follows}
+use Rattle.group_safety.proofs.once.Books.{heard-allowed}
 use Rattle.group_safety.proofs.once.Living.{group_kek, IsTold, install_by, IsLiving, IsPlain}
 use Rattle.group_safety.proofs.once.Living.{IsKnown, living-later}
 use Rattle.group_safety.proofs.once.Hearing.{hear-past, hear-silent, hear-changes}
 use Rattle.group_safety.proofs.once.Hearing.{heard-keys, hear-sound, hear-may-take}
-use Rattle.group_safety.proofs.once.Stepping.{follows-itself, plain-same, IsLifeOf, turn-kept}
+use Rattle.group_safety.proofs.once.Stepping.{plain-same, IsLifeOf, turn-kept}
 
 -- the keys that a station installed by then, at a hearing
 hear-backed : (b : Option Beginning) (o : Option Key) (h : List Keying) (s : ℕ) (is : List Install)

@@ -1,5 +1,5 @@
 -- A run stays known after what one station does.
-use Rattle.std.proofs.Common.{◌≡◌, ◌≢◌, ◌<◌, refl, sym, ap, ◌∙◌, subst, inl, inr, ◌⊎◌, ℕ, List, []}
+use Rattle.std.proofs.Common.{◌≡◌, ◌≢◌, ◌<◌, sym, ap, ◌∙◌, subst, inl, inr, ◌⊎◌, ℕ, List, []}
 use Rattle.std.proofs.Common.{◌∷◌, ◌++◌, map, Some, arith}
 use Rattle.std.proofs.lemmas.List.{append-nil}
 use Rattle.lan_base.specs.declared.frame.UserFrame.{UserFrame}
@@ -24,18 +24,6 @@ use Rattle.group_safety.proofs.once.Nexts.{stations-next, claimed-next}
 use Rattle.group_safety.proofs.once.Books.{Follows}
 use Rattle.group_safety.proofs.once.Living.{group_kek, IsLiving, IsTold, IsPlain, IsKnown}
 use Rattle.group_safety.proofs.once.Living.{living-later}
-
--- the same book
-pub follows-itself : (b : Book) (s : ℕ) (l : Deeds) → b.life s ≡ Some l → Follows b b s l [] [] []
-follows-itself b s l living = record {
-  births = refl;
-  spoken = refl;
-  installs = refl;
-  makes = refl;
-  claims = refl;
-  here = living;
-  there = λ t other. refl;
-}
 
 -- one after the other
 pub follows-on : (b c d : Book) (s : ℕ) (l n : Deeds) (is ms : List Install) (ss : List Said)

@@ -1,10 +1,8 @@
 -- What a station hears was said: in a tick of a station before.
 use Rattle.std.proofs.Common.{◌≡◌, ◌⊎◌, inl, inr, ℕ, suc, ◌+◌, ◌≤◌, ◌<◌, Bool, true, false, List}
-use Rattle.std.proofs.Common.{[], ◌∷◌, length, take, refl, ap, sym, ◌∙◌, subst, arith}
+use Rattle.std.proofs.Common.{[], ◌∷◌, length, refl, ap, sym, ◌∙◌, subst, arith}
 use Rattle.std.proofs.Common.{Option, Some, None, is_some, Result, Ok, Err}
-use Rattle.std.specs.Prelude.{All, nat_eq, option_map, slice_get, ◌==◌}
-use Rattle.std.proofs.lemmas.Bool.{and_parts, true≢false}
-use lib.Pointwise.{pointwise, bytes_decides}
+use Rattle.std.specs.Prelude.{option_map, slice_get, ◌==◌}
 use Rattle.lan_base.specs.declared.frame.UserFrame.{UserFrame}
 use Rattle.aes_block.specs.Secrets.{secret_octets}
 use Rattle.aes_cmac.specs.Cmac.{cmac}
@@ -14,7 +12,7 @@ use Rattle.mkpdu_codec.specs.declared.spelled.Spelled.{Spelled}
 use Rattle.mkpdu_codec.specs.Frames.{Spells}
 use Rattle.mkpdu_codec.specs.Reading.{reading}
 use Rattle.mkpdu_codec.specs.Written.{written}
-use Rattle.mkpdu_codec.proofs.Public.{read_again, IsBytes-all, same_covered, read_is_spelled}
+use Rattle.mkpdu_codec.proofs.Public.{read_again}
 use Rattle.sak_exchange.specs.declared.change.Change.TheVariants as changes
 use Rattle.sak_exchange.specs.declared.held_key.Key.{Key}
 use Rattle.sak_exchange.proofs.Public.{by_test}
@@ -39,12 +37,13 @@ use Rattle.lan_core.specs.Expected.{claim_fact, number_fact, reached_facts}
 use Rattle.lan_core.specs.Order.{ticks, IsSendable}
 use Rattle.lan_core.specs.Types.{IsSetting, IsUserFrame, IsSecret}
 use Rattle.lan_core.specs.Legal.{IsStep, IsStepped}
-use Rattle.lan_core.specs.Fresh.{IsUnforged, IsUnforgedBy, repeats, same_spelling}
+use Rattle.lan_core.specs.Fresh.{IsUnforged, IsUnforgedBy, repeats}
 use Rattle.group_safety.specs.Moments.{upto, At}
 use Rattle.group_safety.proofs.Members.{in-any, any-in, In, by_sum}
 use Rattle.group_safety.proofs.once.Living.{IsKnown, IsLiving}
 use Rattle.group_safety.proofs.once.RunLaws.{known}
-use Rattle.group_safety.proofs.once.Carried.{sec-unread, judged-read}
+use Rattle.group_safety.proofs.once.Carried.{IsCarried, carried-more, carried-heard, repeated-heard}
+use Rattle.group_safety.proofs.once.Carried.{judged-read, ok-same}
 use Rattle.group_safety.proofs.once.ClaimKept.{protected-is_sec}
 use Rattle.group_safety.proofs.once.ReachKept.{right-some, unforged-repeats}
 use Rattle.group_safety.proofs.once.TickKept.{speaker-of}
@@ -76,36 +75,19 @@ pub record Said (settings : Settings) (run : Run) (z t : ℕ) (a : Announcement)
   pub said : says_at life_then.member (seen_at settings t (upto z run) life_then next)
       (sak_in event.facts) life_then.past ≡ Some a
 
--- octets spell what a station said before a moment
-pub record IsSaidFrame (settings : Settings) (run : Run) (n : ℕ) (octets : List ℕ) : Type 0 where
-  pub moment : ℕ
-  pub station : ℕ
-  pub says : Announcement
-  pub before : moment < n
-  pub said : Said settings run moment station says
-  pub covered : ℕ
-  pub check : List ℕ
-  pub spells : Spells octets says covered check
+-- a station said it before a moment
+abbrev SaidBefore : Settings → Run → ℕ → Announcement → Type 0
+SaidBefore settings run n a = (z t : ℕ) × (z < n) × Said settings run z t a
 
+-- a frame on the air is a protected one, or spells what a station said before a moment
 abbrev pub IsAired : Settings → Run → ℕ → List ℕ → Type 0
-IsAired settings run n octets = (is_sec octets ≡ true) ⊎ IsSaidFrame settings run n octets
+IsAired settings run n octets = IsCarried (SaidBefore settings run n) octets
 
 aired-later : (settings : Settings) (run : Run) (n m : ℕ) (octets : List ℕ) → n ≤ m
     → IsAired settings run n octets → IsAired settings run m octets
-aired-later settings run n m octets less (inl sec) = inl sec
-aired-later settings run n m octets less (inr s) =
-    let before = s.before in
-    inr (record {
-      moment = s.moment;
-      station = s.station;
-      says = s.says;
-      before =
-          omega arith;
-      said = s.said;
-      covered = s.covered;
-      check = s.check;
-      spells = s.spells;
-    })
+aired-later settings run n m octets less aired =
+    carried-more (SaidBefore settings run n) (SaidBefore settings run m) octets
+    (λ a s. let before = s.2 in (s.0, s.1, omega (arith, less, before), s.3)) aired
 
 -- ---- the frames that an event puts on the air
 
@@ -335,26 +317,27 @@ module _ (settings : Settings) (users : List UserFrame) (run : Run) (is : IsSett
       elim (frames-by settings users (upto n run) x.event x.facts k t sec octets
       (kind settings users x (upto n run) (step-of n x high at)) i) [
         | says next l a s ev living said o ↦ inr (record {
-          moment = n;
-          station = t;
           says = a;
-          before = omega arith;
-          said = record {
-            event = x;
-            at = at;
-            within = high;
-            next = next;
-            tick = ev;
-            life_then =
-                l;
-            living = living;
-            said = said;
-          };
           covered = length (written a);
           check = cmac l.member.setup.ick (written a);
           spells = subst (λ v. Spells v a (length (written a))
               (cmac l.member.setup.ick (written a))) (sym o)
               (spelled-so n x t next l a high at ev living said);
+          told = (
+            n,
+            t,
+            omega arith,
+            record {
+              event = x;
+              at = at;
+              within = high;
+              next = next;
+              tick = ev;
+              life_then = l;
+              living = living;
+              said = said;
+            },
+          );
         })
         | emits w s ev waits o st ↦ inl (sec-so n w octets waits o)
       ]
@@ -376,46 +359,6 @@ module _ (settings : Settings) (users : List UserFrame) (run : Run) (is : IsSett
       λ y i. aired-later settings run (length (upto n run)) n y.octets
       (let long = length-upto n run high in omega arith) (found y i)
 
-  ok-same : {A E : Type 0} (r : Result A E) (a b : A) → r ≡ Ok a → r ≡ Ok b → a ≡ b
-  ok-same r a b e f = let g = sym e ∙ f in cc (g)
-
-  -- what octets on the air read as was said
-  read-said : (n : ℕ) (octets : List ℕ) (s : Spelled) → IsAired settings run n octets
-      → reading octets ≡ Ok s
-      → (z t : ℕ) × (z < n) × Said settings run z t s.announcement
-  read-said n octets s (inl sec) e = let f = sym (sec-unread octets sec) ∙ e in absurd (cc (f))
-  read-said n octets s (inr m) e =
-      let again = read_again octets m.says m.covered m.check m.spells in
-      let same = ok-same (reading octets) _ s again e in (
-        m.moment,
-        m.station,
-        m.before,
-        subst (Said settings run m.moment m.station)
-            (ap (λ (x : Spelled). x.announcement) same) m.said,
-      )
-
-  -- and what foreign octets do that repeat a frame
-  repeated-said : (n : ℕ) (octets frame : List ℕ) (s : Spelled) → All (λ o. o < 256) octets
-      → reading octets ≡ Ok s → IsAired settings run n frame
-      → same_spelling octets frame (reading octets) (reading frame) ≡ true
-      → (z t : ℕ) × (z < n) × Said settings run z t s.announcement
-  repeated-said n octets frame s small e (inl sec) same =
-      absurd (true≢false (sym (rw (e, sec-unread frame sec) at same)))
-  repeated-said n octets frame s small e (inr m) same =
-      let again = read_again frame m.says m.covered m.check m.spells in
-      let both = and_parts (pointwise nat_eq (take s.covered octets) (take m.covered frame))
-      (pointwise nat_eq s.check m.check) (rw (e, again) at same) in
-      let covers = (bytes_decides (take s.covered octets) (take m.covered frame)).0 both.0 in
-      let spells = read_is_spelled octets s (IsBytes-all octets small) e in
-      let one = same_covered octets frame s.announcement m.says s.covered m.covered s.check m.check
-      spells m.spells covers in (
-        m.moment,
-        m.station,
-        m.before,
-        subst (Said settings run m.moment m.station)
-            (sym one.0) m.said,
-      )
-
   -- What reaches a station and is judged right was said.
   pub reached-said : (n : ℕ) (x : Happening) (s number : ℕ) (octets : List ℕ) (l : Life)
       (a : Announcement) → n < length run → At run n x
@@ -426,7 +369,8 @@ module _ (settings : Settings) (users : List UserFrame) (run : Run) (is : IsSett
       let read = judged-read l.member.setup octets a judge in
       let y = aired n (omega arith) f
       (in-find (λ y. y.number == number) (air (upto n run)) f there) in
-      let r = read-said n octets read.0 (subst (λ o. IsAired settings run n o) same y) read.1 in
+      let r = (carried-heard (SaidBefore settings run n) octets read.0
+      (subst (λ o. IsAired settings run n o) same y) read.1).told in
       (r.0, r.1, r.2, subst (Said settings run r.0 r.1) read.2 r.3)
   reached-said n x s number octets l a high at (kinds.injected zero_is ev) living judge =
       let r = upto n run in
@@ -445,8 +389,8 @@ module _ (settings : Settings) (users : List UserFrame) (run : Run) (is : IsSett
       (unforged-repeats settings r octets honest right_one) in
       let step = step-of n x high at in
       let small = (subst (λ e. Rattle.lan_core.specs.Types.IsTyped e) ev step.in_order.0).1 in
-      let found = repeated-said n octets one.0.octets read.0 small read.1
-      (aired n (omega arith) one.0 one.1) one.2 in
+      let found = (repeated-heard (SaidBefore settings run n) octets one.0.octets read.0 small read.1
+      (aired n (omega arith) one.0 one.1) one.2).told in
       (found.0, found.1, found.2, subst (Said settings run found.0 found.1) read.2 found.3)
 
   right-judged : (setup : Setup) (octets : List ℕ) (a : Announcement) → right setup octets ≡ Some a
