@@ -32,7 +32,7 @@ use Rattle.group_safety.specs.Transmitting.{Carried, sends, now, CarriesIn, Carr
 use Rattle.group_safety.specs.Accounts.{Account, next_now, looked, numbers_at, shows_at}
 use Rattle.group_safety.specs.Accounts.{account_at, ahead, onward, IsExact}
 use Rattle.group_safety.proofs.once.Nexts.{mapped}
-use Rattle.group_safety.proofs.rollover.EventKinds.{Kind, IsReached}
+use Rattle.group_safety.proofs.rollover.EventKinds.{Kind}
 use Rattle.group_safety.proofs.rollover.EventKinds as kinds
 use Rattle.group_safety.proofs.moves.Carrying.{carried-some, carried-none}
 

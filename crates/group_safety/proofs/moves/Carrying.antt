@@ -33,7 +33,7 @@ use Rattle.group_safety.specs.Transmitting.{transmits, Carries}
 use Rattle.group_safety.proofs.once.Histories.{with_began, with_key}
 use Rattle.group_safety.proofs.rollover.KeyFacts.{transmitting-received, transmitting-last}
 use Rattle.group_safety.proofs.rollover.KeyFacts.{transmits-later}
-use Rattle.group_safety.proofs.rollover.Slots.{NoneHas, AnsDiffer, ans-differ, apart-an}
+use Rattle.group_safety.proofs.rollover.Slots.{NoneHas, AnsDiffer, ans-differ, apart-an, filter-all}
 
 -- ---- changes
 
@@ -288,10 +288,6 @@ module _ (base : ℕ) (h : List Keying) (k : Carried) (p : Key → Bool) (carrie
 
   left-last : ((now left).epoch ≤ base) ⊎ (has_begun h (now left).epoch ≡ true)
   left-last = subst (λ (e : ℕ). (e ≤ base) ⊎ (has_begun h e ≡ true)) (sym left-epoch) carries.last
-
-filter-all : (ks : List Key) → filter (λ k. true) ks ≡ ks
-filter-all [] = refl
-filter-all (k ∷ ks) = ap (λ t. k ∷ t) (filter-all ks)
 
 none-left : (o : Option Key) → kept_one (λ _. true) o ≡ None
 none-left None = refl

@@ -43,7 +43,7 @@ use Rattle.group_safety.proofs.once.Gists.{take-is, reaction-is}
 use Rattle.group_safety.proofs.once.Nexts.{mapped, in-gathered}
 use Rattle.group_safety.proofs.rollover.Turns.{tick-keys, hear-keys, tick-is_turn, hear-is_turn}
 use Rattle.group_safety.proofs.rollover.Turns.{kept-turn}
-use Rattle.group_safety.proofs.rollover.EventKinds.{Kind, IsReached}
+use Rattle.group_safety.proofs.rollover.EventKinds.{Kind}
 use Rattle.group_safety.proofs.rollover.EventKinds as kinds
 use Rattle.group_safety.proofs.moves.Moving.{own-tick, own-reached}
 

@@ -34,8 +34,9 @@ use Rattle.lan_core.specs.Expected.{change_fact, reaction_facts, reached_facts, 
 use Rattle.lan_core.specs.Expected.{claim_fact, number_fact, emit_facts}
 use Rattle.group_safety.specs.Transmitting.{Carried, nothing, now, moves, follow, transmits}
 use Rattle.group_safety.specs.Transmitting.{Carries, CarriesIn, CarriesAt}
-use Rattle.group_safety.proofs.once.Histories.{view-keys}
-use Rattle.group_safety.proofs.once.Nexts.{get-there, mapped}
+use Rattle.group_safety.proofs.once.Histories.{view-keys, keys-new}
+use Rattle.group_safety.proofs.once.Nexts.{get-there, mapped, other-tick, other-restart, claim-life}
+use Rattle.group_safety.proofs.once.Nexts.{emit-life}
 use Rattle.group_safety.proofs.rollover.EventKinds.{Kind, IsReached}
 use Rattle.group_safety.proofs.rollover.EventKinds as kinds
 use Rattle.group_safety.proofs.moves.Carrying.{moved_by, moved_all, goes-dropped}
@@ -103,10 +104,6 @@ reaction-follows t u h n re k =
 
 -- ---- lives
 
-keys-new : (m : Member) → keys_of m [] ≡ []
-unfolding keys_of
-keys-new m = refl
-
 pub begun-some : (settings : Settings) (t : ℕ) (r : Run) (f : List Fact) (p : Profile) (mi : Mi) → drawn_mi f ≡ Some mi
     → begun_life settings t r f p ≡ Some (record { member = record { setup = setup_of settings p; mi = mi; base = length (installs_at t r) }; past = [] })
 begun-some settings t r f p mi is = rw is refl
@@ -154,17 +151,9 @@ pub own-start : (settings : Settings) (t : ℕ) (x : Happening) (r : Run) (name 
 unfolding life
 own-start settings t x r name sci priority ev here = rw ev (rw here refl)
 
-other-tick : (settings : Settings) (t s next : ℕ) (x : Happening) (r : Run) → x.event ≡ events.Tick s next → (s == t) ≡ false → life settings t (x ∷ r) ≡ life settings t r
-unfolding life
-other-tick settings t s next x r ev apart = rw ev (rw apart refl)
-
 pub own-tick : (settings : Settings) (t next : ℕ) (x : Happening) (r : Run) (l : Life) → x.event ≡ events.Tick t next → life settings t r ≡ Some l → life settings t (x ∷ r) ≡ Some (lived l (turn_at_tick settings t r l next (sak_in x.facts)))
 unfolding life
 own-tick settings t next x r l ev living = let y : nat_eq t t ≡ true = eq-eqb t t refl in rw ev (rw (y, living) refl)
-
-other-restart : (settings : Settings) (t s : ℕ) (x : Happening) (r : Run) → x.event ≡ events.Restart s → (s == t) ≡ false → life settings t (x ∷ r) ≡ life settings t r
-unfolding life
-other-restart settings t s x r ev apart = rw ev (rw apart refl)
 
 own-restart : (settings : Settings) (t : ℕ) (x : Happening) (r : Run) (p : Profile) → x.event ≡ events.Restart t → slice_get (stations r) t ≡ Some p → life settings t (x ∷ r) ≡ begun_life settings t r x.facts p
 unfolding life
@@ -181,14 +170,6 @@ own-reached settings t number octets l x r (kinds.delivered f there same ev) liv
     let y : nat_eq t t ≡ true = eq-eqb t t refl in rw ev (rw (y, there, living) (ap (λ o. Some (lived_hearing l o)) same))
 own-reached settings t number octets l x r (kinds.injected zero_is ev) living =
     let y : nat_eq t t ≡ true = eq-eqb t t refl in rw ev (rw (y, living) refl)
-
-claim-life : (settings : Settings) (t : ℕ) (x : Happening) (r : Run) (s user pn : ℕ) → x.event ≡ events.Claim s user pn → life settings t (x ∷ r) ≡ life settings t r
-unfolding life
-claim-life settings t x r s user pn ev = rw ev refl
-
-emit-life : (settings : Settings) (t : ℕ) (x : Happening) (r : Run) → x.event ≡ events.Emit → life settings t (x ∷ r) ≡ life settings t r
-unfolding life
-emit-life settings t x r ev = rw ev refl
 
 claim-follows : (settings : Settings) (t s pn : ℕ) (r : Run) (o : Option Key) (k : Carried) → follow t (claim_fact settings s r pn o ∷ []) k ≡ Some k
 claim-follows settings t s pn r o k = by_test (pn == 0) (λ y. rw y refl) (λ y. rw y (go o))

@@ -1,5 +1,5 @@
 -- A station that has not started claimed nothing and showed nothing.
-use Rattle.std.proofs.Common.{◌≡◌, ◌≢◌, ℕ, ◌≤◌, true, false, cond, List, [], ◌∷◌, ◌++◌, length}
+use Rattle.std.proofs.Common.{◌≡◌, ◌≢◌, ℕ, ◌≤◌, true, false, cond, List, [], ◌∷◌, length}
 use Rattle.std.proofs.Common.{Option, Some, None, refl, sym, ap, ◌∙◌, subst, arith, length-append}
 use Rattle.std.proofs.lemmas.Bool.{ne_eqb}
 use Rattle.std.specs.Prelude.{◌==◌}
@@ -24,7 +24,7 @@ use Rattle.lan_core.specs.Legal.{IsStepped}
 use Rattle.lan_core.specs.Standing.{State, StandsFor}
 use Rattle.group_safety.specs.Transmitting.{nothing, CarriesIn, CarriesAt}
 use Rattle.group_safety.specs.Accounts.{blank, numbers_at, shows_at, account_at}
-use Rattle.group_safety.proofs.once.Nexts.{mapped}
+use Rattle.group_safety.proofs.once.Nexts.{mapped, stations-next}
 use Rattle.group_safety.proofs.rollover.EventKinds.{Kind, kind}
 use Rattle.group_safety.proofs.rollover.EventKinds as kinds
 use Rattle.group_safety.proofs.moves.Known.{there-by}
@@ -98,10 +98,6 @@ else-by settings users r x (events.Claim t user pn) s past is = λ same. let the
 else-by settings users r x events.Emit s past is = tt
 else-by settings users r x (events.Inject t octets) s past is = tt
 
-stations-more : (x : Happening) (r : Run) → stations (x ∷ r) ≡ stations r ++ started x.event
-unfolding stations
-stations-more x r = refl
-
 claims-first : claims [] ≡ []
 unfolding claims
 claims-first = refl
@@ -115,7 +111,7 @@ pub record IsBlank (settings : Settings) (s : ℕ) (r : Run) : Type 0 where
 pub blank-before : (settings : Settings) (users : List UserFrame) (r : Run) (s : ℕ) → IsStepped settings users r → length (stations r) ≤ s → IsBlank settings s r
 blank-before settings users [] s stepped past = record { nexts = λ n. next-first settings s n; numbers = ap (numbers_at s) claims-first; shows = refl }
 blank-before settings users (x ∷ r) s stepped past =
-    let fewer : length (stations r) ≤ s = (let z = ap length (stations-more x r) ∙ length-append (stations r) (started x.event) in omega (arith, z, past)) in
+    let fewer : length (stations r) ≤ s = (let z = ap length (stations-next x r) ∙ length-append (stations r) (started x.event) in omega (arith, z, past)) in
     let b = blank-before settings users r s stepped.1 fewer in
     let a = by-kind settings s r users x.event x.facts (kind settings users x r stepped.0) (else-by settings users r x x.event s fewer stepped.0.in_order.1) in
     record { nexts = λ n. a.nexts n ∙ b.nexts n; numbers = a.numbers ∙ b.numbers; shows = a.shows ∙ b.shows }

@@ -23,25 +23,14 @@ use Rattle.mka_station.specs.Hearing.{take_changes, taken_of, offer_at, answer_a
 use Rattle.lan_core.specs.Order.{most_installs}
 use Rattle.group_safety.specs.Transmitting.{Carried, Carries}
 use Rattle.group_safety.proofs.once.Histories.{with_began, with_key, view-keys, keys-ticked}
-use Rattle.group_safety.proofs.once.Histories.{keys-heard, keys-installed}
+use Rattle.group_safety.proofs.once.Histories.{keys-heard, keys-installed, count-began}
 use Rattle.group_safety.proofs.rollover.Begins.{led-is, making-is, following-is, may}
 use Rattle.group_safety.proofs.rollover.Turns.{tick-keys, hear-keys, tick-is_turn, hear-is_turn}
 use Rattle.group_safety.proofs.rollover.Turns.{kept-turn}
 use Rattle.group_safety.proofs.rollover.Servers.{view-server}
 use Rattle.group_safety.proofs.moves.Carrying.{Goes, goes-on, goes-nowhere, goes-ended}
 use Rattle.group_safety.proofs.moves.Carrying.{goes-begun, goes-key, goes-taken}
-
-kept-before-began : (base : ℕ) (b : Option Beginning) (h : List Keying) → Kept base (with_began b h) → Kept base h
-kept-before-began base None h kept = kept
-kept-before-began base (Some b) h kept = kept.1
-
-kept-before-key : (base : ℕ) (r : Option (List Mi)) (key : Option Key) (h : List Keying) → Kept base (with_key r key h) → Kept base h
-kept-before-key base r None h kept = kept
-kept-before-key base r (Some n) h kept = kept.2
-
-count-began : (b : Option Beginning) (h : List Keying) → install_count (with_began b h) ≡ install_count h
-count-began None h = refl
-count-began (Some b) h = refl
+use Rattle.group_safety.proofs.rollover.Leads.{kept-of-began}
 
 -- the key of a beginning may begin, where the latest key has not begun
 begins-by : (base : ℕ) (h : List Keying) (b : Beginning) → Kept base h → latest h ≡ Some b.key → has_begun h b.key.epoch ≡ false
@@ -110,7 +99,7 @@ hear-stages : (base : ℕ) (h v1 v2 : List Keying) (offer : Option Offer) (answe
     → Goes base (with_began follow (with_key None (key_taken answer) h)) (take_changes v1 offer answer ++ (beginning v2 follow).changes) k
 hear-stages base h v1 v2 offer answer follow k at1 at2 kept room follows both carries =
     let h1 : List Keying = with_key None (key_taken answer) h in
-    let kept1 = kept-before-began base follow h1 kept in
+    let kept1 = kept-of-began base follow h1 kept in
     goes-on base h1 _ (take_changes v1 offer answer) (beginning v2 follow).changes k
     (subst (λ v. Goes base h1 (take_changes v offer answer) k) (sym at1)
     (goes-taken base h offer answer k kept1 (let c = count-began follow h1 in omega (arith, c, room)) both carries))

@@ -6,7 +6,7 @@ use Rattle.peer_lists.specs.Histories.{Peering, last_sent}
 use Rattle.peer_lists.specs.Histories as peers
 use Rattle.peer_lists.specs.declared.heard.Heard.{Heard}
 use Rattle.sak_exchange.specs.declared.held_key.Key.{Key}
-use Rattle.sak_exchange.specs.Histories.{Keying}
+use Rattle.sak_exchange.specs.Histories.{Keying, install_count, made_count}
 use Rattle.sak_exchange.specs.Histories as keys
 use Rattle.sak_exchange.specs.Beginning.{Beginning}
 use Rattle.sak_exchange.specs.Lives.{identifiers}
@@ -136,6 +136,20 @@ pub keys-said : (m : Member) (a : Option Announcement) (p : List Entry)
 unfolding keys_of
 keys-said m None p = refl
 keys-said m (Some a) p = refl
+
+-- a new life has no keys
+pub keys-new : (m : Member) → keys_of m [] ≡ []
+unfolding keys_of
+keys-new m = refl
+
+pub made-began : (b : Option Beginning) (h : List Keying) → made_count (with_began b h) ≡ made_count h
+made-began None h = refl
+made-began (Some b) h = refl
+
+pub count-began : (b : Option Beginning) (h : List Keying)
+    → install_count (with_began b h) ≡ install_count h
+count-began None h = refl
+count-began (Some b) h = refl
 
 pub keys-heard : (m : Member) (a : Announcement) (p : List Entry)
     → keys_of m (heard a ∷ p) ≡ keys_of m p

@@ -1,10 +1,11 @@
 -- The ledgers and the lives of a run after one more event.
 use Rattle.std.proofs.Common.{◌≡◌, ◌≢◌, ◌<◌, ◌≤◌, refl, sym, ap, ◌∙◌, subst, inl, inr, ◌⊎◌, ℕ, zero}
-use Rattle.std.proofs.Common.{suc}
+use Rattle.std.proofs.Common.{suc, false}
 use Rattle.std.proofs.Common.{List, [], ◌∷◌, ◌++◌, length, cond, Option, Some, None, arith}
 use Rattle.std.specs.Prelude.{option_map, option_and_then, slice_get, ◌==◌}
 use Rattle.std.proofs.lemmas.Bool.Decides.{eqb_tells}
 use Rattle.sak_exchange.specs.declared.held_key.Key.{Key}
+use Rattle.lan_core.specs.declared.event.Event.TheVariants as events
 use Rattle.lan_core.specs.declared.fact.Fact.{Fact}
 use Rattle.lan_core.specs.declared.fact.Fact.TheVariants as facts
 use Rattle.lan_core.specs.declared.settings.Settings.{Settings}
@@ -199,3 +200,25 @@ pub chained : {A B : Type 0} (f : A → Option B) (o : Option A) (b : B)
     → (a : A) × (o ≡ Some a) × (f a ≡ Some b)
 chained f None b is = absurd (cc is)
 chained f (Some a) b is = (a, refl, is)
+
+-- ---- lives that an event leaves as they were
+
+pub other-tick : (settings : Settings) (t s next : ℕ) (x : Happening) (r : Run)
+    → x.event ≡ events.Tick s next → (s == t) ≡ false → life settings t (x ∷ r) ≡ life settings t r
+unfolding life
+other-tick settings t s next x r ev apart = rw ev (rw apart refl)
+
+pub other-restart : (settings : Settings) (t s : ℕ) (x : Happening) (r : Run)
+    → x.event ≡ events.Restart s → (s == t) ≡ false → life settings t (x ∷ r) ≡ life settings t r
+unfolding life
+other-restart settings t s x r ev apart = rw ev (rw apart refl)
+
+pub claim-life : (settings : Settings) (t : ℕ) (x : Happening) (r : Run) (s user pn : ℕ)
+    → x.event ≡ events.Claim s user pn → life settings t (x ∷ r) ≡ life settings t r
+unfolding life
+claim-life settings t x r s user pn ev = rw ev refl
+
+pub emit-life : (settings : Settings) (t : ℕ) (x : Happening) (r : Run) → x.event ≡ events.Emit
+    → life settings t (x ∷ r) ≡ life settings t r
+unfolding life
+emit-life settings t x r ev = rw ev refl

@@ -15,7 +15,7 @@ use Rattle.peer_lists.specs.Histories.{last_sent}
 use Rattle.peer_lists.specs.Acceptance.{Accepted}
 use Rattle.sak_exchange.specs.declared.due.Seen.{Seen}
 use Rattle.sak_exchange.specs.declared.held_key.Key.{Key}
-use Rattle.sak_exchange.specs.Histories.{Keying, installed, install_count, made_count}
+use Rattle.sak_exchange.specs.Histories.{Keying, installed}
 use Rattle.sak_exchange.specs.Held.{latest}
 use Rattle.sak_exchange.specs.Lives.{identifiers}
 use Rattle.sak_exchange.specs.Beginning.{Beginning}
@@ -33,7 +33,7 @@ use Rattle.group_safety.proofs.once.Ledgers.{Handed, Made, Book, MayMake, MaySay
 use Rattle.group_safety.proofs.once.Histories.{heard_of, handed, made_of, deeds_of, with_key}
 use Rattle.group_safety.proofs.once.Histories.{with_began, elects, keys-begun, keys-installed}
 use Rattle.group_safety.proofs.once.Histories.{keys-ticked, view-keys, view-peers, sent-before}
-use Rattle.group_safety.proofs.once.Histories.{heard-ticked}
+use Rattle.group_safety.proofs.once.Histories.{heard-ticked, count-began, made-began}
 use Rattle.group_safety.proofs.once.LiveHeard.{live-accepted, accepted-heard}
 use Rattle.group_safety.proofs.once.KeysSound.{AreSound, IsKeyOf, sound-ticked, sound-began}
 use Rattle.group_safety.proofs.once.KeysSound.{sound-made, sound-more, new-key, installed-key}
@@ -88,15 +88,6 @@ turn-changes s m seen sak p =
 
 -- ---- the keys after a tick
 
-made-begun : (b : Option Beginning) (h : List Keying) → made_count (with_began b h) ≡ made_count h
-made-begun None h = refl
-made-begun (Some b) h = refl
-
-installs-begun : (b : Option Beginning) (h : List Keying)
-    → install_count (with_began b h) ≡ install_count h
-installs-begun None h = refl
-installs-begun (Some b) h = refl
-
 ids-begun : (b : Option Beginning) (h : List Keying) → identifiers (with_began b h) ≡ identifiers h
 ids-begun None h = refl
 ids-begun (Some b) h = refl
@@ -138,7 +129,7 @@ made-key-of m p most sak k v secret is =
     record {
       epoch = is.epoch
           ∙ ap (λ (n : ℕ). (m.base + n) + 1)
-          (sym (installs-begun (tick_lead m p) (elects m p ∷ keys_of m p)));
+          (sym (count-began (tick_lead m p) (elects m p ∷ keys_of m p)));
       server = ap (λ (n : Mi). length n.0) is.server ∙ v.mi;
       number = omega (arith, few, most', number);
       sak = subst IsSecret (sym is.same_sak) secret;
@@ -153,7 +144,7 @@ made-sound m seen sak p most k v secret e =
     let is = tick-made m seen sak p k e in
     sound-made m.base m.mi most (tick_roster m p) k (led_keys m p) (led-sound m p most v) is.server
     (is.number
-    ∙ ap (λ (n : ℕ). n + 1) (sym (made-begun (tick_lead m p) (elects m p ∷ keys_of m p))))
+    ∙ ap (λ (n : ℕ). n + 1) (sym (made-began (tick_lead m p) (elects m p ∷ keys_of m p))))
     (made-key-of m p most sak k v secret is)
 
 past-keys : (m : Member) (seen : Seen) (sak : Secret) (p : List Entry)

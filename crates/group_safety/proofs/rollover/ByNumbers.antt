@@ -13,7 +13,7 @@ use Rattle.group_safety.specs.Steady.{Rollover}
 use Rattle.group_safety.proofs.rollover.Course.{Course, IsCourse, Lives, Rests, RestsThrough}
 use Rattle.group_safety.proofs.rollover.Course.{IsRollover, IsListening, IsKeeping, Holds}
 use Rattle.group_safety.proofs.rollover.Course.{SendsUnder}
-use Rattle.group_safety.proofs.rollover.Spans.{by_cases, from_to, clock-append, grown}
+use Rattle.group_safety.proofs.rollover.Spans.{from_to, clock-append, grown}
 use Rattle.group_safety.proofs.rollover.Spans.{grown-quietly}
 use Rattle.group_safety.proofs.rollover.Spans.{clock-rises, rounds-rise, lives-later, rests-part}
 use Rattle.group_safety.proofs.rollover.Spans.{rests-join}
@@ -21,6 +21,7 @@ use Rattle.group_safety.proofs.rollover.KeyFacts.{installed-on, received-install
 use Rattle.group_safety.proofs.rollover.KeyFacts.{old-received, old-is-older, full, begun-at-stays}
 use Rattle.group_safety.proofs.rollover.KeyFacts.{transmitting-received, transmits-later}
 use Rattle.group_safety.proofs.rollover.Young.{IsRecent, recent-on, fresh-of}
+use Rattle.group_safety.proofs.Members.{by_sum}
 
 none-begun : (o : Option ℕ) → is_some o ≡ false → (at : ℕ) → o ≡ Some at → ⊥
 none-begun None none at is = cc (is)
@@ -67,7 +68,7 @@ module _ (c : Course) (o : Rollover) (is : IsCourse c) (R : IsRollover c o) wher
       → clock (c.keys o.server (suc n)) < clock (c.keys o.server (suc o.start)) + retire_time
       → Rests c o.server n
   server-no_make n low high rests soon =
-      by_cases (R.makes n low high) (λ e. e) (λ m.
+      by_sum (R.makes n low high) (λ e. e) (λ m.
       let order = R.order in let within = R.within in
       let g = grown-quietly c o.server (suc o.start) n low rests in
       let h = c.keys o.server (suc o.start) in
@@ -103,7 +104,7 @@ module _ (c : Course) (o : Rollover) (is : IsCourse c) (R : IsRollover c o) wher
       from_to (λ n. RestsThrough c o.server (suc o.start) n) (suc o.start) d low
       (record { on = λ n p l. absurd (omega arith) })
       (λ n p l rests. record {
-        on = λ m a b. by_cases (cases_lt m n) (λ k. rests.on m a k) (λ k.
+        on = λ m a b. by_sum (cases_lt m n) (λ k. rests.on m a k) (λ k.
             let same : m ≡ n = omega arith in
             let rests_here = subst (λ v. RestsThrough c o.server (suc o.start) v) (sym same)
             rests in
@@ -154,7 +155,7 @@ module _ (c : Course) (o : Rollover) (is : IsCourse c) (R : IsRollover c o) wher
   server-rests_until : (d : ℕ) → suc o.made ≤ d → d ≤ c.end → c.waits o.server d ≡ 0
       → c.rounds d < c.rounds (suc o.start) + retire_time → RestsThrough c o.server (suc o.made) d
   server-rests_until d low high idle soon =
-      by_cases (cases_lt o.start d)
+      by_sum (cases_lt o.start d)
       (λ l. rests-join c o.server (suc o.made) (suc o.start) d R.no_makes
       (server-rests d l high (server-clock d l high idle soon)))
       (λ l. rests-part c o.server (suc o.made) (suc o.start) (suc o.made) d (omega arith)
@@ -163,7 +164,7 @@ module _ (c : Course) (o : Rollover) (is : IsCourse c) (R : IsRollover c o) wher
   server-old : (d : ℕ) → suc o.made ≤ d → d ≤ c.end → c.waits o.server d ≡ 0
       → c.rounds d < c.rounds (suc o.start) + retire_time → Holds o.old_id (c.keys o.server d)
   server-old d low high idle soon =
-      by_cases (cases_lt o.start d)
+      by_sum (cases_lt o.start d)
       (λ l. server-old_after d l high (server-clock d l high idle soon))
       (λ l. server-old_before d low (omega arith))
 
@@ -186,7 +187,7 @@ module _ (c : Course) (o : Rollover) (is : IsCourse c) (R : IsRollover c o) wher
   listener-rests : (t sent d : ℕ) → IsListening c o t sent → d ≤ c.end
       → RestsThrough c o.server (suc o.made) d → RestsThrough c t sent d
   listener-rests t sent d L high rests = record {
-    on = λ n p k. by_cases (L.takes n p (omega arith)) (λ e. e)
+    on = λ n p k. by_sum (L.takes n p (omega arith)) (λ e. e)
         (λ m. absurd (m.3 (rests.on m.0 m.1 (omega (arith, m.2)))));
   }
 
@@ -230,7 +231,7 @@ module _ (c : Course) (o : Rollover) (is : IsCourse c) (R : IsRollover c o) wher
       → d ≤ c.end → c.waits t d ≡ 0 → c.rounds d < c.rounds (suc o.start) + retire_time
       → IsFresh (clock (c.keys t d)) (begun_at (c.keys t d) L.new_key.epoch)
   listener-fresh t sent d L low high idle soon =
-      by_cases (cases_lt o.start d)
+      by_sum (cases_lt o.start d)
       (λ l. fresh-of c t L.new_key.epoch (c.rounds (suc o.start)) d
       (listener-recent t sent d L (omega arith) high) idle soon)
       (λ l. unbegun-fresh (clock (c.keys t d)) (begun_at (c.keys t d) L.new_key.epoch)
@@ -301,7 +302,7 @@ module _ (c : Course) (o : Rollover) (is : IsCourse c) (R : IsRollover c o) wher
   server-when : (n : ℕ) → n ≤ c.end → SendsUnder o.old_id (c.keys o.server n) → IsSoon n
   server-when n high under =
       let order = R.order in let within = R.within in
-      by_cases (cases_lt o.start n)
+      by_sum (cases_lt o.start n)
       (λ l. absurd (no-claim o.server (suc o.start) n R.old_key R.new_key l high
       (lives-later c o.server (suc o.made) (suc o.start) (omega arith) R.life) R.old_is R.old_named
       R.new_is
@@ -312,12 +313,12 @@ module _ (c : Course) (o : Rollover) (is : IsCourse c) (R : IsRollover c o) wher
       → SendsUnder o.old_id (c.keys t n) → IsSoon n
   keeper-when t sent n K high under =
       let within = R.within in let before = K.listens.before in let L = K.listens in
-      by_cases (cases_lt n sent)
+      by_sum (cases_lt n sent)
       (λ less. let rise = rounds-rise c n (suc o.start) (omega arith) within is in inl
       (omega arith))
-      (λ more. by_cases (cases_lt (c.rounds (suc o.start) + o.lag) (c.rounds c.end))
+      (λ more. by_sum (cases_lt (c.rounds (suc o.start) + o.lag) (c.rounds c.end))
       (λ late. let b = K.soon late in
-      by_cases (cases_lt b.0 n)
+      by_sum (cases_lt b.0 n)
       (λ less. let g = grown c t (suc b.0) n less high
       (lives-later c t sent (suc b.0) (omega (arith, b.1)) L.life) in
       let begun = begun-stays g.new (c.keys t (suc b.0)) L.new_key.epoch b.3 in
@@ -332,7 +333,7 @@ module _ (c : Course) (o : Rollover) (is : IsCourse c) (R : IsRollover c o) wher
       + retire_time
   soon-enough n d soon high near =
       let short = R.lag_short in
-      by_cases soon
+      by_sum soon
       (λ l. omega arith)
       (λ l. let rise = rounds-rise c d c.end high (omega arith) is in omega arith)
 

@@ -121,7 +121,7 @@ tick-more : (t : Option Bool) (h : List Keying) (k : Key) → Has k (installs (w
 tick-more None h k has begun = (has, begun)
 tick-more (Some s) h k has begun = (has, begun)
 
-kept-of-began : (base : ℕ) (b : Option Beginning) (h : List Keying) → Kept base (with_began b h)
+pub kept-of-began : (base : ℕ) (b : Option Beginning) (h : List Keying) → Kept base (with_began b h)
     → Kept base h
 kept-of-began base None h kept = kept
 kept-of-began base (Some b) h kept = kept.1

@@ -41,7 +41,7 @@ use Rattle.group_safety.specs.Stations.{mi_at, keys_at}
 use Rattle.group_safety.specs.Steady.{Begins, Rollover, IsListener, IsKeeper, IsSteady}
 use Rattle.group_safety.proofs.rollover.Course.{Course, Rests, IsListening, IsKeeping}
 use Rattle.group_safety.proofs.Members.{In, contains-in, all-in, in-map, by_sum}
-use Rattle.group_safety.proofs.once.Histories.{with_began, with_key, view-keys, keys-heard}
+use Rattle.group_safety.proofs.once.Histories.{with_began, with_key, view-keys, keys-heard, count-began}
 use Rattle.group_safety.proofs.rollover.AtMoments.{one-event, upto-whole}
 use Rattle.group_safety.proofs.rollover.KeyFacts.{installed-on, latest-received, received-installed}
 use Rattle.group_safety.proofs.once.Rules.{taking-is}
@@ -384,7 +384,7 @@ module _ (settings : Settings) (users : List UserFrame) (run : Run) (is : IsSett
         (omega arith) o.server m.life_then m.living) in
         let below = installed-upto base h j first before in
         let epoch = (y.0.turn.may_install j puts).0 in
-        let count = Rattle.group_safety.proofs.rollover.Rollovers.count-began y.0.turn.lead
+        let count = count-began y.0.turn.lead
         (with_tick y.0.turn.tick h) ∙ Rattle.group_safety.proofs.rollover.Rollovers.count-tick
         y.0.turn.tick h in
         omega arith

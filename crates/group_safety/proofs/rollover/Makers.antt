@@ -38,6 +38,7 @@ use Rattle.group_safety.proofs.Members.{by_sum}
 use Rattle.group_safety.proofs.once.Living.{IsLiving}
 use Rattle.group_safety.proofs.once.Rules.{given-is, taking-is}
 use Rattle.group_safety.proofs.once.Histories.{with_began, with_key, view-keys, keys-ticked}
+use Rattle.group_safety.proofs.once.Histories.{made-began}
 use Rattle.group_safety.proofs.rollover.Spans.{from_to}
 use Rattle.group_safety.proofs.rollover.AtMoments.{event-at, upto-zero}
 use Rattle.group_safety.proofs.rollover.KeyFacts.{latest-received, received-installed}
@@ -123,10 +124,6 @@ made-more (ticked s ∷ new) h = made-more new h
 made-more (installed None k ∷ new) h = made-more new h
 made-more (installed (Some r) k ∷ new) h = let m = made-more new h in omega arith
 made-more (began e ∷ new) h = made-more new h
-
-made-began : (b : Option Beginning) (h : List Keying) → made_count (with_began b h) ≡ made_count h
-made-began None h = refl
-made-began (Some b) h = refl
 
 number-given : (kek : List ℕ) (k : Key) (s : Secret) → number_of (given_as kek k s) ≡ k.id.number
 number-given kek k (S128 octets) = refl

@@ -42,8 +42,8 @@ use Rattle.lan_core.specs.Expected.{number_fact}
 use Rattle.lan_core.proofs.Public.{gather-unread, gather-reaction}
 use Rattle.group_safety.specs.Stations.{keys_at, keys_of_life}
 use Rattle.group_safety.proofs.once.Histories.{with_began, with_key, view-keys, keys-ticked}
-use Rattle.group_safety.proofs.once.Histories.{keys-heard}
-use Rattle.group_safety.proofs.once.Nexts.{mapped}
+use Rattle.group_safety.proofs.once.Histories.{keys-heard, keys-new}
+use Rattle.group_safety.proofs.once.Nexts.{mapped, other-tick, other-restart, claim-life, emit-life}
 use Rattle.group_safety.proofs.rollover.Turns.{tick-keys, hear-keys}
 use Rattle.group_safety.proofs.rollover.Begins.{making-is}
 use Rattle.group_safety.proofs.rollover.EventKinds.{Kind, IsReached}
@@ -199,10 +199,6 @@ data-stands h None s stands = stands
 data-stands h (Some octets) s stands =
     by_test (is_sec octets) (λ t. rw t (λ an. stands an)) (λ t. rw t stands)
 
-keys-new : (m : Member) → keys_of m [] ≡ []
-unfolding keys_of
-keys-new m = refl
-
 begun-keys : (settings : Settings) (t : ℕ) (r : Run) (f : List Fact) (p : Profile)
     → keys_of_life (begun settings t r f p) ≡ []
 begun-keys settings t r f p = go (drawn_mi f)
@@ -236,16 +232,6 @@ same-keys : (settings : Settings) (t : ℕ) (x : Happening) (r : Run)
     → keys_at settings t (x ∷ r) ≡ keys_at settings t r
 unfolding keys_at
 same-keys settings t x r same = ap keys_of_life same
-
-other-tick : (settings : Settings) (t s next : ℕ) (x : Happening) (r : Run)
-    → x.event ≡ events.Tick s next → (s == t) ≡ false → life settings t (x ∷ r) ≡ life settings t r
-unfolding life
-other-tick settings t s next x r ev apart = rw ev (rw apart refl)
-
-other-restart : (settings : Settings) (t s : ℕ) (x : Happening) (r : Run)
-    → x.event ≡ events.Restart s → (s == t) ≡ false → life settings t (x ∷ r) ≡ life settings t r
-unfolding life
-other-restart settings t s x r ev apart = rw ev (rw apart refl)
 
 other-reached : (settings : Settings) (t s number : ℕ) (octets : List ℕ) (x : Happening) (r : Run)
     → IsReached r x.event s number octets → (s == t) ≡ false
@@ -316,16 +302,6 @@ no-life-keys : (settings : Settings) (t : ℕ) (r : Run)
 unfolding keys_at
 no-life-keys settings t r never =
     by_option (life settings t r) (λ none. ap keys_of_life none) (λ l some. absurd (never l some))
-
-claim-life : (settings : Settings) (t : ℕ) (x : Happening) (r : Run) (s user pn : ℕ)
-    → x.event ≡ events.Claim s user pn → life settings t (x ∷ r) ≡ life settings t r
-unfolding life
-claim-life settings t x r s user pn ev = rw ev refl
-
-emit-life : (settings : Settings) (t : ℕ) (x : Happening) (r : Run) → x.event ≡ events.Emit
-    → life settings t (x ∷ r) ≡ life settings t r
-unfolding life
-emit-life settings t x r ev = rw ev refl
 
 pub on-stands : (settings : Settings) (users : List UserFrame) (x : Happening) (r : Run) (t : ℕ)
     → Kind settings users r x.event x.facts

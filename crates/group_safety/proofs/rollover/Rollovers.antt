@@ -38,6 +38,7 @@ use Rattle.group_safety.proofs.rollover.Course.{IsRollover}
 use Rattle.group_safety.proofs.Members.{contains-in, by_sum}
 use Rattle.group_safety.proofs.once.Living.{IsLiving}
 use Rattle.group_safety.proofs.once.Histories.{with_began, with_key, view-keys, keys-ticked}
+use Rattle.group_safety.proofs.once.Histories.{count-began}
 use Rattle.group_safety.proofs.rollover.Spans.{grown, lives-later, from_to}
 use Rattle.group_safety.proofs.rollover.AtMoments.{one-event}
 use Rattle.group_safety.proofs.rollover.KeyFacts.{installed-on, latest-received, received-installed}
@@ -126,11 +127,6 @@ making-tick m seen sak p h g k t kept makes_k =
     ∙ ap (λ o. with_key t.turn.roster o h2) (t.key_is ∙ makes_k) in
     subst (λ w. latest w ≡ Some k) (sym whole)
     (keys-installed m.base h2 t.turn.roster k (subst (Kept m.base) whole kept)).latest
-
-pub count-began : (b : Option Beginning) (h : List Keying)
-    → install_count (with_began b h) ≡ install_count h
-count-began None h = refl
-count-began (Some b) h = refl
 
 pub count-tick : (t : Option Bool) (h : List Keying)
     → install_count (with_tick t h) ≡ install_count h

@@ -47,14 +47,14 @@ use Rattle.group_safety.proofs.once.Carried.{judged-read, ok-same}
 use Rattle.group_safety.proofs.once.ClaimKept.{protected-is_sec}
 use Rattle.group_safety.proofs.once.ReachKept.{right-some, unforged-repeats}
 use Rattle.group_safety.proofs.once.TickKept.{speaker-of}
-use Rattle.group_safety.proofs.once.Ticking.{said-spells, tick-sound, tick_key, IsReady}
+use Rattle.group_safety.proofs.once.Ticking.{said-spells, tick-sound, tick_key, IsReady, turn-sent}
 use Rattle.group_safety.proofs.once.EventsKeepKnown.{seen-small, tick-gist, drawn-secret}
 use Rattle.group_safety.proofs.once.Gists.{IsGist, installed_at, sent_frame}
 use Rattle.group_safety.proofs.once.Nexts.{in-get, mapped, chained}
 use Rattle.group_safety.proofs.once.LiveHeard.{in-find}
 use Rattle.group_safety.proofs.once.Hearing.{hear-silent}
 use Rattle.group_safety.proofs.rollover.AtMoments.{along, to-upto, length-upto}
-use Rattle.group_safety.proofs.rollover.TurnFacts.{reacts, Reacts, tick-sends}
+use Rattle.group_safety.proofs.rollover.TurnFacts.{reacts, Reacts}
 use Rattle.group_safety.proofs.rollover.TurnFacts as from
 use Rattle.group_safety.proofs.rollover.EventKinds.{Kind, kind, IsReached}
 use Rattle.group_safety.proofs.rollover.EventKinds as kinds
@@ -187,7 +187,7 @@ frames-by settings users r e shown k t sec octets (kinds.ticks s next l ev livin
           (reacts s 0 (next_frame r) (tick_turn l.member seen sak l.past).reaction
           (facts.Framed k t sec octets) j) in
           let m = mapped (frame_of l.member.setup) (says_at l.member seen sak l.past) octets
-          (sym (tick-sends l.member seen sak l.past) ∙ b.2) in
+          (sym (turn-sent l.member seen sak l.past) ∙ b.2) in
           let mine : life settings t r ≡ Some l =
           subst (λ v. life settings v r ≡ Some l) (sym b.1) living in
           says next l m.0 b.0 (ev ∙ ap (λ v. events.Tick v next) (sym b.1)) mine

@@ -162,7 +162,7 @@ stands-installed base h r k s kept stands an =
     (λ e. rw e refl)
     (λ e. rw e (ended-standing base h (keyings.installed r k) s an kept stands))
 
-filter-all : (ks : List Key) → filter (λ k. true) ks ≡ ks
+pub filter-all : (ks : List Key) → filter (λ k. true) ks ≡ ks
 filter-all [] = refl
 filter-all (k ∷ ks) = ap (λ t. k ∷ t) (filter-all ks)
 

@@ -1,5 +1,5 @@
 -- Proofs along moments, and histories that grow.
-use Rattle.std.proofs.Common.{◌≡◌, ◌⊎◌, inl, inr, ℕ, zero, suc, ◌+◌, ◌≤◌, ◌<◌}
+use Rattle.std.proofs.Common.{◌≡◌, ℕ, zero, suc, ◌+◌, ◌≤◌, ◌<◌}
 use Rattle.std.proofs.Common.{List, [], ◌∷◌, ◌++◌, refl, ap, sym, ◌∙◌, subst, arith}
 use Rattle.std.proofs.lemmas.Bool.{cases_lt}
 use Rattle.std.proofs.lemmas.List.{append_assoc}
@@ -7,17 +7,14 @@ use Rattle.sak_exchange.specs.Histories.{Keying, ticked, installed, began, clock
 use Rattle.sak_exchange.specs.Lives.{IsQuiet}
 use Rattle.group_safety.proofs.rollover.Course.{Course, IsCourse, Lives, GrowsQuietly}
 use Rattle.group_safety.proofs.rollover.Course.{RestsThrough}
-
-pub by_cases : {A B P : Type 0} → A ⊎ B → (A → P) → (B → P) → P
-by_cases (inl a) f g = f a
-by_cases (inr b) f g = g b
+use Rattle.group_safety.proofs.Members.{by_sum}
 
 -- what holds at a moment and passes from each to the next holds at every later one
 pub from_to : (P : ℕ → Type 0) (a b : ℕ) → a ≤ b → P a
     → ((n : ℕ) → a ≤ n → n < b → P n → P (suc n)) → P b
 from_to P a zero low begin step = let same : a ≡ zero = omega arith in subst P same begin
 from_to P a (suc b) low begin step =
-    by_cases (cases_lt b a)
+    by_sum (cases_lt b a)
     (λ l. let same : a ≡ suc b = omega arith in subst P same begin)
     (λ l. step b l (omega arith) (from_to P a b l begin (λ n p q. step n p (omega arith))))
 
@@ -85,4 +82,4 @@ rests-part c u a b m n low high rests =
 pub rests-join : (c : Course) (u a b m : ℕ) → RestsThrough c u a b → RestsThrough c u b m
     → RestsThrough c u a m
 rests-join c u a b m r s =
-    record { on = λ n p q. by_cases (cases_lt n b) (λ l. r.on n p l) (λ l. s.on n l q) }
+    record { on = λ n p q. by_sum (cases_lt n b) (λ l. r.on n p l) (λ l. s.on n l q) }

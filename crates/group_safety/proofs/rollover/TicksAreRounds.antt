@@ -14,15 +14,15 @@ use Rattle.group_safety.specs.Rounds.{Pace, Since, places, is_among, counted, wi
 use Rattle.group_safety.specs.Rounds.{between_rounds, ticking, ticking_aside, turn, pace}
 use Rattle.group_safety.specs.Rounds.{rounds_in, rounds}
 use Rattle.group_safety.proofs.rollover.Waits.{bit, has, waits_in, waits, tick_of}
-use Rattle.group_safety.proofs.rollover.Spans.{by_cases}
 use Rattle.group_safety.proofs.rollover.AtMoments.{to-upto}
+use Rattle.group_safety.proofs.Members.{by_sum}
 
 has-place : (u n : ℕ) → u < n → has u (places n) ≡ true
 has-place u zero l = absurd (omega arith)
 has-place u (suc n) l =
     by_test (n == u) (λ e. rw e refl)
     (λ e. let d = eqb-false n u e in
-    rw e (has-place u n (by_cases (cases_lt u n) (λ k. k) (λ k. absurd (d (omega arith))))))
+    rw e (has-place u n (by_sum (cases_lt u n) (λ k. k) (λ k. absurd (d (omega arith))))))
 
 has-filter : (u : ℕ) (p : ℕ → Bool) (us : List ℕ) → has u us ≡ true → p u ≡ true
     → has u (filter p us) ≡ true
@@ -159,7 +159,7 @@ chained-some f (Some a) e = refl
 
 pub paced-tail : (from : Since) (x : Happening) (r : Run) → IsPaced from (x ∷ r) → IsPaced from r
 paced-tail from x r paced =
-    by_cases (cases_lt (length r) from.moment)
+    by_sum (cases_lt (length r) from.moment)
     (λ l. let e = pace-before from r (omega arith) in rw e refl)
     (λ l. chained-some (turn (counted from.out (length (stations r))) x.event) (pace from r)
     (subst (λ (o : Option Pace). is_some o ≡ true) (pace-on from x r l) paced))
@@ -198,7 +198,7 @@ pub step-rises : (from : Since) (x : Happening) (r : Run) → IsPaced from (x �
     → rounds from r ≤ rounds from (x ∷ r)
 unfolding rounds
 step-rises from x r paced =
-    by_cases (cases_lt (length r) from.moment)
+    by_sum (cases_lt (length r) from.moment)
     (λ l. let z = pace-before from r (omega arith) in rw z (omega arith))
     (λ l. let e = pace-on from x r l in
     rw e (turn-rises (counted from.out (length (stations r))) x.event (pace from r)
@@ -234,7 +234,7 @@ pub settled-waits : (from : Since) (u : ℕ) (x : Happening) (r : Run) → Settl
     → waits from u (x ∷ r) ≡ 0
 unfolding waits
 settled-waits from u x r s =
-    by_cases (cases_lt (length r) from.moment)
+    by_sum (cases_lt (length r) from.moment)
     (λ l. let e = pace-early from x r l in rw e refl)
     (λ l. let e = pace-on from x r l in
     rw e (turned-waits u (counted from.out (length (stations r))) x.event (pace from r) s))
@@ -244,7 +244,7 @@ pub idle-before : (from : Since) (u frame t : ℕ) (x : Happening) (r : Run) →
     → IsPaced from (x ∷ r) → waits from u r ≡ 0
 unfolding waits
 idle-before from u frame t x r e paced =
-    by_cases (cases_lt (length r) from.moment)
+    by_sum (cases_lt (length r) from.moment)
     (λ l. let z = pace-before from r (omega arith) in rw z refl)
     (λ l. let p = subst (λ (o : Option Pace). is_some o ≡ true)
     (pace-on from x r l ∙ ap (λ v. option_and_then (turn (counted from.out (length (stations r))) v)

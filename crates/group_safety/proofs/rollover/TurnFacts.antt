@@ -28,8 +28,6 @@ use Rattle.mka_station.specs.Views.{view}
 use Rattle.mka_station.specs.Tick.{tick_turn, led, made, ended, install_changes}
 use Rattle.mka_station.specs.Hearing.{hear_turn, key_taken, take_changes}
 use Rattle.mka_station.specs.Hearing.{offer_at, answer_at, follow_at}
-use Rattle.mka_station.specs.Announcing.{frame_of}
-use Rattle.mka_station.specs.Tick.{says_at}
 use Rattle.lan_core.specs.declared.fact.Fact.{Fact}
 use Rattle.lan_core.specs.declared.fact.Fact.TheVariants as facts
 use Rattle.lan_core.specs.Expected.{change_fact, reaction_facts}
@@ -145,11 +143,6 @@ hear-alters m a p c i =
     (λ b. in-taken v1.keys (offer_at m a p) (answer_at m a p) (follow_at m a p) c b)
     (λ b. in-begun (view m (Rattle.mka_station.specs.Hearing.taken_past m a p)).keys
     (follow_at m a p) (key_taken (answer_at m a p)) c b)
-
-pub tick-sends : (m : Member) (seen : Seen) (sak : Secret) (p : List Entry)
-    → (tick_turn m seen sak p).reaction.sent ≡ option_map (frame_of m.setup) (says_at m seen sak p)
-unfolding tick_turn
-tick-sends m seen sak p = refl
 
 -- ---- by the kind of fact
 

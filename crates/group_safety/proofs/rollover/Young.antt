@@ -5,7 +5,8 @@ use Rattle.lan_base.specs.Timers.{retire_time}
 use Rattle.sak_exchange.specs.Histories.{clock, begun_at}
 use Rattle.sak_exchange.specs.Lives.{IsFresh}
 use Rattle.group_safety.proofs.rollover.Course.{Course, Lives}
-use Rattle.group_safety.proofs.rollover.Spans.{by_cases, from_to, clock-append}
+use Rattle.group_safety.proofs.rollover.Spans.{from_to, clock-append}
+use Rattle.group_safety.proofs.Members.{by_sum}
 
 -- a key began no more ticks ago than so many rounds
 abbrev pub IsRecent : Course → ℕ → ℕ → ℕ → ℕ → Type 0
@@ -22,7 +23,7 @@ recent-on c u e a b since life low high early counted past begin =
     let grows = ap clock s.whole ∙ clock-append s.new (c.keys u n) in
     let timed = s.timed in
     let counts = s.counts (omega arith) counted in
-    by_cases (s.begins e at begun)
+    by_sum (s.begins e at begun)
     (λ before. let r = h at before in omega arith)
     (λ now. let same = now.0 in let idle = now.1 in
     let rise = past n p (omega arith) in omega arith))

@@ -1,10 +1,9 @@
 -- Announcements with their fields in their types: what octets spell, and the octets that are
 -- written.
-use Rattle.std.proofs.Common.{◌≡◌, ◌<◌, ◌≤◌, ◌+◌, ◌-◌, ◌*◌, ◌/◌, ◌%◌, ◌∙◌, ◌^◌, ℕ, zero, suc, Bool, true, false, cond, not, ◌&&◌, ◌||◌, List, [], ◌∷◌, ◌++◌}
-use Rattle.std.proofs.Common.{length, take, drop, replicate, Option, Some, None, Result, Ok, Err, refl, sym, ap, subst, arith, ◌==◌, nat_le}
-use Rattle.std.specs.Prelude.{All, slice_index, option_and_then}
-use Rattle.std.specs.List.{flat_map, list_any}
-use Rattle.std.proofs.lemmas.Bool.{leb-true, and_parts}
+use Rattle.std.proofs.Common.{◌≡◌, ◌<◌, ◌≤◌, ◌+◌, ◌-◌, ◌*◌, ◌/◌, ◌%◌, ◌^◌, ℕ, zero, suc, Bool, true, false, cond, not, ◌&&◌, ◌||◌, List, [], ◌∷◌, ◌++◌}
+use Rattle.std.proofs.Common.{length, drop, replicate, Option, Some, None, refl, subst, arith, ◌==◌}
+use Rattle.std.specs.Prelude.{All}
+use Rattle.std.specs.List.{list_any}
 use Rattle.std.proofs.lemmas.List.{length-append}
 use Rattle.std.proofs.lemmas.List.Elements.{All-nil, All-cons, All-head, All-tail, All-append, All-take, All-drop, All-replicate}
 use Rattle.byteorder.specs.Endian.{big_bytes}
@@ -12,7 +11,6 @@ use Rattle.aes_block.proofs.Public.{All-from_AreOctets}
 use Rattle.byteorder.specs.Numbers.{length-bytes_high_first}
 use Rattle.gcm_core.proofs.Public.{IsOctet, All-bytes}
 use Rattle.gcm_frames.specs.Protected.{IsSci}
-use Rattle.lan_base.specs.declared.address.Mi.{Mi}
 use Rattle.lan_base.specs.declared.association_number.AssociationNumber.{AssociationNumber}
 use Rattle.lan_base.specs.declared.association_number.AssociationNumber.TheVariants.{An0, An1, An2, An3}
 use Rattle.lan_base.specs.AssociationNumbers.{number_of as number_of_an}
@@ -27,7 +25,7 @@ use Rattle.mkpdu_codec.specs.declared.offset.ConfidentialityOffset.TheVariants a
 use Rattle.mkpdu_codec.specs.declared.peer.Peer.{Peer}
 use Rattle.mkpdu_codec.specs.declared.refusal.Refusal.{Refusal}
 use Rattle.mkpdu_codec.specs.declared.refusal.Refusal.TheVariants.{NotMka, Short, Shape, Repeated, Agility}
-use Rattle.mkpdu_codec.specs.Frames.{Frame, Set, Spells, IsSet, covered_octets, SpellsGiven}
+use Rattle.mkpdu_codec.specs.Frames.{Frame, Set, Spells, covered_octets, SpellsGiven}
 use Rattle.mkpdu_codec.specs.Offsets.{offset_bits}
 use Rattle.mkpdu_codec.specs.Refusals.{refused, refused_sets, or_else, is_mka, is_long_enough, is_basic, is_known, is_indicator, is_whole, is_length_of, is_single, front_kind, front_length, front_size, sets_of, others_of, check_place, body_length}
 use Rattle.mkpdu_codec.specs.Sets.{header, set, missing, bit, basic_body, agility, peer, peers_body, use_body, uses_body, use_flags, uses_flags, given_flags, given_body, gcm_aes_256, check_length, distributed_sak, sak_use}

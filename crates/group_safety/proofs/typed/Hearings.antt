@@ -1,6 +1,6 @@
 -- What a station does when it hears a frame, or starts again, has its fields in their types.
-use Rattle.std.proofs.Common.{◌≡◌, ◌<◌, ◌≤◌, ◌+◌, ◌∙◌, ◌^◌, inl, inr, ℕ, Bool, true, false, cond, max, List, [], ◌∷◌, ◌++◌, map, filter}
-use Rattle.std.proofs.Common.{Option, Some, None, Result, Ok, Err, refl, sym, ap, subst, arith, nat_lt, nat_le}
+use Rattle.std.proofs.Common.{◌≡◌, ◌<◌, ◌≤◌, ◌+◌, ◌^◌, inl, inr, ℕ, Bool, true, false, cond, max, List, [], ◌∷◌, filter}
+use Rattle.std.proofs.Common.{Option, Some, None, Result, Ok, Err, refl, sym, subst, arith, nat_lt, nat_le}
 use Rattle.std.specs.List.{list_any}
 use Rattle.std.specs.Prelude.{◌↔◌, ◌||◌, ◌&&◌, length, not, nat_eq, take, option_map, unwrap_or}
 use Rattle.std.specs.Option.{option_or}
@@ -30,14 +30,13 @@ use Rattle.sak_exchange.specs.declared.held_key.Key.{Key}
 use Rattle.sak_exchange.specs.declared.offer.Offer.{Offer}
 use Rattle.sak_exchange.specs.Beginning.{Beginning}
 use Rattle.sak_exchange.specs.Held.{received, allows}
-use Rattle.sak_exchange.specs.Histories.{Keying, ticked as key_ticked, installed as key_installed, began as key_began, installs, install_count}
+use Rattle.sak_exchange.specs.Histories.{Keying, ticked as key_ticked, installed as key_installed, began as key_began, install_count}
 use Rattle.sak_exchange.specs.Outcomes.{beginning}
 use Rattle.sak_exchange.specs.Making.{next_epoch}
 use Rattle.sak_exchange.specs.Taking.{taken, provided, provided_new, unwrapped_key, greatest_of, number_of, is_supported, offset_of, leaves_none}
 use Rattle.sak_exchange.specs.Unwrapping.{given_sak}
 use Rattle.mka_station.specs.declared.verdict.DropReason.{DropReason}
 use Rattle.mka_station.specs.declared.verdict.DropReason.TheVariants as reasons
-use Rattle.mka_station.specs.declared.verdict.Verdict.{Verdict}
 use Rattle.mka_station.specs.declared.verdict.Verdict.TheVariants as verdicts
 use Rattle.mka_station.specs.Hearing.{judged, read_as, of_group, reason_of_refusal, hear_turn, heard_turn, frame_turn, verdict_of, outcome_of, offered, taken_of, take_changes, key_taken, is_accepted, is_listed, offer_at, answer_at, taken_past, follow_at}
 use Rattle.mka_station.specs.Lives.{Setup, Member, Entry, own, told, peers_of, keys_of}
@@ -45,7 +44,7 @@ use Rattle.mka_station.specs.Lives as lives
 use Rattle.mka_station.specs.Restart.{ending, lost_server}
 use Rattle.mka_station.specs.Tick.{with_install, with_beginning}
 use Rattle.mka_station.specs.Views.{View, view, is_server}
-use Rattle.lan_core.specs.Types.{AreOctets, IsMi, IsSecret, IfDrawn}
+use Rattle.lan_core.specs.Types.{AreOctets, IsMi, IfDrawn}
 use Rattle.lan_core.specs.TypedFacts.{IsTypedId, IsTypedWhy, IsTypedReason, IsTypedVerdict}
 use Rattle.group_safety.proofs.Members.{In, in-from_map, in-unfiltered}
 use Rattle.group_safety.proofs.once.Currents.{some-same, none-some}

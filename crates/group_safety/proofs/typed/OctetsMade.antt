@@ -1,12 +1,11 @@
 -- What ciphers make of octets are octets: protected frames, and what is opened of frames.
-use Rattle.std.proofs.Common.{◌≡◌, ◌<◌, ◌≤◌, ◌+◌, ◌∙◌, ◌^◌, ◌==◌, ℕ, zero, suc, Bool, true, false, cond, not, ◌&&◌, List, [], ◌∷◌, ◌++◌}
-use Rattle.std.proofs.Common.{inl, inr, length, take, drop, Option, Some, None, Ok, refl, sym, ap, subst, arith, nat_lt}
-use Rattle.std.specs.Prelude.{All, slice_index, get_or}
+use Rattle.std.proofs.Common.{◌≡◌, ◌<◌, ◌≤◌, ◌+◌, ◌^◌, ℕ, zero, suc, Bool, true, false, cond, not, ◌&&◌, List, [], ◌∷◌, ◌++◌}
+use Rattle.std.proofs.Common.{inl, inr, length, take, drop, Option, Some, None, Ok, refl, subst, arith, nat_lt}
+use Rattle.std.specs.Prelude.{slice_index}
 use Rattle.std.proofs.lemmas.Bool.{ltb-true, ltb-false, cases_lt}
 use Rattle.std.proofs.lemmas.List.{length-append, length-take-le, length-drop, get_or_past}
 use Rattle.std.proofs.lemmas.List.Elements.{All-nil, All-cons, All-head, All-tail, All-append, All-take, All-drop}
-use Rattle.std.specs.Int.{w128, to_be_bytes}
-use Rattle.byteorder.specs.Endian.{big_bytes, big_number, big_from}
+use Rattle.byteorder.specs.Endian.{big_bytes, big_number}
 use Rattle.byteorder.specs.Numbers.{big_from-lt}
 use Rattle.aes_block.specs.Aes.{aes, IsBlock, IsKey}
 use Rattle.aes_block.specs.Octet.{octets_sum}
@@ -22,9 +21,9 @@ use Rattle.gcm_frames.specs.declared.tag.Tag.{Tag}
 use Rattle.gcm_frames.specs.declared.tag.TagRefusal.{TagRefusal}
 use Rattle.gcm_frames.specs.declared.tag.TagRefusal.TheVariants.{NotSec, Version, Mode, Short, SlWrong}
 use Rattle.gcm_frames.specs.Protected.{IsSci, iv, control_octet, short_length, sec_tag, head_octets, sealed_octets, protected}
-use Rattle.gcm_frames.specs.Sealed.{secure_data, enciphered, user_data, deciphered, is_tag_right, opened}
+use Rattle.gcm_frames.specs.Sealed.{secure_data, enciphered, deciphered, is_tag_right, opened}
 use Rattle.gcm_frames.specs.Tags.{refused, is_sec, has_control, has_version, is_mode, is_short, is_length_wrong, has_sci, start_of, short_length_of, sci_of, tag_in, fields_or, tag_fields}
-use Rattle.gcm_frames.proofs.Public.{Encrypts, encrypts as counts_on}
+use Rattle.gcm_frames.proofs.Public.{encrypts as counts_on}
 use Rattle.lan_core.specs.Types.{AreOctets}
 use Rattle.group_safety.proofs.once.Ciphers.{encrypts}
 

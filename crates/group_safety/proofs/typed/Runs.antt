@@ -1,14 +1,13 @@
 -- The facts of a stepped run have their fields in their types.
-use Rattle.std.proofs.Common.{◌≡◌, ◌≢◌, ◌<◌, ◌≤◌, ◌+◌, ◌∙◌, ◌^◌, inl, inr, ◌⊎◌, ℕ, zero, suc, Bool, true, false, cond, List, [], ◌∷◌, ◌++◌, length}
+use Rattle.std.proofs.Common.{◌≡◌, ◌≢◌, ◌<◌, ◌≤◌, ◌+◌, ◌∙◌, ◌^◌, inl, inr, ℕ, Bool, true, false, cond, List, [], ◌∷◌, length}
 use Rattle.std.proofs.Common.{Option, Some, None, Result, Ok, Err, refl, sym, ap, subst, arith, nat_lt}
-use Rattle.std.specs.Prelude.{All, ◌==◌, option_map, option_and_then, slice_get, unwrap_or, replicate}
-use Rattle.std.specs.List.{find}
+use Rattle.std.specs.Prelude.{All, ◌==◌, option_map, option_and_then, slice_get, unwrap_or}
 use Rattle.std.proofs.lemmas.Bool.{eqb-true, eqb-false, eq-eqb, ne_eqb}
 use Rattle.std.proofs.lemmas.List.Elements.{All-nil, All-cons, All-head, All-tail, All-append, All-replicate}
 use Rattle.aes_block.specs.declared.secret.Secret.{Secret}
 use Rattle.aes_block.specs.Secrets.{secret_octets}
 use Rattle.gcm_core.proofs.Public.{IsOctet}
-use Rattle.gcm_frames.specs.Protected.{IsSci, protected}
+use Rattle.gcm_frames.specs.Protected.{IsSci}
 use Rattle.gcm_frames.specs.Tags.{is_sec}
 use Rattle.lan_base.specs.declared.address.Mi.{Mi}
 use Rattle.lan_base.specs.declared.address.Sci.{Sci}
@@ -22,42 +21,37 @@ use Rattle.sak_exchange.specs.declared.due.Seen.{Seen}
 use Rattle.sak_exchange.specs.declared.held_key.Key.{Key}
 use Rattle.sak_exchange.specs.Beginning.{Beginning}
 use Rattle.sak_exchange.specs.Held.{transmitting}
-use Rattle.sak_exchange.specs.Histories.{install_count}
 use Rattle.mka_station.specs.Hearing.{frame_turn, judged, heard_turn, hear_turn, answer_at, follow_at, key_taken}
-use Rattle.mka_station.specs.Lives.{Member, Entry, ticked, sent, heard, peers_of, keys_of}
+use Rattle.mka_station.specs.Lives.{Member, Entry, ticked, heard, peers_of, keys_of}
 use Rattle.mka_station.specs.Restart.{ending}
 use Rattle.mka_station.specs.Tick.{tick_turn, with_sent, with_install, with_beginning}
-use Rattle.mka_station.specs.Views.{view}
 use Rattle.mka_station.specs.declared.verdict.DropReason.{DropReason}
 use Rattle.lan_core.specs.declared.event.Event.{Event}
 use Rattle.lan_core.specs.declared.event.Event.TheVariants as events
 use Rattle.lan_core.specs.declared.fact.Fact.{Fact}
 use Rattle.lan_core.specs.declared.fact.Fact.TheVariants as facts
-use Rattle.lan_core.specs.declared.fact.Lack.{Lack}
 use Rattle.lan_core.specs.declared.fact.Lack.TheVariants.{NoKey, Exhausted}
 use Rattle.lan_core.specs.declared.settings.Settings.{Settings}
-use Rattle.lan_core.specs.Run.{Run, Happening, Profile, happened, stations, started, facts_of}
+use Rattle.lan_core.specs.Run.{Run, Profile, happened, stations, started, facts_of}
 use Rattle.lan_core.specs.Ledgers.{Frame, framed, air, gather, with_one, frame_at, next_frame, installs_at, installs}
-use Rattle.lan_core.specs.Lives.{Life, life, life_after, begun, keys_in, lived, lived_hearing, lived_reached, lived_ticking, receiving, reaches, with_data, heard_data, slot_change, sak_in, no_sak, seen_at, setup_of, drawn_mi, drawn_sak, transmitting_at}
+use Rattle.lan_core.specs.Lives.{Life, life, begun, keys_in, lived, lived_hearing, lived_reached, lived_ticking, receiving, reaches, with_data, slot_change, sak_in, no_sak, seen_at, drawn_mi, drawn_sak, transmitting_at}
 use Rattle.lan_core.specs.Claims.{Waiting, next, claimed, claimed_by, waiting, waiting_under, frame_of_claim, frame_by, user_at}
-use Rattle.lan_core.specs.Counted.{LivesCount}
 use Rattle.lan_core.specs.Expected.{expected, reaction_facts, tick_facts, reached_facts, restart_facts, claim_fact, number_fact, lack, last_number, emit_facts}
 use Rattle.lan_core.specs.Legal.{IsStep, IsStepped}
-use Rattle.lan_core.specs.Order.{ticks, IsOfSuite, IsSendable, IsClaimable}
+use Rattle.lan_core.specs.Order.{ticks, IsOfSuite, IsSendable}
 use Rattle.lan_core.specs.Types.{AreOctets, IsMi, IsSecret, IsUserFrame, IsSetting, IfDrawn}
 use Rattle.lan_core.specs.TypedFacts.{IsTypedFact}
 use Rattle.lan_core.proofs.Public.{mapped, chained, lives-count}
-use Rattle.group_safety.proofs.Members.{In, in-either, in-contains}
+use Rattle.group_safety.proofs.Members.{In, in-either}
 use Rattle.group_safety.proofs.once.Currents.{some-same, none-some}
-use Rattle.group_safety.proofs.once.Histories.{heard_of}
 use Rattle.group_safety.proofs.once.KeysSound.{transmitting-installed}
 use Rattle.group_safety.proofs.once.LiveHeard.{in-find}
 use Rattle.group_safety.proofs.once.Living.{kek-key, ick-key}
-use Rattle.group_safety.proofs.once.Nexts.{in-get, life-next, stations-next, claimed-next}
+use Rattle.group_safety.proofs.once.Nexts.{in-get}
 use Rattle.group_safety.proofs.typed.OctetsMade.{protected-octets}
 use Rattle.group_safety.proofs.typed.Hearings.{Refuses, hearing-typed, ending-typed}
 use Rattle.group_safety.proofs.typed.Slots.{AreReceived, secret-key, answer-typed}
-use Rattle.group_safety.proofs.typed.Turns.{IsTypedKey, AreTyped, IsTypedMember, AllHeard, AreFew, IsTypedTurn, IsTypedReaction, reaction-told, tick-typed}
+use Rattle.group_safety.proofs.typed.Turns.{IsTypedKey, AreTyped, IsTypedMember, AllHeard, AreFew, IsTypedTurn, reaction-told, tick-typed}
 
 -- ---- what holds of a run
 

@@ -1,6 +1,6 @@
 -- What receive slots answer has its fields in their types.
-use Rattle.std.proofs.Common.{◌≡◌, ◌<◌, ◌≤◌, ◌+◌, ◌^◌, inl, inr, ℕ, Bool, true, false, cond, max, not, List, [], ◌∷◌, map, filter}
-use Rattle.std.proofs.Common.{Option, Some, None, Result, Ok, Err, refl, sym, ap, subst, arith}
+use Rattle.std.proofs.Common.{◌≡◌, ◌<◌, ◌≤◌, ◌+◌, ◌^◌, inl, inr, ℕ, Bool, true, false, cond, not, List, [], ◌∷◌, map, filter}
+use Rattle.std.proofs.Common.{Option, Some, None, Result, Ok, Err, refl, sym, subst, arith}
 use Rattle.aes_block.specs.Aes.{IsKey as IsCipherKey}
 use Rattle.aes_block.specs.Secrets.{secret_octets}
 use Rattle.aes_block.specs.declared.secret.Secret.{Secret}
@@ -13,7 +13,6 @@ use Rattle.gcm_frames.specs.declared.tag.Tag.{Tag}
 use Rattle.gcm_frames.specs.declared.tag.TagRefusal.{TagRefusal}
 use Rattle.gcm_frames.specs.Sealed.{opened}
 use Rattle.gcm_frames.specs.Tags.{tag_fields}
-use Rattle.rx_slots.specs.declared.arrival.Arrival.{Arrival}
 use Rattle.rx_slots.specs.declared.arrival.Arrival.TheVariants.{Accepted, Late}
 use Rattle.rx_slots.specs.declared.arrival.Checked.{Checked}
 use Rattle.rx_slots.specs.declared.arrival.Checked.TheVariants as checked_is

@@ -1,8 +1,7 @@
 -- What a station does has its fields in their types.
-use Rattle.std.proofs.Common.{◌≡◌, ◌≢◌, ◌<◌, ◌≤◌, ◌+◌, ◌∙◌, ◌^◌, inl, inr, ℕ, Bool, true, false, cond, max, List, [], ◌∷◌, ◌++◌, map, length, filter, replicate}
-use Rattle.std.proofs.Common.{Option, Some, None, Result, Ok, Err, is_some, refl, sym, ap, subst, arith, nat_lt, nat_le}
-use Rattle.std.specs.Prelude.{All, ◌↔◌, ◌||◌, option_map, option_and_then, option_to_list, unwrap_or}
-use Rattle.std.specs.Option.{option_or}
+use Rattle.std.proofs.Common.{◌≡◌, ◌<◌, ◌≤◌, ◌+◌, ◌∙◌, ◌^◌, inl, inr, ℕ, Bool, true, false, cond, List, [], ◌∷◌, ◌++◌, map, filter, replicate}
+use Rattle.std.proofs.Common.{Option, Some, None, is_some, refl, sym, ap, subst, arith}
+use Rattle.std.specs.Prelude.{All, ◌||◌, option_map, option_to_list}
 use Rattle.std.proofs.lemmas.List.{length-map}
 use Rattle.std.proofs.lemmas.List.Elements.{All-nil, All-cons, All-append, All-take, All-replicate}
 use Rattle.aes_block.specs.Aes.{IsKey as IsCipherKey}
@@ -18,66 +17,48 @@ use Rattle.lan_base.specs.Ranges.{IsCkn}
 use Rattle.mkpdu_codec.specs.declared.announcement.Announcement.{Announcement}
 use Rattle.mkpdu_codec.specs.declared.given.Given.{Given}
 use Rattle.mkpdu_codec.specs.declared.key_use.Uses.{Uses}
-use Rattle.mkpdu_codec.specs.declared.key_use.KeyUse.{KeyUse}
 use Rattle.mkpdu_codec.specs.declared.peer.Peer.{Peer}
-use Rattle.mkpdu_codec.specs.declared.refusal.Refusal.{Refusal}
 use Rattle.mkpdu_codec.specs.declared.refusal.Refusal.TheVariants as refusals
-use Rattle.mkpdu_codec.specs.declared.spelled.Spelled.{Spelled}
-use Rattle.mkpdu_codec.specs.Reading.{reading}
-use Rattle.mkpdu_codec.specs.Refusals.{refused}
 use Rattle.mkpdu_codec.specs.Written.{written}
-use Rattle.mkpdu_codec.proofs.Public.{read_is_spelled}
-use Rattle.peer_lists.specs.declared.heard.Heard.{Heard}
-use Rattle.peer_lists.specs.declared.heard.Outcome.{Outcome}
 use Rattle.peer_lists.specs.declared.heard.Outcome.TheVariants as outcomes
-use Rattle.peer_lists.specs.declared.heard.PeerRefusal.{PeerRefusal}
-use Rattle.peer_lists.specs.declared.heard.PeerRefusal.TheVariants.{Echo, OldNumber, PeersFull}
-use Rattle.peer_lists.specs.Histories.{Peering, clock, recent}
-use Rattle.peer_lists.specs.Acceptance.{Own, Accepted, accepted, refusal, outcome, echo, old_number, peers_full, young_numbers, is_young_of, greatest}
+use Rattle.peer_lists.specs.Histories.{clock}
+use Rattle.peer_lists.specs.Acceptance.{Accepted, accepted}
 use Rattle.server_election.specs.declared.candidate.Candidate.{Candidate}
 use Rattle.server_election.specs.Election.{elected as elected_among, eligible, may_serve, least, first_of, precedes}
-use Rattle.sak_exchange.specs.declared.change.Cause.{Cause}
 use Rattle.sak_exchange.specs.declared.change.Change.{Change}
 use Rattle.sak_exchange.specs.declared.change.Change.TheVariants as changes
-use Rattle.sak_exchange.specs.declared.change.Why.{Why}
 use Rattle.sak_exchange.specs.declared.change.Why.TheVariants as whys
 use Rattle.sak_exchange.specs.declared.due.Seen.{Seen}
 use Rattle.sak_exchange.specs.declared.held_key.Key.{Key}
-use Rattle.sak_exchange.specs.declared.offer.Offer.{Offer}
 use Rattle.sak_exchange.specs.Beginning.{Beginning, retired}
-use Rattle.sak_exchange.specs.Held.{received, latest, old, transmitting, ends, held, is_latest, is_retire_time_ago, allows}
+use Rattle.sak_exchange.specs.Held.{received, latest, old, transmitting, ends, held, is_latest, is_retire_time_ago}
 use Rattle.sak_exchange.specs.Histories.{Keying, ticked as key_ticked, installed as key_installed, began as key_began, installs, install_count, made_count, begun_at}
 use Rattle.sak_exchange.specs.Histories as keying
 use Rattle.sak_exchange.specs.Outcomes.{beginning, installing}
-use Rattle.sak_exchange.specs.Taking.{taken, judged as judged_offer, provided, provided_new, unwrapped_key, greatest_of, number_of, is_supported, offset_of, leaves_none, offered_id}
-use Rattle.sak_exchange.specs.Unwrapping.{given_sak}
 use Rattle.mka_station.specs.declared.reaction.Reaction.{Reaction}
-use Rattle.mka_station.specs.declared.verdict.DropReason.{DropReason}
 use Rattle.mka_station.specs.declared.verdict.DropReason.TheVariants as reasons
 use Rattle.mka_station.specs.declared.verdict.Verdict.{Verdict}
 use Rattle.mka_station.specs.declared.verdict.Verdict.TheVariants as verdicts
-use Rattle.mka_station.specs.Announcing.{peer_of, use_of, uses_of, uses_with, given, given_as, announcement, frame_of, lowest_in, says_now, same_option}
-use Rattle.mka_station.specs.Hearing.{judged, read_as, of_group, reason_of_refusal, hear_turn, heard_turn, frame_turn, verdict_of, outcome_of, offered, taken_of, take_changes, key_taken, is_accepted, offer_at, answer_at, taken_past, follow_at}
-use Rattle.mka_station.specs.Lives.{Setup, Member, Entry, own, told, candidate, candidate_of, live_words, elected_by, peers_of, keys_of}
+use Rattle.mka_station.specs.Announcing.{peer_of, use_of, uses_of, given, given_as, announcement, frame_of, lowest_in, same_option}
+use Rattle.mka_station.specs.Lives.{Member, Entry, own, candidate, candidate_of, live_words, elected_by, peers_of, keys_of}
 use Rattle.mka_station.specs.Lives as lives
-use Rattle.mka_station.specs.Restart.{ending, lost_server}
 use Rattle.mka_station.specs.Tick.{tick_turn, ended, led, made, install_changes, new_server, ticked_past, says_at, roster_at, with_sent, with_install, with_beginning}
 use Rattle.mka_station.specs.Views.{View, view}
 use Rattle.lan_core.specs.declared.fact.Fact.{Fact}
 use Rattle.lan_core.specs.declared.fact.Fact.TheVariants as facts
 use Rattle.lan_core.specs.Expected.{change_fact, reaction_facts}
 use Rattle.lan_core.specs.Types.{AreOctets, IsMi, IsSecret, IfDrawn}
-use Rattle.lan_core.specs.TypedFacts.{IsTypedId, IsTypedWhy, IsTypedReason, IsTypedVerdict, IsTypedFact}
+use Rattle.lan_core.specs.TypedFacts.{IsTypedId, IsTypedWhy, IsTypedVerdict, IsTypedFact}
 use Rattle.group_safety.proofs.Members.{In, in-from_map, in-unfiltered}
 use Rattle.group_safety.proofs.once.Currents.{some-same, none-some}
-use Rattle.group_safety.proofs.once.Histories.{heard_of, view-keys}
+use Rattle.group_safety.proofs.once.Histories.{heard_of, view-keys, keys-said}
 use Rattle.group_safety.proofs.once.LiveHeard.{live-accepted, potential-accepted, accepted-heard, peer-heard}
 use Rattle.group_safety.proofs.once.KeysSound.{received-installed, latest-installed, old-installed}
-use Rattle.group_safety.proofs.once.Rules.{IsMade, made-is, IsTaking, taking-is, given-is, said-now}
-use Rattle.group_safety.proofs.once.Ciphers.{cmac-block, wrapped-octets, unwrapped-secret}
+use Rattle.group_safety.proofs.once.Rules.{made-is, given-is, said-now}
+use Rattle.group_safety.proofs.once.Ciphers.{cmac-block, wrapped-octets}
 use Rattle.group_safety.proofs.once.Frames.{all-from_in, live-few, potential-few}
-use Rattle.group_safety.proofs.rollover.Begins.{led-is, following-is}
-use Rattle.group_safety.proofs.typed.Announced.{IsHeard, IsSaid, IsUse, IsWrap, IsRefusal, spelled-typed, refusal-typed, written-octets}
+use Rattle.group_safety.proofs.rollover.Begins.{led-is}
+use Rattle.group_safety.proofs.typed.Announced.{IsHeard, IsSaid, IsUse, IsWrap, written-octets}
 
 -- ---- keys
 
@@ -410,12 +391,6 @@ past-heard m seen sak p =
     go (Some k) None = refl
     go (Some k) (Some b) = refl
 
-with-sent-keys : (m : Member) (a : Option Announcement) (p : List Entry)
-    → keys_of m (with_sent a p) ≡ keys_of m p
-unfolding keys_of
-with-sent-keys m None p = refl
-with-sent-keys m (Some a) p = refl
-
 with-sent-heard : (a : Option Announcement) (p : List Entry) → heard_of (with_sent a p) ≡ heard_of p
 with-sent-heard None p = refl
 with-sent-heard (Some a) p = refl
@@ -448,7 +423,7 @@ tick-typed m seen sak p is all are secret few = record {
   };
   heard = λ a i. heard_then a (subst (λ w. In a w)
       (with-sent-heard (says_at m seen sak p) (ticked_past m seen sak p)) i);
-  keys = subst AreTyped (sym (with-sent-keys m (says_at m seen sak p) (ticked_past m seen sak p)))
+  keys = subst AreTyped (sym (keys-said m (says_at m seen sak p) (ticked_past m seen sak p)))
       keys_then;
 }
   where
