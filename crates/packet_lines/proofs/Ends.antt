@@ -1,5 +1,5 @@
 -- How telling a file comes to its end.
-use Rattle.std.proofs.Common.{◌≡◌, ℕ, ◌+◌, ◌-◌, ◌<◌, List, [], ◌∷◌, ◌++◌, length, take, Option, Ok, Err, refl, sym, ap, ◌∙◌, subst, append_assoc, length-append, arith, inl, inr}
+use Rattle.std.proofs.Common.{◌≡◌, ℕ, ◌+◌, ◌-◌, List, [], ◌∷◌, ◌++◌, length, take, Option, Ok, Err, refl, sym, ap, ◌∙◌, subst, append_assoc, length-append, arith, inl, inr}
 use Rattle.std.proofs.lemmas.List.{take_all}
 use Rattle.lan_base.specs.Told.{after}
 use Rattle.capture_file.specs.declared.order.Order.{Order}
@@ -12,10 +12,10 @@ use Rattle.packet_lines.specs.declared.end.End.{End}
 use Rattle.packet_lines.specs.declared.end.End.TheVariants.{Refused, Limit, ReadFault, WriteFault, Memory}
 use Rattle.packet_lines.specs.Files.{IsFileBefore, IsHeadCut, IsRecordCut, IsRecordRefused, IsRefusedAt}
 use Rattle.packet_lines.specs.Telling.{EndsTold, IsTakenNear, IsWithinLast, Told, ToldPart, lines}
-use Rattle.packet_lines.specs.inside.Supplying.{Held, IsAtEnd, Stands}
+use Rattle.octet_supply.specs.Supplying.{Held, IsAtEnd, Stands}
 use Rattle.packet_lines.specs.inside.Reading.{IsOpened, IsReadNext, Opens, ReadsNext, Writes, WritesPart}
 use Rattle.packet_lines.proofs.Records.{after-after, after-none, file-more, head-file, lines-and}
-use Rattle.packet_lines.proofs.Supplies.{take-behind, within}
+use Rattle.octet_supply.proofs.Public.{take-behind, within}
 
 -- packets were read of a file, and told
 pub record HasTold (file : List ℕ) (order : Order) (h : Held) (left : Option (List ℕ)) (number : ℕ)
@@ -24,7 +24,7 @@ pub record HasTold (file : List ℕ) (order : Order) (h : Held) (left : Option (
   pub given : List ℕ
   pub is : IsFileOf packets given
   pub order_is : order ≡ is.order
-  pub stands : Stands file given h left
+  pub stands : Stands most_input file given h left
   pub count : number ≡ length packets
   pub told : Told packets held now
 
@@ -82,7 +82,7 @@ open-ends file left held Memory o = inl refl
 
 pub whole-ends : (file : List ℕ) (order : Order) (h : Held) (left left_then : Option (List ℕ)) (number : ℕ)
     (held now : Option (List ℕ)) → (t : HasTold file order h left number held now)
-    → IsAtEnd file t.given left_then → EndsTold file left_then held now (Ok tt)
+    → IsAtEnd most_input file t.given left_then → EndsTold file left_then held now (Ok tt)
 whole-ends file order h left left_then number held now t end =
     (end.within, end.end, (t.packets, subst (λ (l : List ℕ). IsFileOf t.packets l) (sym end.all) t.is, t.told))
 
@@ -165,7 +165,7 @@ read-ends file packet order h new left left_then number held now ReadFault t (be
 )
 read-ends file packet order h new left left_then number held now WriteFault t r = absurd r
 read-ends file packet order h new left left_then number held now Memory t r =
-    let a = within file t.given h left t.stands in
+    let a = within most_input file t.given h left t.stands in
     inr (
       t.packets,
       a.ahead,
@@ -192,7 +192,7 @@ part-told file packet order h new left left_then number next held now then t r i
     let numbered : next ≡ length t.packets + 1 = omega (arith, is, c) in
     let both = lines-and t.packets packet next numbered in
     let line = described next packet in
-    let a = within file (t.given ++ (r.header ++ packet)) new left_then r.stands in
+    let a = within most_input file (t.given ++ (r.header ++ packet)) new left_then r.stands in
     let long = ap length both ∙ length-append (lines t.packets) line in
     let rest : length (lines t.packets) + n - length (lines t.packets) ≡ n = omega arith in
     record {

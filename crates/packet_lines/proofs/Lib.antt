@@ -1,4 +1,3 @@
-pub mod Supplies
 pub mod Records
 pub mod Steps
 pub mod Ends

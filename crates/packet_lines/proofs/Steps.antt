@@ -1,5 +1,5 @@
 -- A head and a record are read of a text.
-use Rattle.std.proofs.Common.{◌≡◌, ◌≢◌, ℕ, ◌<◌, ◌≤◌, false, List, [], ◌++◌, length, take, Option, Some, Result, Ok, Err, refl, sym, ap, ◌∙◌, subst, append_assoc, length-append, arith, inl, inr}
+use Rattle.std.proofs.Common.{◌≡◌, ◌≢◌, ℕ, ◌<◌, ◌≤◌, List, [], ◌++◌, length, take, Option, Result, Ok, Err, refl, sym, ap, ◌∙◌, subst, append_assoc, length-append, arith, inl, inr}
 use Rattle.std.proofs.lemmas.List.{append-nil, take_all}
 use Rattle.lan_base.specs.declared.source.ReadEnd.{ReadEnd}
 use Rattle.lan_base.specs.declared.source.ReadEnd.TheVariants as readings
@@ -10,57 +10,44 @@ use Rattle.capture_file.specs.Pcap.{head_read, kept_read, most_input}
 use Rattle.packet_lines.specs.declared.end.End.{End}
 use Rattle.packet_lines.specs.declared.end.End.TheVariants.{Refused, Limit, ReadFault, WriteFault, Memory}
 use Rattle.packet_lines.specs.Files.{IsHeadCut, IsHeadRefused, IsRecordCut, IsRecordRefused}
-use Rattle.packet_lines.specs.inside.Supplying.{Held, IsAtEnd, IsPast, IsTaken, Stands, Takes}
+use Rattle.octet_supply.specs.Supplying.{Held, IsAtEnd, IsPast, IsTaken, Stands, Takes}
 use Rattle.packet_lines.specs.inside.Reading.{GivesCount, GivesOrder, IsOpened, IsReadNext, Opens, ReadsNext, RefusedNext, end_of}
-use Rattle.packet_lines.proofs.Supplies.{within}
-
--- nothing was given out of a text
-pub stands-new : (text : List ℕ) (left : Option (List ℕ)) → left ≡ Some text
-    → Stands text [] (record { octets = []; given = 0; room = most_input; past = false }) left
-stands-new text left told = record {
-  rest = text;
-  told = told;
-  count = refl;
-  by = (refl, omega arith);
-  lost = [];
-  taken = refl;
-  few = omega arith;
-}
+use Rattle.octet_supply.proofs.Public.{within}
 
 -- ---- the head
 
 pub opens-err : (text into now : List ℕ) (h : Held) (left : Option (List ℕ)) (e : ReadEnd)
-    → Takes text [] 24 into now h left (Err e) → Opens text left (Err (end_of e))
-opens-err text into now h left readings.Limit t = t
-opens-err text into now h left readings.Failed t = t
+    → Takes most_input text [] 24 into now h left (Err e) → Opens text left (Err (end_of e))
+opens-err text into now h left readings.Limit (more, is, less, (stands, past)) = (more, less, past)
+opens-err text into now h left readings.Failed (more, is, less, (stands, taken)) = (more, less, taken)
 opens-err text into now h left readings.Memory t = tt
 
 record IsFront (text octets : List ℕ) (h : Held) (left : Option (List ℕ)) : Type 0 where
   count : length octets ≡ 24
-  stands : Stands text octets h left
+  stands : Stands most_input text octets h left
 
-front-whole : (text octets : List ℕ) (h : Held) (left : Option (List ℕ)) → Takes text [] 24 [] octets h left (Ok tt)
+front-whole : (text octets : List ℕ) (h : Held) (left : Option (List ℕ)) → Takes most_input text [] 24 [] octets h left (Ok tt)
     → 24 ≤ length octets → IsFront text octets h left
-front-whole text octets h left (more, is, inl (count, stands)) enough = record {
+front-whole text octets h left (more, is, (stands, inl count)) enough = record {
   count = ap length is ∙ count;
-  stands = subst (λ (l : List ℕ). Stands text l h left) (sym is) stands;
+  stands = subst (λ (l : List ℕ). Stands most_input text l h left) (sym is) stands;
 }
-front-whole text octets h left (more, is, inr (less, end)) enough =
+front-whole text octets h left (more, is, (stands, inr (less, end))) enough =
     let l = ap length is in absurd (omega (arith, l, less, enough))
 
-front-cut : (text octets : List ℕ) (h : Held) (left : Option (List ℕ)) → Takes text [] 24 [] octets h left (Ok tt)
+front-cut : (text octets : List ℕ) (h : Held) (left : Option (List ℕ)) → Takes most_input text [] 24 [] octets h left (Ok tt)
     → length octets < 24 → (length text ≤ most_input) × IsHeadCut text
-front-cut text octets h left (more, is, inl (count, stands)) less =
+front-cut text octets h left (more, is, (stands, inl count)) less =
     let l = ap length is in absurd (omega (arith, l, less, count))
-front-cut text octets h left (more, is, inr (few, end)) less =
+front-cut text octets h left (more, is, (stands, inr (few, end))) less =
     (end.within, let l = ap length end.all in omega (arith, l, few))
 
 head-refused : (text octets : List ℕ) (h : Held) (left : Option (List ℕ)) (why : CaptureFault)
-    → Takes text [] 24 [] octets h left (Ok tt) → 24 ≤ length octets
+    → Takes most_input text [] 24 [] octets h left (Ok tt) → 24 ≤ length octets
     → head_read (take 24 octets) ≡ Err why → IsHeadRefused (take most_input text) why
 head-refused text octets h left why t enough read =
     let f = front-whole text octets h left t enough in
-    let a = within text octets h left f.stands in
+    let a = within most_input text octets h left f.stands in
     let c = f.count in
     record {
       head = octets;
@@ -71,7 +58,7 @@ head-refused text octets h left why t enough read =
     }
 
 pub opens-refused : (text octets : List ℕ) (h : Held) (left : Option (List ℕ)) (end : End)
-    → Takes text [] 24 [] octets h left (Ok tt) → GivesOrder octets (Err end) → Opens text left (Err end)
+    → Takes most_input text [] 24 [] octets h left (Ok tt) → GivesOrder octets (Err end) → Opens text left (Err end)
 opens-refused text octets h left (Refused at Cut) t (none, less) =
     let f = front-cut text octets h left t less in (f.0, inl (refl, none, f.1))
 opens-refused text octets h left (Refused at Magic) t (none, enough, read) =
@@ -86,7 +73,7 @@ opens-refused text octets h left WriteFault t g = absurd g
 opens-refused text octets h left Memory t g = absurd g
 
 pub opens-ok : (text octets : List ℕ) (h : Held) (left : Option (List ℕ)) (order : Order)
-    → Takes text [] 24 [] octets h left (Ok tt) → GivesOrder octets (Ok order)
+    → Takes most_input text [] 24 [] octets h left (Ok tt) → GivesOrder octets (Ok order)
     → IsOpened text order h left
 opens-ok text octets h left order t (enough, read) =
     let f = front-whole text octets h left t enough in
@@ -101,41 +88,43 @@ opens-ok text octets h left order t (enough, read) =
 -- ---- the header of a record
 
 pub header-err : (text given into now packet : List ℕ) (order : Order) (h new : Held) (left : Option (List ℕ))
-    (e : ReadEnd) → Takes text given 16 into now h left (Err e)
+    (e : ReadEnd) → Takes most_input text given 16 into now h left (Err e)
     → ReadsNext text given order packet new left (Err (end_of e))
-header-err text given into now packet order h new left readings.Limit (more, less, past) = (more, inl less, past)
-header-err text given into now packet order h new left readings.Failed (more, less, taken) = (more, inl less, taken)
+header-err text given into now packet order h new left readings.Limit (more, is, less, (stands, past)) =
+    (more, inl less, past)
+header-err text given into now packet order h new left readings.Failed (more, is, less, (stands, taken)) =
+    (more, inl less, taken)
 header-err text given into now packet order h new left readings.Memory t = tt
 
 pub at-whole : (text given now : List ℕ) (h : Held) (left : Option (List ℕ))
-    → Takes text given 16 [] now h left (Ok tt) → now ≡ [] → IsAtEnd text given left
-at-whole text given now h left (more, is, inl (count, stands)) none =
+    → Takes most_input text given 16 [] now h left (Ok tt) → now ≡ [] → IsAtEnd most_input text given left
+at-whole text given now h left (more, is, (stands, inl count)) none =
     let l = ap length (sym is ∙ none) in absurd (omega (arith, l, count))
-at-whole text given now h left (more, is, inr (less, end)) none =
+at-whole text given now h left (more, is, (stands, inr (less, end))) none =
     let empty : more ≡ [] = sym is ∙ none in
-    subst (λ (l : List ℕ). IsAtEnd text l left)
+    subst (λ (l : List ℕ). IsAtEnd most_input text l left)
     (ap (λ (l : List ℕ). given ++ l) empty ∙ append-nil given) end
 
 pub record HasHeader (text given header : List ℕ) (h : Held) (left : Option (List ℕ)) : Type 0 where
   pub count : length header ≡ 16
-  pub stands : Stands text (given ++ header) h left
+  pub stands : Stands most_input text (given ++ header) h left
 
 pub header-whole : (text given octets : List ℕ) (h : Held) (left : Option (List ℕ))
-    → Takes text given 16 [] octets h left (Ok tt) → 16 ≤ length octets → HasHeader text given octets h left
-header-whole text given octets h left (more, is, inl (count, stands)) enough = record {
+    → Takes most_input text given 16 [] octets h left (Ok tt) → 16 ≤ length octets → HasHeader text given octets h left
+header-whole text given octets h left (more, is, (stands, inl count)) enough = record {
   count = ap length is ∙ count;
-  stands = subst (λ (l : List ℕ). Stands text (given ++ l) h left) (sym is) stands;
+  stands = subst (λ (l : List ℕ). Stands most_input text (given ++ l) h left) (sym is) stands;
 }
-header-whole text given octets h left (more, is, inr (less, end)) enough =
+header-whole text given octets h left (more, is, (stands, inr (less, end))) enough =
     let l = ap length is in absurd (omega (arith, l, less, enough))
 
 header-refused : (text given octets : List ℕ) (order : Order) (h : Held) (left : Option (List ℕ))
-    (why : CaptureFault) → Takes text given 16 [] octets h left (Ok tt) → 16 ≤ length octets
+    (why : CaptureFault) → Takes most_input text given 16 [] octets h left (Ok tt) → 16 ≤ length octets
     → kept_read order (take 16 octets) ≡ Err why
     → (behind : List ℕ) × (take most_input text ≡ given ++ behind) × IsRecordRefused order behind why
 header-refused text given octets order h left why t enough read =
     let f = header-whole text given octets h left t enough in
-    let a = within text (given ++ octets) h left f.stands in
+    let a = within most_input text (given ++ octets) h left f.stands in
     let c = f.count in (
       octets ++ a.ahead,
       a.front ∙ append_assoc given octets a.ahead,
@@ -149,15 +138,15 @@ header-refused text given octets order h left why t enough read =
     )
 
 header-cut : (text given octets : List ℕ) (order : Order) (h : Held) (left : Option (List ℕ))
-    → Takes text given 16 [] octets h left (Ok tt) → octets ≢ [] → length octets < 16
+    → Takes most_input text given 16 [] octets h left (Ok tt) → octets ≢ [] → length octets < 16
     → RefusedNext Cut text given order
-header-cut text given octets order h left (more, is, inl (count, stands)) some less =
+header-cut text given octets order h left (more, is, (stands, inl count)) some less =
     let l = ap length is in absurd (omega (arith, l, less, count))
-header-cut text given octets order h left (more, is, inr (few, end)) some less =
+header-cut text given octets order h left (more, is, (stands, inr (few, end))) some less =
     (end.within, (more, end.all, (λ none. some (is ∙ none)), inl few))
 
 pub next-refused : (text given octets packet : List ℕ) (order : Order) (at : ℕ) (h new : Held)
-    (left : Option (List ℕ)) (end : End) → Takes text given 16 [] octets h left (Ok tt) → octets ≢ []
+    (left : Option (List ℕ)) (end : End) → Takes most_input text given 16 [] octets h left (Ok tt) → octets ≢ []
     → at ≡ length given → GivesCount order at octets (Err end)
     → ReadsNext text given order packet new left (Err end)
 next-refused text given octets packet order at h new left (Refused where_at Cut) t some here (is, less) =
@@ -196,28 +185,28 @@ packet-cut order header more kept count read less = inr (record {
 pub packet-err : (text given header into now packet : List ℕ) (order : Order) (kept : ℕ) (h middle new : Held)
     (left left_then : Option (List ℕ)) (e : ReadEnd) → HasHeader text given header h left
     → kept_read order (take 16 header) ≡ Ok kept
-    → Takes text (given ++ header) kept into now middle left_then (Err e)
+    → Takes most_input text (given ++ header) kept into now middle left_then (Err e)
     → ReadsNext text given order packet new left_then (Err (end_of e))
-packet-err text given header into now packet order kept h middle new left left_then readings.Limit has read (more, less, past) = (
+packet-err text given header into now packet order kept h middle new left left_then readings.Limit has read (more, is, less, (stands, past)) = (
   header ++ more,
   packet-cut order header more kept has.count read less,
-  subst (λ (l : List ℕ). IsPast text l) (append_assoc given header more) past,
+  subst (λ (l : List ℕ). IsPast most_input text l) (append_assoc given header more) past,
 )
-packet-err text given header into now packet order kept h middle new left left_then readings.Failed has read (more, less, taken) = (
+packet-err text given header into now packet order kept h middle new left left_then readings.Failed has read (more, is, less, (stands, taken)) = (
   header ++ more,
   packet-cut order header more kept has.count read less,
-  subst (λ (l : List ℕ). IsTaken text l left_then) (append_assoc given header more) taken,
+  subst (λ (l : List ℕ). IsTaken most_input text l left_then) (append_assoc given header more) taken,
 )
 packet-err text given header into now packet order kept h middle new left left_then readings.Memory has read t = tt
 
 pub packet-short : (text given header now : List ℕ) (order : Order) (kept : ℕ) (h middle : Held)
     (left left_then : Option (List ℕ)) → HasHeader text given header h left
     → kept_read order (take 16 header) ≡ Ok kept
-    → Takes text (given ++ header) kept [] now middle left_then (Ok tt) → length now < kept
+    → Takes most_input text (given ++ header) kept [] now middle left_then (Ok tt) → length now < kept
     → RefusedNext Cut text given order
-packet-short text given header now order kept h middle left left_then has read (more, is, inl (count, stands)) less =
+packet-short text given header now order kept h middle left left_then has read (more, is, (stands, inl count)) less =
     let l = ap length is in absurd (omega (arith, l, less, count))
-packet-short text given header now order kept h middle left left_then has read (more, is, inr (few, end)) less =
+packet-short text given header now order kept h middle left left_then has read (more, is, (stands, inr (few, end))) less =
     let c = has.count in (
       end.within,
       (
@@ -231,17 +220,17 @@ packet-short text given header now order kept h middle left left_then has read (
 pub packet-whole : (text given header now : List ℕ) (order : Order) (kept : ℕ) (h middle : Held)
     (left left_then : Option (List ℕ)) → HasHeader text given header h left
     → kept_read order (take 16 header) ≡ Ok kept
-    → Takes text (given ++ header) kept [] now middle left_then (Ok tt) → kept ≤ length now
+    → Takes most_input text (given ++ header) kept [] now middle left_then (Ok tt) → kept ≤ length now
     → IsReadNext text given order now middle left_then
-packet-whole text given header now order kept h middle left left_then has read (more, is, inl (count, stands)) enough = record {
+packet-whole text given header now order kept h middle left left_then has read (more, is, (stands, inl count)) enough = record {
   header = header;
   count = has.count;
   kept = kept-header order header kept has.count read
       ∙ ap (λ (n : ℕ). Ok n) (sym (ap length is ∙ count));
-  stands = subst (λ (l : List ℕ). Stands text l middle left_then)
+  stands = subst (λ (l : List ℕ). Stands most_input text l middle left_then)
       (append_assoc given header more ∙ ap (λ (l : List ℕ). given ++ (header ++ l)) (sym is)) stands;
 }
-packet-whole text given header now order kept h middle left left_then has read (more, is, inr (less, end)) enough =
+packet-whole text given header now order kept h middle left left_then has read (more, is, (stands, inr (less, end))) enough =
     let l = ap length is in absurd (omega (arith, l, less, enough))
 
 -- ---- reading writes nothing

@@ -4,7 +4,6 @@
 
 mod end;
 mod reader;
-mod supply;
 mod telling;
 
 pub use end::End;

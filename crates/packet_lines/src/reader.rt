@@ -1,16 +1,16 @@
 //! The packets of a file, one after the other.
 
-ghost use Rattle.std.specs.Prelude.{◌≡◌, ◌<◌, ◌≤◌, ◌+◌, ℕ, List, [], Err, IfOk, OnOk, Some, length, true};
+ghost use Rattle.std.specs.Prelude.{◌≡◌, ◌<◌, ◌≤◌, ◌+◌, ◌^◌, ℕ, List, [], Err, IfOk, OnOk, Some, length, true};
 ghost use Rattle.lan_base.specs.Faults.{Rose};
 ghost use Rattle.capture_file.specs.Pcap.{most_input};
 ghost use Rattle.packet_lines.specs.declared.end.End.TheVariants as ends;
 ghost use Rattle.packet_lines.specs.inside.Reading.{GivesCount, GivesOrder, Opens, ReadsNext, seen};
-ghost use Rattle.packet_lines.specs.inside.Supplying.{Stands};
+ghost use Rattle.octet_supply.specs.Supplying.{Stands};
 
 use crate::end::End;
-use crate::supply::Supply;
-use capture_file::{CaptureFault, Order, head, kept};
+use capture_file::{CaptureFault, INPUT_MAX, Order, head, kept};
 use lan_base::Source;
+use octet_supply::Supply;
 use std::alloc::Global;
 
 /// How many octets the head of a file has.
@@ -36,7 +36,7 @@ impl PacketReader {
         ensures unwritten { result ≡ Err ends.WriteFault → ⊥ }
         ensures counts { S.faults source.old ≤ S.faults source.new }
     {
-        let mut supply = Supply::new(alloc);
+        let mut supply = Supply::new(alloc, INPUT_MAX as u32);
         let mut octets = Vec::new(alloc);
         supply.take(HEAD_LEN, source, &mut octets)?;
         let order = order_of(&octets)?;
@@ -46,19 +46,19 @@ impl PacketReader {
     /// Reads the octets of the next packet in place of what the vector has, if there is one.
     pub fn read<S: Source>(&mut self, source: &mut S, packet: &mut Vec<u8>) -> Result<bool, End>
         ensures reads { (text given : List ℕ)
-            → Stands text given self.old.supply (S.left source.old)
+            → Stands most_input text given self.old.supply (S.left source.old)
             → ReadsNext text given self.old.order packet.new.items self.new.supply
             (S.left source.new) result }
         ensures order { self.new.order ≡ self.old.order }
         ensures given { IfOk result (λ has. has ≡ true
             → self.old.supply.given + 16 ≤ self.new.supply.given) }
-        ensures before { self.old.supply.given ≤ most_input }
+        ensures before { self.old.supply.given < 2 ^ 32 }
         ensures failed { result ≡ Err ends.ReadFault
             → Rose (S.faults source.old) (S.faults source.new) }
         ensures unwritten { result ≡ Err ends.WriteFault → ⊥ }
         ensures counts { S.faults source.old ≤ S.faults source.new }
     {
-        let at = self.supply.given() as u32;
+        let at = self.supply.given();
         packet.clear();
         self.supply.take(HEADER_LEN, source, packet)?;
         if packet.is_empty() {

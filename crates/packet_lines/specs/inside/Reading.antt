@@ -13,7 +13,7 @@ use Rattle.packet_lines.specs.declared.end.End.TheVariants.{Refused, Limit, Read
 use Rattle.packet_lines.specs.declared.reader.PacketReader.{PacketReader}
 use Rattle.packet_lines.specs.Files.{IsHeadCut, IsRecordCut, IsRecordRefused}
 use Rattle.packet_lines.specs.Telling.{RefusedBy}
-use Rattle.packet_lines.specs.inside.Supplying.{Held, IsAtEnd, IsPast, IsTaken, Stands}
+use Rattle.octet_supply.specs.Supplying.{Held, IsAtEnd, IsPast, IsTaken, Stands}
 
 abbrev pub end_of : ReadEnd → End
 end_of readings.Limit = Limit
@@ -46,7 +46,7 @@ seen (Err end) = Err end
 pub record IsOpened (text : List ℕ) (order : Order) (h : Held) (left : Option (List ℕ)) : Type 0
   where
     pub head : List ℕ
-    pub stands : Stands text head h left
+    pub stands : Stands most_input text head h left
     pub count : length head ≡ 24
     pub read : head_read head ≡ Ok order
 
@@ -54,8 +54,8 @@ pub record IsOpened (text : List ℕ) (order : Order) (h : Held) (left : Option 
 abbrev pub Opens : List ℕ → Option (List ℕ) → Result (Order × Held) End → Type 0
 Opens text left (Ok reader) = IsOpened text reader.0 reader.1 left
 Opens text left (Err (Refused at why)) = RefusedBy why text [] at
-Opens text left (Err Limit) = (front : List ℕ) × IsHeadCut front × IsPast text front
-Opens text left (Err ReadFault) = (front : List ℕ) × IsHeadCut front × IsTaken text front left
+Opens text left (Err Limit) = (front : List ℕ) × IsHeadCut front × IsPast most_input text front
+Opens text left (Err ReadFault) = (front : List ℕ) × IsHeadCut front × IsTaken most_input text front left
 Opens text left (Err WriteFault) = ⊥
 Opens text left (Err Memory) = ⊤
 
@@ -65,7 +65,7 @@ pub record IsReadNext (text given : List ℕ) (order : Order) (packet : List ℕ
   pub header : List ℕ
   pub count : length header ≡ 16
   pub kept : kept_read order header ≡ Ok (length packet)
-  pub stands : Stands text (given ++ (header ++ packet)) h left
+  pub stands : Stands most_input text (given ++ (header ++ packet)) h left
 
 -- what is behind is no record
 abbrev pub RefusedNext : CaptureFault → List ℕ → List ℕ → Order → Type 0
@@ -78,13 +78,13 @@ RefusedNext why text given order =
 abbrev pub ReadsNext : List ℕ → List ℕ → Order → List ℕ → Held → Option (List ℕ)
     → Result Bool End → Type 0
 ReadsNext text given order packet new left (Ok true) = IsReadNext text given order packet new left
-ReadsNext text given order packet new left (Ok false) = IsAtEnd text given left
+ReadsNext text given order packet new left (Ok false) = IsAtEnd most_input text given left
 ReadsNext text given order packet new left (Err (Refused at why)) =
     (at ≡ length given) × RefusedNext why text given order
 ReadsNext text given order packet new left (Err Limit) =
-    (behind : List ℕ) × IsRecordCut order behind × IsPast text (given ++ behind)
+    (behind : List ℕ) × IsRecordCut order behind × IsPast most_input text (given ++ behind)
 ReadsNext text given order packet new left (Err ReadFault) =
-    (behind : List ℕ) × IsRecordCut order behind × IsTaken text (given ++ behind) left
+    (behind : List ℕ) × IsRecordCut order behind × IsTaken most_input text (given ++ behind) left
 ReadsNext text given order packet new left (Err WriteFault) = ⊥
 ReadsNext text given order packet new left (Err Memory) = ⊤
 

@@ -1,5 +1,4 @@
-use Rattle.std.proofs.Common.{◌≡◌, ◌≤◌, ◌+◌, ◌-◌, ◌*◌, ℕ, List, Some}
-use Rattle.capture_file.specs.Pcap.{most_input}
+use Rattle.std.proofs.Common.{◌≡◌, ◌≤◌, ◌-◌, ◌*◌, ◌^◌, ℕ, List, Some}
 use Rattle.packet_lines.proofs.Ends.{HasTold}
 use Rattle.packet_lines.proofs.telling.dissect.Given as goal
 
@@ -16,4 +15,4 @@ invariant-loop-line g l =
     }
 
 abbrev pub decreases-loop-line : goal.decreases-loop-line
-decreases-loop-line g l = most_input + 1 - l.reader.supply.given
+decreases-loop-line g l = 2 ^ 32 - l.reader.supply.given

@@ -1,0 +1,7 @@
+pub mod Answering
+pub mod Faults
+pub mod InForm
+pub mod Parted
+pub mod Returned
+pub mod KeyText
+mod Examples

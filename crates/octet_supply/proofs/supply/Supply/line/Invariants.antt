@@ -1,0 +1,17 @@
+use Rattle.std.proofs.Common.{◌≤◌, ℕ, List}
+use Rattle.octet_supply.specs.Supplying.{Stands}
+use Rattle.octet_supply.proofs.Supplies.{HasLine}
+use Rattle.octet_supply.proofs.supply.Supply.line.Given as goal
+
+abbrev pub invariant-loop-octet : goal.invariant-loop-octet
+invariant-loop-octet g l =
+    let left = g.S.Source.left in
+    let faults = g.S.Source.faults in
+    record {
+      taken : (limit : ℕ) (text given : List ℕ) → Stands limit text given l.fn.self (left l.fn.source)
+          → HasLine limit text given l.most l.room l.fn.into.items l.into.items l.self (left l.source);
+      counts : faults l.fn.source ≤ faults l.source;
+    }
+
+abbrev pub decreases-loop-octet : goal.decreases-loop-octet
+decreases-loop-octet g l = l.room

@@ -1,0 +1,17 @@
+use Rattle.std.proofs.Common.{◌≡◌, ◌≤◌, ◌-◌, ℕ, List, length}
+use Rattle.octet_supply.specs.Supplying.{Stands}
+use Rattle.octet_supply.proofs.supply.Supply.peek.Given as goal
+
+abbrev pub invariant-loop-self : goal.invariant-loop-self
+invariant-loop-self g l =
+    let left = g.S.Source.left in
+    let faults = g.S.Source.faults in
+    record {
+      stands : (limit : ℕ) (text given : List ℕ) → Stands limit text given l.fn.self (left l.fn.source)
+          → Stands limit text given l.self (left l.source);
+      given : l.self.given ≡ l.fn.self.given;
+      counts : faults l.fn.source ≤ faults l.source;
+    }
+
+abbrev pub decreases-loop-self : goal.decreases-loop-self
+decreases-loop-self g l = l.count - length l.self.octets

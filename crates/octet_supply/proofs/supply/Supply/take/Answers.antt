@@ -1,0 +1,60 @@
+use Rattle.std.proofs.Common.{◌∙◌, ◌++◌, refl, ap, arith, length, take, length-append}
+use Rattle.std.proofs.lemmas.List.{length-take-le}
+use Rattle.std.proofs.lemmas.Result.{err_from_is_err_and}
+use Rattle.octet_supply.proofs.Supplies.{taken-all, taken-end, taken-err, taken-more, taken-none}
+use Rattle.octet_supply.proofs.supply.Supply.take.Goals as goal
+
+pub returns-in_err-has_some-clause-takes : goal.returns-in_err-has_some-clause-takes
+returns-in_err-has_some-clause-takes g c = λ limit text given s.
+    let t = c.loop-wanted.invariant.taken limit text given s in
+    let p = err_from_is_err_and c.from_residual.result c.from_residual.ensures.1 in
+    rw (p.1, p.2) (taken-err limit text given c.args.count c.loop-wanted.wanted c.args.into.now.items
+    c.loop-wanted.into.items c.loop-wanted.self c.has_some.new.self _ _ c.in_err-has_some.field-0.0 t c.loop-wanted-test.true
+    (c.in_err-has_some.ensures.fills limit text (given ++ t.more) t.stands))
+
+pub returns-then-not-branch-clause-takes : goal.returns-then-not-branch-clause-takes
+returns-then-not-branch-clause-takes g c = λ limit text given s.
+    let t = c.loop-wanted.invariant.taken limit text given s in
+    let f = c.in_ok-has_some.ensures.fills limit text (given ++ t.more) t.stands in
+    taken-end limit text given c.args.count c.loop-wanted.wanted c.args.into.now.items
+    c.loop-wanted.into.items c.loop-wanted.self c.has_some.new.self _ _ t c.loop-wanted-test.true
+    (rw c.if-not-branch.true at f)
+
+pub loop-wanted-preserved : goal.loop-wanted-preserved
+loop-wanted-preserved g c =
+    let n = c.in_ok-wanted.field-0 in
+    let k = c.in_ok-wanted.ensures.count in
+    let few = k.2 in
+    let middle = c.has_some.new.self in
+    let i = c.loop-wanted.invariant in
+    let long = ap length c.in_ok-wanted.ensures.appended
+    ∙ length-append c.loop-wanted.into.items (take n middle.octets) in
+    let piece = length-take-le n middle.octets few in
+    let held = ap (λ h. h.given) c.in_ok-wanted.ensures.held in
+    let kept = c.in_ok-has_some.ensures.given in
+    record {
+      taken = λ limit text given s.
+          let t = i.taken limit text given s in
+          let f = c.in_ok-has_some.ensures.fills limit text (given ++ t.more) t.stands in
+          taken-more limit text given c.args.count c.loop-wanted.wanted _ n c.args.into.now.items
+          c.loop-wanted.into.items c.give.new.into.items c.loop-wanted.self _ _ middle
+          c.give.new.self t (rw c.if-not-branch.false at f).0 few k.1 refl
+          c.in_ok-wanted.ensures.appended c.in_ok-wanted.ensures.held;
+      more = let m = i.more in omega (arith, m, long, piece, held, kept);
+      most = let m = i.most in let less = k.1 in omega (arith, m, long, piece, less);
+      counts = let a = i.counts in let b = c.has_some.ensures.counts in omega (arith, a, b);
+    }
+
+pub returns-clause-takes : goal.returns-clause-takes
+returns-clause-takes g c = λ limit text given s.
+    taken-all limit text given c.args.count c.loop-wanted.wanted c.args.into.now.items
+    c.loop-wanted.into.items c.loop-wanted.self _ (c.loop-wanted.invariant.taken limit text given s)
+    c.loop-wanted-test.false
+
+pub loop-wanted-init : goal.loop-wanted-init
+loop-wanted-init g c = record {
+  taken = λ limit text given s. taken-none limit text given _ _ _ _ s;
+  more = refl;
+  most = omega arith;
+  counts = omega arith;
+}

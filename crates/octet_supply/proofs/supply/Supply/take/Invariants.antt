@@ -1,0 +1,19 @@
+use Rattle.std.proofs.Common.{◌≡◌, ◌+◌, ◌≤◌, ℕ, List, length}
+use Rattle.octet_supply.specs.Supplying.{Stands}
+use Rattle.octet_supply.proofs.Supplies.{HasTaken}
+use Rattle.octet_supply.proofs.supply.Supply.take.Given as goal
+
+abbrev pub invariant-loop-wanted : goal.invariant-loop-wanted
+invariant-loop-wanted g l =
+    let left = g.S.Source.left in
+    let faults = g.S.Source.faults in
+    record {
+      taken : (limit : ℕ) (text given : List ℕ) → Stands limit text given l.fn.self (left l.fn.source)
+          → HasTaken limit text given l.fn.count l.wanted l.fn.into.items l.into.items l.self (left l.source);
+      more : l.self.given + length l.fn.into.items ≡ l.fn.self.given + length l.into.items;
+      most : length l.into.items + l.wanted ≤ length l.fn.into.items + l.fn.count;
+      counts : faults l.fn.source ≤ faults l.source;
+    }
+
+abbrev pub decreases-loop-wanted : goal.decreases-loop-wanted
+decreases-loop-wanted g l = l.wanted
