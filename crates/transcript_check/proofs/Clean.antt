@@ -20,7 +20,7 @@ use Rattle.group_safety.proofs.Public.{In, in-contains, in-map, differs-in, same
 use Rattle.lan_core.specs.Counted.{AreCounted}
 use Rattle.transcript_check.specs.declared.named.Named.{Named}
 use Rattle.transcript_check.specs.Judged.{BreaksOnce, BreaksOneKey, fact_at, sak_here, sak_in, Use, use_of, named_by, same_named}
-use Rattle.transcript_check.proofs.Least.{some-same}
+use Rattle.least_pairs.proofs.Public.{some-same}
 use Rattle.transcript_check.proofs.Ends.{some-of}
 use Rattle.transcript_check.proofs.Telling.{named-itself}
 

@@ -1,4 +1,3 @@
-mod Least
 mod Puts
 mod Undone
 mod Ends

@@ -10,7 +10,7 @@ use Rattle.transcript_check.specs.declared.fault.CheckFault.{CheckFault}
 use Rattle.transcript_check.specs.declared.fault.CheckFault.TheVariants.{Unread, Doubled, Orphan}
 use Rattle.transcript_check.specs.Standing.{AreTaken, IsDenied, refusal}
 use Rattle.transcript_check.specs.Transcripts.{AreRead, IsRefused}
-use Rattle.transcript_check.proofs.Least.{some-same}
+use Rattle.least_pairs.proofs.Public.{some-same}
 
 -- what the law of lines gives, as premises
 pub record OneFact : Type 0 where

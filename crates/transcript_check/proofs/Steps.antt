@@ -9,87 +9,19 @@ use Rattle.lan_core.specs.declared.fact.Fact.TheVariants as shows
 use Rattle.transcript_check.specs.declared.named.Named.{Named}
 use Rattle.transcript_check.specs.declared.fault.CheckError.{CheckError}
 use Rattle.transcript_check.specs.declared.fault.CheckFault.TheVariants.{Doubled}
-use Rattle.transcript_check.specs.Judged.{Noted, Breaks, IsJudged, BreaksOnce, BreaksOneKey, fact_at, sak_here, sak_in, Use, use_of, uses, named_by, names, never, same_named, is_missed, missed_in}
-use Rattle.transcript_check.specs.Standing.{Maps, StandsFor, AreSaksOf, IsFound, IsOfEpoch, first_of, line_by, line_of, refusal, no_epoch}
+use Rattle.least_pairs.specs.Pairs.{Noted, Breaks, IsJudged, IsFound, IsOneMore}
+use Rattle.transcript_check.specs.Judged.{BreaksOnce, BreaksOneKey, fact_at, sak_here, sak_in, Use, use_of, uses, named_by, names, never, same_named, is_missed, missed_in}
+use Rattle.transcript_check.specs.Standing.{Maps, StandsFor, AreSaksOf, IsOfEpoch, first_of, line_by, line_of, refusal, no_epoch}
 use Rattle.transcript_check.specs.inside.Steps.{KeyIsPut, UseIsPut, IsNamed, IsUsed, IsInstalled, Installs, Claims, Takes, IsFailed}
-use Rattle.transcript_check.proofs.Least.{some-same, nat_dec, Goes, found-stays, none-stays, broken-now, found-is, found-again, found-first}
+use Rattle.least_pairs.proofs.Public.{Kept, some-same, nat_dec, still, agreeing, first-told, found-stays, broken-now, found-is, found-again, found-first}
 use Rattle.transcript_check.proofs.Ends.{at-last, at-other, goes-by, sak-stays, sak-with, use-stays, missed-more, missed-within}
 use Rattle.transcript_check.proofs.Saks.{saks-put, saks-stay}
 use Rattle.transcript_check.proofs.Telling.{Told, id_dec, use_dec, named-itself, named-joins}
 
--- ---- nothing new is told
-
-module _ (K V : Type 0) (agree : V → V → Bool) where
-  pub quiet : (f g : Noted K V) (n : ℕ) → Goes K V agree f g n None → (o : Option (ℕ × ℕ))
-      → IsJudged (Breaks K V agree f) o → IsJudged (Breaks K V agree g) o
-  quiet f g n go None was = none-stays K V agree f g n None go was (λ a k v w e is. absurd (cc is))
-  quiet f g n go (Some pair) was = found-stays K V agree f g n None go pair was
-
-  pub found-quiet : (f g : Noted K V) (n : ℕ) → Goes K V agree f g n None → (k : K) (o : Option (ℕ × V))
-      → IsFound K V f k o → IsFound K V g k o
-  found-quiet f g n go k o was = found-is K V agree f g n None go k (λ v is. absurd (cc is)) o was
-
-  -- the first that is told of a key
-  pub first-told : (f g : Noted K V) (n : ℕ) (k : K) (v : V) → Goes K V agree f g n (Some (k, v))
-      → IsFound K V f k None → IsJudged (Breaks K V agree f) None
-      → IsJudged (Breaks K V agree g) None
-  first-told f g n k v go none was =
-      none-stays K V agree f g n (Some (k, v)) go was
-      (λ a j u w e is.
-      let same : k ≡ j = ap (λ (p : K × V). p.0) (some-same is) in
-      absurd (none a u (e ∙ ap (λ i. Some (i, u)) (sym same))))
-
-  -- what is told agrees with the first of its key
-  pub agreeing : (joins : (u v w : V) → agree u v ≡ true → agree u w ≡ true → agree v w ≡ true)
-      → (itself : (u v : V) → u ≡ v → agree u v ≡ true)
-      → (f g : Noted K V) (n : ℕ) (k : K) (v : V) → Goes K V agree f g n (Some (k, v))
-      → (nv : ℕ × V) → IsFound K V f k (Some nv) → agree nv.1 v ≡ true
-      → IsJudged (Breaks K V agree f) None → IsJudged (Breaks K V agree g) None
-  agreeing joins itself f g n k v go nv found fits was =
-      none-stays K V agree f g n (Some (k, v)) go was
-      (λ a j u w e is.
-      let key : k ≡ j = ap (λ (p : K × V). p.0) (some-same is) in
-      let told : v ≡ w = ap (λ (p : K × V). p.1) (some-same is) in
-      let here : f a ≡ Some (k, u) = e ∙ ap (λ i. Some (i, u)) (sym key) in
-      joins nv.1 u w (first a u here (nat_dec nv.0 a) (agree nv.1 u) refl)
-      (subst (λ x. agree nv.1 x ≡ true) told fits))
-    where
-      first : (a : ℕ) (u : V) → f a ≡ Some (k, u) → (nv.0 ≡ a) ⊎ (nv.0 ≢ a) → (b : Bool)
-          → agree nv.1 u ≡ b → agree nv.1 u ≡ true
-      first a u here (inl e) b is =
-          itself nv.1 u (ap (λ (p : K × V). p.1)
-          (some-same (sym found.0 ∙ ap f e ∙ here)))
-      first a u here (inr apart) true is = is
-      first a u here (inr apart) false is =
-          let least = found.1 a u here in
-          absurd (was nv.0 a (record {
-            key = k;
-            one = nv.1;
-            other = u;
-            order = omega (arith, least, apart);
-            first = found.0;
-            second = here;
-            apart = is;
-          }))
-
 -- ---- keys
 
--- what stands after a fact for pairs of one kind
-abbrev Kept : (K V : Type 0) → (V → V → Bool) → Noted K V → Option (ℕ × ℕ) → (K → Option (ℕ × V))
-    → Type 0
-Kept K V agree f o found =
-    IsJudged (Breaks K V agree f) o × (o ≡ None → (k : K) → IsFound K V f k (found k))
-
-still : (K V : Type 0) (agree : V → V → Bool) (f g : Noted K V) (n : ℕ) → Goes K V agree f g n None
-    → (o : Option (ℕ × ℕ)) (found : K → Option (ℕ × V)) → Kept K V agree f o found
-    → Kept K V agree g o found
-still K V agree f g n go o found was = (
-  quiet K V agree f g n go o was.0,
-  λ e k. found-quiet K V agree f g n go k (found k) (was.1 e k),
-)
-
 key-found : (number : ℕ) (id : KeyId) (named : Named) (m new : Maps) (f g : Noted KeyId Named) (n : ℕ)
-    → Goes KeyId Named same_named f g n (Some (id, named)) → number ≡ suc n
+    → IsOneMore KeyId Named f g n (Some (id, named)) → number ≡ n
     → KeyIsPut number id named m new → first_of m id ≡ None
     → ((k : KeyId) → IsFound KeyId Named f k (first_of m k))
     → (k : KeyId) → IsFound KeyId Named g k (first_of new k)
@@ -107,7 +39,7 @@ key-found number id named m new f g n go is put none was k = by-key (id_dec k id
         (λ v e. apart (sym (ap (λ (p : KeyId × Named). p.0) (some-same e)))) (first_of m k) (was k))
 
 key-same : (id : KeyId) (named : Named) (nv : ℕ × Named) (m : Maps) (f g : Noted KeyId Named) (n : ℕ)
-    → Goes KeyId Named same_named f g n (Some (id, named))
+    → IsOneMore KeyId Named f g n (Some (id, named))
     → first_of m id ≡ Some nv
     → ((k : KeyId) → IsFound KeyId Named f k (first_of m k))
     → (k : KeyId) → IsFound KeyId Named g k (first_of m k)
@@ -124,7 +56,7 @@ key-same id named nv m f g n go there was k = by-key (id_dec k id)
         (λ v e. apart (sym (ap (λ (p : KeyId × Named). p.0) (some-same e)))) (first_of m k) (was k)
 
 pub key-step : (number : ℕ) (id : KeyId) (named : Named) (m new : Maps) (f g : Noted KeyId Named) (n : ℕ)
-    → Goes KeyId Named same_named f g n (Some (id, named)) → number ≡ suc n
+    → IsOneMore KeyId Named f g n (Some (id, named)) → number ≡ n
     → (o : Option (ℕ × ℕ)) → m.one_key ≡ o → (p : Option (ℕ × Named)) → first_of m id ≡ p
     → IsNamed number id named m new o p
     → Kept KeyId Named same_named f m.one_key (first_of m)
@@ -181,7 +113,7 @@ abbrev the_use : ℕ → ℕ → Secret → Use
 the_use s pn sak = record { station = s; sak = sak; pn = pn }
 
 use-found : (number s pn : ℕ) (sak : Secret) (m new : Maps) (f g : Noted Use (Unit {0})) (n : ℕ)
-    → Goes Use (Unit {0}) never f g n (Some (the_use s pn sak, tt)) → number ≡ suc n
+    → IsOneMore Use (Unit {0}) f g n (Some (the_use s pn sak, tt)) → number ≡ n
     → UseIsPut number s pn sak m new → line_by m s pn sak ≡ None
     → ((k : Use) → IsFound Use (Unit {0}) f k (line_of m k))
     → (k : Use) → IsFound Use (Unit {0}) g k (line_of new k)
@@ -203,7 +135,7 @@ use-found number s pn sak m new f g n go is put none was k = by-key (use_dec k (
         (λ v e. apart (sym (ap (λ (p : Use × Unit {0}). p.0) (some-same e)))) (line_of m k) (was k))
 
 pub use-step : (number s pn : ℕ) (sak : Secret) (m new : Maps) (f g : Noted Use (Unit {0})) (n : ℕ)
-    → Goes Use (Unit {0}) never f g n (Some (the_use s pn sak, tt)) → number ≡ suc n
+    → IsOneMore Use (Unit {0}) f g n (Some (the_use s pn sak, tt)) → number ≡ n
     → (o : Option (ℕ × ℕ)) → m.once ≡ o → (p : Option ℕ) → line_by m s pn sak ≡ p
     → IsUsed number s pn sak m new o p
     → Kept Use (Unit {0}) never f m.once (line_of m)
@@ -246,14 +178,14 @@ abbrev pub with_count : ℕ → Maps → Maps
 with_count n m = record m { count = n }
 
 use-goes : (facts : List Fact) (fact : Fact) (m : Maps) → StandsFor facts m
-    → Goes Use (Unit {0}) never (uses facts) (uses (facts ++ fact ∷ [])) (length facts)
+    → IsOneMore Use (Unit {0}) (uses facts) (uses (facts ++ fact ∷ [])) (suc (length facts))
     (use_of (facts ++ fact ∷ []) fact)
 use-goes facts fact m stands =
     goes-by Use (Unit {0}) never (use_of facts) (use_of (facts ++ fact ∷ [])) facts fact
     (λ k f e. use-stays facts fact f (stands.known k f e))
 
 key-goes : (facts : List Fact) (fact : Fact)
-    → Goes KeyId Named same_named (names facts) (names (facts ++ fact ∷ [])) (length facts) (named_by fact)
+    → IsOneMore KeyId Named (names facts) (names (facts ++ fact ∷ [])) (suc (length facts)) (named_by fact)
 key-goes facts fact = goes-by KeyId Named same_named named_by named_by facts fact (λ k f e. refl)
 
 of-epoch-stays : (facts : List Fact) (fact f : Fact) → IsOfEpoch facts f → IsOfEpoch (facts ++ fact ∷ []) f
@@ -311,13 +243,13 @@ passes facts fact old new number missed stands is no_key no_use no_epoch this co
     })
   where
     kept_uses : Uses (facts ++ fact ∷ []) old
-    kept_uses = still Use (Unit {0}) never (uses facts) (uses (facts ++ fact ∷ [])) (length facts)
-        (subst (λ o. Goes Use (Unit {0}) never (uses facts) (uses (facts ++ fact ∷ [])) (length facts) o)
+    kept_uses = still Use (Unit {0}) never (uses facts) (uses (facts ++ fact ∷ [])) (suc (length facts))
+        (subst (λ o. IsOneMore Use (Unit {0}) (uses facts) (uses (facts ++ fact ∷ [])) (suc (length facts)) o)
         no_use (use-goes facts fact old stands)) old.once (line_of old) (stands.once, stands.uses)
 
     kept_keys : Keys (facts ++ fact ∷ []) old
-    kept_keys = still KeyId Named same_named (names facts) (names (facts ++ fact ∷ [])) (length facts)
-        (subst (λ o. Goes KeyId Named same_named (names facts) (names (facts ++ fact ∷ [])) (length facts) o)
+    kept_keys = still KeyId Named same_named (names facts) (names (facts ++ fact ∷ [])) (suc (length facts))
+        (subst (λ o. IsOneMore KeyId Named (names facts) (names (facts ++ fact ∷ [])) (suc (length facts)) o)
         no_key (key-goes facts fact)) old.one_key (first_of old) (stands.one_key, stands.keys)
 
 -- ---- an install
@@ -386,12 +318,12 @@ installs facts old new number s epoch an id sak stands is free step = record {
     more = omega arith
 
     kept_uses : Uses (facts ++ fact ∷ []) old
-    kept_uses = still Use (Unit {0}) never (uses facts) (uses (facts ++ fact ∷ [])) (length facts)
+    kept_uses = still Use (Unit {0}) never (uses facts) (uses (facts ++ fact ∷ [])) (suc (length facts))
         (use-goes facts fact old stands) old.once (line_of old) (stands.once, stands.uses)
 
     kept_keys : Keys (facts ++ fact ∷ []) new
     kept_keys = key-step number id (record { an = an; sak = sak }) m new (names facts)
-        (names (facts ++ fact ∷ [])) (length facts) (key-goes facts fact) is old.one_key refl
+        (names (facts ++ fact ∷ [])) (suc (length facts)) (key-goes facts fact) is old.one_key refl
         (first_of old id) refl step.names_it (stands.one_key, stands.keys)
 
 -- ---- a claim
@@ -441,13 +373,13 @@ claims facts old new number s an epoch pn sak stands is there step = record {
     uses_this = ap (option_map (λ sak. (the_use s pn sak, tt))) (sak-with facts fact s epoch refl ∙ there)
 
     kept_uses : Uses (facts ++ fact ∷ []) new
-    kept_uses = use-step number s pn sak old new (uses facts) (uses (facts ++ fact ∷ [])) (length facts)
-        (subst (λ o. Goes Use (Unit {0}) never (uses facts) (uses (facts ++ fact ∷ [])) (length facts) o)
+    kept_uses = use-step number s pn sak old new (uses facts) (uses (facts ++ fact ∷ [])) (suc (length facts))
+        (subst (λ o. IsOneMore Use (Unit {0}) (uses facts) (uses (facts ++ fact ∷ [])) (suc (length facts)) o)
         uses_this (use-goes facts fact old stands)) is old.once refl (line_by old s pn sak) refl step
         (stands.once, stands.uses)
 
     kept_keys : Keys (facts ++ fact ∷ []) old
-    kept_keys = still KeyId Named same_named (names facts) (names (facts ++ fact ∷ [])) (length facts)
+    kept_keys = still KeyId Named same_named (names facts) (names (facts ++ fact ∷ [])) (suc (length facts))
         (key-goes facts fact) old.one_key (first_of old) (stands.one_key, stands.keys)
 
 -- ---- any fact

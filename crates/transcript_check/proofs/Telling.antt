@@ -17,7 +17,7 @@ use Rattle.aes_block.specs.declared.secret.Secret.{Secret}
 use Rattle.aes_block.specs.declared.secret.Secret.TheVariants.{S128, S256}
 use Rattle.transcript_check.specs.declared.named.Named.{Named}
 use Rattle.transcript_check.specs.Judged.{Use, same_secret, same_named}
-use Rattle.transcript_check.proofs.Least.{nat_dec, some-same}
+use Rattle.least_pairs.proofs.Public.{nat_dec, some-same}
 
 abbrev pub Told : {A : Type 0} → A → A → Type 0
 Told a b = (a ≡ b) ⊎ (a ≢ b)

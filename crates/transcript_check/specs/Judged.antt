@@ -1,7 +1,8 @@
 -- What a list of facts is judged by: all pairs of them, numbered from 1.
-use Rattle.std.specs.Prelude.{ℕ, zero, suc, ◌≡◌, ◌<◌, ◌≤◌, ◌+◌, ◌==◌, ◌&&◌, nat_eq, Bool, true, false, if◌then◌else◌, List, [], ◌∷◌, slice_get, Option, Some, None, option_map, option_and_then}
+use Rattle.std.specs.Prelude.{ℕ, zero, suc, ◌+◌, ◌==◌, ◌&&◌, nat_eq, Bool, true, false, if◌then◌else◌, List, [], ◌∷◌, slice_get, Option, Some, None, option_map, option_and_then}
 use Rattle.std.specs.Option.{option_or}
 use lib.Pointwise.{pointwise}
+use Rattle.least_pairs.specs.Pairs.{Noted, Breaks}
 use Rattle.lan_base.specs.AssociationNumbers.{same_an}
 use Rattle.transcript.specs.declared.fault.FactError.{FactError}
 use Rattle.transcript.specs.declared.fault.FactError.TheVariants as readings
@@ -19,34 +20,6 @@ use Rattle.lan_core.specs.declared.fact.Fact.TheVariants as shows
 abbrev pub fact_at : List Fact → ℕ → Option Fact
 fact_at facts zero = None
 fact_at facts (suc n) = slice_get facts n
-
--- ---- pairs
-
--- what a fact tells of a key, by its number, if it tells something
-abbrev pub Noted : Type 0 → Type 0 → Type 0
-Noted K V = ℕ → Option (K × V)
-
--- two facts, the earlier first, that tell of one key what does not agree
-pub record Breaks (K V : Type 0) (agree : V → V → Bool) (noted : Noted K V) (earlier later : ℕ) :
-    Type 0 where
-  pub key : K
-  pub one : V
-  pub other : V
-  pub order : earlier < later
-  pub first : noted earlier ≡ Some (key, one)
-  pub second : noted later ≡ Some (key, other)
-  pub apart : agree one other ≡ false
-
--- this pair breaks, none has a less later number, and none with this later number a less earlier
-pub record IsLeast (Broken : ℕ → ℕ → Type 0) (earlier later : ℕ) : Type 0 where
-  pub broken : Broken earlier later
-  pub least : (a b : ℕ) → Broken a b → later ≤ b
-  pub first : (a : ℕ) → Broken a later → earlier ≤ a
-
--- no pair breaks, or this is the least one that does
-abbrev pub IsJudged : (ℕ → ℕ → Type 0) → Option (ℕ × ℕ) → Type 0
-IsJudged Broken None = (a b : ℕ) → Broken a b → ⊥
-IsJudged Broken (Some pair) = IsLeast Broken pair.0 pair.1
 
 -- ---- one use of each packet number
 

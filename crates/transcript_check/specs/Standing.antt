@@ -1,5 +1,5 @@
 -- What the maps say of the facts so far.
-use Rattle.std.specs.Prelude.{ℕ, ◌≡◌, ◌≤◌, List, [], ◌∷◌, ◌++◌, length, Option, Some, None, option_map, option_and_then, IsTrue, is_some}
+use Rattle.std.specs.Prelude.{ℕ, ◌≡◌, List, [], ◌∷◌, ◌++◌, length, Option, Some, None, option_map, option_and_then, IsTrue, is_some}
 use Rattle.std.specs.Map.{lookup}
 use Rattle.std.specs.BTreeMap.{is_at}
 use Rattle.std.specs.Ordering.{nat_cmp, ordering_then}
@@ -18,7 +18,8 @@ use Rattle.transcript_check.specs.declared.named.Named.{Named}
 use Rattle.transcript_check.specs.declared.fault.CheckFault.{CheckFault}
 use Rattle.transcript_check.specs.declared.verdict.Verdict.{Verdict}
 use Rattle.transcript_check.specs.declared.fault.CheckFault.TheVariants.{Unread, Doubled, Orphan}
-use Rattle.transcript_check.specs.Judged.{Noted, IsJudged, BreaksOnce, BreaksOneKey, Use, uses, names, sak_in, fact_at, missed_in}
+use Rattle.least_pairs.specs.Pairs.{IsJudged, IsFound}
+use Rattle.transcript_check.specs.Judged.{BreaksOnce, BreaksOneKey, Use, uses, names, sak_in, fact_at, missed_in}
 
 -- a station and an epoch
 abbrev pub pair_cmp : ℕ × ℕ → ℕ × ℕ → Ordering
@@ -79,12 +80,6 @@ line_by m s pn (S256 octets) = line_at m.wide (s, octets) pn
 
 abbrev pub line_of : Maps → Use → Option (ℕ × Unit {0})
 line_of m u = option_map (λ n. (n, tt)) (line_by m u.station u.pn u.sak)
-
--- what is found under a key is what the first fact of that key tells
-abbrev pub IsFound : (K V : Type 0) → Noted K V → K → Option (ℕ × V) → Type 0
-IsFound K V f k None = (m : ℕ) (v : V) → f m ≡ Some (k, v) → ⊥
-IsFound K V f k (Some nv) =
-    (f nv.0 ≡ Some (k, nv.1)) × ((m : ℕ) (w : V) → f m ≡ Some (k, w) → nv.0 ≤ m)
 
 -- a claim is of an epoch under which its station installed a key
 abbrev pub IsOfEpoch : List Fact → Fact → Type 0

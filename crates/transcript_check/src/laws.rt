@@ -10,7 +10,8 @@ ghost use Rattle.lan_core.specs.Places.{names};
 ghost use Rattle.lan_core.specs.Run.{Run, facts_of};
 ghost use Rattle.transcript.specs.Rendering.{line, IsFact};
 ghost use Rattle.transcript_check.specs.declared.fault.CheckFault.{CheckFault};
-ghost use Rattle.transcript_check.specs.Judged.{IsJudged, BreaksOnce, BreaksOneKey};
+ghost use Rattle.least_pairs.specs.Pairs.{IsJudged};
+ghost use Rattle.transcript_check.specs.Judged.{BreaksOnce, BreaksOneKey};
 ghost use Rattle.transcript_check.specs.Standing.{AreTaken};
 ghost use Rattle.transcript_check.specs.Transcripts.{AreRead, IsRefused};
 

@@ -1,0 +1,4 @@
+mod Least
+mod Verdicts
+mod Examples
+pub mod Public

@@ -1,0 +1,11 @@
+mod Counting
+mod Firsts
+mod Numbers
+mod Judging
+mod Putting
+mod Listing
+mod Fronts
+mod Windows
+mod Orders
+mod Examples
+pub mod Public

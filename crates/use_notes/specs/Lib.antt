@@ -1,0 +1,5 @@
+pub mod Frames
+pub mod Once
+pub mod Uses
+pub mod Standing
+pub mod inside
