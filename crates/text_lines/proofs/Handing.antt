@@ -1,13 +1,14 @@
 -- Lines are handed on one after the other.
-use Rattle.std.proofs.Common.{◌≡◌, ℕ, ◌+◌, ◌<◌, ◌==◌, Bool, true, false, List, [], ◌∷◌, ◌++◌, length}
-use Rattle.std.proofs.Common.{drop, drop-cons, get_or, add-one, refl, sym, ap, ◌∙◌, subst, append_assoc}
-use Rattle.std.specs.Prelude.{cond, Result, Ok, Err}
+use Rattle.std.proofs.Common.{◌≡◌, ℕ, zero, suc, ◌<◌, ◌==◌, Bool, true, false, List, [], ◌∷◌, ◌++◌, length}
+use Rattle.std.proofs.Common.{take, drop, get_or, refl, sym, ap, ◌∙◌, subst, append_assoc, arith}
+use Rattle.std.specs.Prelude.{Result, Ok, Err, IfErr}
+use Rattle.std.proofs.lemmas.List.{append-nil}
 use Rattle.std.specs.Result.{IsErrAnd}
 use Rattle.std.proofs.lemmas.Result.{err_from_is_err_and}
 use Rattle.text_lines.specs.declared.reading.End.{End}
 use Rattle.text_lines.specs.declared.reading.End.TheVariants.{Refused, Memory, ReadFault, Limit}
 use Rattle.text_lines.specs.Texts.{ended, open_line, without_return}
-use Rattle.text_lines.specs.inside.Fed.{Fed}
+use Rattle.text_lines.specs.inside.Fed.{Fed, HasNoFeed}
 
 -- the laws of a taker of lines
 pub record Laws {T E : Type 0} (Did : List (List ℕ) → T → T → Result (Unit {0}) E → Type 0)
@@ -59,64 +60,79 @@ handed-on {E = E} Did lines old new end r d is =
     subst (λ (r : Result (Unit {0}) (End E)). Fed Did lines old new r)
     (sym (p.1 ∙ ap (λ (y : End E). Err y) p.2)) d
 
--- ---- one octet
+-- ---- the first line feed
 
-abbrev pub chosen : Bool → List ℕ → List (List ℕ)
-chosen b carry = cond b (without_return carry ∷ []) []
+other : (x : ℕ) → ((x == 10) ≡ true → ⊥) → (x == 10) ≡ false
+other x never = go (x == 10) refl
+  where
+    go : (b : Bool) → (x == 10) ≡ b → b ≡ false
+    go true e = absurd (never e)
+    go false e = refl
 
-abbrev pub carry_by : Bool → List ℕ → ℕ → List ℕ
-carry_by b carry x = cond b [] (carry ++ x ∷ [])
+first_other : (x : ℕ) (xs : List ℕ) → HasNoFeed (x ∷ xs) → (x == 10) ≡ false
+first_other x xs never = other x (never 0 (omega arith))
 
-one-octet : (b : Bool) (carry : List ℕ) (x : ℕ) (text : List ℕ)
-    → cond b (without_return carry ∷ ended [] text) (ended (carry ++ x ∷ []) text)
-    ≡ chosen b carry ++ ended (carry_by b carry x) text
-one-octet true carry x text = refl
-one-octet false carry x text = refl
+others : (x : ℕ) (xs : List ℕ) → HasNoFeed (x ∷ xs) → HasNoFeed xs
+others x xs never k lt = never (suc k) (omega (arith, lt))
 
-at : (xs : List ℕ) (i : ℕ) → i < length xs → drop i xs ≡ get_or xs i 0 ∷ drop (i + 1) xs
-at xs i lt = rw (add-one, drop-cons xs i 0) refl
+pub ended-at : (begun front rest : List ℕ) → HasNoFeed front
+    → ended begun (front ++ 10 ∷ rest) ≡ without_return (begun ++ front) ∷ ended [] rest
+ended-at begun [] rest never = rw (append-nil begun) refl
+ended-at begun (x ∷ xs) rest never =
+    rw (first_other x xs never) (ended-at (begun ++ x ∷ []) xs rest (others x xs never)
+    ∙ ap (λ (l : List ℕ). without_return l ∷ ended [] rest) (append_assoc begun (x ∷ []) xs))
 
-here : (carry piece : List ℕ) (i : ℕ) → i < length piece → ended carry (drop i piece)
-    ≡ chosen (get_or piece i 0 == 10) carry
-    ++ ended (carry_by (get_or piece i 0 == 10) carry (get_or piece i 0)) (drop (i + 1) piece)
-here carry piece i lt =
-    ap (λ (t : List ℕ). ended carry t) (at piece i lt)
-    ∙ one-octet (get_or piece i 0 == 10) carry (get_or piece i 0) (drop (i + 1) piece)
+pub open-at : (begun front rest : List ℕ) → HasNoFeed front
+    → open_line begun (front ++ 10 ∷ rest) ≡ open_line [] rest
+open-at begun [] rest never = refl
+open-at begun (x ∷ xs) rest never =
+    rw (first_other x xs never) (open-at (begun ++ x ∷ []) xs rest (others x xs never))
+
+pub ended-none : (begun text : List ℕ) → HasNoFeed text → ended begun text ≡ []
+ended-none begun [] never = refl
+ended-none begun (x ∷ xs) never =
+    rw (first_other x xs never) (ended-none (begun ++ x ∷ []) xs (others x xs never))
+
+pub open-none : (begun text : List ℕ) → HasNoFeed text → open_line begun text ≡ begun ++ text
+open-none begun [] never = sym (append-nil begun)
+open-none begun (x ∷ xs) never =
+    rw (first_other x xs never)
+    (open-none (begun ++ x ∷ []) xs (others x xs never) ∙ append_assoc begun (x ∷ []) xs)
+
+-- ---- a line, and what is left behind it
 
 pub feed-step : {T E : Type 0} (Did : List (List ℕ) → T → T → Result (Unit {0}) E → Type 0)
-    (laws : Laws Did) (carry next_carry piece : List ℕ) (i : ℕ) (whole : List (List ℕ))
-    (old now next : T) → i < length piece
-    → next_carry ≡ carry_by (get_or piece i 0 == 10) carry (get_or piece i 0)
-    → Leads Did whole old (ended carry (drop i piece)) now
-    → Fed Did (chosen (get_or piece i 0 == 10) carry) now next (Ok tt)
-    → Leads Did whole old (ended next_carry (drop (i + 1) piece)) next
-feed-step Did laws carry next_carry piece i whole old now next lt is l d = record {
+    (laws : Laws Did) (begun text front rest : List ℕ) (whole : List (List ℕ))
+    (old now next : T) → text ≡ front ++ 10 ∷ rest → HasNoFeed front
+    → Leads Did whole old (ended begun text) now
+    → Fed Did (without_return (begun ++ front) ∷ []) now next (Ok tt)
+    → Leads Did whole old (ended [] rest) next
+feed-step Did laws begun text front rest whole old now next parts never l d = record {
   leads = λ new r f. l.leads new r (subst (λ (lines : List (List ℕ)). Fed Did lines now new r)
-      (sym (here carry piece i lt))
-      (fed-then Did laws now next new _ _ r d
-      (subst (λ (c : List ℕ). Fed Did (ended c (drop (i + 1) piece)) next new r) is f)));
+      (sym (ap (ended begun) parts ∙ ended-at begun front rest never))
+      (fed-then Did laws now next new _ _ r d f));
 }
 
 pub feed-err : {T E : Type 0} (Did : List (List ℕ) → T → T → Result (Unit {0}) E → Type 0)
-    (laws : Laws Did) (carry piece : List ℕ) (i : ℕ) (whole : List (List ℕ))
-    (old now next : T) (end : End E) → i < length piece
-    → Leads Did whole old (ended carry (drop i piece)) now
-    → Fed Did (chosen (get_or piece i 0 == 10) carry) now next (Err end)
+    (laws : Laws Did) (begun text front rest : List ℕ) (whole : List (List ℕ))
+    (old now next : T) (end : End E) → text ≡ front ++ 10 ∷ rest → HasNoFeed front
+    → Leads Did whole old (ended begun text) now
+    → Fed Did (without_return (begun ++ front) ∷ []) now next (Err end)
     → Fed Did whole old next (Err end)
-feed-err Did laws carry piece i whole old now next end lt l d =
+feed-err Did laws begun text front rest whole old now next end parts never l d =
     l.leads next (Err end) (subst (λ (lines : List (List ℕ)). Fed Did lines now next (Err end))
-    (sym (here carry piece i lt)) (fed-early Did laws now next _ _ end d))
+    (sym (ap (ended begun) parts ∙ ended-at begun front rest never))
+    (fed-early Did laws now next _ _ end d))
 
-open_line-one : (b : Bool) (carry : List ℕ) (x : ℕ) (text : List ℕ)
-    → (cond b (open_line [] text) (open_line (carry ++ x ∷ []) text))
-    ≡ open_line (carry_by b carry x) text
-open_line-one true carry x text = refl
-open_line-one false carry x text = refl
-
-pub open_line-step : (carry next_carry piece whole : List ℕ) (i : ℕ) → i < length piece
-    → next_carry ≡ carry_by (get_or piece i 0 == 10) carry (get_or piece i 0)
-    → whole ≡ open_line carry (drop i piece) → whole ≡ open_line next_carry (drop (i + 1) piece)
-open_line-step carry next_carry piece whole i lt is e =
-    e ∙ ap (λ (t : List ℕ). open_line carry t) (at piece i lt)
-    ∙ open_line-one (get_or piece i 0 == 10) carry (get_or piece i 0) (drop (i + 1) piece)
-    ∙ ap (λ (c : List ℕ). open_line c (drop (i + 1) piece)) (sym is)
+-- nothing is handed on of octets without a line feed
+pub feed-rest : {T E : Type 0} (Did : List (List ℕ) → T → T → Result (Unit {0}) E → Type 0)
+    (laws : Laws Did) (begun text : List ℕ) (whole : List (List ℕ)) (old now : T)
+    (r : Result (Unit {0}) (End E)) → HasNoFeed text → Leads Did whole old (ended begun text) now
+    → IfErr r (λ end. end ≡ Memory) → Fed Did whole old now r
+feed-rest {E = E} Did laws begun text whole old now r never l memory =
+    l.leads now r (subst (λ (lines : List (List ℕ)). Fed Did lines now now r)
+    (sym (ended-none begun text never)) (go r memory))
+  where
+    go : (r : Result (Unit {0}) (End E)) → IfErr r (λ end. end ≡ Memory) → Fed Did [] now now r
+    go (Ok done) m = laws.none now
+    go (Err end) m = rw m (record { front = []; rest = []; parts = refl; did = laws.none now })

@@ -1,8 +1,12 @@
 -- What was handed on of lines.
-use Rattle.std.specs.Prelude.{ℕ, List, Result, Ok, Err}
+use Rattle.std.specs.Prelude.{ℕ, ◌==◌, ◌≡◌, ◌<◌, true, List, length, slice_index, Result, Ok, Err}
 use Rattle.text_lines.specs.declared.reading.End.{End}
 use Rattle.text_lines.specs.declared.reading.End.TheVariants.{Refused, Memory, ReadFault, Limit}
 use Rattle.text_lines.specs.Reading.{TookFront}
+
+-- no octet is a line feed
+abbrev pub HasNoFeed : List ℕ → Type 0
+HasNoFeed octets = (k : ℕ) → k < length octets → (slice_index octets k == 10) ≡ true → ⊥
 
 -- lines were handed on, and the taker took them, or refused one; or no memory was left
 abbrev pub Fed : {T E : Type 0} → (List (List ℕ) → T → T → Result (Unit {0}) E → Type 0)
