@@ -1,10 +1,12 @@
 -- The first word of a line.
 use Rattle.std.proofs.Common.{◌≡◌, ℕ, suc, ◌+◌, ◌<◌, ◌≤◌, Bool, true, false, List, [], ◌∷◌, length, take, drop, get_or, refl, sym, ap, ◌∙◌, arith, length-drop}
-use Rattle.std.specs.Prelude.{not, nat_lt, nat_eq, filter, Some, None, if◌then◌else◌}
+use Rattle.std.specs.Prelude.{not, nat_lt, nat_eq, filter, Option, Some, None, if◌then◌else◌}
 use Rattle.std.specs.Option.{unwrap_or}
 use Rattle.std.specs.List.{slice_split, onto_first, position_or_len}
 use Rattle.std.proofs.lemmas.List.Splits.{slice_split-cons_yes, slice_split-cons_no}
 use Rattle.std.proofs.lemmas.Bool.Decides.{nat_tests}
+use Rattle.std.proofs.lemmas.List.Sums.{position_or_len_is}
+use Rattle.memchr.specs.Find.{IsFirstByte}
 use Rattle.trace_text.specs.Words.{is_blank, words_of}
 
 abbrev pub kept : List (List ℕ) → List (List ℕ)
@@ -128,6 +130,18 @@ position_or_len-le p (x ∷ xs) = le_step p x xs (position_or_len-le p xs) (p x)
 -- the first place that passes, or the length
 pub counted : (p : ℕ → Bool) (xs : List ℕ) → unwrap_or (if nat_lt (position_or_len p xs) (length xs) then Some (position_or_len p xs) else None) (length xs) ≡ position_or_len p xs
 counted p xs = grind (arith, nat_tests, position_or_len-le p xs)
+
+never : (b : Bool) → (b ≡ true → ⊥) → b ≡ false
+never true other = absurd (other refl)
+never false other = refl
+
+-- the first place at which a search finds such an octet, or the length
+pub first_place : (p : ℕ → Bool) (xs : List ℕ) (r : Option ℕ) → IsFirstByte p xs r → unwrap_or r (length xs) ≡ position_or_len p xs
+first_place p xs None nowhere =
+    sym (position_or_len_is p xs (length xs) 0 (omega arith) (λ k lt. never (p (get_or xs k 0)) (nowhere k (omega arith) lt)) (λ lt. absurd (omega (arith, lt))))
+first_place p xs (Some k) found =
+    let high = found.0.high in
+    sym (position_or_len_is p xs k 0 (omega (arith, high)) (λ j lt. never (p (get_or xs j 0)) (found.0.before j (omega arith) lt)) (λ lt. found.1))
 
 pub within : (p : ℕ → Bool) (xs : List ℕ) (n : ℕ) → n ≡ position_or_len p xs → n ≤ length xs
 within p xs n e = omega (arith, e, position_or_len-le p xs)

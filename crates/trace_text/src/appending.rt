@@ -5,6 +5,7 @@ ghost use Rattle.hex.specs.Hex.{encode_lower};
 ghost use Rattle.trace_text.specs.Words.{spaced};
 ghost use Rattle.trace_text.specs.Appending.{Grew, word_text};
 
+use crate::hexadecimal::encode;
 use itoa::Buffer;
 use lan_base::Name;
 use std::alloc::AllocError;
@@ -61,6 +62,6 @@ fn put_octets(into: &mut Vec<u8>, octets: &[u8]) -> Result<(), AllocError>
     let digits = 2 * octets.len();
     into.reserve(digits)?;
     into.resize(start + digits, 0)?;
-    let _ = hex::encode_to_slice(octets, &mut into[start..]);
+    encode(octets, &mut into[start..]);
     Ok(())
 }

@@ -6,12 +6,12 @@ ghost use Rattle.std.specs.Char.{is_ascii_digit};
 ghost use Rattle.std.specs.Str.Parse.{digits_value};
 ghost use Rattle.hex.specs.Hex.{decode_of};
 ghost use Rattle.trace_text.specs.Kinds.{said, name, is_number, number_of, suite_in, octets_of, exactly_of, is_within, is_either};
-ghost use Rattle.trace_text.specs.Limits.{most_injected};
 ghost use Rattle.trace_text.specs.declared.fault.TextFault.TheVariants.{Hex};
 ghost use Rattle.trace_text.specs.Answering.{Answers, checked};
 
 use crate::fault::{LineError, TextFault};
-use crate::limits::{MAX_DIGITS, MAX_INJECTED};
+use crate::hexadecimal::{decode, spells_octets};
+use crate::limits::MAX_DIGITS;
 use hex::FromHex;
 use lan_base::{Name, Octets, Suite};
 use std::alloc::{AllocError, Global};
@@ -81,16 +81,14 @@ pub fn read_array<const N: usize>(word: &[u8]) -> Result<[u8; N], TextFault>
 /// The octets that a word spells, whose count lies within bounds. Memory is taken for a word that
 /// spells such octets alone.
 pub fn read_octets(alloc: Global, word: &[u8], low: usize, high: usize) -> Result<Octets, LineError>
-    requires { high ≤ most_injected }
     ensures { Answers result (octets_of (is_within low high) word.now) }
 {
     expect_octets(word, low, high)?;
     Ok(decoded(alloc, word)?)
 }
 
-/// Whether a word spells octets whose count lies within bounds, no more than a line injects.
+/// Whether a word spells octets whose count lies within bounds.
 pub fn expect_octets(word: &[u8], low: usize, high: usize) -> Result<(), TextFault>
-    requires { high ≤ most_injected }
     ensures { result ≡ checked (octets_of (is_within low high) word.now) }
 {
     expect_spelled(word, is_within(word.len() / 2, low, high))
@@ -119,16 +117,12 @@ fn is_key_length(count: usize) -> bool
 
 /// Whether a word spells octets, where their count is allowed.
 fn expect_spelled(word: &[u8], allowed: bool) -> Result<(), TextFault>
-    requires { IsTrue allowed → length word.now / 2 ≤ most_injected }
     ensures { result ≡ (if allowed && is_ok (decode_of word.now) then Ok tt else Err Hex) }
 {
-    if !allowed {
-        return Err(TextFault::Hex);
-    }
-    let mut octets = [0; MAX_INJECTED];
-    match hex::decode_to_slice(word, &mut octets[..word.len() / 2]) {
-        Ok(()) => Ok(()),
-        Err(_) => Err(TextFault::Hex),
+    if allowed && spells_octets(word) {
+        Ok(())
+    } else {
+        Err(TextFault::Hex)
     }
 }
 
@@ -137,8 +131,7 @@ pub fn decoded(alloc: Global, word: &[u8]) -> Result<Octets, AllocError>
     requires { IsOk (decode_of word.now) }
     ensures { IfOk result (λ octets. decode_of word.now ≡ Ok octets) }
 {
-    match hex::decode(alloc, word) {
-        Ok(octets) => Ok(Octets::of(octets)),
-        Err(_) => Err(AllocError),
-    }
+    let mut octets = vec![in alloc; 0; word.len() / 2]?;
+    decode(word, &mut octets);
+    Ok(Octets::of(octets))
 }

@@ -6,6 +6,7 @@ mod appending;
 mod blocks;
 mod fault;
 mod forms;
+mod hexadecimal;
 mod keyword;
 mod kinds;
 mod laws;

@@ -6,6 +6,7 @@ ghost use Rattle.trace_text.specs.Words.{words_of, is_blank};
 ghost use Rattle.trace_text.specs.Answering.{Takes};
 
 use crate::fault::TextFault;
+use memchr::memchr2;
 
 /// The first word of a line and what stands behind it, if it has a word.
 pub fn next_word(line: &[u8]) -> Option<(&[u8], &[u8])>
@@ -35,9 +36,7 @@ fn word_length(line: &[u8]) -> usize
     ensures count { result ≡ position_or_len is_blank line.now }
     ensures within { result ≤ length line.now }
 {
-    line.iter()
-        .position(|octet| is_blank(*octet))
-        .unwrap_or(line.len())
+    memchr2(b' ', b'\t', line).unwrap_or(line.len())
 }
 
 /// Space and tab stand between words.

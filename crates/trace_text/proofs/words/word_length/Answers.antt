@@ -1,15 +1,9 @@
-use Rattle.std.proofs.Common.{rules, tests, ap, ◌∙◌}
-use Rattle.std.specs.Prelude.{length}
-use Rattle.std.specs.Option.{unwrap_or}
-use Rattle.std.proofs.lemmas.Iterator.{YieldsList-from_slice}
-use Rattle.std.proofs.lemmas.Iterator.Search.{position_from_yields_List}
+use Rattle.std.proofs.Common.{◌∙◌}
 use Rattle.trace_text.specs.Words.{is_blank}
-use Rattle.trace_text.proofs.Taking.{counted, within}
+use Rattle.trace_text.proofs.Taking.{first_place, within}
 use Rattle.trace_text.proofs.words.word_length.Goals as goal
 
 pub returns : goal.returns
 returns c =
-    let line = c.args.line.now in
-    let place = position_from_yields_List is_blank _ _ _ c.position.ensures.ran (YieldsList-from_slice line cc) (λ x b q k. search (rules, tests)) in
-    let count = c.unwrap_or.ensures ∙ ap (λ o. unwrap_or o (length line)) place ∙ counted is_blank line in
-    record { count = count; within = within is_blank line _ count }
+    let count = c.unwrap_or.ensures ∙ first_place is_blank c.args.line.now c.memchr2.result c.memchr2.ensures in
+    record { count = count; within = within is_blank c.args.line.now _ count }
