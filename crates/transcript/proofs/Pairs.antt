@@ -1,6 +1,6 @@
 -- Pairs of hexadecimal digits in lower case.
 use Rattle.std.proofs.Common.{◌≡◌, ℕ, suc, ◌+◌, ◌*◌, ◌/◌, ◌%◌, ◌<◌, ◌≤◌, Bool, true, false, List, [], ◌∷◌, length, refl, sym, ap, ◌∙◌, inl, inr, arith}
-use Rattle.std.specs.Prelude.{◌⊎◌, ◌==◌, ◌&&◌, Option, Some, None, Result, Ok, Err, IsSome, slice_index}
+use Rattle.std.specs.Prelude.{◌⊎◌, ◌==◌, ◌&&◌, Option, Some, None, Result, Ok, Err, IsOk, IsSome, slice_index}
 use Rattle.std.specs.List.{list_all}
 use Rattle.std.specs.Result.{result_ok}
 use Rattle.std.proofs.lemmas.Bool.Decides.{nat_tests}
@@ -137,3 +137,6 @@ sized word count pairs =
 
 pub spelled_some : (word : List ℕ) → is_pairs word ≡ true → IsSome (octets_of word)
 spelled_some word pairs = rw (pairs, (decoded word pairs).1) refl
+
+pub decodes : (word : List ℕ) → is_pairs word ≡ true → IsOk (decode_of word)
+decodes word pairs = rw (decoded word pairs).1 refl

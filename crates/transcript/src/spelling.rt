@@ -15,6 +15,7 @@ use lan_base::{AssociationNumber, Mi, Name, Octets};
 use sak_exchange::Cause;
 use std::alloc::Global;
 use std::str;
+use trace_text::decoded;
 
 /// The place of the station that a word names.
 pub fn place_of(word: &[u8], names: &[Name]) -> Option<u8>
@@ -173,8 +174,8 @@ pub fn octets_of(alloc: Global, word: &[u8]) -> Result<Octets, FactError>
     if !is_pairs(word) {
         return Err(FactError::Unread);
     }
-    match hex::decode(alloc, word) {
-        Ok(octets) => Ok(Octets::of(octets)),
+    match decoded(alloc, word) {
+        Ok(octets) => Ok(octets),
         Err(_) => Err(FactError::Memory),
     }
 }
@@ -186,16 +187,22 @@ fn is_pairs(word: &[u8]) -> bool
     word.len() % 2 == 0 && are_small_digits(word)
 }
 
-/// Whether each octet is such a digit.
+/// Whether each octet is such a digit. The loop has no branch on an octet, so that the compiler
+/// takes many at a time.
 fn are_small_digits(word: &[u8]) -> bool
     ensures { result ≡ list_all is_small_digit word.now }
 {
-    word.iter().all(|octet| is_small_digit(*octet))
+    let mut all = true;
+    for octet in word {
+        all &= is_small_digit(*octet);
+    }
+    all
 }
 
 /// Whether an octet is a hexadecimal digit, in lower case.
+#[inline(always)]
 fn is_small_digit(octet: u8) -> bool
     ensures { result ≡ is_small_digit octet }
 {
-    (b'0' <= octet && octet <= b'9') || (b'a' <= octet && octet <= b'f')
+    matches!(octet, b'0'..=b'9' | b'a'..=b'f')
 }

@@ -13,6 +13,7 @@ use crate::spelling::{
 use aes_block::Secret;
 use gcm_frames::TagRefusal;
 use lan_base::{AssociationNumber, KeyId, Mi, Name, Octets};
+use memchr::memchr;
 use sak_exchange::Cause;
 use std::alloc::Global;
 
@@ -28,9 +29,7 @@ fn word_length(text: &[u8]) -> usize
     ensures count { result ≡ position_or_len is_space text.now }
     ensures within { result ≤ length text.now }
 {
-    text.iter()
-        .position(|octet| *octet == b' ')
-        .unwrap_or(text.len())
+    memchr(b' ', text).unwrap_or(text.len())
 }
 
 /// The next word, and what stands behind it, if there is one.
