@@ -1,13 +1,14 @@
 -- Whether a word spells octets, by its length and by what decodes it.
-use Rattle.std.proofs.Common.{◌≡◌, ℕ, ◌+◌, ◌*◌, ◌/◌, ◌%◌, ◌==◌, Bool, true, false, List, length, refl, sym, ap, ◌∙◌, arith}
+use Rattle.std.proofs.Common.{◌≡◌, ℕ, ◌+◌, ◌*◌, ◌/◌, ◌%◌, ◌==◌, Bool, true, false, List, [], ◌∷◌, ◌++◌, length, refl, sym, ap, ◌∙◌, arith, append_assoc}
 use Rattle.std.specs.Prelude.{◌&&◌, Some, Result, Ok, Err, IsOk, is_ok, if◌then◌else◌}
 use Rattle.std.specs.List.{list_all, AllPass}
 use Rattle.std.specs.Result.{result_ok}
 use Rattle.std.proofs.lemmas.Bool.{true≢false}
+use Rattle.std.proofs.lemmas.List.{append-nil}
 use Rattle.std.proofs.lemmas.Bool.Decides.{nat_tests}
 use Rattle.std.proofs.lemmas.List.Sums.{AllPass-from_list_all, list_all-from_AllPass}
 use Rattle.hex.specs.declared.error.FromHexError.{FromHexError}
-use Rattle.hex.specs.Hex.{decode_of, decode_sized, digit_or_error, hex_digit_value, is_hex_digit, pair_value, value_at}
+use Rattle.hex.specs.Hex.{decode_of, decode_sized, encode_lower, encode_with, digit_or_error, hex_digit_value, is_hex_digit, pair_value, value_at}
 use Rattle.hex.proofs.HexLemmas.{decode_of-digits, decode_of-ok}
 use Rattle.trace_text.specs.declared.fault.TextFault.{TextFault}
 use Rattle.trace_text.specs.declared.fault.TextFault.TheVariants.{Hex}
@@ -80,3 +81,23 @@ pair_read high low i h l a b =
     let ha : value_at high i ≡ Ok h = ap (digit_or_error high i) a in
     let hb : value_at low (i + 1) ≡ Ok l = ap (digit_or_error low (i + 1)) b in
     rw (ha, hb) refl
+
+-- ---- digits written in pieces
+
+pub encode-append : (a b : List ℕ) → encode_lower (a ++ b) ≡ encode_lower a ++ encode_lower b
+unfolding encode_with
+encode-append [] b = refl
+encode-append (x ∷ a) b = rw (encode-append a b) refl
+
+-- a piece is written, and the others are left
+pub piece_written : (whole old now next left piece rest : List ℕ) → left ≡ piece ++ rest → next ≡ now ++ encode_lower piece
+    → old ++ encode_lower whole ≡ now ++ encode_lower left → old ++ encode_lower whole ≡ next ++ encode_lower rest
+piece_written whole old now next left piece rest parts put before =
+    before ∙ ap (λ (xs : List ℕ). now ++ encode_lower xs) parts ∙ ap (λ (xs : List ℕ). now ++ xs) (encode-append piece rest)
+    ∙ sym (append_assoc now (encode_lower piece) (encode_lower rest)) ∙ ap (λ (xs : List ℕ). xs ++ encode_lower rest) (sym put)
+
+pub all_written : (whole old now left : List ℕ) → (length left == 0) ≡ true
+    → old ++ encode_lower whole ≡ now ++ encode_lower left → now ≡ old ++ encode_lower whole
+unfolding encode_with
+all_written whole old now [] none before = sym (before ∙ append-nil now)
+all_written whole old now (x ∷ left) none before = absurd (grind (arith, nat_tests))

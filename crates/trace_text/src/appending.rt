@@ -53,8 +53,40 @@ fn put_word(into: &mut Vec<u8>, word: &Word) -> Result<(), AllocError>
     }
 }
 
+/// How many octets are appended at a time: their digits are still near when they are written over
+/// the room that is cleared for them.
+const PIECE: usize = 512;
+
 /// Appends octets in hexadecimal, in lower case. An `Err` leaves what was there.
 fn put_octets(into: &mut Vec<u8>, octets: &[u8]) -> Result<(), AllocError>
+    ensures ok { OnOk result (into.new.items ≡ into.old.items ++ encode_lower octets.now) }
+    ensures err { OnErr result (into.new.items ≡ into.old.items) }
+{
+    let start = into.len();
+    let result = put_pieces(into, octets);
+    if result.is_err() {
+        into.truncate(start);
+    }
+    result
+}
+
+/// Appends octets in hexadecimal. An `Err` leaves what was there, and may leave digits behind it.
+fn put_pieces(into: &mut Vec<u8>, octets: &[u8]) -> Result<(), AllocError>
+    ensures ok { OnOk result (into.new.items ≡ into.old.items ++ encode_lower octets.now) }
+    ensures err { OnErr result (Grew into.old.items into.new.items) }
+{
+    into.reserve(2 * octets.len())?;
+    let mut left = octets;
+    while !left.is_empty() {
+        let (piece, rest) = left.split_at(left.len().min(PIECE));
+        put_piece(into, piece)?;
+        left = rest;
+    }
+    Ok(())
+}
+
+/// Appends octets in hexadecimal. An `Err` leaves what was there.
+fn put_piece(into: &mut Vec<u8>, octets: &[u8]) -> Result<(), AllocError>
     ensures ok { OnOk result (into.new.items ≡ into.old.items ++ encode_lower octets.now) }
     ensures err { OnErr result (into.new.items ≡ into.old.items) }
 {
