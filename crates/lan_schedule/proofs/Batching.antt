@@ -37,6 +37,7 @@ use Rattle.lan_schedule.specs.inside.Recording.{StandsSince, LeavesAt}
 use Rattle.lan_schedule.specs.inside.Staged.{Did, DidWhere}
 use Rattle.lan_schedule.proofs.Doing.{both-chances, going, span-next, span-done, ends-behind, ends-early}
 use Rattle.lan_schedule.proofs.Doing.{memory-does, nothing-does, handed-on}
+use Rattle.lan_schedule.proofs.Recorded.{seats-kept, seats-then}
 
 -- ---- the frames of a batch
 
@@ -167,7 +168,7 @@ module _ {K : Type 0} {Took : K → Report → K → Type 0} {Broke : K → Repo
     did-where Holds act old new r d = record {
       chances = d.chances;
       ends = λ mark w later is reached holds comes. d.ends mark w later is reached comes;
-      tables = d.tables;
+      seats = d.seats;
     }
 
     where-did : (Holds : World → Type 0) (act : Act) (old new : Moment Stage K)
@@ -176,7 +177,7 @@ module _ {K : Type 0} {Took : K → Report → K → Type 0} {Broke : K → Repo
     where-did Holds act old new r holds d = record {
       chances = d.chances;
       ends = λ mark w later is reached comes. d.ends mark w later is reached (holds w) comes;
-      tables = d.tables;
+      seats = d.seats;
     }
 
     -- no answer is at hand yet
@@ -230,7 +231,7 @@ module _ {K : Type 0} {Took : K → Report → K → Type 0} {Broke : K → Repo
                     (e.ends mark done.0 later done.4 done.2
                     (subst (λ (k : ℕ). AreChecked done.0.run k s (rest_answers mid)) one more)
                     comes_later));
-                tables = λ t table at. e.tables t table (d.tables t table at);
+                seats = seats-then now.value.words next.value.words new.value.words d.seats e.seats;
               }));
         }
 
@@ -258,7 +259,7 @@ module _ {K : Type 0} {Took : K → Report → K → Type 0} {Broke : K → Repo
               (d.ends mark w later left reached
               (first-is w.run (first + i) s mid
               (look (settings w) w.kept.users w.run reached.stands.stands.lan holds)) comes.0);
-          tables = d.tables;
+          seats = d.seats;
         }))) is
 
     -- memory was wanting before a batch was checked
@@ -268,7 +269,7 @@ module _ {K : Type 0} {Took : K → Report → K → Type 0} {Broke : K → Repo
     batch-wanting Holds whole left old now r l is =
         handed-on whole old now halts.Memory r (l.leads now (Err halts.Memory)
         (did-where Holds left now now (Err halts.Memory)
-        (memory-does left now now refl refl (λ s table at. at)))) is
+        (memory-does left now now refl refl (seats-kept _)))) is
 
     pub batch-end : (Holds : World → Type 0) (f : ℕ → Act) (i n : ℕ) (whole : Act)
         (old now : Moment Stage K) → n ≤ i

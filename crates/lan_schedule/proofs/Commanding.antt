@@ -21,7 +21,7 @@ use Rattle.lan_schedule.specs.Stages.{StandsFor, Counts}
 use Rattle.lan_schedule.specs.inside.Recording.{StandsSince, LeavesAt}
 use Rattle.lan_schedule.proofs.Doing.{told-none}
 use Rattle.lan_schedule.proofs.Happening.{looked-none}
-use Rattle.lan_schedule.proofs.Recorded.{leaves-so}
+use Rattle.lan_schedule.proofs.Recorded.{leaves-so, seats-kept}
 
 module _ {K : Type 0} {Took : K → Report → K → Type 0} {Broke : K → Report → K → Broken → Type 0}
   where
@@ -44,7 +44,7 @@ module _ {K : Type 0} {Took : K → Report → K → Type 0} {Broke : K → Repo
             left = ap (λ (c : List Chance). behind_numbers c) left;
             same = refl;
           });
-      tables = λ s table at. at;
+      seats = seats-kept now.value.words;
     }
 
     pub performed-does : (line : Line) (old new : Moment Stage K) (r : Result (Unit {0}) Halt)
@@ -58,7 +58,7 @@ module _ {K : Type 0} {Took : K → Report → K → Type 0} {Broke : K → Repo
           → Ends (StandsSince mark) (LeavesAt mark) Counts Took Broke w later (perform (unless_refused o (deed line w)) w)
           old.outlet new r) (sym none)
           (λ comes_deed. d.ends mark w later left reached comes_deed) comes;
-      tables = d.tables;
+      seats = d.seats;
     }
 
 pub none-of : (o : Option Kind) → ((x : Kind) → o ≡ Some x → ⊥) → o ≡ None

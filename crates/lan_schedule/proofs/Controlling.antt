@@ -26,7 +26,7 @@ use Rattle.lan_schedule.specs.inside.Staged.{Did, Changed}
 use Rattle.lan_schedule.proofs.Doing.{Leads, leads-start, leads-step, leads-err, leads-end, handed-on}
 use Rattle.lan_schedule.proofs.Doing.{change-does, told-none}
 use Rattle.lan_schedule.proofs.Happening.{looked-none}
-use Rattle.lan_schedule.proofs.Recorded.{leaves-so}
+use Rattle.lan_schedule.proofs.Recorded.{leaves-so, seats-kept}
 use Rattle.lan_schedule.proofs.Same.{IsSame}
 use Rattle.lan_schedule.proofs.Sending.{line-stands}
 
@@ -119,7 +119,7 @@ module _ {K : Type 0} {Took : K → Report → K → Type 0} {Broke : K → Repo
             left = ap (λ (c : List Chance). behind_numbers c) left;
             same = refl;
           });
-      tables = λ s table at. at;
+      seats = seats-kept now.value.words;
     }
 
     -- it has one
@@ -135,7 +135,7 @@ module _ {K : Type 0} {Took : K → Report → K → Type 0} {Broke : K → Repo
           → Ends (StandsSince mark) (LeavesAt mark) Counts Took Broke w later
           (perform (unless_refused o (deed line w)) w) old.outlet new r) (sym none)
           (λ comes_deed. d.ends mark w later left reached comes_deed) comes;
-      tables = d.tables;
+      seats = d.seats;
     }
 
     line-leads : (kept : Numbered) (old mid : Moment Stage K) → IsSame old.value mid.value

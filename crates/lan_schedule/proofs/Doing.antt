@@ -24,10 +24,11 @@ use Rattle.lan_schedule.specs.inside.Comes.{Comes, IsGoing}
 use Rattle.lan_schedule.specs.Sound.{IsTidy}
 use Rattle.lan_schedule.specs.Stages.{StandsFor, Counts}
 use Rattle.lan_schedule.specs.inside.Recording.{Mark, StandsSince, LeavesAt, HasRecorded, IsRecorded}
-use Rattle.lan_schedule.specs.inside.Recording.{KeepTables, steps_of}
+use Rattle.lan_schedule.specs.inside.Recording.{KeepSeats, steps_of}
 use Rattle.lan_schedule.specs.inside.Staged.{Did, Changed}
 use Rattle.lan_schedule.proofs.Racing.{begins-self, begins-then, shown-begins, then-begins}
 use Rattle.lan_schedule.proofs.Racing.{race-begins}
+use Rattle.lan_schedule.proofs.Recorded.{seats-kept, seats-then}
 
 -- what was shown stays
 pub grows : (act : Act) (w : World) → Begins (reports w.run) (reported (perform act w))
@@ -273,7 +274,7 @@ module _ {K : Type 0} {Took : K → Report → K → Type 0} {Broke : K → Repo
       ends = λ mark w later is reached comes.
           ends-early Took Broke (StandsSince mark) (LeavesAt mark) Counts w later (perform f w) g old.outlet new e
           (d.ends mark w later is reached comes.0);
-      tables = d.tables;
+      seats = d.seats;
     }
 
     -- the first act was done, and then the second ended so
@@ -291,7 +292,7 @@ module _ {K : Type 0} {Took : K → Report → K → Type 0} {Broke : K → Repo
           (and_then out (λ v. perform g v)) old.outlet new r) (sym first.1)
           (ends-behind Took Broke (StandsSince mark) (LeavesAt mark) Counts w first.0 later (perform g first.0) old.outlet mid.outlet new
           r first.3 first.5 (e.ends mark first.0 later first.4 first.2 comes_later));
-      tables = λ s table at. e.tables s table (d.tables s table at);
+      seats = seats-then old.value.words mid.value.words new.value.words d.seats e.seats;
     }
 
     pub nothing-does : (now : Moment Stage K) → Did Took Broke nothing now now (Ok tt)
@@ -299,19 +300,19 @@ module _ {K : Type 0} {Took : K → Report → K → Type 0} {Broke : K → Repo
       chances = [];
       ends = λ mark w later is reached comes.
           (w, refl, reached, told-none w w now.outlet now.outlet refl refl, is, refl);
-      tables = λ s table at. at;
+      seats = seats-kept now.value.words;
     }
 
     -- no memory, before more was told
     pub memory-does : (act : Act) (old new : Moment Stage K) → new.value.tally ≡ old.value.tally
-        → new.outlet ≡ old.outlet → KeepTables old.value.words new.value.words
+        → new.outlet ≡ old.outlet → KeepSeats old.value.words new.value.words
         → Did Took Broke act old new (Err halts.Memory)
-    memory-does act old new tally same tables = record {
+    memory-does act old new tally same seats = record {
       chances = [];
       ends = λ mark w later is reached comes.
           ends-memory Took Broke (StandsSince mark) (LeavesAt mark) Counts act w later old.outlet new reached.tidy
           (tally ∙ reached.stands.stands.tally) same;
-      tables = tables;
+      seats = seats;
     }
 
     -- what is kept changes, and nothing is told
@@ -331,8 +332,8 @@ module _ {K : Type 0} {Took : K → Report → K → Type 0} {Broke : K → Repo
             (keeps w.kept).0 ∙ is,
             (keeps w.kept).1,
           );
-      tables = subst (λ (cs : List ControlAt). KeepTables old.value.words cs) (sym changed.words)
-          (λ s table at. at);
+      seats = subst (λ (cs : List ControlAt). KeepSeats old.value.words cs) (sym changed.words)
+          (seats-kept old.value.words);
     }
 
     -- an error that `?` hands on is the error
@@ -383,7 +384,7 @@ module _ {K : Type 0} {Took : K → Report → K → Type 0} {Broke : K → Repo
             subst (λ (a : Act).
             Ends (StandsSince mark) (LeavesAt mark) Counts Took Broke w later (perform a w) now.outlet new r) e
             (d.ends mark w later is reached (subst (λ (a : Act). Comes a w) (sym e) comes));
-        tables = d.tables;
+        seats = d.seats;
       };
     }
 

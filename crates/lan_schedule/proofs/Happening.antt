@@ -55,14 +55,14 @@ use Rattle.lan_schedule.specs.Stages.{Says, StandsWith, StandsFor, Counts}
 use Rattle.lan_schedule.specs.inside.Staged.{Did, DidWhere, Happened, IsSetSince, WentOn}
 use Rattle.lan_schedule.specs.inside.Recording.{Mark, StandsSince, LeavesAt, HasLooked, HasRecorded}
 use Rattle.lan_schedule.specs.inside.Recording.{HasStopped}
-use Rattle.lan_schedule.specs.inside.Recording.{KeepTables, KeepsStep, epoch_of, is_start, octets_put}
+use Rattle.lan_schedule.specs.inside.Recording.{KeepSeats, KeepsStep, epoch_of, is_start, octets_put}
 use Rattle.lan_schedule.specs.inside.Recording.{steps_of}
 use Rattle.lan_schedule.specs.Races.{Chance, behind_numbers}
 use Rattle.lan_schedule.proofs.Ahead.{set-ahead}
 use Rattle.lan_schedule.proofs.Claiming.{caught-up}
 use Rattle.lan_schedule.proofs.Loads.{load-after}
 use Rattle.lan_schedule.proofs.Recorded.{GoesOnSo, HasStation, has-station, performed-here}
-use Rattle.lan_schedule.proofs.Recorded.{recorded-more, same-some}
+use Rattle.lan_schedule.proofs.Recorded.{recorded-more, same-some, seats-kept, seats-then}
 use Rattle.lan_schedule.proofs.Chances.{chances-used, behind-decided, shown-is}
 use Rattle.lan_schedule.proofs.Same.{IsSame, same-self, stands-moved}
 use Rattle.lan_schedule.proofs.Racing.{begins-self}
@@ -173,7 +173,7 @@ pub record Keeps (event : Event) (facts : List Fact) (old new : Stage) : Type 0 
   pub followed : is_start event ≡ false → (settings : Settings) (users : List UserFrame) (r : Run)
       → GroupStandsFor settings users new.lan (happened event facts ∷ r)
       → Followed settings (happened event facts ∷ r) facts old.words new.words
-  pub tables : KeepTables old.words new.words
+  pub seats : KeepSeats old.words new.words
 
 -- the same steps or one more
 kept-some : (old new : Stage) (event : Event) (before after : Option ℕ)
@@ -407,9 +407,9 @@ decided-here : {Tied : Bool → Bool → Settings → Run → List ControlAt →
 decided-here w event stage later stands =
     ap (λ (b : Bool). decided b event ++ later) stands.raced
 
-same-tables : (old new : List ControlAt) → new ≡ old → KeepTables old new
-same-tables old new words = subst (λ (cs : List ControlAt). KeepTables old cs) (sym words)
-    (λ s table at. at)
+same-seats : (old new : List ControlAt) → new ≡ old → KeepSeats old new
+same-seats old new words = subst (λ (cs : List ControlAt). KeepSeats old cs) (sym words)
+    (seats-kept old)
 
 -- an event that finds the words as they are
 plain-set : (event : Event) (mark : Mark) (w : World) (stage : Stage)
@@ -470,7 +470,7 @@ module _ {K : Type 0} {Took : K → Report → K → Type 0} {Broke : K → Repo
           (λ _. Took old.outlet (record { names = names; facts = facts }) new.outlet)
           (λ y. Broke old.outlet (record { names = names; facts = facts }) new.outlet y))
           after_it.names wrote));
-      tables = keeps.tables;
+      seats = keeps.seats;
     }
 
     -- what followed a step, by what the group was before it
@@ -486,13 +486,13 @@ module _ {K : Type 0} {Took : K → Report → K → Type 0} {Broke : K → Repo
     -- memory was wanting behind a step, and nothing was told
     pub went-wanting : (event : Event) (facts : List Fact) (mid : Stage) (old new : Moment Stage K)
         → new.value.tally ≡ old.value.tally → new.outlet ≡ old.outlet
-        → KeepTables old.value.words new.value.words
+        → KeepSeats old.value.words new.value.words
         → WentOn Took Broke event facts mid old new (Err halts.Memory)
-    went-wanting event facts mid old new tally same tables = record {
+    went-wanting event facts mid old new tally same seats = record {
       ends = λ mark w later left reached comes went. ends-memory Took Broke (StandsSince mark)
           (LeavesAt mark) Counts (happen event) w later old.outlet new reached.tidy
           (tally ∙ reached.stands.stands.tally) same;
-      tables = tables;
+      seats = seats;
     }
 
     -- an error that `?` hands on behind a step is the error
@@ -514,7 +514,7 @@ module _ {K : Type 0} {Took : K → Report → K → Type 0} {Broke : K → Repo
           (step (settings w) w.kept.users w.run reached.stands.stands.lan
           (subst (λ (g : Option UserFrame). MayCome (settings w) w.kept.users w.run g event)
           (sym is) comes.0));
-      tables = went.tables;
+      seats = went.seats;
     }
 
     -- the group met a stop in a world
@@ -571,7 +571,7 @@ module _ {K : Type 0} {Took : K → Report → K → Type 0} {Broke : K → Repo
           (step (settings w) w.kept.users w.run reached.stands.stands.lan
           (subst (λ (g : Option UserFrame). MayCome (settings w) w.kept.users w.run g event)
           (sym is) comes.0));
-      tables = same-tables old.value.words new.value.words words;
+      seats = same-seats old.value.words new.value.words words;
     }
 
     -- a frame was admitted that its station had checked
@@ -589,7 +589,7 @@ module _ {K : Type 0} {Took : K → Report → K → Type 0} {Broke : K → Repo
           (plain-set (events.Deliver n s) mark w old.value (λ raced racing settings run cs says. says)
           reached) comes
           (goes (settings w) w.kept.users w.run reached.stands.stands.lan checked);
-      tables = went.tables;
+      seats = went.seats;
     }
 
     -- the group met a stop at it
@@ -611,7 +611,7 @@ module _ {K : Type 0} {Took : K → Report → K → Type 0} {Broke : K → Repo
           (plain-set (events.Deliver n s) mark w old.value (λ raced racing settings run cs says. says)
           reached)
           (first (settings w) w.kept.users w.run reached.stands.stands.lan checked);
-      tables = same-tables old.value.words new.value.words words;
+      seats = same-seats old.value.words new.value.words words;
     }
 
     -- an event that names no user frame, and finds the words as they are
@@ -624,7 +624,7 @@ module _ {K : Type 0} {Took : K → Report → K → Type 0} {Broke : K → Repo
       chances = decided old.value.raced event;
       ends = λ mark w later is reached comes. h.ends mark w later is
           (plain-set event mark w old.value set reached) (none w) comes;
-      tables = h.tables;
+      seats = h.seats;
     }
 
     -- a tick whose number was shown
@@ -638,9 +638,9 @@ module _ {K : Type 0} {Took : K → Report → K → Type 0} {Broke : K → Repo
         → Says raced racing settings run old.value.words → s < length (stations run)
         → SaysAhead raced racing settings run (events.Tick s n) mid.value.words)
         → HaveLooked old.value.words mid.value.words
-        → KeepTables old.value.words mid.value.words
+        → KeepSeats old.value.words mid.value.words
         → Happened Took Broke None (events.Tick s n) mid new r → Did Took Broke (tick s) old new r
-    tick-does s n old mid new r outlet same line users cuts next ahead looked tables h = record {
+    tick-does s n old mid new r outlet same line users cuts next ahead looked seats h = record {
       chances = decided mid.value.raced (events.Tick s n);
       ends = λ mark w later is reached comes.
           let racing = is_racing w.kept.phase in
@@ -670,18 +670,18 @@ module _ {K : Type 0} {Took : K → Report → K → Type 0} {Broke : K → Repo
             };
             tidy = reached.tidy;
           }) refl comes_n));
-      tables = λ t table at. h.tables t table (tables t table at);
+      seats = seats-then old.value.words mid.value.words new.value.words seats h.seats;
     }
 
     -- memory was wanting, and nothing was told
     pub event-wanting : (given : Option UserFrame) (event : Event) (old new : Moment Stage K)
         → new.value.tally ≡ old.value.tally → new.outlet ≡ old.outlet
-        → KeepTables old.value.words new.value.words
+        → KeepSeats old.value.words new.value.words
         → Happened Took Broke given event old new (Err halts.Memory)
-    event-wanting given event old new tally same tables = record {
+    event-wanting given event old new tally same seats = record {
       ends = λ mark w later left reached named comes. ends-memory Took Broke (StandsSince mark) (LeavesAt mark) Counts (happen event) w later
           old.outlet new reached.tidy (tally ∙ reached.stands.stands.tally) same;
-      tables = tables;
+      seats = seats;
     }
 
     -- an error that `?` hands on is the error

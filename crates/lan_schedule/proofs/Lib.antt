@@ -25,6 +25,8 @@ mod PartShown
 mod PartReports
 mod Steady
 mod Hiring
+mod SeatsBack
+mod SeatsLeft
 mod RaceRuns
 mod Exceeding
 mod Doing

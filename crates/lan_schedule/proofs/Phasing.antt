@@ -1,9 +1,11 @@
 -- Lines that belong to a race are taken.
 use Rattle.std.proofs.Common.{◌≡◌, ◌+◌, ℕ, Bool, true, false, List, []}
 use Rattle.std.proofs.Common.{Option, Some, None, inl, inr, refl, sym, ap, ◌∙◌}
-use Rattle.std.proofs.Common.{subst}
-use Rattle.std.specs.Prelude.{◌||◌, not, nat_lt, nat_eq, ◌<◌, ◌∷◌, ◌++◌, length, Result, Ok, Err}
-use Rattle.std.specs.List.{AllByRecursion}
+use Rattle.std.proofs.Common.{subst, arith}
+use Rattle.std.proofs.lemmas.Bool.{cases_Bool, eqb-true}
+use Rattle.std.specs.Prelude.{◌||◌, not, nat_lt, nat_eq, ◌<◌, ◌≤◌, ◌==◌, ◌∷◌, ◌++◌, length, map, Result, Ok, Err}
+use Rattle.std.specs.List.{AllByRecursion, filter}
+use Rattle.std.proofs.lemmas.List.Sums.{sum_by-cons}
 use Rattle.std.specs.Cmp.Lexicographic.{pointwise}
 use Rattle.lan_base.specs.declared.address.Mac.{Mac}
 use Rattle.trace_text.specs.declared.line.Line.{Line}
@@ -16,7 +18,7 @@ use Rattle.trace_acts.specs.declared.broken.Broken.{Broken}
 use Rattle.trace_acts.specs.Names.{names_of, is_in}
 use Rattle.trace_acts.specs.Kinds.{or_else, where_, first_of, unknown}
 use Rattle.trace_acts.specs.Places.{is_race}
-use Rattle.trace_acts.proofs.Public.{bytes-all, place-there}
+use Rattle.trace_acts.proofs.Public.{bytes-all, place-there, where-none as where-not}
 use Rattle.lan_schedule.specs.declared.phase.Phase.{Phase as Stood}
 use Rattle.lan_schedule.specs.declared.stage.Stage.{Stage}
 use Rattle.lan_schedule.specs.declared.commands.Replay.{Replay}
@@ -31,7 +33,7 @@ use Rattle.lan_schedule.specs.Lines.{act_of, deed, deed_at, deed_controlling, en
 use Rattle.lan_schedule.specs.Lines.{unless_refused, behind_while, behind_race, burst_of, kept_line}
 use Rattle.lan_schedule.specs.Reports.{Report}
 use Rattle.lan_schedule.specs.Ends.{Moment, IsReached, Ends}
-use Rattle.lan_schedule.specs.Standing.{phase_of, AreFit, IsBurst, IsControl, IsStaged, HasTally, StandsFor, Counts, Does}
+use Rattle.lan_schedule.specs.Standing.{phase_of, AreBursts, AreFit, IsBurst, IsControl, IsStaged, HasTally, StandsFor, Counts, Does}
 use Rattle.lan_schedule.specs.Stages.{Says, StandsFor as StageStandsFor}
 use Rattle.lan_schedule.specs.inside.Phased.{is_inside, is_taken, is_end, behind, MayBeKept, Takes}
 use Rattle.lan_schedule.specs.inside.Phased.{act_apart, is_controlling}
@@ -143,20 +145,67 @@ burst-fit (lines.Burst name workers frames destination body) w form none =
     (record { station = named-there w name none; user = burst-user _ _ _ _ _ form }, tt)
 burst-fit _ w form none = tt
 
+-- and no station has too many workers
+at-append : (s : ℕ) (xs ys : List Burst) → workers_at s (xs ++ ys) ≡ workers_at s xs + workers_at s ys
+at-append s [] ys = omega arith
+at-append s (b ∷ bs) ys = elim (cases_Bool (b.station == s)) [
+  | inl same ↦ (
+      let rest = at-append s bs ys in
+      let all = sum_by-cons (λ (n : ℕ). n) b.workers
+      (map (λ (x : Burst). x.workers) (filter (λ (x : Burst). x.station == s) (bs ++ ys))) in
+      let front = sum_by-cons (λ (n : ℕ). n) b.workers
+      (map (λ (x : Burst). x.workers) (filter (λ (x : Burst). x.station == s) bs)) in
+      rw same (omega (arith, rest, all, front)))
+  | inr other ↦ (let rest = at-append s bs ys in rw other (omega (arith, rest)))
+]
+
+burst-few : (line : Line) (w : World) (bursts : List Burst) → too_many line w bursts ≡ None
+    → ((s : ℕ) → workers_at s bursts ≤ most_workers)
+    → (s : ℕ) → workers_at s (bursts ++ burst_of w line) ≤ most_workers
+burst-few (lines.Burst name workers frames destination body) w bursts none few s =
+    let b : Burst = record {
+      station = place w name;
+      workers = workers;
+      frames = frames;
+      user = record { destination = destination; body = body };
+    } in
+    let both = at-append s bursts (b ∷ []) in
+    let had = few s in
+    elim (cases_Bool (place w name == s)) [
+      | inl same ↦ (
+          let low : nat_lt most_workers (workers_at (place w name) bursts + workers) ≡ false =
+          where-not (nat_lt most_workers (workers_at (place w name) bursts + workers)) kinds.Range none in
+          let here : workers_at s (b ∷ []) ≡ workers = rw same (omega arith) in
+          let these : workers_at (place w name) bursts ≡ workers_at s bursts =
+          ap (λ (n : ℕ). workers_at n bursts) (eqb-true (place w name) s same) in
+          let less : workers_at (place w name) bursts + workers ≤ most_workers = grind (arith, low) in
+          omega (arith, both, here, these, less))
+      | inr other ↦ (
+          let here : workers_at s (b ∷ []) ≡ 0 = rw other refl in
+          omega (arith, both, here, had))
+    ]
+burst-few line w bursts none few s =
+    let both = at-append s bursts [] in let had = few s in omega (arith, both, had)
+
 race-fit : (line : Line) (w : World) (bursts : List Burst) → IsInForm line
+    → too_many line w bursts ≡ None
     → wrong_name line (names_of w.run) ≡ None → AreFit (names_of w.run) (Bursting bursts)
     → AreFit (names_of w.run) (behind_race line w bursts)
-race-fit lines.While w bursts form none fit = (fit, tt)
-race-fit line w bursts form none fit =
-    all-more (IsBurst (names_of w.run)) bursts (burst_of w line) fit (burst-fit line w form none)
+race-fit lines.While w bursts form low none fit = (fit, tt)
+race-fit line w bursts form low none fit = record {
+  each = all-more (IsBurst (names_of w.run)) bursts (burst_of w line) fit.each
+      (burst-fit line w form none);
+  few = burst-few line w bursts low fit.few;
+}
 
 behind-fit : (line : Line) (w : World) (phase : Phase) → IsInForm line
     → is_end phase line ≡ false → refusal_at line w phase ≡ None
     → AreFit (names_of w.run) phase → AreFit (names_of w.run) (behind line w phase)
-behind-fit line w Apart form goes none fit = tt
+behind-fit line w Apart form goes none fit = record { each = tt; few = λ s. omega arith }
 behind-fit line w (Bursting bursts) form goes none fit =
     let words = (or-none (where_ (not (is_burst_allowed line bursts)) kinds.Order) _ none).1 in
-    race-fit line w bursts form (or-none (too_many line w bursts) _ words).1 fit
+    let both = or-none (too_many line w bursts) _ words in
+    race-fit line w bursts form both.0 both.1 fit
 behind-fit line w (Controlling bursts control) form goes none fit =
     let both = or-none (where_ (not (is_control_allowed line control)) kinds.Order) _ none in (
       fit.0,

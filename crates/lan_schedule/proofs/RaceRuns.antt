@@ -1,28 +1,34 @@
 -- A race is run: its workers have the tables of the words still, and what its parts did is what the
 -- whole race does.
-use Rattle.std.proofs.Common.{◌≡◌, ◌<◌, ◌+◌, ℕ, List, [], ◌++◌, length, Some, None, refl, sym, ap}
+use Rattle.std.proofs.Common.{◌≡◌, ◌<◌, ◌+◌, ℕ, Bool, true, false, List, [], ◌∷◌, ◌++◌, length, Some, None, refl, sym, ap}
 use Rattle.std.proofs.Common.{◌∙◌, subst, inl, inr, arith, take, drop, append-nil}
-use Rattle.std.proofs.lemmas.List.{take_all, drop_all}
+use Rattle.std.proofs.lemmas.List.{length-map, take_all, drop_all}
+use Rattle.std.specs.List.{AllByRecursion}
 use Rattle.std.specs.Prelude.{All, IfSome, Option, Result, Err, option_map, slice_get, slice_index_or}
 use Rattle.atomic_table.specs.Seated.{TableId}
 use Rattle.association_slots.specs.Views.{ControlAt}
 use Rattle.data_workers.specs.Workers.{AreDone, HasTable, WorkerAt}
+use Rattle.lan_core.specs.declared.settings.Settings.{Settings}
+use Rattle.lan_core.specs.Run.{Profile, Run, stations}
+use Rattle.transmit_words.specs.Seats.{AreAllIn}
 use Rattle.transmit_words.specs.Ties.{tables_of}
+use Rattle.trace_acts.specs.Names.{names_of}
 use Rattle.trace_acts.specs.declared.halt.Halt.{Halt}
 use Rattle.trace_acts.specs.declared.broken.Broken.{Broken}
 use Rattle.lan_schedule.specs.declared.race.Before.{Before}
 use Rattle.lan_schedule.specs.declared.race.Ran.{Ran}
 use Rattle.lan_schedule.specs.declared.stage.Stage.{Stage}
 use Rattle.lan_schedule.specs.Races.{Burst, Chance, Excess, Numbered, behind_numbers, workers_of}
-use Rattle.lan_schedule.specs.World.{World}
+use Rattle.lan_schedule.specs.World.{World, is_racing, settings}
 use Rattle.lan_schedule.specs.Acts.{Act, perform, race}
 use Rattle.lan_schedule.specs.Lines.{control_act, excess_of, run_race, unless_exceeded}
 use Rattle.lan_schedule.specs.Reports.{Report}
 use Rattle.lan_schedule.specs.Ends.{Ends, IsReached, Moment, moment}
-use Rattle.lan_schedule.specs.Stages.{Counts, StandsFor}
-use Rattle.lan_schedule.specs.inside.Beside.{AreHired, DidRace, EndsRace, IsUnhired, RanBeside}
+use Rattle.lan_schedule.specs.Stages.{Counts, Says, StandsFor}
+use Rattle.lan_schedule.specs.Standing.{AreBursts, IsBurst}
+use Rattle.lan_schedule.specs.inside.Beside.{AreHired, DidRace, EndsRace, HaveSeats, IsUnhired, RanBeside}
 use Rattle.lan_schedule.specs.inside.Comes.{Comes}
-use Rattle.lan_schedule.specs.inside.Recording.{KeepTables}
+use Rattle.lan_schedule.specs.inside.Recording.{KeepSeats}
 use Rattle.lan_schedule.proofs.Doing.{both-chances, ends-memory, told-none}
 use Rattle.lan_schedule.proofs.Hiring.{has-table, table-there}
 
@@ -38,7 +44,7 @@ all-back {A} many new old same long =
 
 -- and have the tables of the words still
 pub done-tables : (tables : List TableId) (old new : List ControlAt) (ws ds : List WorkerAt)
-    → All (HasTable tables) ws → tables ≡ tables_of old → AreDone ws ds → KeepTables old new
+    → All (HasTable tables) ws → tables ≡ tables_of old → AreDone ws ds → KeepSeats old new
     → All (HasTable (tables_of new)) ds
 done-tables tables old new ws ds has is done keep k x less =
     let many = done.count in
@@ -50,7 +56,7 @@ done-tables tables old new ws ds has is done keep k x less =
         → HasTable (tables_of new) d
     one w d has_it sender table = has-table (tables_of new) d
         ((λ i. slice_get (tables_of new) (sender i).station)
-        ∙ keep w.sender.station w.seat.table
+        ∙ keep.tables w.sender.station w.seat.table
         (ap (λ (ts : List TableId). slice_get ts w.sender.station) (sym is)
         ∙ table-there tables w has_it)
         ∙ ap (λ (t : TableId). Some t) (sym table))
@@ -63,6 +69,35 @@ taken-all f (Some v) xs taken all is = let same : f v ≡ all = cc is in taken �
 
 -- ---- the whole race
 
+-- no seat is out of words outside of a race
+all-in : (raced : Bool) (settings : Settings) (r : Run) (cs : List ControlAt)
+    → Says raced false settings r cs → (length cs ≡ length (stations r)) × AreAllIn cs
+all-in false settings r cs says = (says.many, λ s c at. (says.each s c at).2.all_in)
+all-in true settings r cs says = (says.many, λ s c at. (says.each s c at).2.all_in)
+
+stations-there : (many : ℕ) (names : List (List ℕ)) (bursts : List Burst) → length names ≡ many
+    → AllByRecursion (IsBurst names) bursts
+    → AllByRecursion (λ (b : Burst). b.station < many) bursts
+stations-there many names [] same each = tt
+stations-there many names (b ∷ bs) same each =
+    ((let there = each.0.station in omega (arith, there, same)), stations-there many names bs same each.1)
+
+-- so the bursts that lines keep find seats
+have-seats : (w : World) (bursts : List Burst) (stage : Stage) → StandsFor w stage
+    → is_racing w.kept.phase ≡ false → AreBursts (names_of w.run) bursts → HaveSeats bursts stage
+have-seats w bursts stage stands apart fit =
+    let words = all-in w.kept.raced (settings w) w.run stage.words
+    (subst (λ (b : Bool). Says w.kept.raced b (settings w) w.run stage.words) apart stands.words) in
+    let scis : length stage.scis.items ≡ length (stations w.run) =
+    ap length stands.scis ∙ length-map (stations w.run) (λ (p : Profile). p.sci) in
+    record {
+      stations = stations-there (length stage.scis.items) (names_of w.run) bursts
+          (length-map (stations w.run) (λ (p : Profile). p.name) ∙ sym scis) fit.each;
+      few = fit.few;
+      many = words.0 ∙ sym scis;
+      all_in = words.1;
+    }
+
 module _ {K : Type 0} {Took : K → Report → K → Type 0} {Broke : K → Report → K → Broken → Type 0}
   where
     -- nobody was hired
@@ -72,7 +107,7 @@ module _ {K : Type 0} {Took : K → Report → K → Type 0} {Broke : K → Repo
         → DidRace Took Broke bursts control old new (Err halt)
     unhired-does bursts control old new halt outlet tally unhired = record {
       chances = [];
-      ends = λ w later left reached apart comes. by w later left reached (unhired w reached);
+      ends = λ w later left reached apart fit comes. by w later left reached (unhired w reached);
     }
       where
         by : (w : World) (later : List Chance) → w.kept.chances ≡ later
@@ -98,7 +133,7 @@ module _ {K : Type 0} {Took : K → Report → K → Type 0} {Broke : K → Repo
     pub raced-does : (bursts : List Burst) (control : List Numbered) (old begun now : Stage) (k : K)
         (new : Moment Stage K) (crew : List WorkerAt) (before : Before) (ran : Ran)
         (result : Result (Unit {0}) Halt) → before.line ≡ old.line → before.tally ≡ old.tally
-        → ((w : World) → IsReached StandsFor w old
+        → ((w : World) → IsReached StandsFor w old → HaveSeats bursts old
         → AreHired w (workers_of bursts) old begun crew × (excess_of bursts w ≡ None))
         → RanBeside control crew begun now ran
         → EndsRace Took Broke before ran (moment now k) new result
@@ -106,8 +141,8 @@ module _ {K : Type 0} {Took : K → Report → K → Type 0} {Broke : K → Repo
     raced-does bursts control old begun now k new crew before ran result line tally hired beside ended =
         record {
           chances = beside.did.chances ++ ended.chances;
-          ends = λ w later left reached apart comes.
-              let are = hired w reached in
+          ends = λ w later left reached apart fit comes.
+              let are = hired w reached (have-seats w bursts old reached.stands apart fit) in
               let act : Act = race (workers_of bursts) (control_act control) in
               let may : Comes act w = subst (λ (o : Option Excess). Comes (unless_exceeded o act) w) are.1 comes in
               subst (λ (o : Option Excess). Ends StandsFor (λ halt. Counts) Counts Took Broke w later

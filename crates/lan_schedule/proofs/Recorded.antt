@@ -6,10 +6,12 @@ use Rattle.std.specs.Prelude.{OnOk, OnErr}
 use Rattle.std.specs.declared.alloc.AllocError.{AllocError}
 use Rattle.std.proofs.lemmas.List.{map-append}
 use Rattle.atomic_table.specs.Seated.{TableId}
+use Rattle.transmit_words.specs.Seats.{NoMoreOut}
 use Rattle.transmit_words.specs.Ties.{tables_of}
+use Rattle.transmit_words.proofs.Public.{out-none, out-started, out-then}
 use Rattle.lan_base.specs.declared.frame.UserFrame.{UserFrame}
 use Rattle.sak_exchange.specs.declared.held_key.Key.{Key}
-use Rattle.association_slots.specs.Views.{ControlAt}
+use Rattle.association_slots.specs.Views.{AllIn, ControlAt}
 use Rattle.lan_core.specs.declared.event.Event.{Event}
 use Rattle.lan_core.specs.declared.event.Event.TheVariants as events
 use Rattle.lan_core.specs.declared.settings.Settings.{Settings}
@@ -30,7 +32,7 @@ use Rattle.lan_schedule.specs.World.{World, is_racing}
 use Rattle.lan_schedule.specs.Acts.{is_stop}
 use Rattle.lan_schedule.specs.Stages.{StandsFor, Counts}
 use Rattle.lan_schedule.specs.inside.Recording.{Mark, IsRecorded, HasRecorded, HasLooked, StandsSince}
-use Rattle.lan_schedule.specs.inside.Recording.{LeavesAt, LeavesBy, KeepTables, KeepsStep}
+use Rattle.lan_schedule.specs.inside.Recording.{LeavesAt, LeavesBy, KeepSeats, KeepsStep}
 use Rattle.lan_schedule.specs.inside.Recording.{epoch_of}
 use Rattle.lan_schedule.specs.inside.Recording.{is_start, steps_of}
 use Rattle.lan_schedule.specs.inside.Comes.{IsExact}
@@ -206,11 +208,23 @@ performed-here settings users r event shown at step = performed-so settings user
     (happened event shown) at.station _ refl refl (at.kept settings r)
     (at.kept settings (happened event shown ∷ r)) at.own step
 
--- ---- tables
+-- ---- tables and seats
 
-pub tables-same : (old new : List ControlAt) → tables_of new ≡ tables_of old → KeepTables old new
-tables-same old new same s table at = subst (λ (ts : List TableId). slice_get ts s ≡ Some table)
-    (sym same) at
+pub seats-kept : (cs : List ControlAt) → KeepSeats cs cs
+seats-kept cs = record { tables = λ s table at. at; out = out-none cs }
+
+pub seats-then : (a b c : List ControlAt) → KeepSeats a b → KeepSeats b c → KeepSeats a c
+seats-then a b c first second = record {
+  tables = λ s table at. second.tables s table (first.tables s table at);
+  out = out-then a b c first.out second.out;
+}
+
+pub seats-same : (old new : List ControlAt) → tables_of new ≡ tables_of old → NoMoreOut old new
+    → KeepSeats old new
+seats-same old new same out = record {
+  tables = λ s table at. subst (λ (ts : List TableId). slice_get ts s ≡ Some table) (sym same) at;
+  out = out;
+}
 
 -- ---- what an event keeps
 
@@ -239,13 +253,16 @@ front-get [] ys s x at = absurd (grind arith)
 front-get (y ∷ xs) ys zero x at = at
 front-get (y ∷ xs) ys (suc s) x at = front-get xs ys s x at
 
-pub tables-started : (P : ControlAt → Type 0) (T : Type 0) (r : Result (Unit {0}) AllocError)
-    (old new : List ControlAt) → OnOk r ((c : ControlAt) × (new ≡ old ++ c ∷ []) × P c)
-    → OnErr r ((new ≡ old) × T) → KeepTables old new
-tables-started P T (Ok done) old new more same s table at =
-    subst (λ (cs : List ControlAt). slice_get (tables_of cs) s ≡ Some table) (sym more.1)
-    (subst (λ (ts : List TableId). slice_get ts s ≡ Some table)
-    (sym (map-append (λ (c : ControlAt). c.table) old (more.0 ∷ [])))
-    (front-get (tables_of old) _ s table at))
-tables-started P T (Err e) old new more same s table at =
-    subst (λ (cs : List ControlAt). slice_get (tables_of cs) s ≡ Some table) (sym same.0) at
+pub seats-started : (P : ControlAt → Type 0) (T : Type 0) (r : Result (Unit {0}) AllocError)
+    (old new : List ControlAt) → ((c : ControlAt) → P c → AllIn c.view)
+    → OnOk r ((c : ControlAt) × (new ≡ old ++ c ∷ []) × P c)
+    → OnErr r ((new ≡ old) × T) → KeepSeats old new
+seats-started P T (Ok done) old new fresh more same = subst (λ (cs : List ControlAt). KeepSeats old cs)
+    (sym more.1) (record {
+      tables = λ s table at. subst (λ (ts : List TableId). slice_get ts s ≡ Some table)
+          (sym (map-append (λ (c : ControlAt). c.table) old (more.0 ∷ [])))
+          (front-get (tables_of old) _ s table at);
+      out = out-started old more.0 (fresh more.0 more.2);
+    })
+seats-started P T (Err e) old new fresh more same =
+    subst (λ (cs : List ControlAt). KeepSeats old cs) (sym same.0) (seats-kept old)

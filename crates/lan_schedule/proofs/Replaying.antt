@@ -22,7 +22,7 @@ use Rattle.lan_schedule.specs.Lines.{begin_line, at_line, performed, performed_a
 use Rattle.lan_schedule.specs.Reports.{Report}
 use Rattle.lan_schedule.specs.Sound.{IsTidy}
 use Rattle.lan_schedule.specs.Ends.{Moment, moment, Ends}
-use Rattle.lan_schedule.specs.Standing.{phase_of, AreFit, IsStaged, HasTally, StandsFor, Counts, Does}
+use Rattle.lan_schedule.specs.Standing.{phase_of, AreBursts, AreFit, IsStaged, HasTally, StandsFor, Counts, Does}
 use Rattle.lan_schedule.specs.Stages.{StandsFor as StageStandsFor, Counts as StageCounts}
 use Rattle.lan_schedule.specs.inside.Comes.{Comes}
 use Rattle.lan_schedule.specs.inside.Phased.{is_controlling}
@@ -423,7 +423,8 @@ module _ {K : Type 0} {Took : K → Report → K → Type 0} {Broke : K → Repo
         (stage later : Stage) (r : Result (Unit {0}) Halt) → old.value.stage ≡ Some stage
         → phase_of old.value.phase ≡ Controlling bursts control → new.value.stage ≡ Some later
         → new.value.halted ≡ old.value.halted → phase_of new.value.phase ≡ Apart
-        → ((w : World) → StandsFor w old.value → IsTidy w → Comes (run_race bursts control w) w)
+        → ((w : World) → StandsFor w old.value → IsTidy w
+        → AreBursts (names_of w.run) bursts × Comes (run_race bursts control w) w)
         → DidRace Took Broke bursts control (moment stage old.outlet) (moment later new.outlet) r
         → Does Took Broke (look (λ w. race_in w.kept.phase w)) old new r
     raced-does bursts control old new stage later r is_old stood is_new halted apart comes d = record {
@@ -446,5 +447,6 @@ module _ {K : Type 0} {Took : K → Report → K → Type 0} {Broke : K → Repo
           (λ v halt tally. subst (λ (o : Option Stage). HasTally v new.value o) (sym is_new) tally)
           (λ v tally. subst (λ (o : Option Stage). HasTally v new.value o) (sym is_new) tally)
           (d.ends w rest left (record { stands = inner; tidy = reached.tidy })
-          (ap is_racing at) (comes w reached.stands reached.tidy)));
+          (ap is_racing at) (comes w reached.stands reached.tidy).0
+          (comes w reached.stands reached.tidy).1));
     }

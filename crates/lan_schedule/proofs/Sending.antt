@@ -30,7 +30,7 @@ use Rattle.lan_schedule.specs.Reports.{Report}
 use Rattle.lan_schedule.specs.Ends.{Moment, IsReached, Ends}
 use Rattle.lan_schedule.specs.inside.Comes.{Comes}
 use Rattle.lan_schedule.specs.Stages.{Says, StandsWith, StandsFor, Counts}
-use Rattle.lan_schedule.specs.inside.Recording.{Mark, StandsSince, LeavesAt, KeepTables}
+use Rattle.lan_schedule.specs.inside.Recording.{Mark, StandsSince, LeavesAt, KeepSeats}
 use Rattle.lan_schedule.specs.inside.Staged.{IsSetSince}
 use Rattle.lan_schedule.proofs.Recorded.{looked-apart}
 use Rattle.std.specs.Prelude.{is_some, option_map}
@@ -132,14 +132,14 @@ module _ {K : Type 0} {Took : K → Report → K → Type 0} {Broke : K → Repo
         → IsSame old.value mid.value → mid.value.line ≡ old.value.line
         → n ≡ old.value.users + 1 → mid.value.users ≡ n → n ≤ last_number
         → mid.value.cuts ≡ old.value.cuts → Gives s n pn old.value mid.value
-        → KeepTables old.value.words new.value.words
+        → KeepSeats old.value.words new.value.words
         → ((mark : Mark) (w : World) (later : List Chance)
         → w.kept.chances ≡ (decided mid.value.raced (events.Claim s n pn) ++ more) ++ later
         → IsReached (IsSetSince (events.Claim s n pn) mark) w mid.value
         → Some user ≡ user_at w.kept.users n → Comes (claim s n pn) w
         → Ends (StandsSince mark) (LeavesAt mark) Counts Took Broke w later (perform (claim s n pn) w) mid.outlet new r)
         → Did Took Broke (seq (add_user user) (send s)) old new r
-    send-does s n pn user more old mid new r outlet same line one_more users most cuts gives tables done =
+    send-does s n pn user more old mid new r outlet same line one_more users most cuts gives seats done =
         let event = events.Claim s n pn in record {
           chances = decided mid.value.raced event ++ more;
           ends = λ mark w later left reached comes.
@@ -184,7 +184,7 @@ module _ {K : Type 0} {Took : K → Report → K → Type 0} {Broke : K → Repo
                 };
                 tidy = tidy;
               }) named (subst (λ (act : Act). Comes act v) (sym e) comes_v)));
-          tables = tables;
+          seats = seats;
         }
 
     -- the claim ended early

@@ -15,9 +15,10 @@ use Rattle.lan_schedule.specs.declared.phase.Phase.{Phase as Stood}
 use Rattle.lan_schedule.specs.declared.phase.Phase.TheVariants as stood
 use Rattle.lan_schedule.specs.declared.commands.Replay.{Replay}
 use Rattle.lan_schedule.specs.Races.{Chance, Phase, Apart, Bursting, Controlling, Burst, Numbered}
+use Rattle.lan_schedule.specs.Races.{workers_at}
 use Rattle.lan_schedule.specs.World.{World, nothing_kept}
 use Rattle.lan_schedule.specs.Acts.{Act, Goes, Stops, perform}
-use Rattle.lan_schedule.specs.Kinds.{is_control, wrong_name}
+use Rattle.lan_schedule.specs.Kinds.{is_control, most_workers, wrong_name}
 use Rattle.lan_schedule.specs.Lines.{at_line, close}
 use Rattle.lan_schedule.specs.Reports.{Report}
 use Rattle.lan_schedule.specs.Ends.{Moment, IsReached, Ends}
@@ -40,11 +41,16 @@ pub record IsControl (names : List (List ℕ)) (kept : Numbered) : Type 0 where
   pub control : is_control kept.line ≡ true
   pub named : wrong_name kept.line names ≡ None
 
+-- such bursts, and no station has more workers than there are seats at its words
+pub record AreBursts (names : List (List ℕ)) (bursts : List Burst) : Type 0 where
+  pub each : AllByRecursion (IsBurst names) bursts
+  pub few : (s : ℕ) → workers_at s bursts ≤ most_workers
+
 -- what is kept for a race can be performed, where the stations have these names
 abbrev pub AreFit : List (List ℕ) → Phase → Type 0
-AreFit names (Bursting bursts) = AllByRecursion (IsBurst names) bursts
+AreFit names (Bursting bursts) = AreBursts names bursts
 AreFit names (Controlling bursts control) =
-    AllByRecursion (IsBurst names) bursts × AllByRecursion (IsControl names) control
+    AreBursts names bursts × AllByRecursion (IsControl names) control
 AreFit names _ = Unit {0}
 
 -- before the first station nothing happened, and the tally is that of no facts; from then on the

@@ -1,10 +1,11 @@
 //! A replay performs the lines of a trace, one after the other.
 
-ghost use Rattle.std.specs.Prelude.{◌≡◌, Some, None, Ok, Err, IfErr};
+ghost use Rattle.std.specs.Prelude.{◌≡◌, [], Some, None, Ok, Err, IfErr};
 ghost use Rattle.std.specs.Prelude.{List, Option, is_some, true};
 ghost use Rattle.std.specs.Prelude.{false};
 ghost use Rattle.lan_core.specs.Run.{facts_of};
 ghost use Rattle.fact_tally.specs.Summary.{counts};
+ghost use Rattle.transmit_words.specs.Seats.{NoMoreOut};
 ghost use Rattle.trace_text.specs.Writing.{IsInForm};
 ghost use Rattle.trace_acts.specs.declared.halt.Halt.{Halt};
 ghost use Rattle.trace_acts.specs.Kinds.{is_allowed};
@@ -16,6 +17,7 @@ ghost use Rattle.lan_schedule.specs.Lines.{numbered, at_line, act_of, deed};
 ghost use Rattle.lan_schedule.specs.Lines.{performed};
 ghost use Rattle.lan_schedule.specs.Ends.{moment};
 ghost use Rattle.lan_schedule.specs.Standing.{StandsFor, Counts, Does, Closes, phase_of};
+ghost use Rattle.lan_schedule.specs.Shown.{words_of};
 ghost use Rattle.lan_schedule.specs.inside.Beside.{race_in};
 ghost use Rattle.lan_schedule.specs.inside.Phased.{is_controlling};
 
@@ -51,7 +53,8 @@ pub struct Replay {
 impl Replay {
     /// No line was performed.
     pub fn new(alloc: Global) -> Self
-        ensures { (chances : List Chance) → StandsFor (beginning chances) result }
+        ensures stands { (chances : List Chance) → StandsFor (beginning chances) result }
+        ensures seats { words_of result ≡ [] }
     {
         Replay {
             alloc,
@@ -79,7 +82,7 @@ impl Replay {
     /// Performs one line, whose number in the trace is given, and tells what each event shows before
     /// the next one happens, but for a race: its end runs it whole, and then tells what it showed. An
     /// error halts the replay: it answers that error from then on, and keeps the tally of what had
-    /// happened.
+    /// happened. However it ends, no seat is out that a worker had.
     pub fn command<T: Threads + Sync, K, R: Recorder<K>, G: Gate + Sync>(
         &mut self,
         rt: &T,
@@ -92,6 +95,7 @@ impl Replay {
         requires { IsInForm line.now }
         ensures does { Does R.Took R.Broke (numbered number line.now)
             (moment self.old outlet.old) (moment self.new outlet.new) result }
+        ensures seats { NoMoreOut (words_of self.old) (words_of self.new) }
         ensures halts { IfErr result (λ halt. self.new.halted ≡ Some halt) }
         ensures again { (halt : Halt) → self.old.halted ≡ Some halt
             → (result ≡ Err halt) × (self.new ≡ self.old) × (outlet.new ≡ outlet.old) }
@@ -107,7 +111,8 @@ impl Replay {
     }
 
     /// Performs a text without its line ending, as the next line, and tells what each event shows
-    /// before the next one happens. An error halts the replay, as that of a command does.
+    /// before the next one happens. An error halts the replay, as that of a command does, and no seat is
+    /// out.
     pub fn text<T: Threads + Sync, K, R: Recorder<K>, G: Gate + Sync>(
         &mut self,
         rt: &T,
@@ -118,6 +123,7 @@ impl Replay {
     ) -> Result<(), Halt>
         ensures does { Does R.Took R.Broke (performed text.now)
             (moment self.old outlet.old) (moment self.new outlet.new) result }
+        ensures seats { NoMoreOut (words_of self.old) (words_of self.new) }
         ensures halts { IfErr result (λ halt. self.new.halted ≡ Some halt) }
         ensures again { (halt : Halt) → self.old.halted ≡ Some halt
             → (result ≡ Err halt) × (self.new ≡ self.old) × (outlet.new ≡ outlet.old) }
@@ -161,8 +167,9 @@ impl Replay {
         outlet: &mut K,
         gate: &G,
     ) -> Result<(), Halt>
-        ensures { Does R.Took R.Broke (performed text.now)
+        ensures does { Does R.Took R.Broke (performed text.now)
             (moment self.old outlet.old) (moment self.new outlet.new) result }
+        ensures seats { NoMoreOut (words_of self.old) (words_of self.new) }
     {
         let Some(number) = self.line().checked_add(1) else {
             return Err(Halt::Memory);
@@ -192,8 +199,9 @@ impl Replay {
         gate: &G,
     ) -> Result<(), Halt>
         requires { IsInForm line.now }
-        ensures { Does R.Took R.Broke (numbered number line.now)
+        ensures does { Does R.Took R.Broke (numbered number line.now)
             (moment self.old outlet.old) (moment self.new outlet.new) result }
+        ensures seats { NoMoreOut (words_of self.old) (words_of self.new) }
     {
         self.begin_line(number);
         self.perform(rt, line, recorder, outlet, gate)
@@ -201,7 +209,8 @@ impl Replay {
 
     /// The line of a number begins, and performs nothing so far.
     fn begin_line(&mut self, number: u32)
-        ensures { (w : World) → StandsFor w self.old → StandsFor (at_line number w) self.new }
+        ensures stands { (w : World) → StandsFor w self.old → StandsFor (at_line number w) self.new }
+        ensures seats { words_of self.new ≡ words_of self.old }
     {
         if let Some(stage) = &mut self.stage {
             stage.line = number;
@@ -230,8 +239,9 @@ impl Replay {
         gate: &G,
     ) -> Result<(), Halt>
         requires { IsInForm line.now }
-        ensures { Does R.Took R.Broke (act_of line.now)
+        ensures does { Does R.Took R.Broke (act_of line.now)
             (moment self.old outlet.old) (moment self.new outlet.new) result }
+        ensures seats { NoMoreOut (words_of self.old) (words_of self.new) }
     {
         if self.phase.is_end(line) {
             return self.race(rt, recorder, outlet, gate);
@@ -260,8 +270,9 @@ impl Replay {
         gate: &G,
     ) -> Result<(), Halt>
         requires controls { is_controlling (phase_of self.old.phase) ≡ true }
-        ensures { Does R.Took R.Broke (look (λ w. race_in w.kept.phase w))
+        ensures does { Does R.Took R.Broke (look (λ w. race_in w.kept.phase w))
             (moment self.old outlet.old) (moment self.new outlet.new) result }
+        ensures seats { NoMoreOut (words_of self.old) (words_of self.new) }
     {
         let Some(stage) = self.stage.take() else {
             return Ok(());
@@ -286,8 +297,9 @@ impl Replay {
         requires form { IsInForm line.now }
         requires unbegun { self.old.stage ≡ None }
         requires allowed { is_allowed line.now false self.old.chosen ≡ true }
-        ensures { Does R.Took R.Broke (look (λ w. deed line.now w))
+        ensures does { Does R.Took R.Broke (look (λ w. deed line.now w))
             (moment self.old outlet.old) (moment self.new outlet.new) result }
+        ensures seats { NoMoreOut (words_of self.old) (words_of self.new) }
     {
         match line {
             Line::Station { .. } => self.open(line, recorder, outlet, gate),
@@ -310,8 +322,9 @@ impl Replay {
         requires unbegun { self.old.stage ≡ None }
         requires keyed { is_some self.old.chosen.group ≡ true }
         requires station { IsStation line.now }
-        ensures { Does R.Took R.Broke (look (λ w. deed line.now w))
+        ensures does { Does R.Took R.Broke (look (λ w. deed line.now w))
             (moment self.old outlet.old) (moment self.new outlet.new) result }
+        ensures seats { NoMoreOut (words_of self.old) (words_of self.new) }
     {
         let mut stage = Stage::new(self.alloc, &self.chosen, self.line)?;
         let outcome = stage.perform(line, recorder, outlet, gate);

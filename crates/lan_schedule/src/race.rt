@@ -3,12 +3,14 @@
 
 ghost use Rattle.std.specs.Prelude.{◌≡◌, ◌<◌, ◌+◌, ◌*◌, ◌^◌, [], not, nat_lt, true, map};
 ghost use Rattle.std.specs.Prelude.{List, IfOk, IfErr, IfSome, OnOk, OnErr, None, option_map};
-ghost use Rattle.std.specs.Prelude.{slice_get, vec_capacity};
+ghost use Rattle.std.specs.Prelude.{All, IfNone, MatchResult, slice_get, vec_capacity};
 ghost use Rattle.std.specs.Option.{option_copied};
 ghost use Rattle.data_workers.specs.Workers.{HasTable};
 ghost use Rattle.lan_core.specs.declared.event.Event.TheVariants as events;
+ghost use Rattle.association_slots.specs.Views.{ControlAt};
+ghost use Rattle.transmit_words.specs.Seats.{NoMoreOut};
 ghost use Rattle.transmit_words.specs.Ties.{tables_of};
-ghost use Rattle.worker_races.specs.Senders.{jobs_of};
+ghost use Rattle.worker_races.specs.Senders.{IsNew, jobs_of};
 ghost use Rattle.lan_schedule.specs.Races.{Numbered as NumberedAt};
 ghost use Rattle.lan_schedule.specs.Races.{frames_asked, octets_asked, limit_of, share, worker_at};
 ghost use Rattle.lan_schedule.specs.Races.{workers_of, frame_octets};
@@ -20,6 +22,7 @@ ghost use Rattle.lan_schedule.specs.Stages.{StandsFor};
 ghost use Rattle.lan_schedule.specs.inside.Beside.{AreHired, IsReady, IsUnhired, RanBeside};
 ghost use Rattle.lan_schedule.specs.inside.Beside.{WereJoined, HiredAll, WasHired, BeginsRace};
 ghost use Rattle.lan_schedule.specs.inside.Beside.{HasEnlisted, HasMoved, HaveRoom};
+ghost use Rattle.lan_schedule.specs.inside.Beside.{HaveSeats, IsFull, OutFor};
 ghost use Rattle.lan_schedule.specs.inside.Beside.{DidRace, EndsRace, Weaves, has_stopped, is_memory};
 ghost use Rattle.lan_schedule.specs.inside.Staged.{Did};
 
@@ -95,8 +98,9 @@ pub fn run_race<T: Threads + Sync, K, R: Recorder<K>, G: Gate + Sync>(
     outlet: &mut K,
     gate: &G,
 ) -> (Stage, Result<(), Halt>)
-    ensures { DidRace R.Took R.Broke bursts.now control.items (moment stage outlet.old)
+    ensures did { DidRace R.Took R.Broke bursts.now control.items (moment stage outlet.old)
         (moment result.0 outlet.new) result.1 }
+    ensures seats { NoMoreOut stage.words result.0.words }
 {
     let before = Before {
         line: stage.line,
@@ -121,7 +125,9 @@ fn run_beside<T: Threads + Sync, G: Gate + Sync>(
     gate: &G,
 ) -> (Stage, Ran)
     requires { IsReady stage crew }
-    ensures { RanBeside control.items crew.workers.items stage result.0 result.1 }
+    ensures ran { RanBeside control.items crew.workers.items stage result.0 result.1 }
+    ensures seats { (first : List ControlAt) → OutFor crew.workers.items first stage.words
+        → NoMoreOut first result.0.words }
 {
     let Crew {
         handles,
@@ -182,15 +188,19 @@ impl Stage {
     // ---- workers
 
     /// Hires the workers of bursts, and takes all memory for their work, unless the bursts ask for
-    /// more than the air leaves. An error leaves no seat out.
+    /// more than the air leaves. Their seats alone are out then, and after an error none of them is.
     fn crew(&mut self, bursts: &[Burst]) -> Result<Crew, Halt>
         ensures hired { (w : World) → IsReached StandsFor w self.old
+            → HaveSeats bursts.now self.old
             → IfOk result (λ crew. AreHired w (workers_of bursts.now) self.old self.new
             crew.workers.items × (excess_of bursts.now w ≡ None)) }
         ensures ready { IfOk result (IsReady self.new) }
         ensures unhired { (w : World) (control : List NumberedAt) → IsReached StandsFor w self.old
             → IfErr result (IsUnhired w bursts.now control) }
         ensures tally { OnErr result (self.new.tally ≡ self.old.tally) }
+        ensures seats { MatchResult result
+            (λ crew. OutFor crew.workers.items self.old.words self.new.words)
+            (λ _. NoMoreOut self.old.words self.new.words) }
     {
         if let Some(which) = self.excess(bursts) {
             return Err(Halt::Limit(which));
@@ -212,12 +222,15 @@ impl Stage {
     }
 
     /// Hires the workers of bursts and begins their race. Where that fails, those that were hired so far
-    /// are left.
+    /// are left. No seat but theirs went out.
     fn enlist(&mut self, bursts: &[Burst], workers: &mut Vec<Worker>, logs: &mut Vec<Log>) -> bool
         requires none { workers.old.items ≡ [] }
         requires empty { logs.old.items ≡ [] }
-        ensures enlisted { result ≡ true → HasEnlisted (workers_of bursts.now) self.old self.new
-            workers.new.items }
+        ensures enlisted { HaveSeats bursts.now self.old → result ≡ true
+            → HasEnlisted (workers_of bursts.now) self.old self.new workers.new.items }
+        ensures fresh { All IsNew workers.new.items }
+        ensures seats { OutFor workers.new.items self.old.words self.new.words }
+        ensures tables { tables_of self.new.words ≡ tables_of self.old.words }
         ensures room { HaveRoom self.new workers.new.items logs.new.items (vec_capacity logs.new) }
         ensures tally { self.new.tally ≡ self.old.tally }
     {
@@ -227,7 +240,8 @@ impl Stage {
         }
     }
 
-    /// Hires the workers of bursts, burst by burst. An error leaves those that were hired so far.
+    /// Hires the workers of bursts, burst by burst; one for whom there is no seat is left out. An error
+    /// leaves those that were hired so far. No seat but theirs went out.
     fn hire_all(
         &mut self,
         bursts: &[Burst],
@@ -236,8 +250,10 @@ impl Stage {
     ) -> Result<(), AllocError>
         requires none { workers.old.items ≡ [] }
         requires empty { logs.old.items ≡ [] }
-        ensures hired { OnOk result (HiredAll (workers_of bursts.now) self.old self.new
-            workers.new.items) }
+        ensures hired { HaveSeats bursts.now self.old
+            → OnOk result (HiredAll (workers_of bursts.now) self.old self.new workers.new.items) }
+        ensures fresh { All IsNew workers.new.items }
+        ensures seats { OutFor workers.new.items self.old.words self.new.words }
         ensures room { HaveRoom self.new workers.new.items logs.new.items (vec_capacity logs.new) }
         ensures moved { HasMoved self.old self.new }
     {
@@ -245,25 +261,29 @@ impl Stage {
             for place in 0..burst.workers() {
                 workers.reserve(1)?;
                 logs.reserve(workers.len() + 1)?;
-                let worker = self.hire(burst, place)?;
-                workers.push_reserved(worker);
+                if let Some(worker) = self.hire(burst, place)? {
+                    workers.push_reserved(worker);
+                }
             }
         }
         Ok(())
     }
 
-    /// Hires the worker at a place of a burst, which takes a seat of its station's words. An error
-    /// leaves no seat out.
-    fn hire(&mut self, burst: &Burst, place: u32) -> Result<Worker, AllocError>
+    /// Hires the worker at a place of a burst, which takes a seat of its station's words, unless the
+    /// station has none left. An error leaves its seat not out.
+    fn hire(&mut self, burst: &Burst, place: u32) -> Result<Option<Worker>, AllocError>
         requires { place < burst.now.workers }
-        ensures hired { IfOk result (λ worker.
-            WasHired (worker_at burst.now place) self.old self.new worker) }
-        ensures tables { IfOk result (HasTable (tables_of self.new.words)) }
+        ensures hired { IfOk result (λ hired. IfSome hired (λ worker.
+            WasHired (worker_at burst.now place) self.old self.new worker)) }
+        ensures tables { IfOk result (λ hired. IfSome hired (HasTable (tables_of self.new.words))) }
+        ensures none { IfOk result (λ hired. IfNone hired
+            (IsFull burst.now.station self.old × (self.new ≡ self.old))) }
+        ensures back { OnErr result (NoMoreOut self.old.words self.new.words) }
         ensures moved { HasMoved self.old self.new }
     {
         let station = burst.station();
         let Some(sci) = self.sci(station) else {
-            return Err(AllocError);
+            return Ok(None);
         };
         let sci = *sci;
         let sender = Sender {
@@ -272,10 +292,10 @@ impl Stage {
             user: copied(self.alloc, burst.user())?,
         };
         let Some(seat) = self.words.seat(station) else {
-            return Err(AllocError);
+            return Ok(None);
         };
         match Worker::new(self.alloc, sender, seat, share(burst, place)) {
-            Ok(worker) => Ok(worker),
+            Ok(worker) => Ok(Some(worker)),
             Err((seat, err)) => {
                 self.words.join(station, seat);
                 Err(err)
@@ -407,8 +427,9 @@ impl Stage {
         outlet: &mut K,
         gate: &G,
     ) -> Result<(), Halt>
-        ensures { EndsRace R.Took R.Broke before ran (moment self.old outlet.old)
+        ensures ends { EndsRace R.Took R.Broke before ran (moment self.old outlet.old)
             (moment self.new outlet.new) result }
+        ensures seats { NoMoreOut self.old.words self.new.words }
     {
         let Before { line, tally } = before;
         self.line = line;
@@ -433,7 +454,8 @@ impl Stage {
     /// the frames of these are emitted. What all of it shows, and how it came to its end. An error is
     /// want of memory.
     fn weave<G: Gate>(&mut self, ran: Ran, gate: &G) -> Result<(Kept, Result<(), Halt>), AllocError>
-        ensures { Weaves ran self.old self.new result }
+        ensures weaves { Weaves ran self.old self.new result }
+        ensures seats { NoMoreOut self.old.words self.new.words }
     {
         let Ran {
             steps,

@@ -27,7 +27,7 @@ ghost use Rattle.lan_core.specs.declared.settings.Settings.{Settings};
 ghost use Rattle.lan_core.specs.Run.{Run};
 ghost use Rattle.lan_core.specs.Standing.{StandsFor as GroupStandsFor};
 ghost use Rattle.lan_schedule.specs.inside.Recording.{station_in, epoch_of, octets_put};
-ghost use Rattle.lan_schedule.specs.inside.Recording.{octets_in, KeepsStep, KeepTables};
+ghost use Rattle.lan_schedule.specs.inside.Recording.{octets_in, KeepsStep, KeepSeats};
 ghost use Rattle.lan_schedule.specs.declared.stage.Stage.{Stage};
 ghost use Rattle.lan_core.specs.Batches.{IsChecked};
 ghost use Rattle.lan_schedule.specs.inside.Staged.{Did, DidWhere, Happened, HasStepped, WentOn};
@@ -83,6 +83,7 @@ impl Stage {
     pub fn new(alloc: Global, chosen: &Choices, line: u32) -> Result<Self, Halt>
         ensures stands { (w : World) → IsTidy w → is_some chosen.now.group ≡ true
             → IsOpening w chosen.now line → IfOk result (StandsFor w) }
+        ensures words { IfOk result (λ stage. stage.words ≡ []) }
         ensures memory { IfErr result (λ halt. halt ≡ Halt.Memory) }
     {
         let settings = settings_of(alloc, chosen)?;
@@ -435,7 +436,7 @@ impl Stage {
     fn cut(&mut self, from: u8, to: u8) -> Result<(), AllocError>
         ensures ok { OnOk result (Changed (cut_in from to) self.old self.new) }
         ensures tally { self.new.tally ≡ self.old.tally }
-        ensures tables { KeepTables self.old.words self.new.words }
+        ensures seats { KeepSeats self.old.words self.new.words }
     {
         self.cuts.cut(from, to)?;
         Ok(())

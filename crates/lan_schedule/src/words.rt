@@ -15,10 +15,11 @@ ghost use Rattle.transmit_words.specs.Ties.{tables_of, AreTied, AreAhead, HaveKe
 ghost use Rattle.transmit_words.specs.Ties.{HaveCaughtUp, CaughtAhead, Followed, HaveLooked};
 ghost use Rattle.transmit_words.specs.Ties.{KeepCards};
 ghost use Rattle.transmit_words.specs.Seats.{WasSeated, HasNoSeat, HasJoined, HasGot};
+ghost use Rattle.transmit_words.specs.Seats.{NoMoreOut};
 ghost use Rattle.worker_races.specs.Carded.{AreCarded};
 ghost use Rattle.lan_schedule.specs.Numbers.{shown_next};
 ghost use Rattle.lan_schedule.specs.Stages.{Says};
-ghost use Rattle.lan_schedule.specs.inside.Recording.{KeepTables, is_start};
+ghost use Rattle.lan_schedule.specs.inside.Recording.{KeepSeats, is_start};
 ghost use Rattle.lan_schedule.specs.inside.Set.{SaysAhead, AreSet, IsGiven};
 
 use association_slots::{SlotTable, WorkerSeat};
@@ -92,6 +93,7 @@ impl Words {
             × CaughtAhead settings r (events.Claim station user result) self.new }
         ensures cards { KeepCards self.old self.new }
         ensures same { tables_of self.new ≡ tables_of self.old }
+        ensures out { NoMoreOut self.old self.new }
     {
         self.controls.claim(&self.tables, station, gate)
     }
@@ -169,7 +171,7 @@ impl Words {
             → StandsFor settings users lan.now (happened event.now facts.now ∷ r)
             → OnOk result (Followed settings (happened event.now facts.now ∷ r) facts.now self.old
             self.new) }
-        ensures tables { KeepTables self.old self.new }
+        ensures seats { KeepSeats self.old self.new }
     {
         law_all_words_stay_tied();
         law_all_words_stay_caught_up();
@@ -182,7 +184,7 @@ impl Words {
 
     /// A station that starts gets words of its own.
     fn begin(&mut self, alloc: Global, event: &Event) -> Result<(), AllocError>
-        ensures tables { KeepTables self.old self.new }
+        ensures seats { KeepSeats self.old self.new }
         ensures same { is_start event.now ≡ false → self.new ≡ self.old }
         ensures ahead { (raced racing : Bool) (settings : Settings) (users : List UserFrame)
             (before : State) (r : Run) → StandsFor settings users before r

@@ -6,6 +6,7 @@ pub mod Catching
 pub mod Showing
 pub mod Carding
 pub mod Stations
+pub mod Out
 pub mod Onward
 pub mod Thrifty
 pub mod Beside

@@ -44,7 +44,7 @@ use Rattle.sak_exchange.specs.declared.held_key.HeldKey.{HeldKey}
 use Rattle.lan_core.specs.Keys.{held_at}
 
 -- what stands where one was set
-get-set : (cs : List ControlAt) (p : ℕ) (x : ControlAt) (s : ℕ) (d : ControlAt) → slice_get (set cs p x) s ≡ Some d → ((s ≡ p) × (x ≡ d)) ⊎ ((s ≢ p) × (slice_get cs s ≡ Some d))
+pub get-set : (cs : List ControlAt) (p : ℕ) (x : ControlAt) (s : ℕ) (d : ControlAt) → slice_get (set cs p x) s ≡ Some d → ((s ≡ p) × (x ≡ d)) ⊎ ((s ≢ p) × (slice_get cs s ≡ Some d))
 get-set [] p x s d e = absurd (cc e)
 get-set (c ∷ cs) zero x zero d e = inl (refl, cc e)
 get-set (c ∷ cs) zero x (suc s) d e = inr ((λ z. absurd (omega (arith, z))), e)

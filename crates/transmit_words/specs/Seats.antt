@@ -1,9 +1,11 @@
 -- How the words of all stations change as a seat goes out, and as one comes back; and what a claim
 -- got afterwards.
-use Rattle.std.specs.Prelude.{◌≡◌, ◌≤◌, ◌<◌, ◌⊎◌, ℕ, List, slice_get, slice_set, Some, IfSome}
+use Rattle.std.specs.Prelude.{◌≡◌, ◌≤◌, ◌<◌, ◌⊎◌, ℕ, Bool, true, false, List, slice_get, slice_set}
+use Rattle.std.specs.Prelude.{slice_index_or, Some, IfSome}
 use Rattle.association_slots.specs.Learned.{Learned}
 use Rattle.association_slots.specs.Steps.{new_seat, seated, told}
 use Rattle.association_slots.specs.Views.{ControlAt, SeatAt, AllIn, current, free_number, told_sum}
+use Rattle.association_slots.specs.declared.view.ControlView.{ControlView}
 use Rattle.lan_core.specs.declared.settings.Settings.{Settings}
 use Rattle.lan_core.specs.Expected.{last_number}
 use Rattle.lan_core.specs.Lives.{transmitting_at}
@@ -31,6 +33,17 @@ HasNoSeat s cs = IfSome (slice_get cs s) (λ c. 8 < free_number c.view)
 -- no seat of any station is out
 abbrev pub AreAllIn : List ControlAt → Type 0
 AreAllIn cs = (s : ℕ) (c : ControlAt) → slice_get cs s ≡ Some c → AllIn c.view
+
+-- the seat with a number, less one, is out: of one station, and of the station at a place
+abbrev pub is_out : ControlView → ℕ → Bool
+is_out c i = slice_index_or c.out i false
+
+abbrev pub IsOut : ℕ → ℕ → List ControlAt → Type 0
+IsOut s i cs = (c : ControlAt) × (slice_get cs s ≡ Some c) × (is_out c.view i ≡ true)
+
+-- no seat is out that was not out before
+abbrev pub NoMoreOut : List ControlAt → List ControlAt → Type 0
+NoMoreOut old new = (s i : ℕ) → IsOut s i new → IsOut s i old
 
 -- the words of a station have no packet number left under the key that transmits
 abbrev pub AreSpent : ℕ → List ControlAt → Type 0

@@ -1,6 +1,6 @@
 //! The hand that moves the words of one station.
 
-ghost use Rattle.std.specs.Prelude.{◌≡◌, ◌+◌, ◌≤◌, ◌<◌, ℕ, Some, IfOk, IfSome, IfNone};
+ghost use Rattle.std.specs.Prelude.{◌≡◌, ◌+◌, ◌≤◌, ◌<◌, ℕ, true, Some, IfOk, IfSome, IfNone};
 ghost use Rattle.association_slots.specs.Cards.{card_at};
 ghost use Rattle.association_slots.specs.Learned.{Learned};
 ghost use Rattle.association_slots.specs.Steps.{new_seat, seated, told};
@@ -9,6 +9,7 @@ ghost use Rattle.group_safety.specs.Transmitting.{Carried, installed, begun, end
 ghost use Rattle.group_safety.specs.Accounts.{Account, blank, next_now, looked};
 ghost use Rattle.group_safety.specs.Accounts.{showing};
 ghost use Rattle.lan_core.specs.Expected.{last_number};
+ghost use Rattle.transmit_words.specs.Seats.{is_out};
 ghost use Rattle.transmit_words.specs.Telling.{KeepUp, Tells, CatchUp, IsClaimed, HasGained, of_seats};
 ghost use Rattle.transmit_words.specs.Telling.{sending_of};
 
@@ -188,6 +189,8 @@ impl TransmitControl {
         ensures catches_up { (a : Account) → CatchUp a self.old.view
             → HasGained a self.old.view result (λ b. CatchUp b self.new.view) }
         ensures all_in { AllIn self.old.view → AllIn self.new.view }
+        // its seat comes back, whatever others are out
+        ensures out { (i : ℕ) → is_out self.new.view i ≡ true → is_out self.old.view i ≡ true }
         ensures keeps_up { (a : Account) → KeepUp a self.old.view → KeepUp a self.new.view }
         ensures cards { self.new.view.card_words ≡ self.old.view.card_words }
     {

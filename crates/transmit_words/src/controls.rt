@@ -17,6 +17,7 @@ ghost use Rattle.transmit_words.specs.Ties.{tables_of, AreTied, AreAhead, HaveKe
 ghost use Rattle.transmit_words.specs.Ties.{KeepAhead, HaveCaughtUp, CaughtAhead, Followed};
 ghost use Rattle.transmit_words.specs.Ties.{HaveLooked, KeepCards};
 ghost use Rattle.transmit_words.specs.Seats.{WasSeated, HasNoSeat, HasJoined, AreAllIn, HasGot};
+ghost use Rattle.transmit_words.specs.Seats.{NoMoreOut};
 
 use crate::control::TransmitControl;
 use crate::following::{card_of, moved};
@@ -131,6 +132,7 @@ impl Controls {
             → HasGot settings station r self.old result
             × CaughtAhead settings r (events.Claim station user result) self.new }
         ensures all_in { AreAllIn self.old → AreAllIn self.new }
+        ensures out { NoMoreOut self.old self.new }
         ensures cards { KeepCards self.old self.new }
     {
         let place = usize::from(station);
@@ -188,6 +190,7 @@ impl Controls {
         ensures followed { (settings : Settings) (users : List UserFrame) (r : Run)
             → StandsFor settings users lan.now r
             → Followed settings r facts.now self.old self.new }
+        ensures out { NoMoreOut self.old self.new }
     {
         for fact in facts {
             self.follow_one(tables, lan, fact, gate);
@@ -201,6 +204,7 @@ impl Controls {
         ensures followed { (settings : Settings) (users : List UserFrame) (r : Run)
             → StandsFor settings users lan.now r
             → Followed settings r (fact.now ∷ []) self.old self.new }
+        ensures out { NoMoreOut self.old self.new }
     {
         let place = usize::from(fact.place());
         if place < self.controls.len() {

@@ -10,33 +10,13 @@ use Rattle.association_slots.specs.declared.view.ControlView.{ControlView}
 use Rattle.association_slots.specs.declared.view.SeatView.{SeatView}
 use Rattle.data_workers.specs.Workers.{AreDone, WorkerAt}
 use Rattle.data_workers.specs.declared.sender.Sender.{Sender}
-use Rattle.transmit_words.specs.Seats.{WasSeated}
+use Rattle.transmit_words.specs.Seats.{WasSeated, is_out}
+use Rattle.transmit_words.proofs.Public.{set-false, set-true}
 use Rattle.worker_races.specs.Going.{WereSeated}
 use Rattle.worker_races.specs.Reading.{view_in, view_at}
 use Rattle.worker_races.specs.Senders.{IsNew}
 use Rattle.worker_races.proofs.Hands.{first-done, others-done}
 use Rattle.worker_races.proofs.Seating.{seated-view, told_all}
-
--- whether the seat with a number, less one, is out
-abbrev pub is_out : ControlView → ℕ → Bool
-is_out c i = slice_index_or c.out i false
-
-set-true : (xs : List Bool) (k i : ℕ) → slice_index_or (slice_set xs k true) i false ≡ true
-    → (i ≡ k) ⊎ (slice_index_or xs i false ≡ true)
-set-true [] k i is = inr is
-set-true (x ∷ xs) zero zero is = inl refl
-set-true (x ∷ xs) zero (suc i) is = inr is
-set-true (x ∷ xs) (suc k) zero is = inr is
-set-true (x ∷ xs) (suc k) (suc i) is = elim (set-true xs k i is) [ inl same ↦ inl (ap suc same) | inr was ↦ inr was ]
-
-set-false : (xs : List Bool) (k i : ℕ) → slice_index_or (slice_set xs k false) i false ≡ true
-    → (i ≡ k → ⊥) × (slice_index_or xs i false ≡ true)
-set-false [] k i is = absurd (cc is)
-set-false (x ∷ xs) zero zero is = absurd (cc is)
-set-false (x ∷ xs) zero (suc i) is = ((λ same. absurd (omega (arith, same))), is)
-set-false (x ∷ xs) (suc k) zero is = ((λ same. absurd (omega (arith, same))), is)
-set-false (x ∷ xs) (suc k) (suc i) is =
-    let rest = set-false xs k i is in ((λ same. rest.0 (omega (arith, same))), rest.1)
 
 -- the seat of a worker at a station has the number
 unfoldable pub HasNumber : ℕ → ℕ → List WorkerAt → Type 0

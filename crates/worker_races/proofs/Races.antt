@@ -54,7 +54,8 @@ use Rattle.worker_races.specs.Beside.{Race, WereBeside, ans_in, attempts_in, log
 use Rattle.worker_races.specs.Performed.{happenings, run_after}
 use Rattle.worker_races.specs.Reading.{view_in, view_at}
 use Rattle.worker_races.specs.Senders.{IsNew}
-use Rattle.worker_races.proofs.BackIn.{is_out, out-joined, out-seated, same-number}
+use Rattle.transmit_words.specs.Seats.{is_out}
+use Rattle.worker_races.proofs.BackIn.{out-joined, out-seated, same-number}
 use Rattle.worker_races.proofs.Gone.{gone-at, some-at}
 use Rattle.worker_races.proofs.Seating.{Shares, added, ahead-joined, all-came, all-took, grown-all, joined-all, kept-joined, seated-many, shares-all, told-counts, told_all}
 use Rattle.worker_races.proofs.Hands.{AreHands, Hand, are-hands, entries-are}

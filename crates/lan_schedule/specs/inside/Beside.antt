@@ -1,7 +1,8 @@
 -- The parts of a race: its workers are hired, control's lines are performed beside them, they are
 -- dismissed, and what all of them did stands in one run.
 use Rattle.std.specs.Prelude.{◌≡◌, ◌⊎◌, ◌+◌, ◌<◌, ◌≤◌, ◌^◌, ℕ, Bool, true, false, List, [], ◌++◌}
-use Rattle.std.specs.Prelude.{map, length, All, slice_get, Some, None, Result, Ok, Err, IfOk}
+use Rattle.std.specs.Prelude.{map, length, All, slice_get, Some, None, Result, Ok, Err, IfOk, ◌∷◌}
+use Rattle.std.specs.List.{AllByRecursion}
 use Rattle.std.specs.Prelude.{vec_capacity}
 use Rattle.std.specs.declared.alloc.AllocError.{AllocError}
 use Rattle.association_slots.specs.Views.{ControlAt}
@@ -13,7 +14,7 @@ use Rattle.lan_core.specs.Ledgers.{claims}
 use Rattle.lan_core.specs.Run.{Run, facts_of}
 use Rattle.lan_core.specs.Types.{IsUserFrame}
 use Rattle.fact_tally.specs.Summary.{counts}
-use Rattle.transmit_words.specs.Seats.{WasSeated}
+use Rattle.transmit_words.specs.Seats.{AreAllIn, HasNoSeat, IsOut, WasSeated}
 use Rattle.race_merge.specs.declared.step.Step.{Step}
 use Rattle.transmit_words.specs.Ties.{tables_of, HaveKeptUp}
 use Rattle.worker_races.specs.Going.{HaveJoined, WereSeated}
@@ -26,15 +27,18 @@ use Rattle.lan_schedule.specs.declared.race.Crew.{Crew}
 use Rattle.lan_schedule.specs.declared.race.Ran.{Ran}
 use Rattle.lan_schedule.specs.declared.stage.Stage.{Stage}
 use Rattle.lan_schedule.specs.Races.{Phase, Controlling, Burst, Numbered, Worker, Chance}
-use Rattle.lan_schedule.specs.Races.{behind_numbers}
+use Rattle.lan_schedule.specs.Races.{behind_numbers, workers_at}
 use Rattle.lan_schedule.specs.World.{World, is_racing}
 use Rattle.lan_schedule.specs.Acts.{Act, Course, Goes, Stops, nothing, perform, race, begun_race}
 use Rattle.lan_schedule.specs.Acts.{is_stop}
+use Rattle.lan_schedule.specs.Kinds.{most_workers}
 use Rattle.lan_schedule.specs.Lines.{control_act, run_race}
 use Rattle.lan_schedule.specs.Reports.{Report, reports}
 use Rattle.lan_schedule.specs.Ends.{Moment, moment, IsReached, Ends}
 use Rattle.lan_schedule.specs.Sound.{IsTidy}
 use Rattle.lan_schedule.specs.Stages.{StandsFor, Counts}
+use Rattle.lan_schedule.specs.Standing.{AreBursts}
+use Rattle.trace_acts.specs.Names.{names_of}
 use Rattle.lan_schedule.specs.inside.Comes.{Comes}
 use Rattle.lan_schedule.specs.inside.Recording.{Mark, StandsSince, steps_of}
 use Rattle.lan_schedule.specs.inside.Staged.{Did}
@@ -71,13 +75,14 @@ pub record AreHired (w : World) (workers : List Worker) (old new : Stage) (crew 
   pub users_few : length (begun_race workers w).kept.users + 1 < 2 ^ 32
   pub claims_few : length (claims w.run) + jobs_of crew + 16 < 2 ^ 32
 
--- each worker has the handle of its station's table, which is that of the words, and its log has
--- room with the others
+-- each worker has the handle of its station's table, which is that of the words, and did no job; its
+-- log has room with the others
 pub record IsReady (stage : Stage) (crew : Crew) : Type 0 where
   pub handles : crew.handles.items ≡ tables_of stage.words
   pub tables : All (HasTable crew.handles.items) crew.workers.items
   pub empty : crew.logs.items ≡ []
   pub room : length crew.workers.items ≤ vec_capacity crew.logs
+  pub fresh : All IsNew crew.workers.items
 
 -- All but the words is as it was. These are of the same tables, and kept up with any run that they kept
 -- up with before.
@@ -86,6 +91,28 @@ pub record HasMoved (old new : Stage) : Type 0 where
   pub tables : tables_of new.words ≡ tables_of old.words
   pub keeps_up : (settings : Settings) (r : Run) → HaveKeptUp settings r old.words
       → HaveKeptUp settings r new.words
+
+-- Bursts find seats: each is of a station that there is, no seat of its words is out, and no station
+-- is to have more workers than there are seats.
+pub record HaveSeats (bursts : List Burst) (stage : Stage) : Type 0 where
+  pub stations : AllByRecursion (λ b. b.station < length stage.scis.items) bursts
+  pub few : (s : ℕ) → workers_at s bursts ≤ most_workers
+  pub many : length stage.words ≡ length stage.scis.items
+  pub all_in : AreAllIn stage.words
+
+-- the station of a place has no seat left, or isn't there
+abbrev pub IsFull : ℕ → Stage → Type 0
+IsFull s stage = (slice_get stage.scis.items s ≡ None) ⊎ HasNoSeat s stage.words
+
+-- the seat with a number, less one, of a station is that of one of these workers
+abbrev pub HasSeat : ℕ → ℕ → List WorkerAt → Type 0
+HasSeat s i [] = ⊥
+HasSeat s i (w ∷ ws) =
+    ((w.sender.station ≡ s) × (w.seat.view.number ≡ i + 1)) ⊎ HasSeat s i ws
+
+-- each seat that is out was out before, or is that of one of these workers
+abbrev pub OutFor : List WorkerAt → List ControlAt → List ControlAt → Type 0
+OutFor crew old new = (s i : ℕ) → IsOut s i new → HasSeat s i crew ⊎ IsOut s i old
 
 -- one of them was: it sends what it was dealt, for a station of these names and SCIs
 pub record WasHired (worker : Worker) (old new : Stage) (w : WorkerAt) : Type 0 where
@@ -228,13 +255,14 @@ pub record EndsRace {K : Type 0} (Took : K → Report → K → Type 0)
 -- ---- the whole race
 
 -- The end of a race was performed, in each world for which the group may stand, in which it may end,
--- and whose chances begin with those that were decided in the call.
+-- and whose chances begin with those that were decided in the call; the bursts are such as its lines
+-- keep.
 pub record DidRace {K : Type 0} (Took : K → Report → K → Type 0)
     (Broke : K → Report → K → Broken → Type 0) (bursts : List Burst) (control : List Numbered)
     (old new : Moment Stage K) (result : Result (Unit {0}) Halt) : Type 0 where
   pub chances : List Chance
   pub ends : (w : World) (later : List Chance) → w.kept.chances ≡ chances ++ later
       → IsReached StandsFor w old.value → is_racing w.kept.phase ≡ false
-      → Comes (run_race bursts control w) w
+      → AreBursts (names_of w.run) bursts → Comes (run_race bursts control w) w
       → Ends StandsFor (λ halt. Counts) Counts Took Broke w later
       (perform (run_race bursts control w) w) old.outlet new result

@@ -13,6 +13,7 @@ use Rattle.lan_core.specs.Run.{Run}
 use Rattle.lan_core.specs.Lives.{transmitting_at}
 use Rattle.race_merge.specs.declared.step.Step.{Step}
 use Rattle.race_merge.specs.Table.{Controls}
+use Rattle.transmit_words.specs.Seats.{NoMoreOut}
 use Rattle.transmit_words.specs.Ties.{tables_of, HaveKeptUp, HaveLooked}
 use Rattle.worker_races.specs.Going.{HaveGone}
 use Rattle.worker_races.specs.Performed.{ArePerformed, run_after}
@@ -111,9 +112,10 @@ LeavesBy false mark w stage = StandsSince mark w stage
 abbrev pub LeavesAt : Mark → Halt → World → Stage → Type 0
 LeavesAt mark halt w stage = LeavesBy (is_stop halt) mark w stage
 
--- ---- the tables of the words
+-- ---- the seats of the words
 
--- each station that has words has the same table still
-abbrev pub KeepTables : List ControlAt → List ControlAt → Type 0
-KeepTables old new = (s : ℕ) (table : TableId) → slice_get (tables_of old) s ≡ Some table
-    → slice_get (tables_of new) s ≡ Some table
+-- each station that has words has the same table still, and no seat is out that was not out before
+pub record KeepSeats (old new : List ControlAt) : Type 0 where
+  pub tables : (s : ℕ) (table : TableId) → slice_get (tables_of old) s ≡ Some table
+      → slice_get (tables_of new) s ≡ Some table
+  pub out : NoMoreOut old new

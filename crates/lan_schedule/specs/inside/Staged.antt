@@ -20,13 +20,14 @@ use Rattle.lan_schedule.specs.Reports.{Report}
 use Rattle.lan_schedule.specs.Ends.{Moment, IsReached, Ends}
 use Rattle.lan_schedule.specs.Stages.{StandsWith, StandsFor, Counts}
 use Rattle.lan_schedule.specs.inside.Comes.{Comes, named}
-use Rattle.lan_schedule.specs.inside.Recording.{Mark, StandsSince, LeavesAt, HasLooked, KeepTables}
+use Rattle.lan_schedule.specs.inside.Recording.{Mark, StandsSince, LeavesAt, HasLooked, KeepSeats}
 use Rattle.lan_schedule.specs.inside.Recording.{epoch_of, steps_of}
 use Rattle.lan_schedule.specs.inside.Set.{AreSet}
 
 -- A call did an act, in each world for which the group may stand, in which the act can be performed,
 -- and whose chances begin with those that were decided in the call. In the midst of a race it keeps
--- what control performs, since whenever the race began. Each station keeps its table.
+-- what control performs, since whenever the race began. Each station keeps its
+-- table, and no seat more is out.
 pub record Did {K : Type 0} (Took : K → Report → K → Type 0)
     (Broke : K → Report → K → Broken → Type 0) (act : Act) (old new : Moment Stage K)
     (result : Result (Unit {0}) Halt) : Type 0 where
@@ -35,7 +36,7 @@ pub record Did {K : Type 0} (Took : K → Report → K → Type 0)
       → IsReached (StandsSince mark) w old.value → Comes act w
       → Ends (StandsSince mark) (LeavesAt mark) Counts Took Broke w later (perform act w) old.outlet
       new result
-  pub tables : KeepTables old.value.words new.value.words
+  pub seats : KeepSeats old.value.words new.value.words
 
 -- the same in the worlds of which this holds
 pub record DidWhere {K : Type 0} (Holds : World → Type 0) (Took : K → Report → K → Type 0)
@@ -46,7 +47,7 @@ pub record DidWhere {K : Type 0} (Holds : World → Type 0) (Took : K → Report
       → IsReached (StandsSince mark) w old.value → Holds w → Comes act w
       → Ends (StandsSince mark) (LeavesAt mark) Counts Took Broke w later (perform act w) old.outlet
       new result
-  pub tables : KeepTables old.value.words new.value.words
+  pub seats : KeepSeats old.value.words new.value.words
 
 -- the words are set for an event, and looked at no more than it asks since what was kept
 pub record IsSetSince (event : Event) (mark : Mark) (w : World) (stage : Stage) : Type 0 where
@@ -64,7 +65,7 @@ pub record Happened {K : Type 0} (Took : K → Report → K → Type 0)
       → Comes (happen event) w
       → Ends (StandsSince mark) (LeavesAt mark) Counts Took Broke w later (perform (happen event) w)
       old.outlet new result
-  pub tables : KeepTables old.value.words new.value.words
+  pub seats : KeepSeats old.value.words new.value.words
 
 -- The group made a step, and nothing beside it changed yet. In the midst of a race the epoch is that
 -- of the key that transmitted before at the station of the event.
@@ -84,7 +85,7 @@ pub record WentOn {K : Type 0} (Took : K → Report → K → Type 0)
       (supply_nth mid.draws) mid.lan facts
       → Ends (StandsSince mark) (LeavesAt mark) Counts Took Broke w later (perform (happen event) w)
       old.outlet new result
-  pub tables : KeepTables old.value.words new.value.words
+  pub seats : KeepSeats old.value.words new.value.words
 
 -- what is kept beside the run changed so, and nothing else: neither what was chosen, nor user frames,
 -- nor whether a race was begun, nor words

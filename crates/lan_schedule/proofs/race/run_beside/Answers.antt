@@ -10,6 +10,11 @@ use Rattle.worker_races.specs.Going.{HaveJoined}
 use Rattle.lan_schedule.specs.declared.stage.Stage.{Stage}
 use Rattle.lan_schedule.specs.inside.Beside.{Controlled}
 use Rattle.lan_schedule.specs.inside.Recording.{steps_of}
+use Rattle.std.proofs.lemmas.List.Elements.{recursion_from_All}
+use Rattle.transmit_words.specs.Seats.{NoMoreOut}
+use Rattle.worker_races.specs.Senders.{IsNew}
+use Rattle.lan_schedule.specs.inside.Beside.{OutFor}
+use Rattle.lan_schedule.proofs.SeatsBack.{all-back-in, done-out, out-still}
 use Rattle.lan_schedule.proofs.RaceRuns.{all-back, done-tables, taken-all}
 use Rattle.lan_schedule.proofs.race.run_beside.Goals as goal
 
@@ -28,13 +33,13 @@ dismiss-logs-requires g c =
     record {
       tables = subst (λ (ws : List WorkerAt). All (HasTable (tables_of moved.words)) ws) (sym back)
           (done-tables c.args.crew.handles.items c.args.stage.words moved.words before ended
-          c.requires.tables c.requires.handles done c.beside.ensures.control.tables);
+          c.requires.tables c.requires.handles done c.beside.ensures.control.seats);
       empty = c.requires.empty;
       room = (let same = ap length back in let room = c.requires.room in omega (arith, same, many, room));
     }
 
-pub returns : goal.returns
-returns g c =
+pub returns-clause-ran : goal.returns-clause-ran
+returns-clause-ran g c =
     let before = c.args.crew.workers.items in
     let ended = c.beside.new.workers in
     let moved = c.beside.new.control.stage in
@@ -68,3 +73,25 @@ returns g c =
           ∙ ap (λ (s : Stage). record s { steps = None }) same
           ∙ ap (λ (cs : List ControlAt). record moved { words = cs; steps = None }) (sym words);
     }
+
+pub returns-clause-seats : goal.returns-clause-seats
+returns-clause-seats g c = λ first before.
+    let crew = c.args.crew.workers.items in
+    let ended = c.beside.new.workers in
+    let moved = c.beside.new.control.stage in
+    let dismissed = c.dismiss-logs.new.self in
+    let new = c.take_steps-steps.new.self in
+    let done : AreDone crew ended =
+    subst (λ (ws : List WorkerAt). AreDone ws ended) c.as_mut_slice.ensures.value
+    c.beside.ensures.workers in
+    let long = sym c.as_mut_slice.ensures.len ∙ ap length c.as_mut_slice.ensures.value in
+    let back : take c.args.crew.workers.len (ended ++ drop (length ended) crew) ≡ ended =
+    all-back c.args.crew.workers.len ended crew done.count long in
+    let words : new.words ≡ dismissed.words = ap (λ (s : Stage). s.words) c.take_steps-steps.ensures.same in
+    let out : OutFor ended first moved.words =
+    done-out crew ended first moved.words done (recursion_from_All IsNew crew c.requires.fresh)
+    (out-still crew first c.args.stage.words moved.words before c.beside.ensures.control.seats.out) in
+    subst (λ (cs : List ControlAt). NoMoreOut first cs) (sym words)
+    (all-back-in _ first moved.words dismissed.words
+    (subst (λ (ws : List WorkerAt). OutFor ws first moved.words) (sym back) out)
+    c.dismiss-logs.ensures.joined)

@@ -13,6 +13,6 @@ returns g c =
       never = c.law_acts_stop_for_their_own_reasons.ensures;
     }) _ _ (λ at. at.taker.replay) (λ s. sunk (k.held s) (k.faults s))
     (nothing-shows (λ s. sunk (k.held s) (k.faults s))) (line_of c.tally.result.now) _ _ _ _ _ _ _ _ _
-    c.new.ensures c.read_lines-read.ensures.counts c.read_lines-read.ensures.reads c.close-may.ensures.closes
+    c.new.ensures.stands c.read_lines-read.ensures.counts c.read_lines-read.ensures.reads c.close-may.ensures.closes
     (λ w stands. ap (λ t. line_of t) (c.tally.ensures.goes w stands))
     c.ended.ensures c.sum_up.ensures

@@ -10,5 +10,5 @@ returns g c =
       tidy = c.law_lines_leave_a_tidy_world.ensures.start;
       never = c.law_acts_stop_for_their_own_reasons.ensures;
     }) _ _ (λ at. at.taker.replay) (λ s. sunk (k.held s) (k.faults s)) _
-    (transcript-shows (λ s. sunk (k.held s) (k.faults s))) _ _ _ _ _ _ c.new.ensures
+    (transcript-shows (λ s. sunk (k.held s) (k.faults s))) _ _ _ _ _ _ c.new.ensures.stands
     c.read_lines-read.ensures.counts c.read_lines-read.ensures.reads c.close-may.ensures.closes)

@@ -2,4 +2,4 @@ use Rattle.lan_schedule.proofs.Replaying.{halted-does}
 use Rattle.lan_schedule.proofs.commands.Replay.command.Goals as goal
 
 pub returns-in-Err-clause-does : goal.returns-in-Err-clause-does
-returns-in-Err-clause-does g c = halted-does _ _ _ _ _ c.in-Err.halt (λ v tally. tally) c.in-Err.ensures
+returns-in-Err-clause-does g c = halted-does _ _ _ _ _ c.in-Err.halt (λ v tally. tally) c.in-Err.ensures.does

@@ -12,22 +12,23 @@ use Rattle.lan_schedule.specs.inside.Beside.{race_in}
 use Rattle.lan_schedule.proofs.Phasing.{taken-does, same-apart, not-taken, outside-calm}
 use Rattle.lan_schedule.proofs.Phasing.{ends-race, end-controls, outside-apart}
 use Rattle.lan_schedule.proofs.Opening.{unbegun-refused, unbegun-performed}
+use Rattle.lan_schedule.proofs.SeatsBack.{staged-out}
 use Rattle.lan_schedule.proofs.commands.Replay.perform.Goals as goal
 
-pub returns-then-is_end : goal.returns-then-is_end
-returns-then-is_end g c =
+pub returns-then-is_end-clause-does : goal.returns-then-is_end-clause-does
+returns-then-is_end-clause-does g c =
     let phase = phase_of c.args.self.now.phase in
     let ends = sym c.is_end.ensures ∙ c.if-is_end.true in
     same-act (act_of c.args.line.now) (look (λ w. race_in w.kept.phase w)) _ _ c.race.result
-    (λ w stands. ends-race c.args.line.now w phase stands.phase ends) c.race.ensures
+    (λ w stands. ends-race c.args.line.now w phase stands.phase ends) c.race.ensures.does
 
 pub race-requires-clause-controls : goal.race-requires-clause-controls
 race-requires-clause-controls g c = λ lifetimes outlive.
     end-controls c.args.line.now (phase_of c.args.self.now.phase)
     (sym c.is_end.ensures ∙ c.if-is_end.true)
 
-pub returns-then-takes : goal.returns-then-takes
-returns-then-takes g c =
+pub returns-then-takes-clause-does : goal.returns-then-takes-clause-does
+returns-then-takes-clause-does g c =
     taken-does c.args.line.now _ _ c.in-Some.stage c.take.result c.in-Some.is refl refl refl
     c.take.ensures (sym c.takes.ensures ∙ c.if-takes.true)
     (sym c.is_end.ensures ∙ c.if-is_end.false)
@@ -36,8 +37,8 @@ pub command-requires-clause-apart : goal.command-requires-clause-apart
 command-requires-clause-apart g c = λ lifetimes outlive.
     (not-taken _ _ (sym c.takes.ensures ∙ c.if-takes.false)).1
 
-pub returns-in-Some : goal.returns-in-Some
-returns-in-Some g c =
+pub returns-in-Some-clause-does : goal.returns-in-Some-clause-does
+returns-in-Some-clause-does g c =
     let not = not-taken _ _ (sym c.takes.ensures ∙ c.if-takes.false) in
     let phase = phase_of c.args.self.now.phase in
     same-act (act_of c.args.line.now) (act_apart c.args.line.now) _ _ c.command.result
@@ -49,13 +50,17 @@ returns-in-Some g c =
     (still-apart c.args.line.now not.1) c.in-Some.is refl refl refl
     (outside-apart phase not.0) c.command.ensures)
 
-pub returns-in-Some-refusal : goal.returns-in-Some-refusal
-returns-in-Some-refusal g c =
+pub returns-in-Some-refusal-clause-does : goal.returns-in-Some-refusal-clause-does
+returns-in-Some-refusal-clause-does g c =
     unbegun-refused c.args.line.now c.in-Some-refusal.kind _ (none-stage _ c.in_default.not-Some)
     (sym c.refusal.ensures ∙ c.in-Some-refusal.is)
 
-pub returns : goal.returns
-returns g c =
+pub returns-clause-does : goal.returns-clause-does
+returns-clause-does g c =
     unbegun-performed c.args.line.now _ _ c.prepare.result (none-stage _ c.in_default.not-Some)
     (sym c.refusal.ensures ∙ none-of c.refusal.result c.in_default-refusal.not-Some)
-    c.prepare.ensures
+    c.prepare.ensures.does
+
+pub returns-in-Some-clause-seats : goal.returns-in-Some-clause-seats
+returns-in-Some-clause-seats g c =
+    staged-out _ _ c.in-Some.stage c.command.new.self c.in-Some.is refl c.command.ensures.seats.out

@@ -2,33 +2,37 @@ use Rattle.std.proofs.Common.{Ok, refl, ap, ◌∙◌, arith}
 use Rattle.std.specs.Prelude.{Err}
 use Rattle.lan_schedule.proofs.Replaying.{memory-does, begun-does, stands-counts}
 use Rattle.lan_schedule.proofs.Texting.{skipped-does, line-does, fault-does}
+use Rattle.lan_schedule.proofs.SeatsBack.{still-out}
 use Rattle.lan_schedule.proofs.commands.Replay.perform_text.Goals as goal
 
-pub returns-in_default : goal.returns-in_default
-returns-in_default g c = memory-does _ _ _ (λ w stands. stands-counts w _ stands) refl
+pub returns-in_default-clause-does : goal.returns-in_default-clause-does
+returns-in_default-clause-does g c = memory-does _ _ _ (λ w stands. stands-counts w _ stands) refl
 
-pub returns-in-Ok-None : goal.returns-in-Ok-None
-returns-in-Ok-None g c =
+pub returns-in-Ok-None-clause-does : goal.returns-in-Ok-None-clause-does
+returns-in-Ok-None-clause-does g c =
     skipped-does c.args.text.now c.in-Some.number _ _
     (λ w stands. let at = c.line.ensures w stands in let is = c.in-Some.is in let counts =
     c.checked_add.ensures in grind (arith, at, is, counts))
     (c.in-Ok-None.ensures.read ∙ ap (λ o. Ok o) c.in-Ok-None.field-0-is)
-    (begun-does c.in-Some.number _ _ c.begin_line.ensures refl)
+    (begun-does c.in-Some.number _ _ c.begin_line.ensures.stands refl)
 
-pub returns-in-Ok-Some : goal.returns-in-Ok-Some
-returns-in-Ok-Some g c =
+pub returns-in-Ok-Some-clause-does : goal.returns-in-Ok-Some-clause-does
+returns-in-Ok-Some-clause-does g c =
     line-does c.args.text.now c.in-Some.number c.in-Ok-Some.line _ _ c.perform_line.result
     (λ w stands. let at = c.line.ensures w stands in let is = c.in-Some.is in let counts =
     c.checked_add.ensures in grind (arith, at, is, counts))
-    (c.in-Ok-Some.ensures.read ∙ ap (λ o. Ok o) c.in-Ok-Some.field-0-is) c.perform_line.ensures
+    (c.in-Ok-Some.ensures.read ∙ ap (λ o. Ok o) c.in-Ok-Some.field-0-is) c.perform_line.ensures.does
 
-pub returns-in-Err-Refused : goal.returns-in-Err-Refused
-returns-in-Err-Refused g c =
+pub returns-in-Err-Refused-clause-does : goal.returns-in-Err-Refused-clause-does
+returns-in-Err-Refused-clause-does g c =
     rw c.kind_of_fault.ensures (fault-does c.args.text.now c.in-Some.number c.in-Err-Refused.fault _
     (λ w stands. let at = c.line.ensures w stands in let is = c.in-Some.is in let counts =
     c.checked_add.ensures in grind (arith, at, is, counts))
     ((c.in-Err-Refused.ensures.refused c.in-Err-Refused.fault).0
     (ap (λ e. Err e) c.in-Err-Refused.field-0-is)))
 
-pub returns-in-Err-Memory : goal.returns-in-Err-Memory
-returns-in-Err-Memory g c = memory-does _ _ _ (λ w stands. stands-counts w _ stands) refl
+pub returns-in-Err-Memory-clause-does : goal.returns-in-Err-Memory-clause-does
+returns-in-Err-Memory-clause-does g c = memory-does _ _ _ (λ w stands. stands-counts w _ stands) refl
+
+pub returns-in-Ok-None-clause-seats : goal.returns-in-Ok-None-clause-seats
+returns-in-Ok-None-clause-seats g c = still-out _ _ c.begin_line.ensures.seats

@@ -9,6 +9,7 @@ use Rattle.lan_schedule.specs.Ends.{moment}
 use Rattle.lan_schedule.proofs.Doing.{memory-does}
 use Rattle.lan_schedule.proofs.Batching.{did-where}
 use Rattle.lan_schedule.proofs.Happening.{admit-did, admit-stopped}
+use Rattle.lan_schedule.proofs.Recorded.{seats-kept}
 use Rattle.lan_schedule.proofs.stage.Stage.admit.Goals as goal
 
 pub returns-in-Err-Stopped : goal.returns-in-Err-Stopped
@@ -26,7 +27,7 @@ pub returns-in-Err-Memory : goal.returns-in-Err-Memory
 returns-in-Err-Memory g c =
     did-where (λ w. IsChecked w.run c.args.frame c.args.station c.args.checked)
     (happen (Deliver c.args.frame c.args.station)) _ _ _
-    (memory-does _ _ _ refl refl (λ s table at. at))
+    (memory-does _ _ _ refl refl (seats-kept _))
 
 pub returns : goal.returns
 returns g c =

@@ -2,11 +2,12 @@ use Rattle.std.proofs.Common.{refl, ◌∙◌}
 use Rattle.lan_schedule.specs.Lines.{flow_round}
 use Rattle.lan_schedule.proofs.Doing.{leads-start, leads-step, leads-err, handed-on, memory-does}
 use Rattle.lan_schedule.proofs.Looking.{due-leads, begin-does, round-begun}
+use Rattle.lan_schedule.proofs.Recorded.{seats-kept}
 use Rattle.lan_schedule.proofs.stage.Stage.flow_round.Goals as goal
 
 pub returns-in_err-begin_round : goal.returns-in_err-begin_round
 returns-in_err-begin_round g c =
-    handed-on _ _ _ _ _ (memory-does _ _ _ refl refl (λ s table at. at)) c.from_residual.ensures.1
+    handed-on _ _ _ _ _ (memory-does _ _ _ refl refl (seats-kept _)) c.from_residual.ensures.1
 
 pub returns-in_err-round : goal.returns-in_err-round
 returns-in_err-round g c =
@@ -48,7 +49,7 @@ returns-in_err-frames g c =
       steps = refl;
     }) c.in_ok-begin_round.ensures.ok) refl) in
     let ticked = leads-step _ _ _ _ _ _ begun c.in_ok-round.ensures in
-    handed-on _ _ _ _ _ (ticked.leads _ _ (memory-does _ _ _ refl refl (λ s table at. at)))
+    handed-on _ _ _ _ _ (ticked.leads _ _ (memory-does _ _ _ refl refl (seats-kept _)))
     c.from_residual-in_err-frames.ensures.1
 
 pub returns : goal.returns

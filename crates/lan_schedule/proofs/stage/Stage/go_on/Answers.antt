@@ -4,7 +4,7 @@ use Rattle.lan_core.specs.Run.{happened}
 use Rattle.lan_schedule.specs.declared.stage.Stage.{Stage}
 use Rattle.lan_schedule.specs.Ends.{moment}
 use Rattle.lan_schedule.proofs.Happening.{before_step, from-earlier, event-went, went-wanting, went-err}
-use Rattle.lan_schedule.proofs.Recorded.{kept-when}
+use Rattle.lan_schedule.proofs.Recorded.{kept-when, seats-kept}
 use Rattle.lan_schedule.proofs.stage.Stage.go_on.Goals as goal
 
 pub returns : goal.returns
@@ -36,7 +36,7 @@ returns g c = λ earlier step.
           c.in_ok-keep.ensures;
       followed = λ goes settings users r after.
           (rw c.as_slice-2.ensures at c.in_ok-follow.ensures.followed) goes settings users r after;
-      tables = c.in_ok-follow.ensures.tables;
+      seats = c.in_ok-follow.ensures.seats;
     })
     c.law_words_keep_a_run_thrifty.ensures (record {
       goes_on = record {
@@ -78,7 +78,7 @@ returns-in_err-record g c = λ earlier step.
           c.in_ok-keep.ensures;
       followed = λ goes settings users r after.
           (rw c.as_slice-2.ensures at c.in_ok-follow.ensures.followed) goes settings users r after;
-      tables = c.in_ok-follow.ensures.tables;
+      seats = c.in_ok-follow.ensures.seats;
     })
     c.law_words_keep_a_run_thrifty.ensures (record {
       goes_on = record {
@@ -93,24 +93,24 @@ returns-in_err-record g c = λ earlier step.
 pub returns-in_err-put : goal.returns-in_err-put
 returns-in_err-put g c = λ earlier step.
     from-earlier c.args.event.now c.args.facts c.args.self.now earlier c.args.outlet.now _ _ step.same
-    (went-err _ _ _ _ _ _ _ (went-wanting _ _ _ _ _ refl refl (λ s table at. at)) c.from_residual.ensures.1)
+    (went-err _ _ _ _ _ _ _ (went-wanting _ _ _ _ _ refl refl (seats-kept _)) c.from_residual.ensures.1)
 
 pub returns-in_err-follow : goal.returns-in_err-follow
 returns-in_err-follow g c = λ earlier step.
     from-earlier c.args.event.now c.args.facts c.args.self.now earlier c.args.outlet.now _ _ step.same
-    (went-err _ _ _ _ _ _ _ (went-wanting _ _ _ _ _ refl refl c.in_err-follow.ensures.tables) c.from_residual-in_err-follow.ensures.1)
+    (went-err _ _ _ _ _ _ _ (went-wanting _ _ _ _ _ refl refl c.in_err-follow.ensures.seats) c.from_residual-in_err-follow.ensures.1)
 
 pub returns-in_err-admit : goal.returns-in_err-admit
 returns-in_err-admit g c = λ earlier step.
     from-earlier c.args.event.now c.args.facts c.args.self.now earlier c.args.outlet.now _ _ step.same
-    (went-err _ _ _ _ _ _ _ (went-wanting _ _ _ _ _ refl refl c.in_ok-follow.ensures.tables) c.from_residual-in_err-admit.ensures.1)
+    (went-err _ _ _ _ _ _ _ (went-wanting _ _ _ _ _ refl refl c.in_ok-follow.ensures.seats) c.from_residual-in_err-admit.ensures.1)
 
 pub returns-in_err-put_octets : goal.returns-in_err-put_octets
 returns-in_err-put_octets g c = λ earlier step.
     from-earlier c.args.event.now c.args.facts c.args.self.now earlier c.args.outlet.now _ _ step.same
-    (went-err _ _ _ _ _ _ _ (went-wanting _ _ _ _ _ refl refl c.in_ok-follow.ensures.tables) c.from_residual-in_err-put_octets.ensures.1)
+    (went-err _ _ _ _ _ _ _ (went-wanting _ _ _ _ _ refl refl c.in_ok-follow.ensures.seats) c.from_residual-in_err-put_octets.ensures.1)
 
 pub returns-in_err-keep : goal.returns-in_err-keep
 returns-in_err-keep g c = λ earlier step.
     from-earlier c.args.event.now c.args.facts c.args.self.now earlier c.args.outlet.now _ _ step.same
-    (went-err _ _ _ _ _ _ _ (went-wanting _ _ _ _ _ refl refl c.in_ok-follow.ensures.tables) c.from_residual-in_err-keep.ensures.1)
+    (went-err _ _ _ _ _ _ _ (went-wanting _ _ _ _ _ refl refl c.in_ok-follow.ensures.seats) c.from_residual-in_err-keep.ensures.1)

@@ -4,6 +4,7 @@ use Rattle.lan_core.specs.Stops.{first_stop}
 use Rattle.trace_acts.specs.Supply.{supply_nth}
 use Rattle.lan_schedule.specs.Ends.{moment}
 use Rattle.lan_schedule.proofs.Happening.{event-did, event-stopped, event-wanting}
+use Rattle.lan_schedule.proofs.Recorded.{seats-kept}
 use Rattle.lan_schedule.proofs.stage.Stage.happen.Goals as goal
 
 pub returns-in-Err-Stopped : goal.returns-in-Err-Stopped
@@ -16,7 +17,7 @@ returns-in-Err-Stopped g c =
     refl refl refl refl refl refl)
 
 pub returns-in-Err-Memory : goal.returns-in-Err-Memory
-returns-in-Err-Memory g c = event-wanting _ c.args.event.now _ _ refl refl (λ s table at. at)
+returns-in-Err-Memory g c = event-wanting _ c.args.event.now _ _ refl refl (seats-kept _)
 
 pub returns : goal.returns
 returns g c =

@@ -4,10 +4,11 @@ use Rattle.data_workers.specs.Workers.{WorkerAt, Logged}
 use Rattle.association_slots.specs.Views.{SeatAt}
 use Rattle.association_slots.specs.declared.view.SeatView.{SeatView}
 use Rattle.lan_core.specs.Types.{IsUserFrame}
-use Rattle.transmit_words.specs.Seats.{WasSeated}
+use Rattle.transmit_words.specs.Seats.{HasJoined, WasSeated}
 use Rattle.transmit_words.specs.Ties.{tables_of}
 use Rattle.lan_schedule.specs.inside.Beside.{worker_of}
 use Rattle.lan_schedule.proofs.Hiring.{has-table, seat-table}
+use Rattle.lan_schedule.proofs.SeatsBack.{out-returned}
 use Rattle.lan_schedule.proofs.stage.Stage.hire.Goals as goal
 
 pub join-requires : goal.join-requires
@@ -60,3 +61,11 @@ returns-in-Err-clause-moved c = record {
   tables = c.join.ensures.same ∙ c.seat.ensures.same;
   keeps_up = λ settings r up. c.join.ensures.keeps_up settings r (c.seat.ensures.keeps_up settings r up);
 }
+
+pub returns-in-Err-clause-back : goal.returns-in-Err-clause-back
+returns-in-Err-clause-back c =
+    let e : c.in-Err.seat ≡ c.in-Some-seat.seat = cc (c.in-Err.ensures.err) in
+    out-returned c.station-station.result c.args.self.now.words c.seat.new.self c.join.new.self
+    c.in-Some-seat.seat c.in-Some-seat.ensures.some
+    (subst (λ (seat : SeatAt). HasJoined c.station-station.result seat c.seat.new.self c.join.new.self) e
+    c.join.ensures.told)

@@ -4,10 +4,11 @@ use Rattle.lan_schedule.specs.Acts.{happen}
 use Rattle.lan_schedule.proofs.Doing.{memory-does, handed-on}
 use Rattle.lan_schedule.proofs.Happening.{plainly}
 use Rattle.lan_schedule.proofs.Sending.{same-did}
+use Rattle.lan_schedule.proofs.Recorded.{seats-kept}
 use Rattle.lan_schedule.proofs.stage.Stage.inject.Goals as goal
 
 pub returns-in_err-octets : goal.returns-in_err-octets
-returns-in_err-octets g c = handed-on _ _ _ _ _ (memory-does _ _ _ refl refl (λ s table at. at)) c.from_residual.ensures.1
+returns-in_err-octets g c = handed-on _ _ _ _ _ (memory-does _ _ _ refl refl (seats-kept _)) c.from_residual.ensures.1
 
 pub returns : goal.returns
 returns g c =

@@ -77,7 +77,7 @@ returns-in_ok-cut-in-Cut g c =
 
 pub returns-in_err-cut-in-Cut : goal.returns-in_err-cut-in-Cut
 returns-in_err-cut-in-Cut g c =
-    handed-on _ _ _ _ _ (memory-does _ _ _ c.cut.ensures.tally refl c.cut.ensures.tables) c.from_residual.ensures.1
+    handed-on _ _ _ _ _ (memory-does _ _ _ c.cut.ensures.tally refl c.cut.ensures.seats) c.from_residual.ensures.1
 
 pub returns-in-Mend : goal.returns-in-Mend
 returns-in-Mend g c =

@@ -1,15 +1,15 @@
 use Rattle.std.proofs.Common.{◌≡◌, ◌≤◌, ◌+◌, refl, arith}
 use Rattle.lan_core.specs.Expected.{last_number}
 use Rattle.lan_schedule.proofs.Doing.{memory-does, handed-on}
-use Rattle.lan_schedule.proofs.Recorded.{tables-same}
+use Rattle.lan_schedule.proofs.Recorded.{seats-kept, seats-same, seats-then}
 use Rattle.lan_schedule.proofs.Sending.{send-does, claim-err, claim-ok}
 use Rattle.lan_schedule.proofs.stage.Stage.send.Goals as goal
 
 pub returns-in_default : goal.returns-in_default
-returns-in_default g c = memory-does _ _ _ refl refl (λ s table at. at)
+returns-in_default g c = memory-does _ _ _ refl refl (seats-kept _)
 
 pub returns-then-not-has_numbers : goal.returns-then-not-has_numbers
-returns-then-not-has_numbers g c = memory-does _ _ _ refl refl (λ s table at. at)
+returns-then-not-has_numbers g c = memory-does _ _ _ refl refl (seats-kept _)
 
 pub returns-in_err-happen : goal.returns-in_err-happen
 returns-in_err-happen g c =
@@ -39,7 +39,7 @@ returns-in_err-happen g c =
       cards = c.claim-pn.ensures.cards;
       spends = c.law_few_claims_spend_no_words.ensures.stations;
     })
-    (λ s table at. c.in_err-happen.ensures.tables s table (tables-same _ _ c.claim-pn.ensures.same s table at))
+    (seats-then _ _ _ (seats-same _ _ c.claim-pn.ensures.same c.claim-pn.ensures.out) c.in_err-happen.ensures.seats)
     (claim-err c.args.station c.in-Some.users c.claim-pn.result c.args.user.now _ _ _
     c.in_err-happen.ensures))
     c.from_residual.ensures.1
@@ -71,6 +71,7 @@ returns g c =
       cards = c.claim-pn.ensures.cards;
       spends = c.law_few_claims_spend_no_words.ensures.stations;
     })
-    (λ s table at. c.emit.ensures.tables s table (c.in_ok-happen.ensures.tables s table (tables-same _ _ c.claim-pn.ensures.same s table at)))
+    (seats-then _ _ _ (seats-same _ _ c.claim-pn.ensures.same c.claim-pn.ensures.out)
+    (seats-then _ _ _ c.in_ok-happen.ensures.seats c.emit.ensures.seats))
     (claim-ok c.args.station c.in-Some.users c.claim-pn.result c.args.user.now _ _ _ _
     c.in_ok-happen.ensures c.emit.ensures)

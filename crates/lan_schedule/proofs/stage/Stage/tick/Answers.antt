@@ -1,6 +1,7 @@
 use Rattle.std.proofs.Common.{refl}
+use Rattle.transmit_words.proofs.Public.{out-looked}
 use Rattle.lan_schedule.proofs.Happening.{tick-does}
-use Rattle.lan_schedule.proofs.Recorded.{tables-same}
+use Rattle.lan_schedule.proofs.Recorded.{seats-same}
 use Rattle.lan_schedule.proofs.stage.Stage.tick.Goals as goal
 
 pub returns : goal.returns
@@ -17,4 +18,4 @@ returns g c =
       octets = refl;
       steps = refl;
     }) refl refl refl c.next-next.ensures.next c.next-next.ensures.ahead
-    c.next-next.ensures.looked (tables-same _ _ c.next-next.ensures.same) c.happen.ensures
+    c.next-next.ensures.looked (seats-same _ _ c.next-next.ensures.same (out-looked _ _ c.next-next.ensures.looked)) c.happen.ensures

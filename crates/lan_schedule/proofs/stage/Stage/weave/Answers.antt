@@ -3,11 +3,11 @@ use Rattle.lan_schedule.proofs.RaceEmits.{weaves-emitted}
 use Rattle.lan_schedule.proofs.RaceEnds.{some-memory, weaves-nothing, weaves-stopped}
 use Rattle.lan_schedule.proofs.stage.Stage.weave.Goals as goal
 
-pub returns-then-is_memory : goal.returns-then-is_memory
-returns-then-is_memory g c = weaves-nothing c.args.ran _ _ _
+pub returns-then-is_memory-clause-weaves : goal.returns-then-is_memory-clause-weaves
+returns-then-is_memory-clause-weaves g c = weaves-nothing c.args.ran _ _ _
 
-pub returns-then-is_stop : goal.returns-then-is_stop
-returns-then-is_stop g c =
+pub returns-then-is_stop-clause-weaves : goal.returns-then-is_stop-clause-weaves
+returns-then-is_stop-clause-weaves g c =
     weaves-stopped c.args.ran c.args.self.now _ c.in_ok-events.events.items c.in_ok-frames.frames.items
     c.in_ok-shown.shown
     (record {
@@ -28,11 +28,11 @@ returns-then-is_stop g c =
       same = refl;
     })
 
-pub returns-then-is_memory-2 : goal.returns-then-is_memory-2
-returns-then-is_memory-2 g c = weaves-nothing c.args.ran _ _ _
+pub returns-then-is_memory-2-clause-weaves : goal.returns-then-is_memory-2-clause-weaves
+returns-then-is_memory-2-clause-weaves g c = weaves-nothing c.args.ran _ _ _
 
-pub returns : goal.returns
-returns g c =
+pub returns-clause-weaves : goal.returns-clause-weaves
+returns-clause-weaves g c =
     rw c.and.ensures
     (weaves-emitted c.args.ran c.args.self.now (record c.args.self.now { tally = c.shown_in.new.tally })
     (record c.args.self.now { tally = c.shown_in.new.tally; lan = c.settle.new.self })
@@ -68,3 +68,9 @@ returns g c =
       many = c.len-count.ensures ∙ c.in_ok-frames.frames.ok.0;
       did = c.emit_all-emitted.ensures;
     }))
+
+pub returns-clause-seats : goal.returns-clause-seats
+returns-clause-seats g c = c.emit_all-emitted.ensures.seats.out
+
+pub returns-then-is_memory-2-clause-seats : goal.returns-then-is_memory-2-clause-seats
+returns-then-is_memory-2-clause-seats g c = c.emit_all-emitted.ensures.seats.out

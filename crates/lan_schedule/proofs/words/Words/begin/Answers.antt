@@ -1,7 +1,7 @@
 use Rattle.std.proofs.Common.{◌≡◌, List, true, false, sym, ap, ◌∙◌, subst}
 use Rattle.lan_core.specs.declared.event.Event.{Event}
-use Rattle.lan_schedule.specs.inside.Recording.{is_start, KeepTables}
-use Rattle.lan_schedule.proofs.Recorded.{tables-started}
+use Rattle.lan_schedule.specs.inside.Recording.{is_start, KeepSeats}
+use Rattle.lan_schedule.proofs.Recorded.{seats-kept, seats-started}
 use Rattle.association_slots.specs.Views.{ControlAt}
 use Rattle.group_safety.specs.Accounts.{blank}
 use Rattle.transmit_words.specs.Telling.{Tells}
@@ -24,11 +24,14 @@ pub returns-in_default-clause-ahead : goal.returns-in_default-clause-ahead
 returns-in_default-clause-ahead c = λ raced racing settings users before r stood stepped set.
     set-ahead raced racing settings r _ c.args.event.now c.in_default.not-Start set
 
-pub returns-in-Start-clause-tables : goal.returns-in-Start-clause-tables
-returns-in-Start-clause-tables c =
-    subst (λ (cs : List ControlAt). KeepTables cs c.start.new.self) c.self.view_is
-    (tables-started (λ (made : ControlAt). Tells blank made.view) _ c.start.result _ _
-    c.start.ensures.one_more c.start.ensures.unchanged)
+pub returns-in-Start-clause-seats : goal.returns-in-Start-clause-seats
+returns-in-Start-clause-seats c =
+    subst (λ (cs : List ControlAt). KeepSeats cs c.start.new.self) c.self.view_is
+    (seats-started (λ (made : ControlAt). Tells blank made.view) _ c.start.result _ _
+    (λ made tells. tells.all_in) c.start.ensures.one_more c.start.ensures.unchanged)
+
+pub returns-in_default-clause-seats : goal.returns-in_default-clause-seats
+returns-in_default-clause-seats c = seats-kept _
 
 pub returns-in-Start-clause-same : goal.returns-in-Start-clause-same
 returns-in-Start-clause-same c = λ goes.

@@ -1,7 +1,7 @@
 use Rattle.std.proofs.Common.{List, sym, subst}
 use Rattle.association_slots.specs.Views.{ControlAt}
 use Rattle.transmit_words.specs.Ties.{AreTied, HaveCaughtUp}
-use Rattle.transmit_words.specs.Seats.{HasGot}
+use Rattle.transmit_words.specs.Seats.{HasGot, NoMoreOut}
 use Rattle.lan_schedule.proofs.words.Words.claim.Goals as goal
 
 pub returns-clause-ahead : goal.returns-clause-ahead
@@ -18,3 +18,7 @@ returns-clause-gained g c = λ settings r user caught there.
           c.self.view_is got.0,
       got.1,
     )
+
+pub returns-clause-out : goal.returns-clause-out
+returns-clause-out g c = subst (λ (cs : List ControlAt). NoMoreOut cs c.claim.new.self) c.self.view_is
+    c.claim.ensures.out

@@ -1,8 +1,8 @@
 use Rattle.std.proofs.Common.{List, ◌∷◌, sym, ◌∙◌, subst}
 use Rattle.transmit_words.specs.Ties.{Followed}
 use Rattle.worker_races.specs.Carded.{AreCarded}
-use Rattle.lan_schedule.specs.inside.Recording.{KeepTables}
-use Rattle.lan_schedule.proofs.Recorded.{tables-same}
+use Rattle.lan_schedule.specs.inside.Recording.{KeepSeats}
+use Rattle.lan_schedule.proofs.Recorded.{seats-same, seats-then}
 use Rattle.association_slots.specs.Views.{ControlAt}
 use Rattle.lan_core.specs.Run.{happened}
 use Rattle.lan_schedule.specs.inside.Set.{SaysAhead}
@@ -44,10 +44,11 @@ returns-clause-followed g c = λ goes settings users r stands.
     (c.self.view_is ∙ c.in_ok-begin.ensures.same goes)
     (c.follow.ensures.followed settings users (x ∷ r) stands)
 
-pub returns-clause-tables : goal.returns-clause-tables
-returns-clause-tables g c = λ s table at.
-    (subst (λ (cs : List ControlAt). KeepTables cs c.follow.new.self) c.self.view_is
-    (tables-same _ _ c.follow.ensures.same)) s table (c.in_ok-begin.ensures.tables s table at)
+pub returns-clause-seats : goal.returns-clause-seats
+returns-clause-seats g c =
+    seats-then _ _ _ c.in_ok-begin.ensures.seats
+    (subst (λ (cs : List ControlAt). KeepSeats cs c.follow.new.self) c.self.view_is
+    (seats-same _ _ c.follow.ensures.same c.follow.ensures.out))
 
-pub returns-in_err-begin-clause-tables : goal.returns-in_err-begin-clause-tables
-returns-in_err-begin-clause-tables g c = c.in_err-begin.ensures.tables
+pub returns-in_err-begin-clause-seats : goal.returns-in_err-begin-clause-seats
+returns-in_err-begin-clause-seats g c = c.in_err-begin.ensures.seats

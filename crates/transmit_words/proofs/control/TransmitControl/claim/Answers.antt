@@ -1,4 +1,4 @@
-use Rattle.std.proofs.Common.{sym, subst, ◌∙◌, MatchResult}
+use Rattle.std.proofs.Common.{◌≡◌, ap, true, sym, subst, ◌∙◌, MatchResult}
 use Rattle.association_slots.specs.Learned.{Learned}
 use Rattle.association_slots.specs.Views.{AllIn, ControlAt}
 use Rattle.association_slots.specs.declared.view.ControlView.{ControlView}
@@ -9,6 +9,8 @@ use Rattle.transmit_words.proofs.Keeping.{kept-told, kept-seated, no-room}
 use Rattle.transmit_words.proofs.KeepingUp.{up-back, up-claimed}
 use Rattle.transmit_words.proofs.Telling.{tells-claimed}
 use Rattle.transmit_words.proofs.Catching.{caught-claimed}
+use Rattle.transmit_words.specs.Seats.{is_out}
+use Rattle.transmit_words.proofs.Out.{did-number, out-back}
 use Rattle.transmit_words.proofs.control.TransmitControl.claim.Goals as goal
 
 pub invariant_of-self : goal.invariant_of-self
@@ -73,3 +75,10 @@ returns-clause-catches_up g c = λ l t.
 pub returns-then-not-has_room-clause-catches_up : goal.returns-then-not-has_room-clause-catches_up
 returns-then-not-has_room-clause-catches_up g c = λ l t.
     absurd (no-room c.self.inside.control.view (subst (λ (v : ControlAt). CatchUp l v.view) (sym c.self.view_is) t).all_in (sym c.has_room.ensures ∙ c.if-not-has_room.true))
+
+pub returns-clause-out : goal.returns-clause-out
+returns-clause-out g c = λ i is.
+    let d = c.claim_alone.ensures.did in
+    let c0 = c.self.inside.control.view in
+    ap (λ (v : ControlAt). is_out v.view i) (sym c.self.view_is)
+    ∙ out-back c0 d.0 (did-number _ _ _ d.2) i (ap (λ (w : ControlView). is_out w i) (sym d.1) ∙ is)

@@ -6,7 +6,8 @@ use Rattle.association_slots.specs.Views.{ControlAt}
 use Rattle.group_safety.proofs.Public.{next-told}
 use Rattle.transmit_words.specs.Telling.{KeepUp, CatchUp}
 use Rattle.transmit_words.specs.Ties.{tables_of, AreTied, AreAhead, HaveKeptUp, KeepAhead, HaveCaughtUp, CaughtAhead, KeepCards}
-use Rattle.transmit_words.specs.Seats.{AreAllIn, HasGot}
+use Rattle.transmit_words.specs.Seats.{AreAllIn, HasGot, NoMoreOut}
+use Rattle.transmit_words.proofs.Out.{out-set}
 use Rattle.transmit_words.proofs.Stations.{tables-set, claim-all, said-gained, all-in-set, cards-set, cards-kept, number_of}
 use Rattle.transmit_words.proofs.controls.Controls.claim.Goals.{in-Ok, in-Err}
 use Rattle.transmit_words.proofs.controls.Controls.claim.Goals as goal
@@ -92,3 +93,10 @@ returns-after-claim-clause-cards g c =
 pub returns-else-place-len-clause-cards : goal.returns-else-place-len-clause-cards
 returns-else-place-len-clause-cards g c =
     subst (λ (old : List ControlAt). KeepCards old old) c.self.view_is (cards-kept c.self.inside.controls.items)
+
+pub returns-after-claim-clause-out : goal.returns-after-claim-clause-out
+returns-after-claim-clause-out g c =
+    let cs = c.self.inside.controls.items in
+    let at = slice_get_read cs _ c.from-place.result c.index_mut.result.now refl (omega arith) c.index_mut.ensures.value in
+    subst (λ (old : List ControlAt). NoMoreOut old (set cs c.from-place.result c.claim.new.self)) c.self.view_is
+    (out-set cs c.from-place.result c.index_mut.result.now c.claim.new.self at c.claim.ensures.out)

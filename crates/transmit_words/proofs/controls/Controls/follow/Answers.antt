@@ -1,9 +1,14 @@
 use Rattle.std.proofs.Common.{refl, ◌∙◌, arith}
+use Rattle.transmit_words.proofs.Out.{out-none, out-then}
 use Rattle.transmit_words.proofs.Stations.{followed-first, followed-next, followed-end}
 use Rattle.transmit_words.proofs.controls.Controls.follow.Goals as goal
 
 pub loop-fact-init : goal.loop-fact-init
-loop-fact-init g c = (refl, λ settings users r stands. followed-first settings r c.args.self.now)
+loop-fact-init g c = (
+  refl,
+  (λ settings users r stands. followed-first settings r c.args.self.now),
+  out-none c.args.self.now,
+)
 
 pub follow_one-requires : goal.follow_one-requires
 follow_one-requires g c = record { here = c.loop-fact.invariant.0 ∙ c.requires.here }
@@ -11,9 +16,10 @@ follow_one-requires g c = record { here = c.loop-fact.invariant.0 ∙ c.requires
 pub loop-fact-preserved : goal.loop-fact-preserved
 loop-fact-preserved g c = (
   c.follow_one.ensures.same ∙ c.loop-fact.invariant.0,
-  λ settings users r stands.
+  (λ settings users r stands.
       followed-next settings r c.args.facts.now c.loop-fact.fact-index c.fact-item.result c.args.self.now c.loop-fact.self c.follow_one.new.self (omega arith) c.fact-item.is
-      (c.loop-fact.invariant.1 settings users r stands) (c.follow_one.ensures.followed settings users r stands),
+      (c.loop-fact.invariant.1 settings users r stands) (c.follow_one.ensures.followed settings users r stands)),
+  out-then _ _ _ c.loop-fact.invariant.2 c.follow_one.ensures.out,
 )
 
 pub returns : goal.returns
@@ -21,4 +27,5 @@ returns g c = record {
   same = c.loop-fact.invariant.0;
   followed = λ settings users r stands.
       followed-end settings r c.args.facts.now c.loop-fact.fact-index c.args.self.now c.loop-fact.self (omega arith) (c.loop-fact.invariant.1 settings users r stands);
+  out = c.loop-fact.invariant.2;
 }

@@ -2,6 +2,8 @@ use Rattle.std.proofs.Common.{◌∷◌, [], refl, ap, ◌∙◌, subst, arith, 
 use Rattle.std.proofs.lemmas.Option.{slice_get_read}
 use Rattle.association_slots.specs.Views.{ControlAt}
 use Rattle.transmit_words.specs.Ties.{tables_of, Followed}
+use Rattle.transmit_words.specs.Seats.{NoMoreOut}
+use Rattle.transmit_words.proofs.Out.{out-same, out-set}
 use Rattle.transmit_words.proofs.Stations.{has-card, tables-set, followed-one, followed-none}
 use Rattle.transmit_words.proofs.controls.Controls.follow_one.Goals as goal
 
@@ -24,3 +26,11 @@ returns-then-place-len-clause-same g c =
     let cs = c.self.inside.controls.items in
     let at = slice_get_read cs _ c.from-place.result c.index_mut.result.now refl (omega arith) c.index_mut.ensures.value in
     tables-set cs c.from-place.result c.index_mut.result.now c.moved.new.control at c.moved.ensures.same ∙ ap tables_of c.self.view_is
+
+pub returns-then-place-len-clause-out : goal.returns-then-place-len-clause-out
+returns-then-place-len-clause-out g c =
+    let cs = c.self.inside.controls.items in
+    let at = slice_get_read cs _ c.from-place.result c.index_mut.result.now refl (omega arith) c.index_mut.ensures.value in
+    subst (λ (old : List ControlAt). NoMoreOut old (set cs c.from-place.result c.moved.new.control)) c.self.view_is
+    (out-set cs c.from-place.result c.index_mut.result.now c.moved.new.control at
+    (out-same c.index_mut.result.now.view c.moved.new.control.view c.moved.ensures.seats))
