@@ -20,7 +20,7 @@ use Rattle.race_merge.specs.Weaving.{IsWoven}
 use Rattle.worker_races.specs.Senders.{IsNew, jobs_of}
 use Rattle.lan_schedule.specs.Races.{Claimed, IsDealt, Worker, claims_in, count_of}
 use Rattle.lan_schedule.specs.Acts.{station_of}
-use Rattle.lan_schedule.specs.inside.Beside.{worker_of}
+use Rattle.lan_schedule.specs.Woven.{worker_of}
 use Rattle.lan_schedule.proofs.Dealing.{count-claim, count-log, counted}
 use Rattle.lan_schedule.proofs.PartShown.{nth-logs, nth_of}
 use Rattle.lan_schedule.proofs.WovenPart.{claims_of}

@@ -172,8 +172,10 @@ pub record Keeps (event : Event) (facts : List Fact) (old new : Stage) : Type 0 
       (epoch_of settings (happened event facts ∷ r) event) (steps_of old) (steps_of new)
   pub followed : is_start event ≡ false → (settings : Settings) (users : List UserFrame) (r : Run)
       → GroupStandsFor settings users new.lan (happened event facts ∷ r)
+      → IsStepped settings users (happened event facts ∷ r)
       → Followed settings (happened event facts ∷ r) facts old.words new.words
   pub seats : KeepSeats old.words new.words
+  pub still : event ≡ events.Emit → new.words ≡ old.words
 
 -- the same steps or one more
 kept-some : (old new : Stage) (event : Event) (before after : Option ℕ)
@@ -269,7 +271,7 @@ since-by mark w event facts old new laws stands own stepped told keeps (Some ste
           (laws.tells (settings w) w.kept.users old.lan new.lan w.run at.station x looked.1
           old.words new.words stands.lan told.lan stepped.1 stepped.0 at.own looked.4
           (ahead-racing w event old.words looked.0 racing at.starts_none stands.words)
-          (keeps.followed at.starts_none (settings w) w.kept.users w.run told.lan)),
+          (keeps.followed at.starts_none (settings w) w.kept.users w.run told.lan stepped)),
     )
 
 since-after : (mark : Mark) (w : World) (event : Event) (facts : List Fact) (old new : Stage)
@@ -471,6 +473,7 @@ module _ {K : Type 0} {Took : K → Report → K → Type 0} {Broke : K → Repo
           (λ y. Broke old.outlet (record { names = names; facts = facts }) new.outlet y))
           after_it.names wrote));
       seats = keeps.seats;
+      still = keeps.still;
     }
 
     -- what followed a step, by what the group was before it
@@ -487,12 +490,14 @@ module _ {K : Type 0} {Took : K → Report → K → Type 0} {Broke : K → Repo
     pub went-wanting : (event : Event) (facts : List Fact) (mid : Stage) (old new : Moment Stage K)
         → new.value.tally ≡ old.value.tally → new.outlet ≡ old.outlet
         → KeepSeats old.value.words new.value.words
+        → (event ≡ events.Emit → new.value.words ≡ old.value.words)
         → WentOn Took Broke event facts mid old new (Err halts.Memory)
-    went-wanting event facts mid old new tally same seats = record {
+    went-wanting event facts mid old new tally same seats still = record {
       ends = λ mark w later left reached comes went. ends-memory Took Broke (StandsSince mark)
           (LeavesAt mark) Counts (happen event) w later old.outlet new reached.tidy
           (tally ∙ reached.stands.stands.tally) same;
       seats = seats;
+      still = still;
     }
 
     -- an error that `?` hands on behind a step is the error
@@ -515,6 +520,7 @@ module _ {K : Type 0} {Took : K → Report → K → Type 0} {Broke : K → Repo
           (subst (λ (g : Option UserFrame). MayCome (settings w) w.kept.users w.run g event)
           (sym is) comes.0));
       seats = went.seats;
+      still = went.still;
     }
 
     -- the group met a stop in a world
@@ -572,6 +578,7 @@ module _ {K : Type 0} {Took : K → Report → K → Type 0} {Broke : K → Repo
           (subst (λ (g : Option UserFrame). MayCome (settings w) w.kept.users w.run g event)
           (sym is) comes.0));
       seats = same-seats old.value.words new.value.words words;
+      still = λ emits. words;
     }
 
     -- a frame was admitted that its station had checked
@@ -677,11 +684,13 @@ module _ {K : Type 0} {Took : K → Report → K → Type 0} {Broke : K → Repo
     pub event-wanting : (given : Option UserFrame) (event : Event) (old new : Moment Stage K)
         → new.value.tally ≡ old.value.tally → new.outlet ≡ old.outlet
         → KeepSeats old.value.words new.value.words
+        → (event ≡ events.Emit → new.value.words ≡ old.value.words)
         → Happened Took Broke given event old new (Err halts.Memory)
-    event-wanting given event old new tally same seats = record {
+    event-wanting given event old new tally same seats still = record {
       ends = λ mark w later left reached named comes. ends-memory Took Broke (StandsSince mark) (LeavesAt mark) Counts (happen event) w later
           old.outlet new reached.tidy (tally ∙ reached.stands.stands.tally) same;
       seats = seats;
+      still = still;
     }
 
     -- an error that `?` hands on is the error

@@ -43,7 +43,8 @@ use Rattle.lan_schedule.specs.Sound.{IsTidy}
 use Rattle.lan_schedule.specs.Stages.{Says, StandsFor}
 use Rattle.lan_schedule.specs.inside.Beside.{AreHired, BeginsRace, HasEnlisted, HasMoved, HaveRoom}
 use Rattle.lan_schedule.specs.inside.Beside.{HiredAll, WasHired}
-use Rattle.lan_schedule.specs.inside.Beside.{mark_of, worker_of}
+use Rattle.lan_schedule.specs.Woven.{worker_of}
+use Rattle.lan_schedule.specs.inside.Beside.{mark_of}
 use Rattle.lan_schedule.specs.inside.Recording.{HasRecorded, StandsSince}
 use Rattle.lan_schedule.proofs.Claiming.{claims-tallied}
 use Rattle.lan_schedule.proofs.RaceComes.{tidy-begun}

@@ -41,6 +41,7 @@ mod Same
 mod Still
 mod RunNone
 mod Ahead
+mod Unmoved
 mod Claiming
 mod Chances
 mod Happening
@@ -55,6 +56,7 @@ mod Phasing
 mod Performing
 mod Commanding
 mod Replaying
+mod RunsRaces
 mod Closing
 mod Stopping
 mod Opening

@@ -36,8 +36,8 @@ use Rattle.lan_schedule.specs.Ends.{Moment, IsReached, Ends}
 use Rattle.lan_schedule.specs.Standing.{phase_of, AreBursts, AreFit, IsBurst, IsControl, IsStaged, HasTally, StandsFor, Counts, Does}
 use Rattle.lan_schedule.specs.Stages.{Says, StandsFor as StageStandsFor}
 use Rattle.lan_schedule.specs.inside.Phased.{is_inside, is_taken, is_end, behind, MayBeKept, Takes}
-use Rattle.lan_schedule.specs.inside.Phased.{act_apart, is_controlling}
-use Rattle.lan_schedule.specs.inside.Beside.{race_in}
+use Rattle.lan_schedule.specs.Woven.{is_controlling, race_in}
+use Rattle.lan_schedule.specs.inside.Phased.{act_apart}
 use Rattle.lan_core.specs.Types.{IsUserFrame}
 use Rattle.trace_text.specs.Writing.{IsInForm}
 use Rattle.lan_schedule.proofs.Doing.{told-none, ends-memory}

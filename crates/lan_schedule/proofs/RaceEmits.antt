@@ -21,7 +21,7 @@ use Rattle.race_merge.specs.Taking.{frames_of}
 use Rattle.race_merge.specs.Weaving.{IsWoven}
 use Rattle.association_slots.specs.Views.{ControlAt}
 use Rattle.transmit_words.specs.Ties.{HaveCaughtUp}
-use Rattle.worker_races.specs.Beside.{Race, WereBeside, attempts_in, logs_in}
+use Rattle.worker_races.specs.Beside.{Race, WereBeside, attempts_in, logs_in, part_in}
 use Rattle.worker_races.specs.Carded.{AreCarded}
 use Rattle.worker_races.specs.Performed.{happenings, run_after}
 use Rattle.trace_acts.specs.declared.halt.Halt.{Halt}
@@ -41,6 +41,7 @@ use Rattle.lan_schedule.specs.Reports.{Report, reports}
 use Rattle.lan_schedule.specs.Ends.{Ends, IsReached, WasBroken, WasCut, WasTold, moment}
 use Rattle.lan_schedule.specs.Sound.{IsTidy}
 use Rattle.lan_schedule.specs.Stages.{Counts}
+use Rattle.lan_schedule.specs.Woven.{WasWoven, controlled_in}
 use Rattle.lan_schedule.specs.inside.Beside.{HasRun, IsLeft, Leaves, Weaves, has_stopped}
 use Rattle.lan_schedule.specs.inside.Beside.{mark_of}
 use Rattle.lan_schedule.specs.inside.Comes.{IsSteady}
@@ -59,7 +60,7 @@ use Rattle.lan_schedule.proofs.RaceWoven.{wait-after}
 use Rattle.lan_schedule.proofs.Recorded.{leaves-counts, leaves-names, since-apart}
 use Rattle.lan_schedule.proofs.Steered.{IsSteered, broken-memory, kept-told, steered-err, steered-ok}
 use Rattle.lan_schedule.proofs.RaceEnds.{IsMerged, control-ends, given, left-after, reports-are}
-use Rattle.lan_schedule.proofs.RaceEnds.{steady-at, tally-is}
+use Rattle.lan_schedule.proofs.RaceEnds.{steady-at, tally-is, woven-so}
 
 -- ---- where the group goes on
 
@@ -94,6 +95,7 @@ pub record WereEmitted (mid set new : Stage) (frames : List Protected) (count : 
   pub many : count ≡ length frames
   pub did : Did KeepsReport KeepsNoMore (times count (happen Emit)) (moment set first)
       (moment new shown) result
+  pub words : new.words ≡ set.words
 
 protected-many : (users : List UserFrame) (r : Run) (frames : List Protected) (ws : List Waiting)
     → map (λ (p : Protected). Some p) frames ≡ map (protected_for users r) ws
@@ -119,12 +121,12 @@ module _ (w : World) (workers : List Worker) (lines : List Numbered) (now : Stag
   abbrev u : World
   u = after_race workers w v
 
-  abbrev out_of : (part : List Happening) × IsPart r es part
+  abbrev out_of : IsPart r es (part_in r)
   out_of = given w workers lines now ran has all false v at steady laws old mid es frames first merged
       is_old (more ++ rest) refl
 
   abbrev part : List Happening
-  part = out_of.0
+  part = part_in r
 
   still : r.looked ≡ r.moved
   still = at.still refl
@@ -147,14 +149,14 @@ module _ (w : World) (workers : List Worker) (lines : List Numbered) (now : Stag
   are-protected : AreProtected (settings w) r.users frames part w.run
   are-protected = subst (λ (fs : List Protected). AreProtected (settings w) r.users fs part w.run)
       (sym (merged.frames_are ∙ ap (λ logs. frames_of es logs) has.beside.logs))
-      (going.protected r beside-is moved-cards part es out_of.1.events out_of.1.woven
-      out_of.1.legal.stepped)
+      (going.protected r beside-is moved-cards part es out_of.events out_of.woven
+      out_of.legal.stepped)
 
   many-frames : length frames ≡ count_numbered (claims_in (woven_in v.kept.chances))
   many-frames =
       protected-many r.users (followed_by part w.run) frames (claimed_in (settings w) part w.run)
       are-protected
-      ∙ many-after w workers lines now ran has all false v at steady es part out_of.1 chances-are
+      ∙ many-after w workers lines now ran has all false v at steady es part out_of chances-are
 
   -- the group that control left, without what the workers claimed
   moved-stands : GroupStandsFor (settings w) r.users has.beside.moved.lan
@@ -163,7 +165,7 @@ module _ (w : World) (workers : List Worker) (lines : List Numbered) (now : Stag
       let stands = (at.stands refl).lan in
       let run : v.run ≡ followed_by (without_claims part) w.run =
       at.recorded.run
-      ∙ ap (λ (hs : List Happening). followed_by hs w.run) (sym out_of.1.woven.control) in
+      ∙ ap (λ (hs : List Happening). followed_by hs w.run) (sym out_of.woven.control) in
       subst (λ (q : Run). GroupStandsFor (settings w) r.users has.beside.moved.lan q) run
       (subst (λ (users : List UserFrame).
       GroupStandsFor (settings w) users has.beside.moved.lan v.run) steady.users
@@ -202,21 +204,27 @@ module _ (w : World) (workers : List Worker) (lines : List Numbered) (now : Stag
           lan = set.lan;
         }) (sym tally)
 
+    -- what control and the workers did was woven
+    woven-before : controlled_in w workers lines ≡ v → WasWoven w workers lines has.first.words new.words
+    woven-before came = woven-so w workers lines now ran has all false v at steady laws old mid es frames
+        first merged is_old (more ++ rest) refl came new
+        (emitted.words ∙ ap (λ (s : Stage). s.words) set-is)
+
     reached : IsReached (StandsSince (mark_of w has.begun)) u set
     reached = record {
       stands = since-apart (mark_of w has.begun) u set
-          (stands-after w workers lines now ran has all false v at steady es part out_of.1 chances-are
+          (stands-after w workers lines now ran has all false v at steady es part out_of chances-are
           set (at.stands refl) set-is
           (emitted.settled (settings w) r.users part w.run
           (subst (λ lan. GroupStandsFor (settings w) r.users lan
           (followed_by (without_claims part) w.run)) (sym lan-mid) moved-stands)
-          out_of.1.legal.stepped are-protected)
-          (going.caught r beside-is still part out_of.1.woven out_of.1.legal.stepped)
-          (going.cards r beside-is moved-cards part out_of.1.woven out_of.1.legal.stepped)
+          out_of.legal.stepped are-protected)
+          (going.caught r beside-is still part out_of.woven out_of.legal.stepped)
+          (going.cards r beside-is moved-cards part out_of.woven out_of.legal.stepped)
           (ap (λ (s : Stage). s.tally) emitted.same
           ∙ tally-is w workers lines now ran has all false v at steady laws old mid es frames first
           merged is_old (more ++ rest) refl)) refl;
-      tidy = tidy-after w workers lines now ran has all false v at steady es part out_of.1 chances-are;
+      tidy = tidy-after w workers lines now ran has all false v at steady es part out_of chances-are;
     }
 
     many : count ≡ count_numbered (claims_in (woven_in v.kept.chances))
@@ -230,9 +238,9 @@ module _ (w : World) (workers : List Worker) (lines : List Numbered) (now : Stag
         merged is_old (more ++ rest) refl ∙ ap (λ (c : List Chance). c ++ rest) own)
         reached
         (comes-emits count u refl
-        (let wait = wait-after w workers lines now ran has all false v at steady es part out_of.1
+        (let wait = wait-after w workers lines now ran has all false v at steady es part out_of
         chances-are in
-        let claims = many-after w workers lines now ran has all false v at steady es part out_of.1
+        let claims = many-after w workers lines now ran has all false v at steady es part out_of
         chances-are in
         let count_is = many in omega (arith, wait, claims, count_is)))
 
@@ -252,7 +260,7 @@ module _ (w : World) (workers : List Worker) (lines : List Numbered) (now : Stag
     left-at x told is since kept tidy apart tally named =
         let more_so : ShowsMore u x = subst (λ (y : World). ShowsMore u y) is shows-more in
         let names_x : names_of x.run ≡ names_of w.run =
-        more_so.names ∙ names-after w workers lines now ran has all false v at steady es part out_of.1
+        more_so.names ∙ names-after w workers lines now ran has all false v at steady es part out_of
         chances-are in
         let names = named names_x in
         let told_is : told ≡ reports_with (names_of u.run) more_so.more =
@@ -264,7 +272,7 @@ module _ (w : World) (workers : List Worker) (lines : List Numbered) (now : Stag
         let shown_is : shown ≡ first ++ more_so.more =
         kept ∙ ap (λ (l : List (List Fact)). first ++ l) facts in
         let names_u : new.names.items ≡ names_of u.run = names ∙ sym (names-after w workers lines now
-        ran has all false v at steady es part out_of.1 chances-are) in record {
+        ran has all false v at steady es part out_of chances-are) in record {
           tidy = tidy;
           raced = more_so.raced ∙ at.raced;
           apart = apart;
@@ -391,6 +399,7 @@ weaves-emitted ran old mid set new es frames count first shown result laws going
         (moment has.beside.moved ran.kept) c
         → Leaves w later (perform (race_act workers (control_act lines)) w) new shown
         (result_and c result)
+        × WasWoven w workers lines has.first.words new.words
     by w later workers lines now has is_old (Ok tt) goes ends =
         let more = emitted.did.chances in
         let all = Woven (claims_from es) ∷ (more ++ later) in
@@ -399,19 +408,22 @@ weaves-emitted ran old mid set new es frames count first shown result laws going
         let v = out.0 in
         let at = out.2 in
         let steady = steady-at w workers lines now ran has all v (Goes v) out.1 refl in
-        let u = after_race workers w v in
-        all-lines (mark_of w has.begun) w u later (perform (times count (happen Emit)) u) new first
-        shown refl
-        (done-so w workers lines now ran has more later v old mid es frames first at steady laws going
-        merged is_old set new count shown result emitted)
-        (ended-so w workers lines now ran has more later v old mid es frames first at steady laws going
-        merged is_old set new count shown result emitted)
-        (perform (race_act workers (control_act lines)) w) result some
-        (emit-ends w workers lines now ran has more later v old mid es frames first at steady laws going
-        merged is_old set new count shown result emitted refl)
-        (ap (λ (o : Course). beside workers w o) out.1
-        ∙ all-emitted w workers lines now ran has more later v old mid es frames first at steady laws
-        going merged is_old set new count shown result emitted)
+        let u = after_race workers w v in (
+          all-lines (mark_of w has.begun) w u later (perform (times count (happen Emit)) u) new first
+              shown refl
+              (done-so w workers lines now ran has more later v old mid es frames first at steady laws going
+              merged is_old set new count shown result emitted)
+              (ended-so w workers lines now ran has more later v old mid es frames first at steady laws going
+              merged is_old set new count shown result emitted)
+              (perform (race_act workers (control_act lines)) w) result some
+              (emit-ends w workers lines now ran has more later v old mid es frames first at steady laws going
+              merged is_old set new count shown result emitted refl)
+              (ap (λ (o : Course). beside workers w o) out.1
+              ∙ all-emitted w workers lines now ran has more later v old mid es frames first at steady laws
+              going merged is_old set new count shown result emitted),
+          woven-before w workers lines now ran has more later v old mid es frames first at steady laws
+              going merged is_old set new count shown result emitted (ap (λ (o : Course). world_of o) out.1),
+        )
     by w later workers lines now has is_old (Err halt) goes ends =
         let more = emitted.did.chances in
         let all = Woven (claims_from es) ∷ (more ++ later) in
@@ -423,18 +435,21 @@ weaves-emitted ran old mid set new es frames count first shown result laws going
         let at = subst (λ (b : Bool). IsSteered w has.begun has.beside.moved ran.steps.items ran.kept all
         b v) goes out.2 in
         let steady = steady-at w workers lines now ran has all v (Stops v halt) out.1 refl in
-        let u = after_race workers w v in
-        some-lines (mark_of w has.begun) w u later (perform (times count (happen Emit)) u) new first
-        shown refl
-        (done-so w workers lines now ran has more later v old mid es frames first at steady laws going
-        merged is_old set new count shown result emitted)
-        (ended-so w workers lines now ran has more later v old mid es frames first at steady laws going
-        merged is_old set new count shown result emitted)
-        (perform (race_act workers (control_act lines)) w) halt result some
-        (emit-ends w workers lines now ran has more later v old mid es frames first at steady laws going
-        merged is_old set new count shown result emitted refl)
-        (ap (λ (o : Course). beside workers w o) out.1
-        ∙ ap (λ (b : Bool). ends_with halt (cond b (Goes u) (emitting_all v u))) goes
-        ∙ ap (λ (o : Course). ends_with halt o)
-        (all-emitted w workers lines now ran has more later v old mid es frames first at steady laws
-        going merged is_old set new count shown result emitted))
+        let u = after_race workers w v in (
+          some-lines (mark_of w has.begun) w u later (perform (times count (happen Emit)) u) new first
+              shown refl
+              (done-so w workers lines now ran has more later v old mid es frames first at steady laws going
+              merged is_old set new count shown result emitted)
+              (ended-so w workers lines now ran has more later v old mid es frames first at steady laws going
+              merged is_old set new count shown result emitted)
+              (perform (race_act workers (control_act lines)) w) halt result some
+              (emit-ends w workers lines now ran has more later v old mid es frames first at steady laws going
+              merged is_old set new count shown result emitted refl)
+              (ap (λ (o : Course). beside workers w o) out.1
+              ∙ ap (λ (b : Bool). ends_with halt (cond b (Goes u) (emitting_all v u))) goes
+              ∙ ap (λ (o : Course). ends_with halt o)
+              (all-emitted w workers lines now ran has more later v old mid es frames first at steady laws
+              going merged is_old set new count shown result emitted)),
+          woven-before w workers lines now ran has more later v old mid es frames first at steady laws
+              going merged is_old set new count shown result emitted (ap (λ (o : Course). world_of o) out.1),
+        )

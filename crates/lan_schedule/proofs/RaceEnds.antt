@@ -11,7 +11,8 @@ use Rattle.lan_core.specs.Run.{Happening, facts_of}
 use Rattle.lan_core.proofs.Public.{stands-more}
 use Rattle.fact_tally.specs.Summary.{counts}
 use Rattle.race_merge.specs.Taking.{frames_of}
-use Rattle.worker_races.specs.Beside.{Race, WereBeside}
+use Rattle.association_slots.specs.Views.{ControlAt}
+use Rattle.worker_races.specs.Beside.{Race, WereBeside, part_in}
 use Rattle.trace_acts.specs.declared.halt.Halt.{Halt}
 use Rattle.trace_acts.specs.declared.halt.Halt.TheVariants as halts
 use Rattle.trace_acts.specs.Names.{names_of}
@@ -27,16 +28,17 @@ use Rattle.lan_schedule.specs.Lines.{control_act}
 use Rattle.lan_schedule.specs.Reports.{reports}
 use Rattle.lan_schedule.specs.Ends.{Ends, moment}
 use Rattle.lan_schedule.specs.Stages.{Counts}
+use Rattle.lan_schedule.specs.Woven.{WasWoven, controlled_in}
 use Rattle.lan_schedule.specs.inside.Beside.{HasRun, IsLeft, Leaves, Weaves, has_stopped, is_memory}
 use Rattle.lan_schedule.specs.inside.Beside.{mark_of}
 use Rattle.lan_schedule.specs.inside.Comes.{IsSteady}
 use Rattle.lan_schedule.specs.inside.Recording.{LeavesAt, StandsSince}
 use Rattle.lan_schedule.specs.inside.Weaves.{KeepsNoMore, KeepsReport, facts_in, reports_with, shown_in}
 use Rattle.lan_schedule.proofs.PartReports.{facts_by}
-use Rattle.lan_schedule.proofs.RaceOf.{race, were-beside}
+use Rattle.lan_schedule.proofs.RaceOf.{on-run, race, were-beside}
 use Rattle.lan_schedule.proofs.RacePart.{AreMerged, IsPart, RaceLaws, behind-behind, claims_from}
 use Rattle.lan_schedule.proofs.RacePart.{race-part, woven-behind}
-use Rattle.lan_schedule.proofs.RaceWoven.{facts-after, names-on}
+use Rattle.lan_schedule.proofs.RaceWoven.{after-run, facts-after, names-on}
 use Rattle.lan_schedule.proofs.RaceWoven.{reports-after, shown-after, tidy-after}
 use Rattle.lan_schedule.proofs.Steered.{IsSteered, steered-err}
 
@@ -98,7 +100,7 @@ module _ (w : World) (workers : List Worker) (lines : List Numbered) (now : Stag
     beside-is : WereBeside r
     beside-is = were-beside w workers lines now ran has later stopped v at steady
 
-    pub given : (part : List Happening) × IsPart r es part
+    pub given : IsPart r es (part_in r)
     given = race-part r beside-is es has.first.lan
         (stands-more (settings w) w.kept.users (map (λ (worker : Worker). worker.user) workers)
         has.first.lan w.run has.reached.stands.lan) laws
@@ -106,7 +108,7 @@ module _ (w : World) (workers : List Worker) (lines : List Numbered) (now : Stag
         merged.merged)
 
     abbrev part : List Happening
-    part = given.0
+    part = part_in r
 
     left-behind : behind_numbers v.kept.chances ≡ Woven (claims_from es) ∷ rest
     left-behind = at.left ∙ ap (λ (c : List Chance). behind_numbers c) left
@@ -119,33 +121,60 @@ module _ (w : World) (workers : List Worker) (lines : List Numbered) (now : Stag
 
     pub shown-is : shown ≡ facts_by part
     shown-is = merged.shown_is ∙ shown-after w workers lines now ran has later stopped v at steady es
-        part given.1 chances-are frames merged.frames_are
+        part given chances-are frames merged.frames_are
 
     pub tally-is : mid.tally ≡ counts (facts_of u.run)
     tally-is = merged.counted (facts_of w.run) (ap (λ (s : Stage). s.tally) is_old)
         ∙ ap (λ (facts : List Fact). counts facts)
-        (facts-after w workers lines now ran has later stopped v at steady es part given.1 chances-are
+        (facts-after w workers lines now ran has later stopped v at steady es part given chances-are
         (shown_in es ran.kept frames)
-        (shown-after w workers lines now ran has later stopped v at steady es part given.1 chances-are
+        (shown-after w workers lines now ran has later stopped v at steady es part given chances-are
         frames merged.frames_are))
 
     pub names-mid : mid.names.items ≡ names_of w.run
     names-mid = ap (λ (s : Stage). s.names.items) merged.same
         ∙ ap (λ (s : Stage). s.names.items) is_old
         ∙ ap (λ (s : Stage). s.names.items) has.beside.same ∙ at.names
-        ∙ names-on w workers lines now ran has later stopped v at steady es part given.1 chances-are
+        ∙ names-on w workers lines now ran has later stopped v at steady es part given chances-are
 
     pub reports-are : (names : List (List ℕ)) → names ≡ names_of w.run
         → reports u.run ≡ reports w.run ++ reports_with names shown
     reports-are names is =
-        reports-after w workers lines now ran has later stopped v at steady es part given.1 chances-are
+        reports-after w workers lines now ran has later stopped v at steady es part given chances-are
         ∙ ap (λ (n : List (List ℕ)). reports w.run ++ reports_with n (facts_by part)) (sym is)
         ∙ ap (λ (s : List (List Fact)). reports w.run ++ reports_with names s) (sym shown-is)
+
+    -- a race of threads is woven so
+    module _ (came : controlled_in w workers lines ≡ v) where
+      pub woven-so : (new : Stage) → new.words ≡ now.words
+          → WasWoven w workers lines has.first.words new.words
+      woven-so new words = subst (λ (cs : List ControlAt). WasWoven w workers lines has.first.words cs)
+          (sym words) (record {
+            race = r;
+            race_of = record {
+              settings = refl;
+              run = refl;
+              users = refl;
+              base = refl;
+              workers = has.hired.are;
+              control = sym (on-run w workers lines now ran has later stopped v at steady)
+                  ∙ ap (λ (x : World). x.run) (sym came);
+              before = refl;
+              after = refl;
+            };
+            beside = beside-is;
+            woven = given.woven;
+            run = ap (λ (x : World). (after_race workers w x).run) came
+                ∙ after-run w workers lines now ran has later stopped v at steady es part given chances-are;
+          })
+
+    pub words-mid : mid.words ≡ now.words
+    words-mid = ap (λ (s : Stage). s.words) merged.same ∙ ap (λ (s : Stage). s.words) is_old
 
     -- where the group stopped, this is all
     pub left-so : IsLeft w u mid shown
     left-so = record {
-      tidy = tidy-after w workers lines now ran has later stopped v at steady es part given.1
+      tidy = tidy-after w workers lines now ran has later stopped v at steady es part given
           chances-are;
       raced = at.raced;
       apart = refl;
@@ -173,6 +202,7 @@ weaves-stopped ran old new es frames shown laws some stopped merged = record {
       (perform (control_act lines) (begun_race workers w)) []
       (moment has.beside.moved ran.kept) c
       → Leaves w later (perform (race_act workers (control_act lines)) w) new shown c
+      × WasWoven w workers lines has.first.words new.words
   by w later workers lines now has is_old (Ok done) stop some ends = absurd (cc stop)
   by w later workers lines now has is_old (Err halt) stop some ends =
       let all = Woven (claims_from es) ∷ later in
@@ -182,13 +212,19 @@ weaves-stopped ran old new es frames shown laws some stopped merged = record {
       let v = out.0 in
       let steady = steady-at w workers lines now ran has all v (Stops v halt) out.1 refl in
       let u = after_race workers w v in (
-        u,
-        ap (λ (o : Course). beside workers w o) out.1
-            ∙ ap (λ (b : Bool). ends_with halt (cond b (Goes u) (emitting_all v u))) stop,
-        left-so w workers lines now ran has all (is_stop halt) v out.2 steady laws old new es frames
-            shown merged is_old later refl,
-        ap (λ (c : List Chance). behind_numbers c)
-            (left-after w workers lines now ran has all (is_stop halt) v out.2 steady laws old new es
+        (
+          u,
+          ap (λ (o : Course). beside workers w o) out.1
+              ∙ ap (λ (b : Bool). ends_with halt (cond b (Goes u) (emitting_all v u))) stop,
+          left-so w workers lines now ran has all (is_stop halt) v out.2 steady laws old new es frames
+              shown merged is_old later refl,
+          ap (λ (c : List Chance). behind_numbers c)
+              (left-after w workers lines now ran has all (is_stop halt) v out.2 steady laws old new es
+              frames shown merged is_old later refl),
+        ),
+        woven-so w workers lines now ran has all (is_stop halt) v out.2 steady laws old new es frames
+            shown merged is_old later refl (ap (λ (o : Course). world_of o) out.1) new
+            (words-mid w workers lines now ran has all (is_stop halt) v out.2 steady laws old new es
             frames shown merged is_old later refl),
       )
 

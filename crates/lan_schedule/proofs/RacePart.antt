@@ -18,13 +18,14 @@ use Rattle.lan_core.specs.Parts.{followed_by}
 use Rattle.lan_core.specs.Run.{Happening, Run, facts_of, happened}
 use Rattle.lan_core.specs.Standing.{State, StandsFor as GroupStandsFor}
 use Rattle.race_merge.specs.declared.step.Step.{Step}
+use Rattle.race_merge.specs.Merged.{entries_of, merged}
 use Rattle.race_merge.specs.Places.{Move}
 use Rattle.race_merge.specs.Raced.{IsRaced}
 use Rattle.race_merge.specs.Steps.{AreSteps, counted_from, logs_of}
 use Rattle.race_merge.specs.Taking.{frames_of}
-use Rattle.race_merge.specs.Weaving.{IsWoven}
+use Rattle.race_merge.specs.Weaving.{IsWoven, part_of}
 use Rattle.worker_races.specs.Beside.{Race, WereBeside, ans_in, attempts_in, logs_in, moves_in}
-use Rattle.worker_races.specs.Beside.{pointed_in}
+use Rattle.worker_races.specs.Beside.{part_in, pointed_in}
 use Rattle.worker_races.specs.Performed.{happenings}
 use Rattle.worker_races.specs.Senders.{IsNew}
 use Rattle.lan_schedule.specs.Races.{Chance, Claimed, Shown, Woven, behind_numbers, behind_woven}
@@ -134,8 +135,8 @@ AreMerged steps logs es = (settings : Settings) (users : List UserFrame) (base :
     (ans : ℕ → ℕ → AssociationNumber) (pointed : ℕ → ℕ) (r : Run) (moves : List Move)
     → length logs + 1 < 2 ^ 32 → AreSteps steps moves
     → IsRaced settings users base ans pointed r moves (logs_of 0 logs)
-    → (part : List Happening)
-    × (map (λ h. h.event) part ≡ map (counted_from base) es)
+    → let part = part_of settings base (merged moves (entries_of (logs_of 0 logs))) r in
+    (map (λ h. h.event) part ≡ map (counted_from base) es)
     × IsWoven base part (map (λ m. m.x) moves) (logs_of 0 logs)
     × IsLegal settings users (followed_by part r)
     × (IsThrifty settings r
@@ -167,24 +168,22 @@ pub record IsPart (race : Race) (es : List Event) (part : List Happening) : Type
 
 pub race-part : (race : Race) → WereBeside race → (es : List Event) (state : State)
     → GroupStandsFor race.settings race.users state race.run → RaceLaws
-    → AreMerged race.steps (logs_in race) es → (part : List Happening) × IsPart race es part
+    → AreMerged race.steps (logs_in race) es → IsPart race es (part_in race)
 race-part race is es state stands laws merged =
     let given = merged race.settings race.users race.base (ans_in race) (pointed_in race) race.run
     (moves_in race) (laws.few race is) (laws.steps race is) (laws.raced race is) in
-    let part = given.0 in
+    let part = part_in race in
     let woven : IsWoven race.base part (happenings race.performed) (attempts_in race) =
     subst (λ (steps : List Happening). IsWoven race.base part steps (attempts_in race))
-    (laws.control race) given.2 in
-    let few = laws.unused race is state stands part woven given.3.stepped in (
-      part,
-      record {
-        events = given.1;
-        woven = woven;
-        legal = given.3;
-        few = few;
-        thrifty = λ before. given.4 before few;
-      },
-    )
+    (laws.control race) given.1 in
+    let few = laws.unused race is state stands part woven given.2.stepped in
+    record {
+      events = given.0;
+      woven = woven;
+      legal = given.2;
+      few = few;
+      thrifty = λ before. given.3 before few;
+    }
 
 module _ (race : Race) (is : WereBeside race) (es : List Event) (part : List Happening)
     (at : IsPart race es part) where

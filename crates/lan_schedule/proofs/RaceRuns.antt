@@ -2,7 +2,7 @@
 -- whole race does.
 use Rattle.std.proofs.Common.{◌≡◌, ◌<◌, ◌+◌, ℕ, Bool, true, false, List, [], ◌∷◌, ◌++◌, length, Some, None, refl, sym, ap}
 use Rattle.std.proofs.Common.{◌∙◌, subst, inl, inr, arith, take, drop, append-nil}
-use Rattle.std.proofs.lemmas.List.{length-map, take_all, drop_all}
+use Rattle.std.proofs.lemmas.List.{length-append, length-map, take_all, drop_all}
 use Rattle.std.specs.List.{AllByRecursion}
 use Rattle.std.specs.Prelude.{All, IfSome, Option, Result, Err, option_map, slice_get, slice_index_or}
 use Rattle.atomic_table.specs.Seated.{TableId}
@@ -19,18 +19,21 @@ use Rattle.lan_schedule.specs.declared.race.Before.{Before}
 use Rattle.lan_schedule.specs.declared.race.Ran.{Ran}
 use Rattle.lan_schedule.specs.declared.stage.Stage.{Stage}
 use Rattle.lan_schedule.specs.Races.{Burst, Chance, Excess, Numbered, behind_numbers, workers_of}
+use Rattle.lan_schedule.specs.Races.{claims_in, count_numbered, woven_in}
 use Rattle.lan_schedule.specs.World.{World, is_racing, settings}
-use Rattle.lan_schedule.specs.Acts.{Act, perform, race}
+use Rattle.lan_schedule.specs.Acts.{Act, Course, Stops, after_race, begun_race, perform, race, world_of}
 use Rattle.lan_schedule.specs.Lines.{control_act, excess_of, run_race, unless_exceeded}
 use Rattle.lan_schedule.specs.Reports.{Report}
 use Rattle.lan_schedule.specs.Ends.{Ends, IsReached, Moment, moment}
 use Rattle.lan_schedule.specs.Stages.{Counts, Says, StandsFor}
 use Rattle.lan_schedule.specs.Standing.{AreBursts, IsBurst}
+use Rattle.lan_schedule.specs.Woven.{WasBegun}
 use Rattle.lan_schedule.specs.inside.Beside.{AreHired, DidRace, EndsRace, HaveSeats, IsUnhired, RanBeside}
 use Rattle.lan_schedule.specs.inside.Comes.{Comes}
 use Rattle.lan_schedule.specs.inside.Recording.{KeepSeats}
 use Rattle.lan_schedule.proofs.Doing.{both-chances, ends-memory, told-none}
 use Rattle.lan_schedule.proofs.Hiring.{has-table, table-there}
+use Rattle.lan_schedule.proofs.RunNone.{emitting-before}
 
 -- ---- the workers are done
 
@@ -98,16 +101,42 @@ have-seats w bursts stage stands apart fit =
       all_in = words.1;
     }
 
+-- no list is one longer than itself
+longer : {A : Type 0} (xs : List A) (x : A) → xs ≡ xs ++ x ∷ [] → ⊥
+longer xs x same =
+    let long = ap length same in let more = length-append xs (x ∷ []) in omega (arith, long, more)
+
+-- a race that was begun is one more, so that it hired its workers
+began-one : (bursts : List Burst) (w : World) (halt : Halt) (o : Option Excess) → o ≡ None
+    → perform (unless_exceeded o (race (workers_of bursts) (control_act []))) w ≡ Stops w halt → ⊥
+began-one bursts w halt None room stops =
+    let workers = workers_of bursts in
+    let v = begun_race workers w in
+    let u = after_race workers w v in
+    longer w.kept.races _
+    (sym (ap (λ (o : Course). (world_of o).kept.races) stops)
+    ∙ (emitting-before (count_numbered (claims_in (woven_in v.kept.chances))) u).races)
+began-one bursts w halt (Some excess) room stops = absurd (cc room)
+
+not-hired : (bursts : List Burst) (w : World) (halt : Halt) → WasBegun bursts w (Err halt)
+    → IsUnhired w bursts [] halt → ⊥
+not-hired bursts w halt was (inl stops) = began-one bursts w halt (excess_of bursts w) was.room stops
+not-hired bursts w halt was (inr memory) = was.memory (ap (λ (h : Halt). Err h) memory)
+
 module _ {K : Type 0} {Took : K → Report → K → Type 0} {Broke : K → Report → K → Broken → Type 0}
   where
     -- nobody was hired
     pub unhired-does : (bursts : List Burst) (control : List Numbered) (old new : Moment Stage K)
         (halt : Halt) → new.outlet ≡ old.outlet → new.value.tally ≡ old.value.tally
-        → ((w : World) → IsReached StandsFor w old.value → IsUnhired w bursts control halt)
+        → ((w : World) (lines : List Numbered) → IsReached StandsFor w old.value
+        → IsUnhired w bursts lines halt)
         → DidRace Took Broke bursts control old new (Err halt)
     unhired-does bursts control old new halt outlet tally unhired = record {
       chances = [];
-      ends = λ w later left reached apart fit comes. by w later left reached (unhired w reached);
+      ends = λ w later left reached apart fit comes.
+          by w later left reached (unhired w control reached);
+      woven = λ w later left reached apart fit comes begun.
+          absurd (not-hired bursts w halt begun (unhired w [] reached));
     }
       where
         by : (w : World) (later : List Chance) → w.kept.chances ≡ later
@@ -158,4 +187,18 @@ module _ {K : Type 0} {Took : K → Report → K → Type 0} {Broke : K → Repo
                 beside = beside;
               }) (both-chances w.kept.chances beside.did.chances ended.chances later left)
               (line ∙ reached.stands.line) (tally ∙ reached.stands.tally));
+          woven = λ w later left reached apart fit comes was.
+              let are = hired w reached (have-seats w bursts old reached.stands apart fit) in
+              let act : Act = race (workers_of bursts) (control_act control) in
+              ended.woven w later (workers_of bursts) control (record {
+                first = old;
+                reached = reached;
+                apart = apart;
+                begun = begun;
+                crew = crew;
+                hired = are.0;
+                comes = subst (λ (o : Option Excess). Comes (unless_exceeded o act) w) are.1 comes;
+                beside = beside;
+              }) (both-chances w.kept.chances beside.did.chances ended.chances later left)
+              (line ∙ reached.stands.line) (tally ∙ reached.stands.tally) was.memory;
         }

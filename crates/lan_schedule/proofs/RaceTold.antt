@@ -102,7 +102,9 @@ module _ {K : Type 0} (Took : K → Report → K → Type 0) (Broke : K → Repo
     chances = weaves.chances;
     ends = λ w later workers lines has left line tally.
         by w later (perform (race workers (control_act lines)) w) has.apart came
-        (weaves.leaves w later workers lines now has left (old-at w line tally));
+        (weaves.leaves w later workers lines now has left (old-at w line tally)).0;
+    woven = λ w later workers lines has left line tally memory.
+        (weaves.leaves w later workers lines now has left (old-at w line tally)).1;
   } where
     by : (w : World) (later : List Chance) (out : Course) → is_racing w.kept.phase ≡ false
         → (c : Result (Unit {0}) Halt) → Leaves w later out new shown c
@@ -138,7 +140,9 @@ module _ {K : Type 0} (Took : K → Report → K → Type 0) (Broke : K → Repo
     chances = weaves.chances;
     ends = λ w later workers lines has left line tally.
         by w later (perform (race workers (control_act lines)) w) has.apart came
-        (weaves.leaves w later workers lines now has left (old-at w line tally));
+        (weaves.leaves w later workers lines now has left (old-at w line tally)).0;
+    woven = λ w later workers lines has left line tally memory.
+        (weaves.leaves w later workers lines now has left (old-at w line tally)).1;
   } where
     cut : (w : World) (later : List Chance) (out : Course) → is_racing w.kept.phase ≡ false
         → (v : World) → IsLeft w v new shown → reported out ≡ reports v.run
@@ -184,6 +188,7 @@ race-wanting Took Broke before ran now new k same = record {
   ends = λ w later workers lines has left line tally.
       ends-memory Took Broke StandsFor (λ halt. Counts) Counts (race workers (control_act lines)) w later
       k (moment new k) has.reached.tidy (same ∙ tally) refl;
+  woven = λ w later workers lines has left line tally memory. absurd (memory refl);
 }
 
 -- an error that `?` hands on ends the race

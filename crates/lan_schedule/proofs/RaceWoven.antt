@@ -38,7 +38,8 @@ use Rattle.lan_schedule.specs.Acts.{after_race, begun_race, station_of}
 use Rattle.lan_schedule.specs.Reports.{reports}
 use Rattle.lan_schedule.specs.Sound.{IsTidy, numbers_of}
 use Rattle.lan_schedule.specs.Stages.{Says, StandsFor}
-use Rattle.lan_schedule.specs.inside.Beside.{HasRun, worker_of}
+use Rattle.lan_schedule.specs.Woven.{worker_of}
+use Rattle.lan_schedule.specs.inside.Beside.{HasRun}
 use Rattle.lan_schedule.specs.inside.Comes.{IsSteady}
 use Rattle.lan_schedule.specs.inside.Weaves.{facts_in, reports_with, shown_in}
 use Rattle.lan_schedule.proofs.Dealt.{is-dealt, of-stations}

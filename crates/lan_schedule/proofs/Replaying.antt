@@ -25,7 +25,6 @@ use Rattle.lan_schedule.specs.Ends.{Moment, moment, Ends}
 use Rattle.lan_schedule.specs.Standing.{phase_of, AreBursts, AreFit, IsStaged, HasTally, StandsFor, Counts, Does}
 use Rattle.lan_schedule.specs.Stages.{StandsFor as StageStandsFor, Counts as StageCounts}
 use Rattle.lan_schedule.specs.inside.Comes.{Comes}
-use Rattle.lan_schedule.specs.inside.Phased.{is_controlling}
 use Rattle.lan_schedule.specs.inside.Staged.{Did}
 use Rattle.lan_schedule.proofs.Doing.{both-chances, told-none, ends-behind, ends-early, ends-memory}
 use Rattle.lan_schedule.specs.declared.phase.Phase.TheVariants as stood
@@ -34,7 +33,8 @@ use Rattle.lan_schedule.proofs.Doing.{ends-seen}
 use Rattle.lan_schedule.specs.Races.{Excess, workers_of, limit_of}
 use Rattle.lan_schedule.specs.Acts.{begun_race, race, world_of, look}
 use Rattle.lan_schedule.specs.Lines.{control_act, excess_of, run_race, unless_exceeded}
-use Rattle.lan_schedule.specs.inside.Beside.{DidRace, race_in}
+use Rattle.lan_schedule.specs.Woven.{is_controlling, race_in}
+use Rattle.lan_schedule.specs.inside.Beside.{DidRace}
 use Rattle.lan_schedule.proofs.Recorded.{since-apart, leaves-counts}
 use Rattle.lan_schedule.proofs.LinesCome.{tidy-same}
 use Rattle.lan_schedule.proofs.RunNone.{race-raced}
@@ -66,7 +66,7 @@ each-append (x ∷ xs) ys w =
 module _ {K : Type 0} {Took : K → Report → K → Type 0} {Broke : K → Report → K → Broken → Type 0}
   where
     -- an act that comes to the same
-    pub same-act : (f g : Act) (old new : Moment Replay K) (r : Result (Unit {0}) Halt)
+    unfoldable pub same-act : (f g : Act) (old new : Moment Replay K) (r : Result (Unit {0}) Halt)
         → ((w : World) → StandsFor w old.value → perform f w ≡ perform g w)
         → Does Took Broke g old new r → Does Took Broke f old new r
     same-act f g old new r same d = record {
@@ -87,7 +87,7 @@ module _ {K : Type 0} {Took : K → Report → K → Type 0} {Broke : K → Repo
     }
 
     -- the first act was done, and then the second ended so
-    pub then-ok : (f g : Act) (old mid new : Moment Replay K) (r : Result (Unit {0}) Halt)
+    unfoldable pub then-ok : (f g : Act) (old mid new : Moment Replay K) (r : Result (Unit {0}) Halt)
         → Does Took Broke f old mid (Ok tt) → Does Took Broke g mid new r
         → Does Took Broke (seq f g) old new r
     then-ok f g old mid new r d e = record {
@@ -156,7 +156,7 @@ module _ {K : Type 0} {Took : K → Report → K → Type 0} {Broke : K → Repo
         (memory-does act old new counted same)) is
 
     -- where a call ended early, the replay is halted, and keeps its tally
-    pub halted-does : (act : Act) (old : Moment Replay K) (k : K) (x y : Replay) (e : Halt)
+    unfoldable pub halted-does : (act : Act) (old : Moment Replay K) (k : K) (x y : Replay) (e : Halt)
         → ((v : World) → Counts v x → Counts v y) → Does Took Broke act old (moment x k) (Err e)
         → Does Took Broke act old (moment y k) (Err e)
     halted-does act old k x y e tells d = record {
@@ -168,7 +168,7 @@ module _ {K : Type 0} {Took : K → Report → K → Type 0} {Broke : K → Repo
 
     -- ---- a line begins
 
-    pub begun-does : (number : ℕ) (old new : Moment Replay K)
+    unfoldable pub begun-does : (number : ℕ) (old new : Moment Replay K)
         → ((w : World) → StandsFor w old.value → StandsFor (at_line number w) new.value)
         → new.outlet ≡ old.outlet → Does Took Broke (begin_line number) old new (Ok tt)
     begun-does number old new begins same = record {
@@ -186,7 +186,7 @@ module _ {K : Type 0} {Took : K → Report → K → Type 0} {Broke : K → Repo
       );
     }
 
-    pub numbered-does : (number : ℕ) (act : Act) (old mid new : Moment Replay K)
+    unfoldable pub numbered-does : (number : ℕ) (act : Act) (old mid new : Moment Replay K)
         (r : Result (Unit {0}) Halt)
         → ((w : World) → StandsFor w old.value → StandsFor (at_line number w) mid.value)
         → mid.outlet ≡ old.outlet → Does Took Broke act mid new r
@@ -404,7 +404,7 @@ apart-behind bursts control w v None e =
 apart-behind bursts control w v (Some excess) e =
     absurd (let bad : Stops w (Limit (limit_of excess)) ≡ Goes v = e in cc bad)
 
-race-apart : (bursts : List Burst) (control : List Numbered) (w v : World)
+pub race-apart : (bursts : List Burst) (control : List Numbered) (w v : World)
     → perform (run_race bursts control w) w ≡ Goes v → v.kept.phase ≡ Apart
 race-apart bursts control w v e = apart-behind bursts control w v (excess_of bursts w) e
 
@@ -419,7 +419,7 @@ module _ {K : Type 0} {Took : K → Report → K → Type 0} {Broke : K → Repo
     }
 
     -- the race of a group at work is that of the replay
-    pub raced-does : (bursts : List Burst) (control : List Numbered) (old new : Moment Replay K)
+    unfoldable pub raced-does : (bursts : List Burst) (control : List Numbered) (old new : Moment Replay K)
         (stage later : Stage) (r : Result (Unit {0}) Halt) → old.value.stage ≡ Some stage
         → phase_of old.value.phase ≡ Controlling bursts control → new.value.stage ≡ Some later
         → new.value.halted ≡ old.value.halted → phase_of new.value.phase ≡ Apart

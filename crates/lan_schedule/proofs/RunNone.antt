@@ -32,9 +32,9 @@ HasNone w = w.kept.races ≡ []
 -- ---- an act that is no race
 
 -- the lines stand where they did, and no race was run
-record IsAsBefore (w v : World) : Type 0 where
-  phase : v.kept.phase ≡ w.kept.phase
-  races : v.kept.races ≡ w.kept.races
+pub record IsAsBefore (w v : World) : Type 0 where
+  pub phase : v.kept.phase ≡ w.kept.phase
+  pub races : v.kept.races ≡ w.kept.races
 
 same-before : (w : World) → IsAsBefore w w
 same-before w = record { phase = refl; races = refl }
@@ -66,7 +66,7 @@ leaves-before (race workers control) w still = absurd still
 
 -- ---- a race
 
-emitting-before : (count : ℕ) (w : World) → IsAsBefore w (world_of (emitting count w))
+pub emitting-before : (count : ℕ) (w : World) → IsAsBefore w (world_of (emitting count w))
 emitting-before zero w = same-before w
 emitting-before (suc count) w = both-before w (shown w Emit (answer w Emit)) (λ v. emitting count v)
     (shown-before w Emit (answer w Emit)) (λ v. emitting-before count v)

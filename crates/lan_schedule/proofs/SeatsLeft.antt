@@ -16,7 +16,8 @@ use Rattle.transmit_words.proofs.Public.{get-set}
 use Rattle.worker_races.specs.Going.{WereSeated}
 use Rattle.lan_schedule.specs.declared.stage.Stage.{Stage}
 use Rattle.lan_schedule.specs.Races.{Burst, Worker, worker_at, workers_at, workers_of}
-use Rattle.lan_schedule.specs.inside.Beside.{HasMoved, HaveSeats, HiredAll, IsFull, worker_of}
+use Rattle.lan_schedule.specs.Woven.{worker_of}
+use Rattle.lan_schedule.specs.inside.Beside.{HasMoved, HaveSeats, HiredAll, IsFull}
 use Rattle.lan_schedule.proofs.Hiring.{workers-more}
 
 -- ---- how many seats are out at a station

@@ -26,7 +26,7 @@ use Rattle.lan_schedule.proofs.LinesCome.{tidy-same}
 abbrev pub act_read : Result (Option Line) TextFault → Act
 act_read said = look (λ w. unless_refused (refusal_read said w) (deed_read said w))
 
-fault-is : (said : Result (Option Line) TextFault) (fault : TextFault) → fault_in said ≡ Some fault
+pub fault-is : (said : Result (Option Line) TextFault) (fault : TextFault) → fault_in said ≡ Some fault
     → said ≡ Err fault
 fault-is (Ok line) fault e = absurd (cc e)
 fault-is (Err other) fault e = let same : other ≡ fault = cc in ap (λ (f : TextFault). Err f) same
@@ -42,7 +42,7 @@ module _ {K : Type 0} {Took : K → Report → K → Type 0} {Broke : K → Repo
         ap (λ r. perform (act_read r) (at_line (w.kept.line + 1) w)) nothing_said
         ∙ ap (λ (n : ℕ). Goes (at_line n w)) (sym (next w stands))) d
 
-    pub line-does : (text : List ℕ) (number : ℕ) (line : Line) (old new : Moment Replay K)
+    unfoldable pub line-does : (text : List ℕ) (number : ℕ) (line : Line) (old new : Moment Replay K)
         (r : Result (Unit {0}) Halt)
         → ((w : World) → StandsFor w old.value → number ≡ w.kept.line + 1)
         → line_in text ≡ Ok (Some line) → Does Took Broke (numbered number line) old new r

@@ -8,7 +8,7 @@
 -- the value that performs, and the outlet that is told the reports. What lines choose and name, the
 -- draws and the links stand in `trace_acts`. The files stand in this order: what races are, what lines
 -- have made, what can be performed, which line is refused, what a line performs, what is sound, what
--- is told, what a call did of an act, and what slot words show.
+-- is told, what a call did of an act, what slot words show, and what a race is woven of.
 pub mod Races
 pub mod World
 pub mod Numbers
@@ -22,4 +22,5 @@ pub mod Ends
 pub mod Stages
 pub mod Standing
 pub mod Shown
+pub mod Woven
 pub mod inside

@@ -2,10 +2,12 @@
 
 ghost use Rattle.std.specs.Prelude.{◌≡◌, [], Some, None, Ok, Err, IfErr};
 ghost use Rattle.std.specs.Prelude.{List, Option, is_some, true};
-ghost use Rattle.std.specs.Prelude.{false};
+ghost use Rattle.std.specs.Prelude.{false, ◌+◌};
 ghost use Rattle.lan_core.specs.Run.{facts_of};
 ghost use Rattle.fact_tally.specs.Summary.{counts};
 ghost use Rattle.transmit_words.specs.Seats.{NoMoreOut};
+ghost use Rattle.trace_text.specs.declared.line.Line.TheVariants as lines;
+ghost use Rattle.trace_text.specs.Reading.{line_in};
 ghost use Rattle.trace_text.specs.Writing.{IsInForm};
 ghost use Rattle.trace_acts.specs.declared.halt.Halt.{Halt};
 ghost use Rattle.trace_acts.specs.Kinds.{is_allowed};
@@ -18,8 +20,7 @@ ghost use Rattle.lan_schedule.specs.Lines.{performed};
 ghost use Rattle.lan_schedule.specs.Ends.{moment};
 ghost use Rattle.lan_schedule.specs.Standing.{StandsFor, Counts, Does, Closes, phase_of};
 ghost use Rattle.lan_schedule.specs.Shown.{words_of};
-ghost use Rattle.lan_schedule.specs.inside.Beside.{race_in};
-ghost use Rattle.lan_schedule.specs.inside.Phased.{is_controlling};
+ghost use Rattle.lan_schedule.specs.Woven.{RunsRace, is_controlling, race_in};
 
 use crate::phase::Phase;
 use crate::race::run_race;
@@ -95,6 +96,10 @@ impl Replay {
         requires { IsInForm line.now }
         ensures does { Does R.Took R.Broke (numbered number line.now)
             (moment self.old outlet.old) (moment self.new outlet.new) result }
+        // The end of a race: what control and the workers did is woven into the run.
+        ensures race { line.now ≡ lines.End
+            → RunsRace R.Took R.Broke (at_line number) (numbered number line.now)
+            (moment self.old outlet.old) (moment self.new outlet.new) result }
         ensures seats { NoMoreOut (words_of self.old) (words_of self.new) }
         ensures halts { IfErr result (λ halt. self.new.halted ≡ Some halt) }
         ensures again { (halt : Halt) → self.old.halted ≡ Some halt
@@ -123,6 +128,9 @@ impl Replay {
     ) -> Result<(), Halt>
         ensures does { Does R.Took R.Broke (performed text.now)
             (moment self.old outlet.old) (moment self.new outlet.new) result }
+        ensures race { line_in text.now ≡ Ok (Some lines.End)
+            → RunsRace R.Took R.Broke (λ w. at_line (w.kept.line + 1) w) (performed text.now)
+            (moment self.old outlet.old) (moment self.new outlet.new) result }
         ensures seats { NoMoreOut (words_of self.old) (words_of self.new) }
         ensures halts { IfErr result (λ halt. self.new.halted ≡ Some halt) }
         ensures again { (halt : Halt) → self.old.halted ≡ Some halt
@@ -132,6 +140,34 @@ impl Replay {
             return Err(halt);
         }
         let outcome = self.perform_text(rt, text, recorder, outlet, gate);
+        if let Err(halt) = outcome {
+            self.halted = Some(halt);
+        }
+        outcome
+    }
+
+    /// Runs the race that is kept, as its end does, whose line has the number of the last one: control's
+    /// lines are performed while the workers of its bursts claim, and what both did then stands in one
+    /// run. An error halts the replay, as that of a command does, and no seat is out.
+    pub fn race<T: Threads + Sync, K, R: Recorder<K>, G: Gate + Sync>(
+        &mut self,
+        rt: &T,
+        recorder: &mut R,
+        outlet: &mut K,
+        gate: &G,
+    ) -> Result<(), Halt>
+        requires controls { is_controlling (phase_of self.old.phase) ≡ true }
+        ensures race { RunsRace R.Took R.Broke (λ w. w) (look (λ w. race_in w.kept.phase w))
+            (moment self.old outlet.old) (moment self.new outlet.new) result }
+        ensures seats { NoMoreOut (words_of self.old) (words_of self.new) }
+        ensures halts { IfErr result (λ halt. self.new.halted ≡ Some halt) }
+        ensures again { (halt : Halt) → self.old.halted ≡ Some halt
+            → (result ≡ Err halt) × (self.new ≡ self.old) × (outlet.new ≡ outlet.old) }
+    {
+        if let Some(halt) = self.halted {
+            return Err(halt);
+        }
+        let outcome = self.run_kept(rt, recorder, outlet, gate);
         if let Err(halt) = outcome {
             self.halted = Some(halt);
         }
@@ -169,6 +205,9 @@ impl Replay {
     ) -> Result<(), Halt>
         ensures does { Does R.Took R.Broke (performed text.now)
             (moment self.old outlet.old) (moment self.new outlet.new) result }
+        ensures race { line_in text.now ≡ Ok (Some lines.End)
+            → RunsRace R.Took R.Broke (λ w. at_line (w.kept.line + 1) w) (performed text.now)
+            (moment self.old outlet.old) (moment self.new outlet.new) result }
         ensures seats { NoMoreOut (words_of self.old) (words_of self.new) }
     {
         let Some(number) = self.line().checked_add(1) else {
@@ -201,6 +240,9 @@ impl Replay {
         requires { IsInForm line.now }
         ensures does { Does R.Took R.Broke (numbered number line.now)
             (moment self.old outlet.old) (moment self.new outlet.new) result }
+        ensures race { line.now ≡ lines.End
+            → RunsRace R.Took R.Broke (at_line number) (numbered number line.now)
+            (moment self.old outlet.old) (moment self.new outlet.new) result }
         ensures seats { NoMoreOut (words_of self.old) (words_of self.new) }
     {
         self.begin_line(number);
@@ -210,7 +252,7 @@ impl Replay {
     /// The line of a number begins, and performs nothing so far.
     fn begin_line(&mut self, number: u32)
         ensures stands { (w : World) → StandsFor w self.old → StandsFor (at_line number w) self.new }
-        ensures seats { words_of self.new ≡ words_of self.old }
+        ensures words { words_of self.new ≡ words_of self.old }
     {
         if let Some(stage) = &mut self.stage {
             stage.line = number;
@@ -241,10 +283,12 @@ impl Replay {
         requires { IsInForm line.now }
         ensures does { Does R.Took R.Broke (act_of line.now)
             (moment self.old outlet.old) (moment self.new outlet.new) result }
+        ensures race { line.now ≡ lines.End → RunsRace R.Took R.Broke (λ w. w) (act_of line.now)
+            (moment self.old outlet.old) (moment self.new outlet.new) result }
         ensures seats { NoMoreOut (words_of self.old) (words_of self.new) }
     {
         if self.phase.is_end(line) {
-            return self.race(rt, recorder, outlet, gate);
+            return self.run_kept(rt, recorder, outlet, gate);
         }
         if let Some(stage) = &mut self.stage {
             if self.phase.takes(line) {
@@ -261,8 +305,8 @@ impl Replay {
         self.prepare(line, recorder, outlet, gate)
     }
 
-    /// The end of a race came: the race is run.
-    fn race<T: Threads + Sync, K, R: Recorder<K>, G: Gate + Sync>(
+    /// The race that is kept is run.
+    fn run_kept<T: Threads + Sync, K, R: Recorder<K>, G: Gate + Sync>(
         &mut self,
         rt: &T,
         recorder: &mut R,
@@ -270,7 +314,7 @@ impl Replay {
         gate: &G,
     ) -> Result<(), Halt>
         requires controls { is_controlling (phase_of self.old.phase) ≡ true }
-        ensures does { Does R.Took R.Broke (look (λ w. race_in w.kept.phase w))
+        ensures runs { RunsRace R.Took R.Broke (λ w. w) (look (λ w. race_in w.kept.phase w))
             (moment self.old outlet.old) (moment self.new outlet.new) result }
         ensures seats { NoMoreOut (words_of self.old) (words_of self.new) }
     {

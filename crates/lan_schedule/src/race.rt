@@ -494,8 +494,9 @@ impl Stage {
         outlet: &mut K,
         gate: &G,
     ) -> Result<(), Halt>
-        ensures { Did R.Took R.Broke (times count (happen events.Emit))
+        ensures did { Did R.Took R.Broke (times count (happen events.Emit))
             (moment self.old outlet.old) (moment self.new outlet.new) result }
+        ensures words { self.new.words ≡ self.old.words }
     {
         for _ in 0..count {
             self.happen(&Event::Emit, None, recorder, outlet, gate)?;

@@ -169,15 +169,20 @@ impl Words {
         ensures followed { is_start event.now ≡ false → (settings : Settings)
             (users : List UserFrame) (r : Run)
             → StandsFor settings users lan.now (happened event.now facts.now ∷ r)
+            → IsStepped settings users (happened event.now facts.now ∷ r)
             → OnOk result (Followed settings (happened event.now facts.now ∷ r) facts.now self.old
             self.new) }
         ensures seats { KeepSeats self.old self.new }
+        ensures still { event.now ≡ events.Emit → self.new ≡ self.old }
     {
         law_all_words_stay_tied();
         law_all_words_stay_caught_up();
         law_all_words_keep_up();
         law_cards_stay_right();
         self.begin(alloc, event)?;
+        if let Event::Emit = event {
+            return Ok(());
+        }
         self.controls.follow(&self.tables, lan, facts, gate);
         Ok(())
     }

@@ -29,4 +29,5 @@ pub mod ProtectedPart
 pub mod LogsFit
 pub mod NoStation
 mod RaceExample
+mod WovenExample
 pub mod Public

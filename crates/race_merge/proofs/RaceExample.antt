@@ -49,31 +49,31 @@ use Rattle.race_merge.proofs.Stable.{each-in_order}
 
 -- ---- the race
 
-abbrev newest : Run → Happening
+abbrev pub newest : Run → Happening
 newest [] = happened events.Emit []
 newest (x ∷ r) = x
 
 -- each log has a user frame
-abbrev twice : List UserFrame
+abbrev pub twice : List UserFrame
 twice = users ++ users
 
 -- the second station begins the key
-abbrev performed : Controls
+abbrev pub performed : Controls
 performed = (1, newest r12) ∷ []
 
-abbrev ans : ℕ → ℕ → AssociationNumber
+abbrev pub ans : ℕ → ℕ → AssociationNumber
 ans s epoch = An0
 
-abbrev pointed : ℕ → ℕ
+abbrev pub pointed : ℕ → ℕ
 pointed s = epoch_at settings s r11
 
-abbrev moves : List Move
+abbrev pub moves : List Move
 moves = moves_at settings pointed r11 performed
 
-abbrev frame : ℕ → ℕ → Entry
+abbrev pub frame : ℕ → ℕ → Entry
 frame s pn = Taken (record { station = s; an = An0; epoch = 1; pn = pn; octets = [] })
 
-abbrev logs : List (List Entry)
+abbrev pub logs : List (List Entry)
 logs = (frame 0 1 ∷ frame 0 2 ∷ []) ∷ (Refused 1 (NoKey 0) ∷ frame 1 1 ∷ []) ∷ []
 
 -- ---- what transmits
@@ -87,7 +87,7 @@ alice-sends : transmitting_at settings 0 r11 ≡ Some first_key
 unfolding open_histories
 alice-sends = in-life settings 0 r11 (l11 0) (v11.living 0 (omega arith))
 
-bob-waits : transmitting_at settings 1 r11 ≡ None
+pub bob-waits : transmitting_at settings 1 r11 ≡ None
 unfolding open_histories
 bob-waits = in-life settings 1 r11 (l11 1) (v11.living 1 (omega arith))
 
@@ -95,7 +95,7 @@ alice-goes-on : transmitting_at settings 0 r12 ≡ Some first_key
 unfolding open_histories
 alice-goes-on = in-life settings 0 r12 (l12 0) (v12.living 0 (omega arith))
 
-bob-sends : transmitting_at settings 1 r12 ≡ Some first_key
+pub bob-sends : transmitting_at settings 1 r12 ≡ Some first_key
 unfolding open_histories
 bob-sends = in-life settings 1 r12 (l12 1) (v12.living 1 (omega arith))
 

@@ -6,14 +6,14 @@ ghost use Rattle.std.specs.List.Sorted.{IsNonDecreasingBy};
 ghost use Rattle.lan_base.specs.declared.association_number.AssociationNumber.{AssociationNumber};
 ghost use Rattle.lan_base.specs.declared.frame.UserFrame.{UserFrame};
 ghost use Rattle.lan_core.specs.declared.settings.Settings.{Settings};
-ghost use Rattle.lan_core.specs.Run.{Happening, Run};
+ghost use Rattle.lan_core.specs.Run.{Run};
 ghost use Rattle.lan_core.specs.Legal.{IsLegal, IsThrifty, unused};
 ghost use Rattle.lan_core.specs.Parts.{followed_by};
 ghost use Rattle.race_merge.specs.Places.{Move, place};
 ghost use Rattle.race_merge.specs.Ranks.{is_sooner, in_order};
 ghost use Rattle.race_merge.specs.Merged.{merged, rank_at, entries_of};
 ghost use Rattle.race_merge.specs.Raced.{IsRaced};
-ghost use Rattle.race_merge.specs.Weaving.{IsWoven};
+ghost use Rattle.race_merge.specs.Weaving.{IsWoven, part_of};
 ghost use Rattle.race_merge.specs.Steps.{attempt_of, moves_of, event_at, event_of_rank, IsRankOf};
 ghost use Rattle.race_merge.specs.Steps.{logs_of, claim_ranks, control_ranks, AreRising, AreSteps};
 ghost use Rattle.race_merge.specs.Steps.{counted_from};
@@ -152,15 +152,16 @@ pub fn merge(alloc: Global, control: &[Step], logs: &[Log]) -> Result<Vec<Event>
     ensures exact { length logs.now + 1 < 2 ^ 32 → AreRising (moves_of control.now) logs.now
         → IfOk result (λ v. map Some v.items ≡ map (event_at control.now)
         (merged (moves_of control.now) (entries_of (logs_of 0 logs.now)))) }
-    // Of a race after a run: they are those of a part that is woven of control and the logs, and
-    // with which the run is legal, and thrifty where it was so and few numbers are unused at the
-    // end.
+    // Of a race after a run: they are those of what happens by the merged list, a part that is woven
+    // of control and the logs, and with which the run is legal, and thrifty where it was so and few
+    // numbers are unused at the end.
     ensures legal { (settings : Settings) (users : List UserFrame) (base : ℕ)
         (ans : ℕ → ℕ → AssociationNumber) (pointed : ℕ → ℕ) (r : Run) (moves : List Move)
         → length logs.now + 1 < 2 ^ 32 → AreSteps control.now moves
         → IsRaced settings users base ans pointed r moves (logs_of 0 logs.now)
-        → IfOk result (λ v. (part : List Happening)
-        × (map (λ h. h.event) part ≡ map (counted_from base) v.items)
+        → IfOk result (λ v.
+        let part = part_of settings base (merged moves (entries_of (logs_of 0 logs.now))) r in
+        (map (λ h. h.event) part ≡ map (counted_from base) v.items)
         × IsWoven base part (map (λ m. m.x) moves) (logs_of 0 logs.now)
         × IsLegal settings users (followed_by part r)
         × (IsThrifty settings r

@@ -11,12 +11,14 @@ use Rattle.lan_core.specs.declared.settings.Settings.{Settings}
 use Rattle.lan_core.specs.Ledgers.{claims}
 use Rattle.lan_core.specs.Legal.{IsLegal}
 use Rattle.lan_core.specs.Order.{IsWithin}
-use Rattle.lan_core.specs.Run.{Run}
+use Rattle.lan_core.specs.Run.{Happening, Run}
 use Rattle.lan_core.specs.Types.{IsSetting}
 use Rattle.race_merge.specs.declared.step.Step.{Step}
+use Rattle.race_merge.specs.Merged.{entries_of, merged}
 use Rattle.race_merge.specs.Places.{Attempt, Move}
 use Rattle.race_merge.specs.Steps.{logs_of}
 use Rattle.race_merge.specs.Table.{Controls, moves_at}
+use Rattle.race_merge.specs.Weaving.{part_of}
 use Rattle.transmit_words.specs.Ties.{HaveCaughtUp, HaveKeptUp, HaveLooked}
 use Rattle.worker_races.specs.Going.{HaveGone, HaveJoined, WereSeated}
 use Rattle.worker_races.specs.Performed.{ArePerformed, run_after}
@@ -60,6 +62,12 @@ pointed_in race s = last_pointed race.before s
 -- the events of control as the places see them
 abbrev pub moves_in : Race → List Move
 moves_in race = moves_at race.settings (pointed_in race) race.run race.performed
+
+-- what the race adds to the run: the events of control and a claim for each entry of the logs, in the
+-- order of the merged list
+abbrev pub part_in : Race → List Happening
+part_in race = part_of race.settings race.base
+    (merged (moves_in race) (entries_of (attempts_in race))) race.run
 
 -- the association number under which each epoch of a station was pointed at, in the end
 abbrev pub ans_in : Race → ℕ → ℕ → AssociationNumber

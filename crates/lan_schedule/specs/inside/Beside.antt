@@ -26,10 +26,10 @@ use Rattle.lan_schedule.specs.declared.race.Before.{Before}
 use Rattle.lan_schedule.specs.declared.race.Crew.{Crew}
 use Rattle.lan_schedule.specs.declared.race.Ran.{Ran}
 use Rattle.lan_schedule.specs.declared.stage.Stage.{Stage}
-use Rattle.lan_schedule.specs.Races.{Phase, Controlling, Burst, Numbered, Worker, Chance}
-use Rattle.lan_schedule.specs.Races.{behind_numbers, workers_at}
+use Rattle.lan_schedule.specs.Races.{Burst, Numbered, Worker, Chance}
+use Rattle.lan_schedule.specs.Races.{behind_numbers, workers_at, workers_of}
 use Rattle.lan_schedule.specs.World.{World, is_racing}
-use Rattle.lan_schedule.specs.Acts.{Act, Course, Goes, Stops, nothing, perform, race, begun_race}
+use Rattle.lan_schedule.specs.Acts.{Course, Goes, Stops, perform, race, begun_race}
 use Rattle.lan_schedule.specs.Acts.{is_stop}
 use Rattle.lan_schedule.specs.Kinds.{most_workers}
 use Rattle.lan_schedule.specs.Lines.{control_act, run_race}
@@ -37,6 +37,7 @@ use Rattle.lan_schedule.specs.Reports.{Report, reports}
 use Rattle.lan_schedule.specs.Ends.{Moment, moment, IsReached, Ends}
 use Rattle.lan_schedule.specs.Sound.{IsTidy}
 use Rattle.lan_schedule.specs.Stages.{StandsFor, Counts}
+use Rattle.lan_schedule.specs.Woven.{HadMemory, WasBegun, WasWoven, worker_of}
 use Rattle.lan_schedule.specs.Standing.{AreBursts}
 use Rattle.trace_acts.specs.Names.{names_of}
 use Rattle.lan_schedule.specs.inside.Comes.{Comes}
@@ -44,18 +45,7 @@ use Rattle.lan_schedule.specs.inside.Recording.{Mark, StandsSince, steps_of}
 use Rattle.lan_schedule.specs.inside.Staged.{Did}
 use Rattle.lan_schedule.specs.inside.Weaves.{KeepsReport, KeepsNoMore, reports_with}
 
--- ---- the end of a race
-
--- what its line performs where it stands
-abbrev pub race_in : Phase → World → Act
-race_in (Controlling bursts control) w = run_race bursts control w
-race_in _ w = nothing
-
 -- ---- hiring
-
--- a worker as the race sees it
-abbrev pub worker_of : WorkerAt → Worker
-worker_of w = record { station = w.sender.station; jobs = w.jobs; user = w.sender.user }
 
 -- the moment in which a race begins, with all seats out
 abbrev pub mark_of : World → Stage → Mark
@@ -238,7 +228,8 @@ pub record Weaves (ran : Ran) (old new : Stage)
       → w.kept.chances ≡ has.beside.did.chances ++ (chances ++ later)
       → old ≡ record now { line = w.kept.line; tally = counts (facts_of w.run) }
       → IfOk result (λ x.
-      Leaves w later (perform (race workers (control_act lines)) w) new x.0 x.1)
+      Leaves w later (perform (race workers (control_act lines)) w) new x.0 x.1
+      × WasWoven w workers lines has.first.words new.words)
 
 -- and all of it was told
 pub record EndsRace {K : Type 0} (Took : K → Report → K → Type 0)
@@ -251,6 +242,11 @@ pub record EndsRace {K : Type 0} (Took : K → Report → K → Type 0)
       → before.line ≡ w.kept.line → before.tally ≡ counts (facts_of w.run)
       → Ends StandsFor (λ halt. Counts) Counts Took Broke w later
       (perform (race workers (control_act lines)) w) old.outlet new result
+  pub woven : (w : World) (later : List Chance) (workers : List Worker) (lines : List Numbered)
+      (has : HasRun w workers lines old.value ran)
+      → w.kept.chances ≡ has.beside.did.chances ++ (chances ++ later)
+      → before.line ≡ w.kept.line → before.tally ≡ counts (facts_of w.run) → HadMemory result
+      → WasWoven w workers lines has.first.words new.value.words
 
 -- ---- the whole race
 
@@ -266,3 +262,8 @@ pub record DidRace {K : Type 0} (Took : K → Report → K → Type 0)
       → AreBursts (names_of w.run) bursts → Comes (run_race bursts control w) w
       → Ends StandsFor (λ halt. Counts) Counts Took Broke w later
       (perform (run_race bursts control w) w) old.outlet new result
+  pub woven : (w : World) (later : List Chance) → w.kept.chances ≡ chances ++ later
+      → IsReached StandsFor w old.value → is_racing w.kept.phase ≡ false
+      → AreBursts (names_of w.run) bursts → Comes (run_race bursts control w) w
+      → WasBegun bursts w result
+      → WasWoven w (workers_of bursts) control old.value.words new.value.words

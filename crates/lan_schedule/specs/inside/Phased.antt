@@ -37,11 +37,6 @@ is_inside _ = true
 abbrev pub is_taken : Phase → Line → Bool
 is_taken phase line = is_inside phase || is_race line
 
--- whether lines of control come
-abbrev pub is_controlling : Phase → Bool
-is_controlling (Controlling bursts control) = true
-is_controlling _ = false
-
 -- whether a line is the end of a race, which is run then
 abbrev pub is_end : Phase → Line → Bool
 is_end (Controlling bursts control) lines.End = true

@@ -2,6 +2,7 @@
 use Rattle.std.specs.Prelude.{◌≡◌, ℕ, true, List, [], ◌++◌, Option, is_some, Result}
 use Rattle.lan_base.specs.declared.frame.UserFrame.{UserFrame}
 use Rattle.lan_core.specs.declared.event.Event.{Event}
+use Rattle.lan_core.specs.declared.event.Event.TheVariants.{Emit}
 use Rattle.lan_core.specs.declared.fact.Fact.{Fact}
 use Rattle.lan_core.specs.declared.settings.Settings.{Settings}
 use Rattle.lan_core.specs.Run.{Run}
@@ -66,6 +67,8 @@ pub record Happened {K : Type 0} (Took : K → Report → K → Type 0)
       → Ends (StandsSince mark) (LeavesAt mark) Counts Took Broke w later (perform (happen event) w)
       old.outlet new result
   pub seats : KeepSeats old.value.words new.value.words
+  -- an emission moves no word
+  pub still : event ≡ Emit → new.value.words ≡ old.value.words
 
 -- The group made a step, and nothing beside it changed yet. In the midst of a race the epoch is that
 -- of the key that transmitted before at the station of the event.
@@ -86,6 +89,8 @@ pub record WentOn {K : Type 0} (Took : K → Report → K → Type 0)
       → Ends (StandsSince mark) (LeavesAt mark) Counts Took Broke w later (perform (happen event) w)
       old.outlet new result
   pub seats : KeepSeats old.value.words new.value.words
+  -- an emission moves no word
+  pub still : event ≡ Emit → new.value.words ≡ old.value.words
 
 -- what is kept beside the run changed so, and nothing else: neither what was chosen, nor user frames,
 -- nor whether a race was begun, nor words

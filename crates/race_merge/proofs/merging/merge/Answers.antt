@@ -8,7 +8,6 @@ use Rattle.race_merge.specs.Places.{place}
 use Rattle.race_merge.specs.Ranks.{in_order, is_sooner}
 use Rattle.race_merge.specs.Merged.{merged, entries_of}
 use Rattle.race_merge.specs.Steps.{attempt_of, moves_of, control_ranks, ranks_of, claim_ranks, logs_of, event_at, event_of_rank, IsRankOf, AreRising}
-use Rattle.race_merge.specs.Weaving.{part_of}
 use Rattle.race_merge.proofs.Sweep.{ranks_more, sorted-ranks, events-ranked, ranks-are}
 use Rattle.race_merge.proofs.Recount.{part-is, part-woven, part-legal, part-thrifty, rising}
 use Rattle.race_merge.proofs.merging.merge.Goals as goal
@@ -63,7 +62,6 @@ returns c =
           let up = rising settings users base ans pointed r steps moves logs are race in
           ok-more c.events_of.result _ _
           (λ v h. (
-            part_of settings base (merged moves (entries_of (logs_of 0 logs))) r,
             part-is settings users base ans pointed r steps moves logs are race v.items
                 (exact steps logs c.as_slice-2.result.now v.items (built up) h),
             part-woven settings users base ans pointed r steps moves logs are race,

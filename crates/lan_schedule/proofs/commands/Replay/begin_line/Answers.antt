@@ -27,5 +27,5 @@ returns-clause-stands c = λ w stands.
     line-unbegun c.args.number w _ _ (none-stage _ c.in_default.not-Some)
     (none-stage _ c.in_default.not-Some) refl refl refl refl refl stands
 
-pub returns-in-Some-clause-seats : goal.returns-in-Some-clause-seats
-returns-in-Some-clause-seats c = sym (ap (λ (o : Option Stage). words_in o) c.in-Some.is)
+pub returns-in-Some-clause-words : goal.returns-in-Some-clause-words
+returns-in-Some-clause-words c = sym (ap (λ (o : Option Stage). words_in o) c.in-Some.is)

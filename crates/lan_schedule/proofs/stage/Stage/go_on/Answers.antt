@@ -34,9 +34,11 @@ returns g c = λ earlier step.
           (λ raced. step.epoch (sym (ap (λ (stage : Stage). is_some stage.steps) step.same) ∙ raced) settings users r before)
           (λ raced. c.epoch-after.ensures raced settings users (happened c.args.event.now c.args.facts ∷ r) after)
           c.in_ok-keep.ensures;
-      followed = λ goes settings users r after.
-          (rw c.as_slice-2.ensures at c.in_ok-follow.ensures.followed) goes settings users r after;
+      followed = λ goes settings users r after stepped.
+          (rw c.as_slice-2.ensures at c.in_ok-follow.ensures.followed) goes settings users r after
+          stepped;
       seats = c.in_ok-follow.ensures.seats;
+      still = c.in_ok-follow.ensures.still;
     })
     c.law_words_keep_a_run_thrifty.ensures (record {
       goes_on = record {
@@ -76,9 +78,11 @@ returns-in_err-record g c = λ earlier step.
           (λ raced. step.epoch (sym (ap (λ (stage : Stage). is_some stage.steps) step.same) ∙ raced) settings users r before)
           (λ raced. c.epoch-after.ensures raced settings users (happened c.args.event.now c.args.facts ∷ r) after)
           c.in_ok-keep.ensures;
-      followed = λ goes settings users r after.
-          (rw c.as_slice-2.ensures at c.in_ok-follow.ensures.followed) goes settings users r after;
+      followed = λ goes settings users r after stepped.
+          (rw c.as_slice-2.ensures at c.in_ok-follow.ensures.followed) goes settings users r after
+          stepped;
       seats = c.in_ok-follow.ensures.seats;
+      still = c.in_ok-follow.ensures.still;
     })
     c.law_words_keep_a_run_thrifty.ensures (record {
       goes_on = record {
@@ -93,24 +97,28 @@ returns-in_err-record g c = λ earlier step.
 pub returns-in_err-put : goal.returns-in_err-put
 returns-in_err-put g c = λ earlier step.
     from-earlier c.args.event.now c.args.facts c.args.self.now earlier c.args.outlet.now _ _ step.same
-    (went-err _ _ _ _ _ _ _ (went-wanting _ _ _ _ _ refl refl (seats-kept _)) c.from_residual.ensures.1)
+    (went-err _ _ _ _ _ _ _ (went-wanting _ _ _ _ _ refl refl (seats-kept _) (λ emits. refl)) c.from_residual.ensures.1)
 
 pub returns-in_err-follow : goal.returns-in_err-follow
 returns-in_err-follow g c = λ earlier step.
     from-earlier c.args.event.now c.args.facts c.args.self.now earlier c.args.outlet.now _ _ step.same
-    (went-err _ _ _ _ _ _ _ (went-wanting _ _ _ _ _ refl refl c.in_err-follow.ensures.seats) c.from_residual-in_err-follow.ensures.1)
+    (went-err _ _ _ _ _ _ _ (went-wanting _ _ _ _ _ refl refl c.in_err-follow.ensures.seats
+    c.in_err-follow.ensures.still) c.from_residual-in_err-follow.ensures.1)
 
 pub returns-in_err-admit : goal.returns-in_err-admit
 returns-in_err-admit g c = λ earlier step.
     from-earlier c.args.event.now c.args.facts c.args.self.now earlier c.args.outlet.now _ _ step.same
-    (went-err _ _ _ _ _ _ _ (went-wanting _ _ _ _ _ refl refl c.in_ok-follow.ensures.seats) c.from_residual-in_err-admit.ensures.1)
+    (went-err _ _ _ _ _ _ _ (went-wanting _ _ _ _ _ refl refl c.in_ok-follow.ensures.seats
+    c.in_ok-follow.ensures.still) c.from_residual-in_err-admit.ensures.1)
 
 pub returns-in_err-put_octets : goal.returns-in_err-put_octets
 returns-in_err-put_octets g c = λ earlier step.
     from-earlier c.args.event.now c.args.facts c.args.self.now earlier c.args.outlet.now _ _ step.same
-    (went-err _ _ _ _ _ _ _ (went-wanting _ _ _ _ _ refl refl c.in_ok-follow.ensures.seats) c.from_residual-in_err-put_octets.ensures.1)
+    (went-err _ _ _ _ _ _ _ (went-wanting _ _ _ _ _ refl refl c.in_ok-follow.ensures.seats
+    c.in_ok-follow.ensures.still) c.from_residual-in_err-put_octets.ensures.1)
 
 pub returns-in_err-keep : goal.returns-in_err-keep
 returns-in_err-keep g c = λ earlier step.
     from-earlier c.args.event.now c.args.facts c.args.self.now earlier c.args.outlet.now _ _ step.same
-    (went-err _ _ _ _ _ _ _ (went-wanting _ _ _ _ _ refl refl c.in_ok-follow.ensures.seats) c.from_residual-in_err-keep.ensures.1)
+    (went-err _ _ _ _ _ _ _ (went-wanting _ _ _ _ _ refl refl c.in_ok-follow.ensures.seats
+    c.in_ok-follow.ensures.still) c.from_residual-in_err-keep.ensures.1)

@@ -17,7 +17,7 @@ returns-in-Err-Stopped g c =
     refl refl refl refl refl refl)
 
 pub returns-in-Err-Memory : goal.returns-in-Err-Memory
-returns-in-Err-Memory g c = event-wanting _ c.args.event.now _ _ refl refl (seats-kept _)
+returns-in-Err-Memory g c = event-wanting _ c.args.event.now _ _ refl refl (seats-kept _) (λ emits. refl)
 
 pub returns : goal.returns
 returns g c =

@@ -6,7 +6,7 @@ use Rattle.association_slots.specs.declared.view.SeatView.{SeatView}
 use Rattle.lan_core.specs.Types.{IsUserFrame}
 use Rattle.transmit_words.specs.Seats.{HasJoined, WasSeated}
 use Rattle.transmit_words.specs.Ties.{tables_of}
-use Rattle.lan_schedule.specs.inside.Beside.{worker_of}
+use Rattle.lan_schedule.specs.Woven.{worker_of}
 use Rattle.lan_schedule.proofs.Hiring.{has-table, seat-table}
 use Rattle.lan_schedule.proofs.SeatsBack.{out-returned}
 use Rattle.lan_schedule.proofs.stage.Stage.hire.Goals as goal

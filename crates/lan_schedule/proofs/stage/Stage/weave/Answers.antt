@@ -66,11 +66,12 @@ returns-clause-weaves g c =
       settled = c.in_ok-settle.ensures.stands;
       same = refl;
       many = c.len-count.ensures ∙ c.in_ok-frames.frames.ok.0;
-      did = c.emit_all-emitted.ensures;
+      did = c.emit_all-emitted.ensures.did;
+      words = c.emit_all-emitted.ensures.words;
     }))
 
 pub returns-clause-seats : goal.returns-clause-seats
-returns-clause-seats g c = c.emit_all-emitted.ensures.seats.out
+returns-clause-seats g c = c.emit_all-emitted.ensures.did.seats.out
 
 pub returns-then-is_memory-2-clause-seats : goal.returns-then-is_memory-2-clause-seats
-returns-then-is_memory-2-clause-seats g c = c.emit_all-emitted.ensures.seats.out
+returns-then-is_memory-2-clause-seats g c = c.emit_all-emitted.ensures.did.seats.out

@@ -1,0 +1,99 @@
+-- Where the claims of that race stand: the part that the merged list gives, which is woven of control
+-- and the logs; and parts that are not it.
+use Rattle.std.proofs.Common.{◌≡◌, ℕ, List, [], ◌∷◌, refl, ap, ◌∙◌, arith, map}
+use Rattle.std.specs.Prelude.{false}
+use Rattle.lan_core.specs.declared.event.Event.{Event}
+use Rattle.lan_core.specs.declared.event.Event.TheVariants as events
+use Rattle.lan_core.specs.declared.fact.Fact.TheVariants as facts
+use Rattle.lan_core.specs.declared.fact.Lack.TheVariants as lacks
+use Rattle.lan_base.specs.declared.association_number.AssociationNumber.TheVariants.{An0}
+use Rattle.lan_core.specs.Run.{Happening, happened}
+use Rattle.group_safety.proofs.Public.{settings, r11, r12}
+use Rattle.packet_claims.specs.declared.answers.NoClaim.TheVariants.{NoKey}
+use Rattle.data_workers.specs.declared.entry.Entry.TheVariants.{Refused}
+use Rattle.race_merge.specs.Places.{Attempt, Move, ends, place}
+use Rattle.race_merge.specs.Marks.{Mark, Control, Claim}
+use Rattle.race_merge.specs.Ranks.{in_order}
+use Rattle.race_merge.specs.Merged.{entries_of, merged, numbered}
+use Rattle.race_merge.specs.Raced.{epoch_at, epoch_of}
+use Rattle.race_merge.specs.Steps.{attempt_of, logs_of}
+use Rattle.race_merge.specs.Weaving.{IsWoven, part_of}
+use Rattle.race_merge.proofs.RaceExample.{ans, bob-sends, bob-waits, frame, logs, moves, newest}
+use Rattle.race_merge.proofs.RaceExample.{pointed, raced, twice}
+use Rattle.race_merge.proofs.WovenRun.{race-woven}
+
+-- ---- the merged list
+
+-- the step in which bob begins the key
+abbrev begins : ℕ → ℕ → Move
+begins before after = record {
+  x = newest r12;
+  station = 1;
+  before = before;
+  after = after;
+  shown = 0;
+  gap = false;
+}
+
+one-step : moves ≡ begins 0 1 ∷ []
+one-step = ap (λ (n : ℕ). begins n (epoch_at settings 1 r12) ∷ []) (ap epoch_of bob-waits)
+    ∙ ap (λ (n : ℕ). begins 0 n ∷ []) (ap epoch_of bob-sends)
+
+abbrev taken : ℕ → ℕ → Mark
+taken s pn = Claim (attempt_of s (frame s pn))
+
+abbrev refused : Mark
+refused = Claim (attempt_of 1 (Refused 1 (NoKey 0)))
+
+-- bob's refusal stands before he begins the key, and all else behind it: alice's claims first
+in-this-order : merged (begins 0 1 ∷ []) (entries_of (logs_of 0 logs))
+    ≡ refused ∷ Control 0 (begins 0 1) ∷ taken 0 1 ∷ taken 0 2 ∷ taken 1 1 ∷ []
+unfolding entries_of numbered in_order place ends
+in-this-order = refl
+
+-- ---- the part
+
+abbrev part : List Happening
+part = part_of settings 0 (merged moves (entries_of (logs_of 0 logs))) r11
+
+abbrev event_of : Happening → Event
+event_of h = h.event
+
+these-events : map event_of part
+    ≡ events.Claim 1 2 0 ∷ (newest r12).event ∷ events.Claim 0 1 1 ∷ events.Claim 0 1 2
+    ∷ events.Claim 1 2 1 ∷ []
+these-events =
+    ap (λ (ms : List Move). map event_of (part_of settings 0 (merged ms (entries_of (logs_of 0 logs))) r11))
+    one-step
+    ∙ ap (λ (zs : List Mark). map event_of (part_of settings 0 zs r11)) in-this-order
+
+pub is-woven : IsWoven 0 part (map (λ m. m.x) moves) (logs_of 0 logs)
+is-woven = race-woven settings twice 0 ans pointed r11 moves (logs_of 0 logs) raced
+
+-- ---- parts that are not it
+
+abbrev claims : ℕ → ℕ → ℕ → Happening
+claims s user pn = happened (events.Claim s user pn) (facts.Claimed s An0 1 pn ∷ [])
+
+abbrev is_refused : Happening
+is_refused = happened (events.Claim 1 2 0) (facts.Unclaimed 1 lacks.NoKey ∷ [])
+
+-- two claims of one log that changed places
+abbrev turned : List Happening
+turned = is_refused ∷ newest r12 ∷ claims 0 1 2 ∷ claims 0 1 1 ∷ claims 1 2 1 ∷ []
+
+pub turned-is-not-woven : IsWoven 0 turned (newest r12 ∷ []) (logs_of 0 logs) → ⊥
+turned-is-not-woven is =
+    let first : events.Claim 0 1 2 ≡ events.Claim 0 1 1 = (is.claims 0).0.event in
+    let same : ◌≡◌ {A = ℕ} 2 1 = cc first in omega (arith, same)
+
+-- each log in its order, but bob's claim between those of alice: that is another order of the claims of
+-- two stations
+abbrev between : List Happening
+between = is_refused ∷ newest r12 ∷ claims 0 1 1 ∷ claims 1 2 1 ∷ claims 0 1 2 ∷ []
+
+pub between-is-not-the-part : map event_of between ≡ map event_of part → ⊥
+between-is-not-the-part same =
+    let both = same ∙ these-events in
+    let third : events.Claim 1 2 1 ≡ events.Claim 0 1 2 = cc both in
+    let station : ◌≡◌ {A = ℕ} 1 0 = cc third in omega (arith, station)
