@@ -24,12 +24,12 @@ use Rattle.trace_acts.specs.declared.halt.Halt.TheVariants as halts
 use Rattle.trace_acts.specs.declared.broken.Broken.{Broken}
 use Rattle.lan_schedule.specs.declared.stage.Stage.{Stage}
 use Rattle.lan_schedule.specs.World.{World, settings}
-use Rattle.lan_schedule.specs.Acts.{Act, Course, happen, perform, and_then, shown, span, world_after}
+use Rattle.lan_schedule.specs.Acts.{Act, happen, perform, seq, shown, span, world_after}
 use Rattle.lan_schedule.specs.Answers.{answer}
 use Rattle.lan_schedule.specs.Sound.{IsTidy}
 use Rattle.lan_schedule.specs.Reports.{Report}
 use Rattle.lan_schedule.specs.Stages.{Counts}
-use Rattle.lan_schedule.specs.Ends.{Moment, Ends}
+use Rattle.lan_schedule.specs.Ends.{Moment}
 use Rattle.lan_schedule.specs.inside.Batching.{IsData, AreData, AreChecked}
 use Rattle.lan_schedule.specs.inside.Batching.{first_answer, rest_answers}
 use Rattle.lan_schedule.specs.inside.Comes.{Comes, IsGoing}
@@ -37,6 +37,7 @@ use Rattle.lan_schedule.specs.inside.Recording.{StandsSince, LeavesAt}
 use Rattle.lan_schedule.specs.inside.Staged.{Did, DidWhere}
 use Rattle.lan_schedule.proofs.Doing.{both-chances, going, span-next, span-done, ends-behind, ends-early}
 use Rattle.lan_schedule.proofs.Doing.{memory-does, nothing-does, handed-on}
+use Rattle.lan_schedule.proofs.OnWay.{as-left}
 use Rattle.lan_schedule.proofs.Recorded.{seats-kept, seats-then}
 
 -- ---- the frames of a batch
@@ -223,14 +224,11 @@ module _ {K : Type 0} {Took : K → Report → K → Type 0} {Broke : K → Repo
                     (behind-one w (first + i) s mid (answer w (Deliver (first + i) s)) law are)
                     done.2.tidy in
                     let one : first + i + 1 ≡ first + (i + 1) = omega arith in
-                    subst (λ (out : Course).
-                    Ends (StandsSince mark) (LeavesAt mark) Counts Took Broke w later
-                    (and_then out (λ v. perform g v)) now.outlet new r) (sym done.1)
-                    (ends-behind Took Broke (StandsSince mark) (LeavesAt mark) Counts w done.0 later
-                    (perform g done.0) now.outlet next.outlet new r done.3 done.5
+                    ends-behind Took Broke (StandsSince mark) (LeavesAt mark) Counts (seq f g) g w done.0
+                    later now.outlet next.outlet new r done.3 done.5 (as-left f g w done.0 done.1)
                     (e.ends mark done.0 later done.4 done.2
                     (subst (λ (k : ℕ). AreChecked done.0.run k s (rest_answers mid)) one more)
-                    comes_later));
+                    comes_later);
                 seats = seats-then now.value.words next.value.words new.value.words d.seats e.seats;
               }));
         }
@@ -254,7 +252,7 @@ module _ {K : Type 0} {Took : K → Report → K → Type 0} {Broke : K → Repo
         (sym (span-next (reaching first s) i n lt)) (record {
           chances = d.chances;
           ends = λ mark w later left reached holds comes.
-              ends-early Took Broke (StandsSince mark) (LeavesAt mark) Counts w later (perform f w) g
+              ends-early Took Broke (StandsSince mark) (LeavesAt mark) Counts f g w later
               now.outlet next halt
               (d.ends mark w later left reached
               (first-is w.run (first + i) s mid

@@ -25,6 +25,7 @@ tidy-beginning chances = record {
   numbered = tt;
   in_turn = omega arith;
   few = λ e s epoch. omega arith;
+  unspent = tt;
   waits = λ e. refl;
   draws = counted-draws;
   dealt = λ k d lt. absurd (omega arith);

@@ -1,5 +1,5 @@
 -- A trace ends, unless it is inside a race.
-use Rattle.std.proofs.Common.{◌≡◌, ◌+◌, ℕ, true, List, [], inl, inr, refl, sym, ap, ◌∙◌, subst}
+use Rattle.std.proofs.Common.{◌≡◌, ℕ, true, List, [], inl, refl, sym, ap, ◌∙◌}
 use Rattle.std.specs.Prelude.{Result, Ok, Err}
 use Rattle.trace_acts.specs.declared.halt.Halt.{Halt}
 use Rattle.trace_acts.specs.declared.halt.Halt.TheVariants as halts
@@ -10,17 +10,17 @@ use Rattle.lan_schedule.specs.Races.{Phase, Apart, Bursting, Controlling, Racing
 use Rattle.lan_schedule.specs.Races.{behind_numbers}
 use Rattle.lan_schedule.specs.World.{World}
 use Rattle.lan_schedule.specs.Acts.{Stops, perform}
-use Rattle.lan_schedule.specs.Lines.{at_line, close, close_at, performed_all, performed_whole}
+use Rattle.lan_schedule.specs.Lines.{at_line, close, close_at, line_after, performed_all, performed_whole}
 use Rattle.lan_schedule.specs.Reports.{Report}
 use Rattle.lan_schedule.specs.Ends.{Moment, IsReached, Ends}
 use Rattle.lan_schedule.specs.Standing.{StandsFor, Counts, Does, Closes}
 use Rattle.lan_schedule.specs.inside.Phased.{is_inside}
-use Rattle.lan_schedule.proofs.Doing.{told-none, ends-memory}
+use Rattle.lan_schedule.proofs.Doing.{told-none}
 use Rattle.lan_schedule.proofs.LinesCome.{tidy-same}
 use Rattle.lan_schedule.proofs.Replaying.{stands-counts, then-ok, then-err}
 
 stops-at : (w : World) (phase : Phase) → is_inside phase ≡ true → perform (close_at phase) w
-    ≡ Stops (at_line (w.kept.line + 1) w) (halts.Trace (w.kept.line + 1) kinds.NoEnd)
+    ≡ Stops (at_line (line_after w.kept.line) w) (halts.Trace (line_after w.kept.line) kinds.NoEnd)
 stops-at w Apart inside = absurd (cc inside)
 stops-at w (Bursting bursts) inside = refl
 stops-at w (Controlling bursts control) inside = refl
@@ -28,31 +28,26 @@ stops-at w Racing inside = refl
 
 -- inside one the line behind the last is refused
 pub closes-inside : (w : World) (phase : Phase) (number : ℕ) → w.kept.phase ≡ phase
-    → is_inside phase ≡ true → number ≡ w.kept.line + 1
+    → is_inside phase ≡ true → number ≡ line_after w.kept.line
     → Closes w (Err (halts.Trace number kinds.NoEnd))
 closes-inside w phase number is inside next =
-    inl (ap (λ (p : Phase). perform (close_at p) w) is ∙ stops-at w phase inside
-    ∙ ap (λ (n : ℕ). Stops (at_line (w.kept.line + 1) w) (halts.Trace n kinds.NoEnd)) (sym next))
+    ap (λ (p : Phase). perform (close_at p) w) is ∙ stops-at w phase inside
+    ∙ ap (λ (n : ℕ). Stops (at_line (line_after w.kept.line) w) (halts.Trace n kinds.NoEnd)) (sym next)
 
 module _ {K : Type 0} {Took : K → Report → K → Type 0} {Broke : K → Report → K → Broken → Type 0}
   where
     closed-early : (w : World) (later : List Chance) (now : Moment Replay K) (halt : Halt)
         → w.kept.chances ≡ later → IsReached StandsFor w now.value → Closes w (Err halt)
-        → Ends StandsFor (λ halt. Counts) Counts Took Broke w later (perform close w) now.outlet now (Err halt)
-    closed-early w later now halt left reached (inl stops) = inl (record {
-      world = at_line (w.kept.line + 1) w;
+        → Ends StandsFor (λ halt. Counts) Counts Took Broke w later close now.outlet now (Err halt)
+    closed-early w later now halt left reached stops = inl (record {
+      world = at_line (line_after w.kept.line) w;
       stops = stops;
       tidy = tidy-same w _ reached.tidy refl refl refl refl refl (λ e. e) (λ e. e);
       leaves = stands-counts w now.value reached.stands;
-      told = told-none w (at_line (w.kept.line + 1) w) now.outlet now.outlet refl refl;
+      told = told-none w (at_line (line_after w.kept.line) w) now.outlet now.outlet refl refl;
       left = ap (λ (c : List Chance). behind_numbers c) left;
       same = refl;
     })
-    closed-early w later now halt left reached (inr without) =
-        subst (λ (h : Halt). Ends StandsFor (λ halt. Counts) Counts Took Broke w later (perform close w) now.outlet
-        now (Err h)) (sym without.0)
-        (ends-memory Took Broke StandsFor (λ halt. Counts) Counts close w later now.outlet now reached.tidy
-        (stands-counts w now.value reached.stands) refl)
 
     -- the end of a trace is performed
     closed-does : (now : Moment Replay K) (r : Result (Unit {0}) Halt)

@@ -30,7 +30,7 @@ use Rattle.lan_schedule.specs.Acts.{Course, Goes, Stops, shown, and_then, each, 
 use Rattle.lan_schedule.specs.Acts.{race, begun_race, beside, after_race, since, woven, with_claims}
 use Rattle.lan_schedule.specs.Acts.{claim_of, emitting}
 use Rattle.lan_schedule.specs.Acts.{unless, world_after}
-use Rattle.lan_schedule.specs.Lines.{tick, round, pass, to_others, spread, is_passed_by, is_due}
+use Rattle.lan_schedule.specs.Lines.{round_after, tick, round, pass, to_others, spread, is_passed_by, is_due}
 use Rattle.lan_schedule.specs.Lines.{due_of, due, flow_round}
 use Rattle.lan_schedule.specs.Sound.{IsTidy, numbers_of}
 use Rattle.lan_schedule.specs.inside.Comes.{Comes, IsGoing}
@@ -313,6 +313,7 @@ tidy-marked number w tidy = record {
   numbered = tidy.numbered;
   in_turn = tidy.in_turn;
   few = tidy.few;
+  unspent = tidy.unspent;
   waits = tidy.waits;
   draws = tidy.draws;
   dealt = tidy.dealt;
@@ -389,13 +390,14 @@ comes-flow_round w tidy = (
     numbered = tidy.numbered;
     in_turn = tidy.in_turn;
     few = tidy.few;
+    unspent = tidy.unspent;
     waits = tidy.waits;
     draws = tidy.draws;
     dealt = tidy.dealt;
   },
   λ tidy_v. (
     comes-round _ tidy_v,
-    is-going (perform round (record w { kept = record w.kept { rounds = w.kept.rounds + 1 } }))
+    is-going (perform round (record w { kept = record w.kept { rounds = round_after w.kept.rounds } }))
         (λ v. IsTidy v → Comes (each spread (due v)) v)
         (λ v e tidy_u. comes-due v tidy_u),
   ),

@@ -55,7 +55,7 @@ module _ {K : Type 0} {Took : K → Report → K → Type 0} {Broke : K → Repo
       ends = λ mark w later left reached comes.
           let none = is w reached.stands.stands in
           subst (λ (o : Option Kind). Comes (unless_refused o (deed line w)) w
-          → Ends (StandsSince mark) (LeavesAt mark) Counts Took Broke w later (perform (unless_refused o (deed line w)) w)
+          → Ends (StandsSince mark) (LeavesAt mark) Counts Took Broke w later (unless_refused o (deed line w))
           old.outlet new r) (sym none)
           (λ comes_deed. d.ends mark w later left reached comes_deed) comes;
       seats = d.seats;

@@ -133,7 +133,7 @@ module _ {K : Type 0} {Took : K → Report → K → Type 0} {Broke : K → Repo
           let none = sym (frame-of line w old.value reached.stands.stands) ∙ is in
           subst (λ (o : Option Kind). Comes (unless_refused o (deed line w)) w
           → Ends (StandsSince mark) (LeavesAt mark) Counts Took Broke w later
-          (perform (unless_refused o (deed line w)) w) old.outlet new r) (sym none)
+          (unless_refused o (deed line w)) old.outlet new r) (sym none)
           (λ comes_deed. d.ends mark w later left reached comes_deed) comes;
       seats = d.seats;
     }

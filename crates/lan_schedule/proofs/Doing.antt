@@ -15,37 +15,18 @@ use Rattle.trace_acts.specs.declared.broken.Broken.{Broken}
 use Rattle.lan_schedule.specs.declared.stage.Stage.{Stage}
 use Rattle.lan_schedule.specs.Races.{Chance}
 use Rattle.lan_schedule.specs.World.{World, Kept, is_racing, settings}
-use Rattle.lan_schedule.specs.Answers.{answer}
-use Rattle.lan_schedule.specs.Acts.{Act, nothing, refuse, exceed, happen, change, seq, look, race}
-use Rattle.lan_schedule.specs.Acts.{perform, begun_race, Course, Goes, Stops, and_then, each, span}
+use Rattle.lan_schedule.specs.Acts.{Act, nothing, change, seq, look}
+use Rattle.lan_schedule.specs.Acts.{perform, IsOnWay, Course, Goes, and_then, each, span}
 use Rattle.lan_schedule.specs.Reports.{Report, reports, AreTold}
-use Rattle.lan_schedule.specs.Ends.{Moment, moment, Begins, reported, WasTold, WasBroken, Ends}
+use Rattle.lan_schedule.specs.Ends.{Moment, moment, WasTold, WasToldTo, WasBroken, Ends}
 use Rattle.lan_schedule.specs.inside.Comes.{Comes, IsGoing}
 use Rattle.lan_schedule.specs.Sound.{IsTidy}
 use Rattle.lan_schedule.specs.Stages.{StandsFor, Counts}
 use Rattle.lan_schedule.specs.inside.Recording.{Mark, StandsSince, LeavesAt, HasRecorded, IsRecorded}
 use Rattle.lan_schedule.specs.inside.Recording.{KeepSeats, steps_of}
 use Rattle.lan_schedule.specs.inside.Staged.{Did, Changed}
-use Rattle.lan_schedule.proofs.Racing.{begins-self, begins-then, shown-begins, then-begins}
-use Rattle.lan_schedule.proofs.Racing.{race-begins}
+use Rattle.lan_schedule.proofs.OnWay.{IsAs, as-left, way-start}
 use Rattle.lan_schedule.proofs.Recorded.{seats-kept, seats-then}
-
--- what was shown stays
-pub grows : (act : Act) (w : World) → Begins (reports w.run) (reported (perform act w))
-grows nothing w = begins-self (reports w.run)
-grows (refuse kind) w = begins-self (reports w.run)
-grows (exceed excess) w = begins-self (reports w.run)
-grows (happen event) w = shown-begins w event (answer w event)
-grows (change f) w = begins-self (reports w.run)
-grows (seq f g) w =
-    then-begins (reports w.run) (perform f w) (λ v. perform g v) (grows f w) (λ v. grows g v)
-grows (look f) w = grows (f w) w
-grows (race workers control) w = race-begins workers w (perform control (begun_race workers w))
-
-and-longer : (out : Course) (g : Act)
-    → Begins (reported out) (reported (and_then out (λ v. perform g v)))
-and-longer (Goes w) g = grows g w
-and-longer (Stops w halt) g = begins-self (reports w.run)
 
 -- the chances of two calls, one after the other
 pub both-chances : (all a b later : List Chance) → all ≡ (a ++ b) ++ later → all ≡ a ++ (b ++ later)
@@ -100,6 +81,35 @@ module _ {K : Type 0} {Took : K → Report → K → Type 0} where
     by_one = told-both Took a b c f.told g.told f.by_one g.by_one;
   }
 
+module _ {K : Type 0} {Took : K → Report → K → Type 0} where
+  -- nothing more was told
+  pub told-here : (w : World) (IsOn : World → Type 0) (a b : K) → IsTidy w → IsOn w → b ≡ a
+      → WasToldTo Took w w IsOn a b
+  told-here w IsOn a b tidy on same = record {
+    world = w;
+    tidy = tidy;
+    same = refl;
+    on_way = on;
+    told = told-none w w a b refl same;
+    untold = [];
+    since = sym (append-nil (reports w.run));
+    few = omega arith;
+  }
+
+  told-to-then : (w v u : World) (IsOn IsThere : World → Type 0) (a b c : K) → WasTold Took w v a b
+      → is_racing v.kept.phase ≡ is_racing w.kept.phase → ((x : World) → IsOn x → IsThere x)
+      → WasToldTo Took v u IsOn b c → WasToldTo Took w u IsThere a c
+  told-to-then w v u IsOn IsThere a b c f same there g = record {
+    world = g.world;
+    tidy = g.tidy;
+    same = g.same ∙ same;
+    on_way = there g.world g.on_way;
+    told = told-then w v g.world a b c f g.told;
+    untold = g.untold;
+    since = g.since;
+    few = g.few;
+  }
+
 module _ {K : Type 0} {Took : K → Report → K → Type 0} {Broke : K → Report → K → Broken → Type 0}
   where
     broken-then : (w v u : World) (a b c : K) (halt : Halt) → WasTold Took w v a b
@@ -120,11 +130,15 @@ module _ {K : Type 0} {Took : K → Report → K → Type 0} {Broke : K → Repo
       is = g.is;
     }
 
-    cause-then : (w v u : World) (a b c : K) (halt : Halt) → WasTold Took w v a b
-        → ((halt ≡ halts.Memory) × WasTold Took v u b c) ⊎ WasBroken Took Broke v u b c halt
-        → ((halt ≡ halts.Memory) × WasTold Took w u a c) ⊎ WasBroken Took Broke w u a c halt
-    cause-then w v u a b c halt f (inl g) = inl (g.0, told-then w v u a b c f g.1)
-    cause-then w v u a b c halt f (inr g) = inr (broken-then w v u a b c halt f g)
+    cause-then : (w v u : World) (IsOn IsThere : World → Type 0) (a b c : K) (halt : Halt)
+        → WasTold Took w v a b → is_racing v.kept.phase ≡ is_racing w.kept.phase
+        → ((x : World) → IsOn x → IsThere x)
+        → ((halt ≡ halts.Memory) × WasToldTo Took v u IsOn b c) ⊎ WasBroken Took Broke v u b c halt
+        → ((halt ≡ halts.Memory) × WasToldTo Took w u IsThere a c) ⊎ WasBroken Took Broke w u a c halt
+    cause-then w v u IsOn IsThere a b c halt f same there (inl g) =
+        inl (g.0, told-to-then w v u IsOn IsThere a b c f same there g.1)
+    cause-then w v u IsOn IsThere a b c halt f same there (inr g) =
+        inr (broken-then w v u a b c halt f g)
 
 -- ---- how calls end
 
@@ -132,39 +146,42 @@ module _ {K : Type 0} (Took : K → Report → K → Type 0) (Broke : K → Repo
   where
     -- a call that begins where another ended
     pub ends-behind : {R : Type 0} (Stands : World → R → Type 0) (Leaves : Halt → World → R → Type 0)
-        (Tallies : World → R → Type 0) (w v : World)
-        (later : List Chance) (out : Course) (a b : K) (new : Moment R K)
+        (Tallies : World → R → Type 0) (f g : Act) (w v : World)
+        (later : List Chance) (a b : K) (new : Moment R K)
         (r : Result (Unit {0}) Halt) → WasTold Took w v a b
-        → is_racing v.kept.phase ≡ is_racing w.kept.phase
-        → Ends Stands Leaves Tallies Took Broke v later out b new r
-        → Ends Stands Leaves Tallies Took Broke w later out a new r
-    ends-behind Stands Leaves Tallies w v later out a b new (Ok done) f same h =
-        (h.0, h.1, h.2, told-then w v h.0 a b new.outlet f h.3, h.4, h.5 ∙ same)
-    ends-behind Stands Leaves Tallies w v later out a b new (Err halt) f same (inl h) = inl (record {
-      world = h.world;
-      stops = h.stops;
-      tidy = h.tidy;
-      leaves = h.leaves;
-      told = told-then w v h.world a b new.outlet f h.told;
-      left = h.left;
-      same = h.same ∙ same;
-    })
-    ends-behind Stands Leaves Tallies w v later out a b new (Err halt) f same (inr h) = inr (record {
-      world = h.world;
-      tidy = h.tidy;
-      counts = h.counts;
-      same = h.same ∙ same;
-      begins = h.begins;
-      cause = cause-then w v h.world a b new.outlet halt f h.cause;
-    })
+        → is_racing v.kept.phase ≡ is_racing w.kept.phase → IsAs f w g v
+        → Ends Stands Leaves Tallies Took Broke v later g b new r
+        → Ends Stands Leaves Tallies Took Broke w later f a new r
+    ends-behind Stands Leaves Tallies f g w v later a b new (Ok done) told same alike h =
+        (h.0, alike.0 ∙ h.1, h.2, told-then w v h.0 a b new.outlet told h.3, h.4, h.5 ∙ same)
+    ends-behind Stands Leaves Tallies f g w v later a b new (Err halt) told same alike (inl h) =
+        inl (record {
+          world = h.world;
+          stops = alike.0 ∙ h.stops;
+          tidy = h.tidy;
+          leaves = h.leaves;
+          told = told-then w v h.world a b new.outlet told h.told;
+          left = h.left;
+          same = h.same ∙ same;
+        })
+    ends-behind Stands Leaves Tallies f g w v later a b new (Err halt) told same alike (inr h) =
+        inr (record {
+          world = h.world;
+          tidy = h.tidy;
+          counts = h.counts;
+          same = h.same ∙ same;
+          on_way = alike.1 h.world h.on_way;
+          cause = cause-then w v h.world (IsOnWay g v) (IsOnWay f w) a b new.outlet halt told same alike.1
+              h.cause;
+        })
 
     -- the first act ended early
     pub ends-early : {R : Type 0} (Stands : World → R → Type 0) (Leaves : Halt → World → R → Type 0)
-        (Tallies : World → R → Type 0) (w : World)
-        (later : List Chance) (out : Course) (g : Act) (a : K) (new : Moment R K) (halt : Halt)
-        → Ends Stands Leaves Tallies Took Broke w later out a new (Err halt)
-        → Ends Stands Leaves Tallies Took Broke w later (and_then out (λ v. perform g v)) a new (Err halt)
-    ends-early Stands Leaves Tallies w later out g a new halt (inl h) = inl (record {
+        (Tallies : World → R → Type 0) (f g : Act) (w : World)
+        (later : List Chance) (a : K) (new : Moment R K) (halt : Halt)
+        → Ends Stands Leaves Tallies Took Broke w later f a new (Err halt)
+        → Ends Stands Leaves Tallies Took Broke w later (seq f g) a new (Err halt)
+    ends-early Stands Leaves Tallies f g w later a new halt (inl h) = inl (record {
       world = h.world;
       stops = ap (λ (o : Course). and_then o (λ v. perform g v)) h.stops;
       tidy = h.tidy;
@@ -173,26 +190,27 @@ module _ {K : Type 0} (Took : K → Report → K → Type 0) (Broke : K → Repo
       left = h.left;
       same = h.same;
     })
-    ends-early Stands Leaves Tallies w later out g a new halt (inr h) = inr (record {
+    ends-early Stands Leaves Tallies f g w later a new halt (inr h) = inr (record {
       world = h.world;
       tidy = h.tidy;
       counts = h.counts;
       same = h.same;
-      begins = begins-then (reports h.world.run) (reported out) _ h.begins (and-longer out g);
-      cause = h.cause;
+      on_way = inl h.on_way;
+      cause = cause-then w w h.world (IsOnWay f w) (IsOnWay (seq f g) w) a a new.outlet halt
+          (told-none w w a a refl refl) refl (λ u on. inl on) h.cause;
     })
 
     -- what one value did, another did in which it stands
     pub ends-seen : {R S : Type 0} (Stands : World → R → Type 0) (Leaves : Halt → World → R → Type 0)
         (Tallies : World → R → Type 0) (Sees : World → S → Type 0)
-        (Shows : Halt → World → S → Type 0) (Tells : World → S → Type 0) (w : World) (later : List Chance) (out : Course) (a k : K)
+        (Shows : Halt → World → S → Type 0) (Tells : World → S → Type 0) (w : World) (later : List Chance) (act : Act) (a k : K)
         (x : R) (y : S) (r : Result (Unit {0}) Halt)
-        → ((v : World) → out ≡ Goes v → r ≡ Ok tt → Stands v x → Sees v y)
+        → ((v : World) → perform act w ≡ Goes v → r ≡ Ok tt → Stands v x → Sees v y)
         → ((v : World) (halt : Halt) → Leaves halt v x → Shows halt v y)
         → ((v : World) → Tallies v x → Tells v y)
-        → Ends Stands Leaves Tallies Took Broke w later out a (moment x k) r
-        → Ends Sees Shows Tells Took Broke w later out a (moment y k) r
-    ends-seen Stands Leaves Tallies Sees Shows Tells w later out a k x y (Ok done) sees shows tells h = (
+        → Ends Stands Leaves Tallies Took Broke w later act a (moment x k) r
+        → Ends Sees Shows Tells Took Broke w later act a (moment y k) r
+    ends-seen Stands Leaves Tallies Sees Shows Tells w later act a k x y (Ok done) sees shows tells h = (
       h.0,
       h.1,
       record { stands = sees h.0 h.1 refl h.2.stands; tidy = h.2.tidy },
@@ -200,7 +218,7 @@ module _ {K : Type 0} (Took : K → Report → K → Type 0) (Broke : K → Repo
       h.4,
       h.5,
     )
-    ends-seen Stands Leaves Tallies Sees Shows Tells w later out a k x y (Err halt) sees shows tells (inl h) =
+    ends-seen Stands Leaves Tallies Sees Shows Tells w later act a k x y (Err halt) sees shows tells (inl h) =
         inl (record {
           world = h.world;
           stops = h.stops;
@@ -210,13 +228,13 @@ module _ {K : Type 0} (Took : K → Report → K → Type 0) (Broke : K → Repo
           left = h.left;
           same = h.same;
         })
-    ends-seen Stands Leaves Tallies Sees Shows Tells w later out a k x y (Err halt) sees shows tells (inr h) =
+    ends-seen Stands Leaves Tallies Sees Shows Tells w later act a k x y (Err halt) sees shows tells (inr h) =
         inr (record {
           world = h.world;
           tidy = h.tidy;
           counts = tells h.world h.counts;
           same = h.same;
-          begins = h.begins;
+          on_way = h.on_way;
           cause = h.cause;
         })
 
@@ -225,14 +243,14 @@ module _ {K : Type 0} (Took : K → Report → K → Type 0) (Broke : K → Repo
         (Tallies : World → R → Type 0) (act : Act) (w : World)
         (later : List Chance) (a : K) (new : Moment R K) → IsTidy w → Tallies w new.value
         → new.outlet ≡ a
-        → Ends Stands Leaves Tallies Took Broke w later (perform act w) a new (Err halts.Memory)
+        → Ends Stands Leaves Tallies Took Broke w later act a new (Err halts.Memory)
     ends-memory Stands Leaves Tallies act w later a new tidy counts same = inr (record {
       world = w;
       tidy = tidy;
       counts = counts;
       same = refl;
-      begins = grows act w;
-      cause = inl (refl, told-none w w a new.outlet refl same);
+      on_way = way-start act w;
+      cause = inl (refl, told-here w (IsOnWay act w) a new.outlet tidy (way-start act w) same);
     })
 
 -- ---- what a group at work does
@@ -272,7 +290,7 @@ module _ {K : Type 0} {Took : K → Report → K → Type 0} {Broke : K → Repo
     then-err f g old new e d = record {
       chances = d.chances;
       ends = λ mark w later is reached comes.
-          ends-early Took Broke (StandsSince mark) (LeavesAt mark) Counts w later (perform f w) g old.outlet new e
+          ends-early Took Broke (StandsSince mark) (LeavesAt mark) Counts f g w later old.outlet new e
           (d.ends mark w later is reached comes.0);
       seats = d.seats;
     }
@@ -288,10 +306,9 @@ module _ {K : Type 0} {Took : K → Report → K → Type 0} {Broke : K → Repo
           (both-chances w.kept.chances d.chances e.chances later is) reached comes.0 in
           let comes_later : Comes g first.0 =
           going (perform f w) first.0 (λ v. IsTidy v → Comes g v) first.1 comes.1 first.2.tidy in
-          subst (λ (out : Course). Ends (StandsSince mark) (LeavesAt mark) Counts Took Broke w later
-          (and_then out (λ v. perform g v)) old.outlet new r) (sym first.1)
-          (ends-behind Took Broke (StandsSince mark) (LeavesAt mark) Counts w first.0 later (perform g first.0) old.outlet mid.outlet new
-          r first.3 first.5 (e.ends mark first.0 later first.4 first.2 comes_later));
+          ends-behind Took Broke (StandsSince mark) (LeavesAt mark) Counts (seq f g) g w first.0 later
+          old.outlet mid.outlet new r first.3 first.5 (as-left f g w first.0 first.1)
+          (e.ends mark first.0 later first.4 first.2 comes_later);
       seats = seats-then old.value.words mid.value.words new.value.words d.seats e.seats;
     }
 
@@ -382,7 +399,7 @@ module _ {K : Type 0} {Took : K → Report → K → Type 0} {Broke : K → Repo
         ends = λ mark w later is reached comes.
             let e : here ≡ f w = same w reached.stands.stands reached.tidy in
             subst (λ (a : Act).
-            Ends (StandsSince mark) (LeavesAt mark) Counts Took Broke w later (perform a w) now.outlet new r) e
+            Ends (StandsSince mark) (LeavesAt mark) Counts Took Broke w later a now.outlet new r) e
             (d.ends mark w later is reached (subst (λ (a : Act). Comes a w) (sym e) comes));
         seats = d.seats;
       };

@@ -33,7 +33,7 @@ use Rattle.lan_schedule.specs.Lines.{deed, deed_at, deed_read, feed, send, unles
 use Rattle.lan_schedule.specs.Lines.{deed_controlling, excess_of}
 use Rattle.lan_schedule.specs.Lines.{behind_race, behind_while, close_at, performed_whole}
 use Rattle.lan_schedule.specs.Lines.{performed, performed_all, tick, round, spread, flow_round}
-use Rattle.lan_schedule.specs.Lines.{cut_in, mended_in}
+use Rattle.lan_schedule.specs.Lines.{cut_in, line_after, mended_in}
 use Rattle.lan_schedule.specs.Sound.{IsTidy, HasRunNone}
 use Rattle.lan_schedule.specs.inside.Comes.{Comes}
 use Rattle.lan_schedule.proofs.Bounded.{AreBounded, bounded-first}
@@ -408,7 +408,7 @@ text-ready : (n : ℕ) (text : List ℕ) (w : World) → suc n < 2 ^ 32 → IsRe
     → HasNone (world_of (perform (performed text) w))
     → IsReady (suc n) (world_of (perform (performed text) w))
 text-ready n text w below ready never =
-    let kept : Kept = record w.kept { line = w.kept.line + 1 } in
+    let kept : Kept = record w.kept { line = line_after w.kept.line } in
     said-ready n text (line_in text) (record w { kept = kept }) below
     (record {
       users = ready.users;
@@ -459,7 +459,7 @@ lines-apart chances texts = (behind-lines texts (beginning chances)).apart refl
 -- ---- the end of a trace
 
 numbered-calm : (w : World) → IsCalm w
-    → IsCalm (record w { kept = record w.kept { line = w.kept.line + 1 } })
+    → IsCalm (record w { kept = record w.kept { line = line_after w.kept.line } })
 numbered-calm w calm =
     (tidy-same w _ calm.0 refl refl refl refl refl (λ e. e) (λ e. e), calm.1, calm.2)
 

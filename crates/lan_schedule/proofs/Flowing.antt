@@ -11,11 +11,11 @@ use Rattle.lan_schedule.specs.inside.Frames.{AreMarked, CameFrom, AreInOrder}
 
 -- ---- order
 
-pub order-later : (rounds : ℕ) (frames : List Put) → AreInOrder rounds frames
-    → AreInOrder (rounds + 1) frames
-order-later rounds [] h = tt
-order-later rounds (put ∷ others) h =
-    (let a : put.at ≤ rounds = h.0 in omega arith, h.1, order-later rounds others h.2)
+pub order-later : (rounds later : ℕ) (frames : List Put) → rounds ≤ later → AreInOrder rounds frames
+    → AreInOrder later frames
+order-later rounds later [] up h = tt
+order-later rounds later (put ∷ others) up h =
+    (let a : put.at ≤ rounds = h.0 in omega (arith, a, up), h.1, order-later rounds later others up h.2)
 
 came-end : (at : ℕ) (frames : List Put) (put : Put) → at ≤ put.at → CameFrom at frames
     → CameFrom at (frames ++ put ∷ [])

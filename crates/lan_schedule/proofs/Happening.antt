@@ -1,7 +1,7 @@
 -- What an event leaves.
-use Rattle.std.proofs.Common.{◌≡◌, ◌<◌, ◌≤◌, ℕ, ◌+◌, Bool, true, false, length, List, [], ◌∷◌, ◌++◌, Option, Some, None}
+use Rattle.std.proofs.Common.{◌≡◌, ◌<◌, ◌≤◌, ℕ, ◌+◌, ◌^◌, Bool, true, false, length, List, [], ◌∷◌, ◌++◌, Option, Some, None}
 use Rattle.std.proofs.Common.{inl, inr, refl, sym, ap, ◌∙◌, subst, arith}
-use Rattle.std.specs.Prelude.{Result, Ok, Err, MatchResult, map, unwrap_or, is_some, option_map}
+use Rattle.std.specs.Prelude.{◌⊎◌, Result, Ok, Err, MatchResult, map, unwrap_or, is_some, option_map}
 use Rattle.std.specs.Result.{IsErrAnd}
 use Rattle.std.proofs.lemmas.Result.{err_from_is_err_and}
 use Rattle.std.proofs.lemmas.List.{map-append}
@@ -36,6 +36,7 @@ use Rattle.fact_tally.specs.Summary.{counts}
 use Rattle.trace_acts.specs.declared.halt.Halt.{Halt}
 use Rattle.trace_acts.specs.declared.halt.Halt.TheVariants as halts
 use Rattle.trace_acts.specs.declared.broken.Broken.{Broken}
+use Rattle.trace_acts.specs.declared.broken.Broken.TheVariants as broken
 use Rattle.trace_acts.specs.Names.{names_of}
 use Rattle.trace_acts.specs.Settings.{rule_of}
 use Rattle.trace_acts.specs.Supply.{draw_at, supply_nth}
@@ -43,16 +44,16 @@ use Rattle.trace_acts.specs.Halts.{halt_of, halt_of_broken}
 use Rattle.lan_schedule.specs.declared.stage.Stage.{Stage}
 use Rattle.lan_schedule.specs.World.{World, settings, puts, Flow, is_racing}
 use Rattle.lan_schedule.specs.Answers.{supply, taken_by, answered, answer}
-use Rattle.lan_schedule.specs.Acts.{happen, perform, Goes, shown, world_after}
+use Rattle.lan_schedule.specs.Acts.{happen, shown, world_after, world_of}
 use Rattle.lan_schedule.specs.Sound.{IsTidy}
-use Rattle.lan_schedule.specs.Reports.{Report, reports}
+use Rattle.lan_schedule.specs.Reports.{Report}
 use Rattle.lan_schedule.specs.Ends.{Moment, moment, IsReached, Ends}
 use Rattle.lan_schedule.specs.Numbers.{shown_next, number_shown, decided}
 use Rattle.lan_schedule.specs.Lines.{tick}
 use Rattle.lan_schedule.specs.inside.Comes.{Comes, named}
 use Rattle.lan_schedule.specs.inside.Set.{SaysAhead, AreSet, IsGiven}
 use Rattle.lan_schedule.specs.Stages.{Says, StandsWith, StandsFor, Counts}
-use Rattle.lan_schedule.specs.inside.Staged.{Did, DidWhere, Happened, IsSetSince, WentOn}
+use Rattle.lan_schedule.specs.inside.Staged.{Did, DidWhere, FindsLeft, Happened, IsSetSince, WentOn}
 use Rattle.lan_schedule.specs.inside.Recording.{Mark, StandsSince, LeavesAt, HasLooked, HasRecorded}
 use Rattle.lan_schedule.specs.inside.Recording.{HasStopped}
 use Rattle.lan_schedule.specs.inside.Recording.{KeepSeats, KeepsStep, epoch_of, is_start, octets_put}
@@ -65,7 +66,6 @@ use Rattle.lan_schedule.proofs.Recorded.{GoesOnSo, HasStation, has-station, perf
 use Rattle.lan_schedule.proofs.Recorded.{recorded-more, same-some, seats-kept, seats-then}
 use Rattle.lan_schedule.proofs.Chances.{chances-used, behind-decided, shown-is}
 use Rattle.lan_schedule.proofs.Same.{IsSame, same-self, stands-moved}
-use Rattle.lan_schedule.proofs.Racing.{begins-self}
 use Rattle.lan_schedule.proofs.Doing.{told-none, ends-memory}
 use Rattle.lan_schedule.proofs.Tidying.{Proceeds, event-proceeds, legal-after, thrifty-calm, tidy-after}
 use Rattle.lan_schedule.proofs.Tidying.{exact-in}
@@ -164,7 +164,7 @@ pub record Keeps (event : Event) (facts : List Fact) (old new : Stage) : Type 0 
       → AreSet event raced racing settings r old.words → AreCarded settings r old.words
       → AreCarded settings (happened event facts ∷ r) new.words
   pub tally : (shown : List Fact) → old.tally ≡ counts shown → new.tally ≡ counts (shown ++ facts)
-  pub octets : new.octets ≡ old.octets + octets_put facts
+  pub octets : old.octets + octets_put facts < 2 ^ 64 → new.octets ≡ old.octets + octets_put facts
   pub kept : (settings : Settings) (users : List UserFrame) (r : Run)
       → GroupStandsFor settings users old.lan r
       → GroupStandsFor settings users new.lan (happened event facts ∷ r)
@@ -213,8 +213,11 @@ stands-after w event facts old new stands exact stepped told keeps = record {
   cards = keeps.cards w.kept.raced (is_racing w.kept.phase) (settings w) w.kept.users w.run
       stands.lan told.lan stepped stands.words stands.cards;
   tally = keeps.tally (facts_of w.run) stands.tally;
-  octets = keeps.octets ∙ ap (λ (n : ℕ). n + octets_put facts) stands.octets
-      ∙ sym (load-after event facts w.run);
+  octets = (let load = load-after event facts w.run in
+      let within = stepped.0.within.octets in
+      let before = stands.octets in
+      keeps.octets (omega (arith, load, within, before))
+      ∙ ap (λ (n : ℕ). n + octets_put facts) stands.octets ∙ sym load);
   steps = kept-some old new event _ _ (keeps.kept (settings w) w.kept.users w.run stands.lan told.lan)
       ∙ stands.steps;
 }
@@ -367,12 +370,14 @@ module _ {K : Type 0} (Took : K → Report → K → Type 0) (Broke : K → Repo
         → (world_after w event facts).kept.chances ≡ later → IsTidy (world_after w event facts)
         → StandsSince mark (world_after w event facts) new.value
         → MatchResult why (λ _. Took a (report_of event facts w) new.outlet)
-        (λ y. Broke a (report_of event facts w) new.outlet y)
-        → Ends (StandsSince mark) (LeavesAt mark) Counts Took Broke w later (Goes (world_after w event facts)) a new
+        (λ y. Broke a (report_of event facts w) new.outlet y
+        ⊎ ((y ≡ broken.Memory) × (new.outlet ≡ a)))
+        → answer w event ≡ Ok facts → IsTidy w
+        → Ends (StandsSince mark) (LeavesAt mark) Counts Took Broke w later (happen event) a new
         (handed why)
-    told-ends mark w event facts later a new (Ok done) is tidy stands took = (
+    told-ends mark w event facts later a new (Ok done) is tidy stands took shows before = (
       world_after w event facts,
-      refl,
+      ap (λ (a : Result (List Fact) Halt). shown w event a) shows,
       record { stands = stands; tidy = tidy },
       record {
         told = report_of event facts w ∷ [];
@@ -382,24 +387,39 @@ module _ {K : Type 0} (Took : K → Report → K → Type 0) (Broke : K → Repo
       is,
       refl,
     )
-    told-ends mark w event facts later a new (Err why) is tidy stands broke = inr (record {
+    told-ends mark w event facts later a new (Err why) is tidy stands untold shows before = inr (record {
       world = world_after w event facts;
       tidy = tidy;
       counts = stands.stands.tally;
       same = refl;
-      begins = begins-self (reports (world_after w event facts).run);
-      cause = inr (record {
-        told = [];
-        last = report_of event facts w;
-        behind = [];
-        since = refl;
-        prompt = λ e. refl;
-        before = a;
-        by_one = refl;
-        why = why;
-        breaks = broke;
-        is = refl;
-      });
+      on_way = inr (sym (ap (λ (a : Result (List Fact) Halt). world_of (shown w event a)) shows));
+      cause = elim untold [
+        | inl broke ↦ inr (record {
+          told = [];
+          last = report_of event facts w;
+          behind = [];
+          since = refl;
+          prompt = λ e. refl;
+          before = a;
+          by_one = refl;
+          why = why;
+          breaks = broke;
+          is = refl;
+        })
+        | inr wants ↦ inl (
+          ap (λ (y : Broken). halt_of_broken y) wants.0,
+          record {
+            world = w;
+            tidy = before;
+            same = refl;
+            on_way = inl refl;
+            told = told-none w w a new.outlet refl wants.1;
+            untold = report_of event facts w ∷ [];
+            since = refl;
+            few = omega arith;
+          },
+        )
+      ];
     })
 
 -- what was decided of an event is what the world has next
@@ -417,13 +437,15 @@ same-seats old new words = subst (λ (cs : List ControlAt). KeepSeats old cs) (s
 plain-set : (event : Event) (mark : Mark) (w : World) (stage : Stage)
     → ((raced racing : Bool) (settings : Settings) (run : Run) (cs : List ControlAt)
     → Says raced racing settings run cs → AreSet event raced racing settings run cs)
+    → FindsLeft (settings w) w.run event
     → IsReached (StandsSince mark) w stage → IsReached (IsSetSince event mark) w stage
-plain-set event mark w stage set reached = record {
+plain-set event mark w stage set left reached = record {
   stands = record {
     stands = stands-moved w stage stage (same-self stage) refl refl refl
         (set w.kept.raced (is_racing w.kept.phase) (settings w) w.run stage.words
         reached.stands.stands.words) reached.stands.stands.cards reached.stands.stands;
     looked = looked-none mark w stage reached.stands;
+    left = left;
   };
   tidy = reached.tidy;
 }
@@ -437,7 +459,8 @@ module _ {K : Type 0} {Took : K → Report → K → Type 0} {Broke : K → Repo
         → Keeps event facts old.value new.value → KeepsThrift → Beside
         → MatchResult why
         (λ _. Took old.outlet (record { names = new.value.names.items; facts = facts }) new.outlet)
-        (λ y. Broke old.outlet (record { names = new.value.names.items; facts = facts }) new.outlet y)
+        (λ y. Broke old.outlet (record { names = new.value.names.items; facts = facts }) new.outlet y
+        ⊎ ((y ≡ broken.Memory) × (new.outlet ≡ old.outlet)))
         → WentOn Took Broke event facts mid old new (handed why)
     event-went event facts mid old new why typed lan draws keeps thrift laws wrote = record {
       ends = λ mark w later left reached comes went.
@@ -460,18 +483,16 @@ module _ {K : Type 0} {Took : K → Report → K → Type 0} {Broke : K → Repo
                 (λ racing. has-station w event comes.1 racing) (legal-after w event facts on).stepped
                 told keeps;
           } in
-          let tidy = tidy-after w event facts on stands.begun
+          let tidy = tidy-after w event facts on reached.stands.left stands.begun
           (λ apart. thrifty-after w event facts new.value on thrift after_it apart) in
-          subst (λ (a : Result (List Fact) Halt).
-          Ends (StandsSince mark) (LeavesAt mark) Counts Took Broke w later (shown w event a) old.outlet new
-          (handed why)) (sym told.answers)
-          (told-ends Took Broke mark w event facts later old.outlet new why
+          told-ends Took Broke mark w event facts later old.outlet new why
           (chances-used w event facts later (left ∙ decided-here w event old.value later stands)) tidy
           since
           (subst (λ (names : List (List ℕ)). MatchResult why
           (λ _. Took old.outlet (record { names = names; facts = facts }) new.outlet)
-          (λ y. Broke old.outlet (record { names = names; facts = facts }) new.outlet y))
-          after_it.names wrote));
+          (λ y. Broke old.outlet (record { names = names; facts = facts }) new.outlet y
+          ⊎ ((y ≡ broken.Memory) × (new.outlet ≡ old.outlet))))
+          after_it.names wrote) told.answers reached.tidy;
       seats = keeps.seats;
       still = keeps.still;
     }
@@ -532,7 +553,7 @@ module _ {K : Type 0} {Took : K → Report → K → Type 0} {Broke : K → Repo
         → w.kept.chances ≡ decided old.value.raced event ++ later
         → IsReached (IsSetSince event mark) w old.value
         → first_stop (settings w) w.kept.users w.run event (supply_nth old.value.draws) ≡ Some stop
-        → Ends (StandsSince mark) (LeavesAt mark) Counts Took Broke w later (perform (happen event) w)
+        → Ends (StandsSince mark) (LeavesAt mark) Counts Took Broke w later (happen event)
         old.outlet new (Err (halt_of line stop))
     stopped-ends event stop line old new mark w later is_line tally same words steps names left reached
         first =
@@ -594,7 +615,7 @@ module _ {K : Type 0} {Took : K → Report → K → Type 0} {Broke : K → Repo
       chances = decided old.value.raced (events.Deliver n s);
       ends = λ mark w later is reached checked comes. went.ends mark w later is
           (plain-set (events.Deliver n s) mark w old.value (λ raced racing settings run cs says. says)
-          reached) comes
+          tt reached) comes
           (goes (settings w) w.kept.users w.run reached.stands.stands.lan checked);
       seats = went.seats;
     }
@@ -616,7 +637,7 @@ module _ {K : Type 0} {Took : K → Report → K → Type 0} {Broke : K → Repo
           stopped-ends (events.Deliver n s) stop line old new mark w later is_line tally same words
           steps names is
           (plain-set (events.Deliver n s) mark w old.value (λ raced racing settings run cs says. says)
-          reached)
+          tt reached)
           (first (settings w) w.kept.users w.run reached.stands.stands.lan checked);
       seats = same-seats old.value.words new.value.words words;
     }
@@ -626,11 +647,12 @@ module _ {K : Type 0} {Took : K → Report → K → Type 0} {Broke : K → Repo
         → ((w : World) → None ≡ named w event)
         → ((raced racing : Bool) (settings : Settings) (run : Run) (cs : List ControlAt)
         → Says raced racing settings run cs → AreSet event raced racing settings run cs)
+        → ((settings : Settings) (run : Run) → FindsLeft settings run event)
         → Happened Took Broke None event old new r → Did Took Broke (happen event) old new r
-    plainly event old new r none set h = record {
+    plainly event old new r none set left h = record {
       chances = decided old.value.raced event;
       ends = λ mark w later is reached comes. h.ends mark w later is
-          (plain-set event mark w old.value set reached) (none w) comes;
+          (plain-set event mark w old.value set (left (settings w) w.run) reached) (none w) comes;
       seats = h.seats;
     }
 
@@ -661,9 +683,9 @@ module _ {K : Type 0} {Took : K → Report → K → Type 0} {Broke : K → Repo
           let comes_n : Comes (happen (events.Tick s n)) w =
           subst (λ (m : ℕ). Comes (happen (events.Tick s m)) w) (sym number) comes in
           subst (λ (m : ℕ). Ends (StandsSince mark) (LeavesAt mark) Counts Took Broke w later
-          (perform (happen (events.Tick s m)) w) old.outlet new r) number
+          (happen (events.Tick s m)) old.outlet new r) number
           (subst (λ (k : K). Ends (StandsSince mark) (LeavesAt mark) Counts Took Broke w later
-          (perform (happen (events.Tick s n)) w) k new r) outlet
+          (happen (events.Tick s n)) k new r) outlet
           (h.ends mark w later is (record {
             stands = record {
               stands = stands-moved w old.value mid.value same line users cuts
@@ -674,6 +696,7 @@ module _ {K : Type 0} {Took : K → Report → K → Type 0} {Broke : K → Repo
               looked = subst (λ o. HasLooked mark w mid.value.words (option_map (λ steps. steps.items) o))
                   (sym same.steps)
                   (looked-once mark w old.value mid.value.words reached.stands looked);
+              left = tt;
             };
             tidy = reached.tidy;
           }) refl comes_n));

@@ -1,6 +1,7 @@
 mod Calm
 mod Racing
 mod RaceExamples
+mod RaceOfExample
 mod WovenPart
 mod Recorded
 mod Loads
@@ -30,6 +31,8 @@ mod SeatsLeft
 mod RaceRuns
 mod Exceeding
 mod Doing
+mod OnWay
+mod WayExamples
 mod Flowing
 mod Batching
 mod Looking
@@ -46,6 +49,7 @@ mod Claiming
 mod Chances
 mod Happening
 mod Bounded
+mod Unspent
 mod Tidying
 mod Telling
 mod Settled

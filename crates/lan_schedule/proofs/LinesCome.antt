@@ -44,7 +44,7 @@ use Rattle.lan_schedule.specs.Kinds.{is_number, no_frame}
 use Rattle.lan_schedule.specs.Kinds.{wrong_word}
 use Rattle.lan_schedule.specs.Lines.{add_user, send, deed, unless_refused}
 use Rattle.lan_schedule.specs.inside.Phased.{refusal_apart, act_apart}
-use Rattle.lan_schedule.specs.Sound.{IsTidy, numbers_of, IsSoundIn}
+use Rattle.lan_schedule.specs.Sound.{IsTidy, numbers_of, IsNeverSpent, IsSoundIn}
 use Rattle.lan_schedule.specs.inside.Comes.{Comes, HasRoom, named}
 use Rattle.lan_core.specs.Lives.{transmitting_at}
 use Rattle.lan_core.specs.Stops.{MayCome}
@@ -168,6 +168,7 @@ tidy-unbegun w v tidy empty same frames races draws =
       few = λ e s epoch.
           subst (λ (r : Run). next (settings v) s epoch r ≤ length v.kept.users + 1) (sym none)
           (omega arith);
+      unspent = subst IsNeverSpent (sym none) tt;
       waits = λ e. none;
       draws = draws;
       dealt = rw races tidy.dealt;
@@ -195,6 +196,7 @@ tidy-same w kept tidy chosen users frames phase races begun raced = record {
   numbered = tidy.numbered;
   in_turn = rw chosen tidy.in_turn;
   few = λ e. rw (chosen, users) (tidy.few (raced e));
+  unspent = tidy.unspent;
   waits = λ e. tidy.waits (begun e);
   draws = rw chosen tidy.draws;
   dealt = rw races tidy.dealt;
@@ -212,6 +214,7 @@ tidy-entered w phase tidy same = record {
   numbered = tidy.numbered;
   in_turn = tidy.in_turn;
   few = tidy.few;
+  unspent = tidy.unspent;
   waits = tidy.waits;
   draws = tidy.draws;
   dealt = tidy.dealt;
@@ -236,6 +239,7 @@ tidy-user user w tidy = record {
   few = λ e s epoch.
       let before = tidy.few e s epoch in
       let longer = length-append w.kept.users (user ∷ []) in omega (arith, before, longer);
+  unspent = tidy.unspent;
   waits = tidy.waits;
   draws = tidy.draws;
   dealt = tidy.dealt;

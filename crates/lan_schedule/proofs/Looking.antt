@@ -1,5 +1,5 @@
 -- Acts that look at the world, begun from the group at work.
-use Rattle.std.proofs.Common.{◌≡◌, ℕ, ◌-◌, ◌≤◌, Bool, true, false, ◌==◌, List, length, ◌+◌, subst}
+use Rattle.std.proofs.Common.{◌≡◌, ℕ, ◌-◌, ◌≤◌, Bool, true, false, ◌==◌, List, length, subst}
 use Rattle.std.proofs.Common.{refl, sym, ap, ◌∙◌, arith}
 use Rattle.std.specs.Prelude.{Result, Ok, ◌||◌, is_some, option_map}
 use Rattle.std.proofs.lemmas.List.{length-map}
@@ -17,7 +17,7 @@ use Rattle.lan_schedule.specs.World.{World, Kept, count, settings, sender_at, ma
 use Rattle.lan_schedule.specs.World.{is_racing}
 use Rattle.lan_schedule.specs.Acts.{Act, nothing, happen, look, seq, change, span, each, unless}
 use Rattle.lan_schedule.specs.Lines.{pass, is_passed_by, to_others, spread, due, due_of}
-use Rattle.lan_schedule.specs.Lines.{begin_round}
+use Rattle.lan_schedule.specs.Lines.{begin_round, round_after}
 use Rattle.lan_core.specs.Standing.{StandsFor as GroupStandsFor}
 use Rattle.lan_schedule.specs.inside.Staged.{Did, Changed}
 use Rattle.lan_schedule.specs.Sound.{IsTidy}
@@ -101,11 +101,11 @@ marked number old new same flow =
     record { frames = marked_at (number - 1) f.frames; rounds = f.rounds }) stands.flow)
 
 pub round-begun : (old new : Stage) → Flows old new
-    → new.frames ≡ record { frames = old.frames.frames; rounds = old.frames.rounds + 1 }
-    → Changed (λ kept. record kept { rounds = kept.rounds + 1 }) old new
+    → new.frames ≡ record { frames = old.frames.frames; rounds = round_after old.frames.rounds }
+    → Changed (λ kept. record kept { rounds = round_after kept.rounds }) old new
 round-begun old new same flow =
-    flowing (λ kept. kept.frames) (λ kept. kept.rounds + 1) old new same
-    (λ w stands. flow ∙ ap (λ (f : Flow). record { frames = f.frames; rounds = f.rounds + 1 })
+    flowing (λ kept. kept.frames) (λ kept. round_after kept.rounds) old new same
+    (λ w stands. flow ∙ ap (λ (f : Flow). record { frames = f.frames; rounds = round_after f.rounds })
     stands.flow)
 
 module _ {K : Type 0} {Took : K → Report → K → Type 0} {Broke : K → Report → K → Broken → Type 0}
@@ -143,10 +143,10 @@ module _ {K : Type 0} {Took : K → Report → K → Type 0} {Broke : K → Repo
         change-does (mark number) old new (λ kept. (refl, refl)) changed same
 
     pub begin-does : (old new : Moment Stage K)
-        → Changed (λ kept. record kept { rounds = kept.rounds + 1 }) old.value new.value
+        → Changed (λ kept. record kept { rounds = round_after kept.rounds }) old.value new.value
         → new.outlet ≡ old.outlet → Did Took Broke begin_round old new (Ok tt)
     begin-does old new changed same =
-        change-does (λ kept. record kept { rounds = kept.rounds + 1 }) old new (λ kept. (refl, refl))
+        change-does (λ kept. record kept { rounds = round_after kept.rounds }) old new (λ kept. (refl, refl))
         changed same
 
     -- an act that is not skipped

@@ -1,5 +1,5 @@
 -- A group opens with the first station.
-use Rattle.std.proofs.Common.{◌≡◌, ℕ, ◌+◌, true, false, List, [], Option, Some, None, inl}
+use Rattle.std.proofs.Common.{◌≡◌, ℕ, ◌+◌, true, false, List, [], Option, Some, None, inl, inr}
 use Rattle.std.proofs.Common.{refl, sym, ap, ◌∙◌, subst, arith}
 use Rattle.std.specs.Prelude.{Result, Ok, Err, is_some}
 use Rattle.lan_base.specs.declared.frame.UserFrame.{UserFrame}
@@ -27,7 +27,7 @@ use Rattle.lan_schedule.specs.declared.stage.Stage.{Stage}
 use Rattle.lan_schedule.specs.declared.commands.Replay.{Replay}
 use Rattle.lan_schedule.specs.Races.{Phase, Apart, Chance, behind_numbers}
 use Rattle.lan_schedule.specs.World.{World, Kept, nothing_kept, is_racing}
-use Rattle.lan_schedule.specs.Acts.{Act, look, perform, Stops}
+use Rattle.lan_schedule.specs.Acts.{Act, IsOnWay, look, perform, Stops}
 use Rattle.lan_schedule.specs.Kinds.{wrong_word, refusal}
 use Rattle.lan_schedule.specs.Lines.{choose, deed, deed_at, act_of, unless_refused}
 use Rattle.lan_schedule.specs.Sound.{IsTidy}
@@ -38,6 +38,7 @@ use Rattle.lan_schedule.specs.Stages.{StandsFor as StageStandsFor}
 use Rattle.lan_schedule.specs.inside.Staged.{Did, IsOpening}
 use Rattle.lan_schedule.proofs.LinesCome.{IsRight, deed-comes, tidy-same, tidy-unbegun}
 use Rattle.lan_schedule.proofs.Doing.{told-none}
+use Rattle.lan_schedule.proofs.OnWay.{IsAs, as-self}
 use Rattle.lan_schedule.proofs.Still.{still-deed}
 use Rattle.lan_schedule.proofs.Replaying.{same-act, stands-counts, unbegun-does, opened-does}
 
@@ -187,10 +188,17 @@ station-right (lines.Station name sci priority) v station empty keyed =
 station-right _ v station empty keyed = absurd station
 
 begun-same : (line : Line) (w : World) → IsStation line
-    → perform (deed line w) w ≡ perform
-    (deed line (record w { kept = record w.kept { begun = true } }))
-    (record w { kept = record w.kept { begun = true } })
-begun-same (lines.Station name sci priority) w station = refl
+    → let v = record w { kept = record w.kept { begun = true } } in
+    IsAs (deed line w) w (deed line v) v
+begun-same (lines.Station name sci priority) w station = (refl, way) where
+  v : World
+  v = record w { kept = record w.kept { begun = true } }
+
+  way : (u : World) → IsOnWay (deed (lines.Station name sci priority) v) v u
+      → IsOnWay (deed (lines.Station name sci priority) w) w u
+  way u (inl (inl is)) = inl (inr is)
+  way u (inl (inr is)) = inl (inr is)
+  way u (inr on) = inr on
 begun-same _ w station = absurd station
 
 module _ {K : Type 0} {Took : K → Report → K → Type 0} {Broke : K → Report → K → Broken → Type 0}
@@ -230,8 +238,10 @@ module _ {K : Type 0} {Took : K → Report → K → Type 0} {Broke : K → Repo
         let none : refusal line w ≡ None = ap (λ (v : World). refusal line v) same
         ∙ refusal-waiting w.kept.chances line old.value ∙ first in
         let apart : w.kept.phase ≡ Apart = ap (λ (v : World). v.kept.phase) same in
-        ap (λ (o : Option Kind). perform (unless_refused o (deed_at line w w.kept.phase)) w) none
-        ∙ ap (λ (p : Phase). perform (deed_at line w p) w) apart) d
+        subst (λ (o : Option Kind).
+        IsAs (unless_refused o (deed_at line w w.kept.phase)) w (deed line w) w) (sym none)
+        (subst (λ (p : Phase). IsAs (deed_at line w p) w (deed line w) w) (sym apart)
+        (as-self (deed line w) w))) d
 
     pub chosen-does : (line : Line) → IsInForm line → (old new : Moment Replay K)
         → old.value.stage ≡ None → new.value.stage ≡ None → new.value.halted ≡ old.value.halted
@@ -241,7 +251,8 @@ module _ {K : Type 0} {Took : K → Report → K → Type 0} {Broke : K → Repo
         → Does Took Broke (look (λ w. deed line w)) old new (Ok tt)
     chosen-does line form old new unbegun still halted is_line nothing is_chosen outlet phase is =
         same-act (look (λ w. deed line w)) (choose (chosen_by line)) old new (Ok tt)
-        (λ w stands. ap (λ (act : Act). perform act w) (is w))
+        (λ w stands. subst (λ (act : Act). IsAs act w (choose (chosen_by line)) w) (sym (is w))
+        (as-self (choose (chosen_by line)) w))
         (unbegun-does (λ kept. record kept { chosen = chosen_by line kept.chosen }) old new unbegun
         still halted nothing phase (λ kept. (refl, refl))
         (λ w tidy empty. tidy-unbegun w _ tidy empty refl refl refl

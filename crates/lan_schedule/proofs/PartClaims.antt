@@ -1,6 +1,6 @@
 -- The claims of a part: how many packet numbers they tell of, and that one without a number shows
 -- that no key transmits.
-use Rattle.std.proofs.Common.{◌≡◌, ◌<◌, ◌≤◌, ℕ, zero, suc, ◌+◌, ◌-◌, ◌==◌, Bool, true, false}
+use Rattle.std.proofs.Common.{◌≡◌, ◌<◌, ◌≤◌, ℕ, zero, suc, ◌+◌, ◌==◌, Bool, true, false}
 use Rattle.std.proofs.Common.{List, [], ◌∷◌, length, refl, sym, ap, ◌∙◌, subst, inl, inr, arith}
 use Rattle.std.specs.Prelude.{◌⊎◌, Option, Some, None, nat_lt, reverse}
 use Rattle.std.specs.List.{AllByRecursion}
@@ -16,7 +16,7 @@ use Rattle.lan_core.specs.declared.fact.Lack.TheVariants.{NoKey}
 use Rattle.lan_core.specs.declared.settings.Settings.{Settings}
 use Rattle.lan_core.specs.Claims.{claimed_by, next, waiting_under}
 use Rattle.lan_core.specs.Order.{IsAllowed, IsClaimable}
-use Rattle.lan_core.specs.Expected.{claim_fact, last_number, number_fact}
+use Rattle.lan_core.specs.Expected.{claim_fact, drawn_in, last_number, number_fact}
 use Rattle.lan_core.specs.Ledgers.{Claim, claim_of, claims, gather}
 use Rattle.lan_core.specs.Legal.{IsStep, IsStepped}
 use Rattle.lan_core.specs.Lives.{transmitting_at}
@@ -26,8 +26,11 @@ use Rattle.lan_core.proofs.Public.{IsClaim, is-claim, never-falls, stepped-front
 use Rattle.group_safety.proofs.Public.{claims-by, kind}
 use Rattle.race_merge.proofs.Public.{adds-none}
 use Rattle.lan_schedule.specs.Races.{Claimed, claims_in, count_numbered}
+use Rattle.lan_schedule.specs.Sound.{IsNeverSpent}
+use Rattle.lan_schedule.specs.inside.Staged.{FindsLeft}
 use Rattle.lan_schedule.proofs.Dealing.{all-by, claims_by}
 use Rattle.lan_schedule.proofs.PartShown.{IsPlain, IsPlainBy}
+use Rattle.lan_schedule.proofs.Unspent.{facts-unspent}
 use Rattle.lan_schedule.proofs.WovenPart.{claimed_for, claims_of, followed-reverse, front_of, rest_of}
 
 -- ---- how many numbers
@@ -239,6 +242,34 @@ are-plain settings users (x ∷ part) r stepped low = (
       let rise = rises settings (x ∷ part) r s epoch in omega (arith, most, rise)),
   are-plain settings users part (x ∷ r) stepped (λ later. low (inr later)),
 )
+
+-- ---- no claim of it finds a key without a number left
+
+finds : (settings : Settings) (e : Event) (r : Run)
+    → (is_refused e ≡ true → (s epoch : ℕ) → next settings s epoch r ≤ last_number)
+    → FindsLeft settings r e
+finds settings (events.Claim s user pn) r low = λ none k is. low none s k.epoch
+finds settings (events.Start name sci priority) r low = tt
+finds settings (events.Tick s next) r low = tt
+finds settings (events.Deliver frame s) r low = tt
+finds settings (events.Restart s) r low = tt
+finds settings events.Emit r low = tt
+finds settings (events.Inject s octets) r low = tt
+
+pub part-unspent : (settings : Settings) (users : List UserFrame) (part : List Happening) (r : Run)
+    → IsStepped settings users (followed_by part r)
+    → (HasRefused part → (s epoch : ℕ) → next settings s epoch (followed_by part r) ≤ last_number)
+    → IsNeverSpent r → IsNeverSpent (followed_by part r)
+part-unspent settings users [] r stepped low never = never
+part-unspent settings users (x ∷ part) r stepped low never =
+    part-unspent settings users part (x ∷ r) stepped (λ later. low (inr later)) (
+      facts-unspent settings users r x.event (drawn_in x.facts) x.facts
+          (stepped-front settings users part (x ∷ r) stepped).0.shows
+          (finds settings x.event r (λ refused s epoch.
+          let most = low (inl refused) s epoch in
+          let rise = rises settings (x ∷ part) r s epoch in omega (arith, most, rise))),
+      never,
+    )
 
 -- ---- claims that wait
 

@@ -29,11 +29,11 @@ use Rattle.lan_schedule.specs.Acts.{Act, Goes, Stops, look, perform}
 use Rattle.lan_schedule.specs.Kinds.{may_stand, wrong_at}
 use Rattle.lan_schedule.specs.Kinds.{is_control, is_control_allowed, refusal, too_many}
 use Rattle.lan_schedule.specs.Kinds.{most_workers, is_burst_allowed, wrong_name}
-use Rattle.lan_schedule.specs.Lines.{act_of, deed, deed_at, deed_controlling, enter}
+use Rattle.lan_schedule.specs.Lines.{act_of, deed, deed_at, deed_controlling, enter, run_race}
 use Rattle.lan_schedule.specs.Lines.{unless_refused, behind_while, behind_race, burst_of, kept_line}
 use Rattle.lan_schedule.specs.Reports.{Report}
 use Rattle.lan_schedule.specs.Ends.{Moment, IsReached, Ends}
-use Rattle.lan_schedule.specs.Standing.{phase_of, AreBursts, AreFit, IsBurst, IsControl, IsStaged, HasTally, StandsFor, Counts, Does}
+use Rattle.lan_schedule.specs.Standing.{phase_of, AreFit, IsBurst, IsControl, IsStaged, HasTally, StandsFor, Counts, Does}
 use Rattle.lan_schedule.specs.Stages.{Says, StandsFor as StageStandsFor}
 use Rattle.lan_schedule.specs.inside.Phased.{is_inside, is_taken, is_end, behind, MayBeKept, Takes}
 use Rattle.lan_schedule.specs.Woven.{is_controlling, race_in}
@@ -42,6 +42,7 @@ use Rattle.lan_core.specs.Types.{IsUserFrame}
 use Rattle.trace_text.specs.Writing.{IsInForm}
 use Rattle.lan_schedule.proofs.Doing.{told-none, ends-memory}
 use Rattle.lan_schedule.proofs.LinesCome.{tidy-entered}
+use Rattle.lan_schedule.proofs.OnWay.{IsAs, as-self}
 use Rattle.lan_schedule.proofs.Replaying.{stood-apart}
 use Rattle.lan_schedule.proofs.Performing.{Places, place-is}
 
@@ -281,7 +282,7 @@ module _ {K : Type 0} {Took : K → Report → K → Type 0} {Broke : K → Repo
         (old new : Moment Replay K) → IsReached StandsFor w old.value → Counts w new.value
         → new.outlet ≡ old.outlet → w.kept.chances ≡ later
         → Takes line w new.value.phase (Err halt)
-        → Ends StandsFor (λ halt. Counts) Counts Took Broke w later (perform (act_of line) w) old.outlet new (Err halt)
+        → Ends StandsFor (λ halt. Counts) Counts Took Broke w later (act_of line) old.outlet new (Err halt)
     taken-early line w later halt old new reached counts same left (inl stops) = inl (record {
       world = w;
       stops = stops;
@@ -292,7 +293,7 @@ module _ {K : Type 0} {Took : K → Report → K → Type 0} {Broke : K → Repo
       same = refl;
     })
     taken-early line w later halt old new reached counts same left (inr memory) =
-        subst (λ (h : Halt). Ends StandsFor (λ halt. Counts) Counts Took Broke w later (perform (act_of line) w)
+        subst (λ (h : Halt). Ends StandsFor (λ halt. Counts) Counts Took Broke w later (act_of line)
         old.outlet new (Err h)) (sym memory)
         (ends-memory Took Broke StandsFor (λ halt. Counts) Counts (act_of line) w later old.outlet new reached.tidy
         counts same)
@@ -348,10 +349,10 @@ module _ {K : Type 0} {Took : K → Report → K → Type 0} {Broke : K → Repo
 -- a line that ends a race runs it
 pub ends-race : (line : Line) (w : World) (phase : Phase) → w.kept.phase ≡ phase
     → is_end phase line ≡ true
-    → perform (act_of line) w ≡ perform (look (λ w. race_in w.kept.phase w)) w
+    → IsAs (act_of line) w (look (λ w. race_in w.kept.phase w)) w
 ends-race lines.End w (Controlling bursts control) is ends =
-    ap (λ (p : Phase). perform (unless_refused (refusal_at lines.End w p) (deed_at lines.End w p)) w) is
-    ∙ ap (λ (p : Phase). perform (race_in p w) w) (sym is)
+    subst (λ (p : Phase). IsAs (unless_refused (refusal_at lines.End w p) (deed_at lines.End w p)) w
+    (race_in p w) w) (sym is) (as-self (run_race bursts control w) w)
 ends-race _ w (Controlling bursts control) is ends = absurd (cc ends)
 ends-race line w Apart is ends = absurd (cc ends)
 ends-race line w (Bursting bursts) is ends = absurd (cc ends)
@@ -366,9 +367,10 @@ end-controls line Racing ends = absurd (cc ends)
 
 -- a line outside a race is performed by the group at work
 pub same-apart : (line : Line) (w : World) (phase : Phase) → w.kept.phase ≡ phase
-    → is_inside phase ≡ false → perform (act_of line) w ≡ perform (act_apart line) w
+    → is_inside phase ≡ false → IsAs (act_of line) w (act_apart line) w
 same-apart line w Apart is outside =
-    ap (λ (p : Phase). perform (unless_refused (refusal_at line w p) (deed_at line w p)) w) is
+    subst (λ (p : Phase). IsAs (unless_refused (refusal_at line w p) (deed_at line w p)) w
+    (act_apart line) w) (sym is) (as-self (act_apart line) w)
 same-apart line w (Bursting bursts) is outside = absurd (cc outside)
 same-apart line w (Controlling bursts control) is outside = absurd (cc outside)
 same-apart line w Racing is outside = absurd (cc outside)

@@ -117,6 +117,7 @@ tidy-begun workers w tidy = record {
   numbered = tidy.numbered;
   in_turn = tidy.in_turn;
   few = λ calm. absurd (cc calm);
+  unspent = tidy.unspent;
   waits = tidy.waits;
   draws = tidy.draws;
   dealt = tidy.dealt;

@@ -33,12 +33,12 @@ use Rattle.lan_schedule.specs.declared.stage.Stage.{Stage}
 use Rattle.lan_schedule.specs.Races.{Chance, Numbered, Woven, Worker, behind_numbers}
 use Rattle.lan_schedule.specs.Races.{claims_in, count_numbered, woven_in}
 use Rattle.lan_schedule.specs.World.{World, is_racing, settings}
-use Rattle.lan_schedule.specs.Acts.{Course, Goes, Stops, after_race, begun_race, beside, emitting}
+use Rattle.lan_schedule.specs.Acts.{Act, Course, Goes, Stops, after_race, begun_race, beside, emitting}
 use Rattle.lan_schedule.specs.Acts.{emitting_all, ends_with, happen, is_stop, perform, race as race_act}
 use Rattle.lan_schedule.specs.Acts.{times, world_of}
 use Rattle.lan_schedule.specs.Lines.{control_act}
 use Rattle.lan_schedule.specs.Reports.{Report, reports}
-use Rattle.lan_schedule.specs.Ends.{Ends, IsReached, WasBroken, WasCut, WasTold, moment}
+use Rattle.lan_schedule.specs.Ends.{Ends, IsReached, WasBroken, WasCut, WasTold, WasToldTo, moment}
 use Rattle.lan_schedule.specs.Sound.{IsTidy}
 use Rattle.lan_schedule.specs.Stages.{Counts}
 use Rattle.lan_schedule.specs.Woven.{WasWoven, controlled_in}
@@ -232,7 +232,7 @@ module _ (w : World) (workers : List Worker) (lines : List Numbered) (now : Stag
 
     emit-ends : more ≡ emitted.did.chances
         → Ends (StandsSince (mark_of w has.begun)) (LeavesAt (mark_of w has.begun)) Counts KeepsReport
-        KeepsNoMore u rest (perform (times count (happen Emit)) u) first (moment new shown) result
+        KeepsNoMore u rest (times count (happen Emit)) first (moment new shown) result
     emit-ends own = emitted.did.ends (mark_of w has.begun) u rest
         (left-after w workers lines now ran has all false v at steady laws old mid es frames first
         merged is_old (more ++ rest) refl ∙ ap (λ (c : List Chance). c ++ rest) own)
@@ -313,28 +313,28 @@ module _ (w : World) (workers : List Worker) (lines : List Numbered) (now : Stag
         tidy apart (leaves-counts (mark_of w has.begun) halt x new leaves)
         (λ same. leaves-names (mark_of w has.begun) halt x new leaves ∙ same)
 
-no-memory : (w : World) (out : Course) (old new : List (List Fact)) (value : Stage) (halt : Halt)
+no-memory : (w : World) (IsOn : World → Type 0) (old new : List (List Fact)) (value : Stage) (halt : Halt)
     → (halt ≡ halts.Memory → ⊥)
-    → WasCut Counts KeepsReport KeepsNoMore w out old (moment value new) halt → ⊥
-no-memory w out old new value halt some cut = some (memory cut.cause) where
-  memory : ((halt ≡ halts.Memory) × WasTold KeepsReport w cut.world old new)
+    → WasCut Counts KeepsReport KeepsNoMore w IsOn old (moment value new) halt → ⊥
+no-memory w IsOn old new value halt some cut = some (memory cut.cause) where
+  memory : ((halt ≡ halts.Memory) × WasToldTo KeepsReport w cut.world IsOn old new)
       ⊎ WasBroken KeepsReport KeepsNoMore w cut.world old new halt → halt ≡ halts.Memory
   memory (inl both) = both.0
   memory (inr broken) = broken-memory w cut.world old new halt broken
 
 -- how emissions end, of which this is known
-module _ (mark : Mark) (w u : World) (later : List Chance) (emits : Course) (new : Stage)
+module _ (mark : Mark) (w u : World) (later : List Chance) (emit : Act) (new : Stage)
     (first shown : List (List Fact)) (apart : is_racing u.kept.phase ≡ false)
-    (done : (x : World) → emits ≡ Goes x → IsReached (StandsSince mark) x new
+    (done : (x : World) → perform emit u ≡ Goes x → IsReached (StandsSince mark) x new
     → WasTold KeepsReport u x first shown → is_racing x.kept.phase ≡ false → IsLeft w x new shown)
-    (ended : (x : World) (halt : Halt) → emits ≡ Stops x halt → IsTidy x → LeavesAt mark halt x new
+    (ended : (x : World) (halt : Halt) → perform emit u ≡ Stops x halt → IsTidy x → LeavesAt mark halt x new
     → WasTold KeepsReport u x first shown → is_racing x.kept.phase ≡ false
     → IsLeft w x new shown) where
   -- where control performed all its lines
   all-lines : (out : Course) (c : Result (Unit {0}) Halt) → (c ≡ Err halts.Memory → ⊥)
-      → Ends (StandsSince mark) (LeavesAt mark) Counts KeepsReport KeepsNoMore u later emits first
+      → Ends (StandsSince mark) (LeavesAt mark) Counts KeepsReport KeepsNoMore u later emit first
       (moment new shown) c
-      → out ≡ emits → Leaves w later out new shown c
+      → out ≡ perform emit u → Leaves w later out new shown c
   all-lines out (Ok tt) some h is = (
     h.0,
     is ∙ h.1,
@@ -349,14 +349,14 @@ module _ (mark : Mark) (w u : World) (later : List Chance) (emits : Course) (new
     h.left,
   )
   all-lines out (Err halt) some (inr h) is = absurd
-      (no-memory u emits first shown new halt (λ m. some (ap (λ (e : Halt). Err e) m)) h)
+      (no-memory u _ first shown new halt (λ m. some (ap (λ (e : Halt). Err e) m)) h)
 
   -- where one of them was refused
   some-lines : (out : Course) (halt : Halt) (c : Result (Unit {0}) Halt)
       → (c ≡ Err halts.Memory → ⊥)
-      → Ends (StandsSince mark) (LeavesAt mark) Counts KeepsReport KeepsNoMore u later emits first
+      → Ends (StandsSince mark) (LeavesAt mark) Counts KeepsReport KeepsNoMore u later emit first
       (moment new shown) c
-      → out ≡ ends_with halt emits → Leaves w later out new shown (Err halt)
+      → out ≡ ends_with halt (perform emit u) → Leaves w later out new shown (Err halt)
   some-lines out halt (Ok tt) some h is = (
     h.0,
     is ∙ ap (λ (o : Course). ends_with halt o) h.1,
@@ -370,7 +370,7 @@ module _ (mark : Mark) (w u : World) (later : List Chance) (emits : Course) (new
     h.left,
   )
   some-lines out halt (Err other) some (inr h) is = absurd
-      (no-memory u emits first shown new other (λ m. some (ap (λ (e : Halt). Err e) m)) h)
+      (no-memory u _ first shown new other (λ m. some (ap (λ (e : Halt). Err e) m)) h)
 
 -- what control did and the emissions behind it
 pub weaves-emitted : (ran : Ran) (old mid set new : Stage) (es : List Event)
@@ -395,7 +395,7 @@ weaves-emitted ran old mid set new es frames count first shown result laws going
         → Ends (StandsSince (mark_of w has.begun)) (LeavesAt (mark_of w has.begun)) Counts
         KeepsReport KeepsNoMore (begun_race workers w)
         (Woven (claims_from es) ∷ (emitted.did.chances ++ later))
-        (perform (control_act lines) (begun_race workers w)) []
+        (control_act lines) []
         (moment has.beside.moved ran.kept) c
         → Leaves w later (perform (race_act workers (control_act lines)) w) new shown
         (result_and c result)
@@ -404,12 +404,12 @@ weaves-emitted ran old mid set new es frames count first shown result laws going
         let more = emitted.did.chances in
         let all = Woven (claims_from es) ∷ (more ++ later) in
         let out = steered-ok w has.begun has.beside.moved ran.steps.items ran.kept all
-        has.beside.steps workers (perform (control_act lines) (begun_race workers w)) ends in
+        has.beside.steps workers (control_act lines) ends in
         let v = out.0 in
         let at = out.2 in
         let steady = steady-at w workers lines now ran has all v (Goes v) out.1 refl in
         let u = after_race workers w v in (
-          all-lines (mark_of w has.begun) w u later (perform (times count (happen Emit)) u) new first
+          all-lines (mark_of w has.begun) w u later (times count (happen Emit)) new first
               shown refl
               (done-so w workers lines now ran has more later v old mid es frames first at steady laws going
               merged is_old set new count shown result emitted)
@@ -428,7 +428,7 @@ weaves-emitted ran old mid set new es frames count first shown result laws going
         let more = emitted.did.chances in
         let all = Woven (claims_from es) ∷ (more ++ later) in
         let out = steered-err w has.begun has.beside.moved ran.steps.items ran.kept all
-        has.beside.steps workers (perform (control_act lines) (begun_race workers w)) halt
+        has.beside.steps workers (control_act lines) halt
         (λ memory. (let bad : false ≡ true = sym goes ∙ ap (λ (h : Halt). is_stop h) memory in
         cc bad)) ends in
         let v = out.0 in
@@ -436,7 +436,7 @@ weaves-emitted ran old mid set new es frames count first shown result laws going
         b v) goes out.2 in
         let steady = steady-at w workers lines now ran has all v (Stops v halt) out.1 refl in
         let u = after_race workers w v in (
-          some-lines (mark_of w has.begun) w u later (perform (times count (happen Emit)) u) new first
+          some-lines (mark_of w has.begun) w u later (times count (happen Emit)) new first
               shown refl
               (done-so w workers lines now ran has more later v old mid es frames first at steady laws going
               merged is_old set new count shown result emitted)

@@ -71,7 +71,7 @@ module _ (w : World) (workers : List Worker) (lines : List Numbered) (now : Stag
   pub control-ends : w.kept.chances ≡ has.beside.did.chances ++ later
       → Ends (StandsSince (mark_of w has.begun)) (LeavesAt (mark_of w has.begun)) Counts
       KeepsReport KeepsNoMore (begun_race workers w) later
-      (perform (control_act lines) (begun_race workers w)) []
+      (control_act lines) []
       (moment has.beside.moved ran.kept) ran.came
   control-ends left = has.beside.did.ends (mark_of w has.begun) (begun_race workers w) later left
       (record { stands = has.hired.stands; tidy = has.hired.tidy }) has.comes.1
@@ -199,7 +199,7 @@ weaves-stopped ran old new es frames shown laws some stopped merged = record {
       → (c : Result (Unit {0}) Halt) → has_stopped c ≡ true → (c ≡ Err halts.Memory → ⊥)
       → Ends (StandsSince (mark_of w has.begun)) (LeavesAt (mark_of w has.begun)) Counts
       KeepsReport KeepsNoMore (begun_race workers w) (Woven (claims_from es) ∷ later)
-      (perform (control_act lines) (begun_race workers w)) []
+      (control_act lines) []
       (moment has.beside.moved ran.kept) c
       → Leaves w later (perform (race_act workers (control_act lines)) w) new shown c
       × WasWoven w workers lines has.first.words new.words
@@ -207,7 +207,7 @@ weaves-stopped ran old new es frames shown laws some stopped merged = record {
   by w later workers lines now has is_old (Err halt) stop some ends =
       let all = Woven (claims_from es) ∷ later in
       let out = steered-err w has.begun has.beside.moved ran.steps.items ran.kept all
-      has.beside.steps workers (perform (control_act lines) (begun_race workers w)) halt
+      has.beside.steps workers (control_act lines) halt
       (λ memory. some (ap (λ (h : Halt). Err h) memory)) ends in
       let v = out.0 in
       let steady = steady-at w workers lines now ran has all v (Stops v halt) out.1 refl in

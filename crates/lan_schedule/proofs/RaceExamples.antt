@@ -37,7 +37,7 @@ use Rattle.lan_schedule.specs.World.{World, nothing_kept}
 use Rattle.lan_schedule.specs.Numbers.{decided, stands}
 use Rattle.lan_schedule.specs.Acts.{Course, Goes, Stops, perform, and_then, world_of, each}
 use Rattle.lan_schedule.specs.Kinds.{refusal}
-use Rattle.lan_schedule.specs.Lines.{numbered, close, run_race}
+use Rattle.lan_schedule.specs.Lines.{numbered, close, line_after, round_after, run_race}
 
 opens : ℕ
 unfolding refused accepted outcome says hopes known received latest old transmitting peers_of keys_of elected view ending stations air births installs claims life receiving next claimed expected drawn_saks first_stop mi_number sak_number draws_in
@@ -345,3 +345,14 @@ not_below = refl
 
 below : stands true 7 6 ≡ false
 below = refl
+
+-- ---- counts that stand still
+
+first_line : line_after 0 ≡ 1
+first_line = refl
+
+no_line_behind : line_after 4294967295 ≡ 4294967295
+no_line_behind = refl
+
+no_round_behind : round_after 18446744073709551615 ≡ 18446744073709551615
+no_round_behind = refl

@@ -30,10 +30,11 @@ use Rattle.worker_races.specs.Performed.{happenings}
 use Rattle.worker_races.specs.Senders.{IsNew}
 use Rattle.lan_schedule.specs.Races.{Chance, Claimed, Shown, Woven, behind_numbers, behind_woven}
 use Rattle.lan_schedule.specs.Races.{woven_in}
+use Rattle.lan_schedule.specs.Sound.{IsNeverSpent}
 use Rattle.lan_schedule.specs.inside.Weaves.{facts_in, shown_in}
 use Rattle.lan_schedule.proofs.Dealt.{claims-jobs}
 use Rattle.lan_schedule.proofs.FewNext.{next-few}
-use Rattle.lan_schedule.proofs.PartClaims.{HasRefused, are-plain, claims-numbered, refused-fewer}
+use Rattle.lan_schedule.proofs.PartClaims.{HasRefused, are-plain, claims-numbered, part-unspent, refused-fewer}
 use Rattle.lan_schedule.proofs.PartReports.{facts_by}
 use Rattle.lan_schedule.proofs.PartShown.{woven-shown}
 use Rattle.lan_schedule.proofs.WovenPart.{claimed_for, claims_of, front_by, front_of, rest_by, rest_of}
@@ -202,6 +203,11 @@ module _ (race : Race) (is : WereBeside race) (es : List Event) (part : List Hap
       new-workers at.woven in
       let most = is.claims_few in
       omega (arith, bound, few, all, fewer, jobs, most)
+
+  -- no claim of it finds a key without a number left
+  pub unspent-part : IsNeverSpent race.run → IsNeverSpent (followed_by part race.run)
+  unspent-part never =
+      part-unspent race.settings race.users part race.run at.legal.stepped next-low never
 
   -- its events show what it shows
   pub shown-part : shown_in es (facts_by (happenings race.performed)) (frames_of es (logs_in race))

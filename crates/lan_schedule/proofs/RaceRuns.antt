@@ -1,6 +1,6 @@
 -- A race is run: its workers have the tables of the words still, and what its parts did is what the
 -- whole race does.
-use Rattle.std.proofs.Common.{◌≡◌, ◌<◌, ◌+◌, ℕ, Bool, true, false, List, [], ◌∷◌, ◌++◌, length, Some, None, refl, sym, ap}
+use Rattle.std.proofs.Common.{◌≡◌, ◌<◌, ℕ, Bool, true, false, List, [], ◌∷◌, ◌++◌, length, Some, None, refl, sym, ap}
 use Rattle.std.proofs.Common.{◌∙◌, subst, inl, inr, arith, take, drop, append-nil}
 use Rattle.std.proofs.lemmas.List.{length-append, length-map, take_all, drop_all}
 use Rattle.std.specs.List.{AllByRecursion}
@@ -142,7 +142,7 @@ module _ {K : Type 0} {Took : K → Report → K → Type 0} {Broke : K → Repo
         by : (w : World) (later : List Chance) → w.kept.chances ≡ later
             → IsReached StandsFor w old.value → IsUnhired w bursts control halt
             → Ends StandsFor (λ halt. Counts) Counts Took Broke w later
-            (perform (run_race bursts control w) w) old.outlet new (Err halt)
+            (run_race bursts control w) old.outlet new (Err halt)
         by w later left reached (inl stops) = inl (record {
           world = w;
           stops = stops;
@@ -154,7 +154,7 @@ module _ {K : Type 0} {Took : K → Report → K → Type 0} {Broke : K → Repo
         })
         by w later left reached (inr memory) =
             subst (λ (h : Halt). Ends StandsFor (λ halt. Counts) Counts Took Broke w later
-            (perform (run_race bursts control w) w) old.outlet new (Err h)) (sym memory)
+            (run_race bursts control w) old.outlet new (Err h)) (sym memory)
             (ends-memory Took Broke StandsFor (λ halt. Counts) Counts (run_race bursts control w) w
             later old.outlet new reached.tidy (tally ∙ reached.stands.tally) outlet)
 
@@ -175,7 +175,7 @@ module _ {K : Type 0} {Took : K → Report → K → Type 0} {Broke : K → Repo
               let act : Act = race (workers_of bursts) (control_act control) in
               let may : Comes act w = subst (λ (o : Option Excess). Comes (unless_exceeded o act) w) are.1 comes in
               subst (λ (o : Option Excess). Ends StandsFor (λ halt. Counts) Counts Took Broke w later
-              (perform (unless_exceeded o act) w) k new result) (sym are.1)
+              (unless_exceeded o act) k new result) (sym are.1)
               (ended.ends w later (workers_of bursts) control (record {
                 first = old;
                 reached = reached;

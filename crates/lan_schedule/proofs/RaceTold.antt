@@ -1,10 +1,10 @@
 -- What was woven is told, event by event, and so a race ends.
-use Rattle.std.proofs.Common.{◌≡◌, ℕ, ◌+◌, true, false, List, [], ◌∷◌, ◌++◌, refl, sym, ap, ◌∙◌}
-use Rattle.std.proofs.Common.{subst, inl, inr, append_assoc, append-nil}
+use Rattle.std.proofs.Common.{◌≡◌, ◌<◌, ◌≤◌, ℕ, ◌+◌, true, false, List, [], ◌∷◌, ◌++◌, length, length-append}
+use Rattle.std.proofs.Common.{refl, sym, ap, ◌∙◌, subst, inl, inr, append_assoc, append-nil, arith}
 use Rattle.std.specs.Prelude.{MatchResult, Result, Ok, Err}
 use Rattle.std.specs.Result.{IsErrAnd}
 use Rattle.std.proofs.lemmas.Result.{err_from_is_err_and}
-use Rattle.std.proofs.lemmas.List.{map-append}
+use Rattle.std.proofs.lemmas.List.{length-map}
 use Rattle.lan_core.specs.declared.fact.Fact.{Fact}
 use Rattle.lan_core.specs.Run.{facts_of}
 use Rattle.fact_tally.specs.Summary.{counts}
@@ -15,64 +15,109 @@ use Rattle.trace_acts.specs.Halts.{halt_of_broken}
 use Rattle.lan_schedule.specs.declared.race.Before.{Before}
 use Rattle.lan_schedule.specs.declared.race.Ran.{Ran}
 use Rattle.lan_schedule.specs.declared.stage.Stage.{Stage}
-use Rattle.lan_schedule.specs.Races.{Chance}
+use Rattle.lan_schedule.specs.Races.{Chance, Numbered, Worker}
 use Rattle.lan_schedule.specs.World.{World, is_racing}
-use Rattle.lan_schedule.specs.Acts.{Course, perform, race}
+use Rattle.lan_schedule.specs.Acts.{Act, Course, perform, race, world_of}
 use Rattle.lan_schedule.specs.Lines.{control_act}
 use Rattle.lan_schedule.specs.Reports.{AreTold, Report, reports}
-use Rattle.lan_schedule.specs.Ends.{Begins, Ends, Moment, moment, reported}
+use Rattle.lan_schedule.specs.Ends.{Ends, Moment, moment}
 use Rattle.lan_schedule.specs.Stages.{Counts, StandsFor}
 use Rattle.lan_schedule.specs.inside.Beside.{EndsRace, IsLeft, Leaves, Weaves}
 use Rattle.lan_schedule.specs.inside.Weaves.{WereToldUpTo, reports_with}
 use Rattle.lan_schedule.proofs.Doing.{ends-memory, told-both}
-use Rattle.lan_schedule.proofs.Racing.{begins-self}
 
 -- ---- told one by one
 
-module _ {K : Type 0} (Took : K → Report → K → Type 0) where
-  pub told-more : (names : List (List ℕ)) (told : List (List Fact)) (facts : List Fact) (a b c : K)
-      → AreTold Took a (reports_with names told) b
-      → Took b (record { names = names; facts = facts }) c
-      → AreTold Took a (reports_with names (told ++ facts ∷ [])) c
-  told-more names told facts a b c before took =
-      subst (λ (l : List Report). AreTold Took a l c)
-      (sym (map-append (λ (facts : List Fact). record { names = names; facts = facts }) told
-      (facts ∷ [])))
-      (told-both Took a b c (reports_with names told) (record { names = names; facts = facts } ∷ [])
-      before (c, took, refl))
+-- so many of them were told, and the others are ready
+pub record HasTold {S K : Type 0} (Ready : S → List Report → Type 0)
+    (Took : K → Report → K → Type 0) (all : List Report) (count : ℕ) (start : K) (recorder : S)
+    (now : K) : Type 0 where
+  pub told : List Report
+  pub left : List Report
+  pub parts : told ++ left ≡ all
+  pub many : length told ≡ count
+  pub by_one : AreTold Took start told now
+  pub ready : Ready recorder left
 
-  pub told-whole : (names : List (List ℕ)) (told shown whole : List (List Fact)) (a b : K)
-      → AreTold Took a (reports_with names told) b → told ++ shown ≡ whole → shown ≡ []
-      → AreTold Took a (reports_with names whole) b
-  told-whole names told shown whole a b before is none =
-      subst (λ (l : List (List Fact)). AreTold Took a (reports_with names l) b)
-      (sym (append-nil told) ∙ ap (λ (l : List (List Fact)). told ++ l) (sym none) ∙ is) before
+module _ {S K : Type 0} (Ready : S → List Report → Type 0) (Took : K → Report → K → Type 0)
+    (all : List Report) where
+  pub told-none : (start : K) (recorder : S) → Ready recorder all
+      → HasTold Ready Took all 0 start recorder start
+  told-none start recorder ready = record {
+    told = [];
+    left = all;
+    parts = refl;
+    many = refl;
+    by_one = refl;
+    ready = ready;
+  }
 
-pub told-next : (told shown rest whole : List (List Fact)) (facts : List Fact)
-    → told ++ shown ≡ whole → shown ≡ facts ∷ rest → (told ++ facts ∷ []) ++ rest ≡ whole
-told-next told shown rest whole facts is front =
-    append_assoc told (facts ∷ []) rest
-    ∙ ap (λ (l : List (List Fact)). told ++ l) (sym front) ∙ is
+  -- there is one left
+  none-left : (count many : ℕ) (told : List Report) → count < many → length all ≡ many
+      → length told ≡ count → told ++ [] ≡ all → ⊥
+  none-left count many told less long so_far parts =
+      let whole = length-append told [] in
+      let same = ap length parts in
+      omega (arith, whole, same, so_far, less, long)
 
--- the recorder broke at a report
-pub told-upto : {K : Type 0} (Took : K → Report → K → Type 0)
-    (Broke : K → Report → K → Broken → Type 0) (names : List (List ℕ))
-    (told shown rest whole : List (List Fact)) (facts : List Fact) (a b c : K) (why : Broken)
-    → AreTold Took a (reports_with names told) b → told ++ shown ≡ whole → shown ≡ facts ∷ rest
-    → Broke b (record { names = names; facts = facts }) c why
-    → WereToldUpTo Took Broke (reports_with names whole) a c why
-told-upto Took Broke names told shown rest whole facts a b c why before is front broke = record {
-  told = reports_with names told;
-  last = record { names = names; facts = facts };
-  behind = reports_with names rest;
-  parts = ap (λ (l : List (List Fact)). reports_with names l)
-      (sym is ∙ ap (λ (l : List (List Fact)). told ++ l) front)
-      ∙ map-append (λ (facts : List Fact). record { names = names; facts = facts }) told
-      (facts ∷ rest);
-  before = b;
-  by_one = before;
-  breaks = broke;
-}
+  pub told-next : (count many : ℕ) (start a b : K) (s t : S) → count < many → length all ≡ many
+      → HasTold Ready Took all count start s a
+      → ((report : Report) (later : List Report) → Ready s (report ∷ later)
+      → Took a report b × Ready t later)
+      → HasTold Ready Took all (count + 1) start t b
+  told-next count many start a b s t less long h step = go h.left h.parts h.ready
+    where
+      go : (left : List Report) → h.told ++ left ≡ all → Ready s left
+          → HasTold Ready Took all (count + 1) start t b
+      go [] parts ready = absurd (none-left count many h.told less long h.many parts)
+      go (report ∷ later) parts ready =
+          let next = step report later ready in record {
+            told = h.told ++ report ∷ [];
+            left = later;
+            parts = append_assoc h.told (report ∷ []) later ∙ parts;
+            many = (let more = length-append h.told (report ∷ []) in let so_far = h.many in
+                omega (arith, more, so_far));
+            by_one = told-both Took start a b h.told (report ∷ []) h.by_one (b, next.0, refl);
+            ready = next.1;
+          }
+
+  pub told-stops : (Broke : K → Report → K → Broken → Type 0) (count many : ℕ) (start a b : K) (s : S)
+      (why : Broken) → count < many → length all ≡ many → HasTold Ready Took all count start s a
+      → ((report : Report) (later : List Report) → Ready s (report ∷ later) → Broke a report b why)
+      → WereToldUpTo Took Broke all start b why
+  told-stops Broke count many start a b s why less long h step = go h.left h.parts h.ready
+    where
+      go : (left : List Report) → h.told ++ left ≡ all → Ready s left
+          → WereToldUpTo Took Broke all start b why
+      go [] parts ready = absurd (none-left count many h.told less long h.many parts)
+      go (report ∷ later) parts ready = record {
+        told = h.told;
+        last = report;
+        behind = later;
+        parts = sym parts;
+        before = a;
+        by_one = h.by_one;
+        breaks = step report later ready;
+      }
+
+  pub told-all : (count many : ℕ) (start a : K) (s : S) → many ≤ count → length all ≡ many
+      → HasTold Ready Took all count start s a → AreTold Took start all a
+  told-all count many start a s less long h = go h.left h.parts
+    where
+      go : (left : List Report) → h.told ++ left ≡ all → AreTold Took start all a
+      go [] parts = subst (λ (l : List Report). AreTold Took start l a)
+          (sym (append-nil h.told) ∙ parts) h.by_one
+      go (report ∷ later) parts =
+          let whole = length-append h.told (report ∷ later) in
+          let same = ap length parts in
+          let so_far = h.many in
+          absurd (omega (arith, whole, same, so_far, less, long))
+
+-- how many reports there are of what was kept
+pub reports-many : (names : List (List ℕ)) (shown : List (List Fact)) (count : ℕ)
+    → count ≡ length shown → length (reports_with names shown) ≡ count
+reports-many names shown count is =
+    length-map shown (λ (facts : List Fact). record { names = names; facts = facts }) ∙ sym is
 
 -- an error that `?` hands on
 pub match-err : (A : Unit {0} → Type 0) (B : Broken → Type 0) (r : Result (Unit {0}) Broken)
@@ -101,15 +146,15 @@ module _ {K : Type 0} (Took : K → Report → K → Type 0) (Broke : K → Repo
   race-told shown came l weaves told = record {
     chances = weaves.chances;
     ends = λ w later workers lines has left line tally.
-        by w later (perform (race workers (control_act lines)) w) has.apart came
+        by w later (race workers (control_act lines)) has.apart came
         (weaves.leaves w later workers lines now has left (old-at w line tally)).0;
     woven = λ w later workers lines has left line tally memory.
         (weaves.leaves w later workers lines now has left (old-at w line tally)).1;
   } where
-    by : (w : World) (later : List Chance) (out : Course) → is_racing w.kept.phase ≡ false
-        → (c : Result (Unit {0}) Halt) → Leaves w later out new shown c
-        → Ends StandsFor (λ halt. Counts) Counts Took Broke w later out k (moment new l) c
-    by w later out apart (Ok tt) h = (
+    by : (w : World) (later : List Chance) (act : Act) → is_racing w.kept.phase ≡ false
+        → (c : Result (Unit {0}) Halt) → Leaves w later (perform act w) new shown c
+        → Ends StandsFor (λ halt. Counts) Counts Took Broke w later act k (moment new l) c
+    by w later act apart (Ok tt) h = (
       h.0,
       h.1,
       record { stands = h.3; tidy = h.2.tidy },
@@ -117,7 +162,7 @@ module _ {K : Type 0} (Took : K → Report → K → Type 0) (Broke : K → Repo
       h.4,
       h.2.apart ∙ sym apart,
     )
-    by w later out apart (Err halt) h = inl (record {
+    by w later act apart (Err halt) h = inl (record {
       world = h.0;
       stops = h.1;
       tidy = h.2.tidy;
@@ -139,22 +184,22 @@ module _ {K : Type 0} (Took : K → Report → K → Type 0) (Broke : K → Repo
   race-broken shown came l why weaves told = record {
     chances = weaves.chances;
     ends = λ w later workers lines has left line tally.
-        by w later (perform (race workers (control_act lines)) w) has.apart came
+        by w later workers lines has.apart came
         (weaves.leaves w later workers lines now has left (old-at w line tally)).0;
     woven = λ w later workers lines has left line tally memory.
         (weaves.leaves w later workers lines now has left (old-at w line tally)).1;
   } where
-    cut : (w : World) (later : List Chance) (out : Course) → is_racing w.kept.phase ≡ false
-        → (v : World) → IsLeft w v new shown → reported out ≡ reports v.run
-        → Ends StandsFor (λ halt. Counts) Counts Took Broke w later out k (moment new l)
-        (Err (halt_of_broken why))
-    cut w later out apart v left same = inr (record {
+    cut : (w : World) (later : List Chance) (workers : List Worker) (lines : List Numbered)
+        → is_racing w.kept.phase ≡ false → (v : World) → IsLeft w v new shown
+        → world_of (perform (race workers (control_act lines)) w) ≡ v
+        → Ends StandsFor (λ halt. Counts) Counts Took Broke w later (race workers (control_act lines)) k
+        (moment new l) (Err (halt_of_broken why))
+    cut w later workers lines apart v left comes = inr (record {
       world = v;
       tidy = left.tidy;
       counts = left.counts;
       same = left.apart ∙ sym apart;
-      begins = subst (λ (text : List Report). Begins (reports v.run) text) (sym same)
-          (begins-self (reports v.run));
+      on_way = inr (sym comes);
       cause = inr (record {
         told = told.told;
         last = told.last;
@@ -169,14 +214,15 @@ module _ {K : Type 0} (Took : K → Report → K → Type 0) (Broke : K → Repo
       });
     })
 
-    by : (w : World) (later : List Chance) (out : Course) → is_racing w.kept.phase ≡ false
-        → (c : Result (Unit {0}) Halt) → Leaves w later out new shown c
-        → Ends StandsFor (λ halt. Counts) Counts Took Broke w later out k (moment new l)
-        (Err (halt_of_broken why))
-    by w later out apart (Ok tt) h =
-        cut w later out apart h.0 h.2 (ap (λ (o : Course). reported o) h.1)
-    by w later out apart (Err halt) h =
-        cut w later out apart h.0 h.2 (ap (λ (o : Course). reported o) h.1)
+    by : (w : World) (later : List Chance) (workers : List Worker) (lines : List Numbered)
+        → is_racing w.kept.phase ≡ false → (c : Result (Unit {0}) Halt)
+        → Leaves w later (perform (race workers (control_act lines)) w) new shown c
+        → Ends StandsFor (λ halt. Counts) Counts Took Broke w later (race workers (control_act lines)) k
+        (moment new l) (Err (halt_of_broken why))
+    by w later workers lines apart (Ok tt) h =
+        cut w later workers lines apart h.0 h.2 (ap (λ (o : Course). world_of o) h.1)
+    by w later workers lines apart (Err halt) h =
+        cut w later workers lines apart h.0 h.2 (ap (λ (o : Course). world_of o) h.1)
 
 -- no memory
 pub race-wanting : {K : Type 0} (Took : K → Report → K → Type 0)

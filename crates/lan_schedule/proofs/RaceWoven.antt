@@ -48,7 +48,7 @@ use Rattle.lan_schedule.proofs.PartReports.{StartsNone, facts_by, names-stay, pe
 use Rattle.lan_schedule.proofs.PartReports.{reports-part, told-facts, woven-start-none}
 use Rattle.lan_schedule.proofs.PartTidy.{claimed-more, claimed-still, fresh-part, unforged-part}
 use Rattle.lan_schedule.proofs.RaceOf.{on-run, race, same-settings, were-beside}
-use Rattle.lan_schedule.proofs.RacePart.{IsPart, claims-same, claims_from, facts-part, shown-part}
+use Rattle.lan_schedule.proofs.RacePart.{IsPart, claims-same, claims_from, facts-part, shown-part, unspent-part}
 use Rattle.lan_schedule.proofs.Steered.{IsSteered}
 use Rattle.lan_schedule.proofs.WovenPart.{after-woven, claims_of}
 
@@ -217,6 +217,8 @@ module _ (w : World) (workers : List Worker) (lines : List Numbered) (now : Stag
     numbered = subst AreNumbered (sym alike.on_air) at.tidy.numbered;
     in_turn = (let wait = wait-whole in omega (arith, wait));
     few = λ calm. absurd (let bad : true ≡ false = sym at.raced ∙ calm in cc bad);
+    unspent = unspent-part r (were-beside w workers lines now ran has later stopped v at steady) es part is
+        has.reached.tidy.unspent;
     waits = λ none. absurd
         (let begun : v.kept.begun ≡ true = steady.begun ∙ has.reached.stands.begun in
         let bad : true ≡ false = sym begun ∙ none in cc bad);

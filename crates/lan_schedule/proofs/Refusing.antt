@@ -5,7 +5,6 @@ use Rattle.std.specs.Prelude.{map, not}
 use Rattle.lan_base.specs.declared.address.Sci.{Sci}
 use Rattle.lan_core.specs.Run.{stations}
 use Rattle.trace_text.specs.declared.line.Line.{Line}
-use Rattle.trace_text.specs.declared.line.Line.TheVariants as lines
 use Rattle.trace_acts.specs.declared.halt.Kind.TheVariants as kinds
 use Rattle.trace_acts.specs.Names.{names_of, scis_of}
 use Rattle.trace_acts.specs.Kinds.{first_of, is_allowed}

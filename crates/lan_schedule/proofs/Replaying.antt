@@ -17,7 +17,6 @@ use Rattle.lan_schedule.specs.declared.phase.Phase.{Phase as Stood}
 use Rattle.lan_schedule.specs.Races.{Apart, Burst, Chance, Numbered, Phase, Controlling}
 use Rattle.lan_schedule.specs.World.{World, Kept, nothing_kept, is_racing}
 use Rattle.lan_schedule.specs.Acts.{Act, nothing, change, seq, perform, Course, Goes, Stops}
-use Rattle.lan_schedule.specs.Acts.{and_then}
 use Rattle.lan_schedule.specs.Lines.{begin_line, at_line, performed, performed_all}
 use Rattle.lan_schedule.specs.Reports.{Report}
 use Rattle.lan_schedule.specs.Sound.{IsTidy}
@@ -35,6 +34,7 @@ use Rattle.lan_schedule.specs.Acts.{begun_race, race, world_of, look}
 use Rattle.lan_schedule.specs.Lines.{control_act, excess_of, run_race, unless_exceeded}
 use Rattle.lan_schedule.specs.Woven.{is_controlling, race_in}
 use Rattle.lan_schedule.specs.inside.Beside.{DidRace}
+use Rattle.lan_schedule.proofs.OnWay.{IsAs, as-append, as-left}
 use Rattle.lan_schedule.proofs.Recorded.{since-apart, leaves-counts}
 use Rattle.lan_schedule.proofs.LinesCome.{tidy-same}
 use Rattle.lan_schedule.proofs.RunNone.{race-raced}
@@ -49,31 +49,18 @@ has-tally w replay (Some stage) h = h.tally
 pub stands-counts : (w : World) (replay : Replay) → StandsFor w replay → Counts w replay
 stands-counts w replay stands = has-tally w replay replay.stage stands.stage
 
--- so many lists of lines, one after the other
-and-assoc : (out : Course) (g h : World → Course)
-    → and_then out (λ v. and_then (g v) h) ≡ and_then (and_then out g) h
-and-assoc (Goes w) g h = refl
-and-assoc (Stops w why) g h = refl
-
-pub each-append : (xs ys : List (List ℕ)) (w : World)
-    → perform (performed_all (xs ++ ys)) w ≡ perform (seq (performed_all xs) (performed_all ys)) w
-each-append [] ys w = refl
-each-append (x ∷ xs) ys w =
-    ap (λ (g : World → Course). and_then (perform (performed x) w) g) (λ i v. each-append xs ys v i)
-    ∙ and-assoc (perform (performed x) w) (λ v. perform (performed_all xs) v)
-    (λ v. perform (performed_all ys) v)
-
 module _ {K : Type 0} {Took : K → Report → K → Type 0} {Broke : K → Report → K → Broken → Type 0}
   where
     -- an act that comes to the same
     unfoldable pub same-act : (f g : Act) (old new : Moment Replay K) (r : Result (Unit {0}) Halt)
-        → ((w : World) → StandsFor w old.value → perform f w ≡ perform g w)
+        → ((w : World) → StandsFor w old.value → IsAs f w g w)
         → Does Took Broke g old new r → Does Took Broke f old new r
-    same-act f g old new r same d = record {
+    same-act f g old new r alike d = record {
       chances = d.chances;
       ends = λ w later is reached.
-          subst (λ (out : Course). Ends StandsFor (λ halt. Counts) Counts Took Broke w later out old.outlet new r)
-          (sym (same w reached.stands)) (d.ends w later is reached);
+          ends-behind Took Broke StandsFor (λ halt. Counts) Counts f g w w later old.outlet old.outlet
+          new r (told-none w w old.outlet old.outlet refl refl) refl (alike w reached.stands)
+          (d.ends w later is reached);
     }
 
     -- the first act ended early
@@ -82,7 +69,7 @@ module _ {K : Type 0} {Took : K → Report → K → Type 0} {Broke : K → Repo
     then-err f g old new e d = record {
       chances = d.chances;
       ends = λ w later is reached.
-          ends-early Took Broke StandsFor (λ halt. Counts) Counts w later (perform f w) g old.outlet new e
+          ends-early Took Broke StandsFor (λ halt. Counts) Counts f g w later old.outlet new e
           (d.ends w later is reached);
     }
 
@@ -95,10 +82,9 @@ module _ {K : Type 0} {Took : K → Report → K → Type 0} {Broke : K → Repo
       ends = λ w later is reached.
           let first = d.ends w (e.chances ++ later)
           (both-chances w.kept.chances d.chances e.chances later is) reached in
-          subst (λ (out : Course). Ends StandsFor (λ halt. Counts) Counts Took Broke w later
-          (and_then out (λ v. perform g v)) old.outlet new r) (sym first.1)
-          (ends-behind Took Broke StandsFor (λ halt. Counts) Counts w first.0 later (perform g first.0) old.outlet mid.outlet new
-          r first.3 first.5 (e.ends first.0 later first.4 first.2));
+          ends-behind Took Broke StandsFor (λ halt. Counts) Counts (seq f g) g w first.0 later
+          old.outlet mid.outlet new r first.3 first.5 (as-left f g w first.0 first.1)
+          (e.ends first.0 later first.4 first.2);
     }
 
     pub does-none : (now : Moment Replay K) → Does Took Broke nothing now now (Ok tt)
@@ -112,14 +98,14 @@ module _ {K : Type 0} {Took : K → Report → K → Type 0} {Broke : K → Repo
         → Does Took Broke (performed_all xs) a b (Ok tt) → Does Took Broke (performed_all ys) b c r
         → Does Took Broke (performed_all (xs ++ ys)) a c r
     does-more a b c xs ys r d e =
-        same-act _ _ a c r (λ w stands. each-append xs ys w)
+        same-act _ _ a c r (λ w stands. as-append xs ys w)
         (then-ok (performed_all xs) (performed_all ys) a b c r d e)
 
     pub does-early : (a b : Moment Replay K) (xs ys : List (List ℕ)) (e : Halt)
         → Does Took Broke (performed_all xs) a b (Err e)
         → Does Took Broke (performed_all (xs ++ ys)) a b (Err e)
     does-early a b xs ys e d =
-        same-act _ _ a b (Err e) (λ w stands. each-append xs ys w)
+        same-act _ _ a b (Err e) (λ w stands. as-append xs ys w)
         (then-err (performed_all xs) (performed_all ys) a b e d)
 
     -- one line
@@ -162,7 +148,7 @@ module _ {K : Type 0} {Took : K → Report → K → Type 0} {Broke : K → Repo
     halted-does act old k x y e tells d = record {
       chances = d.chances;
       ends = λ w later is reached.
-          ends-seen Took Broke StandsFor (λ halt. Counts) Counts StandsFor (λ halt. Counts) Counts w later (perform act w) old.outlet k x y (Err e)
+          ends-seen Took Broke StandsFor (λ halt. Counts) Counts StandsFor (λ halt. Counts) Counts w later act old.outlet k x y (Err e)
           (λ v goes e. absurd (cc e)) (λ v halt. tells v) tells (d.ends w later is reached);
     }
 
@@ -212,16 +198,16 @@ stood-apart (stood.Controlling bursts control) = refl
 
 module _ {K : Type 0} (Took : K → Report → K → Type 0) (Broke : K → Report → K → Broken → Type 0)
   where
-    staged-ends : (mark : Mark) (w : World) (later : List Chance) (out : Course) (a k : K) (stage : Stage)
+    staged-ends : (mark : Mark) (w : World) (later : List Chance) (act : Act) (a k : K) (stage : Stage)
         (replay : Replay) (r : Result (Unit {0}) Halt) → replay.stage ≡ Some stage
         → (r ≡ Ok tt → replay.halted ≡ None)
-        → ((v : World) → out ≡ Goes v → v.kept.phase ≡ phase_of replay.phase)
-        → ((v : World) → out ≡ Goes v → v.kept.phase ≡ Apart)
-        → Ends (StandsSince mark) (LeavesAt mark) StageCounts Took Broke w later out a (moment stage k) r
-        → Ends StandsFor (λ halt. Counts) Counts Took Broke w later out a (moment replay k) r
-    staged-ends mark w later out a k stage replay r is goes phase apart h =
+        → ((v : World) → perform act w ≡ Goes v → v.kept.phase ≡ phase_of replay.phase)
+        → ((v : World) → perform act w ≡ Goes v → v.kept.phase ≡ Apart)
+        → Ends (StandsSince mark) (LeavesAt mark) StageCounts Took Broke w later act a (moment stage k) r
+        → Ends StandsFor (λ halt. Counts) Counts Took Broke w later act a (moment replay k) r
+    staged-ends mark w later act a k stage replay r is goes phase apart h =
         ends-seen Took Broke (StandsSince mark) (LeavesAt mark) StageCounts StandsFor
-        (λ halt. Counts) Counts w later out a k stage replay r
+        (λ halt. Counts) Counts w later act a k stage replay r
         (λ v there e stands. record {
           goes = goes e;
           phase = phase v there;
@@ -248,7 +234,7 @@ module _ {K : Type 0} {Took : K → Report → K → Type 0} {Broke : K → Repo
       ends = λ w rest left reached.
           let inner : StageStandsFor w stage =
           subst (λ (o : Option Stage). IsStaged w old.value o) is_old reached.stands.stage in
-          staged-ends Took Broke nowhere w rest (perform act w) old.outlet new.outlet later new.value r is_new
+          staged-ends Took Broke nowhere w rest act old.outlet new.outlet later new.value r is_new
           (λ e. halted ∙ reached.stands.goes)
           (λ v there. stays act w v still there ∙ reached.stands.phase
           ∙ ap (λ (p : Stood). phase_of p) (sym phase))
@@ -269,7 +255,7 @@ module _ {K : Type 0} {Took : K → Report → K → Type 0} {Broke : K → Repo
         → ((w : World) → (begins w).kept.phase ≡ w.kept.phase) → IsStill act
         → ((w : World) → StandsFor w old.value → IsTidy w
         → StageStandsFor (begins w) stage × IsTidy (begins w) × Comes act (begins w)
-        × (perform act w ≡ perform act (begins w)))
+        × IsAs act w act (begins w))
         → new.value.stage ≡ Some later → new.value.halted ≡ old.value.halted
         → new.value.phase ≡ old.value.phase
         → ((w : World) → StandsFor w old.value → w.kept.phase ≡ Apart)
@@ -281,12 +267,10 @@ module _ {K : Type 0} {Took : K → Report → K → Type 0} {Broke : K → Repo
           chances = d.chances;
           ends = λ w rest left reached.
               let o = opens w reached.stands reached.tidy in
-              subst (λ (out : Course).
-              Ends StandsFor (λ halt. Counts) Counts Took Broke w rest out old.outlet new r) (sym o.3)
-              (ends-behind Took Broke StandsFor (λ halt. Counts) Counts w (begins w) rest (perform act (begins w)) old.outlet
+              ends-behind Took Broke StandsFor (λ halt. Counts) Counts act act w (begins w) rest old.outlet
               old.outlet new r (told-none w (begins w) old.outlet old.outlet (same_run w) refl)
-              (ap (λ (p : Phase). is_racing p) (same_phase w))
-              (staged-ends Took Broke nowhere (begins w) rest (perform act (begins w)) old.outlet new.outlet later new.value
+              (ap (λ (p : Phase). is_racing p) (same_phase w)) o.3
+              (staged-ends Took Broke nowhere (begins w) rest act old.outlet new.outlet later new.value
               r is (λ e. halted ∙ reached.stands.goes)
               (λ v there. stays act (begins w) v still there ∙ same_phase w ∙ reached.stands.phase
               ∙ ap (λ (p : Stood). phase_of p) (sym phase))
@@ -297,7 +281,7 @@ module _ {K : Type 0} {Took : K → Report → K → Type 0} {Broke : K → Repo
                     (ap is_racing (same_phase w ∙ reached.stands.phase)
                     ∙ stood-apart old.value.phase);
                 tidy = o.1;
-              }) o.2)));
+              }) o.2));
         }
 
     -- ---- before the first station
@@ -434,9 +418,9 @@ module _ {K : Type 0} {Took : K → Report → K → Type 0} {Broke : K → Repo
           subst (λ (o : Option Stage). IsStaged w old.value o) is_old reached.stands.stage in
           let at : w.kept.phase ≡ Controlling bursts control = reached.stands.phase ∙ stood in
           subst (λ (p : Phase). Ends StandsFor (λ halt. Counts) Counts Took Broke w rest
-          (perform (race_in p w) w) old.outlet new r) (sym at)
+          (race_in p w) old.outlet new r) (sym at)
           (ends-seen Took Broke StageStandsFor (λ halt. StageCounts) StageCounts StandsFor
-          (λ halt. Counts) Counts w rest (perform (run_race bursts control w) w) old.outlet
+          (λ halt. Counts) Counts w rest (run_race bursts control w) old.outlet
           new.outlet later new.value r
           (λ v there e stands. record {
             goes = halted ∙ reached.stands.goes;

@@ -1,6 +1,6 @@
 -- Races that were run stay, so what ends without one has run none; and lines stand in none that is
 -- performed.
-use Rattle.std.proofs.Common.{◌≡◌, ◌+◌, ℕ, zero, suc, Bool, true, false, List, [], ◌∷◌, ◌++◌, Option}
+use Rattle.std.proofs.Common.{◌≡◌, ℕ, zero, suc, Bool, true, false, List, [], ◌∷◌, ◌++◌, Option}
 use Rattle.std.proofs.Common.{Some, None, refl, sym, ap, ◌∙◌}
 use Rattle.std.specs.Prelude.{cond, Result, Ok, Err}
 use Rattle.lan_core.specs.declared.event.Event.{Event}
@@ -22,7 +22,7 @@ use Rattle.lan_schedule.specs.Acts.{after_race, begun_race, beside, emitting, em
 use Rattle.lan_schedule.specs.Kinds.{refusal, refusal_read}
 use Rattle.lan_schedule.specs.Lines.{control_act, deed, deed_at, deed_controlling, deed_read}
 use Rattle.lan_schedule.specs.Lines.{behind_race, close_at, excess_of, performed, performed_all}
-use Rattle.lan_schedule.specs.Lines.{unless_exceeded, unless_refused}
+use Rattle.lan_schedule.specs.Lines.{line_after, unless_exceeded, unless_refused}
 use Rattle.lan_schedule.proofs.Still.{IsStill, still-deed}
 
 -- no race was run
@@ -182,7 +182,7 @@ behind-said (Err fault) w = behind-self w
 
 behind-text : (text : List ℕ) (w : World) → IsBehind w (world_of (perform (performed text) w))
 behind-text text w =
-    let v : World = record w { kept = record w.kept { line = w.kept.line + 1 } } in
+    let v : World = record w { kept = record w.kept { line = line_after w.kept.line } } in
     behind-then w v _ (record { apart = λ e. e; none = λ e. e }) (behind-said (line_in text) v)
 
 behind-both : (w : World) (out : Course) (g : World → Course) → IsBehind w (world_of out)

@@ -1,5 +1,5 @@
 -- A call that ends a race runs it, whatever stands around the act that does.
-use Rattle.std.proofs.Common.{◌≡◌, ◌+◌, ℕ, true, false, List, ◌++◌, Some, None, refl, sym, ap, ◌∙◌}
+use Rattle.std.proofs.Common.{◌≡◌, ℕ, true, false, List, Some, refl, sym, ap, ◌∙◌}
 use Rattle.std.proofs.Common.{subst}
 use Rattle.std.specs.Prelude.{Option, Result, Ok, Err}
 use Rattle.association_slots.specs.Views.{ControlAt}
@@ -14,8 +14,8 @@ use Rattle.lan_schedule.specs.declared.commands.Replay.{Replay}
 use Rattle.lan_schedule.specs.declared.stage.Stage.{Stage}
 use Rattle.lan_schedule.specs.Races.{Apart, Burst, Controlling, Numbered, Phase, workers_of}
 use Rattle.lan_schedule.specs.World.{World, is_racing}
-use Rattle.lan_schedule.specs.Acts.{Act, look, perform, seq}
-use Rattle.lan_schedule.specs.Lines.{at_line, begin_line, numbered, performed, run_race}
+use Rattle.lan_schedule.specs.Acts.{Act, look, seq}
+use Rattle.lan_schedule.specs.Lines.{at_line, begin_line, line_after, numbered, performed, run_race}
 use Rattle.lan_schedule.specs.Reports.{Report}
 use Rattle.lan_schedule.specs.Ends.{Moment, moment}
 use Rattle.lan_schedule.specs.Shown.{words_in, words_of}
@@ -28,6 +28,7 @@ use Rattle.lan_schedule.specs.inside.Phased.{is_end}
 use Rattle.lan_schedule.proofs.Replaying.{begun-does, halted-does, never-does, numbered-does, raced-does, same-act, then-ok}
 use Rattle.lan_schedule.proofs.Texting.{line-does}
 use Rattle.lan_schedule.proofs.LinesCome.{tidy-same}
+use Rattle.lan_schedule.proofs.OnWay.{IsAs}
 
 -- the same lines and bursts stand behind `while`
 same-kept : (a b : List Burst) (c d : List Numbered) → Controlling a c ≡ Controlling b d
@@ -39,11 +40,11 @@ module _ {K : Type 0} {Took : K → Report → K → Type 0} {Broke : K → Repo
     -- an act that comes to the same
     pub runs-act : (made : World → World) (f g : Act) (old new : Moment Replay K)
         (r : Result (Unit {0}) Halt)
-        → ((w : World) → StandsFor w old.value → perform f w ≡ perform g w)
+        → ((w : World) → StandsFor w old.value → IsAs f w g w)
         → RunsRace Took Broke made g old new r → RunsRace Took Broke made f old new r
     unfolding same-act
-    runs-act made f g old new r same d = record {
-      does = same-act f g old new r same d.does;
+    runs-act made f g old new r alike d = record {
+      does = same-act f g old new r alike d.does;
       woven = λ w later left reached bursts control stood was.
           d.woven w later left reached bursts control stood was;
     }
@@ -116,10 +117,10 @@ module _ {K : Type 0} {Took : K → Report → K → Type 0} {Broke : K → Repo
     -- it is that of a text
     pub runs-text : (text : List ℕ) (number : ℕ) (line : Line) (old new : Moment Replay K)
         (r : Result (Unit {0}) Halt)
-        → ((w : World) → StandsFor w old.value → number ≡ w.kept.line + 1)
+        → ((w : World) → StandsFor w old.value → number ≡ line_after w.kept.line)
         → line_in text ≡ Ok (Some line)
         → RunsRace Took Broke (at_line number) (numbered number line) old new r
-        → RunsRace Took Broke (λ w. at_line (w.kept.line + 1) w) (performed text) old new r
+        → RunsRace Took Broke (λ w. at_line (line_after w.kept.line) w) (performed text) old new r
     unfolding line-does same-act
     runs-text text number line old new r next said d = record {
       does = line-does text number line old new r next said d.does;

@@ -1,9 +1,8 @@
 -- The seats of workers go out as they are hired, and come back as they are dismissed.
-use Rattle.std.proofs.Common.{◌≡◌, ◌⊎◌, ◌+◌, ℕ, List, [], ◌∷◌, ◌++◌, refl, sym, ap, ◌∙◌, subst, inl, inr}
+use Rattle.std.proofs.Common.{◌≡◌, ◌+◌, ℕ, List, [], ◌∷◌, ◌++◌, refl, sym, ap, ◌∙◌, subst, inl, inr}
 use Rattle.std.specs.Prelude.{IfNone, Option, Some, None}
 use Rattle.std.specs.List.{AllByRecursion}
 use Rattle.association_slots.specs.Views.{ControlAt, SeatAt}
-use Rattle.association_slots.specs.declared.view.SeatView.{SeatView}
 use Rattle.data_workers.specs.Workers.{AreDone, WorkerAt}
 use Rattle.data_workers.specs.declared.sender.Sender.{Sender}
 use Rattle.transmit_words.specs.Seats.{HasJoined, IsOut, NoMoreOut, WasSeated}

@@ -1,17 +1,16 @@
 -- There is a seat for each worker of bursts that find seats.
-use Rattle.std.proofs.Common.{◌≡◌, ◌≢◌, ◌⊎◌, ◌<◌, ◌≤◌, ◌+◌, ◌==◌, ℕ, zero, suc, Bool, true, false, cond, List, []}
-use Rattle.std.proofs.Common.{◌∷◌, ◌++◌, length, map, take, get_or, Some, None, refl, sym, ap, ◌∙◌, subst}
+use Rattle.std.proofs.Common.{◌≡◌, ◌<◌, ◌≤◌, ◌+◌, ◌==◌, ℕ, zero, suc, Bool, true, false, cond, List, []}
+use Rattle.std.proofs.Common.{◌∷◌, ◌++◌, length, map, take, get_or, Some, refl, sym, ap, ◌∙◌, subst}
 use Rattle.std.proofs.Common.{inl, inr, arith}
-use Rattle.std.proofs.lemmas.Bool.{cases_Bool, eqb-true, eqb-false}
+use Rattle.std.proofs.lemmas.Bool.{cases_Bool, eqb-true}
 use Rattle.std.proofs.lemmas.List.{length-map}
 use Rattle.std.proofs.lemmas.List.Sums.{sum_by-cons}
 use Rattle.std.specs.Prelude.{IfSome, Option, slice_get, slice_index_or, slice_set}
 use Rattle.std.specs.List.{AllByRecursion, filter, range_with_len}
 use Rattle.association_slots.specs.Steps.{seated}
-use Rattle.association_slots.specs.Views.{AllIn, ControlAt, SeatAt, free}
+use Rattle.association_slots.specs.Views.{ControlAt, free}
 use Rattle.data_workers.specs.Workers.{WorkerAt}
-use Rattle.transmit_words.specs.Seats.{AreAllIn, WasSeated}
-use Rattle.transmit_words.specs.Ties.{tables_of}
+use Rattle.transmit_words.specs.Seats.{WasSeated}
 use Rattle.transmit_words.proofs.Public.{get-set}
 use Rattle.worker_races.specs.Going.{WereSeated}
 use Rattle.lan_schedule.specs.declared.stage.Stage.{Stage}

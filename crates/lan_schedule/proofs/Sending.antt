@@ -1,5 +1,5 @@
 -- Lines that change little, and user data that is sent.
-use Rattle.std.proofs.Common.{◌≡◌, ◌<◌, ◌≤◌, ℕ, ◌+◌, ◌==◌, Bool, true, List, []}
+use Rattle.std.proofs.Common.{◌≡◌, ◌<◌, ◌≤◌, ℕ, ◌+◌, ◌==◌, Bool, true, false, inl, inr, List, []}
 use Rattle.std.proofs.Common.{◌∷◌, ◌++◌, length, Some, refl, sym, ap, ◌∙◌, subst}
 use Rattle.std.proofs.Common.{length-append, append-nil, arith}
 use Rattle.std.specs.Prelude.{Result, Ok, Err}
@@ -20,10 +20,10 @@ use Rattle.trace_acts.specs.Links.{with_link, without_link}
 use Rattle.trace_acts.proofs.Public.{user-at-end}
 use Rattle.lan_schedule.specs.declared.stage.Stage.{Stage}
 use Rattle.lan_schedule.specs.World.{World, settings, is_racing}
-use Rattle.lan_schedule.specs.Numbers.{number_claimed, decided}
-use Rattle.lan_schedule.specs.Acts.{Act, happen, seq, perform, Course}
+use Rattle.lan_schedule.specs.Numbers.{number_claimed, decided, shown_next}
+use Rattle.lan_schedule.specs.Acts.{Act, happen, seq, perform}
 use Rattle.lan_schedule.specs.Races.{Chance}
-use Rattle.lan_schedule.specs.Acts.{and_then, unless}
+use Rattle.lan_schedule.specs.Acts.{unless}
 use Rattle.lan_schedule.specs.Lines.{begin, at_line, add_user, send, claim, cut_in, mended_in}
 use Rattle.lan_schedule.specs.Sound.{IsTidy}
 use Rattle.lan_schedule.specs.Reports.{Report}
@@ -31,6 +31,7 @@ use Rattle.lan_schedule.specs.Ends.{Moment, IsReached, Ends}
 use Rattle.lan_schedule.specs.inside.Comes.{Comes}
 use Rattle.lan_schedule.specs.Stages.{Says, StandsWith, StandsFor, Counts}
 use Rattle.lan_schedule.specs.inside.Recording.{Mark, StandsSince, LeavesAt, KeepSeats}
+use Rattle.lan_schedule.specs.inside.Set.{IsTaken}
 use Rattle.lan_schedule.specs.inside.Staged.{IsSetSince}
 use Rattle.lan_schedule.proofs.Recorded.{looked-apart}
 use Rattle.std.specs.Prelude.{is_some, option_map}
@@ -38,10 +39,12 @@ use Rattle.lan_schedule.specs.inside.Staged.{Did, Happened, Changed}
 use Rattle.lan_core.proofs.Public.{stands-more}
 use Rattle.lan_schedule.proofs.Same.{IsSame, same-self, stands-with}
 use Rattle.lan_schedule.proofs.Tidying.{under-user}
+use Rattle.lan_schedule.proofs.Unspent.{finds-left}
 use Rattle.lan_schedule.proofs.Claiming.{Gives, gives-taken}
 use Rattle.lan_schedule.proofs.Chances.{claimed-is}
 use Rattle.lan_schedule.proofs.Doing.{change-does, ends-early, ends-behind, both-chances, going}
 use Rattle.lan_schedule.proofs.Doing.{told-none}
+use Rattle.lan_schedule.proofs.OnWay.{IsAs, as-left}
 
 -- the words are as before
 still : (w : World) (old new : Stage) → new.words ≡ old.words → StandsFor w old
@@ -121,6 +124,12 @@ user-stands user w old mid stands same line users cuts words cards =
     (cuts ∙ stands.cuts) stands.begun
     (stands-more (settings w) w.kept.users (user ∷ []) old.lan w.run stands.lan) words cards
 
+-- a claim gets none where no next number is
+taken-none : (raced : Bool) (next n : ℕ) → IsTaken raced next n → n ≡ 0 → next ≡ 0
+taken-none false next n taken none = sym taken.0 ∙ none
+taken-none true next n (inl some) none = absurd (let low = some.0 in let few = some.1 in omega (arith, low, few, none))
+taken-none true next n (inr both) none = both.0
+
 module _ {K : Type 0} {Took : K → Report → K → Type 0} {Broke : K → Report → K → Broken → Type 0}
   where
     pub begin-does : (now : Moment Stage K) → Did Took Broke begin now now (Ok tt)
@@ -137,7 +146,7 @@ module _ {K : Type 0} {Took : K → Report → K → Type 0} {Broke : K → Repo
         → w.kept.chances ≡ (decided mid.value.raced (events.Claim s n pn) ++ more) ++ later
         → IsReached (IsSetSince (events.Claim s n pn) mark) w mid.value
         → Some user ≡ user_at w.kept.users n → Comes (claim s n pn) w
-        → Ends (StandsSince mark) (LeavesAt mark) Counts Took Broke w later (perform (claim s n pn) w) mid.outlet new r)
+        → Ends (StandsSince mark) (LeavesAt mark) Counts Took Broke w later (claim s n pn) mid.outlet new r)
         → Did Took Broke (seq (add_user user) (send s)) old new r
     send-does s n pn user more old mid new r outlet same line one_more users most cuts gives seats done =
         let event = events.Claim s n pn in record {
@@ -169,10 +178,12 @@ module _ {K : Type 0} {Took : K → Report → K → Type 0} {Broke : K → Repo
               let named : Some user ≡ user_at v.kept.users n =
               sym (user-at-end w.kept.users user)
               ∙ ap (λ (k : ℕ). user_at v.kept.users k) (sym place) in
-              subst (λ (act : Act).
-              Ends (StandsSince mark) (LeavesAt mark) Counts Took Broke w later (perform act v) old.outlet new r) e
-              (ends-behind Took Broke (StandsSince mark) (LeavesAt mark) Counts w v later (perform (claim s n pn) v)
-              old.outlet mid.outlet new r (told-none w v old.outlet mid.outlet refl outlet) refl
+              let alike : IsAs (seq (add_user user) (send s)) w (claim s n pn) v =
+              subst (λ (act : Act). IsAs (seq (add_user user) (send s)) w act v) (sym e)
+              (as-left (add_user user) (send s) w v refl) in
+              ends-behind Took Broke (StandsSince mark) (LeavesAt mark) Counts
+              (seq (add_user user) (send s)) (claim s n pn) w v later
+              old.outlet mid.outlet new r (told-none w v old.outlet mid.outlet refl outlet) refl alike
               (done mark v later left (record {
                 stands = record {
                   stands = user-stands user w old.value mid.value stands same line
@@ -181,9 +192,11 @@ module _ {K : Type 0} {Took : K → Report → K → Type 0} {Broke : K → Repo
                       stands.cards);
                   looked = looked-apart mark v mid.value (ap (λ o. is_some o) same.steps
                       ∙ stands.steps ∙ comes_v.0.1.2);
+                  left = finds-left (settings w) s pn w.run
+                      (taken-none w.kept.raced (shown_next (settings w) s w.run) pn taken.0);
                 };
                 tidy = tidy;
-              }) named (subst (λ (act : Act). Comes act v) (sym e) comes_v)));
+              }) named (subst (λ (act : Act). Comes act v) (sym e) comes_v));
           seats = seats;
         }
 
@@ -194,11 +207,11 @@ module _ {K : Type 0} {Took : K → Report → K → Type 0} {Broke : K → Repo
         → w.kept.chances ≡ (decided mid.value.raced (events.Claim s n pn) ++ []) ++ later
         → IsReached (IsSetSince (events.Claim s n pn) mark) w mid.value
         → Some user ≡ user_at w.kept.users n → Comes (claim s n pn) w
-        → Ends (StandsSince mark) (LeavesAt mark) Counts Took Broke w later (perform (claim s n pn) w) mid.outlet new (Err e)
+        → Ends (StandsSince mark) (LeavesAt mark) Counts Took Broke w later (claim s n pn) mid.outlet new (Err e)
     claim-err s n pn user mid new e h mark w later left reached named comes =
         let event = events.Claim s n pn in
-        ends-early Took Broke (StandsSince mark) (LeavesAt mark) Counts w later (perform (happen event) w)
-        (unless (pn == 0) (happen events.Emit)) mid.outlet new e
+        ends-early Took Broke (StandsSince mark) (LeavesAt mark) Counts (happen event)
+        (unless (pn == 0) (happen events.Emit)) w later mid.outlet new e
         (h.ends mark w later
         (left ∙ ap (λ (c : List Chance). c ++ later) (append-nil (decided mid.value.raced event)))
         reached named comes.0)
@@ -212,7 +225,7 @@ module _ {K : Type 0} {Took : K → Report → K → Type 0} {Broke : K → Repo
         → w.kept.chances ≡ (decided mid.value.raced (events.Claim s n pn) ++ d.chances) ++ later
         → IsReached (IsSetSince (events.Claim s n pn) mark) w mid.value
         → Some user ≡ user_at w.kept.users n → Comes (claim s n pn) w
-        → Ends (StandsSince mark) (LeavesAt mark) Counts Took Broke w later (perform (claim s n pn) w) mid.outlet new r
+        → Ends (StandsSince mark) (LeavesAt mark) Counts Took Broke w later (claim s n pn) mid.outlet new r
     claim-ok s n pn user mid now new r h d mark w later left reached named comes =
         let event = events.Claim s n pn in
         let first = h.ends mark w (d.chances ++ later)
@@ -222,10 +235,9 @@ module _ {K : Type 0} {Took : K → Report → K → Type 0} {Broke : K → Repo
         let comes_later : Comes emit first.0 =
         going (perform (happen event) w) first.0 (λ v. IsTidy v → Comes emit v) first.1 comes.1
         first.2.tidy in
-        subst (λ (out : Course). Ends (StandsSince mark) (LeavesAt mark) Counts Took Broke w later
-        (and_then out (λ v. perform emit v)) mid.outlet new r) (sym first.1)
-        (ends-behind Took Broke (StandsSince mark) (LeavesAt mark) Counts w first.0 later (perform emit first.0) mid.outlet
-        now.outlet new r first.3 first.5 (d.ends mark first.0 later first.4 first.2 comes_later))
+        ends-behind Took Broke (StandsSince mark) (LeavesAt mark) Counts (claim s n pn) emit w first.0 later
+        mid.outlet now.outlet new r first.3 first.5 (as-left (happen event) emit w first.0 first.1)
+        (d.ends mark first.0 later first.4 first.2 comes_later)
 
     -- the same act, told of another value that is the same
     pub same-did : {A : Type 0} (f : A → Act) (a b : A) (old new : Moment Stage K)

@@ -41,7 +41,7 @@ use Rattle.lan_schedule.specs.Lines.{flow_round, send}
 use Rattle.lan_schedule.specs.Sound.{IsTidy}
 use Rattle.lan_schedule.specs.inside.Comes.{Comes, IsGoing, IsExact, named}
 use Rattle.lan_schedule.proofs.Bounded.{AreBounded, TakesOne, stays-bounded}
-use Rattle.lan_schedule.proofs.Tidying.{Proceeds, event-proceeds, tidy-after, thrifty-calm, leaves-none}
+use Rattle.lan_schedule.proofs.Tidying.{calm-left, Proceeds, event-proceeds, tidy-after, thrifty-calm, leaves-none}
 use Rattle.next_numbers.proofs.Public.{waiting-framed}
 
 -- ---- an event that no stop meets shows something
@@ -232,7 +232,7 @@ happened-open n chosen event w below setting fit now comes goes =
       bounded = stays-bounded (settings w) w.kept.users w.run event
           (drawn_from (settings w).suite (supply w)) (facts_shown w event) now.bounded
           (leaves-none w event now.calm comes.1) (takes-one w event now.calm comes.1) shows;
-      tidy = tidy-after w event (facts_shown w event) on now.begun
+      tidy = tidy-after w event (facts_shown w event) on (calm-left w event now.calm typed comes.1) now.begun
           (λ apart. thrifty-calm w event (facts_shown w event) now.calm on apart);
     }
 

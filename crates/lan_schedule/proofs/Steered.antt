@@ -14,9 +14,9 @@ use Rattle.trace_acts.specs.Halts.{halt_of_broken}
 use Rattle.lan_schedule.specs.declared.stage.Stage.{Stage}
 use Rattle.lan_schedule.specs.Races.{Chance, Worker, behind_numbers}
 use Rattle.lan_schedule.specs.World.{World, is_racing, settings}
-use Rattle.lan_schedule.specs.Acts.{Course, Goes, Stops, begun_race, is_stop}
+use Rattle.lan_schedule.specs.Acts.{Act, Goes, IsOnWay, Stops, begun_race, is_stop, perform}
 use Rattle.lan_schedule.specs.Reports.{AreTold, Report, reports}
-use Rattle.lan_schedule.specs.Ends.{Ends, WasBroken, WasTold, moment}
+use Rattle.lan_schedule.specs.Ends.{Ends, WasBroken, WasTold, WasToldTo, moment}
 use Rattle.lan_schedule.specs.Sound.{IsTidy}
 use Rattle.lan_schedule.specs.Stages.{Counts, Says, StandsFor}
 use Rattle.lan_schedule.specs.inside.Beside.{mark_of}
@@ -148,10 +148,10 @@ module _ (w : World) (begun moved : Stage) (steps : List Step) (kept : List (Lis
   leaves-so true v tidy racing leaves told left = has-stopped v tidy racing leaves told left
   leaves-so false v tidy racing leaves told left = goes-on v tidy racing leaves told left
 
-  module _ (workers : List Worker) (out : Course) where
+  module _ (workers : List Worker) (act : Act) where
     pub steered-ok : Ends (StandsSince (mark_of w begun)) (LeavesAt (mark_of w begun)) Counts
-        KeepsReport KeepsNoMore (begun_race workers w) later out [] (moment moved kept) (Ok tt)
-        → (v : World) × (out ≡ Goes v) × IsSteered w begun moved steps kept later false v
+        KeepsReport KeepsNoMore (begun_race workers w) later act [] (moment moved kept) (Ok tt)
+        → (v : World) × (perform act (begun_race workers w) ≡ Goes v) × IsSteered w begun moved steps kept later false v
     steered-ok h = (
       h.0,
       h.1,
@@ -164,8 +164,8 @@ module _ (w : World) (begun moved : Stage) (steps : List Step) (kept : List (Lis
 
     pub steered-err : (halt : Halt) → (halt ≡ halts.Memory → ⊥)
         → Ends (StandsSince (mark_of w begun)) (LeavesAt (mark_of w begun)) Counts
-        KeepsReport KeepsNoMore (begun_race workers w) later out [] (moment moved kept) (Err halt)
-        → (v : World) × (out ≡ Stops v halt)
+        KeepsReport KeepsNoMore (begun_race workers w) later act [] (moment moved kept) (Err halt)
+        → (v : World) × (perform act (begun_race workers w) ≡ Stops v halt)
         × IsSteered w begun moved steps kept later (is_stop halt) v
     steered-err halt some (inl h) = (
       h.world,
@@ -177,7 +177,8 @@ module _ (w : World) (begun moved : Stage) (steps : List Step) (kept : List (Lis
       }) h.left,
     )
     steered-err halt some (inr h) = absurd (some (memory h.cause)) where
-      memory : ((halt ≡ halts.Memory) × WasTold KeepsReport (begun_race workers w) h.world [] kept)
+      memory : ((halt ≡ halts.Memory)
+          × WasToldTo KeepsReport (begun_race workers w) h.world (IsOnWay act (begun_race workers w)) [] kept)
           ⊎ WasBroken KeepsReport KeepsNoMore (begun_race workers w) h.world [] kept halt
           → halt ≡ halts.Memory
       memory (inl both) = both.0

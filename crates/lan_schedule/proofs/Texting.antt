@@ -1,5 +1,5 @@
 -- The text of a line is performed.
-use Rattle.std.proofs.Common.{◌≡◌, ℕ, ◌+◌, List, [], Option, Some, None, inl, refl, sym, ap, ◌∙◌}
+use Rattle.std.proofs.Common.{◌≡◌, ℕ, List, [], Option, Some, None, inl, refl, sym, subst, ap, ◌∙◌}
 use Rattle.std.specs.Prelude.{Result, Ok, Err}
 use Rattle.trace_text.specs.declared.fault.TextFault.{TextFault}
 use Rattle.trace_text.specs.declared.line.Line.{Line}
@@ -12,13 +12,14 @@ use Rattle.lan_schedule.specs.declared.commands.Replay.{Replay}
 use Rattle.lan_schedule.specs.Races.{Chance, behind_numbers}
 use Rattle.lan_schedule.specs.World.{World}
 use Rattle.lan_schedule.specs.Kinds.{refusal_read}
-use Rattle.lan_schedule.specs.Acts.{Act, look, perform, Goes, Stops}
-use Rattle.lan_schedule.specs.Lines.{begin_line, at_line, numbered, act_of, deed_read}
-use Rattle.lan_schedule.specs.Lines.{unless_refused, performed}
+use Rattle.lan_schedule.specs.Acts.{Act, look, perform, seq, Stops}
+use Rattle.lan_schedule.specs.Lines.{begin_line, at_line, numbered, deed_read}
+use Rattle.lan_schedule.specs.Lines.{line_after, unless_refused, performed}
 use Rattle.lan_schedule.specs.Reports.{Report}
 use Rattle.lan_schedule.specs.Ends.{Moment}
 use Rattle.lan_schedule.specs.Standing.{StandsFor, Does}
 use Rattle.lan_schedule.proofs.Doing.{told-none}
+use Rattle.lan_schedule.proofs.OnWay.{IsAs, as-self}
 use Rattle.lan_schedule.proofs.Replaying.{same-act, stands-counts}
 use Rattle.lan_schedule.proofs.LinesCome.{tidy-same}
 
@@ -34,32 +35,37 @@ fault-is (Err other) fault e = let same : other ≡ fault = cc in ap (λ (f : Te
 module _ {K : Type 0} {Took : K → Report → K → Type 0} {Broke : K → Report → K → Broken → Type 0}
   where
     pub skipped-does : (text : List ℕ) (number : ℕ) (old new : Moment Replay K)
-        → ((w : World) → StandsFor w old.value → number ≡ w.kept.line + 1)
+        → ((w : World) → StandsFor w old.value → number ≡ line_after w.kept.line)
         → line_in text ≡ Ok None → Does Took Broke (begin_line number) old new (Ok tt)
         → Does Took Broke (performed text) old new (Ok tt)
     skipped-does text number old new next nothing_said d =
         same-act (performed text) (begin_line number) old new (Ok tt) (λ w stands.
-        ap (λ r. perform (act_read r) (at_line (w.kept.line + 1) w)) nothing_said
-        ∙ ap (λ (n : ℕ). Goes (at_line n w)) (sym (next w stands))) d
+        subst (λ r. IsAs (seq (begin_line (line_after w.kept.line)) (act_read r)) w (begin_line number) w)
+        (sym nothing_said)
+        (subst (λ (n : ℕ). IsAs (seq (begin_line (line_after w.kept.line)) (act_read (Ok None))) w (begin_line n) w)
+        (sym (next w stands)) (refl, λ u on. inl on))) d
 
     unfoldable pub line-does : (text : List ℕ) (number : ℕ) (line : Line) (old new : Moment Replay K)
         (r : Result (Unit {0}) Halt)
-        → ((w : World) → StandsFor w old.value → number ≡ w.kept.line + 1)
+        → ((w : World) → StandsFor w old.value → number ≡ line_after w.kept.line)
         → line_in text ≡ Ok (Some line) → Does Took Broke (numbered number line) old new r
         → Does Took Broke (performed text) old new r
     line-does text number line old new r next said d =
         same-act (performed text) (numbered number line) old new r (λ w stands.
-        ap (λ s. perform (act_read s) (at_line (w.kept.line + 1) w)) said
-        ∙ ap (λ (n : ℕ). perform (act_of line) (at_line n w)) (sym (next w stands))) d
+        subst (λ s. IsAs (seq (begin_line (line_after w.kept.line)) (act_read s)) w (numbered number line) w)
+        (sym said)
+        (subst (λ (n : ℕ).
+        IsAs (seq (begin_line (line_after w.kept.line)) (act_read (Ok (Some line)))) w (numbered n line) w)
+        (sym (next w stands)) (as-self (numbered (line_after w.kept.line) line) w))) d
 
     pub fault-does : (text : List ℕ) (number : ℕ) (fault : TextFault) (now : Moment Replay K)
-        → ((w : World) → StandsFor w now.value → number ≡ w.kept.line + 1)
+        → ((w : World) → StandsFor w now.value → number ≡ line_after w.kept.line)
         → first_fault text ≡ Some fault
         → Does Took Broke (performed text) now now (Err (halts.Trace number (kind_of_fault fault)))
     fault-does text number fault now next first = record {
       chances = [];
       ends = λ w later left reached.
-          let v = at_line (w.kept.line + 1) w in
+          let v = at_line (line_after w.kept.line) w in
           let out : perform (performed text) w ≡ Stops v (halts.Trace number (kind_of_fault fault)) =
           ap (λ s. perform (act_read s) v) (fault-is (line_in text) fault first)
           ∙ ap (λ (n : ℕ). Stops v (halts.Trace n (kind_of_fault fault)))
@@ -67,7 +73,7 @@ module _ {K : Type 0} {Took : K → Report → K → Type 0} {Broke : K → Repo
           inl (record {
             world = v;
             stops = out;
-            tidy = tidy-same w (record w.kept { line = w.kept.line + 1 }) reached.tidy refl refl refl
+            tidy = tidy-same w (record w.kept { line = line_after w.kept.line }) reached.tidy refl refl refl
                 refl refl (λ e. e) (λ e. e);
             leaves = stands-counts w now.value reached.stands;
             told = told-none w v now.outlet now.outlet refl refl;

@@ -28,9 +28,11 @@ use Rattle.lan_schedule.specs.Answers.{supply}
 use Rattle.lan_schedule.specs.Acts.{happen, world_after}
 use Rattle.lan_schedule.specs.Sound.{IsTidy, IsSoundIn, numbers_of}
 use Rattle.lan_schedule.specs.inside.Comes.{Comes, IsExact, named}
+use Rattle.lan_schedule.specs.inside.Staged.{FindsLeft}
 use Rattle.lan_schedule.specs.Numbers.{shown_next, in_range}
 use Rattle.lan_schedule.proofs.Calm.{calm-shown, calm-claimed}
 use Rattle.lan_schedule.proofs.Drawing.{supply-draws}
+use Rattle.lan_schedule.proofs.Unspent.{facts-unspent, finds-left}
 use Rattle.next_numbers.proofs.Public.{stays-in-turn}
 
 -- what facts put on the air has the numbers of its frames
@@ -94,6 +96,19 @@ exact-in w (events.Claim s user pn) calm typed exact =
     ∙ in-range (shown_next (settings w) s w.run) (omega (arith, most, small))
 exact-in w events.Emit calm typed exact = tt
 exact-in w (events.Inject s octets) calm typed exact = tt
+
+-- a claim finds its key with a number left, or none
+pub calm-left : (w : World) (event : Event) → w.kept.raced ≡ false → IsTyped event
+    → IsExact w event → FindsLeft (settings w) w.run event
+calm-left w (events.Start name sci priority) calm typed exact = tt
+calm-left w (events.Tick s shown) calm typed exact = tt
+calm-left w (events.Deliver frame s) calm typed exact = tt
+calm-left w (events.Restart s) calm typed exact = tt
+calm-left w (events.Claim s user pn) calm typed exact =
+    finds-left (settings w) s pn w.run
+    (λ none. sym (exact-in w (events.Claim s user pn) calm typed exact) ∙ none)
+calm-left w events.Emit calm typed exact = tt
+calm-left w (events.Inject s octets) calm typed exact = tt
 
 -- what grows by the claims of an event stays within the count of user frames and one
 by-claims : (w : World) (event : Event) (n s epoch : ℕ) → w.kept.raced ≡ false → IsTidy w
@@ -172,11 +187,11 @@ sound-after w event facts g thrifty = record {
 }
 
 pub tidy-after : (w : World) (event : Event) (facts : List Fact) → Proceeds w event facts
-    → w.kept.begun ≡ true
+    → FindsLeft (settings w) w.run event → w.kept.begun ≡ true
     → (is_racing w.kept.phase ≡ false → IsThrifty (settings w) (happened event facts ∷ w.run))
     → IsTidy (world_after w event facts)
 unfolding air
-tidy-after w event facts g begun thrifty =
+tidy-after w event facts g left begun thrifty =
     let x = happened event facts in
     let tidy = g.tidy in
     let sound = sound-after w event facts g thrifty in
@@ -195,6 +210,11 @@ tidy-after w event facts g begun thrifty =
           (few (settings w) w.run s epoch w.kept.users event facts
           (kind (settings w) w.kept.users x w.run stepped.0)
           (exact-in w event e g.typed g.comes.1));
+      unspent = (
+        facts-unspent (settings w) w.kept.users w.run event
+            (drawn_from (settings w).suite (supply w)) facts g.on.shows left,
+        tidy.unspent,
+      );
       waits = λ e. absurd (let bad : true ≡ false = sym begun ∙ e in cc);
       draws = tidy.draws;
       dealt = tidy.dealt;

@@ -1,7 +1,7 @@
 -- An emission moves no word: the words as they are follow what it shows.
-use Rattle.std.proofs.Common.{◌≡◌, ◌+◌, ℕ, true, List, [], ◌∷◌, Option, Some, None, refl, sym, ap}
+use Rattle.std.proofs.Common.{◌≡◌, ℕ, true, List, [], ◌∷◌, Option, Some, None, refl, sym, ap}
 use Rattle.std.proofs.Common.{◌∙◌, subst, arith}
-use Rattle.std.specs.Prelude.{option_map, option_and_then, slice_get}
+use Rattle.std.specs.Prelude.{option_map, option_and_then}
 use Rattle.lan_base.specs.declared.frame.UserFrame.{UserFrame}
 use Rattle.association_slots.specs.Cards.{card_at}
 use Rattle.association_slots.specs.Views.{ControlAt}
@@ -18,7 +18,7 @@ use Rattle.lan_core.specs.Legal.{IsStep}
 use Rattle.group_safety.specs.Accounts.{Account}
 use Rattle.group_safety.specs.Transmitting.{Carried, follow}
 use Rattle.transmit_words.specs.Telling.{KeepUp, Tells}
-use Rattle.transmit_words.specs.Ties.{CardsFollow, Followed, FollowsBy, HasCarded}
+use Rattle.transmit_words.specs.Ties.{CardsFollow, Followed, FollowsBy}
 
 -- what a frame on the air moves of what a station transmits
 framed-moves : (s n from : ℕ) (k : Carried) (o : Option (List ℕ)) (shown : List Fact)

@@ -1,5 +1,5 @@
 -- What can be performed, and what performing it leaves (this profile's own rule).
-use Rattle.std.specs.Prelude.{ℕ, ◌+◌, Bool, if◌then◌else◌, zero, suc, List, [], ◌∷◌, ◌++◌, Result}
+use Rattle.std.specs.Prelude.{◌≡◌, ◌⊎◌, ℕ, ◌+◌, Bool, if◌then◌else◌, zero, suc, List, [], ◌∷◌, ◌++◌, Result}
 use Rattle.std.specs.Prelude.{Ok, Err, ◌-◌, true, false, map, length, take, reverse}
 use Rattle.std.specs.Prelude.{slice_get, option_map, unwrap_or}
 use Rattle.lan_core.specs.declared.event.Event.{Event}
@@ -153,6 +153,14 @@ perform (change f) w = Goes (record w { kept = f w.kept })
 perform (seq first then_) w = and_then (perform first w) (λ v. perform then_ v)
 perform (look act) w = perform (act w) w
 perform (race workers control) w = beside workers w (perform control (begun_race workers w))
+
+-- On the way of an act from a world: where it begins, where it comes to, or on the way of a part of it.
+-- An event and a race have nothing between both.
+abbrev pub IsOnWay : Act → World → World → Type 0
+IsOnWay (seq first then_) w =
+    λ v. IsOnWay first w v ⊎ ((u : World) × (perform first w ≡ Goes u) × IsOnWay then_ u v)
+IsOnWay (look act) w = IsOnWay (act w) w
+IsOnWay act w = λ v. (v ≡ w) ⊎ (v ≡ world_of (perform act w))
 
 -- ---- many acts
 

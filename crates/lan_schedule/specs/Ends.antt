@@ -1,7 +1,7 @@
 -- What a call did of an act: what was told, what it left, and how it ended (this profile's own
 -- rule). `Stands` and `Counts` say of each kind of value for which world it stands, and of which
 -- world it has the tally; `Took` and `Broke` what a recorder does.
-use Rattle.std.specs.Prelude.{◌≡◌, ◌⊎◌, false, List, [], ◌∷◌, ◌++◌, Result, Ok, Err}
+use Rattle.std.specs.Prelude.{◌≡◌, ◌⊎◌, ◌≤◌, false, List, [], ◌∷◌, ◌++◌, length, Result, Ok, Err}
 use Rattle.trace_acts.specs.declared.halt.Halt.{Halt}
 use Rattle.trace_acts.specs.declared.halt.Halt.TheVariants as halts
 use Rattle.trace_acts.specs.declared.broken.Broken.{Broken}
@@ -9,7 +9,7 @@ use Rattle.trace_acts.specs.Halts.{halt_of_broken}
 use Rattle.lan_schedule.specs.Races.{Chance, behind_numbers}
 use Rattle.lan_schedule.specs.Sound.{IsTidy}
 use Rattle.lan_schedule.specs.World.{World, is_racing}
-use Rattle.lan_schedule.specs.Acts.{Course, Goes, Stops, world_of}
+use Rattle.lan_schedule.specs.Acts.{Act, Course, Goes, Stops, world_of, perform, IsOnWay}
 use Rattle.lan_schedule.specs.Reports.{Report, reports, AreTold}
 
 -- a value that performs acts, and what is told, at a moment of a call
@@ -70,28 +70,42 @@ pub record Begins (front all : List Report) : Type 0 where
 abbrev pub reported : Course → List Report
 reported out = reports (world_of out).run
 
--- on the way to this course a tidy world was reached, where memory was wanting, or the recorder broke
+-- All that events showed up to a world on the way was told, and nothing of the one event behind it, if
+-- another world has one.
+pub record WasToldTo {K : Type 0} (Took : K → Report → K → Type 0) (w v : World)
+    (IsOn : World → Type 0) (old new : K) : Type 0 where
+  pub world : World
+  pub tidy : IsTidy world
+  pub same : is_racing world.kept.phase ≡ is_racing w.kept.phase
+  pub on_way : IsOn world
+  pub told : WasTold Took w world old new
+  pub untold : List Report
+  pub since : reports v.run ≡ reports world.run ++ untold
+  pub few : length untold ≤ 1
+
+-- A tidy world was reached on the way, where memory was wanting, or the outlet broke. Of a race nothing
+-- is on the way: for want of memory none of it was told, or all, unless the outlet itself took no more.
 pub record WasCut {R K : Type 0} (Counts : World → R → Type 0) (Took : K → Report → K → Type 0)
-    (Broke : K → Report → K → Broken → Type 0) (w : World) (out : Course) (old : K)
+    (Broke : K → Report → K → Broken → Type 0) (w : World) (IsOn : World → Type 0) (old : K)
     (new : Moment R K) (halt : Halt) : Type 0 where
   pub world : World
   pub tidy : IsTidy world
   pub counts : Counts world new.value
   pub same : is_racing world.kept.phase ≡ is_racing w.kept.phase
-  pub begins : Begins (reports world.run) (reported out)
-  pub cause : ((halt ≡ halts.Memory) × WasTold Took w world old new.outlet)
+  pub on_way : IsOn world
+  pub cause : ((halt ≡ halts.Memory) × WasToldTo Took w world IsOn old new.outlet)
       ⊎ WasBroken Took Broke w world old new.outlet halt
 
--- How a call ends that begins in a world, and whose course would be this one: in the midst of a race
+-- How a call ends that begins in a world, and would perform this act: in the midst of a race
 -- where it began there, and with the chances that come behind it. Its value then stands for the
 -- world; where it ended early it has its tally, and at a stop what the halt leaves.
 abbrev pub Ends : {R K : Type 0} → (World → R → Type 0) → (Halt → World → R → Type 0)
-    → (World → R → Type 0) → (K → Report → K → Type 0) → (K → Report → K → Broken → Type 0) → World → List Chance → Course
+    → (World → R → Type 0) → (K → Report → K → Type 0) → (K → Report → K → Broken → Type 0) → World → List Chance → Act
     → K → Moment R K → Result (Unit {0}) Halt → Type 0
-Ends Stands Leaves Counts Took Broke w later out old new (Ok done) =
-    (v : World) × (out ≡ Goes v) × IsReached Stands v new.value
+Ends Stands Leaves Counts Took Broke w later act old new (Ok done) =
+    (v : World) × (perform act w ≡ Goes v) × IsReached Stands v new.value
     × WasTold Took w v old new.outlet × (v.kept.chances ≡ later)
     × (is_racing v.kept.phase ≡ is_racing w.kept.phase)
-Ends Stands Leaves Counts Took Broke w later out old new (Err halt) =
-    IsStopped Leaves Took w later out old new halt
-    ⊎ WasCut Counts Took Broke w out old new halt
+Ends Stands Leaves Counts Took Broke w later act old new (Err halt) =
+    IsStopped Leaves Took w later (perform act w) old new halt
+    ⊎ WasCut Counts Took Broke w (IsOnWay act w) old new halt

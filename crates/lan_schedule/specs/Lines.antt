@@ -1,6 +1,6 @@
 -- What each line of a trace performs (this profile's own rule).
 use Rattle.std.specs.Prelude.{ℕ, ◌+◌, ◌-◌, ◌==◌, ◌||◌, ◌&&◌, nat_le, not, Bool, true, List}
-use Rattle.std.specs.Prelude.{[], ◌∷◌, ◌++◌, length, map, nat_lt, if◌then◌else◌}
+use Rattle.std.specs.Prelude.{[], ◌∷◌, ◌++◌, length, map, min, nat_lt, if◌then◌else◌}
 use Rattle.std.specs.List.{filter}
 use Rattle.std.specs.Prelude.{Option, Some, None, Result, Ok}
 use Rattle.lan_base.specs.declared.frame.UserFrame.{UserFrame}
@@ -78,8 +78,12 @@ due_of lag rounds frames = map (λ put. put.number) (filter (is_due lag rounds) 
 abbrev pub due : World → List ℕ
 due w = due_of (lag_of w.kept.chosen) w.kept.rounds w.kept.frames
 
+-- the count of flow rounds with one more, as far as 64 bits count them
+abbrev pub round_after : ℕ → ℕ
+round_after rounds = min (rounds + 1) 18446744073709551615
+
 abbrev pub begin_round : Act
-begin_round = change (λ kept. record kept { rounds = kept.rounds + 1 })
+begin_round = change (λ kept. record kept { rounds = round_after kept.rounds })
 
 -- a round of ticks, and then each frame whose round has come is spread, in the order of the numbers
 abbrev pub flow_round : Act
@@ -226,10 +230,15 @@ abbrev pub deed_read : Result (Option Line) TextFault → World → Act
 deed_read (Ok (Some line)) w = deed_at line w w.kept.phase
 deed_read _ w = nothing
 
+-- the number of the line behind that of a number; the greatest number of 32 bits is that of all lines
+-- from there on
+abbrev pub line_after : ℕ → ℕ
+line_after line = min (line + 1) 4294967295
+
 -- what a text without its line ending performs, as the next line
 abbrev pub performed : List ℕ → Act
 performed text =
-    seq (change (λ kept. record kept { line = kept.line + 1 }))
+    seq (change (λ kept. record kept { line = line_after kept.line }))
     (look (λ w. unless_refused (first_refusal text w) (deed_read (line_in text) w)))
 
 -- what lines perform
@@ -239,7 +248,7 @@ performed_all texts = each performed texts
 -- a trace doesn't end inside a race: what is refused is the line that isn't there
 abbrev pub close_at : Phase → Act
 close_at Apart = nothing
-close_at _ = seq (change (λ kept. record kept { line = kept.line + 1 })) (refuse NoEnd)
+close_at _ = seq (change (λ kept. record kept { line = line_after kept.line })) (refuse NoEnd)
 
 abbrev pub close : Act
 close = look (λ w. close_at w.kept.phase)

@@ -1,5 +1,5 @@
 -- For which world a replay stands.
-use Rattle.std.specs.Prelude.{◌≡◌, ◌⊎◌, ◌<◌, ◌≤◌, ◌+◌, ℕ, true, List, [], ◌++◌, length, Option, Some, None}
+use Rattle.std.specs.Prelude.{◌≡◌, ◌<◌, ◌≤◌, ℕ, true, List, [], ◌++◌, length, Option, Some, None}
 use Rattle.std.specs.Prelude.{Result, Ok, Err}
 use Rattle.std.specs.List.{AllByRecursion}
 use Rattle.lan_core.specs.Run.{facts_of}
@@ -7,7 +7,6 @@ use Rattle.lan_core.specs.Types.{IsUserFrame}
 use Rattle.trace_text.specs.Writing.{IsInForm}
 use Rattle.fact_tally.specs.Summary.{counts}
 use Rattle.trace_acts.specs.declared.halt.Halt.{Halt}
-use Rattle.trace_acts.specs.declared.halt.Halt.TheVariants.{Memory}
 use Rattle.trace_acts.specs.declared.broken.Broken.{Broken}
 use Rattle.trace_acts.specs.Names.{names_of}
 use Rattle.lan_schedule.specs.declared.stage.Stage.{Stage}
@@ -19,7 +18,7 @@ use Rattle.lan_schedule.specs.Races.{workers_at}
 use Rattle.lan_schedule.specs.World.{World, nothing_kept}
 use Rattle.lan_schedule.specs.Acts.{Act, Goes, Stops, perform}
 use Rattle.lan_schedule.specs.Kinds.{is_control, most_workers, wrong_name}
-use Rattle.lan_schedule.specs.Lines.{at_line, close}
+use Rattle.lan_schedule.specs.Lines.{at_line, close, line_after}
 use Rattle.lan_schedule.specs.Reports.{Report}
 use Rattle.lan_schedule.specs.Ends.{Moment, IsReached, Ends}
 use Rattle.lan_schedule.specs.Stages.{StandsFor as StageStandsFor, Counts as StageCounts}
@@ -88,13 +87,10 @@ pub record Does {K : Type 0} (Took : K → Report → K → Type 0)
   pub chances : List Chance
   pub ends : (w : World) (later : List Chance) → w.kept.chances ≡ chances ++ later
       → IsReached StandsFor w old.value
-      → Ends StandsFor (λ halt. Counts) Counts Took Broke w later (perform act w) old.outlet new
+      → Ends StandsFor (λ halt. Counts) Counts Took Broke w later act old.outlet new
       result
 
--- The end of a trace, whose lines made this world: nothing more comes, or it stops there. Where the
--- last line has the greatest number of 32 bits, the line behind it may also have none.
+-- the end of a trace, whose lines made this world: nothing more comes, or it stops there
 abbrev pub Closes : World → Result (Unit {0}) Halt → Type 0
 Closes w (Ok done) = perform close w ≡ Goes w
-Closes w (Err halt) =
-    (perform close w ≡ Stops (at_line (w.kept.line + 1) w) halt)
-    ⊎ ((halt ≡ Memory) × (4294967295 ≤ w.kept.line))
+Closes w (Err halt) = perform close w ≡ Stops (at_line (line_after w.kept.line) w) halt

@@ -16,7 +16,7 @@ ghost use Rattle.lan_schedule.specs.Races.{Chance};
 ghost use Rattle.lan_schedule.specs.World.{World, beginning};
 ghost use Rattle.lan_schedule.specs.Acts.{look};
 ghost use Rattle.lan_schedule.specs.Lines.{numbered, at_line, act_of, deed};
-ghost use Rattle.lan_schedule.specs.Lines.{performed};
+ghost use Rattle.lan_schedule.specs.Lines.{line_after, performed};
 ghost use Rattle.lan_schedule.specs.Ends.{moment};
 ghost use Rattle.lan_schedule.specs.Standing.{StandsFor, Counts, Does, Closes, phase_of};
 ghost use Rattle.lan_schedule.specs.Shown.{words_of};
@@ -24,7 +24,7 @@ ghost use Rattle.lan_schedule.specs.Woven.{RunsRace, is_controlling, race_in};
 
 use crate::phase::Phase;
 use crate::race::run_race;
-use crate::recorder::Recorder;
+use crate::recorder::{Preparing, Recorder};
 use crate::stage::Stage;
 use fact_tally::Tally;
 use packet_claims::Gate;
@@ -84,7 +84,7 @@ impl Replay {
     /// the next one happens, but for a race: its end runs it whole, and then tells what it showed. An
     /// error halts the replay: it answers that error from then on, and keeps the tally of what had
     /// happened. However it ends, no seat is out that a worker had.
-    pub fn command<T: Threads + Sync, K, R: Recorder<K>, G: Gate + Sync>(
+    pub fn command<T: Threads + Sync, K, R: Preparing<K>, G: Gate + Sync>(
         &mut self,
         rt: &T,
         number: u32,
@@ -118,7 +118,7 @@ impl Replay {
     /// Performs a text without its line ending, as the next line, and tells what each event shows
     /// before the next one happens. An error halts the replay, as that of a command does, and no seat is
     /// out.
-    pub fn text<T: Threads + Sync, K, R: Recorder<K>, G: Gate + Sync>(
+    pub fn text<T: Threads + Sync, K, R: Preparing<K>, G: Gate + Sync>(
         &mut self,
         rt: &T,
         text: &[u8],
@@ -129,7 +129,7 @@ impl Replay {
         ensures does { Does R.Took R.Broke (performed text.now)
             (moment self.old outlet.old) (moment self.new outlet.new) result }
         ensures race { line_in text.now ≡ Ok (Some lines.End)
-            → RunsRace R.Took R.Broke (λ w. at_line (w.kept.line + 1) w) (performed text.now)
+            → RunsRace R.Took R.Broke (λ w. at_line (line_after w.kept.line) w) (performed text.now)
             (moment self.old outlet.old) (moment self.new outlet.new) result }
         ensures seats { NoMoreOut (words_of self.old) (words_of self.new) }
         ensures halts { IfErr result (λ halt. self.new.halted ≡ Some halt) }
@@ -149,7 +149,7 @@ impl Replay {
     /// Runs the race that is kept, as its end does, whose line has the number of the last one: control's
     /// lines are performed while the workers of its bursts claim, and what both did then stands in one
     /// run. An error halts the replay, as that of a command does, and no seat is out.
-    pub fn race<T: Threads + Sync, K, R: Recorder<K>, G: Gate + Sync>(
+    pub fn race<T: Threads + Sync, K, R: Preparing<K>, G: Gate + Sync>(
         &mut self,
         rt: &T,
         recorder: &mut R,
@@ -185,17 +185,14 @@ impl Replay {
         if !self.phase.is_inside() {
             return Ok(());
         }
-        let Some(line) = self.line().checked_add(1) else {
-            return Err(Halt::Memory);
-        };
         Err(Halt::Trace {
-            line,
+            line: self.line().saturating_add(1),
             kind: Kind::NoEnd,
         })
     }
 
     /// Performs a text as the next line.
-    fn perform_text<T: Threads + Sync, K, R: Recorder<K>, G: Gate + Sync>(
+    fn perform_text<T: Threads + Sync, K, R: Preparing<K>, G: Gate + Sync>(
         &mut self,
         rt: &T,
         text: &[u8],
@@ -206,13 +203,11 @@ impl Replay {
         ensures does { Does R.Took R.Broke (performed text.now)
             (moment self.old outlet.old) (moment self.new outlet.new) result }
         ensures race { line_in text.now ≡ Ok (Some lines.End)
-            → RunsRace R.Took R.Broke (λ w. at_line (w.kept.line + 1) w) (performed text.now)
+            → RunsRace R.Took R.Broke (λ w. at_line (line_after w.kept.line) w) (performed text.now)
             (moment self.old outlet.old) (moment self.new outlet.new) result }
         ensures seats { NoMoreOut (words_of self.old) (words_of self.new) }
     {
-        let Some(number) = self.line().checked_add(1) else {
-            return Err(Halt::Memory);
-        };
+        let number = self.line().saturating_add(1);
         match read_line(self.alloc, text) {
             Ok(None) => {
                 self.begin_line(number);
@@ -228,7 +223,7 @@ impl Replay {
     }
 
     /// Performs the line of a number.
-    fn perform_line<T: Threads + Sync, K, R: Recorder<K>, G: Gate + Sync>(
+    fn perform_line<T: Threads + Sync, K, R: Preparing<K>, G: Gate + Sync>(
         &mut self,
         rt: &T,
         number: u32,
@@ -272,7 +267,7 @@ impl Replay {
     }
 
     /// Performs a line.
-    fn perform<T: Threads + Sync, K, R: Recorder<K>, G: Gate + Sync>(
+    fn perform<T: Threads + Sync, K, R: Preparing<K>, G: Gate + Sync>(
         &mut self,
         rt: &T,
         line: &Line,
@@ -306,7 +301,7 @@ impl Replay {
     }
 
     /// The race that is kept is run.
-    fn run_kept<T: Threads + Sync, K, R: Recorder<K>, G: Gate + Sync>(
+    fn run_kept<T: Threads + Sync, K, R: Preparing<K>, G: Gate + Sync>(
         &mut self,
         rt: &T,
         recorder: &mut R,

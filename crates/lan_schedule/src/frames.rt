@@ -2,7 +2,7 @@
 
 ghost use Rattle.std.specs.Prelude.{◌≡◌, ◌+◌, ◌-◌, ◌++◌, ◌∷◌, [], if◌then◌else◌, length, IfOk, OnOk};
 ghost use Rattle.lan_schedule.specs.World.{puts, put_by, marked_at, sender_at, Flow};
-ghost use Rattle.lan_schedule.specs.Lines.{due_of};
+ghost use Rattle.lan_schedule.specs.Lines.{due_of, round_after};
 
 use lan_core::Fact;
 use std::alloc::{AllocError, Global};
@@ -58,16 +58,12 @@ impl Frames {
         self.frames.len()
     }
 
-    /// A round begins. An `Err` leaves all as it was; no trace has so many rounds.
-    pub fn begin_round(&mut self) -> Result<(), AllocError>
-        ensures ok { OnOk result (self.new
-            ≡ record { frames = self.old.frames; rounds = self.old.rounds + 1 }) }
+    /// A round begins. Rounds are counted as far as they can be.
+    pub fn begin_round(&mut self)
+        ensures { self.new
+            ≡ record { frames = self.old.frames; rounds = round_after self.old.rounds } }
     {
-        let Some(rounds) = self.rounds.checked_add(1) else {
-            return Err(AllocError);
-        };
-        self.rounds = rounds;
-        Ok(())
+        self.rounds = self.rounds.saturating_add(1);
     }
 
     /// The frames that facts put on the air come.

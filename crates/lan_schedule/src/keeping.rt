@@ -1,11 +1,11 @@
 //! What events show is kept, to be told later.
 
-ghost use Rattle.std.specs.Prelude.{◌≡◌, ◌++◌, ◌∷◌, [], OnOk};
-ghost use Rattle.lan_schedule.specs.inside.Weaves.{first_kept, rest_kept};
+ghost use Rattle.std.specs.Prelude.{◌≡◌, ◌++◌, ◌∷◌, [], OnOk, IfOk, length};
+ghost use Rattle.lan_schedule.specs.inside.Weaves.{first_kept, rest_kept, reports_with};
 
-use crate::recorder::Recorder;
+use crate::recorder::{Preparing, Recorder};
 use lan_base::Name;
-use lan_core::{Fact, Facts};
+use lan_core::Facts;
 use std::alloc::{AllocError, Global};
 use std::collections::VecDeque;
 use std::marker::Model;
@@ -44,16 +44,20 @@ impl Kept {
         Ok(())
     }
 
-    /// A recorder takes the memory that telling all of this will need.
-    pub fn prepare<K, R: Recorder<K>>(
+    /// A recorder makes all of this ready, so that telling it wants no memory. How many reports it is.
+    pub fn prepare<K, R: Preparing<K>>(
         &self,
         names: &[Name],
         recorder: &mut R,
-    ) -> Result<(), AllocError> {
+    ) -> Result<usize, AllocError>
+        ensures { IfOk result (λ count. (count ≡ length self.now)
+            × R.Ready recorder.new (reports_with names.now self.now)) }
+    {
+        recorder.clear();
         for facts in &self.shown {
             recorder.prepare(names, facts.as_slice())?;
         }
-        Ok(())
+        Ok(self.shown.len())
     }
 
     /// Takes out what the oldest event showed, if there is one.
@@ -74,10 +78,6 @@ impl Recorder<Kept> for Keeping {
     ghost Took = { KeepsReport };
 
     ghost Broke = { KeepsNoMore };
-
-    fn prepare(&mut self, _names: &[Name], _facts: &[Fact]) -> Result<(), AllocError> {
-        Ok(())
-    }
 
     fn record(&mut self, _names: &[Name], facts: Facts, outlet: &mut Kept) -> Result<(), Broken> {
         outlet.keep(facts)?;

@@ -1,9 +1,12 @@
 //! Laws of whole traces.
 
-ghost use Rattle.std.specs.Prelude.{◌≡◌, ◌⊎◌, ◌≤◌, ◌<◌, ◌^◌, ℕ, List, length, false, map};
+ghost use Rattle.std.specs.Prelude.{◌≡◌, ◌⊎◌, ◌≤◌, ◌<◌, ◌^◌, ℕ, Contains, List, length, false, map};
 ghost use Rattle.association_slots.specs.Rule.{Around};
 ghost use Rattle.association_slots.specs.Views.{ControlAt, count as count_of, claimed};
 ghost use Rattle.association_slots.specs.declared.view.View.{View};
+ghost use Rattle.lan_core.specs.declared.fact.Fact.TheVariants as facts;
+ghost use Rattle.lan_core.specs.declared.fact.Lack.TheVariants.{Exhausted};
+ghost use Rattle.lan_core.specs.Run.{facts_of};
 ghost use Rattle.lan_core.specs.Ledgers.{claims};
 ghost use Rattle.lan_core.specs.Expected.{last_number};
 ghost use Rattle.group_safety.specs.Accounts.{numbers_at, shows_at};
@@ -80,4 +83,11 @@ pub fn law_control_was_told_what_the_run_claims()
 pub fn law_no_key_is_exhausted()
     ensures { (w : World) → IsTidy w → w.kept.raced ≡ false → length w.kept.users < last_number
         → (s : ℕ) → claimed_number (settings w) s w.run ≡ shown_next (settings w) s w.run }
+{}
+
+/// No claim of a run finds the key that transmits without a packet number left: in a race or outside, at
+/// each world that a call reaches.
+pub fn law_no_claim_is_exhausted()
+    ensures { (w : World) → IsTidy w → (s epoch : ℕ)
+        → Contains (facts_of w.run) (facts.Unclaimed s (Exhausted epoch)) → ⊥ }
 {}

@@ -20,6 +20,7 @@ mod words;
 pub use commands::Replay;
 pub use laws::{
     law_acts_stop_for_their_own_reasons, law_control_was_told_what_the_run_claims,
-    law_lines_leave_a_tidy_world, law_no_key_is_exhausted, law_the_words_show_the_core,
+    law_lines_leave_a_tidy_world, law_no_claim_is_exhausted, law_no_key_is_exhausted,
+    law_the_words_show_the_core,
 };
-pub use recorder::Recorder;
+pub use recorder::{Preparing, Recorder};

@@ -184,7 +184,7 @@ impl Stage {
         ensures { Did R.Took R.Broke flow_round
             (moment self.old outlet.old) (moment self.new outlet.new) result }
     {
-        self.frames.begin_round()?;
+        self.frames.begin_round();
         self.round(recorder, outlet, gate)?;
         let frames = self.frames.due(self.alloc, self.lag)?;
         self.spread_all(&frames, recorder, outlet, gate)

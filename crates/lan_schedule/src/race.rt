@@ -28,7 +28,7 @@ ghost use Rattle.lan_schedule.specs.inside.Staged.{Did};
 
 use crate::keeping::{Keeping, Kept};
 use crate::phase::{Burst, Numbered};
-use crate::recorder::Recorder;
+use crate::recorder::{Preparing, Recorder};
 use crate::stage::Stage;
 use crate::steering::Runner;
 use crate::weaving::{shown_in, tell_all};
@@ -89,7 +89,7 @@ pub struct Before {
 
 /// Runs a race: the lines of control are performed while the workers of the bursts claim. What both
 /// did then stands in one run, the claims that got a number are emitted, and all of it is told.
-pub fn run_race<T: Threads + Sync, K, R: Recorder<K>, G: Gate + Sync>(
+pub fn run_race<T: Threads + Sync, K, R: Preparing<K>, G: Gate + Sync>(
     rt: &T,
     mut stage: Stage,
     bursts: &[Burst],
@@ -418,8 +418,9 @@ impl Stage {
 
     // ---- behind the race
 
-    /// What control and the workers did stands in one run, and all that it shows is told.
-    fn end_race<K, R: Recorder<K>, G: Gate>(
+    /// What control and the workers did stands in one run, and all that it shows is told, once it is
+    /// ready.
+    fn end_race<K, R: Preparing<K>, G: Gate>(
         &mut self,
         before: Before,
         ran: Ran,
@@ -435,14 +436,16 @@ impl Stage {
         self.line = line;
         self.tally = tally.copied();
         match self.weave(ran, gate) {
-            Ok((shown, came)) => {
-                if shown.prepare(&self.names, recorder).is_err() {
-                    self.tally = tally;
-                    return Err(Halt::Memory);
+            Ok((shown, came)) => match shown.prepare(&self.names, recorder) {
+                Ok(count) => {
+                    tell_all(count, recorder, outlet)?;
+                    came
                 }
-                tell_all(&self.names, shown, recorder, outlet)?;
-                came
-            }
+                Err(_) => {
+                    self.tally = tally;
+                    Err(Halt::Memory)
+                }
+            },
             Err(_) => {
                 self.tally = tally;
                 Err(Halt::Memory)

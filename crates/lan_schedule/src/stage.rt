@@ -1,6 +1,6 @@
 //! A group at work: the lines after the first station are performed on it.
 
-ghost use Rattle.std.specs.Prelude.{◌≡◌, ◌==◌, ◌≤◌, ◌+◌, ◌++◌, true, is_some, nat_eq, length, map};
+ghost use Rattle.std.specs.Prelude.{◌≡◌, ◌==◌, ◌<◌, ◌≤◌, ◌+◌, ◌^◌, ◌++◌, true, is_some, nat_eq, length, map};
 ghost use Rattle.std.specs.Prelude.{OnOk, IfOk, IfErr, List, [], false, option_map};
 ghost use Rattle.std.specs.List.{position_or_len};
 ghost use Rattle.std.specs.Option.{option_copied};
@@ -180,7 +180,7 @@ impl Stage {
         self.words
             .follow(self.alloc, &self.lan, event, facts.as_slice(), gate)?;
         admit(&mut self.names, &mut self.scis, event)?;
-        put_octets(&mut self.octets, facts.as_slice())?;
+        put_octets(&mut self.octets, facts.as_slice());
         let after = self.epoch(event);
         keep(&mut self.steps, self.alloc, event, before, after)?;
         count_all(&mut self.tally, facts.as_slice());
@@ -569,17 +569,15 @@ fn keep(
     Ok(())
 }
 
-/// The octets of the frames that facts put on the air are counted. No trace has so many.
-fn put_octets(octets: &mut u64, facts: &[Fact]) -> Result<(), AllocError>
-    ensures { OnOk result (octets.new ≡ octets.old + octets_put facts.now) }
+/// The octets of the frames that facts put on the air are counted, as far as 64 bits count them. The air
+/// never has so many.
+fn put_octets(octets: &mut u64, facts: &[Fact])
+    ensures { octets.old + octets_put facts.now < 2 ^ 64
+        → octets.new ≡ octets.old + octets_put facts.now }
 {
     for fact in facts {
-        let Some(sum) = octets.checked_add(octets_of(fact)) else {
-            return Err(AllocError);
-        };
-        *octets = sum;
+        *octets = octets.saturating_add(octets_of(fact));
     }
-    Ok(())
 }
 
 /// The octets of the frame that a fact puts on the air, if there is one.

@@ -1,17 +1,17 @@
 //! What a race shows, in the order of its events, and that it is told.
 
-ghost use Rattle.std.specs.Prelude.{◌≡◌, List, IfOk, OnOk, MatchResult};
+ghost use Rattle.std.specs.Prelude.{◌≡◌, List, IfOk, OnOk, MatchResult, length};
 ghost use Rattle.lan_core.specs.declared.fact.Fact.{Fact};
 ghost use Rattle.fact_tally.specs.Summary.{counts};
-ghost use Rattle.lan_schedule.specs.Reports.{AreTold};
+ghost use Rattle.lan_schedule.specs.Reports.{AreTold, Report};
 ghost use Rattle.lan_schedule.specs.inside.Weaves.{shown_in, shown_of, kept_behind, frames_behind};
-ghost use Rattle.lan_schedule.specs.inside.Weaves.{claim_shown, facts_in, reports_with, WereToldUpTo};
+ghost use Rattle.lan_schedule.specs.inside.Weaves.{claim_shown, facts_in, WereToldUpTo};
 
 use crate::keeping::Kept;
-use crate::recorder::Recorder;
+use crate::recorder::Preparing;
 use crate::stage::count_all;
 use fact_tally::Tally;
-use lan_base::{Name, Protected};
+use lan_base::Protected;
 use lan_core::{Event, Fact, Facts, Lack};
 use std::alloc::{AllocError, Global};
 use trace_acts::Broken;
@@ -99,20 +99,18 @@ fn frames_behind<'f>(event: &Event, frames: &'f [Protected]) -> &'f [Protected]
     }
 }
 
-/// All that was kept is told, the oldest first.
-pub fn tell_all<K, R: Recorder<K>>(
-    names: &[Name],
-    mut shown: Kept,
+/// So many reports that a recorder has ready are told, the first one first.
+pub fn tell_all<K, R: Preparing<K>>(
+    count: usize,
     recorder: &mut R,
     outlet: &mut K,
 ) -> Result<(), Broken>
-    ensures { MatchResult result
-        (λ _. AreTold R.Took outlet.old (reports_with names.now shown) outlet.new)
-        (λ why. WereToldUpTo R.Took R.Broke (reports_with names.now shown) outlet.old outlet.new
-        why) }
+    ensures { (all : List Report) → R.Ready recorder.old all → length all ≡ count
+        → MatchResult result (λ _. AreTold R.Took outlet.old all outlet.new)
+        (λ why. WereToldUpTo R.Took R.Broke all outlet.old outlet.new why) }
 {
-    while let Some(facts) = shown.next() {
-        recorder.record(names, facts, outlet)?;
+    for _ in 0..count {
+        recorder.tell(outlet)?;
     }
     Ok(())
 }

@@ -28,6 +28,6 @@ pub mod FramesTaken
 pub mod ProtectedPart
 pub mod LogsFit
 pub mod NoStation
-mod RaceExample
-mod WovenExample
+pub mod RaceExample
+pub mod WovenExample
 pub mod Public

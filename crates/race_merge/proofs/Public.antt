@@ -15,3 +15,8 @@ pub use Rattle.race_merge.proofs.Thrift.{adds-none}
 -- Along each log of a race the places never fall; the frames of a woven part are protected.
 pub use Rattle.race_merge.proofs.Recount.{rising}
 pub use Rattle.race_merge.proofs.ProtectedPart.{woven-protected}
+-- The part that a race gives is woven.
+pub use Rattle.race_merge.proofs.WovenRun.{race-woven}
+-- A race that is worked by hand: what control performs, and where the claims of two logs stand.
+pub use Rattle.race_merge.proofs.RaceExample.{newest, twice, performed, bob-waits, bob-sends, legal-before, legal-after}
+pub use Rattle.race_merge.proofs.WovenExample.{begins_key, in-this-order, turned, turned-is-not-woven}

@@ -130,10 +130,10 @@ past-now s r l living = go (transmitting_at settings s r) refl
 
 -- ---- control
 
-legal-before : IsLegal settings twice r11
+pub legal-before : IsLegal settings twice r11
 legal-before = legal-more settings users users r11 (record { stepped = v11.stepped; excused = v11.excused none_ahead })
 
-legal-after : IsLegal settings twice r12
+pub legal-after : IsLegal settings twice r12
 legal-after = legal-more settings users users r12 (record { stepped = v12.stepped; excused = v12.excused none_ahead })
 
 are-performed : ArePerformed settings twice ans r11 performed

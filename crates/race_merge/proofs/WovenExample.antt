@@ -24,9 +24,9 @@ use Rattle.race_merge.proofs.WovenRun.{race-woven}
 
 -- ---- the merged list
 
--- the step in which bob begins the key
-abbrev begins : ℕ → ℕ → Move
-begins before after = record {
+-- the step in which bob begins_key the key
+abbrev pub begins_key : ℕ → ℕ → Move
+begins_key before after = record {
   x = newest r12;
   station = 1;
   before = before;
@@ -35,19 +35,19 @@ begins before after = record {
   gap = false;
 }
 
-one-step : moves ≡ begins 0 1 ∷ []
-one-step = ap (λ (n : ℕ). begins n (epoch_at settings 1 r12) ∷ []) (ap epoch_of bob-waits)
-    ∙ ap (λ (n : ℕ). begins 0 n ∷ []) (ap epoch_of bob-sends)
+one-step : moves ≡ begins_key 0 1 ∷ []
+one-step = ap (λ (n : ℕ). begins_key n (epoch_at settings 1 r12) ∷ []) (ap epoch_of bob-waits)
+    ∙ ap (λ (n : ℕ). begins_key 0 n ∷ []) (ap epoch_of bob-sends)
 
-abbrev taken : ℕ → ℕ → Mark
+abbrev pub taken : ℕ → ℕ → Mark
 taken s pn = Claim (attempt_of s (frame s pn))
 
-abbrev refused : Mark
+abbrev pub refused : Mark
 refused = Claim (attempt_of 1 (Refused 1 (NoKey 0)))
 
--- bob's refusal stands before he begins the key, and all else behind it: alice's claims first
-in-this-order : merged (begins 0 1 ∷ []) (entries_of (logs_of 0 logs))
-    ≡ refused ∷ Control 0 (begins 0 1) ∷ taken 0 1 ∷ taken 0 2 ∷ taken 1 1 ∷ []
+-- bob's refusal stands before he begins_key the key, and all else behind it: alice's claims first
+pub in-this-order : merged (begins_key 0 1 ∷ []) (entries_of (logs_of 0 logs))
+    ≡ refused ∷ Control 0 (begins_key 0 1) ∷ taken 0 1 ∷ taken 0 2 ∷ taken 1 1 ∷ []
 unfolding entries_of numbered in_order place ends
 in-this-order = refl
 
@@ -79,7 +79,7 @@ abbrev is_refused : Happening
 is_refused = happened (events.Claim 1 2 0) (facts.Unclaimed 1 lacks.NoKey ∷ [])
 
 -- two claims of one log that changed places
-abbrev turned : List Happening
+abbrev pub turned : List Happening
 turned = is_refused ∷ newest r12 ∷ claims 0 1 2 ∷ claims 0 1 1 ∷ claims 1 2 1 ∷ []
 
 pub turned-is-not-woven : IsWoven 0 turned (newest r12 ∷ []) (logs_of 0 logs) → ⊥

@@ -1,6 +1,6 @@
 -- How a trace of one group is performed by a player, and ends.
 use Rattle.std.proofs.Common.{◌≡◌, ◌⊎◌, ℕ, ◌≤◌, List, [], ◌∷◌, ◌++◌, Option, refl, sym, ap, ◌∙◌}
-use Rattle.std.proofs.Common.{subst, append_assoc, arith, inl, inr}
+use Rattle.std.proofs.Common.{subst, arith, inl, inr}
 use Rattle.std.specs.Prelude.{Result, Ok, Err, MatchResult}
 use Rattle.lan_base.specs.Faults.{Rose}
 use Rattle.lan_base.specs.Told.{after}
@@ -15,14 +15,13 @@ use Rattle.trace_acts.specs.declared.broken.Broken.TheVariants as broken
 use Rattle.lan_schedule.specs.declared.commands.Replay.{Replay}
 use Rattle.lan_schedule.specs.Races.{Chance}
 use Rattle.lan_schedule.specs.World.{World, beginning}
-use Rattle.lan_schedule.specs.Acts.{Act, Course, Goes, Stops, perform, and_then, course}
+use Rattle.lan_schedule.specs.Acts.{Act, Goes, Stops, perform, course}
 use Rattle.lan_schedule.specs.Lines.{performed_all, close}
 use Rattle.lan_schedule.specs.Reports.{Report, reports}
-use Rattle.lan_schedule.specs.Ends.{Begins, IsReached, WasTold, WasBroken as RecorderBroke}
-use Rattle.lan_schedule.specs.Ends.{reported}
+use Rattle.lan_schedule.specs.Ends.{IsReached, WasTold, WasBroken as RecorderBroke}
 use Rattle.lan_schedule.specs.Sound.{IsTidy}
 use Rattle.lan_schedule.specs.Standing.{StandsFor, Closes}
-use Rattle.lan_schedule.proofs.Public.{grows, each-append, does-whole, does-whole-early}
+use Rattle.lan_schedule.proofs.Public.{way-front, does-whole, does-whole-early}
 use Rattle.replay.specs.declared.cause.Cause.TheVariants as causes
 use Rattle.replay.specs.Sinks.{Sunk, Wrote, BrokeOff, WroteSome, Fails}
 use Rattle.replay.specs.Shown.{summary_of}
@@ -109,15 +108,20 @@ module _ {P K : Type 0} (given : Given) (Took : K → Report → K → Type 0)
       elim (d.ends (beginning c) [] refl (begins old c fresh)) [
         | inl s ↦ absurd (given.never act (beginning c) s.world halts.Memory s.stops
             (inl refl))
-        | inr cut ↦ (
-          cut.world,
-          (c, cut.begins),
-          record { tidy = cut.tidy; apart = cut.same },
-          elim cut.cause [
-            | inl m ↦ inl (was-told c cut.world _ _ m.1)
-            | inr b ↦ inr (fails-broke _ _ _ b.why (was-broken c cut.world _ _ halts.Memory b))
-          ],
-        )
+        | inr cut ↦ elim cut.cause [
+          | inl m ↦ (
+            m.1.world,
+            (c, m.1.on_way),
+            record { tidy = m.1.tidy; apart = m.1.same },
+            inl (was-told c m.1.world _ _ m.1.told),
+          )
+          | inr b ↦ (
+            cut.world,
+            (c, cut.on_way),
+            record { tidy = cut.tidy; apart = cut.same },
+            inr (fails-broke _ _ _ b.why (was-broken c cut.world _ _ halts.Memory b)),
+          )
+        ]
       ]
 
   broke-off : (act : Act) (old new : LinesMoment P K) → IsFresh old
@@ -133,7 +137,7 @@ module _ {P K : Type 0} (given : Given) (Took : K → Report → K → Type 0)
           | inl m ↦ absurd (cc (m.0))
           | inr b ↦
               let f = fails-rose _ _ _ b.why b.is (was-broken c cut.world _ _ halts.Broken b) in
-              (f.0, (cut.world, (c, cut.begins), record { tidy = cut.tidy; apart = cut.same }, f.1))
+              (f.0, (cut.world, (c, cut.on_way), record { tidy = cut.tidy; apart = cut.same }, f.1))
         ]
       ]
 
@@ -144,19 +148,7 @@ module _ {P K : Type 0} (given : Given) (Took : K → Report → K → Type 0)
       (performed_all (front ++ rest))
   in-part front rest old new fresh d =
       let p = performed (performed_all front) old new fresh d in
-      let c = p.1.0 in
-      let all : course (performed_all (front ++ rest)) c ≡ perform (performed_all rest) p.0 =
-      each-append front rest (beginning c)
-      ∙ ap (λ (out : Course). and_then out (λ v. perform (performed_all rest) v)) p.1.1 in (
-        p.0,
-        (
-          c,
-          subst (λ (out : Course). Begins (reports p.0.run) (reported out)) (sym all)
-              (grows (performed_all rest) p.0),
-        ),
-        p.2,
-        inl p.3,
-      )
+      (p.0, (p.1.0, way-front front rest (beginning p.1.0) p.0 p.1.1), p.2, inl p.3)
 
   -- ---- since an earlier moment
 
@@ -177,7 +169,7 @@ module _ {P K : Type 0} (given : Given) (Took : K → Report → K → Type 0)
       elim (d.ends w [] is reached) [
         | inl s ↦ grew-told w s.world _ _ s.told
         | inr cut ↦ elim cut.cause [
-          | inl m ↦ grew-told w cut.world _ _ m.1
+          | inl m ↦ grew-told w m.1.world _ _ m.1.told
           | inr t ↦ grew-broke _ _ _
               (fails-broke _ _ _ t.why (since-broken w cut.world _ _ halt t))
         ]
@@ -243,16 +235,6 @@ module _ {P K : Type 0} (given : Given) (Took : K → Report → K → Type 0)
 
   -- ---- all of a text
 
-  -- what the lines of a text report, all of it reports
-  begins-closed : (front : List Report) (out : Course) → Begins front (reported out)
-      → Begins front (reported (and_then out (λ v. perform close v)))
-  begins-closed front (Stops v halt) b = b
-  begins-closed front (Goes v) b = let g = grows close v in record {
-    more = b.more ++ g.more;
-    parts = sym (append_assoc front b.more g.more)
-        ∙ ap (λ (l : List Report). l ++ g.more) b.parts ∙ g.parts;
-  }
-
   pub plays : Plays one_group IsSettled texts IsFresh seen (DidAct Took Broke of)
   plays = record {
     performed = performed;
@@ -263,10 +245,7 @@ module _ {P K : Type 0} (given : Given) (Took : K → Report → K → Type 0)
     went_on = went-on;
     rose = rose;
     whole_did = λ text old new halt d. does-whole-early (lines_of text) _ _ halt d;
-    whole_passes = λ text w h. (
-      h.0,
-      begins-closed (reports w.run) (course (performed_all (lines_of text)) h.0) h.1,
-    );
+    whole_passes = λ text w h. (h.0, inl h.1);
   }
 
   -- ---- the end of a trace
@@ -286,8 +265,7 @@ module _ {P K : Type 0} (given : Given) (Took : K → Report → K → Type 0)
 
   -- no sink is at fault there
   never-broken : (w : World) (halt : Halt) → Closes w (Err halt) → halt ≡ halts.Broken → ⊥
-  never-broken w halt (inl stops) is = given.never close w _ halt stops (inr is)
-  never-broken w halt (inr without) is = let memory = without.0 in cc (memory, is)
+  never-broken w halt stops is = given.never close w _ halt stops (inr is)
 
   -- the source ended inside a race
   pub ended-badly : (at_end : World → List (List ℕ)) (left now : Sourced)

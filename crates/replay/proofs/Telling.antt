@@ -1,7 +1,11 @@
 -- What a sink holds after a recorder was told reports.
-use Rattle.std.proofs.Common.{◌≡◌, ℕ, List, [], ◌∷◌, ◌++◌, map, sym, ap, ◌∙◌, subst}
+use Rattle.std.proofs.Common.{◌≡◌, ℕ, List, [], ◌∷◌, ◌++◌, map, refl, sym, ap, ◌∙◌, subst, inr}
+use Rattle.std.specs.Prelude.{◌⊎◌, Result, Err, MatchResult}
+use Rattle.std.specs.Result.{IsErrAnd}
+use Rattle.std.proofs.lemmas.Result.{err_from_is_err_and}
 use Rattle.std.proofs.lemmas.List.{map-append}
 use Rattle.trace_acts.specs.declared.broken.Broken.{Broken}
+use Rattle.trace_acts.specs.declared.broken.Broken.TheVariants.{Memory}
 use Rattle.lan_schedule.specs.Reports.{Report, AreTold}
 use Rattle.replay.specs.Sinks.{Sunk, Wrote, Fails}
 use Rattle.replay.specs.Shown.{text_of}
@@ -57,3 +61,38 @@ module _ {K : Type 0} (see : K → Sunk) where
     tells = nothing-told;
     breaks = λ a b c xs x behind why told broke. absurd broke;
   }
+
+-- what a recorder rendered for itself alone leaves the outlet as it was
+pub unwritten : {K : Type 0} (A : Unit {0} → Type 0) (B : Broken → Type 0) (now : K)
+    (r : Result (Unit {0}) Broken) → IsErrAnd r (λ y. y ≡ Memory)
+    → MatchResult r A (λ y. B y ⊎ ((y ≡ Memory) × (now ≡ now)))
+unwritten A B now r is =
+    let p = err_from_is_err_and r is in
+    subst (λ (r : Result (Unit {0}) Broken). MatchResult r A (λ y. B y ⊎ ((y ≡ Memory) × (now ≡ now))))
+    (sym (p.1 ∙ ap (λ (y : Broken). Err y) p.2)) (inr (refl, refl))
+
+-- ---- what is ready
+
+module _ {A : Type 0} (text : A → List ℕ) where
+  -- one more text is ready
+  pub ready-more : (xs : List A) (x : A) (reports : List Report) (report : Report)
+      → map text xs ≡ map text_of reports → text x ≡ text_of report
+      → map text (xs ++ x ∷ []) ≡ map text_of (reports ++ report ∷ [])
+  ready-more xs x reports report before is =
+      map-append text xs (x ∷ []) ∙ (λ i. before i ++ is i ∷ [])
+      ∙ sym (map-append text_of reports (report ∷ []))
+
+  -- the first that is ready is that of the first report
+  pub ready-first : (xs : List A) (x : A) (rest : List A) (report : Report) (later : List Report)
+      → xs ≡ x ∷ rest → map text xs ≡ map text_of (report ∷ later)
+      → (text x ≡ text_of report) × (map text rest ≡ map text_of later)
+  ready-first xs x rest report later parts is =
+      let both : map text (x ∷ rest) ≡ map text_of (report ∷ later) =
+      ap (λ (l : List A). map text l) (sym parts) ∙ is in (cc both, cc both)
+
+  -- there is one
+  pub ready-some : (xs : List A) (report : Report) (later : List Report) → xs ≡ []
+      → map text xs ≡ map text_of (report ∷ later) → ⊥
+  ready-some xs report later none is =
+      let bad : [] ≡ map text_of (report ∷ later) = ap (λ (l : List A). map text l) (sym none) ∙ is in
+      cc bad

@@ -2,12 +2,10 @@
 use Rattle.std.specs.Prelude.{◌≡◌, ℕ, Bool, true, false, List, [], ◌∷◌}
 use Rattle.text_lines.specs.Texts.{lines_of}
 use Rattle.lan_schedule.specs.Races.{Chance}
-use Rattle.lan_schedule.specs.World.{World, is_racing}
-use Rattle.lan_schedule.specs.Acts.{Act, Goes, Stops, course}
+use Rattle.lan_schedule.specs.World.{World, beginning, is_racing}
+use Rattle.lan_schedule.specs.Acts.{Act, Goes, Stops, course, IsOnWay}
 use Rattle.lan_schedule.specs.Lines.{performed_all, performed_whole}
 use Rattle.lan_schedule.specs.Sound.{IsTidy}
-use Rattle.lan_schedule.specs.Reports.{reports}
-use Rattle.lan_schedule.specs.Ends.{Begins, reported}
 use Rattle.replay.specs.Runs.{Performing, Shows}
 use Rattle.replay.specs.Shown.{summary_of, texts_of}
 
@@ -15,15 +13,15 @@ use Rattle.replay.specs.Shown.{summary_of, texts_of}
 abbrev pub whole : List ℕ → Act
 whole text = performed_whole (lines_of text)
 
--- lines are performed as chance decides, and a text as they are
+-- Lines are performed as chance decides, and a text as they are. A world that an act comes by has the
+-- settings, the user frames and the races of the lines so far.
 abbrev pub one_group : Performing Act World
 one_group = record {
   lines = performed_all;
   whole = whole;
   Reaches = λ act w. (chances : List Chance) × (course act chances ≡ Goes w);
   Stops = λ act w halt. (chances : List Chance) × (course act chances ≡ Stops w halt);
-  Passes = λ act w. (chances : List Chance)
-      × Begins (reports w.run) (reported (course act chances));
+  Passes = λ act w. (chances : List Chance) × IsOnWay act (beginning chances) w;
 }
 
 -- the transcript; or the summary, and nothing before the end

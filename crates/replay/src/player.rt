@@ -1,7 +1,7 @@
 //! Who takes the lines of a trace: a replay, and whoever is told what it shows.
 
 use crate::gate::AnyGate;
-use lan_schedule::{Recorder, Replay};
+use lan_schedule::{Preparing, Replay};
 use std::thread::Threads;
 use text_lines::LineTaker;
 use trace_acts::Halt;
@@ -15,7 +15,7 @@ pub struct Player<'g, T, R> {
     pub gate: &'g AnyGate,
 }
 
-impl<T: Threads + Sync, K, R: Recorder<K>> LineTaker<K> for Player<'_, T, R> {
+impl<T: Threads + Sync, K, R: Preparing<K>> LineTaker<K> for Player<'_, T, R> {
     ghost use Rattle.std.specs.Thread.{IsSync};
     ghost use Rattle.replay.specs.inside.Playing.{DidLines};
     ghost use Rattle.lan_schedule.proofs.Public.{does-none, does-more, does-early};

@@ -6,24 +6,29 @@ ghost use Rattle.transcript.specs.Rendering.{transcript};
 use crate::writing::write;
 use lan_base::{Name, Sink};
 use lan_core::{Fact, Facts};
-use lan_schedule::Recorder;
-use rx_slots::Arrival;
+use lan_schedule::{Preparing, Recorder};
 use std::alloc::{AllocError, Global};
+use std::collections::VecDeque;
 use trace_acts::Broken;
 use transcript::render;
 
 /// A recorder that writes the lines of each event's facts by one call.
 #[derive(Drop)]
 pub struct Transcript {
+    alloc: Global,
     /// The lines of one event.
     out: Vec<u8>,
+    /// The lines of each event of a race that are ready.
+    ready: VecDeque<Vec<u8>>,
 }
 
 impl Transcript {
     /// Nothing was rendered.
     pub fn new(alloc: Global) -> Self {
         Transcript {
+            alloc,
             out: Vec::new(alloc),
+            ready: VecDeque::new(alloc),
         }
     }
 }
@@ -39,37 +44,35 @@ impl<K: Sink> Recorder<K> for Transcript {
     ghost Broke = { λ old report new why. Fails (text_of report ∷ [])
         (sunk (K.held old) (K.faults old)) (sunk (K.held new) (K.faults new)) why };
 
-    fn prepare(&mut self, _names: &[Name], facts: &[Fact]) -> Result<(), AllocError> {
-        self.out.clear();
-        self.out.reserve(room_for(facts))
-    }
-
     fn record(&mut self, names: &[Name], facts: Facts, outlet: &mut K) -> Result<(), Broken> {
         render_all(facts.as_slice(), names, &mut self.out)?;
         write(self.out.as_slice(), outlet)
     }
 }
 
-/// How many octets the words of a line have at most, beside a frame or user data.
-const WORDS: usize = 256;
+impl<K: Sink> Preparing<K> for Transcript {
+    ghost use Rattle.std.specs.Prelude.{◌≡◌, map};
+    ghost use Rattle.replay.specs.Shown.{text_of};
 
-/// Room for the lines of one event's facts: frames and user data are written as hexadecimal digits.
-fn room_for(facts: &[Fact]) -> usize {
-    let mut room = 0usize;
-    for fact in facts {
-        let octets = match fact {
-            Fact::Framed { octets, .. } => octets.len(),
-            Fact::Arrived {
-                arrival: Arrival::Accepted { body, .. },
-                ..
-            } => body.len(),
-            _ => 0,
-        };
-        room = room
-            .saturating_add(WORDS)
-            .saturating_add(octets.saturating_mul(2));
+    ghost Ready = { λ t reports. map (λ text. text.items) t.ready.items ≡ map text_of reports };
+
+    fn clear(&mut self) {
+        self.ready.clear();
     }
-    room
+
+    fn prepare(&mut self, names: &[Name], facts: &[Fact]) -> Result<(), AllocError> {
+        let mut text = Vec::new(self.alloc);
+        render_all(facts, names, &mut text)?;
+        self.ready.push_back(text)?;
+        Ok(())
+    }
+
+    fn tell(&mut self, outlet: &mut K) -> Result<(), Broken> {
+        match self.ready.pop_front() {
+            Some(text) => write(text.as_slice(), outlet),
+            None => Ok(()),
+        }
+    }
 }
 
 /// The lines of one event's facts, in place of what the buffer had.

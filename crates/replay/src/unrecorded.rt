@@ -2,7 +2,7 @@
 
 use lan_base::Name;
 use lan_core::{Fact, Facts};
-use lan_schedule::Recorder;
+use lan_schedule::{Preparing, Recorder};
 use std::alloc::AllocError;
 use trace_acts::Broken;
 
@@ -17,11 +17,21 @@ impl<K> Recorder<K> for Unrecorded {
 
     ghost Broke = { λ old report new why. ⊥ };
 
+    fn record(&mut self, _names: &[Name], _facts: Facts, _outlet: &mut K) -> Result<(), Broken> {
+        Ok(())
+    }
+}
+
+impl<K> Preparing<K> for Unrecorded {
+    ghost Ready = { λ _ reports. Unit {0} };
+
+    fn clear(&mut self) {}
+
     fn prepare(&mut self, _names: &[Name], _facts: &[Fact]) -> Result<(), AllocError> {
         Ok(())
     }
 
-    fn record(&mut self, _names: &[Name], _facts: Facts, _outlet: &mut K) -> Result<(), Broken> {
+    fn tell(&mut self, _outlet: &mut K) -> Result<(), Broken> {
         Ok(())
     }
 }

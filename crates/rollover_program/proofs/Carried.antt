@@ -16,7 +16,7 @@ use Rattle.lan_schedule.specs.World.{World as LanWorld, beginning, is_racing}
 use Rattle.lan_schedule.specs.Acts.{Course, Goes, course}
 use Rattle.lan_schedule.specs.Lines.{performed_all}
 use Rattle.lan_schedule.specs.Sound.{IsTidy}
-use Rattle.lan_schedule.specs.Ends.{reported}
+use Rattle.lan_schedule.proofs.Public.{way-start}
 use Rattle.replay.specs.declared.cause.Cause.{Cause}
 use Rattle.replay.specs.declared.cause.Cause.TheVariants as causes
 use Rattle.replay.specs.Sinks.{Sunk, BrokeOff}
@@ -111,7 +111,7 @@ pub not_run : Promise → ((chances : List Chance) → IsTidy (beginning chances
     → EndsAsRun summary text left left old old (Halted causes.Memory)
 not_run promise tidy summary text left old =
     none_done one_group IsPromised (shown_by summary) (beginning []) text left old ([], refl)
-    ([], record { more = reported (course (within one_group text) []); parts = refl })
+    ([], way-start (within one_group text) (beginning []))
     (promise (beginning []) (tidy []) refl) (none summary)
   where
     none : (summary : Bool) → (shown_by summary).before (beginning []) ≡ []

@@ -17,3 +17,5 @@ pub mod Carded
 pub mod CardsBehind
 pub mod Public
 mod Examples
+mod WordsExample
+pub mod BesideExample

@@ -241,7 +241,7 @@ pub record EndsRace {K : Type 0} (Took : K → Report → K → Type 0)
       → w.kept.chances ≡ has.beside.did.chances ++ (chances ++ later)
       → before.line ≡ w.kept.line → before.tally ≡ counts (facts_of w.run)
       → Ends StandsFor (λ halt. Counts) Counts Took Broke w later
-      (perform (race workers (control_act lines)) w) old.outlet new result
+      (race workers (control_act lines)) old.outlet new result
   pub woven : (w : World) (later : List Chance) (workers : List Worker) (lines : List Numbered)
       (has : HasRun w workers lines old.value ran)
       → w.kept.chances ≡ has.beside.did.chances ++ (chances ++ later)
@@ -261,7 +261,7 @@ pub record DidRace {K : Type 0} (Took : K → Report → K → Type 0)
       → IsReached StandsFor w old.value → is_racing w.kept.phase ≡ false
       → AreBursts (names_of w.run) bursts → Comes (run_race bursts control w) w
       → Ends StandsFor (λ halt. Counts) Counts Took Broke w later
-      (perform (run_race bursts control w) w) old.outlet new result
+      (run_race bursts control w) old.outlet new result
   pub woven : (w : World) (later : List Chance) → w.kept.chances ≡ chances ++ later
       → IsReached StandsFor w old.value → is_racing w.kept.phase ≡ false
       → AreBursts (names_of w.run) bursts → Comes (run_race bursts control w) w

@@ -1,12 +1,17 @@
 -- What a call on a group at work did of an act.
-use Rattle.std.specs.Prelude.{◌≡◌, ℕ, true, List, [], ◌++◌, Option, is_some, Result}
+use Rattle.std.specs.Prelude.{◌≡◌, ◌≤◌, ◌==◌, ℕ, true, List, [], ◌++◌, Option, Some, is_some, Result}
 use Rattle.lan_base.specs.declared.frame.UserFrame.{UserFrame}
 use Rattle.lan_core.specs.declared.event.Event.{Event}
 use Rattle.lan_core.specs.declared.event.Event.TheVariants.{Emit}
+use Rattle.lan_core.specs.declared.event.Event.TheVariants as events
 use Rattle.lan_core.specs.declared.fact.Fact.{Fact}
 use Rattle.lan_core.specs.declared.settings.Settings.{Settings}
 use Rattle.lan_core.specs.Run.{Run}
 use Rattle.lan_core.specs.Answers.{GoesOn}
+use Rattle.lan_core.specs.Claims.{next}
+use Rattle.lan_core.specs.Expected.{last_number}
+use Rattle.lan_core.specs.Lives.{transmitting_at}
+use Rattle.sak_exchange.specs.declared.held_key.Key.{Key}
 use Rattle.lan_core.specs.Standing.{StandsFor as GroupStandsFor}
 use Rattle.trace_acts.specs.declared.choices.Choices.{Choices}
 use Rattle.trace_acts.specs.declared.halt.Halt.{Halt}
@@ -16,7 +21,7 @@ use Rattle.lan_schedule.specs.declared.stage.Stage.{Stage}
 use Rattle.lan_schedule.specs.Races.{Chance}
 use Rattle.lan_schedule.specs.World.{World, Kept, nothing_kept, settings}
 use Rattle.lan_schedule.specs.Numbers.{decided}
-use Rattle.lan_schedule.specs.Acts.{Act, happen, perform}
+use Rattle.lan_schedule.specs.Acts.{Act, happen}
 use Rattle.lan_schedule.specs.Reports.{Report}
 use Rattle.lan_schedule.specs.Ends.{Moment, IsReached, Ends}
 use Rattle.lan_schedule.specs.Stages.{StandsWith, StandsFor, Counts}
@@ -35,7 +40,7 @@ pub record Did {K : Type 0} (Took : K → Report → K → Type 0)
   pub chances : List Chance
   pub ends : (mark : Mark) (w : World) (later : List Chance) → w.kept.chances ≡ chances ++ later
       → IsReached (StandsSince mark) w old.value → Comes act w
-      → Ends (StandsSince mark) (LeavesAt mark) Counts Took Broke w later (perform act w) old.outlet
+      → Ends (StandsSince mark) (LeavesAt mark) Counts Took Broke w later act old.outlet
       new result
   pub seats : KeepSeats old.value.words new.value.words
 
@@ -46,14 +51,21 @@ pub record DidWhere {K : Type 0} (Holds : World → Type 0) (Took : K → Report
   pub chances : List Chance
   pub ends : (mark : Mark) (w : World) (later : List Chance) → w.kept.chances ≡ chances ++ later
       → IsReached (StandsSince mark) w old.value → Holds w → Comes act w
-      → Ends (StandsSince mark) (LeavesAt mark) Counts Took Broke w later (perform act w) old.outlet
+      → Ends (StandsSince mark) (LeavesAt mark) Counts Took Broke w later act old.outlet
       new result
   pub seats : KeepSeats old.value.words new.value.words
+
+-- a claim without a number finds no key that transmits, or one that has a number left
+abbrev pub FindsLeft : Settings → Run → Event → Type 0
+FindsLeft settings r (events.Claim s user pn) = (pn == 0) ≡ true → (k : Key)
+    → transmitting_at settings s r ≡ Some k → next settings s k.epoch r ≤ last_number
+FindsLeft settings r _ = Unit {0}
 
 -- the words are set for an event, and looked at no more than it asks since what was kept
 pub record IsSetSince (event : Event) (mark : Mark) (w : World) (stage : Stage) : Type 0 where
   pub stands : StandsWith (AreSet event) w stage
   pub looked : HasLooked mark w stage.words (steps_of stage)
+  pub left : FindsLeft (settings w) w.run event
 
 -- an event happened, where the words are set for it, this user frame is the one that it names, and
 -- chance decides its number
@@ -64,7 +76,7 @@ pub record Happened {K : Type 0} (Took : K → Report → K → Type 0)
       → w.kept.chances ≡ decided old.value.raced event ++ later
       → IsReached (IsSetSince event mark) w old.value → given ≡ named w event
       → Comes (happen event) w
-      → Ends (StandsSince mark) (LeavesAt mark) Counts Took Broke w later (perform (happen event) w)
+      → Ends (StandsSince mark) (LeavesAt mark) Counts Took Broke w later (happen event)
       old.outlet new result
   pub seats : KeepSeats old.value.words new.value.words
   -- an emission moves no word
@@ -86,7 +98,7 @@ pub record WentOn {K : Type 0} (Took : K → Report → K → Type 0)
       → IsReached (IsSetSince event mark) w old.value → Comes (happen event) w
       → GoesOn (settings w) w.kept.users w.run event (supply_nth old.value.draws)
       (supply_nth mid.draws) mid.lan facts
-      → Ends (StandsSince mark) (LeavesAt mark) Counts Took Broke w later (perform (happen event) w)
+      → Ends (StandsSince mark) (LeavesAt mark) Counts Took Broke w later (happen event)
       old.outlet new result
   pub seats : KeepSeats old.value.words new.value.words
   -- an emission moves no word

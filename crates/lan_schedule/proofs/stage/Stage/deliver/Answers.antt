@@ -6,4 +6,5 @@ use Rattle.lan_schedule.proofs.stage.Stage.deliver.Goals as goal
 pub returns : goal.returns
 returns g c =
     plainly (Deliver c.args.frame c.args.station) _ _ _ (λ w. refl)
-    (λ raced racing settings run cs says. says) c.happen.ensures
+    (λ raced racing settings run cs says. says)
+    (λ settings run. tt) c.happen.ensures

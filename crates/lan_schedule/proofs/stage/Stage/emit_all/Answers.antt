@@ -13,6 +13,7 @@ returns-in_err-happen g c = record {
   did = span-exit (λ _. happen Emit) c.loop.counter c.args.count _ _ _ _ _ _ (omega arith)
       c.loop.invariant.0
       (plainly Emit _ _ _ (λ w. refl) (λ raced racing settings run cs says. says)
+      (λ settings run. tt)
       c.in_err-happen.ensures) c.from_residual.ensures.1;
   words = c.in_err-happen.ensures.still refl ∙ c.loop.invariant.1;
 }
@@ -22,6 +23,7 @@ loop-preserved g c = (
   span-step (λ _. happen Emit) c.loop.counter c.args.count _ _ _ _ (omega arith)
       c.loop.invariant.0
       (plainly Emit _ _ _ (λ w. refl) (λ raced racing settings run cs says. says)
+      (λ settings run. tt)
       c.in_ok-happen.ensures),
   c.in_ok-happen.ensures.still refl ∙ c.loop.invariant.1,
 )

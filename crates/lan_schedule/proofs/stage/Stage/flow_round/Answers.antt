@@ -5,10 +5,6 @@ use Rattle.lan_schedule.proofs.Looking.{due-leads, begin-does, round-begun}
 use Rattle.lan_schedule.proofs.Recorded.{seats-kept}
 use Rattle.lan_schedule.proofs.stage.Stage.flow_round.Goals as goal
 
-pub returns-in_err-begin_round : goal.returns-in_err-begin_round
-returns-in_err-begin_round g c =
-    handed-on _ _ _ _ _ (memory-does _ _ _ refl refl (seats-kept _)) c.from_residual.ensures.1
-
 pub returns-in_err-round : goal.returns-in_err-round
 returns-in_err-round g c =
     let begun = leads-step _ _ _ _ _ _ (leads-start flow_round _) (begin-does _ _
@@ -26,9 +22,9 @@ returns-in_err-round g c =
       raced = refl;
       octets = refl;
       steps = refl;
-    }) c.in_ok-begin_round.ensures.ok) refl) in
+    }) c.begin_round.ensures) refl) in
     handed-on _ _ _ _ _ (leads-err _ _ _ _ _ _ _ begun c.in_err-round.ensures)
-    c.from_residual-in_err-round.ensures.1
+    c.from_residual.ensures.1
 
 pub returns-in_err-frames : goal.returns-in_err-frames
 returns-in_err-frames g c =
@@ -47,7 +43,7 @@ returns-in_err-frames g c =
       raced = refl;
       octets = refl;
       steps = refl;
-    }) c.in_ok-begin_round.ensures.ok) refl) in
+    }) c.begin_round.ensures) refl) in
     let ticked = leads-step _ _ _ _ _ _ begun c.in_ok-round.ensures in
     handed-on _ _ _ _ _ (ticked.leads _ _ (memory-does _ _ _ refl refl (seats-kept _)))
     c.from_residual-in_err-frames.ensures.1
@@ -69,7 +65,7 @@ returns g c =
       raced = refl;
       octets = refl;
       steps = refl;
-    }) c.in_ok-begin_round.ensures.ok) refl) in
+    }) c.begin_round.ensures) refl) in
     let ticked = leads-step _ _ _ _ _ _ begun c.in_ok-round.ensures in
     ticked.leads _ _ ((due-leads c.deref.result.now _
     (c.deref.ensures.value ∙ c.in_ok-frames.ensures.due)).leads _ _

@@ -28,7 +28,7 @@ returns g c = λ earlier step.
           (rw c.as_slice-2.ensures at c.in_ok-follow.ensures.cards) raced racing settings users
           earlier.lan r before after stepped set carded;
       tally = λ shown stood. (rw c.as_slice-4.ensures at c.count_all.ensures) shown stood;
-      octets = rw c.as_slice-3.ensures at c.in_ok-put_octets.ensures;
+      octets = rw c.as_slice-3.ensures at c.put_octets.ensures;
       kept = λ settings users r before after.
           kept-when (λ steps. steps.items) c.args.event.now _ _ _ _ c.args.self.now.steps _
           (λ raced. step.epoch (sym (ap (λ (stage : Stage). is_some stage.steps) step.same) ∙ raced) settings users r before)
@@ -72,7 +72,7 @@ returns-in_err-record g c = λ earlier step.
           (rw c.as_slice-2.ensures at c.in_ok-follow.ensures.cards) raced racing settings users
           earlier.lan r before after stepped set carded;
       tally = λ shown stood. (rw c.as_slice-4.ensures at c.count_all.ensures) shown stood;
-      octets = rw c.as_slice-3.ensures at c.in_ok-put_octets.ensures;
+      octets = rw c.as_slice-3.ensures at c.put_octets.ensures;
       kept = λ settings users r before after.
           kept-when (λ steps. steps.items) c.args.event.now _ _ _ _ c.args.self.now.steps _
           (λ raced. step.epoch (sym (ap (λ (stage : Stage). is_some stage.steps) step.same) ∙ raced) settings users r before)
@@ -110,12 +110,6 @@ returns-in_err-admit g c = λ earlier step.
     from-earlier c.args.event.now c.args.facts c.args.self.now earlier c.args.outlet.now _ _ step.same
     (went-err _ _ _ _ _ _ _ (went-wanting _ _ _ _ _ refl refl c.in_ok-follow.ensures.seats
     c.in_ok-follow.ensures.still) c.from_residual-in_err-admit.ensures.1)
-
-pub returns-in_err-put_octets : goal.returns-in_err-put_octets
-returns-in_err-put_octets g c = λ earlier step.
-    from-earlier c.args.event.now c.args.facts c.args.self.now earlier c.args.outlet.now _ _ step.same
-    (went-err _ _ _ _ _ _ _ (went-wanting _ _ _ _ _ refl refl c.in_ok-follow.ensures.seats
-    c.in_ok-follow.ensures.still) c.from_residual-in_err-put_octets.ensures.1)
 
 pub returns-in_err-keep : goal.returns-in_err-keep
 returns-in_err-keep g c = λ earlier step.

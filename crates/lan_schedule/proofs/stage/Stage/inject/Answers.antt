@@ -15,4 +15,5 @@ returns g c =
     same-did (λ (octets : List ℕ). happen (Inject c.args.station octets)) c.in_ok-octets.octets
     c.args.octets.now _ _ _ c.in_ok-octets.ensures
     (plainly (Inject c.args.station c.in_ok-octets.octets) _ _ _ (λ w. refl)
-    (λ raced racing settings run cs says. says) c.happen.ensures)
+    (λ raced racing settings run cs says. says)
+    (λ settings run. tt) c.happen.ensures)

@@ -6,4 +6,5 @@ use Rattle.lan_schedule.proofs.stage.Stage.restart.Goals as goal
 pub returns : goal.returns
 returns g c =
     plainly (Restart c.args.station) _ _ _ (λ w. refl) (λ raced racing settings run cs says. says)
+    (λ settings run. tt)
     c.happen.ensures

@@ -16,4 +16,5 @@ returns g c = λ small.
     c.args.priority _ _ _ (c.few.ensures small)
     (then-ok begin (happen (Start c.args.name c.args.sci c.few.result)) _ _ _ _ (begin-does _)
     (plainly (Start c.args.name c.args.sci c.few.result) _ _ _ (λ w. refl)
-    (λ raced racing settings run cs says. says) c.happen.ensures))
+    (λ raced racing settings run cs says. says)
+    (λ settings run. tt) c.happen.ensures))

@@ -1,7 +1,5 @@
-use Rattle.std.proofs.Common.{List, ◌∷◌, sym, ap, ◌∙◌, refl, subst}
+use Rattle.std.proofs.Common.{List, ◌∷◌, sym, ap, ◌∙◌, subst}
 use Rattle.lan_core.specs.declared.event.Event.{Event}
-use Rattle.lan_core.specs.declared.event.Event.TheVariants.{Emit}
-use Rattle.lan_core.specs.Legal.{IsStep}
 use Rattle.transmit_words.specs.Ties.{Followed}
 use Rattle.worker_races.specs.Carded.{AreCarded}
 use Rattle.lan_schedule.specs.inside.Recording.{KeepSeats, is_start}

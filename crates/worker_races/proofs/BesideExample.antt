@@ -1,0 +1,528 @@
+-- A race with two workers that meets the premises of the laws, by computing. Alice and bob have a key
+-- under which alice transmits. A worker of alice claims two packet numbers; one of bob is refused,
+-- control lets bob begin the key, and then it claims one. And a part of that race in which two claims of
+-- one log changed places, which is not woven so.
+use Rattle.std.proofs.Common.{◌≡◌, inl, inr, ◌<◌, ◌≤◌, ◌+◌, ◌==◌, ℕ, zero, suc, Bool, true, false}
+use Rattle.std.proofs.Common.{List, [], ◌∷◌, length, map, Some, None, refl, sym, ap, ◌∙◌, subst, arith}
+use Rattle.std.specs.Prelude.{if◌then◌else◌, max, not, replicate, slice_get, slice_index_or}
+use Rattle.std.proofs.lemmas.List.Elements.{All-nil, All-cons}
+use Rattle.atomic_table.specs.Seated.{TableId}
+use Rattle.lan_base.specs.declared.association_number.AssociationNumber.{AssociationNumber}
+use Rattle.lan_base.specs.declared.association_number.AssociationNumber.TheVariants.{An0, An1, An2, An3}
+use Rattle.lan_base.specs.declared.frame.Protected.{Protected}
+use Rattle.lan_base.specs.declared.frame.UserFrame.{UserFrame}
+use Rattle.peer_lists.specs.Acceptance.{refusal, accepted, outcome}
+use Rattle.peer_lists.specs.Peers.{says, hopes, known}
+use Rattle.sak_exchange.specs.Held.{received, latest, old, transmitting}
+use Rattle.mka_station.specs.Lives.{peers_of, keys_of, elected}
+use Rattle.mka_station.specs.Views.{view as view_of}
+use Rattle.mka_station.specs.Tick.{tick_turn}
+use Rattle.mka_station.specs.Hearing.{hear_turn}
+use Rattle.association_slots.specs.Cards.{card_words}
+use Rattle.association_slots.specs.Steps.{new_seat}
+use Rattle.association_slots.specs.Learned.{Learned}
+use Rattle.association_slots.specs.Views.{AllIn, ControlAt, In, claimed, count, lost, present_at, slot}
+use Rattle.association_slots.specs.declared.view.NextSeen.{NextSeen}
+use Rattle.association_slots.specs.declared.view.Addition.{Addition}
+use Rattle.association_slots.specs.declared.view.ControlView.{ControlView}
+use Rattle.packet_claims.specs.declared.answers.NoClaim.TheVariants.{NoKey}
+use Rattle.data_workers.specs.Entries.{frame_under}
+use Rattle.data_workers.specs.Logs.{IsTaken, claim_of}
+use Rattle.data_workers.specs.Workers.{IsDone, WorkerAt}
+use Rattle.data_workers.specs.declared.entry.Entry.{Entry}
+use Rattle.data_workers.specs.declared.entry.Entry.TheVariants.{Taken, Refused}
+use Rattle.data_workers.specs.declared.sender.Sender.{Sender}
+use Rattle.association_slots.specs.declared.view.SeatView.{SeatView}
+use Rattle.lan_core.specs.declared.event.Event.{Event}
+use Rattle.lan_core.specs.declared.event.Event.TheVariants as events
+use Rattle.lan_core.specs.Claims.{next, user_at}
+use Rattle.lan_core.specs.Ledgers.{claims}
+use Rattle.lan_core.specs.Lives.{Life, keys_in, life}
+use Rattle.lan_core.specs.Run.{Happening, Profile, Run, stations}
+use Rattle.group_safety.specs.Accounts.{Account, account_at, numbers_at, shows_at}
+use Rattle.group_safety.specs.Transmitting.{Carried, Carries, CarriesAt, CarriesIn, names, now, sends as sending}
+use Rattle.group_safety.proofs.Public.{settings, alice, bob, first_key, r11, r12, l11, l12, v11, v12, both}
+use Rattle.group_safety.proofs.Public.{a-user, most_next, next-most}
+use Rattle.race_merge.specs.Merged.{entries_of, merged}
+use Rattle.race_merge.specs.Marks.{Mark}
+use Rattle.race_merge.specs.Places.{Move}
+use Rattle.race_merge.specs.Raced.{epoch_at, epoch_of}
+use Rattle.race_merge.specs.Weaving.{IsWoven, part_of}
+use Rattle.race_merge.proofs.Public.{newest, twice, performed, bob-waits, bob-sends, legal-before, legal-after}
+use Rattle.race_merge.proofs.Public.{begins_key, in-this-order, turned, turned-is-not-woven, race-woven}
+use Rattle.transmit_words.specs.Counting.{past_claims, times_in}
+use Rattle.transmit_words.specs.Telling.{CatchUp, KeepUp}
+use Rattle.transmit_words.specs.Ties.{AreTiedBy, HaveCaughtUp, HaveKeptUp, IsTiedBy}
+use Rattle.transmit_words.proofs.Public.{looked-none}
+use Rattle.worker_races.specs.Beside.{Race, WereBeside, ans_in, attempts_in, moves_in, part_in, pointed_in}
+use Rattle.worker_races.specs.Going.{WasTold, words_by}
+use Rattle.worker_races.specs.Performed.{happenings}
+use Rattle.worker_races.specs.Senders.{IsNew, IsSender}
+use Rattle.worker_races.proofs.Races.{race-is}
+use Rattle.worker_races.proofs.WordsExample.{claim, its-words, its_card, none-told, none_out, one-told}
+use Rattle.worker_races.proofs.WordsExample.{one_out, only, reads, sends, sends-learned, two-told, waits}
+use Rattle.worker_races.proofs.WordsExample.{waits-learned, words}
+
+-- ---- the accounts of the stations
+
+unfoldable open_histories : ℕ
+unfolding refusal accepted outcome says hopes known received latest old transmitting peers_of
+    keys_of elected view_of hear_turn tick_turn
+open_histories = 0
+
+-- the key is installed, and transmits or not
+abbrev carries_none : Carried
+carries_none = record { points = []; installs = 1 }
+
+abbrev carries_one : Carried
+carries_one = record { points = sending An0 1 ∷ []; installs = 1 }
+
+carries-in : (s : ℕ) (r : Run) (l : Life) (k : Carried) → life settings s r ≡ Some l
+    → Carries l.member.base (keys_in l) k → CarriesAt settings s r k
+carries-in s r l k living carries = subst (λ o. CarriesIn o k) (sym living) carries
+
+alice-carries : CarriesAt settings 0 r11 carries_one
+unfolding open_histories
+alice-carries = carries-in 0 r11 (l11 0) carries_one (v11.living 0 (omega arith))
+    (record { installs = refl; shows = refl; last = inr refl })
+
+bob-carries : CarriesAt settings 1 r11 carries_none
+unfolding open_histories
+bob-carries = carries-in 1 r11 (l11 1) carries_none (v11.living 1 (omega arith))
+    (record { installs = refl; shows = refl; last = inl (omega arith) })
+
+alice-still : CarriesAt settings 0 r12 carries_one
+unfolding open_histories
+alice-still = carries-in 0 r12 (l12 0) carries_one (v12.living 0 (omega arith))
+    (record { installs = refl; shows = refl; last = inr refl })
+
+bob-now : CarriesAt settings 1 r12 carries_one
+unfolding open_histories
+bob-now = carries-in 1 r12 (l12 1) carries_one (v12.living 1 (omega arith))
+    (record { installs = refl; shows = refl; last = inr refl })
+
+next-some : (s e : ℕ) (r : Run) → 1 ≤ next settings s e r
+unfolding next
+next-some s e [] = omega arith
+next-some s e (x ∷ r) = let h = next-some s e r in omega (arith, h)
+
+-- nobody claimed a number, and no tick showed one
+record IsFresh (r : Run) : Type 0 where
+  pub nexts : (s e : ℕ) → next settings s e r ≡ 1
+  pub none : (s : ℕ) → numbers_at s (claims r) ≡ []
+  pub shown : (s : ℕ) → s < 2 → shows_at s r ≡ []
+
+nexts-one : (r : Run) → most_next r ≡ 1 → (s e : ℕ) → next settings s e r ≡ 1
+nexts-one r most s e =
+    let below = next-most s e r in let above = next-some s e r in omega (arith, most, below, above)
+
+shown-none : (r : Run) → shows_at 0 r ≡ [] → shows_at 1 r ≡ [] → (s : ℕ) → s < 2 → shows_at s r ≡ []
+shown-none r a b zero less = a
+shown-none r a b (suc zero) less = b
+shown-none r a b (suc (suc s)) less = absurd (omega (arith, less))
+
+fresh-before : IsFresh r11
+unfolding claims
+fresh-before = record {
+  nexts = nexts-one r11 refl;
+  none = λ s. refl;
+  shown = shown-none r11 refl refl;
+}
+
+fresh-after : IsFresh r12
+unfolding claims
+fresh-after = record {
+  nexts = nexts-one r12 refl;
+  none = λ s. refl;
+  shown = shown-none r12 refl refl;
+}
+
+-- ---- the words keep up with them
+
+by-an : (P : AssociationNumber → Type 0) → P An0 → P An1 → P An2 → P An3
+    → (an : AssociationNumber) → P an
+by-an P a b c d An0 = a
+by-an P a b c d An1 = b
+by-an P a b c d An2 = c
+by-an P a b c d An3 = d
+
+waits-up : (s : ℕ) (r : Run) (out : List Bool) → length out ≡ 8 → IsFresh r → s < 2
+    → KeepUp (account_at settings s r carries_none) (waits out)
+waits-up s r out eight is there = record {
+  learned = waits-learned out eight;
+  first = refl;
+  points = refl;
+  slots = by-an (λ an. (slot (waits out) an).shut ≡ not (names (now carries_none) an)) refl refl refl refl;
+  open_now = λ bad. absurd (cc bad);
+  least = λ bad. absurd (cc bad);
+  later = λ epoch above. is.nexts s epoch;
+  cards = refl;
+  shows = sym (is.shown s there);
+  seen = λ epoch. is.nexts s epoch
+      ∙ ap (λ (ns : List (ℕ × ℕ)). max 1 (max (past_claims epoch ns) 0)) (sym (is.none s));
+}
+
+sends-up : (s : ℕ) (r : Run) (out : List Bool) (told : List Addition) (notes : List ℕ) (read : List (ℕ × ℕ))
+    → IsFresh r → s < 2 → Learned (sends out told notes read)
+    → KeepUp (account_at settings s r carries_one) (sends out told notes read)
+sends-up s r out told notes read is there learned = record {
+  learned = learned;
+  first = refl;
+  points = refl;
+  slots = by-an (λ an. (slot (sends out told notes read) an).shut ≡ not (names (now carries_one) an))
+      refl refl refl refl;
+  open_now = λ here. (refl, refl);
+  least = λ here. (let n = is.nexts s 1 in (omega (arith, n), omega (arith, n)));
+  later = λ epoch above. is.nexts s epoch;
+  cards = refl;
+  shows = sym (is.shown s there);
+  seen = λ epoch. is.nexts s epoch
+      ∙ ap (λ (ns : List (ℕ × ℕ)). max 1 (max (past_claims epoch ns) 0)) (sym (is.none s));
+}
+
+-- no seat is out, and none told a claim
+caught-up : (s : ℕ) (r : Run) (k : Carried) (c : ControlView) → IsFresh r → c.told ≡ [] → AllIn c
+    → KeepUp (account_at settings s r k) c → CatchUp (account_at settings s r k) c
+caught-up s r k c is none all up = record {
+  all_in = all;
+  keep_up = up;
+  claims = λ epoch pn.
+      ap (λ (xs : List Addition). count (claimed epoch pn) xs) none
+      ∙ ap (λ (ns : List (ℕ × ℕ)). times_in epoch pn ns) (sym (is.none s));
+}
+
+all-false : (n i : ℕ) → slice_index_or (replicate n false) i false ≡ false
+all-false zero i = refl
+all-false (suc n) zero = refl
+all-false (suc n) (suc i) = all-false n i
+
+-- the words of two stations say it, where each says it
+both-tied : (Says : Account → ControlView → Type 0) (r : Run) (j k : Carried) (c d : ControlAt)
+    → stations r ≡ both → CarriesAt settings 0 r j → Says (account_at settings 0 r j) c.view
+    → CarriesAt settings 1 r k → Says (account_at settings 1 r k) d.view
+    → AreTiedBy Says settings r (c ∷ d ∷ [])
+both-tied Says r j k c d there first says second tells = record {
+  many = sym (ap length there);
+  each = each;
+}
+  where
+    each : (s : ℕ) (x : ControlAt) → slice_get (c ∷ d ∷ []) s ≡ Some x → IsTiedBy Says settings s r x
+    each zero x at = let same : c ≡ x = cc at in subst (λ (v : ControlAt). IsTiedBy Says settings 0 r v) same (j, first, says)
+    each (suc zero) x at = let same : d ≡ x = cc at in subst (λ (v : ControlAt). IsTiedBy Says settings 1 r v) same (k, second, tells)
+    each (suc (suc s)) x at = absurd (cc at)
+
+-- ---- the logs
+
+abbrev user : UserFrame
+user = record { destination = record { 0 = replicate 6 1 }; body = 8 ∷ 0 ∷ 1 ∷ [] }
+
+abbrev sender : ℕ → Sender
+sender s = record { station = s; sci = if s == 0 then alice.sci else bob.sci; user = user }
+
+-- ciphers stay closed
+unfoldable pub octets : ℕ → ℕ → List ℕ
+octets s pn = frame_under (sender s) its_card An0 pn
+
+octets-are : (s pn : ℕ) → octets s pn ≡ frame_under (sender s) its_card An0 pn
+unfolding octets
+octets-are s pn = refl
+
+abbrev frame : ℕ → ℕ → Protected
+frame s pn = record { station = s; an = An0; epoch = 1; pn = pn; octets = octets s pn }
+
+abbrev alices : List Entry
+alices = Taken (frame 0 1) ∷ Taken (frame 0 2) ∷ []
+
+abbrev bobs : List Entry
+bobs = Refused 1 (NoKey 0) ∷ Taken (frame 1 1) ∷ []
+
+-- the card is that of the key
+its-card : card_words (record { sak = first_key.sak; conf = first_key.conf }) ≡ words
+its-card = refl
+
+-- ---- the workers
+
+abbrev alice_seat : SeatView
+alice_seat = new_seat (sends none_out [] [] [])
+
+abbrev bob_seat : SeatView
+bob_seat = new_seat (waits none_out)
+
+-- what the seats did: each loaded the current word for each job, and read the card
+abbrev alice_did : SeatView
+alice_did = record alice_seat {
+  loads = 2;
+  shown = present_at An0 1;
+  added = true;
+  additions = claim 2 ∷ claim 1 ∷ [];
+  loaded = present_at An0 1 ∷ present_at An0 1 ∷ [];
+  reads = reads;
+}
+
+abbrev bob_did : SeatView
+bob_did = record bob_seat {
+  loads = 2;
+  shown = present_at An0 1;
+  added = true;
+  additions = claim 1 ∷ [];
+  loaded = present_at An0 1 ∷ [];
+  notes = 0 ∷ [];
+  reads = reads;
+}
+
+alice-took : (pn : ℕ) → In (claim pn) (claim 2 ∷ claim 1 ∷ []) → 1 ≤ pn → pn ≤ 2 → IsTaken alice_did (sender 0) (frame 0 pn)
+alice-took pn there low high = record {
+  of_station = refl;
+  claim = there;
+  range = (low, omega (arith, high));
+  loaded = (omega arith, inl refl);
+  card = its_card;
+  knows = its-words;
+  octets = octets-are 0 pn;
+  start = (omega arith, λ bad. absurd (cc bad));
+  given = only (λ (f : NextSeen). (f.epoch ≤ 1) × (f.an ≡ An0 → f.epoch ≡ 1 → f.next ≤ pn))
+      (record { an = An0; epoch = 1; next = 1 }) (omega arith, λ an e. low);
+}
+
+bob-took : IsTaken bob_did (sender 1) (frame 1 1)
+bob-took = record {
+  of_station = refl;
+  claim = inl refl;
+  range = (omega arith, omega arith);
+  loaded = (omega arith, inl refl);
+  card = its_card;
+  knows = its-words;
+  octets = octets-are 1 1;
+  start = (omega arith, λ is. omega arith);
+  given = λ f i. absurd i;
+}
+
+module _ (a_table b_table : TableId) where
+  abbrev worker : ℕ → TableId → SeatView → WorkerAt
+  worker s table seat = record { sender = sender s; seat = record { table = table; view = seat }; jobs = 2; log = [] }
+
+  abbrev done : ℕ → TableId → SeatView → List Entry → WorkerAt
+  done s table seat log = record { sender = sender s; seat = record { table = table; view = seat }; jobs = 0; log = log }
+
+  abbrev begun : List WorkerAt
+  begun = worker 0 a_table alice_seat ∷ worker 1 b_table bob_seat ∷ []
+
+  abbrev ended : List WorkerAt
+  ended = done 0 a_table alice_did alices ∷ done 1 b_table bob_did bobs ∷ []
+
+  alice-done : IsDone (worker 0 a_table alice_seat) (done 0 a_table alice_did alices)
+  alice-done = record {
+    same = record { sender = refl; table = refl };
+    none = refl;
+    each = refl;
+    logged = λ v w. record {
+      number = w.number;
+      start = w.start;
+      loads = (let few = w.loads in omega (arith, few));
+      claims_are = ap (λ (number : ℕ). claim_of number (frame 0 2) ∷ claim_of number (frame 0 1) ∷ []) w.number
+          ∙ ap (λ (xs : List Addition). claim_of v.number (frame 0 2) ∷ claim_of v.number (frame 0 1) ∷ xs) w.claims_are;
+      notes_are = w.notes_are;
+      entries = (
+        alice-took 1 (inr (inl refl)) (omega arith) (omega arith),
+        (alice-took 2 (inl refl) (omega arith) (omega arith), tt),
+      );
+      in_order = (((omega arith, λ e. omega arith), tt), (tt, tt));
+    };
+  }
+
+  bob-done : IsDone (worker 1 b_table bob_seat) (done 1 b_table bob_did bobs)
+  bob-done = record {
+    same = record { sender = refl; table = refl };
+    none = refl;
+    each = refl;
+    logged = λ v w. record {
+      number = w.number;
+      start = w.start;
+      loads = (let few = w.loads in omega (arith, few));
+      claims_are = ap (λ (number : ℕ). claim_of number (frame 1 1) ∷ []) w.number
+          ∙ ap (λ (xs : List Addition). claim_of v.number (frame 1 1) ∷ xs) w.claims_are;
+      notes_are = ap (λ (ns : List ℕ). 0 ∷ ns) w.notes_are;
+      entries = ((refl, (inl refl, omega arith)), (bob-took, tt));
+      in_order = (((omega arith, omega arith), tt), (tt, tt));
+    };
+  }
+
+  done-each : (i : ℕ) (d : WorkerAt) → i < 2 → IsDone (slice_index_or begun i d) (slice_index_or ended i d)
+  done-each zero d less = alice-done
+  done-each (suc zero) d less = bob-done
+  done-each (suc (suc i)) d less = absurd (omega (arith, less))
+
+  is-new : (w : WorkerAt) → w.log ≡ [] → IsNew w
+  is-new w none = record {
+    empty = none;
+    logged = rw none (record {
+      number = refl;
+      start = refl;
+      loads = omega arith;
+      claims_are = refl;
+      notes_are = refl;
+      entries = tt;
+      in_order = tt;
+    });
+  }
+
+  is-sender : (s : ℕ) (profile : Profile) (there : slice_get both s ≡ Some profile) → profile.sci ≡ (sender s).sci
+      → user_at twice (1 + s) ≡ Some user → IsSender twice r11 (1 + s) (sender s)
+  is-sender s profile there sci named = record {
+    profile = profile;
+    placed = ap (λ ps. slice_get ps s) v11.there ∙ there;
+    sci = sci;
+    user = named;
+    sendable = a-user;
+  }
+
+  -- ---- the words
+
+  abbrev words_at : ControlView → ControlView → List ControlAt
+  words_at a b = record { table = a_table; view = a } ∷ record { table = b_table; view = b } ∷ []
+
+  -- no seat is out; both are; bob's word was told that the key began; alice's seat is back; and bob's
+  abbrev before : List ControlAt
+  before = words_at (sends none_out [] [] []) (waits none_out)
+
+  abbrev shared : List ControlAt
+  shared = words_at (sends one_out [] [] []) (waits one_out)
+
+  abbrev moved : List ControlAt
+  moved = words_at (sends one_out [] [] []) (sends one_out [] [] [])
+
+  abbrev half : List ControlAt
+  half = words_at (sends none_out (claim 2 ∷ claim 1 ∷ []) [] reads) (sends one_out [] [] [])
+
+  abbrev after : List ControlAt
+  after = words_at (sends none_out (claim 2 ∷ claim 1 ∷ []) [] reads)
+      (sends none_out (claim 1 ∷ []) (0 ∷ []) reads)
+
+  alice-out : Learned (sends one_out [] [] [])
+  alice-out = sends-learned one_out [] [] [] refl none-told (λ e i. absurd i) (λ r i. absurd i)
+
+  alice-in : Learned (sends none_out [] [] [])
+  alice-in = sends-learned none_out [] [] [] refl none-told (λ e i. absurd i) (λ r i. absurd i)
+
+  alice-back : Learned (sends none_out (claim 2 ∷ claim 1 ∷ []) [] reads)
+  alice-back = sends-learned none_out (claim 2 ∷ claim 1 ∷ []) [] reads refl two-told (λ e i. absurd i) (λ r i. i)
+
+  bob-back : Learned (sends none_out (claim 1 ∷ []) (0 ∷ []) reads)
+  bob-back = sends-learned none_out (claim 1 ∷ []) (0 ∷ []) reads refl one-told (only (λ e. 0 ≡ e) 0 refl) (λ r i. i)
+
+  caught : HaveCaughtUp settings r11 before
+  caught = both-tied CatchUp r11 carries_one carries_none _ _ v11.there
+      alice-carries
+      (caught-up 0 r11 carries_one (sends none_out [] [] []) fresh-before refl (all-false 8)
+      (sends-up 0 r11 none_out [] [] [] fresh-before (omega arith) alice-in))
+      bob-carries
+      (caught-up 1 r11 carries_none (waits none_out) fresh-before refl (all-false 8)
+      (waits-up 1 r11 none_out refl fresh-before (omega arith)))
+
+  kept : (a_out b_out : List Bool) (a_told b_told : List Addition) (a_notes b_notes : List ℕ) (a_read b_read : List (ℕ × ℕ))
+      → Learned (sends a_out a_told a_notes a_read) → Learned (sends b_out b_told b_notes b_read)
+      → HaveKeptUp settings r12 (words_at (sends a_out a_told a_notes a_read) (sends b_out b_told b_notes b_read))
+  kept a_out b_out a_told b_told a_notes b_notes a_read b_read a b =
+      both-tied KeepUp r12 carries_one carries_one _ _ v12.there
+      alice-still (sends-up 0 r12 a_out a_told a_notes a_read fresh-after (omega arith) a)
+      bob-now (sends-up 1 r12 b_out b_told b_notes b_read fresh-after (omega arith) b)
+
+  told-each : (s : ℕ) (d : ControlAt) → slice_get moved s ≡ Some d → (c : ControlAt)
+      × (slice_get shared s ≡ Some c) × WasTold (words_by settings r11 1 (newest r12) s c.view) c.view d.view
+  told-each zero d at = let same : record { table = a_table; view = sends one_out [] [] [] } ≡ d = cc at in
+      (_, refl, subst (λ (x : ControlAt). WasTold [] (sends one_out [] [] []) x.view) same (record { points = refl; seats = refl }))
+  told-each (suc zero) d at = let same : record { table = b_table; view = sends one_out [] [] [] } ≡ d = cc at in
+      (_, refl, subst (λ (x : ControlAt). WasTold (present_at An0 1 ∷ []) (waits one_out) x.view) same (record { points = refl; seats = refl }))
+  told-each (suc (suc s)) d at = absurd (cc at)
+
+  -- ---- the race
+
+  abbrev pub race : Race
+  race = record {
+    settings = settings;
+    users = twice;
+    base = 0;
+    run = r11;
+    performed = performed;
+    steps = record { event = (newest r12).event; before = None; after = Some 1 } ∷ [];
+    began = begun;
+    ended = ended;
+    before = before;
+    shared = shared;
+    moved = moved;
+    looked = moved;
+    after = after;
+  }
+
+  pub were-beside : WereBeside race
+  unfolding claims
+  were-beside = record {
+    setting = v11.stepped.0.setting;
+    within = v11.stepped.0.within;
+    legal = legal-before;
+    caught_up = caught;
+    seated = (
+      words_at (sends one_out [] [] []) (waits none_out),
+      record { control = _; there = refl; seat_is = refl; new_is = refl },
+      (shared, record { control = _; there = refl; seat_is = refl; new_is = refl }, refl),
+    );
+    senders = (is-sender 0 alice refl refl refl, (is-sender 1 bob refl refl refl, tt));
+    new = All-cons IsNew (worker 0 a_table alice_seat) (worker 1 b_table bob_seat ∷ [])
+        (is-new (worker 0 a_table alice_seat) refl)
+        (All-cons IsNew (worker 1 b_table bob_seat) [] (is-new (worker 1 b_table bob_seat) refl) (All-nil IsNew));
+    done = record { count = refl; each = done-each };
+    performed = (
+      record {
+        step = legal-after.stepped.0;
+        own = refl;
+        event = refl;
+        before = sym (ap epoch_of bob-waits);
+        after = sym (ap epoch_of bob-sends);
+      },
+      tt,
+    );
+    gone = (moved, record { many = refl; each = told-each }, refl);
+    keep_up = kept one_out one_out [] [] [] [] [] [] alice-out alice-out;
+    looked = looked-none moved;
+    joined = (
+      half,
+      record { control = _; there = refl; new_is = refl; learned = alice-back },
+      (λ up. kept none_out one_out (claim 2 ∷ claim 1 ∷ []) [] [] [] reads [] alice-back alice-out),
+      (
+        after,
+        record { control = _; there = refl; new_is = refl; learned = bob-back },
+        (λ up. kept none_out none_out (claim 2 ∷ claim 1 ∷ []) (claim 1 ∷ []) [] (0 ∷ []) reads reads alice-back bob-back),
+        refl,
+      ),
+    );
+    users_few = omega arith;
+    claims_few = omega arith;
+  }
+
+  -- ---- its part
+
+  one-move : moves_in race ≡ begins_key 0 1 ∷ []
+  one-move = ap (λ (n : ℕ). begins_key n (epoch_at settings 1 r12) ∷ []) (ap epoch_of bob-waits)
+      ∙ ap (λ (n : ℕ). begins_key 0 n ∷ []) (ap epoch_of bob-sends)
+
+  abbrev event_of : Happening → Event
+  event_of h = h.event
+
+  -- the refusal, control, and all else behind it: alice's claims first
+  these-events : map event_of (part_in race)
+      ≡ events.Claim 1 2 0 ∷ (newest r12).event ∷ events.Claim 0 1 1 ∷ events.Claim 0 1 2
+      ∷ events.Claim 1 2 1 ∷ []
+  these-events =
+      ap (λ (ms : List Move). map event_of (part_of settings 0 (merged ms (entries_of (attempts_in race))) r11)) one-move
+      ∙ ap (λ (zs : List Mark). map event_of (part_of settings 0 zs r11)) in-this-order
+
+  -- with what holds of the words of every station, that few additions to them are lost
+  module _ (few : (c : ControlView) → Learned c → (an : AssociationNumber) (epoch : ℕ)
+      → count (lost an epoch) c.told ≤ 16) where
+    is-woven : IsWoven race.base (part_in race) (happenings race.performed) (attempts_in race)
+    is-woven = race-woven settings twice 0 (ans_in race) (pointed_in race) r11 (moves_in race)
+        (attempts_in race) (race-is race were-beside few)
+
+  -- two claims of alice's log changed places
+  not-turned : IsWoven race.base turned (happenings race.performed) (attempts_in race) → ⊥
+  not-turned is = turned-is-not-woven is
