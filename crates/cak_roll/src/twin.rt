@@ -94,6 +94,8 @@ impl Twin {
         ensures refused { (fault : SecondFault) → (result ≡ Err (Refused fault))
             ↔ (second_fault self.old ckn ≡ Some fault) }
         ensures unchanged { OnErr result (self.new ≡ self.old) }
+        // All else stays: a twin that is stopped stays so.
+        ensures kept { OnOk result (self.new ≡ record self.old { second = self.new.second }) }
     {
         if let Some(fault) = self.second_fault(ckn.as_slice()) {
             return Err(SecondError::Refused(fault));
