@@ -4,4 +4,5 @@ pub mod InForm
 pub mod Parted
 pub mod Returned
 pub mod KeyText
+pub mod Public
 mod Examples

@@ -1,5 +1,5 @@
 -- The key text is read line by line, up to the capture.
-use Rattle.std.proofs.Common.{◌≡◌, ◌≢◌, ℕ, ◌-◌, Bool, true, false, List, [], ◌∷◌, ◌++◌, length, take, Option, Ok, Err, refl, sym, ap, ◌∙◌, subst, append_assoc, arith, inl, inr}
+use Rattle.std.proofs.Common.{◌≡◌, ◌≢◌, ℕ, ◌-◌, Bool, true, false, List, [], ◌∷◌, ◌++◌, length, take, Option, Ok, Err, refl, sym, ap, ◌∙◌, subst, append_assoc, length-append, arith, inl, inr, ◌≤◌, ◌⊎◌}
 use Rattle.std.specs.Prelude.{All, ◌==◌, if◌then◌else◌, min}
 use Rattle.std.proofs.lemmas.Bool.{cases_lt}
 use Rattle.std.proofs.lemmas.Bool.Decides.{nat_tests}
@@ -12,18 +12,18 @@ use Rattle.capture_packets.proofs.Public.{behind-same, sees, take-least}
 use Rattle.octet_supply.specs.Supplying.{Held, IsInLine, Peeks, TakesLine}
 use Rattle.octet_supply.specs.declared.supply.LineEnd.{LineEnd}
 use Rattle.octet_supply.specs.declared.supply.LineEnd.TheVariants.{Feed, Most, Source}
-use Rattle.octet_supply.proofs.Public.{take-behind, within}
+use Rattle.octet_supply.proofs.Public.{take-behind, within, within-held}
 use Rattle.audit_text.specs.declared.parting.Part.TheVariants as parts
 use Rattle.audit_text.specs.Parting.{IsLast, IsLong, IsUnparted, Parts, begins, capture_behind, line_of}
 
 -- ---- where the capture is
 
-here : (behind : List ℕ) → begins true behind ≡ true → (capture_behind true behind ≡ behind) × (behind ≢ [])
+pub here : (behind : List ℕ) → begins true behind ≡ true → (capture_behind true behind ≡ behind) × (behind ≢ [])
 here [] is = cc is
 here (o ∷ octets) is =
     (ap (λ (b : Bool). if b then o ∷ octets else capture_behind (o == 10) octets) is, (λ none. cc none))
 
-not-feed : (octet : ℕ) → octet ≢ 10 → (octet == 10) ≡ false
+pub not-feed : (octet : ℕ) → octet ≢ 10 → (octet == 10) ≡ false
 not-feed octet other = grind (arith, nat_tests)
 
 -- within a line no capture begins
@@ -34,7 +34,7 @@ on (o ∷ line) later none =
     ap (λ (b : Bool). capture_behind b (line ++ 10 ∷ later)) (not-feed o (All-head (λ (o : ℕ). o ≢ 10) o line none))
     ∙ on line later (All-tail (λ (o : ℕ). o ≢ 10) o line none)
 
-behind-line : (line later : List ℕ) → All (λ o. o ≢ 10) line → begins true (line ++ 10 ∷ later) ≡ false
+pub behind-line : (line later : List ℕ) → All (λ o. o ≢ 10) line → begins true (line ++ 10 ∷ later) ≡ false
     → capture_behind true (line ++ 10 ∷ later) ≡ capture_behind true later
 behind-line [] later none is =
     ap (λ (b : Bool). if b then 10 ∷ later else capture_behind true later) is
@@ -49,7 +49,7 @@ none-on (o ∷ line) none =
     ap (λ (b : Bool). capture_behind b line) (not-feed o (All-head (λ (o : ℕ). o ≢ 10) o line none))
     ∙ none-on line (All-tail (λ (o : ℕ). o ≢ 10) o line none)
 
-none-behind : (line : List ℕ) → All (λ o. o ≢ 10) line → begins true line ≡ false → capture_behind true line ≡ []
+pub none-behind : (line : List ℕ) → All (λ o. o ≢ 10) line → begins true line ≡ false → capture_behind true line ≡ []
 none-behind [] none is = refl
 none-behind (o ∷ line) none is =
     ap (λ (b : Bool). if b then o ∷ line else capture_behind (o == 10) line) is
@@ -82,17 +82,31 @@ parts-peek limit text given behind line h left Memory visible p = tt
 
 -- ---- a line
 
+-- four octets were looked at, or the text ends
+pub seen-is : (limit : ℕ) (text given behind : List ℕ) (h : Held) (left : Option (List ℕ))
+    → take limit text ≡ given ++ behind → Peeks limit text given 4 h left (Ok tt)
+    → (4 ≤ length behind) ⊎ (length text ≤ limit)
+seen-is limit text given behind h left visible (stands, inl many) =
+    let a = within-held limit text given h left stands in
+    let l = ap length (behind-same given behind (h.octets ++ a.behind) (sym visible ∙ a.front)) in
+    let m = length-append h.octets a.behind in
+    inl (omega (arith, l, m, many))
+seen-is limit text given behind h left visible (stands, inr end) = inr end.1.within
+
 pub parts-line : (limit : ℕ) (text given behind line now : List ℕ) (new : Held) (left : Option (List ℕ)) (end : LineEnd)
     → take limit text ≡ given ++ behind → begins true behind ≡ false
+    → (4 ≤ length behind) ⊎ (length text ≤ limit)
     → TakesLine limit text given 4097 [] line new left (Ok end) → now ≡ line_of end line
     → Parts limit text given behind now new left (Ok (parts.Line end))
-parts-line limit text given behind line now new left Feed visible is (l, same, inside, stands) ended =
+parts-line limit text given behind line now new left Feed visible is seen (l, same, inside, stands) ended =
     let a = within limit text (given ++ (l ++ 10 ∷ [])) new left stands in
     let ahead : behind ≡ l ++ 10 ∷ a.ahead =
     behind-same given behind (l ++ 10 ∷ a.ahead)
     (sym visible ∙ a.front ∙ append_assoc given (l ++ 10 ∷ []) a.ahead
     ∙ ap (λ (m : List ℕ). given ++ m) (append_assoc l (10 ∷ []) a.ahead)) in
     record {
+      none = is;
+      seen = seen;
       octets = l;
       later = a.ahead;
       parts = ahead;
@@ -102,7 +116,7 @@ parts-line limit text given behind line now new left Feed visible is (l, same, i
       capture = ap (capture_behind true) ahead
           ∙ behind-line l a.ahead inside.none (sym (ap (begins true) ahead) ∙ is);
     }
-parts-line limit text given behind line now new left Most visible is (l, same, inside, (full, (octet, other, stands))) ended =
+parts-line limit text given behind line now new left Most visible is seen (l, same, inside, (full, (octet, other, stands))) ended =
     let a = within limit text (given ++ (l ++ octet ∷ [])) new left stands in
     let ahead : behind ≡ l ++ octet ∷ a.ahead =
     behind-same given behind (l ++ octet ∷ a.ahead)
@@ -117,7 +131,7 @@ parts-line limit text given behind line now new left Most visible is (l, same, i
       within = inside;
       full = full;
     })
-parts-line limit text given behind line now new left Source visible is (l, same, inside, end) ended =
+parts-line limit text given behind line now new left Source visible is seen (l, same, inside, end) ended =
     let w = end.within in
     let all : behind ≡ l = behind-same given behind l (sym visible ∙ take_all limit text (omega (arith, w)) ∙ end.all) in
     subst (λ (m : List ℕ). IsLast limit text behind m left) (sym (ended ∙ same)) (record {

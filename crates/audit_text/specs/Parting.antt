@@ -55,9 +55,12 @@ line_of Feed octets = without_return octets
 line_of Most octets = octets
 line_of Source octets = octets
 
--- a line ends with its line feed, behind which the capture is the same
+-- A line ends with its line feed, behind which the capture is the same: no capture begins with the line,
+-- and none would where the text goes on past the limit.
 pub record IsLine (limit : ℕ) (text given behind line : List ℕ) (new : Held)
     (left : Option (List ℕ)) : Type 0 where
+  pub none : begins true behind ≡ false
+  pub seen : (4 ≤ length behind) ⊎ (length text ≤ limit)
   pub octets : List ℕ
   pub later : List ℕ
   pub parts : behind ≡ octets ++ 10 ∷ later

@@ -1,10 +1,12 @@
 //! Where the key text ends and the capture begins.
 
-ghost use Rattle.std.specs.Prelude.{◌≡◌, ◌≤◌, ◌++◌, ℕ, List, Err, take};
+ghost use Rattle.std.specs.Prelude.{◌≡◌, ◌<◌, ◌≤◌, ◌++◌, ℕ, List, Ok, Err, take};
 ghost use Rattle.lan_base.specs.Faults.{Rose};
 ghost use Rattle.lan_base.specs.declared.source.ReadEnd.TheVariants as ends;
 ghost use Rattle.text_lines.specs.Texts.{without_return};
-ghost use Rattle.octet_supply.specs.Supplying.{Stands};
+ghost use Rattle.octet_supply.specs.Supplying.{Stands, most_given};
+ghost use Rattle.octet_supply.specs.declared.supply.LineEnd.TheVariants as line_ends;
+ghost use Rattle.audit_text.specs.declared.parting.Part.TheVariants as parts;
 ghost use Rattle.audit_text.specs.Parting.{Parts, line_of};
 
 use capture_packets::begins_file;
@@ -37,6 +39,8 @@ pub fn next_part<S: Source>(
         → Stands limit text given supply.old (S.left source.old)
         → take limit text ≡ given ++ behind
         → Parts limit text given behind line.new.items supply.new (S.left source.new) result }
+    ensures rises { result ≡ Ok (parts.Line line_ends.Feed) → supply.old.given < supply.new.given }
+    ensures most { most_given supply.new ≡ most_given supply.old }
     ensures failed { result ≡ Err ends.Failed → Rose (S.faults source.old) (S.faults source.new) }
     ensures counts { S.faults source.old ≤ S.faults source.new }
 {

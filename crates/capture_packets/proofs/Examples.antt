@@ -7,7 +7,7 @@ use Rattle.capture_file.specs.declared.order.Order.TheVariants.{Big, Little}
 use Rattle.capture_packets.specs.declared.state.Parts.TheVariants.{Micros}
 use Rattle.capture_packets.specs.Written.{IsWritable, blocks_file, classic_file}
 use Rattle.capture_packets.specs.Packets.{Seen}
-use Rattle.capture_packets.specs.Captures.{Refusal, capture}
+use Rattle.capture_packets.specs.Captures.{Refusal, capture, refused_at, with_packets}
 use Rattle.capture_packets.specs.Fronts.{IsToldBefore}
 use Rattle.capture_packets.specs.Options.{ticks_of}
 use Rattle.capture_packets.specs.Blocks.{nanos_of}
@@ -377,3 +377,8 @@ front_refused = record { later = []; packets = refl; refused = λ place why is o
 
 no_more_behind : IsToldBefore (capture (big_micro ++ long)) (record { packets = first ∷ second ∷ first ∷ []; refused = None }) → ⊥
 no_more_behind b = cc (b.refused 63 Length refl (λ e. cc e))
+
+-- packets that were read stand before what is told behind them
+behind_one : with_packets (first ∷ []) (refused_at 63 Length)
+    ≡ record { packets = first ∷ []; refused = Some (record { at = 63; why = Length }) }
+behind_one = refl

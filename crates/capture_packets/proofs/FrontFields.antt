@@ -233,7 +233,7 @@ abbrev skipped : ℕ → Read
 skipped total = Ok (record { before = 8; kept = 0; behind = total - 12; what = what.Other })
 
 -- a block by three tests of its type
-abbrev by_type : Bool → Bool → Bool → Order → List Interface → ℕ → List ℕ → Read
+abbrev pub by_type : Bool → Bool → Bool → Order → List Interface → ℕ → List ℕ → Read
 by_type is_interface is_enhanced is_simple order interfaces last octets =
     if is_interface then interface_in order octets
     else if is_enhanced then enhanced_in order interfaces octets

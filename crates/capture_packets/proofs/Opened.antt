@@ -1,7 +1,7 @@
 -- The head of a file is read, and its first section.
-use Rattle.std.proofs.Common.{◌≡◌, ◌≢◌, ℕ, ◌+◌, ◌-◌, ◌<◌, ◌≤◌, Bool, true, false, List, [], ◌++◌, drop, length, take, Option, Some, None, Result, Ok, Err, refl, sym, ap, ◌∙◌, subst, append_assoc, length-append, length-drop, arith, inl, inr}
-use Rattle.std.specs.Prelude.{◌==◌, if◌then◌else◌, min, nat_lt, not}
-use Rattle.std.proofs.lemmas.Bool.{ltb-false}
+use Rattle.std.proofs.Common.{◌≡◌, ◌≢◌, ℕ, ◌+◌, ◌-◌, ◌<◌, ◌≤◌, Bool, true, false, List, [], ◌++◌, drop, length, take, Option, Some, None, Result, Ok, Err, refl, sym, ap, ◌∙◌, subst, length-append, arith, inl, inr}
+use Rattle.std.specs.Prelude.{◌==◌, ◌&&◌, ◌%◌, if◌then◌else◌, min, nat_le, nat_lt, not}
+use Rattle.std.proofs.lemmas.Bool.{leb-true, ltb-false}
 use Rattle.std.proofs.lemmas.List.{length-take-le, take-append-drop}
 use Rattle.byteorder.specs.Numbers.{big_from-take}
 use Rattle.lan_base.specs.declared.source.ReadEnd.{ReadEnd}
@@ -18,19 +18,16 @@ use Rattle.capture_packets.specs.declared.fault.CaptureFault.{CaptureFault}
 use Rattle.capture_packets.specs.declared.fault.CaptureFault.TheVariants as fault
 use Rattle.capture_packets.specs.declared.head.Head.{Head}
 use Rattle.capture_packets.specs.declared.packet.Packet.{Packet}
-use Rattle.capture_packets.specs.declared.reader.PacketReader.{PacketReader}
-use Rattle.capture_packets.specs.declared.state.Layout.{Layout}
 use Rattle.capture_packets.specs.declared.state.Layout.TheVariants.{Records, Blocks}
 use Rattle.capture_packets.specs.declared.state.Parts.{Parts}
 use Rattle.capture_packets.specs.declared.state.Progress.{Progress}
 use Rattle.capture_packets.specs.declared.state.Progress.TheVariants as progress
 use Rattle.capture_packets.specs.Numbers.{number_at, part}
-use Rattle.capture_packets.specs.Packets.{Context, context}
+use Rattle.capture_packets.specs.Packets.{Context}
 use Rattle.capture_packets.specs.Records.{parts_in}
 use Rattle.capture_packets.specs.Blocks.{marked_order, section_by, section_in, section_type, typed_in}
-use Rattle.capture_packets.specs.Captures.{Step, begun, blank, blocks_head, capture, done, frame_of, head_by, head_in, is_closed, opened, opened_by, opened_with, refused_at, size, step, step_by, told, told_by}
-use Rattle.capture_packets.specs.Reading.{IsTold, Opens, TellsOn}
-use Rattle.capture_packets.specs.inside.Taking.{BeginsBlocks, BeginsRecords, Looks, ReadsHead, StepsOn, begun_by, end_of, judged_head, no_packet}
+use Rattle.capture_packets.specs.Captures.{Step, blank, blocks_head, done, frame_of, head_by, head_in, is_closed, size, step, step_by}
+use Rattle.capture_packets.specs.inside.Taking.{BeginsBlocks, BeginsRecords, Looks, ReadsHead, StepsOn, end_of, judged_head, no_packet}
 use Rattle.capture_packets.proofs.Framed.{Sees}
 use Rattle.capture_packets.proofs.Taken.{Got, got-failed, got-more, got-past}
 
@@ -176,6 +173,28 @@ section-what : (octets : List ℕ) (m : Option Order) (b : Block) → section_by
 section-what octets None b is = cc is
 section-what octets (Some order) b is = (order, ap (λ (k : Block). k.what) (three _ _ _ _ b is))
 
+-- and it has 28 octets at least
+total-by : (x y z : Bool) → not (x && (y && z)) ≡ false → y ≡ true
+total-by true true z is = refl
+total-by true false z is = cc is
+total-by false y z is = cc is
+
+three-first : (p q r : Bool) (k b : Block)
+    → (if p then Err fault.Block else if q then Err fault.Cut else if r then Err fault.Block else Ok k) ≡ Ok b
+    → p ≡ false
+three-first true q r k b is = cc is
+three-first false q r k b is = refl
+
+section-least : (octets : List ℕ) (m : Option Order) (b : Block) → section_by octets m ≡ Ok b → 28 ≤ size Blocks b
+section-least octets None b is = cc is
+section-least octets (Some order) b is =
+    let total = number_at order 4 octets in
+    let same = three _ _ _ _ b is in
+    let least : nat_le 28 total ≡ true =
+    total-by (total % 4 == 0) (nat_le 28 total) _ (three-first _ _ _ _ b is) in
+    let n : 28 ≤ total = leb-true 28 total least in
+    subst (λ (k : Block). 28 ≤ size Blocks k) (sym same) (omega (arith, n))
+
 two : (p q : Bool) (r : Result Step CaptureFault) (s : Step)
     → (if p then Err fault.Cut else if q then Err fault.Block else r) ≡ Ok s → r ≡ Ok s
 two true q r s is = cc is
@@ -199,6 +218,16 @@ first-what file b section fr =
     let s = section-or (nat_lt (length fields) 8) (number_at Big 0 fields == section_type) (section_in fields)
     (typed_in (number_at Big 0 fields) Big [] 0 fields) b t fr in
     section-what fields (marked_order fields) b
+    (cut-or (nat_lt (length fields) 12) (section_by fields (marked_order fields)) b s)
+
+pub first-size : (file : List ℕ) (b : Block) → (number_in Big (take 24 file) == section_type) ≡ true
+    → frame_of blank file ≡ Ok b → 28 ≤ size Blocks b
+first-size file b section fr =
+    let fields = take 28 file in
+    let t = ap (λ (k : ℕ). k == section_type) (first-number file) ∙ section in
+    let s = section-or (nat_lt (length fields) 8) (number_at Big 0 fields == section_type) (section_in fields)
+    (typed_in (number_at Big 0 fields) Big [] 0 fields) b t fr in
+    section-least fields (marked_order fields) b
     (cut-or (nat_lt (length fields) 12) (section_by fields (marked_order fields)) b s)
 
 same-step : (r : Result Step CaptureFault) (k s : Step) → r ≡ Ok k → r ≡ Ok s → k ≡ s
@@ -251,127 +280,3 @@ begins-err limit text given file now later at packet middle new left Limit head 
 begins-err limit text given file now later at packet middle new left Limit head first (longer, inr cut) = (longer, cut)
 begins-err limit text given file now later at packet middle new left ReadFault head first s = s
 begins-err limit text given file now later at packet middle new left Memory head first s = tt
-
--- ---- what a file tells behind its head
-
-pub opened-refused : (file : List ℕ) (why : CaptureFault) → opened file ≡ Err why → capture file ≡ refused_at 0 why
-opened-refused file why is = ap (told_by (told (length file)) 0 (length file)) is
-
-opened-tells : (limit : ℕ) (text given file : List ℕ) (all : ℕ) (reader : PacketReader) (left : Option (List ℕ))
-    → all ≤ length file → take limit text ≡ given ++ file → reader.start ≡ length given
-    → Stands limit text (given ++ take all file) reader.supply left
-    → opened file ≡ Ok (record { packet = None; known = context reader.state; rest = drop all file })
-    → TellsOn limit text reader left (capture file)
-opened-tells limit text given file all reader left few visible start stands is =
-    let rest = drop all file in
-    let front = length-append given (take all file) in
-    let gone = length-take-le all file few in
-    let long = length-drop all file in
-    let known = context reader.state in
-    let place : 0 + (length file - length rest) ≡ length (given ++ take all file) - reader.start =
-    omega (arith, front, gone, long, few, start) in
-    record {
-      given = given ++ take all file;
-      behind = rest;
-      before = record {
-        stands = stands;
-        visible = visible ∙ ap (λ (l : List ℕ). given ++ l) (sym (take-append-drop all file))
-            ∙ sym (append_assoc given (take all file) rest);
-        begun = omega (arith, front, start);
-      };
-      tells = subst (λ (k : ℕ). IsTold known k rest (capture file)) place (
-        length file,
-        omega (arith, long),
-        sym (ap (told_by (told (length file)) 0 (length file)) is),
-      );
-    }
-
-opened-records : (file : List ℕ) (h : Head) (parts : Parts) → head_in (take 24 file) ≡ Ok h
-    → h.layout ≡ Records parts
-    → opened file ≡ Ok (record { packet = None; known = begun h; rest = drop 24 file })
-opened-records file h parts is records =
-    ap (opened_with file) is ∙ ap (λ (l : Layout). opened_by l (begun h) file) records
-
-opened-blocks : (file : List ℕ) (h : Head) (r : Result Step CaptureFault) → head_in (take 24 file) ≡ Ok h
-    → h ≡ blocks_head → step blank file ≡ r → opened file ≡ r
-opened-blocks file h r is blocks st =
-    ap (opened_with file) is ∙ ap (λ (k : Head). opened_with file (Ok k)) blocks ∙ st
-
-pub opens-head : (limit : ℕ) (text given file : List ℕ) (new : Held) (left : Option (List ℕ)) (e : End)
-    → ReadsHead limit text given file new left (Err e) → Opens limit text given file left (Err e)
-opens-head limit text given file new left (Refused place why) r =
-    (r.0, ap (opened_with file) r.1, r.2)
-opens-head limit text given file new left Limit r = (r.0, ap (opened_with file) r.1)
-opens-head limit text given file new left ReadFault (more, less, taken) = (more, taken, inl less)
-opens-head limit text given file new left Memory r = tt
-
-pub opens-records : (limit : ℕ) (text given file : List ℕ) (h : Head) (parts : Parts) (reader : PacketReader)
-    (left : Option (List ℕ)) → take limit text ≡ given ++ file → head_in (take 24 file) ≡ Ok h
-    → h.layout ≡ Records parts → reader.start ≡ length given → context reader.state ≡ begun h
-    → BeginsRecords limit text given file reader.supply left (Ok tt)
-    → Opens limit text given file left (Ok reader)
-opens-records limit text given file h parts reader left visible is records start known b =
-    let o = opened-records file h parts is records
-    ∙ ap (λ (k : Context). Ok (record { packet = None; known = k; rest = drop 24 file })) (sym known) in (
-      record { packet = None; known = context reader.state; rest = drop 24 file },
-      o,
-      start,
-      opened-tells limit text given file 24 reader left (in-records file h parts is records) visible start b o,
-    )
-
-pub opens-passed : (limit : ℕ) (text given file : List ℕ) (new : Held) (left : Option (List ℕ)) (e : End)
-    → BeginsRecords limit text given file new left (Err e) → Opens limit text given file left (Err e)
-opens-passed limit text given file new left (Refused place why) b = absurd b
-opens-passed limit text given file new left Limit b = absurd b
-opens-passed limit text given file new left ReadFault (more, less, taken) = (more, taken, inl less)
-opens-passed limit text given file new left Memory b = tt
-
-pub opens-blocks : (limit : ℕ) (text given file : List ℕ) (h : Head) (reader : PacketReader)
-    (left : Option (List ℕ)) → take limit text ≡ given ++ file → head_in (take 24 file) ≡ Ok h
-    → h.layout ≡ Blocks → reader.start ≡ length given
-    → BeginsBlocks limit text given file (context reader.state) reader.supply left (Ok tt)
-    → Opens limit text given file left (Ok reader)
-opens-blocks limit text given file h reader left visible is blocks start (all, some, whole, stands, st) =
-    let o = opened-blocks file h _ is (in-blocks (take 24 file) h is blocks).is st in (
-      record { packet = None; known = context reader.state; rest = drop all file },
-      o,
-      start,
-      opened-tells limit text given file all reader left whole visible start stands o,
-    )
-
-pub opens-section : (limit : ℕ) (text given file : List ℕ) (h : Head) (now : Context) (new : Held)
-    (left : Option (List ℕ)) (e : End) → head_in (take 24 file) ≡ Ok h → h.layout ≡ Blocks
-    → BeginsBlocks limit text given file now new left (Err e)
-    → Opens limit text given file left (Err e)
-opens-section limit text given file h now new left (Refused place why) is blocks b =
-    (b.0, opened-blocks file h (Err why) is (in-blocks (take 24 file) h is blocks).is b.1, b.2)
-opens-section limit text given file h now new left Limit is blocks b =
-    (b.0, opened-blocks file h (Err fault.Cut) is (in-blocks (take 24 file) h is blocks).is b.1)
-opens-section limit text given file h now new left ReadFault is blocks (more, taken, within) = (
-  more,
-  taken,
-  inr (is ∙ ap (λ (k : Head). Ok k) (in-blocks (take 24 file) h is blocks).is, within),
-)
-opens-section limit text given file h now new left Memory is blocks b = tt
-
--- ---- either way
-
-pub opens-by-records : (limit : ℕ) (text given file : List ℕ) (h : Head) (parts : Parts) (reader : PacketReader)
-    (left : Option (List ℕ)) (r : Result (Unit {0}) End) → take limit text ≡ given ++ file
-    → head_in (take 24 file) ≡ Ok h → h.layout ≡ Records parts → reader.start ≡ length given
-    → context reader.state ≡ begun h → BeginsRecords limit text given file reader.supply left r
-    → Opens limit text given file left (begun_by reader r)
-opens-by-records limit text given file h parts reader left (Ok done) visible is records start known b =
-    opens-records limit text given file h parts reader left visible is records start known b
-opens-by-records limit text given file h parts reader left (Err e) visible is records start known b =
-    opens-passed limit text given file reader.supply left e b
-
-pub opens-by-blocks : (limit : ℕ) (text given file : List ℕ) (h : Head) (reader : PacketReader)
-    (left : Option (List ℕ)) (r : Result (Unit {0}) End) → take limit text ≡ given ++ file
-    → head_in (take 24 file) ≡ Ok h → h.layout ≡ Blocks → reader.start ≡ length given
-    → BeginsBlocks limit text given file (context reader.state) reader.supply left r
-    → Opens limit text given file left (begun_by reader r)
-opens-by-blocks limit text given file h reader left (Ok done) visible is blocks start b =
-    opens-blocks limit text given file h reader left visible is blocks start b
-opens-by-blocks limit text given file h reader left (Err e) visible is blocks start b =
-    opens-section limit text given file h (context reader.state) reader.supply left e is blocks b

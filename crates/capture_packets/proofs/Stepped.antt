@@ -30,7 +30,7 @@ cut-by : (known : Context) (behind : List ℕ) (block : Block) → length behind
 cut-by known behind block less =
     let a : nat_lt (length behind) (size known.layout block) ≡ true = grind (arith, nat_tests) in rw a refl
 
-step-cut : (known : Context) (behind : List ℕ) (block : Block) → frame_of known behind ≡ Ok block
+pub step-cut : (known : Context) (behind : List ℕ) (block : Block) → frame_of known behind ≡ Ok block
     → length behind < size known.layout block → step known behind ≡ Err fault.Cut
 step-cut known behind block fr less = ap (step_by known behind) fr ∙ cut-by known behind block less
 

@@ -1,63 +1,31 @@
--- What octets tell, and what they tell behind a record or a block.
-use Rattle.std.proofs.Common.{◌≡◌, ◌≢◌, ℕ, zero, suc, ◌+◌, ◌-◌, ◌<◌, ◌≤◌, true, false, List, [], ◌∷◌, ◌++◌, drop, length, take, Option, Some, Ok, Err, refl, sym, ap, ◌∙◌, subst, append_assoc, length-append, length-drop, arith, inl, inr}
+-- What a reader tells behind a record or a block.
+use Rattle.std.proofs.Common.{◌≡◌, ℕ, ◌+◌, ◌-◌, ◌≤◌, true, false, List, [], ◌∷◌, ◌++◌, drop, length, take, Option, Some, Ok, Err, refl, sym, ap, ◌∙◌, subst, append_assoc, length-append, length-drop, arith, inl, inr}
 use Rattle.std.proofs.lemmas.List.{length-take-le, take-append-drop}
 use Rattle.octet_supply.specs.Supplying.{Held}
 use Rattle.capture_packets.specs.declared.end.End.{End}
 use Rattle.capture_packets.specs.declared.end.End.TheVariants.{Limit, Memory, ReadFault, Refused}
-use Rattle.capture_packets.specs.declared.fault.CaptureFault.{CaptureFault}
 use Rattle.capture_packets.specs.declared.fault.CaptureFault.TheVariants as fault
 use Rattle.capture_packets.specs.declared.packet.Packet.{Packet}
 use Rattle.capture_packets.specs.declared.reader.PacketReader.{PacketReader}
 use Rattle.capture_packets.specs.declared.state.Progress.{Progress}
 use Rattle.capture_packets.specs.declared.state.Progress.TheVariants as progress
-use Rattle.capture_packets.specs.Packets.{Context, context}
-use Rattle.capture_packets.specs.Captures.{Step, Told, no_more, refused_at, step, told, told_by, with_first}
-use Rattle.capture_packets.specs.Reading.{IsTold, IsUnfinished, ReadsNext, TellsOn}
+use Rattle.capture_packets.specs.Packets.{Context, Seen, context}
+use Rattle.capture_packets.specs.Captures.{Told, refused_at, step, with_first}
+use Rattle.capture_packets.specs.Reading.{HasRead, IsTold, IsUnfinished, ReadsNext, TellsOn}
 use Rattle.capture_packets.specs.inside.Taking.{IsStepped, StepsOn, packet_in}
-
--- ---- one record or block
-
-pub told-end : (known : Context) (at : ℕ) (octets : List ℕ) (t : Told) → IsTold known at octets t → octets ≡ []
-    → t ≡ no_more
-told-end known at octets t (zero, few, is) none = sym is
-told-end known at octets t (suc n, few, is) none =
-    sym is ∙ ap (λ (l : List ℕ). told (suc n) known at l) none
-
-told-refused : (known : Context) (at : ℕ) (octets : List ℕ) (t : Told) (why : CaptureFault)
-    → IsTold known at octets t → octets ≢ [] → step known octets ≡ Err why → t ≡ refused_at at why
-told-refused known at [] t why is some s = absurd (some refl)
-told-refused known at (o ∷ octets) t why (zero, few, is) some s = absurd (omega (arith, few))
-told-refused known at (o ∷ octets) t why (suc n, few, is) some s =
-    sym is ∙ ap (told_by (told n) at (length (o ∷ octets))) s
-
--- what is told behind a step
-pub record ToldBehind (s : Step) (at : ℕ) (octets : List ℕ) (t : Told) : Type 0 where
-  pub later : Told
-  pub tells : IsTold s.known (at + (length octets - length s.rest)) s.rest later
-  pub first : t ≡ with_first s.packet later
-
-pub told-step : (known : Context) (at : ℕ) (octets : List ℕ) (t : Told) (s : Step)
-    → IsTold known at octets t → octets ≢ [] → step known octets ≡ Ok s → length s.rest < length octets
-    → ToldBehind s at octets t
-told-step known at [] t s is some st less = absurd (some refl)
-told-step known at (o ∷ octets) t s (zero, few, is) some st less = absurd (omega (arith, few))
-told-step known at (o ∷ octets) t s (suc n, few, is) some st less = record {
-  later = told n s.known (at + (length (o ∷ octets) - length s.rest)) s.rest;
-  tells = (n, (omega (arith, few, less)), refl);
-  first = sym is ∙ ap (told_by (told n) at (length (o ∷ octets))) st;
-}
+use Rattle.capture_packets.proofs.Told.{behind-some, told-end, told-refused, told-step}
+use Rattle.capture_packets.proofs.WholeFronts.{read-more, with_more}
 
 -- ---- a reader that stands behind it
 
-pub behind-some : (all : ℕ) (behind : List ℕ) → 8 ≤ all → all ≤ length behind → behind ≢ []
-behind-some all behind some few none = let l = ap length none in omega (arith, l, some, few)
-
 -- a reader tells on behind a step
 pub stepped : (limit : ℕ) (text : List ℕ) (reader now : PacketReader) (left left_then : Option (List ℕ)) (t : Told)
-    (p : Progress) (packet : Packet) → (b : TellsOn limit text reader left t) → now.start ≡ reader.start
+    (packets : List Seen) (p : Progress) (packet : Packet) → (b : TellsOn limit text reader left packets t)
+    → now.start ≡ reader.start
     → IsStepped limit text b.given b.behind (context reader.state) p packet (context now.state) now.supply left_then
-    → (later : Told) × (t ≡ with_first (packet_in p packet) later) × TellsOn limit text now left_then later
-stepped limit text reader now left left_then t p packet b same st =
+    → (later : Told) × (t ≡ with_first (packet_in p packet) later)
+    × TellsOn limit text now left_then (with_more packets (packet_in p packet)) later
+stepped limit text reader now left left_then t packets p packet b same st =
     let all = st.all in
     let rest = drop all b.behind in
     let w = st.whole in
@@ -82,6 +50,10 @@ stepped limit text reader now left left_then t p packet b same st =
               ∙ sym (append_assoc b.given (take all b.behind) rest);
           begun = omega (arith, front, begun, same);
         };
+        read = subst (λ (k : ℕ). HasRead k (b.given ++ take all b.behind) (with_more packets (packet_in p packet))
+            (context now.state)) (sym same)
+            (read-more reader.start b.given b.behind packets (context reader.state) (context now.state)
+            (packet_in p packet) all b.read least w st.step_is);
         tells = subst (λ (k : ℕ). IsTold (context now.state) k rest d.later) place d.tells;
       },
     )
@@ -89,40 +61,41 @@ stepped limit text reader now left left_then t p packet b same st =
 -- ---- the ends
 
 pub next-packet : (limit : ℕ) (text : List ℕ) (reader now : PacketReader) (left left_then : Option (List ℕ)) (t : Told)
-    (packet : Packet) → (b : TellsOn limit text reader left t) → now.start ≡ reader.start
+    (packets : List Seen) (packet : Packet) → (b : TellsOn limit text reader left packets t) → now.start ≡ reader.start
     → IsStepped limit text b.given b.behind (context reader.state) progress.Packet packet (context now.state) now.supply left_then
-    → ReadsNext limit text t packet now left_then (Ok true)
-next-packet limit text reader now left left_then t packet b same st =
-    stepped limit text reader now left left_then t progress.Packet packet b same st
+    → ReadsNext limit text packets t packet now left_then (Ok true)
+next-packet limit text reader now left left_then t packets packet b same st =
+    stepped limit text reader now left left_then t packets progress.Packet packet b same st
 
 pub next-other : (limit : ℕ) (text : List ℕ) (reader now : PacketReader) (left left_then : Option (List ℕ)) (t : Told)
-    (packet : Packet) → (b : TellsOn limit text reader left t) → now.start ≡ reader.start
+    (packets : List Seen) (packet : Packet) → (b : TellsOn limit text reader left packets t) → now.start ≡ reader.start
     → IsStepped limit text b.given b.behind (context reader.state) progress.Other packet (context now.state) now.supply left_then
-    → TellsOn limit text now left_then t
-next-other limit text reader now left left_then t packet b same st =
-    let s = stepped limit text reader now left left_then t progress.Other packet b same st in
-    subst (λ (u : Told). TellsOn limit text now left_then u) (sym s.1) s.2
+    → TellsOn limit text now left_then packets t
+next-other limit text reader now left left_then t packets packet b same st =
+    let s = stepped limit text reader now left left_then t packets progress.Other packet b same st in
+    subst (λ (u : Told). TellsOn limit text now left_then packets u) (sym s.1) s.2
 
 pub next-end : (limit : ℕ) (text : List ℕ) (reader now : PacketReader) (left left_then : Option (List ℕ)) (t : Told)
-    (packet : Packet) → (b : TellsOn limit text reader left t)
+    (packets : List Seen) (packet : Packet) → (b : TellsOn limit text reader left packets t)
     → (b.behind ≡ []) × (length text ≤ limit) × (left_then ≡ Some [])
-    → ReadsNext limit text t packet now left_then (Ok false)
-next-end limit text reader now left left_then t packet b (none, within, end) =
+    → ReadsNext limit text packets t packet now left_then (Ok false)
+next-end limit text reader now left left_then t packets packet b (none, within, end) =
     (told-end (context reader.state) (length b.given - reader.start) b.behind t b.tells none, within, end)
 
 pub next-err : (limit : ℕ) (text : List ℕ) (reader now : PacketReader) (left left_then : Option (List ℕ)) (t : Told)
-    (packet other : Packet) (known : Context) (new : Held) (e : End) → (b : TellsOn limit text reader left t)
+    (packets : List Seen) (packet other : Packet) (known : Context) (new : Held) (e : End)
+    → (b : TellsOn limit text reader left packets t)
     → now.start ≡ reader.start
     → StepsOn limit text b.given b.behind (context reader.state) (length b.given - reader.start) other known new left_then (Err e)
-    → ReadsNext limit text t packet now left_then (Err e)
-next-err limit text reader now left left_then t packet other known new (Refused place why) b same s = (
+    → ReadsNext limit text packets t packet now left_then (Err e)
+next-err limit text reader now left left_then t packets packet other known new (Refused place why) b same s = (
   told-refused (context reader.state) (length b.given - reader.start) b.behind t why b.tells s.1 s.2
       ∙ ap (λ (k : ℕ). refused_at k why) (sym s.0),
   s.3,
 )
-next-err limit text reader now left left_then t packet other known new Limit b same (longer, inl none) =
+next-err limit text reader now left left_then t packets packet other known new Limit b same (longer, inl none) =
     (longer, inl (told-end (context reader.state) (length b.given - reader.start) b.behind t b.tells none))
-next-err limit text reader now left left_then t packet other known new Limit b same (longer, inr cut) =
+next-err limit text reader now left left_then t packets packet other known new Limit b same (longer, inr cut) =
     (longer, unfinished b.behind cut b.tells)
   where
     unfinished : (octets : List ℕ) → step (context reader.state) octets ≡ Err fault.Cut
@@ -135,14 +108,15 @@ next-err limit text reader now left left_then t packet other known new Limit b s
           told-refused (context reader.state) (length b.given - reader.start)
               (o ∷ octets) t fault.Cut is (λ none. cc none) cut,
         )
-next-err limit text reader now left left_then t packet other known new ReadFault b same (more, taken, within) = record {
+next-err limit text reader now left left_then t packets packet other known new ReadFault b same (more, taken, within) = record {
   given = b.given;
   behind = b.behind;
   visible = b.before.visible;
   known = context reader.state;
+  read = subst (λ (k : ℕ). HasRead k b.given packets (context reader.state)) (sym same) b.read;
   tells = subst (λ (k : ℕ). IsTold (context reader.state) (length b.given - k) b.behind t) (sym same) b.tells;
   more = more;
   taken = taken;
   within = within;
 }
-next-err limit text reader now left left_then t packet other known new Memory b same s = tt
+next-err limit text reader now left left_then t packets packet other known new Memory b same s = tt

@@ -24,7 +24,7 @@ use Rattle.capture_packets.specs.Captures.{Step, Told, blank, capture, done, ope
 use Rattle.capture_packets.specs.Reading.{IsTold}
 use Rattle.capture_packets.specs.Written.{IsWritable, block_of, blocks_file, classic_file, classic_head, interface_of, number, record_of, section_of, total_of}
 use Rattle.capture_packets.proofs.Stepped.{step-done}
-use Rattle.capture_packets.proofs.Telling.{told-end, told-step}
+use Rattle.capture_packets.proofs.Told.{told-end, told-step}
 
 -- ---- the record of a packet
 

@@ -122,6 +122,10 @@ abbrev pub with_first : Option Seen → Told → Told
 with_first None later = later
 with_first (Some packet) later = record later { packets = packet ∷ later.packets }
 
+-- packets before what is told behind them
+abbrev pub with_packets : List Seen → Told → Told
+with_packets packets later = record later { packets = packets ++ later.packets }
+
 abbrev pub told_by : (Context → ℕ → List ℕ → Told) → ℕ → ℕ → Result Step CaptureFault → Told
 told_by later at count (Err why) = refused_at at why
 told_by later at count (Ok s) =

@@ -1,5 +1,5 @@
 -- How the packets of a file are read from a source, one after the other, within a limit.
-use Rattle.std.specs.Prelude.{⊤, ◌≡◌, ◌⊎◌, ℕ, ◌-◌, ◌<◌, ◌≤◌, Bool, true, false, List, [], ◌++◌, length, take, Option, Some, Result, Ok, Err}
+use Rattle.std.specs.Prelude.{⊤, ◌≡◌, ◌⊎◌, ℕ, ◌-◌, ◌<◌, ◌≤◌, Bool, true, false, List, [], ◌∷◌, ◌++◌, length, take, Option, Some, Result, Ok, Err}
 use Rattle.octet_supply.specs.Supplying.{IsTaken, Stands}
 use Rattle.capture_packets.specs.declared.block.Block.{Block}
 use Rattle.capture_packets.specs.declared.end.End.{End}
@@ -8,8 +8,8 @@ use Rattle.capture_packets.specs.declared.fault.CaptureFault.{CaptureFault}
 use Rattle.capture_packets.specs.declared.fault.CaptureFault.TheVariants.{Cut}
 use Rattle.capture_packets.specs.declared.packet.Packet.{Packet}
 use Rattle.capture_packets.specs.declared.reader.PacketReader.{PacketReader}
-use Rattle.capture_packets.specs.Packets.{Context, context, seen}
-use Rattle.capture_packets.specs.Captures.{Step, Told, blank, blocks_head, capture, frame_of, head_in, most_fields, no_more, opened, refused_at, size, told, with_first}
+use Rattle.capture_packets.specs.Packets.{Context, Seen, context, seen}
+use Rattle.capture_packets.specs.Captures.{Step, Told, blank, blocks_head, capture, frame_of, head_in, most_fields, no_more, opened, refused_at, size, told, with_first, with_packets}
 
 -- ---- where a reader stands
 
@@ -25,12 +25,28 @@ pub record IsBefore (limit : ℕ) (text given behind : List ℕ) (reader : Packe
 abbrev pub IsTold : Context → ℕ → List ℕ → Told → Type 0
 IsTold known at octets t = (n : ℕ) × (length octets ≤ n) × (told n known at octets ≡ t)
 
--- what a reader goes on with tells this
+-- Octets that a file begins with are whole: they have these packets, nothing of them is refused, and of
+-- whatever follows them is told what is told where this is known.
+pub record HasPackets (front : List ℕ) (packets : List Seen) (known : Context) : Type 0 where
+  pub goes : (rest : List ℕ) → (t : Told) × IsTold known (length front) rest t
+      × (capture (front ++ rest) ≡ with_packets packets t)
+
+-- what was given out ends with such octets of a file that begins at this octet
+pub record HasRead (start : ℕ) (given : List ℕ) (packets : List Seen) (known : Context) : Type 0
+  where
+    pub before : List ℕ
+    pub front : List ℕ
+    pub parts : given ≡ before ++ front
+    pub starts : length before ≡ start
+    pub has : HasPackets front packets known
+
+-- a reader read these packets, and what it goes on with tells this
 pub record TellsOn (limit : ℕ) (text : List ℕ) (reader : PacketReader) (left : Option (List ℕ))
-    (t : Told) : Type 0 where
+    (packets : List Seen) (t : Told) : Type 0 where
   pub given : List ℕ
   pub behind : List ℕ
   pub before : IsBefore limit text given behind reader left
+  pub read : HasRead reader.start given packets (context reader.state)
   pub tells : IsTold (context reader.state) (length given - reader.start) behind t
 
 -- ---- how reading ends
@@ -45,14 +61,15 @@ IsWithinNext known behind more =
     (length more < most_fields known.layout)
     ⊎ ((block : Block) × (frame_of known behind ≡ Ok block) × (length more < size known.layout block))
 
--- The source failed within the record or block that the text goes on with, behind others without a
--- packet.
-pub record IsFaulted (limit : ℕ) (text : List ℕ) (start : ℕ) (left : Option (List ℕ)) (t : Told)
-    : Type 0 where
+-- The source failed within the record or block that the text goes on with, behind those that have these
+-- packets.
+pub record IsFaulted (limit : ℕ) (text : List ℕ) (start : ℕ) (left : Option (List ℕ))
+    (packets : List Seen) (t : Told) : Type 0 where
   pub given : List ℕ
   pub behind : List ℕ
   pub visible : take limit text ≡ given ++ behind
   pub known : Context
+  pub read : HasRead start given packets known
   pub tells : IsTold known (length given - start) behind t
   pub more : List ℕ
   pub taken : IsTaken limit text (given ++ more) left
@@ -62,19 +79,20 @@ pub record IsFaulted (limit : ℕ) (text : List ℕ) (start : ℕ) (left : Optio
 abbrev pub RefusedAt : ℕ → List ℕ → ℕ → CaptureFault → Told → Type 0
 RefusedAt limit text at why t = (t ≡ refused_at at why) × (why ≡ Cut → length text ≤ limit)
 
--- what reading a packet did, where a reader went on with what tells this
-abbrev pub ReadsNext : ℕ → List ℕ → Told → Packet → PacketReader → Option (List ℕ)
+-- what reading a packet did, where a reader had read these and went on with what tells this
+abbrev pub ReadsNext : ℕ → List ℕ → List Seen → Told → Packet → PacketReader → Option (List ℕ)
     → Result Bool End → Type 0
-ReadsNext limit text t packet reader left (Ok true) =
+ReadsNext limit text packets t packet reader left (Ok true) =
     (later : Told) × (t ≡ with_first (Some (seen packet)) later)
-    × TellsOn limit text reader left later
-ReadsNext limit text t packet reader left (Ok false) =
+    × TellsOn limit text reader left (packets ++ seen packet ∷ []) later
+ReadsNext limit text packets t packet reader left (Ok false) =
     (t ≡ no_more) × (length text ≤ limit) × (left ≡ Some [])
-ReadsNext limit text t packet reader left (Err (Refused at why)) = RefusedAt limit text at why t
-ReadsNext limit text t packet reader left (Err Limit) = (limit < length text) × IsUnfinished t
-ReadsNext limit text t packet reader left (Err ReadFault) =
-    IsFaulted limit text reader.start left t
-ReadsNext limit text t packet reader left (Err Memory) = ⊤
+ReadsNext limit text packets t packet reader left (Err (Refused at why)) =
+    RefusedAt limit text at why t
+ReadsNext limit text packets t packet reader left (Err Limit) = (limit < length text) × IsUnfinished t
+ReadsNext limit text packets t packet reader left (Err ReadFault) =
+    IsFaulted limit text reader.start left packets t
+ReadsNext limit text packets t packet reader left (Err Memory) = ⊤
 
 -- octets end within the head of a file, or within its first section
 abbrev pub IsWithinHead : List ℕ → List ℕ → Type 0
@@ -87,7 +105,7 @@ abbrev pub Opens : ℕ → List ℕ → List ℕ → List ℕ → Option (List �
     → Type 0
 Opens limit text given file left (Ok reader) =
     (head : Step) × (opened file ≡ Ok head) × (reader.start ≡ length given)
-    × TellsOn limit text reader left (capture file)
+    × TellsOn limit text reader left [] (capture file)
 Opens limit text given file left (Err (Refused at why)) =
     (at ≡ 0) × (opened file ≡ Err why) × (why ≡ Cut → length text ≤ limit)
 Opens limit text given file left (Err Limit) =

@@ -5,7 +5,7 @@ ghost use Rattle.lan_base.specs.Faults.{Rose};
 ghost use Rattle.octet_supply.specs.Supplying.{Stands};
 ghost use Rattle.capture_packets.specs.declared.end.End.TheVariants as ends;
 ghost use Rattle.capture_packets.specs.declared.state.Progress.TheVariants as progress;
-ghost use Rattle.capture_packets.specs.Packets.{context};
+ghost use Rattle.capture_packets.specs.Packets.{Seen, context};
 ghost use Rattle.capture_packets.specs.Captures.{Told, begun, blank, blocks_head, head_in};
 ghost use Rattle.capture_packets.specs.Reading.{Opens, ReadsNext, TellsOn};
 ghost use Rattle.capture_packets.specs.inside.Taking.{BeginsBlocks, BeginsRecords, Frames, ReadsHead, StepsOn, begun_by, judged, judged_head, no_packet};
@@ -59,12 +59,13 @@ impl PacketReader {
     /// Reads the next packet in place of the one that is there, if there is one. Behind an error
     /// nothing is said of the packet, nor of a further call.
     pub fn read<S: Source>(&mut self, source: &mut S, packet: &mut Packet) -> Result<bool, End>
-        ensures reads { (limit : ℕ) (text : List ℕ) (t : Told)
-            → TellsOn limit text self.old (S.left source.old) t
-            → ReadsNext limit text t packet.new self.new (S.left source.new) result }
+        ensures reads { (limit : ℕ) (text : List ℕ) (packets : List Seen) (t : Told)
+            → TellsOn limit text self.old (S.left source.old) packets t
+            → ReadsNext limit text packets t packet.new self.new (S.left source.new) result }
         ensures start { self.new.start ≡ self.old.start }
         ensures given { IfOk result (λ has. has ≡ true
             → self.old.supply.given < self.new.supply.given) }
+        ensures behind { IfOk result (λ has. has ≡ true → self.new.supply.given < 2 ^ 32) }
         ensures before { self.old.supply.given < 2 ^ 32 }
         ensures failed { result ≡ Err ends.ReadFault
             → Rose (S.faults source.old) (S.faults source.new) }
@@ -90,6 +91,7 @@ impl PacketReader {
         ensures start { self.new.start ≡ self.old.start }
         ensures given { IfOk result (λ p. p ≢ progress.End
             → self.old.supply.given < self.new.supply.given) }
+        ensures behind { IfOk result (λ p. p ≢ progress.End → self.new.supply.given < 2 ^ 32) }
         ensures before { self.old.supply.given < 2 ^ 32 }
         ensures failed { result ≡ Err ends.ReadFault
             → Rose (S.faults source.old) (S.faults source.new) }

@@ -1,6 +1,7 @@
 -- What was told first of each key, and the least pair that breaks, with one number more.
 use Rattle.std.proofs.Common.{◌≡◌, ◌≢◌, ◌∙◌, ◌<◌, ◌≤◌, ◌⊎◌, inl, inr, ℕ, Bool, true, false, cond, Option, Some, None, refl, sym, ap, subst, arith}
 use Rattle.std.specs.Prelude.{◌==◌, ◌&&◌, nat_lt}
+use Rattle.std.specs.Option.{option_or}
 use Rattle.std.proofs.lemmas.Bool.{and_parts, or_cases, or_parts, and_cases, eqb-true, eqb-false, ltb-true, ltb-false}
 use Rattle.least_pairs.specs.Pairs.{Noted, Breaks, IsJudged, IsFound, IsOneMore}
 use Rattle.least_pairs.proofs.Public.{some-same, found-is, found-again, found-first, found-stays, first-told, broken-now, agreeing}
@@ -86,20 +87,32 @@ module _ (K V : Type 0) (agree : V → V → Bool) where
     pair = sym (ap (λ (o : Option (ℕ × V)). pair_after pair number (other_first V agree v o)) none);
   }
 
-  -- at most one is found first
-  pub found-once : (f : Noted K V) (k : K) (o p : Option (ℕ × V)) → IsFound K V f k o → IsFound K V f k p → o ≡ p
-  found-once f k None None a b = refl
-  found-once f k None (Some nv) a b = absurd (a nv.0 nv.1 b.0)
-  found-once f k (Some nv) None a b = absurd (b nv.0 nv.1 a.0)
-  found-once f k (Some nv) (Some mw) a b =
-      let low = a.1 mw.0 mw.1 b.0 in
-      let high = b.1 nv.0 nv.1 a.0 in
-      let same : nv.0 ≡ mw.0 = omega (arith, low, high) in
-      let told : Some (k, nv.1) ≡ Some (k, mw.1) = sym a.0 ∙ ap f same ∙ b.0 in
-      pairs nv mw same (ap (λ (p : K × V). p.1) (some-same told))
+-- ---- the first in a history
+
+pub or-none : {X : Type 0} (o : Option X) → option_or o None ≡ o
+or-none None = refl
+or-none (Some x) = refl
+
+-- what is found under each key stays, or is what is told now
+module _ (K V : Type 0) (same : K → K → Bool) (is : (a b : K) → same a b ≡ true → a ≡ b)
+    (itself : (a : K) → same a a ≡ true) where
+  pub first-after : (old new : K → Option (ℕ × V)) (number : ℕ) (key : K) (v : V) (o : Option (ℕ × V)) → old key ≡ o
+      → Finds K V old new number key v o → (q : K)
+      → new q ≡ option_or (old q) (cond (same key q) (Some (number, v)) None)
+  first-after old new number key v o there finds q = go (same key q) refl o there finds
     where
-      pairs : (x y : ℕ × V) → x.0 ≡ y.0 → x.1 ≡ y.1 → Some x ≡ Some y
-      pairs (a, b) (c, d) e f = rw (e, f) refl
+      go : (b : Bool) → same key q ≡ b → (o : Option (ℕ × V)) → old key ≡ o → Finds K V old new number key v o
+          → new q ≡ option_or (old q) (cond b (Some (number, v)) None)
+      go true e None there finds =
+          let at = is key q e in
+          ap new (sym at) ∙ finds.here
+          ∙ sym (ap (λ (o : Option (ℕ × V)). option_or o (Some (number, v))) (ap old (sym at) ∙ there))
+      go true e (Some nv) there finds =
+          let found : old q ≡ Some nv = ap old (sym (is key q e)) ∙ there in
+          finds q ∙ found ∙ sym (ap (λ (o : Option (ℕ × V)). option_or o (Some (number, v))) found)
+      go false e None there finds =
+          finds.others q (λ at. absurd (cc (ap (λ (x : K). same key x) at ∙ itself key, e))) ∙ sym (or-none (old q))
+      go false e (Some nv) there finds = finds q ∙ sym (or-none (old q))
 
 -- ---- the lesser of two judged pairs
 

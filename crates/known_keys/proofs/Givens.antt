@@ -1,6 +1,7 @@
 -- What packets gave, and one packet more.
-use Rattle.std.proofs.Common.{◌≡◌, ◌≢◌, ◌∙◌, ◌<◌, ◌≤◌, ◌⊎◌, inl, inr, ℕ, Bool, true, false, cond, List, ◌∷◌, Option, Some, None, refl, sym, ap, arith}
-use Rattle.std.specs.Prelude.{◌==◌, option_map}
+use Rattle.std.proofs.Common.{◌≡◌, ◌≢◌, ◌∙◌, ◌<◌, ◌≤◌, ◌⊎◌, inl, inr, ℕ, Bool, true, false, cond, not, List, ◌∷◌, Option, Some, None, refl, sym, ap, arith}
+use Rattle.std.specs.Prelude.{◌==◌, IfSome, option_map}
+use Rattle.std.specs.Option.{option_or}
 use Rattle.std.specs.Cmp.Lexicographic.{slice_cmp, texts_ties}
 use Rattle.std.specs.Ordering.{nat_cmp}
 use Rattle.std.proofs.lemmas.Bool.{and_parts, and_from, eqb-true, eq-eqb, ne_eqb, cases_eq}
@@ -11,21 +12,27 @@ use Rattle.lan_base.specs.declared.key_id.KeyId.{KeyId}
 use Rattle.lan_base.specs.declared.association_number.AssociationNumber.{AssociationNumber}
 use Rattle.lan_base.specs.Identifiers.{same_mi}
 use Rattle.lan_base.specs.AssociationNumbers.{same_an}
-use Rattle.least_pairs.specs.Pairs.{Noted, IsOneMore}
+use Rattle.mkpdu_codec.specs.declared.offset.ConfidentialityOffset.{ConfidentialityOffset}
+use Rattle.least_pairs.specs.Pairs.{IsJudged, Noted, IsOneMore}
 use Rattle.known_keys.specs.declared.gives.Gives.{Gives}
 use Rattle.known_keys.specs.declared.givings.Others.{Others}
 use Rattle.known_keys.specs.declared.named.Named.{Named}
+use Rattle.known_keys.specs.declared.said.Fresh.{Fresh}
 use Rattle.known_keys.specs.History.{Entry}
-use Rattle.known_keys.specs.OneKey.{gives, given, given_or, key_given, other_first, same_id, same_named, turned}
-use Rattle.known_keys.specs.Standing.{IsOneKey, Tells}
-use Rattle.known_keys.specs.inside.Firsts.{Firsts, IsGiven, first_giving, first_naming}
+use Rattle.known_keys.specs.OneKey.{BreaksOneKey, first_identified, first_named, gives, given, given_or, identified_by, key_given, named_by, other_first, same_id, same_named, turned}
+use Rattle.known_keys.specs.Said.{Statement, is_named_so, is_said, statement_of}
+use Rattle.known_keys.specs.Telling.{told_of}
+use Rattle.known_keys.specs.Standing.{IsOneKey, IsSaid}
+use Rattle.known_keys.specs.Maps.{Firsts, Sets, first_giving, first_naming}
+use Rattle.known_keys.specs.inside.Firsts.{IsGiven}
+use Rattle.known_keys.specs.inside.Sets.{IsPut}
 use Rattle.known_keys.proofs.SakNumbers.{equal}
 use Rattle.known_keys.proofs.Stands.{an-same, an-itself}
-use Rattle.known_keys.proofs.FirstTold.{Agrees, noted-more, found-once}
+use Rattle.known_keys.proofs.FirstTold.{Agrees, first-after, noted-more}
 
 -- ---- what is the same
 
-mi-is : (a b : Mi) → same_mi a b ≡ true → a ≡ b
+pub mi-is : (a b : Mi) → same_mi a b ≡ true → a ≡ b
 mi-is a b e = ap (λ (xs : List ℕ). mi_of xs) (exact_bytes a.0 b.0 (equal (slice_cmp nat_cmp a.0 b.0) (sym (texts_ties a.0 b.0) ∙ e)))
   where
     mi_of : List ℕ → Mi
@@ -119,6 +126,16 @@ one-key-more history entry packet id named old new others told are above is =
     record {
       names = by_name.0;
       ids = by_key.0;
+      first_names = λ q.
+          first-after KeyId Named same_id id-is id-itself (first_naming old.names) (first_naming new.names) packet id named
+          (first_naming old.names id) refl is.name.finds q
+          ∙ ap (λ (o : Option (ℕ × Named)). option_or o (cond (same_id id q) (Some (packet, named)) None)) (are.first_names q)
+          ∙ ap (λ (g : Option (ℕ × (KeyId × Named))). option_or (first_named history q) (named_by q g)) (sym told);
+      first_ids = λ q.
+          first-after ℕ KeyId (λ m n. m == n) eqb-true (λ n. eq-eqb n n refl) (first_giving old.ids) (first_giving new.ids) packet
+          named.key id (first_giving old.ids named.key) refl is.key.finds q
+          ∙ ap (λ (o : Option (ℕ × KeyId)). option_or o (cond (named.key == q) (Some (packet, id)) None)) (are.first_ids q)
+          ∙ ap (λ (g : Option (ℕ × (KeyId × Named))). option_or (first_identified history q) (identified_by q g)) (sym told);
       name_pair = by_name.1;
       id_pair = by_key.1;
       within = λ m it e. at m it e last more (cases_eq m packet);
@@ -131,18 +148,51 @@ one-key-more history entry packet id named old new others told are above is =
     at m it e last more (inr apart) =
         let less = more.within m it (sym (more.kept m apart) ∙ e) in omega (arith, less, last)
 
--- what is answered
-pub tells-others : (history : List Entry) (id : KeyId) (an : AssociationNumber) (packet : ℕ) (old new : Firsts)
-    (others : Others) (it : Gives) → IsOneKey history old
-    → IsGiven packet id (record { an = an; key = it.key }) old new others
-    → it.other_name ≡ others.name → it.other_id ≡ others.id → Tells history id an it
-tells-others history id an packet old new others it are is name other = record {
-  name = λ first found.
-      name ∙ is.name.answers
-      ∙ ap (λ (o : Option (ℕ × Named)). other_first Named same_named (record { an = an; key = it.key }) o)
-      (found-once KeyId Named same_named (given history) id (first_naming old.names id) first (are.names id) found);
-  other_id = λ first found.
-      other ∙ is.key.answers
-      ∙ ap (λ (o : Option (ℕ × KeyId)). other_first KeyId same_id id o)
-      (found-once ℕ KeyId same_id (key_given history) it.key (first_giving old.ids it.key) first (are.ids it.key) found);
+-- ---- what is told of it
+
+abbrev pub gives_of : ℕ → Bool → Bool → Option ℕ → Option ℕ → Gives
+gives_of key is_new is_new_naming other_name other_id = record {
+  key = key;
+  is_new = is_new;
+  is_new_naming = is_new_naming;
+  other_name = other_name;
+  other_id = other_id;
 }
+
+pub told-is : (history : List Entry) (group : ℕ) (id : KeyId) (an : AssociationNumber) (offset : ConfidentialityOffset)
+    (key packet : ℕ) (old new : Firsts) (others : Others) (said then : Sets) (fresh : Fresh) → IsOneKey history old
+    → IsSaid history said → IsGiven packet id (record { an = an; key = key }) old new others
+    → IsPut (statement_of group id an offset key) said then fresh
+    → gives_of key fresh.statement fresh.naming others.name others.id ≡ told_of history group id an offset key
+told-is history group id an offset key packet old new others said then fresh are were noted put =
+    ap (λ b. gives_of key b fresh.naming others.name others.id) (put.new_statement ∙ ap not (were.by_group statement))
+    ∙ ap (λ b. gives_of key new_statement b others.name others.id) (put.new_naming ∙ ap not (were.by_all statement.1.0))
+    ∙ ap (λ (o : Option ℕ). gives_of key new_statement new_naming o others.id)
+    (noted.name.answers ∙ ap (λ (o : Option (ℕ × Named)). other_first Named same_named named o) (are.first_names id))
+    ∙ ap (λ (o : Option ℕ). gives_of key new_statement new_naming (other_first Named same_named named (first_named history id)) o)
+    (noted.key.answers ∙ ap (λ (o : Option (ℕ × KeyId)). other_first KeyId same_id id o) (are.first_ids key))
+  where
+    statement : Statement
+    statement = statement_of group id an offset key
+
+    named : Named
+    named = record { an = an; key = key }
+
+    new_statement : Bool
+    new_statement = not (is_said history statement)
+
+    new_naming : Bool
+    new_naming = not (is_named_so history statement.1.0)
+
+-- a pair that breaks stands in order, up to the last packet
+pub in-order : (history : List Entry) (firsts : Firsts) → IsOneKey history firsts → (a b : ℕ)
+    → BreaksOneKey history a b → (a < b) × (b ≤ firsts.last)
+in-order history firsts are a b (inl broken) = (broken.order, are.within b (broken.key, broken.other) broken.second)
+in-order history firsts are a b (inr broken) =
+    let was = from-turned (given history b) (broken.key, broken.other) broken.second in
+    (broken.order, are.within b was.0 was.1)
+
+pub if-judged : (Broken : ℕ → ℕ → Type 0) (Q : ℕ × ℕ → Type 0) (o : Option (ℕ × ℕ))
+    → ((pair : ℕ × ℕ) → Broken pair.0 pair.1 → Q pair) → IsJudged Broken o → IfSome o Q
+if-judged Broken Q None f judged = tt
+if-judged Broken Q (Some pair) f judged = f pair judged.broken

@@ -5,7 +5,7 @@ use Rattle.std.proofs.lemmas.Bool.{ne_eqb, cases_eq, cases_lt}
 use Rattle.lan_base.specs.declared.key_id.KeyId.{KeyId}
 use Rattle.aes_block.specs.declared.secret.Secret.{Secret}
 use Rattle.least_pairs.specs.Pairs.{Noted, Breaks, IsFront, IsJudged}
-use Rattle.known_keys.specs.declared.giving.Giving.TheVariants.{Key, OtherSuite, WrongWrap}
+use Rattle.known_keys.specs.declared.giving.Giving.TheVariants.{Key, Without}
 use Rattle.known_keys.specs.declared.named.Named.{Named}
 use Rattle.known_keys.specs.Fronts.{IsBehind, IsWithin}
 use Rattle.known_keys.specs.History.{Entry, Set, Gave, Showed, Strange, keys, sak_of}
@@ -47,14 +47,13 @@ giving-end end packet None it earlier m apart = refl
 giving-end end packet (Some key) it earlier m apart =
     ap (λ b. cond b (Some (it key)) earlier) (ne_eqb packet m (λ e. apart (sym e)))
 
-given-front : (later earlier : List Entry) (end : ℕ) → IsBehind end later → (m : ℕ) → m ≤ end
+pub given-front : (later earlier : List Entry) (end : ℕ) → IsBehind end later → (m : ℕ) → m ≤ end
     → given (later ++ earlier) m ≡ given earlier m
 given-front [] earlier end behind m less = refl
 given-front (Set s a k ∷ later) earlier end behind m less = given-front later earlier end behind m less
 given-front (Showed p t g id an ∷ later) earlier end behind m less = given-front later earlier end behind m less
 given-front (Strange sci ∷ later) earlier end behind m less = given-front later earlier end behind m less
-given-front (Gave p t g id an OtherSuite ∷ later) earlier end behind m less = given-front later earlier end behind.1 m less
-given-front (Gave p t g id an WrongWrap ∷ later) earlier end behind m less = given-front later earlier end behind.1 m less
+given-front (Gave p t g id an (Without why) ∷ later) earlier end behind m less = given-front later earlier end behind.1 m less
 given-front (Gave p t g id an (Key offset sak) ∷ later) earlier end behind m less =
     let above = behind.0 in
     giving-end end p (number_told (later ++ earlier) (Gave p t g id an (Key offset sak))) (λ key. (id, record { an = an; key = key }))
@@ -74,8 +73,7 @@ given-ends [] end within m kv e = absurd (cc e)
 given-ends (Set s a k ∷ earlier) end within m kv e = given-ends earlier end within m kv e
 given-ends (Showed p t g id an ∷ earlier) end within m kv e = given-ends earlier end within m kv e
 given-ends (Strange sci ∷ earlier) end within m kv e = given-ends earlier end within m kv e
-given-ends (Gave p t g id an OtherSuite ∷ earlier) end within m kv e = given-ends earlier end within.1 m kv e
-given-ends (Gave p t g id an WrongWrap ∷ earlier) end within m kv e = given-ends earlier end within.1 m kv e
+given-ends (Gave p t g id an (Without why) ∷ earlier) end within m kv e = given-ends earlier end within.1 m kv e
 given-ends (Gave p t g id an (Key offset sak) ∷ earlier) end within m kv e =
     given-or-ends end p (number_told earlier (Gave p t g id an (Key offset sak))) (λ key. (id, record { an = an; key = key }))
     (given earlier m) m within.0 (λ kv e. given-ends earlier end within.1 m kv e) (cases_eq m p) kv e

@@ -1,6 +1,6 @@
 -- What an insertion changes of the lists of numbers.
 use Rattle.std.proofs.Common.{◌≡◌, ◌≢◌, ◌∙◌, ℕ, Bool, true, false, cond, List, [], Option, Some, None, refl, sym, ap}
-use Rattle.std.specs.Prelude.{Result, Ok, Err, OnOk, OnErr, unwrap_or}
+use Rattle.std.specs.Prelude.{Result, Ok, Err, IfOk, OnOk, OnErr, unwrap_or}
 use Rattle.std.specs.Map.{lookup}
 use Rattle.std.specs.BTreeMap.{is_at}
 use Rattle.std.specs.Ordering.{nat_cmp}
@@ -13,7 +13,8 @@ use Rattle.lan_base.specs.declared.association_number.AssociationNumber.TheVaria
 use Rattle.lan_base.specs.AssociationNumbers.{number_of}
 use Rattle.known_keys.specs.declared.sender.Sender.{Sender}
 use Rattle.known_keys.specs.declared.sender.Sender.TheVariants.{Any, One}
-use Rattle.known_keys.specs.inside.Steps.{Place, Told, place_cmp, sci_cmp, place_under, sender_of, numbers_at, with_place, IsPutAt, IsToldTo}
+use Rattle.known_keys.specs.Maps.{Place, Told, place_cmp, sci_cmp, place_under, sender_of, numbers_at}
+use Rattle.known_keys.specs.inside.Steps.{with_place, IsPutAt, IsToldTo}
 use Rattle.known_keys.proofs.SakNumbers.{equal}
 
 -- what an insertion says of what is found
@@ -96,6 +97,10 @@ told_to sender an number old new put = record {
 pub on_ok : {T E P Q : Type 0} (r : Result T E) → (P → Q) → OnOk r P → OnOk r Q
 on_ok (Ok x) f p = f p
 on_ok (Err e) f p = tt
+
+pub if_ok : {T E : Type 0} {P Q : T → Type 0} (r : Result T E) → ((x : T) → P x → Q x) → IfOk r P → IfOk r Q
+if_ok (Ok x) f p = f x p
+if_ok (Err e) f p = tt
 
 pub on_err : {T E P Q : Type 0} (r : Result T E) → (P → Q) → OnErr r P → OnErr r Q
 on_err (Ok x) f p = tt

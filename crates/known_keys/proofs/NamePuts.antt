@@ -6,7 +6,8 @@ use Rattle.lan_base.specs.declared.address.Mi.{Mi}
 use Rattle.lan_base.specs.declared.key_id.KeyId.{KeyId}
 use Rattle.lan_base.specs.Identifiers.{order}
 use Rattle.known_keys.specs.declared.named.Named.{Named}
-use Rattle.known_keys.specs.inside.Firsts.{IsFirst, Names, first_naming, id_cmp}
+use Rattle.known_keys.specs.Maps.{Names, first_naming, id_cmp}
+use Rattle.known_keys.specs.inside.Firsts.{IsFirst}
 use Rattle.known_keys.proofs.ListPuts.{Changes, untouched}
 
 exact_mi : CmpEqualImpliesEq order

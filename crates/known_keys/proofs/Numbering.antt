@@ -1,8 +1,11 @@
 -- The numbers of keys, and one key more.
-use Rattle.std.proofs.Common.{◌≡◌, ◌∙◌, ◌+◌, ◌<◌, ◌≤◌, ℕ, suc, Bool, true, false, cond, List, [], ◌∷◌, ◌++◌, length, Option, Some, None, refl, sym, ap, arith, length-append}
+use Rattle.std.proofs.Common.{◌≡◌, ◌∙◌, ◌+◌, ◌<◌, ◌≤◌, ℕ, suc, Bool, true, false, cond, List, [], ◌∷◌, ◌++◌, length, Option, Some, None, refl, sym, ap, subst, arith, length-append}
+use Rattle.std.proofs.lemmas.List.{length-map, map-append}
 use Rattle.aes_block.specs.declared.secret.Secret.{Secret}
+use Rattle.aes_block.specs.Secrets.{secret_octets}
 use Rattle.known_keys.specs.Numbered.{same_secret, number_from, number_in, with_number, with_key}
-use Rattle.known_keys.specs.inside.Steps.{number_by, Keyed, AreKept, IsKeyed}
+use Rattle.known_keys.specs.Maps.{number_by, Keyed, AreKept}
+use Rattle.known_keys.specs.inside.Steps.{IsKeyed}
 use Rattle.known_keys.proofs.SakNumbers.{same-is, same-itself}
 
 -- the number of a SAK where one key more stands last
@@ -97,43 +100,58 @@ no-fewer keys (Some sak) = go (number_in keys sak)
 -- ---- what is kept
 
 -- a SAK that has a number
-pub keyed-same : (sak : Secret) (n : ℕ) (k : Keyed) → Some n ≡ number_by k.numbers sak → AreKept k
-    → IsKeyed sak n k k
-keyed-same sak n k found kept =
-    let there : number_in k.saks sak ≡ Some n = sym (kept.numbered sak) ∙ sym found in
-    record { saks = sym (with-some k.saks sak n there); kept = kept; number = there }
+there : (saks : List Secret) (sak : Secret) (n : ℕ) (k : Keyed) → Some n ≡ number_by k.numbers sak → AreKept saks k
+    → number_in saks sak ≡ Some n
+there saks sak n k found kept = sym (kept.numbered sak) ∙ sym found
 
-pub not-full : (sak : Secret) (n : ℕ) (k : Keyed) → Some n ≡ number_by k.numbers sak → AreKept k
-    → 4096 < length (with_key k.saks (Some sak)) → ⊥
-not-full sak n k found kept over =
-    let same = ap (λ (ss : List Secret). length ss) (sym (keyed-same sak n k found kept).saks) in
+pub keyed-same : (saks : List Secret) (sak : Secret) (n : ℕ) (k : Keyed) → Some n ≡ number_by k.numbers sak
+    → AreKept saks k → IsKeyed saks sak n k
+keyed-same saks sak n k found kept =
+    let is = there saks sak n k found kept in
+    subst (λ (ss : List Secret). AreKept ss k × (number_in ss sak ≡ Some n) → IsKeyed saks sak n k)
+    (with-some saks sak n is) (λ both. record { kept = both.0; number = both.1 }) (kept, is)
+
+pub not-full : (saks : List Secret) (sak : Secret) (n : ℕ) (k : Keyed) → Some n ≡ number_by k.numbers sak
+    → AreKept saks k → 4096 < length (with_key saks (Some sak)) → ⊥
+not-full saks sak n k found kept over =
+    let same = ap (λ (ss : List Secret). length ss) (with-some saks sak n (there saks sak n k found kept)) in
     let few = kept.few in omega (arith, same, few, over)
 
-pub no-number : (sak : Secret) (k : Keyed) → None ≡ number_by k.numbers sak → AreKept k → number_in k.saks sak ≡ None
-no-number sak k found kept = sym (kept.numbered sak) ∙ sym found
+no-number : (saks : List Secret) (sak : Secret) (k : Keyed) → None ≡ number_by k.numbers sak → AreKept saks k
+    → number_in saks sak ≡ None
+no-number saks sak k found kept = sym (kept.numbered sak) ∙ sym found
 
-pub longer : (sak : Secret) (k : Keyed) → None ≡ number_by k.numbers sak → AreKept k
-    → length (with_key k.saks (Some sak)) ≡ length k.saks + 1
-longer sak k found kept =
-    ap (λ (ss : List Secret). length ss) (with-none k.saks sak (no-number sak k found kept)) ∙ length-more k.saks sak
+-- there are as many keys as are prepared
+pub as-many : (saks : List Secret) (k : Keyed) → AreKept saks k → length k.prepared ≡ length saks
+as-many saks k kept =
+    ap (λ (ks : List (List ℕ)). length ks) kept.prepared ∙ length-map saks secret_octets
+
+pub longer : (saks : List Secret) (sak : Secret) (k : Keyed) → None ≡ number_by k.numbers sak → AreKept saks k
+    → length (with_key saks (Some sak)) ≡ length k.prepared + 1
+longer saks sak k found kept =
+    ap (λ (ss : List Secret). length ss) (with-none saks sak (no-number saks sak k found kept)) ∙ length-more saks sak
+    ∙ ap (λ n. n + 1) (sym (as-many saks k kept))
 
 -- a SAK that has none yet
-pub keyed-new : (sak : Secret) (n : ℕ) (old new : Keyed) → None ≡ number_by old.numbers sak → AreKept old
-    → n ≡ length old.saks + 1 → n ≤ 4096 → new.saks ≡ old.saks ++ sak ∷ []
+pub keyed-new : (saks : List Secret) (sak : Secret) (n : ℕ) (old new : Keyed) → None ≡ number_by old.numbers sak
+    → AreKept saks old → n ≡ length old.prepared + 1 → n ≤ 4096
+    → new.prepared ≡ old.prepared ++ secret_octets sak ∷ []
     → ((s : Secret) → number_by new.numbers s ≡ cond (same_secret sak s) (Some n) (number_by old.numbers s))
-    → IsKeyed sak n old new
-keyed-new sak n old new found kept is within saks put =
-    let none = no-number sak old found kept in
+    → IsKeyed saks sak n new
+keyed-new saks sak n old new found kept counted within pushed put =
+    let none = no-number saks sak old found kept in
+    let is : n ≡ length saks + 1 = counted ∙ ap (λ m. m + 1) (as-many saks old kept) in
+    let same = with-none saks sak none in
     record {
-      saks = saks ∙ sym (with-none old.saks sak none);
-      kept = record {
+      kept = subst (λ (ss : List Secret). AreKept ss new) (sym same) (record {
+        prepared = pushed
+            ∙ ap (λ (ks : List (List ℕ)). ks ++ secret_octets sak ∷ []) kept.prepared
+            ∙ sym (map-append secret_octets saks (sak ∷ []));
         numbered = λ s. put s
             ∙ ap (λ o. cond (same_secret sak s) (Some n) o) (kept.numbered s)
-            ∙ ap (λ m. cond (same_secret sak s) (Some m) (number_in old.saks s)) is
-            ∙ numbers-more old.saks sak none s
-            ∙ ap (λ (ss : List Secret). number_in ss s) (sym saks);
-        few = let e = ap (λ (ss : List Secret). length ss) saks in let f = length-more old.saks sak in
-            omega (arith, e, f, is, within);
-      };
-      number = ap (λ (ss : List Secret). number_in ss sak) saks ∙ in-more old.saks sak none ∙ ap (λ m. Some m) (sym is);
+            ∙ ap (λ m. cond (same_secret sak s) (Some m) (number_in saks s)) is
+            ∙ numbers-more saks sak none s;
+        few = let f = length-more saks sak in omega (arith, f, is, within);
+      });
+      number = ap (λ (ss : List Secret). number_in ss sak) same ∙ in-more saks sak none ∙ ap (λ m. Some m) (sym is);
     }

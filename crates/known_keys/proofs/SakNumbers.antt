@@ -11,7 +11,7 @@ use Rattle.std.specs.declared.cmp.Ordering.TheVariants.{Less, Equal, Greater}
 use Rattle.aes_block.specs.declared.secret.Secret.{Secret}
 use Rattle.aes_block.specs.declared.secret.Secret.TheVariants.{S128, S256}
 use Rattle.known_keys.specs.Numbered.{same_secret}
-use Rattle.known_keys.specs.inside.Steps.{Numbers, ByOctets, number_at, number_by}
+use Rattle.known_keys.specs.Maps.{Numbers, ByOctets, number_at, number_by}
 
 pub equal : (o : Ordering) → is_eq o ≡ true → o ≡ Equal
 equal Less e = absurd (cc e)

@@ -1,5 +1,5 @@
 -- What a value says of a history, and one entry more.
-use Rattle.std.proofs.Common.{◌≡◌, ◌∙◌, ◌<◌, ◌≤◌, ◌⊎◌, inl, inr, ℕ, Bool, true, false, List, [], ◌∷◌, length, Option, Some, None, refl, sym, ap, arith}
+use Rattle.std.proofs.Common.{◌≡◌, ◌∙◌, ◌<◌, ◌≤◌, ◌⊎◌, inl, inr, ℕ, Bool, true, false, List, [], ◌∷◌, length, Option, Some, None, refl, sym, ap, subst, arith}
 use Rattle.std.specs.Prelude.{◌==◌, ◌&&◌, ◌||◌, option_and_then, nat_eq}
 use Rattle.std.specs.Cmp.Lexicographic.{slice_cmp, pointwise, texts_ties}
 use Rattle.std.specs.Ordering.{nat_cmp}
@@ -15,8 +15,9 @@ use Rattle.known_keys.specs.declared.sender.Sender.TheVariants.{Any, One}
 use Rattle.known_keys.specs.Numbered.{greatest_first, number_in, with_key}
 use Rattle.known_keys.specs.History.{Entry, keys, sak_of}
 use Rattle.known_keys.specs.Known.{same_sender, is_for, is_it, is_told, number_told}
-use Rattle.known_keys.specs.Standing.{IsOneKey, IsSaid, Kept, StandsFor}
-use Rattle.known_keys.specs.inside.Steps.{Keyed, AreKept, IsKeyed, IsToldTo, Told, numbers_under, with_place}
+use Rattle.known_keys.specs.Standing.{IsMissed, IsOneKey, IsSaid, Kept, StandsFor}
+use Rattle.known_keys.specs.Maps.{AreKept, Keyed, Missed, Told, numbers_under}
+use Rattle.known_keys.specs.inside.Steps.{IsKeyed, IsToldTo, with_place}
 use Rattle.known_keys.proofs.SakNumbers.{equal}
 use Rattle.known_keys.proofs.Numbering.{in-within, no-fewer}
 use Rattle.known_keys.proofs.Greatest.{skip, same-below, placed, or_this}
@@ -152,18 +153,14 @@ lists-told history entry old new sender an number put told meant are s a =
 
 -- ---- the keys
 
-abbrev pub AreKeys : List Entry → Keyed → Type 0
-AreKeys history keyed = (keyed.saks ≡ keys history) × AreKept keyed
-
 -- an entry that tells a SAK
-pub keys-told : (history : List Entry) (entry : Entry) (sak : Secret) (number : ℕ) (old new : Keyed)
-    → sak_of entry ≡ Some sak → old.saks ≡ keys history → IsKeyed sak number old new
-    → (new.saks ≡ keys (entry ∷ history)) × (number_told history entry ≡ Some number)
-keys-told history entry sak number old new tells are keyed =
-    let same : new.saks ≡ keys (entry ∷ history) =
-    keyed.saks ∙ ap (λ (ss : List Secret). with_key ss (Some sak)) are
-    ∙ ap (λ (o : Option Secret). with_key (keys history) o) (sym tells) in (
-      same,
+pub keys-told : (history : List Entry) (entry : Entry) (sak : Secret) (number : ℕ) (new : Keyed)
+    → sak_of entry ≡ Some sak → IsKeyed (keys history) sak number new
+    → AreKept (keys (entry ∷ history)) new × (number_told history entry ≡ Some number)
+keys-told history entry sak number new tells keyed =
+    let same : with_key (keys history) (Some sak) ≡ keys (entry ∷ history) =
+    ap (λ (o : Option Secret). with_key (keys history) o) (sym tells) in (
+      subst (λ (ss : List Secret). AreKept ss new) same keyed.kept,
       ap (λ (o : Option Secret). option_and_then (number_in (keys (entry ∷ history))) o) tells
           ∙ ap (λ (ss : List Secret). number_in ss sak) (sym same) ∙ keyed.number,
     )
@@ -172,16 +169,29 @@ pub told-stands : (history : List Entry) (entry : Entry) (sak : Secret) (number 
     (sender : Sender) (an : AssociationNumber)
     → sak_of entry ≡ Some sak
     → ((s : Sender) (a : AssociationNumber) → is_for s a entry ≡ (same_sender sender s && same_an an a))
-    → StandsFor history old → IsKeyed sak number old.keys new.keys
+    → StandsFor history old → IsKeyed (keys history) sak number new.keys
     → IsToldTo sender an number old.lists new.lists → IsOneKey (entry ∷ history) new.firsts
-    → IsSaid (entry ∷ history) new.said
+    → IsSaid (entry ∷ history) new.said → IsMissed (entry ∷ history) new.misses
     → StandsFor (entry ∷ history) new
-told-stands history entry sak number old new sender an tells meant stands keyed put one said =
-    let both = keys-told history entry sak number old.keys new.keys tells stands.saks keyed in
+told-stands history entry sak number old new sender an tells meant stands keyed put one said missed =
+    let both = keys-told history entry sak number new.keys tells keyed in
     record {
-      saks = both.0;
-      numbers = keyed.kept;
+      are_kept = both.0;
       lists = lists-told history entry old.lists new.lists sender an number put both.1 meant stands.lists;
       one_key = one;
       is_said = said;
+      is_missed = missed;
     }
+
+-- an entry that tells no SAK
+pub quiet-stands : (history : List Entry) (entry : Entry) (old : Kept) (missed : Missed) → sak_of entry ≡ None
+    → ((s : Sender) (a : AssociationNumber) → is_for s a entry ≡ false)
+    → StandsFor history old → IsOneKey (entry ∷ history) old.firsts → IsSaid (entry ∷ history) old.said
+    → IsMissed (entry ∷ history) missed → StandsFor (entry ∷ history) (record old { misses = missed })
+quiet-stands history entry old missed none quiet stands one said are = record {
+  are_kept = subst (λ (o : Option Secret). AreKept (with_key (keys history) o) old.keys) (sym none) stands.are_kept;
+  lists = lists-stay history entry old.lists old.lists refl quiet stands.lists;
+  one_key = one;
+  is_said = said;
+  is_missed = are;
+}

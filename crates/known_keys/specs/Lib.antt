@@ -5,5 +5,8 @@ pub mod Known
 pub mod OneKey
 pub mod Fronts
 pub mod Said
+pub mod Telling
+pub mod Undecided
+pub mod Maps
 pub mod Standing
 pub mod inside

@@ -1,5 +1,5 @@
 -- The different SAKs in an order, and their numbers.
-use Rattle.std.specs.Prelude.{ℕ, zero, suc, nat_eq, Bool, false, if◌then◌else◌, List, [], ◌∷◌, ◌++◌, Option, Some, None, slice_get}
+use Rattle.std.specs.Prelude.{ℕ, zero, suc, nat_eq, Bool, false, if◌then◌else◌, List, [], ◌∷◌, ◌++◌, Option, Some, None}
 use lib.Pointwise.{pointwise}
 use Rattle.aes_block.specs.declared.secret.Secret.{Secret}
 use Rattle.aes_block.specs.declared.secret.Secret.TheVariants.{S128, S256}
@@ -18,11 +18,6 @@ number_from n (key ∷ keys) sak = if same_secret key sak then Some n else numbe
 -- the number of a SAK among keys, from 1
 abbrev pub number_in : List Secret → Secret → Option ℕ
 number_in keys sak = number_from 1 keys sak
-
--- the key of a number
-abbrev pub key_at : List Secret → ℕ → Option Secret
-key_at keys zero = None
-key_at keys (suc n) = slice_get keys n
 
 -- the keys when this SAK, if any, is one of them: one that was none stands last
 abbrev pub with_number : List Secret → Secret → Option ℕ → List Secret

@@ -1,5 +1,6 @@
 -- One key under each identifier, and one identifier of each key.
 use Rattle.std.specs.Prelude.{ℕ, ◌==◌, ◌&&◌, ◌⊎◌, ◌||◌, nat_lt, Bool, if◌then◌else◌, List, [], ◌∷◌, Option, Some, None, option_map}
+use Rattle.std.specs.Option.{option_or}
 use Rattle.lan_base.specs.declared.key_id.KeyId.{KeyId}
 use Rattle.lan_base.specs.AssociationNumbers.{same_an}
 use Rattle.lan_base.specs.Identifiers.{same_mi}
@@ -39,6 +40,30 @@ turned it = (it.1.key, it.0)
 
 abbrev pub key_given : List Entry → Noted ℕ KeyId
 key_given history packet = option_map turned (given history packet)
+
+-- ---- what was given first
+
+-- an entry gives this identifier: its packet, and what the identifier names
+abbrev pub named_by : KeyId → Option (ℕ × (KeyId × Named)) → Option (ℕ × Named)
+named_by id None = None
+named_by id (Some it) = if same_id it.1.0 id then Some (it.0, it.1.1) else None
+
+-- the packet that gave an identifier first, and what that named
+abbrev pub first_named : List Entry → KeyId → Option (ℕ × Named)
+first_named [] id = None
+first_named (entry ∷ before) id = option_or (first_named before id) (named_by id (gives before entry))
+
+-- an entry gives this key: its packet, and the identifier
+abbrev pub identified_by : ℕ → Option (ℕ × (KeyId × Named)) → Option (ℕ × KeyId)
+identified_by key None = None
+identified_by key (Some it) = if it.1.1.key == key then Some (it.0, it.1.0) else None
+
+-- the packet that gave a key first, and under which identifier
+abbrev pub first_identified : List Entry → ℕ → Option (ℕ × KeyId)
+first_identified [] key = None
+first_identified (entry ∷ before) key = option_or (first_identified before key) (identified_by key (gives before entry))
+
+-- ---- which packets break it
 
 -- two packets give one identifier with two SAKs or two association numbers
 abbrev pub BreaksName : List Entry → ℕ → ℕ → Type 0

@@ -1,9 +1,11 @@
 -- What was said of keys before: by the packets of a group, and by all.
-use Rattle.std.specs.Prelude.{ℕ, ◌≡◌, ◌⊎◌, List, [], ◌∷◌, map, Option, Some, None, option_map}
+use Rattle.std.specs.Prelude.{ℕ, ◌==◌, ◌&&◌, Bool, List, [], ◌∷◌, map, Option, Some, None, option_map}
+use Rattle.std.specs.List.{list_any}
 use Rattle.lan_base.specs.declared.address.Mi.{Mi}
 use Rattle.lan_base.specs.declared.association_number.AssociationNumber.{AssociationNumber}
 use Rattle.lan_base.specs.declared.key_id.KeyId.{KeyId}
 use Rattle.lan_base.specs.AssociationNumbers.{number_of}
+use Rattle.lan_base.specs.Identifiers.{same_mi}
 use Rattle.mkpdu_codec.specs.declared.offset.ConfidentialityOffset.{ConfidentialityOffset}
 use Rattle.mkpdu_codec.specs.Offsets.{offset_bits}
 use Rattle.known_keys.specs.declared.giving.Giving.TheVariants.{Key}
@@ -44,7 +46,16 @@ statements (entry ∷ before) = with_said (says before entry) (statements before
 abbrev pub namings : List Entry → List Naming
 namings history = map (λ statement. statement.1.0) (statements history)
 
--- an element stands in a list
-abbrev pub IsIn : {X : Type 0} → List X → X → Type 0
-IsIn [] x = ⊥
-IsIn (y ∷ ys) x = (x ≡ y) ⊎ IsIn ys x
+abbrev pub same_naming : Naming → Naming → Bool
+same_naming a b = (same_mi a.0.0 b.0.0 && (a.0.1 == b.0.1)) && ((a.1.0 == b.1.0) && (a.1.1 == b.1.1))
+
+abbrev pub same_statement : Statement → Statement → Bool
+same_statement a b = (a.0 == b.0) && (same_naming a.1.0 b.1.0 && (a.1.1 == b.1.1))
+
+-- this was said of a group
+abbrev pub is_said : List Entry → Statement → Bool
+is_said history it = list_any (λ statement. same_statement statement it) (statements history)
+
+-- this was said of an identifier
+abbrev pub is_named_so : List Entry → Naming → Bool
+is_named_so history it = list_any (λ naming. same_naming naming it) (namings history)

@@ -1,6 +1,6 @@
 //! Numbers in a list, the greatest first.
 
-ghost use Rattle.std.specs.Prelude.{◌≡◌, ◌++◌, ◌||◌, ℕ, Bool, [], OnOk, OnErr, max, nat_le, position};
+ghost use Rattle.std.specs.Prelude.{◌≡◌, ◌++◌, ◌&&◌, ◌||◌, ◌==◌, ℕ, Bool, length, [], OnOk, OnErr, max, nat_le, position};
 ghost use Rattle.known_keys.specs.Numbered.{greatest_first};
 ghost use Rattle.known_keys.specs.inside.Steps.{with_place};
 
@@ -95,6 +95,13 @@ pub fn append_both(first: &[u32], second: &[u32], numbers: &mut Vec<u32>) -> Res
             other = behind_b;
         }
     }
+}
+
+/// Whether there is no number in either list.
+pub fn are_empty(one: &[u32], other: &[u32]) -> bool
+    ensures { result ≡ ((length one.now == 0) && (length other.now == 0)) }
+{
+    one.is_empty() && other.is_empty()
 }
 
 /// The greater of two numbers.

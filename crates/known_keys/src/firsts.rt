@@ -4,7 +4,8 @@ ghost use Rattle.std.specs.Prelude.{◌≡◌, ℕ, IfOk};
 ghost use Rattle.lan_base.specs.declared.key_id.KeyId.{KeyId};
 ghost use Rattle.known_keys.specs.declared.named.Named.{Named};
 ghost use Rattle.known_keys.specs.OneKey.{lesser_of, same_id, same_named};
-ghost use Rattle.known_keys.specs.inside.Firsts.{IsNoted, first_giving, first_naming};
+ghost use Rattle.known_keys.specs.Maps.{first_giving, first_naming};
+ghost use Rattle.known_keys.specs.inside.Firsts.{IsNoted};
 
 use crate::named::{Named, is_same_named};
 use lan_base::{KeyId, Mi};

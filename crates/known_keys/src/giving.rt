@@ -3,6 +3,15 @@
 use aes_block::Secret;
 use mkpdu_codec::ConfidentialityOffset;
 
+/// Why a right MKPDU with a Distributed SAK (IEEE Std 802.1X, clause 11) gives no SAK.
+#[derive(Clone, Copy, Debug, PartialEq, Eq)]
+pub enum NoSak {
+    /// The key is for another cipher suite.
+    OtherSuite,
+    /// The group's key does not unwrap it.
+    WrongWrap,
+}
+
 /// What a right MKPDU with a Distributed SAK (IEEE Std 802.1X, clause 11) gives.
 #[derive(Clone, Copy, Debug, PartialEq, Eq)]
 pub enum Giving {
@@ -11,8 +20,6 @@ pub enum Giving {
         offset: ConfidentialityOffset,
         sak: Secret,
     },
-    /// A key for another cipher suite.
-    OtherSuite,
-    /// A wrapped SAK that the group's key does not unwrap.
-    WrongWrap,
+    /// No SAK.
+    Without(NoSak),
 }

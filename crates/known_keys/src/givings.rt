@@ -30,7 +30,7 @@ pub struct Givings {
 }
 
 impl Model for Givings {
-    ghost use Rattle.known_keys.specs.inside.Firsts.{Firsts};
+    ghost use Rattle.known_keys.specs.Maps.{Firsts};
 
     ghost Value = { Firsts };
 

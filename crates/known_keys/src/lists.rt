@@ -2,7 +2,8 @@
 //! association number.
 
 ghost use Rattle.std.specs.Prelude.{◌≡◌, [], OnOk, OnErr};
-ghost use Rattle.known_keys.specs.inside.Steps.{IsPutAt, IsToldTo, Opens, numbers_under, sender_of};
+ghost use Rattle.known_keys.specs.Maps.{numbers_under, sender_of};
+ghost use Rattle.known_keys.specs.inside.Steps.{IsPutAt, IsToldTo, Opens};
 ghost use Rattle.known_keys.specs.Known.{is_open};
 
 use crate::falling::Falling;
@@ -22,7 +23,7 @@ pub struct Lists {
 }
 
 impl Model for Lists {
-    ghost use Rattle.known_keys.specs.inside.Steps.{Told};
+    ghost use Rattle.known_keys.specs.Maps.{Told};
 
     ghost Value = { Told };
 
@@ -88,7 +89,7 @@ impl Lists {
 }
 
 /// Whether frames are opened under a key that is given with this offset.
-fn is_open(offset: ConfidentialityOffset) -> bool
+pub fn is_open(offset: ConfidentialityOffset) -> bool
     ensures { result ≡ is_open offset }
 {
     match offset {

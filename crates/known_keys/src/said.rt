@@ -25,7 +25,7 @@ pub struct Said {
 }
 
 impl Model for Said {
-    ghost use Rattle.known_keys.specs.inside.Sets.{Sets};
+    ghost use Rattle.known_keys.specs.Maps.{Sets};
 
     ghost Value = { Sets };
 

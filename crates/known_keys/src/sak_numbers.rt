@@ -3,7 +3,7 @@
 ghost use Rattle.std.specs.Prelude.{◌≡◌, [], OnOk, OnErr, Some, if◌then◌else◌};
 ghost use Rattle.aes_block.specs.declared.secret.Secret.{Secret};
 ghost use Rattle.known_keys.specs.Numbered.{same_secret};
-ghost use Rattle.known_keys.specs.inside.Steps.{number_by};
+ghost use Rattle.known_keys.specs.Maps.{number_by};
 
 use aes_block::Secret;
 use std::alloc::{AllocError, Global};
@@ -18,7 +18,7 @@ pub struct SakNumbers {
 }
 
 impl Model for SakNumbers {
-    ghost use Rattle.known_keys.specs.inside.Steps.{Numbers};
+    ghost use Rattle.known_keys.specs.Maps.{Numbers};
 
     ghost Value = { Numbers };
 

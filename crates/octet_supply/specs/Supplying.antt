@@ -14,6 +14,10 @@ pub record Held : Type 0 where
   pub room : ℕ
   pub past : Bool
 
+-- how many octets it gives out at most, with those that it gave out
+abbrev pub most_given : Held → ℕ
+most_given h = h.given + (length h.octets + h.room)
+
 abbrev pub StandsBy : ℕ → Bool → List ℕ → List ℕ → Held → List ℕ → Type 0
 StandsBy limit false text given h rest =
     (text ≡ given ++ (h.octets ++ rest)) × (length given + (length h.octets + h.room) ≡ limit)

@@ -1,10 +1,11 @@
 //! Octets of a source within a limit, given out as many as are asked for.
 
-ghost use Rattle.std.specs.Prelude.{◌≡◌, ◌<◌, ◌≤◌, ◌+◌, ◌-◌, ◌^◌, ◌++◌, ◌∷◌, ℕ, List, [], Err, IfOk, IfSome, OnErr, OnOk, Some, drop, false, length, take, true};
+ghost use Rattle.std.specs.Prelude.{◌≡◌, ◌<◌, ◌≤◌, ◌+◌, ◌-◌, ◌^◌, ◌++◌, ◌∷◌, ℕ, List, [], Err, IfOk, IfSome, Ok, OnErr, OnOk, Some, drop, false, length, take, true};
 ghost use Rattle.lan_base.specs.Faults.{Rose};
 ghost use Rattle.lan_base.specs.declared.source.ReadEnd.TheVariants as ends;
 ghost use Rattle.text_lines.specs.Reading.{most_at_once};
-ghost use Rattle.octet_supply.specs.Supplying.{Fills, FillsMore, GivesOne, Passes, Peeks, Stands, Takes, TakesLine};
+ghost use Rattle.octet_supply.specs.declared.supply.LineEnd.TheVariants as line_ends;
+ghost use Rattle.octet_supply.specs.Supplying.{Fills, FillsMore, GivesOne, Passes, Peeks, Stands, Takes, TakesLine, most_given};
 
 use lan_base::{ReadEnd, Source};
 use std::alloc::Global;
@@ -135,6 +136,8 @@ impl Supply {
             → Stands limit text given self.old (S.left source.old)
             → TakesLine limit text given most into.old.items into.new.items self.new
             (S.left source.new) result }
+        ensures feed { result ≡ Ok line_ends.Feed → self.old.given < self.new.given }
+        ensures most { most_given self.new ≡ most_given self.old }
         ensures failed { result ≡ Err ends.Failed → Rose (S.faults source.old) (S.faults source.new) }
         ensures counts { S.faults source.old ≤ S.faults source.new }
     {
@@ -162,6 +165,7 @@ impl Supply {
             → Stands limit text given self.old (S.left source.old)
             → Peeks limit text given count self.new (S.left source.new) result }
         ensures given { self.new.given ≡ self.old.given }
+        ensures most { most_given self.new ≡ most_given self.old }
         ensures failed { result ≡ Err ends.Failed → Rose (S.faults source.old) (S.faults source.new) }
         ensures counts { S.faults source.old ≤ S.faults source.new }
     {
@@ -190,6 +194,7 @@ impl Supply {
             → GivesOne limit text given self.new (S.left source.new) result }
         ensures more { IfOk result (λ next. IfSome next
             (λ _. self.new.given ≡ self.old.given + 1)) }
+        ensures most { most_given self.new ≡ most_given self.old }
         ensures failed { result ≡ Err ends.Failed → Rose (S.faults source.old) (S.faults source.new) }
         ensures counts { S.faults source.old ≤ S.faults source.new }
     {
@@ -206,6 +211,7 @@ impl Supply {
             → Fills limit text given self.new (S.left source.new) result }
         ensures some { IfOk result (λ has. has ≡ true → 1 ≤ length self.new.octets) }
         ensures given { self.new.given ≡ self.old.given }
+        ensures most { most_given self.new ≡ most_given self.old }
         ensures failed { result ≡ Err ends.Failed → Rose (S.faults source.old) (S.faults source.new) }
         ensures counts { S.faults source.old ≤ S.faults source.new }
     {
@@ -228,6 +234,7 @@ impl Supply {
         ensures some { IfOk result (λ has. has ≡ true
             → length self.old.octets < length self.new.octets) }
         ensures given { self.new.given ≡ self.old.given }
+        ensures most { most_given self.new ≡ most_given self.old }
         ensures failed { result ≡ Err ends.Failed → Rose (S.faults source.old) (S.faults source.new) }
         ensures counts { S.faults source.old ≤ S.faults source.new }
     {
@@ -248,6 +255,7 @@ impl Supply {
         ensures some { IfOk result (λ has. has ≡ true
             → length self.old.octets < length self.new.octets) }
         ensures given { self.new.given ≡ self.old.given }
+        ensures most { most_given self.new ≡ most_given self.old }
         ensures memory { result ≡ Err ends.Failed → ⊥ }
     {
         self.forget();

@@ -2,10 +2,11 @@
 
 ghost use Rattle.std.specs.Prelude.{◌≡◌, ◌↔◌, ◌+◌, ◌-◌, ◌^◌, ◌<◌, ◌≤◌, ◌++◌, ◌∷◌, [], Err, IfSome, OnErr, OnOk, Some, length, slice_get};
 ghost use Rattle.std.specs.List.{list_any, position};
+ghost use Rattle.aes_block.specs.Aes.{IsKey};
 ghost use Rattle.aes_block.specs.Secrets.{secret_octets};
 ghost use Rattle.mka_kdf.specs.declared.group.GroupError.TheVariants as errors;
 ghost use Rattle.mka_kdf.specs.declared.group.GroupFault.TheVariants.{CknLength};
-ghost use Rattle.mka_kdf.specs.Kdf.{HasWrongLength};
+ghost use Rattle.mka_kdf.specs.Kdf.{HasWrongLength, kek_of};
 ghost use Rattle.packet_verdicts.specs.Groups.{GroupKeys, derived_keys, gives_check, has_name, keys_of};
 
 use aes_block::{Key, Secret};
@@ -47,10 +48,12 @@ impl Groups {
     pub fn add(&mut self, alloc: Global, cak: Secret, ckn: &[u8]) -> Result<(), GroupError>
         ensures ok { OnOk result (self.new
             ≡ self.old ++ derived_keys (secret_octets cak) ckn.now ∷ []) }
+        ensures key { OnOk result (IsKey (kek_of (secret_octets cak) ckn.now)) }
         ensures err { OnErr result (self.new ≡ self.old) }
         ensures length { (result ≡ Err (errors.Refused CknLength)) ↔ HasWrongLength ckn.now }
     {
         let group = Group::of(alloc, cak, ckn)?;
+        group.kek.law_is_key();
         let Ok(()) = self.groups.push(group) else {
             return Err(GroupError::Memory);
         };

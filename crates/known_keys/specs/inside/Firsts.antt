@@ -1,33 +1,11 @@
 -- What was told first of each key, and the least pair that breaks.
-use Rattle.std.specs.Prelude.{ℕ, ◌≡◌, ◌≢◌, Bool, List, Option, Some, None}
+use Rattle.std.specs.Prelude.{ℕ, ◌≡◌, ◌≢◌, Bool, Option, Some, None}
 use Rattle.std.specs.Option.{option_or}
-use Rattle.std.specs.Map.{lookup}
-use Rattle.std.specs.BTreeMap.{is_at}
-use Rattle.std.specs.Ordering.{nat_cmp, ordering_then}
-use Rattle.std.specs.declared.cmp.Ordering.{Ordering}
-use Rattle.lan_base.specs.declared.address.Mi.{Mi}
 use Rattle.lan_base.specs.declared.key_id.KeyId.{KeyId}
-use Rattle.lan_base.specs.Identifiers.{order}
 use Rattle.known_keys.specs.declared.named.Named.{Named}
 use Rattle.known_keys.specs.declared.givings.Others.{Others}
 use Rattle.known_keys.specs.OneKey.{other_first, same_id, same_named}
-
-abbrev pub id_cmp : Mi × ℕ → Mi × ℕ → Ordering
-id_cmp a b = ordering_then (order a.0 b.0) (nat_cmp a.1 b.1)
-
--- by identifier, the first packet that gives it, and what it names
-abbrev pub Names : Type 0
-Names = List ((Mi × ℕ) × (ℕ × Named))
-
-abbrev pub first_naming : Names → KeyId → Option (ℕ × Named)
-first_naming names id = lookup (is_at (id_cmp (id.server, id.number))) names
-
--- by the number of a key, the first packet that gives it, and under which identifier
-abbrev pub KeyIds : Type 0
-KeyIds = List (ℕ × (ℕ × KeyId))
-
-abbrev pub first_giving : KeyIds → ℕ → Option (ℕ × KeyId)
-first_giving ids key = lookup (is_at (nat_cmp key)) ids
+use Rattle.known_keys.specs.Maps.{Firsts, first_giving, first_naming}
 
 -- what was found first is found under one key more
 pub record IsFirst (K V : Type 0) (old new : K → Option (ℕ × V)) (number : ℕ) (key : K) (v : V) :
@@ -53,13 +31,6 @@ pub record IsNoted (K V : Type 0) (agree : V → V → Bool) (old new : K → Op
     pub pair : pair_new ≡ pair_after pair_old number (other_first V agree v (old key))
 
 -- ---- both rules
-
-pub record Firsts : Type 0 where
-  pub names : Names
-  pub ids : KeyIds
-  pub name_pair : Option (ℕ × ℕ)
-  pub id_pair : Option (ℕ × ℕ)
-  pub last : ℕ
 
 -- a packet gives a key under an identifier
 pub record IsGiven (packet : ℕ) (id : KeyId) (named : Named) (old new : Firsts) (others : Others) : Type 0

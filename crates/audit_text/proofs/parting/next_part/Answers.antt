@@ -1,6 +1,6 @@
 use Rattle.std.proofs.Common.{◌∙◌, false, sym, true}
 use Rattle.std.proofs.lemmas.Result.{err_from_is_err_and}
-use Rattle.audit_text.proofs.Parted.{parts-capture, parts-err, parts-line, parts-peek, starts-is}
+use Rattle.audit_text.proofs.Parted.{parts-capture, parts-err, parts-line, parts-peek, seen-is, starts-is}
 use Rattle.audit_text.proofs.parting.next_part.Goals as goal
 
 pub returns-in_err-peek-clause-parts : goal.returns-in_err-peek-clause-parts
@@ -38,4 +38,4 @@ returns-clause-parts g c = λ limit text given behind s visible.
     (g.S.Source.left c.line.new.source) c.in_ok-end.end visible
     (starts-is limit text given behind c.held-held.result.now c.peek.new.self left c.min.result false visible p
     c.held-held.ensures c.min.ensures (sym c.begins_file.ensures ∙ c.if-begins_file.false))
-    (rw c.clear.ensures.items at t) c.drop_ending.ensures
+    (seen-is limit text given behind c.peek.new.self left visible p) (rw c.clear.ensures.items at t) c.drop_ending.ensures

@@ -2,7 +2,7 @@ use Rattle.std.proofs.Common.{◌∙◌, sym}
 use Rattle.lan_base.specs.declared.key_id.KeyId.{KeyId}
 use Rattle.known_keys.specs.declared.named.Named.{Named}
 use Rattle.known_keys.specs.OneKey.{same_named}
-use Rattle.known_keys.specs.inside.Firsts.{first_naming}
+use Rattle.known_keys.specs.Maps.{first_naming}
 use Rattle.known_keys.proofs.FirstTold.{noted-new}
 use Rattle.known_keys.proofs.NamePuts.{name-first}
 use Rattle.known_keys.proofs.firsts.note_name.Goals as goal

@@ -3,7 +3,8 @@ use Rattle.std.specs.Prelude.{IsSome, unwrap_or}
 use Rattle.std.specs.BTreeMap.{BTreeMap, is_at}
 use Rattle.std.specs.Map.{set_value}
 use Rattle.std.proofs.lemmas.Map.Steps.{set_value_same}
-use Rattle.known_keys.specs.inside.Steps.{Place, place_cmp, numbers_at, with_place, IsPutAt}
+use Rattle.known_keys.specs.Maps.{Place, place_cmp, numbers_at}
+use Rattle.known_keys.specs.inside.Steps.{with_place, IsPutAt}
 use Rattle.known_keys.proofs.ListPuts.{put_at, on_ok, on_err}
 use Rattle.known_keys.proofs.lists.put_at.Goals as goal
 

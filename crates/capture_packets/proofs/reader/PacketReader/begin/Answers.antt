@@ -1,5 +1,6 @@
 use Rattle.std.proofs.Common.{◌∙◌}
-use Rattle.capture_packets.proofs.Opened.{in-blocks, in-records, opens-by-blocks, opens-by-records}
+use Rattle.capture_packets.proofs.Opened.{in-blocks, in-records}
+use Rattle.capture_packets.proofs.Opens.{opens-by-blocks, opens-by-records}
 use Rattle.std.proofs.Common.{Ok, ap, take}
 use Rattle.capture_packets.proofs.reader.PacketReader.begin.Goals as goal
 

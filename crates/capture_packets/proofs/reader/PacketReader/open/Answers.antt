@@ -2,7 +2,7 @@ use Rattle.std.proofs.Common.{◌∙◌, ap}
 use Rattle.std.proofs.lemmas.Result.{err_from_is_err_and}
 use Rattle.capture_packets.specs.Packets.{context}
 use Rattle.capture_packets.specs.declared.state.State.{State}
-use Rattle.capture_packets.proofs.Opened.{opens-head}
+use Rattle.capture_packets.proofs.Opens.{opens-head}
 use Rattle.capture_packets.proofs.reader.PacketReader.open.Goals as goal
 
 pub returns-in_err-head-clause-opens : goal.returns-in_err-head-clause-opens

@@ -3,7 +3,7 @@ use Rattle.known_keys.specs.declared.sender.Sender.TheVariants.{Any, One}
 use Rattle.known_keys.specs.History.{keys}
 use Rattle.known_keys.specs.Known.{is_told}
 use Rattle.known_keys.specs.Standing.{Kept}
-use Rattle.known_keys.specs.inside.Steps.{numbers_under}
+use Rattle.known_keys.specs.Maps.{numbers_under}
 use Rattle.known_keys.proofs.known_keys.KnownKeys.known.Goals as goal
 
 pub returns : goal.returns

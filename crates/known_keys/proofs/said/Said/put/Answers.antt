@@ -1,6 +1,7 @@
 use Rattle.std.proofs.Common.{subst}
 use Rattle.known_keys.specs.declared.said.Fresh.{Fresh}
-use Rattle.known_keys.specs.inside.Sets.{IsPut, Sets}
+use Rattle.known_keys.specs.Maps.{Sets}
+use Rattle.known_keys.specs.inside.Sets.{IsPut}
 use Rattle.known_keys.proofs.said.Said.put.Goals as goal
 
 pub returns : goal.returns

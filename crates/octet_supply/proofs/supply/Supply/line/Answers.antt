@@ -35,6 +35,8 @@ loop-octet-preserved g c = record {
       line-more limit text given c.args.most c.loop-octet.room (c.loop-octet.room - 1) c.in-Some.octet
       c.args.into.now.items c.loop-octet.into.items c.push.new.self.items c.loop-octet.self c.next.new.self _ _ t
       (rw c.in-Some.is at n) c.if-octet-eq10.false c.if-room-eq0.false refl c.in-Ok.ensures.items;
+  given = let a = c.loop-octet.invariant.given in let b = c.in_ok-octet.ensures.more in omega (arith, a, rw c.in-Some.is at b);
+  most = let a = c.loop-octet.invariant.most in let b = c.next.ensures.most in omega (arith, a, b);
   counts = let a = c.loop-octet.invariant.counts in let b = c.next.ensures.counts in omega (arith, a, b);
 }
 

@@ -1,5 +1,5 @@
 use Rattle.std.proofs.Common.{◌≡◌, ◌≤◌, ◌-◌, ℕ, List, length}
-use Rattle.octet_supply.specs.Supplying.{Stands}
+use Rattle.octet_supply.specs.Supplying.{Stands, most_given}
 use Rattle.octet_supply.proofs.supply.Supply.peek.Given as goal
 
 abbrev pub invariant-loop-self : goal.invariant-loop-self
@@ -10,6 +10,7 @@ invariant-loop-self g l =
       stands : (limit : ℕ) (text given : List ℕ) → Stands limit text given l.fn.self (left l.fn.source)
           → Stands limit text given l.self (left l.source);
       given : l.self.given ≡ l.fn.self.given;
+      most : most_given l.self ≡ most_given l.fn.self;
       counts : faults l.fn.source ≤ faults l.source;
     }
 

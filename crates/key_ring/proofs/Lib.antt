@@ -1,0 +1,5 @@
+pub mod Lines
+pub mod KeyFronts
+pub mod Steps
+pub mod Public
+mod Examples

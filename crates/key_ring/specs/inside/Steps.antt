@@ -1,0 +1,36 @@
+-- How the key text is read, line by line.
+use Rattle.std.specs.Prelude.{◌≡◌, ℕ, Bool, true, false, List, Option, Some, None, Result, Ok, Err}
+use Rattle.lan_base.specs.declared.source.ReadEnd.{ReadEnd}
+use Rattle.lan_base.specs.declared.source.ReadEnd.TheVariants as readings
+use Rattle.octet_supply.specs.Supplying.{Held}
+use Rattle.trace_text.specs.declared.fault.TextFault.{TextFault}
+use Rattle.audit_text.specs.declared.line.KeyLine.{KeyLine}
+use Rattle.audit_text.specs.Reading.{key_line_in}
+use Rattle.key_ring.specs.declared.end.RingEnd.{RingEnd}
+use Rattle.key_ring.specs.declared.end.RingEnd.TheVariants.{Limit, Line, Memory, ReadFault}
+use Rattle.key_ring.specs.Rings.{Ring, with_line}
+
+abbrev pub end_of : ReadEnd → RingEnd
+end_of readings.Limit = Limit
+end_of readings.Failed = ReadFault
+end_of readings.Memory = Memory
+
+-- what is answered where reading the lines told whether a capture begins behind them
+abbrev pub answered : Ring → Held → Result Bool RingEnd → Result (Ring × Option Held) RingEnd
+answered ring supply (Ok true) = Ok (ring, Some supply)
+answered ring supply (Ok false) = Ok (ring, None)
+answered ring supply (Err end) = Err end
+
+-- what a line that was read adds
+abbrev pub Adds : ℕ → Result (Option KeyLine) TextFault → Ring → Ring → Type 0
+Adds n (Ok None) old new = new ≡ old
+Adds n (Ok (Some line)) old new = new ≡ with_line n line old
+Adds n (Err why) old new = ⊥
+
+-- what adding a line did
+abbrev pub AddsLine : ℕ → List ℕ → Ring → Ring → Result (Unit {0}) RingEnd → Type 0
+AddsLine n text old new (Ok done) = Adds n (key_line_in text) old new
+AddsLine n text old new (Err (Line line why)) =
+    (line ≡ n) × (key_line_in text ≡ Err why) × (new ≡ old)
+AddsLine n text old new (Err Memory) = new ≡ old
+AddsLine n text old new (Err _) = ⊥
