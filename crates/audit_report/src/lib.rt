@@ -1,0 +1,23 @@
+//! What an audit of a capture tells: what each packet is, its lines, how many there are of each kind,
+//! and the report at the end.
+#![tactic(auto)]
+
+mod ending;
+mod events;
+mod finding;
+mod hand_key;
+mod laws;
+mod lines;
+mod packets;
+mod report;
+mod tally;
+mod verdict;
+
+pub use ending::Ending;
+pub use finding::{Finding, Handed};
+pub use hand_key::put_hand_line;
+pub use laws::law_a_front_is_told_first;
+pub use packets::{begin_line, put_finding};
+pub use report::put_end;
+pub use tally::{Malformations, MkaCounts, SecCounts, Tally, UndecidedCounts};
+pub use verdict::Verdict;

@@ -1,0 +1,6 @@
+mod Firsts
+mod Same
+mod Rising
+mod Putting
+mod Repeated
+mod Examples

@@ -1,0 +1,3 @@
+pub mod Mkpdus
+pub mod Standing
+pub mod inside
