@@ -2,17 +2,17 @@
 
 ghost use Rattle.lan_core.specs.declared.fact.Fact.TheVariants as shows;
 ghost use Rattle.transcript_check.specs.Judged.{is_missed};
-ghost use Rattle.std.specs.Prelude.{ℕ, cond, min, ◌≡◌, ◌+◌, ◌<◌, ◌↔◌, OnOk, OnErr, true, is_ok, List, None, [], ◌∷◌, ◌++◌};
+ghost use Rattle.std.specs.Prelude.{ℕ, cond, min, ◌≡◌, ◌+◌, ◌<◌, ◌↔◌, IfOk, OnOk, OnErr, true, is_ok, List, None, [], ◌∷◌, ◌++◌};
 ghost use Rattle.aes_block.specs.declared.secret.Secret.{Secret};
 ghost use Rattle.lan_base.specs.declared.address.Mi.{Mi};
 ghost use Rattle.lan_core.specs.declared.fact.Fact.{Fact};
 ghost use Rattle.transcript_check.specs.Standing.{Maps, sak_at, first_of, line_by, StandsFor, IsVerdict};
-ghost use Rattle.transcript_check.specs.inside.Steps.{KeyIsPut, UseIsPut, IsNamed, IsUsed, Installs, Claims, Takes, IsNoted};
+ghost use Rattle.transcript_check.specs.inside.Steps.{KeyIsPut, UseIsKept, IsNamed, IsUsed, Installs, Claims, Takes, IsNoted};
 
 use crate::epochs::Epochs;
 use crate::fault::CheckError;
 use crate::named::Named;
-use crate::uses::{Uses, put_at};
+use crate::uses::{Uses, keep_at};
 use crate::verdict::Verdict;
 use aes_block::Secret;
 use lan_base::{KeyId, Mi};
@@ -22,8 +22,8 @@ use std::alloc::{AllocError, Global};
 use std::collections::BTreeMap;
 use std::marker::Model;
 
-/// What facts say, one after another. A packet number of a claim takes some thirty octets: its SAK is
-/// kept once for all claims under it. Contracts see the entries of the maps.
+/// What facts say, one after another. A claim takes some sixteen octets, or thirty if its packet number
+/// is out of turn: its SAK is kept once for all claims under it. Contracts see the entries of the maps.
 #[derive(Drop)]
 pub struct Notes {
     alloc: Global,
@@ -111,16 +111,6 @@ impl Notes {
         self.keys.get(&(id.server, id.number)).copied()
     }
 
-    /// The number of the claim that used a packet number.
-    fn line_by(&self, station: u8, pn: u32, sak: &Secret) -> Option<u64>
-        ensures { result ≡ line_by self.now station pn sak.now }
-    {
-        match sak {
-            Secret::S128(octets) => self.narrow.get(&(station, *octets))?.line_by(pn),
-            Secret::S256(octets) => self.wide.get(&(station, *octets))?.line_by(pn),
-        }
-    }
-
     /// The first install of an identifier is kept.
     fn put_key(&mut self, number: u64, id: KeyId, named: Named) -> Result<(), AllocError>
         ensures put { OnOk result (KeyIsPut number id named self.old self.new) }
@@ -130,17 +120,23 @@ impl Notes {
         Ok(())
     }
 
-    /// The number of the claim that used a packet number is kept.
-    fn put_use(&mut self, number: u64, station: u8, pn: u32, sak: &Secret) -> Result<(), AllocError>
-        ensures put { OnOk result (UseIsPut number station pn sak.now self.old self.new) }
+    /// The number of the claim that used a packet number; if none did, this one is kept.
+    fn keep_use(
+        &mut self,
+        number: u64,
+        station: u8,
+        pn: u32,
+        sak: &Secret,
+    ) -> Result<Option<u64>, AllocError>
+        ensures line { IfOk result (λ line. UseIsKept number station pn sak.now self.old self.new line) }
         ensures kept { OnErr result (self.new ≡ self.old) }
     {
         match sak {
             Secret::S128(octets) => {
-                put_at(self.alloc, &mut self.narrow, (station, *octets), pn, number)
+                keep_at(self.alloc, &mut self.narrow, (station, *octets), pn, number)
             }
             Secret::S256(octets) => {
-                put_at(self.alloc, &mut self.wide, (station, *octets), pn, number)
+                keep_at(self.alloc, &mut self.wide, (station, *octets), pn, number)
             }
         }
     }
@@ -178,13 +174,10 @@ impl Notes {
         if self.once.is_some() {
             return Ok(());
         }
-        match self.line_by(station, pn, sak) {
-            None => self.put_use(number, station, pn, sak),
-            Some(first) => {
-                self.once = Some((first, number));
-                Ok(())
-            }
+        if let Some(first) = self.keep_use(number, station, pn, sak)? {
+            self.once = Some((first, number));
         }
+        Ok(())
     }
 
     /// An install is taken.

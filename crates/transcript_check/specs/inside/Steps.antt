@@ -35,11 +35,21 @@ pub record LineIsPut (pn number : ℕ) (old new : Lines) : Type 0 where
   pub here : line_in new pn ≡ Some number
   pub others : (other : ℕ) → other ≢ pn → line_in new other ≡ line_in old other
 
+-- this line used the packet number, and nothing changes; or none did, and it is put
+abbrev pub LineIsKept : ℕ → ℕ → Lines → Lines → Option ℕ → Type 0
+LineIsKept pn number old new (Some line) = (line_in old pn ≡ Some line) × (new ≡ old)
+LineIsKept pn number old new None = (line_in old pn ≡ None) × LineIsPut pn number old new
+
 -- the same under one key
 pub record LineIsPutAt (key : ℕ × List ℕ) (pn number : ℕ) (old new : LinesBySak) : Type 0 where
   pub here : line_at new key pn ≡ Some number
   pub others : (other : ℕ × List ℕ) (qn : ℕ) → ((other ≡ key) × (qn ≡ pn) → ⊥)
       → line_at new other qn ≡ line_at old other qn
+
+abbrev pub LineIsKeptAt : ℕ × List ℕ → ℕ → ℕ → LinesBySak → LinesBySak → Option ℕ → Type 0
+LineIsKeptAt key pn number old new (Some line) = (line_at old key pn ≡ Some line) × (new ≡ old)
+LineIsKeptAt key pn number old new None =
+    (line_at old key pn ≡ None) × LineIsPutAt key pn number old new
 
 pub record UseIsPut (number s pn : ℕ) (sak : Secret) (old new : Maps) : Type 0 where
   pub count : new.count ≡ old.count
@@ -51,6 +61,11 @@ pub record UseIsPut (number s pn : ℕ) (sak : Secret) (old new : Maps) : Type 0
   pub here : line_by new s pn sak ≡ Some number
   pub others : (t qn : ℕ) (other : Secret) → ((t ≡ s) × (qn ≡ pn) × (other ≡ sak) → ⊥)
       → line_by new t qn other ≡ line_by old t qn other
+
+abbrev pub UseIsKept : ℕ → ℕ → ℕ → Secret → Maps → Maps → Option ℕ → Type 0
+UseIsKept number s pn sak old new (Some line) = (line_by old s pn sak ≡ Some line) × (new ≡ old)
+UseIsKept number s pn sak old new None =
+    (line_by old s pn sak ≡ None) × UseIsPut number s pn sak old new
 
 abbrev pub IsUsed : ℕ → ℕ → ℕ → Secret → Maps → Maps → Option (ℕ × ℕ) → Option ℕ → Type 0
 IsUsed number s pn sak old new (Some pair) line = new ≡ old
