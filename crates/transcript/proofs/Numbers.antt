@@ -1,26 +1,97 @@
--- Numbers that are read and written again.
-use Rattle.std.proofs.Common.{◌≡◌, ℕ, ◌<◌, ◌^◌, Bool, true, List, sym, ap, ◌∙◌, subst}
-use Rattle.std.specs.Prelude.{Option, Some, Result, decimal}
-use Rattle.std.specs.Result.{result_ok}
+-- Numbers that words spell.
+use Rattle.std.proofs.Common.{◌≡◌, ◌≢◌, ◌∙◌, ℕ, ◌<◌, ◌^◌, Bool, true, false, List, [], ◌∷◌, length, get_or, refl, sym, ap, subst, arith}
+use Rattle.std.specs.Prelude.{◌==◌, ◌&&◌, nat_le, nat_lt, Some, None, Result, Ok, Err, decimal}
+use Rattle.std.specs.Int.{IsInRange}
+use Rattle.std.specs.Result.{OkIff, result_ok}
 use Rattle.std.specs.Str.{IsUtf8}
-use Rattle.std.specs.Str.Parse.{ParsesUnsigned}
-use Rattle.std.proofs.lemmas.Fmt.{parse-decimal, IsAscii-decimal}
+use Rattle.std.specs.Str.Parse.{AllDigits, ParsesUnsigned, digits_value}
+use Rattle.std.proofs.lemmas.Bool.Decides.{nat_tests}
+use Rattle.std.proofs.lemmas.Fmt.{IsAscii-decimal, decimal_digit, decimal_nonempty, first_decimal, digits_decimal, digits_value-decimal, decimal-digits_value}
 use Rattle.std.proofs.lemmas.Str.{IsUtf8-from_ascii}
+use Rattle.std.proofs.lemmas.Str.Parse.{IsNumeralModel, numerals_by_value, tells_digits, digit_at, parse_plain}
 use Rattle.trace_text.specs.Words.{is_word}
-use Rattle.transcript.specs.inside.Reading.{whole_of}
+use Rattle.transcript.specs.inside.Numerals.{is_led}
+use Rattle.transcript.specs.inside.Reading.{kept_if, whole_of}
+use Rattle.transcript.proofs.Pairs.{both}
 use Rattle.transcript.proofs.Said.{the_word}
 use Rattle.transcript.proofs.Told.{whole_said}
 
--- every number that is written as a word is what was parsed
-abbrev pub Parses : List ℕ → Option ℕ → Type 0
-Parses word parsed = (n : ℕ) → n < 2 ^ 64 → word ≡ decimal n → parsed ≡ Some n
+own : IsNumeralModel (AllDigits 10) (digits_value 10)
+own = numerals_by_value (AllDigits 10) tells_digits
 
-pub written_so : (word : List ℕ) (number : ℕ) (b : Bool) → number < 2 ^ 64 → b ≡ is_word (decimal number) word → b ≡ true → Some number ≡ whole_of word
-written_so word number b small e same =
-    sym (ap whole_of (sym (the_word (decimal number) word (sym e ∙ same))) ∙ whole_said number small)
+-- no number is written as the word
+unsaid : (word : List ℕ) → ((n : ℕ) → n < 2 ^ 64 → word ≡ decimal n → ⊥) → None ≡ whole_of word
+unsaid word none = go (is_word word (decimal (digits_value 10 word)) && nat_lt (digits_value 10 word) (2 ^ 64)) refl
+  where
+    go : (b : Bool)
+        → (is_word word (decimal (digits_value 10 word)) && nat_lt (digits_value 10 word) (2 ^ 64)) ≡ b
+        → None ≡ kept_if b (digits_value 10 word)
+    go false e = refl
+    go true e =
+        let p = both (is_word word (decimal (digits_value 10 word))) (nat_lt (digits_value 10 word) (2 ^ 64)) e in
+        let small : digits_value 10 word < 2 ^ 64 = grind (arith, nat_tests, p.1) in
+        absurd (none (digits_value 10 word) small (the_word word (decimal (digits_value 10 word)) p.0))
 
-pub parsed_so : {E : Type 0} (word text : List ℕ) (r : Result ℕ E) → text ≡ word → ParsesUnsigned 64 10 text r → Parses word (result_ok r)
-parsed_so word text r t parses = λ n small w. ap result_ok (parse-decimal 64 n text r small small (t ∙ w) parses)
+-- ---- how the word of a number begins
 
-pub no_text : (word : List ℕ) (parsed : Option ℕ) → (IsUtf8 word → ⊥) → Parses word parsed
-no_text word parsed none = λ n small w. absurd (none (subst IsUtf8 (sym w) (IsUtf8-from_ascii (decimal n) (IsAscii-decimal n small))))
+led_more : (ds : List ℕ) → 0 < length ds → 48 < get_or ds 0 0 → IsInRange 48 57 (get_or ds 0 0)
+    → is_led ds ≡ true
+led_more [] some more range = absurd (omega (arith, some))
+led_more (first ∷ rest) some more range =
+    let low : nat_le 49 first ≡ true = grind (arith, nat_tests, more) in
+    let high : nat_le first 57 ≡ true = grind (arith, nat_tests, range) in
+    rw (low, high) refl
+
+led_written : (n : ℕ) → n < 2 ^ 64 → is_led (decimal n) ≡ true
+led_written n small = go (n == 0) refl
+  where
+    go : (b : Bool) → (n == 0) ≡ b → is_led (decimal n) ≡ true
+    go true e =
+        let none : n ≡ 0 = grind (arith, nat_tests, e) in
+        ap (λ m. is_led (decimal m)) none ∙ ap is_led (decimal_digit 0 (omega arith))
+    go false e =
+        let some : 0 < n = grind (arith, nat_tests, e) in
+        led_more (decimal n) (decimal_nonempty n small) (first_decimal n some small)
+        (digit_at (decimal n) 0 (digits_decimal own n small) (decimal_nonempty n small))
+
+pub led_not : (word : List ℕ) → is_led word ≡ false → None ≡ whole_of word
+led_not word e =
+    unsaid word (λ n small w. absurd (cc (sym (led_written n small) ∙ ap is_led (sym w) ∙ e)))
+
+led_zero : (ds : List ℕ) → is_led ds ≡ true → get_or ds 0 0 ≡ 48 → length ds ≡ 1
+led_zero [] led zero = absurd (cc led)
+led_zero (first ∷ []) led zero = refl
+led_zero (first ∷ next ∷ rest) led zero =
+    let is : (length (next ∷ rest) == 0) ≡ true =
+    subst (λ (d : ℕ). is_led (d ∷ next ∷ rest) ≡ true) zero led in
+    let none : length (next ∷ rest) ≡ 0 = grind (arith, nat_tests, is) in
+    absurd (omega (arith, none))
+
+led_plain : (ds : List ℕ) → is_led ds ≡ true → get_or ds 0 0 ≢ 43
+led_plain [] led plus = cc led
+led_plain (first ∷ rest) led plus = cc (sym (ap (λ (d : ℕ). is_led (d ∷ rest)) plus) ∙ led)
+
+-- ---- what is parsed
+
+pub parsed_so : {E : Type 0} (word text : List ℕ) (r : Result ℕ E) → text ≡ word
+    → ParsesUnsigned 64 10 text r → is_led word ≡ true → result_ok r ≡ whole_of word
+parsed_so {E} word text r same parses led =
+    go r (parse_plain own 64 word r (subst (λ (t : List ℕ). ParsesUnsigned 64 10 t r) same parses) (led_plain word led))
+  where
+    go : (r : Result ℕ E)
+        → OkIff r (AllDigits 10 word × (0 < length word) × (digits_value 10 word < 2 ^ 64)) (digits_value 10 word)
+        → result_ok r ≡ whole_of word
+    go (Ok x) p =
+        ap Some p.1 ∙ sym (whole_said (digits_value 10 word) p.0.2)
+        ∙ ap whole_of (decimal-digits_value own word p.0.0 p.0.1 (led_zero word led) p.0.2)
+    go (Err e) not =
+        unsaid word (λ n small w. not (
+          subst (λ (ds : List ℕ). AllDigits 10 ds) (sym w) (digits_decimal own n small),
+          subst (λ (ds : List ℕ). 0 < length ds) (sym w) (decimal_nonempty n small),
+          subst (λ (ds : List ℕ). digits_value 10 ds < 2 ^ 64) (sym w)
+              (subst (λ (m : ℕ). m < 2 ^ 64) (sym (digits_value-decimal own n small)) small),
+        ))
+
+pub no_text : (word : List ℕ) → (IsUtf8 word → ⊥) → None ≡ whole_of word
+no_text word none =
+    unsaid word (λ n small w. none (subst IsUtf8 (sym w) (IsUtf8-from_ascii (decimal n) (IsAscii-decimal n small))))

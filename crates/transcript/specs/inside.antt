@@ -3,3 +3,4 @@ pub mod Appending
 pub mod Reading
 pub mod Taking
 pub mod Naming
+pub mod Numerals

@@ -1,16 +1,15 @@
 //! What one word says.
 
-ghost use Rattle.std.specs.Prelude.{ℕ, ◌≡◌, ◌<◌, ◌^◌, Ok, Some, None, decimal, nat_le};
+ghost use Rattle.std.specs.Prelude.{◌≡◌, Ok, true, nat_le};
 ghost use Rattle.std.specs.List.{list_all};
-ghost use Rattle.trace_text.specs.Words.{is_word};
 ghost use Rattle.transcript.specs.inside.Reading.{and_then, kept_if, position_of, station_of, whole_of, is_small_digit, is_pairs, octets_of, array_of, an_of, member_of, server_of, secret_of, said_by, causes, secs, tags};
+ghost use Rattle.transcript.specs.inside.Numerals.{is_led};
 ghost use Rattle.transcript.specs.inside.Taking.{Answers};
 
 use crate::fault::FactError;
 use aes_block::Secret;
 use gcm_frames::TagRefusal;
 use hex::FromHex;
-use itoa::Buffer;
 use lan_base::{AssociationNumber, Mi, Name, Octets};
 use sak_exchange::Cause;
 use std::alloc::Global;
@@ -44,25 +43,22 @@ pub fn number_of(word: &[u8], most: u64) -> Option<u64>
 fn whole_of(word: &[u8]) -> Option<u64>
     ensures { result ≡ whole_of word.now }
 {
-    let number = parsed(word)?;
-    if is_written(number, word) {
-        Some(number)
-    } else {
-        None
+    if is_led(word) { parsed(word) } else { None }
+}
+
+/// Whether a word begins with a digit that is not 0, or is 0 alone.
+fn is_led(word: &[u8]) -> bool
+    ensures { result ≡ is_led word.now }
+{
+    match word {
+        [first, rest @ ..] => { matches!(*first, b'1'..=b'9') || *first == b'0' && rest.is_empty() }
+        [] => false,
     }
 }
 
-/// Whether a number is written as a word.
-fn is_written(number: u64, word: &[u8]) -> bool
-    ensures { result ≡ is_word (decimal number) word.now }
-{
-    let mut buffer = Buffer::new();
-    buffer.format(number).as_bytes() == word
-}
-
-/// The number that a word spells, with leading zeros perhaps, or with a sign.
+/// The number that a word spells which begins as one without leading zeros and without a sign.
 fn parsed(word: &[u8]) -> Option<u64>
-    ensures { (n : ℕ) → n < 2 ^ 64 → word.now ≡ decimal n → result ≡ Some n }
+    ensures { is_led word.now ≡ true → result ≡ whole_of word.now }
 {
     match str::from_utf8(word) {
         Ok(text) => text.parse::<u64>().ok(),

@@ -1,7 +1,6 @@
-use Rattle.std.proofs.Common.{arith}
-use Rattle.transcript.proofs.Numbers.{written_so}
+use Rattle.std.proofs.Common.{◌∙◌, sym}
+use Rattle.transcript.proofs.Numbers.{led_not}
 use Rattle.transcript.proofs.spelling.whole_of.Goals as goal
 
-pub returns-then-is_written : goal.returns-then-is_written
-returns-then-is_written c =
-    written_so c.args.word.now c.in_ok-number.number _ (omega arith) c.is_written.ensures c.if-is_written.true
+pub returns-else-is_led : goal.returns-else-is_led
+returns-else-is_led c = led_not c.args.word.now (sym c.is_led.ensures ∙ c.if-is_led.false)
