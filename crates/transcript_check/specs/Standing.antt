@@ -1,5 +1,5 @@
 -- What the maps say of the facts so far.
-use Rattle.std.specs.Prelude.{ℕ, zero, suc, ◌≡◌, List, [], ◌∷◌, ◌++◌, length, slice_get, Option, Some, None, option_map, option_and_then, IsTrue, is_some}
+use Rattle.std.specs.Prelude.{ℕ, ◌≡◌, ◌-◌, nat_le, if◌then◌else◌, List, [], ◌∷◌, ◌++◌, length, slice_get, Option, Some, None, option_map, option_and_then, IsTrue, is_some}
 use Rattle.std.specs.Option.{option_or}
 use Rattle.std.specs.Map.{lookup}
 use Rattle.std.specs.BTreeMap.{is_at}
@@ -33,14 +33,15 @@ id_cmp a b = ordering_then (order a.0 b.0) (nat_cmp a.1 b.1)
 abbrev pub sak_cmp : ℕ × List ℕ → ℕ × List ℕ → Ordering
 sak_cmp a b = ordering_then (nat_cmp a.0 b.0) (slice_cmp nat_cmp a.1 b.1)
 
--- the numbers of the lines that used packet numbers: of those from 1 on one after another, as far as
--- none is missing, and of others by packet number
+-- the numbers of the lines that used packet numbers: of those from a first one on, one after another
+-- as far as none is missing, and of others by packet number
 pub record Lines : Type 0 where
+  pub first : ℕ
   pub run : List ℕ
   pub others : List (ℕ × ℕ)
 
 abbrev pub no_lines : Lines
-no_lines = record { run = []; others = [] }
+no_lines = record { first = 0; run = []; others = [] }
 
 -- those of each station and each SAK of one length
 abbrev pub LinesBySak : Type 0
@@ -74,12 +75,12 @@ sak_at m s epoch = sak_under m.epochs s epoch
 abbrev pub first_of : Maps → KeyId → Option (ℕ × Named)
 first_of m id = lookup (is_at (id_cmp (id.server, id.number))) m.keys
 
-abbrev pub in_run : List ℕ → ℕ → Option ℕ
-in_run run zero = None
-in_run run (suc n) = slice_get run n
+abbrev pub in_run : ℕ → List ℕ → ℕ → Option ℕ
+in_run first run pn = if nat_le first pn then slice_get run (pn - first) else None
 
 abbrev pub line_in : Lines → ℕ → Option ℕ
-line_in lines pn = option_or (in_run lines.run pn) (lookup (is_at (nat_cmp pn)) lines.others)
+line_in lines pn =
+    option_or (in_run lines.first lines.run pn) (lookup (is_at (nat_cmp pn)) lines.others)
 
 abbrev pub line_at : LinesBySak → ℕ × List ℕ → ℕ → Option ℕ
 line_at lines key pn = option_and_then (λ own. line_in own pn) (lookup (is_at (sak_cmp key)) lines)

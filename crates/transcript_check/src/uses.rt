@@ -9,10 +9,11 @@ use std::collections::BTreeMap;
 use std::marker::Model;
 
 /// By packet number of one station under one SAK, the number of the line that used it. A station
-/// claims its packet numbers from 1 on, mostly one after another: those lines stand in a list.
-/// Contracts see the list, and the entries of the others.
+/// claims its packet numbers mostly one after another: those lines stand in a list, from the packet
+/// number on that came first. Contracts see that one, the list, and the entries of the others.
 #[derive(Drop)]
 pub struct Uses {
+    first: u32,
     run: Vec<u64>,
     others: BTreeMap<u32, u64>,
 }
@@ -22,7 +23,7 @@ impl Model for Uses {
 
     ghost Value = { Lines };
 
-    ghost view = { λ uses. record { run = uses.run.items; others = uses.others.entries } };
+    ghost view = { λ uses. record { first = uses.first; run = uses.run.items; others = uses.others.entries } };
 }
 
 impl Uses {
@@ -31,6 +32,7 @@ impl Uses {
         ensures { result ≡ no_lines }
     {
         Uses {
+            first: 0,
             run: Vec::new(alloc),
             others: BTreeMap::new(alloc),
         }
@@ -53,7 +55,7 @@ impl Uses {
     fn line_by(&self, pn: u32) -> Option<u64>
         ensures { result ≡ line_in self.now pn }
     {
-        match in_run(self.run.as_slice(), pn) {
+        match in_run(self.first, self.run.as_slice(), pn) {
             Some(line) => Some(line),
             None => self.others.get(&pn).copied(),
         }
@@ -65,7 +67,10 @@ impl Uses {
         ensures put { line_in self.old pn ≡ None → OnOk result (LineIsPut pn number self.old self.new) }
         ensures kept { OnErr result (self.new ≡ self.old) }
     {
-        if pn as usize == self.run.len() + 1 {
+        if self.run.is_empty() {
+            self.run.push(number)?;
+            self.first = pn;
+        } else if pn as usize == self.first as usize + self.run.len() {
             self.run.push(number)?;
         } else {
             self.others.insert(pn, number)?;
@@ -75,13 +80,14 @@ impl Uses {
 }
 
 /// The number of the line that used a packet number, of those that stand one after another.
-fn in_run(run: &[u64], pn: u32) -> Option<u64>
-    ensures { result ≡ in_run run.now pn }
+fn in_run(first: u32, run: &[u64], pn: u32) -> Option<u64>
+    ensures { result ≡ in_run first run.now pn }
 {
-    if pn == 0 {
-        return None;
+    if first <= pn {
+        run.get((pn - first) as usize).copied()
+    } else {
+        None
     }
-    run.get(pn as usize - 1).copied()
 }
 
 /// The number of the line that used a packet number under a station and the octets of a SAK; if none
