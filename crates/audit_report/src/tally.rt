@@ -117,7 +117,8 @@ impl Tally {
 
     /// Of a packet more.
     pub fn with(&self, finding: &Finding, is_untimed: bool) -> Tally
-        ensures { (before : List Told) (begun : List (List ℕ)) → self.now ≡ tally_of before
+        ensures all { self.now.all + 1 < 2 ^ 32 → result.all ≡ self.now.all + 1 }
+        ensures tally { (before : List Told) (begun : List (List ℕ)) → self.now ≡ tally_of before
             → length before + 1 < 2 ^ 32
             → result ≡ tally_of (record { begun = begun; finding = finding.now; is_untimed = is_untimed } ∷ before) }
     {
