@@ -1,0 +1,23 @@
+pub mod Filling
+pub mod Behind
+pub mod Handling
+pub mod Settling
+pub mod Quiet
+pub mod Telling
+pub mod Loops
+pub mod Writing
+pub mod Standing
+pub mod Putting
+pub mod Alone
+pub mod Taking
+pub mod Setting
+pub mod Cutting
+pub mod HeadsRead
+pub mod PacketsRead
+pub mod GiftsAgree
+pub mod Going
+pub mod Reporting
+pub mod Opening
+pub mod FrontTold
+pub mod NoneMissed
+mod Examples

@@ -1,0 +1,284 @@
+-- Of a text whose packets can be read to their end nothing is missed.
+use Rattle.std.proofs.Common.{◌≡◌, ◌∙◌, ◌<◌, ◌≤◌, ◌⊎◌, inl, inr, ℕ, Bool, true, false, List, [], ◌∷◌, ◌++◌, length, Option, Some, None, Result, Ok, Err, refl, sym, ap, subst, arith, append_assoc}
+use Rattle.std.specs.Prelude.{◌||◌, is_some, All, map, reverse}
+use Rattle.std.proofs.lemmas.List.Elements.{All-cons, All-head, All-tail}
+use Rattle.std.proofs.lemmas.List.{append-nil, reverse-append, reverse-reverse}
+use Rattle.audit_report.specs.declared.ending.Ending.{Ending}
+use Rattle.audit_report.specs.declared.ending.Ending.TheVariants as endings
+use Rattle.audit_report.specs.Verdicts.{Verdict, is_refuted}
+use Rattle.capture_packets.specs.Captures.{Told, capture}
+use Rattle.capture_packets.specs.Packets.{Seen}
+use Rattle.key_ring.specs.Reading.{file_in}
+use Rattle.key_ring.specs.Rings.{AreKeyed, Ring, ring_in}
+use Rattle.known_keys.specs.History.{Entry, keys, sak_of}
+use Rattle.known_keys.proofs.Public.{no-fewer, stays-broken}
+use Rattle.known_keys.specs.OneKey.{BreaksOneKey}
+use Rattle.key_ring.specs.Reading.{ReadsRing}
+use Rattle.key_ring.specs.declared.end.RingEnd.{RingEnd}
+use Rattle.key_ring.specs.declared.end.RingEnd.TheVariants as rings
+use Rattle.least_pairs.specs.Pairs.{IsJudged, IsLeast}
+use Rattle.least_pairs.proofs.Public.{front-stays}
+use Rattle.capture_packets.specs.declared.fault.CaptureFault.{CaptureFault}
+use Rattle.octet_supply.specs.Supplying.{Held}
+use Rattle.use_notes.specs.Frames.{same_check}
+use Rattle.use_notes.specs.Once.{BreaksOnce, Number, noted}
+use Rattle.packet_verdicts.specs.declared.kind.Kind.{Kind}
+use Rattle.packet_verdicts.specs.Kinds.{packet_kind}
+use Rattle.capture_audit.specs.declared.end.AuditEnd.{AuditEnd}
+use Rattle.capture_audit.specs.declared.end.AuditEnd.TheVariants as ends
+use Rattle.capture_audit.specs.Before.{IsUnwrapped, Unwrapped, UnwrapsBy, entries, entries_by, frames, kind_in, number_behind}
+use Rattle.capture_audit.specs.Ends.{EndsAudit, HasManySet, IsBroken, IsOfOutside, IsReported}
+use Rattle.capture_audit.specs.Reading.{IsOneTooMany, IsRead, in_order}
+use Rattle.capture_audit.specs.Telling.{IsVerdict}
+use Rattle.capture_audit.specs.inside.Auditing.{end_of_ring}
+use Rattle.capture_audit.proofs.FrontTold.{entries-front, entries-within, frames-front, later-behind, later-entries}
+use Rattle.capture_audit.proofs.GiftsAgree.{IsOneKeyForOneWrap, gifts-agree}
+use Rattle.capture_audit.proofs.Opening.{ring-said}
+
+-- ---- packets that were unwrapped are those of the capture
+
+module _ (law : IsOneKeyForOneWrap) (ring : Ring) (keyed : AreKeyed ring) where
+  one-agrees : (a b : Unwrapped) → IsUnwrapped ring a → IsUnwrapped ring b → a.packet ≡ b.packet → a ≡ b
+  one-agrees a b is other same =
+      let kind : kind_in ring a ≡ kind_in ring b = ap (λ (s : Seen). packet_kind ring.groups s) same in
+      let gift = gifts-agree law ring.groups a.gift b.gift (kind_in ring a) keyed is
+      (subst (λ (k : Kind). UnwrapsBy ring.groups b.gift k) (sym kind) other) in
+      λ i. record { packet = same i; gift = gift i }
+
+  all-agree : (a b : List Unwrapped) → All (IsUnwrapped ring) a → All (IsUnwrapped ring) b
+      → map (λ u. u.packet) a ≡ map (λ u. u.packet) b → a ≡ b
+  all-agree [] [] is other same = refl
+  all-agree [] (v ∷ b) is other same = absurd (cc same)
+  all-agree (u ∷ a) [] is other same = absurd (cc same)
+  all-agree (u ∷ a) (v ∷ b) is other same =
+      let first : u.packet ≡ v.packet = cc same in
+      let later : map (λ (w : Unwrapped). w.packet) a ≡ map (λ (w : Unwrapped). w.packet) b = cc same in
+      let one = one-agrees u v (All-head (IsUnwrapped ring) u a is) (All-head (IsUnwrapped ring) v b other) first in
+      let rest = all-agree a b (All-tail (IsUnwrapped ring) u a is) (All-tail (IsUnwrapped ring) v b other) later in
+      λ i. one i ∷ rest i
+
+  behind-agree : (more : List Seen) (a b : List Unwrapped) → All (IsUnwrapped ring) a → All (IsUnwrapped ring) b
+      → map (λ u. u.packet) a ≡ more ++ map (λ u. u.packet) b → (later : List Unwrapped) × (a ≡ later ++ b)
+  behind-agree [] a b is other same = ([], all-agree a b is other same)
+  behind-agree (s ∷ more) [] b is other same = absurd (cc same)
+  behind-agree (s ∷ more) (u ∷ a) b is other same =
+      let rest : map (λ (w : Unwrapped). w.packet) a ≡ more ++ map (λ (w : Unwrapped). w.packet) b = cc same in
+      let it = behind-agree more a b (All-tail (IsUnwrapped ring) u a is) other rest in
+      (u ∷ it.0, ap (λ (us : List Unwrapped). u ∷ us) it.1)
+
+  pub front-agrees : (a b : List Unwrapped) (later : List Seen) → All (IsUnwrapped ring) a → All (IsUnwrapped ring) b
+      → in_order a ≡ in_order b ++ later → (more : List Unwrapped) × (a ≡ more ++ b)
+  front-agrees a b later is other same =
+      let seen_a = map (λ (w : Unwrapped). w.packet) a in
+      let seen_b = map (λ (w : Unwrapped). w.packet) b in
+      behind-agree (reverse later) a b is other
+      (sym (reverse-reverse seen_a) ∙ ap (λ (xs : List Seen). reverse xs) same ∙ reverse-append (reverse seen_b) later
+      ∙ ap (λ (xs : List Seen). reverse later ++ xs) (reverse-reverse seen_b))
+
+  pub whole-agrees : (a b : List Unwrapped) → All (IsUnwrapped ring) a → All (IsUnwrapped ring) b
+      → in_order a ≡ in_order b → a ≡ b
+  whole-agrees a b is other same =
+      let seen_a = map (λ (w : Unwrapped). w.packet) a in
+      let seen_b = map (λ (w : Unwrapped). w.packet) b in
+      all-agree a b is other
+      (sym (reverse-reverse seen_a) ∙ ap (λ (xs : List Seen). reverse xs) same ∙ reverse-reverse seen_b)
+
+-- ---- keys stay
+
+keys-behind : (more told : List Entry) → length (keys told) ≤ length (keys (more ++ told))
+keys-behind [] told = omega arith
+keys-behind (e ∷ more) told =
+    let a = keys-behind more told in
+    let b = no-fewer (keys (more ++ told)) (sak_of e) in
+    omega (arith, a, b)
+
+pub keys-more : (ring : Ring) (later earlier : List Unwrapped)
+    → length (keys (entries ring earlier)) ≤ length (keys (entries ring (later ++ earlier)))
+keys-more ring [] earlier = omega arith
+keys-more ring (u ∷ later) earlier =
+    let a = keys-more ring later earlier in
+    let b = keys-behind (entries_by (number_behind (later ++ earlier)) u.packet.head.nanos u.gift (kind_in ring u))
+    (entries ring (later ++ earlier)) in
+    omega (arith, a, b)
+
+-- ---- what is broken stays broken
+
+refuted-by : (once one_key : Option (ℕ × ℕ)) → (is_some once || is_some one_key) ≡ true
+    → ((pair : ℕ × ℕ) × (once ≡ Some pair)) ⊎ ((pair : ℕ × ℕ) × (one_key ≡ Some pair))
+refuted-by (Some pair) one_key is = inl (pair, refl)
+refuted-by None (Some pair) is = inr (pair, refl)
+refuted-by None None is = absurd (cc is)
+
+not-refuted : (once one_key : Option (ℕ × ℕ)) → (is_some once || is_some one_key) ≡ false
+    → (once ≡ None) × (one_key ≡ None)
+not-refuted (Some pair) one_key is = absurd (cc is)
+not-refuted None (Some pair) is = absurd (cc is)
+not-refuted None None is = (refl, refl)
+
+stays : (ring : Ring) (later earlier : List Unwrapped) (v : Verdict) → IsVerdict ring earlier v → is_refuted v ≡ true
+    → (i : ℕ) × (j : ℕ) × IsBroken ring (later ++ earlier) i j
+stays ring later earlier v was refuted = elim (refuted-by v.once v.one_key refuted) [
+  | inl it ↦
+      let l : IsLeast (BreaksOnce (frames ring (later ++ earlier))) it.0.0 it.0.1 =
+      front-stays Number (List ℕ) same_check (length earlier) (noted (frames ring earlier))
+      (noted (frames ring (later ++ earlier))) it.0 (frames-front ring later earlier)
+      (subst (λ (o : Option (ℕ × ℕ)). IsJudged (BreaksOnce (frames ring earlier)) o) it.1 was.once) in
+      (it.0.0, it.0.1, inl l.broken)
+  | inr it ↦
+      let l : IsLeast (BreaksOneKey (entries ring (later ++ earlier))) it.0.0 it.0.1 =
+      subst (λ (es : List Entry). IsJudged (BreaksOneKey es) (Some it.0)) (sym (entries-front ring later earlier))
+      (stays-broken (later-entries ring later earlier) (entries ring earlier) (length earlier) it.0
+      (entries-within ring earlier (length earlier) (omega arith)) (later-behind ring later earlier)
+      (subst (λ (o : Option (ℕ × ℕ)). IsJudged (BreaksOneKey (entries ring earlier)) o) it.1 was.one_key)) in
+      (it.0.0, it.0.1, inr l.broken)
+]
+
+-- ---- the key text is not read
+
+pub ring-missed : (text : List ℕ) (left : Option (List ℕ)) (ring : Ring) (packets : List Unwrapped) (end : RingEnd)
+    → IsRead text (Some []) ring packets endings.Whole → ReadsRing text left (Err end)
+    → IsOfOutside (Err (end_of_ring end))
+ring-missed text left ring packets (rings.Line line why) read is = absurd (cc (sym read.said ∙ is))
+ring-missed text left ring packets rings.Limit read is =
+    let past = is.0 in let few = read.ends.0 in absurd (omega (arith, past, few))
+ring-missed text left ring packets rings.ReadFault read is = inl refl
+ring-missed text left ring packets rings.Memory read is = inr (inr refl)
+
+pub keyed-so : (text : List ℕ) (left : Option (List ℕ)) (own ring : Ring) (supply : Option Held)
+    → ReadsRing text left (Ok (own, supply)) → AreKeyed own → ring_in text ≡ Ok ring → AreKeyed ring
+keyed-so text left own ring supply is keyed said =
+    let same : own ≡ ring = cc (sym (ring-said text left own supply is) ∙ said) in
+    subst (λ (r : Ring). AreKeyed r) same keyed
+
+-- ---- what is told
+
+module _ (law : IsOneKeyForOneWrap) (shows : Bool) (text : List ℕ) (ring : Ring) (packets : List Unwrapped)
+    (keyed : AreKeyed ring) (read : IsRead text (Some []) ring packets endings.Whole) where
+  same-ring : (other : Ring) → ring_in text ≡ Ok other → other ≡ ring
+  same-ring other said = cc (sym said ∙ read.said)
+
+  all : (capture (file_in text)).packets ≡ in_order packets
+  all = ap (λ (t : Told). t.packets) read.ends.2
+
+  unwrapped : (left : Option (List ℕ)) (other : Ring) (before : List Unwrapped) (ending : Ending)
+      → IsRead text left other before ending → All (IsUnwrapped ring) before
+  unwrapped left other before ending r =
+      subst (λ (x : Ring). All (IsUnwrapped x) before) (same-ring other r.said) r.unwrapped
+
+  fronts : (left : Option (List ℕ)) (other : Ring) (before : List Unwrapped) (ending : Ending)
+      → IsRead text left other before ending → (later : List Unwrapped) × (packets ≡ later ++ before)
+  fronts left other before ending r =
+      front-agrees law ring keyed packets before r.first.0 read.unwrapped (unwrapped left other before ending r)
+      (sym all ∙ r.first.1)
+
+  not-refused : (left : Option (List ℕ)) (other : Ring) (before : List Unwrapped) (at : ℕ) (why : CaptureFault)
+      → IsRead text left other before (endings.Octet at why) → ⊥
+  not-refused left other before at why r =
+      cc (sym (ap (λ (t : Told). t.refused) read.ends.2) ∙ ap (λ (t : Told). t.refused) r.ends.0)
+
+  not-past : (left : Option (List ℕ)) (other : Ring) (before : List Unwrapped)
+      → IsRead text left other before endings.InputLimit → ⊥
+  not-past left other before r =
+      let past = r.ends.0 in let few = read.ends.0 in omega (arith, past, few)
+
+  not-full : (left : Option (List ℕ)) (other : Ring) (before : List Unwrapped)
+      → IsRead text left other before endings.KeyLimit → ⊥
+  not-full left other before r =
+      let o : IsOneTooMany ring text before =
+      subst (λ (x : Ring). IsOneTooMany x text before) (same-ring other r.said) r.ends in
+      let seen = map (λ (w : Unwrapped). w.packet) before in
+      let order : in_order before ++ o.next.packet ∷ o.later ≡ in_order (o.next ∷ before) ++ o.later =
+      sym (append_assoc (in_order before) (o.next.packet ∷ []) o.later)
+      ∙ ap (λ (xs : List Seen). xs ++ o.later) (sym (reverse-append (o.next.packet ∷ []) seen)) in
+      let it = front-agrees law ring keyed packets (o.next ∷ before) o.later read.unwrapped
+      (All-cons (IsUnwrapped ring) o.next before o.unwrapped (unwrapped left other before endings.KeyLimit r)) (sym all ∙ o.all ∙ order) in
+      let more = keys-more ring it.0 (o.next ∷ before) in
+      let long = ap (λ (us : List Unwrapped). length (keys (entries ring us))) it.1 in
+      let few = read.few in
+      let many = o.many in
+      omega (arith, more, long, few, many)
+
+  not-set : HasManySet text → ⊥
+  not-set h =
+      let many = subst (λ (x : Ring). 4096 < length (keys (entries x []))) (same-ring h.ring h.said) h.many in
+      let more = keys-more ring packets [] in
+      let long = ap (λ (us : List Unwrapped). length (keys (entries ring us))) (append-nil packets) in
+      let few = read.few in
+      omega (arith, more, long, few, many)
+
+  judged-here : (left held then : Option (List ℕ)) (ending : Ending) (refuted : Bool)
+      → (r : IsReported shows text left ending refuted held then) → IsVerdict ring r.packets r.verdict
+  judged-here left held then ending refuted r =
+      subst (λ (x : Ring). IsVerdict x r.packets r.verdict) (same-ring r.ring r.read.said) r.judged
+
+  none-broken : (left held then : Option (List ℕ)) → IsReported shows text left endings.Whole false held then
+      → (i j : ℕ) → IsBroken ring packets i j → ⊥
+  none-broken left held then r i j =
+      let none = not-refuted r.verdict.once r.verdict.one_key r.broken in
+      let same : r.packets ≡ packets =
+      whole-agrees law ring keyed r.packets packets (unwrapped left r.ring r.packets endings.Whole r.read) read.unwrapped
+      (sym (ap (λ (t : Told). t.packets) r.read.ends.2) ∙ all) in
+      let v : IsVerdict ring packets r.verdict =
+      subst (λ (us : List Unwrapped). IsVerdict ring us r.verdict) same (judged-here left held then endings.Whole false r) in
+      λ b. elim b [
+        | inl once ↦
+            subst (λ (o : Option (ℕ × ℕ)). IsJudged (BreaksOnce (frames ring packets)) o) none.0 v.once i j once
+        | inr one ↦
+            subst (λ (o : Option (ℕ × ℕ)). IsJudged (BreaksOneKey (entries ring packets)) o) none.1 v.one_key i j one
+      ]
+
+  some-broken : (left held then : Option (List ℕ)) (ending : Ending) → IsReported shows text left ending true held then
+      → (i : ℕ) × (j : ℕ) × IsBroken ring packets i j
+  some-broken left held then ending r =
+      let f = fronts left r.ring r.packets ending r.read in
+      subst (λ (us : List Unwrapped). (i : ℕ) × (j : ℕ) × IsBroken ring us i j) (sym f.1)
+      (stays ring f.0 r.packets r.verdict (judged-here left held then ending true r) r.broken)
+
+  -- but for these ends it is of the outside
+  abbrev IsOtherwise : Result (Unit {0}) AuditEnd → Type 0
+  IsOtherwise (Ok done) = Unit {0}
+  IsOtherwise (Err ends.Refuted) = Unit {0}
+  IsOtherwise result = IsOfOutside result
+
+  otherwise : (left held then : Option (List ℕ)) (result : Result (Unit {0}) AuditEnd)
+      → EndsAudit shows text left held then result → IsOtherwise result
+  otherwise left held then (Ok done) is = tt
+  otherwise left held then (Err ends.Refuted) is = tt
+  otherwise left held then (Err (ends.KeyLine line why)) is = absurd (cc (sym read.said ∙ is.0))
+  otherwise left held then (Err (ends.Refused at why)) (inl it) = absurd (cc (sym read.opens ∙ it.0.1))
+  otherwise left held then (Err (ends.Refused at why)) (inr r) = absurd (not-refused left r.ring r.packets at why r.read)
+  otherwise left held then (Err ends.InputLimit) (inl it) =
+      let past = it.0.0 in let few = read.ends.0 in absurd (omega (arith, past, few))
+  otherwise left held then (Err ends.InputLimit) (inr r) = absurd (not-past left r.ring r.packets r.read)
+  otherwise left held then (Err ends.KeyLimit) (inl it) = absurd (not-set it.0)
+  otherwise left held then (Err ends.KeyLimit) (inr r) = absurd (not-full left r.ring r.packets r.read)
+  otherwise left held then (Err ends.ReadFault) is = inl refl
+  otherwise left held then (Err ends.WriteFault) is = inr (inl refl)
+  otherwise left held then (Err ends.Memory) is = inr (inr refl)
+
+  pub broken-told : (left held then : Option (List ℕ)) (result : Result (Unit {0}) AuditEnd) (i j : ℕ)
+      → EndsAudit shows text left held then result → IsBroken ring packets i j
+      → (result ≡ Err ends.Refuted) ⊎ IsOfOutside result
+  broken-told left held then (Ok done) i j is b = absurd (none-broken left held then is i j b)
+  broken-told left held then (Err ends.Refuted) i j is b = inl refl
+  broken-told left held then (Err (ends.KeyLine line why)) i j is b = inr (otherwise left held then (Err (ends.KeyLine line why)) is)
+  broken-told left held then (Err (ends.Refused at why)) i j is b = inr (otherwise left held then (Err (ends.Refused at why)) is)
+  broken-told left held then (Err ends.InputLimit) i j is b = inr (otherwise left held then (Err ends.InputLimit) is)
+  broken-told left held then (Err ends.KeyLimit) i j is b = inr (otherwise left held then (Err ends.KeyLimit) is)
+  broken-told left held then (Err ends.ReadFault) i j is b = inr (inl refl)
+  broken-told left held then (Err ends.WriteFault) i j is b = inr (inr (inl refl))
+  broken-told left held then (Err ends.Memory) i j is b = inr (inr (inr refl))
+
+  pub clean-told : (left held then : Option (List ℕ)) (result : Result (Unit {0}) AuditEnd)
+      → EndsAudit shows text left held then result → ((i j : ℕ) → IsBroken ring packets i j → ⊥)
+      → (result ≡ Ok tt) ⊎ IsOfOutside result
+  clean-told left held then (Ok done) is none = inl refl
+  clean-told left held then (Err ends.Refuted) is none =
+      let b = some-broken left held then is.0 is.1 in absurd (none b.0 b.1 b.2)
+  clean-told left held then (Err (ends.KeyLine line why)) is none = inr (otherwise left held then (Err (ends.KeyLine line why)) is)
+  clean-told left held then (Err (ends.Refused at why)) is none = inr (otherwise left held then (Err (ends.Refused at why)) is)
+  clean-told left held then (Err ends.InputLimit) is none = inr (otherwise left held then (Err ends.InputLimit) is)
+  clean-told left held then (Err ends.KeyLimit) is none = inr (otherwise left held then (Err ends.KeyLimit) is)
+  clean-told left held then (Err ends.ReadFault) is none = inr (inl refl)
+  clean-told left held then (Err ends.WriteFault) is none = inr (inr (inl refl))
+  clean-told left held then (Err ends.Memory) is none = inr (inr (inr refl))

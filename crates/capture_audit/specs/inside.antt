@@ -1,0 +1,4 @@
+-- What serves private functions alone.
+pub mod Keeping
+pub mod Batches
+pub mod Auditing
