@@ -20,4 +20,11 @@ pub mod Reporting
 pub mod Opening
 pub mod FrontTold
 pub mod NoneMissed
+pub mod UsesAlone
+pub mod OneReport
+pub mod Naming
+pub mod Repeating
+pub mod Inserting
+pub mod OtherGroup
 mod Examples
+mod LawExamples

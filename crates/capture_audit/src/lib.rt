@@ -7,7 +7,12 @@ mod auditor;
 mod batch;
 mod end;
 mod handing;
+mod laws;
 mod reading;
 
 pub use auditing::audit;
 pub use end::AuditEnd;
+pub use laws::{
+    law_a_front_is_told_first, law_a_group_without_frames_changes_nothing,
+    law_a_repetition_changes_no_verdict, law_the_format_says_nothing, law_the_least_pair_is_named,
+};
