@@ -3,10 +3,10 @@
 #![tactic(auto)]
 
 use lan_base::{StdSink, StdSource};
-use rollover_program::{AnyGate, Cause, Status, rollover};
+use rollover_program::{AnyGate, Cause, Joined, Status, Unread, key_file, rollover};
 use std::alloc::AllocError;
 use std::process::ExitCode;
-use std::{env, io};
+use std::{env, fs, io};
 
 /// The words after the program's name.
 fn words(rt: &HostRuntime) -> Result<Vec<String>, AllocError> {
@@ -20,17 +20,29 @@ fn words(rt: &HostRuntime) -> Result<Vec<String>, AllocError> {
     Ok(words)
 }
 
-/// Ends with the status of the call, and tells on standard error why it is none of success.
+/// The octets of the file that the words name for keys: none where they name none.
+fn keys(rt: &HostRuntime, words: &[String]) -> io::Result<Vec<u8>> {
+    match key_file(words) {
+        Some(path) => fs::read(rt, path.as_str()),
+        None => Ok(Vec::new(rt.alloc())),
+    }
+}
+
+/// Ends with the status of the call, to which the file of keys is given before standard input, and
+/// tells on standard error why it is none of success.
 fn main(rt: HostRuntime) -> ExitCode {
+    let alloc = rt.alloc();
+    let gate = AnyGate::Open;
+    let mut sink = StdSink::new(io::writer(&rt));
     let status = match words(&rt) {
-        Ok(words) => rollover(
-            &rt,
-            rt.alloc(),
-            &words,
-            &mut StdSource::new(rt.reader()),
-            &mut StdSink::new(io::writer(&rt)),
-            &AnyGate::Open,
-        ),
+        Ok(words) => match keys(&rt, &words) {
+            Ok(keys) => {
+                let mut source = Joined::new(keys, StdSource::new(rt.reader()));
+                rollover(&rt, alloc, &words, &mut source, &mut sink, &gate)
+            }
+            // Whether the words are a command comes first: what can't be read is given them to read.
+            Err(_) => rollover(&rt, alloc, &words, &mut Unread, &mut sink, &gate),
+        },
         Err(_) => Status::Halted(Cause::Memory),
     };
     if status != Status::Done {

@@ -36,7 +36,7 @@ told-all verdict old new status is wrote = go (is_clean verdict) refl
         rw refuted (sym refuted ∙ is, wrote)
 
 -- no verdict is another status
-other-status : (verdict : Verdict) (status : Status) → (Done ≡ status → ⊥) → (Refuted ≡ status → ⊥)
+pub other-status : (verdict : Verdict) (status : Status) → (Done ≡ status → ⊥) → (Refuted ≡ status → ⊥)
     → status ≡ told verdict → ⊥
 other-status verdict status done refuted is = go (is_clean verdict) is
   where

@@ -1,3 +1,5 @@
+mod Joining
+mod Named
 mod Literals
 mod Reading
 mod Taken
@@ -7,4 +9,6 @@ mod Rolled
 mod Judged
 mod Captured
 mod Drawn
+mod Audited
+mod Decided
 mod Refused

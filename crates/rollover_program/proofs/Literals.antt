@@ -1,12 +1,13 @@
 -- The command at words that are written out.
-use Rattle.std.proofs.Common.{◌≡◌, true, [], ◌∷◌, codes, refl}
+use Rattle.std.proofs.Common.{◌≡◌, true, false, [], ◌∷◌, Some, None, codes, refl}
 use Rattle.clap.specs.Words.{fault_of, is_simple, is_simple_and_free}
 use Rattle.clap.specs.declared.error.ErrorKind.TheVariants.{InvalidSubcommand}
 use Rattle.clap.specs.declared.error.ErrorKind.TheVariants.{MissingRequiredArgument}
 use Rattle.clap.specs.declared.error.ErrorKind.TheVariants.{MissingSubcommand, UnknownArgument}
 use Rattle.clap.specs.declared.error.ErrorKind.TheVariants.{ValueValidation}
 use Rattle.clap.proofs.OnLiterals.{clap_on_literals}
-use Rattle.rollover_program.specs.Words.{command}
+use Rattle.rollover_program.specs.declared.words.Order.TheVariants.{Audit}
+use Rattle.rollover_program.specs.Words.{command, key_file_in, order_of}
 
 pub is_free : is_simple_and_free command ≡ true
 unfolding clap_on_literals
@@ -29,5 +30,22 @@ refused : (fault_of command [] ≡ MissingSubcommand ∷ [])
     × (fault_of command (codes "dissect" ∷ codes "x" ∷ []) ≡ UnknownArgument ∷ [])
     × (fault_of command (codes "roll" ∷ codes "x" ∷ []) ≡ UnknownArgument ∷ [])
     × (fault_of command (codes "draw" ∷ codes "x" ∷ []) ≡ UnknownArgument ∷ [])
+    × (fault_of command (codes "audit" ∷ codes "x" ∷ codes "y" ∷ []) ≡ UnknownArgument ∷ [])
+    × (fault_of command (codes "audit" ∷ codes "--summary" ∷ []) ≡ UnknownArgument ∷ [])
 unfolding clap_on_literals
-refused = (refl, refl, refl, refl, refl, refl, refl, refl, refl, refl, refl)
+refused = (refl, refl, refl, refl, refl, refl, refl, refl, refl, refl, refl, refl, refl)
+
+-- a file of keys is named before or behind the flag, and the words order what they do without it
+named_keys : (fault_of command (codes "audit" ∷ codes "x" ∷ []) ≡ [])
+    × (fault_of command (codes "audit" ∷ codes "--packets" ∷ codes "x" ∷ []) ≡ [])
+    × (fault_of command (codes "audit" ∷ codes "x" ∷ codes "--packets" ∷ []) ≡ [])
+    × (order_of (codes "audit" ∷ codes "x" ∷ []) ≡ Some (Audit false))
+    × (order_of (codes "audit" ∷ codes "--packets" ∷ codes "x" ∷ []) ≡ Some (Audit true))
+    × (order_of (codes "audit" ∷ codes "x" ∷ codes "--packets" ∷ []) ≡ Some (Audit true))
+    × (key_file_in (codes "audit" ∷ []) ≡ None)
+    × (key_file_in (codes "audit" ∷ codes "--packets" ∷ []) ≡ None)
+    × (key_file_in (codes "audit" ∷ codes "x" ∷ codes "--packets" ∷ []) ≡ Some (codes "x"))
+    × (key_file_in (codes "audit" ∷ codes "--packets" ∷ codes "x" ∷ []) ≡ Some (codes "x"))
+    × (key_file_in (codes "dissect" ∷ codes "x" ∷ []) ≡ None)
+unfolding clap_on_literals
+named_keys = (refl, refl, refl, refl, refl, refl, refl, refl, refl, refl, refl)

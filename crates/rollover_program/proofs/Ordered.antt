@@ -1,18 +1,23 @@
 -- Words without a fault order something, and each order has plain words.
 use Rattle.std.proofs.Common.{◌≡◌, ◌∙◌, ◌≤◌, ◌==◌, ℕ, Bool, true, false, cond, List, [], ◌∷◌}
-use Rattle.std.proofs.Common.{Option, Some, None, is_some, refl, sym, ap, arith, codes, option_map}
+use Rattle.std.proofs.Common.{Option, Some, None, is_some, refl, sym, ap, arith, codes, inl, inr, option_map}
 use Rattle.std.proofs.Common.{option_and_then}
 use Rattle.std.specs.Prelude.{decimal, pos}
-use Rattle.std.specs.Option.{option_map_or}
+use Rattle.std.specs.Option.{ok_or, option_map_or}
+use Rattle.std.specs.Prelude.{IfOk, Result}
+use Rattle.rollover_program.specs.declared.words.Refusal.{Refusal}
+use Rattle.rollover_program.specs.declared.words.Refusal.TheVariants as refusals
 use Rattle.std.specs.Str.Parse.{IsNumeral, digits_value}
 use Rattle.std.proofs.lemmas.Bool.{ne_eqb}
 use Rattle.std.proofs.lemmas.Fmt.{decimal_is_IsNumeral}
 use Rattle.std.proofs.lemmas.Int.{ints}
 use Rattle.std.proofs.lemmas.Str.Parse.{digit_from_value}
-use Rattle.clap.specs.Words.{Row, Shape, Text, built, fault_of}
+use Rattle.clap.specs.Words.{Row, Shape, Text, built, fault_of, kind_of}
 use Rattle.clap.specs.Values.{IsSignedIn}
 use Rattle.clap.specs.ValueTests.{is_unsigned_in}
-use Rattle.clap.specs.Kinds.{Kinds, or_else}
+use Rattle.clap.specs.Kinds.{HasKind, Kinds, or_else}
+use Rattle.clap.specs.declared.error.Error.{Error}
+use Rattle.clap.specs.declared.error.kind.ErrorKind.TheVariants as errors
 use Rattle.clap.specs.Walk.{answers_to, nothing_held, rows_after, settled, finished, walk}
 use Rattle.clap.specs.Walk.{walk_from}
 use Rattle.clap.specs.Simple.{built_leaf, entered, inherited, names_of, new_shape, rows_at}
@@ -23,10 +28,10 @@ use Rattle.clap.proofs.KindLemmas.{value_kinds-ok}
 use Rattle.clap.proofs.OnLiterals.{clap_on_literals}
 use Rattle.clap.proofs.ValueTestLemmas.{Accepts-accepts}
 use Rattle.rollover_program.specs.declared.words.Order.{Order}
-use Rattle.rollover_program.specs.declared.words.Order.TheVariants.{Run, Make, Try, Check, Capture, Dissect, Roll, Draw}
+use Rattle.rollover_program.specs.declared.words.Order.TheVariants.{Run, Make, Try, Check, Capture, Dissect, Roll, Draw, Audit}
 use Rattle.rollover_program.specs.Words.{IsNumbered, IsUsage, Orders, bare, command, number_of}
 use Rattle.rollover_program.specs.Words.{order_by, order_of}
-use Rattle.rollover_program.specs.Words.{plain, subcommand, summary, summary_in, words_of}
+use Rattle.rollover_program.specs.Words.{audit, packets_in, plain, subcommand, summary, summary_in, words_of}
 use Rattle.rollover_program.proofs.Taken.{given, gives, leaf, no_fault, taken}
 
 -- ---- without a fault
@@ -50,13 +55,16 @@ roll_leaf = built_leaf (inherited (bare (new_shape (codes "rollover"))) (plain (
 abbrev draw_leaf : Shape
 draw_leaf = built_leaf (inherited (bare (new_shape (codes "rollover"))) (plain (codes "draw")))
 
+abbrev audit_leaf : Shape
+audit_leaf = built_leaf (inherited (bare (new_shape (codes "rollover"))) audit)
+
 -- the subcommand that was named
-abbrev named : Bool → Bool → Bool → Bool → Bool → Bool → Bool → Bool → Option Shape
-named run make try_ check capture dissect roll draw = cond run (Some run_leaf)
+abbrev named : Bool → Bool → Bool → Bool → Bool → Bool → Bool → Bool → Bool → Option Shape
+named run make try_ check capture dissect roll draw audit_ = cond run (Some run_leaf)
     (cond make (Some (leaf (codes "make"))) (cond try_ (Some (leaf (codes "try")))
     (cond check (Some check_leaf) (cond capture (Some capture_leaf)
     (cond dissect (Some dissect_leaf) (cond roll (Some roll_leaf)
-    (cond draw (Some draw_leaf) None)))))))
+    (cond draw (Some draw_leaf) (cond audit_ (Some audit_leaf) None))))))))
 
 abbrev rows_in : Option Shape → List Text → Option (Text × List Row)
 rows_in sub words = option_map (λ s. rows_at s words) sub
@@ -65,27 +73,29 @@ rows_in sub words = option_map (λ s. rows_at s words) sub
 abbrev pub ordered_by : Option (Text × List Row) → Option Order
 ordered_by = option_and_then (λ p. order_by p.0 p.1)
 
-orders : (run make try_ check capture dissect roll draw : Bool) (words : List Text)
+orders : (run make try_ check capture dissect roll draw audit_ : Bool) (words : List Text)
     → option_map_or (λ s. level_fault s [] nothing_held words false [])
-    (named run make try_ check capture dissect roll draw) []
+    (named run make try_ check capture dissect roll draw audit_) []
     ≡ []
-    → is_some (rows_in (named run make try_ check capture dissect roll draw) words) ≡ true → (o : Order)
-    × (ordered_by (rows_in (named run make try_ check capture dissect roll draw) words) ≡ Some o)
+    → is_some (rows_in (named run make try_ check capture dissect roll draw audit_) words) ≡ true → (o : Order)
+    × (ordered_by (rows_in (named run make try_ check capture dissect roll draw audit_) words) ≡ Some o)
     × IsNumbered o
-orders true make try_ check capture dissect roll draw words e h =
+orders true make try_ check capture dissect roll draw audit_ words e h =
     (Run (summary_in (rows_after run_leaf.rules [] words)), refl, tt)
-orders false true try_ check capture dissect roll draw words e h =
+orders false true try_ check capture dissect roll draw audit_ words e h =
     let n = taken (codes "make") words e in
     (Make n.0, ap (option_map (λ k. Make k)) n.1, (n.2, n.3))
-orders false false true check capture dissect roll draw words e h =
+orders false false true check capture dissect roll draw audit_ words e h =
     let n = taken (codes "try") words e in
     (Try n.0, ap (option_map (λ k. Try k)) n.1, (n.2, n.3))
-orders false false false true capture dissect roll draw words e h = (Check, refl, tt)
-orders false false false false true dissect roll draw words e h = (Capture, refl, tt)
-orders false false false false false true roll draw words e h = (Dissect, refl, tt)
-orders false false false false false false true draw words e h = (Roll, refl, tt)
-orders false false false false false false false true words e h = (Draw, refl, tt)
-orders false false false false false false false false words e h = absurd cc
+orders false false false true capture dissect roll draw audit_ words e h = (Check, refl, tt)
+orders false false false false true dissect roll draw audit_ words e h = (Capture, refl, tt)
+orders false false false false false true roll draw audit_ words e h = (Dissect, refl, tt)
+orders false false false false false false true draw audit_ words e h = (Roll, refl, tt)
+orders false false false false false false false true audit_ words e h = (Draw, refl, tt)
+orders false false false false false false false false true words e h =
+    (Audit (packets_in (rows_after audit_leaf.rules [] words)), refl, tt)
+orders false false false false false false false false false words e h = absurd cc
 
 by_stop : (stop : Option (Text × List Text)) → entered_fault (built command) stop ≡ []
     → is_some (entered (built command) stop) ≡ true
@@ -94,7 +104,8 @@ by_stop None e h = absurd cc
 by_stop (Some p) e h = orders (answers_to p.0 (codes "run", [])) (answers_to p.0 (codes "make", []))
     (answers_to p.0 (codes "try", [])) (answers_to p.0 (codes "check", []))
     (answers_to p.0 (codes "capture", [])) (answers_to p.0 (codes "dissect", []))
-    (answers_to p.0 (codes "roll", [])) (answers_to p.0 (codes "draw", [])) p.1 e h
+    (answers_to p.0 (codes "roll", [])) (answers_to p.0 (codes "draw", []))
+    (answers_to p.0 (codes "audit", [])) p.1 e h
 
 -- a subcommand has to be there
 needed : (rows : List Row) (has : Bool) → check_fault (built command).top rows has ≡ [] → has ≡ true
@@ -218,6 +229,12 @@ draw_plain : (fault_of command (words_of Draw) ≡ []) × (order_of (words_of Dr
 unfolding clap_on_literals
 draw_plain = (refl, refl)
 
+audit_plain : (s : Bool) → (fault_of command (words_of (Audit s)) ≡ [])
+    × (order_of (words_of (Audit s)) ≡ Some (Audit s))
+unfolding clap_on_literals
+audit_plain true = (refl, refl)
+audit_plain false = (refl, refl)
+
 -- the plain words for an order have no fault, and order it
 pub plain_words : (o : Order) → IsNumbered o → (fault_of command (words_of o) ≡ [])
     × (order_of (words_of o) ≡ Some o)
@@ -229,3 +246,19 @@ plain_words Capture h = capture_plain
 plain_words Dissect h = dissect_plain
 plain_words Roll h = roll_plain
 plain_words Draw h = draw_plain
+plain_words (Audit s) h = audit_plain s
+
+-- ---- an order that was read
+
+-- words without a fault were read as what they order
+pub read_as : (words : List Text) (o : Option Order) (r : Result Order Refusal)
+    → fault_of command words ≡ [] → o ≡ order_of words → r ≡ ok_or o refusals.Usage
+    → IfOk r (λ order. Orders words order)
+read_as words None r none is e = rw e tt
+read_as words (Some order) r none is e = rw e (none, sym is)
+
+-- an error without a kind is want of memory
+pub by_none : (kinds : Kinds) (e : Error) → kinds ≡ [] → HasKind kinds e → kind_of e ≡ errors.OutOfMemory
+by_none [] e none (inl memory) = memory
+by_none [] e none (inr among) = absurd among
+by_none (k ∷ ks) e none h = absurd cc

@@ -6,7 +6,7 @@ use Rattle.std.specs.Option.{option_map_or}
 use Rattle.std.specs.Str.{bytes_eq}
 use Rattle.std.proofs.lemmas.Slice.Eq.{bytes_eq-Decides}
 use Rattle.std.specs.Str.Parse.{ParsesBool, ParsesUnsigned}
-use Rattle.clap.specs.Words.{Row, Text, one_text, rows_of}
+use Rattle.clap.specs.Words.{Row, Text, one_of, one_text, rows_of}
 use Rattle.clap.specs.Matches.{ReadsOne}
 use Rattle.clap.specs.Lexer.{without_minus}
 use Rattle.clap.specs.Values.{IsSignedIn}
@@ -16,7 +16,7 @@ use Rattle.clap.specs.declared.builder.ValueParser.TheVariants as parsers
 use Rattle.clap.proofs.ValueTestLemmas.{accepts-Accepts, Accepts-accepts}
 use Rattle.clap.proofs.WalkLemmas.{one_text-rows}
 use Rattle.clap.proofs.CallerReads.{signed_reads}
-use Rattle.rollover_program.specs.Words.{number_in, number_of, summary_in}
+use Rattle.rollover_program.specs.Words.{number_in, number_of}
 
 module _ {E : Type 0} (G : Text → Result ℕ E → Type 0)
     (only : (u : Text) (x : Result ℕ E) → G u x → ParsesUnsigned 32 10 u x) where
@@ -85,16 +85,17 @@ module _ (E : Type 0) where
       go true e = absurd (h.1.0 ((bytes_eq-Decides t (codes "true")).0 e))
       go false e = sym e
 
-  pub flag_read : (f : Found) (r : Option Bool) → (one_text f (codes "summary") ≡ None → r ≡ None)
-      → ((t : Text) → one_text f (codes "summary") ≡ Some t → ReadsOne {E = E} ParsesBool t r)
-      → unwrap_or r false ≡ summary_in (rows_of f)
-  flag_read f r none value = go (one_text f (codes "summary")) refl
+  pub flag_read : (name : Text) (f : Found) (r : Option Bool) → (one_text f name ≡ None → r ≡ None)
+      → ((t : Text) → one_text f name ≡ Some t → ReadsOne {E = E} ParsesBool t r)
+      → unwrap_or r false
+      ≡ option_map_or (λ text. bytes_eq text (codes "true")) (one_of name (rows_of f)) false
+  flag_read name f r none value = go (one_text f name) refl
       ∙ ap (λ (o : Option Text). option_map_or (λ text. bytes_eq text (codes "true")) o false)
-      (one_text-rows f (codes "summary"))
+      (one_text-rows f name)
     where
-      go : (o : Option Text) → one_text f (codes "summary") ≡ o
+      go : (o : Option Text) → one_text f name ≡ o
           → unwrap_or r false ≡ option_map_or (λ text. bytes_eq text (codes "true"))
-          (one_text f (codes "summary")) false
+          (one_text f name) false
       go None e = rw (e, none e) refl
       go (Some t) e = rw e (said t r (value t e))
 

@@ -16,7 +16,7 @@ use Rattle.trace_maker.specs.Made.{made}
 use Rattle.rollover_program.specs.declared.status.Status.{Status}
 use Rattle.rollover_program.specs.declared.status.Status.TheVariants.{Usage, Halted}
 use Rattle.rollover_program.specs.declared.words.Order.{Order}
-use Rattle.rollover_program.specs.declared.words.Order.TheVariants.{Run, Make, Try, Check, Capture, Dissect, Roll, Draw}
+use Rattle.rollover_program.specs.declared.words.Order.TheVariants.{Run, Make, Try, Check, Capture, Dissect, Roll, Draw, Audit}
 use Rattle.rollover_program.specs.declared.words.Refusal.{Refusal}
 use Rattle.rollover_program.specs.declared.words.Refusal.TheVariants as refusals
 use Rattle.rollover_program.specs.Words.{IsNumbered, IsUsage, Orders, words_of}
@@ -28,6 +28,7 @@ use Rattle.rollover_program.specs.commands.Capture.{EndsAsCapture}
 use Rattle.rollover_program.specs.commands.Draw.{EndsAsDraw}
 use Rattle.rollover_program.specs.commands.Dissect.{EndsAsDissect}
 use Rattle.rollover_program.specs.commands.Roll.{EndsAsRoll}
+use Rattle.rollover_program.specs.commands.Audit.{EndsAsAudit}
 use Rattle.rollover_program.specs.inside.Answering.{status_of_refusal}
 use Rattle.rollover_program.proofs.Ordered.{plain_words}
 use Rattle.rollover_program.proofs.Carried.{Promise, not_run, not_tried}
@@ -35,6 +36,7 @@ use Rattle.rollover_program.proofs.Rolled.{TwinPromise, not_rolled}
 use Rattle.rollover_program.proofs.Judged.{not_checked}
 use Rattle.rollover_program.proofs.Captured.{not_captured, not_dissected}
 use Rattle.rollover_program.proofs.Drawn.{not_drawn}
+use Rattle.rollover_program.proofs.Audited.{not_audited}
 
 -- the plain words for an order
 pub plain_orders : (words : List Text) (order : Order) → IsNumbered order → words ≡ words_of order
@@ -103,6 +105,12 @@ module _ (words : List Text) (f : Refusal) (usage : f ≡ refusals.Usage → IsU
       → s ≡ status_of_refusal f → Orders words Draw → EndsAsDraw text left left old old s
   drew_nothing s text left old e asked =
       rw (memory s Draw e asked) (not_drawn text left old)
+
+  pub audited_nothing : (s : Status) (shows : Bool) (text : List ℕ) (left held : Option (List ℕ))
+      → s ≡ status_of_refusal f → Orders words (Audit shows)
+      → EndsAsAudit shows text left held held s
+  audited_nothing s shows text left held e asked =
+      rw (memory s (Audit shows) e asked) (not_audited shows text left held)
 
   pub tried_nothing : Promise → ((chances : List Chance) → IsTidy (beginning chances)) → (s : Status)
       (n : ℕ) (old : Sunk) → s ≡ status_of_refusal f → Orders words (Try n) → EndsTried n old old s

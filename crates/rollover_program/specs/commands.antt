@@ -7,3 +7,4 @@ pub mod Capture
 pub mod Dissect
 pub mod Roll
 pub mod Draw
+pub mod Audit

@@ -1,5 +1,6 @@
 //! What each command does, a file a command.
 
+pub mod audit;
 pub mod capture;
 pub mod check;
 pub mod dissect;

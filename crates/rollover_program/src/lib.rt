@@ -3,12 +3,16 @@
 #![tactic(auto)]
 
 mod commands;
+mod joined;
 mod laws;
 mod status;
 mod top;
+mod unread;
 mod words;
 
 pub use capture_file::CaptureFault;
+pub use capture_packets::CaptureFault as PacketFault;
+pub use joined::Joined;
 pub use lan_core::Which;
 pub use laws::{
     law_each_text_is_promised, law_tidy_runs_are_promised,
@@ -18,5 +22,8 @@ pub use replay::{AnyGate, Cause};
 pub use status::Status;
 pub use top::rollover;
 pub use trace_acts::Kind;
+pub use trace_text::TextFault;
 pub use transcript_capture::LineFault;
 pub use transcript_check::CheckFault;
+pub use unread::Unread;
+pub use words::key_file;

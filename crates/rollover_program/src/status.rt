@@ -7,11 +7,15 @@ ghost use Rattle.replay.specs.declared.cause.Cause.TheVariants as causes;
 ghost use Rattle.transcript_check.specs.declared.fault.CheckFault.{CheckFault};
 ghost use Rattle.transcript_capture.specs.declared.fault.LineFault.{LineFault};
 ghost use Rattle.capture_file.specs.declared.fault.CaptureFault.{CaptureFault};
+ghost use Rattle.capture_packets.specs.declared.fault.CaptureFault.{CaptureFault as PacketFault};
+ghost use Rattle.trace_text.specs.declared.fault.TextFault.{TextFault};
 ghost use Rattle.rollover_program.specs.inside.Answering.{status_of};
 
 use capture_file::CaptureFault;
+use capture_packets::CaptureFault as PacketFault;
 use replay::Cause;
 use thiserror::Error;
+use trace_text::TextFault;
 use transcript_capture::LineFault;
 use transcript_check::CheckFault;
 
@@ -23,7 +27,7 @@ pub enum Status {
     #[error("done")]
     Done,
     /// The words are no command.
-    #[error("usage: rollover run [--summary] | make N | try N | check | capture | dissect | roll | draw")]
+    #[error("usage: rollover run [--summary] | make N | try N | check | capture | dissect | roll | draw | audit [--packets] [KEYS]")]
     Usage,
     /// The trace was not performed to its end.
     #[error("{0}")]
@@ -37,7 +41,7 @@ pub enum Status {
     /// The line of a transcript with this number, from 1, is refused.
     #[error("transcript line {line}: {why:?}")]
     Transcript { line: u32, why: CheckFault },
-    /// The input of `capture` or `dissect` has more octets than its limit.
+    /// The input of `capture`, `dissect` or `audit` has more octets than its limit.
     #[error("limit CaptureInput")]
     CaptureInput,
     /// The line of a transcript with this number, from 1, is refused, and its frame is not recorded.
@@ -46,6 +50,18 @@ pub enum Status {
     /// The file of captured packets is refused: its head, or the record that begins at this octet.
     #[error("capture octet {at}: {why:?}")]
     Capture { at: u32, why: CaptureFault },
+    /// The line of the key text of `audit` with this number, from 1, is refused.
+    #[error("line {line}: {why:?}")]
+    KeyLine { line: u32, why: TextFault },
+    /// There are more keys in the input of `audit` than its limit.
+    #[error("limit Keys")]
+    Keys,
+    /// A capture was judged, and a pair of its packets breaks what is judged.
+    #[error("capture refuted")]
+    CaptureRefuted,
+    /// The capture of `audit` is refused: its head, or the record or block that begins at this octet.
+    #[error("capture octet {at}: {why:?}")]
+    Packets { at: u32, why: PacketFault },
 }
 
 impl Status {
@@ -72,6 +88,12 @@ impl Status {
             → self ≡ Status.Unrecorded line why → result ≡ 10 }
         ensures capture { (at : ℕ) (why : CaptureFault)
             → self ≡ Status.Capture at why → result ≡ 11 }
+        ensures key_line { (line : ℕ) (why : TextFault)
+            → self ≡ Status.KeyLine line why → result ≡ 2 }
+        ensures keys { self ≡ Status.Keys → result ≡ 6 }
+        ensures capture_refuted { self ≡ Status.CaptureRefuted → result ≡ 9 }
+        ensures packets { (at : ℕ) (why : PacketFault)
+            → self ≡ Status.Packets at why → result ≡ 11 }
     {
         match self {
             Status::Done => 0,
@@ -87,7 +109,10 @@ impl Status {
             Status::Refuted => 9,
             Status::Transcript { .. } | Status::Unrecorded { .. } => 10,
             Status::CaptureInput => 6,
-            Status::Capture { .. } => 11,
+            Status::Capture { .. } | Status::Packets { .. } => 11,
+            Status::KeyLine { .. } => 2,
+            Status::Keys => 6,
+            Status::CaptureRefuted => 9,
         }
     }
 }

@@ -5,7 +5,8 @@ ghost use Rattle.std.specs.Prelude.{string_bytes};
 ghost use Rattle.clap.specs.Words.{app_of, found_of, kind_of, rows_of, rule_of, subcommand_rows_of};
 ghost use Rattle.clap.specs.declared.error.kind.ErrorKind.TheVariants as kinds;
 ghost use Rattle.rollover_program.specs.Words.{IsUsage, Orders, command, number, order_by};
-ghost use Rattle.rollover_program.specs.Words.{order_of, summary_in};
+ghost use Rattle.std.specs.Prelude.{option_map};
+ghost use Rattle.rollover_program.specs.Words.{key_file_in, order_of, packets_in, summary_in};
 
 use clap::error::ErrorKind;
 use clap::{Arg, ArgAction, ArgMatches, Command, Error};
@@ -30,6 +31,8 @@ pub enum Order {
     Roll,
     /// The picture of a transcript's keys is written.
     Draw,
+    /// A capture is judged with its keys, with a line of each packet or without.
+    Audit { shows: bool },
 }
 
 /// The greatest number of which a trace is made.
@@ -67,14 +70,20 @@ pub fn read_order(alloc: Global, words: &[String]) -> Result<Order, Refusal>
     }
 }
 
-/// The one command: `run [--summary]`, `make N`, `try N`, `check`, `capture`, `dissect`, `roll` or
-/// `draw`.
+/// The one command: `run [--summary]`, `make N`, `try N`, `check`, `capture`, `dissect`, `roll`,
+/// `draw` or `audit [--packets] [KEYS]`.
 fn command<'a>(alloc: Global) -> Result<Command<'a>, AllocError>
     ensures { IfOk result (λ r. app_of r ≡ command) }
 {
     let summary = Arg::new(alloc, "summary")
         .long("summary")
         .action(ArgAction::SetTrue);
+    let packets = Arg::new(alloc, "packets")
+        .long("packets")
+        .action(ArgAction::SetTrue);
+    let audit = Command::new(alloc, "audit")
+        .arg(packets)?
+        .arg(Arg::new(alloc, "KEYS"))?;
     let rollover = Command::new(alloc, "rollover")
         .no_binary_name(true)
         .disable_help_flag(true)
@@ -89,7 +98,8 @@ fn command<'a>(alloc: Global) -> Result<Command<'a>, AllocError>
         .subcommand(Command::new(alloc, "capture"))?
         .subcommand(Command::new(alloc, "dissect"))?
         .subcommand(Command::new(alloc, "roll"))?
-        .subcommand(Command::new(alloc, "draw"))
+        .subcommand(Command::new(alloc, "draw"))?
+        .subcommand(audit)
 }
 
 /// A number from 1 to the greatest.
@@ -123,6 +133,9 @@ fn order_of(matches: &ArgMatches<'_>) -> Option<Order>
         "dissect" => Some(Order::Dissect),
         "roll" => Some(Order::Roll),
         "draw" => Some(Order::Draw),
+        "audit" => Some(Order::Audit {
+            shows: shows_packets(arguments),
+        }),
         _ => None,
     }
 }
@@ -135,6 +148,13 @@ fn is_summary(arguments: &ArgMatches<'_>) -> bool
     arguments.get_one("summary").unwrap_or(false)
 }
 
+/// Whether a line of each packet is asked for.
+fn shows_packets(arguments: &ArgMatches<'_>) -> bool
+    ensures { result ≡ packets_in (rows_of (found_of arguments.now)) }
+{
+    arguments.get_one("packets").unwrap_or(false)
+}
+
 /// Why words that clap does not take order nothing.
 fn refusal_of(error: &Error) -> Refusal
     ensures memory { kind_of error.now ≡ kinds.OutOfMemory → result ≡ Refusal.Memory }
@@ -144,4 +164,16 @@ fn refusal_of(error: &Error) -> Refusal
         ErrorKind::OutOfMemory => Refusal::Memory,
         _ => Refusal::Usage,
     }
+}
+
+/// The file that the words of `audit` name for its keys, which stands before the capture: the first
+/// further word that is neither `--packets` nor `--`. Whether the words are a command is not said.
+pub fn key_file(words: &[String]) -> Option<&String>
+    ensures { option_map (λ w. string_bytes w.now) result ≡ key_file_in (map string_bytes words.now) }
+{
+    let (first, others) = words.split_first()?;
+    if first.as_str() != "audit" {
+        return None;
+    }
+    others.iter().find(|word| word.as_str() != "--packets" && word.as_str() != "--")
 }

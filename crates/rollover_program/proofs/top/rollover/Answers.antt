@@ -2,15 +2,16 @@ use Rattle.std.proofs.Common.{ap, sym, refl, inr, ◌∙◌}
 use Rattle.std.specs.Prelude.{Err}
 use Rattle.replay.specs.Sinks.{sunk}
 use Rattle.replay.specs.declared.cause.Cause.TheVariants as causes
-use Rattle.rollover_program.specs.declared.words.Order.TheVariants.{Run, Make, Try, Check, Capture, Dissect, Roll, Draw}
+use Rattle.rollover_program.specs.declared.words.Order.TheVariants.{Run, Make, Try, Check, Capture, Dissect, Roll, Draw, Audit}
 use Rattle.rollover_program.proofs.Ordered.{by_no_usage}
 use Rattle.rollover_program.proofs.Refused.{plain_orders, either, usage_only, not_halted, memory}
 use Rattle.rollover_program.proofs.Refused.{ran_nothing, made_nothing, tried_nothing, checked_nothing}
 use Rattle.rollover_program.proofs.Refused.{captured_nothing, dissected_nothing, rolled_nothing}
-use Rattle.rollover_program.proofs.Refused.{drew_nothing}
+use Rattle.rollover_program.proofs.Refused.{drew_nothing, audited_nothing}
 use Rattle.rollover_program.proofs.Carried.{as_asked, either_order, complete, complete_make}
 use Rattle.rollover_program.proofs.Carried.{complete_try, one_order}
 use Rattle.rollover_program.proofs.Rolled.{complete_roll}
+use Rattle.rollover_program.proofs.Decided.{decided, halted_outside}
 use Rattle.rollover_program.proofs.top.rollover.Goals as goal
 
 pub returns-in-Ok-clause-usage : goal.returns-in-Ok-clause-usage
@@ -60,6 +61,21 @@ returns-in-Ok-clause-roll g c = λ text asked told.
 pub returns-in-Ok-clause-draw : goal.returns-in-Ok-clause-draw
 returns-in-Ok-clause-draw g c = λ text asked told.
     as_asked _ _ Draw _ _ _ _ _ c.in-Ok.ensures.ok asked c.carry_out.ensures.done text told
+
+pub returns-in-Ok-clause-audit : goal.returns-in-Ok-clause-audit
+returns-in-Ok-clause-audit g c = λ text shows asked told.
+    (as_asked _ _ (Audit shows) _ _ _ _ _ c.in-Ok.ensures.ok asked c.carry_out.ensures.done text told).0
+
+pub returns-in-Ok-clause-complete_audit : goal.returns-in-Ok-clause-complete_audit
+returns-in-Ok-clause-complete_audit g c = λ text shows ring packets asked told.
+    (as_asked _ _ (Audit shows) _ _ _ _ _ c.in-Ok.ensures.ok asked c.carry_out.ensures.done text told).1
+    ring packets
+
+pub returns-in-Ok-clause-complete_reading : goal.returns-in-Ok-clause-complete_reading
+returns-in-Ok-clause-complete_reading g c = λ text order reads asked told read_none write_none.
+    decided c.carry_out.result (halted_outside order reads text _ _ _ _ c.carry_out.result told
+    (as_asked _ _ order _ _ _ _ _ c.in-Ok.ensures.ok asked c.carry_out.ensures.done))
+    (λ e. read_none (c.carry_out.ensures.read_cause e)) (λ e. write_none (c.carry_out.ensures.write_cause e))
 
 pub returns-in-Ok-clause-unread : goal.returns-in-Ok-clause-unread
 returns-in-Ok-clause-unread g c = λ n asked.
@@ -191,4 +207,19 @@ returns-in-Err-clause-complete_try g c = λ n asked writes.
 pub returns-in-Err-clause-complete_roll : goal.returns-in-Err-clause-complete_roll
 returns-in-Err-clause-complete_roll g c = λ text asked told reads writes.
     inr (memory _ c.in-Err.refusal (λ is. c.in-Err.ensures.usage (ap (λ f. Err f) is)) _ Roll
+    c.status_of_refusal.ensures asked)
+
+pub returns-in-Err-clause-audit : goal.returns-in-Err-clause-audit
+returns-in-Err-clause-audit g c = λ text shows asked told.
+    audited_nothing _ c.in-Err.refusal (λ is. c.in-Err.ensures.usage (ap (λ f. Err f) is)) _ shows text
+    _ _ c.status_of_refusal.ensures asked
+
+pub returns-in-Err-clause-complete_audit : goal.returns-in-Err-clause-complete_audit
+returns-in-Err-clause-complete_audit g c = λ text shows ring packets asked told read reads writes.
+    inr (memory _ c.in-Err.refusal (λ is. c.in-Err.ensures.usage (ap (λ f. Err f) is)) _ (Audit shows)
+    c.status_of_refusal.ensures asked)
+
+pub returns-in-Err-clause-complete_reading : goal.returns-in-Err-clause-complete_reading
+returns-in-Err-clause-complete_reading g c = λ text order reads asked told read_none write_none.
+    inr (memory _ c.in-Err.refusal (λ is. c.in-Err.ensures.usage (ap (λ f. Err f) is)) _ order
     c.status_of_refusal.ensures asked)

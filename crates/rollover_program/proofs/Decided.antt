@@ -1,0 +1,182 @@
+-- What was read decides how the program ends, where nothing fails outside.
+use Rattle.std.proofs.Common.{◌≡◌, ℕ, List, Some, Result, Ok, Err, ap, inl, inr, refl, subst, sym}
+use Rattle.std.specs.Prelude.{◌⊎◌}
+use Rattle.text_lines.specs.Reading.{Sourced}
+use Rattle.transcript_check.specs.declared.verdict.Verdict.{Verdict}
+use Rattle.transcript_check.specs.declared.judging.Unjudged.{Unjudged}
+use Rattle.transcript_check.specs.declared.judging.Unjudged.TheVariants as unjudged
+use Rattle.transcript_picture.specs.declared.drawing.Undrawn.{Undrawn}
+use Rattle.transcript_picture.specs.declared.drawing.Undrawn.TheVariants as undrawn
+use Rattle.transcript_capture.specs.declared.end.End.{End as CaptureEnd}
+use Rattle.transcript_capture.specs.declared.end.End.TheVariants as captures
+use Rattle.packet_lines.specs.declared.end.End.{End as TellingEnd}
+use Rattle.packet_lines.specs.declared.end.End.TheVariants as tellings
+use Rattle.capture_audit.specs.declared.end.AuditEnd.{AuditEnd}
+use Rattle.capture_audit.specs.declared.end.AuditEnd.TheVariants as ends
+use Rattle.replay.specs.declared.cause.Cause.{Cause}
+use Rattle.replay.specs.declared.cause.Cause.TheVariants as causes
+use Rattle.replay.specs.Sinks.{Sunk}
+use Rattle.rollover_program.specs.declared.status.Status.{Status}
+use Rattle.rollover_program.specs.declared.status.Status.TheVariants as statuses
+use Rattle.rollover_program.specs.declared.status.Status.TheVariants.{Done, Usage, Halted, CheckInput, Refuted, Transcript, CaptureInput, Unrecorded, KeyLine, Keys, CaptureRefuted, Packets}
+use Rattle.rollover_program.specs.declared.words.Order.{Order}
+use Rattle.rollover_program.specs.declared.words.Order.TheVariants.{Run, Make, Try, Check, Capture, Dissect, Roll, Draw, Audit}
+use Rattle.rollover_program.specs.Decided.{IsDecided, IsToRead}
+use Rattle.rollover_program.specs.commands.Check.{EndsAsCheck, Tells, status_of}
+use Rattle.rollover_program.specs.commands.Capture.{status_of_capture}
+use Rattle.rollover_program.specs.commands.Dissect.{status_of_telling}
+use Rattle.rollover_program.specs.commands.Draw.{EndsAsDraw, Shows, status_of_undrawn}
+use Rattle.rollover_program.specs.commands.Audit.{status_of_audit}
+use Rattle.rollover_program.specs.inside.Answering.{CarriesOut}
+use Rattle.rollover_program.proofs.Judged.{other-status}
+
+-- a cause that is outside, or want of memory
+abbrev pub IsOutside : Cause → Type 0
+IsOutside cause = (cause ≡ causes.ReadFault) ⊎ ((cause ≡ causes.WriteFault) ⊎ (cause ≡ causes.Memory))
+
+-- the program is halted by such causes alone
+abbrev pub IsHaltedOutside : Status → Type 0
+IsHaltedOutside Usage = ⊥
+IsHaltedOutside (Halted cause) = IsOutside cause
+IsHaltedOutside status = Unit {0}
+
+-- what was read decides, unless memory runs out
+abbrev pub EndsDecided : Status → Type 0
+EndsDecided status = IsDecided status ⊎ (status ≡ Halted causes.Memory)
+
+pub decided : (status : Status) → IsHaltedOutside status → (status ≡ Halted causes.ReadFault → ⊥)
+    → (status ≡ Halted causes.WriteFault → ⊥) → EndsDecided status
+decided Done outside reads writes = inl tt
+decided Usage outside reads writes = absurd outside
+decided (Halted cause) (inl read) reads writes = absurd (reads (ap Halted read))
+decided (Halted cause) (inr (inl write)) reads writes = absurd (writes (ap Halted write))
+decided (Halted cause) (inr (inr memory)) reads writes = inr (ap Halted memory)
+decided CheckInput outside reads writes = inl tt
+decided Refuted outside reads writes = inl tt
+decided (Transcript line why) outside reads writes = inl tt
+decided CaptureInput outside reads writes = inl tt
+decided (Unrecorded line why) outside reads writes = inl tt
+decided (statuses.Capture at why) outside reads writes = inl tt
+decided (KeyLine line why) outside reads writes = inl tt
+decided Keys outside reads writes = inl tt
+decided CaptureRefuted outside reads writes = inl tt
+decided (Packets at why) outside reads writes = inl tt
+
+-- ---- by what each command answers
+
+by_verdict : (verdict : Verdict) (old new : Sunk) (status : Status) → Tells verdict old new status
+    → IsHaltedOutside status
+by_verdict verdict old new Done tells = tt
+by_verdict verdict old new Usage tells = other-status verdict Usage (λ is. cc is) (λ is. cc is) tells.0
+by_verdict verdict old new (Halted (causes.Trace line kind)) tells =
+    absurd (other-status verdict (Halted (causes.Trace line kind)) (λ is. cc is) (λ is. cc is) tells.0)
+by_verdict verdict old new (Halted causes.ReadFault) tells = inl refl
+by_verdict verdict old new (Halted causes.WriteFault) tells = inr (inl refl)
+by_verdict verdict old new (Halted causes.Memory) tells = inr (inr refl)
+by_verdict verdict old new (Halted causes.Input) tells =
+    absurd (other-status verdict (Halted causes.Input) (λ is. cc is) (λ is. cc is) tells.0)
+by_verdict verdict old new (Halted (causes.Limit which)) tells =
+    absurd (other-status verdict (Halted (causes.Limit which)) (λ is. cc is) (λ is. cc is) tells.0)
+by_verdict verdict old new (Halted (causes.RepeatedDraw first second)) tells =
+    absurd (other-status verdict (Halted (causes.RepeatedDraw first second)) (λ is. cc is) (λ is. cc is) tells.0)
+by_verdict verdict old new (Halted (causes.Forged line)) tells =
+    absurd (other-status verdict (Halted (causes.Forged line)) (λ is. cc is) (λ is. cc is) tells.0)
+by_verdict verdict old new CheckInput tells = tt
+by_verdict verdict old new Refuted tells = tt
+by_verdict verdict old new (Transcript line why) tells = tt
+by_verdict verdict old new CaptureInput tells = tt
+by_verdict verdict old new (Unrecorded line why) tells = tt
+by_verdict verdict old new (statuses.Capture at why) tells = tt
+by_verdict verdict old new (KeyLine line why) tells = tt
+by_verdict verdict old new Keys tells = tt
+by_verdict verdict old new CaptureRefuted tells = tt
+by_verdict verdict old new (Packets at why) tells = tt
+
+by_picture : (picture : List ℕ) (old new : Sunk) (status : Status) → Shows picture old new status
+    → IsHaltedOutside status
+by_picture picture old new Done shows = tt
+by_picture picture old new Usage shows = cc shows.0
+by_picture picture old new (Halted (causes.Trace line kind)) shows = absurd (cc shows.0)
+by_picture picture old new (Halted causes.ReadFault) shows = inl refl
+by_picture picture old new (Halted causes.WriteFault) shows = inr (inl refl)
+by_picture picture old new (Halted causes.Memory) shows = inr (inr refl)
+by_picture picture old new (Halted causes.Input) shows = absurd (cc shows.0)
+by_picture picture old new (Halted (causes.Limit which)) shows = absurd (cc shows.0)
+by_picture picture old new (Halted (causes.RepeatedDraw first second)) shows = absurd (cc shows.0)
+by_picture picture old new (Halted (causes.Forged line)) shows = absurd (cc shows.0)
+by_picture picture old new CheckInput shows = tt
+by_picture picture old new Refuted shows = tt
+by_picture picture old new (Transcript line why) shows = tt
+by_picture picture old new CaptureInput shows = tt
+by_picture picture old new (Unrecorded line why) shows = tt
+by_picture picture old new (statuses.Capture at why) shows = tt
+by_picture picture old new (KeyLine line why) shows = tt
+by_picture picture old new Keys shows = tt
+by_picture picture old new CaptureRefuted shows = tt
+by_picture picture old new (Packets at why) shows = tt
+
+by_unjudged : (why : Unjudged) → IsHaltedOutside (status_of why)
+by_unjudged (unjudged.Refused line fault) = tt
+by_unjudged unjudged.Memory = inr (inr refl)
+by_unjudged unjudged.ReadFault = inl refl
+by_unjudged unjudged.Limit = tt
+
+by_undrawn : (why : Undrawn) → IsHaltedOutside (status_of_undrawn why)
+by_undrawn (undrawn.Refused line fault) = tt
+by_undrawn undrawn.Memory = inr (inr refl)
+by_undrawn undrawn.ReadFault = inl refl
+by_undrawn undrawn.Limit = tt
+
+by_capture : (r : Result (Unit {0}) CaptureEnd) → IsHaltedOutside (status_of_capture r)
+by_capture (Ok done) = tt
+by_capture (Err (captures.Refused line why)) = tt
+by_capture (Err captures.Limit) = tt
+by_capture (Err captures.ReadFault) = inl refl
+by_capture (Err captures.WriteFault) = inr (inl refl)
+by_capture (Err captures.Memory) = inr (inr refl)
+
+by_telling : (r : Result (Unit {0}) TellingEnd) → IsHaltedOutside (status_of_telling r)
+by_telling (Ok done) = tt
+by_telling (Err (tellings.Refused at why)) = tt
+by_telling (Err tellings.Limit) = tt
+by_telling (Err tellings.ReadFault) = inl refl
+by_telling (Err tellings.WriteFault) = inr (inl refl)
+by_telling (Err tellings.Memory) = inr (inr refl)
+
+by_audit : (r : Result (Unit {0}) AuditEnd) → IsHaltedOutside (status_of_audit r)
+by_audit (Ok done) = tt
+by_audit (Err (ends.KeyLine line why)) = tt
+by_audit (Err ends.Refuted) = tt
+by_audit (Err (ends.Refused at why)) = tt
+by_audit (Err ends.InputLimit) = tt
+by_audit (Err ends.KeyLimit) = tt
+by_audit (Err ends.ReadFault) = inl refl
+by_audit (Err ends.WriteFault) = inr (inl refl)
+by_audit (Err ends.Memory) = inr (inr refl)
+
+-- ---- by the order
+
+-- an order to read ends so
+pub halted_outside : (order : Order) → IsToRead order → (text : List ℕ) (left now : Sourced) (old new : Sunk)
+    (status : Status) → left.left ≡ Some text → CarriesOut order left now old new status
+    → IsHaltedOutside status
+halted_outside Check is text left now old new status told out = go (out text told)
+  where
+    go : EndsAsCheck text left now old new status → IsHaltedOutside status
+    go (inl e) = by_verdict e.0 old new status e.2
+    go (inr e) = subst IsHaltedOutside (sym e.2) (by_unjudged e.0)
+halted_outside Capture is text left now old new status told out =
+    let e = out text told in subst IsHaltedOutside (sym e.2) (by_capture e.0)
+halted_outside Dissect is text left now old new status told out =
+    let e = out text told in subst IsHaltedOutside (sym e.2) (by_telling e.0)
+halted_outside Draw is text left now old new status told out = go (out text told)
+  where
+    go : EndsAsDraw text left now old new status → IsHaltedOutside status
+    go (inl e) = by_picture e.0 old new status e.2
+    go (inr e) = subst IsHaltedOutside (sym e.2) (by_undrawn e.0)
+halted_outside (Audit shows) is text left now old new status told out =
+    let e = (out text told).0 in subst IsHaltedOutside (sym e.2) (by_audit e.0)
+halted_outside (Run summary) is text left now old new status told out = absurd is
+halted_outside (Make n) is text left now old new status told out = absurd is
+halted_outside (Try n) is text left now old new status told out = absurd is
+halted_outside Roll is text left now old new status told out = absurd is
