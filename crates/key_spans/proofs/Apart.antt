@@ -11,7 +11,7 @@ use Rattle.key_spans.specs.declared.span.Turn.{Turn}
 use Rattle.key_spans.specs.declared.span.Turn.TheVariants.{Ends, Begins, Relieves}
 use Rattle.key_spans.specs.declared.span.Why.TheVariants.{Replaced}
 use Rattle.key_spans.specs.Spans.{clock_after, lived, opened, spans, spans_from, touched, turn_by, turned, relieved_at}
-use Rattle.key_spans.specs.Standing.{HasEnded}
+use Rattle.key_spans.specs.inside.Taking.{HasEnded}
 use Rattle.key_spans.specs.Times.{EndsBy}
 use Rattle.key_spans.proofs.OneMore.{by_sum, ends, opens, stays}
 
@@ -27,7 +27,7 @@ every-at P (z ∷ xs) ys x all = every-at P xs ys x all.1
 
 -- ---- the clock
 
-abbrev most : ℕ
+abbrev pub most : ℕ
 most = 4294967295
 
 later : (at : ℕ) → at ≤ most → (b : Bool)
@@ -38,7 +38,7 @@ later at few false = (omega (arith, few), few)
 same : (at : ℕ) → at ≤ most → (at ≤ at) × (at ≤ most)
 same at few = (omega arith, few)
 
-rises : (at : ℕ) (f : Fact) → at ≤ most → (at ≤ clock_after at f) × (clock_after at f ≤ most)
+pub rises : (at : ℕ) (f : Fact) → at ≤ most → (at ≤ clock_after at f) × (clock_after at f ≤ most)
 rises at (shows.Ticked t now next) few = later at few (t == 0)
 rises at (shows.Life t mi) few = same at few
 rises at (shows.Server t mi) few = same at few
@@ -117,7 +117,7 @@ module _ (s : ℕ) (an : AssociationNumber) where
       go true = refl
       go false = refl
 
-  installed-touched : (at : ℕ) (t : Option Turn) (x : Span) → (touched at t x).installed ≡ x.installed
+  pub installed-touched : (at : ℕ) (t : Option Turn) (x : Span) → (touched at t x).installed ≡ x.installed
   installed-touched at None x = refl
   installed-touched at (Some t) x = go (is_some x.ended)
     where
@@ -125,7 +125,7 @@ module _ (s : ℕ) (an : AssociationNumber) where
       go true = refl
       go false = installed-turned at t x
 
-  installed-lived : (at : ℕ) (facts : List Fact) (x : Span) → (lived s an at facts x).installed ≡ x.installed
+  pub installed-lived : (at : ℕ) (facts : List Fact) (x : Span) → (lived s an at facts x).installed ≡ x.installed
   installed-lived at [] x = refl
   installed-lived at (f ∷ facts) x =
       installed-lived (clock_after at f) facts (touched at (turn_by s an f) x)
@@ -200,7 +200,7 @@ module _ (s : ℕ) (an : AssociationNumber) where
           subst (All-apart at f facts) (sym one.1)
           (apart (clock_after at f) facts one.0 (rises at f few).1 (never one.0 one.5 (clock_after at f)), tail)
 
-  all-apart : (at : ℕ) (facts : List Fact) → at ≤ most → AreApart (spans_from s an at facts)
+  pub all-apart : (at : ℕ) (facts : List Fact) → at ≤ most → AreApart (spans_from s an at facts)
   all-apart at [] few = tt
   all-apart at (f ∷ facts) few =
       first-apart at f facts few (all-apart (clock_after at f) facts (rises at f few).1)

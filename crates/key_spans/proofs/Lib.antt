@@ -2,3 +2,6 @@ mod Rows
 mod OneMore
 mod Apart
 mod Sending
+mod Touching
+mod Lanes
+mod Standing

@@ -13,8 +13,7 @@ use Rattle.key_spans.specs.declared.span.Turn.TheVariants.{Ends}
 use Rattle.key_spans.specs.declared.span.Why.{Why}
 use Rattle.key_spans.specs.declared.span.Why.TheVariants.{Replaced}
 use Rattle.key_spans.specs.Spans.{clock, clock_after, lived, opened, spans, spans_from, touched, turn_by, turned}
-use Rattle.key_spans.specs.Standing.{AllEnded, HasEnded, Keys, Kept, StandsFor, keys, row_at}
-use Rattle.key_spans.specs.inside.Taking.{IsTaken, grown_row, row_after, touched_row, with_opened}
+use Rattle.key_spans.specs.inside.Taking.{HasEnded}
 
 pub by_sum : {A B P : Type 0} → A ⊎ B → (A → P) → (B → P) → P
 by_sum (inl a) f g = f a
@@ -78,25 +77,6 @@ stays at (Some t) x ended = go x.ended refl ended
     go None is there = absurd (cc there)
     go (Some e) is there = ap (λ (o : Option End). if is_some o then x else turned at t x) is
 
-all-stay : (at : ℕ) (t : Option Turn) (xs : List Span) → AllEnded xs → map (touched at t) xs ≡ xs
-all-stay at t [] ended = refl
-all-stay at t (x ∷ xs) ended =
-    ap (λ (y : Span). y ∷ map (touched at t) xs) (stays at t x ended.0)
-    ∙ ap (λ (ys : List Span). x ∷ ys) (all-stay at t xs ended.1)
-
-apart : (t : Span → Span) (xs : List Span) (last : Option Span)
-    → map t (xs ++ option_to_list last) ≡ map t xs ++ option_to_list (option_map t last)
-apart t [] None = refl
-apart t [] (Some x) = refl
-apart t (x ∷ xs) last = ap (λ (ys : List Span). t x ∷ ys) (apart t xs last)
-
-touched-keys : (at : ℕ) (t : Option Turn) (row : Keys) → AllEnded row.earlier
-    → map (touched at t) (keys row) ≡ row.earlier ++ option_to_list (option_map (touched at t) row.latest)
-touched-keys at t row ended =
-    apart (touched at t) row.earlier row.latest
-    ∙ ap (λ (ys : List Span). ys ++ option_to_list (option_map (touched at t) row.latest))
-    (all-stay at t row.earlier ended)
-
 -- a fact opens nothing, or one key, and then the one before it is replaced
 pub opens : (s : ℕ) (an : AssociationNumber) (at : ℕ) (f : Fact)
     → (opened s an at f ≡ [])
@@ -156,69 +136,3 @@ ends at why x = go x.ended refl
     go (Some e) is =
         subst (λ (b : Bool). HasEnded (if b then x else turned at (Ends why) x))
         (sym (ap is_some is)) (subst (λ (o : Option End). IsTrue (is_some o)) (sym is) refl)
-
-with-last : (at : ℕ) (xs : List Span) (last : Option Span) → AllEnded xs
-    → AllEnded (xs ++ option_to_list (option_map (touched at (Some (Ends Replaced))) last))
-with-last at [] None ended = tt
-with-last at [] (Some x) ended = (ends at Replaced x, tt)
-with-last at (x ∷ xs) last ended = (ended.0, with-last at xs last ended.1)
-
-module _ (s : ℕ) (an : AssociationNumber) (at : ℕ) (f : Fact) (row : Keys) (ended : AllEnded row.earlier) where
-  abbrev pub t : Option Turn
-  t = turn_by s an f
-
-  pub keys-after : keys (row_after s an at f row) ≡ map (touched at t) (keys row) ++ opened s an at f
-  keys-after = by_sum (opens s an at f) go-none go-one
-    where
-      go-none : opened s an at f ≡ [] → keys (row_after s an at f row) ≡ map (touched at t) (keys row) ++ opened s an at f
-      go-none none =
-          ap (λ (o : List Span). keys (with_opened at o row t)) none
-          ∙ sym (touched-keys at t row ended)
-          ∙ sym (append-nil (map (touched at t) (keys row)))
-          ∙ ap (λ (o : List Span). map (touched at t) (keys row) ++ o) (sym none)
-
-      go-one : (span : Span) × (opened s an at f ≡ span ∷ []) × (t ≡ Some (Ends Replaced))
-          × (span.installed ≡ at) × (span.began ≡ None) × (span.ended ≡ None)
-          → keys (row_after s an at f row) ≡ map (touched at t) (keys row) ++ opened s an at f
-      go-one one =
-          ap (λ (o : List Span). keys (with_opened at o row t)) one.1
-          ∙ ap (λ (ys : List Span). ys ++ one.0 ∷ [])
-          (sym (touched-keys at (Some (Ends Replaced)) row ended))
-          ∙ ap (λ (o : Option Turn). map (touched at o) (keys row) ++ one.0 ∷ []) (sym one.2)
-          ∙ ap (λ (o : List Span). map (touched at t) (keys row) ++ o) (sym one.1)
-
-  pub ended-after : AllEnded (row_after s an at f row).earlier
-  ended-after = by_sum (opens s an at f) go-none go-one
-    where
-      go-none : opened s an at f ≡ [] → AllEnded (row_after s an at f row).earlier
-      go-none none =
-          subst (λ (o : List Span). AllEnded (with_opened at o row t).earlier) (sym none) ended
-
-      go-one : (span : Span) × (opened s an at f ≡ span ∷ []) × (t ≡ Some (Ends Replaced))
-          × (span.installed ≡ at) × (span.began ≡ None) × (span.ended ≡ None)
-          → AllEnded (row_after s an at f row).earlier
-      go-one one =
-          subst (λ (o : List Span). AllEnded (with_opened at o row t).earlier) (sym one.1)
-          (with-last at row.earlier row.latest ended)
-
--- ---- all rows
-
-pub one_more : (facts : List Fact) (f : Fact) (old new : Kept) → StandsFor facts old → IsTaken f old new
-    → StandsFor (facts ++ f ∷ []) new
-one_more facts f old new stands taken = record {
-  clock_is = taken.clock_is ∙ ap (λ (at : ℕ). clock_after at f) stands.clock_is ∙ sym (clock-more 0 facts f);
-  keys_are = λ s an.
-      ap keys (taken.rows_are s an)
-      ∙ keys-after s an old.clock f (row_at old.lanes s an) (stands.ended s an)
-      ∙ ap (λ (ys : List Span). map (touched old.clock (turn_by s an f)) ys ++ opened s an old.clock f)
-      (stands.keys_are s an)
-      ∙ ap (λ (at : ℕ). map (touched at (turn_by s an f)) (spans s an facts) ++ opened s an at f) stands.clock_is
-      ∙ sym (spans-more s an f 0 facts);
-  ended = λ s an.
-      subst (λ (row : Keys). AllEnded row.earlier) (sym (taken.rows_are s an))
-      (ended-after s an old.clock f (row_at old.lanes s an) (stands.ended s an));
-}
-
-pub on_ok : {T E P Q : Type 0} (r : Result T E) → (P → Q) → OnOk r P → OnOk r Q
-on_ok (Ok x) f p = f p
-on_ok (Err e) f p = tt

@@ -1,13 +1,14 @@
 -- Rows of stations, by place.
-use Rattle.std.proofs.Common.{◌≡◌, ◌≢◌, ◌<◌, ℕ, zero, suc, List, [], ◌∷◌, ◌++◌, length, Some, Result, Ok, Err, ◌∙◌, refl, sym, ap, subst, arith}
-use Rattle.std.specs.Prelude.{slice_get, set, OnOk, OnErr}
+use Rattle.std.proofs.Common.{◌≡◌, ◌≢◌, ◌<◌, ℕ, zero, suc, List, [], ◌∷◌, ◌++◌, length, Option, Some, Result, Ok, Err, ◌∙◌, refl, sym, ap, subst, inl, inr, arith}
+use Rattle.std.specs.Prelude.{◌⊎◌, Bool, true, false, ◌==◌, slice_get, set, OnOk, OnErr}
+use Rattle.std.proofs.lemmas.Bool.{eqb-true}
 use Rattle.lan_base.specs.declared.association_number.AssociationNumber.{AssociationNumber}
 use Rattle.lan_base.specs.declared.association_number.AssociationNumber.TheVariants.{An0, An1, An2, An3}
 use Rattle.std.specs.declared.alloc.AllocError.{AllocError}
 use Rattle.lan_core.specs.declared.fact.Fact.{Fact}
 use Rattle.lan_core.specs.Run.{place}
-use Rattle.key_spans.specs.Standing.{Kept, Rows, no_rows, row_at}
-use Rattle.key_spans.specs.inside.Taking.{IsLaneAfter, TakesAt}
+use Rattle.key_spans.specs.Standing.{Kept, Rows, no_rows, row_at, row_in, row_of}
+use Rattle.key_spans.specs.inside.Taking.{IsKeptRow, IsLaneAfter, IsLaneKept, TakesAt}
 
 -- rows of nothing behind others change no row
 pub row-pushed : (lanes : List Rows) (s : ℕ) (an : AssociationNumber)
@@ -42,17 +43,43 @@ set-same {A} (z ∷ xs) zero x e = ap (λ (y : A). y ∷ xs) (some-same e)
     some-same e = cc e
 set-same {A} (z ∷ xs) (suc s) x e = ap (λ (ys : List A). z ∷ ys) (set-same xs s x e)
 
+pub same-place : (t s : ℕ) → (t ≡ s) ⊎ (t ≢ s)
+same-place t s = go (t == s) refl
+  where
+    go : (b : Bool) → (t == s) ≡ b → (t ≡ s) ⊎ (t ≢ s)
+    go true is = inl (eqb-true t s is)
+    go false is = inr (λ e. grind (arith, is, e))
+
 -- rows at a place become others
 pub taken-at : (fact : Fact) (old : Kept) (clock s : ℕ) (xs : List Rows) (given new : Rows)
     (result : Result (Unit {0}) AllocError) → record { clock = clock; lanes = xs } ≡ old → s ≡ place fact
     → slice_get xs s ≡ Some given → OnOk result (IsLaneAfter (place fact) clock fact given new)
-    → OnErr result (new ≡ given)
+    → OnErr result (IsLaneKept clock given new)
     → TakesAt fact old (record { clock = clock; lanes = set xs s new }) (slice_get old.lanes (place fact)) result
 taken-at fact old clock s xs given new result view at found ok err =
     rw (sym view, sym at, found) (go result (subst (λ p. OnOk result (IsLaneAfter p clock fact given new)) (sym at) ok) err)
   where
+    here : (t : ℕ) (an : AssociationNumber) → t ≡ s → IsLaneKept clock given new
+        → IsKeptRow clock (row_at xs t an) (row_at (set xs s new) t an)
+    here t an is kept =
+        subst (λ p. IsKeptRow clock (row_at xs p an) (row_at (set xs s new) p an)) (sym is)
+        (subst (λ (o : Option Rows). IsKeptRow clock (row_of o an) (row_at (set xs s new) s an)) (sym found)
+        (subst (λ (o : Option Rows). IsKeptRow clock (row_in given an) (row_of o an))
+        (sym (set-here xs s given new found)) (kept.rows_are an)))
+
+    there : (t : ℕ) (an : AssociationNumber) → t ≢ s
+        → IsKeptRow clock (row_at xs t an) (row_at (set xs s new) t an)
+    there t an apart =
+        subst (λ (o : Option Rows). IsKeptRow clock (row_at xs t an) (row_of o an)) (sym (set-others xs s t new apart))
+        (λ all by is. is)
+
+    all : (t : ℕ) (an : AssociationNumber) → IsLaneKept clock given new → (t ≡ s) ⊎ (t ≢ s)
+        → IsKeptRow clock (row_at xs t an) (row_at (set xs s new) t an)
+    all t an kept (inl is) = here t an is kept
+    all t an kept (inr apart) = there t an apart
+
     go : (result : Result (Unit {0}) AllocError) → OnOk result (IsLaneAfter s clock fact given new)
-        → OnErr result (new ≡ given)
+        → OnErr result (IsLaneKept clock given new)
         → TakesAt fact (record { clock = clock; lanes = xs }) (record { clock = clock; lanes = set xs s new })
         (Some given) result
     go (Ok done) lane none = record {
@@ -62,8 +89,7 @@ taken-at fact old clock s xs given new result view at found ok err =
       here = subst (λ p. slice_get (set xs s new) p ≡ Some new) at (set-here xs s given new found);
       others = λ t apart. set-others xs s t new (λ e. apart (e ∙ at));
     }
-    go (Err error) none same = record {
+    go (Err error) none kept = record {
       clock_is = refl;
-      rows_are = λ t an. ap (λ (ys : List Rows). row_at ys t an)
-          (ap (λ (x : Rows). set xs s x) same ∙ set-same xs s given found);
+      rows_are = λ t an. all t an kept (same-place t s);
     }

@@ -14,7 +14,7 @@ use Rattle.key_spans.specs.declared.span.Turn.TheVariants.{Ends, Begins, Relieve
 use Rattle.key_spans.specs.declared.span.Why.{Why}
 use Rattle.key_spans.specs.declared.span.Why.TheVariants as whys
 use Rattle.key_spans.specs.Spans.{clock_after, lived, opened, spans, spans_from, touched, turn_by, turned, relieved_at}
-use Rattle.key_spans.specs.Standing.{HasEnded}
+use Rattle.key_spans.specs.inside.Taking.{HasEnded}
 use Rattle.key_spans.specs.Times.{Transmits}
 use Rattle.key_spans.proofs.OneMore.{by_sum, ends, opens}
 use Rattle.key_spans.proofs.Apart.{Every, every-at}

@@ -1,5 +1,5 @@
 //! The spans of the keys that facts tell of: what each station held under each association number,
-//! from the install of a key to its end.
+//! from the install of a key to its end, in few columns of ticks.
 #![tactic(auto)]
 
 mod lane;
@@ -9,6 +9,5 @@ mod span;
 mod spans;
 
 pub use laws::{law_one_key_transmits, law_spans_do_not_overlap};
-pub use row::Row;
 pub use span::{End, Span, Why};
 pub use spans::Spans;

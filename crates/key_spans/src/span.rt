@@ -8,6 +8,7 @@ ghost use Rattle.key_spans.specs.Spans.{relieved_at, touched, turn_by};
 
 use lan_base::{AssociationNumber, KeyId};
 use lan_core::Fact;
+use tick_columns::Timed;
 
 /// Why a key is held no more.
 #[derive(Clone, Copy)]
@@ -56,6 +57,14 @@ pub enum Turn {
     Begins,
     /// Another key of its station begins to transmit.
     Relieves,
+}
+
+impl Timed for Span {
+    ghost time = { λ span. span.installed };
+
+    fn at(&self) -> u32 {
+        self.installed
+    }
 }
 
 impl Span {

@@ -4,18 +4,21 @@ ghost use Rattle.std.specs.Prelude.{◌≡◌, ◌++◌, ◌∷◌, ◌<◌, [],
 ghost use Rattle.std.specs.Option.{option_copied};
 ghost use Rattle.lan_core.specs.declared.fact.Fact.{Fact};
 ghost use Rattle.lan_core.specs.Run.{place};
-ghost use Rattle.key_spans.specs.Spans.{clock, spans};
-ghost use Rattle.key_spans.specs.Standing.{StandsFor, keys, shown};
-ghost use Rattle.key_spans.specs.inside.Taking.{IsReached, IsTaken, TakesAt};
+ghost use Rattle.key_spans.specs.Spans.{clock, clock_after, spans};
+ghost use Rattle.tick_columns.specs.Columns.{IsThinned};
+ghost use Rattle.key_spans.specs.Standing.{StandsFor, installed_at, shown};
+ghost use Rattle.key_spans.specs.inside.Taking.{IsKept, IsPlaced, IsReached, IsTaken, TakesAt};
 
 use crate::lane::Lane;
-use crate::row::Row;
+use crate::span::Span;
 use lan_base::AssociationNumber;
 use lan_core::Fact;
 use std::alloc::{AllocError, Global};
 use std::marker::Model;
+use tick_columns::Thinned;
 
-/// The spans of the facts so far. Contracts see the rows of all stations, and the clock.
+/// The spans of the facts so far: of each station and number the last one of each column of ticks, and
+/// how many came before it there. Contracts see the rows of all stations, and the clock.
 #[derive(Drop)]
 pub struct Spans {
     alloc: Global,
@@ -60,17 +63,10 @@ impl Spans {
         self.clock
     }
 
-    /// How many stations have rows: those of further places have none.
-    pub fn stations(&self) -> usize
-        ensures { result ≡ length self.now.lanes }
-    {
-        self.lanes.len()
-    }
-
-    /// The keys that a station held under a number, if it has rows.
-    pub fn row(&self, station: u8, number: AssociationNumber) -> Option<&Row>
+    /// The keys that a station held under a number, in few columns, if it has rows.
+    pub fn row(&self, station: u8, number: AssociationNumber) -> Option<&Thinned<Span>>
         ensures { (facts : List Fact) → StandsFor facts self.now
-            → keys (shown (option_copied result)) ≡ spans station number facts }
+            → IsThinned installed_at (spans station number facts) (shown (option_copied result)) }
     {
         Some(self.lanes.get(station as usize)?.row(number))
     }
@@ -78,27 +74,32 @@ impl Spans {
     /// A fact is taken.
     fn take_in(&mut self, fact: &Fact) -> Result<(), AllocError>
         ensures taken { OnOk result (IsTaken fact.now self.old self.new) }
-        ensures kept { OnErr result (IsReached self.old self.new) }
+        ensures kept { OnErr result (IsKept self.old self.new) }
+    {
+        self.make_place(fact)?;
+        self.take_at(fact)?;
+        self.tick(fact);
+        Ok(())
+    }
+
+    /// The station of a fact that installs a key has rows from now on.
+    fn make_place(&mut self, fact: &Fact) -> Result<(), AllocError>
+        ensures same { IsReached self.old self.new }
+        ensures there { OnOk result (IsPlaced fact.now self.new) }
     {
         match fact {
-            Fact::Ticked { station: 0, .. } => {
-                self.clock = self.clock.saturating_add(1);
-                Ok(())
-            }
-            Fact::Installed { station, .. } => {
-                self.reach(*station)?;
-                self.take_at(fact)
-            }
-            Fact::Life { .. } | Fact::Dropped { .. } | Fact::Retired { .. } | Fact::Began { .. } =>
-                { self.take_at(fact) }
-            Fact::Ticked { .. }
-            | Fact::Server { .. }
-            | Fact::Untaken { .. }
-            | Fact::Framed { .. }
-            | Fact::HeardMka { .. }
-            | Fact::Claimed { .. }
-            | Fact::Unclaimed { .. }
-            | Fact::Arrived { .. } => Ok(()),
+            Fact::Installed { station, .. } => self.reach(*station),
+            _ => Ok(()),
+        }
+    }
+
+    /// The clock goes on with a tick of the first station.
+    fn tick(&mut self, fact: &Fact)
+        ensures clock { self.new.clock ≡ clock_after self.old.clock fact.now }
+        ensures lanes { self.new.lanes ≡ self.old.lanes }
+    {
+        if let Fact::Ticked { station: 0, .. } = fact {
+            self.clock = self.clock.saturating_add(1);
         }
     }
 

@@ -1,11 +1,13 @@
 //! The bars of one station's keys.
 
-use crate::legend::{Legend, colour};
+use crate::legend::Legend;
 use crate::pieces::{Piece, put};
 use crate::scale::{Scale, Stretch};
+use crate::several::put_several;
 use key_spans::{End, Span, Spans, Why};
 use lan_base::AssociationNumber;
 use std::alloc::AllocError;
+use tick_columns::{Column, Thinned};
 
 /// How high a row is, in units.
 pub const ROW: u32 = 14;
@@ -24,15 +26,27 @@ pub fn put_rows(
         let middle = top.saturating_add(down);
         put_row_line(into, number, middle)?;
         if let Some(row) = spans.row(station, number) {
-            for span in row.earlier() {
-                put_bar(into, span, legend, scale, middle)?;
-            }
-            if let Some(span) = row.latest() {
-                put_bar(into, &span, legend, scale, middle)?;
-            }
+            put_bars(into, row, legend, scale, middle)?;
         }
     }
     Ok(())
+}
+
+/// Appends a bar for each column of a row in which a key was installed.
+fn put_bars(
+    into: &mut Vec<u8>,
+    row: &Thinned<Span>,
+    legend: &Legend,
+    scale: Scale,
+    middle: u32,
+) -> Result<(), AllocError> {
+    for column in row.earlier() {
+        put_bar(into, column, row.ticks(), legend, scale, middle)?;
+    }
+    match row.latest() {
+        Some(column) => put_bar(into, &column, row.ticks(), legend, scale, middle),
+        None => Ok(()),
+    }
 }
 
 /// Appends the line of a row, and its number.
@@ -55,29 +69,43 @@ fn put_row_line(
     )
 }
 
-/// Appends the bar of a key: thin while it is only received, thick while it transmits, and at its end
-/// a mark that says why.
+/// Appends the bar of a column's last key: thin while it is only received, thick while it transmits, and
+/// at its end a mark that says why.
 fn put_bar(
+    into: &mut Vec<u8>,
+    column: &Column<Span>,
+    ticks: u32,
+    legend: &Legend,
+    scale: Scale,
+    middle: u32,
+) -> Result<(), AllocError> {
+    let span = column.last;
+    put(
+        into,
+        &[
+            Piece::Text(b"<g class=\"key k"),
+            Piece::Number(legend.colour(span.id)),
+            Piece::Text(b"\"><title>"),
+        ],
+    )?;
+    put_several(into, column, ticks, b"keys")?;
+    put_title(into, &span)?;
+    put_shapes(into, &span, legend, scale, middle)?;
+    put(into, &[Piece::Text(b"</g>\n")])
+}
+
+/// Appends the shapes of a key's bar.
+fn put_shapes(
     into: &mut Vec<u8>,
     span: &Span,
     legend: &Legend,
     scale: Scale,
     middle: u32,
 ) -> Result<(), AllocError> {
-    let number = legend.number(span.id);
     let end = match span.ended {
         Some(end) => u64::from(end.at),
         None => scale.ticks(),
     };
-    put(
-        into,
-        &[
-            Piece::Text(b"<g class=\"key k"),
-            Piece::Number(colour(number)),
-            Piece::Text(b"\">"),
-        ],
-    )?;
-    put_title(into, span)?;
     let whole = scale.stretch(u64::from(span.installed), end);
     put_rect(into, b"thin", whole, u64::from(middle).saturating_sub(2), 4)?;
     if let Some(began) = span.began {
@@ -93,10 +121,9 @@ fn put_bar(
             u64::from(middle).saturating_sub(5),
             10,
         )?;
-        put_label(into, thick, number, middle)?;
+        put_label(into, thick, legend.number(span.id), middle)?;
     }
-    put_end(into, span.ended, whole, middle)?;
-    put(into, &[Piece::Text(b"</g>\n")])
+    put_end(into, span.ended, whole, middle)
 }
 
 /// Appends a rectangle.
@@ -130,13 +157,16 @@ fn put_rect(
     )
 }
 
-/// Appends the number of a key's identifier, where its bar has room for it.
+/// Appends the number of a key's identifier, where it has one and its bar has room for it.
 fn put_label(
     into: &mut Vec<u8>,
     across: Stretch,
-    number: u32,
+    number: Option<u32>,
     middle: u32,
 ) -> Result<(), AllocError> {
+    let Some(number) = number else {
+        return Ok(());
+    };
     if across.width < 140 {
         return Ok(());
     }
@@ -187,12 +217,12 @@ fn put_end(
     )
 }
 
-/// Appends the title of a key: its identifier, its epoch, and its times in ticks.
+/// Appends what ends the title of a key: its identifier, its epoch, and its times in ticks.
 fn put_title(into: &mut Vec<u8>, span: &Span) -> Result<(), AllocError> {
     put(
         into,
         &[
-            Piece::Text(b"<title>key "),
+            Piece::Text(b"key "),
             Piece::Number(u64::from(span.id.number)),
             Piece::Text(b" of "),
             Piece::Hex(&span.id.server.0),

@@ -2,12 +2,14 @@
 
 use crate::bars::{ROW, put_rows};
 use crate::counts::put_counts;
-use crate::history::{Birth, History, Service};
+use crate::history::{Birth, Service};
 use crate::pieces::{Piece, put};
 use crate::scale::Scale;
 use crate::scene::Scene;
+use crate::several::put_several;
 use lan_base::Name;
 use std::alloc::AllocError;
+use tick_columns::{Column, Thinned};
 
 /// How high a lane is, in units.
 pub const LANE: u32 = 122;
@@ -36,43 +38,49 @@ pub fn put_lane(
     let rows = top.saturating_add(6);
     put_rows(into, scene.spans(), scene.legend(), scale, station, rows)?;
     if let Some(history) = scene.history(station) {
-        put_births(into, history, scale, name, top)?;
+        put_births(into, history.births(), scale, name, top)?;
     }
     let counts = rows.saturating_add(4 * ROW + 2);
     put_counts(into, scene.columns(), scale, station, counts)
 }
 
-/// Appends a mark for each life of a station.
+/// Appends a mark for each column in which a life of a station begins.
 fn put_births(
     into: &mut Vec<u8>,
-    history: &History,
+    births: &Thinned<Birth>,
     scale: Scale,
     name: &Name,
     top: u32,
 ) -> Result<(), AllocError> {
-    for birth in history.births() {
-        put_birth(into, birth, scale, name, top)?;
+    for column in births.earlier() {
+        put_birth(into, column, births.ticks(), scale, name, top)?;
     }
-    Ok(())
+    match births.latest() {
+        Some(column) => put_birth(into, &column, births.ticks(), scale, name, top),
+        None => Ok(()),
+    }
 }
 
-/// Appends the mark of a life: a triangle, and a line down to what arrived.
+/// Appends the mark of a column's last life: a triangle, and a line down to what arrived.
 fn put_birth(
     into: &mut Vec<u8>,
-    birth: &Birth,
+    column: &Column<Birth>,
+    ticks: u32,
     scale: Scale,
     name: &Name,
     top: u32,
 ) -> Result<(), AllocError> {
+    let birth = column.last;
+    put(into, &[Piece::Text(b"<g><title>")])?;
+    put_several(into, column, ticks, b"lives")?;
     put(
         into,
         &[
-            Piece::Text(b"<g><title>"),
             Piece::Escaped(name.octets()),
             Piece::Text(b" begins the life "),
         ],
     )?;
-    put_life(into, *birth, scale.x(u64::from(birth.at)), top)
+    put_life(into, birth, scale.x(u64::from(birth.at)), top)
 }
 
 /// Appends what is left of the mark of a life, which lies at this place.
@@ -109,7 +117,7 @@ fn put_triangle(into: &mut Vec<u8>, x: u64, y: u64) -> Result<(), AllocError> {
 /// Appends the line of a station that served, whose top is so far down.
 pub fn put_services(
     into: &mut Vec<u8>,
-    services: &[Service],
+    services: &Thinned<Service>,
     scale: Scale,
     name: &Name,
     top: u32,
@@ -124,25 +132,30 @@ pub fn put_services(
             Piece::Text(b" serves</text>\n"),
         ],
     )?;
-    for service in services {
-        put_service(into, service, scale, name, top)?;
+    for column in services.earlier() {
+        put_service(into, column, services.ticks(), scale, name, top)?;
     }
-    Ok(())
+    match services.latest() {
+        Some(column) => put_service(into, &column, services.ticks(), scale, name, top),
+        None => Ok(()),
+    }
 }
 
-/// Appends one time in which a station served.
+/// Appends the last time of a column in which a station served.
 fn put_service(
     into: &mut Vec<u8>,
-    service: &Service,
+    column: &Column<Service>,
+    ticks: u32,
     scale: Scale,
     name: &Name,
     top: u32,
 ) -> Result<(), AllocError> {
-    let to = match service.to {
+    let from = u64::from(column.last.from);
+    let to = match column.last.to {
         Some(to) => u64::from(to),
         None => scale.ticks(),
     };
-    let across = scale.stretch(u64::from(service.from), to);
+    let across = scale.stretch(from, to);
     put(
         into,
         &[
@@ -153,9 +166,20 @@ fn put_service(
             Piece::Text(b"\" width=\""),
             Piece::Tenths(across.width),
             Piece::Text(b"\" height=\"5\"><title>"),
+        ],
+    )?;
+    put_several(into, column, ticks, b"times")?;
+    put_times(into, name, from, to)
+}
+
+/// Appends what ends the title of a time in which a station served, and its line.
+fn put_times(into: &mut Vec<u8>, name: &Name, from: u64, to: u64) -> Result<(), AllocError> {
+    put(
+        into,
+        &[
             Piece::Escaped(name.octets()),
             Piece::Text(b" serves, ticks "),
-            Piece::Number(u64::from(service.from)),
+            Piece::Number(from),
             Piece::Text(b" to "),
             Piece::Number(to),
             Piece::Text(b"</title></rect>\n"),

@@ -12,11 +12,13 @@ const MOST: usize = 40;
 /// How many stand side by side.
 const ABREAST: u64 = 4;
 
-/// The identifiers in the order of their first install, numbered from 1.
+/// The first identifiers in the order of their first install, numbered from 1, and how often keys of
+/// further ones were installed.
 #[derive(Drop)]
 pub struct Legend {
     numbers: BTreeMap<(Mi, u32), u32>,
     ids: Vec<KeyId>,
+    further: u64,
 }
 
 impl Legend {
@@ -25,12 +27,17 @@ impl Legend {
         Legend {
             numbers: BTreeMap::new(alloc),
             ids: Vec::new(alloc),
+            further: 0,
         }
     }
 
-    /// An identifier is seen.
+    /// A key of this identifier is installed.
     pub fn note(&mut self, id: KeyId) -> Result<(), AllocError> {
-        if self.numbers.get(&(id.server, id.number)).is_some() {
+        if self.number(id).is_some() {
+            return Ok(());
+        }
+        if self.ids.len() >= MOST {
+            self.further = self.further.saturating_add(1);
             return Ok(());
         }
         self.ids.push(id)?;
@@ -39,72 +46,67 @@ impl Legend {
         Ok(())
     }
 
-    /// The number of an identifier.
-    pub fn number(&self, id: KeyId) -> u32 {
-        self.numbers
-            .get(&(id.server, id.number))
-            .copied()
-            .unwrap_or(0)
+    /// The number of an identifier, where it is one of the first.
+    pub fn number(&self, id: KeyId) -> Option<u32> {
+        self.numbers.get(&(id.server, id.number)).copied()
+    }
+
+    /// The colour of an identifier: one at all stations.
+    pub fn colour(&self, id: KeyId) -> u64 {
+        u64::from(self.number(id).unwrap_or(id.number) % COLOURS)
     }
 
     /// How high the legend is, in units.
     pub fn height(&self) -> u64 {
-        let rows = self.shown().div_ceil(ABREAST as usize) as u64;
+        let rows = self.ids.len().div_ceil(ABREAST as usize) as u64;
         rows.saturating_mul(16).saturating_add(40)
-    }
-
-    /// How many identifiers it explains.
-    fn shown(&self) -> usize {
-        self.ids.len().min(MOST)
     }
 
     /// Appends the legend, whose top is so far down.
     pub fn draw(&self, into: &mut Vec<u8>, top: u64) -> Result<(), AllocError> {
         let mut place = 0u64;
-        for id in self.ids.iter().take(MOST) {
+        for id in &self.ids {
             let x = (place % ABREAST) * 270 + 20;
             let y = (place / ABREAST).saturating_mul(16).saturating_add(top);
             self.entry(into, *id, x, y)?;
             place = place.saturating_add(1);
         }
-        let more = self.ids.len().saturating_sub(MOST);
-        if more == 0 {
+        if self.further == 0 {
             return Ok(());
         }
         let y = top.saturating_add(self.height()).saturating_sub(32);
-        put_more(into, more as u64, y)
+        put_further(into, self.further, y)
     }
 
     /// Appends what explains one identifier.
     fn entry(&self, into: &mut Vec<u8>, id: KeyId, x: u64, y: u64) -> Result<(), AllocError> {
-        let number = self.number(id);
-        put_box(into, number, x, y)?;
-        put_label(into, number, x, y)?;
+        put_box(into, self.colour(id), x, y)?;
+        put_label(into, self.number(id).unwrap_or(0), x, y)?;
         put_identifier(into, id, x, y)
     }
 }
 
-/// Appends how many identifiers more there are than are explained.
-fn put_more(into: &mut Vec<u8>, more: u64, y: u64) -> Result<(), AllocError> {
+/// Appends how often keys of further identifiers were installed.
+fn put_further(into: &mut Vec<u8>, further: u64, y: u64) -> Result<(), AllocError> {
     put(
         into,
         &[
             Piece::Text(b"<text x=\"20\" y=\""),
             Piece::Number(y),
-            Piece::Text(b"\">and "),
-            Piece::Number(more),
-            Piece::Text(b" more keys</text>\n"),
+            Piece::Text(b"\">and keys of further identifiers, installed "),
+            Piece::Number(further),
+            Piece::Text(b" times</text>\n"),
         ],
     )
 }
 
 /// Appends the front of the coloured box of an identifier.
-fn put_box(into: &mut Vec<u8>, number: u32, x: u64, y: u64) -> Result<(), AllocError> {
+fn put_box(into: &mut Vec<u8>, colour: u64, x: u64, y: u64) -> Result<(), AllocError> {
     put(
         into,
         &[
             Piece::Text(b"<g class=\"k"),
-            Piece::Number(colour(number)),
+            Piece::Number(colour),
             Piece::Text(b"\"><rect class=\"thick\" x=\""),
             Piece::Number(x),
             Piece::Text(b"\" y=\""),
@@ -146,9 +148,4 @@ fn put_identifier(into: &mut Vec<u8>, id: KeyId, x: u64, y: u64) -> Result<(), A
             Piece::Text(b"</text>\n"),
         ],
     )
-}
-
-/// The colour of the identifier of a number: one at all stations.
-pub fn colour(number: u32) -> u64 {
-    u64::from(number % COLOURS)
 }

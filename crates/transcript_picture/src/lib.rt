@@ -14,6 +14,7 @@ mod legend;
 mod pieces;
 mod scale;
 mod scene;
+mod several;
 mod sheet;
 mod sketch;
 mod style;

@@ -86,7 +86,7 @@ fn served(scene: &Scene, names: &[Name]) -> u32 {
 /// Whether a station served.
 fn has_served(scene: &Scene, station: u8) -> bool {
     match scene.history(station) {
-        Some(history) => !history.services().is_empty(),
+        Some(history) => history.services().latest().is_some(),
         None => false,
     }
 }
@@ -102,7 +102,7 @@ fn put_all_services(
     let mut station = 0u8;
     for name in names {
         if let Some(history) = scene.history(station) {
-            if !history.services().is_empty() {
+            if history.services().latest().is_some() {
                 put_services(into, history.services(), scale, name, top)?;
                 top = top.saturating_add(SERVICE);
             }

@@ -1,59 +1,108 @@
 -- What one fact does to the rows.
-use Rattle.std.specs.Prelude.{ℕ, ◌≡◌, ◌≢◌, ◌∷◌, ◌++◌, true, List, [], slice_get, Option, Some, None, option_map, option_to_list, Result, Ok, Err, is_ok}
+use Rattle.std.specs.Prelude.{ℕ, ◌≡◌, ◌≢◌, ◌≤◌, ◌∷◌, ◌++◌, true, All, IsTrue, List, [], map, slice_get, is_some, Option, Some, None, Result, Ok, Err, is_ok}
 use Rattle.std.specs.declared.alloc.AllocError.{AllocError}
 use Rattle.lan_core.specs.Run.{place}
 use Rattle.lan_base.specs.declared.association_number.AssociationNumber.{AssociationNumber}
 use Rattle.lan_base.specs.declared.association_number.AssociationNumber.TheVariants.{An0, An1, An2, An3}
 use Rattle.lan_core.specs.declared.fact.Fact.{Fact}
+use Rattle.lan_core.specs.declared.fact.Fact.TheVariants as shows
+use Rattle.tick_columns.specs.Columns.{IsThinned, Kept as Columns}
 use Rattle.key_spans.specs.declared.span.Span.{Span}
 use Rattle.key_spans.specs.declared.span.Turn.{Turn}
 use Rattle.key_spans.specs.declared.span.Turn.TheVariants.{Ends}
 use Rattle.key_spans.specs.declared.span.Why.TheVariants.{Replaced}
 use Rattle.key_spans.specs.Spans.{clock_after, opened, touched, turn_by}
-use Rattle.key_spans.specs.Standing.{Keys, Kept, Rows, row_at, row_in}
+use Rattle.key_spans.specs.Standing.{Kept, Rows, installed_at, row_at, row_in}
 
--- the latest key is touched: those before it have ended
-abbrev pub touched_row : ℕ → Option Turn → Keys → Keys
-touched_row at t row = record row { latest = option_map (touched at t) row.latest }
+abbrev pub HasEnded : Span → Type 0
+HasEnded span = IsTrue (is_some span.ended)
 
--- a key comes, and the one before it ends
-abbrev pub grown_row : ℕ → Span → Keys → Keys
-grown_row at span row = record {
-  earlier = row.earlier ++ option_to_list (option_map (touched at (Some (Ends Replaced))) row.latest);
-  latest = Some span;
-}
+abbrev pub AllEnded : List Span → Type 0
+AllEnded [] = Unit {0}
+AllEnded (span ∷ later) = HasEnded span × AllEnded later
 
-abbrev pub with_opened : ℕ → List Span → Keys → Option Turn → Keys
-with_opened at [] row t = touched_row at t row
-with_opened at (span ∷ more) row t = grown_row at span row
+-- the spans of a row at a time: only the last one may be held, and none was installed later
+pub record AreBy (at : ℕ) (all : List Span) : Type 0 where
+  pub ended : (front : List Span) (last : Span) → all ≡ front ++ last ∷ [] → AllEnded front
+  pub times : All (λ span. span.installed ≤ at) all
+
+-- ---- one row, whatever spans it had
+
+abbrev pub IsKeptRow : ℕ → Columns Span → Columns Span → Type 0
+IsKeptRow at old new = (all : List Span) → AreBy at all → IsThinned installed_at all old
+    → IsThinned installed_at all new
+
+abbrev pub IsTouched : ℕ → Option Turn → Columns Span → Columns Span → Type 0
+IsTouched at t old new = (all : List Span) → AreBy at all → IsThinned installed_at all old
+    → IsThinned installed_at (map (touched at t) all) new
+
+-- a key came, and the one before it ended
+abbrev pub IsGrownRow : Span → Columns Span → Columns Span → Type 0
+IsGrownRow span old new = (all : List Span) → AreBy span.installed all → IsThinned installed_at all old
+    → IsThinned installed_at (map (touched span.installed (Some (Ends Replaced))) all ++ span ∷ []) new
+
+-- the last key is again what it was
+abbrev pub GivesBack : Option Span → Columns Span → Columns Span → Type 0
+GivesBack None old new = new ≡ old
+GivesBack (Some span) old new = (front : List Span) (last : Span)
+    → IsThinned installed_at (front ++ last ∷ []) old → span.installed ≡ last.installed
+    → IsThinned installed_at (front ++ span ∷ []) new
 
 -- the row of a station and number after a fact
-abbrev pub row_after : ℕ → AssociationNumber → ℕ → Fact → Keys → Keys
-row_after s an at fact row = with_opened at (opened s an at fact) row (turn_by s an fact)
+abbrev pub IsRowAfter : ℕ → AssociationNumber → ℕ → Fact → Columns Span → Columns Span → Type 0
+IsRowAfter s an at fact old new = (all : List Span) → AreBy at all → IsThinned installed_at all old
+    → IsThinned installed_at (map (touched at (turn_by s an fact)) all ++ opened s an at fact) new
+
+-- ---- the rows of one station
+
+-- the key that a fact installs at its station
+abbrev pub installs : ℕ → Fact → Option Span
+installs at (shows.Installed s id an epoch sak) = Some (record {
+  station = s;
+  number = an;
+  id = id;
+  epoch = epoch;
+  installed = at;
+  began = None;
+  relieved = None;
+  ended = None;
+})
+installs at _ = None
+
+pub record IsLaneAfter (s at : ℕ) (fact : Fact) (old new : Rows) : Type 0 where
+  pub rows_are : (an : AssociationNumber) → IsRowAfter s an at fact (row_in old an) (row_in new an)
+
+pub record IsLaneKept (at : ℕ) (old new : Rows) : Type 0 where
+  pub rows_are : (an : AssociationNumber) → IsKeptRow at (row_in old an) (row_in new an)
+
+-- what happened to the row of a number, and the others are as they were
+abbrev pub IsOnly : AssociationNumber → (Columns Span → Columns Span → Type 0) → Rows → Rows → Type 0
+IsOnly An0 P old new = P old.an0 new.an0 × (new ≡ record old { an0 = new.an0 })
+IsOnly An1 P old new = P old.an1 new.an1 × (new ≡ record old { an1 = new.an1 })
+IsOnly An2 P old new = P old.an2 new.an2 × (new ≡ record old { an2 = new.an2 })
+IsOnly An3 P old new = P old.an3 new.an3 × (new ≡ record old { an3 = new.an3 })
+
+-- ---- the rows of all stations
 
 pub record IsTaken (fact : Fact) (old new : Kept) : Type 0 where
   pub clock_is : new.clock ≡ clock_after old.clock fact
   pub rows_are : (s : ℕ) (an : AssociationNumber)
-      → row_at new.lanes s an ≡ row_after s an old.clock fact (row_at old.lanes s an)
-
--- the rows of station s after a fact that it shows
-pub record IsLaneAfter (s at : ℕ) (fact : Fact) (old new : Rows) : Type 0 where
-  pub rows_are : (an : AssociationNumber) → row_in new an ≡ row_after s an at fact (row_in old an)
-
--- a key came to the row of its number, and the others are as they were
-abbrev pub grown_rows : Span → Rows → AssociationNumber → Rows
-grown_rows span rows An0 = record rows { an0 = grown_row span.installed span rows.an0 }
-grown_rows span rows An1 = record rows { an1 = grown_row span.installed span rows.an1 }
-grown_rows span rows An2 = record rows { an2 = grown_row span.installed span rows.an2 }
-grown_rows span rows An3 = record rows { an3 = grown_row span.installed span rows.an3 }
-
-abbrev pub IsGrown : Span → Rows → Rows → Type 0
-IsGrown span old new = new ≡ grown_rows span old span.number
+      → IsRowAfter s an old.clock fact (row_at old.lanes s an) (row_at new.lanes s an)
 
 -- rows of nothing may have come
 pub record IsReached (old new : Kept) : Type 0 where
   pub clock_is : new.clock ≡ old.clock
   pub rows_are : (s : ℕ) (an : AssociationNumber) → row_at new.lanes s an ≡ row_at old.lanes s an
+
+-- a station without rows installs nothing
+abbrev pub IsPlaced : Fact → Kept → Type 0
+IsPlaced fact kept = slice_get kept.lanes (place fact) ≡ None → installs 0 fact ≡ None
+
+-- the spans are those of before
+pub record IsKept (old new : Kept) : Type 0 where
+  pub clock_is : new.clock ≡ old.clock
+  pub rows_are : (s : ℕ) (an : AssociationNumber)
+      → IsKeptRow old.clock (row_at old.lanes s an) (row_at new.lanes s an)
 
 -- the rows of the station that shows a fact became those after it, and the others are as they were
 pub record IsTakenAt (fact : Fact) (old new : Kept) (rows : Rows) : Type 0 where
@@ -66,4 +115,4 @@ pub record IsTakenAt (fact : Fact) (old new : Kept) (rows : Rows) : Type 0 where
 abbrev pub TakesAt : Fact → Kept → Kept → Option Rows → Result (Unit {0}) AllocError → Type 0
 TakesAt fact old new None result = (new ≡ old) × (is_ok result ≡ true)
 TakesAt fact old new (Some rows) (Ok done) = IsTakenAt fact old new rows
-TakesAt fact old new (Some rows) (Err error) = IsReached old new
+TakesAt fact old new (Some rows) (Err error) = IsKept old new

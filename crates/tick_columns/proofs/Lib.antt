@@ -1,0 +1,3 @@
+mod Cut
+mod Kept
+mod Examples
