@@ -2,6 +2,7 @@
 pub mod Twins
 pub mod Sends
 pub mod Legals
+mod Thrifts
 pub mod Refusals
 pub mod Overs
 pub mod Merges

@@ -4,7 +4,7 @@ ghost use Rattle.std.specs.Prelude.{◌≡◌, ◌∷◌, ℕ, List, false, Cont
 ghost use Rattle.lan_base.specs.declared.frame.UserFrame.{UserFrame};
 ghost use Rattle.lan_core.specs.declared.settings.Settings.{Settings};
 ghost use Rattle.lan_core.specs.Run.{Run, facts_of};
-ghost use Rattle.lan_core.specs.Legal.{IsStepped, IsLegal};
+ghost use Rattle.lan_core.specs.Legal.{IsStepped, IsLegal, IsThrifty};
 ghost use Rattle.lan_core.specs.Fresh.{IsFresh, IsUnforged};
 ghost use Rattle.group_safety.specs.Once.{OneKey};
 ghost use Rattle.group_safety.specs.Hitless.{Hitless};
@@ -21,15 +21,17 @@ ghost use Rattle.lan_core.specs.declared.fact.Fact.TheVariants as facts;
 ghost use Rattle.lan_core.specs.declared.fact.Lack.{Lack};
 
 use group_safety::{law_drawn, law_hitless, law_once, law_one_key};
-use lan_core::law_a_step_keeps_a_run_legal;
+use lan_core::{law_a_step_keeps_a_run_legal, law_next_numbers_keep_a_run_thrifty};
 
-/// The run of each group in a twin run is legal, and unforged. It is fresh where those of both
+/// The run of each group in a twin run is legal, thrifty and unforged. It is fresh where those of both
 /// groups are together.
 pub fn law_group_runs_are_sound()
     ensures legal { (pair : Pair) (users : List UserFrame) (t : Twin) (g : GroupNumber)
         → IsTwinRun pair users t → IsLegal (setting_of pair g) users (run_of g t) }
     ensures stepped { (pair : Pair) (users : List UserFrame) (t : Twin) (g : GroupNumber)
         → IsTwinRun pair users t → IsStepped (setting_of pair g) users (run_of g t) }
+    ensures thrifty { (pair : Pair) (users : List UserFrame) (t : Twin) (g : GroupNumber)
+        → IsTwinRun pair users t → IsThrifty (setting_of pair g) (run_of g t) }
     ensures unforged { (pair : Pair) (users : List UserFrame) (t : Twin) (g : GroupNumber)
         → IsTwinRun pair users t → IsUnforged (setting_of pair g) (run_of g t) }
     ensures both { (t : Twin) → IsFresh (merged t) → AreFresh (run_of First t) (run_of Second t) }
@@ -37,6 +39,7 @@ pub fn law_group_runs_are_sound()
         → IsFresh (run_of g t) }
 {
     law_a_step_keeps_a_run_legal();
+    law_next_numbers_keep_a_run_thrifty();
 }
 
 /// No two claims of two runs together agree in SAK, SCI and packet number, where what both drew
