@@ -1,3 +1,4 @@
 pub mod Mkpdus
+pub mod Spoken
 pub mod Standing
 pub mod inside
