@@ -1,0 +1,9 @@
+mod Ties
+mod Puts
+mod Steps
+mod Walks
+mod Lateness
+mod Telling
+mod Listing
+mod Results
+mod Examples

@@ -1,0 +1,30 @@
+use Rattle.std.proofs.Common.{sym, subst}
+use Rattle.rollover_notes.specs.Standing.{Kept, StandsFor}
+use Rattle.rollover_notes.proofs.Steps.{used}
+use Rattle.rollover_notes.proofs.Telling.{counts-told, late-told}
+use Rattle.rollover_notes.proofs.Results.{on_ok}
+use Rattle.rollover_notes.proofs.notes.RolloverNotes.see.Goals as goal
+
+pub returns : goal.returns
+returns c = λ h stands.
+    let old : Kept = record {
+      ids = c.self.inside.givings.ids.entries;
+      groups = c.self.inside.givings.groups.keys;
+      order = c.self.inside.givings.order.items;
+      packets = c.self.inside.reports.packets.entries;
+      times = c.self.inside.reports.times.entries;
+      said = c.self.inside.speakers.said.entries;
+      speakers = c.self.inside.speakers.last.entries;
+      unready = c.self.inside.unready.entries;
+      late = c.self.inside.late.entries;
+    } in
+    let frame = c.args.frame.now in
+    let stood : StandsFor h old = subst (λ (k : Kept). StandsFor h k) (sym c.self.view_is) stands in
+    let counts = c.tell.new.counts.entries in
+    let told = c.in_ok-is_late.ensures in
+    on_ok c.count_late.result
+    (λ more. used h old stood frame c.in_ok-is_late.is_late counts c.count_late.new.counts.entries
+    (counts-told h old stood frame old.unready counts c.in_ok-is_late.is_late told stood.unready)
+    (late-told h old stood frame old.unready counts c.in_ok-is_late.is_late told stood.unready)
+    more)
+    c.count_late.ensures
