@@ -1,6 +1,7 @@
 mod Ties
 mod Puts
 mod Steps
+mod Views
 mod Walks
 mod Lateness
 mod Telling
