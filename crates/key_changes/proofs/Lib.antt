@@ -1,0 +1,6 @@
+mod First
+mod Passing
+mod Putting
+mod Listing
+mod Examples
+pub mod Public

@@ -1,0 +1,3 @@
+-- What serves private functions alone.
+pub mod Passing
+pub mod Putting
