@@ -53,16 +53,16 @@ split_words first [] f o = ap (slice_split is_space) (append-nil first) ∙ slic
 split_words first (word ∷ others) f o =
     slice_split_at is_space first 32 (word ++ spaced others) f refl ∙ ap (λ ws. first ∷ ws) (split_words word others o.0 o.1)
 
-no_feed : (others : List (List ℕ)) → AllLack 10 others → Lacks 10 (spaced others)
-no_feed [] o = All-nil (λ octet. is_feed octet ≡ false)
-no_feed (word ∷ others) o =
-    All-cons (λ octet. is_feed octet ≡ false) 32 (word ++ spaced others) refl
-    (All-append (λ octet. is_feed octet ≡ false) word (spaced others) o.0 (no_feed others o.1))
+spaced_lacks : (c : ℕ) → (32 == c) ≡ false → (others : List (List ℕ)) → AllLack c others → Lacks c (spaced others)
+spaced_lacks c apart [] o = All-nil (λ octet. (octet == c) ≡ false)
+spaced_lacks c apart (word ∷ others) o =
+    All-cons (λ octet. (octet == c) ≡ false) 32 (word ++ spaced others) apart
+    (All-append (λ octet. (octet == c) ≡ false) word (spaced others) o.0 (spaced_lacks c apart others o.1))
 
-pub joined_lacks : (ws : List (List ℕ)) → AllLack 10 ws → Lacks 10 (joined ws)
-joined_lacks [] o = All-nil (λ octet. is_feed octet ≡ false)
-joined_lacks (word ∷ others) o =
-    All-append (λ octet. is_feed octet ≡ false) word (spaced others) o.0 (no_feed others o.1)
+joined_lacks : (c : ℕ) → (32 == c) ≡ false → (ws : List (List ℕ)) → AllLack c ws → Lacks c (joined ws)
+joined_lacks c apart [] o = All-nil (λ octet. (octet == c) ≡ false)
+joined_lacks c apart (word ∷ others) o =
+    All-append (λ octet. (octet == c) ≡ false) word (spaced others) o.0 (spaced_lacks c apart others o.1)
 
 pub joined_splits : (word : List ℕ) (ws : List (List ℕ)) → AllLack 32 (word ∷ ws) → slice_split is_space (joined (word ∷ ws)) ≡ word ∷ ws
 joined_splits word ws o = split_words word ws o.0 o.1
@@ -162,9 +162,16 @@ pub line_told : (names : List (List ℕ)) (fact : Fact) → All IsName names →
 line_told names fact named d fit =
     ap (along names fact_tree) (line_words names fact named fit) ∙ fact_told names fact d fit
 
-line_lacks : (names : List (List ℕ)) (fact : Fact) → All IsName names → IsFact names fact → Lacks 10 (line names fact)
+-- a line has no line feed and no carriage return in it
+pub line_lacks : (names : List (List ℕ)) (fact : Fact) → All IsName names → IsFact names fact → Lacks 10 (line names fact)
 unfolding line
-line_lacks names fact named fit = joined_lacks (map (spelled names) (words fact)) (all_plain 10 names fact refl refl refl refl named fit)
+line_lacks names fact named fit =
+    joined_lacks 10 refl (map (spelled names) (words fact)) (all_plain 10 names fact refl refl refl refl named fit)
+
+pub line_returns_never : (names : List (List ℕ)) (fact : Fact) → All IsName names → IsFact names fact → Lacks 13 (line names fact)
+unfolding line
+line_returns_never names fact named fit =
+    joined_lacks 13 refl (map (spelled names) (words fact)) (all_plain 13 names fact refl refl refl refl named fit)
 
 abbrev onto : Option Fact → List Fact → List Fact
 onto None facts = facts

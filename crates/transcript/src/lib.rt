@@ -13,7 +13,7 @@ mod spelling;
 mod words;
 
 pub use fault::FactError;
-pub use laws::{law_a_line_is_one_fact, law_cut, law_texts_differ};
+pub use laws::{law_a_line_is_one_fact, law_cut, law_no_fact_ends_a_line, law_texts_differ};
 pub use reader::Reader;
 pub use reading::read_fact;
 pub use rendering::render;

@@ -7,6 +7,7 @@ mod Steps
 mod Clean
 mod Passing
 mod AllFit
+mod TextLines
 mod Lines
 mod OneRefusal
 mod Reached

@@ -1,6 +1,6 @@
 //! What is judged of the transcripts of runs.
 
-ghost use Rattle.std.specs.Prelude.{ℕ, ◌≡◌, [], List, map, None};
+ghost use Rattle.std.specs.Prelude.{ℕ, ◌≡◌, [], List, None};
 ghost use Rattle.std.specs.List.{All};
 ghost use Rattle.lan_base.specs.declared.frame.UserFrame.{UserFrame};
 ghost use Rattle.lan_core.specs.declared.settings.Settings.{Settings};
@@ -8,7 +8,8 @@ ghost use Rattle.lan_core.specs.Fresh.{IsFresh, IsUnforged};
 ghost use Rattle.lan_core.specs.Legal.{IsLegal, IsStepped};
 ghost use Rattle.lan_core.specs.Places.{names};
 ghost use Rattle.lan_core.specs.Run.{Run, facts_of};
-ghost use Rattle.transcript.specs.Rendering.{line, IsFact};
+ghost use Rattle.text_lines.specs.Texts.{lines_of};
+ghost use Rattle.transcript.specs.Rendering.{transcript, IsFact};
 ghost use Rattle.transcript_check.specs.declared.fault.CheckFault.{CheckFault};
 ghost use Rattle.least_pairs.specs.Pairs.{IsJudged};
 ghost use Rattle.transcript_check.specs.Judged.{BreaksOnce, BreaksOneKey};
@@ -22,15 +23,16 @@ use lan_core::{
     law_stations_have_their_names,
 };
 use transcript::{
-    law_a_line_is_one_fact, law_more_names_change_no_line, law_typed_facts_have_lines,
+    law_a_line_is_one_fact, law_more_names_change_no_line, law_no_fact_ends_a_line,
+    law_typed_facts_have_lines,
 };
 
-/// Of the lines of every run that is legal, fresh and unforged, none is refused, and no pair of its
-/// facts breaks what is judged. A run has at most 16 stations, so that each of them is named.
+/// Of the transcript of every run that is legal, fresh and unforged, no line is refused, and no pair of
+/// its facts breaks what is judged. A run has at most 16 stations, so that each of them is named.
 pub fn law_clean()
     ensures lines { (settings : Settings) (users : List UserFrame) (r : Run)
         → IsLegal settings users r → IsFresh r → IsUnforged settings r
-        → AreTaken [] [] (map (line (names r)) (facts_of r)) (names r) (facts_of r) }
+        → AreTaken [] [] (lines_of (transcript (names r) (facts_of r))) (names r) (facts_of r) }
     ensures once { (settings : Settings) (users : List UserFrame) (r : Run)
         → IsLegal settings users r → IsFresh r → IsUnforged settings r
         → IsJudged (BreaksOnce (facts_of r)) None }
@@ -48,6 +50,7 @@ pub fn law_clean()
     law_fronts_of_unforged_runs_are_unforged();
     law_stations_have_their_names();
     law_more_names_change_no_line();
+    law_no_fact_ends_a_line();
     law_typed_facts_have_lines();
 }
 

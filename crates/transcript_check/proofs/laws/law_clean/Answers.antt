@@ -1,6 +1,11 @@
-use Rattle.std.proofs.Common.{List, ◌∷◌, []}
+use Rattle.std.proofs.Common.{List, ◌∷◌, [], sym, subst}
 use Rattle.lan_base.specs.declared.frame.UserFrame.{UserFrame}
 use Rattle.lan_core.specs.declared.settings.Settings.{Settings}
+use Rattle.lan_core.specs.Places.{names}
+use Rattle.lan_core.specs.Run.{facts_of}
+use Rattle.transcript_check.specs.Standing.{AreTaken}
+use Rattle.transcript_check.proofs.AllFit.{all-fit}
+use Rattle.transcript_check.proofs.TextLines.{lines-of-transcript}
 use Rattle.transcript_check.proofs.Clean.{no-use-pair, no-key-pair, counted-differ}
 use Rattle.transcript_check.proofs.Passing.{Laws, run-passes}
 use Rattle.transcript_check.proofs.laws.law_clean.Goals as goal
@@ -8,7 +13,16 @@ use Rattle.transcript_check.proofs.laws.law_clean.Goals as goal
 pub returns : goal.returns
 returns c = record {
   lines = λ settings users r legal fresh honest.
-      run-passes settings users (laws settings users) r legal.stepped fresh honest;
+      let named = c.law_stations_have_their_names.ensures settings users r legal.stepped in
+      let fit = all-fit c.law_typed_facts_have_lines.ensures settings users r legal.stepped
+      (c.law_facts_are_typed.ensures settings users r legal.stepped)
+      (c.law_facts_have_their_stations.ensures.all settings users r legal.stepped) in
+      subst (λ ls. AreTaken [] [] ls (names r) (facts_of r))
+      (sym (lines-of-transcript (record {
+        feeds = c.law_no_fact_ends_a_line.ensures.feeds_never;
+        returns = c.law_no_fact_ends_a_line.ensures.returns_never;
+      }) (names r) named.0 (facts_of r) fit))
+      (run-passes settings users (laws settings users) r legal.stepped fresh honest);
   once = λ settings users r legal fresh honest.
       no-use-pair r (c.law_once.ensures.legal settings users r legal fresh honest)
       (counted-differ _ (c.law_epochs_count.ensures.counted settings users r legal.stepped));
