@@ -6,7 +6,7 @@ use Rattle.std.proofs.Common.{◌≡◌, ◌*◌, ℕ, true, false, List, [], �
 use Rattle.aes_block.specs.declared.secret.Secret.{Secret}
 use Rattle.aes_block.specs.declared.secret.Secret.TheVariants.{S128, S256}
 use Rattle.capture_packets.specs.declared.fault.CaptureFault.TheVariants as faults
-use Rattle.gcm_frames.specs.Tags.{tag_fields}
+use Rattle.gcm_frames.specs.Tags.{tag_in}
 use Rattle.gcm_frames.specs.declared.tag.TagRefusal.TheVariants as tags
 use Rattle.key_ring.specs.declared.ring.HandKey.{HandKey}
 use Rattle.known_keys.specs.declared.gives.Gives.{Gives}
@@ -18,6 +18,8 @@ use Rattle.lan_base.specs.declared.address.Mi.{Mi}
 use Rattle.lan_base.specs.declared.address.Sci.{Sci}
 use Rattle.lan_base.specs.declared.association_number.AssociationNumber.TheVariants.{An0, An3}
 use Rattle.lan_base.specs.declared.key_id.KeyId.{KeyId}
+use Rattle.member_notes.specs.Facts.{times}
+use Rattle.member_notes.specs.declared.facts.Member.{Member}
 use Rattle.member_notes.specs.declared.novelty.MkpduNovelty.TheVariants as mkpdus
 use Rattle.mkpdu_codec.specs.declared.offset.ConfidentialityOffset.TheVariants as offsets
 use Rattle.packet_verdicts.specs.declared.kind.Kind.TheVariants as kinds
@@ -25,6 +27,7 @@ use Rattle.packet_verdicts.specs.declared.kind.Malformed.TheVariants.{Long, Refu
 use Rattle.packet_verdicts.specs.declared.kind.Mka.TheVariants as mkas
 use Rattle.packet_verdicts.specs.declared.kind.Sec.TheVariants as secs
 use Rattle.use_notes.specs.declared.frame.RightFrame.{RightFrame}
+use Rattle.use_notes.specs.declared.notes.Use.{Use}
 use Rattle.use_notes.specs.Frames.{novelty_in}
 use Rattle.use_notes.specs.Once.{first_reuse}
 use Rattle.use_notes.specs.Uses.{counts_of}
@@ -37,7 +40,8 @@ use Rattle.audit_report.specs.Told.{Told}
 use Rattle.audit_report.specs.Lines.{set_lines}
 use Rattle.audit_report.specs.Packets.{begun_words, event_lines, finding_lines, handed_lines}
 use Rattle.audit_report.specs.Tallies.{tally_of}
-use Rattle.audit_report.specs.Verdicts.{Verdict, one_key_line, use_line}
+use Rattle.audit_report.specs.Uses.{use_line}
+use Rattle.audit_report.specs.Verdicts.{Verdict, one_key_line}
 use Rattle.audit_report.specs.Report.{packet_lines, read_line, report}
 
 -- each with its line feed
@@ -94,13 +98,35 @@ frame n check time = record {
 abbrev told_frame : RightFrame → List RightFrame → Told
 told_frame f before = told [] (findings.RightFrame f (novelty_in before f))
 
+-- the member of all MKPDUs, of which the fifth gives the key
+abbrev told_of_m1 : Member
+told_of_m1 = record {
+  group = 1;
+  mi = m1;
+  counts = record {
+    sci = a;
+    mkpdus = 9;
+    again = 0;
+    given = 1;
+    fell = times [];
+    servers = times [];
+    returned = times [];
+    high = times [];
+  };
+}
+
 -- what is judged where the frames are all of one key and sender
 abbrev judged : List RightFrame → Verdict
-judged fs = record {
-  once = first_reuse fs;
-  one_key = None;
-  uses = record { key = 1; sci = a; counts = counts_of fs } ∷ [];
-}
+judged fs =
+    let noted : Use = record { key = 1; sci = a; counts = counts_of fs } in record {
+      once = first_reuse fs;
+      one_key = None;
+      uses = noted ∷ [];
+      timed = record { noted = noted; late = 0 } ∷ [];
+      changes = [];
+      unready = [];
+      members = told_of_m1 ∷ [];
+    }
 
 one_frame : report false [] (told_frame (frame 10 4 60) [] ∷ agreed) (judged (frame 10 4 60 ∷ [])) endings.Whole
     ≡ texts (codes "packet 5 key 1 group 1 ki 000000000000000000000001 1 an 0 suite 128 offset 1 sak 00000000000000000000000000000003"
@@ -111,9 +137,12 @@ one_frame : report false [] (told_frame (frame 10 4 60) [] ∷ agreed) (judged (
     ∷ codes "undecided suite 0 offset 0 unseen 0 ckn 0 nokey 0"
     ∷ codes "malformed version 0 mode 0 short 0 slwrong 0 long 0"
     ∷ codes "use 1 02000000000a0001 frames 1 pn 1 1 packets 10 10 repeated 0 0 reused 0 fell 0 window 0 clear 0 late 0"
+    ∷ codes "member 1 000000000000000000000001 sci 02000000000a0001 mkpdus 9 again 0 given 1 fell 0 0 servers 0 0 returned 0 0 high 0 0"
     ∷ codes "once ok 1 of 1"
     ∷ codes "onekey ok 1 of 1"
-    ∷ codes "order fell 0 window 0 high 0" ∷ [])
+    ∷ codes "order fell 0 window 0 high 0"
+    ∷ codes "rollover changes 0 early 0 joining 0 late 0"
+    ∷ codes "mka members 1 scis 1 fell 0 servers 0 returned 0 high 0" ∷ [])
 unfolding digits encode_with
 one_frame = refl
 
@@ -129,20 +158,23 @@ reused : report false [] (told_frame (frame 11 5 61) (frame 10 4 60 ∷ []) ∷ 
     ∷ codes "undecided suite 0 offset 0 unseen 0 ckn 0 nokey 0"
     ∷ codes "malformed version 0 mode 0 short 0 slwrong 0 long 0"
     ∷ codes "use 1 02000000000a0001 frames 2 pn 1 1 packets 10 11 repeated 0 0 reused 1 fell 0 window 0 clear 0 late 0"
+    ∷ codes "member 1 000000000000000000000001 sci 02000000000a0001 mkpdus 9 again 0 given 1 fell 0 0 servers 0 0 returned 0 0 high 0 0"
     ∷ codes "once broken 10 11"
     ∷ codes "onekey ok 1 of 1"
-    ∷ codes "order fell 0 window 0 high 0" ∷ [])
+    ∷ codes "order fell 0 window 0 high 0"
+    ∷ codes "rollover changes 0 early 0 joining 0 late 0"
+    ∷ codes "mka members 1 scis 1 fell 0 servers 0 returned 0 high 0" ∷ [])
 unfolding digits encode_with
 reused = refl
 
 -- the frame once more, 0.1 s later
-repeated : use_line (record { key = 1; sci = a; counts = counts_of (frame 11 4 61 ∷ frame 10 4 60 ∷ []) })
+repeated : use_line (record { key = 1; sci = a; counts = counts_of (frame 11 4 61 ∷ frame 10 4 60 ∷ []) }) 0
     ≡ texts (codes "use 1 02000000000a0001 frames 2 pn 1 1 packets 10 10 repeated 1 100 reused 0 fell 0 window 0 clear 0 late 0" ∷ [])
 unfolding digits encode_with
 repeated = refl
 
 -- without its last octet
-cut_off : report false [] agreed (record { once = None; one_key = None; uses = [] }) (endings.Octet 1146 faults.Cut)
+cut_off : report false [] agreed (record (judged []) { uses = []; timed = [] }) (endings.Octet 1146 faults.Cut)
     ≡ texts (codes "packet 5 key 1 group 1 ki 000000000000000000000001 1 an 0 suite 128 offset 1 sak 00000000000000000000000000000003"
     ∷ codes "read 9 octet 1146 Cut"
     ∷ codes "packets mka 9 sec 0 other 0 foreign 0 untimed 0"
@@ -150,9 +182,12 @@ cut_off : report false [] agreed (record { once = None; one_key = None; uses = [
     ∷ codes "sec right 0 wrong 0 undecided 0 malformed 0 cut 0"
     ∷ codes "undecided suite 0 offset 0 unseen 0 ckn 0 nokey 0"
     ∷ codes "malformed version 0 mode 0 short 0 slwrong 0 long 0"
+    ∷ codes "member 1 000000000000000000000001 sci 02000000000a0001 mkpdus 9 again 0 given 1 fell 0 0 servers 0 0 returned 0 0 high 0 0"
     ∷ codes "once ok 0 of 0"
     ∷ codes "onekey ok 1 of 1"
-    ∷ codes "order fell 0 window 0 high 0" ∷ [])
+    ∷ codes "order fell 0 window 0 high 0"
+    ∷ codes "rollover changes 0 early 0 joining 0 late 0"
+    ∷ codes "mka members 1 scis 1 fell 0 servers 0 returned 0 high 0" ∷ [])
 unfolding digits encode_with
 cut_off = refl
 
@@ -204,7 +239,7 @@ various =
 shown : packet_lines true various
     ≡ texts (codes "packet 1 other" ∷ codes "packet 2 mka cut" ∷ codes "packet 3 sec cut"
     ∷ codes "packet 4 sec malformed short" ∷ codes "packet 5 sec malformed long" ∷ codes "packet 6 foreign" ∷ [])
-unfolding digits tag_fields
+unfolding digits
 shown = refl
 
 not_shown : packet_lines false various ≡ []
@@ -242,9 +277,9 @@ counted = refl
 abbrev open_words : List (List ℕ)
 open_words = codes "sec" ∷ codes "02000000000a0001" ∷ codes "an" ∷ codes "0" ∷ codes "pn" ∷ codes "1" ∷ codes "conf" ∷ codes "1" ∷ []
 
--- of any frame that isn't cut and not too long
-says_its_tag : begun_words sealed (kinds.Sec (secs.Malformed (Refused tags.Short))) ≡ open_words
-unfolding digits encode_with tag_fields
+-- by the fields by which it is judged
+says_its_tag : begun_words sealed (kinds.Sec (secs.Protected (tag_in sealed) (replicate 16 7))) ≡ open_words
+unfolding digits encode_with
 says_its_tag = refl
 
 undecided : finding_lines true 1 open_words (findings.Undecided NoKey)

@@ -1,2 +1,6 @@
 pub mod Appending
+mod Adding
 mod Examples
+mod MemberExamples
+mod ReadinessExamples
+mod VerdictExamples

@@ -4,7 +4,7 @@ use Rattle.std.specs.Prelude.{ℕ, Bool, if◌then◌else◌, List, [], ◌∷�
 use Rattle.hex.specs.Hex.{encode_lower}
 use Rattle.aes_block.specs.Secrets.{secret_octets}
 use Rattle.aes_block.specs.declared.secret.Secret.{Secret}
-use Rattle.capture_file.specs.Describing.{packet_words}
+use Rattle.capture_file.specs.Describing.{malformed_words, packet_words, tag_words}
 use Rattle.known_keys.specs.declared.gives.Gives.{Gives}
 use Rattle.known_keys.specs.declared.giving.NoSak.{NoSak}
 use Rattle.known_keys.specs.declared.giving.NoSak.TheVariants.{OtherSuite, WrongWrap}
@@ -19,7 +19,7 @@ use Rattle.mkpdu_codec.specs.declared.offset.ConfidentialityOffset.{Confidential
 use Rattle.mkpdu_codec.specs.Offsets.{offset_bits}
 use Rattle.packet_verdicts.specs.declared.kind.Kind.{Kind}
 use Rattle.packet_verdicts.specs.declared.kind.Kind.TheVariants as kinds
-use Rattle.packet_verdicts.specs.declared.kind.Malformed.TheVariants.{Long}
+use Rattle.packet_verdicts.specs.declared.kind.Malformed.TheVariants.{Long, Refused}
 use Rattle.packet_verdicts.specs.declared.kind.Mka.TheVariants as mkas
 use Rattle.packet_verdicts.specs.declared.kind.Sec.TheVariants as secs
 use Rattle.trace_text.specs.Words.{spaced}
@@ -34,13 +34,16 @@ use Rattle.audit_report.specs.Lines.{packet_line, suite_of}
 
 -- ---- what its line begins with
 
--- what a frame without its tags says of itself, or why a packet of this kind isn't told by that
+-- what a frame without its tags says of itself, or why a packet of this kind isn't told by that. Of a
+-- protected frame that are the fields by which it is judged, whose SCI may be implied.
 abbrev pub begun_words : List ℕ → Kind → List (List ℕ)
 begun_words frame kinds.Foreign = codes "foreign" ∷ []
 begun_words frame (kinds.Sec secs.Cut) = codes "sec" ∷ codes "cut" ∷ []
 begun_words frame (kinds.Mka mkas.Cut) = codes "mka" ∷ codes "cut" ∷ []
 begun_words frame (kinds.Sec (secs.Malformed Long)) =
     codes "sec" ∷ codes "malformed" ∷ codes "long" ∷ []
+begun_words frame (kinds.Sec (secs.Malformed (Refused why))) = malformed_words why
+begun_words frame (kinds.Sec (secs.Protected tag check)) = tag_words tag
 begun_words frame _ = packet_words frame
 
 -- the line of a packet before it is judged

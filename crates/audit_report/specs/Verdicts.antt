@@ -1,42 +1,39 @@
 -- What is judged of packets, and its lines.
-use Rattle.std.specs.Prelude.{ℕ, ◌||◌, Bool, List, [], ◌∷◌, ◌++◌, flat_map, codes, decimal, Option, Some, None}
+use Rattle.std.specs.Prelude.{ℕ, ◌||◌, Bool, List, [], ◌∷◌, ◌++◌, length, codes, decimal, Option, Some, None}
 use Rattle.std.specs.Option.{is_some}
-use Rattle.hex.specs.Hex.{encode_lower}
-use Rattle.use_notes.specs.declared.counts.Counts.{Counts}
+use Rattle.key_changes.specs.declared.change.Change.{Change}
+use Rattle.member_notes.specs.Facts.{sums_of as member_sums}
+use Rattle.member_notes.specs.declared.facts.Member.{Member}
+use Rattle.rollover_notes.specs.declared.unready.Unready.{Unready}
 use Rattle.use_notes.specs.declared.notes.Use.{Use}
 use Rattle.use_notes.specs.declared.order.Order.{Order}
 use Rattle.use_notes.specs.Uses.{order_of}
 use Rattle.audit_report.specs.declared.tally.Tally.{Tally}
+use Rattle.audit_report.specs.declared.uses.TimedUse.{TimedUse}
+use Rattle.audit_report.specs.Changes.{change_lines}
 use Rattle.audit_report.specs.Lines.{counts_line, line_of}
+use Rattle.audit_report.specs.Members.{member_lines, sums_line}
+use Rattle.audit_report.specs.Readiness.{rollover_line, sums_of, unready_lines}
+use Rattle.audit_report.specs.Uses.{timed_lines}
 
--- the least pair that uses a packet number twice under a key, the least that breaks one key under each
--- identifier, and what is told of each key and sender
+-- The least pair that uses a packet number twice under a key, and the least that breaks one key under each
+-- identifier; what is told of each key and sender, and the same with how many of its fresh frames came late;
+-- from which key each sender came to which, and which members were not ready for a key; and what is told of
+-- each member.
 pub record Verdict : Type 0 where
   pub once : Option (ℕ × ℕ)
   pub one_key : Option (ℕ × ℕ)
   pub uses : List Use
+  pub timed : List TimedUse
+  pub changes : List Change
+  pub unready : List Unready
+  pub members : List Member
 
 -- a pair breaks
 abbrev pub is_refuted : Verdict → Bool
 is_refuted v = is_some v.once || is_some v.one_key
 
 -- ---- lines
-
--- a key and its sender: how many frames, the least and the greatest packet number, the first and the
--- last packet
-abbrev pub use_words : Use → List (List ℕ)
-use_words u = decimal u.key ∷ encode_lower u.sci.0 ∷ codes "frames" ∷ decimal u.counts.frames
-    ∷ codes "pn" ∷ decimal u.counts.low ∷ decimal u.counts.high ∷ codes "packets"
-    ∷ decimal u.counts.first ∷ decimal u.counts.last ∷ []
-
--- how many frames came behind the retire time of their key is not counted: 0 is told
-abbrev pub order_words : Counts → List (List ℕ)
-order_words c = codes "repeated" ∷ decimal c.repeated ∷ decimal c.longest ∷ codes "reused"
-    ∷ decimal c.reused ∷ codes "fell" ∷ decimal c.fell ∷ codes "window" ∷ decimal c.window
-    ∷ codes "clear" ∷ decimal c.clear ∷ codes "late" ∷ decimal 0 ∷ []
-
-abbrev pub use_line : Use → List ℕ
-use_line u = line_of (codes "use") (use_words u ++ order_words u.counts)
 
 -- a verdict: the pair that breaks, or that of so many packets so many were judged
 abbrev pub verdict_words : Option (ℕ × ℕ) → ℕ → ℕ → List (List ℕ)
@@ -53,6 +50,15 @@ abbrev pub order_line : Order → List ℕ
 order_line o = counts_line (codes "order") ((codes "fell", o.fell) ∷ (codes "window", o.window)
     ∷ (codes "high", o.high) ∷ [])
 
+-- each key and sender, each change, each member that was not ready for a key, and each member
+abbrev pub each_line : Verdict → List ℕ
+each_line v = timed_lines v.timed ++ (change_lines v.changes ++ (unready_lines v.unready ++ member_lines v.members))
+
+abbrev pub judged_lines : Tally → Verdict → List ℕ
+judged_lines t v = once_line t v.once ++ (one_key_line t v.one_key ++ order_line (order_of v.uses))
+
+abbrev pub sum_lines : Verdict → List ℕ
+sum_lines v = rollover_line (length v.changes) (sums_of v.unready v.timed) ++ sums_line (member_sums v.members)
+
 abbrev pub verdict_lines : Tally → Verdict → List ℕ
-verdict_lines t v = flat_map use_line v.uses
-    ++ (once_line t v.once ++ (one_key_line t v.one_key ++ order_line (order_of v.uses)))
+verdict_lines t v = each_line v ++ (judged_lines t v ++ sum_lines v)

@@ -2,15 +2,19 @@
 //! and the report at the end.
 #![tactic(auto)]
 
+mod changes;
 mod ending;
 mod events;
 mod finding;
 mod hand_key;
 mod laws;
 mod lines;
+mod members;
 mod packets;
+mod readiness;
 mod report;
 mod tally;
+mod uses;
 mod verdict;
 
 pub use ending::Ending;
@@ -20,4 +24,5 @@ pub use laws::law_a_front_is_told_first;
 pub use packets::{begin_line, put_finding};
 pub use report::put_end;
 pub use tally::{Malformations, MkaCounts, SecCounts, Tally, UndecidedCounts};
+pub use uses::{TimedUse, timed_uses};
 pub use verdict::Verdict;

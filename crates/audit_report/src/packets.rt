@@ -1,6 +1,6 @@
 //! The lines of packets.
 
-ghost use Rattle.std.specs.Prelude.{◌≡◌, ◌++◌, List, ℕ, map, OnOk};
+ghost use Rattle.std.specs.Prelude.{◌≡◌, ◌++◌, [], List, ℕ, map, OnOk};
 ghost use Rattle.trace_text.specs.Appending.{word_text};
 ghost use Rattle.trace_text.specs.Words.{spaced};
 ghost use Rattle.capture_file.specs.Describing.{packet_words};
@@ -9,7 +9,7 @@ ghost use Rattle.audit_report.specs.Packets.{begun_line, begun_part, begun_words
 use crate::events::put_events;
 use crate::finding::Finding;
 use crate::lines::number;
-use capture_file::describe;
+use capture_file::{describe, put_malformed, put_tag};
 use known_keys::Reason;
 use member_notes::MkpduNovelty;
 use packet_verdicts::{Kind, Malformed, Mka, Sec};
@@ -41,8 +41,24 @@ pub fn begin_line(
             let malformed = Word::Text(b"malformed");
             begin_with(packet, &[sec, malformed, Word::Text(b"long")], into)
         }
+        Kind::Sec(Sec::Malformed(Malformed::Refused(why))) => {
+            begin_number(packet, into)?;
+            put_malformed(*why, into)
+        }
+        Kind::Sec(Sec::Protected { tag, .. }) => {
+            begin_number(packet, into)?;
+            put_tag(tag, into)
+        }
         _ => begin_described(packet, frame, into),
     }
+}
+
+/// Appends the number of a packet.
+fn begin_number(packet: u32, into: &mut Vec<u8>) -> Result<(), AllocError>
+    ensures { OnOk result (into.new.items ≡ into.old.items ++ begun_line packet []) }
+{
+    into.extend_from_slice(b"packet")?;
+    put_words(into, &[number(packet)])
 }
 
 /// Appends the number of a packet and words.
@@ -50,8 +66,7 @@ fn begin_with(packet: u32, words: &[Word], into: &mut Vec<u8>) -> Result<(), All
     ensures { OnOk result (into.new.items
         ≡ into.old.items ++ begun_line packet (map word_text words.now)) }
 {
-    into.extend_from_slice(b"packet")?;
-    put_words(into, &[number(packet)])?;
+    begin_number(packet, into)?;
     put_words(into, words)
 }
 

@@ -9,11 +9,12 @@ use crate::lines::{number, put_line};
 use crate::tally::{Malformations, MkaCounts, SecCounts, Tally, UndecidedCounts};
 use crate::verdict::Verdict;
 use capture_packets::CaptureFault;
-use std::alloc::AllocError;
+use std::alloc::{AllocError, Global};
 use trace_text::{Word, put_words};
 
 /// Appends what is told at the end. An `Err` may leave a front of it.
 pub fn put_end(
+    alloc: Global,
     tally: &Tally,
     verdict: &Verdict,
     ending: Ending,
@@ -23,7 +24,7 @@ pub fn put_end(
         ≡ into.old.items ++ end_lines tally.now verdict.now ending) }
 {
     put_counts(tally, ending, into)?;
-    verdict.put(tally, into)
+    verdict.put(alloc, tally, into)
 }
 
 /// Appends how many packets there are of each kind.

@@ -1,25 +1,36 @@
-//! What is judged of packets, and its lines.
+//! What is judged and told of packets, and its lines.
 
-ghost use Rattle.std.specs.Prelude.{◌≡◌, ◌++◌, [], OnOk, codes, flat_map};
-ghost use Rattle.trace_text.specs.Words.{spaced};
+ghost use Rattle.std.specs.Prelude.{◌≡◌, ◌++◌, OnOk};
 ghost use Rattle.audit_report.specs.Lines.{line_of};
-ghost use Rattle.audit_report.specs.Verdicts.{is_refuted, order_line, order_words, use_line, use_words, verdict_lines, verdict_words};
+ghost use Rattle.audit_report.specs.Verdicts.{each_line, is_refuted, judged_lines, order_line, sum_lines, verdict_lines, verdict_words};
 
+use crate::changes::put_changes;
 use crate::lines::{number, put_line};
+use crate::members::{put_members, put_sums};
+use crate::readiness::{Sums, put_rollover, put_unready};
 use crate::tally::Tally;
-use std::alloc::AllocError;
+use crate::uses::{TimedUse, put_timed};
+use key_changes::Change;
+use member_notes::{Member, MemberSums};
+use rollover_notes::Unready;
+use std::alloc::{AllocError, Global};
 use std::marker::Model;
-use trace_text::{Word, put_words};
-use use_notes::{Counts, Order, Use};
+use trace_text::Word;
+use use_notes::{Order, Use};
 
-/// What is judged of packets: the least pair that uses a packet number twice under a key, the least
-/// that breaks one key under each identifier, and what is told of each key and sender. Contracts see
-/// the list.
+/// What is judged of packets: the least pair that uses a packet number twice under a key, and the least
+/// that breaks one key under each identifier. And what is told of them: each key and sender, also with
+/// how many of its fresh frames came late, the changes of key, who was not ready for one, and the
+/// members. Contracts see the lists.
 #[derive(Drop)]
 pub struct Verdict {
     once: Option<(u32, u32)>,
     one_key: Option<(u32, u32)>,
     uses: Vec<Use>,
+    timed: Vec<TimedUse>,
+    changes: Vec<Change>,
+    unready: Vec<Unready>,
+    members: Vec<Member>,
 }
 
 impl Model for Verdict {
@@ -27,18 +38,46 @@ impl Model for Verdict {
 
     ghost Value = { Judged };
 
-    ghost view = { λ v. record { once = v.once; one_key = v.one_key; uses = v.uses.items } };
+    ghost view = { λ v. record {
+      once = v.once;
+      one_key = v.one_key;
+      uses = v.uses.items;
+      timed = v.timed.items;
+      changes = v.changes.items;
+      unready = v.unready.items;
+      members = v.members.items;
+    } };
 }
 
 impl Verdict {
     /// Of its parts.
-    pub fn of(once: Option<(u32, u32)>, one_key: Option<(u32, u32)>, uses: Vec<Use>) -> Verdict
-        ensures { result ≡ record { once = once; one_key = one_key; uses = uses.items } }
+    pub fn of(
+        once: Option<(u32, u32)>,
+        one_key: Option<(u32, u32)>,
+        uses: Vec<Use>,
+        timed: Vec<TimedUse>,
+        changes: Vec<Change>,
+        unready: Vec<Unready>,
+        members: Vec<Member>,
+    ) -> Verdict
+        ensures { result ≡ record {
+          once = once;
+          one_key = one_key;
+          uses = uses.items;
+          timed = timed.items;
+          changes = changes.items;
+          unready = unready.items;
+          members = members.items;
+        } }
     {
         Verdict {
             once,
             one_key,
             uses,
+            timed,
+            changes,
+            unready,
+            members,
         }
     }
 
@@ -49,85 +88,50 @@ impl Verdict {
         self.once.is_some() || self.one_key.is_some()
     }
 
-    /// Appends what is told of each key and sender, and what is judged.
-    pub(crate) fn put(&self, tally: &Tally, into: &mut Vec<u8>) -> Result<(), AllocError>
+    /// Appends what is told of each, what is judged, and what is told of all.
+    pub(crate) fn put(
+        &self,
+        alloc: Global,
+        tally: &Tally,
+        into: &mut Vec<u8>,
+    ) -> Result<(), AllocError>
         ensures { OnOk result (into.new.items
             ≡ into.old.items ++ verdict_lines tally.now self.now) }
     {
-        put_uses(&self.uses, into)?;
+        self.put_each(into)?;
+        self.put_judged(tally, into)?;
+        self.put_sums(alloc, into)
+    }
+
+    /// Appends each key and sender, each change, each member that was not ready for a key, and each
+    /// member.
+    fn put_each(&self, into: &mut Vec<u8>) -> Result<(), AllocError>
+        ensures { OnOk result (into.new.items ≡ into.old.items ++ each_line self.now) }
+    {
+        put_timed(&self.timed, into)?;
+        put_changes(&self.changes, into)?;
+        put_unready(&self.unready, into)?;
+        put_members(&self.members, into)
+    }
+
+    /// Appends what is judged.
+    fn put_judged(&self, tally: &Tally, into: &mut Vec<u8>) -> Result<(), AllocError>
+        ensures { OnOk result (into.new.items ≡ into.old.items ++ judged_lines tally.now self.now) }
+    {
         let (mka, sec) = (&tally.mka, &tally.sec);
         put_judged(b"once", self.once, sec.right, sec.all, into)?;
         put_judged(b"onekey", self.one_key, mka.giving, mka.distributing, into)?;
         put_order(&Order::of(&self.uses), into)
     }
-}
 
-/// Appends what is told of each key and sender.
-fn put_uses(uses: &[Use], into: &mut Vec<u8>) -> Result<(), AllocError>
-    ensures { OnOk result (into.new.items ≡ into.old.items ++ flat_map use_line uses.now) }
-{
-    for each in uses {
-        put_use(each, into)?;
+    /// Appends what is told of all changes and of all members.
+    fn put_sums(&self, alloc: Global, into: &mut Vec<u8>) -> Result<(), AllocError>
+        ensures { OnOk result (into.new.items ≡ into.old.items ++ sum_lines self.now) }
+    {
+        let changes = self.changes.len() as u64;
+        put_rollover(changes, &Sums::of(&self.unready, &self.timed), into)?;
+        put_sums(&MemberSums::of(alloc, &self.members)?, into)
     }
-    Ok(())
-}
-
-/// Appends the line of a key and a sender.
-fn put_use(each: &Use, into: &mut Vec<u8>) -> Result<(), AllocError>
-    ensures { OnOk result (into.new.items ≡ into.old.items ++ use_line each.now) }
-{
-    begin_use(each, into)?;
-    end_use(&each.counts, into)
-}
-
-/// Appends the front of the line of a key and a sender.
-fn begin_use(each: &Use, into: &mut Vec<u8>) -> Result<(), AllocError>
-    ensures { OnOk result (into.new.items
-        ≡ into.old.items ++ (codes "use" ++ spaced (use_words each.now))) }
-{
-    let counts = &each.counts;
-    into.extend_from_slice(b"use")?;
-    put_words(
-        into,
-        &[
-            number(each.key),
-            Word::Octets(&each.sci.0),
-            Word::Text(b"frames"),
-            number(counts.frames),
-            Word::Text(b"pn"),
-            number(counts.low),
-            number(counts.high),
-            Word::Text(b"packets"),
-            number(counts.first),
-            number(counts.last),
-        ],
-    )
-}
-
-/// Appends the rest of the line of a key and a sender. How many frames came behind the retire time of
-/// their key is not counted: 0 is written.
-fn end_use(counts: &Counts, into: &mut Vec<u8>) -> Result<(), AllocError>
-    ensures { OnOk result (into.new.items ≡ into.old.items ++ line_of [] (order_words counts.now)) }
-{
-    put_line(
-        into,
-        b"",
-        &[
-            Word::Text(b"repeated"),
-            number(counts.repeated),
-            Word::Number(counts.longest),
-            Word::Text(b"reused"),
-            number(counts.reused),
-            Word::Text(b"fell"),
-            number(counts.fell),
-            Word::Text(b"window"),
-            Word::Number(counts.window),
-            Word::Text(b"clear"),
-            number(counts.clear),
-            Word::Text(b"late"),
-            number(0),
-        ],
-    )
 }
 
 /// Appends a verdict: the pair that breaks, or of how many packets how many were judged.

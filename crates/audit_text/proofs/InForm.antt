@@ -81,7 +81,7 @@ short_enough : (b : Bool) (r : Result (Option KeyLine) TextFault) (said : Option
 short_enough true r said e = absurd cc
 short_enough false r said e = e
 
-key_read_fits : (text : List ℕ) (line : KeyLine) → key_line_in text ≡ Ok (Some line) → IsInFormKey line
+pub key_read_fits : (text : List ℕ) (line : KeyLine) → key_line_in text ≡ Ok (Some line) → IsInFormKey line
 unfolding key_line_in
 key_read_fits text line e =
     words_fit (words_of text) line (short_enough (nat_lt most_line (length text)) (key_line_of_words (words_of text)) (Some line) e)

@@ -48,7 +48,7 @@ told-length ring (u ∷ before) = ap suc (told-length ring before)
 
 -- ---- right frames stand behind each other
 
-behind-one : (n : ℕ) (h : List RightFrame) → IsBehind n h → IsBehind (n + 1) h
+pub behind-one : (n : ℕ) (h : List RightFrame) → IsBehind n h → IsBehind (n + 1) h
 behind-one n [] is = omega (arith, is)
 behind-one n (e ∷ h) is = let here = is.0 in (omega (arith, here), behind-one n h is.1)
 

@@ -4,9 +4,10 @@ use Rattle.std.proofs.Common.{◌≡◌, inl, arith, ℕ, true, false, List, [],
 use Rattle.known_keys.specs.declared.reason.Reason.TheVariants.{NoKey}
 use Rattle.packet_verdicts.specs.declared.kind.Malformed.TheVariants.{Refused}
 use Rattle.gcm_frames.specs.declared.tag.TagRefusal.TheVariants as tags
-use Rattle.gcm_frames.specs.Tags.{tag_fields}
+use Rattle.gcm_frames.specs.Tags.{implied_fields}
 use Rattle.mkpdu_codec.specs.Reading.{parts_at, reading}
 use Rattle.std.specs.Fmt.{digits}
+use Rattle.audit_facts.specs.Noted.{events}
 use Rattle.audit_report.specs.declared.finding.Finding.TheVariants as findings
 use Rattle.audit_text.specs.Reading.{key_line_in}
 use Rattle.capture_packets.specs.declared.fault.CaptureFault.TheVariants.{Cut}
@@ -17,7 +18,7 @@ use Rattle.capture_audit.specs.Before.{Unwrapped, entries, frames, mkpdus}
 use Rattle.capture_audit.specs.Findings.{finding}
 use Rattle.capture_audit.specs.Ends.{EndsAudit, IsPartReported}
 use Rattle.capture_audit.specs.Reading.{AreFirst, in_order}
-use Rattle.capture_audit.specs.Telling.{told_lines}
+use Rattle.capture_audit.specs.Telling.{noted, told_lines}
 
 -- ---- packets
 
@@ -61,41 +62,52 @@ other = refl
 
 -- no key is known
 no_key : finding no_ring [] (of_octets 48 protected) ≡ findings.Undecided NoKey
-unfolding tag_fields
+unfolding implied_fields
 no_key = refl
 
 -- of four octets the tag isn't whole
 sec_cut : finding no_ring [] (of_octets 48 (addresses ++ 0x88 ∷ 0xe5 ∷ 0x2c ∷ 4 ∷ [])) ≡ findings.SecCut
-unfolding tag_fields
+unfolding implied_fields
 sec_cut = refl
 
 short : finding no_ring [] (of_octets 16 (addresses ++ 0x88 ∷ 0xe5 ∷ 0x2c ∷ 4 ∷ []))
     ≡ findings.Malformed (Refused tags.Short)
-unfolding tag_fields
+unfolding implied_fields
 short = refl
 
 -- such packets tell nothing for those behind them
 nothing_known : entries no_ring (foreign ∷ of_octets 48 protected ∷ []) ≡ []
-unfolding tag_fields
+unfolding implied_fields
 nothing_known = refl
 
 no_frames : frames no_ring (foreign ∷ of_octets 48 protected ∷ []) ≡ []
-unfolding tag_fields
+unfolding implied_fields
 no_frames = refl
 
 no_mkpdus : mkpdus no_ring (foreign ∷ of_octets 48 protected ∷ []) ≡ []
-unfolding tag_fields
+unfolding implied_fields
 no_mkpdus = refl
+
+-- nor do they tell anything of changes of key, of members, or of who is ready for a key
+no_events : events (noted no_ring (foreign ∷ of_octets 48 protected ∷ [])) ≡ []
+unfolding implied_fields
+no_events = refl
+
+each_noted : noted no_ring (of_octets 15 user ∷ foreign ∷ [])
+    ≡ record { finding = findings.Other; nanos = 7; said = None }
+    ∷ record { finding = findings.Foreign; nanos = 5; said = None } ∷ []
+unfolding reading parts_at
+each_noted = refl
 
 -- ---- lines
 
 lines : told_lines true no_ring (of_octets 15 user ∷ foreign ∷ [])
     ≡ (codes "packet 1 foreign" ++ 10 ∷ []) ++ (codes "packet 2 other" ++ 10 ∷ [])
-unfolding reading parts_at tag_fields digits
+unfolding reading parts_at implied_fields digits
 lines = refl
 
 few_lines : told_lines false no_ring (of_octets 15 user ∷ foreign ∷ []) ≡ []
-unfolding reading parts_at tag_fields digits
+unfolding reading parts_at implied_fields digits
 few_lines = refl
 
 -- ---- how an audit ends

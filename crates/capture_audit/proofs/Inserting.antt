@@ -1,8 +1,8 @@
 -- A packet once more in the midst of others: those behind it are counted one further, and the pairs that
 -- break are the same.
-use Rattle.std.proofs.Common.{◌≡◌, ◌≢◌, ◌∙◌, ◌<◌, ◌≤◌, ◌+◌, ◌-◌, ◌⊎◌, inl, inr, ℕ, suc, Bool, true, false, cond, List, [], ◌∷◌, ◌++◌, length, map, Option, Some, None, refl, sym, ap, subst, arith, length-append}
-use Rattle.std.specs.Prelude.{option_map, ◌&&◌, ◌||◌, ◌==◌, nat_lt}
-use Rattle.std.proofs.lemmas.Bool.{cases_eq, cases_lt, eq-eqb, le-ltb, lt-ltb, ne_eqb}
+use Rattle.std.proofs.Common.{◌≡◌, ◌≢◌, ◌∙◌, ◌<◌, ◌≤◌, ◌+◌, ◌-◌, ◌⊎◌, inl, inr, ℕ, Bool, true, false, cond, List, [], ◌∷◌, ◌++◌, length, map, Option, Some, None, refl, sym, ap, subst, arith, length-append}
+use Rattle.std.specs.Prelude.{option_map, ◌&&◌, ◌||◌, nat_lt}
+use Rattle.std.proofs.lemmas.Bool.{cases_eq, cases_lt, eq-eqb, le-ltb, lt-ltb}
 use Rattle.aes_block.specs.Secrets.{secret_octets}
 use Rattle.aes_block.specs.declared.secret.Secret.{Secret}
 use Rattle.audit_report.specs.Verdicts.{Verdict}
@@ -10,7 +10,7 @@ use Rattle.capture_packets.specs.Packets.{Seen}
 use Rattle.gcm_frames.specs.declared.tag.Tag.{Tag}
 use Rattle.key_ring.specs.Rings.{Ring}
 use Rattle.known_keys.specs.History.{Entry, Gave, keys}
-use Rattle.known_keys.specs.Known.{is_for, is_it, is_told, known, number_told}
+use Rattle.known_keys.specs.Known.{is_for, is_it, is_told, number_told}
 use Rattle.known_keys.specs.Numbered.{greatest_first, number_in, with_key}
 use Rattle.known_keys.specs.OneKey.{BreaksKey, BreaksName, BreaksOneKey, given, given_or, key_given, same_id, same_named, turned}
 use Rattle.known_keys.specs.declared.giving.Giving.{Giving}
@@ -18,7 +18,6 @@ use Rattle.known_keys.specs.declared.giving.Giving.TheVariants.{Key, Without}
 use Rattle.known_keys.specs.declared.named.Named.{Named}
 use Rattle.known_keys.specs.declared.sender.Sender.{Sender}
 use Rattle.known_keys.specs.declared.sender.Sender.TheVariants.{Any, One}
-use Rattle.lan_base.specs.declared.address.Sci.{Sci}
 use Rattle.lan_base.specs.declared.association_number.AssociationNumber.{AssociationNumber}
 use Rattle.lan_base.specs.declared.key_id.KeyId.{KeyId}
 use Rattle.least_pairs.specs.Pairs.{Breaks, IsJudged, Noted}
@@ -39,7 +38,7 @@ use Rattle.use_notes.specs.Once.{BreaksOnce, Number, noted}
 use Rattle.capture_audit.specs.Before.{Unwrapped, entries, entries_by, frame_by, frames, gift_entries, giving_by, kind_in, mkpdu_entries, number_behind, right_frame, right_key, right_under, shown_entries, with_some}
 use Rattle.capture_audit.specs.Laws.{moved, moved_pair, once_more}
 use Rattle.capture_audit.specs.Telling.{IsVerdict}
-use Rattle.capture_audit.proofs.Behind.{mkpdu-behind, mkpdu-keys}
+use Rattle.capture_audit.proofs.Behind.{mkpdu-behind}
 use Rattle.capture_audit.proofs.FrontTold.{IsOfNumber, noted-past, right-number}
 use Rattle.capture_audit.proofs.Repeating.{IsRepeated, by-other, frame-under, given-mkpdu, id-itself, in_packet, key-twice, list-itself, named-itself, none-past, noted-here, once-repeated, one-repeated, some-is}
 

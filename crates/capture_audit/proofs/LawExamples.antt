@@ -14,11 +14,15 @@ use Rattle.capture_packets.specs.Written.{blocks_file, classic_file}
 use Rattle.capture_packets.specs.declared.state.Layout.TheVariants.{Records}
 use Rattle.capture_packets.specs.declared.state.Parts.TheVariants.{Micros, Nanos}
 use Rattle.audit_report.specs.Verdicts.{Verdict}
+use Rattle.key_changes.specs.Changes.{AreChangesOf}
 use Rattle.known_keys.specs.History.{Entry, keys}
 use Rattle.known_keys.specs.OneKey.{BreaksOneKey, given, key_given}
 use Rattle.key_ring.specs.Rings.{AreKeyed, Ring, no_ring}
+use Rattle.member_notes.specs.Facts.{AreMembersOf}
 use Rattle.packet_verdicts.specs.Groups.{GroupKeys}
+use Rattle.rollover_notes.specs.Counted.{AreUnreadyOf}
 use Rattle.use_notes.specs.Once.{BreaksOnce}
+use Rattle.use_notes.specs.Uses.{AreUsesOf}
 use Rattle.capture_audit.specs.Before.{IsUnwrapped, Unwrapped, entries, frames}
 use Rattle.capture_audit.specs.Ends.{IsReported}
 use Rattle.capture_audit.specs.Laws.{IsFileOf, IsInput, IsOfOther, IsWhole, moved_pair, once_more, with_group}
@@ -38,7 +42,15 @@ foreign = record {
 }
 
 abbrev judged : Option (ℕ × ℕ) → Verdict
-judged pair = record { once = pair; one_key = None; uses = [] }
+judged pair = record {
+  once = pair;
+  one_key = None;
+  uses = [];
+  timed = [];
+  changes = [];
+  unready = [];
+  members = [];
+}
 
 -- ---- the least pair is named
 
@@ -46,12 +58,31 @@ none-given : (history : List Entry) → history ≡ [] → (a b : ℕ) → Break
 none-given history none a b (inl broken) = absurd (cc (sym (ap (λ (es : List Entry). given es a) none) ∙ broken.first))
 none-given history none a b (inr broken) = absurd (cc (sym (ap (λ (es : List Entry). key_given es a) none) ∙ broken.first))
 
-first_judged : IsVerdict no_ring (foreign ∷ []) (judged None)
+no_uses : AreUsesOf [] []
 unfolding IsStrictlySortedBy
+no_uses = record { ascending = tt; each = λ key sci. refl }
+
+no_changes : AreChangesOf [] []
+unfolding IsStrictlySortedBy
+no_changes = record { senders = []; ascending = tt; others = λ sci none. refl; each = refl }
+
+no_unready : AreUnreadyOf [] []
+unfolding IsStrictlySortedBy
+no_unready = record { ascending = tt; each = λ p. refl }
+
+no_members : AreMembersOf [] []
+unfolding IsStrictlySortedBy
+no_members = record { ascending = tt; each = λ group mi. refl }
+
+first_judged : IsVerdict no_ring (foreign ∷ []) (judged None)
 first_judged = record {
   once = λ a b broken. absurd (cc broken.first);
   one_key = λ a b broken. none-given [] refl a b broken;
-  uses = record { ascending = tt; each = λ key sci. refl };
+  uses = no_uses;
+  timed = refl;
+  changes = no_changes;
+  unready = no_unready;
+  members = no_members;
 }
 
 -- no pair is named of packets none of which breaks
@@ -122,11 +153,14 @@ blocks_input : IsInput [] blocks blocks
 blocks_input = (parted blocks refl, blocks_few)
 
 none_judged : IsVerdict no_ring [] (judged None)
-unfolding IsStrictlySortedBy
 none_judged = record {
   once = λ a b broken. absurd (cc broken.first);
   one_key = λ a b broken. none-given [] refl a b broken;
-  uses = record { ascending = tt; each = λ key sci. refl };
+  uses = no_uses;
+  timed = refl;
+  changes = no_changes;
+  unready = no_unready;
+  members = no_members;
 }
 
 abbrev told : List ℕ
@@ -180,20 +214,26 @@ abbrev twice : List Unwrapped
 twice = once_more 7 false foreign ∷ foreign ∷ []
 
 twice_judged : IsVerdict no_ring twice (judged None)
-unfolding IsStrictlySortedBy
 twice_judged = record {
   once = λ a b broken. absurd (cc broken.first);
   one_key = λ a b broken. none-given [] refl a b broken;
-  uses = record { ascending = tt; each = λ key sci. refl };
+  uses = no_uses;
+  timed = refl;
+  changes = no_changes;
+  unready = no_unready;
+  members = no_members;
 }
 
 -- in the midst of others
 midst_judged : IsVerdict no_ring (foreign ∷ twice) (judged None)
-unfolding IsStrictlySortedBy
 midst_judged = record {
   once = λ a b broken. absurd (cc broken.first);
   one_key = λ a b broken. none-given [] refl a b broken;
-  uses = record { ascending = tt; each = λ key sci. refl };
+  uses = no_uses;
+  timed = refl;
+  changes = no_changes;
+  unready = no_unready;
+  members = no_members;
 }
 
 -- a pair of the packet and one behind it, which is counted further

@@ -1,5 +1,6 @@
 pub mod Filling
 pub mod Behind
+pub mod Noting
 pub mod Handling
 pub mod Settling
 pub mod Quiet
@@ -20,7 +21,9 @@ pub mod Reporting
 pub mod Opening
 pub mod FrontTold
 pub mod NoneMissed
+pub mod Ascending
 pub mod UsesAlone
+pub mod ChangesAlone
 pub mod OneReport
 pub mod Naming
 pub mod Repeating

@@ -1,5 +1,5 @@
 -- A verdict names the least pair that breaks exactly where one does.
-use Rattle.std.proofs.Common.{◌≡◌, ◌↔◌, ℕ, Option, Some, None, refl, subst}
+use Rattle.std.proofs.Common.{◌≡◌, ◌↔◌, ℕ, Option, Some, None, subst}
 use Rattle.least_pairs.specs.Pairs.{IsJudged, IsLeast}
 use Rattle.least_pairs.proofs.Public.{one-verdict}
 

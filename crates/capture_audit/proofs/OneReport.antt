@@ -1,22 +1,23 @@
 -- Of one key text and the same packets there is one report.
-use Rattle.std.proofs.Common.{◌≡◌, ◌≢◌, ◌∙◌, ◌<◌, ◌≤◌, ◌⊎◌, inl, inr, ℕ, Bool, true, List, [], ◌∷◌, ◌++◌, length, map, Option, Some, None, Result, Ok, Err, refl, sym, ap, subst, arith, append_assoc, length-append, take_all}
-use Rattle.std.specs.Prelude.{All, reverse, take}
+use Rattle.std.proofs.Common.{◌≡◌, ◌≢◌, ◌∙◌, ◌<◌, ◌≤◌, ◌⊎◌, inl, inr, ℕ, Bool, true, List, [], ◌∷◌, ◌++◌, length, map, Option, Ok, refl, sym, ap, subst, arith, append_assoc, length-append, take_all}
+use Rattle.std.specs.Prelude.{All}
 use Rattle.std.specs.List.{AllByRecursion}
 use Rattle.std.proofs.lemmas.Bool.{cases_lt}
 use Rattle.std.proofs.lemmas.List.{length-map, length-reverse, reverse-append}
 use Rattle.std.proofs.lemmas.List.Elements.{All-cons}
+use Rattle.audit_facts.specs.Noted.{events, fresh_frames, spoken_of}
+use Rattle.audit_report.specs.Uses.{timed}
 use Rattle.audit_report.specs.Verdicts.{Verdict, is_refuted}
 use Rattle.audit_report.specs.declared.ending.Ending.{Ending}
 use Rattle.audit_report.specs.declared.ending.Ending.TheVariants as endings
 use Rattle.audit_text.specs.Parting.{IsParted, capture_behind, key_text}
 use Rattle.capture_file.specs.Pcap.{most_input}
 use Rattle.capture_file.specs.declared.order.Order.{Order}
-use Rattle.capture_packets.specs.Captures.{Told, capture}
+use Rattle.capture_packets.specs.Captures.{Told}
 use Rattle.capture_packets.specs.Packets.{Seen}
 use Rattle.capture_packets.specs.Written.{IsWritable, blocks_file, classic_file}
 use Rattle.capture_packets.specs.declared.state.Parts.{Parts}
-use Rattle.key_ring.specs.Reading.{file_in}
-use Rattle.key_ring.specs.Rings.{AreKeyed, LineFault, Ring, no_ring, ring_from, ring_in}
+use Rattle.key_ring.specs.Rings.{AreKeyed, Ring, no_ring, ring_from, ring_in}
 use Rattle.known_keys.specs.History.{keys}
 use Rattle.known_keys.specs.OneKey.{BreaksOneKey}
 use Rattle.lan_base.specs.Told.{after}
@@ -28,10 +29,11 @@ use Rattle.capture_audit.specs.Before.{IsUnwrapped, Unwrapped, entries, frames}
 use Rattle.capture_audit.specs.Ends.{IsReported}
 use Rattle.capture_audit.specs.Laws.{IsFileOf, IsInput, IsWhole}
 use Rattle.capture_audit.specs.Reading.{HasAll, IsOneTooMany, IsRead, in_order, most_keys}
-use Rattle.capture_audit.specs.Telling.{IsVerdict, report}
+use Rattle.capture_audit.specs.Telling.{IsVerdict, noted, report}
+use Rattle.capture_audit.proofs.ChangesAlone.{changes-alone}
 use Rattle.capture_audit.proofs.GiftsAgree.{IsOneKeyForOneWrap}
 use Rattle.capture_audit.proofs.NoneMissed.{front-agrees, keys-more, whole-agrees}
-use Rattle.capture_audit.proofs.UsesAlone.{uses-alone}
+use Rattle.capture_audit.proofs.UsesAlone.{members-alone, unready-alone, uses-alone}
 
 -- ---- lists
 
@@ -170,7 +172,20 @@ verdicts-agree ring packets one two is other =
     let once = one-verdict (BreaksOnce (frames ring packets)) one.once two.once is.once other.once in
     let key = one-verdict (BreaksOneKey (entries ring packets)) one.one_key two.one_key is.one_key other.one_key in
     let uses = uses-alone (frames ring packets) one.uses two.uses is.uses other.uses in
-    λ i. record { once = once i; one_key = key i; uses = uses i }
+    let notes = noted ring packets in
+    let timely = is.timed ∙ ap (λ (us : List Use). map (timed (events notes)) us) uses ∙ sym other.timed in
+    let changes = changes-alone (fresh_frames notes) one.changes two.changes is.changes other.changes in
+    let unready = unready-alone (events notes) one.unready two.unready is.unready other.unready in
+    let members = members-alone (spoken_of notes) one.members two.members is.members other.members in
+    λ i. record {
+      once = once i;
+      one_key = key i;
+      uses = uses i;
+      timed = timely i;
+      changes = changes i;
+      unready = unready i;
+      members = members i;
+    }
 
 -- ---- the report
 

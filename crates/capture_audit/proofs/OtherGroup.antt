@@ -1,24 +1,28 @@
 -- A group that no MKPDU names, put last, changes nothing.
-use Rattle.std.proofs.Common.{◌≡◌, ◌∙◌, ◌<◌, ◌≤◌, ◌+◌, ◌-◌, ◌↔◌, ◌⊎◌, inl, inr, ℕ, zero, suc, Bool, true, false, cond, List, [], ◌∷◌, ◌++◌, length, take, Option, Some, None, Ok, Err, refl, sym, ap, subst, arith}
+use Rattle.std.proofs.Common.{◌≡◌, ◌∙◌, ◌<◌, ◌≤◌, ◌+◌, ◌-◌, ◌↔◌, ◌⊎◌, inl, inr, ℕ, zero, suc, Bool, true, false, cond, List, [], ◌∷◌, ◌++◌, length, map, take, Option, Some, None, Ok, Err, refl, sym, ap, subst, arith}
 use Rattle.std.specs.Prelude.{◌&&◌, ◌||◌, All, Result, is_some, not, nat_lt, slice_get}
 use Rattle.std.specs.List.{list_any, position, position_or_len}
 use Rattle.std.proofs.lemmas.Bool.{cases_lt, le-ltb, lt-ltb}
 use Rattle.std.proofs.lemmas.List.Elements.{All-head, All-tail}
 use Rattle.std.proofs.lemmas.List.Quantifiers.{position-Some}
+use Rattle.audit_facts.specs.Noted.{Noted, events, fresh_frames, noted_of, spoken_of}
 use Rattle.audit_report.specs.Packets.{begun_words}
 use Rattle.audit_report.specs.Lines.{set_lines}
 use Rattle.audit_report.specs.Report.{packet_lines}
 use Rattle.audit_report.specs.Report as reports
 use Rattle.audit_report.specs.Told.{Told}
+use Rattle.audit_report.specs.Uses.{timed}
 use Rattle.audit_report.specs.Verdicts.{Verdict}
 use Rattle.audit_report.specs.declared.ending.Ending.{Ending}
 use Rattle.audit_report.specs.declared.finding.Finding.{Finding}
 use Rattle.capture_packets.specs.Packets.{Seen}
+use Rattle.key_changes.specs.Changes.{AreChangesOf}
 use Rattle.key_ring.specs.Rings.{Ring}
 use Rattle.known_keys.specs.History.{Entry}
 use Rattle.known_keys.specs.OneKey.{BreaksOneKey}
 use Rattle.least_pairs.specs.Pairs.{IsJudged}
 use Rattle.member_notes.specs.declared.mkpdu.RightMkpdu.{RightMkpdu}
+use Rattle.member_notes.specs.Facts.{AreMembersOf}
 use Rattle.mkpdu_codec.specs.Reading.{reading}
 use Rattle.mkpdu_codec.specs.declared.refusal.Refusal.{Refusal}
 use Rattle.mkpdu_codec.specs.declared.refusal.Refusal.TheVariants as refusals
@@ -32,13 +36,14 @@ use Rattle.packet_verdicts.specs.declared.kind.Mka.TheVariants as mkas
 use Rattle.packet_verdicts.specs.Frames.{frame_of}
 use Rattle.packet_verdicts.specs.Groups.{GroupKeys, gives_check, has_name}
 use Rattle.packet_verdicts.specs.Kinds.{frame_kind, group_kind, is_cut, mka_kind, packet_kind, sec_kind, spelled_kind}
+use Rattle.rollover_notes.specs.Counted.{AreUnreadyOf}
 use Rattle.use_notes.specs.declared.frame.RightFrame.{RightFrame}
 use Rattle.use_notes.specs.Once.{BreaksOnce}
 use Rattle.use_notes.specs.Uses.{AreUsesOf}
 use Rattle.capture_audit.specs.Before.{IsUnwrapped, Unwrapped, UnwrapsBy, entries, entries_by, frame_by, frames, kind_in, mkpdu_by, mkpdus, number_behind, with_some}
 use Rattle.capture_audit.specs.Findings.{finding_by, mka_finding, sec_finding}
 use Rattle.capture_audit.specs.Laws.{IsOfOther, with_group}
-use Rattle.capture_audit.specs.Telling.{IsVerdict, all_told, numbered_hand, report, told_lines, told_of}
+use Rattle.capture_audit.specs.Telling.{IsVerdict, all_told, noted, numbered_hand, report, told_lines, told_of}
 
 -- ---- lists with one more
 
@@ -196,6 +201,22 @@ module _ (groups : List GroupKeys) (keys : GroupKeys) where
   unwraps-out gift kinds.Other there is = is
   unwraps-out gift (kinds.Sec sec) there is = is
 
+-- ---- what is judged
+
+-- it follows from the right frames, what made keys known, and what packets tell
+verdict-from : (one two : Ring) (packets : List Unwrapped) (v : Verdict) → frames one packets ≡ frames two packets
+    → entries one packets ≡ entries two packets → noted one packets ≡ noted two packets
+    → IsVerdict one packets v → IsVerdict two packets v
+verdict-from one two packets v rights told notes is = record {
+  once = subst (λ (fs : List RightFrame). IsJudged (BreaksOnce fs) v.once) rights is.once;
+  one_key = subst (λ (es : List Entry). IsJudged (BreaksOneKey es) v.one_key) told is.one_key;
+  uses = subst (λ (fs : List RightFrame). AreUsesOf fs v.uses) rights is.uses;
+  timed = is.timed ∙ ap (λ (ns : List Noted). map (timed (events ns)) v.uses) notes;
+  changes = subst (λ (ns : List Noted). AreChangesOf (fresh_frames ns) v.changes) notes is.changes;
+  unready = subst (λ (ns : List Noted). AreUnreadyOf (events ns) v.unready) notes is.unready;
+  members = subst (λ (ns : List Noted). AreMembersOf (spoken_of ns) v.members) notes is.members;
+}
+
 module _ (ring : Ring) (keys : GroupKeys) where
   abbrev more : Ring
   more = with_group ring keys
@@ -262,18 +283,18 @@ module _ (ring : Ring) (keys : GroupKeys) where
       ∙ ap (λ (it : Finding). told_by u (kind_in ring u) it ∷ all_told more before) (finding-same u before (kind_in ring u) rest)
       ∙ ap (λ (told : List Told). told_of ring before u ∷ told) (told-same before rest)
 
+  noted-same : (packets : List Unwrapped) → All (IsOfOther keys) packets → noted more packets ≡ noted ring packets
+  noted-same [] all = refl
+  noted-same (u ∷ before) all =
+      let rest = All-tail (IsOfOther keys) u before all in
+      ap (λ (k : Kind). noted_of (finding_by more before u k) u.packet.head.nanos k ∷ noted more before) (kind-same u (All-head (IsOfOther keys) u before all))
+      ∙ ap (λ (it : Finding). noted_of it u.packet.head.nanos (kind_in ring u) ∷ noted more before) (finding-same u before (kind_in ring u) rest)
+      ∙ ap (λ (ns : List Noted). noted_of (finding_by ring before u (kind_in ring u)) u.packet.head.nanos (kind_in ring u) ∷ ns) (noted-same before rest)
+
   pub verdict-same : (packets : List Unwrapped) (v : Verdict) → All (IsOfOther keys) packets → IsVerdict more packets v ↔ IsVerdict ring packets v
   verdict-same packets v all = (
-    λ is. record {
-      once = subst (λ (fs : List RightFrame). IsJudged (BreaksOnce fs) v.once) (frames-same packets all) is.once;
-      one_key = subst (λ (es : List Entry). IsJudged (BreaksOneKey es) v.one_key) (entries-same packets all) is.one_key;
-      uses = subst (λ (fs : List RightFrame). AreUsesOf fs v.uses) (frames-same packets all) is.uses;
-    },
-    λ is. record {
-      once = subst (λ (fs : List RightFrame). IsJudged (BreaksOnce fs) v.once) (sym (frames-same packets all)) is.once;
-      one_key = subst (λ (es : List Entry). IsJudged (BreaksOneKey es) v.one_key) (sym (entries-same packets all)) is.one_key;
-      uses = subst (λ (fs : List RightFrame). AreUsesOf fs v.uses) (sym (frames-same packets all)) is.uses;
-    },
+    verdict-from more ring packets v (frames-same packets all) (entries-same packets all) (noted-same packets all),
+    verdict-from ring more packets v (sym (frames-same packets all)) (sym (entries-same packets all)) (sym (noted-same packets all)),
   )
 
   pub report-same : (shows : Bool) (packets : List Unwrapped) (v : Verdict) (ending : Ending) → All (IsOfOther keys) packets

@@ -4,14 +4,13 @@ use Rattle.std.specs.Prelude.{option_map, ◌&&◌, ◌==◌}
 use Rattle.std.proofs.lemmas.Bool.{cases_lt, eq-eqb, ne_eqb}
 use Rattle.std.proofs.lemmas.Cmp.{nat_list_eq_equiv}
 use Rattle.aes_block.specs.declared.secret.Secret.{Secret}
-use Rattle.audit_report.specs.Verdicts.{Verdict}
 use Rattle.capture_packets.specs.Packets.{Seen}
 use Rattle.key_ring.specs.Rings.{Ring}
 use Rattle.key_ring.specs.declared.ring.HandKey.{HandKey}
 use Rattle.known_keys.specs.History.{Entry, Gave, Set, keys}
 use Rattle.known_keys.specs.Known.{number_told}
 use Rattle.known_keys.specs.Numbered.{number_from, number_in, same_secret, with_key, with_number}
-use Rattle.known_keys.specs.OneKey.{BreaksKey, BreaksName, BreaksOneKey, given, given_or, gives, key_given, same_id, same_named, turned}
+use Rattle.known_keys.specs.OneKey.{given, given_or, gives, same_id, same_named}
 use Rattle.known_keys.specs.declared.giving.Giving.{Giving}
 use Rattle.known_keys.specs.declared.giving.Giving.TheVariants.{Key, Without}
 use Rattle.known_keys.specs.declared.named.Named.{Named}
@@ -20,8 +19,7 @@ use Rattle.lan_base.specs.AssociationNumbers.{same_an}
 use Rattle.lan_base.specs.declared.association_number.AssociationNumber.{AssociationNumber}
 use Rattle.lan_base.specs.declared.association_number.AssociationNumber.TheVariants as ans
 use Rattle.lan_base.specs.declared.key_id.KeyId.{KeyId}
-use Rattle.least_pairs.specs.Pairs.{Breaks, IsJudged, Noted}
-use Rattle.least_pairs.proofs.Public.{one-verdict}
+use Rattle.least_pairs.specs.Pairs.{Noted}
 use Rattle.packet_verdicts.specs.declared.given.Gift.{Gift}
 use Rattle.packet_verdicts.specs.declared.given.Shown.{Shown}
 use Rattle.packet_verdicts.specs.declared.given.ShownKeys.{ShownKeys}
@@ -33,12 +31,11 @@ use Rattle.packet_verdicts.specs.Frames.{frame_of}
 use Rattle.packet_verdicts.specs.Given.{shown_keys}
 use Rattle.use_notes.specs.declared.frame.RightFrame.{RightFrame}
 use Rattle.use_notes.specs.Frames.{same_check}
-use Rattle.use_notes.specs.Once.{BreaksOnce, Number, noted, number_of}
+use Rattle.use_notes.specs.Once.{Number, noted, number_of}
 use Rattle.capture_audit.specs.Before.{Unwrapped, entries, entries_by, frame_by, frames, gift_entries, giving_by, kind_in, mkpdu_entries, number_behind, right_frame, right_key, right_under, set_behind, shown_entries, with_some}
 use Rattle.capture_audit.specs.Laws.{once_more}
-use Rattle.capture_audit.specs.Telling.{IsVerdict}
 use Rattle.capture_audit.proofs.Behind.{mkpdu-behind, mkpdu-keys}
-use Rattle.capture_audit.proofs.FrontTold.{IsOfNumber, entries-within, noted-ends, noted-past, right-number}
+use Rattle.capture_audit.proofs.FrontTold.{IsOfNumber, noted-ends, noted-past, right-number}
 
 -- ---- what is told twice
 

@@ -2,6 +2,8 @@
 use Rattle.std.proofs.Common.{◌≡◌, ◌∙◌, ◌<◌, ◌≤◌, ℕ, Bool, List, ◌∷◌, ◌++◌, length, None, Ok, Err, refl, sym, ap, subst}
 use Rattle.std.specs.Prelude.{Option, option_map, Result}
 use Rattle.std.proofs.lemmas.List.Elements.{All-cons}
+use Rattle.audit_facts.specs.Noted.{IsNext, Noted, noted_of}
+use Rattle.audit_facts.specs.Standing.{Kept as FactsKept, StandsFor as FactsStandFor}
 use Rattle.audit_report.specs.Packets.{begun_words}
 use Rattle.audit_report.specs.Tallies.{tally_of}
 use Rattle.audit_report.specs.declared.finding.Finding.{Finding}
@@ -22,11 +24,12 @@ use Rattle.use_notes.specs.declared.frame.RightFrame.{RightFrame}
 use Rattle.capture_audit.specs.declared.auditor.Auditor.{Auditor}
 use Rattle.capture_audit.specs.declared.end.AuditEnd.{AuditEnd}
 use Rattle.capture_audit.specs.declared.end.AuditEnd.TheVariants as ends
-use Rattle.capture_audit.specs.Before.{IsUnwrapped, Unwrapped, UnwrapsBy, entries, entries_by, frame_by, frames, mkpdu_by, mkpdus, number_behind, right_under, with_some}
-use Rattle.capture_audit.specs.Findings.{finding_by, sec_finding}
+use Rattle.capture_audit.specs.Before.{IsUnwrapped, Unwrapped, UnwrapsBy, entries, entries_by, frame_by, frames, kind_in, mkpdu_by, mkpdus, number_behind, right_under, with_some}
+use Rattle.capture_audit.specs.Findings.{finding, finding_by, sec_finding}
 use Rattle.capture_audit.specs.Reading.{most_keys}
-use Rattle.capture_audit.specs.Telling.{all_told}
-use Rattle.capture_audit.specs.inside.Keeping.{Finds, Handles, Holds, IsFindable, IsSettled, IsTried, Keeps, NotesSec, Settles, frame_under}
+use Rattle.capture_audit.specs.Telling.{all_told, noted}
+use Rattle.capture_audit.specs.inside.Keeping.{Finds, Handles, Holds, IsFindable, IsFound, IsSettled, IsTried, Keeps, NotesSec, Settles, frame_under}
+use Rattle.capture_audit.proofs.Noting.{is-next}
 
 module _ (ring : Ring) (before : List Unwrapped) (seen : Seen) where
   abbrev with_gift : Option Gift → Unwrapped
@@ -87,15 +90,34 @@ module _ (ring : Ring) (before : List Unwrapped) (seen : Seen) where
   mka-finds mka old new (Err ends.Memory) e h = tt
   mka-finds mka old new (Err _) e h = absurd h
 
-  pub settled : (it : Finding) (head : PacketHead) (old new : Auditor) (tally : Tally) → Keeps ring before old
-      → IsFindable ring before seen it new → head ≡ seen.head
+  -- what is noted of a packet is what is noted behind those before it
+  noted-is : (it : Finding) (new : Auditor) (head : PacketHead) (kind : Kind) (newest : Option ℕ)
+      (found : IsFindable ring before seen it new) → IsFound ring before seen head kind newest
+      → noted_of it head.nanos kind
+      ≡ noted_of (finding ring before (with_gift found.gift)) seen.head.nanos (kind_in ring (with_gift found.gift))
+  noted-is it new head kind newest found is =
+      ap (λ (f : Finding). noted_of f head.nanos kind) found.told_is
+      ∙ ap (λ (h : PacketHead). noted_of (finding ring before (with_gift found.gift)) h.nanos kind) is.head_is
+      ∙ ap (λ (k : Kind). noted_of (finding ring before (with_gift found.gift)) seen.head.nanos k) is.kind_is
+
+  pub next-found : (it : Finding) (new : Auditor) (head : PacketHead) (kind : Kind) (newest : Option ℕ)
+      → IsFindable ring before seen it new → IsFound ring before seen head kind newest
+      → IsNext (noted ring before) (noted_of it head.nanos kind)
+  next-found it new head kind newest found is =
+      subst (λ (n : Noted). IsNext (noted ring before) n) (sym (noted-is it new head kind newest found is))
+      (is-next ring before (with_gift found.gift))
+
+  pub settled : (it : Finding) (head : PacketHead) (kind : Kind) (newest : Option ℕ) (old new : Auditor)
+      (facts : FactsKept) (tally : Tally) → Keeps ring before old
+      → IsFindable ring before seen it new → IsFound ring before seen head kind newest
+      → FactsStandFor (noted_of it head.nanos kind ∷ noted ring before) facts
       → tally ≡ tally_of (record {
         begun = begun_words (frame_of seen.octets) (packet_kind ring.groups seen);
         finding = it;
         is_untimed = head.is_untimed;
       } ∷ all_told ring before)
-      → IsSettled ring before seen it (record new { tally = tally })
-  settled it head old new tally keeps found same is = record {
+      → IsSettled ring before seen it (record new { facts = facts; tally = tally })
+  settled it head kind newest old new facts tally keeps found same stands is = record {
     gift = found.gift;
     told_is = found.told_is;
     keeps = record {
@@ -105,8 +127,10 @@ module _ (ring : Ring) (before : List Unwrapped) (seen : Seen) where
         uses = found.holds.uses;
         members = found.holds.members;
       };
+      facts = subst (λ (n : Noted). FactsStandFor (n ∷ noted ring before) facts)
+          (noted-is it new head kind newest found same) stands;
       tally = is ∙ ap (λ (f : Finding). counted f head.is_untimed) found.told_is
-          ∙ ap (λ (h : PacketHead). counted (finding_by ring before (with_gift found.gift) (packet_kind ring.groups seen)) h.is_untimed) same;
+          ∙ ap (λ (h : PacketHead). counted (finding_by ring before (with_gift found.gift) (packet_kind ring.groups seen)) h.is_untimed) same.head_is;
       unwrapped = All-cons (IsUnwrapped ring) (with_gift found.gift) before found.unwrapped keeps.unwrapped;
       few = found.few;
     };

@@ -1,18 +1,23 @@
 -- What is told of packets: their lines, what is judged of them, and the report.
-use Rattle.std.specs.Prelude.{ℕ, Bool, List, [], ◌∷◌, ◌++◌, map, unwrap_or}
+use Rattle.std.specs.Prelude.{◌≡◌, ℕ, Bool, List, [], ◌∷◌, ◌++◌, map, unwrap_or}
+use Rattle.audit_facts.specs.Noted.{Noted, events, fresh_frames, noted_of, spoken_of}
 use Rattle.audit_report.specs.Told.{Told}
 use Rattle.audit_report.specs.Lines.{set_lines}
 use Rattle.audit_report.specs.Packets.{begun_words}
 use Rattle.audit_report.specs.Report as reports
+use Rattle.audit_report.specs.Uses.{timed}
 use Rattle.audit_report.specs.Verdicts.{Verdict}
 use Rattle.audit_report.specs.declared.ending.Ending.{Ending}
+use Rattle.key_changes.specs.Changes.{AreChangesOf}
 use Rattle.key_ring.specs.declared.ring.HandKey.{HandKey}
 use Rattle.key_ring.specs.Rings.{Ring}
 use Rattle.known_keys.specs.History.{keys}
 use Rattle.known_keys.specs.Numbered.{number_in}
 use Rattle.known_keys.specs.OneKey.{BreaksOneKey}
 use Rattle.least_pairs.specs.Pairs.{IsJudged}
+use Rattle.member_notes.specs.Facts.{AreMembersOf}
 use Rattle.packet_verdicts.specs.Frames.{frame_of}
+use Rattle.rollover_notes.specs.Counted.{AreUnreadyOf}
 use Rattle.use_notes.specs.Once.{BreaksOnce}
 use Rattle.use_notes.specs.Uses.{AreUsesOf}
 use Rattle.capture_audit.specs.Before.{Unwrapped, entries, frames, kind_in}
@@ -33,6 +38,12 @@ abbrev pub all_told : Ring → List Unwrapped → List Told
 all_told ring [] = []
 all_told ring (u ∷ before) = told_of ring before u ∷ all_told ring before
 
+-- packets as far as they tell of changes of key, of members, and of who was ready for a key
+abbrev pub noted : Ring → List Unwrapped → List Noted
+noted ring [] = []
+noted ring (u ∷ before) =
+    noted_of (finding ring before u) u.packet.head.nanos (kind_in ring u) ∷ noted ring before
+
 -- ---- lines
 
 -- the keys that are set by hand, each with its number among the keys
@@ -49,11 +60,17 @@ told_lines shows ring packets =
 
 -- The least pair of packets that are right under one key, of one sender and packet number, with other
 -- check values; the least pair that give one identifier with two keys or association numbers, or one
--- key under two identifiers; and what is told of each key and sender.
+-- key under two identifiers; what is told of each key and sender, and how many of its fresh frames came
+-- late; from which key each sender came to which, and which members were not ready for a key; and what is
+-- told of each member.
 pub record IsVerdict (ring : Ring) (packets : List Unwrapped) (v : Verdict) : Type 0 where
   pub once : IsJudged (BreaksOnce (frames ring packets)) v.once
   pub one_key : IsJudged (BreaksOneKey (entries ring packets)) v.one_key
   pub uses : AreUsesOf (frames ring packets) v.uses
+  pub timed : v.timed ≡ map (timed (events (noted ring packets))) v.uses
+  pub changes : AreChangesOf (fresh_frames (noted ring packets)) v.changes
+  pub unready : AreUnreadyOf (events (noted ring packets)) v.unready
+  pub members : AreMembersOf (spoken_of (noted ring packets)) v.members
 
 -- ---- the report
 

@@ -162,11 +162,12 @@ fn audit_packets<T: Threads + Sync, S: Source, K: Sink>(
 {
     batch.write(sink)?;
     let ending = read_packets(rt, alloc, reader, source, auditor, batch, sink)?;
-    report(auditor, ending, batch, sink)
+    report(alloc, auditor, ending, batch, sink)
 }
 
 /// Writes what is told at the end, and answers how the audit ends.
 fn report<K: Sink>(
+    alloc: Global,
     auditor: &Auditor,
     ending: Ending,
     batch: &mut Batch,
@@ -181,7 +182,7 @@ fn report<K: Sink>(
     ensures writes { K.faults sink.old ≤ K.faults sink.new }
 {
     let verdict = auditor.verdict()?;
-    put_end(&auditor.tally, &verdict, ending, &mut batch.text)?;
+    put_end(alloc, &auditor.tally, &verdict, ending, &mut batch.text)?;
     batch.write(sink)?;
     if verdict.is_refuted() {
         return Err(AuditEnd::Refuted);

@@ -22,6 +22,7 @@ ghost use Rattle.capture_audit.specs.inside.Keeping.{EndsOf, Finds, Handles, Hol
 
 use crate::end::AuditEnd;
 use crate::handing::{hand, show};
+use audit_facts::AuditFacts;
 use audit_report::{Finding, Tally, Verdict, put_hand_line};
 use capture_packets::PacketHead;
 use gcm_frames::Tag;
@@ -40,6 +41,7 @@ pub struct Auditor {
     pub known: KnownKeys,
     pub uses: UseNotes,
     pub members: MemberNotes,
+    pub facts: AuditFacts,
     pub tally: Tally,
 }
 
@@ -62,6 +64,7 @@ impl Auditor {
             known,
             uses: UseNotes::new(alloc),
             members: MemberNotes::new(alloc),
+            facts: AuditFacts::new(alloc),
             tally: Tally::none(),
         })
     }
@@ -72,11 +75,23 @@ impl Auditor {
             → IfOk result (λ v. IsVerdict ring packets v) }
     {
         let uses = self.uses.uses()?;
-        Ok(Verdict::of(self.uses.once(), self.known.one_key(), uses))
+        let timed = self.facts.timed(&uses)?;
+        let changes = self.facts.changes()?;
+        let unready = self.facts.unready()?;
+        let members = self.facts.members()?;
+        Ok(Verdict::of(
+            self.uses.once(),
+            self.known.one_key(),
+            uses,
+            timed,
+            changes,
+            unready,
+            members,
+        ))
     }
 
-    /// What a packet of this kind is behind the ones before it, which is counted with them. Of a
-    /// protected frame the newest key that is known to it was found under which it is right. A key too
+    /// What a packet of this kind is behind the ones before it, which is noted and counted with them. Of
+    /// a protected frame the newest key that is known to it was found under which it is right. A key too
     /// many leaves all as it was; behind want of memory it is not to be used.
     pub fn settle(
         &mut self,
@@ -96,6 +111,7 @@ impl Auditor {
         ensures count { OnOk result (self.new.tally.all ≡ self.old.tally.all + 1) }
     {
         let finding = self.find(self.tally.all + 1, head, kind, newest)?;
+        self.facts.note(&finding, head.nanos, kind)?;
         self.tally = self.tally.with(&finding, head.is_untimed);
         Ok(finding)
     }

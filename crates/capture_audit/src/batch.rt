@@ -27,7 +27,10 @@ use std::alloc::{AllocError, Global};
 use std::thread::Threads;
 
 /// At most so many packets are in a batch.
-const MOST_PACKETS: usize = 256;
+const MOST_PACKETS: usize = 1024;
+
+/// So many octets of protected frames make a batch full.
+const MOST_OCTETS: usize = 1_048_576;
 
 /// A packet that waits for its turn: the front of its line, where lines of packets are asked for, and
 /// where its frame is tried, if it is a protected one.
@@ -47,6 +50,8 @@ pub struct Batch {
     pub shows: bool,
     pub waiting: Vec<Waiting>,
     pub trials: Vec<Trial>,
+    /// How many octets the packets of the trials have.
+    pub octets: usize,
     /// The lines that are written next.
     pub text: Vec<u8>,
 }
@@ -64,6 +69,7 @@ impl Batch {
             shows,
             waiting: Vec::new(alloc),
             trials: Vec::new(alloc),
+            octets: 0,
             text,
         }
     }
@@ -99,10 +105,15 @@ impl Batch {
             return self.settle_alone(auditor, kind, start, packet, sink);
         }
         self.put(auditor, kind, start, packet)?;
-        if self.waiting.len() >= MOST_PACKETS {
+        if self.is_full() {
             self.settle(rt, auditor, sink)?;
         }
         Ok(())
+    }
+
+    /// Whether those that wait are settled before more are taken.
+    fn is_full(&self) -> bool {
+        self.waiting.len() >= MOST_PACKETS || self.octets >= MOST_OCTETS
     }
 
     /// Puts a packet of this kind, whose frame begins at this octet, behind those that wait.
@@ -178,6 +189,7 @@ impl Batch {
         let mut candidates = Vec::new(self.alloc);
         auditor.known.known(tag.sci, tag.an, &mut candidates)?;
         let place = self.trials.len();
+        self.octets = self.octets.saturating_add(octets.len());
         self.trials.push(Trial {
             octets,
             start,
@@ -260,6 +272,7 @@ impl Batch {
         )?;
         self.waiting.clear();
         self.trials.clear();
+        self.octets = 0;
         self.write(sink)
     }
 

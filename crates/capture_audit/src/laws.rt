@@ -1,12 +1,12 @@
 //! Laws of audits.
 
-ghost use Rattle.std.specs.Prelude.{◌≡◌, ◌≢◌, ◌↔◌, ◌∷◌, ◌++◌, All, Bool, ℕ, List, Option, Some, None, Ok, option_map};
+ghost use Rattle.std.specs.Prelude.{◌≡◌, ◌≢◌, ◌↔◌, ◌∷◌, ◌++◌, All, Bool, ℕ, List, Option, Some, None, option_map};
 ghost use Rattle.audit_report.specs.Verdicts.{Verdict};
 ghost use Rattle.audit_report.specs.declared.ending.Ending.{Ending};
 ghost use Rattle.audit_report.specs.declared.ending.Ending.TheVariants.{Fault};
 ghost use Rattle.audit_text.specs.declared.line.KeyLine.TheVariants.{Group};
 ghost use Rattle.capture_packets.specs.Packets.{Seen};
-ghost use Rattle.key_ring.specs.Rings.{AreKeyed, Ring, ring_in, with_line};
+ghost use Rattle.key_ring.specs.Rings.{Ring, ring_in, with_line};
 ghost use Rattle.known_keys.specs.OneKey.{BreaksOneKey};
 ghost use Rattle.least_pairs.specs.Pairs.{IsLeast};
 ghost use Rattle.packet_verdicts.specs.Groups.{GroupKeys, derived_keys};
@@ -18,6 +18,7 @@ ghost use Rattle.capture_audit.specs.Telling.{IsVerdict, report, told_lines};
 
 use audit_text::law_parted;
 use capture_packets::law_one_list;
+use key_ring::law_groups_are_keyed;
 use key_wrap::law_one_key_for_one_wrap;
 
 /// A verdict names the least pair that breaks exactly where one does: of packets that use a packet
@@ -54,8 +55,7 @@ pub fn law_a_front_is_told_first()
 pub fn law_the_format_says_nothing()
     ensures packets { (shows : Bool) (packets : List Seen) (text other : List ℕ) (one two : Ending)
         (refuted also : Bool) (left right held then later : Option (List ℕ))
-        → ring_in text ≡ ring_in other → ((ring : Ring) → ring_in text ≡ Ok ring → AreKeyed ring)
-        → IsWhole text packets → IsWhole other packets
+        → ring_in text ≡ ring_in other → IsWhole text packets → IsWhole other packets
         → one ≢ Fault → two ≢ Fault
         → IsReported shows text left one refuted held then
         → IsReported shows other right two also held later
@@ -64,13 +64,13 @@ pub fn law_the_format_says_nothing()
         (one two : Ending) (refuted also : Bool) (left right held then later : Option (List ℕ))
         → IsFileOf packets file → IsFileOf packets another
         → IsInput keys file text → IsInput keys another other
-        → ((ring : Ring) → ring_in text ≡ Ok ring → AreKeyed ring)
         → one ≢ Fault → two ≢ Fault
         → IsReported shows text left one refuted held then
         → IsReported shows other right two also held later
         → (one ≡ two) × (refuted ≡ also) × (then ≡ later) }
 {
     law_one_key_for_one_wrap();
+    law_groups_are_keyed();
     law_one_list();
     law_parted();
 }

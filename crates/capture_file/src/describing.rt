@@ -75,8 +75,8 @@ fn put_sec(octets: &[u8], into: &mut Vec<u8>) -> Result<(), AllocError>
     }
 }
 
-/// Appends what a SecTAG says.
-fn put_tag(tag: &Tag, into: &mut Vec<u8>) -> Result<(), AllocError>
+/// Appends what a SecTAG says, a blank before each word. An `Err` may leave a front of it.
+pub fn put_tag(tag: &Tag, into: &mut Vec<u8>) -> Result<(), AllocError>
     ensures ok { OnOk result (into.new.items ≡ into.old.items ++ spaced (tag_words tag.now)) }
     ensures err { OnErr result (Grew into.old.items into.new.items) }
 {
@@ -96,8 +96,9 @@ fn put_tag(tag: &Tag, into: &mut Vec<u8>) -> Result<(), AllocError>
     )
 }
 
-/// Appends why a protected frame is malformed.
-fn put_malformed(refusal: TagRefusal, into: &mut Vec<u8>) -> Result<(), AllocError>
+/// Appends why a protected frame is malformed, a blank before each word. An `Err` may leave a front of
+/// it.
+pub fn put_malformed(refusal: TagRefusal, into: &mut Vec<u8>) -> Result<(), AllocError>
     ensures ok { OnOk result (into.new.items
         ≡ into.old.items ++ spaced (malformed_words refusal)) }
     ensures err { OnErr result (Grew into.old.items into.new.items) }

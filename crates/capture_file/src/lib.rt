@@ -9,7 +9,7 @@ mod order;
 mod reading;
 mod writing;
 
-pub use describing::describe;
+pub use describing::{describe, put_malformed, put_tag};
 pub use fault::CaptureFault;
 pub use laws::law_capture;
 pub use order::Order;

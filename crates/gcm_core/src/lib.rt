@@ -11,4 +11,4 @@ mod sealing;
 mod wide_block;
 
 pub use gcm_key::GcmKey;
-pub use sealing::{seal, unseal};
+pub use sealing::{is_sealed, seal, unseal};

@@ -43,6 +43,16 @@ pub fn unseal(key: &GcmKey, iv: [u8; 12], extra: &[u8], text: &mut [u8], tag: [u
     true
 }
 
+/// Whether a ciphertext is sealed with this tag, as `unseal` finds it, without deciphering. Neither
+/// `extra` nor `ciphertext` is longer than 65,536 octets.
+pub fn is_sealed(key: &GcmKey, iv: [u8; 12], extra: &[u8], ciphertext: &[u8], tag: [u8; 16]) -> bool
+    requires extra { length extra.now ≤ 65536 }
+    requires ciphertext { length ciphertext.now ≤ 65536 }
+    ensures { IsTrue result ↔ (gcm_tag key.now iv extra.now ciphertext.now ≡ tag) }
+{
+    is_same(&tag_of(key, &iv, extra, ciphertext), &tag)
+}
+
 /// Encrypts text in place; the same call decrypts it.
 fn encrypt_text(key: &GcmKey, iv: &[u8; 12], text: &mut [u8])
     ensures text { text.new ≡ gcm_text key.now iv.now text.old }

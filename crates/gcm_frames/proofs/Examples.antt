@@ -1,7 +1,7 @@
 -- The definitions, computed.
 use Rattle.std.proofs.Common.{◌≡◌, ℕ, List, [], ◌∷◌, ◌++◌, replicate, Some, None, refl}
 use Rattle.gcm_frames.specs.declared.tag.TagRefusal.TheVariants.{NotSec, Version, Mode, Short, SlWrong}
-use Rattle.gcm_frames.specs.Tags.{refused}
+use Rattle.gcm_frames.specs.Tags.{implied_refused, refused}
 
 -- addresses and the EtherType of MACsec, the octet of control information, the short length, and more octets
 abbrev frame : ℕ → ℕ → ℕ → List ℕ
@@ -28,6 +28,19 @@ an_sci_twice = refl
 
 no_sci : refused (frame 0x00 47 80) ≡ Some Mode
 no_sci = refl
+
+-- unless it may be implied, which neither an SCI that is given twice nor a broadcast is
+an_implied_sci : implied_refused (frame 0x0c 47 67) ≡ None
+an_implied_sci = refl
+
+an_sci_twice_is_not_implied : implied_refused (frame 0x60 47 80) ≡ Some Mode
+an_sci_twice_is_not_implied = refl
+
+a_broadcast_is_not_implied : implied_refused (frame 0x1c 47 80) ≡ Some Mode
+a_broadcast_is_not_implied = refl
+
+one_octet_missing_behind_an_implied_sci : implied_refused (frame 0x0c 47 66) ≡ Some Short
+one_octet_missing_behind_an_implied_sci = refl
 
 enciphered_and_not_changed : refused (frame 0x28 47 80) ≡ Some Mode
 enciphered_and_not_changed = refl

@@ -1,4 +1,5 @@
 pub mod Examples
+pub mod Found
 pub mod Opening
 pub mod Parts
 pub mod Reopened

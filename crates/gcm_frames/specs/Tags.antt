@@ -75,6 +75,13 @@ is_mode frame =
     not (is_broadcast frame) && not (are_same (is_end_station frame) (has_sci frame))
     && are_same (is_enciphered frame) (is_changed frame)
 
+-- the same where the SCI may be implied: neither ES nor SC is set, and there is no other sender than the
+-- one whose address the frame has
+abbrev pub is_implied_mode : List ℕ → Bool
+is_implied_mode frame =
+    not (is_broadcast frame) && not (is_end_station frame && has_sci frame)
+    && are_same (is_enciphered frame) (is_changed frame)
+
 -- the frame ends before the tag does, by its short length
 abbrev pub is_short : List ℕ → Bool
 is_short frame = nat_lt (length frame) (start_of frame + short_length_of frame + 16)
@@ -86,15 +93,22 @@ is_length_wrong frame =
     nat_le least_long (short_length_of frame) || ((short_length_of frame == 0)
     && nat_lt (length frame) (start_of frame + (least_long + 16)))
 
--- the first refusal of a frame, in the order in which they are tried
-abbrev pub refused : List ℕ → Option TagRefusal
-refused frame =
+-- the first refusal of a frame whose mode is read or not, in the order in which they are tried
+abbrev pub refused_in : Bool → List ℕ → Option TagRefusal
+refused_in mode frame =
     if not (is_sec frame) then Some NotSec else
     if has_control frame && has_version frame then Some Version else
-    if has_control frame && not (is_mode frame) then Some Mode else
+    if has_control frame && not mode then Some Mode else
     if is_short frame then Some Short else
     if is_length_wrong frame then Some SlWrong else
     None
+
+abbrev pub refused : List ℕ → Option TagRefusal
+refused frame = refused_in (is_mode frame) frame
+
+-- where the SCI may be implied
+abbrev pub implied_refused : List ℕ → Option TagRefusal
+implied_refused frame = refused_in (is_implied_mode frame) frame
 
 -- ---- what is read
 
@@ -128,3 +142,7 @@ fields_or (Some refusal) frame = Err refusal
 
 unfoldable pub tag_fields : List ℕ → Result Tag TagRefusal
 tag_fields frame = fields_or (refused frame) frame
+
+-- of a frame whose SCI may be implied: that is its source address with port 1
+unfoldable pub implied_fields : List ℕ → Result Tag TagRefusal
+implied_fields frame = fields_or (implied_refused frame) frame

@@ -14,5 +14,5 @@ pub use laws::{
 };
 pub use protecting::protect;
 pub use tag::{Tag, TagRefusal};
-pub use tagging::tag_of;
-pub use validating::validate;
+pub use tagging::{implied_tag_of, tag_of};
+pub use validating::{is_sealed, validate};

@@ -2,20 +2,26 @@
 
 ghost use Rattle.std.specs.Prelude.{◌≡◌, ◌<◌, ◌≤◌, ◌+◌, ◌↔◌, length, Some, Ok, Err, IfOk};
 ghost use Rattle.gcm_frames.specs.declared.tag.TagRefusal.{TagRefusal};
-ghost use Rattle.gcm_frames.specs.Tags.{an_of, has_flag, is_mode, is_sec, start_of, sci_of, refused, tag_in, tag_fields};
+ghost use Rattle.gcm_frames.specs.Tags.{an_of, control_of, fields_or, has_flag, implied_fields, is_implied_mode, is_mode, is_sec, start_of, sci_of, refused, refused_in, tag_in, tag_fields};
 
 use crate::protecting::LONG;
 use crate::tag::{Tag, TagRefusal};
 use byteorder::{BigEndian, ByteOrder};
 use lan_base::{AssociationNumber, Sci};
 
+/// The octet of control information, 0 where there is none.
+fn control_of(frame: &[u8]) -> u8
+    ensures { result ≡ control_of frame.now }
+{
+    if frame.len() > 14 { frame[14] } else { 0 }
+}
+
 /// Whether the octet of control information has a flag.
 fn has_flag(flag: u8, frame: &[u8]) -> bool
-    requires flag { 0 < flag }
-    requires control { 14 < length frame.now }
+    requires { 0 < flag }
     ensures { result ≡ has_flag flag frame.now }
 {
-    frame[14] / flag % 2 == 1
+    control_of(frame) / flag % 2 == 1
 }
 
 /// The flag V: another version of the SecTAG than the one that is read.
@@ -58,11 +64,19 @@ fn is_sec(frame: &[u8]) -> bool
 
 /// Whether the flags are those of a mode that is read.
 fn is_mode(frame: &[u8]) -> bool
-    requires { 14 < length frame.now }
     ensures { result ≡ is_mode frame.now }
 {
     !has_flag(BROADCAST, frame)
         && has_flag(END_STATION, frame) != has_flag(EXPLICIT_SCI, frame)
+        && has_flag(ENCIPHERED, frame) == has_flag(CHANGED, frame)
+}
+
+/// Whether they are, where the SCI may be implied.
+fn is_implied_mode(frame: &[u8]) -> bool
+    ensures { result ≡ is_implied_mode frame.now }
+{
+    !has_flag(BROADCAST, frame)
+        && !(has_flag(END_STATION, frame) && has_flag(EXPLICIT_SCI, frame))
         && has_flag(ENCIPHERED, frame) == has_flag(CHANGED, frame)
 }
 
@@ -94,7 +108,7 @@ fn sci_of(frame: &[u8]) -> Sci
     Sci([a, b, c, d, e, f, 0, 1])
 }
 
-/// The fields of a frame, or the first refusal.
+/// The fields of a frame, or the first refusal. One of ES and SC is set.
 #[tactic(auto, unfolding(crate::specs::Tags::tag_fields))]
 pub fn tag_of(frame: &[u8]) -> Result<Tag, TagRefusal>
     ensures refused { (e : TagRefusal) → (result ≡ Err e) ↔ (refused frame.now ≡ Some e) }
@@ -102,6 +116,26 @@ pub fn tag_of(frame: &[u8]) -> Result<Tag, TagRefusal>
     ensures exact { result ≡ tag_fields frame.now }
 
     // The secure data and the tag lie in the frame.
+    ensures within { IfOk result (λ tag. tag.start + tag.len + 16 ≤ length frame.now) }
+{
+    fields_of(is_mode(frame), frame)
+}
+
+/// The fields of a frame whose SCI may be implied, or the first refusal: where neither ES nor SC is
+/// set, as a sender may leave both out that is alone with its peer, the SCI is its address with port 1.
+#[tactic(auto, unfolding(crate::specs::Tags::implied_fields))]
+pub fn implied_tag_of(frame: &[u8]) -> Result<Tag, TagRefusal>
+    ensures exact { result ≡ implied_fields frame.now }
+
+    // The secure data and the tag lie in the frame.
+    ensures within { IfOk result (λ tag. tag.start + tag.len + 16 ≤ length frame.now) }
+{
+    fields_of(is_implied_mode(frame), frame)
+}
+
+/// The fields of a frame whose mode is read or not, or the first refusal.
+fn fields_of(is_mode: bool, frame: &[u8]) -> Result<Tag, TagRefusal>
+    ensures fields { result ≡ fields_or (refused_in is_mode frame.now) frame.now }
     ensures within { IfOk result (λ tag. tag.start + tag.len + 16 ≤ length frame.now) }
 {
     if !is_sec(frame) {
@@ -113,7 +147,7 @@ pub fn tag_of(frame: &[u8]) -> Result<Tag, TagRefusal>
     if has_flag(VERSION, frame) {
         return Err(TagRefusal::Version);
     }
-    if !is_mode(frame) {
+    if !is_mode {
         return Err(TagRefusal::Mode);
     }
     let start = start_of(frame);

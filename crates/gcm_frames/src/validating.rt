@@ -1,9 +1,8 @@
 //! Validating a received frame (IEEE Std 802.1AE, clause 14).
 
-ghost use Rattle.std.specs.Prelude.{◌≡◌, ◌≤◌, ◌↔◌, ◌+◌, List, ℕ, length, Ok, Some, None, IsTrue, if◌then◌else◌};
+ghost use Rattle.std.specs.Prelude.{◌≡◌, ◌≤◌, ◌↔◌, ◌+◌, List, ℕ, length, Some, None, IsTrue, is_some, if◌then◌else◌};
 ghost use Rattle.std.specs.Bool.{OnTrue, OnFalse};
 ghost use Rattle.lan_base.specs.Ranges.{most_frame_octets};
-ghost use Rattle.gcm_frames.specs.Tags.{tag_fields};
 ghost use Rattle.gcm_frames.specs.Sealed.{check_octets, IsSealed, IsSealedFrom, opened, secure_data, user_data, with_user_data};
 
 use crate::protecting::iv_of;
@@ -21,12 +20,28 @@ fn check_of(tag: &Tag, frame: &[u8]) -> [u8; 16]
     *check
 }
 
+/// Whether a frame is sealed under a key, as `validate` finds it, without deciphering: nothing of the
+/// frame changes. `tag` is what was read of this frame, which is no longer than a frame may be.
+pub fn is_sealed(key: &GcmKey, tag: &Tag, frame: &[u8]) -> bool
+    requires within { tag.now.start + tag.now.len + 16 ≤ length frame.now }
+    requires length { length frame.now ≤ most_frame_octets }
+    ensures { result ≡ is_some (opened key.now tag.now frame.now) }
+{
+    let iv = iv_of(tag.sci, tag.pn);
+    let check = check_of(tag, frame);
+    let end = tag.start + tag.len;
+    if tag.conf {
+        gcm_core::is_sealed(key, iv, &frame[..tag.start], &frame[tag.start..end], check)
+    } else {
+        gcm_core::is_sealed(key, iv, &frame[..end], &[], check)
+    }
+}
+
 /// Whether a frame is sealed under a key. If so, its user data stands in the place of its secure
-/// data afterwards; if not, the frame is as it was. `tag` is what `tag_of` gave of this frame,
-/// which is no longer than a frame may be. No memory is taken.
-#[tactic(auto, using(crate::proofs::Within::within))]
+/// data afterwards; if not, the frame is as it was. `tag` is what was read of this frame, which is no
+/// longer than a frame may be. No memory is taken.
 pub fn validate(key: &GcmKey, tag: &Tag, frame: &mut [u8]) -> bool
-    requires tag { tag_fields frame.old ≡ Ok tag.now }
+    requires within { tag.now.start + tag.now.len + 16 ≤ length frame.old }
     requires length { length frame.old ≤ most_frame_octets }
     ensures sealed { IsTrue result ↔ IsSealed key.now tag.now frame.old }
     ensures plain { OnTrue result ((text : List ℕ) → IsSealedFrom key.now tag.now frame.old text

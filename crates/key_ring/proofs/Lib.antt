@@ -1,5 +1,7 @@
 pub mod Lines
 pub mod KeyFronts
 pub mod Steps
+pub mod DerivedKeys
+pub mod KeyedRings
 pub mod Public
 mod Examples

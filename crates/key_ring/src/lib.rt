@@ -2,7 +2,9 @@
 #![tactic(auto)]
 
 mod end;
+mod laws;
 mod ring;
 
 pub use end::RingEnd;
+pub use laws::law_groups_are_keyed;
 pub use ring::{HandKey, KeyRing};

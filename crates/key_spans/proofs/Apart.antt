@@ -1,5 +1,5 @@
 -- Spans under one number do not overlap.
-use Rattle.std.proofs.Common.{◌≡◌, ◌∙◌, ◌<◌, ◌≤◌, ◌+◌, ℕ, Bool, true, false, List, [], ◌∷◌, ◌++◌, Option, Some, None, refl, sym, ap, subst, arith}
+use Rattle.std.proofs.Common.{◌≡◌, ◌∙◌, ◌≤◌, ◌+◌, ℕ, Bool, true, false, List, [], ◌∷◌, ◌++◌, Option, Some, None, refl, sym, ap, subst, arith}
 use Rattle.std.specs.Prelude.{◌==◌, if◌then◌else◌, min, map, is_some, IsTrue}
 use Rattle.std.specs.Option.{option_or}
 use Rattle.lan_base.specs.declared.association_number.AssociationNumber.{AssociationNumber}
@@ -10,7 +10,7 @@ use Rattle.key_spans.specs.declared.span.End.{End}
 use Rattle.key_spans.specs.declared.span.Turn.{Turn}
 use Rattle.key_spans.specs.declared.span.Turn.TheVariants.{Ends, Begins, Relieves}
 use Rattle.key_spans.specs.declared.span.Why.TheVariants.{Replaced}
-use Rattle.key_spans.specs.Spans.{clock_after, lived, opened, spans, spans_from, touched, turn_by, turned, relieved_at}
+use Rattle.key_spans.specs.Spans.{clock_after, lived, opened, spans, spans_from, touched, turn_by, turned}
 use Rattle.key_spans.specs.inside.Taking.{HasEnded}
 use Rattle.key_spans.specs.Times.{EndsBy}
 use Rattle.key_spans.proofs.OneMore.{by_sum, ends, opens, stays}

@@ -1,5 +1,5 @@
 -- What a fact does to the rows of its station, and to those of others.
-use Rattle.std.proofs.Common.{◌≡◌, ◌≢◌, ◌∙◌, ◌⊎◌, ◌<◌, ℕ, zero, suc, Bool, true, false, List, [], ◌∷◌, ◌++◌, length, Option, Some, None, Result, Ok, Err, refl, sym, ap, subst, inl, inr, arith}
+use Rattle.std.proofs.Common.{◌≡◌, ◌≢◌, ◌∙◌, ◌⊎◌, ◌<◌, ℕ, zero, suc, Bool, true, false, List, [], ◌∷◌, ◌++◌, length, Option, Some, None, Ok, Err, refl, sym, ap, subst, inl, inr, arith}
 use Rattle.std.specs.declared.alloc.AllocError.{AllocError}
 use Rattle.std.specs.Prelude.{◌==◌, ◌&&◌, if◌then◌else◌, map, slice_get}
 use Rattle.std.proofs.lemmas.List.{append-nil}
@@ -13,7 +13,6 @@ use Rattle.tick_columns.specs.Columns.{IsThinned, Kept as Columns, no_columns}
 use Rattle.key_spans.specs.declared.span.Span.{Span}
 use Rattle.key_spans.specs.declared.span.Turn.{Turn}
 use Rattle.key_spans.specs.declared.span.Turn.TheVariants.{Ends, Begins, Relieves}
-use Rattle.key_spans.specs.declared.span.Why.{Why}
 use Rattle.key_spans.specs.declared.span.Why.TheVariants.{Replaced, Retired, Dropped, Restarted}
 use Rattle.key_spans.specs.Spans.{clock_after, opened, touched, turn_by}
 use Rattle.key_spans.specs.Standing.{Kept, Rows, installed_at, row_at, row_in, row_of}

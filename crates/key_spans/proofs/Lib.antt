@@ -5,3 +5,7 @@ mod Sending
 mod Touching
 mod Lanes
 mod Standing
+mod Telling
+mod Holding
+mod Turns
+mod Runs

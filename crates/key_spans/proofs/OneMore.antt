@@ -1,6 +1,6 @@
 -- One fact more at the end of facts, and what it does to the rows.
 use Rattle.std.proofs.Common.{◌≡◌, ◌∙◌, ◌⊎◌, ℕ, Bool, true, false, List, [], ◌∷◌, ◌++◌, Option, Some, None, refl, sym, ap, subst, inl, inr, append_assoc}
-use Rattle.std.specs.Prelude.{Result, Ok, Err, OnOk, ◌==◌, ◌&&◌, if◌then◌else◌, map, is_some, IsTrue, option_map, option_to_list}
+use Rattle.std.specs.Prelude.{◌==◌, ◌&&◌, if◌then◌else◌, map, is_some, IsTrue}
 use Rattle.std.proofs.lemmas.List.{append-nil}
 use Rattle.lan_base.specs.AssociationNumbers.{same_an}
 use Rattle.lan_base.specs.declared.association_number.AssociationNumber.{AssociationNumber}
@@ -12,7 +12,7 @@ use Rattle.key_spans.specs.declared.span.Turn.{Turn}
 use Rattle.key_spans.specs.declared.span.Turn.TheVariants.{Ends}
 use Rattle.key_spans.specs.declared.span.Why.{Why}
 use Rattle.key_spans.specs.declared.span.Why.TheVariants.{Replaced}
-use Rattle.key_spans.specs.Spans.{clock, clock_after, lived, opened, spans, spans_from, touched, turn_by, turned}
+use Rattle.key_spans.specs.Spans.{clock, clock_after, lived, opened, spans_from, touched, turn_by, turned}
 use Rattle.key_spans.specs.inside.Taking.{HasEnded}
 
 pub by_sum : {A B P : Type 0} → A ⊎ B → (A → P) → (B → P) → P

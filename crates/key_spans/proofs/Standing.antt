@@ -7,7 +7,6 @@ use Rattle.lan_core.specs.declared.fact.Fact.{Fact}
 use Rattle.tick_columns.specs.Columns.{IsThinned}
 use Rattle.key_spans.specs.declared.span.Span.{Span}
 use Rattle.key_spans.specs.declared.span.End.{End}
-use Rattle.key_spans.specs.declared.span.Turn.{Turn}
 use Rattle.key_spans.specs.declared.span.Turn.TheVariants.{Ends}
 use Rattle.key_spans.specs.declared.span.Why.TheVariants.{Replaced}
 use Rattle.key_spans.specs.Spans.{clock, clock_after, lived, opened, spans, spans_from, touched, turn_by}
@@ -15,7 +14,7 @@ use Rattle.key_spans.specs.Standing.{Kept, StandsFor, installed_at, row_at}
 use Rattle.key_spans.specs.Times.{EndsBy}
 use Rattle.key_spans.specs.inside.Taking.{AllEnded, AreBy, IsKept, IsTaken}
 use Rattle.key_spans.proofs.OneMore.{by_sum, clock-more, opens, spans-more}
-use Rattle.key_spans.proofs.Apart.{AreApart, Every, all-apart, every-at, installed-lived, most, rises}
+use Rattle.key_spans.proofs.Apart.{AreApart, all-apart, every-at, installed-lived, most, rises}
 
 clock-rises : (at : ℕ) (facts : List Fact) → at ≤ most → at ≤ clock at facts
 clock-rises at [] few = omega arith

@@ -1,4 +1,5 @@
 pub mod Spans
 pub mod Standing
 pub mod Times
+pub mod Held
 pub mod inside

@@ -1,9 +1,14 @@
-//! What holds of the spans of every list of facts, and so of those of every run.
+//! What holds of the spans of every list of facts, and which keys those of a run tell of.
 
 ghost use Rattle.std.specs.Prelude.{ℕ, ◌≡◌, ◌++◌, ◌∷◌, List};
 ghost use Rattle.lan_base.specs.AssociationNumbers.{number_of};
 ghost use Rattle.lan_base.specs.declared.association_number.AssociationNumber.{AssociationNumber};
+ghost use Rattle.lan_base.specs.declared.frame.UserFrame.{UserFrame};
 ghost use Rattle.lan_core.specs.declared.fact.Fact.{Fact};
+ghost use Rattle.lan_core.specs.declared.settings.Settings.{Settings};
+ghost use Rattle.lan_core.specs.Run.{Run};
+ghost use Rattle.lan_core.specs.Legal.{IsLegal, IsStepped};
+ghost use Rattle.key_spans.specs.Held.{TellOf};
 ghost use Rattle.key_spans.specs.declared.span.Span.{Span};
 ghost use Rattle.key_spans.specs.Spans.{spans};
 ghost use Rattle.key_spans.specs.Times.{EndsBy, Transmits};
@@ -24,4 +29,14 @@ pub fn law_one_key_transmits()
         (before behind front back : List Span) (a b : Span)
         → spans s one facts ≡ before ++ a ∷ behind → spans s other facts ≡ front ++ b ∷ back
         → Transmits a → Transmits b → number_of one ≡ number_of other }
+{}
+
+/// The spans of a run's facts are those of the keys that its stations hold: after each event a span is
+/// held exactly where its station holds that key under that number, and transmits exactly where that
+/// key does.
+pub fn law_spans_tell_of_held_keys()
+    ensures legal { (settings : Settings) (users : List UserFrame) (r : Run)
+        → IsLegal settings users r → TellOf settings r }
+    ensures stepped { (settings : Settings) (users : List UserFrame) (r : Run)
+        → IsStepped settings users r → TellOf settings r }
 {}

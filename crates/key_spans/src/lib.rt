@@ -8,6 +8,6 @@ mod row;
 mod span;
 mod spans;
 
-pub use laws::{law_one_key_transmits, law_spans_do_not_overlap};
+pub use laws::{law_one_key_transmits, law_spans_do_not_overlap, law_spans_tell_of_held_keys};
 pub use span::{End, Span, Why};
 pub use spans::Spans;

@@ -6,12 +6,13 @@ use Rattle.std.specs.List.{list_any}
 use Rattle.std.proofs.lemmas.Bool.{eqb-true, eqb-false, lt-ltb, ltb-true, le-ltb, ltb-false}
 use Rattle.lan_core.specs.declared.stop.Stop.TheVariants.{Limit}
 use Rattle.lan_core.specs.declared.stop.Which.{Which}
+use Rattle.lan_core.specs.declared.stop.Which.TheVariants.{Frames, Octets, Ticks}
 use Rattle.lan_core.specs.Run.{Run, stations}
 use Rattle.lan_core.specs.Ledgers.{air, Install, installs}
 use Rattle.lan_base.specs.Ranges.{most_ticks, most_frames}
 use Rattle.lan_core.specs.Order.{IsWithin, ticks, most_stations, most_octets, most_installs}
 use Rattle.lan_core.specs.Stops.{passed, is_over_installs}
-use Rattle.lan_core.specs.inside.Limits.{passed_by}
+use Rattle.lan_core.specs.inside.Limits.{IsLight, passed_by, passed_with}
 use Rattle.lan_core.proofs.OwnLedgers.{installs_of}
 
 -- whether the station of an install has too many
@@ -137,3 +138,24 @@ within-where q none =
       installs = few-of-each (installs q) keys.0;
       stations = at_most _ _ stood.0;
     }
+
+-- no limit is passed by counts where none stops a group
+none-of : (o : Option Which) → option_map Limit o ≡ None → o ≡ None
+none-of None none = refl
+none-of (Some which) none = absurd (cc none)
+
+-- the air is light then, and the ticks are few
+pub light-where : (frames : List (List ℕ)) (past count seen : ℕ)
+    → option_map Limit (passed_with frames past count seen) ≡ None → IsLight frames
+light-where frames past count seen none =
+    let few = not_first (nat_lt most_frames (length frames)) Frames _ (none-of _ none) in
+    let light = not_first (nat_lt most_octets (sum (map length frames))) Octets _ few.1 in
+    record { few = at_most _ _ few.0; light = at_most _ _ light.0 }
+
+pub ticks-where : (frames : List (List ℕ)) (past count seen : ℕ)
+    → option_map Limit (passed_with frames past count seen) ≡ None → past ≤ most_ticks
+ticks-where frames past count seen none =
+    let few = not_first (nat_lt most_frames (length frames)) Frames _ (none-of _ none) in
+    let light = not_first (nat_lt most_octets (sum (map length frames))) Octets _ few.1 in
+    let ticked = not_first (nat_lt most_ticks past) Ticks _ light.1 in
+    at_most _ _ ticked.0

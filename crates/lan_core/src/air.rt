@@ -1,10 +1,12 @@
 //! The air: every frame that was ever put there.
 
-ghost use Rattle.std.specs.Prelude.{◌≡◌, ◌≤◌, ◌<◌, ◌+◌, ◌^◌, ◌++◌, ◌∷◌, [], ℕ, true, List, Some, map, sum, length, option_to_list, IfOk, OnOk, OnErr, IfSome};
+ghost use Rattle.std.specs.Prelude.{◌≡◌, ◌≤◌, ◌+◌, ◌++◌, ◌∷◌, [], ℕ, true, List, Some, map, sum, length, option_to_list, IfOk, OnOk, OnErr, IfSome};
 ghost use Rattle.std.specs.Option.{option_copied};
 ghost use Rattle.std.specs.List.{list_any};
-ghost use Rattle.lan_base.specs.Ranges.{most_frame_octets};
+ghost use Rattle.lan_base.specs.Ranges.{most_frame_octets, most_frames};
+ghost use Rattle.lan_core.specs.Order.{most_octets};
 ghost use Rattle.lan_core.specs.Standing.{octets_at};
+ghost use Rattle.lan_core.specs.inside.Limits.{IsLight};
 ghost use Rattle.lan_core.specs.inside.Repeats.{begins, begins_at, check_value, repeats_octets};
 
 use crate::check_value::{CHECK_LEN, check_value};
@@ -54,16 +56,34 @@ impl Air {
 
     /// How many frames there are.
     pub fn len(&self) -> usize
-        ensures { result ≡ length self.now }
+        ensures len { result ≡ length self.now }
+        ensures few { result ≤ most_frames }
     {
         self.frames.len()
     }
 
     /// How many octets the frames have together.
     pub fn octets(&self) -> u64
-        ensures { result ≡ sum (map length self.now) }
+        ensures octets { result ≡ sum (map length self.now) }
+        ensures light { result ≤ most_octets }
     {
         self.octets
+    }
+
+    /// How many frames there are, and how many octets they have together, with a frame more, if
+    /// there is one.
+    pub fn with(&self, sent: Option<&Octets>) -> (usize, u64)
+        ensures frames { result.0 ≡ length (self.now ++ option_to_list (option_copied sent.entry)) }
+        ensures octets { result.1
+            ≡ sum (map length (self.now ++ option_to_list (option_copied sent.entry))) }
+    {
+        match sent {
+            Some(frame) => (
+                self.len() + 1,
+                self.octets() + frame.as_slice().len() as u64,
+            ),
+            None => (self.len(), self.octets()),
+        }
     }
 
     /// The frame of a number, from 1.
@@ -77,24 +97,10 @@ impl Air {
     }
 
     /// The number of the frame that is next put on the air.
-    pub fn next_number(&self) -> Result<u32, AllocError>
-        ensures { IfOk result (λ number. number ≡ length self.now + 1) }
+    pub fn next_number(&self) -> u32
+        ensures { result ≡ length self.now + 1 }
     {
-        let place = self.next_place()?;
-        Ok(place + 1)
-    }
-
-    /// The place of that frame, from 0.
-    fn next_place(&self) -> Result<u32, AllocError>
-        ensures place { IfOk result (λ place. place ≡ length self.now) }
-        ensures small { IfOk result (λ place. place + 1 < 2 ^ 32) }
-    {
-        let frames = self.frames.len();
-        if frames < u32::MAX as usize {
-            Ok(frames as u32)
-        } else {
-            Err(AllocError)
-        }
+        self.len() as u32 + 1
     }
 
     /// Whether octets repeat a frame of the air, but for what stands after its body.
@@ -150,20 +156,22 @@ impl Air {
     /// Puts a frame on the air. An error leaves the air as it was; longer frames than any that is
     /// sent are refused so too.
     pub fn push(&mut self, octets: Octets) -> Result<(), AllocError>
+        requires { IsLight (self.old ++ octets ∷ []) }
         ensures ok { OnOk result (self.new ≡ self.old ++ octets ∷ []) }
         ensures err { OnErr result (self.new ≡ self.old) }
     {
-        let total = self.octets_with(octets.len())?;
-        let place = self.next_place()?;
+        let more = length_of(&octets)?;
+        let place = self.len() as u32;
         self.frames.reserve(1)?;
         self.checks.add(check_value(octets.as_slice()), place)?;
         self.frames.push(octets)?;
-        self.octets = total;
+        self.octets += more;
         Ok(())
     }
 
     /// Puts a copy of a frame on the air, if there is one. An error leaves the air as it was.
     pub fn put(&mut self, sent: Option<&Octets>) -> Result<(), AllocError>
+        requires { IsLight (self.old ++ option_to_list (option_copied sent)) }
         ensures ok { OnOk result (self.new ≡ self.old
             ++ option_to_list (option_copied sent.entry)) }
         ensures err { OnErr result (self.new ≡ self.old) }
@@ -174,15 +182,15 @@ impl Air {
         }
         Ok(())
     }
+}
 
-    /// How many octets there will be with a frame of so many more, if the air takes it.
-    fn octets_with(&self, more: usize) -> Result<u64, AllocError>
-        ensures short { OnOk result (more ≤ most_frame_octets) }
-        ensures total { IfOk result (λ total. total ≡ sum (map length self.now) + more) }
-    {
-        if more > FRAME_MAX {
-            return Err(AllocError);
-        }
-        self.octets.checked_add(more as u64).ok_or(AllocError)
+/// How many octets a frame has that is not longer than any that is sent.
+fn length_of(frame: &Octets) -> Result<u64, AllocError>
+    ensures len { IfOk result (λ more. more ≡ length frame.now) }
+    ensures short { OnOk result (length frame.now ≤ most_frame_octets) }
+{
+    if frame.len() > FRAME_MAX {
+        return Err(AllocError);
     }
+    Ok(frame.len() as u64)
 }

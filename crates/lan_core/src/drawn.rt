@@ -1,6 +1,6 @@
 //! The values that were drawn, each with the number of its draw.
 
-ghost use Rattle.std.specs.Prelude.{◌≡◌, ◌+◌, [], IfOk, OnOk};
+ghost use Rattle.std.specs.Prelude.{◌≡◌, ◌<◌, ◌+◌, ◌^◌, [], IfOk, OnOk};
 ghost use Rattle.lan_core.specs.Standing.{number_of_mi, number_of_sak};
 ghost use Rattle.lan_core.specs.Noting.{MiIsNoted, SakIsNoted};
 ghost use Rattle.lan_core.specs.inside.Drawing.{SakIsKept};
@@ -11,7 +11,8 @@ use std::alloc::{AllocError, Global};
 use std::collections::BTreeMap;
 use std::marker::Model;
 
-/// The member identifiers and keys that were drawn, and how many draws there were.
+/// The member identifiers and keys that were drawn, and how many draws there were, so that one more
+/// has a number.
 #[derive(Drop)]
 pub struct Drawn {
     count: u64,
@@ -21,6 +22,7 @@ pub struct Drawn {
 }
 
 impl Model for Drawn {
+    ghost use Rattle.std.specs.Prelude.{◌<◌, ◌+◌, ◌^◌};
     ghost use Rattle.lan_core.specs.Standing.{Numbers};
 
     ghost Value = { Numbers };
@@ -31,6 +33,8 @@ impl Model for Drawn {
       narrow = d.narrow.entries;
       wide = d.wide.entries;
     } };
+
+    ghost invariant = { λ d. d.count + 1 < 2 ^ 64 };
 }
 
 impl Drawn {
@@ -51,6 +55,13 @@ impl Drawn {
         ensures { result ≡ self.now.count }
     {
         self.count
+    }
+
+    /// The number of the next draw.
+    pub(crate) fn next_number(&self) -> u64
+        ensures { result ≡ self.now.count + 1 }
+    {
+        self.count + 1
     }
 
     /// The number of the draw that gave a member identifier.
@@ -91,11 +102,16 @@ impl Drawn {
         Ok(())
     }
 
-    /// The count after so many draws more, as far as they can be counted.
+    /// The count after so many draws more, as far as they can be counted, and one more: a group ends
+    /// at its 2^64 - 1st draw as if it had no memory.
     fn after(&self, draws: u64) -> Result<u64, AllocError>
-        ensures { IfOk result (λ count. count ≡ self.now.count + draws) }
+        ensures count { IfOk result (λ count. count ≡ self.now.count + draws) }
+        ensures small { IfOk result (λ count. count + 1 < 2 ^ 64) }
     {
-        self.count.checked_add(draws).ok_or(AllocError)
+        match self.count.checked_add(draws) {
+            Some(count) if count < u64::MAX => Ok(count),
+            _ => Err(AllocError),
+        }
     }
 
     /// Keeps the number of the draw that gave a key.

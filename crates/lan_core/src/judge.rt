@@ -1,7 +1,8 @@
 //! What the stations of a group hear is judged once for all of them.
 
-ghost use Rattle.std.specs.Prelude.{◌≡◌, OnOk};
-ghost use Rattle.lan_core.specs.inside.Judge.{IsJudged};
+ghost use Rattle.std.specs.Prelude.{◌≡◌, IfOk, OnOk};
+ghost use Rattle.lan_base.specs.Ranges.{IsCkn};
+ghost use Rattle.lan_core.specs.inside.Judge.{IsJudged, HasKeys};
 
 use crate::settings::{Settings, group_of};
 use lan_base::{Octets, Suite};
@@ -37,6 +38,7 @@ impl Judge {
     /// The judge of a group, who has judged that no octets are no frame of key agreement. It takes
     /// no memory.
     pub fn new(alloc: Global, settings: Settings) -> Judge
+        requires { IsCkn settings.ckn }
         ensures { result.settings ≡ settings }
     {
         Judge {
@@ -48,9 +50,10 @@ impl Judge {
         }
     }
 
-    /// The group's settings.
+    /// The group's settings, with a name that is what it may be.
     pub fn settings(&self) -> &Settings
-        ensures { result.now ≡ self.now.settings }
+        ensures settings { result.now ≡ self.now.settings }
+        ensures named { IsCkn result.now.ckn }
     {
         &self.settings
     }
@@ -71,11 +74,7 @@ impl Judge {
         if self.octets.as_slice() == octets {
             return Ok(());
         }
-        self.prepare()?;
-        let Some(group) = &self.group else {
-            return Err(AllocError);
-        };
-        let judgement = judge(self.alloc, group, octets)?;
+        let judgement = self.judged(octets)?;
         self.octets = Octets::from_slice(self.alloc, octets)?;
         self.judgement = judgement;
         Ok(())
@@ -88,13 +87,26 @@ impl Judge {
         &self.judgement
     }
 
-    /// The group's keys are there.
-    fn prepare(&mut self) -> Result<(), AllocError>
-        ensures { self.new ≡ self.old }
+    /// What the stations of the group make of octets, by the group's keys, which are there from then
+    /// on.
+    fn judged(&mut self, octets: &[u8]) -> Result<Result<Announcement, DropReason>, AllocError>
+        ensures judged { IfOk result (IsJudged self.old.settings octets.now) }
+        ensures same { self.new ≡ self.old }
     {
-        if self.group.is_none() {
-            self.group = Some(group_of(self.alloc, &self.settings)?);
+        let group = self.take_keys()?;
+        let judgement = judge(self.alloc, &group, octets)?;
+        self.group = Some(group);
+        Ok(judgement)
+    }
+
+    /// The group's keys, which the caller gives back.
+    fn take_keys(&mut self) -> Result<Group, AllocError>
+        ensures keys { IfOk result (HasKeys self.old.settings) }
+        ensures same { self.new ≡ self.old }
+    {
+        match self.group.take() {
+            Some(group) => Ok(group),
+            None => group_of(self.alloc, &self.settings),
         }
-        Ok(())
     }
 }

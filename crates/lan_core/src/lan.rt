@@ -56,6 +56,8 @@ pub struct Lan {
 }
 
 impl Model for Lan {
+    ghost use Rattle.std.specs.Prelude.{◌≤◌};
+    ghost use Rattle.lan_base.specs.Ranges.{most_ticks};
     ghost use Rattle.lan_core.specs.Standing.{State};
 
     ghost Value = { State };
@@ -70,6 +72,8 @@ impl Model for Lan {
       ticks = l.ticks;
       drawn = l.drawn;
     } };
+
+    ghost invariant = { λ l. l.ticks ≤ most_ticks };
 }
 
 impl Lan {

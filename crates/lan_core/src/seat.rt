@@ -1,6 +1,6 @@
 //! A station with its receive slots.
 
-ghost use Rattle.std.specs.Prelude.{◌≡◌, ◌≤◌, ◌<◌, ◌+◌, ◌^◌, ◌∷◌, [], List, ℕ, length, true, false, Err, IfOk, IfSome, OnOk, Option, option_map, option_to_list};
+ghost use Rattle.std.specs.Prelude.{◌≡◌, ◌≤◌, ◌+◌, ◌∷◌, [], List, ℕ, length, true, false, Err, IfOk, OnOk, OnErr, Option, option_map, option_to_list};
 ghost use Rattle.std.specs.List.{find};
 ghost use Rattle.std.specs.Option.{option_copied};
 ghost use Rattle.lan_base.specs.AssociationNumbers.{same_an};
@@ -24,7 +24,7 @@ ghost use Rattle.lan_core.specs.Expected.{tick_facts, reached_facts, reaction_fa
 ghost use Rattle.lan_core.specs.Keys.{held_under};
 ghost use Rattle.lan_core.specs.Standing.{Sits};
 ghost use Rattle.lan_core.specs.inside.Judge.{IsOf};
-ghost use Rattle.lan_core.specs.inside.Seats.{Claims, installs_in};
+ghost use Rattle.lan_core.specs.inside.Seats.{Claims, IsFew, IsPast, installs_in};
 ghost use Rattle.lan_core.specs.inside.Following.{count_installed, followed, tells_sec};
 ghost use Rattle.mka_station.specs.Tick.{tick_turn};
 ghost use Rattle.mka_station.specs.Hearing.{frame_turn, heard_turn};
@@ -35,10 +35,12 @@ use crate::claimed::Claimed;
 use crate::fact::{Fact, Facts};
 use crate::following::{follow, installs_after, lowest_under};
 use crate::judge::Judge;
+use crate::limits::judge_installs;
 use crate::sender::Sender;
+use crate::stop::{Stop, Which};
 use crate::telling::{tell, told};
 use gcm_frames::{Tag, TagRefusal, tag_of};
-use lan_base::{AssociationNumber, Draws, Octets, UserFrame, is_user_data};
+use lan_base::{AssociationNumber, Draws, Octets, TICKS_MAX, UserFrame, is_user_data};
 use mka_station::{Config, DropReason, Reaction, Station, TickError, law_room, law_turns_count};
 use mkpdu_codec::Announcement;
 use rx_slots::{Checked, RxSlots};
@@ -102,6 +104,18 @@ impl Seat {
         })
     }
 
+    /// A station with more ticks in its life than there may be, or more installs, stops its group before
+    /// it counts on.
+    pub fn judge_counts(&self) -> Result<(), Stop>
+        ensures few { OnOk result (IsFew self.now) }
+        ensures past { OnErr result (IsPast self.now) }
+    {
+        if self.ticks > TICKS_MAX {
+            return Err(Stop::Limit(Which::Ticks));
+        }
+        judge_installs(self.installs)
+    }
+
     /// A tick at the station, which stands at this place, where the next frame of the air has this
     /// packet number.
     pub fn tick<D: Draws>(
@@ -111,6 +125,7 @@ impl Seat {
         next: u64,
         draws: &mut D,
     ) -> Result<Facts, TickError>
+        requires { IsFew self.old }
         ensures facts { (settings : Settings) (r : Run) (l : Life)
             → Sits settings.window l (receiving place r) self.old →
             number ≡ next_frame r → IfOk result (λ facts. facts
@@ -148,6 +163,7 @@ impl Seat {
 
     /// A tick at the station, which transmits at this packet number next.
     fn react<D: Draws>(&mut self, next: u64, draws: &mut D) -> Result<Reaction, TickError>
+        requires { IsFew self.old }
         ensures reaction { (settings : Settings) (place : ℕ) (r : Run) (l : Life) →
             Sits settings.window l (receiving place r) self.old →
             let sak = sak_of l.member.setup.suite (D.nth draws.old) in
@@ -191,6 +207,7 @@ impl Seat {
 
     /// A tick at the station, whose receive slots follow.
     fn advance<D: Draws>(&mut self, seen: &Seen, draws: &mut D) -> Result<Reaction, TickError>
+        requires { IsFew self.old }
         ensures reaction { (window : ℕ) (l : Life) (h : List Receiving) → Sits window l h self.old →
             IfOk result (λ r. r ≡ (tick_turn l.member seen.now
             (sak_of l.member.setup.suite (D.nth draws.old)) l.past).reaction) }
@@ -212,26 +229,12 @@ impl Seat {
     {
         law_room();
         law_turns_count();
-        let Some(ticks) = self.next_tick() else {
-            return Err(TickError::Memory);
-        };
         let reaction = self.station.tick(seen, draws)?;
         let changes = reaction.changes.as_slice();
-        self.ticks = ticks;
+        self.ticks += 1;
         self.installs = installs_after(self.installs, changes);
         follow(&mut self.slots, changes);
         Ok(reaction)
-    }
-
-    /// The number of the life's next tick, where it and one more install can be counted.
-    fn next_tick(&self) -> Option<u32>
-        ensures { IfSome result (λ ticks. (ticks ≡ self.now.ticks + 1)
-            × (self.now.installs + 1 < 2 ^ 32)) }
-    {
-        if self.installs == u32::MAX {
-            return None;
-        }
-        self.ticks.checked_add(1)
     }
 
     /// The frame of this number, or foreign octets under the number 0, reach the station, which
@@ -243,7 +246,8 @@ impl Seat {
         octets: &[u8],
         judge: &mut Judge,
     ) -> Result<Facts, AllocError>
-        requires { length octets.now ≤ most_frame_octets }
+        requires short { length octets.now ≤ most_frame_octets }
+        requires few { IsFew self.old }
         ensures facts { (settings : Settings) (r : Run) (l : Life)
             → Sits settings.window l (receiving place r) self.old →
             IsOf judge.old.settings l.member.setup →
@@ -320,6 +324,7 @@ impl Seat {
         octets: &[u8],
         judge: &mut Judge,
     ) -> Result<Facts, AllocError>
+        requires { IsFew self.old }
         ensures facts { (window : ℕ) (l : Life) (h : List Receiving) → Sits window l h self.old →
             IsOf judge.old.settings l.member.setup →
             IfOk result (λ facts. facts ≡ reaction_facts place number 0
@@ -343,6 +348,7 @@ impl Seat {
 
     /// A frame is heard that was judged, and the receive slots follow.
     fn hear(&mut self, judgement: &Result<Announcement, DropReason>) -> Result<Reaction, AllocError>
+        requires { IsFew self.old }
         ensures reaction { (window : ℕ) (l : Life) (h : List Receiving) → Sits window l h self.old →
             IfOk result (λ r. r ≡ (heard_turn l.member judgement.now l.past).reaction) }
         ensures stands { (window : ℕ) (l : Life) (h : List Receiving) → Sits window l h self.old →
@@ -353,9 +359,6 @@ impl Seat {
     {
         law_room();
         law_turns_count();
-        let Some(_ticks) = self.next_tick() else {
-            return Err(AllocError);
-        };
         let reaction = self.station.hear_judged(judgement)?;
         let changes = reaction.changes.as_slice();
         self.installs = installs_after(self.installs, changes);

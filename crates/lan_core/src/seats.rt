@@ -1,6 +1,6 @@
 //! The stations of a group, by their places.
 
-ghost use Rattle.std.specs.Prelude.{◌≡◌, ◌≤◌, ◌++◌, ◌∷◌, ◌⊎◌, ℕ, [], true, length, slice_get, Option, Some, IsSomeAnd, IfOk, IfErr, OnOk, List};
+ghost use Rattle.std.specs.Prelude.{◌≡◌, ◌≤◌, ◌++◌, ◌∷◌, ◌⊎◌, ℕ, [], true, length, slice_get, Option, Some, IsSomeAnd, IfSome, IfOk, IfErr, OnOk, OnErr, List};
 ghost use Rattle.std.specs.Option.{option_copied};
 ghost use Rattle.lan_base.specs.declared.frame.UserFrame.{UserFrame};
 ghost use Rattle.lan_base.specs.Ranges.{most_frame_octets};
@@ -15,12 +15,13 @@ ghost use Rattle.lan_core.specs.Lives.{Life, receiving, seen_at};
 ghost use Rattle.lan_core.specs.Standing.{Seat, Sits};
 ghost use Rattle.lan_core.specs.Batches.{checked_at};
 ghost use Rattle.lan_core.specs.inside.Judge.{IsOf};
-ghost use Rattle.lan_core.specs.inside.Seats.{Claims, Ticks, Reaches, Restarts};
+ghost use Rattle.lan_core.specs.inside.Seats.{Claims, IsFew, IsPast, Ticks, Reaches, Restarts};
 
 use crate::came::Came;
 use crate::claimed::Claimed;
 use crate::judge::Judge;
 use crate::seat::Seat;
+use crate::stop::Stop;
 use lan_base::{Draws, UserFrame};
 use mka_station::TickError;
 use rx_slots::Checked;
@@ -59,6 +60,18 @@ impl Seats {
         self.seats.get(place as usize)
     }
 
+    /// A station with more ticks in its life than there may be, or more installs, stops its group before
+    /// it counts on.
+    pub fn judge_counts(&self, place: u8) -> Result<(), Stop>
+        ensures few { OnOk result (IfSome (slice_get self.now place) IsFew) }
+        ensures past { OnErr result (IsSomeAnd (slice_get self.now place) IsPast) }
+    {
+        match self.get(place) {
+            Some(seat) => seat.judge_counts(),
+            None => Ok(()),
+        }
+    }
+
     /// Appends a station.
     pub fn push(&mut self, seat: Seat) -> Result<(), AllocError>
         ensures { OnOk result (self.new ≡ self.old ++ seat ∷ []) }
@@ -75,6 +88,7 @@ impl Seats {
         next: u64,
         draws: &mut D,
     ) -> Result<Option<Came>, TickError>
+        requires { IfSome (slice_get self.old place) IsFew }
         ensures came { (settings : Settings) (r : Run) (seat : Seat) (l : Life)
             → slice_get self.old place ≡ Some seat → Sits settings.window l (receiving place r) seat
             → number ≡ next_frame r
@@ -108,7 +122,8 @@ impl Seats {
         octets: &[u8],
         judge: &mut Judge,
     ) -> Result<Option<Came>, AllocError>
-        requires { length octets.now ≤ most_frame_octets }
+        requires short { length octets.now ≤ most_frame_octets }
+        requires few { IfSome (slice_get self.old place) IsFew }
         ensures came { (settings : Settings) (r : Run) (seat : Seat) (l : Life)
             → slice_get self.old place ≡ Some seat → Sits settings.window l (receiving place r) seat
             → IsOf judge.old.settings l.member.setup

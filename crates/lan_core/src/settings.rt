@@ -8,7 +8,7 @@ ghost use Rattle.lan_core.specs.Types.{IsSecret, IsSetting};
 
 use aes_block::Secret;
 use lan_base::{Octets, Suite};
-use mka_kdf::Group;
+use mka_kdf::{Group, GroupError, GroupFault};
 use std::alloc::{AllocError, Global};
 
 /// What holds for the whole group.
@@ -58,6 +58,7 @@ fn law_octets_are_small(octets: &[u8])
 
 /// The keys that the connectivity association key gives.
 pub fn group_of(alloc: Global, settings: &Settings) -> Result<Group, AllocError>
+    requires named { IsCkn settings.now.ckn }
     ensures ckn { IfOk result (λ group. group.ckn ≡ settings.now.ckn) }
     ensures kek { IfOk result (λ group. group.kek
         ≡ kek_of (secret_octets settings.now.cak) settings.now.ckn) }
@@ -66,6 +67,7 @@ pub fn group_of(alloc: Global, settings: &Settings) -> Result<Group, AllocError>
 {
     match Group::of(alloc, settings.cak, settings.ckn.as_slice()) {
         Ok(group) => Ok(group),
-        Err(_) => Err(AllocError),
+        Err(GroupError::Memory) => Err(AllocError),
+        Err(GroupError::Refused(GroupFault::CknLength)) => unreachable!(),
     }
 }

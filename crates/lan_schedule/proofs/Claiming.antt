@@ -54,7 +54,7 @@ gather-counts (fact ∷ others) xs =
     ≡ count_by is_claim (fact ∷ others) + length xs = omega (arith, one, both) in
     gather-counts others ys ∙ more
 
-claims-counted : (r : Run) → length (claims r) ≡ count_by is_claim (facts_of r)
+pub claims-counted : (r : Run) → length (claims r) ≡ count_by is_claim (facts_of r)
 unfolding claims
 claims-counted [] = refl
 claims-counted (x ∷ r) =

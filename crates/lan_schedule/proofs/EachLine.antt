@@ -23,17 +23,18 @@ use Rattle.trace_acts.specs.Settings.{no_choice, secret_of, unkeyed, settings_of
 use Rattle.trace_acts.specs.Kinds.{may_list, first_of}
 use Rattle.trace_acts.specs.Choosing.{chosen_by}
 use Rattle.trace_acts.proofs.Public.{bytes-all}
-use Rattle.lan_schedule.specs.Races.{Burst, Numbered}
+use Rattle.lan_schedule.specs.Races.{Burst, Excess, Numbered}
 use Rattle.lan_schedule.specs.Races.{Chance, Phase, Apart, Bursting, Controlling, Racing}
 use Rattle.lan_schedule.specs.World.{World, Kept, beginning, settings, place, mark, is_racing}
-use Rattle.lan_schedule.specs.Acts.{Act, Course, Goes, Stops, happen, change}
+use Rattle.lan_schedule.specs.Acts.{Act, Course, Goes, Stops, happen, change, seq}
 use Rattle.lan_schedule.specs.Acts.{perform, and_then, world_of, course, times}
 use Rattle.lan_schedule.specs.Kinds.{refusal, refusal_read, may_stand, wrong_at}
 use Rattle.lan_schedule.specs.Lines.{deed, deed_at, deed_read, feed, send, unless_refused}
 use Rattle.lan_schedule.specs.Lines.{deed_controlling, excess_of}
 use Rattle.lan_schedule.specs.Lines.{behind_race, behind_while, close_at, performed_whole}
 use Rattle.lan_schedule.specs.Lines.{performed, performed_all, tick, round, spread, flow_round}
-use Rattle.lan_schedule.specs.Lines.{cut_in, line_after, mended_in}
+use Rattle.lan_schedule.specs.Lines.{add_user, cut_in, is_over, line_after, mended_in, over_excess}
+use Rattle.lan_schedule.specs.Lines.{unless_exceeded}
 use Rattle.lan_schedule.specs.Sound.{IsTidy, HasRunNone}
 use Rattle.lan_schedule.specs.inside.Comes.{Comes}
 use Rattle.lan_schedule.proofs.Bounded.{AreBounded, bounded-first}
@@ -266,6 +267,25 @@ entered-ready n phase w ready apart tidy = record {
   tidy = tidy;
 }
 
+more-ready : (n : ℕ) (w : World) → IsReady n w → IsReady (suc n) w
+more-ready n w ready = record {
+  users = let few = ready.users in omega (arith, few);
+  chosen = ready.chosen;
+  keyed = ready.keyed;
+  calm = ready.calm;
+  apart = ready.apart;
+  bounded = ready.bounded;
+  tidy = ready.tidy;
+}
+
+-- what asks for too much leaves the world as it was
+exceeded-ready : (n : ℕ) (o : Option Excess) (act : Act) (w : World) → IsReady n w
+    → Comes (unless_exceeded o act) w
+    → (Comes act w → IsReady (suc n) (world_of (perform act w)))
+    → IsReady (suc n) (world_of (perform (unless_exceeded o act) w))
+exceeded-ready n None act w ready comes goes = goes comes
+exceeded-ready n (Some excess) act w ready comes goes = more-ready n w ready
+
 -- what a line performs outside a race that isn't refused leaves such a world
 deed-ready : (n : ℕ) (line : Line) (w : World) → suc n < 2 ^ 32 → IsInForm line → IsReady n w
     → IsRight line w → Comes (deed line w) w
@@ -335,8 +355,10 @@ deed-ready n (lines.Mend from to) w below form ready right comes =
 deed-ready n (lines.Restart name) w below form ready right comes =
     mild-ready n (happen (Restart (place w name))) w below tt ready right.allowed comes
 deed-ready n (lines.Send name destination body) w below form ready right comes =
-    send-ready n (place w name) (record { destination = destination; body = body }) w below ready
-    right.allowed comes.0 (comes.1 comes.0)
+    let user : UserFrame = record { destination = destination; body = body } in
+    exceeded-ready n (over_excess (is_over w 1 1)) (seq (add_user user) (send (place w name))) w ready
+    comes
+    (λ may. send-ready n (place w name) user w below ready right.allowed may.0 (may.1 may.0))
 deed-ready n (lines.Inject name octets) w below form ready right comes =
     mild-ready n (happen (Inject (place w name) octets)) w below
     (bytes-all octets form.fits.1.0.2) ready right.allowed comes
@@ -345,17 +367,6 @@ deed-ready n (lines.Burst name workers frames destination body) w below form rea
     absurd (cc (right.allowed))
 deed-ready n lines.While w below form ready right comes = absurd (cc (right.allowed))
 deed-ready n lines.End w below form ready right comes = absurd (cc (right.allowed))
-
-more-ready : (n : ℕ) (w : World) → IsReady n w → IsReady (suc n) w
-more-ready n w ready = record {
-  users = let few = ready.users in omega (arith, few);
-  chosen = ready.chosen;
-  keyed = ready.keyed;
-  calm = ready.calm;
-  apart = ready.apart;
-  bounded = ready.bounded;
-  tidy = ready.tidy;
-}
 
 -- what is refused leaves the world as it was
 unless-ready : (n : ℕ) (o : Option Kind) (act : Act) (w : World) → IsReady n w

@@ -16,15 +16,15 @@ use Rattle.lan_schedule.specs.declared.stage.Stage.{Stage}
 use Rattle.lan_schedule.specs.Races.{Burst, frames_asked}
 use Rattle.lan_schedule.specs.Races.{limit_of, octets_asked}
 use Rattle.lan_schedule.specs.World.{Flow, World, air_octets}
-use Rattle.lan_schedule.specs.Lines.{excess_of}
+use Rattle.lan_schedule.specs.Lines.{air_excess}
 use Rattle.lan_schedule.specs.Ends.{IsReached}
 use Rattle.lan_schedule.specs.Stages.{StandsFor}
 use Rattle.lan_schedule.proofs.LinesCome.{lt-true, lt-false, numbers-length}
 
-lt-is : (a b : ℕ) → a < b → nat_lt a b ≡ true
+pub lt-is : (a b : ℕ) → a < b → nat_lt a b ≡ true
 lt-is a b lt = grind arith
 
-ge-is : (a b : ℕ) → b ≤ a → nat_lt a b ≡ false
+pub ge-is : (a b : ℕ) → b ≤ a → nat_lt a b ≡ false
 ge-is a b le = grind arith
 
 -- what is asked against what is left is all against the limit
@@ -73,7 +73,7 @@ octets-test bursts w stage fits reached is =
 pub too-many-frames : (bursts : List Burst) (w : World) (stage : Stage) (fits : Bool)
     → IsReached StandsFor w stage
     → fits ≡ not (nat_lt (most_frames - length stage.frames.frames) (frames_asked bursts))
-    → fits ≡ false → Some Frames ≡ option_map limit_of (excess_of bursts w)
+    → fits ≡ false → Some Frames ≡ option_map limit_of (air_excess bursts w)
 too-many-frames bursts w stage fits reached is none =
     let test = frames-test bursts w stage fits reached is ∙ ap not none in rw test refl
 
@@ -82,7 +82,7 @@ pub too-many-octets : (bursts : List Burst) (w : World) (stage : Stage) (fits le
     → fits ≡ not (nat_lt (most_frames - length stage.frames.frames) (frames_asked bursts))
     → fits ≡ true
     → leaves ≡ not (nat_lt (most_octets - stage.octets) (octets_asked bursts))
-    → leaves ≡ false → Some Octets ≡ option_map limit_of (excess_of bursts w)
+    → leaves ≡ false → Some Octets ≡ option_map limit_of (air_excess bursts w)
 too-many-octets bursts w stage fits leaves reached is some at none =
     let frames = frames-test bursts w stage fits reached is ∙ ap not some in
     let octets = octets-test bursts w stage leaves reached at ∙ ap not none in
@@ -93,7 +93,7 @@ pub few-enough : (bursts : List Burst) (w : World) (stage : Stage) (fits leaves 
     → fits ≡ not (nat_lt (most_frames - length stage.frames.frames) (frames_asked bursts))
     → fits ≡ true
     → leaves ≡ not (nat_lt (most_octets - stage.octets) (octets_asked bursts))
-    → leaves ≡ true → None ≡ option_map limit_of (excess_of bursts w)
+    → leaves ≡ true → None ≡ option_map limit_of (air_excess bursts w)
 few-enough bursts w stage fits leaves reached is some at all =
     let frames = frames-test bursts w stage fits reached is ∙ ap not some in
     let octets = octets-test bursts w stage leaves reached at ∙ ap not all in

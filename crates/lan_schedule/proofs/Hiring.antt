@@ -332,7 +332,7 @@ pub begins-same : (crew : List WorkerAt) (mid new : Stage) (b : Bool) → Begins
 begins-same crew mid new true is =
     (ap (λ (s : Stage). s.words) is.2, ap (λ (s : Stage). s.tally) is.2)
 begins-same crew mid new false is =
-    (ap (λ (s : Stage). s.words) is, ap (λ (s : Stage). s.tally) is)
+    (ap (λ (s : Stage). s.words) is.0, ap (λ (s : Stage). s.tally) is.0)
 
 pub room-same : (mid new : Stage) (crew : List WorkerAt) (logs : List (List Entry)) (capacity : ℕ)
     → HaveRoom mid crew logs capacity → new.words ≡ mid.words → HaveRoom new crew logs capacity

@@ -30,6 +30,7 @@ mod SeatsBack
 mod SeatsLeft
 mod RaceRuns
 mod Exceeding
+mod Numbering
 mod Doing
 mod OnWay
 mod WayExamples

@@ -36,13 +36,14 @@ use Rattle.trace_text.specs.Writing.{IsInForm}
 use Rattle.lan_schedule.specs.declared.frames.Put.{Put}
 use Rattle.lan_schedule.specs.World.{World, Kept, count, settings, place}
 use Rattle.lan_schedule.specs.World.{is_racing}
-use Rattle.lan_schedule.specs.Races.{Phase, Bursting, number_in}
+use Rattle.lan_schedule.specs.Races.{Excess, Phase, Bursting, number_in}
 use Rattle.lan_schedule.specs.Numbers.{in_range, stands, number_claimed}
 use Rattle.lan_core.specs.Unstopped.{next_under}
 use Rattle.lan_schedule.specs.Acts.{Act, happen, seq, unless, perform}
 use Rattle.lan_schedule.specs.Kinds.{is_number, no_frame}
 use Rattle.lan_schedule.specs.Kinds.{wrong_word}
-use Rattle.lan_schedule.specs.Lines.{add_user, send, deed, unless_refused}
+use Rattle.lan_schedule.specs.Lines.{add_user, is_over, over_excess, send, deed, unless_exceeded}
+use Rattle.lan_schedule.specs.Lines.{unless_refused}
 use Rattle.lan_schedule.specs.inside.Phased.{refusal_apart, act_apart}
 use Rattle.lan_schedule.specs.Sound.{IsTidy, numbers_of, IsNeverSpent, IsSoundIn}
 use Rattle.lan_schedule.specs.inside.Comes.{Comes, HasRoom, named}
@@ -332,6 +333,11 @@ pub refused-comes : (o : Option Kind) (act : Act) (w : World) → (o ≡ None �
 refused-comes None act w h = h refl
 refused-comes (Some kind) act w h = tt
 
+exceeded-comes : (o : Option Excess) (act : Act) (w : World) → Comes act w
+    → Comes (unless_exceeded o act) w
+exceeded-comes None act w h = h
+exceeded-comes (Some excess) act w h = tt
+
 pub deed-comes : (line : Line) → IsInForm line → (w : World) → IsTidy w
     → is_racing w.kept.phase ≡ false → IsRight line w → Comes (deed line w) w
 deed-comes lines.DrawsCount form w tidy apart right =
@@ -400,7 +406,8 @@ deed-comes (lines.Send name destination body) form w tidy apart right =
       body = (form.fits.1.1.0.0, form.fits.1.1.0.1);
       octets = bytes-all body form.fits.1.1.0.2;
     } in
-    send-comes (place w name) user w tidy is_user apart (known name w right.words)
+    exceeded-comes (over_excess (is_over w 1 1)) (seq (add_user user) (send (place w name))) w
+    (send-comes (place w name) user w tidy is_user apart (known name w right.words))
 deed-comes (lines.Inject name octets) form w tidy apart right = (
   (known name w right.words, (let few : length octets ≤ 1600 = form.fits.1.0.1 in omega arith)),
   tt,

@@ -1,7 +1,11 @@
 -- A group opens with the first station.
 use Rattle.std.proofs.Common.{◌≡◌, ℕ, ◌+◌, true, false, List, [], Option, Some, None, inl, inr}
 use Rattle.std.proofs.Common.{refl, sym, ap, ◌∙◌, subst, arith}
-use Rattle.std.specs.Prelude.{Result, Ok, Err, is_some}
+use Rattle.std.specs.Prelude.{◌⊎◌, Result, Ok, Err, is_some, length, unwrap_or}
+use Rattle.std.specs.Result.{IsErrAnd}
+use Rattle.lan_base.specs.Ranges.{IsCkn}
+use Rattle.mka_kdf.specs.Kdf.{HasWrongLength}
+use Rattle.trace_acts.specs.declared.choices.Keyed.{Keyed}
 use Rattle.lan_base.specs.declared.frame.UserFrame.{UserFrame}
 use Rattle.association_slots.specs.Views.{ControlAt}
 use Rattle.lan_core.specs.Run.{stations}
@@ -18,7 +22,7 @@ use Rattle.trace_acts.specs.declared.halt.Halt.TheVariants as halts
 use Rattle.trace_acts.specs.declared.halt.Kind.{Kind}
 use Rattle.trace_acts.specs.declared.broken.Broken.{Broken}
 use Rattle.trace_acts.specs.Supply.{draw_at, supply_nth}
-use Rattle.trace_acts.specs.Settings.{settings_of, lag_of, rule_of}
+use Rattle.trace_acts.specs.Settings.{settings_of, lag_of, rule_of, unkeyed}
 use Rattle.trace_acts.specs.Kinds.{first_of, is_allowed}
 use Rattle.trace_acts.specs.Choosing.{chosen_by}
 use Rattle.trace_acts.specs.Places.{is_elsewhere, is_race, IsStation}
@@ -33,14 +37,15 @@ use Rattle.lan_schedule.specs.Lines.{choose, deed, deed_at, act_of, unless_refus
 use Rattle.lan_schedule.specs.Sound.{IsTidy}
 use Rattle.lan_schedule.specs.Reports.{Report}
 use Rattle.lan_schedule.specs.Ends.{Moment, moment}
-use Rattle.lan_schedule.specs.Standing.{IsStaged, StandsFor, Does}
+use Rattle.lan_schedule.specs.Standing.{Counts, IsNamed, IsStaged, StandsFor, Does}
 use Rattle.lan_schedule.specs.Stages.{StandsFor as StageStandsFor}
 use Rattle.lan_schedule.specs.inside.Staged.{Did, IsOpening}
 use Rattle.lan_schedule.proofs.LinesCome.{IsRight, deed-comes, tidy-same, tidy-unbegun}
 use Rattle.lan_schedule.proofs.Doing.{told-none}
 use Rattle.lan_schedule.proofs.OnWay.{IsAs, as-self}
 use Rattle.lan_schedule.proofs.Still.{still-deed}
-use Rattle.lan_schedule.proofs.Replaying.{same-act, stands-counts, unbegun-does, opened-does}
+use Rattle.lan_schedule.proofs.Replaying.{memory-any, never-does, same-act, stands-counts}
+use Rattle.lan_schedule.proofs.Replaying.{unbegun-does, opened-does}
 
 -- what is kept when the group opens
 abbrev pub opened : List Chance → Choices → ℕ → Kept
@@ -178,6 +183,34 @@ chosen-deed (lines.Inject name octets) chosen allowed other w = absurd (cc allow
 chosen-deed lines.Race chosen allowed other w = absurd (cc allowed)
 chosen-deed _ chosen allowed other w = refl
 
+-- a line leaves the name of a group what it may be
+named-stays : (line : Line) → IsInForm line → (chosen : Choices) → IsNamed chosen.group
+    → IsNamed (chosen_by line chosen).group
+named-stays (lines.Group cak ckn) form chosen named = (form.fits.1.0.0, form.fits.1.0.1)
+named-stays lines.DrawsCount form chosen named = named
+named-stays (lines.DrawsChaCha key) form chosen named = named
+named-stays (lines.DrawsList values) form chosen named = named
+named-stays (lines.Conf conf) form chosen named = named
+named-stays (lines.Window window) form chosen named = named
+named-stays (lines.Rekey rekey) form chosen named = named
+named-stays (lines.Lag lag) form chosen named = named
+named-stays (lines.Suite suite) form chosen named = named
+named-stays (lines.Flag early) form chosen named = named
+named-stays _ form chosen named = named
+
+-- so it has no wrong length
+never-long : (ckn : List ℕ) → IsCkn ckn → HasWrongLength ckn → ⊥
+never-long ckn is (inl none) =
+    let some = is.0 in let empty : length ckn ≡ 0 = ap length none in omega (arith, some, empty)
+never-long ckn is (inr long) = let most = is.1 in omega (arith, most, long)
+
+never-wrong : (chosen : Choices) (o : Option Keyed) → chosen.group ≡ o → is_some o ≡ true → IsNamed o
+    → HasWrongLength (settings_of chosen).ckn → ⊥
+never-wrong chosen None is keyed named wrong = cc keyed
+never-wrong chosen (Some group) is keyed named wrong =
+    never-long group.ckn named
+    (subst (λ (o : Option Keyed). HasWrongLength (unwrap_or o unkeyed).ckn) is wrong)
+
 -- ---- the first station
 
 station-right : (line : Line) (v : World) → IsStation line → v.run ≡ []
@@ -258,7 +291,21 @@ module _ {K : Type 0} {Took : K → Report → K → Type 0} {Broke : K → Repo
         (λ w tidy empty. tidy-unbegun w _ tidy empty refl refl refl
         (chosen-draws line form w.kept.chosen tidy.draws))
         (λ chances i. record (nothing_kept chances) { line = sym is_line i; chosen = sym is_chosen i })
-        outlet)
+        (λ named. subst (λ (c : Choices). IsNamed c.group) (sym is_chosen)
+        (named-stays line form old.value.chosen named)) outlet)
+
+    -- the group doesn't open: there is no memory, since its name is what it may be
+    pub unopened-does : (act : Act) (old new : Moment Replay K) (r : Result (Unit {0}) Halt) (e : Halt)
+        → old.value.stage ≡ None → is_some old.value.chosen.group ≡ true
+        → ((w : World) → StandsFor w old.value → Counts w new.value) → new.outlet ≡ old.outlet
+        → (e ≡ halts.Memory) ⊎ HasWrongLength (settings_of old.value.chosen).ckn
+        → IsErrAnd r (λ y. y ≡ e) → Does Took Broke act old new r
+    unopened-does act old new r e unbegun keyed counted same (inl memory) is =
+        memory-any act old new r counted same memory is
+    unopened-does act old new r e unbegun keyed counted same (inr wrong) is =
+        never-does act old new r (λ w stands.
+        let before = subst (λ (o : Option Stage). IsStaged w old.value o) unbegun stands.stage in
+        never-wrong old.value.chosen old.value.chosen.group refl keyed before.3 wrong)
 
     -- the first station starts
     pub opening-does : (line : Line) → IsInForm line → (old new : Moment Replay K)

@@ -129,14 +129,16 @@ module _ {K : Type 0} {Took : K → Report → K → Type 0} {Broke : K → Repo
     pub unhired-does : (bursts : List Burst) (control : List Numbered) (old new : Moment Stage K)
         (halt : Halt) → new.outlet ≡ old.outlet → new.value.tally ≡ old.value.tally
         → ((w : World) (lines : List Numbered) → IsReached StandsFor w old.value
-        → IsUnhired w bursts lines halt)
+        → HaveSeats bursts old.value → IsUnhired w bursts lines halt)
         → DidRace Took Broke bursts control old new (Err halt)
     unhired-does bursts control old new halt outlet tally unhired = record {
       chances = [];
       ends = λ w later left reached apart fit comes.
-          by w later left reached (unhired w control reached);
+          by w later left reached (unhired w control reached
+          (have-seats w bursts old.value reached.stands apart fit));
       woven = λ w later left reached apart fit comes begun.
-          absurd (not-hired bursts w halt begun (unhired w [] reached));
+          absurd (not-hired bursts w halt begun (unhired w [] reached
+          (have-seats w bursts old.value reached.stands apart fit)));
     }
       where
         by : (w : World) (later : List Chance) → w.kept.chances ≡ later

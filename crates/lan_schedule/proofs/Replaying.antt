@@ -6,6 +6,7 @@ use Rattle.std.specs.Result.{IsErrAnd}
 use Rattle.std.proofs.lemmas.Result.{err_from_is_err_and}
 use Rattle.lan_core.specs.Run.{Run, facts_of}
 use Rattle.fact_tally.specs.Summary.{counts}
+use Rattle.trace_acts.specs.declared.choices.Choices.{Choices}
 use Rattle.trace_acts.specs.declared.halt.Halt.{Halt}
 use Rattle.trace_acts.specs.declared.halt.Halt.TheVariants as halts
 use Rattle.trace_acts.specs.declared.broken.Broken.{Broken}
@@ -21,7 +22,7 @@ use Rattle.lan_schedule.specs.Lines.{begin_line, at_line, performed, performed_a
 use Rattle.lan_schedule.specs.Reports.{Report}
 use Rattle.lan_schedule.specs.Sound.{IsTidy}
 use Rattle.lan_schedule.specs.Ends.{Moment, moment, Ends}
-use Rattle.lan_schedule.specs.Standing.{phase_of, AreBursts, AreFit, IsStaged, HasTally, StandsFor, Counts, Does}
+use Rattle.lan_schedule.specs.Standing.{IsNamed, phase_of, AreBursts, AreFit, IsStaged, HasTally, StandsFor, Counts, Does}
 use Rattle.lan_schedule.specs.Stages.{StandsFor as StageStandsFor, Counts as StageCounts}
 use Rattle.lan_schedule.specs.inside.Comes.{Comes}
 use Rattle.lan_schedule.specs.inside.Staged.{Did}
@@ -295,8 +296,9 @@ module _ {K : Type 0} {Took : K → Report → K → Type 0} {Broke : K → Repo
         → ((chances : List Chance)
         → f (record (nothing_kept chances) { line = old.value.line; chosen = old.value.chosen })
         ≡ record (nothing_kept chances) { line = new.value.line; chosen = new.value.chosen })
+        → (IsNamed old.value.chosen.group → IsNamed new.value.chosen.group)
         → new.outlet ≡ old.outlet → Does Took Broke (change f) old new (Ok tt)
-    unbegun-does f old new is_old is_new halted tally phase keeps tidied same outlet = record {
+    unbegun-does f old new is_old is_new halted tally phase keeps tidied same named outlet = record {
       chances = [];
       ends = λ w later left reached.
           let before = subst (λ (o : Option Stage). IsStaged w old.value o) is_old
@@ -318,6 +320,7 @@ module _ {K : Type 0} {Took : K → Report → K → Type 0} {Broke : K → Repo
                         chosen = new.value.chosen;
                       }) (sym (keeps w.kept).0),
                   tally ∙ before.2,
+                  named before.3,
                 );
               };
               tidy = tidied w reached.tidy before.0;
@@ -359,6 +362,7 @@ line-unbegun number w old new is_old is_new halted line chosen tally phase stand
               chosen = sym chosen i;
             }),
         tally ∙ before.2,
+        subst (λ (c : Choices). IsNamed c.group) (sym chosen) before.3,
       );
     }
 

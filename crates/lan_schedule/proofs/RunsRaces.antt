@@ -1,5 +1,5 @@
 -- A call that ends a race runs it, whatever stands around the act that does.
-use Rattle.std.proofs.Common.{◌≡◌, ℕ, true, false, List, Some, refl, sym, ap, ◌∙◌}
+use Rattle.std.proofs.Common.{◌≡◌, ℕ, true, false, List, [], Some, refl, sym, ap, ◌∙◌}
 use Rattle.std.proofs.Common.{subst}
 use Rattle.std.specs.Prelude.{Option, Result, Ok, Err}
 use Rattle.association_slots.specs.Views.{ControlAt}
@@ -12,21 +12,22 @@ use Rattle.trace_acts.specs.declared.halt.Halt.{Halt}
 use Rattle.trace_acts.specs.declared.halt.Halt.TheVariants as halts
 use Rattle.lan_schedule.specs.declared.commands.Replay.{Replay}
 use Rattle.lan_schedule.specs.declared.stage.Stage.{Stage}
-use Rattle.lan_schedule.specs.Races.{Apart, Burst, Controlling, Numbered, Phase, workers_of}
+use Rattle.lan_schedule.specs.Races.{Apart, Burst, Bursting, Controlling, Numbered, Phase, Racing, workers_of}
 use Rattle.lan_schedule.specs.World.{World, is_racing}
-use Rattle.lan_schedule.specs.Acts.{Act, look, seq}
+use Rattle.lan_schedule.specs.Acts.{Act, look, nothing, perform, seq}
 use Rattle.lan_schedule.specs.Lines.{at_line, begin_line, line_after, numbered, performed, run_race}
 use Rattle.lan_schedule.specs.Reports.{Report}
 use Rattle.lan_schedule.specs.Ends.{Moment, moment}
 use Rattle.lan_schedule.specs.Shown.{words_in, words_of}
 use Rattle.lan_schedule.specs.Sound.{IsTidy}
 use Rattle.lan_schedule.specs.Standing.{AreBursts, Counts, Does, IsStaged, StandsFor, phase_of}
-use Rattle.lan_schedule.specs.Woven.{RunsRace, WasBegun, WasWoven, race_in}
+use Rattle.lan_schedule.specs.Woven.{RunsRace, WasBegun, WasWoven, is_controlling, race_in}
 use Rattle.lan_schedule.specs.inside.Beside.{DidRace}
 use Rattle.lan_schedule.specs.inside.Comes.{Comes}
 use Rattle.lan_schedule.specs.inside.Phased.{is_end}
 use Rattle.lan_schedule.proofs.Replaying.{begun-does, halted-does, never-does, numbered-does, raced-does, same-act, then-ok}
 use Rattle.lan_schedule.proofs.Texting.{line-does}
+use Rattle.lan_schedule.proofs.Doing.{told-none}
 use Rattle.lan_schedule.proofs.LinesCome.{tidy-same}
 use Rattle.lan_schedule.proofs.OnWay.{IsAs}
 
@@ -34,6 +35,12 @@ use Rattle.lan_schedule.proofs.OnWay.{IsAs}
 same-kept : (a b : List Burst) (c d : List Numbered) → Controlling a c ≡ Controlling b d
     → (a ≡ b) × (c ≡ d)
 same-kept a b c d is = (cc is, cc is)
+
+no-race : (phase : Phase) (w : World) → is_controlling phase ≡ false → race_in phase w ≡ nothing
+no-race Apart w calm = refl
+no-race (Bursting bursts) w calm = refl
+no-race (Controlling bursts control) w calm = absurd (let bad : true ≡ false = calm in cc bad)
+no-race Racing w calm = refl
 
 module _ {K : Type 0} {Took : K → Report → K → Type 0} {Broke : K → Report → K → Broken → Type 0}
   where
@@ -78,6 +85,28 @@ module _ {K : Type 0} {Took : K → Report → K → Type 0} {Broke : K → Repo
     runs-never made act old new r never = record {
       does = never-does act old new r never;
       woven = λ w later left reached bursts control stood was. absurd (never w reached.stands);
+    }
+
+    -- where none is kept whose lines of control come, nothing is done
+    pub runs-idle : (old : Moment Replay K) → is_controlling (phase_of old.value.phase) ≡ false
+        → RunsRace Took Broke (λ w. w) (look (λ w. race_in w.kept.phase w)) old old (Ok tt)
+    runs-idle old idle = record {
+      does = record {
+        chances = [];
+        ends = λ w later left reached.
+            let calm : is_controlling w.kept.phase ≡ false =
+            ap (λ (p : Phase). is_controlling p) reached.stands.phase ∙ idle in (
+              w,
+              ap (λ (act : Act). perform act w) (no-race w.kept.phase w calm),
+              reached,
+              told-none w w old.outlet old.outlet refl refl,
+              left,
+              refl,
+            );
+      };
+      woven = λ w later left reached bursts control stood was.
+          absurd (let bad : true ≡ false = sym (ap (λ (p : Phase). is_controlling p) stood)
+          ∙ ap (λ (p : Phase). is_controlling p) reached.stands.phase ∙ idle in cc bad);
     }
 
     -- a call that ended early is halted, and keeps its words

@@ -10,6 +10,7 @@ use Rattle.trace_text.specs.declared.line.Line.TheVariants as lines
 use Rattle.trace_acts.specs.declared.halt.Halt.{Halt}
 use Rattle.trace_acts.specs.declared.halt.Kind.{Kind}
 use Rattle.trace_acts.specs.Places.{is_race}
+use Rattle.lan_schedule.specs.Races.{Excess}
 use Rattle.lan_schedule.specs.World.{World, Kept, count, sender, place}
 use Rattle.lan_schedule.specs.Numbers.{number_claimed}
 use Rattle.lan_schedule.specs.Answers.{answer}
@@ -17,7 +18,8 @@ use Rattle.lan_schedule.specs.Acts.{Act, nothing, refuse, exceed, happen, change
 use Rattle.lan_schedule.specs.Acts.{Course, Goes, Stops, perform, shown, and_then, world_after}
 use Rattle.lan_schedule.specs.Acts.{each, span, unless}
 use Rattle.lan_schedule.specs.Lines.{tick, round, pass, spread, is_passed_by, due, deed}
-use Rattle.lan_schedule.specs.Lines.{flow_round, send, unless_refused}
+use Rattle.lan_schedule.specs.Lines.{add_user, flow_round, is_over, over_excess, send}
+use Rattle.lan_schedule.specs.Lines.{unless_exceeded, unless_refused}
 use Rattle.lan_schedule.specs.inside.Phased.{act_apart, refusal_apart}
 
 -- no part of an act says where the lines stand or which races were run, and none is a race
@@ -82,6 +84,10 @@ still-refused : (o : Option Kind) (act : Act) → IsStill act → IsStill (unles
 still-refused None act still = still
 still-refused (Some kind) act still = tt
 
+still-exceeded : (o : Option Excess) (act : Act) → IsStill act → IsStill (unless_exceeded o act)
+still-exceeded None act still = still
+still-exceeded (Some excess) act still = tt
+
 -- ---- lines
 
 still-tick : (s : ℕ) → IsStill (tick s)
@@ -124,7 +130,10 @@ still-deed (lines.Lose frame) w isnt = λ kept. (refl, refl)
 still-deed (lines.Cut from to) w isnt = λ kept. (refl, refl)
 still-deed (lines.Mend from to) w isnt = λ kept. (refl, refl)
 still-deed (lines.Restart name) w isnt = tt
-still-deed (lines.Send name destination body) w isnt = (λ kept. (refl, refl), still-send (place w name))
+still-deed (lines.Send name destination body) w isnt = λ v.
+    still-exceeded (over_excess (is_over v 1 1))
+    (seq (add_user (record { destination = destination; body = body })) (send (place w name)))
+    (λ kept. (refl, refl), still-send (place w name))
 still-deed (lines.Inject name octets) w isnt = tt
 still-deed lines.Race w isnt = absurd (cc isnt)
 still-deed _ w isnt = λ kept. (refl, refl)

@@ -2,11 +2,12 @@
 use Rattle.std.specs.Prelude.{ℕ, ◌+◌, ◌-◌, ◌==◌, ◌||◌, ◌&&◌, nat_le, not, Bool, true, List}
 use Rattle.std.specs.Prelude.{[], ◌∷◌, ◌++◌, length, map, min, nat_lt, if◌then◌else◌}
 use Rattle.std.specs.List.{filter}
+use Rattle.std.specs.Option.{option_or}
 use Rattle.std.specs.Prelude.{Option, Some, None, Result, Ok}
 use Rattle.lan_base.specs.declared.frame.UserFrame.{UserFrame}
 use Rattle.lan_core.specs.declared.event.Event.TheVariants.{Start, Tick, Deliver, Restart, Claim}
 use Rattle.lan_core.specs.declared.event.Event.TheVariants.{Emit, Inject}
-use Rattle.lan_core.specs.Ledgers.{air}
+use Rattle.lan_core.specs.Ledgers.{air, claims}
 use Rattle.lan_base.specs.Ranges.{most_frames}
 use Rattle.lan_core.specs.Order.{most_octets}
 use Rattle.trace_text.specs.declared.fault.TextFault.{TextFault}
@@ -22,7 +23,7 @@ use Rattle.trace_acts.specs.Links.{is_cut, with_link, without_link}
 use Rattle.lan_schedule.specs.declared.frames.Put.{Put}
 use Rattle.lan_schedule.specs.Races.{Phase, Apart, Bursting, Controlling, Racing, Burst, Numbered}
 use Rattle.lan_schedule.specs.Races.{Excess, TooManyFrames, TooManyOctets, frames_asked, octets_asked}
-use Rattle.lan_schedule.specs.Races.{workers_of}
+use Rattle.lan_schedule.specs.Races.{jobs_in, most_claimed, most_users, workers_of}
 use Rattle.lan_schedule.specs.World.{World, Kept, count, place, sender, mark, air_octets}
 use Rattle.lan_schedule.specs.Numbers.{number_shown, number_claimed}
 use Rattle.lan_schedule.specs.Acts.{Act, nothing, refuse, happen, change, seq, look, each, span}
@@ -114,6 +115,24 @@ send s = look (λ w. claim s (length w.kept.users) (number_claimed w s))
 abbrev pub add_user : UserFrame → Act
 add_user frame = change (λ kept. record kept { users = kept.users ++ frame ∷ [] })
 
+-- whether so many user frames more, or so many claims, are more than have numbers
+abbrev pub is_over : World → ℕ → ℕ → Bool
+is_over w more asked =
+    nat_lt most_users (length w.kept.users + more)
+    || nat_lt most_claimed (length (claims w.run) + asked)
+
+abbrev pub over_excess : Bool → Option Excess
+over_excess over = if over then Some TooManyFrames else None
+
+abbrev pub unless_exceeded : Option Excess → Act → Act
+unless_exceeded None act = act
+unless_exceeded (Some excess) act = exceed excess
+
+-- a user frame is added and sent, unless it has no number left
+abbrev pub send_new : UserFrame → ℕ → Act
+send_new frame s =
+    look (λ w. unless_exceeded (over_excess (is_over w 1 1)) (seq (add_user frame) (send s)))
+
 -- ---- races
 
 -- the lines stand elsewhere
@@ -161,7 +180,7 @@ deed (lines.Cut from to) w = change (cut_in (place w from) (place w to))
 deed (lines.Mend from to) w = change (mended_in (place w from) (place w to))
 deed (lines.Restart name) w = happen (Restart (place w name))
 deed (lines.Send name destination body) w =
-    seq (add_user (record { destination = destination; body = body })) (send (place w name))
+    send_new (record { destination = destination; body = body }) (place w name)
 deed (lines.Inject name octets) w = happen (Inject (place w name) octets)
 deed lines.Race w = enter (Bursting [])
 deed line w = choose (chosen_by line)
@@ -185,15 +204,17 @@ abbrev pub control_act : List Numbered → Act
 control_act control = each controlled control
 
 -- the first limit of which bursts ask for more than the air leaves
-abbrev pub excess_of : List Burst → World → Option Excess
-excess_of bursts w =
+abbrev pub air_excess : List Burst → World → Option Excess
+air_excess bursts w =
     if nat_lt most_frames (length (air w.run) + frames_asked bursts) then Some TooManyFrames
     else if nat_lt most_octets (air_octets w.run + octets_asked bursts) then Some TooManyOctets
     else None
 
-abbrev pub unless_exceeded : Option Excess → Act → Act
-unless_exceeded None act = act
-unless_exceeded (Some excess) act = exceed excess
+-- and else whether they ask for more than there are numbers for
+abbrev pub excess_of : List Burst → World → Option Excess
+excess_of bursts w =
+    option_or (air_excess bursts w)
+    (over_excess (is_over w (length (workers_of bursts)) (jobs_in (workers_of bursts))))
 
 -- a race is run
 abbrev pub run_race : List Burst → List Numbered → World → Act

@@ -39,7 +39,15 @@ workers_at s bursts = sum (map (λ b. b.workers) (filter (λ b. b.station == s) 
 abbrev pub frame_octets : UserFrame → ℕ
 frame_octets user = length user.body + 44
 
--- of what bursts can ask for too much: the limits that frames on the air have
+-- the greatest count of user frames that lines name: each has a number
+abbrev pub most_users : ℕ
+most_users = 4294967294
+
+-- the greatest count of claims: a race may lose 16 packet numbers of a key
+abbrev pub most_claimed : ℕ
+most_claimed = 4294967279
+
+-- of what lines can ask for too much: the limits that frames on the air have
 pub data Excess : Type 0 where
   TooManyFrames : Excess
   TooManyOctets : Excess
@@ -71,6 +79,10 @@ share frames workers place =
 abbrev pub worker_at : Burst → ℕ → Worker
 worker_at b place =
     record { station = b.station; jobs = share b.frames b.workers place; user = b.user }
+
+-- how many frames workers send
+abbrev pub jobs_in : List Worker → ℕ
+jobs_in workers = sum (map (λ worker. worker.jobs) workers)
 
 -- the workers of bursts, in the order of the bursts
 abbrev pub workers_of : List Burst → List Worker

@@ -6,6 +6,8 @@ use Rattle.lan_core.specs.Run.{facts_of}
 use Rattle.lan_core.specs.Types.{IsUserFrame}
 use Rattle.trace_text.specs.Writing.{IsInForm}
 use Rattle.fact_tally.specs.Summary.{counts}
+use Rattle.lan_base.specs.Ranges.{IsCkn}
+use Rattle.trace_acts.specs.declared.choices.Keyed.{Keyed}
 use Rattle.trace_acts.specs.declared.halt.Halt.{Halt}
 use Rattle.trace_acts.specs.declared.broken.Broken.{Broken}
 use Rattle.trace_acts.specs.Names.{names_of}
@@ -52,6 +54,11 @@ AreFit names (Controlling bursts control) =
     AreBursts names bursts × AllByRecursion (IsControl names) control
 AreFit names _ = Unit {0}
 
+-- a group that was chosen has a name that is what it may be
+abbrev pub IsNamed : Option Keyed → Type 0
+IsNamed None = Unit {0}
+IsNamed (Some group) = IsCkn group.ckn
+
 -- before the first station nothing happened, and the tally is that of no facts; from then on the
 -- group at work stands for the world
 abbrev pub IsStaged : World → Replay → Option Stage → Type 0
@@ -61,7 +68,7 @@ IsStaged w replay None =
       line = replay.line;
       chosen = replay.chosen;
     })
-    × (replay.nothing ≡ counts [])
+    × (replay.nothing ≡ counts []) × IsNamed replay.chosen.group
 IsStaged w replay (Some stage) = StageStandsFor w stage
 
 -- a replay that is not halted stands for a world

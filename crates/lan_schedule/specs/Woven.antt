@@ -72,7 +72,7 @@ race_in _ w = nothing
 abbrev pub HadMemory : Result (Unit {0}) Halt → Type 0
 HadMemory result = result ≡ Err Memory → ⊥
 
--- a race is begun unless its bursts ask for more than the air leaves, or memory is wanting
+-- a race is begun unless its bursts ask for more than a limit leaves, or memory is wanting
 pub record WasBegun (bursts : List Burst) (w : World) (result : Result (Unit {0}) Halt) : Type 0 where
   pub room : excess_of bursts w ≡ None
   pub memory : HadMemory result

@@ -148,7 +148,8 @@ impl Replay {
 
     /// Runs the race that is kept, as its end does, whose line has the number of the last one: control's
     /// lines are performed while the workers of its bursts claim, and what both did then stands in one
-    /// run. An error halts the replay, as that of a command does, and no seat is out.
+    /// run. Where no race is kept whose lines of control come, nothing is done. An error halts the replay,
+    /// as that of a command does, and no seat is out.
     pub fn race<T: Threads + Sync, K, R: Preparing<K>, G: Gate + Sync>(
         &mut self,
         rt: &T,
@@ -156,9 +157,10 @@ impl Replay {
         outlet: &mut K,
         gate: &G,
     ) -> Result<(), Halt>
-        requires controls { is_controlling (phase_of self.old.phase) ≡ true }
         ensures race { RunsRace R.Took R.Broke (λ w. w) (look (λ w. race_in w.kept.phase w))
             (moment self.old outlet.old) (moment self.new outlet.new) result }
+        ensures none { is_controlling (phase_of self.old.phase) ≡ false → self.old.halted ≡ None
+            → (result ≡ Ok tt) × (self.new ≡ self.old) × (outlet.new ≡ outlet.old) }
         ensures seats { NoMoreOut (words_of self.old) (words_of self.new) }
         ensures halts { IfErr result (λ halt. self.new.halted ≡ Some halt) }
         ensures again { (halt : Halt) → self.old.halted ≡ Some halt
@@ -166,6 +168,9 @@ impl Replay {
     {
         if let Some(halt) = self.halted {
             return Err(halt);
+        }
+        if !self.phase.controls() {
+            return Ok(());
         }
         let outcome = self.run_kept(rt, recorder, outlet, gate);
         if let Err(halt) = outcome {

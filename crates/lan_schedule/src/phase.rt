@@ -13,6 +13,7 @@ ghost use Rattle.lan_schedule.specs.Lines.{behind_race, behind_while};
 ghost use Rattle.lan_schedule.specs.Ends.{IsReached};
 ghost use Rattle.lan_schedule.specs.Stages.{StandsFor};
 ghost use Rattle.lan_schedule.specs.Standing.{phase_of};
+ghost use Rattle.lan_schedule.specs.Woven.{is_controlling};
 ghost use Rattle.lan_schedule.specs.inside.Phased.{is_inside, is_taken, is_end, behind};
 ghost use Rattle.lan_schedule.specs.inside.Phased.{MayBeKept, Takes};
 ghost use Rattle.lan_schedule.specs.inside.Choosing.{MayControl};
@@ -158,6 +159,13 @@ impl Phase {
         ensures { result ≡ is_end (phase_of self.now) line.now }
     {
         matches!(self, Phase::Controlling(..)) && matches!(line, Line::End)
+    }
+
+    /// Whether a race is kept that can be run: its lines of control come.
+    pub fn controls(&self) -> bool
+        ensures { result ≡ is_controlling (phase_of self.now) }
+    {
+        matches!(self, Phase::Controlling(..))
     }
 
     /// Takes a line that belongs to a race and doesn't end it: it is refused, or kept for the race.

@@ -1,7 +1,7 @@
 //! A race is run, once its end came: its lines of control are performed beside the workers of its
 //! bursts, and what both did stands in one run.
 
-ghost use Rattle.std.specs.Prelude.{◌≡◌, ◌<◌, ◌+◌, ◌*◌, ◌^◌, [], not, nat_lt, true, map};
+ghost use Rattle.std.specs.Prelude.{◌≡◌, ◌<◌, ◌+◌, ◌*◌, ◌^◌, [], not, nat_lt, true, false, map};
 ghost use Rattle.std.specs.Prelude.{List, IfOk, IfErr, IfSome, OnOk, OnErr, None, option_map};
 ghost use Rattle.std.specs.Prelude.{All, IfNone, MatchResult, slice_get, vec_capacity};
 ghost use Rattle.std.specs.Option.{option_copied};
@@ -13,14 +13,14 @@ ghost use Rattle.transmit_words.specs.Ties.{tables_of};
 ghost use Rattle.worker_races.specs.Senders.{IsNew, jobs_of};
 ghost use Rattle.lan_schedule.specs.Races.{Numbered as NumberedAt};
 ghost use Rattle.lan_schedule.specs.Races.{frames_asked, octets_asked, limit_of, share, worker_at};
-ghost use Rattle.lan_schedule.specs.Races.{workers_of, frame_octets};
+ghost use Rattle.lan_schedule.specs.Races.{workers_of, frame_octets, most_claimed};
 ghost use Rattle.lan_schedule.specs.World.{World};
 ghost use Rattle.lan_schedule.specs.Acts.{happen, times};
-ghost use Rattle.lan_schedule.specs.Lines.{controlled, control_act, excess_of};
+ghost use Rattle.lan_schedule.specs.Lines.{air_excess, controlled, control_act, excess_of};
 ghost use Rattle.lan_schedule.specs.Ends.{moment, IsReached};
 ghost use Rattle.lan_schedule.specs.Stages.{StandsFor};
 ghost use Rattle.lan_schedule.specs.inside.Beside.{AreHired, IsReady, IsUnhired, RanBeside};
-ghost use Rattle.lan_schedule.specs.inside.Beside.{WereJoined, HiredAll, WasHired, BeginsRace};
+ghost use Rattle.lan_schedule.specs.inside.Beside.{IsUnlisted, WereJoined, HiredAll, WasHired, BeginsRace};
 ghost use Rattle.lan_schedule.specs.inside.Beside.{HasEnlisted, HasMoved, HaveRoom};
 ghost use Rattle.lan_schedule.specs.inside.Beside.{HaveSeats, IsFull, OutFor};
 ghost use Rattle.lan_schedule.specs.inside.Beside.{DidRace, EndsRace, Weaves, has_stopped, is_memory};
@@ -29,7 +29,7 @@ ghost use Rattle.lan_schedule.specs.inside.Staged.{Did};
 use crate::keeping::{Keeping, Kept};
 use crate::phase::{Burst, Numbered};
 use crate::recorder::{Preparing, Recorder};
-use crate::stage::Stage;
+use crate::stage::{MAX_CLAIMED, MAX_USERS, Stage};
 use crate::steering::Runner;
 use crate::weaving::{shown_in, tell_all};
 use association_slots::SlotTable;
@@ -54,9 +54,6 @@ const MAX_FRAMES: u64 = 200_000;
 
 /// The greatest count of their octets.
 const MAX_OCTETS: u64 = 67_108_864;
-
-/// The greatest count of claims behind a race: it may lose 16 numbers of a key.
-const MAX_CLAIMED: u64 = 4_294_967_279;
 
 /// How many octets a frame has more than its body.
 const AROUND: u64 = 44;
@@ -173,7 +170,7 @@ impl Stage {
     /// The first limit of which bursts ask for more than the air leaves.
     fn excess(&self, bursts: &[Burst]) -> Option<Which>
         ensures { (w : World) → IsReached StandsFor w self.now
-            → result ≡ option_map limit_of (excess_of bursts.now w) }
+            → result ≡ option_map limit_of (air_excess bursts.now w) }
     {
         let frames = MAX_FRAMES.saturating_sub(self.frames.len() as u64);
         if !frames_fit(bursts, frames) {
@@ -188,7 +185,7 @@ impl Stage {
     // ---- workers
 
     /// Hires the workers of bursts, and takes all memory for their work, unless the bursts ask for
-    /// more than the air leaves. Their seats alone are out then, and after an error none of them is.
+    /// more than a limit leaves. Their seats alone are out then, and after an error none of them is.
     fn crew(&mut self, bursts: &[Burst]) -> Result<Crew, Halt>
         ensures hired { (w : World) → IsReached StandsFor w self.old
             → HaveSeats bursts.now self.old
@@ -196,7 +193,7 @@ impl Stage {
             crew.workers.items × (excess_of bursts.now w ≡ None)) }
         ensures ready { IfOk result (IsReady self.new) }
         ensures unhired { (w : World) (control : List NumberedAt) → IsReached StandsFor w self.old
-            → IfErr result (IsUnhired w bursts.now control) }
+            → HaveSeats bursts.now self.old → IfErr result (IsUnhired w bursts.now control) }
         ensures tally { OnErr result (self.new.tally ≡ self.old.tally) }
         ensures seats { MatchResult result
             (λ crew. OutFor crew.workers.items self.old.words self.new.words)
@@ -210,9 +207,9 @@ impl Stage {
         let handles = self.words.handles(self.alloc)?;
         let mut workers = Vec::new(self.alloc);
         let mut logs = Vec::new(self.alloc);
-        if !self.enlist(bursts, &mut workers, &mut logs) {
+        if let Err(halt) = self.enlist(bursts, &mut workers, &mut logs) {
             self.dismiss(workers, logs);
-            return Err(Halt::Memory);
+            return Err(halt);
         }
         Ok(Crew {
             handles,
@@ -221,23 +218,31 @@ impl Stage {
         })
     }
 
-    /// Hires the workers of bursts and begins their race. Where that fails, those that were hired so far
-    /// are left. No seat but theirs went out.
-    fn enlist(&mut self, bursts: &[Burst], workers: &mut Vec<Worker>, logs: &mut Vec<Log>) -> bool
+    /// Hires the workers of bursts and begins their race, unless there are too few numbers for it. Where
+    /// that fails, those that were hired so far are left. No seat but theirs went out.
+    fn enlist(
+        &mut self,
+        bursts: &[Burst],
+        workers: &mut Vec<Worker>,
+        logs: &mut Vec<Log>,
+    ) -> Result<(), Halt>
         requires none { workers.old.items ≡ [] }
         requires empty { logs.old.items ≡ [] }
-        ensures enlisted { HaveSeats bursts.now self.old → result ≡ true
-            → HasEnlisted (workers_of bursts.now) self.old self.new workers.new.items }
+        ensures enlisted { HaveSeats bursts.now self.old → OnOk result
+            (HasEnlisted (workers_of bursts.now) self.old self.new workers.new.items) }
+        ensures unlisted { HaveSeats bursts.now self.old → IfErr result
+            (IsUnlisted (workers_of bursts.now) self.old) }
         ensures fresh { All IsNew workers.new.items }
         ensures seats { OutFor workers.new.items self.old.words self.new.words }
         ensures tables { tables_of self.new.words ≡ tables_of self.old.words }
         ensures room { HaveRoom self.new workers.new.items logs.new.items (vec_capacity logs.new) }
         ensures tally { self.new.tally ≡ self.old.tally }
     {
-        match self.hire_all(bursts, workers, logs) {
-            Ok(()) => self.begin_race(workers),
-            Err(_) => false,
+        self.hire_all(bursts, workers, logs)?;
+        if !self.begin_race(workers) {
+            return Err(Halt::Limit(Which::Frames));
         }
+        Ok(())
     }
 
     /// Hires the workers of bursts, burst by burst; one for whom there is no seat is left out. An error
@@ -311,20 +316,17 @@ impl Stage {
     }
 
     /// A race begins, whose workers were hired: each has a user frame, and what control performs is
-    /// kept. It doesn't where packet numbers or user frames might run out.
+    /// kept. It doesn't where there are too few numbers for user frames or packets.
     fn begin_race(&mut self, workers: &[Worker]) -> bool
         ensures { BeginsRace workers.now self.old self.new result }
     {
-        let Ok(count) = u32::try_from(workers.len()) else {
+        let Some(left) = MAX_USERS.checked_sub(self.users) else {
             return false;
         };
-        let Some(users) = self.users.checked_add(count) else {
-            return false;
-        };
-        if users == u32::MAX || !self.has_numbers_for(workers) {
+        if (left as usize) < workers.len() || !self.has_numbers_for(workers) {
             return false;
         }
-        self.users = users;
+        self.users += workers.len() as u32;
         self.raced = true;
         self.steps = Some(Vec::new(self.alloc));
         true
@@ -332,8 +334,10 @@ impl Stage {
 
     /// Whether there are packet numbers for all jobs of workers, where some may be lost.
     fn has_numbers_for(&self, workers: &[Worker]) -> bool
-        ensures { result ≡ true
+        ensures few { result ≡ true
             → self.now.tally.claims + (jobs_of workers.now + 16) < 2 ^ 32 }
+        ensures over { result ≡ false
+            → most_claimed < self.now.tally.claims + jobs_of workers.now }
     {
         let Some(mut left) = MAX_CLAIMED.checked_sub(self.tally.claims()) else {
             return false;

@@ -1,7 +1,7 @@
 //! A group at work: the lines after the first station are performed on it.
 
 ghost use Rattle.std.specs.Prelude.{◌≡◌, ◌==◌, ◌<◌, ◌≤◌, ◌+◌, ◌^◌, ◌++◌, true, is_some, nat_eq, length, map};
-ghost use Rattle.std.specs.Prelude.{OnOk, IfOk, IfErr, List, [], false, option_map};
+ghost use Rattle.std.specs.Prelude.{◌⊎◌, OnOk, OnErr, IfOk, IfErr, List, [], false, option_map};
 ghost use Rattle.std.specs.List.{position_or_len};
 ghost use Rattle.std.specs.Option.{option_copied};
 ghost use Rattle.std.specs.Cmp.Lexicographic.{pointwise};
@@ -13,15 +13,18 @@ ghost use Rattle.trace_text.specs.Writing.{IsInForm};
 ghost use Rattle.lan_core.specs.declared.fact.Fact.{Fact};
 ghost use Rattle.fact_tally.specs.Summary.{counts};
 ghost use Rattle.trace_acts.specs.declared.halt.Halt.{Halt};
+ghost use Rattle.mka_kdf.specs.Kdf.{HasWrongLength};
 ghost use Rattle.trace_acts.specs.Places.{is_elsewhere, is_race};
+ghost use Rattle.trace_acts.specs.Settings.{settings_of as chosen_settings};
 ghost use Rattle.lan_schedule.specs.World.{World, mark};
 ghost use Rattle.lan_schedule.specs.Sound.{IsTidy};
 ghost use Rattle.lan_schedule.specs.Acts.{happen, seq, look, unless};
 ghost use Rattle.lan_schedule.specs.inside.Phased.{act_apart};
-ghost use Rattle.lan_schedule.specs.Lines.{send, add_user, begin, cut_in, mended_in, deed};
+ghost use Rattle.lan_schedule.specs.Lines.{send_new, begin, cut_in, mended_in, deed};
 ghost use Rattle.lan_schedule.specs.Ends.{moment};
 ghost use Rattle.lan_schedule.specs.Stages.{StandsFor};
-ghost use Rattle.lan_schedule.specs.inside.Set.{most_claims};
+ghost use Rattle.lan_schedule.specs.inside.Beside.{IsOver};
+ghost use Rattle.lan_schedule.specs.Races.{most_claimed, most_users};
 ghost use Rattle.lan_base.specs.declared.frame.UserFrame.{UserFrame};
 ghost use Rattle.lan_core.specs.declared.settings.Settings.{Settings};
 ghost use Rattle.lan_core.specs.Run.{Run};
@@ -38,19 +41,23 @@ use crate::recorder::Recorder;
 use crate::words::Words;
 use fact_tally::Tally;
 use lan_base::{Mac, Name, Octets, Sci, UserFrame};
-use lan_core::{Event, Fact, Facts, Lan, Settings, StepError};
+use lan_core::{Event, Fact, Facts, Lan, Settings, StepError, Which};
+use mka_kdf::GroupFault;
 use packet_claims::Gate;
 use race_merge::Step;
 use rx_slots::Checked;
 use std::alloc::{AllocError, Global};
 use std::thread::Threads;
-use trace_acts::{Choices, Halt, Links, Supply, halt_of, position, settings_of, supply_of};
+use trace_acts::{Choices, Halt, Kind, Links, Supply, halt_of, position, settings_of, supply_of};
 use trace_text::Line;
 use transmit_words::{law_few_claims_spend_no_words, law_words_keep_a_run_thrifty};
 use worker_races::{law_an_event_tells_the_words, law_control_goes_on};
 
-/// The greatest count of claims before one more, from the first race on.
-const MAX_CLAIMS: u64 = 4_294_967_278;
+/// The greatest count of user frames that lines name.
+pub const MAX_USERS: u32 = 4_294_967_294;
+
+/// The greatest count of claims: a race may lose 16 numbers of a key.
+pub const MAX_CLAIMED: u64 = 4_294_967_279;
 
 /// A group, and what is kept beside it.
 #[derive(Drop)]
@@ -79,16 +86,18 @@ pub struct Stage {
 }
 
 impl Stage {
-    /// A group by what was chosen, of which nothing happened yet. The line of this number begins.
+    /// A group by what was chosen, of which nothing happened yet. The line of this number begins. Where the
+    /// group's name isn't what it may be, the line isn't allowed.
     pub fn new(alloc: Global, chosen: &Choices, line: u32) -> Result<Self, Halt>
         ensures stands { (w : World) → IsTidy w → is_some chosen.now.group ≡ true
             → IsOpening w chosen.now line → IfOk result (StandsFor w) }
         ensures words { IfOk result (λ stage. stage.words ≡ []) }
-        ensures memory { IfErr result (λ halt. halt ≡ Halt.Memory) }
+        ensures memory { IfErr result (λ halt. (halt ≡ Halt.Memory)
+            ⊎ HasWrongLength (chosen_settings chosen.now).ckn) }
     {
         let settings = settings_of(alloc, chosen)?;
         let draws = supply_of(alloc, chosen)?;
-        let lan = group_of(alloc, settings)?;
+        let lan = group_of(alloc, settings, line)?;
         Ok(Stage {
             alloc,
             lan,
@@ -204,7 +213,8 @@ impl Stage {
 
     // ---- user data
 
-    /// A station sends a user frame: it claims a number, and what got one is emitted.
+    /// A station sends a user frame, unless it has no number left: it claims a packet number, and what
+    /// got one is emitted.
     fn send<K, R: Recorder<K>, G: Gate>(
         &mut self,
         station: u8,
@@ -213,16 +223,14 @@ impl Stage {
         outlet: &mut K,
         gate: &G,
     ) -> Result<(), Halt>
-        ensures { Did R.Took R.Broke (seq (add_user user.now) (send station))
+        ensures { Did R.Took R.Broke (send_new user.now station)
             (moment self.old outlet.old) (moment self.new outlet.new) result }
     {
-        let Some(users) = self.users.checked_add(1) else {
-            return Err(Halt::Memory);
-        };
         if !self.has_numbers() {
-            return Err(Halt::Memory);
+            return Err(Halt::Limit(Which::Frames));
         }
         law_few_claims_spend_no_words();
+        let users = self.users + 1;
         self.users = users;
         let pn = self.words.claim(station, gate);
         let claim = Event::Claim {
@@ -234,11 +242,13 @@ impl Stage {
         self.emit(pn, recorder, outlet, gate)
     }
 
-    /// Whether each key has a packet number left: a race may have lost some.
+    /// Whether there are numbers for a user frame more, and a packet number: a race may have lost some.
     fn has_numbers(&self) -> bool
-        ensures { result ≡ true → self.now.raced ≡ true → self.now.tally.claims ≤ most_claims }
+        ensures few { result ≡ true → (self.now.users + 1 ≤ most_users)
+            × (self.now.tally.claims + 1 ≤ most_claimed) }
+        ensures over { result ≡ false → IsOver self.now 1 1 }
     {
-        !self.raced || self.tally.claims() <= MAX_CLAIMS
+        self.users < MAX_USERS && self.tally.claims() < MAX_CLAIMED
     }
 
     /// What was claimed is emitted, where there is a number.
@@ -473,8 +483,8 @@ impl Stage {
         outlet: &mut K,
         gate: &G,
     ) -> Result<(), Halt>
-        ensures { Did R.Took R.Broke (seq (add_user
-            (record { destination = destination; body = body.now })) (send station))
+        ensures { Did R.Took R.Broke (send_new
+            (record { destination = destination; body = body.now }) station)
             (moment self.old outlet.old) (moment self.new outlet.new) result }
     {
         let user = UserFrame {
@@ -503,15 +513,18 @@ impl Stage {
     }
 }
 
-/// A group to which nothing happened.
-fn group_of(alloc: Global, settings: Settings) -> Result<Lan, Halt>
+/// A group to which nothing happened. A name of a wrong length isn't allowed in the line of this number.
+fn group_of(alloc: Global, settings: Settings, line: u32) -> Result<Lan, Halt>
     ensures stands { IfOk result (λ lan. (users : List UserFrame)
         → GroupStandsFor settings users lan []) }
-    ensures memory { IfErr result (λ halt. halt ≡ Halt.Memory) }
+    ensures length { OnErr result (HasWrongLength settings.ckn) }
 {
     match Lan::new(alloc, settings) {
         Ok(lan) => Ok(lan),
-        Err(_) => Err(Halt::Memory),
+        Err(GroupFault::CknLength) => Err(Halt::Trace {
+            line,
+            kind: Kind::Order,
+        }),
     }
 }
 

@@ -3,4 +3,8 @@ mod Same
 mod Rising
 mod Putting
 mod Repeated
+mod Hearing
+mod Heard
+mod Totals
 mod Examples
+mod FactExamples

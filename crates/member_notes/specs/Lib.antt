@@ -1,4 +1,6 @@
 pub mod Mkpdus
-pub mod Spoken
 pub mod Standing
+pub mod Spoken
+pub mod Facts
+pub mod FactsKept
 pub mod inside

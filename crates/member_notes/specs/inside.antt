@@ -1,2 +1,3 @@
 -- What serves private functions alone.
 pub mod Putting
+pub mod Hearing

@@ -12,6 +12,7 @@ mod Members
 mod Makes
 mod Drawn
 mod Ticks
+mod Quiets
 mod Tells
 mod Judges
 mod Hears

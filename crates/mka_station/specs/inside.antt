@@ -3,4 +3,5 @@ pub mod Found
 pub mod Due
 pub mod Saying
 pub mod Turns
+pub mod Quiet
 pub mod Reached

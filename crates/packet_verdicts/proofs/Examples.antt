@@ -2,7 +2,7 @@
 use Rattle.std.specs.Prelude.{replicate}
 use Rattle.std.proofs.Common.{◌≡◌, ℕ, Bool, true, false, List, [], ◌∷◌, ◌++◌, Some, None, refl}
 use Rattle.gcm_frames.specs.declared.tag.TagRefusal.TheVariants as tags
-use Rattle.gcm_frames.specs.Tags.{tag_fields}
+use Rattle.gcm_frames.specs.Tags.{implied_fields}
 use Rattle.gcm_frames.specs.declared.tag.Tag.{Tag}
 use Rattle.mkpdu_codec.specs.declared.key_use.KeyUse.{KeyUse}
 use Rattle.packet_verdicts.specs.Given.{shown_key}
@@ -92,37 +92,50 @@ protected = kinds.Sec (secs.Protected (record {
 }) (replicate 16 7))
 
 whole_sec : packet_kind [] (packet short_frame 46 true) ≡ protected
-unfolding tag_fields
+unfolding implied_fields
 whole_sec = refl
+
+-- neither ES nor SC is set: its address with port 1 is the sender
+implied_sec : packet_kind [] (packet (addresses ++ (0x88 ∷ 0xe5 ∷ 0x0d ∷ 2 ∷ 0 ∷ 0 ∷ 0 ∷ 9 ∷ 0x88 ∷ 0xb5 ∷ replicate 16 7)) 38 true)
+    ≡ kinds.Sec (secs.Protected (record {
+      sci = record { 0 = 7 ∷ 8 ∷ 9 ∷ 10 ∷ 11 ∷ 12 ∷ 0 ∷ 1 ∷ [] };
+      an = An1;
+      pn = 9;
+      conf = true;
+      start = 20;
+      len = 2;
+    }) (replicate 16 7))
+unfolding implied_fields
+implied_sec = refl
 
 -- padding is no part of it, nor is a VLAN tag
 padded_sec : packet_kind [] (packet (addresses ++ (tag ++ (sec_tag 0x2d 2 ++ (0x88 ∷ 0xb5 ∷ (replicate 16 7 ++ replicate 14 0))))) 64 true) ≡ protected
-unfolding tag_fields
+unfolding implied_fields
 padded_sec = refl
 
 -- its padding was not kept
 kept_sec : packet_kind [] (packet short_frame 60 true) ≡ protected
-unfolding tag_fields
+unfolding implied_fields
 kept_sec = refl
 
 -- two octets of the tag are missing: they were not kept, or were never there
 cut_sec : packet_kind [] (packet (addresses ++ (sec_tag 0x2d 2 ++ (0x88 ∷ 0xb5 ∷ replicate 14 7))) 46 true) ≡ kinds.Sec secs.Cut
-unfolding tag_fields
+unfolding implied_fields
 cut_sec = refl
 
 short_sec : packet_kind [] (packet (addresses ++ (sec_tag 0x2d 2 ++ (0x88 ∷ 0xb5 ∷ replicate 14 7))) 44 true)
     ≡ kinds.Sec (secs.Malformed (Refused tags.Short))
-unfolding tag_fields
+unfolding implied_fields
 short_sec = refl
 
 -- a short length of 0 of a frame that was cut: 64 octets are there, and more were
 open_sec : packet_kind [] (packet (addresses ++ (sec_tag 0x2d 0 ++ replicate 64 7)) 93 true) ≡ kinds.Sec secs.Cut
-unfolding tag_fields
+unfolding implied_fields
 open_sec = refl
 
 -- another version is one also where it was cut
 version_sec : packet_kind [] (packet (addresses ++ sec_tag 0xad 2) 46 true) ≡ kinds.Sec (secs.Malformed (Refused tags.Version))
-unfolding tag_fields
+unfolding implied_fields
 version_sec = refl
 
 -- ---- frames of key agreement that are cut or dropped

@@ -8,7 +8,7 @@ use Rattle.capture_packets.specs.Packets.{Seen}
 use Rattle.gcm_frames.specs.declared.tag.Tag.{Tag}
 use Rattle.gcm_frames.specs.declared.tag.TagRefusal.{TagRefusal}
 use Rattle.gcm_frames.specs.Sealed.{check_octets}
-use Rattle.gcm_frames.specs.Tags.{is_sec, short_length_of, tag_fields}
+use Rattle.gcm_frames.specs.Tags.{implied_fields, is_sec, short_length_of}
 use Rattle.lan_base.specs.Ranges.{most_frame_octets}
 use Rattle.mkpdu_codec.specs.declared.refusal.Refusal.{Refusal}
 use Rattle.mkpdu_codec.specs.declared.refusal.Refusal.TheVariants as refusals
@@ -24,7 +24,7 @@ use Rattle.packet_verdicts.specs.Kinds.{Fits, FitsMka, FitsSec, frame_kind, grou
 
 -- ---- protected frames
 
-tagged-fits : (fields : Result Tag TagRefusal) (cut : Bool) (frame : List ℕ) → tag_fields frame ≡ fields
+tagged-fits : (fields : Result Tag TagRefusal) (cut : Bool) (frame : List ℕ) → implied_fields frame ≡ fields
     → length frame ≤ most_frame_octets → FitsSec frame (tagged_kind cut frame fields)
 tagged-fits (Ok tag) cut frame e few =
     elim (cut && (short_length_of frame == 0)) as (λ b. FitsSec frame (cond b secs.Cut (secs.Protected tag (check_octets tag frame)))) [ true ↦ tt | false ↦ (e, few) ]
@@ -32,9 +32,9 @@ tagged-fits (Err refusal) cut frame e few =
     elim (cut && is_of_end refusal) as (λ b. FitsSec frame (cond b secs.Cut (secs.Malformed (Refused refusal)))) [ true ↦ tt | false ↦ tt ]
 
 sec-fits : (b : Bool) (cut : Bool) (frame : List ℕ) → nat_lt most_frame_octets (length frame) ≡ b
-    → FitsSec frame (cond b (secs.Malformed Long) (tagged_kind cut frame (tag_fields frame)))
+    → FitsSec frame (cond b (secs.Malformed Long) (tagged_kind cut frame (implied_fields frame)))
 sec-fits true cut frame e = tt
-sec-fits false cut frame e = tagged-fits (tag_fields frame) cut frame refl (ltb-false most_frame_octets (length frame) e)
+sec-fits false cut frame e = tagged-fits (implied_fields frame) cut frame refl (ltb-false most_frame_octets (length frame) e)
 
 -- ---- frames of key agreement
 

@@ -6,7 +6,7 @@ use Rattle.gcm_frames.specs.declared.tag.Tag.{Tag}
 use Rattle.gcm_frames.specs.declared.tag.TagRefusal.{TagRefusal}
 use Rattle.gcm_frames.specs.declared.tag.TagRefusal.TheVariants as tags
 use Rattle.gcm_frames.specs.Sealed.{check_octets}
-use Rattle.gcm_frames.specs.Tags.{is_sec, short_length_of, tag_fields}
+use Rattle.gcm_frames.specs.Tags.{implied_fields, is_sec, short_length_of}
 use Rattle.lan_base.specs.Ranges.{most_frame_octets}
 use Rattle.mkpdu_codec.specs.declared.announcement.Announcement.{Announcement}
 use Rattle.mkpdu_codec.specs.declared.refusal.Refusal.{Refusal}
@@ -31,7 +31,7 @@ is_of_end tags.Short = true
 is_of_end tags.SlWrong = true
 is_of_end _ = false
 
--- By what its SecTAG says. Of one that was cut, a refusal because of its end says nothing, and with a
+-- By what its SecTAG says, where the SCI may be implied. Of one that was cut, a refusal because of its end says nothing, and with a
 -- short length of 0 nobody knows where it ended.
 abbrev pub tagged_kind : Bool → List ℕ → Result Tag TagRefusal → Sec
 tagged_kind cut frame (Ok tag) =
@@ -43,7 +43,7 @@ tagged_kind cut frame (Err refusal) =
 abbrev pub sec_kind : Bool → List ℕ → Sec
 sec_kind cut frame =
     if nat_lt most_frame_octets (length frame) then secs.Malformed Long
-    else tagged_kind cut frame (tag_fields frame)
+    else tagged_kind cut frame (implied_fields frame)
 
 -- ---- a frame of key agreement
 
@@ -94,7 +94,7 @@ packet_kind groups p =
 -- the fields of a protected frame are those of the frame, which is no longer than a frame may be
 abbrev pub FitsSec : List ℕ → Sec → Type 0
 FitsSec frame (secs.Protected tag check) =
-    (tag_fields frame ≡ Ok tag) × (length frame ≤ most_frame_octets)
+    (implied_fields frame ≡ Ok tag) × (length frame ≤ most_frame_octets)
 FitsSec frame _ = ⊤
 
 -- the group of a right one is there

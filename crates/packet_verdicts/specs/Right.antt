@@ -1,8 +1,8 @@
 -- Under which of the keys that are known to it a protected frame is right.
-use Rattle.std.specs.Prelude.{◌≡◌, ℕ, ◌-◌, ◌==◌, is_some, Bool, false, if◌then◌else◌, List, Option, Some, None, slice_get}
+use Rattle.std.specs.Prelude.{ℕ, ◌-◌, ◌==◌, is_some, Bool, false, if◌then◌else◌, List, Option, Some, None, slice_get}
 use Rattle.std.specs.List.{find}
 use Rattle.gcm_frames.specs.declared.tag.Tag.{Tag}
-use Rattle.gcm_frames.specs.Sealed.{opened, secure_data}
+use Rattle.gcm_frames.specs.Sealed.{opened}
 
 -- the key with a number: they are numbered from 1
 abbrev pub key_numbered : List (List ℕ) → ℕ → Option (List ℕ)
@@ -20,9 +20,3 @@ is_right keys tag frame number = is_opened tag frame (key_numbered keys number)
 -- the first of these numbers under whose key the frame is right
 abbrev pub newest_right : List (List ℕ) → Tag → List ℕ → List ℕ → Option ℕ
 newest_right keys tag frame candidates = find (is_right keys tag frame) candidates
-
--- in the place of the frame's secure data stands what the key with this number opens it to
-abbrev pub IsOpened : List (List ℕ) → Tag → List ℕ → List ℕ → ℕ → Type 0
-IsOpened keys tag frame new number =
-    (key : List ℕ) × (key_numbered keys number ≡ Some key)
-    × (opened key tag frame ≡ Some (secure_data tag new))

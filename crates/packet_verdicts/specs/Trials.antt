@@ -1,7 +1,7 @@
 -- Frames that wait for their keys.
 use Rattle.std.specs.Prelude.{◌≡◌, ◌≤◌, ℕ, List, drop, length, Option, Ok}
 use Rattle.gcm_frames.specs.declared.tag.Tag.{Tag}
-use Rattle.gcm_frames.specs.Tags.{tag_fields}
+use Rattle.gcm_frames.specs.Tags.{implied_fields}
 use Rattle.lan_base.specs.Ranges.{most_frame_octets}
 use Rattle.packet_verdicts.specs.declared.batch.Trial.{Trial}
 use Rattle.packet_verdicts.specs.Right.{newest_right}
@@ -13,7 +13,7 @@ frame_in t = drop t.start t.octets.items
 -- its fields are its own, and it is no longer than a frame may be
 pub record IsTrial (t : Trial) : Type 0 where
   pub within : t.start ≤ length t.octets.items
-  pub fields : tag_fields (frame_in t) ≡ Ok t.tag
+  pub fields : implied_fields (frame_in t) ≡ Ok t.tag
   pub few : length (frame_in t) ≤ most_frame_octets
 
 -- the newest of its candidates under which it is right

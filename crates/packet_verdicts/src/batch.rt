@@ -28,7 +28,7 @@ impl Trial {
         ensures answer { self.new.newest ≡ answer keys.now self.old }
         ensures tag { self.new.tag ≡ self.old.tag }
     {
-        let (_, frame) = self.octets.split_at_mut(self.start);
+        let frame = &self.octets[self.start..];
         self.newest = newest_right(keys, &self.candidates, &self.tag, frame);
     }
 }

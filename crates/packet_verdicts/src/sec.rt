@@ -6,7 +6,7 @@ ghost use Rattle.gcm_frames.specs.Tags.{is_sec};
 ghost use Rattle.packet_verdicts.specs.Kinds.{is_of_end, sec_kind, tagged_kind};
 
 use crate::kind::{Malformed, Sec};
-use gcm_frames::{Tag, TagRefusal, tag_of};
+use gcm_frames::{Tag, TagRefusal, implied_tag_of};
 
 /// The most octets that a frame may have.
 const FRAME_MAX: usize = 65_536;
@@ -28,7 +28,7 @@ pub(crate) fn sec_kind(is_cut: bool, frame: &[u8]) -> Sec
     if frame.len() > FRAME_MAX {
         return Sec::Malformed(Malformed::Long);
     }
-    tagged_kind(is_cut, frame, tag_of(frame))
+    tagged_kind(is_cut, frame, implied_tag_of(frame))
 }
 
 /// What it is by what its SecTAG says.

@@ -81,9 +81,6 @@ fn render_all(facts: &[Fact], names: &[Name], out: &mut Vec<u8>) -> Result<(), A
 {
     out.clear();
     for fact in facts {
-        if usize::from(fact.place()) >= names.len() {
-            return Err(AllocError);
-        }
         render(fact, out, names)?;
     }
     Ok(())

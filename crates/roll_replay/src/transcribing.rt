@@ -87,9 +87,6 @@ fn render_marked(
 ) -> Result<(), AllocError>
     ensures { OnOk result (out.new.items ≡ out.old.items ++ marked group names.now fact.now) }
 {
-    if usize::from(fact.place()) >= names.len() {
-        return Err(AllocError);
-    }
     out.push(digit(group))?;
     out.push(b' ')?;
     render(fact, out, names)

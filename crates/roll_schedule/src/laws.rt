@@ -2,7 +2,7 @@
 
 ghost use Rattle.std.specs.Prelude.{◌≡◌, ◌⊎◌, ◌++◌, ◌∷◌, ℕ, false, Contains};
 ghost use Rattle.lan_core.specs.Run.{facts_of};
-ghost use Rattle.lan_core.specs.Legal.{IsLegal};
+ghost use Rattle.lan_core.specs.Legal.{IsLegal, IsThrifty};
 ghost use Rattle.lan_core.specs.Fresh.{IsUnforged};
 ghost use Rattle.lan_core.specs.declared.fact.Fact.TheVariants.{Unclaimed};
 ghost use Rattle.lan_core.specs.declared.fact.Lack.{Lack};
@@ -24,12 +24,14 @@ use cak_roll::{
     law_group_runs_are_sound, law_what_holds_in_each_group,
 };
 
-/// The world of no line is tidy. In each tidy world the run of each group is legal and unforged, no
-/// key identifier names two keys there, and each steady rollover is hitless.
+/// The world of no line is tidy. In each tidy world the run of each group is legal, thrifty and
+/// unforged, no key identifier names two keys there, and each steady rollover is hitless.
 pub fn law_groups_of_tidy_worlds_are_sound()
     ensures start { IsTidy beginning }
     ensures legal { (w : World) (g : GroupNumber) → IsTidy w
         → IsLegal (setting_of (pair_of w) g) w.kept.users (run_of g w.run) }
+    ensures thrifty { (w : World) (g : GroupNumber) → IsTidy w
+        → IsThrifty (setting_of (pair_of w) g) (run_of g w.run) }
     ensures unforged { (w : World) (g : GroupNumber) → IsTidy w
         → IsUnforged (setting_of (pair_of w) g) (run_of g w.run) }
     ensures one_key { (w : World) (g : GroupNumber) → IsTidy w → OneKey (run_of g w.run) }

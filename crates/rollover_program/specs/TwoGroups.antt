@@ -3,7 +3,7 @@ use Rattle.std.specs.Prelude.{◌≡◌, ◌∷◌, ◌++◌, ℕ, false, Contai
 use Rattle.lan_core.specs.declared.fact.Fact.TheVariants.{Unclaimed}
 use Rattle.lan_core.specs.declared.fact.Lack.{Lack}
 use Rattle.lan_core.specs.Run.{facts_of}
-use Rattle.lan_core.specs.Legal.{IsLegal}
+use Rattle.lan_core.specs.Legal.{IsLegal, IsThrifty}
 use Rattle.lan_core.specs.Fresh.{IsFresh, IsUnforged}
 use Rattle.group_safety.specs.Once.{OneKey}
 use Rattle.group_safety.specs.Hitless.{Hitless}
@@ -17,11 +17,12 @@ use Rattle.cak_roll.specs.Twin.{transmits}
 use Rattle.cak_roll.specs.Both.{OnceOver}
 use Rattle.roll_schedule.specs.World.{World, pair_of}
 
--- The run of a group is legal, and nothing in it was forged. No key identifier names two keys there,
--- and in every steady rollover each frame that is delivered in time is found. The facts of the run,
--- one after the other, are cut where its events end.
+-- The run of a group is legal and thrifty, and nothing in it was forged. No key identifier names two
+-- keys there, and in every steady rollover each frame that is delivered in time is found. The facts of
+-- the run, one after the other, are cut where its events end.
 pub record IsPromisedIn (w : World) (g : GroupNumber) : Type 0 where
   pub legal : IsLegal (setting_of (pair_of w) g) w.kept.users (run_of g w.run)
+  pub thrifty : IsThrifty (setting_of (pair_of w) g) (run_of g w.run)
   pub unforged : IsUnforged (setting_of (pair_of w) g) (run_of g w.run)
   pub one_key : OneKey (run_of g w.run)
   pub hitless : Hitless (setting_of (pair_of w) g) (run_of g w.run)

@@ -7,6 +7,7 @@ pub mod Survival
 pub mod Stays
 pub mod Entries
 pub mod Ticks
+pub mod Stills
 pub mod Currents
 pub mod Begins
 pub mod Unwrapping

@@ -6,6 +6,7 @@ pub mod Making
 pub mod Unwrapping
 pub mod Taking
 pub mod Outcomes
+pub mod Stills
 pub mod Lives
 pub mod Standing
 pub mod inside

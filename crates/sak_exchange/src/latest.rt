@@ -1,9 +1,11 @@
 //! What is kept of the latest key.
 
-ghost use Rattle.std.specs.Prelude.{◌≡◌};
-ghost use Rattle.sak_exchange.specs.inside.States.{aged, begun_now};
+ghost use Rattle.std.specs.Prelude.{◌≡◌, ◌==◌};
+ghost use Rattle.lan_base.specs.Timers.{retire_time};
+ghost use Rattle.sak_exchange.specs.inside.States.{aged, begun_now, counted};
 
 use crate::held_key::HeldKey;
+use lan_base::RETIRE_TIME;
 
 /// The latest key.
 #[derive(Clone, Copy)]
@@ -26,6 +28,13 @@ impl Latest {
                 0
             },
         }
+    }
+
+    /// Whether it is the retire time after it began at the next tick, where it has begun.
+    pub(crate) fn retires_next(&self) -> bool
+        ensures { result ≡ (counted self.now.since_begun == retire_time) }
+    {
+        self.since_begun.saturating_add(1) == RETIRE_TIME
     }
 
     /// The same, as it begins.

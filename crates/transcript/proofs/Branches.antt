@@ -1,5 +1,5 @@
 -- What words say where the first of them is known.
-use Rattle.std.proofs.Common.{◌≡◌, ℕ, true, false, List, refl, sym, ap, ◌∙◌, subst, inl, Bool}
+use Rattle.std.proofs.Common.{◌≡◌, ℕ, true, false, List, ◌∷◌, refl, sym, ap, ◌∙◌, subst, inl, Bool}
 use Rattle.std.specs.Prelude.{Option, Some, None, Result, Err, codes}
 use Rattle.std.specs.Option.{ok_or}
 use Rattle.lan_base.specs.declared.key_id.KeyId.{KeyId}
@@ -13,8 +13,9 @@ use Rattle.lan_core.specs.declared.fact.Fact.TheVariants.{Untaken, HeardMka, Unc
 use Rattle.trace_text.specs.Words.{is_word}
 use Rattle.transcript.specs.declared.fault.FactError.{FactError}
 use Rattle.transcript.specs.declared.fault.FactError.TheVariants.{Unread}
-use Rattle.transcript.specs.inside.Reading.{parted, taken, station_of, number_of, key_of, along, why_tree, seen_tree, verdict_tree, drop_tree, shape_tree, repeated_tree, old_number_tree, lack_tree, arrival_tree, accepted_tree, refused_tree, malformed_tree, missed_tree, late_tree, untaken_tree, heard_tree, noclaim_tree, data_tree}
+use Rattle.transcript.specs.inside.Reading.{parted, taken, station_of, number_of, key_of, along, why_tree, seen_tree, verdict_tree, drop_tree, shape_tree, repeated_tree, old_number_tree, lack_tree, arrival_tree, accepted_tree, refused_tree, malformed_tree, missed_tree, late_tree, untaken_tree, heard_tree, noclaim_tree, data_tree, claim_tree, plain_tree}
 use Rattle.transcript.specs.inside.Taking.{Takes, Answers}
+use Rattle.transcript.proofs.Said.{the_word}
 
 -- a word was compared with letters
 pub tested : (word text letters : List ℕ) (r b : Bool) → r ≡ is_word word text → text ≡ letters → r ≡ b → is_word word letters ≡ b
@@ -114,3 +115,11 @@ pub arrived_ok : (names words w1 w2 : List (List ℕ)) (k s : ℕ) (arrival : Ar
     → taken (station_of names) w1 ≡ Some (s, w2)
     → along names (arrival_tree (λ a. Arrived k s a)) w2 ≡ Some (Arrived k s arrival) → along names data_tree words ≡ Some (Arrived k s arrival)
 arrived_ok names words w1 w2 k s arrival e1 e2 h = arrived names words w1 w2 k s e1 e2 ∙ h
+
+-- a line of a claim, whichever kinds of facts have their turn before it
+pub claimed : (names : List (List ℕ)) (word : List ℕ) (words : List (List ℕ)) (o : Option Fact)
+    → is_word word (codes "claim") ≡ true → Takes {X = Fact} (λ x. x) o (along names claim_tree words)
+    → Takes {X = Fact} (λ x. x) o (along names plain_tree (word ∷ words))
+claimed names word words o test h =
+    subst (λ w. Takes {X = Fact} (λ x. x) o (along names plain_tree (w ∷ words)))
+    (sym (the_word word (codes "claim") test)) h

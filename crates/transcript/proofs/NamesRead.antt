@@ -1,9 +1,10 @@
 -- The names after a line, and what the line says under them.
 use Rattle.std.proofs.Common.{◌≡◌, ◌≢◌, ◌<◌, ◌≤◌, ◌+◌, ◌∙◌, ◌^◌, inl, inr, ℕ, zero, suc, Bool, true, false, cond, List, [], ◌∷◌, ◌++◌, length, map, get_or, refl, sym, ap, subst, arith}
-use Rattle.std.specs.Prelude.{◌⊎◌, ◌↔◌, All, nat_lt, codes, Option, Some, None, is_some, IsTrue, Result, Ok, Err, IfOk, IfErr, OnErr}
-use Rattle.std.specs.List.{slice_split}
+use Rattle.std.specs.Prelude.{◌⊎◌, ◌↔◌, ◌==◌, All, nat_lt, codes, Option, Some, None, is_some, IsTrue, Result, Ok, Err, IfOk, IfErr, OnErr}
+use Rattle.std.specs.List.{slice_split, onto_first}
 use Rattle.std.proofs.lemmas.Bool.{lt-ltb, ltb-true}
 use Rattle.std.proofs.lemmas.List.{length-append}
+use Rattle.std.proofs.lemmas.List.Splits.{slice_split-cons_yes, slice_split-cons_no}
 use Rattle.std.proofs.lemmas.List.Elements.{All-nil, All-cons, All-head, All-tail, All-push, All-append}
 use Rattle.lan_base.specs.declared.address.Mi.{Mi}
 use Rattle.lan_base.specs.Differing.{AllDiffer, DiffersFrom}
@@ -16,13 +17,14 @@ use Rattle.transcript.specs.declared.fault.FactError.TheVariants.{Unread, Memory
 use Rattle.transcript.specs.Words.{array, words, spelled}
 use Rattle.transcript.specs.Rendering.{Says, AreNames, IsOfFrame}
 use Rattle.transcript.specs.Naming.{Reads, IsNaming, most_named}
-use Rattle.transcript.specs.inside.Naming.{name_of, name_in, grown_by, Answered}
+use Rattle.transcript.specs.inside.Naming.{name_of, name_in, begins_as_life, grown_by, Answered}
 use Rattle.transcript.specs.inside.Reading.{member, says as says_it, and_then, kept_if, after, parted, taken, ended, member_of, station_of, is_space, along, fact_tree, life_tree, fact_in}
-use Rattle.transcript.specs.inside.Taking.{Answers, IsForFrame}
+use Rattle.transcript.specs.inside.Taking.{words_behind, Answers, IsForFrame}
 use Rattle.transcript.proofs.Said.{steps, kept, the_word, same_some, station_tells}
 use Rattle.transcript.proofs.Told.{station_said}
 use Rattle.transcript.proofs.ReadBack.{told, some_fact, of_frame}
 use Rattle.transcript.proofs.Sound.{line_said}
+use Rattle.transcript.proofs.Splitting.{first_of, rest_of, first_word}
 use Rattle.transcript.proofs.Texts.{line_words}
 
 -- ---- one name more
@@ -422,3 +424,24 @@ answered-unnamed names items shown octets r same none slice is frame =
     (answered-known names octets r
     (subst (λ ns. Answers {X = Fact} {Y = Fact} (λ x. x) r (fact_in ns octets)) (slice ∙ same) is)
     (subst (λ ns. IfErr r (λ fault. IsForFrame fault (fact_in ns octets))) (slice ∙ same) frame))
+
+-- ---- lines that give no name
+
+by-first : (word : List ℕ) (others : List (List ℕ)) → is_word word (codes "life") ≡ false
+    → name_of (word ∷ others) ≡ None
+by-first word others other =
+    ap (λ b. and_then (kept_if b others)
+    (λ left. and_then (parted left) (λ x. kept_if (is_name x.0) x.0))) other
+
+unled : (x : ℕ) (word : List ℕ) → (x == 108) ≡ false → is_word (x ∷ word) (codes "life") ≡ false
+unled x word other = rw other refl
+
+pub unnamed : (line : List ℕ) → begins_as_life line ≡ false → name_in line ≡ None
+unnamed [] other = refl
+unnamed (x ∷ xs) other = go (is_space x) refl
+  where
+    go : (b : Bool) → is_space x ≡ b → name_of (slice_split is_space (x ∷ xs)) ≡ None
+    go true space = ap name_of (slice_split-cons_yes is_space x xs space)
+    go false letter =
+        ap name_of (slice_split-cons_no is_space x xs letter ∙ ap (onto_first x) (first_word xs))
+        ∙ by-first (x ∷ first_of xs) (words_behind (rest_of xs)) (unled x (first_of xs) other)

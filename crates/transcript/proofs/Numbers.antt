@@ -1,5 +1,5 @@
 -- Numbers that words spell.
-use Rattle.std.proofs.Common.{◌≡◌, ◌≢◌, ◌∙◌, ℕ, ◌<◌, ◌^◌, Bool, true, false, List, [], ◌∷◌, length, get_or, refl, sym, ap, subst, arith}
+use Rattle.std.proofs.Common.{◌≡◌, ◌≢◌, ◌∙◌, ℕ, suc, ◌+◌, ◌-◌, ◌*◌, ◌<◌, ◌≤◌, ◌^◌, Bool, true, false, List, [], ◌∷◌, ◌++◌, take, length, get_or, refl, sym, ap, subst, arith}
 use Rattle.std.specs.Prelude.{◌==◌, ◌&&◌, nat_le, nat_lt, Some, None, Result, Ok, Err, decimal}
 use Rattle.std.specs.Int.{IsInRange}
 use Rattle.std.specs.Result.{OkIff, result_ok}
@@ -7,8 +7,11 @@ use Rattle.std.specs.Str.{IsUtf8}
 use Rattle.std.specs.Str.Parse.{AllDigits, ParsesUnsigned, digits_value}
 use Rattle.std.proofs.lemmas.Bool.Decides.{nat_tests}
 use Rattle.std.proofs.lemmas.Fmt.{IsAscii-decimal, decimal_digit, decimal_nonempty, first_decimal, digits_decimal, digits_value-decimal, decimal-digits_value}
-use Rattle.std.proofs.lemmas.Str.{IsUtf8-from_ascii}
-use Rattle.std.proofs.lemmas.Str.Parse.{IsNumeralModel, numerals_by_value, tells_digits, digit_at, parse_plain}
+use Rattle.std.proofs.lemmas.Str.Parse.{IsNumeralModel, numerals_by_value, tells_digits, digit_at, digits_value_short, parse_plain}
+use Rattle.std.proofs.lemmas.Str.{IsUtf8-from_ascii, digit_value_digit}
+use Rattle.std.proofs.lemmas.Int.Digits.{digits_value_more}
+use Rattle.std.proofs.Math.Seq.{take-suc}
+use Rattle.std.proofs.lemmas.List.{length-take-le}
 use Rattle.trace_text.specs.Words.{is_word}
 use Rattle.transcript.specs.inside.Numerals.{is_led}
 use Rattle.transcript.specs.inside.Reading.{kept_if, whole_of}
@@ -71,6 +74,10 @@ led_plain : (ds : List ℕ) → is_led ds ≡ true → get_or ds 0 0 ≢ 43
 led_plain [] led plus = cc led
 led_plain (first ∷ rest) led plus = cc (sym (ap (λ (d : ℕ). is_led (d ∷ rest)) plus) ∙ led)
 
+led_some : (ds : List ℕ) → is_led ds ≡ true → 0 < length ds
+led_some [] led = absurd (cc led)
+led_some (d ∷ ds) led = omega arith
+
 -- ---- what is parsed
 
 pub parsed_so : {E : Type 0} (word text : List ℕ) (r : Result ℕ E) → text ≡ word
@@ -95,3 +102,43 @@ parsed_so {E} word text r same parses led =
 pub no_text : (word : List ℕ) → (IsUtf8 word → ⊥) → None ≡ whole_of word
 no_text word none =
     unsaid word (λ n small w. none (subst IsUtf8 (sym w) (IsUtf8-from_ascii (decimal n) (IsAscii-decimal n small))))
+
+-- ---- what is summed, digit by digit
+
+digits_push : (ds : List ℕ) (c : ℕ) → AllDigits 10 ds → IsInRange 48 57 c → AllDigits 10 (ds ++ c ∷ [])
+digits_push [] c all range = (omega (arith, digit_value_digit c range, range), tt)
+digits_push (d ∷ ds) c all range = (all.0, digits_push ds c all.1 range)
+
+one_more : (n : ℕ) → n + 1 ≡ suc n
+one_more n = omega arith
+
+-- one digit more
+pub summed_more : (word : List ℕ) (i sum : ℕ) → i < length word → IsInRange 48 57 (get_or word i 0) → AllDigits 10 (take i word)
+    → sum ≡ digits_value 10 (take i word)
+    → AllDigits 10 (take (i + 1) word) × (sum * 10 + (get_or word i 0 - 48) ≡ digits_value 10 (take (i + 1) word))
+summed_more word i sum within range all is = (
+  subst (λ (ds : List ℕ). AllDigits 10 ds) (sym (ap (λ n. take n word) (one_more i) ∙ take-suc word i 0 within)) (digits_push (take i word) (get_or word i 0) all range),
+  omega (arith, digits_value_more 10 word i within, digit_value_digit (get_or word i 0) range, is),
+)
+
+most : 10 ^ 18 ≡ 1000000000000000000
+most = refl
+
+-- few digits say a number that has room for one more
+pub summed_few : (word : List ℕ) (i sum : ℕ) → i < length word → length word ≤ 19 → AllDigits 10 (take i word) → sum ≡ digits_value 10 (take i word)
+    → sum < 1000000000000000000
+summed_few word i sum within few all is =
+    let short : length (take i word) ≤ 18 = omega (arith, within, few, length-take-le i word (omega (arith, within))) in
+    omega (arith, digits_value_short own (take i word) 18 all short, most, is)
+
+pub summed_so : (word : List ℕ) → length word ≤ 19 → AllDigits 10 word → is_led word ≡ true → Some (digits_value 10 word) ≡ whole_of word
+summed_so word few all led =
+    let bound : 10 ^ 19 ≡ 10000000000000000000 = refl in
+    let small : digits_value 10 word < 2 ^ 64 = omega (arith, digits_value_short own word 19 all few, bound) in
+    sym (whole_said (digits_value 10 word) small)
+    ∙ ap whole_of (decimal-digits_value own word all (led_some word led) (led_zero word led) small)
+
+pub summed_not : (word : List ℕ) (i : ℕ) → i < length word → (IsInRange 48 57 (get_or word i 0) → ⊥) → None ≡ whole_of word
+summed_not word i within other =
+    unsaid word (λ n small w. other (
+    digit_at word i (subst (λ (ds : List ℕ). AllDigits 10 ds) (sym w) (digits_decimal own n small)) within))

@@ -5,6 +5,7 @@
 mod facts;
 mod fault;
 mod laws;
+mod laying;
 mod reader;
 mod reading;
 mod rendering;

@@ -5,7 +5,7 @@ ghost use Rattle.lan_base.specs.Name.{IsName};
 ghost use Rattle.lan_core.specs.declared.fact.Fact.{Fact};
 ghost use Rattle.transcript.specs.Naming.{Reads, most_named};
 ghost use Rattle.transcript.specs.Rendering.{AreNames, IsOfFrame};
-ghost use Rattle.transcript.specs.inside.Naming.{name_in, grown_by, Answered};
+ghost use Rattle.transcript.specs.inside.Naming.{name_in, begins_as_life, grown_by, Answered};
 ghost use Rattle.transcript.specs.inside.Reading.{station_of};
 ghost use Rattle.transcript.specs.inside.Taking.{Takes};
 ghost use Rattle.transcript.specs.declared.fault.FactError.TheVariants.{Unread, Memory};
@@ -124,10 +124,20 @@ fn name_in(line: &[u8]) -> Option<Name>
     ensures value { Takes (λ name. name) result (name_in line.now) }
     ensures named { IfSome result IsName }
 {
+    if !begins_as_life(line) {
+        return None;
+    }
     let (first, rest) = split_word(line);
     if first != b"life".as_slice() {
         return None;
     }
     let (word, _) = next_word(rest)?;
     Name::of(word)
+}
+
+/// Whether a line begins with the first letter of `life`, as a quick test before its words are cut.
+fn begins_as_life(line: &[u8]) -> bool
+    ensures { result ≡ begins_as_life line.now }
+{
+    matches!(line, [b'l', ..])
 }

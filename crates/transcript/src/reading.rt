@@ -50,11 +50,15 @@ pub fn answer_fact(alloc: Global, line: &[u8], names: &[Name]) -> Result<Fact, F
     plain_fact(first, rest, names).ok_or(FactError::Unread)
 }
 
-/// The fact that a first word and the words behind it say, if it holds no list of octets.
+/// The fact that a first word and the words behind it say, if it holds no list of octets. Claims,
+/// of which a transcript may have the most, come first.
 fn plain_fact(first: &[u8], rest: &[u8], names: &[Name]) -> Option<Fact>
     ensures { Takes (λ x. x) result
         (along names.now plain_tree (first.now ∷ words_behind rest.now)) }
 {
+    if first == b"claim".as_slice() {
+        return claimed(rest, names);
+    }
     if first == b"life".as_slice() {
         return life(rest, names);
     }
@@ -81,9 +85,6 @@ fn plain_fact(first: &[u8], rest: &[u8], names: &[Name]) -> Option<Fact>
     }
     if first == b"heard".as_slice() {
         return heard(rest, names);
-    }
-    if first == b"claim".as_slice() {
-        return claimed(rest, names);
     }
     if first == b"noclaim".as_slice() {
         return unclaimed(rest, names);

@@ -1,15 +1,15 @@
 //! A fact is rendered.
 
-ghost use Rattle.std.specs.Prelude.{◌≡◌, ◌<◌, ℕ, List, [], ◌∷◌, ◌++◌, length, get_or, map, codes, decimal, OnOk, OnErr};
+ghost use Rattle.std.specs.Prelude.{◌≡◌, ℕ, List, [], ◌∷◌, ◌++◌, get_or, map, codes, decimal, OnOk, OnErr};
 ghost use Rattle.hex.specs.Hex.{encode_lower};
 ghost use Rattle.aes_block.specs.Secrets.{secret_octets};
 ghost use Rattle.lan_base.specs.AssociationNumbers.{number_of};
-ghost use Rattle.lan_core.specs.Run.{place};
 ghost use Rattle.transcript.specs.Words.{spelled, server_word, why_words, reason_words, verdict_words, arrival_words, lack_words, cause_text, tag_text, frame_text};
 ghost use Rattle.transcript.specs.Rendering.{rendered};
 ghost use Rattle.trace_text.specs.Appending.{Grew, word_text};
 ghost use Rattle.transcript.specs.inside.Appending.{line_of, told};
 
+use crate::laying::{ROOM, lay_ticked};
 use aes_block::Secret;
 use gcm_frames::TagRefusal;
 use lan_base::{AssociationNumber, KeyId, Mi, Name, Octets};
@@ -27,10 +27,9 @@ pub enum Told {
     WordAndNumber(&'static [u8], u64),
 }
 
-/// Appends a fact's line with its line feed, under the names of the stations by place. An `Err`
-/// leaves what was there.
+/// Appends a fact's line with its line feed, under the names of the stations by place; a station that
+/// has none is named by an empty word. An `Err` leaves what was there.
 pub fn render(fact: &Fact, into: &mut Vec<u8>, names: &[Name]) -> Result<(), AllocError>
-    requires { place fact.now < length names.now }
     ensures ok { OnOk result (into.new.items ≡ into.old.items ++ rendered names.now fact.now) }
     ensures err { OnErr result (into.new.items ≡ into.old.items) }
 {
@@ -46,7 +45,6 @@ pub fn render(fact: &Fact, into: &mut Vec<u8>, names: &[Name]) -> Result<(), All
 /// it.
 #[tactic(auto, unfolding(crate::specs::Rendering::line))]
 fn put_fact<'a>(fact: &'a Fact, into: &mut Vec<u8>, names: &'a [Name]) -> Result<(), AllocError>
-    requires { place fact.now < length names.now }
     ensures ok { OnOk result (into.new.items ≡ into.old.items ++ rendered names.now fact.now) }
     ensures err { OnErr result (Grew into.old.items into.new.items) }
 {
@@ -86,36 +84,39 @@ fn put_fact<'a>(fact: &'a Fact, into: &mut Vec<u8>, names: &'a [Name]) -> Result
 }
 
 /// Appends the line of a life of the station that is named.
-fn put_life(into: &mut Vec<u8>, name: &Name, mi: &Mi) -> Result<(), AllocError>
+fn put_life(into: &mut Vec<u8>, name: &[u8], mi: &Mi) -> Result<(), AllocError>
     ensures ok { OnOk result (into.new.items ≡ into.old.items ++ line_of (codes "life")
         (name.now ∷ encode_lower mi.now.0 ∷ [])) }
     ensures err { OnErr result (Grew into.old.items into.new.items) }
 {
-    put(into, b"life", &[Word::Name(name), Word::Octets(&mi.0)], &[])
+    put(into, b"life", &[Word::Text(name), Word::Octets(&mi.0)], &[])
 }
 
 /// Appends the line of the server that the station elected, or of none.
-fn put_server(into: &mut Vec<u8>, name: &Name, mi: &Option<Mi>) -> Result<(), AllocError>
+fn put_server(into: &mut Vec<u8>, name: &[u8], mi: &Option<Mi>) -> Result<(), AllocError>
     ensures ok { OnOk result ((names : List (List ℕ)) → into.new.items ≡ into.old.items
         ++ line_of (codes "server") (name.now ∷ spelled names (server_word mi.now) ∷ [])) }
     ensures err { OnErr result (Grew into.old.items into.new.items) }
 {
-    put(into, b"server", &[Word::Name(name), server_word(mi)], &[])
+    put(into, b"server", &[Word::Text(name), server_word(mi)], &[])
 }
 
-/// Appends the line of a tick of the station that is named.
-fn put_ticked(into: &mut Vec<u8>, name: &Name, at: u32, next: u64) -> Result<(), AllocError>
+/// Appends the line of a tick of the station that is named. There is one for each tick: it is laid out
+/// first, and appended by one call.
+fn put_ticked(into: &mut Vec<u8>, name: &[u8], at: u32, next: u64) -> Result<(), AllocError>
     ensures ok { OnOk result (into.new.items ≡ into.old.items ++ line_of (codes "tick")
         (name.now ∷ decimal at ∷ codes "next" ∷ decimal next ∷ [])) }
     ensures err { OnErr result (Grew into.old.items into.new.items) }
 {
-    let at = Word::Number(u64::from(at));
-    let next = Word::Number(next);
+    let mut line = [0; ROOM];
+    if let Some(end) = lay_ticked(&mut line, name, at, next) {
+        return into.extend_from_slice(&line[..end]);
+    }
     put(
         into,
         b"tick",
-        &[Word::Name(name), at, Word::Text(b"next"), next],
-        &[],
+        &[Word::Text(name), Word::Number(u64::from(at))],
+        &[Word::Text(b"next"), Word::Number(next)],
     )
 }
 
@@ -123,7 +124,7 @@ fn put_ticked(into: &mut Vec<u8>, name: &Name, at: u32, next: u64) -> Result<(),
 fn put_key<'a>(
     into: &mut Vec<u8>,
     first: &[u8],
-    name: &'a Name,
+    name: &'a [u8],
     id: &'a KeyId,
     an: AssociationNumber,
     tail: &[Word<'a>],
@@ -139,7 +140,7 @@ fn put_key<'a>(
     put(
         into,
         first,
-        &[Word::Name(name), server, number, Word::Text(b"an"), an],
+        &[Word::Text(name), server, number, Word::Text(b"an"), an],
         tail,
     )
 }
@@ -147,7 +148,7 @@ fn put_key<'a>(
 /// Appends the line of a key that begins to transmit.
 fn put_began<'a>(
     into: &mut Vec<u8>,
-    name: &'a Name,
+    name: &'a [u8],
     id: &'a KeyId,
     an: AssociationNumber,
     epoch: u32,
@@ -167,7 +168,7 @@ fn put_began<'a>(
 /// Appends the line of a key that is the latest one from now on.
 fn put_installed<'a>(
     into: &mut Vec<u8>,
-    name: &'a Name,
+    name: &'a [u8],
     id: &'a KeyId,
     an: AssociationNumber,
     epoch: u32,
@@ -189,7 +190,7 @@ fn put_installed<'a>(
 fn put_framed<'a>(
     into: &mut Vec<u8>,
     number: u32,
-    name: &'a Name,
+    name: &'a [u8],
     sec: bool,
     octets: &'a Octets,
 ) -> Result<(), AllocError>
@@ -203,7 +204,7 @@ fn put_framed<'a>(
     put(
         into,
         b"frame",
-        &[number, Word::Name(name), kind, octets],
+        &[number, Word::Text(name), kind, octets],
         &[],
     )
 }
@@ -211,7 +212,7 @@ fn put_framed<'a>(
 /// Appends the line of a packet number that the station claimed.
 fn put_claimed(
     into: &mut Vec<u8>,
-    name: &Name,
+    name: &[u8],
     an: AssociationNumber,
     epoch: u32,
     pn: u32,
@@ -225,7 +226,7 @@ fn put_claimed(
     let epoch = Word::Number(u64::from(epoch));
     let pn = Word::Number(u64::from(pn));
     let head = [
-        Word::Name(name),
+        Word::Text(name),
         Word::Text(b"an"),
         an,
         Word::Text(b"epoch"),
@@ -237,7 +238,7 @@ fn put_claimed(
 /// Appends the line of a key that is not taken.
 fn put_untaken<'a>(
     into: &mut Vec<u8>,
-    name: &'a Name,
+    name: &'a [u8],
     id: &'a KeyId,
     why: Why,
 ) -> Result<(), AllocError>
@@ -248,7 +249,7 @@ fn put_untaken<'a>(
 {
     let told = why_told(why);
     let server = Word::Octets(&id.server.0);
-    let head = [Word::Name(name), server, Word::Number(u64::from(id.number))];
+    let head = [Word::Text(name), server, Word::Number(u64::from(id.number))];
     put_told(into, b"untaken", &head, told)
 }
 
@@ -271,7 +272,7 @@ fn why_told(why: Why) -> Told
 fn put_heard(
     into: &mut Vec<u8>,
     frame: u32,
-    name: &Name,
+    name: &[u8],
     verdict: Verdict,
 ) -> Result<(), AllocError>
     ensures ok { OnOk result ((names : List (List ℕ)) → into.new.items ≡ into.old.items
@@ -280,7 +281,7 @@ fn put_heard(
     ensures err { OnErr result (Grew into.old.items into.new.items) }
 {
     let first = b"heard";
-    let head = &[Word::Number(u64::from(frame)), Word::Name(name)];
+    let head = &[Word::Number(u64::from(frame)), Word::Text(name)];
     match verdict {
         Verdict::Vouched => put(into, first, head, &[Word::Text(b"vouched")]),
         Verdict::Unvouched => put(into, first, head, &[Word::Text(b"unvouched")]),
@@ -292,7 +293,7 @@ fn put_heard(
 fn put_drop(
     into: &mut Vec<u8>,
     frame: u32,
-    name: &Name,
+    name: &[u8],
     reason: DropReason,
 ) -> Result<(), AllocError>
     ensures ok { OnOk result ((names : List (List ℕ)) → into.new.items ≡ into.old.items
@@ -302,7 +303,7 @@ fn put_drop(
 {
     let told = reason_told(reason);
     let number = Word::Number(u64::from(frame));
-    let head = [number, Word::Name(name), Word::Text(b"drop")];
+    let head = [number, Word::Text(name), Word::Text(b"drop")];
     put_told(into, b"heard", &head, told)
 }
 
@@ -325,13 +326,13 @@ fn reason_told(reason: DropReason) -> Told
 }
 
 /// Appends the line of a packet number that is wanting.
-fn put_unclaimed(into: &mut Vec<u8>, name: &Name, why: Lack) -> Result<(), AllocError>
+fn put_unclaimed(into: &mut Vec<u8>, name: &[u8], why: Lack) -> Result<(), AllocError>
     ensures ok { OnOk result ((names : List (List ℕ)) → into.new.items ≡ into.old.items
         ++ line_of (codes "noclaim") (name.now ∷ map (spelled names) (lack_words why))) }
     ensures err { OnErr result (Grew into.old.items into.new.items) }
 {
     let first = b"noclaim";
-    let head = &[Word::Name(name)];
+    let head = &[Word::Text(name)];
     match why {
         Lack::NoKey => put(into, first, head, &[Word::Text(b"nokey")]),
         Lack::Exhausted { epoch } => {
@@ -345,7 +346,7 @@ fn put_unclaimed(into: &mut Vec<u8>, name: &Name, why: Lack) -> Result<(), Alloc
 fn put_arrived<'a>(
     into: &mut Vec<u8>,
     frame: u32,
-    name: &'a Name,
+    name: &'a [u8],
     arrival: &'a Arrival,
 ) -> Result<(), AllocError>
     ensures ok { OnOk result ((names : List (List ℕ)) → into.new.items ≡ into.old.items
@@ -372,7 +373,7 @@ fn put_arrived<'a>(
 fn put_accepted<'a>(
     into: &mut Vec<u8>,
     frame: u32,
-    name: &'a Name,
+    name: &'a [u8],
     pn: u32,
     body: &'a Octets,
 ) -> Result<(), AllocError>
@@ -380,7 +381,7 @@ fn put_accepted<'a>(
         (decimal frame ∷ name.now ∷ codes "accepted" ∷ decimal pn ∷ encode_lower body.now ∷ [])) }
     ensures err { OnErr result (Grew into.old.items into.new.items) }
 {
-    let head = [Word::Number(u64::from(frame)), Word::Name(name)];
+    let head = [Word::Number(u64::from(frame)), Word::Text(name)];
     let pn = Word::Number(u64::from(pn));
     let body = Word::Octets(body.as_slice());
     put(into, b"data", &head, &[Word::Text(b"accepted"), pn, body])
@@ -390,14 +391,14 @@ fn put_accepted<'a>(
 fn put_malformed<'a>(
     into: &mut Vec<u8>,
     frame: u32,
-    name: &'a Name,
+    name: &'a [u8],
     why: &'a [u8],
 ) -> Result<(), AllocError>
     ensures ok { OnOk result (into.new.items ≡ into.old.items ++ line_of (codes "data")
         (decimal frame ∷ name.now ∷ codes "malformed" ∷ why.now ∷ [])) }
     ensures err { OnErr result (Grew into.old.items into.new.items) }
 {
-    let head = [Word::Number(u64::from(frame)), Word::Name(name)];
+    let head = [Word::Number(u64::from(frame)), Word::Text(name)];
     put(
         into,
         b"data",
@@ -410,7 +411,7 @@ fn put_malformed<'a>(
 fn put_missed(
     into: &mut Vec<u8>,
     frame: u32,
-    name: &Name,
+    name: &[u8],
     an: AssociationNumber,
 ) -> Result<(), AllocError>
     ensures ok { OnOk result (into.new.items ≡ into.old.items ++ line_of (codes "data")
@@ -422,12 +423,12 @@ fn put_missed(
 }
 
 /// Appends the line of a protected frame that arrived, and what tells why it is not accepted.
-fn put_refused(into: &mut Vec<u8>, frame: u32, name: &Name, why: Told) -> Result<(), AllocError>
+fn put_refused(into: &mut Vec<u8>, frame: u32, name: &[u8], why: Told) -> Result<(), AllocError>
     ensures ok { OnOk result (into.new.items ≡ into.old.items ++ line_of (codes "data")
         (decimal frame ∷ name.now ∷ told why)) }
     ensures err { OnErr result (Grew into.old.items into.new.items) }
 {
-    let head = [Word::Number(u64::from(frame)), Word::Name(name)];
+    let head = [Word::Number(u64::from(frame)), Word::Text(name)];
     put_told(into, b"data", &head, why)
 }
 
@@ -486,12 +487,14 @@ fn frame_text(sec: bool) -> &'static [u8]
     if sec { b"sec" } else { b"mka" }
 }
 
-/// The name of the station at a place.
-fn name_at(names: &[Name], station: u8) -> &Name
-    requires { station < length names.now }
+/// The name of the station at a place, and no octet where it has none.
+fn name_at(names: &[Name], station: u8) -> &[u8]
     ensures { result.now ≡ get_or names.now station [] }
 {
-    &names[usize::from(station)]
+    match names.get(usize::from(station)) {
+        Some(name) => name.octets(),
+        None => &[],
+    }
 }
 
 /// Appends a line: its first word, and each further word behind a space.

@@ -1,6 +1,6 @@
 //! What one word says.
 
-ghost use Rattle.std.specs.Prelude.{◌≡◌, Ok, true, nat_le};
+ghost use Rattle.std.specs.Prelude.{◌≡◌, ◌≤◌, Ok, true, nat_le, length};
 ghost use Rattle.std.specs.List.{list_all};
 ghost use Rattle.transcript.specs.inside.Reading.{and_then, kept_if, position_of, station_of, whole_of, is_small_digit, is_pairs, octets_of, array_of, an_of, member_of, server_of, secret_of, said_by, causes, secs, tags};
 ghost use Rattle.transcript.specs.inside.Numerals.{is_led};
@@ -16,7 +16,11 @@ use std::alloc::Global;
 use std::str;
 use trace_text::decoded;
 
+/// So many digits, of any value, spell a number of 64 bits.
+const FEW_DIGITS: usize = 19;
+
 /// The place of the station that a word names.
+#[inline(always)]
 pub fn place_of(word: &[u8], names: &[Name]) -> Option<u8>
     ensures { result ≡ station_of names.now word.now }
 {
@@ -32,6 +36,7 @@ fn position_of(word: &[u8], names: &[Name]) -> Option<usize>
 }
 
 /// The number up to `most` that a word spells, without leading zeros.
+#[inline(always)]
 pub fn number_of(word: &[u8], most: u64) -> Option<u64>
     ensures { result ≡ and_then (whole_of word.now) (λ n. kept_if (nat_le n most) n) }
 {
@@ -40,13 +45,22 @@ pub fn number_of(word: &[u8], most: u64) -> Option<u64>
 }
 
 /// The number that a word spells, without leading zeros.
+#[inline(always)]
 fn whole_of(word: &[u8]) -> Option<u64>
     ensures { result ≡ whole_of word.now }
 {
-    if is_led(word) { parsed(word) } else { None }
+    if !is_led(word) {
+        return None;
+    }
+    if word.len() <= FEW_DIGITS {
+        summed(word)
+    } else {
+        parsed(word)
+    }
 }
 
 /// Whether a word begins with a digit that is not 0, or is 0 alone.
+#[inline(always)]
 fn is_led(word: &[u8]) -> bool
     ensures { result ≡ is_led word.now }
 {
@@ -56,7 +70,23 @@ fn is_led(word: &[u8]) -> bool
     }
 }
 
-/// The number that a word spells which begins as one without leading zeros and without a sign.
+/// The same of a word that begins so and has few octets: each digit is looked at once.
+#[inline(always)]
+fn summed(word: &[u8]) -> Option<u64>
+    requires { length word.now ≤ 19 }
+    ensures { is_led word.now ≡ true → result ≡ whole_of word.now }
+{
+    let mut sum: u64 = 0;
+    for octet in word {
+        if !octet.is_ascii_digit() {
+            return None;
+        }
+        sum = sum * 10 + u64::from(*octet - b'0');
+    }
+    Some(sum)
+}
+
+/// The same of a word that begins so.
 fn parsed(word: &[u8]) -> Option<u64>
     ensures { is_led word.now ≡ true → result ≡ whole_of word.now }
 {
@@ -67,6 +97,7 @@ fn parsed(word: &[u8]) -> Option<u64>
 }
 
 /// The association number that a word spells.
+#[inline(always)]
 pub fn an_of(word: &[u8]) -> Option<AssociationNumber>
     ensures { result ≡ an_of word.now }
 {

@@ -1,8 +1,8 @@
 //! The words of a line, one after another: what one says, and what stands behind it.
 
-ghost use Rattle.std.specs.Prelude.{◌≡◌, ◌≤◌, ◌∷◌, length};
-ghost use Rattle.std.specs.List.{slice_split, position_or_len};
-ghost use Rattle.transcript.specs.inside.Reading.{is_space, parted, after, taken, ended, key_of, station_of, number_of, an_of, member_of, server_of, secret_of, said_by, causes, secs, tags, last_of, last_octets};
+ghost use Rattle.std.specs.Prelude.{◌≡◌, ◌≤◌, ◌∷◌, length, true};
+ghost use Rattle.std.specs.List.{slice_split, position_or_len, list_all};
+ghost use Rattle.transcript.specs.inside.Reading.{is_space, is_letter, ends_word, parted, after, taken, ended, key_of, station_of, number_of, an_of, member_of, server_of, secret_of, said_by, causes, secs, tags, last_of, last_octets};
 ghost use Rattle.transcript.specs.inside.Taking.{words_behind, Takes, Answers};
 
 use crate::fault::FactError;
@@ -17,15 +17,48 @@ use memchr::memchr;
 use sak_exchange::Cause;
 use std::alloc::Global;
 
+/// So many octets of a text are looked at one by one for the end of its first word.
+const NEAR: usize = 8;
+
 /// The first word of a text, and what stands behind it, which begins with the space.
+#[inline(always)]
 pub fn split_word(text: &[u8]) -> (&[u8], &[u8])
     ensures { slice_split is_space text.now ≡ result.0.now ∷ words_behind result.1.now }
 {
     text.split_at(word_length(text))
 }
 
-/// How many octets stand before a text's first space, or its end.
+/// How many octets stand before a text's first space, or its end. Most words are short, so that a
+/// search many octets at a time begins behind the first few.
+#[inline(always)]
 fn word_length(text: &[u8]) -> usize
+    ensures count { result ≡ position_or_len is_space text.now }
+    ensures within { result ≤ length text.now }
+{
+    if text.len() <= NEAR {
+        return near_length(text);
+    }
+    let (front, back) = text.split_at(NEAR);
+    let count = near_length(front);
+    if count < NEAR {
+        return count;
+    }
+    NEAR + far_length(back)
+}
+
+/// The same, octet by octet.
+#[inline(always)]
+fn near_length(text: &[u8]) -> usize
+    ensures count { result ≡ position_or_len is_space text.now }
+    ensures within { result ≤ length text.now }
+{
+    text.iter()
+        .position(|octet| *octet == b' ')
+        .unwrap_or(text.len())
+}
+
+/// The same, many octets at a time.
+fn far_length(text: &[u8]) -> usize
     ensures count { result ≡ position_or_len is_space text.now }
     ensures within { result ≤ length text.now }
 {
@@ -33,6 +66,7 @@ fn word_length(text: &[u8]) -> usize
 }
 
 /// The next word, and what stands behind it, if there is one.
+#[inline(always)]
 pub fn next_word(rest: &[u8]) -> Option<(&[u8], &[u8])>
     ensures { Takes (λ x. (x.0.now, words_behind x.1.now)) result (parted (words_behind rest.now)) }
 {
@@ -52,15 +86,46 @@ pub fn no_word(rest: &[u8]) -> Option<()>
     }
 }
 
-/// What stands behind these letters, if they are the next word.
+/// What stands behind these letters, of which none is a space, if they are the next word.
+#[inline(always)]
 pub fn label<'a>(rest: &'a [u8], letters: &[u8]) -> Option<&'a [u8]>
+    requires { list_all is_letter letters.now ≡ true }
     ensures { Takes (λ x. words_behind x.now) result (after letters.now (words_behind rest.now)) }
 {
-    let (word, rest) = next_word(rest)?;
-    if word == letters { Some(rest) } else { None }
+    match rest {
+        [_, text @ ..] => behind_letters(text, letters),
+        [] => None,
+    }
+}
+
+/// What stands behind these letters, if they are the first word of a text: they are compared where
+/// they would stand, and no word is cut.
+#[inline(always)]
+fn behind_letters<'a>(text: &'a [u8], letters: &[u8]) -> Option<&'a [u8]>
+    requires { list_all is_letter letters.now ≡ true }
+    ensures { Takes (λ x. words_behind x.now) result (after letters.now (slice_split is_space text.now)) }
+{
+    let behind = text.strip_prefix(letters)?;
+    if ends_word(behind) {
+        Some(behind)
+    } else {
+        None
+    }
+}
+
+/// Whether a word ends before these octets: there is none, or a space comes first.
+#[inline(always)]
+fn ends_word(behind: &[u8]) -> bool
+    ensures { result ≡ ends_word behind.now }
+{
+    match behind {
+        [first, ..] => *first == b' ',
+        [] => true,
+    }
 }
 
 /// The place of the station that the next word names.
+#[inline(always)]
 pub fn station<'a>(rest: &'a [u8], names: &[Name]) -> Option<(u8, &'a [u8])>
     ensures { Takes (λ x. (x.0, words_behind x.1.now)) result
         (taken (station_of names.now) (words_behind rest.now)) }
@@ -81,6 +146,7 @@ pub fn number_8(rest: &[u8]) -> Option<(u8, &[u8])>
 }
 
 /// An association number.
+#[inline(always)]
 pub fn an(rest: &[u8]) -> Option<(AssociationNumber, &[u8])>
     ensures { Takes (λ x. (x.0, words_behind x.1.now)) result (taken an_of (words_behind rest.now)) }
 {
@@ -90,6 +156,7 @@ pub fn an(rest: &[u8]) -> Option<(AssociationNumber, &[u8])>
 }
 
 /// A number of 32 bits.
+#[inline(always)]
 pub fn number_32(rest: &[u8]) -> Option<(u32, &[u8])>
     ensures { Takes (λ x. (x.0, words_behind x.1.now)) result
         (taken (number_of 32) (words_behind rest.now)) }

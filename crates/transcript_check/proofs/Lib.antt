@@ -1,7 +1,8 @@
-mod Puts
-mod Undone
 mod Ends
 mod Telling
+mod Puts
+mod Bound
+mod Undone
 mod Saks
 mod Steps
 mod Clean

@@ -11,9 +11,10 @@ use Rattle.transcript_check.specs.declared.fault.CheckError.{CheckError}
 use Rattle.transcript_check.specs.declared.fault.CheckFault.TheVariants.{Doubled}
 use Rattle.least_pairs.specs.Pairs.{Noted, Breaks, IsJudged, IsFound, IsOneMore}
 use Rattle.transcript_check.specs.Judged.{BreaksOnce, BreaksOneKey, fact_at, sak_here, sak_in, Use, use_of, uses, named_by, names, never, same_named, is_missed, missed_in}
-use Rattle.transcript_check.specs.Standing.{Maps, StandsFor, AreSaksOf, IsOfEpoch, first_of, line_by, line_of, refusal, no_epoch}
+use Rattle.transcript_check.specs.Standing.{Maps, IsBound, StandsFor, AreSaksOf, IsOfEpoch, sak_at, first_of, line_by, line_of, refusal, no_epoch}
 use Rattle.transcript_check.specs.inside.Steps.{KeyIsPut, UseIsPut, IsNamed, IsUsed, IsInstalled, Installs, Claims, Takes, IsFailed}
 use Rattle.least_pairs.proofs.Public.{Kept, some-same, nat_dec, still, agreeing, first-told, found-stays, broken-now, found-is, found-again, found-first}
+use Rattle.transcript_check.proofs.Bound.{first-stays, install-bound}
 use Rattle.transcript_check.proofs.Ends.{at-last, at-other, goes-by, sak-stays, sak-with, use-stays, missed-more, missed-within}
 use Rattle.transcript_check.proofs.Saks.{saks-put, saks-stay}
 use Rattle.transcript_check.proofs.Telling.{Told, id_dec, use_dec, named-itself, named-joins}
@@ -240,6 +241,7 @@ passes facts fact old new number missed stands is no_key no_use no_epoch this co
       keys = kept_keys.1;
       uses = kept_uses.1;
       known = known-more facts fact old stands this;
+      bound = stands.bound;
     })
   where
     kept_uses : Uses (facts ++ fact ∷ []) old
@@ -254,16 +256,15 @@ passes facts fact old new number missed stands is no_key no_use no_epoch this co
 
 -- ---- an install
 
-lookup-same : (old m : Maps) → m.keys ≡ old.keys → (id : KeyId) → first_of m id ≡ first_of old id
-lookup-same old m same id =
-    ap (λ keys. first_of (record old { keys = keys }) id) same
+lookup-same : (old m : Maps) → m.epochs ≡ old.epochs → m.keys ≡ old.keys → (id : KeyId)
+    → first_of m id ≡ first_of old id
+lookup-same old m epochs keys id =
+    λ i. first_of (record old { epochs = epochs i; keys = keys i }) id
 
-line-same : (old m : Maps) → m.narrow ≡ old.narrow → m.wide ≡ old.wide → (s pn : ℕ) (sak : Secret)
-    → line_by m s pn sak ≡ line_by old s pn sak
-line-same old m narrow wide s pn (Secret.S128 xs) =
-    ap (λ ns. line_by (record old { narrow = ns }) s pn (Secret.S128 xs)) narrow
-line-same old m narrow wide s pn (Secret.S256 xs) =
-    ap (λ ns. line_by (record old { wide = ns }) s pn (Secret.S256 xs)) wide
+line-same : (old m : Maps) → m.narrow ≡ old.narrow → m.wide ≡ old.wide → m.aside ≡ old.aside
+    → (s pn : ℕ) (sak : Secret) → line_by m s pn sak ≡ line_by old s pn sak
+line-same old m narrow wide aside s pn sak =
+    λ i. line_by (record old { narrow = narrow i; wide = wide i; aside = aside i }) s pn sak
 
 -- what a naming leaves
 record Leaves (m new : Maps) : Type 0 where
@@ -272,20 +273,46 @@ record Leaves (m new : Maps) : Type 0 where
   epochs : new.epochs ≡ m.epochs
   narrow : new.narrow ≡ m.narrow
   wide : new.wide ≡ m.wide
+  aside : new.aside ≡ m.aside
+  bound : IsBound m → IsBound new
+
+left-all : (m : Maps) → Leaves m m
+left-all m = record {
+  missed = refl;
+  once = refl;
+  epochs = refl;
+  narrow = refl;
+  wide = refl;
+  aside = refl;
+  bound = λ b. b;
+}
 
 leaves : (number : ℕ) (id : KeyId) (named : Named) (m new : Maps) (o : Option (ℕ × ℕ))
     (p : Option (ℕ × Named)) → IsNamed number id named m new o p → Leaves m new
-leaves number id named m new (Some pair) p step =
-    subst (λ w. Leaves m w) (sym step)
-    (record { missed = refl; once = refl; epochs = refl; narrow = refl; wide = refl })
-leaves number id named m new None None put =
-    record { missed = put.missed; once = put.once; epochs = put.epochs; narrow = put.narrow; wide = put.wide }
+leaves number id named m new (Some pair) p step = subst (λ w. Leaves m w) (sym step) (left-all m)
+leaves number id named m new None None put = record {
+  missed = put.missed;
+  once = put.once;
+  epochs = put.epochs;
+  narrow = put.narrow;
+  wide = put.wide;
+  aside = put.aside;
+  bound = put.bound;
+}
 leaves number id named m new None (Some nv) step =
     subst (λ w. Leaves m w) (sym step) (go (same_named nv.1 named))
   where
     go : (b : Bool) → Leaves m (cond b m (record m { one_key = Some (nv.0, number) }))
-    go true = record { missed = refl; once = refl; epochs = refl; narrow = refl; wide = refl }
-    go false = record { missed = refl; once = refl; epochs = refl; narrow = refl; wide = refl }
+    go true = left-all m
+    go false = record {
+      missed = refl;
+      once = refl;
+      epochs = refl;
+      narrow = refl;
+      wide = refl;
+      aside = refl;
+      bound = λ b. b;
+    }
 
 pub installs : (facts : List Fact) (old new : Maps) (number s epoch : ℕ) (an : AssociationNumber) (id : KeyId) (sak : Secret)
     → StandsFor facts old → number ≡ suc (length facts) → sak_in facts s epoch ≡ None
@@ -300,9 +327,10 @@ installs facts old new number s epoch an id sak stands is free step = record {
       (saks-put facts old.epochs step.saks s epoch an id sak stands.epochs free step.epoch_put);
   keys = kept_keys.1;
   uses = λ none u. subst (λ o. IsFound Use (Unit {0}) (uses (facts ++ fact ∷ [])) u o)
-      (ap with_unit (sym (line-same old new left.narrow left.wide u.station u.pn u.sak)))
+      (ap with_unit (sym (line-same old new left.narrow left.wide left.aside u.station u.pn u.sak)))
       (kept_uses.1 (sym left.once ∙ none) u);
   known = known-more facts fact old stands tt;
+  bound = left.bound (install-bound old step.saks s epoch sak stands.bound none step.epoch_put);
 }
   where
     fact : Fact
@@ -311,8 +339,11 @@ installs facts old new number s epoch an id sak stands is free step = record {
     m : Maps
     m = record old { epochs = step.saks }
 
+    none : sak_at old s epoch ≡ None
+    none = stands.epochs s epoch ∙ free
+
     left : Leaves m new
-    left = leaves number id (record { an = an; sak = sak }) m new old.one_key (first_of old id) step.names_it
+    left = leaves number id (record { an = an; sak = sak }) m new old.one_key (first_of m id) step.names_it
 
     more : missed_in facts ≡ missed_in facts + 0
     more = omega arith
@@ -321,10 +352,15 @@ installs facts old new number s epoch an id sak stands is free step = record {
     kept_uses = still Use (Unit {0}) never (uses facts) (uses (facts ++ fact ∷ [])) (suc (length facts))
         (use-goes facts fact old stands) old.once (line_of old) (stands.once, stands.uses)
 
+    were : old.one_key ≡ None → (k : KeyId) → IsFound KeyId Named (names facts) k (first_of m k)
+    were whole k = subst (λ o. IsFound KeyId Named (names facts) k o)
+        (sym (first-stays old step.saks s epoch sak stands.bound none step.epoch_put k))
+        (stands.keys whole k)
+
     kept_keys : Keys (facts ++ fact ∷ []) new
     kept_keys = key-step number id (record { an = an; sak = sak }) m new (names facts)
         (names (facts ++ fact ∷ [])) (suc (length facts)) (key-goes facts fact) is old.one_key refl
-        (first_of old id) refl step.names_it (stands.one_key, stands.keys)
+        (first_of m id) refl step.names_it (stands.one_key, were)
 
 -- ---- a claim
 
@@ -333,15 +369,24 @@ record Spares (m new : Maps) : Type 0 where
   one_key : new.one_key ≡ m.one_key
   epochs : new.epochs ≡ m.epochs
   keys : new.keys ≡ m.keys
+  bound : IsBound m → IsBound new
 
 spares : (number s pn : ℕ) (sak : Secret) (m new : Maps) (o : Option (ℕ × ℕ)) (p : Option ℕ)
     → IsUsed number s pn sak m new o p → Spares m new
 spares number s pn sak m new (Some pair) p step =
-    subst (λ w. Spares m w) (sym step) (record { missed = refl; one_key = refl; epochs = refl; keys = refl })
+    subst (λ w. Spares m w) (sym step)
+    (record { missed = refl; one_key = refl; epochs = refl; keys = refl; bound = λ b. b })
 spares number s pn sak m new None None put =
-    record { missed = put.missed; one_key = put.one_key; epochs = put.epochs; keys = put.keys }
+    record {
+      missed = put.missed;
+      one_key = put.one_key;
+      epochs = put.epochs;
+      keys = put.keys;
+      bound = λ b. put.bound;
+    }
 spares number s pn sak m new None (Some line) step =
-    subst (λ w. Spares m w) (sym step) (record { missed = refl; one_key = refl; epochs = refl; keys = refl })
+    subst (λ w. Spares m w) (sym step)
+    (record { missed = refl; one_key = refl; epochs = refl; keys = refl; bound = λ b. b })
 
 pub claims : (facts : List Fact) (old new : Maps) (number s : ℕ) (an : AssociationNumber) (epoch pn : ℕ) (sak : Secret)
     → StandsFor facts old → number ≡ suc (length facts) → sak_in facts s epoch ≡ Some sak
@@ -355,9 +400,10 @@ claims facts old new number s an epoch pn sak stands is there step = record {
   epochs = subst (λ es. AreSaksOf (facts ++ fact ∷ []) es) (sym left.epochs)
       (saks-stay facts fact old.epochs stands.epochs (λ t e. refl));
   keys = λ none k. subst (λ o. IsFound KeyId Named (names (facts ++ fact ∷ [])) k o)
-      (sym (lookup-same old new left.keys k)) (kept_keys.1 (sym left.one_key ∙ none) k);
+      (sym (lookup-same old new left.epochs left.keys k)) (kept_keys.1 (sym left.one_key ∙ none) k);
   uses = kept_uses.1;
   known = known-more facts fact old stands (ap (λ o. is_some o) there);
+  bound = left.bound stands.bound;
 }
   where
     fact : Fact
@@ -414,7 +460,7 @@ by-claim facts old new number s an epoch pn stands is None none r step =
     subst (λ r. Noting facts (shows.Claimed s an epoch pn) number old new r) (sym step.0)
     (ap no_epoch none, step.1)
 by-claim facts old new number s an epoch pn stands is (Some sak) there (Ok u) step =
-    (ap no_epoch there, claims facts old new number s an epoch pn sak stands is there step)
+    (ap no_epoch there, claims facts old new number s an epoch pn sak stands is there (step stands.bound))
 by-claim facts old new number s an epoch pn stands is (Some sak) there (Err error) step =
     (subst (IsFailed facts (shows.Claimed s an epoch pn)) (sym step.0) (ap no_epoch there), step.1)
 

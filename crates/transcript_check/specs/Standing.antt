@@ -15,6 +15,7 @@ use Rattle.aes_block.specs.declared.secret.Secret.{Secret}
 use Rattle.aes_block.specs.declared.secret.Secret.TheVariants.{S128, S256}
 use Rattle.lan_core.specs.declared.fact.Fact.{Fact}
 use Rattle.lan_core.specs.declared.fact.Fact.TheVariants as shows
+use Rattle.transcript_check.specs.declared.named.First.{First}
 use Rattle.transcript_check.specs.declared.named.Named.{Named}
 use Rattle.transcript_check.specs.declared.fault.CheckFault.{CheckFault}
 use Rattle.transcript_check.specs.declared.verdict.Verdict.{Verdict}
@@ -33,26 +34,44 @@ id_cmp a b = ordering_then (order a.0 b.0) (nat_cmp a.1 b.1)
 abbrev pub sak_cmp : ℕ × List ℕ → ℕ × List ℕ → Ordering
 sak_cmp a b = ordering_then (nat_cmp a.0 b.0) (slice_cmp nat_cmp a.1 b.1)
 
--- the numbers of the lines that used packet numbers: of those from a first one on, one after another
--- as far as none is missing, and of others by packet number
+-- a station and an epoch, and a packet number
+abbrev pub turn_cmp : (ℕ × ℕ) × ℕ → (ℕ × ℕ) × ℕ → Ordering
+turn_cmp a b = ordering_then (pair_cmp a.0 b.0) (nat_cmp a.1 b.1)
+
+-- the claims of a station under one SAK: the epoch of the first of them, and the numbers of the lines
+-- that used packet numbers from its own on, one after another as far as none is missing
 pub record Lines : Type 0 where
+  pub epoch : ℕ
   pub first : ℕ
   pub run : List ℕ
-  pub others : List (ℕ × ℕ)
 
-abbrev pub no_lines : Lines
-no_lines = record { first = 0; run = []; others = [] }
+-- after one claim
+abbrev pub fresh : ℕ → ℕ → ℕ → Lines
+fresh epoch pn number = record { epoch = epoch; first = pn; run = number ∷ [] }
 
 -- those of each station and each SAK of one length
 abbrev pub LinesBySak : Type 0
 LinesBySak = List ((ℕ × List ℕ) × Lines)
 
--- by station and epoch, the SAK that the station installed
-abbrev pub Saks : Type 0
-Saks = List ((ℕ × ℕ) × Secret)
+-- the lines of the other claims, by station, the epoch of the first claim under their SAK, and packet
+-- number
+abbrev pub Aside : Type 0
+Aside = List (((ℕ × ℕ) × ℕ) × ℕ)
+
+-- by station and epoch, the octets of the SAK that the station installed, of either length
+pub record Saks : Type 0 where
+  pub narrow : List ((ℕ × ℕ) × List ℕ)
+  pub wide : List ((ℕ × ℕ) × List ℕ)
+
+abbrev pub octets_under : List ((ℕ × ℕ) × List ℕ) → ℕ → ℕ → Option (List ℕ)
+octets_under saks s epoch = lookup (is_at (pair_cmp (s, epoch))) saks
+
+abbrev pub sak_of : Option (List ℕ) → Option (List ℕ) → Option Secret
+sak_of (Some octets) wide = Some (S128 octets)
+sak_of None wide = option_map (λ octets. S256 octets) wide
 
 abbrev pub sak_under : Saks → ℕ → ℕ → Option Secret
-sak_under saks s epoch = lookup (is_at (pair_cmp (s, epoch))) saks
+sak_under saks s epoch = sak_of (octets_under saks.narrow s epoch) (octets_under saks.wide s epoch)
 
 -- under each station and epoch there is the SAK of the first install that these facts tell
 abbrev pub AreSaksOf : List Fact → Saks → Type 0
@@ -65,29 +84,62 @@ pub record Maps : Type 0 where
   pub once : Option (ℕ × ℕ)
   pub one_key : Option (ℕ × ℕ)
   pub epochs : Saks
-  pub keys : List ((Mi × ℕ) × (ℕ × Named))
+  pub keys : List ((Mi × ℕ) × First)
   pub narrow : LinesBySak
   pub wide : LinesBySak
+  pub aside : Aside
 
 abbrev pub sak_at : Maps → ℕ → ℕ → Option Secret
 sak_at m s epoch = sak_under m.epochs s epoch
 
+-- what a first install said, where its SAK is found
+abbrev pub said_first : Saks → First → Option (ℕ × Named)
+said_first saks first =
+    option_map (λ sak. (first.number, record { an = first.an; sak = sak }))
+    (sak_under saks first.station first.epoch)
+
+abbrev pub key_at : Maps → KeyId → Option First
+key_at m id = lookup (is_at (id_cmp (id.server, id.number))) m.keys
+
 abbrev pub first_of : Maps → KeyId → Option (ℕ × Named)
-first_of m id = lookup (is_at (id_cmp (id.server, id.number))) m.keys
+first_of m id = option_and_then (said_first m.epochs) (key_at m id)
 
 abbrev pub in_run : ℕ → List ℕ → ℕ → Option ℕ
 in_run first run pn = if nat_le first pn then slice_get run (pn - first) else None
 
-abbrev pub line_in : Lines → ℕ → Option ℕ
-line_in lines pn =
-    option_or (in_run lines.first lines.run pn) (lookup (is_at (nat_cmp pn)) lines.others)
+abbrev pub aside_at : Aside → ℕ → ℕ → ℕ → Option ℕ
+aside_at aside s epoch pn = lookup (is_at (turn_cmp ((s, epoch), pn))) aside
 
-abbrev pub line_at : LinesBySak → ℕ × List ℕ → ℕ → Option ℕ
-line_at lines key pn = option_and_then (λ own. line_in own pn) (lookup (is_at (sak_cmp key)) lines)
+abbrev pub line_in : Lines → Aside → ℕ → ℕ → Option ℕ
+line_in own aside s pn = option_or (in_run own.first own.run pn) (aside_at aside s own.epoch pn)
+
+abbrev pub own_at : LinesBySak → ℕ × List ℕ → Option Lines
+own_at lines key = lookup (is_at (sak_cmp key)) lines
+
+abbrev pub own_in : LinesBySak → LinesBySak → ℕ → Secret → Option Lines
+own_in narrow wide s (S128 octets) = own_at narrow (s, octets)
+own_in narrow wide s (S256 octets) = own_at wide (s, octets)
+
+abbrev pub own_by : Maps → ℕ → Secret → Option Lines
+own_by m s sak = own_in m.narrow m.wide s sak
 
 abbrev pub line_by : Maps → ℕ → ℕ → Secret → Option ℕ
-line_by m s pn (S128 octets) = line_at m.narrow (s, octets) pn
-line_by m s pn (S256 octets) = line_at m.wide (s, octets) pn
+line_by m s pn sak = option_and_then (λ own. line_in own m.aside s pn) (own_by m s sak)
+
+-- what names a station and an epoch names a SAK that was installed: a first install, the claims under a
+-- SAK, which is that one, and claims out of turn, which have such claims before them
+pub record AreBound (epochs : Saks) (keys : List ((Mi × ℕ) × First)) (narrow wide : LinesBySak)
+    (aside : Aside) : Type 0 where
+  pub installed : (id : KeyId) (first : First)
+      → lookup (is_at (id_cmp (id.server, id.number))) keys ≡ Some first
+      → IsTrue (is_some (sak_under epochs first.station first.epoch))
+  pub owned : (s : ℕ) (sak : Secret) (own : Lines) → own_in narrow wide s sak ≡ Some own
+      → sak_under epochs s own.epoch ≡ Some sak
+  pub behind : (s epoch pn line : ℕ) → aside_at aside s epoch pn ≡ Some line
+      → (sak : Secret) × (own : Lines) × (own_in narrow wide s sak ≡ Some own) × (own.epoch ≡ epoch)
+
+abbrev pub IsBound : Maps → Type 0
+IsBound m = AreBound m.epochs m.keys m.narrow m.wide m.aside
 
 abbrev pub line_of : Maps → Use → Option (ℕ × Unit {0})
 line_of m u = option_map (λ n. (n, tt)) (line_by m u.station u.pn u.sak)
@@ -106,6 +158,7 @@ pub record StandsFor (facts : List Fact) (m : Maps) : Type 0 where
   pub keys : m.one_key ≡ None → (id : KeyId) → IsFound KeyId Named (names facts) id (first_of m id)
   pub uses : m.once ≡ None → (u : Use) → IsFound Use (Unit {0}) (uses facts) u (line_of m u)
   pub known : (number : ℕ) (fact : Fact) → fact_at facts number ≡ Some fact → IsOfEpoch facts fact
+  pub bound : IsBound m
 
 -- ---- refusals
 

@@ -6,6 +6,16 @@ ghost use Rattle.transcript_check.specs.Judged.{same_named, same_secret};
 use aes_block::Secret;
 use lan_base::AssociationNumber;
 
+/// The first install of an identifier: the number of its line, what it says, and the station and the
+/// epoch under which its SAK is found.
+#[derive(Clone, Copy)]
+pub struct First {
+    pub number: u64,
+    pub epoch: u32,
+    pub station: u8,
+    pub an: AssociationNumber,
+}
+
 /// The association number and the SAK of a key, which its identifier names.
 #[derive(Clone, Copy)]
 pub struct Named {

@@ -2,17 +2,17 @@
 
 ghost use Rattle.lan_core.specs.declared.fact.Fact.TheVariants as shows;
 ghost use Rattle.transcript_check.specs.Judged.{is_missed};
-ghost use Rattle.std.specs.Prelude.{ℕ, cond, min, ◌≡◌, ◌+◌, ◌<◌, ◌↔◌, IfOk, OnOk, OnErr, true, is_ok, List, None, [], ◌∷◌, ◌++◌};
+ghost use Rattle.std.specs.Prelude.{ℕ, cond, min, ◌≡◌, ◌+◌, ◌<◌, ◌↔◌, IfOk, OnOk, OnErr, true, is_ok, List, Some, None, [], ◌∷◌, ◌++◌};
 ghost use Rattle.aes_block.specs.declared.secret.Secret.{Secret};
 ghost use Rattle.lan_base.specs.declared.address.Mi.{Mi};
 ghost use Rattle.lan_core.specs.declared.fact.Fact.{Fact};
-ghost use Rattle.transcript_check.specs.Standing.{Maps, sak_at, first_of, line_by, StandsFor, IsVerdict};
+ghost use Rattle.transcript_check.specs.Standing.{Maps, sak_at, first_of, line_by, IsBound, StandsFor, IsVerdict};
 ghost use Rattle.transcript_check.specs.inside.Steps.{KeyIsPut, UseIsKept, IsNamed, IsUsed, Installs, Claims, Takes, IsNoted};
 
 use crate::epochs::Epochs;
 use crate::fault::CheckError;
-use crate::named::Named;
-use crate::uses::{Uses, keep_at};
+use crate::named::{First, Named};
+use crate::uses::{Aside, Claim, Uses, keep_at};
 use crate::verdict::Verdict;
 use aes_block::Secret;
 use lan_base::{KeyId, Mi};
@@ -22,8 +22,9 @@ use std::alloc::{AllocError, Global};
 use std::collections::BTreeMap;
 use std::marker::Model;
 
-/// What facts say, one after another. A claim takes some sixteen octets, or thirty if its packet number
-/// is out of turn: its SAK is kept once for all claims under it. Contracts see the entries of the maps.
+/// What facts say, one after another. A SAK is kept once for all that installs say of it, and once for
+/// all claims under it. A claim takes some sixteen octets, or fifty if its packet number is out of
+/// turn. Contracts see the entries of the maps.
 #[derive(Drop)]
 pub struct Notes {
     alloc: Global,
@@ -32,9 +33,10 @@ pub struct Notes {
     once: Option<(u64, u64)>,
     one_key: Option<(u64, u64)>,
     epochs: Epochs,
-    keys: BTreeMap<(Mi, u32), (u64, Named)>,
+    keys: BTreeMap<(Mi, u32), First>,
     narrow: BTreeMap<(u8, [u8; 16]), Uses>,
     wide: BTreeMap<(u8, [u8; 32]), Uses>,
+    aside: Aside,
 }
 
 impl Model for Notes {
@@ -51,6 +53,7 @@ impl Model for Notes {
       keys = c.keys.entries;
       narrow = c.narrow.entries;
       wide = c.wide.entries;
+      aside = c.aside.entries;
     } };
 }
 
@@ -69,6 +72,7 @@ impl Notes {
             keys: BTreeMap::new(alloc),
             narrow: BTreeMap::new(alloc),
             wide: BTreeMap::new(alloc),
+            aside: BTreeMap::new(alloc),
         }
     }
 
@@ -108,49 +112,70 @@ impl Notes {
     fn first_of(&self, id: KeyId) -> Option<(u64, Named)>
         ensures { result ≡ first_of self.now id }
     {
-        self.keys.get(&(id.server, id.number)).copied()
+        let first = self.keys.get(&(id.server, id.number))?;
+        let sak = self.epochs.find(first.station, first.epoch)?;
+        Some((first.number, Named { an: first.an, sak }))
     }
 
-    /// The first install of an identifier is kept.
-    fn put_key(&mut self, number: u64, id: KeyId, named: Named) -> Result<(), AllocError>
-        ensures put { OnOk result (KeyIsPut number id named self.old self.new) }
+    /// The first install of an identifier is kept, whose SAK is found under its station and epoch.
+    fn put_key(&mut self, first: First, id: KeyId) -> Result<(), AllocError>
+        ensures put { (sak : Secret) → sak_at self.old first.station first.epoch ≡ Some sak
+            → OnOk result (KeyIsPut first.number id (record { an = first.an; sak = sak }) self.old self.new) }
         ensures kept { OnErr result (self.new ≡ self.old) }
     {
-        self.keys.insert((id.server, id.number), (number, named))?;
+        self.keys.insert((id.server, id.number), first)?;
         Ok(())
     }
 
-    /// The number of the claim that used a packet number; if none did, this one is kept.
-    fn keep_use(
-        &mut self,
-        number: u64,
-        station: u8,
-        pn: u32,
-        sak: &Secret,
-    ) -> Result<Option<u64>, AllocError>
-        ensures line { IfOk result (λ line. UseIsKept number station pn sak.now self.old self.new line) }
+    /// The number of the line that used the packet number of a claim; if none did, that of this claim is
+    /// kept.
+    fn keep_use(&mut self, claim: Claim, sak: &Secret) -> Result<Option<u64>, AllocError>
+        ensures line { IsBound self.old → sak_at self.old claim.station claim.epoch ≡ Some sak.now
+            → IfOk result (λ line. UseIsKept claim.number claim.station claim.pn sak.now self.old self.new line) }
         ensures kept { OnErr result (self.new ≡ self.old) }
     {
         match sak {
             Secret::S128(octets) => {
-                keep_at(self.alloc, &mut self.narrow, (station, *octets), pn, number)
+                keep_at(
+                    self.alloc,
+                    &mut self.narrow,
+                    &mut self.aside,
+                    *octets,
+                    claim,
+                )
             }
             Secret::S256(octets) => {
-                keep_at(self.alloc, &mut self.wide, (station, *octets), pn, number)
+                keep_at(self.alloc, &mut self.wide, &mut self.aside, *octets, claim)
             }
         }
     }
 
-    /// An install says something of an identifier.
-    fn name(&mut self, number: u64, id: KeyId, named: Named) -> Result<(), AllocError>
-        ensures named { OnOk result (IsNamed number id named self.old self.new self.old.one_key (first_of self.old id)) }
+    /// An install, which was kept, says something of an identifier.
+    fn name(
+        &mut self,
+        number: u64,
+        station: u8,
+        epoch: u32,
+        id: KeyId,
+        named: Named,
+    ) -> Result<(), AllocError>
+        ensures named { sak_at self.old station epoch ≡ Some named.sak
+            → OnOk result (IsNamed number id named self.old self.new self.old.one_key (first_of self.old id)) }
         ensures kept { OnErr result (self.new ≡ self.old) }
     {
         if self.one_key.is_some() {
             return Ok(());
         }
         match self.first_of(id) {
-            None => self.put_key(number, id, named),
+            None => self.put_key(
+                First {
+                    number,
+                    epoch,
+                    station,
+                    an: named.an,
+                },
+                id,
+            ),
             Some((first, before)) => {
                 if !before.is_same(&named) {
                     self.one_key = Some((first, number));
@@ -161,21 +186,17 @@ impl Notes {
     }
 
     /// A claim uses a packet number.
-    fn make_use(
-        &mut self,
-        number: u64,
-        station: u8,
-        pn: u32,
-        sak: &Secret,
-    ) -> Result<(), AllocError>
-        ensures used { OnOk result (IsUsed number station pn sak.now self.old self.new self.old.once (line_by self.old station pn sak.now)) }
+    fn make_use(&mut self, claim: Claim, sak: &Secret) -> Result<(), AllocError>
+        ensures used { IsBound self.old → sak_at self.old claim.station claim.epoch ≡ Some sak.now
+            → OnOk result (IsUsed claim.number claim.station claim.pn sak.now self.old self.new self.old.once
+            (line_by self.old claim.station claim.pn sak.now)) }
         ensures kept { OnErr result (self.new ≡ self.old) }
     {
         if self.once.is_some() {
             return Ok(());
         }
-        if let Some(first) = self.keep_use(number, station, pn, sak)? {
-            self.once = Some((first, number));
+        if let Some(first) = self.keep_use(claim, sak)? {
+            self.once = Some((first, claim.number));
         }
         Ok(())
     }
@@ -192,7 +213,7 @@ impl Notes {
         ensures { Installs number station epoch id named self.old self.new (sak_at self.old station epoch) result }
     {
         self.epochs.install(station, epoch, named.sak)?;
-        match self.name(number, id, named) {
+        match self.name(number, station, epoch, id, named) {
             Ok(()) => Ok(()),
             Err(_) => {
                 self.epochs.forget(station, epoch);
@@ -202,11 +223,12 @@ impl Notes {
     }
 
     /// A claim is taken.
-    fn claim(&mut self, number: u64, station: u8, epoch: u32, pn: u32) -> Result<(), CheckError>
-        ensures { Claims number station pn self.old self.new (sak_at self.old station epoch) result }
+    fn claim(&mut self, claim: Claim) -> Result<(), CheckError>
+        ensures { Claims claim.number claim.station claim.pn self.old self.new
+            (sak_at self.old claim.station claim.epoch) result }
     {
-        let sak = self.epochs.sak(station, epoch)?;
-        self.make_use(number, station, pn, &sak)?;
+        let sak = self.epochs.sak(claim.station, claim.epoch)?;
+        self.make_use(claim, &sak)?;
         Ok(())
     }
 
@@ -234,7 +256,12 @@ impl Notes {
                 an: _,
                 epoch,
                 pn,
-            } => self.claim(number, *station, *epoch, *pn),
+            } => self.claim(Claim {
+                number,
+                epoch: *epoch,
+                pn: *pn,
+                station: *station,
+            }),
             Fact::Arrived { arrival, .. } => {
                 self.pass(missed_by(arrival));
                 Ok(())

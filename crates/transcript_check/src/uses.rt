@@ -1,112 +1,131 @@
 //! The lines that used packet numbers.
 
-ghost use Rattle.std.specs.Prelude.{◌≡◌, None, IfOk, OnOk, OnErr};
-ghost use Rattle.transcript_check.specs.Standing.{in_run, line_in, no_lines};
-ghost use Rattle.transcript_check.specs.inside.Steps.{LineIsKept, LineIsKeptAt, LineIsPut};
+ghost use Rattle.std.specs.Prelude.{◌≡◌, ◌∷◌, [], None, IfOk, OnOk, OnErr};
+ghost use Rattle.transcript_check.specs.Standing.{aside_at, fresh, in_run, line_in};
+ghost use Rattle.transcript_check.specs.inside.Steps.{IsMore, LineIsKept, LineIsKeptAt};
 
 use std::alloc::{AllocError, Global};
 use std::collections::BTreeMap;
 use std::marker::Model;
 
-/// By packet number of one station under one SAK, the number of the line that used it. A station
-/// claims its packet numbers mostly one after another: those lines stand in a list, from the packet
-/// number on that came first. Contracts see that one, the list, and the entries of the others.
+/// The numbers of the lines of claims out of turn, by station, the epoch of the first claim under
+/// their SAK, and packet number.
+pub type Aside = BTreeMap<((u8, u32), u32), u64>;
+
+/// A claim, and the number of its line.
+#[derive(Clone, Copy)]
+pub struct Claim {
+    pub number: u64,
+    pub epoch: u32,
+    pub pn: u32,
+    pub station: u8,
+}
+
+/// The lines that used packet numbers of one station under one SAK. A station claims its packet
+/// numbers mostly one after another: those lines stand in a list, from the packet number on that
+/// came first. Contracts see it, the list, and the epoch of the first claim, under which the lines
+/// of the others are found.
 #[derive(Drop)]
 pub struct Uses {
+    epoch: u32,
     first: u32,
-    run: Vec<u64>,
-    others: BTreeMap<u32, u64>,
+    line: u64,
+    later: Vec<u64>,
 }
 
 impl Model for Uses {
+    ghost use Rattle.std.specs.Prelude.{◌∷◌};
     ghost use Rattle.transcript_check.specs.Standing.{Lines};
 
     ghost Value = { Lines };
 
-    ghost view = { λ uses. record { first = uses.first; run = uses.run.items; others = uses.others.entries } };
+    ghost view = { λ uses. record { epoch = uses.epoch; first = uses.first; run = uses.line ∷ uses.later.items } };
 }
 
 impl Uses {
-    /// No line. No memory is taken.
-    pub fn new(alloc: Global) -> Uses
-        ensures { result ≡ no_lines }
+    /// The first claim under a SAK. No memory is taken.
+    pub fn of(alloc: Global, claim: Claim) -> Uses
+        ensures { result ≡ fresh claim.epoch claim.pn claim.number }
     {
         Uses {
-            first: 0,
-            run: Vec::new(alloc),
-            others: BTreeMap::new(alloc),
+            epoch: claim.epoch,
+            first: claim.pn,
+            line: claim.number,
+            later: Vec::new(alloc),
         }
     }
 
-    /// The number of the line that used a packet number; if none did, this one is kept. An error
-    /// leaves all as it was.
-    pub fn keep(&mut self, pn: u32, number: u64) -> Result<Option<u64>, AllocError>
-        ensures line { IfOk result (λ line. LineIsKept pn number self.old self.new line) }
-        ensures kept { OnErr result (self.new ≡ self.old) }
+    /// The number of the line that used the packet number of a claim; if none did, that of this claim
+    /// is kept. An error leaves all as it was.
+    pub fn keep(&mut self, aside: &mut Aside, claim: Claim) -> Result<Option<u64>, AllocError>
+        ensures line { IfOk result (λ line. LineIsKept claim.station claim.pn claim.number
+            self.old aside.old.entries self.new aside.new.entries line) }
+        ensures kept { OnErr result ((self.new ≡ self.old) × (aside.new.entries ≡ aside.old.entries)) }
     {
-        let line = self.line_by(pn);
+        let line = self.line_by(aside, claim.station, claim.pn);
         if line.is_none() {
-            self.put(pn, number)?;
+            self.put(aside, claim)?;
         }
         Ok(line)
     }
 
     /// The number of the line that used a packet number.
-    fn line_by(&self, pn: u32) -> Option<u64>
-        ensures { result ≡ line_in self.now pn }
+    fn line_by(&self, aside: &Aside, station: u8, pn: u32) -> Option<u64>
+        ensures { result ≡ line_in self.now aside.now.entries station pn }
     {
-        match in_run(self.first, self.run.as_slice(), pn) {
+        match self.in_run(pn) {
             Some(line) => Some(line),
-            None => self.others.get(&pn).copied(),
+            None => aside.get(&((station, self.epoch), pn)).copied(),
         }
     }
 
-    /// The number of the line that used a packet number, which none did before, is kept. An error
-    /// leaves all as it was.
-    fn put(&mut self, pn: u32, number: u64) -> Result<(), AllocError>
-        ensures put { line_in self.old pn ≡ None → OnOk result (LineIsPut pn number self.old self.new) }
-        ensures kept { OnErr result (self.new ≡ self.old) }
+    /// The number of the line that used a packet number, of those that stand one after another.
+    fn in_run(&self, pn: u32) -> Option<u64>
+        ensures { result ≡ in_run self.now.first self.now.run pn }
     {
-        if self.run.is_empty() {
-            self.run.push(number)?;
-            self.first = pn;
-        } else if pn as usize == self.first as usize + self.run.len() {
-            self.run.push(number)?;
-        } else {
-            self.others.insert(pn, number)?;
+        if pn < self.first {
+            return None;
         }
+        if pn == self.first {
+            return Some(self.line);
+        }
+        self.later.get((pn - self.first - 1) as usize).copied()
+    }
+
+    /// The number of the line of a claim, whose packet number none used before, is kept. An error
+    /// leaves all as it was.
+    fn put(&mut self, aside: &mut Aside, claim: Claim) -> Result<(), AllocError>
+        ensures put { line_in self.old aside.old.entries claim.station claim.pn ≡ None
+            → OnOk result (IsMore claim.station claim.pn claim.number self.old aside.old.entries
+            self.new aside.new.entries) }
+        ensures kept { OnErr result ((self.new ≡ self.old) × (aside.new.entries ≡ aside.old.entries)) }
+    {
+        if claim.pn as usize == self.first as usize + 1 + self.later.len() {
+            self.later.push(claim.number)?;
+            return Ok(());
+        }
+        aside.insert(((claim.station, self.epoch), claim.pn), claim.number)?;
         Ok(())
     }
 }
 
-/// The number of the line that used a packet number, of those that stand one after another.
-fn in_run(first: u32, run: &[u64], pn: u32) -> Option<u64>
-    ensures { result ≡ in_run first run.now pn }
-{
-    if first <= pn {
-        run.get((pn - first) as usize).copied()
-    } else {
-        None
-    }
-}
-
-/// The number of the line that used a packet number under a station and the octets of a SAK; if none
-/// did, this one is kept. An error leaves all as it was.
+/// The number of the line that used the packet number of a claim under the octets of a SAK; if none
+/// did, that of this claim is kept. An error leaves all as it was.
 pub fn keep_at<const N: usize>(
     alloc: Global,
     lines: &mut BTreeMap<(u8, [u8; N]), Uses>,
-    key: (u8, [u8; N]),
-    pn: u32,
-    number: u64,
+    aside: &mut Aside,
+    octets: [u8; N],
+    claim: Claim,
 ) -> Result<Option<u64>, AllocError>
-    ensures line { IfOk result (λ line. LineIsKeptAt key.entry pn number lines.old.entries lines.new.entries line) }
-    ensures kept { OnErr result (lines.new.entries ≡ lines.old.entries) }
+    ensures line { IfOk result (λ line. LineIsKeptAt (claim.station, octets.entry) claim.epoch claim.pn claim.number
+        lines.old.entries aside.old.entries lines.new.entries aside.new.entries line) }
+    ensures kept { OnErr result ((lines.new.entries ≡ lines.old.entries) × (aside.new.entries ≡ aside.old.entries)) }
 {
+    let key = (claim.station, octets);
     if let Some(uses) = lines.get_mut(&key) {
-        return uses.keep(pn, number);
+        return uses.keep(aside, claim);
     }
-    let mut uses = Uses::new(alloc);
-    uses.put(pn, number)?;
-    lines.insert(key, uses)?;
+    lines.insert(key, Uses::of(alloc, claim))?;
     Ok(None)
 }

@@ -1,6 +1,7 @@
 -- What is kept of packets, and how it changes.
 use Rattle.std.specs.Prelude.{⊤, ◌≡◌, ℕ, ◌^◌, ◌<◌, ◌≤◌, List, [], ◌∷◌, ◌++◌, length, drop, map, unwrap_or, All, Option, None, option_map, Result, Ok, Err}
 use Rattle.aes_block.specs.declared.secret.Secret.{Secret}
+use Rattle.audit_facts.specs.Standing.{StandsFor as FactsStandFor}
 use Rattle.audit_report.specs.Lines.{set_lines}
 use Rattle.audit_report.specs.Tallies.{tally_of}
 use Rattle.audit_report.specs.declared.finding.Finding.{Finding}
@@ -37,7 +38,7 @@ use Rattle.capture_audit.specs.Before.{IsUnwrapped, Unwrapped, UnwrapsBy, entrie
 use Rattle.capture_audit.specs.Findings.{finding, mka_finding, sec_finding}
 use Rattle.capture_audit.specs.Giving.{handed, handed_by}
 use Rattle.capture_audit.specs.Reading.{most_keys}
-use Rattle.capture_audit.specs.Telling.{all_told}
+use Rattle.capture_audit.specs.Telling.{all_told, noted}
 
 -- ---- what is kept
 
@@ -52,6 +53,7 @@ pub record Holds (groups : List GroupKeys) (told : List Entry) (rights : List Ri
 -- of packets behind a key text, the newest of which is the first
 pub record Keeps (ring : Ring) (before : List Unwrapped) (a : Auditor) : Type 0 where
   pub holds : Holds ring.groups (entries ring before) (frames ring before) (mkpdus ring before) a
+  pub facts : FactsStandFor (noted ring before) a.facts
   pub tally : a.tally ≡ tally_of (all_told ring before)
   pub unwrapped : All (IsUnwrapped ring) before
   pub few : length (keys (entries ring before)) ≤ most_keys
@@ -70,9 +72,10 @@ IsTooMany ring packets = AreTooMany (entries ring packets)
 
 -- ---- a packet more
 
--- what a packet of this number did beside what is told of it: nothing was counted
+-- what a packet of this number did beside what is told of it: nothing was noted or counted
 pub record IsWithin (packet : ℕ) (old new : Auditor) : Type 0 where
   pub groups : new.groups ≡ old.groups
+  pub facts : new.facts ≡ old.facts
   pub tally : new.tally ≡ old.tally
   pub last : new.known.firsts.last ≤ packet
 

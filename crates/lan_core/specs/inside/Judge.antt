@@ -1,5 +1,6 @@
 -- What the stations of a group hear is judged once for all of them.
 use Rattle.std.specs.Prelude.{◌≡◌, ℕ, List, Option, IfSome, Result}
+use Rattle.lan_base.specs.Ranges.{IsCkn}
 use Rattle.aes_block.specs.Secrets.{secret_octets}
 use Rattle.mkpdu_codec.specs.declared.announcement.Announcement.{Announcement}
 use Rattle.mka_kdf.specs.declared.group.Group.{Group}
@@ -29,8 +30,10 @@ pub record Judge : Type 0 where
   pub settings : Settings
   pub octets : List ℕ
 
--- a judge has the keys of its group, if any, and the judgement of what it judged last
+-- a judge has a group whose name is what it may be, its keys, if any, and the judgement of what was
+-- judged last
 pub record IsJudge (settings : Settings) (group : Option Group) (octets : List ℕ)
     (judgement : Result Announcement DropReason) : Type 0 where
+  pub named : IsCkn settings.ckn
   pub keys : IfSome group (HasKeys settings)
   pub judged : IsJudged settings octets judgement

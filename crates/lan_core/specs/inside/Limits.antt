@@ -1,9 +1,14 @@
 -- The limits that counts pass.
-use Rattle.std.specs.Prelude.{ℕ, nat_lt, if◌then◌else◌, List, map, sum, length, Option, Some, None}
+use Rattle.std.specs.Prelude.{ℕ, ◌≤◌, nat_lt, if◌then◌else◌, List, map, sum, length, Option, Some, None}
 use Rattle.lan_base.specs.Ranges.{most_frames, most_ticks}
 use Rattle.lan_core.specs.declared.stop.Which.{Which}
 use Rattle.lan_core.specs.declared.stop.Which.TheVariants.{Frames, Octets, Ticks, Keys, Stations}
 use Rattle.lan_core.specs.Order.{most_stations, most_octets, most_installs}
+
+-- no more frames and octets than there may be on the air
+pub record IsLight (frames : List (List ℕ)) : Type 0 where
+  pub few : length frames ≤ most_frames
+  pub light : sum (map length frames) ≤ most_octets
 
 -- the first limit that is passed by so many frames and octets on the air, ticks, installs at a
 -- station, and stations

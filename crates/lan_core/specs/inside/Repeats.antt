@@ -10,6 +10,7 @@ use Rattle.mkpdu_codec.specs.Sets.{check_length}
 use Rattle.mkpdu_codec.specs.Refusals.{is_mka, is_long_enough, check_place}
 use Rattle.mkpdu_codec.specs.Reading.{reading}
 use Rattle.lan_core.specs.Fresh.{same_spelling}
+use Rattle.lan_core.specs.inside.Limits.{IsLight}
 
 -- whether octets repeat a frame, but for what stands after its body
 abbrev pub repeats_octets : List ℕ → List ℕ → Bool
@@ -48,9 +49,11 @@ abbrev pub IsFound : Checks → List ℕ → ℕ → Type 0
 IsFound checks check place =
     (first_with checks check ≡ Some place) ⊎ Contains checks.others place
 
--- the index of frames: how many octets they have, and their places by their check values
+-- the index of frames: how many octets they have, no more than there may be, and their places by
+-- their check values
 pub record IsIndex (frames : List (List ℕ)) (count : ℕ) (checks : Checks) : Type 0 where
   pub octets : count ≡ sum (map length frames)
+  pub within : IsLight frames
   pub short : All (λ frame. length frame ≤ most_frame_octets) frames
   pub found : (place : ℕ) (frame check : List ℕ) → slice_get frames place ≡ Some frame
       → check_value frame ≡ Some check → IsFound checks check place

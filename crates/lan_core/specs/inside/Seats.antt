@@ -1,7 +1,7 @@
 -- What an event comes to at the seat of its station.
-use Rattle.std.specs.Prelude.{◌≡◌, ◌≢◌, ◌≤◌, ℕ, ◌+◌, false, List, [], ◌∷◌, slice_get, Option, Some, None, option_map}
+use Rattle.std.specs.Prelude.{◌≡◌, ◌≢◌, ◌≤◌, ◌<◌, ◌⊎◌, ℕ, ◌+◌, false, List, [], ◌∷◌, slice_get, Option, Some, None, option_map}
 use Rattle.lan_base.specs.declared.frame.UserFrame.{UserFrame}
-use Rattle.lan_base.specs.Ranges.{IsUserData}
+use Rattle.lan_base.specs.Ranges.{IsUserData, most_ticks}
 use Rattle.aes_block.specs.Secrets.{secret_octets}
 use Rattle.gcm_frames.specs.Protected.{protected}
 use Rattle.sak_exchange.specs.Held.{held, transmitting}
@@ -17,6 +17,7 @@ use Rattle.lan_core.specs.Run.{Run}
 use Rattle.lan_core.specs.Ledgers.{gather}
 use Rattle.lan_core.specs.Lives.{Life, keys_in, receiving, seen_at, slot_change, heard_data, lived_ticking, lived_hearing}
 use Rattle.lan_core.specs.Expected.{tick_facts, reached_facts, restart_facts}
+use Rattle.lan_core.specs.Order.{most_installs}
 use Rattle.lan_core.specs.Standing.{Seat, Sits}
 
 -- how many keys facts install
@@ -24,6 +25,15 @@ abbrev pub installs_in : List Fact → ℕ
 installs_in [] = 0
 installs_in (facts.Installed station id an epoch sak ∷ later) = installs_in later + 1
 installs_in (_ ∷ later) = installs_in later
+
+-- a station has no more ticks in its life, and no more installs, than there may be
+pub record IsFew (seat : Seat) : Type 0 where
+  pub ticks : seat.ticks ≤ most_ticks
+  pub installs : seat.installs ≤ most_installs
+
+-- it has more
+abbrev pub IsPast : Seat → Type 0
+IsPast seat = (most_ticks < seat.ticks) ⊎ (most_installs < seat.installs)
 
 -- Among seats, that of one place now stands for a life and what its slots received, and has so many
 -- installs; the others are as before.

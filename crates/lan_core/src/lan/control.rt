@@ -3,6 +3,7 @@
 ghost use Rattle.std.specs.Prelude.{◌≡◌, ◌<◌, ◌≤◌, ◌+◌, ◌++◌, [], List, None, length, option_map, option_and_then, option_to_list, IfOk, OnOk, OnErr, IfErr};
 ghost use Rattle.std.specs.Option.{option_or};
 ghost use Rattle.lan_base.specs.declared.frame.UserFrame.{UserFrame};
+ghost use Rattle.lan_base.specs.Ranges.{IsCkn};
 ghost use Rattle.lan_base.specs.Suites.{sak_draws};
 ghost use Rattle.mka_station.specs.Standing.{born};
 ghost use Rattle.lan_core.specs.declared.event.Event.TheVariants as events;
@@ -77,7 +78,8 @@ impl Lan {
         ensures shown { OnErr result ((self.new.air ≡ self.old.air)
             × (self.new.names ≡ self.old.names)) }
     {
-        let number = self.air.next_number()?;
+        let number = self.air.next_number();
+        self.seats.judge_counts(station)?;
         let Some(came) = self.seats.tick(station, number, next, draws)? else {
             return Ok(Facts::new(self.alloc));
         };
@@ -105,8 +107,8 @@ impl Lan {
             × (self.new.names ≡ self.old.names)) }
     {
         let sent = came.sent();
-        let ticks = self.ticks.checked_add(1).ok_or(AllocError)?;
-        self.extent(sent, ticks, came.installs)?.judge()?;
+        let ticks = self.ticks + 1;
+        self.extent(sent, ticks, came.installs).judge()?;
         note_sak(&mut self.drawn, self.judge.suite(), came.installed())?;
         self.ticks = ticks;
         self.air.put(sent)?;
@@ -145,6 +147,7 @@ fn first_seat(
     priority: u8,
     draw: [u8; 16],
 ) -> Result<Seat, AllocError>
+    requires named { IsCkn settings.now.ckn }
     ensures { IfOk result (Sits settings.now.window (record {
       member = born (setup_of settings.now
           (record { name = []; sci = sci; priority = priority })) 0 draw;

@@ -1,6 +1,6 @@
 //! What stops a group: a limit, a draw that repeats, foreign octets that are forged.
 
-ghost use Rattle.std.specs.Prelude.{◌≡◌, ◌+◌, ◌++◌, map, sum, length, Some, option_and_then, option_to_list, IfOk, OnOk};
+ghost use Rattle.std.specs.Prelude.{◌≡◌, ◌+◌, ◌++◌, map, sum, length, Some, option_and_then, option_to_list, OnOk};
 ghost use Rattle.std.specs.Option.{option_copied};
 ghost use Rattle.lan_base.specs.Suites.{sak_draws};
 ghost use Rattle.lan_core.specs.declared.event.Event.TheVariants as events;
@@ -23,37 +23,28 @@ use crate::limits::Extent;
 use crate::stop::{StepError, Stop};
 use aes_block::Secret;
 use lan_base::{Mi, Octets, Suite};
-use std::alloc::AllocError;
 
 impl Lan {
     /// How far the group comes with a frame more, if there is one, with so many ticks, and with so
     /// many installs at a station.
-    pub(super) fn extent(
-        &self,
-        sent: Option<&Octets>,
-        ticks: u32,
-        installs: u32,
-    ) -> Result<Extent, AllocError>
+    pub(super) fn extent(&self, sent: Option<&Octets>, ticks: u32, installs: u32) -> Extent
         ensures { let frames = self.now.air ++ option_to_list (option_copied sent.entry) in
-            IfOk result (λ e. e ≡ record {
+            result ≡ record {
               frames = length frames;
               octets = sum (map length frames);
               ticks = ticks;
               installs = installs;
               stations = length self.now.names;
-            }) }
+            } }
     {
-        let (frames, octets) = match sent {
-            Some(octets) => (1, octets.len() as u64),
-            None => (0, 0),
-        };
-        Ok(Extent {
-            frames: self.air.len().checked_add(frames).ok_or(AllocError)?,
-            octets: self.air.octets().checked_add(octets).ok_or(AllocError)?,
+        let (frames, octets) = self.air.with(sent);
+        Extent {
+            frames,
+            octets,
             ticks,
             installs,
             stations: self.names.len(),
-        })
+        }
     }
 }
 
@@ -85,7 +76,7 @@ pub fn note_mi(drawn: &mut Drawn, mi: Mi) -> Result<(), StepError>
     ensures noted { OnOk result (MiIsNoted drawn.old drawn.new mi) }
 {
     if let Some(first) = drawn.number_of_mi(&mi) {
-        return Err(repeated(first, drawn.count()));
+        return Err(repeated(first, drawn));
     }
     drawn.note_mi(mi)?;
     Ok(())
@@ -101,18 +92,16 @@ pub fn note_sak(drawn: &mut Drawn, suite: Suite, sak: Option<Secret>) -> Result<
         return Ok(());
     };
     if let Some(first) = drawn.number_of_sak(&sak) {
-        return Err(repeated(first, drawn.count()));
+        return Err(repeated(first, drawn));
     }
     drawn.note_sak(&sak, suite.sak_draws())?;
     Ok(())
 }
 
-/// The draw after so many repeats this one.
-fn repeated(first: u64, count: u64) -> StepError
-    ensures { IsWhy (Some (RepeatedDraw first (count + 1))) result }
+/// The next draw repeats this one.
+fn repeated(first: u64, drawn: &Drawn) -> StepError
+    ensures { IsWhy (Some (RepeatedDraw first (drawn.now.count + 1))) result }
 {
-    match count.checked_add(1) {
-        Some(second) => StepError::Stopped(Stop::RepeatedDraw { first, second }),
-        None => StepError::Memory,
-    }
+    let second = drawn.next_number();
+    StepError::Stopped(Stop::RepeatedDraw { first, second })
 }

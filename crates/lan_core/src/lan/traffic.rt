@@ -44,6 +44,7 @@ impl Lan {
         let Some(octets) = self.air.frame(frame) else {
             return Ok(Facts::new(self.alloc));
         };
+        self.seats.judge_counts(station)?;
         let Some(came) = self.seats.reach(station, frame, octets, &mut self.judge)? else {
             return Ok(Facts::new(self.alloc));
         };
@@ -103,11 +104,11 @@ impl Lan {
         ensures shown { OnErr result ((self.new.air ≡ self.old.air)
             × (self.new.names ≡ self.old.names)) }
     {
-        let number = self.air.next_number()?;
+        let number = self.air.next_number();
         let Some(frame) = self.waiting.pop() else {
             return Ok(Facts::new(self.alloc));
         };
-        self.extent(Some(&frame.octets), self.ticks, 0)?.judge()?;
+        self.extent(Some(&frame.octets), self.ticks, 0).judge()?;
         let octets = frame.octets.copied(self.alloc)?;
         let facts = Facts::one(
             self.alloc,
@@ -135,6 +136,7 @@ impl Lan {
         if octets.len() > FRAME_MAX {
             return Ok(Facts::new(self.alloc));
         }
+        self.seats.judge_counts(station)?;
         let Some(came) = self.seats.reach(station, 0, octets, &mut self.judge)? else {
             return Ok(Facts::new(self.alloc));
         };

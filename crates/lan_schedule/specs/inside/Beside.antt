@@ -10,6 +10,7 @@ use Rattle.data_workers.specs.declared.entry.Entry.{Entry}
 use Rattle.data_workers.specs.Workers.{AreDone, HasTable, WorkerAt}
 use Rattle.lan_core.specs.declared.fact.Fact.{Fact}
 use Rattle.lan_core.specs.declared.settings.Settings.{Settings}
+use Rattle.lan_core.specs.declared.stop.Which.TheVariants.{Frames}
 use Rattle.lan_core.specs.Ledgers.{claims}
 use Rattle.lan_core.specs.Run.{Run, facts_of}
 use Rattle.lan_core.specs.Types.{IsUserFrame}
@@ -27,7 +28,8 @@ use Rattle.lan_schedule.specs.declared.race.Crew.{Crew}
 use Rattle.lan_schedule.specs.declared.race.Ran.{Ran}
 use Rattle.lan_schedule.specs.declared.stage.Stage.{Stage}
 use Rattle.lan_schedule.specs.Races.{Burst, Numbered, Worker, Chance}
-use Rattle.lan_schedule.specs.Races.{behind_numbers, workers_at, workers_of}
+use Rattle.lan_schedule.specs.Races.{behind_numbers, jobs_in, most_claimed, most_users}
+use Rattle.lan_schedule.specs.Races.{workers_at, workers_of}
 use Rattle.lan_schedule.specs.World.{World, is_racing}
 use Rattle.lan_schedule.specs.Acts.{Course, Goes, Stops, perform, race, begun_race}
 use Rattle.lan_schedule.specs.Acts.{is_stop}
@@ -120,14 +122,19 @@ pub record HiredAll (workers : List Worker) (old new : Stage) (crew : List Worke
   pub sendable : All (λ w. IsUserFrame w.sender.user) crew
   pub scis : All (λ w. slice_get old.scis.items w.sender.station ≡ Some w.sender.sci) crew
 
--- a race begins with workers: each has a user frame, and control's events are kept; else nothing
--- changes
+-- so many user frames more, or so many claims, are more than have numbers
+abbrev pub IsOver : Stage → ℕ → ℕ → Type 0
+IsOver stage more asked =
+    (most_users < stage.users + more) ⊎ (most_claimed < stage.tally.claims + asked)
+
+-- a race begins with workers: each has a user frame, and control's events are kept; else there are too
+-- few numbers, and nothing changes
 abbrev pub BeginsRace : List WorkerAt → Stage → Stage → Bool → Type 0
 BeginsRace crew old new true =
     (length crew + (old.users + 1) < 2 ^ 32) × (old.tally.claims + (jobs_of crew + 16) < 2 ^ 32)
     × (new ≡ record old { users = old.users + length crew; raced = true; steps = new.steps })
     × (steps_of new ≡ Some [])
-BeginsRace crew old new false = new ≡ old
+BeginsRace crew old new false = (new ≡ old) × IsOver old (length crew) (jobs_of crew)
 
 -- workers were hired, and their race was begun
 pub record HasEnlisted (workers : List Worker) (old new : Stage) (crew : List WorkerAt) : Type 0 where
@@ -135,6 +142,11 @@ pub record HasEnlisted (workers : List Worker) (old new : Stage) (crew : List Wo
   pub hired : HiredAll workers old mid crew
   pub moved : HasMoved old mid
   pub begins : BeginsRace crew mid new true
+
+-- why they were not, or their race wasn't: there is no memory, or there are too few numbers
+abbrev pub IsUnlisted : List Worker → Stage → Halt → Type 0
+IsUnlisted workers old halt = (halt ≡ halts.Memory)
+    ⊎ ((halt ≡ halts.Limit Frames) × IsOver old (length workers) (jobs_in workers))
 
 -- those that were hired have the tables of their stations' words; no log came yet, and there is room
 -- for one of each

@@ -57,7 +57,7 @@ impl Station {
     }
 
     /// Whether the station announces itself at the next tick, which finds this.
-    fn is_due(&self, coming: &Coming, keys: &KeyState) -> bool
+    pub(super) fn is_due(&self, coming: &Coming, keys: &KeyState) -> bool
         ensures { (base : ℕ) (mi : Mi) (k : List Keying) → KeysStandFor base mi false keys.now k →
             result
             ≡ is_due_after self.now.spoken (shown_by coming.now.rows coming.now.server k) }

@@ -1,6 +1,6 @@
 //! A tick: the server is elected, keys end, begin or are made, and the station announces itself.
 
-ghost use Rattle.std.specs.Prelude.{◌≡◌, ◌<◌, ◌+◌, ◌^◌, ◌↔◌, ◌&&◌, ◌++◌, ◌∷◌, List, ℕ, true, false, Some, None, Err, IsTrue, IfOk, OnOk, OnErr, OnSome, IfErr, is_none, cond, if◌then◌else◌};
+ghost use Rattle.std.specs.Prelude.{◌≡◌, ◌<◌, ◌+◌, ◌^◌, ◌↔◌, ◌&&◌, ◌++◌, ◌∷◌, [], List, ℕ, Bool, true, false, Some, None, Err, IsTrue, IfOk, OnOk, OnErr, OnSome, IfErr, is_none, cond, if◌then◌else◌};
 ghost use Rattle.std.specs.List.{list_any};
 ghost use Rattle.lan_base.specs.declared.address.Mi.{Mi};
 ghost use Rattle.lan_base.specs.Suites.{sak_draws};
@@ -17,6 +17,7 @@ ghost use Rattle.mka_station.specs.Tick.{tick_turn, install_changes};
 ghost use Rattle.mka_station.specs.Drawing.{next_sak, sak_of, draws_at, makes_next, is_short};
 ghost use Rattle.mka_station.specs.Standing.{StandsFor, HasRoom};
 ghost use Rattle.mka_station.specs.inside.Found.{IsAhead, Comes};
+ghost use Rattle.mka_station.specs.inside.Quiet.{IsQuiet, IsQuietTurn};
 ghost use Rattle.mka_station.specs.inside.Reached.{IsTicked};
 ghost use Rattle.mka_station.specs.inside.Turns.{made_by, keys_made, IsDue};
 
@@ -28,6 +29,7 @@ use crate::config::Config;
 use crate::next::Ticked;
 use crate::reaction::Reaction;
 use crate::rows::{is_one_potential, is_server};
+use crate::shown::is_same_server;
 use crate::tick_error::TickError;
 use aes_block::Secret;
 use lan_base::{Draws, Mi, Suite};
@@ -68,9 +70,43 @@ impl Station {
             &mut self.keys,
             seen,
         );
+        if !makes && self.is_quiet(&self.coming) {
+            return Ok(self.pass_quietly());
+        }
         let sak = sak_for(makes, &self.config, draws)?;
         let ticked = self.after_tick(&self.coming, seen, sak)?;
         Ok(self.pass(ticked, makes))
+    }
+
+    /// Whether a tick that finds this, and makes no key, changes none, elects the server of before, and
+    /// announces nothing: a quiet one. It may answer no where it is.
+    fn is_quiet(&self, coming: &Coming) -> bool
+        ensures { IsTrue result → (base : ℕ) (mi : Mi) (h : List Keying) →
+            KeysStandFor base mi false self.now.keys h → IsQuiet self.now coming.now h }
+    {
+        is_same_server(self.server(), coming.server)
+            && self.keys().stays(coming.server.is_some())
+            && !self.is_due(coming, self.keys())
+    }
+
+    /// A quiet tick passes. It takes no memory, and copies no keys.
+    fn pass_quietly(&mut self) -> Reaction
+        requires room { HasRoom self.old }
+        ensures reaction { result ≡ record { heard = None; server = None; changes = []; sent = None } }
+        ensures stands { (m : Member) (p : List Entry) (any : Secret) (seen : Seen) (elected : Bool) →
+            StandsFor m self.old p → IsQuietTurn m p seen any elected →
+            StandsFor m self.new (tick_turn m seen any p).past }
+    {
+        pass_peers(&mut self.peers, false);
+        self.coming.pass(&self.peers);
+        self.keys.pass_still();
+        self.note_spoken(None);
+        Reaction {
+            heard: None,
+            server: None,
+            changes: Changes::new(self.alloc),
+            sent: None,
+        }
     }
 
     /// What a tick comes to that finds this, with the SAK of the key that it makes, if it makes one.

@@ -1,5 +1,5 @@
 -- What the private functions of the code do with the state: these serve their clauses alone.
-use Rattle.std.specs.Prelude.{◌≡◌, ℕ, ◌==◌, ◌+◌, min, max, nat_le, Bool, true, false, if◌then◌else◌, not, ◌&&◌, ◌||◌, List, [], ◌∷◌, ◌++◌, option_to_list, Option, Some, None, is_some, option_map, option_and_then, unwrap_or, Result}
+use Rattle.std.specs.Prelude.{◌≡◌, ℕ, ◌==◌, ◌+◌, min, max, nat_le, Bool, true, false, if◌then◌else◌, not, ◌&&◌, ◌||◌, List, [], ◌∷◌, ◌++◌, option_to_list, Option, Some, None, is_some, is_none, option_map, option_and_then, unwrap_or, Result}
 use Rattle.std.specs.Option.{option_map_or}
 use Rattle.std.specs.List.{list_any, list_all}
 use Rattle.std.specs.BTreeMap.{is_at}
@@ -61,6 +61,14 @@ retired_now s = if retires_now s then s.former else None
 -- the state without the old key, where that is retired
 abbrev pub after_retiring : State → State
 after_retiring s = record s { former = if retires_now s then None else s.former }
+
+-- whether a tick, at which a key server is elected or none is, changes no key, as far as that is told
+abbrev pub stays_now : Bool → State → Bool
+stays_now elected s =
+    elim s.latest [
+      | None ↦ is_none s.former
+      | Some l ↦ elected && (l.held.begun && not (counted l.since_begun == retire_time))
+    ]
 
 -- the keys that are held, dropped
 abbrev pub drops_now : State → List Change

@@ -1,11 +1,12 @@
 //! A tick is counted, and keys end by it.
 
-ghost use Rattle.std.specs.Prelude.{◌≡◌, [], List, ℕ, true, false, IfOk, OnOk, OnErr, IsOk};
+ghost use Rattle.std.specs.Prelude.{◌≡◌, ◌∷◌, [], List, ℕ, Bool, true, false, IsTrue, IfOk, OnOk, OnErr, IsOk};
 ghost use Rattle.lan_base.specs.declared.address.Mi.{Mi};
-ghost use Rattle.sak_exchange.specs.Histories.{Keying};
+ghost use Rattle.sak_exchange.specs.Histories.{Keying, ticked};
 ghost use Rattle.sak_exchange.specs.Outcomes.{dropping, retiring};
+ghost use Rattle.sak_exchange.specs.Stills.{IsStill};
 ghost use Rattle.sak_exchange.specs.Standing.{StandsFor};
-ghost use Rattle.sak_exchange.specs.inside.States.{ticked_now, retired_now, retires_now, after_retiring, drops_now};
+ghost use Rattle.sak_exchange.specs.inside.States.{ticked_now, retired_now, retires_now, after_retiring, stays_now, drops_now};
 
 use super::KeyState;
 use crate::change::{Change, Changes};
@@ -46,6 +47,35 @@ impl KeyState {
         if self.retires() {
             self.former = None;
         }
+    }
+
+    /// Whether a tick at which a key server is elected, or none is, changes no key. It may answer no
+    /// where it changes none.
+    pub fn stays(&self, elected: bool) -> bool
+        ensures { IsTrue result → (base : ℕ) (own : Mi) (h : List Keying)
+            → StandsFor base own false self.now h → IsStill elected h }
+    {
+        self.stays_now(elected)
+    }
+
+    /// Whether it tells so: nothing is held, or the latest key has begun and retires none.
+    fn stays_now(&self, elected: bool) -> bool
+        ensures { result ≡ stays_now elected self.now }
+    {
+        match &self.latest {
+            Some(latest) => elected && latest.held.begun && !latest.retires_next(),
+            None => self.former.is_none(),
+        }
+    }
+
+    /// A tick passes that changes no key: it is counted.
+    pub fn pass_still(&mut self)
+        ensures stands { (elected : Bool) (base : ℕ) (own : Mi) (h : List Keying)
+            → StandsFor base own false self.old h → IsStill elected h →
+            StandsFor base own false self.new (ticked elected ∷ h) }
+        ensures epochs { self.new.epochs ≡ self.old.epochs }
+    {
+        self.count();
     }
 
     /// After a tick at which no key server is elected: every key is dropped.

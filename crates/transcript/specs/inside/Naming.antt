@@ -1,5 +1,5 @@
 -- The names after a line, by what its words are.
-use Rattle.std.specs.Prelude.{ℕ, ◌≡◌, ◌≤◌, if◌then◌else◌, nat_lt, List, [], ◌∷◌, ◌++◌, length, codes, Option, Some, None, is_some, Result, Ok, Err, vec_capacity}
+use Rattle.std.specs.Prelude.{ℕ, ◌≡◌, ◌≤◌, ◌==◌, Bool, false, if◌then◌else◌, nat_lt, List, [], ◌∷◌, ◌++◌, length, codes, Option, Some, None, is_some, Result, Ok, Err, vec_capacity}
 use Rattle.std.specs.List.{slice_split}
 use Rattle.lan_base.specs.Name.{is_name}
 use Rattle.lan_core.specs.declared.fact.Fact.{Fact}
@@ -18,6 +18,11 @@ name_of words =
 
 abbrev pub name_in : List ℕ → Option (List ℕ)
 name_in line = name_of (slice_split is_space line)
+
+-- no other line gives a name
+abbrev pub begins_as_life : List ℕ → Bool
+begins_as_life [] = false
+begins_as_life (first ∷ rest) = first == 108
 
 -- the names with one that is not known, if there is room for it
 abbrev pub grown_by : List (List ℕ) → Option (List ℕ) → Option (List (List ℕ))

@@ -1,5 +1,5 @@
 -- The fact that words say: each word decides how those behind it are read.
-use Rattle.std.specs.Prelude.{ℕ, ◌^◌, ◌%◌, ◌==◌, ◌&&◌, ◌||◌, nat_lt, nat_le, Bool, true, false, if◌then◌else◌, List, [], ◌∷◌, length, codes, decimal, Option, Some, None}
+use Rattle.std.specs.Prelude.{ℕ, ◌^◌, ◌%◌, ◌==◌, ◌&&◌, ◌||◌, nat_lt, nat_le, not, Bool, true, false, if◌then◌else◌, List, [], ◌∷◌, length, codes, decimal, Option, Some, None}
 use Rattle.std.specs.List.{slice_split, list_all, position_or_len}
 use Rattle.std.specs.Option.{option_map}
 use Rattle.std.specs.Str.Parse.{digits_value}
@@ -358,6 +358,14 @@ fact_tree = text (codes "frame") frame_tree (text (codes "data") data_tree plain
 
 abbrev pub is_space : ℕ → Bool
 is_space octet = octet == 32
+
+abbrev pub is_letter : ℕ → Bool
+is_letter octet = not (is_space octet)
+
+-- a word ends before these octets
+abbrev pub ends_word : List ℕ → Bool
+ends_word [] = true
+ends_word (first ∷ rest) = is_space first
 
 -- the fact that a line says, if it says one: words stand between single spaces
 abbrev pub fact_in : List (List ℕ) → List ℕ → Option Fact

@@ -1,7 +1,6 @@
 use Rattle.std.proofs.Common.{rules}
 use Rattle.gcm_core.proofs.Public.{IsBlock-counter}
 use Rattle.gcm_frames.proofs.Opening.{Encrypts}
-use Rattle.gcm_frames.proofs.Within.{within}
 use Rattle.gcm_frames.proofs.Validated.{conf_plain, conf_unchanged, conf_exact, plain_plain, plain_exact}
 use Rattle.gcm_frames.proofs.validating.validate.Goals as goal
 
@@ -25,7 +24,7 @@ returns-then-tag-clause-exact c =
     } in
     conf_exact _ c.args.frame.now _ c.args.tag.now _ _ _ _ c.unseal.result w
     (record { iv_is = c.iv_of-iv.ensures; head_is = c.split_at_mut-head.ensures.front; rest_is = c.split_at_mut-head.ensures.back; check_is = c.check_of-check.ensures; conf_is = c.if-tag.true })
-    (within c.args.frame.now c.args.tag.now c.requires.tag) c.unseal.ensures.opened c.unseal.ensures.refused
+    c.requires.within c.unseal.ensures.opened c.unseal.ensures.refused
 
 pub returns-else-tag-clause-plain : goal.returns-else-tag-clause-plain
 returns-else-tag-clause-plain c = plain_plain _ c.args.frame.now c.args.tag.now c.unseal-else-tag.result c.if-tag.false

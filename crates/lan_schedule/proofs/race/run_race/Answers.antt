@@ -6,7 +6,7 @@ use Rattle.lan_schedule.proofs.race.run_race.Goals as goal
 pub returns-in-Err-clause-did : goal.returns-in-Err-clause-did
 returns-in-Err-clause-did g c =
     unhired-does c.args.bursts.now c.args.control.items _ _ _ refl c.in-Err.ensures.tally
-    (λ w lines reached. c.in-Err.ensures.unhired w lines reached)
+    (λ w lines reached seats. c.in-Err.ensures.unhired w lines reached seats)
 
 pub returns-clause-did : goal.returns-clause-did
 returns-clause-did g c =

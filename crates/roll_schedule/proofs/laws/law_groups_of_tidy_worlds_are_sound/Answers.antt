@@ -9,6 +9,10 @@ pub returns-clause-legal : goal.returns-clause-legal
 returns-clause-legal c = λ w g tidy.
     c.law_group_runs_are_sound.ensures.legal (pair_of w) w.kept.users w.run g tidy.legal
 
+pub returns-clause-thrifty : goal.returns-clause-thrifty
+returns-clause-thrifty c = λ w g tidy.
+    c.law_group_runs_are_sound.ensures.thrifty (pair_of w) w.kept.users w.run g tidy.legal
+
 pub returns-clause-unforged : goal.returns-clause-unforged
 returns-clause-unforged c = λ w g tidy.
     c.law_group_runs_are_sound.ensures.unforged (pair_of w) w.kept.users w.run g tidy.legal

@@ -15,6 +15,7 @@ returns c = λ w tidy.
           groups.legal w g tidy in
           record {
             legal = legal;
+            thrifty = groups.thrifty w g tidy;
             unforged = groups.unforged w g tidy;
             one_key = groups.one_key w g tidy;
             hitless = groups.hitless w g tidy;

@@ -57,7 +57,7 @@ returns-in_err-settle-2-clause-takes c c' = λ shows ring before waiting written
     stands.keeps.holds.groups_are c'.judge.ensures.head c'.in_ok-kind.ensures.kind c'.in_ok-kind.ensures.frame in
     let quiet = sym c'.if-distributes.ensures in
     let now = c'.in_ok-put.ensures.puts shows ring before waiting written (seen c'.args.packet) stands judged quiet in
-    let settle = c'.settle-then-len-ge-MOST_PACKETS in
+    let settle = c'.settle-then-is_full in
     rw (p.1, p.2) (both-stop shows ring before waiting (seen c'.args.packet) written c'.in_err-settle-2.field-0.0
     (c.K.Sink.held c'.args.sink.now) (c.K.Sink.held settle.new.sink) settle.new.auditor settle.new.self
     (c'.in_err-settle-2.ensures.settles shows ring before _ written now))
@@ -73,8 +73,8 @@ returns-in_ok-settle-2-clause-takes c c' = λ shows ring before waiting written 
     is-up shows ring before waiting (seen c'.args.packet) written _ _ _ _
     (c'.in_ok-settle-2.ensures.settles shows ring before _ written now)
 
-pub returns-else-len-ge-MOST_PACKETS-clause-takes : goal.returns-else-len-ge-MOST_PACKETS-clause-takes
-returns-else-len-ge-MOST_PACKETS-clause-takes c c' = λ shows ring before waiting written stands.
+pub returns-else-is_full-clause-takes : goal.returns-else-is_full-clause-takes
+returns-else-is_full-clause-takes c c' = λ shows ring before waiting written stands.
     let kind = c'.in_ok-kind.field-0.kind in
     let frame = drop c'.in_ok-kind.field-0.start c'.judge.new.packet.octets.items in
     let judged = judged-so ring c'.args.auditor.now.groups (seen c'.args.packet) c'.judge.new.packet.head kind frame

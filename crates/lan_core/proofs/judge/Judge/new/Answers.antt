@@ -7,6 +7,7 @@ use Rattle.lan_core.proofs.judge.Judge.new.Goals as goal
 
 pub invariant_of-result : goal.invariant_of-result
 invariant_of-result c = record {
+  named = c.requires;
   keys = tt;
   judged = subst (λ (octets : List ℕ). IsJudged c.args.settings octets (Err NotMka)) (sym c.new.ensures)
       (nothing-judged c.args.settings);

@@ -6,6 +6,7 @@ use Rattle.lan_core.specs.inside.Seats.{Reaches}
 use Rattle.lan_core.specs.Answers.{GoesOn}
 use Rattle.lan_core.specs.declared.settings.Settings.{Settings}
 use Rattle.lan_core.proofs.JudgedAlike.{set-up-alike}
+use Rattle.lan_core.proofs.FewCounts.{never-past}
 use Rattle.lan_core.proofs.OctetsReach.{reach-goes-on, reach-stops, or-none, delivered, place-of, no-frame, came-so, came-not}
 use Rattle.lan_core.proofs.RefusalPassedOn.{stopped}
 use Rattle.lan_core.proofs.lan.Lan.deliver.Goals as goal
@@ -77,3 +78,9 @@ returns-in_err-judge_installs-clause-answers c settings users r nth stands comes
     (delivered settings users r _ st n s octets at) place.0 there new c.in-Some-2.came reaches nth in
     stopped settings users r (events.Deliver n s) nth nth _ _ _ c.from_residual-in_err-judge_installs.ensures.1
     (or-none _ _ first ∙ c.in_err-judge_installs.ensures)
+
+pub returns-in_err-judge_counts-clause-answers : goal.returns-in_err-judge_counts-clause-answers
+returns-in_err-judge_counts-clause-answers c settings users r nth stands comes =
+    let st = subst (λ lan. StandsFor settings users lan r) (sym c.self.view_is) stands in
+    let place = place-of settings users r _ st c.args.station comes.0 in
+    absurd (never-past settings users r _ st c.args.station place.0 place.1.1 c.in_err-judge_counts.ensures.past)

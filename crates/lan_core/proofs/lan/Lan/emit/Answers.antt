@@ -6,6 +6,7 @@ use Rattle.lan_core.specs.Standing.{StandsFor}
 use Rattle.lan_core.specs.inside.Limits.{passed_with}
 use Rattle.lan_core.proofs.EmissionGoesOn.{emission-stops, emission-goes-on, next-is, none-waits, judged}
 use Rattle.lan_core.specs.declared.event.Event.TheVariants as events
+use Rattle.lan_core.proofs.LimitsPassed.{light-where}
 use Rattle.lan_core.proofs.RefusalPassedOn.{stopped}
 use Rattle.lan_core.proofs.lan.Lan.emit.Goals as goal
 
@@ -14,12 +15,12 @@ returns-clause-answers c settings users r nth stands comes =
     let now = c.self.inside in
     let frame = c.in-Some.frame in
     let rest = c.pop.new.self in
-    let number = c.in_ok-number.number in
+    let number = c.next_number-number.result in
     let st = subst (λ lan. StandsFor settings users lan r) (sym c.self.view_is) stands in
     let waits : now.waiting ≡ frame ∷ rest = c.in-Some.ensures.front in
-    let counted : number ≡ length now.air + 1 = c.in_ok-number.ensures in
+    let counted : number ≡ length now.air + 1 = c.next_number-number.ensures in
     let within : option_map Limit (passed_with (now.air ++ frame.octets ∷ []) now.ticks 0 (length now.names)) ≡ None =
-    judged c.in_ok-extent.field-0 _ None c.in_ok-extent.ensures c.in_ok-judge.ensures in
+    judged c.extent.result _ None c.extent.ensures c.in_ok-judge.ensures in
     let told : c.in_ok-facts.facts ≡ facts.Framed number frame.station true c.in_ok-octets.octets ∷ [] = c.in_ok-facts.ensures in
     let copied : c.in_ok-octets.octets ≡ frame.octets = c.in_ok-octets.ensures in
     let put : c.push.new.self ≡ now.air ++ frame.octets ∷ [] = c.in_ok-push.ensures.ok in
@@ -39,6 +40,14 @@ returns-in_err-judge-clause-answers c settings users r nth stands comes =
     let st = subst (λ lan. StandsFor settings users lan r) (sym c.self.view_is) stands in
     let next = next-is settings users r _ st frame c.pop.new.self c.in-Some.ensures.front in
     let first = emission-stops settings users r _ st nth frame c.pop.new.self next in
-    let here = judged c.in_ok-extent.field-0 _ _ c.in_ok-extent.ensures refl in
-    stopped settings users r events.Emit nth nth _ _ _ c.from_residual-in_err-judge.ensures.1
+    let here = judged c.extent.result _ _ c.extent.ensures refl in
+    stopped settings users r events.Emit nth nth _ _ _ c.from_residual.ensures.1
     (cc (first, here, c.in_err-judge.ensures))
+
+pub push-requires : goal.push-requires
+push-requires c =
+    let now = c.self.inside in
+    let frame = c.in-Some.frame in
+    let within : option_map Limit (passed_with (now.air ++ frame.octets ∷ []) now.ticks 0 (length now.names)) ≡ None =
+    judged c.extent.result _ None c.extent.ensures c.in_ok-judge.ensures in
+    light-where (now.air ++ frame.octets ∷ []) now.ticks 0 (length now.names) within

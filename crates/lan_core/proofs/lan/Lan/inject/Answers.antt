@@ -6,6 +6,7 @@ use Rattle.lan_core.proofs.JudgedAlike.{set-up-alike}
 use Rattle.lan_core.specs.Stops.{stop_of_forgery}
 use Rattle.lan_core.specs.Standing.{StandsFor}
 use Rattle.lan_core.specs.inside.Seats.{Reaches}
+use Rattle.lan_core.proofs.FewCounts.{never-past}
 use Rattle.lan_core.proofs.OctetsReach.{reach-goes-on, reach-stops, injects, place-of, came-so, came-not, or-later}
 use Rattle.lan_core.proofs.RefusalPassedOn.{refused, stopped, by-part, by-first}
 use Rattle.lan_core.proofs.lan.Lan.inject.Goals as goal
@@ -86,3 +87,9 @@ returns-in_err-judge_forgery-clause-answers c settings users r nth stands comes 
     (by-part _ _ _ (or-later _ _ _ first c.in_ok-judge_installs.ensures)
     (subst (λ q. IsWhy (stop_of_forgery q r (events.Inject s octets)) c.in_err-judge_forgery.field-0.0) (c.in_ok-came.ensures.kept ∙ st.set_up)
     (c.in_err-judge_forgery.ensures.judges r st.on_air comes.0)))
+
+pub returns-in_err-judge_counts-clause-answers : goal.returns-in_err-judge_counts-clause-answers
+returns-in_err-judge_counts-clause-answers c settings users r nth stands comes =
+    let st = subst (λ lan. StandsFor settings users lan r) (sym c.self.view_is) stands in
+    let place = place-of settings users r _ st c.args.station comes.0 in
+    absurd (never-past settings users r _ st c.args.station place.0 place.1.1 c.in_err-judge_counts.ensures.past)

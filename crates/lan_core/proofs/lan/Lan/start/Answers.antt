@@ -65,7 +65,7 @@ returns-clause-answers g c settings users r stands comes =
     subst (λ mi. stop_of now.drawn (number_of_mi now.drawn mi) ≡ None) c.mi_of-mi.ensures c.in_ok-note_mi.ensures.judges in
     let noted = subst (λ mi. MiIsNoted now.drawn c.note_mi.new.drawn mi) c.mi_of-mi.ensures c.in_ok-note_mi.ensures.noted in
     let sits = subst (λ (q : Settings). Sits q.window (record { member = born (setup_of q (profile_of c.args.name c.args.sci c.args.priority)) 0 draw; past = [] }) [] c.in_ok-seat.seat)
-    (c.settings.ensures ∙ st.set_up) c.in_ok-seat.ensures in
+    (c.settings.ensures.settings ∙ st.set_up) c.in_ok-seat.ensures in
     let placed : c.in_ok-place.place ≡ length now.names = omega (arith, c.in_ok-place.ensures.place.0, c.len.ensures) in
     let mi : c.mi_of-mi.result ≡ drawn_mi draw = c.mi_of-mi.ensures in
     let told : c.in_ok-facts.facts ≡ facts.Life (length now.names) (drawn_mi draw) ∷ [] =

@@ -8,6 +8,7 @@ use Rattle.lan_core.specs.inside.Seats.{Ticks}
 use Rattle.lan_core.specs.Answers.{GoesOn}
 use Rattle.lan_core.specs.inside.Drawing.{IfNoted}
 use Rattle.lan_core.proofs.CarriedOver.{order-length}
+use Rattle.lan_core.proofs.FewCounts.{never-past}
 use Rattle.lan_core.proofs.OctetsReach.{place-of, came-so, came-not}
 use Rattle.lan_core.proofs.RefusalPassedOn.{refused, refused-fault, by-part}
 use Rattle.lan_core.proofs.TickGoesOn.{tick-goes-on, tick-stops, tick-is-spent}
@@ -21,8 +22,8 @@ returns-clause-answers g c settings users r stands comes =
     let before = g.D.Draws.nth c.args.draws.now in
     let after = g.D.Draws.nth c.tick.new.draws in
     let st = subst (λ lan. StandsFor settings users lan r) (sym c.self.view_is) stands in
-    let numbered : c.in_ok-number.number ≡ next_frame r =
-    cc (c.in_ok-number.ensures, ap (λ fs. length fs + 1) st.on_air, ap (λ n. n + 1) (order-length (air r))) in
+    let numbered : c.next_number-number.result ≡ next_frame r =
+    cc (c.next_number-number.ensures, ap (λ fs. length fs + 1) st.on_air, ap (λ n. n + 1) (order-length (air r))) in
     let place = place-of settings users r _ st s comes.0 in
     let there = place.1.1 in
     let did = came-so (Ticks settings r s there.seat there.alive c.args.next before after now.seats new)
@@ -54,8 +55,8 @@ returns-in_default-clause-answers g c settings users r stands comes =
     let before = g.D.Draws.nth c.args.draws.now in
     let after = g.D.Draws.nth c.tick.new.draws in
     let st = subst (λ lan. StandsFor settings users lan r) (sym c.self.view_is) stands in
-    let numbered : c.in_ok-number.number ≡ next_frame r =
-    cc (c.in_ok-number.ensures, ap (λ fs. length fs + 1) st.on_air, ap (λ n. n + 1) (order-length (air r))) in
+    let numbered : c.next_number-number.result ≡ next_frame r =
+    cc (c.next_number-number.ensures, ap (λ fs. length fs + 1) st.on_air, ap (λ n. n + 1) (order-length (air r))) in
     let there = (place-of settings users r _ st s comes.0).1.1 in
     absurd (came-not (Ticks settings r s there.seat there.alive c.args.next before after now.seats c.tick.new.self)
     c.in_ok-came.field-0 c.in_default.is
@@ -69,8 +70,8 @@ returns-in_err-count_tick-clause-answers g c settings users r stands comes =
     let before = g.D.Draws.nth c.args.draws.now in
     let after = g.D.Draws.nth c.tick.new.draws in
     let st = subst (λ lan. StandsFor settings users lan r) (sym c.self.view_is) stands in
-    let numbered : c.in_ok-number.number ≡ next_frame r =
-    cc (c.in_ok-number.ensures, ap (λ fs. length fs + 1) st.on_air, ap (λ n. n + 1) (order-length (air r))) in
+    let numbered : c.next_number-number.result ≡ next_frame r =
+    cc (c.next_number-number.ensures, ap (λ fs. length fs + 1) st.on_air, ap (λ n. n + 1) (order-length (air r))) in
     let place = place-of settings users r _ st s comes.0 in
     let there = place.1.1 in
     let did = came-so (Ticks settings r s there.seat there.alive c.args.next before after now.seats new)
@@ -79,3 +80,9 @@ returns-in_err-count_tick-clause-answers g c settings users r stands comes =
     refused settings users r (events.Tick s c.args.next) before _ _ _ _ c.from_residual-in_err-count_tick.ensures.1
     (by-part _ _ _ (tick-stops settings users r _ st s c.args.next place.0 there before after new c.in-Some.came did)
     c.in_err-count_tick.ensures.judges)
+
+pub returns-in_err-judge_counts-clause-answers : goal.returns-in_err-judge_counts-clause-answers
+returns-in_err-judge_counts-clause-answers g c settings users r stands comes =
+    let st = subst (λ lan. StandsFor settings users lan r) (sym c.self.view_is) stands in
+    let place = place-of settings users r _ st c.args.station comes.0 in
+    absurd (never-past settings users r _ st c.args.station place.0 place.1.1 c.in_err-judge_counts.ensures.past)

@@ -1,4 +1,4 @@
-use Rattle.std.proofs.Common.{◌≡◌, ◌∙◌, ◌+◌, List, ap, subst, sym, arith}
+use Rattle.std.proofs.Common.{◌≡◌, ◌∙◌, ◌+◌, List, refl, ap, subst, sym, arith}
 use Rattle.rx_slots.specs.Standing.{StandsFor as SlotsStandFor}
 use Rattle.sak_exchange.specs.declared.change.Change.{Change}
 use Rattle.sak_exchange.proofs.Public.{by_test}
@@ -23,7 +23,7 @@ installs_after-self-inside-requires g c =
       ap count_installed is,
       tick-count l.member c.args.seen.now sak l.past,
       c.law_turns_count.ensures.ticked l.member c.args.seen.now sak l.past,
-      c.in-Some.ensures.1,
+      c.requires.installs,
       ap (λ (seat : Seat). seat.installs) c.self.view_is,
     )
 
@@ -36,7 +36,7 @@ invariant_of-self-2 g c =
     let is = c.as_slice-changes.ensures ∙ ap (λ (r : Reaction). r.changes) (c.in_ok-reaction.ensures.reaction l.member l.past s.station) in (
       lived l (tick_turn l.member c.args.seen.now sak l.past),
       alive-ticked l _ _ c.args.seen.now sak cs s (c.in_ok-reaction.ensures.stands l.member l.past s.station) is
-          (c.in-Some.ensures.0 ∙ ap (λ (seat : Seat). seat.ticks + 1) (sym c.self.view_is)) c.installs_after-self-inside.ensures
+          refl c.installs_after-self-inside.ensures
           (c.law_turns_count.ensures.sent l.member c.args.seen.now sak l.past),
     )
 
@@ -49,7 +49,7 @@ returns-clause-stands g c = λ window l h sits.
     let is : cs ≡ (tick_turn l.member c.args.seen.now sak l.past).reaction.changes = ap (λ (r : Reaction). r.changes) (c.in_ok-reaction.ensures.reaction l.member l.past s.station) in
     sits-with window (lived l (tick_turn l.member c.args.seen.now sak l.past)) (followed cs h) _
     (alive-ticked l _ _ c.args.seen.now sak cs (alive window l h _ s) (c.in_ok-reaction.ensures.stands l.member l.past s.station) is
-    (c.in-Some.ensures.0 ∙ ap (λ (seat : Seat). seat.ticks + 1) (sym c.self.view_is))
+    refl
     (c.installs_after-self-inside.ensures ∙ ap (λ (ds : List Change). c.self.inside.installs + count_installed ds) same)
     (c.law_turns_count.ensures.sent l.member c.args.seen.now sak l.past))
     (subst (λ (ds : List Change). SlotsStandFor l.member.setup.sci window c.follow.new.slots (followed ds h)) same (c.follow.ensures l.member.setup.sci window h s.slots))

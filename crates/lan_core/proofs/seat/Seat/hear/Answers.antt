@@ -20,7 +20,7 @@ installs_after-self-inside-requires c =
       ap count_installed is,
       heard-count l.member c.args.judgement.now l.past,
       heard-installs l.member c.args.judgement.now l.past (λ a. c.law_turns_count.ensures.heard l.member a l.past),
-      c.in-Some.ensures.1,
+      c.requires.installs,
       ap (λ (seat : Seat). seat.installs) c.self.view_is,
     )
 

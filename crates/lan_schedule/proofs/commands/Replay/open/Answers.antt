@@ -1,6 +1,6 @@
 use Rattle.std.proofs.Common.{refl}
-use Rattle.lan_schedule.proofs.Replaying.{memory-any, stands-counts}
-use Rattle.lan_schedule.proofs.Opening.{opening-does, station-is-later, station-no-race}
+use Rattle.lan_schedule.proofs.Replaying.{stands-counts}
+use Rattle.lan_schedule.proofs.Opening.{opening-does, station-is-later, station-no-race, unopened-does}
 use Rattle.lan_schedule.proofs.SeatsBack.{opened-out}
 use Rattle.lan_schedule.proofs.commands.Replay.open.Goals as goal
 
@@ -19,8 +19,8 @@ returns-clause-does g c =
 
 pub returns-in_err-stage-clause-does : goal.returns-in_err-stage-clause-does
 returns-in_err-stage-clause-does g c =
-    memory-any _ _ _ _ (λ w stands. stands-counts w _ stands) refl c.in_err-stage.ensures.memory
-    c.from_residual.ensures.1
+    unopened-does _ _ _ _ _ c.requires.unbegun c.requires.keyed (λ w stands. stands-counts w _ stands) refl
+    c.in_err-stage.ensures.memory c.from_residual.ensures.1
 
 pub returns-clause-seats : goal.returns-clause-seats
 returns-clause-seats g c =

@@ -3,7 +3,7 @@ use Rattle.lan_core.specs.declared.event.Event.TheVariants.{Start, Deliver, Rest
 use Rattle.trace_acts.proofs.Public.{bytes-all}
 use Rattle.lan_schedule.specs.Acts.{happen, change, times, seq}
 use Rattle.lan_schedule.specs.Lines.{begin, feed, tick, round, flow_round, spread, cut_in}
-use Rattle.lan_schedule.specs.Lines.{mended_in, add_user, send}
+use Rattle.lan_schedule.specs.Lines.{mended_in, send_new}
 use Rattle.lan_schedule.specs.World.{mark}
 use Rattle.lan_schedule.proofs.Doing.{change-does, handed-on, memory-does}
 use Rattle.lan_schedule.proofs.Looking.{mark-does}
@@ -95,8 +95,8 @@ returns-in-Restart g c =
 pub returns-in-Send : goal.returns-in-Send
 returns-in-Send g c =
     one-place c.args.line.now c.in-Send.name
-    (λ s. seq (add_user (record { destination = c.in-Send.destination; body = c.in-Send.body }))
-    (send s)) c.place-in-Send.result _ _ _
+    (λ s. send_new (record { destination = c.in-Send.destination; body = c.in-Send.body }) s)
+    c.place-in-Send.result _ _ _
     (λ w. rw c.in-Send.is refl) c.place-in-Send.ensures c.send_body.ensures
 
 pub returns-in-Inject : goal.returns-in-Inject

@@ -1,0 +1,3 @@
+mod Views
+mod Noting
+mod Examples

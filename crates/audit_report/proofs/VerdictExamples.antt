@@ -1,0 +1,80 @@
+-- What is told at the end behind the counts, line by line, of one key and sender, one change, one member that was
+-- not ready for a key, and one member.
+use Rattle.std.specs.Fmt.{digits}
+use Rattle.std.specs.Prelude.{codes, flat_map, replicate}
+use Rattle.hex.specs.Hex.{encode_with}
+use Rattle.std.proofs.Common.{◌≡◌, ℕ, true, List, [], ◌∷◌, ◌++◌, Some, None, refl}
+use Rattle.lan_base.specs.declared.address.Mi.{Mi}
+use Rattle.lan_base.specs.declared.address.Sci.{Sci}
+use Rattle.member_notes.specs.Facts.{times}
+use Rattle.use_notes.specs.Uses.{counts_of}
+use Rattle.use_notes.specs.declared.notes.Use.{Use}
+use Rattle.audit_report.specs.Tallies.{tally_of}
+use Rattle.audit_report.specs.Verdicts.{Verdict, is_refuted, verdict_lines}
+
+abbrev a : Sci
+a = record { 0 = 2 ∷ 0 ∷ 0 ∷ 0 ∷ 0 ∷ 10 ∷ 0 ∷ 1 ∷ [] }
+
+abbrev m1 : Mi
+m1 = record { 0 = replicate 11 0 ++ 1 ∷ [] }
+
+abbrev noted : Use
+noted = record { key = 1; sci = a; counts = counts_of [] }
+
+abbrev all : Verdict
+all = record {
+  once = Some (4, 5);
+  one_key = None;
+  uses = noted ∷ [];
+  timed = record { noted = noted; late = 2 } ∷ [];
+  changes = record {
+    sci = a;
+    from = 1;
+    to = 2;
+    last = 30;
+    first = 41;
+    gap = 500;
+    after = 3;
+    behind = 1200;
+  } ∷ [];
+  unready = record {
+    key = 2;
+    group = 1;
+    mi = m1;
+    early = 3;
+    first_early = 57;
+    joining = 1;
+    first_joining = 9;
+    reported = 61;
+  } ∷ [];
+  members = record {
+    group = 1;
+    mi = m1;
+    counts = record {
+      sci = a;
+      mkpdus = 40;
+      again = 1;
+      given = 2;
+      fell = record { count = 3; first = 9 };
+      servers = times [];
+      returned = times [];
+      high = times [];
+    };
+  } ∷ [];
+}
+
+all_in_order : verdict_lines (tally_of []) all
+    ≡ flat_map (λ (line : List ℕ). line ++ 10 ∷ []) (codes "use 1 02000000000a0001 frames 0 pn 0 0 packets 0 0 repeated 0 0 reused 0 fell 0 window 0 clear 0 late 2"
+    ∷ codes "change 02000000000a0001 1 2 last 30 first 41 gap 500 after 3 1200"
+    ∷ codes "unready 2 1 000000000000000000000001 early 3 57 joining 1 9 reported 61"
+    ∷ codes "member 1 000000000000000000000001 sci 02000000000a0001 mkpdus 40 again 1 given 2 fell 3 9 servers 0 0 returned 0 0 high 0 0"
+    ∷ codes "once broken 4 5"
+    ∷ codes "onekey ok 0 of 0"
+    ∷ codes "order fell 0 window 0 high 0"
+    ∷ codes "rollover changes 1 early 3 joining 1 late 2"
+    ∷ codes "mka members 1 scis 1 fell 3 servers 0 returned 0 high 0" ∷ [])
+unfolding digits encode_with
+all_in_order = refl
+
+refuted : is_refuted all ≡ true
+refuted = refl
