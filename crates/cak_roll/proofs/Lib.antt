@@ -19,6 +19,7 @@ pub mod SideStops
 pub mod SideGoes
 pub mod TurnStops
 pub mod TurnGoes
+mod Counted
 pub mod Restarts
 pub mod ReadyParts
 pub mod TwinGoes

@@ -1,6 +1,6 @@
 -- What an event of a group leaves among the events of both, and events one after the other.
 use Rattle.std.proofs.Common.{◌≡◌, ◌⊎◌, inl, inr, ◌+◌, ◌==◌, ◌++◌, ℕ, true, false, List, [], ◌∷◌}
-use Rattle.std.proofs.Common.{zero, suc, get_or, replicate, append_assoc, append-nil, Result, Ok, Err, IsErrAnd}
+use Rattle.std.proofs.Common.{zero, suc, cond, get_or, replicate, append_assoc, append-nil, Result, Ok, Err, IsErrAnd}
 use Rattle.std.proofs.Common.{Option, Some, None, refl, sym, ap, ◌∙◌, subst, arith}
 use Rattle.std.specs.Prelude.{is_some, option_map, option_and_then}
 use Rattle.std.specs.Option.{option_or}
@@ -22,7 +22,7 @@ use Rattle.lan_core.specs.Stops.{draws_needed, first_stop, draws_in}
 use Rattle.lan_core.specs.Stops.{sak_of_tick}
 use Rattle.lan_core.specs.Standing.{State, StandsFor, Numbers, AreDrawn}
 use Rattle.lan_core.specs.Answers.{IsWhy}
-use Rattle.lan_core.proofs.Public.{mapped, mi-noted, tick-noted}
+use Rattle.lan_core.proofs.Public.{mapped, mi-noted, mi-shown, tick-noted}
 use Rattle.next_numbers.proofs.Public.{waits-then}
 use Rattle.next_numbers.specs.Numbers.{TellNext}
 use Rattle.cak_roll.specs.declared.event.GroupNumber.{GroupNumber}
@@ -30,7 +30,7 @@ use Rattle.cak_roll.specs.declared.told.Told.{Told}
 use Rattle.cak_roll.specs.Stepping.{Supply, shown, performed, stop_after, part_stop}
 use Rattle.cak_roll.specs.Standing.{Side, StandsIn, AreTraced}
 use Rattle.cak_roll.specs.Answers.{told_of}
-use Rattle.cak_roll.specs.inside.Noting.{repeating, given_before, draws_of, IsNoted, IsOver, DrawsOne}
+use Rattle.cak_roll.specs.inside.Noting.{repeating, given_before, draws_of, over, IsNoted, DrawsOne}
 use Rattle.cak_roll.specs.inside.Parts.{IsHomely, IsReadyEvent}
 use Rattle.cak_roll.specs.inside.Sides.{unless_spent, event_stop, events_stop, EventGoes, Happens}
 use Rattle.cak_roll.specs.inside.Sides.{EventsGo, Happen}
@@ -82,15 +82,15 @@ pub event-goes : (settings : Settings) (users : List UserFrame) (r both : Run) (
     → StandsFor settings users lan (happened event facts ∷ r)
     → ((k : ℕ) → after k ≡ before (k + draws_needed settings r event))
     → TellNext settings (happened event facts ∷ r) numbers
-    → repeating old (given_before old (drawn_mi facts) (sak_of_tick facts event)) ≡ None
+    → repeating (old.count + 1) (given_before old (drawn_mi facts) (sak_of_tick facts event)) ≡ None
     → IsNoted side.suite old drawn (drawn_mi facts) (sak_of_tick facts event)
     → new ≡ followed side lan numbers old.count facts event
     → EventGoes settings users r both event before after new drawn facts
 event-goes settings users r both event before after side new old drawn facts lan numbers
     stands are none shows lives taken tells free noted is =
     let y = happened event facts in
-    let repeats = sym (repeats-is settings.suite both old y
-    (given_before old (drawn_mi facts) (sak_of_tick facts event)) are
+    let repeats = sym (repeats-is settings.suite both old y (old.count + 1)
+    (given_before old (drawn_mi facts) (sak_of_tick facts event)) are refl
     (given-is settings.suite both old y are)) ∙ free in
     record {
       goes = others-stop settings users r both event before facts none shows ∙ repeats;
@@ -120,31 +120,33 @@ pub event-repeats : (settings : Settings) (users : List UserFrame) (r both : Run
     → AreDrawn settings.suite both old
     → first_stop settings users r event before ≡ None
     → expected settings users r event (drawn_from settings.suite before) ≡ Some facts
-    → IsWhy (repeating old (given_before old (drawn_mi facts) (sak_of_tick facts event))) error
+    → IsWhy (repeating (old.count + 1) (given_before old (drawn_mi facts) (sak_of_tick facts event)))
+    error
     → IsWhy (event_stop settings users r both event before) error
 event-repeats settings users r both event before old facts errors.Memory are none shows why = tt
 event-repeats settings users r both event before old facts (errors.Stopped stop) are none shows why =
     let y = happened event facts in
-    let repeats = sym (repeats-is settings.suite both old y
-    (given_before old (drawn_mi facts) (sak_of_tick facts event)) are
+    let repeats = sym (repeats-is settings.suite both old y (old.count + 1)
+    (given_before old (drawn_mi facts) (sak_of_tick facts event)) are refl
     (given-is settings.suite both old y are)) ∙ why in
     others-stop settings users r both event before facts none shows ∙ repeats
 
 -- its group stops
 pub event-stops : (settings : Settings) (users : List UserFrame) (r both : Run) (event : Event)
-    (before : Supply) (side : Side) (old : Numbers) (was error : StepError)
+    (before : Supply) (side : Side) (old : Numbers) (next : ℕ) (was error : StepError)
     → IsHomely event → StandsIn settings users r both side → AreDrawn settings.suite both old
+    → next ≡ old.count + 1
     → IsWhy (first_stop settings users r event before) was
-    → IsOver side.draws old was error
+    → error ≡ over side.draws next was
     → IsWhy (event_stop settings users r both event before) error
-event-stops settings users r both event before side old errors.Memory error homely stands are why
-    over =
-    subst (IsWhy (event_stop settings users r both event before)) (sym over) tt
-event-stops settings users r both event before side old (errors.Stopped stop) error homely stands are
-    why over =
-    subst (λ o. IsWhy o error)
-    (group-stops settings users r both event before side.draws old homely stands.draws are stop why)
-    over
+event-stops settings users r both event before side old next errors.Memory error homely stands are
+    number why is =
+    subst (IsWhy (event_stop settings users r both event before)) (sym is) tt
+event-stops settings users r both event before side old next (errors.Stopped stop) error homely
+    stands are number why is =
+    subst (IsWhy (event_stop settings users r both event before)) (sym is)
+    (sym (group-stops settings users r both event before side.draws old next homely stands.draws are
+    number stop why))
 
 -- ---- events one after the other
 
@@ -184,6 +186,9 @@ one-stops settings users r both event before error why =
     error) (sym count) why
 
 -- ---- a claim and its emission
+
+none-more : (n : ℕ) → 0 + n ≡ n
+none-more n = omega arith
 
 module _ (g : GroupNumber) (settings : Settings) (users : List UserFrame) (r both : Run)
     (s user pn : ℕ) (before : Supply) where
@@ -261,6 +266,25 @@ module _ (g : GroupNumber) (settings : Settings) (users : List UserFrame) (r bot
       (λ xs. option_and_then (stop_after settings.suite (xs ++ r) (xs ++ both))
       (shown settings users (xs ++ r) events.Emit before))) one.shows
       ∙ why
+
+  -- a claim draws nothing
+  pub claim-counts : (between : Supply) (side : Side) (old noted : Numbers) (told later : List Told)
+      (ys : Run) → AreDrawn settings.suite both old
+      → EventsGo g settings users r both (events.Claim s user pn ∷ []) before between side noted told
+      later ys
+      → noted.count ≡ old.count
+  unfolding performed draws_in
+  claim-counts between side old noted told later ys are one =
+      let m = mapped (λ (y : Happening). y ∷ []) (shown settings users r claim before) ys one.shows in
+      let f = mapped (λ facts. happened claim facts)
+      (expected settings users r claim (drawn_from settings.suite before)) m.0 m.1 in
+      let none : drawn_mi f.0 ≡ None =
+      mi-shown settings users r claim (drawn_from settings.suite before) f.0 f.1 in
+      one.noted.count
+      ∙ ap (λ ws. draws_in settings.suite (ws ++ both)) (sym m.2)
+      ∙ ap (λ (y : Happening). draws_in settings.suite (y ∷ both)) (sym f.2)
+      ∙ ap (λ o. (cond (is_some o) 1 0 + 0) + draws_in settings.suite both) none
+      ∙ none-more (draws_in settings.suite both) ∙ sym are.count
 
   -- behind a claim that got a number, its emission may come
   pub emission-ready : (between : Supply) (side new : Side) (noted : Numbers)

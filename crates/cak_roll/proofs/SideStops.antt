@@ -1,7 +1,7 @@
 -- What stops an event of a group among the events of both, by what the group itself answers.
-use Rattle.std.proofs.Common.{◌≡◌, inl, inr, ◌+◌, ◌-◌, ℕ, Bool, true, false, List, ◌∷◌, cond}
+use Rattle.std.proofs.Common.{◌≡◌, inl, inr, ◌+◌, ℕ, Bool, true, false, List, ◌∷◌, cond}
 use Rattle.std.proofs.Common.{Option, Some, None, refl, sym, ap, ◌∙◌}
-use Rattle.std.specs.Prelude.{slice_get, option_map, option_and_then}
+use Rattle.std.specs.Prelude.{option_map, option_and_then}
 use Rattle.std.specs.Option.{option_or}
 use Rattle.lan_base.specs.declared.address.Mi.{Mi}
 use Rattle.lan_base.specs.declared.frame.UserFrame.{UserFrame}
@@ -24,7 +24,7 @@ use Rattle.lan_core.specs.Standing.{Numbers, AreDrawn, number_of_sak}
 use Rattle.lan_core.proofs.Public.{mi-shown}
 use Rattle.cak_roll.specs.Stepping.{Supply, shown, stop_after}
 use Rattle.cak_roll.specs.Standing.{AreTraced}
-use Rattle.cak_roll.specs.inside.Noting.{repeating, given_before, over_both, DrawsOne}
+use Rattle.cak_roll.specs.inside.Noting.{repeating, given_before, number_over, over_both, DrawsOne}
 use Rattle.cak_roll.specs.inside.Parts.{IsHomely}
 use Rattle.cak_roll.specs.inside.Sides.{event_stop}
 use Rattle.cak_roll.proofs.Traced.{traced-before}
@@ -66,13 +66,13 @@ given-is suite both drawn y are = go (drawn_mi y.facts) (sak_of_tick y.facts y.e
         ap (λ o. option_or o (option_and_then (number_of_sak drawn) k)) (are.mis mi)
         ∙ ap (λ o. option_or (mi_number suite both mi) o) (later k)
 
-pub repeats-is : (suite : Suite) (both : Run) (drawn : Numbers) (y : Happening) (o : Option ℕ)
-    → AreDrawn suite both drawn → o ≡ drawn_before suite both y
-    → repeating drawn o ≡ stop_of_draw suite both y
-repeats-is suite both drawn y o are is =
-    ap (repeating drawn) is
-    ∙ ap (λ n. option_map (λ first. stops.RepeatedDraw first (n + 1)) (drawn_before suite both y))
-    are.count
+pub repeats-is : (suite : Suite) (both : Run) (drawn : Numbers) (y : Happening) (next : ℕ)
+    (o : Option ℕ) → AreDrawn suite both drawn → next ≡ drawn.count + 1
+    → o ≡ drawn_before suite both y → repeating next o ≡ stop_of_draw suite both y
+repeats-is suite both drawn y next o are number is =
+    ap (repeating next) is
+    ∙ ap (λ n. repeating n (drawn_before suite both y)) number
+    ∙ ap (λ n. repeating (n + 1) (drawn_before suite both y)) are.count
 
 -- ---- stops
 
@@ -87,13 +87,14 @@ no-forgery settings r (events.Claim s user pn) homely = refl
 no-forgery settings r events.Emit homely = refl
 
 module _ (settings : Settings) (users : List UserFrame) (r both : Run) (event : Event)
-    (nth : Supply) (draws : List ℕ) (drawn : Numbers) (homely : IsHomely event)
-    (traced : AreTraced settings.suite r both draws) (are : AreDrawn settings.suite both drawn) where
+    (nth : Supply) (draws : List ℕ) (drawn : Numbers) (next : ℕ) (homely : IsHomely event)
+    (traced : AreTraced settings.suite r both draws) (are : AreDrawn settings.suite both drawn)
+    (number : next ≡ drawn.count + 1) where
   -- by what an event shows, where its draws are there
   shows-stop : (facts : List Fact) (stop : Stop)
       → expected settings users r event (drawn_from settings.suite nth) ≡ Some facts
       → stop_at settings r event facts ≡ Some stop
-      → over_both draws drawn stop ≡ stop_after settings.suite r both (happened event facts)
+      → Some (over_both draws next stop) ≡ stop_after settings.suite r both (happened event facts)
   shows-stop facts stop shows is = go (passed (y ∷ r)) refl is
     where
       y : Happening
@@ -105,22 +106,22 @@ module _ (settings : Settings) (users : List UserFrame) (r both : Run) (event : 
       drew : (o : Option ℕ) → drawn_before settings.suite r y ≡ o
           → option_or (option_map (λ first. stops.RepeatedDraw first (draws_in settings.suite r + 1)) o)
           (stop_of_forgery settings r event) ≡ Some stop
-          → over_both draws drawn stop ≡ stop_of_draw settings.suite both y
+          → Some (over_both draws next stop) ≡ stop_of_draw settings.suite both y
       drew None is halts =
           let none = no-forgery settings r event homely in absurd (cc (halts, none))
       drew (Some own) is halts =
-          ap (over_both draws drawn) (sym (some-same halts))
-          ∙ repeats-is settings.suite both drawn y (slice_get draws (own - 1)) are
+          ap (λ s. Some (over_both draws next s)) (sym (some-same halts))
+          ∙ repeats-is settings.suite both drawn y next (Some (number_over draws own)) are number
           (traced-before settings.suite y r both draws own traced
           (draws-one settings users r event nth facts shows) is)
 
       go : (o : Option Which) → passed (y ∷ r) ≡ o
           → option_or (option_map stops.Limit o)
           (option_or (stop_of_draw settings.suite r y) (stop_of_forgery settings r event)) ≡ Some stop
-          → over_both draws drawn stop
+          → Some (over_both draws next stop)
           ≡ option_or (option_map stops.Limit (passed (y ∷ r))) (stop_of_draw settings.suite both y)
       go (Some which) passes halts =
-          ap (over_both draws drawn) (sym (some-same halts))
+          ap (λ s. Some (over_both draws next s)) (sym (some-same halts))
           ∙ sym (ap (λ o. option_or (option_map stops.Limit o) (stop_of_draw settings.suite both y))
           passes)
       go None passes halts =
@@ -129,7 +130,7 @@ module _ (settings : Settings) (users : List UserFrame) (r both : Run) (event : 
           passes)
 
   pub group-stops : (stop : Stop) → first_stop settings users r event nth ≡ Some stop
-      → over_both draws drawn stop ≡ event_stop settings users r both event nth
+      → Some (over_both draws next stop) ≡ event_stop settings users r both event nth
   unfolding first_stop
   group-stops stop is = go (is_spent (draws_needed settings r event) nth) is
     where
@@ -139,7 +140,7 @@ module _ (settings : Settings) (users : List UserFrame) (r both : Run) (event : 
       within : (o : Option (List Fact))
           → expected settings users r event (drawn_from settings.suite nth) ≡ o
           → option_and_then (stop_at settings r event) o ≡ Some stop
-          → over_both draws drawn stop
+          → Some (over_both draws next stop)
           ≡ option_and_then (stop_after settings.suite r both)
           (option_map (λ facts. happened event facts) o)
       within None shows halts = absurd (cc halts)
@@ -148,9 +149,9 @@ module _ (settings : Settings) (users : List UserFrame) (r both : Run) (event : 
       go : (b : Bool) → cond b (Some stops.DrawsSpent)
           (option_and_then (stop_at settings r event)
           (expected settings users r event (drawn_from settings.suite nth))) ≡ Some stop
-          → over_both draws drawn stop ≡ cond b (Some stops.DrawsSpent)
+          → Some (over_both draws next stop) ≡ cond b (Some stops.DrawsSpent)
           (option_and_then (stop_after settings.suite r both) (shown settings users r event nth))
-      go true halts = ap (over_both draws drawn) (sym (some-same halts))
+      go true halts = ap (λ s. Some (over_both draws next s)) (sym (some-same halts))
       go false halts =
           within (expected settings users r event (drawn_from settings.suite nth)) refl halts
 

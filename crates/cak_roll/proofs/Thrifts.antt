@@ -1,6 +1,6 @@
 -- Each claim of a twin run takes the next number: a group's run is thrifty.
 use Rattle.std.proofs.Common.{◌≡◌, ◌⊎◌, ◌==◌, ℕ, Bool, true, false, List, [], ◌∷◌, ◌++◌}
-use Rattle.std.proofs.Common.{length, Option, Some, None, refl, sym, subst, inl, inr}
+use Rattle.std.proofs.Common.{Option, Some, None, refl, sym, subst, inl, inr}
 use Rattle.std.specs.Prelude.{cond, nat_lt, option_map, option_to_list, slice_get}
 use Rattle.lan_base.specs.declared.frame.UserFrame.{UserFrame}
 use Rattle.lan_core.specs.declared.event.Event.{Event}

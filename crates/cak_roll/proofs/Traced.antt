@@ -2,7 +2,7 @@
 use Rattle.std.proofs.Common.{◌≡◌, ◌⊎◌, inl, inr, ◌+◌, ◌-◌, ◌≤◌, ◌++◌, ℕ, zero, suc, Bool, true, false, List, []}
 use Rattle.std.proofs.Common.{◌∷◌, cond, length, replicate, length-append}
 use Rattle.std.proofs.Common.{Option, Some, None, refl, sym, ap, ◌∙◌, arith}
-use Rattle.std.specs.Prelude.{slice_get, is_some, option_map, option_and_then}
+use Rattle.std.specs.Prelude.{slice_get, is_some, option_map, option_and_then, unwrap_or}
 use Rattle.std.specs.Option.{option_or}
 use Rattle.std.proofs.lemmas.List.{length-replicate}
 use Rattle.std.proofs.lemmas.Slice.Eq.{bytes_eq-Decides}
@@ -19,6 +19,7 @@ use Rattle.lan_core.specs.Lives.{drawn_mi}
 use Rattle.lan_core.specs.Stops.{draws_in, draws_by, mi_number, sak_number, sak_of_tick, is_drawn}
 use Rattle.lan_core.specs.Stops.{same_secret, drawn_before, stop_of_draw}
 use Rattle.cak_roll.specs.Standing.{AreTraced}
+use Rattle.cak_roll.specs.inside.Noting.{number_over}
 use Rattle.cak_roll.proofs.Adopted.{get-more}
 
 -- ---- values that are the same
@@ -174,7 +175,7 @@ pub traced-before : (suite : Suite) (y : Happening) (r whole : Run) (draws : Lis
     → AreTraced suite r whole draws
     → (drawn_mi y.facts ≡ None) ⊎ (sak_of_tick y.facts y.event ≡ None)
     → drawn_before suite r y ≡ Some own
-    → slice_get draws (own - 1) ≡ drawn_before suite whole y
+    → Some (number_over draws own) ≡ drawn_before suite whole y
 traced-before suite y r whole draws own traced one is =
     go (drawn_mi y.facts) (sak_of_tick y.facts y.event) one is
   where
@@ -185,12 +186,13 @@ traced-before suite y r whole draws own traced one is =
     go : (m : Option Mi) (k : Option Secret) → (m ≡ None) ⊎ (k ≡ None)
         → option_or (option_and_then (mi_number suite r) m)
         (option_and_then (sak_number suite r) k) ≡ Some own
-        → slice_get draws (own - 1) ≡ option_or (option_and_then (mi_number suite whole) m)
+        → Some (number_over draws own) ≡ option_or (option_and_then (mi_number suite whole) m)
         (option_and_then (sak_number suite whole) k)
     go None None one is = absurd (cc is)
-    go None (Some sak) one is = let t = traced.saks sak own is in t.1 ∙ sym t.2
+    go None (Some sak) one is =
+        let t = traced.saks sak own is in ap (λ o. Some (unwrap_or o 0)) t.1 ∙ sym t.2
     go (Some mi) None one is =
         let t = traced.mis mi own (sym (or-none (mi_number suite r mi)) ∙ is) in
-        t.1 ∙ sym (ap (λ o. option_or o None) t.2)
+        ap (λ o. Some (unwrap_or o 0)) t.1 ∙ sym (ap (λ o. option_or o None) t.2)
     go (Some mi) (Some sak) (inl none) is = absurd (cc none)
     go (Some mi) (Some sak) (inr none) is = absurd (cc none)

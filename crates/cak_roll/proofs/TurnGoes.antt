@@ -1,5 +1,5 @@
 -- What both groups stand for once the part in the first and then that in the second were performed.
-use Rattle.std.proofs.Common.{◌≡◌, ◌+◌, ◌++◌, ℕ, Bool, true, false, List, [], cond, append-nil, Result, Ok, Err, OnOk, IfErr}
+use Rattle.std.proofs.Common.{◌≡◌, ◌+◌, ◌++◌, ℕ, Bool, true, false, List, [], cond, append-nil, Result, Ok, Err}
 use Rattle.std.proofs.Common.{Option, Some, None, refl, sym, ap, ◌∙◌, subst, arith}
 use Rattle.std.specs.Prelude.{option_map, option_and_then}
 use Rattle.std.specs.Option.{option_or}
@@ -81,12 +81,11 @@ there-some settings users r both es before after side drawn told more (Ok done) 
 there-some settings users r both es before after side drawn told more (Err error) why = why
 
 pub there-none : (settings : Settings) (users : List UserFrame) (r both : Run) (es : List Event)
-    (before : Supply) (drawn : Numbers) (told : List Told) (result : Result (Unit {0}) StepError)
-    → r ≡ [] → AreDrawn settings.suite both drawn → OnOk result (es ≡ [])
-    → IfErr result (λ error. error ≡ errors.Memory)
-    → HappenThere settings users r both es before before None drawn told told result
+    (before : Supply) (drawn : Numbers) (told : List Told)
+    → r ≡ [] → AreDrawn settings.suite both drawn → es ≡ []
+    → HappenThere settings users r both es before before None drawn told told (Ok tt)
 unfolding performed part_stop
-there-none settings users r both es before drawn told (Ok done) empty are none memory = (
+there-none settings users r both es before drawn told empty are none = (
   [],
   subst (λ es. ThereGo settings users r both es before before None drawn told told []) (sym none)
       (record {
@@ -98,8 +97,6 @@ there-none settings users r both es before drawn told (Ok done) empty are none m
         taken = λ k. let same : k ≡ k + 0 = omega arith in ap before same;
       }),
 )
-there-none settings users r both es before drawn told (Err error) empty are none memory =
-    subst (IsWhy (events_stop settings users r both es before)) (sym memory) tt
 
 -- ---- both
 

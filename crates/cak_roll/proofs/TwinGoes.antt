@@ -1,31 +1,47 @@
 -- What a twin stands for after an event that nothing stops.
-use Rattle.std.proofs.Common.{◌≡◌, List, ◌∷◌, ◌++◌, Option, Some, Result, Ok, Err}
+use Rattle.std.proofs.Common.{◌≡◌, true, false, List, [], ◌∷◌, ◌++◌, Option, Some, None, Result, Ok, Err}
 use Rattle.std.proofs.Common.{IsErrAnd, sym, ap, ◌∙◌, subst}
 use Rattle.std.specs.Prelude.{option_map}
+use Rattle.std.specs.Option.{is_none}
 use Rattle.lan_base.specs.declared.frame.UserFrame.{UserFrame}
 use Rattle.lan_core.specs.declared.stop.StepError.{StepError}
 use Rattle.lan_core.specs.Answers.{IsWhy}
 use Rattle.lan_core.proofs.Public.{mapped, chained}
 use Rattle.cak_roll.specs.declared.event.GroupNumber.TheVariants.{First, Second}
 use Rattle.cak_roll.specs.declared.event.TwinEvent.{TwinEvent}
+use Rattle.cak_roll.specs.declared.fault.TwinError.{TwinError}
+use Rattle.cak_roll.specs.declared.fault.TwinError.TheVariants.{Failed}
 use Rattle.cak_roll.specs.declared.told.Told.{Told}
-use Rattle.cak_roll.specs.Twin.{Pair, Twin, TwinHappening, run_of, merged, IsTwinStep}
+use Rattle.cak_roll.specs.Twin.{Pair, Twin, TwinHappening, run_of, merged, events_in, IsTwinStep}
+use Rattle.cak_roll.specs.Twin.{MayComeTwin}
 use Rattle.cak_roll.specs.Stepping.{Supply, first_part, second_part, in_groups, happening, twin_stop}
 use Rattle.cak_roll.specs.Unstopped.{IsTypedTwin, IsUnstoppedTwin}
-use Rattle.cak_roll.specs.Standing.{AreMembers, Held, StandBoth, StandsFor}
-use Rattle.cak_roll.specs.Answers.{MayHappen, GoesOnWith, AnswersTwin}
+use Rattle.cak_roll.specs.Standing.{AreMembers, Held, IfThere, StandBoth, StandsFor}
+use Rattle.cak_roll.specs.Answers.{is_early, MayHappen, GoesOnWith, IsWhyTwin, AnswersTwin}
 use Rattle.cak_roll.specs.inside.Turns.{TurnGoes}
+use Rattle.cak_roll.proofs.Lone.{lone-stays}
 use Rattle.cak_roll.proofs.UnstoppedTwins.{twin-step, twin-fresh}
 
 -- an error is passed on
 pub answer-refused : (pair : Pair) (users : List UserFrame) (t : Twin) (event : TwinEvent)
-    (before after : Supply) (held : Held) (result : Result (List Told) StepError)
-    (error : StepError) → IsErrAnd result (λ given. given ≡ error)
+    (before after : Supply) (held : Held) (result : Result (List Told) TwinError)
+    (error : StepError) → IsErrAnd result (λ given. given ≡ Failed error)
     → IsWhy (twin_stop pair users t event before) error
     → AnswersTwin pair users t event before after held result
 answer-refused pair users t event before after held (Ok told) error is why = absurd is
 answer-refused pair users t event before after held (Err given) error is why =
-    subst (IsWhy (twin_stop pair users t event before)) (sym is) why
+    subst (IsWhyTwin (twin_stop pair users t event before)) (sym is) why
+
+-- where there is no second group, nothing happens in it
+pub lone-part : (pair : Pair) (users : List UserFrame) (t : Twin) (held : Held) (event : TwinEvent)
+    → StandsFor pair users held t → MayComeTwin users t event → is_early held event ≡ false
+    → held.second ≡ None → events_in pair Second t event ≡ []
+lone-part pair users t held event stands may there none =
+    lone-stays pair users t event may
+    (subst (IfThere pair.second users (run_of Second t) (merged t)) none stands.groups.second)
+    (λ station is.
+    let bad : true ≡ false =
+    sym (ap (λ o. is_none o) none) ∙ subst (λ e. is_early held e ≡ false) is there in cc bad)
 
 -- an event shows one happening
 pub one-happening : (pair : Pair) (users : List UserFrame) (t : Twin) (event : TwinEvent)

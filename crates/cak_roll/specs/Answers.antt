@@ -2,12 +2,14 @@
 -- for.
 use Rattle.std.specs.Prelude.{◌≡◌, ℕ, ◌+◌, ◌==◌, ◌||◌, if◌then◌else◌, nat_eq, nat_lt, List, []}
 use Rattle.std.specs.Prelude.{◌∷◌, ◌++◌, length, Option, Some, None, is_some, Result, Ok, Err}
+use Rattle.std.specs.Prelude.{Bool, false}
+use Rattle.std.specs.Option.{is_none}
 use lib.Pointwise.{pointwise}
 use Rattle.lan_base.specs.declared.frame.UserFrame.{UserFrame}
 use Rattle.lan_base.specs.Ranges.{most_ckn_octets}
 use Rattle.aes_block.specs.declared.secret.Secret.{Secret}
 use Rattle.lan_core.specs.declared.settings.Settings.{Settings}
-use Rattle.lan_core.specs.declared.stop.StepError.{StepError}
+use Rattle.lan_core.specs.declared.stop.Stop.{Stop}
 use Rattle.lan_core.specs.Run.{Run}
 use Rattle.lan_core.specs.Claims.{user_at}
 use Rattle.lan_core.specs.Unstopped.{AreDraws}
@@ -18,6 +20,8 @@ use Rattle.cak_roll.specs.declared.event.TwinEvent.{TwinEvent}
 use Rattle.cak_roll.specs.declared.event.TwinEvent.TheVariants as twins
 use Rattle.cak_roll.specs.declared.fault.SecondFault.{SecondFault}
 use Rattle.cak_roll.specs.declared.fault.SecondFault.TheVariants.{CknLength, SameCkn, Twice}
+use Rattle.cak_roll.specs.declared.fault.TwinError.{TwinError}
+use Rattle.cak_roll.specs.declared.fault.TwinError.TheVariants.{Failed, NoSecond}
 use Rattle.cak_roll.specs.declared.told.Told.{Told}
 use Rattle.cak_roll.specs.Twin.{Pair, Twin, TwinHappening, MayComeTwin}
 use Rattle.cak_roll.specs.Stepping.{Supply, happening, twin_stop, twin_draws}
@@ -63,6 +67,16 @@ pub record MayHappen (users : List UserFrame) (t : Twin) (given : Option UserFra
   pub gives : IsGiven users given event
   pub draws : AreDraws nth
 
+-- a station adopts a second group that isn't there
+abbrev pub is_early : Held → TwinEvent → Bool
+is_early held (twins.Adopt station) = is_none held.second
+is_early held _ = false
+
+-- why a step fails, unless there is no second group: it is the first stop, unless memory ran out
+abbrev pub IsWhyTwin : Option Stop → TwinError → Type 0
+IsWhyTwin first (Failed error) = IsWhy first error
+IsWhyTwin first NoSecond = Unit {0}
+
 -- a step goes on with this happening, and leaves this twin and this supply
 pub record GoesOnWith (pair : Pair) (users : List UserFrame) (t : Twin) (event : TwinEvent)
     (before after : Supply) (held : Held) (told : List Told) (x : TwinHappening) : Type 0 where
@@ -72,10 +86,10 @@ pub record GoesOnWith (pair : Pair) (users : List UserFrame) (t : Twin) (event :
   pub stands : StandsFor pair users held (x ∷ t)
   pub drawn : (k : ℕ) → after k ≡ before (k + twin_draws pair t event)
 
--- a step goes on, or fails at the first stop, or for want of memory
+-- a step goes on, or fails at the first stop, or for want of memory, or there is no second group
 abbrev pub AnswersTwin : Pair → List UserFrame → Twin → TwinEvent → Supply → Supply → Held
-    → Result (List Told) StepError → Type 0
+    → Result (List Told) TwinError → Type 0
 AnswersTwin pair users t event before after held (Ok told) =
     (x : TwinHappening) × GoesOnWith pair users t event before after held told x
 AnswersTwin pair users t event before after held (Err error) =
-    IsWhy (twin_stop pair users t event before) error
+    IsWhyTwin (twin_stop pair users t event before) error

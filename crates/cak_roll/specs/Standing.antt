@@ -8,13 +8,13 @@ use Rattle.lan_base.specs.declared.frame.UserFrame.{UserFrame}
 use Rattle.lan_base.specs.declared.suite.Suite.{Suite}
 use Rattle.aes_block.specs.declared.secret.Secret.{Secret}
 use Rattle.lan_core.specs.declared.settings.Settings.{Settings}
-use Rattle.lan_core.specs.declared.stop.StepError.{StepError}
 use Rattle.lan_core.specs.Run.{Run, Profile, stations}
 use Rattle.lan_core.specs.Types.{IsSetting}
 use Rattle.lan_core.specs.Fresh.{IsFresh}
 use Rattle.lan_core.specs.Stops.{draws_in, mi_number, sak_number}
 use Rattle.lan_core.specs.Standing.{State, StandsFor as GroupStandsFor, Numbers, AreDrawn}
 use Rattle.next_numbers.specs.Numbers.{TellNext}
+use Rattle.cak_roll.specs.declared.fault.TwinError.{TwinError}
 use Rattle.cak_roll.specs.declared.event.GroupNumber.{GroupNumber}
 use Rattle.cak_roll.specs.declared.event.GroupNumber.TheVariants.{First, Second}
 use Rattle.cak_roll.specs.declared.members.Station.{Station}
@@ -79,7 +79,7 @@ pub record AreMembers (t : Twin) (members : Members) : Type 0 where
 -- what contracts see of a twin; why it was stopped, if it was
 pub record Held : Type 0 where
   pub settings : Settings
-  pub stopped : Option StepError
+  pub stopped : Option TwinError
   pub first : Side
   pub second : Option Side
   pub members : Members

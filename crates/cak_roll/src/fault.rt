@@ -1,8 +1,10 @@
-//! Why there is no second group.
+//! Why there is no second group, and why a twin goes no further.
 
 ghost use Rattle.std.specs.Prelude.{◌≡◌};
-ghost use Rattle.cak_roll.specs.declared.fault.SecondError.TheVariants.{Memory};
+ghost use Rattle.lan_core.specs.declared.stop.StepError.TheVariants.{Memory};
+ghost use Rattle.cak_roll.specs.declared.fault.TwinError.TheVariants.{Failed};
 
+use lan_core::StepError;
 use std::alloc::AllocError;
 use thiserror::Error;
 
@@ -20,21 +22,29 @@ pub enum SecondFault {
     Twice,
 }
 
-/// Why there is no second group.
+/// Why a twin goes no further.
 #[derive(Clone, Copy, Debug, PartialEq, Eq, Error)]
-pub enum SecondError {
-    /// It is refused.
+pub enum TwinError {
+    /// A station adopts a second group that isn't there.
+    #[error("there is no second group")]
+    NoSecond,
+    /// A group meets a stop, or memory ran out.
     #[error("{0}")]
-    Refused(SecondFault),
-    /// Memory ran out, which says nothing of the group.
-    #[error("out of memory")]
-    Memory,
+    Failed(StepError),
 }
 
-impl From<AllocError> for SecondError {
-    ghost from_gives = { λ _ error. error ≡ Memory };
+impl From<StepError> for TwinError {
+    ghost from_gives = { λ error given. given ≡ Failed error };
+
+    fn from(error: StepError) -> Self {
+        TwinError::Failed(error)
+    }
+}
+
+impl From<AllocError> for TwinError {
+    ghost from_gives = { λ _ given. given ≡ Failed Memory };
 
     fn from(_: AllocError) -> Self {
-        SecondError::Memory
+        TwinError::Failed(StepError::Memory)
     }
 }

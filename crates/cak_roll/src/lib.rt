@@ -13,7 +13,7 @@ mod told;
 mod twin;
 
 pub use event::{GroupNumber, TwinEvent};
-pub use fault::{SecondError, SecondFault};
+pub use fault::{SecondFault, TwinError};
 pub use laws::{
     law_a_send_is_refused_only_in_silence, law_an_unstopped_twin_event_is_a_step,
     law_each_packet_number_is_used_once_over_both, law_group_runs_are_sound,

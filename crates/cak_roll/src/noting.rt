@@ -1,16 +1,13 @@
 //! What an event of a group drew, judged and noted among the draws of both groups.
 
-ghost use Rattle.std.specs.Prelude.{◌≡◌, ◌+◌, Some, OnOk};
-ghost use Rattle.lan_core.specs.declared.stop.Stop.TheVariants.{RepeatedDraw};
+ghost use Rattle.std.specs.Prelude.{◌≡◌, OnOk};
 ghost use Rattle.lan_core.specs.Lives.{drawn_mi, drawn_sak};
 ghost use Rattle.lan_core.specs.Stops.{sak_of_tick};
-ghost use Rattle.lan_core.specs.Answers.{IsWhy};
 ghost use Rattle.cak_roll.specs.inside.Noting.{repeating, given_before, draws_of, IsNoted};
-ghost use Rattle.cak_roll.specs.inside.Sides.{MayStop};
 
 use aes_block::Secret;
 use lan_base::{Mi, Suite};
-use lan_core::{Drawn, Event, Fact, StepError, Stop};
+use lan_core::{Drawn, Event, Fact, Stop};
 use std::alloc::AllocError;
 
 /// The member identifier that facts begin a life with.
@@ -56,17 +53,23 @@ pub fn draws_of(suite: Suite, mi: Option<Mi>, sak: Option<Secret>) -> u64
     begun + made
 }
 
-/// A value that was drawn before stops both groups.
-pub fn judge(drawn: &Drawn, mi: Option<Mi>, sak: Option<Secret>) -> Result<(), StepError>
-    ensures { MayStop (repeating drawn.now (given_before drawn.now mi sak)) result }
+/// The stop of the next draw of both, which has this number, where it gave what another gave before.
+pub fn repeating(drawn: &Drawn, next: u64, mi: Option<Mi>, sak: Option<Secret>) -> Option<Stop>
+    ensures { result ≡ repeating next (given_before drawn.now mi sak) }
 {
-    if let Some(first) = mi.and_then(|mi| drawn.number_of_mi(&mi)) {
-        return Err(repeated(first, drawn.count()));
-    }
-    if let Some(first) = sak.and_then(|sak| drawn.number_of_sak(&sak)) {
-        return Err(repeated(first, drawn.count()));
-    }
-    Ok(())
+    let first = given_before(drawn, mi, sak)?;
+    Some(Stop::RepeatedDraw {
+        first,
+        second: next,
+    })
+}
+
+/// The number of the draw that gave a value before.
+fn given_before(drawn: &Drawn, mi: Option<Mi>, sak: Option<Secret>) -> Option<u64>
+    ensures { result ≡ given_before drawn.now mi sak }
+{
+    let by_mi = mi.and_then(|mi| drawn.number_of_mi(&mi));
+    by_mi.or(sak.and_then(|sak| drawn.number_of_sak(&sak)))
 }
 
 /// A value that was drawn is noted, if there is one.
@@ -82,15 +85,5 @@ pub fn note(
         (Some(mi), _) => drawn.note_mi(mi),
         (None, Some(sak)) => drawn.note_sak(&sak, suite.sak_draws()),
         (None, None) => Ok(()),
-    }
-}
-
-/// The draw after so many repeats this one.
-pub fn repeated(first: u64, count: u64) -> StepError
-    ensures { IsWhy (Some (RepeatedDraw first (count + 1))) result }
-{
-    match count.checked_add(1) {
-        Some(second) => StepError::Stopped(Stop::RepeatedDraw { first, second }),
-        None => StepError::Memory,
     }
 }

@@ -1,6 +1,6 @@
 //! One of two groups: its stations and their packet numbers, and its draws among those of both.
 
-ghost use Rattle.std.specs.Prelude.{◌≡◌, ◌↔◌, ◌+◌, ◌-◌, ◌++◌, ◌∷◌, ℕ, List, [], slice_get, replicate, is_some, Err, IfOk, OnOk};
+ghost use Rattle.std.specs.Prelude.{◌≡◌, ◌↔◌, ◌<◌, ◌+◌, ◌^◌, ◌++◌, ◌∷◌, ℕ, List, [], length, replicate, is_some, Err, IfOk, OnOk};
 ghost use Rattle.std.specs.Option.{option_copied};
 ghost use Rattle.lan_base.specs.declared.frame.UserFrame.{UserFrame};
 ghost use Rattle.mka_kdf.specs.declared.group.GroupFault.{GroupFault};
@@ -12,12 +12,12 @@ ghost use Rattle.lan_core.specs.Stops.{sak_of_tick};
 ghost use Rattle.lan_core.specs.Standing.{AreDrawn};
 ghost use Rattle.next_numbers.specs.Numbers.{TellNext, ShowsNext, shown_next};
 ghost use Rattle.cak_roll.specs.Standing.{StandsIn};
-ghost use Rattle.cak_roll.specs.inside.Noting.{repeating, given_before, draws_of, IsNoted, IsOver};
+ghost use Rattle.cak_roll.specs.inside.Noting.{repeating, given_before, draws_of, number_over, over, IsNoted};
 ghost use Rattle.cak_roll.specs.inside.Parts.{events_of_part, IsReadyEvent, IsReadyPart};
 ghost use Rattle.cak_roll.specs.inside.Sides.{Happens, Happen, MayStop};
 
 use crate::event::GroupNumber;
-use crate::noting::{draws_of, judge, mi_in, note, repeated, sak_in};
+use crate::noting::{draws_of, mi_in, note, repeating, sak_in};
 use crate::part::Part;
 use crate::told::TwinFacts;
 use lan_base::{Draws, Suite, UserFrame};
@@ -86,7 +86,16 @@ impl Side {
         self.lan.transmitting(place).is_some()
     }
 
-    /// A part of an event happens in the group, and what it shows is told.
+    /// How many draws the group made.
+    pub fn made(&self) -> u64
+        ensures made { result ≡ length self.now.draws }
+        ensures small { result < 2 ^ 63 }
+    {
+        self.draws.len() as u64
+    }
+
+    /// A part of an event happens in the group, and what it shows is told. The next draw of both has this
+    /// number.
     pub fn run<D: Draws>(
         &mut self,
         group: GroupNumber,
@@ -94,17 +103,19 @@ impl Side {
         user: Option<&UserFrame>,
         draws: &mut D,
         drawn: &mut Drawn,
+        next: u64,
         told: &mut TwinFacts,
     ) -> Result<(), StepError>
         ensures { (settings : Settings) (users : List UserFrame) (r both : Run)
             → StandsIn settings users r both self.old → AreDrawn settings.suite both drawn.old
+            → next ≡ drawn.old.count + 1
             → IsReadyPart settings users r (option_copied user.entry) part.now
             → Happen group settings users r both (events_of_part part.now) (D.nth draws.old)
             (D.nth draws.new) self.new drawn.new told.old told.new result }
     {
         match part {
             Part::Nothing => Ok(()),
-            Part::One(event) => self.tell(group, event, user, draws, drawn, told),
+            Part::One(event) => self.tell(group, event, user, draws, drawn, next, told),
             Part::Sent {
                 station,
                 user: number,
@@ -115,8 +126,8 @@ impl Side {
                     user: *number,
                     pn: *pn,
                 };
-                self.tell(group, &claim, user, draws, drawn, told)?;
-                self.tell(group, &Event::Emit, None, draws, drawn, told)
+                self.tell(group, &claim, user, draws, drawn, next, told)?;
+                self.tell(group, &Event::Emit, None, draws, drawn, next, told)
             }
         }
     }
@@ -129,15 +140,17 @@ impl Side {
         user: Option<&UserFrame>,
         draws: &mut D,
         drawn: &mut Drawn,
+        next: u64,
         told: &mut TwinFacts,
     ) -> Result<(), StepError>
         ensures { (settings : Settings) (users : List UserFrame) (r both : Run)
             → StandsIn settings users r both self.old → AreDrawn settings.suite both drawn.old
+            → next ≡ drawn.old.count + 1
             → IsReadyEvent settings users r (option_copied user.entry) event.now
             → Happen group settings users r both (event.now ∷ []) (D.nth draws.old)
             (D.nth draws.new) self.new drawn.new told.old told.new result }
     {
-        let facts = self.happen(event, user, draws, drawn)?;
+        let facts = self.happen(event, user, draws, drawn, next)?;
         told.push(group, facts)?;
         Ok(())
     }
@@ -149,54 +162,62 @@ impl Side {
         user: Option<&UserFrame>,
         draws: &mut D,
         drawn: &mut Drawn,
+        next: u64,
     ) -> Result<Facts, StepError>
         ensures { (settings : Settings) (users : List UserFrame) (r both : Run)
             → StandsIn settings users r both self.old → AreDrawn settings.suite both drawn.old
+            → next ≡ drawn.old.count + 1
             → IsReadyEvent settings users r (option_copied user.entry) event.now
             → Happens settings users r both event.now (D.nth draws.old) (D.nth draws.new)
             self.new drawn.new result }
     {
         match self.lan.step(event, user, draws) {
             Ok(facts) => {
-                self.follow(event, facts.as_slice(), drawn)?;
+                self.follow(event, facts.as_slice(), drawn, next)?;
                 Ok(facts)
             }
-            Err(error) => Err(self.over_both(error, drawn)),
+            Err(error) => Err(self.over_both(error, next)),
         }
     }
 
     /// Why both groups go no further, where this one answered an error.
-    fn over_both(&self, error: StepError, drawn: &Drawn) -> StepError
-        ensures { IsOver self.now.draws drawn.now error result }
+    fn over_both(&self, error: StepError, next: u64) -> StepError
+        ensures { result ≡ over self.now.draws next error }
     {
         let StepError::Stopped(Stop::RepeatedDraw { first, .. }) = error else {
             return error;
         };
-        match self.number_of(first) {
-            Some(first) => repeated(first, drawn.count()),
-            None => StepError::Memory,
-        }
+        StepError::Stopped(Stop::RepeatedDraw {
+            first: self.number_of(first),
+            second: next,
+        })
     }
 
-    /// The number over both of a draw of the group.
-    fn number_of(&self, own: u64) -> Option<u64>
-        ensures { result ≡ slice_get self.now.draws (own - 1) }
+    /// The number over both of a draw of the group, 0 where there was none.
+    fn number_of(&self, own: u64) -> u64
+        ensures { result ≡ number_over self.now.draws own }
     {
         let place = own.saturating_sub(1) as usize;
-        self.draws.get(place).copied()
+        self.draws.get(place).copied().unwrap_or(0)
     }
 
     /// What an event drew is judged by the draws of both groups, and noted; packet numbers follow
     /// the event.
-    fn follow(&mut self, event: &Event, facts: &[Fact], drawn: &mut Drawn) -> Result<(), StepError>
-        ensures judged { MayStop (repeating drawn.old (given_before drawn.old
+    fn follow(
+        &mut self,
+        event: &Event,
+        facts: &[Fact],
+        drawn: &mut Drawn,
+        next: u64,
+    ) -> Result<(), StepError>
+        ensures judged { MayStop (repeating next (given_before drawn.old
             (drawn_mi facts.now) (sak_of_tick facts.now event.now))) result }
         ensures noted { OnOk result (IsNoted self.old.suite drawn.old drawn.new
             (drawn_mi facts.now) (sak_of_tick facts.now event.now)) }
         ensures counted { OnOk result (self.new ≡ record self.old {
           numbers = self.new.numbers;
           draws = self.old.draws ++ replicate (draws_of self.old.suite (drawn_mi facts.now)
-              (sak_of_tick facts.now event.now)) (drawn.old.count + 1);
+              (sak_of_tick facts.now event.now)) next;
         }) }
         ensures numbers { (settings : Settings) (r : Run) → TellNext settings r self.old.numbers
             → ShowsNext settings r event.now
@@ -204,25 +225,22 @@ impl Side {
     {
         let mi = mi_in(facts);
         let sak = sak_in(event, facts);
-        judge(drawn, mi, sak)?;
-        count_on(
-            &mut self.draws,
-            draws_of(self.suite, mi, sak),
-            drawn.count(),
-        )?;
+        if let Some(stop) = repeating(drawn, next, mi, sak) {
+            return Err(StepError::Stopped(stop));
+        }
+        count_on(&mut self.draws, draws_of(self.suite, mi, sak), next)?;
         note(drawn, self.suite, mi, sak)?;
         self.numbers.follow(self.alloc, event, facts)?;
         Ok(())
     }
 }
 
-/// So many draws more of both, which begin behind so many.
-fn count_on(draws: &mut Vec<u64>, more: u64, count: u64) -> Result<(), AllocError>
-    ensures { OnOk result (draws.new.items ≡ draws.old.items ++ replicate more (count + 1)) }
+/// So many draws more of both, from one of this number on.
+fn count_on(draws: &mut Vec<u64>, more: u64, next: u64) -> Result<(), AllocError>
+    ensures { OnOk result (draws.new.items ≡ draws.old.items ++ replicate more next) }
 {
-    let first = count.checked_add(1).ok_or(AllocError)?;
     for _ in 0..more {
-        draws.push(first)?;
+        draws.push(next)?;
     }
     Ok(())
 }

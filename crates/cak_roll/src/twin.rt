@@ -3,28 +3,27 @@
 mod acting;
 mod turning;
 
-ghost use Rattle.std.specs.Prelude.{◌≡◌, ◌↔◌, ◌+◌, ◌++◌, ◌∷◌, ℕ, List, [], Some, None, Err, option_map, IfOk, OnOk, OnErr, IfErr, IfSome};
+ghost use Rattle.std.specs.Prelude.{◌≡◌, ◌↔◌, ◌+◌, ◌++◌, ◌∷◌, ℕ, List, [], Some, None, Err, true, is_some, option_map, IfOk, OnOk, OnErr, IfErr, IfSome};
 ghost use Rattle.std.specs.Option.{option_copied};
 ghost use Rattle.lan_base.specs.declared.frame.UserFrame.{UserFrame};
 ghost use Rattle.mka_kdf.specs.declared.group.GroupError.TheVariants as errors;
 ghost use Rattle.mka_kdf.specs.declared.group.GroupFault.TheVariants.{CknLength};
 ghost use Rattle.mka_kdf.specs.Kdf.{HasWrongLength};
-ghost use Rattle.lan_core.specs.Answers.{IsWhy};
-ghost use Rattle.cak_roll.specs.declared.fault.SecondError.TheVariants.{Refused};
 ghost use Rattle.cak_roll.specs.declared.fault.SecondFault.{SecondFault};
+ghost use Rattle.cak_roll.specs.declared.fault.TwinError.TheVariants.{NoSecond};
 ghost use Rattle.cak_roll.specs.Twin.{Pair, Twin as TwinRun, TwinHappening, takes_part, adopters};
 ghost use Rattle.cak_roll.specs.Stepping.{happening, twin_stop, twin_draws};
 ghost use Rattle.cak_roll.specs.Standing.{StandsFor};
-ghost use Rattle.cak_roll.specs.Answers.{another, second_fault, told_in, MayHappen};
+ghost use Rattle.cak_roll.specs.Answers.{another, is_early, second_fault, told_in, IsWhyTwin, MayHappen};
 
 use crate::event::{GroupNumber, TwinEvent};
-use crate::fault::{SecondError, SecondFault};
+use crate::fault::{SecondFault, TwinError};
 use crate::members::Members;
 use crate::side::Side;
 use crate::told::TwinFacts;
 use aes_block::Secret;
 use lan_base::{CKN_MAX, Draws, Octets, UserFrame, is_ckn};
-use lan_core::{Drawn, Settings, StepError};
+use lan_core::{Drawn, Settings};
 use mka_kdf::{GroupError, GroupFault};
 use std::alloc::Global;
 use std::marker::Model;
@@ -36,7 +35,7 @@ use std::marker::Model;
 pub struct Twin {
     alloc: Global,
     settings: Settings,
-    stopped: Option<StepError>,
+    stopped: Option<TwinError>,
     first: Side,
     second: Option<Side>,
     members: Members,
@@ -66,6 +65,7 @@ impl Twin {
             → IfOk result (λ twin. StandsFor (record { first = settings; second = settings }) users
             twin []) }
         ensures length { (result ≡ Err (errors.Refused CknLength)) ↔ HasWrongLength settings.ckn }
+        ensures alone { IfOk result (λ twin. twin.second ≡ None) }
     {
         if !is_ckn(settings.ckn.as_slice()) {
             return Err(GroupError::Refused(GroupFault::CknLength));
@@ -85,20 +85,21 @@ impl Twin {
         }
     }
 
-    /// A second group with no station, under another CAK and CKN.
-    pub fn second(&mut self, cak: Secret, ckn: Octets) -> Result<(), SecondError>
+    /// A second group with no station, under another CAK and CKN. No memory is taken.
+    pub fn second(&mut self, cak: Secret, ckn: Octets) -> Result<(), SecondFault>
         ensures stands { (pair : Pair) (users : List UserFrame) (t : TwinRun)
             → StandsFor pair users self.old t
             → OnOk result (StandsFor (record pair { second = another pair.first cak ckn }) users
             self.new t) }
-        ensures refused { (fault : SecondFault) → (result ≡ Err (Refused fault))
+        ensures refused { (fault : SecondFault) → (result ≡ Err fault)
             ↔ (second_fault self.old ckn ≡ Some fault) }
         ensures unchanged { OnErr result (self.new ≡ self.old) }
+        ensures there { OnOk result (is_some self.new.second ≡ true) }
         // All else stays: a twin that is stopped stays so.
         ensures kept { OnOk result (self.new ≡ record self.old { second = self.new.second }) }
     {
         if let Some(fault) = self.second_fault(ckn.as_slice()) {
-            return Err(SecondError::Refused(fault));
+            return Err(fault);
         }
         let settings = with_key(&self.settings, cak, ckn);
         match Side::new(self.alloc, settings) {
@@ -106,19 +107,18 @@ impl Twin {
                 put(&mut self.second, second);
                 Ok(())
             }
-            Err(_) => Err(SecondError::Memory),
+            Err(GroupFault::CknLength) => Err(SecondFault::CknLength),
         }
     }
 
-    /// One event happens at stations of both groups. What is sent comes with its user frame, and an
-    /// adoption after a second group. The draws of a restart are made before either group performs
-    /// its part.
+    /// One event happens at stations of both groups. What is sent comes with its user frame. The draws of
+    /// a restart are made before either group performs its part.
     pub fn step<D: Draws>(
         &mut self,
         event: &TwinEvent,
         user: Option<&UserFrame>,
         draws: &mut D,
-    ) -> Result<TwinFacts, StepError>
+    ) -> Result<TwinFacts, TwinError>
         // Of a twin run whose next event may happen: the event tells what it has to show in both
         // groups, takes the draws that it needs, and the twin then stands for the run with it.
         ensures facts { (pair : Pair) (users : List UserFrame) (t : TwinRun)
@@ -146,7 +146,13 @@ impl Twin {
         ensures refused { (pair : Pair) (users : List UserFrame) (t : TwinRun)
             → StandsFor pair users self.old t
             → MayHappen users t (option_copied user.entry) event.now (D.nth draws.old)
-            → IfErr result (IsWhy (twin_stop pair users t event.now (D.nth draws.old))) }
+            → IfErr result (IsWhyTwin (twin_stop pair users t event.now (D.nth draws.old))) }
+        // Nobody adopts a second group that isn't there.
+        ensures early { self.old.stopped ≡ None
+            → (result ≡ Err NoSecond) ↔ (is_early self.old event.now ≡ true) }
+
+        // No second group comes by it.
+        ensures there { OnOk result (is_some self.new.second ≡ is_some self.old.second) }
 
         // Where it fails the twin is stopped. It answers the same from then on, and takes no draw.
         ensures stopped { IfErr result (λ error. self.new.stopped ≡ Some error) }

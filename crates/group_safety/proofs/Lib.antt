@@ -6,5 +6,6 @@ pub mod moves
 pub mod example
 pub mod Examples
 pub mod SteadyExample
+pub mod RetireExample
 pub mod told
 pub mod Public

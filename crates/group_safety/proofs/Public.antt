@@ -1,7 +1,7 @@
 -- What other crates may cite of the proofs.
 
 -- What stands in a list, by recursion over it.
-pub use Rattle.group_safety.proofs.Members.{In, contains-in, in-contains, in-left, in-right, in-map}
+pub use Rattle.group_safety.proofs.Members.{In, contains-in, in-any, in-contains, in-either, in-left, in-right, in-map}
 pub use Rattle.group_safety.proofs.Members.{in-from_map}
 pub use Rattle.group_safety.proofs.once.Places.{differs-in, same-place}
 pub use Rattle.group_safety.proofs.once.LiveHeard.{in-find}
@@ -31,9 +31,35 @@ pub use Rattle.group_safety.proofs.moves.Accounting.{next-told}
 pub use Rattle.group_safety.proofs.moves.Growing.{few}
 -- A run of two stations: what holds of it once the first one transmits, and after the next event,
 -- in which the other one begins the same key. And what no next number is above.
-pub use Rattle.group_safety.proofs.example.Scene.{Scene, most_next, next-most}
+pub use Rattle.group_safety.proofs.example.Scene.{Scene, goes-on, most_next, next-most}
+pub use Rattle.group_safety.proofs.example.Good.{sak_is, sci_is}
+pub use Rattle.group_safety.proofs.example.Moves.{claim-moves, new-short}
+pub use Rattle.group_safety.proofs.once.Ciphers.{encrypts}
 pub use Rattle.group_safety.proofs.example.Run.{first_key, r11}
 pub use Rattle.group_safety.proofs.example.Rolling.{r12}
 pub use Rattle.group_safety.proofs.example.Rolled.{l12}
 pub use Rattle.group_safety.proofs.example.Steps.{both, a-user, l11}
+unfoldable pub use Rattle.group_safety.proofs.example.Steps.{opens}
 pub use Rattle.group_safety.proofs.SteadyExample.{v11, v12}
+-- A legal run of them in which a rollover ends: the first key is retired.
+pub use Rattle.group_safety.proofs.RetireExample.{retiring, retires}
+-- A stepped and unforged run is known: what holds of its lives, of its frames and of its ledgers.
+pub use Rattle.group_safety.proofs.once.RunLaws.{known, place-apart, run-drawn, run-once, run-one_key}
+pub use Rattle.group_safety.proofs.once.ChangesKeep.{holds}
+pub use Rattle.group_safety.proofs.once.Invariant.{Inv}
+pub use Rattle.group_safety.proofs.once.Ledgers.{book, current, mis}
+pub use Rattle.group_safety.proofs.once.Living.{IsKnown, IsLiving, IsTold, install_by, kek-key}
+pub use Rattle.group_safety.proofs.once.Origins.{IsSaid, IsSaidAt}
+pub use Rattle.group_safety.proofs.once.Currents.{current-apart, in-mis, none-some, some-same}
+pub use Rattle.group_safety.proofs.once.Histories.{heard_of, sent-before, sent-heard, sent-some, told_of}
+pub use Rattle.group_safety.proofs.once.LiveHeard.{accepted-told, live-accepted}
+pub use Rattle.group_safety.proofs.once.KeysSound.{AreSound, IsKeyIn, installed-key, last-made, latest-installed, latest-last, made-own, old-installed, transmitting-installed}
+pub use Rattle.group_safety.proofs.once.Rules.{IsGiving, IsMade, given-is, key_heard, made-is, said-now}
+pub use Rattle.group_safety.proofs.once.Ticking.{IsReady, IsSpeaker, announced-next, said-spells, tick-sound, tick_key, tick_lead, tick_lowest, tick_roster, turn-past}
+pub use Rattle.group_safety.proofs.once.Hearing.{hear-past}
+pub use Rattle.group_safety.proofs.once.EventsKeepKnown.{drawn-secret, seen-small, tick-backed, tick-gist}
+pub use Rattle.group_safety.proofs.once.TickKept.{speaker-of}
+pub use Rattle.group_safety.proofs.once.ClaimKept.{protected-is_sec}
+-- What the facts of an event add to the ledgers of a run.
+pub use Rattle.group_safety.proofs.once.Gists.{IsGist, installed_at, sent_frame}
+pub use Rattle.group_safety.proofs.once.Nexts.{air-next, chained, claimed-next, drawn-is, drawn-next, gather-behind, get-more, in-gathered, in-get, in-later, life-next, installs-next, makes-next, makes-same, mapped}

@@ -9,3 +9,4 @@ mod Telling
 mod Holding
 mod Turns
 mod Runs
+mod Examples

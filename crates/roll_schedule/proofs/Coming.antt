@@ -18,7 +18,7 @@ use Rattle.cak_roll.specs.Stepping.{happening, twin_stop}
 use Rattle.cak_roll.proofs.Public.{twin-stepped}
 use Rattle.roll_schedule.specs.World.{World, Kept, pair_of, count, frames, joined, sender, spread_in}
 use Rattle.roll_schedule.specs.World.{has_spread}
-use Rattle.roll_schedule.specs.Acts.{Act, nothing, refuse, happen, change, seq, look, perform}
+use Rattle.roll_schedule.specs.Acts.{Act, nothing, refuse, exceed, happen, change, seq, look, perform}
 use Rattle.roll_schedule.specs.Acts.{Course, Goes, Stops, answered, and_then, each, span, times}
 use Rattle.roll_schedule.specs.Acts.{unless, supply, world_after}
 use Rattle.roll_schedule.specs.Lines.{tick_in, tick_both, round, is_passed_by, pass, spread}
@@ -98,6 +98,7 @@ later-both w v (Stops u halt) g first second e = absurd (cc e)
 pub later : (act : Act) (w v : World) → perform act w ≡ Goes v → IsLater w v
 later nothing w v e = goes-world w w v (later-self w) e
 later (refuse kind) w v e = absurd (cc e)
+later (exceed which) w v e = absurd (cc e)
 later (happen event) w v e =
     later-answered w v event (twin_stop (pair_of w) w.kept.users w.run event (supply w))
     (happening (pair_of w) w.kept.users w.run event (supply w)) e

@@ -6,6 +6,7 @@ use Rattle.std.specs.Prelude.{◌⊎◌, Result, Ok, Err, Option, Some, None}
 use Rattle.std.specs.Result.{IsErrAnd}
 use Rattle.std.proofs.lemmas.Result.{err_from_is_err_and}
 use Rattle.lan_core.specs.declared.stop.Stop.{Stop}
+use Rattle.lan_core.specs.declared.stop.Which.{Which}
 use Rattle.cak_roll.specs.declared.event.TwinEvent.{TwinEvent}
 use Rattle.cak_roll.specs.Twin.{TwinHappening}
 use Rattle.cak_roll.specs.Stepping.{happening, twin_stop}
@@ -13,7 +14,7 @@ use Rattle.trace_acts.specs.declared.halt.Halt.{Halt}
 use Rattle.trace_acts.specs.declared.halt.Halt.TheVariants as halts
 use Rattle.trace_acts.specs.declared.broken.Broken.{Broken}
 use Rattle.roll_schedule.specs.World.{World, Kept, pair_of}
-use Rattle.roll_schedule.specs.Acts.{Act, nothing, refuse, happen, change, seq, look, perform}
+use Rattle.roll_schedule.specs.Acts.{Act, nothing, refuse, exceed, happen, change, seq, look, perform}
 use Rattle.roll_schedule.specs.Acts.{Course, Goes, Stops, and_then, each, span, supply, answered}
 use Rattle.roll_schedule.specs.Acts.{unless}
 use Rattle.roll_schedule.specs.Reports.{Report, last_reports, reports, AreTold}
@@ -51,6 +52,7 @@ then-begins xs (Stops w halt) g f h = f
 pub grows : (act : Act) (w : World) → Begins (reports w.run) (reported (perform act w))
 grows nothing w = begins-self (reports w.run)
 grows (refuse kind) w = begins-self (reports w.run)
+grows (exceed which) w = begins-self (reports w.run)
 grows (happen event) w =
     answered-begins w event (twin_stop (pair_of w) w.kept.users w.run event (supply w))
     (happening (pair_of w) w.kept.users w.run event (supply w))
@@ -242,6 +244,19 @@ module _ {R K : Type 0} {Stands : World → R → Type 0} {Took : K → Report �
   pub nothing-does : (now : Moment R K) → DidAs Stands Took Broke nothing now now (Ok tt)
   nothing-does now = record {
     ends = λ w reached may. (w, refl, reached, told-none w w now.outlet now.outlet refl refl);
+  }
+
+  -- a limit is passed, and nothing is told
+  pub exceed-does : (which : Which) (old new : Moment R K) → new.outlet ≡ old.outlet
+      → DidAs Stands Took Broke (exceed which) old new (Err (halts.Limit which))
+  exceed-does which old new same = record {
+    ends = λ w reached may.
+        inl (record {
+          world = w;
+          stops = refl;
+          tidy = reached.tidy;
+          told = told-none w w old.outlet new.outlet refl same;
+        });
   }
 
   -- no memory, before more was told

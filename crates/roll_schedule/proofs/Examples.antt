@@ -1,5 +1,5 @@
 -- Lines at small worlds, worked by hand: which of them are refused, and what they leave.
-use Rattle.std.proofs.Common.{◌≡◌, ℕ, true, List, [], ◌∷◌, ◌++◌, None, Some, refl}
+use Rattle.std.proofs.Common.{◌≡◌, ℕ, true, false, List, [], ◌∷◌, ◌++◌, None, Some, refl}
 use Rattle.std.specs.Prelude.{replicate}
 use Rattle.lan_base.specs.declared.address.Mac.{Mac}
 use Rattle.lan_base.specs.declared.address.Mi.{Mi}
@@ -15,10 +15,10 @@ use Rattle.trace_text.specs.declared.line.Line.TheVariants as lines
 use Rattle.roll_text.specs.declared.line.RollLine.TheVariants.{Plain, Group2, Adopt, Leave}
 use Rattle.trace_acts.specs.declared.halt.Kind.TheVariants as kinds
 use Rattle.trace_acts.specs.Settings.{no_choice}
-use Rattle.roll_schedule.specs.World.{joined, nothing_kept, waiting, World}
+use Rattle.roll_schedule.specs.World.{beginning, joined, nothing_kept, waiting, World}
 use Rattle.roll_schedule.specs.Acts.{Goes, perform}
 use Rattle.roll_schedule.specs.Kinds.{refusal}
-use Rattle.roll_schedule.specs.Lines.{act_of}
+use Rattle.roll_schedule.specs.Lines.{act_of, is_over, line_after}
 
 abbrev mi : ℕ → Mi
 mi n = record { 0 = replicate 11 0 ++ n ∷ [] }
@@ -130,6 +130,17 @@ not_there = refl
 
 no_group : refusal (Leave 3 (67 ∷ [])) (two_groups two) ≡ Some kinds.Order
 no_group = refl
+
+-- lines have numbers from 1, and there is none behind the 2^32 - 1st
+first_line : line_after 0 ≡ 1
+first_line = refl
+
+no_line_behind : line_after 4294967295 ≡ 4294967295
+no_line_behind = refl
+
+-- the first user frame has a number
+has_numbers : is_over beginning ≡ false
+has_numbers = refl
 
 -- who left both groups, or never was in one, sends nothing, and restarts nothing
 sends_nothing : refusal (Plain (lines.Send a all (replicate 46 0))) (two_groups left)

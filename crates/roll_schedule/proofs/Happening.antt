@@ -2,11 +2,13 @@
 use Rattle.std.proofs.Common.{◌≡◌, ℕ, ◌+◌, true, false, List, ◌∷◌, ◌++◌, map}
 use Rattle.std.proofs.Common.{Option, Some, None, inl, inr, refl, sym, ap, ◌∙◌, subst, arith}
 use Rattle.std.specs.Prelude.{Result, Ok, Err, is_some, option_map}
+use Rattle.std.specs.Option.{is_none}
 use Rattle.std.specs.Result.{IsErrAnd}
 use Rattle.std.proofs.lemmas.Result.{err_from_is_err_and}
 use Rattle.lan_base.specs.declared.frame.UserFrame.{UserFrame}
 use Rattle.lan_core.specs.Ledgers.{air}
 use Rattle.lan_core.specs.declared.stop.Stop.{Stop}
+use Rattle.lan_core.specs.declared.stop.StepError.TheVariants.{Memory, Stopped}
 use Rattle.lan_core.specs.Unstopped.{AreDraws}
 use Rattle.lan_core.proofs.Public.{mapped}
 use Rattle.cak_roll.specs.declared.event.GroupNumber.TheVariants.{First, Second}
@@ -16,10 +18,13 @@ use Rattle.cak_roll.specs.declared.told.Told.{Told}
 use Rattle.cak_roll.specs.Twin.{Pair, Twin, TwinHappening, run_of, IsTwinStep}
 use Rattle.cak_roll.specs.Stepping.{Supply, happening, twin_stop, twin_draws}
 use Rattle.cak_roll.specs.Standing.{StandsFor as TwinStandsFor}
-use Rattle.cak_roll.specs.Answers.{IsGiven, MayHappen, GoesOnWith, told_in}
+use Rattle.cak_roll.specs.Answers.{is_early, IsGiven, IsWhyTwin, MayHappen, GoesOnWith, told_in}
+use Rattle.cak_roll.specs.declared.fault.TwinError.{TwinError}
+use Rattle.cak_roll.specs.declared.fault.TwinError.TheVariants.{Failed, NoSecond}
 use Rattle.cak_roll.proofs.Public.{lone-then}
 use Rattle.trace_acts.specs.declared.halt.Halt.{Halt}
 use Rattle.trace_acts.specs.declared.halt.Halt.TheVariants as halts
+use Rattle.trace_acts.specs.declared.halt.Kind.TheVariants.{Order}
 use Rattle.trace_acts.specs.declared.broken.Broken.{Broken}
 use Rattle.trace_acts.specs.Halts.{halt_of_broken, halt_of}
 use Rattle.trace_acts.specs.Settings.{rule_of}
@@ -33,7 +38,7 @@ use Rattle.roll_schedule.specs.Reports.{Report, report_of, last_reports, reports
 use Rattle.roll_schedule.specs.Ends.{Moment, IsReached, Ends}
 use Rattle.roll_schedule.specs.Stages.{StandsFor}
 use Rattle.roll_schedule.specs.inside.Comes.{Comes, IsReady}
-use Rattle.roll_schedule.specs.inside.Doing.{Did, Happened}
+use Rattle.roll_schedule.specs.inside.Doing.{halt_by, Did, Happened}
 use Rattle.roll_schedule.specs.inside.Telling.{started_name, started_sci, adopted_name, sent_in}
 use Rattle.roll_schedule.specs.inside.Telling.{report_with, AreTelling}
 use Rattle.roll_schedule.proofs.Doing.{begins-self, told-none, ends-memory}
@@ -101,6 +106,7 @@ pub record Keeps (event : TwinEvent) (told : List Told) (old new : Stage) : Type
   pub line : new.line ≡ old.line
   pub chosen : new.chosen ≡ old.chosen
   pub keyed : new.keyed ≡ old.keyed
+  pub there : is_some new.twin.second ≡ is_some old.twin.second
   pub users : new.users ≡ old.users
   pub cuts : new.cuts ≡ old.cuts
   pub scis : new.scis.items ≡ old.scis.items ++ started_sci event
@@ -165,6 +171,7 @@ stands-after w event old new told x stands goes keeps = record {
   keyed = keeps.keyed ∙ stands.keyed;
   line = keeps.line ∙ stands.line;
   twin = goes.twin;
+  there = keeps.there ∙ stands.there;
   draws = goes.draws;
   scis = keeps.scis ∙ ap (λ l. l ++ started_sci event) stands.scis
       ∙ sym (scis-first (pair_of w) w.kept.users x w.run event goes.step goes.event_is);
@@ -191,6 +198,18 @@ stands-after w event old new told x stands goes keeps = record {
     spread = keeps.second_spread ∙ stands.second_party.spread;
   };
 }
+
+-- there is a second group where it came
+not-both : {A : Type 0} (o : Option A) → is_none o ≡ true → is_some o ≡ true → ⊥
+not-both None none some = cc some
+not-both (Some a) none some = cc none
+
+-- an event that can be performed doesn't come too early
+pub never-early : (event : TwinEvent) (w : World) (stage : Stage) → StandsFor w stage
+    → Comes (happen event) w → is_early stage.twin event ≡ true → ⊥
+never-early (twins.Adopt station) w stage stands comes early =
+    not-both stage.twin.second early (stands.there ∙ comes.1)
+never-early _ w stage stands comes early = cc early
 
 -- an adoption comes behind a second group
 no-adoption : (w : World) (event : TwinEvent) → IsReady w event → w.kept.second ≡ None
@@ -318,6 +337,15 @@ module _ {K : Type 0} {Took : K → Report → K → Type 0} {Broke : K → Repo
           });
     }
 
+    -- what can't be performed in any world is done by nothing
+    pub event-never : (given : Option UserFrame) (event : TwinEvent) (old new : Moment Stage K)
+        (r : Result (Unit {0}) Halt)
+        → ((w : World) → StandsFor w old.value → Comes (happen event) w → ⊥)
+        → Happened Took Broke given event old new r
+    event-never given event old new r never = record {
+      ends = λ w reached is comes. absurd (never w reached.stands comes);
+    }
+
     -- memory was wanting, and nothing was told
     pub event-wanting : (given : Option UserFrame) (event : TwinEvent) (old new : Moment Stage K)
         → new.outlet ≡ old.outlet → Happened Took Broke given event old new (Err halts.Memory)
@@ -325,6 +353,24 @@ module _ {K : Type 0} {Took : K → Report → K → Type 0} {Broke : K → Repo
       ends = λ w reached is comes.
           ends-memory StandsFor Took Broke (happen event) w old.outlet new reached.tidy same;
     }
+
+    -- the groups went no further
+    pub event-failed : (given : Option UserFrame) (event : TwinEvent) (error : TwinError) (line : ℕ)
+        (old new : Moment Stage K)
+        → ((pair : Pair) (users : List UserFrame) (t : Twin)
+        → TwinStandsFor pair users old.value.twin t
+        → MayHappen users t given event (supply_nth old.value.draws)
+        → IsWhyTwin (twin_stop pair users t event (supply_nth old.value.draws)) error)
+        → (old.value.twin.stopped ≡ None → error ≡ NoSecond → is_early old.value.twin event ≡ true)
+        → line ≡ old.value.line → new.outlet ≡ old.outlet
+        → Happened Took Broke given event old new (Err (halt_by line error))
+    event-failed given event (Failed (Stopped stop)) line old new why early is_line same =
+        event-stopped given event stop line old new why is_line same
+    event-failed given event (Failed Memory) line old new why early is_line same =
+        event-wanting given event old new same
+    event-failed given event NoSecond line old new why early is_line same =
+        event-never given event old new (Err (halts.Trace line Order)) (λ w stands comes.
+        never-early event w old.value stands comes (early stands.twin.goes refl))
 
     -- an error that `?` hands on is the error
     pub happened-err : (given : Option UserFrame) (event : TwinEvent) (old new : Moment Stage K)

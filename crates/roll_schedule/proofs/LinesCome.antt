@@ -37,7 +37,7 @@ use Rattle.roll_schedule.specs.World.{World, Kept, pair_of, pair_by, count, name
 use Rattle.roll_schedule.specs.Acts.{Act, happen}
 use Rattle.roll_schedule.specs.Kinds.{group_of, may_be_second, may_stand, wrong, refusal}
 use Rattle.roll_schedule.specs.Kinds.{refusal_read}
-use Rattle.roll_schedule.specs.Lines.{send, deed, deed_plain, unless_refused, act_of}
+use Rattle.roll_schedule.specs.Lines.{is_over, send, deed, deed_plain, unless_over, unless_refused, act_of}
 use Rattle.roll_schedule.specs.Lines.{deed_read, performed}
 use Rattle.roll_schedule.specs.Sound.{IsTidy}
 use Rattle.roll_schedule.specs.inside.Choosing.{with_second}
@@ -97,7 +97,7 @@ chosen-comes line form b w tidy e =
 -- ---- the second group
 
 -- there was none before
-first-time : (ckn : List ℕ) (group second : Option Keyed) → may_be_second ckn group second ≡ true
+pub first-time : (ckn : List ℕ) (group second : Option Keyed) → may_be_second ckn group second ≡ true
     → second ≡ None
 first-time ckn (Some first) None e = refl
 first-time ckn (Some first) (Some second) e = absurd (cc e)
@@ -152,6 +152,10 @@ refused-comes : (o : Option Kind) (act : Act) (w : World) → (o ≡ None → Co
 refused-comes None act w h = h refl
 refused-comes (Some kind) act w h = tt
 
+over-comes : (over : Bool) (act : Act) (w : World) → Comes act w → Comes (unless_over over act) w
+over-comes true act w comes = tt
+over-comes false act w comes = comes
+
 plain-comes : AreLegal → (line : Line) → IsInForm line → (w : World) → IsTidy w
     → IsRight (Plain line) w → Comes (deed_plain line w) w
 plain-comes legal lines.DrawsCount form w tidy right =
@@ -201,8 +205,9 @@ plain-comes legal (lines.Send name destination body) form w tidy right =
       body = (form.fits.1.1.0.0, form.fits.1.1.0.1);
       octets = bytes-all body form.fits.1.1.0.2;
     } in
-    send-comes legal (place w name) user w tidy is_user
-    (where-none (is_out (place w name) w.run) kinds.Order both.1)
+    over-comes (is_over w) (send (place w name) user) w
+    (send-comes legal (place w name) user w tidy is_user
+    (where-none (is_out (place w name) w.run) kinds.Order both.1))
 plain-comes legal _ form w tidy right = tidy-same w _ tidy refl refl refl (λ e. e)
 
 pub deed-comes : AreLegal → (line : RollLine) → IsInFormRoll line → (w : World) → IsTidy w

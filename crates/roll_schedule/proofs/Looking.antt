@@ -1,15 +1,19 @@
 -- Acts that look at the world, begun from the groups at work.
-use Rattle.std.proofs.Common.{◌≡◌, ◌≤◌, ℕ, zero, suc, ◌+◌, ◌-◌, List, [], ◌∷◌, ◌++◌, length}
+use Rattle.std.proofs.Common.{◌≡◌, ◌<◌, ◌≤◌, ℕ, zero, suc, ◌+◌, ◌-◌, List, [], ◌∷◌, ◌++◌, length}
 use Rattle.std.proofs.Common.{sym, ap, ◌∙◌, nat_eq, arith}
-use Rattle.std.specs.Prelude.{Err, IfOk, Ok, Result}
+use Rattle.std.specs.Prelude.{◌^◌, Err, IfOk, Ok, Result}
 use Rattle.std.specs.List.{position_or_len, range_with_len}
 use Rattle.std.specs.Cmp.Lexicographic.{pointwise}
 use Rattle.std.proofs.lemmas.List.{length-map}
 use Rattle.lan_core.specs.Ledgers.{air}
-use Rattle.lan_core.specs.Run.{Profile, stations}
+use Rattle.lan_base.specs.declared.frame.UserFrame.{UserFrame}
+use Rattle.lan_base.specs.Ranges.{most_frames}
+use Rattle.lan_core.specs.declared.settings.Settings.{Settings}
+use Rattle.lan_core.specs.Legal.{IsStepped}
+use Rattle.lan_core.specs.Run.{Profile, Run, stations}
 use Rattle.cak_roll.specs.declared.event.GroupNumber.{GroupNumber}
 use Rattle.cak_roll.specs.declared.event.GroupNumber.TheVariants.{First, Second}
-use Rattle.cak_roll.specs.Twin.{of_group, run_of}
+use Rattle.cak_roll.specs.Twin.{of_group, run_of, setting_of}
 use Rattle.cak_roll.proofs.Public.{few-stations, twin-stepped}
 use Rattle.trace_acts.specs.declared.broken.Broken.{Broken}
 use Rattle.roll_schedule.specs.declared.party.Party.{Party}
@@ -91,18 +95,33 @@ pub party-of : (g : GroupNumber) (w : World) (stage : Stage) → StandsFor w sta
 party-of First w stage stands = stands.first_party
 party-of Second w stage stands = stands.second_party
 
+-- a group has no more frames than the limit
+few-frames : (settings : Settings) (users : List UserFrame) (r : Run)
+    → IsStepped settings users r → length (air r) ≤ most_frames
+unfolding air
+few-frames settings users [] stepped = omega arith
+few-frames settings users (x ∷ r) (step, before) = step.within.frames
+
+frames-few : (g : GroupNumber) (w : World) (stage : Stage) → IsReached StandsFor w stage
+    → frames g w.run ≤ most_frames
+frames-few g w stage reached =
+    few-frames (setting_of (pair_of w) g) w.kept.users (run_of g w.run)
+    (twin-stepped (pair_of w) w.kept.users w.run g reached.tidy.legal)
+
 -- what a group has to spread is what is asked for
 pub spreads-here : (g : GroupNumber) (w : World) (stage : Stage) (first some : ℕ)
-    → StandsFor w stage → first ≡ (of_group g stage.first stage.second).spread
-    → some ≡ length (of_group g stage.first stage.second).senders.items
+    → IsReached StandsFor w stage → first ≡ (of_group g stage.first stage.second).spread
+    → (length (of_group g stage.first stage.second).senders.items < 2 ^ 32
+    → some ≡ length (of_group g stage.first stage.second).senders.items)
     → seq (span (λ place. spread g (place + 1)) first (some - first)) (change (has_spread g some))
     ≡ seq (span (λ place. spread g (place + 1)) (spread_in g w.kept)
     (frames g w.run - spread_in g w.kept)) (change (has_spread g (frames g w.run)))
-spreads-here g w stage first some stands is_first is_some =
-    let party = party-of g w stage stands in
+spreads-here g w stage first some reached is_first is_some =
+    let party = party-of g w stage reached.stands in
     let a : first ≡ spread_in g w.kept = is_first ∙ party.spread in
-    let b : some ≡ frames g w.run =
-    is_some ∙ frames-count g w (of_group g stage.first stage.second) party in
+    let all = frames-count g w (of_group g stage.first stage.second) party in
+    let few = frames-few g w stage reached in
+    let b : some ≡ frames g w.run = is_some (omega (arith, all, few)) ∙ all in
     ap (λ (n : ℕ). seq (span (λ place. spread g (place + 1)) n (some - n)) (change (has_spread g some)))
     a
     ∙ ap (λ (n : ℕ). seq (span (λ place. spread g (place + 1)) (spread_in g w.kept)

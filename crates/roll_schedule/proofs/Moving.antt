@@ -1,10 +1,12 @@
 -- What is kept beside the groups changes; user data is sent; lines are performed by the places of
 -- their names.
-use Rattle.std.proofs.Common.{◌≡◌, ℕ, ◌+◌, true, false, List, [], ◌∷◌, ◌++◌, length}
-use Rattle.std.proofs.Common.{Some, refl, sym, ap, ◌∙◌, subst, length-append}
-use Rattle.std.specs.Prelude.{Result, Ok, is_some}
+use Rattle.std.proofs.Common.{◌≡◌, ◌<◌, ◌≤◌, ℕ, ◌+◌, Bool, true, false, List, [], ◌∷◌, ◌++◌, length}
+use Rattle.std.proofs.Common.{Some, refl, sym, ap, ◌∙◌, subst, length-append, arith}
+use Rattle.std.specs.Prelude.{Result, Ok, Err, is_some}
+use Rattle.std.proofs.lemmas.Bool.{le-ltb, lt-ltb}
 use Rattle.lan_base.specs.declared.frame.UserFrame.{UserFrame}
 use Rattle.lan_core.specs.Claims.{user_at}
+use Rattle.lan_core.specs.declared.stop.Which.TheVariants.{Frames}
 use Rattle.cak_roll.specs.declared.event.GroupNumber.TheVariants.{First, Second}
 use Rattle.cak_roll.specs.declared.event.TwinEvent.TheVariants.{Send}
 use Rattle.cak_roll.specs.Standing.{StandsFor as TwinStandsFor}
@@ -12,6 +14,7 @@ use Rattle.trace_text.specs.declared.line.Line.{Line}
 use Rattle.trace_text.specs.declared.line.Line.TheVariants as lines
 use Rattle.trace_acts.specs.declared.choices.Choices.{Choices}
 use Rattle.trace_acts.specs.declared.halt.Halt.{Halt}
+use Rattle.trace_acts.specs.declared.halt.Halt.TheVariants as halts
 use Rattle.trace_acts.specs.declared.broken.Broken.{Broken}
 use Rattle.trace_acts.specs.Choosing.{chosen_by}
 use Rattle.trace_acts.specs.Settings.{rule_of}
@@ -20,15 +23,16 @@ use Rattle.trace_acts.specs.Places.{is_elsewhere}
 use Rattle.trace_acts.proofs.Public.{user-at-end}
 use Rattle.roll_schedule.specs.declared.stage.Stage.{Stage}
 use Rattle.roll_schedule.specs.World.{World, Kept, pair_by, pair_of, place, has_spread}
-use Rattle.roll_schedule.specs.Acts.{Act, happen, look, perform}
-use Rattle.roll_schedule.specs.Lines.{begin, choose, deed_plain, send}
+use Rattle.roll_schedule.specs.Acts.{Act, exceed, happen, look, perform}
+use Rattle.roll_schedule.specs.Lines.{begin, choose, deed_plain, is_over, most_users, send, send_new}
+use Rattle.roll_schedule.specs.Lines.{unless_over}
 use Rattle.roll_schedule.specs.Reports.{Report}
 use Rattle.roll_schedule.specs.Sound.{IsTidy}
 use Rattle.roll_schedule.specs.Ends.{Moment, Ends}
 use Rattle.roll_schedule.specs.Stages.{StandsFor, IsParty}
 use Rattle.roll_schedule.specs.inside.Comes.{Comes}
 use Rattle.roll_schedule.specs.inside.Doing.{Did, Happened}
-use Rattle.roll_schedule.proofs.Doing.{change-does, ends-behind, look-does, told-none}
+use Rattle.roll_schedule.proofs.Doing.{change-does, ends-behind, exceed-does, look-does, told-none}
 use Rattle.roll_schedule.proofs.Looking.{Places, party-kept, place-is}
 use Rattle.roll_schedule.proofs.Users.{twin-more}
 
@@ -39,12 +43,13 @@ pub stands-kept : (w : World) (kept : Kept) (old new : Stage) → StandsFor w ol
     → kept.begun ≡ true → is_some kept.chosen.group ≡ true → new.chosen ≡ kept.chosen
     → new.keyed ≡ kept.second → new.line ≡ kept.line
     → TwinStandsFor (pair_by kept.chosen kept.second) kept.users new.twin w.run
+    → is_some new.twin.second ≡ is_some kept.second
     → ((k : ℕ) → supply_nth new.draws k ≡ draws_after (rule_of kept.chosen) kept.taken k)
     → new.scis ≡ old.scis → new.users ≡ length kept.users → new.cuts ≡ kept.cuts
     → IsParty First w new.first → IsParty Second w new.second
     → kept.first_spread ≡ w.kept.first_spread → kept.second_spread ≡ w.kept.second_spread
     → StandsFor (record w { kept = kept }) new
-stands-kept w kept old new stands begun named chosen keyed line twin draws scis users cuts first
+stands-kept w kept old new stands begun named chosen keyed line twin there draws scis users cuts first
     second first_spread second_spread = record {
       begun = begun;
       named = named;
@@ -52,6 +57,7 @@ stands-kept w kept old new stands begun named chosen keyed line twin draws scis 
       keyed = keyed;
       line = line;
       twin = twin;
+      there = there;
       draws = draws;
       scis = ap (λ s. s.items) scis ∙ stands.scis;
       users = users;
@@ -73,6 +79,7 @@ first-spread n w old new stands is =
       keyed = stands.keyed;
       line = stands.line;
       twin = stands.twin;
+      there = stands.there;
       draws = stands.draws;
       scis = stands.scis;
       users = stands.users;
@@ -101,6 +108,7 @@ second-spread n w old new stands is =
       keyed = stands.keyed;
       line = stands.line;
       twin = stands.twin;
+      there = stands.there;
       draws = stands.draws;
       scis = stands.scis;
       users = stands.users;
@@ -124,7 +132,7 @@ module _ {K : Type 0} {Took : K → Report → K → Type 0} {Broke : K → Repo
     begin-does now =
         change-does (λ kept. record kept { begun = true }) now now
         (λ w stands. stands-kept w (record w.kept { begun = true }) now.value now.value stands refl
-        stands.named stands.chosen stands.keyed stands.line stands.twin stands.draws refl
+        stands.named stands.chosen stands.keyed stands.line stands.twin stands.there stands.draws refl
         stands.users stands.cuts stands.first_party stands.second_party refl refl) refl
 
     -- an act of a number that is another
@@ -152,7 +160,7 @@ module _ {K : Type 0} {Took : K → Report → K → Type 0} {Broke : K → Repo
           (stands-kept w v.kept old.value (record old.value { users = n }) stands stands.begun
           stands.named stands.chosen stands.keyed stands.line
           (twin-more (pair_of w) w.kept.users (user ∷ []) old.value.twin w.run tidy.legal
-          stands.twin) stands.draws refl many stands.cuts stands.first_party stands.second_party
+          stands.twin) stands.there stands.draws refl many stands.cuts stands.first_party stands.second_party
           refl refl) in
           let may : Comes (happen (Send s n)) v =
           subst (λ (k : ℕ). Comes (happen (Send s k)) v) (sym many) (comes.1 tidy) in
@@ -163,6 +171,30 @@ module _ {K : Type 0} {Took : K → Report → K → Type 0} {Broke : K → Repo
           (subst (λ (k : ℕ). Ends StandsFor Took Broke v (perform (happen (Send s k)) v) mid.outlet
           new r) many ended);
     }
+
+    -- a user frame is sent that has a number
+    pub send-new-does : (s : ℕ) (user : UserFrame) (old new : Moment Stage K)
+        (r : Result (Unit {0}) Halt) → old.value.users < most_users
+        → Did Took Broke (send s user) old new r → Did Took Broke (send_new s user) old new r
+    send-new-does s user old new r few d =
+        look-does (λ w. unless_over (is_over w) (send s user)) (send s user) old new r
+        (λ w reached.
+        let users = reached.stands.users in
+        ap (λ (b : Bool). unless_over b (send s user))
+        (sym (le-ltb most_users (length w.kept.users + 1) (omega (arith, users, few))))) d
+
+    -- one that has none isn't
+    pub over-does : (s : ℕ) (user : UserFrame) (old new : Moment Stage K) (e : Halt)
+        → most_users ≤ old.value.users → e ≡ halts.Limit Frames → new.outlet ≡ old.outlet
+        → Did Took Broke (send_new s user) old new (Err e)
+    over-does s user old new e many is same =
+        look-does (λ w. unless_over (is_over w) (send s user)) (exceed Frames) old new (Err e)
+        (λ w reached.
+        let users = reached.stands.users in
+        ap (λ (b : Bool). unless_over b (send s user))
+        (sym (lt-ltb most_users (length w.kept.users + 1) (omega (arith, users, many)))))
+        (subst (λ (h : Halt). Did Took Broke (exceed Frames) old new (Err h)) (sym is)
+        (exceed-does Frames old new same))
 
     -- ---- lines
 

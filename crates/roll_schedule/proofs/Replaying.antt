@@ -1,11 +1,13 @@
 -- A replay does acts, before its first station and with groups at work.
-use Rattle.std.proofs.Common.{◌≡◌, ℕ, ◌+◌, List, Option, Some, None}
+use Rattle.std.proofs.Common.{◌≡◌, ℕ, List, Option, Some, None}
 use Rattle.std.proofs.Common.{inl, refl, sym, ap, ◌∙◌, subst}
 use Rattle.std.specs.Prelude.{Result, Ok, Err}
 use Rattle.trace_text.specs.declared.fault.TextFault.{TextFault}
 use Rattle.trace_text.specs.Reading.{fault_in}
 use Rattle.roll_text.specs.declared.line.RollLine.{RollLine}
 use Rattle.roll_text.specs.Reading.{roll_line_in, first_roll_fault}
+use Rattle.trace_acts.specs.declared.choices.Choices.{Choices}
+use Rattle.trace_acts.specs.declared.choices.Keyed.{Keyed}
 use Rattle.trace_acts.specs.declared.halt.Halt.{Halt}
 use Rattle.trace_acts.specs.declared.halt.Halt.TheVariants as halts
 use Rattle.trace_acts.specs.declared.halt.Kind.{Kind}
@@ -17,12 +19,12 @@ use Rattle.roll_schedule.specs.World.{World, Kept, waiting}
 use Rattle.roll_schedule.specs.Acts.{Act, change, look, nothing, perform, seq, Stops}
 use Rattle.roll_schedule.specs.Kinds.{refusal, refusal_read}
 use Rattle.roll_schedule.specs.Lines.{act_of, at_line, begin_line, deed, deed_read, numbered}
-use Rattle.roll_schedule.specs.Lines.{performed, unless_refused}
+use Rattle.roll_schedule.specs.Lines.{line_after, performed, unless_refused}
 use Rattle.roll_schedule.specs.Reports.{Report}
 use Rattle.roll_schedule.specs.Sound.{IsTidy}
 use Rattle.roll_schedule.specs.Ends.{Moment, moment, IsReached}
 use Rattle.roll_schedule.specs.Stages.{StandsFor as StageStandsFor}
-use Rattle.roll_schedule.specs.Standing.{IsStaged, StandsFor, Does}
+use Rattle.roll_schedule.specs.Standing.{IsStaged, MayOpen, StandsFor, Does}
 use Rattle.roll_schedule.specs.inside.Comes.{Comes}
 use Rattle.roll_schedule.specs.inside.Doing.{Did, DidSo}
 use Rattle.roll_schedule.proofs.Coming.{tidy-same}
@@ -54,13 +56,20 @@ stands-at w replay stage is goes stands = record {
 pub is-waiting : (w : World) (replay : TwinReplay) → replay.stage ≡ None → StandsFor w replay
     → w ≡ waiting replay.line replay.chosen replay.second
 is-waiting w replay is stands =
-    subst (λ (o : Option Stage). IsStaged w replay o) is stands.stage
+    (subst (λ (o : Option Stage). IsStaged w replay o) is stands.stage).0
+
+-- what was chosen by then can be opened
+pub opens-at : (w : World) (replay : TwinReplay) → replay.stage ≡ None → StandsFor w replay
+    → MayOpen replay.chosen.group replay.second
+opens-at w replay is stands =
+    (subst (λ (o : Option Stage). IsStaged w replay o) is stands.stage).1
 
 pub waits-at : (w : World) (replay : TwinReplay) → replay.stage ≡ None → replay.halted ≡ None
-    → w ≡ waiting replay.line replay.chosen replay.second → StandsFor w replay
-waits-at w replay is goes at = record {
+    → w ≡ waiting replay.line replay.chosen replay.second
+    → MayOpen replay.chosen.group replay.second → StandsFor w replay
+waits-at w replay is goes at opens = record {
   goes = goes;
-  stage = subst (λ (o : Option Stage). IsStaged w replay o) (sym is) at;
+  stage = subst (λ (o : Option Stage). IsStaged w replay o) (sym is) (at, opens);
 }
 
 -- ---- a line begins
@@ -80,6 +89,9 @@ line-unbegun number w old new is_old is_new halted line chosen second stands =
     waits-at (at_line number w) new is_new (halted ∙ stands.goes)
     (ap (λ (v : World). at_line number v) (is-waiting w old is_old stands)
     ∙ (λ i. waiting (sym line i) (sym chosen i) (sym second i)))
+    (subst (λ (c : Choices). MayOpen c.group new.second) (sym chosen)
+    (subst (λ (o : Option Keyed). MayOpen old.chosen.group o) (sym second)
+    (opens-at w old is_old stands)))
 
 module _ {K : Type 0} {Took : K → Report → K → Type 0} {Broke : K → Report → K → Broken → Type 0}
   where
@@ -117,12 +129,14 @@ module _ {K : Type 0} {Took : K → Report → K → Type 0} {Broke : K → Repo
         → (let w = waiting old.value.line old.value.chosen old.value.second in
         record w { kept = f w.kept }
         ≡ waiting new.value.line new.value.chosen new.value.second)
+        → (MayOpen old.value.chosen.group old.value.second
+        → MayOpen new.value.chosen.group new.value.second)
         → new.outlet ≡ old.outlet → DidSo Took Broke (change f) old new (Ok tt)
-    waiting-does f old new is_old is_new halted same outlet =
+    waiting-does f old new is_old is_new halted same opens outlet =
         change-does f old new (λ w stands.
         waits-at (record w { kept = f w.kept }) new.value is_new (halted ∙ stands.goes)
         (ap (λ (v : World). record v { kept = f v.kept }) (is-waiting w old.value is_old stands)
-        ∙ same)) outlet
+        ∙ same) (opens (opens-at w old.value is_old stands))) outlet
 
     -- what cannot be performed where the replay stands is done by nothing
     pub never-does : (act : Act) (old new : Moment TwinReplay K) (r : Result (Unit {0}) Halt)
@@ -189,13 +203,13 @@ module _ {K : Type 0} {Took : K → Report → K → Type 0} {Broke : K → Repo
     -- a text is performed as what it says, as the line of the next number
     read-does : (text : List ℕ) (number : ℕ) (said : Result (Option RollLine) TextFault)
         (old new : Moment TwinReplay K) (r : Result (Unit {0}) Halt)
-        → ((w : World) → StandsFor w old.value → number ≡ w.kept.line + 1)
+        → ((w : World) → StandsFor w old.value → number ≡ line_after w.kept.line)
         → roll_line_in text ≡ said
         → DidSo Took Broke (seq (begin_line number) (act_read said)) old new r
         → DidSo Took Broke (performed text) old new r
     read-does text number said old new r next is d =
         same-act (performed text) (seq (begin_line number) (act_read said)) old new r
-        (λ w reached. ap (λ s. perform (act_read s) (at_line (w.kept.line + 1) w)) is
+        (λ w reached. ap (λ s. perform (act_read s) (at_line (line_after w.kept.line) w)) is
         ∙ ap (λ (n : ℕ). perform (act_read said) (at_line n w)) (sym (next w reached.stands)))
         (λ w reached comes.
         subst (λ (n : ℕ). IsTidy (at_line n w)
@@ -203,11 +217,11 @@ module _ {K : Type 0} {Took : K → Report → K → Type 0} {Broke : K → Repo
         (sym (next w reached.stands)) (
           comes.0,
           λ tidy.
-              subst (λ s. Comes (act_read s) (at_line (w.kept.line + 1) w)) is (comes.1 tidy),
+              subst (λ s. Comes (act_read s) (at_line (line_after w.kept.line) w)) is (comes.1 tidy),
         )) d
 
     pub skipped-does : (text : List ℕ) (number : ℕ) (old new : Moment TwinReplay K)
-        → ((w : World) → StandsFor w old.value → number ≡ w.kept.line + 1)
+        → ((w : World) → StandsFor w old.value → number ≡ line_after w.kept.line)
         → roll_line_in text ≡ Ok None → DidSo Took Broke (begin_line number) old new (Ok tt)
         → DidSo Took Broke (performed text) old new (Ok tt)
     skipped-does text number old new next said d =
@@ -217,25 +231,25 @@ module _ {K : Type 0} {Took : K → Report → K → Type 0} {Broke : K → Repo
 
     pub line-does : (text : List ℕ) (number : ℕ) (line : RollLine) (old new : Moment TwinReplay K)
         (r : Result (Unit {0}) Halt)
-        → ((w : World) → StandsFor w old.value → number ≡ w.kept.line + 1)
+        → ((w : World) → StandsFor w old.value → number ≡ line_after w.kept.line)
         → roll_line_in text ≡ Ok (Some line) → DidSo Took Broke (numbered number line) old new r
         → DidSo Took Broke (performed text) old new r
     line-does text number line old new r next said d =
         read-does text number (Ok (Some line)) old new r next said d
 
     pub fault-does : (text : List ℕ) (number : ℕ) (fault : TextFault) (now : Moment TwinReplay K)
-        → ((w : World) → StandsFor w now.value → number ≡ w.kept.line + 1)
+        → ((w : World) → StandsFor w now.value → number ≡ line_after w.kept.line)
         → first_roll_fault text ≡ Some fault
         → DidSo Took Broke (performed text) now now (Err (halts.Trace number (kind_of_fault fault)))
     fault-does text number fault now next first = record {
       ends = λ w reached comes.
-          let v = at_line (w.kept.line + 1) w in
+          let v = at_line (line_after w.kept.line) w in
           inl (record {
             world = v;
             stops = ap (λ s. perform (act_read s) v) (fault-is (roll_line_in text) fault first)
                 ∙ ap (λ (n : ℕ). Stops v (halts.Trace n (kind_of_fault fault)))
                 (sym (next w reached.stands));
-            tidy = tidy-same w (record w.kept { line = w.kept.line + 1 }) reached.tidy refl refl refl
+            tidy = tidy-same w (record w.kept { line = line_after w.kept.line }) reached.tidy refl refl refl
                 (λ e. e);
             told = told-none w v now.outlet now.outlet refl refl;
           });

@@ -22,7 +22,7 @@ use Rattle.trace_acts.specs.declared.halt.Halt.{Halt}
 use Rattle.trace_acts.specs.declared.halt.Halt.TheVariants as halts
 use Rattle.trace_acts.specs.Halts.{halt_of}
 use Rattle.roll_schedule.specs.World.{World, pair_of}
-use Rattle.roll_schedule.specs.Acts.{Act, nothing, refuse, happen, change, seq, look, Course, Goes}
+use Rattle.roll_schedule.specs.Acts.{Act, nothing, refuse, exceed, happen, change, seq, look, Course, Goes}
 use Rattle.roll_schedule.specs.Acts.{Stops, answered, and_then, perform, supply}
 
 -- ---- stops
@@ -140,6 +140,7 @@ then-stays (Stops w halt) g first later = first
 stays : (act : Act) (w : World) → Stays (perform act w)
 stays nothing w = tt
 stays (refuse kind) w = tt
+stays (exceed which) w = tt
 stays (happen event) w =
     event-stays w event (twin_stop (pair_of w) w.kept.users w.run event (supply w))
     (happening (pair_of w) w.kept.users w.run event (supply w))

@@ -2,22 +2,24 @@
 use Rattle.std.specs.Prelude.{ℕ, ◌+◌, Bool, if◌then◌else◌, zero, suc, List, [], ◌∷◌}
 use Rattle.std.specs.Prelude.{Option, Some, None}
 use Rattle.lan_core.specs.declared.stop.Stop.{Stop}
+use Rattle.lan_core.specs.declared.stop.Which.{Which}
 use Rattle.cak_roll.specs.declared.event.TwinEvent.{TwinEvent}
 use Rattle.cak_roll.specs.Twin.{TwinHappening}
 use Rattle.cak_roll.specs.Stepping.{Supply, happening, twin_stop, twin_draws}
 use Rattle.trace_acts.specs.declared.halt.Halt.{Halt}
-use Rattle.trace_acts.specs.declared.halt.Halt.TheVariants.{Trace}
+use Rattle.trace_acts.specs.declared.halt.Halt.TheVariants.{Limit, Trace}
 use Rattle.trace_acts.specs.declared.halt.Kind.{Kind}
 use Rattle.trace_acts.specs.Settings.{rule_of}
 use Rattle.trace_acts.specs.Supply.{draws_after}
 use Rattle.trace_acts.specs.Halts.{halt_of}
 use Rattle.roll_schedule.specs.World.{World, Kept, pair_of}
 
--- nothing; the line is refused; an event happens; what is kept changes; one act and then another; or
--- an act that depends on the world it begins in
+-- nothing; the line is refused; it asks for more than a limit leaves; an event happens; what is kept
+-- changes; one act and then another; or an act that depends on the world it begins in
 pub data Act : Type 0 where
   nothing : Act
   refuse : Kind → Act
+  exceed : Which → Act
   happen : TwinEvent → Act
   change : (Kept → Kept) → Act
   seq : Act → Act → Act
@@ -64,6 +66,7 @@ world_of (Stops w halt) = w
 abbrev pub perform : Act → World → Course
 perform nothing w = Goes w
 perform (refuse kind) w = Stops w (Trace w.kept.line kind)
+perform (exceed which) w = Stops w (Limit which)
 perform (happen event) w = happens w event
 perform (change f) w = Goes (record w { kept = f w.kept })
 perform (seq first then_) w = and_then (perform first w) (λ v. perform then_ v)

@@ -1,7 +1,9 @@
 -- What each line of a trace of two groups performs (this profile's own rule).
 use Rattle.std.specs.Prelude.{ℕ, ◌+◌, ◌-◌, ◌==◌, ◌||◌, Bool, true, not, List, [], ◌∷◌, ◌++◌, length}
+use Rattle.std.specs.Prelude.{if◌then◌else◌, min, nat_lt}
 use Rattle.std.specs.Prelude.{Option, Some, None, Result, Ok}
 use Rattle.lan_base.specs.declared.frame.UserFrame.{UserFrame}
+use Rattle.lan_core.specs.declared.stop.Which.TheVariants.{Frames}
 use Rattle.cak_roll.specs.declared.event.GroupNumber.{GroupNumber}
 use Rattle.cak_roll.specs.declared.event.GroupNumber.TheVariants.{First, Second}
 use Rattle.cak_roll.specs.declared.event.TwinEvent.TheVariants as twins
@@ -19,7 +21,7 @@ use Rattle.trace_acts.specs.Links.{is_cut, with_link, without_link}
 use Rattle.trace_acts.specs.Choosing.{chosen_by}
 use Rattle.roll_schedule.specs.World.{World, Kept, count, place, joined, is_out, frames, sender}
 use Rattle.roll_schedule.specs.World.{spread_in, has_spread}
-use Rattle.roll_schedule.specs.Acts.{Act, nothing, refuse, happen, change, seq, look, each, span}
+use Rattle.roll_schedule.specs.Acts.{Act, nothing, refuse, exceed, happen, change, seq, look, each, span}
 use Rattle.roll_schedule.specs.Acts.{times, unless}
 use Rattle.roll_schedule.specs.Kinds.{group_of, refusal, first_refusal}
 
@@ -98,6 +100,21 @@ add_user frame = change (λ kept. record kept { users = kept.users ++ frame ∷ 
 abbrev pub send : ℕ → UserFrame → Act
 send s frame = seq (add_user frame) (look (λ w. happen (twins.Send s (length w.kept.users))))
 
+-- the greatest count of user frames that lines name: each has a number
+abbrev pub most_users : ℕ
+most_users = 4294967294
+
+-- whether one more is more than have numbers
+abbrev pub is_over : World → Bool
+is_over w = nat_lt most_users (length w.kept.users + 1)
+
+abbrev pub unless_over : Bool → Act → Act
+unless_over over act = if over then exceed Frames else act
+
+-- a station sends a user frame, unless it has no number left
+abbrev pub send_new : ℕ → UserFrame → Act
+send_new s frame = look (λ w. unless_over (is_over w) (send s frame))
+
 -- ---- lines
 
 -- what a line of one group performs that isn't refused
@@ -110,7 +127,7 @@ deed_plain (lines.Cut from to) w = change (cut_in (place w from) (place w to))
 deed_plain (lines.Mend from to) w = change (mended_in (place w from) (place w to))
 deed_plain (lines.Restart name) w = restart (place w name)
 deed_plain (lines.Send name destination body) w =
-    send (place w name) (record { destination = destination; body = body })
+    send_new (place w name) (record { destination = destination; body = body })
 deed_plain line w = choose (chosen_by line)
 
 -- what a line performs that isn't refused
@@ -147,10 +164,14 @@ abbrev pub deed_read : Result (Option RollLine) TextFault → World → Act
 deed_read (Ok (Some line)) w = deed line w
 deed_read _ w = nothing
 
+-- the number of the next line: all lines behind the 2^32 - 1st have its number
+abbrev pub line_after : ℕ → ℕ
+line_after line = min (line + 1) 4294967295
+
 -- what a text without its line ending performs, as the next line
 abbrev pub performed : List ℕ → Act
 performed text =
-    seq (change (λ kept. record kept { line = kept.line + 1 }))
+    seq (change (λ kept. record kept { line = line_after kept.line }))
     (look (λ w. unless_refused (first_refusal text w) (deed_read (roll_line_in text) w)))
 
 -- what lines perform

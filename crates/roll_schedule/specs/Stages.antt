@@ -26,6 +26,7 @@ pub record StandsFor (w : World) (stage : Stage) : Type 0 where
   pub keyed : stage.keyed ≡ w.kept.second
   pub line : stage.line ≡ w.kept.line
   pub twin : TwinStandsFor (pair_of w) w.kept.users stage.twin w.run
+  pub there : is_some stage.twin.second ≡ is_some w.kept.second
   pub draws : (k : ℕ) → supply_nth stage.draws k ≡ supply w k
   pub scis : stage.scis.items ≡ map (λ p. p.sci) (stations (run_of First w.run))
   pub users : stage.users ≡ length w.kept.users

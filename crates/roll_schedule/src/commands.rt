@@ -15,7 +15,9 @@ ghost use Rattle.roll_schedule.specs.Kinds.{refusal};
 ghost use Rattle.roll_schedule.specs.Lines.{numbered, at_line, act_of, deed_plain, performed};
 ghost use Rattle.roll_schedule.specs.Ends.{moment, IsReached};
 ghost use Rattle.roll_schedule.specs.Standing.{StandsFor, Does};
-ghost use Rattle.roll_schedule.specs.inside.Choosing.{is_later, MayPrepare};
+ghost use Rattle.roll_schedule.specs.Stages.{StandsFor as StageStandsFor};
+ghost use Rattle.roll_schedule.specs.declared.stage.Stage.{Stage};
+ghost use Rattle.roll_schedule.specs.inside.Choosing.{is_later, MayJoin, MayPrepare};
 ghost use Rattle.roll_schedule.specs.inside.Doing.{DidSo};
 
 use crate::recorder::TwinRecorder;
@@ -94,9 +96,7 @@ impl TwinReplay {
         ensures { DidSo R.Took R.Broke (performed text.now)
             (moment self.old outlet.old) (moment self.new outlet.new) result }
     {
-        let Some(number) = self.line().checked_add(1) else {
-            return Err(Halt::Memory);
-        };
+        let number = self.line().saturating_add(1);
         match read_roll_line(self.alloc, text) {
             Ok(None) => {
                 self.begin_line(number);
@@ -180,6 +180,10 @@ impl TwinReplay {
         ensures first { (w : World) → IsReached StandsFor w self.now → result ≡ refusal line.now w }
         ensures before { self.now.stage ≡ None
             → IfNone result (MayPrepare line.now self.now.chosen) }
+        ensures staged { (stage : Stage) → self.now.stage ≡ Some stage → (w : World)
+            → IsReached StageStandsFor w stage → result ≡ refusal line.now w }
+        ensures second { self.now.stage ≡ None → IfNone result
+            (MayJoin line.now self.now.chosen.group self.now.second) }
         ensures later { is_some self.now.stage ≡ true → IfNone result (is_later line.now ≡ true) }
     {
         match &self.stage {
@@ -251,6 +255,7 @@ impl TwinReplay {
 fn refusal_before(chosen: &Choices, second: &Option<Keyed>, line: &RollLine) -> Option<Kind>
     ensures first { (n : ℕ) → result ≡ refusal line.now (waiting n chosen.now second.now) }
     ensures before { IfNone result (MayPrepare line.now chosen.now) }
+    ensures second { IfNone result (MayJoin line.now chosen.now.group second.now) }
 {
     match line {
         RollLine::Plain(line) => refusal(chosen, line),

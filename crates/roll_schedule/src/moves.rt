@@ -1,6 +1,6 @@
 //! Time moves on, and frames go from station to station.
 
-ghost use Rattle.std.specs.Prelude.{◌≡◌, ◌+◌, ◌-◌, IfOk};
+ghost use Rattle.std.specs.Prelude.{◌≡◌, ◌<◌, ◌+◌, ◌-◌, ◌^◌, IfOk};
 ghost use Rattle.cak_roll.specs.Twin.{of_group};
 ghost use Rattle.std.specs.List.{range_with_len};
 ghost use Rattle.roll_schedule.specs.World.{World, joined, sender, has_spread};
@@ -197,9 +197,7 @@ impl Stage {
         ensures { Did R.Took R.Broke (spread_group group)
             (moment self.old outlet.old) (moment self.new outlet.new) result }
     {
-        let Ok(count) = u32::try_from(self.party(group).count()) else {
-            return Err(Halt::Memory);
-        };
+        let count = counted(self.party(group).count());
         let first = self.party(group).spread;
         self.spread_between(group, first, count, recorder, outlet)?;
         self.set_spread(group, count);
@@ -274,6 +272,13 @@ impl Stage {
         }
         Ok(())
     }
+}
+
+/// A count of frames, of which there are fewer than 2^32.
+fn counted(count: usize) -> u32
+    ensures { count < 2 ^ 32 → result ≡ count }
+{
+    u32::try_from(count).unwrap_or(u32::MAX)
 }
 
 /// The places below a count of stations.

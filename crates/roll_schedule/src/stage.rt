@@ -1,37 +1,44 @@
 //! Two groups at work: the lines after the first station are performed on them.
 
-ghost use Rattle.std.specs.Prelude.{◌≡◌, ◌≤◌, length, is_some, nat_eq, true, false, Some};
+ghost use Rattle.std.specs.Prelude.{◌≡◌, ◌<◌, ◌≤◌, ◌+◌, length, is_some, nat_eq, true, false, Some, None};
 ghost use Rattle.std.specs.Prelude.{◌⊎◌, OnOk, IfOk, IfErr};
 ghost use Rattle.std.specs.List.{position_or_len};
 ghost use Rattle.std.specs.Option.{option_copied};
 ghost use Rattle.std.specs.Cmp.Lexicographic.{pointwise};
+ghost use Rattle.lan_base.specs.Ranges.{IsCkn};
+ghost use Rattle.lan_core.specs.declared.stop.Which.{Which};
 ghost use Rattle.cak_roll.specs.declared.event.TwinEvent.TheVariants as twins;
 ghost use Rattle.cak_roll.specs.declared.event.GroupNumber.{GroupNumber};
 ghost use Rattle.trace_text.specs.Writing.{IsInForm};
 ghost use Rattle.roll_text.specs.InForm.{IsInFormRoll};
 ghost use Rattle.trace_acts.specs.declared.halt.Halt.{Halt};
+ghost use Rattle.trace_acts.specs.declared.halt.Kind.{Kind};
 ghost use Rattle.trace_acts.specs.Places.{is_elsewhere};
 ghost use Rattle.roll_schedule.specs.World.{World, place, is_out};
 ghost use Rattle.roll_schedule.specs.Acts.{happen, seq, look};
-ghost use Rattle.roll_schedule.specs.Kinds.{group_of};
-ghost use Rattle.roll_schedule.specs.Lines.{begin, restart, send, cut_in, mended_in};
+ghost use Rattle.roll_schedule.specs.Kinds.{group_of, may_be_second, refusal};
+ghost use Rattle.roll_schedule.specs.Lines.{begin, restart, send_new, most_users, cut_in, mended_in};
 ghost use Rattle.roll_schedule.specs.Lines.{deed, deed_plain};
-ghost use Rattle.roll_schedule.specs.Ends.{moment};
+ghost use Rattle.roll_schedule.specs.Ends.{moment, IsReached};
+ghost use Rattle.roll_schedule.specs.Standing.{MayOpen};
 ghost use Rattle.roll_schedule.specs.Stages.{StandsFor};
 ghost use Rattle.roll_schedule.specs.inside.Choosing.{is_later, IsOpening, with_second};
-ghost use Rattle.roll_schedule.specs.inside.Doing.{Did, Happened};
+ghost use Rattle.roll_schedule.specs.inside.Doing.{halt_by, Did, Happened};
 
 use crate::choosing::opening_of;
 use crate::party::Party;
 use crate::recorder::TwinRecorder;
 use crate::telling::{admit, put_all, tell};
-use cak_roll::{GroupNumber, Twin, TwinEvent};
+use cak_roll::{GroupNumber, Twin, TwinError, TwinEvent};
 use lan_base::{Mac, Name, Octets, Sci, UserFrame};
-use lan_core::StepError;
+use lan_core::{StepError, Which};
 use roll_text::RollLine;
 use std::alloc::{AllocError, Global};
-use trace_acts::{Choices, Halt, Keyed, Links, Supply, halt_of, position, secret_of};
+use trace_acts::{Choices, Halt, Keyed, Kind, Links, Supply, halt_of, position, secret_of};
 use trace_text::Line;
+
+/// The greatest count of user frames that lines name.
+const MAX_USERS: u32 = 4_294_967_294;
 
 /// Two groups, and what is kept beside them.
 #[derive(Drop)]
@@ -54,7 +61,8 @@ pub struct Stage {
 }
 
 impl Stage {
-    /// Two groups by what was chosen, in which nothing happened yet. The line of this number begins.
+    /// Two groups by what was chosen, in which nothing happened yet. The line of this number begins. Where
+    /// a group can't be opened, the line isn't allowed.
     pub fn new(
         alloc: Global,
         chosen: Choices,
@@ -63,9 +71,10 @@ impl Stage {
     ) -> Result<Self, Halt>
         ensures stands { (w : World) → is_some chosen.group ≡ true → IsOpening w chosen keyed line
             → IfOk result (StandsFor w) }
-        ensures memory { IfErr result (λ halt. halt ≡ Halt.Memory) }
+        ensures memory { is_some chosen.group ≡ true → MayOpen chosen.group keyed
+            → IfErr result (λ halt. halt ≡ Halt.Memory) }
     {
-        match opening_of(alloc, &chosen, &keyed) {
+        match opening_of(alloc, &chosen, &keyed, line) {
             Ok((draws, twin)) => Ok(Stage {
                 alloc,
                 twin,
@@ -83,23 +92,46 @@ impl Stage {
         }
     }
 
-    /// The second group comes.
+    /// The second group comes. One that is refused isn't allowed.
     fn take_second(&mut self, cak: &Octets, ckn: &Octets) -> Result<(), Halt>
         requires { (length cak.now ≡ 16) ⊎ (length cak.now ≡ 32) }
         ensures stands { OnOk result ((w : World) → StandsFor w self.old
             → StandsFor (with_second cak.now ckn.now w) self.new) }
-        ensures memory { IfErr result (λ halt. halt ≡ Halt.Memory) }
+        ensures memory { (w : World) → StandsFor w self.old → IsCkn ckn.now
+            → may_be_second ckn.now w.kept.chosen.group w.kept.second ≡ true
+            → IfErr result (λ halt. halt ≡ Halt.Memory) }
     {
         let cak = secret_of(cak.as_slice());
         match self.twin.second(cak, ckn.copied(self.alloc)?) {
             Ok(()) => {}
-            Err(_) => return Err(Halt::Memory),
+            Err(_) => return Err(self.order()),
         }
         self.keyed = Some(Keyed {
             cak,
             ckn: ckn.copied(self.alloc)?,
         });
         Ok(())
+    }
+
+    /// Why the trace ends where the groups go no further.
+    fn halt_by(&self, error: TwinError) -> Halt
+        ensures { result ≡ halt_by self.now.line error }
+    {
+        match error {
+            TwinError::Failed(StepError::Stopped(stop)) => halt_of(stop, self.line),
+            TwinError::Failed(StepError::Memory) => Halt::Memory,
+            TwinError::NoSecond => self.order(),
+        }
+    }
+
+    /// The line isn't allowed here.
+    fn order(&self) -> Halt
+        ensures { result ≡ Halt.Trace self.now.line Kind.Order }
+    {
+        Halt::Trace {
+            line: self.line,
+            kind: Kind::Order,
+        }
     }
 
     // ---- events
@@ -117,8 +149,7 @@ impl Stage {
     {
         let told = match self.twin.step(event, user, &mut self.draws) {
             Ok(told) => told,
-            Err(StepError::Stopped(stop)) => return Err(halt_of(stop, self.line)),
-            Err(StepError::Memory) => return Err(Halt::Memory),
+            Err(error) => return Err(self.halt_by(error)),
         };
         admit(
             &mut self.first.names,
@@ -225,7 +256,7 @@ impl Stage {
         outlet: &mut K,
     ) -> Result<(), Halt>
         ensures { Did R.Took R.Broke
-            (send station (record { destination = destination; body = body.now }))
+            (send_new station (record { destination = destination; body = body.now }))
             (moment self.old outlet.old) (moment self.new outlet.new) result }
     {
         let user = UserFrame {
@@ -235,7 +266,7 @@ impl Stage {
         self.send(station, &user, recorder, outlet)
     }
 
-    /// A station sends a user frame.
+    /// A station sends a user frame, unless it has no number left.
     fn send<K, R: TwinRecorder<K>>(
         &mut self,
         station: u8,
@@ -243,18 +274,29 @@ impl Stage {
         recorder: &mut R,
         outlet: &mut K,
     ) -> Result<(), Halt>
-        ensures { Did R.Took R.Broke (send station user.now)
+        ensures { Did R.Took R.Broke (send_new station user.now)
             (moment self.old outlet.old) (moment self.new outlet.new) result }
     {
-        let Some(users) = self.users.checked_add(1) else {
-            return Err(Halt::Memory);
-        };
-        self.users = users;
+        let number = self.next_user()?;
         let sending = TwinEvent::Send {
             station,
-            user: users,
+            user: number,
         };
         self.happen(&sending, Some(user), recorder, outlet)
+    }
+
+    /// The number of one more user frame, where one is left.
+    fn next_user(&mut self) -> Result<u32, Halt>
+        ensures number { IfOk result (λ number. (self.old.users < most_users)
+            × (number ≡ self.old.users + 1) × (self.new ≡ record self.old { users = number })) }
+        ensures over { IfErr result (λ halt. (most_users ≤ self.old.users)
+            × (halt ≡ Halt.Limit Which.Frames)) }
+    {
+        if self.users >= MAX_USERS {
+            return Err(Halt::Limit(Which::Frames));
+        }
+        self.users += 1;
+        Ok(self.users)
     }
 
     // ---- names
@@ -286,7 +328,8 @@ impl Stage {
     ) -> Result<(), Halt>
         requires form { IsInFormRoll line.now }
         requires later { is_later line.now ≡ true }
-        ensures { Did R.Took R.Broke (look (λ w. deed line.now w))
+        ensures { ((w : World) → IsReached StandsFor w self.old → None ≡ refusal line.now w)
+            → Did R.Took R.Broke (look (λ w. deed line.now w))
             (moment self.old outlet.old) (moment self.new outlet.new) result }
     {
         match line {

@@ -4,8 +4,10 @@ use Rattle.std.specs.Prelude.{min}
 use Rattle.std.proofs.lemmas.List.{append-nil}
 use Rattle.lan_base.specs.Told.{after}
 use Rattle.lan_core.specs.declared.fact.Fact.{Fact}
+use Rattle.transcript_reader.specs.Facts.{Known, Tells}
 use Rattle.capture_file.specs.Records.{records_of}
-use Rattle.transcript.specs.Naming.{Reads}
+use Rattle.transcript.specs.declared.fault.FactError.{FactError}
+use Rattle.transcript.specs.declared.fault.FactError.TheVariants as readings
 use Rattle.transcript_capture.specs.declared.clock.Clock.{Clock}
 use Rattle.transcript_capture.specs.declared.end.Stop.{Stop}
 use Rattle.transcript_capture.specs.declared.end.Stop.TheVariants.{Refused, Failed, Memory}
@@ -13,34 +15,34 @@ use Rattle.transcript_capture.specs.declared.fault.LineFault.TheVariants.{Unread
 use Rattle.transcript_capture.specs.Packets.{Fits, packet_of, ticks}
 use Rattle.transcript_capture.specs.Recording.{IsClockAfter, WrotePart, recorded}
 use Rattle.transcript_capture.specs.inside.Doing.{IsAfter, State, Takes, TookPart, numbered, recorded_all}
-use Rattle.transcript_capture.specs.inside.Lining.{IsRead, Recorded}
+use Rattle.transcript_capture.specs.inside.Lining.{IsRead, Recorded, unread}
 use Rattle.transcript_capture.specs.inside.Holding.{after-none}
 
 alone : (earlier : List Fact) (fact : Fact) → recorded earlier fact ≡ recorded_all earlier (fact ∷ [])
 alone earlier fact = ap records_of (sym (append-nil (packet_of (ticks earlier) fact)))
 
 -- the next line's number
-pub next-number : (names : List (List ℕ)) (earlier : List Fact) (old : State) (number : ℕ)
-    → IsAfter names earlier old → number ≡ min (old.line + 1) (2 ^ 32 - 1)
+pub next-number : (known : Known) (earlier : List Fact) (old : State) (number : ℕ)
+    → IsAfter known earlier old → number ≡ min (old.line + 1) (2 ^ 32 - 1)
     → number ≡ numbered (length earlier + 1)
-next-number names earlier old number is n = let l = is.line in omega (arith, l, n)
+next-number known earlier old number is n = let l = is.line in omega (arith, l, n)
 
-module _ (names : List (List ℕ)) (earlier : List Fact) (text : List ℕ) (old : State)
-    (held then : Option (List ℕ)) (number : ℕ) (is : IsAfter names earlier old)
+module _ (known : Known) (earlier : List Fact) (text : List ℕ) (old : State)
+    (held then : Option (List ℕ)) (number : ℕ) (is : IsAfter known earlier old)
     (numbered_is : number ≡ numbered (length earlier + 1)) where
   -- a line that is not read
   pub not-read : (new : State) (stop : Stop) → then ≡ held → IsRead number text old new (Err stop)
-      → Takes names earlier (text ∷ []) new held then (Err stop)
+      → Takes known earlier (text ∷ []) new held then (Err stop)
   not-read new (Refused at Unread) same (here, denied) = record {
     front = [];
     line = text;
     later = [];
     parts = refl;
-    names_then = names;
+    known_then = known;
     facts = [];
     taken = refl;
     denied = λ after fact reads. denied after fact
-        (subst (λ (n : List (List ℕ)). Reads n text after fact) (sym is.named) reads);
+        (subst (λ (n : Known). Tells n text after fact) (sym is.known_is) reads);
     number_is = here ∙ numbered_is
         ∙ ap (λ (l : List Fact). numbered (length l + 1)) (sym (append-nil earlier));
     written = same ∙ after-none held;
@@ -51,7 +53,7 @@ module _ (names : List (List ℕ)) (earlier : List Fact) (text : List ℕ) (old 
     front = [];
     later = text ∷ [];
     parts = refl;
-    names_then = names;
+    known_then = known;
     facts = [];
     taken = refl;
     count = 0;
@@ -59,39 +61,39 @@ module _ (names : List (List ℕ)) (earlier : List Fact) (text : List ℕ) (old 
   }
 
   module _ (middle new : State) (fact : Fact) (r : IsRead number text old middle (Ok fact)) where
-    reads : Reads names text middle.names fact
-    reads = subst (λ (n : List (List ℕ)). Reads n text middle.names fact) is.named r.0
+    reads : Tells known text middle.known fact
+    reads = subst (λ (n : Known). Tells n text middle.known fact) is.known_is r.0
 
-    -- the line is read, and its names are known
-    pub stands-read : IsAfter middle.names earlier middle
+    -- the line is read, and its known are known
+    pub stands-read : IsAfter middle.known earlier middle
     stands-read = record {
-      named = refl;
+      known_is = refl;
       clock = subst (λ (c : Clock). IsClockAfter earlier c) (sym r.1) is.clock;
       line = r.2 ∙ is.line;
     }
 
     abbrev part : Fits fact → WrotePart (recorded earlier fact) held then
-        → TookPart names earlier (text ∷ []) held then
+        → TookPart known earlier (text ∷ []) held then
     part fits (n, less, written) = record {
       front = text ∷ [];
       later = [];
       parts = refl;
-      names_then = middle.names;
+      known_then = middle.known;
       facts = fact ∷ [];
-      taken = (middle.names, reads, fits, refl);
+      taken = (middle.known, reads, fits, refl);
       count = n;
       written = written ∙ ap (λ (l : List ℕ). after held (take n l)) (alone earlier fact);
     }
 
     pub line-taken : (result : Result (Unit {0}) Stop)
-        → Recorded number middle.names earlier fact new held then result
-        → Takes names earlier (text ∷ []) new held then result
+        → Recorded number middle.known earlier fact new held then result
+        → Takes known earlier (text ∷ []) new held then result
     line-taken (Ok done) (fits, named, clock, line, written) = record {
-      names_then = middle.names;
+      known_then = middle.known;
       facts = fact ∷ [];
-      taken = (middle.names, reads, fits, refl);
+      taken = (middle.known, reads, fits, refl);
       stands = record {
-        named = named;
+        known_is = named;
         clock = clock;
         line = line ∙ numbered_is ∙ ap numbered (sym (length-append earlier (fact ∷ [])));
       };
@@ -102,10 +104,10 @@ module _ (names : List (List ℕ)) (earlier : List Fact) (text : List ℕ) (old 
       line = text;
       later = [];
       parts = refl;
-      names_then = names;
+      known_then = known;
       facts = [];
       taken = refl;
-      denied = (middle.names, fact, reads, long);
+      denied = (middle.known, fact, reads, long);
       number_is = here ∙ numbered_is
           ∙ ap (λ (l : List Fact). numbered (length l + 1)) (sym (append-nil earlier));
       written = same ∙ after-none held;
@@ -115,6 +117,14 @@ module _ (names : List (List ℕ)) (earlier : List Fact) (text : List ℕ) (old 
         let l = ap length (alone earlier fact) in
         (part fits (n, less, written), omega (arith, l, less))
     line-taken (Err Memory) (fits, w) = part fits w
+
+-- a line was not read
+pub unread-is : (number : ℕ) (text : List ℕ) (old new : State) (fault : FactError)
+    → (fault ≡ readings.Unread → (after : Known) (fact : Fact) → Tells old.known text after fact → ⊥)
+    → (fault ≡ readings.Memory → (after : Known) × (fact : Fact) × Tells old.known text after fact)
+    → IsRead number text old new (Err (unread number fault))
+unread-is number text old new readings.Unread none some = (refl, none refl)
+unread-is number text old new readings.Memory none some = some refl
 
 -- the sink did not fail where a line is not read
 pub not-failed : (number : ℕ) (text : List ℕ) (old new : State) (stop : Stop)

@@ -5,6 +5,7 @@ use Rattle.lan_base.specs.Told.{after, before}
 use Rattle.text_lines.specs.Reading.{Sourced, lines_within, most_at_once}
 use Rattle.text_lines.specs.Texts.{lines_of, whole_lines}
 use Rattle.lan_core.specs.declared.fact.Fact.{Fact}
+use Rattle.transcript_reader.specs.Facts.{Known, nothing}
 use Rattle.capture_file.specs.Pcap.{most_input}
 use Rattle.capture_file.specs.Records.{file_of}
 use Rattle.transcript_capture.specs.declared.fault.LineFault.{LineFault}
@@ -13,9 +14,9 @@ use Rattle.transcript_capture.specs.declared.end.End.TheVariants as ends
 use Rattle.transcript_capture.specs.Lines.{AreTaken, IsDenied}
 use Rattle.transcript_capture.specs.Packets.{packets}
 
--- the lines of a transcript from its start show these facts
+-- the lines of a transcript from its start tell these facts
 abbrev pub Show : List (List ℕ) → List Fact → Type 0
-Show lines facts = (names : List (List ℕ)) × AreTaken [] lines names facts
+Show lines facts = (known : Known) × AreTaken nothing lines known facts
 
 -- the file of their packets was written
 abbrev pub Wrote : List (List ℕ) → Option (List ℕ) → Option (List ℕ) → Type 0
@@ -41,10 +42,10 @@ pub record IsRefused (lines : List (List ℕ)) (number : ℕ) (why : LineFault)
   pub later : List (List ℕ)
   pub parts : front ++ line ∷ later ≡ lines
   pub number_is : number ≡ length front + 1
-  pub names : List (List ℕ)
+  pub known : Known
   pub facts : List Fact
-  pub taken : AreTaken [] front names facts
-  pub denied : IsDenied names line why
+  pub taken : AreTaken nothing front known facts
+  pub denied : IsDenied known line why
   pub written : then ≡ after held (file_of (packets facts))
 
 -- By the end. The text was read whole, and all of its frames were written; or a line is refused. At a

@@ -3,9 +3,10 @@
 ghost use Rattle.std.specs.Prelude.{◌≡◌, ◌≤◌, ◌++◌, ◌∷◌, ℕ, List, [], Err, IfOk, OnOk};
 ghost use Rattle.lan_base.specs.Faults.{Rose};
 ghost use Rattle.lan_core.specs.declared.fact.Fact.{Fact};
+ghost use Rattle.transcript_reader.specs.Facts.{Known, nothing};
 ghost use Rattle.transcript_capture.specs.declared.end.Stop.TheVariants as stops;
 ghost use Rattle.transcript_capture.specs.inside.Doing.{IsAfter};
-ghost use Rattle.transcript_capture.specs.inside.Lining.{IsRead, Recorded};
+ghost use Rattle.transcript_capture.specs.inside.Lining.{IsRead, Recorded, unread};
 
 use crate::end::Stop;
 use crate::fault::{LineFault, RecordError};
@@ -15,13 +16,14 @@ use lan_core::Fact;
 use std::alloc::{AllocError, Global};
 use std::marker::Model;
 use text_lines::LineTaker;
-use transcript::{FactError, Reader};
+use transcript::FactError;
+use transcript_reader::FactReader;
 
 /// Takes the lines of a transcript one after the other, and records their frames.
 #[derive(Drop)]
 pub struct LineRecorder {
     alloc: Global,
-    reader: Reader,
+    reader: FactReader,
     recording: Recording,
     /// The number of the last line.
     line: u32,
@@ -32,17 +34,17 @@ impl Model for LineRecorder {
 
     ghost Value = { State };
 
-    ghost view = { λ r. record { names = r.reader; clock = r.recording; line = r.line } };
+    ghost view = { λ r. record { known = r.reader; clock = r.recording; line = r.line } };
 }
 
 impl LineRecorder {
     /// No line was taken.
     pub fn new(alloc: Global) -> Result<LineRecorder, AllocError>
-        ensures { IfOk result (λ recorder. IsAfter [] [] recorder) }
+        ensures { IfOk result (λ recorder. IsAfter nothing [] recorder) }
     {
         Ok(LineRecorder {
             alloc,
-            reader: Reader::new(alloc)?,
+            reader: FactReader::new(alloc)?,
             recording: Recording::new(alloc),
             line: 0,
         })
@@ -54,18 +56,14 @@ impl LineRecorder {
     {
         match self.reader.line(self.alloc, text) {
             Ok(fact) => Ok(fact),
-            Err(FactError::Unread) => Err(Stop::Refused {
-                line: number,
-                why: LineFault::Unread,
-            }),
-            Err(FactError::Memory) => Err(Stop::Memory),
+            Err(fault) => Err(unread(number, fault)),
         }
     }
 
     /// Records the fact of the line of this number.
     fn record<K: Sink>(&mut self, number: u32, fact: &Fact, sink: &mut K) -> Result<(), Stop>
-        ensures recorded { (names : List (List ℕ)) (earlier : List Fact)
-            → IsAfter names earlier self.old → Recorded number names earlier fact.now self.new
+        ensures recorded { (known : Known) (earlier : List Fact)
+            → IsAfter known earlier self.old → Recorded number known earlier fact.now self.new
             (K.held sink.old) (K.held sink.new) result }
         ensures failed { result ≡ Err stops.Failed → Rose (K.faults sink.old) (K.faults sink.new) }
         ensures counts { K.faults sink.old ≤ K.faults sink.new }
@@ -106,4 +104,17 @@ impl<K: Sink> LineTaker<K> for LineRecorder {
     ghost more = { λ a b c xs ys r d e. did-more _ _ _ a b c xs ys r d e };
 
     ghost early = { λ a b xs ys stop d. did-early _ _ _ a b xs ys stop d };
+}
+
+/// Why the line of this number is not taken, which was not read.
+fn unread(line: u32, fault: FactError) -> Stop
+    ensures { result ≡ unread line fault }
+{
+    match fault {
+        FactError::Unread => Stop::Refused {
+            line,
+            why: LineFault::Unread,
+        },
+        FactError::Memory => Stop::Memory,
+    }
 }

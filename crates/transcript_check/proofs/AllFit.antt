@@ -11,7 +11,7 @@ use Rattle.lan_core.specs.Places.{names, ArePlaced}
 use Rattle.lan_core.specs.TypedFacts.{IsTypedFact}
 use Rattle.transcript.specs.Rendering.{IsFact}
 
-few-stations : (settings : Settings) (users : List UserFrame) (r : Run) → IsStepped settings users r
+pub few-stations : (settings : Settings) (users : List UserFrame) (r : Run) → IsStepped settings users r
     → length (stations r) ≤ 16
 unfolding stations
 few-stations settings users [] stepped = omega arith

@@ -1,9 +1,11 @@
 -- The facts of a run that uses each packet number once and has one key under each identifier: no
 -- pair of them breaks.
 use Rattle.std.proofs.Common.{◌≡◌, ◌≢◌, ◌∙◌, ◌<◌, ◌≤◌, ◌+◌, inl, inr, ℕ, zero, suc, Bool, true, false, cond, List, [], ◌∷◌, ◌++◌, map, length, filter, Option, Some, None, refl, sym, ap, subst, arith}
-use Rattle.std.specs.Prelude.{◌==◌, ◌&&◌, slice_get, option_map}
+use Rattle.std.specs.Prelude.{All, ◌==◌, ◌&&◌, slice_get, option_map}
 use Rattle.std.specs.List.{find}
 use Rattle.std.specs.Option.{option_or}
+use Rattle.std.proofs.Math.Nat.{mod-eq_of_lt}
+use Rattle.std.proofs.lemmas.List.Elements.{All-head, All-tail}
 use Rattle.std.proofs.lemmas.Bool.{and_parts, eqb-true, eq-eqb}
 use Rattle.lan_base.specs.Differing.{DiffersFrom, AllDiffer}
 use Rattle.lan_base.specs.declared.association_number.AssociationNumber.{AssociationNumber}
@@ -13,11 +15,14 @@ use Rattle.aes_block.specs.Secrets.{secret_octets}
 use Rattle.sak_exchange.proofs.Public.{find-passes}
 use Rattle.lan_core.specs.declared.fact.Fact.{Fact}
 use Rattle.lan_core.specs.declared.fact.Fact.TheVariants as shows
-use Rattle.lan_core.specs.Run.{Run, facts_of}
+use Rattle.lan_core.specs.Run.{Run, facts_of, place, stations}
+use Rattle.lan_core.specs.Places.{ArePlaced}
 use Rattle.lan_core.specs.Ledgers.{with_one, gather, collect, Install, install_of, installs, Claim, claim_of, claims as the_claims}
 use Rattle.group_safety.specs.Once.{Once, OneKey, use_of as used_by, sak_of, sci_of}
 use Rattle.group_safety.proofs.Public.{In, in-contains, in-map, differs-in, same-place, in-find}
 use Rattle.lan_core.specs.Counted.{AreCounted}
+use Rattle.transcript.specs.Naming.{most_named}
+use Rattle.transcript_reader.specs.Forms.{station_of}
 use Rattle.transcript_check.specs.declared.named.Named.{Named}
 use Rattle.transcript_check.specs.Judged.{BreaksOnce, BreaksOneKey, fact_at, sak_here, sak_in, Use, use_of, named_by, same_named}
 use Rattle.least_pairs.proofs.Public.{some-same}
@@ -248,7 +253,8 @@ found-sak r once c sak is =
 record IsClaim (facts : List Fact) (f : Fact) (u : Use) : Type 0 where
   claim : Claim
   is : claim_of f ≡ Some claim
-  station_is : claim.station ≡ u.station
+  place_is : claim.station ≡ place f
+  station_is : station_of claim.station ≡ u.station
   pn_is : claim.pn ≡ u.pn
   sak_is : sak_in facts claim.station claim.epoch ≡ Some u.sak
 
@@ -256,13 +262,14 @@ claimed : (facts : List Fact) (f : Fact) (u : Use) → use_of facts f ≡ Some (
 claimed facts (shows.Claimed s an epoch pn) u e = go (sak_in facts s epoch) refl e
   where
     go : (o : Option Secret) → sak_in facts s epoch ≡ o
-        → option_map {U = Use × Unit {0}} (λ sak. (record { station = s; sak = sak; pn = pn }, tt)) o ≡ Some (u, tt)
+        → option_map {U = Use × Unit {0}} (λ sak. (record { station = station_of s; sak = sak; pn = pn }, tt)) o ≡ Some (u, tt)
         → IsClaim facts (shows.Claimed s an epoch pn) u
     go None none e = absurd (cc e)
     go (Some sak) some e =
         let same = ap (λ (p : Use × Unit {0}). p.0) (some-same e) in record {
           claim = record { station = s; an = an; epoch = epoch; pn = pn };
           is = refl;
+          place_is = refl;
           station_is = ap (λ (w : Use). w.station) same;
           pn_is = ap (λ (w : Use). w.pn) same;
           sak_is = some ∙ ap (λ (w : Use). Some w.sak) same;
@@ -291,9 +298,26 @@ apart-in read g before after x y a b i e f d =
     differs-in (g b) (g a) (map g (gather read before [])) two.0
     (in-map g (gather read before []) a (gather-has read before [] x a i e))
 
-pub no-use-pair : (r : Run) → Once r → InstallsOnce r → (a b : ℕ) → BreaksOnce (facts_of r) a b → ⊥
+-- the place of a fact of one group is that of its station
+abbrev pub AreFew : Run → Type 0
+AreFew r = (f : Fact) → In f (facts_of r) → place f < most_named
+
+all-in : (P : Fact → Type 0) (xs : List Fact) (f : Fact) → All P xs → In f xs → P f
+all-in P [] f all i = absurd i
+all-in P (x ∷ xs) f all (inl same) = subst P (sym same) (All-head P x xs all)
+all-in P (x ∷ xs) f all (inr i) = all-in P xs f (All-tail P x xs all) i
+
+pub few-places : (r : Run) → length (stations r) ≤ most_named → ArePlaced r (facts_of r) → AreFew r
+few-places r few placed f i =
+    let less = all-in (λ (f : Fact). place f < length (stations r)) (facts_of r) f placed i in
+    omega (arith, less, few)
+
+one-station : (s t : ℕ) → s < most_named → t < most_named → station_of s ≡ station_of t → s ≡ t
+one-station s t less below same = sym (mod-eq_of_lt less) ∙ same ∙ mod-eq_of_lt below
+
+pub no-use-pair : (r : Run) → Once r → InstallsOnce r → AreFew r → (a b : ℕ) → BreaksOnce (facts_of r) a b → ⊥
 unfolding the_claims
-no-use-pair r once single a b broken =
+no-use-pair r once single few a b broken =
     let f = some-of (use_of (facts_of r)) (fact_at (facts_of r) a) (broken.key, tt) broken.first in
     let g = some-of (use_of (facts_of r)) (fact_at (facts_of r) b) (broken.key, tt) broken.second in
     let c = claimed (facts_of r) f.0 broken.key f.2 in
@@ -304,7 +328,10 @@ no-use-pair r once single a b broken =
     let saks : sak_of r d.claim ≡ sak_of r c.claim =
     found-sak r single d.claim broken.key.sak d.sak_is ∙ sym (found-sak r single c.claim broken.key.sak c.sak_is) in
     let scis : sci_of r d.claim.station ≡ sci_of r c.claim.station =
-    ap (sci_of r) (d.station_is ∙ sym c.station_is) in
+    ap (sci_of r) (one-station d.claim.station c.claim.station
+    (subst (λ (n : ℕ). n < most_named) (sym d.place_is) (few g.0 (at-in (facts_of r) b g.0 g.1)))
+    (subst (λ (n : ℕ). n < most_named) (sym c.place_is) (few f.0 (at-in (facts_of r) a f.0 f.1)))
+    (d.station_is ∙ sym c.station_is)) in
     let pns : d.claim.pn ≡ c.claim.pn = d.pn_is ∙ sym c.pn_is in
     apart-in claim_of (used_by r) s.before s.after f.0 g.0 c.claim d.claim s.there c.is d.is parted
     (λ t. record { sak = saks t; sci = scis t; pn = pns t })

@@ -6,6 +6,7 @@ mod Undone
 mod Saks
 mod Steps
 mod Clean
+mod OneGroup
 mod Passing
 mod AllFit
 mod TextLines

@@ -3,10 +3,10 @@ use Rattle.std.proofs.Common.{◌≡◌, ◌∙◌, inl, inr, ℕ, true, List, O
 use Rattle.std.specs.Prelude.{◌⊎◌, ◌↔◌, is_ok, option_map, IfOk, OnErr}
 use Rattle.aes_block.specs.declared.secret.Secret.{Secret}
 use Rattle.lan_base.specs.declared.address.Mi.{Mi}
-use Rattle.lan_base.specs.declared.name.Name.{Name}
+use Rattle.transcript_reader.specs.Forms.{station_of}
+use Rattle.transcript_reader.specs.Facts.{IsLife, Known, Tells}
 use Rattle.lan_core.specs.declared.fact.Fact.{Fact}
 use Rattle.lan_core.specs.declared.fact.Fact.TheVariants as shows
-use Rattle.transcript.specs.Naming.{Reads, IsNaming}
 use Rattle.transcript.specs.Rendering.{IsOfFrame}
 use Rattle.transcript.specs.declared.fault.FactError.{FactError}
 use Rattle.transcript.specs.declared.fault.FactError.TheVariants as readings
@@ -37,7 +37,7 @@ pub takes-kept : (number : ℕ) (fact : Fact) (old new : Maps) (e : CheckError)
 takes-kept number (shows.Installed s id an epoch sak) old new e is =
     installs-kept number s epoch id (record { an = an; sak = sak }) old new (sak_at old s epoch) e is
 takes-kept number (shows.Claimed s an epoch pn) old new e is =
-    claims-kept number s pn old new (sak_at old s epoch) e is
+    claims-kept number (station_of s) pn old new (sak_at old s epoch) e is
 takes-kept number (shows.Arrived k s arrival) old new e is = absurd (cc is.0)
 takes-kept number (shows.Life s mi) old new e is = absurd (cc is.0)
 takes-kept number (shows.Ticked s at next) old new e is = absurd (cc is.0)
@@ -91,28 +91,29 @@ never-unread facts (shows.Arrived k s arrival) is = cc is
 -- ---- what denies a line
 
 -- it is read, and its fact is refused
-pub fact-denies : (names : List Name) (facts : List Fact) (octets : List ℕ) (after : List Name)
-    (fact : Fact) → Reads names octets after fact → (why : CheckFault)
-    → refusal facts fact ≡ Some why → IsDenied names facts octets why
-fact-denies names facts octets after fact reads Unread f = absurd (never-unread facts fact f)
-fact-denies names facts octets after fact reads Doubled f = (after, fact, reads, f)
-fact-denies names facts octets after fact reads Orphan f = (after, fact, reads, f)
+pub fact-denies : (known : Known) (facts : List Fact) (octets : List ℕ) (after : Known)
+    (fact : Fact) → Tells known octets after fact → (why : CheckFault)
+    → refusal facts fact ≡ Some why → IsDenied known facts octets why
+fact-denies known facts octets after fact reads Unread f = absurd (never-unread facts fact f)
+fact-denies known facts octets after fact reads Doubled f = (after, fact, reads, f)
+fact-denies known facts octets after fact reads Orphan f = (after, fact, reads, f)
 
 -- it is not read
-reading-denies : (names : List Name) (facts : List Fact) (octets : List ℕ) (fault : FactError)
-    → (fault ≡ readings.Unread → (after : List Name) (fact : Fact) → Reads names octets after fact → ⊥)
-    → (why : CheckFault) → error_of_reading fault ≡ Refused why → IsDenied names facts octets why
-reading-denies names facts octets readings.Memory never why e = absurd (cc e)
-reading-denies names facts octets readings.Unread never Unread e = never refl
-reading-denies names facts octets readings.Unread never Doubled e = absurd (cc e)
-reading-denies names facts octets readings.Unread never Orphan e = absurd (cc e)
+reading-denies : (known : Known) (facts : List Fact) (octets : List ℕ) (fault : FactError)
+    → (fault ≡ readings.Unread → (after : Known) (fact : Fact) → Tells known octets after fact → ⊥)
+    → (why : CheckFault) → error_of_reading fault ≡ Refused why → IsDenied known facts octets why
+reading-denies known facts octets readings.Memory never why e = absurd (cc e)
+reading-denies known facts octets readings.Unread never Unread e = never refl
+reading-denies known facts octets readings.Unread never Doubled e = absurd (cc e)
+reading-denies known facts octets readings.Unread never Orphan e = absurd (cc e)
 
 -- ---- a line that was read
 
 -- what is known then: the fact, and that no other is read
-pub record IsLine (before after : List Name) (octets : List ℕ) (fact : Fact) : Type 0 where
-  pub reads : Reads before octets after fact
-  pub only : (then : List Name) (other : Fact) → Reads before octets then other
+pub record IsLine (before after : Known) (octets : List ℕ) (fact : Fact) : Type 0 where
+  pub tells : Tells before octets after fact
+  pub still : (after ≡ before) ⊎ IsLife fact
+  pub only : (then : Known) (other : Fact) → Tells before octets then other
       → (fact ≡ other) × (after ≡ then)
 
 -- and what noting its fact answers
@@ -121,52 +122,52 @@ pub record IsNote (fact : Fact) (old new : Maps) (r : Result Unit CheckError) : 
   pub kept : OnErr r (new ≡ old)
   pub life : (s : ℕ) (mi : Mi) → fact ≡ shows.Life s mi → is_ok r ≡ true
 
-abbrev pub standing : List Name → Maps → Standing
-standing names maps = record { names = names; maps = maps }
+abbrev pub standing : Known → Maps → Standing
+standing known maps = record { known = known; maps = maps }
 
-module _ (octets : List ℕ) (old : Standing) (after : List Name) (new : Maps) (fact : Fact)
-    (line : IsLine old.names after octets fact) where
-  pub line-taken : (r : Result Unit CheckError) → IsNote fact old.maps new r → (names : List Name)
-      (facts : List Fact) → IsCheckOf names facts old
-      → IfOk r (λ _. IsTaken names facts octets (standing after new))
-  line-taken (Err e) note names facts is = tt
-  line-taken (Ok u) note names facts is =
+module _ (octets : List ℕ) (old : Standing) (after : Known) (new : Maps) (fact : Fact)
+    (line : IsLine old.known after octets fact) where
+  pub line-taken : (r : Result Unit CheckError) → IsNote fact old.maps new r → (known : Known)
+      (facts : List Fact) → IsCheckOf known facts old
+      → IfOk r (λ _. IsTaken known facts octets (standing after new))
+  line-taken (Err e) note known facts is = tt
+  line-taken (Ok u) note known facts is =
       let n = note.noted facts is.1 in record {
         after = after;
         fact = fact;
-        reads = subst (λ ns. Reads ns octets after fact) is.0 line.reads;
+        tells = subst (λ ns. Tells ns octets after fact) is.0 line.tells;
         free = n.0;
         stands = (refl, n.1);
       }
 
-  pub line-refused : (r : Result Unit CheckError) → IsNote fact old.maps new r → (names : List Name)
-      (facts : List Fact) → IsCheckOf names facts old → (fault : CheckFault)
-      → r ≡ Err (Refused fault) → IsDenied names facts octets fault
-  line-refused r note names facts is fault e =
-      fact-denies names facts octets after fact
-      (subst (λ ns. Reads ns octets after fact) is.0 line.reads) fault
+  pub line-refused : (r : Result Unit CheckError) → IsNote fact old.maps new r → (known : Known)
+      (facts : List Fact) → IsCheckOf known facts old → (fault : CheckFault)
+      → r ≡ Err (Refused fault) → IsDenied known facts octets fault
+  line-refused r note known facts is fault e =
+      fact-denies known facts octets after fact
+      (subst (λ ns. Tells ns octets after fact) is.0 line.tells) fault
       (subst (λ r. IsNoted facts fact old.maps new r) e (note.noted facts is.1)).0
 
   -- why the line is to be refused is why its fact is
-  denied-by : (names : List Name) (facts : List Fact) → IsCheckOf names facts old
-      → (why : CheckFault) → IsDenied names facts octets why → refusal facts fact ≡ Some why
-  denied-by names facts is why denied = go why denied
+  denied-by : (known : Known) (facts : List Fact) → IsCheckOf known facts old
+      → (why : CheckFault) → IsDenied known facts octets why → refusal facts fact ≡ Some why
+  denied-by known facts is why denied = go why denied
     where
-      other : (then : List Name) (x : Fact) → Reads names octets then x → fact ≡ x
-      other then x reads = (line.only then x (subst (λ ns. Reads ns octets then x) (sym is.0) reads)).0
+      other : (then : Known) (x : Fact) → Tells known octets then x → fact ≡ x
+      other then x reads = (line.only then x (subst (λ ns. Tells ns octets then x) (sym is.0) reads)).0
 
-      go : (why : CheckFault) → IsDenied names facts octets why → refusal facts fact ≡ Some why
-      go Unread d = absurd (d after fact (subst (λ ns. Reads ns octets after fact) is.0 line.reads))
+      go : (why : CheckFault) → IsDenied known facts octets why → refusal facts fact ≡ Some why
+      go Unread d = absurd (d after fact (subst (λ ns. Tells ns octets after fact) is.0 line.tells))
       go Doubled d = ap (refusal facts) (other d.0 d.1 d.2) ∙ d.3
       go Orphan d = ap (refusal facts) (other d.0 d.1 d.2) ∙ d.3
 
-  pub line-denied : (r : Result Unit CheckError) → IsNote fact old.maps new r → (names : List Name)
-      (facts : List Fact) → IsCheckOf names facts old → (why : CheckFault)
-      → IsDenied names facts octets why → r ≡ Err (Refused why)
-  line-denied r note names facts is why denied = go r (note.noted facts is.1)
+  pub line-denied : (r : Result Unit CheckError) → IsNote fact old.maps new r → (known : Known)
+      (facts : List Fact) → IsCheckOf known facts old → (why : CheckFault)
+      → IsDenied known facts octets why → r ≡ Err (Refused why)
+  line-denied r note known facts is why denied = go r (note.noted facts is.1)
     where
       due : refusal facts fact ≡ Some why
-      due = denied-by names facts is why denied
+      due = denied-by known facts is why denied
 
       go : (r : Result Unit CheckError) → IsNoted facts fact old.maps new r → r ≡ Err (Refused why)
       go (Ok u) n = absurd (none-some (sym n.0 ∙ due))
@@ -174,21 +175,38 @@ module _ (octets : List ℕ) (old : Standing) (after : List Name) (new : Maps) (
       go (Err (Refused other)) n =
           ap (λ (f : CheckFault). Err (Refused f)) (some-same other why (sym n.0 ∙ due))
 
-  pub line-due : (r : Result Unit CheckError) → IsNote fact old.maps new r → (names : List Name)
-      (facts : List Fact) → IsCheckOf names facts old → r ≡ Err Memory → IsDue names facts octets
-  line-due r note names facts is e =
+  pub line-due : (r : Result Unit CheckError) → IsNote fact old.maps new r → (known : Known)
+      (facts : List Fact) → IsCheckOf known facts old → r ≡ Err Memory → IsDue known facts octets
+  line-due r note known facts is e =
       let n = subst (λ r. IsNoted facts fact old.maps new r) e (note.noted facts is.1) in
-      (after, fact, subst (λ ns. Reads ns octets after fact) is.0 line.reads, n.0)
+      (after, fact, subst (λ ns. Tells ns octets after fact) is.0 line.tells, n.0)
+
+  of-life : (f : Fact) → IsLife f → (s : ℕ) × (mi : Mi) × (f ≡ shows.Life s mi)
+  of-life (shows.Life s mi) life = (s, mi, refl)
+  of-life (shows.Ticked s at next) life = absurd life
+  of-life (shows.Server s mi) life = absurd life
+  of-life (shows.Dropped s id an) life = absurd life
+  of-life (shows.Retired s id an) life = absurd life
+  of-life (shows.Began s id an epoch cause) life = absurd life
+  of-life (shows.Installed s id an epoch sak) life = absurd life
+  of-life (shows.Untaken s id why) life = absurd life
+  of-life (shows.Framed k s sec xs) life = absurd life
+  of-life (shows.HeardMka k s verdict) life = absurd life
+  of-life (shows.Claimed s an epoch pn) life = absurd life
+  of-life (shows.Unclaimed s why) life = absurd life
+  of-life (shows.Arrived k s arrival) life = absurd life
 
   pub line-kept : (r : Result Unit CheckError) → IsNote fact old.maps new r
       → OnErr r (standing after new ≡ old)
   line-kept (Ok u) note = tt
-  line-kept (Err e) note = go line.reads.1
+  line-kept (Err e) note = go line.still
     where
-      go : (after ≡ old.names) ⊎ IsNaming old.names after fact
-          → standing after new ≡ old
-      go (inl same) = λ t. record { names = same t; maps = note.kept t }
-      go (inr naming) = let none = note.life _ naming.mi naming.life in absurd (cc none)
+      go : (after ≡ old.known) ⊎ IsLife fact → standing after new ≡ old
+      go (inl same) = λ t. record { known = same t; maps = note.kept t }
+      go (inr life) =
+          let is = of-life fact life in
+          let none = note.life is.0 is.1 is.2 in
+          absurd (cc none)
 
 -- ---- a line that was not read
 
@@ -209,37 +227,37 @@ free-frame facts (shows.HeardMka k s verdict) frame = absurd frame
 free-frame facts (shows.Unclaimed s why) frame = absurd frame
 
 -- what is known then: whether it is read as some fact, and where memory was wanting, as which
-pub record IsUnread (names : List Name) (octets : List ℕ) (fault : FactError) : Type 0 where
+pub record IsUnread (known : Known) (octets : List ℕ) (fault : FactError) : Type 0 where
   pub unread : (fault ≡ readings.Unread)
-      ↔ ((after : List Name) (fact : Fact) → Reads names octets after fact → ⊥)
+      ↔ ((after : Known) (fact : Fact) → Tells known octets after fact → ⊥)
   pub memory : fault ≡ readings.Memory
-      → (after : List Name) × (fact : Fact) × Reads names octets after fact
-  pub frames : fault ≡ readings.Memory → (after : List Name) (fact : Fact)
-      → Reads names octets after fact → IsOfFrame fact
+      → (after : Known) × (fact : Fact) × Tells known octets after fact
+  pub frames : fault ≡ readings.Memory → (after : Known) (fact : Fact)
+      → Tells known octets after fact → IsOfFrame fact
 
 module _ (octets : List ℕ) (old : Standing) (fault : FactError)
-    (is_unread : IsUnread old.names octets fault) where
+    (is_unread : IsUnread old.known octets fault) where
   abbrev unread : (fault ≡ readings.Unread)
-      ↔ ((after : List Name) (fact : Fact) → Reads old.names octets after fact → ⊥)
+      ↔ ((after : Known) (fact : Fact) → Tells old.known octets after fact → ⊥)
   unread = is_unread.unread
 
-  pub none-refused : (names : List Name) (facts : List Fact) → IsCheckOf names facts old
-      → (why : CheckFault) → error_of_reading fault ≡ Refused why → IsDenied names facts octets why
-  none-refused names facts is why e =
-      reading-denies names facts octets fault
+  pub none-refused : (known : Known) (facts : List Fact) → IsCheckOf known facts old
+      → (why : CheckFault) → error_of_reading fault ≡ Refused why → IsDenied known facts octets why
+  none-refused known facts is why e =
+      reading-denies known facts octets fault
       (λ same after fact reads.
-      unread.0 same after fact (subst (λ ns. Reads ns octets after fact) (sym is.0) reads)) why e
+      unread.0 same after fact (subst (λ ns. Tells ns octets after fact) (sym is.0) reads)) why e
 
-  pub none-denied : (names : List Name) (facts : List Fact) → IsCheckOf names facts old
-      → (why : CheckFault) → IsDenied names facts octets why → error_of_reading fault ≡ Refused why
-  none-denied names facts is why denied = go why denied
+  pub none-denied : (known : Known) (facts : List Fact) → IsCheckOf known facts old
+      → (why : CheckFault) → IsDenied known facts octets why → error_of_reading fault ≡ Refused why
+  none-denied known facts is why denied = go why denied
     where
-      never : (after : List Name) (fact : Fact) → Reads names octets after fact → (why : CheckFault)
+      never : (after : Known) (fact : Fact) → Tells known octets after fact → (why : CheckFault)
           → refusal facts fact ≡ Some why → ⊥
       never after fact reads why refused = by fault refl
         where
-          there : Reads old.names octets after fact
-          there = subst (λ ns. Reads ns octets after fact) (sym is.0) reads
+          there : Tells old.known octets after fact
+          there = subst (λ ns. Tells ns octets after fact) (sym is.0) reads
 
           by : (f : FactError) → fault ≡ f → ⊥
           by readings.Unread same = unread.0 same after fact there
@@ -247,24 +265,24 @@ module _ (octets : List ℕ) (old : Standing) (fault : FactError)
               none-some (sym (free-frame facts fact (is_unread.frames same after fact there))
               ∙ refused)
 
-      go : (why : CheckFault) → IsDenied names facts octets why
+      go : (why : CheckFault) → IsDenied known facts octets why
           → error_of_reading fault ≡ Refused why
       go Unread d = ap error_of_reading (unread.1 (λ after fact reads.
-          d after fact (subst (λ ns. Reads ns octets after fact) is.0 reads)))
+          d after fact (subst (λ ns. Tells ns octets after fact) is.0 reads)))
       go Doubled d = absurd (never d.0 d.1 d.2 Doubled d.3)
       go Orphan d = absurd (never d.0 d.1 d.2 Orphan d.3)
 
-  pub none-due : (names : List Name) (facts : List Fact) → IsCheckOf names facts old
-      → error_of_reading fault ≡ Memory → IsDue names facts octets
-  none-due names facts is e = go fault refl e
+  pub none-due : (known : Known) (facts : List Fact) → IsCheckOf known facts old
+      → error_of_reading fault ≡ Memory → IsDue known facts octets
+  none-due known facts is e = go fault refl e
     where
-      go : (f : FactError) → fault ≡ f → error_of_reading f ≡ Memory → IsDue names facts octets
+      go : (f : FactError) → fault ≡ f → error_of_reading f ≡ Memory → IsDue known facts octets
       go readings.Unread same g = absurd (cc g)
       go readings.Memory same g =
           let p = is_unread.memory same in (
             p.0,
             p.1,
-            subst (λ ns. Reads ns octets p.0 p.1) is.0 p.2,
+            subst (λ ns. Tells ns octets p.0 p.1) is.0 p.2,
             free-frame facts p.1 (is_unread.frames same p.0 p.1 p.2),
           )
 

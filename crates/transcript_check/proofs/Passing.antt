@@ -45,16 +45,17 @@ use Rattle.group_safety.proofs.Public.{In, in-contains, in-find}
 use Rattle.transcript.specs.Rendering.{line, IsFact}
 use Rattle.transcript_check.specs.Judged.{sak_here, sak_in}
 use Rattle.transcript_check.specs.declared.fault.CheckFault.TheVariants.{Doubled}
-use Rattle.transcript_check.specs.Standing.{AreTaken, refusal, no_epoch}
+use Rattle.transcript_check.specs.Standing.{refusal, no_epoch}
+use Rattle.transcript_check.proofs.OneGroup.{AreTakenAlone}
 use Rattle.transcript_check.proofs.Clean.{counted-differ, collected, in-ledger, not-doubled}
 
 -- ---- lines one after another
 
 passes-more : (n : List Name) (f : List Fact) (ls : List (List ℕ)) (m : List Name) (g : List Fact)
     (ms : List (List ℕ)) (k : List Name) (h : List Fact)
-    → AreTaken n f ls m g → AreTaken m g ms k h → AreTaken n f (ls ++ ms) k h
+    → AreTakenAlone n f ls m g → AreTakenAlone m g ms k h → AreTakenAlone n f (ls ++ ms) k h
 passes-more n f [] m g ms k h first then =
-    subst (λ n. AreTaken n f ms k h) (sym first.0) (subst (λ f. AreTaken m f ms k h) (sym first.1) then)
+    subst (λ n. AreTakenAlone n f ms k h) (sym first.0) (subst (λ f. AreTakenAlone m f ms k h) (sym first.1) then)
 passes-more n f (l ∷ ls) m g ms k h first then = (
   first.0,
   first.1,
@@ -361,7 +362,7 @@ module _ (settings : Settings) (users : List UserFrame) (laws : Laws settings us
   walk : (ns more : List Name) (base fs : List Fact) → All (IsFact ns) fs
       → ((pre : List Fact) (fact : Fact) (post : List Fact) → fs ≡ pre ++ fact ∷ post
       → refusal (base ++ pre) fact ≡ None)
-      → AreTaken ns base (map (line (ns ++ more)) fs) ns (base ++ fs)
+      → AreTakenAlone ns base (map (line (ns ++ more)) fs) ns (base ++ fs)
   walk ns more base [] all free = (refl, sym (append-nil base))
   walk ns more base (fact ∷ fs) all free =
       let fit = All-head (IsFact ns) fact fs all in (
@@ -369,7 +370,7 @@ module _ (settings : Settings) (users : List UserFrame) (laws : Laws settings us
         fact,
         ((fit, sym (laws.grow ns more fact fit)), inl refl),
         subst (λ b. refusal b fact ≡ None) (append-nil base) (free [] fact fs refl),
-        subst (λ g. AreTaken ns (base ++ fact ∷ []) (map (line (ns ++ more)) fs) ns g)
+        subst (λ g. AreTakenAlone ns (base ++ fact ∷ []) (map (line (ns ++ more)) fs) ns g)
             (append_assoc base (fact ∷ []) fs)
             (walk ns more (base ++ fact ∷ []) fs (All-tail (IsFact ns) fact fs all)
             (λ pre g post e. subst (λ b. refusal b g ≡ None) (sym (append_assoc base (fact ∷ []) pre))
@@ -394,7 +395,7 @@ module _ (settings : Settings) (users : List UserFrame) (laws : Laws settings us
   -- an event passes, from the names before it to those after
   abbrev Goes : Happening → Run → Type 0
   Goes x r = (more : List Name)
-      → AreTaken (names r) (facts_of r) (map (line (names (x ∷ r) ++ more)) x.facts) (names (x ∷ r))
+      → AreTakenAlone (names r) (facts_of r) (map (line (names (x ∷ r) ++ more)) x.facts) (names (x ∷ r))
       (facts_of r ++ x.facts)
 
   quiet-goes : (x : Happening) (r : Run) → IsStepped settings users (x ∷ r) → IsFresh (x ∷ r)
@@ -405,7 +406,7 @@ module _ (settings : Settings) (users : List UserFrame) (laws : Laws settings us
       ap (λ ps. map (λ (p : Profile). p.name) (stations r ++ ps)) none
       ∙ ap (λ ps. map (λ (p : Profile). p.name) ps) (append-nil (stations r)) in
       let fits = subst (λ ns. All (IsFact ns) x.facts) same (event-fits x r stepped) in
-      subst (λ ns. AreTaken (names r) (facts_of r) (map (line (ns ++ more)) x.facts) ns (facts_of r ++ x.facts))
+      subst (λ ns. AreTakenAlone (names r) (facts_of r) (map (line (ns ++ more)) x.facts) ns (facts_of r ++ x.facts))
       (sym same)
       (walk (names r) more (facts_of r) x.facts fits
       (λ pre fact post e. unrefused x r pre fact post stepped fresh honest e))
@@ -427,7 +428,7 @@ module _ (settings : Settings) (users : List UserFrame) (laws : Laws settings us
       (subst (λ fs. All (IsFact after) fs) is.1 (event-fits x r stepped)) in
       let room = stepped.0.within.stations in
       let count = length-append (stations r) (p ∷ []) in
-      subst (λ fs. AreTaken (names r) (facts_of r) (map (line (after ++ more)) fs) after (facts_of r ++ fs))
+      subst (λ fs. AreTakenAlone (names r) (facts_of r) (map (line (after ++ more)) fs) after (facts_of r ++ fs))
       (sym is.1) (
         after,
         fact,
@@ -480,23 +481,23 @@ module _ (settings : Settings) (users : List UserFrame) (laws : Laws settings us
 
   pass : (r : Run) → IsStepped settings users r → IsFresh r → IsUnforged settings r
       → (more : List Name)
-      → AreTaken [] [] (map (line (names r ++ more)) (facts_of r)) (names r) (facts_of r)
+      → AreTakenAlone [] [] (map (line (names r ++ more)) (facts_of r)) (names r) (facts_of r)
   unfolding stations
   pass [] stepped fresh honest more = (refl, refl)
   pass (x ∷ r) stepped fresh honest more =
       let added = map (λ (p : Profile). p.name) (started x.event) in
       let all : names (x ∷ r) ++ more ≡ names r ++ (added ++ more) =
       ap (λ ns. ns ++ more) (names-then x r) ∙ append_assoc (names r) added more in
-      let before = subst (λ ns. AreTaken [] [] (map (line ns) (facts_of r)) (names r) (facts_of r)) (sym all)
+      let before = subst (λ ns. AreTakenAlone [] [] (map (line ns) (facts_of r)) (names r) (facts_of r)) (sym all)
       (pass r stepped.1 (laws.fresh x r fresh) honest.1 (added ++ more)) in
-      subst (λ ls. AreTaken [] [] ls (names (x ∷ r)) (facts_of r ++ x.facts))
+      subst (λ ls. AreTakenAlone [] [] ls (names (x ∷ r)) (facts_of r ++ x.facts))
       (sym (map-append (line (names (x ∷ r) ++ more)) (facts_of r) x.facts))
       (passes-more [] [] (map (line (names (x ∷ r) ++ more)) (facts_of r)) (names r) (facts_of r)
       (map (line (names (x ∷ r) ++ more)) x.facts) (names (x ∷ r)) (facts_of r ++ x.facts) before
       (goes x.event x.facts r stepped fresh honest more))
 
   pub run-passes : (r : Run) → IsStepped settings users r → IsFresh r → IsUnforged settings r
-      → AreTaken [] [] (map (line (names r)) (facts_of r)) (names r) (facts_of r)
+      → AreTakenAlone [] [] (map (line (names r)) (facts_of r)) (names r) (facts_of r)
   run-passes r stepped fresh honest =
-      subst (λ ns. AreTaken [] [] (map (line ns) (facts_of r)) (names r) (facts_of r)) (append-nil (names r))
+      subst (λ ns. AreTakenAlone [] [] (map (line ns) (facts_of r)) (names r) (facts_of r)) (append-nil (names r))
       (pass r stepped fresh honest [])

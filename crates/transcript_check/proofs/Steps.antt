@@ -6,6 +6,7 @@ use Rattle.lan_base.specs.declared.association_number.AssociationNumber.{Associa
 use Rattle.lan_base.specs.declared.key_id.KeyId.{KeyId}
 use Rattle.lan_core.specs.declared.fact.Fact.{Fact}
 use Rattle.lan_core.specs.declared.fact.Fact.TheVariants as shows
+use Rattle.transcript_reader.specs.Forms.{station_of}
 use Rattle.transcript_check.specs.declared.named.Named.{Named}
 use Rattle.transcript_check.specs.declared.fault.CheckError.{CheckError}
 use Rattle.transcript_check.specs.declared.fault.CheckFault.TheVariants.{Doubled}
@@ -390,7 +391,7 @@ spares number s pn sak m new None (Some line) step =
 
 pub claims : (facts : List Fact) (old new : Maps) (number s : ℕ) (an : AssociationNumber) (epoch pn : ℕ) (sak : Secret)
     → StandsFor facts old → number ≡ suc (length facts) → sak_in facts s epoch ≡ Some sak
-    → IsUsed number s pn sak old new old.once (line_by old s pn sak)
+    → IsUsed number (station_of s) pn sak old new old.once (line_by old (station_of s) pn sak)
     → StandsFor (facts ++ shows.Claimed s an epoch pn ∷ []) (with_count number new)
 claims facts old new number s an epoch pn sak stands is there step = record {
   count = is ∙ length-more facts fact;
@@ -410,18 +411,18 @@ claims facts old new number s an epoch pn sak stands is there step = record {
     fact = shows.Claimed s an epoch pn
 
     left : Spares old new
-    left = spares number s pn sak old new old.once (line_by old s pn sak) step
+    left = spares number (station_of s) pn sak old new old.once (line_by old (station_of s) pn sak) step
 
     more : missed_in facts ≡ missed_in facts + 0
     more = omega arith
 
-    uses_this : use_of (facts ++ fact ∷ []) fact ≡ Some (the_use s pn sak, tt)
-    uses_this = ap (option_map (λ sak. (the_use s pn sak, tt))) (sak-with facts fact s epoch refl ∙ there)
+    uses_this : use_of (facts ++ fact ∷ []) fact ≡ Some (the_use (station_of s) pn sak, tt)
+    uses_this = ap (option_map (λ sak. (the_use (station_of s) pn sak, tt))) (sak-with facts fact s epoch refl ∙ there)
 
     kept_uses : Uses (facts ++ fact ∷ []) new
-    kept_uses = use-step number s pn sak old new (uses facts) (uses (facts ++ fact ∷ [])) (suc (length facts))
+    kept_uses = use-step number (station_of s) pn sak old new (uses facts) (uses (facts ++ fact ∷ [])) (suc (length facts))
         (subst (λ o. IsOneMore Use (Unit {0}) (uses facts) (uses (facts ++ fact ∷ [])) (suc (length facts)) o)
-        uses_this (use-goes facts fact old stands)) is old.once refl (line_by old s pn sak) refl step
+        uses_this (use-goes facts fact old stands)) is old.once refl (line_by old (station_of s) pn sak) refl step
         (stands.once, stands.uses)
 
     kept_keys : Keys (facts ++ fact ∷ []) old
@@ -454,7 +455,7 @@ by-install facts old new number s epoch an id sak stands is None free (Err error
 by-claim : (facts : List Fact) (old new : Maps) (number s : ℕ) (an : AssociationNumber) (epoch pn : ℕ)
     → StandsFor facts old → number ≡ suc (length facts)
     → (o : Option Secret) → sak_in facts s epoch ≡ o → (r : Result Unit CheckError)
-    → Claims number s pn old new o r
+    → Claims number (station_of s) pn old new o r
     → Noting facts (shows.Claimed s an epoch pn) number old new r
 by-claim facts old new number s an epoch pn stands is None none r step =
     subst (λ r. Noting facts (shows.Claimed s an epoch pn) number old new r) (sym step.0)
@@ -489,7 +490,7 @@ noted facts (shows.Installed s id an epoch sak) old new number r stands is less 
     (subst (λ o. Installs number s epoch id (record { an = an; sak = sak }) old new o r) (stands.epochs s epoch) step)
 noted facts (shows.Claimed s an epoch pn) old new number r stands is less step =
     by-claim facts old new number s an epoch pn stands is (sak_in facts s epoch) refl r
-    (subst (λ o. Claims number s pn old new o r) (stands.epochs s epoch) step)
+    (subst (λ o. Claims number (station_of s) pn old new o r) (stands.epochs s epoch) step)
 noted facts (shows.Arrived k s arrival) old new number r stands is less step =
     others facts (shows.Arrived k s arrival) old new number
     (min (old.missed + cond (is_missed (shows.Arrived k s arrival)) 1 0) top) stands is refl refl

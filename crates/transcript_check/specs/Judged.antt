@@ -6,6 +6,7 @@ use Rattle.least_pairs.specs.Pairs.{Noted, Breaks}
 use Rattle.lan_base.specs.AssociationNumbers.{same_an}
 use Rattle.transcript.specs.declared.fault.FactError.{FactError}
 use Rattle.transcript.specs.declared.fault.FactError.TheVariants as readings
+use Rattle.transcript_reader.specs.Forms.{station_of}
 use Rattle.transcript_check.specs.declared.fault.CheckError.{CheckError}
 use Rattle.transcript_check.specs.declared.fault.CheckError.TheVariants.{Refused, Memory}
 use Rattle.transcript_check.specs.declared.fault.CheckFault.TheVariants.{Unread}
@@ -28,12 +29,12 @@ sak_here s epoch (shows.Installed station id an e sak) =
     if (station == s) && (e == epoch) then Some sak else None
 sak_here s epoch _ = None
 
--- the SAK that a station installed under an epoch, of the first such install
+-- the SAK that a station installed in a group under an epoch, of the first such install: its place tells both
 abbrev pub sak_in : List Fact → ℕ → ℕ → Option Secret
 sak_in [] s epoch = None
 sak_in (fact ∷ later) s epoch = option_or (sak_here s epoch fact) (sak_in later s epoch)
 
--- what a claim uses: a packet number of a station under a SAK
+-- what a claim uses: a packet number of a station under a SAK, in whichever group it claims it
 pub record Use : Type 0 where
   pub station : ℕ
   pub sak : Secret
@@ -41,7 +42,7 @@ pub record Use : Type 0 where
 
 abbrev pub use_of : List Fact → Fact → Option (Use × Unit {0})
 use_of facts (shows.Claimed s an epoch pn) =
-    option_map (λ sak. (record { station = s; sak = sak; pn = pn }, tt)) (sak_in facts s epoch)
+    option_map (λ sak. (record { station = station_of s; sak = sak; pn = pn }, tt)) (sak_in facts s epoch)
 use_of facts _ = None
 
 abbrev pub uses : List Fact → Noted Use (Unit {0})

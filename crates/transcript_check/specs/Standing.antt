@@ -9,8 +9,8 @@ use Rattle.std.specs.Cmp.Lexicographic.{slice_cmp}
 use Rattle.lan_base.specs.declared.address.Mi.{Mi}
 use Rattle.lan_base.specs.declared.key_id.KeyId.{KeyId}
 use Rattle.lan_base.specs.Identifiers.{order}
-use Rattle.lan_base.specs.declared.name.Name.{Name}
-use Rattle.transcript.specs.Naming.{Reads}
+use Rattle.transcript_reader.specs.Forms.{station_of}
+use Rattle.transcript_reader.specs.Facts.{Known, Tells}
 use Rattle.aes_block.specs.declared.secret.Secret.{Secret}
 use Rattle.aes_block.specs.declared.secret.Secret.TheVariants.{S128, S256}
 use Rattle.lan_core.specs.declared.fact.Fact.{Fact}
@@ -23,7 +23,7 @@ use Rattle.transcript_check.specs.declared.fault.CheckFault.TheVariants.{Unread,
 use Rattle.least_pairs.specs.Pairs.{IsJudged, IsFound}
 use Rattle.transcript_check.specs.Judged.{BreaksOnce, BreaksOneKey, Use, uses, names, sak_in, fact_at, missed_in}
 
--- a station and an epoch
+-- the place of a station, which tells its group too, and an epoch
 abbrev pub pair_cmp : ℕ × ℕ → ℕ × ℕ → Ordering
 pair_cmp a b = ordering_then (nat_cmp a.0 b.0) (nat_cmp a.1 b.1)
 
@@ -34,31 +34,32 @@ id_cmp a b = ordering_then (order a.0 b.0) (nat_cmp a.1 b.1)
 abbrev pub sak_cmp : ℕ × List ℕ → ℕ × List ℕ → Ordering
 sak_cmp a b = ordering_then (nat_cmp a.0 b.0) (slice_cmp nat_cmp a.1 b.1)
 
--- a station and an epoch, and a packet number
+-- a place and an epoch, and a packet number
 abbrev pub turn_cmp : (ℕ × ℕ) × ℕ → (ℕ × ℕ) × ℕ → Ordering
 turn_cmp a b = ordering_then (pair_cmp a.0 b.0) (nat_cmp a.1 b.1)
 
--- the claims of a station under one SAK: the epoch of the first of them, and the numbers of the lines
--- that used packet numbers from its own on, one after another as far as none is missing
+-- the claims of a station under one SAK: the place and the epoch of the first of them, and the numbers of
+-- the lines that used packet numbers from its own on, one after another as far as none is missing
 pub record Lines : Type 0 where
+  pub place : ℕ
   pub epoch : ℕ
   pub first : ℕ
   pub run : List ℕ
 
 -- after one claim
-abbrev pub fresh : ℕ → ℕ → ℕ → Lines
-fresh epoch pn number = record { epoch = epoch; first = pn; run = number ∷ [] }
+abbrev pub fresh : ℕ → ℕ → ℕ → ℕ → Lines
+fresh place epoch pn number = record { place = place; epoch = epoch; first = pn; run = number ∷ [] }
 
 -- those of each station and each SAK of one length
 abbrev pub LinesBySak : Type 0
 LinesBySak = List ((ℕ × List ℕ) × Lines)
 
--- the lines of the other claims, by station, the epoch of the first claim under their SAK, and packet
+-- the lines of the other claims, by the place and the epoch of the first claim under their SAK, and packet
 -- number
 abbrev pub Aside : Type 0
 Aside = List (((ℕ × ℕ) × ℕ) × ℕ)
 
--- by station and epoch, the octets of the SAK that the station installed, of either length
+-- by place and epoch, the octets of the SAK that the station installed, of either length
 pub record Saks : Type 0 where
   pub narrow : List ((ℕ × ℕ) × List ℕ)
   pub wide : List ((ℕ × ℕ) × List ℕ)
@@ -73,7 +74,7 @@ sak_of None wide = option_map (λ octets. S256 octets) wide
 abbrev pub sak_under : Saks → ℕ → ℕ → Option Secret
 sak_under saks s epoch = sak_of (octets_under saks.narrow s epoch) (octets_under saks.wide s epoch)
 
--- under each station and epoch there is the SAK of the first install that these facts tell
+-- under each place and epoch there is the SAK of the first install that these facts tell
 abbrev pub AreSaksOf : List Fact → Saks → Type 0
 AreSaksOf facts saks = (s epoch : ℕ) → sak_under saks s epoch ≡ sak_in facts s epoch
 
@@ -110,8 +111,8 @@ in_run first run pn = if nat_le first pn then slice_get run (pn - first) else No
 abbrev pub aside_at : Aside → ℕ → ℕ → ℕ → Option ℕ
 aside_at aside s epoch pn = lookup (is_at (turn_cmp ((s, epoch), pn))) aside
 
-abbrev pub line_in : Lines → Aside → ℕ → ℕ → Option ℕ
-line_in own aside s pn = option_or (in_run own.first own.run pn) (aside_at aside s own.epoch pn)
+abbrev pub line_in : Lines → Aside → ℕ → Option ℕ
+line_in own aside pn = option_or (in_run own.first own.run pn) (aside_at aside own.place own.epoch pn)
 
 abbrev pub own_at : LinesBySak → ℕ × List ℕ → Option Lines
 own_at lines key = lookup (is_at (sak_cmp key)) lines
@@ -124,9 +125,9 @@ abbrev pub own_by : Maps → ℕ → Secret → Option Lines
 own_by m s sak = own_in m.narrow m.wide s sak
 
 abbrev pub line_by : Maps → ℕ → ℕ → Secret → Option ℕ
-line_by m s pn sak = option_and_then (λ own. line_in own m.aside s pn) (own_by m s sak)
+line_by m s pn sak = option_and_then (λ own. line_in own m.aside pn) (own_by m s sak)
 
--- what names a station and an epoch names a SAK that was installed: a first install, the claims under a
+-- what names a place and an epoch names a SAK that was installed: a first install, the claims under a
 -- SAK, which is that one, and claims out of turn, which have such claims before them
 pub record AreBound (epochs : Saks) (keys : List ((Mi × ℕ) × First)) (narrow wide : LinesBySak)
     (aside : Aside) : Type 0 where
@@ -134,9 +135,10 @@ pub record AreBound (epochs : Saks) (keys : List ((Mi × ℕ) × First)) (narrow
       → lookup (is_at (id_cmp (id.server, id.number))) keys ≡ Some first
       → IsTrue (is_some (sak_under epochs first.station first.epoch))
   pub owned : (s : ℕ) (sak : Secret) (own : Lines) → own_in narrow wide s sak ≡ Some own
-      → sak_under epochs s own.epoch ≡ Some sak
+      → (station_of own.place ≡ s) × (sak_under epochs own.place own.epoch ≡ Some sak)
   pub behind : (s epoch pn line : ℕ) → aside_at aside s epoch pn ≡ Some line
-      → (sak : Secret) × (own : Lines) × (own_in narrow wide s sak ≡ Some own) × (own.epoch ≡ epoch)
+      → (sak : Secret) × (own : Lines) × (own_in narrow wide (station_of s) sak ≡ Some own)
+      × (own.place ≡ s) × (own.epoch ≡ epoch)
 
 abbrev pub IsBound : Maps → Type 0
 IsBound m = AreBound m.epochs m.keys m.narrow m.wide m.aside
@@ -181,43 +183,43 @@ pub record IsVerdict (facts : List Fact) (verdict : Verdict) : Type 0 where
 
 -- ---- lines
 
--- the names of the stations, and what is kept of the facts
+-- what is known from the lines, and what is kept of the facts
 pub record Standing : Type 0 where
-  pub names : List Name
+  pub known : Known
   pub maps : Maps
 
--- after lines that named these stations and told these facts
-abbrev pub IsCheckOf : List Name → List Fact → Standing → Type 0
-IsCheckOf names facts check = (check.names ≡ names) × StandsFor facts check.maps
+-- after lines from which this is known, and that told these facts
+abbrev pub IsCheckOf : Known → List Fact → Standing → Type 0
+IsCheckOf known facts check = (check.known ≡ known) × StandsFor facts check.maps
 
--- a line was taken: it is read, its fact is not refused, and it counts from now on
-pub record IsTaken (names : List Name) (facts : List Fact) (line : List ℕ) (now : Standing) : Type 0
+-- a line was taken: it tells a fact, the fact is not refused, and it counts from now on
+pub record IsTaken (known : Known) (facts : List Fact) (line : List ℕ) (now : Standing) : Type 0
   where
-    pub after : List Name
+    pub after : Known
     pub fact : Fact
-    pub reads : Reads names line after fact
+    pub tells : Tells known line after fact
     pub free : refusal facts fact ≡ None
     pub stands : IsCheckOf after (facts ++ fact ∷ []) now
 
--- a line is to be refused: it is not read, or its fact is refused
-abbrev pub IsDenied : List Name → List Fact → List ℕ → CheckFault → Type 0
-IsDenied names facts line Unread =
-    (after : List Name) (fact : Fact) → Reads names line after fact → ⊥
-IsDenied names facts line Doubled =
-    (after : List Name) × (fact : Fact) × Reads names line after fact
+-- a line is to be refused: it tells no fact, or the fact is refused
+abbrev pub IsDenied : Known → List Fact → List ℕ → CheckFault → Type 0
+IsDenied known facts line Unread =
+    (after : Known) (fact : Fact) → Tells known line after fact → ⊥
+IsDenied known facts line Doubled =
+    (after : Known) × (fact : Fact) × Tells known line after fact
     × (refusal facts fact ≡ Some Doubled)
-IsDenied names facts line Orphan =
-    (after : List Name) × (fact : Fact) × Reads names line after fact
+IsDenied known facts line Orphan =
+    (after : Known) × (fact : Fact) × Tells known line after fact
     × (refusal facts fact ≡ Some Orphan)
 
--- a line is to be taken: it is read, and its fact is not refused
-abbrev pub IsDue : List Name → List Fact → List ℕ → Type 0
-IsDue names facts line =
-    (after : List Name) × (fact : Fact) × Reads names line after fact × (refusal facts fact ≡ None)
+-- a line is to be taken: it tells a fact, and the fact is not refused
+abbrev pub IsDue : Known → List Fact → List ℕ → Type 0
+IsDue known facts line =
+    (after : Known) × (fact : Fact) × Tells known line after fact × (refusal facts fact ≡ None)
 
--- lines that are taken one after another, from these names and facts to those
-abbrev pub AreTaken : List Name → List Fact → List (List ℕ) → List Name → List Fact → Type 0
-AreTaken names facts [] names_then facts_then = (names ≡ names_then) × (facts ≡ facts_then)
-AreTaken names facts (line ∷ lines) names_then facts_then =
-    (after : List Name) × (fact : Fact) × Reads names line after fact
-    × (refusal facts fact ≡ None) × AreTaken after (facts ++ fact ∷ []) lines names_then facts_then
+-- lines that are taken one after another, from what is known, and facts, to what is known then, and others
+abbrev pub AreTaken : Known → List Fact → List (List ℕ) → Known → List Fact → Type 0
+AreTaken known facts [] known_then facts_then = (known ≡ known_then) × (facts ≡ facts_then)
+AreTaken known facts (line ∷ lines) known_then facts_then =
+    (after : Known) × (fact : Fact) × Tells known line after fact
+    × (refusal facts fact ≡ None) × AreTaken after (facts ++ fact ∷ []) lines known_then facts_then

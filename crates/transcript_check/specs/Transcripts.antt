@@ -2,7 +2,8 @@
 use Rattle.std.specs.Prelude.{ℕ, ◌≡◌, ◌<◌, ◌≤◌, ◌+◌, List, [], ◌∷◌, ◌++◌, length, take, Some, Result, Ok, Err}
 use Rattle.lan_base.specs.Faults.{Rose}
 use Rattle.lan_base.specs.Told.{before}
-use Rattle.lan_base.specs.declared.name.Name.{Name}
+use Rattle.transcript_reader.specs.Facts.{Known, nothing}
+use Rattle.transcript_reader.specs.Counting.{most_octets}
 use Rattle.text_lines.specs.Texts.{whole_lines, lines_of}
 use Rattle.text_lines.specs.Reading.{Sourced, lines_within, most_at_once}
 use Rattle.lan_core.specs.declared.fact.Fact.{Fact}
@@ -12,15 +13,11 @@ use Rattle.transcript_check.specs.declared.judging.Unjudged.{Unjudged}
 use Rattle.transcript_check.specs.declared.judging.Unjudged.TheVariants as ends
 use Rattle.transcript_check.specs.Standing.{AreTaken, IsDenied, IsVerdict}
 
--- a transcript has at most so many octets
-abbrev pub most_octets : ℕ
-most_octets = 268435456
-
 -- these lines are taken, from the first one on
 pub record AreRead (lines : List (List ℕ)) : Type 0 where
-  pub names : List Name
+  pub known : Known
   pub facts : List Fact
-  pub taken : AreTaken [] [] lines names facts
+  pub taken : AreTaken nothing [] lines known facts
 
 -- the lines before this number are taken, and the line of this number is to be refused
 pub record IsRefused (lines : List (List ℕ)) (number : ℕ) (why : CheckFault) : Type 0 where
@@ -30,7 +27,7 @@ pub record IsRefused (lines : List (List ℕ)) (number : ℕ) (why : CheckFault)
   pub parts : earlier ++ line ∷ later ≡ lines
   pub number_is : number ≡ length earlier + 1
   pub read : AreRead earlier
-  pub denied : IsDenied read.names read.facts line why
+  pub denied : IsDenied read.known read.facts line why
 
 -- some of the lines, from the first one on, are taken
 pub record IsFrontRead (lines : List (List ℕ)) : Type 0 where

@@ -5,7 +5,7 @@ ghost use Rattle.lan_base.specs.Faults.{Rose};
 ghost use Rattle.text_lines.specs.Reading.{sourced};
 ghost use Rattle.transcript_check.specs.Transcripts.{EndsJudging};
 ghost use Rattle.transcript_check.specs.declared.judging.Unjudged.TheVariants as ends;
-ghost use Rattle.transcript_check.specs.inside.Judging.{number_after, why_unjudged};
+ghost use Rattle.transcript_check.specs.inside.Judging.{why_unjudged};
 
 use crate::check::Check;
 use crate::fault::{CheckError, CheckFault};
@@ -13,9 +13,7 @@ use crate::verdict::Verdict;
 use lan_base::Source;
 use std::alloc::Global;
 use text_lines::{End, LineTaker, law_lines_are_few, read_lines};
-
-/// The greatest count of octets of a transcript.
-const MAX_TRANSCRIPT: usize = 268_435_456;
+use transcript_reader::{MAX_TRANSCRIPT, number_after};
 
 /// Why a transcript was not judged.
 #[derive(Clone, Copy, Debug, PartialEq, Eq)]
@@ -95,11 +93,4 @@ fn why_unjudged(end: End<CheckError>, count: u64) -> Unjudged
         End::ReadFault => Unjudged::ReadFault,
         End::Limit => Unjudged::Limit,
     }
-}
-
-/// The number of the line after so many.
-fn number_after(count: u64) -> u32
-    ensures { result ≡ number_after count }
-{
-    u32::try_from(count.saturating_add(1)).unwrap_or(u32::MAX)
 }

@@ -10,6 +10,7 @@ ghost use Rattle.lan_core.specs.Places.{names};
 ghost use Rattle.lan_core.specs.Run.{Run, facts_of};
 ghost use Rattle.text_lines.specs.Texts.{lines_of};
 ghost use Rattle.transcript.specs.Rendering.{transcript, IsFact};
+ghost use Rattle.transcript_reader.specs.Facts.{Known, nothing};
 ghost use Rattle.transcript_check.specs.declared.fault.CheckFault.{CheckFault};
 ghost use Rattle.least_pairs.specs.Pairs.{IsJudged};
 ghost use Rattle.transcript_check.specs.Judged.{BreaksOnce, BreaksOneKey};
@@ -23,16 +24,17 @@ use lan_core::{
     law_stations_have_their_names,
 };
 use transcript::{
-    law_a_line_is_one_fact, law_more_names_change_no_line, law_no_fact_ends_a_line,
-    law_typed_facts_have_lines,
+    law_more_names_change_no_line, law_no_fact_ends_a_line, law_typed_facts_have_lines,
 };
+use transcript_reader::{law_a_line_tells_one_fact, law_one_group_tells_what_it_reads};
 
 /// Of the transcript of every run that is legal, fresh and unforged, no line is refused, and no pair of
 /// its facts breaks what is judged. A run has at most 16 stations, so that each of them is named.
 pub fn law_clean()
     ensures lines { (settings : Settings) (users : List UserFrame) (r : Run)
         → IsLegal settings users r → IsFresh r → IsUnforged settings r
-        → AreTaken [] [] (lines_of (transcript (names r) (facts_of r))) (names r) (facts_of r) }
+        → (known : Known) × (known.names.first ≡ names r)
+        × AreTaken nothing [] (lines_of (transcript (names r) (facts_of r))) known (facts_of r) }
     ensures once { (settings : Settings) (users : List UserFrame) (r : Run)
         → IsLegal settings users r → IsFresh r → IsUnforged settings r
         → IsJudged (BreaksOnce (facts_of r)) None }
@@ -52,6 +54,7 @@ pub fn law_clean()
     law_more_names_change_no_line();
     law_no_fact_ends_a_line();
     law_typed_facts_have_lines();
+    law_one_group_tells_what_it_reads();
 }
 
 /// At most one line of a transcript is the first that is refused, for one reason, and then not all lines
@@ -64,7 +67,7 @@ pub fn law_one_line_is_refused()
     ensures none { (lines : List (List ℕ)) (number : ℕ) (why : CheckFault)
         → IsRefused lines number why → AreRead lines → ⊥ }
 {
-    law_a_line_is_one_fact();
+    law_a_line_tells_one_fact();
 }
 
 /// Each fact of a stepped run has a line under the names of its stations, so that the laws of texts

@@ -6,6 +6,7 @@ ghost use Rattle.std.specs.Prelude.{ℕ, cond, min, ◌≡◌, ◌+◌, ◌<◌,
 ghost use Rattle.aes_block.specs.declared.secret.Secret.{Secret};
 ghost use Rattle.lan_base.specs.declared.address.Mi.{Mi};
 ghost use Rattle.lan_core.specs.declared.fact.Fact.{Fact};
+ghost use Rattle.transcript_reader.specs.Forms.{station_of};
 ghost use Rattle.transcript_check.specs.Standing.{Maps, sak_at, first_of, line_by, IsBound, StandsFor, IsVerdict};
 ghost use Rattle.transcript_check.specs.inside.Steps.{KeyIsPut, UseIsKept, IsNamed, IsUsed, Installs, Claims, Takes, IsNoted};
 
@@ -130,8 +131,8 @@ impl Notes {
     /// The number of the line that used the packet number of a claim; if none did, that of this claim is
     /// kept.
     fn keep_use(&mut self, claim: Claim, sak: &Secret) -> Result<Option<u64>, AllocError>
-        ensures line { IsBound self.old → sak_at self.old claim.station claim.epoch ≡ Some sak.now
-            → IfOk result (λ line. UseIsKept claim.number claim.station claim.pn sak.now self.old self.new line) }
+        ensures line { IsBound self.old → sak_at self.old claim.place claim.epoch ≡ Some sak.now
+            → IfOk result (λ line. UseIsKept claim.number (station_of claim.place) claim.pn sak.now self.old self.new line) }
         ensures kept { OnErr result (self.new ≡ self.old) }
     {
         match sak {
@@ -187,9 +188,9 @@ impl Notes {
 
     /// A claim uses a packet number.
     fn make_use(&mut self, claim: Claim, sak: &Secret) -> Result<(), AllocError>
-        ensures used { IsBound self.old → sak_at self.old claim.station claim.epoch ≡ Some sak.now
-            → OnOk result (IsUsed claim.number claim.station claim.pn sak.now self.old self.new self.old.once
-            (line_by self.old claim.station claim.pn sak.now)) }
+        ensures used { IsBound self.old → sak_at self.old claim.place claim.epoch ≡ Some sak.now
+            → OnOk result (IsUsed claim.number (station_of claim.place) claim.pn sak.now self.old self.new self.old.once
+            (line_by self.old (station_of claim.place) claim.pn sak.now)) }
         ensures kept { OnErr result (self.new ≡ self.old) }
     {
         if self.once.is_some() {
@@ -224,10 +225,10 @@ impl Notes {
 
     /// A claim is taken.
     fn claim(&mut self, claim: Claim) -> Result<(), CheckError>
-        ensures { Claims claim.number claim.station claim.pn self.old self.new
-            (sak_at self.old claim.station claim.epoch) result }
+        ensures { Claims claim.number (station_of claim.place) claim.pn self.old self.new
+            (sak_at self.old claim.place claim.epoch) result }
     {
-        let sak = self.epochs.sak(claim.station, claim.epoch)?;
+        let sak = self.epochs.sak(claim.place, claim.epoch)?;
         self.make_use(claim, &sak)?;
         Ok(())
     }
@@ -260,7 +261,7 @@ impl Notes {
                 number,
                 epoch: *epoch,
                 pn: *pn,
-                station: *station,
+                place: *station,
             }),
             Fact::Arrived { arrival, .. } => {
                 self.pass(missed_by(arrival));

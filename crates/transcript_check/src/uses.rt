@@ -1,32 +1,35 @@
 //! The lines that used packet numbers.
 
 ghost use Rattle.std.specs.Prelude.{◌≡◌, ◌∷◌, [], None, IfOk, OnOk, OnErr};
+ghost use Rattle.transcript_reader.specs.Forms.{station_of};
 ghost use Rattle.transcript_check.specs.Standing.{aside_at, fresh, in_run, line_in};
 ghost use Rattle.transcript_check.specs.inside.Steps.{IsMore, LineIsKept, LineIsKeptAt};
 
 use std::alloc::{AllocError, Global};
 use std::collections::BTreeMap;
 use std::marker::Model;
+use transcript_reader::station_of;
 
-/// The numbers of the lines of claims out of turn, by station, the epoch of the first claim under
+/// The numbers of the lines of claims out of turn, by the place and the epoch of the first claim under
 /// their SAK, and packet number.
 pub type Aside = BTreeMap<((u8, u32), u32), u64>;
 
-/// A claim, and the number of its line.
+/// A claim, and the number of its line. The place tells the station and its group.
 #[derive(Clone, Copy)]
 pub struct Claim {
     pub number: u64,
     pub epoch: u32,
     pub pn: u32,
-    pub station: u8,
+    pub place: u8,
 }
 
 /// The lines that used packet numbers of one station under one SAK. A station claims its packet
 /// numbers mostly one after another: those lines stand in a list, from the packet number on that
-/// came first. Contracts see it, the list, and the epoch of the first claim, under which the lines
-/// of the others are found.
+/// came first. Contracts see it, the list, and the place and the epoch of the first claim, under which
+/// the lines of the others are found.
 #[derive(Drop)]
 pub struct Uses {
+    place: u8,
     epoch: u32,
     first: u32,
     line: u64,
@@ -39,15 +42,16 @@ impl Model for Uses {
 
     ghost Value = { Lines };
 
-    ghost view = { λ uses. record { epoch = uses.epoch; first = uses.first; run = uses.line ∷ uses.later.items } };
+    ghost view = { λ uses. record { place = uses.place; epoch = uses.epoch; first = uses.first; run = uses.line ∷ uses.later.items } };
 }
 
 impl Uses {
     /// The first claim under a SAK. No memory is taken.
     pub fn of(alloc: Global, claim: Claim) -> Uses
-        ensures { result ≡ fresh claim.epoch claim.pn claim.number }
+        ensures { result ≡ fresh claim.place claim.epoch claim.pn claim.number }
     {
         Uses {
+            place: claim.place,
             epoch: claim.epoch,
             first: claim.pn,
             line: claim.number,
@@ -58,11 +62,11 @@ impl Uses {
     /// The number of the line that used the packet number of a claim; if none did, that of this claim
     /// is kept. An error leaves all as it was.
     pub fn keep(&mut self, aside: &mut Aside, claim: Claim) -> Result<Option<u64>, AllocError>
-        ensures line { IfOk result (λ line. LineIsKept claim.station claim.pn claim.number
+        ensures line { IfOk result (λ line. LineIsKept claim.pn claim.number
             self.old aside.old.entries self.new aside.new.entries line) }
         ensures kept { OnErr result ((self.new ≡ self.old) × (aside.new.entries ≡ aside.old.entries)) }
     {
-        let line = self.line_by(aside, claim.station, claim.pn);
+        let line = self.line_by(aside, claim.pn);
         if line.is_none() {
             self.put(aside, claim)?;
         }
@@ -70,12 +74,12 @@ impl Uses {
     }
 
     /// The number of the line that used a packet number.
-    fn line_by(&self, aside: &Aside, station: u8, pn: u32) -> Option<u64>
-        ensures { result ≡ line_in self.now aside.now.entries station pn }
+    fn line_by(&self, aside: &Aside, pn: u32) -> Option<u64>
+        ensures { result ≡ line_in self.now aside.now.entries pn }
     {
         match self.in_run(pn) {
             Some(line) => Some(line),
-            None => aside.get(&((station, self.epoch), pn)).copied(),
+            None => aside.get(&((self.place, self.epoch), pn)).copied(),
         }
     }
 
@@ -95,8 +99,8 @@ impl Uses {
     /// The number of the line of a claim, whose packet number none used before, is kept. An error
     /// leaves all as it was.
     fn put(&mut self, aside: &mut Aside, claim: Claim) -> Result<(), AllocError>
-        ensures put { line_in self.old aside.old.entries claim.station claim.pn ≡ None
-            → OnOk result (IsMore claim.station claim.pn claim.number self.old aside.old.entries
+        ensures put { line_in self.old aside.old.entries claim.pn ≡ None
+            → OnOk result (IsMore claim.pn claim.number self.old aside.old.entries
             self.new aside.new.entries) }
         ensures kept { OnErr result ((self.new ≡ self.old) × (aside.new.entries ≡ aside.old.entries)) }
     {
@@ -104,7 +108,7 @@ impl Uses {
             self.later.push(claim.number)?;
             return Ok(());
         }
-        aside.insert(((claim.station, self.epoch), claim.pn), claim.number)?;
+        aside.insert(((self.place, self.epoch), claim.pn), claim.number)?;
         Ok(())
     }
 }
@@ -118,11 +122,11 @@ pub fn keep_at<const N: usize>(
     octets: [u8; N],
     claim: Claim,
 ) -> Result<Option<u64>, AllocError>
-    ensures line { IfOk result (λ line. LineIsKeptAt (claim.station, octets.entry) claim.epoch claim.pn claim.number
+    ensures line { IfOk result (λ line. LineIsKeptAt (station_of claim.place, octets.entry) claim.place claim.epoch claim.pn claim.number
         lines.old.entries aside.old.entries lines.new.entries aside.new.entries line) }
     ensures kept { OnErr result ((lines.new.entries ≡ lines.old.entries) × (aside.new.entries ≡ aside.old.entries)) }
 {
-    let key = (claim.station, octets);
+    let key = (station_of(claim.place), octets);
     if let Some(uses) = lines.get_mut(&key) {
         return uses.keep(aside, claim);
     }

@@ -3,11 +3,12 @@ use Rattle.std.proofs.Common.{◌≡◌, ◌∙◌, ◌<◌, ◌≤◌, ◌⊎�
 use Rattle.std.specs.Prelude.{nat_le, if◌then◌else◌, take}
 use Rattle.text_lines.specs.Texts.{whole_lines, lines_of}
 use Rattle.text_lines.specs.Reading.{Sourced, lines_within}
+use Rattle.transcript_reader.specs.Counting.{most_octets}
 use Rattle.transcript_check.specs.declared.fault.CheckFault.{CheckFault}
 use Rattle.transcript_check.specs.declared.judging.Unjudged.{Unjudged}
 use Rattle.transcript_check.specs.declared.judging.Unjudged.TheVariants as unjudged
 use Rattle.transcript_check.specs.declared.verdict.Verdict.{Verdict}
-use Rattle.transcript_check.specs.Transcripts.{most_octets, AreRead, IsRefused, EndsBy as EndsJudgedBy}
+use Rattle.transcript_check.specs.Transcripts.{AreRead, IsRefused, EndsBy as EndsJudgedBy}
 use Rattle.transcript_picture.specs.declared.drawing.Undrawn.{Undrawn}
 use Rattle.transcript_picture.specs.declared.drawing.Undrawn.TheVariants as undrawn
 use Rattle.transcript_picture.specs.Transcripts.{EndsBy}

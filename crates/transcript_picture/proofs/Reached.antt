@@ -5,7 +5,8 @@ use Rattle.std.proofs.Math.Nat.{min-eq_left}
 use Rattle.std.proofs.lemmas.Bool.{le-leb}
 use Rattle.std.proofs.lemmas.List.{length-append, append-nil}
 use Rattle.lan_base.specs.Told.{before}
-use Rattle.lan_base.specs.declared.name.Name.{Name}
+use Rattle.transcript_reader.specs.Facts.{Known, nothing}
+use Rattle.transcript_reader.specs.Counting.{most_octets, number_after}
 use Rattle.lan_core.specs.declared.fact.Fact.{Fact}
 use Rattle.text_lines.specs.declared.reading.End.{End}
 use Rattle.text_lines.specs.declared.reading.End.TheVariants as reading
@@ -16,52 +17,52 @@ use Rattle.transcript_check.specs.declared.fault.CheckFault.{CheckFault}
 use Rattle.transcript_check.specs.declared.fault.CheckError.{CheckError}
 use Rattle.transcript_check.specs.declared.fault.CheckError.TheVariants.{Refused, Memory}
 use Rattle.transcript_check.specs.Standing.{AreTaken, IsDenied}
-use Rattle.transcript_check.specs.Transcripts.{most_octets, AreRead, IsRefused, IsTakenFrom}
+use Rattle.transcript_check.specs.Transcripts.{AreRead, IsRefused, IsTakenFrom}
 use Rattle.transcript_picture.specs.declared.drawing.Undrawn.{Undrawn}
 use Rattle.transcript_picture.specs.declared.drawing.Undrawn.TheVariants as ends
 use Rattle.transcript_picture.specs.Lines.{IsSketchOf, IsTaken, Kept}
 use Rattle.transcript_picture.specs.Transcripts.{EndsBy, EndsDrawing}
-use Rattle.transcript_picture.specs.inside.Sketching.{Stopped, Sketches, number_after, why_undrawn}
-use Rattle.transcript_picture.specs.inside.SketchedLines.{nothing}
+use Rattle.transcript_picture.specs.inside.Sketching.{Stopped, Sketches, why_undrawn}
+use Rattle.transcript_picture.specs.inside.SketchedLines.{took-nothing}
 
 -- ---- one line
 
-taken-length : (names : List Name) (facts : List Fact) (xs : List (List ℕ)) (last : List Name)
-    (all : List Fact) → AreTaken names facts xs last all → length all ≡ length facts + length xs
-taken-length names facts [] last all t =
+taken-length : (known : Known) (facts : List Fact) (xs : List (List ℕ)) (last : Known)
+    (all : List Fact) → AreTaken known facts xs last all → length all ≡ length facts + length xs
+taken-length known facts [] last all t =
     let same : length facts ≡ length all = ap (λ (fs : List Fact). length fs) t.1 in
     omega (arith, same)
-taken-length names facts (x ∷ xs) last all t =
+taken-length known facts (x ∷ xs) last all t =
     let rest = taken-length t.0 (facts ++ t.1 ∷ []) xs last all t.4 in
     let one = length-append facts (t.1 ∷ []) in
     omega (arith, rest, one)
 
 pub sketched-line : (line : List ℕ) (old new : Kept) (r : Result (Unit {0}) CheckError)
-    → ((names : List Name) (facts : List Fact) → IsSketchOf names facts old
-    → IfOk r (λ _. IsTaken names facts line new))
-    → ((names : List Name) (facts : List Fact) → IsSketchOf names facts old → (why : CheckFault)
-    → r ≡ Err (Refused why) → IsDenied names facts line why)
+    → ((known : Known) (facts : List Fact) → IsSketchOf known facts old
+    → IfOk r (λ _. IsTaken known facts line new))
+    → ((known : Known) (facts : List Fact) → IsSketchOf known facts old → (why : CheckFault)
+    → r ≡ Err (Refused why) → IsDenied known facts line why)
     → ((why : CheckFault) → r ≡ Err (Refused why) → new ≡ old) → Sketches (line ∷ []) old new r
-sketched-line line old new (Ok tt) taken refused kept names facts is =
-    let t = taken names facts is in record {
+sketched-line line old new (Ok tt) taken refused kept known facts is =
+    let t = taken known facts is in record {
       after = t.after;
       told = facts ++ t.fact ∷ [];
-      taken = (t.after, t.fact, t.reads, t.free, (refl, refl));
+      taken = (t.after, t.fact, t.tells, t.free, (refl, refl));
       stands = t.stands;
     }
-sketched-line line old new (Err (Refused why)) taken refused kept names facts is = record {
+sketched-line line old new (Err (Refused why)) taken refused kept known facts is = record {
   earlier = [];
   line = line;
   later = [];
   parts = refl;
-  took = nothing names facts new (subst (λ (s : Kept). IsSketchOf names facts s) (sym (kept why refl)) is);
-  denied = refused names facts is why refl;
+  took = took-nothing known facts new (subst (λ (s : Kept). IsSketchOf known facts s) (sym (kept why refl)) is);
+  denied = refused known facts is why refl;
 }
-sketched-line line old new (Err Memory) taken refused kept names facts is = record {
+sketched-line line old new (Err Memory) taken refused kept known facts is = record {
   front = [];
   later = line ∷ [];
   parts = refl;
-  after = names;
+  after = known;
   told = facts;
   taken = (refl, refl);
 }
@@ -82,13 +83,13 @@ not-drawn text left = record {
     moved = before-none left.left;
     within = omega arith;
     at_once = omega arith;
-    read = record { names = []; facts = []; taken = (refl, refl) };
+    read = record { known = nothing; facts = []; taken = (refl, refl) };
   };
   ends = record {
     front = [];
     later = lines_within most_octets text;
     parts = refl;
-    read = record { names = []; facts = []; taken = (refl, refl) };
+    read = record { known = nothing; facts = []; taken = (refl, refl) };
   };
 }
 
@@ -105,10 +106,10 @@ module _ {P K : Type 0} (of : Moment P K → Kept) where
   abbrev Did : List (List ℕ) → Moment P K → Moment P K → Result (Unit {0}) CheckError → Type 0
   Did lines old new result = Sketches lines (of old) (of new) result
 
-  module _ (left now : Sourced) (old new : Moment P K) (fresh : IsSketchOf [] [] (of old)) where
+  module _ (left now : Sourced) (old new : Moment P K) (fresh : IsSketchOf nothing [] (of old)) where
     read : (lines : List (List ℕ)) (at : Moment P K) → Did lines old at (Ok tt) → AreRead lines
     read lines at d =
-        let t = d [] [] fresh in record { names = t.after; facts = t.told; taken = t.taken }
+        let t = d nothing [] fresh in record { known = t.after; facts = t.told; taken = t.taken }
 
     taken-from : (r : Result (Unit {0}) (End CheckError)) → Takes Did most_octets left now old new r
         → IsTakenFrom left now
@@ -154,10 +155,10 @@ module _ {P K : Type 0} (of : Moment P K → Kept) where
     module _ (text : List ℕ)
         (few : length (lines_within most_octets text) ≤ most_octets + 1) where
       refused : (count : ℕ) (why : CheckFault) → count ≡ (of new).count
-          → Stopped [] [] (lines_within most_octets text) (of new) why
+          → Stopped nothing [] (lines_within most_octets text) (of new) why
           → IsRefused (lines_within most_octets text) (number_after count) why
       refused count why is s =
-          let many = taken-length [] [] s.earlier s.took.after s.took.told s.took.taken in
+          let many = taken-length nothing [] s.earlier s.took.after s.took.told s.took.taken in
           let stands = s.took.stands.counted in
           let parts : length (s.earlier ++ s.line ∷ s.later) ≡ length (lines_within most_octets text) =
           ap (λ (xs : List (List ℕ)). length xs) s.parts in
@@ -171,20 +172,20 @@ module _ {P K : Type 0} (of : Moment P K → Kept) where
             parts = s.parts;
             number_is = counted count (length (lines_within most_octets text)) less few
                 ∙ ap (λ n. n + 1) same;
-            read = record { names = s.took.after; facts = s.took.told; taken = s.took.taken };
+            read = record { known = s.took.after; facts = s.took.told; taken = s.took.taken };
             denied = s.denied;
           }
 
       by-end : (X : Type 0) (end : End CheckError) (count : ℕ) → count ≡ (of new).count
           → Runs Did most_octets text left now old new (Err end)
           → EndsBy {X = X} text left now (Err (why_undrawn end count))
-      by-end X (reading.Refused (Refused why)) count is runs = refused count why is (runs [] [] fresh)
+      by-end X (reading.Refused (Refused why)) count is runs = refused count why is (runs nothing [] fresh)
       by-end X (reading.Refused Memory) count is runs =
-          let b = runs [] [] fresh in record {
+          let b = runs nothing [] fresh in record {
             front = b.front;
             later = b.later;
             parts = b.parts;
-            read = record { names = b.after; facts = b.told; taken = b.taken };
+            read = record { known = b.after; facts = b.told; taken = b.taken };
           }
       by-end X reading.Memory count is runs = record {
         front = runs.front;

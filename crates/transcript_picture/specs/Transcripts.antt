@@ -5,7 +5,8 @@ use Rattle.lan_base.specs.Faults.{Rose}
 use Rattle.lan_base.specs.Told.{before}
 use Rattle.text_lines.specs.Texts.{whole_lines, lines_of}
 use Rattle.text_lines.specs.Reading.{Sourced, lines_within}
-use Rattle.transcript_check.specs.Transcripts.{most_octets, AreRead, IsRefused, IsFrontRead, IsTakenFrom}
+use Rattle.transcript_reader.specs.Counting.{most_octets}
+use Rattle.transcript_check.specs.Transcripts.{AreRead, IsRefused, IsFrontRead, IsTakenFrom}
 use Rattle.transcript_picture.specs.declared.drawing.Undrawn.{Undrawn}
 use Rattle.transcript_picture.specs.declared.drawing.Undrawn.TheVariants as ends
 

@@ -5,16 +5,14 @@ ghost use Rattle.lan_base.specs.Faults.{Rose};
 ghost use Rattle.text_lines.specs.Reading.{sourced};
 ghost use Rattle.transcript_picture.specs.Transcripts.{EndsDrawing};
 ghost use Rattle.transcript_picture.specs.declared.drawing.Undrawn.TheVariants as ends;
-ghost use Rattle.transcript_picture.specs.inside.Sketching.{number_after, why_undrawn};
+ghost use Rattle.transcript_picture.specs.inside.Sketching.{why_undrawn};
 
 use crate::sketch::Sketch;
 use lan_base::Source;
 use std::alloc::Global;
 use text_lines::{End, law_lines_are_few, read_lines};
 use transcript_check::{CheckError, CheckFault};
-
-/// The greatest count of octets of a transcript.
-const MAX_TRANSCRIPT: usize = 268_435_456;
+use transcript_reader::{MAX_TRANSCRIPT, number_after};
 
 /// Why a transcript was not drawn.
 #[derive(Clone, Copy, Debug, PartialEq, Eq)]
@@ -73,11 +71,4 @@ fn why_undrawn(end: End<CheckError>, count: u64) -> Undrawn
         End::ReadFault => Undrawn::ReadFault,
         End::Limit => Undrawn::Limit,
     }
-}
-
-/// The number of the line after so many.
-fn number_after(count: u64) -> u32
-    ensures { result ≡ number_after count }
-{
-    u32::try_from(count.saturating_add(1)).unwrap_or(u32::MAX)
 }

@@ -3,11 +3,11 @@
 use crate::bars::{ROW, put_rows};
 use crate::counts::put_counts;
 use crate::history::{Birth, Service};
+use crate::labels::Label;
 use crate::pieces::{Piece, put};
 use crate::scale::Scale;
 use crate::scene::Scene;
 use crate::several::put_several;
-use lan_base::Name;
 use std::alloc::AllocError;
 use tick_columns::{Column, Thinned};
 
@@ -21,8 +21,7 @@ pub fn put_lane(
     into: &mut Vec<u8>,
     scene: &Scene,
     scale: Scale,
-    name: &Name,
-    station: u8,
+    label: &Label,
     top: u32,
 ) -> Result<(), AllocError> {
     put(
@@ -31,17 +30,24 @@ pub fn put_lane(
             Piece::Text(b"<text class=\"name\" x=\"8\" y=\""),
             Piece::Number(u64::from(top) + 16),
             Piece::Text(b"\">"),
-            Piece::Escaped(name.octets()),
+            Piece::Escaped(label.text.as_slice()),
             Piece::Text(b"</text>\n"),
         ],
     )?;
     let rows = top.saturating_add(6);
-    put_rows(into, scene.spans(), scene.legend(), scale, station, rows)?;
-    if let Some(history) = scene.history(station) {
-        put_births(into, history.births(), scale, name, top)?;
+    put_rows(
+        into,
+        scene.spans(),
+        scene.legend(),
+        scale,
+        label.place,
+        rows,
+    )?;
+    if let Some(history) = scene.history(label.place) {
+        put_births(into, history.births(), scale, label.text.as_slice(), top)?;
     }
     let counts = rows.saturating_add(4 * ROW + 2);
-    put_counts(into, scene.columns(), scale, station, counts)
+    put_counts(into, scene.columns(), scale, label.place, counts)
 }
 
 /// Appends a mark for each column in which a life of a station begins.
@@ -49,7 +55,7 @@ fn put_births(
     into: &mut Vec<u8>,
     births: &Thinned<Birth>,
     scale: Scale,
-    name: &Name,
+    name: &[u8],
     top: u32,
 ) -> Result<(), AllocError> {
     for column in births.earlier() {
@@ -67,7 +73,7 @@ fn put_birth(
     column: &Column<Birth>,
     ticks: u32,
     scale: Scale,
-    name: &Name,
+    name: &[u8],
     top: u32,
 ) -> Result<(), AllocError> {
     let birth = column.last;
@@ -75,10 +81,7 @@ fn put_birth(
     put_several(into, column, ticks, b"lives")?;
     put(
         into,
-        &[
-            Piece::Escaped(name.octets()),
-            Piece::Text(b" begins the life "),
-        ],
+        &[Piece::Escaped(name), Piece::Text(b" begins the life ")],
     )?;
     put_life(into, birth, scale.x(u64::from(birth.at)), top)
 }
@@ -119,7 +122,7 @@ pub fn put_services(
     into: &mut Vec<u8>,
     services: &Thinned<Service>,
     scale: Scale,
-    name: &Name,
+    name: &[u8],
     top: u32,
 ) -> Result<(), AllocError> {
     put(
@@ -128,7 +131,7 @@ pub fn put_services(
             Piece::Text(b"<text x=\"8\" y=\""),
             Piece::Number(u64::from(top) + 10),
             Piece::Text(b"\">"),
-            Piece::Escaped(name.octets()),
+            Piece::Escaped(name),
             Piece::Text(b" serves</text>\n"),
         ],
     )?;
@@ -147,7 +150,7 @@ fn put_service(
     column: &Column<Service>,
     ticks: u32,
     scale: Scale,
-    name: &Name,
+    name: &[u8],
     top: u32,
 ) -> Result<(), AllocError> {
     let from = u64::from(column.last.from);
@@ -173,11 +176,11 @@ fn put_service(
 }
 
 /// Appends what ends the title of a time in which a station served, and its line.
-fn put_times(into: &mut Vec<u8>, name: &Name, from: u64, to: u64) -> Result<(), AllocError> {
+fn put_times(into: &mut Vec<u8>, name: &[u8], from: u64, to: u64) -> Result<(), AllocError> {
     put(
         into,
         &[
-            Piece::Escaped(name.octets()),
+            Piece::Escaped(name),
             Piece::Text(b" serves, ticks "),
             Piece::Number(from),
             Piece::Text(b" to "),

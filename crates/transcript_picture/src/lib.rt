@@ -8,6 +8,7 @@ mod columns;
 mod counts;
 mod drawing;
 mod history;
+mod labels;
 mod lanes;
 mod laws;
 mod legend;

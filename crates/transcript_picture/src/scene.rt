@@ -100,6 +100,14 @@ impl Scene {
         self.histories.get(station as usize)
     }
 
+    /// Whether a station began a life.
+    pub(crate) fn has_lived(&self, station: u8) -> bool {
+        match self.history(station) {
+            Some(history) => history.births().latest().is_some(),
+            None => false,
+        }
+    }
+
     /// A station begins a life.
     fn begin(&mut self, station: u8, at: u32, mi: Mi) -> Result<(), AllocError>
         ensures { self.new ≡ self.old }

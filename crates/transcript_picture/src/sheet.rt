@@ -1,24 +1,31 @@
 //! The picture as a whole.
 
 use crate::axis::put_axis;
+use crate::labels::{Label, labels};
 use crate::lanes::{LANE, SERVICE, put_lane, put_services};
 use crate::pieces::{Piece, put};
 use crate::scale::{Scale, WIDTH};
 use crate::scene::Scene;
 use crate::style::STYLE;
-use lan_base::Name;
 use std::alloc::{AllocError, Global};
+use transcript_reader::FactReader;
 
 /// Where what lies below the seconds begins, in units.
 const TOP: u32 = 54;
 
-/// The picture of a scene whose stations have these names, by place: a text in SVG that stands alone,
-/// 1,200 units wide.
-pub fn picture(alloc: Global, scene: &Scene, names: &[Name]) -> Result<Vec<u8>, AllocError> {
+/// The picture of a scene whose stations a reader names: a text in SVG that stands alone, 1,200 units
+/// wide.
+pub fn picture(alloc: Global, scene: &Scene, reader: &FactReader) -> Result<Vec<u8>, AllocError> {
+    let labels = labels(alloc, scene, reader)?;
+    draw(alloc, scene, labels.as_slice())
+}
+
+/// The picture of a scene whose stations are called so.
+fn draw(alloc: Global, scene: &Scene, labels: &[Label]) -> Result<Vec<u8>, AllocError> {
     let mut text = Vec::new(alloc);
     let scale = Scale::new(scene.spans().clock());
-    let lanes = TOP.saturating_add(served(scene, names).saturating_mul(SERVICE));
-    let count = u32::try_from(names.len()).unwrap_or(u32::MAX);
+    let lanes = TOP.saturating_add(served(scene, labels).saturating_mul(SERVICE));
+    let count = u32::try_from(labels.len()).unwrap_or(u32::MAX);
     let foot = lanes.saturating_add(count.saturating_mul(LANE));
     let legend = foot.saturating_add(16);
     put_head(
@@ -26,8 +33,8 @@ pub fn picture(alloc: Global, scene: &Scene, names: &[Name]) -> Result<Vec<u8>, 
         u64::from(legend).saturating_add(scene.legend().height()),
     )?;
     put_axis(&mut text, scale, TOP - 8, foot)?;
-    put_all_services(&mut text, scene, scale, names)?;
-    put_lanes(&mut text, scene, scale, names, lanes)?;
+    put_all_services(&mut text, scene, scale, labels)?;
+    put_lanes(&mut text, scene, scale, labels, lanes)?;
     scene.legend().draw(&mut text, u64::from(legend))?;
     put(&mut text, &[Piece::Text(b"</svg>\n")])?;
     Ok(text)
@@ -71,14 +78,12 @@ fn put_meaning(into: &mut Vec<u8>) -> Result<(), AllocError> {
 }
 
 /// How many of the stations served.
-fn served(scene: &Scene, names: &[Name]) -> u32 {
+fn served(scene: &Scene, labels: &[Label]) -> u32 {
     let mut count = 0u32;
-    let mut station = 0u8;
-    for _ in names {
-        if has_served(scene, station) {
+    for label in labels {
+        if has_served(scene, label.place) {
             count = count.saturating_add(1);
         }
-        station = station.saturating_add(1);
     }
     count
 }
@@ -96,18 +101,16 @@ fn put_all_services(
     into: &mut Vec<u8>,
     scene: &Scene,
     scale: Scale,
-    names: &[Name],
+    labels: &[Label],
 ) -> Result<(), AllocError> {
     let mut top = TOP;
-    let mut station = 0u8;
-    for name in names {
-        if let Some(history) = scene.history(station) {
+    for label in labels {
+        if let Some(history) = scene.history(label.place) {
             if history.services().latest().is_some() {
-                put_services(into, history.services(), scale, name, top)?;
+                put_services(into, history.services(), scale, label.text.as_slice(), top)?;
                 top = top.saturating_add(SERVICE);
             }
         }
-        station = station.saturating_add(1);
     }
     Ok(())
 }
@@ -117,15 +120,13 @@ fn put_lanes(
     into: &mut Vec<u8>,
     scene: &Scene,
     scale: Scale,
-    names: &[Name],
+    labels: &[Label],
     first: u32,
 ) -> Result<(), AllocError> {
     let mut top = first;
-    let mut station = 0u8;
-    for name in names {
-        put_lane(into, scene, scale, name, station, top)?;
+    for label in labels {
+        put_lane(into, scene, scale, label, top)?;
         top = top.saturating_add(LANE);
-        station = station.saturating_add(1);
     }
     Ok(())
 }

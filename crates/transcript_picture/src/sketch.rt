@@ -1,8 +1,8 @@
 //! What is kept of the lines so far.
 
 ghost use Rattle.std.specs.Prelude.{◌≡◌, [], List, Err, IfOk};
-ghost use Rattle.lan_base.specs.declared.name.Name.{Name};
 ghost use Rattle.lan_core.specs.declared.fact.Fact.{Fact};
+ghost use Rattle.transcript_reader.specs.Facts.{Known, nothing};
 ghost use Rattle.transcript_check.specs.declared.fault.CheckError.TheVariants.{Refused};
 ghost use Rattle.transcript_check.specs.declared.fault.CheckFault.{CheckFault};
 ghost use Rattle.transcript_check.specs.Standing.{IsDenied};
@@ -13,15 +13,15 @@ use crate::sheet::picture;
 use std::alloc::{AllocError, Global};
 use std::marker::Model;
 use text_lines::LineTaker;
-use transcript::Reader;
 use transcript_check::{CheckError, Epochs};
+use transcript_reader::FactReader;
 
-/// What is kept of the lines so far. Contracts see the names of the stations, the SAKs that they
+/// What is kept of the lines so far. Contracts see what is known from them, the SAKs that stations
 /// installed, the spans, and how many lines there were.
 #[derive(Drop)]
 pub struct Sketch {
     alloc: Global,
-    reader: Reader,
+    reader: FactReader,
     epochs: Epochs,
     scene: Scene,
     count: u64,
@@ -32,17 +32,17 @@ impl Model for Sketch {
 
     ghost Value = { Kept };
 
-    ghost view = { λ s. record { names = s.reader; saks = s.epochs; spans = s.scene; count = s.count } };
+    ghost view = { λ s. record { known = s.reader; saks = s.epochs; spans = s.scene; count = s.count } };
 }
 
 impl Sketch {
     /// No line was taken.
     pub fn new(alloc: Global) -> Result<Sketch, AllocError>
-        ensures { IfOk result (λ sketch. IsSketchOf [] [] sketch) }
+        ensures { IfOk result (λ sketch. IsSketchOf nothing [] sketch) }
     {
         Ok(Sketch {
             alloc,
-            reader: Reader::new(alloc)?,
+            reader: FactReader::new(alloc)?,
             epochs: Epochs::new(alloc),
             scene: Scene::new(alloc),
             count: 0,
@@ -58,15 +58,15 @@ impl Sketch {
 
     /// The picture of what the lines told.
     pub fn picture(&self) -> Result<Vec<u8>, AllocError> {
-        picture(self.alloc, &self.scene, self.reader.names())
+        picture(self.alloc, &self.scene, &self.reader)
     }
 
     /// The next line, without its line feed. A line that is refused leaves the value as it was.
     fn take(&mut self, line: &[u8]) -> Result<(), CheckError>
-        ensures taken { (names : List Name) (facts : List Fact) → IsSketchOf names facts self.old
-            → IfOk result (λ _. IsTaken names facts line.now self.new) }
-        ensures refused { (names : List Name) (facts : List Fact) → IsSketchOf names facts self.old
-            → (why : CheckFault) → result ≡ Err (Refused why) → IsDenied names facts line.now why }
+        ensures taken { (known : Known) (facts : List Fact) → IsSketchOf known facts self.old
+            → IfOk result (λ _. IsTaken known facts line.now self.new) }
+        ensures refused { (known : Known) (facts : List Fact) → IsSketchOf known facts self.old
+            → (why : CheckFault) → result ≡ Err (Refused why) → IsDenied known facts line.now why }
         ensures kept { (why : CheckFault) → result ≡ Err (Refused why) → self.new ≡ self.old }
     {
         if self.count == u64::MAX {

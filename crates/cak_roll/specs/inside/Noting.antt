@@ -1,6 +1,6 @@
 -- How what an event of a group drew is judged and noted among the draws of both.
 use Rattle.std.specs.Prelude.{◌≡◌, ◌⊎◌, ℕ, ◌+◌, ◌-◌, if◌then◌else◌, List, slice_get}
-use Rattle.std.specs.Prelude.{Option, Some, None, is_some, option_map, option_and_then}
+use Rattle.std.specs.Prelude.{Option, Some, None, is_some, option_map, option_and_then, unwrap_or}
 use Rattle.std.specs.Option.{option_or}
 use Rattle.lan_base.specs.declared.address.Mi.{Mi}
 use Rattle.lan_base.specs.declared.suite.Suite.{Suite}
@@ -15,12 +15,11 @@ use Rattle.lan_core.specs.declared.stop.StepError.TheVariants.{Stopped, Memory}
 use Rattle.lan_core.specs.Lives.{drawn_mi}
 use Rattle.lan_core.specs.Stops.{sak_of_tick}
 use Rattle.lan_core.specs.Standing.{Numbers, number_of_mi, number_of_sak}
-use Rattle.lan_core.specs.Answers.{IsWhy}
 use Rattle.lan_core.specs.Noting.{MiIsNoted, SakIsNoted}
 
--- the stop of a draw that gave what the draw of this number gave before
-abbrev pub repeating : Numbers → Option ℕ → Option Stop
-repeating drawn before = option_map (λ first. RepeatedDraw first (drawn.count + 1)) before
+-- the stop of the draw of a number, which gave what that of another gave before
+abbrev pub repeating : ℕ → Option ℕ → Option Stop
+repeating next before = option_map (λ first. RepeatedDraw first next) before
 
 -- the number of the draw that gave a value before
 abbrev pub given_before : Numbers → Option Mi → Option Secret → Option ℕ
@@ -43,12 +42,17 @@ IsNoted suite old new (Some mi) (Some sak) = Unit {0}
 abbrev pub DrawsOne : Event → List Fact → Type 0
 DrawsOne event facts = (drawn_mi facts ≡ None) ⊎ (sak_of_tick facts event ≡ None)
 
--- a stop of a group, by the draws of both: its own draws have these numbers there
-abbrev pub over_both : List ℕ → Numbers → Stop → Option Stop
-over_both draws drawn (RepeatedDraw first second) = repeating drawn (slice_get draws (first - 1))
-over_both draws drawn stop = Some stop
+-- the number over both of a draw of a group, whose own draws have these numbers there; 0 where there
+-- was none
+abbrev pub number_over : List ℕ → ℕ → ℕ
+number_over draws own = unwrap_or (slice_get draws (own - 1)) 0
+
+-- a stop of a group, by the draws of both, of which the next one has this number
+abbrev pub over_both : List ℕ → ℕ → Stop → Stop
+over_both draws next (RepeatedDraw first second) = RepeatedDraw (number_over draws first) next
+over_both draws next stop = stop
 
 -- why both groups go no further, where one of them answered this
-abbrev pub IsOver : List ℕ → Numbers → StepError → StepError → Type 0
-IsOver draws drawn Memory error = error ≡ Memory
-IsOver draws drawn (Stopped stop) error = IsWhy (over_both draws drawn stop) error
+abbrev pub over : List ℕ → ℕ → StepError → StepError
+over draws next Memory = Memory
+over draws next (Stopped stop) = Stopped (over_both draws next stop)

@@ -1,6 +1,6 @@
 //! How an event happens in both groups.
 
-ghost use Rattle.std.specs.Prelude.{◌≡◌, ◌↔◌, ◌⊎◌, ◌<◌, ◌+◌, ℕ, List, [], true, false, IsTrue, IfOk, IfErr, OnOk};
+ghost use Rattle.std.specs.Prelude.{◌≡◌, ◌↔◌, ◌⊎◌, ◌<◌, ◌+◌, ◌^◌, ℕ, List, [], None, Err, true, false, is_some, IsTrue, IfOk, IfErr, OnOk};
 ghost use Rattle.std.specs.Option.{option_copied};
 ghost use Rattle.lan_base.specs.declared.frame.UserFrame.{UserFrame};
 ghost use Rattle.lan_core.specs.declared.stop.Stop.TheVariants.{DrawsSpent};
@@ -10,18 +10,21 @@ ghost use Rattle.lan_core.specs.Run.{Run};
 ghost use Rattle.lan_core.specs.Stops.{is_spent};
 ghost use Rattle.lan_core.specs.Standing.{AreDrawn};
 ghost use Rattle.lan_core.specs.Unstopped.{AreDraws};
+ghost use Rattle.cak_roll.specs.declared.fault.TwinError.TheVariants.{NoSecond};
 ghost use Rattle.cak_roll.specs.declared.event.GroupNumber.TheVariants.{First, Second};
 ghost use Rattle.cak_roll.specs.declared.event.TwinEvent.{TwinEvent};
 ghost use Rattle.cak_roll.specs.Twin.{Pair, Twin as TwinRun, run_of, merged, events_in};
 ghost use Rattle.cak_roll.specs.Standing.{StandsIn, IfThere, StandsFor, StandBoth};
-ghost use Rattle.cak_roll.specs.Answers.{MayHappen, AnswersTwin};
+ghost use Rattle.cak_roll.specs.Answers.{is_early, MayHappen, AnswersTwin};
 ghost use Rattle.cak_roll.specs.inside.Parts.{events_of_part, IsReadyPart};
 ghost use Rattle.cak_roll.specs.inside.Sides.{Happen};
-ghost use Rattle.cak_roll.specs.inside.Turns.{HappenThere, Turns, BothPerform};
+ghost use Rattle.cak_roll.specs.inside.Turns.{made_by, IsCounted, HappenThere, Turns, BothPerform};
 
 use super::Twin;
 use crate::event::{GroupNumber, TwinEvent, law_fields_are_typed};
+use crate::fault::TwinError;
 use crate::part::Part;
+use crate::side::Side;
 use crate::told::TwinFacts;
 use lan_base::{Blocks, Draws, ListDraws, UserFrame};
 use lan_core::{StepError, Stop};
@@ -34,18 +37,33 @@ impl Twin {
         event: &TwinEvent,
         user: Option<&UserFrame>,
         draws: &mut D,
-    ) -> Result<TwinFacts, StepError>
-        ensures { (pair : Pair) (users : List UserFrame) (t : TwinRun)
+    ) -> Result<TwinFacts, TwinError>
+        ensures answers { (pair : Pair) (users : List UserFrame) (t : TwinRun)
             → StandsFor pair users self.old t
             → MayHappen users t (option_copied user.entry) event.now (D.nth draws.old)
             → AnswersTwin pair users t event.now (D.nth draws.old) (D.nth draws.new) self.new result }
+        ensures early { (result ≡ Err NoSecond) ↔ (is_early self.old event.now ≡ true) }
+        ensures there { OnOk result (is_some self.new.second ≡ is_some self.old.second) }
     {
+        if self.is_early(event) {
+            return Err(TwinError::NoSecond);
+        }
         law_fields_are_typed(event);
         let first = self.part(GroupNumber::First, event);
         let second = self.part(GroupNumber::Second, event);
         let told = self.perform_parts(&first, &second, user, draws)?;
         self.members.follow(event)?;
         Ok(told)
+    }
+
+    /// Whether a station adopts a second group that isn't there.
+    fn is_early(&self, event: &TwinEvent) -> bool
+        ensures { result ≡ is_early self.now event.now }
+    {
+        match event {
+            TwinEvent::Adopt { .. } => self.second.is_none(),
+            _ => false,
+        }
     }
 
     /// The parts of an event happen. Where both draw, the draws of both come first.
@@ -63,10 +81,12 @@ impl Twin {
             → events_of_part second.now ≡ events_in pair Second t event
             → IsReadyPart pair.first users (run_of First t) (option_copied user.entry) first.now
             → IsReadyPart pair.second users (run_of Second t) (option_copied user.entry) second.now
+            → (self.old.second ≡ None → events_of_part second.now ≡ [])
             → AreDraws (D.nth draws.old)
             → BothPerform pair users t event (D.nth draws.old) (D.nth draws.new) self.new result }
         ensures same { OnOk result ((self.new.settings ≡ self.old.settings)
             × (self.new.stopped ≡ self.old.stopped) × (self.new.members ≡ self.old.members)) }
+        ensures there { OnOk result (is_some self.new.second ≡ is_some self.old.second) }
     {
         if is_alone(first, second) {
             return self.turn(first, second, user, draws);
@@ -90,27 +110,40 @@ impl Twin {
             → events_of_part second.now ≡ events_in pair Second t event
             → IsReadyPart pair.first users (run_of First t) (option_copied user.entry) first.now
             → IsReadyPart pair.second users (run_of Second t) (option_copied user.entry) second.now
+            → (self.old.second ≡ None → events_of_part second.now ≡ [])
             → Turns pair users t event (D.nth draws.old) (D.nth draws.new) self.new result }
         ensures same { OnOk result ((self.new.settings ≡ self.old.settings)
             × (self.new.stopped ≡ self.old.stopped) × (self.new.members ≡ self.old.members)) }
+        ensures there { OnOk result (is_some self.new.second ≡ is_some self.old.second) }
     {
         let mut told = TwinFacts::new(self.alloc);
-        self.run_first(first, user, draws, &mut told)?;
-        self.run_second(second, user, draws, &mut told)?;
+        let next = self.next_number();
+        self.run_first(first, user, draws, next, &mut told)?;
+        let later = self.next_number();
+        self.run_second(second, user, draws, later, &mut told)?;
         Ok(told)
     }
 
-    /// A part of an event happens in the first group.
+    /// The number of the next draw of both.
+    fn next_number(&self) -> u64
+        ensures { IsCounted self.now → result ≡ self.now.drawn.count + 1 }
+    {
+        self.first.made() + made_by(&self.second) + 1
+    }
+
+    /// A part of an event happens in the first group. The next draw of both has this number.
     fn run_first<D: Draws>(
         &mut self,
         part: &Part,
         user: Option<&UserFrame>,
         draws: &mut D,
+        next: u64,
         told: &mut TwinFacts,
     ) -> Result<(), StepError>
         ensures happens { (settings : Settings) (users : List UserFrame) (r both : Run)
             → StandsIn settings users r both self.old.first
             → AreDrawn settings.suite both self.old.drawn
+            → next ≡ self.old.drawn.count + 1
             → IsReadyPart settings users r (option_copied user.entry) part.now
             → Happen First settings users r both (events_of_part part.now) (D.nth draws.old)
             (D.nth draws.new) self.new.first self.new.drawn told.old told.new result }
@@ -119,27 +152,40 @@ impl Twin {
           drawn = self.new.drawn;
         } }
     {
-        self.first.run(GroupNumber::First, part, user, draws, &mut self.drawn, told)
+        self.first.run(
+            GroupNumber::First,
+            part,
+            user,
+            draws,
+            &mut self.drawn,
+            next,
+            told,
+        )
     }
 
-    /// A part of an event happens in the second group, if it is there.
+    /// A part of an event happens in the second group, if it is there. The next draw of both has this
+    /// number.
     fn run_second<D: Draws>(
         &mut self,
         part: &Part,
         user: Option<&UserFrame>,
         draws: &mut D,
+        next: u64,
         told: &mut TwinFacts,
     ) -> Result<(), StepError>
         ensures happens { (settings : Settings) (users : List UserFrame) (r both : Run)
             → IfThere settings users r both self.old.second
             → AreDrawn settings.suite both self.old.drawn
+            → next ≡ self.old.drawn.count + 1
             → IsReadyPart settings users r (option_copied user.entry) part.now
+            → (self.old.second ≡ None → events_of_part part.now ≡ [])
             → HappenThere settings users r both (events_of_part part.now) (D.nth draws.old)
             (D.nth draws.new) self.new.second self.new.drawn told.old told.new result }
         ensures same { self.new ≡ record self.old {
           second = self.new.second;
           drawn = self.new.drawn;
         } }
+        ensures there { is_some self.new.second ≡ is_some self.old.second }
     {
         match &mut self.second {
             Some(side) => side.run(
@@ -148,9 +194,10 @@ impl Twin {
                 user,
                 draws,
                 &mut self.drawn,
+                next,
                 told,
             ),
-            None => rests(part),
+            None => Ok(()),
         }
     }
 }
@@ -163,15 +210,14 @@ fn is_alone(first: &Part, second: &Part) -> bool
     first.is_nothing() || second.is_nothing()
 }
 
-/// Where a group is not there, there is nothing to perform in it.
-fn rests(part: &Part) -> Result<(), StepError>
-    ensures nothing { OnOk result (events_of_part part.now ≡ []) }
-    ensures memory { IfErr result (λ error. error ≡ Memory) }
+/// How many draws a second group made, if it is there.
+fn made_by(second: &Option<Side>) -> u64
+    ensures made { result ≡ made_by second.now }
+    ensures small { result < 2 ^ 63 }
 {
-    if part.is_nothing() {
-        Ok(())
-    } else {
-        Err(StepError::Memory)
+    match second {
+        Some(side) => side.made(),
+        None => 0,
     }
 }
 

@@ -217,7 +217,7 @@ claimer settings users r k fresh c h =
     let less = k.plain.placed b.0 (subst (λ w. In b.0 w) k.shows.births b.1) in
     get-there (stations r) c.station (subst (λ n. n < length (stations r)) (b.2 ∙ u.station) less)
 
-place-apart : {X Y : Type 0} (f : X → Y) (xs : List X) (s t : ℕ) (p q : X) → AllDiffer (map f xs)
+pub place-apart : {X Y : Type 0} (f : X → Y) (xs : List X) (s t : ℕ) (p q : X) → AllDiffer (map f xs)
     → slice_get xs s ≡ Some p → slice_get xs t ≡ Some q → f p ≡ f q → s ≡ t
 place-apart f [] s t p q d hs ht e = absurd (none-some hs)
 place-apart f (x ∷ xs) zero zero p q d hs ht e = refl

@@ -1,13 +1,16 @@
 -- Where lines stand.
-use Rattle.std.specs.Prelude.{◌≡◌, ℕ, Bool, true, false, not, List, Option, Some}
+use Rattle.std.specs.Prelude.{◌≡◌, ℕ, Bool, true, false, not, nat_eq, List, Option, Some, None}
+use Rattle.std.specs.Cmp.Lexicographic.{pointwise}
+use Rattle.lan_base.specs.Ranges.{IsCkn}
 use Rattle.roll_text.specs.declared.line.RollLine.{RollLine}
-use Rattle.roll_text.specs.declared.line.RollLine.TheVariants.{Plain}
+use Rattle.roll_text.specs.declared.line.RollLine.TheVariants.{Plain, Group2}
 use Rattle.trace_acts.specs.declared.choices.Choices.{Choices}
 use Rattle.trace_acts.specs.declared.choices.Keyed.{Keyed}
 use Rattle.trace_acts.specs.Kinds.{is_allowed}
 use Rattle.trace_acts.specs.Places.{is_elsewhere}
 use Rattle.trace_acts.specs.Settings.{secret_of}
 use Rattle.roll_schedule.specs.World.{World, waiting}
+use Rattle.roll_schedule.specs.Kinds.{may_be_second}
 
 -- whether a line may stand only before the first station, but for that of a second group
 abbrev pub is_later : RollLine → Bool
@@ -18,6 +21,17 @@ is_later _ = true
 abbrev pub MayPrepare : RollLine → Choices → Type 0
 MayPrepare (Plain line) chosen = is_allowed line false chosen ≡ true
 MayPrepare _ chosen = Unit {0}
+
+-- a second group may come
+abbrev pub MayJoin : RollLine → Option Keyed → Option Keyed → Type 0
+MayJoin (Group2 cak ckn) first second = may_be_second ckn first second ≡ true
+MayJoin _ first second = Unit {0}
+
+-- a group of this name can be opened, and then a second one
+abbrev pub CanOpen : List ℕ → Option Keyed → Type 0
+CanOpen ckn None = IsCkn ckn
+CanOpen ckn (Some keyed) =
+    IsCkn ckn × IsCkn keyed.ckn × (pointwise nat_eq keyed.ckn ckn ≡ false)
 
 -- the second group came
 abbrev pub with_second : List ℕ → List ℕ → World → World

@@ -5,7 +5,7 @@ use Rattle.cak_roll.specs.declared.event.TwinEvent.TheVariants as twins
 use Rattle.cak_roll.specs.Twin.{MayComeTwin}
 use Rattle.roll_schedule.specs.Sound.{IsTidy}
 use Rattle.roll_schedule.specs.World.{World}
-use Rattle.roll_schedule.specs.Acts.{Act, nothing, refuse, happen, change, seq, look, perform}
+use Rattle.roll_schedule.specs.Acts.{Act, nothing, refuse, exceed, happen, change, seq, look, perform}
 use Rattle.roll_schedule.specs.Acts.{Course, Goes, Stops}
 
 abbrev pub IsGoing : Course → (World → Type 0) → Type 0
@@ -21,6 +21,7 @@ IsReady w _ = Unit {0}
 abbrev pub Comes : Act → World → Type 0
 Comes nothing w = Unit {0}
 Comes (refuse kind) w = Unit {0}
+Comes (exceed which) w = Unit {0}
 Comes (happen event) w = MayComeTwin w.kept.users w.run event × IsReady w event
 Comes (change f) w = IsTidy (record w { kept = f w.kept })
 Comes (seq first later) w =

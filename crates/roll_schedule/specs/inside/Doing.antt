@@ -1,9 +1,15 @@
 -- What a call did of an act that can be performed.
-use Rattle.std.specs.Prelude.{Option, Result}
+use Rattle.std.specs.Prelude.{ℕ, Option, Result}
 use Rattle.lan_base.specs.declared.frame.UserFrame.{UserFrame}
+use Rattle.lan_core.specs.declared.stop.StepError.TheVariants.{Memory, Stopped}
 use Rattle.cak_roll.specs.declared.event.TwinEvent.{TwinEvent}
+use Rattle.cak_roll.specs.declared.fault.TwinError.{TwinError}
+use Rattle.cak_roll.specs.declared.fault.TwinError.TheVariants.{Failed, NoSecond}
 use Rattle.cak_roll.specs.Answers.{IsGiven}
 use Rattle.trace_acts.specs.declared.halt.Halt.{Halt}
+use Rattle.trace_acts.specs.declared.halt.Halt.TheVariants as halts
+use Rattle.trace_acts.specs.declared.halt.Kind.TheVariants.{Order}
+use Rattle.trace_acts.specs.Halts.{halt_of}
 use Rattle.trace_acts.specs.declared.broken.Broken.{Broken}
 use Rattle.roll_schedule.specs.World.{World}
 use Rattle.roll_schedule.specs.Acts.{Act, happen, perform}
@@ -14,6 +20,12 @@ use Rattle.roll_schedule.specs.declared.commands.TwinReplay.{TwinReplay}
 use Rattle.roll_schedule.specs.Stages.{StandsFor as StageStandsFor}
 use Rattle.roll_schedule.specs.Standing.{StandsFor}
 use Rattle.roll_schedule.specs.inside.Comes.{Comes}
+
+-- why a trace ends where two groups go no further, at the line of this number
+abbrev pub halt_by : ℕ → TwinError → Halt
+halt_by line (Failed (Stopped stop)) = halt_of line stop
+halt_by line (Failed Memory) = halts.Memory
+halt_by line NoSecond = halts.Trace line Order
 
 -- a call did an act, in each world for which its value may stand, and in which the act can be
 -- performed

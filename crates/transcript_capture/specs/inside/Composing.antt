@@ -4,6 +4,7 @@ use Rattle.std.proofs.lemmas.List.{append-nil}
 use Rattle.lan_base.specs.Told.{after as after_held}
 use Rattle.text_lines.specs.Moments.{Moment}
 use Rattle.lan_core.specs.declared.fact.Fact.{Fact}
+use Rattle.transcript_reader.specs.Facts.{Known}
 use Rattle.capture_file.specs.Records.{records_of}
 use Rattle.transcript_capture.specs.declared.end.Stop.{Stop}
 use Rattle.transcript_capture.specs.declared.end.Stop.TheVariants.{Refused, Failed, Memory}
@@ -13,14 +14,14 @@ use Rattle.transcript_capture.specs.inside.Doing.{DidLines, IsAfter, State, Take
 use Rattle.transcript_capture.specs.inside.Holding.{after-after, after-none, part-behind, rose-earlier}
 use Rattle.transcript_capture.specs.inside.Parts.{packets-append, records-append}
 
-pub taken-append : (names middle after : List (List ℕ)) (xs ys : List (List ℕ)) (fs gs : List Fact)
-    → AreTaken names xs middle fs → AreTaken middle ys after gs
-    → AreTaken names (xs ++ ys) after (fs ++ gs)
-taken-append names middle after [] ys [] gs a b =
-    subst (λ (n : List (List ℕ)). AreTaken n ys after gs) a b
-taken-append names middle after [] ys (f ∷ fs) gs a b = absurd a
-taken-append names middle after (x ∷ xs) ys [] gs a b = absurd a
-taken-append names middle after (x ∷ xs) ys (f ∷ fs) gs a b =
+pub taken-append : (known middle after : Known) (xs ys : List (List ℕ)) (fs gs : List Fact)
+    → AreTaken known xs middle fs → AreTaken middle ys after gs
+    → AreTaken known (xs ++ ys) after (fs ++ gs)
+taken-append known middle after [] ys [] gs a b =
+    subst (λ (n : Known). AreTaken n ys after gs) a b
+taken-append known middle after [] ys (f ∷ fs) gs a b = absurd a
+taken-append known middle after (x ∷ xs) ys [] gs a b = absurd a
+taken-append known middle after (x ∷ xs) ys (f ∷ fs) gs a b =
     (a.0, a.1, a.2, taken-append a.0 middle after xs ys fs gs a.3 b)
 
 recorded-append : (earlier fs gs : List Fact)
@@ -31,20 +32,20 @@ recorded-append earlier fs gs =
 
 -- ---- no line
 
-pub took-none : (names : List (List ℕ)) (earlier : List Fact) (s : State) (held : Option (List ℕ))
-    → IsAfter names earlier s → TookAll names earlier [] s held held
-took-none names earlier s held is = record {
-  names_then = names;
+pub took-none : (known : Known) (earlier : List Fact) (s : State) (held : Option (List ℕ))
+    → IsAfter known earlier s → TookAll known earlier [] s held held
+took-none known earlier s held is = record {
+  known_then = known;
   facts = [];
   taken = refl;
-  stands = subst (λ (l : List Fact). IsAfter names l s) (sym (append-nil earlier)) is;
+  stands = subst (λ (l : List Fact). IsAfter known l s) (sym (append-nil earlier)) is;
   written = after-none held;
 }
 
 -- ---- lines behind lines
 
-module _ (names : List (List ℕ)) (earlier : List Fact) (xs : List (List ℕ)) (middle new : State)
-    (held between then : Option (List ℕ)) (t : TookAll names earlier xs middle held between) where
+module _ (known : Known) (earlier : List Fact) (xs : List (List ℕ)) (middle new : State)
+    (held between then : Option (List ℕ)) (t : TookAll known earlier xs middle held between) where
   pub both : (facts : List Fact) → recorded_all earlier t.facts ++ recorded_all (earlier ++ t.facts) facts
       ≡ recorded_all earlier (t.facts ++ facts)
   both facts = sym (recorded-append earlier t.facts facts)
@@ -56,15 +57,15 @@ module _ (names : List (List ℕ)) (earlier : List Fact) (xs : List (List ℕ)) 
       ∙ after-after held (recorded_all earlier t.facts) (recorded_all (earlier ++ t.facts) facts)
       ∙ ap (after_held held) (both facts)
 
-  abbrev part-more : (ys : List (List ℕ)) → TookPart t.names_then (earlier ++ t.facts) ys between then
-      → TookPart names earlier (xs ++ ys) held then
+  abbrev part-more : (ys : List (List ℕ)) → TookPart t.known_then (earlier ++ t.facts) ys between then
+      → TookPart known earlier (xs ++ ys) held then
   part-more ys u = record {
     front = xs ++ u.front;
     later = u.later;
     parts = append_assoc xs u.front u.later ∙ ap (λ (l : List (List ℕ)). xs ++ l) u.parts;
-    names_then = u.names_then;
+    known_then = u.known_then;
     facts = t.facts ++ u.facts;
-    taken = taken-append names t.names_then u.names_then xs u.front t.facts u.facts t.taken u.taken;
+    taken = taken-append known t.known_then u.known_then xs u.front t.facts u.facts t.taken u.taken;
     count = length (recorded_all earlier t.facts) + u.count;
     written = part-behind held between then (recorded_all earlier t.facts)
         (recorded_all (earlier ++ t.facts) u.facts) u.count t.written u.written
@@ -72,13 +73,13 @@ module _ (names : List (List ℕ)) (earlier : List Fact) (xs : List (List ℕ)) 
   }
 
   takes-more : (ys : List (List ℕ)) (r : Result (Unit {0}) Stop)
-      → Takes t.names_then (earlier ++ t.facts) ys new between then r
-      → Takes names earlier (xs ++ ys) new held then r
+      → Takes t.known_then (earlier ++ t.facts) ys new between then r
+      → Takes known earlier (xs ++ ys) new held then r
   takes-more ys (Ok done) u = record {
-    names_then = u.names_then;
+    known_then = u.known_then;
     facts = t.facts ++ u.facts;
-    taken = taken-append names t.names_then u.names_then xs ys t.facts u.facts t.taken u.taken;
-    stands = subst (λ (l : List Fact). IsAfter u.names_then l new)
+    taken = taken-append known t.known_then u.known_then xs ys t.facts u.facts t.taken u.taken;
+    stands = subst (λ (l : List Fact). IsAfter u.known_then l new)
         (append_assoc earlier t.facts u.facts) u.stands;
     written = all-written u.facts u.written;
   }
@@ -88,9 +89,9 @@ module _ (names : List (List ℕ)) (earlier : List Fact) (xs : List (List ℕ)) 
     later = u.later;
     parts = append_assoc xs u.front (u.line ∷ u.later)
         ∙ ap (λ (l : List (List ℕ)). xs ++ l) u.parts;
-    names_then = u.names_then;
+    known_then = u.known_then;
     facts = t.facts ++ u.facts;
-    taken = taken-append names t.names_then u.names_then xs u.front t.facts u.facts t.taken u.taken;
+    taken = taken-append known t.known_then u.known_then xs u.front t.facts u.facts t.taken u.taken;
     denied = u.denied;
     number_is = u.number_is
         ∙ ap (λ (l : List Fact). numbered (length l + 1)) (append_assoc earlier t.facts u.facts);
@@ -104,46 +105,46 @@ module _ (names : List (List ℕ)) (earlier : List Fact) (xs : List (List ℕ)) 
 
 -- ---- lines behind a refused one are not handed on
 
-abbrev part-early : (names : List (List ℕ)) (earlier : List Fact) (xs ys : List (List ℕ))
-    (held then : Option (List ℕ)) → TookPart names earlier xs held then
-    → TookPart names earlier (xs ++ ys) held then
-part-early names earlier xs ys held then u = record {
+abbrev part-early : (known : Known) (earlier : List Fact) (xs ys : List (List ℕ))
+    (held then : Option (List ℕ)) → TookPart known earlier xs held then
+    → TookPart known earlier (xs ++ ys) held then
+part-early known earlier xs ys held then u = record {
   front = u.front;
   later = u.later ++ ys;
   parts = sym (append_assoc u.front u.later ys) ∙ ap (λ (l : List (List ℕ)). l ++ ys) u.parts;
-  names_then = u.names_then;
+  known_then = u.known_then;
   facts = u.facts;
   taken = u.taken;
   count = u.count;
   written = u.written;
 }
 
-takes-early : (names : List (List ℕ)) (earlier : List Fact) (xs ys : List (List ℕ)) (new : State)
-    (held then : Option (List ℕ)) (stop : Stop) → Takes names earlier xs new held then (Err stop)
-    → Takes names earlier (xs ++ ys) new held then (Err stop)
-takes-early names earlier xs ys new held then (Refused number why) u = record {
+takes-early : (known : Known) (earlier : List Fact) (xs ys : List (List ℕ)) (new : State)
+    (held then : Option (List ℕ)) (stop : Stop) → Takes known earlier xs new held then (Err stop)
+    → Takes known earlier (xs ++ ys) new held then (Err stop)
+takes-early known earlier xs ys new held then (Refused number why) u = record {
   front = u.front;
   line = u.line;
   later = u.later ++ ys;
   parts = sym (append_assoc u.front (u.line ∷ u.later) ys)
       ∙ ap (λ (l : List (List ℕ)). l ++ ys) u.parts;
-  names_then = u.names_then;
+  known_then = u.known_then;
   facts = u.facts;
   taken = u.taken;
   denied = u.denied;
   number_is = u.number_is;
   written = u.written;
 }
-takes-early names earlier xs ys new held then Failed (u, less) =
-    (part-early names earlier xs ys held then u, less)
-takes-early names earlier xs ys new held then Memory u = part-early names earlier xs ys held then u
+takes-early known earlier xs ys new held then Failed (u, less) =
+    (part-early known earlier xs ys held then u, less)
+takes-early known earlier xs ys new held then Memory u = part-early known earlier xs ys held then u
 
 -- ---- what a taker of lines owes
 
 module _ {T K : Type 0} (state : T → State) (held : K → Option (List ℕ)) (faults : K → ℕ) where
   pub did-none : (a : Moment T K) → DidLines state held faults [] a a (Ok tt)
   did-none a = record {
-    takes = λ names earlier is. took-none names earlier (state a.taker) (held a.outlet) is;
+    takes = λ known earlier is. took-none known earlier (state a.taker) (held a.outlet) is;
     failed = λ is. absurd (cc is);
     counts = omega arith;
   }
@@ -152,10 +153,10 @@ module _ {T K : Type 0} (state : T → State) (held : K → Option (List ℕ)) (
       → DidLines state held faults xs a b (Ok tt) → DidLines state held faults ys b c r
       → DidLines state held faults (xs ++ ys) a c r
   did-more a b c xs ys r d e = record {
-    takes = λ names earlier is.
-        let t = d.takes names earlier is in
-        takes-more names earlier xs (state b.taker) (state c.taker) (held a.outlet) (held b.outlet)
-        (held c.outlet) t ys r (e.takes t.names_then (earlier ++ t.facts) t.stands);
+    takes = λ known earlier is.
+        let t = d.takes known earlier is in
+        takes-more known earlier xs (state b.taker) (state c.taker) (held a.outlet) (held b.outlet)
+        (held c.outlet) t ys r (e.takes t.known_then (earlier ++ t.facts) t.stands);
     failed = λ is. rose-earlier (faults a.outlet) (faults b.outlet) (faults c.outlet) d.counts (e.failed is);
     counts = let x = d.counts in let y = e.counts in omega (arith, x, y);
   }
@@ -164,8 +165,8 @@ module _ {T K : Type 0} (state : T → State) (held : K → Option (List ℕ)) (
       → DidLines state held faults xs a b (Err stop)
       → DidLines state held faults (xs ++ ys) a b (Err stop)
   did-early a b xs ys stop d = record {
-    takes = λ names earlier is. takes-early names earlier xs ys (state b.taker) (held a.outlet)
-        (held b.outlet) stop (d.takes names earlier is);
+    takes = λ known earlier is. takes-early known earlier xs ys (state b.taker) (held a.outlet)
+        (held b.outlet) stop (d.takes known earlier is);
     failed = d.failed;
     counts = d.counts;
   }

@@ -1,6 +1,7 @@
 -- What it is to judge lines.
-use Rattle.std.specs.Prelude.{ℕ, ◌≡◌, ◌+◌, min, List, ◌∷◌, ◌++◌, Result, Ok, Err}
-use Rattle.lan_base.specs.declared.name.Name.{Name}
+use Rattle.std.specs.Prelude.{ℕ, ◌≡◌, List, ◌∷◌, ◌++◌, Result, Ok, Err}
+use Rattle.transcript_reader.specs.Facts.{Known}
+use Rattle.transcript_reader.specs.Counting.{number_after}
 use Rattle.lan_core.specs.declared.fact.Fact.{Fact}
 use Rattle.text_lines.specs.declared.reading.End.{End}
 use Rattle.text_lines.specs.declared.reading.End.TheVariants as reading
@@ -11,46 +12,42 @@ use Rattle.transcript_check.specs.declared.judging.Unjudged.{Unjudged}
 use Rattle.transcript_check.specs.declared.judging.Unjudged.TheVariants as ends
 use Rattle.transcript_check.specs.Standing.{Standing, AreTaken, IsCheckOf, IsDenied}
 
--- after these names and facts lines were taken one after another, and count from now on
-pub record Took (names : List Name) (facts : List Fact) (lines : List (List ℕ)) (now : Standing)
+-- where this is known after these facts, lines were taken one after another, and count from now on
+pub record Took (known : Known) (facts : List Fact) (lines : List (List ℕ)) (now : Standing)
     : Type 0 where
-  pub after : List Name
+  pub after : Known
   pub told : List Fact
-  pub taken : AreTaken names facts lines after told
+  pub taken : AreTaken known facts lines after told
   pub stands : IsCheckOf after told now
 
 -- lines were taken up to one that was refused
-pub record Stopped (names : List Name) (facts : List Fact) (lines : List (List ℕ)) (now : Standing)
+pub record Stopped (known : Known) (facts : List Fact) (lines : List (List ℕ)) (now : Standing)
     (why : CheckFault) : Type 0 where
   pub earlier : List (List ℕ)
   pub line : List ℕ
   pub later : List (List ℕ)
   pub parts : earlier ++ line ∷ later ≡ lines
-  pub took : Took names facts earlier now
+  pub took : Took known facts earlier now
   pub denied : IsDenied took.after took.told line why
 
 -- lines were taken up to one for which no memory was left
-pub record Broke (names : List Name) (facts : List Fact) (lines : List (List ℕ)) (now : Standing)
+pub record Broke (known : Known) (facts : List Fact) (lines : List (List ℕ)) (now : Standing)
     : Type 0 where
   pub front : List (List ℕ)
   pub later : List (List ℕ)
   pub parts : front ++ later ≡ lines
-  pub took : Took names facts front now
+  pub took : Took known facts front now
 
-abbrev pub Comes : List Name → List Fact → List (List ℕ) → Standing → Result (Unit {0}) CheckError
+abbrev pub Comes : Known → List Fact → List (List ℕ) → Standing → Result (Unit {0}) CheckError
     → Type 0
-Comes names facts lines now (Ok done) = Took names facts lines now
-Comes names facts lines now (Err (Refused why)) = Stopped names facts lines now why
-Comes names facts lines now (Err Memory) = Broke names facts lines now
+Comes known facts lines now (Ok done) = Took known facts lines now
+Comes known facts lines now (Err (Refused why)) = Stopped known facts lines now why
+Comes known facts lines now (Err Memory) = Broke known facts lines now
 
 -- lines were judged, after whatever the judge stands for
 abbrev pub Judges : List (List ℕ) → Standing → Standing → Result (Unit {0}) CheckError → Type 0
-Judges lines old new result = (names : List Name) (facts : List Fact)
-    → IsCheckOf names facts old → Comes names facts lines new result
-
--- the number of the next line, as far as 32 bits count
-abbrev pub number_after : ℕ → ℕ
-number_after count = min (count + 1) 4294967295
+Judges lines old new result = (known : Known) (facts : List Fact)
+    → IsCheckOf known facts old → Comes known facts lines new result
 
 -- what the end of reading is, where so many lines were taken
 abbrev pub why_unjudged : End CheckError → ℕ → Unjudged

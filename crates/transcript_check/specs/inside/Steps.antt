@@ -7,6 +7,7 @@ use Rattle.aes_block.specs.declared.secret.Secret.{Secret}
 use Rattle.aes_block.specs.declared.secret.Secret.TheVariants.{S128, S256}
 use Rattle.lan_core.specs.declared.fact.Fact.{Fact}
 use Rattle.lan_core.specs.declared.fact.Fact.TheVariants as shows
+use Rattle.transcript_reader.specs.Forms.{station_of}
 use Rattle.transcript_check.specs.declared.named.Named.{Named}
 use Rattle.transcript_check.specs.declared.fault.CheckError.{CheckError}
 use Rattle.transcript_check.specs.declared.fault.CheckError.TheVariants.{Refused, Memory}
@@ -35,21 +36,22 @@ IsNamed number id named old new None (Some nv) =
     new ≡ (if same_named nv.1 named then old else record old { one_key = Some (nv.0, number) })
 
 -- a claim more under a SAK: its line is found by its packet number, and what is found by others, and
--- under other epochs, is as it was
-pub record IsMore (s pn number : ℕ) (own : Lines) (aside : Aside) (after : Lines) (now : Aside)
+-- under other places and epochs, is as it was
+pub record IsMore (pn number : ℕ) (own : Lines) (aside : Aside) (after : Lines) (now : Aside)
     : Type 0 where
+  pub place : after.place ≡ own.place
   pub epoch : after.epoch ≡ own.epoch
-  pub here : line_in after now s pn ≡ Some number
-  pub others : (qn : ℕ) → qn ≢ pn → line_in after now s qn ≡ line_in own aside s qn
-  pub elsewhere : (t epoch qn : ℕ) → ((t ≡ s) × (epoch ≡ own.epoch) → ⊥)
+  pub here : line_in after now pn ≡ Some number
+  pub others : (qn : ℕ) → qn ≢ pn → line_in after now qn ≡ line_in own aside qn
+  pub elsewhere : (t epoch qn : ℕ) → ((t ≡ own.place) × (epoch ≡ own.epoch) → ⊥)
       → aside_at now t epoch qn ≡ aside_at aside t epoch qn
 
 -- a line used the packet number, and nothing changes; or none did, and there is a claim more
-abbrev pub LineIsKept : ℕ → ℕ → ℕ → Lines → Aside → Lines → Aside → Option ℕ → Type 0
-LineIsKept s pn number own aside after now (Some line) =
-    (line_in own aside s pn ≡ Some line) × (after ≡ own) × (now ≡ aside)
-LineIsKept s pn number own aside after now None =
-    (line_in own aside s pn ≡ None) × IsMore s pn number own aside after now
+abbrev pub LineIsKept : ℕ → ℕ → Lines → Aside → Lines → Aside → Option ℕ → Type 0
+LineIsKept pn number own aside after now (Some line) =
+    (line_in own aside pn ≡ Some line) × (after ≡ own) × (now ≡ aside)
+LineIsKept pn number own aside after now None =
+    (line_in own aside pn ≡ None) × IsMore pn number own aside after now
 
 -- under one key there are these lines, and under others what there was
 pub record OwnIsPut (key : ℕ × List ℕ) (own : Lines) (old new : LinesBySak) : Type 0 where
@@ -57,10 +59,10 @@ pub record OwnIsPut (key : ℕ × List ℕ) (own : Lines) (old new : LinesBySak)
   pub others : (other : ℕ × List ℕ) → other ≢ key → own_at new other ≡ own_at old other
 
 -- the first claim under a SAK
-pub record IsOpened (key : ℕ × List ℕ) (epoch pn number : ℕ) (old : LinesBySak) (aside : Aside)
+pub record IsOpened (key : ℕ × List ℕ) (place epoch pn number : ℕ) (old : LinesBySak) (aside : Aside)
     (new : LinesBySak) (now : Aside) : Type 0 where
   pub none : own_at old key ≡ None
-  pub put : OwnIsPut key (fresh epoch pn number) old new
+  pub put : OwnIsPut key (fresh place epoch pn number) old new
   pub same : now ≡ aside
 
 -- a claim more under a SAK that had one
@@ -69,18 +71,18 @@ pub record IsGrown (key : ℕ × List ℕ) (pn number : ℕ) (old : LinesBySak) 
   pub own : Lines
   pub after : Lines
   pub there : own_at old key ≡ Some own
-  pub none : line_in own aside key.0 pn ≡ None
-  pub more : IsMore key.0 pn number own aside after now
+  pub none : line_in own aside pn ≡ None
+  pub more : IsMore pn number own aside after now
   pub put : OwnIsPut key after old new
 
 -- under one key a line used the packet number, and nothing changes; or none did
-abbrev pub LineIsKeptAt : ℕ × List ℕ → ℕ → ℕ → ℕ → LinesBySak → Aside → LinesBySak → Aside → Option ℕ
+abbrev pub LineIsKeptAt : ℕ × List ℕ → ℕ → ℕ → ℕ → ℕ → LinesBySak → Aside → LinesBySak → Aside → Option ℕ
     → Type 0
-LineIsKeptAt key epoch pn number old aside new now (Some line) =
-    (option_and_then (λ own. line_in own aside key.0 pn) (own_at old key) ≡ Some line)
+LineIsKeptAt key place epoch pn number old aside new now (Some line) =
+    (option_and_then (λ own. line_in own aside pn) (own_at old key) ≡ Some line)
     × (new ≡ old) × (now ≡ aside)
-LineIsKeptAt key epoch pn number old aside new now None =
-    IsOpened key epoch pn number old aside new now ⊎ IsGrown key pn number old aside new now
+LineIsKeptAt key place epoch pn number old aside new now None =
+    IsOpened key place epoch pn number old aside new now ⊎ IsGrown key pn number old aside new now
 
 pub record UseIsPut (number s pn : ℕ) (sak : Secret) (old new : Maps) : Type 0 where
   pub count : new.count ≡ old.count
@@ -117,13 +119,13 @@ without_sak saks s epoch = record {
   wide = remove_entry (is_at (pair_cmp (s, epoch))) saks.wide;
 }
 
--- a SAK is found under a station and an epoch, and what is found under others is as it was
+-- a SAK is found under a place and an epoch, and what is found under others is as it was
 pub record SakIsPut (s epoch : ℕ) (sak : Secret) (old new : Saks) : Type 0 where
   pub entries : new ≡ with_sak old s epoch sak
   pub here : sak_under new s epoch ≡ Some sak
   pub others : (t e : ℕ) → ((t ≡ s) × (e ≡ epoch) → ⊥) → sak_under new t e ≡ sak_under old t e
 
--- ---- installs and claims by station and epoch
+-- ---- installs and claims by place and epoch
 
 -- a station installs a SAK under an epoch, under which this one or none was found before
 abbrev pub Opens : ℕ → ℕ → Secret → Saks → Saks → Option Secret → Result Unit CheckError → Type 0
@@ -179,7 +181,7 @@ abbrev pub Takes : ℕ → Fact → Maps → Maps → Result Unit CheckError →
 Takes number (shows.Installed s id an epoch sak) old new r =
     Installs number s epoch id (record { an = an; sak = sak }) old new (sak_at old s epoch) r
 Takes number (shows.Claimed s an epoch pn) old new r =
-    Claims number s pn old new (sak_at old s epoch) r
+    Claims number (station_of s) pn old new (sak_at old s epoch) r
 Takes number (shows.Arrived k s arrival) old new r =
     Passes old new (min (old.missed + (if is_missed (shows.Arrived k s arrival) then 1 else 0)) 18446744073709551615) r
 Takes number _ old new r = (is_ok r ≡ true) × (new ≡ old)

@@ -1,4 +1,6 @@
-use Rattle.std.proofs.Common.{[], sym, subst}
+use Rattle.std.proofs.Common.{◌≡◌, [], None, Some, refl, sym, subst}
+use Rattle.std.specs.Prelude.{IfSome}
+use Rattle.cak_roll.specs.Answers.{second_fault}
 use Rattle.cak_roll.specs.Standing.{StandsFor as TwinStandsFor}
 use Rattle.roll_schedule.specs.World.{second_of}
 use Rattle.roll_schedule.proofs.choosing.take_second.Goals as goal
@@ -9,3 +11,11 @@ returns-in-Ok-clause-stands c = λ first users stands.
     c.second.new.self []) (sym c.in-Some.is)
     (rw c.in_ok-ckn.ensures at c.in-Ok.ensures.stands
     (record { first = first; second = first }) users [] stands)
+
+pub returns-in-Err-clause-memory : goal.returns-in-Err-clause-memory
+returns-in-Err-clause-memory c = λ free.
+    let none = subst (λ second. IfSome second (λ keyed. second_fault c.args.twin.now keyed.ckn ≡ None))
+    c.in-Some.is free in
+    let some : second_fault c.args.twin.now c.in-Some.keyed.ckn ≡ Some c.in-Err.field-0 =
+    rw c.in_ok-ckn.ensures at ((c.in-Err.ensures.refused c.in-Err.field-0).0 refl) in
+    absurd (cc (none, some))

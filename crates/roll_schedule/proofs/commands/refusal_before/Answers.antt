@@ -2,8 +2,9 @@ use Rattle.std.proofs.Common.{Some, sym, ap, ◌∙◌}
 use Rattle.std.specs.Prelude.{not}
 use Rattle.trace_acts.specs.declared.halt.Kind.TheVariants as kinds
 use Rattle.trace_acts.specs.Kinds.{first_of, where_}
-use Rattle.roll_schedule.proofs.Opening.{adopt-before, leave-before, none-allows, order-first}
+use Rattle.roll_schedule.proofs.Opening.{adopt-before, leave-before, none-allows, none-joins, order-first}
 use Rattle.roll_schedule.proofs.Opening.{plain-before}
+use Rattle.roll_schedule.proofs.Refusing.{if-none}
 use Rattle.roll_schedule.proofs.commands.refusal_before.Goals as goal
 
 pub returns-in-Plain-clause-first : goal.returns-in-Plain-clause-first
@@ -30,3 +31,17 @@ returns-in-Leave-clause-first c = λ n.
     rw c.in-Leave.is (c.unknown_where-in-Leave.ensures
     ∙ sym (leave-before c.in-Leave.group _ n c.args.chosen.now c.args.second.now c.is_group.result
     c.is_group.ensures))
+
+pub returns-in-Plain-clause-second : goal.returns-in-Plain-clause-second
+returns-in-Plain-clause-second c = rw c.in-Plain.is (if-none _ _ tt)
+
+pub returns-in-Group2-clause-second : goal.returns-in-Group2-clause-second
+returns-in-Group2-clause-second c =
+    rw c.in-Group2.is (none-joins c.may_be_second.result _ _ c.order_where.ensures
+    c.may_be_second.ensures)
+
+pub returns-in-Adopt-clause-second : goal.returns-in-Adopt-clause-second
+returns-in-Adopt-clause-second c = tt
+
+pub returns-in-Leave-clause-second : goal.returns-in-Leave-clause-second
+returns-in-Leave-clause-second c = tt

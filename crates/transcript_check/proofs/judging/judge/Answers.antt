@@ -1,4 +1,4 @@
-use Rattle.transcript_check.specs.Transcripts.{most_octets}
+use Rattle.transcript_reader.specs.Counting.{most_octets}
 use Rattle.transcript_check.proofs.Reached.{not-judged, judged-ok, judged-err}
 use Rattle.transcript_check.proofs.judging.judge.Goals as goal
 

@@ -1,12 +1,13 @@
-use Rattle.std.proofs.Common.{List, ◌∷◌, [], sym, subst}
+use Rattle.std.proofs.Common.{List, ◌∷◌, [], inl, refl, sym, subst}
 use Rattle.lan_base.specs.declared.frame.UserFrame.{UserFrame}
 use Rattle.lan_core.specs.declared.settings.Settings.{Settings}
 use Rattle.lan_core.specs.Places.{names}
 use Rattle.lan_core.specs.Run.{facts_of}
-use Rattle.transcript_check.specs.Standing.{AreTaken}
-use Rattle.transcript_check.proofs.AllFit.{all-fit}
+use Rattle.transcript_reader.specs.Facts.{nothing}
+use Rattle.transcript_check.proofs.OneGroup.{AreTakenAlone, taken-alone}
+use Rattle.transcript_check.proofs.AllFit.{all-fit, few-stations}
 use Rattle.transcript_check.proofs.TextLines.{lines-of-transcript}
-use Rattle.transcript_check.proofs.Clean.{no-use-pair, no-key-pair, counted-differ}
+use Rattle.transcript_check.proofs.Clean.{no-use-pair, few-places, no-key-pair, counted-differ}
 use Rattle.transcript_check.proofs.Passing.{Laws, run-passes}
 use Rattle.transcript_check.proofs.laws.law_clean.Goals as goal
 
@@ -17,15 +18,17 @@ returns c = record {
       let fit = all-fit c.law_typed_facts_have_lines.ensures settings users r legal.stepped
       (c.law_facts_are_typed.ensures settings users r legal.stepped)
       (c.law_facts_have_their_stations.ensures.all settings users r legal.stepped) in
-      subst (λ ls. AreTaken [] [] ls (names r) (facts_of r))
+      let alone = subst (λ ls. AreTakenAlone [] [] ls (names r) (facts_of r))
       (sym (lines-of-transcript (record {
         feeds = c.law_no_fact_ends_a_line.ensures.feeds_never;
         returns = c.law_no_fact_ends_a_line.ensures.returns_never;
       }) (names r) named.0 (facts_of r) fit))
-      (run-passes settings users (laws settings users) r legal.stepped fresh honest);
+      (run-passes settings users (laws settings users) r legal.stepped fresh honest) in
+      taken-alone c.law_one_group_tells_what_it_reads.ensures.tells nothing [] _ (names r) (facts_of r) (inl refl) alone;
   once = λ settings users r legal fresh honest.
       no-use-pair r (c.law_once.ensures.legal settings users r legal fresh honest)
-      (counted-differ _ (c.law_epochs_count.ensures.counted settings users r legal.stepped));
+      (counted-differ _ (c.law_epochs_count.ensures.counted settings users r legal.stepped))
+      (few-places r (few-stations settings users r legal.stepped) (c.law_facts_have_their_stations.ensures.all settings users r legal.stepped));
   one_key = λ settings users r legal fresh honest.
       no-key-pair r (c.law_one_key.ensures.legal settings users r legal fresh honest);
 }

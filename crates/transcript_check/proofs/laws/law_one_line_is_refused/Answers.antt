@@ -9,6 +9,6 @@ returns c = record {
   where
     law : OneFact
     law = record {
-      one = c.law_a_line_is_one_fact.ensures.one;
-      named = c.law_a_line_is_one_fact.ensures.named;
+      one = c.law_a_line_tells_one_fact.ensures.one;
+      named = c.law_a_line_tells_one_fact.ensures.named;
     }

@@ -1,4 +1,4 @@
-use Rattle.transcript_check.specs.Transcripts.{most_octets}
+use Rattle.transcript_reader.specs.Counting.{most_octets}
 use Rattle.transcript_picture.proofs.Reached.{not-drawn, drawn-end, drawn-err}
 use Rattle.transcript_picture.proofs.drawing.draw.Goals as goal
 

@@ -4,11 +4,11 @@ use Rattle.cak_roll.specs.declared.event.GroupNumber.TheVariants.{First, Second}
 use Rattle.cak_roll.specs.Standing.{Held, AreMembers}
 use Rattle.cak_roll.proofs.ReadyParts.{ready-part}
 use Rattle.cak_roll.proofs.MembersFollow.{members-then}
-use Rattle.cak_roll.proofs.TwinGoes.{is-step, event-is, goes-on, answer-refused}
+use Rattle.cak_roll.proofs.TwinGoes.{is-step, event-is, goes-on, answer-refused, lone-part}
 use Rattle.cak_roll.proofs.twin.Twin.perform.Goals as goal
 
-pub returns-in_err-told : goal.returns-in_err-told
-returns-in_err-told g c pair users t stands may =
+pub returns-in_err-told-clause-answers : goal.returns-in_err-told-clause-answers
+returns-in_err-told-clause-answers g c pair users t stands may =
     let before = g.D.Draws.nth c.args.draws.now in
     let typed = c.law_fields_are_typed.ensures in
     let first = c.part-first.ensures pair users t stands in
@@ -21,10 +21,12 @@ returns-in_err-told g c pair users t stands may =
     first)
     (ready-part pair users t Second given c.args.event.now before c.part-second.result stands.legal may
     typed second)
+    (λ none. second ∙ lone-part pair users t c.args.self.now c.args.event.now stands may.may_come
+    (sym c.is_early.ensures ∙ c.if-is_early.false) none)
     may.draws)
 
-pub returns : goal.returns
-returns g c pair users t stands may =
+pub returns-clause-answers : goal.returns-clause-answers
+returns-clause-answers g c pair users t stands may =
     let before = g.D.Draws.nth c.args.draws.now in
     let after = g.D.Draws.nth c.perform_parts.new.draws in
     let typed = c.law_fields_are_typed.ensures in
@@ -37,6 +39,8 @@ returns g c pair users t stands may =
     typed first)
     (ready-part pair users t Second given c.args.event.now before c.part-second.result stands.legal
     may typed second)
+    (λ none. second ∙ lone-part pair users t c.args.self.now c.args.event.now stands may.may_come
+    (sym c.is_early.ensures ∙ c.if-is_early.false) none)
     may.draws in
     let same = c.in_ok-told.ensures.same in
     let step = is-step pair users t c.args.event.now before after c.args.self.now

@@ -7,7 +7,7 @@ pub returns-in-Some : goal.returns-in-Some
 returns-in-Some c = λ w stands.
     line-staged c.args.number w _ _ c.in-Some.stage _ c.in-Some.is refl refl
     (λ at. stands-kept w (record w.kept { line = c.args.number }) c.in-Some.stage _ at at.begun
-    at.named at.chosen at.keyed refl at.twin at.draws refl at.users at.cuts at.first_party
+    at.named at.chosen at.keyed refl at.twin at.there at.draws refl at.users at.cuts at.first_party
     at.second_party refl refl) stands
 
 pub returns : goal.returns

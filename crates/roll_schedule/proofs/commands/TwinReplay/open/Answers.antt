@@ -1,10 +1,10 @@
-use Rattle.std.proofs.Common.{refl, ap, subst, ◌∙◌}
+use Rattle.std.proofs.Common.{refl, ap, subst, sym, ◌∙◌}
 use Rattle.std.specs.Prelude.{is_some}
 use Rattle.roll_schedule.specs.World.{waiting}
 use Rattle.roll_schedule.specs.Stages.{StandsFor as StageStandsFor}
 use Rattle.roll_schedule.specs.inside.Choosing.{begun_in}
-use Rattle.roll_schedule.proofs.Doing.{memory-any}
-use Rattle.roll_schedule.proofs.Opening.{opening-does, station-later}
+use Rattle.roll_schedule.specs.Standing.{MayOpen}
+use Rattle.roll_schedule.proofs.Opening.{opening-does, station-later, unopened-does}
 use Rattle.roll_schedule.proofs.commands.TwinReplay.open.Goals as goal
 
 pub perform_plain-outcome-requires-clause-later : goal.perform_plain-outcome-requires-clause-later
@@ -25,4 +25,10 @@ returns g c =
 
 pub returns-in_err-stage : goal.returns-in_err-stage
 returns-in_err-stage g c =
-    memory-any _ _ _ _ refl c.in_err-stage.ensures.memory c.from_residual.ensures.1
+    let named = ap (λ chosen. is_some chosen.group) c.replace-chosen.ensures.value
+    ∙ c.requires.keyed in
+    unopened-does _ _ _ _ _ c.requires.unbegun refl
+    (λ opens. c.in_err-stage.ensures.memory named
+    (subst (λ chosen. MayOpen chosen.group c.take.result) (sym c.replace-chosen.ensures.value)
+    (subst (λ second. MayOpen c.args.self.now.chosen.group second) (sym c.take.ensures.value) opens)))
+    c.from_residual.ensures.1

@@ -5,7 +5,7 @@ use Rattle.roll_schedule.proofs.commands.TwinReplay.prepare.Goals as goal
 
 pub returns-in_ok-choose-in_default : goal.returns-in_ok-choose-in_default
 returns-in_ok-choose-in_default g c =
-    chosen-does c.args.line.now _ _ c.requires.unbegun c.requires.unbegun refl refl refl
+    chosen-does c.args.line.now _ _ c.requires.form c.requires.allowed c.requires.unbegun c.requires.unbegun refl refl refl
     c.in_ok-choose-in_default.ensures refl
     (chosen-deed c.args.line.now c.args.self.now.chosen c.requires.allowed c.in_default.not-Station)
 

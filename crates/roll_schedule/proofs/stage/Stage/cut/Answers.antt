@@ -7,6 +7,6 @@ use Rattle.roll_schedule.proofs.stage.Stage.cut.Goals as goal
 pub returns : goal.returns
 returns c = λ w stands.
     stands-kept w (cut_in c.args.from c.args.to w.kept) c.args.self.now _ stands stands.begun
-    stands.named stands.chosen stands.keyed stands.line stands.twin stands.draws refl stands.users
+    stands.named stands.chosen stands.keyed stands.line stands.twin stands.there stands.draws refl stands.users
     (c.in_ok-cut.ensures ∙ ap (λ cuts. with_link c.args.from c.args.to cuts) stands.cuts)
     stands.first_party stands.second_party refl refl

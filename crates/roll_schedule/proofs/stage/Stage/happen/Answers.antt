@@ -1,24 +1,15 @@
-use Rattle.std.proofs.Common.{refl, subst}
+use Rattle.std.proofs.Common.{refl, ap}
 use Rattle.std.specs.Prelude.{Ok, Err}
-use Rattle.lan_core.specs.Answers.{IsWhy}
-use Rattle.cak_roll.specs.Stepping.{twin_stop}
-use Rattle.trace_acts.specs.Supply.{supply_nth}
 use Rattle.roll_schedule.specs.Ends.{moment}
-use Rattle.roll_schedule.proofs.Happening.{event-did, event-stopped, event-wanting, happened-err}
+use Rattle.roll_schedule.proofs.Happening.{event-did, event-failed, event-wanting, happened-err}
 use Rattle.roll_schedule.proofs.Happening.{step-goes}
 use Rattle.roll_schedule.proofs.stage.Stage.happen.Goals as goal
 
-pub returns-in-Err-Stopped : goal.returns-in-Err-Stopped
-returns-in-Err-Stopped g c =
-    rw c.halt_of.ensures (event-stopped _ c.args.event.now
-    c.in-Err-Stopped.stop c.args.self.now.line (moment c.args.self.now c.args.outlet.now) _
-    (λ pair users t stands may.
-    subst (IsWhy (twin_stop pair users t c.args.event.now (supply_nth c.args.self.now.draws)))
-    c.in-Err-Stopped.field-0-is (c.in-Err-Stopped.ensures.refused pair users t stands may))
-    refl refl)
-
-pub returns-in-Err-Memory : goal.returns-in-Err-Memory
-returns-in-Err-Memory g c = event-wanting _ c.args.event.now _ _ refl
+pub returns-in-Err : goal.returns-in-Err
+returns-in-Err g c =
+    rw c.halt_by.ensures (event-failed _ c.args.event.now c.in-Err.error c.args.self.now.line
+    (moment c.args.self.now c.args.outlet.now) _ c.in-Err.ensures.refused
+    (λ goes is. (c.in-Err.ensures.early goes).0 (ap (λ e. Err e) is)) refl refl)
 
 pub returns-in_err-admit : goal.returns-in_err-admit
 returns-in_err-admit g c =
@@ -40,6 +31,7 @@ returns-in_err-tell g c =
       line = refl;
       chosen = refl;
       keyed = refl;
+      there = c.in-Ok.ensures.there;
       users = refl;
       cuts = refl;
       scis = c.in_ok-admit.ensures.scis;
@@ -62,6 +54,7 @@ returns g c =
       line = refl;
       chosen = refl;
       keyed = refl;
+      there = c.in-Ok.ensures.there;
       users = refl;
       cuts = refl;
       scis = c.in_ok-admit.ensures.scis;

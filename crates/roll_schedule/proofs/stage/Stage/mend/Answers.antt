@@ -7,6 +7,6 @@ use Rattle.roll_schedule.proofs.stage.Stage.mend.Goals as goal
 pub returns : goal.returns
 returns c = λ w stands.
     stands-kept w (mended_in c.args.from c.args.to w.kept) c.args.self.now _ stands stands.begun
-    stands.named stands.chosen stands.keyed stands.line stands.twin stands.draws refl stands.users
+    stands.named stands.chosen stands.keyed stands.line stands.twin stands.there stands.draws refl stands.users
     (c.mend.ensures ∙ ap (λ cuts. without_link c.args.from c.args.to cuts) stands.cuts)
     stands.first_party stands.second_party refl refl

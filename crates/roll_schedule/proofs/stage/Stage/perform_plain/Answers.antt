@@ -2,7 +2,7 @@ use Rattle.std.proofs.Common.{refl}
 use Rattle.cak_roll.specs.declared.event.TwinEvent.TheVariants.{Start}
 use Rattle.roll_schedule.specs.Acts.{change, happen, seq, times}
 use Rattle.roll_schedule.specs.Lines.{begin, cut_in, deed_plain, flow_round, mended_in, restart}
-use Rattle.roll_schedule.specs.Lines.{round, send, tick_both}
+use Rattle.roll_schedule.specs.Lines.{round, send_new, tick_both}
 use Rattle.roll_schedule.proofs.Doing.{change-does, handed-on, memory-does}
 use Rattle.roll_schedule.proofs.Moving.{default-does, one-place, same-line, two-places}
 use Rattle.roll_schedule.proofs.stage.Stage.perform_plain.Goals as goal
@@ -57,7 +57,7 @@ returns-in-Restart g c =
 pub returns-in-Send : goal.returns-in-Send
 returns-in-Send g c =
     one-place (λ w. deed_plain c.args.line.now w) c.in-Send.name
-    (λ s. send s (record { destination = c.in-Send.destination; body = c.in-Send.body }))
+    (λ s. send_new s (record { destination = c.in-Send.destination; body = c.in-Send.body }))
     c.place-in-Send.result _ _ _
     (λ w. rw c.in-Send.is refl) c.place-in-Send.ensures c.send_body.ensures
 

@@ -1,14 +1,16 @@
-use Rattle.std.proofs.Common.{◌≡◌, ◌+◌, refl, arith}
-use Rattle.roll_schedule.proofs.Doing.{memory-does}
-use Rattle.roll_schedule.proofs.Moving.{send-does}
+use Rattle.std.proofs.Common.{refl}
+use Rattle.roll_schedule.proofs.Doing.{handed-on}
+use Rattle.roll_schedule.proofs.Moving.{over-does, send-does, send-new-does}
 use Rattle.roll_schedule.proofs.stage.Stage.send.Goals as goal
 
-pub returns-in_default : goal.returns-in_default
-returns-in_default g c = memory-does _ _ _ refl
+pub returns-in_err-number : goal.returns-in_err-number
+returns-in_err-number g c =
+    handed-on _ _ _ _ _ (over-does c.args.station c.args.user.now _ _ _ c.in_err-number.ensures.over.0
+    c.in_err-number.ensures.over.1 refl) c.from_residual.ensures.1
 
 pub returns : goal.returns
 returns g c =
-    let one_more : c.in-Some.users ≡ c.args.self.now.users + 1 =
-    let is = c.in-Some.is in let counts = c.checked_add.ensures in grind (arith, is, counts) in
-    send-does c.args.station c.in-Some.users c.args.user.now _ _ _ _ refl refl one_more
-    c.happen.ensures
+    let left = c.in_ok-number.ensures.number in
+    send-new-does c.args.station c.args.user.now _ _ _ left.0
+    (send-does c.args.station c.in_ok-number.number c.args.user.now _ _ _ _ left.2 refl left.1
+    c.happen.ensures)

@@ -14,8 +14,8 @@ returns-in_err-fact g c =
     let line : c.self.inside.line ≡ old.line = ap (λ (s : State). s.line) c.self.view_is in
     let next : number ≡ min (old.line + 1) (2 ^ 32 - 1) = omega (arith, c.saturating_add-number.ensures, line) in
     record {
-      takes = λ names earlier is. rw (p.1, p.2) (not-read names earlier c.args.text.now old held held number is
-          (next-number names earlier old number is next) c.read.new.self c.in_err-fact.field-0.0 refl
+      takes = λ known earlier is. rw (p.1, p.2) (not-read known earlier c.args.text.now old held held number is
+          (next-number known earlier old number is next) c.read.new.self c.in_err-fact.field-0.0 refl
           c.in_err-fact.ensures);
       failed = λ is. absurd (not-failed number c.args.text.now old c.read.new.self c.in_err-fact.field-0.0
           c.in_err-fact.ensures (same-stop _ _ _ (p.1 ∙ ap (λ e. Err e) p.2) is));
@@ -36,11 +36,11 @@ returns g c =
     let line : c.self.inside.line ≡ old.line = ap (λ (s : State). s.line) c.self.view_is in
     let next : number ≡ min (old.line + 1) (2 ^ 32 - 1) = omega (arith, c.saturating_add-number.ensures, line) in
     record {
-      takes = λ names earlier is.
-          let n = next-number names earlier old number is next in
-          line-taken names earlier text old held then number is n middle new fact read c.record.result
-          (c.record.ensures.recorded middle.names earlier
-          (stands-read names earlier text old held then number is n middle new fact read));
+      takes = λ known earlier is.
+          let n = next-number known earlier old number is next in
+          line-taken known earlier text old held then number is n middle new fact read c.record.result
+          (c.record.ensures.recorded middle.known earlier
+          (stands-read known earlier text old held then number is n middle new fact read));
       failed = c.record.ensures.failed;
       counts = c.record.ensures.counts;
     }

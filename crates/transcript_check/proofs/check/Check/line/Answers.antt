@@ -1,7 +1,7 @@
 use Rattle.std.proofs.Common.{◌≡◌, ◌∙◌, List, Err, sym, ap, subst}
 use Rattle.std.specs.Prelude.{OnErr}
 use Rattle.std.proofs.lemmas.Result.{err_from_is_err_and}
-use Rattle.lan_base.specs.declared.name.Name.{Name}
+use Rattle.transcript_reader.specs.Facts.{Known}
 use Rattle.lan_core.specs.declared.fact.Fact.{Fact}
 use Rattle.transcript.specs.declared.fault.FactError.{FactError}
 use Rattle.transcript_check.specs.Standing.{Standing, IsCheckOf}
@@ -10,21 +10,22 @@ use Rattle.transcript_check.proofs.check.Check.line.Goals as goal
 
 pub returns : goal.returns
 returns c =
-    let names = c.self.inside.reader in
+    let known = c.self.inside.reader in
     let octets = c.args.line.now in
     let after = c.line.new.self in
     let fact = c.in_ok-fact.fact in
-    let before : Standing = standing names c.self.inside.notes in
-    let line : IsLine names after octets fact = record {
-      reads = c.in_ok-fact.ensures.read;
-      only = λ then other reads. c.in_ok-fact.ensures.found then other reads;
+    let before : Standing = standing known c.self.inside.notes in
+    let line : IsLine known after octets fact = record {
+      tells = c.in_ok-fact.ensures.read;
+      still = c.in_ok-fact.ensures.still;
+      only = λ then other tells. c.in_ok-fact.ensures.found then other tells;
     } in
     let note : IsNote fact before.maps c.note.new.self c.note.result = record {
       noted = c.note.ensures.noted;
       kept = c.note.ensures.kept;
       life = c.note.ensures.life;
     } in
-    let from : (ns : List Name) (facts : List Fact) → IsCheckOf ns facts c.args.self.now
+    let from : (ns : Known) (facts : List Fact) → IsCheckOf ns facts c.args.self.now
     → IsCheckOf ns facts before =
     λ ns facts is. subst (λ (s : Standing). IsCheckOf ns facts s) (sym c.self.view_is) is in
     record {
@@ -48,12 +49,12 @@ returns-in_err-fact c =
     let before : Standing = standing c.self.inside.reader c.self.inside.notes in
     let fault : FactError = c.in_err-fact.field-0.0 in
     let p = err_from_is_err_and c.from_residual.result c.from_residual.ensures.1 in
-    let unread : IsUnread before.names octets fault = record {
+    let unread : IsUnread before.known octets fault = record {
       unread = of-results fault c.in_err-fact.ensures.unread;
       memory = λ e. c.in_err-fact.ensures.memory (ap (failing Fact) e);
       frames = λ e. c.in_err-fact.ensures.frames (ap (failing Fact) e);
     } in
-    let from : (ns : List Name) (facts : List Fact) → IsCheckOf ns facts c.args.self.now
+    let from : (ns : Known) (facts : List Fact) → IsCheckOf ns facts c.args.self.now
     → IsCheckOf ns facts before =
     λ ns facts is. subst (λ (s : Standing). IsCheckOf ns facts s) (sym c.self.view_is) is in
     rw (p.1, p.2) (record {
@@ -64,5 +65,5 @@ returns-in_err-fact c =
       );
       memory = λ ns facts is e. none-due octets before fault unread ns facts (from ns facts is)
           (same-error _ _ e);
-      kept = ap (λ (ns : List Name). standing ns c.self.inside.notes) c.in_err-fact.ensures.kept ∙ c.self.view_is;
+      kept = ap (λ (ns : Known). standing ns c.self.inside.notes) c.in_err-fact.ensures.kept ∙ c.self.view_is;
     })

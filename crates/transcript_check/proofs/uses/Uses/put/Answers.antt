@@ -7,12 +7,11 @@ use Rattle.transcript_check.proofs.uses.Uses.put.Goals as goal
 pub returns-clause-put : goal.returns-clause-put
 returns-clause-put c = λ none.
     let u = c.self.inside in
-    let s = c.args.claim.station in
     let pn = c.args.claim.pn in
     let number = c.args.claim.number in
     let aside = c.args.aside.now.entries in
     let now = c.insert.new.self.entries in
-    let own : Lines = record { epoch = u.epoch; first = u.first; run = u.line ∷ u.later.items } in
-    subst (λ (own : Lines). IsMore s pn number own aside own now) c.self.view_is
-    (stands s pn number own aside now (ap (λ (own : Lines). line_in own aside s pn) c.self.view_is ∙ none)
+    let own : Lines = record { place = u.place; epoch = u.epoch; first = u.first; run = u.line ∷ u.later.items } in
+    subst (λ (own : Lines). IsMore pn number own aside own now) c.self.view_is
+    (stands pn number own aside now (ap (λ (own : Lines). line_in own aside pn) c.self.view_is ∙ none)
     (λ q. c.in_ok-insert.ensures.updates.0 q) c.in_ok-insert.ensures.updates.1)

@@ -1,0 +1,6 @@
+mod Places
+mod Runs
+mod OneLine
+mod Course
+mod Examples
+pub mod Public

@@ -1,0 +1,16 @@
+//! The lines of a transcript, of one group or of two: each is read to its fact, in which the stations
+//! of both groups have places of their own.
+#![tactic(auto)]
+
+mod counting;
+mod fact_reader;
+mod form;
+mod group;
+mod laws;
+mod readers;
+
+pub use counting::{MAX_TRANSCRIPT, number_after};
+pub use fact_reader::FactReader;
+pub use form::Form;
+pub use group::{Group, station_of};
+pub use laws::{law_a_line_tells_one_fact, law_one_group_tells_what_it_reads};
