@@ -7,6 +7,7 @@ use Rattle.lan_base.specs.declared.address.Mi.{Mi}
 use Rattle.lan_base.specs.declared.address.Sci.{Sci}
 use Rattle.lan_base.specs.declared.association_number.AssociationNumber.TheVariants.{An0}
 use Rattle.lan_base.specs.declared.key_id.KeyId.{KeyId}
+use Rattle.mark_notes.specs.declared.giving.Giving.{Giving}
 use Rattle.member_notes.specs.declared.mkpdu.RightMkpdu.{RightMkpdu}
 use Rattle.member_notes.specs.declared.novelty.MkpduNovelty.{MkpduNovelty}
 use Rattle.member_notes.specs.declared.novelty.MkpduNovelty.TheVariants as mkpdus
@@ -22,7 +23,7 @@ use Rattle.use_notes.specs.declared.novelty.Novelty.TheVariants.{New, Repeated, 
 use Rattle.audit_report.specs.declared.finding.Finding.TheVariants as findings
 use Rattle.audit_report.specs.declared.finding.Handed.{Handed}
 use Rattle.audit_report.specs.declared.finding.Handed.TheVariants as handeds
-use Rattle.audit_facts.specs.Noted.{Noted, events, fresh_frames, noted_of, spoken_of}
+use Rattle.audit_facts.specs.Noted.{Noted, events, fresh_frames, givings, noted_of, reuses, spoken_of}
 
 abbrev mi : Mi
 mi = record { 0 = 7 ∷ [] }
@@ -81,6 +82,9 @@ abbrev key_2 : Handed
 key_2 = handeds.Key key_id An0 Octets0 (S128 (replicate 16 0))
     (record { key = 2; is_new = true; is_new_naming = true; other_name = None; other_id = None })
 
+abbrev given : ℕ → Giving
+given packet = record { key = 2; packet = packet; group = 1; id = key_id; an = An0 }
+
 -- ---- a capture, the newest packet first
 
 -- an MKPDU gives key 2, comes again, and a further one has fallen; then a frame, once more, and its number with
@@ -99,6 +103,13 @@ all_speak = refl
 in_turn : events capture
     ≡ Used (frame 6) ∷ Used (frame 4) ∷ Gave 1 key_id 2 ∷ Spoke (spoken 1) ∷ Gave 1 key_id 2 ∷ []
 in_turn = refl
+
+-- the second MKPDU gives the key again, and one frame is reused
+marked : givings capture ≡ given 2 ∷ given 1 ∷ []
+marked = refl
+
+reused : reuses capture ≡ record { packet = 6; key = 1; sci = sci; pn = 1; first = 4 } ∷ []
+reused = refl
 
 -- a key that is not taken is none
 untaken : events (spelled 1 mkpdus.New (Some (handeds.Untaken key_id WrongWrap true)) ∷ []) ≡ Spoke (spoken 1) ∷ []

@@ -1,3 +1,5 @@
 mod Views
 mod Noting
+mod Whole
+mod Marking
 mod Examples

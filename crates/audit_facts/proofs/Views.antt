@@ -4,16 +4,16 @@ use Rattle.std.specs.Prelude.{List, Result, Ok, Err, IfOk, OnOk}
 use Rattle.member_notes.specs.Spoken.{Spoken}
 use Rattle.rollover_notes.specs.Events.{Event}
 use Rattle.use_notes.specs.declared.frame.RightFrame.{RightFrame}
-use Rattle.audit_facts.specs.declared.facts.AuditFacts.TheInside.{Inside}
-use Rattle.audit_facts.specs.Standing.{Holds, Kept}
+use Rattle.audit_facts.specs.declared.told_facts.ToldFacts.TheInside.{Inside}
+use Rattle.audit_facts.specs.Standing.{Holds, Told}
 
-abbrev pub kept_of : Inside → Kept
+abbrev pub kept_of : Inside → Told
 kept_of f = record { changes = f.changes; members = f.members; rollover = f.rollover }
 
 -- what is held of what callers see is held of the parts
-pub inside : (fs : List RightFrame) (ss : List Spoken) (es : List Event) (parts : Inside) (seen : Kept)
+pub inside : (fs : List RightFrame) (ss : List Spoken) (es : List Event) (parts : Inside) (seen : Told)
     → kept_of parts ≡ seen → Holds fs ss es seen → Holds fs ss es (kept_of parts)
-inside fs ss es parts seen is holds = subst (λ (k : Kept). Holds fs ss es k) (sym is) holds
+inside fs ss es parts seen is holds = subst (λ (k : Told). Holds fs ss es k) (sym is) holds
 
 pub on_ok : {T E P Q : Type 0} (r : Result T E) → (P → Q) → OnOk r P → OnOk r Q
 on_ok (Ok x) f p = f p

@@ -1,10 +1,12 @@
 -- Packets of a capture, newest first, as far as they tell of changes of key, of members, and of who was
--- ready for a key.
+-- ready for a key, and as far as a picture marks them.
 use Rattle.std.specs.Prelude.{⊤, ◌≡◌, ℕ, true, if◌then◌else◌, List, [], ◌∷◌, ◌++◌, flat_map, Option, Some, None}
 use Rattle.audit_report.specs.declared.finding.Finding.{Finding}
 use Rattle.audit_report.specs.declared.finding.Finding.TheVariants as findings
 use Rattle.audit_report.specs.declared.finding.Handed.{Handed}
 use Rattle.audit_report.specs.declared.finding.Handed.TheVariants as handeds
+use Rattle.mark_notes.specs.declared.giving.Giving.{Giving}
+use Rattle.mark_notes.specs.declared.reuse.Reuse.{Reuse}
 use Rattle.member_notes.specs.Facts.{new_mkpdu, novelty_behind, spoken}
 use Rattle.member_notes.specs.Spoken.{Spoken}
 use Rattle.member_notes.specs.declared.mkpdu.RightMkpdu.{RightMkpdu}
@@ -17,6 +19,8 @@ use Rattle.packet_verdicts.specs.declared.kind.Mka.TheVariants as mkas
 use Rattle.rollover_notes.specs.Events.{Event, Gave, Spoke, Used}
 use Rattle.use_notes.specs.Frames.{AreInOrder, is_fresh}
 use Rattle.use_notes.specs.declared.frame.RightFrame.{RightFrame}
+use Rattle.use_notes.specs.declared.novelty.Novelty.{Novelty}
+use Rattle.use_notes.specs.declared.novelty.Novelty.TheVariants.{Reused}
 
 -- of a packet: what it is behind the ones before it, its time in nanoseconds, and what it says, if it is
 -- a right MKPDU
@@ -82,6 +86,34 @@ events_in _ nanos said = []
 
 abbrev pub events : List Noted → List Event
 events h = flat_map (λ n. events_in n.finding n.nanos n.said) h
+
+-- ---- what is marked
+
+-- the key that an MKPDU hands over
+abbrev pub giving_in : RightMkpdu → Option Handed → List Giving
+giving_in mkpdu (Some (handeds.Key id an offset sak told)) =
+    record { key = told.key; packet = mkpdu.packet; group = mkpdu.group; id = id; an = an } ∷ []
+giving_in mkpdu _ = []
+
+abbrev pub givings_by : Finding → List Giving
+givings_by (findings.RightMkpdu mkpdu novelty handed) = giving_in mkpdu handed
+givings_by _ = []
+
+abbrev pub givings : List Noted → List Giving
+givings h = flat_map (λ n. givings_by n.finding) h
+
+-- a frame that uses the packet number of an earlier one again
+abbrev pub reuse_in : RightFrame → Novelty → List Reuse
+reuse_in frame (Reused first) =
+    record { packet = frame.packet; key = frame.key; sci = frame.sci; pn = frame.pn; first = first } ∷ []
+reuse_in frame _ = []
+
+abbrev pub reuses_by : Finding → List Reuse
+reuses_by (findings.RightFrame frame novelty) = reuse_in frame novelty
+reuses_by _ = []
+
+abbrev pub reuses : List Noted → List Reuse
+reuses h = flat_map (λ n. reuses_by n.finding) h
 
 -- ---- what a further packet is to show
 

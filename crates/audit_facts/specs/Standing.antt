@@ -1,23 +1,36 @@
 -- What is kept of packets.
 use Rattle.std.specs.Prelude.{List}
 use Rattle.key_changes.specs.Standing.{Senders, StandsFor as ChangesStandFor}
+use Rattle.mark_notes.specs.Standing.{Kept as Marks, StandsFor as MarksStandFor}
 use Rattle.member_notes.specs.Spoken.{Spoken}
 use Rattle.member_notes.specs.FactsKept.{HoldsFacts, Speakers}
 use Rattle.rollover_notes.specs.Events.{Event}
 use Rattle.rollover_notes.specs.Standing.{Kept as RolloverKept, StandsFor as RolloverStandsFor}
 use Rattle.use_notes.specs.declared.frame.RightFrame.{RightFrame}
-use Rattle.audit_facts.specs.Noted.{Noted, events, fresh_frames, spoken_of}
+use Rattle.audit_facts.specs.Noted.{Noted, events, fresh_frames, givings, reuses, spoken_of}
 
-pub record Kept : Type 0 where
+-- ---- what is told of changes, of members, and of who was ready for a key
+
+pub record Told : Type 0 where
   pub changes : Senders
   pub members : Speakers
   pub rollover : RolloverKept
 
 -- after these fresh frames, right MKPDUs and events
-pub record Holds (frames : List RightFrame) (spoken : List Spoken) (events : List Event) (kept : Kept) : Type 0 where
+pub record Holds (frames : List RightFrame) (spoken : List Spoken) (events : List Event) (kept : Told) : Type 0 where
   pub changes : ChangesStandFor frames kept.changes
   pub members : HoldsFacts spoken kept.members
   pub rollover : RolloverStandsFor events kept.rollover
 
-abbrev pub StandsFor : List Noted → Kept → Type 0
-StandsFor h kept = Holds (fresh_frames h) (spoken_of h) (events h) kept
+abbrev pub ToldStandFor : List Noted → Told → Type 0
+ToldStandFor h kept = Holds (fresh_frames h) (spoken_of h) (events h) kept
+
+-- ---- and what is marked
+
+pub record Kept : Type 0 where
+  pub told : Told
+  pub marks : Marks
+
+pub record StandsFor (h : List Noted) (kept : Kept) : Type 0 where
+  pub told : ToldStandFor h kept.told
+  pub marks : MarksStandFor (givings h) (reuses h) kept.marks

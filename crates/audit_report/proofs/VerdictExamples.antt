@@ -3,14 +3,20 @@
 use Rattle.std.specs.Fmt.{digits}
 use Rattle.std.specs.Prelude.{codes, flat_map, replicate}
 use Rattle.hex.specs.Hex.{encode_with}
-use Rattle.std.proofs.Common.{◌≡◌, ℕ, true, List, [], ◌∷◌, ◌++◌, Some, None, refl}
+use Rattle.std.proofs.Common.{◌≡◌, ℕ, false, true, List, [], ◌∷◌, ◌++◌, Some, None, refl}
 use Rattle.lan_base.specs.declared.address.Mi.{Mi}
 use Rattle.lan_base.specs.declared.address.Sci.{Sci}
 use Rattle.member_notes.specs.Facts.{times}
 use Rattle.use_notes.specs.Uses.{counts_of}
 use Rattle.use_notes.specs.declared.notes.Use.{Use}
+use Rattle.known_keys.specs.declared.reason.Reason.TheVariants.{Unseen}
+use Rattle.audit_report.specs.declared.blame.Blame.TheVariants as blames
+use Rattle.audit_report.specs.declared.finding.Finding.{Finding}
+use Rattle.audit_report.specs.declared.finding.Finding.TheVariants as findings
+use Rattle.audit_report.specs.declared.tally.Tally.{Tally}
 use Rattle.audit_report.specs.Tallies.{tally_of}
-use Rattle.audit_report.specs.Verdicts.{Verdict, is_refuted, verdict_lines}
+use Rattle.audit_report.specs.Told.{Told}
+use Rattle.audit_report.specs.Verdicts.{Verdict, blame, is_refuted, verdict_lines}
 
 abbrev a : Sci
 a = record { 0 = 2 ∷ 0 ∷ 0 ∷ 0 ∷ 0 ∷ 10 ∷ 0 ∷ 1 ∷ [] }
@@ -78,3 +84,32 @@ all_in_order = refl
 
 refuted : is_refuted all ≡ true
 refuted = refl
+
+-- ---- for what a capture is to blame
+
+abbrev is_found : Finding → Told
+is_found finding = record { begun = []; finding = finding; is_untimed = false }
+
+-- two wrong protected frames, an undecided one, and a wrong MKPDU
+abbrev doubtful : Tally
+doubtful = tally_of (is_found findings.WrongFrame ∷ is_found (findings.Undecided Unseen)
+    ∷ is_found (findings.WrongMkpdu true) ∷ is_found findings.WrongFrame ∷ [])
+
+-- a wrong MKPDU alone
+abbrev certain : Tally
+certain = tally_of (is_found (findings.WrongMkpdu true) ∷ [])
+
+abbrev unbroken : Verdict
+unbroken = record all { once = None }
+
+doubted : blame true doubtful unbroken ≡ blames.Doubted 2 1
+doubted = refl
+
+not_strict : blame false doubtful unbroken ≡ blames.None
+not_strict = refl
+
+no_frame_doubted : blame true certain unbroken ≡ blames.None
+no_frame_doubted = refl
+
+refuted_before_doubted : blame true doubtful all ≡ blames.Refuted
+refuted_before_doubted = refl

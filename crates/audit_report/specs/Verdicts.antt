@@ -1,5 +1,5 @@
 -- What is judged of packets, and its lines.
-use Rattle.std.specs.Prelude.{ℕ, ◌||◌, Bool, List, [], ◌∷◌, ◌++◌, length, codes, decimal, Option, Some, None}
+use Rattle.std.specs.Prelude.{ℕ, ◌||◌, ◌&&◌, nat_lt, if◌then◌else◌, Bool, List, [], ◌∷◌, ◌++◌, length, codes, decimal, Option, Some, None}
 use Rattle.std.specs.Option.{is_some}
 use Rattle.key_changes.specs.declared.change.Change.{Change}
 use Rattle.member_notes.specs.Facts.{sums_of as member_sums}
@@ -8,6 +8,8 @@ use Rattle.rollover_notes.specs.declared.unready.Unready.{Unready}
 use Rattle.use_notes.specs.declared.notes.Use.{Use}
 use Rattle.use_notes.specs.declared.order.Order.{Order}
 use Rattle.use_notes.specs.Uses.{order_of}
+use Rattle.audit_report.specs.declared.blame.Blame.{Blame}
+use Rattle.audit_report.specs.declared.blame.Blame.TheVariants as blames
 use Rattle.audit_report.specs.declared.tally.Tally.{Tally}
 use Rattle.audit_report.specs.declared.uses.TimedUse.{TimedUse}
 use Rattle.audit_report.specs.Changes.{change_lines}
@@ -32,6 +34,18 @@ pub record Verdict : Type 0 where
 -- a pair breaks
 abbrev pub is_refuted : Verdict → Bool
 is_refuted v = is_some v.once || is_some v.one_key
+
+-- ---- for what a capture is to blame
+
+-- where no pair breaks: of its protected frames, so many are wrong and so many undecided, and a strict judge
+-- allows none of both
+abbrev pub doubt : Bool → Tally → Blame
+doubt strict t = if strict && (nat_lt 0 t.sec.wrong || nat_lt 0 t.sec.undecided)
+    then blames.Doubted t.sec.wrong t.sec.undecided else blames.None
+
+-- a pair that breaks comes before all doubt
+abbrev pub blame : Bool → Tally → Verdict → Blame
+blame strict t v = if is_refuted v then blames.Refuted else doubt strict t
 
 -- ---- lines
 

@@ -2,6 +2,7 @@
 //! and the report at the end.
 #![tactic(auto)]
 
+mod blame;
 mod changes;
 mod ending;
 mod events;
@@ -17,6 +18,7 @@ mod tally;
 mod uses;
 mod verdict;
 
+pub use blame::Blame;
 pub use ending::Ending;
 pub use finding::{Finding, Handed};
 pub use hand_key::put_hand_line;

@@ -4,7 +4,9 @@ ghost use Rattle.std.specs.Prelude.{◌≡◌, ◌<◌, ◌+◌, ◌^◌, ◌∷
 ghost use Rattle.audit_report.specs.declared.finding.Finding.{Finding};
 ghost use Rattle.audit_report.specs.Told.{Told};
 ghost use Rattle.audit_report.specs.Tallies.{tally_of, sec_counts, mka_counts, undecided_counts, malformations};
+ghost use Rattle.audit_report.specs.Verdicts.{doubt};
 
+use crate::blame::Blame;
 use crate::finding::Finding;
 use gcm_frames::TagRefusal;
 use known_keys::Reason;
@@ -130,6 +132,18 @@ impl Tally {
             mka: self.mka.with(finding),
             sec: self.sec.with(finding),
         }
+    }
+
+    /// For what a capture of these packets is to blame of which no pair breaks. With `strict` no protected
+    /// frame is to be wrong or undecided.
+    pub(crate) fn doubt(&self, strict: bool) -> Blame
+        ensures { result ≡ doubt strict self.now }
+    {
+        let (wrong, undecided) = (self.sec.wrong, self.sec.undecided);
+        if strict && (wrong > 0 || undecided > 0) {
+            return Blame::Doubted { wrong, undecided };
+        }
+        Blame::None
     }
 }
 

@@ -2,8 +2,9 @@
 
 ghost use Rattle.std.specs.Prelude.{◌≡◌, ◌++◌, OnOk};
 ghost use Rattle.audit_report.specs.Lines.{line_of};
-ghost use Rattle.audit_report.specs.Verdicts.{each_line, is_refuted, judged_lines, order_line, sum_lines, verdict_lines, verdict_words};
+ghost use Rattle.audit_report.specs.Verdicts.{blame, each_line, is_refuted, judged_lines, order_line, sum_lines, verdict_lines, verdict_words};
 
+use crate::blame::Blame;
 use crate::changes::put_changes;
 use crate::lines::{number, put_line};
 use crate::members::{put_members, put_sums};
@@ -81,11 +82,50 @@ impl Verdict {
         }
     }
 
+    /// The least pair that uses a packet number twice under a key.
+    pub fn once(&self) -> Option<(u32, u32)>
+        ensures { result ≡ self.now.once }
+    {
+        self.once
+    }
+
+    /// The least pair that breaks one key under each identifier.
+    pub fn one_key(&self) -> Option<(u32, u32)>
+        ensures { result ≡ self.now.one_key }
+    {
+        self.one_key
+    }
+
+    /// What is told of each key and sender, with how many of its fresh frames came late.
+    pub fn timed(&self) -> &[TimedUse]
+        ensures { result.now ≡ self.now.timed }
+    {
+        self.timed.as_slice()
+    }
+
+    /// What is told of each member.
+    pub fn members(&self) -> &[Member]
+        ensures { result.now ≡ self.now.members }
+    {
+        self.members.as_slice()
+    }
+
     /// Whether a pair breaks.
     pub fn is_refuted(&self) -> bool
         ensures { result ≡ is_refuted self.now }
     {
         self.once.is_some() || self.one_key.is_some()
+    }
+
+    /// For what a capture is to blame of which this is judged, and of whose packets these are the counts.
+    /// With `strict` no protected frame is to be wrong or undecided.
+    pub fn blame(&self, strict: bool, tally: &Tally) -> Blame
+        ensures { result ≡ blame strict tally.now self.now }
+    {
+        if self.is_refuted() {
+            return Blame::Refuted;
+        }
+        tally.doubt(strict)
     }
 
     /// Appends what is told of each, what is judged, and what is told of all.

@@ -1,6 +1,6 @@
 -- A list that ascends by a key, each of whose items is what is told of its key, is the only one.
 use Rattle.std.proofs.Common.{◌≡◌, ◌∙◌, ◌⊎◌, inl, inr, true, false, cond, List, [], ◌∷◌, map, Option, Some, None, refl, sym, ap, subst}
-use Rattle.std.specs.Prelude.{find, unwrap_or}
+use Rattle.std.specs.Prelude.{All, find, unwrap_or}
 use Rattle.std.specs.Cmp.{IsTotalOrder}
 use Rattle.std.specs.List.Sorted.{IsStrictlySortedBy}
 use Rattle.std.specs.Map.{keys_of, lookup}
@@ -9,6 +9,7 @@ use Rattle.std.specs.Ordering.{eq_by_cmp, is_eq, ordering_reverse}
 use Rattle.std.specs.declared.cmp.Ordering.{Ordering}
 use Rattle.std.specs.declared.cmp.Ordering.TheVariants.{Less, Equal, Greater}
 use Rattle.std.proofs.lemmas.Bool.{cases_Bool}
+use Rattle.std.proofs.lemmas.List.Elements.{All-cons, All-nil}
 use Rattle.std.proofs.lemmas.Cmp.{eq_by_cmp_equiv, tied_itself}
 use Rattle.std.proofs.lemmas.Map.{lookup-none}
 use Rattle.std.proofs.lemmas.Map.Entries.{lookup_head, lookup_tail, none_below_head, none_past_head}
@@ -96,6 +97,23 @@ module _ {X K : Type 0} (key : X → K) {R : K → K → Ordering} (order : IsTo
 
   entered : (xs : List X) → Ascends xs → Entered xs
   entered xs = subst (IsStrictlySortedBy R) (sym (keys-kept xs))
+
+  -- what holds of each item that is told of its key holds of all
+  all-entered : (P : X → Type 0) (xs : List X) → Entered xs → ((q : K) (x : X) → at xs q ≡ Some x → P x) → All P xs
+  all-entered P [] sorted each = All-nil P
+  all-entered P (x ∷ xs) sorted each =
+      All-cons P x xs (each (key x) x (at-head x xs))
+      (all-entered P xs (sorted_tail R (key x) (keys_of (map keyed xs)) sorted) (λ q y is. each q y (later q y is)))
+    where
+      later : (q : K) (y : X) → at xs q ≡ Some y → at (x ∷ xs) q ≡ Some y
+      later q y is = go (cases_Bool (eq_by_cmp R q (key x)))
+        where
+          go : (eq_by_cmp R q (key x) ≡ true) ⊎ (eq_by_cmp R q (key x) ≡ false) → at (x ∷ xs) q ≡ Some y
+          go (inl here) = absurd (cc (sym (past-head q x xs sorted here) ∙ is))
+          go (inr there) = lookup_tail (is_at (R q)) (keyed x) (map keyed xs) there ∙ is
+
+  pub all-told : (P : X → Type 0) (xs : List X) → Ascends xs → ((q : K) (x : X) → item xs q ≡ Some x → P x) → All P xs
+  all-told P xs sorted each = all-entered P xs (entered xs sorted) (λ q x is. each q x (sym (found xs q) ∙ is))
 
   pub alone : (xs ys : List X) → Ascends xs → Ascends ys → ((q : K) → item xs q ≡ item ys q) → xs ≡ ys
   alone xs ys sorted also same =

@@ -12,10 +12,12 @@ use Rattle.audit_report.specs.declared.finding.Finding.TheVariants as findings
 use Rattle.audit_text.specs.Reading.{key_line_in}
 use Rattle.capture_packets.specs.declared.fault.CaptureFault.TheVariants.{Cut}
 use Rattle.key_ring.specs.Rings.{no_ring}
+use Rattle.lan_base.specs.Faults.{Rose}
 use Rattle.trace_text.specs.declared.fault.TextFault.TheVariants.{Word}
 use Rattle.capture_audit.specs.declared.end.AuditEnd.TheVariants as ends
 use Rattle.capture_audit.specs.Before.{Unwrapped, entries, frames, mkpdus}
 use Rattle.capture_audit.specs.Findings.{finding}
+use Rattle.capture_audit.specs.declared.asks.Asks.{Asks}
 use Rattle.capture_audit.specs.Ends.{EndsAudit, IsPartReported}
 use Rattle.capture_audit.specs.Reading.{AreFirst, in_order}
 use Rattle.capture_audit.specs.Telling.{noted, told_lines}
@@ -116,8 +118,11 @@ few_lines = refl
 oldest_first : in_order (of_octets 15 user ∷ foreign ∷ []) ≡ foreign.packet ∷ (of_octets 15 user).packet ∷ []
 oldest_first = refl
 
+abbrev strict : Asks
+strict = record { shows = true; strict = true }
+
 -- without an octet there is no capture, which is refused at its octet 0
-no_octet : EndsAudit true [] (Some []) (Some (1 ∷ [])) (Some (1 ∷ [])) (Err (ends.Refused 0 Cut))
+no_octet : EndsAudit strict [] (Some []) (Rose 0 0) (Some (1 ∷ [])) (Some (1 ∷ [])) (Err (ends.Refused 0 Cut))
 no_octet = inl ((refl, refl, λ cut. omega arith), refl)
 
 -- of none nothing was told yet
@@ -138,6 +143,6 @@ no_part = inl (record {
 })
 
 -- the second line is refused, and nothing was written
-second_line : EndsAudit true (10 ∷ codes "key" ++ 10 ∷ []) None (Some []) (Some []) (Err (ends.KeyLine 2 Word))
+second_line : EndsAudit strict (10 ∷ codes "key" ++ 10 ∷ []) None (Rose 0 0) (Some []) (Some []) (Err (ends.KeyLine 2 Word))
 unfolding key_line_in
 second_line = (refl, refl)

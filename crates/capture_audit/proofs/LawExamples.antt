@@ -5,6 +5,7 @@ use Rattle.std.specs.List.Sorted.{IsStrictlySortedBy}
 use Rattle.std.specs.Prelude.{All, codes, take}
 use Rattle.std.proofs.lemmas.List.Elements.{All-nil}
 use Rattle.aes_block.specs.Aes.{IsKey}
+use Rattle.audit_report.specs.declared.blame.Blame.TheVariants as blames
 use Rattle.audit_report.specs.declared.ending.Ending.TheVariants.{Whole}
 use Rattle.audit_text.specs.Parting.{IsParted}
 use Rattle.capture_file.specs.Pcap.{most_input}
@@ -24,6 +25,7 @@ use Rattle.rollover_notes.specs.Counted.{AreUnreadyOf}
 use Rattle.use_notes.specs.Once.{BreaksOnce}
 use Rattle.use_notes.specs.Uses.{AreUsesOf}
 use Rattle.capture_audit.specs.Before.{IsUnwrapped, Unwrapped, entries, frames}
+use Rattle.capture_audit.specs.declared.asks.Asks.{Asks}
 use Rattle.capture_audit.specs.Ends.{IsReported}
 use Rattle.capture_audit.specs.Laws.{IsFileOf, IsInput, IsOfOther, IsWhole, moved_pair, once_more, with_group}
 use Rattle.capture_audit.specs.Telling.{IsVerdict, report, told_lines}
@@ -169,7 +171,10 @@ told = report true no_ring [] (judged None) Whole
 no_unwrapped : All (IsUnwrapped no_ring) []
 no_unwrapped = All-nil (IsUnwrapped no_ring)
 
-classic_reported : IsReported true classic (Some []) Whole false (Some []) (Some told)
+abbrev strict : Asks
+strict = record { shows = true; strict = true }
+
+classic_reported : IsReported strict classic (Some []) Whole blames.None (Some []) (Some told)
 classic_reported = record {
   ring = no_ring;
   packets = [];
@@ -184,7 +189,7 @@ classic_reported = record {
     ends = (classic_few, refl, refl);
   };
   judged = none_judged;
-  broken = refl;
+  blame_is = refl;
   written = refl;
 }
 
@@ -195,16 +200,16 @@ whole-blocks : IsWhole blocks []
 whole-blocks = (blocks_few, refl)
 
 -- nothing else is reported of the same in the other format
-blocks_alike : IsOneKeyForOneWrap → (then : Option (List ℕ)) → IsReported true blocks (Some []) Whole false (Some []) then
+blocks_alike : IsOneKeyForOneWrap → (then : Option (List ℕ)) → IsReported strict blocks (Some []) Whole blames.None (Some []) then
     → Some told ≡ then
 blocks_alike law then is =
-    (one-report law true [] classic blocks refl (λ ring said. keyed ring (cc said)) whole-classic whole-blocks Whole Whole
-    (λ e. absurd (cc e)) (λ e. absurd (cc e)) (Some []) (Some []) (Some []) (Some told) then false false classic_reported is).2
+    (one-report law strict [] classic blocks refl (λ ring said. keyed ring (cc said)) whole-classic whole-blocks Whole Whole
+    (λ e. absurd (cc e)) (λ e. absurd (cc e)) (Some []) (Some []) (Some []) (Some told) then blames.None blames.None classic_reported is).2
   where
     keyed : (ring : Ring) → no_ring ≡ ring → AreKeyed ring
     keyed ring same = subst AreKeyed same (All-nil (λ g. IsKey g.kek))
 
-nothing_refused : IsOneKeyForOneWrap → IsReported true blocks (Some []) Whole false (Some []) (Some []) → ⊥
+nothing_refused : IsOneKeyForOneWrap → IsReported strict blocks (Some []) Whole blames.None (Some []) (Some []) → ⊥
 unfolding digits
 nothing_refused law is = absurd (cc (blocks_alike law (Some []) is))
 

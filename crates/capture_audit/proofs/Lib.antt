@@ -11,7 +11,9 @@ pub mod Standing
 pub mod Putting
 pub mod Alone
 pub mod Taking
+pub mod Plain
 pub mod Setting
+pub mod Numbering
 pub mod Cutting
 pub mod HeadsRead
 pub mod PacketsRead
@@ -19,6 +21,7 @@ pub mod GiftsAgree
 pub mod Going
 pub mod Reporting
 pub mod Opening
+pub mod Seeing
 pub mod FrontTold
 pub mod NoneMissed
 pub mod Ascending
@@ -31,3 +34,4 @@ pub mod Inserting
 pub mod OtherGroup
 mod Examples
 mod LawExamples
+pub mod Public

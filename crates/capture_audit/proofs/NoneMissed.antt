@@ -1,11 +1,15 @@
 -- Of a text whose packets can be read to their end nothing is missed.
-use Rattle.std.proofs.Common.{◌≡◌, ◌∙◌, ◌<◌, ◌≤◌, ◌⊎◌, inl, inr, ℕ, Bool, true, false, List, [], ◌∷◌, ◌++◌, length, Option, Some, None, Result, Ok, Err, refl, sym, ap, subst, arith, append_assoc}
-use Rattle.std.specs.Prelude.{◌||◌, is_some, All, map, reverse}
+use Rattle.std.proofs.Common.{◌≡◌, ◌∙◌, ◌<◌, ◌≤◌, ◌⊎◌, inl, inr, ℕ, Bool, true, false, cond, List, [], ◌∷◌, ◌++◌, length, Option, Some, None, Result, Ok, Err, refl, sym, ap, subst, arith, append_assoc}
+use Rattle.std.specs.Prelude.{◌||◌, ◌&&◌, nat_lt, is_some, All, map, reverse}
 use Rattle.std.proofs.lemmas.List.Elements.{All-cons, All-head, All-tail}
 use Rattle.std.proofs.lemmas.List.{append-nil, reverse-append, reverse-reverse}
+use Rattle.audit_report.specs.declared.blame.Blame.{Blame}
+use Rattle.audit_report.specs.declared.blame.Blame.TheVariants as blames
 use Rattle.audit_report.specs.declared.ending.Ending.{Ending}
 use Rattle.audit_report.specs.declared.ending.Ending.TheVariants as endings
-use Rattle.audit_report.specs.Verdicts.{Verdict, is_refuted}
+use Rattle.audit_report.specs.declared.tally.Tally.{Tally}
+use Rattle.audit_report.specs.Tallies.{tally_of}
+use Rattle.audit_report.specs.Verdicts.{Verdict, blame, doubt, is_refuted}
 use Rattle.capture_packets.specs.Captures.{Told, capture}
 use Rattle.capture_packets.specs.Packets.{Seen}
 use Rattle.key_ring.specs.Reading.{file_in}
@@ -24,12 +28,13 @@ use Rattle.use_notes.specs.Frames.{same_check}
 use Rattle.use_notes.specs.Once.{BreaksOnce, Number, noted}
 use Rattle.packet_verdicts.specs.declared.kind.Kind.{Kind}
 use Rattle.packet_verdicts.specs.Kinds.{packet_kind}
+use Rattle.capture_audit.specs.declared.asks.Asks.{Asks}
 use Rattle.capture_audit.specs.declared.end.AuditEnd.{AuditEnd}
 use Rattle.capture_audit.specs.declared.end.AuditEnd.TheVariants as ends
 use Rattle.capture_audit.specs.Before.{IsUnwrapped, Unwrapped, UnwrapsBy, entries, entries_by, frames, kind_in, number_behind}
-use Rattle.capture_audit.specs.Ends.{EndsAudit, HasManySet, IsBroken, IsOfOutside, IsReported}
+use Rattle.capture_audit.specs.Ends.{EndsAudit, HasManySet, IsBlamed, IsBroken, IsOfOutside, IsReported, end_for}
 use Rattle.capture_audit.specs.Reading.{IsOneTooMany, IsRead, in_order}
-use Rattle.capture_audit.specs.Telling.{IsVerdict}
+use Rattle.capture_audit.specs.Telling.{IsVerdict, all_told}
 use Rattle.capture_audit.specs.inside.Auditing.{end_of_ring}
 use Rattle.capture_audit.proofs.FrontTold.{entries-front, entries-within, frames-front, later-behind, later-entries}
 use Rattle.capture_audit.proofs.GiftsAgree.{IsOneKeyForOneWrap, gifts-agree}
@@ -135,14 +140,15 @@ stays ring later earlier v was refuted = elim (refuted-by v.once v.one_key refut
 
 -- ---- the key text is not read
 
-pub ring-missed : (text : List ℕ) (left : Option (List ℕ)) (ring : Ring) (packets : List Unwrapped) (end : RingEnd)
+pub ring-missed : (asks : Asks) (failed : Type 0) (text : List ℕ) (left : Option (List ℕ)) (ring : Ring)
+    (packets : List Unwrapped) (end : RingEnd)
     → IsRead text (Some []) ring packets endings.Whole → ReadsRing text left (Err end)
-    → IsOfOutside (Err (end_of_ring end))
-ring-missed text left ring packets (rings.Line line why) read is = absurd (cc (sym read.said ∙ is))
-ring-missed text left ring packets rings.Limit read is =
+    → IsOfOutside asks failed (Err (end_of_ring end))
+ring-missed asks failed text left ring packets (rings.Line line why) read is = absurd (cc (sym read.said ∙ is))
+ring-missed asks failed text left ring packets rings.Limit read is =
     let past = is.0 in let few = read.ends.0 in absurd (omega (arith, past, few))
-ring-missed text left ring packets rings.ReadFault read is = inl refl
-ring-missed text left ring packets rings.Memory read is = inr (inr refl)
+ring-missed asks failed text left ring packets rings.ReadFault read is = inl refl
+ring-missed asks failed text left ring packets rings.Memory read is = inr (inr (inl refl))
 
 pub keyed-so : (text : List ℕ) (left : Option (List ℕ)) (own ring : Ring) (supply : Option Held)
     → ReadsRing text left (Ok (own, supply)) → AreKeyed own → ring_in text ≡ Ok ring → AreKeyed ring
@@ -150,9 +156,38 @@ keyed-so text left own ring supply is keyed said =
     let same : own ≡ ring = cc (sym (ring-said text left own supply is) ∙ said) in
     subst (λ (r : Ring). AreKeyed r) same keyed
 
+-- ---- for what a capture is to blame
+
+-- of frames alone no capture is refuted
+no-doubt : (b : Bool) (wrong undecided : ℕ)
+    → cond b (blames.Doubted wrong undecided) blames.None ≡ blames.Refuted → ⊥
+no-doubt true wrong undecided e = cc e
+no-doubt false wrong undecided e = cc e
+
+doubted-strict : (strict some : Bool) (wrong undecided one two : ℕ)
+    → cond (strict && some) (blames.Doubted wrong undecided) blames.None ≡ blames.Doubted one two → strict ≡ true
+doubted-strict true some wrong undecided one two e = refl
+doubted-strict false some wrong undecided one two e = absurd (cc e)
+
+module _ (strict : Bool) (t : Tally) (v : Verdict) where
+  blame-refuted : blame strict t v ≡ blames.Refuted → is_refuted v ≡ true
+  blame-refuted is = go (is_refuted v) is
+    where
+      go : (b : Bool) → cond b blames.Refuted (doubt strict t) ≡ blames.Refuted → b ≡ true
+      go true e = refl
+      go false e = absurd (no-doubt (strict && (nat_lt 0 t.sec.wrong || nat_lt 0 t.sec.undecided)) t.sec.wrong t.sec.undecided e)
+
+  blame-else : (blamed : Blame) → (blames.Refuted ≡ blamed → ⊥) → blame strict t v ≡ blamed
+      → (is_refuted v ≡ false) × (doubt strict t ≡ blamed)
+  blame-else blamed other is = go (is_refuted v) is
+    where
+      go : (b : Bool) → cond b blames.Refuted (doubt strict t) ≡ blamed → (b ≡ false) × (doubt strict t ≡ blamed)
+      go true e = absurd (other e)
+      go false e = (refl, e)
+
 -- ---- what is told
 
-module _ (law : IsOneKeyForOneWrap) (shows : Bool) (text : List ℕ) (ring : Ring) (packets : List Unwrapped)
+module _ (law : IsOneKeyForOneWrap) (asks : Asks) (failed : Type 0) (text : List ℕ) (ring : Ring) (packets : List Unwrapped)
     (keyed : AreKeyed ring) (read : IsRead text (Some []) ring packets endings.Whole) where
   same-ring : (other : Ring) → ring_in text ≡ Ok other → other ≡ ring
   same-ring other said = cc (sym said ∙ read.said)
@@ -206,44 +241,79 @@ module _ (law : IsOneKeyForOneWrap) (shows : Bool) (text : List ℕ) (ring : Rin
       let few = read.few in
       omega (arith, more, long, few, many)
 
-  judged-here : (left held then : Option (List ℕ)) (ending : Ending) (refuted : Bool)
-      → (r : IsReported shows text left ending refuted held then) → IsVerdict ring r.packets r.verdict
-  judged-here left held then ending refuted r =
+  judged-here : (left held then : Option (List ℕ)) (ending : Ending) (blamed : Blame)
+      → (r : IsReported asks text left ending blamed held then) → IsVerdict ring r.packets r.verdict
+  judged-here left held then ending blamed r =
       subst (λ (x : Ring). IsVerdict x r.packets r.verdict) (same-ring r.ring r.read.said) r.judged
 
-  none-broken : (left held then : Option (List ℕ)) → IsReported shows text left endings.Whole false held then
-      → (i j : ℕ) → IsBroken ring packets i j → ⊥
-  none-broken left held then r i j =
-      let none = not-refuted r.verdict.once r.verdict.one_key r.broken in
-      let same : r.packets ≡ packets =
-      whole-agrees law ring keyed r.packets packets (unwrapped left r.ring r.packets endings.Whole r.read) read.unwrapped
-      (sym (ap (λ (t : Told). t.packets) r.read.ends.2) ∙ all) in
-      let v : IsVerdict ring packets r.verdict =
-      subst (λ (us : List Unwrapped). IsVerdict ring us r.verdict) same (judged-here left held then endings.Whole false r) in
-      λ b. elim b [
-        | inl once ↦
-            subst (λ (o : Option (ℕ × ℕ)). IsJudged (BreaksOnce (frames ring packets)) o) none.0 v.once i j once
-        | inr one ↦
-            subst (λ (o : Option (ℕ × ℕ)). IsJudged (BreaksOneKey (entries ring packets)) o) none.1 v.one_key i j one
-      ]
+  -- all packets were read, and for nothing but frames the capture is to blame
+  module _ (left held then : Option (List ℕ)) (blamed : Blame) (other : blames.Refuted ≡ blamed → ⊥)
+      (r : IsReported asks text left endings.Whole blamed held then) where
+    all-read : r.packets ≡ packets
+    all-read =
+        whole-agrees law ring keyed r.packets packets (unwrapped left r.ring r.packets endings.Whole r.read) read.unwrapped
+        (sym (ap (λ (t : Told). t.packets) r.read.ends.2) ∙ all)
 
-  some-broken : (left held then : Option (List ℕ)) (ending : Ending) → IsReported shows text left ending true held then
-      → (i : ℕ) × (j : ℕ) × IsBroken ring packets i j
+    blamed-else : (is_refuted r.verdict ≡ false) × (doubt asks.strict (tally_of (all_told r.ring r.packets)) ≡ blamed)
+    blamed-else = blame-else asks.strict (tally_of (all_told r.ring r.packets)) r.verdict blamed other r.blame_is
+
+    none-broken : (i j : ℕ) → IsBroken ring packets i j → ⊥
+    none-broken i j =
+        let none = not-refuted r.verdict.once r.verdict.one_key blamed-else.0 in
+        let v : IsVerdict ring packets r.verdict =
+        subst (λ (us : List Unwrapped). IsVerdict ring us r.verdict) all-read (judged-here left held then endings.Whole blamed r) in
+        λ b. elim b [
+          | inl once ↦
+              subst (λ (o : Option (ℕ × ℕ)). IsJudged (BreaksOnce (frames ring packets)) o) none.0 v.once i j once
+          | inr one ↦
+              subst (λ (o : Option (ℕ × ℕ)). IsJudged (BreaksOneKey (entries ring packets)) o) none.1 v.one_key i j one
+        ]
+
+    ends-so : end_for blamed ≡ end_for (doubt asks.strict (tally_of (all_told ring packets)))
+    ends-so =
+        ap (λ (x : Blame). end_for x) (sym blamed-else.1)
+        ∙ ap (λ (x : Ring). end_for (doubt asks.strict (tally_of (all_told x r.packets)))) (same-ring r.ring r.read.said)
+        ∙ ap (λ (us : List Unwrapped). end_for (doubt asks.strict (tally_of (all_told ring us)))) all-read
+
+  some-broken : (left held then : Option (List ℕ)) (ending : Ending)
+      → IsReported asks text left ending blames.Refuted held then → (i : ℕ) × (j : ℕ) × IsBroken ring packets i j
   some-broken left held then ending r =
       let f = fronts left r.ring r.packets ending r.read in
       subst (λ (us : List Unwrapped). (i : ℕ) × (j : ℕ) × IsBroken ring us i j) (sym f.1)
-      (stays ring f.0 r.packets r.verdict (judged-here left held then ending true r) r.broken)
+      (stays ring f.0 r.packets r.verdict (judged-here left held then ending blames.Refuted r)
+      (blame-refuted asks.strict (tally_of (all_told r.ring r.packets)) r.verdict r.blame_is))
+
+  -- frames are doubted: all packets were read, or the source failed
+  module _ (left held then : Option (List ℕ)) (wrong undecided : ℕ) where
+    abbrev doubted : Blame
+    doubted = blames.Doubted wrong undecided
+
+    is-strict : (ending : Ending) → IsReported asks text left ending doubted held then → asks.strict ≡ true
+    is-strict ending r =
+        let t = tally_of (all_told r.ring r.packets) in
+        doubted-strict asks.strict (nat_lt 0 t.sec.wrong || nat_lt 0 t.sec.undecided) t.sec.wrong t.sec.undecided
+        wrong undecided (blame-else asks.strict t r.verdict doubted (λ e. cc e) r.blame_is).1
+
+    whole-doubted : IsBlamed asks text left failed doubted held then
+        → IsReported asks text left endings.Whole doubted held then ⊎ ((asks.strict ≡ true) × failed)
+    whole-doubted (endings.Whole, so, r) = inl r
+    whole-doubted (endings.Fault, so, r) = inr (is-strict endings.Fault r, so refl)
+    whole-doubted (endings.InputLimit, so, r) = absurd (not-past left r.ring r.packets r.read)
+    whole-doubted (endings.KeyLimit, so, r) = absurd (not-full left r.ring r.packets r.read)
+    whole-doubted (endings.Octet at why, so, r) = absurd (not-refused left r.ring r.packets at why r.read)
 
   -- but for these ends it is of the outside
   abbrev IsOtherwise : Result (Unit {0}) AuditEnd → Type 0
   IsOtherwise (Ok done) = Unit {0}
   IsOtherwise (Err ends.Refuted) = Unit {0}
-  IsOtherwise result = IsOfOutside result
+  IsOtherwise (Err (ends.Doubted wrong undecided)) = Unit {0}
+  IsOtherwise result = IsOfOutside asks failed result
 
   otherwise : (left held then : Option (List ℕ)) (result : Result (Unit {0}) AuditEnd)
-      → EndsAudit shows text left held then result → IsOtherwise result
+      → EndsAudit asks text left failed held then result → IsOtherwise result
   otherwise left held then (Ok done) is = tt
   otherwise left held then (Err ends.Refuted) is = tt
+  otherwise left held then (Err (ends.Doubted wrong undecided)) is = tt
   otherwise left held then (Err (ends.KeyLine line why)) is = absurd (cc (sym read.said ∙ is.0))
   otherwise left held then (Err (ends.Refused at why)) (inl it) = absurd (cc (sym read.opens ∙ it.0.1))
   otherwise left held then (Err (ends.Refused at why)) (inr r) = absurd (not-refused left r.ring r.packets at why r.read)
@@ -254,31 +324,41 @@ module _ (law : IsOneKeyForOneWrap) (shows : Bool) (text : List ℕ) (ring : Rin
   otherwise left held then (Err ends.KeyLimit) (inr r) = absurd (not-full left r.ring r.packets r.read)
   otherwise left held then (Err ends.ReadFault) is = inl refl
   otherwise left held then (Err ends.WriteFault) is = inr (inl refl)
-  otherwise left held then (Err ends.Memory) is = inr (inr refl)
+  otherwise left held then (Err ends.Memory) is = inr (inr (inl refl))
 
   pub broken-told : (left held then : Option (List ℕ)) (result : Result (Unit {0}) AuditEnd) (i j : ℕ)
-      → EndsAudit shows text left held then result → IsBroken ring packets i j
-      → (result ≡ Err ends.Refuted) ⊎ IsOfOutside result
-  broken-told left held then (Ok done) i j is b = absurd (none-broken left held then is i j b)
+      → EndsAudit asks text left failed held then result → IsBroken ring packets i j
+      → (result ≡ Err ends.Refuted) ⊎ IsOfOutside asks failed result
+  broken-told left held then (Ok done) i j is b = absurd (none-broken left held then blames.None (λ e. cc e) is i j b)
   broken-told left held then (Err ends.Refuted) i j is b = inl refl
+  broken-told left held then (Err (ends.Doubted wrong undecided)) i j is b =
+      elim (whole-doubted left held then wrong undecided is) [
+        | inl r ↦ absurd (none-broken left held then (blames.Doubted wrong undecided) (λ e. cc e) r i j b)
+        | inr it ↦ inr (inr (inr (inr it)))
+      ]
   broken-told left held then (Err (ends.KeyLine line why)) i j is b = inr (otherwise left held then (Err (ends.KeyLine line why)) is)
   broken-told left held then (Err (ends.Refused at why)) i j is b = inr (otherwise left held then (Err (ends.Refused at why)) is)
   broken-told left held then (Err ends.InputLimit) i j is b = inr (otherwise left held then (Err ends.InputLimit) is)
   broken-told left held then (Err ends.KeyLimit) i j is b = inr (otherwise left held then (Err ends.KeyLimit) is)
   broken-told left held then (Err ends.ReadFault) i j is b = inr (inl refl)
   broken-told left held then (Err ends.WriteFault) i j is b = inr (inr (inl refl))
-  broken-told left held then (Err ends.Memory) i j is b = inr (inr (inr refl))
+  broken-told left held then (Err ends.Memory) i j is b = inr (inr (inr (inl refl)))
 
   pub clean-told : (left held then : Option (List ℕ)) (result : Result (Unit {0}) AuditEnd)
-      → EndsAudit shows text left held then result → ((i j : ℕ) → IsBroken ring packets i j → ⊥)
-      → (result ≡ Ok tt) ⊎ IsOfOutside result
-  clean-told left held then (Ok done) is none = inl refl
+      → EndsAudit asks text left failed held then result → ((i j : ℕ) → IsBroken ring packets i j → ⊥)
+      → (result ≡ end_for (doubt asks.strict (tally_of (all_told ring packets)))) ⊎ IsOfOutside asks failed result
+  clean-told left held then (Ok done) is none = inl (ends-so left held then blames.None (λ e. cc e) is)
   clean-told left held then (Err ends.Refuted) is none =
-      let b = some-broken left held then is.0 is.1 in absurd (none b.0 b.1 b.2)
+      let b = some-broken left held then is.0 is.2 in absurd (none b.0 b.1 b.2)
+  clean-told left held then (Err (ends.Doubted wrong undecided)) is none =
+      elim (whole-doubted left held then wrong undecided is) [
+        | inl r ↦ inl (ends-so left held then (blames.Doubted wrong undecided) (λ e. cc e) r)
+        | inr it ↦ inr (inr (inr (inr it)))
+      ]
   clean-told left held then (Err (ends.KeyLine line why)) is none = inr (otherwise left held then (Err (ends.KeyLine line why)) is)
   clean-told left held then (Err (ends.Refused at why)) is none = inr (otherwise left held then (Err (ends.Refused at why)) is)
   clean-told left held then (Err ends.InputLimit) is none = inr (otherwise left held then (Err ends.InputLimit) is)
   clean-told left held then (Err ends.KeyLimit) is none = inr (otherwise left held then (Err ends.KeyLimit) is)
   clean-told left held then (Err ends.ReadFault) is none = inr (inl refl)
   clean-told left held then (Err ends.WriteFault) is none = inr (inr (inl refl))
-  clean-told left held then (Err ends.Memory) is none = inr (inr (inr refl))
+  clean-told left held then (Err ends.Memory) is none = inr (inr (inr (inl refl)))

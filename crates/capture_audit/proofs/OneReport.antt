@@ -1,5 +1,5 @@
 -- Of one key text and the same packets there is one report.
-use Rattle.std.proofs.Common.{◌≡◌, ◌≢◌, ◌∙◌, ◌<◌, ◌≤◌, ◌⊎◌, inl, inr, ℕ, Bool, true, List, [], ◌∷◌, ◌++◌, length, map, Option, Ok, refl, sym, ap, subst, arith, append_assoc, length-append, take_all}
+use Rattle.std.proofs.Common.{◌≡◌, ◌≢◌, ◌∙◌, ◌<◌, ◌≤◌, ◌⊎◌, inl, inr, ℕ, true, List, [], ◌∷◌, ◌++◌, length, map, Option, Ok, refl, sym, ap, subst, arith, append_assoc, length-append, take_all}
 use Rattle.std.specs.Prelude.{All}
 use Rattle.std.specs.List.{AllByRecursion}
 use Rattle.std.proofs.lemmas.Bool.{cases_lt}
@@ -7,7 +7,9 @@ use Rattle.std.proofs.lemmas.List.{length-map, length-reverse, reverse-append}
 use Rattle.std.proofs.lemmas.List.Elements.{All-cons}
 use Rattle.audit_facts.specs.Noted.{events, fresh_frames, spoken_of}
 use Rattle.audit_report.specs.Uses.{timed}
-use Rattle.audit_report.specs.Verdicts.{Verdict, is_refuted}
+use Rattle.audit_report.specs.Tallies.{tally_of}
+use Rattle.audit_report.specs.Verdicts.{Verdict, blame}
+use Rattle.audit_report.specs.declared.blame.Blame.{Blame}
 use Rattle.audit_report.specs.declared.ending.Ending.{Ending}
 use Rattle.audit_report.specs.declared.ending.Ending.TheVariants as endings
 use Rattle.audit_text.specs.Parting.{IsParted, capture_behind, key_text}
@@ -25,11 +27,12 @@ use Rattle.least_pairs.proofs.Public.{one-verdict}
 use Rattle.text_lines.specs.Texts.{lines_of}
 use Rattle.use_notes.specs.Once.{BreaksOnce}
 use Rattle.use_notes.specs.declared.notes.Use.{Use}
+use Rattle.capture_audit.specs.declared.asks.Asks.{Asks}
 use Rattle.capture_audit.specs.Before.{IsUnwrapped, Unwrapped, entries, frames}
 use Rattle.capture_audit.specs.Ends.{IsReported}
 use Rattle.capture_audit.specs.Laws.{IsFileOf, IsInput, IsWhole}
 use Rattle.capture_audit.specs.Reading.{HasAll, IsOneTooMany, IsRead, in_order, most_keys}
-use Rattle.capture_audit.specs.Telling.{IsVerdict, noted, report}
+use Rattle.capture_audit.specs.Telling.{IsVerdict, all_told, noted, report}
 use Rattle.capture_audit.proofs.ChangesAlone.{changes-alone}
 use Rattle.capture_audit.proofs.GiftsAgree.{IsOneKeyForOneWrap}
 use Rattle.capture_audit.proofs.NoneMissed.{front-agrees, keys-more, whole-agrees}
@@ -190,41 +193,47 @@ verdicts-agree ring packets one two is other =
 -- ---- the report
 
 -- what is told of two reports that are one
-abbrev pub AreOne : Ending → Ending → Bool → Bool → Option (List ℕ) → Option (List ℕ) → Type 0
-AreOne one two refuted also then later = (one ≡ two) × (refuted ≡ also) × (then ≡ later)
+abbrev pub AreOne : Ending → Ending → Blame → Blame → Option (List ℕ) → Option (List ℕ) → Type 0
+AreOne one two blamed also then later = (one ≡ two) × (blamed ≡ also) × (then ≡ later)
 
-module _ (law : IsOneKeyForOneWrap) (shows : Bool) (seen : List Seen) (text other : List ℕ)
+module _ (law : IsOneKeyForOneWrap) (asks : Asks) (seen : List Seen) (text other : List ℕ)
     (said : ring_in text ≡ ring_in other) (keyed : (ring : Ring) → ring_in text ≡ Ok ring → AreKeyed ring)
     (whole : IsWhole text seen) (also : IsWhole other seen)
     (one two : Ending) (apart : one ≢ endings.Fault) (away : two ≢ endings.Fault)
-    (left right held then later : Option (List ℕ)) (refuted too : Bool) where
+    (left right held then later : Option (List ℕ)) (blamed too : Blame) where
+  -- for what a capture of these packets is to blame
+  abbrev blamed_in : Ring → List Unwrapped → Verdict → Blame
+  blamed_in ring packets v = blame asks.strict (tally_of (all_told ring packets)) v
+
   by-ring : (ring : Ring) (a b : List Unwrapped) (v w : Verdict) → ring_in text ≡ Ok ring
       → IsRead text left ring a one → IsRead other right ring b two → IsVerdict ring a v → IsVerdict ring b w
-      → is_refuted v ≡ refuted → is_refuted w ≡ too
-      → then ≡ after held (report shows ring a v one) → later ≡ after held (report shows ring b w two)
-      → AreOne one two refuted too then later
-  by-ring ring a b v w told r s is it broken ruined written put =
+      → blamed_in ring a v ≡ blamed → blamed_in ring b w ≡ too
+      → then ≡ after held (report asks.shows ring a v one) → later ≡ after held (report asks.shows ring b w two)
+      → AreOne one two blamed too then later
+  by-ring ring a b v w told r s is it for_one for_two written put =
       let both = ends-agree ring seen law (keyed ring told) a b one two
       (record { unwrapped = r.unwrapped; few = r.few }) (record { unwrapped = s.unwrapped; few = s.few })
       (ends-so ring seen text left a one whole apart r) (ends-so ring seen other right b two also away s) in
       let same = verdicts-agree ring b v w (subst (λ (us : List Unwrapped). IsVerdict ring us v) both.1 is) it in (
         both.0,
-        sym broken ∙ ap (λ (x : Verdict). is_refuted x) same ∙ ruined,
+        sym for_one ∙ ap (λ (us : List Unwrapped). blamed_in ring us v) both.1
+            ∙ ap (λ (x : Verdict). blamed_in ring b x) same ∙ for_two,
         written
-            ∙ ap (λ (us : List Unwrapped). after held (report shows ring us v one)) both.1
-            ∙ ap (λ (x : Verdict). after held (report shows ring b x one)) same
-            ∙ ap (λ (e : Ending). after held (report shows ring b w e)) both.0
+            ∙ ap (λ (us : List Unwrapped). after held (report asks.shows ring us v one)) both.1
+            ∙ ap (λ (x : Verdict). after held (report asks.shows ring b x one)) same
+            ∙ ap (λ (e : Ending). after held (report asks.shows ring b w e)) both.0
             ∙ sym put,
       )
 
-  pub one-report : IsReported shows text left one refuted held then → IsReported shows other right two too held later
-      → AreOne one two refuted too then later
+  pub one-report : IsReported asks text left one blamed held then → IsReported asks other right two too held later
+      → AreOne one two blamed too then later
   one-report r s =
       let same : s.ring ≡ r.ring = cc (sym s.read.said ∙ sym said ∙ r.read.said) in
       by-ring r.ring r.packets s.packets r.verdict s.verdict r.read.said r.read
       (subst (λ (x : Ring). IsRead other right x s.packets two) same s.read) r.judged
-      (subst (λ (x : Ring). IsVerdict x s.packets s.verdict) same s.judged) r.broken s.broken r.written
-      (s.written ∙ ap (λ (x : Ring). after held (report shows x s.packets s.verdict two)) same)
+      (subst (λ (x : Ring). IsVerdict x s.packets s.verdict) same s.judged) r.blame_is
+      (subst (λ (x : Ring). blamed_in x s.packets s.verdict ≡ too) same s.blame_is) r.written
+      (s.written ∙ ap (λ (x : Ring). after held (report asks.shows x s.packets s.verdict two)) same)
 
 -- ---- formats
 

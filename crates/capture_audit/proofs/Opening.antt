@@ -1,5 +1,5 @@
 -- A capture is opened behind its key text, and audited.
-use Rattle.std.proofs.Common.{◌≡◌, ◌∙◌, ◌≤◌, inl, inr, ℕ, Bool, List, [], ◌++◌, Option, Some, None, Ok, Err, refl, sym, ap, subst, arith}
+use Rattle.std.proofs.Common.{◌≡◌, ◌∙◌, ◌≤◌, inl, inr, ℕ, Bool, List, [], ◌++◌, Option, Some, None, Result, Ok, Err, refl, sym, ap, subst, arith}
 use Rattle.std.specs.Prelude.{take}
 use Rattle.std.proofs.lemmas.List.{append-nil}
 use Rattle.audit_report.specs.Lines.{set_lines}
@@ -14,6 +14,7 @@ use Rattle.key_ring.specs.declared.end.RingEnd.{RingEnd}
 use Rattle.key_ring.specs.declared.end.RingEnd.TheVariants as rings
 use Rattle.lan_base.specs.Faults.{Rose}
 use Rattle.octet_supply.specs.Supplying.{Held, Stands}
+use Rattle.capture_audit.specs.declared.asks.Asks.{Asks}
 use Rattle.capture_audit.specs.declared.auditor.Auditor.{Auditor}
 use Rattle.capture_audit.specs.declared.batch.Batch.{Batch}
 use Rattle.capture_audit.specs.declared.end.AuditEnd.{AuditEnd}
@@ -34,21 +35,21 @@ pub ring-said : (text : List ℕ) (left : Option (List ℕ)) (ring : Ring) (supp
 ring-said text left ring None is = is.0
 ring-said text left ring (Some supply) is = is.0
 
-pub ring-ends : (shows : Bool) (text : List ℕ) (left held : Option (List ℕ)) (end : RingEnd)
-    → ReadsRing text left (Err end) → EndsAudit shows text left held held (Err (end_of_ring end))
-ring-ends shows text left held (rings.Line line why) is = (is, refl)
-ring-ends shows text left held rings.Limit is = inl (ring-past text left is, refl)
-ring-ends shows text left held rings.ReadFault is = inl (ring-failed text left is, refl)
-ring-ends shows text left held rings.Memory is = inl refl
+pub ring-ends : (asks : Asks) (text : List ℕ) (left held : Option (List ℕ)) (failed : Type 0) (end : RingEnd)
+    → ReadsRing text left (Err end) → EndsAudit asks text left failed held held (Err (end_of_ring end))
+ring-ends asks text left held failed (rings.Line line why) is = (is, refl)
+ring-ends asks text left held failed rings.Limit is = inl (ring-past text left is, refl)
+ring-ends asks text left held failed rings.ReadFault is = inl (ring-failed text left is, refl)
+ring-ends asks text left held failed rings.Memory is = inl refl
 
 -- the keys that are set by hand are too many, or there is no memory
-pub set-ends : (X : Type 0) (shows : Bool) (text : List ℕ) (left left_then held : Option (List ℕ)) (ring : Ring) (supply : Option Held)
-    (end : AuditEnd) → ReadsRing text left (Ok (ring, supply)) → EndsOf {X = X} ring (Err end)
-    → EndsAudit shows text left_then held held (Err end)
-set-ends X shows text left left_then held ring supply ends.KeyLimit is many =
+pub set-ends : (X : Type 0) (asks : Asks) (text : List ℕ) (left left_then held : Option (List ℕ)) (failed : Type 0) (ring : Ring)
+    (supply : Option Held) (end : AuditEnd) → ReadsRing text left (Ok (ring, supply)) → EndsOf {X = X} ring (Err end)
+    → EndsAudit asks text left_then failed held held (Err end)
+set-ends X asks text left left_then held failed ring supply ends.KeyLimit is many =
     inl (record { ring = ring; said = ring-said text left ring supply is; many = many }, refl)
-set-ends X shows text left left_then held ring supply ends.Memory is many = inl refl
-set-ends X shows text left left_then held ring supply _ is many = absurd many
+set-ends X asks text left left_then held failed ring supply ends.Memory is many = inl refl
+set-ends X asks text left left_then held failed ring supply _ is many = absurd many
 
 pub not-set-so : (X : Type 0) (ring : Ring) (end : AuditEnd) → EndsOf {X = X} ring (Err end)
     → (end ≡ ends.ReadFault → ⊥) × (end ≡ ends.WriteFault → ⊥)
@@ -86,13 +87,13 @@ pub open-ok : (text : List ℕ) (left left_then : Option (List ℕ)) (ring : Rin
 open-ok text left left_then ring supply reader (said, some, (given, stands, visible)) opens =
     opens-on text given reader left_then visible (opens given stands visible)
 
-pub open-ends : (shows : Bool) (text : List ℕ) (left held : Option (List ℕ)) (end : AuditEnd)
-    → OpensFile text left (Err end) → EndsAudit shows text left held held (Err end)
-open-ends shows text left held (ends.Refused at why) is = inl (is, refl)
-open-ends shows text left held ends.InputLimit is = inl (is, refl)
-open-ends shows text left held ends.ReadFault is = inl (is, refl)
-open-ends shows text left held ends.Memory is = inl refl
-open-ends shows text left held _ is = absurd is
+pub open-ends : (asks : Asks) (text : List ℕ) (left held : Option (List ℕ)) (failed : Type 0) (end : AuditEnd)
+    → OpensFile text left (Err end) → EndsAudit asks text left failed held held (Err end)
+open-ends asks text left held failed (ends.Refused at why) is = inl (is, refl)
+open-ends asks text left held failed ends.InputLimit is = inl (is, refl)
+open-ends asks text left held failed ends.ReadFault is = inl (is, refl)
+open-ends asks text left held failed ends.Memory is = inl refl
+open-ends asks text left held failed _ is = absurd is
 
 -- ---- before the packets
 
@@ -125,6 +126,21 @@ none-told reader left text is = absurd (cc is)
 pub rose-earlier : (a b c : ℕ) → a ≤ b → Rose b c → Rose a c
 rose-earlier a b c less (inl rose) = inl (omega (arith, less, rose))
 rose-earlier a b c less (inr end) = inr end
+
+-- a source that failed has failed since it stood earlier
+pub failed-earlier : (asks : Asks) (text : List ℕ) (left held then : Option (List ℕ)) (failed earlier : Type 0)
+    (result : Result (Unit {0}) AuditEnd) → (failed → earlier) → EndsAudit asks text left failed held then result
+    → EndsAudit asks text left earlier held then result
+failed-earlier asks text left held then failed earlier (Ok done) so is = is
+failed-earlier asks text left held then failed earlier (Err ends.Refuted) so is = (is.0, λ e. so (is.1 e), is.2)
+failed-earlier asks text left held then failed earlier (Err (ends.Doubted wrong undecided)) so is = (is.0, λ e. so (is.1 e), is.2)
+failed-earlier asks text left held then failed earlier (Err (ends.KeyLine line why)) so is = is
+failed-earlier asks text left held then failed earlier (Err (ends.Refused at why)) so is = is
+failed-earlier asks text left held then failed earlier (Err ends.InputLimit) so is = is
+failed-earlier asks text left held then failed earlier (Err ends.KeyLimit) so is = is
+failed-earlier asks text left held then failed earlier (Err ends.ReadFault) so is = is
+failed-earlier asks text left held then failed earlier (Err ends.WriteFault) so is = is
+failed-earlier asks text left held then failed earlier (Err ends.Memory) so is = is
 
 pub head-read : (text : List ℕ) (left left_then : Option (List ℕ)) (ring : Ring) (supply : Option Held) (reader : PacketReader)
     → ReadsRing text left (Ok (ring, supply)) → OpensFile text left_then (Ok reader) → IsHeadRead text ring

@@ -1,23 +1,26 @@
 -- What was read is reported.
-use Rattle.std.proofs.Common.{◌≡◌, ◌∙◌, ◌<◌, inl, inr, ℕ, Bool, false, List, [], ◌++◌, length, Option, Some, Err, refl, sym, ap, append_assoc}
+use Rattle.std.proofs.Common.{◌≡◌, ◌∙◌, ◌<◌, inl, inr, ℕ, Bool, List, [], ◌++◌, length, Option, Some, Err, refl, sym, ap, append_assoc}
 use Rattle.std.proofs.lemmas.List.{append-nil}
+use Rattle.audit_report.specs.declared.blame.Blame.{Blame}
+use Rattle.audit_report.specs.declared.blame.Blame.TheVariants as blames
 use Rattle.audit_report.specs.declared.ending.Ending.{Ending}
 use Rattle.audit_report.specs.declared.ending.Ending.TheVariants as endings
 use Rattle.audit_report.specs.declared.tally.Tally.{Tally}
 use Rattle.audit_report.specs.Lines.{set_lines}
 use Rattle.audit_report.specs.Report as reports
-use Rattle.audit_report.specs.Verdicts.{Verdict, is_refuted}
+use Rattle.audit_report.specs.Verdicts.{Verdict, blame}
 use Rattle.capture_packets.specs.declared.reader.PacketReader.{PacketReader}
 use Rattle.key_ring.specs.Rings.{Ring}
 use Rattle.lan_base.specs.Told.{after}
+use Rattle.capture_audit.specs.declared.asks.Asks.{Asks}
 use Rattle.capture_audit.specs.declared.auditor.Auditor.{Auditor}
 use Rattle.capture_audit.specs.declared.batch.Batch.{Batch}
 use Rattle.capture_audit.specs.declared.end.AuditEnd.{AuditEnd}
 use Rattle.capture_audit.specs.declared.end.AuditEnd.TheVariants as ends
-use Rattle.capture_audit.specs.Ends.{EndsAudit, IsFrontReported, IsFrontTold, IsReported}
+use Rattle.capture_audit.specs.Ends.{EndsAudit, IsFrontReported, IsFrontTold, IsReported, end_at, end_of}
 use Rattle.capture_audit.specs.Reading.{IsRead}
 use Rattle.capture_audit.specs.Telling.{IsVerdict, all_told, numbered_hand, report}
-use Rattle.capture_audit.specs.inside.Auditing.{HasRead, IsAuditing, IsHeadRead, IsPartTold, ReadsUp, end_at}
+use Rattle.capture_audit.specs.inside.Auditing.{HasRead, IsAuditing, IsHeadRead, IsPartTold, ReadsUp}
 use Rattle.capture_audit.specs.inside.Batches.{Writes}
 use Rattle.capture_audit.proofs.Going.{after-both, are-first}
 
@@ -36,12 +39,14 @@ part-told shows text ring held then head part = record {
   written = part.written_is;
 }
 
-pub reads-end : (shows : Bool) (text : List ℕ) (ring : Ring) (left held then : Option (List ℕ)) (a : Auditor) (b : Batch)
-    (end : AuditEnd) → IsHeadRead text ring → ReadsUp shows ring (Some text) held left then a b (Err end)
-    → EndsAudit shows text left held then (Err end)
-reads-end shows text ring left held then a b ends.WriteFault head is = inl (part-told shows text ring held then head is)
-reads-end shows text ring left held then a b ends.Memory head is = inr (inl (part-told shows text ring held then head is))
-reads-end shows text ring left held then a b _ head is = absurd is
+pub reads-end : (asks : Asks) (text : List ℕ) (ring : Ring) (left held then : Option (List ℕ)) (failed : Type 0) (a : Auditor) (b : Batch)
+    (end : AuditEnd) → IsHeadRead text ring → ReadsUp asks.shows ring (Some text) held left then a b (Err end)
+    → EndsAudit asks text left failed held then (Err end)
+reads-end asks text ring left held then failed a b ends.WriteFault head is =
+    inl (part-told asks.shows text ring held then head is)
+reads-end asks text ring left held then failed a b ends.Memory head is =
+    inr (inl (part-told asks.shows text ring held then head is))
+reads-end asks text ring left held then failed a b _ head is = absurd is
 
 pub not-failed : (shows : Bool) (ring : Ring) (told held left then : Option (List ℕ)) (a : Auditor) (b : Batch)
     (end : AuditEnd) → ReadsUp shows ring told held left then a b (Err end) → end ≡ ends.ReadFault → ⊥
@@ -93,9 +98,9 @@ module _ (shows : Bool) (ring : Ring) (told held : Option (List ℕ)) (reader : 
 
 -- ---- the report
 
-module _ (shows : Bool) (text : List ℕ) (ring : Ring) (left held now then : Option (List ℕ)) (ending : Ending)
+module _ (asks : Asks) (text : List ℕ) (ring : Ring) (left held now then : Option (List ℕ)) (ending : Ending)
     (a : Auditor) (b : Batch) (head : IsHeadRead text ring)
-    (read : HasRead shows ring (Some text) held ending left now a b) where
+    (read : HasRead asks.shows ring (Some text) held ending left now a b) where
   is-read : IsRead text left ring read.packets ending
   is-read = record {
     said = head.said;
@@ -108,7 +113,7 @@ module _ (shows : Bool) (text : List ℕ) (ring : Ring) (left held now then : Op
   }
 
   -- lines of packets alone were written
-  lines-alone : IsFrontTold shows text held now
+  lines-alone : IsFrontTold asks.shows text held now
   lines-alone = record {
     ring = ring;
     packets = read.packets;
@@ -121,29 +126,29 @@ module _ (shows : Bool) (text : List ℕ) (ring : Ring) (left held now then : Op
     written = read.written_is;
   }
 
-  pub no-memory : EndsAudit shows text left held now (Err ends.Memory)
-  no-memory = inr (inl lines-alone)
+  pub no-memory : (failed : Type 0) → EndsAudit asks text left failed held now (Err ends.Memory)
+  no-memory failed = inr (inl lines-alone)
 
   whole : (v : Verdict) (lines : List ℕ) → lines ≡ b.text.items ++ reports.end_lines a.tally v ending
-      → read.written ++ lines ≡ report shows ring read.packets v ending
+      → read.written ++ lines ≡ report asks.shows ring read.packets v ending
   whole v lines is =
       let end = reports.end_lines a.tally v ending in
       let set = set_lines (numbered_hand ring) in
-      let told = reports.packet_lines shows (all_told ring read.packets) in
+      let told = reports.packet_lines asks.shows (all_told ring read.packets) in
       ap (λ (xs : List ℕ). read.written ++ xs) is ∙ sym (append_assoc read.written b.text.items end)
       ∙ ap (λ (xs : List ℕ). xs ++ end) read.lines ∙ append_assoc set told end
       ∙ ap (λ (t : Tally). set ++ (told ++ reports.end_lines t v ending)) read.keeps.tally
 
-  pub reported : (v : Verdict) (lines : List ℕ) (refuted : Bool) → lines ≡ b.text.items ++ reports.end_lines a.tally v ending
-      → IsVerdict ring read.packets v → is_refuted v ≡ refuted → then ≡ after now lines
-      → IsReported shows text left ending refuted held then
-  reported v lines refuted is judged broken done = record {
+  pub reported : (v : Verdict) (lines : List ℕ) → lines ≡ b.text.items ++ reports.end_lines a.tally v ending
+      → IsVerdict ring read.packets v → then ≡ after now lines
+      → IsReported asks text left ending (blame asks.strict a.tally v) held then
+  reported v lines is judged done = record {
     ring = ring;
     packets = read.packets;
     verdict = v;
     read = is-read;
     judged = judged;
-    broken = broken;
+    blame_is = ap (λ (t : Tally). blame asks.strict t v) (sym read.keeps.tally);
     written = done ∙ ap (λ (o : Option (List ℕ)). after o lines) read.written_is ∙ after-both held read.written lines
         ∙ ap (λ (xs : List ℕ). after held xs) (whole v lines is);
   }
@@ -151,7 +156,7 @@ module _ (shows : Bool) (text : List ℕ) (ring : Ring) (left held now then : Op
   front-reported : (v : Verdict) (lines : List ℕ) → lines ≡ b.text.items ++ reports.end_lines a.tally v ending
       → IsVerdict ring read.packets v
       → (more : List ℕ) × (rest : List ℕ) × (0 < length rest) × (more ++ rest ≡ lines) × (then ≡ after now more)
-      → IsFrontReported shows text left held then
+      → IsFrontReported asks.shows text left held then
   front-reported v lines is judged it = record {
     ring = ring;
     packets = read.packets;
@@ -166,18 +171,53 @@ module _ (shows : Bool) (text : List ℕ) (ring : Ring) (left held now then : Op
     written = it.4 ∙ ap (λ (o : Option (List ℕ)). after o it.0) read.written_is ∙ after-both held read.written it.0;
   }
 
-  pub write-ends : (v : Verdict) (lines : List ℕ) (end : AuditEnd) → lines ≡ b.text.items ++ reports.end_lines a.tally v ending
+  pub write-ends : (failed : Type 0) (v : Verdict) (lines : List ℕ) (end : AuditEnd)
+      → lines ≡ b.text.items ++ reports.end_lines a.tally v ending
       → IsVerdict ring read.packets v → Writes lines now then (Err end)
-      → EndsAudit shows text left held then (Err end)
-  write-ends v lines ends.WriteFault is judged it = inr (front-reported v lines is judged it)
-  write-ends v lines ends.Memory is judged it = inr (inr (front-reported v lines is judged it))
-  write-ends v lines _ is judged it = absurd it
+      → EndsAudit asks text left failed held then (Err end)
+  write-ends failed v lines ends.WriteFault is judged it = inr (front-reported v lines is judged it)
+  write-ends failed v lines ends.Memory is judged it = inr (inr (front-reported v lines is judged it))
+  write-ends failed v lines _ is judged it = absurd it
 
--- no pair breaks
-pub ends-at : (shows : Bool) (text : List ℕ) (left held then : Option (List ℕ)) (ending : Ending)
-    → IsReported shows text left ending false held then → EndsAudit shows text left held then (end_at ending)
-ends-at shows text left held then endings.Whole is = is
-ends-at shows text left held then endings.Fault is = inr is
-ends-at shows text left held then endings.InputLimit is = inr is
-ends-at shows text left held then endings.KeyLimit is = inr is
-ends-at shows text left held then (endings.Octet at why) is = inr is
+module _ (asks : Asks) (text : List ℕ) (left held then : Option (List ℕ)) (failed : Type 0) where
+  -- to blame for nothing
+  ends-at : (ending : Ending) → IsReported asks text left ending blames.None held then
+      → EndsAudit asks text left failed held then (end_at ending)
+  ends-at endings.Whole is = is
+  ends-at endings.Fault is = inr is
+  ends-at endings.InputLimit is = inr is
+  ends-at endings.KeyLimit is = inr is
+  ends-at (endings.Octet at why) is = inr is
+
+  pub ends-of : (blamed : Blame) (ending : Ending) → (ending ≡ endings.Fault → failed)
+      → IsReported asks text left ending blamed held then
+      → EndsAudit asks text left failed held then (end_of blamed ending)
+  ends-of blames.None ending so is = ends-at ending is
+  ends-of blames.Refuted ending so is = (ending, so, is)
+  ends-of (blames.Doubted wrong undecided) ending so is = (ending, so, is)
+
+-- ---- which faults an end can be
+
+at-fault : (ending : Ending) → end_at ending ≡ Err ends.ReadFault → ending ≡ endings.Fault
+at-fault endings.Whole is = absurd (cc is)
+at-fault endings.Fault is = refl
+at-fault endings.InputLimit is = absurd (cc is)
+at-fault endings.KeyLimit is = absurd (cc is)
+at-fault (endings.Octet at why) is = absurd (cc is)
+
+pub of-fault : (blamed : Blame) (ending : Ending) → end_of blamed ending ≡ Err ends.ReadFault → ending ≡ endings.Fault
+of-fault blames.None ending is = at-fault ending is
+of-fault blames.Refuted ending is = absurd (cc is)
+of-fault (blames.Doubted wrong undecided) ending is = absurd (cc is)
+
+at-sink : (ending : Ending) → end_at ending ≡ Err ends.WriteFault → ⊥
+at-sink endings.Whole is = cc is
+at-sink endings.Fault is = cc is
+at-sink endings.InputLimit is = cc is
+at-sink endings.KeyLimit is = cc is
+at-sink (endings.Octet at why) is = cc is
+
+pub of-sink : (blamed : Blame) (ending : Ending) → end_of blamed ending ≡ Err ends.WriteFault → ⊥
+of-sink blames.None ending is = at-sink ending is
+of-sink blames.Refuted ending is = cc is
+of-sink (blames.Doubted wrong undecided) ending is = cc is

@@ -1,12 +1,13 @@
 -- Of right frames, right MKPDUs and events one list alone is what is told of each key and sender, of each
 -- member, and of each key and member that was not ready for it.
-use Rattle.std.proofs.Common.{◌≡◌, ◌∙◌, ℕ, List, sym}
+use Rattle.std.proofs.Common.{◌≡◌, ◌∙◌, ℕ, List, Some, sym}
+use Rattle.std.specs.Prelude.{All}
 use Rattle.std.specs.Cmp.{IsTotalOrder}
 use Rattle.std.proofs.lemmas.Cmp.{nat_cmp_total, nat_list_cmp_total, on_total, then_total}
 use Rattle.lan_base.specs.declared.address.Mi.{Mi}
 use Rattle.lan_base.specs.declared.address.Sci.{Sci}
 use Rattle.member_notes.specs.declared.facts.Member.{Member}
-use Rattle.member_notes.specs.Facts.{AreMembersOf}
+use Rattle.member_notes.specs.Facts.{AreMembersOf, member_told}
 use Rattle.member_notes.specs.Spoken.{Spoken}
 use Rattle.member_notes.specs.Standing.{member_cmp}
 use Rattle.rollover_notes.specs.declared.unready.Unready.{Unready}
@@ -15,7 +16,7 @@ use Rattle.rollover_notes.specs.Events.{Event}
 use Rattle.use_notes.specs.declared.frame.RightFrame.{RightFrame}
 use Rattle.use_notes.specs.declared.notes.Use.{Use}
 use Rattle.use_notes.specs.Uses.{AreUsesOf, use_cmp}
-use Rattle.capture_audit.proofs.Ascending.{alone}
+use Rattle.capture_audit.proofs.Ascending.{all-told, alone}
 
 -- ---- uses
 
@@ -38,6 +39,13 @@ pub members-alone : (h : List Spoken) (ms ns : List Member) → AreMembersOf h m
 members-alone h ms ns are also =
     alone (λ (m : Member). (m.group, m.mi)) member-total ms ns are.ascending also.ascending
     (λ q. are.each q.0 q.1 ∙ sym (also.each q.0 q.1))
+
+-- what holds of each member that is told holds of all
+pub each-member : (P : Member → Type 0) (h : List Spoken) (ms : List Member) → AreMembersOf h ms
+    → ((group : ℕ) (mi : Mi) (m : Member) → member_told group mi h ≡ Some m → P m) → All P ms
+each-member P h ms are told =
+    all-told (λ (m : Member). (m.group, m.mi)) member-total P ms are.ascending
+    (λ q m is. told q.0 q.1 m (sym (are.each q.0 q.1) ∙ is))
 
 -- ---- members that were not ready
 

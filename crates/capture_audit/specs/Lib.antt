@@ -7,5 +7,6 @@ pub mod Findings
 pub mod Telling
 pub mod Reading
 pub mod Ends
+pub mod Views
 pub mod Laws
 pub mod inside

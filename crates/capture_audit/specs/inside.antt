@@ -2,3 +2,4 @@
 pub mod Keeping
 pub mod Batches
 pub mod Auditing
+pub mod Viewing

@@ -14,7 +14,7 @@ ghost use Rattle.packet_verdicts.specs.Trials.{IsTrial, newest};
 ghost use Rattle.capture_audit.specs.declared.end.AuditEnd.TheVariants as ends;
 ghost use Rattle.capture_audit.specs.Before.{Unwrapped, entries, number_behind};
 ghost use Rattle.capture_audit.specs.Telling.{told_lines};
-ghost use Rattle.capture_audit.specs.inside.Batches.{AreWaiting, IsJudged, IsLonger, IsReady, IsTriedAt, SettlesAlone, SettlesUp, StandsAt, Takes, Tells, TellsAll, Writes, answers, distributes, found_at};
+ghost use Rattle.capture_audit.specs.inside.Batches.{AreWaiting, IsJudged, IsLonger, IsReady, IsTriedAt, SettlesAlone, SettlesUp, StandsAt, Takes, Tells, TellsAll, Writes, answers, distributes, found_at, has_other_type};
 ghost use Rattle.capture_audit.specs.inside.Keeping.{IsFound, IsOfGroup, IsSound, Keeps};
 
 use crate::auditor::Auditor;
@@ -31,6 +31,9 @@ const MOST_PACKETS: usize = 1024;
 
 /// So many octets of protected frames make a batch full.
 const MOST_OCTETS: usize = 1_048_576;
+
+/// Where the EtherType of a frame begins.
+const ETHER_TYPE: usize = 12;
 
 /// A packet that waits for its turn: the front of its line, where lines of packets are asked for, and
 /// where its frame is tried, if it is a protected one.
@@ -75,7 +78,8 @@ impl Batch {
     }
 
     /// Takes a packet more. One that may make a key known is settled alone, behind all before it and
-    /// before any other is taken, so that each frame is tried under the keys known to it.
+    /// before any other is taken, so that each frame is tried under the keys known to it. One that passes is
+    /// settled at once, and not judged.
     pub fn take<T: Threads + Sync, K: Sink>(
         &mut self,
         rt: &T,
@@ -98,6 +102,10 @@ impl Batch {
         ensures failed { result ≡ Err ends.WriteFault → Rose (K.faults sink.old) (K.faults sink.new) }
         ensures faults { K.faults sink.old ≤ K.faults sink.new }
     {
+        if self.passes(&packet) {
+            auditor.settle(&packet.head, &Kind::Other, None)?;
+            return Ok(());
+        }
         law_kind_fits();
         let Judged { kind, start } = judge(self.alloc, &auditor.groups, &mut packet)?;
         if distributes(&kind) {
@@ -109,6 +117,20 @@ impl Batch {
             self.settle(rt, auditor, sink)?;
         }
         Ok(())
+    }
+
+    /// Whether a packet passes: none waits before it, packets have no lines of their own, and its EtherType
+    /// shows that it is neither a protected frame nor one of key agreement.
+    fn passes(&self, packet: &Packet) -> bool
+        ensures shows { result ≡ true → self.now.shows ≡ false }
+        ensures none { result ≡ true → self.now.waiting.items ≡ [] }
+        ensures ethernet { result ≡ true → packet.now.head.is_ethernet ≡ true }
+        ensures other { result ≡ true → has_other_type packet.now.octets.items ≡ true }
+    {
+        !self.shows
+            && self.waiting.is_empty()
+            && packet.head.is_ethernet
+            && has_other_type(&packet.octets)
     }
 
     /// Whether those that wait are settled before more are taken.
@@ -359,6 +381,14 @@ fn tell(
     let finding = auditor.settle(&waiting.head, &waiting.kind, newest)?;
     put_finding(shows, &waiting.line, auditor.tally.all, &finding, text)?;
     Ok(())
+}
+
+/// Whether octets have an EtherType that begins otherwise than those of VLAN tags, of protected frames and
+/// of key agreement.
+fn has_other_type(octets: &[u8]) -> bool
+    ensures { result ≡ has_other_type octets.now }
+{
+    octets.len() > ETHER_TYPE && octets[ETHER_TYPE] != 0x81 && octets[ETHER_TYPE] != 0x88
 }
 
 /// Whether a packet is a right MKPDU with a Distributed SAK.

@@ -11,7 +11,7 @@ use thiserror::Error;
 use trace_text::TextFault;
 
 /// Why an audit does not end with a whole capture in which nothing is broken. A fault of the sink and
-/// want of memory come before a broken pair, and that before all others.
+/// want of memory come before a broken pair, that before doubts, and these before all others.
 #[derive(Clone, Copy, Debug, PartialEq, Eq, Error)]
 pub enum AuditEnd {
     /// The line of the key text with this number, from 1, is refused. Nothing was written.
@@ -20,6 +20,10 @@ pub enum AuditEnd {
     /// A pair of packets breaks what is judged. The report was written.
     #[error("capture refuted")]
     Refuted,
+    /// No pair breaks, but so many protected frames are wrong and so many undecided, and none was to be.
+    /// The report was written.
+    #[error("capture doubted: {wrong} wrong, {undecided} undecided")]
+    Doubted { wrong: u32, undecided: u32 },
     /// The capture is refused: its head, where nothing was written, or the record or block that begins
     /// at this octet of it, where the report was.
     #[error("capture octet {at}: {why:?}")]

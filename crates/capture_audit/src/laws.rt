@@ -2,6 +2,7 @@
 
 ghost use Rattle.std.specs.Prelude.{◌≡◌, ◌≢◌, ◌↔◌, ◌∷◌, ◌++◌, All, Bool, ℕ, List, Option, Some, None, option_map};
 ghost use Rattle.audit_report.specs.Verdicts.{Verdict};
+ghost use Rattle.audit_report.specs.declared.blame.Blame.{Blame};
 ghost use Rattle.audit_report.specs.declared.ending.Ending.{Ending};
 ghost use Rattle.audit_report.specs.declared.ending.Ending.TheVariants.{Fault};
 ghost use Rattle.audit_text.specs.declared.line.KeyLine.TheVariants.{Group};
@@ -11,6 +12,7 @@ ghost use Rattle.known_keys.specs.OneKey.{BreaksOneKey};
 ghost use Rattle.least_pairs.specs.Pairs.{IsLeast};
 ghost use Rattle.packet_verdicts.specs.Groups.{GroupKeys, derived_keys};
 ghost use Rattle.use_notes.specs.Once.{BreaksOnce};
+ghost use Rattle.capture_audit.specs.declared.asks.Asks.{Asks};
 ghost use Rattle.capture_audit.specs.Before.{IsUnwrapped, Unwrapped, entries, frames, number_behind};
 ghost use Rattle.capture_audit.specs.Ends.{IsReported};
 ghost use Rattle.capture_audit.specs.Laws.{IsFileOf, IsInput, IsOfOther, IsWhole, moved_pair, once_more, with_group};
@@ -53,21 +55,21 @@ pub fn law_a_front_is_told_first()
 /// the classic format or in pcapng, in which order of octets, and with which kind of time. Where the
 /// source failed, fewer packets were read, of which a front of the same is told.
 pub fn law_the_format_says_nothing()
-    ensures packets { (shows : Bool) (packets : List Seen) (text other : List ℕ) (one two : Ending)
-        (refuted also : Bool) (left right held then later : Option (List ℕ))
+    ensures packets { (asks : Asks) (packets : List Seen) (text other : List ℕ) (one two : Ending)
+        (blamed also : Blame) (left right held then later : Option (List ℕ))
         → ring_in text ≡ ring_in other → IsWhole text packets → IsWhole other packets
         → one ≢ Fault → two ≢ Fault
-        → IsReported shows text left one refuted held then
-        → IsReported shows other right two also held later
-        → (one ≡ two) × (refuted ≡ also) × (then ≡ later) }
-    ensures formats { (shows : Bool) (packets : List Seen) (keys file another text other : List ℕ)
-        (one two : Ending) (refuted also : Bool) (left right held then later : Option (List ℕ))
+        → IsReported asks text left one blamed held then
+        → IsReported asks other right two also held later
+        → (one ≡ two) × (blamed ≡ also) × (then ≡ later) }
+    ensures formats { (asks : Asks) (packets : List Seen) (keys file another text other : List ℕ)
+        (one two : Ending) (blamed also : Blame) (left right held then later : Option (List ℕ))
         → IsFileOf packets file → IsFileOf packets another
         → IsInput keys file text → IsInput keys another other
         → one ≢ Fault → two ≢ Fault
-        → IsReported shows text left one refuted held then
-        → IsReported shows other right two also held later
-        → (one ≡ two) × (refuted ≡ also) × (then ≡ later) }
+        → IsReported asks text left one blamed held then
+        → IsReported asks other right two also held later
+        → (one ≡ two) × (blamed ≡ also) × (then ≡ later) }
 {
     law_one_key_for_one_wrap();
     law_groups_are_keyed();

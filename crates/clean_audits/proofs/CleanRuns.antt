@@ -14,7 +14,11 @@ use Rattle.use_notes.specs.declared.frame.RightFrame.{RightFrame}
 use Rattle.use_notes.specs.Frames.{AreInOrder, novelty_in}
 use Rattle.use_notes.specs.Once.{BreaksOnce, first_reuse, reuse_by}
 use Rattle.capture_audit.specs.Before.{entries, frames, IsUnwrapped, Unwrapped}
-use Rattle.capture_audit.specs.Telling.{IsVerdict}
+use Rattle.capture_audit.specs.Telling.{IsVerdict, noted}
+use Rattle.capture_audit.proofs.Public.{each-member}
+use Rattle.audit_facts.specs.Noted.{spoken_of}
+use Rattle.member_notes.specs.declared.facts.Member.{Member}
+use Rattle.member_notes.specs.Spoken.{Spoken}
 use Rattle.lan_core.specs.declared.event.Event.TheVariants as events
 use Rattle.lan_core.specs.declared.settings.Settings.{Settings}
 use Rattle.lan_core.specs.Claims.{claimed}
@@ -31,6 +35,7 @@ use Rattle.clean_audits.proofs.Claimed.{backed, claim_by, claims-sak}
 use Rattle.clean_audits.proofs.Gifts.{IsSound, OneWrap}
 use Rattle.clean_audits.proofs.OnAir.{air-grown, nothing, Puts, puts, sealed, seals, speaks, spoken}
 use Rattle.clean_audits.proofs.MkpdusRight.{sound-before}
+use Rattle.clean_audits.proofs.NoReturns.{none-returned}
 use Rattle.clean_audits.proofs.OneKeys.{none-breaks}
 use Rattle.clean_audits.proofs.SealedFrames.{AreProtected}
 use Rattle.clean_audits.proofs.SealedStands.{sealed-stands}
@@ -90,6 +95,8 @@ no-packets settings [] are = record {
   every = λ frame i there gk. elim there [ ];
   used = λ e there. elim there [ ];
   sent = λ m there. elim there [ ];
+  spoke = λ e there. elim there [ ];
+  returns = tt;
   found = tt;
   new = tt;
   ordered = tt;
@@ -184,6 +191,8 @@ clean laws settings users r packets v sound once are each judged = record {
   one_key = none-judged (BreaksOneKey (entries (group_ring settings) packets)) v.one_key judged.one_key
       (λ a b broken. none-breaks settings users r (entries (group_ring settings) packets) a b sound
       s.ours broken);
+  returned = each-member (λ (m : Member). m.counts.returned.count ≡ 0) said v.members judged.members
+      (λ group mi m told. none-returned group mi m said s.returns told);
 }
   where
     s : Stands settings r packets
@@ -191,6 +200,9 @@ clean laws settings users r packets v sound once are each judged = record {
 
     fs : List RightFrame
     fs = frames (group_ring settings) packets
+
+    said : List Spoken
+    said = spoken_of (noted (group_ring settings) packets)
 
 -- ---- whose a right frame is
 

@@ -107,6 +107,32 @@ same-as-made settings users r i gift run there g =
       };
     }
 
+-- the keys of a station behind what it does at a tick
+pub keys-sound : (settings : Settings) (users : List UserFrame) (s next : ℕ) (f : List Fact) (r : Run) (l : Life)
+    → IsTick settings users s next f r l
+    → AreSound l.member.base l.member.mi (ticks r + 1)
+    (view l.member (ticked_past l.member (seen_by settings s next r l) (sak_in f) l.past)).keys
+keys-sound settings users s next f r l t =
+    subst (AreSound m.base m.mi (ticks r + 1))
+    (sym (view-keys m (ticked_past m (seen_by settings s next r l) (sak_in f) l.past)))
+    (tick-sound m (seen_by settings s next r l) (sak_in f) l.past (ticks r) ready
+    (λ key made. secret-of settings users s next f r l key t made))
+  where
+    m : Member
+    m = l.member
+
+    k : IsKnown settings users r
+    k = known settings users r t.stepped.1 t.unforged.1
+
+    v : IsLiving settings r s l
+    v = k.living s l t.living
+
+    few : 1 + ticks r ≤ most_ticks
+    few = t.stepped.0.within.ticks
+
+    ready : IsReady m l.past (ticks r)
+    ready = record { mi = v.mi; keys = v.keys; few = omega (arith, few) }
+
 -- what is given is the latest key of the station, which the run installed
 pub record IsLatestGift (settings : Settings) (s next : ℕ) (f : List Fact) (r : Run) (l : Life)
     (gift : Gift) : Type 0 where
@@ -151,15 +177,8 @@ gives-latest one settings users s next f r l a gift t said gives =
     now : announcement m (tick_lowest m seen p) (view m q) ≡ a
     now = said-now m (tick_lowest m seen p) q (view m q) a said
 
-    few : 1 + ticks r ≤ most_ticks
-    few = t.stepped.0.within.ticks
-
-    ready : IsReady m p (ticks r)
-    ready = record { mi = v.mi; keys = v.keys; few = omega (arith, few) }
-
     sound : AreSound m.base m.mi (ticks r + 1) (view m q).keys
-    sound = subst (AreSound m.base m.mi (ticks r + 1)) (sym (view-keys m q))
-        (tick-sound m seen (sak_in f) p (ticks r) ready (λ key made. secret-of settings users s next f r l key t made))
+    sound = keys-sound settings users s next f r l t
 
     there : (key : Key) → latest (view m q).keys ≡ Some key
         → In (install_by s key) (installs (happened (events.Tick s next) f ∷ r))

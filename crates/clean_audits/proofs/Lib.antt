@@ -14,7 +14,9 @@ pub mod Claimed
 pub mod SealedFrames
 pub mod Told
 pub mod OneKeys
+pub mod Rising
 pub mod Sent
+pub mod NoReturns
 pub mod RightFrames
 pub mod NewFrames
 pub mod Standing

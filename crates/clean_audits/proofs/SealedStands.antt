@@ -1,6 +1,6 @@
 -- The packet of a claim's frame is a protected frame that is right under the key of the claim, and new.
 use Rattle.std.proofs.Common.{◌≡◌, ◌<◌, ◌≤◌, ◌+◌, refl, sym, ap, ◌∙◌, subst, inl, inr, ℕ, List, [], ◌∷◌, ◌++◌, length}
-use Rattle.std.proofs.Common.{Some, is_some, arith}
+use Rattle.std.proofs.Common.{None, Some, is_some, arith}
 use Rattle.std.specs.Prelude.{option_map, slice_get}
 use Rattle.std.specs.List.{filter}
 use Rattle.lan_base.specs.declared.frame.UserFrame.{UserFrame}
@@ -17,6 +17,8 @@ use Rattle.use_notes.specs.Frames.{AreInOrder, IsBehind, novelty_in}
 use Rattle.use_notes.specs.declared.novelty.Novelty.TheVariants.{New}
 use Rattle.capture_audit.specs.Before.{entries, entries_by, frame_by, frames, kind_in, mkpdu_by, mkpdus, number_behind, right_key, right_under, Unwrapped, with_some}
 use Rattle.capture_audit.specs.Findings.{finding_by, frame_finding}
+use Rattle.capture_audit.specs.Telling.{noted}
+use Rattle.audit_facts.specs.Noted.{said_by, spoken_in, spoken_of}
 use Rattle.known_keys.specs.Undecided.{undecided}
 use Rattle.lan_core.specs.declared.event.Event.TheVariants as events
 use Rattle.lan_core.specs.declared.fact.Fact.{Fact}
@@ -35,6 +37,7 @@ use Rattle.clean_audits.proofs.Claimed.{backed, IsBacked}
 use Rattle.clean_audits.proofs.Gifts.{IsSound}
 use Rattle.clean_audits.proofs.GivenKeys.{installed-given}
 use Rattle.clean_audits.proofs.NewFrames.{IsUsed, new-frame, none-used, stations-next, used-later}
+use Rattle.clean_audits.proofs.NoReturns.{giving-later, NoneReturns}
 use Rattle.clean_audits.proofs.OnAir.{sealed}
 use Rattle.clean_audits.proofs.RightFrames.{right-under-its-key}
 use Rattle.clean_audits.proofs.RightMkpdus.{not-read, whole-frame}
@@ -96,6 +99,9 @@ sealed-stands laws settings users f r w p user u before t st = record {
       (uses g (subst (λ fs. In g fs) frames-grown there));
   sent = λ m there. sent-later settings users x r m.mi m.mn t.sound.stepped.0 t.sound.fresh
       (st.sent m (subst (λ ms. In m ms) mkpdus-same there));
+  spoke = λ g there. giving-later settings users x r g t.sound.stepped.0 t.sound.fresh
+      (st.spoke g (subst (λ es. In g es) spoken-same there));
+  returns = subst NoneReturns (sym spoken-same) st.returns;
   found = (
     subst (λ k. IsRightAndNew (finding_by ring before u k)) (sym kind)
         (subst (λ o. IsRightAndNew (frame_finding (frames ring before) o
@@ -190,6 +196,13 @@ sealed-stands laws settings users f r w p user u before t st = record {
     frames-grown : frames ring (u ∷ before) ≡ e ∷ frames ring before
     frames-grown = ap (λ k. with_some (frame_by told n u.packet k) (frames ring before)) kind
         ∙ ap (λ o. with_some o (frames ring before)) frame-is
+
+    spoken-same : spoken_of (noted ring (u ∷ before)) ≡ spoken_of (noted ring before)
+    spoken-same =
+        ap (λ k. spoken_in (finding_by ring before u k) u.packet.head.nanos (said_by k)
+        ++ spoken_of (noted ring before)) kind
+        ∙ ap (λ o. spoken_in (frame_finding (frames ring before) o (undecided told tag.sci tag.an u.packet.head.nanos))
+        u.packet.head.nanos None ++ spoken_of (noted ring before)) frame-is
 
     is-new : novelty_in (frames ring before) e ≡ New
     is-new = new-frame (frames ring before) e (λ g here key sci pn.

@@ -1,12 +1,11 @@
 -- The message numbers of a life rise: what was sent under its member identifier has no number above the
 -- last one that it sent.
-use Rattle.std.proofs.Common.{◌≡◌, ◌≢◌, ◌<◌, ◌≤◌, refl, sym, ap, ◌∙◌, subst, inl, inr, ℕ, List, [], ◌∷◌, ◌++◌, map}
+use Rattle.std.proofs.Common.{◌≡◌, ◌<◌, ◌≤◌, refl, sym, ap, ◌∙◌, inl, inr, ℕ, List, [], ◌∷◌}
 use Rattle.std.proofs.Common.{Bool, true, false, cond, Option, Some, None, arith}
-use Rattle.std.specs.Prelude.{◌==◌, option_map}
+use Rattle.std.specs.Prelude.{◌==◌}
 use Rattle.std.specs.List.{filter}
 use Rattle.std.specs.Option.{option_or}
-use Rattle.std.proofs.lemmas.Bool.{and_parts, eq-eqb, eqb-true, lt-ltb}
-use Rattle.lan_base.specs.Differing.{AllDiffer}
+use Rattle.std.proofs.lemmas.Bool.{and_parts, eqb-true, lt-ltb}
 use Rattle.lan_base.specs.Identifiers.{same_mi}
 use Rattle.lan_base.specs.declared.address.Mi.{Mi}
 use Rattle.lan_base.specs.declared.frame.UserFrame.{UserFrame}
@@ -22,20 +21,16 @@ use Rattle.mka_station.specs.Hearing.{follow_at, hear_turn}
 use Rattle.mka_station.specs.Tick.{says_at, ticked_past, with_sent}
 use Rattle.lan_core.specs.declared.event.Event.TheVariants as events
 use Rattle.lan_core.specs.declared.fact.Fact.{Fact}
-use Rattle.lan_core.specs.declared.fact.Fact.TheVariants as facts
 use Rattle.lan_core.specs.declared.settings.Settings.{Settings}
 use Rattle.lan_core.specs.Run.{Run, Happening, happened}
-use Rattle.lan_core.specs.Ledgers.{Birth, births, born, gather}
-use Rattle.lan_core.specs.Lives.{Life, life, lived, lived_ticking, sak_in, seen_at, turn_at_tick}
+use Rattle.lan_core.specs.Lives.{Life, life, lived, sak_in, seen_at, turn_at_tick}
 use Rattle.lan_core.specs.Fresh.{IsFresh}
 use Rattle.lan_core.specs.Legal.{IsStep}
-use Rattle.group_safety.proofs.Public.{In, in-from_map, in-gathered, in-later, in-map, differs-in, gather-behind}
-use Rattle.group_safety.proofs.Public.{Part, part, known, IsKnown, holds, Inv, book, current, current-apart, in-mis, mis}
+use Rattle.group_safety.proofs.Public.{In}
 use Rattle.group_safety.proofs.Public.{turn-past, announced-next, sent-before, sent-heard, sent-some, hear-past, key_heard}
-use Rattle.group_safety.proofs.Public.{tick_key, tick_lead, tick_roster, some-same, life-next}
-use Rattle.group_safety.proofs.Public as parts
-use Rattle.clean_audits.proofs.Gifts.{IsSound}
+use Rattle.group_safety.proofs.Public.{tick_key, tick_lead, tick_roster}
 use Rattle.clean_audits.proofs.GivenKeys.{IsTick, said_by}
+use Rattle.clean_audits.proofs.Rising.{below-later, below-now, IsBelow, Rises}
 
 -- ---- what a turn sends
 
@@ -88,125 +83,33 @@ hear-same m a p =
 
 -- ---- what was sent
 
+-- the number that a life sent last
+abbrev pub number_sent : Life → ℕ
+number_sent l = last_sent (peers_of l.member l.past)
+
+sent-rises : Rises number_sent
+sent-rises = record {
+  ticking = λ settings s next r f l. tick-more settings s next r f l;
+  hearing = λ l a. let same = hear-same l.member a l.past in omega (arith, same);
+}
+
 -- under a member identifier that a life has, no number is above the last one of that life
-pub record IsSent (settings : Settings) (r : Run) (mi : Mi) (mn : ℕ) : Type 0 where
-  pub begun : In mi (mis (births r))
-  pub below : (s : ℕ) (l : Life) → life settings s r ≡ Some l → l.member.mi ≡ mi
-      → mn ≤ last_sent (peers_of l.member l.past)
+abbrev pub IsSent : Settings → Run → Mi → ℕ → Type 0
+IsSent settings r mi mn = IsBelow number_sent settings r mi mn
 
-mis-later : (x : Happening) (r : Run) (mi : Mi) → In mi (mis (births r)) → In mi (mis (births (x ∷ r)))
-unfolding births
-mis-later x r mi there =
-    let b = in-from_map (λ (b : Birth). b.mi) (births r) mi there in
-    subst (λ w. In w (mis (births (x ∷ r)))) (sym b.2)
-    (in-map (λ (b : Birth). b.mi) (births (x ∷ r)) b.0 (in-later born x.facts (births r) b.0 b.1))
-
--- a life that begins has another identifier than those before
-apart-parts : {A B : Type 0} (f : A → B) (xs ys : List A) (a : A) (b : B) → AllDiffer (map f (xs ++ ys))
-    → In a xs → In b (map f ys) → f a ≢ b
-apart-parts f [] ys a b differ here there = elim here [ ]
-apart-parts {A} {B} f (x ∷ xs) ys a b differ (inl same) there =
-    λ e. differs-in (f x) b (map f (xs ++ ys)) differ.0 (behind xs) (ap f (sym same) ∙ e)
-  where
-    behind : (zs : List A) → In b (map f (zs ++ ys))
-    behind [] = there
-    behind (z ∷ zs) = inr (behind zs)
-apart-parts f (x ∷ xs) ys a b differ (inr here) there = apart-parts f xs ys a b differ.1 here there
-
-born-new : (x : Happening) (r : Run) (s : ℕ) (mi other : Mi) → IsFresh (x ∷ r)
-    → In (facts.Life s mi) x.facts → In other (mis (births r)) → mi ≢ other
-unfolding births
-born-new x r s mi other fresh here there =
-    apart-parts (λ (b : Birth). b.mi) (gather born x.facts []) (births r)
-    (record { station = s; mi = mi }) other
-    (subst (λ bs. AllDiffer (map (λ (b : Birth). b.mi) bs)) (gather-behind born x.facts (births r)) fresh.mis)
-    (in-gathered born x.facts [] (facts.Life s mi) (record { station = s; mi = mi }) here refl) there
-
--- an event takes none of it
 pub sent-later : (settings : Settings) (users : List UserFrame) (x : Happening) (r : Run) (mi : Mi) (mn : ℕ)
     → IsStep settings users x r → IsFresh (x ∷ r) → IsSent settings r mi mn → IsSent settings (x ∷ r) mi mn
-sent-later settings users x r mi mn step fresh sent = record {
-  begun = mis-later x r mi sent.begun;
-  below = λ s l living same. go s l living same (part settings users s x r step);
-}
-  where
-    go : (s : ℕ) (l : Life) → life settings s (x ∷ r) ≡ Some l → l.member.mi ≡ mi
-        → Part settings s r x.event x.facts (life settings s (x ∷ r))
-        → mn ≤ last_sent (peers_of l.member l.past)
-    go s l living same (parts.same after none) = sent.below s l (sym after ∙ living) same
-    go s l living same (parts.ticks next old ev before after) =
-        let is : lived old (turn_at_tick settings s r old next (sak_in x.facts)) ≡ l =
-        some-same (sym after ∙ living) in
-        let less = sent.below s old before (ap (λ (w : Life). w.member.mi) is ∙ same) in
-        let more = tick-more settings s next r x.facts old in
-        subst (λ (w : Life). mn ≤ last_sent (peers_of w.member w.past)) is (omega (arith, less, more))
-    go s l living same (parts.hears number octets old a came before plain judged after) =
-        let is : lived old (hear_turn old.member a old.past) ≡ l = some-same (sym after ∙ living) in
-        let less = sent.below s old before (ap (λ (w : Life). w.member.mi) is ∙ same) in
-        let stays = hear-same old.member a old.past in
-        subst (λ (w : Life). mn ≤ last_sent (peers_of w.member w.past)) is (omega (arith, less, stays))
-    go s l living same (parts.born new none birth after shown) =
-        let is : new ≡ l = some-same (sym after ∙ living) in
-        absurd (born-new x r s new.member.mi mi fresh shown sent.begun
-        (ap (λ (w : Life). w.member.mi) is ∙ same))
-
--- ---- what is sent
-
--- the life of a station has begun there
-life-begun : (settings : Settings) (users : List UserFrame) (r : Run) (s : ℕ) (l : Life)
-    → IsSound settings users r → life settings s r ≡ Some l
-    → current s (births r) ≡ Some l.member.mi
-life-begun settings users r s l sound living =
-    let k = known settings users r sound.stepped sound.unforged in
-    let v : Inv (book k.changes) = holds k.changes k.allowed
-    (subst (λ bs. AllDiffer (mis bs)) (sym k.shows.births) sound.fresh.mis) in
-    subst (λ bs. current s bs ≡ Some l.member.mi) k.shows.births
-    (v.lives s _ (k.shows.lives s l living)).begun
-
--- the life of a station after it ticked
-ticked-life : (settings : Settings) (s next : ℕ) (f : List Fact) (r : Run) (l : Life)
-    → life settings s r ≡ Some l
-    → life settings s (happened (events.Tick s next) f ∷ r)
-    ≡ Some (lived l (turn_at_tick settings s r l next (sak_in f)))
-ticked-life settings s next f r l living =
-    life-next settings s (happened (events.Tick s next) f) r
-    ∙ ap (λ b. cond b (option_map (lived_ticking settings s r next (sak_in f)) (life settings s r))
-    (life settings s r)) (eq-eqb s s refl)
-    ∙ ap (option_map (lived_ticking settings s r next (sak_in f))) living
+sent-later settings users x r mi mn = below-later number_sent sent-rises settings users x r mi mn
 
 pub sent-now : (settings : Settings) (users : List UserFrame) (s next : ℕ) (f : List Fact) (r : Run)
     (l : Life) (a : Announcement) → IsTick settings users s next f r l
     → said_by settings s next f r l ≡ Some a → a.mi ≡ l.member.mi
     → IsSent settings (happened (events.Tick s next) f ∷ r) a.mi a.mn
-sent-now settings users s next f r l a t said mi = record {
-  begun = subst (λ w. In w (mis (births (x ∷ r)))) (sym mi) (in-mis s l.member.mi (births (x ∷ r)) here);
-  below = λ u n living same. at u n living (current-apart s u l.member.mi (births (x ∷ r)) t.fresh.mis here
-      (life-begun settings users (x ∷ r) u n sound living
-      ∙ ap (λ w. Some w) (same ∙ mi)));
-}
-  where
-    x : Happening
-    x = happened (events.Tick s next) f
-
-    sound : IsSound settings users (x ∷ r)
-    sound = record { stepped = t.stepped; fresh = t.fresh; unforged = t.unforged }
-
-    now : Life
-    now = lived l (turn_at_tick settings s r l next (sak_in f))
-
-    here : current s (births (x ∷ r)) ≡ Some l.member.mi
-    here = life-begun settings users (x ∷ r) s now sound (ticked-life settings s next f r l t.living)
-
-    last : last_sent (peers_of l.member now.past) ≡ a.mn
-    last = tick-sent settings s next r f l (Some a) said
-        ∙ sent-some l.member a (ticked_past l.member (seen_at settings s r l next) (sak_in f) l.past)
-
-    at : (u : ℕ) (n : Life) → life settings u (x ∷ r) ≡ Some n → s ≡ u
-        → a.mn ≤ last_sent (peers_of n.member n.past)
-    at u n living is =
-        let mine : life settings s (x ∷ r) ≡ Some n = subst (λ w. life settings w (x ∷ r) ≡ Some n) (sym is) living in
-        let one : now ≡ n = some-same (sym (ticked-life settings s next f r l t.living) ∙ mine) in
-        subst (λ (w : Life). a.mn ≤ last_sent (peers_of w.member w.past)) one (omega (arith, last))
+sent-now settings users s next f r l a t said mi =
+    let last : number_sent (lived l (turn_at_tick settings s r l next (sak_in f))) ≡ a.mn =
+    tick-sent settings s next r f l (Some a) said
+    ∙ sent-some l.member a (ticked_past l.member (seen_at settings s r l next) (sak_in f) l.past) in
+    below-now number_sent settings users s next f r l a.mi a.mn t mi (omega (arith, last))
 
 -- what was sent before under its identifier has a lower number
 pub sent-below : (settings : Settings) (s next : ℕ) (f : List Fact) (r : Run) (l : Life)

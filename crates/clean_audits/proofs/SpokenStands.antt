@@ -25,6 +25,10 @@ use Rattle.use_notes.specs.Frames.{AreInOrder}
 use Rattle.key_ring.specs.Rings.{Ring}
 use Rattle.capture_audit.specs.Before.{entries, entries_by, frame_by, frames, gift_entries, giving_by, IsUnwrapped, kind_in, mkpdu_by, mkpdu_entries, mkpdu_of, mkpdus, number_behind, shown_entries, Unwrapped, UnwrapsBy, with_some}
 use Rattle.capture_audit.specs.Findings.{finding_by}
+use Rattle.capture_audit.specs.Telling.{noted}
+use Rattle.audit_facts.specs.Noted.{said_by as said_in_kind, spoken_in, spoken_of}
+use Rattle.member_notes.specs.Facts.{number_given, spoken as told_as}
+use Rattle.member_notes.specs.Spoken.{Spoken}
 use Rattle.lan_core.specs.declared.event.Event.TheVariants as events
 use Rattle.lan_core.specs.declared.fact.Fact.{Fact}
 use Rattle.lan_core.specs.declared.settings.Settings.{Settings}
@@ -41,8 +45,10 @@ use Rattle.clean_audits.proofs.Gifts.{gives-latest, IsLatestGift, OneWrap}
 use Rattle.clean_audits.proofs.GivenKeys.{IsTick, said_by, seen_by, spells-said}
 use Rattle.clean_audits.proofs.MkpdusRight.{spoken-kind}
 use Rattle.clean_audits.proofs.NewFrames.{IsUsed, used-later, used-told}
+use Rattle.clean_audits.proofs.NoReturns.{given-most, given-now, giving-later, IsGiving, keys_made, NoneReturns, not-back}
 use Rattle.clean_audits.proofs.OnAir.{spoken}
 use Rattle.clean_audits.proofs.RightMkpdus.{spelled_of}
+use Rattle.clean_audits.proofs.Rising.{IsBelow}
 use Rattle.clean_audits.proofs.Sent.{IsSent, new-mkpdu, sent-below, sent-later, sent-now}
 use Rattle.clean_audits.proofs.Standing.{AreNew, emitted-more, ours-later, Stands}
 use Rattle.clean_audits.proofs.Told.{AreOurs, IsOurs, Tells}
@@ -168,6 +174,13 @@ spoken-stands one settings users s next f r l a u before t st = record {
       (emitted-more q r (spoken r s l a) t.grown)
       (st.used e (subst (λ fs. In e fs) frames-same there))));
   sent = λ m there. sends m (subst (λ ms. In m ms) mkpdus-grown there);
+  spoke = λ e there. speaks e (subst (λ es. In e es) spoken-grown there);
+  returns = subst NoneReturns (sym spoken-grown) (
+    not-back (spoken_of (noted ring before)) entry (λ d i same some.
+        given-most settings users s next f r l a t.tick t.said (number_given d.said.given) mi
+        (subst (λ w. IsBelow keys_made settings r w (number_given d.said.given)) same (st.spoke d i)) some),
+    st.returns,
+  );
   found = (
     subst (λ k. IsRightAndNew (finding_by ring before u k)) (sym kind)
         (new-mkpdu (mkpdus ring before) (mkpdu_of n 1 sp) (λ m there same.
@@ -213,6 +226,15 @@ spoken-stands one settings users s next f r l a u before t st = record {
 
     mkpdus-grown : mkpdus ring (u ∷ before) ≡ mkpdu_of n 1 sp ∷ mkpdus ring before
     mkpdus-grown = ap (λ k. with_some (mkpdu_by n k) (mkpdus ring before)) kind
+
+    -- what the MKPDU says, as its member's facts have it
+    entry : Spoken
+    entry = told_as (mkpdu_of n 1 sp) u.packet.head.nanos a
+
+    spoken-grown : spoken_of (noted ring (u ∷ before)) ≡ entry ∷ spoken_of (noted ring before)
+    spoken-grown =
+        ap (λ k. spoken_in (finding_by ring before u k) u.packet.head.nanos (said_in_kind k)
+        ++ spoken_of (noted ring before)) kind
 
     mi : a.mi ≡ l.member.mi
     mi = let seen = seen_by settings s next r l in
@@ -273,6 +295,13 @@ spoken-stands one settings users s next f r l a u before t st = record {
     tells frame i (inl same) gk =
         tells-new i (subst (λ (w : Frame). GivesKey settings w.octets i) same gk)
     tells frame i (inr older) gk = tells-behind new told i (st.every frame i older gk)
+
+    speaks : (e : Spoken) → In e (entry ∷ spoken_of (noted ring before)) → IsGiving settings q e
+    speaks e (inl same) =
+        subst (λ (w : Spoken). IsGiving settings q w) (sym same)
+        (given-now settings users s next f r l a t.tick t.said mi)
+    speaks e (inr older) =
+        giving-later settings users x r e t.tick.stepped.0 t.tick.fresh (st.spoke e older)
 
     sends : (m : RightMkpdu) → In m (mkpdu_of n 1 sp ∷ mkpdus ring before) → IsSent settings q m.mi m.mn
     sends m (inl same) =

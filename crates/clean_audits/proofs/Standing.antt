@@ -9,7 +9,10 @@ use Rattle.member_notes.specs.declared.mkpdu.RightMkpdu.{RightMkpdu}
 use Rattle.use_notes.specs.declared.frame.RightFrame.{RightFrame}
 use Rattle.use_notes.specs.declared.novelty.Novelty.TheVariants.{New}
 use Rattle.use_notes.specs.Frames.{AreInOrder, novelty_in}
+use Rattle.audit_facts.specs.Noted.{spoken_of}
+use Rattle.member_notes.specs.Spoken.{Spoken}
 use Rattle.capture_audit.specs.Before.{entries, frames, mkpdus, Unwrapped}
+use Rattle.capture_audit.specs.Telling.{noted}
 use Rattle.lan_core.specs.declared.settings.Settings.{Settings}
 use Rattle.lan_core.specs.Run.{Happening, Run}
 use Rattle.lan_core.specs.Ledgers.{air, emitted, Frame, Install, install_of, installs}
@@ -20,6 +23,7 @@ use Rattle.clean_audits.specs.Captured.{group_ring}
 use Rattle.clean_audits.specs.Clean.{AreRightAndNew}
 use Rattle.clean_audits.specs.Given.{GivesKey}
 use Rattle.clean_audits.proofs.NewFrames.{IsUsed, used-later}
+use Rattle.clean_audits.proofs.NoReturns.{giving-later, IsGiving, NoneReturns}
 use Rattle.clean_audits.proofs.Sent.{IsSent, sent-later}
 use Rattle.clean_audits.proofs.Told.{AreOurs, IsOurs, Tells}
 
@@ -36,6 +40,8 @@ pub record Stands (settings : Settings) (r : Run) (packets : List Unwrapped) : T
       → IsUsed settings r (entries (group_ring settings) packets) e
   pub sent : (m : RightMkpdu) → In m (mkpdus (group_ring settings) packets)
       → IsSent settings r m.mi m.mn
+  pub spoke : (e : Spoken) → In e (spoken_of (noted (group_ring settings) packets)) → IsGiving settings r e
+  pub returns : NoneReturns (spoken_of (noted (group_ring settings) packets))
   pub found : AreRightAndNew (group_ring settings) packets
   pub new : AreNew (frames (group_ring settings) packets)
   pub ordered : AreInOrder (frames (group_ring settings) packets)
@@ -93,6 +99,8 @@ stands-quiet settings users x r packets step fresh same s = record {
   used = λ e there. used-later settings x r (entries (group_ring settings) packets) e
       (emitted-same (x ∷ r) r same) (s.used e there);
   sent = λ m there. sent-later settings users x r m.mi m.mn step fresh (s.sent m there);
+  spoke = λ e there. giving-later settings users x r e step fresh (s.spoke e there);
+  returns = s.returns;
   found = s.found;
   new = s.new;
   ordered = s.ordered;

@@ -59,11 +59,12 @@ AreRightAndNew ring [] = Unit {0}
 AreRightAndNew ring (u ∷ before) =
     IsRightAndNew (finding ring before u) × AreRightAndNew ring before
 
--- and no pair breaks
+-- and no pair breaks, and no member gave a key with a number below one that it gave before
 pub record IsClean (ring : Ring) (packets : List Unwrapped) (v : Verdict) : Type 0 where
   pub found : AreRightAndNew ring packets
   pub once : v.once ≡ None
   pub one_key : v.one_key ≡ None
+  pub returned : All (λ m. m.counts.returned.count ≡ 0) v.members
 
 -- ---- whose a right frame is
 

@@ -20,8 +20,9 @@ use lan_core::law_epochs_count;
 use use_notes::law_the_first_reuse_is_the_least_pair;
 
 /// The audit of a run's capture, behind the `group` line of its group, is clean: each MKPDU and each
-/// protected frame is right and new, no packet number of a sender is used twice under a key, and each
-/// identifier names one key, each key one identifier. Whatever is lost, late, repeated or foreign on the
+/// protected frame is right and new, no packet number of a sender is used twice under a key, each
+/// identifier names one key, each key one identifier, and no member gives a key with a number below one
+/// that it gave before. Whatever is lost, late, repeated or foreign on the
 /// way to the stations, and whoever starts again, changes nothing of it.
 pub fn law_audit_clean()
     ensures legal { (settings : Settings) (users : List UserFrame) (r : Run) (packets : List Unwrapped)

@@ -6,5 +6,6 @@ mod Walks
 mod Lateness
 mod Telling
 mod Listing
+mod ReportListing
 mod Results
 mod Examples

@@ -18,7 +18,7 @@ use Rattle.member_notes.specs.Standing.{member_cmp}
 use Rattle.rollover_notes.specs.Givings.{GroupId, same_group_id}
 use Rattle.rollover_notes.specs.Speaking.{Member}
 use Rattle.rollover_notes.specs.Counted.{Pair, pair_cmp}
-use Rattle.rollover_notes.specs.Standing.{group_id_cmp, group_key_cmp, number_sci_cmp}
+use Rattle.rollover_notes.specs.Standing.{group_id_cmp, group_key_cmp, member_key_cmp, number_sci_cmp}
 
 pub equal : (o : Ordering) → is_eq o ≡ true → o ≡ Equal
 equal Less e = absurd (cc e)
@@ -95,6 +95,9 @@ exact-member a b e = exact_pairs nat_cmp order exact_unsigned exact-mi a b e
 
 pub exact-pair : CmpEqualImpliesEq pair_cmp
 exact-pair a b e = exact_pairs nat_cmp member_cmp exact_unsigned exact-member a b e
+
+pub exact-member-key : CmpEqualImpliesEq member_key_cmp
+exact-member-key a b e = exact_pairs member_cmp nat_cmp exact-member exact_unsigned a b e
 
 same-lists : (a b : List ℕ) → pointwise nat_eq a b ≡ true → a ≡ b
 same-lists a b e = exact_bytes a b (equal (slice_cmp nat_cmp a b) (sym (texts_ties a b) ∙ e))

@@ -5,4 +5,5 @@ pub mod Reports
 pub mod Timings
 pub mod Counted
 pub mod Standing
+pub mod Reported
 pub mod inside

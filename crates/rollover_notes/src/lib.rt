@@ -6,6 +6,7 @@ mod counts;
 mod givings;
 mod notes;
 mod putting;
+mod report;
 mod reports;
 mod saying;
 mod speakers;
@@ -14,5 +15,6 @@ mod unready;
 mod walk;
 
 pub use notes::RolloverNotes;
+pub use report::Report;
 pub use timing::Timing;
 pub use unready::Unready;

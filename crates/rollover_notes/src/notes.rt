@@ -3,10 +3,12 @@
 ghost use Rattle.std.specs.Prelude.{◌≡◌, ◌∷◌, [], List, OnOk, IfOk};
 ghost use Rattle.rollover_notes.specs.Counted.{AreUnreadyOf, late};
 ghost use Rattle.rollover_notes.specs.Events.{Event, Gave, Spoke, Used};
+ghost use Rattle.rollover_notes.specs.Reported.{AreReportsOf};
 ghost use Rattle.rollover_notes.specs.Standing.{StandsFor};
 
 use crate::counts::Counts;
 use crate::givings::Givings;
+use crate::report::{Report, list_reports};
 use crate::reports::Reports;
 use crate::saying::Member;
 use crate::speakers::Speakers;
@@ -115,6 +117,15 @@ impl RolloverNotes {
             → IfOk result (λ us. AreUnreadyOf h us.items) }
     {
         list_unready(self.alloc, &self.unready, &self.reports)
+    }
+
+    /// What is told of each member and key that it reported, with the first packet in which it did, by
+    /// group, MI and key.
+    pub fn reported(&self) -> Result<Vec<Report>, AllocError>
+        ensures { (h : List Event) → StandsFor h self.now
+            → IfOk result (λ rs. AreReportsOf h rs.items) }
+    {
+        list_reports(self.alloc, &self.reports)
     }
 
     /// How many fresh frames under a key, of a sender, came late. Costs a look-up.

@@ -1,19 +1,28 @@
 -- How the program ends after a capture was judged with its keys.
-use Rattle.std.proofs.Common.{◌≡◌, ℕ, Bool, List, Option, Result, Ok, Err, ap, inl, inr, refl}
+use Rattle.std.proofs.Common.{◌≡◌, ℕ, List, Option, Result, Ok, Err, ap, inl, inr, refl}
 use Rattle.std.specs.Prelude.{◌⊎◌}
 use Rattle.capture_audit.specs.declared.end.AuditEnd.{AuditEnd}
 use Rattle.capture_audit.specs.declared.end.AuditEnd.TheVariants as ends
 use Rattle.capture_audit.specs.Before.{Unwrapped}
-use Rattle.capture_audit.specs.Ends.{IsBroken, IsOfOutside}
+use Rattle.capture_audit.specs.Ends.{IsBroken, IsOfOutside, end_for}
+use Rattle.capture_audit.specs.Telling.{all_told}
+use Rattle.capture_audit.specs.declared.asks.Asks.{Asks}
+use Rattle.audit_report.specs.Tallies.{tally_of}
+use Rattle.audit_report.specs.Verdicts.{doubt}
 use Rattle.key_ring.specs.Rings.{Ring}
+use Rattle.replay.specs.Sinks.{Sunk}
 use Rattle.replay.specs.declared.cause.Cause.TheVariants as causes
 use Rattle.rollover_program.specs.declared.status.Status.TheVariants.{Usage, Halted}
-use Rattle.rollover_program.specs.commands.Audit.{EndsAsAudit, EndsJudged, status_of_audit}
+use Rattle.rollover_program.specs.commands.Audit.{EndsAsAudit, EndsAsView, EndsJudged, status_of_audit}
 
 -- nothing was done, for want of memory
-pub not_audited : (shows : Bool) (text : List ℕ) (left held : Option (List ℕ))
-    → EndsAsAudit shows text left held held (Halted causes.Memory)
-not_audited shows text left held = (Err ends.Memory, inl refl, refl)
+pub not_audited : (asks : Asks) (text : List ℕ) (left held : Option (List ℕ)) (failed : Type 0)
+    → EndsAsAudit asks text left failed held held (Halted causes.Memory)
+not_audited asks text left held failed = (Err ends.Memory, inl refl, refl)
+
+pub not_viewed : (asks : Asks) (text : List ℕ) (left : Option (List ℕ)) (failed : Type 0) (old : Sunk)
+    → EndsAsView asks text left failed old old (Halted causes.Memory)
+not_viewed asks text left failed old = (Err ends.Memory, tt, inl refl, (refl, refl))
 
 -- ---- a capture was judged
 
@@ -21,6 +30,7 @@ pub audit_no_usage : (r : Result (Unit {0}) AuditEnd) → status_of_audit r ≡ 
 audit_no_usage (Ok done) e = cc e
 audit_no_usage (Err (ends.KeyLine line why)) e = cc e
 audit_no_usage (Err ends.Refuted) e = cc e
+audit_no_usage (Err (ends.Doubted wrong undecided)) e = cc e
 audit_no_usage (Err (ends.Refused at why)) e = cc e
 audit_no_usage (Err ends.InputLimit) e = cc e
 audit_no_usage (Err ends.KeyLimit) e = cc e
@@ -33,6 +43,7 @@ pub audit_read : (r : Result (Unit {0}) AuditEnd) → status_of_audit r ≡ Halt
 audit_read (Ok done) e = absurd (cc e)
 audit_read (Err (ends.KeyLine line why)) e = absurd (cc e)
 audit_read (Err ends.Refuted) e = absurd (cc e)
+audit_read (Err (ends.Doubted wrong undecided)) e = absurd (cc e)
 audit_read (Err (ends.Refused at why)) e = absurd (cc e)
 audit_read (Err ends.InputLimit) e = absurd (cc e)
 audit_read (Err ends.KeyLimit) e = absurd (cc e)
@@ -45,6 +56,7 @@ pub audit_write : (r : Result (Unit {0}) AuditEnd) → status_of_audit r ≡ Hal
 audit_write (Ok done) e = absurd (cc e)
 audit_write (Err (ends.KeyLine line why)) e = absurd (cc e)
 audit_write (Err ends.Refuted) e = absurd (cc e)
+audit_write (Err (ends.Doubted wrong undecided)) e = absurd (cc e)
 audit_write (Err (ends.Refused at why)) e = absurd (cc e)
 audit_write (Err ends.InputLimit) e = absurd (cc e)
 audit_write (Err ends.KeyLimit) e = absurd (cc e)
@@ -54,54 +66,54 @@ audit_write (Err ends.Memory) e = absurd (cc e)
 
 -- ---- a whole capture was judged without a fault
 
-module _ (ring : Ring) (packets : List Unwrapped) where
+module _ (asks : Asks) (failed : Type 0) (ring : Ring) (packets : List Unwrapped) where
+  -- how an audit ends in which no pair breaks
+  abbrev unbroken : Result (Unit {0}) AuditEnd
+  unbroken = end_for (doubt asks.strict (tally_of (all_told ring packets)))
+
   -- what breaks was told
   abbrev pub IsTold : Result (Unit {0}) AuditEnd → Type 0
-  IsTold r = (i j : ℕ) → IsBroken ring packets i j → (r ≡ Err ends.Refuted) ⊎ IsOfOutside r
+  IsTold r = (i j : ℕ) → IsBroken ring packets i j → (r ≡ Err ends.Refuted) ⊎ IsOfOutside asks failed r
 
   -- and nothing else
   abbrev pub IsSound : Result (Unit {0}) AuditEnd → Type 0
-  IsSound r = ((i j : ℕ) → IsBroken ring packets i j → ⊥) → (r ≡ Ok tt) ⊎ IsOfOutside r
+  IsSound r = ((i j : ℕ) → IsBroken ring packets i j → ⊥) → (r ≡ unbroken) ⊎ IsOfOutside asks failed r
 
-  refuted_only : (r : Result (Unit {0}) AuditEnd) → (r ≡ Err ends.ReadFault → ⊥)
+  -- without a fault, and with memory
+  inside_only : (r end : Result (Unit {0}) AuditEnd) → (failed → ⊥) → (r ≡ Err ends.ReadFault → ⊥)
       → (r ≡ Err ends.WriteFault → ⊥) → (r ≡ Err ends.Memory → ⊥)
-      → (r ≡ Err ends.Refuted) ⊎ IsOfOutside r → r ≡ Err ends.Refuted
-  refuted_only r reads writes room (inl is) = is
-  refuted_only r reads writes room (inr (inl is)) = absurd (reads is)
-  refuted_only r reads writes room (inr (inr (inl is))) = absurd (writes is)
-  refuted_only r reads writes room (inr (inr (inr is))) = absurd (room is)
+      → (r ≡ end) ⊎ IsOfOutside asks failed r → r ≡ end
+  inside_only r end whole reads writes room (inl is) = is
+  inside_only r end whole reads writes room (inr (inl is)) = absurd (reads is)
+  inside_only r end whole reads writes room (inr (inr (inl is))) = absurd (writes is)
+  inside_only r end whole reads writes room (inr (inr (inr (inl is)))) = absurd (room is)
+  inside_only r end whole reads writes room (inr (inr (inr (inr is)))) = absurd (whole is.1)
 
-  done_only : (r : Result (Unit {0}) AuditEnd) → (r ≡ Err ends.ReadFault → ⊥)
-      → (r ≡ Err ends.WriteFault → ⊥) → (r ≡ Err ends.Memory → ⊥)
-      → (r ≡ Ok tt) ⊎ IsOfOutside r → r ≡ Ok tt
-  done_only r reads writes room (inl is) = is
-  done_only r reads writes room (inr (inl is)) = absurd (reads is)
-  done_only r reads writes room (inr (inr (inl is))) = absurd (writes is)
-  done_only r reads writes room (inr (inr (inr is))) = absurd (room is)
-
-  judged : (r : Result (Unit {0}) AuditEnd) → (r ≡ Err ends.ReadFault → ⊥)
+  judged : (r : Result (Unit {0}) AuditEnd) → (failed → ⊥) → (r ≡ Err ends.ReadFault → ⊥)
       → (r ≡ Err ends.WriteFault → ⊥) → (r ≡ Err ends.Memory → ⊥) → IsTold r → IsSound r
-      → EndsJudged ring packets (status_of_audit r)
-  judged r reads writes room told sound = (
-    λ i j broken. ap status_of_audit (refuted_only r reads writes room (told i j broken)),
-    λ none. ap status_of_audit (done_only r reads writes room (sound none)),
+      → EndsJudged asks ring packets (status_of_audit r)
+  judged r whole reads writes room told sound = (
+    λ i j broken. ap status_of_audit (inside_only r (Err ends.Refuted) whole reads writes room (told i j broken)),
+    λ none. ap status_of_audit (inside_only r unbroken whole reads writes room (sound none)),
   )
 
-  pub complete_audit : (r : Result (Unit {0}) AuditEnd) → (r ≡ Err ends.ReadFault → ⊥)
+  pub complete_audit : (r : Result (Unit {0}) AuditEnd) → (failed → ⊥) → (r ≡ Err ends.ReadFault → ⊥)
       → (r ≡ Err ends.WriteFault → ⊥) → IsTold r → IsSound r
-      → EndsJudged ring packets (status_of_audit r) ⊎ (status_of_audit r ≡ Halted causes.Memory)
-  complete_audit (Err ends.Memory) reads writes told sound = inr refl
-  complete_audit (Ok done) reads writes told sound =
-      inl (judged (Ok done) reads writes (λ e. cc e) told sound)
-  complete_audit (Err (ends.KeyLine line why)) reads writes told sound =
-      inl (judged (Err (ends.KeyLine line why)) reads writes (λ e. cc e) told sound)
-  complete_audit (Err ends.Refuted) reads writes told sound =
-      inl (judged (Err ends.Refuted) reads writes (λ e. cc e) told sound)
-  complete_audit (Err (ends.Refused at why)) reads writes told sound =
-      inl (judged (Err (ends.Refused at why)) reads writes (λ e. cc e) told sound)
-  complete_audit (Err ends.InputLimit) reads writes told sound =
-      inl (judged (Err ends.InputLimit) reads writes (λ e. cc e) told sound)
-  complete_audit (Err ends.KeyLimit) reads writes told sound =
-      inl (judged (Err ends.KeyLimit) reads writes (λ e. cc e) told sound)
-  complete_audit (Err ends.ReadFault) reads writes told sound = absurd (reads refl)
-  complete_audit (Err ends.WriteFault) reads writes told sound = absurd (writes refl)
+      → EndsJudged asks ring packets (status_of_audit r) ⊎ (status_of_audit r ≡ Halted causes.Memory)
+  complete_audit (Err ends.Memory) whole reads writes told sound = inr refl
+  complete_audit (Ok done) whole reads writes told sound =
+      inl (judged (Ok done) whole reads writes (λ e. cc e) told sound)
+  complete_audit (Err (ends.KeyLine line why)) whole reads writes told sound =
+      inl (judged (Err (ends.KeyLine line why)) whole reads writes (λ e. cc e) told sound)
+  complete_audit (Err ends.Refuted) whole reads writes told sound =
+      inl (judged (Err ends.Refuted) whole reads writes (λ e. cc e) told sound)
+  complete_audit (Err (ends.Doubted wrong undecided)) whole reads writes told sound =
+      inl (judged (Err (ends.Doubted wrong undecided)) whole reads writes (λ e. cc e) told sound)
+  complete_audit (Err (ends.Refused at why)) whole reads writes told sound =
+      inl (judged (Err (ends.Refused at why)) whole reads writes (λ e. cc e) told sound)
+  complete_audit (Err ends.InputLimit) whole reads writes told sound =
+      inl (judged (Err ends.InputLimit) whole reads writes (λ e. cc e) told sound)
+  complete_audit (Err ends.KeyLimit) whole reads writes told sound =
+      inl (judged (Err ends.KeyLimit) whole reads writes (λ e. cc e) told sound)
+  complete_audit (Err ends.ReadFault) whole reads writes told sound = absurd (reads refl)
+  complete_audit (Err ends.WriteFault) whole reads writes told sound = absurd (writes refl)

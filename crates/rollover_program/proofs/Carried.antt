@@ -25,7 +25,7 @@ use Rattle.replay.specs.Runs.{most_input, Performing, Shows, within, EndsRun}
 use Rattle.replay.specs.OneGroup.{one_group, shown_by, whole, IsSettled}
 use Rattle.replay.proofs.Public.{runs-weaker, broke-one}
 use Rattle.rollover_program.specs.declared.status.Status.{Status}
-use Rattle.rollover_program.specs.declared.status.Status.TheVariants.{Done, Usage, Halted, CheckInput, Refuted, Transcript, CaptureInput, Unrecorded, Capture, KeyLine, Keys, CaptureRefuted, Packets}
+use Rattle.rollover_program.specs.declared.status.Status.TheVariants.{Done, Usage, Halted, CheckInput, Refuted, Transcript, CaptureInput, Unrecorded, Capture, KeyLine, Keys, CaptureRefuted, CaptureDoubted, Packets}
 use Rattle.rollover_program.specs.declared.words.Order.{Order}
 use Rattle.rollover_program.specs.declared.words.Order.TheVariants.{Make, Try}
 use Rattle.rollover_program.specs.Words.{Orders}
@@ -173,6 +173,7 @@ module _ {Act World : Type 0} (p : Performing Act World) (IsSuch : World → Typ
   without_fault (KeyLine line why) h reads writes = absurd h
   without_fault Keys h reads writes = absurd h
   without_fault CaptureRefuted h reads writes = absurd h
+  without_fault (CaptureDoubted wrong undecided) h reads writes = absurd h
   without_fault (Packets at why) h reads writes = absurd h
   without_fault (Halted (causes.Trace line kind)) h reads writes =
       let e = h.ends in inl (is.by_stop e.0 (halts.Trace line kind) e.1)
@@ -246,6 +247,7 @@ complete_make n old new (Capture at why) ends writes = absurd ends
 complete_make n old new (KeyLine line why) ends writes = absurd ends
 complete_make n old new Keys ends writes = absurd ends
 complete_make n old new CaptureRefuted ends writes = absurd ends
+complete_make n old new (CaptureDoubted wrong undecided) ends writes = absurd ends
 complete_make n old new (Packets at why) ends writes = absurd ends
 complete_make n old new (Halted causes.WriteFault) ends writes = absurd (writes ends.0)
 complete_make n old new (Halted causes.Memory) ends writes = inr refl

@@ -1,5 +1,5 @@
 -- What was read decides how the program ends, where nothing fails outside.
-use Rattle.std.proofs.Common.{◌≡◌, ℕ, List, Some, Result, Ok, Err, ap, inl, inr, refl, subst, sym}
+use Rattle.std.proofs.Common.{◌≡◌, ℕ, Bool, true, false, List, Some, Result, Ok, Err, ap, inl, inr, refl, subst, sym}
 use Rattle.std.specs.Prelude.{◌⊎◌}
 use Rattle.text_lines.specs.Reading.{Sourced}
 use Rattle.transcript_check.specs.declared.verdict.Verdict.{Verdict}
@@ -11,14 +11,17 @@ use Rattle.transcript_capture.specs.declared.end.End.{End as CaptureEnd}
 use Rattle.transcript_capture.specs.declared.end.End.TheVariants as captures
 use Rattle.packet_lines.specs.declared.end.End.{End as TellingEnd}
 use Rattle.packet_lines.specs.declared.end.End.TheVariants as tellings
+use Rattle.audit_facts.specs.declared.view.AuditView.{AuditView}
+use Rattle.capture_audit.specs.declared.asks.Asks.{Asks}
 use Rattle.capture_audit.specs.declared.end.AuditEnd.{AuditEnd}
 use Rattle.capture_audit.specs.declared.end.AuditEnd.TheVariants as ends
+use Rattle.capture_audit.specs.Views.{end_seen}
 use Rattle.replay.specs.declared.cause.Cause.{Cause}
 use Rattle.replay.specs.declared.cause.Cause.TheVariants as causes
 use Rattle.replay.specs.Sinks.{Sunk}
 use Rattle.rollover_program.specs.declared.status.Status.{Status}
 use Rattle.rollover_program.specs.declared.status.Status.TheVariants as statuses
-use Rattle.rollover_program.specs.declared.status.Status.TheVariants.{Done, Usage, Halted, CheckInput, Refuted, Transcript, CaptureInput, Unrecorded, KeyLine, Keys, CaptureRefuted, Packets}
+use Rattle.rollover_program.specs.declared.status.Status.TheVariants.{Done, Usage, Halted, CheckInput, Refuted, Transcript, CaptureInput, Unrecorded, KeyLine, Keys, CaptureRefuted, CaptureDoubted, Packets}
 use Rattle.rollover_program.specs.declared.words.Order.{Order}
 use Rattle.rollover_program.specs.declared.words.Order.TheVariants.{Run, Make, Try, Check, Capture, Dissect, Roll, Draw, Audit}
 use Rattle.rollover_program.specs.Decided.{IsDecided, IsToRead}
@@ -26,7 +29,7 @@ use Rattle.rollover_program.specs.commands.Check.{EndsAsCheck, Tells, status_of}
 use Rattle.rollover_program.specs.commands.Capture.{status_of_capture}
 use Rattle.rollover_program.specs.commands.Dissect.{status_of_telling}
 use Rattle.rollover_program.specs.commands.Draw.{EndsAsDraw, Shows, status_of_undrawn}
-use Rattle.rollover_program.specs.commands.Audit.{status_of_audit}
+use Rattle.rollover_program.specs.commands.Audit.{IsCompleteAudit, ShowsSeen, status_behind, status_of_audit}
 use Rattle.rollover_program.specs.inside.Answering.{CarriesOut}
 use Rattle.rollover_program.proofs.Judged.{other-status}
 
@@ -60,6 +63,7 @@ decided (statuses.Capture at why) outside reads writes = inl tt
 decided (KeyLine line why) outside reads writes = inl tt
 decided Keys outside reads writes = inl tt
 decided CaptureRefuted outside reads writes = inl tt
+decided (CaptureDoubted wrong undecided) outside reads writes = inl tt
 decided (Packets at why) outside reads writes = inl tt
 
 -- ---- by what each command answers
@@ -90,6 +94,7 @@ by_verdict verdict old new (statuses.Capture at why) tells = tt
 by_verdict verdict old new (KeyLine line why) tells = tt
 by_verdict verdict old new Keys tells = tt
 by_verdict verdict old new CaptureRefuted tells = tt
+by_verdict verdict old new (CaptureDoubted wrong undecided) tells = tt
 by_verdict verdict old new (Packets at why) tells = tt
 
 by_picture : (picture : List ℕ) (old new : Sunk) (status : Status) → Shows picture old new status
@@ -113,6 +118,7 @@ by_picture picture old new (statuses.Capture at why) shows = tt
 by_picture picture old new (KeyLine line why) shows = tt
 by_picture picture old new Keys shows = tt
 by_picture picture old new CaptureRefuted shows = tt
+by_picture picture old new (CaptureDoubted wrong undecided) shows = tt
 by_picture picture old new (Packets at why) shows = tt
 
 by_unjudged : (why : Unjudged) → IsHaltedOutside (status_of why)
@@ -147,12 +153,28 @@ by_audit : (r : Result (Unit {0}) AuditEnd) → IsHaltedOutside (status_of_audit
 by_audit (Ok done) = tt
 by_audit (Err (ends.KeyLine line why)) = tt
 by_audit (Err ends.Refuted) = tt
+by_audit (Err (ends.Doubted wrong undecided)) = tt
 by_audit (Err (ends.Refused at why)) = tt
 by_audit (Err ends.InputLimit) = tt
 by_audit (Err ends.KeyLimit) = tt
 by_audit (Err ends.ReadFault) = inl refl
 by_audit (Err ends.WriteFault) = inr (inl refl)
 by_audit (Err ends.Memory) = inr (inr refl)
+
+-- how a picture of it was shown
+by_behind : (picture : List ℕ) (old new : Sunk) (shown : Status) (end : Result (Unit {0}) AuditEnd)
+    → Shows picture old new shown → IsHaltedOutside (status_behind shown end)
+by_behind picture old new Done end shows = by_audit end
+by_behind picture old new (Halted causes.WriteFault) end shows = inr (inl refl)
+by_behind picture old new (Halted causes.Memory) end shows = inr (inr refl)
+by_behind picture old new _ end shows = absurd (cc shows.0)
+
+by_view : (asks : Asks) (seen : Result AuditView AuditEnd) (old new : Sunk) (status : Status)
+    → ShowsSeen asks seen old new status → IsHaltedOutside status
+by_view asks (Err end) old new status it = subst IsHaltedOutside (sym it.0) (by_audit (Err end))
+by_view asks (Ok view) old new status (inl it) =
+    subst IsHaltedOutside (sym it.3) (by_behind it.0 old new it.1 (end_seen asks.strict (Ok view)) it.2)
+by_view asks (Ok view) old new status (inr it) = subst IsHaltedOutside (sym it.0) (inr (inr refl))
 
 -- ---- by the order
 
@@ -174,9 +196,18 @@ halted_outside Draw is text left now old new status told out = go (out text told
     go : EndsAsDraw text left now old new status → IsHaltedOutside status
     go (inl e) = by_picture e.0 old new status e.2
     go (inr e) = subst IsHaltedOutside (sym e.2) (by_undrawn e.0)
-halted_outside (Audit shows) is text left now old new status told out =
+halted_outside (Audit asks false) is text left now old new status told out =
     let e = (out text told).0 in subst IsHaltedOutside (sym e.2) (by_audit e.0)
+halted_outside (Audit asks true) is text left now old new status told out =
+    let e = (out text told).0 in by_view asks e.0 old new status e.3
 halted_outside (Run summary) is text left now old new status told out = absurd is
 halted_outside (Make n) is text left now old new status told out = absurd is
 halted_outside (Try n) is text left now old new status told out = absurd is
 halted_outside Roll is text left now old new status told out = absurd is
+
+-- a capture that is judged, for the report or for the picture, is judged whole
+pub judged_whole : (asks : Asks) (draws : Bool) (text : List ℕ) (left now : Sourced) (old new : Sunk) (status : Status)
+    → left.left ≡ Some text → CarriesOut (Audit asks draws) left now old new status
+    → IsCompleteAudit asks text left.faults now.faults old.faults new.faults status
+judged_whole asks false text left now old new status told out = (out text told).1
+judged_whole asks true text left now old new status told out = (out text told).1

@@ -10,5 +10,6 @@ mod Judged
 mod Captured
 mod Drawn
 mod Audited
+mod Viewed
 mod Decided
 mod Refused

@@ -6,6 +6,7 @@ use Rattle.clap.specs.declared.error.ErrorKind.TheVariants.{MissingRequiredArgum
 use Rattle.clap.specs.declared.error.ErrorKind.TheVariants.{MissingSubcommand, UnknownArgument}
 use Rattle.clap.specs.declared.error.ErrorKind.TheVariants.{ValueValidation}
 use Rattle.clap.proofs.OnLiterals.{clap_on_literals}
+use Rattle.capture_audit.specs.declared.asks.Asks.{Asks}
 use Rattle.rollover_program.specs.declared.words.Order.TheVariants.{Audit}
 use Rattle.rollover_program.specs.Words.{command, key_file_in, order_of}
 
@@ -35,17 +36,30 @@ refused : (fault_of command [] ≡ MissingSubcommand ∷ [])
 unfolding clap_on_literals
 refused = (refl, refl, refl, refl, refl, refl, refl, refl, refl, refl, refl, refl, refl)
 
--- a file of keys is named before or behind the flag, and the words order what they do without it
+-- what is asked for where only a line of each packet is, or only that no frame be wrong or undecided
+abbrev shown : Asks
+shown = record { shows = true; strict = false }
+
+abbrev strict : Asks
+strict = record { shows = false; strict = true }
+
+-- a file of keys is named before or behind the flags, which come in any order, and the words order what they
+-- do without it
 named_keys : (fault_of command (codes "audit" ∷ codes "x" ∷ []) ≡ [])
     × (fault_of command (codes "audit" ∷ codes "--packets" ∷ codes "x" ∷ []) ≡ [])
-    × (fault_of command (codes "audit" ∷ codes "x" ∷ codes "--packets" ∷ []) ≡ [])
-    × (order_of (codes "audit" ∷ codes "x" ∷ []) ≡ Some (Audit false))
-    × (order_of (codes "audit" ∷ codes "--packets" ∷ codes "x" ∷ []) ≡ Some (Audit true))
-    × (order_of (codes "audit" ∷ codes "x" ∷ codes "--packets" ∷ []) ≡ Some (Audit true))
+    × (fault_of command (codes "audit" ∷ codes "--strict" ∷ codes "x" ∷ codes "--packets" ∷ []) ≡ [])
+    × (order_of (codes "audit" ∷ codes "x" ∷ []) ≡ Some (Audit (record { shows = false; strict = false }) false))
+    × (order_of (codes "audit" ∷ codes "--packets" ∷ codes "x" ∷ []) ≡ Some (Audit shown false))
+    × (order_of (codes "audit" ∷ codes "x" ∷ codes "--packets" ∷ []) ≡ Some (Audit shown false))
+    × (order_of (codes "audit" ∷ codes "x" ∷ codes "--strict" ∷ []) ≡ Some (Audit strict false))
+    × (order_of (codes "audit" ∷ codes "--strict" ∷ codes "x" ∷ codes "--packets" ∷ [])
+    ≡ Some (Audit (record { shows = true; strict = true }) false))
+    × (order_of (codes "audit" ∷ codes "--strict" ∷ codes "x" ∷ codes "--draw" ∷ []) ≡ Some (Audit strict true))
     × (key_file_in (codes "audit" ∷ []) ≡ None)
-    × (key_file_in (codes "audit" ∷ codes "--packets" ∷ []) ≡ None)
+    × (key_file_in (codes "audit" ∷ codes "--draw" ∷ codes "x" ∷ []) ≡ Some (codes "x"))
+    × (key_file_in (codes "audit" ∷ codes "--packets" ∷ codes "--strict" ∷ []) ≡ None)
     × (key_file_in (codes "audit" ∷ codes "x" ∷ codes "--packets" ∷ []) ≡ Some (codes "x"))
-    × (key_file_in (codes "audit" ∷ codes "--packets" ∷ codes "x" ∷ []) ≡ Some (codes "x"))
+    × (key_file_in (codes "audit" ∷ codes "--strict" ∷ codes "--packets" ∷ codes "x" ∷ []) ≡ Some (codes "x"))
     × (key_file_in (codes "dissect" ∷ codes "x" ∷ []) ≡ None)
 unfolding clap_on_literals
-named_keys = (refl, refl, refl, refl, refl, refl, refl, refl, refl, refl, refl)
+named_keys = (refl, refl, refl, refl, refl, refl, refl, refl, refl, refl, refl, refl, refl, refl, refl)

@@ -27,18 +27,19 @@ use Rattle.clap.specs.declared.builder.ValueParser.TheVariants as parsers
 use Rattle.clap.proofs.KindLemmas.{value_kinds-ok}
 use Rattle.clap.proofs.OnLiterals.{clap_on_literals}
 use Rattle.clap.proofs.ValueTestLemmas.{Accepts-accepts}
+use Rattle.capture_audit.specs.declared.asks.Asks.{Asks}
 use Rattle.rollover_program.specs.declared.words.Order.{Order}
 use Rattle.rollover_program.specs.declared.words.Order.TheVariants.{Run, Make, Try, Check, Capture, Dissect, Roll, Draw, Audit}
 use Rattle.rollover_program.specs.Words.{IsNumbered, IsUsage, Orders, bare, command, number_of}
 use Rattle.rollover_program.specs.Words.{order_by, order_of}
-use Rattle.rollover_program.specs.Words.{audit, packets_in, plain, subcommand, summary, summary_in, words_of}
+use Rattle.rollover_program.specs.Words.{asks_in, audit, flag, is_given, plain, subcommand, words_of}
 use Rattle.rollover_program.proofs.Taken.{given, gives, leaf, no_fault, taken}
 
 -- ---- without a fault
 
 abbrev run_leaf : Shape
 run_leaf = built_leaf (inherited (bare (new_shape (codes "rollover")))
-    (subcommand (codes "run") summary))
+    (subcommand (codes "run") (flag (codes "summary"))))
 
 abbrev check_leaf : Shape
 check_leaf = built_leaf (inherited (bare (new_shape (codes "rollover"))) (plain (codes "check")))
@@ -81,7 +82,7 @@ orders : (run make try_ check capture dissect roll draw audit_ : Bool) (words : 
     × (ordered_by (rows_in (named run make try_ check capture dissect roll draw audit_) words) ≡ Some o)
     × IsNumbered o
 orders true make try_ check capture dissect roll draw audit_ words e h =
-    (Run (summary_in (rows_after run_leaf.rules [] words)), refl, tt)
+    (Run (is_given (codes "summary") (rows_after run_leaf.rules [] words)), refl, tt)
 orders false true try_ check capture dissect roll draw audit_ words e h =
     let n = taken (codes "make") words e in
     (Make n.0, ap (option_map (λ k. Make k)) n.1, (n.2, n.3))
@@ -93,8 +94,11 @@ orders false false false false true dissect roll draw audit_ words e h = (Captur
 orders false false false false false true roll draw audit_ words e h = (Dissect, refl, tt)
 orders false false false false false false true draw audit_ words e h = (Roll, refl, tt)
 orders false false false false false false false true audit_ words e h = (Draw, refl, tt)
-orders false false false false false false false false true words e h =
-    (Audit (packets_in (rows_after audit_leaf.rules [] words)), refl, tt)
+orders false false false false false false false false true words e h = (
+  Audit (asks_in (rows_after audit_leaf.rules [] words)) (is_given (codes "draw") (rows_after audit_leaf.rules [] words)),
+  refl,
+  tt,
+)
 orders false false false false false false false false false words e h = absurd cc
 
 by_stop : (stop : Option (Text × List Text)) → entered_fault (built command) stop ≡ []
@@ -229,11 +233,20 @@ draw_plain : (fault_of command (words_of Draw) ≡ []) × (order_of (words_of Dr
 unfolding clap_on_literals
 draw_plain = (refl, refl)
 
-audit_plain : (s : Bool) → (fault_of command (words_of (Audit s)) ≡ [])
-    × (order_of (words_of (Audit s)) ≡ Some (Audit s))
+abbrev asked : Bool → Bool → Asks
+asked shows strict = record { shows = shows; strict = strict }
+
+audit_plain : (shows strict draws : Bool) → (fault_of command (words_of (Audit (asked shows strict) draws)) ≡ [])
+    × (order_of (words_of (Audit (asked shows strict) draws)) ≡ Some (Audit (asked shows strict) draws))
 unfolding clap_on_literals
-audit_plain true = (refl, refl)
-audit_plain false = (refl, refl)
+audit_plain true true true = (refl, refl)
+audit_plain true true false = (refl, refl)
+audit_plain true false true = (refl, refl)
+audit_plain true false false = (refl, refl)
+audit_plain false true true = (refl, refl)
+audit_plain false true false = (refl, refl)
+audit_plain false false true = (refl, refl)
+audit_plain false false false = (refl, refl)
 
 -- the plain words for an order have no fault, and order it
 pub plain_words : (o : Order) → IsNumbered o → (fault_of command (words_of o) ≡ [])
@@ -246,7 +259,7 @@ plain_words Capture h = capture_plain
 plain_words Dissect h = dissect_plain
 plain_words Roll h = roll_plain
 plain_words Draw h = draw_plain
-plain_words (Audit s) h = audit_plain s
+plain_words (Audit asks draws) h = audit_plain asks.shows asks.strict draws
 
 -- ---- an order that was read
 

@@ -1,5 +1,5 @@
 -- How the program ends where the words order nothing.
-use Rattle.std.proofs.Common.{◌≡◌, ℕ, Bool, List, Option, inl, inr, refl}
+use Rattle.std.proofs.Common.{◌≡◌, ℕ, Bool, true, false, List, Option, inl, inr, refl}
 use Rattle.std.specs.Prelude.{◌⊎◌}
 use Rattle.clap.specs.Words.{Text}
 use Rattle.replay.specs.declared.cause.Cause.{Cause}
@@ -16,6 +16,7 @@ use Rattle.trace_maker.specs.Made.{made}
 use Rattle.rollover_program.specs.declared.status.Status.{Status}
 use Rattle.rollover_program.specs.declared.status.Status.TheVariants.{Usage, Halted}
 use Rattle.rollover_program.specs.declared.words.Order.{Order}
+use Rattle.capture_audit.specs.declared.asks.Asks.{Asks}
 use Rattle.rollover_program.specs.declared.words.Order.TheVariants.{Run, Make, Try, Check, Capture, Dissect, Roll, Draw, Audit}
 use Rattle.rollover_program.specs.declared.words.Refusal.{Refusal}
 use Rattle.rollover_program.specs.declared.words.Refusal.TheVariants as refusals
@@ -28,7 +29,7 @@ use Rattle.rollover_program.specs.commands.Capture.{EndsAsCapture}
 use Rattle.rollover_program.specs.commands.Draw.{EndsAsDraw}
 use Rattle.rollover_program.specs.commands.Dissect.{EndsAsDissect}
 use Rattle.rollover_program.specs.commands.Roll.{EndsAsRoll}
-use Rattle.rollover_program.specs.commands.Audit.{EndsAsAudit}
+use Rattle.rollover_program.specs.commands.Audit.{EndsAsAudit, EndsAsView}
 use Rattle.rollover_program.specs.inside.Answering.{status_of_refusal}
 use Rattle.rollover_program.proofs.Ordered.{plain_words}
 use Rattle.rollover_program.proofs.Carried.{Promise, not_run, not_tried}
@@ -36,7 +37,7 @@ use Rattle.rollover_program.proofs.Rolled.{TwinPromise, not_rolled}
 use Rattle.rollover_program.proofs.Judged.{not_checked}
 use Rattle.rollover_program.proofs.Captured.{not_captured, not_dissected}
 use Rattle.rollover_program.proofs.Drawn.{not_drawn}
-use Rattle.rollover_program.proofs.Audited.{not_audited}
+use Rattle.rollover_program.proofs.Audited.{not_audited, not_viewed}
 
 -- the plain words for an order
 pub plain_orders : (words : List Text) (order : Order) → IsNumbered order → words ≡ words_of order
@@ -106,11 +107,17 @@ module _ (words : List Text) (f : Refusal) (usage : f ≡ refusals.Usage → IsU
   drew_nothing s text left old e asked =
       rw (memory s Draw e asked) (not_drawn text left old)
 
-  pub audited_nothing : (s : Status) (shows : Bool) (text : List ℕ) (left held : Option (List ℕ))
-      → s ≡ status_of_refusal f → Orders words (Audit shows)
-      → EndsAsAudit shows text left held held s
-  audited_nothing s shows text left held e asked =
-      rw (memory s (Audit shows) e asked) (not_audited shows text left held)
+  pub audited_nothing : (s : Status) (asks : Asks) (text : List ℕ) (left held : Option (List ℕ))
+      (failed : Type 0) → s ≡ status_of_refusal f → Orders words (Audit asks false)
+      → EndsAsAudit asks text left failed held held s
+  audited_nothing s asks text left held failed e asked =
+      rw (memory s (Audit asks false) e asked) (not_audited asks text left held failed)
+
+  pub viewed_nothing : (s : Status) (asks : Asks) (text : List ℕ) (left : Option (List ℕ)) (failed : Type 0)
+      (old : Sunk) → s ≡ status_of_refusal f → Orders words (Audit asks true)
+      → EndsAsView asks text left failed old old s
+  viewed_nothing s asks text left failed old e asked =
+      rw (memory s (Audit asks true) e asked) (not_viewed asks text left failed old)
 
   pub tried_nothing : Promise → ((chances : List Chance) → IsTidy (beginning chances)) → (s : Status)
       (n : ℕ) (old : Sunk) → s ≡ status_of_refusal f → Orders words (Try n) → EndsTried n old old s

@@ -11,7 +11,7 @@ IsToRead Check = ⊤
 IsToRead Capture = ⊤
 IsToRead Dissect = ⊤
 IsToRead Draw = ⊤
-IsToRead (Audit shows) = ⊤
+IsToRead (Audit asks draws) = ⊤
 IsToRead order = ⊥
 
 -- all was done, or what was read is refuted, refused or past a limit

@@ -27,7 +27,7 @@ pub enum Status {
     #[error("done")]
     Done,
     /// The words are no command.
-    #[error("usage: rollover run [--summary] | make N | try N | check | capture | dissect | roll | draw | audit [--packets] [KEYS]")]
+    #[error("usage: rollover run [--summary] | make N | try N | check | capture | dissect | roll | draw | audit [--packets] [--strict] [--draw] [KEYS]")]
     Usage,
     /// The trace was not performed to its end.
     #[error("{0}")]
@@ -59,6 +59,10 @@ pub enum Status {
     /// A capture was judged, and a pair of its packets breaks what is judged.
     #[error("capture refuted")]
     CaptureRefuted,
+    /// A capture was judged, no pair of its packets breaks what is judged, but of its protected frames so
+    /// many are wrong and so many undecided, and none was to be.
+    #[error("capture doubted: {wrong} wrong, {undecided} undecided")]
+    CaptureDoubted { wrong: u32, undecided: u32 },
     /// The capture of `audit` is refused: its head, or the record or block that begins at this octet.
     #[error("capture octet {at}: {why:?}")]
     Packets { at: u32, why: PacketFault },
@@ -92,6 +96,8 @@ impl Status {
             → self ≡ Status.KeyLine line why → result ≡ 2 }
         ensures keys { self ≡ Status.Keys → result ≡ 6 }
         ensures capture_refuted { self ≡ Status.CaptureRefuted → result ≡ 9 }
+        ensures capture_doubted { (wrong undecided : ℕ)
+            → self ≡ Status.CaptureDoubted wrong undecided → result ≡ 9 }
         ensures packets { (at : ℕ) (why : PacketFault)
             → self ≡ Status.Packets at why → result ≡ 11 }
     {
@@ -113,6 +119,7 @@ impl Status {
             Status::KeyLine { .. } => 2,
             Status::Keys => 6,
             Status::CaptureRefuted => 9,
+            Status::CaptureDoubted { .. } => 9,
         }
     }
 }

@@ -1,12 +1,13 @@
 //! The top call: words are read, and what they order is carried out.
 
-ghost use Rattle.std.specs.Prelude.{◌≡◌, ◌≢◌, ◌⊎◌, List, [], ℕ, Bool, Some, map, string_bytes};
+ghost use Rattle.std.specs.Prelude.{◌≡◌, ◌≢◌, ◌⊎◌, List, [], ℕ, Bool, true, false, Some, map, string_bytes};
 ghost use Rattle.lan_base.specs.Faults.{Rose};
 ghost use Rattle.text_lines.specs.Reading.{sourced};
 ghost use Rattle.trace_maker.specs.Made.{made};
 ghost use Rattle.replay.specs.declared.cause.Cause.TheVariants as causes;
 ghost use Rattle.replay.specs.Sinks.{sunk};
 ghost use Rattle.audit_report.specs.declared.ending.Ending.TheVariants.{Whole};
+ghost use Rattle.capture_audit.specs.declared.asks.Asks.{Asks};
 ghost use Rattle.capture_audit.specs.Before.{Unwrapped};
 ghost use Rattle.capture_audit.specs.Reading.{IsRead};
 ghost use Rattle.key_ring.specs.Rings.{Ring};
@@ -21,11 +22,11 @@ ghost use Rattle.rollover_program.specs.commands.Capture.{EndsAsCapture};
 ghost use Rattle.rollover_program.specs.commands.Dissect.{EndsAsDissect};
 ghost use Rattle.rollover_program.specs.commands.Roll.{EndsAsRoll, EndsRollWithin};
 ghost use Rattle.rollover_program.specs.commands.Draw.{EndsAsDraw};
-ghost use Rattle.rollover_program.specs.commands.Audit.{EndsAsAudit, EndsJudged};
+ghost use Rattle.rollover_program.specs.commands.Audit.{EndsAsAudit, EndsAsView, EndsJudged};
 ghost use Rattle.rollover_program.specs.Decided.{IsDecided, IsToRead};
 ghost use Rattle.rollover_program.specs.inside.Answering.{CarriesOut, status_of_refusal};
 
-use crate::commands::audit::audit;
+use crate::commands::audit::{audit, draw_audit};
 use crate::commands::capture::capture;
 use crate::commands::check::check;
 use crate::commands::dissect::dissect;
@@ -59,8 +60,8 @@ use std::thread::Threads;
 /// of two groups, and performs it as `run` does one of a single group. It writes the transcript of
 /// both, each line behind the number of its group. `draw` reads a transcript as `check` does, and
 /// writes the picture of its keys at the end. `audit` reads a key text and the capture behind it, and
-/// writes the report; with `--packets` each packet has a line. Clauses that name a text or a file speak of a source
-/// that tells its octets.
+/// writes the report; with `--packets` each packet has a line, and with `--strict` no protected frame is
+/// to be wrong or undecided. With `--draw` it writes the picture in place of the report. Clauses that name a text or a file speak of a source that tells its octets.
 pub fn rollover<T: Threads + Sync, S: Source, K: Sink>(
     rt: &T,
     alloc: Global,
@@ -141,12 +142,21 @@ pub fn rollover<T: Threads + Sync, S: Source, K: Sink>(
         (sunk (K.held sink.old) (K.faults sink.old))
         (sunk (K.held sink.new) (K.faults sink.new)) result }
 
-    // `audit`, with or without `--packets`: what was read of keys and packets, what breaks of them, and
-    // what was written of the report.
-    ensures audit { (text : List ℕ) (shows : Bool)
-        → Orders (map string_bytes words.now) (orders.Audit shows)
-        → S.left source.old ≡ Some text → EndsAsAudit shows text (S.left source.new)
-        (K.held sink.old) (K.held sink.new) result }
+    // `audit`, with or without `--packets` and `--strict`: what was read of keys and packets, what breaks
+    // of them or is doubted, and what was written of the report.
+    ensures audit { (text : List ℕ) (asks : Asks)
+        → Orders (map string_bytes words.now) (orders.Audit asks false)
+        → S.left source.old ≡ Some text → EndsAsAudit asks text (S.left source.new)
+        (Rose (S.faults source.old) (S.faults source.new)) (K.held sink.old) (K.held sink.new) result }
+
+    // `audit --draw`: what was seen of keys and packets, how their audit ends, and what was written of the
+    // picture.
+    ensures view { (text : List ℕ) (asks : Asks)
+        → Orders (map string_bytes words.now) (orders.Audit asks true)
+        → S.left source.old ≡ Some text → EndsAsView asks text (S.left source.new)
+        (Rose (S.faults source.old) (S.faults source.new))
+        (sunk (K.held sink.old) (K.faults sink.old))
+        (sunk (K.held sink.new) (K.faults sink.new)) result }
 
     // Faults are those of the outside, whatever it tells.
     ensures read_cause { result ≡ Status.Halted causes.ReadFault
@@ -186,13 +196,14 @@ pub fn rollover<T: Threads + Sync, S: Source, K: Sink>(
         → IsDecided result ⊎ (result ≡ Status.Halted causes.Memory) }
 
     // Without one a capture that can be read to its end is refuted exactly where a pair of its packets
-    // breaks what is judged, and else all is done, unless memory runs out.
-    ensures complete_audit { (text : List ℕ) (shows : Bool) (ring : Ring) (packets : List Unwrapped)
-        → Orders (map string_bytes words.now) (orders.Audit shows)
+    // breaks what is judged, and else it is doubted where `--strict` says so of its frames, or all is
+    // done, unless memory runs out.
+    ensures complete_audit { (text : List ℕ) (asks : Asks) (draws : Bool) (ring : Ring) (packets : List Unwrapped)
+        → Orders (map string_bytes words.now) (orders.Audit asks draws)
         → S.left source.old ≡ Some text → IsRead text (Some []) ring packets Whole
         → (Rose (S.faults source.old) (S.faults source.new) → ⊥)
         → (Rose (K.faults sink.old) (K.faults sink.new) → ⊥)
-        → EndsJudged ring packets result ⊎ (result ≡ Status.Halted causes.Memory) }
+        → EndsJudged asks ring packets result ⊎ (result ≡ Status.Halted causes.Memory) }
 {
     law_tidy_runs_are_promised();
     law_lines_leave_a_tidy_world();
@@ -237,7 +248,8 @@ fn carry_out<T: Threads + Sync, S: Source, K: Sink>(
         Order::Dissect => dissect(alloc, source, sink),
         Order::Roll => roll(alloc, source, sink),
         Order::Draw => draw(alloc, source, sink),
-        Order::Audit { shows } => audit(rt, alloc, shows, source, sink),
+        Order::Audit { asks, draws: false } => audit(rt, alloc, asks, source, sink),
+        Order::Audit { asks, draws: true } => draw_audit(rt, alloc, asks, source, sink),
     }
 }
 

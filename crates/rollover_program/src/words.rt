@@ -4,10 +4,11 @@ ghost use Rattle.std.specs.Prelude.{◌≡◌, ◌≢◌, ◌⊎◌, Err, IfOk, 
 ghost use Rattle.std.specs.Prelude.{string_bytes};
 ghost use Rattle.clap.specs.Words.{app_of, found_of, kind_of, rows_of, rule_of, subcommand_rows_of};
 ghost use Rattle.clap.specs.declared.error.kind.ErrorKind.TheVariants as kinds;
-ghost use Rattle.rollover_program.specs.Words.{IsUsage, Orders, command, number, order_by};
+ghost use Rattle.rollover_program.specs.Words.{IsUsage, Orders, asks_in, command, flag, is_given, number, order_by};
 ghost use Rattle.std.specs.Prelude.{option_map};
-ghost use Rattle.rollover_program.specs.Words.{key_file_in, order_of, packets_in, summary_in};
+ghost use Rattle.rollover_program.specs.Words.{key_file_in, order_of};
 
+use capture_audit::Asks;
 use clap::error::ErrorKind;
 use clap::{Arg, ArgAction, ArgMatches, Command, Error};
 use std::alloc::{AllocError, Global};
@@ -31,8 +32,8 @@ pub enum Order {
     Roll,
     /// The picture of a transcript's keys is written.
     Draw,
-    /// A capture is judged with its keys, with a line of each packet or without.
-    Audit { shows: bool },
+    /// A capture is judged with its keys, as is asked for, for the report or for the picture.
+    Audit { asks: Asks, draws: bool },
 }
 
 /// The greatest number of which a trace is made.
@@ -71,18 +72,14 @@ pub fn read_order(alloc: Global, words: &[String]) -> Result<Order, Refusal>
 }
 
 /// The one command: `run [--summary]`, `make N`, `try N`, `check`, `capture`, `dissect`, `roll`,
-/// `draw` or `audit [--packets] [KEYS]`.
+/// `draw` or `audit [--packets] [--strict] [--draw] [KEYS]`.
 fn command<'a>(alloc: Global) -> Result<Command<'a>, AllocError>
     ensures { IfOk result (λ r. app_of r ≡ command) }
 {
-    let summary = Arg::new(alloc, "summary")
-        .long("summary")
-        .action(ArgAction::SetTrue);
-    let packets = Arg::new(alloc, "packets")
-        .long("packets")
-        .action(ArgAction::SetTrue);
     let audit = Command::new(alloc, "audit")
-        .arg(packets)?
+        .arg(flag(alloc, "packets"))?
+        .arg(flag(alloc, "strict"))?
+        .arg(flag(alloc, "draw"))?
         .arg(Arg::new(alloc, "KEYS"))?;
     let rollover = Command::new(alloc, "rollover")
         .no_binary_name(true)
@@ -91,7 +88,7 @@ fn command<'a>(alloc: Global) -> Result<Command<'a>, AllocError>
         .disable_version_flag(true)
         .subcommand_required(true);
     rollover
-        .subcommand(Command::new(alloc, "run").arg(summary)?)?
+        .subcommand(Command::new(alloc, "run").arg(flag(alloc, "summary"))?)?
         .subcommand(Command::new(alloc, "make").arg(number(alloc))?)?
         .subcommand(Command::new(alloc, "try").arg(number(alloc))?)?
         .subcommand(Command::new(alloc, "check"))?
@@ -100,6 +97,14 @@ fn command<'a>(alloc: Global) -> Result<Command<'a>, AllocError>
         .subcommand(Command::new(alloc, "roll"))?
         .subcommand(Command::new(alloc, "draw"))?
         .subcommand(audit)
+}
+
+/// A flag, of this name behind two hyphens.
+fn flag<'a>(alloc: Global, name: &'a str) -> Arg<'a>
+    ensures rule { rule_of result ≡ flag name.now }
+    ensures local { result.global ≡ false }
+{
+    Arg::new(alloc, name).long(name).action(ArgAction::SetTrue)
 }
 
 /// A number from 1 to the greatest.
@@ -120,7 +125,7 @@ fn order_of(matches: &ArgMatches<'_>) -> Option<Order>
     let (name, arguments) = matches.subcommand()?;
     match name {
         "run" => Some(Order::Run {
-            summary: is_summary(arguments),
+            summary: is_given(arguments, "summary"),
         }),
         "make" => Some(Order::Make {
             number: arguments.get_one("N")?,
@@ -134,25 +139,29 @@ fn order_of(matches: &ArgMatches<'_>) -> Option<Order>
         "roll" => Some(Order::Roll),
         "draw" => Some(Order::Draw),
         "audit" => Some(Order::Audit {
-            shows: shows_packets(arguments),
+            asks: asks_of(arguments),
+            draws: is_given(arguments, "draw"),
         }),
         _ => None,
     }
 }
 
-/// Whether the flag was given.
-fn is_summary(arguments: &ArgMatches<'_>) -> bool
-    ensures { result ≡ summary_in (rows_of (found_of arguments.now)) }
+/// What `audit` is asked for.
+fn asks_of(arguments: &ArgMatches<'_>) -> Asks
+    ensures { result ≡ asks_in (rows_of (found_of arguments.now)) }
 {
-    // No clause of `get_flag` speaks of a text that is neither `true` nor `false`.
-    arguments.get_one("summary").unwrap_or(false)
+    Asks {
+        shows: is_given(arguments, "packets"),
+        strict: is_given(arguments, "strict"),
+    }
 }
 
-/// Whether a line of each packet is asked for.
-fn shows_packets(arguments: &ArgMatches<'_>) -> bool
-    ensures { result ≡ packets_in (rows_of (found_of arguments.now)) }
+/// Whether the flag of this name was given.
+fn is_given(arguments: &ArgMatches<'_>, name: &str) -> bool
+    ensures { result ≡ is_given name.now (rows_of (found_of arguments.now)) }
 {
-    arguments.get_one("packets").unwrap_or(false)
+    // No clause of `get_flag` speaks of a text that is neither `true` nor `false`.
+    arguments.get_one(name).unwrap_or(false)
 }
 
 /// Why words that clap does not take order nothing.
@@ -167,7 +176,7 @@ fn refusal_of(error: &Error) -> Refusal
 }
 
 /// The file that the words of `audit` name for its keys, which stands before the capture: the first
-/// further word that is neither `--packets` nor `--`. Whether the words are a command is not said.
+/// further word that is neither one of its flags nor `--`. Whether the words are a command is not said.
 pub fn key_file(words: &[String]) -> Option<&String>
     ensures { option_map (λ w. string_bytes w.now) result ≡ key_file_in (map string_bytes words.now) }
 {
@@ -175,5 +184,10 @@ pub fn key_file(words: &[String]) -> Option<&String>
     if first.as_str() != "audit" {
         return None;
     }
-    others.iter().find(|word| word.as_str() != "--packets" && word.as_str() != "--")
+    others.iter().find(|word| {
+        word.as_str() != "--packets"
+            && word.as_str() != "--strict"
+            && word.as_str() != "--draw"
+            && word.as_str() != "--"
+    })
 }

@@ -53,14 +53,6 @@ limit_of (Ok done) = Ok None
 limit_of (Err ends.KeyLimit) = Ok (Some endings.KeyLimit)
 limit_of (Err end) = Err end
 
--- how an audit ends in which no pair breaks, where reading ended so
-abbrev pub end_at : Ending → Result (Unit {0}) AuditEnd
-end_at endings.Whole = Ok tt
-end_at endings.Fault = Err ends.ReadFault
-end_at endings.InputLimit = Err ends.InputLimit
-end_at endings.KeyLimit = Err ends.KeyLimit
-end_at (endings.Octet at why) = Err (ends.Refused at why)
-
 -- ---- reading
 
 -- these packets of the capture in a text were read, and a reader goes on behind them

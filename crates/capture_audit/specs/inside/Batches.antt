@@ -1,5 +1,5 @@
 -- How packets wait in a batch, and how they are settled together.
-use Rattle.std.specs.Prelude.{⊤, ◌≡◌, ℕ, suc, ◌<◌, Bool, true, false, is_some, List, [], ◌∷◌, ◌++◌, drop, length, map, slice_index_or, All, Option, Some, None, Result, Ok, Err}
+use Rattle.std.specs.Prelude.{⊤, ◌≡◌, ℕ, suc, ◌<◌, ◌==◌, ◌&&◌, not, nat_lt, Bool, true, false, is_some, List, [], ◌∷◌, ◌++◌, drop, length, map, slice_index, slice_index_or, All, Option, Some, None, Result, Ok, Err}
 use Rattle.aes_block.specs.Secrets.{secret_octets}
 use Rattle.audit_report.specs.Packets.{begun_part, begun_words}
 use Rattle.capture_packets.specs.Packets.{Seen}
@@ -31,6 +31,13 @@ use Rattle.capture_audit.specs.inside.Keeping.{IsFull, IsOfGroup, Keeps}
 abbrev pub distributes : Kind → Bool
 distributes (kinds.Mka (mkas.Right group s)) = is_some s.announcement.given
 distributes _ = false
+
+-- the EtherType is there, and begins neither like those of VLAN tags, nor like those of protected frames
+-- and of key agreement
+abbrev pub has_other_type : List ℕ → Bool
+has_other_type octets =
+    nat_lt 12 (length octets) && not (slice_index octets 12 == 0x81)
+    && not (slice_index octets 12 == 0x88)
 
 -- ---- one that waits
 

@@ -1,22 +1,31 @@
 -- `audit`: a capture of a protected LAN is judged with its keys.
-use Rattle.std.specs.Prelude.{◌≡◌, ◌⊎◌, ℕ, Bool, List, [], Option, Some, Result, Ok, Err}
+use Rattle.std.specs.Prelude.{◌≡◌, ◌⊎◌, ℕ, List, [], Option, Some, None, Result, Ok, Err}
 use Rattle.lan_base.specs.Faults.{Rose}
 use Rattle.replay.specs.declared.cause.Cause.TheVariants as causes
+use Rattle.replay.specs.Sinks.{Sunk}
+use Rattle.audit_facts.specs.declared.view.AuditView.{AuditView}
+use Rattle.capture_audit.specs.declared.asks.Asks.{Asks}
 use Rattle.capture_audit.specs.declared.end.AuditEnd.{AuditEnd}
 use Rattle.capture_audit.specs.declared.end.AuditEnd.TheVariants as ends
 use Rattle.capture_audit.specs.Before.{Unwrapped}
-use Rattle.capture_audit.specs.Ends.{EndsAudit, IsBroken}
+use Rattle.capture_audit.specs.Ends.{EndsAudit, IsBroken, end_for}
 use Rattle.capture_audit.specs.Reading.{IsRead}
+use Rattle.capture_audit.specs.Telling.{all_told}
+use Rattle.capture_audit.specs.Views.{Views, end_seen}
+use Rattle.audit_report.specs.Tallies.{tally_of}
+use Rattle.audit_report.specs.Verdicts.{doubt}
 use Rattle.audit_report.specs.declared.ending.Ending.TheVariants.{Whole}
 use Rattle.key_ring.specs.Rings.{Ring}
+use Rattle.rollover_program.specs.commands.Draw.{Shows}
 use Rattle.rollover_program.specs.declared.status.Status.{Status}
-use Rattle.rollover_program.specs.declared.status.Status.TheVariants.{Done, Halted, KeyLine, CaptureRefuted, Packets, CaptureInput, Keys}
+use Rattle.rollover_program.specs.declared.status.Status.TheVariants.{Done, Halted, KeyLine, CaptureRefuted, CaptureDoubted, Packets, CaptureInput, Keys}
 
 -- the status of how an audit ended
 abbrev pub status_of_audit : Result (Unit {0}) AuditEnd → Status
 status_of_audit (Ok done) = Done
 status_of_audit (Err (ends.KeyLine line why)) = KeyLine line why
 status_of_audit (Err ends.Refuted) = CaptureRefuted
+status_of_audit (Err (ends.Doubted wrong undecided)) = CaptureDoubted wrong undecided
 status_of_audit (Err (ends.Refused at why)) = Packets at why
 status_of_audit (Err ends.InputLimit) = CaptureInput
 status_of_audit (Err ends.KeyLimit) = Keys
@@ -25,22 +34,48 @@ status_of_audit (Err ends.WriteFault) = Halted causes.WriteFault
 status_of_audit (Err ends.Memory) = Halted causes.Memory
 
 -- the capture was judged, and the status is that of how that ended
-abbrev pub EndsAsAudit : Bool → List ℕ → Option (List ℕ) → Option (List ℕ) → Option (List ℕ) → Status
-    → Type 0
-EndsAsAudit shows text left held then status = (answer : Result (Unit {0}) AuditEnd)
-    × EndsAudit shows text left held then answer × (status ≡ status_of_audit answer)
+abbrev pub EndsAsAudit : Asks → List ℕ → Option (List ℕ) → Type 0 → Option (List ℕ) → Option (List ℕ)
+    → Status → Type 0
+EndsAsAudit asks text left failed held then status = (answer : Result (Unit {0}) AuditEnd)
+    × EndsAudit asks text left failed held then answer × (status ≡ status_of_audit answer)
+
+-- ---- and drawn
+
+-- the status where a picture was shown so, of whose audit this is the end
+abbrev pub status_behind : Status → Result (Unit {0}) AuditEnd → Status
+status_behind Done answer = status_of_audit answer
+status_behind status answer = status
+
+-- Of what was seen a picture was written; a fault of the sink, and want of memory, leave a part of it, or nothing.
+-- Where nothing was seen, nothing was written.
+abbrev pub ShowsSeen : Asks → Result AuditView AuditEnd → Sunk → Sunk → Status → Type 0
+ShowsSeen asks (Ok view) old new status =
+    ((picture : List ℕ) × (shown : Status) × Shows picture old new shown
+    × (status ≡ status_behind shown (end_seen asks.strict (Ok view))))
+    ⊎ ((status ≡ Halted causes.Memory) × (new ≡ old))
+ShowsSeen asks (Err end) old new status = (status ≡ status_of_audit (Err end)) × (new ≡ old)
+
+-- the capture was seen, or why not; the audit ends so of which nothing is written; and what was seen was shown
+abbrev pub EndsAsView : Asks → List ℕ → Option (List ℕ) → Type 0 → Sunk → Sunk → Status → Type 0
+EndsAsView asks text left failed old new status = (seen : Result AuditView AuditEnd)
+    × Views text left seen × EndsAudit asks text left failed None None (end_seen asks.strict seen)
+    × ShowsSeen asks seen old new status
+
+-- ---- of whole captures
 
 -- All these packets were judged: where a pair of them breaks what is judged the capture is refuted, and
--- where none does all is done.
-abbrev pub EndsJudged : Ring → List Unwrapped → Status → Type 0
-EndsJudged ring packets status =
+-- where none does it is doubted if that is asked for and the counts of its frames say so, and else all is
+-- done.
+abbrev pub EndsJudged : Asks → Ring → List Unwrapped → Status → Type 0
+EndsJudged asks ring packets status =
     ((i j : ℕ) → IsBroken ring packets i j → status ≡ CaptureRefuted)
-    × (((i j : ℕ) → IsBroken ring packets i j → ⊥) → status ≡ Done)
+    × (((i j : ℕ) → IsBroken ring packets i j → ⊥)
+    → status ≡ status_of_audit (end_for (doubt asks.strict (tally_of (all_told ring packets)))))
 
 -- A text that can be read to its end, and is without a fault, is judged so, unless memory runs out. The
 -- counts are those of the source and of the sink, before and now.
-abbrev pub IsCompleteAudit : List ℕ → ℕ → ℕ → ℕ → ℕ → Status → Type 0
-IsCompleteAudit text source source_now sink sink_now status =
+abbrev pub IsCompleteAudit : Asks → List ℕ → ℕ → ℕ → ℕ → ℕ → Status → Type 0
+IsCompleteAudit asks text source source_now sink sink_now status =
     (ring : Ring) (packets : List Unwrapped) → IsRead text (Some []) ring packets Whole
     → (Rose source source_now → ⊥) → (Rose sink sink_now → ⊥)
-    → EndsJudged ring packets status ⊎ (status ≡ Halted causes.Memory)
+    → EndsJudged asks ring packets status ⊎ (status ≡ Halted causes.Memory)

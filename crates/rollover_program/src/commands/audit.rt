@@ -1,30 +1,34 @@
 //! `audit`: a capture of a protected LAN is judged with its keys.
 
-ghost use Rattle.std.specs.Prelude.{◌≡◌, ◌≢◌, Bool, List, ℕ, Some};
+ghost use Rattle.std.specs.Prelude.{◌≡◌, ◌≢◌, List, ℕ, Some, Ok};
 ghost use Rattle.lan_base.specs.Faults.{Rose};
+ghost use Rattle.replay.specs.Sinks.{sunk};
 ghost use Rattle.replay.specs.declared.cause.Cause.TheVariants as causes;
 ghost use Rattle.rollover_program.specs.declared.status.Status.TheVariants as statuses;
-ghost use Rattle.rollover_program.specs.commands.Audit.{EndsAsAudit, IsCompleteAudit, status_of_audit};
+ghost use Rattle.rollover_program.specs.commands.Audit.{EndsAsAudit, EndsAsView, IsCompleteAudit, ShowsSeen, status_of_audit};
 
+use crate::commands::draw::show;
 use crate::status::Status;
-use capture_audit::AuditEnd;
+use audit_facts::AuditView;
+use audit_picture::picture;
+use capture_audit::{Asks, AuditEnd, end_of_view, view_audit};
 use lan_base::{Sink, Source};
 use replay::Cause;
 use std::alloc::Global;
 use std::thread::Threads;
 
-/// Judges a capture with the keys that stand before it, and writes the report: with a line of each
-/// packet, or without.
+/// Judges a capture with the keys that stand before it, and writes the report, as is asked for.
 pub fn audit<T: Threads + Sync, S: Source, K: Sink>(
     rt: &T,
     alloc: Global,
-    shows: bool,
+    asks: Asks,
     source: &mut S,
     sink: &mut K,
 ) -> Status
     ensures ends { (text : List ℕ) → S.left source.old ≡ Some text
-        → EndsAsAudit shows text (S.left source.new) (K.held sink.old) (K.held sink.new) result
-        × IsCompleteAudit text (S.faults source.old) (S.faults source.new) (K.faults sink.old)
+        → EndsAsAudit asks text (S.left source.new) (Rose (S.faults source.old) (S.faults source.new))
+        (K.held sink.old) (K.held sink.new) result
+        × IsCompleteAudit asks text (S.faults source.old) (S.faults source.new) (K.faults sink.old)
         (K.faults sink.new) result }
     ensures carried { result ≢ statuses.Usage }
     ensures read_cause { result ≡ statuses.Halted causes.ReadFault
@@ -32,7 +36,47 @@ pub fn audit<T: Threads + Sync, S: Source, K: Sink>(
     ensures write_cause { result ≡ statuses.Halted causes.WriteFault
         → Rose (K.faults sink.old) (K.faults sink.new) }
 {
-    status_of_audit(capture_audit::audit(rt, alloc, shows, source, sink))
+    status_of_audit(capture_audit::audit(rt, alloc, asks, source, sink))
+}
+
+/// Judges a capture with the keys that stand before it, and writes the picture of what is seen of it when
+/// reading has ended. Nothing is written where its head was not read.
+pub fn draw_audit<T: Threads + Sync, S: Source, K: Sink>(
+    rt: &T,
+    alloc: Global,
+    asks: Asks,
+    source: &mut S,
+    sink: &mut K,
+) -> Status
+    ensures ends { (text : List ℕ) → S.left source.old ≡ Some text
+        → EndsAsView asks text (S.left source.new) (Rose (S.faults source.old) (S.faults source.new))
+        (sunk (K.held sink.old) (K.faults sink.old)) (sunk (K.held sink.new) (K.faults sink.new)) result
+        × IsCompleteAudit asks text (S.faults source.old) (S.faults source.new) (K.faults sink.old)
+        (K.faults sink.new) result }
+    ensures carried { result ≢ statuses.Usage }
+    ensures read_cause { result ≡ statuses.Halted causes.ReadFault
+        → Rose (S.faults source.old) (S.faults source.new) }
+    ensures write_cause { result ≡ statuses.Halted causes.WriteFault
+        → Rose (K.faults sink.old) (K.faults sink.new) }
+{
+    match view_audit(rt, alloc, source) {
+        Ok(view) => show_view(alloc, asks, &view, sink),
+        Err(end) => status_of_audit(Err(end)),
+    }
+}
+
+/// Writes the picture of what is seen of a capture.
+fn show_view<K: Sink>(alloc: Global, asks: Asks, view: &AuditView, sink: &mut K) -> Status
+    ensures { ShowsSeen asks (Ok view.now) (sunk (K.held sink.old) (K.faults sink.old))
+        (sunk (K.held sink.new) (K.faults sink.new)) result }
+{
+    let Ok(picture) = picture(alloc, view) else {
+        return Status::Halted(Cause::Memory);
+    };
+    match show(picture.as_slice(), sink) {
+        Status::Done => status_of_audit(end_of_view(view, asks.strict)),
+        status => status,
+    }
 }
 
 /// The status of how an audit ended.
@@ -43,6 +87,9 @@ fn status_of_audit(answer: Result<(), AuditEnd>) -> Status
         Ok(()) => Status::Done,
         Err(AuditEnd::KeyLine { line, why }) => Status::KeyLine { line, why },
         Err(AuditEnd::Refuted) => Status::CaptureRefuted,
+        Err(AuditEnd::Doubted { wrong, undecided }) => {
+            Status::CaptureDoubted { wrong, undecided }
+        }
         Err(AuditEnd::Refused { at, why }) => Status::Packets { at, why },
         Err(AuditEnd::InputLimit) => Status::CaptureInput,
         Err(AuditEnd::KeyLimit) => Status::Keys,

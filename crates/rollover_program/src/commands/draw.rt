@@ -34,7 +34,7 @@ pub fn draw<S: Source, K: Sink>(alloc: Global, source: &mut S, sink: &mut K) -> 
 }
 
 /// Writes a picture.
-fn show<K: Sink>(picture: &[u8], sink: &mut K) -> Status
+pub fn show<K: Sink>(picture: &[u8], sink: &mut K) -> Status
     ensures { Shows picture.now (sunk (K.held sink.old) (K.faults sink.old))
         (sunk (K.held sink.new) (K.faults sink.new)) result }
 {

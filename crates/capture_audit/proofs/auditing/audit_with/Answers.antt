@@ -9,7 +9,7 @@ pub returns-in_err-auditor-clause-audited : goal.returns-in_err-auditor-clause-a
 returns-in_err-auditor-clause-audited g c = λ text is.
     let p = err_from_is_err_and c.from_residual.result c.from_residual.ensures.1 in
     let left = g.S.Source.left c.args.source.now in
-    rw (p.1, p.2) (set-ends Auditor c.args.shows text left left (g.K.Sink.held c.args.sink.now) c.args.ring c.args.supply
+    rw (p.1, p.2) (set-ends Auditor c.args.asks text left left (g.K.Sink.held c.args.sink.now) _ c.args.ring c.args.supply
     c.in_err-auditor.field-0.0 is c.in_err-auditor.ensures.ends)
 
 pub returns-in_err-auditor-clause-read_fault : goal.returns-in_err-auditor-clause-read_fault
@@ -26,15 +26,15 @@ returns-in_err-auditor-clause-write_fault g c = λ is.
 
 pub returns-clause-audited : goal.returns-clause-audited
 returns-clause-audited g c = λ text is.
-    c.audit_capture.ensures.audited c.args.shows text c.args.ring is
+    c.audit_capture.ensures.audited text c.args.ring is
     (c.new-batch.ensures.stands c.args.ring c.in_ok-auditor.auditor (c.in_ok-auditor.ensures.keeps)
-    (set-told c.args.shows c.args.ring c.of.new.into.items c.new-text.result.items c.new-text.ensures.items c.in_ok-auditor.ensures.lines))
+    (set-told c.args.asks.shows c.args.ring c.of.new.into.items c.new-text.result.items c.new-text.ensures.items c.in_ok-auditor.ensures.lines))
 
 pub returns-clause-read_fault : goal.returns-clause-read_fault
 returns-clause-read_fault g c = λ is.
-    c.audit_capture.ensures.read_fault c.args.shows c.args.ring
+    c.audit_capture.ensures.read_fault c.args.asks.shows c.args.ring
     (c.new-batch.ensures.stands c.args.ring c.in_ok-auditor.auditor (c.in_ok-auditor.ensures.keeps)
-    (set-told c.args.shows c.args.ring c.of.new.into.items c.new-text.result.items c.new-text.ensures.items c.in_ok-auditor.ensures.lines)) is
+    (set-told c.args.asks.shows c.args.ring c.of.new.into.items c.new-text.result.items c.new-text.ensures.items c.in_ok-auditor.ensures.lines)) is
 
 pub audit_capture-requires-clause-ready : goal.audit_capture-requires-clause-ready
 audit_capture-requires-clause-ready g c = λ κs lives. c.new-batch.ensures.ready c.in_ok-auditor.auditor.groups

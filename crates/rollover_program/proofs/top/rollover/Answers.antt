@@ -1,4 +1,4 @@
-use Rattle.std.proofs.Common.{ap, sym, refl, inr, ◌∙◌}
+use Rattle.std.proofs.Common.{ap, sym, refl, inr, true, false, ◌∙◌}
 use Rattle.std.specs.Prelude.{Err}
 use Rattle.replay.specs.Sinks.{sunk}
 use Rattle.replay.specs.declared.cause.Cause.TheVariants as causes
@@ -7,11 +7,11 @@ use Rattle.rollover_program.proofs.Ordered.{by_no_usage}
 use Rattle.rollover_program.proofs.Refused.{plain_orders, either, usage_only, not_halted, memory}
 use Rattle.rollover_program.proofs.Refused.{ran_nothing, made_nothing, tried_nothing, checked_nothing}
 use Rattle.rollover_program.proofs.Refused.{captured_nothing, dissected_nothing, rolled_nothing}
-use Rattle.rollover_program.proofs.Refused.{drew_nothing, audited_nothing}
+use Rattle.rollover_program.proofs.Refused.{drew_nothing, audited_nothing, viewed_nothing}
 use Rattle.rollover_program.proofs.Carried.{as_asked, either_order, complete, complete_make}
 use Rattle.rollover_program.proofs.Carried.{complete_try, one_order}
 use Rattle.rollover_program.proofs.Rolled.{complete_roll}
-use Rattle.rollover_program.proofs.Decided.{decided, halted_outside}
+use Rattle.rollover_program.proofs.Decided.{decided, halted_outside, judged_whole}
 use Rattle.rollover_program.proofs.top.rollover.Goals as goal
 
 pub returns-in-Ok-clause-usage : goal.returns-in-Ok-clause-usage
@@ -63,13 +63,17 @@ returns-in-Ok-clause-draw g c = λ text asked told.
     as_asked _ _ Draw _ _ _ _ _ c.in-Ok.ensures.ok asked c.carry_out.ensures.done text told
 
 pub returns-in-Ok-clause-audit : goal.returns-in-Ok-clause-audit
-returns-in-Ok-clause-audit g c = λ text shows asked told.
-    (as_asked _ _ (Audit shows) _ _ _ _ _ c.in-Ok.ensures.ok asked c.carry_out.ensures.done text told).0
+returns-in-Ok-clause-audit g c = λ text asks asked told.
+    (as_asked _ _ (Audit asks false) _ _ _ _ _ c.in-Ok.ensures.ok asked c.carry_out.ensures.done text told).0
+
+pub returns-in-Ok-clause-view : goal.returns-in-Ok-clause-view
+returns-in-Ok-clause-view g c = λ text asks asked told.
+    (as_asked _ _ (Audit asks true) _ _ _ _ _ c.in-Ok.ensures.ok asked c.carry_out.ensures.done text told).0
 
 pub returns-in-Ok-clause-complete_audit : goal.returns-in-Ok-clause-complete_audit
-returns-in-Ok-clause-complete_audit g c = λ text shows ring packets asked told.
-    (as_asked _ _ (Audit shows) _ _ _ _ _ c.in-Ok.ensures.ok asked c.carry_out.ensures.done text told).1
-    ring packets
+returns-in-Ok-clause-complete_audit g c = λ text asks draws ring packets asked told.
+    judged_whole asks draws text _ _ _ _ c.carry_out.result told
+    (as_asked _ _ (Audit asks draws) _ _ _ _ _ c.in-Ok.ensures.ok asked c.carry_out.ensures.done) ring packets
 
 pub returns-in-Ok-clause-complete_reading : goal.returns-in-Ok-clause-complete_reading
 returns-in-Ok-clause-complete_reading g c = λ text order reads asked told read_none write_none.
@@ -210,13 +214,18 @@ returns-in-Err-clause-complete_roll g c = λ text asked told reads writes.
     c.status_of_refusal.ensures asked)
 
 pub returns-in-Err-clause-audit : goal.returns-in-Err-clause-audit
-returns-in-Err-clause-audit g c = λ text shows asked told.
-    audited_nothing _ c.in-Err.refusal (λ is. c.in-Err.ensures.usage (ap (λ f. Err f) is)) _ shows text
-    _ _ c.status_of_refusal.ensures asked
+returns-in-Err-clause-audit g c = λ text asks asked told.
+    audited_nothing _ c.in-Err.refusal (λ is. c.in-Err.ensures.usage (ap (λ f. Err f) is)) _ asks text
+    _ _ _ c.status_of_refusal.ensures asked
+
+pub returns-in-Err-clause-view : goal.returns-in-Err-clause-view
+returns-in-Err-clause-view g c = λ text asks asked told.
+    viewed_nothing _ c.in-Err.refusal (λ is. c.in-Err.ensures.usage (ap (λ f. Err f) is)) _ asks text
+    _ _ _ c.status_of_refusal.ensures asked
 
 pub returns-in-Err-clause-complete_audit : goal.returns-in-Err-clause-complete_audit
-returns-in-Err-clause-complete_audit g c = λ text shows ring packets asked told read reads writes.
-    inr (memory _ c.in-Err.refusal (λ is. c.in-Err.ensures.usage (ap (λ f. Err f) is)) _ (Audit shows)
+returns-in-Err-clause-complete_audit g c = λ text asks draws ring packets asked told read reads writes.
+    inr (memory _ c.in-Err.refusal (λ is. c.in-Err.ensures.usage (ap (λ f. Err f) is)) _ (Audit asks draws)
     c.status_of_refusal.ensures asked)
 
 pub returns-in-Err-clause-complete_reading : goal.returns-in-Err-clause-complete_reading

@@ -1,8 +1,5 @@
-use Rattle.audit_facts.specs.Noted.{events, fresh_frames, spoken_of}
-use Rattle.audit_facts.proofs.Views.{inside}
+use Rattle.audit_facts.proofs.Whole.{whole}
 use Rattle.audit_facts.proofs.facts.AuditFacts.members.Goals as goal
 
 pub returns : goal.returns
-returns c = λ h stands.
-    let held = inside (fresh_frames h) (spoken_of h) (events h) c.self.inside c.args.self.now c.self.view_is stands in
-    c.members.ensures (spoken_of h) held.members
+returns c = λ h stands. c.members.ensures h (whole h c.self.inside c.args.self.now c.self.view_is stands).told

@@ -1,20 +1,13 @@
-use Rattle.std.proofs.Common.{◌∷◌, ◌++◌, sym, subst}
-use Rattle.std.specs.Prelude.{OnOk}
-use Rattle.audit_report.specs.declared.finding.Finding.{Finding}
-use Rattle.audit_facts.specs.Noted.{IsNext, events, fresh_frames, given_in, noted_of, said_by, spoken_of}
-use Rattle.audit_facts.specs.Standing.{StandsFor}
-use Rattle.audit_facts.proofs.Noting.{heard}
+use Rattle.audit_facts.specs.Noted.{givings, reuses, said_by}
+use Rattle.audit_facts.proofs.Marking.{is-behind}
 use Rattle.audit_facts.proofs.Views.{on_ok}
+use Rattle.audit_facts.proofs.Whole.{whole}
 use Rattle.audit_facts.proofs.facts.AuditFacts.note.Goals as goal
 
-pub returns-in_ok-give-in-RightMkpdu : goal.returns-in_ok-give-in-RightMkpdu
-returns-in_ok-give-in-RightMkpdu c = λ h stands next.
-    let it = c.in-RightMkpdu in
-    let said = said_by c.args.kind.now in
-    subst (λ (f : Finding). OnOk c.hear.result (StandsFor (noted_of f c.args.nanos c.args.kind.now ∷ h) c.hear.new.self))
-    (sym it.is)
-    (on_ok c.hear.result
-    (heard h c.args.nanos said c.hear.new.self it.mkpdu it.novelty it.handed)
-    (c.hear.ensures (fresh_frames h) (spoken_of h) (given_in it.mkpdu.group it.handed ++ events h)
-    (c.in_ok-give-in-RightMkpdu.ensures (fresh_frames h) (spoken_of h) (events h) stands)
-    (subst (λ (f : Finding). IsNext h (noted_of f c.args.nanos c.args.kind.now)) it.is next)))
+pub returns : goal.returns
+returns c = λ h stands next.
+    let stood = whole h c.self.inside c.args.self.now c.self.view_is stands in
+    on_ok c.mark.result
+    (λ marked. record { told = c.in_ok-note.ensures h stood.told next; marks = marked })
+    (c.mark.ensures (givings h) (reuses h) stood.marks
+    (is-behind h c.args.finding.now c.args.nanos (said_by c.args.kind.now) next))

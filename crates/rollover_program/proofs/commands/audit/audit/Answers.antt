@@ -6,7 +6,7 @@ pub returns-clause-ends : goal.returns-clause-ends
 returns-clause-ends g c = λ text told. (
   (c.audit.result, c.audit.ensures.audited text told, c.status_of_audit.ensures),
   λ ring packets read reads writes. rw c.status_of_audit.ensures
-      (complete_audit ring packets c.audit.result
+      (complete_audit c.args.asks _ ring packets c.audit.result reads
       (λ e. reads (c.audit.ensures.read_fault e)) (λ e. writes (c.audit.ensures.write_fault e))
       (λ i j broken. c.audit.ensures.broken text ring packets i j told read broken)
       (λ none. c.audit.ensures.clean text ring packets told read none)),

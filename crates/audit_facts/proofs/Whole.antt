@@ -1,0 +1,13 @@
+-- What callers see of all that is kept.
+use Rattle.std.proofs.Common.{◌≡◌, sym, subst}
+use Rattle.std.specs.Prelude.{List}
+use Rattle.audit_facts.specs.declared.facts.AuditFacts.TheInside.{Inside}
+use Rattle.audit_facts.specs.Noted.{Noted}
+use Rattle.audit_facts.specs.Standing.{Kept, StandsFor}
+
+abbrev pub both_of : Inside → Kept
+both_of f = record { told = f.told; marks = f.marks }
+
+pub whole : (h : List Noted) (parts : Inside) (seen : Kept) → both_of parts ≡ seen → StandsFor h seen
+    → StandsFor h (both_of parts)
+whole h parts seen is stands = subst (λ (k : Kept). StandsFor h k) (sym is) stands

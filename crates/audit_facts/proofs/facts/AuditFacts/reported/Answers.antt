@@ -1,0 +1,5 @@
+use Rattle.audit_facts.proofs.Whole.{whole}
+use Rattle.audit_facts.proofs.facts.AuditFacts.reported.Goals as goal
+
+pub returns : goal.returns
+returns c = λ h stands. c.reported.ensures h (whole h c.self.inside c.args.self.now c.self.view_is stands).told

@@ -1,0 +1,123 @@
+-- How the program ends after what was seen of a capture was drawn.
+use Rattle.std.proofs.Common.{◌≡◌, ℕ, List, Option, Result, Ok, Err, inl, inr, refl, sym, subst, ◌∙◌}
+use Rattle.std.specs.Prelude.{◌⊎◌}
+use Rattle.audit_facts.specs.declared.view.AuditView.{AuditView}
+use Rattle.audit_report.specs.declared.blame.Blame.{Blame}
+use Rattle.audit_report.specs.declared.blame.Blame.TheVariants as blames
+use Rattle.audit_report.specs.declared.ending.Ending.{Ending}
+use Rattle.audit_report.specs.declared.ending.Ending.TheVariants as endings
+use Rattle.capture_audit.specs.declared.asks.Asks.{Asks}
+use Rattle.capture_audit.specs.declared.end.AuditEnd.{AuditEnd}
+use Rattle.capture_audit.specs.declared.end.AuditEnd.TheVariants as ends
+use Rattle.capture_audit.specs.Before.{Unwrapped}
+use Rattle.capture_audit.specs.Ends.{end_of}
+use Rattle.capture_audit.specs.Views.{end_seen}
+use Rattle.key_ring.specs.Rings.{Ring}
+use Rattle.lan_base.specs.Faults.{Rose}
+use Rattle.replay.specs.declared.cause.Cause.TheVariants as causes
+use Rattle.replay.specs.Sinks.{Sunk}
+use Rattle.rollover_program.specs.declared.status.Status.{Status}
+use Rattle.rollover_program.specs.declared.status.Status.TheVariants.{Done, Usage, Halted}
+use Rattle.rollover_program.specs.commands.Audit.{EndsJudged, ShowsSeen, status_behind, status_of_audit}
+use Rattle.rollover_program.specs.commands.Draw.{Shows}
+use Rattle.rollover_program.proofs.Audited.{audit_no_usage, audit_read, audit_write}
+
+-- ---- how the audit ends
+
+pub end_fault : (b : Blame) (e : Ending) → end_of b e ≡ Err ends.ReadFault → e ≡ endings.Fault
+end_fault blames.None endings.Whole is = absurd (cc is)
+end_fault blames.None endings.Fault is = refl
+end_fault blames.None endings.InputLimit is = absurd (cc is)
+end_fault blames.None endings.KeyLimit is = absurd (cc is)
+end_fault blames.None (endings.Octet at why) is = absurd (cc is)
+end_fault blames.Refuted e is = absurd (cc is)
+end_fault (blames.Doubted wrong undecided) e is = absurd (cc is)
+
+pub end_unwritten : (b : Blame) (e : Ending) → end_of b e ≡ Err ends.WriteFault → ⊥
+end_unwritten blames.None endings.Whole is = cc is
+end_unwritten blames.None endings.Fault is = cc is
+end_unwritten blames.None endings.InputLimit is = cc is
+end_unwritten blames.None endings.KeyLimit is = cc is
+end_unwritten blames.None (endings.Octet at why) is = cc is
+end_unwritten blames.Refuted e is = cc is
+end_unwritten (blames.Doubted wrong undecided) e is = cc is
+
+abbrev pub as_end : AuditEnd → Result (Unit {0}) AuditEnd
+as_end e = Err e
+
+pub end_is : (a b : AuditEnd) → as_end a ≡ as_end b → a ≡ b
+end_is a b is = cc is
+
+-- ---- a picture was shown
+
+same_behind : (shown : Status) (end : Result (Unit {0}) AuditEnd) → (shown ≡ Done → ⊥) → shown ≡ status_behind shown end
+same_behind Done end other = absurd (other refl)
+same_behind _ end other = refl
+
+pub shown_whole : (asks : Asks) (view : AuditView) (picture : List ℕ) (old new : Sunk) (status : Status)
+    → Shows picture old new Done → status ≡ status_of_audit (end_seen asks.strict (Ok view))
+    → ShowsSeen asks (Ok view) old new status
+shown_whole asks view picture old new status shows is = inl (picture, Done, shows, is)
+
+pub shown_else : (asks : Asks) (view : AuditView) (picture : List ℕ) (old new : Sunk) (shown : Status)
+    → Shows picture old new shown → (shown ≡ Done → ⊥) → ShowsSeen asks (Ok view) old new shown
+shown_else asks view picture old new shown shows other =
+    inl (picture, shown, shows, same_behind shown (end_seen asks.strict (Ok view)) other)
+
+-- ---- what the status says
+
+module _ (asks : Asks) (view : AuditView) (old new : Sunk) where
+  abbrev seen_end : Result (Unit {0}) AuditEnd
+  seen_end = end_seen asks.strict (Ok view)
+
+  behind_usage : (picture : List ℕ) (shown : Status) → Shows picture old new shown → status_behind shown seen_end ≡ Usage → ⊥
+  behind_usage picture Done shows e = audit_no_usage seen_end e
+  behind_usage picture (Halted causes.WriteFault) shows e = cc e
+  behind_usage picture (Halted causes.Memory) shows e = cc e
+  behind_usage picture _ shows e = cc shows.0
+
+  behind_read : (picture : List ℕ) (shown : Status) → Shows picture old new shown
+      → status_behind shown seen_end ≡ Halted causes.ReadFault → seen_end ≡ Err ends.ReadFault
+  behind_read picture Done shows e = audit_read seen_end e
+  behind_read picture (Halted causes.WriteFault) shows e = absurd (cc e)
+  behind_read picture (Halted causes.Memory) shows e = absurd (cc e)
+  behind_read picture _ shows e = absurd (cc shows.0)
+
+  behind_write : (picture : List ℕ) (shown : Status) → Shows picture old new shown
+      → status_behind shown seen_end ≡ Halted causes.WriteFault
+      → Rose old.faults new.faults ⊎ (seen_end ≡ Err ends.WriteFault)
+  behind_write picture Done shows e = inr (audit_write seen_end e)
+  behind_write picture (Halted causes.WriteFault) shows e = inl shows.0
+  behind_write picture (Halted causes.Memory) shows e = absurd (cc e)
+  behind_write picture _ shows e = absurd (cc shows.0)
+
+  pub view_usage : (status : Status) → ShowsSeen asks (Ok view) old new status → status ≡ Usage → ⊥
+  view_usage status (inl it) e = behind_usage it.0 it.1 it.2 (sym it.3 ∙ e)
+  view_usage status (inr it) e = cc (sym it.0 ∙ e)
+
+  pub view_read : (status : Status) → ShowsSeen asks (Ok view) old new status → status ≡ Halted causes.ReadFault
+      → seen_end ≡ Err ends.ReadFault
+  view_read status (inl it) e = behind_read it.0 it.1 it.2 (sym it.3 ∙ e)
+  view_read status (inr it) e = absurd (cc (sym it.0 ∙ e))
+
+  pub view_write : (status : Status) → ShowsSeen asks (Ok view) old new status → status ≡ Halted causes.WriteFault
+      → Rose old.faults new.faults ⊎ (seen_end ≡ Err ends.WriteFault)
+  view_write status (inl it) e = behind_write it.0 it.1 it.2 (sym it.3 ∙ e)
+  view_write status (inr it) e = absurd (cc (sym it.0 ∙ e))
+
+  module _ (ring : Ring) (packets : List Unwrapped) where
+    abbrev IsComplete : Status → Type 0
+    IsComplete status = EndsJudged asks ring packets status ⊎ (status ≡ Halted causes.Memory)
+
+    behind_complete : (picture : List ℕ) (shown : Status) → Shows picture old new shown → (Rose old.faults new.faults → ⊥)
+        → IsComplete (status_of_audit seen_end) → IsComplete (status_behind shown seen_end)
+    behind_complete picture Done shows writes whole = whole
+    behind_complete picture (Halted causes.WriteFault) shows writes whole = absurd (writes shows.0)
+    behind_complete picture (Halted causes.Memory) shows writes whole = inr refl
+    behind_complete picture _ shows writes whole = absurd (cc shows.0)
+
+    pub view_complete : (status : Status) → ShowsSeen asks (Ok view) old new status → (Rose old.faults new.faults → ⊥)
+        → IsComplete (status_of_audit seen_end) → IsComplete status
+    view_complete status (inl it) writes whole =
+        subst (λ (s : Status). IsComplete s) (sym it.3) (behind_complete it.0 it.1 it.2 writes whole)
+    view_complete status (inr it) writes whole = inr it.0
