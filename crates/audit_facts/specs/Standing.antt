@@ -1,6 +1,6 @@
 -- What is kept of packets.
 use Rattle.std.specs.Prelude.{List}
-use Rattle.key_changes.specs.Standing.{Senders, StandsFor as ChangesStandFor}
+use Rattle.use_notes.specs.changes.Standing.{Senders, StandsFor as ChangesStandFor}
 use Rattle.mark_notes.specs.Standing.{Kept as Marks, StandsFor as MarksStandFor}
 use Rattle.member_notes.specs.Spoken.{Spoken}
 use Rattle.member_notes.specs.FactsKept.{HoldsFacts, Speakers}

@@ -1,7 +1,7 @@
 //! What is kept of the packets of a capture.
 
 ghost use Rattle.std.specs.Prelude.{◌≡◌, List, [], ◌∷◌, map, IfOk, OnOk, option_copied};
-ghost use Rattle.key_changes.specs.Changes.{AreChangesOf};
+ghost use Rattle.use_notes.specs.changes.Changes.{AreChangesOf};
 ghost use Rattle.mark_notes.specs.Marks.{first_giving, reuses_of};
 ghost use Rattle.mark_notes.specs.Standing.{KeepsReuses};
 ghost use Rattle.member_notes.specs.Facts.{AreMembersOf};
@@ -14,7 +14,6 @@ ghost use Rattle.audit_facts.specs.Standing.{StandsFor};
 use crate::marks::mark;
 use crate::told_facts::ToldFacts;
 use audit_report::{Finding, TimedUse};
-use key_changes::Change;
 use lan_base::Sci;
 use mark_notes::{Giving, MarkNotes, Reuse};
 use member_notes::Member;
@@ -24,6 +23,7 @@ use std::alloc::{AllocError, Global};
 use std::marker::Model;
 use tick_columns::Thinned;
 use use_notes::Use;
+use use_notes::changes::Change;
 
 /// What the packets of a capture tell, one after another: from which key each sender came to which, what
 /// is told of each member, and who was ready for a key; and what a picture marks: where each key was

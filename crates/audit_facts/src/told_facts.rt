@@ -1,7 +1,7 @@
 //! What is told of the packets of a capture.
 
 ghost use Rattle.std.specs.Prelude.{◌≡◌, List, [], ◌∷◌, ◌++◌, map, IfOk, OnOk};
-ghost use Rattle.key_changes.specs.Changes.{AreChangesOf};
+ghost use Rattle.use_notes.specs.changes.Changes.{AreChangesOf};
 ghost use Rattle.member_notes.specs.Facts.{AreMembersOf, novelty_behind, spoken};
 ghost use Rattle.member_notes.specs.Spoken.{Spoken};
 ghost use Rattle.rollover_notes.specs.Counted.{AreUnreadyOf};
@@ -14,13 +14,13 @@ ghost use Rattle.audit_facts.specs.Noted.{IsNext, IsToldBehind, Noted, events, f
 ghost use Rattle.audit_facts.specs.Standing.{Holds, ToldStandFor};
 
 use audit_report::{Finding, Handed, TimedUse, timed_uses};
-use key_changes::{Change, ChangeNotes};
 use member_notes::{Member, MemberFacts, MkpduNovelty, RightMkpdu};
 use mkpdu_codec::Announcement;
 use packet_verdicts::{Kind, Mka};
 use rollover_notes::{Report, RolloverNotes, Unready};
 use std::alloc::{AllocError, Global};
 use std::marker::Model;
+use use_notes::changes::{Change, ChangeNotes};
 use use_notes::{RightFrame, Use};
 
 /// What the packets of a capture tell, one after another: from which key each sender came to which, what

@@ -1,7 +1,7 @@
 -- The lines of changes: from which key each sender came to which.
 use Rattle.std.specs.Prelude.{ℕ, List, [], ◌∷◌, flat_map, codes, decimal}
 use Rattle.hex.specs.Hex.{encode_lower}
-use Rattle.key_changes.specs.declared.change.Change.{Change}
+use Rattle.use_notes.specs.declared.changes.change.Change.{Change}
 use Rattle.audit_report.specs.Lines.{line_of}
 
 -- the sender and both keys; the last packet under the one before the first under the other, and how much

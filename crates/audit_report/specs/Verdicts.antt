@@ -1,7 +1,7 @@
 -- What is judged of packets, and its lines.
 use Rattle.std.specs.Prelude.{ℕ, ◌||◌, ◌&&◌, nat_lt, if◌then◌else◌, Bool, List, [], ◌∷◌, ◌++◌, length, codes, decimal, Option, Some, None}
 use Rattle.std.specs.Option.{is_some}
-use Rattle.key_changes.specs.declared.change.Change.{Change}
+use Rattle.use_notes.specs.declared.changes.change.Change.{Change}
 use Rattle.member_notes.specs.Facts.{sums_of as member_sums}
 use Rattle.member_notes.specs.declared.facts.Member.{Member}
 use Rattle.rollover_notes.specs.declared.unready.Unready.{Unready}

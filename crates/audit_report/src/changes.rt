@@ -4,9 +4,9 @@ ghost use Rattle.std.specs.Prelude.{◌≡◌, ◌++◌, OnOk};
 ghost use Rattle.audit_report.specs.Changes.{change_line, change_lines};
 
 use crate::lines::{number, put_line};
-use key_changes::Change;
 use std::alloc::AllocError;
 use trace_text::Word;
+use use_notes::changes::Change;
 
 /// Appends from which key each sender came to which. An `Err` may leave a front of it.
 pub fn put_changes(changes: &[Change], into: &mut Vec<u8>) -> Result<(), AllocError>

@@ -11,12 +11,12 @@ use crate::members::{put_members, put_sums};
 use crate::readiness::{Sums, put_rollover, put_unready};
 use crate::tally::Tally;
 use crate::uses::{TimedUse, put_timed};
-use key_changes::Change;
 use member_notes::{Member, MemberSums};
 use rollover_notes::Unready;
 use std::alloc::{AllocError, Global};
 use std::marker::Model;
 use trace_text::Word;
+use use_notes::changes::Change;
 use use_notes::{Order, Use};
 
 /// What is judged of packets: the least pair that uses a packet number twice under a key, and the least

@@ -19,7 +19,6 @@ pub mod SideStops
 pub mod SideGoes
 pub mod TurnStops
 pub mod TurnGoes
-mod Counted
 pub mod Restarts
 pub mod ReadyParts
 pub mod TwinGoes

@@ -1,6 +1,6 @@
 //! One of two groups: its stations and their packet numbers, and its draws among those of both.
 
-ghost use Rattle.std.specs.Prelude.{◌≡◌, ◌↔◌, ◌<◌, ◌+◌, ◌^◌, ◌++◌, ◌∷◌, ℕ, List, [], length, replicate, is_some, Err, IfOk, OnOk};
+ghost use Rattle.std.specs.Prelude.{◌≡◌, ◌↔◌, ◌+◌, ◌++◌, ◌∷◌, ℕ, List, [], length, replicate, is_some, Err, IfOk, OnOk};
 ghost use Rattle.std.specs.Option.{option_copied};
 ghost use Rattle.lan_base.specs.declared.frame.UserFrame.{UserFrame};
 ghost use Rattle.mka_kdf.specs.declared.group.GroupFault.{GroupFault};
@@ -84,14 +84,6 @@ impl Side {
             → result ≡ is_some (transmitting_at settings place r) }
     {
         self.lan.transmitting(place).is_some()
-    }
-
-    /// How many draws the group made.
-    pub fn made(&self) -> u64
-        ensures made { result ≡ length self.now.draws }
-        ensures small { result < 2 ^ 63 }
-    {
-        self.draws.len() as u64
     }
 
     /// A part of an event happens in the group, and what it shows is told. The next draw of both has this

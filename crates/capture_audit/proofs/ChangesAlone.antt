@@ -15,8 +15,8 @@ use Rattle.std.proofs.lemmas.Map.Lookups.{exact_bytes}
 use Rattle.lan_base.specs.declared.address.Sci.{Sci}
 use Rattle.lan_base.specs.Identifiers.{same_sci}
 use Rattle.use_notes.specs.declared.frame.RightFrame.{RightFrame}
-use Rattle.key_changes.specs.declared.change.Change.{Change}
-use Rattle.key_changes.specs.Changes.{AreChangesOf, changes_of, frames_from, sci_cmp}
+use Rattle.use_notes.specs.declared.changes.change.Change.{Change}
+use Rattle.use_notes.specs.changes.Changes.{AreChangesOf, changes_of, frames_from, sci_cmp}
 use Rattle.capture_audit.proofs.Ascending.{alone}
 
 sci-total : IsTotalOrder sci_cmp

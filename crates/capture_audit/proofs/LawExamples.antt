@@ -15,7 +15,7 @@ use Rattle.capture_packets.specs.Written.{blocks_file, classic_file}
 use Rattle.capture_packets.specs.declared.state.Layout.TheVariants.{Records}
 use Rattle.capture_packets.specs.declared.state.Parts.TheVariants.{Micros, Nanos}
 use Rattle.audit_report.specs.Verdicts.{Verdict}
-use Rattle.key_changes.specs.Changes.{AreChangesOf}
+use Rattle.use_notes.specs.changes.Changes.{AreChangesOf}
 use Rattle.known_keys.specs.History.{Entry, keys}
 use Rattle.known_keys.specs.OneKey.{BreaksOneKey, given, key_given}
 use Rattle.key_ring.specs.Rings.{AreKeyed, Ring, no_ring}

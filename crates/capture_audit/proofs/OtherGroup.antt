@@ -16,7 +16,7 @@ use Rattle.audit_report.specs.Verdicts.{Verdict}
 use Rattle.audit_report.specs.declared.ending.Ending.{Ending}
 use Rattle.audit_report.specs.declared.finding.Finding.{Finding}
 use Rattle.capture_packets.specs.Packets.{Seen}
-use Rattle.key_changes.specs.Changes.{AreChangesOf}
+use Rattle.use_notes.specs.changes.Changes.{AreChangesOf}
 use Rattle.key_ring.specs.Rings.{Ring}
 use Rattle.known_keys.specs.History.{Entry}
 use Rattle.known_keys.specs.OneKey.{BreaksOneKey}

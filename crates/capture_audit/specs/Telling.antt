@@ -8,7 +8,7 @@ use Rattle.audit_report.specs.Report as reports
 use Rattle.audit_report.specs.Uses.{timed}
 use Rattle.audit_report.specs.Verdicts.{Verdict}
 use Rattle.audit_report.specs.declared.ending.Ending.{Ending}
-use Rattle.key_changes.specs.Changes.{AreChangesOf}
+use Rattle.use_notes.specs.changes.Changes.{AreChangesOf}
 use Rattle.key_ring.specs.declared.ring.HandKey.{HandKey}
 use Rattle.key_ring.specs.Rings.{Ring}
 use Rattle.known_keys.specs.History.{keys}

@@ -19,9 +19,6 @@ pub enum Entry {
     Refused { station: u8, why: NoClaim },
 }
 
-/// How many octets a protected frame has beside the user data: addresses, SecTAG and tag.
-pub(crate) const AROUND: usize = 44;
-
 /// The entry of a claim's answer. A frame is written where there is room for it, under the key that
 /// was prepared last or, where the claim's card has another SAK, a new one.
 pub(crate) fn entry_for(

@@ -5,12 +5,13 @@ ghost use Rattle.association_slots.specs.declared.view.SeatView.{SeatView};
 ghost use Rattle.data_workers.specs.Workers.{IsSame, Logged};
 ghost use Rattle.lan_base.specs.Ranges.{IsUserData};
 
-use crate::entry::{AROUND, Entry, entry_for};
+use crate::entry::{Entry, entry_for};
 use crate::log::Log;
 use crate::prepared::PreparedKey;
 use crate::rooms::Rooms;
 use crate::sender::Sender;
 use association_slots::{SlotTable, WorkerSeat};
+use gcm_frames::PROTECTION_OCTETS;
 use packet_claims::{Gate, claim};
 use std::alloc::{AllocError, Global};
 use std::marker::Model;
@@ -63,7 +64,7 @@ impl Worker {
         ensures logged { IfOk result (Logged seat.view) }
         ensures err { IfErr result (λ e. e.0 ≡ seat) }
     {
-        match memory(alloc, jobs, sender.user.body.len() + AROUND) {
+        match memory(alloc, jobs, sender.user.body.len() + PROTECTION_OCTETS) {
             Ok((log, rooms)) => Ok(Worker {
                 sender,
                 seat,

@@ -8,6 +8,11 @@ use Rattle.aes_block.specs.Octet.{octets_sum}
 use Rattle.gcm_core.specs.Blocks.{block_count, blocks_of, padded, octets_of_bits}
 use Rattle.gcm_core.specs.Ghash.{ghash}
 
+-- a plaintext has at most so many octets: those of 2 ^ 32 - 2 blocks (5.2.1.1); here additional data,
+-- too, though the standard allows more of it
+abbrev pub most_text_octets : ℕ
+most_text_octets = 68719476704
+
 -- inc 32: a counter block with one more in its last 32 bits, modulo 2 ^ 32 (6.2)
 unfoldable pub increment : List ℕ → List ℕ
 increment block =

@@ -5,15 +5,15 @@ ghost use Rattle.std.specs.Simd.{first_chunks};
 ghost use Rattle.gcm_core.specs.Blocks.{block_bits, block_octets, blocks_of, padded};
 ghost use Rattle.gcm_core.specs.Ghash.{ghash, reduction};
 ghost use Rattle.aes_block.specs.Product.{product};
-ghost use Rattle.gcm_core.specs.Gcm.{hashed, lengths};
+ghost use Rattle.gcm_core.specs.Gcm.{hashed, lengths, most_text_octets};
 
 use crate::hash_key::HashKey;
 use std::simd::prelude::*;
 
 /// The hash of the additional data and the ciphertext under a hash key.
 pub fn hash_of(key: &HashKey, extra: &[u8], ciphertext: &[u8]) -> u128
-    requires extra { length extra.now ≤ 65536 }
-    requires ciphertext { length ciphertext.now ≤ 65536 }
+    requires extra { length extra.now ≤ most_text_octets }
+    requires ciphertext { length ciphertext.now ≤ most_text_octets }
     ensures { block_bits result ≡ hashed (block_bits key.now) extra.now ciphertext.now }
 {
     let after_extra = absorbed(key, 0, extra);
@@ -84,8 +84,8 @@ fn padded_block(octets: &[u8]) -> u128
 
 /// The block of the lengths in bits.
 fn lengths(extra: &[u8], ciphertext: &[u8]) -> u128
-    requires extra { length extra.now ≤ 65536 }
-    requires ciphertext { length ciphertext.now ≤ 65536 }
+    requires extra { length extra.now ≤ most_text_octets }
+    requires ciphertext { length ciphertext.now ≤ most_text_octets }
     ensures { block_octets result ≡ lengths extra.now ciphertext.now }
 {
     (8 * extra.len() as u128) << 64 | 8 * ciphertext.len() as u128

@@ -3,7 +3,7 @@
 ghost use Rattle.std.specs.Prelude.{◌≡◌, ◌↔◌, IsTrue, ◌≤◌, List, ℕ, length};
 ghost use Rattle.std.specs.Bool.{OnTrue, OnFalse};
 ghost use Rattle.aes_block.specs.Aes.{aes, IsBlock};
-ghost use Rattle.gcm_core.specs.Gcm.{first_counter, gcm, gcm_tag, gcm_text};
+ghost use Rattle.gcm_core.specs.Gcm.{first_counter, gcm, gcm_tag, gcm_text, most_text_octets};
 
 use crate::counter::encrypt;
 use crate::gcm_key::GcmKey;
@@ -11,11 +11,11 @@ use crate::hash::hash_of;
 use aes_block::law_ciphertexts_are_blocks;
 
 /// Encrypts `text` in place, and answers the tag of the additional data and of what `text` has
-/// become. Neither `extra` nor `text` is longer than 65,536 octets. Under one key each IV is for
+/// become. Neither `extra` nor `text` is longer than 2^36 - 32 octets. Under one key each IV is for
 /// one call only: that is the caller's part.
 pub fn seal(key: &GcmKey, iv: [u8; 12], extra: &[u8], text: &mut [u8]) -> [u8; 16]
-    requires extra { length extra.now ≤ 65536 }
-    requires text { length text.old ≤ 65536 }
+    requires extra { length extra.now ≤ most_text_octets }
+    requires text { length text.old ≤ most_text_octets }
     ensures { gcm key.now iv extra.now text.old ≡ (text.new, result) }
 {
     encrypt_text(key, &iv, text);
@@ -24,10 +24,10 @@ pub fn seal(key: &GcmKey, iv: [u8; 12], extra: &[u8], text: &mut [u8]) -> [u8; 1
 
 /// Whether some text is sealed to these octets and this tag. If so, that text, the only one, stands
 /// in `text` afterwards; if not, `text` is as it was. Neither `extra` nor `text` is longer than
-/// 65,536 octets.
+/// 2^36 - 32 octets.
 pub fn unseal(key: &GcmKey, iv: [u8; 12], extra: &[u8], text: &mut [u8], tag: [u8; 16]) -> bool
-    requires extra { length extra.now ≤ 65536 }
-    requires text { length text.old ≤ 65536 }
+    requires extra { length extra.now ≤ most_text_octets }
+    requires text { length text.old ≤ most_text_octets }
     ensures opened { OnTrue result (gcm key.now iv extra.now text.new ≡ (text.old, tag)) }
     ensures only { OnTrue result ((plain : List ℕ)
         → gcm key.now iv extra.now plain ≡ (text.old, tag) → plain ≡ text.new) }
@@ -44,10 +44,10 @@ pub fn unseal(key: &GcmKey, iv: [u8; 12], extra: &[u8], text: &mut [u8], tag: [u
 }
 
 /// Whether a ciphertext is sealed with this tag, as `unseal` finds it, without deciphering. Neither
-/// `extra` nor `ciphertext` is longer than 65,536 octets.
+/// `extra` nor `ciphertext` is longer than 2^36 - 32 octets.
 pub fn is_sealed(key: &GcmKey, iv: [u8; 12], extra: &[u8], ciphertext: &[u8], tag: [u8; 16]) -> bool
-    requires extra { length extra.now ≤ 65536 }
-    requires ciphertext { length ciphertext.now ≤ 65536 }
+    requires extra { length extra.now ≤ most_text_octets }
+    requires ciphertext { length ciphertext.now ≤ most_text_octets }
     ensures { IsTrue result ↔ (gcm_tag key.now iv extra.now ciphertext.now ≡ tag) }
 {
     is_same(&tag_of(key, &iv, extra, ciphertext), &tag)
@@ -63,8 +63,8 @@ fn encrypt_text(key: &GcmKey, iv: &[u8; 12], text: &mut [u8])
 
 /// The tag of additional data and ciphertext.
 fn tag_of(key: &GcmKey, iv: &[u8; 12], extra: &[u8], ciphertext: &[u8]) -> [u8; 16]
-    requires extra { length extra.now ≤ 65536 }
-    requires ciphertext { length ciphertext.now ≤ 65536 }
+    requires extra { length extra.now ≤ most_text_octets }
+    requires ciphertext { length ciphertext.now ≤ most_text_octets }
     ensures tag { result ≡ gcm_tag key.now iv.now extra.now ciphertext.now }
     ensures blocks { (text : List ℕ) → IsBlock text → IsBlock (aes key.now text) }
 {

@@ -13,6 +13,7 @@ ghost use Rattle.gcm_frames.specs.Sealed.{IsSealedFrom, opened, user_data};
 ghost use Rattle.mkpdu_codec.specs.Refusals.{refused as refused_by_mka};
 ghost use Rattle.mkpdu_codec.specs.declared.refusal.Refusal.TheVariants.{NotMka};
 
+use crate::protecting::PROTECTION_OCTETS;
 use aes_block::law_ciphertexts_are_blocks;
 
 /// What `protect` writes is read again: the sender's SCI, the association number, the packet number
@@ -56,4 +57,9 @@ pub fn law_opened_is_sealed()
 /// No frame with the EtherType of MACsec is a frame of key agreement.
 pub fn law_no_frame_is_both()
     ensures { (frame : List ℕ) → IsTrue (is_sec frame) → refused_by_mka frame ≡ Some NotMka }
+{}
+
+/// The count of the code is that of the definition.
+pub fn law_protection_octets()
+    ensures { PROTECTION_OCTETS ≡ protection_octets }
 {}

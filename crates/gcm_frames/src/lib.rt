@@ -10,9 +10,9 @@ mod validating;
 
 pub use laws::{
     law_no_frame_is_both, law_opened_is_sealed, law_protected_is_longer, law_protected_is_opened,
-    law_protected_is_read,
+    law_protected_is_read, law_protection_octets,
 };
-pub use protecting::protect;
+pub use protecting::{PROTECTION_OCTETS, protect};
 pub use tag::{Tag, TagRefusal};
 pub use tagging::{implied_tag_of, tag_of};
 pub use validating::{is_sealed, validate};

@@ -21,6 +21,9 @@ const E_AND_C: u8 = 0x0c;
 /// How many octets stand before the secure data: addresses, and a SecTAG with an SCI.
 const HEAD: usize = 28;
 
+/// How many octets a protected frame has beside its user data: addresses, SecTAG and tag.
+pub const PROTECTION_OCTETS: usize = 44;
+
 /// From this count of octets on the short length is 0.
 pub(crate) const LONG: usize = 48;
 

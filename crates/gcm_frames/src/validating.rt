@@ -2,7 +2,7 @@
 
 ghost use Rattle.std.specs.Prelude.{◌≡◌, ◌≤◌, ◌↔◌, ◌+◌, List, ℕ, length, Some, None, IsTrue, is_some, if◌then◌else◌};
 ghost use Rattle.std.specs.Bool.{OnTrue, OnFalse};
-ghost use Rattle.lan_base.specs.Ranges.{most_frame_octets};
+ghost use Rattle.gcm_core.specs.Gcm.{most_text_octets};
 ghost use Rattle.gcm_frames.specs.Sealed.{check_octets, IsSealed, IsSealedFrom, opened, secure_data, user_data, with_user_data};
 
 use crate::protecting::iv_of;
@@ -21,10 +21,10 @@ fn check_of(tag: &Tag, frame: &[u8]) -> [u8; 16]
 }
 
 /// Whether a frame is sealed under a key, as `validate` finds it, without deciphering: nothing of the
-/// frame changes. `tag` is what was read of this frame, which is no longer than a frame may be.
+/// frame changes. `tag` is what was read of this frame, which is no longer than GCM takes.
 pub fn is_sealed(key: &GcmKey, tag: &Tag, frame: &[u8]) -> bool
     requires within { tag.now.start + tag.now.len + 16 ≤ length frame.now }
-    requires length { length frame.now ≤ most_frame_octets }
+    requires length { length frame.now ≤ most_text_octets }
     ensures { result ≡ is_some (opened key.now tag.now frame.now) }
 {
     let iv = iv_of(tag.sci, tag.pn);
@@ -39,10 +39,10 @@ pub fn is_sealed(key: &GcmKey, tag: &Tag, frame: &[u8]) -> bool
 
 /// Whether a frame is sealed under a key. If so, its user data stands in the place of its secure
 /// data afterwards; if not, the frame is as it was. `tag` is what was read of this frame, which is no
-/// longer than a frame may be. No memory is taken.
+/// longer than GCM takes. No memory is taken.
 pub fn validate(key: &GcmKey, tag: &Tag, frame: &mut [u8]) -> bool
     requires within { tag.now.start + tag.now.len + 16 ≤ length frame.old }
-    requires length { length frame.old ≤ most_frame_octets }
+    requires length { length frame.old ≤ most_text_octets }
     ensures sealed { IsTrue result ↔ IsSealed key.now tag.now frame.old }
     ensures plain { OnTrue result ((text : List ℕ) → IsSealedFrom key.now tag.now frame.old text
         → frame.new ≡ with_user_data tag.now frame.old (user_data tag.now frame.old text)) }

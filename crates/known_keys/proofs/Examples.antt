@@ -6,6 +6,7 @@ use Rattle.lan_base.specs.declared.association_number.AssociationNumber.TheVaria
 use Rattle.mkpdu_codec.specs.declared.offset.ConfidentialityOffset.TheVariants as offsets
 use Rattle.aes_block.specs.declared.secret.Secret.{Secret}
 use Rattle.aes_block.specs.declared.secret.Secret.TheVariants.{S128, S256}
+use Rattle.lan_base.specs.Instants.{is_recent}
 use Rattle.known_keys.specs.declared.giving.Giving.TheVariants.{Key, Without}
 use Rattle.known_keys.specs.declared.giving.NoSak.TheVariants.{OtherSuite, WrongWrap}
 use Rattle.known_keys.specs.declared.sender.Sender.TheVariants.{Any, One}
@@ -16,7 +17,7 @@ use Rattle.known_keys.specs.OneKey.{given, key_given, lesser_of, other_first, sa
 use Rattle.known_keys.specs.Said.{is_named_so, is_said, naming_of, statement_of}
 use Rattle.known_keys.specs.Telling.{told_of}
 use Rattle.known_keys.specs.declared.reason.Reason.TheVariants.{Suite, Offset, Unseen, Ckn, NoKey}
-use Rattle.known_keys.specs.Undecided.{group_id, first_offset, is_recent, named, undecided, was_without}
+use Rattle.known_keys.specs.Undecided.{group_id, first_offset, named, undecided, was_without}
 
 abbrev sci : ℕ → Sci
 sci n = record { 0 = n ∷ [] }

@@ -9,7 +9,8 @@ use Rattle.std.specs.Ordering.{is_eq, match_ordering}
 use Rattle.std.specs.declared.cmp.Ordering.{Ordering}
 use Rattle.std.specs.declared.cmp.Ordering.TheVariants.{Less, Equal, Greater}
 use Rattle.std.proofs.lemmas.Bool.{or_cases, or_left, or_right, ltb-true, ltb-false, lt-ltb}
-use Rattle.known_keys.specs.Undecided.{GroupId, is_recent, tick_nanos}
+use Rattle.known_keys.specs.Undecided.{GroupId}
+use Rattle.lan_base.specs.Instants.{is_recent, tick_nanos}
 use Rattle.lan_base.specs.Timers.{life_time}
 use Rattle.mkpdu_codec.specs.declared.offset.ConfidentialityOffset.{ConfidentialityOffset}
 use Rattle.known_keys.specs.Maps.{IsCoveredBy, IsIn, Offsets, group_id_cmp, offset_at}

@@ -13,6 +13,7 @@ use Rattle.lan_base.specs.AssociationNumbers.{same_an}
 use Rattle.lan_base.specs.Identifiers.{same_sci}
 use Rattle.aes_block.specs.declared.secret.Secret.{Secret}
 use Rattle.mkpdu_codec.specs.declared.offset.ConfidentialityOffset.{ConfidentialityOffset}
+use Rattle.lan_base.specs.Instants.{is_recent}
 use Rattle.known_keys.specs.declared.giving.Giving.TheVariants.{Key, Without}
 use Rattle.known_keys.specs.declared.giving.NoSak.{NoSak}
 use Rattle.known_keys.specs.declared.giving.NoSak.TheVariants.{OtherSuite, WrongWrap}
@@ -21,7 +22,7 @@ use Rattle.known_keys.specs.declared.sender.Sender.{Sender}
 use Rattle.known_keys.specs.History.{Entry, Set, Gave, Showed, Strange}
 use Rattle.known_keys.specs.Numbered.{greatest_first}
 use Rattle.known_keys.specs.Standing.{IsMissed}
-use Rattle.known_keys.specs.Undecided.{GroupId, first_of, first_offset, group_id, is_for, is_missing, is_recent, named, names, same_group_id, same_no_sak, was_strange, was_without}
+use Rattle.known_keys.specs.Undecided.{GroupId, first_of, first_offset, group_id, is_for, is_missing, named, names, same_group_id, same_no_sak, was_strange, was_without}
 use Rattle.known_keys.specs.Maps.{IsCoveredBy, Missed, NamedTimes, Offsets, group_id_cmp, has, offset_at, sci_cmp, times_under}
 use Rattle.known_keys.specs.inside.Missing.{AddsIf, IsNamedUnder, IsOffered, IsShown, IsStranger, IsWithheld, NamesIf, is_lacking, is_one_lacking, without_of}
 use Rattle.known_keys.proofs.FirstTold.{or-none}

@@ -1,5 +1,5 @@
 -- Why a protected frame is undecided for which no known key is right.
-use Rattle.std.specs.Prelude.{ℕ, ◌+◌, ◌*◌, ◌==◌, ◌&&◌, nat_lt, not, is_none, filter_map, length, Bool, true, false, if◌then◌else◌, List, [], ◌∷◌, Option, Some, None}
+use Rattle.std.specs.Prelude.{ℕ, ◌==◌, ◌&&◌, not, is_none, filter_map, length, Bool, true, false, if◌then◌else◌, List, [], ◌∷◌, Option, Some, None}
 use Rattle.std.specs.List.{list_any}
 use Rattle.std.specs.Option.{option_or}
 use Rattle.lan_base.specs.declared.address.Mi.{Mi}
@@ -8,7 +8,7 @@ use Rattle.lan_base.specs.declared.association_number.AssociationNumber.{Associa
 use Rattle.lan_base.specs.declared.key_id.KeyId.{KeyId}
 use Rattle.lan_base.specs.AssociationNumbers.{same_an}
 use Rattle.lan_base.specs.Identifiers.{same_mi, same_sci}
-use Rattle.lan_base.specs.Timers.{life_time}
+use Rattle.lan_base.specs.Instants.{is_recent}
 use Rattle.mkpdu_codec.specs.declared.offset.ConfidentialityOffset.{ConfidentialityOffset}
 use Rattle.known_keys.specs.declared.giving.Giving.TheVariants.{Key, Without}
 use Rattle.known_keys.specs.declared.giving.NoSak.{NoSak}
@@ -82,14 +82,6 @@ names an _ = None
 
 abbrev pub named : List Entry → AssociationNumber → List (GroupId × ℕ)
 named history an = filter_map (names an) history
-
--- a tick of key agreement, 0.1 s, in nanoseconds
-abbrev pub tick_nanos : ℕ
-tick_nanos = 100000000
-
--- a time is less than MKA Life Time before another, or behind it
-abbrev pub is_recent : ℕ → ℕ → Bool
-is_recent nanos now = nat_lt now (nanos + life_time * tick_nanos)
 
 -- an identifier for which this reason holds was named under an association number, less than MKA Life Time before
 abbrev pub is_missing : List Entry → AssociationNumber → ℕ → Reason → Bool

@@ -2,24 +2,18 @@
 
 ghost use Rattle.std.specs.Prelude.{◌≡◌, [], OnOk, IfOk};
 ghost use Rattle.known_keys.specs.Maps.{has, sci_cmp};
-ghost use Rattle.known_keys.specs.Undecided.{is_closed, is_recent};
+ghost use Rattle.known_keys.specs.Undecided.{is_closed};
 ghost use Rattle.known_keys.specs.inside.Missing.{IsOffered, IsShown, IsStranger, IsWithheld, PutsFirst, is_lacking, is_one_lacking};
 
 use crate::giving::NoSak;
 use crate::lists::is_open;
 use crate::reason::Reason;
 use crate::times::{GroupId, Times};
-use lan_base::{AssociationNumber, LIFE_TIME, Sci};
+use lan_base::{AssociationNumber, Sci, is_recent};
 use mkpdu_codec::ConfidentialityOffset;
 use std::alloc::{AllocError, Global};
 use std::collections::{BTreeMap, BTreeSet};
 use std::marker::Model;
-
-/// A tick of key agreement, 0.1 s, in nanoseconds.
-const TICK_NANOS: u64 = 100_000_000;
-
-/// MKA Life Time, in nanoseconds.
-const LIFE_NANOS: u64 = LIFE_TIME as u64 * TICK_NANOS;
 
 /// Of each identifier in a group the offset with which its first SAK was given, and whether it was
 /// given without one; when identifiers were named last; and the senders of packets of unknown key
@@ -171,11 +165,4 @@ fn is_closed(first: Option<ConfidentialityOffset>) -> bool
         Some(offset) => !is_open(offset),
         None => false,
     }
-}
-
-/// Whether a time is less than MKA Life Time before another, or behind it.
-fn is_recent(nanos: u64, now: u64) -> bool
-    ensures { result ≡ is_recent nanos now }
-{
-    now < nanos || now - nanos < LIFE_NANOS
 }

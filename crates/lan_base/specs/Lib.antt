@@ -1,4 +1,5 @@
 pub mod Timers
+pub mod Instants
 pub mod Ranges
 pub mod Identifiers
 pub mod AssociationNumbers

@@ -22,7 +22,7 @@ most_user_octets = 1500
 abbrev pub IsUserData : List ℕ → Type 0
 IsUserData octets = (least_user_octets ≤ length octets) × (length octets ≤ most_user_octets)
 
--- a frame, protected or not, has at most so many octets
+-- foreign octets are at most so many, and so are those of a frame that is protected
 abbrev pub most_frame_octets : ℕ
 most_frame_octets = 65536
 

@@ -12,7 +12,7 @@ pub const USER_DATA_MIN: usize = 2;
 /// The most octets of user data in a frame.
 pub const USER_DATA_MAX: usize = 1500;
 
-/// The most octets of a frame, protected or not.
+/// The most octets that are foreign, and those of a frame that is protected.
 pub const FRAME_MAX: usize = 65_536;
 
 /// The most frames that a group puts on the air.

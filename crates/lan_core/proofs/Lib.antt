@@ -13,6 +13,7 @@ pub mod ListPlaces
 pub mod SeatMoved
 pub mod LimitsPassed
 pub mod CarriedOver
+pub mod LightFrames
 pub mod FewCounts
 pub mod EmissionGoesOn
 pub mod RefusalPassedOn

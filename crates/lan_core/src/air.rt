@@ -3,7 +3,7 @@
 ghost use Rattle.std.specs.Prelude.{◌≡◌, ◌≤◌, ◌+◌, ◌++◌, ◌∷◌, [], ℕ, true, List, Some, map, sum, length, option_to_list, IfOk, OnOk, OnErr, IfSome};
 ghost use Rattle.std.specs.Option.{option_copied};
 ghost use Rattle.std.specs.List.{list_any};
-ghost use Rattle.lan_base.specs.Ranges.{most_frame_octets, most_frames};
+ghost use Rattle.lan_base.specs.Ranges.{most_frames};
 ghost use Rattle.lan_core.specs.Order.{most_octets};
 ghost use Rattle.lan_core.specs.Standing.{octets_at};
 ghost use Rattle.lan_core.specs.inside.Limits.{IsLight};
@@ -11,7 +11,7 @@ ghost use Rattle.lan_core.specs.inside.Repeats.{begins, begins_at, check_value, 
 
 use crate::check_value::{CHECK_LEN, check_value};
 use crate::checks::Checks;
-use lan_base::{FRAME_MAX, Octets};
+use lan_base::Octets;
 use mkpdu_codec::{
     ReadError, law_octets_behind_are_ignored, law_reading_refuses, law_spelled_is_read, read,
 };
@@ -89,7 +89,7 @@ impl Air {
     /// The frame of a number, from 1.
     pub fn frame(&self, number: u32) -> Option<&[u8]>
         ensures frame { option_copied result ≡ octets_at self.now number }
-        ensures short { IfSome result (λ o. length o.now ≤ most_frame_octets) }
+        ensures light { IfSome result (λ o. length o.now ≤ most_octets) }
     {
         let place = number.checked_sub(1)?;
         let frame = self.frames.get(place as usize)?;
@@ -153,14 +153,13 @@ impl Air {
         }
     }
 
-    /// Puts a frame on the air. An error leaves the air as it was; longer frames than any that is
-    /// sent are refused so too.
+    /// Puts a frame on the air. An error leaves the air as it was.
     pub fn push(&mut self, octets: Octets) -> Result<(), AllocError>
         requires { IsLight (self.old ++ octets ∷ []) }
         ensures ok { OnOk result (self.new ≡ self.old ++ octets ∷ []) }
         ensures err { OnErr result (self.new ≡ self.old) }
     {
-        let more = length_of(&octets)?;
+        let more = octets.len() as u64;
         let place = self.len() as u32;
         self.frames.reserve(1)?;
         self.checks.add(check_value(octets.as_slice()), place)?;
@@ -182,15 +181,4 @@ impl Air {
         }
         Ok(())
     }
-}
-
-/// How many octets a frame has that is not longer than any that is sent.
-fn length_of(frame: &Octets) -> Result<u64, AllocError>
-    ensures len { IfOk result (λ more. more ≡ length frame.now) }
-    ensures short { OnOk result (length frame.now ≤ most_frame_octets) }
-{
-    if frame.len() > FRAME_MAX {
-        return Err(AllocError);
-    }
-    Ok(frame.len() as u64)
 }

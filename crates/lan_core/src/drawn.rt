@@ -1,6 +1,6 @@
 //! The values that were drawn, each with the number of its draw.
 
-ghost use Rattle.std.specs.Prelude.{◌≡◌, ◌<◌, ◌+◌, ◌^◌, [], IfOk, OnOk};
+ghost use Rattle.std.specs.Prelude.{◌≡◌, ◌<◌, ◌+◌, ◌^◌, [], length, OnOk};
 ghost use Rattle.lan_core.specs.Standing.{number_of_mi, number_of_sak};
 ghost use Rattle.lan_core.specs.Noting.{MiIsNoted, SakIsNoted};
 ghost use Rattle.lan_core.specs.inside.Drawing.{SakIsKept};
@@ -11,30 +11,37 @@ use std::alloc::{AllocError, Global};
 use std::collections::BTreeMap;
 use std::marker::Model;
 
-/// The member identifiers and keys that were drawn, and how many draws there were, so that one more
-/// has a number.
+/// What a draw is for: one octet.
+#[derive(Clone, Copy)]
+enum Purpose {
+    Identifier,
+    Key,
+}
+
+const _: () = prove!(size_of::<Purpose>() == 1);
+
+/// The draws, and the member identifiers and keys that they gave.
 #[derive(Drop)]
 pub struct Drawn {
-    count: u64,
+    /// The draws, oldest first. A list has fewer than 2^63 members, so one more draw has a number.
+    draws: Vec<Purpose>,
     mis: BTreeMap<Mi, u64>,
     narrow: BTreeMap<[u8; 16], u64>,
     wide: BTreeMap<[u8; 32], u64>,
 }
 
 impl Model for Drawn {
-    ghost use Rattle.std.specs.Prelude.{◌<◌, ◌+◌, ◌^◌};
+    ghost use Rattle.std.specs.Prelude.{length};
     ghost use Rattle.lan_core.specs.Standing.{Numbers};
 
     ghost Value = { Numbers };
 
     ghost view = { λ d. record {
-      count = d.count;
+      count = length d.draws.items;
       mis = d.mis.entries;
       narrow = d.narrow.entries;
       wide = d.wide.entries;
     } };
-
-    ghost invariant = { λ d. d.count + 1 < 2 ^ 64 };
 }
 
 impl Drawn {
@@ -43,7 +50,7 @@ impl Drawn {
         ensures { result ≡ record { count = 0; mis = []; narrow = []; wide = [] } }
     {
         Drawn {
-            count: 0,
+            draws: Vec::new(alloc),
             mis: BTreeMap::new(alloc),
             narrow: BTreeMap::new(alloc),
             wide: BTreeMap::new(alloc),
@@ -52,16 +59,17 @@ impl Drawn {
 
     /// How many draws there were.
     pub fn count(&self) -> u64
-        ensures { result ≡ self.now.count }
+        ensures count { result ≡ self.now.count }
+        ensures small { result < 2 ^ 63 }
     {
-        self.count
+        self.draws.len() as u64
     }
 
     /// The number of the next draw.
-    pub(crate) fn next_number(&self) -> u64
+    pub fn next_number(&self) -> u64
         ensures { result ≡ self.now.count + 1 }
     {
-        self.count + 1
+        self.count() + 1
     }
 
     /// The number of the draw that gave a member identifier.
@@ -85,9 +93,9 @@ impl Drawn {
     pub fn note_mi(&mut self, mi: Mi) -> Result<(), AllocError>
         ensures { OnOk result (MiIsNoted self.old self.new mi) }
     {
-        let number = self.after(1)?;
+        let number = self.next_number();
         self.mis.insert(mi, number)?;
-        self.count = number;
+        count_on(&mut self.draws, 1, Purpose::Identifier)?;
         Ok(())
     }
 
@@ -95,23 +103,9 @@ impl Drawn {
     pub fn note_sak(&mut self, sak: &Secret, draws: u64) -> Result<(), AllocError>
         ensures { OnOk result (SakIsNoted draws self.old self.new sak.now) }
     {
-        let first = self.after(1)?;
-        let count = self.after(draws)?;
+        let first = self.next_number();
         self.keep_sak(sak, first)?;
-        self.count = count;
-        Ok(())
-    }
-
-    /// The count after so many draws more, as far as they can be counted, and one more: a group ends
-    /// at its 2^64 - 1st draw as if it had no memory.
-    fn after(&self, draws: u64) -> Result<u64, AllocError>
-        ensures count { IfOk result (λ count. count ≡ self.now.count + draws) }
-        ensures small { IfOk result (λ count. count + 1 < 2 ^ 64) }
-    {
-        match self.count.checked_add(draws) {
-            Some(count) if count < u64::MAX => Ok(count),
-            _ => Err(AllocError),
-        }
+        count_on(&mut self.draws, draws, Purpose::Key)
     }
 
     /// Keeps the number of the draw that gave a key.
@@ -128,4 +122,14 @@ impl Drawn {
         }
         Ok(())
     }
+}
+
+/// So many draws more, for a purpose.
+fn count_on(draws: &mut Vec<Purpose>, more: u64, purpose: Purpose) -> Result<(), AllocError>
+    ensures { OnOk result (length draws.new.items ≡ length draws.old.items + more) }
+{
+    for _ in 0..more {
+        draws.push(purpose)?;
+    }
+    Ok(())
 }

@@ -5,7 +5,7 @@ ghost use Rattle.std.specs.List.{find};
 ghost use Rattle.std.specs.Option.{option_copied};
 ghost use Rattle.lan_base.specs.AssociationNumbers.{same_an};
 ghost use Rattle.lan_base.specs.declared.frame.UserFrame.{UserFrame};
-ghost use Rattle.lan_base.specs.Ranges.{IsUserData, most_frame_octets};
+ghost use Rattle.lan_base.specs.Ranges.{IsUserData};
 ghost use Rattle.aes_block.specs.Secrets.{secret_octets};
 ghost use Rattle.gcm_frames.specs.Protected.{protected};
 ghost use Rattle.sak_exchange.specs.Held.{held as held_after, transmitting as transmitting_after};
@@ -22,6 +22,7 @@ ghost use Rattle.lan_core.specs.Ledgers.{gather, next_frame};
 ghost use Rattle.lan_core.specs.Lives.{Life, keys_in, receiving, seen_at, slot_change, turn_at_tick, heard_data, lived, lived_hearing, lived_ticking};
 ghost use Rattle.lan_core.specs.Expected.{tick_facts, reached_facts, reaction_facts, restart_facts};
 ghost use Rattle.lan_core.specs.Keys.{held_under};
+ghost use Rattle.lan_core.specs.Order.{most_octets};
 ghost use Rattle.lan_core.specs.Standing.{Sits};
 ghost use Rattle.lan_core.specs.inside.Judge.{IsOf};
 ghost use Rattle.lan_core.specs.inside.Seats.{Claims, IsFew, IsPast, installs_in};
@@ -246,7 +247,7 @@ impl Seat {
         octets: &[u8],
         judge: &mut Judge,
     ) -> Result<Facts, AllocError>
-        requires short { length octets.now ≤ most_frame_octets }
+        requires light { length octets.now ≤ most_octets }
         requires few { IsFew self.old }
         ensures facts { (settings : Settings) (r : Run) (l : Life)
             → Sits settings.window l (receiving place r) self.old →
@@ -271,7 +272,7 @@ impl Seat {
 
     /// A protected frame reaches the station.
     fn receive(&mut self, place: u8, number: u32, octets: &[u8]) -> Result<Facts, AllocError>
-        requires { length octets.now ≤ most_frame_octets }
+        requires { length octets.now ≤ most_octets }
         ensures facts { (window : ℕ) (l : Life) (h : List Receiving) → Sits window l h self.old →
             IfOk result (λ facts. facts ≡ Arrived number place
             (answer l.member.setup.sci window h octets.now) ∷ []) }

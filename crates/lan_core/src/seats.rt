@@ -3,7 +3,6 @@
 ghost use Rattle.std.specs.Prelude.{◌≡◌, ◌≤◌, ◌++◌, ◌∷◌, ◌⊎◌, ℕ, [], true, length, slice_get, Option, Some, IsSomeAnd, IfSome, IfOk, IfErr, OnOk, OnErr, List};
 ghost use Rattle.std.specs.Option.{option_copied};
 ghost use Rattle.lan_base.specs.declared.frame.UserFrame.{UserFrame};
-ghost use Rattle.lan_base.specs.Ranges.{most_frame_octets};
 ghost use Rattle.gcm_frames.specs.Tags.{is_sec};
 ghost use Rattle.rx_slots.specs.Histories.{Receiving};
 ghost use Rattle.mka_station.specs.Drawing.{is_short};
@@ -12,6 +11,7 @@ ghost use Rattle.lan_core.specs.declared.settings.Settings.{Settings};
 ghost use Rattle.lan_core.specs.Run.{Run};
 ghost use Rattle.lan_core.specs.Ledgers.{next_frame};
 ghost use Rattle.lan_core.specs.Lives.{Life, receiving, seen_at};
+ghost use Rattle.lan_core.specs.Order.{most_octets};
 ghost use Rattle.lan_core.specs.Standing.{Seat, Sits};
 ghost use Rattle.lan_core.specs.Batches.{checked_at};
 ghost use Rattle.lan_core.specs.inside.Judge.{IsOf};
@@ -122,7 +122,7 @@ impl Seats {
         octets: &[u8],
         judge: &mut Judge,
     ) -> Result<Option<Came>, AllocError>
-        requires short { length octets.now ≤ most_frame_octets }
+        requires light { length octets.now ≤ most_octets }
         requires few { IfSome (slice_get self.old place) IsFew }
         ensures came { (settings : Settings) (r : Run) (seat : Seat) (l : Life)
             → slice_get self.old place ≡ Some seat → Sits settings.window l (receiving place r) seat

@@ -7,13 +7,10 @@ ghost use Rattle.gcm_frames.specs.Protected.{protected};
 
 use aes_block::Secret;
 use gcm_core::GcmKey;
-use gcm_frames::protect;
+use gcm_frames::{PROTECTION_OCTETS, protect};
 use lan_base::{Octets, Sci, UserFrame};
 use sak_exchange::Key;
 use std::alloc::{AllocError, Global};
-
-/// How many octets stand around the user data of a protected frame.
-const AROUND: usize = 44;
 
 /// A secure association key, prepared once for all the frames that are sent under it.
 #[derive(Drop)]
@@ -56,7 +53,7 @@ impl Sender {
         ensures { IfOk result (λ octets. octets ≡ protected (secret_octets key.now.sak) sci
             key.now.an pn key.now.conf user.now) }
     {
-        let mut frame = Vec::with_capacity(alloc, user.body.len() + AROUND)?;
+        let mut frame = Vec::with_capacity(alloc, user.body.len() + PROTECTION_OCTETS)?;
         protect(&self.prepared, sci, key.an, pn, key.conf, user, &mut frame);
         Ok(Octets::of(frame))
     }

@@ -12,10 +12,10 @@ use Rattle.lan_core.specs.declared.settings.Settings.{Settings}
 use Rattle.lan_core.specs.Run.{Run, Profile, stations, started}
 use Rattle.group_safety.specs.Accounts.{Account, blank, account_at, ahead, onward}
 use Rattle.group_safety.specs.Transmitting.{Carried, CarriesAt}
-use Rattle.transmit_words.specs.Telling.{KeepUp, CatchUp, Tells}
-use Rattle.transmit_words.specs.Ties.{AreTiedBy, AreTied, AreAheadBy, AreAhead, HaveCaughtUp}
-use Rattle.transmit_words.specs.Ties.{CaughtAhead, HaveKeptUp, KeepAhead}
-use Rattle.transmit_words.proofs.Public.{ahead-carried, onward-carried}
+use Rattle.station_words.specs.Telling.{KeepUp, CatchUp, Tells}
+use Rattle.station_words.specs.Ties.{AreTiedBy, AreTied, AreAheadBy, AreAhead, HaveCaughtUp}
+use Rattle.station_words.specs.Ties.{CaughtAhead, HaveKeptUp, KeepAhead}
+use Rattle.station_words.proofs.Public.{ahead-carried, onward-carried}
 use Rattle.worker_races.specs.Carded.{AreCarded, KeepCarried}
 use Rattle.lan_schedule.specs.Numbers.{shown_next}
 use Rattle.lan_schedule.specs.Stages.{Says}

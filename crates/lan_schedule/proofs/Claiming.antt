@@ -13,8 +13,8 @@ use Rattle.lan_core.specs.Run.{Run, stations, facts_of}
 use Rattle.lan_core.specs.Ledgers.{Claim, claims, claim_of, collect, gather, with_one}
 use Rattle.lan_core.specs.Expected.{last_number}
 use Rattle.fact_tally.specs.Summary.{Counts, counts, is_claim, most}
-use Rattle.transmit_words.specs.Ties.{AreTied, AreAhead, HaveCaughtUp, CaughtAhead, KeepCards}
-use Rattle.transmit_words.specs.Seats.{HasGot, AreSpent}
+use Rattle.station_words.specs.Ties.{AreTied, AreAhead, HaveCaughtUp, CaughtAhead, KeepCards}
+use Rattle.station_words.specs.Seats.{HasGot, AreSpent}
 use Rattle.lan_schedule.specs.declared.stage.Stage.{Stage}
 use Rattle.lan_schedule.specs.World.{World, settings, is_racing}
 use Rattle.lan_schedule.specs.Numbers.{shown_next}

@@ -8,9 +8,9 @@ use Rattle.lan_core.specs.declared.event.Event.{Event}
 use Rattle.lan_core.specs.declared.event.Event.TheVariants as events
 use Rattle.lan_core.specs.Parts.{is_claim}
 use Rattle.lan_core.specs.Run.{Happening}
-use Rattle.race_merge.specs.Places.{Attempt}
-use Rattle.race_merge.specs.Merged.{nth_log}
-use Rattle.race_merge.specs.Weaving.{AreClaimsOf, IsOfLog, IsWoven, is_claim_for}
+use Rattle.worker_races.specs.merge.Places.{Attempt}
+use Rattle.worker_races.specs.merge.Merged.{nth_log}
+use Rattle.worker_races.specs.merge.Weaving.{AreClaimsOf, IsOfLog, IsWoven, is_claim_for}
 use Rattle.lan_schedule.specs.Races.{Claimed, claims_in, count_of}
 use Rattle.lan_schedule.proofs.WovenPart.{claimed_for, claims_of, front_by, front_of, rest_by, rest_of}
 

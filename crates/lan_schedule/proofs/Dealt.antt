@@ -13,10 +13,10 @@ use Rattle.data_workers.specs.Logs.{IsEntry}
 use Rattle.data_workers.specs.Workers.{AreDone, IsDone, WorkerAt}
 use Rattle.association_slots.specs.declared.view.SeatView.{SeatView}
 use Rattle.lan_core.specs.Run.{Happening}
-use Rattle.race_merge.specs.Merged.{nth_log}
-use Rattle.race_merge.specs.Places.{Attempt}
-use Rattle.race_merge.specs.Steps.{attempt_of, logs_of}
-use Rattle.race_merge.specs.Weaving.{IsWoven}
+use Rattle.worker_races.specs.merge.Merged.{nth_log}
+use Rattle.worker_races.specs.merge.Places.{Attempt}
+use Rattle.worker_races.specs.merge.Steps.{attempt_of, logs_of}
+use Rattle.worker_races.specs.merge.Weaving.{IsWoven}
 use Rattle.worker_races.specs.Senders.{IsNew, jobs_of}
 use Rattle.lan_schedule.specs.Races.{Claimed, IsDealt, Worker, claims_in, count_of}
 use Rattle.lan_schedule.specs.Acts.{station_of}

@@ -8,7 +8,7 @@ use Rattle.std.proofs.lemmas.Result.{err_from_is_err_and}
 use Rattle.lan_base.specs.declared.frame.UserFrame.{UserFrame}
 use Rattle.association_slots.specs.Views.{ControlAt}
 use Rattle.lan_core.specs.declared.settings.Settings.{Settings}
-use Rattle.race_merge.specs.declared.step.Step.{Step}
+use Rattle.worker_races.specs.declared.merge.step.Step.{Step}
 use Rattle.trace_acts.specs.declared.halt.Halt.{Halt}
 use Rattle.trace_acts.specs.declared.halt.Halt.TheVariants as halts
 use Rattle.trace_acts.specs.declared.broken.Broken.{Broken}

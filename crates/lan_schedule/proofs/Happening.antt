@@ -22,9 +22,9 @@ use Rattle.lan_core.specs.Legal.{IsStep, IsStepped, IsThrifty, unused}
 use Rattle.lan_core.specs.Order.{is_event_of}
 use Rattle.association_slots.specs.Views.{ControlAt}
 use Rattle.group_safety.specs.Accounts.{IsExact as IsExactIn}
-use Rattle.transmit_words.specs.Ties.{HaveCaughtUp, HaveKeptUp, HaveLooked, KeepAhead, Followed}
-use Rattle.transmit_words.proofs.Public.{looked-none as unlooked}
-use Rattle.race_merge.specs.declared.step.Step.{Step}
+use Rattle.station_words.specs.Ties.{HaveCaughtUp, HaveKeptUp, HaveLooked, KeepAhead, Followed}
+use Rattle.station_words.proofs.Public.{looked-none as unlooked}
+use Rattle.worker_races.specs.declared.merge.step.Step.{Step}
 use Rattle.worker_races.specs.Carded.{AreCarded}
 use Rattle.worker_races.specs.Going.{WereTold}
 use Rattle.worker_races.proofs.Public.{carded-kept, looked-kept}

@@ -23,10 +23,10 @@ use Rattle.lan_core.specs.Types.{IsUserFrame}
 use Rattle.lan_core.specs.declared.stop.Which.{Which}
 use Rattle.lan_core.proofs.Public.{stands-more}
 use Rattle.fact_tally.specs.Summary.{Counts as Tallied, counts}
-use Rattle.race_merge.specs.declared.step.Step.{Step}
-use Rattle.transmit_words.specs.Seats.{HasJoined, WasSeated}
-use Rattle.transmit_words.specs.Ties.{tables_of, AreTied, AreToldAll, HaveCaughtUp, HaveKeptUp}
-use Rattle.transmit_words.specs.Seats.{AreAllIn}
+use Rattle.worker_races.specs.declared.merge.step.Step.{Step}
+use Rattle.station_words.specs.Seats.{HasJoined, WasSeated}
+use Rattle.station_words.specs.Ties.{tables_of, AreTied, AreToldAll, HaveCaughtUp, HaveKeptUp}
+use Rattle.station_words.specs.Seats.{AreAllIn}
 use Rattle.worker_races.specs.Carded.{AreCarded}
 use Rattle.worker_races.specs.Going.{HaveJoined, WereSeated}
 use Rattle.worker_races.specs.Senders.{AreSenders, IsNew, jobs_of}

@@ -12,7 +12,7 @@ use Rattle.lan_core.specs.Run.{stations}
 use Rattle.lan_core.specs.Ledgers.{air}
 use Rattle.lan_core.specs.Standing.{StandsFor as GroupStandsFor}
 use Rattle.fact_tally.specs.Summary.{counts}
-use Rattle.transmit_words.specs.Ties.{AreTied}
+use Rattle.station_words.specs.Ties.{AreTied}
 use Rattle.trace_text.specs.declared.line.Line.{Line}
 use Rattle.trace_text.specs.declared.line.Line.TheVariants as lines
 use Rattle.trace_text.specs.Writing.{IsInForm}

@@ -24,7 +24,7 @@ use Rattle.lan_core.specs.Parts.{claimed_in, followed_by, is_claim}
 use Rattle.lan_core.specs.Run.{Happening, Run}
 use Rattle.lan_core.proofs.Public.{IsClaim, is-claim, never-falls, stepped-front}
 use Rattle.group_safety.proofs.Public.{claims-by, kind}
-use Rattle.race_merge.proofs.Public.{adds-none}
+use Rattle.worker_races.proofs.Public.{adds-none}
 use Rattle.lan_schedule.specs.Races.{Claimed, claims_in, count_numbered}
 use Rattle.lan_schedule.specs.Sound.{IsNeverSpent}
 use Rattle.lan_schedule.specs.inside.Staged.{FindsLeft}

@@ -11,9 +11,9 @@ use Rattle.lan_core.specs.declared.fact.Fact.{Fact}
 use Rattle.lan_core.specs.declared.settings.Settings.{Settings}
 use Rattle.lan_core.specs.Parts.{followed_by, is_claim, without_claims}
 use Rattle.lan_core.specs.Run.{Happening, Profile, Run, started, stations}
-use Rattle.race_merge.specs.declared.step.Step.{Step}
-use Rattle.race_merge.specs.Table.{Controls}
-use Rattle.race_merge.proofs.Public.{starts-none}
+use Rattle.worker_races.specs.declared.merge.step.Step.{Step}
+use Rattle.worker_races.specs.merge.Table.{Controls}
+use Rattle.worker_races.proofs.Public.{starts-none}
 use Rattle.worker_races.specs.Performed.{ArePerformed, happenings}
 use Rattle.trace_acts.specs.Names.{names_of}
 use Rattle.lan_schedule.specs.Reports.{Report, reports}

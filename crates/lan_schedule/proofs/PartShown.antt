@@ -15,11 +15,11 @@ use Rattle.lan_core.specs.Parts.{is_claim, without_claims}
 use Rattle.lan_core.specs.Run.{Happening}
 use Rattle.data_workers.specs.declared.entry.Entry.{Entry}
 use Rattle.data_workers.specs.declared.entry.Entry.TheVariants.{Taken, Refused}
-use Rattle.race_merge.specs.Merged.{nth_log}
-use Rattle.race_merge.specs.Steps.{attempt_of, counted_from, logs_of}
-use Rattle.race_merge.specs.Taking.{first_of, frame_in, frames_of, left_by, next_entry, rest_of}
-use Rattle.race_merge.specs.Taking.{taken_by, without_next}
-use Rattle.race_merge.specs.Weaving.{AreClaimsOf, IsOfLog, IsWoven, is_claim_for}
+use Rattle.worker_races.specs.merge.Merged.{nth_log}
+use Rattle.worker_races.specs.merge.Steps.{attempt_of, counted_from, logs_of}
+use Rattle.worker_races.specs.merge.Taking.{first_of, frame_in, frames_of, left_by, next_entry, rest_of}
+use Rattle.worker_races.specs.merge.Taking.{taken_by, without_next}
+use Rattle.worker_races.specs.merge.Weaving.{AreClaimsOf, IsOfLog, IsWoven, is_claim_for}
 use Rattle.lan_schedule.specs.inside.Weaves.{claimed_by, frames_behind, kept_behind, shown_in}
 use Rattle.lan_schedule.specs.inside.Weaves.{shown_of, without_first}
 use Rattle.lan_schedule.proofs.PartReports.{facts_by}

@@ -16,11 +16,11 @@ use Rattle.lan_core.specs.Parts.{AreProtected, claimed_in, followed_by, protecte
 use Rattle.lan_core.specs.Run.{Happening, Run, facts_of}
 use Rattle.lan_core.specs.Standing.{StandsFor as GroupStandsFor}
 use Rattle.fact_tally.specs.Summary.{counts}
-use Rattle.race_merge.specs.Steps.{counted_from}
-use Rattle.race_merge.specs.Taking.{frames_of}
-use Rattle.race_merge.specs.Weaving.{IsWoven}
+use Rattle.worker_races.specs.merge.Steps.{counted_from}
+use Rattle.worker_races.specs.merge.Taking.{frames_of}
+use Rattle.worker_races.specs.merge.Weaving.{IsWoven}
 use Rattle.association_slots.specs.Views.{ControlAt}
-use Rattle.transmit_words.specs.Ties.{HaveCaughtUp}
+use Rattle.station_words.specs.Ties.{HaveCaughtUp}
 use Rattle.worker_races.specs.Beside.{Race, WereBeside, attempts_in, logs_in, part_in}
 use Rattle.worker_races.specs.Carded.{AreCarded}
 use Rattle.worker_races.specs.Performed.{happenings, run_after}

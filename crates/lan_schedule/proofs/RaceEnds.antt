@@ -10,7 +10,7 @@ use Rattle.lan_core.specs.declared.fact.Fact.{Fact}
 use Rattle.lan_core.specs.Run.{Happening, facts_of}
 use Rattle.lan_core.proofs.Public.{stands-more}
 use Rattle.fact_tally.specs.Summary.{counts}
-use Rattle.race_merge.specs.Taking.{frames_of}
+use Rattle.worker_races.specs.merge.Taking.{frames_of}
 use Rattle.association_slots.specs.Views.{ControlAt}
 use Rattle.worker_races.specs.Beside.{Race, WereBeside, part_in}
 use Rattle.trace_acts.specs.declared.halt.Halt.{Halt}

@@ -4,7 +4,7 @@ use Rattle.lan_base.specs.declared.frame.UserFrame.{UserFrame}
 use Rattle.association_slots.specs.Views.{ControlAt}
 use Rattle.lan_core.specs.declared.settings.Settings.{Settings}
 use Rattle.lan_core.specs.Run.{Run}
-use Rattle.transmit_words.specs.Ties.{AreTied, HaveCaughtUp, HaveKeptUp}
+use Rattle.station_words.specs.Ties.{AreTied, HaveCaughtUp, HaveKeptUp}
 use Rattle.worker_races.specs.Beside.{Race, WereBeside}
 use Rattle.worker_races.specs.Going.{HaveGone}
 use Rattle.worker_races.specs.Performed.{ArePerformed, run_after}

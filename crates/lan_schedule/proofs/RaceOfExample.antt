@@ -21,7 +21,7 @@ use Rattle.lan_core.specs.Order.{IsWithin, most_octets, most_stations, ticks}
 use Rattle.lan_core.specs.Run.{Run, stations}
 use Rattle.lan_core.specs.Stops.{first_stop, is_over_installs, passed, stop_at}
 use Rattle.group_safety.proofs.Public.{r11, r12, v12}
-use Rattle.race_merge.proofs.Public.{legal-after, newest}
+use Rattle.worker_races.proofs.Public.{legal-after, newest}
 use Rattle.worker_races.proofs.Public.{race}
 use Rattle.trace_text.specs.declared.line.Line.TheVariants as lines
 use Rattle.trace_acts.specs.Settings.{no_choice}

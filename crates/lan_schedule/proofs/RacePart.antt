@@ -17,13 +17,13 @@ use Rattle.lan_core.specs.Legal.{IsLegal, IsStepped, IsThrifty, unused}
 use Rattle.lan_core.specs.Parts.{followed_by}
 use Rattle.lan_core.specs.Run.{Happening, Run, facts_of, happened}
 use Rattle.lan_core.specs.Standing.{State, StandsFor as GroupStandsFor}
-use Rattle.race_merge.specs.declared.step.Step.{Step}
-use Rattle.race_merge.specs.Merged.{entries_of, merged}
-use Rattle.race_merge.specs.Places.{Move}
-use Rattle.race_merge.specs.Raced.{IsRaced}
-use Rattle.race_merge.specs.Steps.{AreSteps, counted_from, logs_of}
-use Rattle.race_merge.specs.Taking.{frames_of}
-use Rattle.race_merge.specs.Weaving.{IsWoven, part_of}
+use Rattle.worker_races.specs.declared.merge.step.Step.{Step}
+use Rattle.worker_races.specs.merge.Merged.{entries_of, merged}
+use Rattle.worker_races.specs.merge.Places.{Move}
+use Rattle.worker_races.specs.merge.Raced.{IsRaced}
+use Rattle.worker_races.specs.merge.Steps.{AreSteps, counted_from, logs_of}
+use Rattle.worker_races.specs.merge.Taking.{frames_of}
+use Rattle.worker_races.specs.merge.Weaving.{IsWoven, part_of}
 use Rattle.worker_races.specs.Beside.{Race, WereBeside, ans_in, attempts_in, logs_in, moves_in}
 use Rattle.worker_races.specs.Beside.{part_in, pointed_in}
 use Rattle.worker_races.specs.Performed.{happenings}

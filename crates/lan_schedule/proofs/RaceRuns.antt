@@ -10,8 +10,8 @@ use Rattle.association_slots.specs.Views.{ControlAt}
 use Rattle.data_workers.specs.Workers.{AreDone, HasTable, WorkerAt}
 use Rattle.lan_core.specs.declared.settings.Settings.{Settings}
 use Rattle.lan_core.specs.Run.{Profile, Run, stations}
-use Rattle.transmit_words.specs.Seats.{AreAllIn}
-use Rattle.transmit_words.specs.Ties.{tables_of}
+use Rattle.station_words.specs.Seats.{AreAllIn}
+use Rattle.station_words.specs.Ties.{tables_of}
 use Rattle.trace_acts.specs.Names.{names_of}
 use Rattle.trace_acts.specs.declared.halt.Halt.{Halt}
 use Rattle.trace_acts.specs.declared.broken.Broken.{Broken}

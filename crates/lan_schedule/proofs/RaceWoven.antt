@@ -19,10 +19,10 @@ use Rattle.lan_core.specs.Run.{Happening, Profile, Run, facts_of, stations}
 use Rattle.lan_core.specs.Standing.{StandsFor as GroupStandsFor}
 use Rattle.lan_core.proofs.Public.{alike-itself, alike-part, within-same}
 use Rattle.fact_tally.specs.Summary.{counts}
-use Rattle.race_merge.specs.Merged.{nth_log}
-use Rattle.race_merge.specs.Places.{Attempt}
-use Rattle.race_merge.specs.Taking.{frames_of}
-use Rattle.transmit_words.specs.Ties.{HaveCaughtUp}
+use Rattle.worker_races.specs.merge.Merged.{nth_log}
+use Rattle.worker_races.specs.merge.Places.{Attempt}
+use Rattle.worker_races.specs.merge.Taking.{frames_of}
+use Rattle.station_words.specs.Ties.{HaveCaughtUp}
 use Rattle.worker_races.specs.Beside.{Race, attempts_in}
 use Rattle.worker_races.specs.Carded.{AreCarded}
 use Rattle.worker_races.specs.Performed.{happenings}

@@ -6,9 +6,9 @@ use Rattle.std.specs.Prelude.{OnOk, OnErr}
 use Rattle.std.specs.declared.alloc.AllocError.{AllocError}
 use Rattle.std.proofs.lemmas.List.{map-append}
 use Rattle.atomic_table.specs.Seated.{TableId}
-use Rattle.transmit_words.specs.Seats.{NoMoreOut}
-use Rattle.transmit_words.specs.Ties.{tables_of}
-use Rattle.transmit_words.proofs.Public.{out-none, out-started, out-then}
+use Rattle.station_words.specs.Seats.{NoMoreOut}
+use Rattle.station_words.specs.Ties.{tables_of}
+use Rattle.station_words.proofs.Public.{out-none, out-started, out-then}
 use Rattle.lan_base.specs.declared.frame.UserFrame.{UserFrame}
 use Rattle.sak_exchange.specs.declared.held_key.Key.{Key}
 use Rattle.association_slots.specs.Views.{AllIn, ControlAt}
@@ -20,9 +20,9 @@ use Rattle.lan_core.specs.Lives.{transmitting_at}
 use Rattle.lan_core.specs.Order.{is_event_of}
 use Rattle.lan_core.specs.Run.{Run, Happening, happened}
 use Rattle.lan_core.specs.declared.fact.Fact.{Fact}
-use Rattle.race_merge.specs.declared.step.Step.{Step}
-use Rattle.race_merge.specs.Raced.{epoch_of as epoch_in}
-use Rattle.race_merge.specs.Table.{Controls}
+use Rattle.worker_races.specs.declared.merge.step.Step.{Step}
+use Rattle.worker_races.specs.merge.Raced.{epoch_of as epoch_in}
+use Rattle.worker_races.specs.merge.Table.{Controls}
 use Rattle.worker_races.specs.Going.{HaveGone, WereTold}
 use Rattle.worker_races.specs.Performed.{ArePerformed, IsPerformed, run_after}
 use Rattle.trace_acts.specs.declared.halt.Halt.{Halt}

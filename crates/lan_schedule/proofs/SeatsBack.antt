@@ -5,8 +5,8 @@ use Rattle.std.specs.List.{AllByRecursion}
 use Rattle.association_slots.specs.Views.{ControlAt, SeatAt}
 use Rattle.data_workers.specs.Workers.{AreDone, WorkerAt}
 use Rattle.data_workers.specs.declared.sender.Sender.{Sender}
-use Rattle.transmit_words.specs.Seats.{HasJoined, IsOut, NoMoreOut, WasSeated}
-use Rattle.transmit_words.proofs.Public.{out-joined, out-seated}
+use Rattle.station_words.specs.Seats.{HasJoined, IsOut, NoMoreOut, WasSeated}
+use Rattle.station_words.proofs.Public.{out-joined, out-seated}
 use Rattle.worker_races.specs.Senders.{IsNew}
 use Rattle.worker_races.proofs.Public.{first-done, others-done}
 use Rattle.lan_schedule.specs.declared.stage.Stage.{Stage}

@@ -10,8 +10,8 @@ use Rattle.std.specs.List.{AllByRecursion, filter, range_with_len}
 use Rattle.association_slots.specs.Steps.{seated}
 use Rattle.association_slots.specs.Views.{ControlAt, free}
 use Rattle.data_workers.specs.Workers.{WorkerAt}
-use Rattle.transmit_words.specs.Seats.{WasSeated}
-use Rattle.transmit_words.proofs.Public.{get-set}
+use Rattle.station_words.specs.Seats.{WasSeated}
+use Rattle.station_words.proofs.Public.{get-set}
 use Rattle.worker_races.specs.Going.{WereSeated}
 use Rattle.lan_schedule.specs.declared.stage.Stage.{Stage}
 use Rattle.lan_schedule.specs.Races.{Burst, Worker, worker_at, workers_at, workers_of}

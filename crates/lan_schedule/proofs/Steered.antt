@@ -4,9 +4,9 @@ use Rattle.std.proofs.Common.{subst, inl, inr, append_assoc, append-nil}
 use Rattle.std.specs.Prelude.{◌⊎◌, Option, Some, None, is_some, option_map, Ok, Err}
 use Rattle.association_slots.specs.Views.{ControlAt}
 use Rattle.lan_core.specs.declared.fact.Fact.{Fact}
-use Rattle.race_merge.specs.declared.step.Step.{Step}
-use Rattle.transmit_words.specs.Ties.{HaveKeptUp, HaveLooked}
-use Rattle.transmit_words.proofs.Public.{looked-none}
+use Rattle.worker_races.specs.declared.merge.step.Step.{Step}
+use Rattle.station_words.specs.Ties.{HaveKeptUp, HaveLooked}
+use Rattle.station_words.proofs.Public.{looked-none}
 use Rattle.trace_acts.specs.declared.halt.Halt.{Halt}
 use Rattle.trace_acts.specs.declared.halt.Halt.TheVariants as halts
 use Rattle.trace_acts.specs.Names.{names_of}

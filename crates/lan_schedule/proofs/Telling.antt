@@ -20,10 +20,10 @@ use Rattle.lan_core.specs.Lives.{Life, life, transmitting_at, keys_in}
 use Rattle.group_safety.specs.Transmitting.{Sending, Carried, now, names, transmits, CarriesIn}
 use Rattle.group_safety.specs.Transmitting.{CarriesAt}
 use Rattle.group_safety.specs.Accounts.{Account, account_at, numbers_at}
-use Rattle.transmit_words.specs.Counting.{times_in}
-use Rattle.transmit_words.specs.Telling.{KeepUp, CatchUp, Tells}
-use Rattle.transmit_words.specs.Shown.{Show, ShowAtLeast}
-use Rattle.transmit_words.specs.Ties.{AreTiedBy}
+use Rattle.station_words.specs.Counting.{times_in}
+use Rattle.station_words.specs.Telling.{KeepUp, CatchUp, Tells}
+use Rattle.station_words.specs.Shown.{Show, ShowAtLeast}
+use Rattle.station_words.specs.Ties.{AreTiedBy}
 use Rattle.lan_schedule.specs.declared.stage.Stage.{Stage}
 use Rattle.lan_schedule.specs.declared.commands.Replay.{Replay}
 use Rattle.lan_schedule.specs.Races.{Phase}

@@ -17,8 +17,8 @@ use Rattle.lan_core.specs.Expected.{emit_facts, expected}
 use Rattle.lan_core.specs.Legal.{IsStep}
 use Rattle.group_safety.specs.Accounts.{Account}
 use Rattle.group_safety.specs.Transmitting.{Carried, follow}
-use Rattle.transmit_words.specs.Telling.{KeepUp, Tells}
-use Rattle.transmit_words.specs.Ties.{CardsFollow, Followed, FollowsBy}
+use Rattle.station_words.specs.Telling.{KeepUp, Tells}
+use Rattle.station_words.specs.Ties.{CardsFollow, Followed, FollowsBy}
 
 -- what a frame on the air moves of what a station transmits
 framed-moves : (s n from : ℕ) (k : Carried) (o : Option (List ℕ)) (shown : List Fact)

@@ -19,9 +19,9 @@ use Rattle.lan_core.specs.Expected.{claim_fact, drawn_in, expected}
 use Rattle.lan_core.specs.Legal.{IsStep, IsStepped}
 use Rattle.lan_core.specs.Parts.{followed_by, is_claim, without_claims}
 use Rattle.lan_core.proofs.Public.{stepped-front}
-use Rattle.race_merge.specs.Places.{Attempt}
-use Rattle.race_merge.specs.Merged.{nth_log}
-use Rattle.race_merge.specs.Weaving.{AreClaimsOf, IsClaimOf, IsOfLog, IsWoven, is_claim_for}
+use Rattle.worker_races.specs.merge.Places.{Attempt}
+use Rattle.worker_races.specs.merge.Merged.{nth_log}
+use Rattle.worker_races.specs.merge.Weaving.{AreClaimsOf, IsClaimOf, IsOfLog, IsWoven, is_claim_for}
 use Rattle.lan_schedule.specs.Races.{Claimed, Worker, woven_in}
 use Rattle.lan_schedule.specs.World.{World, settings}
 use Rattle.lan_schedule.specs.Acts.{after_race, claim_of, since, station_of, woven}

@@ -5,7 +5,7 @@ use Rattle.lan_core.specs.declared.settings.Settings.{Settings}
 use Rattle.lan_core.specs.Run.{Run, stations, facts_of}
 use Rattle.lan_core.specs.Standing.{StandsFor as GroupStandsFor}
 use Rattle.fact_tally.specs.Summary.{counts}
-use Rattle.transmit_words.specs.Ties.{AreTied, HaveCaughtUp, HaveKeptUp}
+use Rattle.station_words.specs.Ties.{AreTied, HaveCaughtUp, HaveKeptUp}
 use Rattle.worker_races.specs.Carded.{AreCarded}
 use Rattle.trace_acts.specs.Settings.{lag_of}
 use Rattle.trace_acts.specs.Supply.{supply_nth}

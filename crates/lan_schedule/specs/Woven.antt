@@ -4,7 +4,7 @@ use Rattle.std.specs.Prelude.{◌≡◌, ◌++◌, Bool, true, false, List, map,
 use Rattle.association_slots.specs.Views.{ControlAt}
 use Rattle.data_workers.specs.Workers.{WorkerAt}
 use Rattle.lan_core.specs.Parts.{followed_by}
-use Rattle.race_merge.specs.Weaving.{IsWoven}
+use Rattle.worker_races.specs.merge.Weaving.{IsWoven}
 use Rattle.worker_races.specs.Beside.{Race, WereBeside, attempts_in, part_in}
 use Rattle.worker_races.specs.Performed.{happenings, run_after}
 use Rattle.trace_acts.specs.declared.broken.Broken.{Broken}

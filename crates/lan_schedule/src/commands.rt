@@ -5,7 +5,7 @@ ghost use Rattle.std.specs.Prelude.{List, Option, is_some, true};
 ghost use Rattle.std.specs.Prelude.{false, ◌+◌};
 ghost use Rattle.lan_core.specs.Run.{facts_of};
 ghost use Rattle.fact_tally.specs.Summary.{counts};
-ghost use Rattle.transmit_words.specs.Seats.{NoMoreOut};
+ghost use Rattle.station_words.specs.Seats.{NoMoreOut};
 ghost use Rattle.trace_text.specs.declared.line.Line.TheVariants as lines;
 ghost use Rattle.trace_text.specs.Reading.{line_in};
 ghost use Rattle.trace_text.specs.Writing.{IsInForm};

@@ -10,7 +10,7 @@ ghost use Rattle.lan_core.specs.Run.{facts_of};
 ghost use Rattle.lan_core.specs.Ledgers.{claims};
 ghost use Rattle.lan_core.specs.Expected.{last_number};
 ghost use Rattle.group_safety.specs.Accounts.{numbers_at, shows_at};
-ghost use Rattle.transmit_words.specs.Counting.{times_in};
+ghost use Rattle.station_words.specs.Counting.{times_in};
 ghost use Rattle.trace_acts.specs.declared.halt.Halt.{Halt};
 ghost use Rattle.trace_acts.specs.declared.halt.Halt.TheVariants as halts;
 ghost use Rattle.lan_schedule.specs.declared.commands.Replay.{Replay};
@@ -23,7 +23,7 @@ ghost use Rattle.lan_schedule.specs.Sound.{IsTidy, HasRunNone};
 ghost use Rattle.lan_schedule.specs.Standing.{StandsFor};
 ghost use Rattle.lan_schedule.specs.Shown.{words_of, HasWords, ShowTheCore};
 
-use transmit_words::{law_the_words_are_not_behind, law_the_words_show_what_transmits};
+use station_words::{law_the_words_are_not_behind, law_the_words_show_what_transmits};
 
 /// Whatever chance decides, the world of no line is tidy. Lines that are performed from there leave
 /// a tidy world, whether they stop or not, where there are fewer than 2^32 of them and they run no

@@ -8,8 +8,8 @@ ghost use Rattle.std.specs.Option.{option_copied};
 ghost use Rattle.data_workers.specs.Workers.{HasTable};
 ghost use Rattle.lan_core.specs.declared.event.Event.TheVariants as events;
 ghost use Rattle.association_slots.specs.Views.{ControlAt};
-ghost use Rattle.transmit_words.specs.Seats.{NoMoreOut};
-ghost use Rattle.transmit_words.specs.Ties.{tables_of};
+ghost use Rattle.station_words.specs.Seats.{NoMoreOut};
+ghost use Rattle.station_words.specs.Ties.{tables_of};
 ghost use Rattle.worker_races.specs.Senders.{IsNew, jobs_of};
 ghost use Rattle.lan_schedule.specs.Races.{Numbered as NumberedAt};
 ghost use Rattle.lan_schedule.specs.Races.{frames_asked, octets_asked, limit_of, share, worker_at};
@@ -38,11 +38,11 @@ use fact_tally::Tally;
 use lan_base::{Sci, UserFrame};
 use lan_core::{Event, Which};
 use packet_claims::Gate;
-use race_merge::{Step, merge, taken_frames};
+use station_words::{law_caught_up_words_keep_up, law_words_that_tell_keep_up};
 use std::alloc::{AllocError, Global};
 use std::thread::Threads;
 use trace_acts::{Halt, Kind};
-use transmit_words::{law_caught_up_words_keep_up, law_words_that_tell_keep_up};
+use worker_races::merge::{Step, merge, taken_frames};
 use worker_races::{
     law_a_race_of_workers_is_a_race, law_cards_of_a_race_are_right,
     law_few_numbers_of_a_race_are_unused, law_frames_of_a_race_are_protected,

@@ -44,13 +44,13 @@ use lan_base::{Mac, Name, Octets, Sci, UserFrame};
 use lan_core::{Event, Fact, Facts, Lan, Settings, StepError, Which};
 use mka_kdf::GroupFault;
 use packet_claims::Gate;
-use race_merge::Step;
 use rx_slots::Checked;
+use station_words::{law_few_claims_spend_no_words, law_words_keep_a_run_thrifty};
 use std::alloc::{AllocError, Global};
 use std::thread::Threads;
 use trace_acts::{Choices, Halt, Kind, Links, Supply, halt_of, position, settings_of, supply_of};
 use trace_text::Line;
-use transmit_words::{law_few_claims_spend_no_words, law_words_keep_a_run_thrifty};
+use worker_races::merge::Step;
 use worker_races::{law_an_event_tells_the_words, law_control_goes_on};
 
 /// The greatest count of user frames that lines name.

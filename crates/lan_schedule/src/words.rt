@@ -11,11 +11,11 @@ ghost use Rattle.lan_core.specs.Expected.{last_number};
 ghost use Rattle.lan_core.specs.Legal.{IsStepped};
 ghost use Rattle.lan_core.specs.Standing.{State, StandsFor};
 ghost use Rattle.group_safety.specs.Accounts.{IsExact};
-ghost use Rattle.transmit_words.specs.Ties.{tables_of, AreTied, AreAhead, HaveKeptUp};
-ghost use Rattle.transmit_words.specs.Ties.{HaveCaughtUp, CaughtAhead, Followed, HaveLooked};
-ghost use Rattle.transmit_words.specs.Ties.{KeepCards};
-ghost use Rattle.transmit_words.specs.Seats.{WasSeated, HasNoSeat, HasJoined, HasGot};
-ghost use Rattle.transmit_words.specs.Seats.{NoMoreOut};
+ghost use Rattle.station_words.specs.Ties.{tables_of, AreTied, AreAhead, HaveKeptUp};
+ghost use Rattle.station_words.specs.Ties.{HaveCaughtUp, CaughtAhead, Followed, HaveLooked};
+ghost use Rattle.station_words.specs.Ties.{KeepCards};
+ghost use Rattle.station_words.specs.Seats.{WasSeated, HasNoSeat, HasJoined, HasGot};
+ghost use Rattle.station_words.specs.Seats.{NoMoreOut};
 ghost use Rattle.worker_races.specs.Carded.{AreCarded};
 ghost use Rattle.lan_schedule.specs.Numbers.{shown_next};
 ghost use Rattle.lan_schedule.specs.Stages.{Says};
@@ -25,12 +25,12 @@ ghost use Rattle.lan_schedule.specs.inside.Set.{SaysAhead, AreSet, IsGiven};
 use association_slots::{SlotTable, WorkerSeat};
 use lan_core::{Event, Fact, Lan};
 use packet_claims::Gate;
-use std::alloc::{AllocError, Global};
-use std::marker::Model;
-use transmit_words::{
+use station_words::{
     Controls, law_all_words_keep_up, law_all_words_stay_caught_up, law_all_words_stay_tied,
     law_new_words_are_tied,
 };
+use std::alloc::{AllocError, Global};
+use std::marker::Model;
 use worker_races::{law_cards_stay_right, law_new_words_owe_no_card};
 
 /// The words of all stations: the tables by place, and the hands that move them. Contracts see what
@@ -44,7 +44,7 @@ pub struct Words {
 impl Model for Words {
     ghost use Rattle.std.specs.Prelude.{◌≡◌, List};
     ghost use Rattle.association_slots.specs.Views.{ControlAt};
-    ghost use Rattle.transmit_words.specs.Ties.{tables_of};
+    ghost use Rattle.station_words.specs.Ties.{tables_of};
 
     ghost Value = { List ControlAt };
 

@@ -1,5 +1,5 @@
 -- What is told of each member, of right MKPDUs with what they say, newest first.
-use Rattle.std.specs.Prelude.{ℕ, ◌≡◌, ◌+◌, ◌*◌, ◌&&◌, ◌||◌, Bool, true, false, not, nat_lt, min, if◌then◌else◌, List, [], ◌∷◌, map, length, find, sum_by, is_some, Option, Some, None}
+use Rattle.std.specs.Prelude.{ℕ, ◌≡◌, ◌&&◌, ◌||◌, Bool, true, false, not, nat_lt, min, if◌then◌else◌, List, [], ◌∷◌, map, length, find, sum_by, is_some, Option, Some, None}
 use Rattle.std.specs.List.{list_any}
 use Rattle.std.specs.List.Sorted.{IsStrictlySortedBy}
 use Rattle.std.specs.Set.{distinct_count}
@@ -9,7 +9,7 @@ use Rattle.std.specs.declared.cmp.Ordering.{Ordering}
 use Rattle.lan_base.specs.declared.address.Mi.{Mi}
 use Rattle.lan_base.specs.declared.address.Sci.{Sci}
 use Rattle.lan_base.specs.Identifiers.{same_mi, same_sci}
-use Rattle.lan_base.specs.Timers.{life_time}
+use Rattle.lan_base.specs.Instants.{is_recent}
 use Rattle.mkpdu_codec.specs.declared.announcement.Announcement.{Announcement}
 use Rattle.mkpdu_codec.specs.declared.given.Given.{Given}
 use Rattle.mkpdu_codec.specs.declared.given.Given.TheVariants.{Aes128, Aes256, Other}
@@ -89,10 +89,6 @@ numbers_given group mi h = map (λ e. number_given e.said.given) (by group mi h 
 abbrev pub gives_back : Test
 gives_back h e = gives_key h e
     && list_any (λ n. nat_lt (number_given e.said.given) n) (numbers_given e.mkpdu.group e.mkpdu.mi h)
-
--- a time is less than MKA Life Time before another, or behind it; a tick is 0.1 s
-abbrev pub is_recent : ℕ → ℕ → Bool
-is_recent nanos now = nat_lt now (nanos + life_time * 100000000)
 
 abbrev pub lists_live : Mi → Announcement → Bool
 lists_live mi said = list_any (λ p. same_mi p.mi mi) said.live

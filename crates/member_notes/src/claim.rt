@@ -1,7 +1,7 @@
 //! What is kept of an MKPDU that serves.
 
 ghost use Rattle.std.specs.Prelude.{◌≡◌, List, IfOk};
-ghost use Rattle.member_notes.specs.Facts.{is_recent, spoken};
+ghost use Rattle.member_notes.specs.Facts.{spoken};
 ghost use Rattle.member_notes.specs.FactsKept.{claim_in};
 ghost use Rattle.member_notes.specs.inside.Hearing.{rivals};
 ghost use Rattle.member_notes.specs.declared.mkpdu.RightMkpdu.{RightMkpdu};
@@ -9,15 +9,9 @@ ghost use Rattle.std.specs.List.{list_any};
 ghost use Rattle.lan_base.specs.Identifiers.{same_mi};
 
 use crate::mkpdu::RightMkpdu;
-use lan_base::{LIFE_TIME, Mi, Sci};
+use lan_base::{Mi, Sci, is_recent};
 use mkpdu_codec::{Announcement, Peer, Peers};
 use std::alloc::{AllocError, Global};
-
-/// Nanoseconds of a tick.
-const TICK_NANOS: u64 = 100_000_000;
-
-/// Nanoseconds of MKA Life Time.
-const LIFE_NANOS: u64 = LIFE_TIME as u64 * TICK_NANOS;
 
 /// When it came, its SCI, and whom it lists as live.
 #[derive(Drop)]
@@ -69,11 +63,4 @@ fn lists(peers: &[Peer], mi: Mi) -> bool
     ensures { result ≡ list_any (λ p. same_mi p.mi mi) peers.now }
 {
     peers.iter().any(|peer| peer.mi == mi)
-}
-
-/// Whether a time is less than MKA Life Time before another, or behind it.
-fn is_recent(nanos: u64, now: u64) -> bool
-    ensures { result ≡ is_recent nanos now }
-{
-    now < nanos || now - nanos < LIFE_NANOS
 }

@@ -7,9 +7,7 @@ ghost use Rattle.packet_verdicts.specs.Kinds.{is_of_end, sec_kind, tagged_kind};
 
 use crate::kind::{Malformed, Sec};
 use gcm_frames::{Tag, TagRefusal, implied_tag_of};
-
-/// The most octets that a frame may have.
-const FRAME_MAX: usize = 65_536;
+use lan_base::FRAME_MAX;
 
 /// Where the short length of a frame stands.
 const SHORT_LENGTH: usize = 15;

@@ -4,9 +4,9 @@ use crate::logs::{A, B, logs_of_both};
 use Mark::{Claims, Delivers, Restarts, Ticks};
 use data_workers::Log;
 use lan_core::Event;
-use race_merge::{Step, merge};
 use std::alloc::Global;
 use std::process::Abort;
+use worker_races::merge::{Step, merge};
 
 /// An event of a race.
 #[derive(Clone, Copy, Debug, PartialEq, Eq)]

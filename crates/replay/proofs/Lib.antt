@@ -3,4 +3,5 @@ mod Telling
 mod Ending
 mod Playing
 mod Weaker
+pub mod twin_runs
 pub mod Public

@@ -6,3 +6,4 @@ pub mod Causes
 pub mod Runs
 pub mod OneGroup
 pub mod inside
+pub mod twin

@@ -6,6 +6,7 @@ mod gate;
 mod player;
 mod replaying;
 mod transcribing;
+pub mod twin;
 mod unrecorded;
 mod writing;
 

@@ -1,10 +1,10 @@
 -- What members said last, and which are beside a frame.
-use Rattle.std.specs.Prelude.{ℕ, ◌+◌, ◌*◌, ◌==◌, ◌&&◌, nat_lt, not, Bool, false, if◌then◌else◌, List, [], ◌∷◌, ◌++◌, Option, Some, None}
+use Rattle.std.specs.Prelude.{ℕ, ◌==◌, ◌&&◌, not, Bool, false, if◌then◌else◌, List, [], ◌∷◌, ◌++◌, Option, Some, None}
 use Rattle.std.specs.List.{list_any}
 use Rattle.lan_base.specs.declared.address.Mi.{Mi}
 use Rattle.lan_base.specs.declared.address.Sci.{Sci}
 use Rattle.lan_base.specs.Identifiers.{same_mi, same_sci}
-use Rattle.lan_base.specs.Timers.{life_time}
+use Rattle.lan_base.specs.Instants.{is_recent}
 use Rattle.mkpdu_codec.specs.declared.announcement.Announcement.{Announcement}
 use Rattle.mkpdu_codec.specs.declared.peer.Peer.{Peer}
 use Rattle.member_notes.specs.Mkpdus.{is_of}
@@ -46,14 +46,6 @@ members (Gave group id key ∷ h) = members h
 members (Spoke s ∷ h) = (s.mkpdu.group, s.mkpdu.mi) ∷ members h
 members (Used frame ∷ h) = members h
 
--- a tick of key agreement, 0.1 s, in nanoseconds
-abbrev pub tick_nanos : ℕ
-tick_nanos = 100000000
-
--- MKA Life Time, 6.0 s
-abbrev pub life_nanos : ℕ
-life_nanos = life_time * tick_nanos
-
 abbrev pub is_under : Sci → Option Said → Bool
 is_under sci None = false
 is_under sci (Some s) = same_sci s.sci sci
@@ -62,7 +54,7 @@ is_under sci (Some s) = same_sci s.sci sci
 -- last under the frame's SCI
 abbrev pub is_near : (Mi → Option Said) → RightFrame → Said → Bool
 is_near others frame s =
-    nat_lt frame.time (s.nanos + life_nanos)
+    is_recent s.nanos frame.time
     && (not (same_sci s.sci frame.sci) && list_any (λ p. is_under frame.sci (others p.mi)) s.listed)
 
 abbrev pub is_mi : Mi → Option Mi → Bool

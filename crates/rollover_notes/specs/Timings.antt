@@ -3,12 +3,13 @@ use Rattle.std.specs.Prelude.{ℕ, ◌+◌, ◌*◌, nat_lt, is_some, Bool, true
 use Rattle.std.specs.List.{list_any}
 use Rattle.lan_base.specs.Timers.{retire_time}
 use Rattle.use_notes.specs.declared.frame.RightFrame.{RightFrame}
+use Rattle.lan_base.specs.Instants.{tick_nanos}
 use Rattle.rollover_notes.specs.declared.timing.Timing.{Timing}
 use Rattle.rollover_notes.specs.declared.timing.Timing.TheVariants.{Early, Joining, Late, InTime}
 use Rattle.rollover_notes.specs.Events.{Event}
 use Rattle.rollover_notes.specs.Givings.{given_before, given_later, in_order, is_given}
 use Rattle.rollover_notes.specs.Reports.{began, reported}
-use Rattle.rollover_notes.specs.Speaking.{Member, is_beside, members, tick_nanos}
+use Rattle.rollover_notes.specs.Speaking.{Member, is_beside, members}
 
 -- SAK Retire Time, 3.0 s
 abbrev pub retire_nanos : ℕ

@@ -1,18 +1,13 @@
 //! What a member said last.
 
-ghost use Rattle.std.specs.Prelude.{◌≡◌, ◌+◌, nat_lt, IfOk};
-ghost use Rattle.rollover_notes.specs.Speaking.{life_nanos, said_of};
+ghost use Rattle.std.specs.Prelude.{◌≡◌, IfOk};
+ghost use Rattle.lan_base.specs.Instants.{is_recent};
+ghost use Rattle.rollover_notes.specs.Speaking.{said_of};
 
-use lan_base::{LIFE_TIME, Mi, Sci};
+use lan_base::{Mi, Sci, is_recent};
 use mkpdu_codec::{Announcement, Peer};
 use std::alloc::{AllocError, Global};
 use std::marker::Model;
-
-/// A tick of key agreement, 0.1 s, in nanoseconds.
-pub const TICK_NANOS: u64 = 100_000_000;
-
-/// MKA Life Time, in nanoseconds.
-const LIFE_NANOS: u64 = LIFE_TIME as u64 * TICK_NANOS;
 
 /// A member: a group and an MI.
 pub type Member = (u32, Mi);
@@ -63,8 +58,8 @@ impl Saying {
 
     /// Whether it was said less than MKA Life Time before a time, or behind it.
     pub fn is_recent(&self, time: u64) -> bool
-        ensures { result ≡ nat_lt time (self.now.nanos + life_nanos) }
+        ensures { result ≡ is_recent self.now.nanos time }
     {
-        time < self.nanos || time - self.nanos < LIFE_NANOS
+        is_recent(self.nanos, time)
     }
 }

@@ -12,8 +12,8 @@ ghost use Rattle.rollover_notes.specs.inside.Walking.{timing_in};
 
 use crate::givings::Givings;
 use crate::reports::Reports;
-use crate::saying::{Member, TICK_NANOS};
-use lan_base::RETIRE_TIME;
+use crate::saying::Member;
+use lan_base::{RETIRE_TIME, TICK_NANOS};
 use use_notes::RightFrame;
 
 /// SAK Retire Time, in nanoseconds.

@@ -10,8 +10,8 @@ use Rattle.replay.specs.Sinks.{Sunk}
 use Rattle.lan_schedule.specs.Races.{Chance}
 use Rattle.lan_schedule.specs.World.{beginning}
 use Rattle.lan_schedule.specs.Sound.{IsTidy}
-use Rattle.roll_schedule.specs.World.{beginning as twin_beginning}
-use Rattle.roll_schedule.specs.Sound.{IsTidy as IsTidyTwin}
+use Rattle.twin_schedule.specs.World.{beginning as twin_beginning}
+use Rattle.twin_schedule.specs.Sound.{IsTidy as IsTidyTwin}
 use Rattle.trace_maker.specs.Made.{made}
 use Rattle.rollover_program.specs.declared.status.Status.{Status}
 use Rattle.rollover_program.specs.declared.status.Status.TheVariants.{Usage, Halted}

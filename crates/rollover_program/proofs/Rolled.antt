@@ -5,15 +5,15 @@ use Rattle.std.proofs.lemmas.Bool.Decides.{nat_tests}
 use Rattle.lan_base.specs.Faults.{Rose}
 use Rattle.text_lines.specs.Texts.{lines_of, whole_lines}
 use Rattle.text_lines.specs.Reading.{Sourced}
-use Rattle.roll_schedule.specs.World.{World, beginning}
-use Rattle.roll_schedule.specs.Acts.{Course, Goes, perform}
-use Rattle.roll_schedule.specs.Lines.{performed_all}
-use Rattle.roll_schedule.specs.Sound.{IsTidy}
-use Rattle.roll_schedule.specs.Ends.{reported}
+use Rattle.twin_schedule.specs.World.{World, beginning}
+use Rattle.twin_schedule.specs.Acts.{Course, Goes, perform}
+use Rattle.twin_schedule.specs.Lines.{performed_all}
+use Rattle.twin_schedule.specs.Sound.{IsTidy}
+use Rattle.twin_schedule.specs.Ends.{reported}
 use Rattle.replay.specs.declared.cause.Cause.TheVariants as causes
 use Rattle.replay.specs.Sinks.{Sunk}
 use Rattle.replay.specs.Runs.{most_input, within, EndsRun}
-use Rattle.roll_replay.specs.TwoGroups.{transcript, two_groups}
+use Rattle.replay.specs.twin.TwoGroups.{transcript, two_groups}
 use Rattle.rollover_program.specs.declared.status.Status.{Status}
 use Rattle.rollover_program.specs.declared.status.Status.TheVariants.{Done, Halted}
 use Rattle.rollover_program.specs.TwoGroups.{ArePromised}

@@ -15,7 +15,7 @@ use Rattle.cak_roll.specs.declared.event.TwinEvent.TheVariants.{Send}
 use Rattle.cak_roll.specs.Twin.{Twin, TwinHappening, IsTwinRun, setting_of, run_of, part_of, merged}
 use Rattle.cak_roll.specs.Twin.{transmits}
 use Rattle.cak_roll.specs.Both.{OnceOver}
-use Rattle.roll_schedule.specs.World.{World, pair_of}
+use Rattle.twin_schedule.specs.World.{World, pair_of}
 
 -- The run of a group is legal and thrifty, and nothing in it was forged. No key identifier names two
 -- keys there, and in every steady rollover each frame that is delivered in time is found. The facts of

@@ -5,8 +5,8 @@ ghost use Rattle.lan_schedule.specs.Acts.{course, world_of};
 ghost use Rattle.lan_schedule.specs.Races.{Chance};
 ghost use Rattle.lan_schedule.specs.Sound.{HasRunNone, IsTidy};
 ghost use Rattle.lan_schedule.specs.World.{World, is_racing};
-ghost use Rattle.roll_schedule.specs.World.{World as TwinWorld};
-ghost use Rattle.roll_schedule.specs.Sound.{IsTidy as IsTidyTwin};
+ghost use Rattle.twin_schedule.specs.World.{World as TwinWorld};
+ghost use Rattle.twin_schedule.specs.Sound.{IsTidy as IsTidyTwin};
 ghost use Rattle.replay.specs.Runs.{within};
 ghost use Rattle.replay.specs.OneGroup.{one_group};
 ghost use Rattle.rollover_program.specs.Headline.{IsPromised};
@@ -14,11 +14,11 @@ ghost use Rattle.rollover_program.specs.TwoGroups.{ArePromised};
 
 use group_safety::{law_hitless, law_once, law_one_key};
 use lan_schedule::law_lines_leave_a_tidy_world;
-use roll_schedule::{
-    law_both_groups_of_tidy_worlds_are_sound, law_groups_of_tidy_worlds_are_sound,
-};
 use text_lines::law_lines_are_few;
 use transcript::law_a_run_is_cut_into_its_events;
+use twin_schedule::{
+    law_both_groups_of_tidy_worlds_are_sound, law_groups_of_tidy_worlds_are_sound,
+};
 
 /// All that is promised holds of the run of each tidy world outside a race: one use of each packet
 /// number, one key under each identifier, and hitless rollovers; and its facts tell its events.

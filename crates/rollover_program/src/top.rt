@@ -41,9 +41,9 @@ use crate::words::{Order, Refusal, read_order};
 use lan_base::{Sink, Source};
 use lan_schedule::law_lines_leave_a_tidy_world;
 use replay::{AnyGate, Cause};
-use roll_schedule::law_groups_of_tidy_worlds_are_sound;
 use std::alloc::Global;
 use std::thread::Threads;
+use twin_schedule::law_groups_of_tidy_worlds_are_sound;
 
 /// Carries out what words order, which come without the program's name.
 ///

@@ -5,7 +5,7 @@ ghost use Rattle.aes_block.specs.Secrets.{secret_octets};
 ghost use Rattle.lan_base.specs.declared.address.Sci.{Sci};
 ghost use Rattle.lan_base.specs.declared.association_number.AssociationNumber.{AssociationNumber};
 ghost use Rattle.lan_base.specs.AssociationNumbers.{same_an};
-ghost use Rattle.lan_base.specs.Ranges.{most_frame_octets};
+ghost use Rattle.gcm_core.specs.Gcm.{most_text_octets};
 ghost use Rattle.rx_slots.specs.declared.arrival.Checked.{Checked};
 ghost use Rattle.rx_slots.specs.Histories.{Receiving, installed, removed, heard, standing_key};
 ghost use Rattle.rx_slots.specs.Answers.{IsPrompt, checked as checked_answer, checked_data};
@@ -84,10 +84,10 @@ impl RxSlots {
         self.slots[usize::from(an.number())] = slot;
     }
 
-    /// Answers a heard frame, which is no longer than a frame may be. An error leaves the slots as
-    /// they were.
+    /// Answers a heard frame, which is no longer than GCM takes. An error leaves the slots as they
+    /// were.
     pub fn receive(&mut self, frame: &[u8]) -> Result<Arrival, AllocError>
-        requires { length frame.now ≤ most_frame_octets }
+        requires { length frame.now ≤ most_text_octets }
         ensures answer { (own : Sci) (window : ℕ) (h : List Receiving)
             → StandsFor own window self.old h →
             IfOk result (λ arrival. arrival ≡ answer own window h frame.now) }
@@ -103,9 +103,9 @@ impl RxSlots {
         self.admit(checked)
     }
 
-    /// Answers a frame, which is no longer than a frame may be, as far as its tag.
+    /// Answers a frame, which is no longer than GCM takes, as far as its tag.
     pub fn check(&self, frame: &[u8]) -> Result<Checked, AllocError>
-        requires { length frame.now ≤ most_frame_octets }
+        requires { length frame.now ≤ most_text_octets }
         ensures answer { (own : Sci) (window : ℕ) (h : List Receiving)
             → StandsFor own window self.now h →
             IfOk result (λ checked. checked ≡ checked_answer own (standing_key h) frame.now) }
@@ -240,7 +240,7 @@ impl RxSlots {
 /// Answers a frame by its tag under a key.
 fn opened(alloc: Global, key: &GcmKey, tag: &Tag, frame: &[u8]) -> Result<Checked, AllocError>
     requires tag { tag_fields frame.now ≡ Ok tag.now }
-    requires length { length frame.now ≤ most_frame_octets }
+    requires length { length frame.now ≤ most_text_octets }
     requires within { tag.now.start + tag.now.len + 16 ≤ length frame.now }
     ensures { IfOk result (λ checked. checked
         ≡ checked_data tag.now (opened_data key.now tag.now frame.now)) }

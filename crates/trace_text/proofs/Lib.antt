@@ -11,4 +11,5 @@ pub mod Spacing
 pub mod Spelling
 pub mod Taking
 mod Examples
+pub mod twin_lines
 pub mod Public

@@ -8,3 +8,4 @@ pub mod Reading
 pub mod Writing
 pub mod Answering
 pub mod inside
+pub mod twin

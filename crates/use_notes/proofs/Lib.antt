@@ -8,4 +8,5 @@ mod Fronts
 mod Windows
 mod Orders
 mod Examples
+pub mod changing
 pub mod Public

@@ -3,3 +3,4 @@ pub mod Once
 pub mod Uses
 pub mod Standing
 pub mod inside
+pub mod changes

@@ -2,6 +2,7 @@
 //! used twice, and what is told of each key and sender.
 #![tactic(auto)]
 
+pub mod changes;
 mod counts;
 mod frame;
 mod laws;

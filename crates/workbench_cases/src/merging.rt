@@ -5,11 +5,11 @@ mod steps;
 
 use hand::{WORKERS, append_logs};
 use lan_core::Event;
-use race_merge::merge;
 use std::alloc::Global;
 use std::thread::Threads;
 use std::time::{Clock, Duration, Instant};
 use steps::ticks;
+use worker_races::merge::merge;
 
 /// A merged list: how many steps and claims stand in it, and how long the merge took.
 #[derive(Clone, Copy)]

@@ -9,8 +9,8 @@ use Rattle.association_slots.specs.declared.view.ControlView.{ControlView}
 use Rattle.association_slots.specs.declared.view.SeatView.{SeatView}
 use Rattle.data_workers.specs.Workers.{AreDone, WorkerAt}
 use Rattle.data_workers.specs.declared.sender.Sender.{Sender}
-use Rattle.transmit_words.specs.Seats.{WasSeated, is_out}
-use Rattle.transmit_words.proofs.Public.{set-false, set-true}
+use Rattle.station_words.specs.Seats.{WasSeated, is_out}
+use Rattle.station_words.proofs.Public.{set-false, set-true}
 use Rattle.worker_races.specs.Going.{WereSeated}
 use Rattle.worker_races.specs.Reading.{view_in, view_at}
 use Rattle.worker_races.specs.Senders.{IsNew}

@@ -43,17 +43,18 @@ use Rattle.group_safety.specs.Accounts.{Account, account_at, numbers_at, shows_a
 use Rattle.group_safety.specs.Transmitting.{Carried, Carries, CarriesAt, CarriesIn, names, now, sends as sending}
 use Rattle.group_safety.proofs.Public.{settings, alice, bob, first_key, r11, r12, l11, l12, v11, v12, both}
 use Rattle.group_safety.proofs.Public.{a-user, most_next, next-most}
-use Rattle.race_merge.specs.Merged.{entries_of, merged}
-use Rattle.race_merge.specs.Marks.{Mark}
-use Rattle.race_merge.specs.Places.{Move}
-use Rattle.race_merge.specs.Raced.{epoch_at, epoch_of}
-use Rattle.race_merge.specs.Weaving.{IsWoven, part_of}
-use Rattle.race_merge.proofs.Public.{newest, twice, performed, bob-waits, bob-sends, legal-before, legal-after}
-use Rattle.race_merge.proofs.Public.{begins_key, in-this-order, turned, turned-is-not-woven, race-woven}
-use Rattle.transmit_words.specs.Counting.{past_claims, times_in}
-use Rattle.transmit_words.specs.Telling.{CatchUp, KeepUp}
-use Rattle.transmit_words.specs.Ties.{AreTiedBy, HaveCaughtUp, HaveKeptUp, IsTiedBy}
-use Rattle.transmit_words.proofs.Public.{looked-none}
+use Rattle.worker_races.specs.merge.Merged.{entries_of, merged}
+use Rattle.worker_races.specs.merge.Marks.{Mark}
+use Rattle.worker_races.specs.merge.Places.{Move}
+use Rattle.worker_races.specs.merge.Raced.{epoch_at, epoch_of}
+use Rattle.worker_races.specs.merge.Weaving.{IsWoven, part_of}
+use Rattle.worker_races.proofs.weaving.RaceExample.{newest, twice, performed, bob-waits, bob-sends, legal-before, legal-after}
+use Rattle.worker_races.proofs.weaving.WovenExample.{begins_key, in-this-order, turned, turned-is-not-woven}
+use Rattle.worker_races.proofs.weaving.WovenRun.{race-woven}
+use Rattle.station_words.specs.Counting.{past_claims, times_in}
+use Rattle.station_words.specs.Telling.{CatchUp, KeepUp}
+use Rattle.station_words.specs.Ties.{AreTiedBy, HaveCaughtUp, HaveKeptUp, IsTiedBy}
+use Rattle.station_words.proofs.Public.{looked-none}
 use Rattle.worker_races.specs.Beside.{Race, WereBeside, ans_in, attempts_in, moves_in, part_in, pointed_in}
 use Rattle.worker_races.specs.Going.{WasTold, words_by}
 use Rattle.worker_races.specs.Performed.{happenings}

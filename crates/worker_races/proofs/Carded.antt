@@ -15,7 +15,7 @@ use Rattle.lan_core.specs.Ledgers.{installs}
 use Rattle.lan_core.specs.Legal.{IsStep, IsStepped}
 use Rattle.lan_core.specs.Run.{Happening, Run}
 use Rattle.group_safety.specs.Transmitting.{Carried, CarriesAt, follow}
-use Rattle.transmit_words.specs.Ties.{Followed}
+use Rattle.station_words.specs.Ties.{Followed}
 use Rattle.worker_races.specs.Carded.{AreCarded, KeepCarried}
 use Rattle.worker_races.proofs.CardsOn.{cards-on}
 

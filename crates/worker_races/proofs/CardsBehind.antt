@@ -16,12 +16,12 @@ use Rattle.lan_core.specs.Lives.{life}
 use Rattle.lan_core.specs.Parts.{AreAlike, followed_by, is_claim, without_claims}
 use Rattle.lan_core.specs.Run.{Happening, Run, stations}
 use Rattle.lan_core.proofs.Public.{alike-event, alike-itself, claim-alike, stepped-front}
-use Rattle.race_merge.specs.Sealing.{AreCards, HasInLife, HasInstalled}
-use Rattle.race_merge.specs.Weaving.{IsWoven}
-use Rattle.race_merge.proofs.Public.{none-there}
-use Rattle.transmit_words.specs.Seats.{HasJoined, WasSeated}
-use Rattle.transmit_words.specs.Ties.{HaveLooked, KeepCards}
-use Rattle.transmit_words.proofs.Public.{cards-set}
+use Rattle.worker_races.specs.merge.Sealing.{AreCards, HasInLife, HasInstalled}
+use Rattle.worker_races.specs.merge.Weaving.{IsWoven}
+use Rattle.worker_races.proofs.weaving.NoStation.{none-there}
+use Rattle.station_words.specs.Seats.{HasJoined, WasSeated}
+use Rattle.station_words.specs.Ties.{HaveLooked, KeepCards}
+use Rattle.station_words.proofs.Public.{cards-set}
 use Rattle.worker_races.specs.Beside.{Race, WereBeside, attempts_in, cards_in}
 use Rattle.worker_races.specs.Carded.{AreCarded}
 use Rattle.worker_races.specs.Going.{HaveJoined, WereSeated}

@@ -30,8 +30,8 @@ use Rattle.group_safety.specs.Transmitting.{Carried, CarriesAt, CarriesIn}
 use Rattle.association_slots.specs.Cards.{card_at}
 use Rattle.association_slots.specs.declared.view.ControlView.{ControlView}
 use Rattle.sak_exchange.proofs.Public.{by_option}
-use Rattle.transmit_words.specs.Ties.{HasCarded}
-use Rattle.race_merge.specs.Sealing.{HasInLife, HasInstalled}
+use Rattle.station_words.specs.Ties.{HasCarded}
+use Rattle.worker_races.specs.merge.Sealing.{HasInLife, HasInstalled}
 use Rattle.worker_races.proofs.KeysNew.{new-held, new-or-old, new-shown}
 
 -- ---- the rules on keys are kept in each life

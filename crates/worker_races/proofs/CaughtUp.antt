@@ -7,8 +7,8 @@ use Rattle.lan_core.specs.Legal.{IsStepped}
 use Rattle.lan_core.specs.Parts.{AreAlike, followed_by, without_claims}
 use Rattle.lan_core.proofs.Public.{alike-itself, alike-part}
 use Rattle.group_safety.specs.Transmitting.{CarriesIn}
-use Rattle.race_merge.specs.Weaving.{IsWoven}
-use Rattle.transmit_words.specs.Ties.{AreToldAll, HaveClaimsBeside}
+use Rattle.worker_races.specs.merge.Weaving.{IsWoven}
+use Rattle.station_words.specs.Ties.{AreToldAll, HaveClaimsBeside}
 use Rattle.worker_races.specs.Beside.{Race, WereBeside, attempts_in, logs_in}
 use Rattle.worker_races.specs.Performed.{happenings, run_after}
 use Rattle.worker_races.specs.Reading.{view_in}

@@ -23,12 +23,13 @@ use Rattle.lan_core.specs.Parts.{AreAlike, followed_by, is_claim, without_claims
 use Rattle.lan_core.proofs.Public.{IsClaim, TellsClaim, is-claim, tells-claim, alike-event, claim-alike, stepped-front}
 use Rattle.group_safety.specs.Accounts.{numbers_at, shows_at, shown_at}
 use Rattle.group_safety.proofs.Public.{claims-by, kind}
-use Rattle.transmit_words.specs.Counting.{past_claims, times_in}
-use Rattle.race_merge.specs.Merged.{nth_log}
-use Rattle.race_merge.specs.Steps.{attempt_of, logs_of}
-use Rattle.race_merge.specs.Weaving.{AreClaimsOf, IsOfLog, is_claim_for}
-use Rattle.race_merge.specs.Worked.{times_in as times_in_log, times_in_all}
-use Rattle.race_merge.proofs.Public.{adds-none, shown-same}
+use Rattle.station_words.specs.Counting.{past_claims, times_in}
+use Rattle.worker_races.specs.merge.Merged.{nth_log}
+use Rattle.worker_races.specs.merge.Steps.{attempt_of, logs_of}
+use Rattle.worker_races.specs.merge.Weaving.{AreClaimsOf, IsOfLog, is_claim_for}
+use Rattle.worker_races.specs.merge.Worked.{times_in as times_in_log, times_in_all}
+use Rattle.worker_races.proofs.weaving.Thrift.{adds-none}
+use Rattle.worker_races.proofs.weaving.Agree.{shown-same}
 
 -- ---- what one event tells
 

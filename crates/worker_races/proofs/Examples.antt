@@ -18,8 +18,8 @@ use Rattle.lan_core.specs.Types.{IsSetting}
 use Rattle.lan_core.specs.declared.event.Event.TheVariants as events
 use Rattle.lan_core.specs.declared.settings.Settings.{Settings}
 use Rattle.group_safety.proofs.Public.{settings, r11, r12}
-use Rattle.transmit_words.specs.Ties.{HaveCaughtUp}
-use Rattle.transmit_words.proofs.Public.{looked-none}
+use Rattle.station_words.specs.Ties.{HaveCaughtUp}
+use Rattle.station_words.proofs.Public.{looked-none}
 use Rattle.worker_races.specs.Beside.{Race, WereBeside}
 use Rattle.worker_races.specs.Going.{WereSeated, words_by}
 use Rattle.worker_races.specs.Performed.{run_after}

@@ -36,10 +36,10 @@ use Rattle.group_safety.specs.Transmitting.{Carried, CarriesAt, Sending, follow,
 use Rattle.group_safety.proofs.Public.{Kind, kind}
 use Rattle.group_safety.proofs.Public as kinds
 use Rattle.sak_exchange.proofs.Public.{by_test}
-use Rattle.race_merge.specs.declared.step.Step.{Step}
-use Rattle.race_merge.specs.Table.{Controls, an_in, an_of, current_of, flipped, words_of}
-use Rattle.transmit_words.specs.Telling.{word_of}
-use Rattle.transmit_words.specs.Ties.{AreHeld, Followed, HaveLooked, KeepAhead}
+use Rattle.worker_races.specs.declared.merge.step.Step.{Step}
+use Rattle.worker_races.specs.merge.Table.{Controls, an_in, an_of, current_of, flipped, words_of}
+use Rattle.station_words.specs.Telling.{word_of}
+use Rattle.station_words.specs.Ties.{AreHeld, Followed, HaveLooked, KeepAhead}
 use Rattle.worker_races.specs.Going.{HaveGone, WereTold, words_by}
 use Rattle.worker_races.specs.Performed.{ArePerformed, IsPerformed, run_after}
 

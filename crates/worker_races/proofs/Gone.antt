@@ -16,15 +16,17 @@ use Rattle.lan_core.specs.Lives.{keys_in, transmitting_at}
 use Rattle.lan_core.specs.Legal.{IsStep, IsStepped}
 use Rattle.lan_core.specs.Order.{Exists, is_event_of}
 use Rattle.lan_core.proofs.Public.{others-change-none}
-use Rattle.race_merge.specs.declared.step.Step.{Step}
-use Rattle.race_merge.specs.Given.{IsPast}
-use Rattle.race_merge.specs.Places.{last_of}
-use Rattle.race_merge.specs.Raced.{epoch_at, epoch_of}
-use Rattle.race_merge.specs.Table.{Controls, IsTold, an_of, flipped, move_at, words_in, words_of}
-use Rattle.race_merge.specs.Table as table
-use Rattle.race_merge.proofs.Public.{event-told, goes, own-of}
-use Rattle.race_merge.proofs.Public as races
-use Rattle.transmit_words.specs.Telling.{of_seats}
+use Rattle.worker_races.specs.declared.merge.step.Step.{Step}
+use Rattle.worker_races.specs.merge.Given.{IsPast}
+use Rattle.worker_races.specs.merge.Places.{last_of}
+use Rattle.worker_races.specs.merge.Raced.{epoch_at, epoch_of}
+use Rattle.worker_races.specs.merge.Table.{Controls, IsTold, an_of, flipped, move_at, words_in, words_of}
+use Rattle.worker_races.specs.merge.Table as table
+use Rattle.worker_races.proofs.weaving.EventTold.{event-told}
+use Rattle.worker_races.proofs.weaving.FromRun.{goes}
+use Rattle.worker_races.proofs.weaving.Agree.{own-of}
+use Rattle.worker_races.proofs.weaving.FromRun as races
+use Rattle.station_words.specs.Telling.{of_seats}
 use Rattle.worker_races.specs.Going.{HaveGone, WasTold, WereTold, words_by}
 use Rattle.worker_races.specs.Performed.{ArePerformed}
 use Rattle.worker_races.specs.Reading.{view_in, view_at}

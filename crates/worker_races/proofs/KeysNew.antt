@@ -32,7 +32,7 @@ use Rattle.lan_core.proofs.Public.{lives-count}
 use Rattle.group_safety.proofs.Public.{In, IsTurn, hear-is_turn, one-epoch, part}
 use Rattle.group_safety.proofs.Public.{received-installed, tick-is_turn, with_began, with_key, with_tick}
 use Rattle.group_safety.proofs.Public as parts
-use Rattle.race_merge.specs.Sealing.{HasInLife}
+use Rattle.worker_races.specs.merge.Sealing.{HasInLife}
 
 -- ---- a key that is held was installed
 

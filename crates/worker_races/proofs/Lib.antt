@@ -15,7 +15,8 @@ pub mod KeysNew
 pub mod CardsOn
 pub mod Carded
 pub mod CardsBehind
-pub mod Public
 mod Examples
 mod WordsExample
 pub mod BesideExample
+pub mod weaving
+pub mod Public

@@ -18,10 +18,10 @@ use Rattle.lan_core.specs.Lives.{Life, life, keys_in, transmitting_at}
 use Rattle.group_safety.specs.Accounts.{account_at}
 use Rattle.group_safety.specs.Transmitting.{Carried, CarriesAt, CarriesIn, Sending, now, transmits}
 use Rattle.group_safety.specs.Transmitting.{newest as newest_sending}
-use Rattle.race_merge.specs.Given.{IsPast}
-use Rattle.race_merge.specs.Raced.{epoch_at, epoch_of}
-use Rattle.race_merge.specs.Worked.{AreAns}
-use Rattle.transmit_words.specs.Telling.{KeepUp, word_of}
+use Rattle.worker_races.specs.merge.Given.{IsPast}
+use Rattle.worker_races.specs.merge.Raced.{epoch_at, epoch_of}
+use Rattle.worker_races.specs.merge.Worked.{AreAns}
+use Rattle.station_words.specs.Telling.{KeepUp, word_of}
 use Rattle.worker_races.specs.Reading.{an_under}
 
 -- ---- one association number for each epoch

@@ -37,24 +37,30 @@ use Rattle.lan_core.specs.Legal.{IsStepped}
 use Rattle.lan_core.specs.Order.{Exists, IsSendable}
 use Rattle.group_safety.specs.Accounts.{account_at, numbers_at, onward}
 use Rattle.group_safety.specs.Transmitting.{Carried, CarriesAt}
-use Rattle.race_merge.specs.Given.{AreGiven, AreUnder, IsPast}
-use Rattle.race_merge.specs.Given.{ArePerformed as AreGivenFor}
-use Rattle.race_merge.specs.Merged.{AllPairs, AreLogged, InLog, IsFit}
-use Rattle.race_merge.specs.Places.{Attempt, Follows, Move}
-use Rattle.race_merge.specs.Raced.{IsAttempt, IsRaced, before_of, epoch_at, epoch_of}
-use Rattle.race_merge.specs.Steps.{AreRising, AreSteps, attempt_of, logs_of, moves_of}
-use Rattle.race_merge.specs.Table.{words_in}
-use Rattle.race_merge.specs.Worked.{AreAns, BeganAfter, IsGivenNext, NoneExhausted, times_in, times_in_all}
-use Rattle.race_merge.proofs.Public.{all-given, all-told, are-attempts, are-fit, follows-all, log-in-order}
-use Rattle.race_merge.proofs.Public.{logs-differ, moves-given, none-there, positive, rising, times-other, times-own}
-use Rattle.transmit_words.specs.Seats.{AreAllIn}
-use Rattle.transmit_words.specs.Telling.{CatchUp, KeepUp, OfSeats, least_under, of_seats}
-use Rattle.transmit_words.specs.Ties.{HaveKeptUp, KeepAhead}
+use Rattle.worker_races.specs.merge.Given.{AreGiven, AreUnder, IsPast}
+use Rattle.worker_races.specs.merge.Given.{ArePerformed as AreGivenFor}
+use Rattle.worker_races.specs.merge.Merged.{AllPairs, AreLogged, InLog, IsFit}
+use Rattle.worker_races.specs.merge.Places.{Attempt, Follows, Move}
+use Rattle.worker_races.specs.merge.Raced.{IsAttempt, IsRaced, before_of, epoch_at, epoch_of}
+use Rattle.worker_races.specs.merge.Steps.{AreRising, AreSteps, attempt_of, logs_of, moves_of}
+use Rattle.worker_races.specs.merge.Table.{words_in}
+use Rattle.worker_races.specs.merge.Worked.{AreAns, BeganAfter, IsGivenNext, NoneExhausted, times_in, times_in_all}
+use Rattle.worker_races.proofs.weaving.Performed.{all-given, all-told}
+use Rattle.worker_races.proofs.weaving.LogsFit.{are-attempts, are-fit, log-in-order}
+use Rattle.worker_races.proofs.weaving.GivenMoves.{follows-all}
+use Rattle.worker_races.proofs.weaving.LogsFit.{logs-differ, times-other, times-own}
+use Rattle.worker_races.proofs.weaving.GivenMoves.{moves-given}
+use Rattle.worker_races.proofs.weaving.NoStation.{none-there}
+use Rattle.worker_races.proofs.weaving.FromRun.{positive}
+use Rattle.worker_races.proofs.weaving.Recount.{rising}
+use Rattle.station_words.specs.Seats.{AreAllIn}
+use Rattle.station_words.specs.Telling.{CatchUp, KeepUp, OfSeats, least_under, of_seats}
+use Rattle.station_words.specs.Ties.{HaveKeptUp, KeepAhead}
 use Rattle.worker_races.specs.Beside.{Race, WereBeside, ans_in, attempts_in, logs_in, moves_in, pointed_in}
 use Rattle.worker_races.specs.Performed.{happenings, run_after}
 use Rattle.worker_races.specs.Reading.{view_in, view_at}
 use Rattle.worker_races.specs.Senders.{IsNew}
-use Rattle.transmit_words.specs.Seats.{is_out}
+use Rattle.station_words.specs.Seats.{is_out}
 use Rattle.worker_races.proofs.BackIn.{out-joined, out-seated, same-number}
 use Rattle.worker_races.proofs.Gone.{gone-at, some-at}
 use Rattle.worker_races.proofs.Seating.{Shares, added, ahead-joined, all-came, all-took, grown-all, joined-all, kept-joined, seated-many, shares-all, told-counts, told_all}

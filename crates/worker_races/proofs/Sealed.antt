@@ -15,7 +15,7 @@ use Rattle.data_workers.specs.Told.{IsToldEntry, IsToldFrame}
 use Rattle.data_workers.specs.Workers.{WorkerAt}
 use Rattle.data_workers.proofs.Public.{told_log}
 use Rattle.lan_core.specs.Run.{stations}
-use Rattle.race_merge.specs.Sealing.{AreSealed, IfFrame, IsSealedUnder}
+use Rattle.worker_races.specs.merge.Sealing.{AreSealed, IfFrame, IsSealedUnder}
 use Rattle.worker_races.specs.Beside.{Race, WereBeside, cards_in, logs_in}
 use Rattle.worker_races.specs.Reading.{view_at}
 use Rattle.worker_races.proofs.Hands.{AreHands, Hand}

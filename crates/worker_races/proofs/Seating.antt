@@ -17,10 +17,10 @@ use Rattle.lan_core.specs.declared.event.Event.{Event}
 use Rattle.lan_core.specs.declared.settings.Settings.{Settings}
 use Rattle.lan_core.specs.Run.{Run}
 use Rattle.group_safety.specs.Accounts.{account_at, onward}
-use Rattle.transmit_words.specs.Seats.{HasJoined, WasSeated}
-use Rattle.transmit_words.specs.Telling.{KeepUp}
-use Rattle.transmit_words.specs.Ties.{HaveKeptUp, IsAheadBy, KeepAhead}
-use Rattle.transmit_words.proofs.Public.{told-more}
+use Rattle.station_words.specs.Seats.{HasJoined, WasSeated}
+use Rattle.station_words.specs.Telling.{KeepUp}
+use Rattle.station_words.specs.Ties.{HaveKeptUp, IsAheadBy, KeepAhead}
+use Rattle.station_words.proofs.Public.{told-more}
 use Rattle.worker_races.specs.Going.{HaveJoined, WereSeated}
 use Rattle.worker_races.specs.Reading.{view_in, view_at}
 

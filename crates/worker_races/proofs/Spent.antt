@@ -18,7 +18,7 @@ use Rattle.lan_core.specs.Ledgers.{Claim}
 use Rattle.lan_core.specs.Run.{Run}
 use Rattle.lan_base.specs.declared.frame.UserFrame.{UserFrame}
 use Rattle.group_safety.specs.Accounts.{numbers_at}
-use Rattle.transmit_words.specs.Counting.{times_in, times_under}
+use Rattle.station_words.specs.Counting.{times_in, times_under}
 use Rattle.worker_races.proofs.Seating.{added}
 use Rattle.worker_races.proofs.Hands.{AreHands, entries_count}
 

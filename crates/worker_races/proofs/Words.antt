@@ -16,15 +16,17 @@ use Rattle.lan_core.specs.Lives.{keys_in, transmitting_at}
 use Rattle.lan_core.specs.Legal.{IsStep, IsStepped}
 use Rattle.lan_core.specs.Order.{is_event_of}
 use Rattle.lan_core.proofs.Public.{others-change-none}
-use Rattle.race_merge.specs.declared.step.Step.{Step}
-use Rattle.race_merge.specs.Given.{AreUnder}
-use Rattle.race_merge.specs.Given.{ArePerformed as AreGivenFor}
-use Rattle.race_merge.specs.Places.{last_of}
-use Rattle.race_merge.specs.Steps.{AreSteps}
-use Rattle.race_merge.specs.Table.{Controls, IsTold, an_of, flipped, move_at, moves_at, with_top, words_in, words_of}
-use Rattle.race_merge.specs.Table as table
-use Rattle.race_merge.specs.Worked.{AreAns}
-use Rattle.race_merge.proofs.Public.{event-told, none-there, own-of, starts-none}
+use Rattle.worker_races.specs.declared.merge.step.Step.{Step}
+use Rattle.worker_races.specs.merge.Given.{AreUnder}
+use Rattle.worker_races.specs.merge.Given.{ArePerformed as AreGivenFor}
+use Rattle.worker_races.specs.merge.Places.{last_of}
+use Rattle.worker_races.specs.merge.Steps.{AreSteps}
+use Rattle.worker_races.specs.merge.Table.{Controls, IsTold, an_of, flipped, move_at, moves_at, with_top, words_in, words_of}
+use Rattle.worker_races.specs.merge.Table as table
+use Rattle.worker_races.specs.merge.Worked.{AreAns}
+use Rattle.worker_races.proofs.weaving.EventTold.{event-told}
+use Rattle.worker_races.proofs.weaving.NoStation.{none-there}
+use Rattle.worker_races.proofs.weaving.Agree.{own-of, starts-none}
 use Rattle.worker_races.specs.Performed.{ArePerformed, happenings, run_after}
 
 -- ---- one event

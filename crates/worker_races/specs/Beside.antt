@@ -13,13 +13,13 @@ use Rattle.lan_core.specs.Legal.{IsLegal}
 use Rattle.lan_core.specs.Order.{IsWithin}
 use Rattle.lan_core.specs.Run.{Happening, Run}
 use Rattle.lan_core.specs.Types.{IsSetting}
-use Rattle.race_merge.specs.declared.step.Step.{Step}
-use Rattle.race_merge.specs.Merged.{entries_of, merged}
-use Rattle.race_merge.specs.Places.{Attempt, Move}
-use Rattle.race_merge.specs.Steps.{logs_of}
-use Rattle.race_merge.specs.Table.{Controls, moves_at}
-use Rattle.race_merge.specs.Weaving.{part_of}
-use Rattle.transmit_words.specs.Ties.{HaveCaughtUp, HaveKeptUp, HaveLooked}
+use Rattle.worker_races.specs.declared.merge.step.Step.{Step}
+use Rattle.worker_races.specs.merge.Merged.{entries_of, merged}
+use Rattle.worker_races.specs.merge.Places.{Attempt, Move}
+use Rattle.worker_races.specs.merge.Steps.{logs_of}
+use Rattle.worker_races.specs.merge.Table.{Controls, moves_at}
+use Rattle.worker_races.specs.merge.Weaving.{part_of}
+use Rattle.station_words.specs.Ties.{HaveCaughtUp, HaveKeptUp, HaveLooked}
 use Rattle.worker_races.specs.Going.{HaveGone, HaveJoined, WereSeated}
 use Rattle.worker_races.specs.Performed.{ArePerformed, run_after}
 use Rattle.worker_races.specs.Reading.{an_pointed, card_given, last_pointed}

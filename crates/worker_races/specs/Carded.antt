@@ -7,8 +7,8 @@ use Rattle.lan_core.specs.declared.settings.Settings.{Settings}
 use Rattle.lan_core.specs.Run.{Run}
 use Rattle.group_safety.specs.Accounts.{Account}
 use Rattle.group_safety.specs.Transmitting.{CarriesAt}
-use Rattle.race_merge.specs.Sealing.{HasInstalled}
-use Rattle.transmit_words.specs.Telling.{KeepUp}
+use Rattle.worker_races.specs.merge.Sealing.{HasInstalled}
+use Rattle.station_words.specs.Telling.{KeepUp}
 
 abbrev pub AreCarded : Settings → Run → List ControlAt → Type 0
 AreCarded settings r cs = (s : ℕ) (c : ControlAt) → slice_get cs s ≡ Some c

@@ -9,10 +9,10 @@ use Rattle.data_workers.specs.Workers.{WorkerAt}
 use Rattle.lan_core.specs.declared.settings.Settings.{Settings}
 use Rattle.lan_core.specs.Lives.{transmitting_at}
 use Rattle.lan_core.specs.Run.{Run, Happening}
-use Rattle.race_merge.specs.Table.{Controls, an_of, flipped, words_of}
-use Rattle.transmit_words.specs.Seats.{HasJoined, WasSeated}
-use Rattle.transmit_words.specs.Telling.{of_seats}
-use Rattle.transmit_words.specs.Ties.{HaveKeptUp}
+use Rattle.worker_races.specs.merge.Table.{Controls, an_of, flipped, words_of}
+use Rattle.station_words.specs.Seats.{HasJoined, WasSeated}
+use Rattle.station_words.specs.Telling.{of_seats}
+use Rattle.station_words.specs.Ties.{HaveKeptUp}
 
 -- the seats of workers went out, in their order
 abbrev pub WereSeated : List WorkerAt → List ControlAt → List ControlAt → Type 0

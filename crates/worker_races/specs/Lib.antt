@@ -6,3 +6,4 @@ pub mod Performed
 pub mod Senders
 pub mod Beside
 pub mod Carded
+pub mod merge

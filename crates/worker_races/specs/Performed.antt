@@ -6,9 +6,9 @@ use Rattle.lan_core.specs.Run.{Run, Happening}
 use Rattle.lan_core.specs.Legal.{IsStep}
 use Rattle.lan_core.specs.Order.{is_event_of}
 use Rattle.lan_core.specs.Parts.{followed_by}
-use Rattle.race_merge.specs.declared.step.Step.{Step}
-use Rattle.race_merge.specs.Raced.{epoch_at}
-use Rattle.race_merge.specs.Table.{Controls}
+use Rattle.worker_races.specs.declared.merge.step.Step.{Step}
+use Rattle.worker_races.specs.merge.Raced.{epoch_at}
+use Rattle.worker_races.specs.merge.Table.{Controls}
 
 -- the events, with their facts
 abbrev pub happenings : Controls → List Happening

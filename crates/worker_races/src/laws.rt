@@ -11,15 +11,15 @@ ghost use Rattle.lan_core.specs.Legal.{IsStep, IsStepped, unused};
 ghost use Rattle.lan_core.specs.Order.{is_event_of};
 ghost use Rattle.lan_core.specs.Standing.{State, StandsFor};
 ghost use Rattle.lan_core.specs.Parts.{AreProtected, followed_by};
-ghost use Rattle.race_merge.specs.declared.step.Step.{Step};
-ghost use Rattle.race_merge.specs.Raced.{IsRaced};
-ghost use Rattle.race_merge.specs.Sealing.{AreCards, AreSealed};
-ghost use Rattle.race_merge.specs.Steps.{AreRising, AreSteps, counted_from, moves_of};
-ghost use Rattle.race_merge.specs.Table.{Controls};
-ghost use Rattle.race_merge.specs.Taking.{frames_of};
-ghost use Rattle.race_merge.specs.Weaving.{IsWoven};
-ghost use Rattle.race_merge.specs.Worked.{NoneExhausted};
-ghost use Rattle.transmit_words.specs.Ties.{Followed, HaveCaughtUp, HaveLooked, KeepAhead};
+ghost use Rattle.worker_races.specs.declared.merge.step.Step.{Step};
+ghost use Rattle.worker_races.specs.merge.Raced.{IsRaced};
+ghost use Rattle.worker_races.specs.merge.Sealing.{AreCards, AreSealed};
+ghost use Rattle.worker_races.specs.merge.Steps.{AreRising, AreSteps, counted_from, moves_of};
+ghost use Rattle.worker_races.specs.merge.Table.{Controls};
+ghost use Rattle.worker_races.specs.merge.Taking.{frames_of};
+ghost use Rattle.worker_races.specs.merge.Weaving.{IsWoven};
+ghost use Rattle.worker_races.specs.merge.Worked.{NoneExhausted};
+ghost use Rattle.station_words.specs.Ties.{Followed, HaveCaughtUp, HaveLooked, KeepAhead};
 ghost use Rattle.worker_races.specs.Beside.{Race, WereBeside};
 ghost use Rattle.worker_races.specs.Beside.{ans_in, attempts_in, cards_in, logs_in, moves_in};
 ghost use Rattle.worker_races.specs.Beside.{pointed_in};
@@ -27,14 +27,14 @@ ghost use Rattle.worker_races.specs.Carded.{AreCarded, KeepCarried};
 ghost use Rattle.worker_races.specs.Going.{HaveGone, WereTold};
 ghost use Rattle.worker_races.specs.Performed.{ArePerformed, IsPerformed, happenings, run_after};
 
+use crate::merge::law_facts_tell_what_they_move;
 use association_slots::law_few_numbers_are_lost;
 use group_safety::{
     law_a_place_without_a_station_is_blank, law_an_installed_key_is_held,
     law_facts_move_what_transmits,
 };
 use lan_core::law_epochs_count;
-use race_merge::law_facts_tell_what_they_move;
-use transmit_words::{law_looked_words_keep_a_run_thrifty, law_words_catch_up};
+use station_words::{law_looked_words_keep_a_run_thrifty, law_words_catch_up};
 
 /// Control performed one event more beside workers, which told the words what it says to them.
 pub fn law_control_goes_on()

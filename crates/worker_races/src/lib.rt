@@ -2,6 +2,7 @@
 #![tactic(auto)]
 
 mod laws;
+pub mod merge;
 
 pub use laws::{
     law_a_race_of_workers_is_a_race, law_an_event_tells_the_words, law_cards_of_a_race_are_right,

@@ -1,5 +1,5 @@
 -- How the parts of an event are performed: that in the first group, and then that in the second.
-use Rattle.std.specs.Prelude.{◌≡◌, ℕ, ◌+◌, List, ◌++◌, length, Option, Some, None, option_and_then}
+use Rattle.std.specs.Prelude.{◌≡◌, ℕ, ◌+◌, List, ◌++◌, Option, Some, None, option_and_then}
 use Rattle.std.specs.Prelude.{Result, Ok, Err}
 use Rattle.std.specs.Option.{option_or}
 use Rattle.lan_base.specs.declared.frame.UserFrame.{UserFrame}
@@ -19,17 +19,6 @@ use Rattle.cak_roll.specs.Stepping.{twin_draws, twin_stop}
 use Rattle.cak_roll.specs.Standing.{Side, IfThere, Held, StandBoth}
 use Rattle.cak_roll.specs.Answers.{told_of, told_in}
 use Rattle.cak_roll.specs.inside.Sides.{events_stop}
-
--- ---- how many draws there were
-
--- those of a second group, if it is there
-abbrev pub made_by : Option Side → ℕ
-made_by None = 0
-made_by (Some side) = length side.draws
-
--- the draws of both are those of the groups
-abbrev pub IsCounted : Held → Type 0
-IsCounted held = held.drawn.count ≡ length held.first.draws + made_by held.second
 
 -- ---- the second group, if it is there
 

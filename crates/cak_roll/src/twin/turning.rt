@@ -1,6 +1,6 @@
 //! How an event happens in both groups.
 
-ghost use Rattle.std.specs.Prelude.{◌≡◌, ◌↔◌, ◌⊎◌, ◌<◌, ◌+◌, ◌^◌, ℕ, List, [], None, Err, true, false, is_some, IsTrue, IfOk, IfErr, OnOk};
+ghost use Rattle.std.specs.Prelude.{◌≡◌, ◌↔◌, ◌⊎◌, ◌<◌, ◌+◌, ℕ, List, [], None, Err, true, false, is_some, IsTrue, IfOk, IfErr, OnOk};
 ghost use Rattle.std.specs.Option.{option_copied};
 ghost use Rattle.lan_base.specs.declared.frame.UserFrame.{UserFrame};
 ghost use Rattle.lan_core.specs.declared.stop.Stop.TheVariants.{DrawsSpent};
@@ -18,7 +18,7 @@ ghost use Rattle.cak_roll.specs.Standing.{StandsIn, IfThere, StandsFor, StandBot
 ghost use Rattle.cak_roll.specs.Answers.{is_early, MayHappen, AnswersTwin};
 ghost use Rattle.cak_roll.specs.inside.Parts.{events_of_part, IsReadyPart};
 ghost use Rattle.cak_roll.specs.inside.Sides.{Happen};
-ghost use Rattle.cak_roll.specs.inside.Turns.{made_by, IsCounted, HappenThere, Turns, BothPerform};
+ghost use Rattle.cak_roll.specs.inside.Turns.{HappenThere, Turns, BothPerform};
 
 use super::Twin;
 use crate::event::{GroupNumber, TwinEvent, law_fields_are_typed};
@@ -117,18 +117,11 @@ impl Twin {
         ensures there { OnOk result (is_some self.new.second ≡ is_some self.old.second) }
     {
         let mut told = TwinFacts::new(self.alloc);
-        let next = self.next_number();
+        let next = self.drawn.next_number();
         self.run_first(first, user, draws, next, &mut told)?;
-        let later = self.next_number();
+        let later = self.drawn.next_number();
         self.run_second(second, user, draws, later, &mut told)?;
         Ok(told)
-    }
-
-    /// The number of the next draw of both.
-    fn next_number(&self) -> u64
-        ensures { IsCounted self.now → result ≡ self.now.drawn.count + 1 }
-    {
-        self.first.made() + made_by(&self.second) + 1
     }
 
     /// A part of an event happens in the first group. The next draw of both has this number.
@@ -208,17 +201,6 @@ fn is_alone(first: &Part, second: &Part) -> bool
         ↔ ((events_of_part first.now ≡ []) ⊎ (events_of_part second.now ≡ [])) }
 {
     first.is_nothing() || second.is_nothing()
-}
-
-/// How many draws a second group made, if it is there.
-fn made_by(second: &Option<Side>) -> u64
-    ensures made { result ≡ made_by second.now }
-    ensures small { result < 2 ^ 63 }
-{
-    match second {
-        Some(side) => side.made(),
-        None => 0,
-    }
 }
 
 /// A supply of the next two draws of another.

@@ -11,7 +11,8 @@ use Rattle.mkpdu_codec.specs.declared.offset.ConfidentialityOffset.{Confidential
 use Rattle.known_keys.specs.declared.giving.NoSak.{NoSak}
 use Rattle.known_keys.specs.declared.giving.NoSak.TheVariants.{OtherSuite, WrongWrap}
 use Rattle.known_keys.specs.declared.reason.Reason.{Reason}
-use Rattle.known_keys.specs.Undecided.{GroupId, is_for, is_recent, same_no_sak}
+use Rattle.known_keys.specs.Undecided.{GroupId, is_for, same_no_sak}
+use Rattle.lan_base.specs.Instants.{is_recent}
 use Rattle.known_keys.specs.Maps.{IsCoveredBy, IsIn, Missed, NamedTimes, Offsets, group_id_cmp, has, offset_at, sci_cmp, times_under}
 use Rattle.known_keys.specs.inside.Sets.{Adds}
 

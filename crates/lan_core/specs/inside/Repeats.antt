@@ -1,11 +1,10 @@
 -- What foreign octets may repeat, as it is looked up.
-use Rattle.std.specs.Prelude.{◌≡◌, ◌≤◌, ◌⊎◌, ℕ, nat_eq, Bool, false, ◌&&◌, if◌then◌else◌, List, map, sum, take, drop, length, slice_get, All, Option, Some, None, option_and_then}
+use Rattle.std.specs.Prelude.{◌≡◌, ◌⊎◌, ℕ, nat_eq, Bool, false, ◌&&◌, if◌then◌else◌, List, map, sum, take, drop, length, slice_get, Option, Some, None, option_and_then}
 use Rattle.std.specs.List.{starts_with, Contains}
 use Rattle.std.specs.Map.{lookup}
 use Rattle.std.specs.BTreeMap.{is_at}
 use Rattle.std.specs.Ordering.{nat_cmp}
 use Rattle.std.specs.Cmp.Lexicographic.{slice_cmp}
-use Rattle.lan_base.specs.Ranges.{most_frame_octets}
 use Rattle.mkpdu_codec.specs.Sets.{check_length}
 use Rattle.mkpdu_codec.specs.Refusals.{is_mka, is_long_enough, check_place}
 use Rattle.mkpdu_codec.specs.Reading.{reading}
@@ -54,6 +53,5 @@ IsFound checks check place =
 pub record IsIndex (frames : List (List ℕ)) (count : ℕ) (checks : Checks) : Type 0 where
   pub octets : count ≡ sum (map length frames)
   pub within : IsLight frames
-  pub short : All (λ frame. length frame ≤ most_frame_octets) frames
   pub found : (place : ℕ) (frame check : List ℕ) → slice_get frames place ≡ Some frame
       → check_value frame ≡ Some check → IsFound checks check place

@@ -15,9 +15,9 @@ use Rattle.lan_core.specs.Ledgers.{claims}
 use Rattle.lan_core.specs.Run.{Run, facts_of}
 use Rattle.lan_core.specs.Types.{IsUserFrame}
 use Rattle.fact_tally.specs.Summary.{counts}
-use Rattle.transmit_words.specs.Seats.{AreAllIn, HasNoSeat, IsOut, WasSeated}
-use Rattle.race_merge.specs.declared.step.Step.{Step}
-use Rattle.transmit_words.specs.Ties.{tables_of, HaveKeptUp}
+use Rattle.station_words.specs.Seats.{AreAllIn, HasNoSeat, IsOut, WasSeated}
+use Rattle.worker_races.specs.declared.merge.step.Step.{Step}
+use Rattle.station_words.specs.Ties.{tables_of, HaveKeptUp}
 use Rattle.worker_races.specs.Going.{HaveJoined, WereSeated}
 use Rattle.worker_races.specs.Senders.{AreSenders, IsNew, jobs_of}
 use Rattle.trace_acts.specs.declared.halt.Halt.{Halt}

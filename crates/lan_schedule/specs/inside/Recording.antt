@@ -11,10 +11,10 @@ use Rattle.lan_core.specs.declared.fact.Fact.TheVariants as facts
 use Rattle.lan_core.specs.declared.settings.Settings.{Settings}
 use Rattle.lan_core.specs.Run.{Run}
 use Rattle.lan_core.specs.Lives.{transmitting_at}
-use Rattle.race_merge.specs.declared.step.Step.{Step}
-use Rattle.race_merge.specs.Table.{Controls}
-use Rattle.transmit_words.specs.Seats.{NoMoreOut}
-use Rattle.transmit_words.specs.Ties.{tables_of, HaveKeptUp, HaveLooked}
+use Rattle.worker_races.specs.declared.merge.step.Step.{Step}
+use Rattle.worker_races.specs.merge.Table.{Controls}
+use Rattle.station_words.specs.Seats.{NoMoreOut}
+use Rattle.station_words.specs.Ties.{tables_of, HaveKeptUp, HaveLooked}
 use Rattle.worker_races.specs.Going.{HaveGone}
 use Rattle.worker_races.specs.Performed.{ArePerformed, run_after}
 use Rattle.trace_acts.specs.declared.halt.Halt.{Halt}

@@ -6,7 +6,7 @@ use Rattle.lan_core.specs.declared.event.Event.TheVariants as events
 use Rattle.lan_core.specs.declared.settings.Settings.{Settings}
 use Rattle.lan_core.specs.Run.{Run}
 use Rattle.lan_core.specs.Expected.{last_number}
-use Rattle.transmit_words.specs.Ties.{AreAhead, CaughtAhead, KeepAhead}
+use Rattle.station_words.specs.Ties.{AreAhead, CaughtAhead, KeepAhead}
 use Rattle.lan_schedule.specs.Stages.{Says}
 
 -- what the words say where the step of an event was taken

@@ -6,13 +6,14 @@ use Rattle.std.specs.BTreeMap.{is_at}
 use Rattle.lan_base.specs.declared.address.Mi.{Mi}
 use Rattle.lan_base.specs.declared.address.Sci.{Sci}
 use Rattle.lan_base.specs.Identifiers.{same_mi, same_sci}
+use Rattle.lan_base.specs.Instants.{is_recent}
 use Rattle.member_notes.specs.declared.claim.Claim.{Claim}
 use Rattle.member_notes.specs.declared.facts.MemberCounts.{MemberCounts}
 use Rattle.member_notes.specs.declared.facts.Telling.{Telling}
 use Rattle.member_notes.specs.declared.facts.Times.{Times}
 use Rattle.member_notes.specs.declared.novelty.MkpduNovelty.{MkpduNovelty}
 use Rattle.member_notes.specs.declared.speaker.Speaker.{Speaker}
-use Rattle.member_notes.specs.Facts.{new_mkpdu, fallen_mkpdu, repeated_mkpdu, number_given, is_recent, nears_end}
+use Rattle.member_notes.specs.Facts.{new_mkpdu, fallen_mkpdu, repeated_mkpdu, number_given, nears_end}
 use Rattle.member_notes.specs.FactsKept.{speaker_in, speaker_at, Speakers}
 use Rattle.member_notes.specs.Spoken.{Spoken}
 use Rattle.member_notes.specs.Standing.{member_cmp}

@@ -2,11 +2,11 @@
 use Rattle.std.specs.Prelude.{◌≡◌, ℕ, nat_le, List, length, Option, Some, None}
 use Rattle.text_lines.specs.Reading.{Sourced}
 use Rattle.trace_acts.specs.declared.halt.Halt.{Halt}
-use Rattle.roll_schedule.specs.World.{beginning}
-use Rattle.roll_schedule.specs.Acts.{Course, Goes, Stops, perform}
+use Rattle.twin_schedule.specs.World.{beginning}
+use Rattle.twin_schedule.specs.Acts.{Course, Goes, Stops, perform}
 use Rattle.replay.specs.Sinks.{Sunk}
 use Rattle.replay.specs.Runs.{EndsRun, within, most_input}
-use Rattle.roll_replay.specs.TwoGroups.{transcript, two_groups}
+use Rattle.replay.specs.twin.TwoGroups.{transcript, two_groups}
 use Rattle.rollover_program.specs.declared.status.Status.{Status}
 use Rattle.rollover_program.specs.TwoGroups.{ArePromised}
 use Rattle.rollover_program.specs.commands.Run.{Answers, status_after}

@@ -11,7 +11,7 @@ ghost use Rattle.rollover_program.specs.commands.Roll.{EndsAsRoll};
 use crate::laws::law_tidy_worlds_of_two_groups_are_promised;
 use crate::status::{Status, status_of};
 use lan_base::{Sink, Source};
-use roll_replay::replay_two;
+use replay::twin::replay_two;
 use std::alloc::Global;
 
 /// Performs a trace of two groups, for its transcript.

@@ -1,8 +1,8 @@
 //! Steps of control.
 
 use lan_core::Event;
-use race_merge::Step;
 use std::alloc::{AllocError, Global};
+use worker_races::merge::Step;
 
 /// The epoch of the one key of each station.
 const EPOCH: u32 = 1;

@@ -4,14 +4,14 @@ use Rattle.std.specs.Prelude.{All}
 use Rattle.association_slots.specs.Views.{ControlAt}
 use Rattle.data_workers.specs.Workers.{AreDone, HasTable, WorkerAt}
 use Rattle.lan_core.specs.declared.fact.Fact.{Fact}
-use Rattle.race_merge.specs.declared.step.Step.{Step}
-use Rattle.transmit_words.specs.Ties.{tables_of}
+use Rattle.worker_races.specs.declared.merge.step.Step.{Step}
+use Rattle.station_words.specs.Ties.{tables_of}
 use Rattle.worker_races.specs.Going.{HaveJoined}
 use Rattle.lan_schedule.specs.declared.stage.Stage.{Stage}
 use Rattle.lan_schedule.specs.inside.Beside.{Controlled}
 use Rattle.lan_schedule.specs.inside.Recording.{steps_of}
 use Rattle.std.proofs.lemmas.List.Elements.{recursion_from_All}
-use Rattle.transmit_words.specs.Seats.{NoMoreOut}
+use Rattle.station_words.specs.Seats.{NoMoreOut}
 use Rattle.worker_races.specs.Senders.{IsNew}
 use Rattle.lan_schedule.specs.inside.Beside.{OutFor}
 use Rattle.lan_schedule.proofs.SeatsBack.{all-back-in, done-out, out-still}

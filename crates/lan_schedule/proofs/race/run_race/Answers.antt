@@ -1,5 +1,5 @@
 use Rattle.std.proofs.Common.{refl}
-use Rattle.transmit_words.proofs.Public.{out-then}
+use Rattle.station_words.proofs.Public.{out-then}
 use Rattle.lan_schedule.proofs.RaceRuns.{raced-does, unhired-does}
 use Rattle.lan_schedule.proofs.race.run_race.Goals as goal
 

@@ -1,6 +1,6 @@
 use Rattle.lan_core.specs.Legal.{IsLegal}
 use Rattle.cak_roll.specs.Twin.{setting_of, run_of}
-use Rattle.roll_schedule.specs.World.{pair_of}
+use Rattle.twin_schedule.specs.World.{pair_of}
 use Rattle.rollover_program.proofs.laws.law_tidy_worlds_of_two_groups_are_promised.Goals as goal
 
 pub returns : goal.returns

@@ -1,7 +1,7 @@
 use Rattle.std.proofs.Common.{ap, subst, sym}
 use Rattle.lan_core.specs.Parts.{followed_by}
-use Rattle.race_merge.specs.Sealing.{AreCards}
-use Rattle.race_merge.proofs.Public.{woven-protected}
+use Rattle.worker_races.specs.merge.Sealing.{AreCards}
+use Rattle.worker_races.proofs.weaving.ProtectedPart.{woven-protected}
 use Rattle.worker_races.specs.Beside.{cards_in, logs_in}
 use Rattle.worker_races.specs.Performed.{happenings}
 use Rattle.worker_races.proofs.Sealed.{are-sealed}

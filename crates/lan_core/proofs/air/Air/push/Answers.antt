@@ -1,8 +1,6 @@
-use Rattle.std.proofs.Common.{◌≡◌, ◌∙◌, ◌+◌, ◌≤◌, ◌∷◌, ◌++◌, [], All, map, length, arith, rules, sym, ap, subst}
+use Rattle.std.proofs.Common.{◌≡◌, ◌∙◌, ◌+◌, ◌∷◌, ◌++◌, [], map, length, arith, rules, sym, ap, subst}
 use Rattle.std.proofs.lemmas.Grind.{common_steps}
-use Rattle.std.proofs.lemmas.List.Elements.{All-push}
 use Rattle.std.specs.Prelude.{sum}
-use Rattle.lan_base.specs.Ranges.{most_frame_octets}
 use Rattle.lan_core.specs.inside.Limits.{IsLight}
 use Rattle.lan_core.specs.inside.Repeats.{check_value, IsIndex}
 use Rattle.lan_core.proofs.CheckPlaced.{found_more, last_found}
@@ -12,18 +10,15 @@ pub invariant_of-self-2 : goal.invariant_of-self-2
 invariant_of-self-2 c =
     let frames = c.self.inside.frames.items in
     let items : c.push.new.self.items ≡ frames ++ c.args.octets ∷ [] = search rules in
-    let octets : c.self.inside.octets + c.in_ok-more.more ≡ sum (map length (frames ++ c.args.octets ∷ [])) = grind (arith, common_steps) in
-    let short : All (λ frame. length frame ≤ most_frame_octets) (frames ++ c.args.octets ∷ []) =
-    All-push (λ frame. length frame ≤ most_frame_octets) frames c.args.octets c.self.invariant.short c.in_ok-more.ensures.short in
+    let octets : c.self.inside.octets + c.len-more.result ≡ sum (map length (frames ++ c.args.octets ∷ [])) = grind (arith, common_steps) in
     let within : IsLight (frames ++ c.args.octets ∷ []) =
     subst (λ fs. IsLight (fs ++ c.args.octets ∷ [])) (sym c.self.view_is) c.requires in
     let valued : c.check_value.result ≡ check_value c.args.octets = c.check_value.ensures ∙ ap check_value c.as_slice.ensures.value in
     let last = last_found c.check_value.result c.args.octets c.add.new.self c.len-place.result (length frames) valued c.in_ok-add.ensures.found
     (c.len-place.ensures.len ∙ ap length (sym c.self.view_is)) in
-    subst (λ now. IsIndex now (c.self.inside.octets + c.in_ok-more.more) c.add.new.self) (sym items)
+    subst (λ now. IsIndex now (c.self.inside.octets + c.len-more.result) c.add.new.self) (sym items)
     (record {
       octets = octets;
       within = within;
-      short = short;
       found = found_more frames c.args.octets c.self.inside.checks c.add.new.self c.self.invariant.found c.in_ok-add.ensures.kept last;
     })

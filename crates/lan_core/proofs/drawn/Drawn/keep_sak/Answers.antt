@@ -1,4 +1,4 @@
-use Rattle.std.proofs.Common.{refl, sym, subst}
+use Rattle.std.proofs.Common.{length, refl, sym, subst}
 use Rattle.aes_block.specs.declared.secret.Secret.{Secret}
 use Rattle.lan_core.specs.Standing.{Numbers}
 use Rattle.lan_core.specs.inside.Drawing.{SakIsKept}
@@ -8,7 +8,7 @@ use Rattle.lan_core.proofs.drawn.Drawn.keep_sak.Goals as goal
 pub returns-in_ok-insert-in-S128 : goal.returns-in_ok-insert-in-S128
 returns-in_ok-insert-in-S128 c =
     let d = c.self.inside in
-    let old : Numbers = record { count = d.count; mis = d.mis.entries; narrow = d.narrow.entries; wide = d.wide.entries } in
+    let old : Numbers = record { count = length d.draws.items; mis = d.mis.entries; narrow = d.narrow.entries; wide = d.wide.entries } in
     let new : Numbers = record old { narrow = c.insert.new.self.entries } in
     subst (λ (before : Numbers). SakIsKept c.args.number before new c.args.sak.now) c.self.view_is
     (subst (λ (sak : Secret). SakIsKept c.args.number old new sak) (sym c.in-S128.is)
@@ -17,7 +17,7 @@ returns-in_ok-insert-in-S128 c =
 pub returns-in_ok-insert-in-S256 : goal.returns-in_ok-insert-in-S256
 returns-in_ok-insert-in-S256 c =
     let d = c.self.inside in
-    let old : Numbers = record { count = d.count; mis = d.mis.entries; narrow = d.narrow.entries; wide = d.wide.entries } in
+    let old : Numbers = record { count = length d.draws.items; mis = d.mis.entries; narrow = d.narrow.entries; wide = d.wide.entries } in
     let new : Numbers = record old { wide = c.insert-in-S256.new.self.entries } in
     subst (λ (before : Numbers). SakIsKept c.args.number before new c.args.sak.now) c.self.view_is
     (subst (λ (sak : Secret). SakIsKept c.args.number old new sak) (sym c.in-S256.is)

@@ -2,7 +2,7 @@ use Rattle.std.proofs.Common.{◌++◌, ◌∷◌, [], sym, ap, ◌∙◌, subst
 use Rattle.std.proofs.lemmas.List.{map-append}
 use Rattle.association_slots.specs.Views.{SeatAt}
 use Rattle.data_workers.specs.Workers.{WorkerAt}
-use Rattle.transmit_words.specs.Seats.{HasJoined}
+use Rattle.station_words.specs.Seats.{HasJoined}
 use Rattle.lan_schedule.specs.declared.stage.Stage.{Stage}
 use Rattle.lan_schedule.proofs.Hiring.{joined-more}
 use Rattle.lan_schedule.proofs.stage.Stage.dismiss.Goals as goal

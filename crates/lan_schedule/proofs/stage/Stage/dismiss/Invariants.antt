@@ -2,7 +2,7 @@
 use Rattle.std.proofs.Common.{◌≡◌, map}
 use Rattle.std.specs.Vec.{vec_capacity}
 use Rattle.lan_schedule.specs.inside.Beside.{WereJoined}
-use Rattle.transmit_words.specs.Ties.{tables_of}
+use Rattle.station_words.specs.Ties.{tables_of}
 use Rattle.lan_schedule.proofs.stage.Stage.dismiss.Given as goal
 
 abbrev pub invariant-loop-worker : goal.invariant-loop-worker

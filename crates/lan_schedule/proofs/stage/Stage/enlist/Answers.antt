@@ -1,6 +1,6 @@
 use Rattle.std.proofs.Common.{Bool, true, false, List, inl, inr, refl, sym, ap, ◌∙◌, subst}
 use Rattle.association_slots.specs.Views.{ControlAt}
-use Rattle.transmit_words.specs.Ties.{tables_of}
+use Rattle.station_words.specs.Ties.{tables_of}
 use Rattle.data_workers.specs.Workers.{WorkerAt}
 use Rattle.lan_schedule.specs.Races.{workers_of}
 use Rattle.lan_schedule.specs.inside.Beside.{BeginsRace, OutFor}

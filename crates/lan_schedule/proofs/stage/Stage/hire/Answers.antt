@@ -4,8 +4,8 @@ use Rattle.data_workers.specs.Workers.{WorkerAt, Logged}
 use Rattle.association_slots.specs.Views.{SeatAt}
 use Rattle.association_slots.specs.declared.view.SeatView.{SeatView}
 use Rattle.lan_core.specs.Types.{IsUserFrame}
-use Rattle.transmit_words.specs.Seats.{HasJoined, WasSeated}
-use Rattle.transmit_words.specs.Ties.{tables_of}
+use Rattle.station_words.specs.Seats.{HasJoined, WasSeated}
+use Rattle.station_words.specs.Ties.{tables_of}
 use Rattle.lan_schedule.specs.Woven.{worker_of}
 use Rattle.lan_schedule.proofs.Hiring.{has-table, seat-table}
 use Rattle.lan_schedule.proofs.SeatsBack.{out-returned}

@@ -5,7 +5,7 @@ use Rattle.std.specs.Prelude.{All, IfSome, Option}
 use Rattle.std.proofs.lemmas.List.Elements.{All-push}
 use Rattle.atomic_table.specs.Seated.{TableId}
 use Rattle.data_workers.specs.Workers.{HasTable, WorkerAt}
-use Rattle.transmit_words.specs.Ties.{tables_of}
+use Rattle.station_words.specs.Ties.{tables_of}
 use Rattle.lan_schedule.specs.Races.{Burst, Worker, worker_at, workers_of}
 use Rattle.lan_schedule.specs.inside.Beside.{HiredAll, OutFor, WasHired}
 use Rattle.lan_schedule.specs.declared.stage.Stage.{Stage}

@@ -1,5 +1,5 @@
 use Rattle.std.proofs.Common.{refl}
-use Rattle.transmit_words.proofs.Public.{out-looked}
+use Rattle.station_words.proofs.Public.{out-looked}
 use Rattle.lan_schedule.proofs.Happening.{tick-does}
 use Rattle.lan_schedule.proofs.Recorded.{seats-same}
 use Rattle.lan_schedule.proofs.stage.Stage.tick.Goals as goal

@@ -4,7 +4,7 @@ use Rattle.lan_schedule.specs.inside.Recording.{is_start, KeepSeats}
 use Rattle.lan_schedule.proofs.Recorded.{seats-kept, seats-started}
 use Rattle.association_slots.specs.Views.{ControlAt}
 use Rattle.group_safety.specs.Accounts.{blank}
-use Rattle.transmit_words.specs.Telling.{Tells}
+use Rattle.station_words.specs.Telling.{Tells}
 use Rattle.worker_races.specs.Carded.{AreCarded}
 use Rattle.lan_schedule.specs.inside.Set.{AreSet}
 use Rattle.lan_schedule.proofs.Ahead.{on-ok, start-ahead, start-cards, set-ahead}

@@ -1,7 +1,7 @@
 use Rattle.std.proofs.Common.{List, sym, subst}
 use Rattle.association_slots.specs.Views.{ControlAt}
-use Rattle.transmit_words.specs.Ties.{AreTied, HaveCaughtUp}
-use Rattle.transmit_words.specs.Seats.{HasGot, NoMoreOut}
+use Rattle.station_words.specs.Ties.{AreTied, HaveCaughtUp}
+use Rattle.station_words.specs.Seats.{HasGot, NoMoreOut}
 use Rattle.lan_schedule.proofs.words.Words.claim.Goals as goal
 
 pub returns-clause-ahead : goal.returns-clause-ahead

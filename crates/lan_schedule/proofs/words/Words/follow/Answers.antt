@@ -1,6 +1,6 @@
 use Rattle.std.proofs.Common.{List, ◌∷◌, sym, ap, ◌∙◌, subst}
 use Rattle.lan_core.specs.declared.event.Event.{Event}
-use Rattle.transmit_words.specs.Ties.{Followed}
+use Rattle.station_words.specs.Ties.{Followed}
 use Rattle.worker_races.specs.Carded.{AreCarded}
 use Rattle.lan_schedule.specs.inside.Recording.{KeepSeats, is_start}
 use Rattle.lan_schedule.proofs.Recorded.{seats-same, seats-then}

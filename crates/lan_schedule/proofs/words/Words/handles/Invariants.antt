@@ -1,7 +1,7 @@
 -- So far there is a handle of each of the first tables, within the capacity.
 use Rattle.std.proofs.Common.{◌≡◌, ◌≤◌, length, take}
 use Rattle.std.specs.Vec.{vec_capacity}
-use Rattle.transmit_words.specs.Ties.{tables_of}
+use Rattle.station_words.specs.Ties.{tables_of}
 use Rattle.lan_schedule.proofs.words.Words.handles.Given as goal
 
 abbrev pub invariant-loop-table : goal.invariant-loop-table

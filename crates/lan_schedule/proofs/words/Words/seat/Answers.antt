@@ -1,6 +1,6 @@
 use Rattle.std.proofs.Common.{List, sym, subst}
 use Rattle.association_slots.specs.Views.{ControlAt}
-use Rattle.transmit_words.specs.Ties.{HaveKeptUp}
+use Rattle.station_words.specs.Ties.{HaveKeptUp}
 use Rattle.lan_schedule.proofs.words.Words.seat.Goals as goal
 
 pub returns-clause-keeps_up : goal.returns-clause-keeps_up

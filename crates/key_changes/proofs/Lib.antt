@@ -1,6 +1,0 @@
-mod First
-mod Passing
-mod Putting
-mod Listing
-mod Examples
-pub mod Public

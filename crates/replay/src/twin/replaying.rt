@@ -1,0 +1,44 @@
+//! A whole trace of two groups is replayed.
+
+ghost use Rattle.std.specs.Prelude.{◌≡◌, ℕ, Err};
+ghost use Rattle.text_lines.specs.Reading.{sourced};
+ghost use Rattle.replay.specs.declared.cause.Cause.TheVariants as causes;
+ghost use Rattle.replay.specs.Sinks.{sunk};
+ghost use Rattle.replay.specs.Runs.{IsReplayed};
+ghost use Rattle.twin_schedule.specs.Sound.{IsTidy};
+ghost use Rattle.replay.specs.twin.TwoGroups.{transcript, two_groups};
+
+use crate::twin::player::Player;
+use crate::twin::transcribing::Transcript;
+use crate::{Cause, MAX_INPUT, ended};
+use lan_base::{Sink, Source};
+use std::alloc::Global;
+use text_lines::read_lines;
+use twin_schedule::{
+    TwinReplay, law_acts_stop_for_their_own_reasons, law_groups_of_tidy_worlds_are_sound,
+};
+
+/// Reads a trace of two groups from a source to its end, performs each line as soon as it has ended,
+/// and writes what each event shows in each group before the next one happens: each line behind the
+/// number of its group.
+pub fn replay_two<S: Source, K: Sink>(
+    alloc: Global,
+    source: &mut S,
+    sink: &mut K,
+) -> Result<(), Cause>
+    ensures replayed { IsReplayed two_groups IsTidy transcript
+        (sourced (S.left source.old) (S.faults source.old))
+        (sourced (S.left source.new) (S.faults source.new))
+        (sunk (K.held sink.old) (K.faults sink.old))
+        (sunk (K.held sink.new) (K.faults sink.new)) result }
+    ensures unforged { (line : ℕ) → result ≡ Err (causes.Forged line) → ⊥ }
+{
+    law_groups_of_tidy_worlds_are_sound();
+    law_acts_stop_for_their_own_reasons();
+    let mut player = Player {
+        replay: TwinReplay::new(alloc),
+        recorder: Transcript::new(alloc),
+    };
+    let read = read_lines(alloc, MAX_INPUT, source, &mut player, sink);
+    ended(read, Ok(()))
+}

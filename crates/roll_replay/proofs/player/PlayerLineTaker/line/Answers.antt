@@ -1,5 +1,0 @@
-use Rattle.roll_schedule.proofs.Public.{one-does}
-use Rattle.roll_replay.proofs.player.PlayerLineTaker.line.Goals as goal
-
-pub returns : goal.returns
-returns g c = one-does c.args.text.now _ _ _ c.text.ensures.does

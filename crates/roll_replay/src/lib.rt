@@ -1,8 +1,0 @@
-//! A trace of two groups is read from a source and performed, for its transcript.
-#![tactic(auto)]
-
-mod player;
-mod replaying;
-mod transcribing;
-
-pub use replaying::replay_two;

@@ -1,7 +1,0 @@
-pub mod Answering
-pub mod Faults
-pub mod InForm
-pub mod Plain
-pub mod Shared
-mod Examples
-pub mod Public

@@ -1,5 +1,0 @@
-use Rattle.std.proofs.Common.{rules}
-use Rattle.roll_text.proofs.forms.shares.Goals as goal
-
-pub returns-in-Draws : goal.returns-in-Draws
-returns-in-Draws c = search rules

@@ -1,5 +1,0 @@
-use Rattle.roll_text.proofs.Faults.{read_or_refused}
-use Rattle.roll_text.proofs.laws.law_read_or_refused.Goals as goal
-
-pub returns-clause-one : goal.returns-clause-one
-returns-clause-one c = read_or_refused

@@ -1,9 +1,0 @@
-use Rattle.roll_text.proofs.Faults.{no_fault}
-use Rattle.roll_text.proofs.InForm.{answer_fits}
-use Rattle.roll_text.proofs.reading.read_roll_line.Goals as goal
-
-pub returns-clause-in_form : goal.returns-clause-in_form
-returns-clause-in_form c = answer_fits _ c.args.text.now c.answer_roll_line.ensures
-
-pub returns-clause-memory : goal.returns-clause-memory
-returns-clause-memory c = no_fault c.args.text.now _ c.answer_roll_line.ensures

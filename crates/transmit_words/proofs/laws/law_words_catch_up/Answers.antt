@@ -1,5 +1,0 @@
-use Rattle.transmit_words.proofs.Onward.{tied-beside}
-use Rattle.transmit_words.proofs.laws.law_words_catch_up.Goals as goal
-
-pub returns : goal.returns
-returns c = tied-beside

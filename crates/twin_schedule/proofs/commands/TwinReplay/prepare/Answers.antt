@@ -1,0 +1,14 @@
+use Rattle.std.proofs.Common.{refl}
+use Rattle.twin_schedule.proofs.Doing.{handed-on, memory-does}
+use Rattle.twin_schedule.proofs.Opening.{chosen-deed, chosen-does}
+use Rattle.twin_schedule.proofs.commands.TwinReplay.prepare.Goals as goal
+
+pub returns-in_ok-choose-in_default : goal.returns-in_ok-choose-in_default
+returns-in_ok-choose-in_default g c =
+    chosen-does c.args.line.now _ _ c.requires.form c.requires.allowed c.requires.unbegun c.requires.unbegun refl refl refl
+    c.in_ok-choose-in_default.ensures refl
+    (chosen-deed c.args.line.now c.args.self.now.chosen c.requires.allowed c.in_default.not-Station)
+
+pub returns-in_err-choose-in_default : goal.returns-in_err-choose-in_default
+returns-in_err-choose-in_default g c =
+    handed-on _ _ _ _ _ (memory-does _ _ _ refl) c.from_residual.ensures.1

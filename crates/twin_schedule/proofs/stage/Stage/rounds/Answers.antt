@@ -1,0 +1,21 @@
+use Rattle.std.proofs.Common.{arith}
+use Rattle.twin_schedule.specs.Lines.{round}
+use Rattle.twin_schedule.proofs.Doing.{span-end, span-exit, span-start, span-step}
+use Rattle.twin_schedule.proofs.stage.Stage.rounds.Goals as goal
+
+pub loop-init : goal.loop-init
+loop-init g c = span-start (λ _. round) c.args.count _
+
+pub returns-in_err-round : goal.returns-in_err-round
+returns-in_err-round g c =
+    span-exit (λ _. round) c.loop.counter c.args.count _ _ _ _ _ _ (omega arith)
+    c.loop.invariant c.in_err-round.ensures c.from_residual.ensures.1
+
+pub loop-preserved : goal.loop-preserved
+loop-preserved g c =
+    span-step (λ _. round) c.loop.counter c.args.count _ _ _ _ (omega arith)
+    c.loop.invariant c.in_ok-round.ensures
+
+pub returns : goal.returns
+returns g c = span-end (λ _. round) c.loop.counter c.args.count _ _ _ (omega arith)
+    c.loop.invariant

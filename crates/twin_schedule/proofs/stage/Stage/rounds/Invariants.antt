@@ -1,0 +1,13 @@
+use Rattle.std.proofs.Common.{◌-◌}
+use Rattle.twin_schedule.specs.Acts.{times, span}
+use Rattle.twin_schedule.specs.Lines.{round}
+use Rattle.twin_schedule.specs.Ends.{moment}
+use Rattle.twin_schedule.specs.Stages.{StandsFor}
+use Rattle.twin_schedule.proofs.Doing.{Leads}
+use Rattle.twin_schedule.proofs.stage.Stage.rounds.Given as goal
+
+abbrev pub invariant-loop : goal.invariant-loop
+invariant-loop g l =
+    let r = g.R.TwinRecorder in
+    Leads StandsFor r.Took r.Broke (times l.count (round)) (moment l.fn.self l.fn.outlet)
+    (span (λ _. round) l.counter (l.count - l.counter)) (moment l.self l.outlet)

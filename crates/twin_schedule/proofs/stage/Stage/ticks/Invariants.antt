@@ -1,0 +1,13 @@
+use Rattle.std.proofs.Common.{◌-◌}
+use Rattle.twin_schedule.specs.Acts.{times, span}
+use Rattle.twin_schedule.specs.Lines.{tick_both}
+use Rattle.twin_schedule.specs.Ends.{moment}
+use Rattle.twin_schedule.specs.Stages.{StandsFor}
+use Rattle.twin_schedule.proofs.Doing.{Leads}
+use Rattle.twin_schedule.proofs.stage.Stage.ticks.Given as goal
+
+abbrev pub invariant-loop : goal.invariant-loop
+invariant-loop g l =
+    let r = g.R.TwinRecorder in
+    Leads StandsFor r.Took r.Broke (times l.count (tick_both l.station)) (moment l.fn.self l.fn.outlet)
+    (span (λ _. tick_both l.station) l.counter (l.count - l.counter)) (moment l.self l.outlet)

@@ -1,0 +1,85 @@
+-- What a call did of an act: what was told, what it left, and how it ended (this profile's own
+-- rule). `Stands` says for which world a value stands; `Took` and `Broke` what a recorder does.
+use Rattle.std.specs.Prelude.{◌≡◌, ◌⊎◌, List, ◌∷◌, ◌++◌, Result, Ok, Err}
+use Rattle.trace_acts.specs.declared.halt.Halt.{Halt}
+use Rattle.trace_acts.specs.declared.halt.Halt.TheVariants as halts
+use Rattle.trace_acts.specs.declared.broken.Broken.{Broken}
+use Rattle.trace_acts.specs.Halts.{halt_of_broken}
+use Rattle.twin_schedule.specs.Sound.{IsTidy}
+use Rattle.twin_schedule.specs.World.{World}
+use Rattle.twin_schedule.specs.Acts.{Course, Goes, Stops, world_of}
+use Rattle.twin_schedule.specs.Reports.{Report, last_reports, reports, AreTold}
+
+-- a value that performs acts, and what is told, at a moment of a call
+pub record Moment (R K : Type 0) : Type 0 where
+  pub value : R
+  pub outlet : K
+
+abbrev pub moment : {R K : Type 0} → R → K → Moment R K
+moment value outlet = record { value = value; outlet = outlet }
+
+-- a value stands for a tidy world
+pub record IsReached {R : Type 0} (Stands : World → R → Type 0) (w : World) (now : R) : Type 0 where
+  pub stands : Stands w now
+  pub tidy : IsTidy w
+
+-- what events showed from one world up to another was told
+pub record WasTold {K : Type 0} (Took : K → Report → K → Type 0) (w v : World) (old new : K) :
+    Type 0 where
+  pub told : List Report
+  pub since : reports v.run ≡ reports w.run ++ told
+  pub by_one : AreTold Took old told new
+
+-- from one world up to another all was told up to a report of the last event, at which the recorder
+-- broke
+pub record WasBroken {K : Type 0} (Took : K → Report → K → Type 0)
+    (Broke : K → Report → K → Broken → Type 0) (w v : World) (old new : K) (halt : Halt) :
+    Type 0 where
+  pub told : List Report
+  pub last : Report
+  pub behind : List Report
+  pub since : reports v.run ≡ reports w.run ++ (told ++ last ∷ behind)
+  pub front : List Report
+  pub prompt : last_reports v.run ≡ front ++ last ∷ behind
+  pub before : K
+  pub by_one : AreTold Took old told before
+  pub why : Broken
+  pub breaks : Broke before last new why
+  pub is : halt ≡ halt_of_broken why
+
+-- the act stopped in a tidy world, and all was told
+pub record IsStopped {K : Type 0} (Took : K → Report → K → Type 0) (w : World) (out : Course)
+    (old new : K) (halt : Halt) : Type 0 where
+  pub world : World
+  pub stops : out ≡ Stops world halt
+  pub tidy : IsTidy world
+  pub told : WasTold Took w world old new
+
+-- reports begin with others
+pub record Begins (front all : List Report) : Type 0 where
+  pub more : List Report
+  pub parts : front ++ more ≡ all
+
+-- all that a course reports, also before an act
+abbrev pub reported : Course → List Report
+reported out = reports (world_of out).run
+
+-- on the way to this course a tidy world was reached, where memory was wanting, or the recorder broke
+pub record WasCut {K : Type 0} (Took : K → Report → K → Type 0)
+    (Broke : K → Report → K → Broken → Type 0) (w : World) (out : Course) (old new : K)
+    (halt : Halt) : Type 0 where
+  pub world : World
+  pub tidy : IsTidy world
+  pub begins : Begins (reports world.run) (reported out)
+  pub cause : ((halt ≡ halts.Memory) × WasTold Took w world old new)
+      ⊎ WasBroken Took Broke w world old new halt
+
+-- How a call ends that begins in a world, and whose course would be this one. Its value then stands
+-- for the world that is reached; or the act stops, or it was cut.
+abbrev pub Ends : {R K : Type 0} → (World → R → Type 0) → (K → Report → K → Type 0)
+    → (K → Report → K → Broken → Type 0) → World → Course → K → Moment R K
+    → Result (Unit {0}) Halt → Type 0
+Ends Stands Took Broke w out old new (Ok done) =
+    (v : World) × (out ≡ Goes v) × IsReached Stands v new.value × WasTold Took w v old new.outlet
+Ends Stands Took Broke w out old new (Err halt) =
+    IsStopped Took w out old new.outlet halt ⊎ WasCut Took Broke w out old new.outlet halt

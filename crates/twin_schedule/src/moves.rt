@@ -1,0 +1,293 @@
+//! Time moves on, and frames go from station to station.
+
+ghost use Rattle.std.specs.Prelude.{◌≡◌, ◌<◌, ◌+◌, ◌-◌, ◌^◌, IfOk};
+ghost use Rattle.cak_roll.specs.Twin.{of_group};
+ghost use Rattle.std.specs.List.{range_with_len};
+ghost use Rattle.twin_schedule.specs.World.{World, joined, sender, has_spread};
+ghost use Rattle.twin_schedule.specs.Acts.{each, span, times};
+ghost use Rattle.twin_schedule.specs.Lines.{tick_in, tick_both, round, pass, spread, spread_group};
+ghost use Rattle.twin_schedule.specs.Lines.{flow_round, is_passed_by};
+ghost use Rattle.twin_schedule.specs.Ends.{moment, IsReached};
+ghost use Rattle.twin_schedule.specs.Stages.{StandsFor};
+ghost use Rattle.twin_schedule.specs.inside.Doing.{Did};
+
+use crate::party::{Party, item};
+use crate::recorder::TwinRecorder;
+use crate::stage::Stage;
+use cak_roll::{GroupNumber, TwinEvent};
+use std::alloc::{AllocError, Global};
+use trace_acts::Halt;
+
+impl Stage {
+    /// A tick of a station in a group, where it takes part.
+    fn tick_in<K, R: TwinRecorder<K>>(
+        &mut self,
+        group: GroupNumber,
+        station: u8,
+        recorder: &mut R,
+        outlet: &mut K,
+    ) -> Result<(), Halt>
+        ensures { Did R.Took R.Broke (tick_in group station)
+            (moment self.old outlet.old) (moment self.new outlet.new) result }
+    {
+        if !self.twin.takes_part(group, station) {
+            return Ok(());
+        }
+        self.happen(&TwinEvent::Tick { station, group }, None, recorder, outlet)
+    }
+
+    /// A tick of a station in the first group, and then in the second.
+    fn tick_both<K, R: TwinRecorder<K>>(
+        &mut self,
+        station: u8,
+        recorder: &mut R,
+        outlet: &mut K,
+    ) -> Result<(), Halt>
+        ensures { Did R.Took R.Broke (tick_both station)
+            (moment self.old outlet.old) (moment self.new outlet.new) result }
+    {
+        self.tick_in(GroupNumber::First, station, recorder, outlet)?;
+        self.tick_in(GroupNumber::Second, station, recorder, outlet)
+    }
+
+    /// So many ticks of one station.
+    pub fn ticks<K, R: TwinRecorder<K>>(
+        &mut self,
+        station: u8,
+        count: u32,
+        recorder: &mut R,
+        outlet: &mut K,
+    ) -> Result<(), Halt>
+        ensures { Did R.Took R.Broke (times count (tick_both station))
+            (moment self.old outlet.old) (moment self.new outlet.new) result }
+    {
+        for _ in 0..count {
+            self.tick_both(station, recorder, outlet)?;
+        }
+        Ok(())
+    }
+
+    /// A tick of each station, in each group.
+    fn round<K, R: TwinRecorder<K>>(&mut self, recorder: &mut R, outlet: &mut K) -> Result<(), Halt>
+        ensures { Did R.Took R.Broke round
+            (moment self.old outlet.old) (moment self.new outlet.new) result }
+    {
+        for station in 0..self.count() {
+            self.tick_both(station, recorder, outlet)?;
+        }
+        Ok(())
+    }
+
+    /// So many rounds.
+    pub fn rounds<K, R: TwinRecorder<K>>(
+        &mut self,
+        count: u32,
+        recorder: &mut R,
+        outlet: &mut K,
+    ) -> Result<(), Halt>
+        ensures { Did R.Took R.Broke (times count round)
+            (moment self.old outlet.old) (moment self.new outlet.new) result }
+    {
+        for _ in 0..count {
+            self.round(recorder, outlet)?;
+        }
+        Ok(())
+    }
+
+    // ---- frames
+
+    /// A group's frame goes from one station to another, unless it passes that by.
+    fn pass<K, R: TwinRecorder<K>>(
+        &mut self,
+        group: GroupNumber,
+        frame: u32,
+        from: u8,
+        station: u8,
+        recorder: &mut R,
+        outlet: &mut K,
+    ) -> Result<(), Halt>
+        ensures { Did R.Took R.Broke (pass group frame from station)
+            (moment self.old outlet.old) (moment self.new outlet.new) result }
+    {
+        if self.passes_by(group, from, station) {
+            return Ok(());
+        }
+        let deliver = TwinEvent::Deliver {
+            group,
+            frame,
+            station,
+        };
+        self.happen(&deliver, None, recorder, outlet)
+    }
+
+    /// Whether a group's frame passes a station by.
+    fn passes_by(&self, group: GroupNumber, from: u8, station: u8) -> bool
+        ensures { (w : World) → StandsFor w self.now
+            → result ≡ is_passed_by group from station w }
+    {
+        !self.twin.takes_part(group, station) || station == from || self.cuts.is_cut(from, station)
+    }
+
+    /// A group's frame goes from one station to others.
+    fn pass_to<K, R: TwinRecorder<K>>(
+        &mut self,
+        group: GroupNumber,
+        frame: u32,
+        from: u8,
+        stations: &[u8],
+        recorder: &mut R,
+        outlet: &mut K,
+    ) -> Result<(), Halt>
+        ensures { Did R.Took R.Broke (each (pass group frame from) stations.now)
+            (moment self.old outlet.old) (moment self.new outlet.new) result }
+    {
+        for station in stations {
+            self.pass(group, frame, from, *station, recorder, outlet)?;
+        }
+        Ok(())
+    }
+
+    /// A group's frame goes from its sender to those that joined the group.
+    fn spread<K, R: TwinRecorder<K>>(
+        &mut self,
+        group: GroupNumber,
+        frame: u32,
+        recorder: &mut R,
+        outlet: &mut K,
+    ) -> Result<(), Halt>
+        ensures { Did R.Took R.Broke (spread group frame)
+            (moment self.old outlet.old) (moment self.new outlet.new) result }
+    {
+        let from = self.sender(group, frame);
+        let stations = self.joined(group)?;
+        self.pass_to(group, frame, from, &stations, recorder, outlet)
+    }
+
+    /// The sender of a group's frame of a number, from 1.
+    fn sender(&self, group: GroupNumber, frame: u32) -> u8
+        ensures { (w : World) → StandsFor w self.now → result ≡ sender group frame w.run }
+    {
+        match group {
+            GroupNumber::First => self.first.sender(frame),
+            GroupNumber::Second => item(
+                self.twin.adopters(),
+                usize::from(self.second.sender(frame)),
+            ),
+        }
+    }
+
+    /// The stations that joined a group, in that order.
+    fn joined(&self, group: GroupNumber) -> Result<Vec<u8>, AllocError>
+        ensures { (w : World) → IsReached StandsFor w self.now
+            → IfOk result (λ stations. stations.items ≡ joined group w.run) }
+    {
+        match group {
+            GroupNumber::First => up_to(self.alloc, self.count()),
+            GroupNumber::Second => self.twin.adopters().to_vec(self.alloc),
+        }
+    }
+
+    /// The frames of a group that are not yet spread are, by number.
+    fn spread_group<K, R: TwinRecorder<K>>(
+        &mut self,
+        group: GroupNumber,
+        recorder: &mut R,
+        outlet: &mut K,
+    ) -> Result<(), Halt>
+        ensures { Did R.Took R.Broke (spread_group group)
+            (moment self.old outlet.old) (moment self.new outlet.new) result }
+    {
+        let count = counted(self.party(group).count());
+        let first = self.party(group).spread;
+        self.spread_between(group, first, count, recorder, outlet)?;
+        self.set_spread(group, count);
+        Ok(())
+    }
+
+    /// The frames of a group behind the first so many, up to a count, are spread.
+    fn spread_between<K, R: TwinRecorder<K>>(
+        &mut self,
+        group: GroupNumber,
+        first: u32,
+        count: u32,
+        recorder: &mut R,
+        outlet: &mut K,
+    ) -> Result<(), Halt>
+        ensures { Did R.Took R.Broke (span (λ place. spread group (place + 1)) first (count - first))
+            (moment self.old outlet.old) (moment self.new outlet.new) result }
+    {
+        for place in first..count {
+            self.spread(group, place + 1, recorder, outlet)?;
+        }
+        Ok(())
+    }
+
+    /// What is kept of a group.
+    fn party(&self, group: GroupNumber) -> &Party
+        ensures { result.now ≡ of_group group self.now.first self.now.second }
+    {
+        match group {
+            GroupNumber::First => &self.first,
+            GroupNumber::Second => &self.second,
+        }
+    }
+
+    /// So many frames of a group were spread.
+    fn set_spread(&mut self, group: GroupNumber, count: u32)
+        ensures { (w : World) → StandsFor w self.old
+            → StandsFor (record w { kept = has_spread group count w.kept }) self.new }
+    {
+        match group {
+            GroupNumber::First => self.first.spread = count,
+            GroupNumber::Second => self.second.spread = count,
+        }
+    }
+
+    /// A flow round: a round of ticks, and then the frames of each group are spread.
+    fn flow_round<K, R: TwinRecorder<K>>(
+        &mut self,
+        recorder: &mut R,
+        outlet: &mut K,
+    ) -> Result<(), Halt>
+        ensures { Did R.Took R.Broke flow_round
+            (moment self.old outlet.old) (moment self.new outlet.new) result }
+    {
+        self.round(recorder, outlet)?;
+        self.spread_group(GroupNumber::First, recorder, outlet)?;
+        self.spread_group(GroupNumber::Second, recorder, outlet)
+    }
+
+    /// So many flow rounds.
+    pub fn flow<K, R: TwinRecorder<K>>(
+        &mut self,
+        count: u32,
+        recorder: &mut R,
+        outlet: &mut K,
+    ) -> Result<(), Halt>
+        ensures { Did R.Took R.Broke (times count flow_round)
+            (moment self.old outlet.old) (moment self.new outlet.new) result }
+    {
+        for _ in 0..count {
+            self.flow_round(recorder, outlet)?;
+        }
+        Ok(())
+    }
+}
+
+/// A count of frames, of which there are fewer than 2^32.
+fn counted(count: usize) -> u32
+    ensures { count < 2 ^ 32 → result ≡ count }
+{
+    u32::try_from(count).unwrap_or(u32::MAX)
+}
+
+/// The places below a count of stations.
+fn up_to(alloc: Global, count: u8) -> Result<Vec<u8>, AllocError>
+    ensures { IfOk result (λ places. places.items ≡ range_with_len 0 count) }
+{
+    let mut places = Vec::new(alloc);
+    for place in 0..count {
+        places.push(place)?;
+    }
+    Ok(places)
+}
