@@ -1,12 +1,11 @@
--- How the program ends after an order was carried out.
+-- How the program ends after a trace was performed or made.
 use Rattle.std.proofs.Common.{◌≡◌, ℕ, ◌<◌, ◌≤◌, true, false, List, [], ◌∷◌, Bool, length, take, Option}
-use Rattle.std.proofs.Common.{refl, sym, ap, subst, ◌∙◌, inl, inr, arith, append-nil}
+use Rattle.std.proofs.Common.{refl, sym, ap, subst, inl, inr, arith, append-nil}
 use Rattle.std.specs.Prelude.{◌⊎◌, nat_le, Some, None, Result, Ok, Err}
 use Rattle.std.proofs.lemmas.Bool.Decides.{nat_tests}
 use Rattle.lan_base.specs.Faults.{Rose}
 use Rattle.lan_base.specs.Told.{before, after}
 use Rattle.trace_maker.specs.Made.{made}
-use Rattle.clap.specs.Words.{Text}
 use Rattle.text_lines.specs.Texts.{whole_lines}
 use Rattle.text_lines.specs.Reading.{Sourced, sourced}
 use Rattle.trace_acts.specs.declared.halt.Halt.{Halt}
@@ -26,15 +25,12 @@ use Rattle.replay.specs.OneGroup.{one_group, shown_by, whole, IsSettled}
 use Rattle.replay.proofs.Public.{runs-weaker, broke-one}
 use Rattle.rollover_program.specs.declared.status.Status.{Status}
 use Rattle.rollover_program.specs.declared.status.Status.TheVariants.{Done, Usage, Halted, CheckInput, Refuted, Transcript, CaptureInput, Unrecorded, Capture, KeyLine, Keys, CaptureRefuted, CaptureDoubted, Packets}
-use Rattle.rollover_program.specs.declared.words.Order.{Order}
-use Rattle.rollover_program.specs.declared.words.Order.TheVariants.{Make, Try}
-use Rattle.rollover_program.specs.Words.{Orders}
 use Rattle.rollover_program.specs.Headline.{IsPromised}
 use Rattle.rollover_program.specs.commands.Run.{Answers, EndsAsRun, EndsWithin, halt_in}
 use Rattle.rollover_program.specs.commands.Run.{status_after, status_within}
 use Rattle.rollover_program.specs.commands.Make.{EndsMade}
 use Rattle.rollover_program.specs.commands.Try.{EndsTried}
-use Rattle.rollover_program.specs.inside.Answering.{CarriesOut, status_of}
+use Rattle.rollover_program.specs.inside.Answering.{status_of}
 
 abbrev pub Answer : Type 0
 Answer = Result (Unit {0}) Cause
@@ -257,34 +253,3 @@ complete_make n old new (Halted causes.Input) ends writes = absurd ends
 complete_make n old new (Halted (causes.Limit which)) ends writes = absurd ends
 complete_make n old new (Halted (causes.RepeatedDraw first second)) ends writes = absurd ends
 complete_make n old new (Halted (causes.Forged line)) ends writes = absurd ends
-
--- ---- faults of the two that do not read
-
-pub made_as : (n : ℕ) (old new : Sunk) (status other : Status) → EndsMade n old new status
-    → status ≡ other → EndsMade n old new other
-made_as n old new status other ends e = subst (EndsMade n old new) e ends
-
-pub tried_unread : (n : ℕ) (old new : Sunk) (status : Status) → EndsTried n old new status
-    → status ≡ Halted causes.ReadFault → ⊥
-tried_unread n old new status ends e =
-    let says = subst (λ (s : Status). EndsTried n old new s) e ends in steady says.1.ends.0
-
--- ---- by an order
-
--- words have one order
-pub one_order : (words : List Text) (a b : Order) → Orders words a → Orders words b → a ≡ b
-one_order words a b x y =
-    let same : Some a ≡ Some b = sym x.1 ∙ y.1 in
-    cc
-
--- what was ordered was carried out
-pub as_asked : (words : List Text) (a b : Order) (left now : Sourced) (old new : Sunk)
-    (status : Status) → Orders words a → Orders words b
-    → CarriesOut a left now old new status → CarriesOut b left now old new status
-as_asked words a b left now old new status x y out =
-    subst (λ (o : Order). CarriesOut o left now old new status) (one_order words a b x y) out
-
-pub either_order : (words : List Text) (a : Order) (n : ℕ) → Orders words a → Orders words (Make n)
-    ⊎ Orders words (Try n) → (a ≡ Make n) ⊎ (a ≡ Try n)
-either_order words a n x (inl y) = inl (one_order words a (Make n) x y)
-either_order words a n x (inr y) = inr (one_order words a (Try n) x y)

@@ -1,5 +1,5 @@
 -- What was read decides how the program ends, where nothing fails outside.
-use Rattle.std.proofs.Common.{◌≡◌, ℕ, Bool, true, false, List, Some, Result, Ok, Err, ap, inl, inr, refl, subst, sym}
+use Rattle.std.proofs.Common.{◌≡◌, ℕ, List, Result, Ok, Err, ap, inl, inr, refl, subst, sym}
 use Rattle.std.specs.Prelude.{◌⊎◌}
 use Rattle.text_lines.specs.Reading.{Sourced}
 use Rattle.transcript_check.specs.declared.verdict.Verdict.{Verdict}
@@ -22,15 +22,12 @@ use Rattle.replay.specs.Sinks.{Sunk}
 use Rattle.rollover_program.specs.declared.status.Status.{Status}
 use Rattle.rollover_program.specs.declared.status.Status.TheVariants as statuses
 use Rattle.rollover_program.specs.declared.status.Status.TheVariants.{Done, Usage, Halted, CheckInput, Refuted, Transcript, CaptureInput, Unrecorded, KeyLine, Keys, CaptureRefuted, CaptureDoubted, Packets}
-use Rattle.rollover_program.specs.declared.words.Order.{Order}
-use Rattle.rollover_program.specs.declared.words.Order.TheVariants.{Run, Make, Try, Check, Capture, Dissect, Roll, Draw, Audit}
-use Rattle.rollover_program.specs.Decided.{IsDecided, IsToRead}
+use Rattle.rollover_program.specs.Carried.{IsDecided}
 use Rattle.rollover_program.specs.commands.Check.{EndsAsCheck, Tells, status_of}
-use Rattle.rollover_program.specs.commands.Capture.{status_of_capture}
-use Rattle.rollover_program.specs.commands.Dissect.{status_of_telling}
+use Rattle.rollover_program.specs.commands.Capture.{EndsAsCapture, status_of_capture}
+use Rattle.rollover_program.specs.commands.Dissect.{EndsAsDissect, status_of_telling}
 use Rattle.rollover_program.specs.commands.Draw.{EndsAsDraw, Shows, status_of_undrawn}
-use Rattle.rollover_program.specs.commands.Audit.{IsCompleteAudit, ShowsSeen, status_behind, status_of_audit}
-use Rattle.rollover_program.specs.inside.Answering.{CarriesOut}
+use Rattle.rollover_program.specs.commands.Audit.{EndsAsAudit, EndsAsView, ShowsSeen, status_behind, status_of_audit}
 use Rattle.rollover_program.proofs.Judged.{other-status}
 
 -- a cause that is outside, or want of memory
@@ -176,38 +173,27 @@ by_view asks (Ok view) old new status (inl it) =
     subst IsHaltedOutside (sym it.3) (by_behind it.0 old new it.1 (end_seen asks.strict (Ok view)) it.2)
 by_view asks (Ok view) old new status (inr it) = subst IsHaltedOutside (sym it.0) (inr (inr refl))
 
--- ---- by the order
+-- ---- by the command
 
--- an order to read ends so
-pub halted_outside : (order : Order) → IsToRead order → (text : List ℕ) (left now : Sourced) (old new : Sunk)
-    (status : Status) → left.left ≡ Some text → CarriesOut order left now old new status
-    → IsHaltedOutside status
-halted_outside Check is text left now old new status told out = go (out text told)
-  where
-    go : EndsAsCheck text left now old new status → IsHaltedOutside status
-    go (inl e) = by_verdict e.0 old new status e.2
-    go (inr e) = subst IsHaltedOutside (sym e.2) (by_unjudged e.0)
-halted_outside Capture is text left now old new status told out =
-    let e = out text told in subst IsHaltedOutside (sym e.2) (by_capture e.0)
-halted_outside Dissect is text left now old new status told out =
-    let e = out text told in subst IsHaltedOutside (sym e.2) (by_telling e.0)
-halted_outside Draw is text left now old new status told out = go (out text told)
-  where
-    go : EndsAsDraw text left now old new status → IsHaltedOutside status
-    go (inl e) = by_picture e.0 old new status e.2
-    go (inr e) = subst IsHaltedOutside (sym e.2) (by_undrawn e.0)
-halted_outside (Audit asks false) is text left now old new status told out =
-    let e = (out text told).0 in subst IsHaltedOutside (sym e.2) (by_audit e.0)
-halted_outside (Audit asks true) is text left now old new status told out =
-    let e = (out text told).0 in by_view asks e.0 old new status e.3
-halted_outside (Run summary) is text left now old new status told out = absurd is
-halted_outside (Make n) is text left now old new status told out = absurd is
-halted_outside (Try n) is text left now old new status told out = absurd is
-halted_outside Roll is text left now old new status told out = absurd is
+module _ (left now : Sourced) (old new : Sunk) (status : Status) where
+  pub checked : (text : List ℕ) → EndsAsCheck text left now old new status → IsHaltedOutside status
+  checked text (inl e) = by_verdict e.0 old new status e.2
+  checked text (inr e) = subst IsHaltedOutside (sym e.2) (by_unjudged e.0)
 
--- a capture that is judged, for the report or for the picture, is judged whole
-pub judged_whole : (asks : Asks) (draws : Bool) (text : List ℕ) (left now : Sourced) (old new : Sunk) (status : Status)
-    → left.left ≡ Some text → CarriesOut (Audit asks draws) left now old new status
-    → IsCompleteAudit asks text left.faults now.faults old.faults new.faults status
-judged_whole asks false text left now old new status told out = (out text told).1
-judged_whole asks true text left now old new status told out = (out text told).1
+  pub captured : (text : List ℕ) → EndsAsCapture text left now old new status → IsHaltedOutside status
+  captured text e = subst IsHaltedOutside (sym e.2) (by_capture e.0)
+
+  pub dissected : (file : List ℕ) → EndsAsDissect file now.left old.held new.held status → IsHaltedOutside status
+  dissected file e = subst IsHaltedOutside (sym e.2) (by_telling e.0)
+
+  pub drawn : (text : List ℕ) → EndsAsDraw text left now old new status → IsHaltedOutside status
+  drawn text (inl e) = by_picture e.0 old new status e.2
+  drawn text (inr e) = subst IsHaltedOutside (sym e.2) (by_undrawn e.0)
+
+  pub audited : (asks : Asks) (text : List ℕ) (failed : Type 0)
+      → EndsAsAudit asks text now.left failed old.held new.held status → IsHaltedOutside status
+  audited asks text failed e = subst IsHaltedOutside (sym e.2) (by_audit e.0)
+
+  pub viewed : (asks : Asks) (text : List ℕ) (failed : Type 0)
+      → EndsAsView asks text now.left failed old new status → IsHaltedOutside status
+  viewed asks text failed e = by_view asks e.0 old new status e.3

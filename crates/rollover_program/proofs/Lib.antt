@@ -12,4 +12,5 @@ mod Drawn
 mod Audited
 mod Viewed
 mod Decided
+mod Orders
 mod Refused

@@ -1,30 +1,17 @@
 //! The top call: words are read, and what they order is carried out.
 
-ghost use Rattle.std.specs.Prelude.{◌≡◌, ◌≢◌, ◌⊎◌, List, [], ℕ, Bool, true, false, Some, map, string_bytes};
+ghost use Rattle.std.specs.Prelude.{◌≡◌, ◌≢◌, ◌⊎◌, List, ℕ, Bool, Some, map, string_bytes};
 ghost use Rattle.lan_base.specs.Faults.{Rose};
 ghost use Rattle.text_lines.specs.Reading.{sourced};
-ghost use Rattle.trace_maker.specs.Made.{made};
 ghost use Rattle.replay.specs.declared.cause.Cause.TheVariants as causes;
 ghost use Rattle.replay.specs.Sinks.{sunk};
-ghost use Rattle.audit_report.specs.declared.ending.Ending.TheVariants.{Whole};
 ghost use Rattle.capture_audit.specs.declared.asks.Asks.{Asks};
-ghost use Rattle.capture_audit.specs.Before.{Unwrapped};
-ghost use Rattle.capture_audit.specs.Reading.{IsRead};
-ghost use Rattle.key_ring.specs.Rings.{Ring};
 ghost use Rattle.rollover_program.specs.declared.words.Order.{Order};
 ghost use Rattle.rollover_program.specs.declared.words.Order.TheVariants as orders;
 ghost use Rattle.rollover_program.specs.Words.{IsNumbered, IsUsage, Orders, words_of};
-ghost use Rattle.rollover_program.specs.commands.Run.{EndsAsRun, EndsWithin};
-ghost use Rattle.rollover_program.specs.commands.Make.{EndsMade};
-ghost use Rattle.rollover_program.specs.commands.Try.{EndsTried};
-ghost use Rattle.rollover_program.specs.commands.Check.{EndsAsCheck};
-ghost use Rattle.rollover_program.specs.commands.Capture.{EndsAsCapture};
-ghost use Rattle.rollover_program.specs.commands.Dissect.{EndsAsDissect};
-ghost use Rattle.rollover_program.specs.commands.Roll.{EndsAsRoll, EndsRollWithin};
-ghost use Rattle.rollover_program.specs.commands.Draw.{EndsAsDraw};
-ghost use Rattle.rollover_program.specs.commands.Audit.{EndsAsAudit, EndsAsView, EndsJudged};
-ghost use Rattle.rollover_program.specs.Decided.{IsDecided, IsToRead};
-ghost use Rattle.rollover_program.specs.inside.Answering.{CarriesOut, status_of_refusal};
+ghost use Rattle.rollover_program.specs.Carried.{CarriesOut, Completes};
+ghost use Rattle.rollover_program.specs.commands.Audit.{IsCompleteAudit};
+ghost use Rattle.rollover_program.specs.inside.Answering.{status_of_refusal};
 
 use crate::commands::audit::{audit, draw_audit};
 use crate::commands::capture::capture;
@@ -61,7 +48,8 @@ use twin_schedule::law_groups_of_tidy_worlds_are_sound;
 /// both, each line behind the number of its group. `draw` reads a transcript as `check` does, and
 /// writes the picture of its keys at the end. `audit` reads a key text and the capture behind it, and
 /// writes the report; with `--packets` each packet has a line, and with `--strict` no protected frame is
-/// to be wrong or undecided. With `--draw` it writes the picture in place of the report. Clauses that name a text or a file speak of a source that tells its octets.
+/// to be wrong or undecided. With `--draw` it writes the picture in place of the report. What is said of
+/// each command is a row of `CarriesOut`, and one of `EndsUndisturbed`.
 pub fn rollover<T: Threads + Sync, S: Source, K: Sink>(
     rt: &T,
     alloc: Global,
@@ -84,79 +72,14 @@ pub fn rollover<T: Threads + Sync, S: Source, K: Sink>(
         → map string_bytes words.now ≡ words_of order
         → Orders (map string_bytes words.now) order × (result ≢ Status.Usage) }
 
-    // `run`, with or without `--summary`: whatever the end, which octets were taken, what of the text
-    // was performed, what is promised of its run, and what was written of it.
-    ensures run { (text : List ℕ) (summary : Bool)
-        → Orders (map string_bytes words.now) (orders.Run summary)
-        → S.left source.old ≡ Some text → EndsAsRun summary text
+    // Whatever the end, what was read and written, and why it came, says each order's row.
+    ensures carried { (order : Order) → Orders (map string_bytes words.now) order → CarriesOut order
         (sourced (S.left source.old) (S.faults source.old))
         (sourced (S.left source.new) (S.faults source.new))
-        (sunk (K.held sink.old) (K.faults sink.old))
-        (sunk (K.held sink.new) (K.faults sink.new)) result }
-
-    // `make N` and `try N`.
-    ensures make { (n : ℕ) → Orders (map string_bytes words.now) (orders.Make n) → EndsMade n
-        (sunk (K.held sink.old) (K.faults sink.old))
-        (sunk (K.held sink.new) (K.faults sink.new)) result }
-    ensures try_made { (n : ℕ) → Orders (map string_bytes words.now) (orders.Try n) → EndsTried n
         (sunk (K.held sink.old) (K.faults sink.old))
         (sunk (K.held sink.new) (K.faults sink.new)) result }
     ensures unread { (n : ℕ) → Orders (map string_bytes words.now) (orders.Make n)
         ⊎ Orders (map string_bytes words.now) (orders.Try n) → source.new ≡ source.old }
-
-    // `check`: how a transcript was judged, and what was written of the verdict.
-    ensures check { (text : List ℕ) → Orders (map string_bytes words.now) orders.Check
-        → S.left source.old ≡ Some text → EndsAsCheck text
-        (sourced (S.left source.old) (S.faults source.old))
-        (sourced (S.left source.new) (S.faults source.new))
-        (sunk (K.held sink.old) (K.faults sink.old))
-        (sunk (K.held sink.new) (K.faults sink.new)) result }
-
-    // `capture`: how a transcript was captured, and what was written of its file.
-    ensures capture { (text : List ℕ) → Orders (map string_bytes words.now) orders.Capture
-        → S.left source.old ≡ Some text → EndsAsCapture text
-        (sourced (S.left source.old) (S.faults source.old))
-        (sourced (S.left source.new) (S.faults source.new))
-        (sunk (K.held sink.old) (K.faults sink.old))
-        (sunk (K.held sink.new) (K.faults sink.new)) result }
-
-    // `dissect`: how a file was told, and what was written of its lines.
-    ensures dissect { (file : List ℕ) → Orders (map string_bytes words.now) orders.Dissect
-        → S.left source.old ≡ Some file → EndsAsDissect file (S.left source.new)
-        (K.held sink.old) (K.held sink.new) result }
-
-    // `roll`: whatever the end, which octets were taken, what of the text was performed, what is
-    // promised of both groups, and what was written of them.
-    ensures roll { (text : List ℕ) → Orders (map string_bytes words.now) orders.Roll
-        → S.left source.old ≡ Some text → EndsAsRoll text
-        (sourced (S.left source.old) (S.faults source.old))
-        (sourced (S.left source.new) (S.faults source.new))
-        (sunk (K.held sink.old) (K.faults sink.old))
-        (sunk (K.held sink.new) (K.faults sink.new)) result }
-
-    // `draw`: how a transcript was drawn, and what was written of its picture.
-    ensures draw { (text : List ℕ) → Orders (map string_bytes words.now) orders.Draw
-        → S.left source.old ≡ Some text → EndsAsDraw text
-        (sourced (S.left source.old) (S.faults source.old))
-        (sourced (S.left source.new) (S.faults source.new))
-        (sunk (K.held sink.old) (K.faults sink.old))
-        (sunk (K.held sink.new) (K.faults sink.new)) result }
-
-    // `audit`, with or without `--packets` and `--strict`: what was read of keys and packets, what breaks
-    // of them or is doubted, and what was written of the report.
-    ensures audit { (text : List ℕ) (asks : Asks)
-        → Orders (map string_bytes words.now) (orders.Audit asks false)
-        → S.left source.old ≡ Some text → EndsAsAudit asks text (S.left source.new)
-        (Rose (S.faults source.old) (S.faults source.new)) (K.held sink.old) (K.held sink.new) result }
-
-    // `audit --draw`: what was seen of keys and packets, how their audit ends, and what was written of the
-    // picture.
-    ensures view { (text : List ℕ) (asks : Asks)
-        → Orders (map string_bytes words.now) (orders.Audit asks true)
-        → S.left source.old ≡ Some text → EndsAsView asks text (S.left source.new)
-        (Rose (S.faults source.old) (S.faults source.new))
-        (sunk (K.held sink.old) (K.faults sink.old))
-        (sunk (K.held sink.new) (K.faults sink.new)) result }
 
     // Faults are those of the outside, whatever it tells.
     ensures read_cause { result ≡ Status.Halted causes.ReadFault
@@ -168,42 +91,12 @@ pub fn rollover<T: Threads + Sync, S: Source, K: Sink>(
     ensures unforged { (line : ℕ) → Orders (map string_bytes words.now) orders.Roll
         → result ≢ Status.Halted (causes.Forged line) }
 
-    // Without a fault a trace ends as its lines do, and making one is done, unless memory runs out.
-    ensures complete { (text : List ℕ) (summary : Bool)
-        → Orders (map string_bytes words.now) (orders.Run summary)
-        → S.left source.old ≡ Some text
-        → (Rose (S.faults source.old) (S.faults source.new) → ⊥)
-        → (Rose (K.faults sink.old) (K.faults sink.new) → ⊥)
-        → EndsWithin text result ⊎ (result ≡ Status.Halted causes.Memory) }
-    ensures complete_make { (n : ℕ) → Orders (map string_bytes words.now) (orders.Make n)
-        → (Rose (K.faults sink.old) (K.faults sink.new) → ⊥)
-        → (result ≡ Status.Done) ⊎ (result ≡ Status.Halted causes.Memory) }
-    ensures complete_try { (n : ℕ) → Orders (map string_bytes words.now) (orders.Try n)
-        → (Rose (K.faults sink.old) (K.faults sink.new) → ⊥)
-        → EndsWithin (made n) result ⊎ (result ≡ Status.Halted causes.Memory) }
-    ensures complete_roll { (text : List ℕ) → Orders (map string_bytes words.now) orders.Roll
-        → S.left source.old ≡ Some text
-        → (Rose (S.faults source.old) (S.faults source.new) → ⊥)
-        → (Rose (K.faults sink.old) (K.faults sink.new) → ⊥)
-        → EndsRollWithin text result ⊎ (result ≡ Status.Halted causes.Memory) }
-
-    // Without one those that read what others wrote end as that decides, unless memory runs out: the
-    // clauses of each above say which of its ends then comes, and when.
-    ensures complete_reading { (text : List ℕ) (order : Order) → IsToRead order
-        → Orders (map string_bytes words.now) order → S.left source.old ≡ Some text
-        → (Rose (S.faults source.old) (S.faults source.new) → ⊥)
-        → (Rose (K.faults sink.old) (K.faults sink.new) → ⊥)
-        → IsDecided result ⊎ (result ≡ Status.Halted causes.Memory) }
-
-    // Without one a capture that can be read to its end is refuted exactly where a pair of its packets
-    // breaks what is judged, and else it is doubted where `--strict` says so of its frames, or all is
-    // done, unless memory runs out.
-    ensures complete_audit { (text : List ℕ) (asks : Asks) (draws : Bool) (ring : Ring) (packets : List Unwrapped)
-        → Orders (map string_bytes words.now) (orders.Audit asks draws)
-        → S.left source.old ≡ Some text → IsRead text (Some []) ring packets Whole
-        → (Rose (S.faults source.old) (S.faults source.new) → ⊥)
-        → (Rose (K.faults sink.old) (K.faults sink.new) → ⊥)
-        → EndsJudged asks ring packets result ⊎ (result ≡ Status.Halted causes.Memory) }
+    // Without a fault each order ends as its row says, unless memory runs out.
+    ensures complete { (order : Order) → Orders (map string_bytes words.now) order → Completes order
+        (sourced (S.left source.old) (S.faults source.old))
+        (sourced (S.left source.new) (S.faults source.new))
+        (sunk (K.held sink.old) (K.faults sink.old))
+        (sunk (K.held sink.new) (K.faults sink.new)) result }
 {
     law_tidy_runs_are_promised();
     law_lines_leave_a_tidy_world();
@@ -229,6 +122,9 @@ fn carry_out<T: Threads + Sync, S: Source, K: Sink>(
         (sourced (S.left source.new) (S.faults source.new))
         (sunk (K.held sink.old) (K.faults sink.old))
         (sunk (K.held sink.new) (K.faults sink.new)) result }
+    ensures audited { (asks : Asks) (draws : Bool) (text : List ℕ) → order ≡ orders.Audit asks draws
+        → S.left source.old ≡ Some text → IsCompleteAudit asks text (S.faults source.old)
+        (S.faults source.new) (K.faults sink.old) (K.faults sink.new) result }
     ensures carried { result ≢ Status.Usage }
     ensures unread { (n : ℕ) → (order ≡ orders.Make n) ⊎ (order ≡ orders.Try n)
         → source.new ≡ source.old }

@@ -72,8 +72,13 @@ EndsJudged asks ring packets status =
     × (((i j : ℕ) → IsBroken ring packets i j → ⊥)
     → status ≡ status_of_audit (end_for (doubt asks.strict (tally_of (all_told ring packets)))))
 
--- A text that can be read to its end, and is without a fault, is judged so, unless memory runs out. The
--- counts are those of the source and of the sink, before and now.
+-- a text that can be read to its end is judged so
+abbrev pub IsJudgedWhole : Asks → List ℕ → Status → Type 0
+IsJudgedWhole asks text status = (ring : Ring) (packets : List Unwrapped)
+    → IsRead text (Some []) ring packets Whole → EndsJudged asks ring packets status
+
+-- Such a text is, without a fault, unless memory runs out. The counts are those of the source and of the
+-- sink, before and now.
 abbrev pub IsCompleteAudit : Asks → List ℕ → ℕ → ℕ → ℕ → ℕ → Status → Type 0
 IsCompleteAudit asks text source source_now sink sink_now status =
     (ring : Ring) (packets : List Unwrapped) → IsRead text (Some []) ring packets Whole

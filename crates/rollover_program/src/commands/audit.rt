@@ -27,9 +27,9 @@ pub fn audit<T: Threads + Sync, S: Source, K: Sink>(
 ) -> Status
     ensures ends { (text : List ℕ) → S.left source.old ≡ Some text
         → EndsAsAudit asks text (S.left source.new) (Rose (S.faults source.old) (S.faults source.new))
-        (K.held sink.old) (K.held sink.new) result
-        × IsCompleteAudit asks text (S.faults source.old) (S.faults source.new) (K.faults sink.old)
-        (K.faults sink.new) result }
+        (K.held sink.old) (K.held sink.new) result }
+    ensures complete { (text : List ℕ) → S.left source.old ≡ Some text → IsCompleteAudit asks text
+        (S.faults source.old) (S.faults source.new) (K.faults sink.old) (K.faults sink.new) result }
     ensures carried { result ≢ statuses.Usage }
     ensures read_cause { result ≡ statuses.Halted causes.ReadFault
         → Rose (S.faults source.old) (S.faults source.new) }
@@ -50,9 +50,9 @@ pub fn draw_audit<T: Threads + Sync, S: Source, K: Sink>(
 ) -> Status
     ensures ends { (text : List ℕ) → S.left source.old ≡ Some text
         → EndsAsView asks text (S.left source.new) (Rose (S.faults source.old) (S.faults source.new))
-        (sunk (K.held sink.old) (K.faults sink.old)) (sunk (K.held sink.new) (K.faults sink.new)) result
-        × IsCompleteAudit asks text (S.faults source.old) (S.faults source.new) (K.faults sink.old)
-        (K.faults sink.new) result }
+        (sunk (K.held sink.old) (K.faults sink.old)) (sunk (K.held sink.new) (K.faults sink.new)) result }
+    ensures complete { (text : List ℕ) → S.left source.old ≡ Some text → IsCompleteAudit asks text
+        (S.faults source.old) (S.faults source.new) (K.faults sink.old) (K.faults sink.new) result }
     ensures carried { result ≢ statuses.Usage }
     ensures read_cause { result ≡ statuses.Halted causes.ReadFault
         → Rose (S.faults source.old) (S.faults source.new) }

@@ -26,39 +26,39 @@ returns-in-Ok-clause-write_cause g c = λ e.
     ]
 
 pub returns-in-Ok-clause-ends : goal.returns-in-Ok-clause-ends
-returns-in-Ok-clause-ends g c = λ text told.
+returns-in-Ok-clause-ends g c = λ text told. (
+  Ok c.in-Ok.view,
+  c.in-Ok.ensures.views text told,
+  c.in-Ok.ensures.audited c.args.asks text told,
+  c.show_view.ensures,
+)
+
+pub returns-in-Ok-clause-complete : goal.returns-in-Ok-clause-complete
+returns-in-Ok-clause-complete g c = λ text told ring packets read reads writes.
     let view = c.in-Ok.view in
-    let strict = c.args.asks.strict in (
-      (
-        Ok view,
-        c.in-Ok.ensures.views text told,
-        c.in-Ok.ensures.audited c.args.asks text told,
-        c.show_view.ensures,
-      ),
-      λ ring packets read reads writes.
-          view_complete c.args.asks view _ _ ring packets c.show_view.result c.show_view.ensures writes
-          (complete_audit c.args.asks _ ring packets (end_seen strict (Ok view)) reads
-          (λ e. reads (c.in-Ok.ensures.fault (end_fault (blame strict view.tally view.verdict) view.ending e)))
-          (end_unwritten (blame strict view.tally view.verdict) view.ending)
-          (λ i j broken. c.in-Ok.ensures.broken c.args.asks text ring packets i j told read broken)
-          (λ none. c.in-Ok.ensures.clean c.args.asks text ring packets told read none)),
-    )
+    let strict = c.args.asks.strict in
+    view_complete c.args.asks view _ _ ring packets c.show_view.result c.show_view.ensures writes
+    (complete_audit c.args.asks _ ring packets (end_seen strict (Ok view)) reads
+    (λ e. reads (c.in-Ok.ensures.fault (end_fault (blame strict view.tally view.verdict) view.ending e)))
+    (end_unwritten (blame strict view.tally view.verdict) view.ending)
+    (λ i j broken. c.in-Ok.ensures.broken c.args.asks text ring packets i j told read broken)
+    (λ none. c.in-Ok.ensures.clean c.args.asks text ring packets told read none))
 
 pub returns-in-Err-clause-ends : goal.returns-in-Err-clause-ends
 returns-in-Err-clause-ends g c = λ text told. (
-  (
-    Err c.in-Err.end,
-    c.in-Err.ensures.views text told,
-    c.in-Err.ensures.audited c.args.asks text told,
-    (c.status_of_audit.ensures, refl),
-  ),
-  λ ring packets read reads writes. rw c.status_of_audit.ensures
-      (complete_audit c.args.asks _ ring packets (Err c.in-Err.end) reads
-      (λ e. reads (c.in-Err.ensures.read_fault (ap (λ (x : AuditEnd). Err x) (end_is c.in-Err.end ends.ReadFault e))))
-      (λ e. c.in-Err.ensures.unwritten (ap (λ (x : AuditEnd). Err x) (end_is c.in-Err.end ends.WriteFault e)))
-      (λ i j broken. c.in-Err.ensures.broken c.args.asks text ring packets i j told read broken)
-      (λ none. c.in-Err.ensures.clean c.args.asks text ring packets told read none)),
+  Err c.in-Err.end,
+  c.in-Err.ensures.views text told,
+  c.in-Err.ensures.audited c.args.asks text told,
+  (c.status_of_audit.ensures, refl),
 )
+
+pub returns-in-Err-clause-complete : goal.returns-in-Err-clause-complete
+returns-in-Err-clause-complete g c = λ text told ring packets read reads writes. rw c.status_of_audit.ensures
+    (complete_audit c.args.asks _ ring packets (Err c.in-Err.end) reads
+    (λ e. reads (c.in-Err.ensures.read_fault (ap (λ (x : AuditEnd). Err x) (end_is c.in-Err.end ends.ReadFault e))))
+    (λ e. c.in-Err.ensures.unwritten (ap (λ (x : AuditEnd). Err x) (end_is c.in-Err.end ends.WriteFault e)))
+    (λ i j broken. c.in-Err.ensures.broken c.args.asks text ring packets i j told read broken)
+    (λ none. c.in-Err.ensures.clean c.args.asks text ring packets told read none))
 
 pub returns-in-Err-clause-carried : goal.returns-in-Err-clause-carried
 returns-in-Err-clause-carried g c = λ e. audit_no_usage (Err c.in-Err.end) (sym c.status_of_audit.ensures ∙ e)
