@@ -1,13 +1,12 @@
 //! The bars of one sender's keys.
 
 use crate::entry::Bar;
-use crate::legend::{colour, put_key};
-use crate::scale::{Scale, Stretch};
-use crate::several::put_several;
+use crate::legend::put_key;
+use crate::scale::Scale;
 use lan_base::AssociationNumber;
+use sheets::{Piece, Stretch, colour, put, put_rect, put_several};
 use std::alloc::AllocError;
 use tick_columns::{Column, Thinned};
-use transcript_picture::{Piece, put};
 use use_notes::Counts;
 
 /// How high a row is, in units.
@@ -52,12 +51,12 @@ fn put_bar(
             Piece::Text(b"\"><title>"),
         ],
     )?;
-    put_several(into, column, packets, b"keys")?;
+    put_several(into, column, packets, b"packets", b"keys")?;
     put_key(into, noted.key, &bar.origin)?;
     put_counts(into, &noted.counts, bar.told.late)?;
     let across = scale.stretch(noted.counts.first, noted.counts.last);
     let at = middle(top, bar.origin.an());
-    put_rect(into, across, at.saturating_sub(5))?;
+    put_rect(into, b"bar", across, at.saturating_sub(5), 10)?;
     put_label(into, across, noted.key, at.saturating_add(3))?;
     put(into, &[Piece::Text(b"</g>\n")])
 }
@@ -89,22 +88,6 @@ fn put_counts(into: &mut Vec<u8>, counts: &Counts, late: u32) -> Result<(), Allo
             Piece::Text(b", late "),
             Piece::Number(u64::from(late)),
             Piece::Text(b"</title>"),
-        ],
-    )
-}
-
-/// Appends the shape of a bar.
-fn put_rect(into: &mut Vec<u8>, across: Stretch, top: u64) -> Result<(), AllocError> {
-    put(
-        into,
-        &[
-            Piece::Text(b"<rect class=\"bar\" x=\""),
-            Piece::Tenths(across.x),
-            Piece::Text(b"\" y=\""),
-            Piece::Number(top),
-            Piece::Text(b"\" width=\""),
-            Piece::Tenths(across.width),
-            Piece::Text(b"\" height=\"10\"/>"),
         ],
     )
 }

@@ -1,26 +1,16 @@
 //! The keys, and the colour of each.
 
 use crate::origin::Origin;
+use sheets::{ENTRIES_MAX, Piece, colour, entry_at, legend_height, put, put_further};
 use std::alloc::AllocError;
 use std::collections::BTreeMap;
-use transcript_picture::{Piece, put};
 
-/// How many colours there are.
-const COLOURS: u32 = 10;
-/// The most keys that the legend explains.
-const MOST: u64 = 40;
-/// How many stand side by side.
-const ABREAST: u64 = 4;
-
-/// The colour of a key.
-pub fn colour(key: u32) -> u64 {
-    u64::from(key % COLOURS)
-}
+/// How much room an entry has, in units.
+const ROOM: u64 = 290;
 
 /// How high the legend of keys is, in units.
 pub fn height(keys: &BTreeMap<u32, Origin>) -> u64 {
-    let rows = (keys.len() as u64).min(MOST).div_ceil(ABREAST);
-    rows.saturating_mul(16).saturating_add(40)
+    legend_height((keys.len() as u64).min(ENTRIES_MAX))
 }
 
 /// Appends the legend of keys, whose top is so far down.
@@ -31,25 +21,22 @@ pub fn put_legend(
 ) -> Result<(), AllocError> {
     let mut place = 0u64;
     for (key, origin) in keys {
-        if place < MOST {
-            let x = (place % ABREAST) * 290 + 20;
-            let y = (place / ABREAST).saturating_mul(16).saturating_add(top);
+        if place < ENTRIES_MAX {
+            let (x, y) = entry_at(place, ROOM, top);
             put_entry(into, *key, origin, x, y)?;
         }
         place = place.saturating_add(1);
     }
-    if place <= MOST {
+    if place <= ENTRIES_MAX {
         return Ok(());
     }
-    put(
+    let foot = top.saturating_add(height(keys));
+    put_further(
         into,
-        &[
-            Piece::Text(b"<text x=\"20\" y=\""),
-            Piece::Number(top.saturating_add(height(keys)).saturating_sub(32)),
-            Piece::Text(b"\">and further keys: "),
-            Piece::Number(place.saturating_sub(MOST)),
-            Piece::Text(b"</text>\n"),
-        ],
+        foot,
+        b"and further keys: ",
+        place.saturating_sub(ENTRIES_MAX),
+        b"",
     )
 }
 

@@ -11,7 +11,6 @@ mod legend;
 mod marks;
 mod origin;
 mod scale;
-mod several;
 mod sheet;
 mod shows;
 mod style;

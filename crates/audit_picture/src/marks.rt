@@ -2,14 +2,13 @@
 
 use crate::bars::middle;
 use crate::entry::{Known, Reported};
-use crate::legend::{colour, put_key};
+use crate::legend::put_key;
 use crate::origin::Origin;
 use crate::scale::Scale;
-use crate::several::put_several;
 use mark_notes::Reuse;
+use sheets::{Piece, colour, put, put_several};
 use std::alloc::AllocError;
 use tick_columns::{Column, Thinned};
-use transcript_picture::{Piece, put};
 
 /// Appends a triangle for each column in which a key became known.
 pub fn put_known(
@@ -48,7 +47,7 @@ fn put_one_known(
             Piece::Text(b"l-5 -7h10z\"><title>"),
         ],
     )?;
-    put_several(into, column, packets, b"keys")?;
+    put_several(into, column, packets, b"packets", b"keys")?;
     put_key(into, known.key, &known.origin)?;
     if let Origin::Given(giving) = known.origin {
         put(
@@ -99,7 +98,7 @@ fn put_one_reported(
             Piece::Text(b"l5 5l-5 5l-5 -5z\"><title>"),
         ],
     )?;
-    put_several(into, column, packets, b"reports")?;
+    put_several(into, column, packets, b"packets", b"reports")?;
     put(
         into,
         &[
@@ -151,7 +150,7 @@ fn put_one_reused(
             Piece::Text(b"m-4 -4l8 8m0 -8l-8 8\"><title>"),
         ],
     )?;
-    put_several(into, column, packets, b"reused packets")?;
+    put_several(into, column, packets, b"packets", b"reused packets")?;
     put(
         into,
         &[

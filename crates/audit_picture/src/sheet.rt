@@ -6,12 +6,12 @@ use crate::lane::Lane;
 use crate::lanes::Lanes;
 use crate::legend::{height, put_legend};
 use crate::marks::{put_known, put_reported, put_reused};
-use crate::scale::{Scale, WIDTH};
-use crate::style::STYLE;
+use crate::scale::Scale;
+use crate::style::{DARK, LIGHT, SIZE};
 use audit_facts::AuditView;
 use lan_base::{AssociationNumber, Sci};
+use sheets::{Look, Piece, put, put_head};
 use std::alloc::{AllocError, Global};
-use transcript_picture::{Piece, put};
 
 /// Where the first lane begins, in units.
 const TOP: u64 = 80;
@@ -27,7 +27,7 @@ pub fn picture(alloc: Global, view: &AuditView) -> Result<Vec<u8>, AllocError> {
     let mut text = Vec::new(alloc);
     let foot = TOP.saturating_add((lanes.lanes.len() as u64).saturating_mul(LANE));
     let legend = foot.saturating_add(12);
-    put_head(&mut text, legend.saturating_add(height(&lanes.origins)))?;
+    put_front(&mut text, legend.saturating_add(height(&lanes.origins)))?;
     put_judged(&mut text, view)?;
     put_axis(&mut text, scale, TOP - 6, foot.saturating_sub(6))?;
     put_lanes(&mut text, view, &lanes, scale)?;
@@ -36,27 +36,17 @@ pub fn picture(alloc: Global, view: &AuditView) -> Result<Vec<u8>, AllocError> {
     Ok(text)
 }
 
-/// Appends the head of a picture that is so high, with its style and what its shapes mean.
-fn put_head(into: &mut Vec<u8>, height: u64) -> Result<(), AllocError> {
+/// Appends the head of a picture that is so high, and what its shapes mean.
+fn put_front(into: &mut Vec<u8>, height: u64) -> Result<(), AllocError> {
+    let look = Look {
+        name: SIZE,
+        light: LIGHT,
+        dark: DARK,
+    };
+    put_head(into, height, b"Who used which key", &look)?;
     put(
         into,
         &[
-            Piece::Text(b"<svg xmlns=\"http://www.w3.org/2000/svg\" width=\""),
-            Piece::Number(WIDTH),
-            Piece::Text(b"\" height=\""),
-            Piece::Number(height),
-            Piece::Text(b"\" viewBox=\"0 0 "),
-            Piece::Number(WIDTH),
-            Piece::Text(b" "),
-            Piece::Number(height),
-        ],
-    )?;
-    put(
-        into,
-        &[
-            Piece::Text(b"\">\n<title>Who used which key</title>\n"),
-            Piece::Text(STYLE),
-            Piece::Text(b"<rect class=\"paper\" width=\"100%\" height=\"100%\"/>\n"),
             Piece::Text(b"<text x=\"8\" y=\"16\">A bar: the sender used a key, "),
             Piece::Text(b"from the first fresh frame to the last. A triangle: the key was given, "),
             Piece::Text(b"at the left edge where it was set by hand.</text>\n"),

@@ -1,11 +1,10 @@
 //! The bars of one station's keys.
 
 use crate::legend::Legend;
-use crate::pieces::{Piece, put};
-use crate::scale::{Scale, Stretch};
-use crate::several::put_several;
+use crate::scale::Scale;
 use key_spans::{End, Span, Spans, Why};
 use lan_base::AssociationNumber;
+use sheets::{Piece, Stretch, put, put_rect, put_several};
 use std::alloc::AllocError;
 use tick_columns::{Column, Thinned};
 
@@ -88,7 +87,7 @@ fn put_bar(
             Piece::Text(b"\"><title>"),
         ],
     )?;
-    put_several(into, column, ticks, b"keys")?;
+    put_several(into, column, ticks, b"ticks", b"keys")?;
     put_title(into, &span)?;
     put_shapes(into, &span, legend, scale, middle)?;
     put(into, &[Piece::Text(b"</g>\n")])
@@ -124,37 +123,6 @@ fn put_shapes(
         put_label(into, thick, legend.number(span.id), middle)?;
     }
     put_end(into, span.ended, whole, middle)
-}
-
-/// Appends a rectangle.
-fn put_rect(
-    into: &mut Vec<u8>,
-    class: &[u8],
-    across: Stretch,
-    top: u64,
-    height: u64,
-) -> Result<(), AllocError> {
-    put(
-        into,
-        &[
-            Piece::Text(b"<rect class=\""),
-            Piece::Text(class),
-            Piece::Text(b"\" x=\""),
-            Piece::Tenths(across.x),
-            Piece::Text(b"\" y=\""),
-            Piece::Number(top),
-        ],
-    )?;
-    put(
-        into,
-        &[
-            Piece::Text(b"\" width=\""),
-            Piece::Tenths(across.width),
-            Piece::Text(b"\" height=\""),
-            Piece::Number(height),
-            Piece::Text(b"\"/>"),
-        ],
-    )
 }
 
 /// Appends the number of a key's identifier, where it has one and its bar has room for it.

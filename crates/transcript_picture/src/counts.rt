@@ -1,8 +1,8 @@
 //! What arrived at one station, column by column.
 
 use crate::columns::{Columns, Tally};
-use crate::pieces::{Piece, put};
-use crate::scale::{Scale, Stretch};
+use crate::scale::Scale;
+use sheets::{Piece, put, put_titled_rect};
 use std::alloc::AllocError;
 
 /// How high the strip of one kind is, in units.
@@ -139,43 +139,9 @@ fn put_column(
         .checked_div(most)
         .unwrap_or(0)
         .saturating_add(3);
-    put_bar(into, kind, across, foot, height)?;
+    let top = u64::from(foot).saturating_sub(height);
+    put_titled_rect(into, kind.word(), across, top, height)?;
     put_title(into, kind, count, from, to)
-}
-
-/// Appends the front of the bar of a column.
-fn put_bar(
-    into: &mut Vec<u8>,
-    kind: Kind,
-    across: Stretch,
-    foot: u32,
-    height: u64,
-) -> Result<(), AllocError> {
-    put(
-        into,
-        &[
-            Piece::Text(b"<rect class=\""),
-            Piece::Text(kind.word()),
-            Piece::Text(b"\" x=\""),
-            Piece::Tenths(across.x),
-            Piece::Text(b"\" y=\""),
-            Piece::Number(u64::from(foot).saturating_sub(height)),
-        ],
-    )?;
-    put_measures(into, across.width, height)
-}
-
-/// Appends the width and the height of a bar.
-fn put_measures(into: &mut Vec<u8>, width: u64, height: u64) -> Result<(), AllocError> {
-    put(
-        into,
-        &[
-            Piece::Text(b"\" width=\""),
-            Piece::Tenths(width),
-            Piece::Text(b"\" height=\""),
-            Piece::Number(height),
-        ],
-    )
 }
 
 /// Appends the title of the bar of a column, and what ends the bar.
@@ -189,7 +155,6 @@ fn put_title(
     put(
         into,
         &[
-            Piece::Text(b"\"><title>"),
             Piece::Number(count),
             Piece::Text(b" "),
             Piece::Text(kind.word()),

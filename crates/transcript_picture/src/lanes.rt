@@ -4,10 +4,9 @@ use crate::bars::{ROW, put_rows};
 use crate::counts::put_counts;
 use crate::history::{Birth, Service};
 use crate::labels::Label;
-use crate::pieces::{Piece, put};
 use crate::scale::Scale;
 use crate::scene::Scene;
-use crate::several::put_several;
+use sheets::{Piece, put, put_several, put_titled_rect};
 use std::alloc::AllocError;
 use tick_columns::{Column, Thinned};
 
@@ -78,7 +77,7 @@ fn put_birth(
 ) -> Result<(), AllocError> {
     let birth = column.last;
     put(into, &[Piece::Text(b"<g><title>")])?;
-    put_several(into, column, ticks, b"lives")?;
+    put_several(into, column, ticks, b"ticks", b"lives")?;
     put(
         into,
         &[Piece::Escaped(name), Piece::Text(b" begins the life ")],
@@ -159,19 +158,8 @@ fn put_service(
         None => scale.ticks(),
     };
     let across = scale.stretch(from, to);
-    put(
-        into,
-        &[
-            Piece::Text(b"<rect class=\"ink\" x=\""),
-            Piece::Tenths(across.x),
-            Piece::Text(b"\" y=\""),
-            Piece::Number(u64::from(top) + 4),
-            Piece::Text(b"\" width=\""),
-            Piece::Tenths(across.width),
-            Piece::Text(b"\" height=\"5\"><title>"),
-        ],
-    )?;
-    put_several(into, column, ticks, b"times")?;
+    put_titled_rect(into, b"ink", across, u64::from(top) + 4, 5)?;
+    put_several(into, column, ticks, b"ticks", b"times")?;
     put_times(into, name, from, to)
 }
 

@@ -1,16 +1,12 @@
 //! The identifiers of keys, and the colour of each.
 
-use crate::pieces::{Piece, put};
 use lan_base::{KeyId, Mi};
+use sheets::{ENTRIES_MAX, Piece, colour, entry_at, legend_height, put, put_further};
 use std::alloc::{AllocError, Global};
 use std::collections::BTreeMap;
 
-/// How many colours there are.
-const COLOURS: u32 = 10;
-/// The most identifiers that the legend explains.
-const MOST: usize = 40;
-/// How many stand side by side.
-const ABREAST: u64 = 4;
+/// How much room an entry has, in units.
+const ROOM: u64 = 270;
 
 /// The first identifiers in the order of their first install, numbered from 1, and how often keys of
 /// further ones were installed.
@@ -36,7 +32,7 @@ impl Legend {
         if self.number(id).is_some() {
             return Ok(());
         }
-        if self.ids.len() >= MOST {
+        if self.ids.len() as u64 >= ENTRIES_MAX {
             self.further = self.further.saturating_add(1);
             return Ok(());
         }
@@ -53,29 +49,28 @@ impl Legend {
 
     /// The colour of an identifier: one at all stations.
     pub fn colour(&self, id: KeyId) -> u64 {
-        u64::from(self.number(id).unwrap_or(id.number) % COLOURS)
+        colour(self.number(id).unwrap_or(id.number))
     }
 
     /// How high the legend is, in units.
     pub fn height(&self) -> u64 {
-        let rows = self.ids.len().div_ceil(ABREAST as usize) as u64;
-        rows.saturating_mul(16).saturating_add(40)
+        legend_height(self.ids.len() as u64)
     }
 
     /// Appends the legend, whose top is so far down.
     pub fn draw(&self, into: &mut Vec<u8>, top: u64) -> Result<(), AllocError> {
         let mut place = 0u64;
         for id in &self.ids {
-            let x = (place % ABREAST) * 270 + 20;
-            let y = (place / ABREAST).saturating_mul(16).saturating_add(top);
+            let (x, y) = entry_at(place, ROOM, top);
             self.entry(into, *id, x, y)?;
             place = place.saturating_add(1);
         }
         if self.further == 0 {
             return Ok(());
         }
-        let y = top.saturating_add(self.height()).saturating_sub(32);
-        put_further(into, self.further, y)
+        let foot = top.saturating_add(self.height());
+        let before = b"and keys of further identifiers, installed ";
+        put_further(into, foot, before, self.further, b" times")
     }
 
     /// Appends what explains one identifier.
@@ -84,20 +79,6 @@ impl Legend {
         put_label(into, self.number(id).unwrap_or(0), x, y)?;
         put_identifier(into, id, x, y)
     }
-}
-
-/// Appends how often keys of further identifiers were installed.
-fn put_further(into: &mut Vec<u8>, further: u64, y: u64) -> Result<(), AllocError> {
-    put(
-        into,
-        &[
-            Piece::Text(b"<text x=\"20\" y=\""),
-            Piece::Number(y),
-            Piece::Text(b"\">and keys of further identifiers, installed "),
-            Piece::Number(further),
-            Piece::Text(b" times</text>\n"),
-        ],
-    )
 }
 
 /// Appends the front of the coloured box of an identifier.

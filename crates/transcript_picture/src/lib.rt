@@ -12,15 +12,12 @@ mod labels;
 mod lanes;
 mod laws;
 mod legend;
-mod pieces;
 mod scale;
 mod scene;
-mod several;
 mod sheet;
 mod sketch;
 mod style;
 
 pub use drawing::{Undrawn, draw};
 pub use laws::law_drawing_refuses_as_judging_does;
-pub use pieces::{Piece, put};
 pub use scene::Scene;

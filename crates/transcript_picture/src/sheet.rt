@@ -3,10 +3,10 @@
 use crate::axis::put_axis;
 use crate::labels::{Label, labels};
 use crate::lanes::{LANE, SERVICE, put_lane, put_services};
-use crate::pieces::{Piece, put};
-use crate::scale::{Scale, WIDTH};
+use crate::scale::Scale;
 use crate::scene::Scene;
-use crate::style::STYLE;
+use crate::style::{DARK, LIGHT, SIZE};
+use sheets::{Look, Piece, put, put_head};
 use std::alloc::{AllocError, Global};
 use transcript_reader::FactReader;
 
@@ -28,10 +28,8 @@ fn draw(alloc: Global, scene: &Scene, labels: &[Label]) -> Result<Vec<u8>, Alloc
     let count = u32::try_from(labels.len()).unwrap_or(u32::MAX);
     let foot = lanes.saturating_add(count.saturating_mul(LANE));
     let legend = foot.saturating_add(16);
-    put_head(
-        &mut text,
-        u64::from(legend).saturating_add(scene.legend().height()),
-    )?;
+    let height = u64::from(legend).saturating_add(scene.legend().height());
+    put_front(&mut text, height)?;
     put_axis(&mut text, scale, TOP - 8, foot)?;
     put_all_services(&mut text, scene, scale, labels)?;
     put_lanes(&mut text, scene, scale, labels, lanes)?;
@@ -40,32 +38,17 @@ fn draw(alloc: Global, scene: &Scene, labels: &[Label]) -> Result<Vec<u8>, Alloc
     Ok(text)
 }
 
-/// Appends the head of a picture that is so high, with its style and what its shapes mean.
-fn put_head(into: &mut Vec<u8>, height: u64) -> Result<(), AllocError> {
+/// Appends the head of a picture that is so high, and what its shapes mean.
+fn put_front(into: &mut Vec<u8>, height: u64) -> Result<(), AllocError> {
+    let look = Look {
+        name: SIZE,
+        light: LIGHT,
+        dark: DARK,
+    };
+    put_head(into, height, b"Who held which key", &look)?;
     put(
         into,
         &[
-            Piece::Text(b"<svg xmlns=\"http://www.w3.org/2000/svg\" width=\""),
-            Piece::Number(WIDTH),
-            Piece::Text(b"\" height=\""),
-            Piece::Number(height),
-            Piece::Text(b"\" viewBox=\"0 0 "),
-            Piece::Number(WIDTH),
-            Piece::Text(b" "),
-            Piece::Number(height),
-        ],
-    )?;
-    put_meaning(into)
-}
-
-/// Appends what ends the head: its title, its style, and what its shapes mean.
-fn put_meaning(into: &mut Vec<u8>) -> Result<(), AllocError> {
-    put(
-        into,
-        &[
-            Piece::Text(b"\">\n<title>Who held which key</title>\n"),
-            Piece::Text(STYLE),
-            Piece::Text(b"<rect class=\"paper\" width=\"100%\" height=\"100%\"/>\n"),
             Piece::Text(
                 b"<text x=\"8\" y=\"18\">A thin bar: a key is received. Thick: it transmits. ",
             ),

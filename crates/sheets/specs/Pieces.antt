@@ -2,8 +2,8 @@
 use Rattle.std.specs.Prelude.{ℕ, ◌==◌, ◌/◌, ◌%◌, if◌then◌else◌, List, [], ◌∷◌, ◌++◌, codes, decimal}
 use Rattle.std.specs.List.{flat_map}
 use Rattle.hex.specs.Hex.{encode_lower}
-use Rattle.transcript_picture.specs.declared.pieces.Piece.{Piece}
-use Rattle.transcript_picture.specs.declared.pieces.Piece.TheVariants.{Text, Escaped, Number, Tenths, Hex}
+use Rattle.sheets.specs.declared.pieces.Piece.{Piece}
+use Rattle.sheets.specs.declared.pieces.Piece.TheVariants.{Text, Escaped, Number, Tenths, Hex}
 
 -- an octet of a name: `&`, `<`, `>`, `"` and `'` have names
 abbrev pub escaped_one : ℕ → List ℕ

@@ -2,8 +2,8 @@
 
 ghost use Rattle.std.specs.Prelude.{◌≡◌, ◌++◌, OnOk, decimal};
 ghost use Rattle.hex.specs.Hex.{encode_lower};
-ghost use Rattle.transcript_picture.specs.declared.pieces.Piece.TheVariants.{Tenths};
-ghost use Rattle.transcript_picture.specs.Pieces.{escaped, escaped_one, piece_text, pieces_text};
+ghost use Rattle.sheets.specs.declared.pieces.Piece.TheVariants.{Tenths};
+ghost use Rattle.sheets.specs.Pieces.{escaped, escaped_one, piece_text, pieces_text};
 
 use itoa::Buffer;
 use std::alloc::AllocError;
