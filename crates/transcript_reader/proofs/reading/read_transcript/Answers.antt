@@ -1,0 +1,15 @@
+use Rattle.transcript_reader.specs.Counting.{most_octets}
+use Rattle.transcript_reader.proofs.Reaching.{ends-err, ends-ok}
+use Rattle.transcript_reader.proofs.reading.read_transcript.Goals as goal
+
+pub returns-in-Ok-clause-read : goal.returns-in-Ok-clause-read
+returns-in-Ok-clause-read g c = λ text told fresh none start.
+    let t = g.T.FactTaker in
+    ends-ok t.rule t.courses t.Grew t.Fails _ _ _ _ _ g.met.T.FactTaker.breaks fresh none start text
+    c.in-Ok.ensures.reads told
+
+pub returns-in-Err-clause-read : goal.returns-in-Err-clause-read
+returns-in-Err-clause-read g c = λ text told fresh none start.
+    let t = g.T.FactTaker in
+    rw c.why_unfinished.ensures (ends-err t.rule t.courses t.Grew t.Fails _ _ _ _ _ g.met.T.FactTaker.breaks
+    fresh none start text (c.law_lines_are_few.ensures most_octets text) c.in-Err.end c.in-Err.ensures.reads told)
