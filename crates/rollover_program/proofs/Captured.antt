@@ -1,8 +1,9 @@
 -- How the program ends after a transcript was captured, and after a file was told.
 use Rattle.std.proofs.Common.{◌≡◌, ℕ, List, Option, Result, Ok, Err, inl, refl}
 use Rattle.text_lines.specs.Reading.{Sourced}
-use Rattle.transcript_capture.specs.declared.end.End.{End as CaptureEnd}
-use Rattle.transcript_capture.specs.declared.end.End.TheVariants as captures
+use Rattle.transcript_reader.specs.declared.unfinished.Unfinished.{Unfinished}
+use Rattle.transcript_reader.specs.declared.unfinished.Unfinished.TheVariants as unfinished
+use Rattle.transcript_capture.specs.declared.fault.LineFault.{LineFault}
 use Rattle.transcript_capture.proofs.Public.{not-captured}
 use Rattle.packet_lines.specs.declared.end.End.{End as TellingEnd}
 use Rattle.packet_lines.specs.declared.end.End.TheVariants as tellings
@@ -16,7 +17,7 @@ use Rattle.rollover_program.specs.commands.Dissect.{EndsAsDissect, status_of_tel
 
 pub not_captured : (text : List ℕ) (left : Sourced) (old : Sunk)
     → EndsAsCapture text left left old old (Halted causes.Memory)
-not_captured text left old = (Err captures.Memory, not-captured text left old.held, refl)
+not_captured text left old = (Err unfinished.Memory, not-captured text left old.held, refl)
 
 pub not_dissected : (file : List ℕ) (left held : Option (List ℕ))
     → EndsAsDissect file left held held (Halted causes.Memory)
@@ -24,31 +25,31 @@ not_dissected file left held = (Err tellings.Memory, inl refl, refl)
 
 -- ---- a transcript was captured
 
-pub capture_no_usage : (r : Result (Unit {0}) CaptureEnd) → status_of_capture r ≡ Usage → ⊥
+pub capture_no_usage : (r : Result (Unit {0}) (Unfinished LineFault)) → status_of_capture r ≡ Usage → ⊥
 capture_no_usage (Ok done) e = cc e
-capture_no_usage (Err (captures.Refused line why)) e = cc e
-capture_no_usage (Err captures.Limit) e = cc e
-capture_no_usage (Err captures.ReadFault) e = cc e
-capture_no_usage (Err captures.WriteFault) e = cc e
-capture_no_usage (Err captures.Memory) e = cc e
+capture_no_usage (Err (unfinished.Refused line why)) e = cc e
+capture_no_usage (Err unfinished.Limit) e = cc e
+capture_no_usage (Err unfinished.ReadFault) e = cc e
+capture_no_usage (Err unfinished.WriteFault) e = cc e
+capture_no_usage (Err unfinished.Memory) e = cc e
 
-pub capture_read : (r : Result (Unit {0}) CaptureEnd) → status_of_capture r ≡ Halted causes.ReadFault
-    → r ≡ Err captures.ReadFault
+pub capture_read : (r : Result (Unit {0}) (Unfinished LineFault)) → status_of_capture r ≡ Halted causes.ReadFault
+    → r ≡ Err unfinished.ReadFault
 capture_read (Ok done) e = absurd (cc e)
-capture_read (Err (captures.Refused line why)) e = absurd (cc e)
-capture_read (Err captures.Limit) e = absurd (cc e)
-capture_read (Err captures.ReadFault) e = refl
-capture_read (Err captures.WriteFault) e = absurd (cc e)
-capture_read (Err captures.Memory) e = absurd (cc e)
+capture_read (Err (unfinished.Refused line why)) e = absurd (cc e)
+capture_read (Err unfinished.Limit) e = absurd (cc e)
+capture_read (Err unfinished.ReadFault) e = refl
+capture_read (Err unfinished.WriteFault) e = absurd (cc e)
+capture_read (Err unfinished.Memory) e = absurd (cc e)
 
-pub capture_write : (r : Result (Unit {0}) CaptureEnd) → status_of_capture r ≡ Halted causes.WriteFault
-    → r ≡ Err captures.WriteFault
+pub capture_write : (r : Result (Unit {0}) (Unfinished LineFault)) → status_of_capture r ≡ Halted causes.WriteFault
+    → r ≡ Err unfinished.WriteFault
 capture_write (Ok done) e = absurd (cc e)
-capture_write (Err (captures.Refused line why)) e = absurd (cc e)
-capture_write (Err captures.Limit) e = absurd (cc e)
-capture_write (Err captures.ReadFault) e = absurd (cc e)
-capture_write (Err captures.WriteFault) e = refl
-capture_write (Err captures.Memory) e = absurd (cc e)
+capture_write (Err (unfinished.Refused line why)) e = absurd (cc e)
+capture_write (Err unfinished.Limit) e = absurd (cc e)
+capture_write (Err unfinished.ReadFault) e = absurd (cc e)
+capture_write (Err unfinished.WriteFault) e = refl
+capture_write (Err unfinished.Memory) e = absurd (cc e)
 
 -- ---- a file was told
 

@@ -3,12 +3,10 @@ use Rattle.std.proofs.Common.{◌≡◌, ℕ, List, Result, Ok, Err, ap, inl, in
 use Rattle.std.specs.Prelude.{◌⊎◌}
 use Rattle.text_lines.specs.Reading.{Sourced}
 use Rattle.transcript_check.specs.declared.verdict.Verdict.{Verdict}
-use Rattle.transcript_check.specs.declared.judging.Unjudged.{Unjudged}
-use Rattle.transcript_check.specs.declared.judging.Unjudged.TheVariants as unjudged
-use Rattle.transcript_picture.specs.declared.drawing.Undrawn.{Undrawn}
-use Rattle.transcript_picture.specs.declared.drawing.Undrawn.TheVariants as undrawn
-use Rattle.transcript_capture.specs.declared.end.End.{End as CaptureEnd}
-use Rattle.transcript_capture.specs.declared.end.End.TheVariants as captures
+use Rattle.transcript_check.specs.declared.fault.CheckFault.{CheckFault}
+use Rattle.transcript_reader.specs.declared.unfinished.Unfinished.{Unfinished}
+use Rattle.transcript_reader.specs.declared.unfinished.Unfinished.TheVariants as unfinished
+use Rattle.transcript_capture.specs.declared.fault.LineFault.{LineFault}
 use Rattle.packet_lines.specs.declared.end.End.{End as TellingEnd}
 use Rattle.packet_lines.specs.declared.end.End.TheVariants as tellings
 use Rattle.audit_facts.specs.declared.view.AuditView.{AuditView}
@@ -26,7 +24,7 @@ use Rattle.rollover_program.specs.Carried.{IsDecided}
 use Rattle.rollover_program.specs.commands.Check.{EndsAsCheck, Tells, status_of}
 use Rattle.rollover_program.specs.commands.Capture.{EndsAsCapture, status_of_capture}
 use Rattle.rollover_program.specs.commands.Dissect.{EndsAsDissect, status_of_telling}
-use Rattle.rollover_program.specs.commands.Draw.{EndsAsDraw, Shows, status_of_undrawn}
+use Rattle.rollover_program.specs.commands.Draw.{EndsAsDraw, Shows}
 use Rattle.rollover_program.specs.commands.Audit.{EndsAsAudit, EndsAsView, ShowsSeen, status_behind, status_of_audit}
 use Rattle.rollover_program.proofs.Judged.{other-status}
 
@@ -118,25 +116,20 @@ by_picture picture old new CaptureRefuted shows = tt
 by_picture picture old new (CaptureDoubted wrong undecided) shows = tt
 by_picture picture old new (Packets at why) shows = tt
 
-by_unjudged : (why : Unjudged) → IsHaltedOutside (status_of why)
-by_unjudged (unjudged.Refused line fault) = tt
-by_unjudged unjudged.Memory = inr (inr refl)
-by_unjudged unjudged.ReadFault = inl refl
-by_unjudged unjudged.Limit = tt
+by_unfinished : (why : Unfinished CheckFault) → IsHaltedOutside (status_of why)
+by_unfinished (unfinished.Refused line fault) = tt
+by_unfinished unfinished.Memory = inr (inr refl)
+by_unfinished unfinished.ReadFault = inl refl
+by_unfinished unfinished.WriteFault = inr (inl refl)
+by_unfinished unfinished.Limit = tt
 
-by_undrawn : (why : Undrawn) → IsHaltedOutside (status_of_undrawn why)
-by_undrawn (undrawn.Refused line fault) = tt
-by_undrawn undrawn.Memory = inr (inr refl)
-by_undrawn undrawn.ReadFault = inl refl
-by_undrawn undrawn.Limit = tt
-
-by_capture : (r : Result (Unit {0}) CaptureEnd) → IsHaltedOutside (status_of_capture r)
+by_capture : (r : Result (Unit {0}) (Unfinished LineFault)) → IsHaltedOutside (status_of_capture r)
 by_capture (Ok done) = tt
-by_capture (Err (captures.Refused line why)) = tt
-by_capture (Err captures.Limit) = tt
-by_capture (Err captures.ReadFault) = inl refl
-by_capture (Err captures.WriteFault) = inr (inl refl)
-by_capture (Err captures.Memory) = inr (inr refl)
+by_capture (Err (unfinished.Refused line why)) = tt
+by_capture (Err unfinished.Limit) = tt
+by_capture (Err unfinished.ReadFault) = inl refl
+by_capture (Err unfinished.WriteFault) = inr (inl refl)
+by_capture (Err unfinished.Memory) = inr (inr refl)
 
 by_telling : (r : Result (Unit {0}) TellingEnd) → IsHaltedOutside (status_of_telling r)
 by_telling (Ok done) = tt
@@ -178,7 +171,7 @@ by_view asks (Ok view) old new status (inr it) = subst IsHaltedOutside (sym it.0
 module _ (left now : Sourced) (old new : Sunk) (status : Status) where
   pub checked : (text : List ℕ) → EndsAsCheck text left now old new status → IsHaltedOutside status
   checked text (inl e) = by_verdict e.0 old new status e.2
-  checked text (inr e) = subst IsHaltedOutside (sym e.2) (by_unjudged e.0)
+  checked text (inr e) = subst IsHaltedOutside (sym e.2) (by_unfinished e.0)
 
   pub captured : (text : List ℕ) → EndsAsCapture text left now old new status → IsHaltedOutside status
   captured text e = subst IsHaltedOutside (sym e.2) (by_capture e.0)
@@ -188,7 +181,7 @@ module _ (left now : Sourced) (old new : Sunk) (status : Status) where
 
   pub drawn : (text : List ℕ) → EndsAsDraw text left now old new status → IsHaltedOutside status
   drawn text (inl e) = by_picture e.0 old new status e.2
-  drawn text (inr e) = subst IsHaltedOutside (sym e.2) (by_undrawn e.0)
+  drawn text (inr e) = subst IsHaltedOutside (sym e.2) (by_unfinished e.0)
 
   pub audited : (asks : Asks) (text : List ℕ) (failed : Type 0)
       → EndsAsAudit asks text now.left failed old.held new.held status → IsHaltedOutside status

@@ -4,8 +4,9 @@ use Rattle.lan_base.specs.Faults.{Rose}
 use Rattle.lan_base.specs.Told.{after}
 use Rattle.text_lines.specs.Reading.{Sourced}
 use Rattle.transcript_check.specs.declared.verdict.Verdict.{Verdict}
-use Rattle.transcript_check.specs.declared.judging.Unjudged.{Unjudged}
-use Rattle.transcript_check.specs.declared.judging.Unjudged.TheVariants as unjudged
+use Rattle.transcript_check.specs.declared.fault.CheckFault.{CheckFault}
+use Rattle.transcript_reader.specs.declared.unfinished.Unfinished.{Unfinished}
+use Rattle.transcript_reader.specs.declared.unfinished.Unfinished.TheVariants as ends
 use Rattle.transcript_check.specs.Verdicts.{is_clean, text_of}
 use Rattle.transcript_check.proofs.Public.{not-judged}
 use Rattle.replay.specs.declared.cause.Cause.TheVariants as causes
@@ -18,7 +19,7 @@ use Rattle.rollover_program.specs.commands.Check.{EndsAsCheck, Tells, status_of,
 -- nothing was done, for want of memory
 pub not_checked : (text : List ℕ) (left : Sourced) (old : Sunk)
     → EndsAsCheck text left left old old (Halted causes.Memory)
-not_checked text left old = inr (unjudged.Memory, not-judged text left, refl, refl)
+not_checked text left old = inr (ends.Memory, not-judged text left, refl, refl)
 
 -- ---- a verdict
 
@@ -77,22 +78,25 @@ all_told verdict octets old new status is held counts by =
     told-all verdict old new status by
     (subst (λ (text : List ℕ). Wrote (text ∷ []) old new) is (wrote-one octets old new held counts))
 
--- ---- where nothing was judged
+-- ---- where nothing was judged, or drawn
 
-pub never_usage : (why : Unjudged) → status_of why ≡ Usage → ⊥
-never_usage (unjudged.Refused line fault) e = cc e
-never_usage unjudged.Memory e = cc e
-never_usage unjudged.ReadFault e = cc e
-never_usage unjudged.Limit e = cc e
+pub never_usage : (why : Unfinished CheckFault) → status_of why ≡ Usage → ⊥
+never_usage (ends.Refused line fault) e = cc e
+never_usage ends.Memory e = cc e
+never_usage ends.ReadFault e = cc e
+never_usage ends.WriteFault e = cc e
+never_usage ends.Limit e = cc e
 
-pub read_faulted : (why : Unjudged) → status_of why ≡ Halted causes.ReadFault → why ≡ unjudged.ReadFault
-read_faulted (unjudged.Refused line fault) e = absurd (cc e)
-read_faulted unjudged.Memory e = absurd (cc e)
-read_faulted unjudged.ReadFault e = refl
-read_faulted unjudged.Limit e = absurd (cc e)
+pub read_faulted : (why : Unfinished CheckFault) → status_of why ≡ Halted causes.ReadFault → why ≡ ends.ReadFault
+read_faulted (ends.Refused line fault) e = absurd (cc e)
+read_faulted ends.Memory e = absurd (cc e)
+read_faulted ends.ReadFault e = refl
+read_faulted ends.WriteFault e = absurd (cc e)
+read_faulted ends.Limit e = absurd (cc e)
 
-pub never_write_fault : (why : Unjudged) → status_of why ≡ Halted causes.WriteFault → ⊥
-never_write_fault (unjudged.Refused line fault) e = cc e
-never_write_fault unjudged.Memory e = cc e
-never_write_fault unjudged.ReadFault e = cc e
-never_write_fault unjudged.Limit e = cc e
+pub write_faulted : (why : Unfinished CheckFault) → status_of why ≡ Halted causes.WriteFault → why ≡ ends.WriteFault
+write_faulted (ends.Refused line fault) e = absurd (cc e)
+write_faulted ends.Memory e = absurd (cc e)
+write_faulted ends.ReadFault e = absurd (cc e)
+write_faulted ends.WriteFault e = refl
+write_faulted ends.Limit e = absurd (cc e)

@@ -1,5 +1,5 @@
-pub mod Times
-pub mod PacketsOf
-pub mod OneLine
-pub mod Ends
+mod Times
+mod PacketsOf
+mod OneFact
+mod Ends
 pub mod Public

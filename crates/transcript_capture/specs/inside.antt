@@ -1,8 +1,6 @@
 -- What serves private functions alone.
 pub mod Taking
-pub mod Doing
-pub mod Lining
 pub mod Heading
 pub mod Holding
 pub mod Parts
-pub mod Composing
+pub mod Recorded

@@ -3,20 +3,24 @@
 ghost use Rattle.std.specs.Prelude.{◌≡◌, ◌≤◌, ℕ, List, Err, Some};
 ghost use Rattle.lan_base.specs.Faults.{Rose};
 ghost use Rattle.text_lines.specs.Reading.{sourced};
-ghost use Rattle.transcript_capture.specs.declared.end.End.TheVariants as ends;
+ghost use Rattle.transcript_reader.specs.declared.unfinished.Unfinished.TheVariants as ends;
 ghost use Rattle.transcript_capture.specs.Captures.{IsCaptured};
 ghost use Rattle.transcript_capture.specs.inside.Heading.{Heads};
 
-use crate::end::{End, end_of};
-use crate::lines::LineRecorder;
-use capture_file::{INPUT_MAX, header};
+use crate::fault::LineFault;
+use crate::recording::Recording;
+use capture_file::header;
 use lan_base::{Sink, Source, Unwritten, write_all};
 use std::alloc::Global;
-use text_lines::{law_lines_are_few, read_lines};
+use transcript_reader::{Reading, Unfinished, read_transcript};
 
 /// Reads a transcript from a source to its end, and writes the file of the frames that were put on the
 /// air: its head first, and each record as soon as the line has ended.
-pub fn capture<S: Source, K: Sink>(alloc: Global, source: &mut S, sink: &mut K) -> Result<(), End>
+pub fn capture<S: Source, K: Sink>(
+    alloc: Global,
+    source: &mut S,
+    sink: &mut K,
+) -> Result<(), Unfinished<LineFault>>
     ensures captured { (text : List ℕ) → S.left source.old ≡ Some text → IsCaptured text
         (sourced (S.left source.old) (S.faults source.old))
         (sourced (S.left source.new) (S.faults source.new))
@@ -28,17 +32,13 @@ pub fn capture<S: Source, K: Sink>(alloc: Global, source: &mut S, sink: &mut K) 
     ensures reads { S.faults source.old ≤ S.faults source.new }
     ensures writes { K.faults sink.old ≤ K.faults sink.new }
 {
-    law_lines_are_few();
-    let mut recorder = LineRecorder::new(alloc)?;
+    let mut reading = Reading::new(alloc, Recording::new(alloc))?;
     write_head(alloc, sink)?;
-    match read_lines(alloc, INPUT_MAX, source, &mut recorder, sink) {
-        Ok(()) => Ok(()),
-        Err(end) => Err(end_of(end)),
-    }
+    read_transcript(source, &mut reading, sink)
 }
 
 /// Writes the head of a file.
-fn write_head<K: Sink>(alloc: Global, sink: &mut K) -> Result<(), End>
+fn write_head<K: Sink>(alloc: Global, sink: &mut K) -> Result<(), Unfinished<LineFault>>
     ensures heads { Heads (K.held sink.old) (K.held sink.new) result }
     ensures failed { result ≡ Err ends.WriteFault → Rose (K.faults sink.old) (K.faults sink.new) }
     ensures counts { K.faults sink.old ≤ K.faults sink.new }
@@ -47,7 +47,7 @@ fn write_head<K: Sink>(alloc: Global, sink: &mut K) -> Result<(), End>
     header(&mut head)?;
     match write_all(sink, &head) {
         Ok(()) => Ok(()),
-        Err(Unwritten::Failed) => Err(End::WriteFault),
-        Err(Unwritten::Memory) => Err(End::Memory),
+        Err(Unwritten::Failed) => Err(Unfinished::WriteFault),
+        Err(Unwritten::Memory) => Err(Unfinished::Memory),
     }
 }

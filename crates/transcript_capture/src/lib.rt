@@ -4,15 +4,13 @@
 
 mod capturing;
 mod clock;
-mod end;
 mod fault;
 mod laws;
-mod lines;
+mod recorder;
 mod recording;
 
 pub use capturing::capture;
 pub use clock::Clock;
-pub use end::End;
 pub use fault::{LineFault, RecordError};
 pub use laws::law_frames_are_packets;
 pub use recording::Recording;

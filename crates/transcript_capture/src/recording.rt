@@ -5,6 +5,7 @@ ghost use Rattle.lan_base.specs.Faults.{Rose};
 ghost use Rattle.lan_core.specs.declared.fact.Fact.{Fact};
 ghost use Rattle.transcript_capture.specs.declared.fault.RecordError.TheVariants as errors;
 ghost use Rattle.transcript_capture.specs.Recording.{IsClockAfter, IsClockAt, Records};
+ghost use Rattle.transcript_capture.specs.inside.Recorded.{Grew};
 ghost use Rattle.transcript_capture.specs.inside.Taking.{Writes};
 
 use crate::clock::Clock;
@@ -50,7 +51,7 @@ impl Recording {
             → Records earlier fact.now self.old self.new (K.held sink.old) (K.held sink.new) result }
         ensures failed { result ≡ Err errors.Failed → Rose (K.faults sink.old) (K.faults sink.new) }
         ensures untouched { result ≡ Err errors.TooLong → sink.new ≡ sink.old }
-        ensures counts { K.faults sink.old ≤ K.faults sink.new }
+        ensures grew { Grew K.held K.faults sink.old sink.new }
     {
         match fact {
             Fact::Framed { octets, .. } => self.write(octets.as_slice(), sink),
@@ -80,7 +81,7 @@ impl Recording {
         ensures kept { self.new ≡ self.old }
         ensures failed { result ≡ Err errors.Failed → Rose (K.faults sink.old) (K.faults sink.new) }
         ensures untouched { result ≡ Err errors.TooLong → sink.new ≡ sink.old }
-        ensures counts { K.faults sink.old ≤ K.faults sink.new }
+        ensures grew { Grew K.held K.faults sink.old sink.new }
     {
         if octets.len() > WRITTEN_MAX as usize {
             return Err(RecordError::TooLong);

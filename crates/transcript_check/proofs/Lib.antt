@@ -12,5 +12,5 @@ mod AllFit
 mod TextLines
 mod Lines
 mod OneRefusal
-mod Reached
+mod Ending
 pub mod Public

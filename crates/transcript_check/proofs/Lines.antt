@@ -1,6 +1,6 @@
 -- A line is read, and its fact is noted.
 use Rattle.std.proofs.Common.{◌≡◌, ◌∙◌, inl, inr, ℕ, true, List, Option, Some, None, Result, Ok, Err, refl, sym, ap, subst}
-use Rattle.std.specs.Prelude.{◌⊎◌, ◌↔◌, is_ok, option_map, IfOk, OnErr}
+use Rattle.std.specs.Prelude.{◌⊎◌, ◌↔◌, is_ok, IfOk, OnErr}
 use Rattle.aes_block.specs.declared.secret.Secret.{Secret}
 use Rattle.lan_base.specs.declared.address.Mi.{Mi}
 use Rattle.transcript_reader.specs.Forms.{station_of}
@@ -10,9 +10,10 @@ use Rattle.lan_core.specs.declared.fact.Fact.TheVariants as shows
 use Rattle.transcript.specs.Rendering.{IsOfFrame}
 use Rattle.transcript.specs.declared.fault.FactError.{FactError}
 use Rattle.transcript.specs.declared.fault.FactError.TheVariants as readings
-use Rattle.transcript_check.specs.Judged.{sak_in, error_of_reading}
-use Rattle.transcript_check.specs.Standing.{Maps, Standing, StandsFor, IsCheckOf, IsTaken, IsDenied, IsDue, refusal, no_epoch, sak_at}
+use Rattle.transcript_check.specs.Judged.{error_of_reading}
+use Rattle.transcript_check.specs.Standing.{Maps, Standing, StandsFor, IsCheckOf, IsTaken, IsDenied, IsDue, refusal, sak_at}
 use Rattle.transcript_check.specs.inside.Steps.{IsNoted, Takes, Installs, Claims}
+use Rattle.transcript_check.specs.inside.Denying.{fact-denies}
 use Rattle.transcript_check.specs.declared.named.Named.{Named}
 use Rattle.lan_base.specs.declared.key_id.KeyId.{KeyId}
 use Rattle.transcript_check.specs.declared.fault.CheckError.{CheckError}
@@ -65,38 +66,7 @@ none-some e = cc e
 some-same : (a b : CheckFault) → Some a ≡ Some b → a ≡ b
 some-same a b e = cc e
 
-never-unread : (facts : List Fact) (fact : Fact) → refusal facts fact ≡ Some Unread → ⊥
-never-unread facts (shows.Installed s id an epoch sak) is = go (sak_in facts s epoch) is
-  where
-    go : (o : Option Secret) → option_map (λ _. Doubled) o ≡ Some Unread → ⊥
-    go None e = cc e
-    go (Some k) e = cc e
-never-unread facts (shows.Claimed s an epoch pn) is = go (sak_in facts s epoch) is
-  where
-    go : (o : Option Secret) → no_epoch o ≡ Some Unread → ⊥
-    go None e = cc e
-    go (Some k) e = cc e
-never-unread facts (shows.Life s mi) is = cc is
-never-unread facts (shows.Ticked s at next) is = cc is
-never-unread facts (shows.Server s mi) is = cc is
-never-unread facts (shows.Dropped s id an) is = cc is
-never-unread facts (shows.Retired s id an) is = cc is
-never-unread facts (shows.Began s id an epoch cause) is = cc is
-never-unread facts (shows.Untaken s id why) is = cc is
-never-unread facts (shows.Framed k s sec xs) is = cc is
-never-unread facts (shows.HeardMka k s verdict) is = cc is
-never-unread facts (shows.Unclaimed s why) is = cc is
-never-unread facts (shows.Arrived k s arrival) is = cc is
-
 -- ---- what denies a line
-
--- it is read, and its fact is refused
-pub fact-denies : (known : Known) (facts : List Fact) (octets : List ℕ) (after : Known)
-    (fact : Fact) → Tells known octets after fact → (why : CheckFault)
-    → refusal facts fact ≡ Some why → IsDenied known facts octets why
-fact-denies known facts octets after fact reads Unread f = absurd (never-unread facts fact f)
-fact-denies known facts octets after fact reads Doubled f = (after, fact, reads, f)
-fact-denies known facts octets after fact reads Orphan f = (after, fact, reads, f)
 
 -- it is not read
 reading-denies : (known : Known) (facts : List Fact) (octets : List ℕ) (fault : FactError)

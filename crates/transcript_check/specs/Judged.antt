@@ -9,7 +9,10 @@ use Rattle.transcript.specs.declared.fault.FactError.TheVariants as readings
 use Rattle.transcript_reader.specs.Forms.{station_of}
 use Rattle.transcript_check.specs.declared.fault.CheckError.{CheckError}
 use Rattle.transcript_check.specs.declared.fault.CheckError.TheVariants.{Refused, Memory}
+use Rattle.transcript_check.specs.declared.fault.CheckFault.{CheckFault}
 use Rattle.transcript_check.specs.declared.fault.CheckFault.TheVariants.{Unread}
+use Rattle.transcript_reader.specs.declared.take_error.TakeError.{TakeError}
+use Rattle.transcript_reader.specs.declared.take_error.TakeError.TheVariants as takings
 use Rattle.lan_base.specs.declared.key_id.KeyId.{KeyId}
 use Rattle.aes_block.specs.declared.secret.Secret.{Secret}
 use Rattle.rx_slots.specs.declared.arrival.Arrival.TheVariants.{Missed}
@@ -91,3 +94,8 @@ missed_in (fact ∷ later) = (if is_missed fact then 1 else 0) + missed_in later
 abbrev pub error_of_reading : FactError → CheckError
 error_of_reading readings.Unread = Refused Unread
 error_of_reading readings.Memory = Memory
+
+-- why a fact is not taken
+abbrev pub error_of_taking : CheckError → TakeError CheckFault
+error_of_taking (Refused why) = takings.Refused why
+error_of_taking Memory = takings.Memory

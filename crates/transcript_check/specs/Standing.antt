@@ -11,6 +11,8 @@ use Rattle.lan_base.specs.declared.key_id.KeyId.{KeyId}
 use Rattle.lan_base.specs.Identifiers.{order}
 use Rattle.transcript_reader.specs.Forms.{station_of}
 use Rattle.transcript_reader.specs.Facts.{Known, Tells}
+use Rattle.transcript_reader.specs.Taking.{Rule}
+use Rattle.transcript_reader.specs.Transcripts.{AreTaken as AreTakenBy}
 use Rattle.aes_block.specs.declared.secret.Secret.{Secret}
 use Rattle.aes_block.specs.declared.secret.Secret.TheVariants.{S128, S256}
 use Rattle.lan_core.specs.declared.fact.Fact.{Fact}
@@ -217,9 +219,10 @@ abbrev pub IsDue : Known → List Fact → List ℕ → Type 0
 IsDue known facts line =
     (after : Known) × (fact : Fact) × Tells known line after fact × (refusal facts fact ≡ None)
 
+-- by which rule lines are taken, one after another
+abbrev pub by_epochs : Rule CheckFault
+by_epochs = record { Free = λ facts fact. refusal facts fact ≡ None; Denies = IsDenied }
+
 -- lines that are taken one after another, from what is known, and facts, to what is known then, and others
 abbrev pub AreTaken : Known → List Fact → List (List ℕ) → Known → List Fact → Type 0
-AreTaken known facts [] known_then facts_then = (known ≡ known_then) × (facts ≡ facts_then)
-AreTaken known facts (line ∷ lines) known_then facts_then =
-    (after : Known) × (fact : Fact) × Tells known line after fact
-    × (refusal facts fact ≡ None) × AreTaken after (facts ++ fact ∷ []) lines known_then facts_then
+AreTaken = AreTakenBy by_epochs

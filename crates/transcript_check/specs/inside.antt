@@ -1,4 +1,4 @@
 -- What serves private functions alone.
-pub mod Judging
-pub mod JudgedLines
+pub mod Noting
+pub mod Denying
 pub mod Steps

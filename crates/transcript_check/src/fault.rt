@@ -2,12 +2,13 @@
 
 ghost use Rattle.std.specs.Prelude.{◌≡◌};
 ghost use Rattle.transcript.specs.declared.fault.FactError.TheVariants as facts;
-ghost use Rattle.transcript_check.specs.Judged.{error_of_reading};
+ghost use Rattle.transcript_check.specs.Judged.{error_of_reading, error_of_taking};
 ghost use Rattle.transcript_check.specs.declared.fault.CheckError.TheVariants.{Refused, Memory};
 
 use std::alloc::{AllocError, AllocFailed};
 use thiserror::Error;
 use transcript::FactError;
+use transcript_reader::TakeError;
 
 /// Why a line is refused: the first of these that holds.
 #[derive(Clone, Copy, Debug, PartialEq, Eq, Error)]
@@ -57,6 +58,17 @@ impl From<FactError> for CheckError {
         match fault {
             FactError::Unread => CheckError::Refused(CheckFault::Unread),
             FactError::Memory => CheckError::Memory,
+        }
+    }
+}
+
+impl From<CheckError> for TakeError<CheckFault> {
+    ghost from_gives = { λ error taken. taken ≡ error_of_taking error };
+
+    fn from(error: CheckError) -> Self {
+        match error {
+            CheckError::Refused(why) => TakeError::Refused(why),
+            CheckError::Memory => TakeError::Memory,
         }
     }
 }

@@ -15,6 +15,6 @@ mod verdict;
 pub use check::Check;
 pub use epochs::Epochs;
 pub use fault::{CheckError, CheckFault};
-pub use judging::{Unjudged, judge};
+pub use judging::judge;
 pub use laws::{law_clean, law_every_fact_has_a_line, law_one_line_is_refused};
 pub use verdict::Verdict;

@@ -1,18 +1,17 @@
 -- Whoever draws a transcript and whoever judges it refuse the same line, for the same reason.
-use Rattle.std.proofs.Common.{◌≡◌, ◌∙◌, ◌<◌, ◌≤◌, ◌⊎◌, inl, inr, ℕ, Bool, true, false, List, length, Result, Ok, Err, refl, sym, ap, subst, arith}
-use Rattle.std.specs.Prelude.{nat_le, if◌then◌else◌, take}
+use Rattle.std.proofs.Common.{◌≡◌, ◌∙◌, ◌<◌, ◌≤◌, ◌⊎◌, inl, inr, ℕ, List, length, Result, Ok, Err, refl, sym, ap, subst}
+use Rattle.std.specs.Prelude.{take}
 use Rattle.text_lines.specs.Texts.{whole_lines, lines_of}
 use Rattle.text_lines.specs.Reading.{Sourced, lines_within}
 use Rattle.transcript_reader.specs.Counting.{most_octets}
 use Rattle.transcript_check.specs.declared.fault.CheckFault.{CheckFault}
-use Rattle.transcript_check.specs.declared.judging.Unjudged.{Unjudged}
-use Rattle.transcript_check.specs.declared.judging.Unjudged.TheVariants as unjudged
-use Rattle.transcript_check.specs.declared.verdict.Verdict.{Verdict}
-use Rattle.transcript_check.specs.Transcripts.{AreRead, IsRefused, EndsBy as EndsJudgedBy}
-use Rattle.transcript_picture.specs.declared.drawing.Undrawn.{Undrawn}
-use Rattle.transcript_picture.specs.declared.drawing.Undrawn.TheVariants as undrawn
-use Rattle.transcript_picture.specs.Transcripts.{EndsBy}
-use Rattle.transcript_picture.proofs.Reached.{all-within}
+use Rattle.transcript_reader.specs.Transcripts.{AreRead as AreReadBy, EndsBy}
+use Rattle.transcript_reader.specs.declared.unfinished.Unfinished.{Unfinished}
+use Rattle.transcript_reader.specs.declared.unfinished.Unfinished.TheVariants as ends
+use Rattle.transcript_reader.proofs.Public.{all-within, by-end-as, past-within, read-as}
+use Rattle.lan_core.specs.declared.fact.Fact.{Fact}
+use Rattle.transcript_check.specs.Standing.{by_epochs}
+use Rattle.transcript_check.specs.Transcripts.{AreRead, IsRefused}
 
 -- what the law of refused lines gives, as premises
 pub record OneRefusal : Type 0 where
@@ -21,15 +20,16 @@ pub record OneRefusal : Type 0 where
   pub none : (lines : List (List ℕ)) (number : ℕ) (why : CheckFault) → IsRefused lines number why
       → AreRead lines → ⊥
 
--- a text past the limit has those lines that end within it
-past-within : (text : List ℕ) → most_octets < length text
-    → lines_within most_octets text ≡ whole_lines (take most_octets text)
-past-within text more = go (nat_le (length text) most_octets) refl
-  where
-    go : (b : Bool) → nat_le (length text) most_octets ≡ b
-        → lines_within most_octets text ≡ whole_lines (take most_octets text)
-    go true is = let few : length text ≤ most_octets = grind (arith, is) in absurd (omega (arith, few, more))
-    go false is = ap (λ (b : Bool). if b then lines_of text else whole_lines (take most_octets text)) is
+-- whatever holds of the facts
+bare : (Holds : List Fact → Type 0) (lines : List (List ℕ)) → AreReadBy by_epochs Holds lines → AreRead lines
+bare Holds lines read = read-as by_epochs Holds (λ facts. Unit {0}) (λ facts holds. tt) lines read
+
+pub bare-refused : (X : Type 0) (Holds : List Fact → Type 0) (text : List ℕ) (left now : Sourced) (number : ℕ)
+    (why : CheckFault) → EndsBy {X = X} by_epochs Holds text left now (Err (ends.Refused number why))
+    → IsRefused (lines_within most_octets text) number why
+bare-refused X Holds text left now number why e =
+    by-end-as by_epochs (λ facts. Unit {0}) (λ facts. Unit {0}) Holds (λ facts. Unit {0}) (λ facts held. tt)
+    (λ facts holds. tt) text left now X X (ends.Refused number why) e
 
 module _ (law : OneRefusal) (text : List ℕ) (number : ℕ) (why : CheckFault) where
   -- neither all lines of the text are taken, nor those within the limit where it is longer
@@ -45,28 +45,21 @@ module _ (law : OneRefusal) (text : List ℕ) (number : ℕ) (why : CheckFault) 
       law.none (lines_within most_octets text) number why refused
       (subst AreRead (sym (past-within text more)) read)
 
-  pub judged-alike : IsRefused (lines_within most_octets text) number why → (left now : Sourced)
-      (result : Result Verdict Unjudged) → EndsJudgedBy text left now result
-      → (result ≡ Err (unjudged.Refused number why)) ⊎ (result ≡ Err unjudged.Memory)
-      ⊎ (result ≡ Err unjudged.ReadFault)
-  judged-alike refused left now (Ok verdict) e = absurd (not-all refused e.0 e.2.read)
-  judged-alike refused left now (Err (unjudged.Refused again other)) e =
-      let same = law.one (lines_within most_octets text) again number other why e refused in
-      inl (ap (λ n. Err (unjudged.Refused n other)) same.0
-      ∙ ap (λ f. Err (unjudged.Refused number f)) same.1)
-  judged-alike refused left now (Err unjudged.Memory) e = inr (inl refl)
-  judged-alike refused left now (Err unjudged.ReadFault) e = inr (inr refl)
-  judged-alike refused left now (Err unjudged.Limit) e = absurd (not-within refused e.0 e.1)
-
-  pub drawn-alike : IsRefused (lines_within most_octets text) number why → (left now : Sourced)
-      (result : Result (List ℕ) Undrawn) → EndsBy text left now result
-      → (result ≡ Err (undrawn.Refused number why)) ⊎ (result ≡ Err undrawn.Memory)
-      ⊎ (result ≡ Err undrawn.ReadFault)
-  drawn-alike refused left now (Ok picture) e = absurd (not-all refused e.0 e.2)
-  drawn-alike refused left now (Err (undrawn.Refused again other)) e =
-      let same = law.one (lines_within most_octets text) again number other why e refused in
-      inl (ap (λ n. Err (undrawn.Refused n other)) same.0
-      ∙ ap (λ f. Err (undrawn.Refused number f)) same.1)
-  drawn-alike refused left now (Err undrawn.Memory) e = inr (inl refl)
-  drawn-alike refused left now (Err undrawn.ReadFault) e = inr (inr refl)
-  drawn-alike refused left now (Err undrawn.Limit) e = absurd (not-within refused e.0 e.1)
+  pub refused-alike : IsRefused (lines_within most_octets text) number why → {X : Type 0}
+      (Holds : Result X (Unfinished CheckFault) → List Fact → Type 0)
+      → ((facts : List Fact) → Holds (Err ends.WriteFault) facts → ⊥) → (left now : Sourced)
+      (result : Result X (Unfinished CheckFault)) → EndsBy by_epochs (Holds result) text left now result
+      → (result ≡ Err (ends.Refused number why)) ⊎ (result ≡ Err ends.Memory)
+      ⊎ (result ≡ Err ends.ReadFault)
+  refused-alike refused Holds never left now (Ok answer) e =
+      absurd (not-all refused e.0 (bare (Holds (Ok answer)) (lines_of text) e.2))
+  refused-alike refused {X} Holds never left now (Err (ends.Refused again other)) e =
+      let same = law.one (lines_within most_octets text) again number other why
+      (bare-refused X (Holds (Err (ends.Refused again other))) text left now again other e) refused in
+      inl (ap (λ n. Err (ends.Refused n other)) same.0
+      ∙ ap (λ f. Err (ends.Refused number f)) same.1)
+  refused-alike refused Holds never left now (Err ends.Memory) e = inr (inl refl)
+  refused-alike refused Holds never left now (Err ends.WriteFault) e = absurd (never e.read.facts e.read.holds)
+  refused-alike refused Holds never left now (Err ends.ReadFault) e = inr (inr refl)
+  refused-alike refused Holds never left now (Err ends.Limit) e =
+      absurd (not-within refused e.0 (bare (Holds (Err ends.Limit)) (whole_lines (take most_octets text)) e.1))

@@ -1,4 +1,4 @@
-mod Reached
+mod Ending
 mod Taking
 mod Alike
 pub mod Public

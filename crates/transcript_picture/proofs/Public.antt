@@ -1,2 +1,2 @@
 -- What other crates may cite of the proofs: that a transcript was not read.
-pub use Rattle.transcript_picture.proofs.Reached.{not-drawn}
+pub use Rattle.transcript_picture.proofs.Ending.{not-drawn}

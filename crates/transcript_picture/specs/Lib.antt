@@ -1,4 +1,3 @@
 pub mod Standing
-pub mod Lines
 pub mod Transcripts
 pub mod inside

@@ -1,3 +1,2 @@
 -- What serves private functions alone.
 pub mod Sketching
-pub mod SketchedLines

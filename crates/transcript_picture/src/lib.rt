@@ -18,6 +18,6 @@ mod sheet;
 mod sketch;
 mod style;
 
-pub use drawing::{Undrawn, draw};
+pub use drawing::draw;
 pub use laws::law_drawing_refuses_as_judging_does;
 pub use scene::Scene;

@@ -1,102 +1,97 @@
-//! What is kept of the lines so far.
+//! What is kept of the facts so far.
 
-ghost use Rattle.std.specs.Prelude.{◌≡◌, [], List, Err, IfOk};
+ghost use Rattle.std.specs.Prelude.{[], List};
 ghost use Rattle.lan_core.specs.declared.fact.Fact.{Fact};
-ghost use Rattle.transcript_reader.specs.Facts.{Known, nothing};
-ghost use Rattle.transcript_check.specs.declared.fault.CheckError.TheVariants.{Refused};
-ghost use Rattle.transcript_check.specs.declared.fault.CheckFault.{CheckFault};
-ghost use Rattle.transcript_check.specs.Standing.{IsDenied};
-ghost use Rattle.transcript_picture.specs.Lines.{IsSketchOf, IsTaken};
+ghost use Rattle.transcript_picture.specs.inside.Sketching.{IsSketchOf, Sketches};
 
 use crate::scene::Scene;
-use crate::sheet::picture;
-use std::alloc::{AllocError, Global};
+use lan_core::Fact;
+use std::alloc::Global;
 use std::marker::Model;
-use text_lines::LineTaker;
-use transcript_check::{CheckError, Epochs};
-use transcript_reader::FactReader;
+use transcript_check::{CheckError, CheckFault, Epochs};
+use transcript_reader::{FactTaker, TakeError};
 
-/// What is kept of the lines so far. Contracts see what is known from them, the SAKs that stations
-/// installed, the spans, and how many lines there were.
+/// What is kept of the facts so far. Contracts see the SAKs that stations installed, and the spans.
 #[derive(Drop)]
 pub struct Sketch {
-    alloc: Global,
-    reader: FactReader,
     epochs: Epochs,
     scene: Scene,
-    count: u64,
 }
 
 impl Model for Sketch {
-    ghost use Rattle.transcript_picture.specs.Lines.{Kept};
+    ghost use Rattle.transcript_picture.specs.inside.Sketching.{Kept};
 
     ghost Value = { Kept };
 
-    ghost view = { λ s. record { known = s.reader; saks = s.epochs; spans = s.scene; count = s.count } };
+    ghost view = { λ s. record { saks = s.epochs; spans = s.scene } };
 }
 
 impl Sketch {
-    /// No line was taken.
-    pub fn new(alloc: Global) -> Result<Sketch, AllocError>
-        ensures { IfOk result (λ sketch. IsSketchOf nothing [] sketch) }
+    /// No fact was taken. No memory is taken.
+    pub fn new(alloc: Global) -> Sketch
+        ensures { IsSketchOf [] result }
     {
-        Ok(Sketch {
-            alloc,
-            reader: FactReader::new(alloc)?,
+        Sketch {
             epochs: Epochs::new(alloc),
             scene: Scene::new(alloc),
-            count: 0,
-        })
-    }
-
-    /// How many lines were taken.
-    pub fn count(&self) -> u64
-        ensures { result ≡ self.now.count }
-    {
-        self.count
-    }
-
-    /// The picture of what the lines told.
-    pub fn picture(&self) -> Result<Vec<u8>, AllocError> {
-        picture(self.alloc, &self.scene, &self.reader)
-    }
-
-    /// The next line, without its line feed. A line that is refused leaves the value as it was.
-    fn take(&mut self, line: &[u8]) -> Result<(), CheckError>
-        ensures taken { (known : Known) (facts : List Fact) → IsSketchOf known facts self.old
-            → IfOk result (λ _. IsTaken known facts line.now self.new) }
-        ensures refused { (known : Known) (facts : List Fact) → IsSketchOf known facts self.old
-            → (why : CheckFault) → result ≡ Err (Refused why) → IsDenied known facts line.now why }
-        ensures kept { (why : CheckFault) → result ≡ Err (Refused why) → self.new ≡ self.old }
-    {
-        if self.count == u64::MAX {
-            return Err(CheckError::Memory);
         }
-        let fact = self.reader.line(self.alloc, line)?;
-        self.epochs.take(&fact)?;
-        self.scene.take(&fact)?;
-        self.count += 1;
+    }
+
+    /// What the facts show.
+    pub fn scene(&self) -> &Scene {
+        &self.scene
+    }
+
+    /// The next fact. One that is refused leaves the value as it was.
+    fn draw(&mut self, fact: &Fact) -> Result<(), CheckError>
+        ensures { (facts : List Fact) → IsSketchOf facts self.old
+            → Sketches facts fact.now self.old self.new result }
+    {
+        self.epochs.take(fact)?;
+        self.scene.take(fact)?;
         Ok(())
     }
 }
 
-impl LineTaker<()> for Sketch {
-    ghost use Rattle.transcript_picture.specs.inside.Sketching.{Sketches};
-    ghost use Rattle.transcript_picture.specs.inside.SketchedLines.{sketches-none, sketches-more, sketches-early};
+impl FactTaker<()> for Sketch {
+    ghost use Rattle.transcript_check.proofs.Public.{fact-denies};
+    ghost use Rattle.transcript_check.specs.declared.fault.CheckFault.TheVariants.{Unread};
+    ghost use Rattle.transcript_check.specs.Standing.{by_epochs};
+    ghost use Rattle.transcript_picture.specs.inside.Sketching.{Refuses, sketched};
 
-    type Error = CheckError;
+    type Fault = CheckFault;
 
-    ghost Asks = { Unit {0} };
+    ghost rule = { by_epochs };
 
-    ghost Did = { λ lines old new result. Sketches lines old.taker new.taker result };
+    ghost Refuses = { Refuses };
 
-    fn line(&mut self, text: &[u8], _outlet: &mut ()) -> Result<(), CheckError> {
-        self.take(text)
+    ghost unread = { Unread };
+
+    ghost courses = { sketched };
+
+    ghost Grew = { λ old new. Unit {0} };
+
+    ghost Fails = { λ old new. ⊥ };
+
+    fn unread() -> CheckFault {
+        CheckFault::Unread
     }
 
-    ghost none = { λ a. sketches-none a.taker };
+    fn fact(&mut self, fact: &Fact, _outlet: &mut ()) -> Result<(), TakeError<CheckFault>> {
+        self.draw(fact)?;
+        Ok(())
+    }
 
-    ghost more = { λ a b c xs ys r d e. sketches-more a.taker b.taker c.taker xs ys r d e };
+    ghost untold = { λ known facts line none. none };
 
-    ghost early = { λ a b xs ys error d. sketches-early a.taker b.taker xs ys error d };
+    ghost denied = { λ known after facts line fact why tells refused.
+        fact-denies known facts line after fact tells why refused };
+
+    ghost breaks = { λ first now facts took. tt };
+
+    ghost stays = { λ a. tt };
+
+    ghost further = { λ a b c earlier later. tt };
+
+    ghost late = { λ a b c earlier fails. fails };
 }

@@ -3,8 +3,9 @@ use Rattle.std.specs.Prelude.{◌≡◌, ◌⊎◌, ℕ, if◌then◌else◌, Li
 use Rattle.lan_base.specs.Faults.{Rose}
 use Rattle.text_lines.specs.Reading.{Sourced}
 use Rattle.transcript_check.specs.declared.verdict.Verdict.{Verdict}
-use Rattle.transcript_check.specs.declared.judging.Unjudged.{Unjudged}
-use Rattle.transcript_check.specs.declared.judging.Unjudged.TheVariants as unjudged
+use Rattle.transcript_check.specs.declared.fault.CheckFault.{CheckFault}
+use Rattle.transcript_reader.specs.declared.unfinished.Unfinished.{Unfinished}
+use Rattle.transcript_reader.specs.declared.unfinished.Unfinished.TheVariants as ends
 use Rattle.transcript_check.specs.Verdicts.{is_clean, text_of}
 use Rattle.transcript_check.specs.Transcripts.{EndsJudging}
 use Rattle.replay.specs.declared.cause.Cause.TheVariants as causes
@@ -23,16 +24,17 @@ Tells verdict old new (Halted causes.WriteFault) =
 Tells verdict old new (Halted causes.Memory) = BrokeOff (text_of verdict ∷ []) old new
 Tells verdict old new status = (status ≡ told verdict) × Wrote (text_of verdict ∷ []) old new
 
--- the status where a transcript was not judged
-abbrev pub status_of : Unjudged → Status
-status_of (unjudged.Refused line why) = Transcript line why
-status_of unjudged.Memory = Halted causes.Memory
-status_of unjudged.ReadFault = Halted causes.ReadFault
-status_of unjudged.Limit = CheckInput
+-- the status where a transcript was not judged, or not drawn
+abbrev pub status_of : Unfinished CheckFault → Status
+status_of (ends.Refused line why) = Transcript line why
+status_of ends.Memory = Halted causes.Memory
+status_of ends.ReadFault = Halted causes.ReadFault
+status_of ends.WriteFault = Halted causes.WriteFault
+status_of ends.Limit = CheckInput
 
 -- the transcript was judged, and then its verdict told; or it was not judged, and nothing was written
 abbrev pub EndsAsCheck : List ℕ → Sourced → Sourced → Sunk → Sunk → Status → Type 0
 EndsAsCheck text left now old new status =
     ((verdict : Verdict) × EndsJudging text left now (Ok verdict) × Tells verdict old new status)
-    ⊎ ((why : Unjudged) × EndsJudging text left now (Err why) × (status ≡ status_of why)
+    ⊎ ((why : Unfinished CheckFault) × EndsJudging text left now (Err why) × (status ≡ status_of why)
     × (new ≡ old))

@@ -12,7 +12,8 @@ use crate::status::Status;
 use lan_base::{Sink, Source};
 use replay::Cause;
 use std::alloc::Global;
-use transcript_capture::End;
+use transcript_capture::LineFault;
+use transcript_reader::Unfinished;
 
 /// Writes the file of a transcript's frames.
 pub fn capture<S: Source, K: Sink>(alloc: Global, source: &mut S, sink: &mut K) -> Status
@@ -31,15 +32,15 @@ pub fn capture<S: Source, K: Sink>(alloc: Global, source: &mut S, sink: &mut K) 
 }
 
 /// The status of how capturing ended.
-fn status_of_capture(answer: Result<(), End>) -> Status
+fn status_of_capture(answer: Result<(), Unfinished<LineFault>>) -> Status
     ensures { result ≡ status_of_capture answer }
 {
     match answer {
         Ok(()) => Status::Done,
-        Err(End::Refused { line, why }) => Status::Unrecorded { line, why },
-        Err(End::Limit) => Status::CaptureInput,
-        Err(End::ReadFault) => Status::Halted(Cause::ReadFault),
-        Err(End::WriteFault) => Status::Halted(Cause::WriteFault),
-        Err(End::Memory) => Status::Halted(Cause::Memory),
+        Err(Unfinished::Refused { line, why }) => Status::Unrecorded { line, why },
+        Err(Unfinished::Limit) => Status::CaptureInput,
+        Err(Unfinished::ReadFault) => Status::Halted(Cause::ReadFault),
+        Err(Unfinished::WriteFault) => Status::Halted(Cause::WriteFault),
+        Err(Unfinished::Memory) => Status::Halted(Cause::Memory),
     }
 }

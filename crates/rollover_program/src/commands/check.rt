@@ -12,7 +12,8 @@ use crate::status::Status;
 use lan_base::{Sink, Source, Unwritten, write_all};
 use replay::Cause;
 use std::alloc::Global;
-use transcript_check::{Unjudged, Verdict, judge};
+use transcript_check::{CheckFault, Verdict, judge};
+use transcript_reader::Unfinished;
 
 /// Judges a transcript, and writes the verdict at its end.
 pub fn check<S: Source, K: Sink>(alloc: Global, source: &mut S, sink: &mut K) -> Status
@@ -59,14 +60,15 @@ fn told(verdict: &Verdict) -> Status
     }
 }
 
-/// The status where a transcript was not judged.
-fn status_of(why: Unjudged) -> Status
+/// The status where a transcript was not judged, or not drawn.
+pub fn status_of(why: Unfinished<CheckFault>) -> Status
     ensures { result ≡ status_of why }
 {
     match why {
-        Unjudged::Refused { line, why } => Status::Transcript { line, why },
-        Unjudged::Memory => Status::Halted(Cause::Memory),
-        Unjudged::ReadFault => Status::Halted(Cause::ReadFault),
-        Unjudged::Limit => Status::CheckInput,
+        Unfinished::Refused { line, why } => Status::Transcript { line, why },
+        Unfinished::Memory => Status::Halted(Cause::Memory),
+        Unfinished::ReadFault => Status::Halted(Cause::ReadFault),
+        Unfinished::WriteFault => Status::Halted(Cause::WriteFault),
+        Unfinished::Limit => Status::CheckInput,
     }
 }

@@ -6,13 +6,13 @@ ghost use Rattle.text_lines.specs.Reading.{sourced};
 ghost use Rattle.replay.specs.declared.cause.Cause.TheVariants as causes;
 ghost use Rattle.replay.specs.Sinks.{sunk};
 ghost use Rattle.rollover_program.specs.declared.status.Status.TheVariants as statuses;
-ghost use Rattle.rollover_program.specs.commands.Draw.{EndsAsDraw, Shows, status_of_undrawn};
+ghost use Rattle.rollover_program.specs.commands.Draw.{EndsAsDraw, Shows};
 
+use crate::commands::check::status_of;
 use crate::status::Status;
 use lan_base::{Sink, Source, Unwritten, write_all};
 use replay::Cause;
 use std::alloc::Global;
-use transcript_picture::Undrawn;
 
 /// Reads a transcript, and writes the picture of its keys at its end.
 pub fn draw<S: Source, K: Sink>(alloc: Global, source: &mut S, sink: &mut K) -> Status
@@ -29,7 +29,7 @@ pub fn draw<S: Source, K: Sink>(alloc: Global, source: &mut S, sink: &mut K) -> 
 {
     match transcript_picture::draw(alloc, source) {
         Ok(picture) => show(picture.as_slice(), sink),
-        Err(why) => status_of_undrawn(why),
+        Err(why) => status_of(why),
     }
 }
 
@@ -42,17 +42,5 @@ pub fn show<K: Sink>(picture: &[u8], sink: &mut K) -> Status
         Ok(()) => Status::Done,
         Err(Unwritten::Failed) => Status::Halted(Cause::WriteFault),
         Err(Unwritten::Memory) => Status::Halted(Cause::Memory),
-    }
-}
-
-/// The status where a transcript was not drawn.
-fn status_of_undrawn(why: Undrawn) -> Status
-    ensures { result ≡ status_of_undrawn why }
-{
-    match why {
-        Undrawn::Refused { line, why } => Status::Transcript { line, why },
-        Undrawn::Memory => Status::Halted(Cause::Memory),
-        Undrawn::ReadFault => Status::Halted(Cause::ReadFault),
-        Undrawn::Limit => Status::CheckInput,
     }
 }

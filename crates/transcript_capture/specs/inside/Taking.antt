@@ -1,16 +1,10 @@
--- What writing a record did, and why a transcript is not captured to its end.
+-- What writing a record did.
 use Rattle.std.specs.Prelude.{◌≡◌, ◌≤◌, ℕ, List, [], ◌∷◌, length, Option, Result, Ok, Err}
 use Rattle.lan_base.specs.Told.{after}
 use Rattle.capture_file.specs.Pcap.{most_written}
 use Rattle.capture_file.specs.Records.{records_of}
 use Rattle.transcript_capture.specs.declared.fault.RecordError.{RecordError}
 use Rattle.transcript_capture.specs.declared.fault.RecordError.TheVariants.{TooLong, Failed, Memory}
-use Rattle.text_lines.specs.declared.reading.End.{End as LinesEnd}
-use Rattle.text_lines.specs.declared.reading.End.TheVariants as lines
-use Rattle.transcript_capture.specs.declared.end.End.{End}
-use Rattle.transcript_capture.specs.declared.end.End.TheVariants as ends
-use Rattle.transcript_capture.specs.declared.end.Stop.{Stop}
-use Rattle.transcript_capture.specs.declared.end.Stop.TheVariants as stops
 use Rattle.transcript_capture.specs.Packets.{packet_at}
 use Rattle.transcript_capture.specs.Recording.{WrotePart}
 
@@ -23,12 +17,3 @@ Writes n octets held then (Err Failed) =
     (length octets ≤ most_written) × WrotePart (records_of (packet_at n octets ∷ [])) held then
 Writes n octets held then (Err Memory) =
     (length octets ≤ most_written) × WrotePart (records_of (packet_at n octets ∷ [])) held then
-
--- what the end of reading lines is to the transcript
-abbrev pub end_of : LinesEnd Stop → End
-end_of (lines.Refused (stops.Refused line why)) = ends.Refused line why
-end_of (lines.Refused stops.Failed) = ends.WriteFault
-end_of (lines.Refused stops.Memory) = ends.Memory
-end_of lines.Memory = ends.Memory
-end_of lines.ReadFault = ends.ReadFault
-end_of lines.Limit = ends.Limit

@@ -1,59 +1,38 @@
--- What it is to take lines.
-use Rattle.std.specs.Prelude.{ℕ, ◌≡◌, List, ◌∷◌, ◌++◌, Result, Ok, Err}
-use Rattle.transcript_reader.specs.Facts.{Known}
-use Rattle.transcript_reader.specs.Counting.{number_after}
+-- What is kept of facts that come one after another, and what holds then.
+use Rattle.std.specs.Prelude.{◌≡◌, List, ◌∷◌, [], ◌++◌, None, Some, Result, Ok, Err}
 use Rattle.lan_core.specs.declared.fact.Fact.{Fact}
-use Rattle.text_lines.specs.declared.reading.End.{End}
-use Rattle.text_lines.specs.declared.reading.End.TheVariants as reading
-use Rattle.transcript_check.specs.declared.fault.CheckFault.{CheckFault}
+use Rattle.transcript_reader.specs.Taking.{Courses}
 use Rattle.transcript_check.specs.declared.fault.CheckError.{CheckError}
 use Rattle.transcript_check.specs.declared.fault.CheckError.TheVariants.{Refused, Memory}
-use Rattle.transcript_check.specs.Standing.{AreTaken, IsDenied}
-use Rattle.transcript_picture.specs.declared.drawing.Undrawn.{Undrawn}
-use Rattle.transcript_picture.specs.declared.drawing.Undrawn.TheVariants as ends
-use Rattle.transcript_picture.specs.Lines.{IsSketchOf, Kept}
+use Rattle.transcript_check.specs.declared.fault.CheckFault.{CheckFault}
+use Rattle.transcript_check.specs.Standing.{AreSaksOf, Saks, refusal}
+use Rattle.key_spans.specs.Standing.{Kept as Spans}
+use Rattle.transcript_picture.specs.Standing.{Shows}
 
--- where this is known after these facts, lines were taken one after another, and count from now on
-pub record Took (known : Known) (facts : List Fact) (lines : List (List ℕ)) (now : Kept)
-    : Type 0 where
-  pub after : Known
-  pub told : List Fact
-  pub taken : AreTaken known facts lines after told
-  pub stands : IsSketchOf after told now
+-- the SAKs that the facts installed, and their spans
+pub record Kept : Type 0 where
+  pub saks : Saks
+  pub spans : Spans
 
--- lines were taken up to one that was refused
-pub record Stopped (known : Known) (facts : List Fact) (lines : List (List ℕ)) (now : Kept)
-    (why : CheckFault) : Type 0 where
-  pub earlier : List (List ℕ)
-  pub line : List ℕ
-  pub later : List (List ℕ)
-  pub parts : earlier ++ line ∷ later ≡ lines
-  pub took : Took known facts earlier now
-  pub denied : IsDenied took.after took.told line why
+-- after these facts
+pub record IsSketchOf (facts : List Fact) (kept : Kept) : Type 0 where
+  pub saks_are : AreSaksOf facts kept.saks
+  pub shows : Shows facts kept.spans
 
--- lines were taken up to one for which no memory was left
-pub record Broke (known : Known) (facts : List Fact) (lines : List (List ℕ)) : Type 0 where
-  pub front : List (List ℕ)
-  pub later : List (List ℕ)
-  pub parts : front ++ later ≡ lines
-  pub after : Known
-  pub told : List Fact
-  pub taken : AreTaken known facts front after told
+-- a fact was taken behind others; or it is refused, and nothing changed; or memory ran out
+abbrev pub Sketches : List Fact → Fact → Kept → Kept → Result (Unit {0}) CheckError → Type 0
+Sketches facts fact old new (Ok done) = (refusal facts fact ≡ None) × IsSketchOf (facts ++ fact ∷ []) new
+Sketches facts fact old new (Err (Refused why)) = (refusal facts fact ≡ Some why) × (new ≡ old)
+Sketches facts fact old new (Err Memory) = Unit {0}
 
-abbrev pub Comes : Known → List Fact → List (List ℕ) → Kept → Result (Unit {0}) CheckError → Type 0
-Comes known facts lines now (Ok done) = Took known facts lines now
-Comes known facts lines now (Err (Refused why)) = Stopped known facts lines now why
-Comes known facts lines now (Err Memory) = Broke known facts lines
+-- why a fact is refused behind others
+abbrev pub Refuses : List Fact → Fact → CheckFault → Type 0
+Refuses facts fact why = refusal facts fact ≡ Some why
 
--- lines were taken, after whatever the sketch stands for
-abbrev pub Sketches : List (List ℕ) → Kept → Kept → Result (Unit {0}) CheckError → Type 0
-Sketches lines old new result = (known : Known) (facts : List Fact)
-    → IsSketchOf known facts old → Comes known facts lines new result
-
--- what the end of reading is, where so many lines were taken
-abbrev pub why_undrawn : End CheckError → ℕ → Undrawn
-why_undrawn (reading.Refused (Refused why)) count = ends.Refused (number_after count) why
-why_undrawn (reading.Refused Memory) count = ends.Memory
-why_undrawn reading.Memory count = ends.Memory
-why_undrawn reading.ReadFault count = ends.ReadFault
-why_undrawn reading.Limit count = ends.Limit
+-- facts were taken since a first moment; there is no outlet that could fail
+abbrev pub sketched : {K : Type 0} → Courses Kept K
+sketched = record {
+  Took = λ first facts now. IsSketchOf facts now.taker;
+  Broke = λ first facts now. Unit {0};
+  Cut = λ first facts now. ⊥;
+}

@@ -1,17 +1,17 @@
-use Rattle.transcript_reader.specs.Counting.{most_octets}
-use Rattle.transcript_check.proofs.Reached.{not-judged, judged-ok, judged-err}
+use Rattle.std.proofs.lemmas.Result.{err_from_is_err_and}
+use Rattle.text_lines.specs.Moments.{moment}
+use Rattle.transcript_check.proofs.Ending.{judged-err, not-judged}
 use Rattle.transcript_check.proofs.judging.judge.Goals as goal
 
-pub returns-in_default-clause-judged : goal.returns-in_default-clause-judged
-returns-in_default-clause-judged g c = λ text told. not-judged text _
+pub returns-in_err-reading-clause-judged : goal.returns-in_err-reading-clause-judged
+returns-in_err-reading-clause-judged g c = λ text told.
+    let p = err_from_is_err_and c.from_residual.result c.from_residual.ensures.1 in
+    rw (p.1, p.2) (not-judged text _)
 
-pub returns-in-Ok-read_lines-clause-judged : goal.returns-in-Ok-read_lines-clause-judged
-returns-in-Ok-read_lines-clause-judged g c = λ text told.
-    judged-ok (λ at. at.taker.check) _ _ _ _ c.in-Ok.ensures c.verdict.result c.verdict.ensures
-    c.in-Ok-read_lines.ensures.reads text told
-
-pub returns-clause-judged : goal.returns-clause-judged
-returns-clause-judged g c = λ text told.
-    rw c.why_unjudged.ensures (judged-err (λ at. at.taker.check) _ _ _ _ c.in-Ok.ensures text
-    (c.law_lines_are_few.ensures most_octets text) c.in-Err.end c.count.result c.count.ensures
-    c.in-Err.ensures.reads told)
+pub returns-in_err-read_transcript-clause-judged : goal.returns-in_err-read_transcript-clause-judged
+returns-in_err-read_transcript-clause-judged g c = λ text told.
+    let p = err_from_is_err_and c.from_residual-in_err-read_transcript.result c.from_residual-in_err-read_transcript.ensures.1 in
+    let fresh = c.in_ok-reading.ensures in
+    rw (p.1, p.2) (judged-err _ (moment c.in_ok-reading.reading.taker (tt {0}))
+    (moment c.read_transcript.new.reading.taker c.read_transcript.new.outlet) text _ _ c.in_err-read_transcript.field-0.0
+    (c.in_err-read_transcript.ensures.read text told fresh.0 fresh.1 (rw fresh.2 c.new.ensures)))

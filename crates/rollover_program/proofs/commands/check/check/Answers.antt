@@ -1,7 +1,7 @@
 use Rattle.std.proofs.Common.{inl, inr, refl, sym, ap, ◌∙◌}
 use Rattle.std.specs.Prelude.{Err}
 use Rattle.rollover_program.proofs.Judged.{tells_usage, tells_read_fault, tells_write_fault}
-use Rattle.rollover_program.proofs.Judged.{never_usage, read_faulted, never_write_fault}
+use Rattle.rollover_program.proofs.Judged.{never_usage, read_faulted, write_faulted}
 use Rattle.rollover_program.proofs.commands.check.check.Goals as goal
 
 pub returns-in-Ok-clause-ends : goal.returns-in-Ok-clause-ends
@@ -32,4 +32,4 @@ returns-in-Err-clause-read_cause g c = λ e.
 
 pub returns-in-Err-clause-write_cause : goal.returns-in-Err-clause-write_cause
 returns-in-Err-clause-write_cause g c = λ e.
-    absurd (never_write_fault c.in-Err.why (sym c.status_of.ensures ∙ e))
+    absurd (c.in-Err.ensures.unwritten (ap (λ why. Err why) (write_faulted c.in-Err.why (sym c.status_of.ensures ∙ e))))

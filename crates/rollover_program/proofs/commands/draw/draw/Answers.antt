@@ -1,7 +1,7 @@
 use Rattle.std.proofs.Common.{inl, inr, refl, sym, ap, ◌∙◌}
 use Rattle.std.specs.Prelude.{Err}
 use Rattle.rollover_program.proofs.Drawn.{as-octets, as-refused, shows_usage, shows_read_fault, shows_write_fault}
-use Rattle.rollover_program.proofs.Drawn.{undrawn_usage, undrawn_read, undrawn_write}
+use Rattle.rollover_program.proofs.Judged.{never_usage, read_faulted, write_faulted}
 use Rattle.rollover_program.proofs.commands.draw.draw.Goals as goal
 
 pub returns-in-Ok-clause-ends : goal.returns-in-Ok-clause-ends
@@ -20,16 +20,16 @@ returns-in-Ok-clause-write_cause g c = λ e. shows_write_fault c.as_slice.result
 
 pub returns-in-Err-clause-ends : goal.returns-in-Err-clause-ends
 returns-in-Err-clause-ends g c = λ text told.
-    inr (c.in-Err.why, as-refused text _ _ _ (c.in-Err.ensures.drawn text told), c.status_of_undrawn.ensures, refl)
+    inr (c.in-Err.why, as-refused text _ _ _ (c.in-Err.ensures.drawn text told), c.status_of.ensures, refl)
 
 pub returns-in-Err-clause-carried : goal.returns-in-Err-clause-carried
-returns-in-Err-clause-carried g c = λ e. undrawn_usage c.in-Err.why (sym c.status_of_undrawn.ensures ∙ e)
+returns-in-Err-clause-carried g c = λ e. never_usage c.in-Err.why (sym c.status_of.ensures ∙ e)
 
 pub returns-in-Err-clause-read_cause : goal.returns-in-Err-clause-read_cause
 returns-in-Err-clause-read_cause g c = λ e.
     c.in-Err.ensures.read_fault (ap (λ why. Err why)
-    (undrawn_read c.in-Err.why (sym c.status_of_undrawn.ensures ∙ e)))
+    (read_faulted c.in-Err.why (sym c.status_of.ensures ∙ e)))
 
 pub returns-in-Err-clause-write_cause : goal.returns-in-Err-clause-write_cause
 returns-in-Err-clause-write_cause g c = λ e.
-    absurd (undrawn_write c.in-Err.why (sym c.status_of_undrawn.ensures ∙ e))
+    absurd (c.in-Err.ensures.unwritten (ap (λ why. Err why) (write_faulted c.in-Err.why (sym c.status_of.ensures ∙ e))))

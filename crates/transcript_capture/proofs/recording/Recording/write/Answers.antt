@@ -5,6 +5,7 @@ use Rattle.capture_file.specs.Records.{records_of}
 use Rattle.transcript_capture.specs.declared.clock.Clock.{Clock}
 use Rattle.transcript_capture.specs.Packets.{packet_at}
 use Rattle.transcript_capture.specs.Recording.{IsClockAt, WrotePart}
+use Rattle.transcript_capture.specs.inside.Recorded.{grew-written}
 use Rattle.transcript_capture.proofs.Times.{seen-now}
 use Rattle.transcript_capture.proofs.recording.Recording.write.Goals.{in-Ok, in-Err-Failed, in-Err-Memory}
 use Rattle.transcript_capture.proofs.recording.Recording.write.Goals as goal
@@ -27,3 +28,8 @@ returns-clause-writes g c = λ n at.
       | in-Err-Failed w ↦ rw w.result-is (few, subst (λ (l : List ℕ). WrotePart l held then) is w.in-Err-Failed.ensures.prefix)
       | in-Err-Memory w ↦ rw w.result-is (few, subst (λ (l : List ℕ). WrotePart l held then) is w.in-Err-Memory.ensures.prefix)
     ]
+
+pub returns-clause-grew : goal.returns-clause-grew
+returns-clause-grew g c =
+    grew-written g.K.Sink.held g.K.Sink.faults c.args.sink.now c.write_all.new.sink c.deref.result.now
+    c.write_all.result c.write_all.ensures.all c.write_all.ensures.prefix c.write_all.ensures.counts

@@ -1,0 +1,65 @@
+-- How judging comes to its end, and what noting a fact is to a taker of facts.
+use Rattle.std.proofs.Common.{◌≡◌, ℕ, List, Ok, Err, inl, sym, subst}
+use Rattle.lan_core.specs.declared.fact.Fact.{Fact}
+use Rattle.text_lines.specs.Moments.{Moment}
+use Rattle.text_lines.specs.Reading.{Sourced}
+use Rattle.transcript_reader.specs.Reached.{HasNoOutlet, Reached}
+use Rattle.transcript_reader.specs.Taking.{TakesFact}
+use Rattle.transcript_reader.specs.Transcripts.{EndsReading}
+use Rattle.transcript_reader.specs.declared.unfinished.Unfinished.{Unfinished}
+use Rattle.transcript_reader.specs.declared.unfinished.Unfinished.TheVariants as ends
+use Rattle.transcript_reader.proofs.Public.{answers-as, ends-as, not-begun}
+use Rattle.transcript_check.specs.declared.fault.CheckError.{CheckError}
+use Rattle.transcript_check.specs.declared.fault.CheckError.TheVariants.{Refused, Memory}
+use Rattle.transcript_check.specs.declared.fault.CheckFault.{CheckFault}
+use Rattle.transcript_check.specs.declared.verdict.Verdict.{Verdict}
+use Rattle.transcript_check.specs.Judged.{error_of_taking}
+use Rattle.transcript_check.specs.Standing.{IsVerdict, Maps, StandsFor, by_epochs}
+use Rattle.transcript_check.specs.Transcripts.{AreJudged, EndsJudging}
+use Rattle.transcript_check.specs.inside.Noting.{Refuses, noted}
+use Rattle.transcript_check.specs.inside.Steps.{IsNoted}
+
+-- ---- one fact
+
+-- it was noted
+pub noted-taken : {K : Type 0} (first now : Moment Maps K) (facts : List Fact) (fact : Fact) (old : Maps) (u v : Unit {0})
+    → IsNoted facts fact old now.taker (Ok u)
+    → TakesFact by_epochs Refuses noted first facts fact now (Ok v)
+noted-taken first now facts fact old u v is = is
+
+-- it was not
+pub noted-not : {K : Type 0} (first now : Moment Maps K) (facts : List Fact) (fact : Fact) (old : Maps)
+    (error : CheckError) → StandsFor facts old → now.taker ≡ old → IsNoted facts fact old now.taker (Err error)
+    → TakesFact by_epochs Refuses noted first facts fact now (Err (error_of_taking error))
+noted-not first now facts fact old (Refused why) stands same is =
+    (is.0, subst (λ (m : Maps). StandsFor facts m) (sym same) stands)
+noted-not first now facts fact old Memory stands same is = inl tt
+
+-- ---- a whole transcript
+
+-- nothing was read, for want of memory
+pub not-judged : (text : List ℕ) (left : Sourced) → EndsJudging text left left (Err ends.Memory)
+not-judged text left =
+    not-begun Verdict by_epochs (λ facts. Unit {0}) (AreJudged (Err ends.Memory)) text left tt tt
+
+module _ {K : Type 0} (Held : List Fact → Type 0) (first last : Moment Maps K) (text : List ℕ) (left now : Sourced) where
+  pub judged-ok : (verdict : Verdict) → ((facts : List Fact) → StandsFor facts last.taker → IsVerdict facts verdict)
+      → EndsReading by_epochs Held (Reached {F = CheckFault} noted first last (Ok (tt {0}))) text left now (Ok (tt {0}))
+      → EndsJudging text left now (Ok verdict)
+  judged-ok verdict says e =
+      answers-as by_epochs Held (λ facts. Unit {0}) (Reached {F = CheckFault} noted first last (Ok (tt {0})))
+      (AreJudged (Ok verdict)) (λ facts held. tt) says text left now tt verdict e
+
+  so : (why : Unfinished CheckFault) (facts : List Fact) → Reached noted first last (Err why) facts → HasNoOutlet why
+  so (ends.Refused number why) facts took = tt
+  so ends.Memory facts took = tt
+  so ends.ReadFault facts took = tt
+  so ends.WriteFault facts took = took
+  so ends.Limit facts took = tt
+
+  pub judged-err : (why : Unfinished CheckFault)
+      → EndsReading {X = Unit {0}} by_epochs Held (Reached noted first last (Err why)) text left now (Err why)
+      → EndsJudging text left now (Err why)
+  judged-err why e =
+      ends-as by_epochs Held (λ facts. Unit {0}) (Reached noted first last (Err why)) (AreJudged (Err why))
+      (λ facts held. tt) (so why) text left now (Unit {0}) Verdict why e
