@@ -3,9 +3,9 @@
 
 use crate::station_frames::*;
 use AssociationNumber::{An0, An2, An3};
-use DropReason::{
-    Agility, Check, CkName, Echo, NotMka, OldNumber, PeersFull, Repeated, Shape, Short,
-};
+use DropReason::{Check, CkName, Refused, Unspelled};
+use PeerRefusal::{Echo, OldNumber, PeersFull};
+use Refusal::{Agility, NotMka, Repeated, Shape, Short};
 use Step::{Drops, Fills, Hears, Holds, Restarts, Spends, Ticks};
 use Suite::{GcmAes128, GcmAes256};
 use Told::{Began, Dropped, Elected, Installed, Lost, Untaken};
@@ -16,6 +16,8 @@ use aes_cmac::cmac;
 use lan_base::{AssociationNumber, Blocks, CountDraws, Draws, KeyId, ListDraws, Mi, Sci, Suite};
 use mka_kdf::Group;
 use mka_station::{Config, DropReason, Reaction, Station, TickError, Verdict};
+use mkpdu_codec::Refusal;
+use peer_lists::PeerRefusal;
 use sak_exchange::{Cause, Change, HeldKey, Key, Seen, Why};
 use std::alloc::Global;
 use std::process::Abort;
@@ -258,7 +260,7 @@ fn fills(rt: &impl Abort, alloc: Global, station: &mut Station) -> bool {
             return false;
         }
     }
-    meets(rt, station, &ick, 163) == Some(Verdict::Dropped(PeersFull))
+    meets(rt, station, &ick, 163) == Some(Verdict::Dropped(Refused(PeersFull)))
 }
 
 /// Whether a step comes to what it tells.
@@ -372,7 +374,7 @@ const STARTING_AGAIN: Case = Case {
         Hears(A2, Unvouched, &[]),
         Hears(A3, Unvouched, &[Untaken(1, Why::NotListed)]),
         Hears(A4, Unvouched, &[]),
-        Drops(A3, OldNumber { kept: 4 }),
+        Drops(A3, Refused(OldNumber { kept: 4 })),
         Holds([None; 3]),
     ],
 };
@@ -382,19 +384,19 @@ const DROPPING: Case = Case {
     who: B,
     suite: GcmAes128,
     steps: &[
-        Drops(OTHER_TYPE, NotMka),
-        Drops(CUT, Short),
-        Drops(ODD, Shape { at: 54 }),
-        Drops(TWICE, Repeated { kind: 1 }),
-        Drops(OTHER_AGILITY, Agility),
+        Drops(OTHER_TYPE, Unspelled(NotMka)),
+        Drops(CUT, Unspelled(Short)),
+        Drops(ODD, Unspelled(Shape { at: 54 })),
+        Drops(TWICE, Unspelled(Repeated { kind: 1 })),
+        Drops(OTHER_AGILITY, Unspelled(Agility)),
         Drops(OTHER_NAME, CkName),
         Drops(OTHER_END, Check),
         Drops(OTHER_SOURCE, Check),
-        Drops(B1, Echo),
-        Drops(OWN_MI, Echo),
-        Drops(OWN_SCI, Echo),
-        Drops(A1, OldNumber { kept: 2 }),
-        Drops(A2, OldNumber { kept: 2 }),
+        Drops(B1, Refused(Echo)),
+        Drops(OWN_MI, Refused(Echo)),
+        Drops(OWN_SCI, Refused(Echo)),
+        Drops(A1, Refused(OldNumber { kept: 2 })),
+        Drops(A2, Refused(OldNumber { kept: 2 })),
     ],
 };
 

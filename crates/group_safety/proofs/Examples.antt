@@ -10,10 +10,11 @@ use Rattle.lan_core.specs.declared.event.Event.TheVariants as events
 use Rattle.lan_core.specs.declared.fact.Fact.TheVariants as facts
 use Rattle.peer_lists.specs.Acceptance.{refusal, accepted, outcome}
 use Rattle.peer_lists.specs.Peers.{says, hopes, known as known_members}
+use Rattle.peer_lists.specs.declared.heard.PeerRefusal.TheVariants.{OldNumber}
 use Rattle.sak_exchange.specs.Held.{received, latest, old, transmitting}
 use Rattle.sak_exchange.specs.declared.change.Why.TheVariants.{NotListed}
 use Rattle.mka_station.specs.declared.verdict.Verdict.TheVariants.{Unvouched, Dropped}
-use Rattle.mka_station.specs.declared.verdict.DropReason.TheVariants.{OldNumber}
+use Rattle.mka_station.specs.declared.verdict.DropReason.TheVariants.{Refused}
 use Rattle.mka_station.specs.Lives.{peers_of, keys_of, elected}
 use Rattle.mka_station.specs.Views.{view}
 use Rattle.mka_station.specs.Hearing.{hear_turn}
@@ -174,7 +175,7 @@ a_restarted_member_takes_nothing = refl
 -- a hello of the earlier life that comes again late is old
 a_late_hello_of_the_earlier_life_is_old :
     reaction_facts 0 4 0 (hear_turn (l16 0).member b2 (l16 0).past).reaction ≡
-    facts.HeardMka 4 0 (Dropped (OldNumber 2)) ∷ []
+    facts.HeardMka 4 0 (Dropped (Refused (OldNumber 2))) ∷ []
 unfolding opens
 a_late_hello_of_the_earlier_life_is_old = refl
 

@@ -15,9 +15,10 @@ use Rattle.sak_exchange.specs.Held.{received, latest, old, transmitting}
 use Rattle.sak_exchange.specs.declared.change.Cause.TheVariants.{Flag}
 use Rattle.gcm_frames.specs.declared.tag.TagRefusal.TheVariants as refusals
 use Rattle.gcm_frames.specs.Tags.{tag_fields}
+use Rattle.mkpdu_codec.specs.declared.refusal.Refusal.TheVariants.{NotMka}
 use Rattle.mkpdu_codec.specs.Reading.{reading, parts_at}
 use Rattle.rx_slots.specs.declared.arrival.Arrival.TheVariants.{Malformed}
-use Rattle.mka_station.specs.declared.verdict.DropReason.TheVariants.{NotMka}
+use Rattle.mka_station.specs.declared.verdict.DropReason.TheVariants.{Unspelled}
 use Rattle.mka_station.specs.declared.verdict.Verdict.TheVariants.{Dropped, Vouched}
 use Rattle.mka_station.specs.Lives.{peers_of, keys_of, elected}
 use Rattle.mka_station.specs.Views.{view}
@@ -132,7 +133,7 @@ foreign =
     ∷ starts 0 65 10 ∷ []
 
 four_answers : facts_of (play foreign) ≡
-    facts.Life 0 (mi 1) ∷ facts.HeardMka 0 0 (Dropped NotMka)
+    facts.Life 0 (mi 1) ∷ facts.HeardMka 0 0 (Dropped (Unspelled NotMka))
     ∷ facts.Arrived 0 0 (Malformed refusals.Mode) ∷ facts.Arrived 0 0 (Malformed refusals.Short)
     ∷ facts.Arrived 0 0 (Malformed refusals.Version) ∷ []
 unfolding opens play

@@ -3,10 +3,11 @@ use Rattle.std.proofs.Common.{◌≡◌, ◌∙◌, ℕ, List, [], refl, ap, sym
 use Rattle.std.specs.Prelude.{Result, Err}
 use Rattle.aes_block.specs.Secrets.{secret_octets}
 use Rattle.mkpdu_codec.specs.declared.announcement.Announcement.{Announcement}
+use Rattle.mkpdu_codec.specs.declared.refusal.Refusal.TheVariants.{NotMka}
 use Rattle.mkpdu_codec.specs.Reading.{reading, parts_at}
 use Rattle.mka_kdf.specs.Kdf.{ick_of}
 use Rattle.mka_station.specs.declared.verdict.DropReason.{DropReason}
-use Rattle.mka_station.specs.declared.verdict.DropReason.TheVariants.{NotMka}
+use Rattle.mka_station.specs.declared.verdict.DropReason.TheVariants.{Unspelled}
 use Rattle.mka_station.specs.Lives.{Setup}
 use Rattle.mka_station.specs.Hearing.{judged}
 use Rattle.lan_core.specs.declared.settings.Settings.{Settings}
@@ -15,7 +16,7 @@ use Rattle.lan_core.specs.Lives.{setup_of}
 use Rattle.lan_core.specs.inside.Judge.{IsOf, IsJudged, Judge}
 
 -- no octets are no frame of key agreement
-pub nothing-judged : (settings : Settings) → IsJudged settings [] (Err NotMka)
+pub nothing-judged : (settings : Settings) → IsJudged settings [] (Err (Unspelled NotMka))
 unfolding judged reading parts_at
 nothing-judged settings setup of = refl
 

@@ -1,12 +1,16 @@
 -- Facts with their fields in their types: numbers in their ranges, octets of their lengths.
 use Rattle.std.specs.Prelude.{◌<◌, ◌^◌}
 use Rattle.lan_base.specs.declared.key_id.KeyId.{KeyId}
+use Rattle.mkpdu_codec.specs.declared.refusal.Refusal.{Refusal}
+use Rattle.mkpdu_codec.specs.declared.refusal.Refusal.TheVariants.{Shape, Repeated}
+use Rattle.peer_lists.specs.declared.heard.PeerRefusal.{PeerRefusal}
+use Rattle.peer_lists.specs.declared.heard.PeerRefusal.TheVariants.{OldNumber}
 use Rattle.sak_exchange.specs.declared.change.Why.{Why}
 use Rattle.sak_exchange.specs.declared.change.Why.TheVariants.{Seen}
 use Rattle.rx_slots.specs.declared.arrival.Arrival.{Arrival}
 use Rattle.rx_slots.specs.declared.arrival.Arrival.TheVariants.{Accepted, Late}
 use Rattle.mka_station.specs.declared.verdict.DropReason.{DropReason}
-use Rattle.mka_station.specs.declared.verdict.DropReason.TheVariants.{Shape, Repeated, OldNumber}
+use Rattle.mka_station.specs.declared.verdict.DropReason.TheVariants.{Unspelled, Refused}
 use Rattle.mka_station.specs.declared.verdict.Verdict.{Verdict}
 use Rattle.mka_station.specs.declared.verdict.Verdict.TheVariants as verdicts
 use Rattle.lan_core.specs.declared.fact.Fact.{Fact}
@@ -24,11 +28,21 @@ abbrev pub IsTypedWhy : Why → Type 0
 IsTypedWhy (Seen kept) = kept < 2 ^ 32
 IsTypedWhy _ = Unit {0}
 
+-- why a frame spells no announcement
+abbrev pub IsTypedRefusal : Refusal → Type 0
+IsTypedRefusal (Shape at) = at < 2 ^ 64
+IsTypedRefusal (Repeated kind) = kind < 2 ^ 8
+IsTypedRefusal _ = Unit {0}
+
+-- why the peer lists refuse an announcement
+abbrev pub IsTypedPeerRefusal : PeerRefusal → Type 0
+IsTypedPeerRefusal (OldNumber kept) = kept < 2 ^ 32
+IsTypedPeerRefusal _ = Unit {0}
+
 -- why a frame is dropped
 abbrev pub IsTypedReason : DropReason → Type 0
-IsTypedReason (Shape at) = at < 2 ^ 64
-IsTypedReason (Repeated kind) = kind < 2 ^ 8
-IsTypedReason (OldNumber kept) = kept < 2 ^ 32
+IsTypedReason (Unspelled refusal) = IsTypedRefusal refusal
+IsTypedReason (Refused refusal) = IsTypedPeerRefusal refusal
 IsTypedReason _ = Unit {0}
 
 -- what hearing a frame comes to

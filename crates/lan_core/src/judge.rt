@@ -8,7 +8,7 @@ use crate::settings::{Settings, group_of};
 use lan_base::{Octets, Suite};
 use mka_kdf::Group;
 use mka_station::{DropReason, judge};
-use mkpdu_codec::Announcement;
+use mkpdu_codec::{Announcement, Refusal};
 use std::alloc::{AllocError, Global};
 use std::marker::Model;
 
@@ -46,7 +46,7 @@ impl Judge {
             settings,
             group: None,
             octets: Octets::new(alloc),
-            judgement: Err(DropReason::NotMka),
+            judgement: Err(DropReason::Unspelled(Refusal::NotMka)),
         }
     }
 

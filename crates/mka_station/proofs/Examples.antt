@@ -8,6 +8,7 @@ use Rattle.lan_base.specs.declared.suite.Suite.TheVariants.{GcmAes128}
 use Rattle.aes_block.specs.declared.secret.Secret.{Secret}
 use Rattle.aes_block.specs.declared.secret.Secret.TheVariants.{S128}
 use Rattle.mkpdu_codec.specs.declared.announcement.Announcement.{Announcement}
+use Rattle.peer_lists.specs.declared.heard.PeerRefusal.TheVariants.{Echo, OldNumber}
 use Rattle.peer_lists.specs.Acceptance.{refusal, accepted, outcome}
 use Rattle.peer_lists.specs.Peers.{says, hopes, known}
 use Rattle.sak_exchange.specs.Held.{received, latest, old, transmitting}
@@ -15,7 +16,7 @@ use Rattle.sak_exchange.specs.declared.held_key.Key.{Key}
 use Rattle.sak_exchange.specs.declared.change.Change.TheVariants.{Installed}
 use Rattle.sak_exchange.specs.declared.due.Seen.{Seen}
 use Rattle.mka_station.specs.declared.verdict.Verdict.TheVariants.{Vouched, Unvouched, Dropped}
-use Rattle.mka_station.specs.declared.verdict.DropReason.TheVariants.{Echo, OldNumber}
+use Rattle.mka_station.specs.declared.verdict.DropReason.TheVariants.{Refused}
 use Rattle.mka_station.specs.Lives.{Setup, Member, Entry, ticked, sent, heard, installed, peers_of, keys_of, elected}
 use Rattle.mka_station.specs.Views.{view}
 use Rattle.mka_station.specs.Tick.{tick_turn}
@@ -155,11 +156,11 @@ unfolding opens
 early_flag_of_the_elected = refl
 
 -- a frame heard again is dropped, and so is one's own
-again : (hear_turn alice (said b3) a4).reaction.heard ≡ Some (Dropped (OldNumber 2))
+again : (hear_turn alice (said b3) a4).reaction.heard ≡ Some (Dropped (Refused (OldNumber 2)))
 unfolding opens
 again = refl
 
-own_words : (hear_turn alice (said a3) a4).reaction.heard ≡ Some (Dropped Echo)
+own_words : (hear_turn alice (said a3) a4).reaction.heard ≡ Some (Dropped (Refused Echo))
 unfolding opens
 own_words = refl
 

@@ -11,14 +11,11 @@ use Rattle.aes_cmac.specs.Cmac.{cmac}
 use Rattle.mkpdu_codec.specs.declared.announcement.Announcement.{Announcement}
 use Rattle.mkpdu_codec.specs.declared.spelled.Spelled.{Spelled}
 use Rattle.mkpdu_codec.specs.declared.refusal.Refusal.{Refusal}
-use Rattle.mkpdu_codec.specs.declared.refusal.Refusal.TheVariants as refusals
 use Rattle.mkpdu_codec.specs.Reading.{reading}
 use Rattle.peer_lists.specs.Histories.{Peering, recent}
 use Rattle.peer_lists.specs.Acceptance.{outcome}
 use Rattle.peer_lists.specs.declared.heard.Outcome.{Outcome}
 use Rattle.peer_lists.specs.declared.heard.Outcome.TheVariants as outcomes
-use Rattle.peer_lists.specs.declared.heard.PeerRefusal.{PeerRefusal}
-use Rattle.peer_lists.specs.declared.heard.PeerRefusal.TheVariants as peer_refusals
 use Rattle.sak_exchange.specs.declared.held_key.Key.{Key}
 use Rattle.sak_exchange.specs.Histories.{Keying}
 use Rattle.sak_exchange.specs.declared.change.Change.{Change}
@@ -46,17 +43,9 @@ of_group setup frame s =
     then Err reasons.Check
     else Ok s.announcement
 
--- why a frame is dropped that spells no announcement
-abbrev pub reason_of_refusal : Refusal → DropReason
-reason_of_refusal refusals.NotMka = reasons.NotMka
-reason_of_refusal refusals.Short = reasons.Short
-reason_of_refusal (refusals.Shape at) = reasons.Shape at
-reason_of_refusal (refusals.Repeated kind) = reasons.Repeated kind
-reason_of_refusal refusals.Agility = reasons.Agility
-
 abbrev pub read_as : Setup → List ℕ → Result Spelled Refusal → Result Announcement DropReason
 read_as setup frame (Ok s) = of_group setup frame s
-read_as setup frame (Err refusal) = Err (reason_of_refusal refusal)
+read_as setup frame (Err refusal) = Err (reasons.Unspelled refusal)
 
 -- the announcement of a frame of the group, or why the frame is dropped before anything is known of
 -- its member
@@ -69,16 +58,10 @@ right setup frame = elim (judged setup frame) [ Ok a ↦ Some a | Err reason ↦
 
 -- ---- what an announcement comes to
 
--- why an announcement is dropped that the peer lists refuse
-abbrev pub reason_of_peers : PeerRefusal → DropReason
-reason_of_peers peer_refusals.Echo = reasons.Echo
-reason_of_peers (peer_refusals.OldNumber kept) = reasons.OldNumber kept
-reason_of_peers peer_refusals.PeersFull = reasons.PeersFull
-
 abbrev pub verdict_of : Outcome → Verdict
 verdict_of outcomes.Vouched = verdicts.Vouched
 verdict_of outcomes.Unvouched = verdicts.Unvouched
-verdict_of (outcomes.Dropped refusal) = verdicts.Dropped (reason_of_peers refusal)
+verdict_of (outcomes.Dropped refusal) = verdicts.Dropped (reasons.Refused refusal)
 
 abbrev pub is_accepted : Outcome → Bool
 is_accepted outcomes.Vouched = true

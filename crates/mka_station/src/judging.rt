@@ -4,14 +4,14 @@ ghost use Rattle.std.specs.Prelude.{◌≡◌, ◌≤◌, Ok, IfOk, IfErr, lengt
 ghost use Rattle.mkpdu_codec.specs.Reading.{reading};
 ghost use Rattle.mka_station.specs.declared.verdict.DropReason.{DropReason};
 ghost use Rattle.mka_station.specs.Lives.{Setup};
-ghost use Rattle.mka_station.specs.Hearing.{judged, reason_of_refusal};
+ghost use Rattle.mka_station.specs.Hearing.{judged};
 ghost use Rattle.mka_station.specs.inside.Turns.{IsRefused, fault_of};
 
 use crate::verdict::DropReason;
 use aes_cmac::cmac;
 use mka_kdf::Group;
 use mkpdu_codec::{
-    Announcement, ReadError, Refusal, Spelled, law_reading_refuses, law_spelled_is_read, read,
+    Announcement, ReadError, Spelled, law_reading_refuses, law_spelled_is_read, read,
 };
 use std::alloc::{AllocError, Global};
 
@@ -70,20 +70,7 @@ fn read_frame(alloc: Global, frame: &[u8]) -> Result<Result<Spelled, DropReason>
     law_reading_refuses();
     match read(alloc, frame) {
         Ok(spelled) => Ok(Ok(spelled)),
-        Err(ReadError::Refused(refusal)) => Ok(Err(reason_of_refusal(refusal))),
+        Err(ReadError::Refused(refusal)) => Ok(Err(DropReason::Unspelled(refusal))),
         Err(ReadError::Memory) => Err(AllocError),
-    }
-}
-
-/// Why a frame is dropped that is not read.
-fn reason_of_refusal(refusal: Refusal) -> DropReason
-    ensures { result ≡ reason_of_refusal refusal }
-{
-    match refusal {
-        Refusal::NotMka => DropReason::NotMka,
-        Refusal::Short => DropReason::Short,
-        Refusal::Shape { at } => DropReason::Shape { at },
-        Refusal::Repeated { kind } => DropReason::Repeated { kind },
-        Refusal::Agility => DropReason::Agility,
     }
 }

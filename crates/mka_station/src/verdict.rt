@@ -1,5 +1,8 @@
 //! What hearing a frame comes to.
 
+use mkpdu_codec::Refusal;
+use peer_lists::PeerRefusal;
+
 /// What hearing a frame comes to.
 #[derive(Clone, Copy, Debug, PartialEq, Eq)]
 pub enum Verdict {
@@ -15,25 +18,12 @@ pub enum Verdict {
 /// Why a heard frame is dropped: the first of these that holds.
 #[derive(Clone, Copy, Debug, PartialEq, Eq)]
 pub enum DropReason {
-    /// No frame of key agreement.
-    NotMka,
-    /// Its body is no body, or is longer than the frame.
-    Short,
-    /// The parameter set that starts at octet `at` of the frame is malformed.
-    Shape { at: usize },
-    /// A second parameter set of this type.
-    Repeated { kind: u8 },
-    /// Another set of algorithms than the standard's.
-    Agility,
+    /// It spells no announcement, for this reason.
+    Unspelled(Refusal),
     /// Another connectivity association key name than the group's.
     CkName,
     /// The check value is wrong.
     Check,
-    /// Its member identifier or its SCI is the station's own.
-    Echo,
-    /// The last accepted announcement of its member is younger than the life time and has the
-    /// number `kept`, which is not less than its own.
-    OldNumber { kept: u32 },
-    /// As many other members as are remembered are known, and its own is not.
-    PeersFull,
+    /// The peer lists refuse it, for this reason.
+    Refused(PeerRefusal),
 }

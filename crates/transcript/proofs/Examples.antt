@@ -6,6 +6,7 @@ use Rattle.std.specs.Fmt.{digits}
 use Rattle.hex.specs.Hex.{encode_with}
 use Rattle.lan_base.specs.declared.association_number.AssociationNumber.TheVariants.{An1}
 use Rattle.lan_base.specs.Name.{IsName}
+use Rattle.peer_lists.specs.declared.heard.PeerRefusal.TheVariants as PeerRefusal
 use Rattle.mka_station.specs.declared.verdict.DropReason.TheVariants as Reason
 use Rattle.mka_station.specs.declared.verdict.Verdict.TheVariants as Verdict
 use Rattle.rx_slots.specs.declared.arrival.Arrival.TheVariants as Arrival
@@ -24,7 +25,7 @@ abbrev ticked : Fact
 ticked = Ticked 0 9 4294967296
 
 abbrev heard : Fact
-heard = HeardMka 5 1 (Verdict.Dropped (Reason.OldNumber 4))
+heard = HeardMka 5 1 (Verdict.Dropped (Reason.Refused (PeerRefusal.OldNumber 4)))
 
 abbrev server : Fact
 server = Server 1 None

@@ -31,6 +31,8 @@ use Rattle.sak_exchange.specs.declared.due.Seen.{Seen}
 use Rattle.sak_exchange.specs.declared.held_key.Key.{Key}
 use Rattle.mka_station.specs.declared.reaction.Reaction.{Reaction}
 use Rattle.mka_station.specs.declared.verdict.DropReason.{DropReason}
+use Rattle.mkpdu_codec.specs.declared.refusal.Refusal.TheVariants as Refusal
+use Rattle.peer_lists.specs.declared.heard.PeerRefusal.TheVariants as PeerRefusal
 use Rattle.mka_station.specs.declared.verdict.DropReason.TheVariants as Reasons
 use Rattle.mka_station.specs.declared.verdict.Verdict.{Verdict}
 use Rattle.mka_station.specs.declared.verdict.Verdict.TheVariants as verdicts
@@ -108,16 +110,16 @@ why-fits names Whys.Wrap is = (refl, tt)
 
 reason-fits : (names : List (List ℕ)) (reason : DropReason) → IsTypedReason reason
     → AllFit names (reason_words reason)
-reason-fits names Reasons.NotMka is = (refl, tt)
-reason-fits names Reasons.Short is = (refl, tt)
-reason-fits names (Reasons.Shape at) is = (refl, (is, tt))
-reason-fits names (Reasons.Repeated kind) is = (refl, (is, tt))
-reason-fits names Reasons.Agility is = (refl, tt)
+reason-fits names (Reasons.Unspelled Refusal.NotMka) is = (refl, tt)
+reason-fits names (Reasons.Unspelled Refusal.Short) is = (refl, tt)
+reason-fits names (Reasons.Unspelled (Refusal.Shape at)) is = (refl, (is, tt))
+reason-fits names (Reasons.Unspelled (Refusal.Repeated kind)) is = (refl, (is, tt))
+reason-fits names (Reasons.Unspelled Refusal.Agility) is = (refl, tt)
 reason-fits names Reasons.CkName is = (refl, tt)
 reason-fits names Reasons.Check is = (refl, tt)
-reason-fits names Reasons.Echo is = (refl, tt)
-reason-fits names (Reasons.OldNumber kept) is = (refl, (is, tt))
-reason-fits names Reasons.PeersFull is = (refl, tt)
+reason-fits names (Reasons.Refused PeerRefusal.Echo) is = (refl, tt)
+reason-fits names (Reasons.Refused (PeerRefusal.OldNumber kept)) is = (refl, (is, tt))
+reason-fits names (Reasons.Refused PeerRefusal.PeersFull) is = (refl, tt)
 
 verdict-fits : (names : List (List ℕ)) (verdict : Verdict) → IsTypedVerdict verdict
     → AllFit names (verdict_words verdict)

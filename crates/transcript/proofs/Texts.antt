@@ -12,6 +12,8 @@ use Rattle.aes_block.specs.declared.secret.Secret.{Secret}
 use Rattle.aes_block.specs.declared.secret.Secret.TheVariants.{S128, S256}
 use Rattle.lan_base.specs.declared.address.Mi.{Mi}
 use Rattle.sak_exchange.specs.declared.change.Why.TheVariants as Why
+use Rattle.mkpdu_codec.specs.declared.refusal.Refusal.TheVariants as Refusal
+use Rattle.peer_lists.specs.declared.heard.PeerRefusal.TheVariants as PeerRefusal
 use Rattle.mka_station.specs.declared.verdict.DropReason.TheVariants as Reason
 use Rattle.mka_station.specs.declared.verdict.Verdict.TheVariants as Verdict
 use Rattle.rx_slots.specs.declared.arrival.Arrival.TheVariants as Arrival
@@ -93,16 +95,16 @@ fact_small names (Untaken s id (Why.Seen kept)) fit = (tt, (tt, (tt, (omega (ari
 fact_small names (Framed k s sec xs) fit = (tt, (omega (arith, fit.1.0), (tt, (tt, (tt, tt)))))
 fact_small names (HeardMka k s Verdict.Vouched) fit = (tt, (omega (arith, fit.1.0), (tt, (tt, tt))))
 fact_small names (HeardMka k s Verdict.Unvouched) fit = (tt, (omega (arith, fit.1.0), (tt, (tt, tt))))
-fact_small names (HeardMka k s (Verdict.Dropped Reason.NotMka)) fit = (tt, (omega (arith, fit.1.0), (tt, (tt, (tt, tt)))))
-fact_small names (HeardMka k s (Verdict.Dropped Reason.Short)) fit = (tt, (omega (arith, fit.1.0), (tt, (tt, (tt, tt)))))
-fact_small names (HeardMka k s (Verdict.Dropped Reason.Agility)) fit = (tt, (omega (arith, fit.1.0), (tt, (tt, (tt, tt)))))
+fact_small names (HeardMka k s (Verdict.Dropped (Reason.Unspelled Refusal.NotMka))) fit = (tt, (omega (arith, fit.1.0), (tt, (tt, (tt, tt)))))
+fact_small names (HeardMka k s (Verdict.Dropped (Reason.Unspelled Refusal.Short))) fit = (tt, (omega (arith, fit.1.0), (tt, (tt, (tt, tt)))))
+fact_small names (HeardMka k s (Verdict.Dropped (Reason.Unspelled Refusal.Agility))) fit = (tt, (omega (arith, fit.1.0), (tt, (tt, (tt, tt)))))
 fact_small names (HeardMka k s (Verdict.Dropped Reason.CkName)) fit = (tt, (omega (arith, fit.1.0), (tt, (tt, (tt, tt)))))
 fact_small names (HeardMka k s (Verdict.Dropped Reason.Check)) fit = (tt, (omega (arith, fit.1.0), (tt, (tt, (tt, tt)))))
-fact_small names (HeardMka k s (Verdict.Dropped Reason.Echo)) fit = (tt, (omega (arith, fit.1.0), (tt, (tt, (tt, tt)))))
-fact_small names (HeardMka k s (Verdict.Dropped Reason.PeersFull)) fit = (tt, (omega (arith, fit.1.0), (tt, (tt, (tt, tt)))))
-fact_small names (HeardMka k s (Verdict.Dropped (Reason.Shape at))) fit = (tt, (omega (arith, fit.1.0), (tt, (tt, (tt, (omega (arith, fit.1.1.1.1.1.0), tt))))))
-fact_small names (HeardMka k s (Verdict.Dropped (Reason.Repeated kind))) fit = (tt, (omega (arith, fit.1.0), (tt, (tt, (tt, (omega (arith, fit.1.1.1.1.1.0), tt))))))
-fact_small names (HeardMka k s (Verdict.Dropped (Reason.OldNumber kept))) fit = (tt, (omega (arith, fit.1.0), (tt, (tt, (tt, (omega (arith, fit.1.1.1.1.1.0), tt))))))
+fact_small names (HeardMka k s (Verdict.Dropped (Reason.Refused PeerRefusal.Echo))) fit = (tt, (omega (arith, fit.1.0), (tt, (tt, (tt, tt)))))
+fact_small names (HeardMka k s (Verdict.Dropped (Reason.Refused PeerRefusal.PeersFull))) fit = (tt, (omega (arith, fit.1.0), (tt, (tt, (tt, tt)))))
+fact_small names (HeardMka k s (Verdict.Dropped (Reason.Unspelled (Refusal.Shape at)))) fit = (tt, (omega (arith, fit.1.0), (tt, (tt, (tt, (omega (arith, fit.1.1.1.1.1.0), tt))))))
+fact_small names (HeardMka k s (Verdict.Dropped (Reason.Unspelled (Refusal.Repeated kind)))) fit = (tt, (omega (arith, fit.1.0), (tt, (tt, (tt, (omega (arith, fit.1.1.1.1.1.0), tt))))))
+fact_small names (HeardMka k s (Verdict.Dropped (Reason.Refused (PeerRefusal.OldNumber kept)))) fit = (tt, (omega (arith, fit.1.0), (tt, (tt, (tt, (omega (arith, fit.1.1.1.1.1.0), tt))))))
 fact_small names (Claimed s an epoch pn) fit = (tt, (tt, (tt, (omega (arith, fit.1.1.1.0), (tt, (omega (arith, fit.1.1.1.1.1.0), (tt, (omega (arith, fit.1.1.1.1.1.1.1.0), tt))))))))
 fact_small names (Unclaimed s Lack.NoKey) fit = (tt, (tt, (tt, tt)))
 fact_small names (Unclaimed s (Lack.Exhausted epoch)) fit = (tt, (tt, (tt, (omega (arith, fit.1.1.1.0), tt))))

@@ -16,6 +16,8 @@ use Rattle.lan_base.proofs.Public.{number_of-few, numbered-number_of}
 use Rattle.sak_exchange.specs.declared.change.Cause.TheVariants as Cause
 use Rattle.sak_exchange.specs.declared.change.Why.TheVariants as Why
 use Rattle.gcm_frames.specs.declared.tag.TagRefusal.TheVariants as Tag
+use Rattle.mkpdu_codec.specs.declared.refusal.Refusal.TheVariants as Refusal
+use Rattle.peer_lists.specs.declared.heard.PeerRefusal.TheVariants as PeerRefusal
 use Rattle.mka_station.specs.declared.verdict.DropReason.TheVariants as Reason
 use Rattle.mka_station.specs.declared.verdict.Verdict.TheVariants as Verdict
 use Rattle.rx_slots.specs.declared.arrival.Arrival.TheVariants as Arrival
@@ -130,16 +132,16 @@ fact_told names (Framed k s true xs) d fit = rw (number_said 32 k (omega (arith,
 fact_told names (Framed k s false xs) d fit = rw (number_said 32 k (omega (arith, fit.1.0)) fit.1.0, station_said names s d fit.1.1.0, octets_said xs fit.1.1.1.1.0) refl
 fact_told names (HeardMka k s Verdict.Vouched) d fit = rw (number_said 32 k (omega (arith, fit.1.0)) fit.1.0, station_said names s d fit.1.1.0) refl
 fact_told names (HeardMka k s Verdict.Unvouched) d fit = rw (number_said 32 k (omega (arith, fit.1.0)) fit.1.0, station_said names s d fit.1.1.0) refl
-fact_told names (HeardMka k s (Verdict.Dropped Reason.NotMka)) d fit = rw (number_said 32 k (omega (arith, fit.1.0)) fit.1.0, station_said names s d fit.1.1.0) refl
-fact_told names (HeardMka k s (Verdict.Dropped Reason.Short)) d fit = rw (number_said 32 k (omega (arith, fit.1.0)) fit.1.0, station_said names s d fit.1.1.0) refl
-fact_told names (HeardMka k s (Verdict.Dropped Reason.Agility)) d fit = rw (number_said 32 k (omega (arith, fit.1.0)) fit.1.0, station_said names s d fit.1.1.0) refl
+fact_told names (HeardMka k s (Verdict.Dropped (Reason.Unspelled Refusal.NotMka))) d fit = rw (number_said 32 k (omega (arith, fit.1.0)) fit.1.0, station_said names s d fit.1.1.0) refl
+fact_told names (HeardMka k s (Verdict.Dropped (Reason.Unspelled Refusal.Short))) d fit = rw (number_said 32 k (omega (arith, fit.1.0)) fit.1.0, station_said names s d fit.1.1.0) refl
+fact_told names (HeardMka k s (Verdict.Dropped (Reason.Unspelled Refusal.Agility))) d fit = rw (number_said 32 k (omega (arith, fit.1.0)) fit.1.0, station_said names s d fit.1.1.0) refl
 fact_told names (HeardMka k s (Verdict.Dropped Reason.CkName)) d fit = rw (number_said 32 k (omega (arith, fit.1.0)) fit.1.0, station_said names s d fit.1.1.0) refl
 fact_told names (HeardMka k s (Verdict.Dropped Reason.Check)) d fit = rw (number_said 32 k (omega (arith, fit.1.0)) fit.1.0, station_said names s d fit.1.1.0) refl
-fact_told names (HeardMka k s (Verdict.Dropped Reason.Echo)) d fit = rw (number_said 32 k (omega (arith, fit.1.0)) fit.1.0, station_said names s d fit.1.1.0) refl
-fact_told names (HeardMka k s (Verdict.Dropped Reason.PeersFull)) d fit = rw (number_said 32 k (omega (arith, fit.1.0)) fit.1.0, station_said names s d fit.1.1.0) refl
-fact_told names (HeardMka k s (Verdict.Dropped (Reason.Shape at))) d fit = rw (number_said 32 k (omega (arith, fit.1.0)) fit.1.0, station_said names s d fit.1.1.0, number_said 64 at (omega (arith, fit.1.1.1.1.1.0)) fit.1.1.1.1.1.0) refl
-fact_told names (HeardMka k s (Verdict.Dropped (Reason.Repeated kind))) d fit = rw (number_said 32 k (omega (arith, fit.1.0)) fit.1.0, station_said names s d fit.1.1.0, number_said 8 kind (omega (arith, fit.1.1.1.1.1.0)) fit.1.1.1.1.1.0) refl
-fact_told names (HeardMka k s (Verdict.Dropped (Reason.OldNumber kept))) d fit = rw (number_said 32 k (omega (arith, fit.1.0)) fit.1.0, station_said names s d fit.1.1.0, number_said 32 kept (omega (arith, fit.1.1.1.1.1.0)) fit.1.1.1.1.1.0) refl
+fact_told names (HeardMka k s (Verdict.Dropped (Reason.Refused PeerRefusal.Echo))) d fit = rw (number_said 32 k (omega (arith, fit.1.0)) fit.1.0, station_said names s d fit.1.1.0) refl
+fact_told names (HeardMka k s (Verdict.Dropped (Reason.Refused PeerRefusal.PeersFull))) d fit = rw (number_said 32 k (omega (arith, fit.1.0)) fit.1.0, station_said names s d fit.1.1.0) refl
+fact_told names (HeardMka k s (Verdict.Dropped (Reason.Unspelled (Refusal.Shape at)))) d fit = rw (number_said 32 k (omega (arith, fit.1.0)) fit.1.0, station_said names s d fit.1.1.0, number_said 64 at (omega (arith, fit.1.1.1.1.1.0)) fit.1.1.1.1.1.0) refl
+fact_told names (HeardMka k s (Verdict.Dropped (Reason.Unspelled (Refusal.Repeated kind)))) d fit = rw (number_said 32 k (omega (arith, fit.1.0)) fit.1.0, station_said names s d fit.1.1.0, number_said 8 kind (omega (arith, fit.1.1.1.1.1.0)) fit.1.1.1.1.1.0) refl
+fact_told names (HeardMka k s (Verdict.Dropped (Reason.Refused (PeerRefusal.OldNumber kept)))) d fit = rw (number_said 32 k (omega (arith, fit.1.0)) fit.1.0, station_said names s d fit.1.1.0, number_said 32 kept (omega (arith, fit.1.1.1.1.1.0)) fit.1.1.1.1.1.0) refl
 fact_told names (Claimed s an epoch pn) d fit = rw (station_said names s d fit.1.0, an_said an, number_said 32 epoch (omega (arith, fit.1.1.1.1.1.0)) fit.1.1.1.1.1.0, number_said 32 pn (omega (arith, fit.1.1.1.1.1.1.1.0)) fit.1.1.1.1.1.1.1.0) refl
 fact_told names (Unclaimed s Lack.NoKey) d fit = rw (station_said names s d fit.1.0) refl
 fact_told names (Unclaimed s (Lack.Exhausted epoch)) d fit = rw (station_said names s d fit.1.0, number_said 32 epoch (omega (arith, fit.1.1.1.0)) fit.1.1.1.0) refl

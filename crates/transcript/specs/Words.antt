@@ -9,6 +9,8 @@ use Rattle.lan_base.specs.declared.address.Mi.{Mi}
 use Rattle.lan_base.specs.declared.association_number.AssociationNumber.{AssociationNumber}
 use Rattle.lan_base.specs.declared.key_id.KeyId.{KeyId}
 use Rattle.lan_base.specs.AssociationNumbers.{number_of}
+use Rattle.mkpdu_codec.specs.declared.refusal.Refusal.TheVariants.{NotMka, Short, Shape, Repeated, Agility}
+use Rattle.peer_lists.specs.declared.heard.PeerRefusal.TheVariants.{Echo, OldNumber, PeersFull}
 use Rattle.sak_exchange.specs.declared.change.Cause.{Cause}
 use Rattle.sak_exchange.specs.declared.change.Cause.TheVariants.{All, Timeout, Flag}
 use Rattle.sak_exchange.specs.declared.change.Why.{Why}
@@ -18,7 +20,7 @@ use Rattle.gcm_frames.specs.declared.tag.TagRefusal.TheVariants as Tag
 use Rattle.mka_station.specs.declared.verdict.Verdict.{Verdict}
 use Rattle.mka_station.specs.declared.verdict.Verdict.TheVariants as verdicts
 use Rattle.mka_station.specs.declared.verdict.DropReason.{DropReason}
-use Rattle.mka_station.specs.declared.verdict.DropReason.TheVariants.{NotMka, Short, Shape, Repeated, Agility, CkName, Check, Echo, OldNumber, PeersFull}
+use Rattle.mka_station.specs.declared.verdict.DropReason.TheVariants.{Unspelled, CkName, Check, Refused}
 use Rattle.rx_slots.specs.declared.arrival.Arrival.{Arrival}
 use Rattle.rx_slots.specs.declared.arrival.Arrival.TheVariants.{Accepted, Malformed, Own, Missed, BadCheck, Late}
 use Rattle.lan_core.specs.declared.fact.Fact.{Fact}
@@ -92,16 +94,16 @@ frame_text false = codes "mka"
 
 -- why a frame is dropped
 abbrev pub reason_words : DropReason → List Word
-reason_words NotMka = text (codes "notmka") ∷ []
-reason_words Short = text (codes "short") ∷ []
-reason_words (Shape at) = text (codes "shape") ∷ number 64 at ∷ []
-reason_words (Repeated kind) = text (codes "repeated") ∷ number 8 kind ∷ []
-reason_words Agility = text (codes "agility") ∷ []
+reason_words (Unspelled NotMka) = text (codes "notmka") ∷ []
+reason_words (Unspelled Short) = text (codes "short") ∷ []
+reason_words (Unspelled (Shape at)) = text (codes "shape") ∷ number 64 at ∷ []
+reason_words (Unspelled (Repeated kind)) = text (codes "repeated") ∷ number 8 kind ∷ []
+reason_words (Unspelled Agility) = text (codes "agility") ∷ []
 reason_words CkName = text (codes "ckname") ∷ []
 reason_words Check = text (codes "check") ∷ []
-reason_words Echo = text (codes "echo") ∷ []
-reason_words (OldNumber kept) = text (codes "oldnumber") ∷ number 32 kept ∷ []
-reason_words PeersFull = text (codes "peersfull") ∷ []
+reason_words (Refused Echo) = text (codes "echo") ∷ []
+reason_words (Refused (OldNumber kept)) = text (codes "oldnumber") ∷ number 32 kept ∷ []
+reason_words (Refused PeersFull) = text (codes "peersfull") ∷ []
 
 -- what hearing a frame comes to
 abbrev pub verdict_words : Verdict → List Word

@@ -19,6 +19,8 @@ use crate::words::{
 use lan_base::Name;
 use lan_core::{Fact, Lack};
 use mka_station::{DropReason, Verdict};
+use mkpdu_codec::Refusal;
+use peer_lists::PeerRefusal;
 use rx_slots::Arrival;
 use sak_exchange::Why;
 use std::alloc::Global;
@@ -306,7 +308,7 @@ fn shape(rest: &[u8]) -> Option<DropReason>
 {
     let (at, rest) = number_64(rest)?;
     no_word(rest)?;
-    Some(DropReason::Shape { at: at as usize })
+    Some(DropReason::Unspelled(Refusal::Shape { at: at as usize }))
 }
 
 /// The type of a second parameter set.
@@ -316,7 +318,7 @@ fn repeated(rest: &[u8]) -> Option<DropReason>
 {
     let (kind, rest) = number_8(rest)?;
     no_word(rest)?;
-    Some(DropReason::Repeated { kind })
+    Some(DropReason::Unspelled(Refusal::Repeated { kind }))
 }
 
 /// A message number that is not greater than the one that was kept.
@@ -326,7 +328,7 @@ fn old_number(rest: &[u8]) -> Option<DropReason>
 {
     let (kept, rest) = number_32(rest)?;
     no_word(rest)?;
-    Some(DropReason::OldNumber { kept })
+    Some(DropReason::Refused(PeerRefusal::OldNumber { kept }))
 }
 
 /// Whether an accepted frame vouches for the station.
@@ -347,13 +349,13 @@ fn reason_of(word: &[u8]) -> Option<DropReason>
     ensures { result ≡ said_by reasons word.now }
 {
     if word == b"notmka".as_slice() {
-        return Some(DropReason::NotMka);
+        return Some(DropReason::Unspelled(Refusal::NotMka));
     }
     if word == b"short".as_slice() {
-        return Some(DropReason::Short);
+        return Some(DropReason::Unspelled(Refusal::Short));
     }
     if word == b"agility".as_slice() {
-        return Some(DropReason::Agility);
+        return Some(DropReason::Unspelled(Refusal::Agility));
     }
     if word == b"ckname".as_slice() {
         return Some(DropReason::CkName);
@@ -362,10 +364,10 @@ fn reason_of(word: &[u8]) -> Option<DropReason>
         return Some(DropReason::Check);
     }
     if word == b"echo".as_slice() {
-        return Some(DropReason::Echo);
+        return Some(DropReason::Refused(PeerRefusal::Echo));
     }
     if word == b"peersfull".as_slice() {
-        return Some(DropReason::PeersFull);
+        return Some(DropReason::Refused(PeerRefusal::PeersFull));
     }
     None
 }

@@ -15,6 +15,8 @@ use gcm_frames::TagRefusal;
 use lan_base::{AssociationNumber, KeyId, Mi, Name, Octets};
 use lan_core::{Fact, Lack};
 use mka_station::{DropReason, Verdict};
+use mkpdu_codec::Refusal;
+use peer_lists::PeerRefusal;
 use rx_slots::Arrival;
 use sak_exchange::{Cause, Why};
 use std::alloc::AllocError;
@@ -312,16 +314,22 @@ fn reason_told(reason: DropReason) -> Told
     ensures { (names : List (List ℕ)) → map (spelled names) (reason_words reason) ≡ told result }
 {
     match reason {
-        DropReason::NotMka => Told::Word(b"notmka"),
-        DropReason::Short => Told::Word(b"short"),
-        DropReason::Shape { at } => Told::WordAndNumber(b"shape", at as u64),
-        DropReason::Repeated { kind } => Told::WordAndNumber(b"repeated", u64::from(kind)),
-        DropReason::Agility => Told::Word(b"agility"),
+        DropReason::Unspelled(Refusal::NotMka) => Told::Word(b"notmka"),
+        DropReason::Unspelled(Refusal::Short) => Told::Word(b"short"),
+        DropReason::Unspelled(Refusal::Shape { at }) => Told::WordAndNumber(b"shape", at as u64),
+        DropReason::Unspelled(Refusal::Repeated { kind }) => Told::WordAndNumber(
+            b"repeated",
+            u64::from(kind),
+        ),
+        DropReason::Unspelled(Refusal::Agility) => Told::Word(b"agility"),
         DropReason::CkName => Told::Word(b"ckname"),
         DropReason::Check => Told::Word(b"check"),
-        DropReason::Echo => Told::Word(b"echo"),
-        DropReason::OldNumber { kept } => Told::WordAndNumber(b"oldnumber", u64::from(kept)),
-        DropReason::PeersFull => Told::Word(b"peersfull"),
+        DropReason::Refused(PeerRefusal::Echo) => Told::Word(b"echo"),
+        DropReason::Refused(PeerRefusal::OldNumber { kept }) => Told::WordAndNumber(
+            b"oldnumber",
+            u64::from(kept),
+        ),
+        DropReason::Refused(PeerRefusal::PeersFull) => Told::Word(b"peersfull"),
     }
 }
 

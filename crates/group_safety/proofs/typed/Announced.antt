@@ -31,6 +31,7 @@ use Rattle.mkpdu_codec.specs.Refusals.{refused, refused_sets, or_else, is_mka, i
 use Rattle.mkpdu_codec.specs.Sets.{header, set, missing, bit, basic_body, agility, peer, peers_body, use_body, uses_body, use_flags, uses_flags, given_flags, given_body, gcm_aes_256, check_length, distributed_sak, sak_use}
 use Rattle.mkpdu_codec.specs.Written.{written, sets, frame_header, group_address, basic_set, peers_set, uses_set, given_set, most_listed}
 use Rattle.sak_exchange.specs.Taking.{number_of}
+use Rattle.lan_core.specs.TypedFacts.{IsTypedRefusal}
 use Rattle.lan_core.specs.Types.{AreOctets, IsMi}
 use Rattle.group_safety.proofs.typed.OctetsMade.{left, right, anywhere, number-2}
 
@@ -86,17 +87,9 @@ spelled-typed frame a covered check all spells =
 
 -- ---- what is refused
 
--- a place in a frame, and a type of a set
-abbrev pub IsRefusal : Refusal → Type 0
-IsRefusal (Shape at) = at < 2 ^ 64
-IsRefusal (Repeated kind) = kind < 2 ^ 8
-IsRefusal NotMka = Unit {0}
-IsRefusal Short = Unit {0}
-IsRefusal Agility = Unit {0}
-
 IfRefused : Option Refusal → Type 0
 IfRefused None = Unit {0}
-IfRefused (Some e) = IsRefusal e
+IfRefused (Some e) = IsTypedRefusal e
 
 sets-refused : (n end : ℕ) (met octets : List ℕ) → end < 2 ^ 64 → AreOctets octets
     → IfRefused (refused_sets n end met octets)
@@ -154,7 +147,7 @@ frame-refused frame all =
         (last (is_known (drop 28 (sets_of frame))))
 
 pub refusal-typed : (frame : List ℕ) (e : Refusal) → AreOctets frame → refused frame ≡ Some e
-    → IsRefusal e
+    → IsTypedRefusal e
 unfolding IfRefused
 refusal-typed frame e all is = subst IfRefused is (frame-refused frame all)
 

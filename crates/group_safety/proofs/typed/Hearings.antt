@@ -12,7 +12,6 @@ use Rattle.lan_base.specs.Identifiers.{same_mi, same_sci}
 use Rattle.mkpdu_codec.specs.declared.announcement.Announcement.{Announcement}
 use Rattle.mkpdu_codec.specs.declared.given.Given.{Given}
 use Rattle.mkpdu_codec.specs.declared.refusal.Refusal.{Refusal}
-use Rattle.mkpdu_codec.specs.declared.refusal.Refusal.TheVariants as refusals
 use Rattle.mkpdu_codec.specs.declared.spelled.Spelled.{Spelled}
 use Rattle.mkpdu_codec.specs.Reading.{reading}
 use Rattle.mkpdu_codec.specs.Refusals.{refused}
@@ -38,14 +37,14 @@ use Rattle.sak_exchange.specs.Unwrapping.{given_sak}
 use Rattle.mka_station.specs.declared.verdict.DropReason.{DropReason}
 use Rattle.mka_station.specs.declared.verdict.DropReason.TheVariants as reasons
 use Rattle.mka_station.specs.declared.verdict.Verdict.TheVariants as verdicts
-use Rattle.mka_station.specs.Hearing.{judged, read_as, of_group, reason_of_refusal, hear_turn, heard_turn, frame_turn, verdict_of, outcome_of, offered, taken_of, take_changes, key_taken, is_accepted, is_listed, offer_at, answer_at, taken_past, follow_at}
+use Rattle.mka_station.specs.Hearing.{judged, read_as, of_group, hear_turn, heard_turn, frame_turn, verdict_of, outcome_of, offered, taken_of, take_changes, key_taken, is_accepted, is_listed, offer_at, answer_at, taken_past, follow_at}
 use Rattle.mka_station.specs.Lives.{Setup, Member, Entry, own, told, peers_of, keys_of}
 use Rattle.mka_station.specs.Lives as lives
 use Rattle.mka_station.specs.Restart.{ending, lost_server}
 use Rattle.mka_station.specs.Tick.{with_install, with_beginning}
 use Rattle.mka_station.specs.Views.{View, view, is_server}
 use Rattle.lan_core.specs.Types.{AreOctets, IsMi, IfDrawn}
-use Rattle.lan_core.specs.TypedFacts.{IsTypedId, IsTypedWhy, IsTypedReason, IsTypedVerdict}
+use Rattle.lan_core.specs.TypedFacts.{IsTypedId, IsTypedWhy, IsTypedReason, IsTypedPeerRefusal, IsTypedVerdict}
 use Rattle.group_safety.proofs.Members.{In, in-from_map, in-unfiltered}
 use Rattle.group_safety.proofs.once.Currents.{some-same, none-some}
 use Rattle.group_safety.proofs.once.Histories.{heard_of, view-keys}
@@ -53,7 +52,7 @@ use Rattle.group_safety.proofs.once.LiveHeard.{accepted-heard}
 use Rattle.group_safety.proofs.once.Rules.{taking-is}
 use Rattle.group_safety.proofs.once.Ciphers.{unwrapped-secret}
 use Rattle.group_safety.proofs.rollover.Begins.{following-is}
-use Rattle.group_safety.proofs.typed.Announced.{IsHeard, IsRefusal, spelled-typed, refusal-typed}
+use Rattle.group_safety.proofs.typed.Announced.{IsHeard, spelled-typed, refusal-typed}
 use Rattle.group_safety.proofs.typed.Turns.{IsTypedKey, AreTyped, Each, joined, drops-typed, begun-typed, installing-typed, IsTypedReaction, IsTypedMember, AllHeard, AreFew, IsTypedTurn, server-typed, told-server, received-typed}
 
 -- ---- what a frame is judged
@@ -61,13 +60,6 @@ use Rattle.group_safety.proofs.typed.Turns.{IsTypedKey, AreTyped, Each, joined, 
 -- reading refuses exactly what is refused
 abbrev pub Refuses : Type 0
 Refuses = (frame : List ℕ) (e : Refusal) → (refused frame ≡ Some e) ↔ (reading frame ≡ Err e)
-
-refused-reason : (e : Refusal) → IsRefusal e → IsTypedReason (reason_of_refusal e)
-refused-reason refusals.NotMka is = tt
-refused-reason refusals.Short is = tt
-refused-reason (refusals.Shape at) is = is
-refused-reason (refusals.Repeated kind) is = is
-refused-reason refusals.Agility is = tt
 
 abbrev IsJudged : Result Announcement DropReason → Type 0
 IsJudged (Ok a) = IsHeard a
@@ -93,7 +85,7 @@ judged-typed refuses setup frame all = go (reading frame) refl
     go : (r : Result Spelled Refusal) → reading frame ≡ r → IsJudged (read_as setup frame r)
     go (Ok s) e = group-judged setup frame s
         (spelled-typed frame s.announcement s.covered s.check all (read_is_spelled frame s (IsBytes-all frame all) e))
-    go (Err x) e = refused-reason x (refusal-typed frame x all ((refuses frame x).1 e))
+    go (Err x) e = refusal-typed frame x all ((refuses frame x).1 e)
 
 -- ---- an outcome
 
@@ -115,15 +107,11 @@ IsOutcome o = IsTypedVerdict (verdict_of o)
 
 abbrev IfPeers : Option PeerRefusal → Type 0
 IfPeers None = Unit {0}
-IfPeers (Some Echo) = Unit {0}
-IfPeers (Some (OldNumber kept)) = kept < 2 ^ 32
-IfPeers (Some PeersFull) = Unit {0}
+IfPeers (Some refusal) = IsTypedPeerRefusal refusal
 
 or-peers : (a b : Option PeerRefusal) → IfPeers a → IfPeers b → IfPeers (option_or a b)
 or-peers None b is too = too
-or-peers (Some Echo) b is too = tt
-or-peers (Some (OldNumber kept)) b is too = is
-or-peers (Some PeersFull) b is too = tt
+or-peers (Some refusal) b is too = is
 
 old-typed : (now : ℕ) (past : List Accepted) (x : Heard)
     → ((w : Accepted) → In w past → w.told.mn < 2 ^ 32) → IfPeers (old_number now past x)
@@ -176,9 +164,7 @@ outcome-typed o h x all =
           | Some reason ↦ outcomes.Dropped reason
         ])
     ends None is = vouched (vouches h x)
-    ends (Some Echo) is = tt
-    ends (Some (OldNumber kept)) is = is
-    ends (Some PeersFull) is = tt
+    ends (Some refusal) is = is
 
 -- ---- a key that is taken, or why not
 

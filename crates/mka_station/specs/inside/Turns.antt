@@ -4,7 +4,7 @@ use Rattle.aes_cmac.specs.Cmac.{cmac}
 use Rattle.mkpdu_codec.specs.declared.refusal.Refusal.{Refusal}
 use Rattle.mkpdu_codec.specs.Reading.{reading}
 use Rattle.mka_station.specs.declared.verdict.DropReason.{DropReason}
-use Rattle.mka_station.specs.declared.verdict.DropReason.TheVariants.{CkName, Check}
+use Rattle.mka_station.specs.declared.verdict.DropReason.TheVariants.{Unspelled, CkName, Check}
 use Rattle.std.specs.Prelude.{◌≡◌, nat_eq, not, Err, ℕ, Bool, true, false, if◌then◌else◌, ◌&&◌, List, ◌∷◌}
 use Rattle.std.specs.Prelude.{Option, Some, None, option_map, option_and_then, Result, IsTrue}
 use Rattle.std.specs.List.{list_any}
@@ -26,7 +26,7 @@ use Rattle.mka_station.specs.declared.saying.Lowest.{Lowest}
 use Rattle.mka_station.specs.declared.shown.Spoken.{Spoken}
 use Rattle.mka_station.specs.Views.{is_server}
 use Rattle.mka_station.specs.Announcing.{Shown, uses_of}
-use Rattle.mka_station.specs.Hearing.{is_accepted, is_vouched, reason_of_refusal}
+use Rattle.mka_station.specs.Hearing.{is_accepted, is_vouched}
 use Rattle.mka_station.specs.Standing.{State}
 use Rattle.mka_station.specs.inside.Due.{shown_by, is_due_after, one_later}
 use Rattle.mka_station.specs.inside.Found.{Found}
@@ -116,4 +116,4 @@ fault_of ckn ick a covered check =
 
 -- a frame is refused in reading, and this is why
 abbrev pub IsRefused : List ℕ → DropReason → Type 0
-IsRefused frame reason = (r : Refusal) × (reading frame ≡ Err r) × (reason ≡ reason_of_refusal r)
+IsRefused frame reason = (r : Refusal) × (reading frame ≡ Err r) × (reason ≡ Unspelled r)

@@ -11,7 +11,7 @@ ghost use Rattle.sak_exchange.specs.Standing.{StandsFor as KeysStandFor};
 ghost use Rattle.mka_station.specs.declared.verdict.DropReason.{DropReason};
 ghost use Rattle.mka_station.specs.Lives.{Member, Entry, heard, own, peers_of};
 ghost use Rattle.mka_station.specs.Views.{view};
-ghost use Rattle.mka_station.specs.Hearing.{judged, hear_turn, heard_turn, frame_turn, outcome_of, take_changes, key_taken, is_accepted, verdict_of, reason_of_peers};
+ghost use Rattle.mka_station.specs.Hearing.{judged, hear_turn, heard_turn, frame_turn, outcome_of, take_changes, key_taken, is_accepted, verdict_of};
 ghost use Rattle.mka_station.specs.Standing.{StandsFor, HasRoom};
 ghost use Rattle.mka_station.specs.inside.Reached.{IsHeard};
 ghost use Rattle.mka_station.specs.inside.Turns.{offered_by, answered, keys_with, followed_by};
@@ -27,7 +27,7 @@ use crate::verdict::{DropReason, Verdict};
 use aes_block::Key;
 use lan_base::Mi;
 use mkpdu_codec::Announcement;
-use peer_lists::{Outcome, PeerRefusal, PeerTable};
+use peer_lists::{Outcome, PeerTable};
 use sak_exchange::{Changes, KeyState, Offer};
 use std::alloc::{AllocError, Global};
 use std::mem::swap;
@@ -156,18 +156,7 @@ fn verdict_of(outcome: Outcome) -> Verdict
     match outcome {
         Outcome::Vouched => Verdict::Vouched,
         Outcome::Unvouched => Verdict::Unvouched,
-        Outcome::Dropped(refusal) => Verdict::Dropped(reason_of_peers(refusal)),
-    }
-}
-
-/// Why an announcement is dropped that the peer lists refuse.
-fn reason_of_peers(refusal: PeerRefusal) -> DropReason
-    ensures { result ≡ reason_of_peers refusal }
-{
-    match refusal {
-        PeerRefusal::Echo => DropReason::Echo,
-        PeerRefusal::OldNumber { kept } => DropReason::OldNumber { kept },
-        PeerRefusal::PeersFull => DropReason::PeersFull,
+        Outcome::Dropped(refusal) => Verdict::Dropped(DropReason::Refused(refusal)),
     }
 }
 

@@ -11,6 +11,8 @@ use Rattle.lan_base.specs.declared.address.Mi.{Mi}
 use Rattle.lan_base.specs.declared.association_number.AssociationNumber.{AssociationNumber}
 use Rattle.lan_base.specs.declared.key_id.KeyId.{KeyId}
 use Rattle.lan_base.specs.AssociationNumbers.{numbered}
+use Rattle.mkpdu_codec.specs.declared.refusal.Refusal.TheVariants.{NotMka, Short, Shape, Repeated, Agility}
+use Rattle.peer_lists.specs.declared.heard.PeerRefusal.TheVariants.{Echo, OldNumber, PeersFull}
 use Rattle.sak_exchange.specs.declared.change.Cause.{Cause}
 use Rattle.sak_exchange.specs.declared.change.Cause.TheVariants.{All, Timeout, Flag}
 use Rattle.sak_exchange.specs.declared.change.Why.{Why}
@@ -20,7 +22,7 @@ use Rattle.gcm_frames.specs.declared.tag.TagRefusal.TheVariants as Tag
 use Rattle.mka_station.specs.declared.verdict.Verdict.{Verdict}
 use Rattle.mka_station.specs.declared.verdict.Verdict.TheVariants as verdicts
 use Rattle.mka_station.specs.declared.verdict.DropReason.{DropReason}
-use Rattle.mka_station.specs.declared.verdict.DropReason.TheVariants.{NotMka, Short, Shape, Repeated, Agility, CkName, Check, Echo, OldNumber, PeersFull}
+use Rattle.mka_station.specs.declared.verdict.DropReason.TheVariants.{Unspelled, CkName, Check, Refused}
 use Rattle.rx_slots.specs.declared.arrival.Arrival.{Arrival}
 use Rattle.rx_slots.specs.declared.arrival.Arrival.TheVariants.{Accepted, Malformed, Own, Missed, BadCheck, Late}
 use Rattle.lan_core.specs.declared.fact.Fact.{Fact}
@@ -157,9 +159,9 @@ vouches =
 -- why a frame is dropped, where no number tells more
 abbrev pub reasons : List (List ℕ × DropReason)
 reasons =
-    (codes "notmka", NotMka) ∷ (codes "short", Short) ∷ (codes "agility", Agility)
-    ∷ (codes "ckname", CkName) ∷ (codes "check", Check) ∷ (codes "echo", Echo)
-    ∷ (codes "peersfull", PeersFull) ∷ []
+    (codes "notmka", Unspelled NotMka) ∷ (codes "short", Unspelled Short)
+    ∷ (codes "agility", Unspelled Agility) ∷ (codes "ckname", CkName) ∷ (codes "check", Check)
+    ∷ (codes "echo", Refused Echo) ∷ (codes "peersfull", Refused PeersFull) ∷ []
 
 -- the first of these words, and the others
 abbrev pub parted : List (List ℕ) → Option (List ℕ × List (List ℕ))
@@ -246,13 +248,13 @@ abbrev pub why_tree : (Why → Fact) → Tree
 why_tree f = text (codes "seen") (seen_tree f) (why (λ w. says (f w)))
 
 abbrev pub shape_tree : (DropReason → Fact) → Tree
-shape_tree f = number 64 (λ at. says (f (Shape at)))
+shape_tree f = number 64 (λ at. says (f (Unspelled (Shape at))))
 
 abbrev pub repeated_tree : (DropReason → Fact) → Tree
-repeated_tree f = number 8 (λ kind. says (f (Repeated kind)))
+repeated_tree f = number 8 (λ kind. says (f (Unspelled (Repeated kind))))
 
 abbrev pub old_number_tree : (DropReason → Fact) → Tree
-old_number_tree f = number 32 (λ kept. says (f (OldNumber kept)))
+old_number_tree f = number 32 (λ kept. says (f (Refused (OldNumber kept))))
 
 abbrev pub drop_tree : (DropReason → Fact) → Tree
 drop_tree f =
