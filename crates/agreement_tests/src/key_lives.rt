@@ -7,7 +7,7 @@ use Step::{Drops, Follows, Leads, Makes, Takes, Ticks};
 use Told::{Began, Dropped, Installed, Retired, Untaken};
 use aes_block::{Key, Secret};
 use lan_base::{AssociationNumber, Mi};
-use mkpdu_codec::{ConfidentialityOffset, Given, KeyUse, Uses};
+use mkpdu_codec::{ConfidentialityOffset, Given, KeyUse, Uses, WrappedKey};
 use sak_exchange::{Cause, Change, Changes, Due, KeyState, Offer, Report, Seen, Why};
 use std::alloc::Global;
 use std::process::Abort;
@@ -126,11 +126,11 @@ fn wrapped() -> [u8; 24] {
 /// An offer of that key by the first member.
 fn offer(gift: &Gift) -> Offer {
     Offer {
-        given: Given::Aes128 {
+        given: Given {
             an: gift.an,
             offset: gift.offset,
             number: gift.number,
-            wrapped: wrapped(),
+            key: WrappedKey::Aes128(wrapped()),
         },
         server: mi(1),
         listed: gift.listed,

@@ -9,7 +9,8 @@ use Rattle.aes_block.specs.declared.secret.Secret.TheVariants.{S128, S256}
 use Rattle.key_wrap.specs.Wrap.{wrapped}
 use Rattle.lan_base.specs.declared.address.Mi.{Mi}
 use Rattle.mkpdu_codec.specs.declared.given.Given.{Given}
-use Rattle.mkpdu_codec.specs.declared.given.Given.TheVariants.{Aes128, Aes256, Other}
+use Rattle.mkpdu_codec.specs.declared.wrapped_key.WrappedKey.{WrappedKey}
+use Rattle.mkpdu_codec.specs.declared.wrapped_key.WrappedKey.TheVariants.{Aes128, Aes256, Other}
 use Rattle.packet_verdicts.specs.declared.given.Gift.{Gift}
 use Rattle.packet_verdicts.specs.declared.given.NoSak.{NoSak}
 use Rattle.packet_verdicts.specs.declared.given.NoSak.TheVariants.{OtherSuite, WrongWrap}
@@ -25,39 +26,39 @@ abbrev pub IsOneKeyForOneWrap : Type 0
 IsOneKeyForOneWrap = (kek a b : List ℕ) (n : ℕ) → IsKey kek → 8 ≤ n → IsOctets n a → IsOctets n b
     → wrapped kek a ≡ wrapped kek b → a ≡ b
 
-saks-agree : IsOneKeyForOneWrap → (kek : List ℕ) (given : Given) (a b : Result Secret NoSak) → IsKey kek
-    → IsSak kek given a → IsSak kek given b → a ≡ b
-saks-agree law kek (Aes128 an offset number octets) (Ok (S128 x)) (Ok (S128 y)) key is other =
+saks-agree : IsOneKeyForOneWrap → (kek : List ℕ) (wrap : WrappedKey) (a b : Result Secret NoSak) → IsKey kek
+    → IsSak kek wrap a → IsSak kek wrap b → a ≡ b
+saks-agree law kek (Aes128 octets) (Ok (S128 x)) (Ok (S128 y)) key is other =
     ap (λ (k : List ℕ). Ok (S128 k)) (law kek x y 16 key (omega arith) is.0 other.0 (is.1 ∙ sym other.1))
-saks-agree law kek (Aes128 an offset number octets) (Ok (S128 x)) (Err WrongWrap) key is other =
+saks-agree law kek (Aes128 octets) (Ok (S128 x)) (Err WrongWrap) key is other =
     absurd (other x is.0 is.1)
-saks-agree law kek (Aes128 an offset number octets) (Err WrongWrap) (Ok (S128 y)) key is other =
+saks-agree law kek (Aes128 octets) (Err WrongWrap) (Ok (S128 y)) key is other =
     absurd (is y other.0 other.1)
-saks-agree law kek (Aes128 an offset number octets) (Err WrongWrap) (Err WrongWrap) key is other = refl
-saks-agree law kek (Aes256 an offset number octets) (Ok (S256 x)) (Ok (S256 y)) key is other =
+saks-agree law kek (Aes128 octets) (Err WrongWrap) (Err WrongWrap) key is other = refl
+saks-agree law kek (Aes256 octets) (Ok (S256 x)) (Ok (S256 y)) key is other =
     ap (λ (k : List ℕ). Ok (S256 k)) (law kek x y 32 key (omega arith) is.0 other.0 (is.1 ∙ sym other.1))
-saks-agree law kek (Aes256 an offset number octets) (Ok (S256 x)) (Err WrongWrap) key is other =
+saks-agree law kek (Aes256 octets) (Ok (S256 x)) (Err WrongWrap) key is other =
     absurd (other x is.0 is.1)
-saks-agree law kek (Aes256 an offset number octets) (Err WrongWrap) (Ok (S256 y)) key is other =
+saks-agree law kek (Aes256 octets) (Err WrongWrap) (Ok (S256 y)) key is other =
     absurd (is y other.0 other.1)
-saks-agree law kek (Aes256 an offset number octets) (Err WrongWrap) (Err WrongWrap) key is other = refl
-saks-agree law kek (Other an offset number) (Err OtherSuite) (Err OtherSuite) key is other = refl
-saks-agree law kek (Aes128 an offset number octets) (Ok (S256 x)) b key is other = absurd is
-saks-agree law kek (Aes128 an offset number octets) (Err OtherSuite) b key is other = absurd is
-saks-agree law kek (Aes128 an offset number octets) (Ok (S128 x)) (Ok (S256 y)) key is other = absurd other
-saks-agree law kek (Aes128 an offset number octets) (Ok (S128 x)) (Err OtherSuite) key is other = absurd other
-saks-agree law kek (Aes128 an offset number octets) (Err WrongWrap) (Ok (S256 y)) key is other = absurd other
-saks-agree law kek (Aes128 an offset number octets) (Err WrongWrap) (Err OtherSuite) key is other = absurd other
-saks-agree law kek (Aes256 an offset number octets) (Ok (S128 x)) b key is other = absurd is
-saks-agree law kek (Aes256 an offset number octets) (Err OtherSuite) b key is other = absurd is
-saks-agree law kek (Aes256 an offset number octets) (Ok (S256 x)) (Ok (S128 y)) key is other = absurd other
-saks-agree law kek (Aes256 an offset number octets) (Ok (S256 x)) (Err OtherSuite) key is other = absurd other
-saks-agree law kek (Aes256 an offset number octets) (Err WrongWrap) (Ok (S128 y)) key is other = absurd other
-saks-agree law kek (Aes256 an offset number octets) (Err WrongWrap) (Err OtherSuite) key is other = absurd other
-saks-agree law kek (Other an offset number) (Ok x) b key is other = absurd is
-saks-agree law kek (Other an offset number) (Err WrongWrap) b key is other = absurd is
-saks-agree law kek (Other an offset number) (Err OtherSuite) (Ok y) key is other = absurd other
-saks-agree law kek (Other an offset number) (Err OtherSuite) (Err WrongWrap) key is other = absurd other
+saks-agree law kek (Aes256 octets) (Err WrongWrap) (Err WrongWrap) key is other = refl
+saks-agree law kek Other (Err OtherSuite) (Err OtherSuite) key is other = refl
+saks-agree law kek (Aes128 octets) (Ok (S256 x)) b key is other = absurd is
+saks-agree law kek (Aes128 octets) (Err OtherSuite) b key is other = absurd is
+saks-agree law kek (Aes128 octets) (Ok (S128 x)) (Ok (S256 y)) key is other = absurd other
+saks-agree law kek (Aes128 octets) (Ok (S128 x)) (Err OtherSuite) key is other = absurd other
+saks-agree law kek (Aes128 octets) (Err WrongWrap) (Ok (S256 y)) key is other = absurd other
+saks-agree law kek (Aes128 octets) (Err WrongWrap) (Err OtherSuite) key is other = absurd other
+saks-agree law kek (Aes256 octets) (Ok (S128 x)) b key is other = absurd is
+saks-agree law kek (Aes256 octets) (Err OtherSuite) b key is other = absurd is
+saks-agree law kek (Aes256 octets) (Ok (S256 x)) (Ok (S128 y)) key is other = absurd other
+saks-agree law kek (Aes256 octets) (Ok (S256 x)) (Err OtherSuite) key is other = absurd other
+saks-agree law kek (Aes256 octets) (Err WrongWrap) (Ok (S128 y)) key is other = absurd other
+saks-agree law kek (Aes256 octets) (Err WrongWrap) (Err OtherSuite) key is other = absurd other
+saks-agree law kek Other (Ok x) b key is other = absurd is
+saks-agree law kek Other (Err WrongWrap) b key is other = absurd is
+saks-agree law kek Other (Err OtherSuite) (Ok y) key is other = absurd other
+saks-agree law kek Other (Err OtherSuite) (Err WrongWrap) key is other = absurd other
 
 gift-agrees : IsOneKeyForOneWrap → (kek : List ℕ) (mi : Mi) (given : Given) (a b : Gift) → IsKey kek
     → IsGift kek mi given a → IsGift kek mi given b → a ≡ b
@@ -65,7 +66,7 @@ gift-agrees law kek mi given a b key is other =
     let id = is.named ∙ sym other.named in
     let an = is.under ∙ sym other.under in
     let offset = is.protects ∙ sym other.protects in
-    let sak = saks-agree law kek given a.sak b.sak key is.hides other.hides in
+    let sak = saks-agree law kek given.key a.sak b.sak key is.hides other.hides in
     λ i. record { id = id i; an = an i; offset = offset i; sak = sak i }
 
 gives-agree : IsOneKeyForOneWrap → (kek : List ℕ) (mi : Mi) (given : Option Given) (a b : Option Gift) → IsKey kek

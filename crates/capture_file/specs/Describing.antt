@@ -10,7 +10,6 @@ use Rattle.gcm_frames.specs.declared.tag.TagRefusal.TheVariants as tags
 use Rattle.gcm_frames.specs.Tags.{is_sec, tag_fields}
 use Rattle.mkpdu_codec.specs.declared.announcement.Announcement.{Announcement}
 use Rattle.mkpdu_codec.specs.declared.given.Given.{Given}
-use Rattle.mkpdu_codec.specs.declared.given.Given.TheVariants.{Aes128, Aes256, Other}
 use Rattle.mkpdu_codec.specs.declared.key_use.Uses.{Uses}
 use Rattle.mkpdu_codec.specs.declared.refusal.Refusal.{Refusal}
 use Rattle.mkpdu_codec.specs.declared.refusal.Refusal.TheVariants.{NotMka, Short, Shape, Repeated, Agility}
@@ -53,9 +52,7 @@ use_words (Some u) =
 -- the key number and the association number of a key that is given
 abbrev pub given_words : Option Given → List (List ℕ)
 given_words None = codes "none" ∷ []
-given_words (Some (Aes128 an offset number wrapped)) = decimal number ∷ decimal (number_of an) ∷ []
-given_words (Some (Aes256 an offset number wrapped)) = decimal number ∷ decimal (number_of an) ∷ []
-given_words (Some (Other an offset number)) = decimal number ∷ decimal (number_of an) ∷ []
+given_words (Some g) = decimal g.number ∷ decimal (number_of g.an) ∷ []
 
 -- who announces, and how many peers are listed
 abbrev pub peer_words : Announcement → List (List ℕ)

@@ -190,11 +190,9 @@ fn put_given(given: Option<Given>, into: &mut Vec<u8>) -> Result<(), AllocError>
     let first = Word::Text(b"given");
     match given {
         None => put_words(into, &[first, Word::Text(b"none")]),
-        Some(
-            Given::Aes128 { an, number, .. }
-            | Given::Aes256 { an, number, .. }
-            | Given::Other { an, number, .. },
-        ) => put_words(into, &[first, Word::Number(u64::from(number)), an_word(an)]),
+        Some(Given { an, number, .. }) => {
+            put_words(into, &[first, Word::Number(u64::from(number)), an_word(an)])
+        }
     }
 }
 

@@ -177,14 +177,14 @@ gives-made m p key is unreported =
         (false-not (reports_key key.id w.0.told.uses) (unreported w.0 w.1))
 
 given-made : (m : Member) (p : List Entry) (key : Key) → IsMaking m p → IsUnreported m p key
-    → given m (view m (made_past m key p)) ≡ Some (given_as m.setup.kek key key.sak)
+    → given m (view m (made_past m key p)) ≡ Some (given_as m.setup.kek key)
 given-made m p key is unreported =
     let v = view m (made_past m key p) in
     let last : latest v.keys ≡ Some key =
     ap latest (keys-kept m (Some (tick_roster m p)) key (ticked ∷ p))
     ∙ latest-new (Some (tick_roster m p)) key (view m (ticked ∷ p)).keys in
-    ap (option_and_then (λ k. cond (gives m v k) (Some (given_as m.setup.kek k k.sak)) None)) last
-    ∙ ap (λ b. cond b (Some (given_as m.setup.kek key key.sak)) None)
+    ap (option_and_then (λ k. cond (gives m v k) (Some (given_as m.setup.kek k)) None)) last
+    ∙ ap (λ b. cond b (Some (given_as m.setup.kek key)) None)
     (gives-made m p key is unreported)
 
 -- ---- it is announced
@@ -266,7 +266,7 @@ pub record IsGivenBy (m : Member) (seen : Seen) (sak : Secret) (p : List Entry) 
     pub says : Announcement
     pub said : says_at m seen sak p ≡ Some says
     pub mi : says.mi ≡ m.mi
-    pub gift : says.given ≡ Some (given_as m.setup.kek key key.sak)
+    pub gift : says.given ≡ Some (given_as m.setup.kek key)
 
 pub made-said : (m : Member) (seen : Seen) (sak : Secret) (p : List Entry) (key : Key)
     → tick_key m seen sak p ≡ Some key → IsUnreported m p key → IsNewIn m p key

@@ -96,7 +96,7 @@ gift-there settings users s next f r l a t said =
         } in (
           Some gift,
           subst (λ w. GivesBy m.setup.kek a.mi w (Some gift)) (sym (e ∙ ap (λ w. Some w) by.same))
-              (gift-is m.setup.kek a.mi key key.sak kept.sak),
+              (gift-is m.setup.kek a.mi key kept.sak),
         )
 
 -- ---- a packet for each frame

@@ -20,7 +20,7 @@ use Rattle.sak_exchange.specs.declared.held_key.Key.{Key}
 use Rattle.sak_exchange.specs.Held.{latest}
 use Rattle.mka_station.specs.Lives.{Member, Entry, Setup, keys_of}
 use Rattle.mka_station.specs.Views.{view}
-use Rattle.mka_station.specs.Announcing.{announcement, given, given_as}
+use Rattle.mka_station.specs.Announcing.{announcement, given, given_as, wrapped_key}
 use Rattle.mka_station.specs.Tick.{ticked_past}
 use Rattle.lan_core.specs.declared.event.Event.TheVariants as events
 use Rattle.lan_core.specs.declared.fact.Fact.{Fact}
@@ -48,38 +48,37 @@ OneWrap = (kek a b : List ℕ) (n : ℕ) → IsCipherKey kek → 8 ≤ n → IsO
 
 -- ---- what a key that is given hides
 
-hidden-128 : OneWrap → (kek octets : List ℕ) (key : Key) (sak : Result Secret NoSak) → IsCipherKey kek
-    → IsOctets 16 octets → IsSak kek (given_as kek key (S128 octets)) sak → sak ≡ Ok (S128 octets)
-hidden-128 one kek octets key (Ok (S128 sak)) is_key is hides =
+hidden-128 : OneWrap → (kek octets : List ℕ) (sak : Result Secret NoSak) → IsCipherKey kek
+    → IsOctets 16 octets → IsSak kek (wrapped_key kek (S128 octets)) sak → sak ≡ Ok (S128 octets)
+hidden-128 one kek octets (Ok (S128 sak)) is_key is hides =
     ap (λ o. Ok (S128 o)) (one kek sak octets 16 is_key (omega arith) hides.0 is hides.1)
-hidden-128 one kek octets key (Ok (S256 sak)) is_key is hides = elim hides [ ]
-hidden-128 one kek octets key (Err WrongWrap) is_key is hides = absurd (hides octets is refl)
-hidden-128 one kek octets key (Err OtherSuite) is_key is hides = elim hides [ ]
+hidden-128 one kek octets (Ok (S256 sak)) is_key is hides = elim hides [ ]
+hidden-128 one kek octets (Err WrongWrap) is_key is hides = absurd (hides octets is refl)
+hidden-128 one kek octets (Err OtherSuite) is_key is hides = elim hides [ ]
 
-hidden-256 : OneWrap → (kek octets : List ℕ) (key : Key) (sak : Result Secret NoSak) → IsCipherKey kek
-    → IsOctets 32 octets → IsSak kek (given_as kek key (S256 octets)) sak → sak ≡ Ok (S256 octets)
-hidden-256 one kek octets key (Ok (S256 sak)) is_key is hides =
+hidden-256 : OneWrap → (kek octets : List ℕ) (sak : Result Secret NoSak) → IsCipherKey kek
+    → IsOctets 32 octets → IsSak kek (wrapped_key kek (S256 octets)) sak → sak ≡ Ok (S256 octets)
+hidden-256 one kek octets (Ok (S256 sak)) is_key is hides =
     ap (λ o. Ok (S256 o)) (one kek sak octets 32 is_key (omega arith) hides.0 is hides.1)
-hidden-256 one kek octets key (Ok (S128 sak)) is_key is hides = elim hides [ ]
-hidden-256 one kek octets key (Err WrongWrap) is_key is hides = absurd (hides octets is refl)
-hidden-256 one kek octets key (Err OtherSuite) is_key is hides = elim hides [ ]
+hidden-256 one kek octets (Ok (S128 sak)) is_key is hides = elim hides [ ]
+hidden-256 one kek octets (Err WrongWrap) is_key is hides = absurd (hides octets is refl)
+hidden-256 one kek octets (Err OtherSuite) is_key is hides = elim hides [ ]
+
+hidden-sak : OneWrap → (kek : List ℕ) (s : Secret) (sak : Result Secret NoSak) → IsCipherKey kek
+    → IsSecret s → IsSak kek (wrapped_key kek s) sak → sak ≡ Ok s
+hidden-sak one kek (S128 octets) sak is_key is hides =
+    hidden-128 one kek octets sak is_key (record { count = is.0; octets = is.1 }) hides
+hidden-sak one kek (S256 octets) sak is_key is hides =
+    hidden-256 one kek octets sak is_key (record { count = is.0; octets = is.1 }) hides
 
 -- a gift of a key that was installed
-gift-of : OneWrap → (kek : List ℕ) (mi : Mi) (s : ℕ) (key : Key) (sak : Secret) (gift : Gift)
-    → IsCipherKey kek → IsSecret sak → key.sak ≡ sak → mi ≡ key.id.server
-    → IsGift kek mi (given_as kek key sak) gift → IsGiftOf (install_by s key) gift
-gift-of one kek mi s key (S128 octets) gift is_key is same server g = record {
+gift-of : OneWrap → (kek : List ℕ) (mi : Mi) (s : ℕ) (key : Key) (gift : Gift)
+    → IsCipherKey kek → IsSecret key.sak → mi ≡ key.id.server
+    → IsGift kek mi (given_as kek key) gift → IsGiftOf (install_by s key) gift
+gift-of one kek mi s key gift is_key is server g = record {
   id = g.named ∙ (λ i. record { server = server i; number = key.id.number });
   an = g.under;
-  sak = hidden-128 one kek octets key gift.sak is_key (record { count = is.0; octets = is.1 }) g.hides
-      ∙ ap Ok (sym same);
-  opens = ap is_open g.protects ∙ opens-by key.conf;
-}
-gift-of one kek mi s key (S256 octets) gift is_key is same server g = record {
-  id = g.named ∙ (λ i. record { server = server i; number = key.id.number });
-  an = g.under;
-  sak = hidden-256 one kek octets key gift.sak is_key (record { count = is.0; octets = is.1 }) g.hides
-      ∙ ap Ok (sym same);
+  sak = hidden-sak one kek key.sak gift.sak is_key is g.hides;
   opens = ap is_open g.protects ∙ opens-by key.conf;
 }
 
@@ -202,7 +201,7 @@ gives-latest one settings users s next f r l a gift t said gives =
           key = key;
           last = by.last;
           there = there key by.last;
-          is = gift-of one m.setup.kek a.mi s key key.sak gift is_key kept.sak refl
+          is = gift-of one m.setup.kek a.mi s key gift is_key kept.sak
               (sym (ap (λ (w : Announcement). w.mi) now) ∙ sym own)
               (subst (λ w. IsGift m.setup.kek a.mi w gift) by.same is);
         }

@@ -16,14 +16,14 @@ use Rattle.mkpdu_codec.specs.Frames.{Spells}
 use Rattle.mkpdu_codec.specs.Written.{written}
 use Rattle.mkpdu_codec.proofs.Public.{read_again}
 use Rattle.packet_verdicts.specs.declared.given.Gift.{Gift}
-use Rattle.packet_verdicts.specs.Given.{Gives, GivesBy, IsGift}
+use Rattle.packet_verdicts.specs.Given.{Gives, GivesBy, IsGift, IsSak}
 use Rattle.sak_exchange.specs.declared.due.Seen.{Seen}
 use Rattle.sak_exchange.specs.declared.held_key.Key.{Key}
 use Rattle.sak_exchange.specs.Held.{transmitting}
 use Rattle.sak_exchange.specs.Reports.{reports}
 use Rattle.mka_station.specs.Lives.{Member, Entry, Setup, ticked}
 use Rattle.mka_station.specs.Views.{view}
-use Rattle.mka_station.specs.Announcing.{frame_of, given_as, offset}
+use Rattle.mka_station.specs.Announcing.{frame_of, given_as, offset, wrapped_key}
 use Rattle.mka_station.specs.Tick.{says_at}
 use Rattle.lan_core.specs.declared.event.Event.{Event}
 use Rattle.lan_core.specs.declared.event.Event.TheVariants as events
@@ -129,24 +129,22 @@ spells-said settings users s next f r l a t e =
 
 -- ---- a made key is given
 
-pub gift-is : (kek : List ℕ) (mi : Mi) (key : Key) (sak : Secret) → IsSecret sak
-    → IsGift kek mi (given_as kek key sak) (record {
+sak-is : (kek : List ℕ) (sak : Secret) → IsSecret sak → IsSak kek (wrapped_key kek sak) (Ok sak)
+sak-is kek (S128 octets) is = (record { count = is.0; octets = is.1 }, refl)
+sak-is kek (S256 octets) is = (record { count = is.0; octets = is.1 }, refl)
+
+pub gift-is : (kek : List ℕ) (mi : Mi) (key : Key) → IsSecret key.sak
+    → IsGift kek mi (given_as kek key) (record {
       id = record { server = mi; number = key.id.number };
       an = key.an;
       offset = offset key;
-      sak = Ok sak;
+      sak = Ok key.sak;
     })
-gift-is kek mi key (S128 octets) is = record {
+gift-is kek mi key is = record {
   named = refl;
   under = refl;
   protects = refl;
-  hides = (record { count = is.0; octets = is.1 }, refl);
-}
-gift-is kek mi key (S256 octets) is = record {
-  named = refl;
-  under = refl;
-  protects = refl;
-  hides = (record { count = is.0; octets = is.1 }, refl);
+  hides = sak-is kek key.sak is;
 }
 
 pub opens-by : (conf : Bool) → is_open (cond conf offsets.Octets0 offsets.None) ≡ true
@@ -196,7 +194,7 @@ gives-key settings users s next f r l key t e by = record {
   gift = gift;
   gives = subst (λ w. Gives w by.says (Some gift)) kek
       (subst (λ g. GivesBy l.member.setup.kek by.says.mi g (Some gift)) (sym by.gift)
-      (gift-is l.member.setup.kek by.says.mi key key.sak secret));
+      (gift-is l.member.setup.kek by.says.mi key secret));
   id = λ i. record { server = server i; number = key.id.number };
   an = refl;
   sak = refl;

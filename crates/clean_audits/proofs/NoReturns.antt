@@ -7,9 +7,7 @@ use Rattle.std.proofs.lemmas.Bool.{and_parts, le-ltb}
 use Rattle.lan_base.specs.Identifiers.{same_mi}
 use Rattle.lan_base.specs.declared.address.Mi.{Mi}
 use Rattle.lan_base.specs.declared.frame.UserFrame.{UserFrame}
-use Rattle.aes_block.specs.declared.secret.Secret.{Secret}
-use Rattle.aes_block.specs.declared.secret.Secret.TheVariants.{S128, S256}
-use Rattle.member_notes.specs.Facts.{by, gives_back, gives_key, is_any, is_new, member_of, member_told, number_given, number_of, numbers_given, Test, times}
+use Rattle.member_notes.specs.Facts.{by, gives_back, gives_key, is_any, is_new, member_of, member_told, number_given, numbers_given, Test, times}
 use Rattle.member_notes.specs.declared.facts.Member.{Member as Told}
 use Rattle.member_notes.specs.Mkpdus.{is_of}
 use Rattle.member_notes.specs.Spoken.{Spoken}
@@ -20,7 +18,7 @@ use Rattle.sak_exchange.specs.declared.held_key.Key.{Key}
 use Rattle.sak_exchange.specs.Beginning.{Beginning}
 use Rattle.sak_exchange.specs.Histories.{began, installed, Keying, last_key, last_roster, made_count, ticked}
 use Rattle.sak_exchange.specs.Lives.{IsNumbered}
-use Rattle.mka_station.specs.Announcing.{given, given_as}
+use Rattle.mka_station.specs.Announcing.{given}
 use Rattle.mka_station.specs.Lives.{Entry, keys_of, Member}
 use Rattle.mka_station.specs.Tick.{says_at, ticked_past, with_sent}
 use Rattle.mka_station.specs.Views.{view}
@@ -94,10 +92,6 @@ unfolding keys_of
 keys-sent m None q = refl
 keys-sent m (Some a) q = refl
 
-number-as : (kek : List ℕ) (key : Key) (sak : Secret) → number_of (given_as kek key sak) ≡ key.id.number
-number-as kek key (S128 octets) = refl
-number-as kek key (S256 octets) = refl
-
 -- a tick at which a station says something
 module _ (settings : Settings) (users : List UserFrame) (s next : ℕ) (f : List Fact) (r : Run) (l : Life)
     (a : Announcement) (t : IsTick settings users s next f r l) (said : said_by settings s next f r l ≡ Some a) where
@@ -118,12 +112,12 @@ module _ (settings : Settings) (users : List UserFrame) (s next : ℕ) (f : List
       (said-now l.member (tick_lowest l.member (seen_by settings s next r l) l.past) past (view l.member past) a said)
 
   -- the key that is given is the last one that the life made
-  number-now : (g : Given) → given l.member (view l.member past) ≡ Some g → number_of g ≡ keys_made now
+  number-now : (g : Given) → given l.member (view l.member past) ≡ Some g → g.number ≡ keys_made now
   number-now g e =
       let by = given-is l.member (view l.member past) g e in
       let sound = keys-sound settings users s next f r l t in
       let h = (view l.member past).keys in
-      ap number_of by.same ∙ number-as l.member.setup.kek by.key by.key.sak
+      ap (λ (x : Given). x.number) by.same
       ∙ last-number l.member.mi h by.key by.roster sound.numbered
       (latest-last l.member.base h by.key sound.keys by.last) by.made_here
       ∙ ap made_count (view-keys l.member past) ∙ sym made-now

@@ -23,7 +23,7 @@ use Rattle.sak_exchange.specs.Held.{received, ends, held}
 use Rattle.sak_exchange.specs.Histories.{Keying, installed, install_count}
 use Rattle.sak_exchange.specs.Making.{next_epoch, made_key}
 use Rattle.sak_exchange.specs.Outcomes.{beginning, installing}
-use Rattle.sak_exchange.specs.Taking.{taken, provided, provided_new, unwrapped_key, number_of, is_supported, offset_of, leaves_none, greatest_of}
+use Rattle.sak_exchange.specs.Taking.{taken, provided, provided_new, unwrapped_key, is_supported, leaves_none, greatest_of}
 use Rattle.sak_exchange.specs.Held.{allows}
 use Rattle.sak_exchange.specs.Unwrapping.{given_sak}
 use Rattle.mka_station.specs.declared.reaction.Reaction.{Reaction}
@@ -147,18 +147,18 @@ pub taken-epoch : (base : ℕ) (h : List Keying) (o : Offer) (sak : Option Secre
     → taken base h o sak ≡ Ok k → k.epoch ≡ next_epoch base h
 taken-epoch base h o sak k is =
     unwrapped-epoch (next_epoch base h) o sak k
-    (provided-is (leaves_none (offset_of o.given)) _ _ k
-    (provided-is (is_supported o.given) _ _ k
+    (provided-is (leaves_none o.given.offset) _ _ k
+    (provided-is (is_supported o.given.key) _ _ k
     (provided-is (allows h) _ _ k
-    (provided-new (greatest_of o.server h) (number_of o.given) _ k
+    (provided-new (greatest_of o.server h) o.given.number _ k
     (provided-is o.elected _ _ k (provided-is o.listed _ _ k is))))))
 
 by_taking : (m : Member) (v : View) (offer : Option Offer)
     → AreNext (m.base + install_count v.keys) (take_changes v.keys offer (taken_of m v offer))
 by_taking m v None = tt
-by_taking m v (Some o) = go (taken m.base v.keys o (given_sak m.setup.kek o.given)) refl
+by_taking m v (Some o) = go (taken m.base v.keys o (given_sak m.setup.kek o.given.key)) refl
   where
-    go : (answer : Result Key Why) → taken m.base v.keys o (given_sak m.setup.kek o.given) ≡ answer
+    go : (answer : Result Key Why) → taken m.base v.keys o (given_sak m.setup.kek o.given.key) ≡ answer
         → AreNext (m.base + install_count v.keys) (take_changes v.keys (Some o) (Some answer))
     go (Ok k) is = by_installing _ v.keys None k (taken-epoch m.base v.keys o _ k is)
     go (Err why) is = tt

@@ -257,7 +257,7 @@ tick-clock m seen sak p =
 
 take-count : (m : Member) (v : View) (h : List Keying) (offer : Option Offer) → count_installed (take_changes h offer (taken_of m v offer)) ≡ one (key_taken (taken_of m v offer))
 take-count m v h None = refl
-take-count m v h (Some o) = go (taken m.base v.keys o (given_sak m.setup.kek o.given))
+take-count m v h (Some o) = go (taken m.base v.keys o (given_sak m.setup.kek o.given.key))
   where
     go : (answer : Result Key Why) → count_installed (take_changes h (Some o) (Some answer)) ≡ one (key_taken (Some answer))
     go (Ok k) = installing-count h None k

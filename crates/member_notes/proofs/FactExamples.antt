@@ -4,11 +4,11 @@ use Rattle.lan_base.specs.declared.address.Mi.{Mi}
 use Rattle.lan_base.specs.declared.address.Sci.{Sci}
 use Rattle.lan_base.specs.declared.association_number.AssociationNumber.TheVariants.{An0}
 use Rattle.mkpdu_codec.specs.declared.given.Given.{Given}
-use Rattle.mkpdu_codec.specs.declared.given.Given.TheVariants.{Other}
 use Rattle.mkpdu_codec.specs.declared.key_use.KeyUse.{KeyUse}
 use Rattle.mkpdu_codec.specs.declared.key_use.Uses.{Uses}
 use Rattle.mkpdu_codec.specs.declared.offset.ConfidentialityOffset.TheVariants.{Octets0}
 use Rattle.mkpdu_codec.specs.declared.peer.Peer.{Peer}
+use Rattle.mkpdu_codec.specs.declared.wrapped_key.WrappedKey.TheVariants.{Other}
 use Rattle.member_notes.specs.declared.facts.Member.{Member}
 use Rattle.member_notes.specs.declared.facts.MemberCounts.{MemberCounts}
 use Rattle.member_notes.specs.Facts.{member_told, sums_of}
@@ -48,7 +48,7 @@ abbrev hello : ℕ → ℕ → ℕ → ℕ → Bool → List Peer → Spoken
 hello packet member mn time server live = says packet member mn time server live None None
 
 abbrev gives : ℕ → ℕ → ℕ → ℕ → Spoken
-gives packet member mn number = says packet member mn 100 true [] None (Some (Other An0 Octets0 number))
+gives packet member mn number = says packet member mn 100 true [] None (Some (record { an = An0; offset = Octets0; number = number; key = Other }))
 
 abbrev plain : ℕ → ℕ → MemberCounts
 plain member mkpdus = record {

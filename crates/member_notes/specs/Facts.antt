@@ -12,7 +12,6 @@ use Rattle.lan_base.specs.Identifiers.{same_mi, same_sci}
 use Rattle.lan_base.specs.Instants.{is_recent}
 use Rattle.mkpdu_codec.specs.declared.announcement.Announcement.{Announcement}
 use Rattle.mkpdu_codec.specs.declared.given.Given.{Given}
-use Rattle.mkpdu_codec.specs.declared.given.Given.TheVariants.{Aes128, Aes256, Other}
 use Rattle.mkpdu_codec.specs.declared.key_use.Uses.{Uses}
 use Rattle.member_notes.specs.declared.facts.Member.{Member}
 use Rattle.member_notes.specs.declared.facts.MemberCounts.{MemberCounts}
@@ -72,14 +71,9 @@ has_fallen h e = fallen_mkpdu (novelty_behind h e)
 abbrev pub gives_key : Test
 gives_key h e = is_new h e && is_some e.said.given
 
-abbrev pub number_of : Given → ℕ
-number_of (Aes128 an offset number wrapped) = number
-number_of (Aes256 an offset number wrapped) = number
-number_of (Other an offset number) = number
-
 abbrev pub number_given : Option Given → ℕ
 number_given None = 0
-number_given (Some given) = number_of given
+number_given (Some given) = given.number
 
 -- the numbers of the keys that a member gave
 abbrev pub numbers_given : ℕ → Mi → List Spoken → List ℕ

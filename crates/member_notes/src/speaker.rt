@@ -94,11 +94,7 @@ fn number_given(given: &Option<Given>) -> u32
 {
     match given {
         None => 0,
-        Some(
-            Given::Aes128 { number, .. }
-            | Given::Aes256 { number, .. }
-            | Given::Other { number, .. },
-        ) => *number,
+        Some(given) => given.number,
     }
 }
 

@@ -115,7 +115,7 @@ one-installs h (Some o) f = judged-installs (f o)
 pub taken-installs : (m : Member) (a : Announcement) (p : List Entry) (offer : Option Offer) (first : List Change) → offer ≡ offer_at m a p
     → first ≡ take_changes (keys_of m p) offer (answered m.base m.setup.kek (keys_of m p) offer) → list_any is_install first ≡ is_some (key_taken (answer_at m a p))
 taken-installs m a p offer first off is =
-    ap (list_any is_install) is ∙ one-installs (keys_of m p) offer (λ o. taken m.base (keys_of m p) o (given_sak m.setup.kek o.given)) ∙ ap (λ r. is_some (key_taken r)) (answer-is m a p offer off)
+    ap (list_any is_install) is ∙ one-installs (keys_of m p) offer (λ o. taken m.base (keys_of m p) o (given_sak m.setup.kek o.given.key)) ∙ ap (λ r. is_some (key_taken r)) (answer-is m a p offer off)
 
 with-count : (o : Option Key) (h : List Keying) → install_count (keys_with o h) ≡ install_count h + cond (is_some o) 1 0
 with-count None h = omega arith

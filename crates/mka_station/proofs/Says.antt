@@ -95,10 +95,10 @@ gives-is m v k =
     let c : (all && any) ≡ is_given_to v.keys (reports v.live) k.id = sym (rw (all-over (λ a. record { mi = a.told.mi; uses = a.told.uses }) (is_in_roster v.keys) (λ a. refl) v.live, any-over k.id v.live) refl) in
     ap (λ (x : Bool). serves m v && x) (b ∙ c)
 
-given-is : (m : Member) (v : View) (o : Option Key) → option_and_then (λ k. cond (serves m v && is_given_to v.keys (reports v.live) k.id) (Some (given_as m.setup.kek k k.sak)) None) o
-    ≡ option_and_then (λ k. cond (gives m v k) (Some (given_as m.setup.kek k k.sak)) None) o
+given-is : (m : Member) (v : View) (o : Option Key) → option_and_then (λ k. cond (serves m v && is_given_to v.keys (reports v.live) k.id) (Some (given_as m.setup.kek k)) None) o
+    ≡ option_and_then (λ k. cond (gives m v k) (Some (given_as m.setup.kek k)) None) o
 given-is m v None = refl
-given-is m v (Some k) = ap (λ (b : Bool). cond b (Some (given_as m.setup.kek k k.sak)) None) (sym (gives-is m v k))
+given-is m v (Some k) = ap (λ (b : Bool). cond b (Some (given_as m.setup.kek k)) None) (sym (gives-is m v k))
 
 -- ---- the announcement
 

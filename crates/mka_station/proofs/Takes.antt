@@ -25,10 +25,10 @@ past-answered h o (Ok k) = refl
 past-answered h o (Err why) = refl
 
 pub past-judged : {A E : Type 0} (base : ℕ) (own : Mi) (s : Keys) (h : List Keying) (o : Offer) (kek : List ℕ) (r : Result A E)
-    → OnOk r (KeysStandFor base own false s (taking base h o (given_sak kek o.given)).past)
+    → OnOk r (KeysStandFor base own false s (taking base h o (given_sak kek o.given.key)).past)
     → OnOk r (KeysStandFor base own false s (keys_with (key_taken (answered base kek h (Some o))) h))
 past-judged base own s h o kek r stands =
-    subst (λ (g : List Keying). OnOk r (KeysStandFor base own false s g)) (past-answered h o (taken base h o (given_sak kek o.given))) stands
+    subst (λ (g : List Keying). OnOk r (KeysStandFor base own false s g)) (past-answered h o (taken base h o (given_sak kek o.given.key))) stands
 
 pub offered-is : (o : Outcome) (h : List Peering) (mi : Mi) (server : Option Mi) (a : Announcement) (g : Given) (listed elected : Bool) → is_accepted o ≡ true → a.given ≡ Some g
     → listed ≡ list_any (λ peer. same_mi peer.mi mi && recent h peer.mn) a.live → elected ≡ is_server server a.mi

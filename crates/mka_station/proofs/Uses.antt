@@ -12,7 +12,7 @@ use Rattle.mka_station.specs.inside.Saying.{is_given_to, given_after}
 
 -- what is given of a key
 abbrev gift : List ℕ → Bool → List Report → List Keying → Key → Option Given
-gift kek serves live h k = cond (serves && is_given_to h live k.id) (Some (given_as kek k k.sak)) None
+gift kek serves live h k = cond (serves && is_given_to h live k.id) (Some (given_as kek k)) None
 
 none-given : (kek : List ℕ) (live : List Report) (h : List Keying) (o : Option Key) → option_and_then (gift kek false live h) o ≡ None
 none-given kek live h None = refl
@@ -26,11 +26,11 @@ ungiven-none kek serves live h is = sym (rw is refl)
 
 pub ungiven : (kek : List ℕ) (serves : Bool) (live : List Report) (h : List Keying) (key : Key) → latest h ≡ Some key → is_given_to h live key.id ≡ false → None ≡ given_after kek serves live h
 ungiven kek serves live h key is lacks =
-    let g : gift kek serves live h key ≡ None = ap (λ (b : Bool). cond (serves && b) (Some (given_as kek key key.sak)) None) lacks ∙ by_test serves (λ e. rw e refl) (λ e. rw e refl) in
+    let g : gift kek serves live h key ≡ None = ap (λ (b : Bool). cond (serves && b) (Some (given_as kek key)) None) lacks ∙ by_test serves (λ e. rw e refl) (λ e. rw e refl) in
     sym (ap (option_and_then (gift kek serves live h)) is ∙ g)
 
 pub given-held : (kek : List ℕ) (serves : Bool) (live : List Report) (h : List Keying) (key : Key) → serves ≡ true → latest h ≡ Some key → is_given_to h live key.id ≡ true
-    → Some (given_as kek key key.sak) ≡ given_after kek serves live h
+    → Some (given_as kek key) ≡ given_after kek serves live h
 given-held kek serves live h key served is gives =
-    let g : gift kek serves live h key ≡ Some (given_as kek key key.sak) = rw (served, gives) refl in
+    let g : gift kek serves live h key ≡ Some (given_as kek key) = rw (served, gives) refl in
     sym (ap (option_and_then (gift kek serves live h)) is ∙ g)

@@ -20,11 +20,12 @@ use Rattle.mkpdu_codec.specs.declared.announcement.Announcement.{Announcement}
 use Rattle.mkpdu_codec.specs.declared.offset.ConfidentialityOffset.{ConfidentialityOffset}
 use Rattle.mkpdu_codec.specs.declared.offset.ConfidentialityOffset.TheVariants as offsets
 use Rattle.mkpdu_codec.specs.declared.given.Given.{Given}
-use Rattle.mkpdu_codec.specs.declared.given.Given.TheVariants.{Aes128, Aes256}
 use Rattle.mkpdu_codec.specs.declared.key_use.KeyUse.{KeyUse}
 use Rattle.mkpdu_codec.specs.declared.key_use.Uses.{Uses}
 use Rattle.mkpdu_codec.specs.declared.peer.Peer.{Peer}
 use Rattle.mkpdu_codec.specs.Written.{written}
+use Rattle.mkpdu_codec.specs.declared.wrapped_key.WrappedKey.{WrappedKey}
+use Rattle.mkpdu_codec.specs.declared.wrapped_key.WrappedKey.TheVariants.{Aes128, Aes256}
 use Rattle.peer_lists.specs.Histories.{clock, last_sent}
 use Rattle.peer_lists.specs.Acceptance.{Accepted}
 use Rattle.peer_lists.specs.Peers.{last_accepted}
@@ -156,15 +157,20 @@ gives m v k =
 abbrev pub offset : Key → ConfidentialityOffset
 offset k = if k.conf then offsets.Octets0 else offsets.None
 
--- a key as it is given, wrapped under the key encrypting key
-abbrev pub given_as : List ℕ → Key → Secret → Given
-given_as kek k (S128 octets) = Aes128 k.an (offset k) k.id.number (wrapped kek octets)
-given_as kek k (S256 octets) = Aes256 k.an (offset k) k.id.number (wrapped kek octets)
+-- a SAK, wrapped under the key encrypting key
+abbrev pub wrapped_key : List ℕ → Secret → WrappedKey
+wrapped_key kek (S128 octets) = Aes128 (wrapped kek octets)
+wrapped_key kek (S256 octets) = Aes256 (wrapped kek octets)
+
+-- a key as it is given
+abbrev pub given_as : List ℕ → Key → Given
+given_as kek k =
+    record { an = k.an; offset = offset k; number = k.id.number; key = wrapped_key kek k.sak }
 
 -- the Distributed SAK
 abbrev pub given : Member → View → Option Given
 given m v =
-    option_and_then (λ k. if gives m v k then Some (given_as m.setup.kek k k.sak) else None)
+    option_and_then (λ k. if gives m v k then Some (given_as m.setup.kek k) else None)
     (latest v.keys)
 
 -- whether the key server flag is set: the station serves; or, where it is set up so, it has elected

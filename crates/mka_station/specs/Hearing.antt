@@ -94,7 +94,7 @@ offered m v o a =
 
 -- the key that is taken, or why it is not, if one is offered
 abbrev pub taken_of : Member → View → Option Offer → Option (Result Key Why)
-taken_of m v offer = option_map (λ o. taken m.base v.keys o (given_sak m.setup.kek o.given)) offer
+taken_of m v offer = option_map (λ o. taken m.base v.keys o (given_sak m.setup.kek o.given.key)) offer
 
 abbrev pub key_taken : Option (Result Key Why) → Option Key
 key_taken None = None

@@ -4,13 +4,13 @@ ghost use Rattle.std.specs.Prelude.{◌≡◌, ◌++◌, ◌&&◌, ℕ, List, fa
 ghost use Rattle.std.specs.List.{list_all, list_any};
 ghost use Rattle.lan_base.specs.declared.address.Mi.{Mi};
 ghost use Rattle.aes_cmac.specs.Cmac.{cmac};
-ghost use Rattle.mkpdu_codec.specs.Written.{written, IsWritable, IsWritableGiven};
+ghost use Rattle.mkpdu_codec.specs.Written.{written, IsWritable, IsWritableKey};
 ghost use Rattle.sak_exchange.specs.Histories.{Keying};
 ghost use Rattle.sak_exchange.specs.Held.{latest, old};
 ghost use Rattle.sak_exchange.specs.Making.{is_in_roster};
 ghost use Rattle.sak_exchange.specs.Reports.{names, reports as is_reported};
 ghost use Rattle.sak_exchange.specs.Standing.{StandsFor};
-ghost use Rattle.mka_station.specs.Announcing.{use_of, uses_with, uses_of, offset, given_as};
+ghost use Rattle.mka_station.specs.Announcing.{use_of, uses_with, uses_of, offset, given_as, wrapped_key};
 ghost use Rattle.mka_station.specs.inside.Saying.{given_after, lowest_by, is_given_to};
 
 use crate::shown::{id_of, is_same_key, key_of};
@@ -18,7 +18,7 @@ use aes_block::Secret;
 use aes_cmac::cmac;
 use key_wrap::{wrap, wrap256};
 use lan_base::{AssociationNumber, KeyId, Mi, Octets};
-use mkpdu_codec::{Announcement, ConfidentialityOffset, Given, KeyUse, Uses, write};
+use mkpdu_codec::{Announcement, ConfidentialityOffset, Given, KeyUse, Uses, WrappedKey, write};
 use sak_exchange::{Key, KeyState, Report, Seen};
 use std::alloc::{AllocError, Global};
 
@@ -116,7 +116,7 @@ fn use_of(transmitting: Option<Key>, lowest: &Lowest, key: Option<Key>) -> KeyUs
 pub fn given(kek: &aes_block::Key, serves: bool, live: &[Report], keys: &KeyState) -> Option<Given>
     ensures value { (base : ℕ) (own : Mi) (h : List Keying) → StandsFor base own false keys.now h →
         result ≡ given_after kek.now serves live.now h }
-    ensures writable { IfSome result IsWritableGiven }
+    ensures writable { IfSome result (λ g. IsWritableKey g.key) }
 {
     if !serves {
         return None;
@@ -130,27 +130,27 @@ pub fn given(kek: &aes_block::Key, serves: bool, live: &[Report], keys: &KeyStat
     Some(given_as(kek, &key))
 }
 
-/// A key as it is given, wrapped under the key encrypting key.
+/// A key as it is given.
 fn given_as(kek: &aes_block::Key, key: &Key) -> Given
-    ensures value { result ≡ given_as kek.now key.now key.now.sak }
-    ensures writable { IsWritableGiven result }
+    ensures value { result ≡ given_as kek.now key.now }
+    ensures writable { IsWritableKey result.key }
 {
-    let an = key.an;
-    let offset = offset(key);
-    let number = key.id.number;
-    match &key.sak {
-        Secret::S128(sak) => Given::Aes128 {
-            an,
-            offset,
-            number,
-            wrapped: wrap(kek, sak),
-        },
-        Secret::S256(sak) => Given::Aes256 {
-            an,
-            offset,
-            number,
-            wrapped: wrap256(kek, sak),
-        },
+    Given {
+        an: key.an,
+        offset: offset(key),
+        number: key.id.number,
+        key: wrapped_key(kek, &key.sak),
+    }
+}
+
+/// A SAK, wrapped under the key encrypting key.
+fn wrapped_key(kek: &aes_block::Key, sak: &Secret) -> WrappedKey
+    ensures value { result ≡ wrapped_key kek.now sak.now }
+    ensures writable { IsWritableKey result }
+{
+    match sak {
+        Secret::S128(sak) => WrappedKey::Aes128(wrap(kek, sak)),
+        Secret::S256(sak) => WrappedKey::Aes256(wrap256(kek, sak)),
     }
 }
 

@@ -10,19 +10,18 @@ use Rattle.std.proofs.lemmas.List.{append-nil}
 use Rattle.std.proofs.lemmas.List.Elements.{recursion_from_All}
 use Rattle.byteorder.specs.Endian.{big_bytes}
 use Rattle.byteorder.specs.Numbers.{big_number-reads_back}
-use Rattle.lan_base.specs.declared.association_number.AssociationNumber.{AssociationNumber}
 use Rattle.lan_base.proofs.Public.{number_of-few}
 use Rattle.lan_base.specs.declared.address.Mi.{Mi}
 use Rattle.lan_base.specs.declared.address.Sci.{Sci}
 use Rattle.mkpdu_codec.specs.declared.announcement.Announcement.{Announcement}
 use Rattle.mkpdu_codec.specs.declared.given.Given.{Given}
-use Rattle.mkpdu_codec.specs.declared.given.Given.TheVariants.{Aes128, Aes256, Other}
 use Rattle.mkpdu_codec.specs.declared.key_use.KeyUse.{KeyUse}
 use Rattle.mkpdu_codec.specs.declared.key_use.Uses.{Uses}
-use Rattle.mkpdu_codec.specs.declared.offset.ConfidentialityOffset.{ConfidentialityOffset}
 use Rattle.mkpdu_codec.specs.declared.peer.Peer.{Peer}
+use Rattle.mkpdu_codec.specs.declared.wrapped_key.WrappedKey.{WrappedKey}
+use Rattle.mkpdu_codec.specs.declared.wrapped_key.WrappedKey.TheVariants.{Aes128, Aes256, Other}
 use Rattle.mkpdu_codec.specs.Sets.{bit, agility, peer, peers_body, use_body, use_flags, gcm_aes_256, IsPeer, IsKey}
-use Rattle.mkpdu_codec.specs.Frames.{Set, the, SpellsPeers, SpellsUses, IsGiving, IsWide, SpellsGiven, SpellsBasic}
+use Rattle.mkpdu_codec.specs.Frames.{Set, the, SpellsPeers, SpellsUses, IsWide, SpellsKey, SpellsGiven, SpellsBasic}
 use Rattle.mkpdu_codec.specs.Fields.{an_in, offset_in, number_at, mi_at, sci_at, entry_at, entries_at, peers_in, key_at, uses_in, wide_in, key_in, given_in, Basics, basic_in}
 use Rattle.mkpdu_codec.proofs.SetOctets.{length-basic_body}
 use Rattle.mkpdu_codec.proofs.TwoBits.{an_in-number_of, offset_in-offset_bits, offset_bits-few}
@@ -201,25 +200,22 @@ not_wide key other = go (wide_in key) refl where
   go None e = refl
   go (Some wrapped) e = absurd (other wrapped (wide_is key wrapped e))
 
-key_given : (s : Set) (an : AssociationNumber) (offset : ConfidentialityOffset) (number : ℕ) (key : List ℕ) → IsGiving s an offset number key → given_in (Some s) ≡ Some (key_in an offset number key)
-unfolding given_in
-key_given s an offset number key is =
-    let few = number_of-few an in
-    let two = offset_bits-few offset in
-    let a : an_in (s.second / 64) ≡ an = an_in-number_of (s.second / 64) an (omega (arith, is.second, few, two)) in
-    let o : offset_in (s.second / 16) ≡ offset = offset_in-offset_bits (s.second / 16) offset (omega (arith, is.second, few, two)) in
-    rw (is.body, number_again number key is.four_octets, a, o) refl
+wrapped_again : (key : List ℕ) (w : WrappedKey) → SpellsKey key w → key_in key ≡ w
+wrapped_again key (Aes128 wrapped) spells = rw (spells.1, eq-eqb (length wrapped) 24 spells.0) refl
+wrapped_again key (Aes256 wrapped) spells =
+    let long : eqb (length key) 24 ≡ false = ne_eqb (length key) 24 (λ e. omega (arith, e, ap length spells.1, spells.0)) in
+    rw (long, wide_again key wrapped spells) refl
+wrapped_again key Other spells = rw (ne_eqb (length key) 24 spells.0, not_wide key spells.1) refl
 
 given_of_set : (s : Set) (g : Option Given) → SpellsGiven s g → given_in (Some s) ≡ g
 unfolding given_in
 given_of_set s None spells = rw (spells, short_number [] (omega arith)) refl
-given_of_set s (Some (Aes128 an offset number wrapped)) spells =
-    key_given s an offset number wrapped spells.0 ∙ rw (eq-eqb (length wrapped) 24 spells.1) refl
-given_of_set s (Some (Aes256 an offset number wrapped)) spells =
-    let long : eqb (length spells.0) 24 ≡ false = ne_eqb (length spells.0) 24 (λ e. omega (arith, e, ap length spells.1.1.1, spells.1.1.0)) in
-    key_given s an offset number spells.0 spells.1.0 ∙ rw (long, wide_again spells.0 wrapped spells.1.1) refl
-given_of_set s (Some (Other an offset number)) spells =
-    key_given s an offset number spells.0 spells.1.0 ∙ rw (ne_eqb (length spells.0) 24 spells.1.1, not_wide spells.0 spells.1.2) refl
+given_of_set s (Some g) spells =
+    let few = number_of-few g.an in
+    let two = offset_bits-few g.offset in
+    let a : an_in (s.second / 64) ≡ g.an = an_in-number_of (s.second / 64) g.an (omega (arith, spells.second, few, two)) in
+    let o : offset_in (s.second / 16) ≡ g.offset = offset_in-offset_bits (s.second / 16) g.offset (omega (arith, spells.second, few, two)) in
+    rw (spells.body, number_again g.number spells.key spells.number, a, o, wrapped_again spells.key g.key spells.spells) refl
 
 pub given_again : (k : ℕ) (ss : List Set) (g : Option Given) → SpellsGiven (the k ss) g → given_in (first k ss) ≡ g
 given_again k ss g spells = given_in-or_empty k (first k ss) ∙ given_of_set (or_empty k (first k ss)) g (subst (λ (s : Set). SpellsGiven s g) (the-first k ss) spells)

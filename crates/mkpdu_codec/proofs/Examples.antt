@@ -3,8 +3,8 @@ use Rattle.std.specs.Prelude.{◌≡◌, false, [], ◌∷◌, ◌++◌, replica
 use Rattle.std.proofs.Common.{refl}
 use Rattle.mkpdu_codec.specs.declared.announcement.Announcement.{Announcement}
 use Rattle.lan_base.specs.declared.association_number.AssociationNumber.TheVariants.{An2}
-use Rattle.mkpdu_codec.specs.declared.given.Given.TheVariants.{Aes256}
 use Rattle.mkpdu_codec.specs.declared.offset.ConfidentialityOffset.TheVariants as offsets
+use Rattle.mkpdu_codec.specs.declared.wrapped_key.WrappedKey.TheVariants.{Aes256}
 use Rattle.mkpdu_codec.specs.Refusals.{refused, refused_sets}
 use Rattle.mkpdu_codec.specs.Fields.{number_at, mi_at, sci_at, set_at, entries_at, peers_in, uses_in, given_in, basic_in, basic_at}
 use Rattle.mkpdu_codec.specs.Reading.{parts_at, shaped_at, placed, gathered, reading}
@@ -41,7 +41,7 @@ hello_not_refused = refl
 
 -- and that gives a key for GCM-AES-256
 abbrev giving : Announcement
-giving = record hello { given = Some (Aes256 An2 offsets.Octets50 5 (replicate 40 9)) }
+giving = record hello { given = Some (record { an = An2; offset = offsets.Octets50; number = 5; key = Aes256 (replicate 40 9) }) }
 
 giving_read : reading (written giving ++ replicate 16 7) ≡ Ok (record { announcement = giving; covered = 110; check = replicate 16 7 })
 unfolding reading parts_at basic_at basic_in set_at sci_at mi_at number_at gathered shaped_at placed peers_in entries_at uses_in given_in

@@ -8,15 +8,12 @@ use Rattle.std.proofs.lemmas.List.{take_at, drop_at}
 use Rattle.std.proofs.lemmas.List.Elements.{recursion_from_All}
 use Rattle.byteorder.specs.Endian.{big_bytes}
 use Rattle.lan_base.specs.declared.address.Mac.{Mac}
-use Rattle.lan_base.specs.declared.association_number.AssociationNumber.{AssociationNumber}
 use Rattle.mkpdu_codec.specs.declared.announcement.Announcement.{Announcement}
 use Rattle.mkpdu_codec.specs.declared.given.Given.{Given}
-use Rattle.mkpdu_codec.specs.declared.given.Given.TheVariants.{Aes128, Aes256, Other}
 use Rattle.mkpdu_codec.specs.declared.key_use.Uses.{Uses}
-use Rattle.mkpdu_codec.specs.declared.offset.ConfidentialityOffset.{ConfidentialityOffset}
 use Rattle.mkpdu_codec.specs.declared.peer.Peer.{Peer}
 use Rattle.mkpdu_codec.specs.Sets.{missing, uses_body, IsPeer, IsKey}
-use Rattle.mkpdu_codec.specs.Frames.{Set, IsSet, AreSets, IsIndicator, Frame, IsFrame, IsBody, covered_octets, octets_of, the, SpellsPeers, SpellsUses, IsGiving, SpellsGiven, Spells}
+use Rattle.mkpdu_codec.specs.Frames.{Set, IsSet, AreSets, IsIndicator, Frame, IsFrame, IsBody, covered_octets, octets_of, the, SpellsPeers, SpellsUses, SpellsGiven, Spells}
 use Rattle.mkpdu_codec.specs.Refusals.{is_mka, is_long_enough, body_length}
 use Rattle.mkpdu_codec.specs.Fields.{set_at, basic_at, peers_in, uses_in, given_in}
 use Rattle.mkpdu_codec.specs.Reading.{Inner, Gathered, nothing, parts_at, announcement_of, reading}
@@ -131,14 +128,9 @@ shape_of_uses s (Some u) spells = let len : length s.body ≡ 40 = ap length spe
 long_enough : (n : ℕ) → 4 ≤ n → (eqb n 0 || leb 4 n) ≡ true
 long_enough n le = rw (le-leb 4 n le) (or-true (eqb n 0))
 
-giving_long : (s : Set) (an : AssociationNumber) (offset : ConfidentialityOffset) (number : ℕ) (key : List ℕ) → IsGiving s an offset number key → (eqb (length s.body) 0 || leb 4 (length s.body)) ≡ true
-giving_long s an offset number key is = long_enough (length s.body) (omega (arith, ap length is.body))
-
 shape_of_given : (s : Set) (g : Option Given) → SpellsGiven s g → (eqb (length s.body) 0 || leb 4 (length s.body)) ≡ true
 shape_of_given s None spells = rw spells refl
-shape_of_given s (Some (Aes128 an offset number wrapped)) spells = giving_long s an offset number wrapped spells.0
-shape_of_given s (Some (Aes256 an offset number wrapped)) spells = giving_long s an offset number spells.0 spells.1.0
-shape_of_given s (Some (Other an offset number)) spells = giving_long s an offset number spells.0 spells.1.0
+shape_of_given s (Some g) spells = long_enough (length s.body) (omega (arith, ap length spells.body))
 
 module _ (all : List Set) (a : Announcement) (live : SpellsPeers (the 1 all) a.live) (potential : SpellsPeers (the 2 all) a.potential) (uses : SpellsUses (the 3 all) a.uses) (given : SpellsGiven (the 4 all) a.given) where
   shape_of : (s : Set) → (s.kind ≡ 1 → the 1 all ≡ s) → (s.kind ≡ 2 → the 2 all ≡ s) → (s.kind ≡ 3 → the 3 all ≡ s) → (s.kind ≡ 4 → the 4 all ≡ s) → s.kind ≢ 255 → IsShaped s

@@ -8,18 +8,16 @@ use Rattle.std.proofs.lemmas.List.Elements.{All-from_recursion}
 use Rattle.std.proofs.lemmas.Nat.{be_bytes_4}
 use Rattle.byteorder.specs.Endian.{big_number, big_bytes}
 use Rattle.byteorder.specs.Numbers.{big_from-lt}
-use Rattle.lan_base.specs.declared.association_number.AssociationNumber.{AssociationNumber}
 use Rattle.lan_base.specs.declared.address.Mi.{Mi}
 use Rattle.mkpdu_codec.specs.declared.given.Given.{Given}
-use Rattle.mkpdu_codec.specs.declared.given.Given.TheVariants.{Aes128}
 use Rattle.mkpdu_codec.specs.declared.key_use.KeyUse.{KeyUse}
 use Rattle.mkpdu_codec.specs.declared.key_use.Uses.{Uses}
-use Rattle.mkpdu_codec.specs.declared.offset.ConfidentialityOffset.{ConfidentialityOffset}
 use Rattle.mkpdu_codec.specs.declared.peer.Peer.{Peer}
+use Rattle.mkpdu_codec.specs.declared.wrapped_key.WrappedKey.TheVariants.{Aes128}
 use Rattle.mkpdu_codec.specs.Sets.{bit, peer, peers_body, use_body, use_flags, IsPeer, IsKey}
-use Rattle.mkpdu_codec.specs.Frames.{Set, the, SpellsPeers, SpellsUses, IsGiving, SpellsGiven}
+use Rattle.mkpdu_codec.specs.Frames.{Set, the, SpellsPeers, SpellsUses, SpellsKey, SpellsGiven}
 use Rattle.mkpdu_codec.specs.Refusals.{is_length_of}
-use Rattle.mkpdu_codec.specs.Fields.{an_in, offset_in, number_at, mi_at, entry_at, entries_at, entries_from, peers_in, key_at, uses_in, wide_in, wide_or_other, key_in, given_in}
+use Rattle.mkpdu_codec.specs.Fields.{an_in, number_at, mi_at, entry_at, entries_at, entries_from, peers_in, key_at, uses_in, wide_in, wide_or_other, key_in, given_in}
 use Rattle.mkpdu_codec.proofs.TwoBits.{number_of-an_in, offset_bits-offset_in}
 use Rattle.mkpdu_codec.proofs.Taking.{octets_at-long}
 use Rattle.mkpdu_codec.proofs.SetOctets.{IsBytes, IsBytes-drop}
@@ -170,12 +168,12 @@ uses_are ss all =
 
 -- ---- Distributed SAK
 
-key_is_given : (s : Set) (an : AssociationNumber) (offset : ConfidentialityOffset) (number : ℕ) (key : List ℕ) → IsGiving s an offset number key → SpellsGiven s (Some (key_in an offset number key))
-key_is_given s an offset number key giving = go (eqb (length key) 24) refl (wide_in key) refl where
-  go : (t : Bool) → eqb (length key) 24 ≡ t → (w : Option (List ℕ)) → wide_in key ≡ w → SpellsGiven s (Some (cond t (Aes128 an offset number key) (wide_or_other an offset number w)))
-  go true t w e = (giving, eqb-true (length key) 24 t)
-  go false t None e = (key, (giving, eqb-false (length key) 24 t, λ wrapped is. absurd (let d = sym e ∙ wide_again key wrapped is in cc)))
-  go false t (Some wrapped) e = (key, (giving, wide_is key wrapped e))
+key_is_of : (key : List ℕ) → SpellsKey key (key_in key)
+key_is_of key = go (eqb (length key) 24) refl (wide_in key) refl where
+  go : (t : Bool) → eqb (length key) 24 ≡ t → (w : Option (List ℕ)) → wide_in key ≡ w → SpellsKey key (cond t (Aes128 key) (wide_or_other w))
+  go true t w e = (eqb-true (length key) 24 t, refl)
+  go false t None e = (eqb-false (length key) 24 t, λ wrapped is. absurd (let d = sym e ∙ wide_again key wrapped is in cc))
+  go false t (Some wrapped) e = wide_is key wrapped e
 
 given_are_of : (s : Set) → IsBytes s.body → s.second < 256 → is_length_of 4 (length s.body) ≡ true → SpellsGiven s (given_in (Some s))
 unfolding given_in
@@ -187,8 +185,13 @@ given_are_of s bytes byte shaped = go (or_cases (eqb (length s.body) 0) (leb 4 (
   go (inr e) = some (leb-true 4 (length s.body) e) where
     some : 4 ≤ length s.body → SpellsGiven s (given_in (Some s))
     some le =
-        let giving : IsGiving s (an_in (s.second / 64)) (offset_in (s.second / 16)) (big_number 4 (take 4 s.body)) (drop 4 s.body) = record { second = rw (number_of-an_in (s.second / 64), offset_bits-offset_in (s.second / 16)) (omega (arith, byte)); four_octets = number_below s.body bytes; body = number_front s.body bytes le } in
-        rw (number_long s.body le) (key_is_given s (an_in (s.second / 64)) (offset_in (s.second / 16)) (big_number 4 (take 4 s.body)) (drop 4 s.body) giving)
+        rw (number_long s.body le) (record {
+          key = drop 4 s.body;
+          second = rw (number_of-an_in (s.second / 64), offset_bits-offset_in (s.second / 16)) (omega (arith, byte));
+          number = number_below s.body bytes;
+          body = number_front s.body bytes le;
+          spells = key_is_of (drop 4 s.body);
+        })
 
 pub given_are : (ss : List Set) → AllByRecursion IsRead ss → SpellsGiven (the 4 ss) (given_in (first 4 ss))
 given_are ss all =

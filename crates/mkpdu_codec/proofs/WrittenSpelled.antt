@@ -6,16 +6,15 @@ use Rattle.std.proofs.lemmas.Bool.{ne_eqb}
 use Rattle.std.proofs.lemmas.List.{append-nil, length-replicate}
 use Rattle.std.proofs.lemmas.List.Elements.{All-from_recursion, recursion_from_All}
 use Rattle.byteorder.specs.Endian.{big_bytes}
-use Rattle.lan_base.specs.declared.association_number.AssociationNumber.{AssociationNumber}
 use Rattle.mkpdu_codec.specs.declared.announcement.Announcement.{Announcement}
 use Rattle.mkpdu_codec.specs.declared.given.Given.{Given}
-use Rattle.mkpdu_codec.specs.declared.given.Given.TheVariants.{Aes128, Aes256, Other}
 use Rattle.mkpdu_codec.specs.declared.key_use.Uses.{Uses}
-use Rattle.mkpdu_codec.specs.declared.offset.ConfidentialityOffset.{ConfidentialityOffset}
 use Rattle.mkpdu_codec.specs.declared.peer.Peer.{Peer}
-use Rattle.mkpdu_codec.specs.Sets.{bit, missing, set, basic_body, peers_body, uses_body, uses_flags, given_body, given_flags, gcm_aes_256, IsPeer, IsKey}
-use Rattle.mkpdu_codec.specs.Written.{group_address, frame_header, basic_set, peers_set, uses_set, given_set, sets, written, IsWritable, IsWritableGiven}
-use Rattle.mkpdu_codec.specs.Frames.{Set, IsSet, AreSets, the, SpellsPeers, SpellsUses, IsGiving, SpellsGiven, Spells, IsGiven, IsOfItsTypes}
+use Rattle.mkpdu_codec.specs.declared.wrapped_key.WrappedKey.{WrappedKey}
+use Rattle.mkpdu_codec.specs.declared.wrapped_key.WrappedKey.TheVariants.{Aes128, Aes256, Other}
+use Rattle.mkpdu_codec.specs.Sets.{bit, missing, set, basic_body, peers_body, uses_body, uses_flags, given_body, given_flags, gcm_aes_256, IsPeer, IsKey, IsWrapped, IsGiven}
+use Rattle.mkpdu_codec.specs.Written.{group_address, frame_header, basic_set, peers_set, uses_set, giving_set, key_set, given_set, sets, written, IsWritable, IsWritableKey}
+use Rattle.mkpdu_codec.specs.Frames.{Set, IsSet, AreSets, the, SpellsPeers, SpellsUses, IsGiving, SpellsGiven, Spells, IsOfItsTypes}
 use Rattle.mkpdu_codec.proofs.SetOctets.{length-set, length-basic_body}
 use Rattle.mkpdu_codec.proofs.Again.{length-peers_body}
 use Rattle.mkpdu_codec.proofs.FrameAgain.{length-uses_body}
@@ -34,11 +33,17 @@ abbrev uses_written : Option Uses → List Set
 uses_written None = []
 uses_written (Some u) = record { kind = 3; second = uses_flags u; flags = 0; body = uses_body u } ∷ []
 
+abbrev giving : Given → List ℕ → Set
+giving g key = record { kind = 4; second = given_flags g.an g.offset * 16; flags = 0; body = given_body g.number key }
+
+abbrev key_written : Given → WrappedKey → List Set
+key_written g (Aes128 wrapped) = giving g wrapped ∷ []
+key_written g (Aes256 wrapped) = giving g (gcm_aes_256 ++ wrapped) ∷ []
+key_written g Other = []
+
 abbrev given_written : Option Given → List Set
 given_written None = []
-given_written (Some (Aes128 an offset number wrapped)) = record { kind = 4; second = given_flags an offset * 16; flags = 0; body = given_body number wrapped } ∷ []
-given_written (Some (Aes256 an offset number wrapped)) = record { kind = 4; second = given_flags an offset * 16; flags = 0; body = given_body number (gcm_aes_256 ++ wrapped) } ∷ []
-given_written (Some (Other an offset number)) = []
+given_written (Some g) = key_written g g.key
 
 abbrev all_written : List Peer → List Peer → Option Uses → Option Given → List Set
 all_written live potential uses given = peers_written 1 live ++ (peers_written 2 potential ++ (uses_written uses ++ given_written given))
@@ -63,15 +68,17 @@ are_uses (Some u) is =
     let len = length-uses_body u is.0 is.1 in
     one_set (uses_set (Some u)) (record { kind = 3; second = uses_flags u; flags = 0; body = uses_body u }) (is_set 3 (uses_flags u) 0 (uses_body u) (omega arith) (omega (arith, len)))
 
-are_given : (g : Option Given) → IfSome g IsGiven → IfSome g IsWritableGiven → AreSets (given_set g) (given_written g)
-are_given None is may = refl
-are_given (Some (Aes128 an offset number wrapped)) is may =
-    let len : length (given_body number wrapped) ≡ 28 = rw is.1 refl in
-    one_set (given_set (Some (Aes128 an offset number wrapped))) (record { kind = 4; second = given_flags an offset * 16; flags = 0; body = given_body number wrapped }) (is_set 4 (given_flags an offset * 16) 0 (given_body number wrapped) (omega arith) (omega (arith, len)))
-are_given (Some (Aes256 an offset number wrapped)) is may =
-    let len : length (given_body number (gcm_aes_256 ++ wrapped)) ≡ 52 = rw is.1 refl in
-    one_set (given_set (Some (Aes256 an offset number wrapped))) (record { kind = 4; second = given_flags an offset * 16; flags = 0; body = given_body number (gcm_aes_256 ++ wrapped) }) (is_set 4 (given_flags an offset * 16) 0 (given_body number (gcm_aes_256 ++ wrapped)) (omega arith) (omega (arith, len)))
-are_given (Some (Other an offset number)) is may = absurd may
+are_giving : (g : Given) (key : List ℕ) → length key ≤ 48 → AreSets (giving_set g key) (giving g key ∷ [])
+are_giving g key le = one_set (giving_set g key) (giving g key) (is_set 4 (given_flags g.an g.offset * 16) 0 (given_body g.number key) (omega arith) (omega (arith, le)))
+
+are_key : (g : Given) (w : WrappedKey) → IsWrapped w → AreSets (key_set g w) (key_written g w)
+are_key g (Aes128 wrapped) is = are_giving g wrapped (omega (arith, is))
+are_key g (Aes256 wrapped) is = are_giving g (gcm_aes_256 ++ wrapped) (omega (arith, is))
+are_key g Other is = refl
+
+are_given : (g : Option Given) → IfSome g IsGiven → AreSets (given_set g) (given_written g)
+are_given None is = refl
+are_given (Some g) is = are_key g g.key is.key
 
 -- ---- what they say
 
@@ -84,11 +91,14 @@ skips_uses : (k : ℕ) (u : Option Uses) (rest : List Set) → eqb 3 k ≡ false
 skips_uses k None rest e = refl
 skips_uses k (Some u) rest e = rw e refl
 
+skips_key : (k : ℕ) (g : Given) (w : WrappedKey) → eqb 4 k ≡ false → the k (key_written g w) ≡ the k []
+skips_key k g (Aes128 wrapped) e = rw e refl
+skips_key k g (Aes256 wrapped) e = rw e refl
+skips_key k g Other e = refl
+
 skips_given : (k : ℕ) (g : Option Given) → eqb 4 k ≡ false → the k (given_written g) ≡ the k []
 skips_given k None e = refl
-skips_given k (Some (Aes128 an offset number wrapped)) e = rw e refl
-skips_given k (Some (Aes256 an offset number wrapped)) e = rw e refl
-skips_given k (Some (Other an offset number)) e = refl
+skips_given k (Some g) e = skips_key k g g.key e
 
 peers_spelled : (kind : ℕ) (ps : List Peer) (rest : List Set) → All IsPeer ps → the kind rest ≡ the kind [] → eqb kind kind ≡ true → SpellsPeers (the kind (peers_written kind ps ++ rest)) ps
 peers_spelled kind [] rest are others e = subst (λ (s : Set). SpellsPeers s []) (sym others) (record { body = refl; are_peers = are })
@@ -112,17 +122,18 @@ spells_uses live potential u g is = subst (λ (s : Set). SpellsUses s u) (sym (s
   go (Some u) is = (refl, refl, is.0, is.1)
   go None is = subst (λ (s : Set). SpellsUses s None) (sym (skips_given 3 g refl)) refl
 
-giving : (an : AssociationNumber) (offset : ConfidentialityOffset) (number : ℕ) (key : List ℕ) → number < 2 ^ 32 → IsGiving (record { kind = 4; second = given_flags an offset * 16; flags = 0; body = given_body number key }) an offset number key
-giving an offset number key n = record { second = omega arith; four_octets = n; body = refl }
+-- the set of a key spells what gives that key
+spells_key : (g : Given) (w : WrappedKey) → g.key ≡ w → g.number < 2 ^ 32 → IsWrapped w → IsWritableKey w → IsGiving (the 4 (key_written g w)) g
+spells_key g (Aes128 wrapped) e n is may = record { key = wrapped; second = omega arith; number = n; body = refl; spells = rw e (is, refl) }
+spells_key g (Aes256 wrapped) e n is may = record { key = gcm_aes_256 ++ wrapped; second = omega arith; number = n; body = refl; spells = rw e (is, refl) }
+spells_key g Other e n is may = absurd may
 
-spells_given : (live potential : List Peer) (u : Option Uses) (g : Option Given) → IfSome g IsGiven → IfSome g IsWritableGiven → SpellsGiven (the 4 (all_written live potential u g)) g
+spells_given : (live potential : List Peer) (u : Option Uses) (g : Option Given) → IfSome g IsGiven → IfSome g (λ v. IsWritableKey v.key) → SpellsGiven (the 4 (all_written live potential u g)) g
 spells_given live potential u g is may =
     subst (λ (s : Set). SpellsGiven s g) (sym (skips_lists 4 live potential (uses_written u ++ given_written g) refl refl ∙ skips_uses 4 u (given_written g) refl)) (go g is may) where
-      go : (g : Option Given) → IfSome g IsGiven → IfSome g IsWritableGiven → SpellsGiven (the 4 (given_written g)) g
+      go : (g : Option Given) → IfSome g IsGiven → IfSome g (λ v. IsWritableKey v.key) → SpellsGiven (the 4 (given_written g)) g
       go None is may = refl
-      go (Some (Aes128 an offset number wrapped)) is may = (giving an offset number wrapped is.0, is.1)
-      go (Some (Aes256 an offset number wrapped)) is may = (gcm_aes_256 ++ wrapped, (giving an offset number (gcm_aes_256 ++ wrapped) is.0, (is.1, refl)))
-      go (Some (Other an offset number)) is may = absurd may
+      go (Some g) is may = spells_key g g.key refl is.number is.key may
 
 -- ---- none of them comes twice
 
@@ -137,11 +148,14 @@ count-uses : (k : ℕ) (u : Option Uses) → count k (uses_written u) ≤ cond (
 count-uses k None = omega arith
 count-uses k (Some u) = count-most k 3 (record { kind = 3; second = uses_flags u; flags = 0; body = uses_body u }) refl
 
+count-key : (k : ℕ) (g : Given) (w : WrappedKey) → count k (key_written g w) ≤ cond (eqb 4 k) 1 0
+count-key k g (Aes128 wrapped) = count-most k 4 (giving g wrapped) refl
+count-key k g (Aes256 wrapped) = count-most k 4 (giving g (gcm_aes_256 ++ wrapped)) refl
+count-key k g Other = omega arith
+
 count-given : (k : ℕ) (g : Option Given) → count k (given_written g) ≤ cond (eqb 4 k) 1 0
 count-given k None = omega arith
-count-given k (Some (Aes128 an offset number wrapped)) = count-most k 4 (record { kind = 4; second = given_flags an offset * 16; flags = 0; body = given_body number wrapped }) refl
-count-given k (Some (Aes256 an offset number wrapped)) = count-most k 4 (record { kind = 4; second = given_flags an offset * 16; flags = 0; body = given_body number (gcm_aes_256 ++ wrapped) }) refl
-count-given k (Some (Other an offset number)) = omega arith
+count-given k (Some g) = count-key k g g.key
 
 count-append : (k : ℕ) (ss ts : List Set) → count k (ss ++ ts) ≡ count k ss + count k ts
 count-append k [] ts = omega arith
@@ -181,11 +195,14 @@ none_in_uses : (u : Option Uses) → NoIndicator (uses_written u)
 none_in_uses None = tt
 none_in_uses (Some u) = ((λ e. omega (arith, e)), tt)
 
+none_in_key : (g : Given) (w : WrappedKey) → NoIndicator (key_written g w)
+none_in_key g (Aes128 wrapped) = ((λ e. omega (arith, e)), tt)
+none_in_key g (Aes256 wrapped) = ((λ e. omega (arith, e)), tt)
+none_in_key g Other = tt
+
 none_in_given : (g : Option Given) → NoIndicator (given_written g)
 none_in_given None = tt
-none_in_given (Some (Aes128 an offset number wrapped)) = ((λ e. omega (arith, e)), tt)
-none_in_given (Some (Aes256 an offset number wrapped)) = ((λ e. omega (arith, e)), tt)
-none_in_given (Some (Other an offset number)) = tt
+none_in_given (Some g) = none_in_key g g.key
 
 none_written : (live potential : List Peer) (u : Option Uses) (g : Option Given) → NoIndicator (all_written live potential u g)
 none_written live potential u g =
@@ -206,11 +223,17 @@ uses_most : (u : Option Uses) → IfSome u (λ v. IsKey v.latest × IsKey v.old)
 uses_most None is = omega arith
 uses_most (Some u) is = set_most 3 (uses_flags u) 0 40 (uses_body u) (let len = length-uses_body u is.0 is.1 in omega (arith, len))
 
+giving_most : (g : Given) (key : List ℕ) → length key ≤ 48 → length (giving_set g key) ≤ 59
+giving_most g key le = set_most 4 (given_flags g.an g.offset * 16) 0 52 (given_body g.number key) (omega (arith, le))
+
+key_most : (g : Given) (w : WrappedKey) → IsWrapped w → length (key_set g w) ≤ 59
+key_most g (Aes128 wrapped) is = giving_most g wrapped (omega (arith, is))
+key_most g (Aes256 wrapped) is = giving_most g (gcm_aes_256 ++ wrapped) (omega (arith, is))
+key_most g Other is = omega arith
+
 given_most : (g : Option Given) → IfSome g IsGiven → length (given_set g) ≤ 59
 given_most None is = omega arith
-given_most (Some (Aes128 an offset number wrapped)) is = set_most 4 (given_flags an offset * 16) 0 52 (given_body number wrapped) (let len : length (given_body number wrapped) ≡ 28 = rw is.1 refl in omega (arith, len))
-given_most (Some (Aes256 an offset number wrapped)) is = set_most 4 (given_flags an offset * 16) 0 52 (given_body number (gcm_aes_256 ++ wrapped)) (let len : length (given_body number (gcm_aes_256 ++ wrapped)) ≡ 52 = rw is.1 refl in omega (arith, len))
-given_most (Some (Other an offset number)) is = omega arith
+given_most (Some g) is = key_most g g.key is.key
 
 -- ---- the whole frame
 
@@ -257,7 +280,7 @@ written_spells a check may is sixteen =
         is_basic = is_set 1 a.priority (bit a.server * 8 + 6) (basic_body a.sci.0 a.mi.0 a.mn a.ckn) (flags_fit a.server) (omega (arith, len, may.named.1));
         are_others = are_both (peers_written 1 a.live) (peers_written 2 a.potential ++ (uses_written a.uses ++ given_written a.given)) (peers_set 1 a.live) (peers_set 2 a.potential ++ (uses_set a.uses ++ given_set a.given)) (are_peers 1 a.live live may.live)
             (are_both (peers_written 2 a.potential) (uses_written a.uses ++ given_written a.given) (peers_set 2 a.potential) (uses_set a.uses ++ given_set a.given) (are_peers 2 a.potential potential may.potential)
-            (are_both (uses_written a.uses) (given_written a.given) (uses_set a.uses) (given_set a.given) (are_uses a.uses keys) (are_given a.given is.given may.given)));
+            (are_both (uses_written a.uses) (given_written a.given) (uses_set a.uses) (given_set a.given) (are_uses a.uses keys) (are_given a.given is.given)));
         is_indicator = inl refl;
         no_indicator = All-from_recursion (λ s. s.kind ≢ 255) (all_written a.live a.potential a.uses a.given) (none_written a.live a.potential a.uses a.given);
         once = λ k low high. written_once a.live a.potential a.uses a.given k;

@@ -8,11 +8,12 @@ use Rattle.lan_base.specs.AssociationNumbers.{of_bits}
 use Rattle.lan_base.specs.declared.address.Mi.{Mi}
 use Rattle.lan_base.specs.declared.address.Sci.{Sci}
 use Rattle.mkpdu_codec.specs.declared.given.Given.{Given}
-use Rattle.mkpdu_codec.specs.declared.given.Given.TheVariants.{Aes128, Aes256, Other}
 use Rattle.mkpdu_codec.specs.declared.key_use.KeyUse.{KeyUse}
 use Rattle.mkpdu_codec.specs.declared.key_use.Uses.{Uses}
 use Rattle.mkpdu_codec.specs.declared.offset.ConfidentialityOffset.{ConfidentialityOffset}
 use Rattle.mkpdu_codec.specs.declared.peer.Peer.{Peer}
+use Rattle.mkpdu_codec.specs.declared.wrapped_key.WrappedKey.{WrappedKey}
+use Rattle.mkpdu_codec.specs.declared.wrapped_key.WrappedKey.TheVariants.{Aes128, Aes256, Other}
 use Rattle.mkpdu_codec.specs.Frames.{Set}
 use Rattle.mkpdu_codec.specs.Offsets.{offset_of_bits}
 use Rattle.mkpdu_codec.specs.Refusals.{front_length, is_basic_length}
@@ -124,20 +125,24 @@ wide_in key =
     if starts_with (λ a b. a == b) key gcm_aes_256 && (length key == 48) then Some (drop 8 key)
     else None
 
-abbrev pub wide_or_other : AssociationNumber → ConfidentialityOffset → ℕ → Option (List ℕ) → Given
-wide_or_other an offset number None = Other an offset number
-wide_or_other an offset number (Some wrapped) = Aes256 an offset number wrapped
+abbrev pub wide_or_other : Option (List ℕ) → WrappedKey
+wide_or_other None = Other
+wide_or_other (Some wrapped) = Aes256 wrapped
 
-abbrev pub key_in : AssociationNumber → ConfidentialityOffset → ℕ → List ℕ → Given
-key_in an offset number key =
-    if length key == 24 then Aes128 an offset number key
-    else wide_or_other an offset number (wide_in key)
+-- the key behind the key number
+abbrev pub key_in : List ℕ → WrappedKey
+key_in key = if length key == 24 then Aes128 key else wide_or_other (wide_in key)
 
 unfoldable pub given_in : Option Set → Option Given
 given_in found = do
   s ← found
   number ← number_at s.body
-  Some (key_in (an_in (s.second / 64)) (offset_in (s.second / 16)) number.0 number.1)
+  Some (record {
+    an = an_in (s.second / 64);
+    offset = offset_in (s.second / 16);
+    number = number.0;
+    key = key_in number.1;
+  })
 
 -- ---- the Basic Parameter Set
 

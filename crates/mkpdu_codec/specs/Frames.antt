@@ -1,15 +1,14 @@
 -- Which frames spell which announcement (IEEE Std 802.1X, clause 11): a grammar of whole frames.
 use Rattle.std.specs.Prelude.{◌≡◌, ◌≢◌, ◌≤◌, ◌<◌, ℕ, ◌+◌, ◌/◌, ◌%◌, ◌^◌, ◌==◌, if◌then◌else◌, ◌⊎◌, List, [], ◌∷◌, ◌++◌, length, slice_index, Option, Some, None, IfSome, All, count_by}
 use Rattle.byteorder.specs.Endian.{big_bytes}
-use Rattle.lan_base.specs.declared.association_number.AssociationNumber.{AssociationNumber}
 use Rattle.lan_base.specs.Ranges.{IsCkn}
 use Rattle.mkpdu_codec.specs.declared.announcement.Announcement.{Announcement}
 use Rattle.mkpdu_codec.specs.declared.given.Given.{Given}
-use Rattle.mkpdu_codec.specs.declared.given.Given.TheVariants.{Aes128, Aes256, Other}
 use Rattle.mkpdu_codec.specs.declared.key_use.Uses.{Uses}
-use Rattle.mkpdu_codec.specs.declared.offset.ConfidentialityOffset.{ConfidentialityOffset}
 use Rattle.mkpdu_codec.specs.declared.peer.Peer.{Peer}
-use Rattle.mkpdu_codec.specs.Sets.{live_peers, potential_peers, sak_use, distributed_sak, icv_indicator, check_length, bit, missing, header, basic_body, peers_body, uses_body, uses_flags, given_flags, given_body, gcm_aes_256, IsPeer, IsKey}
+use Rattle.mkpdu_codec.specs.declared.wrapped_key.WrappedKey.{WrappedKey}
+use Rattle.mkpdu_codec.specs.declared.wrapped_key.WrappedKey.TheVariants.{Aes128, Aes256, Other}
+use Rattle.mkpdu_codec.specs.Sets.{live_peers, potential_peers, sak_use, distributed_sak, icv_indicator, check_length, bit, missing, header, basic_body, peers_body, uses_body, uses_flags, given_flags, given_body, gcm_aes_256, IsPeer, IsKey, IsGiven}
 
 -- ---- a parameter set
 
@@ -100,28 +99,29 @@ SpellsUses s None = s.body ≡ []
 SpellsUses s (Some u) =
     (s.second ≡ uses_flags u) × (s.body ≡ uses_body u) × IsKey u.latest × IsKey u.old
 
--- a Distributed SAK with its association number, offset and key number, and the key of its suite
-pub record IsGiving (s : Set) (an : AssociationNumber) (offset : ConfidentialityOffset) (number : ℕ)
-    (key : List ℕ) : Type 0 where
-  pub second : s.second / 16 ≡ given_flags an offset
-  pub four_octets : number < 2 ^ 32
-  pub body : s.body ≡ given_body number key
-
 -- a wrapped key for GCM-AES-256
 abbrev pub IsWide : List ℕ → List ℕ → Type 0
 IsWide key wrapped = (length wrapped ≡ 40) × (key ≡ gcm_aes_256 ++ wrapped)
 
--- Distributed SAK: an empty one says nothing. A key of 24 octets is one for GCM-AES-128; any other
--- key that isn't one for GCM-AES-256 is that of another suite
+-- the key behind the key number: one of 24 octets is for GCM-AES-128, and any other that isn't one
+-- for GCM-AES-256 is that of another suite
+abbrev pub SpellsKey : List ℕ → WrappedKey → Type 0
+SpellsKey key (Aes128 wrapped) = (length wrapped ≡ 24) × (key ≡ wrapped)
+SpellsKey key (Aes256 wrapped) = IsWide key wrapped
+SpellsKey key Other = (length key ≢ 24) × ((wrapped : List ℕ) → IsWide key wrapped → ⊥)
+
+-- a Distributed SAK with its association number, offset and key number, and the key of its suite
+pub record IsGiving (s : Set) (g : Given) : Type 0 where
+  pub key : List ℕ
+  pub second : s.second / 16 ≡ given_flags g.an g.offset
+  pub number : g.number < 2 ^ 32
+  pub body : s.body ≡ given_body g.number key
+  pub spells : SpellsKey key g.key
+
+-- Distributed SAK: an empty one says nothing
 abbrev pub SpellsGiven : Set → Option Given → Type 0
 SpellsGiven s None = s.body ≡ []
-SpellsGiven s (Some (Aes128 an offset number wrapped)) =
-    IsGiving s an offset number wrapped × (length wrapped ≡ 24)
-SpellsGiven s (Some (Aes256 an offset number wrapped)) =
-    (key : List ℕ) × (IsGiving s an offset number key × IsWide key wrapped)
-SpellsGiven s (Some (Other an offset number)) =
-    (key : List ℕ) × (IsGiving s an offset number key × (length key ≢ 24)
-    × ((wrapped : List ℕ) → IsWide key wrapped → ⊥))
+SpellsGiven s (Some g) = IsGiving s g
 
 -- the Basic Parameter Set: its second octet is the priority, and its highest flag is that of the
 -- key server
@@ -150,12 +150,6 @@ pub record Spells (frame : List ℕ) (a : Announcement) (covered : ℕ) (check :
   pub potential : SpellsPeers (the potential_peers others) a.potential
   pub uses : SpellsUses (the sak_use others) a.uses
   pub given : SpellsGiven (the distributed_sak others) a.given
-
--- a number of 32 bits, and the octets of the wrapped key
-abbrev pub IsGiven : Given → Type 0
-IsGiven (Aes128 an offset number wrapped) = (number < 2 ^ 32) × (length wrapped ≡ 24)
-IsGiven (Aes256 an offset number wrapped) = (number < 2 ^ 32) × (length wrapped ≡ 40)
-IsGiven (Other an offset number) = number < 2 ^ 32
 
 -- the values of an announcement are in the ranges of their types
 pub record IsOfItsTypes (a : Announcement) : Type 0 where

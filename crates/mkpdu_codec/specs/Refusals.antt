@@ -54,12 +54,24 @@ is_indicator octets =
     (length octets == 4) && (front_kind octets == icv_indicator)
     && (front_length octets == check_length)
 
+-- the length of a peer list: whole entries
+abbrev pub is_peers_length : ℕ → Bool
+is_peers_length n = n % 16 == 0
+
+-- the length of a SAK Use: that of two keys, or nothing
+abbrev pub is_uses_length : ℕ → Bool
+is_uses_length n = (n == 0) || (n == 40)
+
+-- the length of a Distributed SAK: at least that of a key number, or nothing
+abbrev pub is_given_length : ℕ → Bool
+is_given_length n = (n == 0) || nat_le 4 n
+
 -- the lengths that a type allows; a set of the ICV Indicator's type allows none here
 abbrev pub is_length_of : ℕ → ℕ → Bool
 is_length_of kind n =
-    if (kind == live_peers) || (kind == potential_peers) then n % 16 == 0 else
-    if kind == sak_use then (n == 0) || (n == 40) else
-    if kind == distributed_sak then (n == 0) || nat_le 4 n else
+    if (kind == live_peers) || (kind == potential_peers) then is_peers_length n else
+    if kind == sak_use then is_uses_length n else
+    if kind == distributed_sak then is_given_length n else
     not (kind == icv_indicator)
 
 -- the types of which there is at most one set

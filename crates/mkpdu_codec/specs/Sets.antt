@@ -1,13 +1,16 @@
 -- The parameter sets of an MKA frame (IEEE Std 802.1X, clause 11), as octets.
-use Rattle.std.specs.Prelude.{◌≡◌, ◌<◌, ◌^◌, ℕ, ◌+◌, ◌-◌, ◌*◌, ◌/◌, ◌%◌, Bool, true, false, List, [], ◌∷◌, ◌++◌, length, replicate}
+use Rattle.std.specs.Prelude.{⊤, ◌≡◌, ◌<◌, ◌^◌, ℕ, ◌+◌, ◌-◌, ◌*◌, ◌/◌, ◌%◌, Bool, true, false, List, [], ◌∷◌, ◌++◌, length, replicate}
 use Rattle.std.specs.List.{flat_map}
 use Rattle.byteorder.specs.Endian.{big_bytes}
 use Rattle.lan_base.specs.declared.association_number.AssociationNumber.{AssociationNumber}
 use Rattle.lan_base.specs.AssociationNumbers.{number_of}
 use Rattle.mkpdu_codec.specs.declared.offset.ConfidentialityOffset.{ConfidentialityOffset}
+use Rattle.mkpdu_codec.specs.declared.given.Given.{Given}
 use Rattle.mkpdu_codec.specs.declared.peer.Peer.{Peer}
 use Rattle.mkpdu_codec.specs.declared.key_use.KeyUse.{KeyUse}
 use Rattle.mkpdu_codec.specs.declared.key_use.Uses.{Uses}
+use Rattle.mkpdu_codec.specs.declared.wrapped_key.WrappedKey.{WrappedKey}
+use Rattle.mkpdu_codec.specs.declared.wrapped_key.WrappedKey.TheVariants.{Aes128, Aes256, Other}
 use Rattle.mkpdu_codec.specs.Offsets.{offset_bits}
 
 -- the types of the sets behind the Basic Parameter Set
@@ -114,3 +117,14 @@ pub record IsKey (u : KeyUse) : Type 0 where
   pub server : length u.server.0 ≡ 12
   pub number : u.number < 2 ^ 32
   pub lowest : u.lowest < 2 ^ 32
+
+-- the octets of a wrapped key
+abbrev pub IsWrapped : WrappedKey → Type 0
+IsWrapped (Aes128 wrapped) = length wrapped ≡ 24
+IsWrapped (Aes256 wrapped) = length wrapped ≡ 40
+IsWrapped Other = ⊤
+
+-- what a Distributed SAK gives
+pub record IsGiven (g : Given) : Type 0 where
+  pub number : g.number < 2 ^ 32
+  pub key : IsWrapped g.key

@@ -4,9 +4,10 @@ use Rattle.byteorder.specs.Endian.{big_bytes}
 use Rattle.lan_base.specs.Ranges.{IsCkn}
 use Rattle.mkpdu_codec.specs.declared.announcement.Announcement.{Announcement}
 use Rattle.mkpdu_codec.specs.declared.given.Given.{Given}
-use Rattle.mkpdu_codec.specs.declared.given.Given.TheVariants.{Aes128, Aes256, Other}
 use Rattle.mkpdu_codec.specs.declared.key_use.Uses.{Uses}
 use Rattle.mkpdu_codec.specs.declared.peer.Peer.{Peer}
+use Rattle.mkpdu_codec.specs.declared.wrapped_key.WrappedKey.{WrappedKey}
+use Rattle.mkpdu_codec.specs.declared.wrapped_key.WrappedKey.TheVariants.{Aes128, Aes256, Other}
 use Rattle.mkpdu_codec.specs.Sets.{sak_use, distributed_sak, live_peers, potential_peers, check_length, bit, set, basic_body, peers_body, uses_body, uses_flags, given_body, given_flags, gcm_aes_256}
 
 -- the group address that MKA frames are sent to
@@ -31,14 +32,20 @@ abbrev pub uses_set : Option Uses → List ℕ
 uses_set None = []
 uses_set (Some u) = set sak_use (uses_flags u) 0 (uses_body u)
 
--- Distributed SAK, of which those for GCM-AES-128 and GCM-AES-256 are written
+-- Distributed SAK with these octets of its key
+abbrev pub giving_set : Given → List ℕ → List ℕ
+giving_set g key = set distributed_sak (given_flags g.an g.offset * 16) 0 (given_body g.number key)
+
+-- Distributed SAK with its key, of which those for GCM-AES-128 and GCM-AES-256 are written
+abbrev pub key_set : Given → WrappedKey → List ℕ
+key_set g (Aes128 wrapped) = giving_set g wrapped
+key_set g (Aes256 wrapped) = giving_set g (gcm_aes_256 ++ wrapped)
+key_set g Other = []
+
+-- Distributed SAK
 abbrev pub given_set : Option Given → List ℕ
 given_set None = []
-given_set (Some (Aes128 an offset number wrapped)) =
-    set distributed_sak (given_flags an offset * 16) 0 (given_body number wrapped)
-given_set (Some (Aes256 an offset number wrapped)) =
-    set distributed_sak (given_flags an offset * 16) 0 (given_body number (gcm_aes_256 ++ wrapped))
-given_set (Some (Other an offset number)) = []
+given_set (Some g) = key_set g g.key
 
 -- the sets of an announcement, in their order
 abbrev pub sets : Announcement → List ℕ
@@ -59,10 +66,10 @@ abbrev pub most_listed : ℕ
 most_listed = 80
 
 -- a key for another cipher isn't written
-abbrev pub IsWritableGiven : Given → Type 0
-IsWritableGiven (Aes128 an offset number wrapped) = ⊤
-IsWritableGiven (Aes256 an offset number wrapped) = ⊤
-IsWritableGiven (Other an offset number) = ⊥
+abbrev pub IsWritableKey : WrappedKey → Type 0
+IsWritableKey (Aes128 wrapped) = ⊤
+IsWritableKey (Aes256 wrapped) = ⊤
+IsWritableKey Other = ⊥
 
 -- what may be written
 pub record IsWritable (a : Announcement) : Type 0 where
@@ -70,4 +77,4 @@ pub record IsWritable (a : Announcement) : Type 0 where
   pub named : IsCkn a.ckn
   pub live : length a.live ≤ most_listed
   pub potential : length a.potential ≤ most_listed
-  pub given : IfSome a.given IsWritableGiven
+  pub given : IfSome a.given (λ g. IsWritableKey g.key)

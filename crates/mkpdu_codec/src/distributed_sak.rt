@@ -2,17 +2,18 @@
 
 ghost use Rattle.std.specs.Prelude.{◌≡◌, ◌≤◌, ◌<◌, ◌+◌, ◌*◌, ◌++◌, length};
 ghost use Rattle.mkpdu_codec.specs.Fields.{given_in, key_in, wide_in};
+ghost use Rattle.mkpdu_codec.specs.Refusals.{is_given_length};
 ghost use Rattle.lan_base.specs.Room.{HasRoom, Puts};
-ghost use Rattle.mkpdu_codec.specs.Sets.{given_body, given_flags, set};
-ghost use Rattle.mkpdu_codec.specs.Written.{given_set};
+ghost use Rattle.mkpdu_codec.specs.Sets.{given_flags};
+ghost use Rattle.mkpdu_codec.specs.Written.{given_set, giving_set};
 ghost use Rattle.mkpdu_codec.specs.inside.Views.{Finds, seen};
 
 use crate::fields::{an_of, offset_of, read_number};
 use crate::given::Given;
 use crate::layout::DISTRIBUTED_SAK;
-use crate::offset::ConfidentialityOffset;
 use crate::set::{ParameterSet, put_header, put_padding, set_len};
-use lan_base::{AssociationNumber, put};
+use crate::wrapped_key::WrappedKey;
+use lan_base::put;
 
 /// The identifier of the cipher suite GCM-AES-256.
 const GCM_AES_256: [u8; 8] = [0x00, 0x80, 0xc2, 0x00, 0x01, 0x00, 0x00, 0x02];
@@ -22,35 +23,33 @@ pub fn given_len(given: Option<Given>) -> usize
     ensures value { result ≡ length (given_set given) }
     ensures most { result ≤ 56 }
 {
-    match given {
-        Some(Given::Aes128 { wrapped, .. }) => set_len(4 + wrapped.len()),
-        Some(Given::Aes256 { wrapped, .. }) => set_len(4 + GCM_AES_256.len() + wrapped.len()),
-        _ => 0,
+    match given.map(|given| given.key) {
+        Some(WrappedKey::Aes128(wrapped)) => set_len(4 + wrapped.len()),
+        Some(WrappedKey::Aes256(wrapped)) => set_len(4 + GCM_AES_256.len() + wrapped.len()),
+        Some(WrappedKey::Other) | None => 0,
     }
 }
 
-/// Writes a set: its second octet, key number, the suite's identifier, and the wrapped key.
+/// The second octet: association number and confidentiality offset in its high four bits.
+fn second_of(given: &Given) -> u8
+    ensures { result ≡ given_flags given.now.an given.now.offset * 16 }
+{
+    (given.an.number() * 4 + given.offset.bits()) * 16
+}
+
+/// Writes the set with its key: the suite's identifier, and the wrapped key.
 #[tactic(auto, using(lan_base::proofs::Public::pieces))]
-fn put_key(second: u8, number: u32, suite: &[u8], wrapped: &[u8], into: &mut Vec<u8>)
+fn put_key(given: &Given, suite: &[u8], wrapped: &[u8], into: &mut Vec<u8>)
     requires short { length suite.now + length wrapped.now < 64 }
-    requires room { HasRoom into.old (set 4 second 0
-        (given_body number (suite.now ++ wrapped.now))) }
-    ensures { Puts into.old into.new (set 4 second 0
-        (given_body number (suite.now ++ wrapped.now))) }
+    requires room { HasRoom into.old (giving_set given.now (suite.now ++ wrapped.now)) }
+    ensures { Puts into.old into.new (giving_set given.now (suite.now ++ wrapped.now)) }
 {
     let len = 4 + suite.len() + wrapped.len();
-    put_header(DISTRIBUTED_SAK, second, 0, len, into);
-    put(into, &number.to_be_bytes());
+    put_header(DISTRIBUTED_SAK, second_of(given), 0, len, into);
+    put(into, &given.number.to_be_bytes());
     put(into, suite);
     put(into, wrapped);
     put_padding(len, into);
-}
-
-/// The second octet: association number and confidentiality offset in its high four bits.
-fn second_of(an: AssociationNumber, offset: ConfidentialityOffset) -> u8
-    ensures { result ≡ given_flags an offset * 16 }
-{
-    (an.number() * 4 + offset.bits()) * 16
 }
 
 /// Writes the set, where there is one.
@@ -58,35 +57,20 @@ pub fn put_given(given: &Option<Given>, into: &mut Vec<u8>)
     requires { HasRoom into.old (given_set given.now) }
     ensures { Puts into.old into.new (given_set given.now) }
 {
-    match given {
-        Some(
-            Given::Aes128 {
-                an,
-                offset,
-                number,
-                wrapped,
-            },
-        ) => {
-            put_key(second_of(*an, *offset), *number, &[], wrapped, into);
+    if let Some(given) = given {
+        match &given.key {
+            WrappedKey::Aes128(wrapped) => put_key(given, &[], wrapped, into),
+            WrappedKey::Aes256(wrapped) => put_key(given, &GCM_AES_256, wrapped, into),
+            WrappedKey::Other => {}
         }
-        Some(
-            Given::Aes256 {
-                an,
-                offset,
-                number,
-                wrapped,
-            },
-        ) => {
-            put_key(
-                second_of(*an, *offset),
-                *number,
-                &GCM_AES_256,
-                wrapped,
-                into,
-            );
-        }
-        _ => {}
     }
+}
+
+/// The length of a body: at least that of a key number, or nothing.
+pub fn is_given_len(len: usize) -> bool
+    ensures { result ≡ is_given_length len }
+{
+    len == 0 || len >= 4
 }
 
 /// The wrapped key of a key for GCM-AES-256.
@@ -100,25 +84,15 @@ fn wide_of(key: &[u8]) -> Option<[u8; 40]>
 }
 
 /// The key behind the key number.
-fn key_of(an: AssociationNumber, offset: ConfidentialityOffset, number: u32, key: &[u8]) -> Given
-    ensures { result ≡ key_in an offset number key.now }
+fn key_of(key: &[u8]) -> WrappedKey
+    ensures { result ≡ key_in key.now }
 {
     if let Ok(wrapped) = <[u8; 24]>::try_from(key) {
-        return Given::Aes128 {
-            an,
-            offset,
-            number,
-            wrapped,
-        };
+        return WrappedKey::Aes128(wrapped);
     }
     match wide_of(key) {
-        Some(wrapped) => Given::Aes256 {
-            an,
-            offset,
-            number,
-            wrapped,
-        },
-        None => Given::Other { an, offset, number },
+        Some(wrapped) => WrappedKey::Aes256(wrapped),
+        None => WrappedKey::Other,
     }
 }
 
@@ -129,10 +103,10 @@ pub fn given_of(set: Option<ParameterSet<'_>>) -> Option<Given>
 {
     let set = set?;
     let (number, key) = read_number(set.body)?;
-    Some(key_of(
-        an_of(set.second / 64),
-        offset_of(set.second / 16),
+    Some(Given {
+        an: an_of(set.second / 64),
+        offset: offset_of(set.second / 16),
         number,
-        key,
-    ))
+        key: key_of(key),
+    })
 }

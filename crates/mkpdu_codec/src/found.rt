@@ -5,8 +5,11 @@ ghost use Rattle.mkpdu_codec.specs.Refusals.{is_indicator, is_length_of};
 ghost use Rattle.mkpdu_codec.specs.Reading.{nothing, placed, shaped_at, gathered};
 ghost use Rattle.mkpdu_codec.specs.inside.Views.{set_of, Gives, gathered_of};
 
+use crate::distributed_sak::is_given_len;
 use crate::layout::{DISTRIBUTED_SAK, ICV_INDICATOR, LIVE_PEERS, POTENTIAL_PEERS, SAK_USE};
+use crate::peer_list::is_peers_len;
 use crate::refusal::Refusal;
+use crate::sak_use::is_uses_len;
 use crate::set::{ParameterSet, read_set};
 
 /// The sets that are read, at most one of each type.
@@ -51,9 +54,9 @@ fn is_length_of_kind(kind: u8, len: usize) -> bool
     ensures { result ≡ is_length_of kind len }
 {
     match kind {
-        LIVE_PEERS | POTENTIAL_PEERS => len % 16 == 0,
-        SAK_USE => len == 0 || len == 40,
-        DISTRIBUTED_SAK => len == 0 || len >= 4,
+        LIVE_PEERS | POTENTIAL_PEERS => is_peers_len(len),
+        SAK_USE => is_uses_len(len),
+        DISTRIBUTED_SAK => is_given_len(len),
         ICV_INDICATOR => false,
         _ => true,
     }

@@ -20,6 +20,7 @@ mod refusal;
 mod sak_use;
 mod set;
 mod spelled;
+mod wrapped_key;
 mod writing;
 
 pub use announcement::Announcement;
@@ -36,4 +37,5 @@ pub use read_error::ReadError;
 pub use reading::read;
 pub use refusal::Refusal;
 pub use spelled::Spelled;
+pub use wrapped_key::WrappedKey;
 pub use writing::{write, written_len};

@@ -3,6 +3,7 @@
 
 ghost use Rattle.std.specs.Prelude.{◌≡◌, ◌≤◌, ◌<◌, ◌+◌, ◌*◌, length, IfOk};
 ghost use Rattle.mkpdu_codec.specs.Fields.{entry_at, entries_at, peers_in};
+ghost use Rattle.mkpdu_codec.specs.Refusals.{is_peers_length};
 ghost use Rattle.lan_base.specs.Room.{HasRoom, Puts};
 ghost use Rattle.mkpdu_codec.specs.Sets.{peer, peers_body};
 ghost use Rattle.mkpdu_codec.specs.Written.{most_listed, peers_set};
@@ -79,6 +80,13 @@ pub fn put_peers(kind: u8, peers: &Peers, into: &mut Vec<u8>)
         put_header(kind, 0, 0, len, into);
         put_body(peers.as_slice(), into);
     }
+}
+
+/// The length of a body: whole entries.
+pub fn is_peers_len(len: usize) -> bool
+    ensures { result ≡ is_peers_length len }
+{
+    len % 16 == 0
 }
 
 /// Reads the entry in front. The octets that follow it are left.

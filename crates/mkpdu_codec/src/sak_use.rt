@@ -2,6 +2,7 @@
 
 ghost use Rattle.std.specs.Prelude.{◌≡◌, ◌≤◌, ◌<◌, length};
 ghost use Rattle.mkpdu_codec.specs.Fields.{key_at, uses_in};
+ghost use Rattle.mkpdu_codec.specs.Refusals.{is_uses_length};
 ghost use Rattle.lan_base.specs.Room.{HasRoom, Puts};
 ghost use Rattle.mkpdu_codec.specs.Sets.{use_body, use_flags, uses_body};
 ghost use Rattle.mkpdu_codec.specs.Written.{uses_set};
@@ -72,6 +73,13 @@ pub fn put_uses(uses: &Option<Uses>, into: &mut Vec<u8>)
         put_header(SAK_USE, flags, 0, body_len(*uses), into);
         put_body(uses, into);
     }
+}
+
+/// The length of a body: that of two keys, or nothing.
+pub fn is_uses_len(len: usize) -> bool
+    ensures { result ≡ is_uses_length len }
+{
+    len == 0 || len == 40
 }
 
 /// Reads one key from its half of the second octet and its part of the body.

@@ -1,17 +1,16 @@
 //! An announcement as the octets of a frame.
 
-ghost use Rattle.std.specs.Prelude.{◌≡◌, ◌≤◌, ◌<◌, ℕ, ◌+◌, ◌*◌, ◌++◌, ◌^◌, List, length, IsOk, IfSome, OnOk, OnErr};
+ghost use Rattle.std.specs.Prelude.{◌≡◌, ◌≤◌, ◌<◌, ℕ, ◌+◌, ◌*◌, ◌++◌, ◌^◌, List, length, IsOk, OnOk, OnErr};
 ghost use Rattle.lan_base.specs.Room.{HasRoom, Puts};
 ghost use Rattle.std.specs.Vec.{vec_capacity};
-ghost use Rattle.mkpdu_codec.specs.Sets.{IsKey};
 ghost use Rattle.mkpdu_codec.specs.Written.{frame_header, sets, written, most_written, IsWritable};
-ghost use Rattle.mkpdu_codec.specs.Frames.{IsGiven, IsOfItsTypes, Spells};
+ghost use Rattle.mkpdu_codec.specs.Frames.{IsOfItsTypes, Spells};
 
 use crate::announcement::Announcement;
 use crate::basic::{basic_len, put_basic};
 use crate::distributed_sak::{given_len, put_given};
-use crate::given::Given;
-use crate::key_use::{KeyUse, Uses};
+use crate::given::is_given;
+use crate::key_use::are_uses;
 use crate::layout::{CHECK_LEN, LIVE_PEERS, POTENTIAL_PEERS};
 use crate::peer_list::{peers_len, put_peers};
 use crate::sak_use::{put_uses, uses_len};
@@ -72,29 +71,8 @@ fn put_sets(announcement: &Announcement, into: &mut Vec<u8>)
     put_given(&announcement.given, into);
 }
 
-/// A key of a SAK Use is in the ranges of its type. Nothing runs, nor in the functions behind this
-/// one.
-fn is_key(key: KeyUse)
-    ensures { IsKey key }
-{}
-
-/// The keys of a SAK Use are in the ranges of their types.
-fn are_uses(uses: Option<Uses>)
-    ensures { IfSome uses (λ u. IsKey u.latest × IsKey u.old) }
-{
-    if let Some(Uses { latest, old }) = uses {
-        is_key(latest);
-        is_key(old);
-    }
-}
-
-/// A given key is in the ranges of its type.
-fn is_given(given: Option<Given>)
-    ensures { IfSome given IsGiven }
-{}
-
 /// A secure channel identifier, a member identifier and a message number are in the ranges of their
-/// types.
+/// types. Nothing runs.
 fn are_identifiers(sci: Sci, mi: Mi, mn: u32)
     ensures sci { length sci.0 ≡ 8 }
     ensures mi { length mi.0 ≡ 12 }
@@ -109,7 +87,9 @@ fn is_of_its_types(announcement: &Announcement)
     let _ = announcement.live.as_slice();
     let _ = announcement.potential.as_slice();
     are_uses(announcement.uses);
-    is_given(announcement.given);
+    if let Some(given) = announcement.given {
+        is_given(given);
+    }
 }
 
 /// How many octets `write` appends.

@@ -6,14 +6,12 @@ use Rattle.aes_block.specs.declared.secret.Secret.{Secret}
 use Rattle.aes_block.specs.declared.secret.Secret.TheVariants.{S128, S256}
 use Rattle.key_wrap.specs.Wrap.{wrapped}
 use Rattle.lan_base.specs.declared.address.Mi.{Mi}
-use Rattle.lan_base.specs.declared.association_number.AssociationNumber.{AssociationNumber}
-use Rattle.lan_base.specs.declared.key_id.KeyId.{KeyId}
 use Rattle.mkpdu_codec.specs.declared.announcement.Announcement.{Announcement}
 use Rattle.mkpdu_codec.specs.declared.given.Given.{Given}
-use Rattle.mkpdu_codec.specs.declared.given.Given.TheVariants.{Aes128, Aes256, Other}
 use Rattle.mkpdu_codec.specs.declared.key_use.KeyUse.{KeyUse}
 use Rattle.mkpdu_codec.specs.declared.key_use.Uses.{Uses}
-use Rattle.mkpdu_codec.specs.declared.offset.ConfidentialityOffset.{ConfidentialityOffset}
+use Rattle.mkpdu_codec.specs.declared.wrapped_key.WrappedKey.{WrappedKey}
+use Rattle.mkpdu_codec.specs.declared.wrapped_key.WrappedKey.TheVariants.{Aes128, Aes256, Other}
 use Rattle.packet_verdicts.specs.declared.given.Gift.{Gift}
 use Rattle.packet_verdicts.specs.declared.given.NoSak.{NoSak}
 use Rattle.packet_verdicts.specs.declared.given.NoSak.TheVariants.{OtherSuite, WrongWrap}
@@ -22,42 +20,24 @@ use Rattle.packet_verdicts.specs.declared.given.ShownKeys.{ShownKeys}
 
 -- ---- a Distributed SAK
 
--- the identifier of a key that a member gives: its MI and the key number
-abbrev pub id_of : Mi → Given → KeyId
-id_of mi (Aes128 an offset number octets) = record { server = mi; number = number }
-id_of mi (Aes256 an offset number octets) = record { server = mi; number = number }
-id_of mi (Other an offset number) = record { server = mi; number = number }
-
-abbrev pub an_of : Given → AssociationNumber
-an_of (Aes128 an offset number octets) = an
-an_of (Aes256 an offset number octets) = an
-an_of (Other an offset number) = an
-
-abbrev pub offset_of : Given → ConfidentialityOffset
-offset_of (Aes128 an offset number octets) = offset
-offset_of (Aes256 an offset number octets) = offset
-offset_of (Other an offset number) = offset
-
 -- The SAK that is given: the one whose wrap under a key encrypting key these octets are. The wrap is
 -- wrong where there is none, and a key for another suite isn't unwrapped.
-abbrev pub IsSak : List ℕ → Given → Result Secret NoSak → Type 0
-IsSak kek (Aes128 an offset number octets) (Ok (S128 sak)) =
-    IsOctets 16 sak × (wrapped kek sak ≡ octets)
-IsSak kek (Aes128 an offset number octets) (Err WrongWrap) =
+abbrev pub IsSak : List ℕ → WrappedKey → Result Secret NoSak → Type 0
+IsSak kek (Aes128 octets) (Ok (S128 sak)) = IsOctets 16 sak × (wrapped kek sak ≡ octets)
+IsSak kek (Aes128 octets) (Err WrongWrap) =
     (sak : List ℕ) → IsOctets 16 sak → wrapped kek sak ≢ octets
-IsSak kek (Aes256 an offset number octets) (Ok (S256 sak)) =
-    IsOctets 32 sak × (wrapped kek sak ≡ octets)
-IsSak kek (Aes256 an offset number octets) (Err WrongWrap) =
+IsSak kek (Aes256 octets) (Ok (S256 sak)) = IsOctets 32 sak × (wrapped kek sak ≡ octets)
+IsSak kek (Aes256 octets) (Err WrongWrap) =
     (sak : List ℕ) → IsOctets 32 sak → wrapped kek sak ≢ octets
-IsSak kek (Other an offset number) (Err OtherSuite) = Unit {0}
+IsSak kek Other (Err OtherSuite) = Unit {0}
 IsSak kek _ _ = ⊥
 
 -- what a key server gives
 pub record IsGift (kek : List ℕ) (mi : Mi) (given : Given) (g : Gift) : Type 0 where
-  pub named : g.id ≡ id_of mi given
-  pub under : g.an ≡ an_of given
-  pub protects : g.offset ≡ offset_of given
-  pub hides : IsSak kek given g.sak
+  pub named : g.id ≡ record { server = mi; number = given.number }
+  pub under : g.an ≡ given.an
+  pub protects : g.offset ≡ given.offset
+  pub hides : IsSak kek given.key g.sak
 
 abbrev pub GivesBy : List ℕ → Mi → Option Given → Option Gift → Type 0
 GivesBy kek mi (Some given) (Some g) = IsGift kek mi given g

@@ -3,14 +3,14 @@
 
 ghost use Rattle.std.specs.Prelude.{◌≡◌, ◌≤◌, Some, length};
 ghost use Rattle.std.specs.Prelude.{◌-◌, slice_get};
-ghost use Rattle.packet_verdicts.specs.Given.{Gives, IsSak, an_of, id_of, offset_of, shown_key, shown_keys};
+ghost use Rattle.packet_verdicts.specs.Given.{Gives, IsGift, IsSak, shown_key, shown_keys};
 ghost use Rattle.packet_verdicts.specs.Groups.{GroupKeys};
 
 use crate::groups::Groups;
 use aes_block::{Key, Secret};
 use key_wrap::{unwrap, unwrap256};
 use lan_base::{AssociationNumber, KeyId, Mi};
-use mkpdu_codec::{Announcement, ConfidentialityOffset, Given, KeyUse};
+use mkpdu_codec::{Announcement, ConfidentialityOffset, Given, KeyUse, WrappedKey};
 
 /// Why a Distributed SAK gives no key.
 #[derive(Clone, Copy, Debug, PartialEq, Eq)]
@@ -63,48 +63,33 @@ pub fn given_key(groups: &Groups, group: usize, announcement: &Announcement) -> 
 
 /// What a member gives under a key encrypting key.
 fn gift_of(kek: &Key, mi: Mi, given: &Given) -> Gift
-    ensures id { result.id ≡ id_of mi given.now }
-    ensures an { result.an ≡ an_of given.now }
-    ensures offset { result.offset ≡ offset_of given.now }
-    ensures sak { IsSak kek.now given.now result.sak }
+    ensures { IsGift kek.now mi given.now result }
 {
-    let sak = sak_of(kek, given);
-    match *given {
-        Given::Aes128 {
-            an,
-            offset,
-            number,
-            ..
-        }
-        | Given::Aes256 {
-            an,
-            offset,
-            number,
-            ..
-        }
-        | Given::Other { an, offset, number } => Gift {
-            id: KeyId { server: mi, number },
-            an,
-            offset,
-            sak,
+    Gift {
+        id: KeyId {
+            server: mi,
+            number: given.number,
         },
+        an: given.an,
+        offset: given.offset,
+        sak: sak_of(kek, &given.key),
     }
 }
 
 /// The SAK that is given.
-fn sak_of(kek: &Key, given: &Given) -> Result<Secret, NoSak>
-    ensures { IsSak kek.now given.now result }
+fn sak_of(kek: &Key, key: &WrappedKey) -> Result<Secret, NoSak>
+    ensures { IsSak kek.now key.now result }
 {
-    match given {
-        Given::Aes128 { wrapped, .. } => match unwrap(kek, wrapped) {
+    match key {
+        WrappedKey::Aes128(octets) => match unwrap(kek, octets) {
             Some(sak) => Ok(Secret::S128(sak)),
             None => Err(NoSak::WrongWrap),
         },
-        Given::Aes256 { wrapped, .. } => match unwrap256(kek, wrapped) {
+        WrappedKey::Aes256(octets) => match unwrap256(kek, octets) {
             Some(sak) => Ok(Secret::S256(sak)),
             None => Err(NoSak::WrongWrap),
         },
-        Given::Other { .. } => Err(NoSak::OtherSuite),
+        WrappedKey::Other => Err(NoSak::OtherSuite),
     }
 }
 

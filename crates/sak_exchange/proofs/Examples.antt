@@ -10,8 +10,9 @@ use Rattle.lan_base.specs.declared.key_id.KeyId.{KeyId}
 use Rattle.mkpdu_codec.specs.declared.offset.ConfidentialityOffset.{ConfidentialityOffset}
 use Rattle.mkpdu_codec.specs.declared.offset.ConfidentialityOffset.TheVariants as offsets
 use Rattle.mkpdu_codec.specs.declared.given.Given.{Given}
-use Rattle.mkpdu_codec.specs.declared.given.Given.TheVariants.{Aes128, Aes256, Other}
 use Rattle.mkpdu_codec.specs.declared.key_use.KeyUse.{KeyUse}
+use Rattle.mkpdu_codec.specs.declared.wrapped_key.WrappedKey.{WrappedKey}
+use Rattle.mkpdu_codec.specs.declared.wrapped_key.WrappedKey.TheVariants.{Aes128, Aes256, Other}
 use Rattle.sak_exchange.specs.declared.change.Cause.TheVariants.{All, Timeout, Flag}
 use Rattle.sak_exchange.specs.declared.change.Change.TheVariants.{Dropped, Installed}
 use Rattle.sak_exchange.specs.declared.change.Why.TheVariants.{NotListed, NotServer, Seen, Retiring, Suite, Offset, Wrap}
@@ -223,16 +224,19 @@ rests_while_one_is_potential = (refl, refl, refl)
 
 -- ---- a key is offered
 
+abbrev giving : ℕ → ConfidentialityOffset → WrappedKey → Given
+giving number offset key = record { an = An1; offset = offset; number = number; key = key }
+
 abbrev given : ℕ → ConfidentialityOffset → Given
-given number offset = Aes128 An1 offset number []
+given number offset = giving number offset (Aes128 [])
 
 abbrev offer : Given → Bool → Bool → Offer
 offer g listed elected = record { given = g; server = mi 1; listed = listed; elected = elected }
 
 -- each reason comes where none before it does
 first_reasons : (taken 0 taken_first (offer (given 1 offsets.Octets30) false false) None ≡ Err NotListed) × (taken 0 taken_first (offer (given 1 offsets.Octets30) true false) None ≡ Err NotServer)
-    × (taken 0 taken_first (offer (given 1 offsets.Octets30) true true) None ≡ Err (Seen 1)) × (taken 0 rolled (offer (Other An1 offsets.Octets30 3) true true) None ≡ Err Retiring)
-    × (taken 0 taken_first (offer (Other An1 offsets.Octets30 2) true true) None ≡ Err Suite) × (taken 0 taken_first (offer (given 2 offsets.Octets30) true true) None ≡ Err Offset) × (taken 0 taken_first (offer (given 2 offsets.Octets0) true true) None ≡ Err Wrap)
+    × (taken 0 taken_first (offer (given 1 offsets.Octets30) true true) None ≡ Err (Seen 1)) × (taken 0 rolled (offer (giving 3 offsets.Octets30 Other) true true) None ≡ Err Retiring)
+    × (taken 0 taken_first (offer (giving 2 offsets.Octets30 Other) true true) None ≡ Err Suite) × (taken 0 taken_first (offer (given 2 offsets.Octets30) true true) None ≡ Err Offset) × (taken 0 taken_first (offer (given 2 offsets.Octets0) true true) None ≡ Err Wrap)
 unfolding received latest old
 first_reasons = (refl, refl, refl, refl, refl, refl, refl)
 
@@ -246,6 +250,6 @@ unfolding received latest old
 takes_a_key = refl
 
 -- offset 0 gives integrity alone
-takes_a_longer_key : taken 7 taken_first (offer (Aes256 An1 offsets.None 2 []) true true) (Some (S256 (replicate 32 2))) ≡ Ok (record (key 1 2 An1 9) { sak = S256 (replicate 32 2); conf = false })
+takes_a_longer_key : taken 7 taken_first (offer (giving 2 offsets.None (Aes256 [])) true true) (Some (S256 (replicate 32 2))) ≡ Ok (record (key 1 2 An1 9) { sak = S256 (replicate 32 2); conf = false })
 unfolding received latest old
 takes_a_longer_key = refl

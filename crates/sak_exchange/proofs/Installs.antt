@@ -17,7 +17,7 @@ use Rattle.sak_exchange.specs.declared.offer.Offer.{Offer}
 use Rattle.sak_exchange.specs.declared.held_key.Key.{Key}
 use Rattle.sak_exchange.specs.Histories.{Keying, installed, clock, last_made_at, install_count, made_count, begun_at, has_begun}
 use Rattle.sak_exchange.specs.Held.{latest, old, allows, Kept, shown, held}
-use Rattle.sak_exchange.specs.Taking.{greatest_of, provided, provided_new, offered_id, number_of, is_supported, offset_of, leaves_none, offered_key, unwrapped_key, judged, taken}
+use Rattle.sak_exchange.specs.Taking.{greatest_of, provided, provided_new, offered_id, is_supported, leaves_none, offered_key, unwrapped_key, judged, taken}
 use Rattle.sak_exchange.specs.Making.{next_epoch}
 use Rattle.sak_exchange.specs.Outcomes.{installing}
 use Rattle.sak_exchange.specs.Lives.{apart, IsNumbered, IsOver}
@@ -107,7 +107,7 @@ judged-told base own s h o sak t = rw (t.numbers o.server, allows-told base own 
 -- what is known of a key that is taken
 pub record IsTaken (kept : Option ℕ) (allowed : Bool) (epoch : ℕ) (o : Offer) (k : Key) : Type 0 where
   pub id : k.id ≡ offered_id o
-  pub over : IsOver kept (number_of o.given)
+  pub over : IsOver kept o.given.number
   pub may : allowed ≡ true
   pub next : k.epoch ≡ epoch
 
@@ -127,10 +127,10 @@ pub judged-ok : (kept : Option ℕ) (allowed : Bool) (epoch : ℕ) (o : Offer) (
 judged-ok kept allowed epoch o sak k is =
     let a = provided-ok o.listed NotListed _ k is in
     let b = provided-ok o.elected NotServer _ k a.1 in
-    let c = new-ok kept (number_of o.given) _ k b.1 in
+    let c = new-ok kept o.given.number _ k b.1 in
     let d = provided-ok allowed Retiring _ k c.1 in
-    let e = provided-ok (is_supported o.given) Suite _ k d.1 in
-    let f = provided-ok (leaves_none (offset_of o.given)) Offset _ k e.1 in
+    let e = provided-ok (is_supported o.given.key) Suite _ k d.1 in
+    let f = provided-ok (leaves_none o.given.offset) Offset _ k e.1 in
     let g = key-ok epoch o sak k f.1 in
     record { id = g.0; over = c.0; may = d.0; next = g.1 }
 

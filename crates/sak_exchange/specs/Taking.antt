@@ -2,13 +2,12 @@
 -- the reasons not to is this profile's own).
 use Rattle.std.specs.Prelude.{ℕ, nat_lt, max, Bool, true, false, if◌then◌else◌, List, [], ◌∷◌, Option, Some, None, unwrap_or, Result, Ok, Err}
 use Rattle.lan_base.specs.declared.address.Mi.{Mi}
-use Rattle.lan_base.specs.declared.association_number.AssociationNumber.{AssociationNumber}
 use Rattle.lan_base.specs.declared.key_id.KeyId.{KeyId}
 use Rattle.aes_block.specs.declared.secret.Secret.{Secret}
 use Rattle.mkpdu_codec.specs.declared.offset.ConfidentialityOffset.{ConfidentialityOffset}
 use Rattle.mkpdu_codec.specs.declared.offset.ConfidentialityOffset.TheVariants as offsets
-use Rattle.mkpdu_codec.specs.declared.given.Given.{Given}
-use Rattle.mkpdu_codec.specs.declared.given.Given.TheVariants.{Aes128, Aes256, Other}
+use Rattle.mkpdu_codec.specs.declared.wrapped_key.WrappedKey.{WrappedKey}
+use Rattle.mkpdu_codec.specs.declared.wrapped_key.WrappedKey.TheVariants.{Aes128, Aes256, Other}
 use Rattle.sak_exchange.specs.declared.offer.Offer.{Offer}
 use Rattle.sak_exchange.specs.declared.change.Why.{Why}
 use Rattle.sak_exchange.specs.declared.change.Why.TheVariants.{NotListed, NotServer, Seen, Retiring, Suite, Offset, Wrap}
@@ -18,28 +17,11 @@ use Rattle.sak_exchange.specs.Histories.{Keying, ticked, installed, began}
 use Rattle.sak_exchange.specs.Held.{allows}
 use Rattle.sak_exchange.specs.Making.{next_epoch}
 
--- the fields of what is given: the association number, the confidentiality offset and the key
--- number
-abbrev pub an_of : Given → AssociationNumber
-an_of (Aes128 an offset number octets) = an
-an_of (Aes256 an offset number octets) = an
-an_of (Other an offset number) = an
-
-abbrev pub offset_of : Given → ConfidentialityOffset
-offset_of (Aes128 an offset number octets) = offset
-offset_of (Aes256 an offset number octets) = offset
-offset_of (Other an offset number) = offset
-
-abbrev pub number_of : Given → ℕ
-number_of (Aes128 an offset number octets) = number
-number_of (Aes256 an offset number octets) = number
-number_of (Other an offset number) = number
-
 -- whether the key is for a cipher suite that the station has
-abbrev pub is_supported : Given → Bool
-is_supported (Aes128 an offset number octets) = true
-is_supported (Aes256 an offset number octets) = true
-is_supported (Other an offset number) = false
+abbrev pub is_supported : WrappedKey → Bool
+is_supported (Aes128 octets) = true
+is_supported (Aes256 octets) = true
+is_supported Other = false
 
 -- whether frames under a key of this confidentiality offset are encrypted
 abbrev pub encrypts : ConfidentialityOffset → Bool
@@ -57,7 +39,7 @@ leaves_none offsets.Octets50 = false
 
 -- the identifier of the key that is offered
 abbrev pub offered_id : Offer → KeyId
-offered_id o = record { server = o.server; number = number_of o.given }
+offered_id o = record { server = o.server; number = o.given.number }
 
 -- the greatest key number of a key server under which this life installed a key
 abbrev pub greatest_of : Mi → List Keying → Option ℕ
@@ -83,9 +65,9 @@ abbrev pub offered_key : ℕ → Offer → Secret → Key
 offered_key epoch o sak =
     record {
       id = offered_id o;
-      an = an_of o.given;
+      an = o.given.an;
       sak = sak;
-      conf = encrypts (offset_of o.given);
+      conf = encrypts o.given.offset;
       epoch = epoch;
     }
 
@@ -101,10 +83,10 @@ abbrev pub judged : Option ℕ → Bool → ℕ → Offer → Option Secret → 
 judged kept allowed epoch o sak =
     provided o.listed NotListed (
     provided o.elected NotServer (
-    provided_new kept (number_of o.given) (
+    provided_new kept o.given.number (
     provided allowed Retiring (
-    provided (is_supported o.given) Suite (
-    provided (leaves_none (offset_of o.given)) Offset (unwrapped_key epoch o sak))))))
+    provided (is_supported o.given.key) Suite (
+    provided (leaves_none o.given.offset) Offset (unwrapped_key epoch o sak))))))
 
 -- the same after a history
 abbrev pub taken : ℕ → List Keying → Offer → Option Secret → Result Key Why

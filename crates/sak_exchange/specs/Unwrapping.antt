@@ -5,8 +5,8 @@ use lib.Pointwise.{pointwise}
 use Rattle.aes_block.specs.declared.secret.Secret.{Secret}
 use Rattle.aes_block.specs.declared.secret.Secret.TheVariants.{S128, S256}
 use Rattle.key_wrap.specs.Wrap.{wrapped}
-use Rattle.mkpdu_codec.specs.declared.given.Given.{Given}
-use Rattle.mkpdu_codec.specs.declared.given.Given.TheVariants.{Aes128, Aes256, Other}
+use Rattle.mkpdu_codec.specs.declared.wrapped_key.WrappedKey.{WrappedKey}
+use Rattle.mkpdu_codec.specs.declared.wrapped_key.WrappedKey.TheVariants.{Aes128, Aes256, Other}
 
 -- the numbers below one
 unfoldable pub below : ℕ → List ℕ
@@ -25,7 +25,7 @@ unwrapped count kek octets =
     find (λ key. pointwise nat_eq (wrapped kek key) octets) (octet_lists count)
 
 -- the SAK that is given, if what was given is a wrap of one
-abbrev pub given_sak : List ℕ → Given → Option Secret
-given_sak kek (Aes128 an offset number octets) = option_map S128 (unwrapped 16 kek octets)
-given_sak kek (Aes256 an offset number octets) = option_map S256 (unwrapped 32 kek octets)
-given_sak kek (Other an offset number) = None
+abbrev pub given_sak : List ℕ → WrappedKey → Option Secret
+given_sak kek (Aes128 octets) = option_map S128 (unwrapped 16 kek octets)
+given_sak kek (Aes256 octets) = option_map S256 (unwrapped 32 kek octets)
+given_sak kek Other = None

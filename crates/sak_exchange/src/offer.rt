@@ -5,8 +5,8 @@ ghost use Rattle.sak_exchange.specs.Unwrapping.{unwrapped};
 
 use aes_block::{Key, Secret};
 use key_wrap::{unwrap, unwrap256};
-use lan_base::{AssociationNumber, KeyId, Mi};
-use mkpdu_codec::{ConfidentialityOffset, Given};
+use lan_base::{KeyId, Mi};
+use mkpdu_codec::{ConfidentialityOffset, Given, WrappedKey};
 
 /// A key that an accepted announcement gives.
 #[derive(Clone, Copy)]
@@ -22,79 +22,51 @@ pub struct Offer {
 
 impl Offer {
     ghost use Rattle.std.specs.Prelude.{◌≡◌};
-    ghost use Rattle.sak_exchange.specs.Taking.{an_of, offset_of, encrypts, leaves_none, is_supported, offered_id};
+    ghost use Rattle.sak_exchange.specs.Taking.{encrypts, leaves_none, is_supported, offered_id};
     ghost use Rattle.sak_exchange.specs.Unwrapping.{given_sak};
 
     /// The key's identifier.
     pub(crate) fn id(&self) -> KeyId
         ensures { result ≡ offered_id self.now }
     {
-        let number = match self.given {
-            Given::Aes128 { number, .. }
-            | Given::Aes256 { number, .. }
-            | Given::Other { number, .. } => number,
-        };
         KeyId {
             server: self.server,
-            number,
-        }
-    }
-
-    /// Its association number.
-    pub(crate) fn an(&self) -> AssociationNumber
-        ensures { result ≡ an_of self.now.given }
-    {
-        match self.given {
-            Given::Aes128 { an, .. } | Given::Aes256 { an, .. } | Given::Other { an, .. } => an,
+            number: self.given.number,
         }
     }
 
     /// Whether frames under it are encrypted.
     pub(crate) fn encrypts(&self) -> bool
-        ensures { result ≡ encrypts (offset_of self.now.given) }
+        ensures { result ≡ encrypts self.now.given.offset }
     {
-        self.offset() != ConfidentialityOffset::None
+        self.given.offset != ConfidentialityOffset::None
     }
 
     /// Whether no octets of such frames stay in the clear.
     pub(crate) fn leaves_none(&self) -> bool
-        ensures { result ≡ leaves_none (offset_of self.now.given) }
+        ensures { result ≡ leaves_none self.now.given.offset }
     {
-        match self.offset() {
+        match self.given.offset {
             ConfidentialityOffset::None | ConfidentialityOffset::Octets0 => true,
             ConfidentialityOffset::Octets30 | ConfidentialityOffset::Octets50 => false,
         }
     }
 
-    /// Its confidentiality offset.
-    fn offset(&self) -> ConfidentialityOffset
-        ensures { result ≡ offset_of self.now.given }
-    {
-        match self.given {
-            Given::Aes128 { offset, .. }
-            | Given::Aes256 { offset, .. }
-            | Given::Other { offset, .. } => offset,
-        }
-    }
-
     /// Whether the station has its cipher suite.
     pub(crate) fn is_supported(&self) -> bool
-        ensures { result ≡ is_supported self.now.given }
+        ensures { result ≡ is_supported self.now.given.key }
     {
-        match self.given {
-            Given::Aes128 { .. } | Given::Aes256 { .. } => true,
-            Given::Other { .. } => false,
-        }
+        !matches!(self.given.key, WrappedKey::Other)
     }
 
     /// The SAK, if what was given is a wrap of one.
     pub(crate) fn sak(&self, kek: &Key) -> Option<Secret>
-        ensures { result ≡ given_sak kek.now self.now.given }
+        ensures { result ≡ given_sak kek.now self.now.given.key }
     {
-        match &self.given {
-            Given::Aes128 { wrapped, .. } => unwrapped128(kek, wrapped).map(Secret::S128),
-            Given::Aes256 { wrapped, .. } => unwrapped256(kek, wrapped).map(Secret::S256),
-            Given::Other { .. } => None,
+        match &self.given.key {
+            WrappedKey::Aes128(octets) => unwrapped128(kek, octets).map(Secret::S128),
+            WrappedKey::Aes256(octets) => unwrapped256(kek, octets).map(Secret::S256),
+            WrappedKey::Other => None,
         }
     }
 }

@@ -35,7 +35,7 @@ pub good_b1 : IsSayable b1
 good_b1 = sayable b1 refl (tt, tt)
 
 pub good_a2 : IsSayable a2
-good_a2 = sayable a2 refl (tt, (omega arith, length-wrapped_sak 1 refl))
+good_a2 = sayable a2 refl (tt, record { number = omega arith; key = length-wrapped_sak 1 refl })
 
 pub good_b2 : IsSayable b2
 good_b2 = sayable b2 refl (tt, tt)
@@ -47,7 +47,7 @@ pub good_c1 : IsSayable c1
 good_c1 = sayable c1 refl (tt, tt)
 
 pub good_a4 : IsSayable a4
-good_a4 = sayable a4 refl (tt, (omega arith, length-wrapped_sak 2 refl))
+good_a4 = sayable a4 refl (tt, record { number = omega arith; key = length-wrapped_sak 2 refl })
 
 pub good_c2 : IsSayable c2
 good_c2 = sayable c2 refl (tt, tt)

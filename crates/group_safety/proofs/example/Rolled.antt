@@ -40,7 +40,7 @@ use Rattle.group_safety.proofs.example.Rolling.{many, more, carried}
 -- ---- the announcements
 
 pub good_d4 : IsSayable scene.d4
-good_d4 = sayable scene.d4 refl (tt, (omega arith, length-wrapped_sak 2 refl))
+good_d4 = sayable scene.d4 refl (tt, record { number = omega arith; key = length-wrapped_sak 2 refl })
 
 pub good_e3 : IsSayable scene.e3
 good_e3 = sayable scene.e3 refl (tt, tt)

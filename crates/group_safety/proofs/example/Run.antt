@@ -9,7 +9,7 @@ use Rattle.lan_base.specs.declared.frame.UserFrame.{UserFrame}
 use Rattle.key_wrap.specs.Wrap.{wrapped}
 use Rattle.mkpdu_codec.specs.declared.announcement.Announcement.{Announcement}
 use Rattle.mkpdu_codec.specs.declared.given.Given.{Given}
-use Rattle.mkpdu_codec.specs.declared.given.Given.TheVariants.{Aes128}
+use Rattle.mkpdu_codec.specs.declared.wrapped_key.WrappedKey.TheVariants.{Aes128}
 use Rattle.mkpdu_codec.specs.declared.offset.ConfidentialityOffset.TheVariants.{Octets0}
 use Rattle.mkpdu_codec.specs.declared.key_use.KeyUse.{KeyUse}
 use Rattle.mkpdu_codec.specs.declared.key_use.Uses.{Uses}
@@ -49,7 +49,12 @@ abbrev pub one_use : KeyUse → Option Uses
 one_use u = Some (record { latest = u; old = no_use })
 
 abbrev pub gives : ℕ → AssociationNumber → Option Given
-gives n an = Some (Aes128 an Octets0 n (wrapped (group_kek settings) (octets_of_sak n)))
+gives n an = Some (record {
+  an = an;
+  offset = Octets0;
+  number = n;
+  key = Aes128 (wrapped (group_kek settings) (octets_of_sak n));
+})
 
 abbrev pub says : Profile → ℕ → ℕ → Bool → List Peer → List Peer → Option Uses → Option Given
     → Announcement

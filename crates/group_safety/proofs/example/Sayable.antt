@@ -12,8 +12,8 @@ use Rattle.mkpdu_codec.specs.declared.key_use.KeyUse.{KeyUse}
 use Rattle.mkpdu_codec.specs.declared.key_use.Uses.{Uses}
 use Rattle.mkpdu_codec.specs.declared.peer.Peer.{Peer}
 use Rattle.mkpdu_codec.specs.Sets.{IsPeer, IsKey}
-use Rattle.mkpdu_codec.specs.Frames.{IsGiven}
-use Rattle.mkpdu_codec.specs.Written.{IsWritableGiven}
+use Rattle.mkpdu_codec.specs.Sets.{IsGiven}
+use Rattle.mkpdu_codec.specs.Written.{IsWritableKey}
 use Rattle.group_safety.specs.worked.Group.{settings}
 use Rattle.group_safety.proofs.example.Scene.{IsSayable}
 
@@ -57,7 +57,7 @@ key-is u e =
     }
 
 pub sayable : (a : Announcement) → is_good a ≡ true
-    → IfSome a.given IsWritableGiven × IfSome a.given IsGiven → IsSayable a
+    → IfSome a.given (λ g. IsWritableKey g.key) × IfSome a.given IsGiven → IsSayable a
 sayable a e given =
     let p1 = and_parts (pointwise nat_eq a.source.0 (take 6 a.sci.0)) _ e in
     let p2 = and_parts (pointwise nat_eq a.ckn settings.ckn) _ p1.1 in

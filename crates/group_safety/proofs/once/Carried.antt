@@ -9,7 +9,6 @@ use Rattle.aes_cmac.specs.Cmac.{cmac}
 use Rattle.gcm_frames.specs.Tags.{is_sec}
 use Rattle.mkpdu_codec.specs.declared.announcement.Announcement.{Announcement}
 use Rattle.mkpdu_codec.specs.declared.given.Given.{Given}
-use Rattle.mkpdu_codec.specs.declared.given.Given.TheVariants.{Aes128, Aes256, Other}
 use Rattle.mkpdu_codec.specs.declared.spelled.Spelled.{Spelled}
 use Rattle.mkpdu_codec.specs.declared.refusal.Refusal.{Refusal}
 use Rattle.mkpdu_codec.specs.declared.refusal.Refusal.TheVariants.{NotMka}
@@ -17,7 +16,6 @@ use Rattle.mkpdu_codec.specs.Frames.{Set, Spells, SpellsGiven}
 use Rattle.mkpdu_codec.specs.Reading.{reading, parts_at}
 use Rattle.mkpdu_codec.specs.Refusals.{is_mka}
 use Rattle.mkpdu_codec.proofs.Public.{read_again, IsBytes-all, same_covered, read_is_spelled}
-use Rattle.sak_exchange.specs.Taking.{number_of}
 use Rattle.mka_station.specs.declared.verdict.DropReason.TheVariants.{CkName, Check}
 use Rattle.mka_station.specs.Lives.{Setup}
 use Rattle.mka_station.specs.Hearing.{judged, read_as, of_group}
@@ -51,12 +49,10 @@ carried-more Told More octets grows (inr m) = inr (record {
 pub record IsHeardOf (Told : Announcement → Type 0) (a : Announcement) : Type 0 where
   pub told : Told a
   pub ranged : IsRanged a
-  pub gift : (g : Given) → a.given ≡ Some g → number_of g < 2 ^ 32
+  pub gift : (g : Given) → a.given ≡ Some g → g.number < 2 ^ 32
 
-gift-small : (s : Set) (g : Given) → SpellsGiven s (Some g) → number_of g < 2 ^ 32
-gift-small s (Aes128 an offset number wrapped) is = is.0.four_octets
-gift-small s (Aes256 an offset number wrapped) is = is.1.0.four_octets
-gift-small s (Other an offset number) is = is.1.0.four_octets
+gift-small : (s : Set) (g : Given) → SpellsGiven s (Some g) → g.number < 2 ^ 32
+gift-small s g is = is.number
 
 spelled-heard : (Told : Announcement → Type 0) (octets : List ℕ) (a : Announcement) (n : ℕ)
     (check : List ℕ) → Spells octets a n check → Told a → IsHeardOf Told a

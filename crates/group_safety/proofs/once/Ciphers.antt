@@ -26,12 +26,12 @@ use Rattle.mka_kdf.specs.Kdf.{kek_of, ick_of, derived, input, context_of}
 use Rattle.mka_kdf.proofs.Public.{derived-16, derived-32}
 use Rattle.key_wrap.specs.Wrap.{wrapped, initial_value}
 use Rattle.key_wrap.proofs.Public.{IsOctets-steps, Permutes, one_key}
-use Rattle.mkpdu_codec.specs.declared.given.Given.{Given}
-use Rattle.mkpdu_codec.specs.declared.given.Given.TheVariants.{Aes128, Aes256, Other}
+use Rattle.mkpdu_codec.specs.declared.wrapped_key.WrappedKey.{WrappedKey}
+use Rattle.mkpdu_codec.specs.declared.wrapped_key.WrappedKey.TheVariants.{Aes128, Aes256, Other}
 use Rattle.sak_exchange.specs.declared.held_key.Key.{Key}
 use Rattle.sak_exchange.specs.Unwrapping.{unwrapped, given_sak}
 use Rattle.sak_exchange.proofs.Public.{key-unwrapped, unwrapped-key}
-use Rattle.mka_station.specs.Announcing.{given_as}
+use Rattle.mka_station.specs.Announcing.{wrapped_key}
 use Rattle.lan_core.specs.Types.{IsSecret, AreSome}
 use Rattle.group_safety.proofs.once.Currents.{some-same, none-some}
 use Rattle.group_safety.proofs.once.Rules.{Hides}
@@ -276,15 +276,15 @@ hidden n kek octets is_key room is =
     refl
 
 -- what is wrapped is unwrapped again
-hides-secret : (kek : List ℕ) (k : Key) (s : Secret) → IsKey kek → IsSecret s
-    → given_sak kek (given_as kek k s) ≡ Some s
-hides-secret kek k (S128 octets) is_key is =
+hides-secret : (kek : List ℕ) (s : Secret) → IsKey kek → IsSecret s
+    → given_sak kek (wrapped_key kek s) ≡ Some s
+hides-secret kek (S128 octets) is_key is =
     ap (option_map S128) (hidden 16 kek octets is_key (omega arith) is)
-hides-secret kek k (S256 octets) is_key is =
+hides-secret kek (S256 octets) is_key is =
     ap (option_map S256) (hidden 32 kek octets is_key (omega arith) is)
 
 pub hides : (kek : List ℕ) (k : Key) → IsKey kek → IsSecret k.sak → Hides kek k
-hides kek k is_key is = hides-secret kek k k.sak is_key is
+hides kek k is_key is = hides-secret kek k.sak is_key is
 
 -- what is unwrapped is a key of its length
 from_map : {A B : Type 0} (f : A → B) (o : Option A) (b : B) → option_map f o ≡ Some b
@@ -292,14 +292,14 @@ from_map : {A B : Type 0} (f : A → B) (o : Option A) (b : B) → option_map f 
 from_map f None b e = absurd (none-some e)
 from_map f (Some a) b e = (a, refl, some-same e)
 
-pub unwrapped-secret : (kek : List ℕ) (g : Given) (s : Secret) → given_sak kek g ≡ Some s
+pub unwrapped-secret : (kek : List ℕ) (w : WrappedKey) (s : Secret) → given_sak kek w ≡ Some s
     → IsSecret s
-unwrapped-secret kek (Aes128 an off number octets) s e =
+unwrapped-secret kek (Aes128 octets) s e =
     let r = from_map S128 (unwrapped 16 kek octets) s e in
     let whole = (unwrapped-key 16 kek octets r.0 r.1).0 in
     subst IsSecret r.2 (whole.count, whole.octets)
-unwrapped-secret kek (Aes256 an off number octets) s e =
+unwrapped-secret kek (Aes256 octets) s e =
     let r = from_map S256 (unwrapped 32 kek octets) s e in
     let whole = (unwrapped-key 32 kek octets r.0 r.1).0 in
     subst IsSecret r.2 (whole.count, whole.octets)
-unwrapped-secret kek (Other an off number) s e = absurd (none-some e)
+unwrapped-secret kek Other s e = absurd (none-some e)

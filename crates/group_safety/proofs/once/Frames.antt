@@ -14,9 +14,9 @@ use Rattle.aes_cmac.specs.Cmac.{cmac}
 use Rattle.mkpdu_codec.specs.declared.announcement.Announcement.{Announcement}
 use Rattle.mkpdu_codec.specs.declared.given.Given.{Given}
 use Rattle.mkpdu_codec.specs.declared.key_use.Uses.{Uses}
-use Rattle.mkpdu_codec.specs.Sets.{IsPeer, IsKey}
-use Rattle.mkpdu_codec.specs.Frames.{Spells, IsGiven, IsOfItsTypes}
-use Rattle.mkpdu_codec.specs.Written.{written, IsWritable, IsWritableGiven}
+use Rattle.mkpdu_codec.specs.Sets.{IsPeer, IsKey, IsGiven, IsWrapped}
+use Rattle.mkpdu_codec.specs.Frames.{Spells, IsOfItsTypes}
+use Rattle.mkpdu_codec.specs.Written.{written, IsWritable, IsWritableKey}
 use Rattle.mkpdu_codec.proofs.Public.{written_spells}
 use Rattle.peer_lists.specs.Histories.{Peering, last_sent}
 use Rattle.peer_lists.specs.Acceptance.{Accepted, accepted, most_peers}
@@ -27,7 +27,7 @@ use Rattle.sak_exchange.specs.Histories.{Keying}
 use Rattle.sak_exchange.specs.Held.{latest, old, transmitting}
 use Rattle.mka_station.specs.Lives.{Member, Entry, own, peers_of, keys_of}
 use Rattle.mka_station.specs.Views.{View, view}
-use Rattle.mka_station.specs.Announcing.{peer_of, use_of, uses_of, given, given_as, announcement}
+use Rattle.mka_station.specs.Announcing.{peer_of, use_of, uses_of, given, given_as, wrapped_key, announcement}
 use Rattle.mka_station.specs.Announcing.{frame_of}
 use Rattle.lan_core.specs.Types.{IsSecret}
 use Rattle.group_safety.proofs.Members.{In, in-from_map}
@@ -156,18 +156,20 @@ if-some P Q (Some x) f h = f x h
 
 record IsGift (g : Given) : Type 0 where
   typed : IsGiven g
-  writable : IsWritableGiven g
+  writable : IsWritableKey g.key
 
-gift-is : (kek : List ℕ) (k : Key) (s : Secret) → IsCipherKey kek → IsKeyIn k → IsSecret s
-    → IsGift (given_as kek k s)
-gift-is kek k (S128 octets) is_key t is = record {
-  typed = (t.number, wrapped-length kek octets 16 is_key (omega arith) is.0 is.1);
-  writable = tt;
-}
-gift-is kek k (S256 octets) is_key t is = record {
-  typed = (t.number, wrapped-length kek octets 32 is_key (omega arith) is.0 is.1);
-  writable = tt;
-}
+wrap-is : (kek : List ℕ) (s : Secret) → IsCipherKey kek → IsSecret s
+    → IsWrapped (wrapped_key kek s) × IsWritableKey (wrapped_key kek s)
+wrap-is kek (S128 octets) is_key is =
+    (wrapped-length kek octets 16 is_key (omega arith) is.0 is.1, tt)
+wrap-is kek (S256 octets) is_key is =
+    (wrapped-length kek octets 32 is_key (omega arith) is.0 is.1, tt)
+
+gift-is : (kek : List ℕ) (k : Key) → IsCipherKey kek → IsKeyIn k → IsSecret k.sak
+    → IsGift (given_as kek k)
+gift-is kek k is_key t is =
+    let w = wrap-is kek k.sak is_key is in
+    record { typed = record { number = t.number; key = w.0 }; writable = w.1 }
 
 given-typed : (m : Member) (v : View) → IsCipherKey m.setup.kek → AreKeys m.base v.keys
     → IfSome (given m v) IsGift
@@ -178,7 +180,7 @@ given-typed m v is_key keys = go (given m v) refl
     go (Some g) e =
         let t = given-is m v g e in
         let known = installed-key m.base v.keys t.key keys (latest-installed v.keys t.key t.last) in
-        subst IsGift (sym t.same) (gift-is m.setup.kek t.key t.key.sak is_key known known.sak)
+        subst IsGift (sym t.same) (gift-is m.setup.kek t.key is_key known known.sak)
 
 -- ---- the frame
 
@@ -212,7 +214,7 @@ frame-spells m p lowest s =
           omega (arith, l, few);
       potential = let l = length-map v.potential (peer_of m v) in let few = potential-few m p in
           omega (arith, l, few);
-      given = if-some IsGift IsWritableGiven a.given (λ g h. h.writable) gift;
+      given = if-some IsGift (λ g. IsWritableKey g.key) a.given (λ g h. h.writable) gift;
     }
 
     typed : IsOfItsTypes a

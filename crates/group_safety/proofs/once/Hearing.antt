@@ -10,7 +10,7 @@ use Rattle.sak_exchange.specs.declared.held_key.Key.{Key}
 use Rattle.sak_exchange.specs.Histories.{installed}
 use Rattle.sak_exchange.specs.Lives.{IsOver}
 use Rattle.sak_exchange.specs.Outcomes.{beginning}
-use Rattle.sak_exchange.specs.Taking.{taken, greatest_of, number_of}
+use Rattle.sak_exchange.specs.Taking.{taken, greatest_of}
 use Rattle.sak_exchange.specs.Unwrapping.{given_sak}
 use Rattle.mka_station.specs.Lives.{Member, Entry, heard, keys_of}
 use Rattle.mka_station.specs.Views.{View, view}
@@ -51,14 +51,14 @@ hear-changes s m a p =
     let offer = offered m v (outcome_of m p a) a in
     then-changes s (take_changes v.keys offer (taken_of m v offer))
     (beginning (view m (taken_past m a p)).keys (follow_at m a p)).changes (key_heard m a p)
-    (take-is s v.keys offer (λ (o : Offer). taken m.base v.keys o (given_sak m.setup.kek o.given)))
+    (take-is s v.keys offer (λ (o : Offer). taken m.base v.keys o (given_sak m.setup.kek o.given.key)))
     (begin-quiet s (view m (taken_past m a p)).keys (follow_at m a p))
 
 -- ---- the keys after a hearing
 
 -- what the key number of what is given has to be
 abbrev pub IsSmallGift : Announcement → Type 0
-IsSmallGift a = (g : Given) → a.given ≡ Some g → number_of g < 2 ^ 32
+IsSmallGift a = (g : Given) → a.given ≡ Some g → g.number < 2 ^ 32
 
 hear-taken : (m : Member) (a : Announcement) (p : List Entry) (k : Key) → key_heard m a p ≡ Some k
     → IsTaken m (keys_of m p) a k
@@ -76,7 +76,7 @@ taken-sound m a p most k sound ranged small t =
       epoch = t.epoch;
       server = ap (λ (n : Mi). length n.0) t.server ∙ ranged.mi;
       number = subst (λ (n : ℕ). n < 2 ^ 32) (sym t.number) (small t.gift t.gives);
-      sak = unwrapped-secret m.setup.kek t.gift k.sak t.hidden;
+      sak = unwrapped-secret m.setup.kek t.gift.key k.sak t.hidden;
     })
 
 pub heard-keys : (m : Member) (a : Announcement) (p : List Entry)

@@ -32,7 +32,7 @@ use Rattle.sak_exchange.specs.Beginning.{is_latest_made}
 use Rattle.sak_exchange.specs.Making.{made_key, made_roster}
 use Rattle.sak_exchange.specs.Making.{is_in_roster, next_epoch}
 use Rattle.sak_exchange.specs.Taking.{taken, judged, offered_key, provided, provided_new}
-use Rattle.sak_exchange.specs.Taking.{unwrapped_key, greatest_of, an_of, number_of, offset_of}
+use Rattle.sak_exchange.specs.Taking.{unwrapped_key, greatest_of}
 use Rattle.sak_exchange.specs.Taking.{is_supported, leaves_none}
 use Rattle.sak_exchange.specs.declared.change.Why.TheVariants.{NotListed, NotServer}
 use Rattle.sak_exchange.specs.declared.change.Why.TheVariants.{Seen as seen_why, Retiring, Suite}
@@ -41,7 +41,7 @@ use Rattle.sak_exchange.specs.Unwrapping.{given_sak}
 use Rattle.sak_exchange.specs.Lives.{IsOver}
 use Rattle.mka_station.specs.Lives.{Member, Entry, heard, own, told, peers_of}
 use Rattle.mka_station.specs.Views.{View, view, reports, speakers, serves, is_server}
-use Rattle.mka_station.specs.Announcing.{gives, given, given_as, announcement, says_now, announces}
+use Rattle.mka_station.specs.Announcing.{gives, given, given_as, wrapped_key, announcement, says_now, announces}
 use Rattle.mka_station.specs.Tick.{made, makes_now}
 use Rattle.mka_station.specs.Hearing.{outcome_of, is_accepted, is_listed, offered, taken_of}
 use Rattle.mka_station.specs.Hearing.{key_taken}
@@ -124,7 +124,7 @@ record IsOfferTaken (kept : Option ℕ) (allowed : Bool) (epoch : ℕ) (o : Offe
     (k : Key) : Type 0 where
   listed : o.listed ≡ true
   elected : o.elected ≡ true
-  over : IsOver kept (number_of o.given)
+  over : IsOver kept o.given.number
   may_take : allowed ≡ true
   secret : Secret
   hidden : sak ≡ Some secret
@@ -136,10 +136,10 @@ judged-ok : (kept : Option ℕ) (allowed : Bool) (epoch : ℕ) (o : Offer) (sak 
 judged-ok kept allowed epoch o sak k is =
     let a = provided-ok o.listed NotListed _ k is in
     let b = provided-ok o.elected NotServer _ k a.1 in
-    let c = new-ok kept (number_of o.given) _ k b.1 in
+    let c = new-ok kept o.given.number _ k b.1 in
     let d = provided-ok allowed Retiring _ k c.1 in
-    let e = provided-ok (is_supported o.given) Suite _ k d.1 in
-    let f = provided-ok (leaves_none (offset_of o.given)) Offset _ k e.1 in
+    let e = provided-ok (is_supported o.given.key) Suite _ k d.1 in
+    let f = provided-ok (leaves_none o.given.offset) Offset _ k e.1 in
     let g = key-ok epoch o sak k f.1 in
     record {
       listed = a.0;
@@ -160,9 +160,9 @@ pub record IsTaking (m : Member) (v : View) (o : Outcome) (a : Announcement) (k 
     pub listed : is_listed m v.peers a ≡ true
     pub elected : is_server v.server a.mi ≡ true
     pub server : k.id.server ≡ a.mi
-    pub number : k.id.number ≡ number_of gift
-    pub an : k.an ≡ an_of gift
-    pub hidden : given_sak m.setup.kek gift ≡ Some k.sak
+    pub number : k.id.number ≡ gift.number
+    pub an : k.an ≡ gift.an
+    pub hidden : given_sak m.setup.kek gift.key ≡ Some k.sak
     pub over : IsOver (greatest_of a.mi v.keys) k.id.number
     pub allowed : allows v.keys ≡ true
     pub epoch : k.epoch ≡ next_epoch m.base v.keys
@@ -182,13 +182,13 @@ taking-is m v o a k e = go (is_accepted o) refl a.given refl e
         }
 
     answer : (g : Given) (r : Result Key Why) → a.given ≡ Some g → is_accepted o ≡ true
-        → taken m.base v.keys (offer g) (given_sak m.setup.kek g) ≡ r → key_taken (Some r) ≡ Some k
+        → taken m.base v.keys (offer g) (given_sak m.setup.kek g.key) ≡ r → key_taken (Some r) ≡ Some k
         → IsTaking m v o a k
     answer g (Err why) given ok is f = absurd (none-some f)
     answer g (Ok n) given ok is f =
         let t = judged-ok (greatest_of a.mi v.keys) (allows v.keys) (next_epoch m.base v.keys)
         (offer g)
-        (given_sak m.setup.kek g) n is in
+        (given_sak m.setup.kek g.key) n is in
         subst (IsTaking m v o a) (some-same f) (record {
           gift = g;
           gives = given;
@@ -211,7 +211,7 @@ taking-is m v o a k e = go (is_accepted o) refl a.given refl e
     go false ok g given f = absurd (none-some f)
     go true ok None given f = absurd (none-some f)
     go true ok (Some g) given f =
-        answer g (taken m.base v.keys (offer g) (given_sak m.setup.kek g)) given ok refl f
+        answer g (taken m.base v.keys (offer g) (given_sak m.setup.kek g.key)) given ok refl f
 
 -- an announcement that is accepted is of another member
 or-none : (o p : Option PeerRefusal) → option_or o p ≡ None → o ≡ None
@@ -249,9 +249,9 @@ pub record IsTaken (m : Member) (h : List Keying) (a : Announcement) (k : Key) :
   pub gives : a.given ≡ Some gift
   pub listed : In m.mi (named a.live)
   pub server : k.id.server ≡ a.mi
-  pub number : k.id.number ≡ number_of gift
-  pub an : k.an ≡ an_of gift
-  pub hidden : given_sak m.setup.kek gift ≡ Some k.sak
+  pub number : k.id.number ≡ gift.number
+  pub an : k.an ≡ gift.an
+  pub hidden : given_sak m.setup.kek gift.key ≡ Some k.sak
   pub other : same_mi a.mi m.mi ≡ false
   pub over : IsOver (greatest_of a.mi h) k.id.number
   pub epoch : k.epoch ≡ (m.base + install_count h) + 1
@@ -302,12 +302,12 @@ abbrev pub handed_by : List ℕ → Mi → Given → Option Handed
 handed_by kek server g =
     option_map
     (λ sak. record {
-      id = record { server = server; number = number_of g };
-      an = an_of g;
+      id = record { server = server; number = g.number };
+      an = g.an;
       sak =
           sak;
     })
-    (given_sak kek g)
+    (given_sak kek g.key)
 
 abbrev pub said_by : List ℕ → Announcement → Said
 said_by kek a =
@@ -320,9 +320,9 @@ taken-handed m h a k t =
     ap (option_and_then (handed_by m.setup.kek a.mi)) t.gives
     ∙ ap (option_map
     (λ sak. record {
-      id = record { server = a.mi; number = number_of t.gift };
+      id = record { server = a.mi; number = t.gift.number };
       an =
-          an_of t.gift;
+          t.gift.an;
       sak = sak;
     })) t.hidden
     ∙ (λ i. Some
@@ -335,20 +335,20 @@ taken-handed m h a k t =
 
 -- whether a wrap hides what was wrapped
 abbrev pub Hides : List ℕ → Key → Type 0
-Hides kek k = given_sak kek (given_as kek k k.sak) ≡ Some k.sak
+Hides kek k = given_sak kek (wrapped_key kek k.sak) ≡ Some k.sak
 
-given-handed : (kek : List ℕ) (own : Mi) (k : Key) (s : Secret)
-    → given_sak kek (given_as kek k s) ≡ Some s
-    → handed_by kek own (given_as kek k s)
-    ≡ Some (record { id = record { server = own; number = k.id.number }; an = k.an; sak = s })
-given-handed kek own k (S128 octets) e = rw e refl
-given-handed kek own k (S256 octets) e = rw e refl
+given-handed : (kek : List ℕ) (own : Mi) (k : Key) → Hides kek k
+    → handed_by kek own (given_as kek k)
+    ≡ Some (record { id = record { server = own; number = k.id.number }; an = k.an; sak = k.sak })
+given-handed kek own k e =
+    ap (option_map
+    (λ sak. record { id = record { server = own; number = k.id.number }; an = k.an; sak = sak })) e
 
 -- what is known of what a station gives
 pub record IsGiving (m : Member) (v : View) (g : Given) : Type 0 where
   pub key : Key
   pub last : latest v.keys ≡ Some key
-  pub same : g ≡ given_as m.setup.kek key key.sak
+  pub same : g ≡ given_as m.setup.kek key
   pub roster : List Mi
   pub made_here : last_roster v.keys ≡ Some roster
   pub for_all : (n : Mi) → In n (speakers v.live) → In n roster
@@ -361,10 +361,10 @@ pub given-is : (m : Member) (v : View) (g : Given) → given m v ≡ Some g → 
 given-is m v g e = go (latest v.keys) refl e
   where
     pick : Key → Option Given
-    pick k = cond (gives m v k) (Some (given_as m.setup.kek k k.sak)) None
+    pick k = cond (gives m v k) (Some (given_as m.setup.kek k)) None
 
     parts : (k : Key) → latest v.keys ≡ Some k → gives m v k ≡ true
-        → given_as m.setup.kek k k.sak ≡ g → IsGiving m v g
+        → given_as m.setup.kek k ≡ g → IsGiving m v g
     parts k last may same =
         let a = and_parts (serves m v) _ may in
         let b = and_parts (is_latest_made v.keys) _ a.1 in
@@ -386,7 +386,7 @@ given-is m v g e = go (latest v.keys) refl e
     go (Some k) last f = chosen (gives m v k) refl f
       where
         chosen : (b : Bool) → gives m v k ≡ b
-            → cond b (Some (given_as m.setup.kek k k.sak)) None ≡ Some g → IsGiving m v g
+            → cond b (Some (given_as m.setup.kek k)) None ≡ Some g → IsGiving m v g
         chosen true may f = parts k last may (some-same f)
         chosen false may f = absurd (none-some f)
 
@@ -425,7 +425,7 @@ given-made m v k keys hides e = go (given m v) refl e
         let t = given-is m v g is in
         let n = t.key in
         let last = latest-last m.base v.keys n keys t.last in
-        let whole = given-handed m.setup.kek m.mi n n.sak (hides n t.last) in (
+        let whole = given-handed m.setup.kek m.mi n (hides n t.last) in (
           record { key = handed n; roster = t.roster },
           record {
             place = last-made v.keys n t.roster last t.made_here;

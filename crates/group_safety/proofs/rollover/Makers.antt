@@ -15,14 +15,12 @@ use Rattle.sak_exchange.specs.Histories.{Keying, ticked, installed, began, insta
 use Rattle.sak_exchange.specs.Histories.{last_roster, made_count}
 use Rattle.sak_exchange.specs.Held.{latest}
 use Rattle.sak_exchange.specs.Beginning.{Beginning}
-use Rattle.sak_exchange.specs.Taking.{number_of}
 use Rattle.sak_exchange.specs.Lives.{Has, IsNumbered}
 use Rattle.sak_exchange.proofs.Public.{first-is}
 use Rattle.mka_station.specs.Lives as lives
 use Rattle.mka_station.specs.Views.{view}
 use Rattle.mka_station.specs.Tick.{made}
 use Rattle.mka_station.specs.Hearing.{outcome_of}
-use Rattle.mka_station.specs.Announcing.{given_as}
 use Rattle.mka_station.specs.Tick.{ticked_past}
 use Rattle.lan_core.specs.declared.event.Event.TheVariants as events
 use Rattle.lan_core.specs.declared.settings.Settings.{Settings}
@@ -125,10 +123,6 @@ made-more (installed None k ∷ new) h = made-more new h
 made-more (installed (Some r) k ∷ new) h = let m = made-more new h in omega arith
 made-more (began e ∷ new) h = made-more new h
 
-number-given : (kek : List ℕ) (k : Key) (s : Secret) → number_of (given_as kek k s) ≡ k.id.number
-number-given kek k (S128 octets) = refl
-number-given kek k (S256 octets) = refl
-
 pub same-names : (i j : KeyId) → i.server ≡ j.server → i.number ≡ j.number → i ≡ j
 same-names i j a b = ap (λ (v : Mi). let k : KeyId = record { server = v; number = i.number } in
     k) a ∙ ap (λ (v : ℕ). let k : KeyId = record { server = j.server; number = v } in k) b
@@ -156,7 +150,7 @@ module _ (settings : Settings) (users : List UserFrame) (run : Run) (is : IsSett
   given-installed : (z t : ℕ) (a : Announcement) (g : Given) (s : Said settings run z t a)
       → a.given ≡ Some g
       → (k : Key) × Has k (installs (keys_at settings t (upto (suc z) run))) × (k.id.server ≡ a.mi)
-      × (k.id.number ≡ number_of g)
+      × (k.id.number ≡ g.number)
   given-installed z t a g s gives =
       let m = s.life_then.member in
       let seen = seen_at settings t (upto z run) s.life_then s.next in
@@ -185,7 +179,7 @@ module _ (settings : Settings) (users : List UserFrame) (run : Run) (is : IsSett
             (latest-received kept.0 (keys_at settings t (upto (suc z) run)) gift.key kept.1 newest),
         made-own m.mi (keys_at settings t (upto (suc z) run)) gift.key gift.roster numbered
             first.last roster ∙ ap (λ (w : Announcement). w.mi) says,
-        sym (ap number_of gift.same ∙ number-given m.setup.kek gift.key gift.key.sak),
+        sym (ap (λ (x : Given). x.number) gift.same),
       )
 
   abbrev Made : ℕ → KeyId → Type 0

@@ -43,17 +43,17 @@ use Rattle.group_safety.proofs.told.Readable.{is_gift, good-is, hidden-is, carri
 
 same-answer : (m : Member) (h : List Keying) (hidden : Option Secret) (b : Bool)
     (make : Given → Offer) (o : Option Given) → ((x : Given) → (make x).given ≡ x)
-    → ((x : Given) → o ≡ Some x → given_sak m.setup.kek x ≡ hidden)
-    → option_map (λ (w : Offer). taken m.base h w (given_sak m.setup.kek w.given))
+    → ((x : Given) → o ≡ Some x → given_sak m.setup.kek x.key ≡ hidden)
+    → option_map (λ (w : Offer). taken m.base h w (given_sak m.setup.kek w.given.key))
     (cond b (option_map make o) None) ≡ answered m h (cond b (option_map make o) None) hidden
 same-answer m h hidden false make o gives unwrapped-wrapped_sak = refl
 same-answer m h hidden true make None gives unwrapped-wrapped_sak = refl
 same-answer m h hidden true make (Some x) gives unwrapped-wrapped_sak =
     ap (λ k. Some (taken m.base h (make x) k))
-    (ap (given_sak m.setup.kek) (gives x) ∙ unwrapped-wrapped_sak x refl)
+    (ap (λ (w : Given). given_sak m.setup.kek w.key) (gives x) ∙ unwrapped-wrapped_sak x refl)
 
 heard-is : (m : Member) (a : Announcement) (hidden : Option Secret) (p : List Entry)
-    → ((x : Given) → a.given ≡ Some x → given_sak m.setup.kek x ≡ hidden)
+    → ((x : Given) → a.given ≡ Some x → given_sak m.setup.kek x.key ≡ hidden)
     → (hear_turn m a p).past ≡ heard_by m a hidden p
 unfolding hear_turn heard_by
 heard-is m a hidden p unwrapped-wrapped_sak =
@@ -189,7 +189,7 @@ reached-is (Some (says t a g)) (Some l) h read =
     (sayable-unprotected (profile t) (whole a g) is)
     ∙ ap (λ j. lived l (heard_turn l.member j l.past)) right
     ∙ ap (λ w. record l { past = w }) (heard-is l.member (whole a g) (hidden_in g) l.past
-    (λ x e. ap (λ k. given_sak k x) kek ∙ hidden-is g good.1 x e)))
+    (λ x e. ap (λ k. given_sak k x.key) kek ∙ hidden-is g good.1 x e)))
 reached-is (Some (carries pn)) (Some l) h read =
     ap (λ b. Some (cond b l (lived l (frame_turn l.member (carried pn) l.past))))
     (carried-is-sec pn)

@@ -17,7 +17,8 @@ use Rattle.lan_base.specs.AssociationNumbers.{number_of as number_of_an}
 use Rattle.lan_base.specs.Ranges.{IsCkn}
 use Rattle.mkpdu_codec.specs.declared.announcement.Announcement.{Announcement}
 use Rattle.mkpdu_codec.specs.declared.given.Given.{Given}
-use Rattle.mkpdu_codec.specs.declared.given.Given.TheVariants.{Aes128, Aes256, Other}
+use Rattle.mkpdu_codec.specs.declared.wrapped_key.WrappedKey.{WrappedKey}
+use Rattle.mkpdu_codec.specs.declared.wrapped_key.WrappedKey.TheVariants.{Aes128, Aes256, Other}
 use Rattle.mkpdu_codec.specs.declared.key_use.KeyUse.{KeyUse}
 use Rattle.mkpdu_codec.specs.declared.key_use.Uses.{Uses}
 use Rattle.mkpdu_codec.specs.declared.offset.ConfidentialityOffset.{ConfidentialityOffset}
@@ -29,8 +30,7 @@ use Rattle.mkpdu_codec.specs.Frames.{Frame, Set, Spells, covered_octets, SpellsG
 use Rattle.mkpdu_codec.specs.Offsets.{offset_bits}
 use Rattle.mkpdu_codec.specs.Refusals.{refused, refused_sets, or_else, is_mka, is_long_enough, is_basic, is_known, is_indicator, is_whole, is_length_of, is_single, front_kind, front_length, front_size, sets_of, others_of, check_place, body_length}
 use Rattle.mkpdu_codec.specs.Sets.{header, set, missing, bit, basic_body, agility, peer, peers_body, use_body, uses_body, use_flags, uses_flags, given_flags, given_body, gcm_aes_256, check_length, distributed_sak, sak_use}
-use Rattle.mkpdu_codec.specs.Written.{written, sets, frame_header, group_address, basic_set, peers_set, uses_set, given_set, most_listed}
-use Rattle.sak_exchange.specs.Taking.{number_of}
+use Rattle.mkpdu_codec.specs.Written.{written, sets, frame_header, group_address, basic_set, peers_set, uses_set, giving_set, key_set, given_set, most_listed}
 use Rattle.lan_core.specs.TypedFacts.{IsTypedRefusal}
 use Rattle.lan_core.specs.Types.{AreOctets, IsMi}
 use Rattle.group_safety.proofs.typed.OctetsMade.{left, right, anywhere, number-2}
@@ -41,7 +41,7 @@ use Rattle.group_safety.proofs.typed.OctetsMade.{left, right, anywhere, number-2
 pub record IsHeard (a : Announcement) : Type 0 where
   pub mi : IsMi a.mi
   pub mn : a.mn < 2 ^ 32
-  pub given : (g : Given) → a.given ≡ Some g → number_of g < 2 ^ 32
+  pub given : (g : Given) → a.given ≡ Some g → g.number < 2 ^ 32
 
 body-octets : (f : Frame) (frame : List ℕ) → AreOctets (covered_octets f) → AreOctets f.body
 body-octets f frame all =
@@ -55,14 +55,10 @@ some-is : {a b : Given} → Some a ≡ Some b → a ≡ b
 some-is e = cc e
 
 given-number : (s : Set) (o : Option Given) → SpellsGiven s o
-    → (g : Given) → o ≡ Some g → number_of g < 2 ^ 32
+    → (g : Given) → o ≡ Some g → g.number < 2 ^ 32
 given-number s None spells g is = absurd (cc is)
-given-number s (Some (Aes128 an offset number wrapped)) spells g is =
-    subst (λ (g : Given). number_of g < 2 ^ 32) (some-is is) spells.0.four_octets
-given-number s (Some (Aes256 an offset number wrapped)) spells g is =
-    subst (λ (g : Given). number_of g < 2 ^ 32) (some-is is) spells.1.0.four_octets
-given-number s (Some (Other an offset number)) spells g is =
-    subst (λ (g : Given). number_of g < 2 ^ 32) (some-is is) spells.1.0.four_octets
+given-number s (Some x) spells g is =
+    subst (λ (g : Given). g.number < 2 ^ 32) (some-is is) spells.number
 
 -- octets that spell an announcement give one in its types
 pub spelled-typed : (frame : List ℕ) (a : Announcement) (covered : ℕ) (check : List ℕ)
@@ -239,10 +235,10 @@ list-octets kind (p ∷ ps) small few all =
     (let n = peers-length (p ∷ ps) all in omega (arith, n, few)) (peers-octets (p ∷ ps) all)
 
 -- a wrapped key of octets
-abbrev pub IsWrap : Given → Type 0
-IsWrap (Aes128 an offset number wrapped) = (length wrapped ≡ 24) × AreOctets wrapped
-IsWrap (Aes256 an offset number wrapped) = (length wrapped ≡ 40) × AreOctets wrapped
-IsWrap (Other an offset number) = Unit {0}
+abbrev pub IsWrap : WrappedKey → Type 0
+IsWrap (Aes128 wrapped) = (length wrapped ≡ 24) × AreOctets wrapped
+IsWrap (Aes256 wrapped) = (length wrapped ≡ 40) × AreOctets wrapped
+IsWrap Other = Unit {0}
 
 offset-small : (o : ConfidentialityOffset) → offset_bits o < 4
 offset-small offsets.None = omega arith
@@ -250,28 +246,26 @@ offset-small offsets.Octets0 = omega arith
 offset-small offsets.Octets30 = omega arith
 offset-small offsets.Octets50 = omega arith
 
-giving-octets : (an : AssociationNumber) (offset : ConfidentialityOffset) (number : ℕ) (key : List ℕ)
-    → length key ≤ 48 → AreOctets key
-    → AreOctets (set distributed_sak (given_flags an offset * 16) 0 (given_body number key))
-giving-octets an offset number key few all =
-    let a = an-small an in
-    let b = offset-small offset in
-    let c = length-bytes_high_first 4 number in
-    set-octets distributed_sak (given_flags an offset * 16) 0 (given_body number key) (omega arith)
-    (omega (arith, a, b)) (omega arith) (omega (arith, length-append (big_bytes 4 number) key, c, few))
-    (All-append IsOctet (big_bytes 4 number) key (All-bytes 4 number) all)
+giving-octets : (g : Given) (key : List ℕ) → length key ≤ 48 → AreOctets key
+    → AreOctets (giving_set g key)
+giving-octets g key few all =
+    let a = an-small g.an in
+    let b = offset-small g.offset in
+    let c = length-bytes_high_first 4 g.number in
+    set-octets distributed_sak (given_flags g.an g.offset * 16) 0 (given_body g.number key) (omega arith)
+    (omega (arith, a, b)) (omega arith) (omega (arith, length-append (big_bytes 4 g.number) key, c, few))
+    (All-append IsOctet (big_bytes 4 g.number) key (All-bytes 4 g.number) all)
 
 suite-octets : AreOctets gcm_aes_256
 suite-octets = All-from_AreOctets gcm_aes_256 (search arith)
 
-given-octets : (g : Given) → IsWrap g → AreOctets (given_set (Some g))
-given-octets (Aes128 an offset number wrapped) is =
-    giving-octets an offset number wrapped (omega (arith, is.0)) is.1
-given-octets (Aes256 an offset number wrapped) is =
-    giving-octets an offset number (gcm_aes_256 ++ wrapped)
+key-octets : (g : Given) (w : WrappedKey) → IsWrap w → AreOctets (key_set g w)
+key-octets g (Aes128 wrapped) is = giving-octets g wrapped (omega (arith, is.0)) is.1
+key-octets g (Aes256 wrapped) is =
+    giving-octets g (gcm_aes_256 ++ wrapped)
     (omega (arith, length-append gcm_aes_256 wrapped, is.0))
     (All-append IsOctet gcm_aes_256 wrapped suite-octets is.1)
-given-octets (Other an offset number) is = All-nil IsOctet
+key-octets g Other is = All-nil IsOctet
 
 -- what is said in its types
 pub record IsSaid (a : Announcement) : Type 0 where
@@ -286,7 +280,7 @@ pub record IsSaid (a : Announcement) : Type 0 where
   pub potential : All (λ (p : Peer). IsMi p.mi) a.potential
   pub potential_few : length a.potential ≤ most_listed
   pub uses : (u : Uses) → a.uses ≡ Some u → IsUse u.latest × IsUse u.old
-  pub given : (g : Given) → a.given ≡ Some g → IsWrap g
+  pub given : (g : Given) → a.given ≡ Some g → IsWrap g.key
 
 basic-octets : (a : Announcement) → IsSaid a → AreOctets (basic_set a)
 basic-octets a is =
@@ -318,9 +312,9 @@ if-used : (o : Option Uses) → ((u : Uses) → o ≡ Some u → IsUse u.latest 
 if-used None is = All-nil IsOctet
 if-used (Some u) is = let both = is u refl in uses-octets u both.0 both.1
 
-if-given : (o : Option Given) → ((g : Given) → o ≡ Some g → IsWrap g) → AreOctets (given_set o)
+if-given : (o : Option Given) → ((g : Given) → o ≡ Some g → IsWrap g.key) → AreOctets (given_set o)
 if-given None is = All-nil IsOctet
-if-given (Some g) is = given-octets g (is g refl)
+if-given (Some g) is = key-octets g g.key (is g refl)
 
 sets-octets : (a : Announcement) → IsSaid a → AreOctets (sets a)
 sets-octets a is =

@@ -32,7 +32,7 @@ use Rattle.sak_exchange.specs.Held.{received, allows}
 use Rattle.sak_exchange.specs.Histories.{Keying, ticked as key_ticked, installed as key_installed, began as key_began, install_count}
 use Rattle.sak_exchange.specs.Outcomes.{beginning}
 use Rattle.sak_exchange.specs.Making.{next_epoch}
-use Rattle.sak_exchange.specs.Taking.{taken, provided, provided_new, unwrapped_key, greatest_of, number_of, is_supported, offset_of, leaves_none}
+use Rattle.sak_exchange.specs.Taking.{taken, provided, provided_new, unwrapped_key, greatest_of, is_supported, leaves_none}
 use Rattle.sak_exchange.specs.Unwrapping.{given_sak}
 use Rattle.mka_station.specs.declared.verdict.DropReason.{DropReason}
 use Rattle.mka_station.specs.declared.verdict.DropReason.TheVariants as reasons
@@ -214,17 +214,17 @@ answer-typed : (base : ℕ) (h : List Keying) (o : Offer) (sak : Option Secret) 
     → IsAnswer (taken base h o sak)
 answer-typed base h o sak are =
     let key = unwrapped_key (next_epoch base h) o sak in
-    let offset = provided (leaves_none (offset_of o.given)) whys.Offset key in
-    let suite = provided (is_supported o.given) whys.Suite offset in
+    let offset = provided (leaves_none o.given.offset) whys.Offset key in
+    let suite = provided (is_supported o.given.key) whys.Suite offset in
     let retiring = provided (allows h) whys.Retiring suite in
-    let seen = provided_new (greatest_of o.server h) (number_of o.given) retiring in
+    let seen = provided_new (greatest_of o.server h) o.given.number retiring in
     let server = provided o.elected whys.NotServer seen in
     provided-typed o.listed whys.NotListed server tt
     (provided-typed o.elected whys.NotServer seen tt
-    (new-typed (greatest_of o.server h) (number_of o.given) retiring (greatest-of h are o.server)
+    (new-typed (greatest_of o.server h) o.given.number retiring (greatest-of h are o.server)
     (provided-typed (allows h) whys.Retiring suite tt
-    (provided-typed (is_supported o.given) whys.Suite offset tt
-    (provided-typed (leaves_none (offset_of o.given)) whys.Offset key tt
+    (provided-typed (is_supported o.given.key) whys.Suite offset tt
+    (provided-typed (leaves_none o.given.offset) whys.Offset key tt
     (key-answer (next_epoch base h) o sak))))))
 
 -- ---- a hearing
@@ -258,7 +258,7 @@ begun-keys m p are (Some b) = are
 -- the key that is offered has an identifier in its types, if one is offered
 abbrev IsOffer : Option Offer → Type 0
 IsOffer None = Unit {0}
-IsOffer (Some f) = IsTypedId (record { server = f.server; number = number_of f.given })
+IsOffer (Some f) = IsTypedId (record { server = f.server; number = f.given.number })
 
 abbrev IfAnswer : Option (Result Key Why) → Type 0
 IfAnswer None = Unit {0}
@@ -324,12 +324,12 @@ hear-typed m a p is all are few new = record {
         record {
           id = (subst IsMi (sym t.server) new.mi, subst (λ n. n < 2 ^ 32) (sym t.number) number);
           epoch = omega (arith, epoch, few_now);
-          sak = unwrapped-secret m.setup.kek t.gift k.sak t.hidden;
+          sak = unwrapped-secret m.setup.kek t.gift.key k.sak t.hidden;
         }
 
     answers : (f : Option Offer) → IfAnswer (taken_of m now f)
     answers None = tt
-    answers (Some f) = answer-typed m.base now.keys f (given_sak m.setup.kek f.given) keys_now
+    answers (Some f) = answer-typed m.base now.keys f (given_sak m.setup.kek f.given.key) keys_now
 
     take-typed : (f : Option Offer) → IsOffer f → (r : Option (Result Key Why)) → IfAnswer r
         → ((k : Key) → key_taken r ≡ Some k → IsTypedKey k) → Each (take_changes now.keys f r)

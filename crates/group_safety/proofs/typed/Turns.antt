@@ -39,7 +39,7 @@ use Rattle.mka_station.specs.declared.reaction.Reaction.{Reaction}
 use Rattle.mka_station.specs.declared.verdict.DropReason.TheVariants as reasons
 use Rattle.mka_station.specs.declared.verdict.Verdict.{Verdict}
 use Rattle.mka_station.specs.declared.verdict.Verdict.TheVariants as verdicts
-use Rattle.mka_station.specs.Announcing.{peer_of, use_of, uses_of, given, given_as, announcement, frame_of, lowest_in, same_option}
+use Rattle.mka_station.specs.Announcing.{peer_of, use_of, uses_of, given, wrapped_key, announcement, frame_of, lowest_in, same_option}
 use Rattle.mka_station.specs.Lives.{Member, Entry, own, candidate, candidate_of, live_words, elected_by, peers_of, keys_of}
 use Rattle.mka_station.specs.Lives as lives
 use Rattle.mka_station.specs.Tick.{tick_turn, ended, led, made, install_changes, new_server, ticked_past, says_at, roster_at, with_sent, with_install, with_beginning}
@@ -276,19 +276,19 @@ uses-typed lowest h are u is = go (is_some (latest h) || is_some (old h)) is
     )
     go false e = absurd (none-some e)
 
-wrap-typed : (kek : List ℕ) (k : Key) (s : Secret) → IsCipherKey kek → IsSecret s
-    → IsWrap (given_as kek k s)
-wrap-typed kek k (S128 octets) is_key is =
+wrap-typed : (kek : List ℕ) (s : Secret) → IsCipherKey kek → IsSecret s
+    → IsWrap (wrapped_key kek s)
+wrap-typed kek (S128 octets) is_key is =
     let w = wrapped-octets kek octets 16 is_key (omega arith) is.0 is.1 in (w.count, w.octets)
-wrap-typed kek k (S256 octets) is_key is =
+wrap-typed kek (S256 octets) is_key is =
     let w = wrapped-octets kek octets 32 is_key (omega arith) is.0 is.1 in (w.count, w.octets)
 
 given-typed : (m : Member) (v : View) → IsCipherKey m.setup.kek → AreTyped v.keys → (g : Given)
-    → given m v ≡ Some g → IsWrap g
+    → given m v ≡ Some g → IsWrap g.key
 given-typed m v is_key are g is =
     let t = given-is m v g is in
     let known = are t.key (latest-installed v.keys t.key t.last) in
-    subst IsWrap (sym t.same) (wrap-typed m.setup.kek t.key t.key.sak is_key known.sak)
+    subst (λ (x : Given). IsWrap x.key) (sym t.same) (wrap-typed m.setup.kek t.key.sak is_key known.sak)
 
 pub said-typed : (m : Member) (p : List Entry) (lowest : Key → ℕ) → IsTypedMember m → AllHeard p
     → AreTyped (keys_of m p) → IsSaid (announcement m lowest (view m p))

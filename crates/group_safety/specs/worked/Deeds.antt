@@ -7,7 +7,7 @@ use Rattle.gcm_frames.specs.Protected.{protected}
 use Rattle.key_wrap.specs.Wrap.{wrapped}
 use Rattle.mkpdu_codec.specs.declared.announcement.Announcement.{Announcement}
 use Rattle.mkpdu_codec.specs.declared.given.Given.{Given}
-use Rattle.mkpdu_codec.specs.declared.given.Given.TheVariants.{Aes128}
+use Rattle.mkpdu_codec.specs.declared.wrapped_key.WrappedKey.TheVariants.{Aes128}
 use Rattle.mkpdu_codec.specs.declared.offset.ConfidentialityOffset.TheVariants.{Octets0}
 use Rattle.mka_station.specs.Announcing.{frame_of}
 use Rattle.lan_core.specs.declared.event.Event.{Event}
@@ -26,8 +26,12 @@ pub record Gift : Type 0 where
 abbrev pub given_of : Option Gift → Option Given
 given_of None = None
 given_of (Some g) =
-    Some (Aes128 g.an Octets0 g.number (wrapped (setup_of settings bob).kek
-    (octets_of_sak (draw_of g.number))))
+    Some (record {
+      an = g.an;
+      offset = Octets0;
+      number = g.number;
+      key = Aes128 (wrapped (setup_of settings bob).kek (octets_of_sak (draw_of g.number)));
+    })
 
 -- an announcement with the key that it gives
 abbrev pub whole : Announcement → Option Gift → Announcement

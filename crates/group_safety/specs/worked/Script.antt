@@ -8,7 +8,6 @@ use Rattle.lan_base.specs.AssociationNumbers.{same_an}
 use Rattle.aes_block.specs.declared.secret.Secret.{Secret}
 use Rattle.mkpdu_codec.specs.declared.announcement.Announcement.{Announcement}
 use Rattle.mkpdu_codec.specs.declared.given.Given.{Given}
-use Rattle.mkpdu_codec.specs.declared.given.Given.TheVariants.{Aes128}
 use Rattle.peer_lists.specs.Histories.{clock}
 use Rattle.rx_slots.specs.declared.arrival.Arrival.{Arrival}
 use Rattle.rx_slots.specs.declared.arrival.Arrival.TheVariants as arrivals
@@ -64,8 +63,7 @@ sees s ds next = record {
 }
 
 abbrev pub gift_in : Option Given → Option Gift
-gift_in (Some (Aes128 an offset number octets)) = Some (record { an = an; number = number })
-gift_in o = None
+gift_in o = option_map (λ g. record { an = g.an; number = g.number }) o
 
 abbrev pub deed_of : ℕ → ℕ → ℕ → List Fact → List Entry → Deed
 deed_of s next n f (sent a ∷ p) = tells s next f n (record a { given = None }) (gift_in a.given)

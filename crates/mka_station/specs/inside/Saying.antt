@@ -40,7 +40,7 @@ is_given_to h told id =
 abbrev pub given_after : List ℕ → Bool → List Report → List Keying → Option Given
 given_after kek is_serving told h =
     option_and_then
-    (λ k. if is_serving && is_given_to h told k.id then Some (given_as kek k k.sak) else None)
+    (λ k. if is_serving && is_given_to h told k.id then Some (given_as kek k) else None)
     (latest h)
 
 -- whether the key server flag is set, where this server is elected

@@ -69,7 +69,7 @@ offered_by o h mi server a =
 
 -- what an offer comes to
 abbrev pub answered : ℕ → List ℕ → List Keying → Option Offer → Option (Result Key Why)
-answered base kek h offer = option_map (λ o. taken base h o (given_sak kek o.given)) offer
+answered base kek h offer = option_map (λ o. taken base h o (given_sak kek o.given.key)) offer
 
 -- the history of the keys with a key that is taken
 abbrev pub keys_with : Option Key → List Keying → List Keying

@@ -2,7 +2,7 @@
 
 ghost use Rattle.std.specs.Prelude.{◌≡◌, ◌==◌, ◌<◌, ◌+◌, ◌^◌, ◌&&◌, ◌∷◌, not, nat_lt, List, ℕ, false, Some, None, IfOk, IfSome, option_map, cond, if◌then◌else◌};
 ghost use Rattle.lan_base.specs.declared.address.Mi.{Mi};
-ghost use Rattle.mkpdu_codec.specs.Written.{IsWritable, IsWritableGiven};
+ghost use Rattle.mkpdu_codec.specs.Written.{IsWritable, IsWritableKey};
 ghost use Rattle.peer_lists.specs.Acceptance.{Own};
 ghost use Rattle.peer_lists.specs.Histories.{Peering, ticked, sent, last_sent, may_send};
 ghost use Rattle.peer_lists.specs.Table.{StandsFor as PeersStandFor};
@@ -96,7 +96,7 @@ impl Station {
         uses: Option<Uses>,
         given: Option<Given>,
     ) -> Result<Announcement, AllocError>
-        requires { IfSome given IsWritableGiven }
+        requires { IfSome given (λ g. IsWritableKey g.key) }
         ensures value { IfOk result (λ a. a ≡ announced_by self.now coming.now mn uses given) }
         ensures writable { IfOk result IsWritable }
     {

@@ -22,11 +22,11 @@ impl KeyState {
         ensures changes { (base : ℕ) (own : Mi) (h : List Keying)
             → StandsFor base own false self.old h →
             IfOk result (λ c. c ≡ (taking base h offer.now
-            (given_sak kek.now offer.now.given)).changes) }
+            (given_sak kek.now offer.now.given.key)).changes) }
         ensures stands { (base : ℕ) (own : Mi) (h : List Keying)
             → StandsFor base own false self.old h →
             OnOk result (StandsFor base own false self.new
-            (taking base h offer.now (given_sak kek.now offer.now.given)).past) }
+            (taking base h offer.now (given_sak kek.now offer.now.given.key)).past) }
         ensures unchanged { OnErr result (self.new ≡ self.old) }
     {
         match self.judge(offer, kek) {
@@ -44,7 +44,7 @@ impl KeyState {
     /// The key that an offer installs, or the first reason why it installs none.
     fn judge(&self, offer: &Offer, kek: &aes_block::Key) -> Result<Key, Why>
         requires { self.now.epochs + 1 < 2 ^ 32 }
-        ensures { result ≡ judged_now self.now offer.now (given_sak kek.now offer.now.given) }
+        ensures { result ≡ judged_now self.now offer.now (given_sak kek.now offer.now.given.key) }
     {
         if !offer.listed {
             return Err(Why::NotListed);
@@ -70,7 +70,7 @@ impl KeyState {
         let sak = offer.sak(kek).ok_or(Why::Wrap)?;
         Ok(Key {
             id,
-            an: offer.an(),
+            an: offer.given.an,
             sak,
             conf: offer.encrypts(),
             epoch: self.epochs + 1,

@@ -9,7 +9,7 @@ use crate::vectors::octets::octets_of;
 use lan_base::is_ckn;
 use mkpdu_codec::{
     Announcement, ConfidentialityOffset, Given, KeyUse, Peers, ReadError, Refusal, Spelled, Uses,
-    read, write,
+    WrappedKey, read, write,
 };
 use std::alloc::Global;
 use std::fmt;
@@ -64,7 +64,13 @@ fn is_writable(announcement: &Announcement) -> bool
         && is_ckn(announcement.ckn.as_slice())
         && announcement.live.len() <= LISTED_MAX
         && announcement.potential.len() <= LISTED_MAX
-        && !matches!(&announcement.given, Some(Given::Other { .. }))
+        && !matches!(
+            &announcement.given,
+            Some(Given {
+                key: WrappedKey::Other,
+                ..
+            })
+        )
 }
 
 /// What a frame spells, field by field, in one line.
@@ -160,31 +166,13 @@ struct Key<'a>(&'a Given);
 
 impl fmt::Display for Key<'_> {
     fn fmt<W: fmt::Write>(&self, f: &mut fmt::Formatter<W>) -> fmt::Result {
-        let (an, offset, number) = match self.0 {
-            Given::Aes128 {
-                an,
-                offset,
-                number,
-                ..
-            } => (an, offset, number),
-            Given::Aes256 {
-                an,
-                offset,
-                number,
-                ..
-            } => (an, offset, number),
-            Given::Other { an, offset, number } => (an, offset, number),
-        };
-        write!(
-            f,
-            "{number} an {} offset {} ",
-            an.number(),
-            name_of(*offset)
-        )?;
-        match self.0 {
-            Given::Aes128 { wrapped, .. } => write!(f, "128 bits {}", Digits(wrapped)),
-            Given::Aes256 { wrapped, .. } => write!(f, "256 bits {}", Digits(wrapped)),
-            Given::Other { .. } => f.write_str("of another suite"),
+        let given = self.0;
+        write!(f, "{} an {} ", given.number, given.an.number())?;
+        write!(f, "offset {} ", name_of(given.offset))?;
+        match &given.key {
+            WrappedKey::Aes128(wrapped) => write!(f, "128 bits {}", Digits(wrapped)),
+            WrappedKey::Aes256(wrapped) => write!(f, "256 bits {}", Digits(wrapped)),
+            WrappedKey::Other => f.write_str("of another suite"),
         }
     }
 }

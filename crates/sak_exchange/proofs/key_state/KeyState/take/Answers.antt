@@ -16,7 +16,7 @@ pub returns-in-Ok-clause-changes : goal.returns-in-Ok-clause-changes
 returns-in-Ok-clause-changes c = λ base own h s.
     let s0 = c.args.self.now in
     let o = c.args.offer.now in
-    let sak = given_sak c.args.kek.now o.given in
+    let sak = given_sak c.args.kek.now o.given.key in
     let t = takes base own s0 h o sak c.in-Ok.key s (sym c.judge.ensures ∙ c.in-Ok.is) in
     let told = changes-installed base own s0 h None c.in-Ok.key s ∙ ap (λ r. (judging h o r).changes) (sym t.is) in
     subst (λ (xs : List Change). IfOk c.install.result (λ v. v ≡ xs)) told c.install.ensures.changes
@@ -25,7 +25,7 @@ pub returns-in-Ok-clause-stands : goal.returns-in-Ok-clause-stands
 returns-in-Ok-clause-stands c = λ base own h s.
     let s0 = c.args.self.now in
     let o = c.args.offer.now in
-    let sak = given_sak c.args.kek.now o.given in
+    let sak = given_sak c.args.kek.now o.given.key in
     let t = takes base own s0 h o sak c.in-Ok.key s (sym c.judge.ensures ∙ c.in-Ok.is) in
     on_ok_weaker c.install.result
     (λ i. let is : IsInstalled s0 c.in-Ok.key None c.install.new.self = i in
@@ -36,7 +36,7 @@ returns-in-Ok-clause-stands c = λ base own h s.
 pub returns-in-Err-clause-changes : goal.returns-in-Err-clause-changes
 returns-in-Err-clause-changes c = λ base own h s.
     let o = c.args.offer.now in
-    let sak = given_sak c.args.kek.now o.given in
+    let sak = given_sak c.args.kek.now o.given.key in
     let t = refuses base own c.args.self.now h o sak c.in-Err.why s (sym c.judge.ensures ∙ c.in-Err.is) in
     let told = ap (λ (i : KeyId). Untaken i c.in-Err.why ∷ []) c.id.ensures ∙ ap (λ r. (judging h o r).changes) (sym t) in
     subst (λ (xs : List Change). IfOk c.of.result (λ v. v ≡ xs)) told c.of.ensures
@@ -44,6 +44,6 @@ returns-in-Err-clause-changes c = λ base own h s.
 pub returns-in-Err-clause-stands : goal.returns-in-Err-clause-stands
 returns-in-Err-clause-stands c = λ base own h s.
     let o = c.args.offer.now in
-    let sak = given_sak c.args.kek.now o.given in
+    let sak = given_sak c.args.kek.now o.given.key in
     let t = refuses base own c.args.self.now h o sak c.in-Err.why s (sym c.judge.ensures ∙ c.in-Err.is) in
     on_ok_always c.of.result (subst (λ r. StandsFor base own false c.args.self.now (judging h o r).past) (sym t) s)
