@@ -32,9 +32,10 @@ use Rattle.group_safety.specs.worked.Group.{settings, mi, sci, alice, bob, octet
 use Rattle.group_safety.proofs.example.Scene.{Lives, with_one_life, Scene}
 use Rattle.group_safety.proofs.example.Moves.{start-moves}
 use Rattle.group_safety.proofs.example.Run.{users, r2}
-use Rattle.group_safety.proofs.example.Run.{a2, b2, r7, r12, run}
+use Rattle.group_safety.proofs.example.Run.{a2, b2, r7, r12, r16, r20, r21, run}
 use Rattle.group_safety.proofs.example.Good.{mi_is, sci_is}
-use Rattle.group_safety.proofs.example.Steps.{both, l2, l13, l16, l21, whole}
+use Rattle.group_safety.proofs.example.Steps.{both, l2, l13, l16, l20, l21, whole}
+use Rattle.group_safety.proofs.example.Steps.{restarted, reported, replaced}
 
 -- ---- the two starts
 
@@ -86,6 +87,16 @@ bob_starts =
     ) refl refl refl
 
 -- ---- the run meets the premises
+
+-- before the second key is made, once it is reported, and as alice begins it
+pub v16 : Scene users both r16 l16
+v16 = restarted bob_starts
+
+pub v20 : Scene users both r20 l20
+v20 = reported bob_starts
+
+pub v21 : Scene users both r21 l21
+v21 = replaced bob_starts
 
 ends : Scene users both run l21
 ends = whole bob_starts

@@ -41,6 +41,10 @@ pub use Rattle.group_safety.proofs.example.Rolled.{l12}
 pub use Rattle.group_safety.proofs.example.Steps.{both, a-user, l11}
 unfoldable pub use Rattle.group_safety.proofs.example.Steps.{opens}
 pub use Rattle.group_safety.proofs.SteadyExample.{v11, v12}
+-- And a run of them in which the first one goes from one key to the next, up to that event.
+pub use Rattle.group_safety.proofs.example.Run.{second_key, r14, r16, r17, r18, r19, r20, r21}
+pub use Rattle.group_safety.proofs.example.Steps.{l20, l21}
+pub use Rattle.group_safety.proofs.Examples.{v16, v20, v21}
 -- A legal run of them in which a rollover ends: the first key is retired.
 pub use Rattle.group_safety.proofs.RetireExample.{retiring, retires}
 -- A stepped and unforged run is known: what holds of its lives, of its frames and of its ledgers.

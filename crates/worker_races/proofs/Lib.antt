@@ -18,5 +18,7 @@ pub mod CardsBehind
 mod Examples
 mod WordsExample
 pub mod BesideExample
+mod RolloverWords
+mod RolloverExample
 pub mod weaving
 pub mod Public

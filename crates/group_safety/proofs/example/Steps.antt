@@ -288,5 +288,15 @@ s22 v =
 pub begun : Scene users both scene.r2 l2 → Scene users both scene.r11 l11
 begun v = s11 (s10 (s9 (s8 (s7 (s6 (s5 (s4 (s3 v))))))))
 
+-- bob's new life says hello; it reports the second key; alice begins that
+pub restarted : Scene users both scene.r2 l2 → Scene users both scene.r16 l16
+restarted v = s16 (s15 (s14 (s13 (s12 (begun v)))))
+
+pub reported : Scene users both scene.r2 l2 → Scene users both scene.r20 l20
+reported v = s20 (s19 (s18 (s17 (restarted v))))
+
+pub replaced : Scene users both scene.r2 l2 → Scene users both scene.r21 l21
+replaced v = s21 (reported v)
+
 pub whole : Scene users both scene.r2 l2 → Scene users both scene.run l21
-whole v = s22 (s21 (s20 (s19 (s18 (s17 (s16 (s15 (s14 (s13 (s12 (begun v)))))))))))
+whole v = s22 (replaced v)
