@@ -19,4 +19,5 @@ pub mod OtherBasis
 pub mod RoundKeys
 pub mod InverseLanes
 pub mod Vectors
+pub mod Secrets
 pub mod Public

@@ -5,4 +5,5 @@ pub use Rattle.aes_block.proofs.Lanes.{IsVector, looked, lower, sum, upper}
 pub use Rattle.aes_block.proofs.Mixing.{xor_swap}
 pub use Rattle.aes_block.proofs.Octets.{AreOctets, All-from_AreOctets, AreOctets-append, AreOctets-drop, AreOctets-from_All, AreOctets-octets_sum, AreOctets-take}
 pub use Rattle.aes_block.proofs.OtherBasis.{AreOctets-from_Fits}
+pub use Rattle.aes_block.proofs.Secrets.{same_secret-is, same_secret-itself}
 pub use Rattle.aes_block.proofs.Steps.{AreInverse, octets_sum-twice, same_source, written_out}

@@ -6,9 +6,10 @@ use Rattle.lan_base.specs.declared.address.Mi.{Mi}
 use Rattle.lan_base.specs.declared.suite.Suite.{Suite}
 use Rattle.lan_base.specs.Identifiers.{same_mi}
 use Rattle.aes_block.specs.declared.secret.Secret.{Secret}
+use Rattle.aes_block.specs.Secrets.{same_secret}
 use Rattle.lan_core.specs.Run.{Run, Happening}
 use Rattle.lan_core.specs.Lives.{drawn_mi}
-use Rattle.lan_core.specs.Stops.{draws_in, mi_number, sak_number, sak_of_tick, is_drawn, same_secret}
+use Rattle.lan_core.specs.Stops.{draws_in, mi_number, sak_number, sak_of_tick, is_drawn}
 use Rattle.cak_roll.specs.declared.event.GroupNumber.{GroupNumber}
 use Rattle.cak_roll.specs.declared.event.GroupNumber.TheVariants.{First, Second}
 use Rattle.cak_roll.specs.Twin.{Twin, run_of, merged}

@@ -12,12 +12,13 @@ use Rattle.lan_base.specs.declared.suite.Suite.TheVariants.{GcmAes128, GcmAes256
 use Rattle.lan_base.specs.Identifiers.{same_mi}
 use Rattle.lan_base.specs.Suites.{sak_draws}
 use Rattle.aes_block.specs.declared.secret.Secret.{Secret}
-use Rattle.aes_block.specs.declared.secret.Secret.TheVariants.{S128, S256}
+use Rattle.aes_block.specs.Secrets.{same_secret}
+use Rattle.aes_block.proofs.Public.{same_secret-is}
 use Rattle.lan_core.specs.declared.stop.Stop.TheVariants.{RepeatedDraw}
 use Rattle.lan_core.specs.Run.{Run, Happening}
 use Rattle.lan_core.specs.Lives.{drawn_mi}
 use Rattle.lan_core.specs.Stops.{draws_in, draws_by, mi_number, sak_number, sak_of_tick, is_drawn}
-use Rattle.lan_core.specs.Stops.{same_secret, drawn_before, stop_of_draw}
+use Rattle.lan_core.specs.Stops.{drawn_before, stop_of_draw}
 use Rattle.cak_roll.specs.Standing.{AreTraced}
 use Rattle.cak_roll.specs.inside.Noting.{number_over}
 use Rattle.cak_roll.proofs.Adopted.{get-more}
@@ -29,12 +30,6 @@ same-mi m n same = ap mi_of ((bytes_eq-Decides m.0 n.0).0 same)
   where
     mi_of : List ℕ → Mi
     mi_of octets = record { 0 = octets }
-
-same-secret : (s k : Secret) → same_secret s k ≡ true → s ≡ k
-same-secret (S128 a) (S128 b) same = ap S128 ((bytes_eq-Decides a b).0 same)
-same-secret (S256 a) (S256 b) same = ap S256 ((bytes_eq-Decides a b).0 same)
-same-secret (S128 a) (S256 b) same = absurd (cc same)
-same-secret (S256 a) (S128 b) same = absurd (cc same)
 
 -- ---- a value that repeats nothing
 
@@ -87,7 +82,7 @@ traced-beside suite y r whole draws none traced =
           );
       saks = λ sak own is.
           let t = traced.saks sak own is in
-          let other = apart same_secret same-secret (sak_number suite whole) sak
+          let other = apart same_secret same_secret-is (sak_number suite whole) sak
           (sak_of_tick y.facts y.event) t.0 t.2 parts.1 in (
             t.0,
             t.1,

@@ -4,17 +4,18 @@ use Rattle.std.specs.Prelude.{option_map, ◌&&◌, ◌==◌}
 use Rattle.std.proofs.lemmas.Bool.{cases_lt, eq-eqb, ne_eqb}
 use Rattle.std.proofs.lemmas.Cmp.{nat_list_eq_equiv}
 use Rattle.aes_block.specs.declared.secret.Secret.{Secret}
+use Rattle.aes_block.specs.Secrets.{same_secret}
+use Rattle.aes_block.proofs.Public.{same_secret-itself}
 use Rattle.capture_packets.specs.Packets.{Seen}
 use Rattle.key_ring.specs.Rings.{Ring}
 use Rattle.key_ring.specs.declared.ring.HandKey.{HandKey}
 use Rattle.known_keys.specs.History.{Entry, Gave, Set, keys}
 use Rattle.known_keys.specs.Known.{number_told}
-use Rattle.known_keys.specs.Numbered.{number_from, number_in, same_secret, with_key, with_number}
+use Rattle.known_keys.specs.Numbered.{number_from, number_in, with_key, with_number}
 use Rattle.known_keys.specs.OneKey.{given, given_or, gives, same_id, same_named}
 use Rattle.known_keys.specs.declared.giving.Giving.{Giving}
 use Rattle.known_keys.specs.declared.giving.Giving.TheVariants.{Key, Without}
 use Rattle.known_keys.specs.declared.named.Named.{Named}
-use Rattle.known_keys.proofs.Public.{same-itself}
 use Rattle.lan_base.specs.AssociationNumbers.{same_an}
 use Rattle.lan_base.specs.declared.association_number.AssociationNumber.{AssociationNumber}
 use Rattle.lan_base.specs.declared.association_number.AssociationNumber.TheVariants as ans
@@ -168,7 +169,7 @@ by-other n nanos gift _ told m apart = refl
 
 -- a key that stands last is one of the keys
 among : (n : ℕ) (ks : List Secret) (sak : Secret) → (number : ℕ) × (number_from n (ks ++ sak ∷ []) sak ≡ Some number)
-among n [] sak = (n, ap (λ b. cond b (Some n) None) (same-itself sak))
+among n [] sak = (n, ap (λ b. cond b (Some n) None) (same_secret-itself sak))
 among n (k ∷ ks) sak = go (same_secret k sak) (among (suc n) ks sak)
   where
     go : (b : Bool) → (number : ℕ) × (number_from (suc n) (ks ++ sak ∷ []) sak ≡ Some number)

@@ -6,6 +6,7 @@ use Rattle.std.proofs.lemmas.List.{append-nil}
 use Rattle.std.proofs.lemmas.Grind.{flat_map-append}
 use Rattle.aes_block.specs.declared.secret.Secret.{Secret}
 use Rattle.aes_block.specs.declared.secret.Secret.TheVariants.{S128}
+use Rattle.aes_block.specs.Secrets.{same_secret}
 use Rattle.known_keys.specs.declared.sender.Sender.TheVariants.{Any}
 use Rattle.lan_base.specs.declared.association_number.AssociationNumber.TheVariants.{An0}
 use Rattle.audit_report.specs.Lines.{hand_line, set_lines}
@@ -13,7 +14,7 @@ use Rattle.key_ring.specs.declared.ring.HandKey.{HandKey}
 use Rattle.known_keys.specs.declared.fault.KeyError.{KeyError}
 use Rattle.known_keys.specs.declared.fault.KeyError.TheVariants.{TooManyKeys, Memory}
 use Rattle.known_keys.specs.History.{Entry, Set, keys}
-use Rattle.known_keys.specs.Numbered.{number_from, number_in, same_secret}
+use Rattle.known_keys.specs.Numbered.{number_from, number_in}
 use Rattle.known_keys.specs.Standing.{Kept, StandsFor}
 use Rattle.known_keys.proofs.Public.{front-keys}
 use Rattle.capture_audit.specs.Before.{set_behind}

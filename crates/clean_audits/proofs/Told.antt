@@ -6,7 +6,8 @@ use Rattle.std.proofs.lemmas.Bool.{and_parts, cases_eq, eq-eqb, eqb-true, ne_eqb
 use Rattle.lan_base.specs.declared.address.Sci.{Sci}
 use Rattle.lan_base.specs.declared.association_number.AssociationNumber.{AssociationNumber}
 use Rattle.lan_base.specs.declared.key_id.KeyId.{KeyId}
-use Rattle.aes_block.specs.Secrets.{secret_octets}
+use Rattle.aes_block.specs.Secrets.{same_secret, secret_octets}
+use Rattle.aes_block.proofs.Public.{same_secret-is, same_secret-itself}
 use Rattle.aes_block.specs.declared.secret.Secret.{Secret}
 use Rattle.mkpdu_codec.specs.declared.offset.ConfidentialityOffset.{ConfidentialityOffset}
 use Rattle.known_keys.specs.declared.giving.Giving.TheVariants.{Key, Without}
@@ -14,8 +15,8 @@ use Rattle.known_keys.specs.declared.sender.Sender.{Sender}
 use Rattle.known_keys.specs.declared.sender.Sender.TheVariants.{Any, One}
 use Rattle.known_keys.specs.History.{Entry, Gave, Set, Showed, Strange, keys, sak_of}
 use Rattle.known_keys.specs.Known.{is_for, is_it, is_open, is_told, known, number_told}
-use Rattle.known_keys.specs.Numbered.{greatest_first, number_from, number_in, same_secret, with_key, with_number}
-use Rattle.known_keys.proofs.Public.{in-within, same-is, same-itself}
+use Rattle.known_keys.specs.Numbered.{greatest_first, number_from, number_in, with_key, with_number}
+use Rattle.known_keys.proofs.Public.{in-within}
 use Rattle.sak_exchange.proofs.Public.{same-an-itself}
 use Rattle.lan_core.specs.Ledgers.{Install, installs}
 use Rattle.lan_core.specs.Run.{Run}
@@ -38,7 +39,7 @@ number-front n (k ∷ keys) more sak m e =
 
 number-last : (n : ℕ) (keys : List Secret) (sak : Secret) → number_from n keys sak ≡ None
     → (m : ℕ) × (number_from n (keys ++ sak ∷ []) sak ≡ Some m)
-number-last n [] sak e = (n, rw (same-itself sak) refl)
+number-last n [] sak e = (n, rw (same_secret-itself sak) refl)
 number-last n (k ∷ keys) sak e = go (same_secret k sak) refl e (number-last (suc n) keys sak)
   where
     go : (b : Bool) → same_secret k sak ≡ b → cond b (Some n) (number_from (suc n) keys sak) ≡ None
@@ -92,7 +93,7 @@ same-number n (k ∷ keys) a b m e f =
         → cond x (Some n) (number_from (suc n) keys a) ≡ Some m
         → cond y (Some n) (number_from (suc n) keys b) ≡ Some m
         → (number_from (suc n) keys a ≡ Some m → number_from (suc n) keys b ≡ Some m → a ≡ b) → a ≡ b
-    go true p true q e f later = sym (same-is k a p) ∙ same-is k b q
+    go true p true q e f later = sym (same_secret-is k a p) ∙ same_secret-is k b q
     go true p false q e f later =
         let same : n ≡ m = cc e in let more = number-least (suc n) keys b m f in
         absurd (omega (arith, same, more))
@@ -115,7 +116,7 @@ numbered-from n (k ∷ keys) sak m e =
     go true is f later =
         let same : n ≡ m = cc f in
         let none : m - n ≡ 0 = omega (arith, same) in
-        ap (slice_get (map secret_octets (k ∷ keys))) none ∙ ap (λ s. Some (secret_octets s)) (same-is k sak is)
+        ap (slice_get (map secret_octets (k ∷ keys))) none ∙ ap (λ s. Some (secret_octets s)) (same_secret-is k sak is)
     go false is f later =
         let more = number-least (suc n) keys sak m f in
         let one : m - n ≡ suc (m - suc n) = omega (arith, more) in

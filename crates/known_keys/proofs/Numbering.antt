@@ -2,11 +2,11 @@
 use Rattle.std.proofs.Common.{◌≡◌, ◌∙◌, ◌+◌, ◌<◌, ◌≤◌, ℕ, suc, Bool, true, false, cond, List, [], ◌∷◌, ◌++◌, length, Option, Some, None, refl, sym, ap, subst, arith, length-append}
 use Rattle.std.proofs.lemmas.List.{length-map, map-append}
 use Rattle.aes_block.specs.declared.secret.Secret.{Secret}
-use Rattle.aes_block.specs.Secrets.{secret_octets}
-use Rattle.known_keys.specs.Numbered.{same_secret, number_from, number_in, with_number, with_key}
+use Rattle.aes_block.specs.Secrets.{same_secret, secret_octets}
+use Rattle.aes_block.proofs.Public.{same_secret-is, same_secret-itself}
+use Rattle.known_keys.specs.Numbered.{number_from, number_in, with_number, with_key}
 use Rattle.known_keys.specs.Maps.{number_by, Keyed, AreKept}
 use Rattle.known_keys.specs.inside.Steps.{IsKeyed}
-use Rattle.known_keys.proofs.SakNumbers.{same-is, same-itself}
 
 -- the number of a SAK where one key more stands last
 abbrev pub last_or : Option ℕ → Option ℕ → Option ℕ
@@ -54,7 +54,7 @@ pub in-more : (keys : List Secret) (sak : Secret) → number_in keys sak ≡ Non
 in-more keys sak none =
     from-more 1 keys sak sak
     ∙ ap (λ o. last_or o (cond (same_secret sak sak) (Some (1 + length keys)) None)) none
-    ∙ ap (λ b. cond b (Some (1 + length keys)) None) (same-itself sak)
+    ∙ ap (λ b. cond b (Some (1 + length keys)) None) (same_secret-itself sak)
     ∙ ap (λ n. Some n) (let e : 1 + length keys ≡ length keys + 1 = omega arith in e)
 
 last-none : (o : Option ℕ) → last_or o None ≡ o
@@ -70,7 +70,7 @@ numbers-more keys key none sak = go (same_secret key sak) refl
         → cond b (Some (length keys + 1)) (number_in keys sak) ≡ number_in (keys ++ key ∷ []) sak
     go true same =
         sym (in-more keys key none)
-        ∙ ap (λ (s : Secret). number_in (keys ++ key ∷ []) s) (same-is key sak same)
+        ∙ ap (λ (s : Secret). number_in (keys ++ key ∷ []) s) (same_secret-is key sak same)
     go false apart =
         sym (last-none (number_in keys sak))
         ∙ sym (ap (λ b. last_or (number_in keys sak) (cond b (Some (1 + length keys)) None)) apart)

@@ -1,7 +1,5 @@
 -- The numbers of SAKs are looked up by the order of octets, and compared octet by octet.
 use Rattle.std.proofs.Common.{◌≡◌, ◌∙◌, ℕ, true, List, Some, cond, refl, sym, ap}
-use Rattle.std.proofs.lemmas.Map.Lookups.{exact_bytes}
-use Rattle.std.proofs.lemmas.Cmp.{nat_list_eq_equiv}
 use Rattle.std.specs.Prelude.{nat_eq}
 use Rattle.std.specs.BTreeMap.{is_at}
 use Rattle.std.specs.Ordering.{nat_cmp, is_eq}
@@ -10,7 +8,7 @@ use Rattle.std.specs.declared.cmp.Ordering.{Ordering}
 use Rattle.std.specs.declared.cmp.Ordering.TheVariants.{Less, Equal, Greater}
 use Rattle.aes_block.specs.declared.secret.Secret.{Secret}
 use Rattle.aes_block.specs.declared.secret.Secret.TheVariants.{S128, S256}
-use Rattle.known_keys.specs.Numbered.{same_secret}
+use Rattle.aes_block.specs.Secrets.{same_secret}
 use Rattle.known_keys.specs.Maps.{Numbers, ByOctets, number_at, number_by}
 
 pub equal : (o : Ordering) → is_eq o ≡ true → o ≡ Equal
@@ -38,17 +36,3 @@ pub wide_put : (number : ℕ) (octets : List ℕ) (old new : Numbers) → Keeps 
     → number_by new s ≡ cond (same_secret (S256 octets) s) (Some number) (number_by old s)
 wide_put number octets old new keeps narrow (S128 q) = ap (λ (entries : ByOctets). number_at entries q) narrow
 wide_put number octets old new keeps narrow (S256 q) = here number octets old.wide new.wide keeps q
-
--- those that have the same octets are the same
-pub same-is : (a b : Secret) → same_secret a b ≡ true → a ≡ b
-same-is (S128 a) (S128 b) e = ap (λ (o : List ℕ). S128 o) (exact_bytes a b (equal (slice_cmp nat_cmp a b) (sym (texts_ties a b) ∙ e)))
-same-is (S256 a) (S256 b) e = ap (λ (o : List ℕ). S256 o) (exact_bytes a b (equal (slice_cmp nat_cmp a b) (sym (texts_ties a b) ∙ e)))
-same-is (S128 a) (S256 b) e = absurd (cc e)
-same-is (S256 a) (S128 b) e = absurd (cc e)
-
-same-octets : (a : List ℕ) → pointwise nat_eq a a ≡ true
-same-octets a = nat_list_eq_equiv.refl a
-
-pub same-itself : (a : Secret) → same_secret a a ≡ true
-same-itself (S128 a) = same-octets a
-same-itself (S256 a) = same-octets a

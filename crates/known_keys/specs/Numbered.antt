@@ -1,14 +1,7 @@
 -- The different SAKs in an order, and their numbers.
-use Rattle.std.specs.Prelude.{ℕ, zero, suc, nat_eq, Bool, false, if◌then◌else◌, List, [], ◌∷◌, ◌++◌, Option, Some, None}
-use lib.Pointwise.{pointwise}
+use Rattle.std.specs.Prelude.{ℕ, zero, suc, Bool, if◌then◌else◌, List, [], ◌∷◌, ◌++◌, Option, Some, None}
 use Rattle.aes_block.specs.declared.secret.Secret.{Secret}
-use Rattle.aes_block.specs.declared.secret.Secret.TheVariants.{S128, S256}
-
--- whether two SAKs have the same octets: those of other lengths differ
-abbrev pub same_secret : Secret → Secret → Bool
-same_secret (S128 a) (S128 b) = pointwise nat_eq a b
-same_secret (S256 a) (S256 b) = pointwise nat_eq a b
-same_secret _ _ = false
+use Rattle.aes_block.specs.Secrets.{same_secret}
 
 -- the number of a SAK in a list, whose first one has this number
 abbrev pub number_from : ℕ → List Secret → Secret → Option ℕ

@@ -2,7 +2,7 @@
 
 ghost use Rattle.std.specs.Prelude.{◌≡◌, [], OnOk, OnErr, Some, if◌then◌else◌};
 ghost use Rattle.aes_block.specs.declared.secret.Secret.{Secret};
-ghost use Rattle.known_keys.specs.Numbered.{same_secret};
+ghost use Rattle.aes_block.specs.Secrets.{same_secret};
 ghost use Rattle.known_keys.specs.Maps.{number_by};
 
 use aes_block::Secret;

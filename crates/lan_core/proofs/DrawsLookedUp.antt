@@ -10,7 +10,7 @@ use Rattle.lan_base.specs.declared.address.Mi.{Mi}
 use Rattle.lan_base.specs.Identifiers.{order, same_mi}
 use Rattle.aes_block.specs.declared.secret.Secret.{Secret}
 use Rattle.aes_block.specs.declared.secret.Secret.TheVariants.{S128, S256}
-use Rattle.lan_core.specs.Stops.{same_secret}
+use Rattle.aes_block.specs.Secrets.{same_secret}
 use Rattle.lan_core.specs.Standing.{Numbers, number_of_mi, number_of_sak}
 use Rattle.lan_core.specs.Noting.{MiIsNoted}
 use Rattle.lan_core.specs.inside.Drawing.{SakIsKept}

@@ -7,7 +7,7 @@ use Rattle.lan_base.specs.declared.address.Mi.{Mi}
 use Rattle.lan_base.specs.Differing.{AllDiffer, DiffersFrom}
 use Rattle.lan_base.specs.Identifiers.{same_mi}
 use Rattle.aes_block.specs.declared.secret.Secret.{Secret}
-use Rattle.aes_block.specs.Secrets.{secret_octets}
+use Rattle.aes_block.specs.Secrets.{same_secret, secret_octets}
 use Rattle.lan_core.specs.declared.settings.Settings.{Settings}
 use Rattle.lan_core.specs.declared.stop.Stop.TheVariants.{RepeatedDraw}
 use Rattle.lan_core.specs.Run.{Run, Happening}
@@ -17,7 +17,7 @@ use Rattle.lan_core.specs.Types.{IfDrawn}
 use Rattle.lan_core.specs.Order.{IsOfSuite}
 use Rattle.lan_core.specs.Legal.{IsStep}
 use Rattle.lan_core.specs.Fresh.{IsFresh, drawn_mis, drawn_saks}
-use Rattle.lan_core.specs.Stops.{mi_number, sak_number, sak_of_tick, same_secret, is_drawn}
+use Rattle.lan_core.specs.Stops.{mi_number, sak_number, sak_of_tick, is_drawn}
 use Rattle.lan_core.specs.Stops.{draws_in, drawn_before, stop_of_draw}
 use Rattle.lan_core.specs.Suited.{AreDrawnWell, IsDrawnWell}
 use Rattle.lan_core.proofs.FramesNumbered.{mapped}

@@ -9,7 +9,7 @@ use Rattle.lan_base.specs.declared.address.Mi.{Mi}
 use Rattle.lan_base.specs.declared.frame.UserFrame.{UserFrame}
 use Rattle.lan_base.specs.declared.suite.Suite.{Suite}
 use Rattle.lan_base.specs.Identifiers.{same_mi}
-use Rattle.aes_block.specs.Secrets.{secret_octets}
+use Rattle.aes_block.specs.Secrets.{same_secret, secret_octets}
 use Rattle.aes_block.specs.declared.secret.Secret.{Secret}
 use Rattle.aes_block.specs.declared.secret.Secret.TheVariants.{S128, S256}
 use Rattle.gcm_frames.specs.Tags.{is_sec}
@@ -38,7 +38,7 @@ use Rattle.lan_base.specs.Differing.{AllDiffer, DiffersFrom}
 use Rattle.lan_core.specs.Fresh.{IsFresh, drawn_mis, drawn_saks, sak_drawn}
 use Rattle.lan_core.specs.Fresh.{IsUnforged, IsUnforgedBy}
 use Rattle.lan_core.specs.Fresh.{is_forged}
-use Rattle.lan_core.specs.Stops.{mi_number, sak_number, sak_of_tick, same_secret, is_drawn}
+use Rattle.lan_core.specs.Stops.{mi_number, sak_number, sak_of_tick, is_drawn}
 use Rattle.lan_core.specs.Stops.{draws_in, drawn_before}
 use Rattle.lan_core.specs.Stops.{stop_of_draw, stop_of_forgery}
 use Rattle.lan_core.proofs.FramesNumbered.{mapped, chained}

@@ -3,7 +3,7 @@ use Rattle.std.specs.Prelude.{◌≡◌, ℕ, ◌+◌, if◌then◌else◌, Some
 use Rattle.lan_base.specs.declared.address.Mi.{Mi}
 use Rattle.lan_base.specs.Identifiers.{same_mi}
 use Rattle.aes_block.specs.declared.secret.Secret.{Secret}
-use Rattle.lan_core.specs.Stops.{same_secret}
+use Rattle.aes_block.specs.Secrets.{same_secret}
 use Rattle.lan_core.specs.Standing.{Numbers, number_of_mi, number_of_sak}
 
 -- a member identifier was drawn

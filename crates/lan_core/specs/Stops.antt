@@ -1,11 +1,10 @@
 -- When an event may come by its caller's conditions, and the first stop that it meets: draws that
 -- are spent, a limit in the order of the table, a repeated draw, foreign octets that are forged
 -- (this profile's own rules).
-use Rattle.std.specs.Prelude.{◌≡◌, ◌<◌, ◌≤◌, ◌⊎◌, ℕ, ◌+◌, ◌-◌, ◌==◌, Bool, true, false, if◌then◌else◌, nat_eq, nat_lt}
+use Rattle.std.specs.Prelude.{◌≡◌, ◌<◌, ◌≤◌, ◌⊎◌, ℕ, ◌+◌, ◌-◌, ◌==◌, Bool, true, false, if◌then◌else◌, nat_lt}
 use Rattle.std.specs.Prelude.{List, [], ◌∷◌, map, sum, length, Option, Some, None, is_some, is_none, option_map, option_and_then}
 use Rattle.std.specs.Option.{option_or}
 use Rattle.std.specs.List.{list_any}
-use lib.Pointwise.{pointwise}
 use Rattle.lan_base.specs.declared.address.Mi.{Mi}
 use Rattle.lan_base.specs.declared.frame.UserFrame.{UserFrame}
 use Rattle.lan_base.specs.declared.suite.Suite.{Suite}
@@ -13,7 +12,7 @@ use Rattle.lan_base.specs.Identifiers.{same_mi}
 use Rattle.lan_base.specs.Ranges.{most_frame_octets, most_frames, most_ticks}
 use Rattle.lan_base.specs.Suites.{sak_draws}
 use Rattle.aes_block.specs.declared.secret.Secret.{Secret}
-use Rattle.aes_block.specs.declared.secret.Secret.TheVariants.{S128, S256}
+use Rattle.aes_block.specs.Secrets.{same_secret}
 use Rattle.sak_exchange.specs.declared.held_key.Key.{Key}
 use Rattle.mka_station.specs.Drawing.{draws_at}
 use Rattle.lan_core.specs.declared.event.Event.{Event}
@@ -97,11 +96,6 @@ draws_by suite x =
 unfoldable pub draws_in : Suite → Run → ℕ
 draws_in suite [] = 0
 draws_in suite (x ∷ r) = draws_by suite x + draws_in suite r
-
-abbrev pub same_secret : Secret → Secret → Bool
-same_secret (S128 a) (S128 b) = pointwise nat_eq a b
-same_secret (S256 a) (S256 b) = pointwise nat_eq a b
-same_secret _ _ = false
 
 abbrev pub is_drawn : {A : Type 0} → (A → A → Bool) → A → Option A → Bool
 is_drawn same a None = false

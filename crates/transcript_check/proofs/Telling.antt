@@ -1,22 +1,16 @@
 -- Whether two keys are the same.
 use Rattle.std.proofs.Common.{◌≡◌, ◌≢◌, ◌∙◌, ◌⊎◌, inl, inr, ℕ, true, Some, List, [], ◌∷◌, refl, sym, ap, subst}
-use Rattle.std.specs.Prelude.{nat_eq}
 use Rattle.std.proofs.lemmas.Bool.{and_parts, eqb-true, eq-eqb}
-use Rattle.std.proofs.lemmas.Cmp.{nat_list_eq_equiv}
-use Rattle.std.proofs.lemmas.Map.Lookups.{exact_bytes}
-use Rattle.std.specs.Cmp.Lexicographic.{slice_cmp, texts_ties}
-use Rattle.std.specs.Ordering.{nat_cmp, is_eq}
-use Rattle.std.specs.declared.cmp.Ordering.{Ordering}
-use Rattle.std.specs.declared.cmp.Ordering.TheVariants.{Less, Equal, Greater}
-use lib.Pointwise.{pointwise}
 use Rattle.lan_base.specs.AssociationNumbers.{number_of, numbered, same_an}
 use Rattle.lan_base.specs.declared.association_number.AssociationNumber.{AssociationNumber}
 use Rattle.lan_base.specs.declared.association_number.AssociationNumber.TheVariants.{An0, An1, An2, An3}
 use Rattle.lan_base.specs.declared.key_id.KeyId.{KeyId}
 use Rattle.aes_block.specs.declared.secret.Secret.{Secret}
+use Rattle.aes_block.specs.Secrets.{same_secret}
+use Rattle.aes_block.proofs.Public.{same_secret-is, same_secret-itself}
 use Rattle.aes_block.specs.declared.secret.Secret.TheVariants.{S128, S256}
 use Rattle.transcript_check.specs.declared.named.Named.{Named}
-use Rattle.transcript_check.specs.Judged.{Use, same_secret, same_named}
+use Rattle.transcript_check.specs.Judged.{Use, same_named}
 use Rattle.least_pairs.proofs.Public.{nat_dec, some-same}
 
 abbrev pub Told : {A : Type 0} → A → A → Type 0
@@ -74,24 +68,6 @@ pair_dec s epoch t e = go (nat_dec t s) (nat_dec e epoch)
 
 -- ---- the same SAK and the same association number
 
-same-lists : (a b : List ℕ) → pointwise nat_eq a b ≡ true → a ≡ b
-same-lists a b e = exact_bytes a b (equal (slice_cmp nat_cmp a b) (sym (texts_ties a b) ∙ e))
-  where
-    equal : (o : Ordering) → is_eq o ≡ true → o ≡ Equal
-    equal Less e = absurd (cc e)
-    equal Equal e = refl
-    equal Greater e = absurd (cc e)
-
-same-secrets : (a b : Secret) → same_secret a b ≡ true → a ≡ b
-same-secrets (S128 a) (S128 b) e = ap S128 (same-lists a b e)
-same-secrets (S256 a) (S256 b) e = ap S256 (same-lists a b e)
-same-secrets (S128 a) (S256 b) e = absurd (cc e)
-same-secrets (S256 a) (S128 b) e = absurd (cc e)
-
-secret-itself : (a : Secret) → same_secret a a ≡ true
-secret-itself (S128 a) = nat_list_eq_equiv.refl a
-secret-itself (S256 a) = nat_list_eq_equiv.refl a
-
 named-again : (a : AssociationNumber) → numbered (number_of a) ≡ Some a
 named-again An0 = refl
 named-again An1 = refl
@@ -105,11 +81,11 @@ pub same-nameds : (a b : Named) → same_named a b ≡ true → a ≡ b
 same-nameds a b e =
     let both = and_parts (same_an a.an b.an) (same_secret a.sak b.sak) e in
     let an = an-same a.an b.an (eqb-true (number_of a.an) (number_of b.an) both.0) in
-    let sak = same-secrets a.sak b.sak both.1 in
+    let sak = same_secret-is a.sak b.sak both.1 in
     λ t. record { an = an t; sak = sak t }
 
 pub named-itself : (a : Named) → same_named a a ≡ true
-named-itself a = rw (eq-eqb (number_of a.an) (number_of a.an) refl, secret-itself a.sak) refl
+named-itself a = rw (eq-eqb (number_of a.an) (number_of a.an) refl, same_secret-itself a.sak) refl
 
 -- what two agree with, they agree in
 pub named-joins : (u v w : Named) → same_named u v ≡ true → same_named u w ≡ true → same_named v w ≡ true

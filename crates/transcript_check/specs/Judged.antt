@@ -1,7 +1,6 @@
 -- What a list of facts is judged by: all pairs of them, numbered from 1.
-use Rattle.std.specs.Prelude.{ℕ, zero, suc, ◌+◌, ◌==◌, ◌&&◌, nat_eq, Bool, true, false, if◌then◌else◌, List, [], ◌∷◌, slice_get, Option, Some, None, option_map, option_and_then}
+use Rattle.std.specs.Prelude.{ℕ, zero, suc, ◌+◌, ◌==◌, ◌&&◌, Bool, true, false, if◌then◌else◌, List, [], ◌∷◌, slice_get, Option, Some, None, option_map, option_and_then}
 use Rattle.std.specs.Option.{option_or}
-use lib.Pointwise.{pointwise}
 use Rattle.least_pairs.specs.Pairs.{Noted, Breaks}
 use Rattle.lan_base.specs.AssociationNumbers.{same_an}
 use Rattle.transcript.specs.declared.fault.FactError.{FactError}
@@ -15,6 +14,7 @@ use Rattle.transcript_reader.specs.declared.take_error.TakeError.{TakeError}
 use Rattle.transcript_reader.specs.declared.take_error.TakeError.TheVariants as takings
 use Rattle.lan_base.specs.declared.key_id.KeyId.{KeyId}
 use Rattle.aes_block.specs.declared.secret.Secret.{Secret}
+use Rattle.aes_block.specs.Secrets.{same_secret}
 use Rattle.rx_slots.specs.declared.arrival.Arrival.TheVariants.{Missed}
 use Rattle.lan_core.specs.declared.fact.Fact.{Fact}
 use Rattle.transcript_check.specs.declared.named.Named.{Named}
@@ -66,11 +66,6 @@ named_by _ = None
 
 abbrev pub names : List Fact → Noted KeyId Named
 names facts number = option_and_then named_by (fact_at facts number)
-
-abbrev pub same_secret : Secret → Secret → Bool
-same_secret (Secret.S128 a) (Secret.S128 b) = pointwise nat_eq a b
-same_secret (Secret.S256 a) (Secret.S256 b) = pointwise nat_eq a b
-same_secret _ _ = false
 
 abbrev pub same_named : Named → Named → Bool
 same_named a b = same_an a.an b.an && same_secret a.sak b.sak

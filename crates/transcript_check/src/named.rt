@@ -1,7 +1,8 @@
 //! What an install says of an identifier.
 
 ghost use Rattle.std.specs.Prelude.{◌≡◌};
-ghost use Rattle.transcript_check.specs.Judged.{same_named, same_secret};
+ghost use Rattle.aes_block.specs.Secrets.{same_secret};
+ghost use Rattle.transcript_check.specs.Judged.{same_named};
 
 use aes_block::Secret;
 use lan_base::AssociationNumber;

@@ -4,7 +4,7 @@ use Rattle.lan_base.specs.declared.address.Mi.{Mi}
 use Rattle.aes_block.specs.declared.secret.Secret.{Secret}
 use Rattle.lan_core.specs.declared.stop.Stop.{Stop}
 use Rattle.lan_core.specs.declared.stop.Stop.TheVariants.{RepeatedDraw}
-use Rattle.lan_core.specs.Stops.{same_secret}
+use Rattle.aes_block.specs.Secrets.{same_secret}
 use Rattle.lan_core.specs.Standing.{Numbers, number_of_mi, number_of_sak}
 use Rattle.lan_core.specs.Noting.{SakIsNoted}
 

@@ -1,6 +1,6 @@
 use Rattle.std.proofs.Common.{◌≡◌, cond, Some, refl, sym, subst}
 use Rattle.aes_block.specs.declared.secret.Secret.{Secret}
-use Rattle.known_keys.specs.Numbered.{same_secret}
+use Rattle.aes_block.specs.Secrets.{same_secret}
 use Rattle.known_keys.specs.Maps.{Numbers, number_by}
 use Rattle.known_keys.proofs.SakNumbers.{narrow_put, wide_put}
 use Rattle.known_keys.proofs.sak_numbers.SakNumbers.put.Goals as goal
