@@ -6,8 +6,7 @@ use Rattle.hex.specs.Hex.{encode_lower}
 use Rattle.lan_base.specs.AssociationNumbers.{number_of}
 use Rattle.gcm_frames.specs.declared.tag.Tag.{Tag}
 use Rattle.gcm_frames.specs.declared.tag.TagRefusal.{TagRefusal}
-use Rattle.gcm_frames.specs.declared.tag.TagRefusal.TheVariants as tags
-use Rattle.gcm_frames.specs.Tags.{is_sec, tag_fields}
+use Rattle.gcm_frames.specs.Tags.{is_sec, tag_fields, tag_text}
 use Rattle.mkpdu_codec.specs.declared.announcement.Announcement.{Announcement}
 use Rattle.mkpdu_codec.specs.declared.given.Given.{Given}
 use Rattle.mkpdu_codec.specs.declared.key_use.Uses.{Uses}
@@ -24,13 +23,6 @@ abbrev pub tag_words : Tag → List (List ℕ)
 tag_words tag =
     codes "sec" ∷ encode_lower tag.sci.0 ∷ codes "an" ∷ decimal (number_of tag.an) ∷ codes "pn"
     ∷ decimal tag.pn ∷ codes "conf" ∷ decimal (if tag.conf then 1 else 0) ∷ []
-
-abbrev pub tag_text : TagRefusal → List ℕ
-tag_text tags.NotSec = codes "notsec"
-tag_text tags.Version = codes "version"
-tag_text tags.Mode = codes "mode"
-tag_text tags.Short = codes "short"
-tag_text tags.SlWrong = codes "slwrong"
 
 abbrev pub malformed_words : TagRefusal → List (List ℕ)
 malformed_words refusal = codes "sec" ∷ codes "malformed" ∷ tag_text refusal ∷ []

@@ -3,12 +3,12 @@
 ghost use Rattle.std.specs.Prelude.{◌≡◌, ◌++◌, ◌∷◌, [], codes, decimal, if◌then◌else◌, OnOk, OnErr};
 ghost use Rattle.trace_text.specs.Appending.{Grew, word_text};
 ghost use Rattle.trace_text.specs.Words.{spaced};
-ghost use Rattle.capture_file.specs.Describing.{described, given_words, malformed_words, mka_words, packet_words, peer_words, refusal_words, sec_words, spelled_words, tag_text, tag_words, use_words};
-ghost use Rattle.gcm_frames.specs.Tags.{is_sec, tag_fields};
+ghost use Rattle.capture_file.specs.Describing.{described, given_words, malformed_words, mka_words, packet_words, peer_words, refusal_words, sec_words, spelled_words, tag_words, use_words};
+ghost use Rattle.gcm_frames.specs.Tags.{tag_fields};
 ghost use Rattle.lan_base.specs.AssociationNumbers.{number_of};
 ghost use Rattle.mkpdu_codec.specs.Reading.{reading};
 
-use gcm_frames::{Tag, TagRefusal, tag_of};
+use gcm_frames::{Tag, TagRefusal, is_sec, tag_of};
 use lan_base::AssociationNumber;
 use mkpdu_codec::{
     Announcement, Given, ReadError, Refusal, Uses, law_reading_refuses, law_spelled_is_read, read,
@@ -56,13 +56,6 @@ fn put_packet(octets: &[u8], into: &mut Vec<u8>) -> Result<(), AllocError>
     }
 }
 
-/// Whether a packet has the EtherType of MACsec behind its addresses.
-fn is_sec(octets: &[u8]) -> bool
-    ensures { result ≡ is_sec octets.now }
-{
-    octets.len() >= 14 && octets[12] == 0x88 && octets[13] == 0xe5
-}
-
 /// Appends what the SecTAG of a packet says, or why it is malformed.
 fn put_sec(octets: &[u8], into: &mut Vec<u8>) -> Result<(), AllocError>
     ensures ok { OnOk result (into.new.items
@@ -103,7 +96,7 @@ pub fn put_malformed(refusal: TagRefusal, into: &mut Vec<u8>) -> Result<(), Allo
         ≡ into.old.items ++ spaced (malformed_words refusal)) }
     ensures err { OnErr result (Grew into.old.items into.new.items) }
 {
-    let why = Word::Text(tag_text(refusal));
+    let why = Word::Text(refusal.text());
     put_words(into, &[Word::Text(b"sec"), Word::Text(b"malformed"), why])
 }
 
@@ -232,17 +225,4 @@ fn an_word(an: AssociationNumber) -> Word<'static>
     ensures { word_text result ≡ decimal (number_of an) }
 {
     Word::Number(u64::from(an.number()))
-}
-
-/// The word that says why a frame is no protected frame.
-fn tag_text(refusal: TagRefusal) -> &'static [u8]
-    ensures { result.now ≡ tag_text refusal }
-{
-    match refusal {
-        TagRefusal::NotSec => b"notsec",
-        TagRefusal::Version => b"version",
-        TagRefusal::Mode => b"mode",
-        TagRefusal::Short => b"short",
-        TagRefusal::SlWrong => b"slwrong",
-    }
 }

@@ -1,6 +1,6 @@
 -- What a received frame says of itself, and the first reason for which it is no protected frame
 -- (IEEE Std 802.1AE, clause 9).
-use Rattle.std.specs.Prelude.{ℕ, ◌+◌, ◌-◌, ◌/◌, ◌%◌, ◌==◌, Bool, true, false, not, ◌&&◌, ◌||◌, nat_le, nat_lt, if◌then◌else◌, List, [], ◌∷◌, ◌++◌, length, take, drop, slice_index, Option, Some, None, Result, Ok, Err}
+use Rattle.std.specs.Prelude.{ℕ, ◌+◌, ◌-◌, ◌/◌, ◌%◌, ◌==◌, Bool, true, false, not, ◌&&◌, ◌||◌, nat_le, nat_lt, if◌then◌else◌, List, [], ◌∷◌, ◌++◌, length, take, drop, slice_index, codes, Option, Some, None, Result, Ok, Err}
 use Rattle.byteorder.specs.Endian.{big_number}
 use Rattle.lan_base.specs.AssociationNumbers.{of_bits}
 use Rattle.lan_base.specs.declared.association_number.AssociationNumber.{AssociationNumber}
@@ -109,6 +109,14 @@ refused frame = refused_in (is_mode frame) frame
 -- where the SCI may be implied
 abbrev pub implied_refused : List ℕ → Option TagRefusal
 implied_refused frame = refused_in (is_implied_mode frame) frame
+
+-- the word that tells a refusal
+abbrev pub tag_text : TagRefusal → List ℕ
+tag_text NotSec = codes "notsec"
+tag_text Version = codes "version"
+tag_text Mode = codes "mode"
+tag_text Short = codes "short"
+tag_text SlWrong = codes "slwrong"
 
 -- ---- what is read
 

@@ -14,5 +14,5 @@ pub use laws::{
 };
 pub use protecting::{PROTECTION_OCTETS, protect};
 pub use tag::{Tag, TagRefusal};
-pub use tagging::{implied_tag_of, tag_of};
+pub use tagging::{implied_tag_of, is_sec, tag_of};
 pub use validating::{is_sealed, validate};

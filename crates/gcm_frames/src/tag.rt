@@ -40,3 +40,21 @@ pub enum TagRefusal {
     #[error("the short length is wrong")]
     SlWrong,
 }
+
+impl TagRefusal {
+    ghost use Rattle.std.specs.Prelude.{◌≡◌};
+    ghost use Rattle.gcm_frames.specs.Tags.{tag_text};
+
+    /// The word that tells it.
+    pub fn text(self) -> &'static [u8]
+        ensures { result.now ≡ tag_text self }
+    {
+        match self {
+            TagRefusal::NotSec => b"notsec",
+            TagRefusal::Version => b"version",
+            TagRefusal::Mode => b"mode",
+            TagRefusal::Short => b"short",
+            TagRefusal::SlWrong => b"slwrong",
+        }
+    }
+}

@@ -56,7 +56,7 @@ fn an_of(frame: &[u8]) -> AssociationNumber
 }
 
 /// Whether the frame has the EtherType of MACsec behind its addresses.
-fn is_sec(frame: &[u8]) -> bool
+pub fn is_sec(frame: &[u8]) -> bool
     ensures { result ≡ is_sec frame.now }
 {
     frame.len() >= 14 && frame[12] == 0x88 && frame[13] == 0xe5

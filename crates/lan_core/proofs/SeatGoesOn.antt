@@ -2,8 +2,6 @@
 use Rattle.std.proofs.Common.{◌≡◌, ◌∙◌, ◌+◌, ◌≤◌, ℕ, Bool, true, false, cond, not, ◌&&◌, List, [], ◌∷◌, Some, None, Result, Ok, Err, refl, ap, sym, subst, arith}
 use Rattle.std.specs.Prelude.{OnErr, OnOk}
 use Rattle.aes_block.specs.declared.secret.Secret.{Secret}
-use Rattle.gcm_frames.specs.declared.tag.TagRefusal.TheVariants.{NotSec, Version, Mode, Short, SlWrong}
-use Rattle.gcm_frames.specs.Tags.{tag_fields, fields_or, is_sec, has_control, has_version, is_mode, is_short, is_length_wrong}
 use Rattle.mkpdu_codec.specs.declared.announcement.Announcement.{Announcement}
 use Rattle.peer_lists.specs.Histories.{clock, last_sent}
 use Rattle.rx_slots.specs.Histories.{Receiving}
@@ -17,7 +15,7 @@ use Rattle.mka_station.specs.declared.verdict.DropReason.{DropReason}
 use Rattle.mka_station.specs.Standing.{StandsFor as StationStandsFor}
 use Rattle.lan_core.specs.Lives.{Life, lived, lived_ticking, seen_at, slot_change, turn_at_tick}
 use Rattle.lan_core.specs.Standing.{Seat, Sits, IsAlive}
-use Rattle.lan_core.specs.inside.Following.{followed, count_installed, tells_sec}
+use Rattle.lan_core.specs.inside.Following.{followed, count_installed}
 use Rattle.lan_core.specs.declared.fact.Fact.{Fact}
 use Rattle.lan_core.specs.declared.fact.Fact.TheVariants as facts
 use Rattle.lan_core.specs.declared.settings.Settings.{Settings}
@@ -26,20 +24,6 @@ use Rattle.lan_core.specs.Ledgers.{gather, next_frame}
 use Rattle.lan_core.specs.Expected.{reaction_facts, tick_facts}
 use Rattle.mka_station.specs.declared.reaction.Reaction.{Reaction}
 use Rattle.lan_core.proofs.SlotsFollow.{slots-follow, tick-count, tick-clock, heard-count, heard-clock, heard-sent}
-
--- reading finds the EtherType where it stands
-pub sec-told : (frame : List ℕ) → tells_sec (tag_fields frame) ≡ is_sec frame
-unfolding tag_fields
-sec-told frame =
-    go (is_sec frame) (has_control frame && has_version frame) (has_control frame && not (is_mode frame)) (is_short frame) (is_length_wrong frame)
-  where
-    go : (s a b c d : Bool) → tells_sec (fields_or (cond (not s) (Some NotSec) (cond a (Some Version) (cond b (Some Mode) (cond c (Some Short) (cond d (Some SlWrong) None))))) frame) ≡ s
-    go false a b c d = refl
-    go true true b c d = refl
-    go true false true c d = refl
-    go true false false true d = refl
-    go true false false false true = refl
-    go true false false false false = refl
 
 pub on-ok : {A E P : Type 0} (r : Result A E) → P → OnOk r P
 on-ok (Ok a) holds = holds

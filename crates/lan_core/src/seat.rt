@@ -26,11 +26,10 @@ ghost use Rattle.lan_core.specs.Order.{most_octets};
 ghost use Rattle.lan_core.specs.Standing.{Sits};
 ghost use Rattle.lan_core.specs.inside.Judge.{IsOf};
 ghost use Rattle.lan_core.specs.inside.Seats.{Claims, IsFew, IsPast, installs_in};
-ghost use Rattle.lan_core.specs.inside.Following.{count_installed, followed, tells_sec};
+ghost use Rattle.lan_core.specs.inside.Following.{count_installed, followed};
 ghost use Rattle.mka_station.specs.Tick.{tick_turn};
 ghost use Rattle.mka_station.specs.Hearing.{frame_turn, heard_turn};
 ghost use Rattle.mka_station.specs.Restart.{ending};
-ghost use Rattle.gcm_frames.specs.Tags.{is_sec};
 
 use crate::claimed::Claimed;
 use crate::fact::{Fact, Facts};
@@ -40,7 +39,7 @@ use crate::limits::judge_installs;
 use crate::sender::Sender;
 use crate::stop::{Stop, Which};
 use crate::telling::{tell, told};
-use gcm_frames::{Tag, TagRefusal, tag_of};
+use gcm_frames::is_sec;
 use lan_base::{AssociationNumber, Draws, Octets, TICKS_MAX, UserFrame, is_user_data};
 use mka_station::{Config, DropReason, Reaction, Station, TickError, law_room, law_turns_count};
 use mkpdu_codec::Announcement;
@@ -263,7 +262,7 @@ impl Seat {
             ≡ self.old.installs + installs_in facts) }
         ensures kept { judge.new.settings ≡ judge.old.settings }
     {
-        if is_protected(octets) {
+        if is_sec(octets) {
             self.receive(place, number, octets)
         } else {
             self.hear_frame(place, number, octets, judge)
@@ -511,22 +510,5 @@ fn with_number(held: Option<HeldKey>, an: AssociationNumber) -> Option<HeldKey>
     match held {
         Some(held) if held.key.an == an => Some(held),
         _ => None,
-    }
-}
-
-/// Whether octets are a protected frame.
-fn is_protected(octets: &[u8]) -> bool
-    ensures { result ≡ is_sec octets.now }
-{
-    tells_sec(tag_of(octets))
-}
-
-/// Whether reading a SecTAG found the EtherType of MACsec.
-fn tells_sec(tag: Result<Tag, TagRefusal>) -> bool
-    ensures { result ≡ tells_sec tag }
-{
-    match tag {
-        Ok(_) => true,
-        Err(refusal) => refusal != TagRefusal::NotSec,
     }
 }

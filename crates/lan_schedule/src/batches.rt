@@ -5,7 +5,6 @@ ghost use Rattle.std.specs.Prelude.{◌≡◌, ◌≤◌, ◌↔◌, List, [], I
 ghost use Rattle.std.specs.Prelude.{All};
 ghost use Rattle.lan_base.specs.Ranges.{most_frames, most_frame_octets};
 ghost use Rattle.lan_base.specs.declared.frame.UserFrame.{UserFrame};
-ghost use Rattle.gcm_frames.specs.Tags.{is_sec};
 ghost use Rattle.lan_core.specs.declared.event.Event.TheVariants as events;
 ghost use Rattle.lan_core.specs.declared.settings.Settings.{Settings};
 ghost use Rattle.lan_core.specs.Run.{Run};
@@ -20,6 +19,7 @@ ghost use Rattle.lan_schedule.specs.inside.Staged.{Did, DidWhere};
 
 use crate::recorder::Recorder;
 use crate::stage::Stage;
+use gcm_frames::is_sec;
 use lan_base::{FRAME_MAX, law_ranges};
 use lan_core::law_what_was_checked_stays_checked;
 use packet_claims::Gate;
@@ -214,11 +214,4 @@ impl Stage {
         }
         Some(octets)
     }
-}
-
-/// Whether a frame has the EtherType of protected ones.
-fn is_sec(octets: &[u8]) -> bool
-    ensures { result ≡ is_sec octets.now }
-{
-    octets.len() >= 14 && octets[12] == 0x88 && octets[13] == 0xe5
 }

@@ -9,8 +9,9 @@ use crate::frame::uncover;
 use crate::groups::Groups;
 use crate::kind::Kind;
 use crate::mka::mka_kind;
-use crate::sec::{is_sec, sec_kind};
+use crate::sec::sec_kind;
 use capture_packets::Packet;
+use gcm_frames::is_sec;
 use std::alloc::{AllocError, Global};
 
 /// What a packet is, and where its frame begins among the packet's octets.

@@ -2,7 +2,6 @@
 
 ghost use Rattle.std.specs.Prelude.{◌≡◌, ◌+◌, ◌≤◌, IfOk, length};
 ghost use Rattle.gcm_frames.specs.Sealed.{check_octets};
-ghost use Rattle.gcm_frames.specs.Tags.{is_sec};
 ghost use Rattle.packet_verdicts.specs.Kinds.{is_of_end, sec_kind, tagged_kind};
 
 use crate::kind::{Malformed, Sec};
@@ -11,13 +10,6 @@ use lan_base::FRAME_MAX;
 
 /// Where the short length of a frame stands.
 const SHORT_LENGTH: usize = 15;
-
-/// Whether a frame has the EtherType of MACsec behind its addresses.
-pub(crate) fn is_sec(frame: &[u8]) -> bool
-    ensures { result ≡ is_sec frame.now }
-{
-    frame.len() >= 14 && frame[12] == 0x88 && frame[13] == 0xe5
-}
 
 /// What a frame is that has the EtherType of MACsec.
 pub(crate) fn sec_kind(is_cut: bool, frame: &[u8]) -> Sec

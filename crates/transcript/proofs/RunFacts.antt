@@ -9,7 +9,7 @@ use Rattle.std.proofs.lemmas.List.{append-nil, get_or_past}
 use Rattle.std.proofs.lemmas.List.Elements.{All-nil, All-cons, All-append, All-push}
 use Rattle.aes_block.specs.declared.secret.Secret.{Secret}
 use Rattle.aes_block.specs.declared.secret.Secret.TheVariants.{S128, S256}
-use Rattle.gcm_frames.specs.Tags.{is_sec}
+use Rattle.gcm_frames.specs.Tags.{is_sec, tag_text}
 use Rattle.gcm_frames.specs.declared.tag.TagRefusal.{TagRefusal}
 use Rattle.gcm_frames.specs.declared.tag.TagRefusal.TheVariants as Tag
 use Rattle.lan_base.specs.declared.address.Mi.{Mi}
@@ -61,7 +61,7 @@ use Rattle.transcript.specs.Cut.{is_first, IsEvent, cut}
 use Rattle.transcript.specs.Events.{events_of}
 use Rattle.transcript.specs.Rendering.{AllFit, IsFact}
 use Rattle.hex.specs.Hex.{IsBytes}
-use Rattle.transcript.specs.Words.{Word, Fits, text, array, words, cause_text, tag_text, why_words, reason_words, verdict_words, lack_words, arrival_words, secret_word, frame_text}
+use Rattle.transcript.specs.Words.{Word, Fits, text, array, words, cause_text, why_words, reason_words, verdict_words, lack_words, arrival_words, secret_word, frame_text}
 use Rattle.transcript.proofs.Cutting.{again}
 
 -- ---- facts under names

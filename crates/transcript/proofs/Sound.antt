@@ -10,11 +10,12 @@ use Rattle.lan_base.specs.declared.key_id.KeyId.{KeyId}
 use Rattle.sak_exchange.specs.declared.change.Cause.{Cause}
 use Rattle.sak_exchange.specs.declared.change.Why.{Why}
 use Rattle.gcm_frames.specs.declared.tag.TagRefusal.{TagRefusal}
+use Rattle.gcm_frames.specs.Tags.{tag_text}
 use Rattle.mka_station.specs.declared.verdict.DropReason.{DropReason}
 use Rattle.mka_station.specs.declared.verdict.Verdict.{Verdict}
 use Rattle.lan_core.specs.declared.fact.Fact.{Fact}
 use Rattle.trace_text.specs.Words.{is_word}
-use Rattle.transcript.specs.Words.{Word, spelled, Fits, words, an_word, key_words, server_word, secret_word, cause_text, frame_text, tag_text, why_words, reason_words, verdict_words}
+use Rattle.transcript.specs.Words.{Word, spelled, Fits, words, an_word, key_words, server_word, secret_word, cause_text, frame_text, why_words, reason_words, verdict_words}
 use Rattle.transcript.specs.Words as Words
 use Rattle.transcript.specs.Rendering.{line, joined, AllFit, Says}
 use Rattle.transcript.specs.inside.Reading.{Tree, says, text, only, station, number, an, member, key, server, secret, cause, sec, tag, why, vouch, reason, octets, nothing, parted, taken, after, key_of, ended, last_of, last_octets, station_of, number_of, an_of, member_of, server_of, secret_of, octets_of, said_by, causes, secs, tags, whys, vouches, reasons, and_then, kept_if, along, tick_tree, begin_tree, install_tree, untaken_tree, frame_tree, heard_tree, claim_tree, data_tree, plain_tree, fact_tree, is_space, fact_in}

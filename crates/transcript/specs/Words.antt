@@ -15,8 +15,7 @@ use Rattle.sak_exchange.specs.declared.change.Cause.{Cause}
 use Rattle.sak_exchange.specs.declared.change.Cause.TheVariants.{All, Timeout, Flag}
 use Rattle.sak_exchange.specs.declared.change.Why.{Why}
 use Rattle.sak_exchange.specs.declared.change.Why.TheVariants.{NotListed, NotServer, Seen, Retiring, Suite, Offset, Wrap}
-use Rattle.gcm_frames.specs.declared.tag.TagRefusal.{TagRefusal}
-use Rattle.gcm_frames.specs.declared.tag.TagRefusal.TheVariants as Tag
+use Rattle.gcm_frames.specs.Tags.{tag_text}
 use Rattle.mka_station.specs.declared.verdict.Verdict.{Verdict}
 use Rattle.mka_station.specs.declared.verdict.Verdict.TheVariants as verdicts
 use Rattle.mka_station.specs.declared.verdict.DropReason.{DropReason}
@@ -115,14 +114,6 @@ verdict_words (verdicts.Dropped reason) = text (codes "drop") ∷ reason_words r
 abbrev pub lack_words : Lack → List Word
 lack_words NoKey = text (codes "nokey") ∷ []
 lack_words (Exhausted epoch) = text (codes "exhausted") ∷ number 32 epoch ∷ []
-
--- why a frame is no protected frame
-abbrev pub tag_text : TagRefusal → List ℕ
-tag_text Tag.NotSec = codes "notsec"
-tag_text Tag.Version = codes "version"
-tag_text Tag.Mode = codes "mode"
-tag_text Tag.Short = codes "short"
-tag_text Tag.SlWrong = codes "slwrong"
 
 -- the answer to a protected frame
 abbrev pub arrival_words : Arrival → List Word

@@ -4,14 +4,13 @@ ghost use Rattle.std.specs.Prelude.{◌≡◌, ℕ, List, [], ◌∷◌, ◌++�
 ghost use Rattle.hex.specs.Hex.{encode_lower};
 ghost use Rattle.aes_block.specs.Secrets.{secret_octets};
 ghost use Rattle.lan_base.specs.AssociationNumbers.{number_of};
-ghost use Rattle.transcript.specs.Words.{spelled, server_word, why_words, reason_words, verdict_words, arrival_words, lack_words, cause_text, tag_text, frame_text};
+ghost use Rattle.transcript.specs.Words.{spelled, server_word, why_words, reason_words, verdict_words, arrival_words, lack_words, cause_text, frame_text};
 ghost use Rattle.transcript.specs.Rendering.{rendered};
 ghost use Rattle.trace_text.specs.Appending.{Grew, word_text};
 ghost use Rattle.transcript.specs.inside.Appending.{line_of, told};
 
 use crate::laying::{ROOM, lay_ticked};
 use aes_block::Secret;
-use gcm_frames::TagRefusal;
 use lan_base::{AssociationNumber, KeyId, Mi, Name, Octets};
 use lan_core::{Fact, Lack};
 use mka_station::{DropReason, Verdict};
@@ -364,7 +363,7 @@ fn put_arrived<'a>(
 {
     match arrival {
         Arrival::Accepted { pn, body } => put_accepted(into, frame, name, *pn, body),
-        Arrival::Malformed(refusal) => put_malformed(into, frame, name, tag_text(*refusal)),
+        Arrival::Malformed(refusal) => put_malformed(into, frame, name, refusal.text()),
         Arrival::Own => put_refused(into, frame, name, Told::Word(b"own")),
         Arrival::Missed { an } => put_missed(into, frame, name, *an),
         Arrival::BadCheck => put_refused(into, frame, name, Told::Word(b"badcheck")),
@@ -472,19 +471,6 @@ fn cause_text(cause: Cause) -> &'static [u8]
         Cause::All => b"all",
         Cause::Timeout => b"timeout",
         Cause::Flag => b"flag",
-    }
-}
-
-/// The word that says why a frame is no protected frame.
-fn tag_text(refusal: TagRefusal) -> &'static [u8]
-    ensures { result.now ≡ tag_text refusal }
-{
-    match refusal {
-        TagRefusal::NotSec => b"notsec",
-        TagRefusal::Version => b"version",
-        TagRefusal::Mode => b"mode",
-        TagRefusal::Short => b"short",
-        TagRefusal::SlWrong => b"slwrong",
     }
 }
 

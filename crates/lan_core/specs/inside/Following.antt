@@ -1,9 +1,6 @@
 -- What the changes of a station's keys do to its receive slots and to its counts.
-use Rattle.std.specs.Prelude.{ℕ, ◌+◌, Bool, true, false, List, [], ◌∷◌, Option, Some, None, Result, Ok, Err}
+use Rattle.std.specs.Prelude.{ℕ, ◌+◌, List, [], ◌∷◌, Option, Some, None}
 use Rattle.lan_base.specs.declared.address.Sci.{Sci}
-use Rattle.gcm_frames.specs.declared.tag.Tag.{Tag}
-use Rattle.gcm_frames.specs.declared.tag.TagRefusal.{TagRefusal}
-use Rattle.gcm_frames.specs.declared.tag.TagRefusal.TheVariants.{NotSec, Version, Mode, Short, SlWrong}
 use Rattle.rx_slots.specs.Histories.{Receiving, installed, removed}
 use Rattle.rx_slots.specs.Numbers.{accepted, lowest}
 use Rattle.sak_exchange.specs.declared.change.Change.{Change}
@@ -41,12 +38,3 @@ count_installed (c ∷ later) = count_installed later + one_installed c
 abbrev pub lowest_held : Sci → ℕ → List Receiving → Option HeldKey → ℕ
 lowest_held own window h None = 1
 lowest_held own window h (Some k) = lowest window (accepted own window h) k.key.an
-
--- whether reading a SecTAG found the EtherType of MACsec
-abbrev pub tells_sec : Result Tag TagRefusal → Bool
-tells_sec (Ok tag) = true
-tells_sec (Err NotSec) = false
-tells_sec (Err Version) = true
-tells_sec (Err Mode) = true
-tells_sec (Err Short) = true
-tells_sec (Err SlWrong) = true
