@@ -12,10 +12,10 @@ use byteorder::{BigEndian, ByteOrder, LittleEndian};
 pub const INPUT_MAX: usize = 268_435_456;
 
 /// The magic number of times in nanoseconds.
-const NANO_MAGIC: u32 = 0xa1b2_3c4d;
+pub const NANO_MAGIC: u32 = 0xa1b2_3c4d;
 
 /// The most octets that are read of a packet.
-const KEPT_MAX: u32 = 262_144;
+pub const KEPT_MAX: u32 = 262_144;
 
 /// Reads the head of a file: the order of its octets, or the first refusal.
 pub fn head(octets: &[u8; 24]) -> Result<Order, CaptureFault>

@@ -8,7 +8,7 @@ use lan_base::put;
 use std::alloc::AllocError;
 
 /// The magic number of times in microseconds.
-pub(crate) const MICRO_MAGIC: u32 = 0xa1b2_c3d4;
+pub const MICRO_MAGIC: u32 = 0xa1b2_c3d4;
 
 /// The version of the format: 2.4.
 const VERSION: [u16; 2] = [2, 4];
@@ -17,13 +17,13 @@ const VERSION: [u16; 2] = [2, 4];
 pub const WRITTEN_MAX: u32 = 65_535;
 
 /// The link type of Ethernet.
-pub(crate) const ETHERNET: u32 = 1;
+pub const ETHERNET: u32 = 1;
 
 /// How many octets the head has.
-const HEAD_LEN: usize = 24;
+pub const HEAD_LEN: usize = 24;
 
 /// How many octets a record has before those of its packet.
-const HEADER_LEN: usize = 16;
+pub const HEADER_LEN: usize = 16;
 
 /// Appends the head of a file.
 pub fn header(into: &mut Vec<u8>) -> Result<(), AllocError>

@@ -9,8 +9,8 @@ use crate::fault::CaptureFault;
 use crate::numbers::{half, number};
 use crate::packet::PacketHead;
 use crate::packet_block::{read_enhanced, read_simple};
-use crate::state::{ETHERNET, Interface};
-use capture_file::Order;
+use crate::state::Interface;
+use capture_file::{ETHERNET, Order};
 
 /// The type of a section: it reads the same in both orders.
 pub const SECTION: u32 = 0x0a0d_0d0a;
@@ -189,7 +189,7 @@ fn read_interface(order: Order, octets: &[u8]) -> Result<Block, CaptureFault>
         kept: number(order, 4, octets) - 20,
         behind: 0,
         what: What::Interface {
-            is_ethernet: half(order, 8, octets) == ETHERNET,
+            is_ethernet: u32::from(half(order, 8, octets)) == ETHERNET,
             snap: number(order, 12, octets),
         },
     })

@@ -8,17 +8,8 @@ ghost use Rattle.capture_packets.specs.Captures.{begins_file, head_in, records_h
 use crate::block::SECTION;
 use crate::fault::CaptureFault;
 use crate::numbers::number;
-use crate::state::{ETHERNET, Layout, Parts};
-use capture_file::Order;
-
-/// The magic number of times in microseconds.
-const MICRO_MAGIC: u32 = 0xa1b2_c3d4;
-
-/// The magic number of times in nanoseconds.
-const NANO_MAGIC: u32 = 0xa1b2_3c4d;
-
-/// How many octets the head of a classic file has.
-pub const HEAD_LEN: usize = 24;
+use crate::state::{Layout, Parts};
+use capture_file::{ETHERNET, HEAD_LEN, MICRO_MAGIC, NANO_MAGIC, Order};
 
 /// What a file is, by its head.
 #[derive(Clone, Copy, Debug, PartialEq, Eq)]
@@ -85,7 +76,7 @@ fn records_head(order: Order, parts: Parts, octets: &[u8]) -> Result<Head, Captu
     if octets.len() < HEAD_LEN {
         return Err(CaptureFault::Cut);
     }
-    if number(order, 20, octets) % 0x1_0000 != u32::from(ETHERNET) {
+    if number(order, 20, octets) % 0x1_0000 != ETHERNET {
         return Err(CaptureFault::LinkType);
     }
     Ok(Head {

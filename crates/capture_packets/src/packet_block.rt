@@ -9,8 +9,8 @@ use crate::block::{Block, What};
 use crate::fault::CaptureFault;
 use crate::numbers::number;
 use crate::packet::PacketHead;
-use crate::state::{Interface, KEPT_MAX};
-use capture_file::Order;
+use crate::state::Interface;
+use capture_file::{KEPT_MAX, Order};
 
 /// An enhanced packet.
 pub fn read_enhanced(

@@ -13,10 +13,11 @@ ghost use Rattle.capture_packets.specs.inside.Taking.{BeginsBlocks, BeginsRecord
 use crate::block::Block;
 use crate::end::End;
 use crate::fault::CaptureFault;
-use crate::head::{HEAD_LEN, Head, read_head};
+use crate::head::{Head, read_head};
 use crate::packet::Packet;
 use crate::state::{Layout, Progress, State, closing, most_fields, size};
 use crate::taking::{look, take_block};
+use capture_file::HEAD_LEN;
 use lan_base::Source;
 use octet_supply::Supply;
 use std::alloc::Global;

@@ -8,11 +8,8 @@ use crate::block::{Block, What};
 use crate::fault::CaptureFault;
 use crate::numbers::number;
 use crate::packet::PacketHead;
-use crate::state::{KEPT_MAX, Parts};
-use capture_file::Order;
-
-/// How many octets a record has before those of its packet.
-const HEADER_LEN: usize = 16;
+use crate::state::Parts;
+use capture_file::{HEADER_LEN, KEPT_MAX, Order};
 
 /// The record that octets begin with, by its header, or the first refusal.
 pub fn read_record(order: Order, parts: Parts, octets: &[u8]) -> Result<Block, CaptureFault>

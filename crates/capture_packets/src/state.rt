@@ -14,14 +14,8 @@ use crate::numbers::number;
 use crate::options::read_ticks;
 use crate::packet::Packet;
 use crate::record::read_record;
-use capture_file::Order;
+use capture_file::{HEADER_LEN, Order};
 use std::alloc::Global;
-
-/// The most octets that are read of a packet.
-pub const KEPT_MAX: u32 = 262_144;
-
-/// The link type of Ethernet.
-pub const ETHERNET: u16 = 1;
 
 /// Of how many nanoseconds a part of a second is in a classic file.
 #[derive(Clone, Copy, Debug, PartialEq, Eq)]
@@ -176,7 +170,7 @@ pub fn most_fields(layout: Layout) -> usize
     ensures few { result ≤ 28 }
 {
     match layout {
-        Layout::Records(_) => 16,
+        Layout::Records(_) => HEADER_LEN,
         Layout::Blocks => 28,
     }
 }

@@ -8,16 +8,10 @@ ghost use Rattle.packet_lines.specs.inside.Reading.{GivesCount, GivesOrder, Open
 ghost use Rattle.octet_supply.specs.Supplying.{Stands};
 
 use crate::end::End;
-use capture_file::{CaptureFault, INPUT_MAX, Order, head, kept};
+use capture_file::{CaptureFault, HEAD_LEN, HEADER_LEN, INPUT_MAX, Order, head, kept};
 use lan_base::Source;
 use octet_supply::Supply;
 use std::alloc::Global;
-
-/// How many octets the head of a file has.
-const HEAD_LEN: usize = 24;
-
-/// How many octets a record has before those of its packet.
-const HEADER_LEN: usize = 16;
 
 /// Reads the packets of a file, whose head was read.
 #[derive(Drop)]
