@@ -5,7 +5,7 @@ use Rattle.atomic_table.specs.Seated.{TableId}
 use Rattle.association_slots.specs.Views.{In, seat_of, greatest}
 use Rattle.association_slots.specs.Steps.{loaded, added}
 use Rattle.association_slots.specs.Told.{Sees}
-use Rattle.association_slots.specs.Cards.{card_in}
+use Rattle.association_slots.specs.Cards.{card_in, most_cards}
 use Rattle.association_slots.specs.inside.Kept.{SeatKept, IsKnown, read_five}
 use Rattle.association_slots.specs.declared.view.Added.{Added}
 use Rattle.association_slots.specs.declared.view.Added.TheVariants.{Number, Over, Gone}
@@ -21,7 +21,7 @@ use Rattle.association_slots.proofs.KnownCards.{kept_read}
 -- what is kept, of the view alone
 pub record Keeps (t : TableId) (w : SeatView) (number : ℕ) (shown : Current) (overshot : ℕ) (known : Option Known) : Type 0 where
   pub number_is : (number ≡ w.number) × (0 < number) × (number < 9)
-  pub limit_is : (w.limit ≤ 4096) × (t.words ≡ 5 + 5 * w.limit)
+  pub limit_is : (w.limit ≤ most_cards) × (t.words ≡ 5 + 5 * w.limit)
   pub shown_is : shown ≡ w.shown
   pub over_is : overshot ≡ greatest w.over
   pub own_over : (m : Mark) → In m w.over → m.seat ≡ w.number

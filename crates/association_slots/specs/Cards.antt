@@ -10,6 +10,10 @@ use Rattle.aes_block.specs.declared.secret.Secret.TheVariants.{S128, S256}
 use Rattle.association_slots.specs.declared.card.Card.{Card}
 use Rattle.association_slots.specs.declared.view.ControlView.{ControlView}
 
+-- a table has room for at most so many cards
+abbrev pub most_cards : ℕ
+most_cards = 4096
+
 -- the word of the eight octets from a place on
 abbrev pub word_at : ℕ → List ℕ → ℕ
 word_at place octets = from_be_bytes w64 (drop place octets)

@@ -1,6 +1,6 @@
 //! The hand that gives keys to the slots.
 ghost use Rattle.std.specs.Prelude.{◌≡◌, ◌≢◌, ◌↔◌, ◌+◌, ◌*◌, ◌<◌, ◌≤◌, true, false, [], ◌++◌, nat_le, length, IsErr, IfOk, OnOk, OnErr};
-ghost use Rattle.association_slots.specs.Cards.{card_words, cards_given, card_at};
+ghost use Rattle.association_slots.specs.Cards.{card_words, cards_given, card_at, most_cards};
 ghost use Rattle.association_slots.specs.Learned.{Learned, IsNext};
 ghost use Rattle.association_slots.specs.Steps.{at_first, wrote, raised, closed, looked, pointed, seated, new_seat, told};
 ghost use Rattle.association_slots.specs.Views.{control_of, slot, current, absent_after, present_at, top, free, free_number, IsOpen};
@@ -50,7 +50,7 @@ impl Control {
     /// The control of a table at its start.
     pub(crate) fn first(place: Place, first: u32, limit: u16) -> Control
         requires at_first { place.me ≡ («control» (at_first first limit), []) }
-        requires limit { (limit ≤ 4096) × (place.table_id.words ≡ 5 + 5 * limit) }
+        requires limit { (limit ≤ most_cards) × (place.table_id.words ≡ 5 + 5 * limit) }
         ensures { (result.table ≡ place.table_id) × (result.view ≡ at_first first limit) }
     {
         Control {

@@ -1,5 +1,6 @@
 //! The table of a station's transmit associations.
 ghost use Rattle.std.specs.Prelude.{◌≡◌, ◌+◌, ◌*◌, ◌^◌, ◌<◌, ◌≤◌, length, slice_index, IfOk};
+ghost use Rattle.association_slots.specs.Cards.{most_cards};
 ghost use Rattle.association_slots.specs.Learned.{Learned};
 ghost use Rattle.association_slots.specs.Steps.{at_first};
 
@@ -32,7 +33,7 @@ impl SlotTable {
     /// A table with room for `cards` cards, and its control. Each slot is shut, and nothing is
     /// present. Each slot that is raised starts at the packet number `first`.
     pub fn new(alloc: Global, cards: u16, first: u32) -> Result<(SlotTable, Control), AllocError>
-        requires cards { (1 ≤ cards) × (cards ≤ 4096) }
+        requires cards { (1 ≤ cards) × (cards ≤ most_cards) }
         requires first { 1 ≤ first }
         ensures start { IfOk result (λ t. (t.1.table ≡ t.0) × (t.1.view ≡ at_first first cards)) }
         ensures learned { IfOk result (λ t. Learned t.1.view) }

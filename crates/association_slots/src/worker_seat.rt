@@ -1,6 +1,6 @@
 //! A seat from which numbers are claimed.
 ghost use Rattle.std.specs.Prelude.{ℕ, ◌≡◌, ◌≢◌, ◌+◌, ◌*◌, ◌<◌, ◌≤◌, max, true, false, [], Some};
-ghost use Rattle.association_slots.specs.Cards.{Knows};
+ghost use Rattle.association_slots.specs.Cards.{Knows, most_cards};
 ghost use Rattle.association_slots.specs.Steps.{loaded, did_read};
 ghost use Rattle.association_slots.specs.inside.Kept.{read_five};
 ghost use Rattle.association_slots.specs.Told.{Sees, IsAdded, ReadsMore};
@@ -54,7 +54,7 @@ impl WorkerSeat {
         requires new { (place.me ≡ («seat» (seat_of place.me.0), []))
             × ((seat_of place.me.0).shown ≡ absent_after 0) × ((seat_of place.me.0).loaded ≡ []) }
         requires number { (number ≡ (seat_of place.me.0).number) × (0 < number) × (number < 9) }
-        requires limit { ((seat_of place.me.0).limit ≤ 4096)
+        requires limit { ((seat_of place.me.0).limit ≤ most_cards)
             × (place.table_id.words ≡ 5 + 5 * (seat_of place.me.0).limit) }
         requires overshot { (overshot ≡ greatest (seat_of place.me.0).over)
             × ((m : Mark) → In m (seat_of place.me.0).over → m.seat ≡ (seat_of place.me.0).number) }

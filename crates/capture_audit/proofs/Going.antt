@@ -1,7 +1,7 @@
 -- A packet is read, or reading ends.
 use Rattle.std.proofs.Common.{◌≡◌, ◌∙◌, ◌<◌, ◌≤◌, ◌⊎◌, length, ℕ, Bool, true, false, List, [], ◌∷◌, ◌++◌, Option, Some, None, Result, Ok, Err, refl, sym, ap, subst, append_assoc}
 use Rattle.audit_report.specs.declared.ending.Ending.{Ending}
-use Rattle.capture_file.specs.Pcap.{most_input}
+use Rattle.lan_base.specs.Ranges.{most_input}
 use Rattle.capture_packets.specs.Captures.{Told, capture}
 use Rattle.capture_packets.specs.Packets.{Seen, seen}
 use Rattle.capture_packets.specs.Reading.{ReadsNext, TellsOn}

@@ -24,7 +24,7 @@ use Rattle.use_notes.specs.Standing.{StandsFor as UsesStandFor}
 use Rattle.capture_audit.specs.declared.auditor.Auditor.{Auditor}
 use Rattle.capture_audit.specs.Before.{UnwrapsBy, gift_entries, mkpdu_of, shown_entries}
 use Rattle.capture_audit.specs.Giving.{handed}
-use Rattle.capture_audit.specs.Reading.{most_keys}
+use Rattle.known_keys.specs.Numbered.{most_keys}
 use Rattle.capture_audit.specs.inside.Keeping.{Handles, HandsOver, IsHandled, end_of_key}
 use Rattle.capture_audit.proofs.Behind.{mkpdu-behind, mkpdu-keys}
 

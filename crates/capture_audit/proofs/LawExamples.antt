@@ -8,7 +8,7 @@ use Rattle.aes_block.specs.Aes.{IsKey}
 use Rattle.audit_report.specs.declared.blame.Blame.TheVariants as blames
 use Rattle.audit_report.specs.declared.ending.Ending.TheVariants.{Whole}
 use Rattle.audit_text.specs.Parting.{IsParted}
-use Rattle.capture_file.specs.Pcap.{most_input}
+use Rattle.lan_base.specs.Ranges.{most_input}
 use Rattle.capture_file.specs.declared.order.Order.TheVariants.{Big, Little}
 use Rattle.capture_packets.specs.Captures.{begins_file, begun}
 use Rattle.capture_packets.specs.Written.{blocks_file, classic_file}

@@ -7,10 +7,9 @@ use Rattle.key_ring.specs.declared.ring.HandKey.{HandKey}
 use Rattle.known_keys.specs.declared.fault.KeyError.{KeyError}
 use Rattle.known_keys.specs.declared.fault.KeyError.TheVariants.{TooManyKeys, Memory}
 use Rattle.known_keys.specs.History.{Entry, keys}
-use Rattle.known_keys.specs.Numbered.{number_in}
+use Rattle.known_keys.specs.Numbered.{number_in, most_keys}
 use Rattle.known_keys.specs.Standing.{Kept, StandsFor}
 use Rattle.capture_audit.specs.Before.{set_behind}
-use Rattle.capture_audit.specs.Reading.{most_keys}
 use Rattle.capture_audit.specs.inside.Keeping.{AreTooMany, end_of_key, numbered_among}
 use Rattle.capture_audit.specs.inside.Viewing.{IsEndOfHand}
 use Rattle.capture_audit.proofs.Setting.{many-stay, number-stays, told_next}

@@ -13,7 +13,7 @@ use Rattle.audit_report.specs.declared.blame.Blame.{Blame}
 use Rattle.audit_report.specs.declared.ending.Ending.{Ending}
 use Rattle.audit_report.specs.declared.ending.Ending.TheVariants as endings
 use Rattle.audit_text.specs.Parting.{IsParted, capture_behind, key_text}
-use Rattle.capture_file.specs.Pcap.{most_input}
+use Rattle.lan_base.specs.Ranges.{most_input}
 use Rattle.capture_file.specs.declared.order.Order.{Order}
 use Rattle.capture_packets.specs.Captures.{Told}
 use Rattle.capture_packets.specs.Packets.{Seen}
@@ -31,7 +31,8 @@ use Rattle.capture_audit.specs.declared.asks.Asks.{Asks}
 use Rattle.capture_audit.specs.Before.{IsUnwrapped, Unwrapped, entries, frames}
 use Rattle.capture_audit.specs.Ends.{IsReported}
 use Rattle.capture_audit.specs.Laws.{IsFileOf, IsInput, IsWhole}
-use Rattle.capture_audit.specs.Reading.{HasAll, IsOneTooMany, IsRead, in_order, most_keys}
+use Rattle.known_keys.specs.Numbered.{most_keys}
+use Rattle.capture_audit.specs.Reading.{HasAll, IsOneTooMany, IsRead, in_order}
 use Rattle.capture_audit.specs.Telling.{IsVerdict, all_told, noted, report}
 use Rattle.capture_audit.proofs.ChangesAlone.{changes-alone}
 use Rattle.capture_audit.proofs.GiftsAgree.{IsOneKeyForOneWrap}

@@ -3,7 +3,7 @@ use Rattle.std.proofs.Common.{◌≡◌, ◌∙◌, ◌≤◌, inl, inr, ℕ, Bo
 use Rattle.std.specs.Prelude.{take}
 use Rattle.std.proofs.lemmas.List.{append-nil}
 use Rattle.audit_report.specs.Lines.{set_lines}
-use Rattle.capture_file.specs.Pcap.{most_input}
+use Rattle.lan_base.specs.Ranges.{most_input}
 use Rattle.capture_packets.specs.Reading.{Opens}
 use Rattle.capture_packets.specs.declared.end.End.{End}
 use Rattle.capture_packets.specs.declared.end.End.TheVariants as reads

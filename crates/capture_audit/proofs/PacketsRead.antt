@@ -4,7 +4,7 @@ use Rattle.std.specs.Prelude.{◌⊎◌, nat_lt}
 use Rattle.std.proofs.lemmas.Bool.{cases_lt}
 use Rattle.std.proofs.lemmas.Bool.Decides.{nat_tests}
 use Rattle.std.proofs.lemmas.List.{append-nil, take-append-le, take_all}
-use Rattle.capture_file.specs.Pcap.{most_input}
+use Rattle.lan_base.specs.Ranges.{most_input}
 use Rattle.capture_packets.specs.declared.block.Block.{Block}
 use Rattle.capture_packets.specs.declared.end.End.TheVariants as ends
 use Rattle.capture_packets.specs.declared.fault.CaptureFault.{CaptureFault}

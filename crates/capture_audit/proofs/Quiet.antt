@@ -18,7 +18,7 @@ use Rattle.packet_verdicts.specs.Groups.{GroupKeys}
 use Rattle.packet_verdicts.specs.Kinds.{packet_kind}
 use Rattle.capture_audit.specs.declared.auditor.Auditor.{Auditor}
 use Rattle.capture_audit.specs.Before.{IsUnwrapped, Unwrapped, UnwrapsBy, entries, entries_by, mkpdu_entries, number_behind, right_key, shown_entries}
-use Rattle.capture_audit.specs.Reading.{most_keys}
+use Rattle.known_keys.specs.Numbered.{most_keys}
 use Rattle.capture_audit.specs.inside.Batches.{HaveSameKeys, distributes}
 use Rattle.capture_audit.specs.inside.Keeping.{IsFull, Keeps}
 use Rattle.capture_audit.proofs.Behind.{mkpdu-behind, mkpdu-keys}

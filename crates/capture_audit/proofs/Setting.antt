@@ -14,11 +14,10 @@ use Rattle.key_ring.specs.declared.ring.HandKey.{HandKey}
 use Rattle.known_keys.specs.declared.fault.KeyError.{KeyError}
 use Rattle.known_keys.specs.declared.fault.KeyError.TheVariants.{TooManyKeys, Memory}
 use Rattle.known_keys.specs.History.{Entry, Set, keys}
-use Rattle.known_keys.specs.Numbered.{number_from, number_in}
+use Rattle.known_keys.specs.Numbered.{number_from, number_in, most_keys}
 use Rattle.known_keys.specs.Standing.{Kept, StandsFor}
 use Rattle.known_keys.proofs.Public.{front-keys}
 use Rattle.capture_audit.specs.Before.{set_behind}
-use Rattle.capture_audit.specs.Reading.{most_keys}
 use Rattle.capture_audit.specs.inside.Keeping.{AreSetUpTo, AreTooMany, SetsKeys, end_of_key, numbered_among}
 
 -- ---- numbers stay

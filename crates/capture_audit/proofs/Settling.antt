@@ -26,7 +26,7 @@ use Rattle.capture_audit.specs.declared.end.AuditEnd.{AuditEnd}
 use Rattle.capture_audit.specs.declared.end.AuditEnd.TheVariants as ends
 use Rattle.capture_audit.specs.Before.{IsUnwrapped, Unwrapped, UnwrapsBy, entries, entries_by, frame_by, frames, kind_in, mkpdu_by, mkpdus, number_behind, right_under, with_some}
 use Rattle.capture_audit.specs.Findings.{finding, finding_by, sec_finding}
-use Rattle.capture_audit.specs.Reading.{most_keys}
+use Rattle.known_keys.specs.Numbered.{most_keys}
 use Rattle.capture_audit.specs.Telling.{all_told, noted}
 use Rattle.capture_audit.specs.inside.Keeping.{Finds, Handles, Holds, IsFindable, IsFound, IsSettled, IsTried, Keeps, NotesSec, Settles, frame_under}
 use Rattle.capture_audit.proofs.Noting.{is-next}

@@ -13,7 +13,8 @@ use Rattle.audit_report.specs.declared.ending.Ending.{Ending}
 use Rattle.audit_report.specs.declared.ending.Ending.TheVariants as endings
 use Rattle.key_ring.specs.Rings.{Ring, ring_in}
 use Rattle.capture_audit.specs.Before.{IsUnwrapped, Unwrapped, entries, frames}
-use Rattle.capture_audit.specs.Reading.{AreFirst, IsHeadFailed, IsHeadPast, IsHeadRefused, IsRead, most_keys}
+use Rattle.known_keys.specs.Numbered.{most_keys}
+use Rattle.capture_audit.specs.Reading.{AreFirst, IsHeadFailed, IsHeadPast, IsHeadRefused, IsRead}
 use Rattle.audit_report.specs.Tallies.{tally_of}
 use Rattle.audit_report.specs.Verdicts.{Verdict, blame}
 use Rattle.capture_audit.specs.Telling.{IsVerdict, all_told, report, told_lines}

@@ -2,7 +2,7 @@
 use Rattle.std.specs.Prelude.{◌≡◌, ◌⊎◌, ◌≤◌, ℕ, ◌+◌, nat_lt, Bool, if◌then◌else◌, true, false, List, [], ◌∷◌, ◌++◌, length, Ok}
 use Rattle.std.specs.List.{AllByRecursion}
 use Rattle.audit_text.specs.Parting.{IsParted}
-use Rattle.capture_file.specs.Pcap.{most_input}
+use Rattle.lan_base.specs.Ranges.{most_input}
 use Rattle.capture_file.specs.declared.order.Order.{Order}
 use Rattle.capture_packets.specs.declared.state.Parts.{Parts}
 use Rattle.capture_packets.specs.Packets.{Seen}

@@ -1,21 +1,18 @@
 -- How reading the packets of a capture ends, which stands behind the key text.
 use Rattle.std.specs.Prelude.{true, ◌≡◌, ◌⊎◌, ℕ, ◌<◌, ◌≤◌, List, [], ◌∷◌, ◌++◌, length, map, reverse, All, Option, Some, None, Ok, Err}
-use Rattle.capture_file.specs.Pcap.{most_input}
+use Rattle.lan_base.specs.Ranges.{most_input}
 use Rattle.capture_packets.specs.declared.fault.CaptureFault.{CaptureFault}
 use Rattle.capture_packets.specs.declared.fault.CaptureFault.TheVariants.{Cut}
 use Rattle.capture_packets.specs.Packets.{Seen}
 use Rattle.capture_packets.specs.Captures.{Step, capture, opened}
 use Rattle.audit_text.specs.Parting.{capture_behind}
 use Rattle.known_keys.specs.History.{keys}
+use Rattle.known_keys.specs.Numbered.{most_keys}
 use Rattle.audit_report.specs.declared.ending.Ending.{Ending}
 use Rattle.audit_report.specs.declared.ending.Ending.TheVariants as endings
 use Rattle.key_ring.specs.Reading.{file_in}
 use Rattle.key_ring.specs.Rings.{Ring, ring_in}
 use Rattle.capture_audit.specs.Before.{IsUnwrapped, Unwrapped, entries}
-
--- at most so many keys become known
-abbrev pub most_keys : ℕ
-most_keys = 4096
 
 -- packets in the order in which they were captured
 abbrev pub in_order : List Unwrapped → List Seen

@@ -16,7 +16,7 @@ ghost use Rattle.use_notes.specs.Frames.{IsBehind};
 ghost use Rattle.capture_audit.specs.declared.end.AuditEnd.TheVariants as ends;
 ghost use Rattle.capture_audit.specs.Before.{Unwrapped, number_behind, right_under};
 ghost use Rattle.capture_audit.specs.Findings.{not_right};
-ghost use Rattle.capture_audit.specs.Reading.{most_keys};
+ghost use Rattle.known_keys.specs.Numbered.{most_keys};
 ghost use Rattle.capture_audit.specs.Telling.{IsVerdict, numbered_hand};
 ghost use Rattle.capture_audit.specs.inside.Keeping.{EndsOf, Finds, Handles, Holds, IsFound, IsOfGroup, IsSound, IsWithin, Keeps, NotesFrame, NotesSec, SetsKeys, Settles};
 

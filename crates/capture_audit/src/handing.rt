@@ -4,7 +4,7 @@ ghost use Rattle.std.specs.Prelude.{◌≡◌, ◌<◌, ◌≤◌, ◌++◌, Lis
 ghost use Rattle.known_keys.specs.History.{Entry, keys};
 ghost use Rattle.known_keys.specs.Standing.{StandsFor};
 ghost use Rattle.capture_audit.specs.Before.{shown_entries, why_of};
-ghost use Rattle.capture_audit.specs.Reading.{most_keys};
+ghost use Rattle.known_keys.specs.Numbered.{most_keys};
 ghost use Rattle.capture_audit.specs.inside.Keeping.{HandsGift, HandsNone, HandsOver};
 
 use aes_block::Secret;

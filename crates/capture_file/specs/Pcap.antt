@@ -7,10 +7,6 @@ use Rattle.capture_file.specs.declared.order.Order.TheVariants.{Big, Little}
 use Rattle.capture_file.specs.declared.fault.CaptureFault.{CaptureFault}
 use Rattle.capture_file.specs.declared.fault.CaptureFault.TheVariants.{Magic, LinkType, Length}
 
--- at most so many octets are read of a file, or of a transcript of which one is written
-abbrev pub most_input : ℕ
-most_input = 268435456
-
 -- the magic number of a file whose times are in microseconds
 abbrev pub micro_magic : ℕ
 micro_magic = 0xa1b2c3d4

@@ -13,5 +13,5 @@ pub use describing::{describe, put_malformed, put_tag};
 pub use fault::CaptureFault;
 pub use laws::law_capture;
 pub use order::Order;
-pub use reading::{INPUT_MAX, KEPT_MAX, NANO_MAGIC, head, kept};
+pub use reading::{KEPT_MAX, NANO_MAGIC, head, kept};
 pub use writing::{ETHERNET, HEAD_LEN, HEADER_LEN, MICRO_MAGIC, WRITTEN_MAX, header, packet};

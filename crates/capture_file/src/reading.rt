@@ -8,9 +8,6 @@ use crate::order::Order;
 use crate::writing::{ETHERNET, MICRO_MAGIC};
 use byteorder::{BigEndian, ByteOrder, LittleEndian};
 
-/// At most so many octets are read of a file, or of a transcript of which one is written.
-pub const INPUT_MAX: usize = 268_435_456;
-
 /// The magic number of times in nanoseconds.
 pub const NANO_MAGIC: u32 = 0xa1b2_3c4d;
 

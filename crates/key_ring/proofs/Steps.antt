@@ -5,7 +5,7 @@ use Rattle.std.proofs.lemmas.List.{append-nil, append_cancel_left, take_all}
 use Rattle.std.proofs.lemmas.List.Elements.{All-append, All-cons, All-nil}
 use Rattle.lan_base.specs.declared.source.ReadEnd.{ReadEnd}
 use Rattle.lan_base.specs.declared.source.ReadEnd.TheVariants as readings
-use Rattle.capture_file.specs.Pcap.{most_input}
+use Rattle.lan_base.specs.Ranges.{most_input}
 use Rattle.octet_supply.specs.Supplying.{Held, Stands}
 use Rattle.octet_supply.specs.declared.supply.LineEnd.{LineEnd}
 use Rattle.octet_supply.specs.declared.supply.LineEnd.TheVariants as line_ends

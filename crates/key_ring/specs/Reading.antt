@@ -1,6 +1,6 @@
 -- How the key text before a capture is read from a source, within a limit.
 use Rattle.std.specs.Prelude.{⊤, ◌≡◌, ◌≢◌, ℕ, ◌<◌, ◌≤◌, true, List, [], ◌++◌, length, take, Option, Some, None, Result, Ok, Err}
-use Rattle.capture_file.specs.Pcap.{most_input}
+use Rattle.lan_base.specs.Ranges.{most_input}
 use Rattle.octet_supply.specs.Supplying.{Held, IsTaken, Stands}
 use Rattle.text_lines.specs.Texts.{lines_of}
 use Rattle.audit_text.specs.Parting.{IsUnparted, capture_behind, starts_behind}

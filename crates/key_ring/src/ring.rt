@@ -2,7 +2,7 @@
 
 ghost use Rattle.std.specs.Prelude.{◌≡◌, ◌⊎◌, ◌<◌, ◌≤◌, ◌+◌, ◌^◌, ℕ, List, [], length, Some, Err, IfOk, OnErr, OnOk};
 ghost use Rattle.lan_base.specs.Faults.{Rose};
-ghost use Rattle.capture_file.specs.Pcap.{most_input};
+ghost use Rattle.lan_base.specs.Ranges.{most_input};
 ghost use Rattle.octet_supply.specs.Supplying.{Stands, most_given};
 ghost use Rattle.audit_text.specs.InForm.{IsInFormKey};
 ghost use Rattle.key_ring.specs.declared.end.RingEnd.TheVariants as ends;
@@ -13,9 +13,8 @@ ghost use Rattle.key_ring.specs.inside.Steps.{AddsLine, answered};
 use crate::end::RingEnd;
 use aes_block::Secret;
 use audit_text::{KeyLine, Part, next_part, read_key_line};
-use capture_file::INPUT_MAX;
 use known_keys::Sender;
-use lan_base::{AssociationNumber, Source};
+use lan_base::{AssociationNumber, INPUT_MAX, Source};
 use octet_supply::{LineEnd, Supply};
 use packet_verdicts::Groups;
 use std::alloc::Global;

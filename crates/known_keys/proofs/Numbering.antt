@@ -4,7 +4,7 @@ use Rattle.std.proofs.lemmas.List.{length-map, map-append}
 use Rattle.aes_block.specs.declared.secret.Secret.{Secret}
 use Rattle.aes_block.specs.Secrets.{same_secret, secret_octets}
 use Rattle.aes_block.proofs.Public.{same_secret-is, same_secret-itself}
-use Rattle.known_keys.specs.Numbered.{number_from, number_in, with_number, with_key}
+use Rattle.known_keys.specs.Numbered.{most_keys, number_from, number_in, with_number, with_key}
 use Rattle.known_keys.specs.Maps.{number_by, Keyed, AreKept}
 use Rattle.known_keys.specs.inside.Steps.{IsKeyed}
 
@@ -112,7 +112,7 @@ keyed-same saks sak n k found kept =
     (with-some saks sak n is) (λ both. record { kept = both.0; number = both.1 }) (kept, is)
 
 pub not-full : (saks : List Secret) (sak : Secret) (n : ℕ) (k : Keyed) → Some n ≡ number_by k.numbers sak
-    → AreKept saks k → 4096 < length (with_key saks (Some sak)) → ⊥
+    → AreKept saks k → most_keys < length (with_key saks (Some sak)) → ⊥
 not-full saks sak n k found kept over =
     let same = ap (λ (ss : List Secret). length ss) (with-some saks sak n (there saks sak n k found kept)) in
     let few = kept.few in omega (arith, same, few, over)
@@ -134,7 +134,7 @@ longer saks sak k found kept =
 
 -- a SAK that has none yet
 pub keyed-new : (saks : List Secret) (sak : Secret) (n : ℕ) (old new : Keyed) → None ≡ number_by old.numbers sak
-    → AreKept saks old → n ≡ length old.prepared + 1 → n ≤ 4096
+    → AreKept saks old → n ≡ length old.prepared + 1 → n ≤ most_keys
     → new.prepared ≡ old.prepared ++ secret_octets sak ∷ []
     → ((s : Secret) → number_by new.numbers s ≡ cond (same_secret sak s) (Some n) (number_by old.numbers s))
     → IsKeyed saks sak n new

@@ -21,7 +21,7 @@ use Rattle.mkpdu_codec.specs.declared.offset.ConfidentialityOffset.{Confidential
 use Rattle.known_keys.specs.declared.named.Named.{Named}
 use Rattle.known_keys.specs.declared.sender.Sender.{Sender}
 use Rattle.known_keys.specs.declared.sender.Sender.TheVariants.{Any, One}
-use Rattle.known_keys.specs.Numbered.{number_in}
+use Rattle.known_keys.specs.Numbered.{most_keys, number_in}
 use Rattle.known_keys.specs.Said.{Naming, Statement}
 use Rattle.known_keys.specs.Undecided.{GroupId}
 
@@ -53,7 +53,7 @@ pub record Keyed : Type 0 where
 pub record AreKept (saks : List Secret) (keyed : Keyed) : Type 0 where
   pub prepared : keyed.prepared ≡ map secret_octets saks
   pub numbered : (sak : Secret) → number_by keyed.numbers sak ≡ number_in saks sak
-  pub few : length saks ≤ 4096
+  pub few : length saks ≤ most_keys
 
 -- ---- lists of numbers by association number and sender
 

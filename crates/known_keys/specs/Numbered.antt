@@ -3,6 +3,10 @@ use Rattle.std.specs.Prelude.{ℕ, zero, suc, Bool, if◌then◌else◌, List, [
 use Rattle.aes_block.specs.declared.secret.Secret.{Secret}
 use Rattle.aes_block.specs.Secrets.{same_secret}
 
+-- at most so many keys become known
+abbrev pub most_keys : ℕ
+most_keys = 4096
+
 -- the number of a SAK in a list, whose first one has this number
 abbrev pub number_from : ℕ → List Secret → Secret → Option ℕ
 number_from n [] sak = None

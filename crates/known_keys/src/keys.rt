@@ -2,7 +2,7 @@
 
 ghost use Rattle.std.specs.Prelude.{◌≡◌, ◌↔◌, ◌<◌, [], List, length, Some, Err, IfOk};
 ghost use Rattle.aes_block.specs.declared.secret.Secret.{Secret};
-ghost use Rattle.known_keys.specs.Numbered.{with_key};
+ghost use Rattle.known_keys.specs.Numbered.{most_keys, with_key};
 ghost use Rattle.known_keys.specs.Maps.{AreKept};
 ghost use Rattle.known_keys.specs.inside.Steps.{IsKeyed};
 ghost use Rattle.known_keys.specs.declared.fault.KeyError.TheVariants.{TooManyKeys};
@@ -57,7 +57,7 @@ impl Keys {
         ensures keyed { (saks : List Secret) → AreKept saks self.old
             → IfOk result (λ number. IsKeyed saks sak number self.new) }
         ensures full { (saks : List Secret) → AreKept saks self.old
-            → (result ≡ Err TooManyKeys) ↔ (4096 < length (with_key saks (Some sak))) }
+            → (result ≡ Err TooManyKeys) ↔ (most_keys < length (with_key saks (Some sak))) }
         ensures kept { result ≡ Err TooManyKeys → self.new ≡ self.old }
     {
         if let Some(number) = self.numbers.number(&sak) {

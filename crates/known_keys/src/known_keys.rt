@@ -6,7 +6,7 @@ ghost use Rattle.least_pairs.specs.Pairs.{IsJudged};
 ghost use Rattle.known_keys.specs.History.{Entry, Gave, Set, Showed, Strange, keys};
 ghost use Rattle.known_keys.specs.declared.giving.Giving.TheVariants.{Key, Without};
 ghost use Rattle.known_keys.specs.Known.{known};
-ghost use Rattle.known_keys.specs.Numbered.{number_in};
+ghost use Rattle.known_keys.specs.Numbered.{most_keys, number_in};
 ghost use Rattle.known_keys.specs.OneKey.{BreaksOneKey};
 ghost use Rattle.known_keys.specs.Standing.{StandsFor};
 ghost use Rattle.known_keys.specs.Telling.{told_of};
@@ -89,7 +89,7 @@ impl KnownKeys {
 
         // There would be one key too many: all stays as it was.
         ensures full { (history : List Entry) → StandsFor history self.old
-            → (result ≡ Err TooManyKeys) ↔ (4096 < length (keys (Set sender an sak ∷ history))) }
+            → (result ≡ Err TooManyKeys) ↔ (most_keys < length (keys (Set sender an sak ∷ history))) }
         ensures kept { result ≡ Err TooManyKeys → self.new ≡ self.old }
         ensures last { OnOk result (self.new.firsts.last ≡ self.old.firsts.last) }
     {
@@ -124,7 +124,7 @@ impl KnownKeys {
         // There would be one key too many: all stays as it was.
         ensures full { (history : List Entry) → StandsFor history self.old
             → (result ≡ Err TooManyKeys)
-            ↔ (4096 < length (keys (Gave packet nanos group id an (Key offset sak) ∷ history))) }
+            ↔ (most_keys < length (keys (Gave packet nanos group id an (Key offset sak) ∷ history))) }
         ensures kept { result ≡ Err TooManyKeys → self.new ≡ self.old }
         ensures last { OnOk result (self.new.firsts.last ≡ packet) }
     {

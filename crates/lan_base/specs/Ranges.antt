@@ -1,5 +1,6 @@
 -- Ranges that several crates speak of: how long a CKN is (IEEE Std 802.1X, 9.3.1); and, by this
--- profile's own rule, how long user data and frames are, and how many frames and ticks a group has.
+-- profile's own rule, how long user data and frames are, how many frames and ticks a group has, and how
+-- long is what a run left behind.
 use Rattle.std.specs.Prelude.{ℕ, ◌≤◌, List, length}
 
 -- a CKN, which names a connectivity association key, has at most so many octets
@@ -33,3 +34,7 @@ most_frames = 200000
 -- and has at most so many ticks, at all its stations
 abbrev pub most_ticks : ℕ
 most_ticks = 1000000
+
+-- a transcript, and a file of captured packets, has at most so many octets
+abbrev pub most_input : ℕ
+most_input = 268435456

@@ -37,8 +37,8 @@ pub use memory::{MemorySink, MemorySource};
 pub use name::Name;
 pub use octets::Octets;
 pub use ranges::{
-    CKN_MAX, FRAME_MAX, FRAMES_MAX, TICKS_MAX, USER_DATA_MAX, USER_DATA_MIN, is_ckn, is_user_data,
-    law_ranges,
+    CKN_MAX, FRAME_MAX, FRAMES_MAX, INPUT_MAX, TICKS_MAX, USER_DATA_MAX, USER_DATA_MIN, is_ckn,
+    is_user_data, law_ranges,
 };
 pub use room::put;
 pub use sink::{Sink, Unwritten, write_all};

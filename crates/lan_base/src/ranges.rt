@@ -1,7 +1,7 @@
 //! Ranges that several crates speak of.
 
 ghost use Rattle.std.specs.Prelude.{◌≡◌, ◌↔◌, IsTrue};
-ghost use Rattle.lan_base.specs.Ranges.{IsCkn, IsUserData, least_user_octets, most_ckn_octets, most_frame_octets, most_frames, most_ticks, most_user_octets};
+ghost use Rattle.lan_base.specs.Ranges.{IsCkn, IsUserData, least_user_octets, most_ckn_octets, most_frame_octets, most_frames, most_input, most_ticks, most_user_octets};
 
 /// The most octets of a CKN, the name of a connectivity association key (IEEE Std 802.1X, 9.3.1).
 pub const CKN_MAX: usize = 32;
@@ -21,6 +21,9 @@ pub const FRAMES_MAX: u32 = 200_000;
 /// The most ticks of a group, at all its stations.
 pub const TICKS_MAX: u32 = 1_000_000;
 
+/// The most octets of a transcript or of a file of captured packets.
+pub const INPUT_MAX: usize = 268_435_456;
+
 /// The ranges of the code are those of the definitions.
 pub fn law_ranges()
     ensures ckn { CKN_MAX ≡ most_ckn_octets }
@@ -29,6 +32,7 @@ pub fn law_ranges()
     ensures frame { FRAME_MAX ≡ most_frame_octets }
     ensures frames { FRAMES_MAX ≡ most_frames }
     ensures ticks { TICKS_MAX ≡ most_ticks }
+    ensures input { INPUT_MAX ≡ most_input }
 {}
 
 /// Whether these octets may be a CKN: there are 1 to 32.

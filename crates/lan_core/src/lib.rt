@@ -50,6 +50,7 @@ pub use laws::{
     law_next_numbers_keep_a_run_thrifty, law_the_next_number_never_falls,
     law_what_was_checked_stays_checked,
 };
+pub use limits::{INSTALLS_MAX, OCTETS_MAX, STATIONS_MAX, law_limits};
 pub use parts::law_claims_tell_packet_numbers_alone;
 pub use settings::Settings;
 pub use stop::{StepError, Stop, Which};

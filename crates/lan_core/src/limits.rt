@@ -3,7 +3,7 @@
 ghost use Rattle.std.specs.Prelude.{◌≡◌, nat_lt, if◌then◌else◌, option_map, Some, None};
 ghost use Rattle.lan_core.specs.declared.stop.Stop.TheVariants.{Limit};
 ghost use Rattle.lan_core.specs.declared.stop.Which.TheVariants.{Keys};
-ghost use Rattle.lan_core.specs.Order.{most_installs};
+ghost use Rattle.lan_core.specs.Order.{most_installs, most_octets, most_stations};
 ghost use Rattle.lan_core.specs.inside.Judging.{Judges};
 ghost use Rattle.lan_core.specs.inside.Limits.{passed_by};
 
@@ -11,13 +11,20 @@ use crate::stop::{Stop, Which};
 use lan_base::{FRAMES_MAX, TICKS_MAX};
 
 /// The most octets on the air.
-const OCTETS_MAX: u64 = 67_108_864;
+pub const OCTETS_MAX: u64 = 67_108_864;
 
 /// The most installs at one station, over all its lives.
-const INSTALLS_MAX: u32 = 4_096;
+pub const INSTALLS_MAX: u32 = 4_096;
 
 /// The most stations.
 pub const STATIONS_MAX: usize = 16;
+
+/// The limits of the code are those of the definitions.
+pub fn law_limits()
+    ensures octets { OCTETS_MAX ≡ most_octets }
+    ensures installs { INSTALLS_MAX ≡ most_installs }
+    ensures stations { STATIONS_MAX ≡ most_stations }
+{}
 
 /// How far a group comes in each of what is limited.
 #[derive(Clone, Copy)]

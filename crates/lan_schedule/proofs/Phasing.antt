@@ -28,7 +28,8 @@ use Rattle.lan_schedule.specs.World.{World, settings, is_racing, place}
 use Rattle.lan_schedule.specs.Acts.{Act, Goes, Stops, look, perform}
 use Rattle.lan_schedule.specs.Kinds.{may_stand, wrong_at}
 use Rattle.lan_schedule.specs.Kinds.{is_control, is_control_allowed, refusal, too_many}
-use Rattle.lan_schedule.specs.Kinds.{most_workers, is_burst_allowed, wrong_name}
+use Rattle.lan_schedule.specs.Kinds.{is_burst_allowed, wrong_name}
+use Rattle.trace_text.specs.Limits.{most_workers}
 use Rattle.lan_schedule.specs.Lines.{act_of, deed, deed_at, deed_controlling, enter, run_race}
 use Rattle.lan_schedule.specs.Lines.{unless_refused, behind_while, behind_race, burst_of, kept_line}
 use Rattle.lan_schedule.specs.Reports.{Report}

@@ -5,6 +5,7 @@ use Rattle.std.specs.Prelude.{Option, Some, None, Result, Ok, Err}
 use Rattle.trace_text.specs.declared.fault.TextFault.{TextFault}
 use Rattle.trace_text.specs.declared.line.Line.{Line}
 use Rattle.trace_text.specs.declared.line.Line.TheVariants as lines
+use Rattle.trace_text.specs.Limits.{most_bursts, most_control, most_workers}
 use Rattle.trace_text.specs.Reading.{line_in}
 use Rattle.trace_acts.specs.declared.halt.Kind.{Kind}
 use Rattle.trace_acts.specs.declared.halt.Kind.TheVariants as kinds
@@ -15,13 +16,6 @@ use Rattle.lan_schedule.specs.Races.{workers_at}
 use Rattle.lan_schedule.specs.World.{World, place}
 
 -- ---- order
-
--- the greatest count of bursts of a race, and of its lines of control
-abbrev pub most_bursts : ℕ
-most_bursts = 8
-
-abbrev pub most_control : ℕ
-most_control = 1000
 
 -- whether a line may stand behind `race`: a burst, where more may come, and `while` after a burst
 abbrev pub is_burst_allowed : Line → List Burst → Bool
@@ -102,10 +96,6 @@ wrong_name (lines.Mend from to) names = or_else (unknown from names) (unknown to
 wrong_name (lines.Restart name) names = unknown name names
 wrong_name (lines.Inject name octets) names = unknown name names
 wrong_name _ names = None
-
--- the greatest count of workers of a station in a race
-abbrev pub most_workers : ℕ
-most_workers = 8
 
 -- a burst has more workers than its station may still have
 abbrev pub too_many : Line → World → List Burst → Option Kind

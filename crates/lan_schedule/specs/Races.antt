@@ -4,6 +4,7 @@ use Rattle.std.specs.Prelude.{◌≡◌, ℕ, ◌+◌, ◌*◌, ◌/◌, ◌%◌
 use Rattle.std.specs.Prelude.{◌∷◌, map, sum, length}
 use Rattle.std.specs.List.{filter, flat_map, range_with_len}
 use Rattle.lan_base.specs.declared.frame.UserFrame.{UserFrame}
+use Rattle.gcm_frames.specs.Protected.{protection_octets}
 use Rattle.lan_core.specs.declared.stop.Which.{Which}
 use Rattle.lan_core.specs.declared.stop.Which.TheVariants.{Frames, Octets}
 use Rattle.trace_text.specs.declared.line.Line.{Line}
@@ -35,9 +36,9 @@ pub data Phase : Type 0 where
 abbrev pub workers_at : ℕ → List Burst → ℕ
 workers_at s bursts = sum (map (λ b. b.workers) (filter (λ b. b.station == s) bursts))
 
--- a frame has 44 octets more than its body
+-- a frame has as many octets more than its body as protection adds
 abbrev pub frame_octets : UserFrame → ℕ
-frame_octets user = length user.body + 44
+frame_octets user = length user.body + protection_octets
 
 -- the greatest count of user frames that lines name: each has a number
 abbrev pub most_users : ℕ

@@ -19,7 +19,8 @@ use Rattle.lan_schedule.specs.Races.{Chance, Phase, Apart, Bursting, Controlling
 use Rattle.lan_schedule.specs.Races.{workers_at}
 use Rattle.lan_schedule.specs.World.{World, nothing_kept}
 use Rattle.lan_schedule.specs.Acts.{Act, Goes, Stops, perform}
-use Rattle.lan_schedule.specs.Kinds.{is_control, most_workers, wrong_name}
+use Rattle.trace_text.specs.Limits.{most_workers}
+use Rattle.lan_schedule.specs.Kinds.{is_control, wrong_name}
 use Rattle.lan_schedule.specs.Lines.{at_line, close, line_after}
 use Rattle.lan_schedule.specs.Reports.{Report}
 use Rattle.lan_schedule.specs.Ends.{Moment, IsReached, Ends}

@@ -2,13 +2,14 @@
 
 ghost use Rattle.std.specs.Prelude.{◌≡◌, ◌+◌, nat_lt, true, false, not, IfOk, IfSome, Some};
 ghost use Rattle.lan_core.specs.Types.{IsUserFrame};
+ghost use Rattle.trace_text.specs.Limits.{most_workers};
 ghost use Rattle.trace_text.specs.Writing.{IsInForm};
 ghost use Rattle.trace_acts.specs.declared.halt.Kind.TheVariants as kinds;
 ghost use Rattle.trace_acts.specs.Kinds.{or_else, where_};
 ghost use Rattle.lan_schedule.specs.World.{World};
 ghost use Rattle.lan_schedule.specs.Races.{workers_at};
 ghost use Rattle.lan_schedule.specs.Kinds.{is_burst_allowed, is_control, is_control_allowed};
-ghost use Rattle.lan_schedule.specs.Kinds.{most_workers, refusal, too_many};
+ghost use Rattle.lan_schedule.specs.Kinds.{refusal, too_many};
 ghost use Rattle.lan_schedule.specs.Lines.{behind_race, behind_while};
 ghost use Rattle.lan_schedule.specs.Ends.{IsReached};
 ghost use Rattle.lan_schedule.specs.Stages.{StandsFor};
@@ -24,16 +25,7 @@ use std::alloc::{AllocError, Global};
 use std::marker::Model;
 use std::mem::replace;
 use trace_acts::{Halt, Kind};
-use trace_text::Line;
-
-/// The greatest count of bursts of a race.
-const MAX_BURSTS: usize = 8;
-
-/// The greatest count of lines of control of a race.
-const MAX_CONTROL: usize = 1_000;
-
-/// The greatest count of workers of a station in a race.
-const MAX_WORKERS: u32 = 8;
+use trace_text::{Line, MAX_BURSTS, MAX_CONTROL, MAX_WORKERS};
 
 /// A burst: a station, how many workers it has there, how many frames they send in all, and of which
 /// user data, which can be sent. Contracts see all four.

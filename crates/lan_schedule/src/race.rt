@@ -35,8 +35,9 @@ use crate::weaving::{shown_in, tell_all};
 use association_slots::SlotTable;
 use data_workers::{Log, Sender, Worker, beside};
 use fact_tally::Tally;
-use lan_base::{Sci, UserFrame};
-use lan_core::{Event, Which};
+use gcm_frames::PROTECTION_OCTETS;
+use lan_base::{FRAMES_MAX, Sci, UserFrame};
+use lan_core::{Event, OCTETS_MAX, Which};
 use packet_claims::Gate;
 use station_words::{law_caught_up_words_keep_up, law_words_that_tell_keep_up};
 use std::alloc::{AllocError, Global};
@@ -50,13 +51,10 @@ use worker_races::{
 };
 
 /// The greatest count of frames on the air.
-const MAX_FRAMES: u64 = 200_000;
-
-/// The greatest count of their octets.
-const MAX_OCTETS: u64 = 67_108_864;
+const MAX_FRAMES: u64 = FRAMES_MAX as u64;
 
 /// How many octets a frame has more than its body.
-const AROUND: u64 = 44;
+const AROUND: u64 = PROTECTION_OCTETS as u64;
 
 /// Who claims in a race: the workers, a handle of each station's table for them, and room for a log
 /// of each.
@@ -176,7 +174,7 @@ impl Stage {
         if !frames_fit(bursts, frames) {
             return Some(Which::Frames);
         }
-        if !octets_fit(bursts, MAX_OCTETS.saturating_sub(self.octets)) {
+        if !octets_fit(bursts, OCTETS_MAX.saturating_sub(self.octets)) {
             return Some(Which::Octets);
         }
         None

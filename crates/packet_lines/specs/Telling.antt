@@ -4,7 +4,7 @@ use Rattle.lan_base.specs.Told.{after}
 use Rattle.capture_file.specs.declared.fault.CaptureFault.{CaptureFault}
 use Rattle.capture_file.specs.declared.fault.CaptureFault.TheVariants.{Magic, LinkType, Cut, Length}
 use Rattle.capture_file.specs.Describing.{described}
-use Rattle.capture_file.specs.Pcap.{most_input}
+use Rattle.lan_base.specs.Ranges.{most_input}
 use Rattle.capture_file.specs.Records.{IsFileOf}
 use Rattle.text_lines.specs.Reading.{most_at_once}
 use Rattle.packet_lines.specs.declared.end.End.{End}

@@ -2,14 +2,14 @@
 
 ghost use Rattle.std.specs.Prelude.{◌≡◌, ◌<◌, ◌≤◌, ◌+◌, ◌^◌, ℕ, List, [], Err, IfOk, OnOk, Some, length, true};
 ghost use Rattle.lan_base.specs.Faults.{Rose};
-ghost use Rattle.capture_file.specs.Pcap.{most_input};
+ghost use Rattle.lan_base.specs.Ranges.{most_input};
 ghost use Rattle.packet_lines.specs.declared.end.End.TheVariants as ends;
 ghost use Rattle.packet_lines.specs.inside.Reading.{GivesCount, GivesOrder, Opens, ReadsNext, seen};
 ghost use Rattle.octet_supply.specs.Supplying.{Stands};
 
 use crate::end::End;
-use capture_file::{CaptureFault, HEAD_LEN, HEADER_LEN, INPUT_MAX, Order, head, kept};
-use lan_base::Source;
+use capture_file::{CaptureFault, HEAD_LEN, HEADER_LEN, Order, head, kept};
+use lan_base::{INPUT_MAX, Source};
 use octet_supply::Supply;
 use std::alloc::Global;
 

@@ -1,7 +1,7 @@
 //! Tables, workers with seats at them, and what they work for.
 
 ghost use Rattle.std.specs.Prelude.{◌≡◌, ◌≤◌, length, true};
-ghost use Rattle.association_slots.specs.Cards.{cards_given};
+ghost use Rattle.association_slots.specs.Cards.{cards_given, most_cards};
 ghost use Rattle.association_slots.specs.Steps.{seated};
 ghost use Rattle.association_slots.specs.Views.{IsOpen, current, slot, top};
 ghost use Rattle.lan_base.specs.Ranges.{IsUserData};
@@ -88,7 +88,7 @@ impl<'a> Desk<'a> {
 /// A table whose first card's epoch is current under AN 1, with room for so many cards and this
 /// first number.
 pub fn opened(rt: &impl Abort, alloc: Global, cards: u16, first: u32) -> (SlotTable, Control)
-    requires { (1 ≤ cards) × (cards ≤ 4096) × (1 ≤ first) }
+    requires { (1 ≤ cards) × (cards ≤ most_cards) × (1 ≤ first) }
     ensures here { result.1.table ≡ result.0 }
     ensures four { length result.1.view.slots ≡ 4 }
     ensures first { IsOpen result.1.view An1 1 }

@@ -17,12 +17,13 @@ use association_slots::{
     Card, Control, Current, SlotTable, WorkerSeat, law_earlier_cards_stay, law_few_numbers_are_lost,
 };
 use lan_base::AssociationNumber;
+use lan_core::INSTALLS_MAX;
 use packet_claims::{Claim, Gate, NoClaim, Point, claim_alone, tell};
 use std::alloc::{AllocError, Global};
 use std::marker::Model;
 
 /// How many keys a station may install.
-const CARDS: u16 = 4096;
+const CARDS: u16 = INSTALLS_MAX as u16;
 
 /// The hand that moves the words of a station's transmit associations, and gives seats at them to
 /// workers. Each call tests before it moves, and where the test fails it does nothing. Contracts see

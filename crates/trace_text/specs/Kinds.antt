@@ -12,7 +12,7 @@ use Rattle.lan_base.specs.Ranges.{least_user_octets, most_ckn_octets, most_frame
 use Rattle.lan_base.specs.Suites.{key_bits, suite_of}
 use Rattle.trace_text.specs.declared.fault.TextFault.{TextFault}
 use Rattle.trace_text.specs.declared.fault.TextFault.TheVariants.{Hex, Range}
-use Rattle.trace_text.specs.Limits.{least_rekey, most_burst, most_digits, most_injected, most_lag, most_priority, most_workers}
+use Rattle.trace_text.specs.Limits.{least_rekey, most_burst_frames, most_digits, most_injected, most_lag, most_priority, most_workers}
 
 -- a station's name; a decimal number within bounds; a cipher suite, by the bits of its keys; so
 -- many octets in hexadecimal; octets whose count is within bounds; a key of 16 or 32 octets
@@ -129,7 +129,7 @@ abbrev pub workers : Kind
 workers = number 1 most_workers
 
 abbrev pub burst : Kind
-burst = number 1 most_burst
+burst = number 1 most_burst_frames
 
 abbrev pub address : Kind
 address = exactly 6

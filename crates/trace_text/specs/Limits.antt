@@ -22,13 +22,21 @@ least_rekey = 2
 abbrev pub most_priority : ℕ
 most_priority = 255
 
--- a burst has at most so many workers
+-- a race has at most so many bursts
+abbrev pub most_bursts : ℕ
+most_bursts = 8
+
+-- and at most so many lines of control
+abbrev pub most_control : ℕ
+most_control = 1000
+
+-- a burst has at most so many workers, and so has a station in a race
 abbrev pub most_workers : ℕ
 most_workers = 8
 
--- and at most so many frames
-abbrev pub most_burst : ℕ
-most_burst = 100000
+-- a burst has at most so many frames
+abbrev pub most_burst_frames : ℕ
+most_burst_frames = 100000
 
 -- a line injects at most so many octets
 abbrev pub most_injected : ℕ

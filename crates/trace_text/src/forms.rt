@@ -12,7 +12,9 @@ use crate::keyword::Keyword;
 use crate::kinds::{
     decoded, expect_key, expect_octets, read_array, read_name, read_number, read_octets, read_suite,
 };
-use crate::limits::{MAX_BURST, MAX_INJECTED, MAX_LAG, MAX_PRIORITY, MAX_WORKERS, MIN_REKEY};
+use crate::limits::{
+    MAX_BURST_FRAMES, MAX_INJECTED, MAX_LAG, MAX_PRIORITY, MAX_WORKERS, MIN_REKEY,
+};
 use crate::line::Line;
 use crate::words::{next_word, no_word, one_word, three_words, two_words};
 use lan_base::{CKN_MAX, FRAMES_MAX, Mac, Sci, TICKS_MAX, USER_DATA_MAX, USER_DATA_MIN};
@@ -330,7 +332,7 @@ fn burst_of(
 {
     let name = read_name(name)?;
     let workers = read_number(workers, 1, MAX_WORKERS)?;
-    let frames = read_number(frames, 1, MAX_BURST)?;
+    let frames = read_number(frames, 1, MAX_BURST_FRAMES)?;
     let destination = Mac(read_array(destination)?);
     let body = read_octets(alloc, body, USER_DATA_MIN, USER_DATA_MAX)?;
     Ok(Line::Burst {

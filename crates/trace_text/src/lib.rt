@@ -23,7 +23,7 @@ pub use forms::read_form;
 pub use keyword::Keyword;
 pub use kinds::{decoded, expect_key, expect_octets, read_array, read_name, read_number};
 pub use laws::{law_read_or_refused, law_written_is_read};
-pub use limits::{MAX_LINE, MAX_WORKERS, law_limits};
+pub use limits::{MAX_BURST_FRAMES, MAX_BURSTS, MAX_CONTROL, MAX_LINE, MAX_WORKERS, law_limits};
 pub use line::Line;
 pub use reading::{is_comment, read_line};
 pub use words::{next_word, one_word, three_words, two_words};

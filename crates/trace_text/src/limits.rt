@@ -1,7 +1,7 @@
 //! The numbers that only a trace's lines have.
 
 ghost use Rattle.std.specs.Prelude.{◌≡◌};
-ghost use Rattle.trace_text.specs.Limits.{least_rekey, most_burst, most_digits, most_injected, most_lag, most_line, most_priority, most_workers};
+ghost use Rattle.trace_text.specs.Limits.{least_rekey, most_burst_frames, most_bursts, most_control, most_digits, most_injected, most_lag, most_line, most_priority, most_workers};
 
 /// The most octets of a line, without its ending.
 pub const MAX_LINE: usize = 4096;
@@ -18,11 +18,17 @@ pub const MIN_REKEY: u32 = 2;
 /// The greatest priority of a station.
 pub const MAX_PRIORITY: u32 = 255;
 
-/// The most workers of a burst.
+/// The most bursts of a race.
+pub const MAX_BURSTS: usize = 8;
+
+/// The most lines of control of a race.
+pub const MAX_CONTROL: usize = 1_000;
+
+/// The most workers of a burst, and of a station in a race.
 pub const MAX_WORKERS: u32 = 8;
 
 /// The most frames of a burst.
-pub const MAX_BURST: u32 = 100_000;
+pub const MAX_BURST_FRAMES: u32 = 100_000;
 
 /// The most octets that a line injects.
 pub const MAX_INJECTED: usize = 1600;
@@ -34,7 +40,9 @@ pub fn law_limits()
     ensures lag { MAX_LAG ≡ most_lag }
     ensures rekey { MIN_REKEY ≡ least_rekey }
     ensures priority { MAX_PRIORITY ≡ most_priority }
+    ensures bursts { MAX_BURSTS ≡ most_bursts }
+    ensures control { MAX_CONTROL ≡ most_control }
     ensures workers { MAX_WORKERS ≡ most_workers }
-    ensures burst { MAX_BURST ≡ most_burst }
+    ensures burst { MAX_BURST_FRAMES ≡ most_burst_frames }
     ensures injected { MAX_INJECTED ≡ most_injected }
 {}

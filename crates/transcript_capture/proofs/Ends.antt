@@ -6,7 +6,7 @@ use Rattle.text_lines.specs.Moments.{Moment}
 use Rattle.text_lines.specs.Reading.{Sourced, lines_within}
 use Rattle.capture_file.specs.Pcap.{head_octets}
 use Rattle.capture_file.specs.Records.{file_of, records_of}
-use Rattle.transcript_reader.specs.Counting.{most_octets}
+use Rattle.lan_base.specs.Ranges.{most_input}
 use Rattle.transcript_reader.specs.Facts.{nothing}
 use Rattle.transcript_reader.specs.Reached.{Reached, WasReached}
 use Rattle.transcript_reader.specs.Transcripts.{EndsBy, EndsReading, IsFrontRead}
@@ -25,10 +25,10 @@ use Rattle.transcript_capture.specs.inside.Recorded.{Grew, recorded_all}
 -- ---- the head was not written whole
 
 abbrev front-none : (Holds : List Fact → Type 0) (text : List ℕ) → Holds []
-    → IsFrontRead by_length Holds (lines_within most_octets text)
+    → IsFrontRead by_length Holds (lines_within most_input text)
 front-none Holds text holds = record {
   front = [];
-  later = lines_within most_octets text;
+  later = lines_within most_input text;
   parts = refl;
   read = record { known = nothing; facts = []; taken = (refl, refl); holds = holds };
 }

@@ -3,7 +3,7 @@ use Rattle.std.proofs.Common.{◌≡◌, ◌∙◌, ◌<◌, ◌≤◌, ◌⊎�
 use Rattle.std.specs.Prelude.{take}
 use Rattle.text_lines.specs.Texts.{whole_lines, lines_of}
 use Rattle.text_lines.specs.Reading.{Sourced, lines_within}
-use Rattle.transcript_reader.specs.Counting.{most_octets}
+use Rattle.lan_base.specs.Ranges.{most_input}
 use Rattle.transcript_check.specs.declared.fault.CheckFault.{CheckFault}
 use Rattle.transcript_reader.specs.Transcripts.{AreRead as AreReadBy, EndsBy}
 use Rattle.transcript_reader.specs.declared.unfinished.Unfinished.{Unfinished}
@@ -26,26 +26,26 @@ bare Holds lines read = read-as by_epochs Holds (λ facts. Unit {0}) (λ facts h
 
 pub bare-refused : (X : Type 0) (Holds : List Fact → Type 0) (text : List ℕ) (left now : Sourced) (number : ℕ)
     (why : CheckFault) → EndsBy {X = X} by_epochs Holds text left now (Err (ends.Refused number why))
-    → IsRefused (lines_within most_octets text) number why
+    → IsRefused (lines_within most_input text) number why
 bare-refused X Holds text left now number why e =
     by-end-as by_epochs (λ facts. Unit {0}) (λ facts. Unit {0}) Holds (λ facts. Unit {0}) (λ facts held. tt)
     (λ facts holds. tt) text left now X X (ends.Refused number why) e
 
 module _ (law : OneRefusal) (text : List ℕ) (number : ℕ) (why : CheckFault) where
   -- neither all lines of the text are taken, nor those within the limit where it is longer
-  not-all : IsRefused (lines_within most_octets text) number why → length text ≤ most_octets
+  not-all : IsRefused (lines_within most_input text) number why → length text ≤ most_input
       → AreRead (lines_of text) → ⊥
   not-all refused few read =
-      law.none (lines_within most_octets text) number why refused
+      law.none (lines_within most_input text) number why refused
       (subst AreRead (sym (all-within text few)) read)
 
-  not-within : IsRefused (lines_within most_octets text) number why → most_octets < length text
-      → AreRead (whole_lines (take most_octets text)) → ⊥
+  not-within : IsRefused (lines_within most_input text) number why → most_input < length text
+      → AreRead (whole_lines (take most_input text)) → ⊥
   not-within refused more read =
-      law.none (lines_within most_octets text) number why refused
+      law.none (lines_within most_input text) number why refused
       (subst AreRead (sym (past-within text more)) read)
 
-  pub refused-alike : IsRefused (lines_within most_octets text) number why → {X : Type 0}
+  pub refused-alike : IsRefused (lines_within most_input text) number why → {X : Type 0}
       (Holds : Result X (Unfinished CheckFault) → List Fact → Type 0)
       → ((facts : List Fact) → Holds (Err ends.WriteFault) facts → ⊥) → (left now : Sourced)
       (result : Result X (Unfinished CheckFault)) → EndsBy by_epochs (Holds result) text left now result
@@ -54,7 +54,7 @@ module _ (law : OneRefusal) (text : List ℕ) (number : ℕ) (why : CheckFault) 
   refused-alike refused Holds never left now (Ok answer) e =
       absurd (not-all refused e.0 (bare (Holds (Ok answer)) (lines_of text) e.2))
   refused-alike refused {X} Holds never left now (Err (ends.Refused again other)) e =
-      let same = law.one (lines_within most_octets text) again number other why
+      let same = law.one (lines_within most_input text) again number other why
       (bare-refused X (Holds (Err (ends.Refused again other))) text left now again other e) refused in
       inl (ap (λ n. Err (ends.Refused n other)) same.0
       ∙ ap (λ f. Err (ends.Refused number f)) same.1)
@@ -62,4 +62,4 @@ module _ (law : OneRefusal) (text : List ℕ) (number : ℕ) (why : CheckFault) 
   refused-alike refused Holds never left now (Err ends.WriteFault) e = absurd (never e.read.facts e.read.holds)
   refused-alike refused Holds never left now (Err ends.ReadFault) e = inr (inr refl)
   refused-alike refused Holds never left now (Err ends.Limit) e =
-      absurd (not-within refused e.0 (bare (Holds (Err ends.Limit)) (whole_lines (take most_octets text)) e.1))
+      absurd (not-within refused e.0 (bare (Holds (Err ends.Limit)) (whole_lines (take most_input text)) e.1))

@@ -7,7 +7,7 @@ use Rattle.lan_base.specs.Told.{before}
 use Rattle.lan_core.specs.declared.fact.Fact.{Fact}
 use Rattle.text_lines.specs.Reading.{Sourced, lines_within}
 use Rattle.text_lines.specs.Texts.{lines_of, whole_lines}
-use Rattle.transcript_reader.specs.Counting.{most_octets}
+use Rattle.lan_base.specs.Ranges.{most_input}
 use Rattle.transcript_reader.specs.Facts.{nothing}
 use Rattle.transcript_reader.specs.Taking.{Rule}
 use Rattle.transcript_reader.specs.Transcripts.{AreRead, EndsBy, EndsReading, IsTakenFrom}
@@ -15,20 +15,20 @@ use Rattle.transcript_reader.specs.declared.unfinished.Unfinished.{Unfinished}
 use Rattle.transcript_reader.specs.declared.unfinished.Unfinished.TheVariants as ends
 
 -- a text within the limit has all of its lines within it
-pub all-within : (text : List ℕ) → length text ≤ most_octets → lines_within most_octets text ≡ lines_of text
+pub all-within : (text : List ℕ) → length text ≤ most_input → lines_within most_input text ≡ lines_of text
 all-within text few =
-    ap (λ (b : Bool). if b then lines_of text else whole_lines (take most_octets text))
-    (le-leb (length text) most_octets few)
+    ap (λ (b : Bool). if b then lines_of text else whole_lines (take most_input text))
+    (le-leb (length text) most_input few)
 
 -- a text past the limit has those lines that end within it
-pub past-within : (text : List ℕ) → most_octets < length text
-    → lines_within most_octets text ≡ whole_lines (take most_octets text)
-past-within text more = go (nat_le (length text) most_octets) refl
+pub past-within : (text : List ℕ) → most_input < length text
+    → lines_within most_input text ≡ whole_lines (take most_input text)
+past-within text more = go (nat_le (length text) most_input) refl
   where
-    go : (b : Bool) → nat_le (length text) most_octets ≡ b
-        → lines_within most_octets text ≡ whole_lines (take most_octets text)
-    go true is = let few : length text ≤ most_octets = grind (arith, is) in absurd (omega (arith, few, more))
-    go false is = ap (λ (b : Bool). if b then lines_of text else whole_lines (take most_octets text)) is
+    go : (b : Bool) → nat_le (length text) most_input ≡ b
+        → lines_within most_input text ≡ whole_lines (take most_input text)
+    go true is = let few : length text ≤ most_input = grind (arith, is) in absurd (omega (arith, few, more))
+    go false is = ap (λ (b : Bool). if b then lines_of text else whole_lines (take most_input text)) is
 
 abbrev pub read-as : {F : Type 0} (rule : Rule F) (Holds Says : List Fact → Type 0)
     → ((facts : List Fact) → Holds facts → Says facts) → (lines : List (List ℕ)) → AreRead rule Holds lines
@@ -78,7 +78,7 @@ module _ {F : Type 0} (rule : Rule F) (Held Said Holds Says : List Fact → Type
   }
   by-end-as X Y ends.ReadFault e =
       let t = e.1 in (e.0, (t.0, t.1, t.2, read-as rule Holds Says so (whole_lines t.0) t.3))
-  by-end-as X Y ends.Limit e = (e.0, read-as rule Holds Says so (whole_lines (take most_octets text)) e.1)
+  by-end-as X Y ends.Limit e = (e.0, read-as rule Holds Says so (whole_lines (take most_input text)) e.1)
 
   pub ends-as : (X Y : Type 0) (why : Unfinished F) → EndsReading {X = X} rule Held Holds text left now (Err why)
       → EndsReading {X = Y} rule Said Says text left now (Err why)
@@ -131,7 +131,7 @@ not-begun X rule Held Holds text left held holds = record {
   taken = none-taken rule Held left held;
   ends = record {
     front = [];
-    later = lines_within most_octets text;
+    later = lines_within most_input text;
     parts = refl;
     read = none-read rule Holds holds;
   };

@@ -10,7 +10,8 @@ use Rattle.text_lines.specs.declared.reading.End.TheVariants as lines
 use Rattle.text_lines.specs.Moments.{Moment}
 use Rattle.text_lines.specs.Reading.{Ends, Reads, Runs, Sourced, Takes, lines_within}
 use Rattle.text_lines.specs.Texts.{lines_of, whole_lines}
-use Rattle.transcript_reader.specs.Counting.{most_octets, number_after}
+use Rattle.lan_base.specs.Ranges.{most_input}
+use Rattle.transcript_reader.specs.Counting.{number_after}
 use Rattle.transcript_reader.specs.Facts.{Known, nothing}
 use Rattle.transcript_reader.specs.Reached.{Reached, WasReached}
 use Rattle.transcript_reader.specs.Taking.{Courses, Rule}
@@ -32,7 +33,7 @@ taken-length rule known facts (x ∷ xs) last all t =
     let one = length-append facts (t.1 ∷ []) in
     omega (arith, rest, one)
 
-counted : (count few : ℕ) → count + 1 ≤ few → few ≤ most_octets + 1 → number_after count ≡ count + 1
+counted : (count few : ℕ) → count + 1 ≤ few → few ≤ most_input + 1 → number_after count ≡ count + 1
 counted count few less most = min-eq_left (omega (arith, less, most))
 
 module _ {F P T K : Type 0} (rule : Rule F) (courses : Courses T K) (Grew Fails : K → K → Type 0) (see : Seeing P T)
@@ -72,7 +73,7 @@ module _ {F P T K : Type 0} (rule : Rule F) (courses : Courses T K) (Grew Fails 
       };
     }
 
-    refused : (Was Holds : List Fact → Type 0) (lines : List (List ℕ)) → length lines ≤ most_octets + 1
+    refused : (Was Holds : List Fact → Type 0) (lines : List (List ℕ)) → length lines ≤ most_input + 1
         → ((told : List Fact) → Was told → Holds told) → (count : ℕ) (why : F)
         → TookTo rule Was (see.known old.taker) [] lines count why
         → IsRefused rule Holds lines (number_after count) why
@@ -102,7 +103,7 @@ module _ {F P T K : Type 0} (rule : Rule F) (courses : Courses T K) (Grew Fails 
     -- ---- what was taken before the last octets
 
     grew-last : (taken : List ℕ) (all last : List (List ℕ)) (between : Moment P K)
-        (r : Result (Unit {0}) (End (TakeError F))) → Ends Did most_octets taken all last left now between new r
+        (r : Result (Unit {0}) (End (TakeError F))) → Ends Did most_input taken all last left now between new r
         → Grew between.outlet new.outlet
     grew-last taken all last between (Ok done) e = e.3.grew
     grew-last taken all last between (Err (lines.Refused error)) e = e.1.grew
@@ -110,7 +111,7 @@ module _ {F P T K : Type 0} (rule : Rule F) (courses : Courses T K) (Grew Fails 
     grew-last taken all last between (Err lines.ReadFault) e = e.3.grew
     grew-last taken all last between (Err lines.Limit) e = e.2.grew
 
-    taken-from : (r : Result (Unit {0}) (End (TakeError F))) → Takes Did most_octets left now old new r
+    taken-from : (r : Result (Unit {0}) (End (TakeError F))) → Takes Did most_input left now old new r
         → IsTakenFrom rule (WasReached courses Grew (beside see old) (beside see new)) left now
     taken-from r t = record {
       earlier = t.earlier;
@@ -128,7 +129,7 @@ module _ {F P T K : Type 0} (rule : Rule F) (courses : Courses T K) (Grew Fails 
 
     -- ---- by the end
 
-    pub ends-ok : (text : List ℕ) → Reads Did most_octets left now old new (Ok tt) → left.left ≡ Some text
+    pub ends-ok : (text : List ℕ) → Reads Did most_input left now old new (Ok tt) → left.left ≡ Some text
         → EndsReading rule (WasReached courses Grew (beside see old) (beside see new))
         (Reached {F = F} courses (beside see old) (beside see new) (Ok (tt {0}))) text left now (Ok (tt {0}))
     ends-ok text reads told =
@@ -142,24 +143,24 @@ module _ {F P T K : Type 0} (rule : Rule F) (courses : Courses T K) (Grew Fails 
           );
         }
 
-    by-end : (text : List ℕ) → length (lines_within most_octets text) ≤ most_octets + 1
-        → (end : End (TakeError F)) → Runs Did most_octets text left now old new (Err end)
+    by-end : (text : List ℕ) → length (lines_within most_input text) ≤ most_input + 1
+        → (end : End (TakeError F)) → Runs Did most_input text left now old new (Err end)
         → EndsBy {X = Unit {0}} rule
         (Reached courses (beside see old) (beside see new) (Err (why_unfinished end (see.count new.taker)))) text left now
         (Err (why_unfinished end (see.count new.taker)))
     by-end text few (lines.Refused (Refused why)) runs =
         refused (λ told. courses.Took (beside see old) told (beside see new))
         (Reached courses (beside see old) (beside see new) (Err (ends.Refused (number_after (see.count new.taker)) why)))
-        (lines_within most_octets text) few (λ told took. took) (see.count new.taker) why
+        (lines_within most_input text) few (λ told took. took) (see.count new.taker) why
         (runs.takes (beside see old) [] none start)
     by-end text few (lines.Refused Failed) runs =
         front-read (λ told. courses.Cut (beside see old) told (beside see new))
         (Reached {F = F} courses (beside see old) (beside see new) (Err ends.WriteFault))
-        (lines_within most_octets text) (λ told took. took) (runs.takes (beside see old) [] none start)
+        (lines_within most_input text) (λ told took. took) (runs.takes (beside see old) [] none start)
     by-end text few (lines.Refused Memory) runs =
         front-read (λ told. courses.Broke (beside see old) told (beside see new))
         (Reached {F = F} courses (beside see old) (beside see new) (Err ends.Memory))
-        (lines_within most_octets text) (λ told took. took) (runs.takes (beside see old) [] none start)
+        (lines_within most_input text) (λ told took. took) (runs.takes (beside see old) [] none start)
     by-end text few lines.Memory runs = record {
       front = runs.front;
       later = runs.rest;
@@ -181,11 +182,11 @@ module _ {F P T K : Type 0} (rule : Rule F) (courses : Courses T K) (Grew Fails 
     by-end text few lines.Limit runs = (
       runs.0,
       read (Reached {F = F} courses (beside see old) (beside see new) (Err ends.Limit))
-          (whole_lines (take most_octets text)) new (λ told took. took) runs.1,
+          (whole_lines (take most_input text)) new (λ told took. took) runs.1,
     )
 
-    pub ends-err : (text : List ℕ) → length (lines_within most_octets text) ≤ most_octets + 1
-        → (end : End (TakeError F)) → Reads Did most_octets left now old new (Err end) → left.left ≡ Some text
+    pub ends-err : (text : List ℕ) → length (lines_within most_input text) ≤ most_input + 1
+        → (end : End (TakeError F)) → Reads Did most_input left now old new (Err end) → left.left ≡ Some text
         → EndsReading {X = Unit {0}} rule (WasReached courses Grew (beside see old) (beside see new))
         (Reached courses (beside see old) (beside see new) (Err (why_unfinished end (see.count new.taker)))) text left now
         (Err (why_unfinished end (see.count new.taker)))
@@ -197,7 +198,7 @@ module _ {F P T K : Type 0} (rule : Rule F) (courses : Courses T K) (Grew Fails 
   -- ---- faults, whatever the source tells
 
   pub outlet-failed : ((a b c : K) → Grew a b → Fails b c → Fails a c) → (end : End (TakeError F)) (count : ℕ)
-      → Reads Did most_octets left now old new (Err end) → why_unfinished end count ≡ ends.WriteFault
+      → Reads Did most_input left now old new (Err end) → why_unfinished end count ≡ ends.WriteFault
       → Fails old.outlet new.outlet
   outlet-failed late (lines.Refused (Refused why)) count r is = absurd (cc is)
   outlet-failed late (lines.Refused Failed) count r is =
@@ -208,7 +209,7 @@ module _ {F P T K : Type 0} (rule : Rule F) (courses : Courses T K) (Grew Fails 
   outlet-failed late lines.ReadFault count r is = absurd (cc is)
   outlet-failed late lines.Limit count r is = absurd (cc is)
 
-  pub source-failed : (end : End (TakeError F)) (count : ℕ) → Reads Did most_octets left now old new (Err end)
+  pub source-failed : (end : End (TakeError F)) (count : ℕ) → Reads Did most_input left now old new (Err end)
       → why_unfinished end count ≡ ends.ReadFault → Rose left.faults now.faults
   source-failed (lines.Refused (Refused why)) count r is = absurd (cc is)
   source-failed (lines.Refused Failed) count r is = absurd (cc is)
@@ -218,7 +219,7 @@ module _ {F P T K : Type 0} (rule : Rule F) (courses : Courses T K) (Grew Fails 
   source-failed lines.Limit count r is = absurd (cc is)
 
   pub outlet-grew : ((a b c : K) → Grew a b → Grew b c → Grew a c) → (r : Result (Unit {0}) (End (TakeError F)))
-      → Reads Did most_octets left now old new r → Grew old.outlet new.outlet
+      → Reads Did most_input left now old new r → Grew old.outlet new.outlet
   outlet-grew further (Ok done) r =
       let t = r.takes in further old.outlet t.between.outlet new.outlet t.taken.grew t.ends.3.grew
   outlet-grew further (Err (lines.Refused error)) r =

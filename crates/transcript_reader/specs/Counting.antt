@@ -1,9 +1,5 @@
--- How far a transcript is counted (this profile's own rule).
+-- How far the lines of a transcript are counted (this profile's own rule).
 use Rattle.std.specs.Prelude.{ℕ, ◌+◌, min}
-
--- a transcript has at most so many octets
-abbrev pub most_octets : ℕ
-most_octets = 268435456
 
 -- the number of the line after so many, as far as 32 bits count
 abbrev pub number_after : ℕ → ℕ

@@ -5,7 +5,7 @@ use Rattle.lan_base.specs.Told.{before}
 use Rattle.lan_core.specs.declared.fact.Fact.{Fact}
 use Rattle.text_lines.specs.Texts.{whole_lines, lines_of}
 use Rattle.text_lines.specs.Reading.{Sourced, lines_within, most_at_once}
-use Rattle.transcript_reader.specs.Counting.{most_octets}
+use Rattle.lan_base.specs.Ranges.{most_input}
 use Rattle.transcript_reader.specs.Facts.{Known, Tells, nothing}
 use Rattle.transcript_reader.specs.Taking.{Rule}
 use Rattle.transcript_reader.specs.declared.unfinished.Unfinished.{Unfinished}
@@ -53,17 +53,17 @@ pub record IsFrontRead {F : Type 0} (rule : Rule F) (Holds : List Fact → Type 
 abbrev pub EndsBy : {F X : Type 0} → Rule F → (List Fact → Type 0) → List ℕ → Sourced → Sourced
     → Result X (Unfinished F) → Type 0
 EndsBy rule Holds text left now (Ok answer) =
-    (length text ≤ most_octets) × (now.left ≡ Some []) × AreRead rule Holds (lines_of text)
+    (length text ≤ most_input) × (now.left ≡ Some []) × AreRead rule Holds (lines_of text)
 EndsBy rule Holds text left now (Err (ends.Refused number why)) =
-    IsRefused rule Holds (lines_within most_octets text) number why
-EndsBy rule Holds text left now (Err ends.Memory) = IsFrontRead rule Holds (lines_within most_octets text)
+    IsRefused rule Holds (lines_within most_input text) number why
+EndsBy rule Holds text left now (Err ends.Memory) = IsFrontRead rule Holds (lines_within most_input text)
 EndsBy rule Holds text left now (Err ends.WriteFault) =
-    IsFrontRead rule Holds (lines_within most_octets text)
+    IsFrontRead rule Holds (lines_within most_input text)
 EndsBy rule Holds text left now (Err ends.ReadFault) =
     Rose left.faults now.faults × ((octets : List ℕ) × (left.left ≡ before octets now.left)
-    × (length octets ≤ most_octets) × AreRead rule Holds (whole_lines octets))
+    × (length octets ≤ most_input) × AreRead rule Holds (whole_lines octets))
 EndsBy rule Holds text left now (Err ends.Limit) =
-    (most_octets < length text) × AreRead rule Holds (whole_lines (take most_octets text))
+    (most_input < length text) × AreRead rule Holds (whole_lines (take most_input text))
 
 -- Octets were taken: earlier ones, within the limit, and then a piece that was asked for at once. All
 -- lines that end in the earlier ones were taken before that, and this holds of their facts.
@@ -72,7 +72,7 @@ pub record IsTakenFrom {F : Type 0} (rule : Rule F) (Held : List Fact → Type 0
   pub earlier : List ℕ
   pub piece : List ℕ
   pub moved : left.left ≡ before (earlier ++ piece) now.left
-  pub within : length earlier ≤ most_octets
+  pub within : length earlier ≤ most_input
   pub at_once : length piece ≤ most_at_once
   pub read : AreRead rule Held (whole_lines earlier)
 

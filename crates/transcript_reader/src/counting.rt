@@ -1,10 +1,7 @@
-//! How far a transcript is counted.
+//! How far the lines of a transcript are counted.
 
 ghost use Rattle.std.specs.Prelude.{◌≡◌};
 ghost use Rattle.transcript_reader.specs.Counting.{number_after};
-
-/// The greatest count of octets of a transcript.
-pub const MAX_TRANSCRIPT: usize = 268_435_456;
 
 /// The number of the line after so many.
 pub fn number_after(count: u64) -> u32

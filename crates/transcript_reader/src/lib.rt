@@ -13,7 +13,7 @@ mod reading;
 mod take_error;
 mod unfinished;
 
-pub use counting::{MAX_TRANSCRIPT, number_after};
+pub use counting::number_after;
 pub use fact_reader::FactReader;
 pub use fact_taker::FactTaker;
 pub use form::Form;

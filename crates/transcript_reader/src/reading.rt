@@ -10,12 +10,11 @@ ghost use Rattle.transcript_reader.specs.Reached.{Reached, WasReached};
 ghost use Rattle.transcript_reader.specs.declared.unfinished.Unfinished.TheVariants as ends;
 ghost use Rattle.transcript_reader.specs.inside.Lines.{not_read};
 
-use crate::counting::MAX_TRANSCRIPT;
 use crate::fact_reader::FactReader;
 use crate::fact_taker::FactTaker;
 use crate::take_error::TakeError;
 use crate::unfinished::{Unfinished, why_unfinished};
-use lan_base::Source;
+use lan_base::{INPUT_MAX, Source};
 use std::alloc::{AllocError, Global};
 use text_lines::{LineTaker, law_lines_are_few, read_lines};
 use transcript::FactError;
@@ -122,7 +121,7 @@ pub fn read_transcript<S: Source, K, T: FactTaker<K>>(
     ensures writes { T.Grew outlet.old outlet.new }
 {
     law_lines_are_few();
-    match read_lines(reading.alloc, MAX_TRANSCRIPT, source, reading, outlet) {
+    match read_lines(reading.alloc, INPUT_MAX, source, reading, outlet) {
         Ok(()) => Ok(()),
         Err(end) => Err(why_unfinished(end, reading.count)),
     }

@@ -3,7 +3,7 @@ use Rattle.std.specs.Prelude.{◌≡◌, ℕ, ◌+◌, ◌*◌, ◌<◌, ◌≤�
 use Rattle.atomic_table.specs.Table.{Me}
 use Rattle.atomic_table.specs.Seated.{TableId}
 use Rattle.association_slots.specs.Views.{In, control_of, seat_of, slot, current, greatest, of_seat}
-use Rattle.association_slots.specs.Cards.{card_in}
+use Rattle.association_slots.specs.Cards.{card_in, most_cards}
 use Rattle.lan_base.specs.declared.association_number.AssociationNumber.{AssociationNumber}
 use Rattle.association_slots.specs.declared.view.Current.{Current}
 use Rattle.association_slots.specs.declared.view.Mark.{Mark}
@@ -18,7 +18,7 @@ pub record ControlKept (table : TableId) (me : Me ℕ View) (first limit given l
     (out : List Bool) (overshot : List ℕ) : Type 0 where
   pub is : me ≡ (Control (control_of me.0), [])
   pub first_is : first ≡ (control_of me.0).first
-  pub limit_is : (limit ≡ (control_of me.0).limit) × (limit ≤ 4096) × (table.words ≡ 5 + 5 * limit)
+  pub limit_is : (limit ≡ (control_of me.0).limit) × (limit ≤ most_cards) × (table.words ≡ 5 + 5 * limit)
   pub given_is : (5 * given ≡ length (control_of me.0).card_words) × (given ≤ limit)
   pub slots_low : (an : AssociationNumber) → (slot (control_of me.0) an).epoch ≤ given
   pub last_is : (last ≡ (current (control_of me.0)).epoch) × (last ≤ given)
@@ -44,7 +44,7 @@ pub record SeatKept (table : TableId) (me : Me ℕ View) (number : ℕ) (shown :
     (known : Option Known) : Type 0 where
   pub is : me ≡ (Seat (seat_of me.0), [])
   pub number_is : (number ≡ (seat_of me.0).number) × (0 < number) × (number < 9)
-  pub limit_is : ((seat_of me.0).limit ≤ 4096) × (table.words ≡ 5 + 5 * (seat_of me.0).limit)
+  pub limit_is : ((seat_of me.0).limit ≤ most_cards) × (table.words ≡ 5 + 5 * (seat_of me.0).limit)
   pub shown_is : shown ≡ (seat_of me.0).shown
   pub over_is : overshot ≡ greatest (seat_of me.0).over
   pub own_over : (m : Mark) → In m (seat_of me.0).over → m.seat ≡ (seat_of me.0).number

@@ -2,7 +2,7 @@
 use Rattle.std.specs.Prelude.{⊤, ◌≡◌, ℕ, ◌+◌, ◌≤◌, Bool, true, false, List, [], ◌++◌, length, take, All, Option, Some, None, Result, Ok, Err}
 use Rattle.audit_report.specs.declared.ending.Ending.{Ending}
 use Rattle.audit_report.specs.declared.ending.Ending.TheVariants as endings
-use Rattle.capture_file.specs.Pcap.{most_input}
+use Rattle.lan_base.specs.Ranges.{most_input}
 use Rattle.capture_packets.specs.Captures.{Step, Told, capture, opened, with_packets}
 use Rattle.capture_packets.specs.Packets.{Seen}
 use Rattle.capture_packets.specs.Reading.{TellsOn}

@@ -11,7 +11,7 @@ use Rattle.capture_packets.specs.Packets.{Seen}
 use Rattle.capture_packets.specs.declared.packet.PacketHead.{PacketHead}
 use Rattle.key_ring.specs.declared.ring.HandKey.{HandKey}
 use Rattle.key_ring.specs.Rings.{Ring}
-use Rattle.known_keys.specs.Numbered.{number_in}
+use Rattle.known_keys.specs.Numbered.{number_in, most_keys}
 use Rattle.known_keys.specs.declared.fault.KeyError.{KeyError}
 use Rattle.known_keys.specs.declared.fault.KeyError.TheVariants.{TooManyKeys, Memory as KeyMemory}
 use Rattle.known_keys.specs.History.{Entry, Gave, keys}
@@ -37,7 +37,6 @@ use Rattle.capture_audit.specs.declared.end.AuditEnd.TheVariants as ends
 use Rattle.capture_audit.specs.Before.{IsUnwrapped, Unwrapped, UnwrapsBy, entries, entries_by, frames, gift_entries, giving_by, mkpdu_by, mkpdus, right_key, right_under, set_behind, with_some}
 use Rattle.capture_audit.specs.Findings.{finding, mka_finding, sec_finding}
 use Rattle.capture_audit.specs.Giving.{handed, handed_by}
-use Rattle.capture_audit.specs.Reading.{most_keys}
 use Rattle.capture_audit.specs.Telling.{all_told, noted}
 
 -- ---- what is kept

@@ -33,7 +33,7 @@ use Rattle.lan_schedule.specs.Races.{workers_at, workers_of}
 use Rattle.lan_schedule.specs.World.{World, is_racing}
 use Rattle.lan_schedule.specs.Acts.{Course, Goes, Stops, perform, race, begun_race}
 use Rattle.lan_schedule.specs.Acts.{is_stop}
-use Rattle.lan_schedule.specs.Kinds.{most_workers}
+use Rattle.trace_text.specs.Limits.{most_workers}
 use Rattle.lan_schedule.specs.Lines.{control_act, run_race}
 use Rattle.lan_schedule.specs.Reports.{Report, reports}
 use Rattle.lan_schedule.specs.Ends.{Moment, moment, IsReached, Ends}

@@ -7,7 +7,8 @@ use Rattle.capture_file.specs.declared.order.Order.{Order}
 use Rattle.capture_file.specs.declared.fault.CaptureFault.{CaptureFault}
 use Rattle.capture_file.specs.declared.fault.CaptureFault.TheVariants.{Cut}
 use Rattle.capture_file.specs.Describing.{described}
-use Rattle.capture_file.specs.Pcap.{head_read, kept_read, most_input}
+use Rattle.lan_base.specs.Ranges.{most_input}
+use Rattle.capture_file.specs.Pcap.{head_read, kept_read}
 use Rattle.packet_lines.specs.declared.end.End.{End}
 use Rattle.packet_lines.specs.declared.end.End.TheVariants.{Refused, Limit, ReadFault, WriteFault, Memory}
 use Rattle.packet_lines.specs.declared.reader.PacketReader.{PacketReader}

@@ -7,12 +7,9 @@ use crate::vectors::answers::{digits_of, fails, refused};
 use crate::vectors::fault::VectorFault;
 use crate::vectors::octets::{array_of, key_of, octets_of};
 use gcm_core::GcmKey;
-use gcm_frames::{protect, tag_of, validate};
+use gcm_frames::{PROTECTION_OCTETS, protect, tag_of, validate};
 use lan_base::{AssociationNumber, Mac, Octets, Sci, UserFrame, is_user_data};
 use std::alloc::Global;
-
-/// How many octets a protected frame has beside its user data.
-const AROUND: usize = 44;
 
 /// The protected frame of user data (IEEE Std 802.1AE, clauses 9 and 14).
 pub fn protect_data(alloc: Global, words: &[&str]) -> Result<String, VectorFault> {
@@ -25,7 +22,7 @@ pub fn protect_data(alloc: Global, words: &[&str]) -> Result<String, VectorFault
     let conf = is_confidential(mode)?;
     let key = GcmKey::of(key_of(alloc, key)?);
     let user = user_of(alloc, destination, body)?;
-    let mut frame = Vec::with_capacity(alloc, user.body.len() + AROUND)?;
+    let mut frame = Vec::with_capacity(alloc, user.body.len() + PROTECTION_OCTETS)?;
     protect(&key, sci, an, pn, conf, &user, &mut frame);
     digits_of(alloc, &frame)
 }

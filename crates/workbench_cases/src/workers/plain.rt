@@ -7,11 +7,8 @@ use crate::table::{AN, CARD};
 use aes_block::Key;
 use data_workers::Sender;
 use gcm_core::GcmKey;
-use gcm_frames::protect;
+use gcm_frames::{PROTECTION_OCTETS, protect};
 use std::alloc::{AllocError, Global};
-
-/// How many octets a protected frame has beside its user data.
-const AROUND: usize = 44;
 
 /// The sender's frame under so many packet numbers, from 1 on, each time in memory of its own.
 pub fn protected(alloc: Global, sender: &Sender, count: u32) -> Result<Vec<Vec<u8>>, AllocError>
@@ -21,7 +18,7 @@ pub fn protected(alloc: Global, sender: &Sender, count: u32) -> Result<Vec<Vec<u
     let key = GcmKey::of(Key::of(&CARD.sak));
     let mut frames = Vec::with_capacity(alloc, count as usize)?;
     for done in 0..count {
-        let mut frame = Vec::with_capacity(alloc, sender.user.body.len() + AROUND)?;
+        let mut frame = Vec::with_capacity(alloc, sender.user.body.len() + PROTECTION_OCTETS)?;
         protect(
             &key,
             sender.sci,

@@ -1,5 +1,5 @@
 use Rattle.std.proofs.lemmas.Result.{err_from_is_err_and}
-use Rattle.capture_file.specs.Pcap.{most_input}
+use Rattle.lan_base.specs.Ranges.{most_input}
 use Rattle.key_ring.specs.Reading.{file_in}
 use Rattle.capture_audit.proofs.HeadsRead.{none-opens}
 use Rattle.capture_audit.proofs.Opening.{open-err, open-ok}

@@ -2,7 +2,7 @@ use Rattle.std.proofs.Common.{◌∙◌, Ok, sym, ap}
 use Rattle.std.specs.Prelude.{Option}
 use Rattle.std.proofs.lemmas.Result.{err_from_is_err_and}
 use Rattle.audit_report.specs.declared.ending.Ending.{Ending}
-use Rattle.capture_file.specs.Pcap.{most_input}
+use Rattle.lan_base.specs.Ranges.{most_input}
 use Rattle.capture_audit.proofs.Going.{not-read, settle-all, settle-stops, take-one}
 use Rattle.capture_audit.proofs.reading.read_one.Goals as goal
 

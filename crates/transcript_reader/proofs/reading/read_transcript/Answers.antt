@@ -1,4 +1,4 @@
-use Rattle.transcript_reader.specs.Counting.{most_octets}
+use Rattle.lan_base.specs.Ranges.{most_input}
 use Rattle.transcript_reader.proofs.Reaching.{ends-err, ends-ok}
 use Rattle.transcript_reader.proofs.reading.read_transcript.Goals as goal
 
@@ -12,4 +12,4 @@ pub returns-in-Err-clause-read : goal.returns-in-Err-clause-read
 returns-in-Err-clause-read g c = λ text told fresh none start.
     let t = g.T.FactTaker in
     rw c.why_unfinished.ensures (ends-err t.rule t.courses t.Grew t.Fails _ _ _ _ _ g.met.T.FactTaker.breaks
-    fresh none start text (c.law_lines_are_few.ensures most_octets text) c.in-Err.end c.in-Err.ensures.reads told)
+    fresh none start text (c.law_lines_are_few.ensures most_input text) c.in-Err.end c.in-Err.ensures.reads told)

@@ -1,4 +1,4 @@
-use Rattle.capture_file.specs.Pcap.{most_input}
+use Rattle.lan_base.specs.Ranges.{most_input}
 use Rattle.octet_supply.proofs.Public.{stands-new}
 use Rattle.key_ring.proofs.ring.KeyRing.read.Goals as goal
 

@@ -1,6 +1,6 @@
 use Rattle.std.proofs.Common.{ℕ, List, Err, Ok, ap, arith, subst, ◌∙◌, ◌+◌, refl}
 use Rattle.std.proofs.lemmas.Result.{err_from_is_err_and}
-use Rattle.capture_file.specs.Pcap.{most_input}
+use Rattle.lan_base.specs.Ranges.{most_input}
 use Rattle.octet_supply.specs.declared.supply.LineEnd.{LineEnd}
 use Rattle.audit_text.specs.declared.parting.Part.{Part}
 use Rattle.audit_text.specs.declared.parting.Part.TheVariants as parts

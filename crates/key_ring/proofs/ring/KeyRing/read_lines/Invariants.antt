@@ -1,5 +1,5 @@
 use Rattle.std.proofs.Common.{◌≡◌, ◌≤◌, ◌-◌, ◌+◌, ℕ, List, [], length}
-use Rattle.capture_file.specs.Pcap.{most_input}
+use Rattle.lan_base.specs.Ranges.{most_input}
 use Rattle.octet_supply.specs.Supplying.{Stands, most_given}
 use Rattle.key_ring.specs.Rings.{AreKeyed, no_ring}
 use Rattle.key_ring.proofs.Steps.{HasRead}

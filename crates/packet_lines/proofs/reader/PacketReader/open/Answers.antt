@@ -2,7 +2,7 @@ use Rattle.std.proofs.Common.{◌∙◌, ℕ, List, [], Err, sym, ap, subst}
 use Rattle.std.proofs.lemmas.Result.{err_from_is_err_and}
 use Rattle.octet_supply.specs.Supplying.{Held, Stands}
 use Rattle.octet_supply.proofs.Public.{stands-new}
-use Rattle.capture_file.specs.Pcap.{most_input}
+use Rattle.lan_base.specs.Ranges.{most_input}
 use Rattle.packet_lines.specs.inside.Reading.{GivesOrder}
 use Rattle.packet_lines.proofs.Steps.{never-write, opens-err, opens-ok, opens-refused, order-never-write, same-error}
 use Rattle.packet_lines.proofs.reader.PacketReader.open.Goals as goal

@@ -1,6 +1,6 @@
 use Rattle.std.proofs.Common.{◌∙◌, ◌++◌, ℕ, List, Err, ap, subst, arith, length}
 use Rattle.std.proofs.lemmas.Result.{err_from_is_err_and}
-use Rattle.capture_file.specs.Pcap.{most_input}
+use Rattle.lan_base.specs.Ranges.{most_input}
 use Rattle.packet_lines.specs.inside.Reading.{GivesCount}
 use Rattle.octet_supply.proofs.Public.{no-octets}
 use Rattle.packet_lines.proofs.Steps.{at-whole, count-never-write, header-err, header-whole, never-write, next-refused, same-error, packet-err, packet-short, packet-whole}
