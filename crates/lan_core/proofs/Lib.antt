@@ -14,6 +14,7 @@ pub mod SeatMoved
 pub mod LimitsPassed
 pub mod CarriedOver
 pub mod LightFrames
+pub mod StationsKept
 pub mod FewCounts
 pub mod EmissionGoesOn
 pub mod RefusalPassedOn

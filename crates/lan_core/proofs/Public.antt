@@ -12,6 +12,7 @@ pub use Rattle.lan_core.proofs.Reactions.{gather-append, gather-reaction, gather
 pub use Rattle.lan_core.proofs.SuppliedDraws.{counts-are, streamed-are}
 pub use Rattle.lan_core.proofs.EachInALife.{in-a-life}
 pub use Rattle.lan_core.proofs.StaysThrifty.{stays-thrifty}
+pub use Rattle.lan_core.proofs.StationsKept.{same-scis}
 pub use Rattle.lan_core.proofs.UnstoppedSteps.{fresh, is-step, legal, unforged}
 pub use Rattle.lan_core.proofs.ChecksStay.{checked-later}
 pub use Rattle.lan_core.proofs.EpochsCount.{lives-count}

@@ -6,6 +6,7 @@ use Rattle.std.specs.BTreeMap.{is_at}
 use Rattle.std.specs.Ordering.{nat_cmp}
 use Rattle.std.specs.Cmp.Lexicographic.{slice_cmp}
 use Rattle.lan_base.specs.declared.address.Mi.{Mi}
+use Rattle.lan_base.specs.declared.address.Sci.{Sci}
 use Rattle.lan_base.specs.declared.name.Name.{Name}
 use Rattle.lan_base.specs.declared.frame.UserFrame.{UserFrame}
 use Rattle.lan_base.specs.declared.suite.Suite.{Suite}
@@ -119,6 +120,10 @@ pub record State : Type 0 where
   pub waiting : List Sealed
   pub ticks : ℕ
   pub drawn : Numbers
+
+-- the SCIs of the stations, in the order of their starts
+abbrev pub scis_in : State → List Sci
+scis_in lan = map (λ seat. seat.station.setup.sci) lan.seats
 
 -- A group stands for a run: it is not stopped, and has the run's stations, air, frames that wait,
 -- ticks and draws.

@@ -5,8 +5,10 @@ mod settling;
 mod stopping;
 mod traffic;
 
-ghost use Rattle.std.specs.Prelude.{◌≡◌, ◌+◌, ◌∷◌, ◌↔◌, [], List, ℕ, Option, Some, None, Err, option_map, IfOk, OnOk, OnErr, IfErr, IfSome, slice_get};
+ghost use Rattle.std.specs.Prelude.{◌≡◌, ◌+◌, ◌∷◌, ◌↔◌, [], List, ℕ, Option, Some, None, Err, option_map, IfOk, OnOk, OnErr, IfErr, IfSome, length, map, nat_eq, slice_get, sum};
 ghost use Rattle.std.specs.Option.{option_copied};
+ghost use Rattle.std.specs.List.{list_any};
+ghost use Rattle.std.specs.Cmp.Lexicographic.{pointwise};
 ghost use Rattle.lan_base.specs.declared.association_number.AssociationNumber.{AssociationNumber};
 ghost use Rattle.lan_base.specs.declared.frame.UserFrame.{UserFrame};
 ghost use Rattle.mka_kdf.specs.declared.group.GroupFault.{GroupFault};
@@ -14,12 +16,12 @@ ghost use Rattle.mka_kdf.specs.Kdf.{HasWrongLength};
 ghost use Rattle.lan_core.specs.declared.settings.Settings.{Settings};
 ghost use Rattle.lan_core.specs.declared.event.Event.TheVariants as events;
 ghost use Rattle.lan_core.specs.Run.{Run, happened, stations};
-ghost use Rattle.lan_core.specs.Ledgers.{frame_at};
+ghost use Rattle.lan_core.specs.Ledgers.{air, frame_at};
 ghost use Rattle.lan_core.specs.Lives.{receiving, transmitting_at};
 ghost use Rattle.lan_core.specs.Expected.{expected, drawn_from};
 ghost use Rattle.lan_core.specs.Keys.{held_at, place_of};
 ghost use Rattle.lan_core.specs.Stops.{MayCome, draws_needed, first_stop};
-ghost use Rattle.lan_core.specs.Standing.{StandsFor, octets_at};
+ghost use Rattle.lan_core.specs.Standing.{StandsFor, octets_at, scis_in};
 ghost use Rattle.lan_core.specs.Answers.{Answers, IsWhy};
 ghost use Rattle.lan_core.specs.Batches.{HasSlots, IsChecked};
 
@@ -33,7 +35,7 @@ use crate::seats::Seats;
 use crate::settings::{Settings, law_types_are_kept};
 use crate::stop::StepError;
 use crate::waiting::Queue;
-use lan_base::{AssociationNumber, Draws, Name, UserFrame, is_ckn};
+use lan_base::{AssociationNumber, Draws, Name, Sci, UserFrame, is_ckn};
 use mka_kdf::GroupFault;
 use rx_slots::{Checked, RxSlots};
 use sak_exchange::HeldKey;
@@ -214,6 +216,49 @@ impl Lan {
         ensures { result ≡ place_of name.now self.now.names }
     {
         self.names.place(name)
+    }
+
+    /// The names of the stations, in the order of their starts, also in a group that is stopped.
+    pub fn names(&self) -> &[Name]
+        ensures names { result.now ≡ self.now.names }
+        ensures stations { (settings : Settings) (users : List UserFrame) (r : Run)
+            → StandsFor settings users self.now r → result.now ≡ map (λ p. p.name) (stations r) }
+    {
+        self.names.as_slice()
+    }
+
+    /// The SCI of the station of a place.
+    pub fn sci(&self, station: u8) -> Option<Sci>
+        ensures place { result ≡ slice_get (scis_in self.now) station }
+        ensures stations { (settings : Settings) (users : List UserFrame) (r : Run)
+            → StandsFor settings users self.now r
+            → result ≡ slice_get (map (λ p. p.sci) (stations r)) station }
+    {
+        match self.seats.get(station) {
+            Some(seat) => Some(seat.sci()),
+            None => None,
+        }
+    }
+
+    /// Whether a station has this SCI.
+    pub fn has_sci(&self, sci: &Sci) -> bool
+        ensures places { result
+            ≡ list_any (λ other. pointwise nat_eq sci.now.0 other.0) (scis_in self.now) }
+        ensures stations { (settings : Settings) (users : List UserFrame) (r : Run)
+            → StandsFor settings users self.now r → result
+            ≡ list_any (λ other. pointwise nat_eq sci.now.0 other.0)
+            (map (λ p. p.sci) (stations r)) }
+    {
+        self.seats.has_sci(sci)
+    }
+
+    /// How many octets the frames of the air have together.
+    pub fn octets(&self) -> u64
+        ensures { (settings : Settings) (users : List UserFrame) (r : Run)
+            → StandsFor settings users self.now r
+            → result ≡ sum (map (λ frame. length frame.octets) (air r)) }
+    {
+        self.air.octets()
     }
 
     /// The association number and the epoch of the key that transmits at a station.

@@ -43,6 +43,13 @@ impl Names {
         self.names.len()
     }
 
+    /// The names.
+    pub fn as_slice(&self) -> &[Name]
+        ensures { result.now ≡ self.now }
+    {
+        &self.names
+    }
+
     /// The place of a name.
     pub fn place(&self, name: &Name) -> Option<u8>
         ensures { result ≡ place_of name.now self.now }

@@ -40,7 +40,7 @@ use crate::sender::Sender;
 use crate::stop::{Stop, Which};
 use crate::telling::{tell, told};
 use gcm_frames::is_sec;
-use lan_base::{AssociationNumber, Draws, Octets, TICKS_MAX, UserFrame, is_user_data};
+use lan_base::{AssociationNumber, Draws, Octets, Sci, TICKS_MAX, UserFrame, is_user_data};
 use mka_station::{Config, DropReason, Reaction, Station, TickError, law_room, law_turns_count};
 use mkpdu_codec::Announcement;
 use rx_slots::{Checked, RxSlots};
@@ -401,6 +401,13 @@ impl Seat {
         self.ticks = 0;
         follow(&mut self.slots, reaction.changes.as_slice());
         Ok(reaction)
+    }
+
+    /// The SCI of the station.
+    pub fn sci(&self) -> Sci
+        ensures { result ≡ self.now.station.setup.sci }
+    {
+        self.station.sci()
     }
 
     /// The key under which frames are sent.

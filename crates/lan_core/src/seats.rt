@@ -1,7 +1,9 @@
 //! The stations of a group, by their places.
 
-ghost use Rattle.std.specs.Prelude.{◌≡◌, ◌≤◌, ◌++◌, ◌∷◌, ◌⊎◌, ℕ, [], true, length, slice_get, Option, Some, IsSomeAnd, IfSome, IfOk, IfErr, OnOk, OnErr, List};
+ghost use Rattle.std.specs.Prelude.{◌≡◌, ◌≤◌, ◌++◌, ◌∷◌, ◌⊎◌, ℕ, [], true, length, nat_eq, slice_get, Option, Some, IsSomeAnd, IfSome, IfOk, IfErr, OnOk, OnErr, List};
 ghost use Rattle.std.specs.Option.{option_copied};
+ghost use Rattle.std.specs.List.{list_any};
+ghost use Rattle.std.specs.Cmp.Lexicographic.{pointwise};
 ghost use Rattle.lan_base.specs.declared.frame.UserFrame.{UserFrame};
 ghost use Rattle.gcm_frames.specs.Tags.{is_sec};
 ghost use Rattle.rx_slots.specs.Histories.{Receiving};
@@ -22,7 +24,7 @@ use crate::claimed::Claimed;
 use crate::judge::Judge;
 use crate::seat::Seat;
 use crate::stop::Stop;
-use lan_base::{Draws, UserFrame};
+use lan_base::{Draws, Sci, UserFrame};
 use mka_station::TickError;
 use rx_slots::Checked;
 use std::alloc::{AllocError, Global};
@@ -58,6 +60,14 @@ impl Seats {
         ensures { option_copied result ≡ slice_get self.now place }
     {
         self.seats.get(place as usize)
+    }
+
+    /// Whether a station has this SCI.
+    pub fn has_sci(&self, sci: &Sci) -> bool
+        ensures { result ≡ list_any (λ seat. pointwise nat_eq sci.now.0 seat.station.setup.sci.0)
+            self.now }
+    {
+        self.seats.iter().any(|seat| sci.0 == seat.sci().0)
     }
 
     /// A station with more ticks in its life than there may be, or more installs, stops its group before

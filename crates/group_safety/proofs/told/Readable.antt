@@ -31,11 +31,13 @@ gifted : (g : Option Gift) → is_gift g ≡ true
     → IfSome (given_of g) (λ x. IsWritableKey x.key) × IfSome (given_of g) IsGiven
 gifted None e = (tt, tt)
 gifted (Some g) e =
-    let y = and_parts (nat_lt g.number (2 ^ 32)) _ e in
-    (tt, record {
-      number = ltb-true g.number (2 ^ 32) y.0;
-      key = length-wrapped_sak (draw_of g.number) y.1;
-    })
+    let y = and_parts (nat_lt g.number (2 ^ 32)) _ e in (
+      tt,
+      record {
+        number = ltb-true g.number (2 ^ 32) y.0;
+        key = length-wrapped_sak (draw_of g.number) y.1;
+      },
+    )
 
 pub good-is : (a : Announcement) (g : Option Gift) → is_good a ≡ true → is_gift g ≡ true
     → IsSayable (whole a g)
