@@ -6,7 +6,7 @@ mod Takes
 mod Follows
 mod Uses
 mod Pasts
-mod Comings
+mod PeerViews
 mod Says
 mod Members
 mod Makes

@@ -20,7 +20,7 @@ use Rattle.mka_station.specs.inside.Rows.{potential_rows, IsShown}
 use Rattle.mka_station.specs.inside.Turns.{made_by, IsDue}
 use Rattle.mka_station.proofs.RowsShown.{rows-show}
 use Rattle.mka_station.proofs.Pasts.{peers-ticked, view-keys}
-use Rattle.mka_station.proofs.Comings.{keys-come}
+use Rattle.mka_station.proofs.PeerViews.{keys-come}
 
 positive : (n : ℕ) → nat_lt 0 (suc n) ≡ true
 positive n = grind (arith, nat_tests)

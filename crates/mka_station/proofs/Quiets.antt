@@ -20,7 +20,7 @@ use Rattle.mka_station.specs.Standing.{State, StandsFor}
 use Rattle.mka_station.specs.inside.Due.{shown_by, is_due_after}
 use Rattle.mka_station.specs.inside.Found.{Found, Comes}
 use Rattle.mka_station.specs.inside.Quiet.{IsQuiet, IsQuietTurn}
-use Rattle.mka_station.proofs.Comings.{led_by, ticked_with, past-begun, changes-begun}
+use Rattle.mka_station.proofs.PeerViews.{led_by, ticked_with, past-begun, changes-begun}
 use Rattle.mka_station.proofs.Ticks.{past-keys, past-installed, past-said, reacts}
 
 same-servers : (one other : Option Mi) → same_option same_mi one other ≡ true → one ≡ other

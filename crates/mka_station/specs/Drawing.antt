@@ -19,7 +19,7 @@ next_sak GcmAes128 nth = option_map S128 (nth 0)
 next_sak GcmAes256 nth =
     option_and_then (λ first. option_map (λ second. S256 (first ++ second)) (nth 1)) (nth 0)
 
--- the same, and any key where there are too few draws
+-- the secure association key that the draws of a supply give, and any key where it has too few
 abbrev pub sak_of : Suite → (ℕ → Option (List ℕ)) → Secret
 sak_of suite nth = unwrap_or (next_sak suite nth) (S128 [])
 

@@ -1,14 +1,17 @@
 //! One station of a group (IEEE Std 802.1X, clause 9): it hears frames of key agreement, elects a
 //! key server, takes and makes keys, and announces itself. Its reactions are functions of the
 //! history of its life.
+//!
+//! Read first `Station`, whose calls are `tick`, `hear` and `restart`, and the `Reaction` that each
+//! answers; in `specs/`, `Lives` has the history, and `Tick` and `Hearing` what follows from it.
 #![tactic(auto)]
 
 mod changes;
-mod coming;
 mod config;
 mod judging;
 mod laws;
 mod next;
+mod peer_view;
 mod reaction;
 mod rows;
 mod saying;

@@ -70,7 +70,7 @@ pub fn uses(keys: &KeyState, lowest: &Lowest) -> Option<Uses>
     )
 }
 
-/// The same of these keys, of which one transmits.
+/// What is said of a latest key and an old one, if one of them is held. One key transmits.
 fn uses_with(
     transmitting: Option<Key>,
     lowest: &Lowest,

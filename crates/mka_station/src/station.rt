@@ -13,8 +13,8 @@ mod hearing;
 mod restarting;
 mod ticking;
 
-use crate::coming::Coming;
 use crate::config::Config;
+use crate::peer_view::PeerView;
 use crate::shown::{Spoken, is_same_server};
 use aes_block::Key;
 use lan_base::{Mi, Sci};
@@ -40,7 +40,7 @@ pub struct Station {
     /// Room for the peer lists as they are behind a hearing.
     spare: PeerTable,
     /// Room for what an event finds in the peer lists.
-    coming: Coming,
+    peer_view: PeerView,
 }
 
 impl Model for Station {
@@ -59,7 +59,7 @@ impl Model for Station {
       spoken = s.spoken;
     } };
 
-    ghost invariant = { λ s. IsAhead s.config s.mi s.peers s.coming };
+    ghost invariant = { λ s. IsAhead s.config s.mi s.peers s.peer_view };
 }
 
 impl Station {
@@ -77,7 +77,7 @@ impl Station {
         let peers = PeerTable::new(alloc, mi, config.sci)?;
         let keys = KeyState::new(alloc, mi, epochs)?;
         let spare = PeerTable::new(alloc, mi, config.sci)?;
-        let coming = Coming::new(alloc)?;
+        let peer_view = PeerView::new(alloc)?;
         Ok(Station {
             alloc,
             config,
@@ -88,7 +88,7 @@ impl Station {
             server: None,
             spoken: None,
             spare,
-            coming,
+            peer_view,
         })
     }
 

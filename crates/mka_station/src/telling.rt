@@ -55,7 +55,7 @@ fn listed_under(recent: Option<u32>, first: Option<u32>) -> u32
     }
 }
 
-/// The same with the numbers under which these pairs name the member.
+/// A naming, with the numbers under which these pairs name the member where it lacks them.
 fn named(before: Naming, mi: &Mi, peers: &PeerTable, pairs: &[Peer]) -> Naming
     ensures first { result.first
         ≡ option_or before.first (first_number (numbers_of mi.now pairs.now)) }
@@ -71,7 +71,7 @@ fn named(before: Naming, mi: &Mi, peers: &PeerTable, pairs: &[Peer]) -> Naming
     naming
 }
 
-/// The same with this number.
+/// A naming, with this number where it lacks one.
 fn named_under(before: Naming, mn: u32, peers: &PeerTable) -> Naming
     ensures first { result.first ≡ option_or before.first (Some mn) }
     ensures recent { (own : Own) (h : List Peering) → StandsFor own peers.now h →

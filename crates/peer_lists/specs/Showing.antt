@@ -6,7 +6,7 @@ use Rattle.peer_lists.specs.declared.remembered.Words.{Words}
 use Rattle.peer_lists.specs.declared.remembered.Remembered.{Remembered}
 use Rattle.peer_lists.specs.Table.{Table}
 
--- the same words a tick later
+-- words a tick later
 abbrev pub aged : Words → Words
 aged w = record w { left = w.left - 1 }
 

@@ -1,5 +1,8 @@
 //! Who is live, who is potential and whose message is old (IEEE Std 802.1X, clause 9): the peer
 //! lists of one life of a station, proved against the history of what it sent and heard.
+//!
+//! Read first `PeerTable`, whose `hear` takes what an announcement tells, `Heard`, and answers an
+//! `Outcome`; in `specs/`, `Histories`, and `Acceptance` for which message is accepted.
 #![tactic(auto)]
 
 mod heard;

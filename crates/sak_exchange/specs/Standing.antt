@@ -38,7 +38,7 @@ most_ticks = 4294967295
 abbrev pub ticks_since : ℕ → ℕ → ℕ
 ticks_since now at = min (now - at) most_ticks
 
--- the same from a moment that may not have come
+-- the ticks from a moment that may not have come, as far as they are counted; 0 where it has not
 abbrev pub ticks_since_any : ℕ → Option ℕ → ℕ
 ticks_since_any now None = 0
 ticks_since_any now (Some at) = ticks_since now at

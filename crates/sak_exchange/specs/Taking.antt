@@ -71,7 +71,7 @@ offered_key epoch o sak =
       epoch = epoch;
     }
 
--- the same, or the reason that there is no SAK
+-- the key that an offer installs under an epoch, or the reason that it hides no SAK
 abbrev pub unwrapped_key : ℕ → Offer → Option Secret → Result Key Why
 unwrapped_key epoch o None = Err Wrap
 unwrapped_key epoch o (Some sak) = Ok (offered_key epoch o sak)
@@ -88,6 +88,6 @@ judged kept allowed epoch o sak =
     provided (is_supported o.given.key) Suite (
     provided (leaves_none o.given.offset) Offset (unwrapped_key epoch o sak))))))
 
--- the same after a history
+-- the key that an offer installs after a history, or the first reason why it installs none
 abbrev pub taken : ℕ → List Keying → Offer → Option Secret → Result Key Why
 taken base h o sak = judged (greatest_of o.server h) (allows h) (next_epoch base h) o sak

@@ -9,7 +9,7 @@ pub struct Seen {
     pub next: u64,
     /// The lowest acceptable packet number under the latest key.
     pub latest: u32,
-    /// The same under the old key.
+    /// The lowest acceptable packet number under the old key.
     pub old: u32,
 }
 

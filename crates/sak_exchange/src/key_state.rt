@@ -28,6 +28,20 @@ use std::rc::Rc;
 /// answers what changes. A call that answers an error, which it does for want of memory alone,
 /// changes nothing.
 ///
+/// ```text
+///     make, take              lead, follow                 retire
+///   ------------> installed ---------------> begun -----------------> retired
+///                 receives          receives, and transmits
+///                     |             until a later key begins
+///                     |                        |
+///                     +-----------+------------+
+///                                 v
+///                              dropped
+/// ```
+///
+/// A begun key retires the retire time after a later one began. A key is dropped where no key server
+/// is elected, and by an install: under its association number, or where it has not begun.
+///
 /// After each `tick` comes `drop_all` where no key server is elected then, and else `retire`; all
 /// other calls that change the keys come after that.
 #[derive(Drop)]

@@ -16,7 +16,7 @@ pub struct Latest {
 }
 
 impl Latest {
-    /// The same a tick later.
+    /// The latest key a tick later.
     pub(crate) fn aged(&self) -> Latest
         ensures { result ≡ aged self.now }
     {
@@ -37,7 +37,7 @@ impl Latest {
         self.since_begun.saturating_add(1) == RETIRE_TIME
     }
 
-    /// The same, as it begins.
+    /// The latest key as it begins.
     pub(crate) fn begun_now(&self) -> Latest
         ensures { result ≡ begun_now self.now }
     {

@@ -1,6 +1,9 @@
 //! Which secure association keys a station holds (IEEE Std 802.1X, clause 9): when its key server
 //! makes one, who takes it, when it begins to transmit and when the old one goes, proved against
 //! the history of one life of the station.
+//!
+//! Read first `KeyState`, above which the states of a key are drawn, and the `Changes` that its calls
+//! answer; in `specs/`, `Histories`, and `Held` for which keys are held after one.
 #![tactic(auto)]
 
 mod change;

@@ -17,7 +17,7 @@ ghost use Rattle.mka_station.specs.inside.Saying.{announced_by, given_after, is_
 ghost use Rattle.mka_station.specs.inside.Turns.{said_by, spoken_after};
 
 use super::Station;
-use crate::coming::Coming;
+use crate::peer_view::PeerView;
 use crate::rows::{is_server, live_peers, potential_peers};
 use crate::saying::{Lowest, frame, given, uses};
 use crate::shown::{Shown, Spoken};
@@ -33,7 +33,7 @@ impl Station {
     /// and what it shows then.
     pub(super) fn say(
         &self,
-        coming: &Coming,
+        peer_view: &PeerView,
         keys: &KeyState,
         seen: &Seen,
     ) -> Result<(Option<Octets>, Option<Shown>), AllocError>
@@ -41,29 +41,29 @@ impl Station {
         ensures frame { (base : ℕ) (mi : Mi) (h k : List Keying) →
             KeysStandFor base mi false self.now.keys h → KeysStandFor base mi false keys.now k →
             IfOk result (λ o. o.0 ≡ option_map (frame_of self.now.setup)
-            (said_by self.now coming.now (self.now.peers.sent.last + 1) (lowest_of h seen.now) k)) }
+            (said_by self.now peer_view.now (self.now.peers.sent.last + 1) (lowest_of h seen.now) k)) }
         ensures shown { (base : ℕ) (mi : Mi) (h k : List Keying) →
             KeysStandFor base mi false self.now.keys h → KeysStandFor base mi false keys.now k →
-            IfOk result (λ o. o.1 ≡ option_map (λ a. shown_by coming.now.rows coming.now.server k)
-            (said_by self.now coming.now (self.now.peers.sent.last + 1) (lowest_of h seen.now) k)) }
+            IfOk result (λ o. o.1 ≡ option_map (λ a. shown_by peer_view.now.rows peer_view.now.server k)
+            (said_by self.now peer_view.now (self.now.peers.sent.last + 1) (lowest_of h seen.now) k)) }
     {
-        if !self.is_due(coming, keys) {
+        if !self.is_due(peer_view, keys) {
             return Ok((None, None));
         }
         let lowest = Lowest::of(self.keys(), seen);
-        let octets = self.frame_saying(coming, self.peers().last_sent() + 1, keys, &lowest)?;
-        let shown = Shown::of(self.alloc, &coming.rows, coming.server, keys)?;
+        let octets = self.frame_saying(peer_view, self.peers().last_sent() + 1, keys, &lowest)?;
+        let shown = Shown::of(self.alloc, &peer_view.rows, peer_view.server, keys)?;
         Ok((Some(octets), Some(shown)))
     }
 
     /// Whether the station announces itself at the next tick, which finds this.
-    pub(super) fn is_due(&self, coming: &Coming, keys: &KeyState) -> bool
+    pub(super) fn is_due(&self, peer_view: &PeerView, keys: &KeyState) -> bool
         ensures { (base : ℕ) (mi : Mi) (k : List Keying) → KeysStandFor base mi false keys.now k →
             result
-            ≡ is_due_after self.now.spoken (shown_by coming.now.rows coming.now.server k) }
+            ≡ is_due_after self.now.spoken (shown_by peer_view.now.rows peer_view.now.server k) }
     {
         match &self.spoken {
-            Some(spoken) => spoken.is_due(&coming.rows, coming.server, keys),
+            Some(spoken) => spoken.is_due(&peer_view.rows, peer_view.server, keys),
             None => true,
         }
     }
@@ -71,45 +71,45 @@ impl Station {
     /// The frame of the announcement of a number.
     fn frame_saying(
         &self,
-        coming: &Coming,
+        peer_view: &PeerView,
         mn: u32,
         keys: &KeyState,
         lowest: &Lowest,
     ) -> Result<Octets, AllocError>
         ensures { (base : ℕ) (mi : Mi) (h : List Keying) → KeysStandFor base mi false keys.now h →
-            IfOk result (λ o. o ≡ frame_of self.now.setup (announced_by self.now coming.now mn
+            IfOk result (λ o. o ≡ frame_of self.now.setup (announced_by self.now peer_view.now mn
             (uses_of (lowest_by lowest.now) h)
-            (given_after self.now.setup.kek (is_server coming.now.server self.now.mi)
-            coming.now.reports h))) }
+            (given_after self.now.setup.kek (is_server peer_view.now.server self.now.mi)
+            peer_view.now.reports h))) }
     {
-        let serves = is_server(coming.server, self.mi());
-        let given = given(self.kek(), serves, &coming.reports, keys);
-        let announcement = self.announcement(coming, mn, uses(keys, lowest), given)?;
+        let serves = is_server(peer_view.server, self.mi());
+        let given = given(self.kek(), serves, &peer_view.reports, keys);
+        let announcement = self.announcement(peer_view, mn, uses(keys, lowest), given)?;
         frame(self.alloc, &announcement, self.ick())
     }
 
     /// The announcement of a number, with these uses and what is given.
     fn announcement(
         &self,
-        coming: &Coming,
+        peer_view: &PeerView,
         mn: u32,
         uses: Option<Uses>,
         given: Option<Given>,
     ) -> Result<Announcement, AllocError>
         requires { IfSome given (λ g. IsWritableKey g.key) }
-        ensures value { IfOk result (λ a. a ≡ announced_by self.now coming.now mn uses given) }
+        ensures value { IfOk result (λ a. a ≡ announced_by self.now peer_view.now mn uses given) }
         ensures writable { IfOk result IsWritable }
     {
         Ok(Announcement {
             source: self.config.sci.source(),
             priority: self.config.priority,
-            server: self.is_flagged(coming.server),
+            server: self.is_flagged(peer_view.server),
             sci: self.config.sci,
             mi: self.mi,
             mn,
             ckn: self.config.group.ckn.copied(self.alloc)?,
-            live: live_peers(self.alloc, &coming.rows)?,
-            potential: potential_peers(self.alloc, &coming.rows)?,
+            live: live_peers(self.alloc, &peer_view.rows)?,
+            potential: potential_peers(self.alloc, &peer_view.rows)?,
             uses,
             given,
         })

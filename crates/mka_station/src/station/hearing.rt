@@ -83,7 +83,7 @@ impl Station {
         ensures unchanged { OnErr result (self.new ≡ self.old) }
     {
         let outcome = hear_in(&mut self.spare, &self.peers, &self.mi, announcement);
-        let server = self.coming.elect(&self.config, &self.mi, &self.spare);
+        let server = self.peer_view.elect(&self.config, &self.mi, &self.spare);
         let heard = self.after_hearing(&self.spare, outcome, server, announcement)?;
         let Hearing {
             keys,

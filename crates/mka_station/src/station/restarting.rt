@@ -31,7 +31,7 @@ impl Station {
         let peers = PeerTable::new(self.alloc, mi, self.sci())?;
         let keys = KeyState::new(self.alloc, mi, self.epochs())?;
         let server = lost(self.server());
-        self.coming.forget();
+        self.peer_view.forget();
         self.mi = mi;
         self.peers = peers;
         self.keys = keys;

@@ -24,9 +24,9 @@ ghost use Rattle.mka_station.specs.inside.Turns.{made_by, keys_made, IsDue};
 use super::announcing::pass_peers;
 use super::{Station, new_server};
 use crate::changes::joined;
-use crate::coming::{Coming, pass_keys};
 use crate::config::Config;
 use crate::next::Ticked;
+use crate::peer_view::{PeerView, pass_keys};
 use crate::reaction::Reaction;
 use crate::rows::{is_one_potential, is_server};
 use crate::shown::is_same_server;
@@ -63,30 +63,30 @@ impl Station {
         ensures unchanged { OnErr result (self.new ≡ self.old) }
     {
         let makes = foresee(
-            &mut self.coming,
+            &mut self.peer_view,
             &self.config,
             &self.mi,
             &self.peers,
             &mut self.keys,
             seen,
         );
-        if !makes && self.is_quiet(&self.coming) {
+        if !makes && self.is_quiet(&self.peer_view) {
             return Ok(self.pass_quietly());
         }
         let sak = sak_for(makes, &self.config, draws)?;
-        let ticked = self.after_tick(&self.coming, seen, sak)?;
+        let ticked = self.after_tick(&self.peer_view, seen, sak)?;
         Ok(self.pass(ticked, makes))
     }
 
     /// Whether a tick that finds this, and makes no key, changes none, elects the server of before, and
     /// announces nothing: a quiet one. It may answer no where it is.
-    fn is_quiet(&self, coming: &Coming) -> bool
+    fn is_quiet(&self, peer_view: &PeerView) -> bool
         ensures { IsTrue result → (base : ℕ) (mi : Mi) (h : List Keying) →
-            KeysStandFor base mi false self.now.keys h → IsQuiet self.now coming.now h }
+            KeysStandFor base mi false self.now.keys h → IsQuiet self.now peer_view.now h }
     {
-        is_same_server(self.server(), coming.server)
-            && self.keys().stays(coming.server.is_some())
-            && !self.is_due(coming, self.keys())
+        is_same_server(self.server(), peer_view.server)
+            && self.keys().stays(peer_view.server.is_some())
+            && !self.is_due(peer_view, self.keys())
     }
 
     /// A quiet tick passes. It takes no memory, and copies no keys.
@@ -98,7 +98,7 @@ impl Station {
             StandsFor m self.new (tick_turn m seen any p).past }
     {
         pass_peers(&mut self.peers, false);
-        self.coming.pass(&self.peers);
+        self.peer_view.pass(&self.peers);
         self.keys.pass_still();
         self.note_spoken(None);
         Reaction {
@@ -112,23 +112,23 @@ impl Station {
     /// What a tick comes to that finds this, with the SAK of the key that it makes, if it makes one.
     fn after_tick(
         &self,
-        coming: &Coming,
+        peer_view: &PeerView,
         seen: &Seen,
         sak: Option<Secret>,
     ) -> Result<Ticked, AllocError>
         requires room { HasRoom self.now }
         ensures { (m : Member) (p : List Entry) (any : Secret) → StandsFor m self.now p →
-            Comes m p coming.now → sak ≡ cond (makes_next m p seen.now) (Some any) None →
+            Comes m p peer_view.now → sak ≡ cond (makes_next m p seen.now) (Some any) None →
             IfOk result (IsTicked m p seen.now any) }
     {
-        let server = coming.server;
+        let server = peer_view.server;
         let serves = is_server(server, self.mi());
         let mut keys = self.keys().copied(self.alloc)?;
-        let passed = pass_keys(self.alloc, &mut keys, server, serves, &coming.reports)?;
-        let due = due(&self.config, coming, seen);
+        let passed = pass_keys(self.alloc, &mut keys, server, serves, &peer_view.reports)?;
+        let due = due(&self.config, peer_view, seen);
         let installed = make(self.alloc, &mut keys, &due, sak)?;
         let changes = joined(passed, &installed)?;
-        let (sent, shown) = self.say(coming, &keys, seen)?;
+        let (sent, shown) = self.say(peer_view, &keys, seen)?;
         Ok(Ticked {
             keys,
             server,
@@ -158,7 +158,7 @@ impl Station {
             reaction,
         } = ticked;
         pass_peers(&mut self.peers, shown.is_some());
-        self.coming.pass(&self.peers);
+        self.peer_view.pass(&self.peers);
         self.settle(keys, server, installs);
         self.note_spoken(shown);
         reaction
@@ -167,26 +167,26 @@ impl Station {
 
 /// What the next tick finds, and whether it makes a key. This takes no memory.
 fn foresee(
-    coming: &mut Coming,
+    peer_view: &mut PeerView,
     config: &Config,
     mi: &Mi,
     peers: &PeerTable,
     keys: &mut KeyState,
     seen: &Seen,
 ) -> bool
-    requires { IsAhead config.now mi.now peers.now coming.old }
-    ensures ahead { IsAhead config.now mi.now peers.now coming.new }
+    requires { IsAhead config.now mi.now peers.now peer_view.old }
+    ensures ahead { IsAhead config.now mi.now peers.now peer_view.new }
     ensures comes { (m : Member) (p : List Entry) → m.setup ≡ config.now → m.mi ≡ mi.now →
-        PeersStandFor (own m) peers.now (peers_of m p) → Comes m p coming.new }
+        PeersStandFor (own m) peers.now (peers_of m p) → Comes m p peer_view.new }
     ensures makes { (m : Member) (p : List Entry) → m.setup ≡ config.now → m.mi ≡ mi.now →
         PeersStandFor (own m) peers.now (peers_of m p) →
         KeysStandFor m.base m.mi false keys.old (keys_of m p) →
         result ≡ makes_next m p seen.now }
     ensures unchanged { keys.new ≡ keys.old }
 {
-    coming.look_ahead(config, mi, peers);
-    let serves = is_server(coming.server, mi);
-    let due = due(config, coming, seen);
+    peer_view.look_ahead(config, mi, peers);
+    let serves = is_server(peer_view.server, mi);
+    let due = due(config, peer_view, seen);
     is_made(serves, keys, &due)
 }
 
@@ -212,16 +212,16 @@ fn sak_for<D: Draws>(
 }
 
 /// What decides whether a tick makes a key that finds this.
-fn due<'a>(config: &Config, coming: &'a Coming, seen: &Seen) -> Due<'a>
-    ensures live { result.live.now ≡ coming.now.reports }
-    ensures potential { result.potential ≡ list_any (λ r. r.potential) coming.now.rows }
+fn due<'a>(config: &Config, peer_view: &'a PeerView, seen: &Seen) -> Due<'a>
+    ensures live { result.live.now ≡ peer_view.now.reports }
+    ensures potential { result.potential ≡ list_any (λ r. r.potential) peer_view.now.rows }
     ensures seen { result.seen ≡ seen.now }
     ensures rekey { result.rekey ≡ config.now.rekey }
     ensures conf { result.conf ≡ config.now.conf }
 {
     Due {
-        live: &coming.reports,
-        potential: is_one_potential(&coming.rows),
+        live: &peer_view.reports,
+        potential: is_one_potential(&peer_view.rows),
         seen: *seen,
         rekey: config.rekey,
         conf: config.conf,

@@ -17,7 +17,7 @@ use Rattle.peer_lists.specs.Table.{member}
 abbrev pub fresh : Heard → Words
 fresh x = record { told = x; left = life_time; displaced = false }
 
--- the same words after a vouched announcement of another member under an SCI
+-- words after a vouched announcement of another member under an SCI: displaced, if it is theirs
 abbrev pub displaced_under : Sci → Words → Words
 displaced_under s w = record w { displaced = same_sci s w.told.sci || w.displaced }
 

@@ -17,7 +17,7 @@ use Rattle.mka_station.specs.Standing.{State}
 use Rattle.mka_station.specs.inside.Due.{shown_by}
 use Rattle.mka_station.specs.inside.Found.{Found}
 use Rattle.mka_station.specs.inside.Turns.{made_by, keys_made, IsDue}
-use Rattle.mka_station.proofs.Comings.{passed_with, passed-same, past-begun, changes-begun}
+use Rattle.mka_station.proofs.PeerViews.{passed_with, passed-same, past-begun, changes-begun}
 use Rattle.mka_station.proofs.Makes.{is-due}
 use Rattle.mka_station.proofs.Ticks.{past-keys, past-installed, past-said, past-shown, reacts}
 use Rattle.mka_station.proofs.station.Station.after_tick.Goals as goal
@@ -29,19 +29,19 @@ make-requires c =
 pub returns : goal.returns
 returns c = λ m p any s comes is.
     let now = c.args.self.now in
-    let found = c.args.coming.now in
+    let found = c.args.peer_view.now in
     let seen = c.args.seen.now in
     let sak = c.args.sak in
     let h = keys_of m p in
     let h2 = keys_of m (begun_past m p) in
     let h3 = keys_of m (ticked_past m seen any p) in
-    let S = c.coming.inside.server in
+    let S = c.peer_view.inside.server in
     let B = c.is_server-serves.result in
     let R = c.deref.result.now in
     let d = c.due-due.result in
-    let server_is : S ≡ found.server = ap (λ (f : Found). f.server) c.coming.view_is in
+    let server_is : S ≡ found.server = ap (λ (f : Found). f.server) c.peer_view.view_is in
     let serves_is : B ≡ is_server found.server m.mi = c.is_server-serves.ensures ∙ ap (λ (o : Option Mi). is_server o c.mi.result.now) server_is ∙ ap (λ (i : Mi). is_server found.server i) (c.mi.ensures ∙ s.mi) in
-    let told_is : R ≡ found.reports = c.deref.ensures.value ∙ ap (λ (f : Found). f.reports) c.coming.view_is in
+    let told_is : R ≡ found.reports = c.deref.ensures.value ∙ ap (λ (f : Found). f.reports) c.peer_view.view_is in
     let same_effect = passed-same h S found.server B (is_server found.server m.mi) R found.reports server_is serves_is told_is in
     let k0 = subst (λ (x : Keys). KeysStandFor m.base m.mi false x h) (sym (c.in_ok-keys.ensures ∙ c.keys.ensures)) s.keys in
     let passed = c.in_ok-passed.ensures.changes m.base m.mi h k0

@@ -12,9 +12,9 @@ use Rattle.mka_station.proofs.station.Station.is_quiet.Goals as goal
 pub returns-then-stays : goal.returns-then-stays
 returns-then-stays c = λ silent base mi h s.
     let now = c.args.self.now in
-    let found = c.args.coming.now in
-    let server_is : c.coming.inside.server ≡ found.server = ap (λ (f : Found). f.server) c.coming.view_is in
-    let same = c.is_same_server.ensures ∙ ap (λ (o : Option Mi). same_option same_mi o c.coming.inside.server) c.server.ensures ∙ ap (λ (o : Option Mi). same_option same_mi now.server o) server_is in
+    let found = c.args.peer_view.now in
+    let server_is : c.peer_view.inside.server ≡ found.server = ap (λ (f : Found). f.server) c.peer_view.view_is in
+    let same = c.is_same_server.ensures ∙ ap (λ (o : Option Mi). same_option same_mi o c.peer_view.inside.server) c.server.ensures ∙ ap (λ (o : Option Mi). same_option same_mi now.server o) server_is in
     let undue = c.is_due.ensures base mi h (subst (λ (x : Keys). KeysStandFor base mi false x h) (sym c.keys-then-stays.ensures) s) in
     elim c.if-is_same_server.branch [
       | then-is_same_server w ↦ record {

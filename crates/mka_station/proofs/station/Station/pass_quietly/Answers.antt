@@ -10,7 +10,7 @@ use Rattle.mka_station.specs.Announcing.{shown}
 use Rattle.mka_station.specs.Tick.{with_sent, ticked_past, says_at}
 use Rattle.mka_station.specs.Standing.{State}
 use Rattle.mka_station.specs.inside.Turns.{spoken_after}
-use Rattle.mka_station.proofs.Comings.{ahead-passed}
+use Rattle.mka_station.proofs.PeerViews.{ahead-passed}
 use Rattle.mka_station.proofs.Counts.{counted-epochs}
 use Rattle.mka_station.proofs.Ticks.{sent-peers, stands-ticked}
 use Rattle.mka_station.proofs.station.Station.pass_quietly.Goals as goal
@@ -18,7 +18,7 @@ use Rattle.mka_station.proofs.station.Station.pass_quietly.Goals as goal
 pub invariant_of-self : goal.invariant_of-self
 invariant_of-self c =
     let i = c.self.inside in
-    c.pass.ensures i.config i.mi (ahead-passed i.config i.mi i.peers c.pass_peers.new.peers i.coming c.self.invariant c.pass_peers.ensures.shown)
+    c.pass.ensures i.config i.mi (ahead-passed i.config i.mi i.peers c.pass_peers.new.peers i.peer_view c.self.invariant c.pass_peers.ensures.shown)
 
 pub returns-clause-stands : goal.returns-clause-stands
 returns-clause-stands c = λ m p any seen serving s t.

@@ -18,7 +18,7 @@ returns-then-is_quiet-clause-reaction g c = λ m p s.
     let keys = subst (λ (k : Keys). KeysStandFor m.base m.mi false k (keys_of m p)) (sym c.foresee-makes.ensures.unchanged) t.keys in
     let then : State = record { setup = i.config; mi = i.mi; epochs = i.epochs; peers = i.peers; keys = c.foresee-makes.new.keys; server = i.server; spoken = i.spoken } in
     let stands : StandsFor m then p = record { setup = t.setup; mi = t.mi; epochs = t.epochs; peers = t.peers; keys = keys; server = t.server; spoken = t.spoken } in
-    c.pass_quietly.ensures.reaction ∙ quiet-reaction m then p c.foresee-makes.new.coming seen any stands found (c.is_quiet.ensures c.if-is_quiet.true m.base m.mi (keys_of m p) keys) unmade
+    c.pass_quietly.ensures.reaction ∙ quiet-reaction m then p c.foresee-makes.new.peer_view seen any stands found (c.is_quiet.ensures c.if-is_quiet.true m.base m.mi (keys_of m p) keys) unmade
 
 pub returns-then-is_quiet-clause-stands : goal.returns-then-is_quiet-clause-stands
 returns-then-is_quiet-clause-stands g c = λ m p s.
@@ -31,8 +31,8 @@ returns-then-is_quiet-clause-stands g c = λ m p s.
     let keys = subst (λ (k : Keys). KeysStandFor m.base m.mi false k (keys_of m p)) (sym c.foresee-makes.ensures.unchanged) t.keys in
     let then : State = record { setup = i.config; mi = i.mi; epochs = i.epochs; peers = i.peers; keys = c.foresee-makes.new.keys; server = i.server; spoken = i.spoken } in
     let stands : StandsFor m then p = record { setup = t.setup; mi = t.mi; epochs = t.epochs; peers = t.peers; keys = keys; server = t.server; spoken = t.spoken } in
-    c.pass_quietly.ensures.stands m p any seen (is_some c.foresee-makes.new.coming.server) stands
-    (quiet-turn m then p c.foresee-makes.new.coming seen any stands found (c.is_quiet.ensures c.if-is_quiet.true m.base m.mi (keys_of m p) keys) unmade)
+    c.pass_quietly.ensures.stands m p any seen (is_some c.foresee-makes.new.peer_view.server) stands
+    (quiet-turn m then p c.foresee-makes.new.peer_view seen any stands found (c.is_quiet.ensures c.if-is_quiet.true m.base m.mi (keys_of m p) keys) unmade)
 
 pub returns-clause-reaction : goal.returns-clause-reaction
 returns-clause-reaction g c = λ m p s.

@@ -2,7 +2,7 @@ use Rattle.std.proofs.Common.{◌≡◌, Option, sym, subst}
 use Rattle.std.specs.Result.{IfOk}
 use Rattle.lan_base.specs.declared.address.Mi.{Mi}
 use Rattle.mka_station.specs.Tick.{ended}
-use Rattle.mka_station.proofs.coming.end_keys.Goals as goal
+use Rattle.mka_station.proofs.peer_view.end_keys.Goals as goal
 
 pub returns-in-Some-clause-changes : goal.returns-in-Some-clause-changes
 returns-in-Some-clause-changes c = λ base own h s.

@@ -3,7 +3,7 @@ use Rattle.std.specs.Prelude.{IfOk, OnOk, Result, Ok, Err}
 use Rattle.sak_exchange.specs.declared.change.Change.{Change}
 use Rattle.sak_exchange.specs.Histories.{ticked}
 use Rattle.mka_station.specs.Tick.{ended}
-use Rattle.mka_station.proofs.coming.pass_keys.Goals as goal
+use Rattle.mka_station.proofs.peer_view.pass_keys.Goals as goal
 
 pub returns-clause-changes : goal.returns-clause-changes
 returns-clause-changes c = λ base own h s.

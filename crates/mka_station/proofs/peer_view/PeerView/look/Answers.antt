@@ -3,7 +3,7 @@ use Rattle.server_election.specs.declared.candidate.Candidate.{Candidate}
 use Rattle.server_election.specs.Election.{elected as elected_among}
 use Rattle.peer_lists.specs.declared.heard.Row.{Row}
 use Rattle.mka_station.specs.inside.Rows.{live_rows, candidate_in, report_of}
-use Rattle.mka_station.proofs.coming.Coming.look.Goals as goal
+use Rattle.mka_station.proofs.peer_view.PeerView.look.Goals as goal
 
 pub returns : goal.returns
 returns c =

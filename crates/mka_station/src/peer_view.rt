@@ -1,4 +1,4 @@
-//! What an event finds in the peer lists.
+//! What an event finds of the peers.
 
 ghost use Rattle.std.specs.Prelude.{◌≡◌, ◌∷◌, ◌++◌, ℕ, List, true, false, cond, None, is_some, IsTrue, IfOk, OnOk};
 ghost use Rattle.lan_base.specs.declared.address.Mi.{Mi};
@@ -23,11 +23,11 @@ use server_election::Candidate;
 use std::alloc::{AllocError, Global};
 use std::marker::Model;
 
-/// What the next tick of a station finds, whatever it is shown: the rows of its peer lists, what the
-/// live members say of their keys, and the server that is elected. It has all the memory that it
-/// ever needs, so a tick can decide whether it makes a key before it takes any.
+/// The peers of a station as its next tick finds them, whatever it is shown: the rows of its peer
+/// lists, what the live members say of their keys, and the server that is elected. It has all the
+/// memory that it ever needs, so a tick can decide whether it makes a key before it takes any.
 #[derive(Drop)]
-pub struct Coming {
+pub struct PeerView {
     pub rows: Vec<Row>,
     pub reports: Vec<Report>,
     candidates: Vec<Candidate>,
@@ -36,7 +36,7 @@ pub struct Coming {
     ahead: bool,
 }
 
-impl Model for Coming {
+impl Model for PeerView {
     ghost use Rattle.std.specs.Prelude.{◌≤◌, length, vec_capacity};
     ghost use Rattle.peer_lists.specs.Acceptance.{most_peers};
     ghost use Rattle.mka_station.specs.inside.Found.{Found};
@@ -56,13 +56,13 @@ impl Model for Coming {
         × (most_peers ≤ vec_capacity c.candidates) };
 }
 
-impl Coming {
+impl PeerView {
     /// Room for what is found, which has nothing yet.
-    pub fn new(alloc: Global) -> Result<Coming, AllocError>
+    pub fn new(alloc: Global) -> Result<PeerView, AllocError>
         ensures { IfOk result (λ c. (setup : Setup) (mi : Mi) (peers : Table) →
             IsAhead setup mi peers c) }
     {
-        Ok(Coming {
+        Ok(PeerView {
             rows: Vec::with_capacity(alloc, PEERS)?,
             reports: Vec::with_capacity(alloc, PEERS)?,
             candidates: Vec::with_capacity(alloc, PEERS)?,

@@ -1,5 +1,5 @@
 use Rattle.std.proofs.Common.{◌∙◌, sym}
-use Rattle.mka_station.proofs.coming.Coming.pass.Goals as goal
+use Rattle.mka_station.proofs.peer_view.PeerView.pass.Goals as goal
 
 pub returns-then-stays : goal.returns-then-stays
 returns-then-stays c = λ setup mi was. record {

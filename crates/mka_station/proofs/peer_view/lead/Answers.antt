@@ -2,7 +2,7 @@ use Rattle.std.proofs.Common.{◌≡◌, cond, None, Option, ap, sym, subst, Boo
 use Rattle.std.specs.Result.{IfOk}
 use Rattle.sak_exchange.specs.Beginning.{Beginning, leads}
 use Rattle.sak_exchange.specs.Outcomes.{beginning}
-use Rattle.mka_station.proofs.coming.lead.Goals as goal
+use Rattle.mka_station.proofs.peer_view.lead.Goals as goal
 
 pub returns-then-serves-clause-changes : goal.returns-then-serves-clause-changes
 returns-then-serves-clause-changes c = λ base own h s.

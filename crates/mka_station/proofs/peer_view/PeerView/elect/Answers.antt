@@ -4,8 +4,8 @@ use Rattle.server_election.specs.Election.{elected as elected_among}
 use Rattle.peer_lists.specs.declared.heard.Row.{Row}
 use Rattle.mka_station.specs.Lives.{own, peers_of}
 use Rattle.mka_station.specs.inside.Rows.{live_rows, candidate_in}
-use Rattle.mka_station.proofs.Comings.{elected-now}
-use Rattle.mka_station.proofs.coming.Coming.elect.Goals as goal
+use Rattle.mka_station.proofs.PeerViews.{elected-now}
+use Rattle.mka_station.proofs.peer_view.PeerView.elect.Goals as goal
 
 pub returns-clause-server : goal.returns-clause-server
 returns-clause-server c = λ m p setup mi peers.
