@@ -21,7 +21,7 @@ use Rattle.lan_core.specs.Standing.{StandsFor as GroupStandsFor}
 use Rattle.lan_core.specs.Batches.{IsChecked, BringsData, IsBatch, HasSlots}
 use Rattle.trace_acts.specs.declared.halt.Halt.{Halt}
 use Rattle.trace_acts.specs.declared.halt.Halt.TheVariants as halts
-use Rattle.trace_acts.specs.declared.broken.Broken.{Broken}
+use Rattle.lan_base.specs.declared.sink.Unwritten.{Unwritten}
 use Rattle.lan_schedule.specs.declared.stage.Stage.{Stage}
 use Rattle.lan_schedule.specs.World.{World, settings}
 use Rattle.lan_schedule.specs.Acts.{Act, happen, perform, seq, shown, span, world_after}
@@ -149,7 +149,7 @@ first-is r n s (a ∷ later) are = are.0
 
 -- what is left of an act, done from here where this holds, is the whole act done from the start
 pub record LeadsWhere {K : Type 0} (Holds : World → Type 0) (Took : K → Report → K → Type 0)
-    (Broke : K → Report → K → Broken → Type 0) (whole : Act) (old : Moment Stage K) (left : Act)
+    (Broke : K → Report → K → Unwritten → Type 0) (whole : Act) (old : Moment Stage K) (left : Act)
     (now : Moment Stage K) : Type 0 where
   pub leads : (new : Moment Stage K) (r : Result (Unit {0}) Halt)
       → DidWhere Holds Took Broke left now new r → Did Took Broke whole old new r
@@ -161,7 +161,7 @@ Awaits n s answers w = AreChecked w.run n s answers
 abbrev pub reaching : ℕ → ℕ → ℕ → Act
 reaching first s k = happen (Deliver (first + k) s)
 
-module _ {K : Type 0} {Took : K → Report → K → Type 0} {Broke : K → Report → K → Broken → Type 0}
+module _ {K : Type 0} {Took : K → Report → K → Type 0} {Broke : K → Report → K → Unwritten → Type 0}
   where
     pub did-where : (Holds : World → Type 0) (act : Act) (old new : Moment Stage K)
         (r : Result (Unit {0}) Halt) → Did Took Broke act old new r

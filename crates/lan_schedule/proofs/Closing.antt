@@ -4,7 +4,7 @@ use Rattle.std.specs.Prelude.{Result, Ok, Err}
 use Rattle.trace_acts.specs.declared.halt.Halt.{Halt}
 use Rattle.trace_acts.specs.declared.halt.Halt.TheVariants as halts
 use Rattle.trace_acts.specs.declared.halt.Kind.TheVariants as kinds
-use Rattle.trace_acts.specs.declared.broken.Broken.{Broken}
+use Rattle.lan_base.specs.declared.sink.Unwritten.{Unwritten}
 use Rattle.lan_schedule.specs.declared.commands.Replay.{Replay}
 use Rattle.lan_schedule.specs.Races.{Phase, Apart, Bursting, Controlling, Racing, Chance}
 use Rattle.lan_schedule.specs.Races.{behind_numbers}
@@ -34,7 +34,7 @@ closes-inside w phase number is inside next =
     ap (λ (p : Phase). perform (close_at p) w) is ∙ stops-at w phase inside
     ∙ ap (λ (n : ℕ). Stops (at_line (line_after w.kept.line) w) (halts.Trace n kinds.NoEnd)) (sym next)
 
-module _ {K : Type 0} {Took : K → Report → K → Type 0} {Broke : K → Report → K → Broken → Type 0}
+module _ {K : Type 0} {Took : K → Report → K → Type 0} {Broke : K → Report → K → Unwritten → Type 0}
   where
     closed-early : (w : World) (later : List Chance) (now : Moment Replay K) (halt : Halt)
         → w.kept.chances ≡ later → IsReached StandsFor w now.value → Closes w (Err halt)

@@ -5,7 +5,7 @@ use Rattle.trace_text.specs.declared.line.Line.{Line}
 use Rattle.trace_acts.specs.declared.halt.Halt.{Halt}
 use Rattle.trace_acts.specs.declared.halt.Halt.TheVariants as halts
 use Rattle.trace_acts.specs.declared.halt.Kind.{Kind}
-use Rattle.trace_acts.specs.declared.broken.Broken.{Broken}
+use Rattle.lan_base.specs.declared.sink.Unwritten.{Unwritten}
 use Rattle.trace_acts.specs.Places.{is_elsewhere}
 use Rattle.lan_schedule.specs.declared.stage.Stage.{Stage}
 use Rattle.lan_schedule.specs.World.{World}
@@ -23,7 +23,7 @@ use Rattle.lan_schedule.proofs.Doing.{told-none}
 use Rattle.lan_schedule.proofs.Happening.{looked-none}
 use Rattle.lan_schedule.proofs.Recorded.{leaves-so, seats-kept}
 
-module _ {K : Type 0} {Took : K → Report → K → Type 0} {Broke : K → Report → K → Broken → Type 0}
+module _ {K : Type 0} {Took : K → Report → K → Type 0} {Broke : K → Report → K → Unwritten → Type 0}
   where
     pub refused-does : (line : Line) (kind : Kind) (now : Moment Stage K)
         → ((w : World) → StandsFor w now.value → refusal_apart line w ≡ Some kind)

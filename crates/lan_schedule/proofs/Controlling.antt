@@ -7,7 +7,7 @@ use Rattle.std.specs.Result.{IsErrAnd}
 use Rattle.trace_acts.specs.declared.halt.Halt.{Halt}
 use Rattle.trace_acts.specs.declared.halt.Halt.TheVariants as halts
 use Rattle.trace_acts.specs.declared.halt.Kind.{Kind}
-use Rattle.trace_acts.specs.declared.broken.Broken.{Broken}
+use Rattle.lan_base.specs.declared.sink.Unwritten.{Unwritten}
 use Rattle.trace_acts.specs.Places.{is_elsewhere, is_race}
 use Rattle.lan_schedule.specs.declared.stage.Stage.{Stage}
 use Rattle.trace_text.specs.declared.line.Line.{Line}
@@ -42,7 +42,7 @@ drop-past [] (suc i) le = refl
 drop-past (x ∷ xs) zero le = absurd (omega arith)
 drop-past (x ∷ xs) (suc i) le = drop-past xs i (omega arith)
 
-module _ {K : Type 0} {Took : K → Report → K → Type 0} {Broke : K → Report → K → Broken → Type 0}
+module _ {K : Type 0} {Took : K → Report → K → Type 0} {Broke : K → Report → K → Unwritten → Type 0}
   where
     pub control-step : (xs : List Numbered) (i : ℕ) (x : Numbered) (whole : Act)
         (old now next : Moment Stage K) → i < length xs → x ≡ get_or xs i x
@@ -95,7 +95,7 @@ frame-of line w stage stands =
 abbrev deed_unless : Line → World → Act
 deed_unless line w = unless_refused (wrong_frame line (length w.kept.frames)) (deed line w)
 
-module _ {K : Type 0} {Took : K → Report → K → Type 0} {Broke : K → Report → K → Broken → Type 0}
+module _ {K : Type 0} {Took : K → Report → K → Type 0} {Broke : K → Report → K → Unwritten → Type 0}
   where
     -- the air has no such frame
     refused-frame : (line : Line) (kind : Kind) (now : Moment Stage K)

@@ -11,7 +11,7 @@ use Rattle.lan_core.specs.declared.settings.Settings.{Settings}
 use Rattle.worker_races.specs.declared.merge.step.Step.{Step}
 use Rattle.trace_acts.specs.declared.halt.Halt.{Halt}
 use Rattle.trace_acts.specs.declared.halt.Halt.TheVariants as halts
-use Rattle.trace_acts.specs.declared.broken.Broken.{Broken}
+use Rattle.lan_base.specs.declared.sink.Unwritten.{Unwritten}
 use Rattle.lan_schedule.specs.declared.stage.Stage.{Stage}
 use Rattle.lan_schedule.specs.Races.{Chance}
 use Rattle.lan_schedule.specs.World.{World, Kept, is_racing, settings}
@@ -110,7 +110,7 @@ module _ {K : Type 0} {Took : K → Report → K → Type 0} where
     few = g.few;
   }
 
-module _ {K : Type 0} {Took : K → Report → K → Type 0} {Broke : K → Report → K → Broken → Type 0}
+module _ {K : Type 0} {Took : K → Report → K → Type 0} {Broke : K → Report → K → Unwritten → Type 0}
   where
     broken-then : (w v u : World) (a b c : K) (halt : Halt) → WasTold Took w v a b
         → WasBroken Took Broke v u b c halt → WasBroken Took Broke w u a c halt
@@ -142,7 +142,7 @@ module _ {K : Type 0} {Took : K → Report → K → Type 0} {Broke : K → Repo
 
 -- ---- how calls end
 
-module _ {K : Type 0} (Took : K → Report → K → Type 0) (Broke : K → Report → K → Broken → Type 0)
+module _ {K : Type 0} (Took : K → Report → K → Type 0) (Broke : K → Report → K → Unwritten → Type 0)
   where
     -- a call that begins where another ended
     pub ends-behind : {R : Type 0} (Stands : World → R → Type 0) (Leaves : Halt → World → R → Type 0)
@@ -282,7 +282,7 @@ changed-since f mark w old new changed since = record {
         (sym same.0) is.1),
   )
 
-module _ {K : Type 0} {Took : K → Report → K → Type 0} {Broke : K → Report → K → Broken → Type 0}
+module _ {K : Type 0} {Took : K → Report → K → Type 0} {Broke : K → Report → K → Unwritten → Type 0}
   where
     -- the first act stopped
     then-err : (f g : Act) (old new : Moment Stage K) (e : Halt)
@@ -364,12 +364,12 @@ module _ {K : Type 0} {Took : K → Report → K → Type 0} {Broke : K → Repo
 
 -- what is left of an act, done from here, is the whole act done from the start
 pub record Leads {K : Type 0} (Took : K → Report → K → Type 0)
-    (Broke : K → Report → K → Broken → Type 0) (whole : Act) (old : Moment Stage K) (left : Act)
+    (Broke : K → Report → K → Unwritten → Type 0) (whole : Act) (old : Moment Stage K) (left : Act)
     (now : Moment Stage K) : Type 0 where
   pub leads : (new : Moment Stage K) (r : Result (Unit {0}) Halt) → Did Took Broke left now new r
       → Did Took Broke whole old new r
 
-module _ {K : Type 0} {Took : K → Report → K → Type 0} {Broke : K → Report → K → Broken → Type 0}
+module _ {K : Type 0} {Took : K → Report → K → Type 0} {Broke : K → Report → K → Unwritten → Type 0}
   where
     pub leads-start : (f : Act) (now : Moment Stage K) → Leads Took Broke f now f now
     leads-start f now = record { leads = λ new r d. d }

@@ -35,12 +35,12 @@ use Rattle.rx_slots.specs.declared.arrival.Checked.{Checked}
 use Rattle.fact_tally.specs.Summary.{counts}
 use Rattle.trace_acts.specs.declared.halt.Halt.{Halt}
 use Rattle.trace_acts.specs.declared.halt.Halt.TheVariants as halts
-use Rattle.trace_acts.specs.declared.broken.Broken.{Broken}
-use Rattle.trace_acts.specs.declared.broken.Broken.TheVariants as broken
+use Rattle.lan_base.specs.declared.sink.Unwritten.{Unwritten}
+use Rattle.lan_base.specs.declared.sink.Unwritten.TheVariants as whys
 use Rattle.trace_acts.specs.Names.{names_of}
 use Rattle.trace_acts.specs.Settings.{rule_of}
 use Rattle.trace_acts.specs.Supply.{draw_at, supply_nth}
-use Rattle.trace_acts.specs.Halts.{halt_of, halt_of_broken}
+use Rattle.trace_acts.specs.Halts.{halt_of, halt_of_unwritten}
 use Rattle.lan_schedule.specs.declared.stage.Stage.{Stage}
 use Rattle.lan_schedule.specs.World.{World, settings, puts, Flow, is_racing}
 use Rattle.lan_schedule.specs.Answers.{supply, taken_by, answered, answer}
@@ -132,9 +132,9 @@ told-by w event facts old new stands goes = record {
 }
 
 -- what an event answers by what its recorder answered
-abbrev pub handed : Result (Unit {0}) Broken → Result (Unit {0}) Halt
+abbrev pub handed : Result (Unit {0}) Unwritten → Result (Unit {0}) Halt
 handed (Ok done) = Ok tt
-handed (Err why) = Err (halt_of_broken why)
+handed (Err why) = Err (halt_of_unwritten why)
 
 -- what the group keeps beside the step
 pub record Keeps (event : Event) (facts : List Fact) (old new : Stage) : Type 0 where
@@ -362,16 +362,16 @@ step-back : (earlier mid : Stage) → mid ≡ record earlier { lan = mid.lan; dr
     → before_step earlier mid ≡ earlier
 step-back earlier mid same = ap (λ (s : Stage). before_step earlier s) same
 
-module _ {K : Type 0} (Took : K → Report → K → Type 0) (Broke : K → Report → K → Broken → Type 0)
+module _ {K : Type 0} (Took : K → Report → K → Type 0) (Broke : K → Report → K → Unwritten → Type 0)
   where
     -- the facts of an event were told, or the recorder broke at them
     told-ends : (mark : Mark) (w : World) (event : Event) (facts : List Fact) (later : List Chance)
-        (a : K) (new : Moment Stage K) (why : Result (Unit {0}) Broken)
+        (a : K) (new : Moment Stage K) (why : Result (Unit {0}) Unwritten)
         → (world_after w event facts).kept.chances ≡ later → IsTidy (world_after w event facts)
         → StandsSince mark (world_after w event facts) new.value
         → MatchResult why (λ _. Took a (report_of event facts w) new.outlet)
         (λ y. Broke a (report_of event facts w) new.outlet y
-        ⊎ ((y ≡ broken.Memory) × (new.outlet ≡ a)))
+        ⊎ ((y ≡ whys.Memory) × (new.outlet ≡ a)))
         → answer w event ≡ Ok facts → IsTidy w
         → Ends (StandsSince mark) (LeavesAt mark) Counts Took Broke w later (happen event) a new
         (handed why)
@@ -407,7 +407,7 @@ module _ {K : Type 0} (Took : K → Report → K → Type 0) (Broke : K → Repo
           is = refl;
         })
         | inr wants ↦ inl (
-          ap (λ (y : Broken). halt_of_broken y) wants.0,
+          ap (λ (y : Unwritten). halt_of_unwritten y) wants.0,
           record {
             world = w;
             tidy = before;
@@ -450,17 +450,17 @@ plain-set event mark w stage set left reached = record {
   tidy = reached.tidy;
 }
 
-module _ {K : Type 0} {Took : K → Report → K → Type 0} {Broke : K → Report → K → Broken → Type 0}
+module _ {K : Type 0} {Took : K → Report → K → Type 0} {Broke : K → Report → K → Unwritten → Type 0}
   where
     -- what follows a step was done, and its facts were told, or the recorder broke at them
     pub event-went : (event : Event) (facts : List Fact) (mid : Stage) (old new : Moment Stage K)
-        (why : Result (Unit {0}) Broken) → IsTyped event → mid.lan ≡ new.value.lan
+        (why : Result (Unit {0}) Unwritten) → IsTyped event → mid.lan ≡ new.value.lan
         → mid.draws ≡ new.value.draws
         → Keeps event facts old.value new.value → KeepsThrift → Beside
         → MatchResult why
         (λ _. Took old.outlet (record { names = new.value.names.items; facts = facts }) new.outlet)
         (λ y. Broke old.outlet (record { names = new.value.names.items; facts = facts }) new.outlet y
-        ⊎ ((y ≡ broken.Memory) × (new.outlet ≡ old.outlet)))
+        ⊎ ((y ≡ whys.Memory) × (new.outlet ≡ old.outlet)))
         → WentOn Took Broke event facts mid old new (handed why)
     event-went event facts mid old new why typed lan draws keeps thrift laws wrote = record {
       ends = λ mark w later left reached comes went.
@@ -491,7 +491,7 @@ module _ {K : Type 0} {Took : K → Report → K → Type 0} {Broke : K → Repo
           (subst (λ (names : List (List ℕ)). MatchResult why
           (λ _. Took old.outlet (record { names = names; facts = facts }) new.outlet)
           (λ y. Broke old.outlet (record { names = names; facts = facts }) new.outlet y
-          ⊎ ((y ≡ broken.Memory) × (new.outlet ≡ old.outlet))))
+          ⊎ ((y ≡ whys.Memory) × (new.outlet ≡ old.outlet))))
           after_it.names wrote) told.answers reached.tidy;
       seats = keeps.seats;
       still = keeps.still;

@@ -8,7 +8,7 @@ use Rattle.lan_core.specs.declared.event.Event.TheVariants as events
 use Rattle.worker_races.specs.Carded.{AreCarded}
 use Rattle.trace_acts.specs.declared.halt.Halt.{Halt}
 use Rattle.trace_acts.specs.declared.links.Link.{Link}
-use Rattle.trace_acts.specs.declared.broken.Broken.{Broken}
+use Rattle.lan_base.specs.declared.sink.Unwritten.{Unwritten}
 use Rattle.trace_acts.specs.Links.{is_cut}
 use Rattle.trace_acts.specs.Supply.{supply_nth}
 use Rattle.lan_schedule.specs.declared.frames.Put.{Put}
@@ -108,7 +108,7 @@ round-begun old new same flow =
     (λ w stands. flow ∙ ap (λ (f : Flow). record { frames = f.frames; rounds = round_after f.rounds })
     stands.flow)
 
-module _ {K : Type 0} {Took : K → Report → K → Type 0} {Broke : K → Report → K → Broken → Type 0}
+module _ {K : Type 0} {Took : K → Report → K → Type 0} {Broke : K → Report → K → Unwritten → Type 0}
   where
     -- one for each station
     pub stations-leads : (f : ℕ → Act) (n : ℕ) (now : Moment Stage K)

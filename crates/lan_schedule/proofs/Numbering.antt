@@ -15,7 +15,7 @@ use Rattle.lan_core.specs.Ledgers.{claims}
 use Rattle.lan_core.specs.Run.{Run, facts_of}
 use Rattle.fact_tally.specs.Summary.{Counts as Tallied, counts, is_claim, most}
 use Rattle.worker_races.specs.Senders.{jobs_of}
-use Rattle.trace_acts.specs.declared.broken.Broken.{Broken}
+use Rattle.lan_base.specs.declared.sink.Unwritten.{Unwritten}
 use Rattle.trace_acts.specs.declared.halt.Halt.{Halt}
 use Rattle.trace_acts.specs.declared.halt.Halt.TheVariants as halts
 use Rattle.lan_schedule.specs.declared.stage.Stage.{Stage}
@@ -94,7 +94,7 @@ over-isnt w stage more asked stands users claimed =
 
 -- ---- a user frame more
 
-module _ {K : Type 0} {Took : K → Report → K → Type 0} {Broke : K → Report → K → Broken → Type 0}
+module _ {K : Type 0} {Took : K → Report → K → Type 0} {Broke : K → Report → K → Unwritten → Type 0}
   where
     -- it has no number
     pub over-does : (user : UserFrame) (s : ℕ) (now : Moment Stage K) → IsOver now.value 1 1

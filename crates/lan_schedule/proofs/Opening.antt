@@ -20,7 +20,7 @@ use Rattle.trace_acts.specs.declared.choices.Choices.{Choices}
 use Rattle.trace_acts.specs.declared.halt.Halt.{Halt}
 use Rattle.trace_acts.specs.declared.halt.Halt.TheVariants as halts
 use Rattle.trace_acts.specs.declared.halt.Kind.{Kind}
-use Rattle.trace_acts.specs.declared.broken.Broken.{Broken}
+use Rattle.lan_base.specs.declared.sink.Unwritten.{Unwritten}
 use Rattle.trace_acts.specs.Supply.{draw_at, supply_nth}
 use Rattle.trace_acts.specs.Settings.{settings_of, lag_of, rule_of, unkeyed}
 use Rattle.trace_acts.specs.Kinds.{first_of, is_allowed}
@@ -234,7 +234,7 @@ begun-same (lines.Station name sci priority) w station = (refl, way) where
   way u (inr on) = inr on
 begun-same _ w station = absurd station
 
-module _ {K : Type 0} {Took : K → Report → K → Type 0} {Broke : K → Report → K → Broken → Type 0}
+module _ {K : Type 0} {Took : K → Report → K → Type 0} {Broke : K → Report → K → Unwritten → Type 0}
   where
     pub unbegun-refused : (line : Line) (kind : Kind) (now : Moment Replay K)
         → now.value.stage ≡ None

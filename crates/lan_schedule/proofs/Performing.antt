@@ -6,7 +6,7 @@ use Rattle.std.specs.Cmp.Lexicographic.{pointwise}
 use Rattle.trace_text.specs.declared.line.Line.{Line}
 use Rattle.trace_text.specs.declared.line.Line.TheVariants as lines
 use Rattle.trace_acts.specs.declared.halt.Halt.{Halt}
-use Rattle.trace_acts.specs.declared.broken.Broken.{Broken}
+use Rattle.lan_base.specs.declared.sink.Unwritten.{Unwritten}
 use Rattle.trace_acts.specs.Places.{is_elsewhere, is_race}
 use Rattle.lan_schedule.specs.declared.stage.Stage.{Stage}
 use Rattle.lan_schedule.specs.World.{World, place}
@@ -32,7 +32,7 @@ place-is w stage name s stands tidy is =
     let at : s ≡ position_or_len (pointwise nat_eq name) stage.names.items = is (omega arith) in
     at ∙ ap (λ (names : List (List ℕ)). position_or_len (pointwise nat_eq name) names) stands.names
 
-module _ {K : Type 0} {Took : K → Report → K → Type 0} {Broke : K → Report → K → Broken → Type 0}
+module _ {K : Type 0} {Took : K → Report → K → Type 0} {Broke : K → Report → K → Unwritten → Type 0}
   where
     pub one-place : (line : Line) (name : List ℕ) (act : ℕ → Act) (s : ℕ) (old new : Moment Stage K)
         (r : Result (Unit {0}) Halt)

@@ -14,7 +14,7 @@ use Rattle.trace_acts.specs.declared.halt.Halt.{Halt}
 use Rattle.trace_acts.specs.declared.halt.Halt.TheVariants as halts
 use Rattle.trace_acts.specs.declared.halt.Kind.{Kind}
 use Rattle.trace_acts.specs.declared.halt.Kind.TheVariants as kinds
-use Rattle.trace_acts.specs.declared.broken.Broken.{Broken}
+use Rattle.lan_base.specs.declared.sink.Unwritten.{Unwritten}
 use Rattle.trace_acts.specs.Names.{names_of, is_in}
 use Rattle.trace_acts.specs.Kinds.{or_else, where_, first_of, unknown}
 use Rattle.trace_acts.specs.Places.{is_race}
@@ -277,7 +277,7 @@ staged-in : (w : World) (replay : Replay) (stage : Stage) → replay.stage ≡ S
 staged-in w replay stage is stands =
     subst (λ (o : Option Stage). IsStaged w replay o) is stands.stage
 
-module _ {K : Type 0} {Took : K → Report → K → Type 0} {Broke : K → Report → K → Broken → Type 0}
+module _ {K : Type 0} {Took : K → Report → K → Type 0} {Broke : K → Report → K → Unwritten → Type 0}
   where
     taken-early : (line : Line) (w : World) (later : List Chance) (halt : Halt)
         (old new : Moment Replay K) → IsReached StandsFor w old.value → Counts w new.value

@@ -14,7 +14,7 @@ use Rattle.station_words.specs.Seats.{AreAllIn}
 use Rattle.station_words.specs.Ties.{tables_of}
 use Rattle.trace_acts.specs.Names.{names_of}
 use Rattle.trace_acts.specs.declared.halt.Halt.{Halt}
-use Rattle.trace_acts.specs.declared.broken.Broken.{Broken}
+use Rattle.lan_base.specs.declared.sink.Unwritten.{Unwritten}
 use Rattle.lan_schedule.specs.declared.race.Before.{Before}
 use Rattle.lan_schedule.specs.declared.race.Ran.{Ran}
 use Rattle.lan_schedule.specs.declared.stage.Stage.{Stage}
@@ -123,7 +123,7 @@ not-hired : (bursts : List Burst) (w : World) (halt : Halt) → WasBegun bursts 
 not-hired bursts w halt was (inl stops) = began-one bursts w halt (excess_of bursts w) was.room stops
 not-hired bursts w halt was (inr memory) = was.memory (ap (λ (h : Halt). Err h) memory)
 
-module _ {K : Type 0} {Took : K → Report → K → Type 0} {Broke : K → Report → K → Broken → Type 0}
+module _ {K : Type 0} {Took : K → Report → K → Type 0} {Broke : K → Report → K → Unwritten → Type 0}
   where
     -- nobody was hired
     pub unhired-does : (bursts : List Burst) (control : List Numbered) (old new : Moment Stage K)

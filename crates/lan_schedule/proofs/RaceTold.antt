@@ -10,8 +10,8 @@ use Rattle.lan_core.specs.Run.{facts_of}
 use Rattle.fact_tally.specs.Summary.{counts}
 use Rattle.trace_acts.specs.declared.halt.Halt.{Halt}
 use Rattle.trace_acts.specs.declared.halt.Halt.TheVariants as halts
-use Rattle.trace_acts.specs.declared.broken.Broken.{Broken}
-use Rattle.trace_acts.specs.Halts.{halt_of_broken}
+use Rattle.lan_base.specs.declared.sink.Unwritten.{Unwritten}
+use Rattle.trace_acts.specs.Halts.{halt_of_unwritten}
 use Rattle.lan_schedule.specs.declared.race.Before.{Before}
 use Rattle.lan_schedule.specs.declared.race.Ran.{Ran}
 use Rattle.lan_schedule.specs.declared.stage.Stage.{Stage}
@@ -81,8 +81,8 @@ module _ {S K : Type 0} (Ready : S → List Report → Type 0) (Took : K → Rep
             ready = next.1;
           }
 
-  pub told-stops : (Broke : K → Report → K → Broken → Type 0) (count many : ℕ) (start a b : K) (s : S)
-      (why : Broken) → count < many → length all ≡ many → HasTold Ready Took all count start s a
+  pub told-stops : (Broke : K → Report → K → Unwritten → Type 0) (count many : ℕ) (start a b : K) (s : S)
+      (why : Unwritten) → count < many → length all ≡ many → HasTold Ready Took all count start s a
       → ((report : Report) (later : List Report) → Ready s (report ∷ later) → Broke a report b why)
       → WereToldUpTo Took Broke all start b why
   told-stops Broke count many start a b s why less long h step = go h.left h.parts h.ready
@@ -120,16 +120,16 @@ reports-many names shown count is =
     length-map shown (λ (facts : List Fact). record { names = names; facts = facts }) ∙ sym is
 
 -- an error that `?` hands on
-pub match-err : (A : Unit {0} → Type 0) (B : Broken → Type 0) (r : Result (Unit {0}) Broken)
-    (e : Broken) → IsErrAnd r (λ y. y ≡ e) → B e → MatchResult r A B
+pub match-err : (A : Unit {0} → Type 0) (B : Unwritten → Type 0) (r : Result (Unit {0}) Unwritten)
+    (e : Unwritten) → IsErrAnd r (λ y. y ≡ e) → B e → MatchResult r A B
 match-err A B r e is told =
     let p = err_from_is_err_and r is in
-    subst (λ (r : Result (Unit {0}) Broken). MatchResult r A B)
-    (sym (p.1 ∙ ap (λ (y : Broken). Err y) p.2)) told
+    subst (λ (r : Result (Unit {0}) Unwritten). MatchResult r A B)
+    (sym (p.1 ∙ ap (λ (y : Unwritten). Err y) p.2)) told
 
 -- ---- the end of a race
 
-module _ {K : Type 0} (Took : K → Report → K → Type 0) (Broke : K → Report → K → Broken → Type 0)
+module _ {K : Type 0} (Took : K → Report → K → Type 0) (Broke : K → Report → K → Unwritten → Type 0)
     (before : Before) (ran : Ran) (now old new : Stage) (k : K)
     (is_old : old ≡ record now { line = before.line; tally = before.tally }) where
   old-at : (w : World) → before.line ≡ w.kept.line → before.tally ≡ counts (facts_of w.run)
@@ -177,10 +177,10 @@ module _ {K : Type 0} (Took : K → Report → K → Type 0) (Broke : K → Repo
     })
 
   -- the recorder broke
-  pub race-broken : (shown : List (List Fact)) (came : Result (Unit {0}) Halt) (l : K) (why : Broken)
+  pub race-broken : (shown : List (List Fact)) (came : Result (Unit {0}) Halt) (l : K) (why : Unwritten)
       → Weaves ran old new (Ok (shown, came))
       → WereToldUpTo Took Broke (reports_with new.names.items shown) k l why
-      → EndsRace Took Broke before ran (moment now k) (moment new l) (Err (halt_of_broken why))
+      → EndsRace Took Broke before ran (moment now k) (moment new l) (Err (halt_of_unwritten why))
   race-broken shown came l why weaves told = record {
     chances = weaves.chances;
     ends = λ w later workers lines has left line tally.
@@ -193,7 +193,7 @@ module _ {K : Type 0} (Took : K → Report → K → Type 0) (Broke : K → Repo
         → is_racing w.kept.phase ≡ false → (v : World) → IsLeft w v new shown
         → world_of (perform (race workers (control_act lines)) w) ≡ v
         → Ends StandsFor (λ halt. Counts) Counts Took Broke w later (race workers (control_act lines)) k
-        (moment new l) (Err (halt_of_broken why))
+        (moment new l) (Err (halt_of_unwritten why))
     cut w later workers lines apart v left comes = inr (record {
       world = v;
       tidy = left.tidy;
@@ -218,7 +218,7 @@ module _ {K : Type 0} (Took : K → Report → K → Type 0) (Broke : K → Repo
         → is_racing w.kept.phase ≡ false → (c : Result (Unit {0}) Halt)
         → Leaves w later (perform (race workers (control_act lines)) w) new shown c
         → Ends StandsFor (λ halt. Counts) Counts Took Broke w later (race workers (control_act lines)) k
-        (moment new l) (Err (halt_of_broken why))
+        (moment new l) (Err (halt_of_unwritten why))
     by w later workers lines apart (Ok tt) h =
         cut w later workers lines apart h.0 h.2 (ap (λ (o : Course). world_of o) h.1)
     by w later workers lines apart (Err halt) h =
@@ -226,7 +226,7 @@ module _ {K : Type 0} (Took : K → Report → K → Type 0) (Broke : K → Repo
 
 -- no memory
 pub race-wanting : {K : Type 0} (Took : K → Report → K → Type 0)
-    (Broke : K → Report → K → Broken → Type 0) (before : Before) (ran : Ran) (now new : Stage) (k : K)
+    (Broke : K → Report → K → Unwritten → Type 0) (before : Before) (ran : Ran) (now new : Stage) (k : K)
     → new.tally ≡ before.tally
     → EndsRace Took Broke before ran (moment now k) (moment new k) (Err halts.Memory)
 race-wanting Took Broke before ran now new k same = record {
@@ -239,7 +239,7 @@ race-wanting Took Broke before ran now new k same = record {
 
 -- an error that `?` hands on ends the race
 pub race-handed : {K : Type 0} (Took : K → Report → K → Type 0)
-    (Broke : K → Report → K → Broken → Type 0) (before : Before) (ran : Ran) (old new : Moment Stage K)
+    (Broke : K → Report → K → Unwritten → Type 0) (before : Before) (ran : Ran) (old new : Moment Stage K)
     (e : Halt) (r : Result (Unit {0}) Halt) → EndsRace Took Broke before ran old new (Err e)
     → IsErrAnd r (λ y. y ≡ e) → EndsRace Took Broke before ran old new r
 race-handed Took Broke before ran old new e r ends is =

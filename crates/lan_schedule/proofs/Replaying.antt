@@ -9,7 +9,7 @@ use Rattle.fact_tally.specs.Summary.{counts}
 use Rattle.trace_acts.specs.declared.choices.Choices.{Choices}
 use Rattle.trace_acts.specs.declared.halt.Halt.{Halt}
 use Rattle.trace_acts.specs.declared.halt.Halt.TheVariants as halts
-use Rattle.trace_acts.specs.declared.broken.Broken.{Broken}
+use Rattle.lan_base.specs.declared.sink.Unwritten.{Unwritten}
 use Rattle.trace_acts.specs.Names.{names_of}
 use Rattle.trace_acts.specs.declared.halt.Halt.TheVariants.{Limit}
 use Rattle.lan_schedule.specs.declared.stage.Stage.{Stage}
@@ -50,7 +50,7 @@ has-tally w replay (Some stage) h = h.tally
 pub stands-counts : (w : World) (replay : Replay) → StandsFor w replay → Counts w replay
 stands-counts w replay stands = has-tally w replay replay.stage stands.stage
 
-module _ {K : Type 0} {Took : K → Report → K → Type 0} {Broke : K → Report → K → Broken → Type 0}
+module _ {K : Type 0} {Took : K → Report → K → Type 0} {Broke : K → Report → K → Unwritten → Type 0}
   where
     -- an act that comes to the same
     unfoldable pub same-act : (f g : Act) (old new : Moment Replay K) (r : Result (Unit {0}) Halt)
@@ -197,7 +197,7 @@ stood-apart stood.Apart = refl
 stood-apart (stood.Bursting bursts) = refl
 stood-apart (stood.Controlling bursts control) = refl
 
-module _ {K : Type 0} (Took : K → Report → K → Type 0) (Broke : K → Report → K → Broken → Type 0)
+module _ {K : Type 0} (Took : K → Report → K → Type 0) (Broke : K → Report → K → Unwritten → Type 0)
   where
     staged-ends : (mark : Mark) (w : World) (later : List Chance) (act : Act) (a k : K) (stage : Stage)
         (replay : Replay) (r : Result (Unit {0}) Halt) → replay.stage ≡ Some stage
@@ -219,7 +219,7 @@ module _ {K : Type 0} (Took : K → Report → K → Type 0) (Broke : K → Repo
         (leaves-counts mark halt v stage leaves))
         (λ v tally. subst (λ (o : Option Stage). HasTally v replay o) (sym is) tally) h
 
-module _ {K : Type 0} {Took : K → Report → K → Type 0} {Broke : K → Report → K → Broken → Type 0}
+module _ {K : Type 0} {Took : K → Report → K → Type 0} {Broke : K → Report → K → Unwritten → Type 0}
   where
     -- what a group at work did, the replay did
     pub staged-does : (act : Act) (old new : Moment Replay K) (stage later : Stage)
@@ -396,7 +396,7 @@ pub race-apart : (bursts : List Burst) (control : List Numbered) (w v : World)
     → perform (run_race bursts control w) w ≡ Goes v → v.kept.phase ≡ Apart
 race-apart bursts control w v e = apart-behind bursts control w v (excess_of bursts w) e
 
-module _ {K : Type 0} {Took : K → Report → K → Type 0} {Broke : K → Report → K → Broken → Type 0}
+module _ {K : Type 0} {Took : K → Report → K → Type 0} {Broke : K → Report → K → Unwritten → Type 0}
   where
     -- what stands for no world
     pub never-does : (act : Act) (old new : Moment Replay K) (r : Result (Unit {0}) Halt)

@@ -7,7 +7,7 @@ use Rattle.trace_text.specs.declared.line.Line.{Line}
 use Rattle.trace_text.specs.declared.line.Line.TheVariants as lines
 use Rattle.trace_text.specs.Reading.{line_in}
 use Rattle.trace_acts.specs.Names.{names_of}
-use Rattle.trace_acts.specs.declared.broken.Broken.{Broken}
+use Rattle.lan_base.specs.declared.sink.Unwritten.{Unwritten}
 use Rattle.trace_acts.specs.declared.halt.Halt.{Halt}
 use Rattle.trace_acts.specs.declared.halt.Halt.TheVariants as halts
 use Rattle.lan_schedule.specs.declared.commands.Replay.{Replay}
@@ -42,7 +42,7 @@ no-race (Bursting bursts) w calm = refl
 no-race (Controlling bursts control) w calm = absurd (let bad : true ≡ false = calm in cc bad)
 no-race Racing w calm = refl
 
-module _ {K : Type 0} {Took : K → Report → K → Type 0} {Broke : K → Report → K → Broken → Type 0}
+module _ {K : Type 0} {Took : K → Report → K → Type 0} {Broke : K → Report → K → Unwritten → Type 0}
   where
     -- an act that comes to the same
     pub runs-act : (made : World → World) (f g : Act) (old new : Moment Replay K)

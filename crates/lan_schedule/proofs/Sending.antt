@@ -15,7 +15,7 @@ use Rattle.worker_races.specs.Carded.{AreCarded}
 use Rattle.worker_races.proofs.Public.{carded-kept}
 use Rattle.trace_acts.specs.declared.halt.Halt.{Halt}
 use Rattle.trace_acts.specs.declared.links.Link.{Link}
-use Rattle.trace_acts.specs.declared.broken.Broken.{Broken}
+use Rattle.lan_base.specs.declared.sink.Unwritten.{Unwritten}
 use Rattle.trace_acts.specs.Links.{with_link, without_link}
 use Rattle.trace_acts.proofs.Public.{user-at-end}
 use Rattle.lan_schedule.specs.declared.stage.Stage.{Stage}
@@ -130,7 +130,7 @@ taken-none false next n taken none = sym taken.0 ∙ none
 taken-none true next n (inl some) none = absurd (let low = some.0 in let few = some.1 in omega (arith, low, few, none))
 taken-none true next n (inr both) none = both.0
 
-module _ {K : Type 0} {Took : K → Report → K → Type 0} {Broke : K → Report → K → Broken → Type 0}
+module _ {K : Type 0} {Took : K → Report → K → Type 0} {Broke : K → Report → K → Unwritten → Type 0}
   where
     pub begin-does : (now : Moment Stage K) → Did Took Broke begin now now (Ok tt)
     begin-does now = change-does _ now now (λ kept. (refl, refl)) (begun-again now.value) refl

@@ -10,7 +10,7 @@ use Rattle.station_words.proofs.Public.{looked-none}
 use Rattle.trace_acts.specs.declared.halt.Halt.{Halt}
 use Rattle.trace_acts.specs.declared.halt.Halt.TheVariants as halts
 use Rattle.trace_acts.specs.Names.{names_of}
-use Rattle.trace_acts.specs.Halts.{halt_of_broken}
+use Rattle.trace_acts.specs.Halts.{halt_of_unwritten}
 use Rattle.lan_schedule.specs.declared.stage.Stage.{Stage}
 use Rattle.lan_schedule.specs.Races.{Chance, Worker, behind_numbers}
 use Rattle.lan_schedule.specs.World.{World, is_racing, settings}
@@ -40,7 +40,7 @@ kept-told old (report ∷ told) new are =
 pub broken-memory : (w v : World) (old new : List (List Fact)) (halt : Halt)
     → WasBroken KeepsReport KeepsNoMore w v old new halt → halt ≡ halts.Memory
 broken-memory w v old new halt broken =
-    broken.is ∙ ap (λ why. halt_of_broken why) broken.breaks
+    broken.is ∙ ap (λ why. halt_of_unwritten why) broken.breaks
 
 -- ---- where control came to
 

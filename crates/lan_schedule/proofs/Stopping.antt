@@ -19,7 +19,7 @@ use Rattle.lan_schedule.specs.Acts.{emitting, beside}
 -- a reason for which an act may stop
 abbrev IsReason : Halt → Type 0
 IsReason halts.Memory = ⊥
-IsReason halts.Broken = ⊥
+IsReason halts.WriteFault = ⊥
 IsReason _ = Unit {0}
 
 abbrev Stays : Course → Type 0
@@ -68,7 +68,7 @@ stays (race workers control) w =
     (stays control (begun_race workers w))
 
 pub never-broken : (act : Act) (w v : World) (halt : Halt) → perform act w ≡ Stops v halt
-    → (halt ≡ halts.Memory) ⊎ (halt ≡ halts.Broken) → ⊥
+    → (halt ≡ halts.Memory) ⊎ (halt ≡ halts.WriteFault) → ⊥
 never-broken act w v halt is (inl memory) =
     subst IsReason memory (subst Stays is (stays act w))
 never-broken act w v halt is (inr broken) =

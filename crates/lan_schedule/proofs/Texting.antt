@@ -6,7 +6,7 @@ use Rattle.trace_text.specs.declared.line.Line.{Line}
 use Rattle.trace_text.specs.Reading.{line_in, fault_in, first_fault}
 use Rattle.trace_acts.specs.declared.halt.Halt.{Halt}
 use Rattle.trace_acts.specs.declared.halt.Halt.TheVariants as halts
-use Rattle.trace_acts.specs.declared.broken.Broken.{Broken}
+use Rattle.lan_base.specs.declared.sink.Unwritten.{Unwritten}
 use Rattle.trace_acts.specs.Kinds.{kind_of_fault}
 use Rattle.lan_schedule.specs.declared.commands.Replay.{Replay}
 use Rattle.lan_schedule.specs.Races.{Chance, behind_numbers}
@@ -32,7 +32,7 @@ pub fault-is : (said : Result (Option Line) TextFault) (fault : TextFault) → f
 fault-is (Ok line) fault e = absurd (cc e)
 fault-is (Err other) fault e = let same : other ≡ fault = cc in ap (λ (f : TextFault). Err f) same
 
-module _ {K : Type 0} {Took : K → Report → K → Type 0} {Broke : K → Report → K → Broken → Type 0}
+module _ {K : Type 0} {Took : K → Report → K → Type 0} {Broke : K → Report → K → Unwritten → Type 0}
   where
     pub skipped-does : (text : List ℕ) (number : ℕ) (old new : Moment Replay K)
         → ((w : World) → StandsFor w old.value → number ≡ line_after w.kept.line)

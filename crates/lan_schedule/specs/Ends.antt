@@ -4,8 +4,8 @@
 use Rattle.std.specs.Prelude.{◌≡◌, ◌⊎◌, ◌≤◌, false, List, [], ◌∷◌, ◌++◌, length, Result, Ok, Err}
 use Rattle.trace_acts.specs.declared.halt.Halt.{Halt}
 use Rattle.trace_acts.specs.declared.halt.Halt.TheVariants as halts
-use Rattle.trace_acts.specs.declared.broken.Broken.{Broken}
-use Rattle.trace_acts.specs.Halts.{halt_of_broken}
+use Rattle.lan_base.specs.declared.sink.Unwritten.{Unwritten}
+use Rattle.trace_acts.specs.Halts.{halt_of_unwritten}
 use Rattle.lan_schedule.specs.Races.{Chance, behind_numbers}
 use Rattle.lan_schedule.specs.Sound.{IsTidy}
 use Rattle.lan_schedule.specs.World.{World, is_racing}
@@ -35,7 +35,7 @@ pub record WasTold {K : Type 0} (Took : K → Report → K → Type 0) (w v : Wo
 -- From one world up to another all was told up to the report at which the recorder broke. It is that
 -- of the last event: only a race happens as a whole before it is told.
 pub record WasBroken {K : Type 0} (Took : K → Report → K → Type 0)
-    (Broke : K → Report → K → Broken → Type 0) (w v : World) (old new : K) (halt : Halt) :
+    (Broke : K → Report → K → Unwritten → Type 0) (w v : World) (old new : K) (halt : Halt) :
     Type 0 where
   pub told : List Report
   pub last : Report
@@ -44,9 +44,9 @@ pub record WasBroken {K : Type 0} (Took : K → Report → K → Type 0)
   pub prompt : v.kept.raced ≡ false → behind ≡ []
   pub before : K
   pub by_one : AreTold Took old told before
-  pub why : Broken
+  pub why : Unwritten
   pub breaks : Broke before last new why
-  pub is : halt ≡ halt_of_broken why
+  pub is : halt ≡ halt_of_unwritten why
 
 -- The act stopped in a tidy world, of which the value has what such a halt leaves; all was told, and a
 -- number that the act was to show may be left.
@@ -86,7 +86,7 @@ pub record WasToldTo {K : Type 0} (Took : K → Report → K → Type 0) (w v : 
 -- A tidy world was reached on the way, where memory was wanting, or the outlet broke. Of a race nothing
 -- is on the way: for want of memory none of it was told, or all, unless the outlet itself took no more.
 pub record WasCut {R K : Type 0} (Counts : World → R → Type 0) (Took : K → Report → K → Type 0)
-    (Broke : K → Report → K → Broken → Type 0) (w : World) (IsOn : World → Type 0) (old : K)
+    (Broke : K → Report → K → Unwritten → Type 0) (w : World) (IsOn : World → Type 0) (old : K)
     (new : Moment R K) (halt : Halt) : Type 0 where
   pub world : World
   pub tidy : IsTidy world
@@ -100,7 +100,7 @@ pub record WasCut {R K : Type 0} (Counts : World → R → Type 0) (Took : K →
 -- where it began there, and with the chances that come behind it. Its value then stands for the
 -- world; where it ended early it has its tally, and at a stop what the halt leaves.
 abbrev pub Ends : {R K : Type 0} → (World → R → Type 0) → (Halt → World → R → Type 0)
-    → (World → R → Type 0) → (K → Report → K → Type 0) → (K → Report → K → Broken → Type 0) → World → List Chance → Act
+    → (World → R → Type 0) → (K → Report → K → Type 0) → (K → Report → K → Unwritten → Type 0) → World → List Chance → Act
     → K → Moment R K → Result (Unit {0}) Halt → Type 0
 Ends Stands Leaves Counts Took Broke w later act old new (Ok done) =
     (v : World) × (perform act w ≡ Goes v) × IsReached Stands v new.value

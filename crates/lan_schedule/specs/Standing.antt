@@ -9,7 +9,7 @@ use Rattle.fact_tally.specs.Summary.{counts}
 use Rattle.lan_base.specs.Ranges.{IsCkn}
 use Rattle.trace_acts.specs.declared.choices.Keyed.{Keyed}
 use Rattle.trace_acts.specs.declared.halt.Halt.{Halt}
-use Rattle.trace_acts.specs.declared.broken.Broken.{Broken}
+use Rattle.lan_base.specs.declared.sink.Unwritten.{Unwritten}
 use Rattle.trace_acts.specs.Names.{names_of}
 use Rattle.lan_schedule.specs.declared.stage.Stage.{Stage}
 use Rattle.lan_schedule.specs.declared.phase.Phase.{Phase as Stood}
@@ -90,7 +90,7 @@ Counts w replay = HasTally w replay replay.stage
 -- A call did an act, in each world for which its replay may stand, and whose chances begin with
 -- those that were decided in the call. What it told is told behind whatever was told before.
 pub record Does {K : Type 0} (Took : K → Report → K → Type 0)
-    (Broke : K → Report → K → Broken → Type 0) (act : Act) (old new : Moment Replay K)
+    (Broke : K → Report → K → Unwritten → Type 0) (act : Act) (old new : Moment Replay K)
     (result : Result (Unit {0}) Halt) : Type 0 where
   pub chances : List Chance
   pub ends : (w : World) (later : List Chance) → w.kept.chances ≡ chances ++ later

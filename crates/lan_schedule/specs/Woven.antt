@@ -7,7 +7,7 @@ use Rattle.lan_core.specs.Parts.{followed_by}
 use Rattle.worker_races.specs.merge.Weaving.{IsWoven}
 use Rattle.worker_races.specs.Beside.{Race, WereBeside, attempts_in, part_in}
 use Rattle.worker_races.specs.Performed.{happenings, run_after}
-use Rattle.trace_acts.specs.declared.broken.Broken.{Broken}
+use Rattle.lan_base.specs.declared.sink.Unwritten.{Unwritten}
 use Rattle.trace_acts.specs.declared.halt.Halt.{Halt}
 use Rattle.trace_acts.specs.declared.halt.Halt.TheVariants.{Memory}
 use Rattle.lan_schedule.specs.declared.commands.Replay.{Replay}
@@ -81,7 +81,7 @@ pub record WasBegun (bursts : List Burst) (w : World) (result : Result (Unit {0}
 -- was called, as by the number of its line. However the call ended, a race that was begun was woven
 -- so, and the words behind it are those that the call leaves.
 pub record RunsRace {K : Type 0} (Took : K → Report → K → Type 0)
-    (Broke : K → Report → K → Broken → Type 0) (made : World → World) (act : Act)
+    (Broke : K → Report → K → Unwritten → Type 0) (made : World → World) (act : Act)
     (old new : Moment Replay K) (result : Result (Unit {0}) Halt) : Type 0 where
   pub does : Does Took Broke act old new result
   pub woven : (w : World) (later : List Chance) → w.kept.chances ≡ does.chances ++ later

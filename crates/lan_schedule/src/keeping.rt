@@ -4,12 +4,11 @@ ghost use Rattle.std.specs.Prelude.{◌≡◌, ◌++◌, ◌∷◌, [], OnOk, If
 ghost use Rattle.lan_schedule.specs.inside.Weaves.{first_kept, rest_kept, reports_with};
 
 use crate::recorder::{Preparing, Recorder};
-use lan_base::Name;
+use lan_base::{Name, Unwritten};
 use lan_core::Facts;
 use std::alloc::{AllocError, Global};
 use std::collections::VecDeque;
 use std::marker::Model;
-use trace_acts::Broken;
 
 /// The facts of events, the oldest first. Contracts see a list for each event.
 #[derive(Drop)]
@@ -79,7 +78,12 @@ impl Recorder<Kept> for Keeping {
 
     ghost Broke = { KeepsNoMore };
 
-    fn record(&mut self, _names: &[Name], facts: Facts, outlet: &mut Kept) -> Result<(), Broken> {
+    fn record(
+        &mut self,
+        _names: &[Name],
+        facts: Facts,
+        outlet: &mut Kept,
+    ) -> Result<(), Unwritten> {
         outlet.keep(facts)?;
         Ok(())
     }

@@ -48,7 +48,7 @@ pub fn law_lines_leave_a_tidy_world()
 /// An act stops for a reason of its own: never for want of memory, nor since a recorder failed.
 pub fn law_acts_stop_for_their_own_reasons()
     ensures { (act : Act) (w v : World) (halt : Halt) → perform act w ≡ Stops v halt
-        → (halt ≡ halts.Memory) ⊎ (halt ≡ halts.Broken) → ⊥ }
+        → (halt ≡ halts.Memory) ⊎ (halt ≡ halts.WriteFault) → ⊥ }
 {}
 
 /// Each station of a replay has words. Between any two steps on them they show the key that

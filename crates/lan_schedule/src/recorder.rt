@@ -1,14 +1,13 @@
 //! Who is told what events show.
 
 ghost use Rattle.std.specs.Prelude.{◌≡◌, ◌⊎◌, ◌++◌, ◌∷◌, [], List, MatchResult, OnOk};
-ghost use Rattle.trace_acts.specs.declared.broken.Broken.{Broken};
-ghost use Rattle.trace_acts.specs.declared.broken.Broken.TheVariants.{Memory};
+ghost use Rattle.lan_base.specs.declared.sink.Unwritten.{Unwritten};
+ghost use Rattle.lan_base.specs.declared.sink.Unwritten.TheVariants.{Memory};
 ghost use Rattle.lan_schedule.specs.Reports.{Report};
 
-use lan_base::Name;
+use lan_base::{Name, Unwritten};
 use lan_core::{Fact, Facts};
 use std::alloc::AllocError;
-use trace_acts::Broken;
 
 /// Tells an outlet what events show, each before the next one happens. The outlet is passed beside
 /// the recorder, since a value that lends it would hide what it holds; of the recorder itself, which
@@ -19,11 +18,11 @@ pub trait Recorder<K> {
 
     /// From one value the outlet came to another as it was to be told a report, of which it took no
     /// more than a front, for this reason of its own.
-    ghost Broke: { K → Report → K → Broken → Type 0 };
+    ghost Broke: { K → Report → K → Unwritten → Type 0 };
 
     /// Tells what an event showed, under the names that the stations have by then; where the recorder
     /// itself wants memory, nothing of it.
-    fn record(&mut self, names: &[Name], facts: Facts, outlet: &mut K) -> Result<(), Broken>
+    fn record(&mut self, names: &[Name], facts: Facts, outlet: &mut K) -> Result<(), Unwritten>
         ensures { MatchResult result
             (λ _. Took outlet.old (record { names = names.now; facts = facts }) outlet.new)
             (λ why. Broke outlet.old (record { names = names.now; facts = facts }) outlet.new why
@@ -46,7 +45,7 @@ pub trait Preparing<K>: Recorder<K> {
             (before ++ record { names = names.now; facts = facts.now } ∷ [])) };
 
     /// Tells the first report that is ready.
-    fn tell(&mut self, outlet: &mut K) -> Result<(), Broken>
+    fn tell(&mut self, outlet: &mut K) -> Result<(), Unwritten>
         ensures { (report : Report) (later : List Report) → Ready self.old (report ∷ later)
             → MatchResult result
             (λ _. Self.Took outlet.old report outlet.new × Ready self.new later)

@@ -11,10 +11,9 @@ use crate::keeping::Kept;
 use crate::recorder::Preparing;
 use crate::stage::count_all;
 use fact_tally::Tally;
-use lan_base::Protected;
+use lan_base::{Protected, Unwritten};
 use lan_core::{Event, Fact, Facts, Lack};
 use std::alloc::{AllocError, Global};
-use trace_acts::Broken;
 
 /// What the events of a race show, in their order, by what was kept of those of control, and by the
 /// frames of the claims that got a number; all of it is counted.
@@ -104,7 +103,7 @@ pub fn tell_all<K, R: Preparing<K>>(
     count: usize,
     recorder: &mut R,
     outlet: &mut K,
-) -> Result<(), Broken>
+) -> Result<(), Unwritten>
     ensures { (all : List Report) → R.Ready recorder.old all → length all ≡ count
         → MatchResult result (λ _. AreTold R.Took outlet.old all outlet.new)
         (λ why. WereToldUpTo R.Took R.Broke all outlet.old outlet.new why) }

@@ -11,9 +11,9 @@ use Rattle.text_lines.specs.Texts.{whole_lines, lines_of}
 use Rattle.text_lines.specs.Reading.{Sourced, Takes, Runs, Reads, Ends, lines_within}
 use Rattle.trace_acts.specs.declared.halt.Halt.{Halt}
 use Rattle.trace_acts.specs.declared.halt.Halt.TheVariants as halts
-use Rattle.trace_acts.specs.declared.broken.Broken.{Broken}
-use Rattle.trace_acts.specs.declared.broken.Broken.TheVariants as broken
-use Rattle.trace_acts.specs.Halts.{halt_of_broken}
+use Rattle.lan_base.specs.declared.sink.Unwritten.{Unwritten}
+use Rattle.lan_base.specs.declared.sink.Unwritten.TheVariants as whys
+use Rattle.trace_acts.specs.Halts.{halt_of_unwritten}
 use Rattle.replay.specs.declared.cause.Cause.{Cause}
 use Rattle.replay.specs.declared.cause.Cause.TheVariants as causes
 use Rattle.replay.specs.Sinks.{Sunk, Wrote, BrokeOff, WroteSome, Fails, joined}
@@ -26,21 +26,21 @@ use Rattle.replay.proofs.Written.{after-after, wrote-held, wrote-counts, Grew}
 
 -- a halt for a reason of the trace
 abbrev pub Spares : Halt → Type 0
-Spares halt = (halt ≡ halts.Memory) ⊎ (halt ≡ halts.Broken) → ⊥
+Spares halt = (halt ≡ halts.Memory) ⊎ (halt ≡ halts.WriteFault) → ⊥
 
-pub spared : (halt : Halt) (why : Broken) → Spares halt → halt ≡ halt_of_broken why → ⊥
-spared halt broken.Failed spares is = spares (inr is)
-spared halt broken.Memory spares is = spares (inl is)
+pub spared : (halt : Halt) (why : Unwritten) → Spares halt → halt ≡ halt_of_unwritten why → ⊥
+spared halt whys.Failed spares is = spares (inr is)
+spared halt whys.Memory spares is = spares (inl is)
 
-other : (halt : Halt) → (halt ≡ halts.Memory → ⊥) → (halt ≡ halts.Broken → ⊥) → Spares halt
+other : (halt : Halt) → (halt ≡ halts.Memory → ⊥) → (halt ≡ halts.WriteFault → ⊥) → Spares halt
 other halt memory broken (inl is) = memory is
 other halt memory broken (inr is) = broken is
 
-pub fails-rose : (texts : List (List ℕ)) (old new : Sunk) (why : Broken)
-    → halts.Broken ≡ halt_of_broken why → Fails texts old new why
+pub fails-rose : (texts : List (List ℕ)) (old new : Sunk) (why : Unwritten)
+    → halts.WriteFault ≡ halt_of_unwritten why → Fails texts old new why
     → Rose old.faults new.faults × BrokeOff texts old new
-fails-rose texts old new broken.Failed is f = f
-fails-rose texts old new broken.Memory is f = absurd (cc is)
+fails-rose texts old new whys.Failed is f = f
+fails-rose texts old new whys.Memory is f = absurd (cc is)
 
 -- ---- who performs
 
@@ -57,7 +57,7 @@ pub record Plays {Act World M : Type 0} (p : Performing Act World) (IsSuch : Wor
       → WasHalted p IsSuch (λ t. Wrote t (see old) (see new)) texts act halt
   pub cut_off : (act : Act) (old new : M) → IsFresh old → Did act old new (Err halts.Memory)
       → WasCut p IsSuch (λ t. WroteSome t (see old) (see new)) texts act
-  pub broke_off : (act : Act) (old new : M) → IsFresh old → Did act old new (Err halts.Broken)
+  pub broke_off : (act : Act) (old new : M) → IsFresh old → Did act old new (Err halts.WriteFault)
       → Rose (see old).faults (see new).faults
       × WasCut p IsSuch (λ t. BrokeOff t (see old) (see new)) texts act
   pub in_part : (front rest : List (List ℕ)) (old new : M) → IsFresh old
@@ -68,7 +68,7 @@ pub record Plays {Act World M : Type 0} (p : Performing Act World) (IsSuch : Wor
       → (w : World) × p.Reaches (p.lines first) w × Wrote (texts w) (see old) (see mid)
       × Grew (see mid) (see new)
   pub rose : (first later : List (List ℕ)) (old mid new : M) → IsFresh old
-      → Did (p.lines first) old mid (Ok tt) → Did (p.lines later) mid new (Err halts.Broken)
+      → Did (p.lines first) old mid (Ok tt) → Did (p.lines later) mid new (Err halts.WriteFault)
       → Rose (see old).faults (see new).faults
   pub whole_did : (text : List ℕ) (old new : M) (halt : Halt)
       → Did (p.lines (lines_of text)) old new (Err halt) → Did (p.whole text) old new (Err halt)
@@ -138,7 +138,7 @@ module _ {Act World M : Type 0} (p : Performing Act World) (IsSuch : World → T
       (other _ (λ e. cc e) (λ e. cc e)) h
   by-halt at_end text left now old new halts.Memory fresh h =
       inl (plays.cut_off (within p text) old new fresh h)
-  by-halt at_end text left now old new halts.Broken fresh h =
+  by-halt at_end text left now old new halts.WriteFault fresh h =
       let b = plays.broke_off (within p text) old new fresh h in (b.0, inl b.1)
 
   -- a front of the lines was performed
@@ -214,7 +214,7 @@ module _ {Act World M : Type 0} (p : Performing Act World) (IsSuch : World → T
   sink-fault : (left now : Sourced) (old new : M) (end : End Halt) → IsFresh old
       → Takes DidLines most_input left now old new (Err end)
       → cause_of end ≡ causes.WriteFault → Rose (see old).faults (see new).faults
-  sink-fault left now old new (ends.Refused halts.Broken) fresh h is =
+  sink-fault left now old new (ends.Refused halts.WriteFault) fresh h is =
       plays.rose (whole_lines h.earlier) h.last old h.between new fresh h.taken h.ends.1
   sink-fault left now old new (ends.Refused (halts.Trace line kind)) fresh h is = absurd (cc is)
   sink-fault left now old new (ends.Refused (halts.Limit which)) fresh h is = absurd (cc is)
@@ -229,7 +229,7 @@ module _ {Act World M : Type 0} (p : Performing Act World) (IsSuch : World → T
       → Takes DidLines most_input left now old new (Err end)
       → cause_of end ≡ causes.ReadFault → Rose left.faults now.faults
   source-fault left now old new ends.ReadFault h is = h.ends.0
-  source-fault left now old new (ends.Refused halts.Broken) h is = absurd (cc is)
+  source-fault left now old new (ends.Refused halts.WriteFault) h is = absurd (cc is)
   source-fault left now old new (ends.Refused (halts.Trace line kind)) h is = absurd (cc is)
   source-fault left now old new (ends.Refused (halts.Limit which)) h is = absurd (cc is)
   source-fault left now old new (ends.Refused (halts.RepeatedDraw a b)) h is = absurd (cc is)
@@ -272,7 +272,7 @@ module _ {Act World M : Type 0} (p : Performing Act World) (IsSuch : World → T
   -- the text may not end there
   pub closed-err : (at_end : World → List (List ℕ)) (left now : Sourced) (old new : M) (halt : Halt)
       → IsFresh old → left.faults ≤ now.faults → Reads DidLines most_input left now old new (Ok tt)
-      → (halt ≡ halts.Broken → ⊥)
+      → (halt ≡ halts.WriteFault → ⊥)
       → ((text : List ℕ) → DidLines (lines_of text) old new (Ok tt)
       → Did (p.whole text) old new (Err halt))
       → Replayed at_end left now old new (Err (cause_of_halt halt))
@@ -291,16 +291,16 @@ module _ {Act World M : Type 0} (p : Performing Act World) (IsSuch : World → T
       }
     where
       unread : (halt : Halt) → failed (cause_of_halt halt) ≡ failed causes.ReadFault → ⊥
-      unread halts.Broken is = cc is
+      unread halts.WriteFault is = cc is
       unread (halts.Trace line kind) is = cc is
       unread (halts.Limit which) is = cc is
       unread (halts.RepeatedDraw a b) is = cc is
       unread (halts.Forged line) is = cc is
       unread halts.Memory is = cc is
 
-      unwritten : (halt : Halt) → (halt ≡ halts.Broken → ⊥)
+      unwritten : (halt : Halt) → (halt ≡ halts.WriteFault → ⊥)
           → failed (cause_of_halt halt) ≡ failed causes.WriteFault → ⊥
-      unwritten halts.Broken unbroken is = unbroken refl
+      unwritten halts.WriteFault unbroken is = unbroken refl
       unwritten (halts.Trace line kind) unbroken is = cc is
       unwritten (halts.Limit which) unbroken is = cc is
       unwritten (halts.RepeatedDraw a b) unbroken is = cc is

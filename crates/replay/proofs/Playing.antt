@@ -10,8 +10,8 @@ use Rattle.text_lines.specs.declared.reading.End.{End}
 use Rattle.text_lines.specs.Reading.{Sourced, Takes, Runs, Reads}
 use Rattle.trace_acts.specs.declared.halt.Halt.{Halt}
 use Rattle.trace_acts.specs.declared.halt.Halt.TheVariants as halts
-use Rattle.trace_acts.specs.declared.broken.Broken.{Broken}
-use Rattle.trace_acts.specs.declared.broken.Broken.TheVariants as broken
+use Rattle.lan_base.specs.declared.sink.Unwritten.{Unwritten}
+use Rattle.lan_base.specs.declared.sink.Unwritten.TheVariants as whys
 use Rattle.lan_schedule.specs.declared.commands.Replay.{Replay}
 use Rattle.lan_schedule.specs.Races.{Chance}
 use Rattle.lan_schedule.specs.World.{World, beginning}
@@ -42,10 +42,10 @@ use Rattle.replay.proofs.Ending.{replayed-err, transcribed}
 pub record Given : Type 0 where
   pub tidy : (chances : List Chance) → IsTidy (beginning chances)
   pub never : (act : Act) (w v : World) (halt : Halt) → perform act w ≡ Stops v halt
-      → (halt ≡ halts.Memory) ⊎ (halt ≡ halts.Broken) → ⊥
+      → (halt ≡ halts.Memory) ⊎ (halt ≡ halts.WriteFault) → ⊥
 
 module _ {P K : Type 0} (given : Given) (Took : K → Report → K → Type 0)
-    (Broke : K → Report → K → Broken → Type 0) (of : LinesMoment P K → Replay) (see : K → Sunk)
+    (Broke : K → Report → K → Unwritten → Type 0) (of : LinesMoment P K → Replay) (see : K → Sunk)
     (show : List Report → List (List ℕ)) (shows : Shows_on Took Broke see show) where
   abbrev texts : World → List (List ℕ)
   texts w = show (reports w.run)
@@ -125,18 +125,18 @@ module _ {P K : Type 0} (given : Given) (Took : K → Report → K → Type 0)
       ]
 
   broke-off : (act : Act) (old new : LinesMoment P K) → IsFresh old
-      → DidAct Took Broke of act old new (Err halts.Broken)
+      → DidAct Took Broke of act old new (Err halts.WriteFault)
       → Rose (seen old).faults (seen new).faults
       × WasCut one_group IsSettled (λ t. BrokeOff t (seen old) (seen new)) texts act
   broke-off act old new fresh d =
       let c = d.chances ++ [] in
       elim (d.ends (beginning c) [] refl (begins old c fresh)) [
-        | inl s ↦ absurd (given.never act (beginning c) s.world halts.Broken s.stops
+        | inl s ↦ absurd (given.never act (beginning c) s.world halts.WriteFault s.stops
             (inr refl))
         | inr cut ↦ elim cut.cause [
           | inl m ↦ absurd (cc (m.0))
           | inr b ↦
-              let f = fails-rose _ _ _ b.why b.is (was-broken c cut.world _ _ halts.Broken b) in
+              let f = fails-rose _ _ _ b.why b.is (was-broken c cut.world _ _ halts.WriteFault b) in
               (f.0, (cut.world, (c, cut.on_way), record { tidy = cut.tidy; apart = cut.same }, f.1))
         ]
       ]
@@ -176,16 +176,16 @@ module _ {P K : Type 0} (given : Given) (Took : K → Report → K → Type 0)
       ]
 
   rose-since : (act : Act) (a b : LinesMoment P K)
-      (d : DidAct Took Broke of act a b (Err halts.Broken)) (w : World)
+      (d : DidAct Took Broke of act a b (Err halts.WriteFault)) (w : World)
       → w.kept.chances ≡ d.chances ++ [] → IsReached StandsFor w (of a)
       → Rose (seen a).faults (seen b).faults
   rose-since act a b d w is reached =
       elim (d.ends w [] is reached) [
-        | inl s ↦ absurd (given.never act w s.world halts.Broken s.stops (inr refl))
+        | inl s ↦ absurd (given.never act w s.world halts.WriteFault s.stops (inr refl))
         | inr cut ↦ elim cut.cause [
           | inl m ↦ absurd (cc (m.0))
           | inr t ↦
-              (fails-rose _ _ _ t.why t.is (since-broken w cut.world _ _ halts.Broken t)).0
+              (fails-rose _ _ _ t.why t.is (since-broken w cut.world _ _ halts.WriteFault t)).0
         ]
       ]
 
@@ -226,7 +226,7 @@ module _ {P K : Type 0} (given : Given) (Took : K → Report → K → Type 0)
 
   rose : (first later : List (List ℕ)) (old mid new : LinesMoment P K) → IsFresh old
       → DidLines Took Broke of first old mid (Ok tt)
-      → DidLines Took Broke of later mid new (Err halts.Broken)
+      → DidLines Took Broke of later mid new (Err halts.WriteFault)
       → Rose (seen old).faults (seen new).faults
   rose first later old mid new fresh d e =
       let at = reached-by (performed_all first) old mid (e.chances ++ []) fresh d in
@@ -264,7 +264,7 @@ module _ {P K : Type 0} (given : Given) (Took : K → Report → K → Type 0)
       record { world = q.0; stands = q.2.stands }
 
   -- no sink is at fault there
-  never-broken : (w : World) (halt : Halt) → Closes w (Err halt) → halt ≡ halts.Broken → ⊥
+  never-broken : (w : World) (halt : Halt) → Closes w (Err halt) → halt ≡ halts.WriteFault → ⊥
   never-broken w halt stops is = given.never close w _ halt stops (inr is)
 
   -- the source ended inside a race
@@ -318,11 +318,11 @@ taken-then left now old mid new t g = record {
 }
 
 module _ {P K : Type 0} (given : Given) (Took : K → Report → K → Type 0)
-    (Broke : K → Report → K → Broken → Type 0) (of : LinesMoment P K → Replay) (see : K → Sunk)
+    (Broke : K → Report → K → Unwritten → Type 0) (of : LinesMoment P K → Replay) (see : K → Sunk)
     (shows : Shows_on Took Broke see (λ xs. [])) where
   -- how the end of the text is, where the line of its run's summary was written so
   sums : (text line : List ℕ) (left now : Sourced) (old mid : LinesMoment P K) (new : Sunk)
-      (r : Result (Unit {0}) Broken) → ((chances : List Chance) → StandsFor (beginning chances) (of old))
+      (r : Result (Unit {0}) Unwritten) → ((chances : List Chance) → StandsFor (beginning chances) (of old))
       → Runs (DidLines Took Broke of) most_input text left now old mid (Ok tt)
       → ((w : World) → StandsFor w (of mid) → Closes w (Ok tt))
       → ((w : World) → StandsFor w (of mid) → line ≡ summary_of w.run)
@@ -342,17 +342,17 @@ module _ {P K : Type 0} (given : Given) (Took : K → Report → K → Type 0)
       (λ why. Fails (l ∷ []) (see mid.outlet) new why)) (is e.0 e.2.stands) wrote))
     where
       go : (c : List Chance) (w : World) → course (whole text) c ≡ Goes w → IsSettled w
-          → (r : Result (Unit {0}) Broken)
+          → (r : Result (Unit {0}) Unwritten)
           → MatchResult r (λ done. Wrote (summary_of w.run ∷ []) (see old.outlet) new)
           (λ why. Fails (summary_of w.run ∷ []) (see old.outlet) new why)
           → EndsBy one_group IsSettled summed text left now (see old.outlet) new (answered r)
       go c w goes settled (Ok done) f = (h.0, h.1, (w, (c, goes), settled, f))
-      go c w goes settled (Err broken.Failed) f =
+      go c w goes settled (Err whys.Failed) f =
           (f.0, inr (h.0, h.1, (w, (c, goes), settled, f.1)))
-      go c w goes settled (Err broken.Memory) f = inr (h.0, h.1, (w, (c, goes), settled, inr f))
+      go c w goes settled (Err whys.Memory) f = inr (h.0, h.1, (w, (c, goes), settled, inr f))
 
   pub summarized : (line : List ℕ) (left now : Sourced) (old mid : LinesMoment P K) (new : Sunk)
-      (r : Result (Unit {0}) Broken) → ((chances : List Chance) → StandsFor (beginning chances) (of old))
+      (r : Result (Unit {0}) Unwritten) → ((chances : List Chance) → StandsFor (beginning chances) (of old))
       → left.faults ≤ now.faults → Reads (DidLines Took Broke of) most_input left now old mid (Ok tt)
       → ((w : World) → StandsFor w (of mid) → Closes w (Ok tt))
       → ((w : World) → StandsFor w (of mid) → line ≡ summary_of w.run)
@@ -373,25 +373,25 @@ module _ {P K : Type 0} (given : Given) (Took : K → Report → K → Type 0)
         write_fault = λ e. rose-earlier _ _ _ t.1 (rises r wrote e);
       }
     where
-      grew-by : (r : Result (Unit {0}) Broken)
+      grew-by : (r : Result (Unit {0}) Unwritten)
           → MatchResult r (λ done. Wrote (line ∷ []) (see mid.outlet) new)
           (λ why. Fails (line ∷ []) (see mid.outlet) new why) → Grew (see mid.outlet) new
       grew-by (Ok done) f = grew-wrote (line ∷ []) (see mid.outlet) new f
       grew-by (Err why) f =
           grew-broke (line ∷ []) (see mid.outlet) new (fails-broke (line ∷ []) _ _ why f)
 
-      unread : (r : Result (Unit {0}) Broken) → answered r ≡ Err causes.ReadFault → ⊥
+      unread : (r : Result (Unit {0}) Unwritten) → answered r ≡ Err causes.ReadFault → ⊥
       unread (Ok done) e = cc e
-      unread (Err broken.Failed) e = cc e
-      unread (Err broken.Memory) e = cc e
+      unread (Err whys.Failed) e = cc e
+      unread (Err whys.Memory) e = cc e
 
-      rises : (r : Result (Unit {0}) Broken)
+      rises : (r : Result (Unit {0}) Unwritten)
           → MatchResult r (λ done. Wrote (line ∷ []) (see mid.outlet) new)
           (λ why. Fails (line ∷ []) (see mid.outlet) new why) → answered r ≡ Err causes.WriteFault
           → Rose (see mid.outlet).faults new.faults
       rises (Ok done) f e = absurd (cc e)
-      rises (Err broken.Failed) f e = f.0
-      rises (Err broken.Memory) f e = absurd (cc e)
+      rises (Err whys.Failed) f e = f.0
+      rises (Err whys.Memory) f e = absurd (cc e)
 
   -- nothing is written behind a run that ended badly
   unwritten : (left now : Sourced) (old mid : LinesMoment P K) (new : Sunk)

@@ -4,8 +4,8 @@ use Rattle.std.specs.Prelude.{◌⊎◌, Result, Err, MatchResult}
 use Rattle.std.specs.Result.{IsErrAnd}
 use Rattle.std.proofs.lemmas.Result.{err_from_is_err_and}
 use Rattle.std.proofs.lemmas.List.{map-append}
-use Rattle.trace_acts.specs.declared.broken.Broken.{Broken}
-use Rattle.trace_acts.specs.declared.broken.Broken.TheVariants.{Memory}
+use Rattle.lan_base.specs.declared.sink.Unwritten.{Unwritten}
+use Rattle.lan_base.specs.declared.sink.Unwritten.TheVariants.{Memory}
 use Rattle.lan_schedule.specs.Reports.{Report, AreTold}
 use Rattle.replay.specs.Sinks.{Sunk, Wrote, Fails}
 use Rattle.replay.specs.Shown.{text_of}
@@ -13,10 +13,10 @@ use Rattle.replay.proofs.Written.{wrote-more, fails-behind}
 
 -- a recorder shows reports as texts on what is seen of its outlet
 pub record Shows_on {K : Type 0} (Took : K → Report → K → Type 0)
-    (Broke : K → Report → K → Broken → Type 0) (see : K → Sunk)
+    (Broke : K → Report → K → Unwritten → Type 0) (see : K → Sunk)
     (show : List Report → List (List ℕ)) : Type 0 where
   pub tells : (a b : K) (xs : List Report) → AreTold Took a xs b → Wrote (show xs) (see a) (see b)
-  pub breaks : (a b c : K) (xs : List Report) (x : Report) (behind : List Report) (why : Broken)
+  pub breaks : (a b c : K) (xs : List Report) (x : Report) (behind : List Report) (why : Unwritten)
       → AreTold Took a xs b → Broke b x c why → Fails (show (xs ++ x ∷ behind)) (see a) (see c) why
 
 module _ {K : Type 0} (see : K → Sunk) where
@@ -24,7 +24,7 @@ module _ {K : Type 0} (see : K → Sunk) where
   abbrev TookText : K → Report → K → Type 0
   TookText old report new = Wrote (text_of report ∷ []) (see old) (see new)
 
-  abbrev BrokeText : K → Report → K → Broken → Type 0
+  abbrev BrokeText : K → Report → K → Unwritten → Type 0
   BrokeText old report new why = Fails (text_of report ∷ []) (see old) (see new) why
 
   texts-told : (a b : K) (xs : List Report) → AreTold TookText a xs b
@@ -33,7 +33,7 @@ module _ {K : Type 0} (see : K → Sunk) where
   texts-told a b (x ∷ later) told = wrote-more (text_of x ∷ []) (map text_of later) (see a)
       (see told.0) (see b) told.1 (texts-told told.0 b later told.2)
 
-  texts-broken : (a b c : K) (xs : List Report) (x : Report) (behind : List Report) (why : Broken)
+  texts-broken : (a b c : K) (xs : List Report) (x : Report) (behind : List Report) (why : Unwritten)
       → AreTold TookText a xs b → BrokeText b x c why
       → Fails (map text_of (xs ++ x ∷ behind)) (see a) (see c) why
   texts-broken a b c xs x behind why told f =
@@ -49,7 +49,7 @@ module _ {K : Type 0} (see : K → Sunk) where
   abbrev TookNothing : K → Report → K → Type 0
   TookNothing old report new = new ≡ old
 
-  abbrev NeverBroke : K → Report → K → Broken → Type 0
+  abbrev NeverBroke : K → Report → K → Unwritten → Type 0
   NeverBroke old report new why = ⊥
 
   nothing-told : (a b : K) (xs : List Report) → AreTold TookNothing a xs b → see b ≡ see a
@@ -63,13 +63,13 @@ module _ {K : Type 0} (see : K → Sunk) where
   }
 
 -- what a recorder rendered for itself alone leaves the outlet as it was
-pub unwritten : {K : Type 0} (A : Unit {0} → Type 0) (B : Broken → Type 0) (now : K)
-    (r : Result (Unit {0}) Broken) → IsErrAnd r (λ y. y ≡ Memory)
+pub unwritten : {K : Type 0} (A : Unit {0} → Type 0) (B : Unwritten → Type 0) (now : K)
+    (r : Result (Unit {0}) Unwritten) → IsErrAnd r (λ y. y ≡ Memory)
     → MatchResult r A (λ y. B y ⊎ ((y ≡ Memory) × (now ≡ now)))
 unwritten A B now r is =
     let p = err_from_is_err_and r is in
-    subst (λ (r : Result (Unit {0}) Broken). MatchResult r A (λ y. B y ⊎ ((y ≡ Memory) × (now ≡ now))))
-    (sym (p.1 ∙ ap (λ (y : Broken). Err y) p.2)) (inr (refl, refl))
+    subst (λ (r : Result (Unit {0}) Unwritten). MatchResult r A (λ y. B y ⊎ ((y ≡ Memory) × (now ≡ now))))
+    (sym (p.1 ∙ ap (λ (y : Unwritten). Err y) p.2)) (inr (refl, refl))
 
 -- ---- what is ready
 

@@ -3,13 +3,13 @@ use Rattle.std.proofs.Common.{◌≡◌, ℕ, ◌≤◌, ◌<◌, List, [], ◌�
 use Rattle.std.proofs.Common.{refl, sym, ap, ◌∙◌, subst, append_assoc, arith, inl, inr}
 use Rattle.std.proofs.lemmas.List.{append-nil}
 use Rattle.std.proofs.lemmas.Grind.{flat_map-append}
-use Rattle.std.specs.Prelude.{Result, Err, MatchResult}
+use Rattle.std.specs.Prelude.{Result, Ok, Err, MatchResult, OnOk, OnErr}
 use Rattle.std.specs.Result.{IsErrAnd}
 use Rattle.std.proofs.lemmas.Result.{err_from_is_err_and}
 use Rattle.lan_base.specs.Faults.{Rose}
 use Rattle.lan_base.specs.Told.{after}
-use Rattle.trace_acts.specs.declared.broken.Broken.{Broken}
-use Rattle.trace_acts.specs.declared.broken.Broken.TheVariants.{Failed, Memory}
+use Rattle.lan_base.specs.declared.sink.Unwritten.{Unwritten}
+use Rattle.lan_base.specs.declared.sink.Unwritten.TheVariants.{Failed, Memory}
 use Rattle.replay.specs.Sinks.{Sunk, Wrote, BrokeOff, Fails, joined}
 
 pub after-none : (told : Option (List ℕ)) → told ≡ after told []
@@ -116,14 +116,14 @@ broke-longer xs ys a c f = record {
 
 -- ---- how writing fails
 
-pub fails-broke : (texts : List (List ℕ)) (old new : Sunk) (why : Broken) → Fails texts old new why
+pub fails-broke : (texts : List (List ℕ)) (old new : Sunk) (why : Unwritten) → Fails texts old new why
     → BrokeOff texts old new
 fails-broke texts old new Failed f = f.1
 fails-broke texts old new Memory f = f
 
 -- texts were written up to one at which it failed, and those behind it were not
 pub fails-behind : (xs : List (List ℕ)) (text : List ℕ) (behind : List (List ℕ)) (a b c : Sunk)
-    (why : Broken) → Wrote xs a b → Fails (text ∷ []) b c why → Fails (xs ++ text ∷ behind) a c why
+    (why : Unwritten) → Wrote xs a b → Fails (text ∷ []) b c why → Fails (xs ++ text ∷ behind) a c why
 fails-behind xs text behind a b c Failed wrote f = (
   rose-earlier a.faults b.faults c.faults (wrote-counts xs a b wrote) f.0,
   broke-later xs (text ∷ behind) a b c wrote (broke-longer (text ∷ []) behind b c f.1),
@@ -132,14 +132,14 @@ fails-behind xs text behind a b c Memory wrote f =
     broke-later xs (text ∷ behind) a b c wrote (broke-longer (text ∷ []) behind b c f)
 
 -- a text of which nothing was written, for want of memory
-pub none-fails : (text : List ℕ) (now : Sunk) (r : Result (Unit {0}) Broken)
+pub none-fails : (text : List ℕ) (now : Sunk) (r : Result (Unit {0}) Unwritten)
     → IsErrAnd r (λ y. y ≡ Memory) → MatchResult r (λ done. Wrote (text ∷ []) now now)
     (λ why. Fails (text ∷ []) now now why)
 none-fails text now r is =
     let p = err_from_is_err_and r is in
-    subst (λ (r : Result (Unit {0}) Broken). MatchResult r (λ done. Wrote (text ∷ []) now now)
+    subst (λ (r : Result (Unit {0}) Unwritten). MatchResult r (λ done. Wrote (text ∷ []) now now)
     (λ why. Fails (text ∷ []) now now why))
-    (sym (p.1 ∙ ap (λ (y : Broken). Err y) p.2)) (broke-none text now)
+    (sym (p.1 ∙ ap (λ (y : Unwritten). Err y) p.2)) (broke-none text now)
 
 -- ---- what a sink holds at least
 
@@ -161,3 +161,15 @@ grew-broke texts old new f = record {
   held = f.held;
   counts = f.counts;
 }
+
+-- a text is written by one call: all of it, or a part
+pub by-one : (text : List ℕ) (old new : Sunk) (r : Result (Unit {0}) Unwritten)
+    → OnOk r (new.held ≡ after old.held text)
+    → OnErr r ((n : ℕ) × (n < length text) × (new.held ≡ after old.held (take n text)))
+    → (r ≡ Err Failed → Rose old.faults new.faults) → old.faults ≤ new.faults
+    → MatchResult r (λ done. Wrote (text ∷ []) old new) (λ why. Fails (text ∷ []) old new why)
+by-one text old new (Ok done) all part failed counts = wrote-one text old new all counts
+by-one text old new (Err Failed) all part failed counts =
+    (failed refl, broke-one text part.0 old new part.1 part.2 counts)
+by-one text old new (Err Memory) all part failed counts =
+    broke-one text part.0 old new part.1 part.2 counts

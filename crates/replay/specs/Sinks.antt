@@ -3,8 +3,8 @@ use Rattle.std.specs.Prelude.{◌≡◌, ◌⊎◌, ℕ, ◌≤◌, ◌-◌, Lis
 use Rattle.std.specs.List.{flat_map}
 use Rattle.lan_base.specs.Faults.{Rose}
 use Rattle.lan_base.specs.Told.{after}
-use Rattle.trace_acts.specs.declared.broken.Broken.{Broken}
-use Rattle.trace_acts.specs.declared.broken.Broken.TheVariants.{Failed, Memory}
+use Rattle.lan_base.specs.declared.sink.Unwritten.{Unwritten}
+use Rattle.lan_base.specs.declared.sink.Unwritten.TheVariants.{Failed, Memory}
 
 -- a sink at a moment: what it holds, and its count of faults
 pub record Sunk : Type 0 where
@@ -41,6 +41,6 @@ abbrev pub WroteSome : List (List ℕ) → Sunk → Sunk → Type 0
 WroteSome texts old new = Wrote texts old new ⊎ BrokeOff texts old new
 
 -- these texts were not all written, for this reason
-abbrev pub Fails : List (List ℕ) → Sunk → Sunk → Broken → Type 0
+abbrev pub Fails : List (List ℕ) → Sunk → Sunk → Unwritten → Type 0
 Fails texts old new Failed = Rose old.faults new.faults × BrokeOff texts old new
 Fails texts old new Memory = BrokeOff texts old new

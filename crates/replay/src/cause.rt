@@ -1,12 +1,13 @@
 //! Why a trace was not performed to its end.
 
 ghost use Rattle.std.specs.Prelude.{◌≡◌};
-ghost use Rattle.replay.specs.Causes.{answered, cause_of, cause_of_halt, cause_of_broken, ended};
+ghost use Rattle.replay.specs.Causes.{answered, cause_of, cause_of_halt, cause_of_unwritten, ended};
 
+use lan_base::Unwritten;
 use lan_core::Which;
 use text_lines::End;
 use thiserror::Error;
-use trace_acts::{Broken, Halt, Kind};
+use trace_acts::{Halt, Kind};
 
 /// Why a trace was not read, performed and shown to its end.
 #[derive(Clone, Copy, Debug, PartialEq, Eq, Error)]
@@ -71,26 +72,26 @@ pub fn cause_of_halt(halt: Halt) -> Cause
         Halt::Limit(which) => Cause::Limit(which),
         Halt::RepeatedDraw { first, second } => Cause::RepeatedDraw { first, second },
         Halt::Forged { line } => Cause::Forged { line },
-        Halt::Broken => Cause::WriteFault,
+        Halt::WriteFault => Cause::WriteFault,
     }
 }
 
 /// What writing a text answers, as the answer of a replay.
-pub fn answered(answer: Result<(), Broken>) -> Result<(), Cause>
+pub fn answered(answer: Result<(), Unwritten>) -> Result<(), Cause>
     ensures { result ≡ answered answer }
 {
     match answer {
         Ok(()) => Ok(()),
-        Err(why) => Err(cause_of_broken(why)),
+        Err(why) => Err(cause_of_unwritten(why)),
     }
 }
 
 /// What a text that was not written is to the trace.
-fn cause_of_broken(why: Broken) -> Cause
-    ensures { result ≡ cause_of_broken why }
+fn cause_of_unwritten(why: Unwritten) -> Cause
+    ensures { result ≡ cause_of_unwritten why }
 {
     match why {
-        Broken::Failed => Cause::WriteFault,
-        Broken::Memory => Cause::Memory,
+        Unwritten::Failed => Cause::WriteFault,
+        Unwritten::Memory => Cause::Memory,
     }
 }

@@ -16,12 +16,11 @@ use crate::transcribing::Transcript;
 use crate::unrecorded::Unrecorded;
 use crate::writing::write;
 use fact_tally::Tally;
-use lan_base::{Sink, Source};
+use lan_base::{Sink, Source, Unwritten};
 use lan_schedule::{Replay, law_acts_stop_for_their_own_reasons, law_lines_leave_a_tidy_world};
 use std::alloc::Global;
 use std::thread::Threads;
 use text_lines::read_lines;
-use trace_acts::Broken;
 
 /// The greatest count of octets of an input.
 pub const MAX_INPUT: usize = 4_194_304;
@@ -122,7 +121,7 @@ fn sum_up<K: Sink>(
 }
 
 /// Writes the summary line.
-fn write_line<K: Sink>(alloc: Global, tally: &Tally, sink: &mut K) -> Result<(), Broken>
+fn write_line<K: Sink>(alloc: Global, tally: &Tally, sink: &mut K) -> Result<(), Unwritten>
     ensures { MatchResult result
         (λ _. Wrote (line_of tally.now ∷ []) (sunk (K.held sink.old) (K.faults sink.old))
         (sunk (K.held sink.new) (K.faults sink.new)))

@@ -4,12 +4,11 @@ ghost use Rattle.std.specs.Prelude.{◌≡◌, OnOk};
 ghost use Rattle.transcript.specs.Rendering.{transcript};
 
 use crate::writing::write;
-use lan_base::{Name, Sink};
+use lan_base::{Name, Sink, Unwritten};
 use lan_core::{Fact, Facts};
 use lan_schedule::{Preparing, Recorder};
 use std::alloc::{AllocError, Global};
 use std::collections::VecDeque;
-use trace_acts::Broken;
 use transcript::render;
 
 /// A recorder that writes the lines of each event's facts by one call.
@@ -44,7 +43,7 @@ impl<K: Sink> Recorder<K> for Transcript {
     ghost Broke = { λ old report new why. Fails (text_of report ∷ [])
         (sunk (K.held old) (K.faults old)) (sunk (K.held new) (K.faults new)) why };
 
-    fn record(&mut self, names: &[Name], facts: Facts, outlet: &mut K) -> Result<(), Broken> {
+    fn record(&mut self, names: &[Name], facts: Facts, outlet: &mut K) -> Result<(), Unwritten> {
         render_all(facts.as_slice(), names, &mut self.out)?;
         write(self.out.as_slice(), outlet)
     }
@@ -67,7 +66,7 @@ impl<K: Sink> Preparing<K> for Transcript {
         Ok(())
     }
 
-    fn tell(&mut self, outlet: &mut K) -> Result<(), Broken> {
+    fn tell(&mut self, outlet: &mut K) -> Result<(), Unwritten> {
         match self.ready.pop_front() {
             Some(text) => write(text.as_slice(), outlet),
             None => Ok(()),

@@ -1,10 +1,9 @@
 //! What is performed for its summary alone is told to nobody.
 
-use lan_base::Name;
+use lan_base::{Name, Unwritten};
 use lan_core::{Fact, Facts};
 use lan_schedule::{Preparing, Recorder};
 use std::alloc::AllocError;
-use trace_acts::Broken;
 
 /// A recorder that drops what it is told.
 #[derive(Clone, Copy, Debug)]
@@ -17,7 +16,7 @@ impl<K> Recorder<K> for Unrecorded {
 
     ghost Broke = { λ old report new why. ⊥ };
 
-    fn record(&mut self, _names: &[Name], _facts: Facts, _outlet: &mut K) -> Result<(), Broken> {
+    fn record(&mut self, _names: &[Name], _facts: Facts, _outlet: &mut K) -> Result<(), Unwritten> {
         Ok(())
     }
 }
@@ -31,7 +30,7 @@ impl<K> Preparing<K> for Unrecorded {
         Ok(())
     }
 
-    fn tell(&mut self, _outlet: &mut K) -> Result<(), Broken> {
+    fn tell(&mut self, _outlet: &mut K) -> Result<(), Unwritten> {
         Ok(())
     }
 }

@@ -2,9 +2,9 @@
 
 ghost use Rattle.std.specs.Prelude.{◌≡◌};
 ghost use Rattle.trace_acts.specs.declared.halt.Halt.TheVariants.{Memory};
-ghost use Rattle.trace_acts.specs.Halts.{halt_of, halt_of_broken};
+ghost use Rattle.trace_acts.specs.Halts.{halt_of, halt_of_unwritten};
 
-use crate::broken::Broken;
+use lan_base::Unwritten;
 use lan_core::{Stop, Which};
 use std::alloc::{AllocError, AllocFailed};
 use thiserror::Error;
@@ -60,9 +60,9 @@ pub enum Halt {
     Trace { line: u32, kind: Kind },
     #[error("out of memory")]
     Memory,
-    /// The recorder failed.
-    #[error("recorder failed")]
-    Broken,
+    /// The outlet of the recorder failed.
+    #[error("write fault")]
+    WriteFault,
     /// An event would pass a limit.
     #[error("limit {0:?}")]
     Limit(Which),
@@ -90,13 +90,13 @@ impl<T: Drop> From<AllocFailed<T>> for Halt {
     }
 }
 
-impl From<Broken> for Halt {
-    ghost from_gives = { λ why halt. halt ≡ halt_of_broken why };
+impl From<Unwritten> for Halt {
+    ghost from_gives = { λ why halt. halt ≡ halt_of_unwritten why };
 
-    fn from(why: Broken) -> Self {
+    fn from(why: Unwritten) -> Self {
         match why {
-            Broken::Failed => Halt::Broken,
-            Broken::Memory => Halt::Memory,
+            Unwritten::Failed => Halt::WriteFault,
+            Unwritten::Memory => Halt::Memory,
         }
     }
 }

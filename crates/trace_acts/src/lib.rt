@@ -2,7 +2,6 @@
 //! can end: for one group and for two.
 #![tactic(auto)]
 
-mod broken;
 mod choices;
 mod choosing;
 mod halt;
@@ -13,7 +12,6 @@ mod refusals;
 mod setup;
 mod supply;
 
-pub use broken::Broken;
 pub use choices::{Choices, Keyed, Rule};
 pub use choosing::{choose, secret_of};
 pub use halt::{Halt, Kind, halt_of};

@@ -12,7 +12,7 @@ use Rattle.cak_roll.specs.Twin.{TwinHappening}
 use Rattle.cak_roll.specs.Stepping.{happening, twin_stop}
 use Rattle.trace_acts.specs.declared.halt.Halt.{Halt}
 use Rattle.trace_acts.specs.declared.halt.Halt.TheVariants as halts
-use Rattle.trace_acts.specs.declared.broken.Broken.{Broken}
+use Rattle.lan_base.specs.declared.sink.Unwritten.{Unwritten}
 use Rattle.twin_schedule.specs.World.{World, Kept, pair_of}
 use Rattle.twin_schedule.specs.Acts.{Act, nothing, refuse, exceed, happen, change, seq, look, perform}
 use Rattle.twin_schedule.specs.Acts.{Course, Goes, Stops, and_then, each, span, supply, answered}
@@ -115,7 +115,7 @@ module _ {K : Type 0} {Took : K → Report → K → Type 0} where
     by_one = told-both Took a b c f.told g.told f.by_one g.by_one;
   }
 
-module _ {K : Type 0} {Took : K → Report → K → Type 0} {Broke : K → Report → K → Broken → Type 0}
+module _ {K : Type 0} {Took : K → Report → K → Type 0} {Broke : K → Report → K → Unwritten → Type 0}
   where
     broken-then : (w v u : World) (a b c : K) (halt : Halt) → WasTold Took w v a b
         → WasBroken Took Broke v u b c halt → WasBroken Took Broke w u a c halt
@@ -145,7 +145,7 @@ module _ {K : Type 0} {Took : K → Report → K → Type 0} {Broke : K → Repo
 -- ---- how calls end
 
 module _ {R K : Type 0} (Stands : World → R → Type 0) (Took : K → Report → K → Type 0)
-    (Broke : K → Report → K → Broken → Type 0) where
+    (Broke : K → Report → K → Unwritten → Type 0) where
   -- a call that begins where another ended
   pub ends-behind : (w v : World) (out : Course) (a b : K) (new : Moment R K)
       (r : Result (Unit {0}) Halt) → WasTold Took w v a b
@@ -195,7 +195,7 @@ module _ {R K : Type 0} (Stands : World → R → Type 0) (Took : K → Report �
 
 -- what one value did, another did that stands where it stands
 pub ends-seen : {R S K : Type 0} (Stands : World → R → Type 0) (Sees : World → S → Type 0)
-    (Took : K → Report → K → Type 0) (Broke : K → Report → K → Broken → Type 0) (w : World)
+    (Took : K → Report → K → Type 0) (Broke : K → Report → K → Unwritten → Type 0) (w : World)
     (out : Course) (a k : K) (x : R) (y : S) (r : Result (Unit {0}) Halt)
     → ((v : World) → out ≡ Goes v → r ≡ Ok tt → Stands v x → Sees v y)
     → Ends Stands Took Broke w out a (moment x k) r → Ends Sees Took Broke w out a (moment y k) r
@@ -206,7 +206,7 @@ ends-seen Stands Sees Took Broke w out a k x y (Err halt) sees h = h
 -- ---- what calls do
 
 module _ {R K : Type 0} {Stands : World → R → Type 0} {Took : K → Report → K → Type 0}
-    {Broke : K → Report → K → Broken → Type 0} where
+    {Broke : K → Report → K → Unwritten → Type 0} where
   -- an act that is another in each world for which the value stands
   pub same-act : (f g : Act) (old new : Moment R K) (r : Result (Unit {0}) Halt)
       → ((w : World) → IsReached Stands w old.value → perform f w ≡ perform g w)
@@ -327,13 +327,13 @@ module _ {R K : Type 0} {Stands : World → R → Type 0} {Took : K → Report �
 
 -- what is left of an act, done from here, is the whole act done from the start
 pub record Leads {R K : Type 0} (Stands : World → R → Type 0) (Took : K → Report → K → Type 0)
-    (Broke : K → Report → K → Broken → Type 0) (whole : Act) (old : Moment R K) (left : Act)
+    (Broke : K → Report → K → Unwritten → Type 0) (whole : Act) (old : Moment R K) (left : Act)
     (now : Moment R K) : Type 0 where
   pub leads : (new : Moment R K) (r : Result (Unit {0}) Halt)
       → DidAs Stands Took Broke left now new r → DidAs Stands Took Broke whole old new r
 
 module _ {R K : Type 0} {Stands : World → R → Type 0} {Took : K → Report → K → Type 0}
-    {Broke : K → Report → K → Broken → Type 0} where
+    {Broke : K → Report → K → Unwritten → Type 0} where
   pub leads-start : (f : Act) (now : Moment R K) → Leads Stands Took Broke f now f now
   leads-start f now = record { leads = λ new r d. d }
 

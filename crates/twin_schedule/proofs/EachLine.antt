@@ -2,7 +2,7 @@
 use Rattle.std.proofs.Common.{◌≡◌, ℕ, List, [], ◌∷◌, ◌++◌, refl, sym, ap, ◌∙◌, subst}
 use Rattle.std.specs.Prelude.{Result, Ok, Err}
 use Rattle.trace_acts.specs.declared.halt.Halt.{Halt}
-use Rattle.trace_acts.specs.declared.broken.Broken.{Broken}
+use Rattle.lan_base.specs.declared.sink.Unwritten.{Unwritten}
 use Rattle.twin_schedule.specs.declared.commands.TwinReplay.{TwinReplay}
 use Rattle.twin_schedule.specs.World.{World}
 use Rattle.twin_schedule.specs.Acts.{Act, and_then, Course, Goes, nothing, perform, seq, Stops}
@@ -25,7 +25,7 @@ each-append (x ∷ xs) ys w =
     ∙ and-assoc (perform (performed x) w) (λ v. perform (performed_all xs) v)
     (λ v. perform (performed_all ys) v)
 
-module _ {K : Type 0} {Took : K → Report → K → Type 0} {Broke : K → Report → K → Broken → Type 0}
+module _ {K : Type 0} {Took : K → Report → K → Type 0} {Broke : K → Report → K → Unwritten → Type 0}
   where
     same-does : (f g : Act) (old new : Moment TwinReplay K) (r : Result (Unit {0}) Halt)
         → ((w : World) → perform f w ≡ perform g w) → Does Took Broke g old new r

@@ -25,8 +25,8 @@ use Rattle.cak_roll.proofs.Public.{lone-then}
 use Rattle.trace_acts.specs.declared.halt.Halt.{Halt}
 use Rattle.trace_acts.specs.declared.halt.Halt.TheVariants as halts
 use Rattle.trace_acts.specs.declared.halt.Kind.TheVariants.{Order}
-use Rattle.trace_acts.specs.declared.broken.Broken.{Broken}
-use Rattle.trace_acts.specs.Halts.{halt_of_broken, halt_of}
+use Rattle.lan_base.specs.declared.sink.Unwritten.{Unwritten}
+use Rattle.trace_acts.specs.Halts.{halt_of_unwritten, halt_of}
 use Rattle.trace_acts.specs.Settings.{rule_of}
 use Rattle.trace_acts.specs.Supply.{draw_at, supply_nth}
 use Rattle.twin_schedule.specs.declared.stage.Stage.{Stage}
@@ -234,14 +234,14 @@ tidy-after w event x new tidy ready begun is step twin = record {
 -- ---- what was told of it
 
 -- what an event answers by what its recorder answered
-abbrev pub handed : Result (Unit {0}) Broken → Result (Unit {0}) Halt
+abbrev pub handed : Result (Unit {0}) Unwritten → Result (Unit {0}) Halt
 handed (Ok done) = Ok tt
-handed (Err why) = Err (halt_of_broken why)
+handed (Err why) = Err (halt_of_unwritten why)
 
-module _ {K : Type 0} (Took : K → Report → K → Type 0) (Broke : K → Report → K → Broken → Type 0)
+module _ {K : Type 0} (Took : K → Report → K → Type 0) (Broke : K → Report → K → Unwritten → Type 0)
   where
     told-ends : (w : World) (event : TwinEvent) (x : TwinHappening) (a : K) (new : Moment Stage K)
-        (why : Result (Unit {0}) Broken) → IsTidy (world_after w event x)
+        (why : Result (Unit {0}) Unwritten) → IsTidy (world_after w event x)
         → StandsFor (world_after w event x) new.value
         → AreTelling Took Broke (last_reports (x ∷ w.run)) a new.outlet why
         → Ends StandsFor Took Broke w (Goes (world_after w event x)) a new (handed why)
@@ -280,11 +280,11 @@ may-happen given event w stage reached is comes = record {
       (supply-draws w reached.tidy);
 }
 
-module _ {K : Type 0} {Took : K → Report → K → Type 0} {Broke : K → Report → K → Broken → Type 0}
+module _ {K : Type 0} {Took : K → Report → K → Type 0} {Broke : K → Report → K → Unwritten → Type 0}
   where
     -- the event of a step happened, and what it shows was told, or the recorder broke at it
     pub event-did : (given : Option UserFrame) (event : TwinEvent) (told : List Told)
-        (old new : Moment Stage K) (why : Result (Unit {0}) Broken)
+        (old new : Moment Stage K) (why : Result (Unit {0}) Unwritten)
         → StepGoes given event old.value new.value told → Keeps event told old.value new.value
         → AreTelling Took Broke
         (map (report_with new.value.first.names.items new.value.second.names.items) told) old.outlet

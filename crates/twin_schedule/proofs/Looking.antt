@@ -15,7 +15,7 @@ use Rattle.cak_roll.specs.declared.event.GroupNumber.{GroupNumber}
 use Rattle.cak_roll.specs.declared.event.GroupNumber.TheVariants.{First, Second}
 use Rattle.cak_roll.specs.Twin.{of_group, run_of, setting_of}
 use Rattle.cak_roll.proofs.Public.{few-stations, twin-stepped}
-use Rattle.trace_acts.specs.declared.broken.Broken.{Broken}
+use Rattle.lan_base.specs.declared.sink.Unwritten.{Unwritten}
 use Rattle.twin_schedule.specs.declared.party.Party.{Party}
 use Rattle.twin_schedule.specs.declared.stage.Stage.{Stage}
 use Rattle.twin_schedule.specs.World.{World, Kept, pair_of, count, place, frames, spread_in}
@@ -66,7 +66,7 @@ place-is w stage name s reached is =
     ∙ ap (λ (names : List (List ℕ)). position_or_len (pointwise nat_eq name) names)
     reached.stands.first_party.names
 
-module _ {K : Type 0} {Took : K → Report → K → Type 0} {Broke : K → Report → K → Broken → Type 0}
+module _ {K : Type 0} {Took : K → Report → K → Type 0} {Broke : K → Report → K → Unwritten → Type 0}
   where
     -- an act for each station
     pub stations-leads : (f : ℕ → Act) (n : ℕ) (now : Moment Stage K) → Counts now.value n

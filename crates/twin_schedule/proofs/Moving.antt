@@ -15,7 +15,7 @@ use Rattle.trace_text.specs.declared.line.Line.TheVariants as lines
 use Rattle.trace_acts.specs.declared.choices.Choices.{Choices}
 use Rattle.trace_acts.specs.declared.halt.Halt.{Halt}
 use Rattle.trace_acts.specs.declared.halt.Halt.TheVariants as halts
-use Rattle.trace_acts.specs.declared.broken.Broken.{Broken}
+use Rattle.lan_base.specs.declared.sink.Unwritten.{Unwritten}
 use Rattle.trace_acts.specs.Choosing.{chosen_by}
 use Rattle.trace_acts.specs.Settings.{rule_of}
 use Rattle.trace_acts.specs.Supply.{draws_after, supply_nth}
@@ -125,7 +125,7 @@ second-spread n w old new stands is =
       };
     })
 
-module _ {K : Type 0} {Took : K → Report → K → Type 0} {Broke : K → Report → K → Broken → Type 0}
+module _ {K : Type 0} {Took : K → Report → K → Type 0} {Broke : K → Report → K → Unwritten → Type 0}
   where
     -- a station came
     pub begin-does : (now : Moment Stage K) → Did Took Broke begin now now (Ok tt)

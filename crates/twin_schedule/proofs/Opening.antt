@@ -26,7 +26,7 @@ use Rattle.trace_acts.specs.declared.halt.Halt.{Halt}
 use Rattle.trace_acts.specs.declared.halt.Halt.TheVariants as halts
 use Rattle.trace_acts.specs.declared.halt.Kind.{Kind}
 use Rattle.trace_acts.specs.declared.halt.Kind.TheVariants as kinds
-use Rattle.trace_acts.specs.declared.broken.Broken.{Broken}
+use Rattle.lan_base.specs.declared.sink.Unwritten.{Unwritten}
 use Rattle.trace_acts.specs.Kinds.{first_of, is_allowed, where_}
 use Rattle.trace_acts.specs.Choosing.{chosen_by}
 use Rattle.trace_acts.specs.Settings.{rule_of, secret_of, settings_of, unkeyed}
@@ -133,7 +133,7 @@ never-leaves : (line : ℕ) (chosen : Choices) (second : Option Keyed) (group : 
     → Comes (deed (Leave group name) (waiting line chosen second)) (waiting line chosen second) → ⊥
 never-leaves line chosen second group name comes = never-part (group_of group) _ comes.0
 
-module _ {K : Type 0} {Took : K → Report → K → Type 0} {Broke : K → Report → K → Broken → Type 0}
+module _ {K : Type 0} {Took : K → Report → K → Type 0} {Broke : K → Report → K → Unwritten → Type 0}
   where
     -- nobody joins or leaves before the first station
     pub joins-never : (line : RollLine) (old new : Moment TwinReplay K) (r : Result (Unit {0}) Halt)
@@ -275,7 +275,7 @@ joins-stage w stage ckn stands is may =
     (none-there stage.twin.second (stands.there
     ∙ ap (λ (o : Option Keyed). is_some o) (first-time ckn w.kept.chosen.group w.kept.second may)))
 
-module _ {K : Type 0} {Took : K → Report → K → Type 0} {Broke : K → Report → K → Broken → Type 0}
+module _ {K : Type 0} {Took : K → Report → K → Type 0} {Broke : K → Report → K → Unwritten → Type 0}
   where
     -- the second group comes before the first station
     pub second-does : (cak ckn : List ℕ) (old new : Moment TwinReplay K) → old.value.stage ≡ None
@@ -416,7 +416,7 @@ opens w chosen keyed line stage opening named is_chosen is_keyed is_line twin th
           record { names = second_names; senders = second_senders; spread = second_spread };
     })
 
-module _ {K : Type 0} {Took : K → Report → K → Type 0} {Broke : K → Report → K → Broken → Type 0}
+module _ {K : Type 0} {Took : K → Report → K → Type 0} {Broke : K → Report → K → Unwritten → Type 0}
   where
     pub opening-does : (line : Line) (old new : Moment TwinReplay K) (stage later : Stage)
         (r : Result (Unit {0}) Halt) → IsStation line → old.value.stage ≡ None

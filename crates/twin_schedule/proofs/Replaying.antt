@@ -11,7 +11,7 @@ use Rattle.trace_acts.specs.declared.choices.Keyed.{Keyed}
 use Rattle.trace_acts.specs.declared.halt.Halt.{Halt}
 use Rattle.trace_acts.specs.declared.halt.Halt.TheVariants as halts
 use Rattle.trace_acts.specs.declared.halt.Kind.{Kind}
-use Rattle.trace_acts.specs.declared.broken.Broken.{Broken}
+use Rattle.lan_base.specs.declared.sink.Unwritten.{Unwritten}
 use Rattle.trace_acts.specs.Kinds.{kind_of_fault}
 use Rattle.twin_schedule.specs.declared.stage.Stage.{Stage}
 use Rattle.twin_schedule.specs.declared.commands.TwinReplay.{TwinReplay}
@@ -93,7 +93,7 @@ line-unbegun number w old new is_old is_new halted line chosen second stands =
     (subst (λ (o : Option Keyed). MayOpen old.chosen.group o) (sym second)
     (opens-at w old is_old stands)))
 
-module _ {K : Type 0} {Took : K → Report → K → Type 0} {Broke : K → Report → K → Broken → Type 0}
+module _ {K : Type 0} {Took : K → Report → K → Type 0} {Broke : K → Report → K → Unwritten → Type 0}
   where
     pub begun-does : (number : ℕ) (old new : Moment TwinReplay K)
         → ((w : World) → StandsFor w old.value → StandsFor (at_line number w) new.value)
@@ -198,7 +198,7 @@ fault-is (Ok line) fault e = absurd (cc e)
 fault-is (Err other) fault e =
     let same : other ≡ fault = cc in ap (λ (f : TextFault). Err f) same
 
-module _ {K : Type 0} {Took : K → Report → K → Type 0} {Broke : K → Report → K → Broken → Type 0}
+module _ {K : Type 0} {Took : K → Report → K → Type 0} {Broke : K → Report → K → Unwritten → Type 0}
   where
     -- a text is performed as what it says, as the line of the next number
     read-does : (text : List ℕ) (number : ℕ) (said : Result (Option RollLine) TextFault)

@@ -112,7 +112,7 @@ twin-other pair users t event nth = by (is_spent (twin_draws pair t event) nth) 
 -- a reason for which an act may stop
 abbrev IsReason : Halt → Type 0
 IsReason halts.Memory = ⊥
-IsReason halts.Broken = ⊥
+IsReason halts.WriteFault = ⊥
 IsReason (halts.Forged line) = ⊥
 IsReason _ = Unit {0}
 
@@ -150,7 +150,7 @@ stays (seq f g) w = then-stays (perform f w) (λ v. perform g v) (stays f w) (λ
 stays (look f) w = stays (f w) w
 
 pub never-broken : (act : Act) (w v : World) (halt : Halt) → perform act w ≡ Stops v halt
-    → (halt ≡ halts.Memory) ⊎ (halt ≡ halts.Broken) → ⊥
+    → (halt ≡ halts.Memory) ⊎ (halt ≡ halts.WriteFault) → ⊥
 never-broken act w v halt is (inl memory) =
     subst IsReason memory (subst Stays is (stays act w))
 never-broken act w v halt is (inr broken) =

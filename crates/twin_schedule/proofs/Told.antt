@@ -25,7 +25,7 @@ use Rattle.cak_roll.specs.Stepping.{Supply, happening, in_groups, first_part, se
 use Rattle.cak_roll.specs.Answers.{told_of, told_in}
 use Rattle.cak_roll.proofs.Public.{started_in, stations-then}
 use Rattle.twin_schedule.specs.World.{names_in, senders_of}
-use Rattle.trace_acts.specs.declared.broken.Broken.{Broken}
+use Rattle.lan_base.specs.declared.sink.Unwritten.{Unwritten}
 use Rattle.twin_schedule.specs.Reports.{AreTold, Report, report_of}
 use Rattle.twin_schedule.specs.inside.Telling.{started_name, started_sci, adopted_name, sender_in}
 use Rattle.twin_schedule.specs.inside.Telling.{senders_in, sent_in, report_with, AreTelling}
@@ -271,14 +271,14 @@ module _ {K : Type 0} (Took : K → Report → K → Type 0) where
 
 -- the recorder broke at a report
 pub told-upto : {K : Type 0} (Took : K → Report → K → Type 0)
-    (Broke : K → Report → K → Broken → Type 0) (f : Told → Report) (told : List Told) (i : ℕ)
-    (x : Told) (a b c : K) (why : Broken) (r : Result (Unit {0}) Broken) → i < length told
+    (Broke : K → Report → K → Unwritten → Type 0) (f : Told → Report) (told : List Told) (i : ℕ)
+    (x : Told) (a b c : K) (why : Unwritten) (r : Result (Unit {0}) Unwritten) → i < length told
     → x ≡ get_or told i x → AreTold Took a (map f (take i told)) b → Broke b (f x) c why
     → IsErrAnd r (λ y. y ≡ why) → AreTelling Took Broke (map f told) a c r
 told-upto Took Broke f told i x a b c why r lt is before broke err =
     let p = err_from_is_err_and r err in
-    subst (λ (r : Result (Unit {0}) Broken). AreTelling Took Broke (map f told) a c r)
-    (sym (p.1 ∙ ap (λ (y : Broken). Err y) p.2)) (record {
+    subst (λ (r : Result (Unit {0}) Unwritten). AreTelling Took Broke (map f told) a c r)
+    (sym (p.1 ∙ ap (λ (y : Unwritten). Err y) p.2)) (record {
       told = map f (take i told);
       last = f x;
       behind = map f (drop (i + 1) told);

@@ -3,8 +3,8 @@
 use Rattle.std.specs.Prelude.{◌≡◌, ◌⊎◌, List, ◌∷◌, ◌++◌, Result, Ok, Err}
 use Rattle.trace_acts.specs.declared.halt.Halt.{Halt}
 use Rattle.trace_acts.specs.declared.halt.Halt.TheVariants as halts
-use Rattle.trace_acts.specs.declared.broken.Broken.{Broken}
-use Rattle.trace_acts.specs.Halts.{halt_of_broken}
+use Rattle.lan_base.specs.declared.sink.Unwritten.{Unwritten}
+use Rattle.trace_acts.specs.Halts.{halt_of_unwritten}
 use Rattle.twin_schedule.specs.Sound.{IsTidy}
 use Rattle.twin_schedule.specs.World.{World}
 use Rattle.twin_schedule.specs.Acts.{Course, Goes, Stops, world_of}
@@ -33,7 +33,7 @@ pub record WasTold {K : Type 0} (Took : K → Report → K → Type 0) (w v : Wo
 -- from one world up to another all was told up to a report of the last event, at which the recorder
 -- broke
 pub record WasBroken {K : Type 0} (Took : K → Report → K → Type 0)
-    (Broke : K → Report → K → Broken → Type 0) (w v : World) (old new : K) (halt : Halt) :
+    (Broke : K → Report → K → Unwritten → Type 0) (w v : World) (old new : K) (halt : Halt) :
     Type 0 where
   pub told : List Report
   pub last : Report
@@ -43,9 +43,9 @@ pub record WasBroken {K : Type 0} (Took : K → Report → K → Type 0)
   pub prompt : last_reports v.run ≡ front ++ last ∷ behind
   pub before : K
   pub by_one : AreTold Took old told before
-  pub why : Broken
+  pub why : Unwritten
   pub breaks : Broke before last new why
-  pub is : halt ≡ halt_of_broken why
+  pub is : halt ≡ halt_of_unwritten why
 
 -- the act stopped in a tidy world, and all was told
 pub record IsStopped {K : Type 0} (Took : K → Report → K → Type 0) (w : World) (out : Course)
@@ -66,7 +66,7 @@ reported out = reports (world_of out).run
 
 -- on the way to this course a tidy world was reached, where memory was wanting, or the recorder broke
 pub record WasCut {K : Type 0} (Took : K → Report → K → Type 0)
-    (Broke : K → Report → K → Broken → Type 0) (w : World) (out : Course) (old new : K)
+    (Broke : K → Report → K → Unwritten → Type 0) (w : World) (out : Course) (old new : K)
     (halt : Halt) : Type 0 where
   pub world : World
   pub tidy : IsTidy world
@@ -77,7 +77,7 @@ pub record WasCut {K : Type 0} (Took : K → Report → K → Type 0)
 -- How a call ends that begins in a world, and whose course would be this one. Its value then stands
 -- for the world that is reached; or the act stops, or it was cut.
 abbrev pub Ends : {R K : Type 0} → (World → R → Type 0) → (K → Report → K → Type 0)
-    → (K → Report → K → Broken → Type 0) → World → Course → K → Moment R K
+    → (K → Report → K → Unwritten → Type 0) → World → Course → K → Moment R K
     → Result (Unit {0}) Halt → Type 0
 Ends Stands Took Broke w out old new (Ok done) =
     (v : World) × (out ≡ Goes v) × IsReached Stands v new.value × WasTold Took w v old new.outlet

@@ -3,7 +3,7 @@ use Rattle.std.specs.Prelude.{◌≡◌, true, Option, Some, None, Result}
 use Rattle.lan_base.specs.Ranges.{IsCkn}
 use Rattle.trace_acts.specs.declared.choices.Keyed.{Keyed}
 use Rattle.trace_acts.specs.declared.halt.Halt.{Halt}
-use Rattle.trace_acts.specs.declared.broken.Broken.{Broken}
+use Rattle.lan_base.specs.declared.sink.Unwritten.{Unwritten}
 use Rattle.twin_schedule.specs.declared.stage.Stage.{Stage}
 use Rattle.twin_schedule.specs.declared.commands.TwinReplay.{TwinReplay}
 use Rattle.twin_schedule.specs.World.{World, waiting}
@@ -42,7 +42,7 @@ pub record StandsFor (w : World) (replay : TwinReplay) : Type 0 where
 
 -- a call did an act, in each world for which the replay may stand
 pub record Does {K : Type 0} (Took : K → Report → K → Type 0)
-    (Broke : K → Report → K → Broken → Type 0) (act : Act) (old new : Moment TwinReplay K)
+    (Broke : K → Report → K → Unwritten → Type 0) (act : Act) (old new : Moment TwinReplay K)
     (result : Result (Unit {0}) Halt) : Type 0 where
   pub ends : (w : World) → IsReached StandsFor w old.value
       → Ends StandsFor Took Broke w (perform act w) old.outlet new result

@@ -60,7 +60,7 @@ pub fn law_both_groups_of_tidy_worlds_are_sound()
 /// at a forged frame, since nothing is injected.
 pub fn law_acts_stop_for_their_own_reasons()
     ensures own { (act : Act) (w v : World) (halt : Halt) → perform act w ≡ Stops v halt
-        → (halt ≡ halts.Memory) ⊎ (halt ≡ halts.Broken) → ⊥ }
+        → (halt ≡ halts.Memory) ⊎ (halt ≡ halts.WriteFault) → ⊥ }
     ensures unforged { (act : Act) (w v : World) (line : ℕ)
         → perform act w ≡ Stops v (halts.Forged line) → ⊥ }
 {}

@@ -1,13 +1,12 @@
 //! Who is told what events of two groups show.
 
 ghost use Rattle.std.specs.Prelude.{MatchResult};
-ghost use Rattle.trace_acts.specs.declared.broken.Broken.{Broken};
+ghost use Rattle.lan_base.specs.declared.sink.Unwritten.{Unwritten};
 ghost use Rattle.twin_schedule.specs.Reports.{Report};
 
 use cak_roll::GroupNumber;
-use lan_base::Name;
+use lan_base::{Name, Unwritten};
 use lan_core::Fact;
-use trace_acts::Broken;
 
 /// Tells an outlet what events show in each group, each before the next one happens. The outlet is
 /// passed beside the recorder, since a value that lends it would hide what it holds; of the recorder
@@ -18,7 +17,7 @@ pub trait TwinRecorder<K> {
 
     /// From one value it came to another as it was to be told a report, of which it took a front at
     /// most, for this reason.
-    ghost Broke: { K → Report → K → Broken → Type 0 };
+    ghost Broke: { K → Report → K → Unwritten → Type 0 };
 
     /// Tells what an event of a group showed, under the names that the stations of the group have by
     /// then, in the order in which they joined it.
@@ -28,7 +27,7 @@ pub trait TwinRecorder<K> {
         names: &[Name],
         facts: &[Fact],
         outlet: &mut K,
-    ) -> Result<(), Broken>
+    ) -> Result<(), Unwritten>
         ensures { MatchResult result
             (λ _. Took outlet.old
             (record { group = group; names = names.now; facts = facts.now }) outlet.new)

@@ -9,9 +9,8 @@ ghost use Rattle.twin_schedule.specs.inside.Telling.{sent_in, report_with, AreTe
 use crate::party::put;
 use crate::recorder::TwinRecorder;
 use cak_roll::{GroupNumber, Told, TwinEvent};
-use lan_base::{Name, Sci};
+use lan_base::{Name, Sci, Unwritten};
 use std::alloc::AllocError;
-use trace_acts::Broken;
 
 /// A station that starts has a name and an SCI, and one that adopts the second group its name there.
 pub fn admit(
@@ -72,7 +71,7 @@ pub fn tell<K, R: TwinRecorder<K>>(
     told: &[Told],
     recorder: &mut R,
     outlet: &mut K,
-) -> Result<(), Broken>
+) -> Result<(), Unwritten>
     ensures { AreTelling R.Took R.Broke (map (report_with first.now second.now) told.now) outlet.old
         outlet.new result }
 {

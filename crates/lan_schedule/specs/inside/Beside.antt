@@ -22,7 +22,7 @@ use Rattle.worker_races.specs.Going.{HaveJoined, WereSeated}
 use Rattle.worker_races.specs.Senders.{AreSenders, IsNew, jobs_of}
 use Rattle.trace_acts.specs.declared.halt.Halt.{Halt}
 use Rattle.trace_acts.specs.declared.halt.Halt.TheVariants as halts
-use Rattle.trace_acts.specs.declared.broken.Broken.{Broken}
+use Rattle.lan_base.specs.declared.sink.Unwritten.{Unwritten}
 use Rattle.lan_schedule.specs.declared.race.Before.{Before}
 use Rattle.lan_schedule.specs.declared.race.Crew.{Crew}
 use Rattle.lan_schedule.specs.declared.race.Ran.{Ran}
@@ -245,7 +245,7 @@ pub record Weaves (ran : Ran) (old new : Stage)
 
 -- and all of it was told
 pub record EndsRace {K : Type 0} (Took : K → Report → K → Type 0)
-    (Broke : K → Report → K → Broken → Type 0) (before : Before) (ran : Ran)
+    (Broke : K → Report → K → Unwritten → Type 0) (before : Before) (ran : Ran)
     (old new : Moment Stage K) (result : Result (Unit {0}) Halt) : Type 0 where
   pub chances : List Chance
   pub ends : (w : World) (later : List Chance) (workers : List Worker) (lines : List Numbered)
@@ -266,7 +266,7 @@ pub record EndsRace {K : Type 0} (Took : K → Report → K → Type 0)
 -- and whose chances begin with those that were decided in the call; the bursts are such as its lines
 -- keep.
 pub record DidRace {K : Type 0} (Took : K → Report → K → Type 0)
-    (Broke : K → Report → K → Broken → Type 0) (bursts : List Burst) (control : List Numbered)
+    (Broke : K → Report → K → Unwritten → Type 0) (bursts : List Burst) (control : List Numbered)
     (old new : Moment Stage K) (result : Result (Unit {0}) Halt) : Type 0 where
   pub chances : List Chance
   pub ends : (w : World) (later : List Chance) → w.kept.chances ≡ chances ++ later

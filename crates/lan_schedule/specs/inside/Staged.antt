@@ -15,7 +15,7 @@ use Rattle.sak_exchange.specs.declared.held_key.Key.{Key}
 use Rattle.lan_core.specs.Standing.{StandsFor as GroupStandsFor}
 use Rattle.trace_acts.specs.declared.choices.Choices.{Choices}
 use Rattle.trace_acts.specs.declared.halt.Halt.{Halt}
-use Rattle.trace_acts.specs.declared.broken.Broken.{Broken}
+use Rattle.lan_base.specs.declared.sink.Unwritten.{Unwritten}
 use Rattle.trace_acts.specs.Supply.{supply_nth}
 use Rattle.lan_schedule.specs.declared.stage.Stage.{Stage}
 use Rattle.lan_schedule.specs.Races.{Chance}
@@ -35,7 +35,7 @@ use Rattle.lan_schedule.specs.inside.Set.{AreSet}
 -- what control performs, since whenever the race began. Each station keeps its
 -- table, and no seat more is out.
 pub record Did {K : Type 0} (Took : K → Report → K → Type 0)
-    (Broke : K → Report → K → Broken → Type 0) (act : Act) (old new : Moment Stage K)
+    (Broke : K → Report → K → Unwritten → Type 0) (act : Act) (old new : Moment Stage K)
     (result : Result (Unit {0}) Halt) : Type 0 where
   pub chances : List Chance
   pub ends : (mark : Mark) (w : World) (later : List Chance) → w.kept.chances ≡ chances ++ later
@@ -46,7 +46,7 @@ pub record Did {K : Type 0} (Took : K → Report → K → Type 0)
 
 -- the same in the worlds of which this holds
 pub record DidWhere {K : Type 0} (Holds : World → Type 0) (Took : K → Report → K → Type 0)
-    (Broke : K → Report → K → Broken → Type 0) (act : Act) (old new : Moment Stage K)
+    (Broke : K → Report → K → Unwritten → Type 0) (act : Act) (old new : Moment Stage K)
     (result : Result (Unit {0}) Halt) : Type 0 where
   pub chances : List Chance
   pub ends : (mark : Mark) (w : World) (later : List Chance) → w.kept.chances ≡ chances ++ later
@@ -70,7 +70,7 @@ pub record IsSetSince (event : Event) (mark : Mark) (w : World) (stage : Stage) 
 -- an event happened, where the words are set for it, this user frame is the one that it names, and
 -- chance decides its number
 pub record Happened {K : Type 0} (Took : K → Report → K → Type 0)
-    (Broke : K → Report → K → Broken → Type 0) (given : Option UserFrame) (event : Event)
+    (Broke : K → Report → K → Unwritten → Type 0) (given : Option UserFrame) (event : Event)
     (old new : Moment Stage K) (result : Result (Unit {0}) Halt) : Type 0 where
   pub ends : (mark : Mark) (w : World) (later : List Chance)
       → w.kept.chances ≡ decided old.value.raced event ++ later
@@ -91,7 +91,7 @@ pub record HasStepped (event : Event) (before : Option ℕ) (old mid : Stage) : 
 
 -- what follows such a step was done, in the worlds in which the group went on with these facts
 pub record WentOn {K : Type 0} (Took : K → Report → K → Type 0)
-    (Broke : K → Report → K → Broken → Type 0) (event : Event) (facts : List Fact) (mid : Stage)
+    (Broke : K → Report → K → Unwritten → Type 0) (event : Event) (facts : List Fact) (mid : Stage)
     (old new : Moment Stage K) (result : Result (Unit {0}) Halt) : Type 0 where
   pub ends : (mark : Mark) (w : World) (later : List Chance)
       → w.kept.chances ≡ decided old.value.raced event ++ later

@@ -7,8 +7,8 @@ use Rattle.lan_core.specs.declared.event.Event.TheVariants as events
 use Rattle.lan_core.specs.declared.fact.Fact.{Fact}
 use Rattle.lan_core.specs.declared.fact.Fact.TheVariants as facts
 use Rattle.lan_core.specs.declared.fact.Lack.TheVariants.{NoKey}
-use Rattle.trace_acts.specs.declared.broken.Broken.{Broken}
-use Rattle.trace_acts.specs.declared.broken.Broken.TheVariants.{Memory}
+use Rattle.lan_base.specs.declared.sink.Unwritten.{Unwritten}
+use Rattle.lan_base.specs.declared.sink.Unwritten.TheVariants.{Memory}
 use Rattle.lan_schedule.specs.Reports.{Report, AreTold}
 
 -- ---- what is kept
@@ -27,7 +27,7 @@ abbrev pub KeepsReport : List (List Fact) → Report → List (List Fact) → Ty
 KeepsReport old report new = new ≡ old ++ report.facts ∷ []
 
 -- one is kept no more, for want of memory alone
-abbrev pub KeepsNoMore : List (List Fact) → Report → List (List Fact) → Broken → Type 0
+abbrev pub KeepsNoMore : List (List Fact) → Report → List (List Fact) → Unwritten → Type 0
 KeepsNoMore old report new why = why ≡ Memory
 
 -- ---- the order of a race
@@ -80,7 +80,7 @@ reports_with names shown = map (λ facts. record { names = names; facts = facts 
 
 -- reports were told up to one, at which the recorder broke
 pub record WereToldUpTo {K : Type 0} (Took : K → Report → K → Type 0)
-    (Broke : K → Report → K → Broken → Type 0) (all : List Report) (old new : K) (why : Broken) :
+    (Broke : K → Report → K → Unwritten → Type 0) (all : List Report) (old new : K) (why : Unwritten) :
     Type 0 where
   pub told : List Report
   pub last : Report

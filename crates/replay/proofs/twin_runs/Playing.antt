@@ -9,9 +9,9 @@ use Rattle.text_lines.specs.Moments.{Moment as LinesMoment}
 use Rattle.text_lines.specs.Reading.{Sourced, Takes, Reads}
 use Rattle.trace_acts.specs.declared.halt.Halt.{Halt}
 use Rattle.trace_acts.specs.declared.halt.Halt.TheVariants as halts
-use Rattle.trace_acts.specs.declared.broken.Broken.{Broken}
-use Rattle.trace_acts.specs.declared.broken.Broken.TheVariants as broken
-use Rattle.trace_acts.specs.Halts.{halt_of_broken}
+use Rattle.lan_base.specs.declared.sink.Unwritten.{Unwritten}
+use Rattle.lan_base.specs.declared.sink.Unwritten.TheVariants as whys
+use Rattle.trace_acts.specs.Halts.{halt_of_unwritten}
 use Rattle.replay.specs.declared.cause.Cause.TheVariants as causes
 use Rattle.replay.specs.Sinks.{Sunk, Wrote, BrokeOff, WroteSome, Fails}
 use Rattle.replay.specs.Causes.{cause_of, ended}
@@ -38,7 +38,7 @@ use Rattle.replay.proofs.twin_runs.Telling.{TookText, BrokeText, texts-told, tex
 pub record Given : Type 0 where
   pub tidy : IsTidy beginning
   pub never : (act : Act) (w v : World) (halt : Halt) → perform act w ≡ Stops v halt
-      → (halt ≡ halts.Memory) ⊎ (halt ≡ halts.Broken) → ⊥
+      → (halt ≡ halts.Memory) ⊎ (halt ≡ halts.WriteFault) → ⊥
   pub unforged : (act : Act) (w v : World) (line : ℕ) → perform act w ≡ Stops v (halts.Forged line)
       → ⊥
 
@@ -46,7 +46,7 @@ module _ {P K : Type 0} (given : Given) (of : LinesMoment P K → TwinReplay) (s
   abbrev Took : K → Report → K → Type 0
   Took old report new = TookText see old report new
 
-  abbrev Broke : K → Report → K → Broken → Type 0
+  abbrev Broke : K → Report → K → Unwritten → Type 0
   Broke old report new why = BrokeText see old report new why
 
   abbrev texts : World → List (List ℕ)
@@ -117,16 +117,16 @@ module _ {P K : Type 0} (given : Given) (of : LinesMoment P K → TwinReplay) (s
       ]
 
   broke-off : (act : Act) (old new : LinesMoment P K) → IsFresh old
-      → DidAct Took Broke of act old new (Err halts.Broken)
+      → DidAct Took Broke of act old new (Err halts.WriteFault)
       → Rose (seen old).faults (seen new).faults
       × WasCut two_groups IsTidy (λ t. BrokeOff t (seen old) (seen new)) texts act
   broke-off act old new fresh d =
       elim (d.ends beginning (begins old fresh)) [
-        | inl s ↦ absurd (given.never act beginning s.world halts.Broken s.stops (inr refl))
+        | inl s ↦ absurd (given.never act beginning s.world halts.WriteFault s.stops (inr refl))
         | inr cut ↦ elim cut.cause [
           | inl m ↦ absurd (cc (m.0))
           | inr b ↦
-              let f = fails-rose _ _ _ b.why b.is (was-broken cut.world _ _ halts.Broken b) in
+              let f = fails-rose _ _ _ b.why b.is (was-broken cut.world _ _ halts.WriteFault b) in
               (f.0, (cut.world, cut.begins, cut.tidy, f.1))
         ]
       ]
@@ -170,15 +170,15 @@ module _ {P K : Type 0} (given : Given) (of : LinesMoment P K → TwinReplay) (s
         ]
       ]
 
-  rose-since : (act : Act) (a b : LinesMoment P K) → DidAct Took Broke of act a b (Err halts.Broken)
+  rose-since : (act : Act) (a b : LinesMoment P K) → DidAct Took Broke of act a b (Err halts.WriteFault)
       → (w : World) → IsReached StandsFor w (of a) → Rose (seen a).faults (seen b).faults
   rose-since act a b d w reached =
       elim (d.ends w reached) [
-        | inl s ↦ absurd (given.never act w s.world halts.Broken s.stops (inr refl))
+        | inl s ↦ absurd (given.never act w s.world halts.WriteFault s.stops (inr refl))
         | inr cut ↦ elim cut.cause [
           | inl m ↦ absurd (cc (m.0))
           | inr t ↦
-              (fails-rose _ _ _ t.why t.is (since-broken w cut.world _ _ halts.Broken t)).0
+              (fails-rose _ _ _ t.why t.is (since-broken w cut.world _ _ halts.WriteFault t)).0
         ]
       ]
 
@@ -197,7 +197,7 @@ module _ {P K : Type 0} (given : Given) (of : LinesMoment P K → TwinReplay) (s
 
   rose : (first later : List (List ℕ)) (old mid new : LinesMoment P K) → IsFresh old
       → DidLines Took Broke of first old mid (Ok tt)
-      → DidLines Took Broke of later mid new (Err halts.Broken)
+      → DidLines Took Broke of later mid new (Err halts.WriteFault)
       → Rose (seen old).faults (seen new).faults
   rose first later old mid new fresh d e =
       let p = d.ends beginning (begins old fresh) in
@@ -234,9 +234,9 @@ module _ {P K : Type 0} (given : Given) (of : LinesMoment P K → TwinReplay) (s
 
   -- ---- no frame is forged
 
-  not-forged : (line : ℕ) (why : Broken) → halts.Forged line ≡ halt_of_broken why → ⊥
-  not-forged line broken.Failed is = cc is
-  not-forged line broken.Memory is = cc is
+  not-forged : (line : ℕ) (why : Unwritten) → halts.Forged line ≡ halt_of_unwritten why → ⊥
+  not-forged line whys.Failed is = cc is
+  not-forged line whys.Memory is = cc is
 
   forged-never : (act : Act) (a b : LinesMoment P K) (line : ℕ) (w : World)
       → IsReached StandsFor w (of a) → DidAct Took Broke of act a b (Err (halts.Forged line)) → ⊥
@@ -255,7 +255,7 @@ module _ {P K : Type 0} (given : Given) (of : LinesMoment P K → TwinReplay) (s
   none-forged left now old new (ends.Refused (halts.Forged other)) line fresh h is =
       let p = h.taken.ends beginning (begins old fresh) in
       forged-never (performed_all h.last) h.between new other p.0 p.2 h.ends.1
-  none-forged left now old new (ends.Refused halts.Broken) line fresh h is = cc is
+  none-forged left now old new (ends.Refused halts.WriteFault) line fresh h is = cc is
   none-forged left now old new (ends.Refused (halts.Trace at kind)) line fresh h is = cc is
   none-forged left now old new (ends.Refused (halts.Limit which)) line fresh h is = cc is
   none-forged left now old new (ends.Refused (halts.RepeatedDraw a b)) line fresh h is = cc is

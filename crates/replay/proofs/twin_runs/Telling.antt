@@ -1,7 +1,7 @@
 -- What a sink holds after reports of two groups were told.
 use Rattle.std.proofs.Common.{ℕ, List, [], ◌∷◌, ◌++◌, map, sym, ap, subst}
 use Rattle.std.proofs.lemmas.List.{map-append}
-use Rattle.trace_acts.specs.declared.broken.Broken.{Broken}
+use Rattle.lan_base.specs.declared.sink.Unwritten.{Unwritten}
 use Rattle.twin_schedule.specs.Reports.{Report, AreTold}
 use Rattle.replay.specs.Sinks.{Sunk, Wrote, Fails}
 use Rattle.replay.proofs.Written.{wrote-more, fails-behind}
@@ -11,7 +11,7 @@ module _ {K : Type 0} (see : K → Sunk) where
   abbrev pub TookText : K → Report → K → Type 0
   TookText old report new = Wrote (text_of report ∷ []) (see old) (see new)
 
-  abbrev pub BrokeText : K → Report → K → Broken → Type 0
+  abbrev pub BrokeText : K → Report → K → Unwritten → Type 0
   BrokeText old report new why = Fails (text_of report ∷ []) (see old) (see new) why
 
   pub texts-told : (a b : K) (xs : List Report) → AreTold TookText a xs b
@@ -21,7 +21,7 @@ module _ {K : Type 0} (see : K → Sunk) where
       (see told.0) (see b) told.1 (texts-told told.0 b later told.2)
 
   pub texts-broken : (a b c : K) (xs : List Report) (x : Report) (behind : List Report)
-      (why : Broken) → AreTold TookText a xs b → BrokeText b x c why
+      (why : Unwritten) → AreTold TookText a xs b → BrokeText b x c why
       → Fails (map text_of (xs ++ x ∷ behind)) (see a) (see c) why
   texts-broken a b c xs x behind why told f =
       subst (λ (l : List (List ℕ)). Fails l (see a) (see c) why)

@@ -1,6 +1,6 @@
 -- How the line of a summary is written behind a run.
 use Rattle.std.specs.Prelude.{◌≡◌, ℕ, List, [], ◌∷◌, Result, Ok, Err, MatchResult}
-use Rattle.trace_acts.specs.declared.broken.Broken.{Broken}
+use Rattle.lan_base.specs.declared.sink.Unwritten.{Unwritten}
 use Rattle.replay.specs.declared.cause.Cause.{Cause}
 use Rattle.replay.specs.Sinks.{Sunk, Wrote, Fails}
 use Rattle.replay.specs.Causes.{answered}
@@ -10,6 +10,6 @@ use Rattle.replay.specs.Causes.{answered}
 abbrev pub SumsUp : Result (Unit {0}) Cause → List ℕ → Sunk → Sunk → Result (Unit {0}) Cause
     → Type 0
 SumsUp (Ok done) line old new result =
-    (r : Result (Unit {0}) Broken) × MatchResult r (λ done. Wrote (line ∷ []) old new)
+    (r : Result (Unit {0}) Unwritten) × MatchResult r (λ done. Wrote (line ∷ []) old new)
     (λ why. Fails (line ∷ []) old new why) × (result ≡ answered r)
 SumsUp (Err why) line old new result = (new ≡ old) × (result ≡ Err why)

@@ -6,10 +6,9 @@ ghost use Rattle.replay.specs.twin.Written.{digit, marked};
 
 use crate::write;
 use cak_roll::GroupNumber;
-use lan_base::{Name, Sink};
+use lan_base::{Name, Sink, Unwritten};
 use lan_core::Fact;
 use std::alloc::{AllocError, Global};
-use trace_acts::Broken;
 use transcript::render;
 use twin_schedule::TwinRecorder;
 
@@ -46,7 +45,7 @@ impl<K: Sink> TwinRecorder<K> for Transcript {
         names: &[Name],
         facts: &[Fact],
         outlet: &mut K,
-    ) -> Result<(), Broken> {
+    ) -> Result<(), Unwritten> {
         render_all(group, names, facts, &mut self.out)?;
         write(self.out.as_slice(), outlet)
     }

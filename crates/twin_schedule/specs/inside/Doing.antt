@@ -10,7 +10,7 @@ use Rattle.trace_acts.specs.declared.halt.Halt.{Halt}
 use Rattle.trace_acts.specs.declared.halt.Halt.TheVariants as halts
 use Rattle.trace_acts.specs.declared.halt.Kind.TheVariants.{Order}
 use Rattle.trace_acts.specs.Halts.{halt_of}
-use Rattle.trace_acts.specs.declared.broken.Broken.{Broken}
+use Rattle.lan_base.specs.declared.sink.Unwritten.{Unwritten}
 use Rattle.twin_schedule.specs.World.{World}
 use Rattle.twin_schedule.specs.Acts.{Act, happen, perform}
 use Rattle.twin_schedule.specs.Reports.{Report}
@@ -30,24 +30,24 @@ halt_by line NoSecond = halts.Trace line Order
 -- a call did an act, in each world for which its value may stand, and in which the act can be
 -- performed
 pub record DidAs {R K : Type 0} (Stands : World → R → Type 0) (Took : K → Report → K → Type 0)
-    (Broke : K → Report → K → Broken → Type 0) (act : Act) (old new : Moment R K)
+    (Broke : K → Report → K → Unwritten → Type 0) (act : Act) (old new : Moment R K)
     (result : Result (Unit {0}) Halt) : Type 0 where
   pub ends : (w : World) → IsReached Stands w old.value → Comes act w
       → Ends Stands Took Broke w (perform act w) old.outlet new result
 
 -- so did a call on two groups at work
-abbrev pub Did : {K : Type 0} → (K → Report → K → Type 0) → (K → Report → K → Broken → Type 0)
+abbrev pub Did : {K : Type 0} → (K → Report → K → Type 0) → (K → Report → K → Unwritten → Type 0)
     → Act → Moment Stage K → Moment Stage K → Result (Unit {0}) Halt → Type 0
 Did Took Broke act old new result = DidAs StageStandsFor Took Broke act old new result
 
 -- so did a call on a replay
-abbrev pub DidSo : {K : Type 0} → (K → Report → K → Type 0) → (K → Report → K → Broken → Type 0)
+abbrev pub DidSo : {K : Type 0} → (K → Report → K → Type 0) → (K → Report → K → Unwritten → Type 0)
     → Act → Moment TwinReplay K → Moment TwinReplay K → Result (Unit {0}) Halt → Type 0
 DidSo Took Broke act old new result = DidAs StandsFor Took Broke act old new result
 
 -- an event happened, in the worlds in which this user frame is the one that it names
 pub record Happened {K : Type 0} (Took : K → Report → K → Type 0)
-    (Broke : K → Report → K → Broken → Type 0) (given : Option UserFrame) (event : TwinEvent)
+    (Broke : K → Report → K → Unwritten → Type 0) (given : Option UserFrame) (event : TwinEvent)
     (old new : Moment Stage K) (result : Result (Unit {0}) Halt) : Type 0 where
   pub ends : (w : World) → IsReached StageStandsFor w old.value
       → IsGiven w.kept.users given event → Comes (happen event) w

@@ -10,7 +10,7 @@ use Rattle.cak_roll.specs.declared.event.TwinEvent.{TwinEvent}
 use Rattle.cak_roll.specs.declared.event.TwinEvent.TheVariants as twins
 use Rattle.cak_roll.specs.declared.told.Told.{Told}
 use Rattle.cak_roll.specs.Twin.{of_group, same_group}
-use Rattle.trace_acts.specs.declared.broken.Broken.{Broken}
+use Rattle.lan_base.specs.declared.sink.Unwritten.{Unwritten}
 use Rattle.twin_schedule.specs.Reports.{Report, AreTold}
 
 -- ---- who joins
@@ -54,7 +54,7 @@ report_with first second told =
 
 -- reports were told up to one, at which the recorder broke
 pub record WereToldUpTo {K : Type 0} (Took : K → Report → K → Type 0)
-    (Broke : K → Report → K → Broken → Type 0) (all : List Report) (old new : K) (why : Broken) :
+    (Broke : K → Report → K → Unwritten → Type 0) (all : List Report) (old new : K) (why : Unwritten) :
     Type 0 where
   pub told : List Report
   pub last : Report
@@ -66,6 +66,6 @@ pub record WereToldUpTo {K : Type 0} (Took : K → Report → K → Type 0)
 
 -- all reports were told, or those up to one, at which the recorder broke
 abbrev pub AreTelling : {K : Type 0} → (K → Report → K → Type 0)
-    → (K → Report → K → Broken → Type 0) → List Report → K → K → Result (Unit {0}) Broken → Type 0
+    → (K → Report → K → Unwritten → Type 0) → List Report → K → K → Result (Unit {0}) Unwritten → Type 0
 AreTelling Took Broke all old new (Ok done) = AreTold Took old all new
 AreTelling Took Broke all old new (Err why) = WereToldUpTo Took Broke all old new why

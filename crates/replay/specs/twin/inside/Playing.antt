@@ -2,7 +2,7 @@
 use Rattle.std.specs.Prelude.{ℕ, List, Result}
 use Rattle.text_lines.specs.Moments.{Moment as LinesMoment}
 use Rattle.trace_acts.specs.declared.halt.Halt.{Halt}
-use Rattle.trace_acts.specs.declared.broken.Broken.{Broken}
+use Rattle.lan_base.specs.declared.sink.Unwritten.{Unwritten}
 use Rattle.twin_schedule.specs.declared.commands.TwinReplay.{TwinReplay}
 use Rattle.twin_schedule.specs.Acts.{Act}
 use Rattle.twin_schedule.specs.Lines.{performed_all}
@@ -12,14 +12,14 @@ use Rattle.twin_schedule.specs.Standing.{Does}
 
 -- the replay of a player did an act, and told its recorder
 abbrev pub DidAct : {P K : Type 0} → (K → Report → K → Type 0)
-    → (K → Report → K → Broken → Type 0) → (LinesMoment P K → TwinReplay) → Act → LinesMoment P K
+    → (K → Report → K → Unwritten → Type 0) → (LinesMoment P K → TwinReplay) → Act → LinesMoment P K
     → LinesMoment P K → Result (Unit {0}) Halt → Type 0
 DidAct Took Broke of act old new result =
     Does Took Broke act (moment (of old) old.outlet) (moment (of new) new.outlet) result
 
 -- it performed lines
 abbrev pub DidLines : {P K : Type 0} → (K → Report → K → Type 0)
-    → (K → Report → K → Broken → Type 0) → (LinesMoment P K → TwinReplay) → List (List ℕ)
+    → (K → Report → K → Unwritten → Type 0) → (LinesMoment P K → TwinReplay) → List (List ℕ)
     → LinesMoment P K → LinesMoment P K → Result (Unit {0}) Halt → Type 0
 DidLines Took Broke of lines old new result =
     DidAct Took Broke of (performed_all lines) old new result
