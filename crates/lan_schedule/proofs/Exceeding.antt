@@ -61,13 +61,13 @@ frames-test bursts w stage fits reached is =
     same-lt most_frames (length (air w.run)) (frames_asked bursts) reached.tidy.within.frames
     ∙ ap (λ (n : ℕ). nat_lt (most_frames - n) (frames_asked bursts)) many ∙ unnot fits _ is
 
-octets-test : (bursts : List Burst) (w : World) (stage : Stage) (fits : Bool)
-    → IsReached StandsFor w stage
-    → fits ≡ not (nat_lt (most_octets - stage.octets) (octets_asked bursts))
+octets-test : (bursts : List Burst) (w : World) (stage : Stage) (octets : ℕ) (fits : Bool)
+    → IsReached StandsFor w stage → octets ≡ air_octets w.run
+    → fits ≡ not (nat_lt (most_octets - octets) (octets_asked bursts))
     → nat_lt most_octets (air_octets w.run + octets_asked bursts) ≡ not fits
-octets-test bursts w stage fits reached is =
+octets-test bursts w stage octets fits reached have is =
     same-lt most_octets (air_octets w.run) (octets_asked bursts) reached.tidy.within.octets
-    ∙ ap (λ (n : ℕ). nat_lt (most_octets - n) (octets_asked bursts)) (sym reached.stands.octets)
+    ∙ ap (λ (n : ℕ). nat_lt (most_octets - n) (octets_asked bursts)) (sym have)
     ∙ unnot fits _ is
 
 pub too-many-frames : (bursts : List Burst) (w : World) (stage : Stage) (fits : Bool)
@@ -77,27 +77,27 @@ pub too-many-frames : (bursts : List Burst) (w : World) (stage : Stage) (fits : 
 too-many-frames bursts w stage fits reached is none =
     let test = frames-test bursts w stage fits reached is ∙ ap not none in rw test refl
 
-pub too-many-octets : (bursts : List Burst) (w : World) (stage : Stage) (fits leaves : Bool)
-    → IsReached StandsFor w stage
+pub too-many-octets : (bursts : List Burst) (w : World) (stage : Stage) (octets : ℕ) (fits leaves : Bool)
+    → IsReached StandsFor w stage → octets ≡ air_octets w.run
     → fits ≡ not (nat_lt (most_frames - length stage.frames.frames) (frames_asked bursts))
     → fits ≡ true
-    → leaves ≡ not (nat_lt (most_octets - stage.octets) (octets_asked bursts))
+    → leaves ≡ not (nat_lt (most_octets - octets) (octets_asked bursts))
     → leaves ≡ false → Some Octets ≡ option_map limit_of (air_excess bursts w)
-too-many-octets bursts w stage fits leaves reached is some at none =
+too-many-octets bursts w stage octets fits leaves reached have is some at none =
     let frames = frames-test bursts w stage fits reached is ∙ ap not some in
-    let octets = octets-test bursts w stage leaves reached at ∙ ap not none in
-    rw frames (rw octets refl)
+    let light = octets-test bursts w stage octets leaves reached have at ∙ ap not none in
+    rw frames (rw light refl)
 
-pub few-enough : (bursts : List Burst) (w : World) (stage : Stage) (fits leaves : Bool)
-    → IsReached StandsFor w stage
+pub few-enough : (bursts : List Burst) (w : World) (stage : Stage) (octets : ℕ) (fits leaves : Bool)
+    → IsReached StandsFor w stage → octets ≡ air_octets w.run
     → fits ≡ not (nat_lt (most_frames - length stage.frames.frames) (frames_asked bursts))
     → fits ≡ true
-    → leaves ≡ not (nat_lt (most_octets - stage.octets) (octets_asked bursts))
+    → leaves ≡ not (nat_lt (most_octets - octets) (octets_asked bursts))
     → leaves ≡ true → None ≡ option_map limit_of (air_excess bursts w)
-few-enough bursts w stage fits leaves reached is some at all =
+few-enough bursts w stage octets fits leaves reached have is some at all =
     let frames = frames-test bursts w stage fits reached is ∙ ap not some in
-    let octets = octets-test bursts w stage leaves reached at ∙ ap not all in
-    rw frames (rw octets refl)
+    let light = octets-test bursts w stage octets leaves reached have at ∙ ap not all in
+    rw frames (rw light refl)
 
 -- ---- what is asked, one after the other
 

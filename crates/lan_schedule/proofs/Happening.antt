@@ -56,12 +56,11 @@ use Rattle.lan_schedule.specs.Stages.{Says, StandsWith, StandsFor, Counts}
 use Rattle.lan_schedule.specs.inside.Staged.{Did, DidWhere, FindsLeft, Happened, IsSetSince, WentOn}
 use Rattle.lan_schedule.specs.inside.Recording.{Mark, StandsSince, LeavesAt, HasLooked, HasRecorded}
 use Rattle.lan_schedule.specs.inside.Recording.{HasStopped}
-use Rattle.lan_schedule.specs.inside.Recording.{KeepSeats, KeepsStep, epoch_of, is_start, octets_put}
+use Rattle.lan_schedule.specs.inside.Recording.{KeepSeats, KeepsStep, epoch_of, is_start}
 use Rattle.lan_schedule.specs.inside.Recording.{steps_of}
 use Rattle.lan_schedule.specs.Races.{Chance, behind_numbers}
 use Rattle.lan_schedule.proofs.Ahead.{set-ahead}
 use Rattle.lan_schedule.proofs.Claiming.{caught-up}
-use Rattle.lan_schedule.proofs.Loads.{load-after}
 use Rattle.lan_schedule.proofs.Recorded.{GoesOnSo, HasStation, has-station, performed-here}
 use Rattle.lan_schedule.proofs.Recorded.{recorded-more, same-some, seats-kept, seats-then}
 use Rattle.lan_schedule.proofs.Chances.{chances-used, behind-decided, shown-is}
@@ -142,8 +141,6 @@ pub record Keeps (event : Event) (facts : List Fact) (old new : Stage) : Type 0 
   pub lag : new.lag ≡ old.lag
   pub users : new.users ≡ old.users
   pub cuts : new.cuts ≡ old.cuts
-  pub names : new.names.items ≡ old.names.items ++ map (λ (p : Profile). p.name) (started event)
-  pub scis : new.scis.items ≡ old.scis.items ++ map (λ (p : Profile). p.sci) (started event)
   pub frames : new.frames ≡ record {
     frames = old.frames.frames
         ++ puts old.frames.rounds facts;
@@ -164,7 +161,6 @@ pub record Keeps (event : Event) (facts : List Fact) (old new : Stage) : Type 0 
       → AreSet event raced racing settings r old.words → AreCarded settings r old.words
       → AreCarded settings (happened event facts ∷ r) new.words
   pub tally : (shown : List Fact) → old.tally ≡ counts shown → new.tally ≡ counts (shown ++ facts)
-  pub octets : old.octets + octets_put facts < 2 ^ 64 → new.octets ≡ old.octets + octets_put facts
   pub kept : (settings : Settings) (users : List UserFrame) (r : Run)
       → GroupStandsFor settings users old.lan r
       → GroupStandsFor settings users new.lan (happened event facts ∷ r)
@@ -190,7 +186,6 @@ stands-after : (w : World) (event : Event) (facts : List Fact) (old new : Stage)
     → (w.kept.raced ≡ false → IsExactIn (settings w) w.run event)
     → IsStepped (settings w) w.kept.users (happened event facts ∷ w.run)
     → Told w event facts new → Keeps event facts old new → StandsFor (world_after w event facts) new
-unfolding stations
 stands-after w event facts old new stands exact stepped told keeps = record {
   begun = stands.begun;
   raced = keeps.raced ∙ stands.raced;
@@ -199,11 +194,6 @@ stands-after w event facts old new stands exact stepped told keeps = record {
   lag = keeps.lag ∙ stands.lag;
   lan = told.lan;
   draws = told.draws;
-  names = keeps.names ∙ ap (λ (l : List (List ℕ)). l
-      ++ map (λ (p : Profile). p.name) (started event)) stands.names
-      ∙ sym (map-append (λ (p : Profile). p.name) (stations w.run) (started event));
-  scis = keeps.scis ∙ ap (λ l. l ++ map (λ (p : Profile). p.sci) (started event)) stands.scis
-      ∙ sym (map-append (λ (p : Profile). p.sci) (stations w.run) (started event));
   users = keeps.users ∙ stands.users;
   flow = keeps.frames ∙ ap (λ (f : Flow).
       record { frames = f.frames ++ puts f.rounds facts; rounds = f.rounds }) stands.flow;
@@ -213,11 +203,6 @@ stands-after w event facts old new stands exact stepped told keeps = record {
   cards = keeps.cards w.kept.raced (is_racing w.kept.phase) (settings w) w.kept.users w.run
       stands.lan told.lan stepped stands.words stands.cards;
   tally = keeps.tally (facts_of w.run) stands.tally;
-  octets = (let load = load-after event facts w.run in
-      let within = stepped.0.within.octets in
-      let before = stands.octets in
-      keeps.octets (omega (arith, load, within, before))
-      ∙ ap (λ (n : ℕ). n + octets_put facts) stands.octets ∙ sym load);
   steps = kept-some old new event _ _ (keeps.kept (settings w) w.kept.users w.run stands.lan told.lan)
       ∙ stands.steps;
 }
@@ -458,8 +443,8 @@ module _ {K : Type 0} {Took : K → Report → K → Type 0} {Broke : K → Repo
         → mid.draws ≡ new.value.draws
         → Keeps event facts old.value new.value → KeepsThrift → Beside
         → MatchResult why
-        (λ _. Took old.outlet (record { names = new.value.names.items; facts = facts }) new.outlet)
-        (λ y. Broke old.outlet (record { names = new.value.names.items; facts = facts }) new.outlet y
+        (λ _. Took old.outlet (record { names = new.value.lan.names; facts = facts }) new.outlet)
+        (λ y. Broke old.outlet (record { names = new.value.lan.names; facts = facts }) new.outlet y
         ⊎ ((y ≡ whys.Memory) × (new.outlet ≡ old.outlet)))
         → WentOn Took Broke event facts mid old new (handed why)
     event-went event facts mid old new why typed lan draws keeps thrift laws wrote = record {
@@ -492,7 +477,7 @@ module _ {K : Type 0} {Took : K → Report → K → Type 0} {Broke : K → Repo
           (λ _. Took old.outlet (record { names = names; facts = facts }) new.outlet)
           (λ y. Broke old.outlet (record { names = names; facts = facts }) new.outlet y
           ⊎ ((y ≡ whys.Memory) × (new.outlet ≡ old.outlet))))
-          after_it.names wrote) told.answers reached.tidy;
+          after_it.lan.names wrote) told.answers reached.tidy;
       seats = keeps.seats;
       still = keeps.still;
     }
@@ -549,7 +534,7 @@ module _ {K : Type 0} {Took : K → Report → K → Type 0} {Broke : K → Repo
         (mark : Mark) (w : World) (later : List Chance) → line ≡ old.value.line
         → new.value.tally ≡ old.value.tally → new.outlet ≡ old.outlet
         → new.value.words ≡ old.value.words → new.value.steps ≡ old.value.steps
-        → new.value.names ≡ old.value.names
+        → new.value.lan.names ≡ old.value.lan.names
         → w.kept.chances ≡ decided old.value.raced event ++ later
         → IsReached (IsSetSince event mark) w old.value
         → first_stop (settings w) w.kept.users w.run event (supply_nth old.value.draws) ≡ Some stop
@@ -575,7 +560,7 @@ module _ {K : Type 0} {Took : K → Report → K → Type 0} {Broke : K → Repo
                 (sym words)
                 (subst (λ o. HasLooked mark w old.value.words (option_map (λ steps. steps.items) o))
                 (sym steps) reached.stands.looked);
-            names = ap (λ names. names.items) names ∙ stands.names;
+            names = names ∙ stands.lan.names;
             steps = ap (λ o. is_some o) steps ∙ stands.steps;
           });
           told = told-none w w old.outlet new.outlet refl same;
@@ -590,7 +575,7 @@ module _ {K : Type 0} {Took : K → Report → K → Type 0} {Broke : K → Repo
         → StepGoes given event old.value new.value (Err (Stopped stop)) → line ≡ old.value.line
         → new.value.tally ≡ old.value.tally → new.outlet ≡ old.outlet
         → new.value.words ≡ old.value.words → new.value.steps ≡ old.value.steps
-        → new.value.names ≡ old.value.names
+        → new.value.lan.names ≡ old.value.lan.names
         → Happened Took Broke given event old new (Err (halt_of line stop))
     event-stopped given event stop line old new step is_line tally same words steps names = record {
       ends = λ mark w later left reached is comes. stopped-ends event stop line old new mark w later
@@ -628,7 +613,7 @@ module _ {K : Type 0} {Took : K → Report → K → Type 0} {Broke : K → Repo
         → line ≡ old.value.line
         → new.value.tally ≡ old.value.tally → new.outlet ≡ old.outlet
         → new.value.words ≡ old.value.words → new.value.steps ≡ old.value.steps
-        → new.value.names ≡ old.value.names
+        → new.value.lan.names ≡ old.value.lan.names
         → DidWhere (λ w. IsChecked w.run n s a) Took Broke (happen (events.Deliver n s)) old new
         (Err (halt_of line stop))
     admit-stopped n s a stop line old new first is_line tally same words steps names = record {

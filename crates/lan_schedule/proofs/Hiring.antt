@@ -18,10 +18,10 @@ use Rattle.lan_core.specs.declared.settings.Settings.{Settings}
 use Rattle.lan_core.specs.Claims.{user_at}
 use Rattle.lan_core.specs.Ledgers.{claims}
 use Rattle.lan_core.specs.Run.{Run, Profile, facts_of, stations}
-use Rattle.lan_core.specs.Standing.{StandsFor as GroupStandsFor}
+use Rattle.lan_core.specs.Standing.{StandsFor as GroupStandsFor, scis_in}
 use Rattle.lan_core.specs.Types.{IsUserFrame}
 use Rattle.lan_core.specs.declared.stop.Which.{Which}
-use Rattle.lan_core.proofs.Public.{stands-more}
+use Rattle.lan_core.proofs.Public.{same-scis, stands-more}
 use Rattle.fact_tally.specs.Summary.{Counts as Tallied, counts}
 use Rattle.worker_races.specs.declared.merge.step.Step.{Step}
 use Rattle.station_words.specs.Seats.{HasJoined, WasSeated}
@@ -126,9 +126,9 @@ hired-one workers worker old mid new crew w all moved was = record {
   seated = seated-more crew w old.words mid.words new.words all.seated was.seated;
   fresh = All-push IsNew crew w all.fresh was.fresh;
   sendable = All-push (λ (w : WorkerAt). IsUserFrame w.sender.user) crew w all.sendable was.sendable;
-  scis = All-push (λ (w : WorkerAt). slice_get old.scis.items w.sender.station ≡ Some w.sender.sci)
+  scis = All-push (λ (w : WorkerAt). slice_get (scis_in old.lan) w.sender.station ≡ Some w.sender.sci)
       crew w all.scis
-      (ap (λ (s : Stage). slice_get s.scis.items w.sender.station) (sym moved.same) ∙ was.sci);
+      (ap (λ (s : Stage). slice_get (scis_in s.lan) w.sender.station) (sym moved.same) ∙ was.sci);
 }
 
 range-more : (a n m : ℕ) → m ≡ a + n → range_with_len a (suc n) ≡ range_with_len a n ++ m ∷ []
@@ -262,10 +262,6 @@ module _ (w : World) (workers : List Worker) (old mid new : Stage) (crew : List 
         old.lan w.run stands.lan);
     draws = λ k. ap (λ (s : Stage). supply_nth s.draws k) begins.2
         ∙ ap (λ (s : Stage). supply_nth s.draws k) moved.same ∙ stands.draws k;
-    names = ap (λ (s : Stage). s.names.items) begins.2
-        ∙ ap (λ (s : Stage). s.names.items) moved.same ∙ stands.names;
-    scis = ap (λ (s : Stage). s.scis.items) begins.2
-        ∙ ap (λ (s : Stage). s.scis.items) moved.same ∙ stands.scis;
     users = ap (λ (s : Stage). s.users) begins.2
         ∙ ap (λ (s : Stage). s.users + length crew) moved.same
         ∙ ap (λ (n : ℕ). n + length crew) stands.users ∙ sym users-longer;
@@ -279,8 +275,6 @@ module _ (w : World) (workers : List Worker) (old mid new : Stage) (crew : List 
         (seated-kept crew old.words mid.words all.seated) stands.cards);
     tally = ap (λ (s : Stage). s.tally) begins.2 ∙ ap (λ (s : Stage). s.tally) moved.same
         ∙ stands.tally;
-    octets = ap (λ (s : Stage). s.octets) begins.2 ∙ ap (λ (s : Stage). s.octets) moved.same
-        ∙ stands.octets;
     steps = sym (same-some (λ steps. steps.items) new.steps)
         ∙ ap (λ (o : Option (List Step)). is_some o) begins.3;
   }
@@ -295,12 +289,12 @@ module _ (w : World) (workers : List Worker) (old mid new : Stage) (crew : List 
 
   begun-senders : AreSenders begun.kept.users w.run (length w.kept.users + 1) crew
   begun-senders =
-      are-senders begun.kept.users w.kept.users w.run old.scis.items (length w.kept.users + 1) crew
+      are-senders begun.kept.users w.kept.users w.run (scis_in old.lan) (length w.kept.users + 1) crew
       (ap (λ (us : List UserFrame). w.kept.users ++ us) (users-are crew workers all.are)) refl
-      stands.scis
+      (same-scis (settings w) w.kept.users old.lan w.run stands.lan)
       (recursion_from_All (λ (w : WorkerAt). IsUserFrame w.sender.user) crew all.sendable)
       (recursion_from_All
-      (λ (w : WorkerAt). slice_get old.scis.items w.sender.station ≡ Some w.sender.sci) crew all.scis)
+      (λ (w : WorkerAt). slice_get (scis_in old.lan) w.sender.station ≡ Some w.sender.sci) crew all.scis)
 
   claims-low : length (claims w.run) + jobs_of crew + 16 < 2 ^ 32
   claims-low =

@@ -4,7 +4,6 @@ mod RaceExamples
 mod RaceOfExample
 mod WovenPart
 mod Recorded
-mod Loads
 mod Controlling
 mod Emitting
 mod Dealing

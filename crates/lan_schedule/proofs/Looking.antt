@@ -29,13 +29,13 @@ use Rattle.lan_schedule.proofs.Doing.{Leads, look-leads, change-does, nothing-do
 
 -- how many stations there are
 pub stations-count : (w : World) (stage : Stage) → StandsFor w stage
-    → length stage.names.items ≡ count w
+    → length stage.lan.names ≡ count w
 stations-count w stage stands =
-    ap (λ (l : List (List ℕ)). length l) stands.names
+    ap (λ (l : List (List ℕ)). length l) stands.lan.names
     ∙ length-map (stations w.run) (λ (p : Profile). p.name)
 
 pub stations-few : (w : World) (stage : Stage) → StandsFor w stage → IsTidy w
-    → length stage.names.items ≤ 16
+    → length stage.lan.names ≤ 16
 stations-few w stage stands tidy =
     let e = stations-count w stage stands in
     let few : count w ≤ 16 = tidy.within.stations in
@@ -47,14 +47,11 @@ pub record Flows (old new : Stage) : Type 0 where
   pub lag : new.lag ≡ old.lag
   pub lan : new.lan ≡ old.lan
   pub draws : new.draws ≡ old.draws
-  pub names : new.names ≡ old.names
-  pub scis : new.scis ≡ old.scis
   pub users : new.users ≡ old.users
   pub cuts : new.cuts ≡ old.cuts
   pub words : new.words ≡ old.words
   pub tally : new.tally ≡ old.tally
   pub raced : new.raced ≡ old.raced
-  pub octets : new.octets ≡ old.octets
   pub steps : new.steps ≡ old.steps
 
 -- the frames and the count of rounds change
@@ -72,8 +69,6 @@ flowing frames rounds old new same flow = record {
     lan = subst (λ lan. GroupStandsFor (settings w) w.kept.users lan w.run) (sym same.lan)
         stands.lan;
     draws = λ k. ap (λ draws. supply_nth draws k) same.draws ∙ stands.draws k;
-    names = ap (λ names. names.items) same.names ∙ stands.names;
-    scis = ap (λ scis. scis.items) same.scis ∙ stands.scis;
     users = same.users ∙ stands.users;
     flow = flow w stands;
     cuts = same.cuts ∙ stands.cuts;
@@ -81,7 +76,6 @@ flowing frames rounds old new same flow = record {
         (sym same.words) stands.words;
     cards = subst (λ words. AreCarded (settings w) w.run words) (sym same.words) stands.cards;
     tally = same.tally ∙ stands.tally;
-    octets = same.octets ∙ stands.octets;
     steps = ap (λ steps. is_some steps) same.steps ∙ stands.steps;
   };
   same = λ w. (refl, refl, refl);
@@ -112,11 +106,11 @@ module _ {K : Type 0} {Took : K → Report → K → Type 0} {Broke : K → Repo
   where
     -- one for each station
     pub stations-leads : (f : ℕ → Act) (n : ℕ) (now : Moment Stage K)
-        → (length now.value.names.items ≤ 255 → n ≡ length now.value.names.items)
+        → (length now.value.lan.names ≤ 255 → n ≡ length now.value.lan.names)
         → Leads Took Broke (look (λ w. span f 0 (count w))) now (span f 0 (n - 0)) now
     stations-leads f n now is = look-leads (λ w. span f 0 (count w)) _ now (λ w stands tidy.
         let few = stations-few w now.value stands tidy in
-        let e : n ≡ length now.value.names.items = is (omega arith) in
+        let e : n ≡ length now.value.lan.names = is (omega arith) in
         let zero_off : n - 0 ≡ n = omega arith in
         ap (λ (k : ℕ). span f 0 k) (zero_off ∙ e ∙ stations-count w now.value stands))
 

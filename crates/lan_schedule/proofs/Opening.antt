@@ -56,13 +56,13 @@ opens-there : (chances : List Chance) (chosen : Choices) (line : ℕ) (stage : S
     → stage.line ≡ line → stage.lag ≡ lag_of chosen
     → ((users : List UserFrame) → GroupStandsFor (settings_of chosen) users stage.lan [])
     → ((k : ℕ) → supply_nth stage.draws k ≡ draw_at (rule_of chosen) k)
-    → stage.names.items ≡ [] → stage.scis.items ≡ [] → stage.users ≡ 0
+    → stage.users ≡ 0
     → stage.frames ≡ record { frames = []; rounds = 0 } → stage.cuts ≡ [] → stage.words ≡ []
-    → stage.tally ≡ counts [] → stage.raced ≡ false → stage.octets ≡ 0 → is_some stage.steps ≡ false
+    → stage.tally ≡ counts [] → stage.raced ≡ false → is_some stage.steps ≡ false
     → StageStandsFor (record { run = []; kept = opened chances chosen line }) stage
 unfolding stations air
-opens-there chances chosen line stage keyed is_line lag lan draws names scis users frames cuts
-    words tally fresh octets none = record {
+opens-there chances chosen line stage keyed is_line lag lan draws users frames cuts
+    words tally fresh none = record {
       begun = refl;
       raced = fresh;
       keyed = keyed;
@@ -71,8 +71,6 @@ opens-there chances chosen line stage keyed is_line lag lan draws names scis use
       lan = lan [];
       draws = λ k. draws k ∙ ap (λ n. draw_at (rule_of chosen) n)
           (let e : k ≡ 0 + k = omega arith in e);
-      names = names;
-      scis = scis;
       users = users;
       flow = frames;
       cuts = cuts;
@@ -80,7 +78,6 @@ opens-there chances chosen line stage keyed is_line lag lan draws names scis use
           (record { many = refl; each = λ s control is. absurd (cc is) });
       cards = λ s control is k has. absurd has;
       tally = tally;
-      octets = octets;
       steps = none;
     }
 
@@ -88,17 +85,17 @@ pub opens : (w : World) (chosen : Choices) (line : ℕ) (stage : Stage) → is_s
     → IsOpening w chosen line → stage.line ≡ line → stage.lag ≡ lag_of chosen
     → ((users : List UserFrame) → GroupStandsFor (settings_of chosen) users stage.lan [])
     → ((k : ℕ) → supply_nth stage.draws k ≡ draw_at (rule_of chosen) k)
-    → stage.names.items ≡ [] → stage.scis.items ≡ [] → stage.users ≡ 0
+    → stage.users ≡ 0
     → stage.frames ≡ record { frames = []; rounds = 0 } → stage.cuts ≡ [] → stage.words ≡ []
-    → stage.tally ≡ counts [] → stage.raced ≡ false → stage.octets ≡ 0 → is_some stage.steps ≡ false
+    → stage.tally ≡ counts [] → stage.raced ≡ false → is_some stage.steps ≡ false
     → StageStandsFor w stage
-opens w chosen line stage keyed opening is_line lag lan draws names scis users frames cuts words
-    tally fresh octets none =
+opens w chosen line stage keyed opening is_line lag lan draws users frames cuts words
+    tally fresh none =
     let same : w ≡ record { run = []; kept = opened w.kept.chances chosen line } =
     λ i. record { run = opening.empty i; kept = opening.kept i } in
     subst (λ (v : World). StageStandsFor v stage) (sym same)
-    (opens-there w.kept.chances chosen line stage keyed is_line lag lan draws names scis users frames cuts
-    words tally fresh octets none)
+    (opens-there w.kept.chances chosen line stage keyed is_line lag lan draws users frames cuts
+    words tally fresh none)
 
 -- ---- lines before the first station
 

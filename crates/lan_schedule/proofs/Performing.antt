@@ -22,15 +22,15 @@ use Rattle.lan_schedule.proofs.Looking.{stations-few}
 
 -- the place that a name has among those of a group at work
 abbrev pub Places : Stage → List ℕ → ℕ → Type 0
-Places stage name s = length stage.names.items ≤ 255
-    → s ≡ position_or_len (pointwise nat_eq name) stage.names.items
+Places stage name s = length stage.lan.names ≤ 255
+    → s ≡ position_or_len (pointwise nat_eq name) stage.lan.names
 
 pub place-is : (w : World) (stage : Stage) (name : List ℕ) (s : ℕ) → StandsFor w stage → IsTidy w
     → Places stage name s → s ≡ place w name
 place-is w stage name s stands tidy is =
     let few = stations-few w stage stands tidy in
-    let at : s ≡ position_or_len (pointwise nat_eq name) stage.names.items = is (omega arith) in
-    at ∙ ap (λ (names : List (List ℕ)). position_or_len (pointwise nat_eq name) names) stands.names
+    let at : s ≡ position_or_len (pointwise nat_eq name) stage.lan.names = is (omega arith) in
+    at ∙ ap (λ (names : List (List ℕ)). position_or_len (pointwise nat_eq name) names) stands.lan.names
 
 module _ {K : Type 0} {Took : K → Report → K → Type 0} {Broke : K → Report → K → Unwritten → Type 0}
   where

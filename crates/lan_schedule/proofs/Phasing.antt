@@ -259,8 +259,6 @@ stage-entered w phase stage same stands = record {
   lag = stands.lag;
   lan = stands.lan;
   draws = stands.draws;
-  names = stands.names;
-  scis = stands.scis;
   users = stands.users;
   flow = stands.flow;
   cuts = stands.cuts;
@@ -268,7 +266,6 @@ stage-entered w phase stage same stands = record {
       (sym same) stands.words;
   cards = stands.cards;
   tally = stands.tally;
-  octets = stands.octets;
   steps = stands.steps ∙ sym same;
 }
 

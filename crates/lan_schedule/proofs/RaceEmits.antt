@@ -255,7 +255,7 @@ module _ (w : World) (workers : List Worker) (lines : List Numbered) (now : Stag
         → reports x.run ≡ reports u.run ++ told
         → shown ≡ first ++ map (λ (report : Report). report.facts) told
         → IsTidy x → is_racing x.kept.phase ≡ false → Counts x new
-        → (names_of x.run ≡ names_of w.run → new.names.items ≡ names_of w.run)
+        → (names_of x.run ≡ names_of w.run → new.lan.names ≡ names_of w.run)
         → IsLeft w x new shown
     left-at x told is since kept tidy apart tally named =
         let more_so : ShowsMore u x = subst (λ (y : World). ShowsMore u y) is shows-more in
@@ -271,7 +271,7 @@ module _ (w : World) (workers : List Worker) (lines : List Numbered) (now : Stag
         ∙ facts-with (names_of u.run) more_so.more in
         let shown_is : shown ≡ first ++ more_so.more =
         kept ∙ ap (λ (l : List (List Fact)). first ++ l) facts in
-        let names_u : new.names.items ≡ names_of u.run = names ∙ sym (names-after w workers lines now
+        let names_u : new.lan.names ≡ names_of u.run = names ∙ sym (names-after w workers lines now
         ran has all false v at steady es part out_of chances-are) in record {
           tidy = tidy;
           raced = more_so.raced ∙ at.raced;
@@ -280,15 +280,15 @@ module _ (w : World) (workers : List Worker) (lines : List Numbered) (now : Stag
           shows = more_so.shows
               ∙ ap (λ (l : List Report). l ++ reports_with (names_of u.run) more_so.more)
               (reports-are w workers lines now ran has all false v at steady laws old mid es frames
-              first merged is_old (more ++ rest) refl new.names.items names)
-              ∙ append_assoc (reports w.run) (reports_with new.names.items first)
+              first merged is_old (more ++ rest) refl new.lan.names names)
+              ∙ append_assoc (reports w.run) (reports_with new.lan.names first)
               (reports_with (names_of u.run) more_so.more)
               ∙ ap (λ (n : List (List ℕ)). reports w.run
-              ++ (reports_with new.names.items first ++ reports_with n more_so.more)) (sym names_u)
+              ++ (reports_with new.lan.names first ++ reports_with n more_so.more)) (sym names_u)
               ∙ ap (λ (l : List Report). reports w.run ++ l)
               (sym (map-append (λ (facts : List Fact).
-              record { names = new.names.items; facts = facts }) first more_so.more))
-              ∙ ap (λ (s : List (List Fact)). reports w.run ++ reports_with new.names.items s)
+              record { names = new.lan.names; facts = facts }) first more_so.more))
+              ∙ ap (λ (s : List (List Fact)). reports w.run ++ reports_with new.lan.names s)
               (sym shown_is);
         }
 
@@ -302,7 +302,7 @@ module _ (w : World) (workers : List Worker) (lines : List Numbered) (now : Stag
         → WasTold KeepsReport u x first shown → is_racing x.kept.phase ≡ false → IsLeft w x new shown
     done-so x goes reached told apart =
         left-at x told.told (ap (λ (o : Course). world_of o) goes) told.since (kept-shown x told)
-        reached.tidy apart reached.stands.stands.tally (λ same. reached.stands.stands.names ∙ same)
+        reached.tidy apart reached.stands.stands.tally (λ same. reached.stands.stands.lan.names ∙ same)
 
     -- emissions that ended early
     ended-so : (x : World) (halt : Halt) → perform (times count (happen Emit)) u ≡ Stops x halt

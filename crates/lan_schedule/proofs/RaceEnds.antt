@@ -131,10 +131,10 @@ module _ (w : World) (workers : List Worker) (lines : List Numbered) (now : Stag
         (shown-after w workers lines now ran has later stopped v at steady es part given chances-are
         frames merged.frames_are))
 
-    pub names-mid : mid.names.items ≡ names_of w.run
-    names-mid = ap (λ (s : Stage). s.names.items) merged.same
-        ∙ ap (λ (s : Stage). s.names.items) is_old
-        ∙ ap (λ (s : Stage). s.names.items) has.beside.same ∙ at.names
+    pub names-mid : mid.lan.names ≡ names_of w.run
+    names-mid = ap (λ (s : Stage). s.lan.names) merged.same
+        ∙ ap (λ (s : Stage). s.lan.names) is_old
+        ∙ ap (λ (s : Stage). s.lan.names) has.beside.same ∙ at.names
         ∙ names-on w workers lines now ran has later stopped v at steady es part given chances-are
 
     pub reports-are : (names : List (List ℕ)) → names ≡ names_of w.run
@@ -179,7 +179,7 @@ module _ (w : World) (workers : List Worker) (lines : List Numbered) (now : Stag
       raced = at.raced;
       apart = refl;
       counts = tally-is;
-      shows = reports-are mid.names.items names-mid;
+      shows = reports-are mid.lan.names names-mid;
     }
 
 -- a stop of the group

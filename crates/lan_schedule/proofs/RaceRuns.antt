@@ -10,6 +10,8 @@ use Rattle.association_slots.specs.Views.{ControlAt}
 use Rattle.data_workers.specs.Workers.{AreDone, HasTable, WorkerAt}
 use Rattle.lan_core.specs.declared.settings.Settings.{Settings}
 use Rattle.lan_core.specs.Run.{Profile, Run, stations}
+use Rattle.lan_core.specs.Standing.{scis_in}
+use Rattle.lan_core.proofs.Public.{same-scis}
 use Rattle.station_words.specs.Seats.{AreAllIn}
 use Rattle.station_words.specs.Ties.{tables_of}
 use Rattle.trace_acts.specs.Names.{names_of}
@@ -91,10 +93,11 @@ have-seats : (w : World) (bursts : List Burst) (stage : Stage) → StandsFor w s
 have-seats w bursts stage stands apart fit =
     let words = all-in w.kept.raced (settings w) w.run stage.words
     (subst (λ (b : Bool). Says w.kept.raced b (settings w) w.run stage.words) apart stands.words) in
-    let scis : length stage.scis.items ≡ length (stations w.run) =
-    ap length stands.scis ∙ length-map (stations w.run) (λ (p : Profile). p.sci) in
+    let scis : length (scis_in stage.lan) ≡ length (stations w.run) =
+    ap length (same-scis (settings w) w.kept.users stage.lan w.run stands.lan)
+    ∙ length-map (stations w.run) (λ (p : Profile). p.sci) in
     record {
-      stations = stations-there (length stage.scis.items) (names_of w.run) bursts
+      stations = stations-there (length (scis_in stage.lan)) (names_of w.run) bursts
           (length-map (stations w.run) (λ (p : Profile). p.name) ∙ sym scis) fit.each;
       few = fit.few;
       many = words.0 ∙ sym scis;

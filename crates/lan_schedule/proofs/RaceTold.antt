@@ -141,7 +141,7 @@ module _ {K : Type 0} (Took : K → Report → K → Type 0) (Broke : K → Repo
   -- all was told
   pub race-told : (shown : List (List Fact)) (came : Result (Unit {0}) Halt) (l : K)
       → Weaves ran old new (Ok (shown, came))
-      → AreTold Took k (reports_with new.names.items shown) l
+      → AreTold Took k (reports_with new.lan.names shown) l
       → EndsRace Took Broke before ran (moment now k) (moment new l) came
   race-told shown came l weaves told = record {
     chances = weaves.chances;
@@ -158,7 +158,7 @@ module _ {K : Type 0} (Took : K → Report → K → Type 0) (Broke : K → Repo
       h.0,
       h.1,
       record { stands = h.3; tidy = h.2.tidy },
-      record { told = reports_with new.names.items shown; since = h.2.shows; by_one = told },
+      record { told = reports_with new.lan.names shown; since = h.2.shows; by_one = told },
       h.4,
       h.2.apart ∙ sym apart,
     )
@@ -168,7 +168,7 @@ module _ {K : Type 0} (Took : K → Report → K → Type 0) (Broke : K → Repo
       tidy = h.2.tidy;
       leaves = h.2.counts;
       told = record {
-        told = reports_with new.names.items shown;
+        told = reports_with new.lan.names shown;
         since = h.2.shows;
         by_one = told;
       };
@@ -179,7 +179,7 @@ module _ {K : Type 0} (Took : K → Report → K → Type 0) (Broke : K → Repo
   -- the recorder broke
   pub race-broken : (shown : List (List Fact)) (came : Result (Unit {0}) Halt) (l : K) (why : Unwritten)
       → Weaves ran old new (Ok (shown, came))
-      → WereToldUpTo Took Broke (reports_with new.names.items shown) k l why
+      → WereToldUpTo Took Broke (reports_with new.lan.names shown) k l why
       → EndsRace Took Broke before ran (moment now k) (moment new l) (Err (halt_of_unwritten why))
   race-broken shown came l why weaves told = record {
     chances = weaves.chances;

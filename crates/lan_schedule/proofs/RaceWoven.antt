@@ -235,16 +235,6 @@ module _ (w : World) (workers : List Worker) (lines : List Numbered) (now : Stag
 
   -- ---- the group at work
 
-  scis-same : map (λ (p : Profile). p.sci) (stations v.run) ≡ map (λ (p : Profile). p.sci) (stations whole)
-  scis-same = ap (λ (ps : List Profile). map (λ (p : Profile). p.sci) ps) (sym alike.places)
-
-  names-same : names_of v.run ≡ names_of whole
-  names-same = ap (λ (ps : List Profile). map (λ (p : Profile). p.name) ps) (sym alike.places)
-
-  octets-same : air_octets v.run ≡ air_octets whole
-  octets-same = ap (λ (frames : List Frame). sum (map (λ (f : Frame). length f.octets) frames))
-      (sym alike.on_air)
-
   module _ (new : Stage) (stands : StandsFor v has.beside.moved)
       (is_new : new ≡ record has.beside.moved {
         line = w.kept.line;
@@ -282,15 +272,12 @@ module _ (w : World) (workers : List Worker) (lines : List Numbered) (now : Stag
       lag = ap (λ (s : Stage). s.lag) is_new ∙ stands.lag;
       lan = lan-part;
       draws = λ k. ap (λ (s : Stage). supply_nth s.draws k) is_new ∙ stands.draws k;
-      names = ap (λ (s : Stage). s.names.items) is_new ∙ stands.names ∙ names-same;
-      scis = ap (λ (s : Stage). s.scis.items) is_new ∙ stands.scis ∙ scis-same;
       users = ap (λ (s : Stage). s.users) is_new ∙ stands.users;
       flow = ap (λ (s : Stage). s.frames) is_new ∙ stands.flow;
       cuts = ap (λ (s : Stage). s.cuts) is_new ∙ stands.cuts;
       words = words-part;
       cards = cards-part;
       tally = tally ∙ ap (λ (q : Run). counts (facts_of q)) after-run;
-      octets = ap (λ (s : Stage). s.octets) is_new ∙ stands.octets ∙ octets-same;
       steps = ap (λ (s : Stage). is_some s.steps) is_new;
     }
 

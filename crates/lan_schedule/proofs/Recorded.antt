@@ -74,7 +74,7 @@ leaves-by : (stop : Bool) (mark : Mark) (w : World) (stage : Stage) → StandsSi
 leaves-by true mark w stage since looked = record {
   counts = since.stands.tally;
   looked = looked refl;
-  names = since.stands.names;
+  names = since.stands.lan.names;
   steps = since.stands.steps;
 }
 leaves-by false mark w stage since looked = since
@@ -96,12 +96,12 @@ leaves-counts mark halt w stage leaves = leaves-counts-by (is_stop halt) mark w 
 
 -- and the names of its stations
 leaves-names-by : (stop : Bool) (mark : Mark) (w : World) (stage : Stage)
-    → LeavesBy stop mark w stage → stage.names.items ≡ names_of w.run
+    → LeavesBy stop mark w stage → stage.lan.names ≡ names_of w.run
 leaves-names-by true mark w stage leaves = leaves.names
-leaves-names-by false mark w stage leaves = leaves.stands.names
+leaves-names-by false mark w stage leaves = leaves.stands.lan.names
 
 pub leaves-names : (mark : Mark) (halt : Halt) (w : World) (stage : Stage)
-    → LeavesAt mark halt w stage → stage.names.items ≡ names_of w.run
+    → LeavesAt mark halt w stage → stage.lan.names ≡ names_of w.run
 leaves-names mark halt w stage leaves = leaves-names-by (is_stop halt) mark w stage leaves
 
 -- ---- one event more

@@ -18,12 +18,9 @@ pub record IsSame (old new : Stage) : Type 0 where
   pub lag : new.lag ≡ old.lag
   pub lan : new.lan ≡ old.lan
   pub draws : new.draws ≡ old.draws
-  pub names : new.names ≡ old.names
-  pub scis : new.scis ≡ old.scis
   pub frames : new.frames ≡ old.frames
   pub tally : new.tally ≡ old.tally
   pub raced : new.raced ≡ old.raced
-  pub octets : new.octets ≡ old.octets
   pub steps : new.steps ≡ old.steps
 
 pub same-self : (stage : Stage) → IsSame stage stage
@@ -31,12 +28,9 @@ same-self stage = record {
   lag = refl;
   lan = refl;
   draws = refl;
-  names = refl;
-  scis = refl;
   frames = refl;
   tally = refl;
   raced = refl;
-  octets = refl;
   steps = refl;
 }
 
@@ -60,15 +54,12 @@ module _ {A B : Bool → Bool → Settings → Run → List ControlAt → Type 0
         lag = same.lag ∙ stands.lag;
         lan = subst (λ (l : State). GroupStandsFor (settings w) users l w.run) (sym same.lan) lan;
         draws = λ k. ap (λ draws. supply_nth draws k) same.draws ∙ stands.draws k;
-        names = ap (λ names. names.items) same.names ∙ stands.names;
-        scis = ap (λ scis. scis.items) same.scis ∙ stands.scis;
         users = is_users;
         flow = same.frames ∙ stands.flow;
         cuts = is_cuts;
         words = words;
         cards = cards;
         tally = same.tally ∙ stands.tally;
-        octets = same.octets ∙ stands.octets;
         steps = ap (λ steps. is_some steps) same.steps ∙ stands.steps;
       }
 

@@ -10,6 +10,7 @@ use Rattle.std.specs.List.{AllByRecursion, filter, range_with_len}
 use Rattle.association_slots.specs.Steps.{seated}
 use Rattle.association_slots.specs.Views.{ControlAt, free}
 use Rattle.data_workers.specs.Workers.{WorkerAt}
+use Rattle.lan_core.specs.Standing.{scis_in}
 use Rattle.station_words.specs.Seats.{WasSeated}
 use Rattle.station_words.proofs.Public.{get-set}
 use Rattle.worker_races.specs.Going.{WereSeated}
@@ -158,8 +159,8 @@ pub finds-seat : (bursts : List Burst) (i j : ℕ) (d b : Burst) (old now : Stag
 finds-seat bursts i j d b old now crew seats less is place all moved full =
     elim full [
       | inl nobody ↦ (
-          let there = some-there old.scis.items b.station here in
-          let bad = sym (ap (λ (s : Stage). slice_get s.scis.items b.station) moved.same ∙ there.1) ∙ nobody in
+          let there = some-there (scis_in old.lan) b.station here in
+          let bad = sym (ap (λ (s : Stage). slice_get (scis_in s.lan) b.station) moved.same ∙ there.1) ∙ nobody in
           cc bad)
       | inr none ↦ (
           let many : length now.words ≡ length old.words =
@@ -178,9 +179,9 @@ finds-seat bursts i j d b old now crew seats less is place all moved full =
           omega (arith, at_first, low, most, count, high, more))
     ]
   where
-    here : b.station < length old.scis.items
-    here = subst (λ (x : Burst). x.station < length old.scis.items) is
-        (station-at (length old.scis.items) bursts i d seats.stations less)
+    here : b.station < length (scis_in old.lan)
+    here = subst (λ (x : Burst). x.station < length (scis_in old.lan)) is
+        (station-at (length (scis_in old.lan)) bursts i d seats.stations less)
 
     few : at b.station (map worker_of crew) < workers_at b.station bursts
     few =

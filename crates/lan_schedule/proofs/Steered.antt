@@ -57,7 +57,7 @@ pub record IsSteered (w : World) (begun moved : Stage) (steps : List Step) (kept
   pub looked : HaveLooked words moved.words
   pub still : stopped ≡ false → moved.words ≡ words
   pub stands : stopped ≡ false → StandsFor v moved
-  pub names : moved.names.items ≡ names_of v.run
+  pub names : moved.lan.names ≡ names_of v.run
   pub told : List Report
   pub since : reports v.run ≡ reports w.run ++ told
   pub shows : kept ≡ map (λ (report : Report). report.facts) told
@@ -107,7 +107,7 @@ module _ (w : World) (begun moved : Stage) (steps : List Step) (kept : List (Lis
         looked = looked-none moved.words;
         still = λ goes. refl;
         stands = λ goes. stands;
-        names = stands.names;
+        names = stands.lan.names;
         told = told.told;
         since = told.since;
         shows = told-kept v told;

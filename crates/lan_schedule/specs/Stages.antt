@@ -1,18 +1,16 @@
 -- For which world a group at work stands.
-use Rattle.std.specs.Prelude.{◌≡◌, ℕ, Bool, true, false, List, length, map, is_some}
+use Rattle.std.specs.Prelude.{◌≡◌, ℕ, Bool, true, false, List, length, is_some}
 use Rattle.association_slots.specs.Views.{ControlAt}
 use Rattle.lan_core.specs.declared.settings.Settings.{Settings}
-use Rattle.lan_core.specs.Run.{Run, stations, facts_of}
+use Rattle.lan_core.specs.Run.{Run, facts_of}
 use Rattle.lan_core.specs.Standing.{StandsFor as GroupStandsFor}
 use Rattle.fact_tally.specs.Summary.{counts}
 use Rattle.station_words.specs.Ties.{AreTied, HaveCaughtUp, HaveKeptUp}
 use Rattle.worker_races.specs.Carded.{AreCarded}
 use Rattle.trace_acts.specs.Settings.{lag_of}
 use Rattle.trace_acts.specs.Supply.{supply_nth}
-use Rattle.trace_acts.specs.Names.{names_of}
 use Rattle.lan_schedule.specs.declared.stage.Stage.{Stage}
-use Rattle.lan_schedule.specs.World.{World, settings, flow_of, air_octets}
-use Rattle.lan_schedule.specs.World.{is_racing}
+use Rattle.lan_schedule.specs.World.{World, settings, flow_of, is_racing}
 use Rattle.lan_schedule.specs.Answers.{supply}
 
 -- What the words of all stations say of a run, where a race was begun or not, and where control's
@@ -33,8 +31,6 @@ pub record StandsWith (Tied : Bool → Bool → Settings → Run → List Contro
   pub lag : stage.lag ≡ lag_of w.kept.chosen
   pub lan : GroupStandsFor (settings w) w.kept.users stage.lan w.run
   pub draws : (k : ℕ) → supply_nth stage.draws k ≡ supply w k
-  pub names : stage.names.items ≡ names_of w.run
-  pub scis : stage.scis.items ≡ map (λ p. p.sci) (stations w.run)
   pub users : stage.users ≡ length w.kept.users
   pub flow : stage.frames ≡ flow_of w
   pub cuts : stage.cuts ≡ w.kept.cuts
@@ -43,7 +39,6 @@ pub record StandsWith (Tied : Bool → Bool → Settings → Run → List Contro
   -- trace
   pub cards : AreCarded (settings w) w.run stage.words
   pub tally : stage.tally ≡ counts (facts_of w.run)
-  pub octets : stage.octets ≡ air_octets w.run
   -- what control performs is kept in the midst of a race alone
   pub steps : is_some stage.steps ≡ is_racing w.kept.phase
 

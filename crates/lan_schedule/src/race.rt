@@ -36,7 +36,7 @@ use association_slots::SlotTable;
 use data_workers::{Log, Sender, Worker, beside};
 use fact_tally::Tally;
 use gcm_frames::PROTECTION_OCTETS;
-use lan_base::{FRAMES_MAX, Sci, UserFrame};
+use lan_base::{FRAMES_MAX, UserFrame};
 use lan_core::{Event, OCTETS_MAX, Which};
 use packet_claims::Gate;
 use station_words::{law_caught_up_words_keep_up, law_words_that_tell_keep_up};
@@ -174,7 +174,7 @@ impl Stage {
         if !frames_fit(bursts, frames) {
             return Some(Which::Frames);
         }
-        if !octets_fit(bursts, OCTETS_MAX.saturating_sub(self.octets)) {
+        if !octets_fit(bursts, OCTETS_MAX.saturating_sub(self.lan.octets())) {
             return Some(Which::Octets);
         }
         None
@@ -285,10 +285,9 @@ impl Stage {
         ensures moved { HasMoved self.old self.new }
     {
         let station = burst.station();
-        let Some(sci) = self.sci(station) else {
+        let Some(sci) = self.lan.sci(station) else {
             return Ok(None);
         };
-        let sci = *sci;
         let sender = Sender {
             station,
             sci,
@@ -304,13 +303,6 @@ impl Stage {
                 Err(err)
             }
         }
-    }
-
-    /// The SCI of the station at a place, if there is one.
-    fn sci(&self, station: u8) -> Option<&Sci>
-        ensures { option_copied result ≡ slice_get self.now.scis.items station }
-    {
-        self.scis.get(usize::from(station))
     }
 
     /// A race begins, whose workers were hired: each has a user frame, and what control performs is
@@ -438,7 +430,7 @@ impl Stage {
         self.line = line;
         self.tally = tally.copied();
         match self.weave(ran, gate) {
-            Ok((shown, came)) => match shown.prepare(&self.names, recorder) {
+            Ok((shown, came)) => match shown.prepare(self.lan.names(), recorder) {
                 Ok(count) => {
                     tell_all(count, recorder, outlet)?;
                     came

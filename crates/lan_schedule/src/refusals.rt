@@ -1,8 +1,7 @@
 //! Why a line after the first station is refused.
 
-ghost use Rattle.std.specs.Prelude.{◌≡◌, nat_eq, length, map, IfNone, false};
-ghost use Rattle.std.specs.List.{list_any};
-ghost use Rattle.std.specs.Cmp.Lexicographic.{pointwise};
+ghost use Rattle.std.specs.Prelude.{◌≡◌, length, map, IfNone, false};
+ghost use Rattle.lan_core.specs.Standing.{scis_in};
 ghost use Rattle.trace_acts.specs.Names.{is_in};
 ghost use Rattle.trace_acts.specs.Kinds.{or_else, where_, unknown};
 ghost use Rattle.trace_acts.specs.declared.halt.Kind.TheVariants as kinds;
@@ -33,7 +32,7 @@ impl Stage {
     /// What is wrong with the words of a line, from the left.
     fn wrong_word(&self, line: &Line) -> Option<Kind>
         ensures { result
-            ≡ wrong_word line.now self.now.names.items (map (λ sci. sci.0) self.now.scis.items)
+            ≡ wrong_word line.now self.now.lan.names (map (λ sci. sci.0) (scis_in self.now.lan))
             (length self.now.frames.frames) }
     {
         match line {
@@ -69,7 +68,7 @@ impl Stage {
 
     /// What is wrong with the names of a line of a race.
     pub fn wrong_name(&self, line: &Line) -> Option<Kind>
-        ensures { result ≡ wrong_name line.now self.now.names.items }
+        ensures { result ≡ wrong_name line.now self.now.lan.names }
     {
         match line {
             Line::Burst { name, .. }
@@ -86,12 +85,12 @@ impl Stage {
 
     /// Whether the name or the SCI of a station that is to start is taken.
     fn taken(&self, name: &Name, sci: &Sci) -> Option<Kind>
-        ensures { result ≡ or_else (where_ (is_in name.now self.now.names.items) kinds.NameTaken)
-            (where_ (is_in sci.now.0 (map (λ sci. sci.0) self.now.scis.items)) kinds.SciTaken) }
+        ensures { result ≡ or_else (where_ (is_in name.now self.now.lan.names) kinds.NameTaken)
+            (where_ (is_in sci.now.0 (map (λ sci. sci.0) (scis_in self.now.lan))) kinds.SciTaken) }
     {
         if self.is_named(name) {
             Some(Kind::NameTaken)
-        } else if self.has_sci(sci) {
+        } else if self.lan.has_sci(sci) {
             Some(Kind::SciTaken)
         } else {
             None
@@ -100,7 +99,7 @@ impl Stage {
 
     /// Whether no station has this name.
     fn unknown(&self, name: &Name) -> Option<Kind>
-        ensures { result ≡ unknown name.now self.now.names.items }
+        ensures { result ≡ unknown name.now self.now.lan.names }
     {
         if self.is_named(name) {
             None
@@ -124,19 +123,12 @@ impl Stage {
 
     /// Whether a station has this name.
     fn is_named(&self, name: &Name) -> bool
-        ensures { result ≡ is_in name.now self.now.names.items }
+        ensures { result ≡ is_in name.now self.now.lan.names }
     {
-        self.names
+        self.lan
+            .names()
             .iter()
             .any(|other| name.octets() == other.octets())
-    }
-
-    /// Whether a station has this SCI.
-    fn has_sci(&self, sci: &Sci) -> bool
-        ensures { result
-            ≡ list_any (λ other. pointwise nat_eq sci.now.0 other.0) self.now.scis.items }
-    {
-        self.scis.iter().any(|other| sci.0 == other.0)
     }
 
     /// Whether the air has a frame of this number.

@@ -5,7 +5,6 @@ ghost use Rattle.std.specs.Prelude.{◌⊎◌, OnOk, OnErr, IfOk, IfErr, List, [
 ghost use Rattle.std.specs.List.{position_or_len};
 ghost use Rattle.std.specs.Option.{option_copied};
 ghost use Rattle.std.specs.Cmp.Lexicographic.{pointwise};
-ghost use Rattle.lan_core.specs.Run.{started};
 ghost use Rattle.lan_core.specs.Types.{IsTyped};
 ghost use Rattle.gcm_frames.specs.Protected.{IsSci};
 ghost use Rattle.lan_core.specs.declared.event.Event.TheVariants as events;
@@ -29,8 +28,7 @@ ghost use Rattle.lan_base.specs.declared.frame.UserFrame.{UserFrame};
 ghost use Rattle.lan_core.specs.declared.settings.Settings.{Settings};
 ghost use Rattle.lan_core.specs.Run.{Run};
 ghost use Rattle.lan_core.specs.Standing.{StandsFor as GroupStandsFor};
-ghost use Rattle.lan_schedule.specs.inside.Recording.{station_in, epoch_of, octets_put};
-ghost use Rattle.lan_schedule.specs.inside.Recording.{octets_in, KeepsStep, KeepSeats};
+ghost use Rattle.lan_schedule.specs.inside.Recording.{station_in, epoch_of, KeepsStep, KeepSeats};
 ghost use Rattle.lan_schedule.specs.declared.stage.Stage.{Stage};
 ghost use Rattle.lan_core.specs.Batches.{IsChecked};
 ghost use Rattle.lan_schedule.specs.inside.Staged.{Did, DidWhere, Happened, HasStepped, WentOn};
@@ -68,8 +66,6 @@ pub struct Stage {
     pub lag: u32,
     /// The number of the line that is performed.
     pub line: u32,
-    pub names: Vec<Name>,
-    pub scis: Vec<Sci>,
     /// How many lines sent user data.
     pub users: u32,
     pub frames: Frames,
@@ -79,8 +75,6 @@ pub struct Stage {
     pub raced: bool,
     /// How many facts there were of each kind.
     pub tally: Tally,
-    /// How many octets the frames of the air have.
-    pub octets: u64,
     /// In the midst of a race, what control performed so far.
     pub steps: Option<Vec<Step>>,
 }
@@ -104,15 +98,12 @@ impl Stage {
             draws,
             lag: chosen.lag.unwrap_or(0),
             line,
-            names: Vec::new(alloc),
-            scis: Vec::new(alloc),
             users: 0,
             frames: Frames::new(alloc),
             cuts: Links::new(alloc),
             words: Words::new(alloc),
             raced: false,
             tally: Tally::new(),
-            octets: 0,
             steps: None,
         })
     }
@@ -188,12 +179,10 @@ impl Stage {
         self.frames.put(facts.as_slice())?;
         self.words
             .follow(self.alloc, &self.lan, event, facts.as_slice(), gate)?;
-        admit(&mut self.names, &mut self.scis, event)?;
-        put_octets(&mut self.octets, facts.as_slice());
         let after = self.epoch(event);
         keep(&mut self.steps, self.alloc, event, before, after)?;
         count_all(&mut self.tally, facts.as_slice());
-        recorder.record(&self.names, facts, outlet)?;
+        recorder.record(self.lan.names(), facts, outlet)?;
         Ok(())
     }
 
@@ -272,17 +261,17 @@ impl Stage {
 
     /// How many stations there are.
     pub fn count(&self) -> u8
-        ensures { length self.now.names.items ≤ 255 → result ≡ length self.now.names.items }
+        ensures { length self.now.lan.names ≤ 255 → result ≡ length self.now.lan.names }
     {
-        few(self.names.len())
+        few(self.lan.names().len())
     }
 
     /// The place of the station of a name; where there is none, the count of stations.
     pub fn place(&self, name: &Name) -> u8
-        ensures { length self.now.names.items ≤ 255
-            → result ≡ position_or_len (pointwise nat_eq name.now) self.now.names.items }
+        ensures { length self.now.lan.names ≤ 255
+            → result ≡ position_or_len (pointwise nat_eq name.now) self.now.lan.names }
     {
-        few(position(&self.names, name))
+        few(position(self.lan.names(), name))
     }
 
     // ---- lines
@@ -535,20 +524,6 @@ fn few(count: usize) -> u8
     u8::try_from(count).unwrap_or(u8::MAX)
 }
 
-/// A station that starts has a name and an SCI.
-fn admit(names: &mut Vec<Name>, scis: &mut Vec<Sci>, event: &Event) -> Result<(), AllocError>
-    ensures names { OnOk result (names.new.items
-        ≡ names.old.items ++ map (λ p. p.name) (started event.now)) }
-    ensures scis { OnOk result (scis.new.items
-        ≡ scis.old.items ++ map (λ p. p.sci) (started event.now)) }
-{
-    if let Event::Start { name, sci, .. } = event {
-        names.push(*name)?;
-        scis.push(*sci)?;
-    }
-    Ok(())
-}
-
 /// The station of an event; a start, a claim and an emission have none here.
 fn station_of(event: &Event) -> Option<u8>
     ensures { result ≡ station_in event.now }
@@ -580,27 +555,6 @@ fn keep(
     };
     steps.push(Step::of(alloc, event, before, after)?)?;
     Ok(())
-}
-
-/// The octets of the frames that facts put on the air are counted, as far as 64 bits count them. The air
-/// never has so many.
-fn put_octets(octets: &mut u64, facts: &[Fact])
-    ensures { octets.old + octets_put facts.now < 2 ^ 64
-        → octets.new ≡ octets.old + octets_put facts.now }
-{
-    for fact in facts {
-        *octets = octets.saturating_add(octets_of(fact));
-    }
-}
-
-/// The octets of the frame that a fact puts on the air, if there is one.
-fn octets_of(fact: &Fact) -> u64
-    ensures { result ≡ octets_in fact.now }
-{
-    match fact {
-        Fact::Framed { octets, .. } => octets.len() as u64,
-        _ => 0,
-    }
 }
 
 /// Facts are counted.

@@ -13,6 +13,7 @@ use Rattle.lan_core.specs.declared.settings.Settings.{Settings}
 use Rattle.lan_core.specs.declared.stop.Which.TheVariants.{Frames}
 use Rattle.lan_core.specs.Ledgers.{claims}
 use Rattle.lan_core.specs.Run.{Run, facts_of}
+use Rattle.lan_core.specs.Standing.{scis_in}
 use Rattle.lan_core.specs.Types.{IsUserFrame}
 use Rattle.fact_tally.specs.Summary.{counts}
 use Rattle.station_words.specs.Seats.{AreAllIn, HasNoSeat, IsOut, WasSeated}
@@ -87,14 +88,14 @@ pub record HasMoved (old new : Stage) : Type 0 where
 -- Bursts find seats: each is of a station that there is, no seat of its words is out, and no station
 -- is to have more workers than there are seats.
 pub record HaveSeats (bursts : List Burst) (stage : Stage) : Type 0 where
-  pub stations : AllByRecursion (λ b. b.station < length stage.scis.items) bursts
+  pub stations : AllByRecursion (λ b. b.station < length (scis_in stage.lan)) bursts
   pub few : (s : ℕ) → workers_at s bursts ≤ most_workers
-  pub many : length stage.words ≡ length stage.scis.items
+  pub many : length stage.words ≡ length (scis_in stage.lan)
   pub all_in : AreAllIn stage.words
 
 -- the station of a place has no seat left, or isn't there
 abbrev pub IsFull : ℕ → Stage → Type 0
-IsFull s stage = (slice_get stage.scis.items s ≡ None) ⊎ HasNoSeat s stage.words
+IsFull s stage = (slice_get (scis_in stage.lan) s ≡ None) ⊎ HasNoSeat s stage.words
 
 -- the seat with a number, less one, of a station is that of one of these workers
 abbrev pub HasSeat : ℕ → ℕ → List WorkerAt → Type 0
@@ -112,7 +113,7 @@ pub record WasHired (worker : Worker) (old new : Stage) (w : WorkerAt) : Type 0 
   pub seated : WasSeated w.sender.station old.words new.words w.seat
   pub fresh : IsNew w
   pub sendable : IsUserFrame w.sender.user
-  pub sci : slice_get old.scis.items w.sender.station ≡ Some w.sender.sci
+  pub sci : slice_get (scis_in old.lan) w.sender.station ≡ Some w.sender.sci
 
 -- so many were, in their order
 pub record HiredAll (workers : List Worker) (old new : Stage) (crew : List WorkerAt) : Type 0 where
@@ -120,7 +121,7 @@ pub record HiredAll (workers : List Worker) (old new : Stage) (crew : List Worke
   pub seated : WereSeated crew old.words new.words
   pub fresh : All IsNew crew
   pub sendable : All (λ w. IsUserFrame w.sender.user) crew
-  pub scis : All (λ w. slice_get old.scis.items w.sender.station ≡ Some w.sender.sci) crew
+  pub scis : All (λ w. slice_get (scis_in old.lan) w.sender.station ≡ Some w.sender.sci) crew
 
 -- so many user frames more, or so many claims, are more than have numbers
 abbrev pub IsOver : Stage → ℕ → ℕ → Type 0
@@ -219,7 +220,7 @@ pub record IsLeft (w v : World) (new : Stage) (shown : List (List Fact)) : Type 
   pub raced : v.kept.raced ≡ true
   pub apart : is_racing v.kept.phase ≡ false
   pub counts : Counts v new
-  pub shows : reports v.run ≡ reports w.run ++ reports_with new.names.items shown
+  pub shows : reports v.run ≡ reports w.run ++ reports_with new.lan.names shown
 
 -- what a race that ended so leaves of a group at work
 abbrev pub Leaves : World → List Chance → Course → Stage → List (List Fact)

@@ -1,13 +1,11 @@
 -- What is kept of control's events in the midst of a race, and what a group at work leaves of it.
-use Rattle.std.specs.Prelude.{◌≡◌, ℕ, ◌+◌, Bool, true, false, List, [], ◌∷◌, ◌++◌, length, slice_get}
+use Rattle.std.specs.Prelude.{◌≡◌, ℕ, Bool, true, false, List, [], ◌∷◌, ◌++◌, slice_get}
 use Rattle.std.specs.Prelude.{Option, Some, None, is_some, option_map, option_and_then}
 use Rattle.atomic_table.specs.Seated.{TableId}
 use Rattle.lan_base.specs.declared.frame.UserFrame.{UserFrame}
 use Rattle.association_slots.specs.Views.{ControlAt}
 use Rattle.lan_core.specs.declared.event.Event.{Event}
 use Rattle.lan_core.specs.declared.event.Event.TheVariants as events
-use Rattle.lan_core.specs.declared.fact.Fact.{Fact}
-use Rattle.lan_core.specs.declared.fact.Fact.TheVariants as facts
 use Rattle.lan_core.specs.declared.settings.Settings.{Settings}
 use Rattle.lan_core.specs.Run.{Run}
 use Rattle.lan_core.specs.Lives.{transmitting_at}
@@ -42,15 +40,6 @@ is_start _ = false
 abbrev pub epoch_of : Settings → Run → Event → Option ℕ
 epoch_of settings r event =
     option_and_then (λ s. option_map (λ k. k.epoch) (transmitting_at settings s r)) (station_in event)
-
--- the octets of the frames that facts put on the air
-abbrev pub octets_in : Fact → ℕ
-octets_in (facts.Framed number station sec octets) = length octets
-octets_in _ = 0
-
-abbrev pub octets_put : List Fact → ℕ
-octets_put [] = 0
-octets_put (fact ∷ later) = octets_in fact + octets_put later
 
 -- an event is kept behind those that were kept, where any are
 abbrev pub KeepsStep : Event → Option ℕ → Option ℕ → Option (List Step) → Option (List Step)
@@ -101,7 +90,7 @@ HasLooked mark w words (Some steps) = (w.kept.raced ≡ true) × (before : List 
 pub record HasStopped (mark : Mark) (w : World) (stage : Stage) : Type 0 where
   pub counts : Counts w stage
   pub looked : HasLooked mark w stage.words (steps_of stage)
-  pub names : stage.names.items ≡ names_of w.run
+  pub names : stage.lan.names ≡ names_of w.run
   pub steps : is_some stage.steps ≡ is_racing w.kept.phase
 
 abbrev pub LeavesBy : Bool → Mark → World → Stage → Type 0

@@ -13,12 +13,9 @@ returns-in-Some-clause-stands c = λ w stands.
       lag = refl;
       lan = refl;
       draws = refl;
-      names = refl;
-      scis = refl;
       frames = refl;
       tally = refl;
       raced = refl;
-      octets = refl;
       steps = refl;
     }) refl refl refl refl at) stands
 

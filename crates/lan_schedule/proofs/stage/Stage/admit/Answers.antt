@@ -21,7 +21,7 @@ returns-in-Err-Stopped g c =
     subst (IsWhy (first_stop settings users r (Deliver c.args.frame c.args.station)
     (supply_nth c.args.self.now.draws))) c.in-Err-Stopped.field-0-is
     (c.in-Err-Stopped.ensures.answers settings users r (supply_nth c.args.self.now.draws) stands
-    checked)) refl refl refl refl refl refl)
+    checked)) refl refl refl refl refl c.in-Err-Stopped.ensures.shown.1)
 
 pub returns-in-Err-Memory : goal.returns-in-Err-Memory
 returns-in-Err-Memory g c =

@@ -16,12 +16,9 @@ returns-in-Some g c = frame-wrong c.args.kept.now c.in-Some.kind
       lag = refl;
       lan = refl;
       draws = refl;
-      names = refl;
-      scis = refl;
       frames = refl;
       tally = refl;
       raced = refl;
-      octets = refl;
       steps = refl;
     }) c.number-self.ensures refl refl refl refl
     (ap (λ (line : Line). wrong_frame line (length c.args.self.now.frames.frames))
@@ -37,12 +34,9 @@ returns g c =
       lag = refl;
       lan = refl;
       draws = refl;
-      names = refl;
-      scis = refl;
       frames = refl;
       tally = refl;
       raced = refl;
-      octets = refl;
       steps = refl;
     }) c.number-self.ensures refl refl refl refl
     (ap (λ (line : Line). wrong_frame line (length c.args.self.now.frames.frames))

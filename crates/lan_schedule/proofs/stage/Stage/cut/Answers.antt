@@ -9,12 +9,9 @@ returns-clause-ok c =
       lag = refl;
       lan = refl;
       draws = refl;
-      names = refl;
-      scis = refl;
       frames = refl;
       tally = refl;
       raced = refl;
-      octets = refl;
       steps = refl;
     }) refl refl refl c.in_ok-cut.ensures
 

@@ -13,9 +13,9 @@ returns-in_err-tell_all-in-Ok-prepare-clause-ends g c =
     (ap (λ tally. record c.args.self.now { line = c.args.before.line; tally = tally })
     c.copied-self.ensures) c.in-Ok.shown c.in-Ok.came c.tell_all.new.outlet
     c.in_err-tell_all-in-Ok-prepare.field-0.0 c.in-Ok.ensures.weaves
-    (c.in_err-tell_all-in-Ok-prepare.ensures (reports_with c.weave.new.self.names.items c.in-Ok.shown)
-    (rw c.deref.ensures.value at c.in-Ok-prepare.ensures.1)
-    (reports-many c.weave.new.self.names.items c.in-Ok.shown c.in-Ok-prepare.count c.in-Ok-prepare.ensures.0)))
+    (c.in_err-tell_all-in-Ok-prepare.ensures (reports_with c.weave.new.self.lan.names c.in-Ok.shown)
+    (rw c.names.ensures.names at c.in-Ok-prepare.ensures.1)
+    (reports-many c.weave.new.self.lan.names c.in-Ok.shown c.in-Ok-prepare.count c.in-Ok-prepare.ensures.0)))
     c.from_residual.ensures.1
 
 pub returns-in-Ok-prepare-clause-ends : goal.returns-in-Ok-prepare-clause-ends
@@ -25,9 +25,9 @@ returns-in-Ok-prepare-clause-ends g c =
     c.weave.new.self c.args.outlet.now
     (ap (λ tally. record c.args.self.now { line = c.args.before.line; tally = tally })
     c.copied-self.ensures) c.in-Ok.shown c.in-Ok.came c.tell_all.new.outlet c.in-Ok.ensures.weaves
-    (c.in_ok-tell_all-in-Ok-prepare.ensures (reports_with c.weave.new.self.names.items c.in-Ok.shown)
-    (rw c.deref.ensures.value at c.in-Ok-prepare.ensures.1)
-    (reports-many c.weave.new.self.names.items c.in-Ok.shown c.in-Ok-prepare.count c.in-Ok-prepare.ensures.0))
+    (c.in_ok-tell_all-in-Ok-prepare.ensures (reports_with c.weave.new.self.lan.names c.in-Ok.shown)
+    (rw c.names.ensures.names at c.in-Ok-prepare.ensures.1)
+    (reports-many c.weave.new.self.lan.names c.in-Ok.shown c.in-Ok-prepare.count c.in-Ok-prepare.ensures.0))
 
 pub returns-in-Ok-clause-ends : goal.returns-in-Ok-clause-ends
 returns-in-Ok-clause-ends g c =

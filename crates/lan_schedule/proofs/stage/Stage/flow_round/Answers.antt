@@ -13,14 +13,11 @@ returns-in_err-round g c =
       lag = refl;
       lan = refl;
       draws = refl;
-      names = refl;
-      scis = refl;
       users = refl;
       cuts = refl;
       words = refl;
       tally = refl;
       raced = refl;
-      octets = refl;
       steps = refl;
     }) c.begin_round.ensures) refl) in
     handed-on _ _ _ _ _ (leads-err _ _ _ _ _ _ _ begun c.in_err-round.ensures)
@@ -34,14 +31,11 @@ returns-in_err-frames g c =
       lag = refl;
       lan = refl;
       draws = refl;
-      names = refl;
-      scis = refl;
       users = refl;
       cuts = refl;
       words = refl;
       tally = refl;
       raced = refl;
-      octets = refl;
       steps = refl;
     }) c.begin_round.ensures) refl) in
     let ticked = leads-step _ _ _ _ _ _ begun c.in_ok-round.ensures in
@@ -56,14 +50,11 @@ returns g c =
       lag = refl;
       lan = refl;
       draws = refl;
-      names = refl;
-      scis = refl;
       users = refl;
       cuts = refl;
       words = refl;
       tally = refl;
       raced = refl;
-      octets = refl;
       steps = refl;
     }) c.begin_round.ensures) refl) in
     let ticked = leads-step _ _ _ _ _ _ begun c.in_ok-round.ensures in

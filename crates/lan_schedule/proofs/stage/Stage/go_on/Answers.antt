@@ -17,8 +17,6 @@ returns g c = λ earlier step.
       lag = refl;
       users = refl;
       cuts = refl;
-      names = c.in_ok-admit.ensures.names;
-      scis = c.in_ok-admit.ensures.scis;
       frames = rw c.as_slice.ensures at c.in_ok-put.ensures;
       raced = refl;
       words = λ raced racing settings users r before after stepped exact set.
@@ -27,8 +25,7 @@ returns g c = λ earlier step.
       cards = λ raced racing settings users r before after stepped set carded.
           (rw c.as_slice-2.ensures at c.in_ok-follow.ensures.cards) raced racing settings users
           earlier.lan r before after stepped set carded;
-      tally = λ shown stood. (rw c.as_slice-4.ensures at c.count_all.ensures) shown stood;
-      octets = rw c.as_slice-3.ensures at c.put_octets.ensures;
+      tally = λ shown stood. (rw c.as_slice-3.ensures at c.count_all.ensures) shown stood;
       kept = λ settings users r before after.
           kept-when (λ steps. steps.items) c.args.event.now _ _ _ _ c.args.self.now.steps _
           (λ raced. step.epoch (sym (ap (λ (stage : Stage). is_some stage.steps) step.same) ∙ raced) settings users r before)
@@ -48,7 +45,7 @@ returns g c = λ earlier step.
       };
       tells = c.law_an_event_tells_the_words.ensures;
     })
-    (rw c.deref.ensures.value at c.in_ok-record.ensures))
+    (rw c.names.ensures.names at c.in_ok-record.ensures))
 
 pub returns-in_err-record : goal.returns-in_err-record
 returns-in_err-record g c = λ earlier step.
@@ -61,8 +58,6 @@ returns-in_err-record g c = λ earlier step.
       lag = refl;
       users = refl;
       cuts = refl;
-      names = c.in_ok-admit.ensures.names;
-      scis = c.in_ok-admit.ensures.scis;
       frames = rw c.as_slice.ensures at c.in_ok-put.ensures;
       raced = refl;
       words = λ raced racing settings users r before after stepped exact set.
@@ -71,8 +66,7 @@ returns-in_err-record g c = λ earlier step.
       cards = λ raced racing settings users r before after stepped set carded.
           (rw c.as_slice-2.ensures at c.in_ok-follow.ensures.cards) raced racing settings users
           earlier.lan r before after stepped set carded;
-      tally = λ shown stood. (rw c.as_slice-4.ensures at c.count_all.ensures) shown stood;
-      octets = rw c.as_slice-3.ensures at c.put_octets.ensures;
+      tally = λ shown stood. (rw c.as_slice-3.ensures at c.count_all.ensures) shown stood;
       kept = λ settings users r before after.
           kept-when (λ steps. steps.items) c.args.event.now _ _ _ _ c.args.self.now.steps _
           (λ raced. step.epoch (sym (ap (λ (stage : Stage). is_some stage.steps) step.same) ∙ raced) settings users r before)
@@ -92,7 +86,7 @@ returns-in_err-record g c = λ earlier step.
       };
       tells = c.law_an_event_tells_the_words.ensures;
     })
-    (rw c.deref.ensures.value at c.in_err-record.ensures)) c.from_residual-in_err-record.ensures.1)
+    (rw c.names.ensures.names at c.in_err-record.ensures)) c.from_residual-in_err-record.ensures.1)
 
 pub returns-in_err-put : goal.returns-in_err-put
 returns-in_err-put g c = λ earlier step.
@@ -104,12 +98,6 @@ returns-in_err-follow g c = λ earlier step.
     from-earlier c.args.event.now c.args.facts c.args.self.now earlier c.args.outlet.now _ _ step.same
     (went-err _ _ _ _ _ _ _ (went-wanting _ _ _ _ _ refl refl c.in_err-follow.ensures.seats
     c.in_err-follow.ensures.still) c.from_residual-in_err-follow.ensures.1)
-
-pub returns-in_err-admit : goal.returns-in_err-admit
-returns-in_err-admit g c = λ earlier step.
-    from-earlier c.args.event.now c.args.facts c.args.self.now earlier c.args.outlet.now _ _ step.same
-    (went-err _ _ _ _ _ _ _ (went-wanting _ _ _ _ _ refl refl c.in_ok-follow.ensures.seats
-    c.in_ok-follow.ensures.still) c.from_residual-in_err-admit.ensures.1)
 
 pub returns-in_err-keep : goal.returns-in_err-keep
 returns-in_err-keep g c = λ earlier step.

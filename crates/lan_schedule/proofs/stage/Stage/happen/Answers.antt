@@ -14,7 +14,7 @@ returns-in-Err-Stopped g c =
     (λ settings users r stands may.
     subst (IsWhy (first_stop settings users r c.args.event.now (supply_nth c.args.self.now.draws)))
     c.in-Err-Stopped.field-0-is (c.in-Err-Stopped.ensures.refused settings users r stands may))
-    refl refl refl refl refl refl)
+    refl refl refl refl refl c.in-Err-Stopped.ensures.shown.1)
 
 pub returns-in-Err-Memory : goal.returns-in-Err-Memory
 returns-in-Err-Memory g c = event-wanting _ c.args.event.now _ _ refl refl (seats-kept _) (λ emits. refl)

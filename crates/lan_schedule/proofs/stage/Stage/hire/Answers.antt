@@ -3,6 +3,7 @@ use Rattle.std.specs.Prelude.{slice_get}
 use Rattle.data_workers.specs.Workers.{WorkerAt, Logged}
 use Rattle.association_slots.specs.Views.{SeatAt}
 use Rattle.association_slots.specs.declared.view.SeatView.{SeatView}
+use Rattle.lan_core.specs.Standing.{scis_in}
 use Rattle.lan_core.specs.Types.{IsUserFrame}
 use Rattle.station_words.specs.Seats.{HasJoined, WasSeated}
 use Rattle.station_words.specs.Ties.{tables_of}
@@ -23,8 +24,8 @@ pub returns-in-Ok-clause-hired : goal.returns-in-Ok-clause-hired
 returns-in-Ok-clause-hired c =
     let w = c.in-Ok.worker in
     let e = c.in-Ok.ensures.ok in
-    let place : slice_get c.args.self.now.scis.items c.station-station.result ≡ Some c.in-Some.sci.now =
-    sym c.in-Some.ensures in
+    let place : slice_get (scis_in c.args.self.now.lan) c.station-station.result ≡ Some c.in-Some.sci =
+    sym c.in-Some.ensures.place in
     record {
       is = ap worker_of e ∙ (λ i. record {
         station = c.station-station.ensures i;
@@ -41,7 +42,7 @@ returns-in-Ok-clause-hired c =
       sendable = subst (λ u. IsUserFrame u)
           (sym (ap (λ (x : WorkerAt). x.sender.user) e ∙ c.in_ok-copied.ensures))
           c.user.ensures.fits;
-      sci = subst (λ (x : WorkerAt). slice_get c.args.self.now.scis.items x.sender.station
+      sci = subst (λ (x : WorkerAt). slice_get (scis_in c.args.self.now.lan) x.sender.station
           ≡ Some x.sender.sci) (sym e) place;
     }
 

@@ -9,13 +9,10 @@ returns c =
       lag = refl;
       lan = refl;
       draws = refl;
-      names = refl;
-      scis = refl;
       users = refl;
       cuts = refl;
       words = refl;
       tally = refl;
       raced = refl;
-      octets = refl;
       steps = refl;
     }) c.mark.ensures

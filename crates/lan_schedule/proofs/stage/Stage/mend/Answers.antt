@@ -8,11 +8,8 @@ returns c =
       lag = refl;
       lan = refl;
       draws = refl;
-      names = refl;
-      scis = refl;
       frames = refl;
       tally = refl;
       raced = refl;
-      octets = refl;
       steps = refl;
     }) refl refl refl c.mend.ensures

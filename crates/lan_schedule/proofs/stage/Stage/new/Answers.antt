@@ -9,5 +9,5 @@ returns-clause-stands c = λ w tidy keyed opening.
     opens w c.args.chosen.now c.args.line _ keyed opening refl c.unwrap_or.ensures
     (λ users. subst (λ (s : Settings). GroupStandsFor s users c.in_ok-lan.lan [])
     c.in_ok-settings.ensures (c.in_ok-lan.ensures.stands users))
-    c.in_ok-draws.ensures c.new.ensures.items c.new-2.ensures.items refl c.new-3.ensures
-    c.new-4.ensures c.new-5.ensures c.new-6.ensures refl refl refl
+    c.in_ok-draws.ensures refl c.new.ensures
+    c.new-2.ensures c.new-3.ensures c.new-4.ensures refl refl

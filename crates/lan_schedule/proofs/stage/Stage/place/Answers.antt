@@ -7,7 +7,7 @@ use Rattle.lan_schedule.proofs.stage.Stage.place.Goals as goal
 pub returns : goal.returns
 returns c = λ few.
     let is : c.position.result ≡ position_or_len (pointwise nat_eq c.args.name.now)
-    c.args.self.now.names.items =
-    rw c.deref.ensures.value at c.position.ensures in
-    let within = place-within (pointwise nat_eq c.args.name.now) c.args.self.now.names.items in
+    c.args.self.now.lan.names =
+    rw c.names.ensures.names at c.position.ensures in
+    let within = place-within (pointwise nat_eq c.args.name.now) c.args.self.now.lan.names in
     c.few.ensures (omega arith) ∙ is

@@ -22,12 +22,9 @@ returns-in_err-happen g c =
       lag = refl;
       lan = refl;
       draws = refl;
-      names = refl;
-      scis = refl;
       frames = refl;
       tally = refl;
       raced = refl;
-      octets = refl;
       steps = refl;
     }) refl refl refl few refl (record {
       calm = λ settings run tied there most. (
@@ -56,12 +53,9 @@ returns g c =
       lag = refl;
       lan = refl;
       draws = refl;
-      names = refl;
-      scis = refl;
       frames = refl;
       tally = refl;
       raced = refl;
-      octets = refl;
       steps = refl;
     }) refl refl refl few refl (record {
       calm = λ settings run tied there most. (

@@ -21,13 +21,10 @@ returns g c =
       lag = refl;
       lan = refl;
       draws = refl;
-      names = refl;
-      scis = refl;
       users = refl;
       cuts = refl;
       words = refl;
       tally = refl;
       raced = refl;
-      octets = refl;
       steps = refl;
     }) c.mark.ensures) refl)

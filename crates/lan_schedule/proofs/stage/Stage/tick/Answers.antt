@@ -10,12 +10,9 @@ returns g c =
       lag = refl;
       lan = refl;
       draws = refl;
-      names = refl;
-      scis = refl;
       frames = refl;
       tally = refl;
       raced = refl;
-      octets = refl;
       steps = refl;
     }) refl refl refl c.next-next.ensures.next c.next-next.ensures.ahead
     c.next-next.ensures.looked (seats-same _ _ c.next-next.ensures.same (out-looked _ _ c.next-next.ensures.looked)) c.happen.ensures
