@@ -4,6 +4,7 @@
 
 mod claim;
 mod facts;
+mod kept;
 mod laws;
 mod member;
 mod member_facts;

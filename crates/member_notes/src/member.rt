@@ -1,10 +1,10 @@
 //! What is kept of the MKPDUs of one member.
 
-ghost use Rattle.std.specs.Prelude.{◌≡◌, List, [], ◌∷◌, IfOk, OnErr};
+ghost use Rattle.std.specs.Prelude.{◌≡◌, List, ◌∷◌, IfOk, OnErr};
 ghost use Rattle.member_notes.specs.declared.mkpdu.RightMkpdu.{RightMkpdu};
 ghost use Rattle.member_notes.specs.Mkpdus.{novelty};
-ghost use Rattle.member_notes.specs.Standing.{Keeps, above_all};
-ghost use Rattle.member_notes.specs.inside.Putting.{greater_of};
+ghost use Rattle.member_notes.specs.Standing.{Keeps};
+ghost use Rattle.member_notes.specs.inside.Fewness.{kept_of_one};
 
 use crate::mkpdu::{First, RightMkpdu};
 use crate::novelty::MkpduNovelty;
@@ -17,26 +17,30 @@ use std::marker::Model;
 #[derive(Drop)]
 pub struct MkpduNotes {
     firsts: BTreeMap<u32, First>,
-    greatest: Option<u32>,
+    greatest: u32,
 }
 
 impl Model for MkpduNotes {
     ghost use Rattle.member_notes.specs.Standing.{Kept};
+    ghost use Rattle.std.specs.Prelude.{Some};
 
     ghost Value = { Kept };
 
-    ghost view = { λ m. record { firsts = m.firsts.entries; greatest = m.greatest } };
+    ghost view = { λ m. record { firsts = m.firsts.entries; greatest = Some m.greatest } };
 }
 
 impl MkpduNotes {
-    /// Of no MKPDU. No memory is taken.
-    pub fn new(alloc: Global) -> MkpduNotes
-        ensures { Keeps [] result }
+    /// Of one MKPDU with this message number, of which this is kept.
+    pub fn of(alloc: Global, mn: u32, first: First) -> Result<MkpduNotes, AllocError>
+        ensures { (ms : List RightMkpdu) → Keeps ms (kept_of_one mn first)
+            → IfOk result (λ notes. Keeps ms notes) }
     {
-        MkpduNotes {
-            firsts: BTreeMap::new(alloc),
-            greatest: None,
-        }
+        let mut firsts = BTreeMap::new(alloc);
+        firsts.insert(mn, first)?;
+        Ok(MkpduNotes {
+            firsts,
+            greatest: mn,
+        })
     }
 
     /// An MKPDU more. An error leaves all as it was.
@@ -49,28 +53,8 @@ impl MkpduNotes {
         if first.is_none() {
             self.firsts.insert(mkpdu.mn, First::of(mkpdu))?;
         }
-        let above = is_above(mkpdu.mn, self.greatest);
-        self.greatest = Some(greater(self.greatest, mkpdu.mn));
+        let above = self.greatest < mkpdu.mn;
+        self.greatest = self.greatest.max(mkpdu.mn);
         Ok(MkpduNovelty::after(first, above, mkpdu))
-    }
-}
-
-/// Whether a message number is above the greatest one, if there is one.
-fn is_above(mn: u32, greatest: Option<u32>) -> bool
-    ensures { result ≡ above_all mn greatest }
-{
-    match greatest {
-        None => true,
-        Some(greatest) => greatest < mn,
-    }
-}
-
-/// The greatest message number with one more.
-fn greater(greatest: Option<u32>, mn: u32) -> u32
-    ensures { result ≡ greater_of greatest mn }
-{
-    match greatest {
-        None => mn,
-        Some(greatest) => greatest.max(mn),
     }
 }

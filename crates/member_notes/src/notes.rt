@@ -8,7 +8,7 @@ ghost use Rattle.member_notes.specs.Mkpdus.{novelty, novelty_in};
 ghost use Rattle.member_notes.specs.Standing.{KeepsSome, StandsFor, member_cmp};
 ghost use Rattle.member_notes.specs.inside.Putting.{IsPutAt};
 
-use crate::member::MkpduNotes;
+use crate::kept::KeptMkpdus;
 use crate::mkpdu::RightMkpdu;
 use crate::novelty::MkpduNovelty;
 use lan_base::Mi;
@@ -20,7 +20,7 @@ use std::marker::Model;
 #[derive(Drop)]
 pub struct MemberNotes {
     alloc: Global,
-    members: BTreeMap<(u32, Mi), MkpduNotes>,
+    members: BTreeMap<(u32, Mi), KeptMkpdus>,
 }
 
 impl Model for MemberNotes {
@@ -55,7 +55,7 @@ impl MemberNotes {
 /// A right MKPDU more is kept under its member. An error leaves all as it was.
 fn note_at(
     alloc: Global,
-    members: &mut BTreeMap<(u32, Mi), MkpduNotes>,
+    members: &mut BTreeMap<(u32, Mi), KeptMkpdus>,
     mkpdu: &RightMkpdu,
 ) -> Result<MkpduNovelty, AllocError>
     ensures noted { (ms : List RightMkpdu)
@@ -65,10 +65,8 @@ fn note_at(
 {
     let at = (mkpdu.group, mkpdu.mi);
     if let Some(notes) = members.get_mut(&at) {
-        return notes.note(mkpdu);
+        return notes.note(alloc, mkpdu);
     }
-    let mut notes = MkpduNotes::new(alloc);
-    let novelty = notes.note(mkpdu)?;
-    members.insert(at, notes)?;
-    Ok(novelty)
+    members.insert(at, KeptMkpdus::of(mkpdu))?;
+    Ok(MkpduNovelty::New)
 }

@@ -1,14 +1,10 @@
 -- How what is kept of a member is put.
-use Rattle.std.specs.Prelude.{ℕ, ◌≡◌, ◌≢◌, max, Option, Some, None, List}
+use Rattle.std.specs.Prelude.{ℕ, ◌≡◌, ◌≢◌, Some, List}
 use Rattle.std.specs.Map.{lookup}
 use Rattle.std.specs.BTreeMap.{is_at}
 use Rattle.lan_base.specs.declared.address.Mi.{Mi}
 use Rattle.member_notes.specs.declared.mkpdu.RightMkpdu.{RightMkpdu}
 use Rattle.member_notes.specs.Standing.{Kept, Keeps, Members, member_cmp}
-
-abbrev pub greater_of : Option ℕ → ℕ → ℕ
-greater_of None mn = mn
-greater_of (Some greatest) mn = max greatest mn
 
 -- what stands for these MKPDUs is found under a member, and what is found under others is as it was
 pub record IsPutAt (at : ℕ × Mi) (ms : List RightMkpdu) (old new : Members) : Type 0 where

@@ -5,6 +5,7 @@ use Rattle.std.specs.Map.{set_value}
 use Rattle.std.proofs.lemmas.Map.Steps.{set_value_same}
 use Rattle.lan_base.specs.declared.address.Mi.{Mi}
 use Rattle.member_notes.specs.declared.mkpdu.RightMkpdu.{RightMkpdu}
+use Rattle.member_notes.specs.Mkpdus.{novelty}
 use Rattle.member_notes.specs.Standing.{Kept, Keeps, KeepsSome, member_cmp}
 use Rattle.member_notes.specs.inside.Putting.{IsPutAt}
 use Rattle.member_notes.proofs.Putting.{put-at, on_err, if_ok}
@@ -43,11 +44,10 @@ returns-clause-noted c = λ ms keeps.
     let left = c.get_mut.follows.lender-at-none in
     let same : left ≡ c.args.members.now = c.get_mut.follows.holds-at-none in
     let none : ms ≡ [] = subst (λ (o : Option Kept). KeepsSome ms o) (sym c.in_default.ensures.value) keeps in
-    let own : Keeps ms c.new-notes.result =
-    subst (λ (gs : List RightMkpdu). Keeps gs c.new-notes.result) (sym none) c.new-notes.ensures in
-    let p = c.in_ok-novelty.ensures.noted ms own in (
-      p.0,
+    let own : Keeps (e ∷ ms) c.of.result =
+    subst (λ (gs : List RightMkpdu). Keeps (e ∷ gs) c.of.result) (sym none) c.of.ensures in (
+      ap (λ (gs : List RightMkpdu). novelty gs e) (sym none),
       subst (λ (m : BTreeMap (ℕ × Mi) Kept). IsPutAt at (e ∷ ms) m.entries c.insert.new.self.entries) same
-          (put-at at (e ∷ ms) c.note-2.new.self left.entries c.insert.new.self.entries p.1
+          (put-at at (e ∷ ms) c.of.result left.entries c.insert.new.self.entries own
           (λ q. c.in_ok-insert.ensures.updates.0 q) c.in_ok-insert.ensures.updates.1),
     )

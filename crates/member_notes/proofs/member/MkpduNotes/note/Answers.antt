@@ -1,5 +1,5 @@
-use Rattle.std.proofs.Common.{◌≡◌, ◌∙◌, Bool, ℕ, Option, Some, cond, sym, ap}
-use Rattle.std.specs.Prelude.{is_some, not}
+use Rattle.std.proofs.Common.{◌≡◌, ◌∙◌, Bool, ℕ, Option, Some, cond, max, sym, ap}
+use Rattle.std.specs.Prelude.{is_some, not, nat_lt}
 use Rattle.std.specs.Map.{lookup}
 use Rattle.std.specs.BTreeMap.{is_at}
 use Rattle.std.specs.Ordering.{nat_cmp}
@@ -7,7 +7,6 @@ use Rattle.member_notes.specs.declared.mkpdu.First.{First}
 use Rattle.member_notes.specs.Mkpdus.{first_of, novelty_after}
 use Rattle.member_notes.specs.Standing.{Kept, above_all}
 use Rattle.member_notes.specs.declared.member.MkpduNotes.TheInside.{Inside}
-use Rattle.member_notes.specs.inside.Putting.{greater_of}
 use Rattle.member_notes.proofs.Rising.{rises}
 use Rattle.member_notes.proofs.Firsts.{first-put, first-stays, none-of}
 use Rattle.member_notes.proofs.member.MkpduNotes.note.Goals as goal
@@ -16,17 +15,17 @@ use Rattle.member_notes.proofs.member.MkpduNotes.note.Goals.{then-is_none+in_ok-
 pub returns-clause-noted : goal.returns-clause-noted
 returns-clause-noted c = λ ms keeps.
     let e = c.args.mkpdu.now in
-    let old : Kept = record { firsts = c.self.inside.firsts.entries; greatest = c.self.inside.greatest } in
+    let old : Kept = record { firsts = c.self.inside.firsts.entries; greatest = Some c.self.inside.greatest } in
     let above = λ (mn : ℕ). ap (λ (m : Kept). above_all mn m.greatest) c.self.view_is ∙ keeps.greatest mn in
     let were = λ (mn : ℕ). ap (λ (m : Kept). lookup (is_at (nat_cmp mn)) m.firsts) c.self.view_is ∙ keeps.firsts mn in
     let found : c.copied-first.result ≡ first_of e.mn ms =
     c.copied-first.ensures ∙ c.get.ensures.value ∙ were e.mn in
     let told = λ (same : c.if-is_none.self-inside.greatest ≡ c.self.inside.greatest).
-    c.after.ensures ∙ ap (λ (o : Option First). novelty_after o c.is_above-above.result e) found
+    c.after.ensures ∙ ap (λ (o : Option First). novelty_after o (nat_lt c.if-is_none.self-inside.greatest e.mn) e) found
     ∙ ap (λ (b : Bool). novelty_after (first_of e.mn ms) b e)
-    (c.is_above-above.ensures ∙ ap (λ (g : Option ℕ). above_all e.mn g) same ∙ above e.mn) in
+    (ap (λ (g : ℕ). nat_lt g e.mn) same ∙ above e.mn) in
     let rise = λ (same : c.if-is_none.self-inside.greatest ≡ c.self.inside.greatest) (mn : ℕ).
-    ap (λ (g : ℕ). above_all mn (Some g)) (c.greater.ensures ∙ ap (λ (g : Option ℕ). greater_of g e.mn) same)
+    ap (λ (g : ℕ). above_all mn (Some g)) (c.max-self-inside.ensures ∙ ap (λ (g : ℕ). max g e.mn) same)
     ∙ rises c.self.inside.greatest ms e above mn in
     elim c.if-is_none.branch [
       | then-is_none+in_ok-insert w ↦ (
