@@ -7,7 +7,7 @@ use Rattle.std.specs.List.Sorted.{IsStrictlySortedBy}
 use Rattle.std.proofs.lemmas.List.{append-nil}
 use Rattle.lan_base.specs.declared.address.Mi.{Mi}
 use Rattle.member_notes.specs.declared.facts.Member.{Member}
-use Rattle.member_notes.specs.declared.speaker.Speaker.{Speaker}
+use Rattle.member_notes.specs.Speakers.{Speaker}
 use Rattle.member_notes.specs.Facts.{AreMembersOf, Test, by, is_any, is_member, member_of}
 use Rattle.member_notes.specs.FactsKept.{HoldsFacts, Speakers, speaker_of}
 use Rattle.member_notes.specs.Spoken.{Spoken}

@@ -8,7 +8,7 @@ use Rattle.lan_base.specs.declared.address.Sci.{Sci}
 use Rattle.lan_base.specs.Identifiers.{same_sci}
 use Rattle.mkpdu_codec.specs.declared.peer.Peer.{Peer}
 use Rattle.lan_base.specs.Instants.{is_recent}
-use Rattle.member_notes.specs.declared.speaker.Speaker.{Speaker}
+use Rattle.member_notes.specs.Speakers.{Speaker}
 use Rattle.member_notes.specs.Facts.{Test, by, is_any, is_new, is_again, has_fallen, gives_key, gives_back, serves_too, is_high, number_given, novelty_behind, lists_live, is_rival, counted, oldest_packet, times, first_sci}
 use Rattle.member_notes.specs.FactsKept.{HoldsFacts, Speakers, claim_in, claim_of, greatest, speaker_at, speaker_in, speaker_of, speaker_told}
 use Rattle.member_notes.specs.Mkpdus.{is_of}

@@ -5,7 +5,7 @@ use Rattle.std.specs.BTreeMap.{is_at}
 use Rattle.lan_base.specs.declared.address.Mi.{Mi}
 use Rattle.lan_base.specs.declared.address.Sci.{Sci}
 use Rattle.member_notes.specs.declared.claim.Claim.{Claim}
-use Rattle.member_notes.specs.declared.speaker.Speaker.{Speaker}
+use Rattle.member_notes.specs.Speakers.{Speaker}
 use Rattle.member_notes.specs.Facts.{Test, by, is_any, is_new, counts_of, first_sci, gives_key, number_given}
 use Rattle.member_notes.specs.Spoken.{Spoken}
 use Rattle.member_notes.specs.Standing.{member_cmp}

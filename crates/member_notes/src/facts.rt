@@ -1,7 +1,8 @@
 //! What is told of a member.
 
-ghost use Rattle.std.specs.Prelude.{◌≡◌, []};
-ghost use Rattle.member_notes.specs.Facts.{counts_of, times};
+ghost use Rattle.std.specs.Prelude.{◌≡◌, [], IsTrue};
+ghost use Rattle.member_notes.specs.Facts.{times};
+ghost use Rattle.member_notes.specs.inside.Fewness.{kinds_of, no_kinds};
 ghost use Rattle.member_notes.specs.inside.Hearing.{counts_with, more_of, times_with};
 
 use crate::novelty::MkpduNovelty;
@@ -35,6 +36,15 @@ pub struct MemberCounts {
     pub high: Times,
 }
 
+/// Of four kinds how many MKPDUs of a member there are, as `MemberCounts` has them.
+#[derive(Clone, Copy)]
+pub struct Kinds {
+    pub fell: Times,
+    pub servers: Times,
+    pub returned: Times,
+    pub high: Times,
+}
+
 /// What is told of a member: of a group, under an MI.
 #[derive(Clone, Copy, Debug, PartialEq, Eq)]
 pub struct Member {
@@ -63,6 +73,12 @@ impl Times {
         Times { count: 0, first: 0 }
     }
 
+    fn is_none(&self) -> bool
+        ensures { IsTrue result → self.now ≡ times [] }
+    {
+        self.count == 0 && self.first == 0
+    }
+
     fn with(&self, counted: bool, packet: u32) -> Times
         ensures { result ≡ times_with counted packet self.now }
     {
@@ -76,20 +92,40 @@ impl Times {
     }
 }
 
-impl MemberCounts {
+impl Kinds {
     /// Of no MKPDU.
-    pub(crate) fn none(sci: Sci) -> MemberCounts
-        ensures { result ≡ counts_of (λ test. []) sci }
+    pub(crate) fn none() -> Kinds
+        ensures { result ≡ no_kinds }
     {
-        MemberCounts {
-            sci,
-            mkpdus: 0,
-            again: 0,
-            given: 0,
+        Kinds {
             fell: Times::none(),
             servers: Times::none(),
             returned: Times::none(),
             high: Times::none(),
+        }
+    }
+
+    /// Of which there are none.
+    pub(crate) fn are_none(&self) -> bool
+        ensures { IsTrue result → self.now ≡ no_kinds }
+    {
+        self.fell.is_none()
+            && self.servers.is_none()
+            && self.returned.is_none()
+            && self.high.is_none()
+    }
+}
+
+impl MemberCounts {
+    /// How many there are of four kinds.
+    pub(crate) fn kinds(&self) -> Kinds
+        ensures { result ≡ kinds_of self.now }
+    {
+        Kinds {
+            fell: self.fell,
+            servers: self.servers,
+            returned: self.returned,
+            high: self.high,
         }
     }
 

@@ -11,6 +11,7 @@ mod member_facts;
 mod mkpdu;
 mod notes;
 mod novelty;
+mod seldom;
 mod speaker;
 mod sums;
 

@@ -62,7 +62,15 @@ impl MemberFacts {
     {
         let serves_too = serves_too(&self.speakers, mkpdu, novelty, nanos, said);
         let claim = Claim::of(self.alloc, nanos, said)?;
-        hear_at(&mut self.speakers, mkpdu, said, novelty, serves_too, claim)
+        hear_at(
+            self.alloc,
+            &mut self.speakers,
+            mkpdu,
+            said,
+            novelty,
+            serves_too,
+            claim,
+        )
     }
 
     /// What is told of each member, in ascending order.
@@ -70,12 +78,12 @@ impl MemberFacts {
         ensures { (h : List Spoken) → HoldsFacts h self.now
             → IfOk result (λ ms. AreMembersOf h ms.items) }
     {
-        let mut members = Vec::new(self.alloc);
+        let mut members = Vec::with_capacity(self.alloc, self.speakers.len())?;
         for (at, speaker) in &self.speakers {
             members.push(Member {
                 group: at.0,
                 mi: at.1,
-                counts: speaker.counts,
+                counts: speaker.counts(),
             })?;
         }
         Ok(members)
@@ -121,15 +129,13 @@ fn is_rival(
 {
     match speakers.get(&(mkpdu.group, mi)) {
         None => false,
-        Some(speaker) => match &speaker.claim {
-            None => false,
-            Some(claim) => claim.rivals(mkpdu, nanos, said),
-        },
+        Some(speaker) => speaker.rivals(mkpdu, nanos, said),
     }
 }
 
 /// What an MKPDU says is kept under its member. An error leaves all as it was.
 fn hear_at(
+    alloc: Global,
     speakers: &mut BTreeMap<(u32, Mi), Speaker>,
     mkpdu: &RightMkpdu,
     said: &Announcement,
@@ -145,11 +151,10 @@ fn hear_at(
 {
     let at = (mkpdu.group, mkpdu.mi);
     if let Some(speaker) = speakers.get_mut(&at) {
-        speaker.hear(mkpdu, said, novelty, serves_too, claim);
-        return Ok(());
+        return speaker.hear(alloc, mkpdu, said, novelty, serves_too, claim);
     }
     let mut speaker = Speaker::new(said.sci);
-    speaker.hear(mkpdu, said, novelty, serves_too, claim);
+    speaker.hear(alloc, mkpdu, said, novelty, serves_too, claim)?;
     speakers.insert(at, speaker)?;
     Ok(())
 }

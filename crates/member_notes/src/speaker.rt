@@ -1,58 +1,117 @@
 //! What is kept of what one member says.
 
-ghost use Rattle.std.specs.Prelude.{ℕ, ◌≡◌, max, if◌then◌else◌};
+ghost use Rattle.std.specs.Prelude.{ℕ, ◌≡◌, max, if◌then◌else◌, OnOk, OnErr};
 ghost use Rattle.member_notes.specs.Facts.{nears_end, number_given, spoken};
-ghost use Rattle.member_notes.specs.inside.Hearing.{hears, telling, unheard};
+ghost use Rattle.member_notes.specs.inside.Hearing.{hears, rivals, telling, unheard};
 
 use crate::claim::Claim;
 use crate::facts::{MemberCounts, Telling};
 use crate::mkpdu::RightMkpdu;
 use crate::novelty::MkpduNovelty;
+use crate::seldom::{Seldom, kinds_in, renew};
 use lan_base::Sci;
 use mkpdu_codec::{Announcement, Given, Uses};
+use std::alloc::{AllocError, Global};
+use std::marker::Model;
 
 /// The lowest acceptable packet number above which a key nears its end (IEEE Std 802.1X, pending
 /// exhaustion of packet numbers).
 const PENDING_EXHAUSTION: u32 = 0xC000_0000;
 
 /// What is told of a member, the greatest key number that it gave, and what the last new MKPDU says if
-/// that serves.
+/// that serves. Contracts see these three.
 #[derive(Drop)]
 pub struct Speaker {
-    pub counts: MemberCounts,
-    pub greatest: u32,
-    pub claim: Option<Claim>,
+    sci: Sci,
+    mkpdus: u32,
+    again: u32,
+    given: u32,
+    greatest: u32,
+    seldom: Option<Box<Seldom>>,
+}
+
+impl Model for Speaker {
+    ghost use Rattle.member_notes.specs.Speakers.{Speaker as Speaks};
+    ghost use Rattle.member_notes.specs.inside.Fewness.{seldom_in, speaks};
+
+    ghost Value = { Speaks };
+
+    ghost view = { λ s. speaks s.sci s.mkpdus s.again s.given s.greatest (seldom_in s.seldom) };
 }
 
 impl Speaker {
-    /// Of no MKPDU.
+    /// Of no MKPDU. No memory is taken.
     pub fn new(sci: Sci) -> Speaker
         ensures { result ≡ unheard sci }
     {
         Speaker {
-            counts: MemberCounts::none(sci),
+            sci,
+            mkpdus: 0,
+            again: 0,
+            given: 0,
             greatest: 0,
-            claim: None,
+            seldom: None,
         }
     }
 
-    /// An MKPDU more.
+    /// What is told of the member.
+    pub fn counts(&self) -> MemberCounts
+        ensures { result ≡ self.now.counts }
+    {
+        let kinds = kinds_in(&self.seldom);
+        MemberCounts {
+            sci: self.sci,
+            mkpdus: self.mkpdus,
+            again: self.again,
+            given: self.given,
+            fell: kinds.fell,
+            servers: kinds.servers,
+            returned: kinds.returned,
+            high: kinds.high,
+        }
+    }
+
+    /// Whether it stands against what an MKPDU says that serves.
+    pub fn rivals(&self, mkpdu: &RightMkpdu, nanos: u64, said: &Announcement) -> bool
+        ensures { result ≡ rivals (spoken mkpdu.now nanos said.now) self.now.claim }
+    {
+        match &self.seldom {
+            None => false,
+            Some(seldom) => match &seldom.claim {
+                None => false,
+                Some(claim) => claim.rivals(mkpdu, nanos, said),
+            },
+        }
+    }
+
+    /// An MKPDU more. An error leaves all as it was.
     pub fn hear(
         &mut self,
+        alloc: Global,
         mkpdu: &RightMkpdu,
         said: &Announcement,
         novelty: MkpduNovelty,
         serves_too: bool,
         claim: Option<Claim>,
-    )
-        ensures { (nanos : ℕ) → self.new ≡ hears novelty serves_too claim (spoken mkpdu.now nanos said.now) self.old }
+    ) -> Result<(), AllocError>
+        ensures heard { (nanos : ℕ) → OnOk result
+            (self.new ≡ hears novelty serves_too claim (spoken mkpdu.now nanos said.now) self.old) }
+        ensures kept { OnErr result (self.new ≡ self.old) }
     {
         let telling = self.telling(mkpdu, said, novelty, serves_too);
-        self.counts = self.counts.with(&telling);
+        let counts = self.counts().with(&telling);
+        renew(
+            alloc,
+            &mut self.seldom,
+            counts.kinds(),
+            novelty.is_new(),
+            claim,
+        )?;
+        self.mkpdus = counts.mkpdus;
+        self.again = counts.again;
+        self.given = counts.given;
         self.greatest = greater(self.greatest, telling.gives, said);
-        if novelty.is_new() {
-            self.claim = claim;
-        }
+        Ok(())
     }
 
     /// What an MKPDU is among those of the member.

@@ -12,7 +12,7 @@ use Rattle.member_notes.specs.declared.facts.MemberCounts.{MemberCounts}
 use Rattle.member_notes.specs.declared.facts.Telling.{Telling}
 use Rattle.member_notes.specs.declared.facts.Times.{Times}
 use Rattle.member_notes.specs.declared.novelty.MkpduNovelty.{MkpduNovelty}
-use Rattle.member_notes.specs.declared.speaker.Speaker.{Speaker}
+use Rattle.member_notes.specs.Speakers.{Speaker}
 use Rattle.member_notes.specs.Facts.{new_mkpdu, fallen_mkpdu, repeated_mkpdu, number_given, nears_end}
 use Rattle.member_notes.specs.FactsKept.{speaker_in, speaker_at, Speakers}
 use Rattle.member_notes.specs.Spoken.{Spoken}

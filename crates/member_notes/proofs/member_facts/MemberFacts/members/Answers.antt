@@ -3,7 +3,7 @@ use Rattle.std.specs.List.Sorted.{IsStrictlySortedBy}
 use Rattle.std.specs.Map.Iter.{deref_pair}
 use Rattle.std.proofs.lemmas.Map.Iter.{rest_all}
 use Rattle.lan_base.specs.declared.address.Mi.{Mi}
-use Rattle.member_notes.specs.declared.speaker.Speaker.{Speaker}
+use Rattle.member_notes.specs.Speakers.{Speaker}
 use Rattle.member_notes.specs.FactsKept.{Speakers}
 use Rattle.member_notes.specs.Standing.{member_cmp}
 use Rattle.member_notes.proofs.Heard.{listed, all-listed}

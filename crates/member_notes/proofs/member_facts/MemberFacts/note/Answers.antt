@@ -2,7 +2,7 @@ use Rattle.std.proofs.Common.{◌≡◌, ◌∙◌, ℕ, sym, ap, subst}
 use Rattle.std.specs.Prelude.{◌&&◌}
 use Rattle.lan_base.specs.declared.address.Mi.{Mi}
 use Rattle.member_notes.specs.declared.novelty.MkpduNovelty.{MkpduNovelty}
-use Rattle.member_notes.specs.declared.speaker.Speaker.{Speaker}
+use Rattle.member_notes.specs.Speakers.{Speaker}
 use Rattle.member_notes.specs.Facts.{new_mkpdu, novelty_behind, serves_too, spoken}
 use Rattle.member_notes.specs.FactsKept.{HoldsFacts, Speakers, claim_in, speaker_at}
 use Rattle.member_notes.specs.inside.Hearing.{IsHeard, hears, lists_rival, speaker_or}
