@@ -5,3 +5,4 @@ pub mod Reporting
 pub mod Speaking
 pub mod Listing
 pub mod Walking
+pub mod Saying

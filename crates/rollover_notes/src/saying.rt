@@ -3,6 +3,7 @@
 ghost use Rattle.std.specs.Prelude.{◌≡◌, IfOk};
 ghost use Rattle.lan_base.specs.Instants.{is_recent};
 ghost use Rattle.rollover_notes.specs.Speaking.{said_of};
+ghost use Rattle.rollover_notes.specs.inside.Saying.{said_in};
 
 use lan_base::{Mi, Sci, is_recent};
 use mkpdu_codec::{Announcement, Peer};
@@ -15,17 +16,30 @@ pub type Member = (u32, Mi);
 /// What counts of an MKPDU: under which SCI, when, and which peers it lists, live or potential.
 #[derive(Drop)]
 pub struct Saying {
-    sci: Sci,
-    nanos: u64,
-    listed: Vec<Peer>,
+    kept: Kept,
 }
 
 impl Model for Saying {
     ghost use Rattle.rollover_notes.specs.Speaking.{Said};
+    ghost use Rattle.rollover_notes.specs.inside.Saying.{said_in};
 
     ghost Value = { Said };
 
-    ghost view = { λ s. record { sci = s.sci; nanos = s.nanos; listed = s.listed.items } };
+    ghost view = { λ s. said_in s.kept };
+}
+
+/// Of one that lists nobody, and of one that lists peers.
+#[derive(Drop)]
+enum Kept {
+    Alone { sci: Sci, nanos: u64 },
+    Listing(Box<Listing>),
+}
+
+#[derive(Drop)]
+struct Listing {
+    sci: Sci,
+    nanos: u64,
+    listed: Vec<Peer>,
 }
 
 impl Saying {
@@ -36,9 +50,7 @@ impl Saying {
         let mut listed = Vec::from_slice(alloc, said.live.as_slice())?;
         listed.extend_from_slice(said.potential.as_slice())?;
         Ok(Saying {
-            sci: said.sci,
-            nanos,
-            listed,
+            kept: Kept::of(alloc, said.sci, nanos, listed)?,
         })
     }
 
@@ -46,20 +58,47 @@ impl Saying {
     pub fn sci(&self) -> Sci
         ensures { result ≡ self.now.sci }
     {
-        self.sci
+        match &self.kept {
+            Kept::Alone { sci, .. } => *sci,
+            Kept::Listing(listing) => listing.sci,
+        }
     }
 
     /// The peers that it lists.
     pub fn listed(&self) -> &[Peer]
         ensures { result.now ≡ self.now.listed }
     {
-        self.listed.as_slice()
+        match &self.kept {
+            Kept::Alone { .. } => &[],
+            Kept::Listing(listing) => listing.listed.as_slice(),
+        }
     }
 
     /// Whether it was said less than MKA Life Time before a time, or behind it.
     pub fn is_recent(&self, time: u64) -> bool
         ensures { result ≡ is_recent self.now.nanos time }
     {
-        is_recent(self.nanos, time)
+        is_recent(self.nanos(), time)
+    }
+
+    fn nanos(&self) -> u64
+        ensures { result ≡ self.now.nanos }
+    {
+        match &self.kept {
+            Kept::Alone { nanos, .. } => *nanos,
+            Kept::Listing(listing) => listing.nanos,
+        }
+    }
+}
+
+impl Kept {
+    fn of(alloc: Global, sci: Sci, nanos: u64, listed: Vec<Peer>) -> Result<Kept, AllocError>
+        ensures { IfOk result (λ kept. said_in kept ≡ record { sci = sci; nanos = nanos; listed = listed.items }) }
+    {
+        if listed.is_empty() {
+            return Ok(Kept::Alone { sci, nanos });
+        }
+        let listing = Listing { sci, nanos, listed };
+        Ok(Kept::Listing(Box::new(alloc, listing)?))
     }
 }
