@@ -14,7 +14,7 @@ use Rattle.audit_report.specs.Told.{Told}
 use Rattle.audit_report.specs.Lines.{counts_line, line_of, set_lines}
 use Rattle.audit_report.specs.Packets.{finding_lines}
 use Rattle.audit_report.specs.Tallies.{tally_of}
-use Rattle.audit_report.specs.Verdicts.{Verdict, verdict_lines}
+use Rattle.audit_report.specs.Verdicts.{Verdict, begun_verdict, verdict_lines}
 
 -- ---- the lines of packets
 
@@ -69,6 +69,10 @@ count_lines t ending = read_line t.all ending ++ (packets_line t ++ (mka_line t.
     ++ (sec_line t.sec ++ (undecided_line t.sec.reasons ++ malformed_line t.sec.malformations))))
 
 -- ---- the report
+
+-- before the lines of members
+abbrev pub begun_lines : Tally → Verdict → Ending → List ℕ
+begun_lines t v ending = count_lines t ending ++ begun_verdict v
 
 abbrev pub end_lines : Tally → Verdict → Ending → List ℕ
 end_lines t v ending = count_lines t ending ++ verdict_lines t v

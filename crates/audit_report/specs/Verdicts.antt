@@ -64,9 +64,9 @@ abbrev pub order_line : Order → List ℕ
 order_line o = counts_line (codes "order") ((codes "fell", o.fell) ∷ (codes "window", o.window)
     ∷ (codes "high", o.high) ∷ [])
 
--- each key and sender, each change, each member that was not ready for a key, and each member
-abbrev pub each_line : Verdict → List ℕ
-each_line v = timed_lines v.timed ++ (change_lines v.changes ++ (unready_lines v.unready ++ member_lines v.members))
+-- each key and sender, each change, and each member that was not ready for a key
+abbrev pub begun_verdict : Verdict → List ℕ
+begun_verdict v = timed_lines v.timed ++ (change_lines v.changes ++ unready_lines v.unready)
 
 abbrev pub judged_lines : Tally → Verdict → List ℕ
 judged_lines t v = once_line t v.once ++ (one_key_line t v.one_key ++ order_line (order_of v.uses))
@@ -74,5 +74,9 @@ judged_lines t v = once_line t v.once ++ (one_key_line t v.one_key ++ order_line
 abbrev pub sum_lines : Verdict → List ℕ
 sum_lines v = rollover_line (length v.changes) (sums_of v.unready v.timed) ++ sums_line (member_sums v.members)
 
+abbrev pub last_lines : Tally → Verdict → List ℕ
+last_lines t v = judged_lines t v ++ sum_lines v
+
+-- each member stands between
 abbrev pub verdict_lines : Tally → Verdict → List ℕ
-verdict_lines t v = each_line v ++ (judged_lines t v ++ sum_lines v)
+verdict_lines t v = begun_verdict v ++ (member_lines v.members ++ last_lines t v)

@@ -3,22 +3,12 @@
 ghost use Rattle.std.specs.Prelude.{◌≡◌, ◌++◌, [], OnOk, codes};
 ghost use Rattle.trace_text.specs.Words.{spaced};
 ghost use Rattle.audit_report.specs.Lines.{line_of};
-ghost use Rattle.audit_report.specs.Members.{kind_words, member_line, member_lines, member_words, sums_line};
+ghost use Rattle.audit_report.specs.Members.{kind_words, member_line, member_words, sums_line};
 
 use crate::lines::{number, put_line};
 use member_notes::{Member, MemberCounts, MemberSums};
 use std::alloc::AllocError;
 use trace_text::{Word, put_words};
-
-/// Appends what is told of each member. An `Err` may leave a front of it.
-pub fn put_members(members: &[Member], into: &mut Vec<u8>) -> Result<(), AllocError>
-    ensures { OnOk result (into.new.items ≡ into.old.items ++ member_lines members.now) }
-{
-    for member in members {
-        put_member(member, into)?;
-    }
-    Ok(())
-}
 
 /// Appends what is told of all members. An `Err` may leave a front of it.
 pub fn put_sums(sums: &MemberSums, into: &mut Vec<u8>) -> Result<(), AllocError>
@@ -44,8 +34,8 @@ pub fn put_sums(sums: &MemberSums, into: &mut Vec<u8>) -> Result<(), AllocError>
     )
 }
 
-/// Appends the line of a member.
-fn put_member(member: &Member, into: &mut Vec<u8>) -> Result<(), AllocError>
+/// Appends the line of a member. An `Err` may leave a front of it.
+pub fn put_member(member: &Member, into: &mut Vec<u8>) -> Result<(), AllocError>
     ensures { OnOk result (into.new.items ≡ into.old.items ++ member_line member.now) }
 {
     begin_member(member, into)?;

@@ -2,7 +2,8 @@
 
 ghost use Rattle.std.specs.Prelude.{◌≡◌, ◌++◌, OnOk, map};
 ghost use Rattle.audit_report.specs.Lines.{counts_line};
-ghost use Rattle.audit_report.specs.Report.{count_lines, end_lines, fault_text, malformed_line, mka_line, packets_line, read_line, sec_line, undecided_line};
+ghost use Rattle.audit_report.specs.Report.{begun_lines, count_lines, fault_text, malformed_line, mka_line, packets_line, read_line, sec_line, undecided_line};
+ghost use Rattle.audit_report.specs.Verdicts.{last_lines};
 
 use crate::ending::Ending;
 use crate::lines::{number, put_line};
@@ -12,19 +13,31 @@ use capture_packets::CaptureFault;
 use std::alloc::{AllocError, Global};
 use trace_text::{Word, put_words};
 
-/// Appends what is told at the end. An `Err` may leave a front of it.
-pub fn put_end(
-    alloc: Global,
+/// Appends what is told at the end before the lines of members. An `Err` may leave a front of it.
+pub fn begin_end(
     tally: &Tally,
     verdict: &Verdict,
     ending: Ending,
     into: &mut Vec<u8>,
 ) -> Result<(), AllocError>
     ensures { OnOk result (into.new.items
-        ≡ into.old.items ++ end_lines tally.now verdict.now ending) }
+        ≡ into.old.items ++ begun_lines tally.now verdict.now ending) }
 {
     put_counts(tally, ending, into)?;
-    verdict.put(alloc, tally, into)
+    verdict.begin(into)
+}
+
+/// Appends what is told at the end behind the lines of members. An `Err` may leave a front of it.
+pub fn finish_end(
+    alloc: Global,
+    tally: &Tally,
+    verdict: &Verdict,
+    into: &mut Vec<u8>,
+) -> Result<(), AllocError>
+    ensures { OnOk result (into.new.items ≡ into.old.items ++ last_lines tally.now verdict.now) }
+{
+    verdict.put_judged(tally, into)?;
+    verdict.put_sums(alloc, into)
 }
 
 /// Appends how many packets there are of each kind.

@@ -2,12 +2,12 @@
 
 ghost use Rattle.std.specs.Prelude.{◌≡◌, ◌++◌, OnOk};
 ghost use Rattle.audit_report.specs.Lines.{line_of};
-ghost use Rattle.audit_report.specs.Verdicts.{blame, each_line, is_refuted, judged_lines, order_line, sum_lines, verdict_lines, verdict_words};
+ghost use Rattle.audit_report.specs.Verdicts.{begun_verdict, blame, is_refuted, judged_lines, order_line, sum_lines, verdict_words};
 
 use crate::blame::Blame;
 use crate::changes::put_changes;
 use crate::lines::{number, put_line};
-use crate::members::{put_members, put_sums};
+use crate::members::put_sums;
 use crate::readiness::{Sums, put_rollover, put_unready};
 use crate::tally::Tally;
 use crate::uses::{TimedUse, put_timed};
@@ -128,34 +128,17 @@ impl Verdict {
         tally.doubt(strict)
     }
 
-    /// Appends what is told of each, what is judged, and what is told of all.
-    pub(crate) fn put(
-        &self,
-        alloc: Global,
-        tally: &Tally,
-        into: &mut Vec<u8>,
-    ) -> Result<(), AllocError>
-        ensures { OnOk result (into.new.items
-            ≡ into.old.items ++ verdict_lines tally.now self.now) }
-    {
-        self.put_each(into)?;
-        self.put_judged(tally, into)?;
-        self.put_sums(alloc, into)
-    }
-
-    /// Appends each key and sender, each change, each member that was not ready for a key, and each
-    /// member.
-    fn put_each(&self, into: &mut Vec<u8>) -> Result<(), AllocError>
-        ensures { OnOk result (into.new.items ≡ into.old.items ++ each_line self.now) }
+    /// Appends each key and sender, each change, and each member that was not ready for a key.
+    pub(crate) fn begin(&self, into: &mut Vec<u8>) -> Result<(), AllocError>
+        ensures { OnOk result (into.new.items ≡ into.old.items ++ begun_verdict self.now) }
     {
         put_timed(&self.timed, into)?;
         put_changes(&self.changes, into)?;
-        put_unready(&self.unready, into)?;
-        put_members(&self.members, into)
+        put_unready(&self.unready, into)
     }
 
     /// Appends what is judged.
-    fn put_judged(&self, tally: &Tally, into: &mut Vec<u8>) -> Result<(), AllocError>
+    pub(crate) fn put_judged(&self, tally: &Tally, into: &mut Vec<u8>) -> Result<(), AllocError>
         ensures { OnOk result (into.new.items ≡ into.old.items ++ judged_lines tally.now self.now) }
     {
         let (mka, sec) = (&tally.mka, &tally.sec);
@@ -165,7 +148,7 @@ impl Verdict {
     }
 
     /// Appends what is told of all changes and of all members.
-    fn put_sums(&self, alloc: Global, into: &mut Vec<u8>) -> Result<(), AllocError>
+    pub(crate) fn put_sums(&self, alloc: Global, into: &mut Vec<u8>) -> Result<(), AllocError>
         ensures { OnOk result (into.new.items ≡ into.old.items ++ sum_lines self.now) }
     {
         let changes = self.changes.len() as u64;

@@ -19,6 +19,7 @@ pub mod HeadsRead
 pub mod PacketsRead
 pub mod GiftsAgree
 pub mod Going
+pub mod WritingOn
 pub mod Reporting
 pub mod Opening
 pub mod Seeing

@@ -3,3 +3,4 @@ pub mod Keeping
 pub mod Batches
 pub mod Auditing
 pub mod Viewing
+pub mod Reporting

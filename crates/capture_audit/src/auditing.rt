@@ -21,7 +21,8 @@ use crate::auditor::Auditor;
 use crate::batch::Batch;
 use crate::end::AuditEnd;
 use crate::reading::read_packets;
-use audit_report::{Blame, Ending, put_end};
+use crate::report::write_end;
+use audit_report::{Blame, Ending};
 use capture_packets::{CaptureFault, PacketReader};
 use key_ring::KeyRing;
 use key_wrap::law_one_key_for_one_wrap;
@@ -194,14 +195,7 @@ fn report<K: Sink>(
     ensures writes { K.faults sink.old ≤ K.faults sink.new }
 {
     let verdict = auditor.verdict()?;
-    put_end(
-        batch.alloc,
-        &auditor.tally,
-        &verdict,
-        ending,
-        &mut batch.text,
-    )?;
-    batch.write(sink)?;
+    write_end(&auditor.tally, &verdict, ending, batch, sink)?;
     end_of(verdict.blame(asks.strict, &auditor.tally), ending)
 }
 

@@ -11,6 +11,7 @@ mod hand;
 mod handing;
 mod laws;
 mod reading;
+mod report;
 mod viewing;
 
 pub use asks::Asks;
