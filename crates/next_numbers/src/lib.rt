@@ -10,4 +10,4 @@ pub use laws::{
     law_an_emission_puts_a_frame_on_the_air, law_emissions_stay_in_turn,
     law_next_numbers_stay_bounded,
 };
-pub use numbers::Numbers;
+pub use numbers::{Numbers, in_range};

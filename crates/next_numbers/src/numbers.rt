@@ -175,7 +175,7 @@ fn is_tick(event: &Event) -> bool
 }
 
 /// A packet number, and 0 for what lies behind the last one.
-fn in_range(next: u64) -> u32
+pub fn in_range(next: u64) -> u32
     ensures { result ≡ in_range next }
 {
     u32::try_from(next).unwrap_or(0)

@@ -4,7 +4,6 @@ ghost use Rattle.std.specs.Prelude.{◌≡◌, List, Some, is_some};
 ghost use Rattle.std.specs.Option.{option_copied};
 ghost use Rattle.lan_base.specs.declared.frame.UserFrame.{UserFrame};
 ghost use Rattle.lan_core.specs.Lives.{transmitting_at};
-ghost use Rattle.next_numbers.specs.Numbers.{in_range};
 ghost use Rattle.cak_roll.specs.declared.event.GroupNumber.TheVariants.{Second};
 ghost use Rattle.cak_roll.specs.declared.event.TwinEvent.TheVariants as twins;
 ghost use Rattle.cak_roll.specs.Twin.{Pair, Twin as TwinRun, events_in, of_group};
@@ -19,6 +18,7 @@ use crate::part::Part;
 use crate::side::Side;
 use lan_base::{Name, Sci};
 use lan_core::Event;
+use next_numbers::in_range;
 
 impl Twin {
     /// What an event is in a group.
@@ -222,11 +222,4 @@ fn sent(station: u8, user: u32, pn: u32) -> Part
     } else {
         Part::Sent { station, user, pn }
     }
-}
-
-/// A packet number, and 0 for what lies behind the last one.
-fn in_range(next: u64) -> u32
-    ensures { result ≡ in_range next }
-{
-    u32::try_from(next).unwrap_or(0)
 }
