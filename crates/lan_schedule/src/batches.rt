@@ -136,7 +136,7 @@ impl Stage {
         }
     }
 
-    /// Where no answer is left, the next batch is checked.
+    /// Where no answer is left and a protected frame comes, the next batch is checked.
     fn look_ahead<T: Threads + Sync>(
         &self,
         rt: &T,
@@ -151,7 +151,7 @@ impl Stage {
             → GroupStandsFor settings users self.now.lan r → AreChecked r number station ahead.old
             → OnOk result (AreChecked r number station ahead.new) }
     {
-        if ahead.is_empty() {
+        if ahead.is_empty() && self.protected(number).is_some() {
             *ahead = self.checked(rt, number, last, station)?;
         }
         Ok(())

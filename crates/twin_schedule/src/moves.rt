@@ -1,6 +1,6 @@
 //! Time moves on, and frames go from station to station.
 
-ghost use Rattle.std.specs.Prelude.{◌≡◌, ◌<◌, ◌+◌, ◌-◌, ◌^◌, IfOk};
+ghost use Rattle.std.specs.Prelude.{◌≡◌, ◌<◌, ◌+◌, ◌-◌, ◌^◌, ◌++◌, OnOk};
 ghost use Rattle.cak_roll.specs.Twin.{of_group};
 ghost use Rattle.std.specs.List.{range_with_len};
 ghost use Rattle.twin_schedule.specs.World.{World, joined, sender, has_spread};
@@ -15,7 +15,7 @@ use crate::party::{Party, item};
 use crate::recorder::TwinRecorder;
 use crate::stage::Stage;
 use cak_roll::{GroupNumber, TwinEvent};
-use std::alloc::{AllocError, Global};
+use std::alloc::AllocError;
 use trace_acts::Halt;
 
 impl Stage {
@@ -147,11 +147,13 @@ impl Stage {
         Ok(())
     }
 
-    /// A group's frame goes from its sender to those that joined the group.
+    /// A group's frame goes from its sender to those that joined the group, whose places are laid into a
+    /// room.
     fn spread<K, R: TwinRecorder<K>>(
         &mut self,
         group: GroupNumber,
         frame: u32,
+        room: &mut Vec<u8>,
         recorder: &mut R,
         outlet: &mut K,
     ) -> Result<(), Halt>
@@ -159,8 +161,8 @@ impl Stage {
             (moment self.old outlet.old) (moment self.new outlet.new) result }
     {
         let from = self.sender(group, frame);
-        let stations = self.joined(group)?;
-        self.pass_to(group, frame, from, &stations, recorder, outlet)
+        self.lay_joined(group, room)?;
+        self.pass_to(group, frame, from, room, recorder, outlet)
     }
 
     /// The sender of a group's frame of a number, from 1.
@@ -176,14 +178,15 @@ impl Stage {
         }
     }
 
-    /// The stations that joined a group, in that order.
-    fn joined(&self, group: GroupNumber) -> Result<Vec<u8>, AllocError>
+    /// Lays the stations that joined a group into a room, in that order.
+    fn lay_joined(&self, group: GroupNumber, room: &mut Vec<u8>) -> Result<(), AllocError>
         ensures { (w : World) → IsReached StandsFor w self.now
-            → IfOk result (λ stations. stations.items ≡ joined group w.run) }
+            → OnOk result (room.new.items ≡ joined group w.run) }
     {
+        room.clear();
         match group {
-            GroupNumber::First => up_to(self.alloc, self.count()),
-            GroupNumber::Second => self.twin.adopters().to_vec(self.alloc),
+            GroupNumber::First => put_places(self.count(), room),
+            GroupNumber::Second => room.extend_from_slice(self.twin.adopters()),
         }
     }
 
@@ -191,6 +194,7 @@ impl Stage {
     fn spread_group<K, R: TwinRecorder<K>>(
         &mut self,
         group: GroupNumber,
+        room: &mut Vec<u8>,
         recorder: &mut R,
         outlet: &mut K,
     ) -> Result<(), Halt>
@@ -199,7 +203,7 @@ impl Stage {
     {
         let count = counted(self.party(group).count());
         let first = self.party(group).spread;
-        self.spread_between(group, first, count, recorder, outlet)?;
+        self.spread_between(group, first, count, room, recorder, outlet)?;
         self.set_spread(group, count);
         Ok(())
     }
@@ -210,6 +214,7 @@ impl Stage {
         group: GroupNumber,
         first: u32,
         count: u32,
+        room: &mut Vec<u8>,
         recorder: &mut R,
         outlet: &mut K,
     ) -> Result<(), Halt>
@@ -217,7 +222,7 @@ impl Stage {
             (moment self.old outlet.old) (moment self.new outlet.new) result }
     {
         for place in first..count {
-            self.spread(group, place + 1, recorder, outlet)?;
+            self.spread(group, place + 1, room, recorder, outlet)?;
         }
         Ok(())
     }
@@ -246,6 +251,7 @@ impl Stage {
     /// A flow round: a round of ticks, and then the frames of each group are spread.
     fn flow_round<K, R: TwinRecorder<K>>(
         &mut self,
+        room: &mut Vec<u8>,
         recorder: &mut R,
         outlet: &mut K,
     ) -> Result<(), Halt>
@@ -253,11 +259,11 @@ impl Stage {
             (moment self.old outlet.old) (moment self.new outlet.new) result }
     {
         self.round(recorder, outlet)?;
-        self.spread_group(GroupNumber::First, recorder, outlet)?;
-        self.spread_group(GroupNumber::Second, recorder, outlet)
+        self.spread_group(GroupNumber::First, room, recorder, outlet)?;
+        self.spread_group(GroupNumber::Second, room, recorder, outlet)
     }
 
-    /// So many flow rounds.
+    /// So many flow rounds. All their frames find those who joined in one room, so that no frame takes memory.
     pub fn flow<K, R: TwinRecorder<K>>(
         &mut self,
         count: u32,
@@ -267,8 +273,9 @@ impl Stage {
         ensures { Did R.Took R.Broke (times count flow_round)
             (moment self.old outlet.old) (moment self.new outlet.new) result }
     {
+        let mut room = Vec::new(self.alloc);
         for _ in 0..count {
-            self.flow_round(recorder, outlet)?;
+            self.flow_round(&mut room, recorder, outlet)?;
         }
         Ok(())
     }
@@ -281,13 +288,12 @@ fn counted(count: usize) -> u32
     u32::try_from(count).unwrap_or(u32::MAX)
 }
 
-/// The places below a count of stations.
-fn up_to(alloc: Global, count: u8) -> Result<Vec<u8>, AllocError>
-    ensures { IfOk result (λ places. places.items ≡ range_with_len 0 count) }
+/// Appends the places below a count of stations.
+fn put_places(count: u8, into: &mut Vec<u8>) -> Result<(), AllocError>
+    ensures { OnOk result (into.new.items ≡ into.old.items ++ range_with_len 0 count) }
 {
-    let mut places = Vec::new(alloc);
     for place in 0..count {
-        places.push(place)?;
+        into.push(place)?;
     }
-    Ok(places)
+    Ok(())
 }
